@@ -1,0 +1,12 @@
+/// The domain of a stored attribute: which values it may have.
+#[derive(Clone, Copy, Debug, PartialEq, Eq)]
+pub enum Domain {
+    /// The whole numbers from -128 to 127: `i1`.
+    I1,
+    /// The whole numbers from -32,768 to 32,767: `i2`.
+    I2,
+    /// The whole numbers from -2,147,483,648 to 2,147,483,647: `i4`.
+    I4,
+    /// The texts of at most so many bytes, 1 to 255: `c1` to `c255`.
+    C(u8),
+}
