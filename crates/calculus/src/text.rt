@@ -1,8 +1,9 @@
-//! The text constants of the language, as they are written.
+//! Texts, and the text constants of the language as they are written.
 
 ghost use Rattle.std.specs.Prelude.{◌≡◌, IsTrue, IfOk, Some, None, if◌then◌else◌};
 ghost use Rattle.std.specs.List.{list_all};
 ghost use Rattle.calculus.specs.Chars.{is_printable, is_chars};
+ghost use Rattle.calculus.specs.Text.{is_text};
 
 use crate::OutOfMemory;
 use std::alloc::Global;
@@ -77,5 +78,40 @@ impl Chars {
     {
         let bytes = Vec::from_slice(alloc, &self.bytes)?;
         Ok(Chars { bytes })
+    }
+}
+
+/// A text: at most 255 bytes, each from 32 to 126, the last of them no blank. Contracts see its bytes.
+#[derive(Debug, Drop)]
+pub struct Text {
+    bytes: Vec<u8>,
+}
+
+impl Model for Text {
+    ghost use Rattle.std.specs.Prelude.{List, ℕ, IsTrue};
+    ghost use Rattle.calculus.specs.Text.{is_text};
+
+    ghost Value = { List ℕ };
+
+    ghost view = { λ t. t.bytes.items };
+
+    ghost invariant = { λ t. IsTrue (is_text t.bytes.items) };
+}
+
+impl Text {
+    /// The bytes of the text.
+    pub fn bytes(&self) -> &[u8]
+        ensures bytes { result.now ≡ self.now }
+        ensures text { IsTrue (is_text self.now) }
+    {
+        self.bytes.as_slice()
+    }
+
+    /// A text with the same bytes.
+    pub fn copy(&self, alloc: Global) -> Result<Text, OutOfMemory>
+        ensures { IfOk result (λ t. t ≡ self.now) }
+    {
+        let bytes = Vec::from_slice(alloc, &self.bytes)?;
+        Ok(Text { bytes })
     }
 }
