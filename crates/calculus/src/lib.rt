@@ -3,6 +3,7 @@
 
 mod agg_table;
 mod change;
+mod copies;
 mod name;
 mod operator;
 mod probe;
@@ -18,7 +19,7 @@ mod value;
 
 pub use agg_table::AggTable;
 pub use change::{Change, DbChange, Pair};
-pub use memory::{Boxed, List, OutOfMemory};
+pub use memory::{Boxed, List, OutOfMemory, TryCopy};
 pub use name::{Name, is_name};
 pub use operator::{AggOp, ArithOp, CmpOp};
 pub use probe::{Place, Probe};

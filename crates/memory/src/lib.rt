@@ -4,10 +4,12 @@
 mod boxed;
 mod list;
 mod out_of_memory;
+mod try_copy;
 
 pub use boxed::Boxed;
 pub use list::List;
 pub use out_of_memory::OutOfMemory;
+pub use try_copy::TryCopy;
 
 #[cfg(test)]
 mod tests;
