@@ -5,7 +5,7 @@ use crate::schema::{Permit, RelInfo, Rule, Spec};
 use crate::{List, Name, Row, RowSet};
 
 /// What an update does with one row.
-#[derive(Debug, Drop)]
+#[derive(Debug, PartialEq, Eq, Drop)]
 pub struct Pair {
     /// The row that is replaced or deleted; none where a row is appended.
     pub old: Option<Row>,
@@ -23,7 +23,7 @@ pub struct Change {
 }
 
 /// A change of a database.
-#[derive(Debug, Drop)]
+#[derive(Debug, PartialEq, Eq, Drop)]
 pub enum DbChange {
     /// Rows of a relation go and come.
     Rows {

@@ -3,7 +3,7 @@
 use crate::{List, Value};
 
 /// What rows are looked for.
-#[derive(Debug, Drop)]
+#[derive(Debug, PartialEq, Eq, Drop)]
 pub struct Probe {
     /// The places of attributes, counted from 0, each with the value that the row must have there;
     /// none means every row.

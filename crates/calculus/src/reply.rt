@@ -15,7 +15,7 @@ pub struct Refusal {
 }
 
 /// A column of a table.
-#[derive(Debug, Drop)]
+#[derive(Debug, PartialEq, Eq, Drop)]
 pub struct Column {
     /// Its title.
     pub name: Name,
@@ -24,7 +24,7 @@ pub struct Column {
 }
 
 /// A table that is printed.
-#[derive(Debug, Drop)]
+#[derive(Debug, PartialEq, Eq, Drop)]
 pub struct Table {
     /// Its columns, in order.
     pub columns: List<Column>,
@@ -33,7 +33,7 @@ pub struct Table {
 }
 
 /// What a statement is answered.
-#[derive(Debug, Drop)]
+#[derive(Debug, PartialEq, Eq, Drop)]
 pub enum Reply {
     /// Nothing is printed.
     Nothing,
