@@ -8,7 +8,7 @@ use Rattle.calculus.specs.declared.query.AggSource.{AggSource, Rows', end_of-Que
 use Rattle.calculus.specs.declared.query.QAgg.{QAgg}
 use Rattle.calculus.specs.declared.query.QQual.{QQual, And', Or', Not', end_of-QQual, more_of-QQual}
 use Rattle.calculus.specs.declared.query.QTerm.{QTerm, Neg', Abs', Arith', Concat', Agg', Row_of-QTerm, end_of-QTerm, more_of-QTerm, end_of-QAgg, more_of-QAgg}
-use Rattle.calculus.specs.declared.query.Query.{Query, Query', out-Query, Row_of-Target, end_of-Target, more_of-Target}
+use Rattle.calculus.specs.declared.query.Query.{Query, Query', items-the_row-Target, Row_of-Target, end_of-Target, more_of-Target}
 use Rattle.calculus.specs.declared.query.RelKey.{RelKey}
 use Rattle.calculus.specs.declared.query.Target.{Target}
 
@@ -72,10 +72,10 @@ agg g = Agg' tt (more_of-QAgg g.slot g.op g.source g.arg (marks g.by) (row_of_te
 -- ---- the parts of a query
 
 abbrev pub vars_of : Query → List RelKey
-vars_of q = (out-Query q).vars
+vars_of (Query' vars shape targets qual) = vars
 
 abbrev pub targets_of : Query → List Target
-targets_of q = (out-Query q).targets
+targets_of (Query' vars shape targets qual) = items-the_row-Target _ targets
 
 abbrev pub qual_of : Query → QQual
-qual_of q = (out-Query q).qual
+qual_of (Query' vars shape targets qual) = qual
