@@ -31,7 +31,7 @@ impl Model for RowSet {
 }
 
 /// A row that found no room in a set, given back.
-#[derive(Debug, Drop)]
+#[derive(Debug, PartialEq, Eq, Drop)]
 pub struct RowBack {
     /// The row.
     pub row: Row,
