@@ -1,86 +1,14 @@
-ghost use Rattle.std.specs.Prelude.{◌≡◌, ◌-◌, ◌+◌, ◌++◌, ◌∷◌, [], ◌<◌, ◌≤◌, ◌^◌, length, replicate, OnOk, IfOk, max, filter, option_to_list};
-ghost use Rattle.ingres_top.specs.Print.{line, column_width, blanks, head_line, rule_line, row_line, rows_lines, table, term_value, accepts, compares, holds, title_of, values_of, answered};
+//! What the four statements of a batch of the first form answer.
 
+ghost use Rattle.std.specs.Prelude.{◌≡◌, ◌++◌, IfOk, filter, option_to_list};
+ghost use Rattle.ingres_top.specs.Answer.{term_value, accepts, compares, holds, title_of, values_of, answered};
+
+use crate::table::push_table;
 use calculus::{CmpOp, Item, OutOfMemory, Qual, Statement, Term};
-use std::alloc::{AllocError, Global};
+use std::alloc::Global;
 use std::cmp::Ordering;
 
-/// The width of the column of a small integer, without its title.
-const LEAST_WIDTH: usize = 6;
-
-fn column_width(title: &[u8]) -> usize
-    ensures { result ≡ column_width title.now }
-{
-    title.len().max(LEAST_WIDTH)
-}
-
-fn push_copies(out: &mut Vec<u8>, byte: u8, count: usize) -> Result<(), AllocError>
-    ensures { OnOk result (out.new.items ≡ out.old.items ++ replicate count byte) }
-{
-    for _ in 0..count {
-        out.push(byte)?;
-    }
-    Ok(())
-}
-
-fn push_head(out: &mut Vec<u8>, title: &[u8]) -> Result<(), AllocError>
-    ensures { OnOk result (out.new.items ≡ out.old.items ++ head_line title.now) }
-{
-    out.push(b'|')?;
-    out.extend_from_slice(title)?;
-    push_copies(out, b' ', column_width(title) - title.len())?;
-    out.extend_from_slice(b"|\n")
-}
-
-fn push_rule(out: &mut Vec<u8>, title: &[u8]) -> Result<(), AllocError>
-    ensures { OnOk result (out.new.items ≡ out.old.items ++ rule_line title.now) }
-{
-    out.push(b'|')?;
-    push_copies(out, b'-', column_width(title))?;
-    out.extend_from_slice(b"|\n")
-}
-
-fn push_row(alloc: Global, out: &mut Vec<u8>, title: &[u8], value: i64) -> Result<(), AllocError>
-    ensures { OnOk result (out.new.items ≡ out.old.items ++ row_line title.now value) }
-{
-    let number = value.to_string(alloc)?;
-    out.push(b'|')?;
-    push_copies(out, b' ', column_width(title).saturating_sub(number.len()))?;
-    out.extend_from_slice(number.as_bytes())?;
-    out.extend_from_slice(b"|\n")
-}
-
-fn push_rows(
-    alloc: Global,
-    out: &mut Vec<u8>,
-    title: &[u8],
-    values: &[i64],
-) -> Result<(), AllocError>
-    ensures { OnOk result (out.new.items ≡ out.old.items ++ rows_lines title.now values.now) }
-{
-    for value in values {
-        push_row(alloc, out, title, *value)?;
-    }
-    Ok(())
-}
-
-/// Prints a table of one column.
-pub fn push_table(
-    alloc: Global,
-    out: &mut Vec<u8>,
-    title: &[u8],
-    values: &[i64],
-) -> Result<(), OutOfMemory>
-    ensures { OnOk result (out.new.items ≡ out.old.items ++ table title.now values.now) }
-{
-    push_head(out, title)?;
-    push_rule(out, title)?;
-    push_rows(alloc, out, title, values)?;
-    push_rule(out, title)?;
-    Ok(())
-}
-
-/// The value of a term, where each attribute has this value.
+/// The value of a term, where the one attribute of the row has this value.
 fn term_value(value: i64, term: &Term) -> i64
     ensures { result ≡ term_value value term.now }
 {
@@ -110,7 +38,7 @@ fn compares(op: CmpOp, left: i64, right: i64) -> bool
     accepts(op, left.cmp(&right))
 }
 
-/// Whether the qualification is true of the row with this value.
+/// Whether the qualification holds of the row with this value.
 fn holds(qual: &Qual, value: i64) -> bool
     ensures { result ≡ holds qual.now value }
 {
