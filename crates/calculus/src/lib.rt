@@ -11,7 +11,7 @@ pub use memory::{List, OutOfMemory};
 pub use name::{Name, is_name};
 pub use operator::CmpOp;
 pub use statement::{Item, Qual, Statement, Term};
-pub use text::{Chars, is_printable};
+pub use text::Chars;
 pub use value::Domain;
 
 #[cfg(test)]

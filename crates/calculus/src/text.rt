@@ -29,8 +29,7 @@ impl Model for Chars {
     ghost invariant = { λ c. IsTrue (is_chars c.bytes.items) };
 }
 
-/// Whether the byte is from 32 to 126. Takes no memory.
-pub fn is_printable(byte: u8) -> bool
+fn is_printable(byte: u8) -> bool
     ensures { result ≡ is_printable byte }
 {
     32 <= byte && byte <= 126
