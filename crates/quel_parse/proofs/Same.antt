@@ -1,5 +1,5 @@
 -- Tokens that compare as the same are equal.
-use Rattle.std.proofs.Common.{◌≡◌, Bool, true, false, List, refl, ap, Decides}
+use Rattle.std.proofs.Common.{◌≡◌, List, refl, ap, Decides}
 use denote.Enum.Bare.{same_true, true_same}
 use Rattle.std.proofs.lemmas.Slice.Eq.{slice_eq-Decides, bytes_eq-Decides}
 use Rattle.std.proofs.lemmas.Bool.Decides.{Decides-eqb}

@@ -1,5 +1,5 @@
 -- Look-ups in a table: through a view, and what is at the front of a text.
-use Rattle.std.proofs.Common.{◌≡◌, ◌∙◌, ℕ, ◌≤◌, ◌<◌, ◌+◌, Bool, true, false, cond, List, [], ◌∷◌, ◌++◌, Option, Some, None, refl, ap, map, length, length-append, arith, drop, nat_eq, rules}
+use Rattle.std.proofs.Common.{◌≡◌, ℕ, ◌≤◌, ◌<◌, Bool, true, false, cond, List, [], ◌∷◌, Option, Some, refl, ap, map, length, length-append, arith, drop, nat_eq}
 use Rattle.std.specs.Prelude.{option_map, IfSome, nat_lt, ◌&&◌}
 use Rattle.std.specs.List.{find, list_all, starts_with}
 use Rattle.std.proofs.lemmas.Slice.Eq.{starts_is}

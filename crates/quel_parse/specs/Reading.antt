@@ -1,12 +1,12 @@
 -- How the code reads the first form: a value and the tokens behind it, where the tokens begin so.
-use Rattle.std.specs.Prelude.{ℕ, Bool, true, false, List, [], ◌∷◌, Option, Some, None, option_map, nat_le, if◌then◌else◌, codes}
+use Rattle.std.specs.Prelude.{ℕ, List, [], ◌∷◌, Option, Some, None, nat_le, if◌then◌else◌, codes}
 use Rattle.std.specs.Str.{bytes_eq}
 use Rattle.calculus.specs.declared.operator.CmpOp.{CmpOp}
 use Rattle.calculus.specs.declared.operator.CmpOp.TheVariants as comparisons
 use Rattle.quel_parse.specs.declared.token.Mark.{Mark}
 use Rattle.quel_parse.specs.declared.token.Mark.TheVariants as marks
 use Rattle.quel_parse.specs.declared.token.Token.{Token}
-use Rattle.quel_parse.specs.declared.token.Token.TheVariants.{Name, Int, Text, Mark as Fixed}
+use Rattle.quel_parse.specs.declared.token.Token.TheVariants.{Name, Int, Mark as Fixed}
 use Rattle.quel_parse.specs.declared.reader.Asked as code
 use Rattle.quel_parse.specs.Token.{same_mark}
 use Rattle.quel_parse.specs.Form.{Asked, is_catalogue}

@@ -1,5 +1,5 @@
 -- When two tokens are the same.
-use Rattle.std.specs.Prelude.{ℕ, Bool, true, false, List, ◌==◌}
+use Rattle.std.specs.Prelude.{Bool, false, List, ◌==◌}
 use denote.Enum.Bare.{sameb}
 use Rattle.std.specs.Cmp.Lexicographic.{pointwise}
 use Rattle.std.specs.Str.{bytes_eq}
