@@ -1,6 +1,6 @@
 use Rattle.std.proofs.Common.{◌≡◌, ◌-◌, ◌≤◌, length, false}
 use Rattle.quel_parse.specs.Lexer.{quoted_len}
-use Rattle.quel_parse.proofs.Comments.{passed}
+use Rattle.quel_parse.proofs.Passed.{passed}
 use Rattle.quel_parse.proofs.front.quoted_len.Given as goal
 
 abbrev pub invariant-loop-rest : goal.invariant-loop-rest
