@@ -1,0 +1,4 @@
+pub mod Texts
+pub mod Sets
+pub mod Placing
+pub mod Made

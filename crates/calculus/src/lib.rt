@@ -1,18 +1,37 @@
 //! The tuple calculus: the types that every stage speaks of, and the definitions of what they mean.
 #![tactic(auto)]
 
+mod agg_table;
+mod change;
+mod copies;
 mod name;
 mod operator;
+mod probe;
+mod query;
+mod reply;
+mod request;
+mod row;
+mod row_set;
+mod schema;
 mod statement;
 mod text;
 mod value;
 
-pub use memory::{List, OutOfMemory};
+pub use agg_table::AggTable;
+pub use change::{Change, DbChange, Pair};
+pub use memory::{Boxed, List, OutOfMemory, TryCopy};
 pub use name::{Name, is_name};
-pub use operator::CmpOp;
-pub use statement::{Item, Qual, Statement, Term};
-pub use text::Chars;
-pub use value::Domain;
+pub use operator::{AggOp, ArithOp, CmpOp};
+pub use probe::{Place, Probe};
+pub use query::{AggSource, QAgg, QQual, QTerm, Query, RelKey, Target};
+pub use reply::{Column, Refusal, Reply, Table};
+pub use request::{Asked, Checked, CopyCol, CopyForm, SortKey, Update, UpdateOp, Utility};
+pub use row::Row;
+pub use row_set::{RowBack, RowSet};
+pub use schema::{Attr, Permit, RelFile, RelInfo, Rule, Spec};
+pub use statement::{AggTerm, Item, Qual, Statement, Term};
+pub use text::{Chars, Text, is_printable};
+pub use value::{Domain, Kind, Value};
 
 #[cfg(test)]
 mod tests;

@@ -1,14 +1,19 @@
 //! Statements as they are written, with names that nothing was found for yet.
 
-use crate::operator::CmpOp;
+use crate::operator::{AggOp, ArithOp, CmpOp};
+use crate::request::CopyForm;
+use crate::schema::Spec;
 use crate::value::Domain;
-use crate::{List, Name};
+use crate::{Boxed, Chars, List, Name};
 
 /// A term: what has a value in each assignment of rows to variables.
-#[derive(Debug, Drop)]
+#[cycle(statement)]
+#[derive(Debug, PartialEq, Eq, Drop)]
 pub enum Term {
     /// A whole number.
     Int(i64),
+    /// A text constant.
+    Chars(Chars),
     /// The attribute of a range variable.
     Attr {
         /// The range variable.
@@ -16,10 +21,47 @@ pub enum Term {
         /// The attribute.
         attr: Name,
     },
+    /// `- TERM`
+    Neg(Boxed<Term>),
+    /// `abs(TERM)`
+    Abs(Boxed<Term>),
+    /// Two terms with an operator between them, or `mod(TERM, TERM)`
+    Arith {
+        /// The operation.
+        op: ArithOp,
+        /// The term on the left.
+        left: Boxed<Term>,
+        /// The term on the right.
+        right: Boxed<Term>,
+    },
+    /// `concat(TERM, TERM)`
+    Concat {
+        /// The text in front.
+        left: Boxed<Term>,
+        /// The text behind.
+        right: Boxed<Term>,
+    },
+    /// An aggregate.
+    Agg(Boxed<AggTerm>),
+}
+
+/// An aggregate: `NAME(TERM [by TERM, ..] [where QUALIFICATION])`
+#[cycle(statement)]
+#[derive(Debug, PartialEq, Eq, Drop)]
+pub struct AggTerm {
+    /// What is made of the values.
+    pub op: AggOp,
+    /// The term whose values are taken.
+    pub arg: Term,
+    /// The terms that group the rows.
+    pub by: List<Term>,
+    /// Which rows are taken.
+    pub qual: Qual,
 }
 
 /// A qualification: what holds, or doesn't, in each assignment of rows to variables.
-#[derive(Debug, Drop)]
+#[cycle(statement)]
+#[derive(Debug, PartialEq, Eq, Drop)]
 pub enum Qual {
     /// Holds in every assignment; it stands where no `where` is written.
     True,
@@ -32,10 +74,16 @@ pub enum Qual {
         /// The term on the right.
         right: Term,
     },
+    /// `QUALIFICATION and QUALIFICATION`
+    And(Boxed<Qual>, Boxed<Qual>),
+    /// `QUALIFICATION or QUALIFICATION`
+    Or(Boxed<Qual>, Boxed<Qual>),
+    /// `not QUALIFICATION`
+    Not(Boxed<Qual>),
 }
 
 /// An item of a target list.
-#[derive(Debug, Drop)]
+#[derive(Debug, PartialEq, Eq, Drop)]
 pub enum Item {
     /// `NAME = TERM`
     Set {
@@ -51,10 +99,15 @@ pub enum Item {
         /// The attribute.
         attr: Name,
     },
+    /// `VARIABLE.all`: each attribute of the variable under its own name
+    All {
+        /// The range variable.
+        var: Name,
+    },
 }
 
 /// A statement.
-#[derive(Debug, Drop)]
+#[derive(Debug, PartialEq, Eq, Drop)]
 pub enum Statement {
     /// `range of VARIABLE is RELATION`
     Range {
@@ -83,11 +136,114 @@ pub enum Statement {
         /// The qualification.
         qual: Qual,
     },
+    /// `replace VARIABLE (TARGETS) [where QUALIFICATION]`
+    Replace {
+        /// The range variable whose rows are replaced.
+        var: Name,
+        /// The target list.
+        items: List<Item>,
+        /// The qualification.
+        qual: Qual,
+    },
+    /// `delete VARIABLE [where QUALIFICATION]`
+    Delete {
+        /// The range variable whose rows are deleted.
+        var: Name,
+        /// The qualification.
+        qual: Qual,
+    },
     /// `create RELATION (ATTRIBUTE = DOMAIN, ..)`
     Create {
         /// The new relation.
         rel: Name,
         /// Its attributes with their domains.
         attrs: List<(Name, Domain)>,
+    },
+    /// `destroy NAME, ..`
+    Destroy {
+        /// The relations, views and indexes that go.
+        rels: List<Name>,
+    },
+    /// `destroy permit RELATION all` or `destroy permit RELATION NUMBER, ..`
+    DropPermits {
+        /// The relation.
+        rel: Name,
+        /// The numbers of the permits that go; none means all.
+        numbers: List<u32>,
+    },
+    /// `destroy integrity RELATION all` or `destroy integrity RELATION NUMBER, ..`
+    DropRules {
+        /// The relation.
+        rel: Name,
+        /// The numbers of the rules that go; none means all.
+        numbers: List<u32>,
+    },
+    /// `modify RELATION to STRUCTURE [on ATTRIBUTE, ..]`
+    Modify {
+        /// The relation.
+        rel: Name,
+        /// The structure: a heap, a hash or an ISAM structure.
+        to: Spec,
+        /// Its key attributes; none where none is written.
+        keys: List<Name>,
+    },
+    /// `index on RELATION is NAME (ATTRIBUTE, ..)`
+    Index {
+        /// The relation.
+        base: Name,
+        /// The index.
+        name: Name,
+        /// Its key attributes.
+        keys: List<Name>,
+    },
+    /// `print RELATION, ..`
+    Print {
+        /// The relations, views and catalogues that are printed, in order.
+        rels: List<Name>,
+    },
+    /// `help` or `help RELATION`
+    Help {
+        /// What is asked about; none where all relations are listed.
+        rel: Option<Name>,
+    },
+    /// `copy RELATION (ATTRIBUTE = FORM, ..) from "FILE"`, or `into "FILE"`
+    Copy {
+        /// The relation.
+        rel: Name,
+        /// The attributes with the forms of their columns, in the order of the file.
+        columns: List<(Name, CopyForm)>,
+        /// Whether the rows come from the file; else they go into it.
+        from: bool,
+        /// The file's name, as it is written.
+        file: Chars,
+    },
+    /// `define view NAME (TARGETS) [where QUALIFICATION]`
+    View {
+        /// The view.
+        name: Name,
+        /// The target list.
+        items: List<Item>,
+        /// The qualification.
+        qual: Qual,
+    },
+    /// `define permit OPERATION, .. on VARIABLE [(ATTRIBUTE, ..)] to USER [where QUALIFICATION]`
+    Permit {
+        /// The operations, as a sum: 1 retrieve, 2 append, 4 replace, 8 delete.
+        ops: u8,
+        /// The range variable over the relation.
+        var: Name,
+        /// The attributes that it covers; none means all.
+        attrs: List<Name>,
+        /// The user that it is for; none means all.
+        user: Option<Name>,
+        /// The rows that it is for.
+        qual: Qual,
+    },
+    /// `define integrity on VARIABLE is QUALIFICATION`
+    Rule {
+        /// The range variable over the relation.
+        var: Name,
+        /// What must hold of each new row.
+        qual: Qual,
     },
 }

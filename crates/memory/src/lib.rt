@@ -1,11 +1,15 @@
-//! Want of memory as an error, and the list that contracts see as its items.
+//! Want of memory as an error, the list that contracts see as its items, and the box that they see as its value.
 #![tactic(auto)]
 
+mod boxed;
 mod list;
 mod out_of_memory;
+mod try_copy;
 
+pub use boxed::Boxed;
 pub use list::List;
 pub use out_of_memory::OutOfMemory;
+pub use try_copy::TryCopy;
 
 #[cfg(test)]
 mod tests;

@@ -1,0 +1,20 @@
+//! Places of rows, and what rows are looked for.
+
+use crate::{List, Value};
+
+/// What rows are looked for.
+#[derive(Debug, PartialEq, Eq, Drop)]
+pub struct Probe {
+    /// The places of attributes, counted from 0, each with the value that the row must have there;
+    /// none means every row.
+    pub equal: List<(u8, Value)>,
+}
+
+/// Where a row lies in a file.
+#[derive(Clone, Copy, Debug, PartialEq, Eq)]
+pub struct Place {
+    /// The page, counted from 0.
+    pub page: u32,
+    /// The line on the page, counted from 0.
+    pub line: u16,
+}
