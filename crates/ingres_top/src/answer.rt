@@ -8,13 +8,15 @@ use calculus::{CmpOp, Item, OutOfMemory, Qual, Statement, Term};
 use std::alloc::Global;
 use std::cmp::Ordering;
 
-/// The value of a term, where the one attribute of the row has this value.
-fn term_value(value: i64, term: &Term) -> i64
+/// The value of a term, where the one attribute of the row has this value. Terms that the first form
+/// hasn't have none.
+fn term_value(value: i64, term: &Term) -> Option<i64>
     ensures { result ≡ term_value value term.now }
 {
     match term {
-        Term::Int(number) => *number,
-        Term::Attr { .. } => value,
+        Term::Int(number) => Some(*number),
+        Term::Attr { .. } => Some(value),
+        _ => None,
     }
 }
 
@@ -32,13 +34,17 @@ fn accepts(op: CmpOp, order: Ordering) -> bool
     }
 }
 
-fn compares(op: CmpOp, left: i64, right: i64) -> bool
+fn compares(op: CmpOp, left: Option<i64>, right: Option<i64>) -> bool
     ensures { result ≡ compares op left right }
 {
-    accepts(op, left.cmp(&right))
+    match (left, right) {
+        (Some(left), Some(right)) => accepts(op, left.cmp(&right)),
+        _ => false,
+    }
 }
 
-/// Whether the qualification holds of the row with this value.
+/// Whether the qualification holds of the row with this value. Those that the first form hasn't hold
+/// of none.
 fn holds(qual: &Qual, value: i64) -> bool
     ensures { result ≡ holds qual.now value }
 {
@@ -47,6 +53,7 @@ fn holds(qual: &Qual, value: i64) -> bool
         Qual::Cmp { op, left, right } => {
             compares(*op, term_value(value, left), term_value(value, right))
         }
+        _ => false,
     }
 }
 
@@ -56,7 +63,7 @@ fn title_of(items: &[Item]) -> &[u8]
     match items {
         [Item::Attr { attr, .. }, ..] => attr.bytes(),
         [Item::Set { name, .. }, ..] => name.bytes(),
-        [] => &[],
+        [Item::All { .. }, ..] | [] => &[],
     }
 }
 
