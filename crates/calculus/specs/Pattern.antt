@@ -1,31 +1,8 @@
--- Text constants, and the patterns that texts are matched against.
+-- The patterns that texts are matched against.
 use Rattle.std.specs.Prelude.{ℕ, zero, suc, Bool, true, false, not, ◌&&◌, ◌||◌, if◌then◌else◌, nat_le, ◌==◌, ◌≡◌, List, [], ◌∷◌, ◌++◌, take, Option, Some, None, IsTrue}
 use Rattle.std.specs.List.{list_any}
-use Rattle.calculus.specs.Text.{is_blank, trimmed}
-
--- a byte of a constant as it is meant, and whether a backslash makes it plain
-abbrev pub Mark : Type 0
-Mark = ℕ × Bool
-
--- the bytes of a constant as they are meant: a backslash makes the byte behind it plain, and stands for itself at the end; the flag says that a backslash stands in front
-abbrev pub marks_behind : Bool → List ℕ → List Mark
-marks_behind true [] = (92, false) ∷ []
-marks_behind false [] = []
-marks_behind true (b ∷ bs) = (b, true) ∷ marks_behind false bs
-marks_behind false (b ∷ bs) = elim (b == 92) [ true ↦ marks_behind true bs | false ↦ (b, false) ∷ marks_behind false bs ]
-
--- the bytes of a constant as they are meant
-abbrev pub marks : List ℕ → List Mark
-marks bytes = marks_behind false bytes
-
--- the bytes alone
-abbrev pub plain_bytes : List Mark → List ℕ
-plain_bytes [] = []
-plain_bytes (m ∷ ms) = m.0 ∷ plain_bytes ms
-
--- the text of a constant: its bytes with escapes removed, without the blanks at their end
-unfoldable pub constant_text : List ℕ → List ℕ
-constant_text bytes = trimmed (plain_bytes (marks bytes))
+use Rattle.calculus.specs.Constant.{marks}
+use Rattle.calculus.specs.declared.mark.Mark.{Mark}
 
 -- ---- the items of a pattern
 
@@ -38,7 +15,7 @@ pub data Item : Type 0 where
 
 -- this byte, with no backslash in front
 abbrev pub is_bare : ℕ → Mark → Bool
-is_bare b m = (m.0 == b) && not m.1
+is_bare b m = (m.byte == b) && not m.plain
 
 -- the byte in front of the others, but a bare blank in front of nothing is dropped
 abbrev pub before_unpadded : Mark → List Mark → List Mark
@@ -63,9 +40,9 @@ class_length (m ∷ ms) = elim (is_bare 93 m) [ true ↦ Some 0 | false ↦ one_
 -- the members of a class from left to right: a byte, a bare `-` and a byte are a range, any other byte is a range of one
 abbrev pub ranges : List Mark → List (ℕ × ℕ)
 ranges [] = []
-ranges (m ∷ []) = (m.0, m.0) ∷ []
-ranges (m ∷ n ∷ []) = (m.0, m.0) ∷ (n.0, n.0) ∷ []
-ranges (m ∷ n ∷ o ∷ ms) = elim (is_bare 45 n) [ true ↦ (m.0, o.0) ∷ ranges ms | false ↦ (m.0, m.0) ∷ ranges (n ∷ o ∷ ms) ]
+ranges (m ∷ []) = (m.byte, m.byte) ∷ []
+ranges (m ∷ n ∷ []) = (m.byte, m.byte) ∷ (n.byte, n.byte) ∷ []
+ranges (m ∷ n ∷ o ∷ ms) = elim (is_bare 45 n) [ true ↦ (m.byte, o.byte) ∷ ranges ms | false ↦ (m.byte, m.byte) ∷ ranges (n ∷ o ∷ ms) ]
 
 -- what a bare `[` begins: the class up to the `]`, or the byte itself where none follows
 abbrev pub bracket_items : (ℕ → List Item) → List Mark → Option ℕ → List Item
@@ -78,7 +55,7 @@ items_at behind m ms =
     if is_bare 42 m then AnyText ∷ behind 0
     else (if is_bare 63 m then AnyByte ∷ behind 0
     else (if is_bare 91 m then bracket_items behind ms (class_length ms)
-    else Byte m.0 ∷ behind 0))
+    else Byte m.byte ∷ behind 0))
 
 -- the items behind the first k bytes
 abbrev pub items_behind : ℕ → List Mark → List Item

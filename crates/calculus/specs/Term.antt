@@ -1,5 +1,5 @@
 -- The value of a term and the truth of a qualification, in an assignment of rows to variables.
-use Rattle.std.specs.Prelude.{ℕ, ℤ, Bool, true, false, not, ◌&&◌, ◌||◌, if◌then◌else◌, nat_le, List, ◌++◌, length, slice_get, Option, Some, None}
+use Rattle.std.specs.Prelude.{ℕ, ℤ, Bool, true, false, not, ◌&&◌, ◌||◌, if◌then◌else◌, nat_le, List, [], ◌∷◌, ◌++◌, length, slice_get, Option, Some, None}
 use Rattle.std.specs.declared.cmp.Ordering.{Ordering}
 use Rattle.std.specs.Ordering.{is_eq, is_ne, is_lt, is_le, is_gt, is_ge}
 use Rattle.calculus.specs.declared.value.Value.{Value}
@@ -12,7 +12,8 @@ use Rattle.calculus.specs.declared.query.QQual.{QQual, True, Cmp, Like}
 use Rattle.calculus.specs.declared.query.QAgg.{QAgg}
 use Rattle.calculus.specs.Tree.{neg, abs, operation, concat, both, either, negated}
 use Rattle.calculus.specs.Number.{opposite, without_sign, operated}
-use Rattle.calculus.specs.Pattern.{constant_text, matches}
+use Rattle.calculus.specs.Constant.{constant_text}
+use Rattle.calculus.specs.Pattern.{matches}
 use Rattle.calculus.specs.Value.{value_cmp}
 
 -- a row of each variable, in the order of the variables
@@ -115,3 +116,18 @@ holds aggs (Like t pattern same) e = matched_value pattern same (val aggs t e)
 holds aggs (both p q) e = holds aggs p e && holds aggs q e
 holds aggs (either p q) e = holds aggs p e || holds aggs q e
 holds aggs (negated p) e = not (holds aggs p e)
+
+-- no value for any aggregate
+abbrev pub no_aggs : Aggs
+no_aggs g e = None
+
+-- the value in front of the others, where all are there
+abbrev pub value_before : Option Value → Option (List Value) → Option (List Value)
+value_before None vs = None
+value_before (Some v) None = None
+value_before (Some v) (Some vs) = Some (v ∷ vs)
+
+-- the values of terms that hold no aggregate, in order; none where one of them has none
+unfoldable pub values_of : List QTerm → Env → Option (List Value)
+values_of [] e = Some []
+values_of (t ∷ ts) e = value_before (val no_aggs t e) (values_of ts e)
