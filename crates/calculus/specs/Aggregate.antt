@@ -12,7 +12,7 @@ use Rattle.calculus.specs.Tree.{rows_of_query}
 use Rattle.calculus.specs.Number.{number}
 use Rattle.calculus.specs.Value.{value_cmp, row_cmp}
 use Rattle.calculus.specs.Rows.{Row}
-use Rattle.calculus.specs.Keys.{insert_by}
+use Rattle.calculus.specs.Lists.{insert_by}
 use Rattle.calculus.specs.Term.{Env, Aggs, val, holds, no_aggs, values_of, number_value}
 use Rattle.calculus.specs.Kinds.{kind_of, is_text_kind}
 use Rattle.calculus.specs.Who.{Who}

@@ -5,7 +5,7 @@ use Rattle.calculus.specs.declared.query.RelKey.{RelKey}
 use Rattle.calculus.specs.declared.schema.Permit.{Permit}
 use Rattle.calculus.specs.Rows.{Row}
 use Rattle.calculus.specs.Term.{holds, no_aggs}
-use Rattle.calculus.specs.Keys.{has_number}
+use Rattle.calculus.specs.Lists.{has_number}
 use Rattle.calculus.specs.Who.{Who, Asker, Free, Asks}
 use Rattle.calculus.specs.Database.{Db, permits_on}
 use Rattle.calculus.specs.Catalogue.{is_catalogue}

@@ -7,6 +7,7 @@ use Rattle.calculus.specs.declared.query.QQual.{QQual, True, Cmp, Like}
 use Rattle.calculus.specs.declared.query.QAgg.{QAgg}
 use Rattle.calculus.specs.declared.query.Target.{Target}
 use Rattle.calculus.specs.declared.query.Query.{Query}
+use Rattle.calculus.specs.Lists.{is_any}
 use Rattle.calculus.specs.Tree.{neg, abs, operation, concat, both, either, negated}
 use Rattle.calculus.specs.QueryParts.{vars_of, targets_of, qual_of}
 
@@ -46,11 +47,6 @@ used_in_query v q = flat_map (λ t. used v t.term) (targets_of q) ++ used_in_qua
 -- all attributes of its variable that an aggregate names: in its argument, its by-list and its qualification
 abbrev pub used_in_aggregate : QAgg → List ℕ
 used_in_aggregate g = used 0 g.arg ++ (flat_map (used 0) g.by ++ used_in_qual 0 g.qual)
-
--- there is one
-abbrev pub is_any : {X : Type 0} → List X → Bool
-is_any [] = false
-is_any (x ∷ xs) = true
 
 -- the used variables of a query: their places, each with what the variable ranges over
 abbrev pub used_vars : Query → List (ℕ × RelKey)
