@@ -1,1 +1,4 @@
 pub mod Texts
+pub mod Val
+pub mod KindForms
+pub mod Constants
