@@ -31,7 +31,7 @@ pub use query::{AggSource, QAgg, QQual, QTerm, Query, RelKey, Target};
 pub use reply::{Column, Refusal, Reply, Table};
 pub use request::{Asked, Checked, CopyCol, CopyForm, SortKey, Update, UpdateOp, Utility};
 pub use row::Row;
-pub use row_set::RowSet;
+pub use row_set::{RowBack, RowSet};
 pub use schema::{Attr, Permit, RelFile, RelInfo, Rule, Spec};
 pub use statement::{AggTerm, Item, Qual, Statement, Term};
 pub use text::{Chars, Text, is_printable};
