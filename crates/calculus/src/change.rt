@@ -14,7 +14,7 @@ pub struct Pair {
 }
 
 /// What changes in the rows of one relation.
-#[derive(Debug, Drop)]
+#[derive(Debug, PartialEq, Eq, Drop)]
 pub struct Change {
     /// The rows that go.
     pub remove: RowSet,

@@ -4,6 +4,7 @@
 mod agg_table;
 mod change;
 mod copies;
+mod kinds;
 mod mark;
 mod name;
 mod operator;
@@ -20,6 +21,7 @@ mod value;
 
 pub use agg_table::AggTable;
 pub use change::{Change, DbChange, Pair};
+pub use kinds::{kind_of, kinds_fit};
 pub use mark::{Mark, next_mark};
 pub use memory::{Boxed, List, OutOfMemory, TryCopy};
 pub use name::{Name, is_name};
@@ -29,7 +31,7 @@ pub use query::{AggSource, QAgg, QQual, QTerm, Query, RelKey, Target};
 pub use reply::{Column, Refusal, Reply, Table};
 pub use request::{Asked, Checked, CopyCol, CopyForm, SortKey, Update, UpdateOp, Utility};
 pub use row::Row;
-pub use row_set::RowSet;
+pub use row_set::{RowBack, RowSet};
 pub use schema::{Attr, Permit, RelFile, RelInfo, Rule, Spec};
 pub use statement::{AggTerm, Item, Qual, Statement, Term};
 pub use text::{Chars, Text, is_printable};

@@ -1,6 +1,6 @@
 //! The bytes of a text constant as they are meant.
 
-ghost use Rattle.std.specs.Prelude.{◌≡◌, ◌∷◌, [], MatchOption};
+ghost use Rattle.std.specs.Prelude.{◌≡◌, ◌∷◌, ◌<◌, [], length, MatchOption, IfSome};
 ghost use Rattle.calculus.specs.Constant.{marks};
 
 /// A byte of a text constant as it is meant.
@@ -17,7 +17,8 @@ pub struct Mark {
 /// end. Takes no memory.
 #[tactic(auto, unfolding(crate::specs::Constant::marks))]
 pub fn next_mark(written: &[u8]) -> Option<(Mark, &[u8])>
-    ensures { MatchOption result (written.now ≡ []) (λ p. marks written.now ≡ p.0 ∷ marks p.1.now) }
+    ensures first { MatchOption result (written.now ≡ []) (λ p. marks written.now ≡ p.0 ∷ marks p.1.now) }
+    ensures shorter { IfSome result (λ p. length p.1.now < length written.now) }
 {
     let (byte, behind) = written.split_first()?;
     if *byte != b'\\' {

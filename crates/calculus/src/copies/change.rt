@@ -2,7 +2,9 @@
 
 ghost use Rattle.std.specs.Prelude.{◌≡◌, IfOk};
 
-use crate::{DbChange, Name, OutOfMemory, Pair, Permit, Query, RelInfo, RelKey, Row, Rule, Spec};
+use crate::{
+    Change, DbChange, Name, OutOfMemory, Pair, Permit, Query, RelInfo, RelKey, Row, Rule, Spec,
+};
 use memory::{List, TryCopy};
 use std::alloc::Global;
 
@@ -132,5 +134,13 @@ impl TryCopy for Pair {
         let old = self.old.copy(alloc)?;
         let new = self.new.copy(alloc)?;
         Ok(Pair { old, new })
+    }
+}
+
+impl TryCopy for Change {
+    fn copy(&self, alloc: Global) -> Result<Change, OutOfMemory> {
+        let remove = self.remove.copy(alloc)?;
+        let add = self.add.copy(alloc)?;
+        Ok(Change { remove, add })
     }
 }
