@@ -5,3 +5,5 @@ pub mod Constants
 pub mod Sets
 pub mod Placing
 pub mod Made
+pub mod Forms
+pub mod WrittenForms
