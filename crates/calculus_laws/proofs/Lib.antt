@@ -1,2 +1,5 @@
 pub mod Enough
 pub mod After
+pub mod OneVariable
+pub mod Cut
+pub mod Detached
