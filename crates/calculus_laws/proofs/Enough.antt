@@ -22,24 +22,21 @@ use Rattle.calculus.specs.VariableRows.{range_rows, view_rows, rows_within, rows
 
 -- ---- each of what a view names has a level
 
-abbrev greater : Option ℕ → Option ℕ → Option ℕ
+abbrev pub greater : Option ℕ → Option ℕ → Option ℕ
 greater None l = None
 greater (Some k) None = None
 greater (Some k) (Some l) = Some (max k l)
 
-abbrev greatest : List (Option ℕ) → Option ℕ
+abbrev pub greatest : List (Option ℕ) → Option ℕ
 greatest [] = Some 0
 greatest (l ∷ ls) = greater l (greatest ls)
-
-level_above-greatest : (ls : List (Option ℕ)) → level_above ls ≡ option_map suc (greatest ls)
-level_above-greatest ls = refl
 
 both_there : (l g : Option ℕ) → is_some (option_map suc (greater l g)) ≡ true → (is_some l ≡ true) × (is_some (option_map suc g) ≡ true)
 both_there None g h = cc h
 both_there (Some k) None h = cc h
 both_there (Some k) (Some l) h = (refl, refl)
 
-all_there : (f : RelKey → Option ℕ) (keys : List RelKey) → is_some (level_above (map f keys)) ≡ true → AllByRecursion (λ key. is_some (f key) ≡ true) keys
+pub all_there : (f : RelKey → Option ℕ) (keys : List RelKey) → is_some (level_above (map f keys)) ≡ true → AllByRecursion (λ key. is_some (f key) ≡ true) keys
 all_there f [] h = tt
 all_there f (key ∷ keys) h = let both = both_there (f key) (greatest (map f keys)) h in (both.0, all_there f keys both.1)
 
@@ -62,7 +59,7 @@ view_agrees : (s t : Source) (view : View) → AllByRecursion (Agree s t) (vars_
 unfolding assigned
 view_agrees s t view h = ap (λ lists. rows_given no_aggs view.query (choices lists)) (variables_agree s t view.query 0 (vars_of view.query) h)
 
-all_map : (P Q : RelKey → Type 0) → ((key : RelKey) → P key → Q key) → (keys : List RelKey) → AllByRecursion P keys → AllByRecursion Q keys
+pub all_map : (P Q : RelKey → Type 0) → ((key : RelKey) → P key → Q key) → (keys : List RelKey) → AllByRecursion P keys → AllByRecursion Q keys
 all_map P Q f [] h = tt
 all_map P Q f (key ∷ keys) h = (f key h.0, all_map P Q f keys h.1)
 

@@ -1,4 +1,5 @@
 pub mod Enough
+pub mod OwnLevel
 pub mod After
 pub mod OneVariable
 pub mod Cut

@@ -16,6 +16,12 @@ pub fn more_levels_change_nothing()
         → (n : ℕ) → greatest_level ≤ n → (attrs : List ℕ) → rows_within n db who key attrs ≡ rows_of db who key attrs }
 {}
 
+/// The level of what stands under a key is the number of levels that is enough for it.
+pub fn its_own_level_is_enough()
+    ensures { (db : Db) (who : Who) (key : RelKey) (level : ℕ) → level_of db key ≡ Some level
+        → (n : ℕ) → level ≤ n → (attrs : List ℕ) → rows_within n db who key attrs ≡ rows_of db who key attrs }
+{}
+
 /// In a database nothing has more rows through more levels than the greatest.
 #[tactic(auto, using(crate::proofs::Enough::more_levels_in_a_database))]
 pub fn more_levels_change_nothing_in_a_database()
