@@ -1,0 +1,7 @@
+//! Laws of tuple calculus, which show that the definitions of the calculus are the right ones. Each
+//! function here has no body: what it says is its clause.
+#![tactic(auto)]
+
+mod rights;
+
+pub use rights::{nobody_sees_more_than_is_there, what_is_not_permitted_is_not_used};
