@@ -1,9 +1,8 @@
 -- A query over a view answers what the query that its text was put into answers.
-use Rattle.std.proofs.Common.{◌≡◌, refl, sym, ap, ◌∙◌, subst, ℕ, zero, suc, ◌+◌, Bool, true, false, ◌&&◌, List, [], ◌∷◌, ◌++◌, map, Option, Some, None}
+use Rattle.std.proofs.Common.{◌≡◌, refl, sym, ap, ◌∙◌, subst, ℕ, zero, suc, ◌+◌, Bool, true, false, ◌&&◌, List, [], ◌∷◌, map, Option, Some, None}
 use Rattle.std.specs.List.{list_all, filter, filter_map, enumerate_from}
 use Rattle.calculus.specs.declared.query.RelKey.{RelKey}
 use Rattle.calculus.specs.declared.query.QQual.{QQual}
-use Rattle.calculus.specs.declared.query.Target.{Target}
 use Rattle.calculus.specs.declared.query.Query.{Query}
 use Rattle.calculus.specs.Rows.{Row, Ascends, has}
 use Rattle.calculus.specs.Tree.{both}
@@ -12,7 +11,7 @@ use Rattle.calculus.specs.Term.{Env, Aggs, no_aggs, holds}
 use Rattle.calculus.specs.Who.{Free}
 use Rattle.calculus.specs.Database.{Db, View}
 use Rattle.calculus.specs.Stored.{Range, Kept, Viewed, range_at, kept_rows, rows_at}
-use Rattle.calculus.specs.Rights.{Retrieve, may}
+use Rattle.calculus.specs.Rights.{may}
 use Rattle.calculus.specs.QueryParts.{vars_of, targets_of, qual_of, qual_aggregates, query_aggregates}
 use Rattle.calculus.specs.Used.{used_in_query}
 use Rattle.calculus.specs.Assignments.{Source, choices, rows_used, variable_rows, assigned}
@@ -21,9 +20,9 @@ use Rattle.calculus.specs.VariableRows.{range_rows, view_rows, rows_within, rows
 use Rattle.calculus.specs.Aggregate.{aggregates}
 use Rattle.calculus.specs.Answer.{answer}
 use Rattle.calculus.proofs.Sets.{same_set, Ascends-set_of}
-use Rattle.calculus_laws.specs.Expansion.{put_in_qual, put_in_targets, have_values, expanded, is_no_view, IsOverView}
+use Rattle.calculus_laws.specs.Expansion.{put_in_qual, have_values, expanded, is_no_view, IsOverView}
 use Rattle.calculus_laws.proofs.Members.{In, Chosen, choices-Chosen, Chosen-choices, has-In, In-has}
-use Rattle.calculus_laws.proofs.Given.{IsGiven, given-is, is-given}
+use Rattle.calculus_laws.proofs.Given.{given-is, is-given}
 use Rattle.calculus_laws.proofs.Plain.{none_left, none_right, in_targets, given_plain}
 use Rattle.calculus_laws.proofs.PutIn.{holds_put_in, targets_put_in, values-have, have-values}
 use Rattle.calculus_laws.proofs.UsedIn.{targets_of-expanded, any-expanded}
@@ -67,7 +66,7 @@ same_lists m n db p q same v [] h = refl
 same_lists m n db p q same v (key ∷ keys) h =
     let (here, later) = both_true (is_no_view (range_at db key)) (list_all (λ key. is_no_view (range_at db key)) keys) h in
     (λ i. same_used (rows_within m db Free) (rows_within n db Free) key (λ xs ys. all_kept m db key xs here ∙ sym (all_kept n db key ys here))
-        (used_in_query v p) (used_in_query v q) (same v) i
+    (used_in_query v p) (used_in_query v q) (same v) i
     ∷ same_lists m n db p q same (v + 1) keys later i)
 
 -- the assignments of the view's text and of the query that it was put into are the same
@@ -93,7 +92,7 @@ one-In : (source : Source) (q : Query) (key : RelKey) → vars_of q ≡ key ∷ 
 unfolding assigned
 one-In source q key only is_used e h =
     let there : In e (choices (rows_used source key (used_in_query 0 q) ∷ [])) =
-        subst (λ keys. In e (choices (map (λ p. variable_rows source q p.0 p.1) (enumerate_from 0 keys)))) only h in
+    subst (λ keys. In e (choices (map (λ p. variable_rows source q p.0 p.1) (enumerate_from 0 keys)))) only h in
     let (row, inside, same) = one_chosen (rows_used source key (used_in_query 0 q)) e (choices-Chosen (rows_used source key (used_in_query 0 q) ∷ []) e there) in
     (row, subst (In row) (used_rows source key (used_in_query 0 q) is_used) inside, same)
 
@@ -123,12 +122,13 @@ given_there : (aggs : Aggs) (view q : Query) (e : Env) (row values : Row) → qu
     → holds aggs (qual_of view) e ≡ true → target_values aggs (targets_of view) e ≡ Some row
     → holds aggs (qual_of q) (row ∷ []) ≡ true → target_values aggs (targets_of q) (row ∷ []) ≡ Some values
     → (holds aggs (qual_of (expanded view q)) e ≡ true) × (target_values aggs (targets_of (expanded view q)) e ≡ Some values)
-given_there aggs view q e row values plain view_holds view_row q_holds q_row =
-    (joined aggs (put_in_qual (targets_of view) (qual_of q)) (qual_of view) (have_values (targets_of view)) e
-        (holds_put_in aggs (targets_of view) e row (qual_of q) view_row (none_right (in_targets (targets_of q)) (qual_aggregates (qual_of q)) plain) ∙ q_holds)
-        view_holds (values-have aggs (targets_of view) e row view_row),
-    ap (λ ts. target_values aggs ts e) (targets_of-expanded view q)
-        ∙ targets_put_in aggs (targets_of view) e row (targets_of q) view_row (none_left (in_targets (targets_of q)) (qual_aggregates (qual_of q)) plain) ∙ q_row)
+given_there aggs view q e row values plain view_holds view_row q_holds q_row = (
+  joined aggs (put_in_qual (targets_of view) (qual_of q)) (qual_of view) (have_values (targets_of view)) e
+      (holds_put_in aggs (targets_of view) e row (qual_of q) view_row (none_right (in_targets (targets_of q)) (qual_aggregates (qual_of q)) plain) ∙ q_holds)
+      view_holds (values-have aggs (targets_of view) e row view_row),
+  ap (λ ts. target_values aggs ts e) (targets_of-expanded view q)
+      ∙ targets_put_in aggs (targets_of view) e row (targets_of q) view_row (none_left (in_targets (targets_of q)) (qual_aggregates (qual_of q)) plain) ∙ q_row,
+)
 
 -- and the other way
 given_here : (aggs : Aggs) (view q : Query) (e : Env) (values : Row) → query_aggregates q ≡ []
@@ -137,11 +137,14 @@ given_here : (aggs : Aggs) (view q : Query) (e : Env) (values : Row) → query_a
     × (holds aggs (qual_of q) (row ∷ []) ≡ true) × (target_values aggs (targets_of q) (row ∷ []) ≡ Some values)
 given_here aggs view q e values plain holding given =
     let (put, own, needed) = parts aggs (put_in_qual (targets_of view) (qual_of q)) (qual_of view) (have_values (targets_of view)) e holding in
-    let (row, view_row) = have-values aggs (targets_of view) e needed in
-    (row, own, view_row,
-    sym (holds_put_in aggs (targets_of view) e row (qual_of q) view_row (none_right (in_targets (targets_of q)) (qual_aggregates (qual_of q)) plain)) ∙ put,
-    sym (targets_put_in aggs (targets_of view) e row (targets_of q) view_row (none_left (in_targets (targets_of q)) (qual_aggregates (qual_of q)) plain))
-        ∙ sym (ap (λ ts. target_values aggs ts e) (targets_of-expanded view q)) ∙ given)
+    let (row, view_row) = have-values aggs (targets_of view) e needed in (
+      row,
+      own,
+      view_row,
+      sym (holds_put_in aggs (targets_of view) e row (qual_of q) view_row (none_right (in_targets (targets_of q)) (qual_aggregates (qual_of q)) plain)) ∙ put,
+      sym (targets_put_in aggs (targets_of view) e row (targets_of q) view_row (none_left (in_targets (targets_of q)) (qual_aggregates (qual_of q)) plain))
+          ∙ sym (ap (λ ts. target_values aggs ts e) (targets_of-expanded view q)) ∙ given,
+    )
 
 equal_by : (b c : Bool) → (b ≡ true → c ≡ true) → (c ≡ true → b ≡ true) → b ≡ c
 equal_by true c to from = sym (to refl)
@@ -164,7 +167,7 @@ same_given aggs source view q es key plain view_plain only is_used rows values =
         let (row, inside, same) = one-In source q key only is_used e there in
         let (f, in_view, view_holds, view_row) = given-is aggs view es row (In-has (rows_given aggs view es) row (subst (In row) same_rows inside)) in
         let (holding, given) = given_there aggs view q f row values plain view_holds view_row
-            (ap (holds aggs (qual_of q)) (sym same) ∙ q_holds) (ap (target_values aggs (targets_of q)) (sym same) ∙ q_row) in
+        (ap (holds aggs (qual_of q)) (sym same) ∙ q_holds) (ap (target_values aggs (targets_of q)) (sym same) ∙ q_row) in
         is-given aggs (expanded view q) es values (f, in_view, holding, given)
 
     from : has (rows_given aggs (expanded view q) es) values ≡ true → has (rows_given aggs q (assigned source q)) values ≡ true

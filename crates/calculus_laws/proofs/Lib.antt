@@ -6,3 +6,4 @@ pub mod Fewer
 pub mod PutIn
 pub mod UsedIn
 pub mod Expanded
+pub mod Example

@@ -1,7 +1,7 @@
 -- In an assignment of a view's text, what was put into has the value that the term has at the view's row.
-use Rattle.std.proofs.Common.{◌≡◌, refl, sym, ap, ◌∙◌, ℕ, zero, suc, Bool, true, false, not, ◌&&◌, ◌||◌, List, [], ◌∷◌, map, Option, Some, None}
+use Rattle.std.proofs.Common.{◌≡◌, refl, sym, ap, ◌∙◌, ℕ, zero, suc, true, not, ◌&&◌, ◌||◌, List, [], ◌∷◌, Option, Some, None}
 use Rattle.std.proofs.lemmas.Cmp.{tied_itself}
-use Rattle.std.specs.Prelude.{slice_get}
+use Rattle.std.specs.Prelude.{slice_get, is_some}
 use Rattle.std.specs.Ordering.{is_eq}
 use Rattle.calculus.specs.declared.value.Value.{Value}
 use Rattle.calculus.specs.declared.operator.CmpOp.TheVariants.{Eq}
@@ -10,11 +10,10 @@ use Rattle.calculus.specs.declared.query.QQual.{QQual, True, Cmp, Like}
 use Rattle.calculus.specs.declared.query.Target.{Target}
 use Rattle.calculus.specs.Tree.{neg, abs, operation, concat, both, either, negated}
 use Rattle.calculus.specs.Orders.{value_total}
-use Rattle.calculus.specs.Value.{value_cmp}
 use Rattle.calculus.specs.Rows.{Row}
 use Rattle.calculus.specs.Term.{Env, Aggs, val, holds, attribute_value, aggregate_value, opposite_value, value_without_sign, operated_values, joined_values, compared_values, matched_value, value_before}
 use Rattle.calculus.specs.QueryParts.{aggregates_of, term_aggregates, qual_aggregates}
-use Rattle.calculus.specs.Targets.{all_there, target_values}
+use Rattle.calculus.specs.Targets.{target_values}
 use Rattle.calculus_laws.specs.Expansion.{no_value, term_at, put_in_attribute, put_in, put_in_qual, put_in_targets, have_values}
 use Rattle.calculus_laws.proofs.Plain.{none_left, none_right, in_targets}
 
@@ -101,33 +100,33 @@ targets_put_in aggs targets e row (t ∷ ts) h none = λ i. value_before
     (val_put_in aggs targets e row t.term h (none_left (term_aggregates t.term) (in_targets ts) none) i)
     (targets_put_in aggs targets e row ts h (none_right (term_aggregates t.term) (in_targets ts) none) i)
 
--- a value equals itself
-equals_itself : (v : Value) → compared_values Eq (Some v) (Some v) ≡ true
-unfolding compared_values
-equals_itself v = ap is_eq (tied_itself value_total v)
+-- ---- what it is to have values
 
--- where the targets have values, each is required rightly
+-- a value equals itself, and no value equals nothing
+equals_itself : (v : Option Value) → compared_values Eq v v ≡ is_some v
+unfolding compared_values
+equals_itself None = refl
+equals_itself (Some v) = ap is_eq (tied_itself value_total v)
+
+some_before : (v : Option Value) (vs : Option Row) → is_some (value_before v vs) ≡ (is_some v && is_some vs)
+some_before None vs = refl
+some_before (Some v) None = refl
+some_before (Some v) (Some vs) = refl
+
+pub values_required : (aggs : Aggs) (ts : List Target) (e : Env) → holds aggs (have_values ts) e ≡ is_some (target_values aggs ts e)
+unfolding holds
+values_required aggs [] e = refl
+values_required aggs (t ∷ ts) e =
+    (λ i. equals_itself (val aggs t.term e) i && values_required aggs ts e i) ∙ sym (some_before (val aggs t.term e) (target_values aggs ts e))
+
+there_is : {X : Type 0} (o : Option X) → is_some o ≡ true → (x : X) × (o ≡ Some x)
+there_is None h = cc h
+there_is (Some x) h = (x, refl)
+
+-- where the targets have values, that is what is required
 pub values-have : (aggs : Aggs) (ts : List Target) (e : Env) (row : Row) → target_values aggs ts e ≡ Some row → holds aggs (have_values ts) e ≡ true
-unfolding holds
-values-have aggs [] e row h = refl
-values-have aggs (t ∷ ts) e row h =
-    let (first, rest, here, there, same) = before-is (val aggs t.term e) (target_values aggs ts e) row h in
-    (λ i. compared_values Eq (here i) (here i) && values-have aggs ts e rest there i) ∙ ap (λ b. b && true) (equals_itself first)
+values-have aggs ts e row h = values_required aggs ts e ∙ ap is_some h
 
-second : (b c : Bool) → (b && c) ≡ true → c ≡ true
-second true c h = h
-second false c h = cc h
-
-first_there : (v : Option Value) (vs : Option Row) (b : Bool) → (b ≡ true → (row : Row) × (vs ≡ Some row)) → (compared_values Eq v v && b) ≡ true
-    → (row : Row) × (value_before v vs ≡ Some row)
-unfolding compared_values
-first_there None vs b later h = cc h
-first_there (Some v) vs b later h =
-    let (row, same) = later (second (compared_values Eq (Some v) (Some v)) b h) in
-    (v ∷ row, ap (value_before (Some v)) same)
-
--- where each is required, they have values
+-- where it is required, they have values
 pub have-values : (aggs : Aggs) (ts : List Target) (e : Env) → holds aggs (have_values ts) e ≡ true → (row : Row) × (target_values aggs ts e ≡ Some row)
-unfolding holds
-have-values aggs [] e h = ([], refl)
-have-values aggs (t ∷ ts) e h = first_there (val aggs t.term e) (target_values aggs ts e) (holds aggs (have_values ts) e) (have-values aggs ts e) h
+have-values aggs ts e h = there_is (target_values aggs ts e) (sym (values_required aggs ts e) ∙ h)

@@ -7,7 +7,7 @@ use Rattle.calculus.specs.declared.schema.Permit.{Permit}
 use Rattle.calculus.specs.Rows.{Row}
 use Rattle.calculus.specs.Lists.{is_any}
 use Rattle.calculus.specs.Limits.{greatest_level}
-use Rattle.calculus.specs.Term.{Env, no_aggs, holds}
+use Rattle.calculus.specs.Term.{Env, Aggs, no_aggs, holds}
 use Rattle.calculus.specs.Who.{Who, Free, Asks}
 use Rattle.calculus.specs.Database.{Db, Relation, View, permits_on}
 use Rattle.calculus.specs.Stored.{Range, Kept, Viewed, range_at, rows_at}
@@ -17,7 +17,9 @@ use Rattle.calculus.specs.QueryParts.{vars_of}
 use Rattle.calculus.specs.Assignments.{Source, choices, rows_used, variable_rows, assigned, changed_rows, may_read}
 use Rattle.calculus.specs.Targets.{rows_given}
 use Rattle.calculus.specs.VariableRows.{range_rows, view_rows, rows_within, rows_of}
-use Rattle.calculus.specs.Permission.{Reads, vars_permitted, range_permitted, permitted_within, readable}
+use Rattle.calculus.specs.Permission.{Reads, vars_permitted, range_permitted, permitted_within, readable, change_permitted}
+use Rattle.calculus.specs.Aggregate.{aggregates}
+use Rattle.calculus.specs.Answer.{answer}
 
 -- where no item passes the first test, none passes both
 none_of_both : {X : Type 0} (p q : X → Bool) (xs : List X) → list_any p xs ≡ false → list_any (λ x. p x && q x) xs ≡ false
@@ -46,10 +48,26 @@ filter_none p (x ∷ xs) h = rw (h x) (filter_none p xs h)
 
 -- ---- nothing is changed
 
-pub none_changed : (db : Db) (who : Who) (right : Right) (places attrs : List ℕ) (key : RelKey) → permitted db who right places key ≡ false → changed_rows db who right places attrs key ≡ []
+-- a row that may not be read, where reading is not permitted, or not be changed, where that isn't
+no_change : (db : Db) (who : Who) (right : Right) (places attrs : List ℕ) (key : RelKey) (row : Row) → change_permitted db who right places key attrs ≡ false
+    → (may db who right places key row && may_read db who attrs key row) ≡ false
+no_change db who right places [] key row h = ap (λ b. b && true) (no_row db who right places key row h)
+no_change db who right places (a ∷ attrs) key row h =
+    neither (permitted db who right places key) (permitted db who Retrieve (a ∷ attrs) key) (may db who right places key row) (may db who Retrieve (a ∷ attrs) key row)
+    (no_row db who right places key row) (no_row db who Retrieve (a ∷ attrs) key row) h
+  where
+    pass : (b c : Bool) → c ≡ false → (b && c) ≡ false
+    pass true c h = h
+    pass false c h = refl
+
+    neither : (p q b c : Bool) → (p ≡ false → b ≡ false) → (q ≡ false → c ≡ false) → (p && q) ≡ false → (b && c) ≡ false
+    neither true q b c f g h = pass b c (g h)
+    neither false q b c f g h = ap (λ b. b && c) (f refl)
+
+pub none_changed : (db : Db) (who : Who) (right : Right) (places attrs : List ℕ) (key : RelKey) → change_permitted db who right places key attrs ≡ false
+    → changed_rows db who right places attrs key ≡ []
 none_changed db who right places attrs key h =
-    filter_none (λ row. may db who right places key row && may_read db who attrs key row) (rows_at db key)
-    (λ row. ap (λ b. b && may_read db who attrs key row) (no_row db who right places key row h))
+    filter_none (λ row. may db who right places key row && may_read db who attrs key row) (rows_at db key) (λ row. no_change db who right places attrs key row h)
 
 -- ---- nothing is read
 
@@ -117,15 +135,15 @@ none_of_range of_view view_read none db who key attrs (Some (Kept relation)) h =
     filter_none (may db who Retrieve attrs key) relation.rows (λ row. no_row db who Retrieve attrs key row h)
 none_of_range of_view view_read none db who key attrs (Some (Viewed view)) h = none view h
 
-none_given : (q : Query) (es : List Env) → es ≡ [] → rows_given no_aggs q es ≡ []
+none_given : (aggs : Aggs) (q : Query) (es : List Env) → es ≡ [] → rows_given aggs q es ≡ []
 unfolding rows_given
-none_given q es h = rw h refl
+none_given aggs q es h = rw h refl
 
 none_within : (n : ℕ) (db : Db) (who : Who) (key : RelKey) (attrs : List ℕ) → permitted_within n db who key attrs ≡ false → rows_within n db who key attrs ≡ []
 none_within zero db who key attrs h = none_of_range (λ view. []) (λ view. false) (λ view _. refl) db who key attrs (range_at db key) h
 none_within (suc n) db who key attrs h =
     none_of_range (view_rows (rows_within n db who)) (λ view. vars_permitted (permitted_within n db who) view.query (used_vars view.query))
-    (λ view k. none_given view.query (assigned (rows_within n db who) view.query)
+    (λ view k. none_given no_aggs view.query (assigned (rows_within n db who) view.query)
     (none_assigned (permitted_within n db who) (rows_within n db who) view.query (λ key attrs. none_within n db who key attrs) k))
     db who key attrs (range_at db key) h
 
@@ -138,3 +156,8 @@ pub none_kept : (db : Db) (who : Who) (attrs : List ℕ) (key : RelKey) (relatio
 unfolding rows_of
 none_kept db who attrs key relation e h =
     rw e (filter_none (may db who Retrieve attrs key) relation.rows (λ row. no_row db who Retrieve attrs key row h))
+
+pub none_answered : (db : Db) (who : Who) (q : Query) → vars_permitted (readable db who) q (used_vars q) ≡ false → answer db who q ≡ []
+unfolding answer
+none_answered db who q h =
+    none_given (aggregates db who) q (assigned (rows_of db who) q) (none_assigned (readable db who) (rows_of db who) q (λ key attrs. none_read db who attrs key) h)
