@@ -1,2 +1,3 @@
-pub mod Updates
 pub mod Detaching
+pub mod Expansion
+pub mod Updates
