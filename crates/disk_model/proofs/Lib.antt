@@ -1,0 +1,4 @@
+pub mod Crashing
+pub mod Entries
+pub mod Moments
+pub mod Scanning
