@@ -3,13 +3,14 @@ use Rattle.std.proofs.Common.{◌≡◌, ◌⊎◌, inl, inr, ⊎_elim, ℕ, ◌
 use Rattle.disk_model.specs.declared.disk.Addr.{Addr}
 use Rattle.disk_model.specs.declared.calls.Call.{Call}
 use Rattle.disk_model.specs.declared.calls.Call.TheVariants.{Write, FailedWrite, Cut, FailedCut, Sync, FailedSync, Fill}
-use Rattle.disk_model.specs.Disk.{Image, IsImage, IsSettled}
-use Rattle.disk_model.specs.Calls.{is_at, page_of, seen_after, touched_after, seen_from, synced_from, touched_from, seen_of, touched_of}
+use Rattle.disk_model.specs.Disk.{Image, IsImage, IsSettled, is_at}
+use Rattle.disk_model.specs.Calls.{page_of, seen_after, touched_after, seen_from, synced_from, touched_from, seen_of, touched_of}
 use Rattle.disk_model.specs.declared.mem_disk.Left.{Left}
 use Rattle.disk_model.specs.declared.mem_disk.Left.TheVariants.{Old, New, Filled}
 use Rattle.disk_model.specs.MemoryDisk.{State, Leaves, left_at}
 use Rattle.disk_model.specs.Walks.{IsQuiet, IsQuietCall, filled_call}
-use Rattle.disk_model.proofs.Entries.{off_at, off_file, is_at_self, same_file}
+use Rattle.disk_model.proofs.Addresses.{off_at, is_at_self}
+use Rattle.disk_model.proofs.Entries.{off_file, same_file}
 
 pub seen_append : (m : Image) (xs ys : List Call) → seen_from m (xs ++ ys) ≡ seen_from (seen_from m xs) ys
 seen_append m [] ys = refl

@@ -7,7 +7,8 @@ use Rattle.disk_model.specs.declared.disk.DiskFailed.{DiskFailed}
 use Rattle.disk_model.specs.declared.calls.Call.{Call}
 use Rattle.disk_model.specs.declared.calls.Call.TheVariants.{Write, FailedWrite, Cut, FailedCut, Sync, FailedSync, Fill}
 use Rattle.disk_model.specs.Disk.{Image, IsImage, IsSettled, Changes, Elapses}
-use Rattle.disk_model.specs.Calls.{is_at, seen_after, touched_after, seen_from, touched_from, seen_of, touched_of, LeftSince, failed_call}
+use Rattle.disk_model.specs.Calls.{seen_after, touched_after, seen_from, touched_from, seen_of, touched_of, LeftSince, failed_call}
+use Rattle.disk_model.proofs.Addresses.{is_at_self, off_at}
 use Rattle.disk_model.specs.MemoryDisk.{State, seen_now, Notes}
 
 pub seen_push : (m : Image) (cs : List Call) (c : Call) → seen_from m (cs ++ c ∷ []) ≡ seen_after c (seen_from m cs)
@@ -17,22 +18,6 @@ seen_push m (d ∷ cs) c = seen_push (seen_after d m) cs c
 pub touched_push : (t : Addr → Type 0) (cs : List Call) (c : Call) (b : Addr) → touched_from t (cs ++ c ∷ []) b → touched_after c (touched_from t cs) b
 touched_push t [] c b h = h
 touched_push t (d ∷ cs) c b h = touched_push (touched_after d t) cs c b h
-
-pub is_at_self : (a : Addr) → is_at a a ≡ true
-is_at_self a = grind (arith, nat_tests)
-
-bool_cases : (x : Bool) → (x ≡ true) ⊎ (x ≡ false)
-bool_cases true = inl refl
-bool_cases false = inr refl
-
-is_at_true : (a b : Addr) → is_at a b ≡ true → a ≡ b
-is_at_true a b h =
-    let f : a.file ≡ b.file = grind (arith, nat_tests) in
-    let p : a.page ≡ b.page = grind (arith, nat_tests) in
-    λ i. record { file = f i; page = p i }
-
-pub off_at : (a b : Addr) → a ≢ b → is_at a b ≡ false
-off_at a b other = ⊎_elim (λ t. absurd (other (is_at_true a b t))) (λ f. f) (bool_cases (is_at a b))
 
 pub off_file : (f g : ℕ) → f ≢ g → (f == g) ≡ false
 off_file f g other = grind (arith, nat_tests)

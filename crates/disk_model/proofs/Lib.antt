@@ -1,3 +1,4 @@
+pub mod Addresses
 pub mod Crashing
 pub mod Entries
 pub mod Moments

@@ -1,13 +1,9 @@
 -- What a list of writes, cuts and syncs makes of a disk in memory.
-use Rattle.std.specs.Prelude.{◌≡◌, ◌⊎◌, ℕ, ◌≤◌, ◌==◌, ◌&&◌, Bool, List, [], ◌∷◌, length, take, Option, Some, None, replicate, if◌then◌else◌}
+use Rattle.std.specs.Prelude.{◌≡◌, ◌⊎◌, ℕ, ◌≤◌, ◌==◌, List, [], ◌∷◌, length, take, Option, Some, None, replicate, if◌then◌else◌}
 use Rattle.disk_model.specs.declared.disk.Addr.{Addr}
 use Rattle.disk_model.specs.declared.calls.Call.{Call}
 use Rattle.disk_model.specs.declared.calls.Call.TheVariants.{Write, FailedWrite, Cut, FailedCut, Sync, FailedSync, Fill}
-use Rattle.disk_model.specs.Disk.{Image, IsImage}
-
--- whether two addresses are the same
-abbrev pub is_at : Addr → Addr → Bool
-is_at b a = b.file == a.file && b.page == a.page
+use Rattle.disk_model.specs.Disk.{Image, IsImage, is_at}
 
 -- a page of one byte
 unfoldable pub page_of : ℕ → List ℕ

@@ -1,10 +1,14 @@
 -- What the calls of a disk do, and what a crash may leave.
-use Rattle.std.specs.Prelude.{◌≡◌, ◌⊎◌, ℕ, ◌+◌, ◌≤◌, List, Option}
+use Rattle.std.specs.Prelude.{◌≡◌, ◌⊎◌, ℕ, ◌+◌, ◌≤◌, ◌==◌, ◌&&◌, Bool, List, Option}
 use Rattle.disk_model.specs.declared.disk.Addr.{Addr}
 
 -- a page, or none, at each address
 abbrev pub Image : Type 0
 Image = Addr → Option (List ℕ)
+
+-- whether two addresses are the same
+abbrev pub is_at : Addr → Addr → Bool
+is_at b a = b.file == a.file && b.page == a.page
 
 -- m is what reads give, but at the touched addresses, where it may be anything
 abbrev pub IsImage : Image → (Addr → Type 0) → Image → Type 0
