@@ -24,7 +24,7 @@ same_or_not x y = grind arith
 pub completed_at : (m : Image) (batch : Batch) (p : ℕ) → p ≡ batch.count / 128 → completed m batch (addr 3 p) ≡ Some batch.addresses
 completed_at m batch p is =
     subst (λ q. completed m batch (addr 3 q) ≡ Some batch.addresses) (sym is)
-      (ap (λ t. if t then Some batch.addresses else m (addr 3 (batch.count / 128))) (is_at_self (addr 3 (batch.count / 128))))
+    (ap (λ t. if t then Some batch.addresses else m (addr 3 (batch.count / 128))) (is_at_self (addr 3 (batch.count / 128))))
 
 pub completed_off : (m : Image) (batch : Batch) (b : Addr) → b ≢ addr 3 (batch.count / 128) → completed m batch b ≡ m b
 completed_off m batch b off = ap (λ t. if t then Some batch.addresses else m b) (off_at b (addr 3 (batch.count / 128)) off)
@@ -132,8 +132,8 @@ module _ (old new : Image) (batch : Batch) (i : ℕ) (page : List ℕ) (off : (b
   staged_renewed lt =
       let third = third_same (i / 128) in
       entries_renewed (entry (completed old batch)) (entry (completed new batch)) i page
-        (λ k other. let t = third_same (k / 128) in let f = fourth_same k other in λ j. (address_in (or_empty (t j)) k, or_empty (f j)))
-        (λ j. (address_in (or_empty (third j)) i, or_empty (image_there j))) batch.count lt
+      (λ k other. let t = third_same (k / 128) in let f = fourth_same k other in λ j. (address_in (or_empty (t j)) k, or_empty (f j)))
+      (λ j. (address_in (or_empty (third j)) i, or_empty (image_there j))) batch.count lt
 
   pub holds_renewed : Holds old batch → Holds new batch
   holds_renewed held = record {

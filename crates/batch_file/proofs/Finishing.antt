@@ -31,4 +31,4 @@ module _ {S : Type 0} (seen : S → Image) (touched : S → Addr → Type 0) (cl
       → redone (seen mid) ≡ Some (kept (seen new)) → kept (seen new) ≡ kept (laid (entries (seen old) n) (seen old))
   lay_done old mid new n shut whole is done =
       some_same _ _ (sym done ∙ is ∙ redone_shut (laid (entries (seen old) n) (seen old))
-        (λ e. shut (seen old) (λ b calm. refl) (sym (gate_stays (entries (seen old) n) (seen old) (named (seen old) n whole.addresses)) ∙ e)))
+      (λ e. shut (seen old) (λ b calm. refl) (sym (gate_stays (entries (seen old) n) (seen old) (named (seen old) n whole.addresses)) ∙ e)))

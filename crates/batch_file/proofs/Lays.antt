@@ -19,9 +19,9 @@ among_or_off [] b = inr (λ h. h)
 among_or_off (c ∷ cs) b = elim (at_cases b c.0) [
   | inl same ↦ inl (inl same.0)
   | inr other ↦ elim (among_or_off cs b) [
-      | inl h ↦ inl (inr h)
-      | inr n ↦ inr (λ h. ⊎_elim other.0 n h)
-    ]
+    | inl h ↦ inl (inr h)
+    | inr n ↦ inr (λ h. ⊎_elim other.0 n h)
+  ]
 ]
 
 pub latest-append : (xs ys : Entries) (b : Addr) (x : Option (List ℕ)) → latest (xs ++ ys) b x ≡ latest ys b (latest xs b x)

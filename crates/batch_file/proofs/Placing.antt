@@ -41,18 +41,25 @@ redone_end M m touched n is near = elim (open_or_shut (gate m)) [
   where
     open_or_shut : (x : ℕ) → (x ≡ 1) ⊎ (x ≢ 1)
     open_or_shut x = grind arith
+
     whole : IsSound M n
     whole = sound M n is.no_damage is.size
+
     off_gate : (b : Addr) → InBatch b → b ≢ addr 1 0
     off_gate b inside e = let f : b.file ≡ 1 = ap (λ (x : Addr). x.file) e in omega (arith, inside.from, f)
+
     batch : SameBatch m M
     batch = same_batch m M (λ b inside. near b (off_gate b inside) ∙ latest_off (entries M n) b (M b) (off_batch M n whole.lawful b (omega (arith, inside.from)) (omega (arith, inside.to))))
+
     listed : entries m (count m) ≡ entries M n
     listed = ap (λ j. entries m j) (batch.count_same ∙ is.size) ∙ batch.entries_same n
+
     once : kept m ≡ kept (laid (entries M n) M)
     once = kept_by _ _ (λ b k. near b (kept_not_gate b k))
+
     twice : kept (laid (entries M n) m) ≡ kept (laid (entries M n) M)
     twice = kept_by _ _ (λ b k. ap (latest (entries M n) b) (near b (kept_not_gate b k)) ∙ latest_twice (entries M n) b (M b))
+
     stands : Some (kept (laid (entries M n) M)) ≡ redone M
     stands = sym (ap (λ cs. Some (kept (laid cs M))) (ap (λ j. entries M j) is.size)) ∙ sym (redone_open M is.gate_open is.no_damage)
 
@@ -97,8 +104,7 @@ module _ {S : Type 0} (seen : S → Image) (touched : S → Addr → Type 0) (cl
   placing_writes n k old now next lt is so_far change time =
       let among : Among (entries (seen old) n) (entry (seen now) k).0 =
       subst (λ e. Among (entries (seen old) n) e.0) (sym (place_of n k old now is so_far)) (among_entry (entry (seen old)) n k lt) in
-      let changed = changes_more seen touched clock left_since (Among (entries (seen old) n)) (λ b. b ≡ (entry (seen now) k).0) old now next so_far.change change (λ x same. subst (Among (entries (seen old) n)) (sym same) among) in
-      (
+      let changed = changes_more seen touched clock left_since (Among (entries (seen old) n)) (λ b. b ≡ (entry (seen now) k).0) old now next so_far.change change (λ x same. subst (Among (entries (seen old) n)) (sym same) among) in (
         goes_on seen touched clock left_since old now next _ so_far.run time (λ m image. redone_mid (seen old) m (touched old) n is (image_near seen touched clock left_since _ old next is.settled changed m image)),
         changed,
       )
@@ -112,14 +118,19 @@ module _ {S : Type 0} (seen : S → Image) (touched : S → Addr → Type 0) (cl
     where
       same : entry (seen now) k ≡ entry (seen old) k
       same = place_of n k old now is so_far
+
       there : seen next (entry (seen old) k).0 ≡ Some (entry (seen old) k).1
       there = subst (λ e. seen next e.0 ≡ Some e.1) same written
+
       elsewhere : (b : Addr) → b ≢ (entry (seen old) k).0 → seen next b ≡ seen now b
       elsewhere b other = change.elsewhere b (λ e. other (e ∙ ap (λ (x : Addr × List ℕ). x.0) same))
+
       more : (b : Addr) → laid (entries (seen old) (k + 1)) (seen old) b ≡ (if is_at b (entry (seen old) k).0 then Some (entry (seen old) k).1 else latest (entries (seen old) k) b (seen old b))
       more b = rw add-one (latest-append (entries (seen old) k) (entry (seen old) k ∷ []) b (seen old b))
+
       pick : Addr → Bool → Option (List ℕ)
       pick b t = if t then Some (entry (seen old) k).1 else latest (entries (seen old) k) b (seen old b)
+
       at : (b : Addr) → seen next b ≡ laid (entries (seen old) (k + 1)) (seen old) b
       at b = elim (at_cases b (entry (seen old) k).0) [
         | inl here ↦ ap (seen next) here.0 ∙ there ∙ sym (more b ∙ ap (λ t. pick b t) here.1)

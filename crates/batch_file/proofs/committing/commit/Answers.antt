@@ -27,7 +27,7 @@ finish-requires-clause-shut g c = λ told.
 pub returns-in_err-add-clause-crash : goal.returns-in_err-add-clause-crash
 returns-in_err-add-clause-crash g c = λ told.
     gives_up g.D.Disk.seen g.D.Disk.touched g.D.Disk.clock g.D.Disk.left_since c.args.disk.now c.add.new.disk c.args.changes.now (c.requires.shut told)
-      (apart_joins g.D.Disk.seen g.D.Disk.touched g.D.Disk.clock g.D.Disk.left_since c.args.disk.now c.loop-a.disk c.add.new.disk (c.loop-a.invariant.told told).apart (c.add.ensures.change told) (c.add.ensures.crash told))
+    (apart_joins g.D.Disk.seen g.D.Disk.touched g.D.Disk.clock g.D.Disk.left_since c.args.disk.now c.loop-a.disk c.add.new.disk (c.loop-a.invariant.told told).apart (c.add.ensures.change told) (c.add.ensures.crash told))
 
 pub loop-a-preserved : goal.loop-a-preserved
 loop-a-preserved g c = record {
@@ -43,18 +43,18 @@ returns-in_err-finish-clause-crash g c = λ told.
     let whole : take c.loop-a.a-index c.args.changes.now ≡ c.args.changes.now = take_all c.loop-a.a-index c.args.changes.now (omega arith) in
     let listed = (c.loop-a.invariant.told told).listed ∙ whole in
     then_run g.D.Disk.seen g.D.Disk.touched g.D.Disk.clock g.D.Disk.left_since c.args.disk.now c.loop-a.disk c.args.changes.now (c.requires.shut told) (all_places c.args.changes.now c.requires.places) (c.loop-a.invariant.told told).apart c.finish.new.disk
-      (subst (λ (l : Entries). LeavesOnly g.D.Disk.clock g.D.Disk.left_since c.loop-a.disk c.finish.new.disk (BeforeOrAfter (g.D.Disk.seen c.loop-a.disk) (g.D.Disk.touched c.loop-a.disk) l)) listed (c.finish.ensures.crash told))
+    (subst (λ (l : Entries). LeavesOnly g.D.Disk.clock g.D.Disk.left_since c.loop-a.disk c.finish.new.disk (BeforeOrAfter (g.D.Disk.seen c.loop-a.disk) (g.D.Disk.touched c.loop-a.disk) l)) listed (c.finish.ensures.crash told))
 
 pub returns-clause-crash : goal.returns-clause-crash
 returns-clause-crash g c = λ told.
     let whole : take c.loop-a.a-index c.args.changes.now ≡ c.args.changes.now = take_all c.loop-a.a-index c.args.changes.now (omega arith) in
     let listed = (c.loop-a.invariant.told told).listed ∙ whole in
     then_run g.D.Disk.seen g.D.Disk.touched g.D.Disk.clock g.D.Disk.left_since c.args.disk.now c.loop-a.disk c.args.changes.now (c.requires.shut told) (all_places c.args.changes.now c.requires.places) (c.loop-a.invariant.told told).apart c.finish.new.disk
-      (subst (λ (l : Entries). LeavesOnly g.D.Disk.clock g.D.Disk.left_since c.loop-a.disk c.finish.new.disk (BeforeOrAfter (g.D.Disk.seen c.loop-a.disk) (g.D.Disk.touched c.loop-a.disk) l)) listed (c.finish.ensures.crash told))
+    (subst (λ (l : Entries). LeavesOnly g.D.Disk.clock g.D.Disk.left_since c.loop-a.disk c.finish.new.disk (BeforeOrAfter (g.D.Disk.seen c.loop-a.disk) (g.D.Disk.touched c.loop-a.disk) l)) listed (c.finish.ensures.crash told))
 
 pub returns-clause-laid : goal.returns-clause-laid
 returns-clause-laid g c = λ told.
     let whole : take c.loop-a.a-index c.args.changes.now ≡ c.args.changes.now = take_all c.loop-a.a-index c.args.changes.now (omega arith) in
     let listed = (c.loop-a.invariant.told told).listed ∙ whole in
     then_laid g.D.Disk.seen g.D.Disk.touched g.D.Disk.clock g.D.Disk.left_since c.args.disk.now c.loop-a.disk c.args.changes.now (c.requires.shut told) (all_places c.args.changes.now c.requires.places) (c.loop-a.invariant.told told).apart c.finish.new.disk
-      (c.in_ok-finish.ensures.laid told ∙ ap (λ (l : Entries). kept (laid l (g.D.Disk.seen c.loop-a.disk))) listed)
+    (c.in_ok-finish.ensures.laid told ∙ ap (λ (l : Entries). kept (laid l (g.D.Disk.seen c.loop-a.disk))) listed)

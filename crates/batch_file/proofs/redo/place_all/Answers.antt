@@ -25,13 +25,13 @@ returns-in_err-page-clause-whole g c = λ told.
 pub returns-in_err-write-clause-crash : goal.returns-in_err-write-clause-crash
 returns-in_err-write-clause-crash g c = λ told.
     step_run g.D.Disk.seen g.D.Disk.touched g.D.Disk.clock g.D.Disk.left_since c.args.count c.loop-k.k c.args.disk.now c.loop-k.disk (omega arith) (c.requires told) (c.loop-k.invariant.told told)
-        c.next_address.new.disk c.page.new.disk c.write.new.self _ (c.next_address.ensures.same told) (c.page.ensures.same told) (c.in_ok-a.ensures.address told).1 (c.write.ensures.change told) (c.write.ensures.time told)
+    c.next_address.new.disk c.page.new.disk c.write.new.self _ (c.next_address.ensures.same told) (c.page.ensures.same told) (c.in_ok-a.ensures.address told).1 (c.write.ensures.change told) (c.write.ensures.time told)
 
 pub loop-k-preserved : goal.loop-k-preserved
 loop-k-preserved g c = record {
   told = λ told. step_done g.D.Disk.seen g.D.Disk.touched g.D.Disk.clock g.D.Disk.left_since c.args.count c.loop-k.k c.args.disk.now c.loop-k.disk (omega arith) (c.requires told) (c.loop-k.invariant.told told)
-        c.next_address.new.disk c.page.new.disk c.write.new.self _ (c.next_address.ensures.same told) (c.page.ensures.same told) (c.in_ok-a.ensures.address told).1 (c.write.ensures.change told) (c.write.ensures.time told)
-        _ (c.in_ok-page.ensures.page told) (c.in_ok-write.ensures.written told);
+      c.next_address.new.disk c.page.new.disk c.write.new.self _ (c.next_address.ensures.same told) (c.page.ensures.same told) (c.in_ok-a.ensures.address told).1 (c.write.ensures.change told) (c.write.ensures.time told)
+      _ (c.in_ok-page.ensures.page told) (c.in_ok-write.ensures.written told);
   buffered = λ told. buffered_then g.D.Disk.seen g.D.Disk.touched g.D.Disk.clock g.D.Disk.left_since c.args.count c.loop-k.k c.args.disk.now c.loop-k.disk (c.requires told) (c.loop-k.invariant.told told) (c.loop-k.k + 1) c.next_address.new.buffer (c.in_ok-a.ensures.buffered told);
   faults = omega (arith, c.loop-k.invariant.faults, c.next_address.ensures.cause.later, c.page.ensures.cause.later, c.write.ensures.cause.later);
 }
