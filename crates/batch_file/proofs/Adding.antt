@@ -1,12 +1,12 @@
 -- What the batch's own files hold, together with the page of addresses that the batch has itself.
-use Rattle.std.proofs.Common.{◌≡◌, ◌≢◌, ◌⊎◌, inl, inr, ⊎_elim, ℕ, zero, suc, ◌+◌, ◌*◌, ◌/◌, ◌%◌, ◌<◌, ◌≤◌, Bool, true, false, List, [], ◌∷◌, ◌++◌, Option, Some, None, is_some, IsTrue, not, ◌==◌, if◌then◌else◌, refl, sym, ◌∙◌, ap, subst, arith, add-one}
+use Rattle.std.proofs.Common.{◌≡◌, ◌≢◌, ◌⊎◌, inl, inr, ⊎_elim, ℕ, ◌+◌, ◌/◌, ◌%◌, ◌<◌, Bool, true, List, [], ◌∷◌, ◌++◌, Some, None, is_some, IsTrue, not, ◌==◌, if◌then◌else◌, refl, sym, ◌∙◌, ap, subst, arith, add-one}
 use Rattle.std.proofs.lemmas.Bool.Decides.{nat_tests}
 use Rattle.disk_model.specs.declared.disk.Addr.{Addr}
-use Rattle.disk_model.specs.Disk.{Image, is_at}
+use Rattle.disk_model.specs.Disk.{Image}
 use Rattle.disk_model.proofs.Addresses.{is_at_self, off_at}
 use Rattle.batch_file.specs.declared.stage.Batch.{Batch}
-use Rattle.batch_file.specs.Layout.{Entries, addr, is_lawful, is_lawful_in, has_image, or_empty, address_in, entry, entries, is_place}
-use Rattle.batch_file.specs.Redone.{laid, latest}
+use Rattle.batch_file.specs.Layout.{addr, is_lawful, is_lawful_in, has_image, or_empty, address_in, entry, entries, is_place}
+use Rattle.batch_file.specs.Redone.{latest}
 use Rattle.batch_file.specs.OnDisk.{IsWhole, renewed, image_in}
 use Rattle.batch_file.specs.Staged.{completed, staged, Holds}
 use Rattle.batch_file.proofs.Listing.{entries_below, entries_renewed, image_of_entries, page_found}

@@ -1,8 +1,8 @@
 -- How the gate is shut behind a batch that is at its places.
-use Rattle.std.proofs.Common.{◌≡◌, ◌≢◌, ◌⊎◌, inl, inr, ⊎_elim, ℕ, ◌≤◌, List, Option, Some, true, refl, sym, ◌∙◌, ap, subst, arith}
+use Rattle.std.proofs.Common.{◌≡◌, ℕ, Some, true, sym, ◌∙◌, ap}
 use Rattle.disk_model.specs.declared.disk.Addr.{Addr}
 use Rattle.disk_model.specs.Disk.{Image, IsImage, IsSettled, Changes, Elapses, LeavesOnly}
-use Rattle.disk_model.proofs.Moments.{goes_on, image_near, image_synced, syncs_on}
+use Rattle.disk_model.proofs.Moments.{goes_on, image_near, syncs_on}
 use Rattle.batch_file.specs.Layout.{addr, entries}
 use Rattle.batch_file.specs.Redone.{laid, is_kept, kept, redone}
 use Rattle.batch_file.specs.OnDisk.{IsOpen}

@@ -1,5 +1,5 @@
 -- The whole of a batch: opened, laid and closed.
-use Rattle.std.proofs.Common.{◌≡◌, ◌≢◌, inl, inr, ℕ, ◌<◌, ◌≤◌, Option, Some, true, refl, sym, ◌∙◌, ap, subst, arith}
+use Rattle.std.proofs.Common.{◌≡◌, inl, inr, ℕ, Some, true, refl, sym, ◌∙◌, ap, arith}
 use Rattle.disk_model.specs.declared.disk.Addr.{Addr}
 use Rattle.disk_model.specs.Disk.{Image, IsImage, LeavesOnly}
 use Rattle.disk_model.proofs.Moments.{started, joins}

@@ -1,11 +1,10 @@
 -- A batch of its form.
-use Rattle.std.proofs.Common.{◌≡◌, ◌≢◌, ◌⊎◌, inl, inr, ⊎_elim, ℕ, zero, suc, ◌+◌, ◌/◌, ◌<◌, ◌≤◌, Bool, true, false, IsTrue, List, [], ◌∷◌, ◌++◌, Option, Some, None, refl, sym, ◌∙◌, ap, subst, arith, is_some}
+use Rattle.std.proofs.Common.{◌≡◌, ◌⊎◌, inl, inr, ⊎_elim, ℕ, zero, suc, ◌/◌, ◌<◌, ◌≤◌, Bool, true, false, List, [], ◌∷◌, ◌++◌, Option, Some, None, refl, sym, subst, arith, is_some}
 use Rattle.std.proofs.lemmas.Bool.Decides.{nat_tests}
 use Rattle.disk_model.specs.declared.disk.Addr.{Addr}
-use Rattle.disk_model.specs.Disk.{Image, IsImage, IsSettled}
-use Rattle.batch_file.specs.Layout.{addr, gate, count, is_head, is_lawful, is_lawful_in, has_image, or_empty, address_in, entry, entries, entries_of, is_place, Entries}
+use Rattle.disk_model.specs.Disk.{Image}
+use Rattle.batch_file.specs.Layout.{addr, count, is_head, is_lawful, is_lawful_in, has_image, or_empty, address_in, entry, entries, entries_of, is_place, Entries}
 use Rattle.batch_file.specs.Redone.{next_failing, first_failing, damage_of, damage}
-use Rattle.batch_file.specs.OnDisk.{InBatch}
 use Rattle.batch_file.proofs.Lays.{Among}
 
 pub among-append : (xs ys : Entries) (b : Addr) → Among (xs ++ ys) b → Among xs b ⊎ Among ys b

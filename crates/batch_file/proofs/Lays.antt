@@ -1,12 +1,11 @@
 -- What pages with changes laid over them are, and what an image stands for.
-use Rattle.std.proofs.Common.{◌≡◌, ◌≢◌, ◌⊎◌, inl, inr, ⊎_elim, ℕ, zero, suc, ◌+◌, ◌/◌, ◌<◌, ◌≤◌, ◌==◌, ◌&&◌, Bool, true, false, IsTrue, nat_le, List, [], ◌∷◌, ◌++◌, Option, Some, None, refl, sym, ◌∙◌, ap, subst, arith, slice_index, if◌then◌else◌}
-use Rattle.std.proofs.lemmas.Bool.{cases_eq}
+use Rattle.std.proofs.Common.{◌≡◌, ◌≢◌, ◌⊎◌, inl, inr, ⊎_elim, ℕ, ◌/◌, ◌==◌, Bool, true, false, List, [], ◌∷◌, ◌++◌, Option, Some, None, refl, sym, ◌∙◌, ap, subst, arith, if◌then◌else◌}
 use Rattle.std.proofs.lemmas.Bool.Decides.{nat_tests}
 use Rattle.disk_model.specs.declared.disk.Addr.{Addr}
 use Rattle.disk_model.specs.Disk.{Image, is_at}
 use Rattle.disk_model.proofs.Addresses.{at_cases}
-use Rattle.batch_file.specs.Layout.{addr, gate, count, count_in, is_head, is_lawful, is_lawful_in, has_image, or_empty, address_in, entry, entries, entries_of, first_byte, Entries}
-use Rattle.batch_file.specs.Redone.{IsShut, first_failing, damage_of, damage, latest, laid, is_kept, kept, redone_of, redone, answer_of, answer}
+use Rattle.batch_file.specs.Layout.{addr, gate, count, count_in, is_head, is_lawful_in, has_image, or_empty, address_in, entries, entries_of, Entries}
+use Rattle.batch_file.specs.Redone.{first_failing, damage_of, damage, latest, laid, is_kept, kept, redone_of, redone}
 use Rattle.batch_file.specs.OnDisk.{InBatch}
 
 -- an address of one of the changes

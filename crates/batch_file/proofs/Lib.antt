@@ -9,4 +9,5 @@ pub mod Listing
 pub mod Opening
 pub mod Outside
 pub mod Placing
-pub mod Restoring
+pub mod Reopening
+pub mod Standing

@@ -1,12 +1,12 @@
 -- How the gate is opened before a batch that is on the disk.
-use Rattle.std.proofs.Common.{◌≡◌, ◌≢◌, ◌⊎◌, inl, inr, ⊎_elim, ℕ, ◌<◌, ◌≤◌, Bool, true, false, List, Option, Some, None, refl, sym, ◌∙◌, ap, subst, arith}
+use Rattle.std.proofs.Common.{◌≡◌, ◌≢◌, ◌⊎◌, inl, inr, ℕ, ◌≤◌, true, List, Some, None, refl, sym, ◌∙◌, ap, subst, arith}
 use Rattle.disk_model.specs.declared.disk.Addr.{Addr}
-use Rattle.disk_model.specs.Disk.{Image, IsImage, IsSettled, Changes, OnlyReads, Elapses, LeavesOnly}
-use Rattle.disk_model.proofs.Moments.{started, goes_on, joins, image_near, image_back, image_synced, syncs_on}
-use Rattle.batch_file.specs.Layout.{addr, gate, count, count_in, is_head, is_lawful, has_image, entries, first_byte, number_at}
+use Rattle.disk_model.specs.Disk.{Image, IsImage, IsSettled, Changes, Elapses, LeavesOnly}
+use Rattle.disk_model.proofs.Moments.{started, goes_on, image_near, image_back, syncs_on}
+use Rattle.batch_file.specs.Layout.{addr, gate, count, count_in, is_head, entries, first_byte, number_at}
 use Rattle.batch_file.specs.Redone.{IsShut, damage, latest, laid, is_kept, kept, redone}
-use Rattle.batch_file.specs.OnDisk.{InBatch, SameOutside, BeforeOrAfter, IsWhole, IsOpen}
-use Rattle.batch_file.proofs.Lays.{Among, kept_by, kept_not_gate, kept_not_batch, redone_shut, redone_open, latest_off}
+use Rattle.batch_file.specs.OnDisk.{InBatch, BeforeOrAfter, IsWhole, IsOpen}
+use Rattle.batch_file.proofs.Lays.{kept_by, kept_not_gate, kept_not_batch, redone_shut, redone_open, latest_off}
 use Rattle.batch_file.proofs.Form.{off_batch, no_damage_from, same_entries, SameEntries}
 
 pub in_batch_or_off : (b : Addr) → InBatch b ⊎ (InBatch b → ⊥)

@@ -1,5 +1,5 @@
 -- Writes to the batch's own files, which leave everything else as it is.
-use Rattle.std.proofs.Common.{◌≡◌, ◌≢◌, ◌⊎◌, inl, inr, ⊎_elim, ℕ, ◌≤◌, List, Option, true, refl, sym, ◌∙◌, ap, subst, arith}
+use Rattle.std.proofs.Common.{◌≡◌, ◌≢◌, inl, inr, ⊎_elim, ℕ, true, refl, sym, ◌∙◌, ap, subst, arith}
 use Rattle.disk_model.specs.declared.disk.Addr.{Addr}
 use Rattle.disk_model.specs.Disk.{Image, IsImage, Changes, Elapses, LeavesOnly}
 use Rattle.disk_model.proofs.Moments.{started, goes_on, joins, weaker, changes_more, unchanged, image_back}

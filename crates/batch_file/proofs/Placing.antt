@@ -1,20 +1,19 @@
 -- How a batch whose gate is open is laid on the disk, and the gate shut.
-use Rattle.std.proofs.Common.{◌≡◌, ◌≢◌, ◌⊎◌, inl, inr, ⊎_elim, ℕ, zero, suc, ◌+◌, ◌/◌, ◌<◌, ◌≤◌, ◌==◌, Bool, true, false, IsTrue, List, [], ◌∷◌, ◌++◌, Option, Some, None, refl, sym, ◌∙◌, ap, subst, arith, add-one, if◌then◌else◌}
-use Rattle.std.proofs.lemmas.Bool.Decides.{nat_tests}
+use Rattle.std.proofs.Common.{◌≡◌, ◌≢◌, ◌⊎◌, inl, inr, ℕ, ◌+◌, ◌/◌, ◌<◌, ◌≤◌, Bool, true, false, List, [], ◌∷◌, Option, Some, None, refl, sym, ◌∙◌, ap, subst, arith, add-one, if◌then◌else◌}
 use Rattle.disk_model.specs.declared.disk.Addr.{Addr}
-use Rattle.disk_model.specs.Disk.{Image, IsImage, IsSettled, Changes, OnlyReads, Elapses, LeavesOnly}
+use Rattle.disk_model.specs.Disk.{Image, IsImage, Changes, OnlyReads, Elapses, LeavesOnly}
 use Rattle.disk_model.specs.Disk.{is_at}
 use Rattle.disk_model.proofs.Addresses.{at_cases}
-use Rattle.disk_model.proofs.Moments.{started, goes_on, reads_on, joins, weaker, image_now, unchanged, changes_reads, changes_more, image_near, image_settled}
-use Rattle.batch_file.specs.Layout.{addr, gate, count, is_lawful, is_lawful_in, has_image, or_empty, address_in, entry, entries, entries_of, first_byte, Entries}
-use Rattle.batch_file.specs.Redone.{damage, latest, laid, is_kept, kept, redone}
-use Rattle.batch_file.specs.OnDisk.{InBatch, IsOpen, IsClosed}
-use Rattle.std.proofs.Common.{Result, Ok, Err, is_some}
+use Rattle.disk_model.proofs.Moments.{started, goes_on, reads_on, unchanged, changes_reads, changes_more, image_near, image_settled}
+use Rattle.batch_file.specs.Layout.{addr, gate, count, is_lawful, is_lawful_in, has_image, or_empty, address_in, entry, entries, first_byte}
+use Rattle.batch_file.specs.Redone.{latest, laid, kept, redone}
+use Rattle.batch_file.specs.OnDisk.{InBatch, IsOpen}
+use Rattle.std.proofs.Common.{Err, is_some}
 use Rattle.batch_file.specs.declared.fault.RestoreFault.{RestoreFault}
 use Rattle.batch_file.specs.declared.fault.RestoreFault.TheVariants.{Disk, Damaged}
 use Rattle.batch_file.specs.Faults.{IsAddress, IsPage, IsBuffered}
-use Rattle.batch_file.proofs.Lays.{Among, among_or_off, latest-append, latest_off, latest_hit, latest_twice, latest_same, kept_by, kept_not_gate, kept_not_batch, redone_shut, redone_open, same_batch, SameBatch}
-use Rattle.batch_file.proofs.Form.{sound, IsSound, off_batch, among_entry, among-append}
+use Rattle.batch_file.proofs.Lays.{Among, latest-append, latest_off, latest_twice, latest_same, kept_by, kept_not_gate, redone_shut, redone_open, same_batch, SameBatch}
+use Rattle.batch_file.proofs.Form.{sound, IsSound, off_batch, among_entry}
 
 -- what an image stands for while the batch of M is laid
 pub redone_mid : (M m : Image) (touched : Addr → Type 0) (n : ℕ) → IsOpen M touched n → ((b : Addr) → (Among (entries M n) b → ⊥) → m b ≡ M b) → redone m ≡ redone M

@@ -1,11 +1,11 @@
 -- What the calls that read a batch answer, and why.
-use Rattle.std.specs.Prelude.{◌≡◌, ◌≢◌, ℕ, ◌+◌, ◌/◌, ◌%◌, ◌≤◌, ◌<◌, List, Option, Some, None, Result, Ok, Err, IsErrOf, true, false}
+use Rattle.std.specs.Prelude.{◌≡◌, ℕ, ◌/◌, ◌%◌, ◌≤◌, ◌<◌, List, Option, Some, None, Result, Ok, Err, IsErrOf, true, false}
 use Rattle.fault_io.specs.Causes.{Rose}
 use Rattle.disk_model.specs.Disk.{Image}
 use Rattle.disk_model.specs.declared.disk.Addr.{Addr}
 use Rattle.batch_file.specs.declared.fault.RestoreFault.{RestoreFault}
 use Rattle.batch_file.specs.declared.fault.RestoreFault.TheVariants.{Disk, Damaged}
-use Rattle.batch_file.specs.Layout.{addr, address_in, count, has_image, is_head, is_lawful, is_place, or_empty}
+use Rattle.batch_file.specs.Layout.{addr, address_in, count, has_image, is_head, is_lawful, or_empty}
 use Rattle.batch_file.specs.Redone.{first_failing}
 
 -- The count never falls, and `Disk` comes only where it rose.

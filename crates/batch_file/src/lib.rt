@@ -7,11 +7,12 @@ mod fault;
 mod laying;
 mod layout;
 mod redo;
+mod restoring;
 mod stage;
 
 pub use committing::commit;
 pub use fault::{RestoreFault, Restored};
-pub use redo::restore;
+pub use restoring::restore;
 pub use stage::Batch;
 
 #[cfg(test)]

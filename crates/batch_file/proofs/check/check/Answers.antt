@@ -1,4 +1,4 @@
-use Rattle.std.proofs.Common.{rules, ◌≡◌, Err, None, subst, refl, ◌∙◌, sym}
+use Rattle.std.proofs.Common.{rules, ◌≡◌, Err, None, subst, refl, ◌∙◌}
 use Rattle.batch_file.specs.Layout.{is_lawful, has_image}
 use Rattle.batch_file.specs.Redone.{first_failing}
 use Rattle.batch_file.specs.Faults.{AreLawful, AreThere}

@@ -4,7 +4,7 @@ use Rattle.disk_model.specs.Disk.{LeavesOnly}
 use Rattle.batch_file.specs.Layout.{Entries}
 use Rattle.batch_file.specs.Redone.{kept, laid}
 use Rattle.batch_file.specs.OnDisk.{BeforeOrAfter}
-use Rattle.batch_file.proofs.Collecting.{Collecting, all_places, collecting_starts, collects}
+use Rattle.batch_file.proofs.Collecting.{all_places, collecting_starts, collects}
 use Rattle.batch_file.proofs.Outside.{apart_joins, still_shut, gives_up, then_run, then_laid}
 use Rattle.batch_file.proofs.committing.commit.Goals as goal
 

@@ -1,5 +1,4 @@
-use Rattle.std.proofs.Common.{◌≡◌, ◌≢◌, ◌+◌, ◌/◌, ◌%◌, ◌∙◌, refl, arith}
-use Rattle.disk_model.specs.declared.disk.Addr.{Addr}
+use Rattle.std.proofs.Common.{◌+◌, ◌/◌, ◌∙◌, refl, arith}
 use Rattle.batch_file.specs.Layout.{addr}
 use Rattle.batch_file.specs.declared.stage.Batch.{Batch}
 use Rattle.batch_file.proofs.Adding.{files_differ, due_full, is_next, staged_more, holds_more}

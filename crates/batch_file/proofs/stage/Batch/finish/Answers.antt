@@ -1,6 +1,6 @@
-use Rattle.std.proofs.Common.{◌≡◌, ◌≢◌, ◌/◌, ◌%◌, ◌∙◌, ap, subst, true}
+use Rattle.std.proofs.Common.{◌/◌, ◌∙◌, ap, subst}
 use Rattle.disk_model.specs.Disk.{LeavesOnly}
-use Rattle.batch_file.specs.Layout.{Entries, entries}
+use Rattle.batch_file.specs.Layout.{Entries}
 use Rattle.batch_file.specs.Redone.{kept, laid}
 use Rattle.batch_file.specs.OnDisk.{BeforeOrAfter}
 use Rattle.batch_file.specs.Staged.{staged, completed}

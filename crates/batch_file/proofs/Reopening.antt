@@ -1,8 +1,7 @@
 -- What a restore answers and leaves.
-use Rattle.std.proofs.Common.{◌≡◌, ◌≢◌, ◌⊎◌, inl, inr, ⊎_elim, ℕ, ◌≤◌, ◌==◌, Bool, true, false, List, Option, Some, None, Result, Ok, Err, refl, sym, ◌∙◌, ap, subst, arith}
-use Rattle.std.proofs.lemmas.Bool.Decides.{nat_tests}
+use Rattle.std.proofs.Common.{◌≡◌, ◌≢◌, ℕ, Some, refl, sym, ◌∙◌, ap}
 use Rattle.disk_model.specs.declared.disk.Addr.{Addr}
-use Rattle.disk_model.specs.Disk.{Image, IsImage, IsSettled, Changes, OnlyReads, Elapses, LeavesOnly}
+use Rattle.disk_model.specs.Disk.{Image, IsImage, OnlyReads, Elapses, LeavesOnly}
 use Rattle.disk_model.proofs.Moments.{started, syncs_on, reads_on, joins}
 use Rattle.batch_file.specs.Layout.{gate}
 use Rattle.batch_file.specs.Redone.{kept, redone}

@@ -1,7 +1,7 @@
-use Rattle.std.proofs.Common.{◌≡◌, ◌≢◌, ◌∙◌, subst, IsTrue}
+use Rattle.std.proofs.Common.{◌≢◌, ◌∙◌, subst}
 use Rattle.batch_file.specs.Layout.{gate}
-use Rattle.batch_file.proofs.Restoring.{synced_run, read_run, read_twice, redo_run, nothing_done}
-use Rattle.batch_file.proofs.redo.restore.Goals as goal
+use Rattle.batch_file.proofs.Reopening.{synced_run, read_run, read_twice, redo_run, nothing_done}
+use Rattle.batch_file.proofs.restoring.restore.Goals as goal
 
 pub returns-in_err-sync-clause-crash : goal.returns-in_err-sync-clause-crash
 returns-in_err-sync-clause-crash g c = λ told.
