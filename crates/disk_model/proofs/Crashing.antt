@@ -1,9 +1,9 @@
 -- What a crash leaves.
-use Rattle.std.proofs.Common.{◌≡◌, ◌⊎◌, inl, inr, ⊎_elim, ℕ, ◌==◌, Bool, true, false, List, [], ◌∷◌, ◌++◌, map, take, drop, Option, Some, None, refl, sym, ◌∙◌, ap, subst, if◌then◌else◌, take-append-drop}
+use Rattle.std.proofs.Common.{◌≡◌, ◌⊎◌, inl, inr, ℕ, ◌==◌, Bool, true, false, List, [], ◌∷◌, ◌++◌, map, take, drop, Option, Some, None, refl, sym, ◌∙◌, ap, subst, if◌then◌else◌, take-append-drop}
 use Rattle.disk_model.specs.declared.disk.Addr.{Addr}
 use Rattle.disk_model.specs.declared.calls.Call.{Call}
 use Rattle.disk_model.specs.declared.calls.Call.TheVariants.{Write, FailedWrite, Cut, FailedCut, Sync, FailedSync, Fill}
-use Rattle.disk_model.specs.Disk.{Image, IsImage, IsSettled, is_at}
+use Rattle.disk_model.specs.Disk.{Image, IsSettled, is_at}
 use Rattle.disk_model.specs.Calls.{page_of, seen_after, touched_after, seen_from, synced_from, touched_from, seen_of, touched_of}
 use Rattle.disk_model.specs.declared.mem_disk.Left.{Left}
 use Rattle.disk_model.specs.declared.mem_disk.Left.TheVariants.{Old, New, Filled}

@@ -1,11 +1,11 @@
 -- One more entry at the end of a list of calls.
-use Rattle.std.proofs.Common.{◌≡◌, ◌≢◌, ◌⊎◌, inl, inr, ⊎_elim, ℕ, ◌+◌, ◌≤◌, ◌<◌, ◌==◌, Bool, true, false, List, [], ◌∷◌, ◌++◌, length, take, Option, Some, None, refl, sym, ◌∙◌, ap, subst, arith, if◌then◌else◌, length-append, Result, Ok, Err, OnOk}
+use Rattle.std.proofs.Common.{◌≡◌, ◌≢◌, ◌⊎◌, inl, inr, ℕ, ◌+◌, ◌≤◌, ◌<◌, ◌==◌, true, false, List, [], ◌∷◌, ◌++◌, length, take, Some, None, refl, sym, ◌∙◌, ap, subst, arith, if◌then◌else◌, length-append, Result, Ok, Err, OnOk}
 use Rattle.std.proofs.lemmas.List.{take-append-le, take_all}
 use Rattle.std.proofs.lemmas.Bool.Decides.{nat_tests}
 use Rattle.disk_model.specs.declared.disk.Addr.{Addr}
 use Rattle.disk_model.specs.declared.disk.DiskFailed.{DiskFailed}
 use Rattle.disk_model.specs.declared.calls.Call.{Call}
-use Rattle.disk_model.specs.declared.calls.Call.TheVariants.{Write, FailedWrite, Cut, FailedCut, Sync, FailedSync, Fill}
+use Rattle.disk_model.specs.declared.calls.Call.TheVariants.{Write, FailedWrite, Cut, FailedCut, Sync, FailedSync}
 use Rattle.disk_model.specs.Disk.{Image, IsImage, IsSettled, Changes, Elapses}
 use Rattle.disk_model.specs.Calls.{seen_after, touched_after, seen_from, touched_from, seen_of, touched_of, LeftSince, failed_call}
 use Rattle.disk_model.proofs.Addresses.{is_at_self, off_at}

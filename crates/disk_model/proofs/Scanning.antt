@@ -1,11 +1,11 @@
 -- What stands at the end of a list of calls, read from its end.
-use Rattle.std.proofs.Common.{◌≡◌, ℕ, ◌+◌, ◌-◌, ◌≤◌, ◌<◌, List, [], ◌∷◌, ◌++◌, length, take, drop, Option, Some, None, Bool, true, false, refl, sym, ◌∙◌, ap, subst, arith, get_or, take-append-drop, append_assoc}
+use Rattle.std.proofs.Common.{◌≡◌, ℕ, ◌+◌, ◌≤◌, List, [], ◌∷◌, ◌++◌, length, take, drop, Option, Some, Bool, true, false, refl, sym, ◌∙◌, ap, subst, arith, get_or, take-append-drop}
 use Rattle.std.proofs.lemmas.List.{take_more}
 use Rattle.disk_model.specs.declared.disk.Addr.{Addr}
 use Rattle.disk_model.specs.declared.calls.Call.{Call}
 use Rattle.disk_model.specs.declared.calls.Call.TheVariants.{Write, FailedWrite, Cut, FailedCut, Sync, FailedSync, Fill}
 use Rattle.disk_model.specs.Disk.{Image, IsSettled}
-use Rattle.disk_model.specs.Calls.{seen_after, synced_after, seen_from, synced_from, touched_from, touched_of}
+use Rattle.disk_model.specs.Calls.{seen_after, synced_after, seen_from, synced_from, touched_of}
 use Rattle.disk_model.specs.Walks.{said, IsQuiet, IsQuietCall}
 use Rattle.disk_model.proofs.Entries.{seen_push, touched_push}
 

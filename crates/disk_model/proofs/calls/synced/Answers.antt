@@ -1,4 +1,4 @@
-use Rattle.std.proofs.Common.{◌-◌, arith, refl}
+use Rattle.std.proofs.Common.{◌-◌, arith}
 use Rattle.disk_model.proofs.Scanning.{none_synced, settled_at, synced_at}
 use Rattle.disk_model.proofs.calls.synced.Goals as goal
 
