@@ -18,11 +18,14 @@ pub fn commit<D: Disk>(disk: &mut D, changes: &[(Addr, Page)]) -> Result<(), Dis
     requires places { All (λ c. IsTrue (is_place c.0)) changes.now }
     requires few { length changes.now < 2 ^ 32 }
 
-    // A crash at any moment leaves the pages of an image of before, with all changes laid over it or with none.
+    // A crash at any moment leaves the pages of an image of before, with all changes laid over it
+    // or none.
     ensures crash { IsTrue D.tells → LeavesOnly D.clock D.left_since disk.old disk.new
         (BeforeOrAfter (D.seen disk.old) (D.touched disk.old) changes.now) }
-    ensures laid { IsTrue D.tells → OnOk result (kept (D.seen disk.new) ≡ kept (laid changes.now (D.seen disk.old))) }
-    ensures closed { IsTrue D.tells → OnOk result (0 < length changes.now → IsClosed (D.seen disk.new) (D.touched disk.new)) }
+    ensures laid { IsTrue D.tells →
+        OnOk result (kept (D.seen disk.new) ≡ kept (laid changes.now (D.seen disk.old))) }
+    ensures closed { IsTrue D.tells →
+        OnOk result (0 < length changes.now → IsClosed (D.seen disk.new) (D.touched disk.new)) }
     ensures empty { length changes.now ≡ 0 → (disk.new ≡ disk.old) × IsOk result }
     ensures cause { HasCause (D.faults disk.old) (D.faults disk.new) result }
 {

@@ -18,8 +18,11 @@ fn open_gate<D: Disk>(disk: &mut D, count: u32) -> Result<(), DiskFailed>
     requires whole { IsTrue D.tells → IsWhole (D.seen disk.old) count }
     ensures crash { IsTrue D.tells → LeavesOnly D.clock D.left_since disk.old disk.new
         (BeforeOrAfter (D.seen disk.old) (D.touched disk.old) (entries (D.seen disk.old) count)) }
-    ensures opened { IsTrue D.tells → OnOk result (IsOpen (D.seen disk.new) (D.touched disk.new) count) }
-    ensures same { IsTrue D.tells → OnOk result (redone (D.seen disk.new) ≡ redone (laid (entries (D.seen disk.old) count) (D.seen disk.old))) }
+    ensures opened { IsTrue D.tells →
+        OnOk result (IsOpen (D.seen disk.new) (D.touched disk.new) count) }
+    ensures same { IsTrue D.tells →
+        OnOk result (redone (D.seen disk.new)
+            ≡ redone (laid (entries (D.seen disk.old) count) (D.seen disk.old))) }
     ensures cause { HasCause (D.faults disk.old) (D.faults disk.new) result }
 {
     let head = head_page(count);
@@ -39,8 +42,11 @@ pub fn lay<D: Disk>(disk: &mut D, count: u32) -> Result<(), DiskFailed>
     requires whole { IsTrue D.tells → IsWhole (D.seen disk.old) count }
     ensures crash { IsTrue D.tells → LeavesOnly D.clock D.left_since disk.old disk.new
         (BeforeOrAfter (D.seen disk.old) (D.touched disk.old) (entries (D.seen disk.old) count)) }
-    ensures laid { IsTrue D.tells → OnOk result (kept (D.seen disk.new) ≡ kept (laid (entries (D.seen disk.old) count) (D.seen disk.old))) }
-    ensures closed { IsTrue D.tells → OnOk result (IsClosed (D.seen disk.new) (D.touched disk.new)) }
+    ensures laid { IsTrue D.tells →
+        OnOk result (kept (D.seen disk.new)
+            ≡ kept (laid (entries (D.seen disk.old) count) (D.seen disk.old))) }
+    ensures closed { IsTrue D.tells →
+        OnOk result (IsClosed (D.seen disk.new) (D.touched disk.new)) }
     ensures cause { HasCause (D.faults disk.old) (D.faults disk.new) result }
 {
     open_gate(disk, count)?;

@@ -14,8 +14,11 @@ use disk_model::{Addr, Disk, DiskFailed, Page};
 /// Writes each image to its place.
 fn place_all<D: Disk>(disk: &mut D, count: u32) -> Result<(), RestoreFault>
     requires { IsTrue D.tells → IsOpen (D.seen disk.old) (D.touched disk.old) count }
-    ensures crash { IsTrue D.tells → LeavesOnly D.clock D.left_since disk.old disk.new (λ m. redone m ≡ redone (D.seen disk.old)) }
-    ensures placed { IsTrue D.tells → OnOk result (D.seen disk.new ≡ laid (entries (D.seen disk.old) count) (D.seen disk.old)) }
+    ensures crash { IsTrue D.tells →
+        LeavesOnly D.clock D.left_since disk.old disk.new
+            (λ m. redone m ≡ redone (D.seen disk.old)) }
+    ensures placed { IsTrue D.tells →
+        OnOk result (D.seen disk.new ≡ laid (entries (D.seen disk.old) count) (D.seen disk.old)) }
     ensures whole { IsTrue D.tells → (result ≡ Err RestoreFault.Disk) ⊎ (result ≡ Ok record {}) }
     ensures cause { FailsBy (D.faults disk.old) (D.faults disk.new) result }
 {
@@ -32,9 +35,13 @@ fn place_all<D: Disk>(disk: &mut D, count: u32) -> Result<(), RestoreFault>
 /// Lays a batch on the disk whose gate is open, and shuts it. It may crash at any moment.
 pub fn redo<D: Disk>(disk: &mut D, count: u32) -> Result<(), RestoreFault>
     requires { IsTrue D.tells → IsOpen (D.seen disk.old) (D.touched disk.old) count }
-    ensures crash { IsTrue D.tells → LeavesOnly D.clock D.left_since disk.old disk.new (λ m. redone m ≡ redone (D.seen disk.old)) }
-    ensures done { IsTrue D.tells → OnOk result (redone (D.seen disk.old) ≡ Some (kept (D.seen disk.new))) }
-    ensures closed { IsTrue D.tells → OnOk result (IsClosed (D.seen disk.new) (D.touched disk.new)) }
+    ensures crash { IsTrue D.tells →
+        LeavesOnly D.clock D.left_since disk.old disk.new
+            (λ m. redone m ≡ redone (D.seen disk.old)) }
+    ensures done { IsTrue D.tells →
+        OnOk result (redone (D.seen disk.old) ≡ Some (kept (D.seen disk.new))) }
+    ensures closed { IsTrue D.tells →
+        OnOk result (IsClosed (D.seen disk.new) (D.touched disk.new)) }
     ensures whole { IsTrue D.tells → (result ≡ Err RestoreFault.Disk) ⊎ (result ≡ Ok record {}) }
     ensures cause { FailsBy (D.faults disk.old) (D.faults disk.new) result }
 {

@@ -15,8 +15,10 @@ use disk_model::{Disk, DiskFailed};
 
 /// Whether the gate is open.
 fn is_open<D: Disk>(disk: &mut D) -> Result<bool, DiskFailed>
-    ensures opened { IsTrue D.tells → IfOk result (λ yes. IsTrue yes ↔ (gate (D.seen disk.old) ≡ 1)) }
-    ensures same { IsTrue D.tells → OnlyReads D.seen D.touched D.clock D.left_since disk.old disk.new }
+    ensures opened { IsTrue D.tells →
+        IfOk result (λ yes. IsTrue yes ↔ (gate (D.seen disk.old) ≡ 1)) }
+    ensures same { IsTrue D.tells →
+        OnlyReads D.seen D.touched D.clock D.left_since disk.old disk.new }
     ensures cause { HasCause (D.faults disk.old) (D.faults disk.new) result }
 {
     let mut bytes = [0; 1024];
@@ -30,10 +32,15 @@ fn is_open<D: Disk>(disk: &mut D) -> Result<bool, DiskFailed>
 /// gate is open and the batch is not of its form. `Disk` only where a call to the disk failed.
 pub fn restore<D: Disk>(disk: &mut D) -> Result<Restored, RestoreFault>
     // The answer is that of what a read gives; only a fault of the disk goes before.
-    ensures answer { IsTrue D.tells → (result ≡ Err RestoreFault.Disk) ⊎ (result ≡ answer (D.seen disk.old)) }
-    ensures done { IsTrue D.tells → OnOk result (redone (D.seen disk.old) ≡ Some (kept (D.seen disk.new))) }
-    ensures closed { IsTrue D.tells → OnOk result (IsClosed (D.seen disk.new) (D.touched disk.new)) }
-    ensures crash { IsTrue D.tells → LeavesOnly D.clock D.left_since disk.old disk.new (SameRedone (D.seen disk.old) (D.touched disk.old)) }
+    ensures answer { IsTrue D.tells →
+        (result ≡ Err RestoreFault.Disk) ⊎ (result ≡ answer (D.seen disk.old)) }
+    ensures done { IsTrue D.tells →
+        OnOk result (redone (D.seen disk.old) ≡ Some (kept (D.seen disk.new))) }
+    ensures closed { IsTrue D.tells →
+        OnOk result (IsClosed (D.seen disk.new) (D.touched disk.new)) }
+    ensures crash { IsTrue D.tells →
+        LeavesOnly D.clock D.left_since disk.old disk.new
+            (SameRedone (D.seen disk.old) (D.touched disk.old)) }
     ensures cause { FailsBy (D.faults disk.old) (D.faults disk.new) result }
 {
     disk.sync()?;

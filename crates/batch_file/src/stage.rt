@@ -53,12 +53,16 @@ impl Batch {
         requires held { IsTrue D.tells → Holds (D.seen disk.old) self.old }
 
         ensures count { OnOk result (size_of self.new ≡ size_of self.old + 1) }
-        ensures added { IsTrue D.tells → OnOk result (staged (D.seen disk.new) self.new ≡ staged (D.seen disk.old) self.old ++ (a, page.now) ∷ []) }
+        ensures added { IsTrue D.tells →
+            OnOk result (staged (D.seen disk.new) self.new
+                ≡ staged (D.seen disk.old) self.old ++ (a, page.now) ∷ []) }
         ensures held { IsTrue D.tells → OnOk result (Holds (D.seen disk.new) self.new) }
 
         ensures change { IsTrue D.tells → Changes InBatch D.seen D.touched disk.old disk.new }
         ensures shut { IsTrue D.tells → IsShut (D.seen disk.new) (D.touched disk.new) }
-        ensures crash { IsTrue D.tells → LeavesOnly D.clock D.left_since disk.old disk.new (SameOutside (D.seen disk.old) (D.touched disk.old)) }
+        ensures crash { IsTrue D.tells →
+            LeavesOnly D.clock D.left_since disk.old disk.new
+                (SameOutside (D.seen disk.old) (D.touched disk.old)) }
         ensures cause { HasCause (D.faults disk.old) (D.faults disk.new) result }
     {
         let k = self.count;
@@ -76,12 +80,16 @@ impl Batch {
         requires held { IsTrue D.tells → Holds (D.seen disk.old) self.old }
 
         ensures same { self.new ≡ self.old }
-        ensures renewed { IsTrue D.tells → OnOk result (staged (D.seen disk.new) self.new ≡ renewed (staged (D.seen disk.old) self.old) i page.now) }
+        ensures renewed { IsTrue D.tells →
+            OnOk result (staged (D.seen disk.new) self.new
+                ≡ renewed (staged (D.seen disk.old) self.old) i page.now) }
         ensures held { IsTrue D.tells → OnOk result (Holds (D.seen disk.new) self.new) }
 
         ensures change { IsTrue D.tells → Changes InBatch D.seen D.touched disk.old disk.new }
         ensures shut { IsTrue D.tells → IsShut (D.seen disk.new) (D.touched disk.new) }
-        ensures crash { IsTrue D.tells → LeavesOnly D.clock D.left_since disk.old disk.new (SameOutside (D.seen disk.old) (D.touched disk.old)) }
+        ensures crash { IsTrue D.tells →
+            LeavesOnly D.clock D.left_since disk.old disk.new
+                (SameOutside (D.seen disk.old) (D.touched disk.old)) }
         ensures cause { HasCause (D.faults disk.old) (D.faults disk.new) result }
     {
         disk.write(Addr { file: 4, page: i }, page)?;
@@ -92,8 +100,10 @@ impl Batch {
     pub fn image<D: Disk>(&self, disk: &mut D, i: u32, out: &mut Page) -> Result<(), DiskFailed>
         requires there { i < size_of self.now }
         requires held { IsTrue D.tells → Holds (D.seen disk.old) self.now }
-        ensures image { IsTrue D.tells → OnOk result (image_in (staged (D.seen disk.old) self.now) i ≡ Some out.new) }
-        ensures same { IsTrue D.tells → OnlyReads D.seen D.touched D.clock D.left_since disk.old disk.new }
+        ensures image { IsTrue D.tells →
+            OnOk result (image_in (staged (D.seen disk.old) self.now) i ≡ Some out.new) }
+        ensures same { IsTrue D.tells →
+            OnlyReads D.seen D.touched D.clock D.left_since disk.old disk.new }
         ensures cause { HasCause (D.faults disk.old) (D.faults disk.new) result }
     {
         // A disk that tells what it holds has the page.
@@ -106,11 +116,15 @@ impl Batch {
         requires shut { IsTrue D.tells → IsShut (D.seen disk.old) (D.touched disk.old) }
         requires held { IsTrue D.tells → Holds (D.seen disk.old) self }
 
-        // A crash at any moment leaves the pages of an image of before, with all of the batch laid over it or nothing.
+        // A crash at any moment leaves the pages of an image of before, with the batch laid over
+        // it or not.
         ensures crash { IsTrue D.tells → LeavesOnly D.clock D.left_since disk.old disk.new
             (BeforeOrAfter (D.seen disk.old) (D.touched disk.old) (staged (D.seen disk.old) self)) }
-        ensures laid { IsTrue D.tells → OnOk result (kept (D.seen disk.new) ≡ kept (laid (staged (D.seen disk.old) self) (D.seen disk.old))) }
-        ensures closed { IsTrue D.tells → OnOk result (0 < size_of self → IsClosed (D.seen disk.new) (D.touched disk.new)) }
+        ensures laid { IsTrue D.tells →
+            OnOk result (kept (D.seen disk.new)
+                ≡ kept (laid (staged (D.seen disk.old) self) (D.seen disk.old))) }
+        ensures closed { IsTrue D.tells →
+            OnOk result (0 < size_of self → IsClosed (D.seen disk.new) (D.touched disk.new)) }
         ensures empty { size_of self ≡ 0 → (disk.new ≡ disk.old) × IsOk result }
         ensures cause { HasCause (D.faults disk.old) (D.faults disk.new) result }
     {
@@ -130,9 +144,12 @@ impl Batch {
 
 /// Writes a page of addresses where it is due.
 fn write_if<D: Disk>(disk: &mut D, due: bool, n: u32, addresses: &Page) -> Result<(), DiskFailed>
-    ensures written { IsTrue D.tells → OnOk result (IsTrue due → D.seen disk.new (addr 3 n) ≡ Some addresses.now) }
-    ensures change { IsTrue D.tells → Changes (λ b. b ≡ addr 3 n) D.seen D.touched disk.old disk.new }
-    ensures time { IsTrue D.tells → Elapses D.seen D.touched D.clock D.left_since disk.old disk.new }
+    ensures written { IsTrue D.tells →
+        OnOk result (IsTrue due → D.seen disk.new (addr 3 n) ≡ Some addresses.now) }
+    ensures change { IsTrue D.tells →
+        Changes (λ b. b ≡ addr 3 n) D.seen D.touched disk.old disk.new }
+    ensures time { IsTrue D.tells →
+        Elapses D.seen D.touched D.clock D.left_since disk.old disk.new }
     ensures cause { HasCause (D.faults disk.old) (D.faults disk.new) result }
 {
     if !due {

@@ -53,7 +53,8 @@ pub trait Disk {
     /// Reads the page at an address. `Ok(false)` where there is none: it was never written, or it
     /// was cut. What `out` holds then, or after an error, is not said.
     fn read(&mut self, a: Addr, out: &mut Page) -> Result<bool, DiskFailed>
-        ensures page { IsTrue tells → IfOk result (λ found. seen self.old a ≡ (if found then Some out.new else None)) }
+        ensures page { IsTrue tells →
+            IfOk result (λ found. seen self.old a ≡ (if found then Some out.new else None)) }
         ensures same { IsTrue tells → OnlyReads seen touched clock left_since self.old self.new }
         ensures cause { HasCause (faults self.old) (faults self.new) result }
         ensures reads { RisesUpTo 1 (reads self.old) (reads self.new) };
@@ -71,8 +72,10 @@ pub trait Disk {
     /// Takes all pages of a file away. Until a sync succeeds, a crash may leave anything in that
     /// file; after an error reads may give anything there, too.
     fn cut(&mut self, file: u32) -> Result<(), DiskFailed>
-        ensures cut { IsTrue tells → OnOk result ((b : Addr) → b.file ≡ file → seen self.new b ≡ None) }
-        ensures change { IsTrue tells → Changes (λ b. b.file ≡ file) seen touched self.old self.new }
+        ensures cut { IsTrue tells →
+            OnOk result ((b : Addr) → b.file ≡ file → seen self.new b ≡ None) }
+        ensures change { IsTrue tells →
+            Changes (λ b. b.file ≡ file) seen touched self.old self.new }
         ensures time { IsTrue tells → Elapses seen touched clock left_since self.old self.new }
         ensures rises { IsTrue tells → OnOk result (clock self.old < clock self.new) }
         ensures cause { HasCause (faults self.old) (faults self.new) result }
@@ -89,8 +92,10 @@ pub trait Disk {
         ensures reads { reads self.new ≡ reads self.old };
 
     /// Since this moment there is no other.
-    ghost only_now: { (d : Self) (m : Image) → IsTrue tells → left_since d (clock d) m → IsImage (seen d) (touched d) m };
+    ghost only_now: { (d : Self) (m : Image) → IsTrue tells
+        → left_since d (clock d) m → IsImage (seen d) (touched d) m };
 
     /// This moment is one of those since an earlier one.
-    ghost counts_now: { (d : Self) (t : ℕ) (m : Image) → IsTrue tells → t ≤ clock d → IsImage (seen d) (touched d) m → left_since d t m };
+    ghost counts_now: { (d : Self) (t : ℕ) (m : Image) → IsTrue tells
+        → t ≤ clock d → IsImage (seen d) (touched d) m → left_since d t m };
 }
