@@ -115,7 +115,7 @@ fn check_images<D: Disk>(disk: &mut D, count: u32) -> Result<(), RestoreFault>
 pub fn check<D: Disk>(disk: &mut D) -> Result<u32, RestoreFault>
     ensures answer { IsTrue D.tells →
         (result ≡ Err RestoreFault.Disk)
-            ⊎ IsAnswerOf (damage (D.seen disk.old)) (count (D.seen disk.old)) result }
+        ⊎ IsAnswerOf (damage (D.seen disk.old)) (count (D.seen disk.old)) result }
     ensures same { IsTrue D.tells →
         OnlyReads D.seen D.touched D.clock D.left_since disk.old disk.new }
     ensures cause { FailsBy (D.faults disk.old) (D.faults disk.new) result }

@@ -22,7 +22,7 @@ fn open_gate<D: Disk>(disk: &mut D, count: u32) -> Result<(), DiskFailed>
         OnOk result (IsOpen (D.seen disk.new) (D.touched disk.new) count) }
     ensures same { IsTrue D.tells →
         OnOk result (redone (D.seen disk.new)
-            ≡ redone (laid (entries (D.seen disk.old) count) (D.seen disk.old))) }
+        ≡ redone (laid (entries (D.seen disk.old) count) (D.seen disk.old))) }
     ensures cause { HasCause (D.faults disk.old) (D.faults disk.new) result }
 {
     let head = head_page(count);
@@ -44,7 +44,7 @@ pub fn lay<D: Disk>(disk: &mut D, count: u32) -> Result<(), DiskFailed>
         (BeforeOrAfter (D.seen disk.old) (D.touched disk.old) (entries (D.seen disk.old) count)) }
     ensures laid { IsTrue D.tells →
         OnOk result (kept (D.seen disk.new)
-            ≡ kept (laid (entries (D.seen disk.old) count) (D.seen disk.old))) }
+        ≡ kept (laid (entries (D.seen disk.old) count) (D.seen disk.old))) }
     ensures closed { IsTrue D.tells →
         OnOk result (IsClosed (D.seen disk.new) (D.touched disk.new)) }
     ensures cause { HasCause (D.faults disk.old) (D.faults disk.new) result }

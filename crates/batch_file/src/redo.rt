@@ -16,7 +16,7 @@ fn place_all<D: Disk>(disk: &mut D, count: u32) -> Result<(), RestoreFault>
     requires { IsTrue D.tells → IsOpen (D.seen disk.old) (D.touched disk.old) count }
     ensures crash { IsTrue D.tells →
         LeavesOnly D.clock D.left_since disk.old disk.new
-            (λ m. redone m ≡ redone (D.seen disk.old)) }
+        (λ m. redone m ≡ redone (D.seen disk.old)) }
     ensures placed { IsTrue D.tells →
         OnOk result (D.seen disk.new ≡ laid (entries (D.seen disk.old) count) (D.seen disk.old)) }
     ensures whole { IsTrue D.tells → (result ≡ Err RestoreFault.Disk) ⊎ (result ≡ Ok record {}) }
@@ -37,7 +37,7 @@ pub fn redo<D: Disk>(disk: &mut D, count: u32) -> Result<(), RestoreFault>
     requires { IsTrue D.tells → IsOpen (D.seen disk.old) (D.touched disk.old) count }
     ensures crash { IsTrue D.tells →
         LeavesOnly D.clock D.left_since disk.old disk.new
-            (λ m. redone m ≡ redone (D.seen disk.old)) }
+        (λ m. redone m ≡ redone (D.seen disk.old)) }
     ensures done { IsTrue D.tells →
         OnOk result (redone (D.seen disk.old) ≡ Some (kept (D.seen disk.new))) }
     ensures closed { IsTrue D.tells →

@@ -40,7 +40,7 @@ pub fn restore<D: Disk>(disk: &mut D) -> Result<Restored, RestoreFault>
         OnOk result (IsClosed (D.seen disk.new) (D.touched disk.new)) }
     ensures crash { IsTrue D.tells →
         LeavesOnly D.clock D.left_since disk.old disk.new
-            (SameRedone (D.seen disk.old) (D.touched disk.old)) }
+        (SameRedone (D.seen disk.old) (D.touched disk.old)) }
     ensures cause { FailsBy (D.faults disk.old) (D.faults disk.new) result }
 {
     disk.sync()?;

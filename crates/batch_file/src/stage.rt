@@ -16,7 +16,7 @@ use disk_model::{Addr, Disk, DiskFailed, Page};
 /// Its calls are for one disk, whose gate is shut, and whose files 2 to 4 read as the calls left
 /// them. Until `finish` the gate stays shut, and every other page is as it was. None takes memory.
 /// After an error the batch is not used further, and the disk is restored.
-#[derive(Drop)]
+#[derive(Debug, Drop)]
 pub struct Batch {
     count: u32,
     addresses: Page,
@@ -55,14 +55,14 @@ impl Batch {
         ensures count { OnOk result (size_of self.new ≡ size_of self.old + 1) }
         ensures added { IsTrue D.tells →
             OnOk result (staged (D.seen disk.new) self.new
-                ≡ staged (D.seen disk.old) self.old ++ (a, page.now) ∷ []) }
+            ≡ staged (D.seen disk.old) self.old ++ (a, page.now) ∷ []) }
         ensures held { IsTrue D.tells → OnOk result (Holds (D.seen disk.new) self.new) }
 
         ensures change { IsTrue D.tells → Changes InBatch D.seen D.touched disk.old disk.new }
         ensures shut { IsTrue D.tells → IsShut (D.seen disk.new) (D.touched disk.new) }
         ensures crash { IsTrue D.tells →
             LeavesOnly D.clock D.left_since disk.old disk.new
-                (SameOutside (D.seen disk.old) (D.touched disk.old)) }
+            (SameOutside (D.seen disk.old) (D.touched disk.old)) }
         ensures cause { HasCause (D.faults disk.old) (D.faults disk.new) result }
     {
         let k = self.count;
@@ -82,14 +82,14 @@ impl Batch {
         ensures same { self.new ≡ self.old }
         ensures renewed { IsTrue D.tells →
             OnOk result (staged (D.seen disk.new) self.new
-                ≡ renewed (staged (D.seen disk.old) self.old) i page.now) }
+            ≡ renewed (staged (D.seen disk.old) self.old) i page.now) }
         ensures held { IsTrue D.tells → OnOk result (Holds (D.seen disk.new) self.new) }
 
         ensures change { IsTrue D.tells → Changes InBatch D.seen D.touched disk.old disk.new }
         ensures shut { IsTrue D.tells → IsShut (D.seen disk.new) (D.touched disk.new) }
         ensures crash { IsTrue D.tells →
             LeavesOnly D.clock D.left_since disk.old disk.new
-                (SameOutside (D.seen disk.old) (D.touched disk.old)) }
+            (SameOutside (D.seen disk.old) (D.touched disk.old)) }
         ensures cause { HasCause (D.faults disk.old) (D.faults disk.new) result }
     {
         disk.write(Addr { file: 4, page: i }, page)?;
@@ -122,7 +122,7 @@ impl Batch {
             (BeforeOrAfter (D.seen disk.old) (D.touched disk.old) (staged (D.seen disk.old) self)) }
         ensures laid { IsTrue D.tells →
             OnOk result (kept (D.seen disk.new)
-                ≡ kept (laid (staged (D.seen disk.old) self) (D.seen disk.old))) }
+            ≡ kept (laid (staged (D.seen disk.old) self) (D.seen disk.old))) }
         ensures closed { IsTrue D.tells →
             OnOk result (0 < size_of self → IsClosed (D.seen disk.new) (D.touched disk.new)) }
         ensures empty { size_of self ≡ 0 → (disk.new ≡ disk.old) × IsOk result }

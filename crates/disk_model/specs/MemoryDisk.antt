@@ -1,5 +1,6 @@
 -- A disk in memory as its words show it, and when its calls fail.
-use Rattle.std.specs.Prelude.{◌≡◌, ◌⊎◌, ℕ, ◌+◌, ◌-◌, ◌^◌, ◌≤◌, min, Bool, List, [], ◌∷◌, ◌++◌, length, Option, Some, None, Result, Ok, Err, Contains}
+use Rattle.std.specs.Prelude.{◌≡◌, ◌⊎◌, ℕ, ◌≤◌, Bool, List, [], ◌∷◌, ◌++◌, length, Option, Some, None, Result, Ok, Err, Contains}
+use Rattle.fault_io.specs.Causes.{one_more}
 use Rattle.disk_model.specs.declared.disk.DiskFailed.{DiskFailed}
 use Rattle.disk_model.specs.declared.calls.Call.{Call}
 use Rattle.disk_model.specs.declared.mem_disk.MemDisk.{MemDisk}
@@ -52,11 +53,7 @@ clock_in d = length (state d).calls
 abbrev pub left_in : MemDisk → ℕ → Image → Type 0
 left_in d = LeftSince (seen_of (state d).first) (state d).calls
 
--- one more; at its type's last value a count stands still
-abbrev pub counted : ℕ → ℕ
-counted n = min (n + 1) (2 ^ 64 - 1)
-
--- all calls fail after n writes, cuts and syncs
+-- n writes, cuts and syncs reach the stop, where there is one
 abbrev pub IsStopped : Option ℕ → ℕ → Type 0
 IsStopped None n = ⊥
 IsStopped (Some stop) n = stop ≤ n
@@ -71,11 +68,11 @@ entered d call = record d { calls = d.calls ++ call ∷ [] }
 
 -- the disk after one more call that was done
 abbrev pub passed : State → State
-passed d = record d { made = counted d.made }
+passed d = record d { made = one_more d.made }
 
 -- the disk after one more call that failed
 abbrev pub refused : State → State
-refused d = record d { made = counted d.made; faults = counted d.faults }
+refused d = record d { made = one_more d.made; faults = one_more d.faults }
 
 -- A write, a cut or a sync is done where none is due to fail. It fails where one is due, which the list notes,
 -- or where there is no memory for its entry, which then leaves no trace but the counts.
@@ -85,8 +82,8 @@ Notes old new call (Err e) = (IsDue old × (new ≡ refused (entered old (failed
 
 -- A read fails exactly where a failure is due, and changes the counts alone.
 abbrev pub Reads : State → State → Result Bool DiskFailed → Type 0
-Reads old new (Ok found) = (IsDue old → ⊥) × (new ≡ record (passed old) { reads = counted old.reads })
-Reads old new (Err e) = IsDue old × (new ≡ record (refused old) { reads = counted old.reads })
+Reads old new (Ok found) = (IsDue old → ⊥) × (new ≡ record (passed old) { reads = one_more old.reads })
+Reads old new (Err e) = IsDue old × (new ≡ record (refused old) { reads = one_more old.reads })
 
 -- what a crash leaves at a touched address where `old` stood at the last sync and `now` stands
 abbrev pub left_at : Left → Option (List ℕ) → Option (List ℕ) → Option (List ℕ)

@@ -8,7 +8,7 @@ use crate::disk::{Addr, Page};
 use memory::OutOfMemory;
 
 /// A write, a cut or a sync of a disk in memory, also one that failed.
-#[derive(Clone, Copy)]
+#[derive(Clone, Copy, Debug, PartialEq, Eq)]
 pub enum Call {
     /// A page was written at an address.
     Write(Addr, Page),

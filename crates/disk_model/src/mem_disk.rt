@@ -20,7 +20,7 @@ pub enum Left {
 
 /// A disk in memory, which tells what it holds and keeps the list of its writes, cuts and syncs. Its
 /// clock is their number.
-#[derive(Drop)]
+#[derive(Debug, Drop)]
 pub struct MemDisk {
     first: Vec<Call>,
     calls: Vec<Call>,
