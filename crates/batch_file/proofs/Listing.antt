@@ -8,7 +8,7 @@ pub entries_below : (f h : ℕ → Addr × List ℕ) (n : ℕ) → ((k : ℕ) �
 entries_below f h zero same = refl
 entries_below f h (suc n) same = λ i. entries_below f h n (λ k lt. same k (omega arith)) i ++ same n (omega arith) i ∷ []
 
-length-entries : (f : ℕ → Addr × List ℕ) (n : ℕ) → length (entries_of f n) ≡ n
+pub length-entries : (f : ℕ → Addr × List ℕ) (n : ℕ) → length (entries_of f n) ≡ n
 length-entries f zero = refl
 length-entries f (suc n) = omega (arith, length-append (entries_of f n) (f n ∷ []), length-entries f n)
 

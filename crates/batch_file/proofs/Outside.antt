@@ -1,8 +1,8 @@
 -- Writes to the batch's own files, which leave everything else as it is.
 use Rattle.std.proofs.Common.{◌≡◌, ◌≢◌, inl, inr, ⊎_elim, ℕ, true, refl, sym, ◌∙◌, ap, subst, arith}
 use Rattle.disk_model.specs.declared.disk.Addr.{Addr}
-use Rattle.disk_model.specs.Disk.{Image, IsImage, Changes, Elapses, LeavesOnly}
-use Rattle.disk_model.proofs.Moments.{started, goes_on, joins, weaker, changes_more, unchanged, image_back}
+use Rattle.disk_model.specs.Disk.{Image, IsImage, Changes, OnlyReads, Elapses, LeavesOnly}
+use Rattle.disk_model.proofs.Moments.{started, goes_on, reads_on, joins, weaker, changes_more, changes_reads, unchanged, image_back}
 use Rattle.batch_file.specs.Layout.{Entries, addr, gate, is_place}
 use Rattle.batch_file.specs.Redone.{IsShut, laid, latest, kept, redone}
 use Rattle.batch_file.specs.OnDisk.{InBatch, BeforeOrAfter, SameOutside}
@@ -37,6 +37,13 @@ module _ {S : Type 0} (seen : S → Image) (touched : S → Addr → Type 0) (cl
 
   pub addresses_written : (old now next : S) (p : ℕ) → Apart old now → Changes (λ b. b ≡ addr 3 p) seen touched now next → Elapses seen touched clock left_since now next → Apart old next
   addresses_written old now next p = apart_writes old now next (addr 3 p) record { from = omega arith; to = omega arith }
+
+  -- reads between them
+  pub apart_reads : (old now next : S) → Apart old now → OnlyReads seen touched clock left_since now next → Apart old next
+  apart_reads old now next so_far same = record {
+    change = changes_reads seen touched clock left_since InBatch old now next so_far.change same;
+    run = reads_on seen touched clock left_since old now next _ so_far.run same;
+  }
 
   outside_twice : (old now : S) → Changes InBatch seen touched old now → (m : Image) → SameOutside (seen now) (touched now) m → SameOutside (seen old) (touched old) m
   outside_twice old now change m from =
