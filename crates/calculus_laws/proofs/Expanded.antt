@@ -1,17 +1,18 @@
 -- A query over a view answers what the query that its text was put into answers.
-use Rattle.std.proofs.Common.{◌≡◌, refl, sym, ap, ◌∙◌, subst, ℕ, zero, suc, ◌+◌, Bool, true, false, ◌&&◌, List, [], ◌∷◌, map, Option, Some, None}
-use Rattle.std.specs.List.{list_all, filter, filter_map, enumerate_from}
+use Rattle.std.proofs.Common.{◌≡◌, refl, sym, ap, ◌∙◌, subst, inl, inr, ℕ, zero, suc, ◌+◌, Bool, true, false, ◌&&◌, ◌||◌, List, [], ◌∷◌, map, Option, Some, None}
+use Rattle.std.specs.List.{list_any, list_all, filter, filter_map, enumerate_from}
 use Rattle.calculus.specs.declared.query.RelKey.{RelKey}
 use Rattle.calculus.specs.declared.query.QQual.{QQual}
 use Rattle.calculus.specs.declared.query.Query.{Query}
 use Rattle.calculus.specs.Rows.{Row, Ascends, has}
 use Rattle.calculus.specs.Tree.{both}
-use Rattle.calculus.specs.Lists.{is_any}
+use Rattle.calculus.specs.Lists.{is_any, has_number}
 use Rattle.calculus.specs.Term.{Env, Aggs, no_aggs, holds}
-use Rattle.calculus.specs.Who.{Free}
-use Rattle.calculus.specs.Database.{Db, View}
-use Rattle.calculus.specs.Stored.{Range, Kept, Viewed, range_at, kept_rows, rows_at}
-use Rattle.calculus.specs.Rights.{may}
+use Rattle.calculus.specs.Limits.{greatest_level}
+use Rattle.calculus.specs.Who.{Who, Free, Asks}
+use Rattle.calculus.specs.Database.{Db, View, permits_on}
+use Rattle.calculus.specs.Stored.{Range, Kept, Viewed, range_at}
+use Rattle.calculus.specs.Rights.{Right, Retrieve, has_right, is_for, has_attrs, covers, needs_none, may}
 use Rattle.calculus.specs.QueryParts.{vars_of, targets_of, qual_of, qual_aggregates, query_aggregates}
 use Rattle.calculus.specs.Used.{used_in_query}
 use Rattle.calculus.specs.Assignments.{Source, choices, rows_used, variable_rows, assigned}
@@ -21,59 +22,87 @@ use Rattle.calculus.specs.Aggregate.{aggregates}
 use Rattle.calculus.specs.Answer.{answer}
 use Rattle.calculus.proofs.Sets.{same_set, Ascends-set_of}
 use Rattle.calculus_laws.specs.Expansion.{put_in_qual, have_values, expanded, is_no_view, IsOverView}
-use Rattle.calculus_laws.proofs.Members.{In, Chosen, choices-Chosen, Chosen-choices, has-In, In-has}
+use Rattle.calculus_laws.proofs.Members.{In, Within, Chosen, choices-Chosen, Chosen-choices, has-In, In-has}
 use Rattle.calculus_laws.proofs.Given.{given-is, is-given}
 use Rattle.calculus_laws.proofs.Plain.{none_left, none_right, in_targets, given_plain}
 use Rattle.calculus_laws.proofs.PutIn.{holds_put_in, targets_put_in, values-have, have-values}
-use Rattle.calculus_laws.proofs.UsedIn.{targets_of-expanded, any-expanded}
+use Rattle.calculus_laws.proofs.UsedIn.{targets_of-expanded, expanded_within, within_expanded}
 
--- ---- the rows of a variable that ranges over no view
-
-filter_all : (rows : List Row) → filter (λ row. true) rows ≡ rows
-filter_all [] = refl
-filter_all (row ∷ rows) = ap (λ more. row ∷ more) (filter_all rows)
-
-range_kept : (of_view : View → List Row) (db : Db) (key : RelKey) (attrs : List ℕ) (range : Option Range) → is_no_view range ≡ true
-    → range_rows of_view db Free key attrs range ≡ kept_rows range
-unfolding may
-range_kept of_view db key attrs None h = refl
-range_kept of_view db key attrs (Some (Kept relation)) h = filter_all relation.rows
-range_kept of_view db key attrs (Some (Viewed view)) h = cc h
-
--- through however many levels, all that is kept
-all_kept : (n : ℕ) (db : Db) (key : RelKey) (attrs : List ℕ) → is_no_view (range_at db key) ≡ true → rows_within n db Free key attrs ≡ rows_at db key
-all_kept zero db key attrs h = range_kept (λ view. []) db key attrs (range_at db key) h
-all_kept (suc n) db key attrs h = range_kept (view_rows (rows_within n db Free)) db key attrs (range_at db key) h
-
--- ---- assignments
-
--- the rows of a variable are those of another, where both are used or neither
-same_used : (source other : Source) (key : RelKey) → ((xs ys : List ℕ) → source key xs ≡ other key ys) → (xs ys : List ℕ) → is_any xs ≡ is_any ys
-    → rows_used source key xs ≡ rows_used other key ys
-same_used source other key same [] [] h = refl
-same_used source other key same [] (y ∷ ys) h = cc h
-same_used source other key same (x ∷ xs) [] h = cc h
-same_used source other key same (x ∷ xs) (y ∷ ys) h = same (x ∷ xs) (y ∷ ys)
+-- ---- rights ask only which attributes are used, not how often
 
 both_true : (b c : Bool) → (b && c) ≡ true → (b ≡ true) × (c ≡ true)
 both_true true c h = (refl, h)
 both_true false c h = cc h
 
-same_lists : (m n : ℕ) (db : Db) (p q : Query) → ((v : ℕ) → is_any (used_in_query v p) ≡ is_any (used_in_query v q)) → (v : ℕ) (keys : List RelKey)
-    → list_all (λ key. is_no_view (range_at db key)) keys ≡ true
-    → map (λ x. variable_rows (rows_within m db Free) p x.0 x.1) (enumerate_from v keys) ≡ map (λ x. variable_rows (rows_within n db Free) q x.0 x.1) (enumerate_from v keys)
-same_lists m n db p q same v [] h = refl
-same_lists m n db p q same v (key ∷ keys) h =
+all_at : {X : Type 0} (p : X → Bool) (xs : List X) (x : X) → In x xs → list_all p xs ≡ true → p x ≡ true
+all_at p [] x h k = absurd h
+all_at p (y ∷ ys) x (inl same) k = ap p (sym same) ∙ (both_true (p y) (list_all p ys) k).0
+all_at p (y ∷ ys) x (inr h) k = all_at p ys x h (both_true (p y) (list_all p ys) k).1
+
+all_within : {X : Type 0} (p : X → Bool) (xs ys : List X) → Within xs ys → list_all p ys ≡ true → list_all p xs ≡ true
+all_within p [] ys within h = refl
+all_within p (x ∷ xs) ys within h = λ i. all_at p ys x (within x (inl refl)) h i && all_within p xs ys (λ z k. within z (inr k)) h i
+
+equal_by : (b c : Bool) → (b ≡ true → c ≡ true) → (c ≡ true → b ≡ true) → b ≡ c
+equal_by true c to from = sym (to refl)
+equal_by false true to from = from refl
+equal_by false false to from = refl
+
+same_attrs : (permitted xs ys : List ℕ) → Within xs ys → Within ys xs → has_attrs permitted xs ≡ has_attrs permitted ys
+same_attrs [] xs ys to from = refl
+same_attrs (a ∷ more) xs ys to from =
+    equal_by (list_all (has_number (a ∷ more)) xs) (list_all (has_number (a ∷ more)) ys) (all_within (has_number (a ∷ more)) ys xs from) (all_within (has_number (a ∷ more)) xs ys to)
+
+same_may : (db : Db) (who : Who) (right : Right) (key : RelKey) (xs ys : List ℕ) → Within xs ys → Within ys xs → (row : Row)
+    → may db who right xs key row ≡ may db who right ys key row
+unfolding may covers
+same_may db Free right key xs ys to from row = refl
+same_may db (Asks asker) right key xs ys to from row = λ i. needs_none db asker right key
+    || list_any (λ p. (is_for p.user asker.user && (has_right p.ops right && same_attrs p.attrs xs ys to from i)) && holds no_aggs p.qual (row ∷ [])) (permits_on db key)
+
+-- ---- the rows of a variable that ranges over no view
+
+-- what a variable ranges over has the same rows, whatever views have, for the same attributes
+same_range : (of_view other : View → List Row) (db : Db) (who : Who) (key : RelKey) (xs ys : List ℕ) → Within xs ys → Within ys xs → (range : Option Range) → is_no_view range ≡ true
+    → range_rows of_view db who key xs range ≡ range_rows other db who key ys range
+same_range of_view other db who key xs ys to from None h = refl
+same_range of_view other db who key xs ys to from (Some (Kept relation)) h = λ i. filter (λ row. same_may db who Retrieve key xs ys to from row i) relation.rows
+same_range of_view other db who key xs ys to from (Some (Viewed view)) h = cc h
+
+-- through however many levels
+same_kept : (m n : ℕ) (db : Db) (who : Who) (key : RelKey) (xs ys : List ℕ) → Within xs ys → Within ys xs → is_no_view (range_at db key) ≡ true
+    → rows_within m db who key xs ≡ rows_within n db who key ys
+same_kept zero zero db who key xs ys to from h = same_range (λ view. []) (λ view. []) db who key xs ys to from (range_at db key) h
+same_kept zero (suc n) db who key xs ys to from h = same_range (λ view. []) (view_rows (rows_within n db who)) db who key xs ys to from (range_at db key) h
+same_kept (suc m) zero db who key xs ys to from h = same_range (view_rows (rows_within m db who)) (λ view. []) db who key xs ys to from (range_at db key) h
+same_kept (suc m) (suc n) db who key xs ys to from h =
+    same_range (view_rows (rows_within m db who)) (view_rows (rows_within n db who)) db who key xs ys to from (range_at db key) h
+
+-- ---- assignments
+
+-- the rows of a variable are those of another, where both use the same attributes
+same_used : (source other : Source) (key : RelKey) (xs ys : List ℕ) → Within xs ys → Within ys xs → source key xs ≡ other key ys → rows_used source key xs ≡ rows_used other key ys
+same_used source other key [] [] to from same = refl
+same_used source other key [] (y ∷ ys) to from same = absurd (from y (inl refl))
+same_used source other key (x ∷ xs) [] to from same = absurd (to x (inl refl))
+same_used source other key (x ∷ xs) (y ∷ ys) to from same = same
+
+same_lists : (m n : ℕ) (db : Db) (who : Who) (p q : Query) → ((v : ℕ) → Within (used_in_query v p) (used_in_query v q)) → ((v : ℕ) → Within (used_in_query v q) (used_in_query v p))
+    → (v : ℕ) (keys : List RelKey) → list_all (λ key. is_no_view (range_at db key)) keys ≡ true
+    → map (λ x. variable_rows (rows_within m db who) p x.0 x.1) (enumerate_from v keys) ≡ map (λ x. variable_rows (rows_within n db who) q x.0 x.1) (enumerate_from v keys)
+same_lists m n db who p q to from v [] h = refl
+same_lists m n db who p q to from v (key ∷ keys) h =
     let (here, later) = both_true (is_no_view (range_at db key)) (list_all (λ key. is_no_view (range_at db key)) keys) h in
-    (λ i. same_used (rows_within m db Free) (rows_within n db Free) key (λ xs ys. all_kept m db key xs here ∙ sym (all_kept n db key ys here))
-    (used_in_query v p) (used_in_query v q) (same v) i
-    ∷ same_lists m n db p q same (v + 1) keys later i)
+    (λ i. same_used (rows_within m db who) (rows_within n db who) key (used_in_query v p) (used_in_query v q) (to v) (from v)
+        (same_kept m n db who key (used_in_query v p) (used_in_query v q) (to v) (from v) here) i
+    ∷ same_lists m n db who p q to from (v + 1) keys later i)
 
 -- the assignments of the view's text and of the query that it was put into are the same
-same_assigned : (n : ℕ) (db : Db) (view q : Query) → query_aggregates q ≡ [] → list_all (λ key. is_no_view (range_at db key)) (vars_of view) ≡ true
-    → assigned (rows_of db Free) (expanded view q) ≡ assigned (rows_within n db Free) view
+same_assigned : (n : ℕ) (db : Db) (who : Who) (view q : Query) → query_aggregates q ≡ [] → list_all (λ key. is_no_view (range_at db key)) (vars_of view) ≡ true
+    → assigned (rows_of db who) (expanded view q) ≡ assigned (rows_within n db who) view
 unfolding assigned rows_of
-same_assigned n db view q plain h = ap choices (same_lists 16 n db (expanded view q) view (λ v. any-expanded v view q plain) 0 (vars_of view) h)
+same_assigned n db who view q plain h =
+    ap choices (same_lists greatest_level n db who (expanded view q) view (λ v. expanded_within v view q plain) (λ v. within_expanded v view q) 0 (vars_of view) h)
 
 -- ---- one variable
 
@@ -146,11 +175,6 @@ given_here aggs view q e values plain holding given =
           ∙ sym (ap (λ ts. target_values aggs ts e) (targets_of-expanded view q)) ∙ given,
     )
 
-equal_by : (b c : Bool) → (b ≡ true → c ≡ true) → (c ≡ true → b ≡ true) → b ≡ c
-equal_by true c to from = sym (to refl)
-equal_by false true to from = from refl
-equal_by false false to from = refl
-
 -- where the rows of the variable are those that the view's text gives, the two queries give the same rows
 same_given : (aggs : Aggs) (source : Source) (view q : Query) (es : List Env) (key : RelKey) → query_aggregates q ≡ [] → query_aggregates view ≡ []
     → vars_of q ≡ key ∷ [] → is_any (used_in_query 0 q) ≡ true → source key (used_in_query 0 q) ≡ rows_given no_aggs view es
@@ -182,21 +206,22 @@ Ascends-given : (aggs : Aggs) (q : Query) (es : List Env) → Ascends (rows_give
 unfolding rows_given
 Ascends-given aggs q es = Ascends-set_of (filter_map (target_values aggs (targets_of q)) (qualifying aggs q es))
 
-view_has : (db : Db) (view : View) (key : RelKey) (attrs : List ℕ) → range_at db key ≡ Some (Viewed view)
-    → rows_of db Free key attrs ≡ rows_given no_aggs view.query (assigned (rows_within 15 db Free) view.query)
+view_has : (db : Db) (who : Who) (view : View) (key : RelKey) (attrs : List ℕ) → range_at db key ≡ Some (Viewed view)
+    → rows_of db who key attrs ≡ rows_given no_aggs view.query (assigned (rows_within 15 db who) view.query)
 unfolding rows_of
-view_has db view key attrs e = ap (range_rows (view_rows (rows_within 15 db Free)) db Free key attrs) e
+view_has db who view key attrs e = ap (range_rows (view_rows (rows_within 15 db who)) db who key attrs) e
 
-pub answer_expanded : (db : Db) (view : View) (q : Query) → IsOverView db view q → answer db Free q ≡ answer db Free (expanded view.query q)
+pub answer_expanded : (db : Db) (who : Who) (view : View) (q : Query) → IsOverView db view q → answer db who q ≡ answer db who (expanded view.query q)
 unfolding answer
-answer_expanded db view q over =
-    same_set (rows_given aggs q (assigned (rows_of db Free) q)) (rows_given aggs (expanded view.query q) es)
-    (Ascends-given aggs q (assigned (rows_of db Free) q)) (Ascends-given aggs (expanded view.query q) es)
-    (same_given aggs (rows_of db Free) view.query q es over.key over.is_plain over.view_is_plain over.only over.is_used (view_has db view over.key (used_in_query 0 q) over.ranges))
-    ∙ ap (rows_given aggs (expanded view.query q)) (sym (same_assigned 15 db view.query q over.is_plain over.over_no_view))
+answer_expanded db who view q over =
+    same_set (rows_given aggs q (assigned (rows_of db who) q)) (rows_given aggs (expanded view.query q) es)
+    (Ascends-given aggs q (assigned (rows_of db who) q)) (Ascends-given aggs (expanded view.query q) es)
+    (same_given aggs (rows_of db who) view.query q es over.key over.is_plain over.view_is_plain over.only over.is_used
+        (view_has db who view over.key (used_in_query 0 q) over.ranges))
+    ∙ ap (rows_given aggs (expanded view.query q)) (sym (same_assigned 15 db who view.query q over.is_plain over.over_no_view))
   where
     aggs : Aggs
-    aggs = aggregates db Free
+    aggs = aggregates db who
 
     es : List Env
-    es = assigned (rows_within 15 db Free) view.query
+    es = assigned (rows_within 15 db who) view.query

@@ -15,6 +15,10 @@ abbrev pub In : {X : Type 0} → X → List X → Type 0
 In x [] = ⊥
 In x (y ∷ ys) = (y ≡ x) ⊎ In x ys
 
+-- each of the first is one of the second
+abbrev pub Within : {X : Type 0} → List X → List X → Type 0
+Within {X} xs ys = (x : X) → In x xs → In x ys
+
 -- ---- rows that a set has
 
 pub has-In : (rows : List Row) (row : Row) → has rows row ≡ true → In row rows
@@ -97,16 +101,16 @@ Chosen [] (row ∷ e) = ⊥
 Chosen (rows ∷ more) [] = ⊥
 Chosen (rows ∷ more) (row ∷ e) = In row rows × Chosen more e
 
-In-append_left : {X : Type 0} (xs ys : List X) (x : X) → In x xs → In x (xs ++ ys)
+pub In-append_left : {X : Type 0} (xs ys : List X) (x : X) → In x xs → In x (xs ++ ys)
 In-append_left [] ys x h = absurd h
 In-append_left (z ∷ xs) ys x (inl e) = inl e
 In-append_left (z ∷ xs) ys x (inr h) = inr (In-append_left xs ys x h)
 
-In-append_right : {X : Type 0} (xs ys : List X) (x : X) → In x ys → In x (xs ++ ys)
+pub In-append_right : {X : Type 0} (xs ys : List X) (x : X) → In x ys → In x (xs ++ ys)
 In-append_right [] ys x h = h
 In-append_right (z ∷ xs) ys x h = inr (In-append_right xs ys x h)
 
-append-In : {X : Type 0} (xs ys : List X) (x : X) → In x (xs ++ ys) → In x xs ⊎ In x ys
+pub append-In : {X : Type 0} (xs ys : List X) (x : X) → In x (xs ++ ys) → In x xs ⊎ In x ys
 append-In [] ys x h = inr h
 append-In (z ∷ xs) ys x (inl e) = inl (inl e)
 append-In (z ∷ xs) ys x (inr h) = elim (append-In xs ys x h) [ inl k ↦ inl (inr k) | inr k ↦ inr k ]

@@ -7,7 +7,7 @@ ghost use Rattle.calculus.specs.declared.query.Target.{Target};
 ghost use Rattle.calculus.specs.declared.query.Query.{Query};
 ghost use Rattle.calculus.specs.Rows.{Row};
 ghost use Rattle.calculus.specs.Term.{Env, Aggs, val, holds};
-ghost use Rattle.calculus.specs.Who.{Free};
+ghost use Rattle.calculus.specs.Who.{Who};
 ghost use Rattle.calculus.specs.Database.{Db, View};
 ghost use Rattle.calculus.specs.QueryParts.{term_aggregates, qual_aggregates};
 ghost use Rattle.calculus.specs.Targets.{target_values};
@@ -24,5 +24,6 @@ pub fn a_view_is_its_text()
     ensures qualification { (aggs : Aggs) (targets : List Target) (e : Env) (row : Row) (q : QQual)
         → target_values aggs targets e ≡ Some row → qual_aggregates q ≡ [] → holds aggs (put_in_qual targets q) e ≡ holds aggs q (row ∷ []) }
     ensures values { (aggs : Aggs) (targets : List Target) (e : Env) → holds aggs (have_values targets) e ≡ is_some (target_values aggs targets e) }
-    ensures query { (db : Db) (view : View) (q : Query) → IsOverView db view q → answer db Free q ≡ answer db Free (expanded view.query q) }
+    ensures query { (db : Db) (who : Who) (view : View) (q : Query)
+        → IsOverView db view q → answer db who q ≡ answer db who (expanded view.query q) }
 {}
