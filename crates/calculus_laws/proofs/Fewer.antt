@@ -17,7 +17,7 @@ use Rattle.calculus.specs.Targets.{rows_given}
 use Rattle.calculus.specs.VariableRows.{range_rows, view_rows, rows_within, rows_of}
 use Rattle.calculus.specs.Aggregate.{aggregates}
 use Rattle.calculus.specs.Answer.{answer}
-use Rattle.calculus_laws.proofs.Members.{In, Within, Chosen, choices-Chosen, Chosen-choices, has-In, In-has, In-filter, filter-In}
+use Rattle.calculus_laws.proofs.Members.{Within, Chosen, choices-Chosen, Chosen-choices, has-In, In-has, In-filter, filter-In}
 use Rattle.calculus_laws.proofs.Given.{given-is, is-given}
 use Rattle.calculus_laws.proofs.Plain.{given_plain}
 

@@ -5,5 +5,6 @@ pub mod Unpermitted
 pub mod Fewer
 pub mod PutIn
 pub mod UsedIn
+pub mod SameRows
 pub mod Expanded
 pub mod Example

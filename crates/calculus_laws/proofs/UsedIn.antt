@@ -1,5 +1,5 @@
 -- The query that a view is put into uses what the view's text uses.
-use Rattle.std.proofs.Common.{◌≡◌, refl, ap, subst, inl, inr, ℕ, zero, suc, List, [], ◌∷◌, ◌++◌, map}
+use Rattle.std.proofs.Common.{◌≡◌, refl, ap, subst, inl, inr, ℕ, zero, suc, List, [], ◌∷◌, ◌++◌}
 use Rattle.std.specs.List.{flat_map}
 use Rattle.calculus.specs.declared.query.QTerm.{QTerm, Int, Chars, Attr, Agg', Row_of-QAgg, end_of-QAgg, more_of-QAgg}
 use Rattle.calculus.specs.declared.query.QQual.{QQual, True, Cmp, Like}
@@ -88,7 +88,7 @@ needed_within : (v : ℕ) (ts : List Target) → Within (used_in_qual v (have_va
 needed_within v [] a h = absurd h
 needed_within v (t ∷ ts) a h = within_both (used v t.term ++ used v t.term) (used_in_qual v (have_values ts)) (used_in_targets v (t ∷ ts))
     (within_both (used v t.term) (used v t.term) (used_in_targets v (t ∷ ts))
-        (In-append_left (used v t.term) (used_in_targets v ts)) (In-append_left (used v t.term) (used_in_targets v ts)))
+    (In-append_left (used v t.term) (used_in_targets v ts)) (In-append_left (used v t.term) (used_in_targets v ts)))
     (λ b k. In-append_right (used v t.term) (used_in_targets v ts) b (needed_within v ts b k)) a h
 
 within_needed : (v : ℕ) (ts : List Target) → Within (used_in_targets v ts) (used_in_qual v (have_values ts))
@@ -103,8 +103,8 @@ pub expanded_within : (v : ℕ) (view q : Query) → query_aggregates q ≡ [] �
 expanded_within v view q plain a h =
     within_both puts (filled ++ (own ++ needed)) (taken ++ own) (λ b k. from_taken b (targets_within v (targets_of view) (targets_of q) (none_left (in_targets (targets_of q)) (qual_aggregates (qual_of q)) plain) b k))
     (within_both filled (own ++ needed) (taken ++ own)
-        (λ b k. from_taken b (qual_within v (targets_of view) (qual_of q) (none_right (in_targets (targets_of q)) (qual_aggregates (qual_of q)) plain) b k))
-        (within_both own needed (taken ++ own) (In-append_right taken own) (λ b k. from_taken b (needed_within v (targets_of view) b k))))
+    (λ b k. from_taken b (qual_within v (targets_of view) (qual_of q) (none_right (in_targets (targets_of q)) (qual_aggregates (qual_of q)) plain) b k))
+    (within_both own needed (taken ++ own) (In-append_right taken own) (λ b k. from_taken b (needed_within v (targets_of view) b k))))
     a (subst (λ ts. In a (used_in_targets v ts ++ (filled ++ (own ++ needed)))) (targets_of-expanded view q) h)
   where
     puts : List ℕ
@@ -130,7 +130,7 @@ within_expanded v view q a h =
     In-append_right (used_in_targets v (targets_of (expanded view q))) (filled ++ (own ++ needed)) a
     (In-append_right filled (own ++ needed) a
     (within_both (used_in_targets v (targets_of view)) own (own ++ needed)
-        (λ b k. In-append_right own needed b (within_needed v (targets_of view) b k)) (In-append_left own needed) a h))
+    (λ b k. In-append_right own needed b (within_needed v (targets_of view) b k)) (In-append_left own needed) a h))
   where
     filled : List ℕ
     filled = used_in_qual v (put_in_qual (targets_of view) (qual_of q))

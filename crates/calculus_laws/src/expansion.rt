@@ -11,13 +11,14 @@ ghost use Rattle.calculus.specs.Who.{Who};
 ghost use Rattle.calculus.specs.Database.{Db, View};
 ghost use Rattle.calculus.specs.QueryParts.{term_aggregates, qual_aggregates};
 ghost use Rattle.calculus.specs.Targets.{target_values};
-ghost use Rattle.calculus.specs.Answer.{answer};
+ghost use Rattle.calculus.specs.Answer.{answer, lacks};
 ghost use Rattle.calculus_laws.specs.Expansion.{put_in, put_in_qual, have_values, expanded, IsOverView};
 
 /// A query over a view answers what the query over the view's own variables answers, with the view's
 /// targets put in for its attributes, the view's qualification joined, and each target of the view
 /// required to have a value. It holds since in an assignment of the view's text the term that was put
-/// into has the value that the term has at the view's row.
+/// into has the value that the term has at the view's row. A target that lacks a value in the one lacks one
+/// in the other.
 pub fn a_view_is_its_text()
     ensures term { (aggs : Aggs) (targets : List Target) (e : Env) (row : Row) (t : QTerm)
         → target_values aggs targets e ≡ Some row → term_aggregates t ≡ [] → val aggs (put_in targets t) e ≡ val aggs t (row ∷ []) }
@@ -26,4 +27,6 @@ pub fn a_view_is_its_text()
     ensures values { (aggs : Aggs) (targets : List Target) (e : Env) → holds aggs (have_values targets) e ≡ is_some (target_values aggs targets e) }
     ensures query { (db : Db) (who : Who) (view : View) (q : Query)
         → IsOverView db view q → answer db who q ≡ answer db who (expanded view.query q) }
+    ensures lack { (db : Db) (who : Who) (view : View) (q : Query)
+        → IsOverView db view q → lacks db who q ≡ lacks db who (expanded view.query q) }
 {}
