@@ -17,8 +17,8 @@ ghost use Rattle.calculus_laws.specs.Expansion.{put_in, put_in_qual, have_values
 /// A query over a view answers what the query over the view's own variables answers, with the view's
 /// targets put in for its attributes, the view's qualification joined, and each target of the view
 /// required to have a value. It holds since in an assignment of the view's text the term that was put
-/// into has the value that the term has at the view's row. A target that lacks a value in the one lacks one
-/// in the other.
+/// into has the value that the term has at the view's row. The one query lacks a value exactly where the
+/// other does.
 pub fn a_view_is_its_text()
     ensures term { (aggs : Aggs) (targets : List Target) (e : Env) (row : Row) (t : QTerm)
         → target_values aggs targets e ≡ Some row → term_aggregates t ≡ [] → val aggs (put_in targets t) e ≡ val aggs t (row ∷ []) }
