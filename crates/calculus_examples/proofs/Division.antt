@@ -1,22 +1,18 @@
 -- Computed.
 use Rattle.std.proofs.Common.{refl}
-use Rattle.calculus.specs.Stored.{range_at, info_at}
-use Rattle.calculus.specs.Rights.{may}
-use Rattle.calculus.specs.Term.{val, holds, attribute_value, operated_values, compared_values}
-use Rattle.calculus.specs.Assignments.{assigned}
-use Rattle.calculus.specs.Targets.{rows_given, some_lacks}
-use Rattle.calculus.specs.VariableRows.{rows_of}
+use Rattle.calculus.specs.Aggregate.{aggregates}
 use Rattle.calculus.specs.Answer.{answer, lacks}
-use Rattle.calculus_examples.specs.Division.{HalvesAreFound, QuotientsLack, NothingOverNothing}
+use Rattle.calculus.specs.Assignments.{assigned}
+use Rattle.calculus.specs.Catalogue.{catalogue_at}
+use Rattle.calculus.specs.Constant.{constant_text, marks}
+use Rattle.calculus.specs.Pattern.{matches, items, fits_items}
+use Rattle.calculus.specs.Rights.{may, covers}
+use Rattle.calculus.specs.Stored.{range_at, info_at}
+use Rattle.calculus.specs.Targets.{rows_given, some_lacks}
+use Rattle.calculus.specs.Term.{val, holds, attribute_value, opposite_value, value_without_sign, operated_values, joined_values, compared_values, matched_value, values_of}
+use Rattle.calculus.specs.VariableRows.{rows_of}
+use Rattle.calculus_examples.specs.Division.{Answers}
 
-pub halves_are_found : HalvesAreFound
-unfolding answer rows_given assigned rows_of range_at may val holds attribute_value operated_values compared_values
-halves_are_found = refl
-
-pub quotients_lack : QuotientsLack
-unfolding lacks some_lacks assigned rows_of range_at may val holds attribute_value operated_values compared_values
-quotients_lack = refl
-
-pub nothing_over_nothing : NothingOverNothing
-unfolding answer rows_given assigned rows_of range_at may val holds attribute_value operated_values compared_values
-nothing_over_nothing = refl
+pub answers : Answers
+unfolding val holds attribute_value opposite_value value_without_sign operated_values joined_values compared_values matched_value values_of constant_text marks matches items fits_items answer lacks rows_given some_lacks assigned rows_of aggregates range_at info_at catalogue_at may covers
+answers = record { zero_is_no_divisor = refl; a_target_lacks = refl; nothing_over_nothing = refl }
