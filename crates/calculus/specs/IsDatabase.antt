@@ -1,6 +1,7 @@
 -- What makes a database one: every fact by its name, and which change leaves one.
 use Rattle.std.specs.Prelude.{ℕ, ◌+◌, Bool, true, false, not, ◌&&◌, nat_eq, nat_le, nat_lt, bytes_eq, IsTrue, List, [], ◌∷◌, map, length, sum_by, Option, Some, None, is_some}
-use Rattle.std.specs.List.{list_all}
+use Rattle.std.specs.List.{AllByRecursion, list_all}
+use Rattle.std.specs.List.Sorted.{IsStrictlySortedBy}
 use Rattle.calculus.specs.declared.value.Value.{Value}
 use Rattle.calculus.specs.declared.value.Value.TheVariants.{Int, Text}
 use Rattle.calculus.specs.declared.value.Domain.{Domain}
@@ -19,11 +20,11 @@ use Rattle.calculus.specs.declared.schema.Permit.{Permit}
 use Rattle.calculus.specs.declared.change.DbChange.{DbChange}
 use Rattle.calculus.specs.Name.{is_name}
 use Rattle.calculus.specs.Text.{is_text}
-use Rattle.calculus.specs.Value.{fits, row_cmp}
-use Rattle.calculus.specs.Rows.{Row}
+use Rattle.calculus.specs.Value.{fits}
+use Rattle.calculus.specs.Rows.{Row, Ascends}
 use Rattle.calculus.specs.Limits.{most_attributes, most_row_bytes, most_keys, most_variables, most_expanded_variables, greatest_size, most_permits, most_rules, greatest_number, most_entries, most_rows}
 use Rattle.calculus.specs.Keys.{same_key, key_cmp}
-use Rattle.calculus.specs.Lists.{is_any, ascends_by, differ_by}
+use Rattle.calculus.specs.Lists.{is_any, differ_by}
 use Rattle.calculus.specs.Kinds.{kind_of, kinds_fit}
 use Rattle.calculus.specs.Database.{Db, Relation, Index, View, relation_at, entries, rules_on, permits_on}
 use Rattle.calculus.specs.Catalogue.{is_catalogue_name}
@@ -193,17 +194,17 @@ pub record IsDatabase (db : Db) : Type 0 where
   pub dba_is_named : IsTrue (is_name db.dba)
   pub keys_are_named : IsTrue (list_all (λ i. key_is_named i.key) (entries db))
   -- the lists ascend by key, rules and permits by relation and then by number; no key stands twice
-  pub relations_ascend : IsTrue (ascends_by key_cmp (map (λ r. r.info.key) db.relations))
-  pub indexes_ascend : IsTrue (ascends_by key_cmp (map (λ x. x.info.key) db.indexes))
-  pub views_ascend : IsTrue (ascends_by key_cmp (map (λ v. v.info.key) db.views))
-  pub rules_ascend : IsTrue (ascends_by (numbered_cmp (λ r. r.number)) db.rules)
-  pub permits_ascend : IsTrue (ascends_by (numbered_cmp (λ p. p.number)) db.permits)
+  pub relations_ascend : IsStrictlySortedBy key_cmp (map (λ r. r.info.key) db.relations)
+  pub indexes_ascend : IsStrictlySortedBy key_cmp (map (λ x. x.info.key) db.indexes)
+  pub views_ascend : IsStrictlySortedBy key_cmp (map (λ v. v.info.key) db.views)
+  pub rules_ascend : IsStrictlySortedBy (numbered_cmp (λ r. r.number)) db.rules
+  pub permits_ascend : IsStrictlySortedBy (numbered_cmp (λ p. p.number)) db.permits
   pub keys_differ : IsTrue (differ_by same_key (map (λ i. i.key) (entries db)))
   -- each relation has a structure, attributes with domains, and a set of rows that fit
   pub structures_stand : IsTrue (list_all (λ r. structure_stands r.info) db.relations)
   pub relation_attrs_stand : IsTrue (list_all (λ r. attrs_stand r.info.attrs) db.relations)
   pub relations_are_stored : IsTrue (list_all (λ r. are_stored r.info.attrs) db.relations)
-  pub rows_ascend : IsTrue (list_all (λ r. ascends_by row_cmp r.rows) db.relations)
+  pub rows_ascend : AllByRecursion (λ r. Ascends r.rows) db.relations
   pub rows_fit : IsTrue (list_all relation_rows_fit db.relations)
   -- each index has key attributes of a base relation
   pub indexes_stand : IsTrue (list_all (index_stands db) db.indexes)

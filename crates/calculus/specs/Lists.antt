@@ -1,7 +1,6 @@
 -- Members, order and differences of lists.
 use Rattle.std.specs.Prelude.{ℕ, nat_eq, Bool, true, false, not, ◌&&◌, List, [], ◌∷◌}
 use Rattle.std.specs.List.{list_any}
-use Rattle.std.specs.Ordering.{is_lt}
 use Rattle.std.specs.declared.cmp.Ordering.{Ordering}
 use Rattle.std.specs.declared.cmp.Ordering.TheVariants.{Less, Equal, Greater}
 
@@ -13,12 +12,6 @@ is_any (x ∷ xs) = true
 -- the number is one of these
 abbrev pub has_number : List ℕ → ℕ → Bool
 has_number numbers n = list_any (λ m. nat_eq m n) numbers
-
--- each item is smaller than the next
-abbrev pub ascends_by : {X : Type 0} → (X → X → Ordering) → List X → Bool
-ascends_by cmp [] = true
-ascends_by cmp (x ∷ []) = true
-ascends_by cmp (x ∷ y ∷ ys) = is_lt (cmp x y) && ascends_by cmp (y ∷ ys)
 
 -- the item in its place among ascending ones; one that is equal to it gives way
 abbrev pub insert_by : {X : Type 0} → (X → X → Ordering) → X → List X → List X

@@ -1,6 +1,6 @@
 -- A query over a view answers what the query that its text was put into answers.
-use Rattle.std.proofs.Common.{◌≡◌, refl, sym, ap, ◌∙◌, subst, ℕ, zero, suc, ◌+◌, Bool, true, false, ◌&&◌, List, [], ◌∷◌, map, Option, Some, None}
-use Rattle.std.specs.List.{list_all, filter, filter_map, enumerate_from}
+use Rattle.std.proofs.Common.{◌≡◌, refl, sym, ap, ◌∙◌, subst, ℕ, ◌-◌, true, ◌&&◌, List, [], ◌∷◌, map, Option, Some, None}
+use Rattle.std.specs.List.{filter_map, enumerate_from}
 use Rattle.calculus.specs.declared.query.RelKey.{RelKey}
 use Rattle.calculus.specs.declared.query.QQual.{QQual}
 use Rattle.calculus.specs.declared.query.Query.{Query}
@@ -8,72 +8,25 @@ use Rattle.calculus.specs.Rows.{Row, Ascends, has}
 use Rattle.calculus.specs.Tree.{both}
 use Rattle.calculus.specs.Lists.{is_any}
 use Rattle.calculus.specs.Term.{Env, Aggs, no_aggs, holds}
-use Rattle.calculus.specs.Who.{Free}
+use Rattle.calculus.specs.Limits.{greatest_level}
+use Rattle.calculus.specs.Who.{Who}
 use Rattle.calculus.specs.Database.{Db, View}
-use Rattle.calculus.specs.Stored.{Range, Kept, Viewed, range_at, kept_rows, rows_at}
-use Rattle.calculus.specs.Rights.{may}
+use Rattle.calculus.specs.Stored.{Viewed, range_at}
 use Rattle.calculus.specs.QueryParts.{vars_of, targets_of, qual_of, qual_aggregates, query_aggregates}
 use Rattle.calculus.specs.Used.{used_in_query}
 use Rattle.calculus.specs.Assignments.{Source, choices, rows_used, variable_rows, assigned}
-use Rattle.calculus.specs.Targets.{target_values, qualifying, rows_given}
+use Rattle.calculus.specs.Targets.{target_values, qualifying, rows_given, some_lacks}
 use Rattle.calculus.specs.VariableRows.{range_rows, view_rows, rows_within, rows_of}
 use Rattle.calculus.specs.Aggregate.{aggregates}
-use Rattle.calculus.specs.Answer.{answer}
+use Rattle.calculus.specs.Answer.{answer, lacks}
 use Rattle.calculus.proofs.Sets.{same_set, Ascends-set_of}
-use Rattle.calculus_laws.specs.Expansion.{put_in_qual, have_values, expanded, is_no_view, IsOverView}
+use Rattle.calculus_laws.specs.Expansion.{put_in_qual, have_values, expanded, IsOverView}
 use Rattle.calculus_laws.proofs.Members.{In, Chosen, choices-Chosen, Chosen-choices, has-In, In-has}
-use Rattle.calculus_laws.proofs.Given.{given-is, is-given}
+use Rattle.calculus_laws.proofs.Given.{IsOutcome, given-is, is-given, lack-is, is-lack}
 use Rattle.calculus_laws.proofs.Plain.{none_left, none_right, in_targets, given_plain}
 use Rattle.calculus_laws.proofs.PutIn.{holds_put_in, targets_put_in, values-have, have-values}
-use Rattle.calculus_laws.proofs.UsedIn.{targets_of-expanded, any-expanded}
-
--- ---- the rows of a variable that ranges over no view
-
-filter_all : (rows : List Row) → filter (λ row. true) rows ≡ rows
-filter_all [] = refl
-filter_all (row ∷ rows) = ap (λ more. row ∷ more) (filter_all rows)
-
-range_kept : (of_view : View → List Row) (db : Db) (key : RelKey) (attrs : List ℕ) (range : Option Range) → is_no_view range ≡ true
-    → range_rows of_view db Free key attrs range ≡ kept_rows range
-unfolding may
-range_kept of_view db key attrs None h = refl
-range_kept of_view db key attrs (Some (Kept relation)) h = filter_all relation.rows
-range_kept of_view db key attrs (Some (Viewed view)) h = cc h
-
--- through however many levels, all that is kept
-all_kept : (n : ℕ) (db : Db) (key : RelKey) (attrs : List ℕ) → is_no_view (range_at db key) ≡ true → rows_within n db Free key attrs ≡ rows_at db key
-all_kept zero db key attrs h = range_kept (λ view. []) db key attrs (range_at db key) h
-all_kept (suc n) db key attrs h = range_kept (view_rows (rows_within n db Free)) db key attrs (range_at db key) h
-
--- ---- assignments
-
--- the rows of a variable are those of another, where both are used or neither
-same_used : (source other : Source) (key : RelKey) → ((xs ys : List ℕ) → source key xs ≡ other key ys) → (xs ys : List ℕ) → is_any xs ≡ is_any ys
-    → rows_used source key xs ≡ rows_used other key ys
-same_used source other key same [] [] h = refl
-same_used source other key same [] (y ∷ ys) h = cc h
-same_used source other key same (x ∷ xs) [] h = cc h
-same_used source other key same (x ∷ xs) (y ∷ ys) h = same (x ∷ xs) (y ∷ ys)
-
-both_true : (b c : Bool) → (b && c) ≡ true → (b ≡ true) × (c ≡ true)
-both_true true c h = (refl, h)
-both_true false c h = cc h
-
-same_lists : (m n : ℕ) (db : Db) (p q : Query) → ((v : ℕ) → is_any (used_in_query v p) ≡ is_any (used_in_query v q)) → (v : ℕ) (keys : List RelKey)
-    → list_all (λ key. is_no_view (range_at db key)) keys ≡ true
-    → map (λ x. variable_rows (rows_within m db Free) p x.0 x.1) (enumerate_from v keys) ≡ map (λ x. variable_rows (rows_within n db Free) q x.0 x.1) (enumerate_from v keys)
-same_lists m n db p q same v [] h = refl
-same_lists m n db p q same v (key ∷ keys) h =
-    let (here, later) = both_true (is_no_view (range_at db key)) (list_all (λ key. is_no_view (range_at db key)) keys) h in
-    (λ i. same_used (rows_within m db Free) (rows_within n db Free) key (λ xs ys. all_kept m db key xs here ∙ sym (all_kept n db key ys here))
-    (used_in_query v p) (used_in_query v q) (same v) i
-    ∷ same_lists m n db p q same (v + 1) keys later i)
-
--- the assignments of the view's text and of the query that it was put into are the same
-same_assigned : (n : ℕ) (db : Db) (view q : Query) → query_aggregates q ≡ [] → list_all (λ key. is_no_view (range_at db key)) (vars_of view) ≡ true
-    → assigned (rows_of db Free) (expanded view q) ≡ assigned (rows_within n db Free) view
-unfolding assigned rows_of
-same_assigned n db view q plain h = ap choices (same_lists 16 n db (expanded view q) view (λ v. any-expanded v view q plain) 0 (vars_of view) h)
+use Rattle.calculus_laws.proofs.UsedIn.{targets_of-expanded}
+use Rattle.calculus_laws.proofs.SameRows.{equal_by, both_true, same_assigned}
 
 -- ---- one variable
 
@@ -117,86 +70,105 @@ joined : (aggs : Aggs) (p q r : QQual) (e : Env) → holds aggs p e ≡ true →
 unfolding holds
 joined aggs p q r e h k l = λ i. h i && (k i && l i)
 
--- a row that the query gives at a row of the view, and that the expanded query gives in an assignment of the view's text
-given_there : (aggs : Aggs) (view q : Query) (e : Env) (row values : Row) → query_aggregates q ≡ []
-    → holds aggs (qual_of view) e ≡ true → target_values aggs (targets_of view) e ≡ Some row
-    → holds aggs (qual_of q) (row ∷ []) ≡ true → target_values aggs (targets_of q) (row ∷ []) ≡ Some values
-    → (holds aggs (qual_of (expanded view q)) e ≡ true) × (target_values aggs (targets_of (expanded view q)) e ≡ Some values)
-given_there aggs view q e row values plain view_holds view_row q_holds q_row = (
-  joined aggs (put_in_qual (targets_of view) (qual_of q)) (qual_of view) (have_values (targets_of view)) e
-      (holds_put_in aggs (targets_of view) e row (qual_of q) view_row (none_right (in_targets (targets_of q)) (qual_aggregates (qual_of q)) plain) ∙ q_holds)
-      view_holds (values-have aggs (targets_of view) e row view_row),
+-- where the view's text gives a row, the expanded query says of the assignment what the query says of the row
+pub says_the_same : (aggs : Aggs) (view q : Query) (e : Env) (row : Row) → query_aggregates q ≡ [] → holds aggs (qual_of view) e ≡ true → target_values aggs (targets_of view) e ≡ Some row
+    → (holds aggs (qual_of q) (row ∷ []) ≡ true → holds aggs (qual_of (expanded view q)) e ≡ true)
+    × (target_values aggs (targets_of (expanded view q)) e ≡ target_values aggs (targets_of q) (row ∷ []))
+says_the_same aggs view q e row plain own values = (
+  λ h. joined aggs (put_in_qual (targets_of view) (qual_of q)) (qual_of view) (have_values (targets_of view)) e
+      (holds_put_in aggs (targets_of view) e row (qual_of q) values (none_right (in_targets (targets_of q)) (qual_aggregates (qual_of q)) plain) ∙ h)
+      own (values-have aggs (targets_of view) e row values),
   ap (λ ts. target_values aggs ts e) (targets_of-expanded view q)
-      ∙ targets_put_in aggs (targets_of view) e row (targets_of q) view_row (none_left (in_targets (targets_of q)) (qual_aggregates (qual_of q)) plain) ∙ q_row,
+      ∙ targets_put_in aggs (targets_of view) e row (targets_of q) values (none_left (in_targets (targets_of q)) (qual_aggregates (qual_of q)) plain),
 )
 
+-- where the expanded query holds, the view's text gives a row, and the query holds of it
+gives_row : (aggs : Aggs) (view q : Query) (e : Env) → query_aggregates q ≡ [] → holds aggs (qual_of (expanded view q)) e ≡ true
+    → (row : Row) × (holds aggs (qual_of view) e ≡ true) × (target_values aggs (targets_of view) e ≡ Some row) × (holds aggs (qual_of q) (row ∷ []) ≡ true)
+gives_row aggs view q e plain h =
+    let (put, own, needed) = parts aggs (put_in_qual (targets_of view) (qual_of q)) (qual_of view) (have_values (targets_of view)) e h in
+    let (row, values) = have-values aggs (targets_of view) e needed in
+    (row, own, values, sym (holds_put_in aggs (targets_of view) e row (qual_of q) values (none_right (in_targets (targets_of q)) (qual_aggregates (qual_of q)) plain)) ∙ put)
+
+-- the query, and the assignments of the view's text, of which the query's variable has the rows
+record IsOver (aggs : Aggs) (source : Source) (view q : Query) (es : List Env) : Type 0 where
+  pub key : RelKey
+  pub only : vars_of q ≡ key ∷ []
+  pub is_used : is_any (used_in_query 0 q) ≡ true
+  pub is_plain : query_aggregates q ≡ []
+  pub rows : source key (used_in_query 0 q) ≡ rows_given aggs view es
+
+-- what comes of the query comes of the expanded one
+to_text : (aggs : Aggs) (source : Source) (view q : Query) (es : List Env) (outcome : Option Row) → IsOver aggs source view q es
+    → IsOutcome aggs q (assigned source q) outcome → IsOutcome aggs (expanded view q) es outcome
+to_text aggs source view q es outcome over h =
+    let (e, there, q_holds, q_values) = h in
+    let (row, inside, same) = one-In source q over.key over.only over.is_used e there in
+    let (f, in_view, own, values) = given-is aggs view es row (In-has (rows_given aggs view es) row (subst (In row) over.rows inside)) in
+    let (holding, alike) = says_the_same aggs view q f row over.is_plain own values in
+    (f, in_view, holding (ap (holds aggs (qual_of q)) (sym same) ∙ q_holds), alike ∙ ap (target_values aggs (targets_of q)) (sym same) ∙ q_values)
+
 -- and the other way
-given_here : (aggs : Aggs) (view q : Query) (e : Env) (values : Row) → query_aggregates q ≡ []
-    → holds aggs (qual_of (expanded view q)) e ≡ true → target_values aggs (targets_of (expanded view q)) e ≡ Some values
-    → (row : Row) × (holds aggs (qual_of view) e ≡ true) × (target_values aggs (targets_of view) e ≡ Some row)
-    × (holds aggs (qual_of q) (row ∷ []) ≡ true) × (target_values aggs (targets_of q) (row ∷ []) ≡ Some values)
-given_here aggs view q e values plain holding given =
-    let (put, own, needed) = parts aggs (put_in_qual (targets_of view) (qual_of q)) (qual_of view) (have_values (targets_of view)) e holding in
-    let (row, view_row) = have-values aggs (targets_of view) e needed in (
-      row,
-      own,
-      view_row,
-      sym (holds_put_in aggs (targets_of view) e row (qual_of q) view_row (none_right (in_targets (targets_of q)) (qual_aggregates (qual_of q)) plain)) ∙ put,
-      sym (targets_put_in aggs (targets_of view) e row (targets_of q) view_row (none_left (in_targets (targets_of q)) (qual_aggregates (qual_of q)) plain))
-          ∙ sym (ap (λ ts. target_values aggs ts e) (targets_of-expanded view q)) ∙ given,
+from_text : (aggs : Aggs) (source : Source) (view q : Query) (es : List Env) (outcome : Option Row) → IsOver aggs source view q es
+    → IsOutcome aggs (expanded view q) es outcome → IsOutcome aggs q (assigned source q) outcome
+from_text aggs source view q es outcome over h =
+    let (f, in_view, holding, given) = h in
+    let (row, own, values, q_holds) = gives_row aggs view q f over.is_plain holding in
+    let inside : In row (rows_given aggs view es) = has-In (rows_given aggs view es) row (is-given aggs view es row (f, in_view, own, values)) in (
+      row ∷ [],
+      In-one source q over.key over.only over.is_used row (subst (In row) (sym over.rows) inside),
+      q_holds,
+      sym (says_the_same aggs view q f row over.is_plain own values).1 ∙ given,
     )
-
-equal_by : (b c : Bool) → (b ≡ true → c ≡ true) → (c ≡ true → b ≡ true) → b ≡ c
-equal_by true c to from = sym (to refl)
-equal_by false true to from = from refl
-equal_by false false to from = refl
-
--- where the rows of the variable are those that the view's text gives, the two queries give the same rows
-same_given : (aggs : Aggs) (source : Source) (view q : Query) (es : List Env) (key : RelKey) → query_aggregates q ≡ [] → query_aggregates view ≡ []
-    → vars_of q ≡ key ∷ [] → is_any (used_in_query 0 q) ≡ true → source key (used_in_query 0 q) ≡ rows_given no_aggs view es
-    → (values : Row) → has (rows_given aggs q (assigned source q)) values ≡ has (rows_given aggs (expanded view q) es) values
-same_given aggs source view q es key plain view_plain only is_used rows values =
-    equal_by (has (rows_given aggs q (assigned source q)) values) (has (rows_given aggs (expanded view q) es) values) to from
-  where
-    same_rows : source key (used_in_query 0 q) ≡ rows_given aggs view es
-    same_rows = rows ∙ given_plain no_aggs aggs view es view_plain
-
-    to : has (rows_given aggs q (assigned source q)) values ≡ true → has (rows_given aggs (expanded view q) es) values ≡ true
-    to h =
-        let (e, there, q_holds, q_row) = given-is aggs q (assigned source q) values h in
-        let (row, inside, same) = one-In source q key only is_used e there in
-        let (f, in_view, view_holds, view_row) = given-is aggs view es row (In-has (rows_given aggs view es) row (subst (In row) same_rows inside)) in
-        let (holding, given) = given_there aggs view q f row values plain view_holds view_row
-        (ap (holds aggs (qual_of q)) (sym same) ∙ q_holds) (ap (target_values aggs (targets_of q)) (sym same) ∙ q_row) in
-        is-given aggs (expanded view q) es values (f, in_view, holding, given)
-
-    from : has (rows_given aggs (expanded view q) es) values ≡ true → has (rows_given aggs q (assigned source q)) values ≡ true
-    from h =
-        let (f, in_view, holding, given) = given-is aggs (expanded view q) es values h in
-        let (row, view_holds, view_row, q_holds, q_row) = given_here aggs view q f values plain holding given in
-        let inside : In row (rows_given aggs view es) = has-In (rows_given aggs view es) row (is-given aggs view es row (f, in_view, view_holds, view_row)) in
-        is-given aggs q (assigned source q) values
-        (row ∷ [], In-one source q key only is_used row (subst (In row) (sym same_rows) inside), q_holds, q_row)
 
 Ascends-given : (aggs : Aggs) (q : Query) (es : List Env) → Ascends (rows_given aggs q es)
 unfolding rows_given
 Ascends-given aggs q es = Ascends-set_of (filter_map (target_values aggs (targets_of q)) (qualifying aggs q es))
 
-view_has : (db : Db) (view : View) (key : RelKey) (attrs : List ℕ) → range_at db key ≡ Some (Viewed view)
-    → rows_of db Free key attrs ≡ rows_given no_aggs view.query (assigned (rows_within 15 db Free) view.query)
-unfolding rows_of
-view_has db view key attrs e = ap (range_rows (view_rows (rows_within 15 db Free)) db Free key attrs) e
+same_given : (aggs : Aggs) (source : Source) (view q : Query) (es : List Env) → IsOver aggs source view q es → rows_given aggs q (assigned source q) ≡ rows_given aggs (expanded view q) es
+same_given aggs source view q es over =
+    same_set (rows_given aggs q (assigned source q)) (rows_given aggs (expanded view q) es) (Ascends-given aggs q (assigned source q)) (Ascends-given aggs (expanded view q) es)
+    (λ row. equal_by (has (rows_given aggs q (assigned source q)) row) (has (rows_given aggs (expanded view q) es) row)
+    (λ h. is-given aggs (expanded view q) es row (to_text aggs source view q es (Some row) over (given-is aggs q (assigned source q) row h)))
+    (λ h. is-given aggs q (assigned source q) row (from_text aggs source view q es (Some row) over (given-is aggs (expanded view q) es row h))))
 
-pub answer_expanded : (db : Db) (view : View) (q : Query) → IsOverView db view q → answer db Free q ≡ answer db Free (expanded view.query q)
+same_lack : (aggs : Aggs) (source : Source) (view q : Query) (es : List Env) → IsOver aggs source view q es → some_lacks aggs q (assigned source q) ≡ some_lacks aggs (expanded view q) es
+same_lack aggs source view q es over =
+    equal_by (some_lacks aggs q (assigned source q)) (some_lacks aggs (expanded view q) es)
+    (λ h. is-lack aggs (expanded view q) es (to_text aggs source view q es None over (lack-is aggs q (assigned source q) h)))
+    (λ h. is-lack aggs q (assigned source q) (from_text aggs source view q es None over (lack-is aggs (expanded view q) es h)))
+
+-- ---- in a database
+
+-- the assignments of a view's text, below the levels of a query
+below : Db → Who → View → List Env
+below db who view = assigned (rows_within (greatest_level - 1) db who) view.query
+
+view_has : (db : Db) (who : Who) (view : View) (key : RelKey) (attrs : List ℕ) → range_at db key ≡ Some (Viewed view) → rows_of db who key attrs ≡ rows_given no_aggs view.query (below db who view)
+unfolding rows_of below
+view_has db who view key attrs e = ap (range_rows (view_rows (rows_within (greatest_level - 1) db who)) db who key attrs) e
+
+is_over : (db : Db) (who : Who) (view : View) (q : Query) → IsOverView db view q → IsOver (aggregates db who) (rows_of db who) view.query q (below db who view)
+is_over db who view q over = record {
+  key = over.key;
+  only = over.only;
+  is_used = over.is_used;
+  is_plain = over.is_plain;
+  rows = view_has db who view over.key (used_in_query 0 q) over.ranges ∙ given_plain no_aggs (aggregates db who) view.query (below db who view) over.view_is_plain;
+}
+
+same_below : (db : Db) (who : Who) (view : View) (q : Query) → IsOverView db view q → below db who view ≡ assigned (rows_of db who) (expanded view.query q)
+unfolding below
+same_below db who view q over = sym (same_assigned (greatest_level - 1) db who view.query q over.is_plain over.over_no_view)
+
+pub answer_expanded : (db : Db) (who : Who) (view : View) (q : Query) → IsOverView db view q → answer db who q ≡ answer db who (expanded view.query q)
 unfolding answer
-answer_expanded db view q over =
-    same_set (rows_given aggs q (assigned (rows_of db Free) q)) (rows_given aggs (expanded view.query q) es)
-    (Ascends-given aggs q (assigned (rows_of db Free) q)) (Ascends-given aggs (expanded view.query q) es)
-    (same_given aggs (rows_of db Free) view.query q es over.key over.is_plain over.view_is_plain over.only over.is_used (view_has db view over.key (used_in_query 0 q) over.ranges))
-    ∙ ap (rows_given aggs (expanded view.query q)) (sym (same_assigned 15 db view.query q over.is_plain over.over_no_view))
-  where
-    aggs : Aggs
-    aggs = aggregates db Free
+answer_expanded db who view q over =
+    same_given (aggregates db who) (rows_of db who) view.query q (below db who view) (is_over db who view q over)
+    ∙ ap (rows_given (aggregates db who) (expanded view.query q)) (same_below db who view q over)
 
-    es : List Env
-    es = assigned (rows_within 15 db Free) view.query
+pub lacks_expanded : (db : Db) (who : Who) (view : View) (q : Query) → IsOverView db view q → lacks db who q ≡ lacks db who (expanded view.query q)
+unfolding lacks
+lacks_expanded db who view q over =
+    same_lack (aggregates db who) (rows_of db who) view.query q (below db who view) (is_over db who view q over)
+    ∙ ap (some_lacks (aggregates db who) (expanded view.query q)) (same_below db who view q over)

@@ -17,13 +17,9 @@ use Rattle.calculus.specs.Targets.{rows_given}
 use Rattle.calculus.specs.VariableRows.{range_rows, view_rows, rows_within, rows_of}
 use Rattle.calculus.specs.Aggregate.{aggregates}
 use Rattle.calculus.specs.Answer.{answer}
-use Rattle.calculus_laws.proofs.Members.{In, Chosen, choices-Chosen, Chosen-choices, has-In, In-has, In-filter, filter-In}
+use Rattle.calculus_laws.proofs.Members.{Within, Chosen, choices-Chosen, Chosen-choices, has-In, In-has, In-filter, filter-In}
 use Rattle.calculus_laws.proofs.Given.{given-is, is-given}
 use Rattle.calculus_laws.proofs.Plain.{given_plain}
-
--- each of the first is one of the second
-abbrev Within : {X : Type 0} → List X → List X → Type 0
-Within {X} xs ys = (x : X) → In x xs → In x ys
 
 chosen_fewer : {X : Type 0} (f g : X → List Row) → ((x : X) → Within (f x) (g x)) → (xs : List X) (e : Env) → Chosen (map f xs) e → Chosen (map g xs) e
 chosen_fewer f g fewer [] [] h = tt

@@ -11,5 +11,6 @@ pub mod OneVariable
 pub mod OwnLevel
 pub mod Plain
 pub mod PutIn
+pub mod SameRows
 pub mod Unpermitted
 pub mod UsedIn

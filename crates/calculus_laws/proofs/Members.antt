@@ -1,6 +1,6 @@
 -- What stands in lists that are filtered, mapped and chosen from.
 use Rattle.std.proofs.Common.{◌≡◌, ◌⊎◌, inl, inr, refl, sym, ap, ◌∙◌, subst, Bool, true, false, ◌||◌, List, [], ◌∷◌, ◌++◌, map, cond, Option, Some, None}
-use Rattle.std.specs.List.{filter, filter_map, cons_option, flat_map}
+use Rattle.std.specs.List.{filter, filter_map, cons_option, flat_map, list_any}
 use Rattle.std.proofs.lemmas.Cmp.{eq_by_cmp_equiv}
 use Rattle.calculus.specs.Orders.{row_total}
 use Rattle.calculus.specs.Value.{row_cmp}
@@ -15,24 +15,37 @@ abbrev pub In : {X : Type 0} → X → List X → Type 0
 In x [] = ⊥
 In x (y ∷ ys) = (y ≡ x) ⊎ In x ys
 
+-- each of the first is one of the second
+abbrev pub Within : {X : Type 0} → List X → List X → Type 0
+Within {X} xs ys = (x : X) → In x xs → In x ys
+
+-- ---- items that pass a test
+
+pub any-In : {X : Type 0} (p : X → Bool) (xs : List X) → list_any p xs ≡ true → (x : X) × In x xs × (p x ≡ true)
+any-In p [] h = cc h
+any-In {X} p (first ∷ xs) h = go (λ k. let (x, inside, e) = any-In p xs k in (x, inr inside, e)) (p first) refl h
+  where
+    go : (list_any p xs ≡ true → (x : X) × In x (first ∷ xs) × (p x ≡ true)) → (b : Bool) → p first ≡ b → (b || list_any p xs) ≡ true
+        → (x : X) × In x (first ∷ xs) × (p x ≡ true)
+    go later true e h = (first, inl refl, e)
+    go later false e h = later h
+
+or_true : (b : Bool) → (b || true) ≡ true
+or_true true = refl
+or_true false = refl
+
+pub In-any : {X : Type 0} (p : X → Bool) (xs : List X) (x : X) → In x xs → p x ≡ true → list_any p xs ≡ true
+In-any p [] x h k = absurd h
+In-any p (first ∷ xs) x (inl same) k = ap (λ b. b || list_any p xs) (ap p same ∙ k)
+In-any p (first ∷ xs) x (inr h) k = ap (λ b. p first || b) (In-any p xs x h k) ∙ or_true (p first)
+
 -- ---- rows that a set has
 
 pub has-In : (rows : List Row) (row : Row) → has rows row ≡ true → In row rows
-has-In [] row h = cc h
-has-In (first ∷ rest) row h = go (has-In rest row) (eq_by_cmp row_cmp row first) refl h
-  where
-    go : (has rest row ≡ true → In row rest) → (b : Bool) → eq_by_cmp row_cmp row first ≡ b → (b || has rest row) ≡ true → In row (first ∷ rest)
-    go later true e h = inl (sym (same_exact row first e))
-    go later false e h = inr (later h)
+has-In rows row h = let (other, inside, same) = any-In (eq_by_cmp row_cmp row) rows h in subst (λ r. In r rows) (sym (same_exact row other same)) inside
 
 pub In-has : (rows : List Row) (row : Row) → In row rows → has rows row ≡ true
-In-has [] row h = absurd h
-In-has (first ∷ rest) row (inl e) = ap (λ b. b || has rest row) (ap (λ r. eq_by_cmp row_cmp row r) e ∙ (eq_by_cmp_equiv row_total).refl row)
-In-has (first ∷ rest) row (inr h) = ap (λ b. eq_by_cmp row_cmp row first || b) (In-has rest row h) ∙ or_true (eq_by_cmp row_cmp row first)
-  where
-    or_true : (b : Bool) → (b || true) ≡ true
-    or_true true = refl
-    or_true false = refl
+In-has rows row h = In-any (eq_by_cmp row_cmp row) rows row h ((eq_by_cmp_equiv row_total).refl row)
 
 pub set_of-In : (rows : List Row) (row : Row) → has (set_of rows) row ≡ true → In row rows
 set_of-In rows row h = has-In rows row (sym (has-set_of rows row) ∙ h)
@@ -97,16 +110,16 @@ Chosen [] (row ∷ e) = ⊥
 Chosen (rows ∷ more) [] = ⊥
 Chosen (rows ∷ more) (row ∷ e) = In row rows × Chosen more e
 
-In-append_left : {X : Type 0} (xs ys : List X) (x : X) → In x xs → In x (xs ++ ys)
+pub In-append_left : {X : Type 0} (xs ys : List X) (x : X) → In x xs → In x (xs ++ ys)
 In-append_left [] ys x h = absurd h
 In-append_left (z ∷ xs) ys x (inl e) = inl e
 In-append_left (z ∷ xs) ys x (inr h) = inr (In-append_left xs ys x h)
 
-In-append_right : {X : Type 0} (xs ys : List X) (x : X) → In x ys → In x (xs ++ ys)
+pub In-append_right : {X : Type 0} (xs ys : List X) (x : X) → In x ys → In x (xs ++ ys)
 In-append_right [] ys x h = h
 In-append_right (z ∷ xs) ys x h = inr (In-append_right xs ys x h)
 
-append-In : {X : Type 0} (xs ys : List X) (x : X) → In x (xs ++ ys) → In x xs ⊎ In x ys
+pub append-In : {X : Type 0} (xs ys : List X) (x : X) → In x (xs ++ ys) → In x xs ⊎ In x ys
 append-In [] ys x h = inr h
 append-In (z ∷ xs) ys x (inl e) = inl (inl e)
 append-In (z ∷ xs) ys x (inr h) = elim (append-In xs ys x h) [ inl k ↦ inl (inr k) | inr k ↦ inr k ]

@@ -1,5 +1,5 @@
--- The query that a view is put into uses the variables that the view's text uses.
-use Rattle.std.proofs.Common.{◌≡◌, refl, sym, ap, ◌∙◌, ℕ, zero, suc, Bool, true, false, ◌||◌, List, [], ◌∷◌, ◌++◌}
+-- The query that a view is put into uses what the view's text uses.
+use Rattle.std.proofs.Common.{◌≡◌, refl, ap, subst, inl, inr, ℕ, zero, suc, List, [], ◌∷◌, ◌++◌}
 use Rattle.std.specs.List.{flat_map}
 use Rattle.calculus.specs.declared.query.QTerm.{QTerm, Int, Chars, Attr, Agg', Row_of-QAgg, end_of-QAgg, more_of-QAgg}
 use Rattle.calculus.specs.declared.query.QQual.{QQual, True, Cmp, Like}
@@ -7,10 +7,10 @@ use Rattle.calculus.specs.declared.query.Target.{Target}
 use Rattle.calculus.specs.declared.query.Query.{Query, items-the_row-Target}
 use Rattle.calculus.specs.declared.query.RelKey.{RelKey}
 use Rattle.calculus.specs.Tree.{neg, abs, operation, concat, both, either, negated, target_row, query}
-use Rattle.calculus.specs.Lists.{is_any}
 use Rattle.calculus.specs.QueryParts.{aggregates_of, term_aggregates, qual_aggregates, query_aggregates, vars_of, targets_of, qual_of}
 use Rattle.calculus.specs.Used.{used, used_in_links, used_in_qual, used_in_query}
 use Rattle.calculus_laws.specs.Expansion.{term_at, put_in_attribute, put_in, put_in_qual, put_in_targets, have_values, expanded}
+use Rattle.calculus_laws.proofs.Members.{In, Within, In-append_left, In-append_right, append-In}
 use Rattle.calculus_laws.proofs.Plain.{none_left, none_right, in_targets}
 
 -- the targets of a query that is made of these
@@ -28,92 +28,110 @@ targets_of-expanded view q = targets_of-query (vars_of view) (put_in_targets (ta
 abbrev pub used_in_targets : ℕ → List Target → List ℕ
 used_in_targets v ts = flat_map (λ t. used v t.term) ts
 
--- ---- where the targets use nothing of a variable, nor does what they were put into
+-- ---- what was put into uses what the targets use
 
-none_both : (xs ys : List ℕ) → xs ≡ [] → ys ≡ [] → xs ++ ys ≡ []
-none_both [] ys e f = f
-none_both (x ∷ xs) ys e f = cc e
+within_both : (xs ys zs : List ℕ) → Within xs zs → Within ys zs → Within (xs ++ ys) zs
+within_both xs ys zs f g a h = elim (append-In xs ys a h) [ inl k ↦ f a k | inr k ↦ g a k ]
 
-none_at : (v : ℕ) (targets : List Target) (place : ℕ) → used_in_targets v targets ≡ [] → used v (term_at targets place) ≡ []
-none_at v [] place h = refl
-none_at v (t ∷ ts) zero h = none_left (used v t.term) (used_in_targets v ts) h
-none_at v (t ∷ ts) (suc place) h = none_at v ts place (none_right (used v t.term) (used_in_targets v ts) h)
+at_within : (v : ℕ) (targets : List Target) (place : ℕ) → Within (used v (term_at targets place)) (used_in_targets v targets)
+at_within v [] place a h = absurd h
+at_within v (t ∷ ts) zero a h = In-append_left (used v t.term) (used_in_targets v ts) a h
+at_within v (t ∷ ts) (suc place) a h = In-append_right (used v t.term) (used_in_targets v ts) a (at_within v ts place a h)
 
-none_for : (v : ℕ) (targets : List Target) (var attr : ℕ) → used_in_targets v targets ≡ [] → used v (put_in_attribute targets var attr) ≡ []
-none_for v targets zero attr h = none_at v targets attr h
-none_for v targets (suc var) attr h = refl
+attribute_within : (v : ℕ) (targets : List Target) (var attr : ℕ) → Within (used v (put_in_attribute targets var attr)) (used_in_targets v targets)
+attribute_within v targets zero attr a h = at_within v targets attr a h
+attribute_within v targets (suc var) attr a h = absurd h
 
-none_linked : (v : ℕ) {n : _} (items : Row_of-QAgg n) → aggregates_of items ≡ [] → used_in_links v items ≡ []
-none_linked v end_of-QAgg h = refl
-none_linked v (more_of-QAgg slot op source arg bys by links link qual rest) h = cc h
+links_within : (v : ℕ) {n : _} (items : Row_of-QAgg n) (all : List ℕ) → aggregates_of items ≡ [] → Within (used_in_links v items) all
+links_within v end_of-QAgg all h a k = absurd k
+links_within v (more_of-QAgg slot op source arg bys by links link qual rest) all h a k = cc h
 
-none_put_in : (v : ℕ) (targets : List Target) (t : QTerm) → used_in_targets v targets ≡ [] → term_aggregates t ≡ [] → used v (put_in targets t) ≡ []
+put_in_within : (v : ℕ) (targets : List Target) (t : QTerm) → term_aggregates t ≡ [] → Within (used v (put_in targets t)) (used_in_targets v targets)
 unfolding term_aggregates
-none_put_in v targets (Int n) h plain = refl
-none_put_in v targets (Chars bytes) h plain = refl
-none_put_in v targets (Attr var attr) h plain = none_for v targets var attr h
-none_put_in v targets (neg t) h plain = none_put_in v targets t h plain
-none_put_in v targets (abs t) h plain = none_put_in v targets t h plain
-none_put_in v targets (operation op t u) h plain = none_both (used v (put_in targets t)) (used v (put_in targets u))
-    (none_put_in v targets t h (none_left (term_aggregates t) (term_aggregates u) plain))
-    (none_put_in v targets u h (none_right (term_aggregates t) (term_aggregates u) plain))
-none_put_in v targets (concat t u) h plain = none_both (used v (put_in targets t)) (used v (put_in targets u))
-    (none_put_in v targets t h (none_left (term_aggregates t) (term_aggregates u) plain))
-    (none_put_in v targets u h (none_right (term_aggregates t) (term_aggregates u) plain))
-none_put_in v targets (Agg' mark items) h plain = none_linked v items plain
+put_in_within v targets (Int n) plain a h = absurd h
+put_in_within v targets (Chars bytes) plain a h = absurd h
+put_in_within v targets (Attr var attr) plain a h = attribute_within v targets var attr a h
+put_in_within v targets (neg t) plain a h = put_in_within v targets t plain a h
+put_in_within v targets (abs t) plain a h = put_in_within v targets t plain a h
+put_in_within v targets (operation op t u) plain a h = within_both (used v (put_in targets t)) (used v (put_in targets u)) (used_in_targets v targets)
+    (put_in_within v targets t (none_left (term_aggregates t) (term_aggregates u) plain))
+    (put_in_within v targets u (none_right (term_aggregates t) (term_aggregates u) plain)) a h
+put_in_within v targets (concat t u) plain a h = within_both (used v (put_in targets t)) (used v (put_in targets u)) (used_in_targets v targets)
+    (put_in_within v targets t (none_left (term_aggregates t) (term_aggregates u) plain))
+    (put_in_within v targets u (none_right (term_aggregates t) (term_aggregates u) plain)) a h
+put_in_within v targets (Agg' mark items) plain a h = links_within v items (used_in_targets v targets) plain a h
 
-none_put_in_qual : (v : ℕ) (targets : List Target) (q : QQual) → used_in_targets v targets ≡ [] → qual_aggregates q ≡ [] → used_in_qual v (put_in_qual targets q) ≡ []
+qual_within : (v : ℕ) (targets : List Target) (q : QQual) → qual_aggregates q ≡ [] → Within (used_in_qual v (put_in_qual targets q)) (used_in_targets v targets)
 unfolding qual_aggregates
-none_put_in_qual v targets True h plain = refl
-none_put_in_qual v targets (Cmp op t u) h plain = none_both (used v (put_in targets t)) (used v (put_in targets u))
-    (none_put_in v targets t h (none_left (term_aggregates t) (term_aggregates u) plain))
-    (none_put_in v targets u h (none_right (term_aggregates t) (term_aggregates u) plain))
-none_put_in_qual v targets (Like t pattern same) h plain = none_put_in v targets t h plain
-none_put_in_qual v targets (both p q) h plain = none_both (used_in_qual v (put_in_qual targets p)) (used_in_qual v (put_in_qual targets q))
-    (none_put_in_qual v targets p h (none_left (qual_aggregates p) (qual_aggregates q) plain))
-    (none_put_in_qual v targets q h (none_right (qual_aggregates p) (qual_aggregates q) plain))
-none_put_in_qual v targets (either p q) h plain = none_both (used_in_qual v (put_in_qual targets p)) (used_in_qual v (put_in_qual targets q))
-    (none_put_in_qual v targets p h (none_left (qual_aggregates p) (qual_aggregates q) plain))
-    (none_put_in_qual v targets q h (none_right (qual_aggregates p) (qual_aggregates q) plain))
-none_put_in_qual v targets (negated p) h plain = none_put_in_qual v targets p h plain
+qual_within v targets True plain a h = absurd h
+qual_within v targets (Cmp op t u) plain a h = within_both (used v (put_in targets t)) (used v (put_in targets u)) (used_in_targets v targets)
+    (put_in_within v targets t (none_left (term_aggregates t) (term_aggregates u) plain))
+    (put_in_within v targets u (none_right (term_aggregates t) (term_aggregates u) plain)) a h
+qual_within v targets (Like t pattern same) plain a h = put_in_within v targets t plain a h
+qual_within v targets (both p q) plain a h = within_both (used_in_qual v (put_in_qual targets p)) (used_in_qual v (put_in_qual targets q)) (used_in_targets v targets)
+    (qual_within v targets p (none_left (qual_aggregates p) (qual_aggregates q) plain))
+    (qual_within v targets q (none_right (qual_aggregates p) (qual_aggregates q) plain)) a h
+qual_within v targets (either p q) plain a h = within_both (used_in_qual v (put_in_qual targets p)) (used_in_qual v (put_in_qual targets q)) (used_in_targets v targets)
+    (qual_within v targets p (none_left (qual_aggregates p) (qual_aggregates q) plain))
+    (qual_within v targets q (none_right (qual_aggregates p) (qual_aggregates q) plain)) a h
+qual_within v targets (negated p) plain a h = qual_within v targets p plain a h
 
-none_put_in_targets : (v : ℕ) (targets ts : List Target) → used_in_targets v targets ≡ [] → in_targets ts ≡ [] → used_in_targets v (put_in_targets targets ts) ≡ []
-none_put_in_targets v targets [] h plain = refl
-none_put_in_targets v targets (t ∷ ts) h plain = none_both (used v (put_in targets t.term)) (used_in_targets v (put_in_targets targets ts))
-    (none_put_in v targets t.term h (none_left (term_aggregates t.term) (in_targets ts) plain))
-    (none_put_in_targets v targets ts h (none_right (term_aggregates t.term) (in_targets ts) plain))
+targets_within : (v : ℕ) (targets ts : List Target) → in_targets ts ≡ [] → Within (used_in_targets v (put_in_targets targets ts)) (used_in_targets v targets)
+targets_within v targets [] plain a h = absurd h
+targets_within v targets (t ∷ ts) plain a h = within_both (used v (put_in targets t.term)) (used_in_targets v (put_in_targets targets ts)) (used_in_targets v targets)
+    (put_in_within v targets t.term (none_left (term_aggregates t.term) (in_targets ts) plain))
+    (targets_within v targets ts (none_right (term_aggregates t.term) (in_targets ts) plain)) a h
 
--- ---- whether there is any
+-- ---- to require values of the targets is to use what they use
 
-any-append : (xs ys : List ℕ) → is_any (xs ++ ys) ≡ (is_any xs || is_any ys)
-any-append [] ys = refl
-any-append (x ∷ xs) ys = refl
+needed_within : (v : ℕ) (ts : List Target) → Within (used_in_qual v (have_values ts)) (used_in_targets v ts)
+needed_within v [] a h = absurd h
+needed_within v (t ∷ ts) a h = within_both (used v t.term ++ used v t.term) (used_in_qual v (have_values ts)) (used_in_targets v (t ∷ ts))
+    (within_both (used v t.term) (used v t.term) (used_in_targets v (t ∷ ts))
+    (In-append_left (used v t.term) (used_in_targets v ts)) (In-append_left (used v t.term) (used_in_targets v ts)))
+    (λ b k. In-append_right (used v t.term) (used_in_targets v ts) b (needed_within v ts b k)) a h
 
-any-targets : (v : ℕ) (ts : List Target) → is_any (used_in_qual v (have_values ts)) ≡ is_any (used_in_targets v ts)
-any-targets v [] = refl
-any-targets v (t ∷ ts) =
-    any-append (used v t.term ++ used v t.term) (used_in_qual v (have_values ts))
-    ∙ (λ i. any-append (used v t.term) (used v t.term) i || any-targets v ts i)
-    ∙ twice (is_any (used v t.term)) (is_any (used_in_targets v ts))
-    ∙ sym (any-append (used v t.term) (used_in_targets v ts))
-  where
-    twice : (b c : Bool) → ((b || b) || c) ≡ (b || c)
-    twice true c = refl
-    twice false c = refl
+within_needed : (v : ℕ) (ts : List Target) → Within (used_in_targets v ts) (used_in_qual v (have_values ts))
+within_needed v [] a h = absurd h
+within_needed v (t ∷ ts) a h = within_both (used v t.term) (used_in_targets v ts) (used_in_qual v (have_values (t ∷ ts)))
+    (λ b k. In-append_left (used v t.term ++ used v t.term) (used_in_qual v (have_values ts)) b (In-append_left (used v t.term) (used v t.term) b k))
+    (λ b k. In-append_right (used v t.term ++ used v t.term) (used_in_qual v (have_values ts)) b (within_needed v ts b k)) a h
 
--- the view's text and what it was put into use the same variables
-pub any-expanded : (v : ℕ) (view q : Query) → query_aggregates q ≡ [] → is_any (used_in_query v (expanded view q)) ≡ is_any (used_in_query v view)
-any-expanded v view q plain =
-    ap (λ ts. is_any (used_in_targets v ts ++ used_in_qual v (qual_of (expanded view q)))) (targets_of-expanded view q)
-    ∙ any-append puts (filled ++ (own ++ needed))
-    ∙ ap (λ b. is_any puts || b) (any-append filled (own ++ needed) ∙ ap (λ b. is_any filled || b) (any-append own needed))
-    ∙ ap (λ b. is_any puts || (is_any filled || (is_any own || b))) (any-targets v (targets_of view))
-    ∙ go (used_in_targets v (targets_of view)) refl
-    ∙ sym (any-append (used_in_targets v (targets_of view)) own)
+-- ---- the view's text and what it was put into use the same attributes
+
+pub expanded_within : (v : ℕ) (view q : Query) → query_aggregates q ≡ [] → Within (used_in_query v (expanded view q)) (used_in_query v view)
+expanded_within v view q plain a h =
+    within_both puts (filled ++ (own ++ needed)) (taken ++ own) (λ b k. from_taken b (targets_within v (targets_of view) (targets_of q) (none_left (in_targets (targets_of q)) (qual_aggregates (qual_of q)) plain) b k))
+    (within_both filled (own ++ needed) (taken ++ own)
+    (λ b k. from_taken b (qual_within v (targets_of view) (qual_of q) (none_right (in_targets (targets_of q)) (qual_aggregates (qual_of q)) plain) b k))
+    (within_both own needed (taken ++ own) (In-append_right taken own) (λ b k. from_taken b (needed_within v (targets_of view) b k))))
+    a (subst (λ ts. In a (used_in_targets v ts ++ (filled ++ (own ++ needed)))) (targets_of-expanded view q) h)
   where
     puts : List ℕ
     puts = used_in_targets v (put_in_targets (targets_of view) (targets_of q))
 
+    filled : List ℕ
+    filled = used_in_qual v (put_in_qual (targets_of view) (qual_of q))
+
+    taken : List ℕ
+    taken = used_in_targets v (targets_of view)
+
+    own : List ℕ
+    own = used_in_qual v (qual_of view)
+
+    needed : List ℕ
+    needed = used_in_qual v (have_values (targets_of view))
+
+    from_taken : Within taken (taken ++ own)
+    from_taken = In-append_left taken own
+
+pub within_expanded : (v : ℕ) (view q : Query) → Within (used_in_query v view) (used_in_query v (expanded view q))
+within_expanded v view q a h =
+    In-append_right (used_in_targets v (targets_of (expanded view q))) (filled ++ (own ++ needed)) a
+    (In-append_right filled (own ++ needed) a
+    (within_both (used_in_targets v (targets_of view)) own (own ++ needed)
+    (λ b k. In-append_right own needed b (within_needed v (targets_of view) b k)) (In-append_left own needed) a h))
+  where
     filled : List ℕ
     filled = used_in_qual v (put_in_qual (targets_of view) (qual_of q))
 
@@ -122,21 +140,3 @@ any-expanded v view q plain =
 
     needed : List ℕ
     needed = used_in_qual v (have_values (targets_of view))
-
-    anyhow : (a b c : Bool) → (a || (b || (c || true))) ≡ true
-    anyhow true b c = refl
-    anyhow false true c = refl
-    anyhow false false true = refl
-    anyhow false false false = refl
-
-    or_false : (b : Bool) → (b || false) ≡ b
-    or_false true = refl
-    or_false false = refl
-
-    go : (xs : List ℕ) → used_in_targets v (targets_of view) ≡ xs → (is_any puts || (is_any filled || (is_any own || is_any xs))) ≡ (is_any xs || is_any own)
-    go [] e =
-        (λ i. is_any (none_put_in_targets v (targets_of view) (targets_of q) e (none_left (in_targets (targets_of q)) (qual_aggregates (qual_of q)) plain) i)
-        || (is_any (none_put_in_qual v (targets_of view) (qual_of q) e (none_right (in_targets (targets_of q)) (qual_aggregates (qual_of q)) plain) i)
-        || (is_any own || false)))
-        ∙ or_false (is_any own)
-    go (x ∷ xs) e = anyhow (is_any puts) (is_any filled) (is_any own)
