@@ -1,5 +1,5 @@
 -- What an aggregate gives.
-use Rattle.std.specs.Prelude.{ℕ, ℤ, pos, ◌+ℤ◌, int_div, Bool, true, false, ◌&&◌, if◌then◌else◌, List, [], ◌∷◌, map, length, filter, Option, Some, None}
+use Rattle.std.specs.Prelude.{ℕ, ℤ, pos, ◌+ℤ◌, int_div, Bool, false, ◌&&◌, if◌then◌else◌, List, [], ◌∷◌, map, length, filter, Option, Some, None}
 use Rattle.std.specs.Ordering.{is_eq}
 use Rattle.calculus.specs.declared.value.Value.{Value}
 use Rattle.calculus.specs.declared.value.Value.TheVariants.{Int, Text}
@@ -13,7 +13,7 @@ use Rattle.calculus.specs.Number.{number}
 use Rattle.calculus.specs.Value.{value_cmp, row_cmp}
 use Rattle.calculus.specs.Rows.{Row}
 use Rattle.calculus.specs.Lists.{insert_by}
-use Rattle.calculus.specs.Term.{Env, Aggs, val, holds, no_aggs, values_of, number_value}
+use Rattle.calculus.specs.Term.{Aggs, val, holds, no_aggs, values_of, number_value}
 use Rattle.calculus.specs.Kinds.{kind_of, is_text_kind}
 use Rattle.calculus.specs.Who.{Who}
 use Rattle.calculus.specs.Database.{Db}

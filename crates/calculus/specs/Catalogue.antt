@@ -1,8 +1,6 @@
 -- The two catalogues, `relation` and `attribute`, whose rows say what the database holds.
 use Rattle.std.specs.Prelude.{ℕ, pos, Bool, true, false, ◌||◌, List, [], ◌∷◌, ◌++◌, map, length, Option, Some, None, bytes_eq, codes, decimal, flat_map}
 use Rattle.std.specs.List.{enumerate_from}
-use Rattle.std.specs.Option.{option_map}
-use Rattle.calculus.specs.declared.value.Value.{Value}
 use Rattle.calculus.specs.declared.value.Value.TheVariants.{Int, Text}
 use Rattle.calculus.specs.declared.value.Domain.{Domain}
 use Rattle.calculus.specs.declared.value.Domain.TheVariants.{I1, I2, I4, C}
@@ -105,13 +103,6 @@ attribute_rows info = elim info.spec [
   where
     rows : List Row
     rows = map (λ p. attribute_row info.key p.0 p.1) (enumerate_from 1 info.attrs)
-
--- what is known of the catalogue under a key
-abbrev pub catalogue_info_at : Db → RelKey → Option RelInfo
-catalogue_info_at db key = elim (same_key key (relation_key db)) [
-  | true ↦ Some (relation_info db)
-  | false ↦ elim (same_key key (attribute_key db)) [ true ↦ Some (attribute_info db) | false ↦ None ]
-]
 
 -- the catalogue under a key, as a relation with its rows
 unfoldable pub catalogue_at : Db → RelKey → Option Relation

@@ -1,8 +1,7 @@
--- Changes of a database: the database after one, and which change is lawful up to what is a database.
-use Rattle.std.specs.Prelude.{ℕ, Bool, true, false, not, ◌&&◌, ◌||◌, nat_eq, List, [], ◌∷◌, map, filter, is_some}
+-- Changes of a database: the database after one, and which changes are lawful.
+use Rattle.std.specs.Prelude.{ℕ, Bool, true, false, not, ◌&&◌, ◌||◌, nat_eq, List, [], map, filter, IsTrue}
 use Rattle.std.specs.List.{list_any, list_all}
-use Rattle.std.specs.Ordering.{nat_cmp, ordering_then, eq_by_cmp}
-use Rattle.std.specs.declared.cmp.Ordering.{Ordering}
+use Rattle.std.specs.Ordering.{eq_by_cmp}
 use Rattle.calculus.specs.declared.query.RelKey.{RelKey}
 use Rattle.calculus.specs.declared.schema.Spec.{Spec}
 use Rattle.calculus.specs.declared.schema.Spec.TheVariants as spec
@@ -13,17 +12,14 @@ use Rattle.calculus.specs.declared.change.DbChange.{DbChange}
 use Rattle.calculus.specs.declared.change.DbChange.TheVariants as change
 use Rattle.calculus.specs.Value.{row_cmp}
 use Rattle.calculus.specs.Rows.{Row, has, set_of}
-use Rattle.calculus.specs.Keys.{key_of, same_key, has_key, key_cmp}
+use Rattle.calculus.specs.Keys.{key_of, same_key, has_key, key_cmp, numbered_cmp}
 use Rattle.calculus.specs.Lists.{has_number, insert_by, differ_by}
-use Rattle.calculus.specs.Database.{Db, Relation, Index, View, relation_at, is_there, rules_on, permits_on}
+use Rattle.calculus.specs.Database.{Db, Relation, is_relation, is_there, rules_on, permits_on}
 use Rattle.calculus.specs.Stored.{rows_at}
 use Rattle.calculus.specs.Replacement.{with_rows, without_rows}
+use Rattle.calculus.specs.IsDatabase.{IsDatabase}
 
 -- ---- the database after a change
-
--- rules or permits by relation, then by number
-abbrev pub numbered_cmp : {X : Type 0} → (X → ℕ) → (RelKey × X) → (RelKey × X) → Ordering
-numbered_cmp number a b = ordering_then (key_cmp a.0 b.0) (nat_cmp (number a.1) (number b.1))
 
 -- the relations, the one under this key changed
 abbrev pub change_at : RelKey → (Relation → Relation) → List Relation → List Relation
@@ -75,10 +71,6 @@ laid db (change.DropRules rel numbers) = record db { rules = without_numbers (λ
 
 -- ---- what a change speaks of
 
--- a base relation stands under the key
-abbrev pub is_relation : Db → RelKey → Bool
-is_relation db key = is_some (relation_at db key)
-
 -- the numbers of the permits of a relation
 abbrev pub permit_numbers : Db → RelKey → List ℕ
 permit_numbers db rel = map (λ p. p.number) (permits_on db rel)
@@ -129,3 +121,10 @@ lists_once (change.Permit rel permit) = true
 lists_once (change.Rule rel rule) = true
 lists_once (change.DropPermits rel numbers) = differ_by nat_eq numbers
 lists_once (change.DropRules rel numbers) = differ_by nat_eq numbers
+
+-- a lawful change: what it removes or names is there, what it adds is not, it lists nothing twice, and it leaves a database
+pub record IsLawful (db : Db) (change : DbChange) : Type 0 where
+  pub names_are_there : IsTrue (names_what_is_there db change)
+  pub additions_are_new : IsTrue (adds_what_is_new db change)
+  pub nothing_is_listed_twice : IsTrue (lists_once change)
+  pub leaves_a_database : IsDatabase (laid db change)

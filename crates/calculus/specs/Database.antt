@@ -1,6 +1,5 @@
 -- A database, and what stands in it under a key.
 use Rattle.std.specs.Prelude.{ℕ, Bool, List, map, ◌++◌, Option, find, filter, is_some}
-use Rattle.std.specs.Option.{option_map, option_or}
 use Rattle.calculus.specs.declared.query.RelKey.{RelKey}
 use Rattle.calculus.specs.declared.query.Query.{Query}
 use Rattle.calculus.specs.declared.schema.RelInfo.{RelInfo}
@@ -36,6 +35,10 @@ pub record Db : Type 0 where
 -- the base relation under a key
 abbrev pub relation_at : Db → RelKey → Option Relation
 relation_at db key = find (λ r. same_key r.info.key key) db.relations
+
+-- a base relation stands under the key
+abbrev pub is_relation : Db → RelKey → Bool
+is_relation db key = is_some (relation_at db key)
 
 -- the index under a key
 abbrev pub index_at : Db → RelKey → Option Index

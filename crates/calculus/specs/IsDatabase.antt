@@ -1,5 +1,5 @@
--- What makes a database one: every fact by its name, and which change leaves one.
-use Rattle.std.specs.Prelude.{ℕ, ◌+◌, Bool, true, false, not, ◌&&◌, nat_eq, nat_le, nat_lt, bytes_eq, IsTrue, List, [], ◌∷◌, map, length, sum_by, Option, Some, None, is_some}
+-- What makes a database one: every fact by its name.
+use Rattle.std.specs.Prelude.{ℕ, Bool, true, false, not, ◌&&◌, nat_eq, nat_le, nat_lt, bytes_eq, IsTrue, List, [], ◌∷◌, map, length, sum_by, Option, Some, None, is_some}
 use Rattle.std.specs.List.{AllByRecursion, list_all}
 use Rattle.std.specs.List.Sorted.{IsStrictlySortedBy}
 use Rattle.calculus.specs.declared.value.Value.{Value}
@@ -12,26 +12,23 @@ use Rattle.calculus.specs.declared.query.RelKey.{RelKey}
 use Rattle.calculus.specs.declared.query.QQual.{QQual}
 use Rattle.calculus.specs.declared.query.Target.{Target}
 use Rattle.calculus.specs.declared.query.Query.{Query}
-use Rattle.calculus.specs.declared.schema.Spec.{Spec}
 use Rattle.calculus.specs.declared.schema.Spec.TheVariants as spec
 use Rattle.calculus.specs.declared.schema.Attr.{Attr}
 use Rattle.calculus.specs.declared.schema.RelInfo.{RelInfo}
 use Rattle.calculus.specs.declared.schema.Permit.{Permit}
-use Rattle.calculus.specs.declared.change.DbChange.{DbChange}
 use Rattle.calculus.specs.Name.{is_name}
 use Rattle.calculus.specs.Text.{is_text}
 use Rattle.calculus.specs.Value.{fits}
 use Rattle.calculus.specs.Rows.{Row, Ascends}
 use Rattle.calculus.specs.Limits.{most_attributes, most_row_bytes, most_keys, most_variables, most_expanded_variables, greatest_size, most_permits, most_rules, greatest_number, most_entries, most_rows}
-use Rattle.calculus.specs.Keys.{same_key, key_cmp}
+use Rattle.calculus.specs.Keys.{same_key, key_cmp, numbered_cmp}
 use Rattle.calculus.specs.Lists.{is_any, differ_by}
 use Rattle.calculus.specs.Kinds.{kind_of, kinds_fit}
-use Rattle.calculus.specs.Database.{Db, Relation, Index, View, relation_at, entries, rules_on, permits_on}
+use Rattle.calculus.specs.Database.{Db, Relation, Index, is_relation, entries, rules_on, permits_on}
 use Rattle.calculus.specs.Catalogue.{is_catalogue_name}
 use Rattle.calculus.specs.Stored.{range_at, kinds_at, attrs_at}
 use Rattle.calculus.specs.QueryParts.{vars_of, targets_of, qual_of}
 use Rattle.calculus.specs.Sizes.{level_of, variables, expanded_variables, query_size}
-use Rattle.calculus.specs.Change.{laid, is_relation, numbered_cmp, names_what_is_there, adds_what_is_new, lists_once}
 
 -- ---- names and attributes
 
@@ -228,10 +225,3 @@ pub record IsDatabase (db : Db) : Type 0 where
   pub few_permits : IsTrue (list_all (λ r. nat_le (length (permits_on db r.info.key)) most_permits) db.relations)
   pub small_rule_numbers : IsTrue (list_all (λ p. nat_le p.1.number greatest_number) db.rules)
   pub small_permit_numbers : IsTrue (list_all (λ p. nat_le p.1.number greatest_number) db.permits)
-
--- a lawful change: what it removes or names is there, what it adds is not, it lists nothing twice, and it leaves a database
-pub record IsLawful (db : Db) (change : DbChange) : Type 0 where
-  pub names_are_there : IsTrue (names_what_is_there db change)
-  pub additions_are_new : IsTrue (adds_what_is_new db change)
-  pub nothing_is_listed_twice : IsTrue (lists_once change)
-  pub leaves_a_database : IsDatabase (laid db change)

@@ -21,3 +21,7 @@ has_key keys key = list_any (same_key key) keys
 -- by owner, then by name
 abbrev pub key_cmp : RelKey → RelKey → Ordering
 key_cmp a b = ordering_then (slice_cmp nat_cmp a.owner b.owner) (slice_cmp nat_cmp a.name b.name)
+
+-- rules or permits by relation, then by number
+abbrev pub numbered_cmp : {X : Type 0} → (X → ℕ) → (RelKey × X) → (RelKey × X) → Ordering
+numbered_cmp number a b = ordering_then (key_cmp a.0 b.0) (nat_cmp (number a.1) (number b.1))

@@ -7,7 +7,7 @@ use Rattle.calculus.specs.declared.schema.Attr.{Attr}
 use Rattle.calculus.specs.declared.schema.RelInfo.{RelInfo}
 use Rattle.calculus.specs.Rows.{Row}
 use Rattle.calculus.specs.Database.{Db, Relation, View, relation_at, view_at}
-use Rattle.calculus.specs.Catalogue.{catalogue_at, catalogue_info_at}
+use Rattle.calculus.specs.Catalogue.{catalogue_at}
 
 -- rows that are kept, or a view
 pub data Range : Type 0 where
@@ -21,13 +21,14 @@ range_at db key = elim (relation_at db key) [
   | None ↦ elim (view_at db key) [ Some view ↦ Some (Viewed view) | None ↦ option_map Kept (catalogue_at db key) ]
 ]
 
--- what is known, without rows, of the base relation or view under a key
-abbrev pub relation_or_view_at : Db → RelKey → Option RelInfo
-relation_or_view_at db key = elim (relation_at db key) [ Some relation ↦ Some relation.info | None ↦ option_map (λ v. v.info) (view_at db key) ]
+-- what is known of it without its rows
+abbrev pub range_info : Range → RelInfo
+range_info (Kept relation) = relation.info
+range_info (Viewed view) = view.info
 
 -- what is known, without rows, of the base relation, view or catalogue under a key
 unfoldable pub info_at : Db → RelKey → Option RelInfo
-info_at db key = elim (relation_or_view_at db key) [ Some info ↦ Some info | None ↦ catalogue_info_at db key ]
+info_at db key = option_map range_info (range_at db key)
 
 -- the rows that are kept
 abbrev pub kept_rows : Option Range → List Row

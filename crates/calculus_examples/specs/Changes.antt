@@ -1,9 +1,9 @@
 -- A database with an index, a rule and permits, and changes of it.
 use Rattle.calculus.specs.Catalogue.{attribute_info}
-use Rattle.calculus.specs.Change.{laid, adds_what_is_new, names_what_is_there, lists_once}
+use Rattle.calculus.specs.Change.{laid, adds_what_is_new, names_what_is_there, lists_once, IsLawful}
 use Rattle.calculus.specs.Database.{Index}
 use Rattle.calculus.specs.Finding.{found}
-use Rattle.calculus.specs.IsDatabase.{IsDatabase, IsLawful, row_fits}
+use Rattle.calculus.specs.IsDatabase.{IsDatabase, row_fits}
 use Rattle.calculus.specs.declared.change.DbChange.TheVariants as change
 use Rattle.calculus.specs.declared.change.DbChange.{DbChange}
 use Rattle.calculus.specs.declared.schema.Permit.{Permit}

@@ -1,7 +1,7 @@
 -- Views over one and two relations, and a database that holds them.
 use Rattle.calculus.specs.Answer.{answer}
-use Rattle.calculus.specs.Change.{laid}
-use Rattle.calculus.specs.IsDatabase.{IsDatabase, IsLawful, vars_are_there}
+use Rattle.calculus.specs.Change.{laid, IsLawful}
+use Rattle.calculus.specs.IsDatabase.{IsDatabase, vars_are_there}
 use Rattle.calculus.specs.Sizes.{expanded_variables, level_of, query_size}
 use Rattle.calculus.specs.declared.change.DbChange.TheVariants as change
 use Rattle.calculus_examples.specs.Small.{key, num, text, attr, relation, view, target, asks, fold_of}
