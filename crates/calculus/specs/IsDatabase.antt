@@ -1,4 +1,4 @@
--- What makes a database one: every fact by its name.
+-- What a database is: every fact by its name.
 use Rattle.std.specs.Prelude.{ℕ, Bool, true, false, not, ◌&&◌, nat_eq, nat_le, nat_lt, bytes_eq, IsTrue, List, [], ◌∷◌, map, length, sum_by, Option, Some, None, is_some}
 use Rattle.std.specs.List.{AllByRecursion, list_all}
 use Rattle.std.specs.List.Sorted.{IsStrictlySortedBy}
@@ -135,7 +135,7 @@ same_kind Wide (Of e) = false
 same_kind (Of d) Wide = false
 same_kind (Of d) (Of e) = same_domain d e
 
--- what a view is, has no keys
+-- a view is kept as a view, and has no keys
 abbrev pub view_info_stands : RelInfo → Bool
 view_info_stands info = elim info.spec [ spec.Heap ↦ false | spec.Hash ↦ false | spec.Isam ↦ false | spec.View ↦ not (is_any info.keys) | spec.Index ↦ false ]
 
@@ -218,6 +218,7 @@ pub record IsDatabase (db : Db) : Type 0 where
   -- the limits hold
   pub few_entries : IsTrue (nat_le (length (entries db)) most_entries)
   pub few_rows : IsTrue (list_all (λ r. nat_le (length r.rows) most_rows) db.relations)
+  pub few_listed_variables : IsTrue (list_all (λ v. nat_le (length (vars_of v.query)) most_expanded_variables) db.views)
   pub few_variables : IsTrue (list_all (λ v. nat_le (variables v.query) most_variables) db.views)
   pub few_expanded_variables : IsTrue (list_all (λ v. nat_le (expanded_variables db v.query) most_expanded_variables) db.views)
   pub small_views : IsTrue (list_all (λ v. nat_le (query_size db v.query) greatest_size) db.views)

@@ -1,5 +1,5 @@
 -- Whether all that a query or an update reads and changes is permitted, whatever the rows.
-use Rattle.std.specs.Prelude.{ℕ, zero, suc, Bool, true, false, ◌&&◌, not, ◌==◌, List, [], ◌∷◌, filter, Option, Some, None}
+use Rattle.std.specs.Prelude.{ℕ, zero, suc, Bool, true, false, ◌&&◌, not, List, [], ◌∷◌, filter, Option, Some, None}
 use Rattle.std.specs.List.{list_all}
 use Rattle.calculus.specs.declared.query.RelKey.{RelKey}
 use Rattle.calculus.specs.declared.query.AggSource.{AggSource, Named}
@@ -14,7 +14,7 @@ use Rattle.calculus.specs.Stored.{Range, Kept, Viewed, range_at}
 use Rattle.calculus.specs.Rights.{Right, Retrieve, Append, permitted}
 use Rattle.calculus.specs.QueryParts.{query_aggregates}
 use Rattle.calculus.specs.Used.{used_in_query, used_in_aggregate, used_vars}
-use Rattle.calculus.specs.Assignments.{changed}
+use Rattle.calculus.specs.Assignments.{changed, is_changed}
 
 -- whether these attributes of what has this key may be read
 abbrev pub Reads : Type 0
@@ -70,12 +70,8 @@ target_permitted db who u = elim u.op [
     changing : Bool
     changing = elim (changed u) [ None ↦ true | Some c ↦ change_permitted db who c.1 u.places u.rel (used_in_query c.0 u.query) ]
 
--- the place is not that of the variable that is replaced or deleted
-abbrev pub is_unchanged : Update → ℕ → Bool
-is_unchanged u v = elim (changed u) [ None ↦ true | Some c ↦ not (c.0 == v) ]
-
 -- an update is permitted: the relation may be so changed, and each other used variable and each aggregate may be read
 unfoldable pub update_permitted : Db → Who → Update → Bool
 update_permitted db who u =
     target_permitted db who u
-    && (vars_permitted (readable db who) u.query (filter (λ p. is_unchanged u p.0) (used_vars u.query)) && aggregates_permitted (readable db who) u.query)
+    && (vars_permitted (readable db who) u.query (filter (λ p. not (is_changed u p.0)) (used_vars u.query)) && aggregates_permitted (readable db who) u.query)

@@ -20,7 +20,7 @@ targets_of (Query' vars marks targets qual) = items-the_row-Target _ targets
 abbrev pub qual_of : Query → QQual
 qual_of (Query' vars marks targets qual) = qual
 
--- the aggregate that a term of that form holds
+-- the aggregate that a term is, as a list of one
 abbrev pub aggregates_of : {n : _} → Row_of-QAgg n → List QAgg
 aggregates_of end_of-QAgg = []
 aggregates_of (more_of-QAgg slot op source arg bys by links link qual rest) =

@@ -1,5 +1,6 @@
 -- How large queries and views are once the views in them are put in: levels, variables and sizes, each from what is known of the views below.
-use Rattle.std.specs.Prelude.{ℕ, zero, suc, ◌+◌, max, List, [], ◌∷◌, map, length, sum, sum_by, slice_get, Option, Some, None, option_map, unwrap_or}
+use Rattle.std.specs.Prelude.{ℕ, zero, suc, ◌+◌, max, ◌||◌, filter, List, [], ◌∷◌, map, length, sum, sum_by, slice_get, Option, Some, None, option_map, unwrap_or}
+use Rattle.std.specs.List.{enumerate_from}
 use Rattle.calculus.specs.declared.query.RelKey.{RelKey}
 use Rattle.calculus.specs.declared.query.AggSource.{AggSource, Named}
 use Rattle.calculus.specs.declared.query.QTerm.{QTerm, Int, Chars, Attr, Agg'}
@@ -10,7 +11,10 @@ use Rattle.calculus.specs.Limits.{greatest_level}
 use Rattle.calculus.specs.Database.{Db, View}
 use Rattle.calculus.specs.Stored.{Range, Kept, Viewed, range_at}
 use Rattle.calculus.specs.QueryParts.{vars_of, targets_of, qual_of, query_aggregates}
-use Rattle.calculus.specs.Used.{used_vars}
+use Rattle.calculus.specs.Lists.{is_any}
+use Rattle.calculus.specs.Used.{used_in_query, used_vars}
+use Rattle.calculus.specs.Assignments.{is_changed}
+use Rattle.calculus.specs.declared.request.Update.{Update}
 
 -- ---- levels
 
@@ -94,7 +98,7 @@ Known = RelKey → Measure
 abbrev pub measures : Known → Query → Measures
 measures known q = map known (vars_of q)
 
--- a view: the variables that it uses, the sizes of its targets, and its qualification with that of each variable that it uses
+-- a query: the variables that it uses, once expanded; the sizes of its targets; and the size of its qualification with that of each variable that it uses
 abbrev pub query_measure : Known → Query → Measure
 query_measure known q = record {
   variables = sum_by (λ p. (known p.1).variables) (used_vars q);
@@ -135,3 +139,22 @@ source_variables known (rows_of_query q) = (query_measure known q).variables
 -- the variables of a query once the views in it are put in
 unfoldable pub expanded_variables : Db → Query → ℕ
 expanded_variables db q = (query_measure (measure_of db) q).variables + sum_by (λ g. source_variables (measure_of db) g.source) (query_aggregates q)
+
+-- ---- updates, and views that aren't there yet
+
+-- the variables of an update that count: those that are used, and the one whose rows are replaced or deleted
+abbrev pub update_vars : Update → List (ℕ × RelKey)
+update_vars u = filter (λ p. is_any (used_in_query p.0 u.query) || is_changed u p.0) (enumerate_from 0 (vars_of u.query))
+
+-- the variables of an update as it stands: those that count, and one for each aggregate
+unfoldable pub update_variables : Update → ℕ
+update_variables u = length (update_vars u) + length (query_aggregates u.query)
+
+-- the variables of an update once the views in it are put in
+unfoldable pub update_expanded_variables : Db → Update → ℕ
+update_expanded_variables db u =
+    sum_by (λ p. (measure_of db p.1).variables) (update_vars u) + sum_by (λ g. source_variables (measure_of db) g.source) (query_aggregates u.query)
+
+-- the level that a view of this query would have; none where it names something of none
+unfoldable pub query_level : Db → Query → Option ℕ
+query_level db q = level_above (map (level_of db) (vars_of q))

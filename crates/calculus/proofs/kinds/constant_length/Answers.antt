@@ -6,8 +6,8 @@ use Rattle.calculus.proofs.kinds.constant_length.Goals as goal
 pub bytes-preserved-then-mark-ne32 : goal.bytes-preserved-then-mark-ne32
 bytes-preserved-then-mark-ne32 c = record {
   counted = byte_read c.in-Some.mark.byte (search rules) c.bytes.read c.bytes.kept (constant_text c.in-Some.behind.now)
-    ∙ ap (kept_with c.bytes.read c.bytes.kept) (sym (text_step _ _ _ c.in-Some.ensures.first))
-    ∙ c.bytes.invariant.counted;
+      ∙ ap (kept_with c.bytes.read c.bytes.kept) (sym (text_step _ _ _ c.in-Some.ensures.first))
+      ∙ c.bytes.invariant.counted;
   within = omega (arith, c.in-Some.ensures.shorter, c.bytes.invariant.within);
   below = search rules;
 }
@@ -15,8 +15,8 @@ bytes-preserved-then-mark-ne32 c = record {
 pub bytes-preserved : goal.bytes-preserved
 bytes-preserved c = record {
   counted = blank_read c.in-Some.mark.byte c.if-mark-ne32.false c.bytes.read c.bytes.kept (constant_text c.in-Some.behind.now)
-    ∙ ap (kept_with c.bytes.read c.bytes.kept) (sym (text_step _ _ _ c.in-Some.ensures.first))
-    ∙ c.bytes.invariant.counted;
+      ∙ ap (kept_with c.bytes.read c.bytes.kept) (sym (text_step _ _ _ c.in-Some.ensures.first))
+      ∙ c.bytes.invariant.counted;
   within = omega (arith, c.in-Some.ensures.shorter, c.bytes.invariant.within);
   below = omega (arith, c.bytes.invariant.below);
 }
