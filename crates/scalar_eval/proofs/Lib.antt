@@ -1,2 +1,4 @@
 pub mod Powers
 pub mod Wide
+pub mod Texts
+pub mod Groups

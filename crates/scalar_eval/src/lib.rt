@@ -2,7 +2,11 @@
 #![tactic(auto)]
 
 mod assigned;
+mod constant;
 mod number;
+mod truth;
+mod values;
 
 pub use assigned::Assigned;
 pub use calculus::OutOfMemory;
+pub use values::value_of;
