@@ -1,4 +1,8 @@
 pub mod Powers
 pub mod Wide
+pub mod Marks
+pub mod Unpadded
+pub mod Items
+pub mod Walking
 pub mod Texts
 pub mod Groups

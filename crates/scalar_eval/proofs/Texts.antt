@@ -6,21 +6,13 @@ use Rattle.std.proofs.lemmas.Bool.{le-leb}
 use Rattle.std.proofs.lemmas.List.{append-nil}
 use Rattle.calculus.specs.Chars.{is_printable, is_chars}
 use Rattle.calculus.specs.Text.{is_blank, is_text, ends_without_blank, before_trimmed, trimmed, text_of}
-use Rattle.calculus.specs.Constant.{mark, marks, marks_behind, plain_bytes, constant_text}
+use Rattle.calculus.specs.Constant.{marks, marks_behind, plain_bytes, constant_text}
 use Rattle.calculus.specs.Term.{joined_text}
-use Rattle.calculus.specs.declared.mark.Mark.{Mark}
+use Rattle.scalar_eval.proofs.Marks.{slash, itself}
 use Rattle.calculus.specs.declared.value.Value.{Value}
 use Rattle.calculus.specs.declared.value.Value.TheVariants as value
 
 -- ---- constants
-
--- a backslash that isn't plain makes the byte behind it plain
-slash : (b : ℕ) (bs : List ℕ) → (b == 92) ≡ true → marks_behind false (b ∷ bs) ≡ marks_behind true bs
-slash b bs e = ap (λ u. elim u [ true ↦ marks_behind true bs | false ↦ mark b false ∷ marks_behind false bs ]) e
-
--- any other byte is itself
-itself : (b : ℕ) (bs : List ℕ) → (b == 92) ≡ false → marks_behind false (b ∷ bs) ≡ mark b false ∷ marks_behind false bs
-itself b bs e = ap (λ u. elim u [ true ↦ marks_behind true bs | false ↦ mark b false ∷ marks_behind false bs ]) e
 
 by_byte : (t : Bool) (b : ℕ) → (b == 92) ≡ t → (bs : List ℕ) → IsTrue (is_printable b)
     → IsTrue (list_all is_printable (plain_bytes (marks_behind true bs))) → IsTrue (list_all is_printable (plain_bytes (marks_behind false bs)))
@@ -65,10 +57,6 @@ trimmed_length (b ∷ bs) = omega (arith, by_trimmed (is_blank b) b refl (trimme
 of_bytes : (bs : List ℕ) → IsTrue (list_all is_printable bs) → length (trimmed bs) ≤ 255 → text_of bs ≡ Some (trimmed bs)
 unfolding text_of
 of_bytes bs h l = rw (h, le-leb (length (trimmed bs)) 255 l) refl
-
-pub marks_of_none : marks [] ≡ []
-unfolding marks
-marks_of_none = refl
 
 -- at the end all bytes are read
 pub read_at_end : (bytes rest whole : List ℕ) → bytes ++ plain_bytes (marks rest) ≡ whole → rest ≡ [] → bytes ≡ whole

@@ -2,11 +2,14 @@
 #![tactic(auto)]
 
 mod assigned;
+mod class;
 mod constant;
 mod number;
+mod pattern;
 mod truth;
 mod values;
 
 pub use assigned::Assigned;
 pub use calculus::OutOfMemory;
+pub use pattern::like;
 pub use values::value_of;
