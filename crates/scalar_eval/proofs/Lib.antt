@@ -6,3 +6,5 @@ pub mod Items
 pub mod Walking
 pub mod Texts
 pub mod Groups
+pub mod Relation
+mod Worked

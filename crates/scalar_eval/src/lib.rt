@@ -4,6 +4,7 @@
 mod assigned;
 mod class;
 mod constant;
+mod laws;
 mod number;
 mod pattern;
 mod truth;
@@ -11,5 +12,7 @@ mod values;
 
 pub use assigned::Assigned;
 pub use calculus::OutOfMemory;
+pub use laws::matches_are_by_the_relation;
 pub use pattern::like;
+pub use truth::holds;
 pub use values::value_of;
