@@ -9,7 +9,8 @@ use Rattle.calculus.specs.declared.statement.Qual.{Qual}
 use Rattle.calculus.specs.declared.statement.Qual.TheVariants.{And, Or, Not}
 use Rattle.calculus.specs.declared.statement.Term.{Term, Agg', Row_of-Term, more_of-Term, items-the_row-Term, end_of-AggTerm, more_of-AggTerm}
 use Rattle.calculus.specs.declared.statement.Term.TheVariants.{Neg, Abs, Arith, Concat, Agg}
-use Rattle.calculus.specs.Written.{neg, abs, operation, concat, agg, marks, row_of_terms, both, either, negated}
+use Rattle.calculus.specs.Tree.{marks_for}
+use Rattle.calculus.specs.Written.{neg, abs, operation, concat, aggregate, term_row, both, either, negated}
 
 pub neg_is : (t : Term) → Neg t ≡ neg t
 unfolding shape-the_row-Term-1 hidden-the_row-Term-1 hidden
@@ -40,16 +41,16 @@ unfolding shape-the_row-Qual-0 hidden-the_row-Qual-0 hidden
 negated_is p = refl
 
 -- the shape and the row of a list of terms, as the program makes them
-pub terms_is : (ts : List Term) → ◌≡◌ {A = (s : List (Unit {0})) × Row_of-Term (arity (list this) s)} (shape-the_row-Term-2 ts, hidden-the_row-Term-2 ts) (marks ts, row_of_terms ts)
+pub terms_is : (ts : List Term) → ◌≡◌ {A = (s : List (Unit {0})) × Row_of-Term (arity (list this) s)} (shape-the_row-Term-2 ts, hidden-the_row-Term-2 ts) (marks_for ts, term_row ts)
 unfolding shape-the_row-Term-2 hidden-the_row-Term-2 hidden
 terms_is [] = refl
 terms_is (t ∷ ts) = ap (λ p. (tt ∷ p.0, more_of-Term t p.1)) (terms_is ts)
 
-pub agg_is : (a : AggTerm) → Agg a ≡ agg a
+pub agg_is : (a : AggTerm) → Agg a ≡ aggregate a
 unfolding shape-the_row-AggTerm-3 hidden-the_row-AggTerm-3 hidden
 agg_is a = λ i. Agg' tt (more_of-AggTerm a.op a.arg (terms_is a.by i).0 (terms_is a.by i).1 a.qual end_of-AggTerm)
 
 -- what the row holds is the list
-pub items_of_terms : (ts : List Term) → items-the_row-Term _ (row_of_terms ts) ≡ ts
+pub items_of_terms : (ts : List Term) → items-the_row-Term _ (term_row ts) ≡ ts
 items_of_terms [] = refl
 items_of_terms (t ∷ ts) = ap (λ us. t ∷ us) (items_of_terms ts)

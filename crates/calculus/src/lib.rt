@@ -4,6 +4,8 @@
 mod agg_table;
 mod change;
 mod copies;
+mod kinds;
+mod mark;
 mod name;
 mod operator;
 mod probe;
@@ -19,6 +21,8 @@ mod value;
 
 pub use agg_table::AggTable;
 pub use change::{Change, DbChange, Pair};
+pub use kinds::{kind_of, kinds_fit};
+pub use mark::{Mark, next_mark};
 pub use memory::{Boxed, List, OutOfMemory, TryCopy};
 pub use name::{Name, is_name};
 pub use operator::{AggOp, ArithOp, CmpOp};

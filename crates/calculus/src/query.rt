@@ -9,7 +9,7 @@ use crate::{Boxed, Chars, List, Name};
 pub struct RelKey {
     /// Its owner.
     pub owner: Name,
-    /// Its name, of which the owner has no other.
+    /// Its name, which its owner has given to nothing else.
     pub name: Name,
 }
 

@@ -242,3 +242,30 @@ fn many_rows_are_put_in_order(rt: HostRuntime) -> Result<(), Fail> {
     assert_eq!(rt; set, RowSet::of_rows(rows));
     Ok(())
 }
+
+#[test]
+fn kinds_of_terms_are_found(rt: HostRuntime) -> Result<(), Fail> {
+    let alloc = rt.alloc();
+    let mut attrs = Vec::new(alloc);
+    attrs.push(Kind::Of(Domain::I2))?;
+    attrs.push(Kind::Of(Domain::C(3)))?;
+    let mut vars = Vec::new(alloc);
+    vars.push(attrs)?;
+    let vars = vars.as_slice();
+    for (attr, kind, negated) in [
+        (0, Some(Kind::Of(Domain::I2)), Some(Kind::Wide)),
+        (1, Some(Kind::Of(Domain::C(3))), None),
+        (2, None, None),
+    ] {
+        let term = QTerm::Attr { var: 0, attr };
+        assert_eq!(rt; kind_of(&term, vars), kind);
+        let negative = QTerm::Neg(Boxed::new(alloc, term)?);
+        assert_eq!(rt; kind_of(&negative, vars), negated);
+        let (op, left, right) = (CmpOp::Eq, QTerm::Int(1), negative);
+        assert_eq!(rt;
+            kinds_fit(&QQual::Cmp { op, left, right }, vars),
+            negated.is_some()
+        );
+    }
+    Ok(())
+}

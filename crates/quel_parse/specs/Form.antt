@@ -1,7 +1,6 @@
--- Batches of the first form: a relation is made, gets a row, gets a variable, and is asked.
-use Rattle.std.specs.Prelude.{ℕ, Bool, true, false, List, [], ◌∷◌, Option, Some, None, nat_le, ◌||◌, ◌&&◌, ◌==◌, not, if◌then◌else◌, codes, pos}
+-- Batches of the first form: a relation is made, gains a row, gets a range variable, and is asked.
+use Rattle.std.specs.Prelude.{◌≡◌, ℕ, Bool, true, false, List, [], ◌∷◌, ◌++◌, Option, Some, None, IsTrue, length, slice_get, option_and_then, nat_le, nat_lt, ◌||◌, ◌&&◌, not, if◌then◌else◌, codes, pos}
 use Rattle.std.specs.Str.{bytes_eq}
-use Rattle.std.specs.List.{list_any}
 use Rattle.calculus.specs.declared.value.Domain.TheVariants as domains
 use Rattle.calculus.specs.declared.operator.CmpOp.{CmpOp}
 use Rattle.calculus.specs.declared.operator.CmpOp.TheVariants as comparisons
@@ -11,208 +10,143 @@ use Rattle.calculus.specs.declared.statement.Qual.TheVariants as quals
 use Rattle.calculus.specs.declared.statement.Item.TheVariants as items
 use Rattle.calculus.specs.declared.statement.Statement.{Statement}
 use Rattle.calculus.specs.declared.statement.Statement.TheVariants as statements
-use Rattle.quel_parse.specs.declared.token.Symbol.{Symbol}
-use Rattle.quel_parse.specs.declared.token.Symbol.TheVariants as symbols
+use Rattle.quel_parse.specs.declared.token.Mark.{Mark}
+use Rattle.quel_parse.specs.declared.token.Mark.TheVariants as marks
 use Rattle.quel_parse.specs.declared.token.Token.{Token}
-use Rattle.quel_parse.specs.declared.token.Token.TheVariants.{Word, Int, Symbol as Sym}
+use Rattle.quel_parse.specs.declared.token.Token.TheVariants.{Name, Int, Mark as Fixed}
+use Rattle.quel_parse.specs.Token.{same_tokens}
 use Rattle.quel_parse.specs.Lexer.{tokens_of}
 
--- what a batch of the first form says
+-- what a batch of the first form says: the relation, its attribute, the range variable over it, the value of the row, and maybe a test of the attribute
 pub record Asked : Type 0 where
-  pub rel : List ℕ
-  pub attr : List ℕ
-  pub var : List ℕ
+  pub relation : List ℕ
+  pub attribute : List ℕ
+  pub variable : List ℕ
   pub value : ℕ
   pub test : Option (CmpOp × ℕ)
 
-abbrev pub reserved_words : List (List ℕ)
-reserved_words = codes "all" ∷ codes "append" ∷ codes "by" ∷ codes "copy" ∷ codes "create" ∷ codes "define" ∷ codes "delete" ∷ codes "destroy" ∷ codes "from" ∷ codes "help" ∷ codes "index" ∷ codes "integrity" ∷ codes "into" ∷ codes "is" ∷ codes "modify" ∷ codes "not" ∷ codes "of" ∷ codes "on" ∷ codes "or" ∷ codes "permit" ∷ codes "print" ∷ codes "range" ∷ codes "replace" ∷ codes "retrieve" ∷ codes "sort" ∷ codes "to" ∷ codes "unique" ∷ codes "view" ∷ codes "where" ∷ codes "and" ∷ []
+-- create R ( A = i2 )
+abbrev pub create_spelling : List ℕ → List ℕ → List Token
+create_spelling relation attribute =
+    Fixed marks.Create ∷ Name relation ∷ Fixed marks.Open ∷ Name attribute ∷ Fixed marks.Equal ∷ Name (codes "i2") ∷ Fixed marks.Close ∷ []
 
-abbrev pub is_reserved : List ℕ → Bool
-is_reserved word = list_any (λ w. bytes_eq w word) reserved_words
+-- append to R ( A = INT )
+abbrev pub append_spelling : List ℕ → List ℕ → ℕ → List Token
+append_spelling relation attribute value =
+    Fixed marks.Append ∷ Fixed marks.To ∷ Name relation ∷ Fixed marks.Open ∷ Name attribute ∷ Fixed marks.Equal ∷ Int value ∷ Fixed marks.Close ∷ []
 
-infixl 10 ◌>>=◌
-abbrev pub ◌>>=◌ : {A B : Type 0} → Option A → (A → Option B) → Option B
-(Some x) >>= f = f x
-None >>= f = None
-
--- nothing follows
-abbrev pub at_end : {A : Type 0} → List Token → A → Option A
-at_end [] x = Some x
-at_end (t ∷ ts) x = None
-
-abbrev pub symbol_number : Symbol → ℕ
-symbol_number symbols.Open = 0
-symbol_number symbols.Close = 1
-symbol_number symbols.Comma = 2
-symbol_number symbols.Dot = 3
-symbol_number symbols.Colon = 4
-symbol_number symbols.Equal = 5
-symbol_number symbols.NotEqual = 6
-symbol_number symbols.Less = 7
-symbol_number symbols.LessEqual = 8
-symbol_number symbols.Greater = 9
-symbol_number symbols.GreaterEqual = 10
-symbol_number symbols.Plus = 11
-symbol_number symbols.Minus = 12
-symbol_number symbols.Times = 13
-symbol_number symbols.Divide = 14
-symbol_number symbols.Power = 15
-
-abbrev pub same_symbol : Symbol → Symbol → Bool
-same_symbol a b = symbol_number a == symbol_number b
-
--- what stands after this word at the front
-abbrev pub after_word : List ℕ → List Token → Option (List Token)
-after_word w (Word v ∷ ts) = if bytes_eq v w then Some ts else None
-after_word w (Int n ∷ ts) = None
-after_word w (Sym s ∷ ts) = None
-after_word w [] = None
-
--- what stands after this symbol at the front
-abbrev pub after_symbol : Symbol → List Token → Option (List Token)
-after_symbol s (Sym t ∷ ts) = if same_symbol t s then Some ts else None
-after_symbol s (Word v ∷ ts) = None
-after_symbol s (Int n ∷ ts) = None
-after_symbol s [] = None
-
--- a name at the front, and what stands after it
-abbrev pub name_at : List Token → Option (List ℕ × List Token)
-name_at (Word v ∷ ts) = if is_reserved v then None else Some (v, ts)
-name_at (Int n ∷ ts) = None
-name_at (Sym s ∷ ts) = None
-name_at [] = None
-
--- a small number at the front, and what stands after it
-abbrev pub int_at : List Token → Option (ℕ × List Token)
-int_at (Int n ∷ ts) = if nat_le n 32767 then Some (n, ts) else None
-int_at (Word v ∷ ts) = None
-int_at (Sym s ∷ ts) = None
-int_at [] = None
-
-abbrev pub comparison_of : Symbol → Option CmpOp
-comparison_of symbols.Equal = Some comparisons.Eq
-comparison_of symbols.NotEqual = Some comparisons.Ne
-comparison_of symbols.Less = Some comparisons.Lt
-comparison_of symbols.LessEqual = Some comparisons.Le
-comparison_of symbols.Greater = Some comparisons.Gt
-comparison_of symbols.GreaterEqual = Some comparisons.Ge
-comparison_of symbols.Open = None
-comparison_of symbols.Close = None
-comparison_of symbols.Comma = None
-comparison_of symbols.Dot = None
-comparison_of symbols.Colon = None
-comparison_of symbols.Plus = None
-comparison_of symbols.Minus = None
-comparison_of symbols.Times = None
-comparison_of symbols.Divide = None
-comparison_of symbols.Power = None
-
-abbrev pub comparison_at : List Token → Option (CmpOp × List Token)
-comparison_at (Sym s ∷ ts) = comparison_of s >>= λ op. Some (op, ts)
-comparison_at (Word v ∷ ts) = None
-comparison_at (Int n ∷ ts) = None
-comparison_at [] = None
-
-unfoldable pub create_at : List Token → Option ((List ℕ × List ℕ) × List Token)
-create_at ts = do
-  a ← after_word (codes "create") ts
-  rel ← name_at a
-  b ← after_symbol symbols.Open rel.1
-  attr ← name_at b
-  c ← after_symbol symbols.Equal attr.1
-  d ← after_word (codes "i2") c
-  e ← after_symbol symbols.Close d
-  Some ((rel.0, attr.0), e)
-
-unfoldable pub append_at : List ℕ → List ℕ → List Token → Option (ℕ × List Token)
-append_at rel attr ts = do
-  a ← after_word (codes "append") ts
-  b ← after_word (codes "to") a
-  c ← after_word rel b
-  d ← after_symbol symbols.Open c
-  e ← after_word attr d
-  f ← after_symbol symbols.Equal e
-  value ← int_at f
-  g ← after_symbol symbols.Close value.1
-  Some (value.0, g)
-
-unfoldable pub range_at : List ℕ → List Token → Option (List ℕ × List Token)
-range_at rel ts = do
-  a ← after_word (codes "range") ts
-  b ← after_word (codes "of") a
-  var ← name_at b
-  c ← after_word (codes "is") var.1
-  d ← after_word rel c
-  Some (var.0, d)
-
+-- range of V is R
 abbrev pub range_spelling : List ℕ → List ℕ → List Token
-range_spelling rel var = Word (codes "range") ∷ Word (codes "of") ∷ Word var ∷ Word (codes "is") ∷ Word rel ∷ []
+range_spelling variable relation = Fixed marks.Range ∷ Fixed marks.Of ∷ Name variable ∷ Fixed marks.Is ∷ Name relation ∷ []
 
-unfoldable pub attr_at : List ℕ → List ℕ → List Token → Option (List Token)
-attr_at var attr ts = do
-  a ← after_word var ts
-  b ← after_symbol symbols.Dot a
-  after_word attr b
+-- retrieve ( V . A )
+abbrev pub retrieve_spelling : List ℕ → List ℕ → List Token
+retrieve_spelling variable attribute =
+    Fixed marks.Retrieve ∷ Fixed marks.Open ∷ Name variable ∷ Fixed marks.Dot ∷ Name attribute ∷ Fixed marks.Close ∷ []
 
-unfoldable pub retrieve_at : List ℕ → List ℕ → List Token → Option (List Token)
-retrieve_at var attr ts = do
-  a ← after_word (codes "retrieve") ts
-  b ← after_symbol symbols.Open a
-  c ← attr_at var attr b
-  after_symbol symbols.Close c
+-- = != < <= > >=
+abbrev pub comparison_spelling : CmpOp → Mark
+comparison_spelling comparisons.Eq = marks.Equal
+comparison_spelling comparisons.Ne = marks.NotEqual
+comparison_spelling comparisons.Lt = marks.Less
+comparison_spelling comparisons.Le = marks.LessEqual
+comparison_spelling comparisons.Gt = marks.Greater
+comparison_spelling comparisons.Ge = marks.GreaterEqual
 
-unfoldable pub where_at : List ℕ → List ℕ → List Token → Option (CmpOp × ℕ)
-where_at var attr ts = do
-  a ← after_word (codes "where") ts
-  b ← attr_at var attr a
-  op ← comparison_at b
-  n ← int_at op.1
-  at_end n.1 (op.0, n.0)
+-- where V . A cmp INT, or nothing
+abbrev pub where_spelling : List ℕ → List ℕ → Option (CmpOp × ℕ) → List Token
+where_spelling variable attribute None = []
+where_spelling variable attribute (Some test) =
+    Fixed marks.Where ∷ Name variable ∷ Fixed marks.Dot ∷ Name attribute ∷ Fixed (comparison_spelling test.0) ∷ Int test.1 ∷ []
 
--- a test to the end of the batch, or its end
-unfoldable pub test_at : List ℕ → List ℕ → List Token → Option (Option (CmpOp × ℕ))
-test_at var attr [] = Some None
-test_at var attr (t ∷ ts) = do
-  x ← where_at var attr (t ∷ ts)
-  Some (Some x)
+-- the tokens of the four statements, in order
+abbrev pub spelling : Asked → List Token
+spelling asked =
+    create_spelling asked.relation asked.attribute
+    ++ append_spelling asked.relation asked.attribute asked.value
+    ++ range_spelling asked.variable asked.relation
+    ++ retrieve_spelling asked.variable asked.attribute
+    ++ where_spelling asked.variable asked.attribute asked.test
 
+-- the name that a token says, or an empty one
+abbrev pub name_said : Option Token → List ℕ
+name_said (Some (Name name)) = name
+name_said _ = []
+
+-- the number that a token says, or 0
+abbrev pub number_said : Option Token → ℕ
+number_said (Some (Int number)) = number
+number_said _ = 0
+
+-- the comparison that a token says, or `=`
+abbrev pub comparison_said : Option Token → CmpOp
+comparison_said (Some (Fixed marks.NotEqual)) = comparisons.Ne
+comparison_said (Some (Fixed marks.Less)) = comparisons.Lt
+comparison_said (Some (Fixed marks.LessEqual)) = comparisons.Le
+comparison_said (Some (Fixed marks.Greater)) = comparisons.Gt
+comparison_said (Some (Fixed marks.GreaterEqual)) = comparisons.Ge
+comparison_said _ = comparisons.Eq
+
+-- what tokens say at the places of a spelling, counted from 0: a test where there is a token behind the list of targets
+abbrev pub said : List Token → Asked
+said ts = record {
+  relation = name_said (slice_get ts 1);
+  attribute = name_said (slice_get ts 3);
+  variable = name_said (slice_get ts 17);
+  value = number_said (slice_get ts 13);
+  test = if nat_lt 26 (length ts) then Some (comparison_said (slice_get ts 30), number_said (slice_get ts 31)) else None;
+}
+
+-- a name of the catalogue
 abbrev pub is_catalogue : List ℕ → Bool
-is_catalogue rel = bytes_eq rel (codes "relation") || bytes_eq rel (codes "attribute")
+is_catalogue relation = bytes_eq relation (codes "relation") || bytes_eq relation (codes "attribute")
 
-unfoldable pub asked_at : List Token → Option Asked
-asked_at ts = do
-  made ← create_at ts
-  value ← append_at made.0.0 made.0.1 made.1
-  var ← range_at made.0.0 value.1
-  a ← retrieve_at var.0 made.0.1 var.1
-  test ← test_at var.0 made.0.1 a
-  if is_catalogue made.0.0 then None else Some (record { rel = made.0.0; attr = made.0.1; var = var.0; value = value.0; test = test })
+-- a number in a test is at most 32,767
+abbrev pub is_small_test : Option (CmpOp × ℕ) → Bool
+is_small_test None = true
+is_small_test (Some test) = nat_le test.1 32767
 
-abbrev pub qual_of : Asked → Qual
-qual_of asked = elim asked.test [ None ↦ quals.True | Some t ↦ quals.Cmp t.0 (terms.Attr asked.var asked.attr) (terms.Int (pos t.1)) ]
+-- the numbers are at most 32,767, and the relation isn't one of the catalogue
+abbrev pub is_lawful : Asked → Bool
+is_lawful asked = nat_le asked.value 32767 && is_small_test asked.test && not (is_catalogue asked.relation)
 
+-- create R ( A = i2 )
 abbrev pub create_of : Asked → Statement
-create_of asked = statements.Create asked.rel ((asked.attr, domains.I2) ∷ [])
+create_of asked = statements.Create asked.relation ((asked.attribute, domains.I2) ∷ [])
 
+-- append to R ( A = INT )
 abbrev pub append_of : Asked → Statement
-append_of asked = statements.Append asked.rel (items.Set asked.attr (terms.Int (pos asked.value)) ∷ []) quals.True
+append_of asked = statements.Append asked.relation (items.Set asked.attribute (terms.Int (pos asked.value)) ∷ []) quals.True
 
+-- range of V is R
 abbrev pub range_of : Asked → Statement
-range_of asked = statements.Range asked.var asked.rel
+range_of asked = statements.Range asked.variable asked.relation
 
+-- where V . A cmp INT, or no qualification
+abbrev pub qual_of : List ℕ → List ℕ → Option (CmpOp × ℕ) → Qual
+qual_of variable attribute None = quals.True
+qual_of variable attribute (Some test) = quals.Cmp test.0 (terms.Attr variable attribute) (terms.Int (pos test.1))
+
+-- retrieve ( V . A ) with the qualification, neither kept nor sorted
 abbrev pub retrieve_of : Asked → Statement
-retrieve_of asked = statements.Retrieve None (items.Attr asked.var asked.attr ∷ []) (qual_of asked) []
+retrieve_of asked = statements.Retrieve None (items.Attr asked.variable asked.attribute ∷ []) (qual_of asked.variable asked.attribute asked.test) []
 
--- the four statements of a batch of the first form
+-- the four statements, in order
 abbrev pub statements_of : Asked → List Statement
 statements_of asked = create_of asked ∷ append_of asked ∷ range_of asked ∷ retrieve_of asked ∷ []
 
+-- tokens are the spelling of what they say at its places, and that is lawful
+unfoldable pub is_spelling : List Token → Bool
+is_spelling ts = same_tokens ts (spelling (said ts)) && is_lawful (said ts)
+
+-- the statements of a batch of the first form: its tokens are a lawful spelling, and the statements are what they say
 unfoldable pub first_form : List ℕ → Option (List Statement)
-first_form batch = do
-  ts ← tokens_of batch
-  asked ← asked_at ts
-  Some (statements_of asked)
+first_form batch = option_and_then (λ ts. if is_spelling ts then Some (statements_of (said ts)) else None) (tokens_of batch)
+
+-- a batch's tokens are the spelling of this, and it is lawful
+pub record IsSpelled (batch : List ℕ) (asked : Asked) : Type 0 where
+  pub tokens : tokens_of batch ≡ Some (spelling asked)
+  pub lawful : IsTrue (is_lawful asked)
 
 -- there are tokens, and none of them
 abbrev pub has_none : Option (List Token) → Bool

@@ -1,0 +1,14 @@
+pub mod Arithmetic
+pub mod Patterns
+pub mod Division
+pub mod Components
+pub mod Groups
+pub mod Folds
+pub mod Views
+pub mod SelfJoin
+pub mod Permits
+pub mod Replacing
+pub mod Swapping
+pub mod Rules
+pub mod Making
+pub mod Changes

@@ -1,0 +1,16 @@
+pub mod After
+pub mod Cut
+pub mod Detached
+pub mod Enough
+pub mod Example
+pub mod Expanded
+pub mod Fewer
+pub mod Given
+pub mod Members
+pub mod OneVariable
+pub mod OwnLevel
+pub mod Plain
+pub mod PutIn
+pub mod SameRows
+pub mod Unpermitted
+pub mod UsedIn

@@ -1,0 +1,3 @@
+pub mod Detaching
+pub mod Expansion
+pub mod Updates

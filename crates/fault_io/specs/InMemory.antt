@@ -1,0 +1,29 @@
+-- Sources and sinks in memory, as contracts see them.
+use Rattle.std.specs.Prelude.{ℕ, ◌-◌, List, min}
+use Rattle.std.specs.declared.option.Option.{Option}
+use Rattle.std.specs.declared.option.Option.TheVariants.{Some, None}
+
+-- A source: the bytes that are left, the number of the next call, the numbers of the calls that are to fail, and how often a call has failed.
+pub record SourceInMemory : Type 0 where
+  pub bytes : List ℕ
+  pub next_call : ℕ
+  pub failing : List ℕ
+  pub faults : ℕ
+
+-- A sink: the bytes that it took, how many more it takes (none: there is no bound), the number of the next call, the numbers of the calls that are to fail, and how often a call has failed.
+pub record SinkInMemory : Type 0 where
+  pub bytes : List ℕ
+  pub room : Option ℕ
+  pub next_call : ℕ
+  pub failing : List ℕ
+  pub faults : ℕ
+
+-- How many of n bytes fit into the room.
+abbrev pub fitting_count : Option ℕ → ℕ → ℕ
+fitting_count None n = n
+fitting_count (Some room) n = min n room
+
+-- The room that is left after n bytes more.
+abbrev pub room_after : Option ℕ → ℕ → Option ℕ
+room_after None n = None
+room_after (Some room) n = Some (room - n)

@@ -1,0 +1,99 @@
+ghost use Rattle.std.specs.Prelude.{◌≡◌, ◌↔◌, ◌++◌, ◌<◌, [], Contains, IfOk, IsErr, OnErr, Some, drop, length, min, take};
+ghost use Rattle.std.specs.Io.{ReadsAtMost};
+ghost use Rattle.std.specs.Io.KnownBytes.{ReadConsumes};
+ghost use Rattle.fault_io.specs.Causes.{HasCause, one_more};
+
+use crate::calls::Calls;
+use crate::traits::{Failed, Source};
+use std::marker::Model;
+
+/// A source in memory. Contracts see the bytes that are left, the number of the next call, the
+/// numbers of the calls that are to fail, and the count of faults. Calls are numbered from 0; that
+/// number and the count of faults stand still at 2^64 - 1.
+#[derive(Debug, Drop)]
+pub struct MemSource {
+    bytes: Vec<u8>,
+    at: usize,
+    calls: Calls,
+}
+
+impl Model for MemSource {
+    ghost use Rattle.std.specs.Prelude.{◌≤◌, drop, vec_len};
+    ghost use Rattle.fault_io.specs.InMemory.{SourceInMemory};
+
+    ghost Value = { SourceInMemory };
+
+    ghost view = { λ s. record {
+      bytes = drop s.at s.bytes.items;
+      next_call = s.calls.next;
+      failing = s.calls.failing.items;
+      faults = s.calls.faults;
+    } };
+
+    ghost invariant = { λ s. s.at ≤ vec_len s.bytes };
+}
+
+impl MemSource {
+    /// A source of these bytes, whose calls with the numbers in `failing` fail. Takes no memory.
+    pub fn new(bytes: Vec<u8>, failing: Vec<u64>) -> MemSource
+        ensures { result ≡ record {
+          bytes = bytes.items;
+          next_call = 0;
+          failing = failing.items;
+          faults = 0;
+        } }
+    {
+        MemSource {
+            bytes,
+            at: 0,
+            calls: Calls::new(failing),
+        }
+    }
+}
+
+/// Copies as many bytes as there are and as the buffer holds to its front.
+fn give(bytes: &[u8], buf: &mut [u8]) -> usize
+    ensures count { result ≡ min (length bytes.now) (length buf.old) }
+    ensures given { buf.new ≡ take result bytes.now ++ drop result buf.old }
+    ensures taken { bytes.now ≡ take result buf.new ++ drop result bytes.now }
+    ensures end { result ≡ 0 → 0 < length buf.new → drop result bytes.now ≡ [] }
+{
+    let count = bytes.len().min(buf.len());
+    buf[..count].copy_from_slice(&bytes[..count]);
+    count
+}
+
+impl Source for MemSource {
+    ghost left = { λ s. Some s.bytes };
+
+    ghost faults = { λ s. s.faults };
+
+    /// Gives the next bytes, as many as are left and fit into the buffer. Takes no memory.
+    fn read(&mut self, buf: &mut [u8]) -> Result<usize, Failed>
+        // As every source.
+        ensures bound { ReadsAtMost result buf.new }
+        ensures bytes { ReadConsumes (Some self.old.bytes) (Some self.new.bytes) result buf.new }
+        ensures cause { HasCause self.old.faults self.new.faults result }
+
+        // The listed calls fail, and no other.
+        ensures fails { IsErr result ↔ Contains self.old.failing self.old.next_call }
+        ensures after_failure { OnErr result (self.new ≡ record self.old {
+          next_call = one_more self.old.next_call;
+          faults = one_more self.old.faults;
+        }) }
+        ensures buffer_kept { OnErr result (buf.new ≡ buf.old) }
+
+        // Any other call gives as many bytes as are left and fit, and leaves the rest.
+        ensures count { IfOk result (λ n. n ≡ min (length self.old.bytes) (length buf.old)) }
+        ensures given { IfOk result (λ n. buf.new ≡ take n self.old.bytes ++ drop n buf.old) }
+        ensures rest { IfOk result (λ n. self.new ≡ record self.old {
+          bytes = drop n self.old.bytes;
+          next_call = one_more self.old.next_call;
+        }) }
+    {
+        self.calls.begin()?;
+        let count = give(self.bytes.split_at(self.at).1, buf);
+        self.at += count;
+        Ok(count)
+    }
+}

@@ -1,0 +1,10 @@
+pub mod Powers
+pub mod Wide
+pub mod Marks
+pub mod Unpadded
+pub mod Items
+pub mod Walking
+pub mod Texts
+pub mod Groups
+pub mod Relation
+mod Worked
