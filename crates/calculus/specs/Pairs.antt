@@ -17,7 +17,7 @@ use Rattle.calculus.specs.Stored.{kinds_at}
 use Rattle.calculus.specs.Rights as right
 use Rattle.calculus.specs.Rights.{may}
 use Rattle.calculus.specs.QueryParts.{targets_of}
-use Rattle.calculus.specs.Assignments.{update_assigned}
+use Rattle.calculus.specs.Assignments.{changed, update_assigned}
 use Rattle.calculus.specs.Targets.{target_values, qualifying}
 use Rattle.calculus.specs.VariableRows.{rows_of}
 use Rattle.calculus.specs.Aggregate.{aggregates}
@@ -45,9 +45,13 @@ pair_of db u old values = elim u.op [
   | Into ↦ put_pair values
 ]
 
+-- the row of the variable that is replaced or deleted, where there is one
+abbrev pub old_row : Update → Env → Option Row
+old_row u e = elim (changed u) [ None ↦ None | Some c ↦ slice_get e c.0 ]
+
 -- the pair of an assignment; none where a target has no value there
 abbrev pub pair_at : Db → Who → Update → Env → Option Pair
-pair_at db who u e = option_map (pair_of db u (slice_get e u.old)) (target_values (aggregates db who) (targets_of u.query) e)
+pair_at db who u e = option_map (pair_of db u (old_row u e)) (target_values (aggregates db who) (targets_of u.query) e)
 
 -- ---- which pairs stand
 

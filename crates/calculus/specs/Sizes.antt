@@ -18,18 +18,20 @@ use Rattle.calculus.specs.declared.request.Update.{Update}
 
 -- ---- levels
 
+-- the greater of two levels; none where one is none
+abbrev pub greater_level : Option ℕ → Option ℕ → Option ℕ
+greater_level None l = None
+greater_level (Some k) None = None
+greater_level (Some k) (Some l) = Some (max k l)
+
+-- the greatest of these levels; none where one is none
+abbrev pub greatest_of : List (Option ℕ) → Option ℕ
+greatest_of [] = Some 0
+greatest_of (l ∷ ls) = greater_level l (greatest_of ls)
+
 -- one more than the greatest of these levels; none where one is none
 abbrev pub level_above : List (Option ℕ) → Option ℕ
-level_above levels = option_map suc (greatest levels)
-  where
-    greater : Option ℕ → Option ℕ → Option ℕ
-    greater None l = None
-    greater (Some k) None = None
-    greater (Some k) (Some l) = Some (max k l)
-
-    greatest : List (Option ℕ) → Option ℕ
-    greatest [] = Some 0
-    greatest (l ∷ ls) = greater l (greatest ls)
+level_above levels = option_map suc (greatest_of levels)
 
 -- the level of what a variable ranges over, where `of_view` is that of a view: 0 where rows are kept, none where nothing is there
 abbrev pub range_level : (View → Option ℕ) → Option Range → Option ℕ

@@ -14,7 +14,7 @@ use Rattle.calculus.specs.Catalogue.{catalogue_at}
 use Rattle.calculus.specs.Stored.{Range, Kept, Viewed, range_at}
 use Rattle.calculus.specs.QueryParts.{vars_of}
 use Rattle.calculus.specs.Used.{used_in_query}
-use Rattle.calculus.specs.Sizes.{level_above, range_level, level_within, level_of}
+use Rattle.calculus.specs.Sizes.{greater_level, greatest_of, level_above, range_level, level_within, level_of}
 use Rattle.calculus.specs.IsDatabase.{IsDatabase}
 use Rattle.calculus.specs.Assignments.{Source, rows_used, variable_rows, choices, assigned}
 use Rattle.calculus.specs.Targets.{rows_given}
@@ -22,23 +22,14 @@ use Rattle.calculus.specs.VariableRows.{range_rows, view_rows, rows_within, rows
 
 -- ---- each of what a view names has a level
 
-abbrev pub greater : Option ℕ → Option ℕ → Option ℕ
-greater None l = None
-greater (Some k) None = None
-greater (Some k) (Some l) = Some (max k l)
-
-abbrev pub greatest : List (Option ℕ) → Option ℕ
-greatest [] = Some 0
-greatest (l ∷ ls) = greater l (greatest ls)
-
-both_there : (l g : Option ℕ) → is_some (option_map suc (greater l g)) ≡ true → (is_some l ≡ true) × (is_some (option_map suc g) ≡ true)
+both_there : (l g : Option ℕ) → is_some (option_map suc (greater_level l g)) ≡ true → (is_some l ≡ true) × (is_some (option_map suc g) ≡ true)
 both_there None g h = cc h
 both_there (Some k) None h = cc h
 both_there (Some k) (Some l) h = (refl, refl)
 
 pub all_there : (f : RelKey → Option ℕ) (keys : List RelKey) → is_some (level_above (map f keys)) ≡ true → AllByRecursion (λ key. is_some (f key) ≡ true) keys
 all_there f [] h = tt
-all_there f (key ∷ keys) h = let both = both_there (f key) (greatest (map f keys)) h in (both.0, all_there f keys both.1)
+all_there f (key ∷ keys) h = let both = both_there (f key) (greatest_of (map f keys)) h in (both.0, all_there f keys both.1)
 
 -- ---- two sources that agree
 

@@ -8,20 +8,20 @@ use Rattle.calculus.specs.Who.{Who}
 use Rattle.calculus.specs.Database.{Db, View}
 use Rattle.calculus.specs.Stored.{Range, Kept, Viewed, range_at}
 use Rattle.calculus.specs.QueryParts.{vars_of}
-use Rattle.calculus.specs.Sizes.{level_above, range_level, level_within, level_of}
+use Rattle.calculus.specs.Sizes.{greater_level, greatest_of, level_above, range_level, level_within, level_of}
 use Rattle.calculus.specs.VariableRows.{rows_within, rows_of}
-use Rattle.calculus_laws.proofs.Enough.{greater, greatest, all_there, enough, more_levels, all_map}
+use Rattle.calculus_laws.proofs.Enough.{all_there, enough, more_levels, all_map}
 
 -- ---- where there is a level, there is one through more levels
 
-there_both : (l g : Option ℕ) → is_some l ≡ true → is_some (option_map suc g) ≡ true → is_some (option_map suc (greater l g)) ≡ true
+there_both : (l g : Option ℕ) → is_some l ≡ true → is_some (option_map suc g) ≡ true → is_some (option_map suc (greater_level l g)) ≡ true
 there_both None g h k = cc h
 there_both (Some i) None h k = cc k
 there_both (Some i) (Some j) h k = refl
 
 there_above : (f : RelKey → Option ℕ) (keys : List RelKey) → AllByRecursion (λ key. is_some (f key) ≡ true) keys → is_some (level_above (map f keys)) ≡ true
 there_above f [] h = refl
-there_above f (key ∷ keys) h = there_both (f key) (greatest (map f keys)) h.0 (there_above f keys h.1)
+there_above f (key ∷ keys) h = there_both (f key) (greatest_of (map f keys)) h.0 (there_above f keys h.1)
 
 kept_there : (f : View → Option ℕ) (r : Option Range) → is_some (range_level (λ view. None) r) ≡ true → is_some (range_level f r) ≡ true
 kept_there f None h = h
@@ -49,17 +49,17 @@ more_there db (suc m) (suc n) h key there = range_there (level_within m db) (lev
 abbrev IsAtMost : ℕ → Option ℕ → Type 0
 IsAtMost bound l = (i : ℕ) × (i ≤ bound) × (l ≡ Some i)
 
-both_at_most : (l g : Option ℕ) (j : ℕ) → greater l g ≡ Some j → IsAtMost j l × IsAtMost j g
+both_at_most : (l g : Option ℕ) (j : ℕ) → greater_level l g ≡ Some j → IsAtMost j l × IsAtMost j g
 both_at_most None g j h = cc h
 both_at_most (Some i) None j h = cc h
 both_at_most (Some i) (Some k) j h =
     let e : max i k ≡ j = cc h in
     ((i, omega (arith, e), refl), (k, omega (arith, e), refl))
 
-each_at_most : (f : RelKey → Option ℕ) (keys : List RelKey) (j : ℕ) → greatest (map f keys) ≡ Some j → AllByRecursion (λ key. IsAtMost j (f key)) keys
+each_at_most : (f : RelKey → Option ℕ) (keys : List RelKey) (j : ℕ) → greatest_of (map f keys) ≡ Some j → AllByRecursion (λ key. IsAtMost j (f key)) keys
 each_at_most f [] j h = tt
 each_at_most f (key ∷ keys) j h =
-    let parts = both_at_most (f key) (greatest (map f keys)) j h in
+    let parts = both_at_most (f key) (greatest_of (map f keys)) j h in
     let later = parts.1 in (
       parts.0,
       all_map (λ k. IsAtMost later.0 (f k)) (λ k. IsAtMost j (f k)) (λ k at. (at.0, omega (arith, at.1, later.1), at.2)) keys
@@ -75,7 +75,7 @@ one_less (Some j) m h = (j, cc h, refl)
 view_own : (f g : RelKey → Option ℕ) (keys : List RelKey) (m : ℕ) → level_above (map f keys) ≡ Some (suc m)
     → ((key : RelKey) (i : ℕ) → i ≤ m → f key ≡ Some i → is_some (g key) ≡ true) → is_some (level_above (map g keys)) ≡ true
 view_own f g keys m h more =
-    let top = one_less (greatest (map f keys)) (suc m) h in
+    let top = one_less (greatest_of (map f keys)) (suc m) h in
     there_above g keys
     (all_map (λ k. IsAtMost top.0 (f k)) (λ k. is_some (g k) ≡ true) (λ k at. more k at.0 (omega (arith, at.1, top.1)) at.2) keys
     (each_at_most f keys top.0 top.2))
@@ -89,7 +89,7 @@ own db (suc k) key zero h = go (range_at db key) h
         → is_some (range_level (λ view. None) r) ≡ true
     go None e = cc e
     go (Some (Kept relation)) e = refl
-    go (Some (Viewed view)) e = let top = one_less (greatest (map (level_within k db) (vars_of view.query))) 0 e in absurd (omega (arith, top.1))
+    go (Some (Viewed view)) e = let top = one_less (greatest_of (map (level_within k db) (vars_of view.query))) 0 e in absurd (omega (arith, top.1))
 own db (suc k) key (suc m) h = go (range_at db key) (λ key i low e. more_there db i m low key (own db k key i e)) h
   where
     go : (r : Option Range) → ((key : RelKey) (i : ℕ) → i ≤ m → level_within k db key ≡ Some i → is_some (level_within m db key) ≡ true)
