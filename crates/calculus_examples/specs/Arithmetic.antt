@@ -2,7 +2,8 @@
 use Rattle.calculus.specs.Term.{val, no_aggs}
 use Rattle.calculus.specs.declared.value.Value.{Value}
 use Rattle.calculus_examples.specs.Small.{num}
-use Rattle.calculus_examples.specs.Words.{◌≡◌, ℕ, pos, negsuc, [], Option, Some, None, Add, Sub, Div, Pow, Mod, QTerm, Int, neg, abs, operation}
+use Rattle.std.specs.Prelude.{◌≡◌, ℕ, pos, negsuc, [], Option, Some, None}
+use Rattle.calculus_examples.specs.Words.{Add, Sub, Div, Pow, Mod, QTerm, Int, neg, abs, operation}
 
 -- the value of a term without variables
 abbrev pub value : QTerm → Option Value

@@ -12,7 +12,8 @@ use Rattle.calculus.specs.declared.schema.Rule.{Rule}
 use Rattle.calculus.specs.declared.schema.Spec.TheVariants as spec
 use Rattle.calculus.specs.declared.schema.Spec.{Spec}
 use Rattle.calculus_examples.specs.Small.{key, num, text, attr, database, target}
-use Rattle.calculus_examples.specs.Words.{◌≡◌, ℕ, pos, false, List, [], ◌∷◌, Some, None, codes, I2, C, Of, Gt, Int, Attr, True, Cmp, Query, query, Db, Relation}
+use Rattle.std.specs.Prelude.{◌≡◌, ℕ, pos, false, List, [], ◌∷◌, Some, None, codes}
+use Rattle.calculus_examples.specs.Words.{I2, C, Of, Gt, Int, Attr, True, Cmp, Query, query, Db, Relation}
 
 -- a permit for everybody
 abbrev pub for_all : ℕ → Permit

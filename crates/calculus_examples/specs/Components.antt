@@ -1,7 +1,8 @@
 -- Parts of a query that share no variable.
 use Rattle.calculus.specs.Answer.{answer, lacks}
 use Rattle.calculus_examples.specs.Small.{key, num, attr, relation, database, target}
-use Rattle.calculus_examples.specs.Words.{◌≡◌, pos, true, false, List, [], ◌∷◌, codes, I4, Of, Wide, Add, Div, Eq, Ne, Int, Attr, QQual, Cmp, Query, operation, both, either, query, Row, Free, Db}
+use Rattle.std.specs.Prelude.{◌≡◌, pos, true, false, List, [], ◌∷◌, codes}
+use Rattle.calculus_examples.specs.Words.{I4, Of, Wide, Add, Div, Eq, Ne, Int, Attr, QQual, Cmp, Query, operation, both, either, query, Row, Free, Db}
 
 -- n (a) holds 0 and 4, m (b) holds these rows
 abbrev pub db : List Row → Db

@@ -1,7 +1,8 @@
 -- A quotient in a qualification and in a target, and a variable over no rows.
 use Rattle.calculus.specs.Answer.{answer, lacks}
 use Rattle.calculus_examples.specs.Small.{key, num, attr, relation, database, target}
-use Rattle.calculus_examples.specs.Words.{◌≡◌, pos, true, [], ◌∷◌, codes, I4, Of, Wide, Div, Eq, QTerm, Int, Attr, True, Cmp, Query, operation, either, query, Free, Db}
+use Rattle.std.specs.Prelude.{◌≡◌, pos, true, [], ◌∷◌, codes}
+use Rattle.calculus_examples.specs.Words.{I4, Of, Wide, Div, Eq, QTerm, Int, Attr, True, Cmp, Query, operation, either, query, Free, Db}
 
 -- n (a) holds 0 and 2, m (b) holds nothing
 abbrev pub db : Db

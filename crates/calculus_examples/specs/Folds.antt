@@ -2,7 +2,8 @@
 use Rattle.calculus.specs.Answer.{answer, lacks}
 use Rattle.calculus.specs.declared.operator.AggOp.{AggOp}
 use Rattle.calculus_examples.specs.Small.{num, attr, relation, database, target, fold_of}
-use Rattle.calculus_examples.specs.Words.{◌≡◌, ℤ, pos, negsuc, true, List, [], ◌∷◌, codes, I1, I2, Of, Wide, Sub, Div, Eq, Lt, Gt, Count, Countu, Sum, Sumu, Avg, Min, Max, Any, QTerm, Int, Attr, QQual, True, Cmp, Query, operation, query, aggregate, Row, Free, Db}
+use Rattle.std.specs.Prelude.{◌≡◌, ℤ, pos, negsuc, true, List, [], ◌∷◌, codes}
+use Rattle.calculus_examples.specs.Words.{I1, I2, Of, Wide, Sub, Div, Eq, Lt, Gt, Count, Countu, Sum, Sumu, Avg, Min, Max, Any, QTerm, Int, Attr, QQual, True, Cmp, Query, operation, query, aggregate, Row, Free, Db}
 
 -- a row of s
 abbrev pub pair : ℤ → ℤ → Row

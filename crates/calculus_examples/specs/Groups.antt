@@ -1,7 +1,8 @@
 -- An aggregate for each group of rows.
 use Rattle.calculus.specs.Answer.{answer}
 use Rattle.calculus_examples.specs.Small.{key, num, attr, relation, database, target}
-use Rattle.calculus_examples.specs.Words.{◌≡◌, pos, [], ◌∷◌, codes, I2, Of, Wide, Gt, Sum, Named, Int, Attr, True, Cmp, QAgg, Query, query, aggregate, Free, Db}
+use Rattle.std.specs.Prelude.{◌≡◌, pos, [], ◌∷◌, codes}
+use Rattle.calculus_examples.specs.Words.{I2, Of, Wide, Gt, Sum, Named, Int, Attr, True, Cmp, QAgg, Query, query, aggregate, Free, Db}
 
 -- g (d, s) holds 1 with 5 and 2 with 50
 abbrev pub db : Db

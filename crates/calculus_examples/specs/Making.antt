@@ -2,7 +2,8 @@
 use Rattle.calculus.specs.Replacement.{updated}
 use Rattle.calculus.specs.declared.change.DbChange.TheVariants as change
 use Rattle.calculus_examples.specs.Small.{key, num, attr, relation, database, target, into}
-use Rattle.calculus_examples.specs.Words.{◌≡◌, ℕ, pos, [], ◌∷◌, Ok, Err, codes, I1, I4, Of, Wide, Mul, Lt, Int, Attr, Cmp, Update, operation, query, Free, Db}
+use Rattle.std.specs.Prelude.{◌≡◌, ℕ, pos, [], ◌∷◌, Ok, Err, codes}
+use Rattle.calculus_examples.specs.Words.{I1, I4, Of, Wide, Mul, Lt, Int, Attr, Cmp, Update, operation, query, Free, Db}
 
 -- p (a) holds 1 and 2
 abbrev pub db : Db

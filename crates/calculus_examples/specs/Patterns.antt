@@ -1,6 +1,6 @@
 -- Texts and patterns.
 use Rattle.calculus.specs.Pattern.{matches}
-use Rattle.calculus_examples.specs.Words.{◌≡◌, true, false, [], ◌∷◌, ◌++◌, codes}
+use Rattle.std.specs.Prelude.{◌≡◌, true, false, [], ◌∷◌, ◌++◌, codes}
 
 -- what matches, and what doesn't
 pub record Matching : Type 0 where

@@ -5,7 +5,8 @@ use Rattle.calculus.specs.Replacement.{updated}
 use Rattle.calculus.specs.declared.change.DbChange.TheVariants as change
 use Rattle.calculus.specs.declared.schema.Permit.{Permit}
 use Rattle.calculus_examples.specs.Small.{key, num, text, attr, relation, target, asks, fold_of, replace, delete, append}
-use Rattle.calculus_examples.specs.Words.{◌≡◌, ℕ, pos, true, false, List, [], ◌∷◌, Some, Ok, codes, I2, C, Of, Wide, Add, Lt, Gt, Count, Int, Chars, Attr, QQual, True, Cmp, Query, Update, operation, query, aggregate, Free, Db}
+use Rattle.std.specs.Prelude.{◌≡◌, ℕ, pos, true, false, List, [], ◌∷◌, Some, Ok, codes}
+use Rattle.calculus_examples.specs.Words.{I2, C, Of, Wide, Add, Lt, Gt, Count, Int, Chars, Attr, QQual, True, Cmp, Query, Update, operation, query, aggregate, Free, Db}
 
 -- retrieve of these attributes for bob
 abbrev pub to_bob : ℕ → ℕ → List ℕ → QQual → Permit

@@ -2,7 +2,8 @@
 use Rattle.calculus.specs.Replacement.{updated}
 use Rattle.calculus.specs.declared.change.DbChange.TheVariants as change
 use Rattle.calculus_examples.specs.Small.{key, num, attr, relation, database, target, replace}
-use Rattle.calculus_examples.specs.Words.{◌≡◌, pos, [], ◌∷◌, Ok, Err, codes, I2, Of, Wide, Add, Sub, Div, Eq, Lt, Int, Attr, True, Cmp, Update, operation, query, Free, Db}
+use Rattle.std.specs.Prelude.{◌≡◌, pos, [], ◌∷◌, Ok, Err, codes}
+use Rattle.calculus_examples.specs.Words.{I2, Of, Wide, Add, Sub, Div, Eq, Lt, Int, Attr, True, Cmp, Update, operation, query, Free, Db}
 
 -- s (a) holds 1, 2 and 3, t (b) holds 5 and 6
 abbrev pub db : Db

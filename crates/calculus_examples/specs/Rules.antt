@@ -3,7 +3,8 @@ use Rattle.calculus.specs.Pairs.{ruled}
 use Rattle.calculus.specs.Replacement.{updated}
 use Rattle.calculus.specs.declared.change.DbChange.TheVariants as change
 use Rattle.calculus_examples.specs.Small.{key, num, attr, relation, target, replace}
-use Rattle.calculus_examples.specs.Words.{◌≡◌, pos, [], ◌∷◌, Ok, codes, I2, Of, Wide, Sub, Gt, Int, Attr, True, Cmp, Update, operation, query, Free, Db}
+use Rattle.std.specs.Prelude.{◌≡◌, pos, [], ◌∷◌, Ok, codes}
+use Rattle.calculus_examples.specs.Words.{I2, Of, Wide, Sub, Gt, Int, Attr, True, Cmp, Update, operation, query, Free, Db}
 
 -- w (sal) holds 12 and 20, and each salary is above 10
 abbrev pub db : Db

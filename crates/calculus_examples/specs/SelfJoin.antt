@@ -1,7 +1,8 @@
 -- One view that stands twice in a query.
 use Rattle.calculus.specs.Answer.{answer}
 use Rattle.calculus_examples.specs.Small.{key, num, attr, relation, view, target}
-use Rattle.calculus_examples.specs.Words.{◌≡◌, pos, [], ◌∷◌, codes, I2, Of, Eq, Lt, Attr, True, Cmp, Query, both, query, Free, Db}
+use Rattle.std.specs.Prelude.{◌≡◌, pos, [], ◌∷◌, codes}
+use Rattle.calculus_examples.specs.Words.{I2, Of, Eq, Lt, Attr, True, Cmp, Query, both, query, Free, Db}
 
 -- define view pair (l = x.a, r = y.b)
 abbrev pub pair : Query

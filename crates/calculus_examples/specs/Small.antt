@@ -9,7 +9,8 @@ use Rattle.calculus.specs.declared.schema.Spec.TheVariants as spec
 use Rattle.calculus.specs.declared.schema.Attr.{Attr}
 use Rattle.calculus.specs.Keys.{key_of}
 use Rattle.calculus.specs.Who.{Asks}
-use Rattle.calculus_examples.specs.Words.{ℕ, ℤ, List, [], codes, Named, True, QTerm, QQual, QAgg, Query, Update, Row, Who, Db, Relation, View, Append, Replace, Delete, Into}
+use Rattle.std.specs.Prelude.{ℕ, ℤ, List, [], codes}
+use Rattle.calculus_examples.specs.Words.{Named, True, QTerm, QQual, QAgg, Query, Update, Row, Who, Db, Relation, View, Append, Replace, Delete, Into}
 
 -- the administrator's key of this name
 abbrev pub key : List ℕ → RelKey

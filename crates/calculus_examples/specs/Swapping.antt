@@ -2,7 +2,8 @@
 use Rattle.calculus.specs.Replacement.{updated}
 use Rattle.calculus.specs.declared.change.DbChange.TheVariants as change
 use Rattle.calculus_examples.specs.Small.{key, num, attr, relation, database, target, replace, delete}
-use Rattle.calculus_examples.specs.Words.{◌≡◌, ℕ, pos, List, [], ◌∷◌, Ok, codes, I2, Of, Wide, Eq, Int, Attr, True, Cmp, Update, query, Row, Free, Db}
+use Rattle.std.specs.Prelude.{◌≡◌, ℕ, pos, List, [], ◌∷◌, Ok, codes}
+use Rattle.calculus_examples.specs.Words.{I2, Of, Wide, Eq, Int, Attr, True, Cmp, Update, query, Row, Free, Db}
 
 -- a row of p
 abbrev pub pair : ℕ → ℕ → Row

@@ -5,7 +5,8 @@ use Rattle.calculus.specs.IsDatabase.{IsDatabase, vars_are_there}
 use Rattle.calculus.specs.Sizes.{expanded_variables, level_of, query_size}
 use Rattle.calculus.specs.declared.change.DbChange.TheVariants as change
 use Rattle.calculus_examples.specs.Small.{key, num, text, attr, relation, view, target, asks, fold_of}
-use Rattle.calculus_examples.specs.Words.{◌≡◌, ℕ, pos, true, false, List, [], ◌∷◌, Some, codes, C, Of, Wide, Eq, Count, Attr, True, Cmp, Like, Query, query, aggregate, Row, Free, Db}
+use Rattle.std.specs.Prelude.{◌≡◌, ℕ, pos, true, false, List, [], ◌∷◌, Some, codes}
+use Rattle.calculus_examples.specs.Words.{C, Of, Wide, Eq, Count, Attr, True, Cmp, Like, Query, query, aggregate, Row, Free, Db}
 use Rattle.std.specs.List.{list_all}
 
 -- a row of two texts

@@ -1,5 +1,4 @@
 -- The words that the examples are written with, passed on from one place. Declares nothing.
-pub use Rattle.std.specs.Prelude.{◌≡◌, ℕ, ℤ, pos, negsuc, Bool, true, false, List, [], ◌∷◌, ◌++◌, Option, Some, None, Result, Ok, Err, codes}
 pub use Rattle.calculus.specs.declared.value.Domain.TheVariants.{I1, I2, I4, C}
 pub use Rattle.calculus.specs.declared.value.Kind.TheVariants.{Of, Wide}
 pub use Rattle.calculus.specs.declared.operator.ArithOp.TheVariants.{Add, Sub, Mul, Div, Pow, Mod}
