@@ -7,4 +7,5 @@ pub mod Walking
 pub mod Texts
 pub mod Groups
 pub mod Relation
+pub mod Stands
 mod Worked

@@ -130,10 +130,12 @@ pub class_parts : (bs class rest : List ℕ) (k : ℕ) → close_from 0 false bs
 unfolding marks
 class_parts bs class rest k h e r =
     let c = closed 0 k false bs h in
-    let same : k ≡ c.bytes = omega (arith, c.place) in
-    (c.members, c.counted,
+    let same : k ≡ c.bytes = omega (arith, c.place) in (
+      c.members,
+      c.counted,
       c.class ∙ ap (λ j. marks_behind false (take j bs)) (sym same) ∙ ap (marks_behind false) (sym e),
-      c.rest ∙ ap (λ j. marks_behind false (drop (suc j) bs)) (sym same) ∙ ap (marks_behind false) (sym r))
+      c.rest ∙ ap (λ j. marks_behind false (drop (suc j) bs)) (sym same) ∙ ap (marks_behind false) (sym r),
+    )
 
 -- dropping one more
 pub one_dropped : (n : ℕ) (bs : List ℕ) → drop 1 (drop n bs) ≡ drop (suc n) bs

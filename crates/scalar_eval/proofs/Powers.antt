@@ -37,8 +37,8 @@ stays_outside x k zero h l e =
     let z : k ≡ 0 = omega (arith, l) in ap (λ j. number (repeated x j)) (sym z) ∙ e
 stays_outside x k (suc n) h l e =
     elim (eq-or-lt_of_le l) [
-      inl same ↦ ap (λ j. number (repeated x j)) (sym same) ∙ e
-    | inr less ↦ grows x (repeated x n) h (stays_outside x k n h (omega (arith, less)) e)
+      | inl same ↦ ap (λ j. number (repeated x j)) (sym same) ∙ e
+      | inr less ↦ grows x (repeated x n) h (stays_outside x k n h (omega (arith, less)) e)
     ]
 
 always_one : (n : ℕ) → repeated (pos 1) n ≡ pos 1

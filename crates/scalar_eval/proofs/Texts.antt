@@ -69,8 +69,8 @@ unfolding is_chars marks constant_text
 text_of_constant written h =
     let short : length written ≤ 255 = grind (arith, h) in
     of_bytes (plain_bytes (marks_behind false written))
-      (read_printable false written (search (rules, h)))
-      (omega (arith, short, read_length false written, trimmed_length (plain_bytes (marks_behind false written))))
+    (read_printable false written (search (rules, h)))
+    (omega (arith, short, read_length false written, trimmed_length (plain_bytes (marks_behind false written))))
 
 -- ---- one text behind the other
 

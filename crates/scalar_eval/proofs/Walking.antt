@@ -55,7 +55,7 @@ unfolding fits_items
 some_of_some js [] h = h
 some_of_some js (x ∷ xs) h =
     either_of (some_rest (fits_items js) (x ∷ xs)) (some_rest (fits_items (AnyText ∷ js)) xs) h (λ p. p)
-      (λ p. ap (λ u. fits_items js (x ∷ xs) || u) (some_of_some js xs p) ∙ or_true (fits_items js (x ∷ xs)))
+    (λ p. ap (λ u. fits_items js (x ∷ xs) || u) (some_of_some js xs p) ∙ or_true (fits_items js (x ∷ xs)))
 
 at_star : (js : List Item) (xs : List ℕ) (b w : Bool) → (fits_items (AnyText ∷ js) xs || b) ≡ w → (b ≡ true → some_rest (fits_items (AnyText ∷ js)) xs ≡ true)
     → (fits_items js xs || later js xs) ≡ w
@@ -111,12 +111,12 @@ and_right false b h = cc h
 some_behind : (i : Item) (is : List Item) (x : ℕ) (xs : List ℕ) → behind_any_text (i ∷ is) ≡ None → some_rest (fits_items (i ∷ is)) (x ∷ xs) ≡ true → some_rest (fits_items is) xs ≡ true
 some_behind i is x [] n h =
     either_of (fits_items (i ∷ is) (x ∷ [])) (fits_items (i ∷ is) []) h
-      (λ p. and_right (takes i x) (fits_items is []) (sym (fits_one i is x [] n) ∙ p))
-      (λ p. let q : false ≡ true = sym (fits_nothing i is n) ∙ p in cc q)
+    (λ p. and_right (takes i x) (fits_items is []) (sym (fits_one i is x [] n) ∙ p))
+    (λ p. let q : false ≡ true = sym (fits_nothing i is n) ∙ p in cc q)
 some_behind i is x (y ∷ ys) n h =
     either_of (fits_items (i ∷ is) (x ∷ y ∷ ys)) (some_rest (fits_items (i ∷ is)) (y ∷ ys)) h
-      (λ p. ap (λ u. u || some_rest (fits_items is) ys) (and_right (takes i x) (fits_items is (y ∷ ys)) (sym (fits_one i is x (y ∷ ys) n) ∙ p)))
-      (λ p. ap (λ u. fits_items is (y ∷ ys) || u) (some_behind i is y ys n p) ∙ or_true (fits_items is (y ∷ ys)))
+    (λ p. ap (λ u. u || some_rest (fits_items is) ys) (and_right (takes i x) (fits_items is (y ∷ ys)) (sym (fits_one i is x (y ∷ ys) n) ∙ p)))
+    (λ p. ap (λ u. fits_items is (y ∷ ys) || u) (some_behind i is y ys n p) ∙ or_true (fits_items is (y ∷ ys)))
 
 some_taken : (is js : List Item) (x : ℕ) (xs : List ℕ) → behind_any_text is ≡ None → behind_byte is x ≡ Some js → some_rest (fits_items is) (x ∷ xs) ≡ true → some_rest (fits_items js) xs ≡ true
 some_taken [] js x xs n h k = cc h

@@ -75,13 +75,7 @@ fn behind_bracket(behind: &[u8], byte: u8) -> Option<&[u8]>
                 None
             }
         }
-        None => {
-            if byte == b'[' {
-                Some(behind)
-            } else {
-                None
-            }
-        }
+        None => { if byte == b'[' { Some(behind) } else { None } }
     }
 }
 

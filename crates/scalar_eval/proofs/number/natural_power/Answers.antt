@@ -16,18 +16,18 @@ is_minus_one x f h = is_read x 18446744073709551615 f h
 
 pub returns-then-base-eq1 : goal.returns-then-base-eq1
 returns-then-base-eq1 c = elim c.then-base-eq1.branch [
-      then-base-eq1-via-then-base-eq1 w ↦
-        sym (ap (λ b. number (repeated b c.args.exponent)) (is_one c.args.base c.ranges.base w.if-base-eq1.true) ∙ power_of_one c.args.exponent)
-    | then-base-eq1-via-else-base-eq1+then-exponent-eq0 w ↦
-        sym (ap (λ n. number (repeated c.args.base n)) w.if-exponent-eq0.true)
-    ]
+  | then-base-eq1-via-then-base-eq1 w ↦
+      sym (ap (λ b. number (repeated b c.args.exponent)) (is_one c.args.base c.ranges.base w.if-base-eq1.true) ∙ power_of_one c.args.exponent)
+  | then-base-eq1-via-else-base-eq1+then-exponent-eq0 w ↦
+      sym (ap (λ n. number (repeated c.args.base n)) w.if-exponent-eq0.true)
+]
 
 pub returns-then-exponent-eq0-2 : goal.returns-then-exponent-eq0-2
 returns-then-exponent-eq0-2 c =
     sym (ap (λ b. number (repeated b c.args.exponent)) (is_minus_one c.args.base c.ranges.base c.if-base-eqminus1.true)
-      ∙ even_power c.args.exponent c.if-exponent-eq0-2.true)
+    ∙ even_power c.args.exponent c.if-exponent-eq0-2.true)
 
 pub returns-else-exponent-eq0-2 : goal.returns-else-exponent-eq0-2
 returns-else-exponent-eq0-2 c =
     sym (ap (λ b. number (repeated b c.args.exponent)) (is_minus_one c.args.base c.ranges.base c.if-base-eqminus1.true)
-      ∙ odd_power c.args.exponent c.if-exponent-eq0-2.false)
+    ∙ odd_power c.args.exponent c.if-exponent-eq0-2.false)

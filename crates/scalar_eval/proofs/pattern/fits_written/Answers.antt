@@ -17,17 +17,17 @@ returns-in_default-front c =
     let e : c.walk.rest.now ≡ [] = c.in_default-front.ensures in
     c.is_empty.ensures ∙ sym (end_written c.walk.items.now c.in_default.ensures.first)
     ∙ at_end (written_items c.walk.items.now) (later (written_items c.walk.again_items.now) c.walk.again_rest.now) _
-        (ap (λ xs. fits_items (written_items c.walk.items.now) xs || later (written_items c.walk.again_items.now) c.walk.again_rest.now) (sym e) ∙ c.walk.invariant.answer)
-        (λ t. ap (some_rest (fits_items (written_items c.walk.items.now))) (sym e) ∙ c.walk.invariant.hidden t)
+    (ap (λ xs. fits_items (written_items c.walk.items.now) xs || later (written_items c.walk.again_items.now) c.walk.again_rest.now) (sym e) ∙ c.walk.invariant.answer)
+    (λ t. ap (some_rest (fits_items (written_items c.walk.items.now))) (sym e) ∙ c.walk.invariant.hidden t)
 
 pub walk-preserved-in-Some-behind_byte : goal.walk-preserved-in-Some-behind_byte
 walk-preserved-in-Some-behind_byte c =
     let e = c.in-Some-front.ensures in
     record {
       answer = byte_step (written_items c.walk.items.now) _ _ c.in-Some-front.more.now _ _ c.in_default.ensures.first c.in-Some-behind_byte.ensures.first
-        (ap (λ xs. fits_items (written_items c.walk.items.now) xs || later (written_items c.walk.again_items.now) c.walk.again_rest.now) (sym e) ∙ c.walk.invariant.answer);
+          (ap (λ xs. fits_items (written_items c.walk.items.now) xs || later (written_items c.walk.again_items.now) c.walk.again_rest.now) (sym e) ∙ c.walk.invariant.answer);
       hidden = byte_hidden (written_items c.walk.items.now) _ c.in-Some-front.byte c.in-Some-front.more.now _ c.in_default.ensures.first c.in-Some-behind_byte.ensures.first
-        (λ t. ap (some_rest (fits_items (written_items c.walk.items.now))) (sym e) ∙ c.walk.invariant.hidden t);
+          (λ t. ap (some_rest (fits_items (written_items c.walk.items.now))) (sym e) ∙ c.walk.invariant.hidden t);
       within = omega (arith, c.in-Some-behind_byte.ensures.shorter, c.walk.invariant.within);
       again_within = c.walk.invariant.again_within;
     }
@@ -38,8 +38,8 @@ returns-in_default-front-2 c =
     let none : c.walk.again_rest.now ≡ [] = c.in_default-front-2.ensures in
     ap (later (written_items c.walk.again_items.now)) (sym none)
     ∙ refused (written_items c.walk.items.now) c.in-Some-front.byte c.in-Some-front.more.now (later (written_items c.walk.again_items.now) c.walk.again_rest.now) _
-        c.in_default.ensures.first c.in-None.ensures.first
-        (ap (λ xs. fits_items (written_items c.walk.items.now) xs || later (written_items c.walk.again_items.now) c.walk.again_rest.now) (sym e) ∙ c.walk.invariant.answer)
+    c.in_default.ensures.first c.in-None.ensures.first
+    (ap (λ xs. fits_items (written_items c.walk.items.now) xs || later (written_items c.walk.again_items.now) c.walk.again_rest.now) (sym e) ∙ c.walk.invariant.answer)
 
 pub walk-preserved : goal.walk-preserved
 walk-preserved c =
@@ -47,8 +47,8 @@ walk-preserved c =
     let f = c.in-Some-front-2.ensures in
     record {
       answer = again_step (written_items c.walk.items.now) (written_items c.walk.again_items.now) c.in-Some-front.byte c.in-Some-front.more.now c.in-Some-front-2.later.now c.in-Some-front-2.field-0-0 _
-        c.in_default.ensures.first c.in-None.ensures.first
-        (ap (λ xs. fits_items (written_items c.walk.items.now) xs || later (written_items c.walk.again_items.now) (c.in-Some-front-2.field-0-0 ∷ c.in-Some-front-2.later.now)) (sym e)
+          c.in_default.ensures.first c.in-None.ensures.first
+          (ap (λ xs. fits_items (written_items c.walk.items.now) xs || later (written_items c.walk.again_items.now) (c.in-Some-front-2.field-0-0 ∷ c.in-Some-front-2.later.now)) (sym e)
           ∙ ap (λ ys. fits_items (written_items c.walk.items.now) c.walk.rest.now || later (written_items c.walk.again_items.now) ys) (sym f)
           ∙ c.walk.invariant.answer);
       hidden = star_hidden _ c.in-Some-front-2.later.now;
