@@ -1,12 +1,12 @@
 -- Looking for a group, and the values of terms one after the other.
-use Rattle.std.proofs.Common.{◌≡◌, refl, sym, ap, ◌∙◌, Bool, true, false, List, [], ◌∷◌, ◌++◌, append_assoc, add-one, length, get_or, drop, ℕ, suc, ◌+◌, ◌<◌, ◌≤◌, Option, Some, None}
+use Rattle.std.proofs.Common.{◌≡◌, refl, sym, ap, ◌∙◌, true, false, List, [], ◌∷◌, ◌++◌, append_assoc, add-one, length, get_or, drop, ℕ, ◌+◌, ◌<◌, ◌≤◌, Option, Some, None}
 use Rattle.std.proofs.Math.Seq.{drop-cons}
 use Rattle.std.proofs.lemmas.List.{append-nil, drop_all}
 use Rattle.std.specs.Ordering.{is_eq}
 use Rattle.calculus.specs.Value.{row_cmp}
 use Rattle.calculus.specs.declared.value.Value.{Value}
 use Rattle.calculus.specs.declared.query.QTerm.{QTerm}
-use Rattle.calculus.specs.Term.{Env, Aggs, val, no_aggs, value_before, values_of}
+use Rattle.calculus.specs.Term.{Env, val, no_aggs, value_before, values_of}
 use Rattle.calculus.specs.Table.{in_groups, tabled}
 
 pub group_found : (empty : Value) (g : List Value × Option Value) (gs : List (List Value × Option Value)) (link : List Value)

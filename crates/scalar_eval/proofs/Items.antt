@@ -1,10 +1,10 @@
 -- The items that are written, from their first byte on.
-use Rattle.std.proofs.Common.{◌≡◌, ◌≢◌, refl, sym, ap, ◌∙◌, ℕ, zero, suc, Bool, true, false, ◌==◌, if◌then◌else◌, List, [], ◌∷◌, take, drop, Option, Some, None}
+use Rattle.std.proofs.Common.{◌≡◌, refl, ap, ◌∙◌, ℕ, zero, suc, Bool, true, false, ◌==◌, if◌then◌else◌, List, [], ◌∷◌, take, drop, Option, Some, None}
 use Rattle.calculus.specs.Constant.{marks}
 use Rattle.calculus.specs.Pattern.{Item, Byte, AnyByte, AnyText, Class, items_at, items_behind, bracket_items, is_bare, class_length, ranges, in_class}
 use Rattle.calculus.specs.declared.mark.Mark.{Mark}
 use Rattle.scalar_eval.proofs.Unpadded.{marks_some}
-use Rattle.scalar_eval.specs.Walk.{IsClass, written_items, bracket_written, takes, behind_byte, behind_any_text}
+use Rattle.scalar_eval.specs.Walk.{IsClass, written_items, bracket_written, behind_byte, behind_any_text}
 
 nothing_written : (p : List ℕ) → p ≡ [] → written_items p ≡ []
 unfolding written_items marks

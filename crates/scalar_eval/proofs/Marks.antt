@@ -1,9 +1,9 @@
 -- The bytes of a constant as they are meant, read from the front.
-use Rattle.std.proofs.Common.{◌≡◌, refl, sym, ap, ◌∙◌, ℕ, zero, suc, ◌+◌, ◌<◌, ◌≤◌, Bool, true, false, not, ◌&&◌, ◌||◌, ◌==◌, cond, if◌then◌else◌, List, [], ◌∷◌, ◌++◌, length, take, drop, Option, Some, None, rules, arith}
+use Rattle.std.proofs.Common.{◌≡◌, refl, sym, ap, ◌∙◌, ℕ, zero, suc, ◌+◌, ◌<◌, Bool, true, false, ◌&&◌, ◌==◌, if◌then◌else◌, List, [], ◌∷◌, length, take, drop, Option, Some, None, rules, arith}
 use Rattle.calculus.specs.Constant.{mark, marks, marks_behind}
-use Rattle.calculus.specs.Pattern.{is_bare, before_unpadded, unpadded, one_more, class_length, ranges, in_class}
+use Rattle.calculus.specs.Pattern.{is_bare, one_more, class_length, ranges, in_class}
 use Rattle.calculus.specs.declared.mark.Mark.{Mark}
-use Rattle.scalar_eval.specs.Walk.{IsClass, after_dash, close_from, kept_from}
+use Rattle.scalar_eval.specs.Walk.{IsClass, after_dash, close_from}
 
 -- a backslash that isn't plain makes the byte behind it plain
 pub slash : (b : ℕ) (bs : List ℕ) → (b == 92) ≡ true → marks_behind false (b ∷ bs) ≡ marks_behind true bs

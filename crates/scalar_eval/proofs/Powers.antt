@@ -1,7 +1,6 @@
 -- Numbers that leave 64 bits stay outside while they are multiplied on.
-use Rattle.std.proofs.Common.{◌≡◌, ◌≢◌, refl, sym, ap, ◌∙◌, ℕ, zero, suc, ◌+◌, ◌*◌, ◌%◌, ◌<◌, ◌≤◌, Bool, true, false, ◌==◌, ℤ, pos, negsuc, ◌*ℤ◌, neg_ℤ, nat_abs, Option, Some, None, ◌⊎◌, inl, inr, subst, if◌then◌else◌, arith}
+use Rattle.std.proofs.Common.{◌≡◌, ◌≢◌, refl, sym, ap, ◌∙◌, ℕ, zero, suc, ◌*◌, ◌%◌, ◌<◌, ◌≤◌, ◌==◌, ℤ, pos, negsuc, ◌*ℤ◌, neg_ℤ, nat_abs, Some, None, inl, inr, if◌then◌else◌, arith}
 use Rattle.std.proofs.Math.Nat.{mul-le-mul_left, mul_comm, eq-or-lt_of_le}
-use Rattle.calculus.specs.Value.{is_within}
 use Rattle.calculus.specs.Number.{number, repeated}
 
 abs_neg : (n : ℕ) → nat_abs (neg_ℤ (pos n)) ≡ n

@@ -1,12 +1,12 @@
 -- Tables that stand for aggregates give the values of the aggregates.
-use Rattle.std.proofs.Common.{◌≡◌, refl, sym, ap, ◌∙◌, ℕ, not, ◌&&◌, ◌||◌, List, [], ◌∷◌, slice_get, Option, Some, None}
+use Rattle.std.proofs.Common.{◌≡◌, refl, ap, ◌∙◌, not, ◌&&◌, ◌||◌, List}
 use Rattle.calculus.specs.declared.query.QTerm.{QTerm, Int, Chars, Attr, Agg', items-the_row-QTerm, Row_of-QAgg, end_of-QAgg, more_of-QAgg}
 use Rattle.calculus.specs.declared.query.QQual.{QQual, True, Cmp, Like}
 use Rattle.calculus.specs.declared.query.QAgg.{QAgg}
 use Rattle.calculus.specs.declared.agg_table.AggTable.{AggTable}
 use Rattle.calculus.specs.Tree.{neg, abs, operation, concat, both, either, negated}
 use Rattle.calculus.specs.Term.{Env, Aggs, val, holds, aggregate_value, opposite_value, value_without_sign, operated_values, joined_values, compared_values, matched_value, values_of}
-use Rattle.calculus.specs.Table.{said_by, said, tabled, HasTable, has_its_table, HasTables, HasAllTables}
+use Rattle.calculus.specs.Table.{said_by, tabled, HasTable, has_its_table, HasTables, HasAllTables}
 
 table_is : (tables : List AggTable) (aggs : Aggs) (g : QAgg) (e : Env) → HasTable tables aggs g → tabled tables g e ≡ aggs g e
 unfolding tabled

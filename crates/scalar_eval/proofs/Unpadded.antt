@@ -1,5 +1,5 @@
 -- Dropping the bare blanks at the end, byte by byte.
-use Rattle.std.proofs.Common.{◌≡◌, refl, sym, ap, ◌∙◌, ℕ, zero, suc, ◌+◌, ◌≤◌, Bool, true, false, not, ◌&&◌, ◌||◌, ◌==◌, if◌then◌else◌, List, [], ◌∷◌, length, take, rules, arith}
+use Rattle.std.proofs.Common.{◌≡◌, refl, sym, ap, ◌∙◌, ℕ, suc, ◌+◌, ◌≤◌, Bool, true, false, not, ◌&&◌, ◌||◌, ◌==◌, if◌then◌else◌, List, [], ◌∷◌, length, take, rules, arith}
 use Rattle.calculus.specs.Constant.{mark, marks, marks_behind}
 use Rattle.calculus.specs.Pattern.{is_bare, before_unpadded, unpadded}
 use Rattle.calculus.specs.declared.mark.Mark.{Mark}

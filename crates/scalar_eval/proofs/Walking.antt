@@ -1,7 +1,7 @@
 -- Trying a pattern along a text: what the items behind the last `*` can still give, and that earlier ones can give no more.
-use Rattle.std.proofs.Common.{◌≡◌, refl, sym, ap, ◌∙◌, ℕ, zero, suc, ◌+◌, ◌*◌, ◌<◌, ◌≤◌, max, Bool, true, false, ◌&&◌, ◌||◌, ◌==◌, if◌then◌else◌, List, [], ◌∷◌, length, Option, Some, None, arith}
+use Rattle.std.proofs.Common.{◌≡◌, refl, sym, ap, ◌∙◌, ℕ, Bool, true, false, ◌&&◌, ◌||◌, ◌==◌, if◌then◌else◌, List, [], ◌∷◌, length, Option, Some, None, arith}
 use Rattle.calculus.specs.Constant.{marks}
-use Rattle.calculus.specs.Pattern.{Item, Byte, AnyByte, AnyText, Class, in_class, some_rest, fits_items}
+use Rattle.calculus.specs.Pattern.{Item, Byte, AnyByte, AnyText, Class, some_rest, fits_items}
 use Rattle.scalar_eval.proofs.Items.{written_some}
 use Rattle.scalar_eval.specs.Walk.{takes, written_items, behind_byte, behind_any_text}
 

@@ -1,5 +1,5 @@
 -- Operations on numbers of 64 bits stay within 128 bits.
-use Rattle.std.proofs.Common.{◌≡◌, sym, ap, ◌∙◌, ℕ, zero, suc, ◌<◌, ◌≤◌, ◌/◌, ℤ, pos, negsuc, ◌*ℤ◌, neg_ℤ, nat_abs, int_div, int_rem, FitsSigned, to_z, of_z, w64, arith}
+use Rattle.std.proofs.Common.{◌≡◌, ◌∙◌, ℕ, zero, suc, ◌≤◌, ◌/◌, ℤ, pos, negsuc, ◌*ℤ◌, neg_ℤ, int_div, int_rem, FitsSigned, to_z, of_z, w64, arith}
 use Rattle.std.proofs.Math.Nat.{div-le_self}
 use Rattle.std.specs.Int.{w128}
 use Rattle.std.specs.Int.Signed.{mag, nat_abs-le}

@@ -1,24 +1,23 @@
 -- Worked examples of values, matching and kinds, computed.
-use Rattle.std.proofs.Common.{◌≡◌, refl, ℕ, ℤ, pos, negsuc, Bool, true, false, List, [], ◌∷◌, Option, Some, None}
+use Rattle.std.proofs.Common.{◌≡◌, refl, ℤ, pos, negsuc, true, false, List, [], ◌∷◌, Option, Some, None}
 use Rattle.std.specs.Prelude.{codes}
 use Rattle.calculus.specs.declared.value.Value.{Value}
 use Rattle.calculus.specs.declared.value.Value.TheVariants as value
-use Rattle.calculus.specs.declared.value.Domain.TheVariants.{I1, I4, C}
+use Rattle.calculus.specs.declared.value.Domain.TheVariants.{I1, C}
 use Rattle.calculus.specs.declared.value.Kind.{Kind}
 use Rattle.calculus.specs.declared.value.Kind.TheVariants.{Of, Wide}
 use Rattle.calculus.specs.declared.operator.ArithOp.TheVariants as op
 use Rattle.calculus.specs.declared.operator.CmpOp.TheVariants as compare
 use Rattle.calculus.specs.declared.operator.AggOp.TheVariants as fold
-use Rattle.calculus.specs.declared.query.RelKey.{RelKey}
 use Rattle.calculus.specs.declared.query.AggSource.{Named}
 use Rattle.calculus.specs.declared.query.QAgg.{QAgg}
 use Rattle.calculus.specs.declared.query.QTerm.{QTerm, Int, Chars, Attr}
-use Rattle.calculus.specs.declared.query.QQual.{QQual, True, Cmp, Like}
+use Rattle.calculus.specs.declared.query.QQual.{True, Cmp, Like}
 use Rattle.calculus.specs.declared.agg_table.AggTable.{AggTable}
-use Rattle.calculus.specs.Tree.{neg, abs, operation, concat, both, either, negated, aggregate}
+use Rattle.calculus.specs.Tree.{neg, abs, operation, concat, negated, aggregate}
 use Rattle.calculus.specs.Constant.{marks, constant_text}
 use Rattle.calculus.specs.Pattern.{items, fits_items, matches}
-use Rattle.calculus.specs.Term.{Env, val, holds, no_aggs, attribute_value, opposite_value, value_without_sign, operated_values, joined_values, compared_values, matched_value, values_of}
+use Rattle.calculus.specs.Term.{Env, val, holds, no_aggs, attribute_value, opposite_value, value_without_sign, operated_values, joined_values, compared_values, values_of}
 use Rattle.calculus.specs.Kinds.{kind_of, kinds_fit, attribute_kind, constant_kind, number_kind, operated_kind, joined_kind, comparable, is_text_kind}
 use Rattle.calculus.specs.Table.{tabled, said}
 

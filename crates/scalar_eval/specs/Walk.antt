@@ -1,5 +1,5 @@
 -- The steps along a pattern from its written bytes.
-use Rattle.std.specs.Prelude.{ℕ, zero, suc, ◌≡◌, Bool, true, false, not, ◌==◌, ◌&&◌, ◌||◌, if◌then◌else◌, List, [], ◌∷◌, take, drop, Option, Some, None}
+use Rattle.std.specs.Prelude.{ℕ, suc, ◌≡◌, Bool, true, false, not, ◌==◌, ◌&&◌, ◌||◌, if◌then◌else◌, List, [], ◌∷◌, take, drop, Option, Some, None}
 use Rattle.calculus.specs.Constant.{marks}
 use Rattle.calculus.specs.Pattern.{Item, Byte, AnyByte, AnyText, Class, in_class, items_behind, bracket_items, is_bare, class_length}
 use Rattle.calculus.specs.declared.mark.Mark.{Mark}

@@ -149,8 +149,9 @@ fn fits_written(pattern: &[u8], text: &[u8]) -> bool
     }
 }
 
-/// Whether the text matches the pattern. Takes no memory, and at most the product of the two lengths
-/// of time.
+/// Whether the text matches the pattern. Takes no memory. However many `*` the pattern has, each of
+/// its items is tried at most once for each place of the text; to try a `[` is to read on to its `]`,
+/// or to the pattern's end where none follows.
 #[tactic(auto, unfolding(calculus::specs::Pattern::matches, calculus::specs::Pattern::items, crate::specs::Walk::written_items))]
 pub fn like(pattern: &[u8], text: &[u8]) -> bool
     ensures { result ≡ matches pattern.now text.now }

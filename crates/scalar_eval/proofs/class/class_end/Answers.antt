@@ -1,4 +1,4 @@
-use Rattle.std.proofs.Common.{◌≡◌, sym, ap, ◌∙◌, drop}
+use Rattle.std.proofs.Common.{sym, ap, ◌∙◌, drop}
 use Rattle.scalar_eval.proofs.Marks.{class_parts, one_dropped}
 use Rattle.scalar_eval.proofs.class.class_end.Goals as goal
 

@@ -1,4 +1,4 @@
-use Rattle.std.proofs.Common.{◌≡◌, List, [], ℕ, rules}
+use Rattle.std.proofs.Common.{rules}
 use Rattle.scalar_eval.proofs.Texts.{read_at_end}
 use Rattle.scalar_eval.proofs.constant.plain_bytes.Goals as goal
 

@@ -1,4 +1,4 @@
-use Rattle.std.proofs.Common.{◌≡◌, ◌≢◌, sym, ap, ◌∙◌, ℕ, ℤ, pos, negsuc, Some, FitsSigned, to_z, of_z, w64}
+use Rattle.std.proofs.Common.{◌≡◌, sym, ap, ◌∙◌, ℕ, ℤ, pos, negsuc, FitsSigned, to_z, of_z, w64}
 use Rattle.std.proofs.lemmas.Int.{to_z-of_z}
 use Rattle.calculus.specs.Number.{number, repeated}
 use Rattle.scalar_eval.proofs.Powers.{power_of_one, even_power, odd_power}

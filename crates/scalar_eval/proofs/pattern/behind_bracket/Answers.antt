@@ -1,4 +1,4 @@
-use Rattle.std.proofs.Common.{◌≡◌, sym, ◌∙◌}
+use Rattle.std.proofs.Common.{sym, ◌∙◌}
 use Rattle.scalar_eval.proofs.Items.{class_refuses}
 use Rattle.scalar_eval.proofs.pattern.behind_bracket.Goals as goal
 

@@ -1,4 +1,4 @@
-use Rattle.std.proofs.Common.{◌≡◌, ◌≤◌, ◌||◌, true, length, [], ◌∷◌, sym, ap, ◌∙◌, rules, arith}
+use Rattle.std.proofs.Common.{◌≡◌, ◌||◌, [], ◌∷◌, sym, ap, ◌∙◌, arith}
 use Rattle.calculus.specs.Pattern.{fits_items, some_rest}
 use Rattle.scalar_eval.specs.Walk.{written_items}
 use Rattle.scalar_eval.proofs.Walking.{later, star_step, star_hidden, byte_step, byte_hidden, refused, again_step, at_end, end_written}

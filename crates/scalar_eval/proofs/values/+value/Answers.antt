@@ -1,4 +1,4 @@
-use Rattle.std.proofs.Common.{◌≡◌, ◌+◌, sym, ap, ◌∙◌, drop, Some, rules, arith}
+use Rattle.std.proofs.Common.{◌+◌, sym, ap, ◌∙◌, drop, Some}
 use Rattle.calculus.specs.Term.{values_of}
 use Rattle.scalar_eval.proofs.Groups.{values_before, none_at, some_at, end_at}
 use Rattle.scalar_eval.proofs.values.+value.Goals as goal
