@@ -19,5 +19,4 @@ pub fn matches_are_by_the_relation()
 pub fn tables_stand_for_aggregates()
     ensures value { (tables : List AggTable) (aggs : Aggs) (t : QTerm) (e : Env) → HasTables tables aggs t → val (tabled tables) t e ≡ val aggs t e }
     ensures truth { (tables : List AggTable) (aggs : Aggs) (q : QQual) (e : Env) → HasAllTables tables aggs q → holds (tabled tables) q e ≡ holds aggs q e }
-{
-}
+{}
