@@ -1,0 +1,13 @@
+pub mod Adding
+pub mod Checking
+pub mod Closing
+pub mod Collecting
+pub mod Finishing
+pub mod Form
+pub mod Lays
+pub mod Listing
+pub mod Opening
+pub mod Outside
+pub mod Placing
+pub mod Reopening
+pub mod Standing

@@ -1,0 +1,5 @@
+pub mod Faults
+pub mod Layout
+pub mod OnDisk
+pub mod Redone
+pub mod Staged

@@ -1,0 +1,38 @@
+// A whole batch at once.
+ghost use Rattle.std.specs.Prelude.{◌≡◌, ◌<◌, ◌^◌, IsTrue, IsOk, OnOk, All, length};
+ghost use Rattle.fault_io.specs.Causes.{HasCause};
+ghost use Rattle.disk_model.specs.Disk.{LeavesOnly};
+ghost use Rattle.batch_file.specs.Layout.{is_place};
+ghost use Rattle.batch_file.specs.Redone.{kept, laid, IsShut};
+ghost use Rattle.batch_file.specs.OnDisk.{BeforeOrAfter, IsClosed};
+
+use crate::stage::Batch;
+use disk_model::{Addr, Disk, DiskFailed, Page};
+
+/// Lays all pages on the disk, each at its address, or none. Without a change it does nothing. Takes
+/// no memory. Where an address comes twice, the later page stands.
+///
+/// After an error the disk is restored before it is used further.
+pub fn commit<D: Disk>(disk: &mut D, changes: &[(Addr, Page)]) -> Result<(), DiskFailed>
+    requires shut { IsTrue D.tells → IsShut (D.seen disk.old) (D.touched disk.old) }
+    requires places { All (λ c. IsTrue (is_place c.0)) changes.now }
+    requires few { length changes.now < 2 ^ 32 }
+
+    // A crash at any moment leaves the pages of an image of before, with all changes laid over it
+    // or none.
+    ensures crash { IsTrue D.tells → LeavesOnly D.clock D.left_since disk.old disk.new
+        (BeforeOrAfter (D.seen disk.old) (D.touched disk.old) changes.now) }
+    ensures laid { IsTrue D.tells →
+        OnOk result (kept (D.seen disk.new) ≡ kept (laid changes.now (D.seen disk.old))) }
+    ensures closed { IsTrue D.tells →
+        OnOk result (0 < length changes.now → IsClosed (D.seen disk.new) (D.touched disk.new)) }
+    ensures empty { length changes.now ≡ 0 → (disk.new ≡ disk.old) × IsOk result }
+    ensures cause { HasCause (D.faults disk.old) (D.faults disk.new) result }
+{
+    let mut batch = Batch::begin();
+    for (a, page) in changes {
+        batch.add(disk, *a, page)?;
+    }
+    batch.finish(disk)?;
+    Ok(())
+}

@@ -1,0 +1,60 @@
+// Opening the gate over a batch, and laying it.
+ghost use Rattle.std.specs.Prelude.{◌≡◌, ◌<◌, IsTrue, OnOk};
+ghost use Rattle.fault_io.specs.Causes.{HasCause};
+ghost use Rattle.disk_model.specs.Disk.{LeavesOnly};
+ghost use Rattle.batch_file.specs.Layout.{entries};
+ghost use Rattle.batch_file.specs.Redone.{redone, kept, laid, IsShut};
+ghost use Rattle.batch_file.specs.OnDisk.{BeforeOrAfter, IsWhole, IsOpen, IsClosed};
+
+use crate::fault::RestoreFault;
+use crate::layout::{GATE, HEAD, head_page};
+use crate::redo::redo;
+use disk_model::{Addr, Disk, DiskFailed, Page};
+
+/// Writes the head of a batch and opens its gate.
+fn open_gate<D: Disk>(disk: &mut D, count: u32) -> Result<(), DiskFailed>
+    requires some { 0 < count }
+    requires shut { IsTrue D.tells → IsShut (D.seen disk.old) (D.touched disk.old) }
+    requires whole { IsTrue D.tells → IsWhole (D.seen disk.old) count }
+    ensures crash { IsTrue D.tells → LeavesOnly D.clock D.left_since disk.old disk.new
+        (BeforeOrAfter (D.seen disk.old) (D.touched disk.old) (entries (D.seen disk.old) count)) }
+    ensures opened { IsTrue D.tells →
+        OnOk result (IsOpen (D.seen disk.new) (D.touched disk.new) count) }
+    ensures same { IsTrue D.tells →
+        OnOk result (redone (D.seen disk.new)
+        ≡ redone (laid (entries (D.seen disk.old) count) (D.seen disk.old))) }
+    ensures cause { HasCause (D.faults disk.old) (D.faults disk.new) result }
+{
+    let head = head_page(count);
+    disk.write(HEAD, &head)?;
+    disk.sync()?;
+    let mut gate = [0; 1024];
+    gate[0] = 1;
+    disk.write(GATE, &gate)?;
+    disk.sync()?;
+    Ok(())
+}
+
+/// Lays a batch whose addresses and images are on the disk.
+pub fn lay<D: Disk>(disk: &mut D, count: u32) -> Result<(), DiskFailed>
+    requires some { 0 < count }
+    requires shut { IsTrue D.tells → IsShut (D.seen disk.old) (D.touched disk.old) }
+    requires whole { IsTrue D.tells → IsWhole (D.seen disk.old) count }
+    ensures crash { IsTrue D.tells → LeavesOnly D.clock D.left_since disk.old disk.new
+        (BeforeOrAfter (D.seen disk.old) (D.touched disk.old) (entries (D.seen disk.old) count)) }
+    ensures laid { IsTrue D.tells →
+        OnOk result (kept (D.seen disk.new)
+        ≡ kept (laid (entries (D.seen disk.old) count) (D.seen disk.old))) }
+    ensures closed { IsTrue D.tells →
+        OnOk result (IsClosed (D.seen disk.new) (D.touched disk.new)) }
+    ensures cause { HasCause (D.faults disk.old) (D.faults disk.new) result }
+{
+    open_gate(disk, count)?;
+    match redo(disk, count) {
+        Ok(()) => Ok(()),
+        Err(RestoreFault::Disk) => Err(DiskFailed),
+        // A disk that tells what it holds never answers damage here. Of another one the gate stays
+        // open, so that the next restore says what is damaged.
+        Err(RestoreFault::Damaged { .. }) => Ok(()),
+    }
+}

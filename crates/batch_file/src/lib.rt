@@ -1,0 +1,19 @@
+//! A batch of pages that is laid on a disk as one: all of them, or none.
+#![tactic(auto)]
+
+mod check;
+mod committing;
+mod fault;
+mod laying;
+mod layout;
+mod redo;
+mod restoring;
+mod stage;
+
+pub use committing::commit;
+pub use fault::{RestoreFault, Restored};
+pub use restoring::restore;
+pub use stage::Batch;
+
+#[cfg(test)]
+mod tests;

@@ -1,0 +1,53 @@
+// Laying the batch that a crash left behind an open gate.
+ghost use Rattle.std.specs.Prelude.{◌≡◌, ◌⊎◌, ◌↔◌, Some, Err, IsTrue, IfOk, OnOk};
+ghost use Rattle.fault_io.specs.Causes.{HasCause};
+ghost use Rattle.disk_model.specs.Disk.{OnlyReads, LeavesOnly};
+ghost use Rattle.batch_file.specs.Layout.{gate};
+ghost use Rattle.batch_file.specs.Redone.{redone, kept, answer};
+ghost use Rattle.batch_file.specs.OnDisk.{IsClosed, SameRedone};
+ghost use Rattle.batch_file.specs.Faults.{FailsBy};
+
+use crate::check::check;
+use crate::fault::{RestoreFault, Restored};
+use crate::layout::GATE;
+use crate::redo::redo;
+use disk_model::{Disk, DiskFailed};
+
+/// Whether the gate is open.
+fn is_open<D: Disk>(disk: &mut D) -> Result<bool, DiskFailed>
+    ensures opened { IsTrue D.tells →
+        IfOk result (λ yes. IsTrue yes ↔ (gate (D.seen disk.old) ≡ 1)) }
+    ensures same { IsTrue D.tells →
+        OnlyReads D.seen D.touched D.clock D.left_since disk.old disk.new }
+    ensures cause { HasCause (D.faults disk.old) (D.faults disk.new) result }
+{
+    let mut bytes = [0; 1024];
+    Ok(disk.read(GATE, &mut bytes)? && bytes[0] == 1)
+}
+
+/// Lays the batch that a crash left behind an open gate on the disk, and shuts the gate. It begins
+/// with a sync. It may be stopped too, and repeated. Takes no memory.
+///
+/// `Nothing` where the gate is shut, else `Redone` with the number of images. `Damaged` where the
+/// gate is open and the batch is not of its form. `Disk` only where a call to the disk failed.
+pub fn restore<D: Disk>(disk: &mut D) -> Result<Restored, RestoreFault>
+    // The answer is that of what a read gives; only a fault of the disk goes before.
+    ensures answer { IsTrue D.tells →
+        (result ≡ Err RestoreFault.Disk) ⊎ (result ≡ answer (D.seen disk.old)) }
+    ensures done { IsTrue D.tells →
+        OnOk result (redone (D.seen disk.old) ≡ Some (kept (D.seen disk.new))) }
+    ensures closed { IsTrue D.tells →
+        OnOk result (IsClosed (D.seen disk.new) (D.touched disk.new)) }
+    ensures crash { IsTrue D.tells →
+        LeavesOnly D.clock D.left_since disk.old disk.new
+        (SameRedone (D.seen disk.old) (D.touched disk.old)) }
+    ensures cause { FailsBy (D.faults disk.old) (D.faults disk.new) result }
+{
+    disk.sync()?;
+    if !is_open(disk)? {
+        return Ok(Restored::Nothing);
+    }
+    let count = check(disk)?;
+    redo(disk, count)?;
+    Ok(Restored::Redone(count))
+}

@@ -1,0 +1,5 @@
+pub mod Addresses
+pub mod Crashing
+pub mod Entries
+pub mod Moments
+pub mod Scanning

@@ -1,0 +1,5 @@
+pub mod Calls
+pub mod Disk
+pub mod LeftSinceLaws
+pub mod MemoryDisk
+pub mod Walks
