@@ -5,3 +5,7 @@ pub mod Clearing
 pub mod Filling
 pub mod Surveys
 pub mod Placing
+pub mod Spelling
+pub mod Marking
+pub mod Reading
+pub mod Rowing
