@@ -14,7 +14,7 @@ use Rattle.calculus.specs.declared.value.Value.TheVariants.{Int, Text}
 use Rattle.calculus.specs.Value.{fits, number_fits}
 use Rattle.calculus.specs.Text.{text_of, is_text}
 use Rattle.calculus.specs.IsDatabase.{value_fits}
-use Rattle.page_cells.specs.RowBytes.{width, number_bytes, number_of_bytes, filled, value_bytes, row_bytes, is_row, value_in, in_front, row_in}
+use Rattle.page_cells.specs.RowBytes.{width, number_bytes, number_of_bytes, filled, value_bytes, row_bytes, row_fits, is_row, value_in, in_front, row_in}
 use Rattle.page_cells.proofs.Spelling.{both, length_value, take_front, drop_front}
 use Rattle.page_cells.proofs.Reading.{each, bytes_back, number_back, cut_1, cut_2, cut_4, read_1, read_2, read_4, text_back, text_spelled}
 
@@ -122,3 +122,12 @@ row_back (v ∷ vs) (d ∷ ds) t =
     let there : drop (width d) (front ++ behind) ≡ behind = ap (λ (n : ℕ). drop n (front ++ behind)) (let e : width d ≡ width d + 0 = omega arith in e) ∙ drop_front front behind (width d) 0 long in
     (λ i. if enough i then None else in_front (value_in (take_front front behind (width d) long i) d) (row_in (there i) ds))
     ∙ (λ i. in_front (value_back v d parts.0 i) (row_back vs ds parts.1 i))
+
+-- a row of the domains fits them
+pub row_fits_of : (r : List Value) (ds : List Domain) → IsTrue (is_row r ds) → IsTrue (row_fits r ds)
+row_fits_of [] [] t = refl
+row_fits_of [] (d ∷ ds) t = cc
+row_fits_of (v ∷ vs) [] t = cc
+row_fits_of (v ∷ vs) (d ∷ ds) t =
+    let parts = both (value_fits v (Of d)) (is_row vs ds) t in
+    each (fits v d) (row_fits vs ds) (fits_of v d parts.0) (row_fits_of vs ds parts.1)

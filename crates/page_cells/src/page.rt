@@ -1,6 +1,6 @@
 //! A page as its slots and its next page.
 
-ghost use Rattle.std.specs.Prelude.{◌≡◌, None, [], slice_index_or, slice_set};
+ghost use Rattle.std.specs.Prelude.{◌≡◌, ◌<◌, ◌≤◌, None, [], IfSome, length, slice_index_or, slice_set};
 ghost use Rattle.std.specs.Option.{option_copied};
 ghost use Rattle.page_cells.specs.Page.{IsPage, low, next_page, slots};
 
@@ -29,11 +29,12 @@ pub fn fresh_page(out: &mut Page)
     start_page(out, 0);
 }
 
-/// The bytes of the row in a line, lines counting from 0; `None` where the line is empty or past the
+/// The bytes of the row in a line, 1 to 1,012, lines counting from 0; `None` where the line is empty or past the
 /// last. Takes no memory.
 pub fn slot(p: &Page, line: u16) -> Option<&[u8]>
     requires { IsPage p.now }
-    ensures { option_copied result ≡ slice_index_or (slots p.now) line None }
+    ensures row { option_copied result ≡ slice_index_or (slots p.now) line None }
+    ensures bytes { IfSome result (λ row. (0 < length row.now) × (length row.now ≤ 1012)) }
 {
     if line >= lines(p) {
         return None;
