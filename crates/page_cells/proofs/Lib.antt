@@ -1,0 +1,11 @@
+pub mod Rows
+pub mod Lists
+pub mod Following
+pub mod Clearing
+pub mod Filling
+pub mod Surveys
+pub mod Placing
+pub mod Spelling
+pub mod Marking
+pub mod Reading
+pub mod Rowing
