@@ -237,8 +237,9 @@ fn many_rows_are_put_in_order(rt: HostRuntime) -> Result<(), Fail> {
     let mut rows = Vec::new(alloc);
     for number in 0..2_000 {
         assert_eq!(rt; set.insert(row_of(alloc, &[number])?), Ok(true));
-        rows.push(row_of(alloc, &[1_999 - number])?)?;
+        rows.push(row_of(alloc, &[number])?)?;
     }
+    rows.reverse();
     assert_eq!(rt; set, RowSet::of_rows(rows));
     Ok(())
 }
