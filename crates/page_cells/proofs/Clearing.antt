@@ -28,7 +28,7 @@ module _ (p q : List ℕ) (i : ℕ) (page : IsPage p) (long : length q ≡ lengt
       (λ k low_k other. row_kept p q k page long (λ j le. others j (inr (omega (arith, page.behind)))) low_k (line_q k other))
 
   pub clearing_page : IsPage q
-  clearing_page = still_page p q 0 page (omega (arith, page.behind, lines_q, low_q)) (omega (arith, low_q))
+  clearing_page = still_page p q 0 page long (omega (arith, page.behind, lines_q, low_q)) (omega (arith, low_q))
       (λ k low_k more. elim (same_or_not k) [
         | inl same ↦ absurd (omega (arith, subst (λ x. 0 < size q x) same more, zero_size))
         | inr other ↦ inl (omega (arith, lines_q, low_k), line_q k other)

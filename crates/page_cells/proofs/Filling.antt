@@ -54,7 +54,7 @@ module _ (p one two three q : List ℕ) (i lo n : ℕ) (row : List ℕ) (page : 
   ]
 
   pub filling_page : IsPage q
-  filling_page = still_page p q i page (omega (arith, lines_q, low_q, is_lo, room)) (omega (arith, low_q, is_lo)) each
+  filling_page = still_page p q i page long (omega (arith, lines_q, low_q, is_lo, room)) (omega (arith, low_q, is_lo)) each
 
   pub filling_next : next_page q ≡ next_page p
   filling_next = next_same p q (λ j small. head_byte j (omega arith))
@@ -86,7 +86,7 @@ module _ (p one q : List ℕ) (m : ℕ) (is_m : m ≡ lines p) (page : IsPage p)
   ]
 
   pub adding_page : IsPage q
-  adding_page = still_page p q 0 page (omega (arith, lines2, low_r, room, is_m)) (omega (arith, low_r)) each_r
+  adding_page = still_page p q 0 page long (omega (arith, lines2, low_r, room, is_m)) (omega (arith, low_r)) each_r
 
   pub adding_next : next_page q ≡ next_page p
   adding_next = next_same p q (λ j small. off2 j (inl small) ∙ off1 j (inl (omega arith)))

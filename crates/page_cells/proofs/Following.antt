@@ -26,4 +26,4 @@ module _ (p q : List ℕ) (page : IsPage p) (long : length q ≡ length p) (othe
   following_slots = slots_same p q lines_q (λ k lt. row_kept p q k page long (λ j le. others j (omega (arith, page.behind))) lt (line_q k))
 
   pub following_page : IsPage q
-  following_page = still_page p q 0 page (omega (arith, page.behind, lines_q, low_q)) (omega (arith, low_q)) (λ k lt more. inl (omega (arith, lines_q, lt), line_q k))
+  following_page = still_page p q 0 page long (omega (arith, page.behind, lines_q, low_q)) (omega (arith, low_q)) (λ k lt more. inl (omega (arith, lines_q, lt), line_q k))

@@ -1,5 +1,5 @@
 -- The flags once the row of one more line is flagged.
-use Rattle.std.proofs.Common.{◌≡◌, ◌⊎◌, inl, inr, refl, sym, ap, subst, ◌∙◌, ℕ, zero, suc, ◌+◌, ◌*◌, ◌<◌, ◌≤◌, Bool, true, false, List, get_or, replicate, arith}
+use Rattle.std.proofs.Common.{◌≡◌, ◌⊎◌, inl, inr, refl, sym, ap, subst, ◌∙◌, ℕ, zero, suc, ◌+◌, ◌*◌, ◌<◌, ◌≤◌, Bool, true, false, List, length, get_or, replicate, arith}
 use Rattle.std.specs.Bool.{OnTrue, OnFalse}
 use Rattle.page_cells.specs.Page.{lines, low, offset, size, IsInRow, IsPage}
 use Rattle.page_cells.specs.Marks.{Marks}
@@ -116,8 +116,9 @@ not_apart p line a b flags marks lt is_a is_b (k, from, to, is) page =
     omega (arith, same, found.1)
 
 -- all lines are gone through
-pub all_marked : (p : List ℕ) (n : ℕ) (flags : List Bool) → n ≡ lines p → Marks p n flags → 8 + 4 * lines p ≤ low p → low p ≤ 1024 → IsPage p
-all_marked p n flags is marks behind top = record {
+pub all_marked : (p : List ℕ) (n : ℕ) (flags : List Bool) → n ≡ lines p → Marks p n flags → length p ≡ 1024 → 8 + 4 * lines p ≤ low p → low p ≤ 1024 → IsPage p
+all_marked p n flags is marks long behind top = record {
+  long = long;
   behind = behind;
   top = top;
   within = λ k lt more. marks.within k (omega (arith, is, lt)) more;

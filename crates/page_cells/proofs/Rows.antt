@@ -67,7 +67,7 @@ row_kept p q k page long above lt line = elim (zero_or_more (size p k)) [
 abbrev pub KeptOrBelow : List ℕ → List ℕ → ℕ → ℕ → Type 0
 KeptOrBelow p q i k = ((k < lines p) × SameLine p q k) ⊎ ((k ≡ i) × (low q ≤ offset q k) × (offset q k + size q k ≤ low p))
 
-module _ (p q : List ℕ) (i : ℕ) (page : IsPage p) (behind : 8 + 4 * lines q ≤ low q) (lower : low q ≤ low p) (each : (k : ℕ) → k < lines q → 0 < size q k → KeptOrBelow p q i k) where
+module _ (p q : List ℕ) (i : ℕ) (page : IsPage p) (long : length q ≡ length p) (behind : 8 + 4 * lines q ≤ low q) (lower : low q ≤ low p) (each : (k : ℕ) → k < lines q → 0 < size q k → KeptOrBelow p q i k) where
   in_q : (k : ℕ) → k < lines q → 0 < size q k → (low q ≤ offset q k) × (offset q k + size q k ≤ 1024)
   in_q k lt more = elim (each k lt more) [
     | inl (lt_p, line) ↦
@@ -96,4 +96,10 @@ module _ (p q : List ℕ) (i : ℕ) (page : IsPage p) (behind : 8 + 4 * lines q 
   ]
 
   pub still_page : IsPage q
-  still_page = record { behind = behind; top = omega (arith, lower, page.top); within = in_q; apart = apart_q }
+  still_page = record {
+    long = long ∙ page.long;
+    behind = behind;
+    top = omega (arith, lower, page.top);
+    within = in_q;
+    apart = apart_q;
+  }

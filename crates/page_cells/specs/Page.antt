@@ -48,9 +48,10 @@ pub record IsInRow (p : List ℕ) (k i : ℕ) : Type 0 where
   pub from : offset p k ≤ i
   pub to : i < offset p k + size p k
 
--- the bytes are a page of rows: the rows begin behind the lines, each row lies from there to the end, and no byte
--- belongs to two rows
+-- the bytes are a page of rows: 1,024 bytes, of which the rows begin behind the lines, each row lies from there to the
+-- end, and no byte belongs to two rows
 pub record IsPage (p : List ℕ) : Type 0 where
+  pub long : length p ≡ 1024
   pub behind : 8 + 4 * lines p ≤ low p
   pub top : low p ≤ 1024
   pub within : (k : ℕ) → k < lines p → 0 < size p k → (low p ≤ offset p k) × (offset p k + size p k ≤ 1024)
