@@ -62,7 +62,7 @@ fn behind_any_text(pattern: &[u8]) -> Option<&[u8]>
 }
 
 /// What is written behind the class, or the plain `[`, that a `[` in front begins, where that takes
-/// the byte. No `]` follows where at most `unclosed` bytes are left.
+/// the byte. No `]` follows exactly where at most `unclosed` bytes are left.
 #[tactic(auto, using(crate::proofs::Items::class_takes, crate::proofs::Items::class_refuses, crate::proofs::Items::open_takes, crate::proofs::Items::open_refuses))]
 fn behind_bracket(unclosed: usize, behind: &[u8], byte: u8) -> Option<&[u8]>
     requires { NoneCloses unclosed (marks behind.now) }
@@ -83,7 +83,7 @@ fn behind_bracket(unclosed: usize, behind: &[u8], byte: u8) -> Option<&[u8]>
 }
 
 /// What is written behind the first item, where that takes the byte; a `*` takes none. No `]` follows
-/// where at most `unclosed` bytes are left.
+/// exactly where at most `unclosed` bytes are left.
 #[tactic(auto, using(crate::proofs::Items::byte_none, crate::proofs::Items::byte_star, crate::proofs::Items::byte_question, crate::proofs::Items::byte_bracket, crate::proofs::Items::byte_itself, crate::proofs::Items::byte_other, crate::proofs::Unclosed::next_none_closes))]
 fn behind_byte(unclosed: usize, pattern: &[u8], byte: u8) -> Option<&[u8]>
     requires { NoneCloses unclosed (marks pattern.now) }
