@@ -3,6 +3,7 @@ pub mod Wide
 pub mod Marks
 pub mod Unpadded
 pub mod Items
+pub mod Unclosed
 pub mod Walking
 pub mod Texts
 pub mod Groups

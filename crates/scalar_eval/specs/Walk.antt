@@ -1,5 +1,5 @@
 -- The steps along a pattern from its written bytes.
-use Rattle.std.specs.Prelude.{ℕ, suc, ◌≡◌, Bool, true, false, not, ◌==◌, ◌&&◌, ◌||◌, if◌then◌else◌, List, [], ◌∷◌, take, drop, Option, Some, None}
+use Rattle.std.specs.Prelude.{ℕ, suc, ◌≤◌, ◌≡◌, ◌↔◌, Bool, true, false, not, ◌==◌, ◌&&◌, ◌||◌, if◌then◌else◌, List, [], ◌∷◌, take, drop, Option, Some, None}
 use Rattle.calculus.specs.Constant.{marks}
 use Rattle.calculus.specs.Pattern.{Item, Byte, AnyByte, AnyText, Class, in_class, items_behind, bracket_items, is_bare, class_length}
 use Rattle.calculus.specs.declared.mark.Mark.{Mark}
@@ -35,6 +35,16 @@ behind_any_text (Class rs ∷ is) = None
 -- behind a bare `[` stand the bytes of a class, then a bare `]`, then the rest
 abbrev pub IsClass : List ℕ → List ℕ → List ℕ → Type 0
 IsClass behind class rest = (n : ℕ) × (class_length (marks behind) ≡ Some n) × (take n (marks behind) ≡ marks class) × (drop (suc n) (marks behind) ≡ marks rest)
+
+-- how many bytes the marks are written with: two where a backslash makes the byte plain
+abbrev pub width : List Mark → ℕ
+width [] = 0
+width (m ∷ ms) = if m.plain then suc (suc (width ms)) else suc (width ms)
+
+-- no bare `]` follows exactly where at most `unclosed` bytes are left
+unfoldable pub NoneCloses : ℕ → List Mark → Type 0
+NoneCloses unclosed [] = Unit
+NoneCloses unclosed (m ∷ ms) = ((width (m ∷ ms) ≤ unclosed) ↔ (class_length (m ∷ ms) ≡ None)) × NoneCloses unclosed ms
 
 -- the byte behind a bare `-` that comes first, and what follows it
 abbrev pub after_dash : List Mark → Option (Mark × List Mark)

@@ -3,7 +3,7 @@
 ghost use Rattle.std.specs.Prelude.{◌≡◌, ◌<◌, ◌≤◌, ◌∷◌, [], length, Some, None, false, not, ◌&&◌, ◌==◌, MatchOption, IfSome};
 ghost use Rattle.calculus.specs.Constant.{marks};
 ghost use Rattle.calculus.specs.Pattern.{is_bare, ranges, in_class, class_length};
-ghost use Rattle.scalar_eval.specs.Walk.{IsClass, after_dash, close_from};
+ghost use Rattle.scalar_eval.specs.Walk.{IsClass, NoneCloses, after_dash, close_from};
 
 use calculus::{Mark, next_mark};
 
@@ -56,6 +56,34 @@ pub(crate) fn class_end(behind: &[u8]) -> Option<(&[u8], &[u8])>
             let (_, rest) = closed.split_at(1);
             Some((class, rest))
         }
+    }
+}
+
+/// How many bytes are written behind the last `]` that no backslash makes plain: all where there is
+/// none. Each byte is read once.
+#[tactic(auto, using(crate::proofs::Unclosed::none_closes))]
+pub(crate) fn unclosed_length(pattern: &[u8]) -> usize
+    ensures { NoneCloses result (marks pattern.now) }
+{
+    let mut rest = pattern;
+    'classes: while let Some((_, after)) = class_end(rest) {
+        rest = after;
+    }
+    rest.len()
+}
+
+/// The same as [`class_end`], but nothing is read where no `]` can follow: where at most the last
+/// `unclosed` bytes are left.
+#[tactic(auto, using(crate::proofs::Unclosed::no_class_left))]
+pub(crate) fn class_before(unclosed: usize, behind: &[u8]) -> Option<(&[u8], &[u8])>
+    requires { NoneCloses unclosed (marks behind.now) }
+    ensures parts { MatchOption result (class_length (marks behind.now) ≡ None) (λ p. IsClass behind.now p.0.now p.1.now) }
+    ensures shorter { IfSome result (λ p. length p.1.now < length behind.now) }
+{
+    if behind.len() <= unclosed {
+        None
+    } else {
+        class_end(behind)
     }
 }
 

@@ -1,11 +1,11 @@
 //! Matching a text with a pattern.
 
-ghost use Rattle.std.specs.Prelude.{◌≡◌, ◌<◌, ◌≤◌, ◌∷◌, [], length, Some, None, false, not, suc, ◌^◌, ◌||◌, ◌==◌, if◌then◌else◌, MatchOption, IfSome};
+ghost use Rattle.std.specs.Prelude.{ℕ, ◌≡◌, ◌<◌, ◌≤◌, ◌∷◌, [], length, Some, None, false, not, suc, ◌^◌, ◌||◌, ◌==◌, if◌then◌else◌, MatchOption, IfSome};
 ghost use Rattle.calculus.specs.Constant.{marks};
 ghost use Rattle.calculus.specs.Pattern.{unpadded, fits_items, matches};
-ghost use Rattle.scalar_eval.specs.Walk.{written_items, bracket_written, behind_byte, behind_any_text, kept_from};
+ghost use Rattle.scalar_eval.specs.Walk.{NoneCloses, written_items, bracket_written, behind_byte, behind_any_text, kept_from};
 
-use crate::class::{class_end, escapes, in_class, is_bare};
+use crate::class::{class_before, escapes, in_class, is_bare, unclosed_length};
 use calculus::next_mark;
 
 /// How many bytes are kept up to this byte at this place, where `kept` are in front of it: all of them,
@@ -43,10 +43,11 @@ fn unpadded(pattern: &[u8]) -> &[u8]
 }
 
 /// What is written behind a `*` that comes first.
-#[tactic(auto, using(crate::proofs::Items::any_text_none, crate::proofs::Items::any_text_there, crate::proofs::Items::any_text_else))]
+#[tactic(auto, using(crate::proofs::Items::any_text_none, crate::proofs::Items::any_text_there, crate::proofs::Items::any_text_else, crate::proofs::Unclosed::next_none_closes))]
 fn behind_any_text(pattern: &[u8]) -> Option<&[u8]>
     ensures first { MatchOption result (behind_any_text (written_items pattern.now) ≡ None) (λ r. behind_any_text (written_items pattern.now) ≡ Some (written_items r.now)) }
     ensures shorter { IfSome result (λ r. length r.now < length pattern.now) }
+    ensures none_closes { IfSome result (λ r. (unclosed : ℕ) → NoneCloses unclosed (marks pattern.now) → NoneCloses unclosed (marks r.now)) }
 {
     match next_mark(pattern) {
         None => None,
@@ -61,13 +62,15 @@ fn behind_any_text(pattern: &[u8]) -> Option<&[u8]>
 }
 
 /// What is written behind the class, or the plain `[`, that a `[` in front begins, where that takes
-/// the byte.
+/// the byte. No `]` follows exactly where at most `unclosed` bytes are left.
 #[tactic(auto, using(crate::proofs::Items::class_takes, crate::proofs::Items::class_refuses, crate::proofs::Items::open_takes, crate::proofs::Items::open_refuses))]
-fn behind_bracket(behind: &[u8], byte: u8) -> Option<&[u8]>
+fn behind_bracket(unclosed: usize, behind: &[u8], byte: u8) -> Option<&[u8]>
+    requires { NoneCloses unclosed (marks behind.now) }
     ensures first { MatchOption result (behind_byte (bracket_written behind.now) byte ≡ None) (λ r. behind_byte (bracket_written behind.now) byte ≡ Some (written_items r.now)) }
     ensures shorter { IfSome result (λ r. length r.now ≤ length behind.now) }
+    ensures none_closes { IfSome result (λ r. NoneCloses unclosed (marks r.now)) }
 {
-    match class_end(behind) {
+    match class_before(unclosed, behind) {
         Some((class, rest)) => {
             if in_class(class, byte) {
                 Some(rest)
@@ -79,11 +82,14 @@ fn behind_bracket(behind: &[u8], byte: u8) -> Option<&[u8]>
     }
 }
 
-/// What is written behind the first item, where that takes the byte; a `*` takes none.
-#[tactic(auto, using(crate::proofs::Items::byte_none, crate::proofs::Items::byte_star, crate::proofs::Items::byte_question, crate::proofs::Items::byte_bracket, crate::proofs::Items::byte_itself, crate::proofs::Items::byte_other))]
-fn behind_byte(pattern: &[u8], byte: u8) -> Option<&[u8]>
+/// What is written behind the first item, where that takes the byte; a `*` takes none. No `]` follows
+/// exactly where at most `unclosed` bytes are left.
+#[tactic(auto, using(crate::proofs::Items::byte_none, crate::proofs::Items::byte_star, crate::proofs::Items::byte_question, crate::proofs::Items::byte_bracket, crate::proofs::Items::byte_itself, crate::proofs::Items::byte_other, crate::proofs::Unclosed::next_none_closes))]
+fn behind_byte(unclosed: usize, pattern: &[u8], byte: u8) -> Option<&[u8]>
+    requires { NoneCloses unclosed (marks pattern.now) }
     ensures first { MatchOption result (behind_byte (written_items pattern.now) byte ≡ None) (λ r. behind_byte (written_items pattern.now) byte ≡ Some (written_items r.now)) }
     ensures shorter { IfSome result (λ r. length r.now < length pattern.now) }
+    ensures none_closes { IfSome result (λ r. NoneCloses unclosed (marks r.now)) }
 {
     match next_mark(pattern) {
         None => None,
@@ -93,7 +99,7 @@ fn behind_byte(pattern: &[u8], byte: u8) -> Option<&[u8]>
             } else if is_bare(mark, b'?') {
                 Some(behind)
             } else if is_bare(mark, b'[') {
-                behind_bracket(behind, byte)
+                behind_bracket(unclosed, behind, byte)
             } else if byte == mark.byte {
                 Some(behind)
             } else {
@@ -118,6 +124,7 @@ fn front(text: &[u8]) -> Option<(u8, &[u8])>
 fn fits_written(pattern: &[u8], text: &[u8]) -> bool
     ensures { result ≡ fits_items (written_items pattern.now) text.now }
 {
+    let unclosed = unclosed_length(pattern);
     let mut items = pattern;
     let mut rest = text;
     let mut again_items = pattern;
@@ -132,7 +139,7 @@ fn fits_written(pattern: &[u8], text: &[u8]) -> bool
         let Some((byte, more)) = front(rest) else {
             return items.is_empty();
         };
-        match behind_byte(items, byte) {
+        match behind_byte(unclosed, items, byte) {
             Some(behind) => {
                 items = behind;
                 rest = more;
@@ -149,9 +156,9 @@ fn fits_written(pattern: &[u8], text: &[u8]) -> bool
     }
 }
 
-/// Whether the text matches the pattern. Takes no memory. However many `*` the pattern has, each of
-/// its items is tried at most once for each place of the text; to try a `[` is to read on to its `]`,
-/// or to the pattern's end where none follows.
+/// Whether the text matches the pattern. Takes no memory. However many `*` and `[` the pattern has,
+/// each of its items is tried at most once for each place of the text, and to try one is to read no
+/// more than its own bytes: a `[` is read on to its `]`, and alone where none follows.
 #[tactic(auto, unfolding(calculus::specs::Pattern::matches, calculus::specs::Pattern::items, crate::specs::Walk::written_items))]
 pub fn like(pattern: &[u8], text: &[u8]) -> bool
     ensures { result ≡ matches pattern.now text.now }

@@ -10,6 +10,8 @@ walk-preserved-in-Some c = record {
   hidden = star_hidden _ c.walk.rest.now;
   within = omega (arith, c.in-Some.ensures.shorter, c.walk.invariant.within);
   again_within = omega (arith, c.in-Some.ensures.shorter, c.walk.invariant.within);
+  none_closes = c.in-Some.ensures.none_closes _ c.walk.invariant.none_closes;
+  again_none_closes = c.in-Some.ensures.none_closes _ c.walk.invariant.none_closes;
 }
 
 pub returns-in_default-front : goal.returns-in_default-front
@@ -30,6 +32,8 @@ walk-preserved-in-Some-behind_byte c =
           (λ t. ap (some_rest (fits_items (written_items c.walk.items.now))) (sym e) ∙ c.walk.invariant.hidden t);
       within = omega (arith, c.in-Some-behind_byte.ensures.shorter, c.walk.invariant.within);
       again_within = c.walk.invariant.again_within;
+      none_closes = c.in-Some-behind_byte.ensures.none_closes;
+      again_none_closes = c.walk.invariant.again_none_closes;
     }
 
 pub returns-in_default-front-2 : goal.returns-in_default-front-2
@@ -54,4 +58,6 @@ walk-preserved c =
       hidden = star_hidden _ c.in-Some-front-2.later.now;
       within = c.walk.invariant.again_within;
       again_within = c.walk.invariant.again_within;
+      none_closes = c.walk.invariant.again_none_closes;
+      again_none_closes = c.walk.invariant.again_none_closes;
     }
