@@ -1,9 +1,9 @@
 -- A page of which one line is made empty.
 use Rattle.std.proofs.Common.{◌≡◌, ◌≢◌, ◌⊎◌, inl, inr, refl, ℕ, zero, suc, ◌+◌, ◌*◌, ◌<◌, ◌≤◌, List, [], ◌∷◌, Option, Some, None, length, get_or, slice_index, sym, ap, subst, ◌∙◌, arith}
 use Rattle.std.proofs.Math.ListN.{set}
-use Rattle.page_cells.specs.Page.{Slot, lines, low, size, offset, row_at, next_page, number_at, slots, IsPage}
+use Rattle.page_cells.specs.Page.{Slot, lines, low, size, next_page, number_at, slots, IsPage}
 use Rattle.page_cells.proofs.Rows.{number_same, line_same, SameLine, row_kept, row_none, row_some, still_page}
-use Rattle.page_cells.proofs.Lists.{slots_set, slots_at, slots_past, length_slots}
+use Rattle.page_cells.proofs.Lists.{slots_set, slots_at, slots_past}
 use Rattle.page_cells.proofs.Following.{next_same}
 
 module _ (p q : List ℕ) (i : ℕ) (page : IsPage p) (long : length q ≡ length p) (lt : i < lines p) (zero_size : number_at q (10 + 4 * i) ≡ 0)

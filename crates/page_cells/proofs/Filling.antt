@@ -1,5 +1,5 @@
 -- A row put into an empty line, and an empty line that is added.
-use Rattle.std.proofs.Common.{◌≡◌, ◌≢◌, ◌⊎◌, inl, inr, ℕ, suc, ◌+◌, ◌-◌, ◌*◌, ◌<◌, ◌≤◌, List, [], ◌∷◌, ◌++◌, Option, Some, None, length, slice_index, slice_range, sym, ap, subst, ◌∙◌, arith}
+use Rattle.std.proofs.Common.{◌≡◌, ◌≢◌, ◌⊎◌, inl, inr, ℕ, ◌+◌, ◌-◌, ◌*◌, ◌<◌, ◌≤◌, List, [], ◌∷◌, ◌++◌, Some, None, length, slice_index, slice_range, sym, ap, subst, ◌∙◌, arith}
 use Rattle.std.proofs.Math.ListN.{set}
 use Rattle.page_cells.specs.Page.{lines, low, size, offset, row_at, next_page, number_at, slots, IsPage}
 use Rattle.page_cells.proofs.Rows.{number_same, range_same, line_same, SameLine, SameAbove, KeptOrBelow, row_kept, row_none, row_some, still_page}

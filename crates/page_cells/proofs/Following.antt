@@ -1,6 +1,6 @@
 -- A page whose next page is another.
-use Rattle.std.proofs.Common.{◌≡◌, ◌⊎◌, inl, ℕ, ◌+◌, ◌*◌, ◌<◌, ◌≤◌, List, length, slice_index, sym, ap, ◌∙◌, arith}
-use Rattle.page_cells.specs.Page.{lines, low, row_at, next_page, number_at, slots, IsPage}
+use Rattle.std.proofs.Common.{◌≡◌, inl, ℕ, ◌+◌, ◌*◌, ◌<◌, ◌≤◌, List, length, slice_index, arith}
+use Rattle.page_cells.specs.Page.{lines, low, next_page, slots, IsPage}
 use Rattle.page_cells.proofs.Rows.{number_same, line_same, SameLine, row_kept, still_page}
 use Rattle.page_cells.proofs.Lists.{slots_same}
 

@@ -1,7 +1,7 @@
 -- The slots of a page as a list.
-use Rattle.std.proofs.Common.{◌≡◌, ◌≢◌, ◌⊎◌, inl, inr, ℕ, zero, suc, ◌+◌, ◌-◌, ◌*◌, ◌<◌, ◌≤◌, List, [], ◌∷◌, ◌++◌, Option, Some, None, length, get_or, slice_set, refl, sym, ◌∙◌, ap, subst, arith, rules, length-append}
+use Rattle.std.proofs.Common.{◌≡◌, ◌≢◌, ◌⊎◌, inl, inr, ℕ, zero, suc, ◌-◌, ◌<◌, ◌≤◌, List, [], ◌∷◌, ◌++◌, None, length, get_or, refl, sym, ◌∙◌, ap, subst, arith}
 use Rattle.std.proofs.Math.ListN.{set}
-use Rattle.std.proofs.lemmas.List.{get_or-append-add, get_or-append_right, set-append_left, set-append_right, length_push}
+use Rattle.std.proofs.lemmas.List.{set-append_left, set-append_right, length_push}
 use Rattle.std.proofs.lemmas.Grind.{common_steps}
 use Rattle.page_cells.specs.Page.{Slot, lines, row_at, slots_before, slots}
 

@@ -1,5 +1,5 @@
 -- The flags once the row of one more line is flagged.
-use Rattle.std.proofs.Common.{◌≡◌, ◌⊎◌, inl, inr, refl, sym, ap, subst, ◌∙◌, ℕ, zero, suc, ◌+◌, ◌*◌, ◌<◌, ◌≤◌, Bool, true, false, List, length, get_or, replicate, arith}
+use Rattle.std.proofs.Common.{◌≡◌, ◌⊎◌, inl, inr, refl, sym, subst, ◌∙◌, ℕ, zero, suc, ◌+◌, ◌*◌, ◌<◌, ◌≤◌, Bool, true, false, List, length, get_or, replicate, arith}
 use Rattle.std.specs.Bool.{OnTrue, OnFalse}
 use Rattle.page_cells.specs.Page.{lines, low, offset, size, IsInRow, IsPage}
 use Rattle.page_cells.specs.Marks.{Marks}

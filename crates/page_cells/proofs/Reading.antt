@@ -1,13 +1,13 @@
 -- What bytes say as numbers, texts and rows.
-use Rattle.std.proofs.Common.{◌≡◌, ◌⊎◌, inl, inr, refl, sym, ap, subst, ◌∙◌, ℕ, ℤ, pos, negsuc, zero, suc, ◌+◌, ◌-◌, ◌*◌, ◌/◌, ◌%◌, ◌^◌, ◌<◌, ◌≤◌, nat_lt, nat_le, Bool, true, false, ◌&&◌, not, IsTrue, List, [], ◌∷◌, ◌++◌, Option, Some, None, length, take, drop, get_or, slice_index, replicate, arith, rules, take-append-drop, if◌then◌else◌}
-use Rattle.std.proofs.Math.Nat.{div-div-eq-div-mul, div-one, mod-lt, pow-succ'}
-use Rattle.std.specs.Int.{w64, byte_at, bytes_low_first, cast_unsigned}
+use Rattle.std.proofs.Common.{◌≡◌, ◌⊎◌, inl, inr, refl, sym, ap, subst, ◌∙◌, ℕ, ℤ, pos, negsuc, zero, suc, ◌+◌, ◌-◌, ◌*◌, ◌/◌, ◌%◌, ◌^◌, ◌<◌, ◌≤◌, nat_le, Bool, true, false, ◌&&◌, not, IsTrue, List, [], ◌∷◌, ◌++◌, Some, None, length, get_or, replicate, arith, if◌then◌else◌}
+use Rattle.std.proofs.Math.Nat.{div-div-eq-div-mul, pow-succ'}
+use Rattle.std.specs.Int.{w64, byte_at, bytes_low_first}
 use Rattle.std.specs.List.{list_all}
 use Rattle.std.proofs.lemmas.Bool.Decides.{nat_tests}
 use Rattle.std.proofs.lemmas.Int.{ints}
-use Rattle.byteorder.specs.Numbers.{little_number-reads_back, little_from-cons, little_from-lt}
+use Rattle.byteorder.specs.Numbers.{little_number-reads_back, little_from-cons}
 use Rattle.byteorder.specs.Endian.{little_from, little_number, little_bytes, low_bytes, twos_complement}
-use Rattle.calculus.specs.declared.value.Domain.TheVariants.{I1, I2, I4, C}
+use Rattle.calculus.specs.declared.value.Domain.TheVariants.{I1, I2, I4}
 use Rattle.calculus.specs.Value.{number_fits}
 use Rattle.calculus.specs.Chars.{is_printable, is_chars}
 use Rattle.calculus.specs.Text.{is_blank, ends_without_blank, is_text, before_trimmed, trimmed, text_of}

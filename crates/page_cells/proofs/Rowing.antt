@@ -1,17 +1,17 @@
 -- Rows and their bytes say the same.
-use Rattle.std.proofs.Common.{◌≡◌, refl, sym, ap, subst, ◌∙◌, ℕ, zero, suc, ◌+◌, ◌<◌, ◌≤◌, nat_lt, nat_le, Bool, true, false, ◌&&◌, IsTrue, List, [], ◌∷◌, ◌++◌, Option, Some, None, length, take, drop, get_or, arith, rules, take-append-drop, length-append, length-take, if◌then◌else◌}
+use Rattle.std.proofs.Common.{◌≡◌, refl, sym, ap, subst, ◌∙◌, ℕ, zero, suc, ◌+◌, ◌<◌, ◌≤◌, nat_lt, nat_le, Bool, true, false, IsTrue, List, [], ◌∷◌, ◌++◌, Option, Some, None, length, take, drop, get_or, arith, take-append-drop, length-append, length-take, if◌then◌else◌}
 use Rattle.std.specs.Option.{option_map}
 use Rattle.std.proofs.lemmas.List.{get_or-drop}
 use Rattle.std.proofs.lemmas.Bool.Decides.{nat_tests}
 use Rattle.std.specs.Int.{w64}
-use Rattle.byteorder.specs.Endian.{little_from, little_number, little_bytes, low_bytes, twos_complement}
+use Rattle.byteorder.specs.Endian.{little_number, little_bytes, low_bytes, twos_complement}
 use Rattle.byteorder.specs.Numbers.{little_from-lt}
 use Rattle.calculus.specs.declared.value.Domain.{Domain}
 use Rattle.calculus.specs.declared.value.Domain.TheVariants.{I1, I2, I4, C}
 use Rattle.calculus.specs.declared.value.Kind.TheVariants.{Of}
 use Rattle.calculus.specs.declared.value.Value.{Value}
 use Rattle.calculus.specs.declared.value.Value.TheVariants.{Int, Text}
-use Rattle.calculus.specs.Value.{fits, number_fits}
+use Rattle.calculus.specs.Value.{fits}
 use Rattle.calculus.specs.Text.{text_of, is_text}
 use Rattle.calculus.specs.IsDatabase.{value_fits}
 use Rattle.page_cells.specs.RowBytes.{width, number_bytes, number_of_bytes, filled, value_bytes, row_bytes, row_fits, is_row, value_in, in_front, row_in}

@@ -1,5 +1,5 @@
 -- Pages that differ in some of their bytes.
-use Rattle.std.proofs.Common.{◌≡◌, ◌≢◌, ◌⊎◌, inl, inr, ⊎_elim, ℕ, zero, suc, ◌+◌, ◌-◌, ◌*◌, ◌<◌, ◌≤◌, ◌==◌, Bool, true, false, List, Option, Some, None, length, take, drop, get_or, slice_index, slice_range, refl, sym, ◌∙◌, ap, subst, arith, if◌then◌else◌, length-drop, length-take}
+use Rattle.std.proofs.Common.{◌≡◌, ◌⊎◌, inl, inr, ℕ, ◌+◌, ◌-◌, ◌*◌, ◌<◌, ◌≤◌, ◌==◌, false, List, Some, None, length, drop, get_or, slice_index, slice_range, sym, ◌∙◌, ap, arith, if◌then◌else◌, length-drop, length-take}
 use Rattle.std.proofs.lemmas.List.{ext_get_or, get_or-drop, get_or-take}
 use Rattle.std.proofs.lemmas.Bool.Decides.{nat_tests}
 use Rattle.page_cells.specs.Page.{number_at, lines, low, offset, size, row_at, IsInRow, IsPage}

@@ -1,5 +1,5 @@
 -- What reading one line more tells.
-use Rattle.std.proofs.Common.{◌≡◌, ◌⊎◌, inl, inr, not, ℕ, suc, ◌+◌, ◌-◌, ◌*◌, ◌<◌, ◌≤◌, ◌==◌, eqb, nat_lt, Bool, true, false, cond, List, [], ◌∷◌, ◌++◌, Option, Some, None, is_none, length, take, drop, position, sum_by, IfSome, get_or, subst, slice_range, refl, sym, ap, ◌∙◌, arith, if◌then◌else◌, add-one, length-drop, length-take}
+use Rattle.std.proofs.Common.{◌≡◌, ◌⊎◌, inl, inr, not, ℕ, ◌+◌, ◌<◌, ◌≤◌, ◌==◌, eqb, nat_lt, Bool, true, false, cond, List, [], ◌∷◌, ◌++◌, Some, None, is_none, length, take, position, sum_by, IfSome, get_or, subst, slice_range, refl, sym, ap, ◌∙◌, arith, if◌then◌else◌, add-one, length-drop, length-take}
 use Rattle.std.specs.Option.{option_or}
 use Rattle.std.specs.List.{position_or_len}
 use Rattle.std.proofs.lemmas.List.{length_push}

@@ -1,4 +1,4 @@
-use Rattle.std.proofs.Common.{◌≡◌, ◌+◌, ℕ, sym, ap, ◌∙◌, arith}
+use Rattle.std.proofs.Common.{◌≡◌, ◌+◌, arith}
 use Rattle.page_cells.specs.Page.{offset, size}
 use Rattle.page_cells.proofs.Marking.{on_true, on_false, empty_marked, row_marked, not_apart}
 use Rattle.page_cells.proofs.check.flag_row.Goals as goal

@@ -1,5 +1,5 @@
 use Rattle.std.proofs.Common.{refl, arith}
-use Rattle.page_cells.proofs.Marking.{nothing_marked, all_marked}
+use Rattle.page_cells.proofs.Marking.{all_marked}
 use Rattle.page_cells.proofs.check.rows_are_apart.Goals as goal
 
 pub returns : goal.returns

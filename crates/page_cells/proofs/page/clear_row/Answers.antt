@@ -1,4 +1,4 @@
-use Rattle.std.proofs.Common.{sym, ◌∙◌, ◌<◌, arith}
+use Rattle.std.proofs.Common.{sym, ◌∙◌, arith}
 use Rattle.page_cells.proofs.Clearing.{clearing_slots, clearing_page, clearing_next, not_cleared, cleared_before}
 use Rattle.page_cells.proofs.page.clear_row.Goals as goal
 use Rattle.page_cells.proofs.page.clear_row.Goals.{else-line-lines-via-then-line-lines+else-size-gt0, else-line-lines-via-else-line-lines}

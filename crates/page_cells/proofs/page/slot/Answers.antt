@@ -1,4 +1,4 @@
-use Rattle.std.proofs.Common.{sym, ◌∙◌, ◌+◌, ◌<◌, Some, slice_range, arith}
+use Rattle.std.proofs.Common.{sym, ◌∙◌, ◌+◌, Some, slice_range, arith}
 use Rattle.page_cells.proofs.Rows.{row_none, row_some}
 use Rattle.page_cells.proofs.Lists.{slots_at, slots_past}
 use Rattle.page_cells.proofs.page.slot.Goals as goal

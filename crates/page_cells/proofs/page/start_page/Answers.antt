@@ -1,5 +1,5 @@
-use Rattle.std.proofs.Common.{◌≡◌, ◌+◌, ◌<◌, ℕ, List, [], sym, ap, ◌∙◌, inl, inr, arith}
-use Rattle.page_cells.specs.Page.{lines, number_at, slots_before, slots, Slot}
+use Rattle.std.proofs.Common.{◌≡◌, ℕ, List, [], ap, ◌∙◌, inl, arith}
+use Rattle.page_cells.specs.Page.{lines, slots_before, slots}
 use Rattle.page_cells.proofs.Rows.{number_same}
 use Rattle.page_cells.proofs.Following.{next_same}
 use Rattle.page_cells.proofs.page.start_page.Goals as goal

@@ -1,5 +1,5 @@
 use Rattle.std.proofs.Common.{sym, ◌∙◌}
-use Rattle.page_cells.proofs.Filling.{adding_slots, adding_page, adding_next, adding_size}
+use Rattle.page_cells.proofs.Filling.{adding_slots, adding_page, adding_next}
 use Rattle.page_cells.proofs.putting.add_line.Goals as goal
 
 pub returns-clause-slots : goal.returns-clause-slots

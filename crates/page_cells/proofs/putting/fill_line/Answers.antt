@@ -1,5 +1,4 @@
-use Rattle.std.proofs.Common.{◌≡◌, ℕ, ◌-◌, length, sym, refl, ap, ◌∙◌, arith}
-use Rattle.page_cells.specs.Page.{low}
+use Rattle.std.proofs.Common.{ℕ, ◌-◌, length, sym, ap, ◌∙◌}
 use Rattle.page_cells.proofs.Filling.{filling_slots, filling_page, filling_next}
 use Rattle.page_cells.proofs.putting.fill_line.Goals as goal
 

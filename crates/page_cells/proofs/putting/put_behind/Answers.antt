@@ -1,4 +1,4 @@
-use Rattle.std.proofs.Common.{◌≡◌, ◌+◌, [], ◌∷◌, ◌++◌, Some, length, sym, ap, ◌∙◌, arith}
+use Rattle.std.proofs.Common.{◌+◌, [], ◌∷◌, ◌++◌, Some, length, sym, ap, ◌∙◌, arith}
 use Rattle.page_cells.specs.Page.{slots, room}
 use Rattle.page_cells.proofs.Lists.{length_slots}
 use Rattle.page_cells.proofs.Placing.{with_row_new, some_if}

@@ -1,6 +1,6 @@
-use Rattle.std.proofs.Common.{◌≡◌, ◌+◌, ◌-◌, ◌*◌, None, is_none, arith, sym, ◌∙◌}
+use Rattle.std.proofs.Common.{◌+◌, ◌-◌, ◌*◌, None, is_none, arith, sym, ◌∙◌}
 use Rattle.std.proofs.lemmas.List.Quantifiers.{position-Some}
-use Rattle.page_cells.specs.Page.{Slot, slots}
+use Rattle.page_cells.specs.Page.{slots}
 use Rattle.page_cells.proofs.Lists.{length_slots}
 use Rattle.page_cells.proofs.Placing.{none_is}
 use Rattle.page_cells.proofs.putting.put_row.Goals as goal

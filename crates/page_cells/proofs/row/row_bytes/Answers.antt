@@ -1,4 +1,4 @@
-use Rattle.std.proofs.Common.{◌≡◌, ◌+◌, ◌++◌, ℕ, ◌<◌, length, take, drop, get_or, sym, subst, ap, ◌∙◌, arith, add-one, IsTrue, rules}
+use Rattle.std.proofs.Common.{◌+◌, ◌++◌, ℕ, ◌<◌, length, take, drop, get_or, sym, subst, ap, ◌∙◌, arith, add-one, IsTrue}
 use Rattle.std.proofs.lemmas.List.{take_all}
 use Rattle.calculus.specs.declared.value.Domain.TheVariants.{I1}
 use Rattle.calculus.specs.declared.value.Value.{Value}

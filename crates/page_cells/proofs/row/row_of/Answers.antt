@@ -1,8 +1,6 @@
-use Rattle.std.proofs.Common.{◌≡◌, sym, ◌∙◌, ap, Option, Some, None, List, IsTrue, Result, Ok, Err, IfOk, IfSome, arith}
-use Rattle.calculus.specs.declared.value.Domain.{Domain}
-use Rattle.calculus.specs.declared.value.Value.{Value}
-use Rattle.page_cells.specs.RowBytes.{is_row, row_bytes, row_in}
-use Rattle.page_cells.proofs.Rowing.{AreBytes, row_spelled, row_back}
+use Rattle.std.proofs.Common.{◌≡◌, sym, ◌∙◌, ap, Option, Some, None, Result, Ok, Err, IfOk, IfSome, arith}
+use Rattle.page_cells.specs.RowBytes.{row_in}
+use Rattle.page_cells.proofs.Rowing.{row_spelled, row_back}
 use Rattle.page_cells.proofs.row.row_of.Goals as goal
 
 if_ok : {T E : Type 0} {P Q : T → Type 0} (r : Result T E) → IfOk r P → ((x : T) → P x → Q x) → IfOk r Q

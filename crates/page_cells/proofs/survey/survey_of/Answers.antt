@@ -1,6 +1,6 @@
-use Rattle.std.proofs.Common.{ℕ, ◌≡◌, ◌+◌, ◌*◌, ◌≤◌, ◌<◌, ◌==◌, Some, None, is_none, position, sum_by, refl, sym, ap, ◌∙◌, arith, if◌then◌else◌}
+use Rattle.std.proofs.Common.{ℕ, ◌≡◌, ◌+◌, ◌==◌, Some, None, is_none, position, sum_by, ap, ◌∙◌, arith, if◌then◌else◌}
 use Rattle.std.specs.Option.{option_or}
-use Rattle.page_cells.specs.Page.{lines, size, slots, slots_before, row_length}
+use Rattle.page_cells.specs.Page.{lines, slots, slots_before, row_length}
 use Rattle.page_cells.proofs.Surveys.{survey_empty, survey_used, size_bound}
 use Rattle.page_cells.proofs.survey.survey_of.Goals as goal
 
