@@ -20,7 +20,7 @@ use Rattle.calculus.specs.Name.{is_name}
 use Rattle.calculus.specs.Text.{is_text}
 use Rattle.calculus.specs.Value.{fits}
 use Rattle.calculus.specs.Rows.{Row, Ascends}
-use Rattle.calculus.specs.Limits.{most_attributes, most_row_bytes, most_keys, most_variables, most_expanded_variables, greatest_size, most_permits, most_rules, greatest_number, most_entries, most_rows}
+use Rattle.calculus.specs.Limits.{most_attributes, most_row_bytes, most_keys, most_variables, most_expanded_variables, greatest_size, greatest_qual_size, most_levels, most_listed_attributes, most_permits, most_rules, greatest_number, most_entries, most_rows}
 use Rattle.calculus.specs.Keys.{same_key, key_cmp, numbered_cmp}
 use Rattle.calculus.specs.Lists.{is_any, differ_by}
 use Rattle.calculus.specs.Kinds.{kind_of, kinds_fit}
@@ -28,7 +28,8 @@ use Rattle.calculus.specs.Database.{Db, Relation, Index, is_relation, entries, r
 use Rattle.calculus.specs.Catalogue.{is_catalogue_name}
 use Rattle.calculus.specs.Stored.{range_at, kinds_at, attrs_at}
 use Rattle.calculus.specs.QueryParts.{vars_of, targets_of, qual_of}
-use Rattle.calculus.specs.Sizes.{level_of, variables, expanded_variables, query_size}
+use Rattle.calculus.specs.Sizes.{level_of, variables, expanded_variables, query_size, qual_size}
+use Rattle.calculus.specs.TreeLevels.{query_levels, qual_levels}
 
 -- ---- names and attributes
 
@@ -183,6 +184,10 @@ abbrev pub permit_stands : Db → RelKey → Permit → Bool
 permit_stands db rel permit =
     is_relation db rel && (bytes_eq rel.owner db.dba && (user_is_named permit.user && (permit_attrs_stand db rel permit.attrs && row_qual_stands db rel permit.qual)))
 
+-- a qualification over one row is no larger and no deeper than one that is stored may be
+abbrev pub row_qual_is_small : QQual → Bool
+row_qual_is_small q = nat_le (qual_size [] q) greatest_qual_size && nat_le (qual_levels q) most_levels
+
 -- ---- the facts
 
 -- a database
@@ -222,6 +227,10 @@ pub record IsDatabase (db : Db) : Type 0 where
   pub few_variables : IsTrue (list_all (λ v. nat_le (variables v.query) most_variables) db.views)
   pub few_expanded_variables : IsTrue (list_all (λ v. nat_le (expanded_variables db v.query) most_expanded_variables) db.views)
   pub small_views : IsTrue (list_all (λ v. nat_le (query_size db v.query) greatest_size) db.views)
+  pub shallow_views : IsTrue (list_all (λ v. nat_le (query_levels v.query) most_levels) db.views)
+  pub small_rules : IsTrue (list_all (λ p. row_qual_is_small p.1.qual) db.rules)
+  pub small_permits : IsTrue (list_all (λ p. row_qual_is_small p.1.qual) db.permits)
+  pub short_permits : IsTrue (list_all (λ p. nat_le (length p.1.attrs) most_listed_attributes) db.permits)
   pub few_rules : IsTrue (list_all (λ r. nat_le (length (rules_on db r.info.key)) most_rules) db.relations)
   pub few_permits : IsTrue (list_all (λ r. nat_le (length (permits_on db r.info.key)) most_permits) db.relations)
   pub small_rule_numbers : IsTrue (list_all (λ p. nat_le p.1.number greatest_number) db.rules)

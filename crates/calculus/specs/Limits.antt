@@ -25,6 +25,18 @@ most_expanded_variables = 50
 abbrev pub greatest_size : ℕ
 greatest_size = 1000
 
+-- the size of a rule's qualification, and of a permit's
+abbrev pub greatest_qual_size : ℕ
+greatest_qual_size = 1000
+
+-- the levels of a tree that is stored
+abbrev pub most_levels : ℕ
+most_levels = 3000
+
+-- the attributes that a permit lists, one that it names twice counting twice
+abbrev pub most_listed_attributes : ℕ
+most_listed_attributes = 65535
+
 -- the level of a view
 abbrev pub greatest_level : ℕ
 greatest_level = 16

@@ -1,0 +1,113 @@
+//! Tokens: what a text of the language is made of.
+
+use calculus::{Chars, Name};
+
+/// A token with one spelling: a reserved word or a symbol.
+#[derive(Clone, Copy, Debug, PartialEq, Eq)]
+pub enum Fixed {
+    /// `all`
+    All,
+    /// `and`
+    And,
+    /// `append`
+    Append,
+    /// `by`
+    By,
+    /// `copy`
+    Copy,
+    /// `create`
+    Create,
+    /// `define`
+    Define,
+    /// `delete`
+    Delete,
+    /// `destroy`
+    Destroy,
+    /// `from`
+    From,
+    /// `help`
+    Help,
+    /// `index`
+    Index,
+    /// `integrity`
+    Integrity,
+    /// `into`
+    Into,
+    /// `is`
+    Is,
+    /// `modify`
+    Modify,
+    /// `not`
+    Not,
+    /// `of`
+    Of,
+    /// `on`
+    On,
+    /// `or`
+    Or,
+    /// `permit`
+    Permit,
+    /// `print`
+    Print,
+    /// `range`
+    Range,
+    /// `replace`
+    Replace,
+    /// `retrieve`
+    Retrieve,
+    /// `sort`
+    Sort,
+    /// `to`
+    To,
+    /// `unique`
+    Unique,
+    /// `view`
+    View,
+    /// `where`
+    Where,
+    /// `(`
+    Open,
+    /// `)`
+    Close,
+    /// `,`
+    Comma,
+    /// `.`
+    Dot,
+    /// `:`
+    Colon,
+    /// `=`
+    Equal,
+    /// `!=`
+    NotEqual,
+    /// `<`
+    Less,
+    /// `<=`
+    LessEqual,
+    /// `>`
+    Greater,
+    /// `>=`
+    GreaterEqual,
+    /// `+`
+    Plus,
+    /// `-`
+    Minus,
+    /// `*`
+    Times,
+    /// `/`
+    Divide,
+    /// `**`
+    Power,
+}
+
+/// A token.
+#[derive(Debug, Drop)]
+pub enum Token {
+    /// A name, in lower case. Where a text is read, it's no reserved word.
+    Name(Name),
+    /// A whole number, at most 9,223,372,036,854,775,807.
+    Int(u64),
+    /// A text constant.
+    Text(Chars),
+    /// A reserved word or a symbol.
+    Fixed(Fixed),
+}
