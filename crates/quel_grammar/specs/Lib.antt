@@ -1,1 +1,9 @@
+pub mod Token
+pub mod Words
+pub mod Lexer
+pub mod Pieces
+pub mod Grammar
+pub mod Statements
+pub mod Begins
+pub mod Bounds
 pub mod Next
