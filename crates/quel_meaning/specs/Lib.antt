@@ -1,3 +1,10 @@
 pub mod Ranges
 pub mod Shelf
 pub mod State
+pub mod Scope
+pub mod WrittenParts
+pub mod Naming
+pub mod Aggregates
+pub mod KindsInQueries
+pub mod WrittenTree
+pub mod WrittenQuery
