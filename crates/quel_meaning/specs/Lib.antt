@@ -1,3 +1,4 @@
 pub mod Ranges
 pub mod Shelf
 pub mod State
+pub mod Planned
