@@ -2,3 +2,6 @@ pub mod Ranges
 pub mod Shelf
 pub mod State
 pub mod Planned
+pub mod Columns
+pub mod Copying
+pub mod Tables
