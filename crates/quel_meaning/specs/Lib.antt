@@ -5,3 +5,4 @@ pub mod Planned
 pub mod Columns
 pub mod Copying
 pub mod Tables
+pub mod Meaning
