@@ -8,3 +8,8 @@ pub mod Aggregates
 pub mod KindsInQueries
 pub mod WrittenTree
 pub mod WrittenQuery
+pub mod Planned
+pub mod Columns
+pub mod Copying
+pub mod Tables
+pub mod Meaning
