@@ -1,3 +1,6 @@
+pub mod Lines
+pub mod Monitor
+pub mod Printed
 pub mod Ranges
 pub mod Shelf
 pub mod State
