@@ -4,3 +4,9 @@ pub mod Printed
 pub mod Ranges
 pub mod Shelf
 pub mod State
+pub mod Buffer
+pub mod Places
+pub mod Batch
+pub mod Happening
+pub mod Running
+pub mod Session
