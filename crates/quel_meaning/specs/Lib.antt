@@ -13,3 +13,12 @@ pub mod Columns
 pub mod Copying
 pub mod Tables
 pub mod Meaning
+pub mod Lines
+pub mod Monitor
+pub mod Printed
+pub mod Buffer
+pub mod Places
+pub mod Batch
+pub mod Happening
+pub mod Running
+pub mod Session
