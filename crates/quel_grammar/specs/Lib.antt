@@ -7,3 +7,7 @@ pub mod Statements
 pub mod Begins
 pub mod Bounds
 pub mod Next
+pub mod Reading
+pub mod TermReaders
+pub mod PartReaders
+pub mod StatementReaders
