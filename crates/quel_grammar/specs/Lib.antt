@@ -8,6 +8,7 @@ pub mod Begins
 pub mod Bounds
 pub mod Next
 pub mod Reading
+pub mod Signs
 pub mod TermReaders
 pub mod PartReaders
 pub mod StatementReaders
