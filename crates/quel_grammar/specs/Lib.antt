@@ -7,3 +7,8 @@ pub mod Statements
 pub mod Begins
 pub mod Bounds
 pub mod Next
+pub mod Reading
+pub mod Signs
+pub mod TermReaders
+pub mod PartReaders
+pub mod StatementReaders
