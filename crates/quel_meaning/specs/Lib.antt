@@ -8,3 +8,7 @@ pub mod Aggregates
 pub mod KindsInQueries
 pub mod WrittenTree
 pub mod WrittenQuery
+pub mod Passing
+pub mod StatementUpdate
+pub mod Causes
+pub mod Resolved

@@ -1,5 +1,7 @@
 -- What statements work on, and what one leaves.
+use Rattle.std.specs.Prelude.{ℕ, Bool, true, List}
 use Rattle.calculus.specs.declared.reply.Reply.{Reply}
+use Rattle.calculus.specs.declared.statement.Statement.{Statement}
 use Rattle.calculus.specs.Database.{Db}
 use Rattle.quel_meaning.specs.Ranges.{Ranges}
 use Rattle.quel_meaning.specs.Shelf.{Shelf}
