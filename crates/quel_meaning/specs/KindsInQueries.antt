@@ -1,5 +1,6 @@
 -- The kinds of terms in which aggregates may stand, and whether the kinds in a whole qualification fit each other.
-use Rattle.std.specs.Prelude.{Bool, true, false, ◌&&◌, List, [], ◌∷◌, Option, Some, None}
+use Rattle.std.specs.Prelude.{Bool, true, false, ◌&&◌, zip, List, [], ◌∷◌, Option, Some, None}
+use Rattle.std.specs.List.{list_all}
 use Rattle.calculus.specs.declared.operator.AggOp.{AggOp}
 use Rattle.calculus.specs.declared.operator.AggOp.TheVariants.{Count, Countu, Sum, Sumu, Avg, Avgu, Min, Max, Any}
 use Rattle.calculus.specs.declared.value.Kind.{Kind}
@@ -10,7 +11,12 @@ use Rattle.calculus.specs.declared.query.QAgg.{QAgg}
 use Rattle.calculus.specs.Tree.{neg, abs, operation, concat, both, either, negated}
 use Rattle.calculus.specs.Kinds.{is_number_kind, attribute_kind, constant_kind, number_kind, operated_kind, joined_kind, kind_of, comparable, is_text_kind, kinds_fit}
 use Rattle.calculus.specs.Database.{Db}
+use Rattle.calculus.specs.declared.query.Query.{Query}
+use Rattle.calculus.specs.declared.request.Update.{Update}
 use Rattle.calculus.specs.Aggregate.{source_kinds}
+use Rattle.calculus.specs.IsDatabase.{has_kind, var_kinds}
+use Rattle.calculus.specs.QueryParts.{targets_of, qual_of}
+use Rattle.calculus.specs.Replacement.{wanted_kinds}
 
 -- the operation adds numbers up
 abbrev pub adds_up : AggOp → Bool
@@ -87,3 +93,12 @@ kinds_fit_in_query db (Like t pattern same) vars = is_text_kind (kind_in_query d
 kinds_fit_in_query db (both p q) vars = kinds_fit_in_query db p vars && kinds_fit_in_query db q vars
 kinds_fit_in_query db (either p q) vars = kinds_fit_in_query db p vars && kinds_fit_in_query db q vars
 kinds_fit_in_query db (negated p) vars = kinds_fit_in_query db p vars
+
+-- the kinds in a query fit and each target is of its kind; so places are in range
+unfoldable pub query_fits : Db → Query → Bool
+query_fits db q =
+    list_all (λ t. has_kind (kind_in_query db t.term (var_kinds db q)) t.kind) (targets_of q) && kinds_fit_in_query db (qual_of q) (var_kinds db q)
+
+-- the value of each target of an update and the attribute that it is for are both numbers or both texts
+unfoldable pub assignments_fit : Db → Update → Bool
+assignments_fit db u = list_all (λ p. comparable (Some p.0.kind) p.1) (zip (targets_of u.query) (wanted_kinds db u))

@@ -22,3 +22,7 @@ pub mod Batch
 pub mod Happening
 pub mod Running
 pub mod Session
+pub mod Passing
+pub mod StatementUpdate
+pub mod Causes
+pub mod Resolved
