@@ -1,0 +1,4 @@
+mod Small
+mod WorkedUtilities
+mod WorkedPermits
+mod WorkedCopies

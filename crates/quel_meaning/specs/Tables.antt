@@ -19,15 +19,15 @@ use Rattle.calculus.specs.QueryParts.{targets_of}
 use Rattle.calculus.specs.Answer.{answer, lacks}
 
 -- the value of a row in a column; in one that it hasn't, 0
-abbrev pub value_in : Row → ℕ → Value
-value_in row column = slice_index_or row column (Int (pos 0))
+abbrev pub cell : Row → ℕ → Value
+cell row column = slice_index_or row column (Int (pos 0))
 
 -- the order of two rows by one column, greater values first where it is down
 abbrev pub key_order : SortKey → Row → Row → Ordering
 key_order key a b = if key.down then ordering_reverse (by_column a b) else by_column a b
   where
     by_column : Row → Row → Ordering
-    by_column a b = value_cmp (value_in a key.column) (value_in b key.column)
+    by_column a b = value_cmp (cell a key.column) (cell b key.column)
 
 -- the order of two rows by these columns, the first weightiest; rows that agree in all of them by the order of rows
 unfoldable pub rows_order : List SortKey → Row → Row → Ordering
