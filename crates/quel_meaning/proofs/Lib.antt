@@ -1,3 +1,4 @@
+mod InOrder
 mod Small
 mod WorkedUtilities
 mod WorkedPermits
