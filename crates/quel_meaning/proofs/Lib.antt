@@ -1,1 +1,6 @@
 mod Resolving
+mod InOrder
+mod Small
+mod WorkedUtilities
+mod WorkedPermits
+mod WorkedCopies

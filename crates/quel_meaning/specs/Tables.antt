@@ -1,7 +1,7 @@
 -- The tables that are printed of queries.
 use Rattle.std.specs.Prelude.{ℕ, pos, Bool, if◌then◌else◌, List, [], ◌∷◌, map, slice_index_or}
 use Rattle.std.specs.List.{list_any}
-use Rattle.std.specs.Ordering.{ordering_then, ordering_reverse}
+use Rattle.std.specs.Ordering.{ordering_then}
 use Rattle.std.specs.declared.cmp.Ordering.{Ordering}
 use Rattle.calculus.specs.declared.value.Value.{Value}
 use Rattle.calculus.specs.declared.value.Value.TheVariants.{Int}
@@ -19,15 +19,16 @@ use Rattle.calculus.specs.QueryParts.{targets_of}
 use Rattle.calculus.specs.Answer.{answer, lacks}
 
 -- the value of a row in a column; in one that it hasn't, 0
-abbrev pub value_in : Row → ℕ → Value
-value_in row column = slice_index_or row column (Int (pos 0))
+abbrev pub cell : Row → ℕ → Value
+cell row column = slice_index_or row column (Int (pos 0))
 
--- the order of two rows by one column, greater values first where it is down
+-- the order of two rows by the values of a column
+abbrev pub column_order : ℕ → Row → Row → Ordering
+column_order column a b = value_cmp (cell a column) (cell b column)
+
+-- the order of two rows by a column, greater values first where it is down
 abbrev pub key_order : SortKey → Row → Row → Ordering
-key_order key a b = if key.down then ordering_reverse (by_column a b) else by_column a b
-  where
-    by_column : Row → Row → Ordering
-    by_column a b = value_cmp (value_in a key.column) (value_in b key.column)
+key_order key a b = if key.down then column_order key.column b a else column_order key.column a b
 
 -- the order of two rows by these columns, the first weightiest; rows that agree in all of them by the order of rows
 unfoldable pub rows_order : List SortKey → Row → Row → Ordering
