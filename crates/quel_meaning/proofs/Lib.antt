@@ -1,0 +1,4 @@
+mod Parted
+mod Printing
+mod Sessions
+mod Toy
