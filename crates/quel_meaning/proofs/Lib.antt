@@ -4,3 +4,7 @@ mod Small
 mod WorkedUtilities
 mod WorkedPermits
 mod WorkedCopies
+mod Parted
+mod Printing
+mod Sessions
+mod Toy

@@ -24,7 +24,7 @@ at_line line (Tables tables) = Tables tables
 abbrev pub after_outcome : Kept → ℕ → Outcome → After
 after_outcome kept line outcome = record {
   kept = record kept { state = outcome.state };
-  events = Ran (reply_bytes (at_line line outcome.reply)) outcome.state.db ∷ []
+  events = Ran (reply_bytes (at_line line outcome.reply)) outcome.state.db ∷ [];
 }
 
 -- a statement runs
