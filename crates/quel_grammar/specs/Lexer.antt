@@ -7,6 +7,8 @@ use Rattle.quel_grammar.specs.Words.{fixed_of, symbol_at}
 use Rattle.quel_grammar.specs.declared.token.Fixed.{Fixed}
 use Rattle.quel_grammar.specs.declared.token.Token.{Token}
 use Rattle.quel_grammar.specs.declared.token.Token.TheVariants as tokens
+use Rattle.quel_grammar.specs.declared.token.Piece.{Piece}
+use Rattle.quel_grammar.specs.declared.token.Piece.TheVariants as pieces
 
 -- a blank, a tab, a newline or a carriage return
 abbrev pub is_white : ℕ → Bool
@@ -84,15 +86,10 @@ token_at (b ∷ bs) =
     else if b == 34 then text_at (b ∷ bs)
     else option_map (λ s. (tokens.Fixed s.0, s.1)) (symbol_at (b ∷ bs))
 
--- what a piece of a text is: white space or a comment, or this token
-pub data Piece : Type 0 where
-  White : Piece
-  Spelled : Token → Piece
-
 -- white space, a comment or a token at the front of a text, and its length; a slash and a star open a comment, which must be closed behind them
 unfoldable pub piece_at : List ℕ → Option (Piece × ℕ)
 piece_at [] = None
 piece_at (b ∷ bs) =
-    if is_white b then Some (White, 1)
-    else if (b == 47) && starts_with_byte 42 bs then option_map (λ n. (White, n + 2)) (comment_len (drop 1 bs))
-    else option_map (λ t. (Spelled t.0, t.1)) (token_at (b ∷ bs))
+    if is_white b then Some (pieces.White, 1)
+    else if (b == 47) && starts_with_byte 42 bs then option_map (λ n. (pieces.White, n + 2)) (comment_len (drop 1 bs))
+    else option_map (λ t. (pieces.Token t.0, t.1)) (token_at (b ∷ bs))

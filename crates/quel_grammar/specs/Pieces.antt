@@ -1,8 +1,9 @@
 -- The tokens of a text from a place on, with their places.
 use Rattle.std.specs.Prelude.{ℕ, zero, suc, ◌+◌, ◌-◌, List, [], ◌∷◌, drop, take, map, slice_get, Option, Some, None}
 use Rattle.quel_grammar.specs.declared.token.Token.{Token}
-use Rattle.quel_grammar.specs.Lexer.{Piece, piece_at}
-use Rattle.quel_grammar.specs.Lexer.Piece.{White, Spelled}
+use Rattle.quel_grammar.specs.declared.token.Piece.{Piece}
+use Rattle.quel_grammar.specs.declared.token.Piece.TheVariants as pieces
+use Rattle.quel_grammar.specs.Lexer.{piece_at}
 
 -- a token, the place of its first byte, and the place behind its last one
 pub record Placed : Type 0 where
@@ -17,8 +18,8 @@ pub record Pieces : Type 0 where
 
 -- a piece of so many bytes at a place before the pieces behind it
 abbrev pub with_piece : Piece → ℕ → ℕ → Pieces → Pieces
-with_piece White at len later = later
-with_piece (Spelled t) at len later = record { placed = record { token = t; begin = at; end = at + len } ∷ later.placed; bad = later.bad }
+with_piece pieces.White at len later = later
+with_piece (pieces.Token t) at len later = record { placed = record { token = t; begin = at; end = at + len } ∷ later.placed; bad = later.bad }
 
 -- the pieces of the bytes that stand from a place on; so many of the first ones belong to the piece before
 unfoldable pub pieces_behind : ℕ → ℕ → List ℕ → Pieces
