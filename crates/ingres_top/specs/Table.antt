@@ -1,44 +1,48 @@
--- The printed bytes of a table of one column of small integers, and of the other replies.
-use Rattle.std.specs.Prelude.{ℕ, ◌-◌, List, [], ◌∷◌, ◌++◌, length, replicate, codes, max, ℤ}
+-- What the first form prints: a table of one column of small integers, and the other replies.
+use Rattle.std.specs.Prelude.{ℕ, ℤ, List, [], ◌∷◌, ◌++◌, map, codes}
 use Rattle.std.specs.List.{flat_map}
-use Rattle.std.specs.Fmt.{signed_decimal}
-
--- the text and a newline
-abbrev pub line : List ℕ → List ℕ
-line text = text ++ 10 ∷ []
+use Rattle.calculus.specs.declared.value.Domain.TheVariants.{I2}
+use Rattle.calculus.specs.declared.value.Kind.TheVariants.{Of}
+use Rattle.calculus.specs.declared.value.Value.TheVariants.{Int}
+use Rattle.calculus.specs.declared.reply.Column.{Column}
+use Rattle.quel_meaning.specs.Printed.{line, done_bytes, refusal_bytes, title_line, rule_bytes, row_line as line_of_row, table_bytes}
 
 -- the acknowledgement of a statement that prints no table
 abbrev pub done : List ℕ
-done = line (codes "done")
+done = done_bytes
 
 -- the refusal of a batch that isn't of the first form, or comes after one of it has run
 abbrev pub not_built : List ℕ
-not_built = line (codes "refused 9 line 1: not built")
+not_built = refusal_bytes (record { code = 9; line = 1; row = 0 })
 
--- a column of two-byte integers is as wide as its title, and at least 6
-abbrev pub column_width : List ℕ → ℕ
-column_width title = max (length title) 6
+-- this refusal, written out
+abbrev pub not_built_words : List ℕ
+not_built_words = line (codes "refused 9 line 1: not built")
 
--- so many blanks
-abbrev pub blanks : ℕ → List ℕ
-blanks n = replicate n 32
+-- the column of two-byte integers with this title
+abbrev pub column : List ℕ → Column
+column title = record { name = title; kind = Of I2 }
 
--- the head line: a bar, the title filled with blanks at its right, a bar
+-- the line of the title
 abbrev pub head_line : List ℕ → List ℕ
-head_line title = line (124 ∷ title ++ blanks (column_width title - length title) ++ 124 ∷ [])
+head_line title = title_line (column title ∷ [])
 
--- the rule line: a bar, the column's width in dashes, a bar
+-- the rule line
 abbrev pub rule_line : List ℕ → List ℕ
-rule_line title = line (124 ∷ replicate (column_width title) 45 ++ 124 ∷ [])
+rule_line title = rule_bytes (column title ∷ [])
 
--- a row's line: a bar, the number in decimal at the right end of the column's width, a bar
+-- the line of a row that has this number
 abbrev pub row_line : List ℕ → ℤ → List ℕ
-row_line title value = line (124 ∷ blanks (column_width title - length (signed_decimal value)) ++ signed_decimal value ++ 124 ∷ [])
+row_line title value = line_of_row (column title ∷ []) (Int value ∷ [])
 
 -- the lines of the rows, in order
 abbrev pub rows_lines : List ℕ → List ℤ → List ℕ
 rows_lines title values = flat_map (row_line title) values
 
--- the table: its head line, a rule line, the rows' lines, and the rule line again
+-- the lines of a table: that of the title, a rule line, those of the rows, and the rule line again
+abbrev pub lines : List ℕ → List ℤ → List ℕ
+lines title values = head_line title ++ rule_line title ++ rows_lines title values ++ rule_line title
+
+-- the table of the rows that have these numbers, in order
 abbrev pub table : List ℕ → List ℤ → List ℕ
-table title values = head_line title ++ rule_line title ++ rows_lines title values ++ rule_line title
+table title values = table_bytes (record { columns = column title ∷ []; rows = map (λ value. Int value ∷ []) values })

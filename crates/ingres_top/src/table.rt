@@ -1,7 +1,8 @@
 //! The printed bytes of a table of one column of small integers.
 
 ghost use Rattle.std.specs.Prelude.{◌≡◌, ◌-◌, ◌+◌, ◌++◌, ◌∷◌, [], ◌<◌, ◌≤◌, length, replicate, OnOk, max};
-ghost use Rattle.ingres_top.specs.Table.{line, column_width, blanks, head_line, rule_line, row_line, rows_lines, table};
+ghost use Rattle.ingres_top.specs.Table.{column, head_line, rule_line, row_line, rows_lines, lines, table};
+ghost use Rattle.quel_meaning.specs.Printed.{column_width};
 
 use calculus::OutOfMemory;
 use std::alloc::{AllocError, Global};
@@ -10,7 +11,7 @@ use std::alloc::{AllocError, Global};
 const LEAST_WIDTH: usize = 6;
 
 fn column_width(title: &[u8]) -> usize
-    ensures { result ≡ column_width title.now }
+    ensures { result ≡ column_width (column title.now) }
 {
     title.len().max(LEAST_WIDTH)
 }
@@ -33,6 +34,7 @@ fn push_head(out: &mut Vec<u8>, title: &[u8]) -> Result<(), AllocError>
     out.extend_from_slice(b"|\n")
 }
 
+#[tactic(auto, unfolding(quel_meaning::specs::Printed::rule_bytes))]
 fn push_rule(out: &mut Vec<u8>, title: &[u8]) -> Result<(), AllocError>
     ensures { OnOk result (out.new.items ≡ out.old.items ++ rule_line title.now) }
 {
@@ -41,6 +43,7 @@ fn push_rule(out: &mut Vec<u8>, title: &[u8]) -> Result<(), AllocError>
     out.extend_from_slice(b"|\n")
 }
 
+#[tactic(auto, unfolding(quel_meaning::specs::Printed::row_line))]
 fn push_row(alloc: Global, out: &mut Vec<u8>, title: &[u8], value: i64) -> Result<(), AllocError>
     ensures { OnOk result (out.new.items ≡ out.old.items ++ row_line title.now value) }
 {
@@ -65,6 +68,21 @@ fn push_rows(
     Ok(())
 }
 
+/// Adds the lines of the table of one column, one after the other.
+fn push_lines(
+    alloc: Global,
+    out: &mut Vec<u8>,
+    title: &[u8],
+    values: &[i64],
+) -> Result<(), AllocError>
+    ensures { OnOk result (out.new.items ≡ out.old.items ++ lines title.now values.now) }
+{
+    push_head(out, title)?;
+    push_rule(out, title)?;
+    push_rows(alloc, out, title, values)?;
+    push_rule(out, title)
+}
+
 /// Adds the table of one column, with this title and these values, to `out`.
 pub fn push_table(
     alloc: Global,
@@ -74,9 +92,6 @@ pub fn push_table(
 ) -> Result<(), OutOfMemory>
     ensures { OnOk result (out.new.items ≡ out.old.items ++ table title.now values.now) }
 {
-    push_head(out, title)?;
-    push_rule(out, title)?;
-    push_rows(alloc, out, title, values)?;
-    push_rule(out, title)?;
+    push_lines(alloc, out, title, values)?;
     Ok(())
 }
