@@ -1,0 +1,4 @@
+pub mod Ends
+pub mod TermSteps
+pub mod QualSteps
+pub mod Complete
