@@ -4,3 +4,4 @@ pub mod QualSteps
 pub mod Complete
 pub mod CompleteParts
 pub mod CompleteStatements
+pub mod OneReading
