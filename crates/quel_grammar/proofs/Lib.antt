@@ -5,3 +5,7 @@ pub mod Complete
 pub mod CompleteParts
 pub mod CompleteStatements
 pub mod OneReading
+pub mod Exact
+pub mod ExactTokens
+pub mod ExactTerms
+pub mod ExactQuals
