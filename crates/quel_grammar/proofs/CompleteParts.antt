@@ -35,7 +35,7 @@ use Rattle.quel_grammar.specs.Statements.IsCovered.{whole, only}
 use Rattle.quel_grammar.specs.Reading.{Reader, first, is_fixed, on_fixed, expect, name_at, look_up}
 use Rattle.quel_grammar.specs.TermReaders.{Lower, level, mixed_by, qual_by}
 use Rattle.quel_grammar.specs.TermReaders.Mixed.{Whole}
-use Rattle.quel_grammar.specs.PartReaders.{list_by, maybe, names_at, all_target, dot_target, set_target, target_by, targets_by, where_by, direction_at, key_at, keys_by, sort_by, name_into, plain_into, into_at, width_of, format_or, format_of, copy_form_or, copy_form_of, named_at, parts_by, small_number, numbers_at, on_by, keyed_by, structure_by, operation_of, covered_names, covered_by}
+use Rattle.quel_grammar.specs.PartReaders.{list_by, maybe, closed, in_parens, names_at, all_target, dot_target, set_target, target_by, targets_by, where_by, direction_at, key_at, keys_by, sort_by, name_into, plain_into, into_at, width_of, format_or, format_of, copy_form_or, copy_form_of, named_at, parts_by, small_number, numbers_at, on_by, keyed_by, structure_by, operation_of, covered_names, covered_by}
 use Rattle.quel_grammar.proofs.Ends.{TermEnds, QualEnds, close_ends, comma_ends, sort_ends, nothing_ends}
 use Rattle.quel_grammar.proofs.Complete.{read_term, read_qual}
 
@@ -86,7 +86,7 @@ read_target n ts x all_ le rest ends = refl
 
 pub read_targets : (n : ℕ) {ts : List Token} {xs : List Item} → IsList IsTarget ts xs → length ts < n → (rest : List Token)
     → targets_by n (level n) (tokens.Fixed fixed.Open ∷ ts ++ tokens.Fixed fixed.Close ∷ rest) ≡ Ok (xs, rest)
-unfolding targets_by
+unfolding in_parens closed
 read_targets n l lt rest = rw (read_list IsTarget TermEnds comma_ends (target_by (level n)) n (read_target n) n l lt (omega arith) [] (tokens.Fixed fixed.Close ∷ rest) (close_ends rest).conj.term refl) refl
 
 -- ---- sort keys
@@ -182,7 +182,7 @@ column_part ts x (column {n = n} p) = let w = copy_form_word p in record { said 
 
 pub read_parts : {X : Type 0} (f : List ℕ → Option X) (Is : List Token → List ℕ × X → Type 0) → ((ts : List Token) (x : List ℕ × X) → Is ts x → IsPart f ts x) → (n : ℕ) {ts : List Token} {xs : List (List ℕ × X)}
     → IsList Is ts xs → length ts < n → (rest : List Token) → parts_by f n (tokens.Fixed fixed.Open ∷ ts ++ tokens.Fixed fixed.Close ∷ rest) ≡ Ok (xs, rest)
-unfolding parts_by
+unfolding in_parens closed
 read_parts f Is part n {ts = ts} l lt rest =
     rw (read_list Is (λ rest. Unit {0}) (λ rest. tt) (named_at f) (length ts) (λ us x p q rest e. read_part f us x (part us x p) rest) n l lt (omega arith) [] (tokens.Fixed fixed.Close ∷ rest) tt refl) refl
 
@@ -225,7 +225,7 @@ pub read_operations : (n : ℕ) {ts : List Token} {sums : List ℕ} → IsList I
 read_operations n {ts = ts} l lt rest e = read_list IsOperation (λ rest. Unit {0}) (λ rest. tt) (expect (on_fixed operation_of)) (length ts) (λ us x p q rest e. read_operation us x p rest) n l lt (omega arith) [] rest tt e
 
 pub read_names_inside : (n : ℕ) {ts : List Token} {names : List (List ℕ)} → IsList IsName ts names → length ts < n → (rest : List Token) → covered_names n (ts ++ tokens.Fixed fixed.Close ∷ rest) ≡ Ok (names, rest)
-unfolding covered_names
+unfolding closed
 read_names_inside n l lt rest = rw (read_names n l lt (tokens.Fixed fixed.Close ∷ rest) refl) refl
 
 pub read_covered : {ts : List Token} {names : List (List ℕ)} → IsCovered ts names → (n : ℕ) → length ts ≤ n → (rest : List Token) → covered_by n (ts ++ tokens.Fixed fixed.To ∷ rest) ≡ Ok (names, tokens.Fixed fixed.To ∷ rest)
