@@ -1,0 +1,11 @@
+pub mod Ends
+pub mod TermSteps
+pub mod QualSteps
+pub mod Complete
+pub mod CompleteParts
+pub mod CompleteStatements
+pub mod OneReading
+pub mod Exact
+pub mod ExactTokens
+pub mod ExactTerms
+pub mod ExactQuals

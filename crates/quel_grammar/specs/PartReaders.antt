@@ -37,6 +37,19 @@ maybe f ts = choose (done tt) (λ u. done tt) ts (first (is_fixed f) ts)
 abbrev pub names_at : ℕ → Reader (List (List ℕ))
 names_at n = list_by name_at n []
 
+-- these, and the closing parenthesis
+unfoldable pub closed : {A : Type 0} → Reader A → Reader A
+closed r ts = do
+  x ← r ts
+  close ← after fixed.Close x.1
+  Ok (x.0, close.1)
+
+-- these in parentheses
+unfoldable pub in_parens : {A : Type 0} → Reader A → Reader A
+in_parens r ts = do
+  open_ ← after fixed.Open ts
+  closed r open_.1
+
 -- ---- targets, qualifications and sort keys
 
 -- all attributes of a variable, behind the dot
@@ -64,12 +77,8 @@ target_by l ts = do
   choose (dot_target v.0) (λ u. set_target l v.0) v.1 (first (is_fixed fixed.Equal) v.1)
 
 -- targets in parentheses
-unfoldable pub targets_by : ℕ → Lower → Reader (List Item)
-targets_by n l ts = do
-  open_ ← after fixed.Open ts
-  targets ← list_by (target_by l) n [] open_.1
-  close ← after fixed.Close targets.1
-  Ok (targets.0, close.1)
+abbrev pub targets_by : ℕ → Lower → Reader (List Item)
+targets_by n l = in_parens (list_by (target_by l) n [])
 
 -- `where` and a qualification, or nothing
 unfoldable pub where_by : Lower → Reader Qual
@@ -159,12 +168,8 @@ named_at f ts = do
   Ok ((n.0, x.0), x.1)
 
 -- such parts in parentheses
-unfoldable pub parts_by : {X : Type 0} → (List ℕ → Option X) → ℕ → Reader (List (List ℕ × X))
-parts_by f n ts = do
-  open_ ← after fixed.Open ts
-  parts ← list_by (named_at f) n [] open_.1
-  close ← after fixed.Close parts.1
-  Ok (parts.0, close.1)
+abbrev pub parts_by : {X : Type 0} → (List ℕ → Option X) → ℕ → Reader (List (List ℕ × X))
+parts_by f n = in_parens (list_by (named_at f) n [])
 
 -- `from` and `into`, and whether it is `from`
 abbrev pub way_of : Fixed → Option Bool
@@ -239,11 +244,8 @@ over_of fixed.To = Some tt
 over_of _ = None
 
 -- names, behind the open parenthesis
-unfoldable pub covered_names : ℕ → Reader (List (List ℕ))
-covered_names n ts = do
-  names ← names_at n ts
-  close ← after fixed.Close names.1
-  Ok (names.0, close.1)
+abbrev pub covered_names : ℕ → Reader (List (List ℕ))
+covered_names n = closed (names_at n)
 
 -- names in parentheses, or nothing
 unfoldable pub covered_by : ℕ → Reader (List (List ℕ))

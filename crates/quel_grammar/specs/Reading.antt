@@ -73,6 +73,6 @@ abbrev pub name_at : Reader (List ℕ)
 name_at ts = expect name_of ts
 
 -- what the table has for a word
-abbrev pub look_up : {X : Type 0} → List (List ℕ × X) → List ℕ → Option X
+unfoldable pub look_up : {X : Type 0} → List (List ℕ × X) → List ℕ → Option X
 look_up [] w = None
 look_up (e ∷ table) w = elim (bytes_eq w e.0) [ true ↦ Some e.1 | false ↦ look_up table w ]

@@ -1,6 +1,10 @@
 //! The grammar of QUEL: tokens, and which runs of tokens are which statements.
 #![tactic(auto)]
 
+mod laws;
 mod token;
 
+pub use laws::{
+    at_most_one_thing_is_read, fronts_begin_statements, tokens_are_at_most_one_statement,
+};
 pub use token::{Fixed, Piece, Token};
