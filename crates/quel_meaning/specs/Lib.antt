@@ -12,3 +12,5 @@ pub mod Passing
 pub mod StatementUpdate
 pub mod Causes
 pub mod Resolved
+pub mod FitQueries
+pub mod Fit
