@@ -1,1 +1,3 @@
+mod Small
 mod Resolving
+mod Fitting

@@ -1,44 +1,34 @@
--- Computed: what small statements are resolved to.
+-- Computed: what small statements are resolved to, or the number that refuses them.
 use Rattle.std.proofs.Common.{refl}
-use Rattle.std.specs.Prelude.{◌≡◌, ℕ, pos, true, false, List, [], ◌∷◌, Some, None, Result, Ok, Err, codes, replicate}
+use Rattle.std.specs.Prelude.{◌≡◌, pos, true, false, [], ◌∷◌, Some, None, Ok, Err, codes, replicate}
 use Rattle.calculus.specs.declared.value.Domain.TheVariants.{I1, I2, C}
-use Rattle.calculus.specs.declared.value.Kind.{Kind}
 use Rattle.calculus.specs.declared.value.Kind.TheVariants.{Of, Wide}
 use Rattle.calculus.specs.declared.operator.ArithOp.TheVariants.{Add}
 use Rattle.calculus.specs.declared.operator.CmpOp.TheVariants.{Eq, Ne, Gt}
-use Rattle.calculus.specs.declared.operator.AggOp.TheVariants.{Count, Sum}
-use Rattle.calculus.specs.declared.query.RelKey.{RelKey}
+use Rattle.calculus.specs.declared.operator.AggOp.TheVariants.{Sum}
 use Rattle.calculus.specs.declared.query.QTerm.TheVariants as q
-use Rattle.calculus.specs.declared.query.QTerm.{QTerm}
 use Rattle.calculus.specs.declared.query.QQual.TheVariants as qual
 use Rattle.calculus.specs.declared.query.Query.{Query}
 use Rattle.calculus.specs.declared.query.AggSource.{Named}
-use Rattle.calculus.specs.declared.query.Target.{Target}
 use Rattle.calculus.specs.declared.request.Checked.{Checked}
 use Rattle.calculus.specs.declared.request.Checked.TheVariants as checked
 use Rattle.calculus.specs.declared.request.Utility.TheVariants as utility
 use Rattle.calculus.specs.declared.request.UpdateOp.TheVariants as op
 use Rattle.calculus.specs.declared.request.CopyForm.TheVariants.{Bin, Until}
 use Rattle.calculus.specs.declared.schema.Spec.TheVariants as spec
-use Rattle.calculus.specs.declared.schema.Attr.{Attr as Attribute}
-use Rattle.calculus.specs.declared.statement.Term.{Term, Int, Chars, Attr}
-use Rattle.calculus.specs.declared.statement.Qual.{Qual, True, Cmp}
-use Rattle.calculus.specs.declared.statement.Item.{Item}
+use Rattle.calculus.specs.declared.statement.Qual.{True, Cmp}
 use Rattle.calculus.specs.declared.statement.Item.TheVariants as item
-use Rattle.calculus.specs.declared.statement.Statement.{Statement}
 use Rattle.calculus.specs.declared.statement.Statement.TheVariants as statement
 use Rattle.calculus.specs.Catalogue.{catalogue_at}
 use Rattle.calculus.specs.Constant.{constant_text, marks}
-use Rattle.calculus.specs.Database.{Db, Relation, View}
 use Rattle.calculus.specs.Finding.{found}
-use Rattle.calculus.specs.Keys.{key_of}
 use Rattle.calculus.specs.Kinds.{kind_of, attribute_kind, constant_kind, number_kind, operated_kind, joined_kind, is_text_kind, kinds_fit, comparable}
 use Rattle.calculus.specs.QueryParts.{term_aggregates, qual_aggregates}
 use Rattle.calculus.specs.Sizes.{level_of, term_size, qual_size, measure_of, query_size, query_level, variables, expanded_variables, update_variables, update_expanded_variables}
 use Rattle.calculus.specs.Stored.{range_at, info_at}
 use Rattle.calculus.specs.Tree as tree
 use Rattle.calculus.specs.Written.{neg, operation, aggregate}
-use Rattle.quel_meaning.specs.Ranges.{Ranges, range_of}
+use Rattle.quel_meaning.specs.Ranges.{range_of}
 use Rattle.quel_meaning.specs.Scope.{named, ranged, entry_named}
 use Rattle.quel_meaning.specs.WrittenParts.{aggregate_vars, aggregates_in, aggregates_in_qual, vars_in}
 use Rattle.quel_meaning.specs.Naming.{mentions, name_refusal}
@@ -49,81 +39,7 @@ use Rattle.quel_meaning.specs.Passing.{has_too_many, update_has_too_many, is_ful
 use Rattle.quel_meaning.specs.StatementUpdate.{append_of, replace_of, delete_of, into_of}
 use Rattle.quel_meaning.specs.Causes.{causes}
 use Rattle.quel_meaning.specs.Resolved.{tree_of, resolved}
-
--- ---- a database
-
-abbrev key : List ℕ → RelKey
-key name = key_of (codes "ann") name
-
-abbrev attr : List ℕ → Kind → Attribute
-attr name kind = record { name = name; kind = kind }
-
-abbrev relation : List ℕ → List Attribute → Relation
-relation name attrs = record { info = record { key = key name; spec = spec.Heap; attrs = attrs; keys = [] }; rows = [] }
-
--- p (a = i2, b = c6), s (k = i2), and the view two (a = x.a) where x.a = y.k
-abbrev two : View
-two = record {
-  info = record { key = key (codes "two"); spec = spec.View; attrs = attr (codes "a") (Of I2) ∷ []; keys = [] };
-  query = tree.query (key (codes "p") ∷ key (codes "s") ∷ []) (record { name = codes "a"; kind = Of I2; term = q.Attr 0 0 } ∷ []) (qual.Cmp Eq (q.Attr 0 0) (q.Attr 1 0));
-}
-
-abbrev db : Db
-db = record {
-  dba = codes "ann";
-  relations = relation (codes "p") (attr (codes "a") (Of I2) ∷ attr (codes "b") (Of (C 6)) ∷ []) ∷ relation (codes "s") (attr (codes "k") (Of I2) ∷ []) ∷ [];
-  indexes = [];
-  views = two ∷ [];
-  rules = [];
-  permits = [];
-}
-
--- e ranges over p, f over s, v over two, and gone over nothing any more
-abbrev ranges : Ranges
-ranges = (codes "e", key (codes "p")) ∷ (codes "f", key (codes "s")) ∷ (codes "v", key (codes "two")) ∷ (codes "gone", key (codes "old")) ∷ []
-
-abbrev of : Statement → Result Checked ℕ
-of s = resolved db (codes "ann") ranges s
-
-abbrev dot : List ℕ → List ℕ → Term
-dot var name = Attr var name
-
-abbrev retrieve : List Item → Qual → Statement
-retrieve items q = statement.Retrieve None items q []
-
-abbrev ea : Term
-ea = dot (codes "e") (codes "a")
-
-abbrev count_of : Term → Term
-count_of t = aggregate (record { op = Count; arg = t; by = []; qual = True })
-
-abbrev set : List ℕ → Term → Item
-set name t = item.Set name t
-
-abbrev eb : Term
-eb = dot (codes "e") (codes "b")
-
-abbrev fk : Term
-fk = dot (codes "f") (codes "k")
-
-abbrev int : ℕ → Term
-int n = Int (pos n)
-
-abbrev chars : List ℕ → Term
-chars bytes = Chars bytes
-
-abbrev target : List ℕ → Kind → QTerm → Target
-target name kind term = record { name = name; kind = kind; term = term }
-
--- sum(f.k by f.k where f.k > 1)
-abbrev sum_by_k : Term
-sum_by_k = aggregate (record { op = Sum; arg = fk; by = fk ∷ []; qual = Cmp Gt fk (int 1) })
-
-abbrev plus_one : Term
-plus_one = operation Add ea (int 1)
-
-abbrev counted : List ℕ → ℕ → QTerm
-counted name slot = tree.aggregate (record { slot = slot; op = Count; source = Named (key name); arg = q.Attr 0 0; by = []; link = []; qual = qual.True })
+use Rattle.quel_meaning.proofs.Small.{key, of, dot, retrieve, ea, count_of, set, eb, fk, int, chars, target, sum_by_k, plus_one, counted}
 
 -- ---- what is refused, by its number
 

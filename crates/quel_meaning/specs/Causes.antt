@@ -63,7 +63,7 @@ print_causes s stand sort q =
     ∷ (16, is_too_wide (target_kinds q))
     ∷ []
 
--- what refuses a `retrieve` that makes a relation of this name: an aggregate; too many variables, no room; a title that stands twice; kinds; a name to sort by; the width of its rows; a name in use
+-- what refuses a `retrieve` that makes a relation: the same, and that there is no room, that a title stands twice, that the name is in use
 abbrev pub into_causes : Scope → Bool → List ℕ → List (List ℕ × Bool) → Query → Causes
 into_causes s stand name sort q =
     (18, not stand)
@@ -86,7 +86,7 @@ update_causes s stand u =
     ∷ (26, is_some (view_at s.db u.rel))
     ∷ []
 
--- what refuses a view of this name: an aggregate; too many variables, no room, its size or its level; a title that stands twice; kinds; the width of its rows; a name in use
+-- what refuses a view: an aggregate; too many variables, no room, its size or level; a title that stands twice; kinds; the width of its rows; a name in use
 abbrev pub view_causes : Scope → Bool → List ℕ → Query → Causes
 view_causes s stand name q =
     (18, not stand)
@@ -143,6 +143,6 @@ causes_by s stand q (statement.Permit ops var attrs user qual) =
     row_causes s stand (ranged s var) (are_full most_permits (permit_numbers s.db (key_found (ranged s var))) || nat_lt most_listed_attributes (length attrs)) q
 causes_by s stand q (statement.Rule var qual) = row_causes s stand (ranged s var) (are_full most_rules (rule_numbers s.db (key_found (ranged s var)))) q
 
--- what refuses a statement whose names were found, in the order in which it counts, as far as names, limits and kinds decide it; what the user may do and what the rows decide is judged later
+-- what refuses a statement whose names were found, in the order in which it counts; what the user may do and what the rows decide is judged later
 unfoldable pub causes : Scope → Statement → Causes
 causes s stmt = causes_by s (aggregates_stand s stmt) (query_of s stmt) stmt

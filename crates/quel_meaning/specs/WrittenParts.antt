@@ -22,7 +22,7 @@ once (n ∷ ns) = n ∷ filter (λ m. not (bytes_eq m n)) (once ns)
 abbrev pub Dotted : Type 0
 Dotted = List ℕ × List ℕ
 
--- the attributes in a term, from left to right, those in aggregates among them: of an aggregate its term's, those of its by-list and of its qualification
+-- the attributes in a term, from left to right; of an aggregate those of its term, of its by-list and of its qualification
 abbrev mutual
   pub attributes : Term → List Dotted
   attributes (Int n) = []
@@ -152,6 +152,6 @@ first_vars (statement.Permit ops var attrs user qual) = var ∷ []
 first_vars (statement.Rule var qual) = var ∷ []
 first_vars _ = []
 
--- the variables of a statement's query, each once: the one that it names by itself, then those of its target list and of its qualification outside aggregates and in by-lists, in the order in which they first stand
+-- the variables of a statement's query, each once, in the order of the text: the one that it names by itself, then those outside aggregates and in by-lists
 unfoldable pub vars_in : Statement → List (List ℕ)
 vars_in s = once (first_vars s ++ (flat_map outer_vars_in_item (items_of s) ++ outer_vars_in_qual (where_of s)))
