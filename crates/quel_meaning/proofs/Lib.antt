@@ -1,3 +1,4 @@
 mod Small
 mod Resolving
 mod Fitting
+pub mod Accepted

@@ -14,3 +14,4 @@ pub mod Causes
 pub mod Resolved
 pub mod FitQueries
 pub mod Fit
+pub mod Purpose
