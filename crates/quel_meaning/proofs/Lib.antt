@@ -2,3 +2,4 @@ mod Small
 mod Resolving
 mod Fitting
 pub mod Accepted
+pub mod Slots

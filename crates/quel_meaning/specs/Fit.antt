@@ -1,5 +1,5 @@
 -- Which trees are fit for a database: what query processor and utilities may be asked for.
-use Rattle.std.specs.Prelude.{ℕ, Bool, true, false, ◌&&◌, ◌||◌, not, nat_eq, nat_le, nat_lt, is_some, List, [], ◌∷◌, map, length, slice_get, Option, Some, None}
+use Rattle.std.specs.Prelude.{ℕ, Bool, true, false, ◌&&◌, ◌||◌, not, nat_eq, nat_le, nat_lt, List, [], ◌∷◌, map, length, slice_get, Option, Some, None}
 use Rattle.std.specs.List.{list_all}
 use Rattle.calculus.specs.declared.query.RelKey.{RelKey}
 use Rattle.calculus.specs.declared.query.QQual.{QQual}
@@ -22,14 +22,14 @@ use Rattle.calculus.specs.Lists.{is_any, differ_by}
 use Rattle.calculus.specs.Kinds.{comparable, kinds_fit, is_text_kind}
 use Rattle.calculus.specs.Database.{Db, is_relation, is_there}
 use Rattle.calculus.specs.Catalogue.{is_catalogue}
-use Rattle.calculus.specs.Stored.{attrs_at, kinds_at, info_at}
+use Rattle.calculus.specs.Stored.{attrs_at, kinds_at}
 use Rattle.calculus.specs.QueryParts.{vars_of, targets_of, qual_of}
 use Rattle.calculus.specs.Replacement.{made_attr}
 use Rattle.calculus.specs.Sizes.{variables, expanded_variables, update_expanded_variables}
 use Rattle.calculus.specs.IsDatabase.{attrs_stand, are_stored, keys_stand, var_kinds, query_stands, vars_are_there, row_qual_stands, row_qual_is_small, permit_attrs_stand}
 use Rattle.quel_meaning.specs.Passing.{is_full, is_taken, is_too_large}
 use Rattle.quel_meaning.specs.KindsInQueries.{kind_in_query, kinds_fit_in_query, assignments_fit}
-use Rattle.quel_meaning.specs.FitQueries.{lists_few_vars, reads_fit, asked_fits}
+use Rattle.quel_meaning.specs.FitQueries.{Allowed, kept, kept_or_viewed, is_named, lists_few_vars, reads_fit, asked_fits}
 use Rattle.quel_meaning.specs.Causes.{is_binary}
 
 -- ---- updates
@@ -76,18 +76,14 @@ relation_fits db u = elim u.op [
 ]
 
 -- an update: what it reads, its kinds, its variables, its places and checks, and the relation
-unfoldable pub update_fits : Db → Update → Bool
-update_fits db u =
-    reads_fit db u.query
+unfoldable pub update_fits : Allowed → Db → Update → Bool
+update_fits may db u =
+    reads_fit may db u.query
     && (update_kinds_fit db u.query
     && (assignments_fit db u
     && (nat_le (update_expanded_variables db u) most_expanded_variables && (places_fit db u && (checks_fit db u && relation_fits db u)))))
 
 -- ---- utilities
-
--- a relation, view or catalogue is there under the key
-abbrev pub is_named : Db → RelKey → Bool
-is_named db key = is_some (info_at db key)
 
 -- a relation, view, index or catalogue is there under the key
 abbrev pub is_entry : Db → RelKey → Bool
@@ -139,8 +135,16 @@ utility_fits db user (utility.Rule rel rule) = row_qual_fits db rel rule.qual
 utility_fits db user (utility.DropPermits rel numbers) = is_named db rel
 utility_fits db user (utility.DropRules rel numbers) = is_named db rel
 
--- a tree is fit for a database and a user
-unfoldable pub is_fit : Db → List ℕ → Checked → Bool
-is_fit db user (checked.Answer asked) = list_all (asked_fits db) asked
-is_fit db user (checked.Update update) = update_fits db update
-is_fit db user (checked.Utility request) = utility_fits db user request
+-- a tree is fit for a database and a user where this is what it may read
+unfoldable pub fits : Allowed → Db → List ℕ → Checked → Bool
+fits may db user (checked.Answer asked) = list_all (asked_fits may db) asked
+fits may db user (checked.Update update) = update_fits may db update
+fits may db user (checked.Utility request) = utility_fits db user request
+
+-- a tree is fit for a database and a user: it reads base relations and catalogues alone
+abbrev pub is_fit : Db → List ℕ → Checked → Bool
+is_fit db user tree = fits (kept db) db user tree
+
+-- a tree is fit once the views in it are put in
+abbrev pub is_fit_with_views : Db → List ℕ → Checked → Bool
+is_fit_with_views db user tree = fits (kept_or_viewed db) db user tree

@@ -4,5 +4,6 @@
 mod resolving_laws;
 
 pub use resolving_laws::{
-    only_its_numbers_refuse_a_statement, trees_are_for_what_statements_are_for,
+    only_its_numbers_refuse_a_statement, slots_count_the_aggregates_of_a_text,
+    trees_are_for_what_statements_are_for,
 };
