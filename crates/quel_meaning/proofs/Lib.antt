@@ -1,6 +1,7 @@
 mod Resolving
 mod InOrder
 mod Small
+mod SmallTexts
 mod WorkedUtilities
 mod WorkedPermits
 mod WorkedCopies
@@ -8,3 +9,6 @@ mod Parted
 mod Printing
 mod Sessions
 mod Toy
+mod Fitting
+pub mod Accepted
+pub mod Slots

@@ -63,7 +63,7 @@ print_causes s stand sort q =
     ∷ (16, is_too_wide (target_kinds q))
     ∷ []
 
--- what refuses a `retrieve` that makes a relation of this name: an aggregate; too many variables, no room; a title that stands twice; kinds; a name to sort by; the width of its rows; a name in use
+-- what refuses a `retrieve` that makes a relation: the same, and that there is no room, that a title stands twice, that the name is in use
 abbrev pub into_causes : Scope → Bool → List ℕ → List (List ℕ × Bool) → Query → Causes
 into_causes s stand name sort q =
     (18, not stand)
@@ -75,18 +75,24 @@ into_causes s stand name sort q =
     ∷ (15, is_taken s.db s.user name)
     ∷ []
 
--- what refuses an update of a relation: an aggregate, too many variables, an attribute that is set twice, kinds, a catalogue, a view
+-- what refuses an update because of its relation: a catalogue, a view
+abbrev pub changed_causes : Scope → Update → Causes
+changed_causes s u = (28, is_catalogue s.db u.rel) ∷ (26, is_some (view_at s.db u.rel)) ∷ []
+
+-- what refuses an append or a replacement: an aggregate, too many variables, an attribute that is set twice, kinds, the relation
 abbrev pub update_causes : Scope → Bool → Update → Causes
 update_causes s stand u =
     (18, not stand)
     ∷ (14, update_has_too_many s.db u)
     ∷ (17, repeats (titles_of u.query))
     ∷ (13, not (query_fits s.db u.query && assignments_fit s.db u))
-    ∷ (28, is_catalogue s.db u.rel)
-    ∷ (26, is_some (view_at s.db u.rel))
-    ∷ []
+    ∷ changed_causes s u
 
--- what refuses a view of this name: an aggregate; too many variables, no room, its size or its level; a title that stands twice; kinds; the width of its rows; a name in use
+-- what refuses a deletion: the same, but it sets no attribute
+abbrev pub delete_causes : Scope → Bool → Update → Causes
+delete_causes s stand u = (18, not stand) ∷ (14, update_has_too_many s.db u) ∷ (13, not (query_fits s.db u.query)) ∷ changed_causes s u
+
+-- what refuses a view: an aggregate; too many variables, no room, its size or level; a title that stands twice; kinds; the width of its rows; a name in use
 abbrev pub view_causes : Scope → Bool → List ℕ → Query → Causes
 view_causes s stand name q =
     (18, not stand)
@@ -126,7 +132,7 @@ causes_by s stand q (statement.Retrieve None items qual sort) = print_causes s s
 causes_by s stand q (statement.Retrieve (Some name) items qual sort) = into_causes s stand name sort q
 causes_by s stand q (statement.Append rel items qual) = update_causes s stand (append_of s rel q)
 causes_by s stand q (statement.Replace var items qual) = update_causes s stand (replace_of s var q)
-causes_by s stand q (statement.Delete var qual) = update_causes s stand (delete_of s var q)
+causes_by s stand q (statement.Delete var qual) = delete_causes s stand (delete_of s var q)
 causes_by s stand q (statement.Create rel attrs) =
     (14, is_full s.db) ∷ (17, repeats (map (λ a. a.0) attrs)) ∷ (16, is_too_wide (map (λ a. Of a.1) attrs)) ∷ (15, is_taken s.db s.user rel) ∷ []
 causes_by s stand q (statement.Destroy rels) = (17, repeats_keys s rels) ∷ []
@@ -143,6 +149,6 @@ causes_by s stand q (statement.Permit ops var attrs user qual) =
     row_causes s stand (ranged s var) (are_full most_permits (permit_numbers s.db (key_found (ranged s var))) || nat_lt most_listed_attributes (length attrs)) q
 causes_by s stand q (statement.Rule var qual) = row_causes s stand (ranged s var) (are_full most_rules (rule_numbers s.db (key_found (ranged s var)))) q
 
--- what refuses a statement whose names were found, in the order in which it counts, as far as names, limits and kinds decide it; what the user may do and what the rows decide is judged later
+-- what refuses a statement whose names were found, in the order in which it counts; what the user may do and what the rows decide is judged later
 unfoldable pub causes : Scope → Statement → Causes
 causes s stmt = causes_by s (aggregates_stand s stmt) (query_of s stmt) stmt

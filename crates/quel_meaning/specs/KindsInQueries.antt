@@ -42,7 +42,7 @@ picks Min = true
 picks Max = true
 picks Any = false
 
--- what an operation gives for values of a kind: the least and the greatest text has the kind of the texts, all else is a whole number of 64 bits; nothing where texts would be added up
+-- the kind of what an operation gives for values of a kind: of the least and the greatest text theirs, else numbers; none where texts would be added up
 abbrev pub folded_kind : AggOp → Kind → Option Kind
 folded_kind op k = elim (is_number_kind k) [
   | true ↦ Some Wide

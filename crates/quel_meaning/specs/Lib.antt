@@ -26,3 +26,6 @@ pub mod Passing
 pub mod StatementUpdate
 pub mod Causes
 pub mod Resolved
+pub mod FitQueries
+pub mod Fit
+pub mod Purpose

@@ -11,12 +11,17 @@ use Rattle.quel_meaning.specs.Ranges.{range_of}
 use Rattle.quel_meaning.specs.Scope.{Scope, named, ranged, entry_named, attr_place}
 use Rattle.quel_meaning.specs.WrittenParts.{Dotted, attributes, attributes_in_qual}
 
--- names in a statement, by what they have to be: a declared variable over something that is there; such a variable and an attribute of what it ranges over; a relation, view or catalogue; one of these and an attribute of it; what `destroy` may name
+-- a name in a statement, or two, by what they have to be
 pub data Mention : Type 0 where
+  -- a declared variable over something that is there
   Variable : List ℕ → Mention
+  -- such a variable, and an attribute of what it ranges over
   AttrOf : List ℕ → List ℕ → Mention
+  -- a relation, a view or a catalogue
   Relation : List ℕ → Mention
+  -- a relation, a view or a catalogue, and an attribute of it
   AttrIn : List ℕ → List ℕ → Mention
+  -- what `destroy` may name: a relation, a view, an index or a catalogue
   Entry : List ℕ → Mention
 
 -- ---- which names a statement has
@@ -29,21 +34,21 @@ dotted ds = map (λ d. AttrOf d.0 d.1) ds
 abbrev pub attr_names : Scope → List ℕ → List (List ℕ)
 attr_names s var = map (λ a. a.name) (attrs_in (ranged s var))
 
--- the names in an item of a target list, where `titled` has those that its title makes: of a set attribute its title, then the attributes of its term; of an attribute the variable with it, then its title; of all attributes the variable, then each title in order
+-- the names in an item of a target list, where `titled` has those of a title: in front of a term, behind an attribute, one by one behind a variable with `all`
 abbrev pub item_mentions : Scope → (List ℕ → List Mention) → Item → List Mention
 item_mentions s titled (item.Set name term) = titled name ++ dotted (attributes term)
 item_mentions s titled (item.Attr var attr) = AttrOf var attr ∷ titled attr
 item_mentions s titled (item.All var) = Variable var ∷ flat_map titled (attr_names s var)
 
--- the names in a target list and a qualification, where `titled` has those that a title makes
+-- the names in a target list and a qualification, where `titled` has those of a title
 abbrev pub query_mentions : Scope → (List ℕ → List Mention) → List Item → Qual → List Mention
 query_mentions s titled items qual = flat_map (item_mentions s titled) items ++ dotted (attributes_in_qual qual)
 
--- a title that need not be anything yet
+-- a title that needn't be anything yet
 abbrev pub new_title : List ℕ → List Mention
 new_title name = []
 
--- the names in a statement, in the order of its text; what it makes is no name that has to be anything yet, and the names to sort by are judged apart
+-- the names in a statement, in the order of its text, without those that it makes and those to sort by
 unfoldable pub mentions : Scope → Statement → List Mention
 mentions s (statement.Range var rel) = Relation rel ∷ []
 mentions s (statement.Retrieve into items qual sort) = query_mentions s new_title items qual

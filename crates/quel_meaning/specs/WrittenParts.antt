@@ -1,5 +1,5 @@
 -- The parts of a statement as it is written: its target list and qualification, the attributes and the aggregates in them.
-use Rattle.std.specs.Prelude.{ℕ, true, false, List, [], ◌∷◌, ◌++◌, map, flat_map, bytes_eq}
+use Rattle.std.specs.Prelude.{ℕ, not, List, [], ◌∷◌, ◌++◌, map, filter, flat_map, bytes_eq}
 use Rattle.calculus.specs.declared.statement.Term.{Term, Int, Chars, Attr, Agg', Row_of-Term, end_of-Term, more_of-Term, items-the_row-Term, Row_of-AggTerm, end_of-AggTerm, more_of-AggTerm}
 use Rattle.calculus.specs.declared.statement.AggTerm.{AggTerm}
 use Rattle.calculus.specs.declared.statement.Qual.{Qual, True, Cmp}
@@ -11,15 +11,10 @@ use Rattle.calculus.specs.Written.{neg, abs, operation, concat, both, either, ne
 
 -- ---- names
 
--- the names without this one
-abbrev pub without_name : List ℕ → List (List ℕ) → List (List ℕ)
-without_name name [] = []
-without_name name (n ∷ ns) = elim (bytes_eq n name) [ true ↦ without_name name ns | false ↦ n ∷ without_name name ns ]
-
 -- each name once, in the order in which they first stand
 abbrev pub once : List (List ℕ) → List (List ℕ)
 once [] = []
-once (n ∷ ns) = n ∷ without_name n (once ns)
+once (n ∷ ns) = n ∷ filter (λ m. not (bytes_eq m n)) (once ns)
 
 -- ---- attributes
 
@@ -27,7 +22,7 @@ once (n ∷ ns) = n ∷ without_name n (once ns)
 abbrev pub Dotted : Type 0
 Dotted = List ℕ × List ℕ
 
--- the attributes in a term, from left to right, those in aggregates among them: of an aggregate its term's, those of its by-list and of its qualification
+-- the attributes in a term, from left to right; of an aggregate those of its term, of its by-list and of its qualification
 abbrev mutual
   pub attributes : Term → List Dotted
   attributes (Int n) = []
@@ -157,6 +152,6 @@ first_vars (statement.Permit ops var attrs user qual) = var ∷ []
 first_vars (statement.Rule var qual) = var ∷ []
 first_vars _ = []
 
--- the variables of a statement's query, each once: the one that it names by itself, then those of its target list and of its qualification outside aggregates and in by-lists, in the order in which they first stand
+-- the variables of a statement's query, each once, in the order of the text: the one that it names by itself, then those outside aggregates and in by-lists
 unfoldable pub vars_in : Statement → List (List ℕ)
 vars_in s = once (first_vars s ++ (flat_map outer_vars_in_item (items_of s) ++ outer_vars_in_qual (where_of s)))

@@ -44,7 +44,8 @@ compared compare.Eq (qterm.Chars pattern) u = qqual.Like u pattern true
 compared compare.Ne (qterm.Chars pattern) u = qqual.Like u pattern false
 compared op t u = qqual.Cmp op t u
 
--- the tree of a term, where these are the variables around and this many aggregates stand before it; inside an aggregate its own variable stands alone, at place 0, and its by-list stands twice: over the rows that are folded, and over the variables around
+-- the tree of a term, with these variables around and so many aggregates before it; in an aggregate its own variable is alone, and its by-list stands twice:
+-- over the rows that are folded, and over the variables around
 abbrev mutual
   pub term_tree : Scope → Vars → ℕ → Term → QTerm
   term_tree s vars n (Int number) = qterm.Int number
