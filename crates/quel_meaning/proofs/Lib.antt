@@ -1,4 +1,5 @@
 mod InOrder
+mod Kept
 mod Small
 mod WorkedUtilities
 mod WorkedPermits
