@@ -10,7 +10,7 @@ use Rattle.calculus.specs.declared.request.Utility.{Utility as Work}
 use Rattle.calculus.specs.declared.request.Utility.TheVariants.{Copy}
 use Rattle.calculus.specs.declared.change.DbChange.{DbChange}
 use Rattle.calculus.specs.declared.reply.Refusal.{Refusal}
-use Rattle.calculus.specs.declared.reply.Reply.TheVariants.{Refused}
+use Rattle.calculus.specs.declared.reply.Reply.TheVariants.{Nothing, Refused}
 use Rattle.calculus.specs.declared.schema.RelInfo.{RelInfo}
 use Rattle.calculus.specs.declared.statement.Statement.{Statement}
 use Rattle.calculus.specs.declared.statement.Statement.TheVariants.{Range}
@@ -18,6 +18,7 @@ use Rattle.calculus.specs.Who.{Who}
 use Rattle.calculus.specs.Database.{Db}
 use Rattle.calculus.specs.Replacement.{updated}
 use Rattle.calculus.specs.Finding.{found}
+use Rattle.quel_meaning.specs.Ranges.{declared}
 use Rattle.quel_meaning.specs.Shelf.{Shelf}
 use Rattle.quel_meaning.specs.State.{State, Outcome, Built}
 use Rattle.quel_meaning.specs.Planned.{planned}
@@ -114,10 +115,20 @@ range_is : (resolved : Resolving) (state : State) (user var rel : List ℕ)
 unfolding statement_outcome
 range_is resolved state user var rel = refl
 
--- a variable ranges over what is found under the name; where that is nothing it is refused
-pub range_declares : (resolved : Resolving) (built : Built) (state : State) (user var rel : List ℕ) → built.statement (Range var rel) ≡ true
+range_outcome_is : (resolved : Resolving) (built : Built) (state : State) (user var rel : List ℕ) → built.statement (Range var rel) ≡ true
     → meaning_by resolved built state user (Range var rel) ≡ range_outcome state var (found state.db user rel)
-range_declares resolved built state user var rel e = when_built resolved built state user (Range var rel) e ∙ range_is resolved state user var rel
+range_outcome_is resolved built state user var rel e = when_built resolved built state user (Range var rel) e ∙ range_is resolved state user var rel
+
+-- a variable ranges over what is found under the name
+pub range_declares : (resolved : Resolving) (built : Built) (state : State) (user var rel : List ℕ) (info : RelInfo)
+    → built.statement (Range var rel) ≡ true → found state.db user rel ≡ Some info
+    → meaning_by resolved built state user (Range var rel) ≡ record { state = record state { ranges = declared state.ranges var info.key }; reply = Nothing }
+range_declares resolved built state user var rel info e f = range_outcome_is resolved built state user var rel e ∙ ap (range_outcome state var) f
+
+-- where nothing is found under the name it is refused
+pub range_refused : (resolved : Resolving) (built : Built) (state : State) (user var rel : List ℕ)
+    → built.statement (Range var rel) ≡ true → found state.db user rel ≡ None → meaning_by resolved built state user (Range var rel) ≡ refused state 10
+range_refused resolved built state user var rel e f = range_outcome_is resolved built state user var rel e ∙ ap (range_outcome state var) f
 
 -- ---- the ranges that other statements leave
 

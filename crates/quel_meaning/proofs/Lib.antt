@@ -1,5 +1,6 @@
-mod InOrder
-mod Kept
+pub mod Declared
+pub mod InOrder
+pub mod Kept
 mod Small
 mod WorkedUtilities
 mod WorkedPermits
