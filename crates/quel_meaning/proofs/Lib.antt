@@ -1,4 +1,8 @@
 pub mod Declared
+mod Fields
+mod ColumnsBack
+pub mod RecordsBack
+pub mod WholeRows
 pub mod InOrder
 pub mod Kept
 mod Small

@@ -6,3 +6,4 @@ pub mod Columns
 pub mod Copying
 pub mod Tables
 pub mod Meaning
+pub mod CopiedBack
