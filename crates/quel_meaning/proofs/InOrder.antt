@@ -128,7 +128,7 @@ in_order-cons : {X : Type 0} (cmp : X → X → Ordering) (x : X) (xs : List X) 
 unfolding IsStrictlySortedBy
 in_order-cons cmp x xs before h = (before, h)
 
-in_order-nil : {X : Type 0} (cmp : X → X → Ordering) → IsStrictlySortedBy cmp []
+pub in_order-nil : {X : Type 0} (cmp : X → X → Ordering) → IsStrictlySortedBy cmp []
 unfolding IsStrictlySortedBy
 in_order-nil cmp = tt
 

@@ -5,6 +5,7 @@ pub mod RecordsBack
 pub mod WholeRows
 pub mod InOrder
 pub mod Kept
+pub mod Numbers
 mod Small
 mod WorkedUtilities
 mod WorkedPermits
