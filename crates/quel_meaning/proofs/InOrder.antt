@@ -9,13 +9,17 @@ use Rattle.std.specs.List.Sorted.{IsStrictlySortedBy}
 use Rattle.std.specs.Ordering.{eq_by_cmp, ordering_then, ordering_reverse}
 use Rattle.std.specs.declared.cmp.Ordering.{Ordering}
 use Rattle.std.specs.declared.cmp.Ordering.TheVariants.{Less, Equal, Greater}
+use Rattle.calculus.specs.declared.request.Asked.{Asked}
 use Rattle.calculus.specs.declared.request.SortKey.{SortKey}
 use Rattle.calculus.specs.Orders.{value_total, row_total, row_exact}
 use Rattle.calculus.specs.Rows.{Row, has}
 use Rattle.calculus.specs.Lists.{insert_by}
+use Rattle.calculus.specs.Who.{Who}
+use Rattle.calculus.specs.Database.{Db}
+use Rattle.calculus.specs.Answer.{answer}
 use Rattle.calculus.specs.Value.{row_cmp}
 use Rattle.calculus.proofs.Made.{Contains-has, has-Contains}
-use Rattle.quel_meaning.specs.Tables.{cell, column_order, key_order, rows_order, sorted}
+use Rattle.quel_meaning.specs.Tables.{cell, column_order, key_order, rows_order, sorted, table_of}
 
 -- ---- the order is total and exact
 
@@ -46,12 +50,12 @@ rows_exact (key ∷ keys) a b h = rows_exact keys a b (tied_last (key_order key 
 
 -- ---- a row that is inserted
 
-abbrev insert_as : {X : Type 0} → Ordering → X → X → List X → List X → List X
+abbrev pub insert_as : {X : Type 0} → Ordering → X → X → List X → List X → List X
 insert_as Less x y ys more = x ∷ y ∷ ys
 insert_as Equal x y ys more = x ∷ ys
 insert_as Greater x y ys more = y ∷ more
 
-insert-cons : {X : Type 0} (cmp : X → X → Ordering) (x y : X) (ys : List X) (o : Ordering) → cmp x y ≡ o
+pub insert-cons : {X : Type 0} (cmp : X → X → Ordering) (x y : X) (ys : List X) (o : Ordering) → cmp x y ≡ o
     → insert_by cmp x (y ∷ ys) ≡ insert_as o x y ys (insert_by cmp x ys)
 insert-cons cmp x y ys Less e = rw (e, insert_by) refl
 insert-cons cmp x y ys Equal e = rw (e, insert_by) refl
@@ -91,9 +95,10 @@ has-sorted keys (row ∷ rows) q = has-insert keys row (sorted keys rows) q ∙ 
 
 -- the rows in order are the same rows
 pub sorted_same_rows : (keys : List SortKey) (rows : List Row) (row : Row) → Contains (sorted keys rows) row ↔ Contains rows row
-sorted_same_rows keys rows row =
-    (λ h. Contains-has rows row (sym (has-sorted keys rows row) ∙ has-Contains (sorted keys rows) row h),
-     λ h. Contains-has (sorted keys rows) row (has-sorted keys rows row ∙ has-Contains rows row h))
+sorted_same_rows keys rows row = (
+  λ h. Contains-has rows row (sym (has-sorted keys rows row) ∙ has-Contains (sorted keys rows) row h),
+  λ h. Contains-has (sorted keys rows) row (has-sorted keys rows row ∙ has-Contains rows row h),
+)
 
 -- ---- in order
 
@@ -123,7 +128,7 @@ in_order-cons : {X : Type 0} (cmp : X → X → Ordering) (x : X) (xs : List X) 
 unfolding IsStrictlySortedBy
 in_order-cons cmp x xs before h = (before, h)
 
-in_order-nil : {X : Type 0} (cmp : X → X → Ordering) → IsStrictlySortedBy cmp []
+pub in_order-nil : {X : Type 0} (cmp : X → X → Ordering) → IsStrictlySortedBy cmp []
 unfolding IsStrictlySortedBy
 in_order-nil cmp = tt
 
@@ -146,3 +151,13 @@ pub sorted_in_order : (keys : List SortKey) (rows : List Row) → IsStrictlySort
 unfolding sorted
 sorted_in_order keys [] = in_order-nil (rows_order keys)
 sorted_in_order keys (row ∷ rows) = in_order-insert (rows_total keys) row (sorted keys rows) (sorted_in_order keys rows)
+
+-- ---- tables
+
+pub table_same_rows : (db : Db) (who : Who) (asked : Asked) (row : Row) → Contains (table_of db who asked).rows row ↔ Contains (answer db who asked.query) row
+unfolding table_of
+table_same_rows db who asked row = sorted_same_rows asked.sort (answer db who asked.query) row
+
+pub table_in_order : (db : Db) (who : Who) (asked : Asked) → IsStrictlySortedBy (rows_order asked.sort) (table_of db who asked).rows
+unfolding table_of
+table_in_order db who asked = sorted_in_order asked.sort (answer db who asked.query)

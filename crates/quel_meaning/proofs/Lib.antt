@@ -12,3 +12,11 @@ mod Toy
 mod Fitting
 pub mod Accepted
 pub mod Slots
+pub mod Declared
+mod Fields
+mod ColumnsBack
+pub mod RecordsBack
+pub mod WholeRows
+pub mod InOrder
+pub mod Kept
+pub mod Numbers

@@ -1,7 +1,8 @@
 -- The columns of a copied file: the bytes of a value in a form, and the value that bytes are.
-use Rattle.std.specs.Prelude.{ℕ, ℤ, pos, neg_ℤ, ◌+◌, ◌-◌, ◌*◌, ◌^◌, ◌==◌, nat_lt, Bool, true, false, ◌&&◌, if◌then◌else◌, List, [], ◌∷◌, ◌++◌, length, take, drop, replicate, fold, Option, Some, None, option_map, option_and_then}
+use Rattle.std.specs.Prelude.{ℕ, ℤ, pos, neg_ℤ, ◌-◌, ◌*◌, ◌^◌, ◌==◌, nat_lt, Bool, true, false, ◌&&◌, if◌then◌else◌, List, [], ◌∷◌, ◌++◌, length, take, drop, replicate, Option, Some, None, option_map, option_and_then}
 use Rattle.std.specs.Int.{w64}
 use Rattle.std.specs.Fmt.{signed_decimal}
+use Rattle.std.specs.Str.Parse.{digits_value}
 use Rattle.std.specs.List.{list_all}
 use Rattle.byteorder.specs.Endian.{little_bytes, little_number, low_bytes, twos_complement}
 use Rattle.calculus.specs.declared.value.Kind.{Kind}
@@ -32,7 +33,7 @@ has_bytes n z = is_within (neg_ℤ (pos (2 ^ (8 * n - 1)))) z (pos (2 ^ (8 * n -
 
 -- the number that digits spell, of which there is at least one; none where another byte stands among them
 abbrev pub spelled : List ℕ → Option ℕ
-spelled digits = if is_any digits && list_all is_digit digits then Some (fold (λ n d. 10 * n + (d - 48)) 0 digits) else None
+spelled digits = if is_any digits && list_all is_digit digits then Some (digits_value 10 digits) else None
 
 -- the number that digits spell, with a minus sign in front or without one
 abbrev pub spelled_signed : List ℕ → Option ℤ

@@ -1,5 +1,5 @@
 -- What a statement means: the database, the shelf and the ranges after it, and its reply.
-use Rattle.std.specs.Prelude.{ℕ, Bool, true, false, List, [], ◌∷◌, map, Some, None, Result, Ok, Err}
+use Rattle.std.specs.Prelude.{ℕ, Bool, true, false, List, [], ◌∷◌, map, Option, Some, None, Result, Ok, Err}
 use Rattle.std.specs.List.{list_all}
 use Rattle.calculus.specs.declared.request.Asked.{Asked}
 use Rattle.calculus.specs.declared.request.Checked.{Checked}
@@ -12,6 +12,7 @@ use Rattle.calculus.specs.declared.change.DbChange.{DbChange}
 use Rattle.calculus.specs.declared.reply.Refusal.{Refusal}
 use Rattle.calculus.specs.declared.reply.Reply.{Reply}
 use Rattle.calculus.specs.declared.reply.Reply.TheVariants.{Nothing, Done, Refused, Tables}
+use Rattle.calculus.specs.declared.schema.RelInfo.{RelInfo}
 use Rattle.calculus.specs.declared.statement.Statement.{Statement}
 use Rattle.calculus.specs.declared.statement.Statement.TheVariants.{Range}
 use Rattle.calculus.specs.Who.{Who, Asks}
@@ -56,11 +57,8 @@ file_effect db shelf file (Ok bytes) = record { db = db; shelf = stored shelf fi
 file_effect db shelf file (Err r) = unchanged db shelf (Refused r)
 
 -- the tables of these queries, in their order; refused where one of them lacks a value
-abbrev pub answer_effect : Db → Shelf → Who → List Asked → Effect
-answer_effect db shelf who asked = elim (some_query_lacks db who asked) [
-  | true ↦ unchanged db shelf (Refused (refusal 20))
-  | false ↦ unchanged db shelf (Tables (map (table_of db who) asked))
-]
+abbrev pub answer_reply : Db → Who → List Asked → Reply
+answer_reply db who asked = elim (some_query_lacks db who asked) [ true ↦ Refused (refusal 20) | false ↦ Tables (map (table_of db who) asked) ]
 
 -- rows are copied from a file into the relation, or from the relation into a file
 abbrev pub copy_effect : Db → Shelf → List ℕ → RelKey → List CopyCol → Bool → List ℕ → Effect
@@ -74,7 +72,7 @@ utility_effect db shelf user work = numbered_effect db shelf (planned db user wo
 
 -- what a tree means for the one who asks; the utilities work for the user
 unfoldable pub tree_meaning : Db → Shelf → Who → List ℕ → Checked → Effect
-tree_meaning db shelf who user (Answer asked) = answer_effect db shelf who asked
+tree_meaning db shelf who user (Answer asked) = unchanged db shelf (answer_reply db who asked)
 tree_meaning db shelf who user (Update u) = numbered_effect db shelf (updated db who u)
 tree_meaning db shelf who user (Utility work) = utility_effect db shelf user work
 
@@ -104,33 +102,43 @@ asks user = Asks (record { user = user })
 abbrev pub refused : State → ℕ → Outcome
 refused state number = record { state = state; reply = Refused (refusal number) }
 
--- the variable ranges over what the user means by the name; refused where that is nothing
-abbrev pub range_outcome : State → List ℕ → List ℕ → List ℕ → Outcome
-range_outcome state user var rel = elim (found state.db user rel) [
-  | None ↦ refused state 10
-  | Some info ↦ record { state = record state { ranges = declared state.ranges var info.key }; reply = Nothing }
-]
+-- the variable ranges over what was found; refused where that is nothing
+abbrev pub range_outcome : State → List ℕ → Option RelInfo → Outcome
+range_outcome state var None = refused state 10
+range_outcome state var (Some info) = record { state = record state { ranges = declared state.ranges var info.key }; reply = Nothing }
 
 -- what was carried out, with the ranges of before
 abbrev pub with_ranges : Ranges → Effect → Outcome
 with_ranges ranges e = record { state = record { db = e.db; shelf = e.shelf; ranges = ranges }; reply = e.reply }
 
--- what the tree means for the user with the rules of its relation, where it is permitted; else refused, as it is where there is no tree
+-- what the tree means for the user, with the rules of its relation, where it is permitted; else refused
+abbrev pub permitted_outcome : Bool → State → List ℕ → Checked → Outcome
+permitted_outcome true state user tree = with_ranges state.ranges (tree_meaning state.db state.shelf (asks user) user (ruled_tree state.db tree))
+permitted_outcome false state user tree = refused state 23
+
+-- what the tree of a statement means for the user; refused where there is none
 abbrev pub tree_outcome : State → List ℕ → Result Checked ℕ → Outcome
 tree_outcome state user (Err number) = refused state number
-tree_outcome state user (Ok tree) = elim (checked_permitted state.db (asks user) tree) [
-  | true ↦ with_ranges state.ranges (tree_meaning state.db state.shelf (asks user) user (ruled_tree state.db tree))
-  | false ↦ refused state 23
-]
+tree_outcome state user (Ok tree) = permitted_outcome (checked_permitted state.db (asks user) tree) state user tree
+
+-- the statement declares a range variable
+abbrev pub is_range : Statement → Bool
+is_range (Range var rel) = true
+is_range s = false
 
 -- what a statement that is built does for the user
 unfoldable pub statement_outcome : Resolving → State → List ℕ → Statement → Outcome
-statement_outcome resolved state user (Range var rel) = range_outcome state user var rel
+statement_outcome resolved state user (Range var rel) = range_outcome state var (found state.db user rel)
 statement_outcome resolved state user s = tree_outcome state user (resolved state.db user state.ranges s)
 
--- what a statement does for the user; one that is not built is refused before all else
+-- what a statement does for the user, where it is built; else it is refused before all else
+abbrev pub built_outcome : Bool → Resolving → State → List ℕ → Statement → Outcome
+built_outcome true resolved state user s = statement_outcome resolved state user s
+built_outcome false resolved state user s = refused state 9
+
+-- what a statement does for the user
 unfoldable pub meaning_by : Resolving → Built → State → List ℕ → Statement → Outcome
-meaning_by resolved built state user s = elim (built.statement s) [ true ↦ statement_outcome resolved state user s | false ↦ refused state 9 ]
+meaning_by resolved built state user s = built_outcome (built.statement s) resolved state user s
 
 -- what statements do that run one after the other, each on what the one before left
 unfoldable pub statements_run : (State → Statement → Outcome) → State → List Statement → List Outcome

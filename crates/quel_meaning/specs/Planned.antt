@@ -27,13 +27,14 @@ use Rattle.calculus.specs.Change.{permit_numbers, rule_numbers}
 
 -- ---- numbers of permits and rules
 
--- one more than the greatest of these numbers; 1 where there is none
+-- the greatest of these numbers; 0 where there is none
+abbrev pub greatest : List ℕ → ℕ
+greatest [] = 0
+greatest (n ∷ ns) = max n (greatest ns)
+
+-- one more than the greatest of these numbers; so 1 where there is none
 abbrev pub next_number : List ℕ → ℕ
 next_number numbers = suc (greatest numbers)
-  where
-    greatest : List ℕ → ℕ
-    greatest [] = 0
-    greatest (n ∷ ns) = max n (greatest ns)
 
 -- so many permits or rules stand already that there may be no more, or the next one would have too great a number
 abbrev pub is_past_limit : ℕ → List ℕ → Bool
