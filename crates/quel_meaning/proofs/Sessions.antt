@@ -8,7 +8,7 @@ use Rattle.quel_meaning.specs.Lines.{lines_of}
 use Rattle.quel_meaning.specs.Monitor.{file_name, command_of, names_file, parts_from}
 use Rattle.quel_meaning.specs.Buffer.{with_piece, buffer_after}
 use Rattle.quel_meaning.specs.Places.{first_place, line_at}
-use Rattle.quel_meaning.specs.Batch.{read_within, batch_of}
+use Rattle.quel_meaning.specs.Batch.{read_within, batch_from}
 use Rattle.quel_meaning.specs.Happening.{over}
 use Rattle.quel_meaning.specs.Running.{after_statement, after_batch, carried_out, after_command, after_part, after_line, after_lines, files_within}
 use Rattle.quel_meaning.specs.Session.{Session, session_of, session_of_lines, printed, output, ended, ends, databases}
@@ -75,7 +75,7 @@ record Examples : Type 0 where
       ≡ line (codes "refused 9 line 0: not built") ++ line (codes "refused 9 line 0: not built") ++ done
 
 examples : Examples
-unfolding digits fetched stored refusal_bytes reply_bytes lines_of file_name command_of parts_from with_piece buffer_after first_place line_at read_within batch_of over after_statement after_batch carried_out after_command after_part after_line after_lines files_within session_of session_of_lines printed ended
+unfolding digits fetched stored refusal_bytes reply_bytes lines_of file_name command_of parts_from with_piece buffer_after first_place line_at read_within batch_from over after_statement after_batch carried_out after_command after_part after_line after_lines files_within session_of session_of_lines printed ended
 examples = record {
   commands = refl;
   in_order = refl;

@@ -83,6 +83,10 @@ endings_from before (Ran reply db ∷ events) =
 abbrev pub ends : Session → List ℕ
 ends session = map (λ e. e.place) (endings_from 0 session.events)
 
+-- the bytes of each statement's reply
+abbrev pub replies : Session → List (List ℕ)
+replies session = map (λ e. e.reply) (endings_from 0 session.events)
+
 -- the greatest number of an ending that passes, where the first has this number; 0 where none passes
 abbrev pub greatest_number : (Ending → Bool) → ℕ → List Ending → ℕ
 greatest_number passes number [] = 0
