@@ -1,18 +1,17 @@
 -- Settings that agree give equal sessions, and nothing happens behind the end.
-use Rattle.std.proofs.Common.{◌≡◌, refl, sym, ap, ◌∙◌, ℕ, Bool, true, false, List, [], ◌∷◌}
-use Rattle.calculus.specs.declared.statement.Statement.{Statement}
+use Rattle.std.proofs.Common.{◌≡◌, refl, ap, ℕ, Bool, true, false, List, [], ◌∷◌}
 use Rattle.quel_meaning.specs.State.{State}
-use Rattle.quel_meaning.specs.Monitor.{Command, Part, parts_of}
+use Rattle.quel_meaning.specs.Monitor.{Part, parts_of}
 use Rattle.quel_meaning.specs.Happening.{Setting, Agree, Kept, After, quiet, over}
 use Rattle.quel_meaning.specs.Running.{Deeper, after_open_part, after_part, after_line, after_lines}
-use Rattle.quel_meaning.specs.Session.{Session, session_of}
+use Rattle.quel_meaning.specs.Session.{session_of}
 
 -- settings that agree are the same
 same : (s t : Setting) → Agree s t → s ≡ t
 same s t agree = λ i. record {
   reading = λ text from. agree.reading text from i;
   meaning = λ state statement. agree.meaning state statement i;
-  is_built = λ command. agree.is_built command i
+  is_built = λ command. agree.is_built command i;
 }
 
 -- their sessions are the same

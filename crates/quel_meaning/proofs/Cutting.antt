@@ -3,8 +3,8 @@ use Rattle.std.proofs.Common.{◌≡◌, refl, sym, ap, ◌∙◌, ℕ, zero, su
 use Rattle.std.proofs.Math.Seq.{take-append_seam, drop-append_seam}
 use Rattle.std.proofs.lemmas.Bool.{eqb-true}
 use Rattle.std.specs.Prelude.{◌==◌, ◌&&◌, if◌then◌else◌, not}
-use Rattle.std.specs.List.{list_all, prefix_len}
-use Rattle.quel_meaning.specs.Monitor.{Command, Part, Piece, Order, Quoting, Plain, Quoted, Escaped, quoting_after, begins_command, has_no_command, quoting_behind, is_letter, onto_piece, before_parts, without_front, order_before, word_length, command_at, parts_at, parts_from, parts_of, command_of, names_file}
+use Rattle.std.specs.List.{list_all}
+use Rattle.quel_meaning.specs.Monitor.{Command, Part, Piece, Order, Quoting, Plain, quoting_after, begins_command, has_no_command, quoting_behind, is_letter, onto_piece, before_parts, without_front, order_before, word_length, command_at, parts_at, parts_from, parts_of, command_of, names_file}
 
 both : (a b : Bool) → (a && b) ≡ true → (a ≡ true) × (b ≡ true)
 both true b e = (refl, e)

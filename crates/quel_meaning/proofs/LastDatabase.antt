@@ -1,16 +1,16 @@
 -- The database after a session is that after its last statement.
-use Rattle.std.proofs.Common.{◌≡◌, refl, sym, ap, ◌∙◌, ℕ, zero, suc, Bool, true, false, List, [], ◌∷◌, ◌++◌, length, Option, Some, None}
+use Rattle.std.proofs.Common.{◌≡◌, refl, ap, ◌∙◌, ℕ, zero, suc, Bool, true, false, List, [], ◌∷◌, ◌++◌, length, Option, Some, None}
 use Rattle.std.specs.Prelude.{◌+◌, nat_le}
 use Rattle.calculus.specs.Database.{Db}
-use Rattle.quel_meaning.specs.Shelf.{fetched, stored}
-use Rattle.quel_meaning.specs.State.{State, Outcome}
+use Rattle.quel_meaning.specs.Shelf.{fetched}
+use Rattle.quel_meaning.specs.State.{State}
 use Rattle.quel_meaning.specs.Lines.{lines_of}
 use Rattle.quel_meaning.specs.Monitor.{Command, Go, Print, Reset, Append, Quit, Include, Write, Unknown, Part, Piece, Order, parts_of}
-use Rattle.quel_meaning.specs.Buffer.{with_piece, buffer_after}
+use Rattle.quel_meaning.specs.Buffer.{buffer_after}
 use Rattle.quel_meaning.specs.Batch.{Placed, Batch, batch_of}
-use Rattle.quel_meaning.specs.Happening.{Setting, Event, Wrote, Ran, Kept, After, start, quiet, refused, behind, and_then, over}
+use Rattle.quel_meaning.specs.Happening.{Setting, Event, Wrote, Ran, Kept, After, start, quiet, refused, and_then, over}
 use Rattle.quel_meaning.specs.Running.{after_statement, after_refusal, after_batch, Deeper, most_included, after_include, after_file, carried_out, after_command, after_open_part, after_part, after_line, after_lines, files_within}
-use Rattle.quel_meaning.specs.Session.{Session, session_of, session_of_lines, databases, databases_after, greatest_depth, files_of}
+use Rattle.quel_meaning.specs.Session.{session_of_lines, databases, databases_after, greatest_depth, files_of}
 
 -- the database after events, where this one stood before
 last : Db → List Event → Db

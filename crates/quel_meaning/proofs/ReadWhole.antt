@@ -20,7 +20,7 @@ enough reading text moves zero (suc n) from h k = rw (moves.ends from (omega (ar
 enough reading text moves (suc m) zero from h k = rw (moves.ends from (omega (arith, k))) refl
 enough reading text moves (suc m) (suc n) from h k =
     same_on (read_within m reading text) (read_within n reading text) text from (reading text from) (
-      λ s end e. enough reading text moves m n end (omega (arith, h, moves.advances from s end e)) (omega (arith, k, moves.advances from s end e))
+    λ s end e. enough reading text moves m n end (omega (arith, h, moves.advances from s end e)) (omega (arith, k, moves.advances from s end e))
     )
 
 -- what is read is what is read next, and then what is read from its end on

@@ -1,6 +1,6 @@
 -- Steps one after the other, and what is printed by them.
 use Rattle.std.proofs.Common.{◌≡◌, refl, sym, ap, ◌∙◌, ℕ, List, [], ◌∷◌, ◌++◌, append_assoc}
-use Rattle.quel_meaning.specs.Happening.{Setting, Event, Kept, After, quiet, behind, and_then, over}
+use Rattle.quel_meaning.specs.Happening.{Setting, Event, Kept, After, behind, and_then, over}
 use Rattle.quel_meaning.specs.Running.{Deeper, after_line, after_lines}
 use Rattle.quel_meaning.specs.Session.{event_bytes, printed, files_of, still_printed}
 

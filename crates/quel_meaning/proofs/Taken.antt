@@ -1,11 +1,11 @@
 -- Where all output was taken.
-use Rattle.std.proofs.Common.{◌≡◌, refl, sym, ap, ◌∙◌, ℕ, suc, ◌≤◌, max, Bool, true, false, List, [], ◌∷◌, ◌++◌, length, length-append, arith}
+use Rattle.std.proofs.Common.{◌≡◌, refl, ap, ◌∙◌, ℕ, suc, ◌≤◌, max, Bool, true, false, List, [], ◌∷◌, ◌++◌, length, length-append, arith}
 use Rattle.std.proofs.lemmas.Bool.{le-leb}
 use Rattle.std.specs.Prelude.{◌+◌, ◌&&◌, if◌then◌else◌, not, map, nat_le}
 use Rattle.std.specs.List.{list_all}
 use Rattle.calculus.specs.Lists.{is_any}
 use Rattle.quel_meaning.specs.Happening.{Event, Wrote, Ran}
-use Rattle.quel_meaning.specs.Session.{Session, event_bytes, printed, output, Ending, endings_from, replies, greatest_number, ended}
+use Rattle.quel_meaning.specs.Session.{Session, printed, output, Ending, endings_from, replies, greatest_number, ended}
 
 -- the reply has a byte
 abbrev says : Ending → Bool
@@ -23,8 +23,10 @@ all_taken n before taken [] h = refl
 all_taken n before taken (Wrote bytes ∷ es) h = all_taken n (before + length bytes) taken es (omega (arith, h, length-append bytes (printed es)))
 all_taken n before taken (Ran reply db ∷ es) h =
     let more = length-append reply (printed es) in
-    rw (taken_true (is_any reply) (before + length reply) taken (omega (arith, h, more)),
-    all_taken (suc n) (before + length reply) taken es (omega (arith, h, more))) refl
+    rw (
+      taken_true (is_any reply) (before + length reply) taken (omega (arith, h, more)),
+      all_taken (suc n) (before + length reply) taken es (omega (arith, h, more)),
+    ) refl
 
 silent : (n : ℕ) (es : List Ending) → list_all (λ r. not (is_any r)) (map (λ e. e.reply) es) ≡ true → greatest_number says n es ≡ 0
 silent n [] h = refl
@@ -35,6 +37,7 @@ silent n (e ∷ es) h =
     both : (a b : Bool) → (a && b) ≡ true → (a ≡ true) × (b ≡ true)
     both true b i = (refl, i)
     both false b i = absurd cc
+
     unequal : (b : Bool) → not b ≡ true → b ≡ false
     unequal true i = absurd cc
     unequal false i = refl
