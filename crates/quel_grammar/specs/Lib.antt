@@ -1,1 +1,14 @@
+pub mod Token
+pub mod Words
+pub mod Lexer
+pub mod Pieces
+pub mod Grammar
+pub mod Statements
+pub mod Begins
+pub mod Bounds
 pub mod Next
+pub mod Reading
+pub mod Signs
+pub mod TermReaders
+pub mod PartReaders
+pub mod StatementReaders

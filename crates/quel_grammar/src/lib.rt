@@ -3,4 +3,4 @@
 
 mod token;
 
-pub use token::{Fixed, Token};
+pub use token::{Fixed, Piece, Token};

@@ -111,3 +111,12 @@ pub enum Token {
     /// A reserved word or a symbol.
     Fixed(Fixed),
 }
+
+/// What stands at a place of a text.
+#[derive(Debug, Drop)]
+pub enum Piece {
+    /// White space or a comment.
+    White,
+    /// A token.
+    Token(Token),
+}

@@ -1,8 +1,7 @@
 -- What is read of a batch: its statements, and where it is refused.
 use Rattle.std.specs.Prelude.{◌≡◌, ℕ, zero, suc, ◌≤◌, ◌<◌, List, [], ◌∷◌, length, Option, Some, None}
 use Rattle.calculus.specs.declared.statement.Statement.{Statement}
-use Rattle.quel_grammar.specs.Next.{Next, Nothing, Read, Syntax, Reading}
-use Rattle.quel_meaning.specs.Places.{first_place, line_at}
+use Rattle.quel_grammar.specs.Next.{Next, Nothing, Read, Syntax, Reading, first_place, line_at}
 
 -- a statement, and the line of its first token
 pub record Placed : Type 0 where

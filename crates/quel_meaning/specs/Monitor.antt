@@ -1,7 +1,8 @@
 -- The parts of a line of a script: pieces of text, and commands of the monitor.
-use Rattle.std.specs.Prelude.{ℕ, ◌==◌, nat_le, Bool, true, false, not, ◌&&◌, ◌||◌, if◌then◌else◌, List, [], ◌∷◌, take, drop, find, codes, option_map, unwrap_or}
+use Rattle.std.specs.Prelude.{ℕ, ◌==◌, nat_le, Bool, true, false, not, ◌&&◌, if◌then◌else◌, List, [], ◌∷◌, take, drop, find, codes, option_map, unwrap_or}
 use Rattle.std.specs.List.{prefix_len}
 use Rattle.std.specs.Str.{bytes_eq}
+use Rattle.quel_grammar.specs.Lexer.{is_white}
 
 -- ---- commands
 
@@ -15,10 +16,6 @@ pub data Command : Type 0 where
   Include : List ℕ → Command
   Write : List ℕ → Command
   Unknown : Command
-
--- a blank, a tab, a newline or a carriage return
-abbrev pub is_white : ℕ → Bool
-is_white b = b == 32 || b == 9 || b == 10 || b == 13
 
 -- the byte in front of the others, but white space in front of nothing is dropped
 abbrev pub before_stripped : ℕ → List ℕ → List ℕ

@@ -1,5 +1,5 @@
 -- What statements work on, and what one leaves.
-use Rattle.std.specs.Prelude.{ℕ, Bool, true, List}
+use Rattle.std.specs.Prelude.{Bool}
 use Rattle.calculus.specs.declared.reply.Reply.{Reply}
 use Rattle.calculus.specs.declared.statement.Statement.{Statement}
 use Rattle.calculus.specs.Database.{Db}
@@ -16,3 +16,7 @@ pub record State : Type 0 where
 pub record Outcome : Type 0 where
   pub state : State
   pub reply : Reply
+
+-- which statements are built; each other one is refused before all else
+pub record Built : Type 0 where
+  pub statement : Statement → Bool

@@ -1,0 +1,46 @@
+-- What passes a limit: variables, sizes, widths, numbers and names.
+use Rattle.std.specs.Prelude.{ℕ, Bool, true, ◌||◌, nat_le, nat_lt, List, length, sum_by, Option, Some, None}
+use Rattle.std.specs.List.{list_any}
+use Rattle.calculus.specs.declared.value.Kind.{Kind}
+use Rattle.calculus.specs.declared.query.Query.{Query}
+use Rattle.calculus.specs.declared.request.Update.{Update}
+use Rattle.calculus.specs.Limits.{most_attributes, most_row_bytes, most_variables, most_expanded_variables, greatest_size, most_levels, greatest_level, greatest_number, most_entries}
+use Rattle.calculus.specs.Keys.{key_of}
+use Rattle.calculus.specs.Database.{Db, entries, is_there}
+use Rattle.calculus.specs.Catalogue.{is_catalogue_name}
+use Rattle.calculus.specs.IsDatabase.{kind_bytes}
+use Rattle.calculus.specs.Sizes.{variables, expanded_variables, update_variables, update_expanded_variables, query_size, query_level}
+use Rattle.calculus.specs.TreeLevels.{query_levels}
+
+-- a query has more variables than it may have, as it stands or once the views in it are put in
+unfoldable pub has_too_many : Db → Query → Bool
+has_too_many db q = nat_lt most_variables (variables q) || nat_lt most_expanded_variables (expanded_variables db q)
+
+-- the same for an update, of which the variable whose rows are replaced or deleted counts too
+unfoldable pub update_has_too_many : Db → Update → Bool
+update_has_too_many db u = nat_lt most_variables (update_variables u) || nat_lt most_expanded_variables (update_expanded_variables db u)
+
+-- there is no room for a further relation, view or index
+unfoldable pub is_full : Db → Bool
+is_full db = nat_le most_entries (length (entries db))
+
+-- there is no level, or it is above the greatest
+abbrev pub is_too_high : Option ℕ → Bool
+is_too_high None = true
+is_too_high (Some level) = nat_lt greatest_level level
+
+-- a view of this query would be too large, would stand on too many levels of views, or its tree would be too deep
+unfoldable pub is_too_large : Db → Query → Bool
+is_too_large db q = nat_lt greatest_size (query_size db q) || (is_too_high (query_level db q) || nat_lt most_levels (query_levels q))
+
+-- so many permits or rules stand with these numbers that there is no room, or no number, for a further one
+unfoldable pub are_full : ℕ → List ℕ → Bool
+are_full most numbers = nat_le most (length numbers) || list_any (nat_le greatest_number) numbers
+
+-- a row of these kinds has too many attributes or too many bytes
+unfoldable pub is_too_wide : List Kind → Bool
+is_too_wide kinds = nat_lt most_attributes (length kinds) || nat_lt most_row_bytes (sum_by kind_bytes kinds)
+
+-- the user has a relation, view or index of this name, or it is a catalogue's
+unfoldable pub is_taken : Db → List ℕ → List ℕ → Bool
+is_taken db user name = is_there db (key_of user name) || is_catalogue_name name
