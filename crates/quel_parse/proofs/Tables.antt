@@ -4,8 +4,8 @@ use Rattle.std.specs.Prelude.{option_map, IfSome, nat_lt, ◌&&◌}
 use Rattle.std.specs.List.{find, list_all, starts_with}
 use Rattle.std.proofs.lemmas.Slice.Eq.{starts_is}
 use Rattle.std.proofs.lemmas.Bool.Decides.{Decides-eqb, nat_tests}
-use Rattle.quel_parse.specs.declared.token.Mark.{Mark}
-use Rattle.quel_parse.specs.Words.{symbols, symbol_at}
+use Rattle.quel_grammar.specs.declared.token.Fixed.{Fixed}
+use Rattle.quel_grammar.specs.Words.{symbols, symbol_at}
 
 chosen : {A B C : Type 0} (f : B → C) (v : A → B) (a : A) (b : Bool) (o : Option A) (q : Option B) → option_map (λ x. f (v x)) o ≡ option_map f q → option_map (λ x. f (v x)) (cond b (Some a) o) ≡ option_map f (cond b (Some (v a)) q)
 chosen f v a true o q e = refl
@@ -17,7 +17,7 @@ seen f p v [] = refl
 seen f p v (x ∷ xs) = chosen f v x (p (v x)) _ _ (seen f p v xs)
 
 -- the spelling of a table's entry has a byte
-abbrev has_byte : List ℕ × Mark → Bool
+abbrev has_byte : List ℕ × Fixed → Bool
 has_byte e = nat_lt 0 (length e.0)
 
 -- a front is no longer than the text
@@ -25,10 +25,10 @@ fits : (text front : List ℕ) → starts_with nat_eq text front ≡ true → le
 fits text front e = omega (arith, ap length ((starts_is Decides-eqb text front (starts_with nat_eq text front) refl).0 e), length-append front (drop (length front) text))
 
 -- a mark and the length of its spelling, as they are read from an entry
-abbrev measured : List ℕ × Mark → Mark × ℕ
+abbrev measured : List ℕ × Fixed → Fixed × ℕ
 measured e = (e.1, length e.0)
 
-abbrev Within : List ℕ → Option (List ℕ × Mark) → Type 0
+abbrev Within : List ℕ → Option (List ℕ × Fixed) → Type 0
 Within text o = IfSome (option_map measured o) (λ s. (0 < s.1) × (s.1 ≤ length text))
 
 both : (a b : Bool) → (a && b) ≡ true → (a ≡ true) × (b ≡ true)
@@ -36,11 +36,11 @@ both true true e = (refl, refl)
 both true false e = absurd cc
 both false b e = absurd cc
 
-one : (text : List ℕ) (e : List ℕ × Mark) (b : Bool) (o : Option (List ℕ × Mark)) → starts_with nat_eq text e.0 ≡ b → has_byte e ≡ true → Within text o → Within text (cond b (Some e) o)
+one : (text : List ℕ) (e : List ℕ × Fixed) (b : Bool) (o : Option (List ℕ × Fixed)) → starts_with nat_eq text e.0 ≡ b → has_byte e ≡ true → Within text o → Within text (cond b (Some e) o)
 one text e true o starts has w = (grind (arith, nat_tests), fits text e.0 starts)
 one text e false o starts has w = w
 
-front_within : (text : List ℕ) (table : List (List ℕ × Mark)) → list_all has_byte table ≡ true → Within text (find (λ e. starts_with nat_eq text e.0) table)
+front_within : (text : List ℕ) (table : List (List ℕ × Fixed)) → list_all has_byte table ≡ true → Within text (find (λ e. starts_with nat_eq text e.0) table)
 front_within text [] all = tt
 front_within text (e ∷ es) all =
     let parts = both (has_byte e) (list_all has_byte es) all in

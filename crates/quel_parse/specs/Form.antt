@@ -10,11 +10,11 @@ use Rattle.calculus.specs.declared.statement.Qual.TheVariants as quals
 use Rattle.calculus.specs.declared.statement.Item.TheVariants as items
 use Rattle.calculus.specs.declared.statement.Statement.{Statement}
 use Rattle.calculus.specs.declared.statement.Statement.TheVariants as statements
-use Rattle.quel_parse.specs.declared.token.Mark.{Mark}
-use Rattle.quel_parse.specs.declared.token.Mark.TheVariants as marks
-use Rattle.quel_parse.specs.declared.token.Token.{Token}
-use Rattle.quel_parse.specs.declared.token.Token.TheVariants.{Name, Int, Mark as Fixed}
-use Rattle.quel_parse.specs.Token.{same_tokens}
+use Rattle.quel_grammar.specs.declared.token.Fixed.{Fixed}
+use Rattle.quel_grammar.specs.declared.token.Fixed.TheVariants as fixed
+use Rattle.quel_grammar.specs.declared.token.Token.{Token}
+use Rattle.quel_grammar.specs.declared.token.Token.TheVariants.{Name, Int, Fixed as Sign}
+use Rattle.quel_grammar.specs.Token.{same_tokens}
 use Rattle.quel_parse.specs.Lexer.{tokens_of}
 
 -- what a batch of the first form says: the relation, its attribute, the range variable over it, the value of the row, and maybe a test of the attribute
@@ -28,36 +28,36 @@ pub record Asked : Type 0 where
 -- create R ( A = i2 )
 abbrev pub create_spelling : List ℕ → List ℕ → List Token
 create_spelling relation attribute =
-    Fixed marks.Create ∷ Name relation ∷ Fixed marks.Open ∷ Name attribute ∷ Fixed marks.Equal ∷ Name (codes "i2") ∷ Fixed marks.Close ∷ []
+    Sign fixed.Create ∷ Name relation ∷ Sign fixed.Open ∷ Name attribute ∷ Sign fixed.Equal ∷ Name (codes "i2") ∷ Sign fixed.Close ∷ []
 
 -- append to R ( A = INT )
 abbrev pub append_spelling : List ℕ → List ℕ → ℕ → List Token
 append_spelling relation attribute value =
-    Fixed marks.Append ∷ Fixed marks.To ∷ Name relation ∷ Fixed marks.Open ∷ Name attribute ∷ Fixed marks.Equal ∷ Int value ∷ Fixed marks.Close ∷ []
+    Sign fixed.Append ∷ Sign fixed.To ∷ Name relation ∷ Sign fixed.Open ∷ Name attribute ∷ Sign fixed.Equal ∷ Int value ∷ Sign fixed.Close ∷ []
 
 -- range of V is R
 abbrev pub range_spelling : List ℕ → List ℕ → List Token
-range_spelling variable relation = Fixed marks.Range ∷ Fixed marks.Of ∷ Name variable ∷ Fixed marks.Is ∷ Name relation ∷ []
+range_spelling variable relation = Sign fixed.Range ∷ Sign fixed.Of ∷ Name variable ∷ Sign fixed.Is ∷ Name relation ∷ []
 
 -- retrieve ( V . A )
 abbrev pub retrieve_spelling : List ℕ → List ℕ → List Token
 retrieve_spelling variable attribute =
-    Fixed marks.Retrieve ∷ Fixed marks.Open ∷ Name variable ∷ Fixed marks.Dot ∷ Name attribute ∷ Fixed marks.Close ∷ []
+    Sign fixed.Retrieve ∷ Sign fixed.Open ∷ Name variable ∷ Sign fixed.Dot ∷ Name attribute ∷ Sign fixed.Close ∷ []
 
 -- = != < <= > >=
-abbrev pub comparison_spelling : CmpOp → Mark
-comparison_spelling comparisons.Eq = marks.Equal
-comparison_spelling comparisons.Ne = marks.NotEqual
-comparison_spelling comparisons.Lt = marks.Less
-comparison_spelling comparisons.Le = marks.LessEqual
-comparison_spelling comparisons.Gt = marks.Greater
-comparison_spelling comparisons.Ge = marks.GreaterEqual
+abbrev pub comparison_spelling : CmpOp → Fixed
+comparison_spelling comparisons.Eq = fixed.Equal
+comparison_spelling comparisons.Ne = fixed.NotEqual
+comparison_spelling comparisons.Lt = fixed.Less
+comparison_spelling comparisons.Le = fixed.LessEqual
+comparison_spelling comparisons.Gt = fixed.Greater
+comparison_spelling comparisons.Ge = fixed.GreaterEqual
 
 -- where V . A cmp INT, or nothing
 abbrev pub where_spelling : List ℕ → List ℕ → Option (CmpOp × ℕ) → List Token
 where_spelling variable attribute None = []
 where_spelling variable attribute (Some test) =
-    Fixed marks.Where ∷ Name variable ∷ Fixed marks.Dot ∷ Name attribute ∷ Fixed (comparison_spelling test.0) ∷ Int test.1 ∷ []
+    Sign fixed.Where ∷ Name variable ∷ Sign fixed.Dot ∷ Name attribute ∷ Sign (comparison_spelling test.0) ∷ Int test.1 ∷ []
 
 -- the tokens of the four statements, in order
 abbrev pub spelling : Asked → List Token
@@ -80,11 +80,11 @@ number_said _ = 0
 
 -- the comparison that a token says, or `=`
 abbrev pub comparison_said : Option Token → CmpOp
-comparison_said (Some (Fixed marks.NotEqual)) = comparisons.Ne
-comparison_said (Some (Fixed marks.Less)) = comparisons.Lt
-comparison_said (Some (Fixed marks.LessEqual)) = comparisons.Le
-comparison_said (Some (Fixed marks.Greater)) = comparisons.Gt
-comparison_said (Some (Fixed marks.GreaterEqual)) = comparisons.Ge
+comparison_said (Some (Sign fixed.NotEqual)) = comparisons.Ne
+comparison_said (Some (Sign fixed.Less)) = comparisons.Lt
+comparison_said (Some (Sign fixed.LessEqual)) = comparisons.Le
+comparison_said (Some (Sign fixed.Greater)) = comparisons.Gt
+comparison_said (Some (Sign fixed.GreaterEqual)) = comparisons.Ge
 comparison_said _ = comparisons.Eq
 
 -- what tokens say at the places of a spelling, counted from 0: a test where there is a token behind the list of targets

@@ -3,12 +3,12 @@ use Rattle.std.specs.Prelude.{ℕ, List, [], ◌∷◌, Option, Some, None, nat_
 use Rattle.std.specs.Str.{bytes_eq}
 use Rattle.calculus.specs.declared.operator.CmpOp.{CmpOp}
 use Rattle.calculus.specs.declared.operator.CmpOp.TheVariants as comparisons
-use Rattle.quel_parse.specs.declared.token.Mark.{Mark}
-use Rattle.quel_parse.specs.declared.token.Mark.TheVariants as marks
-use Rattle.quel_parse.specs.declared.token.Token.{Token}
-use Rattle.quel_parse.specs.declared.token.Token.TheVariants.{Name, Int, Mark as Fixed}
+use Rattle.quel_grammar.specs.declared.token.Fixed.{Fixed}
+use Rattle.quel_grammar.specs.declared.token.Fixed.TheVariants as fixed
+use Rattle.quel_grammar.specs.declared.token.Token.{Token}
+use Rattle.quel_grammar.specs.declared.token.Token.TheVariants.{Name, Int, Fixed as Sign}
 use Rattle.quel_parse.specs.declared.reader.Asked as code
-use Rattle.quel_parse.specs.Token.{same_mark}
+use Rattle.quel_grammar.specs.Token.{same_fixed}
 use Rattle.quel_parse.specs.Form.{Asked, is_catalogue}
 
 infixl 10 ◌>>=◌
@@ -18,8 +18,8 @@ abbrev pub ◌>>=◌ : {A B : Type 0} → Option A → (A → Option B) → Opti
 None >>= f = None
 
 -- the tokens behind this mark
-abbrev pub after_mark : Mark → List Token → Option (List Token)
-after_mark m (Fixed k ∷ ts) = if same_mark k m then Some ts else None
+abbrev pub after_mark : Fixed → List Token → Option (List Token)
+after_mark m (Sign k ∷ ts) = if same_fixed k m then Some ts else None
 after_mark m _ = None
 
 -- the tokens behind this name
@@ -38,52 +38,52 @@ int_at (Int n ∷ ts) = if nat_le n 32767 then Some (n, ts) else None
 int_at _ = None
 
 -- the comparison that a mark is
-abbrev pub comparison_of : Mark → Option CmpOp
-comparison_of marks.Equal = Some comparisons.Eq
-comparison_of marks.NotEqual = Some comparisons.Ne
-comparison_of marks.Less = Some comparisons.Lt
-comparison_of marks.LessEqual = Some comparisons.Le
-comparison_of marks.Greater = Some comparisons.Gt
-comparison_of marks.GreaterEqual = Some comparisons.Ge
+abbrev pub comparison_of : Fixed → Option CmpOp
+comparison_of fixed.Equal = Some comparisons.Eq
+comparison_of fixed.NotEqual = Some comparisons.Ne
+comparison_of fixed.Less = Some comparisons.Lt
+comparison_of fixed.LessEqual = Some comparisons.Le
+comparison_of fixed.Greater = Some comparisons.Gt
+comparison_of fixed.GreaterEqual = Some comparisons.Ge
 comparison_of _ = None
 
 -- a comparison, and the tokens behind it
 abbrev pub comparison_at : List Token → Option (CmpOp × List Token)
-comparison_at (Fixed m ∷ ts) = comparison_of m >>= λ op. Some (op, ts)
+comparison_at (Sign m ∷ ts) = comparison_of m >>= λ op. Some (op, ts)
 comparison_at _ = None
 
 -- create R ( A = i2 )
 unfoldable pub create_at : List Token → Option ((List ℕ × List ℕ) × List Token)
 create_at ts = do
-  a ← after_mark marks.Create ts
+  a ← after_mark fixed.Create ts
   relation ← name_at a
-  b ← after_mark marks.Open relation.1
+  b ← after_mark fixed.Open relation.1
   attribute ← name_at b
-  c ← after_mark marks.Equal attribute.1
+  c ← after_mark fixed.Equal attribute.1
   d ← after_name (codes "i2") c
-  e ← after_mark marks.Close d
+  e ← after_mark fixed.Close d
   Some ((relation.0, attribute.0), e)
 
 -- append to R ( A = INT )
 unfoldable pub append_at : List ℕ → List ℕ → List Token → Option (ℕ × List Token)
 append_at relation attribute ts = do
-  a ← after_mark marks.Append ts
-  b ← after_mark marks.To a
+  a ← after_mark fixed.Append ts
+  b ← after_mark fixed.To a
   c ← after_name relation b
-  d ← after_mark marks.Open c
+  d ← after_mark fixed.Open c
   e ← after_name attribute d
-  f ← after_mark marks.Equal e
+  f ← after_mark fixed.Equal e
   value ← int_at f
-  g ← after_mark marks.Close value.1
+  g ← after_mark fixed.Close value.1
   Some (value.0, g)
 
 -- range of V is R
 unfoldable pub range_at : List ℕ → List Token → Option (List ℕ × List Token)
 range_at relation ts = do
-  a ← after_mark marks.Range ts
-  b ← after_mark marks.Of a
+  a ← after_mark fixed.Range ts
+  b ← after_mark fixed.Of a
   variable ← name_at b
-  c ← after_mark marks.Is variable.1
+  c ← after_mark fixed.Is variable.1
   d ← after_name relation c
   Some (variable.0, d)
 
@@ -91,16 +91,16 @@ range_at relation ts = do
 unfoldable pub attribute_at : List ℕ → List ℕ → List Token → Option (List Token)
 attribute_at variable attribute ts = do
   a ← after_name variable ts
-  b ← after_mark marks.Dot a
+  b ← after_mark fixed.Dot a
   after_name attribute b
 
 -- retrieve ( V . A )
 unfoldable pub retrieve_at : List ℕ → List ℕ → List Token → Option (List Token)
 retrieve_at variable attribute ts = do
-  a ← after_mark marks.Retrieve ts
-  b ← after_mark marks.Open a
+  a ← after_mark fixed.Retrieve ts
+  b ← after_mark fixed.Open a
   c ← attribute_at variable attribute b
-  after_mark marks.Close c
+  after_mark fixed.Close c
 
 -- nothing follows
 abbrev pub at_end : {A : Type 0} → List Token → A → Option A
@@ -110,7 +110,7 @@ at_end (t ∷ ts) x = None
 -- where V . A cmp INT, to the end
 unfoldable pub where_at : List ℕ → List ℕ → List Token → Option (CmpOp × ℕ)
 where_at variable attribute ts = do
-  a ← after_mark marks.Where ts
+  a ← after_mark fixed.Where ts
   b ← attribute_at variable attribute a
   op ← comparison_at b
   n ← int_at op.1

@@ -3,7 +3,7 @@
 ghost use Rattle.std.specs.Prelude.{◌≡◌, true, false, ◌<◌, ◌≤◌, ◌^◌, ◌-◌, length, map, min, IfOk, IfSome};
 ghost use Rattle.std.specs.List.{prefix_len};
 ghost use Rattle.calculus.specs.Name.{is_digit};
-ghost use Rattle.quel_parse.specs.Lexer.{is_white, is_letter, is_word_byte, lower, starts_with_byte, comment_len, quoted_len, number_of};
+ghost use Rattle.quel_grammar.specs.Lexer.{is_white, is_letter, is_word_byte, lower, starts_with_byte, comment_len, quoted_len, number_of};
 
 use std::alloc::{AllocError, Global};
 

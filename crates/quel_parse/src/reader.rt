@@ -4,7 +4,7 @@ ghost use Rattle.std.specs.Prelude.{◌≡◌, option_map};
 ghost use Rattle.quel_parse.specs.Form.{is_catalogue};
 ghost use Rattle.quel_parse.specs.Reading.{after_mark, after_name, name_at, int_at, comparison_of, comparison_at, create_at, append_at, range_at, attribute_at, retrieve_at, where_at, test_at, asked_at, view};
 
-use crate::token::{Mark, Token};
+use quel_grammar::{Fixed, Token};
 use calculus::{CmpOp, Name};
 
 /// The greatest number in a batch of the first form.
@@ -26,11 +26,11 @@ pub struct Asked<'a> {
 }
 
 /// The tokens behind this mark.
-fn after_mark(tokens: &[Token], mark: Mark) -> Option<&[Token]>
+fn after_mark(tokens: &[Token], mark: Fixed) -> Option<&[Token]>
     ensures { option_map (λ r. r.now) result ≡ after_mark mark tokens.now }
 {
     match tokens {
-        [Token::Mark(found), rest @ ..] if *found == mark => Some(rest),
+        [Token::Fixed(found), rest @ ..] if *found == mark => Some(rest),
         _ => None,
     }
 }
@@ -66,16 +66,16 @@ fn int_at(tokens: &[Token]) -> Option<(u16, &[Token])>
 }
 
 /// The comparison that a mark is.
-fn comparison_of(mark: Mark) -> Option<CmpOp>
+fn comparison_of(mark: Fixed) -> Option<CmpOp>
     ensures { result ≡ comparison_of mark }
 {
     match mark {
-        Mark::Equal => Some(CmpOp::Eq),
-        Mark::NotEqual => Some(CmpOp::Ne),
-        Mark::Less => Some(CmpOp::Lt),
-        Mark::LessEqual => Some(CmpOp::Le),
-        Mark::Greater => Some(CmpOp::Gt),
-        Mark::GreaterEqual => Some(CmpOp::Ge),
+        Fixed::Equal => Some(CmpOp::Eq),
+        Fixed::NotEqual => Some(CmpOp::Ne),
+        Fixed::Less => Some(CmpOp::Lt),
+        Fixed::LessEqual => Some(CmpOp::Le),
+        Fixed::Greater => Some(CmpOp::Gt),
+        Fixed::GreaterEqual => Some(CmpOp::Ge),
         _ => None,
     }
 }
@@ -85,7 +85,7 @@ fn comparison_at(tokens: &[Token]) -> Option<(CmpOp, &[Token])>
     ensures { option_map (λ x. (x.0, x.1.now)) result ≡ comparison_at tokens.now }
 {
     match tokens {
-        [Token::Mark(mark), rest @ ..] => {
+        [Token::Fixed(mark), rest @ ..] => {
             let op = comparison_of(*mark)?;
             Some((op, rest))
         }
@@ -98,13 +98,13 @@ fn comparison_at(tokens: &[Token]) -> Option<(CmpOp, &[Token])>
 fn create_at(tokens: &[Token]) -> Option<((&Name, &Name), &[Token])>
     ensures { option_map (λ x. ((x.0.0.now, x.0.1.now), x.1.now)) result ≡ create_at tokens.now }
 {
-    let rest = after_mark(tokens, Mark::Create)?;
+    let rest = after_mark(tokens, Fixed::Create)?;
     let (relation, rest) = name_at(rest)?;
-    let rest = after_mark(rest, Mark::Open)?;
+    let rest = after_mark(rest, Fixed::Open)?;
     let (attribute, rest) = name_at(rest)?;
-    let rest = after_mark(rest, Mark::Equal)?;
+    let rest = after_mark(rest, Fixed::Equal)?;
     let rest = after_name(rest, b"i2")?;
-    let rest = after_mark(rest, Mark::Close)?;
+    let rest = after_mark(rest, Fixed::Close)?;
     Some(((relation, attribute), rest))
 }
 
@@ -117,14 +117,14 @@ fn append_at<'a>(
 ) -> Option<(u16, &'a [Token])>
     ensures { option_map (λ x. (x.0, x.1.now)) result ≡ append_at relation.now attribute.now tokens.now }
 {
-    let rest = after_mark(tokens, Mark::Append)?;
-    let rest = after_mark(rest, Mark::To)?;
+    let rest = after_mark(tokens, Fixed::Append)?;
+    let rest = after_mark(rest, Fixed::To)?;
     let rest = after_name(rest, relation.bytes())?;
-    let rest = after_mark(rest, Mark::Open)?;
+    let rest = after_mark(rest, Fixed::Open)?;
     let rest = after_name(rest, attribute.bytes())?;
-    let rest = after_mark(rest, Mark::Equal)?;
+    let rest = after_mark(rest, Fixed::Equal)?;
     let (value, rest) = int_at(rest)?;
-    let rest = after_mark(rest, Mark::Close)?;
+    let rest = after_mark(rest, Fixed::Close)?;
     Some((value, rest))
 }
 
@@ -133,10 +133,10 @@ fn append_at<'a>(
 fn range_at<'a>(relation: &Name, tokens: &'a [Token]) -> Option<(&'a Name, &'a [Token])>
     ensures { option_map (λ x. (x.0.now, x.1.now)) result ≡ range_at relation.now tokens.now }
 {
-    let rest = after_mark(tokens, Mark::Range)?;
-    let rest = after_mark(rest, Mark::Of)?;
+    let rest = after_mark(tokens, Fixed::Range)?;
+    let rest = after_mark(rest, Fixed::Of)?;
     let (variable, rest) = name_at(rest)?;
-    let rest = after_mark(rest, Mark::Is)?;
+    let rest = after_mark(rest, Fixed::Is)?;
     let rest = after_name(rest, relation.bytes())?;
     Some((variable, rest))
 }
@@ -147,7 +147,7 @@ fn attribute_at<'a>(variable: &Name, attribute: &Name, tokens: &'a [Token]) -> O
     ensures { option_map (λ r. r.now) result ≡ attribute_at variable.now attribute.now tokens.now }
 {
     let rest = after_name(tokens, variable.bytes())?;
-    let rest = after_mark(rest, Mark::Dot)?;
+    let rest = after_mark(rest, Fixed::Dot)?;
     after_name(rest, attribute.bytes())
 }
 
@@ -156,10 +156,10 @@ fn attribute_at<'a>(variable: &Name, attribute: &Name, tokens: &'a [Token]) -> O
 fn retrieve_at<'a>(variable: &Name, attribute: &Name, tokens: &'a [Token]) -> Option<&'a [Token]>
     ensures { option_map (λ r. r.now) result ≡ retrieve_at variable.now attribute.now tokens.now }
 {
-    let rest = after_mark(tokens, Mark::Retrieve)?;
-    let rest = after_mark(rest, Mark::Open)?;
+    let rest = after_mark(tokens, Fixed::Retrieve)?;
+    let rest = after_mark(rest, Fixed::Open)?;
     let rest = attribute_at(variable, attribute, rest)?;
-    after_mark(rest, Mark::Close)
+    after_mark(rest, Fixed::Close)
 }
 
 /// `where V.A cmp INT`, to the end.
@@ -167,7 +167,7 @@ fn retrieve_at<'a>(variable: &Name, attribute: &Name, tokens: &'a [Token]) -> Op
 fn where_at(variable: &Name, attribute: &Name, tokens: &[Token]) -> Option<(CmpOp, u16)>
     ensures { result ≡ where_at variable.now attribute.now tokens.now }
 {
-    let rest = after_mark(tokens, Mark::Where)?;
+    let rest = after_mark(tokens, Fixed::Where)?;
     let rest = attribute_at(variable, attribute, rest)?;
     let (op, rest) = comparison_at(rest)?;
     let (number, rest) = int_at(rest)?;

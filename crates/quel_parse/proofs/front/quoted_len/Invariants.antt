@@ -1,5 +1,5 @@
 use Rattle.std.proofs.Common.{◌≡◌, ◌-◌, ◌≤◌, length, false}
-use Rattle.quel_parse.specs.Lexer.{quoted_len}
+use Rattle.quel_grammar.specs.Lexer.{quoted_len}
 use Rattle.quel_parse.proofs.Passed.{passed}
 use Rattle.quel_parse.proofs.front.quoted_len.Given as goal
 
