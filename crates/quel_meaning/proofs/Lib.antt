@@ -14,4 +14,5 @@ pub mod Taken
 mod Toy
 mod WorkedCopies
 mod WorkedPermits
+mod WorkedSessions
 mod WorkedUtilities
