@@ -91,10 +91,9 @@ has-sorted keys (row ∷ rows) q = has-insert keys row (sorted keys rows) q ∙ 
 
 -- the rows in order are the same rows
 pub sorted_same_rows : (keys : List SortKey) (rows : List Row) (row : Row) → Contains (sorted keys rows) row ↔ Contains rows row
-sorted_same_rows keys rows row = (
-  λ h. Contains-has rows row (sym (has-sorted keys rows row) ∙ has-Contains (sorted keys rows) row h),
-  λ h. Contains-has (sorted keys rows) row (has-sorted keys rows row ∙ has-Contains rows row h),
-)
+sorted_same_rows keys rows row =
+    (λ h. Contains-has rows row (sym (has-sorted keys rows row) ∙ has-Contains (sorted keys rows) row h),
+     λ h. Contains-has (sorted keys rows) row (has-sorted keys rows row ∙ has-Contains rows row h))
 
 -- ---- in order
 

@@ -160,34 +160,7 @@ record Refused : Type 0 where
 refused : Refused
 unfolding resolved tree_of name_refusal mentions range_of ranged named found entry_named info_at range_at catalogue_at causes aggregates_stand aggregate_stands aggregate_vars aggregates_in aggregates_in_qual vars_in query_of where_tree append_of replace_of delete_of into_of kind_in_query kinds_fit_in_query aggregate_kind query_fits assignments_fit kind_of attribute_kind constant_kind number_kind operated_kind joined_kind is_text_kind kinds_fit comparable constant_text marks has_too_many update_has_too_many is_full is_too_large are_full is_too_wide is_taken variables expanded_variables update_variables update_expanded_variables term_aggregates qual_aggregates measure_of term_size qual_size query_size query_level level_of
 refused = record {
-  unknown_variable = refl;
-  gone_relation = refl;
-  unknown_attribute_first = refl;
-  aggregate_in_the_text = refl;
-  all_of_another = refl;
-  unknown_relation = refl;
-  over_a_view_of_two = refl;
-  over_no_variable = refl;
-  over_two_variables = refl;
-  in_another = refl;
-  in_a_view = refl;
-  eleven_aggregates = refl;
-  a_second_variable = refl;
-  set_twice = refl;
-  text_plus_one = refl;
-  sum_of_texts = refl;
-  number_is_text = refl;
-  text_for_a_number = refl;
-  no_title = refl;
-  kinds_before_titles = refl;
-  fifty_targets = refl;
-  name_in_use = refl;
-  a_catalogue_name = refl;
-  a_catalogue = refl;
-  a_view = refl;
-  too_wide = refl;
-  named_twice = refl;
-  binary_text = refl;
+  unknown_variable = refl; gone_relation = refl; unknown_attribute_first = refl; aggregate_in_the_text = refl; all_of_another = refl; unknown_relation = refl; over_a_view_of_two = refl; over_no_variable = refl; over_two_variables = refl; in_another = refl; in_a_view = refl; eleven_aggregates = refl; a_second_variable = refl; set_twice = refl; text_plus_one = refl; sum_of_texts = refl; number_is_text = refl; text_for_a_number = refl; no_title = refl; kinds_before_titles = refl; fifty_targets = refl; name_in_use = refl; a_catalogue_name = refl; a_catalogue = refl; a_view = refl; too_wide = refl; named_twice = refl; binary_text = refl
 }
 
 -- ---- what is resolved
@@ -207,40 +180,40 @@ replaced = checked.Update (record {
 -- retrieve (n = count(e.a), x = sum(f.k by f.k where f.k > 1), e.all) where count(f.k) > e.a
 abbrev grouped : Query
 grouped = tree.query (key (codes "s") ∷ key (codes "p") ∷ [])
-    (target (codes "n") Wide (counted (codes "p") 0)
-    ∷ target (codes "x") Wide (tree.aggregate (record { slot = 1; op = Sum; source = Named (key (codes "s")); arg = q.Attr 0 0; by = q.Attr 0 0 ∷ []; link = q.Attr 0 0 ∷ []; qual = qual.Cmp Gt (q.Attr 0 0) (q.Int (pos 1)) }))
-    ∷ target (codes "a") (Of I2) (q.Attr 1 0)
-    ∷ target (codes "b") (Of (C 6)) (q.Attr 1 1)
-    ∷ [])
-    (qual.Cmp Gt (counted (codes "s") 2) (q.Attr 1 0))
+  (target (codes "n") Wide (counted (codes "p") 0)
+   ∷ target (codes "x") Wide (tree.aggregate (record { slot = 1; op = Sum; source = Named (key (codes "s")); arg = q.Attr 0 0; by = q.Attr 0 0 ∷ []; link = q.Attr 0 0 ∷ []; qual = qual.Cmp Gt (q.Attr 0 0) (q.Int (pos 1)) }))
+   ∷ target (codes "a") (Of I2) (q.Attr 1 0)
+   ∷ target (codes "b") (Of (C 6)) (q.Attr 1 1)
+   ∷ [])
+  (qual.Cmp Gt (counted (codes "s") 2) (q.Attr 1 0))
 
 record Trees : Type 0 where
   a_replacement : of (statement.Replace (codes "e") (set (codes "a") plus_one ∷ []) (Cmp Eq eb (chars (codes "x*")))) ≡ Ok replaced
   slots_in_the_text :
-      of (statement.Retrieve None (set (codes "n") (count_of ea) ∷ set (codes "x") sum_by_k ∷ item.All (codes "e") ∷ []) (Cmp Gt (count_of fk) ea) ((codes "a", true) ∷ []))
-      ≡ Ok (checked.Answer (record { query = grouped; sort = record { column = 2; down = true } ∷ [] } ∷ []))
+    of (statement.Retrieve None (set (codes "n") (count_of ea) ∷ set (codes "x") sum_by_k ∷ item.All (codes "e") ∷ []) (Cmp Gt (count_of fk) ea) ((codes "a", true) ∷ []))
+    ≡ Ok (checked.Answer (record { query = grouped; sort = record { column = 2; down = true } ∷ [] } ∷ []))
   the_right_constant :
-      of (retrieve (set (codes "x") (int 1) ∷ []) (Cmp Ne (chars (codes "x")) (chars (codes "a*"))))
-      ≡ Ok (checked.Answer (record { query = tree.query [] (target (codes "x") Wide (q.Int (pos 1)) ∷ []) (qual.Like (q.Chars (codes "x")) (codes "a*") false); sort = [] } ∷ []))
+    of (retrieve (set (codes "x") (int 1) ∷ []) (Cmp Ne (chars (codes "x")) (chars (codes "a*"))))
+    ≡ Ok (checked.Answer (record { query = tree.query [] (target (codes "x") Wide (q.Int (pos 1)) ∷ []) (qual.Like (q.Chars (codes "x")) (codes "a*") false); sort = [] } ∷ []))
   a_new_relation :
-      of (statement.Retrieve (Some (codes "w")) (item.Attr (codes "e") (codes "b") ∷ []) True ((codes "b", true) ∷ []))
-      ≡ Ok (checked.Update (record { op = op.Into; rel = key (codes "w"); old = 255; places = 0 ∷ []; query = tree.query (key (codes "p") ∷ []) (target (codes "b") (Of (C 6)) (q.Attr 0 1) ∷ []) qual.True; checks = []; new_cut = qual.True }))
+    of (statement.Retrieve (Some (codes "w")) (item.Attr (codes "e") (codes "b") ∷ []) True ((codes "b", true) ∷ []))
+    ≡ Ok (checked.Update (record { op = op.Into; rel = key (codes "w"); old = 255; places = 0 ∷ []; query = tree.query (key (codes "p") ∷ []) (target (codes "b") (Of (C 6)) (q.Attr 0 1) ∷ []) qual.True; checks = []; new_cut = qual.True }))
   an_append_of_all :
-      of (statement.Append (codes "p") (item.All (codes "e") ∷ []) True)
-      ≡ Ok (checked.Update (record { op = op.Append; rel = key (codes "p"); old = 255; places = 0 ∷ 1 ∷ []; query = tree.query (key (codes "p") ∷ []) (target (codes "a") (Of I2) (q.Attr 0 0) ∷ target (codes "b") (Of (C 6)) (q.Attr 0 1) ∷ []) qual.True; checks = []; new_cut = qual.True }))
+    of (statement.Append (codes "p") (item.All (codes "e") ∷ []) True)
+    ≡ Ok (checked.Update (record { op = op.Append; rel = key (codes "p"); old = 255; places = 0 ∷ 1 ∷ []; query = tree.query (key (codes "p") ∷ []) (target (codes "a") (Of I2) (q.Attr 0 0) ∷ target (codes "b") (Of (C 6)) (q.Attr 0 1) ∷ []) qual.True; checks = []; new_cut = qual.True }))
   a_rule : of (statement.Rule (codes "e") (Cmp Gt ea (int 1))) ≡ Ok (checked.Utility (utility.Rule (key (codes "p")) (record { number = 0; qual = qual.Cmp Gt (q.Attr 0 0) (q.Int (pos 1)) })))
   a_hash : of (statement.Modify (codes "p") spec.Hash []) ≡ Ok (checked.Utility (utility.Modify (key (codes "p")) spec.Hash (0 ∷ [])))
   a_heap : of (statement.Modify (codes "p") spec.Heap []) ≡ Ok (checked.Utility (utility.Modify (key (codes "p")) spec.Heap []))
   a_print :
-      of (statement.Print (codes "two" ∷ []))
-      ≡ Ok (checked.Answer (record { query = tree.query (key (codes "two") ∷ []) (target (codes "a") (Of I2) (q.Attr 0 0) ∷ []) qual.True; sort = [] } ∷ []))
+    of (statement.Print (codes "two" ∷ []))
+    ≡ Ok (checked.Answer (record { query = tree.query (key (codes "two") ∷ []) (target (codes "a") (Of I2) (q.Attr 0 0) ∷ []) qual.True; sort = [] } ∷ []))
   a_help :
-      of (statement.Help (Some (codes "p")))
-      ≡ Ok (checked.Answer (record {
-        query = tree.query (key (codes "attribute") ∷ []) (target (codes "attid") (Of I2) (q.Attr 0 2) ∷ target (codes "attname") (Of (C 12)) (q.Attr 0 3) ∷ target (codes "attfrmt") (Of (C 4)) (q.Attr 0 4) ∷ [])
-            (tree.both (qual.Like (q.Attr 0 0) (codes "p") true) (qual.Like (q.Attr 0 1) (codes "ann") true));
-        sort = [];
-      } ∷ []))
+    of (statement.Help (Some (codes "p")))
+    ≡ Ok (checked.Answer (record {
+      query = tree.query (key (codes "attribute") ∷ []) (target (codes "attid") (Of I2) (q.Attr 0 2) ∷ target (codes "attname") (Of (C 12)) (q.Attr 0 3) ∷ target (codes "attfrmt") (Of (C 4)) (q.Attr 0 4) ∷ [])
+        (tree.both (qual.Like (q.Attr 0 0) (codes "p") true) (qual.Like (q.Attr 0 1) (codes "ann") true));
+      sort = [];
+    } ∷ []))
   a_destroy : of (statement.Destroy (codes "two" ∷ codes "relation" ∷ [])) ≡ Ok (checked.Utility (utility.Destroy (key (codes "two") ∷ key (codes "relation") ∷ [])))
 
 trees : Trees
