@@ -20,3 +20,11 @@ pub mod WholeRows
 pub mod InOrder
 pub mod Kept
 pub mod Numbers
+pub mod Agreement
+pub mod Cutting
+pub mod LastDatabase
+pub mod LineLaws
+pub mod ReadWhole
+pub mod Steps
+pub mod Taken
+mod WorkedSessions

@@ -7,8 +7,13 @@ use Rattle.quel_meaning.specs.Printed.{line, refusal_bytes, reply_bytes}
 use Rattle.quel_meaning.specs.Lines.{lines_of}
 use Rattle.quel_meaning.specs.Monitor.{file_name, command_of, names_file, parts_from}
 use Rattle.quel_meaning.specs.Buffer.{with_piece, buffer_after}
-use Rattle.quel_meaning.specs.Places.{first_place, line_at}
-use Rattle.quel_meaning.specs.Batch.{read_within, batch_of}
+use Rattle.calculus.specs.Chars.{is_chars}
+use Rattle.calculus.specs.Name.{is_name}
+use Rattle.quel_grammar.specs.Words.{fixed_of, symbol_at}
+use Rattle.quel_grammar.specs.Lexer.{piece_at, word_at, int_at, text_at, token_at}
+use Rattle.quel_grammar.specs.Pieces.{pieces_from, pieces_behind}
+use Rattle.quel_grammar.specs.Next.{first_place, line_at}
+use Rattle.quel_meaning.specs.Batch.{read_within, batch_from}
 use Rattle.quel_meaning.specs.Happening.{over}
 use Rattle.quel_meaning.specs.Running.{after_statement, after_batch, carried_out, after_command, after_part, after_line, after_lines, files_within}
 use Rattle.quel_meaning.specs.Session.{Session, session_of, session_of_lines, printed, output, ended, ends, databases}
@@ -75,7 +80,7 @@ record Examples : Type 0 where
       ≡ line (codes "refused 9 line 0: not built") ++ line (codes "refused 9 line 0: not built") ++ done
 
 examples : Examples
-unfolding digits fetched stored refusal_bytes reply_bytes lines_of file_name command_of parts_from with_piece buffer_after first_place line_at read_within batch_of over after_statement after_batch carried_out after_command after_part after_line after_lines files_within session_of session_of_lines printed ended
+unfolding digits fetched stored refusal_bytes reply_bytes lines_of file_name command_of parts_from with_piece buffer_after first_place line_at pieces_from pieces_behind piece_at word_at int_at text_at token_at fixed_of symbol_at is_name is_chars read_within batch_from over after_statement after_batch carried_out after_command after_part after_line after_lines files_within session_of session_of_lines printed ended
 examples = record {
   commands = refl;
   in_order = refl;

@@ -6,10 +6,11 @@ use Rattle.calculus.specs.declared.reply.Reply.TheVariants as replies
 use Rattle.calculus.specs.declared.statement.Statement.{Statement}
 use Rattle.calculus.specs.declared.statement.Statement.TheVariants as statements
 use Rattle.calculus.specs.Database.{Db}
+use Rattle.quel_grammar.specs.Lexer.{is_white}
 use Rattle.quel_grammar.specs.Next.{Next, Nothing, Read, Syntax}
 use Rattle.quel_meaning.specs.Shelf.{Shelf}
 use Rattle.quel_meaning.specs.State.{State, Outcome}
-use Rattle.quel_meaning.specs.Monitor.{is_white, Command}
+use Rattle.quel_meaning.specs.Monitor.{Command}
 use Rattle.quel_meaning.specs.Happening.{Setting}
 
 -- what is read at a place, where these bytes stand there

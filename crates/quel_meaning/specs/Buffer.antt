@@ -2,7 +2,8 @@
 use Rattle.std.specs.Prelude.{ℕ, Bool, true, false, if◌then◌else◌, List, [], ◌∷◌, ◌++◌}
 use Rattle.std.specs.List.{list_all}
 use Rattle.std.specs.Io.BufRead.{ends_with_byte}
-use Rattle.quel_meaning.specs.Monitor.{is_white, Command, Go, Print, Reset, Append, Quit, Include, Write, Unknown}
+use Rattle.quel_grammar.specs.Lexer.{is_white}
+use Rattle.quel_meaning.specs.Monitor.{Command, Go, Print, Reset, Append, Quit, Include, Write, Unknown}
 
 -- the query buffer: its bytes, and the mark that they ran, so that the next piece begins a new text
 pub record Buffer : Type 0 where

@@ -1,5 +1,5 @@
 -- What happens in a session: events, what is kept from each to the next, and steps one after the other.
-use Rattle.std.specs.Prelude.{ℕ, Bool, false, List, [], ◌∷◌, ◌++◌}
+use Rattle.std.specs.Prelude.{◌≡◌, ℕ, Bool, false, List, [], ◌∷◌, ◌++◌}
 use Rattle.calculus.specs.declared.statement.Statement.{Statement}
 use Rattle.calculus.specs.Database.{Db}
 use Rattle.quel_grammar.specs.Next.{Reading}
@@ -15,6 +15,12 @@ pub record Setting : Type 0 where
   pub reading : Reading
   pub meaning : State → Statement → Outcome
   pub is_built : Command → Bool
+
+-- the settings agree: they read the same, mean the same, and have the same commands built
+pub record Agree (s t : Setting) : Type 0 where
+  pub reading : (text : List ℕ) (from : ℕ) → s.reading text from ≡ t.reading text from
+  pub meaning : (state : State) (statement : Statement) → s.meaning state statement ≡ t.meaning state statement
+  pub is_built : (command : Command) → s.is_built command ≡ t.is_built command
 
 -- what happened: the monitor printed bytes; or a statement ran, with the bytes of its reply and the database after it
 pub data Event : Type 0 where

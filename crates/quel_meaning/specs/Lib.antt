@@ -17,7 +17,6 @@ pub mod Lines
 pub mod Monitor
 pub mod Printed
 pub mod Buffer
-pub mod Places
 pub mod Batch
 pub mod Happening
 pub mod Running

@@ -1,6 +1,8 @@
 -- The parts of a line of a script: pieces of text, and commands of the monitor.
-use Rattle.std.specs.Prelude.{ℕ, ◌==◌, nat_le, Bool, true, false, ◌&&◌, ◌||◌, if◌then◌else◌, List, [], ◌∷◌, length, drop, take_while, find, codes, option_map, unwrap_or}
+use Rattle.std.specs.Prelude.{ℕ, ◌==◌, nat_le, Bool, true, false, not, ◌&&◌, if◌then◌else◌, List, [], ◌∷◌, take, drop, find, codes, option_map, unwrap_or}
+use Rattle.std.specs.List.{prefix_len}
 use Rattle.std.specs.Str.{bytes_eq}
+use Rattle.quel_grammar.specs.Lexer.{is_white}
 
 -- ---- commands
 
@@ -14,10 +16,6 @@ pub data Command : Type 0 where
   Include : List ℕ → Command
   Write : List ℕ → Command
   Unknown : Command
-
--- a blank, a tab, a newline or a carriage return
-abbrev pub is_white : ℕ → Bool
-is_white b = b == 32 || b == 9 || b == 10 || b == 13
 
 -- the byte in front of the others, but white space in front of nothing is dropped
 abbrev pub before_stripped : ℕ → List ℕ → List ℕ
@@ -80,6 +78,16 @@ begins_command Plain b = b == 92
 begins_command Quoted b = false
 begins_command Escaped b = false
 
+-- no command begins in these bytes, where this is open before them
+abbrev pub has_no_command : Quoting → List ℕ → Bool
+has_no_command quoting [] = true
+has_no_command quoting (b ∷ bs) = not (begins_command quoting b) && has_no_command (quoting_after quoting b) bs
+
+-- what is open behind these bytes, where this is open before them
+abbrev pub quoting_behind : Quoting → List ℕ → Quoting
+quoting_behind quoting [] = quoting
+quoting_behind quoting (b ∷ bs) = quoting_behind (quoting_after quoting b) bs
+
 -- a letter a to z
 abbrev pub is_letter : ℕ → Bool
 is_letter b = nat_le 97 b && nat_le b 122
@@ -110,24 +118,26 @@ without_front n (Order command ∷ parts) = Order command ∷ parts
 
 -- a command, and the parts behind it; where it took the rest of the line there are none
 abbrev pub order_before : Command → List Part → List Part
-order_before command parts = elim (names_file command) [ true ↦ Order command ∷ [] | false ↦ Order command ∷ parts ]
+order_before command parts = Order command ∷ (if names_file command then [] else parts)
 
--- the word of a command: the longest run of letters behind its backslash
-abbrev pub word_at : List ℕ → List ℕ
-word_at bytes = take_while is_letter bytes
+-- the length of a command's word: as many letters as stand behind its backslash
+abbrev pub word_length : List ℕ → ℕ
+word_length bytes = prefix_len is_letter bytes
 
 -- the parts from a command's backslash on, where these bytes and these parts stand behind it
 abbrev pub command_at : List ℕ → List Part → List Part
 command_at bytes parts =
-    order_before (command_of (word_at bytes) (drop (length (word_at bytes)) bytes)) (without_front (length (word_at bytes)) parts)
+    order_before (command_of (take (word_length bytes) bytes) (drop (word_length bytes) bytes)) (without_front (word_length bytes) parts)
+
+-- the parts from a byte on that begins a command or doesn't, where these bytes and these parts stand behind it
+abbrev pub parts_at : Bool → ℕ → List ℕ → List Part → List Part
+parts_at true b bytes parts = command_at bytes parts
+parts_at false b bytes parts = onto_piece b parts
 
 -- the parts of the rest of a line, where this is open
 unfoldable pub parts_from : Quoting → List ℕ → List Part
 parts_from quoting [] = []
-parts_from quoting (b ∷ bs) = elim (begins_command quoting b) [
-  | true ↦ command_at bs (parts_from Plain bs)
-  | false ↦ onto_piece b (parts_from (quoting_after quoting b) bs)
-]
+parts_from quoting (b ∷ bs) = parts_at (begins_command quoting b) b bs (parts_from (quoting_after quoting b) bs)
 
 -- the parts of a line
 abbrev pub parts_of : List ℕ → List Part

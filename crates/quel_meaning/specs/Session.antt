@@ -2,7 +2,10 @@
 use Rattle.std.specs.Prelude.{ℕ, suc, ◌+◌, max, nat_le, Bool, ◌&&◌, if◌then◌else◌, List, [], ◌∷◌, map, length, ◌++◌}
 use Rattle.calculus.specs.Lists.{is_any}
 use Rattle.calculus.specs.Database.{Db}
-use Rattle.quel_meaning.specs.State.{State}
+use Rattle.quel_grammar.specs.Next.{Reading}
+use Rattle.quel_meaning.specs.State.{State, Built}
+use Rattle.quel_meaning.specs.Resolved.{resolved}
+use Rattle.quel_meaning.specs.Meaning.{meaning_by}
 use Rattle.quel_meaning.specs.Lines.{lines_of}
 use Rattle.quel_meaning.specs.Happening.{Setting, Event, Wrote, Ran, Kept, After, start}
 use Rattle.quel_meaning.specs.Running.{Deeper, files_within, after_lines}
@@ -33,6 +36,14 @@ session_of_lines setting state lines = session_after (after_lines setting (files
 unfoldable pub session_of : Setting → State → List ℕ → Session
 session_of setting state script = session_of_lines setting state (lines_of script)
 
+-- what sessions of a user rest on: this reading, and what is built of the language
+abbrev pub setting_of : Reading → Built → List ℕ → Setting
+setting_of reading built user = record { reading = reading; meaning = λ state s. meaning_by resolved built state user s; is_built = built.command }
+
+-- the session of a user's script, from what stands before it
+unfoldable pub session : Reading → Built → List ℕ → State → List ℕ → Session
+session reading built user state script = session_of (setting_of reading built user) state script
+
 -- ---- what a session prints
 
 -- the bytes that an event prints
@@ -47,7 +58,7 @@ printed (event ∷ events) = event_bytes event ++ printed events
 
 -- all bytes that a session prints, in order
 abbrev pub output : Session → List ℕ
-output session = printed session.events
+output s = printed s.events
 
 -- what is printed by these lines, where this is kept
 abbrev pub still_printed : Setting → Kept → List (List ℕ) → List ℕ
@@ -63,7 +74,7 @@ databases_after (Ran reply db ∷ events) = db ∷ databases_after events
 
 -- the database before a session, and that after each of its statements
 abbrev pub databases : Db → Session → List Db
-databases before session = before ∷ databases_after session.events
+databases before s = before ∷ databases_after s.events
 
 -- ---- where replies end
 
@@ -81,7 +92,11 @@ endings_from before (Ran reply db ∷ events) =
 
 -- for each statement the place of the output where its reply ends
 abbrev pub ends : Session → List ℕ
-ends session = map (λ e. e.place) (endings_from 0 session.events)
+ends s = map (λ e. e.place) (endings_from 0 s.events)
+
+-- the bytes of each statement's reply
+abbrev pub replies : Session → List (List ℕ)
+replies s = map (λ e. e.reply) (endings_from 0 s.events)
 
 -- the greatest number of an ending that passes, where the first has this number; 0 where none passes
 abbrev pub greatest_number : (Ending → Bool) → ℕ → List Ending → ℕ
@@ -90,4 +105,4 @@ greatest_number passes number (e ∷ endings) = max (if passes e then number els
 
 -- the number of the last statement whose reply isn't empty and ends within so many bytes of the output; 0 where there is none
 unfoldable pub ended : Session → ℕ → ℕ
-ended session taken = greatest_number (λ e. is_any e.reply && nat_le e.place taken) 1 (endings_from 0 session.events)
+ended s taken = greatest_number (λ e. is_any e.reply && nat_le e.place taken) 1 (endings_from 0 s.events)

@@ -3,6 +3,7 @@ use Rattle.std.specs.Prelude.{Bool}
 use Rattle.calculus.specs.declared.reply.Reply.{Reply}
 use Rattle.calculus.specs.declared.statement.Statement.{Statement}
 use Rattle.calculus.specs.Database.{Db}
+use Rattle.quel_meaning.specs.Monitor.{Command}
 use Rattle.quel_meaning.specs.Ranges.{Ranges}
 use Rattle.quel_meaning.specs.Shelf.{Shelf}
 
@@ -17,6 +18,7 @@ pub record Outcome : Type 0 where
   pub state : State
   pub reply : Reply
 
--- which statements are built; each other one is refused before all else
+-- which statements and which commands of the monitor are built; each other one is refused before all else
 pub record Built : Type 0 where
   pub statement : Statement → Bool
+  pub command : Command → Bool
