@@ -1,5 +1,5 @@
 mod Resolving
-mod InOrder
+pub mod InOrder
 mod Small
 mod SmallTexts
 mod WorkedUtilities
@@ -17,7 +17,6 @@ mod Fields
 mod ColumnsBack
 pub mod RecordsBack
 pub mod WholeRows
-pub mod InOrder
 pub mod Kept
 pub mod Numbers
 pub mod Agreement
