@@ -10,3 +10,4 @@ mod Small
 mod WorkedUtilities
 mod WorkedPermits
 mod WorkedCopies
+mod WorkedStatements
