@@ -27,3 +27,4 @@ pub mod ReadWhole
 pub mod Steps
 pub mod Taken
 mod WorkedSessions
+mod WorkedStatements
