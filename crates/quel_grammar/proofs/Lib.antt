@@ -9,3 +9,5 @@ pub mod Exact
 pub mod ExactTokens
 pub mod ExactTerms
 pub mod ExactQuals
+pub mod ExactLists
+pub mod ExactParts
