@@ -27,7 +27,7 @@ use Rattle.quel_meaning.specs.Aggregates.{aggregates_stand}
 use Rattle.quel_meaning.specs.KindsInQueries.{query_fits, assignments_fit}
 use Rattle.quel_meaning.specs.WrittenQuery.{query_of}
 use Rattle.quel_meaning.specs.StatementUpdate.{titles_of, append_of, replace_of, delete_of}
-use Rattle.quel_meaning.specs.Passing.{has_too_many, update_has_too_many, is_full, is_too_large, are_full, is_too_wide, is_taken}
+use Rattle.quel_meaning.specs.Passing.{has_too_many, is_full, is_too_large, are_full, is_too_wide, is_taken}
 
 -- causes that refuse, each by its number and whether it is there
 abbrev pub Causes : Type 0
@@ -83,14 +83,14 @@ changed_causes s u = (28, is_catalogue s.db u.rel) ∷ (26, is_some (view_at s.d
 abbrev pub update_causes : Scope → Bool → Update → Causes
 update_causes s stand u =
     (18, not stand)
-    ∷ (14, update_has_too_many s.db u)
+    ∷ (14, has_too_many s.db u.query)
     ∷ (17, repeats (titles_of u.query))
     ∷ (13, not (query_fits s.db u.query && assignments_fit s.db u))
     ∷ changed_causes s u
 
 -- what refuses a deletion: the same, but it sets no attribute
 abbrev pub delete_causes : Scope → Bool → Update → Causes
-delete_causes s stand u = (18, not stand) ∷ (14, update_has_too_many s.db u) ∷ (13, not (query_fits s.db u.query)) ∷ changed_causes s u
+delete_causes s stand u = (18, not stand) ∷ (14, has_too_many s.db u.query) ∷ (13, not (query_fits s.db u.query)) ∷ changed_causes s u
 
 -- what refuses a view: an aggregate; too many variables, no room, its size or level; a title that stands twice; kinds; the width of its rows; a name in use
 abbrev pub view_causes : Scope → Bool → List ℕ → Query → Causes

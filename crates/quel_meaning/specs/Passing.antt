@@ -1,24 +1,29 @@
 -- What passes a limit: variables, sizes, widths, numbers and names.
-use Rattle.std.specs.Prelude.{ℕ, Bool, true, ◌||◌, nat_le, nat_lt, List, length, sum_by, Option, Some, None}
+use Rattle.std.specs.Prelude.{ℕ, ◌+◌, Bool, true, ◌||◌, nat_le, nat_lt, List, length, sum_by, Option, Some, None}
 use Rattle.std.specs.List.{list_any}
 use Rattle.calculus.specs.declared.value.Kind.{Kind}
 use Rattle.calculus.specs.declared.query.Query.{Query}
-use Rattle.calculus.specs.declared.request.Update.{Update}
 use Rattle.calculus.specs.Limits.{most_attributes, most_row_bytes, most_variables, most_expanded_variables, greatest_size, most_levels, greatest_level, greatest_number, most_entries}
 use Rattle.calculus.specs.Keys.{key_of}
 use Rattle.calculus.specs.Database.{Db, entries, is_there}
 use Rattle.calculus.specs.Catalogue.{is_catalogue_name}
 use Rattle.calculus.specs.IsDatabase.{kind_bytes}
-use Rattle.calculus.specs.Sizes.{variables, expanded_variables, update_variables, update_expanded_variables, query_size, query_level}
+use Rattle.calculus.specs.Sizes.{measure_of, source_variables, query_size, query_level}
+use Rattle.calculus.specs.QueryParts.{vars_of, query_aggregates}
 use Rattle.calculus.specs.TreeLevels.{query_levels}
 
--- a query has more variables than it may have, as it stands or once the views in it are put in
-unfoldable pub has_too_many : Db → Query → Bool
-has_too_many db q = nat_lt most_variables (variables q) || nat_lt most_expanded_variables (expanded_variables db q)
+-- how many variables a query lists, each of its aggregates having one
+abbrev pub listed_variables : Query → ℕ
+listed_variables q = length (vars_of q) + length (query_aggregates q)
 
--- the same for an update, of which the variable whose rows are replaced or deleted counts too
-unfoldable pub update_has_too_many : Db → Update → Bool
-update_has_too_many db u = nat_lt most_variables (update_variables u) || nat_lt most_expanded_variables (update_expanded_variables db u)
+-- how many they are once the views in them are put in
+abbrev pub listed_expanded_variables : Db → Query → ℕ
+listed_expanded_variables db q =
+    sum_by (λ key. (measure_of db key).variables) (vars_of q) + sum_by (λ g. source_variables (measure_of db) g.source) (query_aggregates q)
+
+-- a query whose variables are all used has more of them than it may have, as it stands or once the views in it are put in
+unfoldable pub has_too_many : Db → Query → Bool
+has_too_many db q = nat_lt most_variables (listed_variables q) || nat_lt most_expanded_variables (listed_expanded_variables db q)
 
 -- there is no room for a further relation, view or index
 unfoldable pub is_full : Db → Bool
