@@ -53,7 +53,7 @@ use Rattle.quel_meaning.specs.Lines.{lines_of}
 use Rattle.quel_meaning.specs.Meaning.{utility_effect, tree_meaning, checked_permitted, ruled_tree, statement_outcome, meaning_by, statements_run}
 use Rattle.quel_meaning.specs.Monitor.{file_name, command_of, parts_from}
 use Rattle.quel_meaning.specs.Naming.{mentions, name_refusal}
-use Rattle.quel_meaning.specs.Passing.{has_too_many, update_has_too_many, is_full, is_too_large, are_full, is_too_wide, is_taken}
+use Rattle.quel_meaning.specs.Passing.{has_too_many, is_full, is_too_large, are_full, is_too_wide, is_taken}
 use Rattle.quel_meaning.specs.Planned.{plan_causes, plan_change, planned}
 use Rattle.quel_meaning.specs.Printed.{rule_bytes, head_bytes, row_line, table_bytes, refusal_bytes, reply_bytes}
 use Rattle.quel_meaning.specs.Ranges.{range_of, declared}
@@ -111,5 +111,5 @@ record Examples : Type 0 where
       ++ line (codes "|s     |") ++ line (codes "|------|") ++ line (codes "|    50|") ++ line (codes "|     5|") ++ line (codes "|------|")
 
 examples : Examples
-unfolding digits aggregates answer lacks assigned update_assigned catalogue_at laid names_what_is_there adds_what_is_new lists_once is_chars marks constant_text found attribute_kind constant_kind number_kind operated_kind joined_kind kind_of comparable is_text_kind kinds_fit is_name pairs ruled items fits_items matches readable query_permitted update_permitted term_aggregates qual_aggregates after contended updated covers permitted may level_of term_size qual_size measure_of query_size variables expanded_variables update_variables update_expanded_variables query_level range_at info_at rows_given some_lacks attribute_value opposite_value value_without_sign operated_values joined_values val compared_values matched_value holds values_of rows_of word_at int_at text_at token_at piece_at first_place line_at pieces_behind pieces_from fixed_of symbol_at aggregate_stands aggregates_stand read_within batch_from with_piece buffer_after causes rows_in_file copied_from file_of_rows copied_into over aggregate_kind kind_in_query kinds_fit_in_query query_fits assignments_fit lines_of utility_effect tree_meaning checked_permitted ruled_tree statement_outcome meaning_by statements_run file_name command_of parts_from mentions name_refusal has_too_many update_has_too_many is_full is_too_large are_full is_too_wide is_taken plan_causes plan_change planned rule_bytes head_bytes row_line table_bytes refusal_bytes reply_bytes range_of declared tree_of resolved after_statement after_batch carried_out after_command after_part after_line after_lines files_within named ranged entry_named session_of_lines session_of session printed ended fetched stored append_of replace_of delete_of into_of rows_order sorted table_of some_query_lacks aggregate_vars aggregates_in aggregates_in_qual vars_in where_tree query_of
+unfolding digits aggregates answer lacks assigned update_assigned catalogue_at laid names_what_is_there adds_what_is_new lists_once is_chars marks constant_text found attribute_kind constant_kind number_kind operated_kind joined_kind kind_of comparable is_text_kind kinds_fit is_name pairs ruled items fits_items matches readable query_permitted update_permitted term_aggregates qual_aggregates after contended updated covers permitted may level_of term_size qual_size measure_of query_size variables expanded_variables update_variables update_expanded_variables query_level range_at info_at rows_given some_lacks attribute_value opposite_value value_without_sign operated_values joined_values val compared_values matched_value holds values_of rows_of word_at int_at text_at token_at piece_at first_place line_at pieces_behind pieces_from fixed_of symbol_at aggregate_stands aggregates_stand read_within batch_from with_piece buffer_after causes rows_in_file copied_from file_of_rows copied_into over aggregate_kind kind_in_query kinds_fit_in_query query_fits assignments_fit lines_of utility_effect tree_meaning checked_permitted ruled_tree statement_outcome meaning_by statements_run file_name command_of parts_from mentions name_refusal has_too_many is_full is_too_large are_full is_too_wide is_taken plan_causes plan_change planned rule_bytes head_bytes row_line table_bytes refusal_bytes reply_bytes range_of declared tree_of resolved after_statement after_batch carried_out after_command after_part after_line after_lines files_within named ranged entry_named session_of_lines session_of session printed ended fetched stored append_of replace_of delete_of into_of rows_order sorted table_of some_query_lacks aggregate_vars aggregates_in aggregates_in_qual vars_in where_tree query_of
 examples = record { a_row_and_none = refl; grouped = refl }
