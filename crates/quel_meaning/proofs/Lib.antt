@@ -3,3 +3,6 @@ mod Resolving
 mod Fitting
 pub mod Accepted
 pub mod Slots
+pub mod Each
+pub mod Keys
+pub mod Found
