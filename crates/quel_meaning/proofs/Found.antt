@@ -72,7 +72,7 @@ pub ranged_named : (s : Scope) (var : List ℕ) → IsRanged s var → is_named 
 ranged_named s var r =
     ap (λ i. is_named s.db (key_found i)) (ranged_is s var r) ∙ ap is_some (found_again s.db r.key r.info r.there)
 
-dotted_ranged : (s : Scope) (ds : List Dotted) → Each (IsFound s) (dotted ds) → Each (λ d. IsRanged s d.0) ds
+pub dotted_ranged : (s : Scope) (ds : List Dotted) → Each (IsFound s) (dotted ds) → Each (λ d. IsRanged s d.0) ds
 dotted_ranged s ds h = each_to _ _ (λ (d : Dotted) k. (ranged_with s (attr_refusal d.1) d.0 k).is) ds (of_map (IsFound s) (λ (d : Dotted). AttrOf d.0 d.1) ds h)
 
 -- ---- variables outside aggregates and in by-lists are among those of the attributes
@@ -122,7 +122,7 @@ query_ranged s titled items q h =
     (in_flat_map _ outer_vars_in_item items (each_to _ _ (λ i. item_ranged s titled i) items (of_flat_map _ (item_mentions s titled) items (front_of _ _ _ h))))
     (qual_ranged s q (back_of _ (flat_map (item_mentions s titled) items) _ h))
 
-in_once : (P : List ℕ → Type 0) (names : List (List ℕ)) → Each P names → Each P (once names)
+pub in_once : (P : List ℕ → Type 0) (names : List (List ℕ)) → Each P names → Each P (once names)
 in_once P [] h = tt
 in_once P (n ∷ ns) h = (h.0, in_filter P (λ m. not (bytes_eq m n)) (once ns) (in_once P ns h.1))
 

@@ -6,3 +6,4 @@ pub mod Slots
 pub mod Each
 pub mod Keys
 pub mod Found
+pub mod Sources
