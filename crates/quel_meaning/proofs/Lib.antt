@@ -28,3 +28,7 @@ pub mod Steps
 pub mod Taken
 mod WorkedSessions
 mod WorkedStatements
+pub mod Each
+pub mod Keys
+pub mod Found
+pub mod Sources
