@@ -41,7 +41,7 @@ use Rattle.quel_meaning.specs.Tables.{table_of, some_query_lacks, sorted, rows_o
 
 -- every statement is built
 abbrev all_built : Built
-all_built = record { statement = λ s. true }
+all_built = record { statement = λ s. true; command = λ c. true }
 
 -- what a statement of this tree does for the user
 abbrev outcome : Db → List ℕ → Checked → Outcome
@@ -133,7 +133,7 @@ unfolding meaning_by statement_outcome found range_at info_at catalogue_at decla
 ranges_over_anns = refl
 
 -- a statement that is not built is refused, whatever else would refuse it
-not_built_comes_first : (meaning_by (λ db user ranges s. Err 10) (record { statement = λ s. false }) (record { db = permits_db; shelf = []; ranges = [] }) ann (Help None)).reply
+not_built_comes_first : (meaning_by (λ db user ranges s. Err 10) (record { statement = λ s. false; command = λ c. true }) (record { db = permits_db; shelf = []; ranges = [] }) ann (Help None)).reply
     ≡ Refused (refusal 9)
 unfolding meaning_by
 not_built_comes_first = refl
