@@ -7,3 +7,4 @@ pub mod Each
 pub mod Keys
 pub mod Found
 pub mod Sources
+pub mod Few
