@@ -8,3 +8,5 @@ pub mod Keys
 pub mod Found
 pub mod Sources
 pub mod Few
+pub mod ReadsFit
+pub mod FitAnswers
