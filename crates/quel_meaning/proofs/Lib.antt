@@ -10,3 +10,5 @@ pub mod Sources
 pub mod Few
 pub mod ReadsFit
 pub mod FitAnswers
+pub mod Pigeons
+pub mod DatabaseFacts
