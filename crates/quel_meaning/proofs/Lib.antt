@@ -12,3 +12,4 @@ pub mod ReadsFit
 pub mod FitAnswers
 pub mod Pigeons
 pub mod DatabaseFacts
+pub mod Titles
