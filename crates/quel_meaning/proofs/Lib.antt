@@ -13,3 +13,4 @@ pub mod FitAnswers
 pub mod Pigeons
 pub mod DatabaseFacts
 pub mod Titles
+pub mod FitUpdates
