@@ -32,3 +32,10 @@ pub mod Each
 pub mod Keys
 pub mod Found
 pub mod Sources
+pub mod Few
+pub mod ReadsFit
+pub mod FitAnswers
+pub mod Pigeons
+pub mod DatabaseFacts
+pub mod Titles
+pub mod FitUpdates
