@@ -1,3 +1,6 @@
 mod Kept
+mod Orders
 mod Alike
 mod Numbered
+mod Planned
+mod NewNumbers
