@@ -4,3 +4,4 @@ mod Alike
 mod Numbered
 mod Planned
 mod NewNumbers
+mod GoneNumbers

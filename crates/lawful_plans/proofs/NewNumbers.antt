@@ -25,14 +25,14 @@ use Rattle.lawful_plans.proofs.Planned.{neither}
 
 -- ---- numbers
 
-le_true : (m n : ℕ) → m ≤ n → IsTrue (nat_le m n)
+pub le_true : (m n : ℕ) → m ≤ n → IsTrue (nat_le m n)
 le_true m n h = grind (arith, nat_tests, h)
 
-le_is : (m n : ℕ) → IsTrue (nat_le m n) → m ≤ n
+pub le_is : (m n : ℕ) → IsTrue (nat_le m n) → m ≤ n
 le_is m n t = grind (arith, nat_tests, t)
 
 -- those of one key among rules or permits
-abbrev of_key : {X : Type 0} → RelKey → (RelKey × X) → Bool
+abbrev pub of_key : {X : Type 0} → RelKey → (RelKey × X) → Bool
 of_key key p = same_key p.0 key
 
 -- there are few enough, and the next number isn't too great
@@ -52,7 +52,7 @@ still_few number most rel key x xs own before = go (same_key rel key) refl
         omega (arith, own, one, insert_one_more (numbered_cmp number) (of_key key) (rel, x) xs)
     go false e = omega (arith, before, insert_none_more (numbered_cmp number) (of_key key) (rel, x) xs e)
 
-all_imply : {X : Type 0} (f g : X → Bool) → ((x : X) → IsTrue (f x) → IsTrue (g x)) → (xs : List X) → IsTrue (list_all f xs) → IsTrue (list_all g xs)
+pub all_imply : {X : Type 0} (f g : X → Bool) → ((x : X) → IsTrue (f x) → IsTrue (g x)) → (xs : List X) → IsTrue (list_all f xs) → IsTrue (list_all g xs)
 all_imply f g h [] t = refl
 all_imply f g h (x ∷ xs) t = let parts = both (f x) (list_all f xs) t in each (g x) (list_all g xs) (h x parts.0) (all_imply f g h xs parts.1)
 
