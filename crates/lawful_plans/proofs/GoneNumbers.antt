@@ -73,7 +73,7 @@ numbers_ascend number rel [] h t = sorted-nil
 numbers_ascend {X} number rel (p ∷ ps) h t =
     let parts = both (of_key rel p) (list_all (of_key rel) ps) t in
     let head : AllByRecursion (λ q. numbered_cmp number (rel, p.1) q ≡ Less) ps =
-        subst (λ key. AllByRecursion (λ q. numbered_cmp number (key, p.1) q ≡ Less) ps) (same_key_is p.0 rel parts.0) (sorted_head (numbered_cmp number) p ps h) in
+    subst (λ key. AllByRecursion (λ q. numbered_cmp number (key, p.1) q ≡ Less) ps) (same_key_is p.0 rel parts.0) (sorted_head (numbered_cmp number) p ps h) in
     sorted-cons (number p.1) (map number (map (λ p. p.1) ps)) (behind_first number rel p.1 ps head parts.1)
     (numbers_ascend number rel ps (sorted_tail (numbered_cmp number) p ps h) parts.1)
 

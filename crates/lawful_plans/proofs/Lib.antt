@@ -5,3 +5,4 @@ mod Numbered
 mod Planned
 mod NewNumbers
 mod GoneNumbers
+pub mod Plans

@@ -66,7 +66,7 @@ next_is_none numbers = go (has_number numbers (next_number numbers)) refl
 
 -- ---- a permit
 
-permit_lawful : (db : Db) (rel : RelKey) (permit : Permit) → IsDatabase db → IsFitPermit db rel permit → is_relation db rel ≡ true → bytes_eq rel.owner db.dba ≡ true
+pub permit_lawful : (db : Db) (rel : RelKey) (permit : Permit) → IsDatabase db → IsFitPermit db rel permit → is_relation db rel ≡ true → bytes_eq rel.owner db.dba ≡ true
     → is_past_limit most_permits (permit_numbers db rel) ≡ false → IsLawful db (change.Permit rel (record permit { number = next_number (permit_numbers db rel) }))
 unfolding laid names_what_is_there adds_what_is_new lists_once
 permit_lawful db rel permit is fit relation owner few =
@@ -111,7 +111,7 @@ permit_lawful db rel permit is fit relation owner few =
 
 -- ---- a rule
 
-rule_lawful : (db : Db) (rel : RelKey) (rule : Rule) → IsDatabase db → IsFitRule db rel rule → is_relation db rel ≡ true
+pub rule_lawful : (db : Db) (rel : RelKey) (rule : Rule) → IsDatabase db → IsFitRule db rel rule → is_relation db rel ≡ true
     → is_past_limit most_rules (rule_numbers db rel) ≡ false → IsLawful db (change.Rule rel (record rule { number = next_number (rule_numbers db rel) }))
 unfolding laid names_what_is_there adds_what_is_new lists_once
 rule_lawful db rel rule is fit relation few =

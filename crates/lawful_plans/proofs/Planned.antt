@@ -1,6 +1,7 @@
 -- What is so where a utility is not refused.
-use Rattle.std.proofs.Common.{◌≡◌, refl, sym, ◌∙◌, ℕ, Bool, true, false, ◌||◌, not, IsTrue, List, ◌∷◌, Option, Some, None}
+use Rattle.std.proofs.Common.{◌≡◌, refl, sym, ◌∙◌, ℕ, Bool, true, false, ◌||◌, not, IsTrue, List, [], ◌∷◌, Option, Some, None}
 use Rattle.std.specs.Prelude.{map, flat_map, is_some, option_map, bytes_eq, Result, Ok, Err}
+use Rattle.std.specs.List.{AllByRecursion}
 use Rattle.std.proofs.lemmas.Slice.Eq.{bytes_eq-Decides}
 use Rattle.calculus.specs.declared.query.RelKey.{RelKey}
 use Rattle.calculus.specs.declared.request.Utility.{Utility}
@@ -24,10 +25,15 @@ pub is_not : (a : Bool) → not a ≡ false → a ≡ true
 is_not true h = refl
 is_not false h = cc h
 
--- the first of these causes isn't there, and none of the others is
-pub no_cause : (number : ℕ) (b : Bool) (causes : List (ℕ × Bool)) → first_cause ((number, b) ∷ causes) ≡ None → (b ≡ false) × (first_cause causes ≡ None)
-no_cause number true causes h = cc h
-no_cause number false causes h = (refl, h)
+-- where no cause is there, each is absent
+pub all_absent : (causes : List (ℕ × Bool)) → first_cause causes ≡ None → AllByRecursion (λ c. c.1 ≡ false) causes
+all_absent [] h = tt
+all_absent (c ∷ causes) h = go c.1 h (all_absent causes)
+  where
+    go : (b : Bool) → (elim b as (λ b. Option ℕ) [ true ↦ Some c.0 | false ↦ first_cause causes ]) ≡ None → (first_cause causes ≡ None → AllByRecursion (λ c. c.1 ≡ false) causes)
+        → (b ≡ false) × AllByRecursion (λ c. c.1 ≡ false) causes
+    go true h later = cc h
+    go false h later = (refl, later h)
 
 -- a plan that isn't refused has no cause, and is the change
 pub not_refused : (db : Db) (user : List ℕ) (u : Utility) (change : DbChange) → planned db user u ≡ Ok change
@@ -50,8 +56,8 @@ no_catalogue db key h =
   where
     go : (a b : Bool) → a ≡ false → b ≡ false
         → (elim a as (λ a. Option Relation) [
-            | true ↦ Some (record { info = relation_info db; rows = set_of (map relation_row (all_entries db)) })
-            | false ↦ elim b as (λ b. Option Relation) [ true ↦ Some (record { info = attribute_info db; rows = set_of (flat_map attribute_rows (all_entries db)) }) | false ↦ None ]
+          | true ↦ Some (record { info = relation_info db; rows = set_of (map relation_row (all_entries db)) })
+          | false ↦ elim b as (λ b. Option Relation) [ true ↦ Some (record { info = attribute_info db; rows = set_of (flat_map attribute_rows (all_entries db)) }) | false ↦ None ]
         ]) ≡ None
     go true b e f = cc e
     go false true e f = cc f
