@@ -28,3 +28,5 @@ pub mod Steps
 pub mod Taken
 mod WorkedSessions
 mod WorkedStatements
+pub mod Moving
+pub mod Grammatical
