@@ -11,3 +11,5 @@ pub mod ExactTerms
 pub mod ExactQuals
 pub mod ExactLists
 pub mod ExactParts
+pub mod ExactStatements
+pub mod Answered

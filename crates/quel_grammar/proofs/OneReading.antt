@@ -78,7 +78,7 @@ one_stop front n m (inl p) (inr q) = let e = q.0 in absurd cc
 one_stop front n m (inr p) (inl q) = let e = p.0 in absurd cc
 one_stop front n m (inr p) (inr q) = p.2 ∙ sym q.2
 
-no_statement : (s : Statement) → IsStatement [] s → ⊥
+pub no_statement : (s : Statement) → IsStatement [] s → ⊥
 unfolding statement_by
 no_statement s p = let e : statement_by 0 [] ≡ Ok (s, []) = read_statement p 0 (omega arith) in absurd cc
 

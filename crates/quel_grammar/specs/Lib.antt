@@ -12,3 +12,4 @@ pub mod Signs
 pub mod TermReaders
 pub mod PartReaders
 pub mod StatementReaders
+pub mod NextReader

@@ -6,7 +6,8 @@ ghost use Rattle.calculus.specs.declared.statement.Statement.{Statement};
 ghost use Rattle.quel_grammar.specs.declared.token.Token.{Token as Spelled};
 ghost use Rattle.quel_grammar.specs.Statements.{IsStatement};
 ghost use Rattle.quel_grammar.specs.Begins.{Begins};
-ghost use Rattle.quel_grammar.specs.Next.{Next, IsNext};
+ghost use Rattle.quel_grammar.specs.Next.{Next, IsNext, IsGrammatical};
+ghost use Rattle.quel_grammar.specs.NextReader.{next_at};
 
 /// A run of tokens is at most one statement: the grammar can't be read in two ways.
 pub fn tokens_are_at_most_one_statement()
@@ -22,4 +23,10 @@ pub fn fronts_begin_statements()
 /// At a place of a text at most one thing is read.
 pub fn at_most_one_thing_is_read()
     ensures { (text : List ℕ) (from : ℕ) (next other : Next) → IsNext text from next → IsNext text from other → next ≡ other }
+{}
+
+/// What is computed is what the grammar allows. So at each place of each text something is read.
+pub fn what_is_computed_is_read()
+    ensures computed { IsGrammatical next_at }
+    ensures alone { (text : List ℕ) (from : ℕ) (next : Next) → IsNext text from next → next ≡ next_at text from }
 {}

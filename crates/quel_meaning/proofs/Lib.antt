@@ -30,3 +30,7 @@ mod WorkedSessions
 mod WorkedStatements
 pub mod Moving
 pub mod Grammatical
+pub mod Each
+pub mod Keys
+pub mod Found
+pub mod Sources

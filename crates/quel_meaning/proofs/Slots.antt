@@ -70,7 +70,7 @@ of_term s vars n (concat t u) = behind n _ _ _ _ (of_term s vars n t) (of_term s
 of_term s vars n (Agg' mark row) = of_row s vars n row
 
 -- the aggregates of a comparison are those of its sides, as a constant has none
-compared_has : (op : CmpOp) (t u : QTerm) → qual_aggregates (compared op t u) ≡ term_aggregates t ++ term_aggregates u
+pub compared_has : (op : CmpOp) (t u : QTerm) → qual_aggregates (compared op t u) ≡ term_aggregates t ++ term_aggregates u
 unfolding qual_aggregates term_aggregates
 compared_has compare.Eq t (qterm.Chars pattern) = sym (append-nil (term_aggregates t))
 compared_has compare.Ne t (qterm.Chars pattern) = sym (append-nil (term_aggregates t))
@@ -88,10 +88,10 @@ of_qual s vars n (both p q) = behind n _ _ _ _ (of_qual s vars n p) (of_qual s v
 of_qual s vars n (either p q) = behind n _ _ _ _ (of_qual s vars n p) (of_qual s vars (n + length (aggregates_in_qual p)) q)
 of_qual s vars n (negated p) = of_qual s vars n p
 
-abbrev in_targets : List Target → List QAgg
+abbrev pub in_targets : List Target → List QAgg
 in_targets ts = flat_map (λ (t : Target). term_aggregates t.term) ts
 
-none_in_attrs : (var k : ℕ) (attrs : List Attr) → in_targets (map (λ (p : ℕ × Attr). record { name = p.1.name; kind = p.1.kind; term = qterm.Attr var p.0 }) (enumerate_from k attrs)) ≡ []
+pub none_in_attrs : (var k : ℕ) (attrs : List Attr) → in_targets (map (λ (p : ℕ × Attr). record { name = p.1.name; kind = p.1.kind; term = qterm.Attr var p.0 }) (enumerate_from k attrs)) ≡ []
 unfolding term_aggregates
 none_in_attrs var k [] = refl
 none_in_attrs var k (a ∷ attrs) = none_in_attrs var (k + 1) attrs

@@ -1,0 +1,3 @@
+//! What the utilities plan, and what a copy from a file appends, are lawful changes of a database. Each
+//! function here is a law with no body: its clause speaks of the definitions alone.
+#![tactic(auto)]
