@@ -1,10 +1,11 @@
 -- Settings that agree give equal sessions, and nothing happens behind the end.
 use Rattle.std.proofs.Common.{◌≡◌, refl, ap, ℕ, Bool, true, false, List, [], ◌∷◌}
-use Rattle.quel_meaning.specs.State.{State}
+use Rattle.quel_grammar.specs.Next.{Reading}
+use Rattle.quel_meaning.specs.State.{State, Built}
 use Rattle.quel_meaning.specs.Monitor.{Part, parts_of}
 use Rattle.quel_meaning.specs.Happening.{Setting, Agree, Kept, After, quiet, over}
 use Rattle.quel_meaning.specs.Running.{Deeper, after_open_part, after_part, after_line, after_lines}
-use Rattle.quel_meaning.specs.Session.{session_of}
+use Rattle.quel_meaning.specs.Session.{session_of, setting_of, session}
 
 -- settings that agree are the same
 same : (s t : Setting) → Agree s t → s ≡ t
@@ -17,6 +18,13 @@ same s t agree = λ i. record {
 -- their sessions are the same
 pub same_sessions : (s t : Setting) → Agree s t → (state : State) (script : List ℕ) → session_of s state script ≡ session_of t state script
 same_sessions s t agree state script = ap (λ (x : Setting). session_of x state script) (same s t agree)
+
+-- readings that are equal everywhere give the same session
+pub same_reading : (r q : Reading) → ((text : List ℕ) (from : ℕ) → r text from ≡ q text from)
+    → (built : Built) (user : List ℕ) (state : State) (script : List ℕ) → session r built user state script ≡ session q built user state script
+unfolding session
+same_reading r q same built user state script =
+    same_sessions (setting_of r built user) (setting_of q built user) (record { reading = same; meaning = λ s u. refl; is_built = λ c. refl }) state script
 
 -- where steps do nothing, nothing happens
 still : {X : Type 0} (step : Kept → X → After) (kept : Kept) → ((x : X) → step kept x ≡ quiet kept) → (xs : List X) → over step kept xs ≡ quiet kept

@@ -28,6 +28,8 @@ pub mod Steps
 pub mod Taken
 mod WorkedSessions
 mod WorkedStatements
+pub mod Moving
+pub mod Grammatical
 pub mod Each
 pub mod Keys
 pub mod Found

@@ -1,5 +1,5 @@
 -- Worked sessions of the language, computed; what is read of their batches is written down.
-use Rattle.std.proofs.Common.{◌≡◌, refl, ℕ, pos, Bool, true, List, [], ◌∷◌, ◌++◌, Option, Some, None}
+use Rattle.std.proofs.Common.{◌≡◌, refl, ℕ, pos, Bool, true, List, [], ◌∷◌, ◌++◌, None}
 use Rattle.std.specs.Prelude.{◌==◌, codes, if◌then◌else◌}
 use Rattle.std.specs.Fmt.{digits}
 use Rattle.calculus.specs.declared.value.Domain.TheVariants.{I2}
@@ -12,7 +12,7 @@ use Rattle.calculus.specs.declared.statement.Item.TheVariants as item
 use Rattle.calculus.specs.declared.statement.Statement.{Statement}
 use Rattle.calculus.specs.declared.statement.Statement.TheVariants as statement
 use Rattle.calculus.specs.Written.{aggregate}
-use Rattle.quel_grammar.specs.Next.{Next, Nothing, Read, Reading}
+use Rattle.quel_grammar.specs.Next.{Next, Nothing, Read}
 use Rattle.quel_meaning.specs.State.{State, Built}
 use Rattle.quel_meaning.specs.Session.{output}
 use Rattle.quel_meaning.specs.Printed.{line}
@@ -102,7 +102,6 @@ record Examples : Type 0 where
   a_row_and_none : printed_for_ann ((0, asked (set (codes "x") 3 ∷ []) True [], 16) ∷ (16, asked (set (codes "x") 3 ∷ []) (Cmp Eq (int 1) (int 2)) [], 45) ∷ []) (codes "retrieve (x = 3)\nretrieve (x = 3) where 1 = 2\n\\g\n")
       ≡ line (codes "|x                   |") ++ line (codes "|--------------------|") ++ line (codes "|                   3|") ++ line (codes "|--------------------|")
       ++ line (codes "|x                   |") ++ line (codes "|--------------------|") ++ line (codes "|--------------------|")
-
   -- sums in groups, and rows in the order of a column
   grouped : printed_for_ann ((0, statement.Create (codes "g") ((codes "d", I2) ∷ (codes "s", I2) ∷ []), 25) ∷ (25, statement.Append (codes "g") (set (codes "d") 1 ∷ set (codes "s") 5 ∷ []) True, 52) ∷ (52, statement.Append (codes "g") (set (codes "d") 2 ∷ set (codes "s") 50 ∷ []) True, 80) ∷ (80, statement.Range (codes "e") (codes "g"), 96) ∷ (96, asked (item.Attr (codes "e") (codes "d") ∷ item.Set (codes "n") sums ∷ []) True [], 147) ∷ (147, asked (item.Attr (codes "e") (codes "s") ∷ []) True ((codes "s", true) ∷ []), 174) ∷ []) (codes "create g (d = i2, s = i2)\nappend to g (d = 1, s = 5) append to g (d = 2, s = 50)\nrange of e is g\nretrieve (e.d, n = sum(e.s by e.d where e.s > 10))\nretrieve (e.s) sort by s:d\n\\g\n")
       ≡ line (codes "done") ++ line (codes "done") ++ line (codes "done")

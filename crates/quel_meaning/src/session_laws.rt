@@ -4,14 +4,14 @@ ghost use Rattle.std.specs.Prelude.{◌≡◌, ◌+◌, ℕ, suc, Bool, true, Li
 ghost use Rattle.std.specs.List.{concat, list_all};
 ghost use Rattle.calculus.specs.Lists.{is_any};
 ghost use Rattle.calculus.specs.Database.{Db};
-ghost use Rattle.quel_grammar.specs.Next.{Reading};
-ghost use Rattle.quel_meaning.specs.State.{State};
+ghost use Rattle.quel_grammar.specs.Next.{Reading, IsGrammatical};
+ghost use Rattle.quel_meaning.specs.State.{State, Built};
 ghost use Rattle.quel_meaning.specs.Lines.{lines_of, is_no_newline};
 ghost use Rattle.quel_meaning.specs.Monitor.{Plain, has_no_command, quoting_behind, is_letter, word_length, command_of, before_parts, order_before, parts_of};
 ghost use Rattle.quel_meaning.specs.Batch.{MovesOn, batch_from, read_on};
 ghost use Rattle.quel_meaning.specs.Happening.{Setting, Agree, Event, Kept, quiet, and_then};
 ghost use Rattle.quel_meaning.specs.Running.{Deeper, after_lines};
-ghost use Rattle.quel_meaning.specs.Session.{Session, files_of, session_of, session_of_lines, printed, output, still_printed, databases, replies, ended};
+ghost use Rattle.quel_meaning.specs.Session.{Session, files_of, session, session_of, session_of_lines, printed, output, still_printed, databases, replies, ended};
 
 /// The lines of a script, put together again, are the script; each ends with its first newline, which
 /// only the last may lack.
@@ -32,11 +32,12 @@ pub fn a_line_is_cut_at_its_first_command()
 {}
 
 /// What is read of a batch from a place on is what is read next there, and then what is read from the
-/// end of that statement on. So it is read to its end, though its definition counts statements.
-#[tactic(auto, using(crate::proofs::ReadWhole::read_next))]
+/// end of that statement on. So it is read to its end, though its definition counts statements. It holds
+/// of a reading that moves on through the text, as each does that the grammar allows.
 pub fn a_batch_is_read_to_its_end()
-    ensures { (reading : Reading) (text : List ℕ) → MovesOn reading text → (from : ℕ)
+    ensures next { (reading : Reading) (text : List ℕ) → MovesOn reading text → (from : ℕ)
         → batch_from reading text from ≡ read_on (batch_from reading text) text from (reading text from) }
+    ensures moves { (reading : Reading) → IsGrammatical reading → (text : List ℕ) → MovesOn reading text }
 {}
 
 /// Lines one after the other do what the first ones do, and then what the others do from what these
@@ -72,8 +73,12 @@ pub fn all_output_ends_the_last_reply()
     ensures none { (session : Session) → list_all (λ r. not (is_any r)) (replies session) ≡ true → ended session (length (output session)) ≡ 0 }
 {}
 
-/// Settings that read and mean the same give the same session.
-#[tactic(auto, using(crate::proofs::Agreement::same_sessions))]
+/// Readings that are equal everywhere give equal sessions, and so do settings that agree. Two readings
+/// that the grammar allows are equal everywhere: so there is one session of a script, whatever reads it.
 pub fn equal_readings_give_equal_sessions()
-    ensures { (s t : Setting) → Agree s t → (state : State) (script : List ℕ) → session_of s state script ≡ session_of t state script }
+    ensures settings { (s t : Setting) → Agree s t → (state : State) (script : List ℕ) → session_of s state script ≡ session_of t state script }
+    ensures readings { (r q : Reading) → ((text : List ℕ) (from : ℕ) → r text from ≡ q text from)
+        → (built : Built) (user : List ℕ) (state : State) (script : List ℕ) → session r built user state script ≡ session q built user state script }
+    ensures grammatical { (r q : Reading) → IsGrammatical r → IsGrammatical q
+        → (built : Built) (user : List ℕ) (state : State) (script : List ℕ) → session r built user state script ≡ session q built user state script }
 {}
