@@ -4,8 +4,9 @@ use Rattle.std.proofs.lemmas.List.{length-map}
 use Rattle.calculus.specs.declared.statement.Statement.{Statement}
 use Rattle.quel_grammar.specs.declared.token.Token.{Token}
 use Rattle.quel_grammar.specs.Statements.{IsStatement}
-use Rattle.quel_grammar.specs.Lexer.{Piece, piece_at}
-use Rattle.quel_grammar.specs.Lexer.Piece.{White, Spelled}
+use Rattle.quel_grammar.specs.declared.token.Piece.{Piece}
+use Rattle.quel_grammar.specs.Lexer.{piece_at}
+use Rattle.quel_grammar.specs.declared.token.Piece.TheVariants as pieces
 use Rattle.quel_grammar.specs.Pieces.{Placed, Pieces, with_piece, pieces_behind, pieces_from, tokens_of, end_behind, end_of}
 use Rattle.quel_grammar.specs.Next.{IsRead}
 use Rattle.quel_grammar.proofs.OneReading.{no_statement}
@@ -21,8 +22,8 @@ lower low low2 high [] le a = tt
 lower low low2 high (p ∷ ps) le a = (omega (arith, a.0), a.1, a.2, a.3)
 
 piece_ascends : (piece : Piece) (at len high : ℕ) (later : Pieces) → 0 < len → at + len ≤ high → Ascend (at + len) high later.placed → Ascend at high (with_piece piece at len later).placed
-piece_ascends White at len high later lt le a = lower (at + len) at high later.placed (omega arith) a
-piece_ascends (Spelled t) at len high later lt le a = (omega arith, omega arith, le, a)
+piece_ascends pieces.White at len high later lt le a = lower (at + len) at high later.placed (omega arith) a
+piece_ascends (pieces.Token t) at len high later lt le a = (omega arith, omega arith, le, a)
 
 -- the pieces where this piece stands at the front, or none does
 abbrev with_front : Option (Piece × ℕ) → ℕ → List ℕ → Pieces

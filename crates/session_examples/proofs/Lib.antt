@@ -1,0 +1,4 @@
+pub mod ComputedRetrieving
+pub mod ComputedUpdating
+pub mod ComputedViewing
+pub mod ComputedRefusing
