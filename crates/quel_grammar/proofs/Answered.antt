@@ -9,13 +9,13 @@ use Rattle.quel_grammar.specs.Bounds.{first_past}
 use Rattle.quel_grammar.specs.Pieces.{Placed, Pieces, pieces_from, tokens_of, end_of, place_behind}
 use Rattle.quel_grammar.specs.Reading.{Read as ReadOf}
 use Rattle.quel_grammar.specs.StatementReaders.{statement_by}
-use Rattle.quel_grammar.specs.Next.{Next, IsBlank, IsNextOf, IsNext, IsGrammatical}
+use Rattle.quel_grammar.specs.Next.{Next, Reading, IsBlank, IsNextOf, IsNext, IsGrammatical}
 use Rattle.quel_grammar.specs.NextReader.{taken, bounded, next_by, next_of_tokens, next_of, next_at}
 use Rattle.quel_grammar.proofs.Exact.{Alike, Reads}
 use Rattle.quel_grammar.proofs.Exact.Alike.{nothing, begin}
 use Rattle.quel_grammar.proofs.ExactStatements.{exact_statement}
 use Rattle.quel_grammar.proofs.CompleteStatements.{read_statement}
-use Rattle.quel_grammar.proofs.OneReading.{begins_whole}
+use Rattle.quel_grammar.proofs.OneReading.{begins_whole, one_next}
 
 -- what was read of tokens: a statement, which is their longest run that begins one, and the tokens behind it; or the tokens behind that run, which is no statement
 abbrev IsParse : List Token → ReadOf Statement → Type 0
@@ -118,3 +118,7 @@ reads text from = next_pieces (pieces_from text from).placed (pieces_from text f
 -- where this is computed, it is what is read
 pub is_next : (text : List ℕ) (from : ℕ) (next : Next) → next_at text from ≡ next → IsNext text from next
 is_next text from next e = rw (← e) (reads text from)
+
+-- a reading that the grammar allows is the computed one
+pub only_reading : (reading : Reading) → IsGrammatical reading → reading ≡ next_at
+only_reading reading grammatical = λ i text from. one_next (pieces_from text from) (reading text from) (next_at text from) (grammatical text from) (reads text from) i
