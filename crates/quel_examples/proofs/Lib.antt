@@ -1,3 +1,4 @@
 pub mod Statements
 pub mod Refusals
 pub mod Bounds
+pub mod Places

@@ -4,6 +4,7 @@ ghost use Rattle.quel_grammar.specs.Next.{IsNext};
 ghost use Rattle.quel_examples.specs.Statements.{Statements};
 ghost use Rattle.quel_examples.specs.Refusals.{Refusals};
 ghost use Rattle.quel_examples.specs.Bounds.{Bounds};
+ghost use Rattle.quel_examples.specs.Places.{Places};
 
 /// Statements are read up to the end of their last token, with operators grouped and names found.
 #[tactic(auto, using(crate::proofs::Statements::statements))]
@@ -21,4 +22,10 @@ pub fn what_cannot_go_on_is_refused()
 #[tactic(auto, using(crate::proofs::Bounds::bounds))]
 pub fn bounds_refuse()
     ensures { Bounds IsNext }
+{}
+
+/// Where the first tokens from a place on begin, and on which lines.
+#[tactic(auto, using(crate::proofs::Places::places))]
+pub fn tokens_have_places()
+    ensures { Places }
 {}

@@ -9,13 +9,13 @@ use Rattle.quel_grammar.specs.Bounds.{first_past}
 use Rattle.quel_grammar.specs.Pieces.{Placed, Pieces, pieces_from, tokens_of, end_of, place_behind}
 use Rattle.quel_grammar.specs.Reading.{Read as ReadOf}
 use Rattle.quel_grammar.specs.StatementReaders.{statement_by}
-use Rattle.quel_grammar.specs.Next.{Next, IsBlank, IsNextOf, IsNext, IsGrammatical}
+use Rattle.quel_grammar.specs.Next.{Next, Reading, IsBlank, IsNextOf, IsNext, IsGrammatical}
 use Rattle.quel_grammar.specs.NextReader.{taken, bounded, next_by, next_of_tokens, next_of, next_at}
 use Rattle.quel_grammar.proofs.Exact.{Alike, Reads}
 use Rattle.quel_grammar.proofs.Exact.Alike.{nothing, begin}
 use Rattle.quel_grammar.proofs.ExactStatements.{exact_statement}
 use Rattle.quel_grammar.proofs.CompleteStatements.{read_statement}
-use Rattle.quel_grammar.proofs.OneReading.{begins_whole}
+use Rattle.quel_grammar.proofs.OneReading.{begins_whole, one_next}
 
 -- what was read of tokens: a statement, which is their longest run that begins one, and the tokens behind it; or the tokens behind that run, which is no statement
 abbrev IsParse : List Token → ReadOf Statement → Type 0
@@ -49,8 +49,16 @@ is_parse ts n le = parsed (statement_by n ts) (λ m up. (exact_statement n m up)
         let keeps : (m : ℕ) → n ≤ m → (b : List Token) → Alike x.1 b → statement_by m (one.front ++ b) ≡ Ok (x.0, b) = λ m up b alike.
         let here = all m up in
         let same : here.front ≡ one.front = append_cancel_right here.front one.front x.1 (sym here.same ∙ one.same) in
-        rw (← same) (here.keeps (omega (arith, ap length here.same, length-append here.front x.1)) b alike) in
-        (one.front, record { same = one.same; begins = begins_whole _ _ one.whole; last = is_last n one.front x.1 (λ b. Ok (x.0, b)) keeps (λ t b s e. not_done s x.0 t b e) }, one.whole)
+        rw (← same) (here.keeps (omega (arith, ap length here.same, length-append here.front x.1)) b alike) in (
+          one.front,
+          record {
+            same = one.same;
+            begins = begins_whole _ _ one.whole;
+            last = is_last n one.front x.1 (λ b. Ok (x.0, b)) keeps
+                (λ t b s e. not_done s x.0 t b e);
+          },
+          one.whole,
+        )
     parsed (Err rest) all =
         let one = all n (omega arith) in
         let keeps : (m : ℕ) → n ≤ m → (b : List Token) → Alike rest b → statement_by m (one.front ++ b) ≡ Err b = λ m up b alike.
@@ -58,7 +66,12 @@ is_parse ts n le = parsed (statement_by n ts) (λ m up. (exact_statement n m up)
         let same : here.front ≡ one.front = append_cancel_right here.front one.front rest (sym here.same ∙ one.same) in
         rw (← same) (here.keeps (omega (arith, ap length here.same, length-append here.front rest)) b alike) in (
           one.front,
-          record { same = one.same; begins = record { more = one.begins.more; statement = one.begins.value; is_one = one.begins.whole }; last = is_last n one.front rest (λ b. Err b) keeps (λ t b s e. absurd cc) },
+          record {
+            same = one.same;
+            begins = record { more = one.begins.more; statement = one.begins.value; is_one = one.begins.whole };
+            last = is_last n one.front rest
+                (λ b. Err b) keeps (λ t b s e. absurd cc);
+          },
           λ s p.
               let m = n + length one.front in
               let read : statement_by m one.front ≡ Ok (s, []) = read_statement p m (omega arith) in
@@ -78,7 +91,8 @@ number_taken : (ts front rest : List Token) → ts ≡ front ++ rest → length 
 number_taken ts front rest e = omega (arith, ap length e, length-append front rest)
 
 module _ (pieces : Pieces) (some : IsBlank pieces → ⊥) where
-  next_bounded : (x : ReadOf Statement) → IsParse (tokens_of pieces) x → (front : List Token) → take (taken (tokens_of pieces) x) (tokens_of pieces) ≡ front → (o : Option ℕ) → first_past front ≡ o → IsNextOf pieces (bounded pieces x o)
+  next_bounded : (x : ReadOf Statement) → IsParse (tokens_of pieces) x → (front : List Token) → take (taken (tokens_of pieces) x) (tokens_of pieces) ≡ front → (o : Option ℕ)
+      → first_past front ≡ o → IsNextOf pieces (bounded pieces x o)
   next_bounded (Ok x) p front e (Some number) past =
       let same : front ≡ p.0 = sym e ∙ front_taken (tokens_of pieces) p.0 x.1 p.1.same in
       record { front = p.0; rest = x.1; some = some; longest = p.1; number = number; stopped = inl (ap first_past (sym same) ∙ past); there = refl }
@@ -87,10 +101,27 @@ module _ (pieces : Pieces) (some : IsBlank pieces → ⊥) where
       record { front = p.0; rest = rest; some = some; longest = p.1; number = number; stopped = inl (ap first_past (sym same) ∙ past); there = refl }
   next_bounded (Ok x) p front e None past =
       let same : front ≡ p.0 = sym e ∙ front_taken (tokens_of pieces) p.0 x.1 p.1.same in
-      record { front = p.0; rest = x.1; longest = p.1; bounded = ap first_past (sym same) ∙ past; is_one = p.2; there = ap (end_of pieces) (number_taken (tokens_of pieces) p.0 x.1 p.1.same) }
+      record {
+        front = p.0;
+        rest = x.1;
+        longest = p.1;
+        bounded = ap first_past (sym same) ∙ past;
+        is_one = p.2;
+        there = ap (end_of pieces)
+            (number_taken (tokens_of pieces) p.0 x.1 p.1.same);
+      }
   next_bounded (Err rest) p front e None past =
       let same : front ≡ p.0 = sym e ∙ front_taken (tokens_of pieces) p.0 rest p.1.same in
-      record { front = p.0; rest = rest; some = some; longest = p.1; number = length p.0; stopped = inr (ap first_past (sym same) ∙ past, p.2, refl); there = ap (place_behind pieces) (number_taken (tokens_of pieces) p.0 rest p.1.same) }
+      record {
+        front = p.0;
+        rest = rest;
+        some = some;
+        longest = p.1;
+        number = length p.0;
+        stopped = inr (ap first_past (sym same) ∙ past, p.2, refl);
+        there = ap
+            (place_behind pieces) (number_taken (tokens_of pieces) p.0 rest p.1.same);
+      }
 
   next_parsed : (x : ReadOf Statement) → IsParse (tokens_of pieces) x → IsNextOf pieces (next_by pieces x)
   next_parsed x p = next_bounded x p _ refl _ refl
@@ -118,3 +149,7 @@ reads text from = next_pieces (pieces_from text from).placed (pieces_from text f
 -- where this is computed, it is what is read
 pub is_next : (text : List ℕ) (from : ℕ) (next : Next) → next_at text from ≡ next → IsNext text from next
 is_next text from next e = rw (← e) (reads text from)
+
+-- a reading that the grammar allows is the computed one
+pub only_reading : (reading : Reading) → IsGrammatical reading → reading ≡ next_at
+only_reading reading grammatical = λ i text from. one_next (pieces_from text from) (reading text from) (next_at text from) (grammatical text from) (reads text from) i

@@ -33,25 +33,32 @@ use Rattle.quel_grammar.proofs.QualSteps.{finish, finish_pow, finish_prod, plain
 mutual
   pub read_term : {ts : List Token} {t : Term} → IsTerm ts t → (n : ℕ) → length ts ≤ n → (rest : List Token) → TermEnds rest → term_by (level n) (ts ++ rest) ≡ Ok (t, rest)
   read_term (sum {ts = ts} {us = us} p q) n le rest ends = rw (append_assoc ts us rest)
-      (term_step (level n) _ _ _ (read_prod p n (omega (arith, length-append ts us)) (us ++ rest) (sums_front q rest ends.prod)) ∙ read_sums q n (omega (arith, length-append ts us)) rest ends)
+      (term_step (level n) _ _ _ (read_prod p n (omega (arith, length-append ts us)) (us ++ rest) (sums_front q rest ends.prod)) ∙ read_sums q n
+      (omega (arith, length-append ts us)) rest ends)
 
-  pub read_sums : {left v : Term} {us : List Token} → IsSums left us v → (n : ℕ) → length us ≤ n → (rest : List Token) → TermEnds rest → sums_by (level n) left (us ++ rest) ≡ Ok (v, rest)
+  pub read_sums : {left v : Term} {us : List Token} → IsSums left us v → (n : ℕ) → length us ≤ n → (rest : List Token) → TermEnds rest
+      → sums_by (level n) left (us ++ rest) ≡ Ok (v, rest)
   read_sums last_sum n le rest ends = sums_end (level n) _ rest ends.sum
   read_sums (next_sum s p q) zero le rest ends = absurd (omega arith)
   read_sums (next_sum {ts = ts} {us = us} s p q) (suc k) le rest ends = rw (append_assoc ts us rest)
-      (sums_next k _ _ _ _ _ _ s (read_prod p (suc k) (omega (arith, length-append ts us)) (us ++ rest) (sums_front q rest ends.prod)) ∙ read_sums q k (omega (arith, length-append ts us)) rest ends)
+      (sums_next k _ _ _ _ _ _ s (read_prod p (suc k) (omega (arith, length-append ts us)) (us ++ rest) (sums_front q rest ends.prod)) ∙ read_sums q k
+      (omega (arith, length-append ts us)) rest ends)
 
   pub read_prod : {ts : List Token} {t : Term} → IsProd ts t → (n : ℕ) → length ts ≤ n → (rest : List Token) → ProdEnds rest → prod_by (level n) (ts ++ rest) ≡ Ok (t, rest)
   read_prod (product {ts = ts} {us = us} p q) n le rest ends = rw (append_assoc ts us rest)
-      (prod_step (level n) _ _ _ (read_pow p n (omega (arith, length-append ts us)) (us ++ rest) (products_front q rest ends.power)) ∙ read_products q n (omega (arith, length-append ts us)) rest ends)
+      (prod_step (level n) _ _ _ (read_pow p n (omega (arith, length-append ts us)) (us ++ rest) (products_front q rest ends.power)) ∙ read_products q n
+      (omega (arith, length-append ts us)) rest ends)
 
-  pub read_products : {left v : Term} {us : List Token} → IsProducts left us v → (n : ℕ) → length us ≤ n → (rest : List Token) → ProdEnds rest → products_by (level n) left (us ++ rest) ≡ Ok (v, rest)
+  pub read_products : {left v : Term} {us : List Token} → IsProducts left us v → (n : ℕ) → length us ≤ n → (rest : List Token) → ProdEnds rest
+      → products_by (level n) left (us ++ rest) ≡ Ok (v, rest)
   read_products last_product n le rest ends = products_end (level n) _ rest ends.product
   read_products (next_product s p q) zero le rest ends = absurd (omega arith)
   read_products (next_product {ts = ts} {us = us} s p q) (suc k) le rest ends = rw (append_assoc ts us rest)
-      (products_next k _ _ _ _ _ _ s (read_pow p (suc k) (omega (arith, length-append ts us)) (us ++ rest) (products_front q rest ends.power)) ∙ read_products q k (omega (arith, length-append ts us)) rest ends)
+      (products_next k _ _ _ _ _ _ s (read_pow p (suc k) (omega (arith, length-append ts us)) (us ++ rest) (products_front q rest ends.power)) ∙ read_products q k
+      (omega (arith, length-append ts us)) rest ends)
 
-  pub read_pow : {ts : List Token} {t : Term} → IsPow ts t → (n : ℕ) → length ts ≤ n → (rest : List Token) → first (is_fixed fixed.Power) rest ≡ None → pow_by (level n) (ts ++ rest) ≡ Ok (t, rest)
+  pub read_pow : {ts : List Token} {t : Term} → IsPow ts t → (n : ℕ) → length ts ≤ n → (rest : List Token) → first (is_fixed fixed.Power) rest ≡ None
+      → pow_by (level n) (ts ++ rest) ≡ Ok (t, rest)
   read_pow (base p) n le rest ends = pow_step (level n) _ _ _ (read_unary p n le rest) ∙ power_ends (level n) _ rest ends
   read_pow (power {ts = ts} {us = us} p q) zero le rest ends = absurd (omega (arith, length-append ts (tokens.Fixed fixed.Power ∷ us)))
   read_pow (power {ts = ts} {us = us} p q) (suc k) le rest ends = rw (append_assoc ts (tokens.Fixed fixed.Power ∷ us) rest)
@@ -78,7 +85,8 @@ mutual
   read_function : {ts : List Token} {t : Term} → IsFunction ts t → (n : ℕ) → length ts ≤ n → (rest : List Token) → unary_by (level n) (ts ++ rest) ≡ Ok (t, rest)
   read_function (abs p) zero le rest = absurd (omega arith)
   read_function (abs {ts = ts} p) (suc k) le rest = rw (append_assoc ts (one fixed.Close) rest)
-      (abs_step (level (suc k)) _ _ _ (inside_step k _ _ _ (read_term p k (omega (arith, length-append ts (one fixed.Close))) (tokens.Fixed fixed.Close ∷ rest) (close_ends rest).conj.term)))
+      (abs_step (level (suc k)) _ _ _ (inside_step k _ _ _
+      (read_term p k (omega (arith, length-append ts (one fixed.Close))) (tokens.Fixed fixed.Close ∷ rest) (close_ends rest).conj.term)))
   read_function (mod_ p q) zero le rest = absurd (omega arith)
   read_function (mod_ {ts = ts} {us = us} p q) (suc k) le rest =
       let long = length-append ts (tokens.Fixed fixed.Comma ∷ us ++ one fixed.Close) in
@@ -111,7 +119,8 @@ mutual
   read_by ungrouped k le rest ends = ungrouped_step k rest ends.by
   read_by (by_terms p) k le rest ends = by_step k _ _ _ (read_terms p k (omega arith) [] rest ends)
 
-  read_terms : {us : List Token} {ts : List Term} → IsTerms us ts → (n : ℕ) → length us ≤ n → (before : List Term) (rest : List Token) → GroupEnds rest → terms_by (level n) before (us ++ rest) ≡ Ok (before ++ ts, rest)
+  read_terms : {us : List Token} {ts : List Term} → IsTerms us ts → (n : ℕ) → length us ≤ n → (before : List Term) (rest : List Token) → GroupEnds rest
+      → terms_by (level n) before (us ++ rest) ≡ Ok (before ++ ts, rest)
   read_terms (last_term p) n le before rest ends = terms_end (level n) before _ _ rest (read_term p n le rest ends.term) ends.comma
   read_terms (next_term {ts = ts} {us = us} p q) zero le before rest ends = absurd (omega (arith, length-append ts (tokens.Fixed fixed.Comma ∷ us)))
   read_terms (next_term {ts = ts} {us = us} {t = t} {more = more} p q) (suc k) le before rest ends =
@@ -120,19 +129,25 @@ mutual
       (terms_next k before t _ _ (read_term p (suc k) (omega (arith, long)) (tokens.Fixed fixed.Comma ∷ us ++ rest) (comma_ends (us ++ rest)))
       ∙ read_terms q k (omega (arith, long)) (before ++ t ∷ []) rest ends ∙ ap (λ ys. Ok (ys, rest)) (append_assoc before (t ∷ []) more))
 
-  read_where : {ws : List Token} {q : Qual} → IsWhere ws q → (k : ℕ) → length ws ≤ k → (rest : List Token) → inner_where_by (level (suc k)) (ws ++ tokens.Fixed fixed.Close ∷ rest) ≡ Ok (q, tokens.Fixed fixed.Close ∷ rest)
+  read_where : {ws : List Token} {q : Qual} → IsWhere ws q → (k : ℕ) → length ws ≤ k → (rest : List Token)
+      → inner_where_by (level (suc k)) (ws ++ tokens.Fixed fixed.Close ∷ rest) ≡ Ok (q, tokens.Fixed fixed.Close ∷ rest)
   read_where unqualified k le rest = unqualified_step (level (suc k)) rest
   read_where (qualified p) k le rest = qualified_step k _ _ _ (read_qual p k (omega arith) (tokens.Fixed fixed.Close ∷ rest) (close_ends rest))
 
-  through_term : {ts : List Token} {t : Term} → IsTerm ts t → (n : ℕ) → length ts ≤ n → (rest : List Token) → TermEnds rest → operand_by (level n) (ts ++ rest) ≡ compare_by (level n) t rest
+  through_term : {ts : List Token} {t : Term} → IsTerm ts t → (n : ℕ) → length ts ≤ n → (rest : List Token) → TermEnds rest
+      → operand_by (level n) (ts ++ rest) ≡ compare_by (level n) t rest
   through_term (sum {ts = ts} {us = us} p q) n le rest ends = rw (append_assoc ts us rest)
-      (through_prod p n (omega (arith, length-append ts us)) (us ++ rest) (sums_front q rest ends.prod) ∙ term_through (level n) _ _ _ _ (read_sums q n (omega (arith, length-append ts us)) rest ends))
+      (through_prod p n (omega (arith, length-append ts us)) (us ++ rest) (sums_front q rest ends.prod) ∙ term_through (level n) _ _ _ _
+      (read_sums q n (omega (arith, length-append ts us)) rest ends))
 
-  through_prod : {ts : List Token} {t : Term} → IsProd ts t → (n : ℕ) → length ts ≤ n → (rest : List Token) → ProdEnds rest → operand_by (level n) (ts ++ rest) ≡ finish_prod (level n) t rest
+  through_prod : {ts : List Token} {t : Term} → IsProd ts t → (n : ℕ) → length ts ≤ n → (rest : List Token) → ProdEnds rest
+      → operand_by (level n) (ts ++ rest) ≡ finish_prod (level n) t rest
   through_prod (product {ts = ts} {us = us} p q) n le rest ends = rw (append_assoc ts us rest)
-      (through_pow p n (omega (arith, length-append ts us)) (us ++ rest) (products_front q rest ends.power) ∙ prod_through (level n) _ _ _ _ (read_products q n (omega (arith, length-append ts us)) rest ends))
+      (through_pow p n (omega (arith, length-append ts us)) (us ++ rest) (products_front q rest ends.power) ∙ prod_through (level n) _ _ _ _
+      (read_products q n (omega (arith, length-append ts us)) rest ends))
 
-  through_pow : {ts : List Token} {t : Term} → IsPow ts t → (n : ℕ) → length ts ≤ n → (rest : List Token) → first (is_fixed fixed.Power) rest ≡ None → operand_by (level n) (ts ++ rest) ≡ finish_pow (level n) t rest
+  through_pow : {ts : List Token} {t : Term} → IsPow ts t → (n : ℕ) → length ts ≤ n → (rest : List Token) → first (is_fixed fixed.Power) rest ≡ None
+      → operand_by (level n) (ts ++ rest) ≡ finish_pow (level n) t rest
   through_pow (base p) n le rest ends = through_unary p n le rest ∙ pow_through (level n) _ _ _ _ (power_ends (level n) _ rest ends)
   through_pow (power {ts = ts} {us = us} p q) zero le rest ends = absurd (omega (arith, length-append ts (tokens.Fixed fixed.Power ∷ us)))
   through_pow (power {ts = ts} {us = us} p q) (suc k) le rest ends = rw (append_assoc ts (tokens.Fixed fixed.Power ∷ us) rest)
@@ -152,7 +167,8 @@ mutual
   through_prim attribute n le rest = plain_through (level n) _ _ _ refl refl (attribute_step (level n) _ _ rest)
   through_prim (group p) zero le rest = absurd (omega arith)
   through_prim (group {ts = ts} p) (suc k) le rest = rw (append_assoc ts (one fixed.Close) rest)
-      (group_through k _ _ rest (through_term p k (omega (arith, length-append ts (one fixed.Close))) (tokens.Fixed fixed.Close ∷ rest) (close_ends rest).conj.term ∙ no_comparison (level k) _ rest))
+      (group_through k _ _ rest (through_term p k (omega (arith, length-append ts (one fixed.Close))) (tokens.Fixed fixed.Close ∷ rest) (close_ends rest).conj.term ∙ no_comparison
+      (level k) _ rest))
   through_prim (function p) n le rest = plain_through (level n) _ _ _ (function_front p rest).0 (function_front p rest).1 (read_function p n le rest)
   through_prim (aggregate p) n le rest = plain_through (level n) _ _ _ (aggregate_front p rest).0 (aggregate_front p rest).1 (read_aggregate p n le rest)
 
@@ -167,14 +183,16 @@ mutual
   read_ors last_or n le rest ends = ors_end (level n) _ rest ends.or
   read_ors (next_or p o) zero le rest ends = absurd (omega arith)
   read_ors (next_or {ts = ts} {us = us} p o) (suc k) le rest ends = rw (append_assoc ts us rest)
-      (ors_next k _ _ _ _ (read_conj p (suc k) (omega (arith, length-append ts us)) (us ++ rest) (ors_front o rest ends.conj)) ∙ read_ors o k (omega (arith, length-append ts us)) rest ends)
+      (ors_next k _ _ _ _ (read_conj p (suc k) (omega (arith, length-append ts us)) (us ++ rest) (ors_front o rest ends.conj)) ∙ read_ors o k
+      (omega (arith, length-append ts us)) rest ends)
 
   read_conj : {ts : List Token} {q : Qual} → IsConj ts q → (n : ℕ) → length ts ≤ n → (rest : List Token) → ConjEnds rest → conj_by (level n) (ts ++ rest) ≡ Ok (q, rest)
   read_conj (conjunction {ts = ts} {us = us} p a) n le rest ends = rw (append_assoc ts us rest)
       (conj_step (level n) _ _ _ (neg_step (level n) _ _ _ (read_neg p n (omega (arith, length-append ts us)) (us ++ rest) (ands_front a rest ends.term)))
       ∙ read_ands a n (omega (arith, length-append ts us)) rest ends)
 
-  read_ands : {left q : Qual} {us : List Token} → IsAnds left us q → (n : ℕ) → length us ≤ n → (rest : List Token) → ConjEnds rest → ands_by (level n) left (us ++ rest) ≡ Ok (q, rest)
+  read_ands : {left q : Qual} {us : List Token} → IsAnds left us q → (n : ℕ) → length us ≤ n → (rest : List Token) → ConjEnds rest
+      → ands_by (level n) left (us ++ rest) ≡ Ok (q, rest)
   read_ands last_and n le rest ends = ands_end (level n) _ rest ends.and
   read_ands (next_and p a) zero le rest ends = absurd (omega arith)
   read_ands (next_and {ts = ts} {us = us} p a) (suc k) le rest ends = rw (append_assoc ts us rest)

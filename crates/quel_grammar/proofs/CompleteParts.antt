@@ -45,7 +45,8 @@ pub qual_step : (l : Lower) (q : Qual) (us vs : List Token) → mixed_by l us �
 unfolding qual_by
 qual_step l q us vs e = rw e refl
 
-pub read_outer_where : {ts : List Token} {q : Qual} → IsWhere ts q → (n : ℕ) → length ts ≤ n → (rest : List Token) → QualEnds rest → first (is_fixed fixed.Where) rest ≡ None → where_by (level n) (ts ++ rest) ≡ Ok (q, rest)
+pub read_outer_where : {ts : List Token} {q : Qual} → IsWhere ts q → (n : ℕ) → length ts ≤ n → (rest : List Token) → QualEnds rest → first (is_fixed fixed.Where) rest ≡ None
+    → where_by (level n) (ts ++ rest) ≡ Ok (q, rest)
 unfolding where_by
 read_outer_where unqualified n le rest ends e = rw e refl
 read_outer_where (qualified {ts = ts} p) n le rest ends e = qual_step (level n) _ _ _ (read_qual p n (omega arith) rest ends)
@@ -57,7 +58,8 @@ read_last_where {ts = ts} p n le = let e = read_outer_where p n le [] nothing_en
 
 module _ {A : Type 0} (Is : List Token → A → Type 0) (Ends : List Token → Type 0) (comma : (rest : List Token) → Ends (tokens.Fixed fixed.Comma ∷ rest))
     (r : Reader A) (k : ℕ) (item : (ts : List Token) (x : A) → Is ts x → length ts ≤ k → (rest : List Token) → Ends rest → r (ts ++ rest) ≡ Ok (x, rest)) where
-  pub read_list : (n : ℕ) {us : List Token} {xs : List A} → IsList Is us xs → length us < n → length us ≤ k → (before : List A) (rest : List Token) → Ends rest → first (is_fixed fixed.Comma) rest ≡ None
+  pub read_list : (n : ℕ) {us : List Token} {xs : List A} → IsList Is us xs → length us < n → length us ≤ k → (before : List A) (rest : List Token) → Ends rest
+      → first (is_fixed fixed.Comma) rest ≡ None
       → list_by r n before (us ++ rest) ≡ Ok (before ++ xs, rest)
   unfolding list_by
   read_list zero l lt le before rest ends e = absurd (omega arith)
@@ -70,8 +72,10 @@ module _ {A : Type 0} (Is : List Token → A → Type 0) (Ends : List Token → 
 read_name : (ts : List Token) (x : List ℕ) → IsName ts x → (rest : List Token) → name_at (ts ++ rest) ≡ Ok (x, rest)
 read_name ts x name rest = refl
 
-pub read_names : (n : ℕ) {ts : List Token} {xs : List (List ℕ)} → IsList IsName ts xs → length ts < n → (rest : List Token) → first (is_fixed fixed.Comma) rest ≡ None → names_at n (ts ++ rest) ≡ Ok (xs, rest)
-read_names n {ts = ts} l lt rest e = read_list IsName (λ rest. Unit {0}) (λ rest. tt) name_at (length ts) (λ us x p q rest e. read_name us x p rest) n l lt (omega arith) [] rest tt e
+pub read_names : (n : ℕ) {ts : List Token} {xs : List (List ℕ)} → IsList IsName ts xs → length ts < n → (rest : List Token) → first (is_fixed fixed.Comma) rest ≡ None
+    → names_at n (ts ++ rest) ≡ Ok (xs, rest)
+read_names n {ts = ts} l lt rest e = read_list IsName (λ rest. Unit {0}) (λ rest. tt) name_at (length ts) (λ us x p q rest e. read_name us x p rest) n l lt
+    (omega arith) [] rest tt e
 
 pub read_last_names : (n : ℕ) {ts : List Token} {xs : List (List ℕ)} → IsList IsName ts xs → length ts < n → names_at n ts ≡ Ok (xs, [])
 read_last_names n {ts = ts} l lt = let e = read_names n l lt [] refl in rw append-nil at e
@@ -87,7 +91,8 @@ read_target n ts x all_ le rest ends = refl
 pub read_targets : (n : ℕ) {ts : List Token} {xs : List Item} → IsList IsTarget ts xs → length ts < n → (rest : List Token)
     → targets_by n (level n) (tokens.Fixed fixed.Open ∷ ts ++ tokens.Fixed fixed.Close ∷ rest) ≡ Ok (xs, rest)
 unfolding in_parens closed
-read_targets n l lt rest = rw (read_list IsTarget TermEnds comma_ends (target_by (level n)) n (read_target n) n l lt (omega arith) [] (tokens.Fixed fixed.Close ∷ rest) (close_ends rest).conj.term refl) refl
+read_targets n l lt rest = rw (read_list IsTarget TermEnds comma_ends (target_by (level n)) n (read_target n) n l lt (omega arith) [] (tokens.Fixed fixed.Close ∷ rest)
+    (close_ends rest).conj.term refl) refl
 
 -- ---- sort keys
 
@@ -107,7 +112,8 @@ pub read_sort : {ts : List Token} {ks : List (List ℕ × Bool)} → IsSort ts k
 unfolding sort_by keys_by
 read_sort unsorted n le = refl
 read_sort (sorted {ts = ts} l) n le =
-    let e = read_list IsKey (λ rest. first (is_fixed fixed.Colon) rest ≡ None) (λ rest. refl) key_at n (λ us x p q rest e. read_key us x p rest e) n l (omega arith) (omega arith) [] [] refl refl in
+    let e = read_list IsKey (λ rest. first (is_fixed fixed.Colon) rest ≡ None) (λ rest. refl) key_at n (λ us x p q rest e. read_key us x p rest e) n l (omega arith)
+    (omega arith) [] [] refl refl in
     let f = rw append-nil at e in rw f refl
 
 pub sort_front : {ts : List Token} {ks : List (List ℕ × Bool)} → IsSort ts ks → QualEnds ts × (first (is_fixed fixed.Where) ts ≡ None)
@@ -116,13 +122,15 @@ sort_front (sorted l) = (sort_ends _, refl)
 
 -- ---- what may stand there
 
-pub read_into : {rs : List Token} {r : Option (List ℕ)} → IsInto rs r → (rest : List Token) → into_at (rs ++ tokens.Fixed fixed.Open ∷ rest) ≡ Ok (r, tokens.Fixed fixed.Open ∷ rest)
+pub read_into : {rs : List Token} {r : Option (List ℕ)} → IsInto rs r → (rest : List Token)
+    → into_at (rs ++ tokens.Fixed fixed.Open ∷ rest) ≡ Ok (r, tokens.Fixed fixed.Open ∷ rest)
 unfolding into_at plain_into name_into
 read_into shown rest = refl
 read_into kept rest = refl
 read_into kept_into rest = refl
 
-pub read_unique : {us rs : List Token} {r : Option (List ℕ)} → IsUnique us → IsInto rs r → (rest : List Token) → maybe fixed.Unique (us ++ (rs ++ tokens.Fixed fixed.Open ∷ rest)) ≡ Ok (tt, rs ++ tokens.Fixed fixed.Open ∷ rest)
+pub read_unique : {us rs : List Token} {r : Option (List ℕ)} → IsUnique us → IsInto rs r → (rest : List Token)
+    → maybe fixed.Unique (us ++ (rs ++ tokens.Fixed fixed.Open ∷ rest)) ≡ Ok (tt, rs ++ tokens.Fixed fixed.Open ∷ rest)
 unfolding maybe
 read_unique plain shown rest = refl
 read_unique plain kept rest = refl
@@ -180,11 +188,13 @@ declared_part ts x (declared {n = n} p) = let w = format_word p in record { said
 pub column_part : (ts : List Token) (x : List ℕ × CopyForm) → IsColumn ts x → IsPart copy_form_of ts x
 column_part ts x (column {n = n} p) = let w = copy_form_word p in record { said = w.said; same = ap (λ us. tokens.Name n ∷ tokens.Fixed fixed.Equal ∷ us) w.same; known = w.known }
 
-pub read_parts : {X : Type 0} (f : List ℕ → Option X) (Is : List Token → List ℕ × X → Type 0) → ((ts : List Token) (x : List ℕ × X) → Is ts x → IsPart f ts x) → (n : ℕ) {ts : List Token} {xs : List (List ℕ × X)}
+pub read_parts : {X : Type 0} (f : List ℕ → Option X) (Is : List Token → List ℕ × X → Type 0) → ((ts : List Token) (x : List ℕ × X) → Is ts x → IsPart f ts x)
+    → (n : ℕ) {ts : List Token} {xs : List (List ℕ × X)}
     → IsList Is ts xs → length ts < n → (rest : List Token) → parts_by f n (tokens.Fixed fixed.Open ∷ ts ++ tokens.Fixed fixed.Close ∷ rest) ≡ Ok (xs, rest)
 unfolding in_parens closed
 read_parts f Is part n {ts = ts} l lt rest =
-    rw (read_list Is (λ rest. Unit {0}) (λ rest. tt) (named_at f) (length ts) (λ us x p q rest e. read_part f us x (part us x p) rest) n l lt (omega arith) [] (tokens.Fixed fixed.Close ∷ rest) tt refl) refl
+    rw (read_list Is (λ rest. Unit {0}) (λ rest. tt) (named_at f) (length ts) (λ us x p q rest e. read_part f us x (part us x p) rest) n l lt (omega arith) []
+    (tokens.Fixed fixed.Close ∷ rest) tt refl) refl
 
 -- ---- numbers, structures, permits
 
@@ -207,7 +217,8 @@ unfolding on_by
 read_on without_keys n lt = refl
 read_on (on_keys l) n lt = read_last_names n l (omega arith)
 
-pub read_structure : {ts : List Token} {structure : Spec} {keys : List (List ℕ)} → IsStructure ts structure keys → (n : ℕ) → length ts < n → structure_by n ts ≡ Ok ((structure, keys), [])
+pub read_structure : {ts : List Token} {structure : Spec} {keys : List (List ℕ)} → IsStructure ts structure keys → (n : ℕ) → length ts < n
+    → structure_by n ts ≡ Ok ((structure, keys), [])
 unfolding structure_by keyed_by look_up
 read_structure heap n lt = refl
 read_structure (hash p) n lt = rw (read_on p n (omega arith)) refl
@@ -222,13 +233,17 @@ read_operation ts x may_all rest = refl
 
 pub read_operations : (n : ℕ) {ts : List Token} {sums : List ℕ} → IsList IsOperation ts sums → length ts < n → (rest : List Token) → first (is_fixed fixed.Comma) rest ≡ None
     → list_by (expect (on_fixed operation_of)) n [] (ts ++ rest) ≡ Ok (sums, rest)
-read_operations n {ts = ts} l lt rest e = read_list IsOperation (λ rest. Unit {0}) (λ rest. tt) (expect (on_fixed operation_of)) (length ts) (λ us x p q rest e. read_operation us x p rest) n l lt (omega arith) [] rest tt e
+read_operations n {ts = ts} l lt rest e = read_list IsOperation (λ rest. Unit {0}) (λ rest. tt) (expect (on_fixed operation_of)) (length ts)
+    (λ us x p q rest e. read_operation us x p rest) n l lt (omega arith) [] rest tt e
 
-pub read_names_inside : (n : ℕ) {ts : List Token} {names : List (List ℕ)} → IsList IsName ts names → length ts < n → (rest : List Token) → covered_names n (ts ++ tokens.Fixed fixed.Close ∷ rest) ≡ Ok (names, rest)
+pub read_names_inside : (n : ℕ) {ts : List Token} {names : List (List ℕ)} → IsList IsName ts names → length ts < n → (rest : List Token)
+    → covered_names n (ts ++ tokens.Fixed fixed.Close ∷ rest) ≡ Ok (names, rest)
 unfolding closed
 read_names_inside n l lt rest = rw (read_names n l lt (tokens.Fixed fixed.Close ∷ rest) refl) refl
 
-pub read_covered : {ts : List Token} {names : List (List ℕ)} → IsCovered ts names → (n : ℕ) → length ts ≤ n → (rest : List Token) → covered_by n (ts ++ tokens.Fixed fixed.To ∷ rest) ≡ Ok (names, tokens.Fixed fixed.To ∷ rest)
+pub read_covered : {ts : List Token} {names : List (List ℕ)} → IsCovered ts names → (n : ℕ) → length ts ≤ n → (rest : List Token)
+    → covered_by n (ts ++ tokens.Fixed fixed.To ∷ rest) ≡ Ok (names, tokens.Fixed fixed.To ∷ rest)
 unfolding covered_by
 read_covered whole n le rest = refl
-read_covered (only {ts = ts} l) n le rest = rw (append_assoc ts (one fixed.Close) (tokens.Fixed fixed.To ∷ rest)) (read_names_inside n l (omega (arith, length-append ts (one fixed.Close))) (tokens.Fixed fixed.To ∷ rest))
+read_covered (only {ts = ts} l) n le rest = rw (append_assoc ts (one fixed.Close) (tokens.Fixed fixed.To ∷ rest))
+    (read_names_inside n l (omega (arith, length-append ts (one fixed.Close))) (tokens.Fixed fixed.To ∷ rest))

@@ -43,7 +43,8 @@ read_retrieve {us = us} {rs = rs} {ts = ts} {ws = ws} {ks = ks} p o l w s n le =
       read_sort s n (omega (arith, a, b, c, d)),
     ) refl
 
-read_changed : {ts ws : List Token} {targets : List Item} {q : Qual} (make : List ℕ → List Item → Qual → Statement) (r : List ℕ) → IsList IsTarget ts targets → IsWhere ws q → (n : ℕ) → length (inside ts ws) ≤ n
+read_changed : {ts ws : List Token} {targets : List Item} {q : Qual} (make : List ℕ → List Item → Qual → Statement) (r : List ℕ) → IsList IsTarget ts targets → IsWhere ws q
+    → (n : ℕ) → length (inside ts ws) ≤ n
     → changed_by n (level n) make (tokens.Name r ∷ inside ts ws) ≡ Ok (make r targets q, [])
 unfolding changed_by
 read_changed {ts = ts} {ws = ws} make r l w n le =
@@ -111,7 +112,11 @@ read_statement (print l) n le = rw (read_last_names n l (omega arith)) refl
 read_statement help n le = refl
 read_statement help_about n le = refl
 read_statement (copy {ts = ts} {us = us} {file = file} l way) n le =
-    rw (read_parts copy_form_of IsColumn column_part n l (omega (arith, length-append ts (tokens.Fixed fixed.Close ∷ (us ++ tokens.Text file ∷ [])))) (us ++ tokens.Text file ∷ []), read_copy way file) refl
+    rw (
+      read_parts copy_form_of IsColumn column_part n l (omega (arith, length-append ts (tokens.Fixed fixed.Close ∷ (us ++ tokens.Text file ∷ []))))
+          (us ++ tokens.Text file ∷ []),
+      read_copy way file,
+    ) refl
 read_statement (define_view {n = v} l w) n le = read_changed statements.View v l w n (omega arith)
 read_statement (define_permit l over c u w) n le = read_permit l over c u w n (omega arith)
 read_statement (define_integrity p) n le = rw (read_rule_qual p n (omega arith)) refl

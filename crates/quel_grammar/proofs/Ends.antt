@@ -63,7 +63,8 @@ sums_front last_sum rest ends = ends
 sums_front (next_sum plus p q) rest ends = record { power = refl; product = refl }
 sums_front (next_sum minus p q) rest ends = record { power = refl; product = refl }
 
-pub products_front : {left v : Term} {us : List Token} → IsProducts left us v → (rest : List Token) → first (is_fixed fixed.Power) rest ≡ None → first (is_fixed fixed.Power) (us ++ rest) ≡ None
+pub products_front : {left v : Term} {us : List Token} → IsProducts left us v → (rest : List Token) → first (is_fixed fixed.Power) rest ≡ None
+    → first (is_fixed fixed.Power) (us ++ rest) ≡ None
 products_front last_product rest ends = ends
 products_front (next_product times p q) rest ends = refl
 products_front (next_product divide p q) rest ends = refl

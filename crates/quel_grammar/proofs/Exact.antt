@@ -74,13 +74,15 @@ module _ {A B : Type 0} (L1 : Lang A) (L : Lang B) (k : ℕ) (r r2 : Reader A) (
     front = took.front ++ second.front;
     same = took.same ∙ ap (λ us. took.front ++ us) second.same ∙ sym (append_assoc took.front second.front y.1);
     whole = second.whole;
-    keeps = λ lt b same. rw append_assoc (ap (λ x. x >>= f2) (keeps_first k r2 v took.front rest took.keeps second.front y.1 second.same lt b same) ∙ second.keeps (omega (arith, length-append took.front second.front)) b same);
+    keeps = λ lt b same. rw append_assoc (ap (λ x. x >>= f2) (keeps_first k r2 v took.front rest took.keeps second.front y.1 second.same lt b same) ∙ second.keeps
+        (omega (arith, length-append took.front second.front)) b same);
   }
   after_took ts v rest took (Err s) second = record {
     front = took.front ++ second.front;
     same = took.same ∙ ap (λ us. took.front ++ us) second.same ∙ sym (append_assoc took.front second.front s);
     begins = record { more = second.begins.more; value = second.begins.value; whole = regroup L took.front second.front _ _ second.begins.whole };
-    keeps = λ lt b same. rw append_assoc (ap (λ x. x >>= f2) (keeps_first k r2 v took.front rest took.keeps second.front s second.same lt b same) ∙ second.keeps (omega (arith, length-append took.front second.front)) b same);
+    keeps = λ lt b same. rw append_assoc (ap (λ x. x >>= f2) (keeps_first k r2 v took.front rest took.keeps second.front s second.same lt b same) ∙ second.keeps
+        (omega (arith, length-append took.front second.front)) b same);
   }
 
   bind_at : (ts : List Token) (x : Read A) → Reads L1 k r2 ts x
@@ -131,7 +133,13 @@ exact_none L r2 begins = record { at = λ ts. record { front = []; same = refl; 
 
 map_at : {A B : Type 0} (L1 : Lang A) (L : Lang B) (k : ℕ) (g : A → B) (r2 : Reader A) (ts : List Token) (x : Read A) → ((front : List Token) (v : A) → L1 front v → L front (g v))
     → Reads L1 k r2 ts x → Reads L k (λ us. r2 us >>= λ y. Ok (g y.0, y.1)) ts (x >>= λ y. Ok (g y.0, y.1))
-map_at L1 L k g r2 ts (Ok x) join took = record { front = took.front; same = took.same; whole = join _ _ took.whole; keeps = λ lt b same. ap (λ x. x >>= λ y. Ok (g y.0, y.1)) (took.keeps lt b same) }
+map_at L1 L k g r2 ts (Ok x) join took = record {
+  front = took.front;
+  same = took.same;
+  whole = join _ _ took.whole;
+  keeps = λ lt b same. ap (λ x. x >>= λ y. Ok (g y.0, y.1))
+      (took.keeps lt b same);
+}
 map_at L1 L k g r2 ts (Err s) join stopped = record {
   front = stopped.front;
   same = stopped.same;
@@ -143,7 +151,8 @@ pub exact_map : {A B : Type 0} (L1 : Lang A) (L : Lang B) (k : ℕ) (g : A → B
     → Exact L k (λ us. r us >>= λ y. Ok (g y.0, y.1)) (λ us. r2 us >>= λ y. Ok (g y.0, y.1))
 exact_map L1 L k g r r2 join e = record { at = λ ts. map_at L1 L k g r2 ts (r ts) join (e.at ts) }
 
-as_at : {A : Type 0} (L1 L : Lang A) (k : ℕ) (r2 : Reader A) (ts : List Token) (x : Read A) → ((front : List Token) (v : A) → L1 front v → L front v) → Reads L1 k r2 ts x → Reads L k r2 ts x
+as_at : {A : Type 0} (L1 L : Lang A) (k : ℕ) (r2 : Reader A) (ts : List Token) (x : Read A) → ((front : List Token) (v : A) → L1 front v → L front v) → Reads L1 k r2 ts x
+    → Reads L k r2 ts x
 as_at L1 L k r2 ts (Ok x) join took = record { front = took.front; same = took.same; whole = join _ _ took.whole; keeps = took.keeps }
 as_at L1 L k r2 ts (Err s) join stopped = record {
   front = stopped.front;
@@ -159,7 +168,8 @@ exact_as L1 L k r r2 join e = record { at = λ ts. as_at L1 L k r2 ts (r ts) joi
 
 token_at : {A : Type 0} (L : Lang A) (j k : ℕ) → k ≤ suc j → (r2 q2 : Reader A) (c : Token) (ts : List Token) (x : Read A) → ((us : List Token) → r2 (c ∷ us) ≡ q2 us)
     → Reads (λ us v. L (c ∷ us) v) j q2 ts x → Reads L k r2 (c ∷ ts) x
-token_at L j k le r2 q2 c ts (Ok x) e took = record { front = c ∷ took.front; same = ap (λ us. c ∷ us) took.same; whole = took.whole; keeps = λ lt b same. e _ ∙ took.keeps (omega arith) b same }
+token_at L j k le r2 q2 c ts (Ok x) e took =
+    record { front = c ∷ took.front; same = ap (λ us. c ∷ us) took.same; whole = took.whole; keeps = λ lt b same. e _ ∙ took.keeps (omega arith) b same }
 token_at L j k le r2 q2 c ts (Err s) e stopped = record {
   front = c ∷ stopped.front;
   same = ap (λ us. c ∷ us) stopped.same;

@@ -28,7 +28,8 @@ module _ {A : Type 0} (Is : Lang A) (k : ℕ) (r r2 : Reader A) (item : Exact Is
   exact_behind (suc n) (suc m) le le2 before = exact_bind Is _ (suc n) r r2 _ _ (weaken Is (suc n) k le r r2 item)
       (λ front x p. record { more = []; value = before ++ x ∷ []; whole = (x ∷ [], last (rw append-nil p), refl) })
       (λ front x p. exact_found _ n fixed.Comma _ _ _ _
-      (exact_as (ListBehind Is (before ++ x ∷ [])) _ n _ _ (λ us all q. (x ∷ q.0, next p q.1, sym (append_assoc before (x ∷ []) q.0) ∙ q.2)) (exact_behind n m (omega arith) (omega arith) (before ++ x ∷ [])))
+      (exact_as (ListBehind Is (before ++ x ∷ [])) _ n _ _ (λ us all q. (x ∷ q.0, next p q.1, sym (append_assoc before (x ∷ []) q.0) ∙ q.2))
+      (exact_behind n m (omega arith) (omega arith) (before ++ x ∷ [])))
       (exact_done _ (suc n) (before ++ x ∷ []) (x ∷ [], last (rw append-nil p), refl)))
 
   pub exact_list : (n m : ℕ) → n ≤ k → n ≤ m → Exact (IsList Is) n (list_by r n []) (list_by r2 m [])
@@ -64,7 +65,8 @@ close_bind : {A B : Type 0} (v : A) (g : A × List Token → Read B) (o : Read (
 close_bind v g (Ok x) = refl
 close_bind v g (Err e) = refl
 
-closed_bind : {A B : Type 0} (g : A × List Token → Read B) (o : Read A) → ((o >>= λ x. after fixed.Close x.1 >>= λ close. Ok (x.0, close.1)) >>= g) ≡ (o >>= λ x. after fixed.Close x.1 >>= λ close. g (x.0, close.1))
+closed_bind : {A B : Type 0} (g : A × List Token → Read B) (o : Read A)
+    → ((o >>= λ x. after fixed.Close x.1 >>= λ close. Ok (x.0, close.1)) >>= g) ≡ (o >>= λ x. after fixed.Close x.1 >>= λ close. g (x.0, close.1))
 closed_bind g (Ok x) = close_bind x.0 g (after fixed.Close x.1)
 closed_bind g (Err e) = refl
 
@@ -75,7 +77,8 @@ module _ {A B : Type 0} (Is : Lang A) (L : Lang B) (k : ℕ) (r r2 : Reader A) (
       → Exact L k (λ us. closed r us >>= g) (λ us. closed r2 us >>= g2)
   unfolding closed
   exact_closed begins go = exact_same L k _ _ _ _ (λ us. closed_bind g (r us)) (λ us. closed_bind g2 (r2 us))
-      (exact_bind Is L k r r2 _ _ item (λ ts v p. let b = begins ts v p in record { more = b.more; value = b.value; whole = b.whole }) (λ ts v p. exact_after _ k fixed.Close _ _ (begins ts v p) (go ts v p)))
+      (exact_bind Is L k r r2 _ _ item (λ ts v p. let b = begins ts v p in record { more = b.more; value = b.value; whole = b.whole })
+      (λ ts v p. exact_after _ k fixed.Close _ _ (begins ts v p) (go ts v p)))
 
 module _ {A B : Type 0} (Is : Lang A) (L : Lang B) (k : ℕ) (r r2 : Reader A) (g g2 : A × List Token → Read B) (item : Exact Is k r r2) where
   -- these in parentheses, and what follows
@@ -87,7 +90,8 @@ module _ {A B : Type 0} (Is : Lang A) (L : Lang B) (k : ℕ) (r r2 : Reader A) (
       (exact_after L k fixed.Open _ _ begins (exact_closed Is (λ us u. L (tokens.Fixed fixed.Open ∷ us) u) k r r2 g g2 item begins_close go))
 
 -- these and the closing parenthesis
-pub exact_just_closed : {A : Type 0} (Is L : Lang A) (k : ℕ) (r r2 : Reader A) → Exact Is k r r2 → ((ts : List Token) (v : A) → Is ts v → L (ts ++ one fixed.Close) v) → Exact L k (closed r) (closed r2)
+pub exact_just_closed : {A : Type 0} (Is L : Lang A) (k : ℕ) (r r2 : Reader A) → Exact Is k r r2 → ((ts : List Token) (v : A) → Is ts v → L (ts ++ one fixed.Close) v)
+    → Exact L k (closed r) (closed r2)
 unfolding closed
 exact_just_closed Is L k r r2 item join = exact_bind Is L k r r2 _ _ item (λ ts v p. record { more = one fixed.Close; value = v; whole = join ts v p })
     (λ ts v p. exact_after _ k fixed.Close _ _ (record { more = one fixed.Close; value = v; whole = join ts v p }) (exact_done _ k v (join ts v p)))

@@ -64,7 +64,8 @@ module _ (n m : ℕ) (le : n ≤ m) where
 
   exact_set_target : (v : List ℕ) → Exact (λ us u. IsTarget (tokens.Name v ∷ tokens.Fixed fixed.Equal ∷ us) u) n (set_target (level n) v) (set_target (level m) v)
   unfolding set_target
-  exact_set_target v = exact_map IsTerm _ n (λ t. items.Set v t) (term_by (level n)) (term_by (level m)) (λ us t p. set_ p) (fewer _ n _ _ (exact_term n (level n) (level m) (good n m le)))
+  exact_set_target v = exact_map IsTerm _ n (λ t. items.Set v t) (term_by (level n)) (term_by (level m)) (λ us t p. set_ p)
+      (fewer _ n _ _ (exact_term n (level n) (level m) (good n m le)))
 
   exact_target : Exact IsTarget n (target_by (level n)) (target_by (level m))
   unfolding target_by
@@ -81,14 +82,16 @@ is_direction c b on = rw on.same (looked_up (λ w b. IsDirection (tokens.Fixed f
 exact_direction : (k : ℕ) → Exact IsDirection k direction_at direction_at
 unfolding direction_at
 exact_direction k = exact_found_same _ k fixed.Colon _ _ _ _
-    (exact_only _ k (on_name (look_up directions)) (record { more = word (codes "a"); value = false; whole = up }) (λ c b e. is_direction c b (is_on_name (look_up directions) c b e))) (exact_done _ k false undirected)
+    (exact_only _ k (on_name (look_up directions)) (record { more = word (codes "a"); value = false; whole = up })
+    (λ c b e. is_direction c b (is_on_name (look_up directions) c b e))) (exact_done _ k false undirected)
 
 one_key : IsKey (word x) (x, false)
 one_key = key undirected
 
 exact_key : (k : ℕ) → Exact IsKey k key_at key_at
 unfolding key_at
-exact_key k = exact_name _ k _ _ (record { more = word x; value = (x, false); whole = one_key }) (λ n. exact_map IsDirection _ k (λ down. (n, down)) direction_at direction_at (λ us down p. key p) (exact_direction k))
+exact_key k = exact_name _ k _ _ (record { more = word x; value = (x, false); whole = one_key })
+    (λ n. exact_map IsDirection _ k (λ down. (n, down)) direction_at direction_at (λ us down p. key p) (exact_direction k))
 
 one_keys : IsList IsKey (word x) ((x, false) ∷ [])
 one_keys = last one_key
@@ -96,7 +99,8 @@ one_keys = last one_key
 exact_keys : (n m : ℕ) → n ≤ m → Exact (λ us u. IsSort (tokens.Fixed fixed.Sort ∷ us) u) n (keys_by n) (keys_by m)
 unfolding keys_by
 exact_keys n m le = exact_after _ n fixed.By _ _ (record { more = one fixed.By ++ word x; value = (x, false) ∷ []; whole = sorted one_keys })
-    (exact_as (IsList IsKey) _ n _ _ (λ us ks p. sorted p) (exact_list IsKey n key_at key_at (exact_key n) (record { more = word x; value = (x, false); whole = one_key }) n m (omega arith) le))
+    (exact_as (IsList IsKey) _ n _ _ (λ us ks p. sorted p)
+    (exact_list IsKey n key_at key_at (exact_key n) (record { more = word x; value = (x, false); whole = one_key }) n m (omega arith) le))
 
 pub exact_sort : (n m : ℕ) → n ≤ m → Exact IsSort n (sort_by n) (sort_by m)
 unfolding sort_by
@@ -130,7 +134,8 @@ both true true e = (refl, refl)
 both true false e = absurd cc
 both false b e = absurd cc
 
-width_if : (b : ℕ) (digits : List ℕ) (width : ℕ) (c : Bool) → ((b == 99) && is_width digits) ≡ c → elim c [ true ↦ Some (number_of digits) | false ↦ None ] ≡ Some width → HasWidth (b ∷ digits) width
+width_if : (b : ℕ) (digits : List ℕ) (width : ℕ) (c : Bool) → ((b == 99) && is_width digits) ≡ c → elim c [ true ↦ Some (number_of digits) | false ↦ None ] ≡ Some width
+    → HasWidth (b ∷ digits) width
 width_if b digits width true e f =
     let parts = both (b == 99) (is_width digits) e in
     record { digits = digits; same = ap (λ a. a ∷ digits) (eqb-true b 99 parts.0); lawful = parts.1; value = let g : number_of digits ≡ width = cc in g }
@@ -152,9 +157,11 @@ format_is w None d e f = looked_up (λ w d. IsFormat (word w) d) number_formats 
 
 copy_form_is : (w : List ℕ) (o : Option ℕ) (form : CopyForm) → width_of w ≡ o → copy_form_or w o ≡ Some form → IsCopyForm (word w) form
 copy_form_is w (Some width) form e f = let g : forms.Fixed width ≡ form = cc in rw (← g) (wide_of w width (has_width w width e))
-copy_form_is w None form e f = looked_up (λ w form. IsCopyForm (word w) form) copy_forms w form (bytes1, (bytes2, (bytes4, (to_tab, (to_newline, (to_blank, (to_comma, (to_colon, tt)))))))) f
+copy_form_is w None form e f = looked_up (λ w form. IsCopyForm (word w) form) copy_forms w form
+    (bytes1, (bytes2, (bytes4, (to_tab, (to_newline, (to_blank, (to_comma, (to_colon, tt)))))))) f
 
-module _ {X : Type 0} (f : List ℕ → Option X) (Is : Lang (List ℕ × X)) (k : ℕ) (known : (n w : List ℕ) (v : X) → f w ≡ Some v → Is (tokens.Name n ∷ tokens.Fixed fixed.Equal ∷ word w) (n, v)) (w : List ℕ) (v : X) (some : f w ≡ Some v) where
+module _ {X : Type 0} (f : List ℕ → Option X) (Is : Lang (List ℕ × X)) (k : ℕ)
+    (known : (n w : List ℕ) (v : X) → f w ≡ Some v → Is (tokens.Name n ∷ tokens.Fixed fixed.Equal ∷ word w) (n, v)) (w : List ℕ) (v : X) (some : f w ≡ Some v) where
   named_is : (n : List ℕ) (c : Token) (v : X) → IsOnName f c v → Is (tokens.Name n ∷ tokens.Fixed fixed.Equal ∷ c ∷ []) (n, v)
   named_is n c v on = rw on.same (known n on.said v on.known)
 
@@ -162,10 +169,12 @@ module _ {X : Type 0} (f : List ℕ → Option X) (Is : Lang (List ℕ × X)) (k
   unfolding named_at
   exact_named_at = exact_name Is k _ _ (record { more = tokens.Name x ∷ tokens.Fixed fixed.Equal ∷ word w; value = (x, v); whole = known x w v some })
       (λ n. exact_after _ k fixed.Equal _ _ (record { more = tokens.Fixed fixed.Equal ∷ word w; value = (n, v); whole = known n w v some })
-      (exact_expect _ k (on_name f) _ _ (record { more = word w; value = (n, v); whole = known n w v some }) (λ c u e. exact_done _ k (n, u) (named_is n c u (is_on_name f c u e)))))
+      (exact_expect _ k (on_name f) _ _ (record { more = word w; value = (n, v); whole = known n w v some })
+      (λ c u e. exact_done _ k (n, u) (named_is n c u (is_on_name f c u e)))))
 
   pub exact_parts : (m : ℕ) → k ≤ m → Exact (IsList Is) k (list_by (named_at f) k []) (list_by (named_at f) m [])
-  exact_parts m le = exact_list Is k _ _ exact_named_at (record { more = tokens.Name x ∷ tokens.Fixed fixed.Equal ∷ word w; value = (x, v); whole = known x w v some }) k m (omega arith) le
+  exact_parts m le = exact_list Is k _ _ exact_named_at (record { more = tokens.Name x ∷ tokens.Fixed fixed.Equal ∷ word w; value = (x, v); whole = known x w v some }) k m
+      (omega arith) le
 
 pub declared_is : (n w : List ℕ) (d : Domain) → format_of w ≡ Some d → IsDeclared (tokens.Name n ∷ tokens.Fixed fixed.Equal ∷ word w) (n, d)
 declared_is n w d e = declared (format_is w (width_of w) d refl e)
@@ -199,7 +208,9 @@ is_number (tokens.Text t) y e = absurd cc
 pub exact_numbers : (n m : ℕ) → n ≤ m → Exact IsNumbers n (numbers_at n) (numbers_at m)
 unfolding numbers_at
 exact_numbers n m le = exact_found_same _ n fixed.All _ _ _ _ (exact_done _ n [] all_numbers)
-    (exact_as (IsList IsNumber) _ n _ _ (λ us ns p. listed p) (exact_list IsNumber n _ _ (exact_only IsNumber n small_number (record { more = _; value = _; whole = one_number }) is_number) (record { more = _; value = _; whole = one_number }) n m (omega arith) le))
+    (exact_as (IsList IsNumber) _ n _ _ (λ us ns p. listed p)
+    (exact_list IsNumber n _ _ (exact_only IsNumber n small_number (record { more = _; value = _; whole = one_number }) is_number)
+    (record { more = _; value = _; whole = one_number }) n m (omega arith) le))
 
 -- ---- structures
 
@@ -216,11 +227,13 @@ data IsKeyed : List ℕ → Spec → Type 0 where
   keyed_isam : IsKeyed (codes "isam") structures.Isam
 
 module _ (n m : ℕ) (le : n ≤ m) where
-  exact_keyed_as : (w : List ℕ) (s : Spec) → IsKeyed w s → Exact (λ us v. Structured (tokens.Name w ∷ us) v) n (λ us. on_by n us >>= λ keys. Ok ((s, keys.0), keys.1)) (λ us. on_by m us >>= λ keys. Ok ((s, keys.0), keys.1))
+  exact_keyed_as : (w : List ℕ) (s : Spec) → IsKeyed w s
+      → Exact (λ us v. Structured (tokens.Name w ∷ us) v) n (λ us. on_by n us >>= λ keys. Ok ((s, keys.0), keys.1)) (λ us. on_by m us >>= λ keys. Ok ((s, keys.0), keys.1))
   exact_keyed_as w s keyed_hash = exact_map IsOn _ n (λ keys. (structures.Hash, keys)) (on_by n) (on_by m) (λ us keys p. hash p) (exact_on n m le)
   exact_keyed_as w s keyed_isam = exact_map IsOn _ n (λ keys. (structures.Isam, keys)) (on_by n) (on_by m) (λ us keys p. isam p) (exact_on n m le)
 
-  exact_keyed_on : (c : Token) (s : Spec) → IsOnName (look_up keyed_structures) c s → Exact (λ us v. Structured (c ∷ us) v) n (λ us. on_by n us >>= λ keys. Ok ((s, keys.0), keys.1)) (λ us. on_by m us >>= λ keys. Ok ((s, keys.0), keys.1))
+  exact_keyed_on : (c : Token) (s : Spec) → IsOnName (look_up keyed_structures) c s
+      → Exact (λ us v. Structured (c ∷ us) v) n (λ us. on_by n us >>= λ keys. Ok ((s, keys.0), keys.1)) (λ us. on_by m us >>= λ keys. Ok ((s, keys.0), keys.1))
   exact_keyed_on c s on = rw on.same (exact_keyed_as on.said s (looked_up IsKeyed keyed_structures on.said s (keyed_hash, (keyed_isam, tt)) on.known))
 
   pub one_structure : Starts Structured []
@@ -231,11 +244,13 @@ module _ (n m : ℕ) (le : n ≤ m) where
   exact_keyed = exact_expect Structured n (on_name (look_up keyed_structures)) _ _ one_structure (λ c s e. exact_keyed_on c s (is_on_name (look_up keyed_structures) c s e))
 
   exact_heap : (c : Token) (u : Unit {0}) → IsOnName (look_up heaps) c u → Exact (λ us v. Structured (c ∷ us) v) n (done (structures.Heap, [])) (done (structures.Heap, []))
-  exact_heap c u on = rw (on.same, looked_up (λ w u. w ≡ codes "heap") heaps on.said u (refl, tt) on.known) (exact_done (λ us v. Structured (tokens.Name (codes "heap") ∷ us) v) n (structures.Heap, []) heap)
+  exact_heap c u on = rw (on.same, looked_up (λ w u. w ≡ codes "heap") heaps on.said u (refl, tt) on.known)
+      (exact_done (λ us v. Structured (tokens.Name (codes "heap") ∷ us) v) n (structures.Heap, []) heap)
 
   pub exact_structure : Exact Structured n (structure_by n) (structure_by m)
   unfolding structure_by
-  exact_structure = exact_first Structured n n (omega arith) (on_name (look_up heaps)) _ _ (λ u. done (structures.Heap, [])) (λ u. done (structures.Heap, [])) (λ c u e. exact_heap c u (is_on_name (look_up heaps) c u e)) exact_keyed
+  exact_structure = exact_first Structured n n (omega arith) (on_name (look_up heaps)) _ _ (λ u. done (structures.Heap, [])) (λ u. done (structures.Heap, []))
+      (λ c u e. exact_heap c u (is_on_name (look_up heaps) c u e)) exact_keyed
 
 -- ---- permits
 
@@ -255,7 +270,8 @@ one_operation = last may_retrieve
 
 pub exact_operations : (n m : ℕ) → n ≤ m → Exact (IsList IsOperation) n (list_by (expect (on_fixed operation_of)) n []) (list_by (expect (on_fixed operation_of)) m [])
 exact_operations n m le = exact_list IsOperation n _ _
-    (exact_only IsOperation n (on_fixed operation_of) (record { more = one fixed.Retrieve; value = 1; whole = may_retrieve }) (λ c y e. is_operation c y (is_on_fixed operation_of c y e)))
+    (exact_only IsOperation n (on_fixed operation_of) (record { more = one fixed.Retrieve; value = 1; whole = may_retrieve })
+    (λ c y e. is_operation c y (is_on_fixed operation_of c y e)))
     (record { more = one fixed.Retrieve; value = 1; whole = may_retrieve }) n m (omega arith) le
 
 over_is : (f : Fixed) (u : Unit {0}) → over_word f ≡ Some u → IsOver (one f)

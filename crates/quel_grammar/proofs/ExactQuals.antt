@@ -53,14 +53,17 @@ one_neg : IsNeg (zero_token ∷ tokens.Fixed fixed.Equal ∷ zero_token ∷ []) 
 one_neg = compared one_term equal one_term
 
 module _ (k : ℕ) (l l2 : Lower) (good : Good k l l2) where
-  exact_right_side : (front : List Token) (t : Term) → IsTerm front t → (c : Token) (op : CmpOp) → IsOnFixed comparison_of c op → Exact (λ us u. Operand (front ++ c ∷ us) u) k (right_side_by l t op) (right_side_by l2 t op)
+  exact_right_side : (front : List Token) (t : Term) → IsTerm front t → (c : Token) (op : CmpOp) → IsOnFixed comparison_of c op
+      → Exact (λ us u. Operand (front ++ c ∷ us) u) k (right_side_by l t op) (right_side_by l2 t op)
   unfolding right_side_by
   exact_right_side front t p c op on = rw on.same
-      (exact_map IsTerm _ k (λ u. Whole (quals.Cmp op t u)) (term_by l) (term_by l2) (λ us u q. compared p (is_comparison on.said op on.known) q) (fewer _ k _ _ (exact_term k l l2 good)))
+      (exact_map IsTerm _ k (λ u. Whole (quals.Cmp op t u)) (term_by l) (term_by l2) (λ us u q. compared p (is_comparison on.said op on.known) q)
+      (fewer _ k _ _ (exact_term k l l2 good)))
 
   exact_compare : (front : List Token) (t : Term) → IsTerm front t → Exact (λ us u. Operand (front ++ us) u) (suc k) (compare_by l t) (compare_by l2 t)
   unfolding compare_by
-  exact_compare front t p = exact_first _ k (suc k) (omega arith) comparison _ _ (right_side_by l t) (right_side_by l2 t) (λ c op e. exact_right_side front t p c op (is_on_fixed comparison_of c op e)) (exact_done _ (suc k) (Bare t) (rw append-nil p))
+  exact_compare front t p = exact_first _ k (suc k) (omega arith) comparison _ _ (right_side_by l t) (right_side_by l2 t)
+      (λ c op e. exact_right_side front t p c op (is_on_fixed comparison_of c op e)) (exact_done _ (suc k) (Bare t) (rw append-nil p))
 
   exact_compared : Exact Operand (suc k) (compared_by l) (compared_by l2)
   unfolding compared_by
@@ -76,14 +79,16 @@ module _ (k : ℕ) (l l2 : Lower) (good : Good k l l2) where
       (λ front3 v r. exact_as (IsSums v) (λ us w. IsTerm (front ++ (front2 ++ (front3 ++ us))) w) (suc k) (sums_by l v) (sums_by l2 v)
       (λ us w s. let t : IsTerm (((front ++ front2) ++ front3) ++ us) w = sum (product q r) s in simp append_assoc at t) (exact_sums k l l2 good v)))
 
-  exact_grouped : (m : Mixed) (us : List Token) → Mix us m → Exact (λ vs u. Operand (tokens.Fixed fixed.Open ∷ us ++ tokens.Fixed fixed.Close ∷ vs) u) k (grouped_by l m) (grouped_by l2 m)
+  exact_grouped : (m : Mixed) (us : List Token) → Mix us m
+      → Exact (λ vs u. Operand (tokens.Fixed fixed.Open ∷ us ++ tokens.Fixed fixed.Close ∷ vs) u) k (grouped_by l m) (grouped_by l2 m)
   unfolding grouped_by
   exact_grouped (Whole q) us p = exact_done _ k (Whole q) (grouped p)
   exact_grouped (Bare t) us p = let front = tokens.Fixed fixed.Open ∷ us ++ one fixed.Close in
       let whole : Exact (λ vs u. Operand (front ++ vs) u) k (grouped_by l (Bare t)) (grouped_by l2 (Bare t)) =
       exact_bind (λ vs u. IsTerm (front ++ vs) u) (λ vs u. Operand (front ++ vs) u) k (term_from l t) (term_from l2 t) _ _ (fewer _ k _ _ (exact_from front t (prim (group p))))
       (λ front2 u q. starts_whole (λ vs u. Operand (front ++ vs) u) front2 (Bare u) q)
-      (λ front2 u q. exact_as (λ vs u. Operand ((front ++ front2) ++ vs) u) _ k _ _ (λ vs m. ungroup Operand front front2 vs m) (fewer _ k _ _ (exact_compare (front ++ front2) u q)))
+      (λ front2 u q. exact_as (λ vs u. Operand ((front ++ front2) ++ vs) u) _ k _ _ (λ vs m. ungroup Operand front front2 vs m)
+      (fewer _ k _ _ (exact_compare (front ++ front2) u q)))
       in exact_as (λ vs u. Operand (front ++ vs) u) _ k _ _ (λ vs m. ungroup Operand (tokens.Fixed fixed.Open ∷ us) (one fixed.Close) vs m) whole
 
   starts_group : (m : Mixed) (us : List Token) → Mix us m → Starts (λ vs u. Operand (tokens.Fixed fixed.Open ∷ us ++ vs) u) []
@@ -106,7 +111,8 @@ module _ (k : ℕ) (l l2 : Lower) (good : Good k l l2) where
 
   exact_demanded_neg : (front : List Token) (m : Mixed) → Operand front m → Exact (λ us q. IsNeg (front ++ us) q) (suc k) (demanded m) (demanded m)
   exact_demanded_neg front (Whole q) p = exact_done _ (suc k) q (rw append-nil p)
-  exact_demanded_neg front (Bare t) p = exact_stop _ (suc k) (record { more = tokens.Fixed fixed.Equal ∷ zero_token ∷ []; value = quals.Cmp comparisons.Eq t zero_term; whole = compared p equal one_term })
+  exact_demanded_neg front (Bare t) p = exact_stop _ (suc k)
+      (record { more = tokens.Fixed fixed.Equal ∷ zero_token ∷ []; value = quals.Cmp comparisons.Eq t zero_term; whole = compared p equal one_term })
 
   starts_neg : (front : List Token) (m : Mixed) → Operand front m → Starts IsNeg front
   starts_neg front (Whole q) p = starts_whole IsNeg front q p
@@ -154,7 +160,12 @@ module _ (k : ℕ) (l l2 : Lower) (good : Good k l l2) where
 
   starts_operand : (front : List Token) (m : Mixed) → Operand front m → Starts Mix front
   starts_operand front (Bare t) p = starts_whole Mix front (Bare t) p
-  starts_operand front (Whole q) p = record { more = []; value = Whole q; whole = let c : IsQual ((front ++ []) ++ []) q = choice (conjunction p last_and) last_or in rw (append-nil (front ++ [])) at c }
+  starts_operand front (Whole q) p = record {
+    more = [];
+    value = Whole q;
+    whole = let c : IsQual ((front ++ []) ++ []) q = choice (conjunction p last_and) last_or in rw
+        (append-nil (front ++ [])) at c;
+  }
 
   exact_mixed : Exact Mix (suc k) (mixed_by l) (mixed_by l2)
   unfolding mixed_by

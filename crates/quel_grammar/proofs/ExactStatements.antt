@@ -77,7 +77,12 @@ module _ (n m : ℕ) (le : n ≤ m) where
       (λ r. exact_done _ n (statements.Range v r) range))))
 
   starts_retrieve : (us rs : List Token) (r : Option (List ℕ)) → IsUnique us → IsInto rs r → Starts (λ vs s. IsStatement (tokens.Fixed fixed.Retrieve ∷ us ++ (rs ++ vs)) s) []
-  starts_retrieve us rs r p q = record { more = tokens.Fixed fixed.Open ∷ word x ++ one fixed.Dot ++ word x ++ one fixed.Close; value = _; whole = retrieve p q one_targets unqualified unsorted }
+  starts_retrieve us rs r p q = record {
+    more = tokens.Fixed fixed.Open ∷ word x ++ one fixed.Dot ++ word x ++ one fixed.Close;
+    value = _;
+    whole =
+        retrieve p q one_targets unqualified unsorted;
+  }
 
   exact_retrieve : Exact (Behind (one fixed.Retrieve)) n (retrieve_by n (level n)) (retrieve_by m (level m))
   unfolding retrieve_by
@@ -92,10 +97,12 @@ module _ (n m : ℕ) (le : n ≤ m) where
       (λ ws c w. exact_map IsSort _ n (λ k. statements.Retrieve r xs c k) (sort_by n) (sort_by m) (λ ks k o. retrieve p q t w o) (exact_sort n m le)))))
 
   exact_changed : (L : Lang Statement) (make : List ℕ → List Item → Qual → Statement)
-      → ((r : List ℕ) (ts ws : List Token) (xs : List Item) (q : Qual) → IsList IsTarget ts xs → IsWhere ws q → L (tokens.Name r ∷ tokens.Fixed fixed.Open ∷ ts ++ tokens.Fixed fixed.Close ∷ ws) (make r xs q))
+      → ((r : List ℕ) (ts ws : List Token) (xs : List Item) (q : Qual) → IsList IsTarget ts xs → IsWhere ws q
+      → L (tokens.Name r ∷ tokens.Fixed fixed.Open ∷ ts ++ tokens.Fixed fixed.Close ∷ ws) (make r xs q))
       → Exact L n (changed_by n (level n) make) (changed_by m (level m) make)
   unfolding changed_by
-  exact_changed L make join = exact_name L n _ _ (record { more = tokens.Name x ∷ tokens.Fixed fixed.Open ∷ word x ++ one fixed.Dot ++ word x ++ one fixed.Close; value = _; whole = join x _ [] _ _ one_targets unqualified })
+  exact_changed L make join = exact_name L n _ _
+      (record { more = tokens.Name x ∷ tokens.Fixed fixed.Open ∷ word x ++ one fixed.Dot ++ word x ++ one fixed.Close; value = _; whole = join x _ [] _ _ one_targets unqualified })
       (λ r. exact_in_parens (IsList IsTarget) (λ us s. L (tokens.Name r ∷ us) s) n _ _ _ _ (exact_targets n m le)
       (record { more = tokens.Fixed fixed.Open ∷ word x ++ one fixed.Dot ++ word x ++ one fixed.Close; value = _; whole = join r _ [] _ _ one_targets unqualified })
       (λ ts xs t. record { more = one fixed.Close; value = _; whole = join r ts [] xs _ t unqualified })
@@ -104,7 +111,12 @@ module _ (n m : ℕ) (le : n ≤ m) where
   exact_append : Exact (Behind (one fixed.Append)) n (append_by n (level n)) (append_by m (level m))
   unfolding append_by
   exact_append = exact_bind (λ us u. IsTo us) _ n _ _ _ _ (exact_maybe (λ us u. IsTo us) n fixed.To without_to with_to)
-      (λ us u p. record { more = tokens.Name x ∷ tokens.Fixed fixed.Open ∷ word x ++ one fixed.Dot ++ word x ++ one fixed.Close; value = _; whole = append p one_targets unqualified })
+      (λ us u p. record {
+        more = tokens.Name x ∷ tokens.Fixed fixed.Open ∷ word x ++ one fixed.Dot ++ word x ++ one fixed.Close;
+        value = _;
+        whole =
+            append p one_targets unqualified;
+      })
       (λ us u p. exact_changed _ statements.Append (λ r ts ws xs q t w. append p t w))
 
   exact_delete : Exact (Behind (one fixed.Delete)) n (delete_by (level n)) (delete_by (level m))
@@ -116,7 +128,12 @@ module _ (n m : ℕ) (le : n ≤ m) where
 
   exact_create : Exact (Behind (one fixed.Create)) n (create_by n) (create_by m)
   unfolding create_by
-  exact_create = exact_name _ n _ _ (record { more = tokens.Name x ∷ tokens.Fixed fixed.Open ∷ tokens.Name x ∷ tokens.Fixed fixed.Equal ∷ tokens.Name (codes "i1") ∷ one fixed.Close; value = _; whole = create one_declared })
+  exact_create = exact_name _ n _ _ (record {
+    more = tokens.Name x ∷ tokens.Fixed fixed.Open ∷ tokens.Name x ∷ tokens.Fixed fixed.Equal ∷ tokens.Name
+        (codes "i1") ∷ one fixed.Close;
+    value = _;
+    whole = create one_declared;
+  })
       (λ r. exact_in_parens (IsList IsDeclared) _ n _ _ _ _ (exact_parts format_of IsDeclared n declared_is (codes "i1") domains.I1 one_format m le)
       (record { more = tokens.Fixed fixed.Open ∷ tokens.Name x ∷ tokens.Fixed fixed.Equal ∷ tokens.Name (codes "i1") ∷ one fixed.Close; value = _; whole = create one_declared })
       (λ ts xs p. record { more = one fixed.Close; value = _; whole = create p })
@@ -126,7 +143,8 @@ module _ (n m : ℕ) (le : n ≤ m) where
   unfolding destroy_names
   exact_destroy_names = exact_map (IsList IsName) _ n statements.Destroy _ _ (λ ts xs p. destroy p) (exact_names n m le)
 
-  exact_drop : (L : Lang Statement) (make : List ℕ → List ℕ → Statement) → ((r : List ℕ) (ts : List Token) (numbers : List ℕ) → IsNumbers ts numbers → L (tokens.Name r ∷ ts) (make r numbers)) → Exact L n (drop_by n make) (drop_by m make)
+  exact_drop : (L : Lang Statement) (make : List ℕ → List ℕ → Statement)
+      → ((r : List ℕ) (ts : List Token) (numbers : List ℕ) → IsNumbers ts numbers → L (tokens.Name r ∷ ts) (make r numbers)) → Exact L n (drop_by n make) (drop_by m make)
   unfolding drop_by
   exact_drop L make join = exact_name L n _ _ (record { more = tokens.Name x ∷ one fixed.All; value = _; whole = join x _ _ all_numbers })
       (λ r. exact_map IsNumbers _ n (make r) _ _ (λ ts numbers p. join r ts numbers p) (exact_numbers n m le))
@@ -136,12 +154,14 @@ module _ (n m : ℕ) (le : n ≤ m) where
   exact_dropped fixed.Integrity make e = let g : statements.DropRules ≡ make = cc in rw (← g) (exact_drop _ statements.DropRules (λ r ts numbers p. destroy_integrity p))
   exact_dropped _ make e = absurd cc
 
-  exact_drop_on : (c : Token) (make : List ℕ → List ℕ → Statement) → IsOnFixed drop_of c make → Exact (λ us s. IsStatement (tokens.Fixed fixed.Destroy ∷ c ∷ us) s) n (drop_by n make) (drop_by m make)
+  exact_drop_on : (c : Token) (make : List ℕ → List ℕ → Statement) → IsOnFixed drop_of c make
+      → Exact (λ us s. IsStatement (tokens.Fixed fixed.Destroy ∷ c ∷ us) s) n (drop_by n make) (drop_by m make)
   exact_drop_on c make on = rw on.same (exact_dropped on.said make on.known)
 
   exact_destroy : Exact (Behind (one fixed.Destroy)) n (destroy_by n) (destroy_by m)
   unfolding destroy_by
-  exact_destroy = exact_first _ n n (omega arith) (on_fixed drop_of) _ _ (drop_by n) (drop_by m) (λ c make e. exact_drop_on c make (is_on_fixed drop_of c make e)) exact_destroy_names
+  exact_destroy = exact_first _ n n (omega arith) (on_fixed drop_of) _ _ (drop_by n) (drop_by m)
+      (λ c make e. exact_drop_on c make (is_on_fixed drop_of c make e)) exact_destroy_names
 
   exact_modify : Exact (Behind (one fixed.Modify)) n (modify_by n) (modify_by m)
   unfolding modify_by
@@ -151,12 +171,29 @@ module _ (n m : ℕ) (le : n ≤ m) where
 
   exact_index : Exact (Behind (one fixed.Index)) n (index_by n) (index_by m)
   unfolding index_by
-  exact_index = exact_after _ n fixed.On _ _ (record { more = tokens.Fixed fixed.On ∷ tokens.Name x ∷ tokens.Fixed fixed.Is ∷ tokens.Name x ∷ tokens.Fixed fixed.Open ∷ tokens.Name x ∷ one fixed.Close; value = _; whole = index one_names })
-      (exact_name _ n _ _ (record { more = tokens.Name x ∷ tokens.Fixed fixed.Is ∷ tokens.Name x ∷ tokens.Fixed fixed.Open ∷ tokens.Name x ∷ one fixed.Close; value = _; whole = index one_names })
-      (λ r. exact_after _ n fixed.Is _ _ (record { more = tokens.Fixed fixed.Is ∷ tokens.Name x ∷ tokens.Fixed fixed.Open ∷ tokens.Name x ∷ one fixed.Close; value = _; whole = index one_names })
+  exact_index = exact_after _ n fixed.On _ _
+      (record {
+        more = tokens.Fixed fixed.On ∷ tokens.Name x ∷ tokens.Fixed fixed.Is ∷ tokens.Name x ∷ tokens.Fixed fixed.Open ∷ tokens.Name x ∷ one fixed.Close;
+        value = _;
+        whole =
+            index one_names;
+      })
+      (exact_name _ n _ _ (record {
+        more = tokens.Name x ∷ tokens.Fixed fixed.Is ∷ tokens.Name x ∷ tokens.Fixed fixed.Open ∷ tokens.Name x ∷ one fixed.Close;
+        value = _;
+        whole =
+            index one_names;
+      })
+      (λ r. exact_after _ n fixed.Is _ _ (record {
+        more = tokens.Fixed fixed.Is ∷ tokens.Name x ∷ tokens.Fixed fixed.Open ∷ tokens.Name x ∷ one fixed.Close;
+        value = _;
+        whole =
+            index one_names;
+      })
       (exact_name _ n _ _ (record { more = tokens.Name x ∷ tokens.Fixed fixed.Open ∷ tokens.Name x ∷ one fixed.Close; value = _; whole = index one_names })
       (λ name. exact_after _ n fixed.Open _ _ (record { more = tokens.Fixed fixed.Open ∷ tokens.Name x ∷ one fixed.Close; value = _; whole = index one_names })
-      (exact_closed (IsList IsName) _ n _ _ _ _ (exact_names n m le) (λ ts xs p. record { more = one fixed.Close; value = _; whole = index p }) (λ ts xs p. exact_done _ n (statements.Index r name xs) (index p)))))))
+      (exact_closed (IsList IsName) _ n _ _ _ _ (exact_names n m le) (λ ts xs p. record { more = one fixed.Close; value = _; whole = index p })
+      (λ ts xs p. exact_done _ n (statements.Index r name xs) (index p)))))))
 
   exact_print : Exact (Behind (one fixed.Print)) n (print_by n) (print_by m)
   unfolding print_by
@@ -166,18 +203,30 @@ module _ (n m : ℕ) (le : n ≤ m) where
   unfolding help_at
   exact_help = exact_if_name _ n _ _ _ _ (λ r. exact_done _ n (statements.Help (Some r)) help_about) (exact_done _ n (statements.Help None) help)
 
-  starts_copy : (r : List ℕ) (ts us : List Token) (xs : List (List ℕ × CopyForm)) (b : Bool) → IsList IsColumn ts xs → IsWay us b → Starts (λ vs s. IsStatement (tokens.Fixed fixed.Copy ∷ tokens.Name r ∷ tokens.Fixed fixed.Open ∷ ts ++ tokens.Fixed fixed.Close ∷ (us ++ vs)) s) []
+  starts_copy : (r : List ℕ) (ts us : List Token) (xs : List (List ℕ × CopyForm)) (b : Bool) → IsList IsColumn ts xs → IsWay us b
+      → Starts (λ vs s. IsStatement (tokens.Fixed fixed.Copy ∷ tokens.Name r ∷ tokens.Fixed fixed.Open ∷ ts ++ tokens.Fixed fixed.Close ∷ (us ++ vs)) s) []
   starts_copy r ts us xs b p way = record { more = tokens.Text [] ∷ []; value = statements.Copy r xs b []; whole = copy p way }
 
-  exact_file : (r : List ℕ) (ts us : List Token) (xs : List (List ℕ × CopyForm)) (b : Bool) → IsList IsColumn ts xs → IsWay us b → (c : Token) (file : List ℕ) → c ≡ tokens.Text file
+  exact_file : (r : List ℕ) (ts us : List Token) (xs : List (List ℕ × CopyForm)) (b : Bool) → IsList IsColumn ts xs → IsWay us b → (c : Token) (file : List ℕ)
+      → c ≡ tokens.Text file
       → IsStatement (tokens.Fixed fixed.Copy ∷ tokens.Name r ∷ tokens.Fixed fixed.Open ∷ ts ++ tokens.Fixed fixed.Close ∷ (us ++ c ∷ [])) (statements.Copy r xs b file)
   exact_file r ts us xs b p way c file e = rw e (copy p way)
 
   exact_copy : Exact (Behind (one fixed.Copy)) n (copy_by n) (copy_by m)
   unfolding copy_by
-  exact_copy = exact_name _ n _ _ (record { more = tokens.Name x ∷ tokens.Fixed fixed.Open ∷ tokens.Name x ∷ tokens.Fixed fixed.Equal ∷ tokens.Name (codes "i1") ∷ tokens.Fixed fixed.Close ∷ tokens.Fixed fixed.From ∷ tokens.Text [] ∷ []; value = _; whole = copy one_columns from })
+  exact_copy = exact_name _ n _ _ (record {
+    more = tokens.Name x ∷ tokens.Fixed fixed.Open ∷ tokens.Name x ∷ tokens.Fixed fixed.Equal ∷ tokens.Name
+        (codes "i1") ∷ tokens.Fixed fixed.Close ∷ tokens.Fixed fixed.From ∷ tokens.Text [] ∷ [];
+    value = _;
+    whole = copy one_columns from;
+  })
       (λ r. exact_in_parens (IsList IsColumn) _ n _ _ _ _ (exact_parts copy_form_of IsColumn n column_is (codes "i1") (forms.Bin 1) one_copy_form m le)
-      (record { more = tokens.Fixed fixed.Open ∷ tokens.Name x ∷ tokens.Fixed fixed.Equal ∷ tokens.Name (codes "i1") ∷ tokens.Fixed fixed.Close ∷ tokens.Fixed fixed.From ∷ tokens.Text [] ∷ []; value = _; whole = copy one_columns from })
+      (record {
+        more = tokens.Fixed fixed.Open ∷ tokens.Name x ∷ tokens.Fixed fixed.Equal ∷ tokens.Name
+            (codes "i1") ∷ tokens.Fixed fixed.Close ∷ tokens.Fixed fixed.From ∷ tokens.Text [] ∷ [];
+        value = _;
+        whole = copy one_columns from;
+      })
       (λ ts xs p. record { more = tokens.Fixed fixed.Close ∷ tokens.Fixed fixed.From ∷ tokens.Text [] ∷ []; value = _; whole = copy p from })
       (λ ts xs p. exact_expect _ n (on_fixed way_of) _ _ (record { more = tokens.Fixed fixed.From ∷ tokens.Text [] ∷ []; value = _; whole = copy p from })
       (λ c b e. exact_expect _ n text_of _ _ (starts_copy r ts (c ∷ []) xs b p (is_way c b e))
@@ -187,18 +236,41 @@ module _ (n m : ℕ) (le : n ≤ m) where
 
   exact_rule : Exact (Behind (tokens.Fixed fixed.Define ∷ one fixed.Integrity)) n (rule_by (level n)) (rule_by (level m))
   unfolding rule_by
-  exact_rule = exact_after _ n fixed.On _ _ (record { more = tokens.Fixed fixed.On ∷ tokens.Name x ∷ tokens.Fixed fixed.Is ∷ tokens.Int 0 ∷ tokens.Fixed fixed.Equal ∷ tokens.Int 0 ∷ []; value = _; whole = define_integrity one_qual })
-      (exact_name _ n _ _ (record { more = tokens.Name x ∷ tokens.Fixed fixed.Is ∷ tokens.Int 0 ∷ tokens.Fixed fixed.Equal ∷ tokens.Int 0 ∷ []; value = _; whole = define_integrity one_qual })
-      (λ v. exact_after _ n fixed.Is _ _ (record { more = tokens.Fixed fixed.Is ∷ tokens.Int 0 ∷ tokens.Fixed fixed.Equal ∷ tokens.Int 0 ∷ []; value = _; whole = define_integrity one_qual })
+  exact_rule = exact_after _ n fixed.On _ _
+      (record {
+        more = tokens.Fixed fixed.On ∷ tokens.Name x ∷ tokens.Fixed fixed.Is ∷ tokens.Int 0 ∷ tokens.Fixed fixed.Equal ∷ tokens.Int 0 ∷ [];
+        value = _;
+        whole =
+            define_integrity one_qual;
+      })
+      (exact_name _ n _ _ (record {
+        more = tokens.Name x ∷ tokens.Fixed fixed.Is ∷ tokens.Int 0 ∷ tokens.Fixed fixed.Equal ∷ tokens.Int 0 ∷ [];
+        value = _;
+        whole =
+            define_integrity one_qual;
+      })
+      (λ v. exact_after _ n fixed.Is _ _ (record {
+        more = tokens.Fixed fixed.Is ∷ tokens.Int 0 ∷ tokens.Fixed fixed.Equal ∷ tokens.Int 0 ∷ [];
+        value = _;
+        whole =
+            define_integrity one_qual;
+      })
       (exact_map IsQual _ n (statements.Rule v) _ _ (λ ts q p. define_integrity p) (fewer _ n _ _ (exact_qual n (level n) (level m) (good n m le))))))
 
   -- what may stand behind the operations of a permit
   exact_permit : Exact (Behind (tokens.Fixed fixed.Define ∷ one fixed.Permit)) n (permit_by n (level n)) (permit_by m (level m))
   unfolding permit_by
   exact_permit = exact_bind (IsList IsOperation) _ n _ _ _ _ (exact_operations n m le)
-      (λ os sums p. record { more = tokens.Fixed fixed.On ∷ tokens.Name x ∷ tokens.Fixed fixed.To ∷ one fixed.All; value = _; whole = define_permit p over_on whole everyone unqualified })
-      (λ os sums p. exact_expect _ n (on_fixed over_word) _ _ (record { more = tokens.Fixed fixed.On ∷ tokens.Name x ∷ tokens.Fixed fixed.To ∷ one fixed.All; value = _; whole = define_permit p over_on whole everyone unqualified })
-      (λ c u e. let over = is_over c u e in exact_name _ n _ _ (record { more = tokens.Name x ∷ tokens.Fixed fixed.To ∷ one fixed.All; value = _; whole = define_permit p over whole everyone unqualified })
+      (λ os sums p. record {
+        more = tokens.Fixed fixed.On ∷ tokens.Name x ∷ tokens.Fixed fixed.To ∷ one fixed.All;
+        value = _;
+        whole =
+            define_permit p over_on whole everyone unqualified;
+      })
+      (λ os sums p. exact_expect _ n (on_fixed over_word) _ _
+      (record { more = tokens.Fixed fixed.On ∷ tokens.Name x ∷ tokens.Fixed fixed.To ∷ one fixed.All; value = _; whole = define_permit p over_on whole everyone unqualified })
+      (λ c u e. let over = is_over c u e in exact_name _ n _ _
+      (record { more = tokens.Name x ∷ tokens.Fixed fixed.To ∷ one fixed.All; value = _; whole = define_permit p over whole everyone unqualified })
       (λ v. exact_bind IsCovered _ n _ _ _ _ (exact_covered n m le)
       (λ cs names q. record { more = tokens.Fixed fixed.To ∷ one fixed.All; value = _; whole = define_permit p over q everyone unqualified })
       (λ cs names q. exact_after _ n fixed.To _ _ (record { more = tokens.Fixed fixed.To ∷ one fixed.All; value = _; whole = define_permit p over q everyone unqualified })
@@ -211,12 +283,14 @@ module _ (n m : ℕ) (le : n ≤ m) where
   exact_defined fixed.Integrity d e = let g : DefinedRule ≡ d = cc in rw (← g) exact_rule
   exact_defined _ d e = absurd cc
 
-  exact_defined_on : (c : Token) (d : Defined) → IsOnFixed defined_of c d → Exact (λ us s. IsStatement (tokens.Fixed fixed.Define ∷ c ∷ us) s) n (defined_by n (level n) d) (defined_by m (level m) d)
+  exact_defined_on : (c : Token) (d : Defined) → IsOnFixed defined_of c d
+      → Exact (λ us s. IsStatement (tokens.Fixed fixed.Define ∷ c ∷ us) s) n (defined_by n (level n) d) (defined_by m (level m) d)
   exact_defined_on c d on = rw on.same (exact_defined on.said d on.known)
 
   exact_define : Exact (Behind (one fixed.Define)) n (define_by n (level n)) (define_by m (level m))
   unfolding define_by
-  exact_define = exact_first _ n n (omega arith) (on_fixed defined_of) Err Err (defined_by n (level n)) (defined_by m (level m)) (λ c d e. exact_defined_on c d (is_on_fixed defined_of c d e))
+  exact_define = exact_first _ n n (omega arith) (on_fixed defined_of) Err Err (defined_by n (level n)) (defined_by m (level m))
+      (λ c d e. exact_defined_on c d (is_on_fixed defined_of c d e))
       (exact_stop _ n (record { more = tokens.Fixed fixed.Integrity ∷ tokens.Fixed fixed.On ∷ tokens.Name x ∷ tokens.Fixed fixed.Is ∷ tokens.Int 0 ∷ tokens.Fixed fixed.Equal ∷ tokens.Int 0 ∷ []; value = _; whole = define_integrity one_qual }))
 
   -- ---- all

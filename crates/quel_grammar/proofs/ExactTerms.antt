@@ -84,8 +84,19 @@ data IsCall : List ℕ → Call → Type 0 where
   is_aggregate : {w : List ℕ} {op : AggOp} → IsAggregateName w op → IsCall w (CallAggregate op)
 
 is_call : (w : List ℕ) (call : Call) → look_up calls w ≡ Some call → IsCall w call
-is_call w call e = looked_up IsCall calls w call
-    (is_abs, (is_mod, (is_concat, (is_aggregate count, (is_aggregate countu, (is_aggregate sum_, (is_aggregate sumu, (is_aggregate avg, (is_aggregate avgu, (is_aggregate min_, (is_aggregate max_, (is_aggregate any, tt)))))))))))) e
+is_call w call e = looked_up IsCall calls w call (
+  is_abs,
+  (
+    is_mod,
+    (
+      is_concat,
+      (
+        is_aggregate count,
+        (is_aggregate countu, (is_aggregate sum_, (is_aggregate sumu, (is_aggregate avg, (is_aggregate avgu, (is_aggregate min_, (is_aggregate max_, (is_aggregate any, tt)))))))),
+      ),
+    ),
+  ),
+) e
 
 -- ---- the smallest parts
 
@@ -167,16 +178,21 @@ module _ (k : ℕ) (l l2 : Lower) (good : Good k l l2) where
       (λ front t p. exact_after (λ us u. L (front ++ us) u) k fixed.Close _ _ (record { more = one fixed.Close; value = t; whole = join front t p })
       (exact_done (λ us u. L (front ++ tokens.Fixed fixed.Close ∷ us) u) k t (join front t p)))
 
-  exact_two : (L : Lang Term) (join : Term → Term → Term) → ((ts us : List Token) (t u : Term) → IsTerm ts t → IsTerm us u → L (ts ++ tokens.Fixed fixed.Comma ∷ (us ++ one fixed.Close)) (join t u)) → Exact L k (two_by l join) (two_by l2 join)
+  exact_two : (L : Lang Term) (join : Term → Term → Term)
+      → ((ts us : List Token) (t u : Term) → IsTerm ts t → IsTerm us u → L (ts ++ tokens.Fixed fixed.Comma ∷ (us ++ one fixed.Close)) (join t u))
+      → Exact L k (two_by l join) (two_by l2 join)
   unfolding two_by
   exact_two L join joined = exact_bind IsTerm L k l.term l2.term _ _ good.term
       (λ front t p. record { more = tokens.Fixed fixed.Comma ∷ zero_token ∷ one fixed.Close; value = join t zero_term; whole = joined front _ t zero_term p one_term })
-      (λ front t p. exact_after (λ us u. L (front ++ us) u) k fixed.Comma _ _ (record { more = tokens.Fixed fixed.Comma ∷ zero_token ∷ one fixed.Close; value = join t zero_term; whole = joined front _ t zero_term p one_term })
-      (exact_map _ _ k (join t) (inside_by l) (inside_by l2) (λ us u q. q) (exact_inside (λ us u. L (front ++ tokens.Fixed fixed.Comma ∷ us) (join t u)) (λ us u q. joined front us t u p q))))
+      (λ front t p. exact_after (λ us u. L (front ++ us) u) k fixed.Comma _ _
+      (record { more = tokens.Fixed fixed.Comma ∷ zero_token ∷ one fixed.Close; value = join t zero_term; whole = joined front _ t zero_term p one_term })
+      (exact_map _ _ k (join t) (inside_by l) (inside_by l2) (λ us u q. q)
+      (exact_inside (λ us u. L (front ++ tokens.Fixed fixed.Comma ∷ us) (join t u)) (λ us u q. joined front us t u p q))))
 
   exact_by : Exact IsBy k (by_by l) (by_by l2)
   unfolding by_by
-  exact_by = exact_found_same IsBy k fixed.By _ _ _ _ (exact_as (TermsBehind []) _ k _ _ (λ us all p. rw (← p.2) (by_terms p.1)) (good.terms_behind [])) (exact_done _ k [] ungrouped)
+  exact_by = exact_found_same IsBy k fixed.By _ _ _ _ (exact_as (TermsBehind []) _ k _ _ (λ us all p. rw (← p.2) (by_terms p.1)) (good.terms_behind []))
+      (exact_done _ k [] ungrouped)
 
   exact_inner_qual : Exact IsQual k (inner_qual_by l) (inner_qual_by l2)
   unfolding inner_qual_by
@@ -186,7 +202,8 @@ module _ (k : ℕ) (l l2 : Lower) (good : Good k l l2) where
   unfolding inner_where_by
   exact_inner_where = exact_found_same IsWhere k fixed.Where _ _ _ _ (exact_as IsQual _ k _ _ (λ us q p. qualified p) exact_inner_qual) (exact_done _ k quals.True unqualified)
 
-  exact_aggregate : (w : List ℕ) (op : AggOp) → IsAggregateName w op → Exact (λ us t. IsPrim (tokens.Name w ∷ tokens.Fixed fixed.Open ∷ us) t) k (aggregate_by l op) (aggregate_by l2 op)
+  exact_aggregate : (w : List ℕ) (op : AggOp) → IsAggregateName w op
+      → Exact (λ us t. IsPrim (tokens.Name w ∷ tokens.Fixed fixed.Open ∷ us) t) k (aggregate_by l op) (aggregate_by l2 op)
   unfolding aggregate_by
   exact_aggregate w op a = exact_bind IsTerm _ k l.term l2.term _ _ good.term
       (λ front t p. record { more = one fixed.Close; value = _; whole = aggregate (aggregate_of a p ungrouped unqualified) })
@@ -210,9 +227,20 @@ module _ (k : ℕ) (l l2 : Lower) (good : Good k l l2) where
 
   starts_open : (w : List ℕ) (call : Call) → IsCall w call → Starts (λ us t. IsPrim (tokens.Name w ∷ us) t) []
   starts_open w CallAbs is_abs = record { more = tokens.Fixed fixed.Open ∷ zero_token ∷ one fixed.Close; value = _; whole = function (abs one_term) }
-  starts_open w CallMod is_mod = record { more = tokens.Fixed fixed.Open ∷ zero_token ∷ tokens.Fixed fixed.Comma ∷ zero_token ∷ one fixed.Close; value = _; whole = function (mod_ one_term one_term) }
-  starts_open w CallConcat is_concat = record { more = tokens.Fixed fixed.Open ∷ zero_token ∷ tokens.Fixed fixed.Comma ∷ zero_token ∷ one fixed.Close; value = _; whole = function (concat one_term one_term) }
-  starts_open w (CallAggregate op) (is_aggregate a) = record { more = tokens.Fixed fixed.Open ∷ zero_token ∷ one fixed.Close; value = _; whole = aggregate (aggregate_of a one_term ungrouped unqualified) }
+  starts_open w CallMod is_mod = record {
+    more = tokens.Fixed fixed.Open ∷ zero_token ∷ tokens.Fixed fixed.Comma ∷ zero_token ∷ one fixed.Close;
+    value = _;
+    whole = function
+        (mod_ one_term one_term);
+  }
+  starts_open w CallConcat is_concat = record {
+    more = tokens.Fixed fixed.Open ∷ zero_token ∷ tokens.Fixed fixed.Comma ∷ zero_token ∷ one fixed.Close;
+    value = _;
+    whole = function
+        (concat one_term one_term);
+  }
+  starts_open w (CallAggregate op) (is_aggregate a) =
+      record { more = tokens.Fixed fixed.Open ∷ zero_token ∷ one fixed.Close; value = _; whole = aggregate (aggregate_of a one_term ungrouped unqualified) }
 
   exact_opened : (w : List ℕ) (call : Call) → IsCall w call → Exact (λ us t. IsPrim (tokens.Name w ∷ us) t) k (opened_by l call) (opened_by l2 call)
   unfolding opened_by
@@ -240,7 +268,8 @@ module _ (k : ℕ) (l l2 : Lower) (good : Good k l l2) where
 
   exact_prim : Exact IsPrim (suc k) (prim_by l) (prim_by l2)
   unfolding prim_by
-  exact_prim = exact_first IsPrim k (suc k) (omega arith) start Err Err (started_by l) (started_by l2) (λ c x e. exact_started c x (is_start c x e)) (exact_stop _ (suc k) (starts IsPrim (zero_token ∷ []) zero_term int))
+  exact_prim = exact_first IsPrim k (suc k) (omega arith) start Err Err (started_by l) (started_by l2) (λ c x e. exact_started c x (is_start c x e))
+      (exact_stop _ (suc k) (starts IsPrim (zero_token ∷ []) zero_term int))
 
   exact_signed : (c : Token) (x : Bool) → IsOnFixed sign_of c x → Exact (λ us t. IsUnary (c ∷ us) t) k (signed_by l x) (signed_by l2 x)
   unfolding signed_by
@@ -263,7 +292,8 @@ module _ (k : ℕ) (l l2 : Lower) (good : Good k l l2) where
   unfolding pow_by
   exact_pow = exact_bind IsUnary IsPow (suc k) (unary_by l) (unary_by l2) _ _ exact_unary (λ front t p. starts_whole IsPow front t (base p)) exact_power
 
-  exact_next_product : (left : Term) (c : Token) (op : ArithOp) → IsOnFixed product_sign_of c op → Exact (λ us u. IsProducts left (c ∷ us) u) k (next_product_by l left op) (next_product_by l2 left op)
+  exact_next_product : (left : Term) (c : Token) (op : ArithOp) → IsOnFixed product_sign_of c op
+      → Exact (λ us u. IsProducts left (c ∷ us) u) k (next_product_by l left op) (next_product_by l2 left op)
   unfolding next_product_by
   exact_next_product left c op on = let s = is_product_sign on.said op on.known in
       rw on.same (exact_bind IsPow _ k (pow_by l) (pow_by l2) _ _ (fewer _ k _ _ exact_pow)
@@ -272,7 +302,8 @@ module _ (k : ℕ) (l l2 : Lower) (good : Good k l l2) where
 
   pub exact_products : (left : Term) → Exact (IsProducts left) (suc k) (products_by l left) (products_by l2 left)
   unfolding products_by
-  exact_products left = exact_first _ k (suc k) (omega arith) product_sign _ _ (next_product_by l left) (next_product_by l2 left) (λ c op e. exact_next_product left c op (is_on_fixed product_sign_of c op e)) (exact_done _ (suc k) left last_product)
+  exact_products left = exact_first _ k (suc k) (omega arith) product_sign _ _ (next_product_by l left) (next_product_by l2 left)
+      (λ c op e. exact_next_product left c op (is_on_fixed product_sign_of c op e)) (exact_done _ (suc k) left last_product)
 
   pub exact_prod : Exact IsProd (suc k) (prod_by l) (prod_by l2)
   unfolding prod_by
@@ -288,7 +319,8 @@ module _ (k : ℕ) (l l2 : Lower) (good : Good k l l2) where
 
   pub exact_sums : (left : Term) → Exact (IsSums left) (suc k) (sums_by l left) (sums_by l2 left)
   unfolding sums_by
-  exact_sums left = exact_first _ k (suc k) (omega arith) sum_sign _ _ (next_sum_by l left) (next_sum_by l2 left) (λ c op e. exact_next_sum left c op (is_on_fixed sum_sign_of c op e)) (exact_done _ (suc k) left last_sum)
+  exact_sums left = exact_first _ k (suc k) (omega arith) sum_sign _ _ (next_sum_by l left) (next_sum_by l2 left)
+      (λ c op e. exact_next_sum left c op (is_on_fixed sum_sign_of c op e)) (exact_done _ (suc k) left last_sum)
 
   pub exact_term : Exact IsTerm (suc k) (term_by l) (term_by l2)
   unfolding term_by
@@ -297,7 +329,8 @@ module _ (k : ℕ) (l l2 : Lower) (good : Good k l l2) where
 
   exact_next_terms : (before : List Term) (front : List Token) (t : Term) → IsTerm front t
       → Exact (λ us all. TermsBehind before (front ++ tokens.Fixed fixed.Comma ∷ us) all) k (l.terms_behind (before ++ t ∷ [])) (l2.terms_behind (before ++ t ∷ []))
-  exact_next_terms before front t p = exact_as (TermsBehind (before ++ t ∷ [])) _ k _ _ (λ us all q. (t ∷ q.0, next_term p q.1, sym (append_assoc before (t ∷ []) q.0) ∙ q.2)) (good.terms_behind (before ++ t ∷ []))
+  exact_next_terms before front t p = exact_as (TermsBehind (before ++ t ∷ [])) _ k _ _ (λ us all q. (t ∷ q.0, next_term p q.1, sym (append_assoc before (t ∷ []) q.0) ∙ q.2))
+      (good.terms_behind (before ++ t ∷ []))
 
   pub exact_terms : (before : List Term) → Exact (TermsBehind before) (suc k) (terms_by l before) (terms_by l2 before)
   unfolding terms_by

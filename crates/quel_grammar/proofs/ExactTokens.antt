@@ -56,7 +56,8 @@ abbrev pub EachEntry : {X : Type 0} → (List ℕ → X → Type 0) → List (Li
 EachEntry P [] = Unit {0}
 EachEntry P (e ∷ table) = P e.0 e.1 × EachEntry P table
 
-entry_or : {X : Type 0} (P : List ℕ → X → Type 0) (w v : List ℕ) (y x : X) (o : Option X) (b : Bool) → bytes_eq w v ≡ b → P v y → (o ≡ Some x → P w x) → elim b [ true ↦ Some y | false ↦ o ] ≡ Some x → P w x
+entry_or : {X : Type 0} (P : List ℕ → X → Type 0) (w v : List ℕ) (y x : X) (o : Option X) (b : Bool) → bytes_eq w v ≡ b → P v y → (o ≡ Some x → P w x)
+    → elim b [ true ↦ Some y | false ↦ o ] ≡ Some x → P w x
 entry_or P w v y x o true e p later f = let g : y ≡ x = cc in rw ((bytes_eq-Decides w v).0 e, ← g) p
 entry_or P w v y x o false e p later f = later f
 
@@ -71,7 +72,8 @@ looked_up P (y ∷ table) w x each e = entry_or P w y.0 y.1 x (look_up table w) 
 funext : {A B : Type 0} (f g : A → B) → ((x : A) → f x ≡ g x) → f ≡ g
 funext f g h = λ i x. h x i
 
-pub exact_same : {B : Type 0} (L : Lang B) (k : ℕ) (r r2 q q2 : Reader B) → ((us : List Token) → r us ≡ q us) → ((us : List Token) → r2 us ≡ q2 us) → Exact L k q q2 → Exact L k r r2
+pub exact_same : {B : Type 0} (L : Lang B) (k : ℕ) (r r2 q q2 : Reader B) → ((us : List Token) → r us ≡ q us) → ((us : List Token) → r2 us ≡ q2 us) → Exact L k q q2
+    → Exact L k r r2
 exact_same L k r r2 q q2 e e2 second = rw (funext r q e, funext r2 q2 e2) second
 
 expect_bind : {X B : Type 0} (g : X × List Token → Read B) (ts : List Token) (o : Option (X × List Token)) → (choose Err done ts o >>= g) ≡ choose Err (λ x us. g (x, us)) ts o
@@ -110,6 +112,7 @@ module _ {B : Type 0} (L : Lang B) (k : ℕ) (f : Fixed) (none none2 some some2 
   exact_found_same go stay = exact_first L k k (omega arith) (is_fixed f) none none2 (λ u. some) (λ u. some2) (λ c x e. rw (is_fixed_token f c x e) go) stay
 
 -- what a name is decides
-pub exact_if_name : {B : Type 0} (L : Lang B) (k : ℕ) (none none2 : Reader B) (some some2 : List ℕ → Reader B) → ((v : List ℕ) → Exact (λ us u. L (tokens.Name v ∷ us) u) k (some v) (some2 v)) → Exact L k none none2
+pub exact_if_name : {B : Type 0} (L : Lang B) (k : ℕ) (none none2 : Reader B) (some some2 : List ℕ → Reader B)
+    → ((v : List ℕ) → Exact (λ us u. L (tokens.Name v ∷ us) u) k (some v) (some2 v)) → Exact L k none none2
     → Exact L k (λ us. choose none some us (first name_of us)) (λ us. choose none2 some2 us (first name_of us))
 exact_if_name L k none none2 some some2 go stay = exact_first L k k (omega arith) name_of none none2 some some2 (λ c v e. rw (is_name_token c v e) (go v)) stay

@@ -21,7 +21,8 @@ lower : (low low2 high : ℕ) (ps : List Placed) → low2 ≤ low → Ascend low
 lower low low2 high [] le a = tt
 lower low low2 high (p ∷ ps) le a = (omega (arith, a.0), a.1, a.2, a.3)
 
-piece_ascends : (piece : Piece) (at len high : ℕ) (later : Pieces) → 0 < len → at + len ≤ high → Ascend (at + len) high later.placed → Ascend at high (with_piece piece at len later).placed
+piece_ascends : (piece : Piece) (at len high : ℕ) (later : Pieces) → 0 < len → at + len ≤ high → Ascend (at + len) high later.placed
+    → Ascend at high (with_piece piece at len later).placed
 piece_ascends pieces.White at len high later lt le a = lower (at + len) at high later.placed (omega arith) a
 piece_ascends (pieces.Token t) at len high later lt le a = (omega arith, omega arith, le, a)
 
@@ -35,7 +36,8 @@ module _ (high : ℕ) where
   front_ascends None at b bs w e later = tt
   front_ascends (Some p) at b bs w e later =
       let same : at + 1 + (p.1 - 1) ≡ at + p.1 = omega (arith, w.0) in
-      let behind : Ascend (at + p.1) high (pieces_behind (p.1 - 1) (at + 1) bs).placed = subst (λ low. Ascend low high (pieces_behind (p.1 - 1) (at + 1) bs).placed) same (later (p.1 - 1)) in
+      let behind : Ascend (at + p.1) high (pieces_behind (p.1 - 1) (at + 1) bs).placed = subst (λ low. Ascend low high (pieces_behind (p.1 - 1) (at + 1) bs).placed) same
+      (later (p.1 - 1)) in
       piece_ascends p.0 at p.1 high _ w.0 (omega (arith, w.1, e)) behind
 
   pieces_ascend : (taken at : ℕ) (text : List ℕ) → at + length text ≡ high → Ascend (at + taken) high (pieces_behind taken at text).placed
@@ -46,7 +48,8 @@ module _ (high : ℕ) where
       subst (λ low. Ascend low high (pieces_behind taken (at + 1) bs).placed) same (pieces_ascend taken (at + 1) bs (omega (arith, e)))
   pieces_ascend zero at (b ∷ bs) e =
       let same : at ≡ at + 0 = omega arith in
-      subst (λ low. Ascend low high (pieces_behind zero at (b ∷ bs)).placed) same (front_ascends (piece_at (b ∷ bs)) at b bs (piece_within (b ∷ bs)) e (λ taken. pieces_ascend taken (at + 1) bs (omega (arith, e))))
+      subst (λ low. Ascend low high (pieces_behind zero at (b ∷ bs)).placed) same
+      (front_ascends (piece_at (b ∷ bs)) at b bs (piece_within (b ∷ bs)) e (λ taken. pieces_ascend taken (at + 1) bs (omega (arith, e))))
 
 end_between : (at high : ℕ) (ps : List Placed) (n : ℕ) → at ≤ high → Ascend at high ps → (at ≤ end_behind at (take n ps)) × (end_behind at (take n ps) ≤ high)
 end_between at high [] zero le a = (omega arith, le)
@@ -74,7 +77,8 @@ text_ascends : (text : List ℕ) (from : ℕ) → Ascend from (from + length (dr
 unfolding pieces_from
 text_ascends text from =
     let same : from + 0 ≡ from = omega arith in
-    subst (λ low. Ascend low (from + length (drop from text)) (pieces_behind 0 from (drop from text)).placed) same (pieces_ascend (from + length (drop from text)) 0 from (drop from text) refl)
+    subst (λ low. Ascend low (from + length (drop from text)) (pieces_behind 0 from (drop from text)).placed) same
+    (pieces_ascend (from + length (drop from text)) 0 from (drop from text) refl)
 
 -- a statement that is read ends behind the place, and not behind the text
 pub further : (text : List ℕ) (from : ℕ) (s : Statement) (end : ℕ) → IsRead (pieces_from text from) s end → (from < end) × (end ≤ length text)

@@ -31,7 +31,8 @@ cons_both : (f c : Token) (front a : List Token) → f ≡ c → (more : List To
 cons_both f c front a same r = (r.0, let g : front ≡ a ++ r.0 = r.1 in cc)
 
 -- what begins a statement here is no longer than the longest run
-within : (before front rest : List Token) → IsLast (before ++ front) rest → (a x : List Token) → Begins (before ++ a) → front ++ rest ≡ a ++ x → (more : List Token) × (front ≡ a ++ more)
+within : (before front rest : List Token) → IsLast (before ++ front) rest → (a x : List Token) → Begins (before ++ a) → front ++ rest ≡ a ++ x
+    → (more : List Token) × (front ≡ a ++ more)
 within before front rest last [] x b e = (front, refl)
 within before [] [] last (c ∷ a) x b e = absurd cc
 within before [] (t ∷ rest) last (c ∷ a) x b e =

@@ -32,13 +32,16 @@ bind_bind : {A B C : Type 0} (o : Read A) (f : A × List Token → Read B) (g : 
 bind_bind (Ok x) f g = refl
 bind_bind (Err e) f g = refl
 
-four : {A B C D : Type 0} (o : Read A) (f : A × List Token → Read B) (g : B × List Token → Read C) (h : C × List Token → Read D) → (((o >>= f) >>= g) >>= h) ≡ ((o >>= λ x. f x >>= g) >>= h)
+four : {A B C D : Type 0} (o : Read A) (f : A × List Token → Read B) (g : B × List Token → Read C) (h : C × List Token → Read D)
+    → (((o >>= f) >>= g) >>= h) ≡ ((o >>= λ x. f x >>= g) >>= h)
 four (Ok x) f g h = refl
 four (Err e) f g h = refl
 
-pub plain_through : (l : Lower) (t : Term) (us vs : List Token) → first (is_fixed fixed.Not) us ≡ None → first (is_fixed fixed.Open) us ≡ None → unary_by l us ≡ Ok (t, vs) → operand_by l us ≡ finish l t vs
+pub plain_through : (l : Lower) (t : Term) (us vs : List Token) → first (is_fixed fixed.Not) us ≡ None → first (is_fixed fixed.Open) us ≡ None → unary_by l us ≡ Ok (t, vs)
+    → operand_by l us ≡ finish l t vs
 unfolding operand_by plain_by compared_by term_by prod_by pow_by finish term_from
-plain_through l t us vs unnegated ungrouped e = rw (unnegated, ungrouped, e) (four (power_by l t vs) (λ x. products_by l x.0 x.1) (λ x. sums_by l x.0 x.1) (λ x. compare_by l x.0 x.1))
+plain_through l t us vs unnegated ungrouped e = rw (unnegated, ungrouped, e)
+    (four (power_by l t vs) (λ x. products_by l x.0 x.1) (λ x. sums_by l x.0 x.1) (λ x. compare_by l x.0 x.1))
 
 pub pow_through : (l : Lower) (t u : Term) (us vs : List Token) → power_by l t us ≡ Ok (u, vs) → finish l t us ≡ finish_pow l u vs
 unfolding finish term_from finish_pow
@@ -56,19 +59,23 @@ pub no_comparison : (l : Lower) (t : Term) (rest : List Token) → compare_by l 
 unfolding compare_by
 no_comparison l t rest = refl
 
-pub group_through : (k : ℕ) (t : Term) (us rest : List Token) → operand_by (level k) us ≡ Ok (Bare t, tokens.Fixed fixed.Close ∷ rest) → operand_by (level (suc k)) (tokens.Fixed fixed.Open ∷ us) ≡ finish (level (suc k)) t rest
+pub group_through : (k : ℕ) (t : Term) (us rest : List Token) → operand_by (level k) us ≡ Ok (Bare t, tokens.Fixed fixed.Close ∷ rest)
+    → operand_by (level (suc k)) (tokens.Fixed fixed.Open ∷ us) ≡ finish (level (suc k)) t rest
 unfolding operand_by plain_by mixed_group_by level mixed_by mixed_from grouped_by finish
 group_through k t us rest e = rw e refl
 
-pub function_front : {ts : List Token} {t : Term} → IsFunction ts t → (rest : List Token) → (first (is_fixed fixed.Not) (ts ++ rest) ≡ None) × (first (is_fixed fixed.Open) (ts ++ rest) ≡ None)
+pub function_front : {ts : List Token} {t : Term} → IsFunction ts t → (rest : List Token)
+    → (first (is_fixed fixed.Not) (ts ++ rest) ≡ None) × (first (is_fixed fixed.Open) (ts ++ rest) ≡ None)
 function_front (abs p) rest = (refl, refl)
 function_front (mod_ p q) rest = (refl, refl)
 function_front (concat p q) rest = (refl, refl)
 
-pub aggregate_front : {ts : List Token} {t : Term} → IsAggregate ts t → (rest : List Token) → (first (is_fixed fixed.Not) (ts ++ rest) ≡ None) × (first (is_fixed fixed.Open) (ts ++ rest) ≡ None)
+pub aggregate_front : {ts : List Token} {t : Term} → IsAggregate ts t → (rest : List Token)
+    → (first (is_fixed fixed.Not) (ts ++ rest) ≡ None) × (first (is_fixed fixed.Open) (ts ++ rest) ≡ None)
 aggregate_front (aggregate_of n p b w) rest = (refl, refl)
 
-pub compare_next : (l : Lower) (t u : Term) (f : Fixed) (op : CmpOp) (us vs : List Token) → IsComparison f op → term_by l us ≡ Ok (u, vs) → compare_by l t (tokens.Fixed f ∷ us) ≡ Ok (Whole (quals.Cmp op t u), vs)
+pub compare_next : (l : Lower) (t u : Term) (f : Fixed) (op : CmpOp) (us vs : List Token) → IsComparison f op → term_by l us ≡ Ok (u, vs)
+    → compare_by l t (tokens.Fixed f ∷ us) ≡ Ok (Whole (quals.Cmp op t u), vs)
 unfolding compare_by right_side_by
 compare_next l t u f op us vs equal e = rw e refl
 compare_next l t u f op us vs not_equal e = rw e refl
@@ -85,7 +92,8 @@ pub not_step : (k : ℕ) (q : Qual) (us vs : List Token) → neg_by (level k) us
 unfolding operand_by negated_by level
 not_step k q us vs e = rw e refl
 
-pub grouped_step : (k : ℕ) (q : Qual) (us vs : List Token) → mixed_by (level k) us ≡ Ok (Whole q, tokens.Fixed fixed.Close ∷ vs) → operand_by (level (suc k)) (tokens.Fixed fixed.Open ∷ us) ≡ Ok (Whole q, vs)
+pub grouped_step : (k : ℕ) (q : Qual) (us vs : List Token) → mixed_by (level k) us ≡ Ok (Whole q, tokens.Fixed fixed.Close ∷ vs)
+    → operand_by (level (suc k)) (tokens.Fixed fixed.Open ∷ us) ≡ Ok (Whole q, vs)
 unfolding operand_by plain_by mixed_group_by level grouped_by
 grouped_step k q us vs e = rw e refl
 
@@ -93,7 +101,8 @@ pub ands_end : (l : Lower) (p : Qual) (rest : List Token) → first (is_fixed fi
 unfolding ands_by
 ands_end l p rest e = rw e refl
 
-pub ands_next : (k : ℕ) (left p : Qual) (us vs : List Token) → neg_by (level (suc k)) us ≡ Ok (p, vs) → ands_by (level (suc k)) left (tokens.Fixed fixed.And ∷ us) ≡ ands_by (level k) (quals.And left p) vs
+pub ands_next : (k : ℕ) (left p : Qual) (us vs : List Token) → neg_by (level (suc k)) us ≡ Ok (p, vs)
+    → ands_by (level (suc k)) left (tokens.Fixed fixed.And ∷ us) ≡ ands_by (level k) (quals.And left p) vs
 unfolding ands_by next_and_by level
 ands_next k left p us vs e = rw e refl
 
@@ -105,10 +114,12 @@ pub ors_end : (l : Lower) (p : Qual) (rest : List Token) → first (is_fixed fix
 unfolding ors_by
 ors_end l p rest e = rw e refl
 
-pub ors_next : (k : ℕ) (left p : Qual) (us vs : List Token) → conj_by (level (suc k)) us ≡ Ok (p, vs) → ors_by (level (suc k)) left (tokens.Fixed fixed.Or ∷ us) ≡ ors_by (level k) (quals.Or left p) vs
+pub ors_next : (k : ℕ) (left p : Qual) (us vs : List Token) → conj_by (level (suc k)) us ≡ Ok (p, vs)
+    → ors_by (level (suc k)) left (tokens.Fixed fixed.Or ∷ us) ≡ ors_by (level k) (quals.Or left p) vs
 unfolding ors_by next_or_by level
 ors_next k left p us vs e = rw e refl
 
-pub mixed_step : (l : Lower) (p q r : Qual) (us vs ws zs : List Token) → operand_by l us ≡ Ok (Whole p, vs) → ands_by l p vs ≡ Ok (q, ws) → ors_by l q ws ≡ Ok (r, zs) → mixed_by l us ≡ Ok (Whole r, zs)
+pub mixed_step : (l : Lower) (p q r : Qual) (us vs ws zs : List Token) → operand_by l us ≡ Ok (Whole p, vs) → ands_by l p vs ≡ Ok (q, ws) → ors_by l q ws ≡ Ok (r, zs)
+    → mixed_by l us ≡ Ok (Whole r, zs)
 unfolding mixed_by mixed_from
 mixed_step l p q r us vs ws zs e f g = rw (e, f, g) refl

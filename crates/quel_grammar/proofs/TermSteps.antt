@@ -26,7 +26,8 @@ pub power_ends : (l : Lower) (t : Term) (rest : List Token) → first (is_fixed 
 unfolding power_by
 power_ends l t rest e = rw e refl
 
-pub power_next : (k : ℕ) (t u : Term) (us vs : List Token) → pow_by (level k) us ≡ Ok (u, vs) → power_by (level (suc k)) t (tokens.Fixed fixed.Power ∷ us) ≡ Ok (terms.Arith ops.Pow t u, vs)
+pub power_next : (k : ℕ) (t u : Term) (us vs : List Token) → pow_by (level k) us ≡ Ok (u, vs)
+    → power_by (level (suc k)) t (tokens.Fixed fixed.Power ∷ us) ≡ Ok (terms.Arith ops.Pow t u, vs)
 unfolding power_by raised_by level
 power_next k t u us vs e = rw e refl
 
@@ -82,7 +83,8 @@ pub group_step : (k : ℕ) (t : Term) (us vs : List Token) → inside_by (level 
 unfolding unary_by prim_by
 group_step k t us vs e = e
 
-pub abs_step : (l : Lower) (t : Term) (us vs : List Token) → inside_by l us ≡ Ok (t, vs) → unary_by l (tokens.Name (codes "abs") ∷ tokens.Fixed fixed.Open ∷ us) ≡ Ok (terms.Abs t, vs)
+pub abs_step : (l : Lower) (t : Term) (us vs : List Token) → inside_by l us ≡ Ok (t, vs)
+    → unary_by l (tokens.Name (codes "abs") ∷ tokens.Fixed fixed.Open ∷ us) ≡ Ok (terms.Abs t, vs)
 unfolding unary_by prim_by named_by look_up opened_by abs_by
 abs_step l t us vs e = rw e refl
 
@@ -123,11 +125,13 @@ pub by_step : (k : ℕ) (ts : List Term) (us rest : List Token) → terms_by (le
 unfolding by_by level
 by_step k ts us rest e = e
 
-pub terms_end : (l : Lower) (before : List Term) (t : Term) (us rest : List Token) → term_by l us ≡ Ok (t, rest) → first (is_fixed fixed.Comma) rest ≡ None → terms_by l before us ≡ Ok (before ++ t ∷ [], rest)
+pub terms_end : (l : Lower) (before : List Term) (t : Term) (us rest : List Token) → term_by l us ≡ Ok (t, rest) → first (is_fixed fixed.Comma) rest ≡ None
+    → terms_by l before us ≡ Ok (before ++ t ∷ [], rest)
 unfolding terms_by
 terms_end l before t us rest e f = rw (e, f) refl
 
-pub terms_next : (k : ℕ) (before : List Term) (t : Term) (us vs : List Token) → term_by (level (suc k)) us ≡ Ok (t, tokens.Fixed fixed.Comma ∷ vs) → terms_by (level (suc k)) before us ≡ terms_by (level k) (before ++ t ∷ []) vs
+pub terms_next : (k : ℕ) (before : List Term) (t : Term) (us vs : List Token) → term_by (level (suc k)) us ≡ Ok (t, tokens.Fixed fixed.Comma ∷ vs)
+    → terms_by (level (suc k)) before us ≡ terms_by (level k) (before ++ t ∷ []) vs
 unfolding terms_by level
 terms_next k before t us vs e = rw e refl
 
@@ -135,7 +139,8 @@ pub unqualified_step : (l : Lower) (rest : List Token) → inner_where_by l (tok
 unfolding inner_where_by
 unqualified_step l rest = refl
 
-pub qualified_step : (k : ℕ) (q : Qual) (us rest : List Token) → mixed_by (level k) us ≡ Ok (Whole q, rest) → inner_where_by (level (suc k)) (tokens.Fixed fixed.Where ∷ us) ≡ Ok (q, rest)
+pub qualified_step : (k : ℕ) (q : Qual) (us rest : List Token) → mixed_by (level k) us ≡ Ok (Whole q, rest)
+    → inner_where_by (level (suc k)) (tokens.Fixed fixed.Where ∷ us) ≡ Ok (q, rest)
 unfolding inner_where_by inner_qual_by level
 qualified_step k q us rest e = rw e refl
 

@@ -40,7 +40,8 @@ both false b e = absurd cc
 abbrev measured : List ℕ × Fixed → Fixed × ℕ
 measured e = (e.1, length e.0)
 
-entry_within : (text : List ℕ) (e : List ℕ × Fixed) (b : Bool) (o : Option (List ℕ × Fixed)) → starts_with nat_eq text e.0 ≡ b → has_byte e ≡ true → Within text (option_map measured o) → Within text (option_map measured (cond b (Some e) o))
+entry_within : (text : List ℕ) (e : List ℕ × Fixed) (b : Bool) (o : Option (List ℕ × Fixed)) → starts_with nat_eq text e.0 ≡ b → has_byte e ≡ true
+    → Within text (option_map measured o) → Within text (option_map measured (cond b (Some e) o))
 entry_within text e true o starts has w = (grind (arith, nat_tests), fits text e.0 starts)
 entry_within text e false o starts has w = w
 
@@ -83,7 +84,8 @@ quoted_if false c n m (Some x) k f e = let g : x + 1 ≡ m = cc in omega (arith,
 
 quoted_short : (taken : Bool) (bs : List ℕ) (n : ℕ) → quoted_len taken bs ≡ Some n → n < length bs
 quoted_short taken [] n e = absurd cc
-quoted_short taken (b ∷ bs) n e = quoted_if ((b == 34) && not taken) true n n (quoted_len ((b == 92) && not taken) bs) (length bs) (λ m f. quoted_short ((b == 92) && not taken) bs m f) e
+quoted_short taken (b ∷ bs) n e = quoted_if ((b == 34) && not taken) true n n (quoted_len ((b == 92) && not taken) bs) (length bs)
+    (λ m f. quoted_short ((b == 92) && not taken) bs m f) e
 
 quoted_within : (b : ℕ) (bs : List ℕ) (o : Option ℕ) → quoted_len false bs ≡ o → Within (b ∷ bs) (quoted bs o)
 quoted_within b bs None e = tt
@@ -119,7 +121,8 @@ plus_two : {X : Type 0} (x : X) (text : List ℕ) (o : Option ℕ) → ((n : ℕ
 plus_two x text None f = tt
 plus_two x text (Some n) f = (omega arith, f n refl)
 
-comment_within : {X : Type 0} (x : X) (a : ℕ) (bs : List ℕ) → ((a == 47) && starts_with_byte 42 bs) ≡ true → Within (a ∷ bs) (option_map (λ n. (x, n + 2)) (comment_len (drop 1 bs)))
+comment_within : {X : Type 0} (x : X) (a : ℕ) (bs : List ℕ) → ((a == 47) && starts_with_byte 42 bs) ≡ true
+    → Within (a ∷ bs) (option_map (λ n. (x, n + 2)) (comment_len (drop 1 bs)))
 comment_within x a [] e = let parts = both (a == 47) false e in absurd cc
 comment_within x a (b ∷ bs) e = plus_two x (a ∷ b ∷ bs) (comment_len bs) (λ n f. omega (arith, comment_short bs n f))
 

@@ -6,7 +6,7 @@ ghost use Rattle.calculus.specs.declared.statement.Statement.{Statement};
 ghost use Rattle.quel_grammar.specs.declared.token.Token.{Token as Spelled};
 ghost use Rattle.quel_grammar.specs.Statements.{IsStatement};
 ghost use Rattle.quel_grammar.specs.Begins.{Begins};
-ghost use Rattle.quel_grammar.specs.Next.{Next, IsNext, IsGrammatical};
+ghost use Rattle.quel_grammar.specs.Next.{Next, Reading, IsNext, IsGrammatical};
 ghost use Rattle.quel_grammar.specs.Next.Next.{Read};
 ghost use Rattle.quel_grammar.specs.NextReader.{next_at};
 
@@ -26,10 +26,12 @@ pub fn at_most_one_thing_is_read()
     ensures { (text : List ℕ) (from : ℕ) (next other : Next) → IsNext text from next → IsNext text from other → next ≡ other }
 {}
 
-/// What is computed is what the grammar allows. So at each place of each text something is read.
+/// What is computed is what the grammar allows. So at each place of each text something is read, and a
+/// reading that is what the grammar allows, whoever does it, is the computed one.
 pub fn what_is_computed_is_read()
     ensures computed { IsGrammatical next_at }
     ensures alone { (text : List ℕ) (from : ℕ) (next : Next) → IsNext text from next → next ≡ next_at text from }
+    ensures only { (reading : Reading) → IsGrammatical reading → reading ≡ next_at }
 {}
 
 /// A statement that is read ends behind the place from which it is read, and not behind the text. So a
