@@ -14,3 +14,4 @@ pub mod Pigeons
 pub mod DatabaseFacts
 pub mod Titles
 pub mod FitUpdates
+pub mod FitUtilities

@@ -15,3 +15,4 @@ pub mod Resolved
 pub mod FitQueries
 pub mod Fit
 pub mod Purpose
+pub mod IsWritten
