@@ -44,14 +44,14 @@ use Rattle.quel_meaning.proofs.ReadsFit.{none_of}
 
 -- ---- names
 
-named_is : (s : Scope) (rel : List ℕ) → IsNamed s rel → is_named s.db (key_found (named s rel)) ≡ true
+pub named_is : (s : Scope) (rel : List ℕ) → IsNamed s rel → is_named s.db (key_found (named s rel)) ≡ true
 named_is s rel r = ap (λ o. is_named s.db (key_found o)) r.is ∙ ap is_some (named_again s rel r)
 
-by_name : (s : Scope) (rel : List ℕ) → IsFound s (Relation rel) → IsNamed s rel
+pub by_name : (s : Scope) (rel : List ℕ) → IsFound s (Relation rel) → IsNamed s rel
 by_name s rel h = named_with s no_refusal rel h
 
 -- attributes that are named behind a relation are its
-attrs_there : (s : Scope) (rel : List ℕ) (r : IsNamed s rel) (names : List (List ℕ)) → Each (IsFound s) (map (AttrIn rel) names) → Each (HasAttr r.info) names
+pub attrs_there : (s : Scope) (rel : List ℕ) (r : IsNamed s rel) (names : List (List ℕ)) → Each (IsFound s) (map (AttrIn rel) names) → Each (HasAttr r.info) names
 attrs_there s rel r names h = each_to _ _ (λ a k. titled_in s rel r.info r.is a (k, tt)) names (of_map _ (AttrIn rel) names h)
 
 -- ---- entries
@@ -146,7 +146,7 @@ structure_fits spec.View info names w h k = absurd (cc w)
 structure_fits spec.Index info names w h k = absurd (cc w)
 
 -- the attributes under the key of what was found are its attributes
-its_attrs : (s : Scope) (rel : List ℕ) (r : IsNamed s rel) → attrs_at s.db r.info.key ≡ r.info.attrs
+pub its_attrs : (s : Scope) (rel : List ℕ) (r : IsNamed s rel) → attrs_at s.db r.info.key ≡ r.info.attrs
 its_attrs s rel r = ap attrs_in (named_again s rel r)
 
 pub modify_fits : (s : Scope) → IsDatabase s.db → (rel : List ℕ) (to : Spec) (keys : List (List ℕ)) → is_written (statement.Modify rel to keys) ≡ true

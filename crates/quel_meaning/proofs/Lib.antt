@@ -15,3 +15,4 @@ pub mod DatabaseFacts
 pub mod Titles
 pub mod FitUpdates
 pub mod FitUtilities
+pub mod FitKept
