@@ -162,3 +162,88 @@ append_fits s is rel items qual h k =
       kinds = left _ _ (not_not _ none.1.1.1.0);
       relation = found_relation s.db r.info.key r.info (named_again s rel r) (subst (λ o. is_catalogue s.db (key_found o) ≡ false) r.is none.1.1.1.1.0) (subst (λ o. is_some (view_at s.db (key_found o)) ≡ false) r.is none.1.1.1.1.1.0);
     }
+
+-- the variable whose rows are replaced or deleted is the query's first, over the relation
+first_replaced : (s : Scope) (var : List ℕ) (items : List Item) (qual : Qual) (r : IsRanged s var) → has_key (slice_get (vars_of (query_of s (statement.Replace var items qual))) 0) r.info.key ≡ true
+unfolding query_of vars_in
+first_replaced s var items qual r = keys_same _ _ (ap key_found (ranged_is s var r))
+
+first_deleted : (s : Scope) (var : List ℕ) (qual : Qual) (r : IsRanged s var) → has_key (slice_get (vars_of (query_of s (statement.Delete var qual))) 0) r.info.key ≡ true
+unfolding query_of vars_in
+first_deleted s var qual r = keys_same _ _ (ap key_found (ranged_is s var r))
+
+pub replace_fits : (s : Scope) → IsDatabase s.db → (var : List ℕ) (items : List Item) (qual : Qual) → name_refusal s (statement.Replace var items qual) ≡ None
+    → first_cause (causes s (statement.Replace var items qual)) ≡ None → is_fit_with_views s.db s.user (tree_of s (statement.Replace var items qual)) ≡ true
+unfolding causes tree_of fits aggregates_stand replace_of mentions
+replace_fits s is var items qual h k =
+    subst (λ o. update_fits (kept_or_viewed s.db) s.db (changing op.Replace 0 o q) ≡ true) (sym over)
+    (replace_ready s r.info q ready there (names_differ q none.1.1.0)
+    (subst (λ o. assignments_fit s.db (changing op.Replace 0 o q) ≡ true) over (right (query_fits s.db q) _ (not_not _ none.1.1.1.0)))
+    (first_replaced s var items qual r))
+  where
+    stmt : Statement
+    stmt = statement.Replace var items qual
+
+    q : Query
+    q = query_of s stmt
+
+    found : Each (IsFound s) (mentions s stmt)
+    found = names_found s stmt h
+
+    r : IsRanged s var
+    r = (ranged_with s no_refusal var found.0).is
+
+    over : ranged s var ≡ Some r.info
+    over = ranged_is s var r
+
+    none : Each (λ c. c.1 ≡ false) (update_causes s (aggregates_stand s stmt) (replace_of s var q))
+    none = none_of (update_causes s (aggregates_stand s stmt) (replace_of s var q)) k
+
+    there : Each (HasAttr r.info) (titles_of q)
+    there = titles (HasAttr r.info) s (λ a. AttrOf var a ∷ []) (titled_of s var r) stmt qual found.1
+
+    ready : Ready s r.info q
+    ready = record {
+      is = is;
+      there = ranged_again s var r;
+      reading = reads s stmt h (not_not _ none.0) none.1.0;
+      few = none.1.0;
+      kinds = left _ _ (not_not _ none.1.1.1.0);
+      relation =
+          found_relation s.db r.info.key r.info (ranged_again s var r) (subst (λ o. is_catalogue s.db (key_found o) ≡ false) over none.1.1.1.1.0)
+          (subst (λ o. is_some (view_at s.db (key_found o)) ≡ false) over none.1.1.1.1.1.0);
+    }
+
+pub delete_fits : (s : Scope) → IsDatabase s.db → (var : List ℕ) (qual : Qual) → name_refusal s (statement.Delete var qual) ≡ None
+    → first_cause (causes s (statement.Delete var qual)) ≡ None → is_fit_with_views s.db s.user (tree_of s (statement.Delete var qual)) ≡ true
+unfolding causes tree_of fits aggregates_stand delete_of mentions assignments_fit query_of
+delete_fits s is var qual h k =
+    subst (λ o. update_fits (kept_or_viewed s.db) s.db (changing op.Delete 0 o q) ≡ true) (sym over)
+    (delete_ready s r.info q ready tt refl refl (first_deleted s var qual r))
+  where
+    stmt : Statement
+    stmt = statement.Delete var qual
+
+    q : Query
+    q = query_of s stmt
+
+    r : IsRanged s var
+    r = (ranged_with s no_refusal var (names_found s stmt h).0).is
+
+    over : ranged s var ≡ Some r.info
+    over = ranged_is s var r
+
+    none : Each (λ c. c.1 ≡ false) (delete_causes s (aggregates_stand s stmt) (delete_of s var q))
+    none = none_of (delete_causes s (aggregates_stand s stmt) (delete_of s var q)) k
+
+    ready : Ready s r.info q
+    ready = record {
+      is = is;
+      there = ranged_again s var r;
+      reading = reads s stmt h (not_not _ none.0) none.1.0;
+      few = none.1.0;
+      kinds = not_not _ none.1.1.0;
+      relation =
+          found_relation s.db r.info.key r.info (ranged_again s var r) (subst (λ o. is_catalogue s.db (key_found o) ≡ false) over none.1.1.1.0)
+          (subst (λ o. is_some (view_at s.db (key_found o)) ≡ false) over none.1.1.1.1.0);
+    }

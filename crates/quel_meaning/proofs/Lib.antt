@@ -41,3 +41,5 @@ pub mod Pigeons
 pub mod DatabaseFacts
 pub mod Titles
 pub mod FitUpdates
+pub mod FitUtilities
+pub mod FitKept

@@ -21,7 +21,6 @@ use Rattle.calculus.specs.Keys.{same_key}
 use Rattle.calculus.specs.Lists.{is_any, differ_by}
 use Rattle.calculus.specs.Kinds.{comparable, kinds_fit, is_text_kind}
 use Rattle.calculus.specs.Database.{Db, is_relation, is_there}
-use Rattle.calculus.specs.Catalogue.{is_catalogue}
 use Rattle.calculus.specs.Stored.{attrs_at, kinds_at}
 use Rattle.calculus.specs.QueryParts.{vars_of, targets_of, qual_of}
 use Rattle.calculus.specs.Replacement.{made_attr}
@@ -87,7 +86,7 @@ update_fits may db u =
 
 -- a relation, view, index or catalogue is there under the key
 abbrev pub is_entry : Db → RelKey → Bool
-is_entry db key = is_there db key || is_catalogue db key
+is_entry db key = is_there db key || is_named db key
 
 -- a structure that a relation may be given
 abbrev pub is_structure : Spec → Bool

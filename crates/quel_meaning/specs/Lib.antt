@@ -29,3 +29,4 @@ pub mod FitQueries
 pub mod Fit
 pub mod Purpose
 pub mod CopiedBack
+pub mod IsWritten
