@@ -6,3 +6,4 @@ mod Planned
 mod NewNumbers
 mod GoneNumbers
 pub mod Plans
+mod Ranging
