@@ -7,3 +7,4 @@ mod NewNumbers
 mod GoneNumbers
 pub mod Plans
 mod Ranging
+mod Changed
