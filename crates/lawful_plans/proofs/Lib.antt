@@ -6,3 +6,5 @@ mod Planned
 mod NewNumbers
 mod GoneNumbers
 pub mod Plans
+mod Ranging
+mod Changed
