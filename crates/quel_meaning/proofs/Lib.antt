@@ -34,3 +34,4 @@ pub mod Each
 pub mod Keys
 pub mod Found
 pub mod Sources
+pub mod LeftOpen
