@@ -17,7 +17,7 @@ use Rattle.quel_meaning.proofs.Cutting.{only_text, first_command}
 then_nothing : (a : After) → and_then a quiet ≡ a
 then_nothing a = ap (λ (x : List Event). record { kept = a.kept; events = x }) (append-nil a.events)
 
-then_both : (a : After) (f g : Kept → After) → and_then (and_then a f) g ≡ and_then a (λ k. and_then (f k) g)
+pub then_both : (a : After) (f g : Kept → After) → and_then (and_then a f) g ≡ and_then a (λ k. and_then (f k) g)
 then_both a f g =
     let second = f a.kept in
     let third = g second.kept in

@@ -35,3 +35,4 @@ pub mod Keys
 pub mod Found
 pub mod Sources
 pub mod LeftOpen
+pub mod LeftOfBatch

@@ -24,6 +24,6 @@ pub use session_laws::{
     nothing_happens_behind_the_end, only_statements_change_the_database,
 };
 pub use step_laws::{
-    a_line_is_worked_off_command_by_command, an_included_file_is_the_innermost,
-    lines_come_from_the_innermost_file,
+    a_batch_is_worked_off_statement_by_statement, a_line_is_worked_off_command_by_command,
+    an_included_file_is_the_innermost, lines_come_from_the_innermost_file,
 };

@@ -3,11 +3,14 @@
 
 ghost use Rattle.std.specs.Prelude.{◌≡◌, ◌≤◌, ◌+◌, ℕ, true, false, List, [], ◌∷◌, ◌++◌, length};
 ghost use Rattle.std.specs.List.{list_all};
+ghost use Rattle.calculus.specs.declared.statement.Statement.{Statement};
+ghost use Rattle.quel_grammar.specs.Next.{Nothing, Read, Syntax, line_at};
 ghost use Rattle.quel_meaning.specs.Lines.{lines_of};
 ghost use Rattle.quel_meaning.specs.Monitor.{Plain, has_no_command, quoting_behind, is_letter, word_length, command_of, names_file};
 ghost use Rattle.quel_meaning.specs.Buffer.{with_piece};
-ghost use Rattle.quel_meaning.specs.Happening.{Setting, Kept, refused, and_then};
-ghost use Rattle.quel_meaning.specs.Running.{most_included, after_include, after_command, after_lines};
+ghost use Rattle.quel_meaning.specs.Batch.{MovesOn, placed_at, batch_from};
+ghost use Rattle.quel_meaning.specs.Happening.{Setting, Kept, quiet, refused, and_then};
+ghost use Rattle.quel_meaning.specs.Running.{most_included, after_include, after_command, after_lines, after_statement, after_batch};
 ghost use Rattle.quel_meaning.specs.Session.{files_of};
 ghost use Rattle.quel_meaning.specs.OpenFiles.{OpenFiles, included_in, after_files, after_rest};
 
@@ -44,4 +47,16 @@ pub fn an_included_file_is_the_innermost()
         ≡ after_files setting (record kept { included = kept.included + length bytes }) (lines_of bytes ∷ files) }
     ensures too_deep { (setting : Setting) (kept : Kept) (bytes : List ℕ) (files : OpenFiles) → 9 ≤ length files
         → after_include (included_in setting files) kept bytes ≡ refused kept 3 0 }
+{}
+
+/// A batch is worked off statement by statement: where nothing is read, nothing is left; a statement runs,
+/// and then what is read from its end on; a syntax refusal drops what is left.
+pub fn a_batch_is_worked_off_statement_by_statement()
+    ensures nothing { (setting : Setting) (text : List ℕ) (from : ℕ) (kept : Kept) → MovesOn setting.reading text → setting.reading text from ≡ Nothing
+        → after_batch setting (batch_from setting.reading text from) kept ≡ quiet kept }
+    ensures statement { (setting : Setting) (text : List ℕ) (from : ℕ) (kept : Kept) (s : Statement) (end : ℕ) → MovesOn setting.reading text → setting.reading text from ≡ Read s end
+        → after_batch setting (batch_from setting.reading text from) kept
+        ≡ and_then (after_statement setting kept (placed_at text from s)) (λ k. after_batch setting (batch_from setting.reading text end) k) }
+    ensures syntax { (setting : Setting) (text : List ℕ) (from : ℕ) (kept : Kept) (place : ℕ) → MovesOn setting.reading text → setting.reading text from ≡ Syntax place
+        → after_batch setting (batch_from setting.reading text from) kept ≡ refused kept 1 (line_at text place) }
 {}
