@@ -158,8 +158,8 @@ pub permits_stay : (db later : Db) → Alike db later → db.dba ≡ later.dba �
     → list_all (λ p. permit_stands db p.0 p.1) permits ≡ list_all (λ p. permit_stands later p.0 p.1) permits
 permits_stay db later alike dba permits =
     λ i. list_all (λ p. relations_same db later alike i p.0
-        && (bytes_eq p.0.owner (dba i) && (user_is_named p.1.user
-        && (list_all (λ a. nat_lt a (length (attrs_same db later alike i p.0))) p.1.attrs && kinds_fit p.1.qual (kinds_same db later alike i p.0 ∷ []))))) permits
+    && (bytes_eq p.0.owner (dba i) && (user_is_named p.1.user
+    && (list_all (λ a. nat_lt a (length (attrs_same db later alike i p.0))) p.1.attrs && kinds_fit p.1.qual (kinds_same db later alike i p.0 ∷ []))))) permits
 
 pub indexes_stay : (db later : Db) → Alike db later → (indexes : List Index) → list_all (index_stands db) indexes ≡ list_all (index_stands later) indexes
 indexes_stay db later alike indexes = λ i. list_all (λ x. elim x.info.spec [

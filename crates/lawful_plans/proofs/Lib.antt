@@ -1,2 +1,8 @@
+mod Kept
+mod Orders
 mod Alike
 mod Numbered
+mod Planned
+mod NewNumbers
+mod GoneNumbers
+pub mod Plans

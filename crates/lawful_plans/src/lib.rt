@@ -1,3 +1,7 @@
 //! What the utilities plan, and what a copy from a file appends, are lawful changes of a database. Each
 //! function here is a law with no body: its clause speaks of the definitions alone.
 #![tactic(auto)]
+
+mod permits;
+
+pub use permits::{dropping_permits_and_rules_is_lawful, new_permits_and_rules_are_lawful};

@@ -154,7 +154,7 @@ module _ (k : ℕ) (l l2 : Lower) (good : Good k l l2) where
 
   starts_operand : (front : List Token) (m : Mixed) → Operand front m → Starts Mix front
   starts_operand front (Bare t) p = starts_whole Mix front (Bare t) p
-  starts_operand front (Whole q) p = record { more = []; value = Whole q; whole = let c : IsQual ((front ++ []) ++ []) q = choice (conjunction p last_and) last_or in rw append-nil at c }
+  starts_operand front (Whole q) p = record { more = []; value = Whole q; whole = let c : IsQual ((front ++ []) ++ []) q = choice (conjunction p last_and) last_or in rw (append-nil (front ++ [])) at c }
 
   exact_mixed : Exact Mix (suc k) (mixed_by l) (mixed_by l2)
   unfolding mixed_by

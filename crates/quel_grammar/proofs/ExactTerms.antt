@@ -145,8 +145,9 @@ pub record Good (k : ℕ) (l l2 : Lower) : Type 0 where
 -- a term with a comparison behind it begins a qualification
 pub starts_qual : (front : List Token) (t : Term) → IsTerm front t → Starts (λ us q. IsQual (front ++ us) q) []
 starts_qual front t p =
-    let q : IsQual (((front ++ tokens.Fixed fixed.Equal ∷ zero_token ∷ []) ++ []) ++ []) (quals.Cmp comparisons.Eq t zero_term) = choice (conjunction (compared p equal one_term) last_and) last_or in
-    record { more = tokens.Fixed fixed.Equal ∷ zero_token ∷ []; value = quals.Cmp comparisons.Eq t zero_term; whole = rw (append-nil, append-nil) at q }
+    let ts = front ++ tokens.Fixed fixed.Equal ∷ zero_token ∷ [] in
+    let q : IsQual ((ts ++ []) ++ []) (quals.Cmp comparisons.Eq t zero_term) = choice (conjunction (compared p equal one_term) last_and) last_or in
+    record { more = tokens.Fixed fixed.Equal ∷ zero_token ∷ []; value = quals.Cmp comparisons.Eq t zero_term; whole = rw (append-nil (ts ++ []), append-nil ts) at q }
 
 pub starts_mixed : (front : List Token) (m : Mixed) → Mix front m → Starts IsQual front
 starts_mixed front (Whole q) p = starts_whole IsQual front q p

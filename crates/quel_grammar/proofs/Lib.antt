@@ -13,3 +13,5 @@ pub mod ExactLists
 pub mod ExactParts
 pub mod ExactStatements
 pub mod Answered
+pub mod Within
+pub mod Further

@@ -23,18 +23,24 @@ use Rattle.quel_meaning.specs.StatementUpdate.{append_of, replace_of, delete_of,
 judged : Option ℕ → Option ℕ → Checked → Result Checked ℕ
 judged names more tree = elim names [ Some n ↦ Err n | None ↦ elim more [ Some n ↦ Err n | None ↦ Ok tree ] ]
 
-accepted : (names more : Option ℕ) (tree found : Checked) → judged names more tree ≡ Ok found → tree ≡ found
-unfolding judged
-accepted (Some n) more tree found e = absurd (cc e)
-accepted None (Some n) tree found e = absurd (cc e)
-accepted None None tree found e = cc e
+-- nothing refuses a statement, and this is its tree
+pub record IsAccepted (s : Scope) (stmt : Statement) (tree : Checked) : Type 0 where
+  pub names : name_refusal s stmt ≡ None
+  pub none : first_cause (causes s stmt) ≡ None
+  pub is : tree_of s stmt ≡ tree
 
-abbrev scope : Db → List ℕ → Ranges → Scope
+abbrev pub scope : Db → List ℕ → Ranges → Scope
 scope db user ranges = record { db = db; user = user; ranges = ranges }
 
-pub tree_is : (db : Db) (user : List ℕ) (ranges : Ranges) (stmt : Statement) (tree : Checked) → resolved db user ranges stmt ≡ Ok tree → tree_of (record { db = db; user = user; ranges = ranges }) stmt ≡ tree
+pub accepted : (db : Db) (user : List ℕ) (ranges : Ranges) (stmt : Statement) (tree : Checked) → resolved db user ranges stmt ≡ Ok tree → IsAccepted (scope db user ranges) stmt tree
 unfolding resolved judged
-tree_is db user ranges stmt tree e = accepted (name_refusal (record { db = db; user = user; ranges = ranges }) stmt) (first_cause (causes (record { db = db; user = user; ranges = ranges }) stmt)) _ tree e
+accepted db user ranges stmt tree e = go (name_refusal (scope db user ranges) stmt) (first_cause (causes (scope db user ranges) stmt)) refl refl e
+  where
+    go : (names more : Option ℕ) → name_refusal (scope db user ranges) stmt ≡ names → first_cause (causes (scope db user ranges) stmt) ≡ more
+        → judged names more (tree_of (scope db user ranges) stmt) ≡ Ok tree → IsAccepted (scope db user ranges) stmt tree
+    go (Some n) more h k e = absurd (cc e)
+    go None (Some n) h k e = absurd (cc e)
+    go None None h k e = record { names = h; none = k; is = cc e }
 
 purpose_is : (s : Scope) (stmt : Statement) → purpose_of (tree_of s stmt) ≡ purpose stmt
 unfolding tree_of purpose_of purpose append_of replace_of delete_of into_of
@@ -59,7 +65,7 @@ purpose_is s (statement.Permit ops var attrs user qual) = refl
 purpose_is s (statement.Rule var qual) = refl
 
 pub resolved_purpose : (db : Db) (user : List ℕ) (ranges : Ranges) (stmt : Statement) (tree : Checked) → resolved db user ranges stmt ≡ Ok tree → purpose_of tree ≡ purpose stmt
-resolved_purpose db user ranges stmt tree e = ap purpose_of (sym (tree_is db user ranges stmt tree e)) ∙ purpose_is (record { db = db; user = user; ranges = ranges }) stmt
+resolved_purpose db user ranges stmt tree e = ap purpose_of (sym (accepted db user ranges stmt tree e).is) ∙ purpose_is (scope db user ranges) stmt
 
 -- ---- numbers
 

@@ -12,6 +12,8 @@ use Rattle.calculus.specs.declared.statement.Item.TheVariants as item
 use Rattle.calculus.specs.declared.statement.Statement.{Statement}
 use Rattle.calculus.specs.declared.statement.Statement.TheVariants as statement
 use Rattle.calculus.specs.Written.{neg, abs, operation, concat, both, either, negated}
+use Rattle.calculus.specs.Finding.{found}
+use Rattle.calculus.specs.Keys.{key_of}
 use Rattle.calculus.specs.Stored.{info_at}
 use Rattle.quel_meaning.specs.Ranges.{range_of}
 use Rattle.quel_meaning.specs.Scope.{Scope, named, ranged, entry_named, attr_place, key_found}
@@ -52,7 +54,7 @@ pub record RangedWith (s : Scope) (var : List ℕ) (of_found : RelInfo → Optio
   pub is : IsRanged s var
   pub fine : of_found is.info ≡ None
 
-ranged_with : (s : Scope) (of_found : RelInfo → Option ℕ) (var : List ℕ) → variable_refusal s of_found var ≡ None → RangedWith s var of_found
+pub ranged_with : (s : Scope) (of_found : RelInfo → Option ℕ) (var : List ℕ) → variable_refusal s of_found var ≡ None → RangedWith s var of_found
 ranged_with s of_found var h = go (range_of s.ranges var) refl h
   where
     at_key : (key : RelKey) → range_of s.ranges var ≡ Some key → (o : Option RelInfo) → info_at s.db key ≡ o → refusal_in of_found o ≡ None → RangedWith s var of_found
@@ -152,3 +154,35 @@ vars_ranged s stmt h = in_once (IsRanged s) _ (go stmt (names_found s stmt h))
     go (statement.View name items qual) h = query_ranged s new_title items qual h
     go (statement.Permit ops var attrs user qual) h = (alone var h.0, qual_ranged s qual (back_of _ (map (AttrOf var) attrs) _ h.1))
     go (statement.Rule var qual) h = (alone var h.0, qual_ranged s qual h.1)
+
+-- ---- relations by their names
+
+-- what is meant by a name is there
+pub record IsNamed (s : Scope) (rel : List ℕ) : Type 0 where
+  pub key : RelKey
+  pub info : RelInfo
+  pub is : named s rel ≡ Some info
+  pub there : info_at s.db key ≡ Some info
+
+pub named_there : (s : Scope) (rel : List ℕ) (info : RelInfo) → named s rel ≡ Some info → IsNamed s rel
+unfolding named found
+named_there s rel info e = go (info_at s.db (key_of s.user rel)) refl e
+  where
+    go : (o : Option RelInfo) → info_at s.db (key_of s.user rel) ≡ o
+        → ◌≡◌ {A = Option RelInfo} (elim o [ Some own ↦ Some own | None ↦ info_at s.db (key_of s.db.dba rel) ]) (Some info) → IsNamed s rel
+    go None f k = record { key = key_of s.db.dba rel; info = info; is = e; there = k }
+    go (Some own) f k = record { key = key_of s.user rel; info = info; is = e; there = f ∙ k }
+
+pub named_with : (s : Scope) (of_found : RelInfo → Option ℕ) (rel : List ℕ) → refusal_in of_found (named s rel) ≡ None → IsNamed s rel
+named_with s of_found rel h = go (named s rel) refl h
+  where
+    go : (o : Option RelInfo) → named s rel ≡ o → refusal_in of_found o ≡ None → IsNamed s rel
+    go None e k = absurd (cc k)
+    go (Some info) e k = named_there s rel info e
+
+-- what a name means is there under its own key
+pub named_again : (s : Scope) (rel : List ℕ) (r : IsNamed s rel) → info_at s.db r.info.key ≡ Some r.info
+named_again s rel r = found_again s.db r.key r.info r.there
+
+pub ranged_again : (s : Scope) (var : List ℕ) (r : IsRanged s var) → info_at s.db r.info.key ≡ Some r.info
+ranged_again s var r = found_again s.db r.key r.info r.there

@@ -36,3 +36,10 @@ pub mod Found
 pub mod Sources
 pub mod LeftOpen
 pub mod LeftOfBatch
+pub mod Few
+pub mod ReadsFit
+pub mod FitAnswers
+pub mod Pigeons
+pub mod DatabaseFacts
+pub mod Titles
+pub mod FitUpdates

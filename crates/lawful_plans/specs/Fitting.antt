@@ -1,0 +1,28 @@
+-- What must hold of a permit, a rule, or a structure for what the utilities plan of it to be lawful: that of which it speaks is there, and it would stand in the database.
+use Rattle.std.specs.Prelude.{Bool, nat_le, is_some, length, IsTrue}
+use Rattle.calculus.specs.declared.query.RelKey.{RelKey}
+use Rattle.calculus.specs.declared.schema.Permit.{Permit}
+use Rattle.calculus.specs.declared.schema.Rule.{Rule}
+use Rattle.calculus.specs.Limits.{most_listed_attributes}
+use Rattle.calculus.specs.Database.{Db}
+use Rattle.calculus.specs.Stored.{range_at}
+use Rattle.calculus.specs.IsDatabase.{user_is_named, permit_attrs_stand, row_qual_stands, row_qual_is_small}
+
+-- a relation, a view or a catalogue stands under the key
+abbrev pub is_ranged : Db → RelKey → Bool
+is_ranged db key = is_some (range_at db key)
+
+-- a permit on what is there: its user has a name, its attributes are there, and its qualification fits and is small
+pub record IsFitPermit (db : Db) (rel : RelKey) (permit : Permit) : Type 0 where
+  pub there : IsTrue (is_ranged db rel)
+  pub user : IsTrue (user_is_named permit.user)
+  pub attrs : IsTrue (permit_attrs_stand db rel permit.attrs)
+  pub few_attrs : IsTrue (nat_le (length permit.attrs) most_listed_attributes)
+  pub qual : IsTrue (row_qual_stands db rel permit.qual)
+  pub small : IsTrue (row_qual_is_small permit.qual)
+
+-- a rule on what is there: its qualification fits and is small
+pub record IsFitRule (db : Db) (rel : RelKey) (rule : Rule) : Type 0 where
+  pub there : IsTrue (is_ranged db rel)
+  pub qual : IsTrue (row_qual_stands db rel rule.qual)
+  pub small : IsTrue (row_qual_is_small rule.qual)

@@ -1,0 +1,4 @@
+pub mod Words
+pub mod Statements
+pub mod Refusals
+pub mod Bounds

@@ -1,0 +1,127 @@
+-- What is found in a database has attributes as one has.
+use Rattle.std.proofs.Common.{◌≡◌, refl, sym, ap, ◌∙◌, subst, ℕ, ◌≤◌, nat_le, Bool, true, false, ◌&&◌, ◌||◌, cond, List, [], ◌∷◌, map, length, Option, Some, None, is_some}
+use Rattle.std.specs.List.{find, list_all, flat_map}
+use Rattle.std.specs.Option.{option_map}
+use Rattle.calculus.specs.declared.query.RelKey.{RelKey}
+use Rattle.calculus.specs.declared.schema.RelInfo.{RelInfo}
+use Rattle.calculus.specs.Keys.{same_key}
+use Rattle.calculus.specs.Name.{is_name}
+use Rattle.calculus.specs.Rows.{set_of}
+use Rattle.calculus.specs.Database.{Db, Relation, View, relation_at, view_at, is_relation}
+use Rattle.calculus.specs.Catalogue.{catalogue_at, is_catalogue, relation_key, attribute_key, relation_info, attribute_info, relation_attrs, attribute_attrs, relation_row, attribute_rows, all_entries}
+use Rattle.calculus.specs.Stored.{Range, Kept, Viewed, range_at, range_info, info_at}
+use Rattle.calculus.specs.IsDatabase.{IsDatabase, attrs_stand}
+use Rattle.quel_meaning.proofs.Each.{not_left, not_right}
+
+-- what is found passes what all pass
+found_passes : {X : Type 0} (p test : X → Bool) (xs : List X) (x : X) → list_all test xs ≡ true → find p xs ≡ Some x → test x ≡ true
+found_passes p test [] x h k = absurd (cc k)
+found_passes p test (y ∷ ys) x h k = go (found_passes p test ys x) (p y) (test y) refl h k
+  where
+    go : (list_all test ys ≡ true → find p ys ≡ Some x → test x ≡ true) → (b c : Bool) → test y ≡ c → (c && list_all test ys) ≡ true → cond b (Some y) (find p ys) ≡ Some x → test x ≡ true
+    go later b false e h k = absurd (cc h)
+    go later true true e h k = let same : y ≡ x = cc k in subst (λ z. test z ≡ true) same e
+    go later false true e h k = later h k
+
+relation_attrs_stand : attrs_stand relation_attrs ≡ true
+unfolding is_name
+relation_attrs_stand = refl
+
+attribute_attrs_stand : attrs_stand attribute_attrs ≡ true
+unfolding is_name
+attribute_attrs_stand = refl
+
+catalogue_stands : (db : Db) (key : RelKey) (r : Relation) → catalogue_at db key ≡ Some r → attrs_stand r.info.attrs ≡ true
+unfolding catalogue_at
+catalogue_stands db key r h = first (same_key key (relation_key db)) h
+  where
+    second : (b : Bool)
+        → ◌≡◌ {A = Option Relation} (elim b [ true ↦ Some (record { info = attribute_info db; rows = set_of (flat_map attribute_rows (all_entries db)) }) | false ↦ None ]) (Some r)
+        → attrs_stand r.info.attrs ≡ true
+    second true k =
+        let same : record { info = attribute_info db; rows = set_of (flat_map attribute_rows (all_entries db)) } ≡ r = cc k in
+        subst (λ (x : Relation). attrs_stand x.info.attrs ≡ true) same attribute_attrs_stand
+    second false k = absurd (cc k)
+
+    first : (b : Bool)
+        → ◌≡◌ {A = Option Relation} (elim b [
+          | true ↦ Some (record { info = relation_info db; rows = set_of (map relation_row (all_entries db)) })
+          | false ↦ elim (same_key key (attribute_key db)) [ true ↦ Some (record { info = attribute_info db; rows = set_of (flat_map attribute_rows (all_entries db)) }) | false ↦ None ]
+        ]) (Some r) → attrs_stand r.info.attrs ≡ true
+    first true k =
+        let same : record { info = relation_info db; rows = set_of (map relation_row (all_entries db)) } ≡ r = cc k in
+        subst (λ (x : Relation). attrs_stand x.info.attrs ≡ true) same relation_attrs_stand
+    first false k = second (same_key key (attribute_key db)) k
+
+range_stands : (db : Db) → IsDatabase db → (key : RelKey) (r : Range) → range_at db key ≡ Some r → attrs_stand (range_info r).attrs ≡ true
+unfolding range_at
+range_stands db is key r h = at_relation (relation_at db key) refl h
+  where
+    at_catalogue : (c : Option Relation) → catalogue_at db key ≡ c → option_map Kept c ≡ Some r → attrs_stand (range_info r).attrs ≡ true
+    at_catalogue None e k = absurd (cc k)
+    at_catalogue (Some relation) e k = let same : Kept relation ≡ r = cc k in subst (λ x. attrs_stand (range_info x).attrs ≡ true) same (catalogue_stands db key relation e)
+
+    at_view : (v : Option View) → view_at db key ≡ v → ◌≡◌ {A = Option Range} (elim v [ Some view ↦ Some (Viewed view) | None ↦ option_map Kept (catalogue_at db key) ]) (Some r)
+        → attrs_stand (range_info r).attrs ≡ true
+    at_view None e k = at_catalogue (catalogue_at db key) refl k
+    at_view (Some view) e k =
+        let same : Viewed view ≡ r = cc k in
+        subst (λ x. attrs_stand (range_info x).attrs ≡ true) same
+        (found_passes (λ (v : View). same_key v.info.key key) (λ (v : View). attrs_stand v.info.attrs) db.views view is.view_attrs_stand e)
+
+    at_relation : (o : Option Relation) → relation_at db key ≡ o
+        → ◌≡◌ {A = Option Range} (elim o [
+          | Some relation ↦ Some (Kept relation)
+          | None ↦ elim (view_at db key) [ Some view ↦ Some (Viewed view) | None ↦ option_map Kept (catalogue_at db key) ]
+        ]) (Some r) → attrs_stand (range_info r).attrs ≡ true
+    at_relation None e k = at_view (view_at db key) refl k
+    at_relation (Some relation) e k =
+        let same : Kept relation ≡ r = cc k in
+        subst (λ x. attrs_stand (range_info x).attrs ≡ true) same
+        (found_passes (λ (r : Relation). same_key r.info.key key) (λ (r : Relation). attrs_stand r.info.attrs) db.relations relation is.relation_attrs_stand e)
+
+-- what is found in a database has attributes as a relation or a view has
+pub info_stands : (db : Db) → IsDatabase db → (key : RelKey) (info : RelInfo) → info_at db key ≡ Some info → attrs_stand info.attrs ≡ true
+unfolding info_at
+info_stands db is key info h = go (range_at db key) refl h
+  where
+    go : (o : Option Range) → range_at db key ≡ o → option_map range_info o ≡ Some info → attrs_stand info.attrs ≡ true
+    go None e k = absurd (cc k)
+    go (Some r) e k = let same : range_info r ≡ info = cc k in subst (λ (i : RelInfo). attrs_stand i.attrs ≡ true) same (range_stands db is key r e)
+
+-- ---- base relations
+
+no_catalogue : (db : Db) (key : RelKey) → is_catalogue db key ≡ false → catalogue_at db key ≡ None
+unfolding catalogue_at
+no_catalogue db key h = go (same_key key (relation_key db)) (same_key key (attribute_key db)) h
+  where
+    go : (a b : Bool) → (a || b) ≡ false
+        → ◌≡◌ {A = Option Relation} (elim a [
+          | true ↦ Some (record { info = relation_info db; rows = set_of (map relation_row (all_entries db)) })
+          | false ↦ elim b [ true ↦ Some (record { info = attribute_info db; rows = set_of (flat_map attribute_rows (all_entries db)) }) | false ↦ None ]
+        ]) None
+    go true b h = absurd (cc h)
+    go false true h = absurd (cc h)
+    go false false h = refl
+
+-- what is found and is neither a catalogue nor a view is a base relation
+pub found_relation : (db : Db) (key : RelKey) (info : RelInfo) → info_at db key ≡ Some info → is_catalogue db key ≡ false → is_some (view_at db key) ≡ false → is_relation db key ≡ true
+unfolding info_at range_at
+found_relation db key info h c v = at_relation (relation_at db key) h
+  where
+    at_catalogue : (o : Option Relation) → o ≡ None → option_map range_info (option_map Kept o) ≡ Some info → false ≡ true
+    at_catalogue None e k = absurd (cc k)
+    at_catalogue (Some r) e k = absurd (cc e)
+
+    at_view : (o : Option View) → is_some o ≡ false
+        → option_map range_info (elim o [ Some view ↦ Some (Viewed view) | None ↦ option_map Kept (catalogue_at db key) ]) ≡ Some info → false ≡ true
+    at_view (Some view) e k = absurd (cc e)
+    at_view None e k = at_catalogue (catalogue_at db key) (no_catalogue db key c) k
+
+    at_relation : (o : Option Relation)
+        → option_map range_info (elim o [
+          | Some relation ↦ Some (Kept relation)
+          | None ↦ elim (view_at db key) [ Some view ↦ Some (Viewed view) | None ↦ option_map Kept (catalogue_at db key) ]
+        ]) ≡ Some info → is_some o ≡ true
+    at_relation (Some r) k = refl
+    at_relation None k = at_view (view_at db key) v k
