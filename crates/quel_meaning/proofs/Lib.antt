@@ -34,6 +34,8 @@ pub mod Each
 pub mod Keys
 pub mod Found
 pub mod Sources
+pub mod LeftOpen
+pub mod LeftOfBatch
 pub mod Few
 pub mod ReadsFit
 pub mod FitAnswers

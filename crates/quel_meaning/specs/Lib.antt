@@ -21,6 +21,7 @@ pub mod Batch
 pub mod Happening
 pub mod Running
 pub mod Session
+pub mod OpenFiles
 pub mod Passing
 pub mod StatementUpdate
 pub mod Causes

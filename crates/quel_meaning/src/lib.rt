@@ -6,6 +6,7 @@ mod laws;
 mod plan_laws;
 mod resolving_laws;
 mod session_laws;
+mod step_laws;
 
 pub use copy_laws::a_copy_is_read_back;
 pub use laws::{
@@ -21,4 +22,8 @@ pub use session_laws::{
     a_batch_is_read_to_its_end, a_line_is_cut_at_its_first_command, all_output_ends_the_last_reply,
     equal_readings_give_equal_sessions, lines_are_the_script, lines_follow_lines,
     nothing_happens_behind_the_end, only_statements_change_the_database,
+};
+pub use step_laws::{
+    a_batch_is_worked_off_statement_by_statement, a_line_is_worked_off_command_by_command,
+    an_included_file_is_the_innermost, lines_come_from_the_innermost_file,
 };
