@@ -26,9 +26,7 @@ pub mod LineLaws
 pub mod ReadWhole
 pub mod Steps
 pub mod Taken
-mod WorkedSessions
 mod WorkedStatements
-pub mod Moving
 pub mod Grammatical
 pub mod Each
 pub mod Keys
