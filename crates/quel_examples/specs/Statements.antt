@@ -2,9 +2,11 @@
 use Rattle.std.specs.Prelude.{ℕ, List, [], ◌∷◌, true, None, Some, codes}
 use Rattle.calculus.specs.declared.operator.AggOp.TheVariants as aggs
 use Rattle.calculus.specs.declared.operator.ArithOp.TheVariants.{Sub, Mul, Pow, Mod}
-use Rattle.calculus.specs.declared.operator.CmpOp.TheVariants as comparisons
+use Rattle.calculus.specs.declared.operator.CmpOp.{CmpOp}
+use Rattle.calculus.specs.declared.operator.CmpOp.TheVariants.{Eq, Ne, Lt, Gt, Ge}
 use Rattle.calculus.specs.declared.schema.Spec.TheVariants as structures
 use Rattle.calculus.specs.declared.statement.Item.TheVariants as items
+use Rattle.calculus.specs.declared.statement.Qual.{Qual}
 use Rattle.calculus.specs.declared.statement.Qual.TheVariants as quals
 use Rattle.calculus.specs.declared.statement.Statement.{Statement}
 use Rattle.calculus.specs.declared.statement.Statement.TheVariants as statements
@@ -23,6 +25,24 @@ of_e name = terms.Attr (codes "e") name
 abbrev shows : Term → Statement
 shows t = statements.Retrieve None (items.Set (codes "x") t ∷ []) quals.True []
 
+-- e.NAME, compared with a number
+abbrev e_is : CmpOp → List ℕ → ℕ → Qual
+e_is op name n = quals.Cmp op (of_e name) (int n)
+
+-- sum(e.s by e.d, e.k where e.s > 0)
+abbrev sum_by : Term
+sum_by = terms.Agg (record { op = aggs.Sum; arg = of_e (codes "s"); by = of_e (codes "d") ∷ of_e (codes "k") ∷ []; qual = e_is Gt (codes "s") 0 })
+
+-- retrieve (e.d, x = sum(e.s by e.d, e.k where e.s > 0)) where e.d != 7 sort by x:d
+abbrev aggregated : Statement
+aggregated = statements.Retrieve None (items.Attr (codes "e") (codes "d") ∷ items.Set (codes "x") sum_by ∷ []) (e_is Ne (codes "d") 7) ((codes "x", true) ∷ [])
+
+-- delete e where (e.a) = 1 and not (e.b < 2 or e.c >= 3) or e.d = 4
+abbrev qualified : Statement
+qualified = statements.Delete (codes "e") (quals.Or
+    (quals.And (e_is Eq (codes "a") 1) (quals.Not (quals.Or (e_is Lt (codes "b") 2) (e_is Ge (codes "c") 3))))
+    (e_is Eq (codes "d") 4))
+
 -- what is read
 pub record Statements (Is : List ℕ → ℕ → Next → Type 0) : Type 0 where
   pub white_space : Is (codes "  /* nothing */ ") 0 Nothing
@@ -35,14 +55,8 @@ pub record Statements (Is : List ℕ → ℕ → Next → Type 0) : Type 0 where
   pub parentheses_leave_nothing : Is (codes "retrieve (x = ((1)))") 0 (Read (shows (int 1)) 20)
   pub functions : Is (codes "retrieve (x = abs(mod(e.a, 2)))") 0 (Read (shows (terms.Abs (terms.Arith Mod (of_e (codes "a")) (int 2)))) 31)
   pub functions_are_names : Is (codes "retrieve (abs.mod)") 0 (Read (statements.Retrieve None (items.Attr (codes "abs") (codes "mod") ∷ []) quals.True []) 18)
-  pub aggregates : Is (codes "retrieve (e.d, x = sum(e.s by e.d, e.k where e.s > 0)) where e.d != 7 sort by x:d") 0 (Read (statements.Retrieve None
-      (items.Attr (codes "e") (codes "d")
-      ∷ items.Set (codes "x") (terms.Agg (record { op = aggs.Sum; arg = of_e (codes "s"); by = of_e (codes "d") ∷ of_e (codes "k") ∷ []; qual = quals.Cmp comparisons.Gt (of_e (codes "s")) (int 0) })) ∷ [])
-      (quals.Cmp comparisons.Ne (of_e (codes "d")) (int 7)) ((codes "x", true) ∷ [])) 81)
-  pub qualifications : Is (codes "delete e where (e.a) = 1 and not (e.b < 2 or e.c >= 3) or e.d = 4") 0 (Read (statements.Delete (codes "e")
-      (quals.Or
-      (quals.And (quals.Cmp comparisons.Eq (of_e (codes "a")) (int 1)) (quals.Not (quals.Or (quals.Cmp comparisons.Lt (of_e (codes "b")) (int 2)) (quals.Cmp comparisons.Ge (of_e (codes "c")) (int 3)))))
-      (quals.Cmp comparisons.Eq (of_e (codes "d")) (int 4)))) 65)
+  pub aggregates : Is (codes "retrieve (e.d, x = sum(e.s by e.d, e.k where e.s > 0)) where e.d != 7 sort by x:d") 0 (Read aggregated 81)
+  pub qualifications : Is (codes "delete e where (e.a) = 1 and not (e.b < 2 or e.c >= 3) or e.d = 4") 0 (Read qualified 65)
   pub results : Is (codes "retrieve unique into r (e.all)") 0 (Read (statements.Retrieve (Some (codes "r")) (items.All (codes "e") ∷ []) quals.True []) 30)
   pub operations_count_once : Is (codes "define permit delete, retrieve, delete of e (a) to all") 0 (Read (statements.Permit 9 (codes "e") (codes "a" ∷ []) None quals.True) 54)
   pub numbers : Is (codes "destroy permit r 4294967295, 1") 0 (Read (statements.DropPermits (codes "r") (4294967295 ∷ 1 ∷ [])) 30)

@@ -5,5 +5,6 @@
 mod syntax;
 
 pub use syntax::{
-    bounds_refuse, statements_are_read, tokens_have_places, what_cannot_go_on_is_refused,
+    bounds_refuse, statements_are_read, tokens_have_bounds, tokens_have_places,
+    what_cannot_go_on_is_refused,
 };

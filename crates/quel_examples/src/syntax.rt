@@ -5,6 +5,7 @@ ghost use Rattle.quel_examples.specs.Statements.{Statements};
 ghost use Rattle.quel_examples.specs.Refusals.{Refusals};
 ghost use Rattle.quel_examples.specs.Bounds.{Bounds};
 ghost use Rattle.quel_examples.specs.Places.{Places};
+ghost use Rattle.quel_examples.specs.Tokens.{Tokens};
 
 /// Statements are read up to the end of their last token, with operators grouped and names found.
 #[tactic(auto, using(crate::proofs::Statements::statements))]
@@ -28,4 +29,10 @@ pub fn bounds_refuse()
 #[tactic(auto, using(crate::proofs::Places::places))]
 pub fn tokens_have_places()
     ensures { Places }
+{}
+
+/// Text constants, names and numbers at the edge of what they may be.
+#[tactic(auto, using(crate::proofs::Tokens::tokens))]
+pub fn tokens_have_bounds()
+    ensures { Tokens IsNext }
 {}
