@@ -18,3 +18,4 @@ pub mod FitUtilities
 pub mod FitKept
 pub mod ConstantLengths
 pub mod KindFacts
+pub mod LawfulKinds
