@@ -19,3 +19,4 @@ pub mod FitKept
 pub mod ConstantLengths
 pub mod KindFacts
 pub mod LawfulKinds
+pub mod GoodTargets
