@@ -20,3 +20,4 @@ pub mod ConstantLengths
 pub mod KindFacts
 pub mod LawfulKinds
 pub mod GoodTargets
+pub mod FitMade
