@@ -18,7 +18,7 @@ use Rattle.std.specs.Str.{bytes_eq}
 use Rattle.quel_meaning.proofs.Each.{left, right, not_left, not_right}
 
 -- what is found passes what all pass
-found_passes : {X : Type 0} (p test : X → Bool) (xs : List X) (x : X) → list_all test xs ≡ true → find p xs ≡ Some x → test x ≡ true
+pub found_passes : {X : Type 0} (p test : X → Bool) (xs : List X) (x : X) → list_all test xs ≡ true → find p xs ≡ Some x → test x ≡ true
 found_passes p test [] x h k = absurd (cc k)
 found_passes p test (y ∷ ys) x h k = go (found_passes p test ys x) (p y) (test y) refl h k
   where

@@ -21,3 +21,4 @@ pub mod KindFacts
 pub mod LawfulKinds
 pub mod GoodTargets
 pub mod FitMade
+pub mod FewExpanded
