@@ -10,11 +10,15 @@ use Rattle.calculus.specs.Rows.{set_of}
 use Rattle.calculus.specs.Database.{Db, Relation, View, relation_at, view_at, is_relation}
 use Rattle.calculus.specs.Catalogue.{catalogue_at, is_catalogue, relation_key, attribute_key, relation_info, attribute_info, relation_attrs, attribute_attrs, relation_row, attribute_rows, all_entries}
 use Rattle.calculus.specs.Stored.{Range, Kept, Viewed, range_at, range_info, info_at}
-use Rattle.calculus.specs.IsDatabase.{IsDatabase, attrs_stand}
-use Rattle.quel_meaning.proofs.Each.{not_left, not_right}
+use Rattle.calculus.specs.IsDatabase.{IsDatabase, attrs_stand, is_kind}
+use Rattle.calculus.specs.declared.schema.Attr.{Attr}
+use Rattle.calculus.specs.Limits.{most_attributes}
+use Rattle.calculus.specs.Lists.{is_any, differ_by}
+use Rattle.std.specs.Str.{bytes_eq}
+use Rattle.quel_meaning.proofs.Each.{left, right, not_left, not_right}
 
 -- what is found passes what all pass
-found_passes : {X : Type 0} (p test : X → Bool) (xs : List X) (x : X) → list_all test xs ≡ true → find p xs ≡ Some x → test x ≡ true
+pub found_passes : {X : Type 0} (p test : X → Bool) (xs : List X) (x : X) → list_all test xs ≡ true → find p xs ≡ Some x → test x ≡ true
 found_passes p test [] x h k = absurd (cc k)
 found_passes p test (y ∷ ys) x h k = go (found_passes p test ys x) (p y) (test y) refl h k
   where
@@ -125,3 +129,20 @@ found_relation db key info h c v = at_relation (relation_at db key) h
         ]) ≡ Some info → is_some o ≡ true
     at_relation (Some r) k = refl
     at_relation None k = at_view (view_at db key) v k
+
+-- ---- what attributes have that stand
+
+pub record HaveStood (attrs : List Attr) : Type 0 where
+  pub any : is_any attrs ≡ true
+  pub few : nat_le (length attrs) most_attributes ≡ true
+  pub named : list_all (λ (a : Attr). is_name a.name) attrs ≡ true
+  pub differ : differ_by bytes_eq (map (λ (a : Attr). a.name) attrs) ≡ true
+  pub kinds : list_all (λ (a : Attr). is_kind a.kind) attrs ≡ true
+
+pub stood : (attrs : List Attr) → attrs_stand attrs ≡ true → HaveStood attrs
+stood attrs h =
+    let h1 = right (is_any attrs) _ h in
+    let h2 = right (nat_le (length attrs) most_attributes) _ h1 in
+    let h3 = right (list_all (λ (a : Attr). is_name a.name) attrs) _ h2 in
+    let h4 = right (differ_by bytes_eq (map (λ (a : Attr). a.name) attrs)) _ h3 in
+    record { any = left _ _ h; few = left _ _ h1; named = left _ _ h2; differ = left _ _ h3; kinds = left _ _ h4 }

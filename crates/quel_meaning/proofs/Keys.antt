@@ -39,7 +39,7 @@ keys_same a b h = rw (bytes_same a.owner b.owner (ap (λ (k : RelKey). k.owner) 
 relation_key_is : (db : Db) (key : RelKey) (r : Relation) → relation_at db key ≡ Some r → r.info.key ≡ key
 relation_key_is db key r h = same_keys r.info.key key (find_passes (λ (x : Relation). same_key x.info.key key) db.relations r h)
 
-view_key_is : (db : Db) (key : RelKey) (v : View) → view_at db key ≡ Some v → v.info.key ≡ key
+pub view_key_is : (db : Db) (key : RelKey) (v : View) → view_at db key ≡ Some v → v.info.key ≡ key
 view_key_is db key v h = same_keys v.info.key key (find_passes (λ (x : View). same_key x.info.key key) db.views v h)
 
 catalogue_key_is : (db : Db) (key : RelKey) (r : Relation) → catalogue_at db key ≡ Some r → r.info.key ≡ key

@@ -45,3 +45,7 @@ pub mod FitUtilities
 pub mod FitKept
 pub mod ConstantLengths
 pub mod KindFacts
+pub mod LawfulKinds
+pub mod GoodTargets
+pub mod FitMade
+pub mod FewExpanded

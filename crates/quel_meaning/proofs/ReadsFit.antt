@@ -43,7 +43,7 @@ none_of (c ∷ cs) h = go (none_of cs) c.1 refl h
     go later true e h = absurd (cc h)
     go later false e h = (e, later h)
 
-vars_named : (s : Scope) (stmt : Statement) → name_refusal s stmt ≡ None → list_all (is_named s.db) (vars_of (query_of s stmt)) ≡ true
+pub vars_named : (s : Scope) (stmt : Statement) → name_refusal s stmt ≡ None → list_all (is_named s.db) (vars_of (query_of s stmt)) ≡ true
 unfolding query_of
 vars_named s stmt h = passed (is_named s.db) _ (in_map _ (key_over s) (vars_in stmt) (each_to _ _ (λ var r. ranged_named s var r) (vars_in stmt) (vars_ranged s stmt h)))
 
