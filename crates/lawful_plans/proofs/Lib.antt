@@ -9,3 +9,4 @@ pub mod Plans
 mod Ranging
 mod Changed
 mod ReadRows
+mod RowsChanged
