@@ -10,3 +10,4 @@ mod Ranging
 mod Changed
 mod ReadRows
 mod RowsChanged
+pub mod CopiedRows
