@@ -9,3 +9,5 @@ pub mod Plans
 mod Ranging
 mod Changed
 mod ReadRows
+mod RowsChanged
+pub mod CopiedRows

@@ -2,6 +2,8 @@
 //! function here is a law with no body: its clause speaks of the definitions alone.
 #![tactic(auto)]
 
+mod copies;
 mod permits;
 
+pub use copies::a_copy_from_a_file_is_lawful;
 pub use permits::{dropping_permits_and_rules_is_lawful, new_permits_and_rules_are_lawful};
