@@ -8,3 +8,4 @@ mod GoneNumbers
 pub mod Plans
 mod Ranging
 mod Changed
+mod ReadRows

@@ -29,9 +29,10 @@ use Rattle.quel_meaning.specs.Scope.{Scope, named, ranged, entry_named, key_foun
 use Rattle.quel_meaning.specs.Naming.{Mention, Variable, Relation, AttrIn, AttrOf, Entry, mentions, mention_refusal, no_refusal, name_refusal}
 use Rattle.quel_meaning.specs.Aggregates.{aggregates_stand}
 use Rattle.quel_meaning.specs.WrittenQuery.{query_of}
-use Rattle.quel_meaning.specs.Passing.{is_full, are_full, is_taken}
+use Rattle.quel_meaning.specs.Passing.{is_full, is_taken}
 use Rattle.quel_meaning.specs.Causes.{repeats, repeats_keys, is_binary, is_binary_text, row_causes, causes}
-use Rattle.quel_meaning.specs.Resolved.{structure_keys, first_or_these, copy_col, tree_of}
+use Rattle.quel_meaning.specs.Structures.{structure_keys, first_or_these}
+use Rattle.quel_meaning.specs.Resolved.{copy_col, tree_of}
 use Rattle.quel_meaning.specs.FitQueries.{is_named}
 use Rattle.quel_meaning.specs.Fit.{is_new, is_entry, is_structure, columns_fit, row_qual_fits, listed_attrs_fit, utility_fits, fits, is_fit_with_views}
 use Rattle.quel_meaning.specs.IsWritten.{is_written}

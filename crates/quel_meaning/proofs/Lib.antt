@@ -43,3 +43,5 @@ pub mod Titles
 pub mod FitUpdates
 pub mod FitUtilities
 pub mod FitKept
+pub mod ConstantLengths
+pub mod KindFacts

@@ -27,7 +27,8 @@ use Rattle.quel_meaning.specs.Aggregates.{aggregates_stand}
 use Rattle.quel_meaning.specs.KindsInQueries.{query_fits, assignments_fit}
 use Rattle.quel_meaning.specs.WrittenQuery.{query_of}
 use Rattle.quel_meaning.specs.StatementUpdate.{titles_of, append_of, replace_of, delete_of}
-use Rattle.quel_meaning.specs.Passing.{has_too_many, is_full, is_too_large, are_full, is_too_wide, is_taken}
+use Rattle.quel_meaning.specs.Passing.{has_too_many, is_full, is_too_large, is_too_wide, is_taken}
+use Rattle.quel_meaning.specs.Planned.{is_past_limit}
 
 -- causes that refuse, each by its number and whether it is there
 abbrev pub Causes : Type 0
@@ -146,8 +147,8 @@ causes_by s stand q (statement.Copy rel columns from file) =
     (17, repeats (map (λ c. c.0) columns)) ∷ (13, list_any (is_binary_text s (named s rel)) columns) ∷ []
 causes_by s stand q (statement.View name items qual) = view_causes s stand name q
 causes_by s stand q (statement.Permit ops var attrs user qual) =
-    row_causes s stand (ranged s var) (are_full most_permits (permit_numbers s.db (key_found (ranged s var))) || nat_lt most_listed_attributes (length attrs)) q
-causes_by s stand q (statement.Rule var qual) = row_causes s stand (ranged s var) (are_full most_rules (rule_numbers s.db (key_found (ranged s var)))) q
+    row_causes s stand (ranged s var) (is_past_limit most_permits (permit_numbers s.db (key_found (ranged s var))) || nat_lt most_listed_attributes (length attrs)) q
+causes_by s stand q (statement.Rule var qual) = row_causes s stand (ranged s var) (is_past_limit most_rules (rule_numbers s.db (key_found (ranged s var)))) q
 
 -- what refuses a statement whose names were found, in the order in which it counts; what the user may do and what the rows decide is judged later
 unfoldable pub causes : Scope → Statement → Causes

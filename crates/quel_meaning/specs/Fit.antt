@@ -4,7 +4,6 @@ use Rattle.std.specs.List.{list_all}
 use Rattle.calculus.specs.declared.query.RelKey.{RelKey}
 use Rattle.calculus.specs.declared.query.QQual.{QQual}
 use Rattle.calculus.specs.declared.query.Query.{Query}
-use Rattle.calculus.specs.declared.query.Target.{Target}
 use Rattle.calculus.specs.declared.schema.Attr.{Attr}
 use Rattle.calculus.specs.declared.schema.Spec.{Spec}
 use Rattle.calculus.specs.declared.schema.Spec.TheVariants as spec
@@ -30,6 +29,7 @@ use Rattle.quel_meaning.specs.Passing.{is_full, is_taken, is_too_large}
 use Rattle.quel_meaning.specs.KindsInQueries.{kind_in_query, kinds_fit_in_query, assignments_fit}
 use Rattle.quel_meaning.specs.FitQueries.{Allowed, kept, kept_or_viewed, is_named, lists_few_vars, reads_fit, asked_fits}
 use Rattle.quel_meaning.specs.Causes.{is_binary}
+use Rattle.quel_meaning.specs.Planned.{target_attr}
 
 -- ---- updates
 
@@ -100,16 +100,12 @@ columns_fit db rel columns =
     && (differ_by nat_eq (map (λ c. c.attr) columns)
     && list_all (λ c. not (is_binary c.form && is_text_kind (slice_get (kinds_at db rel) c.attr))) columns))
 
--- the attribute of a view that a target is
-abbrev pub view_attr : Target → Attr
-view_attr t = record { name = t.name; kind = t.kind }
-
 -- the query of a new view: what it names is there, its kinds fit and no aggregate stands; its attributes, variables, size and level are within the limits
 unfoldable pub view_fits : Db → Query → Bool
 view_fits db q =
     vars_are_there db q
     && (query_stands db q
-    && (attrs_stand (map view_attr (targets_of q))
+    && (attrs_stand (map target_attr (targets_of q))
     && (lists_few_vars q
     && (nat_le (variables q) most_variables && (nat_le (expanded_variables db q) most_expanded_variables && not (is_too_large db q))))))
 

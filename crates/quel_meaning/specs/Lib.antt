@@ -1,5 +1,6 @@
 pub mod Ranges
 pub mod Shelf
+pub mod Structures
 pub mod State
 pub mod Scope
 pub mod WrittenParts

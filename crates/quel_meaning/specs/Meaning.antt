@@ -25,6 +25,7 @@ use Rattle.calculus.specs.Change.{laid}
 use Rattle.quel_meaning.specs.Ranges.{Ranges, declared}
 use Rattle.quel_meaning.specs.Shelf.{Shelf, stored}
 use Rattle.quel_meaning.specs.State.{State, Outcome, Built}
+use Rattle.quel_meaning.specs.Resolved.{resolved}
 use Rattle.quel_meaning.specs.Planned.{planned}
 use Rattle.quel_meaning.specs.Copying.{copied_from, copied_into, file_name, refusal}
 use Rattle.quel_meaning.specs.Tables.{table_of, some_query_lacks}
@@ -139,6 +140,10 @@ built_outcome false resolved state user s = refused state 9
 -- what a statement does for the user
 unfoldable pub meaning_by : Resolving → Built → State → List ℕ → Statement → Outcome
 meaning_by resolved built state user s = built_outcome (built.statement s) resolved state user s
+
+-- what a statement does for the user, resolved as statements are
+abbrev pub meaning : Built → State → List ℕ → Statement → Outcome
+meaning built state user s = meaning_by resolved built state user s
 
 -- what statements do that run one after the other, each on what the one before left
 unfoldable pub statements_run : (State → Statement → Outcome) → State → List Statement → List Outcome

@@ -38,10 +38,6 @@ is_too_high (Some level) = nat_lt greatest_level level
 unfoldable pub is_too_large : Db → Query → Bool
 is_too_large db q = nat_lt greatest_size (query_size db q) || (is_too_high (query_level db q) || nat_lt most_levels (query_levels q))
 
--- so many permits or rules stand with these numbers that there is no room, or no number, for a further one
-unfoldable pub are_full : ℕ → List ℕ → Bool
-are_full most numbers = nat_le most (length numbers) || list_any (nat_le greatest_number) numbers
-
 -- a row of these kinds has too many attributes or too many bytes
 unfoldable pub is_too_wide : List Kind → Bool
 is_too_wide kinds = nat_lt most_attributes (length kinds) || nat_lt most_row_bytes (sum_by kind_bytes kinds)

@@ -8,7 +8,6 @@ use Rattle.calculus.specs.declared.query.Query.{Query}
 use Rattle.calculus.specs.declared.schema.Attr.{Attr}
 use Rattle.calculus.specs.declared.schema.RelInfo.{RelInfo}
 use Rattle.calculus.specs.declared.schema.Rule.{Rule}
-use Rattle.calculus.specs.declared.schema.Spec.{Spec}
 use Rattle.calculus.specs.declared.schema.Spec.TheVariants as spec
 use Rattle.calculus.specs.declared.request.Utility.{Utility}
 use Rattle.calculus.specs.declared.request.Utility.TheVariants as utility
@@ -24,6 +23,7 @@ use Rattle.calculus.specs.Stored.{rows_at}
 use Rattle.calculus.specs.QueryParts.{vars_of, targets_of}
 use Rattle.calculus.specs.Replacement.{first_cause}
 use Rattle.calculus.specs.Change.{permit_numbers, rule_numbers}
+use Rattle.quel_meaning.specs.Structures.{structure_keys}
 
 -- ---- numbers of permits and rules
 
@@ -110,14 +110,6 @@ target_attr t = record { name = t.name; kind = t.kind }
 -- what is known of a view: its attributes have the names and kinds of its targets
 abbrev pub view_info : RelKey → Query → RelInfo
 view_info rel q = record { key = rel; spec = spec.View; attrs = map target_attr (targets_of q); keys = [] }
-
--- the keys of a structure: of a heap none, else the ones that are named, and where none is named the first attribute. Nothing is made a view or an index
-abbrev pub structure_keys : Spec → List ℕ → List ℕ
-structure_keys to keys = elim to [ spec.Heap ↦ [] | spec.Hash ↦ named keys | spec.Isam ↦ named keys | spec.View ↦ [] | spec.Index ↦ [] ]
-  where
-    named : List ℕ → List ℕ
-    named [] = 0 ∷ []
-    named (k ∷ ks) = k ∷ ks
 
 -- the change that a utility makes. A copy, which is no plan, makes none here
 unfoldable pub plan_change : Db → Utility → DbChange

@@ -12,8 +12,6 @@ use Rattle.calculus.specs.declared.request.Utility.TheVariants as utility
 use Rattle.calculus.specs.declared.request.Checked.{Checked}
 use Rattle.calculus.specs.declared.request.Checked.TheVariants as checked
 use Rattle.calculus.specs.declared.schema.Attr.{Attr as Attribute}
-use Rattle.calculus.specs.declared.schema.Spec.{Spec}
-use Rattle.calculus.specs.declared.schema.Spec.TheVariants as spec
 use Rattle.calculus.specs.declared.schema.RelInfo.{RelInfo}
 use Rattle.calculus.specs.declared.statement.Statement.{Statement}
 use Rattle.calculus.specs.declared.statement.Statement.TheVariants as statement
@@ -30,6 +28,7 @@ use Rattle.quel_meaning.specs.Ranges.{Ranges}
 use Rattle.quel_meaning.specs.Scope.{Scope, named, ranged, entry_named, key_found, place_found}
 use Rattle.quel_meaning.specs.Naming.{name_refusal}
 use Rattle.quel_meaning.specs.WrittenQuery.{attr_targets, query_of}
+use Rattle.quel_meaning.specs.Structures.{structure_keys}
 use Rattle.quel_meaning.specs.StatementUpdate.{append_of, replace_of, delete_of, into_of}
 use Rattle.quel_meaning.specs.Causes.{causes, title_place}
 
@@ -66,21 +65,6 @@ help_on s info =
 -- an attribute with its domain
 abbrev pub stored_attr : (List ℕ × Domain) → Attribute
 stored_attr a = record { name = a.0; kind = Of a.1 }
-
--- the first attribute where none is named
-abbrev pub first_or_these : List ℕ → List ℕ
-first_or_these [] = 0 ∷ []
-first_or_these (k ∷ keys) = k ∷ keys
-
--- the places of the keys of a structure: a heap has none, the others those that are named, or the first attribute
-abbrev pub structure_keys : Spec → List ℕ → List ℕ
-structure_keys to places = elim to [
-  | spec.Heap ↦ []
-  | spec.Hash ↦ first_or_these places
-  | spec.Isam ↦ first_or_these places
-  | spec.View ↦ places
-  | spec.Index ↦ places
-]
 
 -- a column of a file with the place of its attribute
 abbrev pub copy_col : Option RelInfo → (List ℕ × CopyForm) → CopyCol

@@ -4,8 +4,7 @@ use Rattle.calculus.specs.Lists.{is_any}
 use Rattle.calculus.specs.Database.{Db}
 use Rattle.quel_grammar.specs.Next.{Reading}
 use Rattle.quel_meaning.specs.State.{State, Built}
-use Rattle.quel_meaning.specs.Resolved.{resolved}
-use Rattle.quel_meaning.specs.Meaning.{meaning_by}
+use Rattle.quel_meaning.specs.Meaning.{meaning}
 use Rattle.quel_meaning.specs.Lines.{lines_of}
 use Rattle.quel_meaning.specs.Happening.{Setting, Event, Wrote, Ran, Kept, After, start}
 use Rattle.quel_meaning.specs.Running.{Deeper, files_within, after_lines}
@@ -38,7 +37,7 @@ session_of setting state script = session_of_lines setting state (lines_of scrip
 
 -- what sessions of a user rest on: this reading, and what is built of the language
 abbrev pub setting_of : Reading → Built → List ℕ → Setting
-setting_of reading built user = record { reading = reading; meaning = λ state s. meaning_by resolved built state user s; is_built = built.command }
+setting_of reading built user = record { reading = reading; meaning = λ state s. meaning built state user s; is_built = built.command }
 
 -- the session of a user's script, from what stands before it
 unfoldable pub session : Reading → Built → List ℕ → State → List ℕ → Session
