@@ -212,7 +212,7 @@ view_stmt_fits s is name items qual w h k =
     good : Each (λ (t : Target). IsGood t.name t.kind) (targets_of q)
     good = targets_good s is new_title stmt qual w (names_found s stmt h)
 
-    attributes : attrs_stand (map view_attr (targets_of q)) ≡ true
+    attributes : attrs_stand (map target_attr (targets_of q)) ≡ true
     attributes =
-        made_stand view_attr (targets_of q) (some_target s is new_title stmt qual w (names_found s stmt h))
+        made_stand target_attr (targets_of q) (some_target s is new_title stmt qual w (names_found s stmt h))
         (each_to _ _ (λ (t : Target) g. g.0) (targets_of q) good) (not_not _ none.1.1.0) (each_to _ _ (λ (t : Target) g. g.1) (targets_of q) good) none.1.1.1.1.0
