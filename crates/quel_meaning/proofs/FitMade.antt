@@ -38,7 +38,8 @@ use Rattle.quel_meaning.specs.StatementUpdate.{titles_of, into_of}
 use Rattle.quel_meaning.specs.Causes.{into_causes, view_causes, causes}
 use Rattle.quel_meaning.specs.Resolved.{tree_of}
 use Rattle.quel_meaning.specs.FitQueries.{is_named, kept_or_viewed}
-use Rattle.quel_meaning.specs.Fit.{view_attr, view_fits, update_fits, utility_fits, fits, is_fit_with_views}
+use Rattle.quel_meaning.specs.Fit.{view_fits, update_fits, utility_fits, fits, is_fit_with_views}
+use Rattle.quel_meaning.specs.Planned.{target_attr}
 use Rattle.quel_meaning.specs.IsWritten.{is_written}
 use Rattle.quel_meaning.proofs.Each.{Each, in_map, each_to, passed, each_passes, left, right, and, not_left, not_right, not_not, not_so}
 use Rattle.quel_meaning.proofs.Few.{listed_few, variables_few, expanded_few, update_expanded_few}
