@@ -84,9 +84,9 @@ of_view db is key view e f =
     let here : is_some (level_within greatest_level db key) ≡ true = subst (λ k. is_some (level_within greatest_level db k) ≡ true) (view_key_is db key view e) level in
     let above : is_some (level_above (map (level_within 15 db) (vars_of view.query))) ≡ true = subst (λ r. is_some (range_level (λ view. level_above (map (level_within 15 db) (vars_of view.query))) r) ≡ true) f here in
     let same : (query_measure (measure_within 15 db) view.query).variables ≡ (query_measure (measure_within 16 db) view.query).variables =
-        same_counts (measure_within 15 db) (measure_within 16 db) view.query (each_to _ _ (λ other k. enough 15 db other k) (vars_of view.query) (levels_below (level_within 15 db) (vars_of view.query) above)) in
+    same_counts (measure_within 15 db) (measure_within 16 db) view.query (each_to _ _ (λ other k. enough 15 db other k) (vars_of view.query) (levels_below (level_within 15 db) (vars_of view.query) above)) in
     let few : nat_le (expanded_variables db view.query) most_expanded_variables ≡ true =
-        found_passes (λ (v : View). same_key v.info.key key) (λ (v : View). nat_le (expanded_variables db v.query) most_expanded_variables) db.views view is.few_expanded_variables e in
+    found_passes (λ (v : View). same_key v.info.key key) (λ (v : View). nat_le (expanded_variables db v.query) most_expanded_variables) db.views view is.few_expanded_variables e in
     omega (arith, same, leb-true (expanded_variables db view.query) most_expanded_variables few)
 
 -- what stands in a database has few variables

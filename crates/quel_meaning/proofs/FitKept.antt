@@ -44,7 +44,6 @@ use Rattle.quel_meaning.proofs.FitUtilities.{named_is, by_name, attrs_there, its
 
 -- ---- copies
 
-
 columns_are_places : (info : RelInfo) (columns : List (List ℕ × CopyForm)) → map (λ (c : CopyCol). c.attr) (map (copy_col (Some info)) columns) ≡ map (place_found (Some info)) (map (λ (c : List ℕ × CopyForm). c.0) columns)
 columns_are_places info [] = refl
 columns_are_places info (c ∷ columns) = ap (λ ps. place_found (Some info) c.0 ∷ ps) (columns_are_places info columns)

@@ -73,9 +73,13 @@ item_good : (s : Scope) → IsDatabase s.db → (titled : List ℕ → List Ment
     → Each (λ (t : Target). IsGood t.name t.kind) (item_targets s vars n i)
 item_good s is titled vars n (item.Set name term) w h =
     ((left _ _ w, unwrapped (kind_in_query s.db (term_tree s vars n term) (kinds_over s vars)) (λ k e. term_lawful s is vars n term (kinds_over s vars) (kinds_lawful s is vars) (each_passes is_chars (constants term) (right (is_name name) _ w)) k e)), tt)
-item_good s is titled vars n (item.Attr var attr) w h =
-    ((subst (λ name. is_name name ≡ true) (place.named d) (at_place (λ (a : Attr). is_name a.name ≡ true) r.is.info.attrs place.place d (each_passes (λ (a : Attr). is_name a.name) r.is.info.attrs (stood_at s is var r.is).named) place.below),
-    unwrapped (kind_in_query s.db (term_tree s vars n (Dot var attr)) (kinds_over s vars)) (λ k e. term_lawful s is vars n (Dot var attr) (kinds_over s vars) (kinds_lawful s is vars) tt k e)), tt)
+item_good s is titled vars n (item.Attr var attr) w h = (
+  (
+    subst (λ name. is_name name ≡ true) (place.named d) (at_place (λ (a : Attr). is_name a.name ≡ true) r.is.info.attrs place.place d (each_passes (λ (a : Attr). is_name a.name) r.is.info.attrs (stood_at s is var r.is).named) place.below),
+    unwrapped (kind_in_query s.db (term_tree s vars n (Dot var attr)) (kinds_over s vars)) (λ k e. term_lawful s is vars n (Dot var attr) (kinds_over s vars) (kinds_lawful s is vars) tt k e),
+  ),
+  tt,
+)
   where
     r : RangedWith s var (attr_refusal attr)
     r = ranged_with s (attr_refusal attr) var h.0

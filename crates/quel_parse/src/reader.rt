@@ -4,8 +4,8 @@ ghost use Rattle.std.specs.Prelude.{◌≡◌, option_map};
 ghost use Rattle.quel_parse.specs.Form.{is_catalogue};
 ghost use Rattle.quel_parse.specs.Reading.{after_mark, after_name, name_at, int_at, comparison_of, comparison_at, create_at, append_at, range_at, attribute_at, retrieve_at, where_at, test_at, asked_at, view};
 
-use quel_grammar::{Fixed, Token};
 use calculus::{CmpOp, Name};
+use quel_grammar::{Fixed, Token};
 
 /// The greatest number in a batch of the first form.
 const GREATEST: u64 = 32767;
