@@ -35,7 +35,7 @@ numbered f k (x ∷ xs) =
 some_vars : (q : Query) (p : ℕ × RelKey → Bool) → length (filter p (enumerate_from 0 (vars_of q))) ≤ length (vars_of q)
 some_vars q p = subst (λ n. length (filter p (enumerate_from 0 (vars_of q))) ≤ n) (length-enumerate_from 0 (vars_of q)) (fewer p (enumerate_from 0 (vars_of q)))
 
-some_measures : (db : Db) (q : Query) (p : ℕ × RelKey → Bool)
+pub some_measures : (db : Db) (q : Query) (p : ℕ × RelKey → Bool)
     → sum_by (λ (v : ℕ × RelKey). (measure_of db v.1).variables) (filter p (enumerate_from 0 (vars_of q))) ≤ sum_by (λ key. (measure_of db key).variables) (vars_of q)
 some_measures db q p =
     subst (λ n. sum_by (λ (v : ℕ × RelKey). (measure_of db v.1).variables) (filter p (enumerate_from 0 (vars_of q))) ≤ n)

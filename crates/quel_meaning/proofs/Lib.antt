@@ -22,3 +22,5 @@ pub mod LawfulKinds
 pub mod GoodTargets
 pub mod FitMade
 pub mod FewExpanded
+pub mod FitShown
+pub mod FitResolved
