@@ -1,5 +1,5 @@
 -- What is found in a database has attributes as one has.
-use Rattle.std.proofs.Common.{◌≡◌, refl, sym, ap, ◌∙◌, subst, ℕ, ◌≤◌, nat_le, Bool, true, false, ◌&&◌, ◌||◌, cond, List, [], ◌∷◌, map, length, Option, Some, None, is_some}
+use Rattle.std.proofs.Common.{◌≡◌, refl, subst, nat_le, Bool, true, false, ◌&&◌, ◌||◌, cond, List, [], ◌∷◌, map, length, Option, Some, None, is_some}
 use Rattle.std.specs.List.{find, list_all, flat_map}
 use Rattle.std.specs.Option.{option_map}
 use Rattle.calculus.specs.declared.query.RelKey.{RelKey}
@@ -15,7 +15,7 @@ use Rattle.calculus.specs.declared.schema.Attr.{Attr}
 use Rattle.calculus.specs.Limits.{most_attributes}
 use Rattle.calculus.specs.Lists.{is_any, differ_by}
 use Rattle.std.specs.Str.{bytes_eq}
-use Rattle.quel_meaning.proofs.Each.{left, right, not_left, not_right}
+use Rattle.quel_meaning.proofs.Each.{left, right}
 
 -- what is found passes what all pass
 pub found_passes : {X : Type 0} (p test : X → Bool) (xs : List X) (x : X) → list_all test xs ≡ true → find p xs ≡ Some x → test x ≡ true

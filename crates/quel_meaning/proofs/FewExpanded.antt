@@ -1,6 +1,6 @@
 -- What stands in a database has few variables once the views in it are put in.
-use Rattle.std.proofs.Common.{◌≡◌, refl, sym, ap, ap₂, ◌∙◌, subst, ℕ, zero, suc, ◌+◌, ◌≤◌, max, nat_le, Bool, true, false, List, [], ◌∷◌, map, length, Option, Some, None, is_some, arith}
-use Rattle.std.specs.List.{list_all, filter, sum_by, enumerate_from}
+use Rattle.std.proofs.Common.{◌≡◌, refl, sym, ap, ap₂, ◌∙◌, subst, ℕ, zero, suc, ◌+◌, ◌≤◌, nat_le, true, List, [], ◌∷◌, map, Option, Some, None, is_some, arith}
+use Rattle.std.specs.List.{sum_by, enumerate_from}
 use Rattle.std.specs.Option.{option_map}
 use Rattle.std.proofs.lemmas.Bool.{leb-true}
 use Rattle.std.proofs.lemmas.List.Sums.{sum_by-cons}
@@ -12,8 +12,8 @@ use Rattle.calculus.specs.IsDatabase.{IsDatabase}
 use Rattle.calculus.specs.Keys.{same_key}
 use Rattle.calculus.specs.Limits.{greatest_level, most_expanded_variables}
 use Rattle.calculus.specs.Lists.{is_any}
-use Rattle.calculus.specs.QueryParts.{vars_of, query_aggregates}
-use Rattle.calculus.specs.Sizes.{greater_level, greatest_of, level_above, range_level, level_within, level_of, Measure, Known, query_measure, range_measure, measure_within, measure_of, source_variables, expanded_variables}
+use Rattle.calculus.specs.QueryParts.{vars_of}
+use Rattle.calculus.specs.Sizes.{greater_level, greatest_of, level_above, range_level, level_within, level_of, Known, query_measure, range_measure, measure_within, measure_of, expanded_variables}
 use Rattle.calculus.specs.Stored.{Range, Kept, Viewed, range_at}
 use Rattle.calculus.specs.Used.{used_in_query, used_vars}
 use Rattle.quel_meaning.proofs.Each.{Each, of_map, in_filter, each_to}
@@ -84,9 +84,9 @@ of_view db is key view e f =
     let here : is_some (level_within greatest_level db key) ≡ true = subst (λ k. is_some (level_within greatest_level db k) ≡ true) (view_key_is db key view e) level in
     let above : is_some (level_above (map (level_within 15 db) (vars_of view.query))) ≡ true = subst (λ r. is_some (range_level (λ view. level_above (map (level_within 15 db) (vars_of view.query))) r) ≡ true) f here in
     let same : (query_measure (measure_within 15 db) view.query).variables ≡ (query_measure (measure_within 16 db) view.query).variables =
-        same_counts (measure_within 15 db) (measure_within 16 db) view.query (each_to _ _ (λ other k. enough 15 db other k) (vars_of view.query) (levels_below (level_within 15 db) (vars_of view.query) above)) in
+    same_counts (measure_within 15 db) (measure_within 16 db) view.query (each_to _ _ (λ other k. enough 15 db other k) (vars_of view.query) (levels_below (level_within 15 db) (vars_of view.query) above)) in
     let few : nat_le (expanded_variables db view.query) most_expanded_variables ≡ true =
-        found_passes (λ (v : View). same_key v.info.key key) (λ (v : View). nat_le (expanded_variables db v.query) most_expanded_variables) db.views view is.few_expanded_variables e in
+    found_passes (λ (v : View). same_key v.info.key key) (λ (v : View). nat_le (expanded_variables db v.query) most_expanded_variables) db.views view is.few_expanded_variables e in
     omega (arith, same, leb-true (expanded_variables db view.query) most_expanded_variables few)
 
 -- what stands in a database has few variables

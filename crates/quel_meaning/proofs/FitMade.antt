@@ -1,17 +1,14 @@
 -- Resolved results and views are fit.
-use Rattle.std.proofs.Common.{◌≡◌, refl, sym, ap, ◌∙◌, subst, ℕ, zero, suc, ◌+◌, ◌≤◌, ◌<◌, nat_eq, nat_lt, nat_le, slice_get, Bool, true, false, ◌&&◌, ◌||◌, not, List, [], ◌∷◌, ◌++◌, map, length, Option, Some, None, is_some, arith}
+use Rattle.std.proofs.Common.{◌≡◌, refl, ap, ◌∙◌, subst, ℕ, ◌+◌, ◌<◌, nat_eq, nat_lt, Bool, true, false, ◌&&◌, ◌||◌, not, List, [], ◌∷◌, map, length, Option, Some, None, is_some, arith}
 use Rattle.std.specs.List.{list_all, list_any, enumerate_from, flat_map, zip}
 use Rattle.std.specs.Option.{option_map}
-use Rattle.std.specs.Str.{bytes_eq}
 use Rattle.std.proofs.lemmas.Bool.{eq-eqb, lt-ltb, ne_eqb}
 use Rattle.std.proofs.lemmas.List.{length-map}
 use Rattle.std.proofs.lemmas.List.FromFn.{length-enumerate_from}
-use Rattle.calculus.specs.declared.query.QAgg.{QAgg}
 use Rattle.calculus.specs.declared.query.RelKey.{RelKey}
 use Rattle.calculus.specs.declared.query.Query.{Query}
 use Rattle.calculus.specs.declared.query.Target.{Target}
 use Rattle.calculus.specs.declared.schema.Attr.{Attr}
-use Rattle.calculus.specs.declared.statement.AggTerm.{AggTerm}
 use Rattle.calculus.specs.declared.statement.Item.{Item}
 use Rattle.calculus.specs.declared.statement.Qual.{Qual}
 use Rattle.calculus.specs.declared.statement.Statement.{Statement}
@@ -20,10 +17,9 @@ use Rattle.calculus.specs.declared.value.Domain.TheVariants.{I1, I2, I4, C}
 use Rattle.calculus.specs.declared.value.Kind.{Kind}
 use Rattle.calculus.specs.declared.value.Kind.TheVariants.{Of, Wide}
 use Rattle.calculus.specs.Database.{Db}
-use Rattle.calculus.specs.IsDatabase.{IsDatabase, attrs_stand, are_stored, is_kind, is_stored_kind, has_kind, var_kinds, query_stands, vars_are_there}
+use Rattle.calculus.specs.IsDatabase.{IsDatabase, attrs_stand, are_stored, is_kind, is_stored_kind, has_kind, var_kinds, query_stands}
 use Rattle.calculus.specs.Kinds.{comparable, kinds_fit, kind_of}
 use Rattle.calculus.specs.Lists.{is_any, differ_by}
-use Rattle.calculus.specs.Name.{is_name}
 use Rattle.calculus.specs.QueryParts.{vars_of, targets_of, qual_of, term_aggregates, qual_aggregates, query_aggregates}
 use Rattle.calculus.specs.Replacement.{first_cause, made_attr}
 use Rattle.calculus.specs.Stored.{Range, range_at, range_info, info_at}
@@ -32,12 +28,12 @@ use Rattle.quel_meaning.specs.Naming.{mentions, new_title, name_refusal}
 use Rattle.quel_meaning.specs.WrittenParts.{aggregates_of}
 use Rattle.quel_meaning.specs.Aggregates.{aggregates_stand}
 use Rattle.quel_meaning.specs.WrittenQuery.{query_of}
-use Rattle.quel_meaning.specs.KindsInQueries.{kind_in_query, kinds_fit_in_query, query_fits, assignments_fit}
-use Rattle.quel_meaning.specs.Passing.{has_too_many, is_full, is_too_large, is_too_wide, is_taken}
-use Rattle.quel_meaning.specs.StatementUpdate.{titles_of, into_of}
+use Rattle.quel_meaning.specs.KindsInQueries.{kind_in_query, query_fits, assignments_fit}
+use Rattle.quel_meaning.specs.Passing.{has_too_many, is_full, is_too_large}
+use Rattle.quel_meaning.specs.StatementUpdate.{into_of}
 use Rattle.quel_meaning.specs.Causes.{into_causes, view_causes, causes}
 use Rattle.quel_meaning.specs.Resolved.{tree_of}
-use Rattle.quel_meaning.specs.FitQueries.{is_named, kept_or_viewed}
+use Rattle.quel_meaning.specs.FitQueries.{is_named}
 use Rattle.quel_meaning.specs.Fit.{view_attr, view_fits, update_fits, utility_fits, fits, is_fit_with_views}
 use Rattle.quel_meaning.specs.IsWritten.{is_written}
 use Rattle.quel_meaning.proofs.Each.{Each, in_map, each_to, passed, each_passes, left, right, and, not_left, not_right, not_not, not_so}

@@ -1,5 +1,5 @@
 -- What a written statement asks for is fit, once the views in it are put in.
-use Rattle.std.proofs.Common.{◌≡◌, refl, sym, ap, ◌∙◌, subst, ℕ, Bool, true, false, ◌&&◌, List, [], ◌∷◌, Option, Some, None, Result, Ok}
+use Rattle.std.proofs.Common.{◌≡◌, refl, subst, ℕ, true, List, Some, None, Ok}
 use Rattle.calculus.specs.declared.request.Checked.{Checked}
 use Rattle.calculus.specs.declared.statement.Statement.{Statement}
 use Rattle.calculus.specs.declared.statement.Statement.TheVariants as statement
@@ -13,7 +13,7 @@ use Rattle.quel_meaning.specs.Causes.{causes}
 use Rattle.quel_meaning.specs.Resolved.{tree_of, resolved}
 use Rattle.quel_meaning.specs.Fit.{fits, is_fit_with_views}
 use Rattle.quel_meaning.specs.IsWritten.{is_written}
-use Rattle.quel_meaning.proofs.Accepted.{IsAccepted, scope, accepted}
+use Rattle.quel_meaning.proofs.Accepted.{scope, accepted}
 use Rattle.quel_meaning.proofs.Each.{and}
 use Rattle.quel_meaning.proofs.FitAnswers.{retrieve_fits}
 use Rattle.quel_meaning.proofs.FitKept.{copy_fits, permit_fits, rule_fits, create_fits}

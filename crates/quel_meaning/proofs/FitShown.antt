@@ -1,9 +1,9 @@
 -- What `print` and `help` ask for is fit.
-use Rattle.std.proofs.Common.{◌≡◌, refl, sym, ap, ap₂, ◌∙◌, subst, ℕ, zero, suc, ◌+◌, ◌≤◌, nat_le, nat_eq, slice_get, Bool, true, false, ◌&&◌, not, List, [], ◌∷◌, ◌++◌, map, length, take, drop, Option, Some, None, is_some, codes, arith}
+use Rattle.std.proofs.Common.{◌≡◌, refl, sym, ap, ◌∙◌, subst, ℕ, suc, ◌+◌, ◌≤◌, nat_le, slice_get, Bool, true, false, ◌&&◌, not, List, [], ◌∷◌, ◌++◌, map, length, take, drop, Option, Some, None, is_some, arith}
 use Rattle.std.specs.List.{list_all, enumerate_from, flat_map, sum_by}
 use Rattle.std.specs.Option.{option_map}
 use Rattle.std.specs.Str.{bytes_eq}
-use Rattle.std.proofs.lemmas.Bool.{le-leb, leb-true, eq-eqb}
+use Rattle.std.proofs.lemmas.Bool.{le-leb, eq-eqb}
 use Rattle.std.proofs.lemmas.List.{length-map}
 use Rattle.std.proofs.lemmas.List.FromFn.{length-enumerate_from}
 use Rattle.calculus.proofs.Forms.{items_of_targets}
@@ -18,17 +18,16 @@ use Rattle.calculus.specs.declared.query.QTerm.TheVariants as qterm
 use Rattle.calculus.specs.declared.query.Target.{Target}
 use Rattle.calculus.specs.declared.schema.Attr.{Attr}
 use Rattle.calculus.specs.declared.schema.RelInfo.{RelInfo}
-use Rattle.calculus.specs.declared.statement.Statement.{Statement}
 use Rattle.calculus.specs.declared.statement.Statement.TheVariants as statement
 use Rattle.calculus.specs.Catalogue.{is_catalogue_name, catalogue_at, relation_key, attribute_key, relation_info, attribute_info, relation_attrs, attribute_attrs, relation_row, attribute_rows, all_entries}
 use Rattle.calculus.specs.Database.{Db, Relation, View, relation_at, view_at, entries}
 use Rattle.calculus.specs.IsDatabase.{IsDatabase, key_is_named, attrs_stand, has_kind, same_kind}
-use Rattle.calculus.specs.Keys.{key_of, same_key}
-use Rattle.calculus.specs.Kinds.{attribute_kind, is_text_kind, kinds_fit}
+use Rattle.calculus.specs.Keys.{same_key}
+use Rattle.calculus.specs.Kinds.{attribute_kind, is_text_kind}
 use Rattle.calculus.specs.Limits.{most_attributes, most_expanded_variables}
 use Rattle.calculus.specs.Lists.{is_any}
 use Rattle.calculus.specs.Name.{is_name}
-use Rattle.calculus.specs.QueryParts.{vars_of, targets_of, qual_of, term_aggregates, qual_aggregates, query_aggregates}
+use Rattle.calculus.specs.QueryParts.{targets_of, qual_of, term_aggregates, qual_aggregates, query_aggregates}
 use Rattle.calculus.specs.Rows.{set_of}
 use Rattle.calculus.specs.Sizes.{measure_of, source_variables, expanded_variables}
 use Rattle.calculus.specs.Stored.{Range, Kept, Viewed, range_at, range_info, info_at, attrs_in, kinds_at}
@@ -42,11 +41,11 @@ use Rattle.quel_meaning.specs.Resolved.{unsorted, whole, is_name_at, help_on_all
 use Rattle.quel_meaning.specs.FitQueries.{is_named, kept_or_viewed, source_fits, slots_count_from, has_few_targets, reads_fit, asked_fits}
 use Rattle.quel_meaning.specs.Fit.{fits, is_fit_with_views}
 use Rattle.quel_meaning.proofs.DatabaseFacts.{found_passes, info_stands, stood}
-use Rattle.quel_meaning.proofs.Each.{Each, front_of, back_of, of_map, in_map, each_to, passed, each_passes, left, right, and}
+use Rattle.quel_meaning.proofs.Each.{Each, front_of, back_of, of_map, in_map, each_to, passed, each_passes, right, and}
 use Rattle.quel_meaning.proofs.Few.{some_measures}
 use Rattle.quel_meaning.proofs.FewExpanded.{few_variables_in}
-use Rattle.quel_meaning.proofs.Found.{IsFound, IsNamed, names_found, named_with, named_again}
-use Rattle.quel_meaning.proofs.Keys.{bytes_same, keys_same, same_keys, find_passes}
+use Rattle.quel_meaning.proofs.Found.{IsFound, names_found, named_with, named_again}
+use Rattle.quel_meaning.proofs.Keys.{keys_same, same_keys, find_passes}
 use Rattle.quel_meaning.proofs.Slots.{in_targets, none_in_attrs}
 
 -- ---- a query over one variable without aggregates

@@ -1,6 +1,6 @@
 -- Where the names of a statement are found.
-use Rattle.std.proofs.Common.{◌≡◌, refl, sym, ap, ◌∙◌, subst, ℕ, Bool, true, false, ◌&&◌, not, List, [], ◌∷◌, ◌++◌, map, Option, Some, None, is_some}
-use Rattle.std.specs.List.{list_all, flat_map, filter}
+use Rattle.std.proofs.Common.{◌≡◌, refl, ap, ◌∙◌, ℕ, true, not, List, [], ◌∷◌, ◌++◌, map, Option, Some, None, is_some}
+use Rattle.std.specs.List.{flat_map}
 use Rattle.std.specs.Option.{option_and_then}
 use Rattle.std.specs.Str.{bytes_eq}
 use Rattle.calculus.specs.declared.query.RelKey.{RelKey}
@@ -16,11 +16,11 @@ use Rattle.calculus.specs.Finding.{found}
 use Rattle.calculus.specs.Keys.{key_of}
 use Rattle.calculus.specs.Stored.{info_at}
 use Rattle.quel_meaning.specs.Ranges.{range_of}
-use Rattle.quel_meaning.specs.Scope.{Scope, named, ranged, entry_named, attr_place, key_found}
+use Rattle.quel_meaning.specs.Scope.{Scope, named, ranged, key_found}
 use Rattle.quel_meaning.specs.WrittenParts.{Dotted, once, attributes, attributes_in_row, attributes_in_qual, attributes_in_aggregate, outer_vars, linked_vars, outer_vars_in_row, outer_vars_in_qual, outer_vars_in_item, items_of, where_of, first_vars, vars_in}
-use Rattle.quel_meaning.specs.Naming.{Mention, Variable, AttrOf, Relation, AttrIn, Entry, dotted, item_mentions, query_mentions, new_title, mentions, refusal_in, variable_refusal, no_refusal, attr_refusal, mention_refusal, first_number, name_refusal}
+use Rattle.quel_meaning.specs.Naming.{Mention, Variable, AttrOf, AttrIn, dotted, item_mentions, query_mentions, new_title, mentions, refusal_in, variable_refusal, no_refusal, attr_refusal, mention_refusal, first_number, name_refusal}
 use Rattle.quel_meaning.specs.FitQueries.{is_named}
-use Rattle.quel_meaning.proofs.Each.{Each, front_of, back_of, both_of, of_map, in_map, of_flat_map, in_flat_map, each_to, in_filter}
+use Rattle.quel_meaning.proofs.Each.{Each, front_of, back_of, both_of, of_map, of_flat_map, in_flat_map, each_to, in_filter}
 use Rattle.quel_meaning.proofs.Keys.{found_again}
 
 -- the name is what it has to be

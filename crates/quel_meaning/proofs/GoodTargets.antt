@@ -1,13 +1,11 @@
 -- The targets of a written statement have names, and kinds that an attribute may have.
-use Rattle.std.proofs.Common.{◌≡◌, refl, sym, ap, ◌∙◌, subst, ℕ, zero, suc, ◌+◌, ◌<◌, Bool, true, false, ◌&&◌, List, [], ◌∷◌, ◌++◌, map, length, get_or, Option, Some, None, arith}
-use Rattle.std.specs.List.{list_all, enumerate_from, flat_map}
+use Rattle.std.proofs.Common.{◌≡◌, refl, sym, subst, ℕ, zero, suc, ◌+◌, ◌<◌, true, List, [], ◌∷◌, ◌++◌, map, length, get_or, Option, Some, None, arith}
+use Rattle.std.specs.List.{enumerate_from}
 use Rattle.std.specs.Option.{unwrap_or}
 use Rattle.calculus.proofs.Forms.{items_of_targets}
-use Rattle.calculus.specs.declared.query.QTerm.{QTerm}
 use Rattle.calculus.specs.declared.query.QTerm.TheVariants as qterm
 use Rattle.calculus.specs.declared.query.Target.{Target}
 use Rattle.calculus.specs.declared.schema.Attr.{Attr}
-use Rattle.calculus.specs.declared.schema.RelInfo.{RelInfo}
 use Rattle.calculus.specs.declared.statement.Item.{Item}
 use Rattle.calculus.specs.declared.statement.Item.TheVariants as item
 use Rattle.calculus.specs.declared.statement.Qual.{Qual}
@@ -20,11 +18,11 @@ use Rattle.calculus.specs.IsDatabase.{IsDatabase, is_kind}
 use Rattle.calculus.specs.Lists.{is_any}
 use Rattle.calculus.specs.Name.{is_name}
 use Rattle.calculus.specs.QueryParts.{targets_of}
-use Rattle.calculus.specs.Stored.{attrs_in, info_at, kinds_at}
+use Rattle.calculus.specs.Stored.{attrs_in, kinds_at}
 use Rattle.quel_meaning.specs.IsWritten.{constants, item_is_written, items_are_written}
 use Rattle.quel_meaning.specs.KindsInQueries.{kind_in_query}
 use Rattle.quel_meaning.specs.Naming.{Mention, item_mentions, query_mentions, no_refusal, attr_refusal}
-use Rattle.quel_meaning.specs.Scope.{Scope, ranged}
+use Rattle.quel_meaning.specs.Scope.{Scope}
 use Rattle.quel_meaning.specs.WrittenParts.{aggregates_in_item, items_of, vars_in}
 use Rattle.quel_meaning.specs.WrittenTree.{Vars, var_place, key_over, term_tree}
 use Rattle.quel_meaning.specs.WrittenQuery.{kinds_over, item_targets, targets_from, query_of}
@@ -73,9 +71,13 @@ item_good : (s : Scope) → IsDatabase s.db → (titled : List ℕ → List Ment
     → Each (λ (t : Target). IsGood t.name t.kind) (item_targets s vars n i)
 item_good s is titled vars n (item.Set name term) w h =
     ((left _ _ w, unwrapped (kind_in_query s.db (term_tree s vars n term) (kinds_over s vars)) (λ k e. term_lawful s is vars n term (kinds_over s vars) (kinds_lawful s is vars) (each_passes is_chars (constants term) (right (is_name name) _ w)) k e)), tt)
-item_good s is titled vars n (item.Attr var attr) w h =
-    ((subst (λ name. is_name name ≡ true) (place.named d) (at_place (λ (a : Attr). is_name a.name ≡ true) r.is.info.attrs place.place d (each_passes (λ (a : Attr). is_name a.name) r.is.info.attrs (stood_at s is var r.is).named) place.below),
-    unwrapped (kind_in_query s.db (term_tree s vars n (Dot var attr)) (kinds_over s vars)) (λ k e. term_lawful s is vars n (Dot var attr) (kinds_over s vars) (kinds_lawful s is vars) tt k e)), tt)
+item_good s is titled vars n (item.Attr var attr) w h = (
+  (
+    subst (λ name. is_name name ≡ true) (place.named d) (at_place (λ (a : Attr). is_name a.name ≡ true) r.is.info.attrs place.place d (each_passes (λ (a : Attr). is_name a.name) r.is.info.attrs (stood_at s is var r.is).named) place.below),
+    unwrapped (kind_in_query s.db (term_tree s vars n (Dot var attr)) (kinds_over s vars)) (λ k e. term_lawful s is vars n (Dot var attr) (kinds_over s vars) (kinds_lawful s is vars) tt k e),
+  ),
+  tt,
+)
   where
     r : RangedWith s var (attr_refusal attr)
     r = ranged_with s (attr_refusal attr) var h.0

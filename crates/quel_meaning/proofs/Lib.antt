@@ -24,3 +24,4 @@ pub mod FitMade
 pub mod FewExpanded
 pub mod FitShown
 pub mod FitResolved
+pub mod FitViews

@@ -1,6 +1,6 @@
 -- What the aggregates of a resolved statement are over.
-use Rattle.std.proofs.Common.{◌≡◌, refl, sym, ap, ◌∙◌, subst, ℕ, ◌+◌, nat_le, Bool, true, false, ◌&&◌, not, List, [], ◌∷◌, ◌++◌, map, length, Option, Some, None, append-nil}
-use Rattle.std.specs.List.{list_all, flat_map, enumerate_from}
+use Rattle.std.proofs.Common.{◌≡◌, refl, sym, ap, subst, ℕ, ◌+◌, nat_le, true, ◌&&◌, not, List, [], ◌∷◌, ◌++◌, map, length, None, append-nil}
+use Rattle.std.specs.List.{list_all, flat_map}
 use Rattle.std.proofs.lemmas.Grind.{flat_map-append}
 use Rattle.calculus.proofs.Forms.{items_of_targets}
 use Rattle.calculus.specs.declared.query.QAgg.{QAgg}
@@ -13,17 +13,17 @@ use Rattle.calculus.specs.declared.statement.Item.TheVariants as item
 use Rattle.calculus.specs.declared.statement.Statement.{Statement}
 use Rattle.calculus.specs.declared.statement.Statement.TheVariants as statement
 use Rattle.calculus.specs.Written.{neg, abs, operation, concat, both, either, negated}
-use Rattle.calculus.specs.QueryParts.{term_aggregates, qual_aggregates, query_aggregates}
+use Rattle.calculus.specs.QueryParts.{term_aggregates, qual_aggregates}
 use Rattle.calculus.specs.Sizes.{measure_of}
 use Rattle.calculus.specs.Stored.{attrs_in}
 use Rattle.quel_meaning.specs.Scope.{Scope, ranged, key_found}
-use Rattle.quel_meaning.specs.WrittenParts.{Dotted, once, attributes, attributes_in_row, attributes_in_qual, attributes_in_aggregate, aggregate_vars, aggregate_of, aggregates_in, aggregates_in_qual, aggregates_in_item, aggregates_of, items_of, where_of, vars_in}
-use Rattle.quel_meaning.specs.Aggregates.{is_one_plain, holds_another, aggregate_stands, aggregates_stand}
+use Rattle.quel_meaning.specs.WrittenParts.{Dotted, attributes, attributes_in_row, attributes_in_qual, attributes_in_aggregate, aggregate_vars, aggregate_of, aggregates_in, aggregates_in_qual, aggregates_in_item, aggregates_of, items_of, where_of, vars_in}
+use Rattle.quel_meaning.specs.Aggregates.{is_one_plain, holds_another, aggregate_stands}
 use Rattle.quel_meaning.specs.Naming.{Mention, dotted, AttrIn, AttrOf, item_mentions, query_mentions, new_title, mentions, name_refusal}
-use Rattle.quel_meaning.specs.WrittenTree.{Vars, var_place, first_var, compared, term_tree, aggregate_tree, qual_tree}
+use Rattle.quel_meaning.specs.WrittenTree.{Vars, var_place, first_var, term_tree, aggregate_tree, qual_tree}
 use Rattle.quel_meaning.specs.WrittenQuery.{item_targets, targets_from, where_tree, query_of}
 use Rattle.quel_meaning.specs.FitQueries.{is_named, kept_or_viewed, source_fits, sources_fit}
-use Rattle.quel_meaning.proofs.Each.{Each, front_of, back_of, both_of, of_map, in_map, of_flat_map, in_flat_map, each_to, passed, each_passes, and, right}
+use Rattle.quel_meaning.proofs.Each.{Each, front_of, back_of, both_of, in_map, of_flat_map, each_to, passed, each_passes, and, right}
 use Rattle.quel_meaning.proofs.Found.{IsFound, IsRanged, names_found, ranged_named, dotted_ranged, in_once}
 use Rattle.quel_meaning.proofs.Slots.{compared_has, in_targets, none_in_attrs}
 

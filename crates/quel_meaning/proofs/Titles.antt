@@ -1,6 +1,6 @@
 -- The titles of an update's targets are attributes of the relation that it changes.
-use Rattle.std.proofs.Common.{◌≡◌, refl, sym, ap, ◌∙◌, subst, ℕ, ◌+◌, ◌<◌, ◌≤◌, nat_eq, nat_lt, nat_le, Bool, true, false, ◌&&◌, ◌||◌, not, List, [], ◌∷◌, ◌++◌, map, length, get_or, Option, Some, None, arith}
-use Rattle.std.specs.List.{list_all, list_any, enumerate_from, position, flat_map}
+use Rattle.std.proofs.Common.{◌≡◌, refl, sym, ap, ◌∙◌, subst, ℕ, ◌+◌, ◌<◌, ◌≤◌, nat_eq, nat_lt, nat_le, Bool, true, false, ◌||◌, List, [], ◌∷◌, map, length, get_or, Option, Some, None, arith}
+use Rattle.std.specs.List.{list_all, list_any, enumerate_from}
 use Rattle.std.specs.Option.{unwrap_or}
 use Rattle.std.specs.Str.{bytes_eq}
 use Rattle.std.proofs.lemmas.Bool.{lt-ltb, eqb-true, leb-true, le-leb}
@@ -16,11 +16,9 @@ use Rattle.calculus.specs.declared.statement.Item.{Item}
 use Rattle.calculus.specs.declared.statement.Item.TheVariants as item
 use Rattle.calculus.specs.declared.statement.Qual.{Qual}
 use Rattle.calculus.specs.declared.statement.Statement.{Statement}
-use Rattle.calculus.specs.declared.statement.Statement.TheVariants as statement
 use Rattle.calculus.specs.Limits.{most_attributes}
 use Rattle.calculus.specs.Lists.{differ_by, is_any}
 use Rattle.calculus.specs.IsDatabase.{attrs_stand}
-use Rattle.calculus.specs.QueryParts.{targets_of}
 use Rattle.calculus.specs.Stored.{attrs_in, info_at}
 use Rattle.quel_meaning.specs.Scope.{Scope, named, ranged, attr_place, place_found}
 use Rattle.quel_meaning.specs.Naming.{Mention, AttrIn, AttrOf, item_mentions, query_mentions, refusal_in, attr_refusal}
@@ -28,7 +26,7 @@ use Rattle.quel_meaning.specs.WrittenParts.{aggregates_in_item, items_of, vars_i
 use Rattle.quel_meaning.specs.WrittenTree.{Vars, var_place}
 use Rattle.quel_meaning.specs.WrittenQuery.{item_targets, targets_from, query_of}
 use Rattle.quel_meaning.specs.StatementUpdate.{titles_of}
-use Rattle.quel_meaning.proofs.Each.{Each, front_of, back_of, both_of, of_map, in_map, of_flat_map, each_to, passed, left, right, and, not_so}
+use Rattle.quel_meaning.proofs.Each.{Each, front_of, both_of, of_map, in_map, of_flat_map, each_to, passed, left, right, and, not_so}
 use Rattle.quel_meaning.proofs.Found.{IsFound, IsRanged}
 use Rattle.quel_meaning.proofs.Keys.{same_bytes, bytes_same}
 use Rattle.quel_meaning.proofs.Pigeons.{at_most, not_true}

@@ -1,6 +1,6 @@
 //! What statements ask for.
 
-ghost use Rattle.std.specs.Prelude.{◌≡◌, ℕ, true, List, ◌∷◌, map, length, Ok, Err};
+ghost use Rattle.std.specs.Prelude.{◌≡◌, ℕ, true, false, List, ◌∷◌, map, length, Ok, Err};
 ghost use Rattle.calculus.specs.declared.request.Checked.{Checked};
 ghost use Rattle.calculus.specs.declared.statement.Statement.{Statement};
 ghost use Rattle.calculus.specs.Lists.{has_number};
@@ -14,6 +14,9 @@ ghost use Rattle.calculus.specs.QueryParts.{query_aggregates};
 ghost use Rattle.quel_meaning.specs.WrittenParts.{aggregates_of};
 ghost use Rattle.quel_meaning.specs.WrittenQuery.{query_of};
 ghost use Rattle.quel_meaning.specs.FitQueries.{slots_count_up};
+ghost use Rattle.quel_meaning.specs.Fit.{is_fit, is_fit_with_views, makes_an_index};
+ghost use Rattle.quel_meaning.specs.IsWritten.{is_written};
+ghost use Rattle.calculus.specs.IsDatabase.{IsDatabase};
 
 /// What a statement asks for is of the statement's kind: so many tables, an update of its kind, or work
 /// for the utilities.
@@ -36,4 +39,18 @@ pub fn only_its_numbers_refuse_a_statement()
 pub fn slots_count_the_aggregates_of_a_text()
     ensures slots { (s : Scope) (statement : Statement) → slots_count_up (query_of s statement) ≡ true }
     ensures number { (s : Scope) (statement : Statement) → length (query_aggregates (query_of s statement)) ≡ length (aggregates_of statement) }
+{}
+
+/// What a statement that was read asks for is fit for the database and the user, once the views in it
+/// are put in.
+#[tactic(auto, using(crate::proofs::FitResolved::resolved_fits))]
+pub fn what_is_resolved_is_fit()
+    ensures { (db : Db) (user : List ℕ) (ranges : Ranges) (statement : Statement) (tree : Checked)
+        → IsDatabase db → is_written statement ≡ true → resolved db user ranges statement ≡ Ok tree → is_fit_with_views db user tree ≡ true }
+{}
+
+/// A tree that is fit is fit once the views in it are put in. Of the user only the name of an index speaks.
+pub fn fit_trees_speak_little_of_views_and_users()
+    ensures views { (db : Db) (user : List ℕ) (tree : Checked) → is_fit db user tree ≡ true → is_fit_with_views db user tree ≡ true }
+    ensures users { (db : Db) (user other : List ℕ) (tree : Checked) → makes_an_index tree ≡ false → is_fit db user tree ≡ is_fit db other tree }
 {}
