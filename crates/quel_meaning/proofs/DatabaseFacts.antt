@@ -22,7 +22,8 @@ pub found_passes : {X : Type 0} (p test : X → Bool) (xs : List X) (x : X) → 
 found_passes p test [] x h k = absurd (cc k)
 found_passes p test (y ∷ ys) x h k = go (found_passes p test ys x) (p y) (test y) refl h k
   where
-    go : (list_all test ys ≡ true → find p ys ≡ Some x → test x ≡ true) → (b c : Bool) → test y ≡ c → (c && list_all test ys) ≡ true → cond b (Some y) (find p ys) ≡ Some x → test x ≡ true
+    go : (list_all test ys ≡ true → find p ys ≡ Some x → test x ≡ true) → (b c : Bool) → test y ≡ c → (c && list_all test ys) ≡ true
+        → cond b (Some y) (find p ys) ≡ Some x → test x ≡ true
     go later b false e h k = absurd (cc h)
     go later true true e h k = let same : y ≡ x = cc k in subst (λ z. test z ≡ true) same e
     go later false true e h k = later h k
@@ -109,7 +110,8 @@ no_catalogue db key h = go (same_key key (relation_key db)) (same_key key (attri
     go false false h = refl
 
 -- what is found and is neither a catalogue nor a view is a base relation
-pub found_relation : (db : Db) (key : RelKey) (info : RelInfo) → info_at db key ≡ Some info → is_catalogue db key ≡ false → is_some (view_at db key) ≡ false → is_relation db key ≡ true
+pub found_relation : (db : Db) (key : RelKey) (info : RelInfo) → info_at db key ≡ Some info → is_catalogue db key ≡ false → is_some (view_at db key) ≡ false
+    → is_relation db key ≡ true
 unfolding info_at range_at
 found_relation db key info h c v = at_relation (relation_at db key) h
   where

@@ -50,7 +50,8 @@ in_numbered P k [] h = tt
 in_numbered P k (key ∷ keys) h = (h.0, in_numbered P (k + 1) keys h.1)
 
 -- queries count the same variables where the same is known of what they name
-same_counts : (known other : Known) (q : Query) → Each (λ key. (known key).variables ≡ (other key).variables) (vars_of q) → (query_measure known q).variables ≡ (query_measure other q).variables
+same_counts : (known other : Known) (q : Query) → Each (λ key. (known key).variables ≡ (other key).variables) (vars_of q)
+    → (query_measure known q).variables ≡ (query_measure other q).variables
 same_counts known other q h =
     same_sums (λ (p : ℕ × RelKey). (known p.1).variables) (λ p. (other p.1).variables) (used_vars q)
     (in_filter _ (λ p. is_any (used_in_query p.0 q)) (enumerate_from 0 (vars_of q)) (in_numbered _ 0 (vars_of q) h))
@@ -101,7 +102,8 @@ few_variables_in db is key = at_relation (relation_at db key) refl
     at_catalogue None = omega arith
     at_catalogue (Some relation) = omega arith
 
-    at_view : (v : Option View) → relation_at db key ≡ None → view_at db key ≡ v → measured (elim v [ Some view ↦ Some (Viewed view) | None ↦ option_map Kept (catalogue_at db key) ]) ≤ most_expanded_variables
+    at_view : (v : Option View) → relation_at db key ≡ None → view_at db key ≡ v
+        → measured (elim v [ Some view ↦ Some (Viewed view) | None ↦ option_map Kept (catalogue_at db key) ]) ≤ most_expanded_variables
     at_view None e f = at_catalogue (catalogue_at db key)
     at_view (Some view) e f = of_view db is key view f (viewed e f)
       where

@@ -40,7 +40,8 @@ use Rattle.quel_meaning.proofs.FitUtilities.{named_is, by_name, attrs_there, its
 
 -- ---- copies
 
-columns_are_places : (info : RelInfo) (columns : List (List ℕ × CopyForm)) → map (λ (c : CopyCol). c.attr) (map (copy_col (Some info)) columns) ≡ map (place_found (Some info)) (map (λ (c : List ℕ × CopyForm). c.0) columns)
+columns_are_places : (info : RelInfo) (columns : List (List ℕ × CopyForm))
+    → map (λ (c : CopyCol). c.attr) (map (copy_col (Some info)) columns) ≡ map (place_found (Some info)) (map (λ (c : List ℕ × CopyForm). c.0) columns)
 columns_are_places info [] = refl
 columns_are_places info (c ∷ columns) = ap (λ ps. place_found (Some info) c.0 ∷ ps) (columns_are_places info columns)
 
@@ -48,7 +49,8 @@ some_column : (info : Option RelInfo) (columns : List (List ℕ × CopyForm)) �
 some_column info [] h = absurd (cc h)
 some_column info (c ∷ columns) h = refl
 
-columns_below : (info : RelInfo) (columns : List (List ℕ × CopyForm)) → list_all (λ p. nat_lt p (length info.attrs)) (map (place_found (Some info)) (map (λ (c : List ℕ × CopyForm). c.0) columns)) ≡ true
+columns_below : (info : RelInfo) (columns : List (List ℕ × CopyForm))
+    → list_all (λ p. nat_lt p (length info.attrs)) (map (place_found (Some info)) (map (λ (c : List ℕ × CopyForm). c.0) columns)) ≡ true
     → list_all (λ (c : CopyCol). nat_lt c.attr (length info.attrs)) (map (copy_col (Some info)) columns) ≡ true
 columns_below info [] h = refl
 columns_below info (c ∷ columns) h = and _ _ (left _ _ h) (columns_below info columns (right _ _ h))
@@ -118,7 +120,8 @@ sum_by_map f g [] = refl
 sum_by_map f g (x ∷ xs) = sum_by-cons f (g x) (map g xs) ∙ ap (λ n. f (g x) + n) (sum_by_map f g xs) ∙ sym (sum_by-cons (λ x. f (g x)) x xs)
 
 -- attributes made of some things stand where there is one, their names are names and differ, their kinds are ones, and they are not too wide
-pub made_stand : {X : Type 0} (attr : X → Attr) (xs : List X) → is_any xs ≡ true → Each (λ x. is_name (attr x).name ≡ true) xs → differ_by bytes_eq (map (λ x. (attr x).name) xs) ≡ true
+pub made_stand : {X : Type 0} (attr : X → Attr) (xs : List X) → is_any xs ≡ true → Each (λ x. is_name (attr x).name ≡ true) xs
+    → differ_by bytes_eq (map (λ x. (attr x).name) xs) ≡ true
     → Each (λ x. is_kind (attr x).kind ≡ true) xs → is_too_wide (map (λ x. (attr x).kind) xs) ≡ false → attrs_stand (map attr xs) ≡ true
 unfolding is_too_wide
 made_stand {X} attr xs any named differ kinds narrow =
@@ -137,7 +140,8 @@ made_stand {X} attr xs any named differ kinds narrow =
     names [] = refl
     names (x ∷ xs) = ap (λ ns. (attr x).name ∷ ns) (names xs)
 
-pub create_fits : (s : Scope) (rel : List ℕ) (attrs : List (List ℕ × Domain)) → is_written (statement.Create rel attrs) ≡ true → first_cause (causes s (statement.Create rel attrs)) ≡ None
+pub create_fits : (s : Scope) (rel : List ℕ) (attrs : List (List ℕ × Domain)) → is_written (statement.Create rel attrs) ≡ true
+    → first_cause (causes s (statement.Create rel attrs)) ≡ None
     → is_fit_with_views s.db s.user (tree_of s (statement.Create rel attrs)) ≡ true
 unfolding causes tree_of fits utility_fits is_written
 create_fits s rel attrs w k =

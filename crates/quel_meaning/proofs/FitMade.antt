@@ -25,7 +25,7 @@ use Rattle.calculus.specs.Replacement.{first_cause, made_attr}
 use Rattle.calculus.specs.Stored.{Range, range_at, range_info, info_at}
 use Rattle.quel_meaning.specs.Scope.{Scope}
 use Rattle.quel_meaning.specs.Naming.{mentions, new_title, name_refusal}
-use Rattle.quel_meaning.specs.WrittenParts.{aggregates_of}
+use Rattle.quel_meaning.specs.WrittenParts.{text_aggregates}
 use Rattle.quel_meaning.specs.Aggregates.{aggregates_stand}
 use Rattle.quel_meaning.specs.WrittenQuery.{query_of}
 use Rattle.quel_meaning.specs.KindsInQueries.{kind_in_query, query_fits, assignments_fit}
@@ -101,7 +101,8 @@ places_counted ts =
     and _ _ (passed (λ p. nat_lt p (length (map made_attr ts))) _ (counted 0 (length (map made_attr ts)) ts all))
     (and _ _ (counts_differ 0 ts) (eq-eqb _ _ (length-map (enumerate_from 0 ts) (λ (p : ℕ × Target). p.0) ∙ length-enumerate_from 0 ts)))
 
-pub into_fits : (s : Scope) → IsDatabase s.db → (name : List ℕ) (items : List Item) (qual : Qual) (sort : List (List ℕ × Bool)) → is_written (statement.Retrieve (Some name) items qual sort) ≡ true
+pub into_fits : (s : Scope) → IsDatabase s.db → (name : List ℕ) (items : List Item) (qual : Qual) (sort : List (List ℕ × Bool))
+    → is_written (statement.Retrieve (Some name) items qual sort) ≡ true
     → name_refusal s (statement.Retrieve (Some name) items qual sort) ≡ None → first_cause (causes s (statement.Retrieve (Some name) items qual sort)) ≡ None
     → is_fit_with_views s.db s.user (tree_of s (statement.Retrieve (Some name) items qual sort)) ≡ true
 unfolding causes tree_of fits update_fits aggregates_stand mentions into_of assignments_fit kinds_fit is_written
@@ -154,8 +155,8 @@ none_long : {X : Type 0} (xs : List X) → length xs ≡ 0 → xs ≡ []
 none_long [] h = refl
 none_long (x ∷ xs) h = absurd (omega (arith, h))
 
-no_aggregates : (s : Scope) (stmt : Statement) → not (is_any (aggregates_of stmt)) ≡ true → query_aggregates (query_of s stmt) ≡ []
-no_aggregates s stmt h = none_long _ (as_many s stmt ∙ ap length (nothing (aggregates_of stmt) (go (is_any (aggregates_of stmt)) h)))
+no_aggregates : (s : Scope) (stmt : Statement) → not (is_any (text_aggregates stmt)) ≡ true → query_aggregates (query_of s stmt) ≡ []
+no_aggregates s stmt h = none_long _ (as_many s stmt ∙ ap length (nothing (text_aggregates stmt) (go (is_any (text_aggregates stmt)) h)))
   where
     go : (b : Bool) → not b ≡ true → b ≡ false
     go true h = absurd (cc h)

@@ -45,7 +45,8 @@ tree_fits s is (statement.View name items qual) w h k = view_stmt_fits s is name
 tree_fits s is (statement.Permit ops var attrs user qual) w h k = permit_fits s ops var attrs user qual h k
 tree_fits s is (statement.Rule var qual) w h k = rule_fits s var qual h k
 
-pub resolved_fits : (db : Db) (user : List ℕ) (ranges : Ranges) (stmt : Statement) (tree : Checked) → IsDatabase db → is_written stmt ≡ true → resolved db user ranges stmt ≡ Ok tree
+pub resolved_fits : (db : Db) (user : List ℕ) (ranges : Ranges) (stmt : Statement) (tree : Checked) → IsDatabase db → is_written stmt ≡ true
+    → resolved db user ranges stmt ≡ Ok tree
     → is_fit_with_views db user tree ≡ true
 resolved_fits db user ranges stmt tree is w e =
     let a = accepted db user ranges stmt tree e in

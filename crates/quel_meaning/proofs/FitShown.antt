@@ -116,7 +116,8 @@ pub whole_fits : (db : Db) → IsDatabase db → (info : RelInfo) → info_at db
 whole_fits db is info h =
     shown db is info.key (attr_targets 0 info.attrs) True (ap is_some h) (whole_none info) (whole_few info (info_stands db is info.key info h)) (whole_kinds db info h)
 
-pub print_fits : (s : Scope) → IsDatabase s.db → (rels : List (List ℕ)) → name_refusal s (statement.Print rels) ≡ None → is_fit_with_views s.db s.user (tree_of s (statement.Print rels)) ≡ true
+pub print_fits : (s : Scope) → IsDatabase s.db → (rels : List (List ℕ)) → name_refusal s (statement.Print rels) ≡ None
+    → is_fit_with_views s.db s.user (tree_of s (statement.Print rels)) ≡ true
 unfolding tree_of fits mentions
 print_fits s is rels h =
     passed (asked_fits (kept_or_viewed s.db) s.db) _

@@ -160,7 +160,8 @@ append_fits s is rel items qual h k =
     }
 
 -- the variable whose rows are replaced or deleted is the query's first, over the relation
-first_replaced : (s : Scope) (var : List ℕ) (items : List Item) (qual : Qual) (r : IsRanged s var) → has_key (slice_get (vars_of (query_of s (statement.Replace var items qual))) 0) r.info.key ≡ true
+first_replaced : (s : Scope) (var : List ℕ) (items : List Item) (qual : Qual) (r : IsRanged s var)
+    → has_key (slice_get (vars_of (query_of s (statement.Replace var items qual))) 0) r.info.key ≡ true
 unfolding query_of vars_in
 first_replaced s var items qual r = keys_same _ _ (ap key_found (ranged_is s var r))
 

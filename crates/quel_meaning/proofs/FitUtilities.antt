@@ -90,7 +90,8 @@ entries_are s (n ∷ names) = go (entry_named s n) refl (entries_are s names)
     go None e later = later
     go (Some key) e later = (entry_is s n key e, later)
 
-pub destroy_fits : (s : Scope) (rels : List (List ℕ)) → first_cause (causes s (statement.Destroy rels)) ≡ None → is_fit_with_views s.db s.user (tree_of s (statement.Destroy rels)) ≡ true
+pub destroy_fits : (s : Scope) (rels : List (List ℕ)) → first_cause (causes s (statement.Destroy rels)) ≡ None
+    → is_fit_with_views s.db s.user (tree_of s (statement.Destroy rels)) ≡ true
 unfolding causes tree_of fits utility_fits
 destroy_fits s rels k =
     let none = none_of ((17, repeats_keys s rels) ∷ []) k in
@@ -128,7 +129,8 @@ structured : (info : RelInfo) (names : List (List ℕ)) → is_any info.attrs �
 structured info [] h k = first_key info.attrs h
 structured info (n ∷ names) h k = k
 
-structure_fits : (to : Spec) (info : RelInfo) (names : List (List ℕ)) → is_structure to ≡ true → is_any info.attrs ≡ true → keys_stand info.attrs (map (place_found (Some info)) names) ≡ true
+structure_fits : (to : Spec) (info : RelInfo) (names : List (List ℕ)) → is_structure to ≡ true → is_any info.attrs ≡ true
+    → keys_stand info.attrs (map (place_found (Some info)) names) ≡ true
     → keys_stand info.attrs (structure_keys to (map (place_found (Some info)) names)) ≡ true
 structure_fits spec.Heap info names w h k = refl
 structure_fits spec.Hash info names w h k = structured info names h k

@@ -61,7 +61,8 @@ ranged_with s of_found var h = go (range_of s.ranges var) refl h
     at_key key d None e k = absurd (cc k)
     at_key key d (Some info) e k = record { is = record { key = key; info = info; declared = d; there = e }; fine = k }
 
-    go : (o : Option RelKey) → range_of s.ranges var ≡ o → ◌≡◌ {A = Option ℕ} (elim o [ None ↦ Some 11 | Some key ↦ refusal_in of_found (info_at s.db key) ]) None → RangedWith s var of_found
+    go : (o : Option RelKey) → range_of s.ranges var ≡ o → ◌≡◌ {A = Option ℕ} (elim o [ None ↦ Some 11 | Some key ↦ refusal_in of_found (info_at s.db key) ]) None
+        → RangedWith s var of_found
     go None d k = absurd (cc k)
     go (Some key) d k = at_key key d (info_at s.db key) refl k
 
@@ -136,7 +137,8 @@ vars_ranged s stmt h = in_once (IsRanged s) _ (go stmt (names_found s stmt h))
     alone : (var : List ℕ) → IsFound s (Variable var) → IsRanged s var
     alone var h = (ranged_with s no_refusal var h).is
 
-    go : (stmt : Statement) → Each (IsFound s) (mentions s stmt) → Each (IsRanged s) (first_vars stmt ++ (flat_map outer_vars_in_item (items_of stmt) ++ outer_vars_in_qual (where_of stmt)))
+    go : (stmt : Statement) → Each (IsFound s) (mentions s stmt)
+        → Each (IsRanged s) (first_vars stmt ++ (flat_map outer_vars_in_item (items_of stmt) ++ outer_vars_in_qual (where_of stmt)))
     go (statement.Range var rel) h = tt
     go (statement.Retrieve into items qual sort) h = query_ranged s new_title items qual h
     go (statement.Append rel items qual) h = query_ranged s (λ a. AttrIn rel a ∷ []) items qual h.1

@@ -48,7 +48,8 @@ at_place P (x ∷ xs) (suc i) d h lt = at_place P xs i d h.1 (omega (arith, lt))
 good_attrs : (attrs : List Attr) → HaveStood attrs → Each (λ (a : Attr). IsGood a.name a.kind) attrs
 good_attrs attrs h = together attrs (each_passes (λ (a : Attr). is_name a.name) attrs h.named) (each_passes (λ (a : Attr). is_kind a.kind) attrs h.kinds)
   where
-    together : (attrs : List Attr) → Each (λ (a : Attr). is_name a.name ≡ true) attrs → Each (λ (a : Attr). is_kind a.kind ≡ true) attrs → Each (λ (a : Attr). IsGood a.name a.kind) attrs
+    together : (attrs : List Attr) → Each (λ (a : Attr). is_name a.name ≡ true) attrs → Each (λ (a : Attr). is_kind a.kind ≡ true) attrs
+        → Each (λ (a : Attr). IsGood a.name a.kind) attrs
     together [] h k = tt
     together (a ∷ attrs) h k = ((h.0, k.0), together attrs h.1 k.1)
 
@@ -67,7 +68,8 @@ unwrapped : (o : Option Kind) → ((k : Kind) → o ≡ Some k → IsKind k) →
 unwrapped None f = refl
 unwrapped (Some k) f = f k refl
 
-item_good : (s : Scope) → IsDatabase s.db → (titled : List ℕ → List Mention) (vars : Vars) (n : ℕ) (i : Item) → item_is_written i ≡ true → Each (IsFound s) (item_mentions s titled i)
+item_good : (s : Scope) → IsDatabase s.db → (titled : List ℕ → List Mention) (vars : Vars) (n : ℕ) (i : Item) → item_is_written i ≡ true
+    → Each (IsFound s) (item_mentions s titled i)
     → Each (λ (t : Target). IsGood t.name t.kind) (item_targets s vars n i)
 item_good s is titled vars n (item.Set name term) w h =
     ((left _ _ w, unwrapped (kind_in_query s.db (term_tree s vars n term) (kinds_over s vars)) (λ k e. term_lawful s is vars n term (kinds_over s vars) (kinds_lawful s is vars) (each_passes is_chars (constants term) (right (is_name name) _ w)) k e)), tt)
@@ -117,7 +119,8 @@ some_attr : (var : ℕ) (attrs : List Attr) → is_any attrs ≡ true
 some_attr var [] h = absurd (cc h)
 some_attr var (a ∷ attrs) h = refl
 
-item_gives : (s : Scope) → IsDatabase s.db → (titled : List ℕ → List Mention) (vars : Vars) (n : ℕ) (i : Item) → Each (IsFound s) (item_mentions s titled i) → is_any (item_targets s vars n i) ≡ true
+item_gives : (s : Scope) → IsDatabase s.db → (titled : List ℕ → List Mention) (vars : Vars) (n : ℕ) (i : Item) → Each (IsFound s) (item_mentions s titled i)
+    → is_any (item_targets s vars n i) ≡ true
 item_gives s is titled vars n (item.Set name term) h = refl
 item_gives s is titled vars n (item.Attr var attr) h = refl
 item_gives s is titled vars n (item.All var) h =
@@ -125,7 +128,8 @@ item_gives s is titled vars n (item.All var) h =
     subst (λ o. is_any (map (λ (p : ℕ × Attr). let t : Target = record { name = p.1.name; kind = p.1.kind; term = qterm.Attr (var_place vars var) p.0 } in t) (enumerate_from 0 (attrs_in o))) ≡ true) (sym (ranged_is s var r))
     (some_attr (var_place vars var) r.info.attrs (stood_at s is var r).any)
 
-items_give : (s : Scope) → IsDatabase s.db → (titled : List ℕ → List Mention) (vars : Vars) (items : List Item) → is_any items ≡ true → Each (λ i. Each (IsFound s) (item_mentions s titled i)) items
+items_give : (s : Scope) → IsDatabase s.db → (titled : List ℕ → List Mention) (vars : Vars) (items : List Item) → is_any items ≡ true
+    → Each (λ i. Each (IsFound s) (item_mentions s titled i)) items
     → is_any (targets_from s vars 0 items) ≡ true
 items_give s is titled vars [] w h = absurd (cc w)
 items_give s is titled vars (i ∷ items) w h = some_more (item_targets s vars 0 i) _ (item_gives s is titled vars 0 i h.0)

@@ -99,7 +99,8 @@ found_place info name p = ap (λ o. unwrap_or o 0) p.is
 pub in_range : (info : RelInfo) (name : List ℕ) → HasAttr info name → place_found (Some info) name < length info.attrs
 in_range info name h = let p = place_of info name h in subst (λ k. k < length info.attrs) (sym (found_place info name p)) p.below
 
-pub places_in_range : (info : RelInfo) (names : List (List ℕ)) → Each (HasAttr info) names → list_all (λ p. nat_lt p (length info.attrs)) (map (place_found (Some info)) names) ≡ true
+pub places_in_range : (info : RelInfo) (names : List (List ℕ)) → Each (HasAttr info) names
+    → list_all (λ p. nat_lt p (length info.attrs)) (map (place_found (Some info)) names) ≡ true
 places_in_range info names h =
     passed (λ p. nat_lt p (length info.attrs)) _ (in_map _ (place_found (Some info)) names (each_to _ _ (λ name k. lt-ltb _ _ (in_range info name k)) names h))
 
@@ -124,7 +125,8 @@ none_again info m (n ∷ names) h k e = go (none_again info m names h k.1) (byte
     go later false false f g e = later e
 
 -- different names have different places
-pub places_differ : (info : RelInfo) (names : List (List ℕ)) → Each (HasAttr info) names → differ_by bytes_eq names ≡ true → differ_by nat_eq (map (place_found (Some info)) names) ≡ true
+pub places_differ : (info : RelInfo) (names : List (List ℕ)) → Each (HasAttr info) names → differ_by bytes_eq names ≡ true
+    → differ_by nat_eq (map (place_found (Some info)) names) ≡ true
 places_differ info [] h k = refl
 places_differ info (n ∷ names) h k =
     and _ _ (not_so _ (none_again info n names h.0 h.1 (not_true _ (left _ _ k)))) (places_differ info names h.1 (right _ _ k))
@@ -133,7 +135,8 @@ few_attrs : (attrs : List Attr) → attrs_stand attrs ≡ true → length attrs 
 few_attrs attrs stands = let short : nat_le (length attrs) most_attributes ≡ true = left _ _ (right (is_any attrs) _ stands) in leb-true _ _ short
 
 -- different attributes of what a database has are few
-pub few_titles : (info : RelInfo) (names : List (List ℕ)) → attrs_stand info.attrs ≡ true → Each (HasAttr info) names → differ_by bytes_eq names ≡ true → nat_le (length names) most_attributes ≡ true
+pub few_titles : (info : RelInfo) (names : List (List ℕ)) → attrs_stand info.attrs ≡ true → Each (HasAttr info) names → differ_by bytes_eq names ≡ true
+    → nat_le (length names) most_attributes ≡ true
 few_titles info names stands h k =
     let places = at_most (length info.attrs) (map (place_found (Some info)) names) (in_map _ (place_found (Some info)) names (each_to _ _ (λ name e. in_range info name e) names h)) (places_differ info names h k) in
     le-leb _ _ (omega (arith, places, length-map names (place_found (Some info)), few_attrs info.attrs stands))

@@ -11,7 +11,7 @@ ghost use Rattle.quel_meaning.specs.Causes.{causes};
 ghost use Rattle.quel_meaning.specs.Purpose.{purpose_of, purpose, cause_numbers};
 ghost use Rattle.quel_meaning.specs.Resolved.{resolved};
 ghost use Rattle.calculus.specs.QueryParts.{query_aggregates};
-ghost use Rattle.quel_meaning.specs.WrittenParts.{aggregates_of};
+ghost use Rattle.quel_meaning.specs.WrittenParts.{text_aggregates};
 ghost use Rattle.quel_meaning.specs.WrittenQuery.{query_of};
 ghost use Rattle.quel_meaning.specs.FitQueries.{slots_count_up};
 ghost use Rattle.quel_meaning.specs.Fit.{is_fit, is_fit_with_views, makes_an_index};
@@ -38,7 +38,7 @@ pub fn only_its_numbers_refuse_a_statement()
 /// their slots are 0, 1 and so on, target list first.
 pub fn slots_count_the_aggregates_of_a_text()
     ensures slots { (s : Scope) (statement : Statement) → slots_count_up (query_of s statement) ≡ true }
-    ensures number { (s : Scope) (statement : Statement) → length (query_aggregates (query_of s statement)) ≡ length (aggregates_of statement) }
+    ensures number { (s : Scope) (statement : Statement) → length (query_aggregates (query_of s statement)) ≡ length (text_aggregates statement) }
 {}
 
 /// What a statement that was read asks for is fit for the database and the user, once the views in it
