@@ -1,5 +1,6 @@
 mod Small
 mod Resolving
+mod Full
 mod Fitting
 pub mod Accepted
 pub mod Slots
