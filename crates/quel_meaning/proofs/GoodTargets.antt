@@ -110,7 +110,7 @@ targets_good s is titled stmt q w h =
 
 -- ---- there is a target
 
-some_more : {X : Type 0} (xs ys : List X) → is_any xs ≡ true → is_any (xs ++ ys) ≡ true
+pub some_more : {X : Type 0} (xs ys : List X) → is_any xs ≡ true → is_any (xs ++ ys) ≡ true
 some_more [] ys h = absurd (cc h)
 some_more (x ∷ xs) ys h = refl
 

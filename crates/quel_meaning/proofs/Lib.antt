@@ -26,3 +26,4 @@ pub mod FewExpanded
 pub mod FitShown
 pub mod FitResolved
 pub mod FitViews
+pub mod UsedVars
