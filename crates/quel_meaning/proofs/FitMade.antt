@@ -166,7 +166,7 @@ each_empty : {X Y : Type 0} (f : X → List Y) (xs : List X) → flat_map f xs �
 each_empty f [] h = tt
 each_empty f (x ∷ xs) h = (none_before (f x) _ h, each_empty f xs (none_behind (f x) _ h))
 
-both_hold : {X : Type 0} (P Q R : X → Type 0) → ((x : X) → P x → Q x → R x) → (xs : List X) → Each P xs → Each Q xs → Each R xs
+pub both_hold : {X : Type 0} (P Q R : X → Type 0) → ((x : X) → P x → Q x → R x) → (xs : List X) → Each P xs → Each Q xs → Each R xs
 both_hold P Q R f [] h k = tt
 both_hold P Q R f (x ∷ xs) h k = (f x h.0 k.0, both_hold P Q R f xs h.1 k.1)
 

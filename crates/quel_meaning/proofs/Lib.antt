@@ -27,3 +27,4 @@ pub mod FitShown
 pub mod FitResolved
 pub mod FitViews
 pub mod UsedVars
+pub mod VarPlaces

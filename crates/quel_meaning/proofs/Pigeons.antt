@@ -10,11 +10,11 @@ pub not_true : (b : Bool) → not b ≡ true → b ≡ false
 not_true true h = absurd (cc h)
 not_true false h = refl
 
-none_same : {X : Type 0} (test : X → Bool) (xs : List X) → list_any test xs ≡ false → Each (λ x. test x ≡ false) xs
+pub none_same : {X : Type 0} (test : X → Bool) (xs : List X) → list_any test xs ≡ false → Each (λ x. test x ≡ false) xs
 none_same test [] h = tt
 none_same test (x ∷ xs) h = (not_left _ _ h, none_same test xs (not_right _ _ h))
 
-distinct : {X : Type 0} (same : X → X → Bool) (xs : List X) → differ_by same xs ≡ true → IsDistinct same xs
+pub distinct : {X : Type 0} (same : X → X → Bool) (xs : List X) → differ_by same xs ≡ true → IsDistinct same xs
 unfolding IsDistinct
 distinct same [] h = tt
 distinct same (x ∷ xs) h = (none_same (same x) xs (not_true _ (left _ _ h)), distinct same xs (right _ _ h))
