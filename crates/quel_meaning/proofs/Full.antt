@@ -1,10 +1,9 @@
 -- Computed: limits on permits, on their numbers, and on relations.
 use Rattle.std.proofs.Common.{refl}
-use Rattle.std.specs.Prelude.{◌≡◌, ℕ, true, List, [], ◌∷◌, map, replicate, Some, None, Result, Ok, Err, codes}
+use Rattle.std.specs.Prelude.{◌≡◌, ℕ, [], ◌∷◌, map, replicate, None, Ok, Err, codes}
 use Rattle.std.specs.List.{enumerate_from}
 use Rattle.calculus.specs.declared.value.Domain.TheVariants.{I1}
 use Rattle.calculus.specs.declared.query.QQual.TheVariants as qual
-use Rattle.calculus.specs.declared.query.RelKey.{RelKey}
 use Rattle.calculus.specs.declared.request.Checked.{Checked}
 use Rattle.calculus.specs.declared.request.Checked.TheVariants as checked
 use Rattle.calculus.specs.declared.request.Utility.TheVariants as utility
@@ -65,4 +64,10 @@ record Limits : Type 0 where
 limits : Limits
 unfolding resolved tree_of name_refusal mentions range_of ranged named found info_at range_at catalogue_at causes aggregates_stand aggregates_in aggregates_in_qual vars_in query_of where_tree kinds_fit is_full are_full is_too_wide is_taken qual_aggregates qual_size measure_of
 limits = record {
-  ninety_nine_permits = refl; a_hundred_permits = refl; a_number_is_left = refl; no_number_is_left = refl; room_for_a_relation = refl; no_room_for_a_relation = refl }
+  ninety_nine_permits = refl;
+  a_hundred_permits = refl;
+  a_number_is_left = refl;
+  no_number_is_left = refl;
+  room_for_a_relation = refl;
+  no_room_for_a_relation = refl;
+}

@@ -28,3 +28,4 @@ pub mod FitResolved
 pub mod FitViews
 pub mod UsedVars
 pub mod VarPlaces
+pub mod AllUsed

@@ -1,5 +1,5 @@
 -- The variables of a statement's query are used.
-use Rattle.std.proofs.Common.{◌≡◌, refl, sym, ap, ◌∙◌, subst, ℕ, ◌+◌, ◌==◌, Bool, true, false, ◌&&◌, cond, List, [], ◌∷◌, ◌++◌, map, length, Option, Some, None, append-nil}
+use Rattle.std.proofs.Common.{◌≡◌, refl, sym, subst, ℕ, ◌+◌, ◌==◌, true, cond, List, [], ◌∷◌, ◌++◌, map, length, append-nil}
 use Rattle.std.specs.List.{flat_map, enumerate_from}
 use Rattle.std.proofs.lemmas.Bool.{eq-eqb}
 use Rattle.std.proofs.lemmas.Grind.{flat_map-append}
@@ -17,19 +17,18 @@ use Rattle.calculus.specs.declared.statement.Statement.{Statement}
 use Rattle.calculus.specs.declared.statement.Term.{Term, Int, Chars, Attr as Dot, Agg', Row_of-Term, end_of-Term, more_of-Term, Row_of-AggTerm, end_of-AggTerm, more_of-AggTerm}
 use Rattle.calculus.specs.IsDatabase.{IsDatabase}
 use Rattle.calculus.specs.Lists.{is_any}
-use Rattle.calculus.specs.QueryParts.{targets_of, qual_of}
 use Rattle.calculus.specs.Stored.{attrs_in}
 use Rattle.calculus.specs.Tree.{term_row}
 use Rattle.calculus.specs.Used.{used, used_in_row, used_in_qual, used_in_query}
 use Rattle.calculus.specs.Written.{neg, abs, operation, concat, both, either, negated}
 use Rattle.quel_meaning.specs.Naming.{Mention, item_mentions, query_mentions, no_refusal}
-use Rattle.quel_meaning.specs.Scope.{Scope, ranged}
+use Rattle.quel_meaning.specs.Scope.{Scope}
 use Rattle.quel_meaning.specs.WrittenParts.{outer_vars, linked_vars, outer_vars_in_row, outer_vars_in_qual, outer_vars_in_item, aggregates_in, aggregates_in_qual, aggregates_in_item, items_of, where_of, vars_in}
 use Rattle.quel_meaning.specs.WrittenTree.{Vars, var_place, compared, term_tree, aggregate_tree, row_trees, qual_tree}
 use Rattle.quel_meaning.specs.WrittenQuery.{item_targets, targets_from, where_tree, query_of}
 use Rattle.quel_meaning.proofs.DatabaseFacts.{info_stands, stood}
-use Rattle.quel_meaning.proofs.Each.{Each, front_of, both_of, in_flat_map, of_flat_map, each_to}
-use Rattle.quel_meaning.proofs.Found.{IsFound, IsRanged, ranged_with, ranged_is}
+use Rattle.quel_meaning.proofs.Each.{Each, front_of, both_of, of_flat_map, each_to}
+use Rattle.quel_meaning.proofs.Found.{IsFound, ranged_with, ranged_is}
 use Rattle.quel_meaning.proofs.GoodTargets.{some_more}
 
 some_behind : {X : Type 0} (xs ys : List X) → is_any ys ≡ true → is_any (xs ++ ys) ≡ true
@@ -43,7 +42,8 @@ here p a = subst (λ b. is_any (cond b (a ∷ []) []) ≡ true) (sym (eq-eqb p p
 abbrev UsedIn : Vars → QTerm → List ℕ → Type 0
 UsedIn vars t v = is_any (used (var_place vars v) t) ≡ true
 
-in_either : (vars : Vars) (ts us : ℕ → List ℕ) (front back : List (List ℕ)) → Each (λ v. is_any (ts (var_place vars v)) ≡ true) front → Each (λ v. is_any (us (var_place vars v)) ≡ true) back
+in_either : (vars : Vars) (ts us : ℕ → List ℕ) (front back : List (List ℕ)) → Each (λ v. is_any (ts (var_place vars v)) ≡ true) front
+    → Each (λ v. is_any (us (var_place vars v)) ≡ true) back
     → Each (λ v. is_any (ts (var_place vars v) ++ us (var_place vars v)) ≡ true) (front ++ back)
 in_either vars ts us front back h k =
     both_of _ front back (each_to _ _ (λ v e. some_more (ts (var_place vars v)) _ e) front h) (each_to _ _ (λ v e. some_behind (ts (var_place vars v)) _ e) back k)
@@ -67,7 +67,8 @@ mutual
   in_links s vars n end_of-AggTerm = tt
   in_links s vars n (more_of-AggTerm op arg bys by qual rest) = in_row s vars by
 
-  in_row : (s : Scope) (vars : Vars) → {m : _} → (row : Row_of-Term m) → Each (λ v. is_any (used_in_row (var_place vars v) (term_row (row_trees s vars row))) ≡ true) (outer_vars_in_row row)
+  in_row : (s : Scope) (vars : Vars) → {m : _} → (row : Row_of-Term m)
+      → Each (λ v. is_any (used_in_row (var_place vars v) (term_row (row_trees s vars row))) ≡ true) (outer_vars_in_row row)
   in_row s vars end_of-Term = tt
   in_row s vars (more_of-Term t rest) =
       in_either vars (λ v. used v (term_tree s vars 0 t)) (λ v. used_in_row v (term_row (row_trees s vars rest))) (outer_vars t) (outer_vars_in_row rest)
@@ -109,11 +110,14 @@ in_item : (s : Scope) → IsDatabase s.db → (titled : List ℕ → List Mentio
 in_item s is titled vars n (item.Set name term) h = each_to _ _ (λ v e. some_more (used (var_place vars v) (term_tree s vars n term)) [] e) (outer_vars term) (in_term s vars n term)
 in_item s is titled vars n (item.Attr var attr) h = (some_more _ [] (here (var_place vars var) _), tt)
 in_item s is titled vars n (item.All var) h =
-    let r = (ranged_with s no_refusal var h.0).is in
-    (subst (λ o. is_any (used_by (var_place vars var) (map (λ (p : ℕ × Attr). record { name = p.1.name; kind = p.1.kind; term = qterm.Attr (var_place vars var) p.0 }) (enumerate_from 0 (attrs_in o)))) ≡ true)
-    (sym (ranged_is s var r)) (all_used (var_place vars var) r.info.attrs (stood r.info.attrs (info_stands s.db is r.key r.info r.there)).any), tt)
+    let r = (ranged_with s no_refusal var h.0).is in (
+      subst (λ o. is_any (used_by (var_place vars var) (map (λ (p : ℕ × Attr). record { name = p.1.name; kind = p.1.kind; term = qterm.Attr (var_place vars var) p.0 }) (enumerate_from 0 (attrs_in o)))) ≡ true)
+          (sym (ranged_is s var r)) (all_used (var_place vars var) r.info.attrs (stood r.info.attrs (info_stands s.db is r.key r.info r.there)).any),
+      tt,
+    )
 
-in_items : (s : Scope) → IsDatabase s.db → (titled : List ℕ → List Mention) (vars : Vars) (n : ℕ) (items : List Item) → Each (λ i. Each (IsFound s) (item_mentions s titled i)) items
+in_items : (s : Scope) → IsDatabase s.db → (titled : List ℕ → List Mention) (vars : Vars) (n : ℕ) (items : List Item)
+    → Each (λ i. Each (IsFound s) (item_mentions s titled i)) items
     → Each (λ v. is_any (used_by (var_place vars v) (targets_from s vars n items)) ≡ true) (flat_map outer_vars_in_item items)
 in_items s is titled vars n [] h = tt
 in_items s is titled vars n (i ∷ items) h =

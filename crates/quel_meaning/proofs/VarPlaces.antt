@@ -1,5 +1,5 @@
 -- The variables of a statement's query differ, and each has its place.
-use Rattle.std.proofs.Common.{◌≡◌, refl, sym, ap, ◌∙◌, subst, ℕ, zero, suc, ◌+◌, ◌<◌, nat_lt, Bool, true, false, ◌&&◌, ◌||◌, not, cond, List, [], ◌∷◌, map, length, Option, Some, None, arith}
+use Rattle.std.proofs.Common.{◌≡◌, refl, sym, ap, ◌∙◌, subst, ℕ, suc, ◌+◌, ◌<◌, Bool, true, false, ◌||◌, not, cond, List, [], ◌∷◌, map, length, Some, None, arith}
 use Rattle.std.specs.List.{filter, list_any, enumerate_from, position, position_or_len}
 use Rattle.std.specs.Option.{unwrap_or}
 use Rattle.std.specs.Str.{bytes_eq}
@@ -77,7 +77,7 @@ in_all (v ∷ vars) = (rw (bytes_same v v refl) refl, each_to _ _ (λ w h. later
     later w true h = refl
     later w false h = h
 
-first_place : (v : List ℕ) (vars : Vars) → var_place (v ∷ vars) v ≡ 0
+pub first_place : (v : List ℕ) (vars : Vars) → var_place (v ∷ vars) v ≡ 0
 first_place v vars = place_is (λ x. bytes_eq x v) (v ∷ vars) (rw (bytes_same v v refl) refl) ∙ rw (bytes_same v v refl) refl
 
 later_place : (v w : List ℕ) (vars : Vars) → bytes_eq v w ≡ false → IsIn vars w → var_place (v ∷ vars) w ≡ suc (var_place vars w)
@@ -100,10 +100,11 @@ moved Q k (x ∷ xs) h =
 pub at_places : {X : Type 0} (Q : ℕ → Type 0) (f : List ℕ → X) (vars : Vars) → differ_by bytes_eq vars ≡ true → Each (λ v. Q (var_place vars v)) vars
     → Each (λ (p : ℕ × X). Q p.0) (enumerate_from 0 (map f vars))
 at_places Q f [] d h = tt
-at_places Q f (v ∷ vars) d h =
-    (subst Q (first_place v vars) h.0,
-    moved Q 0 (map f vars)
-    (at_places (λ n. Q (suc n)) f vars (right _ _ d)
-    (both_hold (λ w. Q (var_place (v ∷ vars) w)) (λ w. (bytes_eq v w ≡ false) × IsIn vars w) (λ w. Q (suc (var_place vars w)))
-    (λ w q e. subst Q (later_place v w vars e.0 e.1) q) vars h.1
-    (both_hold (λ w. bytes_eq v w ≡ false) (IsIn vars) (λ w. (bytes_eq v w ≡ false) × IsIn vars w) (λ w e i. (e, i)) vars (none_same (bytes_eq v) vars (not_true _ (left _ _ d))) (in_all vars)))))
+at_places Q f (v ∷ vars) d h = (
+  subst Q (first_place v vars) h.0,
+  moved Q 0 (map f vars)
+      (at_places (λ n. Q (suc n)) f vars (right _ _ d)
+      (both_hold (λ w. Q (var_place (v ∷ vars) w)) (λ w. (bytes_eq v w ≡ false) × IsIn vars w) (λ w. Q (suc (var_place vars w)))
+      (λ w q e. subst Q (later_place v w vars e.0 e.1) q) vars h.1
+      (both_hold (λ w. bytes_eq v w ≡ false) (IsIn vars) (λ w. (bytes_eq v w ≡ false) × IsIn vars w) (λ w e i. (e, i)) vars (none_same (bytes_eq v) vars (not_true _ (left _ _ d))) (in_all vars)))),
+)
