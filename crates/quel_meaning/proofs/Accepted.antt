@@ -32,7 +32,8 @@ pub record IsAccepted (s : Scope) (stmt : Statement) (tree : Checked) : Type 0 w
 abbrev pub scope : Db → List ℕ → Ranges → Scope
 scope db user ranges = record { db = db; user = user; ranges = ranges }
 
-pub accepted : (db : Db) (user : List ℕ) (ranges : Ranges) (stmt : Statement) (tree : Checked) → resolved db user ranges stmt ≡ Ok tree → IsAccepted (scope db user ranges) stmt tree
+pub accepted : (db : Db) (user : List ℕ) (ranges : Ranges) (stmt : Statement) (tree : Checked) → resolved db user ranges stmt ≡ Ok tree
+    → IsAccepted (scope db user ranges) stmt tree
 unfolding resolved judged
 accepted db user ranges stmt tree e = go (name_refusal (scope db user ranges) stmt) (first_cause (causes (scope db user ranges) stmt)) refl refl e
   where
@@ -99,7 +100,8 @@ cause_listed : (cs : Causes) (n : ℕ) → first_cause cs ≡ Some n → has_num
 cause_listed [] n e = absurd (cc e)
 cause_listed (c ∷ cs) n e = go (cause_listed cs n) c.1 e
   where
-    go : (first_cause cs ≡ Some n → has_number (map (λ c. c.0) cs) n ≡ true) → (b : Bool) → ◌≡◌ {A = Option ℕ} (elim b [ true ↦ Some c.0 | false ↦ first_cause cs ]) (Some n) → (nat_eq c.0 n || has_number (map (λ c. c.0) cs) n) ≡ true
+    go : (first_cause cs ≡ Some n → has_number (map (λ c. c.0) cs) n ≡ true) → (b : Bool)
+        → ◌≡◌ {A = Option ℕ} (elim b [ true ↦ Some c.0 | false ↦ first_cause cs ]) (Some n) → (nat_eq c.0 n || has_number (map (λ c. c.0) cs) n) ≡ true
     go later true e = ap (λ b. b || has_number (map (λ c. c.0) cs) n) (eq-eqb c.0 n (cc e))
     go later false e = or_true (nat_eq c.0 n) _ (later e)
 
@@ -175,7 +177,8 @@ refused (Some k) more tree numbers h g n e = in_both of_names numbers n (h n (cc
 refused None (Some k) tree numbers h g n e = in_second of_names numbers n (g n (cc e))
 refused None None tree numbers h g n e = absurd (cc e)
 
-pub refused_by : (db : Db) (user : List ℕ) (ranges : Ranges) (stmt : Statement) (n : ℕ) → resolved db user ranges stmt ≡ Err n → has_number (of_names ++ cause_numbers stmt) n ≡ true
+pub refused_by : (db : Db) (user : List ℕ) (ranges : Ranges) (stmt : Statement) (n : ℕ) → resolved db user ranges stmt ≡ Err n
+    → has_number (of_names ++ cause_numbers stmt) n ≡ true
 unfolding resolved judged name_refusal
 refused_by db user ranges stmt n e =
     refused (name_refusal (scope db user ranges) stmt) (first_cause (causes (scope db user ranges) stmt)) (tree_of (scope db user ranges) stmt) (cause_numbers stmt)

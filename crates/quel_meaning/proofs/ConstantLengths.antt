@@ -1,5 +1,5 @@
 -- The text of a constant is no longer than the constant.
-use Rattle.std.proofs.Common.{◌≡◌, refl, sym, ap, ◌∙◌, subst, ℕ, suc, ◌+◌, ◌≤◌, ◌==◌, Bool, true, false, List, [], ◌∷◌, length, cond, arith}
+use Rattle.std.proofs.Common.{◌≡◌, refl, ap, ℕ, suc, ◌+◌, ◌≤◌, ◌==◌, Bool, true, false, List, [], ◌∷◌, length, cond, arith}
 use Rattle.calculus.proofs.Constants.{chars_short}
 use Rattle.calculus.specs.Chars.{is_chars}
 use Rattle.calculus.specs.Constant.{mark, marks_behind, marks, plain_bytes, constant_text}

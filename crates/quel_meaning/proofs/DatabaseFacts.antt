@@ -1,5 +1,5 @@
 -- What is found in a database has attributes as one has.
-use Rattle.std.proofs.Common.{◌≡◌, refl, sym, ap, ◌∙◌, subst, ℕ, ◌≤◌, nat_le, Bool, true, false, ◌&&◌, ◌||◌, cond, List, [], ◌∷◌, map, length, Option, Some, None, is_some}
+use Rattle.std.proofs.Common.{◌≡◌, refl, subst, nat_le, Bool, true, false, ◌&&◌, ◌||◌, cond, List, [], ◌∷◌, map, length, Option, Some, None, is_some}
 use Rattle.std.specs.List.{find, list_all, flat_map}
 use Rattle.std.specs.Option.{option_map}
 use Rattle.calculus.specs.declared.query.RelKey.{RelKey}
@@ -15,14 +15,15 @@ use Rattle.calculus.specs.declared.schema.Attr.{Attr}
 use Rattle.calculus.specs.Limits.{most_attributes}
 use Rattle.calculus.specs.Lists.{is_any, differ_by}
 use Rattle.std.specs.Str.{bytes_eq}
-use Rattle.quel_meaning.proofs.Each.{left, right, not_left, not_right}
+use Rattle.quel_meaning.proofs.Each.{left, right}
 
 -- what is found passes what all pass
 pub found_passes : {X : Type 0} (p test : X → Bool) (xs : List X) (x : X) → list_all test xs ≡ true → find p xs ≡ Some x → test x ≡ true
 found_passes p test [] x h k = absurd (cc k)
 found_passes p test (y ∷ ys) x h k = go (found_passes p test ys x) (p y) (test y) refl h k
   where
-    go : (list_all test ys ≡ true → find p ys ≡ Some x → test x ≡ true) → (b c : Bool) → test y ≡ c → (c && list_all test ys) ≡ true → cond b (Some y) (find p ys) ≡ Some x → test x ≡ true
+    go : (list_all test ys ≡ true → find p ys ≡ Some x → test x ≡ true) → (b c : Bool) → test y ≡ c → (c && list_all test ys) ≡ true
+        → cond b (Some y) (find p ys) ≡ Some x → test x ≡ true
     go later b false e h k = absurd (cc h)
     go later true true e h k = let same : y ≡ x = cc k in subst (λ z. test z ≡ true) same e
     go later false true e h k = later h k
@@ -109,7 +110,8 @@ no_catalogue db key h = go (same_key key (relation_key db)) (same_key key (attri
     go false false h = refl
 
 -- what is found and is neither a catalogue nor a view is a base relation
-pub found_relation : (db : Db) (key : RelKey) (info : RelInfo) → info_at db key ≡ Some info → is_catalogue db key ≡ false → is_some (view_at db key) ≡ false → is_relation db key ≡ true
+pub found_relation : (db : Db) (key : RelKey) (info : RelInfo) → info_at db key ≡ Some info → is_catalogue db key ≡ false → is_some (view_at db key) ≡ false
+    → is_relation db key ≡ true
 unfolding info_at range_at
 found_relation db key info h c v = at_relation (relation_at db key) h
   where

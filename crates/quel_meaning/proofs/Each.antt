@@ -1,6 +1,6 @@
 -- What holds of each item of a list.
-use Rattle.std.proofs.Common.{◌≡◌, refl, sym, ap, ◌∙◌, subst, ℕ, Bool, true, false, ◌&&◌, ◌||◌, not, cond, List, [], ◌∷◌, ◌++◌, map}
-use Rattle.std.specs.List.{AllByRecursion, list_all, list_any, filter, flat_map}
+use Rattle.std.proofs.Common.{◌≡◌, refl, Bool, true, false, ◌&&◌, ◌||◌, not, cond, List, [], ◌∷◌, ◌++◌, map}
+use Rattle.std.specs.List.{AllByRecursion, list_all, filter, flat_map}
 
 abbrev pub Each : {X : Type 0} → (X → Type 0) → List X → Type 0
 Each = AllByRecursion

@@ -1,21 +1,20 @@
 -- Where the variables that a query lists are few, those that it uses are.
-use Rattle.std.proofs.Common.{◌≡◌, refl, sym, ap, ◌∙◌, subst, ℕ, ◌+◌, ◌≤◌, nat_le, nat_lt, Bool, true, false, ◌||◌, not, cond, List, [], ◌∷◌, ◌++◌, map, length, arith}
+use Rattle.std.proofs.Common.{◌≡◌, refl, sym, ap, ◌∙◌, subst, ℕ, ◌+◌, ◌≤◌, nat_le, nat_lt, Bool, true, false, ◌||◌, not, List, [], ◌∷◌, length, arith}
 use Rattle.std.specs.List.{filter, sum_by, enumerate_from}
 use Rattle.std.proofs.lemmas.Bool.{ltb-false, le-leb}
 use Rattle.std.proofs.lemmas.List.Filters.{length-filter_both, sum_by-filter_both}
 use Rattle.std.proofs.lemmas.List.FromFn.{length-enumerate_from}
 use Rattle.std.proofs.lemmas.List.Sums.{sum_by-cons}
 use Rattle.calculus.specs.declared.query.RelKey.{RelKey}
-use Rattle.calculus.specs.declared.query.QAgg.{QAgg}
 use Rattle.calculus.specs.declared.query.Query.{Query}
 use Rattle.calculus.specs.declared.request.Update.{Update}
 use Rattle.calculus.specs.Lists.{is_any}
 use Rattle.calculus.specs.Limits.{most_variables, most_expanded_variables}
 use Rattle.calculus.specs.Database.{Db}
 use Rattle.calculus.specs.Assignments.{is_changed}
-use Rattle.calculus.specs.QueryParts.{vars_of, query_aggregates}
-use Rattle.calculus.specs.Used.{used_in_query, used_vars}
-use Rattle.calculus.specs.Sizes.{measure_of, source_variables, variables, expanded_variables, update_vars, update_expanded_variables}
+use Rattle.calculus.specs.QueryParts.{vars_of}
+use Rattle.calculus.specs.Used.{used_in_query}
+use Rattle.calculus.specs.Sizes.{measure_of, variables, expanded_variables, update_expanded_variables}
 use Rattle.quel_meaning.specs.Passing.{listed_variables, listed_expanded_variables, has_too_many}
 use Rattle.quel_meaning.specs.FitQueries.{lists_few_vars}
 use Rattle.quel_meaning.proofs.Each.{not_left, not_right}
@@ -35,7 +34,7 @@ numbered f k (x ∷ xs) =
 some_vars : (q : Query) (p : ℕ × RelKey → Bool) → length (filter p (enumerate_from 0 (vars_of q))) ≤ length (vars_of q)
 some_vars q p = subst (λ n. length (filter p (enumerate_from 0 (vars_of q))) ≤ n) (length-enumerate_from 0 (vars_of q)) (fewer p (enumerate_from 0 (vars_of q)))
 
-some_measures : (db : Db) (q : Query) (p : ℕ × RelKey → Bool)
+pub some_measures : (db : Db) (q : Query) (p : ℕ × RelKey → Bool)
     → sum_by (λ (v : ℕ × RelKey). (measure_of db v.1).variables) (filter p (enumerate_from 0 (vars_of q))) ≤ sum_by (λ key. (measure_of db key).variables) (vars_of q)
 some_measures db q p =
     subst (λ n. sum_by (λ (v : ℕ × RelKey). (measure_of db v.1).variables) (filter p (enumerate_from 0 (vars_of q))) ≤ n)

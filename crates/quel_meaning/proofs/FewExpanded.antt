@@ -1,6 +1,6 @@
 -- What stands in a database has few variables once the views in it are put in.
-use Rattle.std.proofs.Common.{◌≡◌, refl, sym, ap, ap₂, ◌∙◌, subst, ℕ, zero, suc, ◌+◌, ◌≤◌, max, nat_le, Bool, true, false, List, [], ◌∷◌, map, length, Option, Some, None, is_some, arith}
-use Rattle.std.specs.List.{list_all, filter, sum_by, enumerate_from}
+use Rattle.std.proofs.Common.{◌≡◌, refl, sym, ap, ap₂, ◌∙◌, subst, ℕ, zero, suc, ◌+◌, ◌≤◌, nat_le, true, List, [], ◌∷◌, map, Option, Some, None, is_some, arith}
+use Rattle.std.specs.List.{sum_by, enumerate_from}
 use Rattle.std.specs.Option.{option_map}
 use Rattle.std.proofs.lemmas.Bool.{leb-true}
 use Rattle.std.proofs.lemmas.List.Sums.{sum_by-cons}
@@ -12,8 +12,8 @@ use Rattle.calculus.specs.IsDatabase.{IsDatabase}
 use Rattle.calculus.specs.Keys.{same_key}
 use Rattle.calculus.specs.Limits.{greatest_level, most_expanded_variables}
 use Rattle.calculus.specs.Lists.{is_any}
-use Rattle.calculus.specs.QueryParts.{vars_of, query_aggregates}
-use Rattle.calculus.specs.Sizes.{greater_level, greatest_of, level_above, range_level, level_within, level_of, Measure, Known, query_measure, range_measure, measure_within, measure_of, source_variables, expanded_variables}
+use Rattle.calculus.specs.QueryParts.{vars_of}
+use Rattle.calculus.specs.Sizes.{greater_level, greatest_of, level_above, range_level, level_within, level_of, Known, query_measure, range_measure, measure_within, measure_of, expanded_variables}
 use Rattle.calculus.specs.Stored.{Range, Kept, Viewed, range_at}
 use Rattle.calculus.specs.Used.{used_in_query, used_vars}
 use Rattle.quel_meaning.proofs.Each.{Each, of_map, in_filter, each_to}
@@ -50,7 +50,8 @@ in_numbered P k [] h = tt
 in_numbered P k (key ∷ keys) h = (h.0, in_numbered P (k + 1) keys h.1)
 
 -- queries count the same variables where the same is known of what they name
-same_counts : (known other : Known) (q : Query) → Each (λ key. (known key).variables ≡ (other key).variables) (vars_of q) → (query_measure known q).variables ≡ (query_measure other q).variables
+same_counts : (known other : Known) (q : Query) → Each (λ key. (known key).variables ≡ (other key).variables) (vars_of q)
+    → (query_measure known q).variables ≡ (query_measure other q).variables
 same_counts known other q h =
     same_sums (λ (p : ℕ × RelKey). (known p.1).variables) (λ p. (other p.1).variables) (used_vars q)
     (in_filter _ (λ p. is_any (used_in_query p.0 q)) (enumerate_from 0 (vars_of q)) (in_numbered _ 0 (vars_of q) h))
@@ -101,7 +102,8 @@ few_variables_in db is key = at_relation (relation_at db key) refl
     at_catalogue None = omega arith
     at_catalogue (Some relation) = omega arith
 
-    at_view : (v : Option View) → relation_at db key ≡ None → view_at db key ≡ v → measured (elim v [ Some view ↦ Some (Viewed view) | None ↦ option_map Kept (catalogue_at db key) ]) ≤ most_expanded_variables
+    at_view : (v : Option View) → relation_at db key ≡ None → view_at db key ≡ v
+        → measured (elim v [ Some view ↦ Some (Viewed view) | None ↦ option_map Kept (catalogue_at db key) ]) ≤ most_expanded_variables
     at_view None e f = at_catalogue (catalogue_at db key)
     at_view (Some view) e f = of_view db is key view f (viewed e f)
       where

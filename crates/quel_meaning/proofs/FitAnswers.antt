@@ -1,21 +1,18 @@
 -- What a resolved `retrieve` asks for is fit.
-use Rattle.std.proofs.Common.{◌≡◌, refl, sym, ap, ◌∙◌, subst, ℕ, Bool, true, false, ◌&&◌, not, List, [], ◌∷◌, map, Option, Some, None}
-use Rattle.std.specs.List.{list_all}
+use Rattle.std.proofs.Common.{◌≡◌, refl, ℕ, Bool, true, List, None}
 use Rattle.calculus.specs.declared.query.Query.{Query}
-use Rattle.calculus.specs.declared.request.Asked.{Asked}
 use Rattle.calculus.specs.declared.statement.Item.{Item}
 use Rattle.calculus.specs.declared.statement.Qual.{Qual}
 use Rattle.calculus.specs.declared.statement.Statement.{Statement}
 use Rattle.calculus.specs.declared.statement.Statement.TheVariants as statement
-use Rattle.calculus.specs.QueryParts.{targets_of}
 use Rattle.calculus.specs.Replacement.{first_cause}
 use Rattle.quel_meaning.specs.Scope.{Scope}
 use Rattle.quel_meaning.specs.Naming.{name_refusal}
 use Rattle.quel_meaning.specs.Aggregates.{aggregates_stand}
 use Rattle.quel_meaning.specs.WrittenQuery.{query_of}
 use Rattle.quel_meaning.specs.Causes.{causes, print_causes}
-use Rattle.quel_meaning.specs.Resolved.{sort_key, tree_of}
-use Rattle.quel_meaning.specs.FitQueries.{kept_or_viewed, asked_fits}
+use Rattle.quel_meaning.specs.Resolved.{tree_of}
+use Rattle.quel_meaning.specs.FitQueries.{asked_fits}
 use Rattle.quel_meaning.specs.Fit.{fits, is_fit_with_views}
 use Rattle.quel_meaning.proofs.Each.{and, not_not}
 use Rattle.quel_meaning.proofs.Few.{expanded_few}

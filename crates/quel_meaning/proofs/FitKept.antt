@@ -1,11 +1,10 @@
 -- Resolved copies, permits, rules and new relations are fit.
-use Rattle.std.proofs.Common.{◌≡◌, refl, sym, ap, ◌∙◌, subst, ℕ, ◌+◌, ◌≤◌, nat_eq, nat_lt, nat_le, slice_get, Bool, true, false, ◌&&◌, ◌||◌, not, List, [], ◌∷◌, map, length, Option, Some, None, is_some, arith}
+use Rattle.std.proofs.Common.{◌≡◌, refl, sym, ap, ◌∙◌, subst, ℕ, ◌+◌, nat_eq, nat_lt, slice_get, Bool, true, false, ◌&&◌, ◌||◌, not, List, [], ◌∷◌, map, length, Option, Some, None, arith}
 use Rattle.std.specs.List.{list_all, list_any, sum_by}
 use Rattle.std.specs.Str.{bytes_eq}
 use Rattle.std.proofs.lemmas.Bool.{le-leb, ltb-false}
 use Rattle.std.proofs.lemmas.List.{length-map}
 use Rattle.std.proofs.lemmas.List.Sums.{sum_by-cons}
-use Rattle.calculus.specs.declared.query.Query.{Query}
 use Rattle.calculus.specs.declared.request.CopyForm.{CopyForm}
 use Rattle.calculus.specs.declared.request.CopyCol.{CopyCol}
 use Rattle.calculus.specs.declared.schema.Attr.{Attr}
@@ -14,37 +13,36 @@ use Rattle.calculus.specs.declared.statement.Qual.{Qual}
 use Rattle.calculus.specs.declared.statement.Statement.{Statement}
 use Rattle.calculus.specs.declared.statement.Statement.TheVariants as statement
 use Rattle.calculus.specs.declared.value.Domain.{Domain}
-use Rattle.calculus.specs.declared.value.Kind.{Kind}
 use Rattle.calculus.specs.declared.value.Kind.TheVariants.{Of}
-use Rattle.calculus.specs.Database.{Db}
-use Rattle.calculus.specs.IsDatabase.{attrs_stand, are_stored, is_kind, is_stored_kind, is_domain, kind_bytes, row_qual_is_small, permit_attrs_stand}
+use Rattle.calculus.specs.IsDatabase.{attrs_stand, is_kind, is_stored_kind, is_domain, kind_bytes, permit_attrs_stand}
 use Rattle.calculus.specs.Kinds.{is_text_kind}
 use Rattle.calculus.specs.Limits.{most_attributes, most_row_bytes, most_permits, most_rules, most_listed_attributes}
 use Rattle.calculus.specs.Lists.{is_any, differ_by}
 use Rattle.calculus.specs.Name.{is_name}
 use Rattle.calculus.specs.Change.{permit_numbers, rule_numbers}
-use Rattle.calculus.specs.QueryParts.{vars_of, qual_of}
+use Rattle.calculus.specs.QueryParts.{vars_of}
 use Rattle.calculus.specs.Replacement.{first_cause}
 use Rattle.calculus.specs.Stored.{attrs_in, attrs_at, kinds_at}
+use Rattle.quel_meaning.specs.Planned.{is_past_limit}
 use Rattle.quel_meaning.specs.Scope.{Scope, named, ranged, key_found, place_found}
-use Rattle.quel_meaning.specs.Naming.{Mention, AttrIn, AttrOf, mentions, no_refusal, name_refusal}
+use Rattle.quel_meaning.specs.Naming.{AttrIn, AttrOf, mentions, no_refusal, name_refusal}
 use Rattle.quel_meaning.specs.Aggregates.{aggregates_stand}
 use Rattle.quel_meaning.specs.WrittenQuery.{query_of}
 use Rattle.quel_meaning.specs.Passing.{is_full, is_too_wide, is_taken}
-use Rattle.quel_meaning.specs.Planned.{is_past_limit}
 use Rattle.quel_meaning.specs.Causes.{repeats, is_binary, is_binary_text, row_causes, causes}
 use Rattle.quel_meaning.specs.Resolved.{stored_attr, copy_col, tree_of}
 use Rattle.quel_meaning.specs.Fit.{utility_fits, fits, is_fit_with_views}
 use Rattle.quel_meaning.specs.IsWritten.{is_written}
 use Rattle.quel_meaning.proofs.Each.{Each, front_of, of_map, in_map, each_to, passed, each_passes, left, right, and, not_left, not_right, not_not, not_so}
-use Rattle.quel_meaning.proofs.Found.{IsFound, IsNamed, IsRanged, names_found, ranged_with, ranged_is, ranged_again, ranged_named}
+use Rattle.quel_meaning.proofs.Found.{names_found, ranged_with, ranged_is, ranged_again, ranged_named}
 use Rattle.quel_meaning.proofs.Titles.{HasAttr, titled_of, places_in_range, places_differ}
 use Rattle.quel_meaning.proofs.ReadsFit.{none_of}
 use Rattle.quel_meaning.proofs.FitUtilities.{named_is, by_name, attrs_there, its_attrs}
 
 -- ---- copies
 
-columns_are_places : (info : RelInfo) (columns : List (List ℕ × CopyForm)) → map (λ (c : CopyCol). c.attr) (map (copy_col (Some info)) columns) ≡ map (place_found (Some info)) (map (λ (c : List ℕ × CopyForm). c.0) columns)
+columns_are_places : (info : RelInfo) (columns : List (List ℕ × CopyForm))
+    → map (λ (c : CopyCol). c.attr) (map (copy_col (Some info)) columns) ≡ map (place_found (Some info)) (map (λ (c : List ℕ × CopyForm). c.0) columns)
 columns_are_places info [] = refl
 columns_are_places info (c ∷ columns) = ap (λ ps. place_found (Some info) c.0 ∷ ps) (columns_are_places info columns)
 
@@ -52,7 +50,8 @@ some_column : (info : Option RelInfo) (columns : List (List ℕ × CopyForm)) �
 some_column info [] h = absurd (cc h)
 some_column info (c ∷ columns) h = refl
 
-columns_below : (info : RelInfo) (columns : List (List ℕ × CopyForm)) → list_all (λ p. nat_lt p (length info.attrs)) (map (place_found (Some info)) (map (λ (c : List ℕ × CopyForm). c.0) columns)) ≡ true
+columns_below : (info : RelInfo) (columns : List (List ℕ × CopyForm))
+    → list_all (λ p. nat_lt p (length info.attrs)) (map (place_found (Some info)) (map (λ (c : List ℕ × CopyForm). c.0) columns)) ≡ true
     → list_all (λ (c : CopyCol). nat_lt c.attr (length info.attrs)) (map (copy_col (Some info)) columns) ≡ true
 columns_below info [] h = refl
 columns_below info (c ∷ columns) h = and _ _ (left _ _ h) (columns_below info columns (right _ _ h))
@@ -122,7 +121,8 @@ sum_by_map f g [] = refl
 sum_by_map f g (x ∷ xs) = sum_by-cons f (g x) (map g xs) ∙ ap (λ n. f (g x) + n) (sum_by_map f g xs) ∙ sym (sum_by-cons (λ x. f (g x)) x xs)
 
 -- attributes made of some things stand where there is one, their names are names and differ, their kinds are ones, and they are not too wide
-pub made_stand : {X : Type 0} (attr : X → Attr) (xs : List X) → is_any xs ≡ true → Each (λ x. is_name (attr x).name ≡ true) xs → differ_by bytes_eq (map (λ x. (attr x).name) xs) ≡ true
+pub made_stand : {X : Type 0} (attr : X → Attr) (xs : List X) → is_any xs ≡ true → Each (λ x. is_name (attr x).name ≡ true) xs
+    → differ_by bytes_eq (map (λ x. (attr x).name) xs) ≡ true
     → Each (λ x. is_kind (attr x).kind ≡ true) xs → is_too_wide (map (λ x. (attr x).kind) xs) ≡ false → attrs_stand (map attr xs) ≡ true
 unfolding is_too_wide
 made_stand {X} attr xs any named differ kinds narrow =
@@ -141,7 +141,8 @@ made_stand {X} attr xs any named differ kinds narrow =
     names [] = refl
     names (x ∷ xs) = ap (λ ns. (attr x).name ∷ ns) (names xs)
 
-pub create_fits : (s : Scope) (rel : List ℕ) (attrs : List (List ℕ × Domain)) → is_written (statement.Create rel attrs) ≡ true → first_cause (causes s (statement.Create rel attrs)) ≡ None
+pub create_fits : (s : Scope) (rel : List ℕ) (attrs : List (List ℕ × Domain)) → is_written (statement.Create rel attrs) ≡ true
+    → first_cause (causes s (statement.Create rel attrs)) ≡ None
     → is_fit_with_views s.db s.user (tree_of s (statement.Create rel attrs)) ≡ true
 unfolding causes tree_of fits utility_fits is_written
 create_fits s rel attrs w k =

@@ -1,17 +1,14 @@
 -- Resolved results and views are fit.
-use Rattle.std.proofs.Common.{◌≡◌, refl, sym, ap, ◌∙◌, subst, ℕ, zero, suc, ◌+◌, ◌≤◌, ◌<◌, nat_eq, nat_lt, nat_le, slice_get, Bool, true, false, ◌&&◌, ◌||◌, not, List, [], ◌∷◌, ◌++◌, map, length, Option, Some, None, is_some, arith}
+use Rattle.std.proofs.Common.{◌≡◌, refl, ap, ◌∙◌, subst, ℕ, ◌+◌, ◌<◌, nat_eq, nat_lt, Bool, true, false, ◌&&◌, ◌||◌, not, List, [], ◌∷◌, map, length, Option, Some, None, is_some, arith}
 use Rattle.std.specs.List.{list_all, list_any, enumerate_from, flat_map, zip}
 use Rattle.std.specs.Option.{option_map}
-use Rattle.std.specs.Str.{bytes_eq}
 use Rattle.std.proofs.lemmas.Bool.{eq-eqb, lt-ltb, ne_eqb}
 use Rattle.std.proofs.lemmas.List.{length-map}
 use Rattle.std.proofs.lemmas.List.FromFn.{length-enumerate_from}
-use Rattle.calculus.specs.declared.query.QAgg.{QAgg}
 use Rattle.calculus.specs.declared.query.RelKey.{RelKey}
 use Rattle.calculus.specs.declared.query.Query.{Query}
 use Rattle.calculus.specs.declared.query.Target.{Target}
 use Rattle.calculus.specs.declared.schema.Attr.{Attr}
-use Rattle.calculus.specs.declared.statement.AggTerm.{AggTerm}
 use Rattle.calculus.specs.declared.statement.Item.{Item}
 use Rattle.calculus.specs.declared.statement.Qual.{Qual}
 use Rattle.calculus.specs.declared.statement.Statement.{Statement}
@@ -20,26 +17,25 @@ use Rattle.calculus.specs.declared.value.Domain.TheVariants.{I1, I2, I4, C}
 use Rattle.calculus.specs.declared.value.Kind.{Kind}
 use Rattle.calculus.specs.declared.value.Kind.TheVariants.{Of, Wide}
 use Rattle.calculus.specs.Database.{Db}
-use Rattle.calculus.specs.IsDatabase.{IsDatabase, attrs_stand, are_stored, is_kind, is_stored_kind, has_kind, var_kinds, query_stands, vars_are_there}
+use Rattle.calculus.specs.IsDatabase.{IsDatabase, attrs_stand, are_stored, is_kind, is_stored_kind, has_kind, var_kinds, query_stands}
 use Rattle.calculus.specs.Kinds.{comparable, kinds_fit, kind_of}
 use Rattle.calculus.specs.Lists.{is_any, differ_by}
-use Rattle.calculus.specs.Name.{is_name}
 use Rattle.calculus.specs.QueryParts.{vars_of, targets_of, qual_of, term_aggregates, qual_aggregates, query_aggregates}
 use Rattle.calculus.specs.Replacement.{first_cause, made_attr}
 use Rattle.calculus.specs.Stored.{Range, range_at, range_info, info_at}
+use Rattle.quel_meaning.specs.Planned.{target_attr}
 use Rattle.quel_meaning.specs.Scope.{Scope}
 use Rattle.quel_meaning.specs.Naming.{mentions, new_title, name_refusal}
-use Rattle.quel_meaning.specs.WrittenParts.{aggregates_of}
+use Rattle.quel_meaning.specs.WrittenParts.{text_aggregates}
 use Rattle.quel_meaning.specs.Aggregates.{aggregates_stand}
 use Rattle.quel_meaning.specs.WrittenQuery.{query_of}
-use Rattle.quel_meaning.specs.KindsInQueries.{kind_in_query, kinds_fit_in_query, query_fits, assignments_fit}
-use Rattle.quel_meaning.specs.Passing.{has_too_many, is_full, is_too_large, is_too_wide, is_taken}
-use Rattle.quel_meaning.specs.StatementUpdate.{titles_of, into_of}
+use Rattle.quel_meaning.specs.KindsInQueries.{kind_in_query, query_fits, assignments_fit}
+use Rattle.quel_meaning.specs.Passing.{has_too_many, is_full, is_too_large}
+use Rattle.quel_meaning.specs.StatementUpdate.{into_of}
 use Rattle.quel_meaning.specs.Causes.{into_causes, view_causes, causes}
 use Rattle.quel_meaning.specs.Resolved.{tree_of}
-use Rattle.quel_meaning.specs.FitQueries.{is_named, kept_or_viewed}
+use Rattle.quel_meaning.specs.FitQueries.{is_named}
 use Rattle.quel_meaning.specs.Fit.{view_fits, update_fits, utility_fits, fits, is_fit_with_views}
-use Rattle.quel_meaning.specs.Planned.{target_attr}
 use Rattle.quel_meaning.specs.IsWritten.{is_written}
 use Rattle.quel_meaning.proofs.Each.{Each, in_map, each_to, passed, each_passes, left, right, and, not_left, not_right, not_not, not_so}
 use Rattle.quel_meaning.proofs.Few.{listed_few, variables_few, expanded_few, update_expanded_few}
@@ -106,7 +102,8 @@ places_counted ts =
     and _ _ (passed (λ p. nat_lt p (length (map made_attr ts))) _ (counted 0 (length (map made_attr ts)) ts all))
     (and _ _ (counts_differ 0 ts) (eq-eqb _ _ (length-map (enumerate_from 0 ts) (λ (p : ℕ × Target). p.0) ∙ length-enumerate_from 0 ts)))
 
-pub into_fits : (s : Scope) → IsDatabase s.db → (name : List ℕ) (items : List Item) (qual : Qual) (sort : List (List ℕ × Bool)) → is_written (statement.Retrieve (Some name) items qual sort) ≡ true
+pub into_fits : (s : Scope) → IsDatabase s.db → (name : List ℕ) (items : List Item) (qual : Qual) (sort : List (List ℕ × Bool))
+    → is_written (statement.Retrieve (Some name) items qual sort) ≡ true
     → name_refusal s (statement.Retrieve (Some name) items qual sort) ≡ None → first_cause (causes s (statement.Retrieve (Some name) items qual sort)) ≡ None
     → is_fit_with_views s.db s.user (tree_of s (statement.Retrieve (Some name) items qual sort)) ≡ true
 unfolding causes tree_of fits update_fits aggregates_stand mentions into_of assignments_fit kinds_fit is_written
@@ -159,8 +156,8 @@ none_long : {X : Type 0} (xs : List X) → length xs ≡ 0 → xs ≡ []
 none_long [] h = refl
 none_long (x ∷ xs) h = absurd (omega (arith, h))
 
-no_aggregates : (s : Scope) (stmt : Statement) → not (is_any (aggregates_of stmt)) ≡ true → query_aggregates (query_of s stmt) ≡ []
-no_aggregates s stmt h = none_long _ (as_many s stmt ∙ ap length (nothing (aggregates_of stmt) (go (is_any (aggregates_of stmt)) h)))
+no_aggregates : (s : Scope) (stmt : Statement) → not (is_any (text_aggregates stmt)) ≡ true → query_aggregates (query_of s stmt) ≡ []
+no_aggregates s stmt h = none_long _ (as_many s stmt ∙ ap length (nothing (text_aggregates stmt) (go (is_any (text_aggregates stmt)) h)))
   where
     go : (b : Bool) → not b ≡ true → b ≡ false
     go true h = absurd (cc h)
@@ -170,7 +167,7 @@ each_empty : {X Y : Type 0} (f : X → List Y) (xs : List X) → flat_map f xs �
 each_empty f [] h = tt
 each_empty f (x ∷ xs) h = (none_before (f x) _ h, each_empty f xs (none_behind (f x) _ h))
 
-both_hold : {X : Type 0} (P Q R : X → Type 0) → ((x : X) → P x → Q x → R x) → (xs : List X) → Each P xs → Each Q xs → Each R xs
+pub both_hold : {X : Type 0} (P Q R : X → Type 0) → ((x : X) → P x → Q x → R x) → (xs : List X) → Each P xs → Each Q xs → Each R xs
 both_hold P Q R f [] h k = tt
 both_hold P Q R f (x ∷ xs) h k = (f x h.0 k.0, both_hold P Q R f xs h.1 k.1)
 

@@ -1,5 +1,5 @@
 -- What a resolved update of a relation asks for is fit.
-use Rattle.std.proofs.Common.{◌≡◌, refl, sym, ap, ◌∙◌, subst, ℕ, nat_eq, nat_lt, nat_le, slice_get, Bool, true, false, ◌&&◌, not, List, [], ◌∷◌, map, length, Option, Some, None, is_some}
+use Rattle.std.proofs.Common.{◌≡◌, refl, sym, ap, ◌∙◌, subst, ℕ, nat_eq, nat_lt, nat_le, slice_get, true, false, ◌&&◌, List, [], ◌∷◌, map, length, Option, Some, None, is_some}
 use Rattle.std.specs.List.{list_all}
 use Rattle.std.specs.Str.{bytes_eq}
 use Rattle.std.proofs.lemmas.Bool.{eq-eqb}
@@ -7,10 +7,8 @@ use Rattle.std.proofs.lemmas.List.{length-map}
 use Rattle.calculus.specs.declared.value.Domain.TheVariants.{I1, I2, I4, C}
 use Rattle.calculus.specs.declared.value.Kind.{Kind}
 use Rattle.calculus.specs.declared.value.Kind.TheVariants.{Of, Wide}
-use Rattle.calculus.specs.declared.query.RelKey.{RelKey}
 use Rattle.calculus.specs.declared.query.Query.{Query}
 use Rattle.calculus.specs.declared.query.Target.{Target}
-use Rattle.calculus.specs.declared.request.Update.{Update}
 use Rattle.calculus.specs.declared.request.UpdateOp.TheVariants as op
 use Rattle.calculus.specs.declared.schema.RelInfo.{RelInfo}
 use Rattle.calculus.specs.declared.statement.Item.{Item}
@@ -19,26 +17,24 @@ use Rattle.calculus.specs.declared.statement.Statement.{Statement}
 use Rattle.calculus.specs.declared.statement.Statement.TheVariants as statement
 use Rattle.calculus.specs.Catalogue.{is_catalogue}
 use Rattle.calculus.specs.Database.{Db, view_at, is_relation}
-use Rattle.calculus.specs.IsDatabase.{IsDatabase, attrs_stand, has_kind, same_kind, var_kinds}
-use Rattle.calculus.specs.Kinds.{comparable, kinds_fit, is_number_kind}
-use Rattle.calculus.specs.Keys.{same_key}
+use Rattle.calculus.specs.IsDatabase.{IsDatabase, has_kind, same_kind, var_kinds}
+use Rattle.calculus.specs.Kinds.{comparable, kinds_fit}
 use Rattle.calculus.specs.Lists.{differ_by}
-use Rattle.calculus.specs.QueryParts.{vars_of, targets_of, qual_of}
+use Rattle.calculus.specs.QueryParts.{vars_of, targets_of}
 use Rattle.calculus.specs.Replacement.{first_cause}
 use Rattle.calculus.specs.Stored.{info_at, attrs_in, attrs_at}
-use Rattle.quel_meaning.specs.Scope.{Scope, named, ranged, key_found, place_found}
-use Rattle.quel_meaning.specs.Naming.{Mention, Variable, Relation, AttrIn, AttrOf, mentions, no_refusal, name_refusal}
+use Rattle.quel_meaning.specs.Scope.{Scope, ranged, key_found, place_found}
+use Rattle.quel_meaning.specs.Naming.{AttrIn, AttrOf, mentions, no_refusal, name_refusal}
 use Rattle.quel_meaning.specs.WrittenParts.{vars_in}
 use Rattle.quel_meaning.specs.Aggregates.{aggregates_stand}
-use Rattle.quel_meaning.specs.WrittenTree.{key_over}
 use Rattle.quel_meaning.specs.WrittenQuery.{query_of}
-use Rattle.quel_meaning.specs.KindsInQueries.{kind_in_query, kinds_fit_in_query, query_fits, assignments_fit}
+use Rattle.quel_meaning.specs.KindsInQueries.{kind_in_query, query_fits, assignments_fit}
 use Rattle.quel_meaning.specs.Passing.{has_too_many}
 use Rattle.quel_meaning.specs.StatementUpdate.{titles_of, changing, append_of, replace_of, delete_of}
 use Rattle.quel_meaning.specs.Causes.{repeats, causes, update_causes, delete_causes}
 use Rattle.quel_meaning.specs.Resolved.{tree_of}
 use Rattle.quel_meaning.specs.FitQueries.{kept_or_viewed, has_few_targets, reads_fit}
-use Rattle.quel_meaning.specs.Fit.{has_key, update_kinds_fit, places_fit, checks_fit, relation_fits, update_fits, fits, is_fit_with_views}
+use Rattle.quel_meaning.specs.Fit.{has_key, update_kinds_fit, update_fits, fits, is_fit_with_views}
 use Rattle.quel_meaning.proofs.Each.{Each, passed, each_passes, each_to, left, right, and, not_not}
 use Rattle.quel_meaning.proofs.Keys.{keys_same}
 use Rattle.quel_meaning.proofs.Found.{IsFound, IsNamed, IsRanged, names_found, named_with, named_again, ranged_with, ranged_is, ranged_again}
@@ -164,7 +160,8 @@ append_fits s is rel items qual h k =
     }
 
 -- the variable whose rows are replaced or deleted is the query's first, over the relation
-first_replaced : (s : Scope) (var : List ℕ) (items : List Item) (qual : Qual) (r : IsRanged s var) → has_key (slice_get (vars_of (query_of s (statement.Replace var items qual))) 0) r.info.key ≡ true
+first_replaced : (s : Scope) (var : List ℕ) (items : List Item) (qual : Qual) (r : IsRanged s var)
+    → has_key (slice_get (vars_of (query_of s (statement.Replace var items qual))) 0) r.info.key ≡ true
 unfolding query_of vars_in
 first_replaced s var items qual r = keys_same _ _ (ap key_found (ranged_is s var r))
 

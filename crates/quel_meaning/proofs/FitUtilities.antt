@@ -1,46 +1,37 @@
 -- What a resolved statement asks of the utilities is fit.
-use Rattle.std.proofs.Common.{◌≡◌, refl, sym, ap, ◌∙◌, subst, ℕ, ◌+◌, ◌≤◌, nat_eq, nat_lt, nat_le, slice_get, Bool, true, false, ◌&&◌, ◌||◌, not, List, [], ◌∷◌, map, length, Option, Some, None, is_some, arith}
-use Rattle.std.specs.List.{list_all, list_any, find, filter_map, cons_option}
+use Rattle.std.proofs.Common.{◌≡◌, refl, sym, ap, ◌∙◌, subst, ℕ, nat_lt, nat_le, Bool, true, false, ◌||◌, List, [], ◌∷◌, map, length, Option, Some, None, is_some, arith}
+use Rattle.std.specs.List.{filter_map, cons_option}
 use Rattle.std.specs.Option.{option_map}
 use Rattle.std.specs.Str.{bytes_eq}
-use Rattle.std.proofs.lemmas.Bool.{lt-ltb, le-leb, ltb-false, leb-true}
+use Rattle.std.proofs.lemmas.Bool.{lt-ltb}
 use Rattle.std.proofs.lemmas.List.{length-map}
 use Rattle.calculus.specs.declared.query.RelKey.{RelKey}
 use Rattle.calculus.specs.declared.schema.Attr.{Attr}
 use Rattle.calculus.specs.declared.schema.RelInfo.{RelInfo}
 use Rattle.calculus.specs.declared.schema.Spec.{Spec}
 use Rattle.calculus.specs.declared.schema.Spec.TheVariants as spec
-use Rattle.calculus.specs.declared.request.CopyForm.{CopyForm}
-use Rattle.calculus.specs.declared.request.CopyCol.{CopyCol}
-use Rattle.calculus.specs.declared.statement.Qual.{Qual}
-use Rattle.calculus.specs.declared.statement.Statement.{Statement}
 use Rattle.calculus.specs.declared.statement.Statement.TheVariants as statement
 use Rattle.calculus.specs.Database.{Db, entries, entry_at, is_there}
-use Rattle.calculus.specs.IsDatabase.{IsDatabase, attrs_stand, keys_stand, row_qual_stands, row_qual_is_small, permit_attrs_stand}
+use Rattle.calculus.specs.IsDatabase.{IsDatabase, keys_stand}
 use Rattle.calculus.specs.Keys.{key_of, same_key}
-use Rattle.calculus.specs.Kinds.{is_text_kind}
-use Rattle.calculus.specs.Limits.{most_keys, most_permits, most_rules, most_listed_attributes}
+use Rattle.calculus.specs.Limits.{most_keys}
 use Rattle.calculus.specs.Lists.{is_any, differ_by}
-use Rattle.calculus.specs.Change.{permit_numbers, rule_numbers}
-use Rattle.calculus.specs.QueryParts.{vars_of, qual_of}
 use Rattle.calculus.specs.Replacement.{first_cause}
-use Rattle.calculus.specs.Stored.{info_at, attrs_in, attrs_at, kinds_at}
-use Rattle.quel_meaning.specs.Scope.{Scope, named, ranged, entry_named, key_found, place_found}
-use Rattle.quel_meaning.specs.Naming.{Mention, Variable, Relation, AttrIn, AttrOf, Entry, mentions, mention_refusal, no_refusal, name_refusal}
-use Rattle.quel_meaning.specs.Aggregates.{aggregates_stand}
-use Rattle.quel_meaning.specs.WrittenQuery.{query_of}
-use Rattle.quel_meaning.specs.Passing.{is_full, is_taken}
-use Rattle.quel_meaning.specs.Causes.{repeats, repeats_keys, is_binary, is_binary_text, row_causes, causes}
+use Rattle.calculus.specs.Stored.{info_at, attrs_in, attrs_at}
 use Rattle.quel_meaning.specs.Structures.{structure_keys, first_or_these}
-use Rattle.quel_meaning.specs.Resolved.{copy_col, tree_of}
+use Rattle.quel_meaning.specs.Scope.{Scope, named, entry_named, key_found, place_found}
+use Rattle.quel_meaning.specs.Naming.{Relation, AttrIn, mentions, no_refusal, name_refusal}
+use Rattle.quel_meaning.specs.Passing.{is_full, is_taken}
+use Rattle.quel_meaning.specs.Causes.{repeats, repeats_keys, causes}
+use Rattle.quel_meaning.specs.Resolved.{tree_of}
 use Rattle.quel_meaning.specs.FitQueries.{is_named}
-use Rattle.quel_meaning.specs.Fit.{is_new, is_entry, is_structure, columns_fit, row_qual_fits, listed_attrs_fit, utility_fits, fits, is_fit_with_views}
+use Rattle.quel_meaning.specs.Fit.{is_entry, is_structure, utility_fits, fits, is_fit_with_views}
 use Rattle.quel_meaning.specs.IsWritten.{is_written}
-use Rattle.quel_meaning.proofs.Each.{Each, front_of, of_map, in_map, each_to, passed, left, right, and, not_left, not_right, not_not, not_so}
-use Rattle.quel_meaning.proofs.Keys.{find_passes, same_keys, found_again, info_key_is}
-use Rattle.quel_meaning.proofs.Found.{IsFound, IsNamed, IsRanged, names_found, named_with, named_again, ranged_with, ranged_is, ranged_again, ranged_named}
+use Rattle.quel_meaning.proofs.Each.{Each, of_map, each_to, passed, left, right, and, not_not, not_so}
+use Rattle.quel_meaning.proofs.Keys.{find_passes, same_keys, found_again}
+use Rattle.quel_meaning.proofs.Found.{IsFound, IsNamed, names_found, named_with, named_again}
 use Rattle.quel_meaning.proofs.DatabaseFacts.{info_stands}
-use Rattle.quel_meaning.proofs.Titles.{HasAttr, titled_in, titled_of, places_in_range, places_differ}
+use Rattle.quel_meaning.proofs.Titles.{HasAttr, titled_in, places_in_range, places_differ}
 use Rattle.quel_meaning.proofs.ReadsFit.{none_of}
 
 -- ---- names
@@ -100,7 +91,8 @@ entries_are s (n ∷ names) = go (entry_named s n) refl (entries_are s names)
     go None e later = later
     go (Some key) e later = (entry_is s n key e, later)
 
-pub destroy_fits : (s : Scope) (rels : List (List ℕ)) → first_cause (causes s (statement.Destroy rels)) ≡ None → is_fit_with_views s.db s.user (tree_of s (statement.Destroy rels)) ≡ true
+pub destroy_fits : (s : Scope) (rels : List (List ℕ)) → first_cause (causes s (statement.Destroy rels)) ≡ None
+    → is_fit_with_views s.db s.user (tree_of s (statement.Destroy rels)) ≡ true
 unfolding causes tree_of fits utility_fits
 destroy_fits s rels k =
     let none = none_of ((17, repeats_keys s rels) ∷ []) k in
@@ -138,7 +130,8 @@ structured : (info : RelInfo) (names : List (List ℕ)) → is_any info.attrs �
 structured info [] h k = first_key info.attrs h
 structured info (n ∷ names) h k = k
 
-structure_fits : (to : Spec) (info : RelInfo) (names : List (List ℕ)) → is_structure to ≡ true → is_any info.attrs ≡ true → keys_stand info.attrs (map (place_found (Some info)) names) ≡ true
+structure_fits : (to : Spec) (info : RelInfo) (names : List (List ℕ)) → is_structure to ≡ true → is_any info.attrs ≡ true
+    → keys_stand info.attrs (map (place_found (Some info)) names) ≡ true
     → keys_stand info.attrs (structure_keys to (map (place_found (Some info)) names)) ≡ true
 structure_fits spec.Heap info names w h k = refl
 structure_fits spec.Hash info names w h k = structured info names h k

@@ -1,6 +1,6 @@
 -- Where the names of a statement are found.
-use Rattle.std.proofs.Common.{◌≡◌, refl, sym, ap, ◌∙◌, subst, ℕ, Bool, true, false, ◌&&◌, not, List, [], ◌∷◌, ◌++◌, map, Option, Some, None, is_some}
-use Rattle.std.specs.List.{list_all, flat_map, filter}
+use Rattle.std.proofs.Common.{◌≡◌, refl, ap, ◌∙◌, ℕ, true, not, List, [], ◌∷◌, ◌++◌, map, Option, Some, None, is_some}
+use Rattle.std.specs.List.{flat_map}
 use Rattle.std.specs.Option.{option_and_then}
 use Rattle.std.specs.Str.{bytes_eq}
 use Rattle.calculus.specs.declared.query.RelKey.{RelKey}
@@ -16,11 +16,11 @@ use Rattle.calculus.specs.Finding.{found}
 use Rattle.calculus.specs.Keys.{key_of}
 use Rattle.calculus.specs.Stored.{info_at}
 use Rattle.quel_meaning.specs.Ranges.{range_of}
-use Rattle.quel_meaning.specs.Scope.{Scope, named, ranged, entry_named, attr_place, key_found}
+use Rattle.quel_meaning.specs.Scope.{Scope, named, ranged, key_found}
 use Rattle.quel_meaning.specs.WrittenParts.{Dotted, once, attributes, attributes_in_row, attributes_in_qual, attributes_in_aggregate, outer_vars, linked_vars, outer_vars_in_row, outer_vars_in_qual, outer_vars_in_item, items_of, where_of, first_vars, vars_in}
-use Rattle.quel_meaning.specs.Naming.{Mention, Variable, AttrOf, Relation, AttrIn, Entry, dotted, item_mentions, query_mentions, new_title, mentions, refusal_in, variable_refusal, no_refusal, attr_refusal, mention_refusal, first_number, name_refusal}
+use Rattle.quel_meaning.specs.Naming.{Mention, Variable, AttrOf, AttrIn, dotted, item_mentions, query_mentions, new_title, mentions, refusal_in, variable_refusal, no_refusal, attr_refusal, mention_refusal, first_number, name_refusal}
 use Rattle.quel_meaning.specs.FitQueries.{is_named}
-use Rattle.quel_meaning.proofs.Each.{Each, front_of, back_of, both_of, of_map, in_map, of_flat_map, in_flat_map, each_to, in_filter}
+use Rattle.quel_meaning.proofs.Each.{Each, front_of, back_of, both_of, of_map, of_flat_map, in_flat_map, each_to, in_filter}
 use Rattle.quel_meaning.proofs.Keys.{found_again}
 
 -- the name is what it has to be
@@ -61,7 +61,8 @@ ranged_with s of_found var h = go (range_of s.ranges var) refl h
     at_key key d None e k = absurd (cc k)
     at_key key d (Some info) e k = record { is = record { key = key; info = info; declared = d; there = e }; fine = k }
 
-    go : (o : Option RelKey) → range_of s.ranges var ≡ o → ◌≡◌ {A = Option ℕ} (elim o [ None ↦ Some 11 | Some key ↦ refusal_in of_found (info_at s.db key) ]) None → RangedWith s var of_found
+    go : (o : Option RelKey) → range_of s.ranges var ≡ o → ◌≡◌ {A = Option ℕ} (elim o [ None ↦ Some 11 | Some key ↦ refusal_in of_found (info_at s.db key) ]) None
+        → RangedWith s var of_found
     go None d k = absurd (cc k)
     go (Some key) d k = at_key key d (info_at s.db key) refl k
 
@@ -136,7 +137,8 @@ vars_ranged s stmt h = in_once (IsRanged s) _ (go stmt (names_found s stmt h))
     alone : (var : List ℕ) → IsFound s (Variable var) → IsRanged s var
     alone var h = (ranged_with s no_refusal var h).is
 
-    go : (stmt : Statement) → Each (IsFound s) (mentions s stmt) → Each (IsRanged s) (first_vars stmt ++ (flat_map outer_vars_in_item (items_of stmt) ++ outer_vars_in_qual (where_of stmt)))
+    go : (stmt : Statement) → Each (IsFound s) (mentions s stmt)
+        → Each (IsRanged s) (first_vars stmt ++ (flat_map outer_vars_in_item (items_of stmt) ++ outer_vars_in_qual (where_of stmt)))
     go (statement.Range var rel) h = tt
     go (statement.Retrieve into items qual sort) h = query_ranged s new_title items qual h
     go (statement.Append rel items qual) h = query_ranged s (λ a. AttrIn rel a ∷ []) items qual h.1

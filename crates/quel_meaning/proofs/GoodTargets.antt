@@ -1,13 +1,11 @@
 -- The targets of a written statement have names, and kinds that an attribute may have.
-use Rattle.std.proofs.Common.{◌≡◌, refl, sym, ap, ◌∙◌, subst, ℕ, zero, suc, ◌+◌, ◌<◌, Bool, true, false, ◌&&◌, List, [], ◌∷◌, ◌++◌, map, length, get_or, Option, Some, None, arith}
-use Rattle.std.specs.List.{list_all, enumerate_from, flat_map}
+use Rattle.std.proofs.Common.{◌≡◌, refl, sym, subst, ℕ, zero, suc, ◌+◌, ◌<◌, true, List, [], ◌∷◌, ◌++◌, map, length, get_or, Option, Some, None, arith}
+use Rattle.std.specs.List.{enumerate_from}
 use Rattle.std.specs.Option.{unwrap_or}
 use Rattle.calculus.proofs.Forms.{items_of_targets}
-use Rattle.calculus.specs.declared.query.QTerm.{QTerm}
 use Rattle.calculus.specs.declared.query.QTerm.TheVariants as qterm
 use Rattle.calculus.specs.declared.query.Target.{Target}
 use Rattle.calculus.specs.declared.schema.Attr.{Attr}
-use Rattle.calculus.specs.declared.schema.RelInfo.{RelInfo}
 use Rattle.calculus.specs.declared.statement.Item.{Item}
 use Rattle.calculus.specs.declared.statement.Item.TheVariants as item
 use Rattle.calculus.specs.declared.statement.Qual.{Qual}
@@ -20,11 +18,11 @@ use Rattle.calculus.specs.IsDatabase.{IsDatabase, is_kind}
 use Rattle.calculus.specs.Lists.{is_any}
 use Rattle.calculus.specs.Name.{is_name}
 use Rattle.calculus.specs.QueryParts.{targets_of}
-use Rattle.calculus.specs.Stored.{attrs_in, info_at, kinds_at}
+use Rattle.calculus.specs.Stored.{attrs_in, kinds_at}
 use Rattle.quel_meaning.specs.IsWritten.{constants, item_is_written, items_are_written}
 use Rattle.quel_meaning.specs.KindsInQueries.{kind_in_query}
 use Rattle.quel_meaning.specs.Naming.{Mention, item_mentions, query_mentions, no_refusal, attr_refusal}
-use Rattle.quel_meaning.specs.Scope.{Scope, ranged}
+use Rattle.quel_meaning.specs.Scope.{Scope}
 use Rattle.quel_meaning.specs.WrittenParts.{aggregates_in_item, items_of, vars_in}
 use Rattle.quel_meaning.specs.WrittenTree.{Vars, var_place, key_over, term_tree}
 use Rattle.quel_meaning.specs.WrittenQuery.{kinds_over, item_targets, targets_from, query_of}
@@ -50,7 +48,8 @@ at_place P (x ∷ xs) (suc i) d h lt = at_place P xs i d h.1 (omega (arith, lt))
 good_attrs : (attrs : List Attr) → HaveStood attrs → Each (λ (a : Attr). IsGood a.name a.kind) attrs
 good_attrs attrs h = together attrs (each_passes (λ (a : Attr). is_name a.name) attrs h.named) (each_passes (λ (a : Attr). is_kind a.kind) attrs h.kinds)
   where
-    together : (attrs : List Attr) → Each (λ (a : Attr). is_name a.name ≡ true) attrs → Each (λ (a : Attr). is_kind a.kind ≡ true) attrs → Each (λ (a : Attr). IsGood a.name a.kind) attrs
+    together : (attrs : List Attr) → Each (λ (a : Attr). is_name a.name ≡ true) attrs → Each (λ (a : Attr). is_kind a.kind ≡ true) attrs
+        → Each (λ (a : Attr). IsGood a.name a.kind) attrs
     together [] h k = tt
     together (a ∷ attrs) h k = ((h.0, k.0), together attrs h.1 k.1)
 
@@ -69,7 +68,8 @@ unwrapped : (o : Option Kind) → ((k : Kind) → o ≡ Some k → IsKind k) →
 unwrapped None f = refl
 unwrapped (Some k) f = f k refl
 
-item_good : (s : Scope) → IsDatabase s.db → (titled : List ℕ → List Mention) (vars : Vars) (n : ℕ) (i : Item) → item_is_written i ≡ true → Each (IsFound s) (item_mentions s titled i)
+item_good : (s : Scope) → IsDatabase s.db → (titled : List ℕ → List Mention) (vars : Vars) (n : ℕ) (i : Item) → item_is_written i ≡ true
+    → Each (IsFound s) (item_mentions s titled i)
     → Each (λ (t : Target). IsGood t.name t.kind) (item_targets s vars n i)
 item_good s is titled vars n (item.Set name term) w h =
     ((left _ _ w, unwrapped (kind_in_query s.db (term_tree s vars n term) (kinds_over s vars)) (λ k e. term_lawful s is vars n term (kinds_over s vars) (kinds_lawful s is vars) (each_passes is_chars (constants term) (right (is_name name) _ w)) k e)), tt)
@@ -110,7 +110,7 @@ targets_good s is titled stmt q w h =
 
 -- ---- there is a target
 
-some_more : {X : Type 0} (xs ys : List X) → is_any xs ≡ true → is_any (xs ++ ys) ≡ true
+pub some_more : {X : Type 0} (xs ys : List X) → is_any xs ≡ true → is_any (xs ++ ys) ≡ true
 some_more [] ys h = absurd (cc h)
 some_more (x ∷ xs) ys h = refl
 
@@ -119,7 +119,8 @@ some_attr : (var : ℕ) (attrs : List Attr) → is_any attrs ≡ true
 some_attr var [] h = absurd (cc h)
 some_attr var (a ∷ attrs) h = refl
 
-item_gives : (s : Scope) → IsDatabase s.db → (titled : List ℕ → List Mention) (vars : Vars) (n : ℕ) (i : Item) → Each (IsFound s) (item_mentions s titled i) → is_any (item_targets s vars n i) ≡ true
+item_gives : (s : Scope) → IsDatabase s.db → (titled : List ℕ → List Mention) (vars : Vars) (n : ℕ) (i : Item) → Each (IsFound s) (item_mentions s titled i)
+    → is_any (item_targets s vars n i) ≡ true
 item_gives s is titled vars n (item.Set name term) h = refl
 item_gives s is titled vars n (item.Attr var attr) h = refl
 item_gives s is titled vars n (item.All var) h =
@@ -127,7 +128,8 @@ item_gives s is titled vars n (item.All var) h =
     subst (λ o. is_any (map (λ (p : ℕ × Attr). let t : Target = record { name = p.1.name; kind = p.1.kind; term = qterm.Attr (var_place vars var) p.0 } in t) (enumerate_from 0 (attrs_in o))) ≡ true) (sym (ranged_is s var r))
     (some_attr (var_place vars var) r.info.attrs (stood_at s is var r).any)
 
-items_give : (s : Scope) → IsDatabase s.db → (titled : List ℕ → List Mention) (vars : Vars) (items : List Item) → is_any items ≡ true → Each (λ i. Each (IsFound s) (item_mentions s titled i)) items
+items_give : (s : Scope) → IsDatabase s.db → (titled : List ℕ → List Mention) (vars : Vars) (items : List Item) → is_any items ≡ true
+    → Each (λ i. Each (IsFound s) (item_mentions s titled i)) items
     → is_any (targets_from s vars 0 items) ≡ true
 items_give s is titled vars [] w h = absurd (cc w)
 items_give s is titled vars (i ∷ items) w h = some_more (item_targets s vars 0 i) _ (item_gives s is titled vars 0 i h.0)

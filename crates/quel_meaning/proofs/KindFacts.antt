@@ -1,11 +1,11 @@
 -- Kinds of terms without aggregates are the same in queries.
-use Rattle.std.proofs.Common.{◌≡◌, refl, sym, ap, ap₂, ◌∙◌, subst, ℕ, Bool, true, false, ◌&&◌, if◌then◌else◌, cond, List, [], ◌∷◌, ◌++◌, Option, Some, None}
+use Rattle.std.proofs.Common.{◌≡◌, refl, ap, ap₂, ◌∙◌, Bool, true, false, ◌&&◌, cond, List, [], ◌∷◌, ◌++◌, Option, Some, None}
 use Rattle.calculus.specs.declared.value.Kind.{Kind}
 use Rattle.calculus.specs.declared.query.QTerm.{QTerm, Int, Chars, Attr, Agg', Row_of-QAgg, end_of-QAgg, more_of-QAgg}
 use Rattle.calculus.specs.declared.query.QQual.{QQual, True, Cmp, Like}
 use Rattle.calculus.specs.Tree.{neg, abs, operation, concat, both, either, negated}
 use Rattle.calculus.specs.Database.{Db}
-use Rattle.calculus.specs.Kinds.{is_number_kind, number_kind, operated_kind, joined_kind, joined_widths, text_width, kind_of, comparable, is_text_kind, kinds_fit}
+use Rattle.calculus.specs.Kinds.{is_number_kind, number_kind, operated_kind, joined_kind, kind_of, comparable, is_text_kind, kinds_fit}
 use Rattle.calculus.specs.QueryParts.{aggregates_of, term_aggregates, qual_aggregates}
 use Rattle.quel_meaning.specs.KindsInQueries.{kind_of_row, kind_in_query, kinds_fit_in_query}
 

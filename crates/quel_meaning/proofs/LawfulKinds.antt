@@ -1,34 +1,27 @@
 -- The kinds of written terms are kinds that an attribute may have.
-use Rattle.std.proofs.Common.{◌≡◌, refl, sym, ap, ◌∙◌, subst, ℕ, zero, suc, ◌+◌, ◌≤◌, min, max, nat_le, Bool, true, false, ◌&&◌, cond, List, [], ◌∷◌, ◌++◌, map, length, slice_get, Option, Some, None, arith}
-use Rattle.std.specs.List.{list_all}
+use Rattle.std.proofs.Common.{◌≡◌, refl, subst, ℕ, zero, suc, ◌+◌, ◌≤◌, min, max, nat_le, Bool, true, false, ◌&&◌, cond, List, [], ◌∷◌, ◌++◌, map, length, slice_get, Option, Some, None, arith}
 use Rattle.std.proofs.lemmas.Bool.{le-leb, leb-true}
 use Rattle.calculus.specs.declared.operator.AggOp.{AggOp}
-use Rattle.calculus.specs.declared.query.AggSource.{Named}
-use Rattle.calculus.specs.declared.query.QAgg.{QAgg}
-use Rattle.calculus.specs.declared.query.QTerm.{QTerm}
 use Rattle.calculus.specs.declared.schema.Attr.{Attr as Attribute}
 use Rattle.calculus.specs.declared.schema.RelInfo.{RelInfo}
-use Rattle.calculus.specs.declared.statement.AggTerm.{AggTerm}
 use Rattle.calculus.specs.declared.statement.Term.{Term, Int, Chars, Attr, Agg', items-the_row-Term, Row_of-AggTerm, end_of-AggTerm, more_of-AggTerm}
-use Rattle.calculus.specs.declared.value.Domain.TheVariants.{I1, I2, I4, C}
+use Rattle.calculus.specs.declared.value.Domain.TheVariants.{C}
 use Rattle.calculus.specs.declared.value.Kind.{Kind}
 use Rattle.calculus.specs.declared.value.Kind.TheVariants.{Of, Wide}
 use Rattle.calculus.specs.declared.query.RelKey.{RelKey}
-use Rattle.calculus.specs.Aggregate.{source_kinds}
 use Rattle.calculus.specs.Chars.{is_chars}
 use Rattle.calculus.specs.Constant.{constant_text}
 use Rattle.calculus.specs.Database.{Db}
 use Rattle.calculus.specs.IsDatabase.{IsDatabase, attrs_stand, is_kind}
 use Rattle.calculus.specs.Kinds.{kind_in, attribute_kind, constant_kind, is_number_kind, number_kind, operated_kind, joined_kind, kind_of}
-use Rattle.calculus.specs.Lists.{is_any, differ_by}
 use Rattle.calculus.specs.Stored.{attrs_in, info_at, kinds_at}
 use Rattle.calculus.specs.Written.{neg, abs, operation, concat}
-use Rattle.quel_meaning.specs.KindsInQueries.{adds_up, picks, folded_kind, links_fit, fitting_kind, aggregate_kind, kind_in_query}
+use Rattle.quel_meaning.specs.KindsInQueries.{adds_up, picks, folded_kind, fitting_kind, aggregate_kind, kind_in_query}
 use Rattle.quel_meaning.specs.IsWritten.{constants, constants_in_aggregate, constants_in_row, constants_in_qual}
 use Rattle.quel_meaning.specs.Scope.{Scope}
 use Rattle.quel_meaning.specs.WrittenParts.{aggregate_vars}
-use Rattle.quel_meaning.specs.WrittenTree.{Vars, key_over, first_var, term_tree, aggregate_tree, row_trees, qual_tree}
-use Rattle.quel_meaning.proofs.Each.{Each, front_of, back_of, in_map, each_passes, left, right, and}
+use Rattle.quel_meaning.specs.WrittenTree.{Vars, key_over, first_var, term_tree, aggregate_tree}
+use Rattle.quel_meaning.proofs.Each.{Each, front_of, in_map, each_passes, left, and}
 use Rattle.quel_meaning.proofs.ConstantLengths.{constant_short}
 use Rattle.quel_meaning.proofs.DatabaseFacts.{info_stands, stood}
 use Rattle.quel_meaning.proofs.KindFacts.{kind_too}

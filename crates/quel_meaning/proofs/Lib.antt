@@ -49,3 +49,10 @@ pub mod LawfulKinds
 pub mod GoodTargets
 pub mod FitMade
 pub mod FewExpanded
+mod Full
+pub mod FitShown
+pub mod FitResolved
+pub mod FitViews
+pub mod UsedVars
+pub mod VarPlaces
+pub mod AllUsed

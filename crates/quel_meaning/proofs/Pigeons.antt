@@ -1,5 +1,5 @@
 -- Different numbers below a number are at most so many.
-use Rattle.std.proofs.Common.{◌≡◌, refl, sym, ap, ◌∙◌, subst, ℕ, ◌≤◌, ◌<◌, nat_eq, Bool, true, false, ◌&&◌, ◌||◌, not, List, [], ◌∷◌, length}
+use Rattle.std.proofs.Common.{◌≡◌, refl, sym, subst, ℕ, ◌≤◌, ◌<◌, nat_eq, Bool, true, false, ◌||◌, not, List, [], ◌∷◌, length}
 use Rattle.std.specs.List.{IsDistinct, list_any}
 use Rattle.std.proofs.lemmas.Bool.{eqb-true}
 use Rattle.std.proofs.lemmas.Map.Steps.{length-le_from_distinct_below}
@@ -10,11 +10,11 @@ pub not_true : (b : Bool) → not b ≡ true → b ≡ false
 not_true true h = absurd (cc h)
 not_true false h = refl
 
-none_same : {X : Type 0} (test : X → Bool) (xs : List X) → list_any test xs ≡ false → Each (λ x. test x ≡ false) xs
+pub none_same : {X : Type 0} (test : X → Bool) (xs : List X) → list_any test xs ≡ false → Each (λ x. test x ≡ false) xs
 none_same test [] h = tt
 none_same test (x ∷ xs) h = (not_left _ _ h, none_same test xs (not_right _ _ h))
 
-distinct : {X : Type 0} (same : X → X → Bool) (xs : List X) → differ_by same xs ≡ true → IsDistinct same xs
+pub distinct : {X : Type 0} (same : X → X → Bool) (xs : List X) → differ_by same xs ≡ true → IsDistinct same xs
 unfolding IsDistinct
 distinct same [] h = tt
 distinct same (x ∷ xs) h = (none_same (same x) xs (not_true _ (left _ _ h)), distinct same xs (right _ _ h))

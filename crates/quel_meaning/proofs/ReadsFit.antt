@@ -1,37 +1,34 @@
 -- What the query of a resolved statement reads is fit.
-use Rattle.std.proofs.Common.{◌≡◌, refl, sym, ap, ◌∙◌, subst, ℕ, ◌+◌, ◌≤◌, ◌<◌, nat_le, nat_lt, Bool, true, false, ◌&&◌, not, List, [], ◌∷◌, map, length, Option, Some, None, is_some, arith}
-use Rattle.std.specs.List.{list_all, position}
+use Rattle.std.proofs.Common.{◌≡◌, refl, ℕ, nat_lt, Bool, true, false, List, [], ◌∷◌, map, length, Option, Some, None, is_some, arith}
+use Rattle.std.specs.List.{list_all}
 use Rattle.std.specs.Str.{bytes_eq}
 use Rattle.std.proofs.lemmas.Bool.{ltb-false, le-leb, lt-ltb}
 use Rattle.std.proofs.lemmas.List.{length-map}
 use Rattle.std.proofs.lemmas.List.Quantifiers.{position-Some}
 use Rattle.std.specs.Option.{unwrap_or}
-use Rattle.calculus.specs.declared.query.RelKey.{RelKey}
 use Rattle.calculus.specs.declared.query.Query.{Query}
 use Rattle.calculus.specs.declared.query.Target.{Target}
 use Rattle.calculus.specs.declared.value.Kind.{Kind}
 use Rattle.calculus.specs.declared.request.SortKey.{SortKey}
-use Rattle.calculus.specs.declared.request.Asked.{Asked}
 use Rattle.calculus.specs.declared.statement.Statement.{Statement}
-use Rattle.calculus.specs.declared.statement.Statement.TheVariants as statement
 use Rattle.calculus.specs.Limits.{most_attributes}
 use Rattle.calculus.specs.QueryParts.{vars_of, targets_of}
 use Rattle.calculus.specs.Replacement.{first_cause}
 use Rattle.quel_meaning.specs.Scope.{Scope}
 use Rattle.quel_meaning.specs.Naming.{name_refusal}
-use Rattle.quel_meaning.specs.WrittenParts.{aggregates_of, vars_in}
-use Rattle.quel_meaning.specs.Aggregates.{aggregate_stands, aggregates_stand}
+use Rattle.quel_meaning.specs.WrittenParts.{text_aggregates, vars_in}
+use Rattle.quel_meaning.specs.Aggregates.{aggregate_stands}
 use Rattle.quel_meaning.specs.WrittenTree.{key_over}
 use Rattle.quel_meaning.specs.WrittenQuery.{query_of}
 use Rattle.quel_meaning.specs.Passing.{has_too_many, is_too_wide}
-use Rattle.quel_meaning.specs.Causes.{Causes, title_place, sorts_by_titles, causes}
+use Rattle.quel_meaning.specs.Causes.{Causes, title_place, sorts_by_titles}
 use Rattle.quel_meaning.specs.Resolved.{sort_key}
-use Rattle.quel_meaning.specs.FitQueries.{kept_or_viewed, is_named, sources_fit, slots_count_up, lists_few_vars, has_few_targets, reads_fit, asked_fits, sort_is_in_range}
-use Rattle.quel_meaning.proofs.Each.{Each, in_map, each_to, passed, each_passes, and, not_left, not_not}
-use Rattle.quel_meaning.proofs.Found.{IsRanged, ranged_named, vars_ranged}
+use Rattle.quel_meaning.specs.FitQueries.{kept_or_viewed, is_named, has_few_targets, reads_fit, sort_is_in_range}
+use Rattle.quel_meaning.proofs.Each.{Each, in_map, each_to, passed, each_passes, and, not_left}
+use Rattle.quel_meaning.proofs.Found.{ranged_named, vars_ranged}
 use Rattle.quel_meaning.proofs.Sources.{sources_allowed}
 use Rattle.quel_meaning.proofs.Slots.{slots_are}
-use Rattle.quel_meaning.proofs.Few.{listed_few, expanded_few}
+use Rattle.quel_meaning.proofs.Few.{listed_few}
 
 -- none of some causes is there
 pub none_of : (cs : Causes) → first_cause cs ≡ None → Each (λ c. c.1 ≡ false) cs
@@ -47,7 +44,7 @@ pub vars_named : (s : Scope) (stmt : Statement) → name_refusal s stmt ≡ None
 unfolding query_of
 vars_named s stmt h = passed (is_named s.db) _ (in_map _ (key_over s) (vars_in stmt) (each_to _ _ (λ var r. ranged_named s var r) (vars_in stmt) (vars_ranged s stmt h)))
 
-pub reads : (s : Scope) (stmt : Statement) → name_refusal s stmt ≡ None → list_all (aggregate_stands s) (aggregates_of stmt) ≡ true → has_too_many s.db (query_of s stmt) ≡ false
+pub reads : (s : Scope) (stmt : Statement) → name_refusal s stmt ≡ None → list_all (aggregate_stands s) (text_aggregates stmt) ≡ true → has_too_many s.db (query_of s stmt) ≡ false
     → has_few_targets (query_of s stmt) ≡ true → reads_fit (kept_or_viewed s.db) s.db (query_of s stmt) ≡ true
 unfolding reads_fit
 reads s stmt h k few targets =

@@ -23,7 +23,7 @@ use Rattle.calculus.specs.QueryParts.{term_aggregates, qual_aggregates, query_ag
 use Rattle.calculus.specs.Written.{neg, abs, operation, concat, both, either, negated}
 use Rattle.quel_meaning.specs.FitQueries.{slots_count_from, slots_count_up}
 use Rattle.quel_meaning.specs.Scope.{Scope, ranged}
-use Rattle.quel_meaning.specs.WrittenParts.{aggregate_of, aggregates_in, aggregates_in_qual, aggregates_in_item, aggregates_of, items_of, where_of, vars_in}
+use Rattle.quel_meaning.specs.WrittenParts.{aggregate_of, aggregates_in, aggregates_in_qual, aggregates_in_item, text_aggregates, items_of, where_of, vars_in}
 use Rattle.quel_meaning.specs.WrittenTree.{Vars, var_place, compared, term_tree, aggregate_tree, qual_tree}
 use Rattle.quel_meaning.specs.WrittenQuery.{item_targets, targets_from, where_tree, query_of}
 
@@ -91,7 +91,8 @@ of_qual s vars n (negated p) = of_qual s vars n p
 abbrev pub in_targets : List Target → List QAgg
 in_targets ts = flat_map (λ (t : Target). term_aggregates t.term) ts
 
-pub none_in_attrs : (var k : ℕ) (attrs : List Attr) → in_targets (map (λ (p : ℕ × Attr). record { name = p.1.name; kind = p.1.kind; term = qterm.Attr var p.0 }) (enumerate_from k attrs)) ≡ []
+pub none_in_attrs : (var k : ℕ) (attrs : List Attr)
+    → in_targets (map (λ (p : ℕ × Attr). record { name = p.1.name; kind = p.1.kind; term = qterm.Attr var p.0 }) (enumerate_from k attrs)) ≡ []
 unfolding term_aggregates
 none_in_attrs var k [] = refl
 none_in_attrs var k (a ∷ attrs) = none_in_attrs var (k + 1) attrs
@@ -108,10 +109,10 @@ of_items s vars n (i ∷ items) =
     subst (λ gs. Numbered n gs (aggregates_in_item i ++ flat_map aggregates_in_item items)) (sym (flat_map-append _ (item_targets s vars n i) _))
     (behind n _ _ _ _ (of_item s vars n i) (of_items s vars (n + length (aggregates_in_item i)) items))
 
-of_query : (s : Scope) (stmt : Statement) → Numbered 0 (query_aggregates (query_of s stmt)) (aggregates_of stmt)
+of_query : (s : Scope) (stmt : Statement) → Numbered 0 (query_aggregates (query_of s stmt)) (text_aggregates stmt)
 unfolding query_of where_tree
 of_query s stmt =
-    subst (λ ts. Numbered 0 (in_targets ts ++ qual_aggregates (where_tree s stmt)) (aggregates_of stmt)) (sym (items_of_targets (targets_from s (vars_in stmt) 0 (items_of stmt))))
+    subst (λ ts. Numbered 0 (in_targets ts ++ qual_aggregates (where_tree s stmt)) (text_aggregates stmt)) (sym (items_of_targets (targets_from s (vars_in stmt) 0 (items_of stmt))))
     (behind 0 _ _ _ _ (of_items s (vars_in stmt) 0 (items_of stmt)) (subst (λ n. Numbered n (qual_aggregates (where_tree s stmt)) (aggregates_in_qual (where_of stmt))) from_0 in_where))
   where
     before : ℕ
@@ -126,5 +127,5 @@ of_query s stmt =
 pub slots_are : (s : Scope) (stmt : Statement) → slots_count_up (query_of s stmt) ≡ true
 slots_are s stmt = (of_query s stmt).slots
 
-pub as_many : (s : Scope) (stmt : Statement) → length (query_aggregates (query_of s stmt)) ≡ length (aggregates_of stmt)
+pub as_many : (s : Scope) (stmt : Statement) → length (query_aggregates (query_of s stmt)) ≡ length (text_aggregates stmt)
 as_many s stmt = (of_query s stmt).number

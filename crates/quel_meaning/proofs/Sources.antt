@@ -1,6 +1,6 @@
 -- What the aggregates of a resolved statement are over.
-use Rattle.std.proofs.Common.{◌≡◌, refl, sym, ap, ◌∙◌, subst, ℕ, ◌+◌, nat_le, Bool, true, false, ◌&&◌, not, List, [], ◌∷◌, ◌++◌, map, length, Option, Some, None, append-nil}
-use Rattle.std.specs.List.{list_all, flat_map, enumerate_from}
+use Rattle.std.proofs.Common.{◌≡◌, refl, sym, ap, subst, ℕ, ◌+◌, nat_le, true, ◌&&◌, not, List, [], ◌∷◌, ◌++◌, map, length, None, append-nil}
+use Rattle.std.specs.List.{list_all, flat_map}
 use Rattle.std.proofs.lemmas.Grind.{flat_map-append}
 use Rattle.calculus.proofs.Forms.{items_of_targets}
 use Rattle.calculus.specs.declared.query.QAgg.{QAgg}
@@ -13,17 +13,17 @@ use Rattle.calculus.specs.declared.statement.Item.TheVariants as item
 use Rattle.calculus.specs.declared.statement.Statement.{Statement}
 use Rattle.calculus.specs.declared.statement.Statement.TheVariants as statement
 use Rattle.calculus.specs.Written.{neg, abs, operation, concat, both, either, negated}
-use Rattle.calculus.specs.QueryParts.{term_aggregates, qual_aggregates, query_aggregates}
+use Rattle.calculus.specs.QueryParts.{term_aggregates, qual_aggregates}
 use Rattle.calculus.specs.Sizes.{measure_of}
 use Rattle.calculus.specs.Stored.{attrs_in}
 use Rattle.quel_meaning.specs.Scope.{Scope, ranged, key_found}
-use Rattle.quel_meaning.specs.WrittenParts.{Dotted, once, attributes, attributes_in_row, attributes_in_qual, attributes_in_aggregate, aggregate_vars, aggregate_of, aggregates_in, aggregates_in_qual, aggregates_in_item, aggregates_of, items_of, where_of, vars_in}
-use Rattle.quel_meaning.specs.Aggregates.{is_one_plain, holds_another, aggregate_stands, aggregates_stand}
+use Rattle.quel_meaning.specs.WrittenParts.{Dotted, attributes, attributes_in_row, attributes_in_qual, attributes_in_aggregate, aggregate_vars, aggregate_of, aggregates_in, aggregates_in_qual, aggregates_in_item, text_aggregates, items_of, where_of, vars_in}
+use Rattle.quel_meaning.specs.Aggregates.{is_one_plain, holds_another, aggregate_stands}
 use Rattle.quel_meaning.specs.Naming.{Mention, dotted, AttrIn, AttrOf, item_mentions, query_mentions, new_title, mentions, name_refusal}
-use Rattle.quel_meaning.specs.WrittenTree.{Vars, var_place, first_var, compared, term_tree, aggregate_tree, qual_tree}
+use Rattle.quel_meaning.specs.WrittenTree.{Vars, var_place, first_var, term_tree, aggregate_tree, qual_tree}
 use Rattle.quel_meaning.specs.WrittenQuery.{item_targets, targets_from, where_tree, query_of}
 use Rattle.quel_meaning.specs.FitQueries.{is_named, kept_or_viewed, source_fits, sources_fit}
-use Rattle.quel_meaning.proofs.Each.{Each, front_of, back_of, both_of, of_map, in_map, of_flat_map, in_flat_map, each_to, passed, each_passes, and, right}
+use Rattle.quel_meaning.proofs.Each.{Each, front_of, back_of, both_of, in_map, of_flat_map, each_to, passed, each_passes, and, right}
 use Rattle.quel_meaning.proofs.Found.{IsFound, IsRanged, names_found, ranged_named, dotted_ranged, in_once}
 use Rattle.quel_meaning.proofs.Slots.{compared_has, in_targets, none_in_attrs}
 
@@ -114,7 +114,8 @@ of_row s vars n (more_of-AggTerm op arg bys by qual rest) h k = (one_plain s _ o
     over : Each (IsRanged s) (aggregate_vars g)
     over = in_once (IsRanged s) _ (in_map (IsRanged s) (λ (d : Dotted). d.0) _ (subst (λ ds. AreRanged s (attributes arg ++ (ds ++ attributes_in_qual qual))) (row_list by) h))
 
-of_term : (s : Scope) (vars : Vars) (n : ℕ) (t : Term) → AreRanged s (attributes t) → Each (Stands s) (aggregates_in t) → Each (IsAllowed s) (term_aggregates (term_tree s vars n t))
+of_term : (s : Scope) (vars : Vars) (n : ℕ) (t : Term) → AreRanged s (attributes t) → Each (Stands s) (aggregates_in t)
+    → Each (IsAllowed s) (term_aggregates (term_tree s vars n t))
 unfolding term_aggregates aggregates_in
 of_term s vars n (Int number) h k = tt
 of_term s vars n (Chars bytes) h k = tt
@@ -150,7 +151,8 @@ of_qual s vars n (either p q) h k =
     (of_qual s vars (n + length (aggregates_in_qual p)) q (back_of _ (attributes_in_qual p) (attributes_in_qual q) h) (back_of _ (aggregates_in_qual p) (aggregates_in_qual q) k))
 of_qual s vars n (negated p) h k = of_qual s vars n p h k
 
-of_item : (s : Scope) (vars : Vars) (n : ℕ) (i : Item) → AreRanged s (item_attributes i) → Each (Stands s) (aggregates_in_item i) → Each (IsAllowed s) (in_targets (item_targets s vars n i))
+of_item : (s : Scope) (vars : Vars) (n : ℕ) (i : Item) → AreRanged s (item_attributes i) → Each (Stands s) (aggregates_in_item i)
+    → Each (IsAllowed s) (in_targets (item_targets s vars n i))
 unfolding term_aggregates
 of_item s vars n (item.Set name term) h k = subst (Each (IsAllowed s)) (sym (append-nil (term_aggregates (term_tree s vars n term)))) (of_term s vars n term h k)
 of_item s vars n (item.Attr var attr) h k = tt
@@ -166,7 +168,7 @@ of_items s vars n (i ∷ items) h k =
     (of_items s vars (n + length (aggregates_in_item i)) items h.1 (back_of _ (aggregates_in_item i) _ k)))
 
 -- the aggregates of a statement's query are over what is allowed, where they may stand and its names were found
-pub sources_allowed : (s : Scope) (stmt : Statement) → name_refusal s stmt ≡ None → list_all (aggregate_stands s) (aggregates_of stmt) ≡ true
+pub sources_allowed : (s : Scope) (stmt : Statement) → name_refusal s stmt ≡ None → list_all (aggregate_stands s) (text_aggregates stmt) ≡ true
     → sources_fit (kept_or_viewed s.db) s.db (query_of s stmt) ≡ true
 unfolding query_of where_tree
 sources_allowed s stmt h k =
@@ -179,5 +181,5 @@ sources_allowed s stmt h k =
     parts : PartsRanged s (items_of stmt) (where_of stmt)
     parts = parts_ranged s stmt h
 
-    standing : Each (Stands s) (aggregates_of stmt)
-    standing = each_passes (aggregate_stands s) (aggregates_of stmt) k
+    standing : Each (Stands s) (text_aggregates stmt)
+    standing = each_passes (aggregate_stands s) (text_aggregates stmt) k

@@ -1,6 +1,6 @@
 -- The titles of an update's targets are attributes of the relation that it changes.
-use Rattle.std.proofs.Common.{◌≡◌, refl, sym, ap, ◌∙◌, subst, ℕ, ◌+◌, ◌<◌, ◌≤◌, nat_eq, nat_lt, nat_le, Bool, true, false, ◌&&◌, ◌||◌, not, List, [], ◌∷◌, ◌++◌, map, length, get_or, Option, Some, None, arith}
-use Rattle.std.specs.List.{list_all, list_any, enumerate_from, position, flat_map}
+use Rattle.std.proofs.Common.{◌≡◌, refl, sym, ap, ◌∙◌, subst, ℕ, ◌+◌, ◌<◌, ◌≤◌, nat_eq, nat_lt, nat_le, Bool, true, false, ◌||◌, List, [], ◌∷◌, map, length, get_or, Option, Some, None, arith}
+use Rattle.std.specs.List.{list_all, list_any, enumerate_from}
 use Rattle.std.specs.Option.{unwrap_or}
 use Rattle.std.specs.Str.{bytes_eq}
 use Rattle.std.proofs.lemmas.Bool.{lt-ltb, eqb-true, leb-true, le-leb}
@@ -16,11 +16,9 @@ use Rattle.calculus.specs.declared.statement.Item.{Item}
 use Rattle.calculus.specs.declared.statement.Item.TheVariants as item
 use Rattle.calculus.specs.declared.statement.Qual.{Qual}
 use Rattle.calculus.specs.declared.statement.Statement.{Statement}
-use Rattle.calculus.specs.declared.statement.Statement.TheVariants as statement
 use Rattle.calculus.specs.Limits.{most_attributes}
 use Rattle.calculus.specs.Lists.{differ_by, is_any}
 use Rattle.calculus.specs.IsDatabase.{attrs_stand}
-use Rattle.calculus.specs.QueryParts.{targets_of}
 use Rattle.calculus.specs.Stored.{attrs_in, info_at}
 use Rattle.quel_meaning.specs.Scope.{Scope, named, ranged, attr_place, place_found}
 use Rattle.quel_meaning.specs.Naming.{Mention, AttrIn, AttrOf, item_mentions, query_mentions, refusal_in, attr_refusal}
@@ -28,7 +26,7 @@ use Rattle.quel_meaning.specs.WrittenParts.{aggregates_in_item, items_of, vars_i
 use Rattle.quel_meaning.specs.WrittenTree.{Vars, var_place}
 use Rattle.quel_meaning.specs.WrittenQuery.{item_targets, targets_from, query_of}
 use Rattle.quel_meaning.specs.StatementUpdate.{titles_of}
-use Rattle.quel_meaning.proofs.Each.{Each, front_of, back_of, both_of, of_map, in_map, of_flat_map, each_to, passed, left, right, and, not_so}
+use Rattle.quel_meaning.proofs.Each.{Each, front_of, both_of, of_map, in_map, of_flat_map, each_to, passed, left, right, and, not_so}
 use Rattle.quel_meaning.proofs.Found.{IsFound, IsRanged}
 use Rattle.quel_meaning.proofs.Keys.{same_bytes, bytes_same}
 use Rattle.quel_meaning.proofs.Pigeons.{at_most, not_true}
@@ -101,7 +99,8 @@ found_place info name p = ap (λ o. unwrap_or o 0) p.is
 pub in_range : (info : RelInfo) (name : List ℕ) → HasAttr info name → place_found (Some info) name < length info.attrs
 in_range info name h = let p = place_of info name h in subst (λ k. k < length info.attrs) (sym (found_place info name p)) p.below
 
-pub places_in_range : (info : RelInfo) (names : List (List ℕ)) → Each (HasAttr info) names → list_all (λ p. nat_lt p (length info.attrs)) (map (place_found (Some info)) names) ≡ true
+pub places_in_range : (info : RelInfo) (names : List (List ℕ)) → Each (HasAttr info) names
+    → list_all (λ p. nat_lt p (length info.attrs)) (map (place_found (Some info)) names) ≡ true
 places_in_range info names h =
     passed (λ p. nat_lt p (length info.attrs)) _ (in_map _ (place_found (Some info)) names (each_to _ _ (λ name k. lt-ltb _ _ (in_range info name k)) names h))
 
@@ -126,7 +125,8 @@ none_again info m (n ∷ names) h k e = go (none_again info m names h k.1) (byte
     go later false false f g e = later e
 
 -- different names have different places
-pub places_differ : (info : RelInfo) (names : List (List ℕ)) → Each (HasAttr info) names → differ_by bytes_eq names ≡ true → differ_by nat_eq (map (place_found (Some info)) names) ≡ true
+pub places_differ : (info : RelInfo) (names : List (List ℕ)) → Each (HasAttr info) names → differ_by bytes_eq names ≡ true
+    → differ_by nat_eq (map (place_found (Some info)) names) ≡ true
 places_differ info [] h k = refl
 places_differ info (n ∷ names) h k =
     and _ _ (not_so _ (none_again info n names h.0 h.1 (not_true _ (left _ _ k)))) (places_differ info names h.1 (right _ _ k))
@@ -135,7 +135,8 @@ few_attrs : (attrs : List Attr) → attrs_stand attrs ≡ true → length attrs 
 few_attrs attrs stands = let short : nat_le (length attrs) most_attributes ≡ true = left _ _ (right (is_any attrs) _ stands) in leb-true _ _ short
 
 -- different attributes of what a database has are few
-pub few_titles : (info : RelInfo) (names : List (List ℕ)) → attrs_stand info.attrs ≡ true → Each (HasAttr info) names → differ_by bytes_eq names ≡ true → nat_le (length names) most_attributes ≡ true
+pub few_titles : (info : RelInfo) (names : List (List ℕ)) → attrs_stand info.attrs ≡ true → Each (HasAttr info) names → differ_by bytes_eq names ≡ true
+    → nat_le (length names) most_attributes ≡ true
 few_titles info names stands h k =
     let places = at_most (length info.attrs) (map (place_found (Some info)) names) (in_map _ (place_found (Some info)) names (each_to _ _ (λ name e. in_range info name e) names h)) (places_differ info names h k) in
     le-leb _ _ (omega (arith, places, length-map names (place_found (Some info)), few_attrs info.attrs stands))

@@ -7,7 +7,7 @@ use Rattle.calculus.specs.declared.statement.Statement.TheVariants as statement
 use Rattle.calculus.specs.Lists.{is_any}
 use Rattle.calculus.specs.Sizes.{measure_of}
 use Rattle.quel_meaning.specs.Scope.{Scope, ranged, key_found}
-use Rattle.quel_meaning.specs.WrittenParts.{aggregates_in, aggregates_in_qual, aggregates_of, aggregate_vars}
+use Rattle.quel_meaning.specs.WrittenParts.{aggregates_in, aggregates_in_qual, text_aggregates, aggregate_vars}
 
 -- an aggregate holds another one
 abbrev pub holds_another : AggTerm → Bool
@@ -32,4 +32,4 @@ keeps_a_text _ = false
 
 -- the aggregates of a statement may stand; in a view, a permit or a rule there may be none
 unfoldable pub aggregates_stand : Scope → Statement → Bool
-aggregates_stand s stmt = elim (keeps_a_text stmt) [ true ↦ not (is_any (aggregates_of stmt)) | false ↦ list_all (aggregate_stands s) (aggregates_of stmt) ]
+aggregates_stand s stmt = elim (keeps_a_text stmt) [ true ↦ not (is_any (text_aggregates stmt)) | false ↦ list_all (aggregate_stands s) (text_aggregates stmt) ]

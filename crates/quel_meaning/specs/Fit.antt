@@ -143,3 +143,8 @@ is_fit db user tree = fits (kept db) db user tree
 -- a tree is fit once the views in it are put in
 abbrev pub is_fit_with_views : Db → List ℕ → Checked → Bool
 is_fit_with_views db user tree = fits (kept_or_viewed db) db user tree
+
+-- a tree asks for an index
+abbrev pub makes_an_index : Checked → Bool
+makes_an_index (checked.Utility (utility.Index base name keys)) = true
+makes_an_index _ = false

@@ -141,8 +141,8 @@ where_of (statement.Rule var qual) = qual
 where_of _ = True
 
 -- the aggregates of a statement that stand in no other: those of its target list, then those of its qualification
-abbrev pub aggregates_of : Statement → List AggTerm
-aggregates_of s = flat_map aggregates_in_item (items_of s) ++ aggregates_in_qual (where_of s)
+abbrev pub text_aggregates : Statement → List AggTerm
+text_aggregates s = flat_map aggregates_in_item (items_of s) ++ aggregates_in_qual (where_of s)
 
 -- the variable that a statement names by itself: whose rows are replaced or deleted, or that stands for the relation of a permit or a rule
 abbrev pub first_vars : Statement → List (List ℕ)

@@ -15,8 +15,9 @@ pub use laws::{
 };
 pub use plan_laws::{a_new_number_is_greater, listed_numbers_ascend};
 pub use resolving_laws::{
+    fit_trees_speak_little_of_views_and_users, listed_variables_are_used,
     only_its_numbers_refuse_a_statement, slots_count_the_aggregates_of_a_text,
-    trees_are_for_what_statements_are_for,
+    trees_are_for_what_statements_are_for, what_is_resolved_is_fit,
 };
 pub use session_laws::{
     a_batch_is_read_to_its_end, a_line_is_cut_at_its_first_command, all_output_ends_the_last_reply,
