@@ -27,7 +27,7 @@ use Rattle.quel_meaning.specs.WrittenQuery.{where_tree, query_of}
 use Rattle.quel_meaning.specs.Passing.{is_full, is_too_wide, is_taken}
 use Rattle.quel_meaning.specs.Causes.{causes}
 use Rattle.quel_meaning.specs.Resolved.{tree_of, resolved}
-use Rattle.quel_meaning.proofs.Small.{key, relation, db, ranges}
+use Rattle.quel_meaning.proofs.SmallTexts.{key, relation, db, ranges}
 
 abbrev permit_of : ℕ → Permit
 permit_of number = record { number = number; ops = 1; attrs = []; user = None; qual = qual.True }
