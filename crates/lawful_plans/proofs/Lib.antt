@@ -11,3 +11,4 @@ mod Changed
 mod ReadRows
 mod RowsChanged
 pub mod CopiedRows
+mod Indexes

@@ -114,3 +114,16 @@ changed_alike db rel f indexes keeps = record {
   where
     later : Db
     later = record db { relations = change_at rel f db.relations; indexes = indexes }
+
+same_relation : (r : Option Relation) → AlikeRelation r r
+same_relation None = tt
+same_relation (Some r) = refl
+
+-- other indexes leave a database that is alike
+pub indexed_alike : (db : Db) (indexes : List Index) → Alike db (record db { indexes = indexes })
+unfolding range_at
+indexed_alike db indexes = record {
+  ranges = λ key. ranged_alike (relation_at db key) (relation_at db key) (same_relation (relation_at db key)) (view_at db key)
+      (catalogue_at db key) (catalogue_at (record db { indexes = indexes }) key) (catalogue_alike db db.relations indexes key);
+  relations = λ key. refl;
+}
