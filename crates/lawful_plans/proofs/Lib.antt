@@ -12,3 +12,4 @@ mod ReadRows
 mod RowsChanged
 pub mod CopiedRows
 mod Indexes
+mod Structures
