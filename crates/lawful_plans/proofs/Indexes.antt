@@ -72,7 +72,7 @@ with_indexes db indexes is new =
 -- ---- fewer of them
 
 -- the infos of indexes that are kept
-abbrev infos : List Index → List RelInfo
+abbrev pub infos : List Index → List RelInfo
 infos indexes = map (λ x. x.info) indexes
 
 -- a test that passes for each entry passes for each that is left
@@ -117,10 +117,10 @@ none_passes test (x ∷ xs) t = go (test x) t (none_passes test xs)
     go false t later = later t
 
 -- the keys of entries
-abbrev keys : List RelInfo → List RelKey
+abbrev pub keys : List RelInfo → List RelKey
 keys es = map (λ i. i.key) es
 
-all-map : {X Y : Type 0} (test : Y → Bool) (f : X → Y) (xs : List X) → list_all test (map f xs) ≡ list_all (λ x. test (f x)) xs
+pub all-map : {X Y : Type 0} (test : Y → Bool) (f : X → Y) (xs : List X) → list_all test (map f xs) ≡ list_all (λ x. test (f x)) xs
 all-map test f [] = refl
 all-map test f (x ∷ xs) = ap (λ b. test (f x) && b) (all-map test f xs)
 
@@ -131,9 +131,9 @@ none_fewer key front kept indexes h =
     none_passes (same_key key) (keys (front ++ infos (filter kept indexes)))
     (all-map (λ k. not (same_key key k)) (λ i. i.key) (front ++ infos (filter kept indexes))
     ∙ all_fewer (λ i. not (same_key key i.key)) front kept indexes
-        (sym (all-map (λ k. not (same_key key k)) (λ i. i.key) (front ++ infos indexes)) ∙ all_fail (same_key key) (keys (front ++ infos indexes)) h))
+    (sym (all-map (λ k. not (same_key key k)) (λ i. i.key) (front ++ infos indexes)) ∙ all_fail (same_key key) (keys (front ++ infos indexes)) h))
 
-is_no : (b : Bool) → IsTrue (not b) → b ≡ false
+pub is_no : (b : Bool) → IsTrue (not b) → b ≡ false
 is_no true t = cc t
 is_no false t = refl
 

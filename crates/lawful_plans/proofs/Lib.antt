@@ -12,4 +12,5 @@ mod ReadRows
 mod RowsChanged
 pub mod CopiedRows
 mod Indexes
-mod Structures
+pub mod Restructured
+pub mod NewIndexes

@@ -1,14 +1,16 @@
 -- What must hold of a permit, a rule, or a structure for what the utilities plan of it to be lawful: that of which it speaks is there, and it would stand in the database.
-use Rattle.std.specs.Prelude.{ℕ, Bool, true, false, List, nat_le, is_some, length, IsTrue}
+use Rattle.std.specs.Prelude.{◌≡◌, ℕ, Bool, true, false, List, nat_le, nat_lt, is_some, length, IsTrue}
 use Rattle.calculus.specs.declared.query.RelKey.{RelKey}
 use Rattle.calculus.specs.declared.schema.Spec.{Spec}
 use Rattle.calculus.specs.declared.schema.Spec.TheVariants.{Heap, Hash, Isam, View, Index}
 use Rattle.calculus.specs.declared.schema.Permit.{Permit}
 use Rattle.calculus.specs.declared.schema.Rule.{Rule}
-use Rattle.calculus.specs.Limits.{most_listed_attributes}
-use Rattle.calculus.specs.Database.{Db}
+use Rattle.calculus.specs.Keys.{key_of}
+use Rattle.calculus.specs.Lists.{is_any}
+use Rattle.calculus.specs.Limits.{most_listed_attributes, most_entries}
+use Rattle.calculus.specs.Database.{Db, entries, is_there}
 use Rattle.calculus.specs.Stored.{range_at, attrs_at}
-use Rattle.calculus.specs.IsDatabase.{user_is_named, permit_attrs_stand, row_qual_stands, row_qual_is_small, keys_stand}
+use Rattle.calculus.specs.IsDatabase.{user_is_named, permit_attrs_stand, row_qual_stands, row_qual_is_small, keys_stand, key_is_named}
 
 -- a relation, a view or a catalogue stands under the key
 abbrev pub is_ranged : Db → RelKey → Bool
@@ -42,3 +44,12 @@ pub record IsFitStructure (db : Db) (rel : RelKey) (to : Spec) (keys : List ℕ)
   pub there : IsTrue (is_ranged db rel)
   pub structure : IsTrue (is_structure to)
   pub places : IsTrue (keys_stand (attrs_at db rel) keys)
+
+-- an index on what is there: at least one key, and the keys places of attributes, all different, and not too many; its name is no catalogue's and is not in use by the owner, and there is room for one more entry
+pub record IsFitIndex (db : Db) (base : RelKey) (name : List ℕ) (keys : List ℕ) : Type 0 where
+  pub there : IsTrue (is_ranged db base)
+  pub some : IsTrue (is_any keys)
+  pub places : IsTrue (keys_stand (attrs_at db base) keys)
+  pub named : IsTrue (key_is_named (key_of base.owner name))
+  pub unused : is_there db (key_of base.owner name) ≡ false
+  pub room : IsTrue (nat_lt (length (entries db)) most_entries)
