@@ -14,3 +14,4 @@ pub mod CopiedRows
 mod Indexes
 pub mod Restructured
 pub mod NewIndexes
+mod Staying
