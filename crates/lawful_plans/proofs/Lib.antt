@@ -15,3 +15,4 @@ mod Indexes
 pub mod Restructured
 pub mod NewIndexes
 mod Staying
+mod PlainQueries
