@@ -16,3 +16,4 @@ pub mod Restructured
 pub mod NewIndexes
 mod Staying
 mod PlainQueries
+mod StayingFacts
