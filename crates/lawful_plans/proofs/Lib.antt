@@ -17,3 +17,4 @@ pub mod NewIndexes
 mod Staying
 mod PlainQueries
 mod StayingFacts
+mod Beside

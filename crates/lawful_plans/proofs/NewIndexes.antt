@@ -35,7 +35,7 @@ by_key a b = key_cmp a.info.key b.info.key
 
 -- ---- a test of all entries
 
-all-append : {X : Type 0} (test : X → Bool) (xs ys : List X) → list_all test (xs ++ ys) ≡ (list_all test xs && list_all test ys)
+pub all-append : {X : Type 0} (test : X → Bool) (xs ys : List X) → list_all test (xs ++ ys) ≡ (list_all test xs && list_all test ys)
 all-append test [] ys = refl
 all-append test (x ∷ xs) ys = ap (λ b. test x && b) (all-append test xs ys) ∙ sym (assoc (test x) (list_all test xs) (list_all test ys))
   where
@@ -73,10 +73,10 @@ sorted_unmapped (x ∷ xs) h = (unmapped (λ k. key_cmp x.info.key k ≡ Less) x
 -- ---- the keys differ
 
 -- the key is that of none of these
-abbrev is_new : RelKey → List RelInfo → Bool
+abbrev pub is_new : RelKey → List RelInfo → Bool
 is_new key es = not (list_any (same_key key) (keys es))
 
-new-all : (key : RelKey) (es : List RelInfo) → is_new key es ≡ list_all (λ i. not (same_key key i.key)) es
+pub new-all : (key : RelKey) (es : List RelInfo) → is_new key es ≡ list_all (λ i. not (same_key key i.key)) es
 new-all key [] = refl
 new-all key (i ∷ es) = go (same_key key i.key) ∙ ap (λ b. not (same_key key i.key) && b) (new-all key es)
   where
@@ -84,14 +84,14 @@ new-all key (i ∷ es) = go (same_key key i.key) ∙ ap (λ b. not (same_key key
     go true = refl
     go false = refl
 
-other_way : (a b : RelKey) → same_key a b ≡ false → same_key b a ≡ false
+pub other_way : (a b : RelKey) → same_key a b ≡ false → same_key b a ≡ false
 other_way a b h = go (same_key b a) refl
   where
     go : (t : Bool) → same_key b a ≡ t → t ≡ false
     go true e = let f : same_key a b ≡ true = ap (same_key a) (same_key_is b a e) ∙ same_key_itself a in cc (sym f ∙ h)
     go false e = refl
 
-is_yes : (b : Bool) → b ≡ false → IsTrue (not b)
+pub is_yes : (b : Bool) → b ≡ false → IsTrue (not b)
 is_yes true h = cc h
 is_yes false h = refl
 
@@ -102,7 +102,7 @@ new_with key front x xs other new =
     new-all key (front ++ infos (insert_by by_key x xs))
     ∙ all_with (λ i. not (same_key key i.key)) front x xs (is_yes (same_key key x.info.key) other) (sym (new-all key (front ++ infos xs)) ∙ new)
 
-key_exact : (a b : RelKey) → key_cmp a b ≡ Equal → same_key a b ≡ true
+pub key_exact : (a b : RelKey) → key_cmp a b ≡ Equal → same_key a b ≡ true
 key_exact a b h =
     let parts = both_tied (slice_cmp nat_cmp a.owner b.owner) (slice_cmp nat_cmp a.name b.name) h in
     let owner : a.owner ≡ b.owner = slice_cmp-IsAntisymmetric nat_cmp-IsAntisymmetric a.owner b.owner parts.0 in
@@ -136,7 +136,7 @@ differ_with [] x (y ∷ ys) new t =
     go Greater e unlike first later = each (is_new y.info.key (infos (insert_by by_key x ys))) (differ_by same_key (keys (infos (insert_by by_key x ys)))) first later
 
 -- what isn't there has a new key
-not_there : (key : RelKey) (es : List RelInfo) → is_some (find (λ i. same_key i.key key) es) ≡ false → IsTrue (is_new key es)
+pub not_there : (key : RelKey) (es : List RelInfo) → is_some (find (λ i. same_key i.key key) es) ≡ false → IsTrue (is_new key es)
 not_there key [] h = refl
 not_there key (i ∷ es) h = go (same_key i.key key) refl h (not_there key es)
   where
