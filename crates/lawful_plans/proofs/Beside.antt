@@ -60,7 +60,7 @@ all_beside test x rs others s t =
     let parts = both (list_all test (known_of rs)) (list_all test others) (sym (all-append test (known_of rs) others) ∙ t) in
     all-append test (known_of (insert_by by_rel x rs)) others
     ∙ each (list_all test (known_of (insert_by by_rel x rs))) (list_all test others)
-        (all-map test (λ r. r.info) (insert_by by_rel x rs) ∙ all_insert by_rel (λ r. test r.info) x rs s (sym (all-map test (λ r. r.info) rs) ∙ parts.0)) parts.1
+    (all-map test (λ r. r.info) (insert_by by_rel x rs) ∙ all_insert by_rel (λ r. test r.info) x rs s (sym (all-map test (λ r. r.info) rs) ∙ parts.0)) parts.1
 
 -- ---- the keys
 
@@ -89,7 +89,7 @@ pub one_beside : (x : Relation) (rs : List Relation) (others : List RelInfo) →
 one_beside x [] others = omega arith
 one_beside x (y ∷ ys) others =
     let step : length (known_of (insert_by by_rel x (y ∷ ys)) ++ others) ≡ length (known_of (insert_as (by_rel x y) x y ys (insert_by by_rel x ys)) ++ others) =
-        ap (λ rs. length (known_of rs ++ others)) (insert-cons by_rel x y ys (by_rel x y) refl) in
+    ap (λ rs. length (known_of rs ++ others)) (insert-cons by_rel x y ys (by_rel x y) refl) in
     let bound = go (by_rel x y) (one_beside x ys others) in
     omega (arith, step, bound)
   where

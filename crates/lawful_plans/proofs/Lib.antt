@@ -18,3 +18,4 @@ mod Staying
 mod PlainQueries
 mod StayingFacts
 mod Beside
+pub mod Created

@@ -70,7 +70,7 @@ pub permits_hold : (P : RelKey → Type 0) (db later : Db) → Staying P db late
     → list_all (λ p. permit_stands db p.0 p.1) permits ≡ list_all (λ p. permit_stands later p.0 p.1) permits
 permits_hold P db later stay dba permits h = all_same (λ p. P p.0) _ _ permits h
     (λ p s i. stay.relations p.0 s i && (bytes_eq p.0.owner (dba i) && (user_is_named p.1.user
-        && (list_all (λ a. nat_lt a (length (attrs_stay P db later stay p.0 s i))) p.1.attrs && kinds_fit p.1.qual (kinds_stay P db later stay p.0 s i ∷ [])))))
+    && (list_all (λ a. nat_lt a (length (attrs_stay P db later stay p.0 s i))) p.1.attrs && kinds_fit p.1.qual (kinds_stay P db later stay p.0 s i ∷ [])))))
 
 pub indexes_hold : (P : RelKey → Type 0) (db later : Db) → Staying P db later → (indexes : List Index) → AllByRecursion (λ x. P x.base) indexes
     → list_all (index_stands db) indexes ≡ list_all (index_stands later) indexes
