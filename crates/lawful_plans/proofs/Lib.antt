@@ -19,3 +19,4 @@ mod PlainQueries
 mod StayingFacts
 mod Beside
 pub mod Created
+mod Sublists
