@@ -83,7 +83,7 @@ measure_same db later alike = λ i key. measure_at db later alike greatest_level
 
 -- ---- attributes and kinds
 
-range_attrs_same : (r s : Option Range) → AlikeRange r s → attrs_in (option_map range_info r) ≡ attrs_in (option_map range_info s)
+pub range_attrs_same : (r s : Option Range) → AlikeRange r s → attrs_in (option_map range_info r) ≡ attrs_in (option_map range_info s)
 range_attrs_same None None a = refl
 range_attrs_same None (Some s) a = absurd a
 range_attrs_same (Some r) None a = absurd a
@@ -99,7 +99,7 @@ attrs_same db later alike = λ i key. range_attrs_same (range_at db key) (range_
 kinds_same : (db later : Db) → Alike db later → kinds_at db ≡ kinds_at later
 kinds_same db later alike = ap (λ attrs key. map (λ a. a.kind) (attrs key)) (attrs_same db later alike)
 
-range_there_same : (r s : Option Range) → AlikeRange r s → is_some r ≡ is_some s
+pub range_there_same : (r s : Option Range) → AlikeRange r s → is_some r ≡ is_some s
 range_there_same None None a = refl
 range_there_same None (Some s) a = absurd a
 range_there_same (Some r) None a = absurd a

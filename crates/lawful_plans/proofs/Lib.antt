@@ -11,3 +11,12 @@ mod Changed
 mod ReadRows
 mod RowsChanged
 pub mod CopiedRows
+mod Indexes
+pub mod Restructured
+pub mod NewIndexes
+mod Staying
+mod PlainQueries
+mod StayingFacts
+mod Beside
+pub mod Created
+mod Sublists

@@ -48,7 +48,7 @@ not_refused db user u change h = go (first_cause (plan_causes db user u)) refl h
 
 -- ---- a base relation
 
-no_catalogue : (db : Db) (key : RelKey) → is_catalogue db key ≡ false → catalogue_at db key ≡ None
+pub no_catalogue : (db : Db) (key : RelKey) → is_catalogue db key ≡ false → catalogue_at db key ≡ None
 unfolding catalogue_at
 no_catalogue db key h =
     let parts = neither (same_key key (relation_key db)) (same_key key (attribute_key db)) h in

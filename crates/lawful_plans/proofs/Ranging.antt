@@ -38,7 +38,7 @@ attrs_kept rel f keeps r = changed_cases rel f (λ s. s.info.attrs ≡ r.info.at
 -- ---- the like under each key
 
 -- the two are both nothing, or relations with the same attributes
-abbrev AlikeRelation : Option Relation → Option Relation → Type 0
+abbrev pub AlikeRelation : Option Relation → Option Relation → Type 0
 AlikeRelation None None = Unit {0}
 AlikeRelation None (Some s) = ⊥
 AlikeRelation (Some r) None = ⊥
@@ -66,10 +66,10 @@ both_there (Some r) None a = absurd a
 both_there (Some r) (Some s) a = refl
 
 -- what stands under a key: the relation, else the view, else the catalogue
-abbrev ranged : Option Relation → Option View → Option Relation → Option Range
+abbrev pub ranged : Option Relation → Option View → Option Relation → Option Range
 ranged r v c = elim r [ Some relation ↦ Some (Kept relation) | None ↦ elim v [ Some view ↦ Some (Viewed view) | None ↦ option_map Kept c ] ]
 
-ranged_alike : (r s : Option Relation) → AlikeRelation r s → (v : Option View) (c d : Option Relation) → AlikeRelation c d → AlikeRange (ranged r v c) (ranged s v d)
+pub ranged_alike : (r s : Option Relation) → AlikeRelation r s → (v : Option View) (c d : Option Relation) → AlikeRelation c d → AlikeRange (ranged r v c) (ranged s v d)
 ranged_alike None None a (Some v) c d same = refl
 ranged_alike None None a None None None same = tt
 ranged_alike None None a None None (Some d) same = absurd same
@@ -80,7 +80,7 @@ ranged_alike (Some r) None a v c d same = absurd a
 ranged_alike (Some r) (Some s) a v c d same = a
 
 -- a catalogue has its attributes whatever its rows
-catalogue_alike : (db : Db) (relations : List Relation) (indexes : List Index) (key : RelKey)
+pub catalogue_alike : (db : Db) (relations : List Relation) (indexes : List Index) (key : RelKey)
     → AlikeRelation (catalogue_at db key) (catalogue_at (record db { relations = relations; indexes = indexes }) key)
 unfolding catalogue_at
 catalogue_alike db relations indexes key =
@@ -114,3 +114,16 @@ changed_alike db rel f indexes keeps = record {
   where
     later : Db
     later = record db { relations = change_at rel f db.relations; indexes = indexes }
+
+pub same_relation : (r : Option Relation) → AlikeRelation r r
+same_relation None = tt
+same_relation (Some r) = refl
+
+-- other indexes leave a database that is alike
+pub indexed_alike : (db : Db) (indexes : List Index) → Alike db (record db { indexes = indexes })
+unfolding range_at
+indexed_alike db indexes = record {
+  ranges = λ key. ranged_alike (relation_at db key) (relation_at db key) (same_relation (relation_at db key)) (view_at db key)
+      (catalogue_at db key) (catalogue_at (record db { indexes = indexes }) key) (catalogue_alike db db.relations indexes key);
+  relations = λ key. refl;
+}

@@ -13,7 +13,7 @@ use Rattle.calculus.specs.Rows.{Row, Ascends, has, put}
 use Rattle.calculus.specs.Value.{row_cmp}
 use Rattle.calculus.specs.Database.{Db, Relation, relation_at, view_at}
 use Rattle.calculus.specs.Catalogue.{catalogue_at}
-use Rattle.calculus.specs.Stored.{Range, Kept, Viewed, range_at, range_info, info_at, kept_rows, attrs_in, rows_at, kinds_at}
+use Rattle.calculus.specs.Stored.{Range, Kept, Viewed, range_at, range_info, info_at, kept_rows, attrs_in, attrs_at, rows_at, kinds_at}
 use Rattle.calculus.specs.Replacement.{with_rows, without_rows}
 use Rattle.calculus.specs.IsDatabase.{IsDatabase, row_fits}
 use Rattle.calculus.specs.Change.{change_at, rows_differ}
@@ -132,6 +132,10 @@ its_rows db rel relation e = ap kept_rows (range_is db rel relation e)
 pub its_kinds : (db : Db) (rel : RelKey) (relation : Relation) → relation_at db rel ≡ Some relation → kinds_at db rel ≡ map (λ a. a.kind) relation.info.attrs
 unfolding info_at
 its_kinds db rel relation e = ap (λ r. map (λ a. a.kind) (attrs_in (option_map range_info r))) (range_is db rel relation e)
+
+pub its_attrs : (db : Db) (rel : RelKey) (relation : Relation) → relation_at db rel ≡ Some relation → attrs_at db rel ≡ relation.info.attrs
+unfolding info_at
+its_attrs db rel relation e = ap (λ r. attrs_in (option_map range_info r)) (range_is db rel relation e)
 
 -- ---- the change
 

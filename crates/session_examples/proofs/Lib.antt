@@ -1,4 +1,1 @@
-pub mod ComputedRetrieving
-pub mod ComputedUpdating
-pub mod ComputedViewing
-pub mod ComputedRefusing
+pub mod Computed

@@ -4,7 +4,7 @@ ghost use Rattle.quel_grammar.specs.NextReader.{next_at};
 ghost use Rattle.session_examples.specs.Retrieving.{Retrieving};
 
 /// Sessions print what is retrieved.
-#[tactic(auto, using(crate::proofs::ComputedRetrieving::computed))]
+#[tactic(auto, using(crate::proofs::Computed::retrieving))]
 pub fn sessions_print_tables()
     ensures { Retrieving next_at }
 {}
