@@ -14,8 +14,10 @@ use Rattle.calculus.specs.Keys.{same_key}
 use Rattle.calculus.specs.Database.{Db, Relation, Index, relation_at, is_relation}
 use Rattle.calculus.specs.IsDatabase.{IsDatabase, attrs_stand, keys_stand, structure_stands}
 use Rattle.calculus.specs.Change.{laid, restructured, names_what_is_there, adds_what_is_new, lists_once, IsLawful}
-use Rattle.quel_meaning.specs.Planned.{planned, plan_causes, plan_change, structure_keys}
-use Rattle.lawful_plans.specs.Fitting.{is_structure, IsFitStructure}
+use Rattle.quel_meaning.specs.Structures.{structure_keys}
+use Rattle.quel_meaning.specs.Planned.{planned, plan_causes, plan_change}
+use Rattle.quel_meaning.specs.Fit.{is_structure}
+use Rattle.lawful_plans.specs.Fitting.{IsFitStructure}
 use Rattle.lawful_plans.proofs.Kept.{both}
 use Rattle.lawful_plans.proofs.Planned.{all_absent, not_refused, base_relation}
 use Rattle.lawful_plans.proofs.Changed.{ChangeStands, with_changed, owned, each_maps, for_each}

@@ -1,9 +1,8 @@
 -- What must hold of a permit, a rule, or a structure for what the utilities plan of it to be lawful: that of which it speaks is there, and it would stand in the database.
-use Rattle.std.specs.Prelude.{◌≡◌, ℕ, Bool, true, false, List, nat_le, nat_lt, is_some, length, IsTrue}
+use Rattle.std.specs.Prelude.{◌≡◌, ℕ, Bool, false, List, nat_le, nat_lt, is_some, length, IsTrue}
 use Rattle.calculus.specs.declared.query.RelKey.{RelKey}
 use Rattle.calculus.specs.declared.schema.Attr.{Attr}
 use Rattle.calculus.specs.declared.schema.Spec.{Spec}
-use Rattle.calculus.specs.declared.schema.Spec.TheVariants.{Heap, Hash, Isam, View, Index}
 use Rattle.calculus.specs.declared.schema.Permit.{Permit}
 use Rattle.calculus.specs.declared.schema.Rule.{Rule}
 use Rattle.calculus.specs.Keys.{key_of}
@@ -12,6 +11,7 @@ use Rattle.calculus.specs.Limits.{most_listed_attributes, most_entries}
 use Rattle.calculus.specs.Database.{Db, entries, is_there}
 use Rattle.calculus.specs.Stored.{range_at, attrs_at}
 use Rattle.calculus.specs.IsDatabase.{user_is_named, permit_attrs_stand, row_qual_stands, row_qual_is_small, keys_stand, key_is_named, attrs_stand, are_stored}
+use Rattle.quel_meaning.specs.Fit.{is_structure}
 
 -- a relation, a view or a catalogue stands under the key
 abbrev pub is_ranged : Db → RelKey → Bool
@@ -31,14 +31,6 @@ pub record IsFitRule (db : Db) (rel : RelKey) (rule : Rule) : Type 0 where
   pub there : IsTrue (is_ranged db rel)
   pub qual : IsTrue (row_qual_stands db rel rule.qual)
   pub small : IsTrue (row_qual_is_small rule.qual)
-
--- a structure that a relation may have: a heap, a hash or an ISAM structure
-abbrev pub is_structure : Spec → Bool
-is_structure Heap = true
-is_structure Hash = true
-is_structure Isam = true
-is_structure View = false
-is_structure Index = false
 
 -- a structure for what is there: its keys are places of attributes, all different, and not too many
 pub record IsFitStructure (db : Db) (rel : RelKey) (to : Spec) (keys : List ℕ) : Type 0 where
