@@ -92,7 +92,7 @@ ranged_is_other db rel key nothing there = go (same_key rel key) refl
     go true e = let f : is_some (range_at db key) ≡ false = ap (λ k. is_some (range_at db k)) (sym (same_key_is rel key e)) ∙ ap is_some nothing in cc (sym there ∙ f)
     go false e = refl
 
-relation_is_ranged : (db : Db) (key : RelKey) → is_relation db key ≡ true → is_some (range_at db key) ≡ true
+pub relation_is_ranged : (db : Db) (key : RelKey) → is_relation db key ≡ true → is_some (range_at db key) ≡ true
 unfolding range_at
 relation_is_ranged db key h = go (relation_at db key) h
   where
@@ -100,7 +100,7 @@ relation_is_ranged db key h = go (relation_at db key) h
     go None h = cc h
     go (Some r) h = refl
 
-viewed_is_found : (db : Db) (key : RelKey) (view : View) → range_at db key ≡ Some (Viewed view) → view_at db key ≡ Some view
+pub viewed_is_found : (db : Db) (key : RelKey) (view : View) → range_at db key ≡ Some (Viewed view) → view_at db key ≡ Some view
 unfolding range_at
 viewed_is_found db key view h = go (relation_at db key) (view_at db key) (catalogue_at db key) h
   where
@@ -110,15 +110,15 @@ viewed_is_found db key view h = go (relation_at db key) (view_at db key) (catalo
     go None None None h = cc h
     go None None (Some r) h = cc h
 
-each_true : {X : Type 0} (test : X → Bool) (xs : List X) → IsTrue (list_all test xs) → AllByRecursion (λ x. IsTrue (test x)) xs
+pub each_true : {X : Type 0} (test : X → Bool) (xs : List X) → IsTrue (list_all test xs) → AllByRecursion (λ x. IsTrue (test x)) xs
 each_true test [] t = tt
 each_true test (x ∷ xs) t = let parts = both (test x) (list_all test xs) t in (parts.0, each_true test xs parts.1)
 
-each_from : {X : Type 0} (P Q : X → Type 0) (xs : List X) → AllByRecursion P xs → ((x : X) → P x → Q x) → AllByRecursion Q xs
+pub each_from : {X : Type 0} (P Q : X → Type 0) (xs : List X) → AllByRecursion P xs → ((x : X) → P x → Q x) → AllByRecursion Q xs
 each_from P Q [] h f = tt
 each_from P Q (x ∷ xs) h f = (f x h.0, each_from P Q xs h.1 f)
 
-found_has : (P : View → Type 0) (test : View → Bool) (vs : List View) (view : View) → AllByRecursion P vs → find test vs ≡ Some view → P view
+pub found_has : (P : View → Type 0) (test : View → Bool) (vs : List View) (view : View) → AllByRecursion P vs → find test vs ≡ Some view → P view
 found_has P test [] view h e = cc e
 found_has P test (v ∷ vs) view h e = go (test v) e (λ e. found_has P test vs view h.1 e)
   where
@@ -134,7 +134,7 @@ none_of_key : {X : Type 0} (rel : RelKey) (ps : List (RelKey × X)) → AllByRec
 none_of_key rel [] h = refl
 none_of_key rel (p ∷ ps) h = ap (λ b. cond b (p ∷ filter (λ p. same_key p.0 rel) ps) (filter (λ p. same_key p.0 rel) ps)) (other_way rel p.0 h.0) ∙ none_of_key rel ps h.1
 
-both_each : {X : Type 0} (P Q : X → Type 0) (xs : List X) → AllByRecursion P xs → AllByRecursion Q xs → AllByRecursion (λ x. P x × Q x) xs
+pub both_each : {X : Type 0} (P Q : X → Type 0) (xs : List X) → AllByRecursion P xs → AllByRecursion Q xs → AllByRecursion (λ x. P x × Q x) xs
 both_each P Q [] p q = tt
 both_each P Q (x ∷ xs) p q = ((p.0, q.0), both_each P Q xs p.1 q.1)
 

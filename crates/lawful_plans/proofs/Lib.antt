@@ -20,3 +20,4 @@ mod StayingFacts
 mod Beside
 pub mod Created
 mod Sublists
+pub mod Destroyed
