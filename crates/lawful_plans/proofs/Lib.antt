@@ -21,3 +21,4 @@ mod Beside
 pub mod Created
 mod Sublists
 pub mod Destroyed
+pub mod Replaced
