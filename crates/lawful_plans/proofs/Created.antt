@@ -15,15 +15,15 @@ use Rattle.calculus.specs.declared.change.DbChange.TheVariants as change
 use Rattle.calculus.specs.Keys.{same_key}
 use Rattle.calculus.specs.Lists.{insert_by, is_any}
 use Rattle.calculus.specs.Limits.{most_entries, most_rows, most_rules, most_permits}
-use Rattle.calculus.specs.Rows.{Ascends}
+use Rattle.calculus.specs.Rows.{Row, Ascends, set_of}
 use Rattle.calculus.specs.Catalogue.{is_catalogue_name, is_catalogue, catalogue_at}
 use Rattle.calculus.specs.Database.{Db, Relation, View, Index, relation_at, view_at, is_relation, entries, is_there, rules_on, permits_on}
 use Rattle.calculus.specs.Stored.{Viewed, range_at, attrs_at}
 use Rattle.calculus.specs.QueryParts.{vars_of}
 use Rattle.calculus.specs.Name.{is_name}
-use Rattle.calculus.specs.IsDatabase.{IsDatabase, key_is_named, structure_stands, attrs_stand, are_stored, relation_rows_fit, vars_are_there, query_stands, index_stands, row_qual_stands, permit_stands, keys_stand}
+use Rattle.calculus.specs.IsDatabase.{IsDatabase, row_fits, key_is_named, structure_stands, attrs_stand, are_stored, relation_rows_fit, vars_are_there, query_stands, index_stands, row_qual_stands, permit_stands, keys_stand}
 use Rattle.calculus.specs.Change.{laid, names_what_is_there, adds_what_is_new, lists_once, IsLawful}
-use Rattle.calculus.proofs.Sets.{Ascends-nil}
+use Rattle.calculus.proofs.Sets.{Ascends-nil, Ascends-set_of, has-set_of, same_set}
 use Rattle.quel_meaning.specs.Planned.{planned, plan_causes, plan_change, heap_info}
 use Rattle.quel_meaning.proofs.InOrder.{in_order-insert}
 use Rattle.lawful_plans.specs.Fitting.{IsFitRelation}
@@ -34,6 +34,7 @@ use Rattle.lawful_plans.proofs.Alike.{AlikeRange}
 use Rattle.lawful_plans.proofs.Ranging.{AlikeRelation, same_relation, ranged, ranged_alike, catalogue_alike}
 use Rattle.lawful_plans.proofs.Indexes.{is_no, all-map}
 use Rattle.lawful_plans.proofs.NewIndexes.{other_way, not_there, new-all, all-append}
+use Rattle.lawful_plans.proofs.RowsChanged.{rows_that_ascend_differ}
 use Rattle.lawful_plans.proofs.PlainQueries.{query_plain}
 use Rattle.lawful_plans.proofs.Staying.{Staying}
 use Rattle.lawful_plans.proofs.StayingFacts.{ViewStays, levels_hold, vars_hold, queries_hold, sizes_hold, expansions_hold, rules_hold, permits_hold, indexes_hold}
@@ -162,14 +163,20 @@ index_based db x t = go x.info.spec t
     go spec.View t = cc t
     go spec.Index t = (both (is_relation db x.base) rest t).0
 
+-- the set of rows that ascend is these rows
+set_itself : (rows : List Row) → Ascends rows → set_of rows ≡ rows
+set_itself rows ascend = same_set (set_of rows) rows (Ascends-set_of rows) ascend (has-set_of rows)
+
 -- ---- the change
 
-created_lawful : (db : Db) (rel : RelKey) (attrs : List Attr) → IsDatabase db → IsFitRelation db rel attrs → IsLawful db (change.Create (heap_info rel attrs) [])
+-- a relation with a set of rows that fit and aren't too many
+pub made_lawful : (db : Db) (rel : RelKey) (attrs : List Attr) (rows : List Row) → IsDatabase db → IsFitRelation db rel attrs
+    → Ascends rows → IsTrue (list_all (row_fits attrs) rows) → IsTrue (nat_le (length rows) most_rows) → IsLawful db (change.Create (heap_info rel attrs) rows)
 unfolding laid names_what_is_there adds_what_is_new lists_once
-created_lawful db rel attrs is fit = record {
+made_lawful db rel attrs rows is fit ascend fits few = record {
   names_are_there = refl;
   additions_are_new = ap not fit.unused;
-  nothing_is_listed_twice = refl;
+  nothing_is_listed_twice = rows_that_ascend_differ rows ascend;
   leaves_a_database = record {
     dba_is_named = is.dba_is_named;
     keys_are_named = all_beside (λ i. key_is_named i.key) new db.relations others fit.named is.keys_are_named;
@@ -182,8 +189,8 @@ created_lawful db rel attrs is fit = record {
     structures_stand = put (λ r. structure_stands r.info) refl is.structures_stand;
     relation_attrs_stand = put (λ r. attrs_stand r.info.attrs) fit.attributes is.relation_attrs_stand;
     relations_are_stored = put (λ r. are_stored r.info.attrs) fit.domains is.relations_are_stored;
-    rows_ascend = each_beside (λ r. Ascends r.rows) new db.relations Ascends-nil is.rows_ascend;
-    rows_fit = put relation_rows_fit refl is.rows_fit;
+    rows_ascend = each_beside (λ r. Ascends r.rows) new db.relations (Ascends-set_of rows) is.rows_ascend;
+    rows_fit = put relation_rows_fit (subst (λ rows. IsTrue (list_all (row_fits attrs) rows)) (sym (set_itself rows ascend)) fits) is.rows_fit;
     indexes_stand = sym (indexes_hold Other db later stay db.indexes based) ∙ is.indexes_stand;
     view_infos_stand = is.view_infos_stand;
     view_attrs_stand = is.view_attrs_stand;
@@ -194,7 +201,7 @@ created_lawful db rel attrs is fit = record {
     rules_stand = sym (rules_hold Other db later stay db.rules ruled) ∙ is.rules_stand;
     permits_stand = sym (permits_hold Other db later stay refl db.permits permitted) ∙ is.permits_stand;
     few_entries = room (length (entries later)) (length (entries db)) (one_beside new db.relations others) fit.room;
-    few_rows = put (λ r. nat_le (length r.rows) most_rows) refl is.few_rows;
+    few_rows = put (λ r. nat_le (length r.rows) most_rows) (ap (λ rows. nat_le (length rows) most_rows) (set_itself rows ascend) ∙ few) is.few_rows;
     few_listed_variables = is.few_listed_variables;
     few_variables = is.few_variables;
     few_expanded_variables = sym (expansions_hold Other db later stay db.views views) ∙ is.few_expanded_variables;
@@ -211,7 +218,7 @@ created_lawful db rel attrs is fit = record {
 }
   where
     new : Relation
-    new = record { info = heap_info rel attrs; rows = [] }
+    new = record { info = heap_info rel attrs; rows = set_of rows }
 
     later : Db
     later = record db { relations = insert_by by_rel new db.relations }
@@ -279,4 +286,4 @@ created_lawful db rel attrs is fit = record {
 pub created_planned : (db : Db) (user : List ℕ) (rel : RelKey) (attrs : List Attr) (made : DbChange) → IsDatabase db → IsFitRelation db rel attrs
     → planned db user (utility.Create rel attrs) ≡ Ok made → IsLawful db made
 unfolding plan_causes plan_change
-created_planned db user rel attrs made is fit e = subst (IsLawful db) (not_refused db user (utility.Create rel attrs) made e).1 (created_lawful db rel attrs is fit)
+created_planned db user rel attrs made is fit e = subst (IsLawful db) (not_refused db user (utility.Create rel attrs) made e).1 (made_lawful db rel attrs [] is fit Ascends-nil refl refl)
