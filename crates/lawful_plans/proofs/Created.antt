@@ -42,7 +42,7 @@ use Rattle.lawful_plans.proofs.Beside.{by_rel, known_of, found_beside, each_besi
 
 -- ---- nothing stands under a new key
 
-none_found : (key : RelKey) (rs : List Relation) (others : List RelInfo) → is_some (find (λ i. same_key i.key key) (known_of rs ++ others)) ≡ false
+pub none_found : (key : RelKey) (rs : List Relation) (others : List RelInfo) → is_some (find (λ i. same_key i.key key) (known_of rs ++ others)) ≡ false
     → (find (λ r. same_key r.info.key key) rs ≡ None) × (is_some (find (λ i. same_key i.key key) others) ≡ false)
 none_found key [] others h = (refl, h)
 none_found key (r ∷ rs) others h = go (same_key r.info.key key) refl h (none_found key rs others)
@@ -54,7 +54,7 @@ none_found key (r ∷ rs) others h = go (same_key r.info.key key) refl h (none_f
     go false e h later = let found = later h in (ap (λ b. cond b (Some r) (find (λ r. same_key r.info.key key) rs)) e ∙ found.0, found.1)
 
 -- no view is found
-no_view : (key : RelKey) (vs : List View) (others : List RelInfo) → is_some (find (λ i. same_key i.key key) (map (λ v. v.info) vs ++ others)) ≡ false → find (λ v. same_key v.info.key key) vs ≡ None
+pub no_view : (key : RelKey) (vs : List View) (others : List RelInfo) → is_some (find (λ i. same_key i.key key) (map (λ v. v.info) vs ++ others)) ≡ false → find (λ v. same_key v.info.key key) vs ≡ None
 no_view key [] others h = refl
 no_view key (v ∷ vs) others h = go (same_key v.info.key key) refl h (no_view key vs others)
   where
@@ -75,7 +75,7 @@ named_is_no_catalogue db key t =
     and_false true = refl
     and_false false = refl
 
-nothing_ranges : (db : Db) (key : RelKey) → IsTrue (key_is_named key) → is_there db key ≡ false → range_at db key ≡ None
+pub nothing_ranges : (db : Db) (key : RelKey) → IsTrue (key_is_named key) → is_there db key ≡ false → range_at db key ≡ None
 unfolding range_at
 nothing_ranges db key named unused =
     let found = none_found key db.relations (map (λ v. v.info) db.views ++ map (λ x. x.info) db.indexes) unused in
@@ -86,7 +86,7 @@ nothing_ranges db key named unused =
 -- ---- what is there has another key
 
 -- something to range over has another key than one under which there is nothing
-ranged_is_other : (db : Db) (rel key : RelKey) → range_at db rel ≡ None → is_some (range_at db key) ≡ true → same_key rel key ≡ false
+pub ranged_is_other : (db : Db) (rel key : RelKey) → range_at db rel ≡ None → is_some (range_at db key) ≡ true → same_key rel key ≡ false
 ranged_is_other db rel key nothing there = go (same_key rel key) refl
   where
     go : (b : Bool) → same_key rel key ≡ b → b ≡ false
@@ -131,7 +131,7 @@ found_has P test (v ∷ vs) view h e = go (test v) e (λ e. found_has P test vs 
     go false e later = later e
 
 -- those of one key are none, where each has another
-none_of_key : {X : Type 0} (rel : RelKey) (ps : List (RelKey × X)) → AllByRecursion (λ p. same_key rel p.0 ≡ false) ps → filter (λ p. same_key p.0 rel) ps ≡ []
+pub none_of_key : {X : Type 0} (rel : RelKey) (ps : List (RelKey × X)) → AllByRecursion (λ p. same_key rel p.0 ≡ false) ps → filter (λ p. same_key p.0 rel) ps ≡ []
 none_of_key rel [] h = refl
 none_of_key rel (p ∷ ps) h = ap (λ b. cond b (p ∷ filter (λ p. same_key p.0 rel) ps) (filter (λ p. same_key p.0 rel) ps)) (other_way rel p.0 h.0) ∙ none_of_key rel ps h.1
 
@@ -150,7 +150,7 @@ ranges_beside db new key other =
     later : Db
     later = record db { relations = insert_by by_rel new db.relations }
 
-index_based : (db : Db) (x : Index) → IsTrue (index_stands db x) → is_relation db x.base ≡ true
+pub index_based : (db : Db) (x : Index) → IsTrue (index_stands db x) → is_relation db x.base ≡ true
 index_based db x t = go x.info.spec t
   where
     rest : Bool

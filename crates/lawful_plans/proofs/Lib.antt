@@ -22,3 +22,5 @@ pub mod Created
 mod Sublists
 pub mod Destroyed
 pub mod Replaced
+mod BesideViews
+pub mod ViewMade
