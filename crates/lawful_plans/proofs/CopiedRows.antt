@@ -30,7 +30,7 @@ use Rattle.lawful_plans.proofs.RowsChanged.{Ascends-with_rows, new_ones_put, new
 -- ---- the relation under a key
 
 -- a test that each relation passes the one that is found passes, and so for what isn't a truth value
-found_passes : (P : Relation → Type 0) (test : Relation → Bool) (rs : List Relation) (relation : Relation) → AllByRecursion P rs → find test rs ≡ Some relation → P relation
+pub found_passes : (P : Relation → Type 0) (test : Relation → Bool) (rs : List Relation) (relation : Relation) → AllByRecursion P rs → find test rs ≡ Some relation → P relation
 found_passes P test [] relation h e = cc e
 found_passes P test (r ∷ rs) relation h e = go (test r) e (λ e. found_passes P test rs relation h.1 e)
   where

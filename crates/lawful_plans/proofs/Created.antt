@@ -15,15 +15,15 @@ use Rattle.calculus.specs.declared.change.DbChange.TheVariants as change
 use Rattle.calculus.specs.Keys.{same_key}
 use Rattle.calculus.specs.Lists.{insert_by, is_any}
 use Rattle.calculus.specs.Limits.{most_entries, most_rows, most_rules, most_permits}
-use Rattle.calculus.specs.Rows.{Ascends}
+use Rattle.calculus.specs.Rows.{Row, Ascends, set_of}
 use Rattle.calculus.specs.Catalogue.{is_catalogue_name, is_catalogue, catalogue_at}
 use Rattle.calculus.specs.Database.{Db, Relation, View, Index, relation_at, view_at, is_relation, entries, is_there, rules_on, permits_on}
 use Rattle.calculus.specs.Stored.{Viewed, range_at, attrs_at}
 use Rattle.calculus.specs.QueryParts.{vars_of}
 use Rattle.calculus.specs.Name.{is_name}
-use Rattle.calculus.specs.IsDatabase.{IsDatabase, key_is_named, structure_stands, attrs_stand, are_stored, relation_rows_fit, vars_are_there, query_stands, index_stands, row_qual_stands, permit_stands, keys_stand}
+use Rattle.calculus.specs.IsDatabase.{IsDatabase, row_fits, key_is_named, structure_stands, attrs_stand, are_stored, relation_rows_fit, vars_are_there, query_stands, index_stands, row_qual_stands, permit_stands, keys_stand}
 use Rattle.calculus.specs.Change.{laid, names_what_is_there, adds_what_is_new, lists_once, IsLawful}
-use Rattle.calculus.proofs.Sets.{Ascends-nil}
+use Rattle.calculus.proofs.Sets.{Ascends-nil, Ascends-set_of, has-set_of, same_set}
 use Rattle.quel_meaning.specs.Planned.{planned, plan_causes, plan_change, heap_info}
 use Rattle.quel_meaning.proofs.InOrder.{in_order-insert}
 use Rattle.lawful_plans.specs.Fitting.{IsFitRelation}
@@ -34,6 +34,7 @@ use Rattle.lawful_plans.proofs.Alike.{AlikeRange}
 use Rattle.lawful_plans.proofs.Ranging.{AlikeRelation, same_relation, ranged, ranged_alike, catalogue_alike}
 use Rattle.lawful_plans.proofs.Indexes.{is_no, all-map}
 use Rattle.lawful_plans.proofs.NewIndexes.{other_way, not_there, new-all, all-append}
+use Rattle.lawful_plans.proofs.RowsChanged.{rows_that_ascend_differ}
 use Rattle.lawful_plans.proofs.PlainQueries.{query_plain}
 use Rattle.lawful_plans.proofs.Staying.{Staying}
 use Rattle.lawful_plans.proofs.StayingFacts.{ViewStays, levels_hold, vars_hold, queries_hold, sizes_hold, expansions_hold, rules_hold, permits_hold, indexes_hold}
@@ -41,7 +42,7 @@ use Rattle.lawful_plans.proofs.Beside.{by_rel, known_of, found_beside, each_besi
 
 -- ---- nothing stands under a new key
 
-none_found : (key : RelKey) (rs : List Relation) (others : List RelInfo) → is_some (find (λ i. same_key i.key key) (known_of rs ++ others)) ≡ false
+pub none_found : (key : RelKey) (rs : List Relation) (others : List RelInfo) → is_some (find (λ i. same_key i.key key) (known_of rs ++ others)) ≡ false
     → (find (λ r. same_key r.info.key key) rs ≡ None) × (is_some (find (λ i. same_key i.key key) others) ≡ false)
 none_found key [] others h = (refl, h)
 none_found key (r ∷ rs) others h = go (same_key r.info.key key) refl h (none_found key rs others)
@@ -53,7 +54,7 @@ none_found key (r ∷ rs) others h = go (same_key r.info.key key) refl h (none_f
     go false e h later = let found = later h in (ap (λ b. cond b (Some r) (find (λ r. same_key r.info.key key) rs)) e ∙ found.0, found.1)
 
 -- no view is found
-no_view : (key : RelKey) (vs : List View) (others : List RelInfo) → is_some (find (λ i. same_key i.key key) (map (λ v. v.info) vs ++ others)) ≡ false → find (λ v. same_key v.info.key key) vs ≡ None
+pub no_view : (key : RelKey) (vs : List View) (others : List RelInfo) → is_some (find (λ i. same_key i.key key) (map (λ v. v.info) vs ++ others)) ≡ false → find (λ v. same_key v.info.key key) vs ≡ None
 no_view key [] others h = refl
 no_view key (v ∷ vs) others h = go (same_key v.info.key key) refl h (no_view key vs others)
   where
@@ -74,7 +75,7 @@ named_is_no_catalogue db key t =
     and_false true = refl
     and_false false = refl
 
-nothing_ranges : (db : Db) (key : RelKey) → IsTrue (key_is_named key) → is_there db key ≡ false → range_at db key ≡ None
+pub nothing_ranges : (db : Db) (key : RelKey) → IsTrue (key_is_named key) → is_there db key ≡ false → range_at db key ≡ None
 unfolding range_at
 nothing_ranges db key named unused =
     let found = none_found key db.relations (map (λ v. v.info) db.views ++ map (λ x. x.info) db.indexes) unused in
@@ -85,14 +86,14 @@ nothing_ranges db key named unused =
 -- ---- what is there has another key
 
 -- something to range over has another key than one under which there is nothing
-ranged_is_other : (db : Db) (rel key : RelKey) → range_at db rel ≡ None → is_some (range_at db key) ≡ true → same_key rel key ≡ false
+pub ranged_is_other : (db : Db) (rel key : RelKey) → range_at db rel ≡ None → is_some (range_at db key) ≡ true → same_key rel key ≡ false
 ranged_is_other db rel key nothing there = go (same_key rel key) refl
   where
     go : (b : Bool) → same_key rel key ≡ b → b ≡ false
     go true e = let f : is_some (range_at db key) ≡ false = ap (λ k. is_some (range_at db k)) (sym (same_key_is rel key e)) ∙ ap is_some nothing in cc (sym there ∙ f)
     go false e = refl
 
-relation_is_ranged : (db : Db) (key : RelKey) → is_relation db key ≡ true → is_some (range_at db key) ≡ true
+pub relation_is_ranged : (db : Db) (key : RelKey) → is_relation db key ≡ true → is_some (range_at db key) ≡ true
 unfolding range_at
 relation_is_ranged db key h = go (relation_at db key) h
   where
@@ -100,7 +101,7 @@ relation_is_ranged db key h = go (relation_at db key) h
     go None h = cc h
     go (Some r) h = refl
 
-viewed_is_found : (db : Db) (key : RelKey) (view : View) → range_at db key ≡ Some (Viewed view) → view_at db key ≡ Some view
+pub viewed_is_found : (db : Db) (key : RelKey) (view : View) → range_at db key ≡ Some (Viewed view) → view_at db key ≡ Some view
 unfolding range_at
 viewed_is_found db key view h = go (relation_at db key) (view_at db key) (catalogue_at db key) h
   where
@@ -110,15 +111,15 @@ viewed_is_found db key view h = go (relation_at db key) (view_at db key) (catalo
     go None None None h = cc h
     go None None (Some r) h = cc h
 
-each_true : {X : Type 0} (test : X → Bool) (xs : List X) → IsTrue (list_all test xs) → AllByRecursion (λ x. IsTrue (test x)) xs
+pub each_true : {X : Type 0} (test : X → Bool) (xs : List X) → IsTrue (list_all test xs) → AllByRecursion (λ x. IsTrue (test x)) xs
 each_true test [] t = tt
 each_true test (x ∷ xs) t = let parts = both (test x) (list_all test xs) t in (parts.0, each_true test xs parts.1)
 
-each_from : {X : Type 0} (P Q : X → Type 0) (xs : List X) → AllByRecursion P xs → ((x : X) → P x → Q x) → AllByRecursion Q xs
+pub each_from : {X : Type 0} (P Q : X → Type 0) (xs : List X) → AllByRecursion P xs → ((x : X) → P x → Q x) → AllByRecursion Q xs
 each_from P Q [] h f = tt
 each_from P Q (x ∷ xs) h f = (f x h.0, each_from P Q xs h.1 f)
 
-found_has : (P : View → Type 0) (test : View → Bool) (vs : List View) (view : View) → AllByRecursion P vs → find test vs ≡ Some view → P view
+pub found_has : (P : View → Type 0) (test : View → Bool) (vs : List View) (view : View) → AllByRecursion P vs → find test vs ≡ Some view → P view
 found_has P test [] view h e = cc e
 found_has P test (v ∷ vs) view h e = go (test v) e (λ e. found_has P test vs view h.1 e)
   where
@@ -130,11 +131,11 @@ found_has P test (v ∷ vs) view h e = go (test v) e (λ e. found_has P test vs 
     go false e later = later e
 
 -- those of one key are none, where each has another
-none_of_key : {X : Type 0} (rel : RelKey) (ps : List (RelKey × X)) → AllByRecursion (λ p. same_key rel p.0 ≡ false) ps → filter (λ p. same_key p.0 rel) ps ≡ []
+pub none_of_key : {X : Type 0} (rel : RelKey) (ps : List (RelKey × X)) → AllByRecursion (λ p. same_key rel p.0 ≡ false) ps → filter (λ p. same_key p.0 rel) ps ≡ []
 none_of_key rel [] h = refl
 none_of_key rel (p ∷ ps) h = ap (λ b. cond b (p ∷ filter (λ p. same_key p.0 rel) ps) (filter (λ p. same_key p.0 rel) ps)) (other_way rel p.0 h.0) ∙ none_of_key rel ps h.1
 
-both_each : {X : Type 0} (P Q : X → Type 0) (xs : List X) → AllByRecursion P xs → AllByRecursion Q xs → AllByRecursion (λ x. P x × Q x) xs
+pub both_each : {X : Type 0} (P Q : X → Type 0) (xs : List X) → AllByRecursion P xs → AllByRecursion Q xs → AllByRecursion (λ x. P x × Q x) xs
 both_each P Q [] p q = tt
 both_each P Q (x ∷ xs) p q = ((p.0, q.0), both_each P Q xs p.1 q.1)
 
@@ -149,7 +150,7 @@ ranges_beside db new key other =
     later : Db
     later = record db { relations = insert_by by_rel new db.relations }
 
-index_based : (db : Db) (x : Index) → IsTrue (index_stands db x) → is_relation db x.base ≡ true
+pub index_based : (db : Db) (x : Index) → IsTrue (index_stands db x) → is_relation db x.base ≡ true
 index_based db x t = go x.info.spec t
   where
     rest : Bool
@@ -162,14 +163,20 @@ index_based db x t = go x.info.spec t
     go spec.View t = cc t
     go spec.Index t = (both (is_relation db x.base) rest t).0
 
+-- the set of rows that ascend is these rows
+set_itself : (rows : List Row) → Ascends rows → set_of rows ≡ rows
+set_itself rows ascend = same_set (set_of rows) rows (Ascends-set_of rows) ascend (has-set_of rows)
+
 -- ---- the change
 
-created_lawful : (db : Db) (rel : RelKey) (attrs : List Attr) → IsDatabase db → IsFitRelation db rel attrs → IsLawful db (change.Create (heap_info rel attrs) [])
+-- a relation with a set of rows that fit and aren't too many
+pub made_lawful : (db : Db) (rel : RelKey) (attrs : List Attr) (rows : List Row) → IsDatabase db → IsFitRelation db rel attrs
+    → Ascends rows → IsTrue (list_all (row_fits attrs) rows) → IsTrue (nat_le (length rows) most_rows) → IsLawful db (change.Create (heap_info rel attrs) rows)
 unfolding laid names_what_is_there adds_what_is_new lists_once
-created_lawful db rel attrs is fit = record {
+made_lawful db rel attrs rows is fit ascend fits few = record {
   names_are_there = refl;
   additions_are_new = ap not fit.unused;
-  nothing_is_listed_twice = refl;
+  nothing_is_listed_twice = rows_that_ascend_differ rows ascend;
   leaves_a_database = record {
     dba_is_named = is.dba_is_named;
     keys_are_named = all_beside (λ i. key_is_named i.key) new db.relations others fit.named is.keys_are_named;
@@ -182,8 +189,8 @@ created_lawful db rel attrs is fit = record {
     structures_stand = put (λ r. structure_stands r.info) refl is.structures_stand;
     relation_attrs_stand = put (λ r. attrs_stand r.info.attrs) fit.attributes is.relation_attrs_stand;
     relations_are_stored = put (λ r. are_stored r.info.attrs) fit.domains is.relations_are_stored;
-    rows_ascend = each_beside (λ r. Ascends r.rows) new db.relations Ascends-nil is.rows_ascend;
-    rows_fit = put relation_rows_fit refl is.rows_fit;
+    rows_ascend = each_beside (λ r. Ascends r.rows) new db.relations (Ascends-set_of rows) is.rows_ascend;
+    rows_fit = put relation_rows_fit (subst (λ rows. IsTrue (list_all (row_fits attrs) rows)) (sym (set_itself rows ascend)) fits) is.rows_fit;
     indexes_stand = sym (indexes_hold Other db later stay db.indexes based) ∙ is.indexes_stand;
     view_infos_stand = is.view_infos_stand;
     view_attrs_stand = is.view_attrs_stand;
@@ -194,7 +201,7 @@ created_lawful db rel attrs is fit = record {
     rules_stand = sym (rules_hold Other db later stay db.rules ruled) ∙ is.rules_stand;
     permits_stand = sym (permits_hold Other db later stay refl db.permits permitted) ∙ is.permits_stand;
     few_entries = room (length (entries later)) (length (entries db)) (one_beside new db.relations others) fit.room;
-    few_rows = put (λ r. nat_le (length r.rows) most_rows) refl is.few_rows;
+    few_rows = put (λ r. nat_le (length r.rows) most_rows) (ap (λ rows. nat_le (length rows) most_rows) (set_itself rows ascend) ∙ few) is.few_rows;
     few_listed_variables = is.few_listed_variables;
     few_variables = is.few_variables;
     few_expanded_variables = sym (expansions_hold Other db later stay db.views views) ∙ is.few_expanded_variables;
@@ -211,7 +218,7 @@ created_lawful db rel attrs is fit = record {
 }
   where
     new : Relation
-    new = record { info = heap_info rel attrs; rows = [] }
+    new = record { info = heap_info rel attrs; rows = set_of rows }
 
     later : Db
     later = record db { relations = insert_by by_rel new db.relations }
@@ -279,4 +286,4 @@ created_lawful db rel attrs is fit = record {
 pub created_planned : (db : Db) (user : List ℕ) (rel : RelKey) (attrs : List Attr) (made : DbChange) → IsDatabase db → IsFitRelation db rel attrs
     → planned db user (utility.Create rel attrs) ≡ Ok made → IsLawful db made
 unfolding plan_causes plan_change
-created_planned db user rel attrs made is fit e = subst (IsLawful db) (not_refused db user (utility.Create rel attrs) made e).1 (created_lawful db rel attrs is fit)
+created_planned db user rel attrs made is fit e = subst (IsLawful db) (not_refused db user (utility.Create rel attrs) made e).1 (made_lawful db rel attrs [] is fit Ascends-nil refl refl)

@@ -20,3 +20,7 @@ mod StayingFacts
 mod Beside
 pub mod Created
 mod Sublists
+pub mod Destroyed
+pub mod Replaced
+mod BesideViews
+pub mod ViewMade

@@ -31,13 +31,13 @@ or_assoc : (a b c : Bool) → (a || (b || c)) ≡ ((a || b) || c)
 or_assoc true b c = refl
 or_assoc false b c = refl
 
-has-with_rows : (others rows : List Row) (q : Row) → has (with_rows others rows) q ≡ (has others q || has rows q)
+pub has-with_rows : (others rows : List Row) (q : Row) → has (with_rows others rows) q ≡ (has others q || has rows q)
 has-with_rows [] rows q = refl
 has-with_rows (row ∷ others) rows q =
     has-put row (with_rows others rows) q ∙ ap (λ b. eq_by_cmp row_cmp q row || b) (has-with_rows others rows q)
     ∙ or_assoc (eq_by_cmp row_cmp q row) (has others q) (has rows q)
 
-has-filter : (test : Row → Bool) (rows : List Row) (q : Row) → has (filter test rows) q ≡ (has rows q && test q)
+pub has-filter : (test : Row → Bool) (rows : List Row) (q : Row) → has (filter test rows) q ≡ (has rows q && test q)
 has-filter test [] q = refl
 has-filter test (row ∷ rows) q = go (test row) refl (eq_by_cmp row_cmp q row) refl (has-filter test rows q)
   where

@@ -59,7 +59,7 @@ range_level_by f g (Some (Kept r)) (Some (Viewed w)) h a = absurd a
 range_level_by f g (Some (Viewed v)) (Some (Kept s)) h a = absurd a
 range_level_by f g (Some (Viewed v)) (Some (Viewed w)) h a = h v refl ∙ ap g a
 
-level_stays : (P : RelKey → Type 0) (db later : Db) → Staying P db later → (n : ℕ) (key : RelKey) → P key → level_within n db key ≡ level_within n later key
+pub level_stays : (P : RelKey → Type 0) (db later : Db) → Staying P db later → (n : ℕ) (key : RelKey) → P key → level_within n db key ≡ level_within n later key
 level_stays P db later stay zero key p = range_level_by (λ view. None) (λ view. None) (range_at db key) (range_at later key) (λ view e. refl) (stay.ranges key p)
 level_stays P db later stay (suc n) key p =
     range_level_by (λ view. level_above (map (level_within n db) (vars_of view.query))) (λ view. level_above (map (level_within n later) (vars_of view.query))) (range_at db key) (range_at later key)

@@ -34,7 +34,7 @@ pub vars_hold : (P : RelKey → Type 0) (db later : Db) → Staying P db later �
 vars_hold P db later stay views h = all_same (ViewStays P) _ _ views h (λ v s. all_same P _ _ (vars_of v.query) s.vars (λ key p. there_stays P db later stay key p))
 
 -- the kinds in a query fit, where its variables have attributes of these kinds
-abbrev stands_with : List (List Kind) → Query → Bool
+abbrev pub stands_with : List (List Kind) → Query → Bool
 stands_with kinds q = list_all (λ t. has_kind (kind_of t.term kinds) t.kind) (targets_of q) && kinds_fit (qual_of q) kinds
 
 pub queries_hold : (P : RelKey → Type 0) (db later : Db) → Staying P db later → (views : List View) → AllByRecursion (ViewStays P) views

@@ -1,16 +1,22 @@
 -- What must hold of a permit, a rule, or a structure for what the utilities plan of it to be lawful: that of which it speaks is there, and it would stand in the database.
-use Rattle.std.specs.Prelude.{◌≡◌, ℕ, Bool, false, List, nat_le, nat_lt, is_some, length, IsTrue}
+use Rattle.std.specs.Prelude.{◌≡◌, ℕ, Bool, true, false, List, nat_le, nat_lt, is_some, length, IsTrue}
 use Rattle.calculus.specs.declared.query.RelKey.{RelKey}
+use Rattle.std.specs.List.{list_all}
+use Rattle.calculus.specs.declared.query.Query.{Query}
 use Rattle.calculus.specs.declared.schema.Attr.{Attr}
 use Rattle.calculus.specs.declared.schema.Spec.{Spec}
 use Rattle.calculus.specs.declared.schema.Permit.{Permit}
 use Rattle.calculus.specs.declared.schema.Rule.{Rule}
 use Rattle.calculus.specs.Keys.{key_of}
 use Rattle.calculus.specs.Lists.{is_any}
-use Rattle.calculus.specs.Limits.{most_listed_attributes, most_entries}
+use Rattle.calculus.specs.Limits.{most_listed_attributes, most_entries, most_expanded_variables, most_variables, most_levels, greatest_size}
 use Rattle.calculus.specs.Database.{Db, entries, is_there}
 use Rattle.calculus.specs.Stored.{range_at, attrs_at}
-use Rattle.calculus.specs.IsDatabase.{user_is_named, permit_attrs_stand, row_qual_stands, row_qual_is_small, keys_stand, key_is_named, attrs_stand, are_stored}
+use Rattle.calculus.specs.QueryParts.{vars_of}
+use Rattle.calculus.specs.Sizes.{level_within, variables, expanded_variables, query_size}
+use Rattle.calculus.specs.TreeLevels.{query_levels}
+use Rattle.quel_meaning.specs.Planned.{view_info}
+use Rattle.calculus.specs.IsDatabase.{user_is_named, permit_attrs_stand, row_qual_stands, row_qual_is_small, keys_stand, key_is_named, attrs_stand, are_stored, vars_are_there, query_stands}
 use Rattle.quel_meaning.specs.Fit.{is_structure}
 
 -- a relation, a view or a catalogue stands under the key
@@ -54,3 +60,18 @@ pub record IsFitRelation (db : Db) (rel : RelKey) (attrs : List Attr) : Type 0 w
   pub attributes : IsTrue (attrs_stand attrs)
   pub domains : IsTrue (are_stored attrs)
   pub room : IsTrue (nat_lt (length (entries db)) most_entries)
+
+-- a view that may be made: its key is named, is no catalogue's and is not in use, there is room for one more entry, its attributes stand, what it names is there and below the greatest level, its kinds fit, and it is within the limits
+pub record IsFitView (db : Db) (rel : RelKey) (q : Query) : Type 0 where
+  pub named : IsTrue (key_is_named rel)
+  pub unused : is_there db rel ≡ false
+  pub room : IsTrue (nat_lt (length (entries db)) most_entries)
+  pub attributes : IsTrue (attrs_stand (view_info rel q).attrs)
+  pub vars : IsTrue (vars_are_there db q)
+  pub levels : IsTrue (list_all (λ key. is_some (level_within 15 db key)) (vars_of q))
+  pub stands : IsTrue (query_stands db q)
+  pub few_listed : IsTrue (nat_le (length (vars_of q)) most_expanded_variables)
+  pub few : IsTrue (nat_le (variables q) most_variables)
+  pub few_expanded : IsTrue (nat_le (expanded_variables db q) most_expanded_variables)
+  pub small : IsTrue (nat_le (query_size db q) greatest_size)
+  pub shallow : IsTrue (nat_le (query_levels q) most_levels)

@@ -5,9 +5,13 @@
 mod copies;
 mod permits;
 mod relations;
+mod rows;
 mod structures;
+mod views;
 
 pub use copies::a_copy_from_a_file_is_lawful;
 pub use permits::{dropping_permits_and_rules_is_lawful, new_permits_and_rules_are_lawful};
-pub use relations::a_new_relation_is_lawful;
+pub use relations::{a_new_relation_is_lawful, destroying_is_lawful};
+pub use rows::another_set_of_rows_is_lawful;
 pub use structures::{a_new_index_is_lawful, another_structure_is_lawful};
+pub use views::a_new_view_is_lawful;
