@@ -1,5 +1,5 @@
 -- The columns of a copied file: the bytes of a value in a form, and the value that bytes are.
-use Rattle.std.specs.Prelude.{ℕ, ℤ, pos, neg_ℤ, ◌-◌, ◌*◌, ◌^◌, ◌==◌, nat_lt, Bool, true, false, ◌&&◌, if◌then◌else◌, List, [], ◌∷◌, ◌++◌, length, take, drop, Option, Some, None, option_map, option_and_then}
+use Rattle.std.specs.Prelude.{ℕ, ℤ, pos, neg_ℤ, ◌-◌, ◌*◌, ◌^◌, ◌==◌, nat_lt, Bool, true, false, ◌&&◌, if◌then◌else◌, List, [], ◌∷◌, ◌++◌, length, take, drop, replicate, Option, Some, None, option_map, option_and_then}
 use Rattle.std.specs.Int.{w64}
 use Rattle.std.specs.Fmt.{signed_decimal}
 use Rattle.std.specs.Str.Parse.{digits_value}
@@ -16,7 +16,6 @@ use Rattle.calculus.specs.Value.{is_within}
 use Rattle.calculus.specs.Lists.{is_any, has_number}
 use Rattle.calculus.specs.Kinds.{is_text_kind}
 use Rattle.calculus.specs.Replacement.{is_of_kind}
-use Rattle.quel_meaning.specs.Printed.{at_left, at_right}
 
 -- ---- numbers
 
@@ -91,8 +90,8 @@ printed (Text bytes) = bytes
 
 -- the bytes in n bytes filled with blanks, a number at the right, a text at the left
 abbrev pub filled : ℕ → Value → List ℕ
-filled n (Int z) = at_right n (signed_decimal z)
-filled n (Text bytes) = at_left n bytes
+filled n (Int z) = replicate (n - length (signed_decimal z)) 32 ++ signed_decimal z
+filled n (Text bytes) = bytes ++ replicate (n - length bytes) 32
 
 -- the bytes of a value in a form; none where it doesn't fit the form, or holds the byte that ends it
 abbrev pub column_bytes : CopyForm → Value → Option (List ℕ)
