@@ -18,7 +18,7 @@ use Rattle.quel_grammar.proofs.CompleteStatements.{read_statement}
 use Rattle.quel_grammar.proofs.OneReading.{begins_whole, one_next}
 
 -- what was read of tokens: a statement, which is their longest run that begins one, and the tokens behind it; or the tokens behind that run, which is no statement
-abbrev IsParse : List Token → ReadOf Statement → Type 0
+abbrev pub IsParse : List Token → ReadOf Statement → Type 0
 IsParse tokens (Ok x) = (front : List Token) × Longest tokens front x.1 × IsStatement front x.0
 IsParse tokens (Err rest) = (front : List Token) × Longest tokens front rest × ((s : Statement) → IsStatement front s → ⊥)
 
@@ -40,7 +40,8 @@ not_done : (s u : Statement) (t : Token) (b : List Token) → ◌≡◌ {A = Rea
 unfolding rest_of
 not_done s u t b e = let f : t ∷ b ≡ [] = ap rest_of e in cc
 
-is_parse : (ts : List Token) (n : ℕ) → length ts < n → IsParse ts (statement_by n ts)
+-- what a statement's reader gives is the longest run that begins one
+pub is_parse : (ts : List Token) (n : ℕ) → length ts < n → IsParse ts (statement_by n ts)
 is_parse ts n le = parsed (statement_by n ts) (λ m up. (exact_statement n m up).at ts)
   where
     parsed : (x : ReadOf Statement) → ((m : ℕ) → n ≤ m → Reads IsStatement n (statement_by m) ts x) → IsParse ts x

@@ -1,5 +1,6 @@
 //! Tokens: what a text of the language is made of.
 
+use crate::number::Number;
 use calculus::{Chars, Name};
 
 /// A token with one spelling: a reserved word or a symbol.
@@ -104,8 +105,8 @@ pub enum Fixed {
 pub enum Token {
     /// A name, in lower case. Where a text is read, it's no reserved word.
     Name(Name),
-    /// A whole number, at most 9,223,372,036,854,775,807.
-    Int(u64),
+    /// A whole number.
+    Int(Number),
     /// A text constant.
     Text(Chars),
     /// A reserved word or a symbol.

@@ -5,7 +5,7 @@ ghost use Rattle.calculus.specs.declared.statement.Statement.{Statement};
 ghost use Rattle.quel_parse.specs.Batches.{IsRead};
 ghost use Rattle.quel_parse.specs.Form.{Asked, IsSpelled, first_form, statements_of};
 
-use crate::lexer::tokens_of;
+use crate::batch_tokens::tokens_of;
 use crate::reader::asked_at;
 use crate::statements::statements_of;
 use calculus::{OutOfMemory, Statement};

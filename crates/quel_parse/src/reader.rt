@@ -60,7 +60,9 @@ fn int_at(tokens: &[Token]) -> Option<(u16, &[Token])>
     ensures { option_map (λ x. (x.0, x.1.now)) result ≡ int_at tokens.now }
 {
     match tokens {
-        [Token::Int(number), rest @ ..] if *number <= GREATEST => Some((*number as u16, rest)),
+        [Token::Int(number), rest @ ..] if number.value() <= GREATEST => {
+            Some((number.value() as u16, rest))
+        }
         _ => None,
     }
 }

@@ -1,0 +1,56 @@
+-- Parts of statements, as the grammar says them.
+use Rattle.std.specs.Prelude.{ℕ, List, Option, Some, None, if◌then◌else◌}
+use Rattle.calculus.specs.declared.statement.Item.{Item}
+use Rattle.calculus.specs.declared.statement.Qual.{Qual}
+use Rattle.calculus.specs.declared.statement.Statement.{Statement}
+use Rattle.calculus.specs.declared.statement.Statement.TheVariants as statements
+use Rattle.quel_grammar.specs.Lexer.{number_of}
+use Rattle.quel_grammar.specs.Statements.{is_width}
+use Rattle.quel_grammar.specs.StatementReaders.{Defined as What, Verb as Said}
+use Rattle.quel_grammar.specs.StatementReaders.Defined.{DefinedView, DefinedPermit, DefinedRule}
+use Rattle.quel_grammar.specs.StatementReaders.Verb.{RangeVerb, RetrieveVerb, AppendVerb, ReplaceVerb, DeleteVerb, CreateVerb, DestroyVerb, ModifyVerb, IndexVerb, PrintVerb, HelpVerb, CopyVerb, DefineVerb}
+use Rattle.quel_parse.specs.declared.changes.Change.{Change}
+use Rattle.quel_parse.specs.declared.changes.Change.TheVariants as changes
+use Rattle.quel_parse.specs.declared.relations.Dropped.{Dropped}
+use Rattle.quel_parse.specs.declared.relations.Dropped.TheVariants as drops
+use Rattle.quel_parse.specs.declared.defining.Defined.{Defined}
+use Rattle.quel_parse.specs.declared.defining.Defined.TheVariants as defined
+use Rattle.quel_parse.specs.declared.verbs.Verb.{Verb}
+use Rattle.quel_parse.specs.declared.verbs.Verb.TheVariants as verbs
+
+-- the number from 1 to 255 that these digits are, without a zero before it
+abbrev pub width_from : List ℕ → Option ℕ
+width_from digits = if is_width digits then Some (number_of digits) else None
+
+-- the statement that does this
+abbrev pub change_of : Change → List ℕ → List Item → Qual → Statement
+change_of changes.Append = statements.Append
+change_of changes.Replace = statements.Replace
+change_of changes.View = statements.View
+
+-- the statement that drops these
+abbrev pub dropped_of : Dropped → List ℕ → List ℕ → Statement
+dropped_of drops.Permits = statements.DropPermits
+dropped_of drops.Rules = statements.DropRules
+
+-- what is defined
+abbrev pub defined_of : Defined → What
+defined_of defined.View = DefinedView
+defined_of defined.Permit = DefinedPermit
+defined_of defined.Rule = DefinedRule
+
+-- the first word
+abbrev pub verb_of : Verb → Said
+verb_of verbs.Range = RangeVerb
+verb_of verbs.Retrieve = RetrieveVerb
+verb_of verbs.Append = AppendVerb
+verb_of verbs.Replace = ReplaceVerb
+verb_of verbs.Delete = DeleteVerb
+verb_of verbs.Create = CreateVerb
+verb_of verbs.Destroy = DestroyVerb
+verb_of verbs.Modify = ModifyVerb
+verb_of verbs.Index = IndexVerb
+verb_of verbs.Print = PrintVerb
+verb_of verbs.Help = HelpVerb
+verb_of verbs.Copy = CopyVerb
+verb_of verbs.Define = DefineVerb

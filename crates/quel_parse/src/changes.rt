@@ -1,0 +1,99 @@
+//! Statements with a name, a target list and a qualification.
+
+ghost use Rattle.std.specs.Prelude.{◌≡◌};
+ghost use Rattle.quel_grammar.specs.StatementReaders.{changed_by, append_by, delete_by, retrieve_by};
+ghost use Rattle.quel_grammar.specs.TermReaders.{level};
+ghost use Rattle.quel_parse.specs.Parts.{change_of};
+ghost use Rattle.quel_terms.specs.View.{Gives};
+
+use crate::sort_keys::sort_by;
+use crate::targets::{into_at, maybe, targets_by, where_by};
+use calculus::{Item, List, Name, Qual, Statement};
+use quel_grammar::{Fixed, Token};
+use quel_terms::{Read, name_at};
+use std::alloc::Global;
+
+/// What is done with a name, a target list and a qualification.
+#[derive(Clone, Copy, Debug, PartialEq, Eq)]
+pub enum Change {
+    /// `append`
+    Append,
+    /// `replace`
+    Replace,
+    /// `define view`
+    View,
+}
+
+/// The statement.
+fn change_of(change: Change, name: Name, items: List<Item>, qual: Qual) -> Statement
+    ensures { result ≡ change_of change name items qual }
+{
+    match change {
+        Change::Append => Statement::Append {
+            rel: name,
+            items,
+            qual,
+        },
+        Change::Replace => Statement::Replace {
+            var: name,
+            items,
+            qual,
+        },
+        Change::View => Statement::View { name, items, qual },
+    }
+}
+
+/// `append`, `replace` and `define view`, behind the word before the name.
+#[tactic(auto, unfolding(quel_grammar::specs::StatementReaders::changed_by))]
+pub fn changed_by<'a>(
+    alloc: Global,
+    depth: u16,
+    change: Change,
+    tokens: &'a [Token],
+) -> Read<'a, Statement>
+    ensures { Gives (λ x. (x.0, x.1.now)) result (changed_by depth (level depth) (change_of change) tokens.now) }
+{
+    let (name, rest) = name_at(alloc, tokens)?;
+    let (items, rest) = targets_by(alloc, depth, rest)?;
+    let (qual, rest) = where_by(alloc, depth, rest)?;
+    let statement = change_of(change, name, List::of(items), qual);
+    Ok((statement, rest))
+}
+
+/// `append`, behind its first word.
+#[tactic(auto, unfolding(quel_grammar::specs::StatementReaders::append_by))]
+pub fn append_by<'a>(alloc: Global, depth: u16, tokens: &'a [Token]) -> Read<'a, Statement>
+    ensures { Gives (λ x. (x.0, x.1.now)) result (append_by depth (level depth) tokens.now) }
+{
+    let rest = maybe(Fixed::To, tokens);
+    changed_by(alloc, depth, Change::Append, rest)
+}
+
+/// `delete`, behind its first word.
+#[tactic(auto, unfolding(quel_grammar::specs::StatementReaders::delete_by))]
+pub fn delete_by<'a>(alloc: Global, depth: u16, tokens: &'a [Token]) -> Read<'a, Statement>
+    ensures { Gives (λ x. (x.0, x.1.now)) result (delete_by (level depth) tokens.now) }
+{
+    let (var, rest) = name_at(alloc, tokens)?;
+    let (qual, rest) = where_by(alloc, depth, rest)?;
+    Ok((Statement::Delete { var, qual }, rest))
+}
+
+/// `retrieve`, behind its first word.
+#[tactic(auto, unfolding(quel_grammar::specs::StatementReaders::retrieve_by))]
+pub fn retrieve_by<'a>(alloc: Global, depth: u16, tokens: &'a [Token]) -> Read<'a, Statement>
+    ensures { Gives (λ x. (x.0, x.1.now)) result (retrieve_by depth (level depth) tokens.now) }
+{
+    let rest = maybe(Fixed::Unique, tokens);
+    let (into, rest) = into_at(alloc, rest)?;
+    let (items, rest) = targets_by(alloc, depth, rest)?;
+    let (qual, rest) = where_by(alloc, depth, rest)?;
+    let (sort, rest) = sort_by(alloc, depth, rest)?;
+    let statement = Statement::Retrieve {
+        into,
+        items: List::of(items),
+        qual,
+        sort: List::of(sort),
+    };
+    Ok((statement, rest))
+}

@@ -1,0 +1,104 @@
+//! Definitions of views, permits and rules of integrity.
+
+ghost use Rattle.std.specs.Prelude.{◌≡◌, option_map};
+ghost use Rattle.quel_grammar.specs.Reading.{first, on_fixed};
+ghost use Rattle.quel_grammar.specs.StatementReaders.{permit_by, rule_by, defined_of, defined_by, define_by};
+ghost use Rattle.quel_grammar.specs.TermReaders.{level};
+ghost use Rattle.quel_parse.specs.Parts.{defined_of as what_of};
+ghost use Rattle.quel_terms.specs.View.{Gives};
+
+use crate::changes::{Change, changed_by};
+use crate::names::covered_by;
+use crate::permits::{joined, operations_from, over_at, user_at};
+use crate::targets::where_by;
+use calculus::{List, Statement};
+use quel_grammar::{Fixed, Token};
+use quel_terms::{Halt, Read, after, name_at, qual_by};
+use std::alloc::Global;
+
+/// What is defined.
+#[derive(Clone, Copy, Debug, PartialEq, Eq)]
+enum Defined {
+    /// A view.
+    View,
+    /// A permit.
+    Permit,
+    /// A rule of integrity.
+    Rule,
+}
+
+/// `define permit`, behind its words.
+#[tactic(auto, unfolding(quel_grammar::specs::StatementReaders::permit_by))]
+fn permit_by<'a>(alloc: Global, depth: u16, tokens: &'a [Token]) -> Read<'a, Statement>
+    ensures { Gives (λ x. (x.0, x.1.now)) result (permit_by depth (level depth) tokens.now) }
+{
+    let (rights, rest) = operations_from(alloc, depth, Vec::new(alloc), tokens)?;
+    let rest = over_at(rest)?;
+    let (var, rest) = name_at(alloc, rest)?;
+    let (attrs, rest) = covered_by(alloc, depth, rest)?;
+    let rest = after(Fixed::To, rest)?;
+    let (user, rest) = user_at(alloc, rest)?;
+    let (qual, rest) = where_by(alloc, depth, rest)?;
+    let statement = Statement::Permit {
+        ops: joined(&rights),
+        var,
+        attrs: List::of(attrs),
+        user,
+        qual,
+    };
+    Ok((statement, rest))
+}
+
+/// `define integrity`, behind its words.
+#[tactic(auto, unfolding(quel_grammar::specs::StatementReaders::rule_by))]
+fn rule_by<'a>(alloc: Global, depth: u16, tokens: &'a [Token]) -> Read<'a, Statement>
+    ensures { Gives (λ x. (x.0, x.1.now)) result (rule_by (level depth) tokens.now) }
+{
+    let rest = after(Fixed::On, tokens)?;
+    let (var, rest) = name_at(alloc, rest)?;
+    let rest = after(Fixed::Is, rest)?;
+    let (qual, rest) = qual_by(alloc, depth, rest)?;
+    Ok((Statement::Rule { var, qual }, rest))
+}
+
+/// The word for what is defined, where one stands there.
+fn defined_at(tokens: &[Token]) -> Option<(Defined, &[Token])>
+    ensures { option_map (λ x. (what_of x.0, x.1.now)) result ≡ first (on_fixed defined_of) tokens.now }
+{
+    match tokens {
+        [Token::Fixed(fixed), rest @ ..] => match *fixed {
+            Fixed::View => Some((Defined::View, rest)),
+            Fixed::Permit => Some((Defined::Permit, rest)),
+            Fixed::Integrity => Some((Defined::Rule, rest)),
+            _ => None,
+        },
+        _ => None,
+    }
+}
+
+/// A view, a permit or a rule, behind that word.
+fn defined_by<'a>(
+    alloc: Global,
+    depth: u16,
+    defined: Defined,
+    tokens: &'a [Token],
+) -> Read<'a, Statement>
+    ensures { Gives (λ x. (x.0, x.1.now)) result (defined_by depth (level depth) (what_of defined) tokens.now) }
+{
+    match defined {
+        Defined::View => changed_by(alloc, depth, Change::View, tokens),
+        Defined::Permit => permit_by(alloc, depth, tokens),
+        Defined::Rule => rule_by(alloc, depth, tokens),
+    }
+}
+
+/// `define`, behind its first word.
+#[tactic(auto, unfolding(quel_grammar::specs::StatementReaders::define_by))]
+pub fn define_by<'a>(alloc: Global, depth: u16, tokens: &'a [Token]) -> Read<'a, Statement>
+    ensures { Gives (λ x. (x.0, x.1.now)) result (define_by depth (level depth) tokens.now) }
+{
+    match defined_at(tokens) {
+        Some((defined, rest)) => defined_by(alloc, depth, defined, rest),
+        None => Err(Halt::Stop(tokens)),
+    }
+}

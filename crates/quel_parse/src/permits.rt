@@ -1,0 +1,103 @@
+//! The parts of a permit.
+
+ghost use Rattle.std.specs.Prelude.{suc, ◌≡◌};
+ghost use Rattle.quel_grammar.specs.PartReaders.{list_by, operation_of, over_of, user_of};
+ghost use Rattle.quel_grammar.specs.Reading.{expect, on_fixed};
+ghost use Rattle.quel_grammar.specs.Statements.{joined};
+ghost use Rattle.quel_terms.specs.View.{Gives};
+
+use calculus::Name;
+use quel_grammar::{Fixed, Token};
+use quel_terms::{Halt, Read, found};
+use std::alloc::Global;
+
+/// The number of the right that the word of an operation gives; `all` gives all four.
+fn operation_of(fixed: Fixed) -> Option<u8>
+    ensures { result ≡ operation_of fixed }
+{
+    match fixed {
+        Fixed::Retrieve => Some(1),
+        Fixed::Append => Some(2),
+        Fixed::Replace => Some(4),
+        Fixed::Delete => Some(8),
+        Fixed::All => Some(15),
+        _ => None,
+    }
+}
+
+/// The word of an operation, which must stand there.
+fn operation_at(tokens: &[Token]) -> Read<'_, u8>
+    ensures { Gives (λ x. (x.0, x.1.now)) result (expect (on_fixed operation_of) tokens.now) }
+{
+    let [Token::Fixed(fixed), rest @ ..] = tokens else {
+        return Err(Halt::Stop(tokens));
+    };
+    match operation_of(*fixed) {
+        Some(right) => Ok((right, rest)),
+        None => Err(Halt::Stop(tokens)),
+    }
+}
+
+/// Operations, each as the number of its right with commas between them, behind those that were read before; at most so many.
+#[cycle(operations)]
+pub fn operations_from<'a>(
+    alloc: Global,
+    most: u16,
+    before: Vec<u8>,
+    tokens: &'a [Token],
+) -> Read<'a, Vec<u8>>
+    ensures { Gives (λ x. (x.0.items, x.1.now)) result (list_by (expect (on_fixed operation_of)) most before.items tokens.now) }
+{
+    if most == 0 {
+        return Err(Halt::Stop(tokens));
+    }
+    next_operations(alloc, most - 1, before, tokens)
+}
+
+/// Operations, each as the number of its right with commas between them, of which the first one is read here.
+#[cycle(operations)]
+#[tactic(auto, unfolding(quel_grammar::specs::PartReaders::list_by))]
+fn next_operations<'a>(
+    alloc: Global,
+    most: u16,
+    before: Vec<u8>,
+    tokens: &'a [Token],
+) -> Read<'a, Vec<u8>>
+    ensures { Gives (λ x. (x.0.items, x.1.now)) result (list_by (expect (on_fixed operation_of)) (suc most) before.items tokens.now) }
+{
+    let mut items = before;
+    let (item, rest) = operation_at(tokens)?;
+    items.push(item)?;
+    match found(Fixed::Comma, rest) {
+        Some(rest) => operations_from(alloc, most, items, rest),
+        None => Ok((items, rest)),
+    }
+}
+
+/// The rights together, each counted once.
+pub fn joined(rights: &[u8]) -> u8
+    ensures { result ≡ joined rights.now }
+{
+    rights.iter().fold(0, |all, right| all | *right)
+}
+
+/// The tokens behind `on`, `of` or `to`, one of which must stand there.
+pub fn over_at(tokens: &[Token]) -> Result<&[Token], Halt<'_>>
+    ensures { Gives (λ rest. (tt, rest.now)) result (expect (on_fixed over_of) tokens.now) }
+{
+    match tokens {
+        [Token::Fixed(Fixed::On | Fixed::Of | Fixed::To), rest @ ..] => Ok(rest),
+        _ => Err(Halt::Stop(tokens)),
+    }
+}
+
+/// A user or `all`, which must stand there.
+pub fn user_at<'a>(alloc: Global, tokens: &'a [Token]) -> Read<'a, Option<Name>>
+    ensures { Gives (λ x. (x.0, x.1.now)) result (expect user_of tokens.now) }
+{
+    match tokens {
+        [Token::Name(name), rest @ ..] => Ok((Some(name.copy(alloc)?), rest)),
+        [Token::Fixed(Fixed::All), rest @ ..] => Ok((None, rest)),
+        _ => Err(Halt::Stop(tokens)),
+    }
+}

@@ -1,0 +1,203 @@
+//! Statements on whole relations.
+
+ghost use Rattle.std.specs.Prelude.{◌≡◌, option_map};
+ghost use Rattle.quel_grammar.specs.PartReaders.{drop_by, way_of, text_of};
+ghost use Rattle.quel_grammar.specs.Reading.{first, expect, on_fixed};
+ghost use Rattle.quel_grammar.specs.StatementReaders.{range_at, create_by, destroy_names, drop_of, destroy_by, modify_by, index_by, print_by, help_at, copy_by};
+ghost use Rattle.quel_parse.specs.Parts.{dropped_of};
+ghost use Rattle.quel_terms.specs.View.{Gives};
+
+use crate::formats::{attributes_by, columns_by};
+use crate::names::{covered_names, names_at};
+use crate::numbers::numbers_at;
+use crate::structures::structure_by;
+use calculus::{Chars, List, Name, Statement};
+use quel_grammar::{Fixed, Token};
+use quel_terms::{Halt, Read, after, name_at};
+use std::alloc::Global;
+
+/// What is dropped by its numbers.
+#[derive(Clone, Copy, Debug, PartialEq, Eq)]
+enum Dropped {
+    /// Permits.
+    Permits,
+    /// Rules of integrity.
+    Rules,
+}
+
+/// `range`, behind its first word.
+#[tactic(auto, unfolding(quel_grammar::specs::StatementReaders::range_at))]
+pub fn range_at<'a>(alloc: Global, tokens: &'a [Token]) -> Read<'a, Statement>
+    ensures { Gives (λ x. (x.0, x.1.now)) result (range_at tokens.now) }
+{
+    let rest = after(Fixed::Of, tokens)?;
+    let (var, rest) = name_at(alloc, rest)?;
+    let rest = after(Fixed::Is, rest)?;
+    let (rel, rest) = name_at(alloc, rest)?;
+    Ok((Statement::Range { var, rel }, rest))
+}
+
+/// `create`, behind its first word.
+#[tactic(auto, unfolding(quel_grammar::specs::StatementReaders::create_by))]
+pub fn create_by<'a>(alloc: Global, most: u16, tokens: &'a [Token]) -> Read<'a, Statement>
+    ensures { Gives (λ x. (x.0, x.1.now)) result (create_by most tokens.now) }
+{
+    let (rel, rest) = name_at(alloc, tokens)?;
+    let (attrs, rest) = attributes_by(alloc, most, rest)?;
+    let attrs = List::of(attrs);
+    Ok((Statement::Create { rel, attrs }, rest))
+}
+
+/// `destroy`, of relations.
+#[tactic(auto, unfolding(quel_grammar::specs::StatementReaders::destroy_names))]
+fn destroy_names<'a>(alloc: Global, most: u16, tokens: &'a [Token]) -> Read<'a, Statement>
+    ensures { Gives (λ x. (x.0, x.1.now)) result (destroy_names most tokens.now) }
+{
+    let (names, rest) = names_at(alloc, most, tokens)?;
+    let rels = List::of(names);
+    Ok((Statement::Destroy { rels }, rest))
+}
+
+/// `permit` or `integrity` behind `destroy`, where one stands there.
+fn dropped_at(tokens: &[Token]) -> Option<(Dropped, &[Token])>
+    ensures { option_map (λ x. (dropped_of x.0, x.1.now)) result ≡ first (on_fixed drop_of) tokens.now }
+{
+    match tokens {
+        [Token::Fixed(fixed), rest @ ..] => match *fixed {
+            Fixed::Permit => Some((Dropped::Permits, rest)),
+            Fixed::Integrity => Some((Dropped::Rules, rest)),
+            _ => None,
+        },
+        _ => None,
+    }
+}
+
+/// The statement that drops these.
+fn dropped_of(dropped: Dropped, rel: Name, numbers: List<u32>) -> Statement
+    ensures { result ≡ dropped_of dropped rel numbers }
+{
+    match dropped {
+        Dropped::Permits => Statement::DropPermits { rel, numbers },
+        Dropped::Rules => Statement::DropRules { rel, numbers },
+    }
+}
+
+/// A relation and numbers.
+#[tactic(auto, unfolding(quel_grammar::specs::PartReaders::drop_by))]
+fn drop_by<'a>(
+    alloc: Global,
+    most: u16,
+    dropped: Dropped,
+    tokens: &'a [Token],
+) -> Read<'a, Statement>
+    ensures { Gives (λ x. (x.0, x.1.now)) result (drop_by most (dropped_of dropped) tokens.now) }
+{
+    let (rel, rest) = name_at(alloc, tokens)?;
+    let (numbers, rest) = numbers_at(alloc, most, rest)?;
+    let statement = dropped_of(dropped, rel, List::of(numbers));
+    Ok((statement, rest))
+}
+
+/// `destroy`, behind its first word.
+#[tactic(auto, unfolding(quel_grammar::specs::StatementReaders::destroy_by))]
+pub fn destroy_by<'a>(alloc: Global, most: u16, tokens: &'a [Token]) -> Read<'a, Statement>
+    ensures { Gives (λ x. (x.0, x.1.now)) result (destroy_by most tokens.now) }
+{
+    match dropped_at(tokens) {
+        Some((dropped, rest)) => drop_by(alloc, most, dropped, rest),
+        None => destroy_names(alloc, most, tokens),
+    }
+}
+
+/// `modify`, behind its first word.
+#[tactic(auto, unfolding(quel_grammar::specs::StatementReaders::modify_by))]
+pub fn modify_by<'a>(alloc: Global, most: u16, tokens: &'a [Token]) -> Read<'a, Statement>
+    ensures { Gives (λ x. (x.0, x.1.now)) result (modify_by most tokens.now) }
+{
+    let (rel, rest) = name_at(alloc, tokens)?;
+    let rest = after(Fixed::To, rest)?;
+    let ((to, keys), rest) = structure_by(alloc, most, rest)?;
+    let keys = List::of(keys);
+    Ok((Statement::Modify { rel, to, keys }, rest))
+}
+
+/// `index`, behind its first word.
+#[tactic(auto, unfolding(quel_grammar::specs::StatementReaders::index_by))]
+pub fn index_by<'a>(alloc: Global, most: u16, tokens: &'a [Token]) -> Read<'a, Statement>
+    ensures { Gives (λ x. (x.0, x.1.now)) result (index_by most tokens.now) }
+{
+    let rest = after(Fixed::On, tokens)?;
+    let (base, rest) = name_at(alloc, rest)?;
+    let rest = after(Fixed::Is, rest)?;
+    let (name, rest) = name_at(alloc, rest)?;
+    let rest = after(Fixed::Open, rest)?;
+    let (keys, rest) = covered_names(alloc, most, rest)?;
+    let keys = List::of(keys);
+    Ok((Statement::Index { base, name, keys }, rest))
+}
+
+/// `print`, behind its first word.
+#[tactic(auto, unfolding(quel_grammar::specs::StatementReaders::print_by))]
+pub fn print_by<'a>(alloc: Global, most: u16, tokens: &'a [Token]) -> Read<'a, Statement>
+    ensures { Gives (λ x. (x.0, x.1.now)) result (print_by most tokens.now) }
+{
+    let (names, rest) = names_at(alloc, most, tokens)?;
+    let rels = List::of(names);
+    Ok((Statement::Print { rels }, rest))
+}
+
+/// `help`, behind its first word.
+#[tactic(auto, unfolding(quel_grammar::specs::StatementReaders::help_at))]
+pub fn help_at<'a>(alloc: Global, tokens: &'a [Token]) -> Read<'a, Statement>
+    ensures { Gives (λ x. (x.0, x.1.now)) result (help_at tokens.now) }
+{
+    match tokens {
+        [Token::Name(name), rest @ ..] => {
+            let rel = Some(name.copy(alloc)?);
+            Ok((Statement::Help { rel }, rest))
+        }
+        _ => Ok((Statement::Help { rel: None }, tokens)),
+    }
+}
+
+/// `from` or `into`, which must stand there, and whether it is `from`.
+fn way_at(tokens: &[Token]) -> Read<'_, bool>
+    ensures { Gives (λ x. (x.0, x.1.now)) result (expect (on_fixed way_of) tokens.now) }
+{
+    match tokens {
+        [Token::Fixed(Fixed::From), rest @ ..] => Ok((true, rest)),
+        [Token::Fixed(Fixed::Into), rest @ ..] => Ok((false, rest)),
+        _ => Err(Halt::Stop(tokens)),
+    }
+}
+
+/// A text constant, which must stand there.
+fn file_at<'a>(alloc: Global, tokens: &'a [Token]) -> Read<'a, Chars>
+    ensures { Gives (λ x. (x.0, x.1.now)) result (expect text_of tokens.now) }
+{
+    match tokens {
+        [Token::Text(text), rest @ ..] => Ok((text.copy(alloc)?, rest)),
+        _ => Err(Halt::Stop(tokens)),
+    }
+}
+
+/// `copy`, behind its first word.
+#[tactic(auto, unfolding(quel_grammar::specs::StatementReaders::copy_by))]
+pub fn copy_by<'a>(alloc: Global, most: u16, tokens: &'a [Token]) -> Read<'a, Statement>
+    ensures { Gives (λ x. (x.0, x.1.now)) result (copy_by most tokens.now) }
+{
+    let (rel, rest) = name_at(alloc, tokens)?;
+    let (columns, rest) = columns_by(alloc, most, rest)?;
+    let (from, rest) = way_at(rest)?;
+    let (file, rest) = file_at(alloc, rest)?;
+    let columns = List::of(columns);
+    Ok((
+        Statement::Copy {
+            rel,
+            columns,
+            from,
+            file,
+        },
+        rest,
+    ))
+}

@@ -1,0 +1,117 @@
+//! The keys by which a result is sorted.
+
+ghost use Rattle.std.specs.Prelude.{suc, ◌≡◌, []};
+ghost use Rattle.quel_grammar.specs.PartReaders.{list_by, directions, direction_at, key_at, keys_by, sort_by};
+ghost use Rattle.quel_grammar.specs.Reading.{expect, on_name, look_up};
+ghost use Rattle.quel_terms.specs.View.{Gives};
+
+use calculus::Name;
+use quel_grammar::{Fixed, Token};
+use quel_terms::{Halt, Read, after, found, look_up, name_at};
+use std::alloc::Global;
+
+/// The words of direction, and whether they say that it descends.
+const DIRECTIONS: [(&[u8], bool); 4] = [
+    (b"a", false),
+    (b"ascending", false),
+    (b"d", true),
+    (b"descending", true),
+];
+
+/// Whether the word of direction says that it descends.
+fn direction_of(word: &[u8]) -> Option<bool>
+    ensures { result ≡ look_up directions word.now }
+{
+    let table = DIRECTIONS.as_slice();
+    look_up(table, word)
+}
+
+/// A word of direction, which must stand there.
+fn direction(tokens: &[Token]) -> Read<'_, bool>
+    ensures { Gives (λ x. (x.0, x.1.now)) result (expect (on_name (look_up directions)) tokens.now) }
+{
+    let [Token::Name(word), rest @ ..] = tokens else {
+        return Err(Halt::Stop(tokens));
+    };
+    match direction_of(word.bytes()) {
+        Some(down) => Ok((down, rest)),
+        None => Err(Halt::Stop(tokens)),
+    }
+}
+
+/// A colon and a word of direction, or nothing.
+#[tactic(auto, unfolding(quel_grammar::specs::PartReaders::direction_at))]
+fn direction_at(tokens: &[Token]) -> Read<'_, bool>
+    ensures { Gives (λ x. (x.0, x.1.now)) result (direction_at tokens.now) }
+{
+    match found(Fixed::Colon, tokens) {
+        Some(rest) => direction(rest),
+        None => Ok((false, tokens)),
+    }
+}
+
+/// A sort key.
+#[tactic(auto, unfolding(quel_grammar::specs::PartReaders::key_at))]
+fn key_at<'a>(alloc: Global, tokens: &'a [Token]) -> Read<'a, (Name, bool)>
+    ensures { Gives (λ x. (x.0, x.1.now)) result (key_at tokens.now) }
+{
+    let (name, rest) = name_at(alloc, tokens)?;
+    let (down, rest) = direction_at(rest)?;
+    Ok(((name, down), rest))
+}
+
+/// Sort keys with commas between them, behind those that were read before; at most so many.
+#[cycle(keys)]
+pub fn keys_from<'a>(
+    alloc: Global,
+    most: u16,
+    before: Vec<(Name, bool)>,
+    tokens: &'a [Token],
+) -> Read<'a, Vec<(Name, bool)>>
+    ensures { Gives (λ x. (x.0.items, x.1.now)) result (list_by key_at most before.items tokens.now) }
+{
+    if most == 0 {
+        return Err(Halt::Stop(tokens));
+    }
+    next_keys(alloc, most - 1, before, tokens)
+}
+
+/// Sort keys with commas between them, of which the first one is read here.
+#[cycle(keys)]
+#[tactic(auto, unfolding(quel_grammar::specs::PartReaders::list_by))]
+fn next_keys<'a>(
+    alloc: Global,
+    most: u16,
+    before: Vec<(Name, bool)>,
+    tokens: &'a [Token],
+) -> Read<'a, Vec<(Name, bool)>>
+    ensures { Gives (λ x. (x.0.items, x.1.now)) result (list_by key_at (suc most) before.items tokens.now) }
+{
+    let mut items = before;
+    let (item, rest) = key_at(alloc, tokens)?;
+    items.push(item)?;
+    match found(Fixed::Comma, rest) {
+        Some(rest) => keys_from(alloc, most, items, rest),
+        None => Ok((items, rest)),
+    }
+}
+
+/// Sort keys, behind `sort`.
+#[tactic(auto, unfolding(quel_grammar::specs::PartReaders::keys_by))]
+fn keys_by<'a>(alloc: Global, most: u16, tokens: &'a [Token]) -> Read<'a, Vec<(Name, bool)>>
+    ensures { Gives (λ x. (x.0.items, x.1.now)) result (keys_by most tokens.now) }
+{
+    let rest = after(Fixed::By, tokens)?;
+    keys_from(alloc, most, Vec::new(alloc), rest)
+}
+
+/// `sort by` and keys, or nothing.
+#[tactic(auto, unfolding(quel_grammar::specs::PartReaders::sort_by))]
+pub fn sort_by<'a>(alloc: Global, most: u16, tokens: &'a [Token]) -> Read<'a, Vec<(Name, bool)>>
+    ensures { Gives (λ x. (x.0.items, x.1.now)) result (sort_by most tokens.now) }
+{
+    match found(Fixed::Sort, tokens) {
+        Some(rest) => keys_by(alloc, most, rest),
+        None => Ok((Vec::new(alloc), tokens)),
+    }
+}

@@ -1,0 +1,175 @@
+//! Target lists, qualifications behind `where`, and where a result is kept.
+
+ghost use Rattle.std.specs.Prelude.{suc, ◌≡◌, [], Ok};
+ghost use Rattle.quel_grammar.specs.PartReaders.{list_by, maybe, all_target, dot_target, set_target, target_by, in_parens, closed, targets_by, where_by, name_into, plain_into, into_at};
+ghost use Rattle.calculus.specs.declared.statement.Item.TheVariants as items;
+ghost use Rattle.quel_grammar.specs.Reading.{first, choose, done, name_of};
+ghost use Rattle.quel_grammar.specs.TermReaders.{level};
+ghost use Rattle.quel_terms.specs.View.{Gives};
+
+use calculus::{Item, Name, Qual};
+use quel_grammar::{Fixed, Token};
+use quel_terms::{Halt, Read, after, found, name_at, qual_by, term_by};
+use std::alloc::Global;
+
+/// The tokens behind a reserved word that may stand there.
+#[tactic(auto, unfolding(quel_grammar::specs::PartReaders::maybe))]
+pub fn maybe(fixed: Fixed, tokens: &[Token]) -> &[Token]
+    ensures { maybe fixed tokens.now ≡ Ok (tt, result.now) }
+{
+    match found(fixed, tokens) {
+        Some(rest) => rest,
+        None => tokens,
+    }
+}
+
+/// All attributes of a variable, behind the dot.
+#[tactic(auto, unfolding(quel_grammar::specs::PartReaders::all_target))]
+fn all_target(var: Name, tokens: &[Token]) -> Read<'_, Item>
+    ensures { Gives (λ x. (x.0, x.1.now)) result (all_target var tokens.now) }
+{
+    let rest = after(Fixed::All, tokens)?;
+    Ok((Item::All { var }, rest))
+}
+
+/// An attribute of a variable or all of them, behind the dot.
+fn named_target<'a>(alloc: Global, var: Name, tokens: &'a [Token]) -> Read<'a, Item>
+    ensures { Gives (λ x. (x.0, x.1.now)) result (choose (all_target var) (λ a. done (items.Attr var a)) tokens.now (first name_of tokens.now)) }
+{
+    match tokens {
+        [Token::Name(attr), rest @ ..] => {
+            let attr = attr.copy(alloc)?;
+            Ok((Item::Attr { var, attr }, rest))
+        }
+        _ => all_target(var, tokens),
+    }
+}
+
+/// An attribute of a variable or all of them, behind the variable.
+#[tactic(auto, unfolding(quel_grammar::specs::PartReaders::dot_target))]
+fn dot_target<'a>(alloc: Global, var: Name, tokens: &'a [Token]) -> Read<'a, Item>
+    ensures { Gives (λ x. (x.0, x.1.now)) result (dot_target var tokens.now) }
+{
+    let rest = after(Fixed::Dot, tokens)?;
+    named_target(alloc, var, rest)
+}
+
+/// The term of a title, behind the `=`.
+#[tactic(auto, unfolding(quel_grammar::specs::PartReaders::set_target))]
+fn set_target<'a>(alloc: Global, depth: u16, name: Name, tokens: &'a [Token]) -> Read<'a, Item>
+    ensures { Gives (λ x. (x.0, x.1.now)) result (set_target (level depth) name tokens.now) }
+{
+    let (term, rest) = term_by(alloc, depth, tokens)?;
+    Ok((Item::Set { name, term }, rest))
+}
+
+/// A target.
+#[tactic(auto, unfolding(quel_grammar::specs::PartReaders::target_by))]
+fn target_by<'a>(alloc: Global, depth: u16, tokens: &'a [Token]) -> Read<'a, Item>
+    ensures { Gives (λ x. (x.0, x.1.now)) result (target_by (level depth) tokens.now) }
+{
+    let (name, rest) = name_at(alloc, tokens)?;
+    match found(Fixed::Equal, rest) {
+        Some(rest) => set_target(alloc, depth, name, rest),
+        None => dot_target(alloc, name, rest),
+    }
+}
+
+/// Targets with commas between them, behind those that were read before; at most so many.
+#[cycle(targets)]
+pub fn targets_from<'a>(
+    alloc: Global,
+    depth: u16,
+    most: u16,
+    before: Vec<Item>,
+    tokens: &'a [Token],
+) -> Read<'a, Vec<Item>>
+    ensures { Gives (λ x. (x.0.items, x.1.now)) result (list_by (target_by (level depth)) most before.items tokens.now) }
+{
+    if most == 0 {
+        return Err(Halt::Stop(tokens));
+    }
+    next_targets(alloc, depth, most - 1, before, tokens)
+}
+
+/// Targets with commas between them, of which the first one is read here.
+#[cycle(targets)]
+#[tactic(auto, unfolding(quel_grammar::specs::PartReaders::list_by))]
+fn next_targets<'a>(
+    alloc: Global,
+    depth: u16,
+    most: u16,
+    before: Vec<Item>,
+    tokens: &'a [Token],
+) -> Read<'a, Vec<Item>>
+    ensures { Gives (λ x. (x.0.items, x.1.now)) result (list_by (target_by (level depth)) (suc most) before.items tokens.now) }
+{
+    let mut items = before;
+    let (item, rest) = target_by(alloc, depth, tokens)?;
+    items.push(item)?;
+    match found(Fixed::Comma, rest) {
+        Some(rest) => targets_from(alloc, depth, most, items, rest),
+        None => Ok((items, rest)),
+    }
+}
+
+/// Targets and the closing parenthesis.
+#[tactic(auto, unfolding(quel_grammar::specs::PartReaders::closed))]
+fn closed_targets<'a>(alloc: Global, depth: u16, tokens: &'a [Token]) -> Read<'a, Vec<Item>>
+    ensures { Gives (λ x. (x.0.items, x.1.now)) result (closed (list_by (target_by (level depth)) depth []) tokens.now) }
+{
+    let (items, rest) = targets_from(alloc, depth, depth, Vec::new(alloc), tokens)?;
+    let rest = after(Fixed::Close, rest)?;
+    Ok((items, rest))
+}
+
+/// Targets in parentheses.
+#[tactic(auto, unfolding(quel_grammar::specs::PartReaders::in_parens))]
+pub fn targets_by<'a>(alloc: Global, depth: u16, tokens: &'a [Token]) -> Read<'a, Vec<Item>>
+    ensures { Gives (λ x. (x.0.items, x.1.now)) result (targets_by depth (level depth) tokens.now) }
+{
+    let rest = after(Fixed::Open, tokens)?;
+    closed_targets(alloc, depth, rest)
+}
+
+/// `where` and a qualification, or nothing.
+#[tactic(auto, unfolding(quel_grammar::specs::PartReaders::where_by))]
+pub fn where_by<'a>(alloc: Global, depth: u16, tokens: &'a [Token]) -> Read<'a, Qual>
+    ensures { Gives (λ x. (x.0, x.1.now)) result (where_by (level depth) tokens.now) }
+{
+    match found(Fixed::Where, tokens) {
+        Some(rest) => qual_by(alloc, depth, rest),
+        None => Ok((Qual::True, tokens)),
+    }
+}
+
+/// The relation that keeps a result, behind `into`.
+#[tactic(auto, unfolding(quel_grammar::specs::PartReaders::name_into))]
+fn name_into<'a>(alloc: Global, tokens: &'a [Token]) -> Read<'a, Option<Name>>
+    ensures { Gives (λ x. (x.0, x.1.now)) result (name_into tokens.now) }
+{
+    let (name, rest) = name_at(alloc, tokens)?;
+    Ok((Some(name), rest))
+}
+
+/// The relation that keeps a result, without `into`; or nothing.
+#[tactic(auto, unfolding(quel_grammar::specs::PartReaders::plain_into))]
+fn plain_into<'a>(alloc: Global, tokens: &'a [Token]) -> Read<'a, Option<Name>>
+    ensures { Gives (λ x. (x.0, x.1.now)) result (plain_into tokens.now) }
+{
+    match tokens {
+        [Token::Name(name), rest @ ..] => Ok((Some(name.copy(alloc)?), rest)),
+        _ => Ok((None, tokens)),
+    }
+}
+
+/// The relation that keeps a result, or nothing.
+#[tactic(auto, unfolding(quel_grammar::specs::PartReaders::into_at))]
+pub fn into_at<'a>(alloc: Global, tokens: &'a [Token]) -> Read<'a, Option<Name>>
+    ensures { Gives (λ x. (x.0, x.1.now)) result (into_at tokens.now) }
+{
+    match found(Fixed::Into, tokens) {
+        Some(rest) => name_into(alloc, rest),
+        None => plain_into(alloc, tokens),
+    }
+}

@@ -1,0 +1,278 @@
+//! Qualifications: comparisons, negations, conjunctions and disjunctions. Each function reads what
+//! its name in the grammar's definitions reads, where at most `depth` functions that take a token may
+//! call each other.
+
+ghost use Rattle.std.specs.Prelude.{◌≡◌};
+ghost use Rattle.quel_grammar.specs.TermReaders.{level, demanded, right_side_by, compare_by, grouped_by, compared_by, mixed_group_by, negated_by, plain_by, operand_by, neg_by, next_and_by, ands_by, conj_by, next_or_by, ors_by, mixed_from, mixed_by, qual_by};
+ghost use Rattle.quel_terms.specs.Mixed.{mixed_of};
+ghost use Rattle.quel_terms.specs.View.{Gives};
+
+use crate::halt::{Halt, Read};
+use crate::signs::comparison_at;
+use crate::taking::{after, found};
+use crate::terms::{term_by, term_from};
+use calculus::{Boxed, CmpOp, Qual, Term};
+use quel_grammar::{Fixed, Token};
+use std::alloc::Global;
+
+/// A qualification, or a term where no comparison follows it.
+#[derive(Debug, Drop)]
+pub enum Mixed {
+    /// A term.
+    Bare(Term),
+    /// A qualification.
+    Whole(Qual),
+}
+
+/// A side of `and`.
+#[cycle(terms)]
+fn neg_at<'a>(alloc: Global, depth: u16, tokens: &'a [Token]) -> Read<'a, Qual>
+    ensures { Gives (λ x. (x.0, x.1.now)) result ((level depth).neg tokens.now) }
+{
+    if depth == 0 {
+        return Err(Halt::Stop(tokens));
+    }
+    neg_by(alloc, depth - 1, tokens)
+}
+
+/// The rest of a conjunction, whose left part is this.
+#[cycle(terms)]
+fn ands_at<'a>(alloc: Global, depth: u16, left: Qual, tokens: &'a [Token]) -> Read<'a, Qual>
+    ensures { Gives (λ x. (x.0, x.1.now)) result ((level depth).ands left tokens.now) }
+{
+    if depth == 0 {
+        return Err(Halt::Stop(tokens));
+    }
+    ands_by(alloc, depth - 1, left, tokens)
+}
+
+/// The rest of a disjunction, whose left part is this.
+#[cycle(terms)]
+fn ors_at<'a>(alloc: Global, depth: u16, left: Qual, tokens: &'a [Token]) -> Read<'a, Qual>
+    ensures { Gives (λ x. (x.0, x.1.now)) result ((level depth).ors left tokens.now) }
+{
+    if depth == 0 {
+        return Err(Halt::Stop(tokens));
+    }
+    ors_by(alloc, depth - 1, left, tokens)
+}
+
+/// A qualification, or a bare term.
+#[cycle(terms)]
+pub fn mixed_at<'a>(alloc: Global, depth: u16, tokens: &'a [Token]) -> Read<'a, Mixed>
+    ensures { Gives (λ x. (mixed_of x.0, x.1.now)) result ((level depth).mixed tokens.now) }
+{
+    if depth == 0 {
+        return Err(Halt::Stop(tokens));
+    }
+    mixed_by(alloc, depth - 1, tokens)
+}
+
+/// The qualification that was read, where it is one.
+pub fn demanded(mixed: Mixed, tokens: &[Token]) -> Read<'_, Qual>
+    ensures { Gives (λ x. (x.0, x.1.now)) result (demanded (mixed_of mixed) tokens.now) }
+{
+    match mixed {
+        Mixed::Whole(qual) => Ok((qual, tokens)),
+        Mixed::Bare(_) => Err(Halt::Stop(tokens)),
+    }
+}
+
+/// The right side of a comparison.
+#[cycle(terms)]
+#[tactic(auto, unfolding(quel_grammar::specs::TermReaders::right_side_by))]
+fn right_side_by<'a>(
+    alloc: Global,
+    depth: u16,
+    left: Term,
+    op: CmpOp,
+    tokens: &'a [Token],
+) -> Read<'a, Mixed>
+    ensures { Gives (λ x. (mixed_of x.0, x.1.now)) result (right_side_by (level depth) left op tokens.now) }
+{
+    let (right, rest) = term_by(alloc, depth, tokens)?;
+    Ok((Mixed::Whole(Qual::Cmp { op, left, right }), rest))
+}
+
+/// A comparison whose left side is this term, or the bare term.
+#[cycle(terms)]
+#[tactic(auto, unfolding(quel_grammar::specs::TermReaders::compare_by))]
+fn compare_by<'a>(alloc: Global, depth: u16, left: Term, tokens: &'a [Token]) -> Read<'a, Mixed>
+    ensures { Gives (λ x. (mixed_of x.0, x.1.now)) result (compare_by (level depth) left tokens.now) }
+{
+    match comparison_at(tokens) {
+        Some((op, rest)) => right_side_by(alloc, depth, left, op, rest),
+        None => Ok((Mixed::Bare(left), tokens)),
+    }
+}
+
+/// The rest of a qualification or a term that begins with this in parentheses.
+#[cycle(terms)]
+#[tactic(auto, unfolding(quel_grammar::specs::TermReaders::grouped_by))]
+fn grouped_by<'a>(alloc: Global, depth: u16, group: Mixed, tokens: &'a [Token]) -> Read<'a, Mixed>
+    ensures { Gives (λ x. (mixed_of x.0, x.1.now)) result (grouped_by (level depth) (mixed_of group) tokens.now) }
+{
+    match group {
+        Mixed::Whole(qual) => Ok((Mixed::Whole(qual), tokens)),
+        Mixed::Bare(first) => {
+            let (left, rest) = term_from(alloc, depth, first, tokens)?;
+            compare_by(alloc, depth, left, rest)
+        }
+    }
+}
+
+/// A comparison, or a bare term, that begins with no parenthesis.
+#[cycle(terms)]
+#[tactic(auto, unfolding(quel_grammar::specs::TermReaders::compared_by))]
+fn compared_by<'a>(alloc: Global, depth: u16, tokens: &'a [Token]) -> Read<'a, Mixed>
+    ensures { Gives (λ x. (mixed_of x.0, x.1.now)) result (compared_by (level depth) tokens.now) }
+{
+    let (left, rest) = term_by(alloc, depth, tokens)?;
+    compare_by(alloc, depth, left, rest)
+}
+
+/// A qualification or a term, behind its first parenthesis.
+#[cycle(terms)]
+#[tactic(auto, unfolding(quel_grammar::specs::TermReaders::mixed_group_by))]
+fn mixed_group_by<'a>(alloc: Global, depth: u16, tokens: &'a [Token]) -> Read<'a, Mixed>
+    ensures { Gives (λ x. (mixed_of x.0, x.1.now)) result (mixed_group_by (level depth) tokens.now) }
+{
+    let (group, rest) = mixed_at(alloc, depth, tokens)?;
+    let rest = after(Fixed::Close, rest)?;
+    grouped_by(alloc, depth, group, rest)
+}
+
+/// A negation, behind `not`.
+#[cycle(terms)]
+#[tactic(auto, unfolding(quel_grammar::specs::TermReaders::negated_by))]
+fn negated_by<'a>(alloc: Global, depth: u16, tokens: &'a [Token]) -> Read<'a, Mixed>
+    ensures { Gives (λ x. (mixed_of x.0, x.1.now)) result (negated_by (level depth) tokens.now) }
+{
+    let (qual, rest) = neg_at(alloc, depth, tokens)?;
+    Ok((Mixed::Whole(Qual::Not(Boxed::new(alloc, qual)?)), rest))
+}
+
+/// What begins with no `not`.
+#[cycle(terms)]
+#[tactic(auto, unfolding(quel_grammar::specs::TermReaders::plain_by))]
+fn plain_by<'a>(alloc: Global, depth: u16, tokens: &'a [Token]) -> Read<'a, Mixed>
+    ensures { Gives (λ x. (mixed_of x.0, x.1.now)) result (plain_by (level depth) tokens.now) }
+{
+    match found(Fixed::Open, tokens) {
+        Some(rest) => mixed_group_by(alloc, depth, rest),
+        None => compared_by(alloc, depth, tokens),
+    }
+}
+
+/// A side of `and`, or a bare term.
+#[cycle(terms)]
+#[tactic(auto, unfolding(quel_grammar::specs::TermReaders::operand_by))]
+fn operand_by<'a>(alloc: Global, depth: u16, tokens: &'a [Token]) -> Read<'a, Mixed>
+    ensures { Gives (λ x. (mixed_of x.0, x.1.now)) result (operand_by (level depth) tokens.now) }
+{
+    match found(Fixed::Not, tokens) {
+        Some(rest) => negated_by(alloc, depth, rest),
+        None => plain_by(alloc, depth, tokens),
+    }
+}
+
+/// A side of `and`.
+#[cycle(terms)]
+#[tactic(auto, unfolding(quel_grammar::specs::TermReaders::neg_by))]
+fn neg_by<'a>(alloc: Global, depth: u16, tokens: &'a [Token]) -> Read<'a, Qual>
+    ensures { Gives (λ x. (x.0, x.1.now)) result (neg_by (level depth) tokens.now) }
+{
+    let (mixed, rest) = operand_by(alloc, depth, tokens)?;
+    demanded(mixed, rest)
+}
+
+/// The rest of a conjunction, behind `and`.
+#[cycle(terms)]
+#[tactic(auto, unfolding(quel_grammar::specs::TermReaders::next_and_by))]
+fn next_and_by<'a>(alloc: Global, depth: u16, left: Qual, tokens: &'a [Token]) -> Read<'a, Qual>
+    ensures { Gives (λ x. (x.0, x.1.now)) result (next_and_by (level depth) left tokens.now) }
+{
+    let (right, rest) = neg_by(alloc, depth, tokens)?;
+    let left = Qual::And(Boxed::new(alloc, left)?, Boxed::new(alloc, right)?);
+    ands_at(alloc, depth, left, rest)
+}
+
+/// The rest of a conjunction, whose left part is this.
+#[cycle(terms)]
+#[tactic(auto, unfolding(quel_grammar::specs::TermReaders::ands_by))]
+fn ands_by<'a>(alloc: Global, depth: u16, left: Qual, tokens: &'a [Token]) -> Read<'a, Qual>
+    ensures { Gives (λ x. (x.0, x.1.now)) result (ands_by (level depth) left tokens.now) }
+{
+    match found(Fixed::And, tokens) {
+        Some(rest) => next_and_by(alloc, depth, left, rest),
+        None => Ok((left, tokens)),
+    }
+}
+
+/// A side of `or`.
+#[cycle(terms)]
+#[tactic(auto, unfolding(quel_grammar::specs::TermReaders::conj_by))]
+fn conj_by<'a>(alloc: Global, depth: u16, tokens: &'a [Token]) -> Read<'a, Qual>
+    ensures { Gives (λ x. (x.0, x.1.now)) result (conj_by (level depth) tokens.now) }
+{
+    let (left, rest) = neg_by(alloc, depth, tokens)?;
+    ands_by(alloc, depth, left, rest)
+}
+
+/// The rest of a disjunction, behind `or`.
+#[cycle(terms)]
+#[tactic(auto, unfolding(quel_grammar::specs::TermReaders::next_or_by))]
+fn next_or_by<'a>(alloc: Global, depth: u16, left: Qual, tokens: &'a [Token]) -> Read<'a, Qual>
+    ensures { Gives (λ x. (x.0, x.1.now)) result (next_or_by (level depth) left tokens.now) }
+{
+    let (right, rest) = conj_by(alloc, depth, tokens)?;
+    let left = Qual::Or(Boxed::new(alloc, left)?, Boxed::new(alloc, right)?);
+    ors_at(alloc, depth, left, rest)
+}
+
+/// The rest of a disjunction, whose left part is this.
+#[cycle(terms)]
+#[tactic(auto, unfolding(quel_grammar::specs::TermReaders::ors_by))]
+fn ors_by<'a>(alloc: Global, depth: u16, left: Qual, tokens: &'a [Token]) -> Read<'a, Qual>
+    ensures { Gives (λ x. (x.0, x.1.now)) result (ors_by (level depth) left tokens.now) }
+{
+    match found(Fixed::Or, tokens) {
+        Some(rest) => next_or_by(alloc, depth, left, rest),
+        None => Ok((left, tokens)),
+    }
+}
+
+/// The rest of a qualification that begins with this; a bare term has none.
+#[cycle(terms)]
+#[tactic(auto, unfolding(quel_grammar::specs::TermReaders::mixed_from))]
+fn mixed_from<'a>(alloc: Global, depth: u16, first: Mixed, tokens: &'a [Token]) -> Read<'a, Mixed>
+    ensures { Gives (λ x. (mixed_of x.0, x.1.now)) result (mixed_from (level depth) (mixed_of first) tokens.now) }
+{
+    match first {
+        Mixed::Bare(term) => Ok((Mixed::Bare(term), tokens)),
+        Mixed::Whole(left) => {
+            let (left, rest) = ands_by(alloc, depth, left, tokens)?;
+            let (qual, rest) = ors_by(alloc, depth, left, rest)?;
+            Ok((Mixed::Whole(qual), rest))
+        }
+    }
+}
+
+/// A qualification, or a bare term.
+#[cycle(terms)]
+#[tactic(auto, unfolding(quel_grammar::specs::TermReaders::mixed_by))]
+fn mixed_by<'a>(alloc: Global, depth: u16, tokens: &'a [Token]) -> Read<'a, Mixed>
+    ensures { Gives (λ x. (mixed_of x.0, x.1.now)) result (mixed_by (level depth) tokens.now) }
+{
+    let (first, rest) = operand_by(alloc, depth, tokens)?;
+    mixed_from(alloc, depth, first, rest)
+}
+
+/// A qualification.
+#[tactic(auto, unfolding(quel_grammar::specs::TermReaders::qual_by))]
+pub fn qual_by<'a>(alloc: Global, depth: u16, tokens: &'a [Token]) -> Read<'a, Qual>
+    ensures { Gives (λ x. (x.0, x.1.now)) result (qual_by (level depth) tokens.now) }
+{
+    let (mixed, rest) = mixed_by(alloc, depth, tokens)?;
+    demanded(mixed, rest)
+}
