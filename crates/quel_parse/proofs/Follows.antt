@@ -1,13 +1,11 @@
 -- What follows the next token behind a statement changes nothing.
-use Rattle.std.proofs.Common.{◌≡◌, inl, inr, ℕ, zero, suc, ◌≤◌, ◌<◌, List, [], ◌∷◌, ◌++◌, map, length, take, Option, Some, None, refl, sym, ap, ◌∙◌, arith}
+use Rattle.std.proofs.Common.{◌≡◌, inl, inr, ℕ, zero, suc, ◌≤◌, List, [], ◌∷◌, ◌++◌, map, length, take, refl, sym, ap, ◌∙◌, arith}
 use Rattle.std.specs.Prelude.{slice_get}
 use Rattle.std.proofs.lemmas.List.{length-map, map-append}
-use Rattle.calculus.specs.declared.statement.Statement.{Statement}
 use Rattle.quel_grammar.specs.declared.token.Token.{Token}
-use Rattle.quel_grammar.specs.Begins.{Begins, Longest}
-use Rattle.quel_grammar.specs.Bounds.{first_past}
-use Rattle.quel_grammar.specs.Pieces.{Placed, Pieces, pieces_from, tokens_of, end_behind, bad_or, begin_or, end_of, place_behind}
-use Rattle.quel_grammar.specs.Next.{Next, IsBlank, IsRead, IsRefused, IsStopped, IsNextOf}
+use Rattle.quel_grammar.specs.Begins.{Longest}
+use Rattle.quel_grammar.specs.Pieces.{Placed, Pieces, pieces_from, tokens_of, begin_or, end_of, place_behind}
+use Rattle.quel_grammar.specs.Next.{Next, IsBlank, IsStopped, IsNextOf}
 use Rattle.quel_grammar.specs.Next.Next.{Nothing, Read, Syntax}
 use Rattle.quel_grammar.specs.NextReader.{next_at}
 use Rattle.quel_grammar.proofs.Answered.{reads}

@@ -1,5 +1,5 @@
 -- What the first tokens of a text tell of it.
-use Rattle.std.proofs.Common.{cond, slice_index_or, ◌≡◌, inl, inr, ℕ, zero, suc, ◌+◌, ◌-◌, ◌<◌, ◌≤◌, Bool, true, false, List, [], ◌∷◌, ◌++◌, map, length, length-append, take, take_all, Option, Some, None, Ok, Err, refl, sym, ap, subst, ◌∙◌, append_assoc, append-nil, arith}
+use Rattle.std.proofs.Common.{cond, slice_index_or, ◌≡◌, inl, inr, ℕ, zero, suc, ◌+◌, ◌-◌, ◌<◌, ◌≤◌, Bool, true, false, List, [], ◌∷◌, ◌++◌, map, length, length-append, take, take_all, Option, Some, None, Ok, Err, refl, sym, ap, ◌∙◌, append_assoc, append-nil, arith}
 use Rattle.std.specs.Prelude.{IfSome, ◌==◌, slice_get, is_some, nat_lt, nat_le, option_map, ◌||◌, not}
 use Rattle.std.proofs.lemmas.Bool.Decides.{nat_tests}
 use Rattle.std.proofs.lemmas.List.{length-map, map-append, nil_from_length, length-take}
@@ -7,12 +7,11 @@ use Rattle.calculus.specs.declared.statement.Statement.{Statement}
 use Rattle.quel_grammar.specs.declared.token.Token.{Token}
 use Rattle.quel_grammar.specs.declared.token.Token.TheVariants as tokens
 use Rattle.quel_grammar.specs.declared.token.Fixed.TheVariants as fixed
-use Rattle.quel_grammar.specs.Statements.{IsStatement}
-use Rattle.quel_grammar.specs.Begins.{Begins, IsLast, Longest}
+use Rattle.quel_grammar.specs.Begins.{Longest}
 use Rattle.quel_grammar.specs.Bounds.{Before, is_past, with_token, has_keys, past_behind, first_past}
 use Rattle.quel_grammar.specs.Pieces.{Placed, Pieces, pieces_from, tokens_of, end_behind, bad_or, begin_or, end_of, place_behind}
-use Rattle.quel_grammar.specs.Next.{IsBlank, IsRead, IsRefused, IsStopped, IsNextOf}
-use Rattle.quel_grammar.specs.Next.Next.{Nothing, Read, Syntax}
+use Rattle.quel_grammar.specs.Next.{IsBlank, IsRefused, IsNextOf}
+use Rattle.quel_grammar.specs.Next.Next.{Nothing}
 use Rattle.quel_grammar.specs.NextReader.{taken, next_at}
 use Rattle.quel_grammar.specs.Reading.{Read as ReadOf}
 use Rattle.quel_grammar.specs.StatementReaders.{statement_by}

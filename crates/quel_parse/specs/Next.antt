@@ -1,5 +1,5 @@
 -- What the reader of statements answers, and how it tells.
-use Rattle.std.specs.Prelude.{◌≡◌, ℕ, suc, ◌<◌, nat_lt, Bool, true, false, ◌||◌, ◌==◌, is_some, not, slice_get, List, [], ◌∷◌, length, take, Option, Some, None, Result, Ok, Err}
+use Rattle.std.specs.Prelude.{◌≡◌, ℕ, suc, nat_lt, Bool, true, false, ◌||◌, ◌==◌, is_some, not, slice_get, List, [], ◌∷◌, length, take, Option, Some, None, Result, Ok, Err}
 use Rattle.calculus.specs.declared.statement.Statement.{Statement}
 use Rattle.quel_grammar.specs.declared.token.Token.{Token}
 use Rattle.quel_grammar.specs.Next.{Next as Reads, line_at}

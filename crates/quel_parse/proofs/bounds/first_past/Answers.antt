@@ -1,6 +1,6 @@
-use Rattle.std.proofs.Common.{◌≡◌, ◌∙◌, ◌+◌, ◌≤◌, rules, refl, sym, ap, arith, [], drop}
+use Rattle.std.proofs.Common.{◌≡◌, ◌∙◌, rules, refl, sym, arith, [], drop}
 use Rattle.std.proofs.lemmas.List.{drop_all}
-use Rattle.quel_grammar.specs.Bounds.{past_behind, first_past}
+use Rattle.quel_grammar.specs.Bounds.{first_past}
 use Rattle.quel_parse.proofs.Passing.{left, stops, goes_on, ends}
 use Rattle.quel_parse.proofs.bounds.first_past.Goals as goal
 

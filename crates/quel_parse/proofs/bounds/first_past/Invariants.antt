@@ -1,4 +1,4 @@
-use Rattle.std.proofs.Common.{◌≡◌, ◌+◌, ◌≤◌, drop}
+use Rattle.std.proofs.Common.{◌≡◌, ◌≤◌, drop}
 use Rattle.quel_grammar.specs.Bounds.{past_behind, first_past}
 use Rattle.quel_parse.proofs.bounds.first_past.Given as goal
 

@@ -1,4 +1,4 @@
-use Rattle.std.proofs.Common.{◌≡◌, ◌∙◌, rules, false, take, length, sym, ap}
+use Rattle.std.proofs.Common.{◌≡◌, ◌∙◌, take, sym, ap}
 use Rattle.quel_grammar.specs.Bounds.{first_past}
 use Rattle.quel_parse.specs.Next.{IsFrontRead}
 use Rattle.quel_parse.proofs.Told.{told_blank, told_text, told_all, taken_within, sure_whole}
