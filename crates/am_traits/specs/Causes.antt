@@ -1,0 +1,22 @@
+-- When a call of a database may answer a fault.
+use Rattle.std.specs.Prelude.{◌≡◌, ℕ, ◌≤◌, Option, None, Result, Ok, Err}
+use Rattle.calculus.specs.Database.{Db}
+use Rattle.fault_io.specs.Causes.{Rose}
+use Rattle.am_traits.specs.declared.fault.BaseFault.{BaseFault}
+use Rattle.am_traits.specs.declared.fault.BaseFault.TheVariants as faults
+
+-- this fault may come of a database that is told, or isn't: of the disk where its count rose, of damage where no database is told, and want of memory
+abbrev pub MayCome : Option Db → ℕ → ℕ → BaseFault → Type 0
+MayCome told before now faults.Disk = Rose before now
+MayCome told before now (faults.Damaged file page) = told ≡ None
+MayCome told before now faults.OutOfMemory = Unit {0}
+
+-- an answer, or a fault that may come
+abbrev pub IsCaused : {T : Type 0} → Option Db → ℕ → ℕ → Result T BaseFault → Type 0
+IsCaused told before now (Ok x) = Unit {0}
+IsCaused told before now (Err fault) = MayCome told before now fault
+
+-- the count of faults never falls, and a fault comes only where it may
+pub record HasCause {T : Type 0} (told : Option Db) (before now : ℕ) (result : Result T BaseFault) : Type 0 where
+  pub later : before ≤ now
+  pub caused : IsCaused told before now result

@@ -1,0 +1,137 @@
+ghost use Rattle.std.specs.Prelude.{◌≡◌, ℕ, Bool, List, Option, Some, IfOk, OnOk, length, is_some, map};
+ghost use Rattle.calculus.specs.Change.{IsLawful, laid};
+ghost use Rattle.calculus.specs.Database.{Db, rules_on, permits_on, entries};
+ghost use Rattle.calculus.specs.Finding.{found};
+ghost use Rattle.calculus.specs.IsDatabase.{IsDatabase};
+ghost use Rattle.calculus.specs.Rows.{Row as Values, has};
+ghost use Rattle.calculus.specs.Stored.{rows_at};
+ghost use Rattle.calculus.specs.declared.probe.Place.{Place as At};
+ghost use Rattle.calculus.specs.declared.query.RelKey.{RelKey as Key};
+ghost use Rattle.am_traits.specs.Causes.{HasCause};
+ghost use Rattle.am_traits.specs.Scans.{Gives, IsScan, first_place};
+ghost use Rattle.am_traits.specs.Told.{known_at, query_at, is_named_by_view};
+
+use crate::BaseFault;
+use calculus::{DbChange, Name, Permit, Place, Probe, Query, RelInfo, RelKey, Row, Rule};
+use std::alloc::Global;
+
+/// A database that can be asked and changed.
+///
+/// What it is may be told or not: one in memory tells it; one over pages of a disk tells it where
+/// its pages stand for a database. Where it isn't told, the clauses on what it is say nothing.
+pub trait Base {
+    /// The database, where it is told.
+    ghost database: { Self → Option Db };
+
+    /// How often a call to the disk below has failed. The count stands still at 2^64 - 1.
+    ghost faults: { Self → ℕ };
+
+    /// The rows that a scan of what stands under a key still gives from a place on, in its order.
+    ghost left: { Self → Key → At → List Values };
+
+    /// What is told is a database.
+    ghost lawful: { (b : Self) (db : Db) → database b ≡ Some db → IsDatabase db };
+
+    /// From the first place on a scan gives each row once.
+    ghost scanned: { (b : Self) (db : Db) (key : Key) → database b ≡ Some db
+        → IsScan (rows_at db key) (left b key first_place) };
+
+    /// The name of the administrator.
+    fn dba(&mut self, alloc: Global) -> Result<Name, BaseFault>
+        ensures told { (db : Db) → database self.old ≡ Some db → IfOk result (λ name. name ≡ db.dba) }
+        ensures kept { database self.new ≡ database self.old }
+        ensures cause { HasCause (database self.old) (faults self.old) (faults self.new) result };
+
+    /// The number of relations, views and indexes, without the catalogues.
+    fn count(&mut self) -> Result<u32, BaseFault>
+        ensures told { (db : Db) → database self.old ≡ Some db → IfOk result (λ n. n ≡ length (entries db)) }
+        ensures kept { database self.new ≡ database self.old }
+        ensures cause { HasCause (database self.old) (faults self.old) (faults self.new) result };
+
+    /// What the user means by a name: the user's own relation or view, else the administrator's or
+    /// the catalogue.
+    fn find(
+        &mut self,
+        alloc: Global,
+        name: &Name,
+        user: &Name,
+    ) -> Result<Option<RelInfo>, BaseFault>
+        ensures told { (db : Db) → database self.old ≡ Some db → IfOk result (λ info. info ≡ found db user.now name.now) }
+        ensures kept { database self.new ≡ database self.old }
+        ensures cause { HasCause (database self.old) (faults self.old) (faults self.new) result };
+
+    /// What stands under a key: a relation, a view, an index or a catalogue.
+    fn info(&mut self, alloc: Global, key: &RelKey) -> Result<Option<RelInfo>, BaseFault>
+        ensures told { (db : Db) → database self.old ≡ Some db → IfOk result (λ info. info ≡ known_at db key.now) }
+        ensures kept { database self.new ≡ database self.old }
+        ensures cause { HasCause (database self.old) (faults self.old) (faults self.new) result };
+
+    /// How many rows the relation or catalogue under a key has. Our own: so a change of one row
+    /// needn't go over all.
+    fn size(&mut self, alloc: Global, key: &RelKey) -> Result<u32, BaseFault>
+        ensures told { (db : Db) → database self.old ≡ Some db → IfOk result (λ n. n ≡ length (rows_at db key.now)) }
+        ensures kept { database self.new ≡ database self.old }
+        ensures cause { HasCause (database self.old) (faults self.old) (faults self.new) result };
+
+    /// Whether the relation or catalogue under a key has the row. Our own, as `size`.
+    fn has_row(&mut self, alloc: Global, key: &RelKey, row: &Row) -> Result<bool, BaseFault>
+        ensures told { (db : Db) → database self.old ≡ Some db → IfOk result (λ b. b ≡ has (rows_at db key.now) row.now) }
+        ensures kept { database self.new ≡ database self.old }
+        ensures cause { HasCause (database self.old) (faults self.old) (faults self.new) result };
+
+    /// The next row of the relation or catalogue under a key that meets the probe, from a place on,
+    /// which moves behind it; `None` where no more meets it. From the first place on, while nothing
+    /// is changed, the calls give each row that meets the probe once.
+    fn scan(
+        &mut self,
+        alloc: Global,
+        key: &RelKey,
+        probe: &Probe,
+        at: &mut Place,
+    ) -> Result<Option<Row>, BaseFault>
+        ensures told { (db : Db) → database self.old ≡ Some db
+            → Gives probe.now (left self.old key.now) at.old at.new result }
+        ensures same { left self.new ≡ left self.old }
+        ensures kept { database self.new ≡ database self.old }
+        ensures cause { HasCause (database self.old) (faults self.old) (faults self.new) result };
+
+    /// The query of a view; `None` exactly where no view stands under the key.
+    fn view(&mut self, alloc: Global, key: &RelKey) -> Result<Option<Query>, BaseFault>
+        ensures told { (db : Db) → database self.old ≡ Some db → IfOk result (λ q. q ≡ query_at db key.now) }
+        ensures kept { database self.new ≡ database self.old }
+        ensures cause { HasCause (database self.old) (faults self.old) (faults self.new) result };
+
+    /// The rules of a relation, by number.
+    fn rules(&mut self, alloc: Global, key: &RelKey) -> Result<Vec<Rule>, BaseFault>
+        ensures told { (db : Db) → database self.old ≡ Some db → IfOk result (λ rs. rs.items ≡ rules_on db key.now) }
+        ensures kept { database self.new ≡ database self.old }
+        ensures cause { HasCause (database self.old) (faults self.old) (faults self.new) result };
+
+    /// The permits of a relation, by number.
+    fn permits(&mut self, alloc: Global, key: &RelKey) -> Result<Vec<Permit>, BaseFault>
+        ensures told { (db : Db) → database self.old ≡ Some db → IfOk result (λ ps. ps.items ≡ permits_on db key.now) }
+        ensures kept { database self.new ≡ database self.old }
+        ensures cause { HasCause (database self.old) (faults self.old) (faults self.new) result };
+
+    /// Whether some view names the relation under a key, where these views don't count.
+    fn named_by_view(
+        &mut self,
+        alloc: Global,
+        key: &RelKey,
+        but: &[RelKey],
+    ) -> Result<bool, BaseFault>
+        ensures told { (db : Db) → database self.old ≡ Some db → IfOk result (λ b. b ≡ is_named_by_view db but.now key.now) }
+        ensures kept { database self.new ≡ database self.old }
+        ensures cause { HasCause (database self.old) (faults self.old) (faults self.new) result };
+
+    /// Lays a change that is lawful. After an error in memory nothing is changed.
+    fn apply(&mut self, alloc: Global, change: &DbChange) -> Result<(), BaseFault>
+        requires { (db : Db) → database self.old ≡ Some db → IsLawful db change.now }
+        ensures told { (db : Db) → database self.old ≡ Some db → OnOk result (database self.new ≡ Some (laid db change.now)) }
+        ensures cause { HasCause (database self.old) (faults self.old) (faults self.new) result };
+
+    /// Forgets all that was kept of the disk. Takes no memory.
+    fn hand_over(&mut self)
+        ensures kept { database self.new ≡ database self.old }
+        ensures faults { faults self.new ≡ faults self.old };
+}
