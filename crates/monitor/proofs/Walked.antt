@@ -1,8 +1,8 @@
 -- A line is walked from its left: the bytes before its first command, the command's word, and what is behind it.
-use Rattle.std.proofs.Common.{◌≡◌, refl, sym, ap, ◌∙◌, ℕ, ◌<◌, ◌≤◌, zero, suc, Bool, true, false, List, [], ◌∷◌, ◌++◌, length, take, drop, arith, get_or, subst, append-nil, append_assoc, length-drop, drop-cons}
+use Rattle.std.proofs.Common.{◌≡◌, refl, sym, ap, ◌∙◌, ℕ, ◌<◌, zero, suc, Bool, true, false, List, [], ◌∷◌, ◌++◌, length, take, drop, arith, get_or, subst, append-nil, append_assoc, length-drop, drop-cons}
 use Rattle.std.specs.Prelude.{◌&&◌, not, cond, ◌+◌}
 use Rattle.std.specs.List.{list_all, prefix_len}
-use Rattle.quel_meaning.specs.Monitor.{Command, Part, Piece, Order, Quoting, Plain, quoting_after, begins_command, has_no_command, quoting_behind, is_letter, before_parts, order_before, names_file, word_length, parts_from, parts_of, command_of}
+use Rattle.quel_meaning.specs.Monitor.{Command, Part, Order, Quoting, Plain, quoting_after, begins_command, has_no_command, quoting_behind, is_letter, before_parts, order_before, names_file, word_length, parts_from, parts_of, command_of}
 use Rattle.quel_meaning.proofs.Cutting.{first_command, only_text}
 
 not_and : (b : Bool) (t : Bool) → b ≡ false → t ≡ true → (not b && t) ≡ true

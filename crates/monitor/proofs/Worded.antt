@@ -1,5 +1,5 @@
 -- The command of a word is what the table says beside it.
-use Rattle.std.proofs.Common.{◌≡◌, refl, sym, ap, ◌∙◌, ℕ, List, Bor, Option, Some, None, map}
+use Rattle.std.proofs.Common.{◌≡◌, refl, ap, ◌∙◌, ℕ, List, Bor, Option, Some, None, map}
 use Rattle.std.specs.Prelude.{option_map, unwrap_or}
 use Rattle.std.specs.List.{find}
 use Rattle.std.specs.Str.{bytes_eq}
@@ -23,6 +23,6 @@ pub command_is : (word file : List ℕ) (found : Option Word) (table : List (Bor
 command_is word file found table e same =
     let is_word = λ (c : List ℕ × Command). bytes_eq c.0 word in
     ap (λ o. unwrap_or o Unknown) (
-      ap (option_map (given file)) e ∙ mapped (given file) (λ e. e.1) (find (λ e. bytes_eq e.0.now word) table)
-      ∙ seen (λ c. c.1) is_word (entry file) table
-      ∙ ap (λ t. option_map (λ c. c.1) (find is_word t)) same)
+    ap (option_map (given file)) e ∙ mapped (given file) (λ e. e.1) (find (λ e. bytes_eq e.0.now word) table)
+    ∙ seen (λ c. c.1) is_word (entry file) table
+    ∙ ap (λ t. option_map (λ c. c.1) (find is_word t)) same)

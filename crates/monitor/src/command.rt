@@ -32,7 +32,7 @@ pub enum Command {
 
 /// What a word of the table says.
 #[derive(Clone, Copy, Debug, PartialEq, Eq)]
-pub enum Word {
+enum Word {
     /// A buffer is sent.
     Go,
     /// A buffer is printed.

@@ -12,8 +12,11 @@ mod tables;
 mod texts;
 
 pub use buffer::Buffer;
-pub use command::{Command, command_of, names_file};
+pub use command::Command;
 pub use line::{Part, parts_of};
 pub use refusals::refusal_bytes;
 pub use replies::{done_bytes, push_reply, reply_bytes};
 pub use tables::{head_bytes, push_head, push_row_line, push_rule, row_line, rule_bytes};
+
+#[cfg(test)]
+mod tests;

@@ -20,7 +20,7 @@ pub enum Part {
 
 /// What the bytes of a line up to a place leave open.
 #[derive(Clone, Copy, Debug, PartialEq, Eq)]
-pub enum Quoting {
+enum Quoting {
     /// Nothing.
     Plain,
     /// A text constant.

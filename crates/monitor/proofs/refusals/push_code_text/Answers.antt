@@ -1,4 +1,4 @@
-use Rattle.std.proofs.Common.{◌≡◌, ◌∙◌, List, [], ℕ, Bor, ap, map}
+use Rattle.std.proofs.Common.{◌∙◌, List, [], ℕ, Bor, ap, map}
 use Rattle.std.specs.Prelude.{option_map, unwrap_or, ◌==◌}
 use Rattle.std.specs.List.{find}
 use Rattle.monitor.proofs.Found.{seen, added}
