@@ -1,0 +1,4 @@
+pub mod Found
+pub mod Stripped
+pub mod Worded
+pub mod Walked
