@@ -101,6 +101,8 @@ shares_first (x ∷ y ∷ rest) (suc place) h found d e =
     (behind_alone x y rest (alone x y rest h (found.2 0 (omega arith) x)) (slice_index_or (y ∷ rest) place d).0 (slice_index_or (y ∷ rest) place d).1
     (slice_index_or (y ∷ rest) (place + 1) e).1
     (All-from_recursion (λ b. row_cmp x.0 b.0 ≡ Less) (y ∷ rest) (alone x y rest h (found.2 0 (omega arith) x)) place d (omega (arith, found.0)))
-    (shares_first (y ∷ rest) place (sorted_tail both_cmp x (y ∷ rest) h)
-    (omega (arith, found.0), shares_behind x (y ∷ rest) place true found.1,
-    λ before within. shares_behind x (y ∷ rest) before false (found.2 (suc before) (omega (arith, within)))) d e))
+    (shares_first (y ∷ rest) place (sorted_tail both_cmp x (y ∷ rest) h) (
+      omega (arith, found.0),
+      shares_behind x (y ∷ rest) place true found.1,
+      λ before within. shares_behind x (y ∷ rest) before false (found.2 (suc before) (omega (arith, within))),
+    ) d e))

@@ -35,12 +35,7 @@ fn new_rows(alloc: Global, pairs: &[Pair]) -> Result<RowSet, OutOfMemory>
 }
 
 /// Those of the rows that are old and not new.
-fn that_go(
-    alloc: Global,
-    rows: &[Row],
-    old: &RowSet,
-    new: &RowSet,
-) -> Result<RowSet, OutOfMemory>
+fn that_go(alloc: Global, rows: &[Row], old: &RowSet, new: &RowSet) -> Result<RowSet, OutOfMemory>
     ensures { IfOk result (λ go. go ≡ set_of (filter (λ row. has old.now row && not (has new.now row)) rows.now)) }
 {
     let mut go = Vec::new(alloc);

@@ -22,18 +22,14 @@ fn rows_left(rows: &RowSet, change: &Change) -> usize
     both.saturating_sub(change.remove.len())
 }
 
-/// The change that an update makes whose pairs are these, where these are the rows before it. All
-/// pairs take effect at once, on the rows before. The rows that go are those that don't stand after
-/// it, and the rows that come are those that didn't stand before. It is refused where an old row has
-/// different new rows; the fault carries the least such row, and of its new rows the two least, in
-/// ascending order. Else it is refused where more rows would stand than a relation may have. A row
-/// that is deleted by one pair and replaced by another isn't contended: its new row comes.
-/// Costs sorts of the pairs and a binary search for each row.
-pub fn set_replace(
-    alloc: Global,
-    rows: &RowSet,
-    pairs: &[Pair],
-) -> Result<Change, ChangeFault>
+/// The change that the pairs of an update make of the rows before it. All pairs take effect at once,
+/// on the rows before: the rows that go are those that don't stand after the update, and those that
+/// come are those that didn't stand before it. It is refused where an old row has different new rows:
+/// the fault carries the least such row, and the two least of its new rows, ascending. Else it is
+/// refused where more rows would stand than a relation may have. A row that one pair deletes and
+/// another replaces isn't contended: it goes, and its new row comes. Costs sorts of the pairs' rows,
+/// and a binary search or two for each row.
+pub fn set_replace(alloc: Global, rows: &RowSet, pairs: &[Pair]) -> Result<Change, ChangeFault>
     ensures removed { IfOk result (λ change. change.remove ≡ without_rows (after rows.now pairs.now) rows.now) }
     ensures added { IfOk result (λ change. change.add ≡ without_rows rows.now (after rows.now pairs.now)) }
     ensures uncontended { OnOk result (IsFalse (contended pairs.now)) }
