@@ -1,5 +1,5 @@
 -- What was found among replacements in order is what the pairs contend.
-use Rattle.std.proofs.Common.{◌≡◌, refl, sym, ap, ◌∙◌, subst, ℕ, ◌+◌, Bool, true, false, ◌||◌, cond, List, [], ◌∷◌, take, filter, length, slice_index_or, Option, Some, None, Contains, arith}
+use Rattle.std.proofs.Common.{◌≡◌, refl, sym, ap, ◌∙◌, subst, ℕ, ◌+◌, Bool, true, false, ◌||◌, cond, List, [], ◌∷◌, take, filter, slice_index_or, Option, Some, None, Contains, arith}
 use Rattle.std.proofs.lemmas.List.Elements.{Contains-append_right}
 use Rattle.std.proofs.lemmas.Map.Keys.{sorted_head}
 use Rattle.std.specs.List.{list_any}
@@ -10,7 +10,7 @@ use Rattle.calculus.specs.declared.change.Pair.{Pair}
 use Rattle.calculus.specs.Rows.{Row, Ascends, has}
 use Rattle.calculus.specs.Replacement.{old_rows, new_rows, has_old, some_differ, contended}
 use Rattle.calculus.specs.Value.{row_cmp}
-use Rattle.calculus.proofs.Sets.{same_exact, has-set_of}
+use Rattle.calculus.proofs.Sets.{same_exact}
 use Rattle.change_list.specs.Contention.{replacing, new_rows_of, IsLeastContention}
 use Rattle.change_list.specs.Replacements.{Both, both_cmp, is_both, replacements, SharesNone, IsFirstShared}
 use Rattle.change_list.proofs.Differing.{same, same_itself, later_true, differ-from_two, differ-same}
@@ -58,7 +58,8 @@ pair_there old new (p ∷ ps) there = go p.old p.new (pair_there old new ps) the
         subst (λ o. Contains (replacing o n ∷ ps) (replacing old new)) (same_exact old o e)
         (subst (λ n. Contains (replacing old n ∷ ps) (replacing old new)) (same_exact new n f) (0, omega arith, refl))
 
-    found : (o n : Row) → same old o ≡ true → Later → (b : Bool) → same new n ≡ b → (b || has (new_rows those) new) ≡ true → Contains (replacing o n ∷ ps) (replacing old new)
+    found : (o n : Row) → same old o ≡ true → Later → (b : Bool) → same new n ≡ b → (b || has (new_rows those) new) ≡ true
+        → Contains (replacing o n ∷ ps) (replacing old new)
     found o n e later true f t = here o n e f
     found o n e later false f t = behind (replacing o n) (later t)
 
@@ -66,7 +67,8 @@ pair_there old new (p ∷ ps) there = go p.old p.new (pair_there old new ps) the
     deleted o true later t = behind (pair_of (Some o) None) (later t)
     deleted o false later t = behind (pair_of (Some o) None) (later t)
 
-    replaced : (o n : Row) (b : Bool) → same old o ≡ b → Later → has (new_rows (cond b (replacing o n ∷ those) those)) new ≡ true → Contains (replacing o n ∷ ps) (replacing old new)
+    replaced : (o n : Row) (b : Bool) → same old o ≡ b → Later → has (new_rows (cond b (replacing o n ∷ those) those)) new ≡ true
+        → Contains (replacing o n ∷ ps) (replacing old new)
     replaced o n true e later t = found o n e later (same new n) refl t
     replaced o n false e later t = behind (replacing o n) (later t)
 

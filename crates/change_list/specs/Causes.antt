@@ -1,5 +1,5 @@
 -- Why pairs make no change of rows.
-use Rattle.std.specs.Prelude.{◌≡◌, ℕ, ◌<◌, List, length, IsTrue, IsFalse, ⊤}
+use Rattle.std.specs.Prelude.{◌≡◌, ◌<◌, List, length, IsTrue, IsFalse, ⊤}
 use Rattle.calculus.specs.declared.change.Pair.{Pair}
 use Rattle.calculus.specs.Limits.{most_rows}
 use Rattle.calculus.specs.Rows.{Row}
