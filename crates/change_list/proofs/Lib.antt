@@ -1,0 +1,7 @@
+mod After
+mod Contended
+mod Differing
+mod InOrder
+mod Moved
+mod NewRows
+mod Searched

@@ -1,0 +1,11 @@
+use Rattle.std.proofs.Common.{arith}
+use Rattle.std.proofs.lemmas.Grind.{common_steps}
+use Rattle.std.proofs.lemmas.List.Elements.{filter_map-append}
+use Rattle.change_list.proofs.replacements.replacements.Goals as goal
+use Rattle.change_list.proofs.replacements.replacements.Goals.{in-Some+in_ok-push, in_default}
+
+pub loop-pair-preserved : goal.loop-pair-preserved
+loop-pair-preserved c = elim c.match-branch-2.branch [
+  | in-Some+in_ok-push w ↦ grind (arith, common_steps, filter_map-append)
+  | in_default w ↦ grind (arith, common_steps, filter_map-append)
+]

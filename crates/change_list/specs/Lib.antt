@@ -1,0 +1,4 @@
+pub mod Causes
+pub mod Contention
+pub mod Moves
+pub mod Replacements
