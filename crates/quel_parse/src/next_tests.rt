@@ -57,6 +57,34 @@ fn a_statement_is_read_behind_another(rt: HostRuntime) -> Result<(), Fail> {
     Ok(())
 }
 
+/// How many statements of the text are read, and the line and the place where it is refused then.
+fn refused_behind(alloc: Global, text: &[u8]) -> (usize, u32, usize) {
+    let mut place = 0usize;
+    let mut count = 0usize;
+    for _ in 0..text.len() {
+        match next_statement(alloc, text, place) {
+            Ok(Some((_, end))) => {
+                place = end;
+                count = count.saturating_add(1);
+            }
+            Err(ParseFault::Syntax { line, at }) => return (count, line, at),
+            Ok(None) | Err(ParseFault::OutOfMemory) => return (count, 0, 0),
+        }
+    }
+    (count, 0, 0)
+}
+
+#[test]
+fn scripts_are_refused_at_their_lines(rt: HostRuntime) -> Result<(), Fail> {
+    let alloc = rt.alloc();
+    let long_name =
+        b"create w (a = c255, b = c255, c = c255, d = c235)\ncreate x (a = c255, b = c255, c = c255, d = c235, e = i1)\ncreate abcdefghijkl (a = i1)\ncreate abcdefghijklm (a = i1)\ncreate y (a = i1)\n";
+    assert_eq!(rt; refused_behind(alloc, long_name), (3, 4, 144));
+    let wrong_word = b"create g (a = i1)\nretreive (x = 1)\ncreate h (a = i1)\n";
+    assert_eq!(rt; refused_behind(alloc, wrong_word), (1, 2, 18));
+    Ok(())
+}
+
 /// The text with so many copies of a part between its front and its back.
 fn repeated(
     alloc: Global,
