@@ -1,0 +1,4 @@
+pub mod Own
+pub mod Seen
+pub mod Changed
+pub mod Allowed
