@@ -1,0 +1,7 @@
+//! A database in memory: its lists as they are, told to contracts whole.
+#![tactic(auto)]
+
+mod db_plain;
+mod kept;
+
+pub use db_plain::DbPlain;
