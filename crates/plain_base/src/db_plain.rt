@@ -2,6 +2,8 @@
 
 ghost use Rattle.std.specs.Prelude.{◌≡◌, []};
 
+mod asks;
+
 use crate::kept::{Indexed, Stored, Viewed};
 use calculus::{Name, Permit, RelKey, Rule};
 use std::alloc::Global;

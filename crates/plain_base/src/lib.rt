@@ -3,5 +3,6 @@
 
 mod db_plain;
 mod kept;
+mod look_up;
 
 pub use db_plain::DbPlain;
