@@ -3,6 +3,7 @@
 ghost use Rattle.std.specs.Prelude.{◌≡◌, []};
 
 mod asks;
+mod changes;
 mod known;
 
 use crate::kept::{Indexed, Stored, Viewed};

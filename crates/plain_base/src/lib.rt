@@ -2,8 +2,13 @@
 #![tactic(auto)]
 
 mod catalogue;
+mod catalogue_rows;
 mod db_plain;
 mod kept;
+mod leaving;
 mod look_up;
+mod one_relation;
+mod ordered;
+mod rows;
 
 pub use db_plain::DbPlain;
