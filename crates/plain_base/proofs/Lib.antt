@@ -5,3 +5,4 @@ pub mod RowLists
 pub mod PutInOrder
 pub mod Outcomes
 pub mod ChangeAt
+pub mod CatalogueLists

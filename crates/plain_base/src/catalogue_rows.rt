@@ -1,7 +1,7 @@
 //! The rows of the two catalogues for what stands in a database.
 
 ghost use Rattle.std.specs.Prelude.{◌≡◌, ◌≤◌, IsTrue, IfOk, OnOk, ◌<◌, ◌^◌, length, pos, map, flat_map, codes, decimal, ◌++◌};
-ghost use Rattle.std.specs.List.{list_all};
+ghost use Rattle.std.specs.List.{list_all, enumerate_from};
 ghost use Rattle.calculus.specs.Catalogue.{relation_row, attribute_row, attribute_rows, width_of, format_text, spec_text};
 ghost use Rattle.calculus.specs.Name.{is_name_byte};
 
@@ -107,4 +107,66 @@ fn attribute_row(
     values.push(name_text(alloc, &attr.name)?)?;
     values.push(format_value(alloc, attr.kind)?)?;
     Ok(Row::of(values))
+}
+
+/// Puts the rows of `relation` for these entries behind others.
+pub(crate) fn push_relation_rows<T: Known>(
+    alloc: Global,
+    rows: &mut Vec<Row>,
+    items: &[T],
+) -> Result<(), OutOfMemory>
+    ensures { OnOk result (rows.new.items ≡ rows.old.items ++ map relation_row (map (λ t. T.known t) items.now)) }
+{
+    for item in items {
+        let row = relation_row(alloc, item.info())?;
+        rows.push(row)?;
+    }
+    Ok(())
+}
+
+/// Puts the rows of `attribute` for these attributes behind others.
+fn push_attributes(
+    alloc: Global,
+    rows: &mut Vec<Row>,
+    key: &RelKey,
+    attrs: &[Attr],
+) -> Result<(), OutOfMemory>
+    ensures { OnOk result (rows.new.items ≡ rows.old.items ++ map (λ p. attribute_row key.now p.0 p.1) (enumerate_from 1 attrs.now)) }
+{
+    for (i, attr) in attrs.iter().enumerate() {
+        let row = attribute_row(alloc, key, i + 1, attr)?;
+        rows.push(row)?;
+    }
+    Ok(())
+}
+
+/// Puts the rows of `attribute` for an entry behind others.
+pub(crate) fn push_rows_of(
+    alloc: Global,
+    rows: &mut Vec<Row>,
+    info: &RelInfo,
+) -> Result<(), OutOfMemory>
+    ensures { OnOk result (rows.new.items ≡ rows.old.items ++ attribute_rows info.now) }
+{
+    match info.spec {
+        Spec::Heap => push_attributes(alloc, rows, &info.key, info.attrs.items()),
+        Spec::Hash => push_attributes(alloc, rows, &info.key, info.attrs.items()),
+        Spec::Isam => push_attributes(alloc, rows, &info.key, info.attrs.items()),
+        Spec::View => push_attributes(alloc, rows, &info.key, info.attrs.items()),
+        Spec::Index => Ok(()),
+    }
+}
+
+/// Puts the rows of `attribute` for these entries behind others.
+pub(crate) fn push_attribute_rows<T: Known>(
+    alloc: Global,
+    rows: &mut Vec<Row>,
+    items: &[T],
+) -> Result<(), OutOfMemory>
+    ensures { OnOk result (rows.new.items ≡ rows.old.items ++ flat_map attribute_rows (map (λ t. T.known t) items.now)) }
+{
+    for item in items {
+        push_rows_of(alloc, rows, item.info())?;
+    }
+    Ok(())
 }

@@ -5,6 +5,8 @@ ghost use Rattle.std.specs.Prelude.{◌≡◌, []};
 mod asks;
 mod changes;
 mod known;
+mod lays;
+mod rows_asked;
 
 use crate::kept::{Indexed, Stored, Viewed};
 use calculus::{Name, Permit, RelKey, Rule};

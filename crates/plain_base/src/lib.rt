@@ -12,3 +12,6 @@ mod ordered;
 mod rows;
 
 pub use db_plain::DbPlain;
+
+#[cfg(test)]
+mod tests;
