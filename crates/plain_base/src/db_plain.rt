@@ -27,7 +27,6 @@ pub struct DbPlain {
 impl Model for DbPlain {
     ghost use Rattle.calculus.specs.Database.{Db};
     ghost use Rattle.calculus.specs.IsDatabase.{IsDatabase};
-
     ghost use Rattle.calculus.specs.contracts.query.QQual as quals;
     ghost use Rattle.calculus.specs.contracts.query.Query as queries;
     ghost use Rattle.std.specs.Coded.{codes};

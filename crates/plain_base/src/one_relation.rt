@@ -29,12 +29,7 @@ fn place_under(relations: &[Stored], key: &RelKey) -> Option<usize>
 
 impl Stored {
     /// Rows go and come. After an error all is as before.
-    fn change_rows(
-        &mut self,
-        alloc: Global,
-        remove: &[Row],
-        add: &[Row],
-    ) -> Result<(), OutOfMemory>
+    fn change_rows(&mut self, alloc: Global, remove: &[Row], add: &[Row]) -> Result<(), OutOfMemory>
         ensures ok { OnOk result (self.new ≡ record self.old { rows = with_rows add.now (without_rows remove.now self.old.rows) }) }
         ensures err { OnErr result (self.new ≡ self.old) }
     {

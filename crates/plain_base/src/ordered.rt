@@ -25,7 +25,10 @@ pub(crate) trait Placed {
 fn key_order(left: &RelKey, right: &RelKey) -> Ordering
     ensures { result ≡ key_cmp left.now right.now }
 {
-    left.owner.bytes().cmp(right.owner.bytes()).then(left.name.bytes().cmp(right.name.bytes()))
+    left.owner
+        .bytes()
+        .cmp(right.owner.bytes())
+        .then(left.name.bytes().cmp(right.name.bytes()))
 }
 
 impl Placed for Stored {
@@ -87,10 +90,7 @@ fn place_among<T: Placed>(items: &[T], item: &T) -> Result<usize, usize>
 }
 
 /// Puts an item at its place; one that is equal to it gives way. After an error all is as before.
-pub(crate) fn put_in_order<T: Placed + Drop>(
-    items: &mut Vec<T>,
-    item: T,
-) -> Result<(), OutOfMemory>
+pub(crate) fn put_in_order<T: Placed + Drop>(items: &mut Vec<T>, item: T) -> Result<(), OutOfMemory>
     ensures ok { OnOk result (items.new.items ≡ insert_by T.order item items.old.items) }
     ensures err { OnErr result (items.new.items ≡ items.old.items) }
 {

@@ -58,11 +58,7 @@ fn view_of(alloc: Global, info: &RelInfo, query: &Query) -> Result<Viewed, OutOf
 }
 
 /// The permit beside its relation.
-fn permit_of(
-    alloc: Global,
-    rel: &RelKey,
-    permit: &Permit,
-) -> Result<(RelKey, Permit), OutOfMemory>
+fn permit_of(alloc: Global, rel: &RelKey, permit: &Permit) -> Result<(RelKey, Permit), OutOfMemory>
     ensures { IfOk result (λ p. p ≡ (rel.now, permit.now)) }
 {
     let rel = rel.copy(alloc)?;
@@ -82,12 +78,7 @@ fn rule_of(alloc: Global, rel: &RelKey, rule: &Rule) -> Result<(RelKey, Rule), O
 impl DbPlain {
     /// Makes a relation with these rows.
     #[tactic(auto, unfolding(calculus::specs::Change::laid))]
-    pub fn create(
-        &mut self,
-        alloc: Global,
-        info: &RelInfo,
-        rows: &[Row],
-    ) -> Result<(), OutOfMemory>
+    pub fn create(&mut self, alloc: Global, info: &RelInfo, rows: &[Row]) -> Result<(), OutOfMemory>
         requires { IsDatabase (laid self.old (DbChange.Create info.now rows.now)) }
         ensures ok { OnOk result (self.new ≡ laid self.old (DbChange.Create info.now rows.now)) }
         ensures err { OnErr result (self.new ≡ self.old) }

@@ -61,11 +61,7 @@ impl DbPlain {
 
     /// What is known of the catalogue under a key.
     #[tactic(auto, unfolding(calculus::specs::Catalogue::catalogue_at))]
-    fn catalogue_info(
-        &self,
-        alloc: Global,
-        key: &RelKey,
-    ) -> Result<Option<RelInfo>, OutOfMemory>
+    fn catalogue_info(&self, alloc: Global, key: &RelKey) -> Result<Option<RelInfo>, OutOfMemory>
         ensures { IfOk result (λ info. info ≡ option_map (λ r. r.info) (catalogue_at self.now key.now)) }
     {
         if is_named(key, self.administrator(), b"relation") {

@@ -7,6 +7,6 @@ use Rattle.plain_base.proofs.rows.put_many.Goals as goal
 pub returns : goal.returns
 returns c =
     let joined : c.append.new.self.items ≡ c.args.rows.now.items ++ c.args.new.items =
-        where_done c.append.result (List Row) _ _ c.args.rows.now.items (c.append.ensures.succeeds c.requires.room) c.append.ensures.items in
+    where_done c.append.result (List Row) _ _ c.args.rows.now.items (c.append.ensures.succeeds c.requires.room) c.append.ensures.items in
     dedup-set_of c.append.new.self.items _ _ c.sort_unstable.ensures.permutation c.sort_unstable.ensures.sorted c.dedup.ensures.filtered
     ∙ rw joined (set_of-joined _ _ c.requires.ascend)

@@ -17,7 +17,8 @@ invariant_of-self c =
       relations = c.self.inside.relations.items;
       indexes = c.self.inside.indexes.items;
       views = c.self.inside.views.items;
-      rules = c.self.inside.rules.items; permits = ps;
+      rules = c.self.inside.rules.items;
+      permits = ps;
     }))
     _ _ _ c.put_in_order.ensures.ok c.put_in_order.ensures.err
     (rw c.in_ok-permit.ensures (subst (λ (db : Db). IsDatabase (laid db (change.Permit c.args.rel.now c.args.permit.now))) (sym c.self.view_is) c.requires))

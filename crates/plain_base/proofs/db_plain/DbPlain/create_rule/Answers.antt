@@ -17,7 +17,8 @@ invariant_of-self c =
       relations = c.self.inside.relations.items;
       indexes = c.self.inside.indexes.items;
       views = c.self.inside.views.items;
-      rules = ps; permits = c.self.inside.permits.items;
+      rules = ps;
+      permits = c.self.inside.permits.items;
     }))
     _ _ _ c.put_in_order.ensures.ok c.put_in_order.ensures.err
     (rw c.in_ok-rule.ensures (subst (λ (db : Db). IsDatabase (laid db (change.Rule c.args.rel.now c.args.rule.now))) (sym c.self.view_is) c.requires))
