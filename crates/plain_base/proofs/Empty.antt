@@ -2,7 +2,6 @@
 use Rattle.std.proofs.Common.{refl, ℕ, List, [], IsTrue}
 use Rattle.std.specs.List.Sorted.{IsStrictlySortedBy}
 use Rattle.calculus.specs.Name.{is_name}
-use Rattle.calculus.specs.Database.{Db}
 use Rattle.calculus.specs.IsDatabase.{IsDatabase}
 
 pub empty : (dba : List ℕ) → IsTrue (is_name dba) → IsDatabase (record { dba = dba; relations = []; indexes = []; views = []; rules = []; permits = [] })

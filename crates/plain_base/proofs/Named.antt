@@ -1,5 +1,5 @@
 -- Names and the bytes that they are made of, as texts.
-use Rattle.std.proofs.Common.{◌≡◌, refl, sym, ap, ◌∙◌, subst, ℕ, ◌≤◌, Bool, true, false, ◌&&◌, List, [], ◌∷◌, length, nat_le, IsTrue, Some, rules, arith}
+use Rattle.std.proofs.Common.{◌≡◌, refl, ap, ◌∙◌, ℕ, ◌≤◌, Bool, true, false, ◌&&◌, List, [], ◌∷◌, length, nat_le, IsTrue, Some, rules, arith}
 use Rattle.std.specs.Prelude.{codes, decimal, ◌++◌, ◌+◌, ◌<◌, ◌^◌, ◌%◌}
 use Rattle.std.proofs.lemmas.Fmt.{decimal_by_steps, length-decimal-le}
 use Rattle.std.proofs.lemmas.List.Folds.{list_all-append}

@@ -1,10 +1,9 @@
 -- Rows that go from ascending rows and come to them.
-use Rattle.std.proofs.Common.{◌≡◌, refl, sym, ap, ◌∙◌, subst, ℕ, zero, suc, ◌+◌, ◌<◌, ◌≤◌, Bool, true, false, ◌||◌, ◌&&◌, not, List, [], ◌∷◌, ◌++◌, length, take, drop, filter, slice_index_or, IsTrue, Result, Ok, Err, IfOk, IsOk, is_ok, cond, rules, arith, get_or}
-use Rattle.std.proofs.lemmas.Cmp.{tied_itself}
+use Rattle.std.proofs.Common.{◌≡◌, refl, sym, ap, ◌∙◌, subst, ℕ, zero, suc, ◌+◌, ◌<◌, Bool, true, false, ◌||◌, ◌&&◌, not, List, [], ◌∷◌, ◌++◌, length, take, filter, slice_index_or, Result, Ok, Err, IfOk, IsOk, is_ok, cond, rules, arith, get_or}
 use Rattle.std.proofs.lemmas.List.Folds.{list_any-append, list_any_more}
 use Rattle.std.proofs.lemmas.List.Kept.{IsStrictlySortedBy-filter}
 use Rattle.std.proofs.lemmas.Map.Keys.{sorted_head, sorted_tail, Less-from_sorted}
-use Rattle.std.specs.List.{AllByRecursion, HoldsAt, remove, insert}
+use Rattle.std.specs.List.{AllByRecursion, HoldsAt, remove}
 use Rattle.std.specs.List.Sorted.{IsBinarySearchResult, IsSearchInRange}
 use Rattle.std.specs.Ordering.{eq_by_cmp, is_eq, ordering_reverse}
 use Rattle.std.specs.declared.cmp.Ordering.{Ordering}
@@ -13,7 +12,7 @@ use Rattle.calculus.specs.Orders.{row_total, row_exact}
 use Rattle.calculus.specs.Replacement.{with_rows, without_rows}
 use Rattle.calculus.specs.Rows.{Row, Ascends, has, put, set_of}
 use Rattle.calculus.specs.Value.{row_cmp}
-use Rattle.calculus.proofs.Sets.{same_exact, same_set, has-put, has-set_of, Ascends-put, Ascends-set_of}
+use Rattle.calculus.proofs.Sets.{same_set, has-put, has-set_of, Ascends-put, Ascends-set_of}
 
 pub Ascends-with_rows : (others rows : List Row) → Ascends rows → Ascends (with_rows others rows)
 Ascends-with_rows [] rows h = h

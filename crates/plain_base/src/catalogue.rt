@@ -1,12 +1,11 @@
 //! What is known of the two catalogues, and the values that their rows are made of.
 
-ghost use Rattle.std.specs.Prelude.{◌≡◌, ◌≤◌, ℕ, IsTrue, IfOk, length, codes, ◌++◌, decimal};
-ghost use Rattle.std.specs.List.{list_all};
-ghost use Rattle.calculus.specs.Catalogue.{attribute, relation_attrs, attribute_attrs, format_text, spec_text};
+ghost use Rattle.std.specs.Prelude.{◌≡◌, IsTrue, IfOk};
+ghost use Rattle.calculus.specs.Catalogue.{attribute, relation_attrs, attribute_attrs};
 ghost use Rattle.calculus.specs.Keys.{key_of, same_key};
-ghost use Rattle.calculus.specs.Name.{is_name, is_name_byte};
+ghost use Rattle.calculus.specs.Name.{is_name};
 
-use calculus::{Attr, Domain, Kind, List, Name, OutOfMemory, RelInfo, RelKey, Spec, Text, TryCopy};
+use calculus::{Attr, Domain, Kind, List, Name, OutOfMemory, RelKey};
 use std::alloc::Global;
 
 /// Whether the key has this owner and this name.

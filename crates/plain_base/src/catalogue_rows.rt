@@ -1,6 +1,6 @@
 //! The rows of the two catalogues for what stands in a database.
 
-ghost use Rattle.std.specs.Prelude.{◌≡◌, ◌≤◌, IsTrue, IfOk, OnOk, ◌<◌, ◌^◌, length, pos, map, flat_map, codes, decimal, ◌++◌};
+ghost use Rattle.std.specs.Prelude.{◌≡◌, ◌≤◌, IsTrue, IfOk, OnOk, ◌<◌, ◌^◌, length, map, flat_map, codes, decimal, ◌++◌};
 ghost use Rattle.std.specs.List.{list_all, enumerate_from};
 ghost use Rattle.calculus.specs.Catalogue.{relation_row, attribute_row, attribute_rows, width_of, format_text, spec_text};
 ghost use Rattle.calculus.specs.Name.{is_name_byte};

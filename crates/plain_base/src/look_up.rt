@@ -1,6 +1,6 @@
 //! What stands under a key in lists.
 
-ghost use Rattle.std.specs.Prelude.{◌≡◌, Bool, not, ◌&&◌, find, filter, map, option_map, IfOk};
+ghost use Rattle.std.specs.Prelude.{◌≡◌, not, ◌&&◌, find, filter, map, option_map, IfOk};
 ghost use Rattle.std.specs.List.{list_any};
 ghost use Rattle.calculus.specs.Keys.{same_key, has_key};
 ghost use Rattle.calculus.specs.QueryParts.{vars_of};

@@ -2,7 +2,6 @@
 
 ghost use Rattle.std.specs.Prelude.{◌≡◌, ◌<◌, ◌≤◌, length, slice_set, IfOk, IfErr, OnOk, OnErr};
 ghost use Rattle.std.specs.List.{insert};
-ghost use Rattle.std.specs.Ordering.{nat_cmp};
 ghost use Rattle.std.specs.declared.cmp.Ordering.{Ordering as Order};
 ghost use Rattle.calculus.specs.Keys.{key_cmp, numbered_cmp};
 ghost use Rattle.calculus.specs.Lists.{insert_by};

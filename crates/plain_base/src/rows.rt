@@ -2,10 +2,8 @@
 
 ghost use Rattle.std.specs.Prelude.{◌≡◌, [], ◌∷◌, ◌<◌, ◌≤◌, ◌+◌, not, length, vec_len, vec_capacity, is_ok, filter, IfOk, IfErr, OnOk, OnErr};
 ghost use Rattle.std.specs.List.{remove};
-ghost use Rattle.std.specs.Ordering.{eq_by_cmp};
 ghost use Rattle.calculus.specs.Replacement.{with_rows, without_rows};
-ghost use Rattle.calculus.specs.Rows.{Ascends, has, put, set_of, IsPlaceOf};
-ghost use Rattle.calculus.specs.Value.{row_cmp};
+ghost use Rattle.calculus.specs.Rows.{Ascends, has, put, IsPlaceOf};
 
 use calculus::{OutOfMemory, Row, RowSet, TryCopy};
 use std::alloc::Global;

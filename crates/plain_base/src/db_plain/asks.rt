@@ -1,11 +1,8 @@
 //! What a database in memory answers of what stands in it.
 
-ghost use Rattle.std.specs.Prelude.{◌≡◌, Bool, length, option_map, is_some, IfOk};
+ghost use Rattle.std.specs.Prelude.{◌≡◌, length, option_map, IfOk};
 ghost use Rattle.calculus.specs.Database.{entries, entry_at, is_relation, rules_on, permits_on};
-ghost use Rattle.calculus.specs.Finding.{found};
-ghost use Rattle.calculus.specs.Keys.{key_of};
-ghost use Rattle.calculus.specs.Stored.{info_at};
-ghost use Rattle.am_traits.specs.Told.{known_at, query_at, is_named_by_view};
+ghost use Rattle.am_traits.specs.Told.{query_at, is_named_by_view};
 
 use super::DbPlain;
 use crate::look_up::{about, on, some_view_names, under};

@@ -1,4 +1,4 @@
-use Rattle.std.proofs.Common.{◌≡◌, sym, ap, ◌∙◌, slice_set}
+use Rattle.std.proofs.Common.{sym, ap, ◌∙◌, slice_set}
 use Rattle.calculus.specs.Database.{Relation}
 use Rattle.calculus.specs.Replacement.{with_rows, without_rows}
 use Rattle.plain_base.proofs.Outcomes.{where_ok}

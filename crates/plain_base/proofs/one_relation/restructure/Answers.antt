@@ -1,4 +1,4 @@
-use Rattle.std.proofs.Common.{◌≡◌, sym, ap, ◌∙◌, slice_set}
+use Rattle.std.proofs.Common.{sym, ap, ◌∙◌, slice_set}
 use Rattle.calculus.specs.Change.{restructured}
 use Rattle.calculus.specs.Database.{Relation}
 use Rattle.plain_base.proofs.one_relation.restructure.Goals as goal

@@ -1,4 +1,4 @@
-use Rattle.std.proofs.Common.{◌≡◌, sym, ap, ◌∙◌, arith}
+use Rattle.std.proofs.Common.{sym, ap, ◌∙◌, arith}
 use Rattle.std.proofs.lemmas.List.{get_or_default}
 use Rattle.plain_base.proofs.PutInOrder.{put_before, put_in_place, put_behind}
 use Rattle.plain_base.proofs.ordered.place_among.Goals as goal

@@ -1,6 +1,6 @@
-use Rattle.std.proofs.Common.{sym, ap, ◌∙◌, subst, rules, arith}
+use Rattle.std.proofs.Common.{sym, ap, ◌∙◌, subst, arith}
 use Rattle.calculus.specs.Replacement.{with_rows}
-use Rattle.calculus.specs.Rows.{Ascends, put}
+use Rattle.calculus.specs.Rows.{Ascends}
 use Rattle.calculus.proofs.Sets.{Ascends-put}
 use Rattle.plain_base.proofs.RowLists.{with_last}
 use Rattle.plain_base.proofs.rows.put_few.Goals as goal

@@ -1,5 +1,5 @@
-use Rattle.std.proofs.Common.{sym, ap, ◌∙◌, subst}
-use Rattle.calculus.specs.Rows.{Ascends, has, put}
+use Rattle.std.proofs.Common.{sym, ap, ◌∙◌}
+use Rattle.calculus.specs.Rows.{has}
 use Rattle.calculus.proofs.Placing.{put-there}
 use Rattle.plain_base.proofs.rows.put_one.Goals as goal
 

@@ -1,5 +1,4 @@
-use Rattle.std.proofs.Common.{◌≡◌, sym, ap, ◌∙◌, subst, rules, arith}
-use Rattle.calculus.specs.Replacement.{without_rows}
+use Rattle.std.proofs.Common.{sym, ◌∙◌, subst, rules, arith}
 use Rattle.calculus.specs.Rows.{Ascends}
 use Rattle.plain_base.proofs.RowLists.{nothing_removed, without_more, Ascends-without}
 use Rattle.plain_base.proofs.rows.take_few.Goals as goal

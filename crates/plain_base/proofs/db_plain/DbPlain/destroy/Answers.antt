@@ -1,7 +1,7 @@
-use Rattle.std.proofs.Common.{sym, subst, List}
+use Rattle.std.proofs.Common.{sym, subst}
 use Rattle.calculus.specs.declared.change.DbChange.TheVariants as change
 use Rattle.calculus.specs.Change.{laid}
-use Rattle.calculus.specs.Database.{Db, Relation}
+use Rattle.calculus.specs.Database.{Db}
 use Rattle.calculus.specs.IsDatabase.{IsDatabase}
 use Rattle.plain_base.proofs.db_plain.DbPlain.destroy.Goals as goal
 

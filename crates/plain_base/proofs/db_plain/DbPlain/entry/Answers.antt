@@ -1,4 +1,4 @@
-use Rattle.std.proofs.Common.{◌≡◌, ap, ◌∙◌, Some, None}
+use Rattle.std.proofs.Common.{ap, ◌∙◌, Some, None}
 use Rattle.calculus.specs.Database.{Db}
 use Rattle.plain_base.proofs.Finds.{entry_first, entry_second, entry_third, among_relations, among_views, among_indexes}
 use Rattle.plain_base.proofs.db_plain.DbPlain.entry.Goals as goal

@@ -1,7 +1,6 @@
-use Rattle.std.proofs.Common.{◌≡◌, sym, ap, ◌∙◌, List, [], ◌∷◌, ◌++◌, map}
-use Rattle.std.specs.List.{flat_map}
+use Rattle.std.proofs.Common.{sym, ap, ◌∙◌, List, [], ◌∷◌, ◌++◌, map}
 use Rattle.calculus.specs.declared.schema.RelInfo.{RelInfo}
-use Rattle.calculus.specs.Catalogue.{relation_row, attribute_rows, relation_info, attribute_info, all_entries}
+use Rattle.calculus.specs.Catalogue.{relation_row, attribute_info, all_entries}
 use Rattle.calculus.specs.Database.{Db, Relation, View, Index}
 use Rattle.calculus.specs.Rows.{Row}
 use Rattle.plain_base.proofs.CatalogueLists.{lists_joined, one_each}
