@@ -6,3 +6,4 @@ pub mod PutInOrder
 pub mod Outcomes
 pub mod ChangeAt
 pub mod CatalogueLists
+pub mod RowsAt
