@@ -1,11 +1,13 @@
 //! The rows of relations and catalogues.
 
-ghost use Rattle.std.specs.Prelude.{◌≡◌, false, map, flat_map, option_map, unwrap_or, IfOk};
+ghost use Rattle.std.specs.Prelude.{◌≡◌, None, false, map, flat_map, option_map, unwrap_or, IfOk};
 ghost use Rattle.calculus.specs.Catalogue.{all_entries, relation_row, attribute_rows};
-ghost use Rattle.calculus.specs.Database.{relation_at};
+ghost use Rattle.calculus.specs.Database.{relation_at, view_at};
 ghost use Rattle.calculus.specs.Rows.{has, set_of};
+ghost use Rattle.calculus.specs.Stored.{rows_at};
 
 use super::DbPlain;
+use crate::catalogue::is_named;
 use crate::catalogue_rows::{push_attribute_rows, push_relation_rows, push_rows_of, relation_row};
 use crate::rows::is_there;
 use calculus::{OutOfMemory, RelKey, Row, RowSet};
@@ -77,6 +79,49 @@ impl DbPlain {
         match self.relation(key) {
             Some(relation) => is_there(&relation.rows, row),
             None => false,
+        }
+    }
+
+    /// The rows under a key where no base relation stands: those of a catalogue, else none.
+    fn other_rows(&self, alloc: Global, key: &RelKey) -> Result<RowSet, OutOfMemory>
+        ensures { IfOk result (λ rows. None ≡ relation_at self.now key.now → rows ≡ rows_at self.now key.now) }
+    {
+        match self.viewed(key) {
+            Some(_) => Ok(RowSet::new(alloc)),
+            None => self.catalogue_rows(alloc, key),
+        }
+    }
+
+    /// The rows under a key where neither a base relation nor a view stands.
+    fn catalogue_rows(&self, alloc: Global, key: &RelKey) -> Result<RowSet, OutOfMemory>
+        ensures { IfOk result (λ rows. None ≡ relation_at self.now key.now → None ≡ view_at self.now key.now → rows ≡ rows_at self.now key.now) }
+    {
+        let first = is_named(key, self.administrator(), b"relation");
+        if first {
+            let rows = self.relation_rows(alloc)?;
+            return Ok(rows);
+        }
+        let second = is_named(key, self.administrator(), b"attribute");
+        if second {
+            let rows = self.attribute_rows(alloc)?;
+            return Ok(rows);
+        }
+        Ok(RowSet::new(alloc))
+    }
+
+    /// Whether the base relation or catalogue under a key has the row.
+    #[tactic(auto, using(crate::proofs::RowsAt::rows_of_relation))]
+    pub fn has_kept_row(
+        &self,
+        alloc: Global,
+        key: &RelKey,
+        row: &Row,
+    ) -> Result<bool, OutOfMemory>
+        ensures { IfOk result (λ b. b ≡ has (rows_at self.now key.now) row.now) }
+    {
+        match self.relation(key) {
+            Some(relation) => Ok(is_there(&relation.rows, row)),
+            None => Ok(self.other_rows(alloc, key)?.has(row)),
         }
     }
 }
