@@ -1,5 +1,5 @@
 -- The rows under a key, by what stands there.
-use Rattle.std.proofs.Common.{◌≡◌, refl, Option, Some, None, Bool, true, false, List, [], map}
+use Rattle.std.proofs.Common.{◌≡◌, refl, Some, None, true, false, [], map}
 use Rattle.std.specs.List.{flat_map}
 use Rattle.calculus.specs.declared.query.RelKey.{RelKey}
 use Rattle.calculus.specs.Catalogue.{all_entries, relation_row, attribute_rows, relation_key, attribute_key, catalogue_at}

@@ -111,12 +111,7 @@ impl DbPlain {
 
     /// Whether the base relation or catalogue under a key has the row.
     #[tactic(auto, using(crate::proofs::RowsAt::rows_of_relation))]
-    pub fn has_kept_row(
-        &self,
-        alloc: Global,
-        key: &RelKey,
-        row: &Row,
-    ) -> Result<bool, OutOfMemory>
+    pub fn has_kept_row(&self, alloc: Global, key: &RelKey, row: &Row) -> Result<bool, OutOfMemory>
         ensures { IfOk result (λ b. b ≡ has (rows_at self.now key.now) row.now) }
     {
         match self.relation(key) {

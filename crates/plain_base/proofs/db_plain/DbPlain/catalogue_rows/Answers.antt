@@ -1,4 +1,4 @@
-use Rattle.std.proofs.Common.{◌≡◌, sym, ap, ◌∙◌, ℕ, List}
+use Rattle.std.proofs.Common.{sym, ap, ◌∙◌, ℕ, List}
 use Rattle.std.specs.Prelude.{codes}
 use Rattle.calculus.specs.Keys.{same_key, key_of}
 use Rattle.plain_base.proofs.RowsAt.{rows_of_first, rows_of_second, rows_of_none}
