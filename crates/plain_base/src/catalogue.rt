@@ -1,0 +1,77 @@
+//! What is known of the two catalogues, and the values that their rows are made of.
+
+ghost use Rattle.std.specs.Prelude.{◌≡◌, IsTrue, IfOk};
+ghost use Rattle.calculus.specs.Catalogue.{attribute, relation_attrs, attribute_attrs};
+ghost use Rattle.calculus.specs.Keys.{key_of, same_key};
+ghost use Rattle.calculus.specs.Name.{is_name};
+
+use calculus::{Attr, Domain, Kind, List, Name, OutOfMemory, RelKey};
+use std::alloc::Global;
+
+/// Whether the key has this owner and this name.
+pub(crate) fn is_named(key: &RelKey, owner: &Name, name: &[u8]) -> bool
+    ensures { result ≡ same_key key.now (key_of owner.now name.now) }
+{
+    key.owner.bytes() == owner.bytes() && key.name.bytes() == name
+}
+
+fn name_of(alloc: Global, bytes: &[u8]) -> Result<Name, OutOfMemory>
+    requires { IsTrue (is_name bytes.now) }
+    ensures { IfOk result (λ name. name ≡ bytes.now) }
+{
+    match Name::of(alloc, bytes)? {
+        Some(name) => Ok(name),
+        None => {
+            prove!(false);
+            Err(OutOfMemory)
+        }
+    }
+}
+
+/// The key of this owner and name.
+pub(crate) fn key_of(alloc: Global, owner: &Name, name: &[u8]) -> Result<RelKey, OutOfMemory>
+    requires { IsTrue (is_name name.now) }
+    ensures { IfOk result (λ key. key ≡ key_of owner.now name.now) }
+{
+    let owner = owner.copy(alloc)?;
+    let name = name_of(alloc, name)?;
+    Ok(RelKey { owner, name })
+}
+
+fn attribute(alloc: Global, name: &[u8], domain: Domain) -> Result<Attr, OutOfMemory>
+    requires { IsTrue (is_name name.now) }
+    ensures { IfOk result (λ attr. attr ≡ attribute name.now domain) }
+{
+    let name = name_of(alloc, name)?;
+    Ok(Attr {
+        name,
+        kind: Kind::Of(domain),
+    })
+}
+
+/// The attributes of the catalogue `relation`.
+#[tactic(auto, unfolding(calculus::specs::Name::is_name))]
+pub(crate) fn relation_attrs(alloc: Global) -> Result<List<Attr>, OutOfMemory>
+    ensures { IfOk result (λ attrs. attrs ≡ relation_attrs) }
+{
+    let mut attrs = Vec::new(alloc);
+    attrs.push(attribute(alloc, b"relid", Domain::C(12))?)?;
+    attrs.push(attribute(alloc, b"relowner", Domain::C(12))?)?;
+    attrs.push(attribute(alloc, b"relspec", Domain::C(6))?)?;
+    attrs.push(attribute(alloc, b"relatts", Domain::I2)?)?;
+    Ok(List::of(attrs))
+}
+
+/// The attributes of the catalogue `attribute`.
+#[tactic(auto, unfolding(calculus::specs::Name::is_name))]
+pub(crate) fn attribute_attrs(alloc: Global) -> Result<List<Attr>, OutOfMemory>
+    ensures { IfOk result (λ attrs. attrs ≡ attribute_attrs) }
+{
+    let mut attrs = Vec::new(alloc);
+    attrs.push(attribute(alloc, b"attrelid", Domain::C(12))?)?;
+    attrs.push(attribute(alloc, b"attowner", Domain::C(12))?)?;
+    attrs.push(attribute(alloc, b"attid", Domain::I2)?)?;
+    attrs.push(attribute(alloc, b"attname", Domain::C(12))?)?;
+    attrs.push(attribute(alloc, b"attfrmt", Domain::C(4))?)?;
+    Ok(List::of(attrs))
+}

@@ -1,0 +1,17 @@
+//! A database in memory: its lists as they are, told to contracts whole.
+#![tactic(auto)]
+
+mod catalogue;
+mod catalogue_rows;
+mod db_plain;
+mod kept;
+mod leaving;
+mod look_up;
+mod one_relation;
+mod ordered;
+mod rows;
+
+pub use db_plain::DbPlain;
+
+#[cfg(test)]
+mod tests;

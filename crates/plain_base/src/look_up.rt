@@ -1,0 +1,72 @@
+//! What stands under a key in lists.
+
+ghost use Rattle.std.specs.Prelude.{◌≡◌, not, ◌&&◌, find, filter, map, option_map, IfOk};
+ghost use Rattle.std.specs.List.{list_any};
+ghost use Rattle.calculus.specs.Keys.{same_key, has_key};
+ghost use Rattle.calculus.specs.QueryParts.{vars_of};
+
+use crate::kept::{Known, Viewed};
+use calculus::{OutOfMemory, RelInfo, RelKey, TryCopy};
+use std::alloc::Global;
+
+/// Whether the two keys have one owner and one name.
+pub(crate) fn is_same(left: &RelKey, right: &RelKey) -> bool
+    ensures { result ≡ same_key left.now right.now }
+{
+    left.owner.bytes() == right.owner.bytes() && left.name.bytes() == right.name.bytes()
+}
+
+/// Whether the key is one of these.
+pub(crate) fn is_among(keys: &[RelKey], key: &RelKey) -> bool
+    ensures { result ≡ has_key keys.now key.now }
+{
+    keys.iter().any(|other| is_same(key, other))
+}
+
+/// What stands under the key.
+pub(crate) fn under<'a, T: Known>(items: &'a [T], key: &RelKey) -> Option<&'a T>
+    ensures { option_map (λ t. t.now) result ≡ find (λ t. same_key (T.known t).key key.now) items.now }
+{
+    items.iter().find(|item| is_same(&item.info().key, key))
+}
+
+/// What is known of what stands under the key.
+pub(crate) fn about<'a, T: Known>(items: &'a [T], key: &RelKey) -> Option<&'a RelInfo>
+    ensures { option_map (λ i. i.now) result ≡ find (λ i. same_key i.key key.now) (map (λ t. T.known t) items.now) }
+{
+    match under(items, key) {
+        Some(item) => Some(item.info()),
+        None => None,
+    }
+}
+
+/// Copies of the rules or permits of a relation.
+pub(crate) fn on<T: TryCopy + Drop>(
+    alloc: Global,
+    items: &[(RelKey, T)],
+    key: &RelKey,
+) -> Result<Vec<T>, OutOfMemory>
+    ensures { IfOk result (λ copies. copies.items ≡ map (λ p. p.1) (filter (λ p. same_key p.0 key.now) items.now)) }
+{
+    let mut copies = Vec::new(alloc);
+    for item in items {
+        if is_same(&item.0, key) {
+            copies.push(item.1.copy(alloc)?)?;
+        }
+    }
+    Ok(copies)
+}
+
+/// Whether the view is none of these, and names what stands under the key.
+fn names(view: &Viewed, but: &[RelKey], key: &RelKey) -> bool
+    ensures { result ≡ (not (has_key but.now view.now.info.key) && has_key (vars_of view.now.query) key.now) }
+{
+    !is_among(but, &view.info.key) && is_among(view.query.vars.items(), key)
+}
+
+/// Whether some view that is none of these names what stands under the key.
+pub(crate) fn some_view_names(views: &[Viewed], but: &[RelKey], key: &RelKey) -> bool
+    ensures { result ≡ list_any (λ v. not (has_key but.now v.info.key) && has_key (vars_of v.query) key.now) views.now }
+{
+    views.iter().any(|view| names(view, but, key))
+}
