@@ -1,1 +1,2 @@
+pub mod AggregateForms
 pub mod Declared

@@ -1,8 +1,11 @@
 //! What is known of names while statements are checked.
 #![tactic(auto)]
 
+mod aggregated;
+mod parts;
 mod range_table;
 
+pub use aggregated::{has_aggregate, qual_has_aggregate, term_has_aggregate};
 pub use range_table::RangeTable;
 
 #[cfg(test)]
