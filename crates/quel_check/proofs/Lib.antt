@@ -1,2 +1,4 @@
 pub mod AggregateForms
 pub mod Declared
+pub mod OnceMore
+pub mod VarForms

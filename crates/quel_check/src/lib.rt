@@ -2,10 +2,12 @@
 #![tactic(auto)]
 
 mod aggregated;
+mod names;
 mod parts;
 mod range_table;
 
 pub use aggregated::{has_aggregate, qual_has_aggregate, term_has_aggregate};
+pub use names::vars_in;
 pub use range_table::RangeTable;
 
 #[cfg(test)]
