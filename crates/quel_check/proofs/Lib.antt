@@ -1,4 +1,5 @@
 pub mod AggregateForms
 pub mod Declared
+pub mod MentionForms
 pub mod OnceMore
 pub mod VarForms
