@@ -1,5 +1,7 @@
 pub mod AggregateForms
 pub mod Declared
+pub mod Found
 pub mod MentionForms
 pub mod OnceMore
+pub mod TreeForms
 pub mod VarForms

@@ -1,7 +1,7 @@
 -- The names of terms and qualifications, form by form.
-use Rattle.std.proofs.Common.{◌≡◌, ℕ, ℤ, refl, ap, ◌∙◌, sym, List, [], ◌∷◌, ◌++◌, append_assoc, map}
+use Rattle.std.proofs.Common.{◌≡◌, ℕ, ℤ, refl, ap, ◌∙◌, sym, List, [], ◌∷◌, ◌++◌, append_assoc}
 use Rattle.std.specs.List.{flat_map}
-use Rattle.std.proofs.lemmas.List.{append-nil, map-append}
+use Rattle.std.proofs.lemmas.List.{map-append}
 use denote.Hole.Carrier.{hidden}
 use Rattle.calculus.proofs.WrittenForms.{agg_is}
 use Rattle.calculus.specs.Written.{term_row}
@@ -13,7 +13,7 @@ use Rattle.calculus.specs.declared.statement.Qual.TheBlock.{shape-the_row-Qual-0
 use Rattle.calculus.specs.declared.statement.Qual.TheVariants.{True, Cmp, And, Or, Not}
 use Rattle.calculus.specs.declared.statement.Term.{Term}
 use Rattle.calculus.specs.declared.statement.Term.TheVariants.{Int, Chars, Attr, Neg, Abs, Arith, Concat, Agg}
-use Rattle.quel_meaning.specs.Naming.{Mention, AttrOf, dotted}
+use Rattle.quel_meaning.specs.Naming.{AttrOf, dotted}
 use Rattle.quel_meaning.specs.WrittenParts.{Dotted, attributes, attributes_in_row, attributes_in_qual}
 
 -- variables with their attributes, one list behind the other

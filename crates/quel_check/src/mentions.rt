@@ -1,11 +1,12 @@
 //! The names in terms and qualifications, in the order of the text.
 
-ghost use Rattle.std.specs.Prelude.{◌≡◌, ◌++◌, flat_map, map, OnOk};
+ghost use Rattle.std.specs.Prelude.{◌≡◌, ◌++◌, flat_map, map, IfOk, OnOk};
 ghost use Rattle.quel_check.specs.Seen.{seen};
 ghost use Rattle.quel_meaning.specs.Naming.{dotted};
 ghost use Rattle.quel_meaning.specs.WrittenParts.{attributes, attributes_in_qual};
 
 use calculus::{AggTerm, Name, OutOfMemory, Qual, Term};
+use std::alloc::Global;
 
 /// A name in a statement, or two, by what they have to be.
 #[derive(Clone, Copy)]
@@ -93,4 +94,23 @@ pub(crate) fn push_qual<'a>(mentions: &mut Vec<Mention<'a>>, q: &'a Qual) -> Res
         }
         Qual::Not(inner) => push_qual(mentions, inner.get()),
     }
+}
+
+/// The variables with their attributes in a term, from left to right; of an aggregate those of its
+/// term, of its by-list and of its qualification.
+pub fn mentions_in_term(alloc: Global, t: &Term) -> Result<Vec<Mention<'_>>, OutOfMemory>
+    ensures { IfOk result (λ found. map seen found.items ≡ dotted (attributes t.now)) }
+{
+    let mut mentions: Vec<Mention<'_>> = Vec::new(alloc);
+    push_term(&mut mentions, t)?;
+    Ok(mentions)
+}
+
+/// The same for a qualification.
+pub fn mentions_in_qual(alloc: Global, q: &Qual) -> Result<Vec<Mention<'_>>, OutOfMemory>
+    ensures { IfOk result (λ found. map seen found.items ≡ dotted (attributes_in_qual q.now)) }
+{
+    let mut mentions: Vec<Mention<'_>> = Vec::new(alloc);
+    push_qual(&mut mentions, q)?;
+    Ok(mentions)
 }
