@@ -203,25 +203,41 @@ fn an_aggregate_mentions_its_term_by_list_and_qualification(rt: HostRuntime) -> 
     Ok(())
 }
 
+/// The tree of `x.c - -y.b`.
+fn difference_tree(alloc: Global) -> Result<QTerm, OutOfMemory> {
+    let vars = two_vars(alloc)?;
+    let infos = two_relations(alloc)?;
+    term_tree(alloc, &vars, &infos, &difference(alloc)?)
+}
+
+/// What it has to be.
+fn difference_of_places(alloc: Global) -> Result<QTerm, OutOfMemory> {
+    let inner = Boxed::new(alloc, QTerm::Attr { var: 1, attr: 0 })?;
+    let left = Boxed::new(alloc, QTerm::Attr { var: 0, attr: 1 })?;
+    let right = Boxed::new(alloc, QTerm::Neg(inner))?;
+    Ok(QTerm::Arith {
+        op: ArithOp::Sub,
+        left,
+        right,
+    })
+}
+
+/// The tree of `y.d = "s*"`.
+fn matched_tree(alloc: Global) -> Result<QQual, OutOfMemory> {
+    let vars = two_vars(alloc)?;
+    let infos = two_relations(alloc)?;
+    qual_tree(alloc, &vars, &infos, &matched(alloc)?)
+}
+
 #[test]
 fn trees_have_places_for_names(rt: HostRuntime) -> Result<(), Fail> {
     let alloc = rt.alloc();
-    let vars = two_vars(alloc)?;
-    let infos = two_relations(alloc)?;
-    let tree = term_tree(alloc, &vars, &infos, &difference(alloc)?)?;
-    let inner = Boxed::new(alloc, QTerm::Attr { var: 1, attr: 0 })?;
-    let wanted = QTerm::Arith {
-        op: ArithOp::Sub,
-        left: Boxed::new(alloc, QTerm::Attr { var: 0, attr: 1 })?,
-        right: Boxed::new(alloc, QTerm::Neg(inner))?,
-    };
-    assert_eq!(rt; tree, wanted);
-    let tree = qual_tree(alloc, &vars, &infos, &matched(alloc)?)?;
+    assert_eq!(rt; difference_tree(alloc)?, difference_of_places(alloc)?);
     let wanted = QQual::Like {
         term: QTerm::Attr { var: 1, attr: 1 },
         pattern: chars(alloc, b"s*")?,
         same: true,
     };
-    assert_eq!(rt; tree, wanted);
+    assert_eq!(rt; matched_tree(alloc)?, wanted);
     Ok(())
 }
