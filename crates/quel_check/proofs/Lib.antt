@@ -1,4 +1,5 @@
 pub mod AggregateForms
+pub mod Among
 pub mod Declared
 pub mod Found
 pub mod MentionForms

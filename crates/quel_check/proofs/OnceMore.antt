@@ -15,7 +15,7 @@ abbrev without : List ℕ → List (List ℕ) → List (List ℕ)
 without n ms = filter (λ m. not (bytes_eq m n)) ms
 
 -- what isn't dropped is still there
-still_there : (x n : List ℕ) → bytes_eq x n ≡ false → (ms : List (List ℕ)) → is_among n (without x ms) ≡ is_among n ms
+pub still_there : (x n : List ℕ) → bytes_eq x n ≡ false → (ms : List (List ℕ)) → is_among n (without x ms) ≡ is_among n ms
 still_there x n e [] = refl
 still_there x n e (m ∷ ms) = go (bytes_eq m x) refl (still_there x n e ms)
   where

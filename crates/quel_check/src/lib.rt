@@ -13,7 +13,7 @@ pub use aggregated::{has_aggregate, qual_has_aggregate, term_has_aggregate};
 pub use mentions::{Mention, mentions_in_qual, mentions_in_term};
 pub use names::vars_in;
 pub use range_table::RangeTable;
-pub use trees::{qual_tree, term_tree};
+pub use trees::{qual_tree, term_tree, where_tree};
 
 #[cfg(test)]
 mod tests;

@@ -229,15 +229,32 @@ fn matched_tree(alloc: Global) -> Result<QQual, OutOfMemory> {
     qual_tree(alloc, &vars, &infos, &matched(alloc)?)
 }
 
+/// The tree of the qualification of `delete y where y.d = "s*"`.
+fn deleted_tree(alloc: Global) -> Result<QQual, OutOfMemory> {
+    let statement = Statement::Delete {
+        var: name(alloc, b"y")?,
+        qual: matched(alloc)?,
+    };
+    let vars = vars_in(alloc, &statement)?;
+    let mut infos = Vec::new(alloc);
+    infos.push(relation(alloc, b"b", b"d")?)?;
+    where_tree(alloc, vars.items(), &infos, &statement)
+}
+
+/// A match of the variable's second attribute with `s*`.
+fn match_of_places(alloc: Global, var: u8) -> Result<QQual, OutOfMemory> {
+    Ok(QQual::Like {
+        term: QTerm::Attr { var, attr: 1 },
+        pattern: chars(alloc, b"s*")?,
+        same: true,
+    })
+}
+
 #[test]
 fn trees_have_places_for_names(rt: HostRuntime) -> Result<(), Fail> {
     let alloc = rt.alloc();
     assert_eq!(rt; difference_tree(alloc)?, difference_of_places(alloc)?);
-    let wanted = QQual::Like {
-        term: QTerm::Attr { var: 1, attr: 1 },
-        pattern: chars(alloc, b"s*")?,
-        same: true,
-    };
-    assert_eq!(rt; matched_tree(alloc)?, wanted);
+    assert_eq!(rt; matched_tree(alloc)?, match_of_places(alloc, 1)?);
+    assert_eq!(rt; deleted_tree(alloc)?, match_of_places(alloc, 0)?);
     Ok(())
 }

@@ -1,13 +1,17 @@
 //! Trees of terms and qualifications without aggregates, where the names in them were found.
 
-ghost use Rattle.std.specs.Prelude.{◌≡◌, ◌≤◌, true, All, length, slice_get, IfOk};
+ghost use Rattle.std.specs.Prelude.{◌≡◌, ◌≤◌, false, true, All, length, slice_get, IfOk};
 ghost use Rattle.calculus.specs.declared.query.QTerm.TheVariants as qterm;
+ghost use Rattle.calculus.specs.Lists.{is_any};
 ghost use Rattle.quel_check.specs.Known.{IsQualTree, IsTermTree, Knows, is_among};
 ghost use Rattle.quel_meaning.specs.Scope.{Scope, place_found};
+ghost use Rattle.quel_meaning.specs.WrittenParts.{text_aggregates, vars_in, where_of};
+ghost use Rattle.quel_meaning.specs.WrittenQuery.{where_tree};
 ghost use Rattle.quel_meaning.specs.WrittenTree.{attr_in, var_place};
 
+use crate::parts::where_of;
 use crate::places::{attr_place, compared, var_place};
-use calculus::{Boxed, Name, OutOfMemory, QQual, QTerm, Qual, RelInfo, Term};
+use calculus::{Boxed, Name, OutOfMemory, QQual, QTerm, Qual, RelInfo, Statement, Term};
 use std::alloc::Global;
 
 /// The place of an attribute in what stands at this place; 0 where nothing does.
@@ -124,4 +128,32 @@ pub fn qual_tree(
         }
         Qual::Not(inner) => Ok(QQual::Not(boxed_qual(alloc, vars, infos, inner.get())?)),
     }
+}
+
+fn qual_tree_of(
+    alloc: Global,
+    vars: &[Name],
+    infos: &[RelInfo],
+    s: &Statement,
+) -> Result<QQual, OutOfMemory>
+    ensures { IfOk result (IsQualTree vars.now infos.now (where_of s.now)) }
+{
+    match where_of(s) {
+        Some(qual) => qual_tree(alloc, vars, infos, qual),
+        None => Ok(QQual::True),
+    }
+}
+
+/// The tree of a statement's qualification, where the statement has no aggregate, `vars` are its
+/// variables, and each ranges over what stands at its place in `infos`.
+pub fn where_tree(
+    alloc: Global,
+    vars: &[Name],
+    infos: &[RelInfo],
+    s: &Statement,
+) -> Result<QQual, OutOfMemory>
+    ensures { IfOk result (λ tree. (scope : Scope) → vars.now ≡ vars_in s.now → Knows scope vars.now infos.now → is_any (text_aggregates s.now) ≡ false → tree ≡ where_tree scope s.now) }
+{
+    let tree = qual_tree_of(alloc, vars, infos, s)?;
+    Ok(tree)
 }
