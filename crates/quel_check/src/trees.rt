@@ -154,6 +154,5 @@ pub fn where_tree(
 ) -> Result<QQual, OutOfMemory>
     ensures { IfOk result (λ tree. (scope : Scope) → vars.now ≡ vars_in s.now → Knows scope vars.now infos.now → is_any (text_aggregates s.now) ≡ false → tree ≡ where_tree scope s.now) }
 {
-    let tree = qual_tree_of(alloc, vars, infos, s)?;
-    Ok(tree)
+    qual_tree_of(alloc, vars, infos, s)
 }
