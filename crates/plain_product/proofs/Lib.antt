@@ -1,0 +1,3 @@
+pub mod TargetRows
+pub mod Walks
+pub mod Causing
