@@ -1,3 +1,4 @@
-pub mod TargetRows
+pub mod Parts
+pub mod Alone
 pub mod Walks
 pub mod Causing
