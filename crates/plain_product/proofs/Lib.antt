@@ -2,3 +2,5 @@ pub mod Parts
 pub mod Alone
 pub mod Walks
 pub mod Causing
+pub mod NamingForms
+pub mod Choosing
