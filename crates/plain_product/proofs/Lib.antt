@@ -4,3 +4,4 @@ pub mod Walks
 pub mod Causing
 pub mod NamingForms
 pub mod Choosing
+pub mod NamedForms
