@@ -1,0 +1,7 @@
+pub mod Parts
+pub mod Alone
+pub mod Walks
+pub mod Causing
+pub mod NamingForms
+pub mod Choosing
+pub mod NamedForms
