@@ -40,12 +40,14 @@ pub trait Base {
     fn dba(&mut self, alloc: Global) -> Result<Name, BaseFault>
         ensures told { (db : Db) → database self.old ≡ Some db → IfOk result (λ name. name ≡ db.dba) }
         ensures kept { database self.new ≡ database self.old }
+        ensures same { left self.new ≡ left self.old }
         ensures cause { HasCause (database self.old) (faults self.old) (faults self.new) result };
 
     /// The number of relations, views and indexes, without the catalogues.
     fn count(&mut self) -> Result<u32, BaseFault>
         ensures told { (db : Db) → database self.old ≡ Some db → IfOk result (λ n. n ≡ length (entries db)) }
         ensures kept { database self.new ≡ database self.old }
+        ensures same { left self.new ≡ left self.old }
         ensures cause { HasCause (database self.old) (faults self.old) (faults self.new) result };
 
     /// What the user means by a name: the user's own relation or view, else the administrator's or
@@ -58,12 +60,14 @@ pub trait Base {
     ) -> Result<Option<RelInfo>, BaseFault>
         ensures told { (db : Db) → database self.old ≡ Some db → IfOk result (λ info. info ≡ found db user.now name.now) }
         ensures kept { database self.new ≡ database self.old }
+        ensures same { left self.new ≡ left self.old }
         ensures cause { HasCause (database self.old) (faults self.old) (faults self.new) result };
 
     /// What stands under a key: a relation, a view, an index or a catalogue.
     fn info(&mut self, alloc: Global, key: &RelKey) -> Result<Option<RelInfo>, BaseFault>
         ensures told { (db : Db) → database self.old ≡ Some db → IfOk result (λ info. info ≡ known_at db key.now) }
         ensures kept { database self.new ≡ database self.old }
+        ensures same { left self.new ≡ left self.old }
         ensures cause { HasCause (database self.old) (faults self.old) (faults self.new) result };
 
     /// How many rows the relation or catalogue under a key has. Our own: so a change of one row
@@ -71,12 +75,14 @@ pub trait Base {
     fn size(&mut self, alloc: Global, key: &RelKey) -> Result<u32, BaseFault>
         ensures told { (db : Db) → database self.old ≡ Some db → IfOk result (λ n. n ≡ length (rows_at db key.now)) }
         ensures kept { database self.new ≡ database self.old }
+        ensures same { left self.new ≡ left self.old }
         ensures cause { HasCause (database self.old) (faults self.old) (faults self.new) result };
 
     /// Whether the relation or catalogue under a key has the row. Our own, as `size`.
     fn has_row(&mut self, alloc: Global, key: &RelKey, row: &Row) -> Result<bool, BaseFault>
         ensures told { (db : Db) → database self.old ≡ Some db → IfOk result (λ b. b ≡ has (rows_at db key.now) row.now) }
         ensures kept { database self.new ≡ database self.old }
+        ensures same { left self.new ≡ left self.old }
         ensures cause { HasCause (database self.old) (faults self.old) (faults self.new) result };
 
     /// The next row of the relation or catalogue under a key that meets the probe, from a place on,
@@ -99,18 +105,21 @@ pub trait Base {
     fn view(&mut self, alloc: Global, key: &RelKey) -> Result<Option<Query>, BaseFault>
         ensures told { (db : Db) → database self.old ≡ Some db → IfOk result (λ q. q ≡ query_at db key.now) }
         ensures kept { database self.new ≡ database self.old }
+        ensures same { left self.new ≡ left self.old }
         ensures cause { HasCause (database self.old) (faults self.old) (faults self.new) result };
 
     /// The rules of a relation, by number.
     fn rules(&mut self, alloc: Global, key: &RelKey) -> Result<Vec<Rule>, BaseFault>
         ensures told { (db : Db) → database self.old ≡ Some db → IfOk result (λ rs. rs.items ≡ rules_on db key.now) }
         ensures kept { database self.new ≡ database self.old }
+        ensures same { left self.new ≡ left self.old }
         ensures cause { HasCause (database self.old) (faults self.old) (faults self.new) result };
 
     /// The permits of a relation, by number.
     fn permits(&mut self, alloc: Global, key: &RelKey) -> Result<Vec<Permit>, BaseFault>
         ensures told { (db : Db) → database self.old ≡ Some db → IfOk result (λ ps. ps.items ≡ permits_on db key.now) }
         ensures kept { database self.new ≡ database self.old }
+        ensures same { left self.new ≡ left self.old }
         ensures cause { HasCause (database self.old) (faults self.old) (faults self.new) result };
 
     /// Whether some view names the relation under a key, where these views don't count.
@@ -122,9 +131,11 @@ pub trait Base {
     ) -> Result<bool, BaseFault>
         ensures told { (db : Db) → database self.old ≡ Some db → IfOk result (λ b. b ≡ is_named_by_view db but.now key.now) }
         ensures kept { database self.new ≡ database self.old }
+        ensures same { left self.new ≡ left self.old }
         ensures cause { HasCause (database self.old) (faults self.old) (faults self.new) result };
 
-    /// Lays a change that is lawful. After an error in memory nothing is changed.
+    /// Lays a change that is lawful. What stands after an error isn't said here: a base says it of
+    /// itself.
     fn apply(&mut self, alloc: Global, change: &DbChange) -> Result<(), BaseFault>
         requires { (db : Db) → database self.old ≡ Some db → IsLawful db change.now }
         ensures told { (db : Db) → database self.old ≡ Some db → OnOk result (database self.new ≡ Some (laid db change.now)) }
