@@ -3,7 +3,7 @@
 
 mod catalogue;
 mod catalogue_rows;
-mod db_plain;
+mod db_lists;
 mod kept;
 mod leaving;
 mod look_up;
@@ -11,7 +11,7 @@ mod one_relation;
 mod ordered;
 mod rows;
 
-pub use db_plain::DbPlain;
+pub use db_lists::DbLists;
 
 #[cfg(test)]
 mod tests;

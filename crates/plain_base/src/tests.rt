@@ -17,7 +17,7 @@ fn key_of(alloc: Global, owner: &[u8], name: &[u8]) -> Result<RelKey, Fail> {
 #[test]
 fn a_new_database_has_the_catalogues_alone(rt: HostRuntime) -> Result<(), Fail> {
     let alloc = rt.alloc();
-    let base = DbPlain::new(alloc, named(alloc, b"ann")?);
+    let base = DbLists::new(alloc, named(alloc, b"ann")?);
     assert_eq!(rt; base.administrator().bytes(), b"ann".as_slice());
     assert_eq!(rt; base.entry_count(), 0);
     assert_eq!(rt; base.relation_rows(alloc)?.len(), 2);
@@ -28,7 +28,7 @@ fn a_new_database_has_the_catalogues_alone(rt: HostRuntime) -> Result<(), Fail> 
 #[test]
 fn a_catalogue_is_found_by_its_name(rt: HostRuntime) -> Result<(), Fail> {
     let alloc = rt.alloc();
-    let base = DbPlain::new(alloc, named(alloc, b"ann")?);
+    let base = DbLists::new(alloc, named(alloc, b"ann")?);
     let catalogue = key_of(alloc, b"ann", b"attribute")?;
     let other = key_of(alloc, b"bob", b"attribute")?;
     assert!(rt; base.known(alloc, &catalogue)?.is_some());
@@ -41,7 +41,7 @@ fn a_catalogue_is_found_by_its_name(rt: HostRuntime) -> Result<(), Fail> {
 #[test]
 fn nothing_stands_in_a_new_database(rt: HostRuntime) -> Result<(), Fail> {
     let alloc = rt.alloc();
-    let base = DbPlain::new(alloc, named(alloc, b"ann")?);
+    let base = DbLists::new(alloc, named(alloc, b"ann")?);
     let key = key_of(alloc, b"ann", b"parts")?;
     assert!(rt; !base.is_relation(&key));
     assert!(rt; base.stored_rows(&key).is_none());

@@ -1,0 +1,124 @@
+//! What is known of relations, views, indexes and catalogues without their rows.
+
+ghost use Rattle.std.specs.Prelude.{◌≡◌, option_map, IfOk};
+ghost use Rattle.calculus.specs.Catalogue.{catalogue_at, relation_info, attribute_info};
+ghost use Rattle.calculus.specs.Database.{relation_at, view_at};
+ghost use Rattle.calculus.specs.Finding.{found};
+ghost use Rattle.calculus.specs.Stored.{info_at};
+ghost use Rattle.am_traits.specs.Told.{known_at};
+
+use super::DbLists;
+use crate::catalogue::{attribute_attrs, is_named, key_of, relation_attrs};
+use crate::kept::{Stored, Viewed};
+use crate::look_up::under;
+use calculus::{List, Name, OutOfMemory, RelInfo, RelKey, Spec, TryCopy};
+use std::alloc::Global;
+
+impl DbLists {
+    /// The base relation under a key.
+    pub(super) fn relation<'a>(&'a self, key: &RelKey) -> Option<&'a Stored>
+        ensures { option_map (λ relation. relation.now) result ≡ relation_at self.now key.now }
+    {
+        under(&self.relations, key)
+    }
+
+    /// The view under a key.
+    pub(super) fn viewed<'a>(&'a self, key: &RelKey) -> Option<&'a Viewed>
+        ensures { option_map (λ view. view.now) result ≡ view_at self.now key.now }
+    {
+        under(&self.views, key)
+    }
+
+    /// What is known of the catalogue `relation`.
+    #[tactic(auto, unfolding(calculus::specs::Name::is_name))]
+    pub(super) fn relation_info(&self, alloc: Global) -> Result<RelInfo, OutOfMemory>
+        ensures { IfOk result (λ info. info ≡ relation_info self.now) }
+    {
+        let key = key_of(alloc, &self.dba, b"relation")?;
+        let attrs = relation_attrs(alloc)?;
+        Ok(RelInfo {
+            key,
+            spec: Spec::Heap,
+            attrs,
+            keys: List::of(Vec::new(alloc)),
+        })
+    }
+
+    /// What is known of the catalogue `attribute`.
+    #[tactic(auto, unfolding(calculus::specs::Name::is_name))]
+    pub(super) fn attribute_info(&self, alloc: Global) -> Result<RelInfo, OutOfMemory>
+        ensures { IfOk result (λ info. info ≡ attribute_info self.now) }
+    {
+        let key = key_of(alloc, &self.dba, b"attribute")?;
+        let attrs = attribute_attrs(alloc)?;
+        Ok(RelInfo {
+            key,
+            spec: Spec::Heap,
+            attrs,
+            keys: List::of(Vec::new(alloc)),
+        })
+    }
+
+    /// What is known of the catalogue under a key.
+    #[tactic(auto, unfolding(calculus::specs::Catalogue::catalogue_at))]
+    fn catalogue_info(&self, alloc: Global, key: &RelKey) -> Result<Option<RelInfo>, OutOfMemory>
+        ensures { IfOk result (λ info. info ≡ option_map (λ r. r.info) (catalogue_at self.now key.now)) }
+    {
+        if is_named(key, self.administrator(), b"relation") {
+            return Ok(Some(self.relation_info(alloc)?));
+        }
+        if is_named(key, self.administrator(), b"attribute") {
+            return Ok(Some(self.attribute_info(alloc)?));
+        }
+        Ok(None)
+    }
+
+    /// What is known of the relation, view, index or catalogue under a key.
+    #[tactic(auto, unfolding(am_traits::specs::Told::known_at))]
+    pub fn known(&self, alloc: Global, key: &RelKey) -> Result<Option<RelInfo>, OutOfMemory>
+        ensures { IfOk result (λ info. info ≡ known_at self.now key.now) }
+    {
+        match self.entry(key) {
+            Some(info) => Ok(Some(info.copy(alloc)?)),
+            None => self.catalogue_info(alloc, key),
+        }
+    }
+
+    /// What is known of the relation, view or catalogue under a key; an index is left out.
+    #[tactic(auto, unfolding(calculus::specs::Stored::range_at, calculus::specs::Stored::info_at))]
+    pub fn ranged(&self, alloc: Global, key: &RelKey) -> Result<Option<RelInfo>, OutOfMemory>
+        ensures { IfOk result (λ info. info ≡ info_at self.now key.now) }
+    {
+        if let Some(relation) = self.relation(key) {
+            return Ok(Some(relation.info.copy(alloc)?));
+        }
+        match self.viewed(key) {
+            Some(view) => Ok(Some(view.info.copy(alloc)?)),
+            None => self.catalogue_info(alloc, key),
+        }
+    }
+
+    /// What the user means by a name.
+    #[tactic(auto, unfolding(calculus::specs::Finding::found))]
+    pub fn found(
+        &self,
+        alloc: Global,
+        user: &Name,
+        name: &Name,
+    ) -> Result<Option<RelInfo>, OutOfMemory>
+        ensures { IfOk result (λ info. info ≡ found self.now user.now name.now) }
+    {
+        let own = RelKey {
+            owner: user.copy(alloc)?,
+            name: name.copy(alloc)?,
+        };
+        if let Some(info) = self.ranged(alloc, &own)? {
+            return Ok(Some(info));
+        }
+        let shared = RelKey {
+            owner: self.administrator().copy(alloc)?,
+            name: name.copy(alloc)?,
+        };
+        self.ranged(alloc, &shared)
+    }
+}
