@@ -7,3 +7,6 @@ pub mod Outcomes
 pub mod ChangeAt
 pub mod CatalogueLists
 pub mod RowsAt
+pub mod FewRows
+pub mod NextRow
+pub mod Caused

@@ -1,4 +1,4 @@
-//! A database in memory.
+//! A database as lists in order.
 
 ghost use Rattle.std.specs.Prelude.{◌≡◌, []};
 
@@ -13,9 +13,9 @@ use calculus::{Name, Permit, RelKey, Rule};
 use std::alloc::Global;
 use std::marker::Model;
 
-/// A database in memory. Contracts see the database itself.
+/// A database as lists in order. Contracts see the database itself.
 #[derive(Debug, Drop)]
-pub struct DbLists {
+pub(crate) struct DbLists {
     dba: Name,
     relations: Vec<Stored>,
     indexes: Vec<Indexed>,

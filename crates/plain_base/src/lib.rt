@@ -4,14 +4,17 @@
 mod catalogue;
 mod catalogue_rows;
 mod db_lists;
+mod db_plain;
 mod kept;
 mod leaving;
 mod look_up;
 mod one_relation;
 mod ordered;
 mod rows;
+mod scanning;
 
-pub use db_lists::DbLists;
+pub(crate) use db_lists::DbLists;
+pub use db_plain::DbPlain;
 
 #[cfg(test)]
 mod tests;

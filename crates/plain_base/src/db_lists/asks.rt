@@ -37,13 +37,6 @@ impl DbLists {
         about(&self.indexes, key)
     }
 
-    /// Whether a base relation stands under the key.
-    pub fn is_relation(&self, key: &RelKey) -> bool
-        ensures { result ≡ is_relation self.now key.now }
-    {
-        under(&self.relations, key).is_some()
-    }
-
     /// The query of the view under a key.
     pub fn query(&self, alloc: Global, key: &RelKey) -> Result<Option<Query>, OutOfMemory>
         ensures { IfOk result (λ query. query ≡ query_at self.now key.now) }

@@ -1,9 +1,10 @@
 //! What is known of relations, views, indexes and catalogues without their rows.
 
 ghost use Rattle.std.specs.Prelude.{◌≡◌, option_map, IfOk};
-ghost use Rattle.calculus.specs.Catalogue.{catalogue_at, relation_info, attribute_info};
+ghost use Rattle.calculus.specs.Catalogue.{catalogue_at, relation_info, attribute_info, relation_key, attribute_key};
 ghost use Rattle.calculus.specs.Database.{relation_at, view_at};
 ghost use Rattle.calculus.specs.Finding.{found};
+ghost use Rattle.calculus.specs.Keys.{same_key};
 ghost use Rattle.calculus.specs.Stored.{info_at};
 ghost use Rattle.am_traits.specs.Told.{known_at};
 
@@ -16,17 +17,31 @@ use std::alloc::Global;
 
 impl DbLists {
     /// The base relation under a key.
-    pub(super) fn relation<'a>(&'a self, key: &RelKey) -> Option<&'a Stored>
+    pub(crate) fn relation<'a>(&'a self, key: &RelKey) -> Option<&'a Stored>
         ensures { option_map (λ relation. relation.now) result ≡ relation_at self.now key.now }
     {
         under(&self.relations, key)
     }
 
     /// The view under a key.
-    pub(super) fn viewed<'a>(&'a self, key: &RelKey) -> Option<&'a Viewed>
+    pub(crate) fn viewed<'a>(&'a self, key: &RelKey) -> Option<&'a Viewed>
         ensures { option_map (λ view. view.now) result ≡ view_at self.now key.now }
     {
         under(&self.views, key)
+    }
+
+    /// Whether the key is that of the catalogue `relation`.
+    pub(crate) fn is_relation_key(&self, key: &RelKey) -> bool
+        ensures { result ≡ same_key key.now (relation_key self.now) }
+    {
+        is_named(key, self.administrator(), b"relation")
+    }
+
+    /// Whether the key is that of the catalogue `attribute`.
+    pub(crate) fn is_attribute_key(&self, key: &RelKey) -> bool
+        ensures { result ≡ same_key key.now (attribute_key self.now) }
+    {
+        is_named(key, self.administrator(), b"attribute")
     }
 
     /// What is known of the catalogue `relation`.
@@ -64,10 +79,10 @@ impl DbLists {
     fn catalogue_info(&self, alloc: Global, key: &RelKey) -> Result<Option<RelInfo>, OutOfMemory>
         ensures { IfOk result (λ info. info ≡ option_map (λ r. r.info) (catalogue_at self.now key.now)) }
     {
-        if is_named(key, self.administrator(), b"relation") {
+        if self.is_relation_key(key) {
             return Ok(Some(self.relation_info(alloc)?));
         }
-        if is_named(key, self.administrator(), b"attribute") {
+        if self.is_attribute_key(key) {
             return Ok(Some(self.attribute_info(alloc)?));
         }
         Ok(None)

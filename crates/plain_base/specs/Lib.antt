@@ -1,0 +1,4 @@
+pub mod FoundRows
+pub mod Laws
+pub mod Places
+pub mod Shown

@@ -1,0 +1,28 @@
+//! A database in memory, as a base.
+
+ghost use Rattle.std.specs.Prelude.{◌≡◌, map, flat_map};
+ghost use Rattle.std.specs.Option.{ForSome};
+ghost use Rattle.calculus.specs.Catalogue.{all_entries, relation_row, attribute_rows};
+ghost use Rattle.calculus.specs.IsDatabase.{IsDatabase};
+ghost use Rattle.calculus.specs.Rows.{set_of};
+ghost use Rattle.std.proofs.Props.{props};
+
+mod base;
+mod changed;
+mod rows_asked;
+
+use crate::DbLists;
+use calculus::RowSet;
+
+/// A database in memory, as a base. It shows the database that it is.
+///
+/// The rows of a catalogue are made when they are first asked for, and kept until a change.
+#[derive(Debug, Drop)]
+pub struct DbPlain {
+    lists: DbLists,
+    kept_relation: Option<RowSet>,
+    kept_attribute: Option<RowSet>,
+    ghost is: { IsDatabase lists } by { Prim.hlevel props },
+    ghost relation_is: { ForSome kept_relation (λ rows. rows ≡ set_of (map relation_row (all_entries lists))) },
+    ghost attribute_is: { ForSome kept_attribute (λ rows. rows ≡ set_of (flat_map attribute_rows (all_entries lists))) },
+}
