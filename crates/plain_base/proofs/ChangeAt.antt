@@ -13,7 +13,7 @@ use Rattle.calculus.specs.Change.{change_at}
 use Rattle.calculus.specs.Database.{Relation}
 use Rattle.calculus.specs.Keys.{same_key, key_cmp}
 
-key_total : IsTotalOrder key_cmp
+pub key_total : IsTotalOrder key_cmp
 key_total = then_total (on_total (λ key. key.owner) nat_list_cmp_total) (on_total (λ key. key.name) nat_list_cmp_total)
 
 both : (b c : Bool) → (b && c) ≡ true → (b ≡ true) × (c ≡ true)
@@ -21,7 +21,7 @@ both true true h = (refl, refl)
 both true false h = (refl, h)
 both false c h = (h, cc h)
 
-same_key_is : (a b : RelKey) → same_key a b ≡ true → a ≡ b
+pub same_key_is : (a b : RelKey) → same_key a b ≡ true → a ≡ b
 same_key_is a b h =
     let parts = both (bytes_eq a.owner b.owner) (bytes_eq a.name b.name) h in
     λ i. record { owner = (bytes_eq-Decides a.owner b.owner).0 parts.0 i; name = (bytes_eq-Decides a.name b.name).0 parts.1 i }

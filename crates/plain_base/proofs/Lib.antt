@@ -9,4 +9,4 @@ pub mod CatalogueLists
 pub mod RowsAt
 pub mod FewRows
 pub mod NextRow
-pub mod Caused
+pub mod SearchByKey

@@ -2,10 +2,12 @@
 
 ghost use Rattle.std.specs.Prelude.{◌≡◌, not, ◌&&◌, find, filter, map, option_map, IfOk};
 ghost use Rattle.std.specs.List.{list_any};
-ghost use Rattle.calculus.specs.Keys.{same_key, has_key};
+ghost use Rattle.std.specs.List.Sorted.{IsStrictlySortedBy};
+ghost use Rattle.calculus.specs.Keys.{same_key, has_key, key_cmp};
 ghost use Rattle.calculus.specs.QueryParts.{vars_of};
 
 use crate::kept::{Known, Viewed};
+use crate::ordered::key_order;
 use calculus::{OutOfMemory, RelInfo, RelKey, TryCopy};
 use std::alloc::Global;
 
@@ -23,15 +25,20 @@ pub(crate) fn is_among(keys: &[RelKey], key: &RelKey) -> bool
     keys.iter().any(|other| is_same(key, other))
 }
 
-/// What stands under the key.
+/// What stands under the key, where keys ascend. A binary search.
 pub(crate) fn under<'a, T: Known>(items: &'a [T], key: &RelKey) -> Option<&'a T>
+    requires { IsStrictlySortedBy key_cmp (map (λ t. (T.known t).key) items.now) }
     ensures { option_map (λ t. t.now) result ≡ find (λ t. same_key (T.known t).key key.now) items.now }
 {
-    items.iter().find(|item| is_same(&item.info().key, key))
+    match items.binary_search_by(|item| key_order(&item.info().key, key)) {
+        Ok(place) => Some(&items[place]),
+        Err(_) => None,
+    }
 }
 
-/// What is known of what stands under the key.
+/// What is known of what stands under the key, where keys ascend. A binary search.
 pub(crate) fn about<'a, T: Known>(items: &'a [T], key: &RelKey) -> Option<&'a RelInfo>
+    requires { IsStrictlySortedBy key_cmp (map (λ t. (T.known t).key) items.now) }
     ensures { option_map (λ i. i.now) result ≡ find (λ i. same_key i.key key.now) (map (λ t. T.known t) items.now) }
 {
     match under(items, key) {

@@ -21,7 +21,7 @@ pub(crate) trait Placed {
 }
 
 /// The order of two keys: by owner, then by name.
-fn key_order(left: &RelKey, right: &RelKey) -> Ordering
+pub(crate) fn key_order(left: &RelKey, right: &RelKey) -> Ordering
     ensures { result ≡ key_cmp left.now right.now }
 {
     left.owner

@@ -24,7 +24,7 @@ impl DbLists {
         (self.relations.len() + self.views.len() + self.indexes.len()) as u32
     }
 
-    /// What is known of the relation, view or index under a key. Goes over them once.
+    /// What is known of the relation, view or index under a key. By binary searches.
     pub fn entry(&self, key: &RelKey) -> Option<&RelInfo>
         ensures { option_map (λ info. info.now) result ≡ entry_at self.now key.now }
     {

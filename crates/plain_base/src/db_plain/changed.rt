@@ -1,6 +1,6 @@
 //! A new database in memory, and its changes.
 
-ghost use Rattle.std.specs.Prelude.{◌≡◌, [], OnOk, OnErr};
+ghost use Rattle.std.specs.Prelude.{◌≡◌, [], None, OnOk, OnErr};
 ghost use Rattle.calculus.specs.Change.{IsLawful, laid};
 ghost use Rattle.plain_base.specs.Shown.{database_of};
 
@@ -23,7 +23,9 @@ impl DbPlain {
 
     /// Forgets the rows of the catalogues that are kept.
     pub(super) fn forget(&mut self)
-        ensures { database_of self.new ≡ database_of self.old }
+        ensures same { database_of self.new ≡ database_of self.old }
+        ensures relation { self.new.kept_relation ≡ None }
+        ensures attribute { self.new.kept_attribute ≡ None }
     {
         self.kept_relation = None;
         self.kept_attribute = None;
@@ -35,8 +37,7 @@ impl DbPlain {
         ensures ok { OnOk result (database_of self.new ≡ laid (database_of self.old) change.now) }
         ensures err { OnErr result (database_of self.new ≡ database_of self.old) }
     {
-        self.kept_relation = None;
-        self.kept_attribute = None;
+        self.forget();
         self.lists.lay(alloc, change)
     }
 }
