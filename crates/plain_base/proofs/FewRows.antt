@@ -1,6 +1,5 @@
 -- Few rows stand under a key.
-use Rattle.std.proofs.Common.{◌≡◌, refl, sym, ap, ◌∙◌, subst, ℕ, suc, ◌+◌, ◌*◌, ◌<◌, ◌≤◌, ◌^◌, Bool, true, false, ◌&&◌, not, nat_le, IsTrue, List, [], ◌∷◌, ◌++◌, length, map, length-append, rules, arith}
-use Rattle.std.proofs.lemmas.Cmp.{tied_itself}
+use Rattle.std.proofs.Common.{◌≡◌, refl, ap, ◌∙◌, ◌+◌, ◌*◌, ◌<◌, ◌≤◌, ◌^◌, Bool, true, false, ◌&&◌, not, nat_le, IsTrue, List, [], ◌∷◌, ◌++◌, length, map, length-append, rules, arith}
 use Rattle.std.proofs.lemmas.Grind.{flat_map-append}
 use Rattle.std.proofs.lemmas.List.{length-map}
 use Rattle.std.proofs.lemmas.List.FromFn.{length-enumerate_from}
@@ -12,15 +11,14 @@ use Rattle.calculus.specs.declared.schema.Attr.{Attr}
 use Rattle.calculus.specs.declared.schema.RelInfo.{RelInfo}
 use Rattle.calculus.specs.declared.schema.Spec.{Spec}
 use Rattle.calculus.specs.declared.schema.Spec.TheVariants as spec
-use Rattle.calculus.specs.Catalogue.{all_entries, relation_info, attribute_info, relation_row, attribute_row, attribute_rows}
+use Rattle.calculus.specs.Catalogue.{all_entries, relation_row, attribute_row, attribute_rows}
 use Rattle.calculus.specs.Database.{Db, Relation, View, Index, entries, is_relation}
 use Rattle.calculus.specs.IsDatabase.{IsDatabase, attrs_stand, index_stands, keys_stand}
-use Rattle.calculus.specs.Limits.{most_attributes, most_entries, most_rows}
+use Rattle.calculus.specs.Limits.{most_rows}
 use Rattle.calculus.specs.Lists.{is_any}
-use Rattle.calculus.specs.Rows.{Row, Ascends, has, put, set_of}
+use Rattle.calculus.specs.Rows.{Row, put, set_of}
 use Rattle.calculus.specs.Stored.{rows_at, attrs_at}
 use Rattle.calculus.specs.Value.{row_cmp}
-use Rattle.calculus.proofs.Sets.{same_set, has-set_of, Ascends-nil, Ascends-set_of}
 use Rattle.plain_base.specs.FoundRows.{under_key}
 
 -- ---- how many rows a set has

@@ -1,10 +1,10 @@
 -- What a database in memory shows, and what of it is kept.
-use Rattle.std.specs.Prelude.{◌≡◌, IsTrue, List, map, flat_map, Option, Some}
+use Rattle.std.specs.Prelude.{◌≡◌, IsTrue, map, flat_map, Some}
 use Rattle.calculus.specs.declared.query.RelKey.{RelKey}
 use Rattle.calculus.specs.Catalogue.{all_entries, relation_row, attribute_rows, relation_key, attribute_key}
 use Rattle.calculus.specs.Database.{Db}
 use Rattle.calculus.specs.Keys.{same_key}
-use Rattle.calculus.specs.Rows.{Row, set_of}
+use Rattle.calculus.specs.Rows.{set_of}
 use Rattle.plain_base.specs.declared.db_plain.DbPlain.{DbPlain}
 
 -- the database that it is

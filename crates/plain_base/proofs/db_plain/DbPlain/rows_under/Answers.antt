@@ -1,4 +1,4 @@
-use Rattle.std.proofs.Common.{◌≡◌, ◌<◌, ◌^◌, sym, ap, ◌∙◌, subst, List, length}
+use Rattle.std.proofs.Common.{◌<◌, ◌^◌, sym, ap, ◌∙◌, subst, List, length}
 use Rattle.calculus.specs.Database.{Relation}
 use Rattle.calculus.specs.Rows.{Row, Ascends}
 use Rattle.plain_base.specs.Laws.{ascending}
