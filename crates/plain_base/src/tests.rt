@@ -29,6 +29,18 @@ fn scanned<B: Base>(alloc: Global, base: &mut B, key: &RelKey) -> Result<u32, Ba
     Ok(20)
 }
 
+/// Whether the first row that a scan gives is there.
+fn has_first<B: Base>(alloc: Global, base: &mut B, key: &RelKey) -> Result<bool, BaseFault> {
+    let every = Probe {
+        equal: List::of(Vec::new(alloc)),
+    };
+    let mut at = Place { page: 0, line: 0 };
+    match base.scan(alloc, key, &every, &mut at)? {
+        Some(row) => base.has_row(alloc, key, &row),
+        None => Ok(false),
+    }
+}
+
 /// How many rules and permits stand on what is under a key.
 fn hanging<B: Base>(alloc: Global, base: &mut B, key: &RelKey) -> Result<usize, BaseFault> {
     let rules = base.rules(alloc, key)?;
@@ -57,6 +69,16 @@ fn a_scan_gives_each_row_of_a_catalogue(rt: HostRuntime) -> Result<(), Fail> {
     assert_eq!(rt; scanned(alloc, &mut base, &key)?, 9);
     base.hand_over();
     assert_eq!(rt; base.size(alloc, &key)?, 9);
+    Ok(())
+}
+
+#[test]
+fn a_row_that_a_scan_gives_is_there(rt: HostRuntime) -> Result<(), Fail> {
+    let alloc = rt.alloc();
+    let key = key_of(alloc, b"ann", b"relation")?;
+    let mut base = DbPlain::new(alloc, named(alloc, b"ann")?);
+    assert_eq!(rt; base.dba(alloc)?.bytes(), b"ann".as_slice());
+    assert!(rt; has_first(alloc, &mut base, &key)?);
     Ok(())
 }
 
