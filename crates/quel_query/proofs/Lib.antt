@@ -1,0 +1,3 @@
+pub mod KindsKnown
+pub mod Putting
+pub mod Whole
