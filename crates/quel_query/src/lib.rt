@@ -5,6 +5,11 @@ mod known;
 mod parts;
 mod places;
 mod queries;
+mod sorting;
 mod targets;
+mod trees;
+mod updates;
 
 pub use queries::query_of;
+pub use trees::tree_by;
+pub use updates::{append_of, delete_of, into_of, replace_of};
