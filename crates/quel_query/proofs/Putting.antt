@@ -28,7 +28,8 @@ use Rattle.quel_meaning.specs.WrittenTree.{Vars, var_place, term_tree, aggregate
 use Rattle.quel_query.specs.Targets.{Puts, is_plain, kinds_in}
 use Rattle.quel_query.proofs.KindsKnown.{kinds_known}
 
-both_so : (a b : Bool) → (a && b) ≡ true → (a ≡ true) × (b ≡ true)
+-- both of two tests pass
+pub both_so : (a b : Bool) → (a && b) ≡ true → (a ≡ true) × (b ≡ true)
 both_so true b h = (refl, h)
 both_so false b h = cc h
 

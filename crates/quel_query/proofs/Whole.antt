@@ -23,10 +23,7 @@ use Rattle.quel_meaning.specs.WrittenTree.{Vars, key_over}
 use Rattle.quel_meaning.specs.WrittenQuery.{targets_from, where_tree, query_of}
 use Rattle.quel_query.specs.Targets.{Puts, is_plain}
 use Rattle.quel_query.proofs.KindsKnown.{keys_known}
-
-both_so : (a b : Bool) → (a && b) ≡ true → (a ≡ true) × (b ≡ true)
-both_so true b h = (refl, h)
-both_so false b h = cc h
+use Rattle.quel_query.proofs.Putting.{both_so}
 
 both : (a b : Bool) → a ≡ true → b ≡ true → (a && b) ≡ true
 both a b e f = λ i. e i && f i

@@ -51,12 +51,7 @@ fn push_term(
 }
 
 /// The target of an attribute of a variable, both by place.
-fn attr_target(
-    alloc: Global,
-    var: u8,
-    place: usize,
-    attr: &Attr,
-) -> Result<Target, OutOfMemory>
+fn attr_target(alloc: Global, var: u8, place: usize, attr: &Attr) -> Result<Target, OutOfMemory>
     ensures { IfOk result (λ target. place ≤ 255 → target ≡ record { name = attr.now.name; kind = attr.now.kind; term = qterm.Attr var place }) }
 {
     let name = attr.name.copy(alloc)?;

@@ -1,6 +1,6 @@
 //! The tree of a statement.
 
-ghost use Rattle.std.specs.Prelude.{◌≡◌, ◌≤◌, ℕ, List as Items, [], ◌∷◌, is_some, length, map, option_map, IfOk, IfSome};
+ghost use Rattle.std.specs.Prelude.{◌≡◌, ◌≤◌, ℕ, List as Items, [], ◌∷◌, is_some, length, map, option_copied, IfOk, IfSome};
 ghost use Rattle.calculus.specs.declared.request.Checked.TheVariants.{Answer, Update, Utility as ForUtilities};
 ghost use Rattle.calculus.specs.declared.request.Utility.TheVariants as utility;
 ghost use Rattle.calculus.specs.declared.statement.Item.{Item as WrittenItem};
@@ -17,8 +17,8 @@ ghost use Rattle.quel_query.specs.Changed.{Suits, is_built};
 use crate::sorting::sort_keys;
 use crate::updates::{append_of, delete_of, into_of, replace_of};
 use calculus::{
-    Asked, Attr, Checked, Domain, Kind, List, Name, OutOfMemory, Query, RelInfo, RelKey,
-    Statement, TryCopy, Utility,
+    Asked, Attr, Checked, Domain, Kind, List, Name, OutOfMemory, Query, RelInfo, RelKey, Statement,
+    TryCopy, Utility,
 };
 use std::alloc::Global;
 
@@ -89,8 +89,8 @@ fn appended(
     target: Option<&RelInfo>,
     q: Query,
 ) -> Result<Option<Checked>, OutOfMemory>
-    ensures built { IfOk result (λ tree. is_some tree ≡ is_some target) }
-    ensures tree { IfOk result (λ tree. (scope : Scope) (rel : Items ℕ) → named scope rel ≡ option_map (λ info. info.now) target → length (attrs_in (option_map (λ info. info.now) target)) ≤ 256 → IfSome tree (λ checked. checked ≡ Update (append_of scope rel q))) }
+    ensures built { IfOk result (λ tree. is_some tree ≡ is_some target.entry) }
+    ensures tree { IfOk result (λ tree. (scope : Scope) (rel : Items ℕ) → named scope rel ≡ option_copied target.entry → length (attrs_in (option_copied target.entry)) ≤ 256 → IfSome tree (λ checked. checked ≡ Update (append_of scope rel q))) }
 {
     match target {
         Some(info) => Ok(Some(Checked::Update(append_of(alloc, info, q)?))),
@@ -104,8 +104,8 @@ fn replaced(
     target: Option<&RelInfo>,
     q: Query,
 ) -> Result<Option<Checked>, OutOfMemory>
-    ensures built { IfOk result (λ tree. is_some tree ≡ is_some target) }
-    ensures tree { IfOk result (λ tree. (scope : Scope) (var : Items ℕ) → ranged scope var ≡ option_map (λ info. info.now) target → length (attrs_in (option_map (λ info. info.now) target)) ≤ 256 → IfSome tree (λ checked. checked ≡ Update (replace_of scope var q))) }
+    ensures built { IfOk result (λ tree. is_some tree ≡ is_some target.entry) }
+    ensures tree { IfOk result (λ tree. (scope : Scope) (var : Items ℕ) → ranged scope var ≡ option_copied target.entry → length (attrs_in (option_copied target.entry)) ≤ 256 → IfSome tree (λ checked. checked ≡ Update (replace_of scope var q))) }
 {
     match target {
         Some(info) => Ok(Some(Checked::Update(replace_of(alloc, info, q)?))),
@@ -119,8 +119,8 @@ fn deleted(
     target: Option<&RelInfo>,
     q: Query,
 ) -> Result<Option<Checked>, OutOfMemory>
-    ensures built { IfOk result (λ tree. is_some tree ≡ is_some target) }
-    ensures tree { IfOk result (λ tree. (scope : Scope) (var : Items ℕ) → ranged scope var ≡ option_map (λ info. info.now) target → length (attrs_in (option_map (λ info. info.now) target)) ≤ 256 → IfSome tree (λ checked. checked ≡ Update (delete_of scope var q))) }
+    ensures built { IfOk result (λ tree. is_some tree ≡ is_some target.entry) }
+    ensures tree { IfOk result (λ tree. (scope : Scope) (var : Items ℕ) → ranged scope var ≡ option_copied target.entry → length (attrs_in (option_copied target.entry)) ≤ 256 → IfSome tree (λ checked. checked ≡ Update (delete_of scope var q))) }
 {
     match target {
         Some(info) => Ok(Some(Checked::Update(delete_of(alloc, info, q)?))),
@@ -139,8 +139,8 @@ pub fn tree_by(
     q: Query,
     target: Option<&RelInfo>,
 ) -> Result<Option<Checked>, OutOfMemory>
-    ensures built { IfOk result (λ tree. is_some tree ≡ is_built s.now (option_map (λ info. info.now) target)) }
-    ensures tree { IfOk result (λ tree. (scope : Scope) → Suits scope user.now s.now q (option_map (λ info. info.now) target) → IfSome tree (λ checked. checked ≡ tree_by scope q s.now)) }
+    ensures built { IfOk result (λ tree. is_some tree ≡ is_built s.now (option_copied target.entry)) }
+    ensures tree { IfOk result (λ tree. (scope : Scope) → Suits scope user.now s.now q (option_copied target.entry) → IfSome tree (λ checked. checked ≡ tree_by scope q s.now)) }
 {
     match s {
         Statement::Retrieve { into, sort, .. } => {

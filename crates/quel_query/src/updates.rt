@@ -81,12 +81,7 @@ pub fn delete_of(alloc: Global, info: &RelInfo, q: Query) -> Result<Update, OutO
 }
 
 /// A new relation of the user's with this name, for a query of at most 256 targets.
-pub fn into_of(
-    alloc: Global,
-    user: &Name,
-    name: &Name,
-    q: Query,
-) -> Result<Update, OutOfMemory>
+pub fn into_of(alloc: Global, user: &Name, name: &Name, q: Query) -> Result<Update, OutOfMemory>
     ensures { IfOk result (λ update. (scope : Scope) → scope.user ≡ user.now → length (targets_of q) ≤ 256 → update ≡ into_of scope name.now q) }
 {
     let owner = user.copy(alloc)?;
