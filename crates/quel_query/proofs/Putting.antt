@@ -1,10 +1,9 @@
 -- Targets put behind others, item by item.
-use Rattle.std.proofs.Common.{◌≡◌, refl, sym, ap, ◌∙◌, subst, ℕ, zero, suc, ◌+◌, ◌<◌, add-one, arith, Bool, true, false, ◌||◌, ◌&&◌, not, List, [], ◌∷◌, ◌++◌, append_assoc, append-nil, map, take, length, get_or, Option, Some, None}
-use Rattle.std.specs.List.{list_all, slice_get, enumerate_from}
+use Rattle.std.proofs.Common.{◌≡◌, refl, sym, ap, ◌∙◌, subst, ℕ, zero, suc, ◌+◌, ◌<◌, add-one, arith, Bool, true, false, ◌&&◌, not, List, [], ◌∷◌, ◌++◌, append_assoc, append-nil, map, take, length, get_or}
+use Rattle.std.specs.List.{slice_get, enumerate_from}
 use Rattle.std.specs.Option.{unwrap_or}
 use Rattle.std.proofs.lemmas.List.Folds.{list_all-append}
 use Rattle.calculus.specs.declared.query.QTerm.{QTerm}
-use Rattle.calculus.specs.declared.query.QTerm.TheVariants as qterm
 use Rattle.calculus.specs.declared.query.Target.{Target}
 use Rattle.calculus.specs.declared.schema.RelInfo.{RelInfo}
 use Rattle.calculus.specs.declared.statement.Item.{Item}
@@ -17,12 +16,11 @@ use Rattle.calculus.specs.Lists.{is_any}
 use Rattle.calculus.specs.QueryParts.{term_aggregates}
 use Rattle.calculus.specs.Stored.{attrs_in}
 use Rattle.calculus.specs.Written.{neg, abs, operation, concat}
-use Rattle.quel_check.specs.Known.{Knows, is_among, are_among, IsTermTree}
+use Rattle.quel_check.specs.Known.{Knows, are_among, IsTermTree}
 use Rattle.quel_check.proofs.Found.{at_place}
 use Rattle.quel_meaning.proofs.KindFacts.{same_kinds}
-use Rattle.quel_meaning.specs.KindsInQueries.{kind_in_query}
 use Rattle.quel_meaning.specs.Scope.{Scope, ranged}
-use Rattle.quel_meaning.specs.WrittenParts.{aggregate_of, aggregates_in, aggregates_in_item, outer_vars, outer_vars_in_item}
+use Rattle.quel_meaning.specs.WrittenParts.{aggregate_of, aggregates_in, aggregates_in_item, outer_vars}
 use Rattle.quel_meaning.specs.WrittenQuery.{kinds_over, target, attr_targets, item_targets, targets_from}
 use Rattle.quel_meaning.specs.WrittenTree.{Vars, var_place, term_tree, aggregate_tree}
 use Rattle.quel_query.specs.Targets.{Puts, is_plain, kinds_in}

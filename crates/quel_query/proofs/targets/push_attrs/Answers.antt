@@ -1,5 +1,4 @@
-use Rattle.std.proofs.Common.{◌≡◌, ◌≤◌, ◌∷◌, ◌++◌, [], List, length, map, take, sym, ap, ◌∙◌, append_assoc, arith, ℕ}
-use Rattle.std.specs.List.{enumerate_from}
+use Rattle.std.proofs.Common.{◌≤◌, ◌∷◌, ◌++◌, [], List, take, sym, ap, ◌∙◌, append_assoc, arith, ℕ}
 use Rattle.calculus.specs.declared.query.QTerm.TheVariants as qterm
 use Rattle.calculus.specs.declared.query.Target.{Target}
 use Rattle.calculus.specs.declared.schema.Attr.{Attr}
