@@ -1,0 +1,3 @@
+pub mod TreeKeys
+pub mod OwnRanges
+pub mod Plain
