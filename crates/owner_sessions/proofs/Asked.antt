@@ -38,6 +38,7 @@ use Rattle.quel_meaning.proofs.Accepted.{scope, accepted}
 use Rattle.quel_meaning.proofs.Each.{Each, both_of, of_map, in_map, in_flat_map, each_to, passed, each_passes, left, not_not}
 use Rattle.quel_meaning.proofs.Found.{IsFound, IsRanged, names_found, vars_ranged, ranged_with, named_with}
 use Rattle.quel_meaning.proofs.Keys.{bytes_same, same_bytes, find_passes}
+use Rattle.quel_meaning.proofs.ReadsFit.{none_of}
 use Rattle.quel_meaning.proofs.Slots.{in_targets, none_in_attrs}
 use Rattle.quel_meaning.proofs.Sources.{sources_allowed}
 use Rattle.owner_laws.specs.Own.{IsOwn, are_own}
@@ -45,19 +46,6 @@ use Rattle.owner_sessions.specs.TreeKeys.{source_keys, query_keys, tree_keys}
 use Rattle.owner_sessions.proofs.Found.{Mine, own_key, administrators, is_named_own, info_own, ranged_own, named_own}
 
 -- ---- aggregates that may stand
-
--- the first of these causes isn't there
-abbrev IsFirstAbsent : List (ℕ × Bool) → Type 0
-IsFirstAbsent [] = Unit {0}
-IsFirstAbsent (c ∷ cs) = c.1 ≡ false
-
-first_absent : (cs : List (ℕ × Bool)) → first_cause cs ≡ None → IsFirstAbsent cs
-first_absent [] h = tt
-first_absent (c ∷ cs) h = go c.1 h
-  where
-    go : (b : Bool) → ◌≡◌ {A = Option ℕ} (elim b [ true ↦ Some c.0 | false ↦ first_cause cs ]) None → b ≡ false
-    go true k = absurd (cc k)
-    go false k = refl
 
 -- each aggregate of the text may stand
 each_stands : (s : Scope) (stmt : Statement) → aggregates_stand s stmt ≡ true → list_all (aggregate_stands s) (text_aggregates stmt) ≡ true
@@ -173,14 +161,14 @@ module _ (s : Scope) (user : List ℕ) (own : IsOwn s.db user) where
   unfolding tree_of tree_keys mentions causes append_of replace_of delete_of into_of
   tree_own e (statement.Range var rel) h k = tt
   tree_own e (statement.Retrieve None items qual sort) h k =
-      both_of (Mine user) (query_keys (query_of s (statement.Retrieve None items qual sort))) [] (query_own (statement.Retrieve None items qual sort) h (not_not _ (first_absent (causes s (statement.Retrieve None items qual sort)) k))) tt
-  tree_own e (statement.Retrieve (Some name) items qual sort) h k = (made_own e name, query_own (statement.Retrieve (Some name) items qual sort) h (not_not _ (first_absent (causes s (statement.Retrieve (Some name) items qual sort)) k)))
+      both_of (Mine user) (query_keys (query_of s (statement.Retrieve None items qual sort))) [] (query_own (statement.Retrieve None items qual sort) h (not_not _ (none_of (causes s (statement.Retrieve None items qual sort)) k).0)) tt
+  tree_own e (statement.Retrieve (Some name) items qual sort) h k = (made_own e name, query_own (statement.Retrieve (Some name) items qual sort) h (not_not _ (none_of (causes s (statement.Retrieve (Some name) items qual sort)) k).0))
   tree_own e (statement.Append rel items qual) h k =
-      (relation_own rel (names_found s (statement.Append rel items qual) h).0, query_own (statement.Append rel items qual) h (not_not _ (first_absent (causes s (statement.Append rel items qual)) k)))
+      (relation_own rel (names_found s (statement.Append rel items qual) h).0, query_own (statement.Append rel items qual) h (not_not _ (none_of (causes s (statement.Append rel items qual)) k).0))
   tree_own e (statement.Replace var items qual) h k =
-      (variable_own var (names_found s (statement.Replace var items qual) h).0, query_own (statement.Replace var items qual) h (not_not _ (first_absent (causes s (statement.Replace var items qual)) k)))
+      (variable_own var (names_found s (statement.Replace var items qual) h).0, query_own (statement.Replace var items qual) h (not_not _ (none_of (causes s (statement.Replace var items qual)) k).0))
   tree_own e (statement.Delete var qual) h k =
-      (variable_own var (names_found s (statement.Delete var qual) h).0, query_own (statement.Delete var qual) h (not_not _ (first_absent (causes s (statement.Delete var qual)) k)))
+      (variable_own var (names_found s (statement.Delete var qual) h).0, query_own (statement.Delete var qual) h (not_not _ (none_of (causes s (statement.Delete var qual)) k).0))
   tree_own e (statement.Create rel attrs) h k = (made_own e rel, tt)
   tree_own e (statement.Destroy rels) h k = destroyed_own e rels
   tree_own e (statement.DropPermits rel numbers) h k = (relation_own rel (names_found s (statement.DropPermits rel numbers) h).0, tt)
@@ -191,7 +179,7 @@ module _ (s : Scope) (user : List ℕ) (own : IsOwn s.db user) where
   tree_own e (statement.Help None) h k = shown_own (help_on_all s) help_own
   tree_own e (statement.Help (Some rel)) h k = shown_own (help_on s (named s rel)) (help_on_own (named s rel))
   tree_own e (statement.Copy rel columns from file) h k = (relation_own rel (names_found s (statement.Copy rel columns from file) h).0, tt)
-  tree_own e (statement.View name items qual) h k = (made_own e name, query_own (statement.View name items qual) h (not_not _ (first_absent (causes s (statement.View name items qual)) k)))
+  tree_own e (statement.View name items qual) h k = (made_own e name, query_own (statement.View name items qual) h (not_not _ (none_of (causes s (statement.View name items qual)) k).0))
   tree_own e (statement.Permit ops var attrs user' qual) h k = (variable_own var (names_found s (statement.Permit ops var attrs user' qual) h).0, tt)
   tree_own e (statement.Rule var qual) h k = (variable_own var (names_found s (statement.Rule var qual) h).0, tt)
 

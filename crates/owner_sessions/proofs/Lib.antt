@@ -5,3 +5,6 @@ pub mod Permitted
 pub mod Freely
 pub mod Plain
 pub mod Stays
+pub mod FreeMeaning
+pub mod Together
+pub mod PlainSessions

@@ -19,6 +19,10 @@ pub record IsPlainState (state : State) (user : List ℕ) : Type 0 where
   pub database : IsPlain state.db user
   pub ranges : AreOwn user state.ranges
 
+-- a database of the user's in which nothing is
+abbrev pub empty_db : List ℕ → Db
+empty_db user = record { dba = user; relations = []; indexes = []; views = []; rules = []; permits = [] }
+
 -- the statement makes no index, view, permit or rule
 unfoldable pub is_plain : Statement → Bool
 is_plain (statement.Index base name keys) = false

@@ -1,6 +1,6 @@
 //! What statements leave of a plain database of the user's own.
 
-ghost use Rattle.std.specs.Prelude.{◌≡◌, ℕ, List, IsTrue, Ok};
+ghost use Rattle.std.specs.Prelude.{◌≡◌, ℕ, List, [], IsTrue, Ok};
 ghost use Rattle.std.specs.List.{AllByRecursion};
 ghost use Rattle.std.specs.Str.{bytes_eq};
 ghost use Rattle.calculus.specs.declared.change.DbChange.{DbChange};
@@ -18,8 +18,9 @@ ghost use Rattle.calculus.specs.Rows.{Row};
 ghost use Rattle.calculus.specs.Who.{Who};
 ghost use Rattle.quel_meaning.specs.Meaning.{meaning, statements_run};
 ghost use Rattle.quel_meaning.specs.Planned.{planned};
+ghost use Rattle.quel_meaning.specs.Shelf.{Shelf};
 ghost use Rattle.quel_meaning.specs.State.{State, Built};
-ghost use Rattle.owner_sessions.specs.Plain.{IsPlain, IsPlainState, BuildsPlain};
+ghost use Rattle.owner_sessions.specs.Plain.{IsPlain, IsPlainState, BuildsPlain, empty_db};
 
 /// A plain database of the user's own stays one when rows of a relation go and come, and when a relation
 /// of the user's is made; so after each update of what is the user's own and after each `create`.
@@ -33,9 +34,11 @@ pub fn plain_changes_leave_plain_databases()
         → IsPlain db user → IsTrue (bytes_eq rel.owner user) → planned db user (utility.Create rel attrs) ≡ Ok made → IsPlain (laid db made) user }
 {}
 
-/// Where no statement is built that makes an index, a view, a permit or a rule, each statement of the user
-/// leaves a plain state of the user's own as one, and so does each of a run of statements.
+/// An empty database without range variables is a plain state of its user's own. Where no statement is
+/// built that makes an index, a view, a permit or a rule, each statement of the user leaves such a state as
+/// one, and so does each of a run of statements.
 pub fn own_stays_own()
+    ensures empty { (user : List ℕ) (shelf : Shelf) → IsPlainState (record { db = empty_db user; shelf = shelf; ranges = [] }) user }
     ensures statement { (built : Built) (state : State) (user : List ℕ) (s : Statement)
         → BuildsPlain built → IsPlainState state user → IsPlainState (meaning built state user s).state user }
     ensures run { (built : Built) (state : State) (user : List ℕ) (ss : List Statement) → BuildsPlain built → IsPlainState state user
