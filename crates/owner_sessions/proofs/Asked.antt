@@ -1,13 +1,11 @@
 -- What the tree of a statement names is the user's own.
-use Rattle.std.proofs.Common.{◌≡◌, refl, sym, ap, ◌∙◌, subst, ℕ, ◌+◌, Bool, true, false, ◌&&◌, not, List, [], ◌∷◌, ◌++◌, map, Option, Some, None, Ok}
+use Rattle.std.proofs.Common.{◌≡◌, refl, sym, ap, ◌∙◌, subst, ℕ, Bool, true, false, not, List, [], ◌∷◌, ◌++◌, map, Option, Some, None, Ok}
 use Rattle.std.specs.Prelude.{codes, option_map, filter_map}
 use Rattle.std.specs.List.{list_all, flat_map, cons_option}
 use Rattle.std.specs.Str.{bytes_eq}
 use Rattle.calculus.proofs.Forms.{items_of_targets}
 use Rattle.calculus.specs.declared.query.AggSource.{AggSource, Named}
 use Rattle.calculus.specs.declared.query.QAgg.{QAgg}
-use Rattle.calculus.specs.declared.query.QQual.{True}
-use Rattle.calculus.specs.declared.query.Query.{Query}
 use Rattle.calculus.specs.declared.query.RelKey.{RelKey}
 use Rattle.calculus.specs.declared.request.Asked.{Asked}
 use Rattle.calculus.specs.declared.request.Checked.{Checked}
@@ -15,18 +13,17 @@ use Rattle.calculus.specs.declared.schema.RelInfo.{RelInfo}
 use Rattle.calculus.specs.declared.statement.AggTerm.{AggTerm}
 use Rattle.calculus.specs.declared.statement.Statement.{Statement}
 use Rattle.calculus.specs.declared.statement.Statement.TheVariants as statement
-use Rattle.calculus.specs.Catalogue.{relation_attrs, attribute_attrs}
 use Rattle.calculus.specs.Database.{Db, entry_at, entries}
 use Rattle.calculus.specs.Keys.{key_of, same_key}
 use Rattle.calculus.specs.Lists.{is_any}
 use Rattle.calculus.specs.QueryParts.{vars_of, term_aggregates, qual_aggregates, query_aggregates}
 use Rattle.calculus.specs.Replacement.{first_cause}
 use Rattle.calculus.specs.Stored.{info_at, attrs_in}
-use Rattle.calculus.specs.Tree.{rows_of_query, query}
+use Rattle.calculus.specs.Tree.{rows_of_query}
 use Rattle.quel_meaning.specs.Aggregates.{keeps_a_text, aggregate_stands, aggregates_stand}
 use Rattle.quel_meaning.specs.Causes.{causes}
-use Rattle.quel_meaning.specs.FitQueries.{is_named, kept_or_viewed, source_fits}
-use Rattle.quel_meaning.specs.Naming.{Mention, Variable, Relation, Entry, no_refusal, mention_refusal, mentions, name_refusal}
+use Rattle.quel_meaning.specs.FitQueries.{kept_or_viewed, source_fits}
+use Rattle.quel_meaning.specs.Naming.{Variable, Relation, no_refusal, mentions, name_refusal}
 use Rattle.quel_meaning.specs.Ranges.{Ranges}
 use Rattle.quel_meaning.specs.Resolved.{whole, help_on_all, help_on, tree_of, resolved}
 use Rattle.quel_meaning.specs.Scope.{Scope, named, entry_named, key_found}
@@ -35,7 +32,7 @@ use Rattle.quel_meaning.specs.WrittenParts.{text_aggregates, vars_in}
 use Rattle.quel_meaning.specs.WrittenQuery.{attr_targets, query_of}
 use Rattle.quel_meaning.specs.WrittenTree.{key_over}
 use Rattle.quel_meaning.proofs.Accepted.{scope, accepted}
-use Rattle.quel_meaning.proofs.Each.{Each, both_of, of_map, in_map, in_flat_map, each_to, passed, each_passes, left, not_not}
+use Rattle.quel_meaning.proofs.Each.{Each, both_of, in_map, in_flat_map, each_to, passed, each_passes, left, not_not}
 use Rattle.quel_meaning.proofs.Found.{IsFound, IsRanged, names_found, vars_ranged, ranged_with, named_with}
 use Rattle.quel_meaning.proofs.Keys.{bytes_same, same_bytes, find_passes}
 use Rattle.quel_meaning.proofs.ReadsFit.{none_of}
@@ -43,7 +40,7 @@ use Rattle.quel_meaning.proofs.Slots.{in_targets, none_in_attrs}
 use Rattle.quel_meaning.proofs.Sources.{sources_allowed}
 use Rattle.owner_laws.specs.Own.{IsOwn, are_own}
 use Rattle.owner_sessions.specs.TreeKeys.{source_keys, query_keys, tree_keys}
-use Rattle.owner_sessions.proofs.Found.{Mine, own_key, administrators, is_named_own, info_own, ranged_own, named_own}
+use Rattle.owner_sessions.proofs.Found.{Mine, administrators, is_named_own, info_own, ranged_own, named_own}
 
 -- ---- aggregates that may stand
 

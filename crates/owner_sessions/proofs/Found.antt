@@ -1,18 +1,18 @@
 -- What is found in a database that is all its user's own is the user's.
-use Rattle.std.proofs.Common.{◌≡◌, refl, sym, subst, ℕ, Bool, true, List, [], ◌∷◌, Option, Some, None, is_some}
+use Rattle.std.proofs.Common.{◌≡◌, refl, sym, subst, ℕ, true, List, Option, Some, None, is_some}
 use Rattle.std.specs.Option.{option_map}
 use Rattle.std.specs.Str.{bytes_eq}
 use Rattle.calculus.specs.declared.query.RelKey.{RelKey}
 use Rattle.calculus.specs.declared.schema.RelInfo.{RelInfo}
-use Rattle.calculus.specs.Database.{Db, entry_at, entries}
+use Rattle.calculus.specs.Database.{Db}
 use Rattle.calculus.specs.Finding.{found}
-use Rattle.calculus.specs.Keys.{key_of, same_key}
+use Rattle.calculus.specs.Keys.{key_of}
 use Rattle.calculus.specs.Stored.{Range, Kept, Viewed, range_at, range_info, info_at}
 use Rattle.quel_meaning.specs.FitQueries.{is_named}
-use Rattle.quel_meaning.specs.Scope.{Scope, named, ranged, entry_named, key_found}
+use Rattle.quel_meaning.specs.Scope.{Scope, named, key_found}
 use Rattle.quel_meaning.specs.WrittenTree.{key_over}
-use Rattle.quel_meaning.proofs.Found.{IsRanged, IsNamed, named_there, ranged_is}
-use Rattle.quel_meaning.proofs.Keys.{info_key_is, find_passes, same_keys, bytes_same}
+use Rattle.quel_meaning.proofs.Found.{IsRanged, IsNamed, ranged_is}
+use Rattle.quel_meaning.proofs.Keys.{info_key_is, bytes_same}
 use Rattle.owner_laws.specs.Own.{IsOwn}
 use Rattle.owner_laws.proofs.Own.{kept_own, no_view}
 

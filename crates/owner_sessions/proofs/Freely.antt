@@ -15,7 +15,6 @@ use Rattle.calculus.specs.declared.request.UpdateOp.{UpdateOp}
 use Rattle.calculus.specs.declared.request.UpdateOp.TheVariants.{Append, Replace, Delete, Into}
 use Rattle.calculus.specs.declared.schema.Rule.{Rule}
 use Rattle.calculus.specs.declared.statement.Statement.{Statement}
-use Rattle.calculus.specs.Answer.{answer, lacks}
 use Rattle.calculus.specs.Database.{Db}
 use Rattle.calculus.specs.Keys.{same_key}
 use Rattle.calculus.specs.Pairs.{ruled}

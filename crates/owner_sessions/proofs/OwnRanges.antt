@@ -4,7 +4,6 @@ use Rattle.std.specs.Option.{option_and_then}
 use Rattle.std.specs.Str.{bytes_eq}
 use Rattle.calculus.specs.declared.query.RelKey.{RelKey}
 use Rattle.calculus.specs.declared.schema.RelInfo.{RelInfo}
-use Rattle.calculus.specs.Database.{Db}
 use Rattle.calculus.specs.Stored.{info_at}
 use Rattle.quel_meaning.specs.Ranges.{Ranges, range_of, declared}
 use Rattle.quel_meaning.specs.Scope.{Scope, ranged}

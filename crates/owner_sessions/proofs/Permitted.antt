@@ -1,7 +1,7 @@
 -- The owner of all is permitted all that names what is the owner's, aggregates included.
 use Rattle.std.proofs.Common.{◌≡◌, refl, ℕ, zero, suc, ◌+◌, Bool, true, List, [], ◌∷◌, Option, Some, None}
 use Rattle.std.specs.Prelude.{filter, not}
-use Rattle.std.specs.List.{list_all, enumerate_from, flat_map}
+use Rattle.std.specs.List.{list_all, enumerate_from}
 use Rattle.calculus.specs.declared.query.AggSource.{AggSource, Named}
 use Rattle.calculus.specs.declared.query.QAgg.{QAgg}
 use Rattle.calculus.specs.declared.query.Query.{Query}

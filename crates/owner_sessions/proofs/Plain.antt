@@ -1,5 +1,5 @@
 -- Changes that leave a plain database of the user's own as one.
-use Rattle.std.proofs.Common.{◌≡◌, refl, ap, ◌∙◌, subst, ℕ, Bool, true, false, ◌&&◌, ◌||◌, not, cond, List, [], ◌∷◌, map, filter, Option, Some, None, Result, Ok, Err}
+use Rattle.std.proofs.Common.{◌≡◌, refl, ap, ◌∙◌, subst, ℕ, Bool, true, false, ◌||◌, not, cond, List, [], ◌∷◌, filter, Option, Some, None, Result, Ok, Err}
 use Rattle.std.specs.List.{list_all}
 use Rattle.std.specs.Str.{bytes_eq}
 use Rattle.std.specs.declared.cmp.Ordering.{Ordering}
@@ -24,7 +24,6 @@ use Rattle.calculus.specs.Stored.{rows_at}
 use Rattle.calculus.specs.Who.{Who}
 use Rattle.quel_meaning.specs.Planned.{plan_causes, plan_change, planned}
 use Rattle.quel_meaning.proofs.Each.{left, right, and}
-use Rattle.owner_laws.specs.Own.{IsOwn}
 use Rattle.owner_sessions.specs.Plain.{IsPlain}
 use Rattle.owner_sessions.proofs.Found.{Mine}
 

@@ -1,6 +1,6 @@
 -- What each statement leaves, and a run of statements.
-use Rattle.std.proofs.Common.{◌≡◌, refl, sym, subst, ℕ, nat_lt, Bool, true, false, List, [], ◌∷◌, ◌++◌, Option, Some, None, Result, Ok, Err, length}
-use Rattle.std.specs.Prelude.{filter, IsTrue}
+use Rattle.std.proofs.Common.{◌≡◌, refl, sym, subst, ℕ, nat_lt, Bool, true, false, List, [], ◌∷◌, Option, Some, None, Result, Ok, Err, length}
+use Rattle.std.specs.Prelude.{filter}
 use Rattle.std.specs.List.{AllByRecursion}
 use Rattle.std.specs.Str.{bytes_eq}
 use Rattle.calculus.specs.declared.change.DbChange.{DbChange}
@@ -17,28 +17,26 @@ use Rattle.calculus.specs.declared.statement.Statement.{Statement}
 use Rattle.calculus.specs.declared.statement.Statement.TheVariants as statement
 use Rattle.calculus.specs.Database.{Db}
 use Rattle.calculus.specs.Finding.{found}
-use Rattle.calculus.specs.Keys.{key_of}
 use Rattle.calculus.specs.Limits.{most_rows}
 use Rattle.calculus.specs.Replacement.{first_cause, with_rows, without_rows, updated}
 use Rattle.calculus.specs.Rows.{Row}
 use Rattle.calculus.specs.Stored.{kinds_at, rows_at}
 use Rattle.calculus.specs.Who.{Who}
 use Rattle.quel_meaning.specs.Copying.{most_file_bytes, file_name, refusal, bad_row, keeps_rules, rows_in_file, rows_appended, file_appended, copied_from, copied_into}
-use Rattle.quel_meaning.specs.Meaning.{Effect, change_effect, numbered_effect, file_effect, copy_effect, utility_effect, tree_meaning, ruled_tree, checked_permitted, asks, refused, range_outcome, with_ranges, permitted_outcome, tree_outcome, built_outcome, statement_outcome, meaning_by, meaning, statements_run}
+use Rattle.quel_meaning.specs.Meaning.{change_effect, numbered_effect, file_effect, copy_effect, utility_effect, tree_meaning, ruled_tree, checked_permitted, asks, range_outcome, permitted_outcome, tree_outcome, built_outcome, statement_outcome, meaning_by, meaning, statements_run}
 use Rattle.quel_meaning.specs.Planned.{owner_causes, planned}
 use Rattle.quel_meaning.specs.Ranges.{Ranges}
 use Rattle.quel_meaning.specs.Resolved.{tree_of, resolved}
 use Rattle.quel_meaning.specs.Scope.{Scope}
 use Rattle.quel_meaning.specs.Shelf.{Shelf, fetched}
-use Rattle.quel_meaning.specs.State.{State, Outcome, Built}
+use Rattle.quel_meaning.specs.State.{State, Built}
 use Rattle.quel_meaning.specs.StatementUpdate.{append_of, replace_of, delete_of, into_of}
 use Rattle.quel_meaning.proofs.Accepted.{scope, accepted}
 use Rattle.quel_meaning.proofs.Each.{Each}
 use Rattle.owner_laws.specs.Own.{IsOwn}
-use Rattle.owner_sessions.specs.OwnRanges.{AreOwn}
 use Rattle.owner_sessions.specs.Plain.{IsPlain, IsPlainState, is_plain, BuildsPlain}
 use Rattle.owner_sessions.specs.TreeKeys.{tree_keys}
-use Rattle.owner_sessions.proofs.Found.{Mine, own_key, found_own}
+use Rattle.owner_sessions.proofs.Found.{Mine, found_own}
 use Rattle.owner_sessions.proofs.OwnRanges.{declared_own}
 use Rattle.owner_sessions.proofs.Asked.{asked_own}
 use Rattle.owner_sessions.proofs.Freely.{not_ruled}

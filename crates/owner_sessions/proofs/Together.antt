@@ -4,11 +4,11 @@ use Rattle.calculus.specs.declared.statement.Statement.{Statement}
 use Rattle.calculus.specs.Database.{Db}
 use Rattle.quel_grammar.specs.Next.{Reading}
 use Rattle.quel_meaning.specs.Batch.{Placed, Batch, batch_of}
-use Rattle.quel_meaning.specs.Buffer.{Buffer, buffer_after}
+use Rattle.quel_meaning.specs.Buffer.{buffer_after}
 use Rattle.quel_meaning.specs.Happening.{Setting, Event, Wrote, Ran, Kept, After, start, quiet, refused, behind, and_then, over}
 use Rattle.quel_meaning.specs.Lines.{lines_of}
 use Rattle.quel_meaning.specs.Monitor.{Command, Go, Print, Reset, Append, Quit, Include, Write, Unknown, Part, Piece, Order, parts_of}
-use Rattle.quel_meaning.specs.Running.{after_outcome, after_statement, after_refusal, after_batch, Deeper, most_included, after_include, after_file, after_write, carried_out, after_command, after_open_part, after_part, after_line, after_lines, files_within}
+use Rattle.quel_meaning.specs.Running.{after_outcome, after_statement, after_refusal, after_batch, Deeper, most_included, after_include, after_file, carried_out, after_command, after_open_part, after_part, after_line, after_lines, files_within}
 use Rattle.quel_meaning.specs.Session.{session_of_lines, session_of, session_after, databases_after, databases, greatest_depth, files_of}
 use Rattle.quel_meaning.specs.Shelf.{Shelf, fetched}
 use Rattle.quel_meaning.specs.State.{State, Outcome}
@@ -90,7 +90,7 @@ module _ (P : State → Type 0) (Q : Db → Type 0) (m n : State → Statement �
 
   good_within : (d e : Kept → List ℕ → After) → GoodDeeper (Some d) (Some e) → (kept : Kept) (bytes : List ℕ) → P kept.state → (within : Bool)
       → Good (elim within [ true ↦ d (record kept { included = kept.included + length bytes }) bytes | false ↦ refused kept 3 0 ])
-          (elim within [ true ↦ e (record kept { included = kept.included + length bytes }) bytes | false ↦ refused kept 3 0 ])
+      (elim within [ true ↦ e (record kept { included = kept.included + length bytes }) bytes | false ↦ refused kept 3 0 ])
   good_within d e h kept bytes p true = h (record kept { included = kept.included + length bytes }) bytes p
   good_within d e h kept bytes p false = good_refused kept 3 0 p
 
@@ -121,7 +121,7 @@ module _ (P : State → Type 0) (Q : Db → Type 0) (m n : State → Statement �
 
   good_built : (d e : Deeper) → GoodDeeper d e → (kept : Kept) (command : Command) → P kept.state → (built : Bool)
       → Good (elim built [ true ↦ carried_out first d (record kept { buffer = buffer_after command kept.buffer }) command | false ↦ refused kept 9 0 ])
-          (elim built [ true ↦ carried_out second e (record kept { buffer = buffer_after command kept.buffer }) command | false ↦ refused kept 9 0 ])
+      (elim built [ true ↦ carried_out second e (record kept { buffer = buffer_after command kept.buffer }) command | false ↦ refused kept 9 0 ])
   good_built d e h kept command p true = good_carried d e h (record kept { buffer = buffer_after command kept.buffer }) command p
   good_built d e h kept command p false = good_refused kept 9 0 p
 
