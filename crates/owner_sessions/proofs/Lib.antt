@@ -1,0 +1,10 @@
+pub mod Found
+pub mod OwnRanges
+pub mod Asked
+pub mod Permitted
+pub mod Freely
+pub mod Plain
+pub mod Stays
+pub mod FreeMeaning
+pub mod Together
+pub mod PlainSessions

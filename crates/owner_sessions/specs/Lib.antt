@@ -1,0 +1,4 @@
+pub mod TreeKeys
+pub mod OwnRanges
+pub mod Plain
+pub mod Freely
