@@ -1,6 +1,10 @@
 //! What refuses a statement whose names were found.
 #![tactic(auto)]
 
+mod fitting;
 mod repeated;
+mod widths;
 
+pub use fitting::{assignments_fit, query_fits};
 pub use repeated::{repeats, sorts_by_titles};
+pub use widths::is_too_wide;
