@@ -2,9 +2,11 @@
 #![tactic(auto)]
 
 mod fitting;
+mod places;
 mod repeated;
 mod widths;
 
 pub use fitting::{assignments_fit, query_fits};
+pub use places::{is_full, is_taken};
 pub use repeated::{repeats, sorts_by_titles};
 pub use widths::is_too_wide;
