@@ -2,11 +2,13 @@
 #![tactic(auto)]
 
 mod fitting;
+mod kinds;
 mod places;
 mod repeated;
 mod widths;
 
 pub use fitting::{assignments_fit, query_fits};
+pub use kinds::{kinds_at, var_kinds};
 pub use places::{is_full, is_taken};
 pub use repeated::{repeats, sorts_by_titles};
 pub use widths::is_too_wide;
