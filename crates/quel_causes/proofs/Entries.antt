@@ -62,7 +62,7 @@ taken_by_catalogue db user name h = go (is_some (entry_at db (key_of user name))
 
 -- ---- entries
 
-find_mapped : {X Y : Type 0} (p : Y → Bool) (f : X → Y) (xs : List X) → find p (map f xs) ≡ option_map f (find (λ x. p (f x)) xs)
+pub find_mapped : {X Y : Type 0} (p : Y → Bool) (f : X → Y) (xs : List X) → find p (map f xs) ≡ option_map f (find (λ x. p (f x)) xs)
 find_mapped p f [] = refl
 find_mapped p f (x ∷ xs) = go (p (f x)) (find_mapped p f xs)
   where

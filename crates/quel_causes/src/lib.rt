@@ -5,6 +5,7 @@ mod fitting;
 mod kinds;
 mod places;
 mod repeated;
+mod variables;
 mod widths;
 
 pub use fitting::{assignments_fit, query_fits};
