@@ -2,7 +2,7 @@
 use Rattle.std.proofs.Common.{◌≡◌, refl, sym, ap, ap₂, ◌∙◌, ℕ, zero, suc, ◌+◌, ◌-◌, ◌^◌, ◌≤◌, ◌<◌, min, arith, Bool, true, false, cond, List, [], ◌∷◌, ◌++◌, length, take, get_or}
 use Rattle.std.specs.List.{filter, sum_by, enumerate_from}
 use Rattle.std.proofs.lemmas.List.{take_all}
-use Rattle.std.proofs.lemmas.List.Sums.{sum_by-cons}
+use Rattle.std.proofs.lemmas.List.Sums.{sum_by-cons, sum_by_more}
 use denote.Hole.Carrier.{out, roll}
 use Rattle.calculus.specs.declared.query.RelKey.{RelKey}
 use Rattle.calculus.specs.declared.query.Query.{Query, Query', out-Query}
@@ -66,3 +66,8 @@ count_more p f keys i key place count more now h e few at c m n =
 pub count_all : (p : ℕ → Bool) (f : RelKey → ℕ) (keys vars : List RelKey) (i count : ℕ) → keys ≡ vars → length keys ≤ i → count ≡ min (counted p f 0 (take i keys)) (2 ^ 64 - 1)
     → count ≡ min (counted p f 0 vars) (2 ^ 64 - 1)
 count_all p f keys vars i count e h c = c ∙ ap (λ ks. min (counted p f 0 ks) (2 ^ 64 - 1)) (take_all i keys h ∙ e)
+
+-- one key more of those that are all counted
+pub sum_more : (f : RelKey → ℕ) (keys : List RelKey) (i : ℕ) (key : RelKey) (count more now : ℕ) → i < length keys → key ≡ get_or keys i key
+    → count ≡ min (sum_by f (take i keys)) (2 ^ 64 - 1) → more ≡ min (f key) (2 ^ 64 - 1) → now ≡ min (count + more) (2 ^ 64 - 1) → now ≡ min (sum_by f (take (i + 1) keys)) (2 ^ 64 - 1)
+sum_more f keys i key count more now h e c m n = let all : sum_by f (take (i + 1) keys) ≡ sum_by f (take i keys) + f key = sum_by_more f keys i key h ∙ ap (λ k. sum_by f (take i keys) + f k) (sym e) in omega arith

@@ -12,4 +12,5 @@ pub use fitting::{assignments_fit, query_fits};
 pub use kinds::{kinds_at, var_kinds};
 pub use places::{is_full, is_taken};
 pub use repeated::{repeats, sorts_by_titles};
+pub use variables::has_too_many;
 pub use widths::is_too_wide;

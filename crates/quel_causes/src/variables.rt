@@ -1,17 +1,27 @@
 //! How many variables a query has once the views in it are put in.
 
-ghost use Rattle.std.specs.Prelude.{◌≡◌, ℕ, ◌≤◌, ◌-◌, ◌^◌, min, cond, length, IfOk, Some};
+ghost use Rattle.std.specs.Prelude.{◌≡◌, ℕ, ◌≤◌, ◌-◌, ◌^◌, [], min, cond, length, sum_by, IfOk, Some};
 ghost use Rattle.am_traits.specs.Causes.{HasCause};
 ghost use Rattle.calculus.specs.Database.{Db};
 ghost use Rattle.calculus.specs.Lists.{is_any};
-ghost use Rattle.calculus.specs.QueryParts.{vars_of};
+ghost use Rattle.calculus.specs.QueryParts.{query_aggregates, vars_of};
 ghost use Rattle.calculus.specs.Sizes.{measure_within, query_measure};
 ghost use Rattle.calculus.specs.Used.{used_in_query};
+ghost use Rattle.quel_meaning.specs.Passing.{has_too_many};
 
 use am_traits::{Base, BaseFault};
 use calculus::{Query, RelKey};
 use plain_product::is_used;
 use std::alloc::Global;
+
+/// The levels of views that are looked through at most.
+const GREATEST_LEVEL: u8 = 16;
+
+/// The variables that a query has at most.
+const MOST_VARIABLES: usize = 10;
+
+/// The variables that a query has at most once the views in it are put in.
+const MOST_EXPANDED_VARIABLES: u64 = 50;
 
 /// Lets a query go.
 fn let_go(_query: Query) {}
@@ -85,4 +95,43 @@ fn variables_of<B: Base>(
         place = place.saturating_add(1);
     }
     Ok(count)
+}
+
+/// The variables of what stands under these keys, all together.
+fn variables_under<B: Base>(
+    alloc: Global,
+    base: &mut B,
+    vars: &[RelKey],
+) -> Result<u64, BaseFault>
+    ensures told { (db : Db) → B.database base.old ≡ Some db → IfOk result (λ n. n ≡ min (sum_by (λ key. (measure_within 16 db key).variables) vars.now) (2 ^ 64 - 1)) }
+    ensures kept { B.database base.new ≡ B.database base.old }
+    ensures same { B.left base.new ≡ B.left base.old }
+    ensures cause { HasCause (B.database base.old) (B.faults base.old) (B.faults base.new) result }
+{
+    let mut count: u64 = 0;
+    for key in vars {
+        let more = variables_within(alloc, base, key, GREATEST_LEVEL)?;
+        count = count.saturating_add(more);
+    }
+    Ok(count)
+}
+
+/// Whether a query without aggregates lists more variables than it may, as it stands or once the
+/// views in it are put in.
+pub fn has_too_many<B: Base>(
+    alloc: Global,
+    base: &mut B,
+    query: &Query,
+) -> Result<bool, BaseFault>
+    ensures told { (db : Db) → B.database base.old ≡ Some db → query_aggregates query.now ≡ [] → IfOk result (λ many. many ≡ has_too_many db query.now) }
+    ensures kept { B.database base.new ≡ B.database base.old }
+    ensures same { B.left base.new ≡ B.left base.old }
+    ensures cause { HasCause (B.database base.old) (B.faults base.old) (B.faults base.new) result }
+{
+    let vars = query.vars.items();
+    if vars.len() > MOST_VARIABLES {
+        return Ok(true);
+    }
+    let count = variables_under(alloc, base, vars)?;
+    Ok(count > MOST_EXPANDED_VARIABLES)
 }
