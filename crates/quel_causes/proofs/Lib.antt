@@ -1,5 +1,6 @@
 pub mod Counting
 pub mod Entries
+pub mod First
 pub mod Fits
 pub mod TooMany
 pub mod Twice

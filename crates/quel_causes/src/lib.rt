@@ -3,8 +3,10 @@
 
 mod fitting;
 mod kinds;
+mod numbers;
 mod places;
 mod repeated;
+mod retrieved;
 mod variables;
 mod widths;
 

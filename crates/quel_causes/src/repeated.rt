@@ -3,8 +3,9 @@
 ghost use Rattle.std.specs.Prelude.{◌≡◌, ℕ, List, map, IfOk, bytes_eq};
 ghost use Rattle.std.specs.List.{list_all, list_any};
 ghost use Rattle.quel_meaning.specs.Causes.{repeats, sorts_by_titles};
+ghost use Rattle.quel_meaning.specs.StatementUpdate.{titles_of};
 
-use calculus::{Name, OutOfMemory, Target};
+use calculus::{Domain, Name, OutOfMemory, Query, Target};
 use indexmap::IndexSet;
 use std::alloc::Global;
 
@@ -20,6 +21,48 @@ pub fn repeats(alloc: Global, names: &[&Name]) -> Result<bool, OutOfMemory>
         }
     }
     Ok(false)
+}
+
+fn names_of(alloc: Global, targets: &[Target]) -> Result<Vec<&Name>, OutOfMemory>
+    ensures { IfOk result (λ names. map (λ n. n.now) names.items ≡ map (λ t. t.name) targets.now) }
+{
+    let mut names: Vec<&Name> = Vec::new(alloc);
+    for target in targets {
+        names.push(&target.name)?;
+    }
+    Ok(names)
+}
+
+/// Whether a title of the query's targets stands twice.
+pub(crate) fn titles_repeat(alloc: Global, q: &Query) -> Result<bool, OutOfMemory>
+    ensures { IfOk result (λ found. found ≡ repeats (titles_of q.now)) }
+{
+    let names = names_of(alloc, q.targets.items())?;
+    repeats(alloc, &names)
+}
+
+fn attr_names(
+    alloc: Global,
+    attrs: &[(Name, Domain)],
+) -> Result<Vec<&Name>, OutOfMemory>
+    ensures { IfOk result (λ names. map (λ n. n.now) names.items ≡ map (λ a. a.0) attrs.now) }
+{
+    let mut names: Vec<&Name> = Vec::new(alloc);
+    for (name, _) in attrs {
+        names.push(name)?;
+    }
+    Ok(names)
+}
+
+/// Whether the name of one of these attributes stands twice.
+pub(crate) fn attrs_repeat(
+    alloc: Global,
+    attrs: &[(Name, Domain)],
+) -> Result<bool, OutOfMemory>
+    ensures { IfOk result (λ found. found ≡ repeats (map (λ a. a.0) attrs.now)) }
+{
+    let names = attr_names(alloc, attrs)?;
+    repeats(alloc, &names)
 }
 
 /// The titles of these targets, each once.
