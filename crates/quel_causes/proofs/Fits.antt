@@ -1,14 +1,17 @@
 -- Whether kinds in queries without aggregates, and those of updates, fit.
-use Rattle.std.proofs.Common.{◌≡◌, refl, sym, ap, ◌∙◌, ℕ, Bool, ◌&&◌, List, [], ◌∷◌, ◌++◌, map, Option, Some}
+use Rattle.std.proofs.Common.{◌≡◌, refl, sym, ap, ◌∙◌, ℕ, Bool, ◌&&◌, List, [], ◌∷◌, ◌++◌, map, Option, Some, true, slice_get}
 use Rattle.std.specs.List.{list_all, zip, flat_map}
 use Rattle.calculus.specs.declared.value.Kind.{Kind}
 use Rattle.calculus.specs.declared.query.Query.{Query}
 use Rattle.calculus.specs.declared.query.Target.{Target}
+use Rattle.calculus.specs.declared.request.Update.{Update}
 use Rattle.calculus.specs.Database.{Db}
+use Rattle.calculus.specs.Replacement.{wanted_kinds}
+use Rattle.calculus.specs.Stored.{kinds_at}
 use Rattle.calculus.specs.IsDatabase.{has_kind, var_kinds}
-use Rattle.calculus.specs.Kinds.{kind_of, kinds_fit}
+use Rattle.calculus.specs.Kinds.{kind_of, kinds_fit, comparable}
 use Rattle.calculus.specs.QueryParts.{query_aggregates, qual_aggregates, term_aggregates, targets_of, qual_of}
-use Rattle.quel_meaning.specs.KindsInQueries.{kind_in_query, kinds_fit_in_query, query_fits}
+use Rattle.quel_meaning.specs.KindsInQueries.{assignments_fit, kind_in_query, kinds_fit_in_query, query_fits}
 use Rattle.quel_meaning.proofs.KindFacts.{none_before, none_behind, same_kinds, same_fit}
 
 targets_alike : (db : Db) (vars : List (List Kind)) (ts : List Target) → flat_map (λ (t : Target). term_aggregates t.term) ts ≡ []
@@ -32,3 +35,12 @@ pub all_paired : {X Y Z : Type 0} (p : X × Z → Bool) (f : Y → Z) (xs : List
 all_paired p f [] ys = refl
 all_paired p f (x ∷ xs) [] = refl
 all_paired p f (x ∷ xs) (y ∷ ys) = ap (λ b. p (x, f y) && b) (all_paired p f xs ys)
+
+-- the value of each target of an update fits the attribute that it is for, where these are the kinds of the attributes
+pub assigned : (db : Db) (u : Update) (targets : List Target) (kinds : List Kind) (b fit : Bool) → targets ≡ targets_of u.query → kinds ≡ kinds_at db u.rel
+    → wanted_kinds db u ≡ map (slice_get (kinds_at db u.rel)) u.places → b ≡ list_all (λ (p : Target × Option Kind). comparable (Some p.0.kind) p.1) (zip targets (map (slice_get kinds) u.places))
+    → fit ≡ query_fits db u.query → fit ≡ true → b ≡ (query_fits db u.query && assignments_fit db u)
+unfolding assignments_fit
+assigned db u targets kinds b fit e k w h f t =
+    h ∙ (λ i. list_all (λ (p : Target × Option Kind). comparable (Some p.0.kind) p.1) (zip (e i) ((ap (λ ks. map (slice_get ks) u.places) k ∙ sym w) i)))
+    ∙ ap (λ c. c && assignments_fit db u) (sym t ∙ f)

@@ -1,6 +1,9 @@
 //! What refuses a statement whose names were found.
 #![tactic(auto)]
 
+mod cause;
+mod changed;
+mod created;
 mod fitting;
 mod kinds;
 mod numbers;
