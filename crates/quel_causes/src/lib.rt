@@ -1,10 +1,10 @@
 //! What refuses a statement whose names were found.
 #![tactic(auto)]
 
-mod cause;
 mod changed;
 mod created;
 mod fitting;
+mod judging;
 mod kinds;
 mod numbers;
 mod places;
@@ -13,6 +13,7 @@ mod retrieved;
 mod variables;
 mod widths;
 
+pub use judging::cause;
 pub use fitting::{assignments_fit, query_fits};
 pub use kinds::{kinds_at, var_kinds};
 pub use places::{is_full, is_taken};

@@ -76,3 +76,60 @@ fn taken_cause<B: Base>(
         None => Ok(None),
     }
 }
+
+/// What refuses a statement whose query is this, and has no aggregate.
+fn cause_by<B: Base>(
+    alloc: Global,
+    base: &mut B,
+    user: &Name,
+    s: &Statement,
+    q: &Query,
+    update: Option<&Update>,
+) -> Result<Option<u8>, BaseFault>
+    ensures told { (scope : Scope) → B.database base.old ≡ Some scope.db → scope.user ≡ user.now → query_aggregates q.now ≡ [] → option_map (λ v. v.now) update.entry ≡ update_of scope s.now q.now → is_judged s.now ≡ true → IfOk result (λ n. n ≡ first_cause (causes_by scope true q.now s.now)) }
+    ensures kept { B.database base.new ≡ B.database base.old }
+    ensures same { B.left base.new ≡ B.left base.old }
+    ensures cause { HasCause (B.database base.old) (B.faults base.old) (B.faults base.new) result }
+{
+    match s {
+        Statement::Range { .. } => Ok(None),
+        Statement::Retrieve { into, sort, .. } => {
+            retrieve_cause(alloc, base, user, into, sort.items(), q)
+        }
+        Statement::Append { .. } => put_cause(alloc, base, update),
+        Statement::Replace { .. } => put_cause(alloc, base, update),
+        Statement::Delete { .. } => taken_cause(alloc, base, update),
+        Statement::Create { rel, attrs } => create_cause(alloc, base, user, rel, attrs.items()),
+        Statement::Destroy { .. } => Ok(None),
+        Statement::DropPermits { .. } => Ok(None),
+        Statement::DropRules { .. } => Ok(None),
+        Statement::Modify { .. } => Ok(None),
+        Statement::Index { .. } => Ok(None),
+        Statement::Print { .. } => Ok(None),
+        Statement::Help { .. } => Ok(None),
+        Statement::Copy { .. } => Ok(None),
+        Statement::View { .. } => Ok(None),
+        Statement::Permit { .. } => Ok(None),
+        Statement::Rule { .. } => Ok(None),
+    }
+}
+
+/// The number of the first cause that refuses a statement whose names were found, for this user;
+/// `None` where there is none. `q` is the statement's query, and `update` the update that it is where
+/// it appends, replaces or deletes. Nothing is said of statements with aggregates, nor of those that
+/// neither declare, retrieve, append, replace, delete nor create.
+pub fn cause<B: Base>(
+    alloc: Global,
+    base: &mut B,
+    user: &Name,
+    s: &Statement,
+    q: &Query,
+    update: Option<&Update>,
+) -> Result<Option<u8>, BaseFault>
+    ensures told { (scope : Scope) → B.database base.old ≡ Some scope.db → scope.user ≡ user.now → q.now ≡ query_of scope s.now → option_map (λ v. v.now) update.entry ≡ update_of scope s.now q.now → is_any (text_aggregates s.now) ≡ false → is_judged s.now ≡ true → IfOk result (λ n. n ≡ first_cause (causes scope s.now)) }
+    ensures kept { B.database base.new ≡ B.database base.old }
+    ensures same { B.left base.new ≡ B.left base.old }
+    ensures cause { HasCause (B.database base.old) (B.faults base.old) (B.faults base.new) result }
+{
+    cause_by(alloc, base, user, s, q, update)
+}
