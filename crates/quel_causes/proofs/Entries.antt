@@ -93,12 +93,12 @@ no_attrs db x h = go x.info.spec h
     not_any false h = refl
 
     go : (s : Spec) → elim s [
-          | spec.Heap ↦ false
-          | spec.Hash ↦ false
-          | spec.Isam ↦ false
-          | spec.View ↦ false
-          | spec.Index ↦ is_relation db x.base && (not (is_any x.info.attrs) && (is_any x.info.keys && keys_stand (attrs_at db x.base) x.info.keys))
-        ] ≡ true → x.info.attrs ≡ []
+      | spec.Heap ↦ false
+      | spec.Hash ↦ false
+      | spec.Isam ↦ false
+      | spec.View ↦ false
+      | spec.Index ↦ is_relation db x.base && (not (is_any x.info.attrs) && (is_any x.info.keys && keys_stand (attrs_at db x.base) x.info.keys))
+    ] ≡ true → x.info.attrs ≡ []
     go spec.Heap h = absurd (cc h)
     go spec.Hash h = absurd (cc h)
     go spec.Isam h = absurd (cc h)

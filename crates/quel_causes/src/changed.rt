@@ -34,11 +34,7 @@ fn has_catalogue_key(key: &RelKey, dba: &Name) -> bool
 fn let_all_go(_query: Option<Query>) {}
 
 /// Whether a catalogue stands under the key.
-fn is_catalogue<B: Base>(
-    alloc: Global,
-    base: &mut B,
-    key: &RelKey,
-) -> Result<bool, BaseFault>
+fn is_catalogue<B: Base>(alloc: Global, base: &mut B, key: &RelKey) -> Result<bool, BaseFault>
     ensures told { (db : Db) → B.database base.old ≡ Some db → IfOk result (λ b. b ≡ is_catalogue db key.now) }
     ensures kept { B.database base.new ≡ B.database base.old }
     ensures same { B.left base.new ≡ B.left base.old }

@@ -18,10 +18,7 @@ use calculus::{Domain, Name, OutOfMemory};
 use std::alloc::Global;
 
 /// What refuses the attributes of a new relation: a name that stands twice, their width.
-fn attrs_cause(
-    alloc: Global,
-    attrs: &[(Name, Domain)],
-) -> Result<Option<u8>, OutOfMemory>
+fn attrs_cause(alloc: Global, attrs: &[(Name, Domain)]) -> Result<Option<u8>, OutOfMemory>
     ensures { IfOk result (λ n. n ≡ first_cause ((17, repeats (map (λ a. a.0) attrs.now)) ∷ (16, is_too_wide (map (λ a. Of a.1) attrs.now)) ∷ [])) }
 {
     if attrs_repeat(alloc, attrs)? {

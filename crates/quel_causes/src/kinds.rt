@@ -30,11 +30,7 @@ fn kinds_in(alloc: Global, info: &Option<RelInfo>) -> Result<Vec<Kind>, OutOfMem
 
 /// The kinds of the attributes of the relation, view or catalogue under a key; none where an index or
 /// nothing stands there.
-pub fn kinds_at<B: Base>(
-    alloc: Global,
-    base: &mut B,
-    key: &RelKey,
-) -> Result<Vec<Kind>, BaseFault>
+pub fn kinds_at<B: Base>(alloc: Global, base: &mut B, key: &RelKey) -> Result<Vec<Kind>, BaseFault>
     ensures told { (db : Db) → B.database base.old ≡ Some db → IfOk result (λ kinds. kinds.items ≡ kinds_at db key.now) }
     ensures kept { B.database base.new ≡ B.database base.old }
     ensures same { B.left base.new ≡ B.left base.old }

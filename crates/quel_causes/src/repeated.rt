@@ -41,10 +41,7 @@ pub(crate) fn titles_repeat(alloc: Global, q: &Query) -> Result<bool, OutOfMemor
     repeats(alloc, &names)
 }
 
-fn attr_names(
-    alloc: Global,
-    attrs: &[(Name, Domain)],
-) -> Result<Vec<&Name>, OutOfMemory>
+fn attr_names(alloc: Global, attrs: &[(Name, Domain)]) -> Result<Vec<&Name>, OutOfMemory>
     ensures { IfOk result (λ names. map (λ n. n.now) names.items ≡ map (λ a. a.0) attrs.now) }
 {
     let mut names: Vec<&Name> = Vec::new(alloc);
@@ -55,10 +52,7 @@ fn attr_names(
 }
 
 /// Whether the name of one of these attributes stands twice.
-pub(crate) fn attrs_repeat(
-    alloc: Global,
-    attrs: &[(Name, Domain)],
-) -> Result<bool, OutOfMemory>
+pub(crate) fn attrs_repeat(alloc: Global, attrs: &[(Name, Domain)]) -> Result<bool, OutOfMemory>
     ensures { IfOk result (λ found. found ≡ repeats (map (λ a. a.0) attrs.now)) }
 {
     let names = attr_names(alloc, attrs)?;

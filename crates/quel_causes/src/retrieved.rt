@@ -22,11 +22,7 @@ use calculus::{Name, OutOfMemory, Query, Target};
 use std::alloc::Global;
 
 /// Whether the kinds in a query without aggregates fit each other, and each target is of its kind.
-pub(crate) fn kinds_fit<B: Base>(
-    alloc: Global,
-    base: &mut B,
-    q: &Query,
-) -> Result<bool, BaseFault>
+pub(crate) fn kinds_fit<B: Base>(alloc: Global, base: &mut B, q: &Query) -> Result<bool, BaseFault>
     ensures told { (db : Db) → B.database base.old ≡ Some db → query_aggregates q.now ≡ [] → IfOk result (λ fit. fit ≡ query_fits db q.now) }
     ensures kept { B.database base.new ≡ B.database base.old }
     ensures same { B.left base.new ≡ B.left base.old }

@@ -98,11 +98,7 @@ fn variables_of<B: Base>(
 }
 
 /// The variables of what stands under these keys, all together.
-fn variables_under<B: Base>(
-    alloc: Global,
-    base: &mut B,
-    vars: &[RelKey],
-) -> Result<u64, BaseFault>
+fn variables_under<B: Base>(alloc: Global, base: &mut B, vars: &[RelKey]) -> Result<u64, BaseFault>
     ensures told { (db : Db) → B.database base.old ≡ Some db → IfOk result (λ n. n ≡ min (sum_by (λ key. (measure_within 16 db key).variables) vars.now) (2 ^ 64 - 1)) }
     ensures kept { B.database base.new ≡ B.database base.old }
     ensures same { B.left base.new ≡ B.left base.old }
@@ -118,11 +114,7 @@ fn variables_under<B: Base>(
 
 /// Whether a query without aggregates lists more variables than it may, as it stands or once the
 /// views in it are put in.
-pub fn has_too_many<B: Base>(
-    alloc: Global,
-    base: &mut B,
-    query: &Query,
-) -> Result<bool, BaseFault>
+pub fn has_too_many<B: Base>(alloc: Global, base: &mut B, query: &Query) -> Result<bool, BaseFault>
     ensures told { (db : Db) → B.database base.old ≡ Some db → query_aggregates query.now ≡ [] → IfOk result (λ many. many ≡ has_too_many db query.now) }
     ensures kept { B.database base.new ≡ B.database base.old }
     ensures same { B.left base.new ≡ B.left base.old }
