@@ -5,4 +5,5 @@ pub mod Fits
 pub mod Standing
 pub mod TooMany
 pub mod Twice
+pub mod Untold
 pub mod Viewed

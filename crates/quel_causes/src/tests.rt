@@ -1,5 +1,5 @@
 ghost use Rattle.std.specs.Prelude.{None, []};
-ghost use Rattle.std.proofs.Common.{rules};
+ghost use Rattle.quel_causes.proofs.Untold as untold;
 
 use super::*;
 use am_traits::{Base, BaseFault};
@@ -78,9 +78,9 @@ impl Base for Small {
 
     ghost left = { λ _ _ _. [] };
 
-    ghost lawful = { Prim.search rules };
+    ghost lawful = { untold.lawful };
 
-    ghost scanned = { Prim.search rules };
+    ghost scanned = { untold.scanned };
 
     fn dba(&mut self, alloc: Global) -> Result<Name, BaseFault> {
         Ok(name(alloc, b"ann")?)
@@ -162,78 +162,101 @@ impl Base for Small {
     fn hand_over(&mut self) {}
 }
 
-/// What refuses the statement where so many entries are there; 0 where the base failed.
-fn refused(alloc: Global, entries: u32, s: &Statement, q: &Query) -> Result<Option<u8>, Fail> {
+/// What refuses the statement, where so many entries are there, and it asks for two targets over so
+/// many variables over `p`; 0 where the base failed.
+fn refused(
+    alloc: Global,
+    entries: u32,
+    s: &Statement,
+    many: u8,
+    second: u8,
+) -> Result<Option<u8>, OutOfMemory> {
     let user = name(alloc, b"ann")?;
-    match cause(alloc, &mut Small { entries }, &user, s, q, None) {
+    let q = query(alloc, b"p", many, second)?;
+    match cause(alloc, &mut Small { entries }, &user, s, &q, None) {
         Ok(number) => Ok(number),
         Err(_) => Ok(Some(0)),
     }
 }
 
-/// What refuses `create REL (a = i2, SECOND = i2)`.
-fn created(alloc: Global, entries: u32, rel: &[u8], second: &[u8]) -> Result<Option<u8>, Fail> {
-    let rel = name(alloc, rel)?;
+fn two_attrs(alloc: Global, second: &[u8]) -> Result<List<(Name, Domain)>, OutOfMemory> {
     let first = name(alloc, b"a")?;
     let second = name(alloc, second)?;
     let mut attrs = Vec::with_capacity(alloc, 2)?;
     attrs.push((first, Domain::I2))?;
     attrs.push((second, Domain::I2))?;
-    let q = query(alloc, b"p", 0, 0)?;
-    let attrs = List::of(attrs);
-    refused(alloc, entries, &Statement::Create { rel, attrs }, &q)
+    Ok(List::of(attrs))
+}
+
+/// `create REL (a = i2, SECOND = i2)`
+fn create(alloc: Global, rel: &[u8], second: &[u8]) -> Result<Statement, OutOfMemory> {
+    let rel = name(alloc, rel)?;
+    let attrs = two_attrs(alloc, second)?;
+    Ok(Statement::Create { rel, attrs })
+}
+
+/// What refuses it where so many entries are there.
+fn created(
+    alloc: Global,
+    entries: u32,
+    rel: &[u8],
+    second: &[u8],
+) -> Result<Option<u8>, OutOfMemory> {
+    let s = create(alloc, rel, second)?;
+    refused(alloc, entries, &s, 0, 0)
 }
 
 #[test]
 fn a_new_relation_is_refused_by_its_first_cause(rt: HostRuntime) -> Result<(), Fail> {
     let alloc = rt.alloc();
     assert_eq!(rt; created(alloc, 3, b"r", b"b")?, None);
-    assert_eq!(rt; created(alloc, 3, b"p", b"b")?, Some(15));
-    assert_eq!(rt; created(alloc, 3, b"relation", b"b")?, Some(15));
     assert_eq!(rt; created(alloc, 3, b"p", b"a")?, Some(17));
     assert_eq!(rt; created(alloc, 10_000, b"p", b"a")?, Some(14));
     Ok(())
 }
 
-/// What refuses a `retrieve` of two targets that is printed in the order of this title.
-fn printed(alloc: Global, q: &Query, title: &[u8]) -> Result<Option<u8>, Fail> {
+#[test]
+fn a_name_is_in_use(rt: HostRuntime) -> Result<(), Fail> {
+    let alloc = rt.alloc();
+    assert_eq!(rt; created(alloc, 3, b"p", b"b")?, Some(15));
+    assert_eq!(rt; created(alloc, 3, b"relation", b"b")?, Some(15));
+    Ok(())
+}
+
+fn sort_by(alloc: Global, title: &[u8]) -> Result<List<(Name, bool)>, OutOfMemory> {
     let title = name(alloc, title)?;
     let mut sort = Vec::with_capacity(alloc, 1)?;
     sort.push((title, false))?;
+    Ok(List::of(sort))
+}
+
+/// What refuses a `retrieve` of two targets that is printed in the order of this title.
+fn printed(alloc: Global, many: u8, second: u8, title: &[u8]) -> Result<Option<u8>, OutOfMemory> {
+    let sort = sort_by(alloc, title)?;
     let s = Statement::Retrieve {
         into: None,
         items: List::of(Vec::new(alloc)),
         qual: Qual::True,
-        sort: List::of(sort),
+        sort,
     };
-    refused(alloc, 3, &s, q)
+    refused(alloc, 3, &s, many, second)
 }
 
 #[test]
-fn a_printed_retrieve_is_refused_by_its_first_cause(rt: HostRuntime) -> Result<(), Fail> {
+fn a_retrieve_is_refused_by_its_first_cause(rt: HostRuntime) -> Result<(), Fail> {
     let alloc = rt.alloc();
-    assert_eq!(rt; printed(alloc, &query(alloc, b"p", 2, 1)?, b"b")?, None);
-    assert_eq!(rt; printed(alloc, &query(alloc, b"p", 2, 1)?, b"c")?, Some(12));
-    assert_eq!(rt; printed(alloc, &query(alloc, b"p", 2, 2)?, b"c")?, Some(13));
-    assert_eq!(rt;
-        printed(alloc, &query(alloc, b"p", 11, 2)?, b"c")?,
-        Some(14)
-    );
+    assert_eq!(rt; printed(alloc, 2, 1, b"b")?, None);
+    assert_eq!(rt; printed(alloc, 2, 1, b"c")?, Some(12));
+    assert_eq!(rt; printed(alloc, 2, 2, b"c")?, Some(13));
+    assert_eq!(rt; printed(alloc, 11, 2, b"c")?, Some(14));
     Ok(())
 }
 
-/// What refuses an append to this relation.
-fn appended(alloc: Global, rel: &[u8]) -> Result<Option<u8>, Fail> {
-    let user = name(alloc, b"ann")?;
-    let to = name(alloc, rel)?;
+/// An append of rows over `p` to this relation, with no attribute set.
+fn append(alloc: Global, rel: &[u8]) -> Result<Update, OutOfMemory> {
     let rel = key(alloc, rel)?;
     let query = query(alloc, b"p", 1, 0)?;
-    let s = Statement::Append {
-        rel: to,
-        items: List::of(Vec::new(alloc)),
-        qual: Qual::True,
-    };
-    let u = Update {
+    Ok(Update {
         op: UpdateOp::Append,
         rel,
         old: 255,
@@ -241,7 +264,23 @@ fn appended(alloc: Global, rel: &[u8]) -> Result<Option<u8>, Fail> {
         query,
         checks: List::of(Vec::new(alloc)),
         new_cut: QQual::True,
-    };
+    })
+}
+
+fn append_to(alloc: Global, rel: &[u8]) -> Result<Statement, OutOfMemory> {
+    let rel = name(alloc, rel)?;
+    Ok(Statement::Append {
+        rel,
+        items: List::of(Vec::new(alloc)),
+        qual: Qual::True,
+    })
+}
+
+/// What refuses it.
+fn appended(alloc: Global, rel: &[u8]) -> Result<Option<u8>, OutOfMemory> {
+    let user = name(alloc, b"ann")?;
+    let s = append_to(alloc, rel)?;
+    let u = append(alloc, rel)?;
     match cause(
         alloc,
         &mut Small { entries: 3 },
