@@ -1,0 +1,4 @@
+pub mod Plain
+pub mod Walks
+pub mod Results
+pub mod Faults
