@@ -1,6 +1,7 @@
 //! The pairs of old and new rows that an update makes.
 #![tactic(auto)]
 
+mod attributes;
 mod fault;
 mod fitting;
 mod given;
@@ -8,6 +9,8 @@ mod kinds;
 mod new_row;
 mod over;
 mod pair;
+mod pairs;
+mod sets;
 mod standing;
 mod walk;
 
@@ -16,3 +19,4 @@ pub use decompose::QueryFault;
 pub use fault::PairFault;
 pub use kinds::NewKinds;
 pub use over::pairs_over;
+pub use pairs::pairs_of;
