@@ -1,6 +1,6 @@
 -- A database has few rows under each key.
-use Rattle.std.proofs.Common.{◌≡◌, refl, sym, ap, ◌∙◌, subst, cond, ℕ, suc, ◌+◌, ◌*◌, ◌≤◌, Bool, true, false, List, [], ◌∷◌, ◌++◌, length, map, Option, Some, None, arith, nat_le}
-use Rattle.std.specs.Prelude.{IsTrue, option_map, not, ◌&&◌}
+use Rattle.std.proofs.Common.{◌≡◌, refl, sym, ap, ◌∙◌, subst, ℕ, suc, ◌*◌, ◌≤◌, Bool, true, false, List, [], ◌∷◌, ◌++◌, length, map, Option, Some, None, arith, nat_le}
+use Rattle.std.specs.Prelude.{option_map, not, ◌&&◌}
 use Rattle.std.specs.List.{list_all, flat_map, enumerate_from}
 use Rattle.std.specs.declared.cmp.Ordering.{Ordering}
 use Rattle.std.specs.declared.cmp.Ordering.TheVariants.{Less, Equal, Greater}
@@ -18,10 +18,10 @@ use Rattle.calculus.specs.Value.{row_cmp}
 use Rattle.calculus.specs.Lists.{is_any}
 use Rattle.calculus.specs.Rows.{Row, put, set_of}
 use Rattle.calculus.specs.Keys.{same_key}
-use Rattle.calculus.specs.Limits.{most_rows, most_attributes, most_entries}
+use Rattle.calculus.specs.Limits.{most_rows}
 use Rattle.calculus.specs.Database.{Db, Relation, View, Index, relation_at, view_at, is_relation, entries}
-use Rattle.calculus.specs.Catalogue.{relation_key, attribute_key, relation_info, attribute_info, all_entries, relation_row, attribute_row, attribute_rows, catalogue_at}
-use Rattle.calculus.specs.Stored.{Range, Kept, Viewed, range_at, kept_rows, rows_at}
+use Rattle.calculus.specs.Catalogue.{relation_key, attribute_key, all_entries, relation_row, attribute_row, attribute_rows, catalogue_at}
+use Rattle.calculus.specs.Stored.{Kept, Viewed, range_at, kept_rows, rows_at}
 use Rattle.calculus.specs.IsDatabase.{IsDatabase, attrs_stand, index_stands}
 use Rattle.quel_meaning.proofs.DatabaseFacts.{found_passes, stood}
 use Rattle.quel_meaning.proofs.Each.{left, right, and}

@@ -1,17 +1,14 @@
 -- Nobody in particular sees all rows that are kept.
-use Rattle.std.proofs.Common.{◌≡◌, refl, sym, ap, ◌∙◌, ℕ, zero, suc, ◌+◌, ◌<◌, Bool, true, false, cond, List, [], ◌∷◌, ◌++◌, Option, Some, None, map, length, take, get_or}
+use Rattle.std.proofs.Common.{◌≡◌, refl, ap, ℕ, zero, suc, Bool, true, false, List, [], ◌∷◌, Option, Some, None}
 use Rattle.std.specs.Prelude.{filter}
-use Rattle.std.specs.List.{list_all, enumerate_from}
 use Rattle.calculus.specs.declared.query.RelKey.{RelKey}
-use Rattle.calculus.specs.declared.query.Query.{Query}
-use Rattle.calculus.specs.Assignments.{Source, rows_used, variable_rows}
+use Rattle.calculus.specs.Assignments.{Source, rows_used}
 use Rattle.calculus.specs.Database.{Db, View}
 use Rattle.calculus.specs.Limits.{greatest_level}
 use Rattle.calculus.specs.Lists.{is_any}
 use Rattle.calculus.specs.Rights.{Right, Retrieve, may}
 use Rattle.calculus.specs.Rows.{Row}
 use Rattle.calculus.specs.Stored.{Range, Kept, Viewed, range_at, kept_rows, rows_at}
-use Rattle.calculus.specs.Used.{used_in_query}
 use Rattle.calculus.specs.VariableRows.{range_rows, rows_within, rows_of}
 use Rattle.calculus.specs.Who.{Free}
 use Rattle.quel_meaning.specs.FitQueries.{keeps_rows, is_kept}

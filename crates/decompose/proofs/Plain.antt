@@ -1,5 +1,5 @@
 -- Where no aggregates stand, what aggregates give doesn't count.
-use Rattle.std.proofs.Common.{◌≡◌, refl, sym, ap, ◌∙◌, not, ◌&&◌, ◌||◌, List, [], ◌∷◌, ◌++◌, filter_map}
+use Rattle.std.proofs.Common.{◌≡◌, refl, ap, not, ◌&&◌, ◌||◌, List, [], ◌∷◌, filter_map}
 use Rattle.std.specs.Prelude.{filter, is_none}
 use Rattle.std.specs.List.{list_any, flat_map}
 use Rattle.calculus.specs.declared.query.QTerm.{QTerm, Int, Chars, Attr, Agg', Row_of-QAgg, end_of-QAgg, more_of-QAgg}

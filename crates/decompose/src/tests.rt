@@ -4,13 +4,14 @@ ghost use Rattle.std.proofs.Common.{rules};
 use super::*;
 use am_traits::{Base, BaseFault};
 use calculus::{
-    DbChange, Kind, List, Name, Permit, Place, Probe, QQual, QTerm, Query, RelInfo, RelKey, Row, Rule,
-    Target, Value,
+    DbChange, Kind, List, Name, Permit, Place, Probe, QQual, QTerm, Query, RelInfo, RelKey, Row,
+    Rule, Target, Value,
 };
 use std::alloc::Global;
 use std::test::*;
 
 /// A base that tells no database, with three rows of one number under each key.
+#[derive(Drop)]
 struct Three;
 
 /// The row of one number.
