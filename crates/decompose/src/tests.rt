@@ -1,5 +1,5 @@
 ghost use Rattle.std.specs.Prelude.{None, []};
-ghost use Rattle.std.proofs.Common.{rules};
+ghost use Rattle.std.proofs.lemmas.Option.{none-some};
 
 use super::*;
 use am_traits::{Base, BaseFault};
@@ -15,11 +15,9 @@ use std::test::*;
 struct Three;
 
 /// The row of one number.
-fn row_of(alloc: Global, number: u16) -> Result<Row, BaseFault> {
+fn row_of(alloc: Global, number: u16) -> Result<Row, OutOfMemory> {
     let mut values = Vec::new(alloc);
-    if values.push(Value::Int(number as i64)).is_err() {
-        return Err(BaseFault::OutOfMemory);
-    }
+    values.push(Value::Int(number as i64))?;
     Ok(Row::of(values))
 }
 
@@ -30,9 +28,9 @@ impl Base for Three {
 
     ghost left = { λ _ _ _. [] };
 
-    ghost lawful = { Prim.search rules };
+    ghost lawful = { λ _ db told. absurd (none-some db told) };
 
-    ghost scanned = { Prim.search rules };
+    ghost scanned = { λ _ db _ told. absurd (none-some db told) };
 
     fn dba(&mut self, _alloc: Global) -> Result<Name, BaseFault> {
         Err(BaseFault::OutOfMemory)
