@@ -12,9 +12,9 @@ use Rattle.calculus.specs.declared.schema.Spec.TheVariants as spec
 use Rattle.calculus.specs.Name.{is_name}
 use Rattle.calculus.specs.Keys.{same_key}
 use Rattle.calculus.specs.Lists.{is_any}
-use Rattle.calculus.specs.Database.{Db, Relation, View, Index, relation_at, view_at, index_at, is_relation, entries, entry_at}
+use Rattle.calculus.specs.Database.{Db, Relation, View, Index, relation_at, view_at, index_at, is_relation, entry_at}
 use Rattle.calculus.specs.Catalogue.{is_catalogue_name, relation_key, attribute_key, catalogue_at}
-use Rattle.calculus.specs.Stored.{Range, Kept, Viewed, range_at, range_info, info_at, attrs_in, attrs_at}
+use Rattle.calculus.specs.Stored.{Kept, Viewed, range_at, range_info, info_at, attrs_in, attrs_at}
 use Rattle.calculus.specs.IsDatabase.{IsDatabase, key_is_named, index_stands}
 use Rattle.quel_meaning.proofs.DatabaseFacts.{found_passes}
 use Rattle.quel_meaning.proofs.Each.{left, right}

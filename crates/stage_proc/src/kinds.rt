@@ -28,11 +28,7 @@ fn kind_at(kinds: &[Kind], place: u8) -> Option<Kind>
 }
 
 /// The kinds of the attributes at these places.
-fn placed(
-    alloc: Global,
-    kinds: &[Kind],
-    places: &[u8],
-) -> Result<Vec<Option<Kind>>, OutOfMemory>
+fn placed(alloc: Global, kinds: &[Kind], places: &[u8]) -> Result<Vec<Option<Kind>>, OutOfMemory>
     ensures { IfOk result (λ wanted. wanted.items ≡ map (slice_get kinds.now) places.now) }
 {
     let mut wanted = Vec::new(alloc);

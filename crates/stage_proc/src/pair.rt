@@ -20,11 +20,7 @@ fn row_at(alloc: Global, at: &Assigned, v: u8) -> Result<Option<Row>, OutOfMemor
 }
 
 /// The row that an update replaces or deletes in an assignment.
-pub(crate) fn old_row(
-    alloc: Global,
-    u: &Update,
-    at: &Assigned,
-) -> Result<Option<Row>, OutOfMemory>
+pub(crate) fn old_row(alloc: Global, u: &Update, at: &Assigned) -> Result<Option<Row>, OutOfMemory>
     ensures { IfOk result (λ row. row ≡ old_row u.now at.now) }
 {
     match u.op {
@@ -51,12 +47,7 @@ fn replaced(
 }
 
 /// The row that an append puts: what it doesn't name is blank.
-fn appended(
-    alloc: Global,
-    kinds: &[Kind],
-    places: &[u8],
-    values: &Row,
-) -> Result<Row, OutOfMemory>
+fn appended(alloc: Global, kinds: &[Kind], places: &[u8], values: &Row) -> Result<Row, OutOfMemory>
     ensures { IfOk result (λ new. new ≡ with_values places.now values.now (map blank kinds.now)) }
 {
     let row = blank_row(alloc, kinds)?;

@@ -1,4 +1,4 @@
-use Rattle.std.proofs.Common.{◌≡◌, refl, sym, ap, ◌∙◌, [], List, ℕ, Some, None}
+use Rattle.std.proofs.Common.{◌≡◌, refl, sym, ap, ◌∙◌, [], Some}
 use Rattle.calculus.specs.Text.{text_of}
 use Rattle.calculus.specs.declared.value.Value.TheVariants.{Text as TextValue}
 use Rattle.std.proofs.lemmas.Option.{none-some, same_Some}
