@@ -1,0 +1,19 @@
+//! The answer of a query over the rows that a database keeps.
+#![tactic(auto)]
+
+mod answers;
+mod fault;
+mod laws;
+mod scanned;
+mod sets;
+mod used;
+
+pub use answers::answer;
+pub use calculus::OutOfMemory;
+pub use fault::QueryFault;
+pub use laws::no_aggregates_need_no_tables;
+pub use scanned::rows_of;
+pub use sets::rows_of_variable;
+
+#[cfg(test)]
+mod tests;

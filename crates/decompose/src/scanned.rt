@@ -1,0 +1,40 @@
+//! The rows that a database keeps under a key.
+
+ghost use Rattle.std.specs.Prelude.{◌≡◌, [], ◌∷◌, ◌++◌, Some, IfOk, OnOk};
+ghost use Rattle.calculus.specs.Database.{Db};
+ghost use Rattle.calculus.specs.Stored.{rows_at};
+ghost use Rattle.am_traits.specs.Causes.{HasCause};
+
+use am_traits::{Base, BaseFault};
+use calculus::{List, OutOfMemory, Place, Probe, RelKey, Row, RowSet};
+use std::alloc::Global;
+
+/// The row behind the others.
+fn put_behind(rows: &mut Vec<Row>, row: Row) -> Result<(), OutOfMemory>
+    ensures { OnOk result (rows.new.items ≡ rows.old.items ++ row ∷ []) }
+{
+    rows.push(row)?;
+    Ok(())
+}
+
+/// The set of the rows of the relation or catalogue under a key, by one scan. A database has at most
+/// 1,000,000 rows under a key; what gives more stands for none, and the fault is `Damaged`.
+pub fn rows_of<B: Base>(alloc: Global, base: &mut B, key: &RelKey) -> Result<RowSet, BaseFault>
+    ensures told { (db : Db) → B.database base.old ≡ Some db → IfOk result (λ set. set ≡ rows_at db key.now) }
+    ensures kept { B.database base.new ≡ B.database base.old }
+    ensures same { B.left base.new ≡ B.left base.old }
+    ensures cause { HasCause (B.database base.old) (B.faults base.old) (B.faults base.new) result }
+{
+    let probe = Probe {
+        equal: List::of(Vec::new(alloc)),
+    };
+    let mut at = Place { page: 0, line: 0 };
+    let mut rows = Vec::new(alloc);
+    for call in 0..1_000_001u32 {
+        match base.scan(alloc, key, &probe, &mut at)? {
+            Some(row) => put_behind(&mut rows, row)?,
+            None => return Ok(RowSet::of_rows(rows)),
+        }
+    }
+    Err(BaseFault::Damaged { file: 0, page: 0 })
+}

@@ -1,0 +1,3 @@
+pub mod Given
+pub mod Walk
+pub mod Causes

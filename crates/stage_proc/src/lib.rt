@@ -1,0 +1,25 @@
+//! The pairs of old and new rows that an update makes.
+#![tactic(auto)]
+
+mod attributes;
+mod fault;
+mod fitting;
+mod given;
+mod kinds;
+mod new_row;
+mod over;
+mod pair;
+mod pairs;
+mod sets;
+mod standing;
+mod walk;
+
+pub use calculus::OutOfMemory;
+pub use decompose::QueryFault;
+pub use fault::PairFault;
+pub use kinds::NewKinds;
+pub use over::pairs_over;
+pub use pairs::pairs_of;
+
+#[cfg(test)]
+mod tests;

@@ -1,0 +1,93 @@
+//! New rows.
+
+ghost use Rattle.std.specs.Prelude.{◌≡◌, [], map, slice_set, IfOk, OnOk};
+ghost use Rattle.calculus.specs.Pairs.{blank, with_values};
+ghost use Rattle.calculus.specs.declared.value.Value.TheVariants.{Text as TextValue};
+
+use calculus::{Domain, Kind, OutOfMemory, Row, Text, TryCopy, Value};
+use std::alloc::Global;
+
+/// The empty text.
+fn empty_text(alloc: Global) -> Result<Value, OutOfMemory>
+    ensures { IfOk result (λ value. value ≡ TextValue []) }
+{
+    match Text::of(alloc, &[])? {
+        Some(text) => Ok(Value::Text(text)),
+        None => Ok(Value::Int(0)),
+    }
+}
+
+/// What an attribute of the kind holds that isn't named: 0, or the empty text.
+fn blank(alloc: Global, kind: Kind) -> Result<Value, OutOfMemory>
+    ensures { IfOk result (λ value. value ≡ blank kind) }
+{
+    match kind {
+        Kind::Of(Domain::C(_)) => empty_text(alloc),
+        _ => Ok(Value::Int(0)),
+    }
+}
+
+/// The row in which no attribute is named.
+pub(crate) fn blank_row(alloc: Global, kinds: &[Kind]) -> Result<Row, OutOfMemory>
+    ensures { IfOk result (λ row. row ≡ map blank kinds.now) }
+{
+    let mut values = Vec::new(alloc);
+    for kind in kinds {
+        values.push(blank(alloc, *kind)?)?;
+    }
+    Ok(Row::of(values))
+}
+
+/// Copies of the values.
+fn copies_of(alloc: Global, values: &[Value]) -> Result<Vec<Value>, OutOfMemory>
+    ensures { IfOk result (λ copies. copies.items ≡ values.now) }
+{
+    let mut copies = Vec::new(alloc);
+    for value in values {
+        copies.push(value.copy(alloc)?)?;
+    }
+    Ok(copies)
+}
+
+/// Puts the value at the place, where there is one.
+fn put_at(place: u8, value: Value, row: &mut Vec<Value>)
+    ensures { row.new.items ≡ slice_set row.old.items place value }
+{
+    let place = place as usize;
+    if place < row.len() {
+        row[place] = value;
+    }
+}
+
+/// Puts the values at the places, one after the other.
+fn put_values(
+    alloc: Global,
+    places: &[u8],
+    values: &[Value],
+    row: &mut Vec<Value>,
+) -> Result<(), OutOfMemory>
+    ensures { OnOk result (row.new.items ≡ with_values places.now values.now row.old.items) }
+{
+    let Some((place, other_places)) = places.split_first() else {
+        return Ok(());
+    };
+    let Some((value, other_values)) = values.split_first() else {
+        return Ok(());
+    };
+    put_at(*place, value.copy(alloc)?, row);
+    put_values(alloc, other_places, other_values, row)
+}
+
+/// The row with these values at these places.
+pub(crate) fn with_values(
+    alloc: Global,
+    places: &[u8],
+    values: &Row,
+    row: &Row,
+) -> Result<Row, OutOfMemory>
+    ensures { IfOk result (λ new. new ≡ with_values places.now values.now row.now) }
+{
+    let mut new = copies_of(alloc, row.values())?;
+    put_values(alloc, places, values.values(), &mut new)?;
+    Ok(Row::of(new))
+}

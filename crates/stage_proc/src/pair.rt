@@ -1,0 +1,85 @@
+//! The pair of one assignment.
+
+ghost use Rattle.std.specs.Prelude.{◌≡◌, map, slice_get, option_map, IfOk};
+ghost use Rattle.calculus.specs.Pairs.{blank, old_row, with_values};
+ghost use Rattle.stage_proc.specs.Given.{pair_of};
+
+use crate::new_row::{blank_row, with_values};
+use calculus::{Kind, OutOfMemory, Pair, Row, TryCopy, Update, UpdateOp};
+use scalar_eval::Assigned;
+use std::alloc::Global;
+
+/// The row of a variable, where it has one.
+fn row_at(alloc: Global, at: &Assigned, v: u8) -> Result<Option<Row>, OutOfMemory>
+    ensures { IfOk result (λ row. row ≡ slice_get at.now v) }
+{
+    match at.rows().get(v as usize) {
+        Some(row) => Ok(Some(row.copy(alloc)?)),
+        None => Ok(None),
+    }
+}
+
+/// The row that an update replaces or deletes in an assignment.
+pub(crate) fn old_row(alloc: Global, u: &Update, at: &Assigned) -> Result<Option<Row>, OutOfMemory>
+    ensures { IfOk result (λ row. row ≡ old_row u.now at.now) }
+{
+    match u.op {
+        UpdateOp::Append => Ok(None),
+        UpdateOp::Replace => row_at(alloc, at, u.old),
+        UpdateOp::Delete => row_at(alloc, at, u.old),
+        UpdateOp::Into => Ok(None),
+    }
+}
+
+/// The old row with these values at these places.
+fn replaced(
+    alloc: Global,
+    places: &[u8],
+    values: &Row,
+    old: &Option<Row>,
+) -> Result<Option<Row>, OutOfMemory>
+    ensures { IfOk result (λ new. new ≡ option_map (with_values places.now values.now) old.now) }
+{
+    match old {
+        Some(row) => Ok(Some(with_values(alloc, places, values, row)?)),
+        None => Ok(None),
+    }
+}
+
+/// The row that an append puts: what it doesn't name is blank.
+fn appended(alloc: Global, kinds: &[Kind], places: &[u8], values: &Row) -> Result<Row, OutOfMemory>
+    ensures { IfOk result (λ new. new ≡ with_values places.now values.now (map blank kinds.now)) }
+{
+    let row = blank_row(alloc, kinds)?;
+    with_values(alloc, places, values, &row)
+}
+
+/// The pair where the changed variable has the row `old` and the targets have these values.
+pub(crate) fn pair_of(
+    alloc: Global,
+    kinds: &[Kind],
+    u: &Update,
+    old: Option<Row>,
+    values: &Row,
+) -> Result<Pair, OutOfMemory>
+    ensures { IfOk result (λ pair. pair ≡ pair_of kinds.now u.now old values.now) }
+{
+    match u.op {
+        UpdateOp::Append => {
+            let row = appended(alloc, kinds, u.places.items(), values)?;
+            Ok(Pair {
+                old: None,
+                new: Some(row),
+            })
+        }
+        UpdateOp::Replace => {
+            let new = replaced(alloc, u.places.items(), values, &old)?;
+            Ok(Pair { old, new })
+        }
+        UpdateOp::Delete => Ok(Pair { old, new: None }),
+        UpdateOp::Into => Ok(Pair {
+            old: None,
+            new: Some(values.copy(alloc)?),
+        }),
+    }
+}
