@@ -1,0 +1,3 @@
+pub mod Asking
+pub mod Ranging
+pub mod Roles

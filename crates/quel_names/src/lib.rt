@@ -1,0 +1,9 @@
+//! Which name refuses a statement, and what its variables range over.
+#![tactic(auto)]
+
+mod looking;
+mod role;
+
+pub use am_traits::BaseFault;
+pub use looking::{named, ranged};
+pub use role::Role;
