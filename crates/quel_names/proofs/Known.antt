@@ -32,7 +32,7 @@ find_in_map p f (x ∷ xs) = go (find_in_map p f xs) (p (f x))
     go later true = refl
     go later false = later
 
-entry_parts : (db : Db) (key : RelKey)
+pub entry_parts : (db : Db) (key : RelKey)
     → entry_at db key ≡ option_or (option_map (λ (r : Relation). r.info) (relation_at db key)) (option_or (option_map (λ (v : View). v.info) (view_at db key)) (option_map (λ (x : Index). x.info) (index_at db key)))
 entry_parts db key =
     find-append of_key (map (λ (r : Relation). r.info) db.relations) (map (λ (v : View). v.info) db.views ++ map (λ (x : Index). x.info) db.indexes)
@@ -156,7 +156,7 @@ plain_name db is key x e =
 
 -- ---- what may be ranged over
 
-info_parts : (db : Db) (key : RelKey)
+pub info_parts : (db : Db) (key : RelKey)
     → info_at db key ≡ option_or (option_map (λ (r : Relation). r.info) (relation_at db key)) (option_or (option_map (λ (v : View). v.info) (view_at db key)) (option_map (λ (r : Relation). r.info) (catalogue_at db key)))
 unfolding info_at range_at
 info_parts db key = go (relation_at db key) (view_at db key) (catalogue_at db key)
@@ -171,7 +171,7 @@ info_parts db key = go (relation_at db key) (view_at db key) (catalogue_at db ke
     go None None (Some c) = refl
     go None None None = refl
 
-known_parts : (db : Db) (key : RelKey) → known_at db key ≡ option_or (entry_at db key) (option_map (λ (r : Relation). r.info) (catalogue_at db key))
+pub known_parts : (db : Db) (key : RelKey) → known_at db key ≡ option_or (entry_at db key) (option_map (λ (r : Relation). r.info) (catalogue_at db key))
 unfolding known_at
 known_parts db key = go (entry_at db key)
   where

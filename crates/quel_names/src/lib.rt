@@ -1,7 +1,9 @@
 //! Which name refuses a statement, and what its variables range over.
 #![tactic(auto)]
 
+mod entry;
 mod looking;
+mod mention;
 mod role;
 
 pub use am_traits::BaseFault;
