@@ -4,6 +4,7 @@
 mod entry;
 mod looking;
 mod mention;
+mod mentioned;
 mod role;
 
 pub use am_traits::BaseFault;
