@@ -3,6 +3,7 @@
 
 mod entry;
 mod looking;
+mod meant;
 mod mention;
 mod mentioned;
 mod role;
