@@ -1,2 +1,5 @@
+pub mod Alls
 pub mod Entries
 pub mod Known
+pub mod Numbers
+pub mod Telling

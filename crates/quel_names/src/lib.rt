@@ -2,11 +2,15 @@
 #![tactic(auto)]
 
 mod entry;
+mod head;
 mod looking;
 mod meant;
 mod mention;
 mod mentioned;
+mod parts;
 mod role;
+mod targets;
+mod text;
 
 pub use am_traits::BaseFault;
 pub use looking::{named, ranged};
