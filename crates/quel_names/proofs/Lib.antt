@@ -3,3 +3,4 @@ pub mod Entries
 pub mod Known
 pub mod Numbers
 pub mod Telling
+pub mod Wholes

@@ -3,7 +3,7 @@
 ghost use Rattle.std.specs.Prelude.{◌≡◌, [], ◌∷◌, flat_map, map, IfOk};
 ghost use Rattle.std.specs.Option.{option_to_list};
 ghost use Rattle.quel_check.specs.Seen.{seen};
-ghost use Rattle.quel_meaning.specs.Naming.{Relation, Variable, AttrIn, AttrOf};
+ghost use Rattle.quel_meaning.specs.Naming.{Entry, Relation, Variable, AttrIn, AttrOf};
 ghost use Rattle.quel_names.specs.Parts.{head};
 ghost use Rattle.quel_names.specs.Roles.{meant_by};
 
@@ -95,6 +95,18 @@ fn attrs_of<'a>(
     with_names(alloc, &Mention::Variable(var), &Role::AttrOf(var), names)
 }
 
+fn entries(alloc: Global, names: &[Name]) -> Result<Vec<Mention<'_>>, OutOfMemory>
+    ensures { IfOk result (λ found. map seen found.items ≡ map Entry names.now) }
+{
+    each(alloc, &Role::Entry, names)
+}
+
+fn relations(alloc: Global, names: &[Name]) -> Result<Vec<Mention<'_>>, OutOfMemory>
+    ensures { IfOk result (λ found. map seen found.items ≡ map Relation names.now) }
+{
+    each(alloc, &Role::Relation, names)
+}
+
 fn asked(alloc: Global, rel: &Option<Name>) -> Result<Vec<Mention<'_>>, OutOfMemory>
     ensures { IfOk result (λ found. map seen found.items ≡ map Relation (option_to_list rel.now)) }
 {
@@ -116,12 +128,12 @@ pub(crate) fn head(alloc: Global, s: &Statement) -> Result<Vec<Mention<'_>>, Out
         Statement::Replace { var, .. } => variable(alloc, var),
         Statement::Delete { var, .. } => variable(alloc, var),
         Statement::Create { .. } => Ok(Vec::new(alloc)),
-        Statement::Destroy { rels } => each(alloc, &Role::Entry, rels.items()),
+        Statement::Destroy { rels } => entries(alloc, rels.items()),
         Statement::DropPermits { rel, .. } => relation(alloc, rel),
         Statement::DropRules { rel, .. } => relation(alloc, rel),
         Statement::Modify { rel, keys, .. } => attrs_in(alloc, rel, keys.items()),
         Statement::Index { base, keys, .. } => attrs_in(alloc, base, keys.items()),
-        Statement::Print { rels } => each(alloc, &Role::Relation, rels.items()),
+        Statement::Print { rels } => relations(alloc, rels.items()),
         Statement::Help { rel } => asked(alloc, rel),
         Statement::Copy { rel, columns, .. } => with_columns(alloc, rel, columns.items()),
         Statement::View { .. } => Ok(Vec::new(alloc)),

@@ -8,10 +8,11 @@ mod meant;
 mod mention;
 mod mentioned;
 mod parts;
+mod refusal;
 mod role;
 mod targets;
 mod text;
 
 pub use am_traits::BaseFault;
 pub use looking::{named, ranged};
-pub use role::Role;
+pub use refusal::name_refusal;
