@@ -3,6 +3,7 @@
 
 mod entry;
 mod head;
+mod infos;
 mod looking;
 mod meant;
 mod mention;
@@ -14,5 +15,6 @@ mod targets;
 mod text;
 
 pub use am_traits::BaseFault;
+pub use infos::{infos_of, variables_range_where_no_name_refuses};
 pub use looking::{named, ranged};
 pub use refusal::name_refusal;
