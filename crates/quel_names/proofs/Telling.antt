@@ -1,5 +1,5 @@
 -- An answer that is told, said in another way.
-use Rattle.std.proofs.Common.{◌≡◌, refl, subst, ℕ, Bool, true, false, Option, Some, None, is_some, Result}
+use Rattle.std.proofs.Common.{◌≡◌, refl, subst, false, Option, Some, None, is_some, Result}
 use Rattle.std.specs.Result.{IfOk}
 use Rattle.am_traits.specs.declared.fault.BaseFault.{BaseFault}
 

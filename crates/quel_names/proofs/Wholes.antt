@@ -1,15 +1,13 @@
 -- The names of a whole statement are those of its two parts.
-use Rattle.std.proofs.Common.{◌≡◌, refl, sym, ap, ◌∙◌, ℕ, List, [], ◌∷◌, ◌++◌, map, true, Option, Some, None, is_some}
-use Rattle.std.specs.List.{flat_map}
+use Rattle.std.proofs.Common.{◌≡◌, refl, sym, ap, ◌∙◌, ℕ, List, ◌++◌, map, true, Some, None, is_some}
 use Rattle.std.proofs.lemmas.List.{append-nil}
 use Rattle.calculus.specs.declared.statement.Item.{Item}
-use Rattle.calculus.specs.declared.statement.Item.TheVariants as item
 use Rattle.calculus.specs.declared.statement.Qual.{Qual}
 use Rattle.calculus.specs.declared.statement.Statement.{Statement}
 use Rattle.calculus.specs.declared.statement.Statement.TheVariants as statement
-use Rattle.quel_meaning.specs.Naming.{Mention, AttrOf, dotted, item_mentions, query_mentions, mentions, mention_refusal, first_number, name_refusal}
+use Rattle.quel_meaning.specs.Naming.{Mention, query_mentions, mentions, mention_refusal, first_number, name_refusal}
 use Rattle.quel_meaning.specs.Scope.{Scope}
-use Rattle.quel_meaning.specs.WrittenParts.{attributes_in_qual, items_of, where_of}
+use Rattle.quel_meaning.specs.WrittenParts.{items_of, where_of}
 use Rattle.quel_names.proofs.Numbers.{before_more, after_none}
 use Rattle.quel_names.specs.Parts.{head, title_in}
 
@@ -49,7 +47,6 @@ unfolding name_refusal
 tail_is s stmt h = after_none (mention_refusal s) (head stmt) (tail s stmt) h ∙ ap (λ ms. first_number (map (mention_refusal s) ms)) (sym (parted s stmt))
 
 -- ---- titles that are the same are mentioned the same
-
 
 pub titled_same : (s : Scope) (f g : List ℕ → List Mention) → ((name : List ℕ) → f name ≡ g name) → (items : List Item) (qual : Qual) → query_mentions s f items qual ≡ query_mentions s g items qual
 titled_same s f g e items qual = ap (λ (t : List ℕ → List Mention). query_mentions s t items qual) (λ j name. e name j)

@@ -34,11 +34,7 @@ fn is_known<B: Base>(
 }
 
 /// The same of the administrator's key.
-fn is_known_to_all<B: Base>(
-    alloc: Global,
-    base: &mut B,
-    name: &Name,
-) -> Result<bool, BaseFault>
+fn is_known_to_all<B: Base>(alloc: Global, base: &mut B, name: &Name) -> Result<bool, BaseFault>
     ensures told { (db : Db) → B.database base.old ≡ Some db → IfOk result (λ b. b ≡ is_some (known_at db (key_of db.dba name.now))) }
     ensures kept { B.database base.new ≡ B.database base.old }
     ensures same { B.left base.new ≡ B.left base.old }

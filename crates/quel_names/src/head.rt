@@ -13,10 +13,7 @@ use calculus::{CopyForm, Name, OutOfMemory, Statement};
 use quel_check::Mention;
 use std::alloc::Global;
 
-fn alone<'a>(
-    alloc: Global,
-    mention: &Mention<'a>,
-) -> Result<Vec<Mention<'a>>, OutOfMemory>
+fn alone<'a>(alloc: Global, mention: &Mention<'a>) -> Result<Vec<Mention<'a>>, OutOfMemory>
     ensures { IfOk result (λ found. map seen found.items ≡ seen mention.now ∷ []) }
 {
     let mut mentions: Vec<Mention<'a>> = Vec::new(alloc);

@@ -1,4 +1,4 @@
-use Rattle.std.proofs.Common.{◌≡◌, ◌∙◌, ap, cond, Some, None}
+use Rattle.std.proofs.Common.{◌∙◌, ap, cond, Some, None}
 use Rattle.quel_names.proofs.Entries.{entry_if}
 use Rattle.quel_names.proofs.entry.entry_refusal.Goals as goal
 

@@ -15,9 +15,9 @@ loop-var-preserved g c = (
   c.in_ok-info.ensures.same ∙ c.loop-var.invariant.1,
   le_trans c.loop-var.invariant.2 c.in_ok-info.ensures.cause.later,
   λ db user h.
-  one_more db user c.args.ranges.now c.args.vars.now c.loop-var.infos.items c.loop-var.var-index c.var-item.result c.in-Some.info (c.loop-var.invariant.3 db user h) c.loop-var-test.true c.var-item.is
-  (sym c.in-Some.is ∙ c.in_ok-info.ensures.told db (c.loop-var.invariant.0 ∙ h))
-  ∙ ap (map (λ i. Some i)) (sym c.in_ok-push-in-Some.ensures)
+      one_more db user c.args.ranges.now c.args.vars.now c.loop-var.infos.items c.loop-var.var-index c.var-item.result c.in-Some.info (c.loop-var.invariant.3 db user h) c.loop-var-test.true c.var-item.is
+      (sym c.in-Some.is ∙ c.in_ok-info.ensures.told db (c.loop-var.invariant.0 ∙ h))
+      ∙ ap (map (λ i. Some i)) (sym c.in_ok-push-in-Some.ensures),
 )
 
 pub returns-clause-told : goal.returns-clause-told

@@ -1,4 +1,4 @@
-use Rattle.std.proofs.Common.{◌≡◌, sym, ap, ◌∙◌}
+use Rattle.std.proofs.Common.{ap, ◌∙◌}
 use Rattle.quel_names.proofs.Known.{ranged_if}
 use Rattle.quel_names.specs.Ranging.{but_index}
 use Rattle.quel_names.proofs.looking.info_at.Goals as goal

@@ -1,4 +1,4 @@
-use Rattle.std.proofs.Common.{sym, ap, map, ◌∙◌}
+use Rattle.std.proofs.Common.{ap, map, ◌∙◌}
 use Rattle.quel_meaning.specs.Naming.{first_number, mention_refusal, query_mentions}
 use Rattle.quel_meaning.specs.WrittenParts.{items_of, where_of}
 use Rattle.quel_names.proofs.Telling.{told_as}

@@ -1,4 +1,4 @@
-use Rattle.std.proofs.Common.{◌≡◌, Some, map, ℕ, ◌≤◌, drop}
+use Rattle.std.proofs.Common.{◌≡◌, Some, map, ◌≤◌, drop}
 use Rattle.std.specs.List.{flat_map}
 use Rattle.calculus.specs.Database.{Db}
 use Rattle.quel_meaning.specs.Naming.{first_number, item_mentions, mention_refusal}
