@@ -1,0 +1,7 @@
+pub mod Alls
+pub mod Entries
+pub mod Known
+pub mod Numbers
+pub mod Overs
+pub mod Telling
+pub mod Wholes

@@ -1,0 +1,13 @@
+use Rattle.std.proofs.Common.{◌≡◌, Some, List, map, take, ℕ, ◌≤◌}
+use Rattle.calculus.specs.Database.{Db}
+use Rattle.quel_meaning.specs.Scope.{ranged}
+use Rattle.quel_names.specs.Asking.{scope_of}
+use Rattle.quel_names.proofs.infos.infos_of.Given as goal
+
+abbrev pub invariant-loop-var : goal.invariant-loop-var
+invariant-loop-var g l =
+    (g.B.Base.database l.base ≡ g.B.Base.database l.fn.base)
+    × (g.B.Base.left l.base ≡ g.B.Base.left l.fn.base)
+    × (g.B.Base.faults l.fn.base ≤ g.B.Base.faults l.base)
+    × ((db : Db) (user : List ℕ) → g.B.Base.database l.fn.base ≡ Some db
+    → map (ranged (scope_of db user l.ranges)) (take l.var-index l.vars) ≡ map Some l.infos.items)

@@ -1,0 +1,53 @@
+//! What variables range over.
+
+ghost use Rattle.std.specs.Prelude.{◌≡◌, ◌++◌, ◌∷◌, [], ℕ, List, None, Some, true, option_map, IfOk, OnOk};
+ghost use Rattle.am_traits.specs.Causes.{HasCause};
+ghost use Rattle.calculus.specs.Database.{Db};
+ghost use Rattle.calculus.specs.declared.statement.Statement.{Statement};
+ghost use Rattle.quel_meaning.specs.Naming.{name_refusal};
+ghost use Rattle.quel_meaning.specs.Scope.{Scope};
+ghost use Rattle.quel_meaning.specs.WrittenParts.{vars_in};
+ghost use Rattle.quel_names.specs.Asking.{scope_of};
+ghost use Rattle.quel_names.specs.Ranging.{AreOver, each_ranges};
+
+use crate::looking::ranged;
+use am_traits::{Base, BaseFault};
+use calculus::{Name, OutOfMemory, RelInfo};
+use quel_check::RangeTable;
+use std::alloc::Global;
+
+fn push(infos: &mut Vec<RelInfo>, info: RelInfo) -> Result<(), OutOfMemory>
+    ensures { OnOk result (infos.new.items ≡ infos.old.items ++ info ∷ []) }
+{
+    Ok(infos.push(info)?)
+}
+
+/// What each of these variables ranges over, one by one; `None` exactly where one of them ranges over
+/// nothing.
+pub fn infos_of<B: Base>(
+    alloc: Global,
+    base: &mut B,
+    ranges: &RangeTable,
+    vars: &[Name],
+) -> Result<Option<Vec<RelInfo>>, BaseFault>
+    ensures told { (db : Db) (user : List ℕ) → B.database base.old ≡ Some db
+        → IfOk result (λ found. AreOver (scope_of db user ranges.now) vars.now (option_map (λ infos. infos.items) found)) }
+    ensures kept { B.database base.new ≡ B.database base.old }
+    ensures same { B.left base.new ≡ B.left base.old }
+    ensures cause { HasCause (B.database base.old) (B.faults base.old) (B.faults base.new) result }
+{
+    let mut infos: Vec<RelInfo> = Vec::new(alloc);
+    for var in vars {
+        match ranged(alloc, base, ranges, var)? {
+            Some(info) => push(&mut infos, info)?,
+            None => return Ok(None),
+        }
+    }
+    Ok(Some(infos))
+}
+
+/// Where no name refuses a statement, each of its variables ranges over something.
+#[tactic(auto, using(crate::proofs::Overs::named_vars_range))]
+pub fn variables_range_where_no_name_refuses()
+    ensures { (s : Scope) (statement : Statement) → name_refusal s statement ≡ None → each_ranges s (vars_in statement) ≡ true }
+{}

@@ -1,0 +1,20 @@
+//! Which name refuses a statement, and what its variables range over.
+#![tactic(auto)]
+
+mod entry;
+mod head;
+mod infos;
+mod looking;
+mod meant;
+mod mention;
+mod mentioned;
+mod parts;
+mod refusal;
+mod role;
+mod targets;
+mod text;
+
+pub use am_traits::BaseFault;
+pub use infos::{infos_of, variables_range_where_no_name_refuses};
+pub use looking::{named, ranged};
+pub use refusal::name_refusal;

@@ -1,0 +1,38 @@
+//! The first name that refuses, among mentions.
+
+ghost use Rattle.std.specs.Prelude.{◌≡◌, Some, IfOk, map};
+ghost use Rattle.am_traits.specs.Causes.{HasCause};
+ghost use Rattle.calculus.specs.Database.{Db};
+ghost use Rattle.quel_check.specs.Seen.{seen};
+ghost use Rattle.quel_meaning.specs.Naming.{first_number, mention_refusal};
+ghost use Rattle.quel_names.specs.Asking.{scope_of};
+
+use crate::mention::mention_refusal;
+use am_traits::{Base, BaseFault};
+use calculus::Name;
+use quel_check::{Mention, RangeTable};
+use std::alloc::Global;
+
+/// The number that refuses the first of these names that isn't what it has to be; `None` where each
+/// is. The names behind that one are not looked for.
+pub(crate) fn first_refusal<B: Base>(
+    alloc: Global,
+    base: &mut B,
+    user: &Name,
+    ranges: &RangeTable,
+    mentions: &[Mention<'_>],
+) -> Result<Option<u8>, BaseFault>
+    ensures told { (db : Db) → B.database base.old ≡ Some db
+        → IfOk result (λ n. n ≡ first_number (map (mention_refusal (scope_of db user.now ranges.now)) (map seen mentions.now))) }
+    ensures kept { B.database base.new ≡ B.database base.old }
+    ensures same { B.left base.new ≡ B.left base.old }
+    ensures cause { HasCause (B.database base.old) (B.faults base.old) (B.faults base.new) result }
+{
+    for mention in mentions {
+        let refusal = mention_refusal(alloc, base, user, ranges, mention)?;
+        if refusal.is_some() {
+            return Ok(refusal);
+        }
+    }
+    Ok(None)
+}
