@@ -5,6 +5,9 @@ use calculus::{
 };
 use std::alloc::Global;
 use std::test::*;
+use three::Three;
+
+mod three;
 
 fn named(alloc: Global, bytes: &[u8]) -> Result<Name, Fail> {
     Ok(Name::of(alloc, bytes)?.ok_or("no name")?)
@@ -103,5 +106,36 @@ fn each_row_is_replaced(rt: HostRuntime) -> Result<(), Fail> {
 #[test]
 fn a_number_that_is_too_large_does_not_fit(rt: HostRuntime) -> Result<(), Fail> {
     assert_eq!(rt; count(rt.alloc(), 70_000)?, None);
+    Ok(())
+}
+
+/// Deletes all rows.
+fn delete(alloc: Global) -> Result<Update, Fail> {
+    let rel = key(alloc)?;
+    let vars = one_key(alloc)?;
+    Ok(Update {
+        op: UpdateOp::Delete,
+        rel,
+        old: 0,
+        places: List::of(Vec::new(alloc)),
+        query: Query {
+            vars,
+            targets: List::of(Vec::new(alloc)),
+            qual: QQual::True,
+        },
+        checks: List::of(Vec::new(alloc)),
+        new_cut: QQual::True,
+    })
+}
+
+#[test]
+fn a_delete_reads_all_rows(rt: HostRuntime) -> Result<(), Fail> {
+    let alloc = rt.alloc();
+    let u = delete(alloc)?;
+    let count = match pairs_of(alloc, &mut Three, &u, &[]) {
+        Ok(pairs) => pairs.len(),
+        Err(_) => 0,
+    };
+    assert_eq!(rt; count, 3);
     Ok(())
 }
