@@ -5,5 +5,4 @@ pub mod Fits
 pub mod Standing
 pub mod TooMany
 pub mod Twice
-pub mod Untold
 pub mod Viewed
