@@ -1,0 +1,8 @@
+pub mod Counting
+pub mod Entries
+pub mod First
+pub mod Fits
+pub mod Standing
+pub mod TooMany
+pub mod Twice
+pub mod Viewed

@@ -1,0 +1,67 @@
+-- Statements without aggregates, and the updates that they are.
+use Rattle.std.proofs.Common.{◌≡◌, refl, sym, ap, ◌∙◌, ℕ, Bool, true, false, not, List, [], ◌∷◌, map, slice_get, length}
+use Rattle.std.specs.List.{list_all}
+use Rattle.calculus.specs.declared.query.QAgg.{QAgg}
+use Rattle.calculus.specs.declared.query.Query.{Query}
+use Rattle.calculus.specs.declared.request.Update.{Update}
+use Rattle.calculus.specs.declared.statement.AggTerm.{AggTerm}
+use Rattle.calculus.specs.declared.statement.Statement.{Statement}
+use Rattle.calculus.specs.Lists.{is_any}
+use Rattle.calculus.specs.QueryParts.{query_aggregates}
+use Rattle.calculus.specs.Replacement.{wanted_kinds}
+use Rattle.calculus.specs.Stored.{kinds_at}
+use Rattle.quel_meaning.specs.Aggregates.{aggregates_stand, aggregate_stands, keeps_a_text}
+use Rattle.quel_meaning.specs.Causes.{Causes, causes, causes_by}
+use Rattle.quel_meaning.specs.Scope.{Scope}
+use Rattle.quel_meaning.specs.StatementUpdate.{append_of, replace_of, delete_of}
+use Rattle.quel_meaning.specs.WrittenParts.{text_aggregates}
+use Rattle.quel_meaning.specs.WrittenQuery.{query_of}
+use Rattle.quel_meaning.proofs.Slots.{as_many}
+
+none : {X : Type 0} (xs : List X) → is_any xs ≡ false → xs ≡ []
+none [] h = refl
+none (x ∷ xs) h = absurd (cc h)
+
+-- where there is no aggregate, the aggregates stand
+stands : (s : Scope) (stmt : Statement) → is_any (text_aggregates stmt) ≡ false → aggregates_stand s stmt ≡ true
+unfolding aggregates_stand
+stands s stmt h = ap (λ gs. elim (keeps_a_text stmt) as (λ b. Bool) [ true ↦ not (is_any gs) | false ↦ list_all (aggregate_stands s) gs ]) (none (text_aggregates stmt) h) ∙ go (keeps_a_text stmt)
+  where
+    go : (b : Bool) → elim b as (λ c. Bool) [ true ↦ not false | false ↦ true ] ≡ true
+    go true = refl
+    go false = refl
+
+-- nor is there one in the query
+pub none_in_query : (s : Scope) (stmt : Statement) (q : Query) → q ≡ query_of s stmt → is_any (text_aggregates stmt) ≡ false → query_aggregates q ≡ []
+none_in_query s stmt q e h = empty (query_aggregates q) (ap (λ p. length (query_aggregates p)) e ∙ as_many s stmt ∙ ap length (none (text_aggregates stmt) h))
+  where
+    empty : (gs : List QAgg) → length gs ≡ 0 → gs ≡ []
+    empty [] h = refl
+    empty (g ∷ gs) h = absurd (cc h)
+
+-- what refuses it is what does where aggregates stand
+pub causes_are : (s : Scope) (stmt : Statement) (q : Query) → q ≡ query_of s stmt → is_any (text_aggregates stmt) ≡ false → causes_by s true q stmt ≡ causes s stmt
+unfolding causes
+causes_are s stmt q e h = λ i. causes_by s (sym (stands s stmt h) i) (e i) stmt
+
+-- ---- updates
+
+pub append_query : (s : Scope) (rel : List ℕ) (q : Query) → (append_of s rel q).query ≡ q
+unfolding append_of
+append_query s rel q = refl
+
+pub append_wants : (s : Scope) (rel : List ℕ) (q : Query) → wanted_kinds s.db (append_of s rel q) ≡ map (slice_get (kinds_at s.db (append_of s rel q).rel)) (append_of s rel q).places
+unfolding append_of
+append_wants s rel q = refl
+
+pub replace_query : (s : Scope) (var : List ℕ) (q : Query) → (replace_of s var q).query ≡ q
+unfolding replace_of
+replace_query s var q = refl
+
+pub replace_wants : (s : Scope) (var : List ℕ) (q : Query) → wanted_kinds s.db (replace_of s var q) ≡ map (slice_get (kinds_at s.db (replace_of s var q).rel)) (replace_of s var q).places
+unfolding replace_of
+replace_wants s var q = refl
+
+pub delete_query : (s : Scope) (var : List ℕ) (q : Query) → (delete_of s var q).query ≡ q
+unfolding delete_of
+delete_query s var q = refl

@@ -1,0 +1,12 @@
+use Rattle.std.proofs.Common.{sym, ◌∙◌, ap, ◌||◌, take}
+use Rattle.std.specs.List.{list_any}
+use Rattle.std.specs.Str.{bytes_eq}
+use Rattle.quel_check.proofs.Declared.{flip}
+use Rattle.quel_causes.proofs.Twice.{among_more, title_more}
+use Rattle.quel_causes.proofs.repeated.titles.Goals as goal
+
+pub loop-target-preserved : goal.loop-target-preserved
+loop-target-preserved c = λ n.
+    among_more (λ k. k.now) _ c.loop-target.seen.keys c.insert_full.new.self.keys c.in_ok-insert_full.ensures.keys n
+    ∙ ap (λ b. b || bytes_eq n c.target-item.result.name) (c.loop-target.invariant n)
+    ∙ title_more c.args.targets.now c.loop-target.target-index c.target-item.result c.loop-target-test.true c.target-item.is n

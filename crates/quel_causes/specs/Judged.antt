@@ -1,0 +1,25 @@
+-- Which statements are judged here, and the updates that they are.
+use Rattle.std.specs.Prelude.{ℕ, Bool, true, false, Option, Some, None}
+use Rattle.calculus.specs.declared.query.Query.{Query}
+use Rattle.calculus.specs.declared.request.Update.{Update}
+use Rattle.calculus.specs.declared.statement.Statement.{Statement}
+use Rattle.calculus.specs.declared.statement.Statement.TheVariants as statement
+use Rattle.quel_meaning.specs.Scope.{Scope}
+use Rattle.quel_meaning.specs.StatementUpdate.{append_of, replace_of, delete_of}
+
+-- the statement declares a variable, retrieves, appends, replaces, deletes or creates
+abbrev pub is_judged : Statement → Bool
+is_judged (statement.Range var rel) = true
+is_judged (statement.Retrieve into items qual sort) = true
+is_judged (statement.Append rel items qual) = true
+is_judged (statement.Replace var items qual) = true
+is_judged (statement.Delete var qual) = true
+is_judged (statement.Create rel attrs) = true
+is_judged _ = false
+
+-- the update that a statement with this query is; none where it appends, replaces and deletes nothing
+abbrev pub update_of : Scope → Statement → Query → Option Update
+update_of s (statement.Append rel items qual) q = Some (append_of s rel q)
+update_of s (statement.Replace var items qual) q = Some (replace_of s var q)
+update_of s (statement.Delete var qual) q = Some (delete_of s var q)
+update_of s _ q = None

@@ -1,0 +1,66 @@
+//! The kinds of the attributes of what variables range over.
+
+ghost use Rattle.std.specs.Prelude.{◌≡◌, ◌++◌, ◌∷◌, [], IfOk, OnOk, Some, map, vec_items};
+ghost use Rattle.am_traits.specs.Causes.{HasCause};
+ghost use Rattle.calculus.specs.Database.{Db};
+ghost use Rattle.calculus.specs.Stored.{attrs_in, kinds_at};
+
+use am_traits::{Base, BaseFault};
+use calculus::{Attr, Kind, OutOfMemory, RelInfo, RelKey};
+use std::alloc::Global;
+
+fn kinds_of(alloc: Global, attrs: &[Attr]) -> Result<Vec<Kind>, OutOfMemory>
+    ensures { IfOk result (λ kinds. kinds.items ≡ map (λ a. a.kind) attrs.now) }
+{
+    let mut kinds = Vec::new(alloc);
+    for attr in attrs {
+        kinds.push(attr.kind)?;
+    }
+    Ok(kinds)
+}
+
+fn kinds_in(alloc: Global, info: &Option<RelInfo>) -> Result<Vec<Kind>, OutOfMemory>
+    ensures { IfOk result (λ kinds. kinds.items ≡ map (λ a. a.kind) (attrs_in info.now)) }
+{
+    match info {
+        Some(info) => kinds_of(alloc, info.attrs.items()),
+        None => Ok(Vec::new(alloc)),
+    }
+}
+
+/// The kinds of the attributes of the relation, view or catalogue under a key; none where an index or
+/// nothing stands there.
+pub fn kinds_at<B: Base>(alloc: Global, base: &mut B, key: &RelKey) -> Result<Vec<Kind>, BaseFault>
+    ensures told { (db : Db) → B.database base.old ≡ Some db → IfOk result (λ kinds. kinds.items ≡ kinds_at db key.now) }
+    ensures kept { B.database base.new ≡ B.database base.old }
+    ensures same { B.left base.new ≡ B.left base.old }
+    ensures cause { HasCause (B.database base.old) (B.faults base.old) (B.faults base.new) result }
+{
+    let info = base.info(alloc, key)?;
+    Ok(kinds_in(alloc, &info)?)
+}
+
+fn put_behind(kinds: &mut Vec<Vec<Kind>>, more: Vec<Kind>) -> Result<(), OutOfMemory>
+    ensures { OnOk result (map vec_items kinds.new.items ≡ map vec_items kinds.old.items ++ more.items ∷ []) }
+{
+    Ok(kinds.push(more)?)
+}
+
+/// The kinds of the attributes of what stands under each key.
+pub fn var_kinds<B: Base>(
+    alloc: Global,
+    base: &mut B,
+    vars: &[RelKey],
+) -> Result<Vec<Vec<Kind>>, BaseFault>
+    ensures told { (db : Db) → B.database base.old ≡ Some db → IfOk result (λ kinds. map vec_items kinds.items ≡ map (kinds_at db) vars.now) }
+    ensures kept { B.database base.new ≡ B.database base.old }
+    ensures same { B.left base.new ≡ B.left base.old }
+    ensures cause { HasCause (B.database base.old) (B.faults base.old) (B.faults base.new) result }
+{
+    let mut kinds = Vec::new(alloc);
+    for key in vars {
+        let more = kinds_at(alloc, base, key)?;
+        put_behind(&mut kinds, more)?;
+    }
+    Ok(kinds)
+}

@@ -1,0 +1,25 @@
+//! What refuses a statement whose names were found.
+#![tactic(auto)]
+
+mod changed;
+mod created;
+mod fitting;
+mod judging;
+mod kinds;
+mod numbers;
+mod places;
+mod repeated;
+mod retrieved;
+mod variables;
+mod widths;
+
+pub use fitting::{assignments_fit, query_fits};
+pub use judging::cause;
+pub use kinds::{kinds_at, var_kinds};
+pub use places::{is_full, is_taken};
+pub use repeated::{repeats, sorts_by_titles};
+pub use variables::has_too_many;
+pub use widths::is_too_wide;
+
+#[cfg(test)]
+mod tests;

@@ -1,0 +1,63 @@
+//! Whether there is room for one more relation, view or index, and whether its name is in use.
+
+ghost use Rattle.std.specs.Prelude.{◌≡◌, IfOk, Some};
+ghost use Rattle.am_traits.specs.Causes.{HasCause};
+ghost use Rattle.calculus.specs.Catalogue.{is_catalogue_name};
+ghost use Rattle.calculus.specs.Database.{Db};
+ghost use Rattle.calculus.specs.Keys.{key_of};
+ghost use Rattle.quel_meaning.specs.Passing.{is_full, is_taken};
+
+use am_traits::{Base, BaseFault};
+use calculus::{Name, OutOfMemory, RelKey};
+use std::alloc::Global;
+
+/// The relations, views and indexes that a database has at most, without the catalogues.
+const MOST_ENTRIES: u32 = 10_000;
+
+/// Whether there is no room for a further relation, view or index.
+#[tactic(auto, unfolding(quel_meaning::specs::Passing::is_full))]
+pub fn is_full<B: Base>(base: &mut B) -> Result<bool, BaseFault>
+    ensures told { (db : Db) → B.database base.old ≡ Some db → IfOk result (λ full. full ≡ is_full db) }
+    ensures kept { B.database base.new ≡ B.database base.old }
+    ensures same { B.left base.new ≡ B.left base.old }
+    ensures cause { HasCause (B.database base.old) (B.faults base.old) (B.faults base.new) result }
+{
+    let count = base.count()?;
+    Ok(count >= MOST_ENTRIES)
+}
+
+/// The key of this owner and name.
+pub(crate) fn key_of(alloc: Global, owner: &Name, name: &Name) -> Result<RelKey, OutOfMemory>
+    ensures { IfOk result (λ key. key ≡ key_of owner.now name.now) }
+{
+    let owner = owner.copy(alloc)?;
+    let name = name.copy(alloc)?;
+    Ok(RelKey { owner, name })
+}
+
+/// Whether only a catalogue has this name.
+pub(crate) fn is_catalogue_name(name: &Name) -> bool
+    ensures { result ≡ is_catalogue_name name.now }
+{
+    name.bytes() == b"relation".as_slice() || name.bytes() == b"attribute".as_slice()
+}
+
+/// Whether the user has a relation, view or index of this name, or it is a catalogue's.
+#[tactic(auto, using(crate::proofs::Entries::taken_where_known, crate::proofs::Entries::taken_by_catalogue))]
+pub fn is_taken<B: Base>(
+    alloc: Global,
+    base: &mut B,
+    user: &Name,
+    name: &Name,
+) -> Result<bool, BaseFault>
+    ensures told { (db : Db) → B.database base.old ≡ Some db → IfOk result (λ taken. taken ≡ is_taken db user.now name.now) }
+    ensures kept { B.database base.new ≡ B.database base.old }
+    ensures same { B.left base.new ≡ B.left base.old }
+    ensures cause { HasCause (B.database base.old) (B.faults base.old) (B.faults base.new) result }
+{
+    if is_catalogue_name(name) {
+        return Ok(true);
+    }
+    let key = key_of(alloc, user, name)?;
+    Ok(base.info(alloc, &key)?.is_some())
+}

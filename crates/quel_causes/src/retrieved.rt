@@ -1,0 +1,169 @@
+//! What refuses a `retrieve`.
+
+ghost use Rattle.std.specs.Prelude.{◌≡◌, ◌∷◌, ◌||◌, [], not, true, map, IfOk, Some};
+ghost use Rattle.am_traits.specs.Causes.{HasCause};
+ghost use Rattle.calculus.specs.Database.{Db};
+ghost use Rattle.calculus.specs.QueryParts.{query_aggregates, targets_of};
+ghost use Rattle.calculus.specs.Replacement.{first_cause, made_attr};
+ghost use Rattle.quel_meaning.specs.Causes.{into_causes, made_kinds, print_causes, sorts_by_titles};
+ghost use Rattle.quel_meaning.specs.KindsInQueries.{query_fits};
+ghost use Rattle.quel_meaning.specs.Passing.{has_too_many, is_full, is_taken, is_too_wide};
+ghost use Rattle.quel_meaning.specs.Scope.{Scope};
+
+use crate::fitting::query_fits;
+use crate::kinds::var_kinds;
+use crate::numbers::{IN_USE, KINDS_DIFFER, NAMED_TWICE, PAST_LIMIT, TOO_WIDE, UNKNOWN};
+use crate::places::{is_full, is_taken};
+use crate::repeated::{sorts_by_titles, titles_repeat};
+use crate::variables::has_too_many;
+use crate::widths::{is_too_wide, made_kinds, target_kinds};
+use am_traits::{Base, BaseFault};
+use calculus::{Name, OutOfMemory, Query, Target};
+use std::alloc::Global;
+
+/// Whether the kinds in a query without aggregates fit each other, and each target is of its kind.
+pub(crate) fn kinds_fit<B: Base>(alloc: Global, base: &mut B, q: &Query) -> Result<bool, BaseFault>
+    ensures told { (db : Db) → B.database base.old ≡ Some db → query_aggregates q.now ≡ [] → IfOk result (λ fit. fit ≡ query_fits db q.now) }
+    ensures kept { B.database base.new ≡ B.database base.old }
+    ensures same { B.left base.new ≡ B.left base.old }
+    ensures cause { HasCause (B.database base.old) (B.faults base.old) (B.faults base.new) result }
+{
+    let kinds = var_kinds(alloc, base, q.vars.items())?;
+    Ok(query_fits(q, &kinds))
+}
+
+/// What refuses rows of these targets that are printed in this order: a name to sort by, their width.
+fn row_cause(
+    alloc: Global,
+    targets: &[Target],
+    sort: &[(Name, bool)],
+) -> Result<Option<u8>, OutOfMemory>
+    ensures { IfOk result (λ n. n ≡ first_cause ((12, not (sorts_by_titles targets.now sort.now)) ∷ (16, is_too_wide (map (λ t. t.kind) targets.now)) ∷ [])) }
+{
+    if !sorts_by_titles(alloc, targets, sort)? {
+        return Ok(Some(UNKNOWN));
+    }
+    if is_too_wide(&target_kinds(alloc, targets)?) {
+        return Ok(Some(TOO_WIDE));
+    }
+    Ok(None)
+}
+
+/// What refuses a `retrieve` that prints.
+pub(crate) fn print_cause<B: Base>(
+    alloc: Global,
+    base: &mut B,
+    sort: &[(Name, bool)],
+    q: &Query,
+) -> Result<Option<u8>, BaseFault>
+    ensures told { (s : Scope) → B.database base.old ≡ Some s.db → query_aggregates q.now ≡ [] → IfOk result (λ n. n ≡ first_cause (print_causes s true sort.now q.now)) }
+    ensures kept { B.database base.new ≡ B.database base.old }
+    ensures same { B.left base.new ≡ B.left base.old }
+    ensures cause { HasCause (B.database base.old) (B.faults base.old) (B.faults base.new) result }
+{
+    if has_too_many(alloc, base, q)? {
+        return Ok(Some(PAST_LIMIT));
+    }
+    if !kinds_fit(alloc, base, q)? {
+        return Ok(Some(KINDS_DIFFER));
+    }
+    Ok(row_cause(alloc, q.targets.items(), sort)?)
+}
+
+/// Whether there is no room for a new relation with the rows of a query, or the query lists too many
+/// variables.
+fn has_no_room<B: Base>(alloc: Global, base: &mut B, q: &Query) -> Result<bool, BaseFault>
+    ensures told { (db : Db) → B.database base.old ≡ Some db → query_aggregates q.now ≡ [] → IfOk result (λ none. none ≡ (has_too_many db q.now || is_full db)) }
+    ensures kept { B.database base.new ≡ B.database base.old }
+    ensures same { B.left base.new ≡ B.left base.old }
+    ensures cause { HasCause (B.database base.old) (B.faults base.old) (B.faults base.new) result }
+{
+    if has_too_many(alloc, base, q)? {
+        return Ok(true);
+    }
+    is_full(base)
+}
+
+/// What refuses a new relation with attributes for these targets, its rows in this order: a name to
+/// sort by, its width.
+fn made_cause(
+    alloc: Global,
+    targets: &[Target],
+    sort: &[(Name, bool)],
+) -> Result<Option<u8>, OutOfMemory>
+    ensures { IfOk result (λ n. n ≡ first_cause ((12, not (sorts_by_titles targets.now sort.now)) ∷ (16, is_too_wide (map (λ t. (made_attr t).kind) targets.now)) ∷ [])) }
+{
+    if !sorts_by_titles(alloc, targets, sort)? {
+        return Ok(Some(UNKNOWN));
+    }
+    if is_too_wide(&made_kinds(alloc, targets)?) {
+        return Ok(Some(TOO_WIDE));
+    }
+    Ok(None)
+}
+
+/// What refuses a new name of the user's: that it is in use.
+pub(crate) fn name_cause<B: Base>(
+    alloc: Global,
+    base: &mut B,
+    user: &Name,
+    name: &Name,
+) -> Result<Option<u8>, BaseFault>
+    ensures told { (db : Db) → B.database base.old ≡ Some db → IfOk result (λ n. n ≡ first_cause ((15, is_taken db user.now name.now) ∷ [])) }
+    ensures kept { B.database base.new ≡ B.database base.old }
+    ensures same { B.left base.new ≡ B.left base.old }
+    ensures cause { HasCause (B.database base.old) (B.faults base.old) (B.faults base.new) result }
+{
+    if is_taken(alloc, base, user, name)? {
+        Ok(Some(IN_USE))
+    } else {
+        Ok(None)
+    }
+}
+
+/// What refuses a new relation with the rows of a query whose kinds fit: a name to sort by, its
+/// width, that its name is in use.
+fn kept_cause<B: Base>(
+    alloc: Global,
+    base: &mut B,
+    user: &Name,
+    name: &Name,
+    sort: &[(Name, bool)],
+    q: &Query,
+) -> Result<Option<u8>, BaseFault>
+    ensures told { (s : Scope) → B.database base.old ≡ Some s.db → s.user ≡ user.now → IfOk result (λ n. n ≡ first_cause ((12, not (sorts_by_titles (targets_of q.now) sort.now)) ∷ (16, is_too_wide (made_kinds q.now)) ∷ (15, is_taken s.db s.user name.now) ∷ [])) }
+    ensures kept { B.database base.new ≡ B.database base.old }
+    ensures same { B.left base.new ≡ B.left base.old }
+    ensures cause { HasCause (B.database base.old) (B.faults base.old) (B.faults base.new) result }
+{
+    match made_cause(alloc, q.targets.items(), sort)? {
+        Some(number) => Ok(Some(number)),
+        None => name_cause(alloc, base, user, name),
+    }
+}
+
+/// What refuses a `retrieve` that makes a relation of this name.
+pub(crate) fn into_cause<B: Base>(
+    alloc: Global,
+    base: &mut B,
+    user: &Name,
+    name: &Name,
+    sort: &[(Name, bool)],
+    q: &Query,
+) -> Result<Option<u8>, BaseFault>
+    ensures told { (s : Scope) → B.database base.old ≡ Some s.db → s.user ≡ user.now → query_aggregates q.now ≡ [] → IfOk result (λ n. n ≡ first_cause (into_causes s true name.now sort.now q.now)) }
+    ensures kept { B.database base.new ≡ B.database base.old }
+    ensures same { B.left base.new ≡ B.left base.old }
+    ensures cause { HasCause (B.database base.old) (B.faults base.old) (B.faults base.new) result }
+{
+    if has_no_room(alloc, base, q)? {
+        return Ok(Some(PAST_LIMIT));
+    }
+    if titles_repeat(alloc, q)? {
+        return Ok(Some(NAMED_TWICE));
+    }
+    if !kinds_fit(alloc, base, q)? {
+        return Ok(Some(KINDS_DIFFER));
+    }
+    kept_cause(alloc, base, user, name, sort, q)
+}
