@@ -1,5 +1,5 @@
 -- What statements change, and the trees of those that change nothing.
-use Rattle.std.proofs.Common.{◌≡◌, refl, sym, ap, ◌∙◌, ℕ, ◌≤◌, arith, Bool, true, false, List, [], length, Option, Some, None}
+use Rattle.std.proofs.Common.{◌≡◌, refl, ap, ◌∙◌, ℕ, ◌≤◌, arith, Bool, true, false, List, [], length, Option, Some, None}
 use Rattle.std.proofs.lemmas.Bool.{leb-true}
 use Rattle.calculus.specs.declared.query.Query.{Query}
 use Rattle.calculus.specs.declared.query.Target.{Target}
@@ -27,7 +27,7 @@ use Rattle.quel_meaning.specs.FitQueries.{has_few_targets}
 use Rattle.quel_meaning.specs.Naming.{mentions, name_refusal, no_refusal}
 use Rattle.quel_meaning.specs.Resolved.{tree_by, tree_of}
 use Rattle.quel_meaning.specs.StatementUpdate.{append_of, replace_of, delete_of}
-use Rattle.quel_meaning.specs.Scope.{Scope, named, ranged}
+use Rattle.quel_meaning.specs.Scope.{Scope, named}
 use Rattle.quel_meaning.specs.WrittenQuery.{query_of}
 use Rattle.quel_query.specs.Changed.{changed, is_built as has_tree}
 use Rattle.quel_resolve.proofs.Overs.{few_under, few_over}

@@ -1,5 +1,5 @@
 -- What refuses a statement with too many variables.
-use Rattle.std.proofs.Common.{◌≡◌, refl, sym, ap, ◌∙◌, ℕ, ◌+◌, ◌<◌, arith, Bool, true, false, not, ◌||◌, ◌&&◌, List, [], ◌∷◌, length, map, slice_get, nat_lt, Option, Some, None}
+use Rattle.std.proofs.Common.{◌≡◌, refl, ap, ◌∙◌, ℕ, ◌+◌, ◌<◌, arith, Bool, true, false, not, ◌||◌, List, [], ◌∷◌, length, map, slice_get, nat_lt, Option, Some, None}
 use Rattle.std.specs.List.{list_all}
 use Rattle.std.proofs.lemmas.Bool.{lt-ltb}
 use Rattle.std.proofs.lemmas.List.{length-map}

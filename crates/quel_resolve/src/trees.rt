@@ -54,12 +54,7 @@ fn updated<B: Base>(
 }
 
 /// The tree of a statement with this query that changes no relation, where no cause refuses it.
-fn asked(
-    alloc: Global,
-    user: &Name,
-    s: &Statement,
-    q: Query,
-) -> Result<Checked, CheckFault>
+fn asked(alloc: Global, user: &Name, s: &Statement, q: Query) -> Result<Checked, CheckFault>
     ensures told { (scope : Scope) → IsDatabase scope.db → scope.user ≡ user.now → q ≡ query_of scope s.now → None ≡ update_of scope s.now q → changed scope s.now ≡ None → is_built s.now ≡ true → is_range s.now ≡ false → first_cause (causes scope s.now) ≡ None
         → Says (λ tree. (tree ≡ tree_of scope s.now) × (first_cause (causes scope s.now) ≡ None)) (λ number. first_cause (causes scope s.now) ≡ Some number) (Unit {0}) result }
     ensures judged { IsJudged result }

@@ -2,7 +2,6 @@ use Rattle.std.proofs.Common.{◌≡◌, Some, sym, ap, ◌∙◌, subst, map, t
 use Rattle.std.specs.Option.{option_map}
 use Rattle.calculus.specs.declared.schema.RelInfo.{RelInfo}
 use Rattle.quel_meaning.specs.Scope.{ranged}
-use Rattle.quel_meaning.specs.WrittenParts.{vars_in}
 use Rattle.quel_names.proofs.Overs.{named_vars_range}
 use Rattle.quel_names.specs.Asking.{scope_of}
 use Rattle.quel_names.specs.Ranging.{AreOver, each_ranges}

@@ -1,5 +1,4 @@
 use Rattle.std.proofs.Common.{◌≡◌, true, Ok, sym, ap, ◌∙◌}
-use Rattle.quel_names.specs.Asking.{scope_of}
 use Rattle.quel_resolve.proofs.Resolved.{by_cause, by_nothing}
 use Rattle.quel_resolve.proofs.Saying.{says_judged}
 use Rattle.quel_resolve.specs.Built.{is_built}

@@ -1,4 +1,4 @@
-use Rattle.std.proofs.Common.{◌≡◌, ◌≤◌, arith, length, subst, sym, ap, ◌∙◌, true, false, is_some, Some, None}
+use Rattle.std.proofs.Common.{◌≡◌, ◌≤◌, arith, length, subst, sym, ap, ◌∙◌, is_some, None}
 use Rattle.std.specs.Option.{IfSome}
 use Rattle.calculus.specs.declared.request.Checked.{Checked}
 use Rattle.calculus.specs.QueryParts.{targets_of}
