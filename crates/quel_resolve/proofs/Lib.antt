@@ -1,0 +1,5 @@
+pub mod Changes
+pub mod Overs
+pub mod Passing
+pub mod Resolved
+pub mod Saying

@@ -1,0 +1,26 @@
+use Rattle.std.proofs.Common.{◌≡◌, Some, sym, ap, ◌∙◌, subst, map, true, false, Vec, Global}
+use Rattle.std.specs.Option.{option_map}
+use Rattle.calculus.specs.declared.schema.RelInfo.{RelInfo}
+use Rattle.quel_meaning.specs.Scope.{ranged}
+use Rattle.quel_names.proofs.Overs.{named_vars_range}
+use Rattle.quel_names.specs.Asking.{scope_of}
+use Rattle.quel_names.specs.Ranging.{AreOver, each_ranges}
+use Rattle.quel_resolve.proofs.Overs.{knows}
+use Rattle.quel_resolve.proofs.Passing.{no_aggregate}
+use Rattle.quel_resolve.proofs.queries.query_over.Goals as goal
+
+pub returns-in_ok-query_of-in-Some-clause-told : goal.returns-in_ok-query_of-in-Some-clause-told
+returns-in_ok-query_of-in-Some-clause-told g c = λ db user h names w mine few.
+    let over : map (ranged (scope_of db user c.args.ranges.now)) c.args.vars.now ≡ map (λ info. Some info) c.in-Some.infos.items =
+    subst (λ o. AreOver (scope_of db user c.args.ranges.now) c.args.vars.now (option_map (λ (v : Vec RelInfo Global). v.items) o)) c.in-Some.is (c.in_ok-infos.ensures.told db user h) in
+    c.in_ok-query_of-in-Some.ensures (scope_of db user c.args.ranges.now) mine
+    (knows (scope_of db user c.args.ranges.now) (g.B.Base.lawful c.args.base.now db h) c.args.vars.now c.deref.result.now (over ∙ ap (map (λ info. Some info)) (sym c.deref.ensures.value)) few)
+    (no_aggregate c.args.s.now w)
+
+pub returns-in-None-clause-told : goal.returns-in-None-clause-told
+returns-in-None-clause-told g c = λ db user h names w mine few.
+    let lost : each_ranges (scope_of db user c.args.ranges.now) c.args.vars.now ≡ false =
+    subst (λ o. AreOver (scope_of db user c.args.ranges.now) c.args.vars.now (option_map (λ (v : Vec RelInfo Global). v.items) o)) c.in-None.is (c.in_ok-infos.ensures.told db user h) in
+    let all : each_ranges (scope_of db user c.args.ranges.now) c.args.vars.now ≡ true =
+    ap (each_ranges (scope_of db user c.args.ranges.now)) mine ∙ named_vars_range (scope_of db user c.args.ranges.now) c.args.s.now names in
+    absurd (cc (lost, all))

@@ -1,0 +1,16 @@
+-- Which statements are resolved so far.
+use Rattle.std.specs.Prelude.{Bool, true, false, not, ◌&&◌}
+use Rattle.calculus.specs.Lists.{is_any}
+use Rattle.calculus.specs.declared.statement.Statement.{Statement}
+use Rattle.calculus.specs.declared.statement.Statement.TheVariants as statement
+use Rattle.quel_causes.specs.Judged.{is_judged}
+use Rattle.quel_meaning.specs.WrittenParts.{text_aggregates}
+
+-- a declaration of a variable, a `retrieve`, an `append`, a `replace`, a `delete` or a `create`, without aggregates
+unfoldable pub is_built : Statement → Bool
+is_built s = is_judged s && not (is_any (text_aggregates s))
+
+-- a declaration of a variable
+abbrev pub is_range : Statement → Bool
+is_range (statement.Range var rel) = true
+is_range _ = false

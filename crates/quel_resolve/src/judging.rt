@@ -1,0 +1,66 @@
+//! What refuses a statement that is built and whose names were found.
+
+ghost use Rattle.std.specs.Prelude.{◌≡◌, Option, Some, None, true, option_map};
+ghost use Rattle.calculus.specs.Replacement.{first_cause};
+ghost use Rattle.quel_causes.specs.Judged.{update_of};
+ghost use Rattle.quel_meaning.specs.Causes.{causes};
+ghost use Rattle.quel_meaning.specs.Resolved.{tree_of};
+ghost use Rattle.quel_meaning.specs.Scope.{Scope};
+ghost use Rattle.quel_meaning.specs.WrittenQuery.{query_of};
+ghost use Rattle.quel_resolve.specs.Answers.{IsJudged, Says};
+ghost use Rattle.quel_resolve.specs.Built.{is_built};
+ghost use Rattle.quel_resolve.specs.Causes.{HasCheckCause};
+
+use crate::fault::CheckFault;
+use am_traits::Base;
+use calculus::{Checked, Name, Query, Statement, Update};
+use quel_causes::cause;
+use std::alloc::Global;
+
+/// Goes on where no cause refuses a statement with this query, which is this update.
+pub(crate) fn judge<B: Base>(
+    alloc: Global,
+    base: &mut B,
+    user: &Name,
+    s: &Statement,
+    q: &Query,
+    update: Option<&Update>,
+) -> Result<(), CheckFault>
+    ensures told { (scope : Scope) → B.database base.old ≡ Some scope.db → scope.user ≡ user.now → q.now ≡ query_of scope s.now → option_map (λ v. v.now) update.entry ≡ update_of scope s.now q.now → is_built s.now ≡ true
+        → Says (λ done. first_cause (causes scope s.now) ≡ None) (λ number. first_cause (causes scope s.now) ≡ Some number) (Unit {0}) result }
+    ensures judged { IsJudged result }
+    ensures kept { B.database base.new ≡ B.database base.old }
+    ensures same { B.left base.new ≡ B.left base.old }
+    ensures cause { HasCheckCause (B.database base.old) (B.faults base.old) (B.faults base.new) result }
+{
+    match cause(alloc, base, user, s, q, update)? {
+        Some(number) => Err(CheckFault::No(number)),
+        None => Ok(()),
+    }
+}
+
+fn let_update_go(_update: Update) {}
+
+/// The tree of a statement that is this update, where no cause refuses it.
+pub(crate) fn judge_update<B: Base>(
+    alloc: Global,
+    base: &mut B,
+    user: &Name,
+    s: &Statement,
+    update: Update,
+) -> Result<Checked, CheckFault>
+    ensures told { (scope : Scope) → B.database base.old ≡ Some scope.db → scope.user ≡ user.now → update.query ≡ query_of scope s.now → Some update ≡ update_of scope s.now update.query → is_built s.now ≡ true
+        → Says (λ tree. (tree ≡ tree_of scope s.now) × (first_cause (causes scope s.now) ≡ None)) (λ number. first_cause (causes scope s.now) ≡ Some number) (Unit {0}) result }
+    ensures judged { IsJudged result }
+    ensures kept { B.database base.new ≡ B.database base.old }
+    ensures same { B.left base.new ≡ B.left base.old }
+    ensures cause { HasCheckCause (B.database base.old) (B.faults base.old) (B.faults base.new) result }
+{
+    match judge(alloc, base, user, s, &update.query, Some(&update)) {
+        Ok(()) => Ok(Checked::Update(update)),
+        Err(fault) => {
+            let_update_go(update);
+            Err(fault)
+        }
+    }
+}

@@ -1,0 +1,145 @@
+//! The tree of a statement that is built and whose names were found.
+
+ghost use Rattle.std.specs.Prelude.{◌≡◌, ℕ, [], Option, Some, None, true, false};
+ghost use Rattle.calculus.specs.IsDatabase.{IsDatabase};
+ghost use Rattle.calculus.specs.Database.{Db};
+ghost use Rattle.calculus.specs.Replacement.{first_cause};
+ghost use Rattle.calculus.specs.declared.request.Checked.TheVariants.{Answer};
+ghost use Rattle.quel_causes.specs.Judged.{update_of};
+ghost use Rattle.quel_meaning.specs.Causes.{causes};
+ghost use Rattle.quel_meaning.specs.Naming.{name_refusal};
+ghost use Rattle.quel_meaning.specs.Resolved.{tree_of};
+ghost use Rattle.quel_meaning.specs.Scope.{Scope};
+ghost use Rattle.quel_meaning.specs.WrittenQuery.{query_of};
+ghost use Rattle.quel_names.specs.Asking.{scope_of};
+ghost use Rattle.quel_query.specs.Changed.{changed};
+ghost use Rattle.quel_resolve.specs.Answers.{IsJudged, Says};
+ghost use Rattle.quel_resolve.specs.Built.{is_built, is_range};
+ghost use Rattle.quel_resolve.specs.Causes.{HasCheckCause, IsCaused};
+
+use crate::built::is_range;
+use crate::changing::{changed, update_of};
+use crate::fault::CheckFault;
+use crate::judging::{judge, judge_update};
+use crate::queries::query;
+use am_traits::Base;
+use calculus::{Checked, List, Name, Query, RelInfo, Statement};
+use quel_check::RangeTable;
+use quel_query::tree_by;
+use std::alloc::Global;
+
+/// The number of an unknown relation.
+const NO_RELATION: u8 = 10;
+
+/// The tree of a statement with this query that changes the relation of which this is known.
+fn updated<B: Base>(
+    alloc: Global,
+    base: &mut B,
+    user: &Name,
+    s: &Statement,
+    info: &RelInfo,
+    q: Query,
+) -> Result<Checked, CheckFault>
+    ensures told { (scope : Scope) → B.database base.old ≡ Some scope.db → scope.user ≡ user.now → q ≡ query_of scope s.now → changed scope s.now ≡ Some info.now → is_built s.now ≡ true
+        → Says (λ tree. (tree ≡ tree_of scope s.now) × (first_cause (causes scope s.now) ≡ None)) (λ number. first_cause (causes scope s.now) ≡ Some number) (Unit {0}) result }
+    ensures judged { IsJudged result }
+    ensures kept { B.database base.new ≡ B.database base.old }
+    ensures same { B.left base.new ≡ B.left base.old }
+    ensures cause { HasCheckCause (B.database base.old) (B.faults base.old) (B.faults base.new) result }
+{
+    match update_of(alloc, s, info, q)? {
+        Some(update) => judge_update(alloc, base, user, s, update),
+        None => Err(CheckFault::No(NO_RELATION)),
+    }
+}
+
+/// The tree of a statement with this query that changes no relation, where no cause refuses it.
+fn asked(alloc: Global, user: &Name, s: &Statement, q: Query) -> Result<Checked, CheckFault>
+    ensures told { (scope : Scope) → IsDatabase scope.db → scope.user ≡ user.now → q ≡ query_of scope s.now → None ≡ update_of scope s.now q → changed scope s.now ≡ None → is_built s.now ≡ true → is_range s.now ≡ false → first_cause (causes scope s.now) ≡ None
+        → Says (λ tree. (tree ≡ tree_of scope s.now) × (first_cause (causes scope s.now) ≡ None)) (λ number. first_cause (causes scope s.now) ≡ Some number) (Unit {0}) result }
+    ensures judged { IsJudged result }
+    ensures no_fault { (told : Option Db) (before now : ℕ) → IsCaused told before now result }
+{
+    match tree_by(alloc, user, s, q, None)? {
+        Some(tree) => Ok(tree),
+        None => Err(CheckFault::No(NO_RELATION)),
+    }
+}
+
+fn let_query_go(_q: Query) {}
+
+/// The tree of a statement with this query that changes no relation.
+fn made<B: Base>(
+    alloc: Global,
+    base: &mut B,
+    user: &Name,
+    s: &Statement,
+    q: Query,
+) -> Result<Checked, CheckFault>
+    ensures told { (scope : Scope) → B.database base.old ≡ Some scope.db → scope.user ≡ user.now → q ≡ query_of scope s.now → None ≡ update_of scope s.now q → changed scope s.now ≡ None → is_built s.now ≡ true → is_range s.now ≡ false
+        → Says (λ tree. (tree ≡ tree_of scope s.now) × (first_cause (causes scope s.now) ≡ None)) (λ number. first_cause (causes scope s.now) ≡ Some number) (Unit {0}) result }
+    ensures judged { IsJudged result }
+    ensures kept { B.database base.new ≡ B.database base.old }
+    ensures same { B.left base.new ≡ B.left base.old }
+    ensures cause { HasCheckCause (B.database base.old) (B.faults base.old) (B.faults base.new) result }
+{
+    match judge(alloc, base, user, s, &q, None) {
+        Ok(()) => asked(alloc, user, s, q),
+        Err(fault) => {
+            let_query_go(q);
+            Err(fault)
+        }
+    }
+}
+
+/// The tree of a statement with this query.
+fn tree_with<B: Base>(
+    alloc: Global,
+    base: &mut B,
+    user: &Name,
+    ranges: &RangeTable,
+    s: &Statement,
+    q: Query,
+) -> Result<Checked, CheckFault>
+    ensures told { (db : Db) → B.database base.old ≡ Some db → q ≡ query_of (scope_of db user.now ranges.now) s.now → name_refusal (scope_of db user.now ranges.now) s.now ≡ None → is_built s.now ≡ true → is_range s.now ≡ false
+        → Says (λ tree. (tree ≡ tree_of (scope_of db user.now ranges.now) s.now) × (first_cause (causes (scope_of db user.now ranges.now) s.now) ≡ None)) (λ number. first_cause (causes (scope_of db user.now ranges.now) s.now) ≡ Some number) (Unit {0}) result }
+    ensures judged { IsJudged result }
+    ensures kept { B.database base.new ≡ B.database base.old }
+    ensures same { B.left base.new ≡ B.left base.old }
+    ensures cause { HasCheckCause (B.database base.old) (B.faults base.old) (B.faults base.new) result }
+{
+    match changed(alloc, base, user, ranges, s)? {
+        Some(info) => updated(alloc, base, user, s, &info, q),
+        None => made(alloc, base, user, s, q),
+    }
+}
+
+/// What a declaration of a variable asks for: nothing.
+fn nothing(alloc: Global) -> Checked
+    ensures { result ≡ Answer [] }
+{
+    Checked::Answer(List::of(Vec::new(alloc)))
+}
+
+/// The tree of a statement that is built and whose names were found, or the number of the first cause
+/// that refuses it.
+pub(crate) fn tree<B: Base>(
+    alloc: Global,
+    base: &mut B,
+    user: &Name,
+    ranges: &RangeTable,
+    s: &Statement,
+) -> Result<Checked, CheckFault>
+    ensures told { (db : Db) → B.database base.old ≡ Some db → name_refusal (scope_of db user.now ranges.now) s.now ≡ None → is_built s.now ≡ true
+        → Says (λ tree. (tree ≡ tree_of (scope_of db user.now ranges.now) s.now) × (first_cause (causes (scope_of db user.now ranges.now) s.now) ≡ None)) (λ number. first_cause (causes (scope_of db user.now ranges.now) s.now) ≡ Some number) (Unit {0}) result }
+    ensures judged { IsJudged result }
+    ensures kept { B.database base.new ≡ B.database base.old }
+    ensures same { B.left base.new ≡ B.left base.old }
+    ensures cause { HasCheckCause (B.database base.old) (B.faults base.old) (B.faults base.new) result }
+{
+    if is_range(s) {
+        return Ok(nothing(alloc));
+    }
+    let q = query(alloc, base, ranges, s)?;
+    tree_with(alloc, base, user, ranges, s, q)
+}
