@@ -1,0 +1,5 @@
+mod Texts
+pub mod Valued
+mod Assigned
+mod Formats
+mod Catalogued
