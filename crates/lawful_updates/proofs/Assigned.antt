@@ -25,21 +25,22 @@ Chosen P n (key ∷ keys) (row ∷ e) = P n key row × Chosen P (n + 1) keys e
 abbrev pub OfRows : OfVariable → (ℕ → RelKey → List Row) → List (ℕ × RelKey) → Type 0
 OfRows P rows vars = Each (λ p. Each (P p.0 p.1) (rows p.0 p.1)) vars
 
+-- the row in front of each assignment of the other variables
+abbrev in_front : List Env → Row → List Env
+in_front others row = map (λ e. row ∷ e) others
+
+row_in_front : (P : OfVariable) (n : ℕ) (key : RelKey) (keys : List RelKey) (others : List Env) → Each (Chosen P (n + 1) keys) others → (row : Row) → P n key row
+    → Each (Chosen P n (key ∷ keys)) (in_front others row)
+row_in_front P n key keys others h row p =
+    in_map (Chosen P n (key ∷ keys)) (λ e. row ∷ e) others (each_to (Chosen P (n + 1) keys) (λ e. Chosen P n (key ∷ keys) (row ∷ e)) (λ e h. (p, h)) others h)
+
 pub chosen : (P : OfVariable) (rows : ℕ → RelKey → List Row) (n : ℕ) (keys : List RelKey) → OfRows P rows (enumerate_from n keys)
     → Each (Chosen P n keys) (choices (map (λ p. rows p.0 p.1) (enumerate_from n keys)))
 chosen P rows n [] h = (tt, tt)
-chosen P rows n (key ∷ keys) h = in_flat_map (Chosen P n (key ∷ keys)) with_row (rows n key) (each_to (P n key) (λ row. Each (Chosen P n (key ∷ keys)) (with_row row)) before (rows n key) h.0)
-  where
-    others : List Env
-    others = choices (map (λ p. rows p.0 p.1) (enumerate_from (n + 1) keys))
-
-    with_row : Row → List Env
-    with_row row = map (λ e. row ∷ e) others
-
-    before : (row : Row) → P n key row → Each (Chosen P n (key ∷ keys)) (with_row row)
-    before row p =
-        in_map (Chosen P n (key ∷ keys)) (λ e. row ∷ e) others
-        (each_to (Chosen P (n + 1) keys) (λ e. Chosen P n (key ∷ keys) (row ∷ e)) (λ e h. (p, h)) others (chosen P rows (n + 1) keys h.1))
+chosen P rows n (key ∷ keys) h =
+    let others = choices (map (λ p. rows p.0 p.1) (enumerate_from (n + 1) keys)) in
+    in_flat_map (Chosen P n (key ∷ keys)) (in_front others) (rows n key)
+    (each_to (P n key) (λ row. Each (Chosen P n (key ∷ keys)) (in_front others row)) (row_in_front P n key keys others (chosen P rows (n + 1) keys h.1)) (rows n key) h.0)
 
 -- the row of the variable at a place
 pub chosen_at : (P : OfVariable) (n i m : ℕ) → m ≡ n + i → (keys : List RelKey) (e : Env) → Chosen P n keys e → (key : RelKey) → slice_get keys i ≡ Some key

@@ -21,7 +21,6 @@ use Rattle.calculus.specs.Database.{Db, Relation, View, Index, entries, is_relat
 use Rattle.calculus.specs.Stored.{attrs_at}
 use Rattle.calculus.specs.Catalogue.{is_catalogue_name, relation_key, attribute_key, relation_info, attribute_info, relation_attrs, attribute_attrs, all_entries, spec_text, width_of, relation_row, format_text, attribute_row, attribute_rows, catalogue_at}
 use Rattle.calculus.specs.IsDatabase.{IsDatabase, key_is_named, attrs_stand, is_kind, index_stands, keys_stand}
-use Rattle.calculus.proofs.Sets.{put-cons, put_by}
 use Rattle.quel_meaning.proofs.DatabaseFacts.{HaveStood, stood}
 use Rattle.quel_meaning.proofs.Each.{Each, both_of, in_map, in_flat_map, each_to, each_passes}
 use Rattle.lawful_updates.specs.Spelled.{is_proper, row_is_proper}
@@ -33,11 +32,21 @@ Proper row = IsTrue (row_is_proper row)
 
 -- ---- sets
 
+abbrev put_as : Ordering → Row → Row → List Row → List Row → List Row
+put_as Less row first rest more = row ∷ first ∷ rest
+put_as Equal row first rest more = first ∷ rest
+put_as Greater row first rest more = first ∷ more
+
+put_is : (row first : Row) (rest : List Row) (o : Ordering) → row_cmp row first ≡ o → put row (first ∷ rest) ≡ put_as o row first rest (put row rest)
+put_is row first rest Less e = rw (e, put) refl
+put_is row first rest Equal e = rw (e, put) refl
+put_is row first rest Greater e = rw (e, put) refl
+
 put_each : (P : Row → Type 0) (row : Row) (rows : List Row) → P row → Each P rows → Each P (put row rows)
 put_each P row [] p h = (p, tt)
-put_each P row (first ∷ rest) p h = subst (Each P) (sym (put-cons row first rest (row_cmp row first) refl)) (go (row_cmp row first) (put_each P row rest p h.1))
+put_each P row (first ∷ rest) p h = subst (Each P) (sym (put_is row first rest (row_cmp row first) refl)) (go (row_cmp row first) (put_each P row rest p h.1))
   where
-    go : (o : Ordering) → Each P (put row rest) → Each P (put_by o row first rest (put row rest))
+    go : (o : Ordering) → Each P (put row rest) → Each P (put_as o row first rest (put row rest))
     go Less later = (p, h)
     go Equal later = h
     go Greater later = (h.0, later)
@@ -108,7 +117,7 @@ catalogue_keys db h = ((name_is_text (codes "relation") refl, name_is_text db.db
 entries_tell : (db : Db) → IsDatabase db → Each Tells (all_entries db)
 entries_tell db is =
     let keys = catalogue_keys db is.dba_is_named in
-    ((keys.0, catalogue_attrs.0), (keys.1, catalogue_attrs.1), two_each KeyTells AttrsTell (entries db) named attributed)
+    ((keys.0, catalogue_attrs.0), ((keys.1, catalogue_attrs.1), two_each KeyTells AttrsTell (entries db) named attributed))
   where
     named : Each KeyTells (entries db)
     named = each_to (λ i. IsTrue (key_is_named i.key)) KeyTells key_tells (entries db) (each_passes (λ i. key_is_named i.key) (entries db) is.keys_are_named)
