@@ -3,3 +3,4 @@ pub mod Valued
 mod Assigned
 mod Formats
 mod Catalogued
+mod Ranged
