@@ -4,3 +4,4 @@ mod Assigned
 mod Formats
 mod Catalogued
 mod Ranged
+mod NewRows

@@ -71,7 +71,7 @@ fitting_value (Text t) (Of d) h = (both (fits (Text t) d) (is_text t) h).1
 fitting_row : (attrs : List Attr) (row : Row) → IsTrue (row_fits attrs row) → Proper row
 fitting_row [] [] h = refl
 fitting_row [] (v ∷ row) h = cc h
-fitting_row (a ∷ attrs) [] h = cc h
+fitting_row (a ∷ attrs) [] h = refl
 fitting_row (a ∷ attrs) (v ∷ row) h =
     let parts = both (value_fits v a.kind) (row_fits attrs row) h in
     each (is_proper v) (row_is_proper row) (fitting_value v a.kind parts.0) (fitting_row attrs row parts.1)
@@ -101,7 +101,7 @@ unfolding rows_of
 named_proper db who key attrs is kept = go (range_at db key) refl kept
   where
     go : (o : Option Range) → range_at db key ≡ o → IsTrue (keeps_rows o) → Each Proper (range_rows (view_rows (rows_within 15 db who)) db who key attrs o)
-    go None e h = cc h
+    go None e h = tt
     go (Some (Kept relation)) e h = in_filter Proper (may db who Retrieve attrs key) relation.rows (subst (Each Proper) (ap kept_rows e) (stored_proper db key is))
     go (Some (Viewed view)) e h = cc h
 
