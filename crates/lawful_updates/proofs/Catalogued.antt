@@ -42,7 +42,7 @@ put_is row first rest Less e = rw (e, put) refl
 put_is row first rest Equal e = rw (e, put) refl
 put_is row first rest Greater e = rw (e, put) refl
 
-put_each : (P : Row → Type 0) (row : Row) (rows : List Row) → P row → Each P rows → Each P (put row rows)
+pub put_each : (P : Row → Type 0) (row : Row) (rows : List Row) → P row → Each P rows → Each P (put row rows)
 put_each P row [] p h = (p, tt)
 put_each P row (first ∷ rest) p h = subst (Each P) (sym (put_is row first rest (row_cmp row first) refl)) (go (row_cmp row first) (put_each P row rest p h.1))
   where

@@ -5,3 +5,4 @@ mod Formats
 mod Catalogued
 mod Ranged
 mod NewRows
+mod Updated
