@@ -24,6 +24,7 @@ use Rattle.calculus.specs.IsDatabase.{IsDatabase, key_is_named, attrs_stand, is_
 use Rattle.quel_meaning.proofs.DatabaseFacts.{HaveStood, stood}
 use Rattle.quel_meaning.proofs.Each.{Each, both_of, in_map, in_flat_map, each_to, each_passes}
 use Rattle.lawful_updates.specs.Spelled.{is_proper, row_is_proper}
+use Rattle.lawful_updates.proofs.Lists.{two_each}
 use Rattle.lawful_updates.proofs.Texts.{both, each, name_is_text}
 use Rattle.lawful_updates.proofs.Formats.{spec_is_text, format_is_text}
 
@@ -101,10 +102,6 @@ index_tells db x h = go x.info.spec h
     go spec.Isam h = cc h
     go spec.View h = cc h
     go spec.Index h = none x.info.attrs (both (not (is_any x.info.attrs)) rest (both (is_relation db x.base) (not (is_any x.info.attrs) && rest) h).1).0
-
-two_each : {X : Type 0} (P Q : X → Type 0) (xs : List X) → Each P xs → Each Q xs → Each (λ x. P x × Q x) xs
-two_each P Q [] p q = tt
-two_each P Q (x ∷ xs) p q = ((p.0, q.0), two_each P Q xs p.1 q.1)
 
 catalogue_attrs : Each (λ a. IsTrue (attr_tells a)) relation_attrs × Each (λ a. IsTrue (attr_tells a)) attribute_attrs
 unfolding is_name

@@ -1,3 +1,4 @@
+mod Lists
 mod Texts
 pub mod Valued
 mod Assigned
@@ -5,4 +6,5 @@ mod Formats
 mod Catalogued
 mod Ranged
 mod NewRows
+mod Aggregated
 mod Updated

@@ -28,6 +28,7 @@ use Rattle.quel_meaning.specs.FitQueries.{keeps_rows, is_kept}
 use Rattle.quel_meaning.proofs.DatabaseFacts.{found_passes}
 use Rattle.quel_meaning.proofs.Each.{Each, in_filter, each_to, each_passes}
 use Rattle.lawful_updates.specs.Spelled.{is_proper, row_is_proper}
+use Rattle.lawful_updates.proofs.Lists.{two_each}
 use Rattle.lawful_updates.proofs.Texts.{both, each}
 use Rattle.lawful_updates.proofs.Assigned.{OfVariable, Chosen, OfRows, chosen}
 use Rattle.lawful_updates.proofs.Catalogued.{Proper, RowsProper, catalogue_proper}
@@ -96,7 +97,7 @@ stored_proper db key is = go (relation_at db key) refl
 
 -- ---- the rows of a variable
 
-named_proper : (db : Db) (who : Who) (key : RelKey) (attrs : List ℕ) → IsDatabase db → IsTrue (is_kept db key) → Each Proper (rows_of db who key attrs)
+pub named_proper : (db : Db) (who : Who) (key : RelKey) (attrs : List ℕ) → IsDatabase db → IsTrue (is_kept db key) → Each Proper (rows_of db who key attrs)
 unfolding rows_of
 named_proper db who key attrs is kept = go (range_at db key) refl kept
   where
@@ -123,10 +124,6 @@ RowOf db o v key row = Proper row × (is_at o v ≡ true → IsTrue (is_relation
 each_any : (P : Row → Type 0) → ((row : Row) → P row) → (rows : List Row) → Each P rows
 each_any P f [] = tt
 each_any P f (row ∷ rows) = (f row, each_any P f rows)
-
-two_each : (P Q : Row → Type 0) (rows : List Row) → Each P rows → Each Q rows → Each (λ row. P row × Q row) rows
-two_each P Q [] p q = tt
-two_each P Q (row ∷ rows) p q = ((p.0, q.0), two_each P Q rows p.1 q.1)
 
 stored_are : (db : Db) (o : Option (ℕ × Right)) (v : ℕ) (key : RelKey) → IsDatabase db → Each (RowOf db o v key) (rows_at db key)
 stored_are db o v key is =

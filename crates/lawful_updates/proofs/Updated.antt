@@ -1,7 +1,7 @@
 -- An update that isn't refused makes a lawful change.
 use Rattle.std.proofs.Common.{◌≡◌, refl, sym, ap, subst, ◌∙◌, ℕ, Bool, true, false, ◌&&◌, ◌||◌, not, cond, IsTrue, List, [], ◌∷◌, Option, Some, None, map, filter, length, nat_le, nat_lt, nat_eq, arith}
 use Rattle.std.specs.Prelude.{is_some, option_map, filter_map, slice_get, Result, Ok, Err}
-use Rattle.std.specs.List.{list_all, cons_option}
+use Rattle.std.specs.List.{list_all}
 use Rattle.std.proofs.lemmas.Bool.Decides.{nat_tests}
 use Rattle.std.proofs.lemmas.List.Kept.{IsStrictlySortedBy-filter}
 use Rattle.calculus.specs.declared.query.RelKey.{RelKey}
@@ -41,27 +41,16 @@ use Rattle.lawful_plans.specs.Fitting.{IsFitRelation}
 use Rattle.lawful_plans.proofs.CopiedRows.{found_passes as found_has}
 use Rattle.lawful_plans.proofs.Created.{made_lawful, nothing_ranges}
 use Rattle.lawful_plans.proofs.Replaced.{replaced_lawful}
-use Rattle.lawful_updates.specs.Spelled.{is_proper, row_is_proper, targets_stand, key_is_spelled}
+use Rattle.lawful_updates.specs.Spelled.{is_proper, row_is_proper, targets_are_spelled, key_is_spelled}
 use Rattle.lawful_updates.proofs.Texts.{both, each}
 use Rattle.lawful_updates.proofs.Valued.{AggsProper, gives_row, targets_proper}
 use Rattle.lawful_updates.proofs.Assigned.{Chosen, all_proper}
+use Rattle.lawful_updates.proofs.Lists.{in_filter_map, two_each}
 use Rattle.lawful_updates.proofs.Catalogued.{Proper, put_each}
 use Rattle.lawful_updates.proofs.Ranged.{RowOf, its_rows, its_attrs, stored_fit, assignments_are}
 use Rattle.lawful_updates.proofs.NewRows.{Fits, Fitting, length_is, pair_fits}
 
 -- ---- the new rows
-
-in_filter_map : {X Y : Type 0} (P : X → Type 0) (Q : Y → Type 0) (f : X → Option Y) → ((x : X) → P x → (y : Y) → f x ≡ Some y → Q y) → (xs : List X) → Each P xs → Each Q (filter_map f xs)
-in_filter_map P Q f g [] h = tt
-in_filter_map {X} {Y} P Q f g (x ∷ xs) h = go (f x) refl (in_filter_map P Q f g xs h.1)
-  where
-    go : (o : Option Y) → f x ≡ o → Each Q (filter_map f xs) → Each Q (cons_option o (filter_map f xs))
-    go None e later = later
-    go (Some y) e later = (g x h.0 y e, later)
-
-two_each : {X : Type 0} (P Q : X → Type 0) (xs : List X) → Each P xs → Each Q xs → Each (λ x. P x × Q x) xs
-two_each P Q [] p q = tt
-two_each P Q (x ∷ xs) p q = ((p.0, q.0), two_each P Q xs p.1 q.1)
 
 -- the assignment has a row of each variable
 abbrev pub IsAssigned : Db → Update → Env → Type 0
@@ -77,7 +66,7 @@ pub record Given (db : Db) (who : Who) (u : Update) : Type 0 where
   pub kept : IsTrue (list_all (is_kept db) (vars_of u.query))
   pub relation : IsTrue (relation_fits db u)
   pub stored : IsTrue (are_stored (new_attrs db u))
-  pub spelled : IsTrue (targets_stand (targets_of u.query))
+  pub spelled : IsTrue (targets_are_spelled (targets_of u.query))
   pub aggs : (e : Env) → IsAssigned db u e → TargetAggsProper db who u e
 
 -- the new row of the pair of an assignment fits
@@ -269,7 +258,7 @@ not_refused db who u change h = go (first_cause (causes db who u)) refl h
 
 -- an update of base relations and catalogues alone, whose aggregates give numbers and texts, and which isn't refused
 pub update_lawful : (db : Db) (who : Who) (u : Update) (change : DbChange) → IsDatabase db → IsTrue (list_all (is_kept db) (vars_of u.query)) → IsTrue (relation_fits db u)
-    → IsTrue (key_is_spelled u.rel) → IsTrue (targets_stand (targets_of u.query)) → ((e : Env) → IsAssigned db u e → TargetAggsProper db who u e)
+    → IsTrue (key_is_spelled u.rel) → IsTrue (targets_are_spelled (targets_of u.query)) → ((e : Env) → IsAssigned db u e → TargetAggsProper db who u e)
     → updated db who u ≡ Ok change → IsLawful db change
 update_lawful db who u change is kept relation spelled constants aggs h =
     let plan = not_refused db who u change h in

@@ -17,7 +17,7 @@ use Rattle.calculus.specs.QueryParts.{aggregates_of, term_aggregates}
 use Rattle.calculus.specs.Term.{Env, Aggs, val, value_in, attribute_value, number_value, of_number, of_text, opposite_value, value_without_sign, operated_values, joined_text, joined_values, aggregate_value, value_before}
 use Rattle.calculus.specs.Targets.{all_there, target_values}
 use Rattle.quel_meaning.proofs.Each.{Each, front_of, back_of, each_to}
-use Rattle.lawful_updates.specs.Spelled.{is_proper, row_is_proper, rows_are_proper, constants_stand, targets_stand}
+use Rattle.lawful_updates.specs.Spelled.{is_proper, row_is_proper, rows_are_proper, term_is_spelled, targets_are_spelled}
 use Rattle.lawful_updates.proofs.Texts.{both, each, constant_is_text, joined_is_text}
 
 -- the value, where there is one, is a number or a text in the language's sense
@@ -42,7 +42,7 @@ attribute_proper [] var attr h = refl
 attribute_proper (row ∷ e) zero attr h = in_row row attr (both (row_is_proper row) (rows_are_proper e) h).0
 attribute_proper (row ∷ e) (suc var) attr h = attribute_proper e var attr (both (row_is_proper row) (rows_are_proper e) h).1
 
-number_proper : (o : Option ℤ) → IsTrue (gives_proper (number_value o))
+pub number_proper : (o : Option ℤ) → IsTrue (gives_proper (number_value o))
 number_proper None = refl
 number_proper (Some n) = refl
 
@@ -88,8 +88,8 @@ aggregate_proper aggs (more_of-QAgg slot op source arg bys by links link qual re
 -- ---- terms
 
 -- the value of a term whose constants are texts', over rows of such values, where its aggregates give such
-pub val_proper : (aggs : Aggs) (t : QTerm) (e : Env) → IsTrue (constants_stand t) → IsTrue (rows_are_proper e) → AggsProper aggs e (term_aggregates t) → IsTrue (gives_proper (val aggs t e))
-unfolding val constants_stand term_aggregates
+pub val_proper : (aggs : Aggs) (t : QTerm) (e : Env) → IsTrue (term_is_spelled t) → IsTrue (rows_are_proper e) → AggsProper aggs e (term_aggregates t) → IsTrue (gives_proper (val aggs t e))
+unfolding val term_is_spelled term_aggregates
 val_proper aggs (Int n) e c r a = refl
 val_proper aggs (Chars bytes) e c r a = constant_is_text bytes c
 val_proper aggs (Attr var attr) e c r a = attribute_proper e var attr r
@@ -97,7 +97,7 @@ val_proper aggs (neg t) e c r a = opposite_proper (val aggs t e)
 val_proper aggs (abs t) e c r a = without_sign_proper (val aggs t e)
 val_proper aggs (operation op t u) e c r a = operated_proper op (val aggs t e) (val aggs u e)
 val_proper aggs (concat t u) e c r a =
-    let parts = both (constants_stand t) (constants_stand u) c in
+    let parts = both (term_is_spelled t) (term_is_spelled u) c in
     joined_proper (val aggs t e) (val aggs u e)
     (val_proper aggs t e parts.0 r (front_of (λ g. IsTrue (gives_proper (aggs g e))) (term_aggregates t) (term_aggregates u) a))
     (val_proper aggs u e parts.1 r (back_of (λ g. IsTrue (gives_proper (aggs g e))) (term_aggregates t) (term_aggregates u) a))
@@ -110,16 +110,16 @@ abbrev pub gives_row : Option Row → Bool
 gives_row None = true
 gives_row (Some row) = row_is_proper row
 
-before_proper : (v : Option Value) (vs : Option Row) → IsTrue (gives_proper v) → IsTrue (gives_row vs) → IsTrue (gives_row (value_before v vs))
+pub before_proper : (v : Option Value) (vs : Option Row) → IsTrue (gives_proper v) → IsTrue (gives_row vs) → IsTrue (gives_row (value_before v vs))
 before_proper None vs p q = refl
 before_proper (Some v) None p q = refl
 before_proper (Some v) (Some vs) p q = each (is_proper v) (row_is_proper vs) p q
 
-pub targets_proper : (aggs : Aggs) (ts : List Target) (e : Env) → IsTrue (targets_stand ts) → IsTrue (rows_are_proper e) → Each (λ t. AggsProper aggs e (term_aggregates t.term)) ts
+pub targets_proper : (aggs : Aggs) (ts : List Target) (e : Env) → IsTrue (targets_are_spelled ts) → IsTrue (rows_are_proper e) → Each (λ t. AggsProper aggs e (term_aggregates t.term)) ts
     → IsTrue (gives_row (target_values aggs ts e))
 targets_proper aggs [] e c r a = refl
 targets_proper aggs (t ∷ ts) e c r a =
-    let parts = both (constants_stand t.term) (targets_stand ts) c in
+    let parts = both (term_is_spelled t.term) (targets_are_spelled ts) c in
     before_proper (val aggs t.term e) (all_there (map (λ t. val aggs t.term e) ts)) (val_proper aggs t.term e parts.0 r a.0) (targets_proper aggs ts e parts.1 r a.1)
 
 -- ---- the law of terms
@@ -128,7 +128,7 @@ where_given : (o : Option Value) → ((w : Value) → o ≡ Some w → IsTrue (i
 where_given None h = refl
 where_given (Some v) h = h v refl
 
-pub value_is_proper : (aggs : Aggs) (t : QTerm) (e : Env) (v : Value) → IsTrue (constants_stand t) → IsTrue (rows_are_proper e)
+pub value_is_proper : (aggs : Aggs) (t : QTerm) (e : Env) (v : Value) → IsTrue (term_is_spelled t) → IsTrue (rows_are_proper e)
     → Each (λ g. (w : Value) → aggs g e ≡ Some w → IsTrue (is_proper w)) (term_aggregates t) → val aggs t e ≡ Some v → IsTrue (is_proper v)
 value_is_proper aggs t e v c r a h =
     subst (λ o. IsTrue (gives_proper o)) h
