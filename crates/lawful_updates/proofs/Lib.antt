@@ -8,3 +8,4 @@ mod Ranged
 mod NewRows
 mod Aggregated
 mod Updated
+pub mod Fitted

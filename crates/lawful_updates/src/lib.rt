@@ -1,7 +1,9 @@
-//! What an update makes of a database, where it isn't refused, is a lawful change. Each law here is a
-//! function with no body: its clause speaks of the definitions alone.
+//! What an update makes of a database, where it isn't refused, is a lawful change. The laws here are
+//! functions with no body: their clauses speak of the definitions alone.
 #![tactic(auto)]
 
+mod updates;
 mod values;
 
+pub use updates::an_update_is_lawful;
 pub use values::the_values_of_terms_are_proper;
