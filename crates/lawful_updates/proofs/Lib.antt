@@ -9,3 +9,4 @@ mod NewRows
 mod Aggregated
 mod Updated
 pub mod Fitted
+pub mod ReadForms
