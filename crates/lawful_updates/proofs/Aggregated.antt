@@ -1,6 +1,6 @@
 -- The values of aggregates over base relations and catalogues, and over the rows of queries over these, are numbers and texts in the language's sense.
-use Rattle.std.proofs.Common.{◌≡◌, refl, sym, ap, subst, ◌∙◌, ℕ, ℤ, ◌+◌, Bool, true, false, ◌&&◌, IsTrue, List, [], ◌∷◌, ◌++◌, Option, Some, None, map, filter, length, nat_le}
-use Rattle.std.specs.Prelude.{pos, filter_map, flat_map, if◌then◌else◌}
+use Rattle.std.proofs.Common.{◌≡◌, refl, ap, subst, ◌∙◌, ℕ, ◌+◌, Bool, true, false, ◌&&◌, IsTrue, List, [], ◌∷◌, Option, Some, None, length, nat_le}
+use Rattle.std.specs.Prelude.{pos, filter_map, if◌then◌else◌}
 use Rattle.std.specs.List.{list_all, enumerate_from}
 use Rattle.std.specs.declared.cmp.Ordering.{Ordering}
 use Rattle.std.specs.declared.cmp.Ordering.TheVariants.{Less, Equal, Greater}
@@ -8,7 +8,6 @@ use Rattle.calculus.specs.declared.operator.AggOp.{AggOp}
 use Rattle.calculus.specs.declared.operator.AggOp.TheVariants.{Count, Countu, Sum, Sumu, Avg, Avgu, Min, Max, Any}
 use Rattle.calculus.specs.declared.query.AggSource.{AggSource, Named}
 use Rattle.calculus.specs.declared.query.QAgg.{QAgg}
-use Rattle.calculus.specs.declared.query.QTerm.{QTerm}
 use Rattle.calculus.specs.declared.query.Query.{Query}
 use Rattle.calculus.specs.declared.query.RelKey.{RelKey}
 use Rattle.calculus.specs.declared.query.Target.{Target}
@@ -18,19 +17,19 @@ use Rattle.calculus.specs.Chars.{is_chars}
 use Rattle.calculus.specs.Lists.{insert_by}
 use Rattle.calculus.specs.Kinds.{kind_of, is_text_kind}
 use Rattle.calculus.specs.Number.{number}
-use Rattle.calculus.specs.Rows.{Row, set_of}
+use Rattle.calculus.specs.Rows.{Row}
 use Rattle.calculus.specs.Text.{is_text}
 use Rattle.calculus.specs.Tree.{rows_of_query}
 use Rattle.calculus.specs.Value.{value_cmp}
 use Rattle.calculus.specs.Who.{Who}
 use Rattle.calculus.specs.Database.{Db}
-use Rattle.calculus.specs.Term.{Env, Aggs, val, holds, no_aggs, values_of, number_value}
+use Rattle.calculus.specs.Term.{Env, val, holds, no_aggs, values_of}
 use Rattle.calculus.specs.QueryParts.{vars_of, targets_of, qual_of, term_aggregates}
 use Rattle.calculus.specs.Used.{used_in_aggregate}
 use Rattle.calculus.specs.Assignments.{variable_rows, assigned}
-use Rattle.calculus.specs.Targets.{all_there, target_values, qualifying, rows_given}
+use Rattle.calculus.specs.Targets.{target_values, qualifying, rows_given}
 use Rattle.calculus.specs.VariableRows.{rows_of}
-use Rattle.calculus.specs.Aggregate.{source_rows, agree, folded_rows, arguments, different, total, average, any_of, first_or, last_or, fold_values, source_kinds, none_value, fold_arguments, fold_linked, aggregates}
+use Rattle.calculus.specs.Aggregate.{source_rows, agree, folded_rows, arguments, different, total, first_or, last_or, fold_values, source_kinds, none_value, fold_arguments, fold_linked, aggregates}
 use Rattle.calculus.specs.IsDatabase.{IsDatabase, query_stands}
 use Rattle.quel_meaning.specs.FitQueries.{is_kept, kept, has_few_targets, source_fits}
 use Rattle.quel_meaning.proofs.Each.{Each, in_filter, each_to}

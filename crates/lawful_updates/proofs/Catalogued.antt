@@ -1,7 +1,7 @@
 -- The rows of the catalogues hold numbers and texts in the language's sense.
 use Rattle.std.proofs.Common.{◌≡◌, refl, sym, subst, ℕ, ◌+◌, Bool, true, false, ◌&&◌, not, IsTrue, List, [], ◌∷◌, ◌++◌, Option, Some, None, map}
-use Rattle.std.specs.Prelude.{codes, flat_map, pos}
-use Rattle.std.specs.List.{list_all, enumerate_from}
+use Rattle.std.specs.Prelude.{codes, flat_map}
+use Rattle.std.specs.List.{enumerate_from}
 use Rattle.std.specs.declared.cmp.Ordering.{Ordering}
 use Rattle.std.specs.declared.cmp.Ordering.TheVariants.{Less, Equal, Greater}
 use Rattle.calculus.specs.declared.query.RelKey.{RelKey}
@@ -9,21 +9,19 @@ use Rattle.calculus.specs.declared.schema.Attr.{Attr}
 use Rattle.calculus.specs.declared.schema.RelInfo.{RelInfo}
 use Rattle.calculus.specs.declared.schema.Spec.{Spec}
 use Rattle.calculus.specs.declared.schema.Spec.TheVariants as spec
-use Rattle.calculus.specs.declared.value.Value.TheVariants.{Int, Text}
-use Rattle.calculus.specs.Lists.{is_any, differ_by}
+use Rattle.calculus.specs.Lists.{is_any}
 use Rattle.calculus.specs.Name.{is_name}
 use Rattle.calculus.specs.Text.{is_text}
 use Rattle.calculus.specs.Keys.{same_key}
-use Rattle.calculus.specs.Limits.{most_attributes}
 use Rattle.calculus.specs.Rows.{Row, put, set_of}
 use Rattle.calculus.specs.Value.{row_cmp}
-use Rattle.calculus.specs.Database.{Db, Relation, View, Index, entries, is_relation}
+use Rattle.calculus.specs.Database.{Db, Relation, Index, entries, is_relation}
 use Rattle.calculus.specs.Stored.{attrs_at}
-use Rattle.calculus.specs.Catalogue.{is_catalogue_name, relation_key, attribute_key, relation_info, attribute_info, relation_attrs, attribute_attrs, all_entries, spec_text, width_of, relation_row, format_text, attribute_row, attribute_rows, catalogue_at}
+use Rattle.calculus.specs.Catalogue.{is_catalogue_name, relation_key, attribute_key, relation_info, attribute_info, relation_attrs, attribute_attrs, all_entries, spec_text, relation_row, format_text, attribute_row, attribute_rows, catalogue_at}
 use Rattle.calculus.specs.IsDatabase.{IsDatabase, key_is_named, attrs_stand, is_kind, index_stands, keys_stand}
-use Rattle.quel_meaning.proofs.DatabaseFacts.{HaveStood, stood}
+use Rattle.quel_meaning.proofs.DatabaseFacts.{stood}
 use Rattle.quel_meaning.proofs.Each.{Each, both_of, in_map, in_flat_map, each_to, each_passes}
-use Rattle.lawful_updates.specs.Spelled.{is_proper, row_is_proper}
+use Rattle.lawful_updates.specs.Spelled.{row_is_proper}
 use Rattle.lawful_updates.proofs.Lists.{two_each}
 use Rattle.lawful_updates.proofs.Texts.{both, each, name_is_text}
 use Rattle.lawful_updates.proofs.Formats.{spec_is_text, format_is_text}

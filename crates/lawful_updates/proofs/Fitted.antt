@@ -1,11 +1,10 @@
 -- An update that fits the database, with its aggregates.
-use Rattle.std.proofs.Common.{◌≡◌, Bool, true, ◌&&◌, IsTrue, List, [], ◌∷◌, ◌++◌}
+use Rattle.std.proofs.Common.{◌≡◌, true, ◌&&◌, IsTrue}
 use Rattle.std.specs.Prelude.{flat_map, nat_le, Ok}
 use Rattle.std.specs.List.{list_all}
 use Rattle.calculus.specs.declared.change.DbChange.{DbChange}
 use Rattle.calculus.specs.declared.query.QAgg.{QAgg}
 use Rattle.calculus.specs.declared.query.Query.{Query}
-use Rattle.calculus.specs.declared.query.Target.{Target}
 use Rattle.calculus.specs.declared.request.Update.{Update}
 use Rattle.calculus.specs.Limits.{most_expanded_variables}
 use Rattle.calculus.specs.Who.{Who}
@@ -20,7 +19,7 @@ use Rattle.calculus.specs.Change.{IsLawful}
 use Rattle.quel_meaning.specs.KindsInQueries.{assignments_fit}
 use Rattle.quel_meaning.specs.FitQueries.{is_kept, kept, source_fits, sources_fit, slots_count_up, lists_few_vars, has_few_targets, reads_fit}
 use Rattle.quel_meaning.specs.Fit.{update_kinds_fit, places_fit, checks_fit, relation_fits, update_fits}
-use Rattle.quel_meaning.proofs.Each.{Each, front_of, of_flat_map, each_to, each_passes}
+use Rattle.quel_meaning.proofs.Each.{front_of, of_flat_map, each_to, each_passes}
 use Rattle.lawful_updates.specs.Spelled.{targets_are_spelled, aggregate_is_spelled, query_is_spelled, key_is_spelled, is_spelled}
 use Rattle.lawful_updates.proofs.Lists.{two_each}
 use Rattle.lawful_updates.proofs.Texts.{both}

@@ -1,8 +1,7 @@
 -- The texts in the rows of the catalogues.
-use Rattle.std.proofs.Common.{◌≡◌, refl, ◌∙◌, ℕ, ◌+◌, ◌≤◌, ◌<◌, true, ◌&&◌, IsTrue, List, [], ◌∷◌, ◌++◌, length, nat_le, rules, arith}
+use Rattle.std.proofs.Common.{refl, ◌∙◌, ℕ, ◌+◌, ◌≤◌, ◌<◌, true, ◌&&◌, IsTrue, [], ◌∷◌, ◌++◌, length, nat_le, rules, arith}
 use Rattle.std.specs.Prelude.{codes, decimal, ◌^◌, ◌%◌}
 use Rattle.std.specs.List.{list_all}
-use Rattle.std.proofs.lemmas.Bool.Decides.{nat_tests}
 use Rattle.std.proofs.lemmas.Fmt.{decimal_by_steps, length-decimal-le}
 use Rattle.std.proofs.lemmas.List.Folds.{list_all-append}
 use Rattle.calculus.specs.declared.value.Domain.TheVariants.{I1, I2, I4, C}

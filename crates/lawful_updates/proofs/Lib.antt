@@ -10,3 +10,4 @@ mod Aggregated
 mod Updated
 pub mod Fitted
 pub mod ReadForms
+mod Worked

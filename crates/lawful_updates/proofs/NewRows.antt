@@ -1,12 +1,11 @@
 -- The new rows of an update fit.
-use Rattle.std.proofs.Common.{◌≡◌, refl, sym, ap, subst, ◌∙◌, ℕ, zero, suc, ◌+◌, ◌==◌, Bool, true, false, ◌&&◌, IsTrue, List, [], ◌∷◌, Option, Some, None, map, length, nat_le, nat_eq, arith, rules}
+use Rattle.std.proofs.Common.{◌≡◌, refl, sym, ap, subst, ℕ, zero, suc, ◌==◌, Bool, true, IsTrue, List, [], ◌∷◌, Option, Some, None, map, length, nat_le, arith, rules}
 use Rattle.std.specs.Prelude.{option_map, slice_get, slice_set, zip}
 use Rattle.std.specs.List.{list_all}
 use Rattle.std.proofs.lemmas.Bool.Decides.{nat_tests}
 use Rattle.calculus.specs.declared.query.RelKey.{RelKey}
 use Rattle.calculus.specs.declared.query.Target.{Target}
 use Rattle.calculus.specs.declared.schema.Attr.{Attr}
-use Rattle.calculus.specs.declared.change.Pair.{Pair}
 use Rattle.calculus.specs.declared.request.Update.{Update}
 use Rattle.calculus.specs.declared.request.UpdateOp.{UpdateOp}
 use Rattle.calculus.specs.declared.request.UpdateOp.TheVariants.{Append, Replace, Delete, Into}
@@ -24,7 +23,7 @@ use Rattle.calculus.specs.Database.{Db, is_relation}
 use Rattle.calculus.specs.Stored.{attrs_at, kinds_at}
 use Rattle.calculus.specs.QueryParts.{vars_of, targets_of}
 use Rattle.calculus.specs.Assignments.{changed}
-use Rattle.calculus.specs.Targets.{all_there, target_values}
+use Rattle.calculus.specs.Targets.{target_values}
 use Rattle.calculus.specs.IsDatabase.{value_fits, row_fits, are_stored, is_stored_kind}
 use Rattle.calculus.specs.Pairs.{blank, with_values, pair_of, old_row}
 use Rattle.calculus.specs.Replacement.{is_of_kind, all_fit, made_attr, wanted_kinds}

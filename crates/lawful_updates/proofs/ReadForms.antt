@@ -6,7 +6,6 @@ use Rattle.std.proofs.lemmas.List.Folds.{list_all-append}
 use denote.Hole.Carrier.{out, roll}
 use Rattle.calculus.specs.declared.operator.ArithOp.{ArithOp}
 use Rattle.calculus.specs.declared.operator.CmpOp.{CmpOp}
-use Rattle.calculus.specs.declared.query.AggSource.{AggSource}
 use Rattle.calculus.specs.declared.query.AggSource.TheBlock.{items_hidden-the_row-Target-5}
 use Rattle.calculus.specs.declared.query.AggSource.TheVariants.{Named, Rows}
 use Rattle.calculus.specs.declared.query.QAgg.{QAgg}
@@ -18,7 +17,7 @@ use Rattle.calculus.specs.declared.query.Query.{Query, Query', out-Query, roll-Q
 use Rattle.calculus.specs.declared.query.RelKey.{RelKey}
 use Rattle.calculus.specs.declared.query.Target.{Target}
 use Rattle.calculus.specs.Chars.{is_chars}
-use Rattle.calculus.specs.QueryParts.{targets_of, qual_of, term_aggregates, qual_aggregates, query_aggregates}
+use Rattle.calculus.specs.QueryParts.{targets_of, qual_of, term_aggregates, qual_aggregates}
 use Rattle.calculus.specs.Tree.{neg, abs, operation, concat, aggregate, negated, rows_of_query}
 use Rattle.calculus.specs.Tree as tree
 use Rattle.calculus.proofs.Forms.{neg_is, abs_is, operation_is, concat_is, agg_is, both_is, either_is, negated_is, rows_is}

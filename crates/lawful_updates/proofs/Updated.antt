@@ -1,11 +1,10 @@
 -- An update that isn't refused makes a lawful change.
-use Rattle.std.proofs.Common.{◌≡◌, refl, sym, ap, subst, ◌∙◌, ℕ, Bool, true, false, ◌&&◌, ◌||◌, not, cond, IsTrue, List, [], ◌∷◌, Option, Some, None, map, filter, length, nat_le, nat_lt, nat_eq, arith}
+use Rattle.std.proofs.Common.{◌≡◌, refl, sym, ap, subst, ◌∙◌, ℕ, Bool, true, false, ◌&&◌, ◌||◌, not, IsTrue, List, [], ◌∷◌, Option, Some, None, map, filter, length, nat_le, nat_lt, nat_eq, arith}
 use Rattle.std.specs.Prelude.{is_some, option_map, filter_map, slice_get, Result, Ok, Err}
 use Rattle.std.specs.List.{list_all}
 use Rattle.std.proofs.lemmas.Bool.Decides.{nat_tests}
 use Rattle.std.proofs.lemmas.List.Kept.{IsStrictlySortedBy-filter}
 use Rattle.calculus.specs.declared.query.RelKey.{RelKey}
-use Rattle.calculus.specs.declared.query.Target.{Target}
 use Rattle.calculus.specs.declared.schema.Attr.{Attr}
 use Rattle.calculus.specs.declared.change.Pair.{Pair}
 use Rattle.calculus.specs.declared.change.DbChange.{DbChange}
@@ -13,23 +12,23 @@ use Rattle.calculus.specs.declared.request.Update.{Update}
 use Rattle.calculus.specs.declared.request.UpdateOp.{UpdateOp}
 use Rattle.calculus.specs.declared.request.UpdateOp.TheVariants.{Append, Replace, Delete, Into}
 use Rattle.calculus.specs.Keys.{same_key}
-use Rattle.calculus.specs.Limits.{most_rows, most_entries, most_expanded_variables}
+use Rattle.calculus.specs.Limits.{most_rows, most_entries}
 use Rattle.calculus.specs.Name.{is_name}
 use Rattle.calculus.specs.Rows.{Row, Ascends, has}
 use Rattle.calculus.specs.Value.{row_cmp}
 use Rattle.calculus.specs.Who.{Who}
 use Rattle.calculus.specs.Database.{Db, Relation, relation_at, is_relation, is_there, entries}
 use Rattle.calculus.specs.Catalogue.{is_catalogue_name}
-use Rattle.calculus.specs.Stored.{kept_rows, range_at, attrs_at, rows_at}
-use Rattle.calculus.specs.Term.{Env, Aggs, holds}
+use Rattle.calculus.specs.Stored.{kept_rows, attrs_at, rows_at}
+use Rattle.calculus.specs.Term.{Env, holds}
 use Rattle.calculus.specs.QueryParts.{vars_of, targets_of, qual_of, term_aggregates}
 use Rattle.calculus.specs.Assignments.{changed, update_assigned}
 use Rattle.calculus.specs.Targets.{target_values}
 use Rattle.calculus.specs.VariableRows.{rows_of}
 use Rattle.calculus.specs.Aggregate.{aggregates}
-use Rattle.calculus.specs.IsDatabase.{IsDatabase, key_is_named, attrs_stand, are_stored, row_fits}
+use Rattle.calculus.specs.IsDatabase.{IsDatabase, attrs_stand, are_stored, row_fits}
 use Rattle.calculus.specs.Pairs.{pair_at, pair_of, old_row, pair_stands, pairs, qualifying_updates}
-use Rattle.calculus.specs.Replacement.{old_rows, new_rows, with_rows, without_rows, after, made_attr, wanted_kinds, all_fit, values_fit, update_lacks, contended, rows_after, rows_change, causes, first_cause, change_of, updated}
+use Rattle.calculus.specs.Replacement.{old_rows, new_rows, with_rows, without_rows, after, made_attr, wanted_kinds, all_fit, values_fit, rows_after, rows_change, causes, first_cause, change_of, updated}
 use Rattle.calculus.specs.Change.{IsLawful}
 use Rattle.calculus.proofs.Sets.{Ascends-nil, Ascends-put}
 use Rattle.quel_meaning.specs.Passing.{is_full, is_taken}
@@ -41,14 +40,14 @@ use Rattle.lawful_plans.specs.Fitting.{IsFitRelation}
 use Rattle.lawful_plans.proofs.CopiedRows.{found_passes as found_has}
 use Rattle.lawful_plans.proofs.Created.{made_lawful, nothing_ranges}
 use Rattle.lawful_plans.proofs.Replaced.{replaced_lawful}
-use Rattle.lawful_updates.specs.Spelled.{is_proper, row_is_proper, targets_are_spelled, key_is_spelled}
+use Rattle.lawful_updates.specs.Spelled.{targets_are_spelled, key_is_spelled}
 use Rattle.lawful_updates.proofs.Texts.{both, each}
 use Rattle.lawful_updates.proofs.Valued.{AggsProper, gives_row, targets_proper}
 use Rattle.lawful_updates.proofs.Assigned.{Chosen, all_proper}
 use Rattle.lawful_updates.proofs.Lists.{in_filter_map, two_each}
-use Rattle.lawful_updates.proofs.Catalogued.{Proper, put_each}
+use Rattle.lawful_updates.proofs.Catalogued.{put_each}
 use Rattle.lawful_updates.proofs.Ranged.{RowOf, its_rows, its_attrs, stored_fit, assignments_are}
-use Rattle.lawful_updates.proofs.NewRows.{Fits, Fitting, length_is, pair_fits}
+use Rattle.lawful_updates.proofs.NewRows.{Fits, length_is, pair_fits}
 
 -- ---- the new rows
 

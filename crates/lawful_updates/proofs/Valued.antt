@@ -1,7 +1,6 @@
 -- The values of terms are numbers and texts in the language's sense.
-use Rattle.std.proofs.Common.{◌≡◌, refl, subst, ℕ, ℤ, zero, suc, Bool, true, false, ◌&&◌, IsTrue, List, [], ◌∷◌, ◌++◌, Option, Some, None, length, nat_le}
+use Rattle.std.proofs.Common.{◌≡◌, refl, subst, ℕ, ℤ, zero, suc, Bool, true, false, IsTrue, List, [], ◌∷◌, ◌++◌, Option, Some, None, length, nat_le}
 use Rattle.std.specs.Prelude.{if◌then◌else◌, slice_get, map}
-use Rattle.std.specs.List.{list_all}
 use Rattle.calculus.specs.declared.value.Value.{Value}
 use Rattle.calculus.specs.declared.value.Value.TheVariants as value
 use Rattle.calculus.specs.declared.operator.ArithOp.{ArithOp}
@@ -11,10 +10,9 @@ use Rattle.calculus.specs.declared.query.Target.{Target}
 use Rattle.calculus.specs.Tree.{neg, abs, operation, concat}
 use Rattle.calculus.specs.Number.{opposite, without_sign, operated}
 use Rattle.calculus.specs.Text.{is_text}
-use Rattle.calculus.specs.Chars.{is_chars}
 use Rattle.calculus.specs.Rows.{Row}
 use Rattle.calculus.specs.QueryParts.{aggregates_of, term_aggregates}
-use Rattle.calculus.specs.Term.{Env, Aggs, val, value_in, attribute_value, number_value, of_number, of_text, opposite_value, value_without_sign, operated_values, joined_text, joined_values, aggregate_value, value_before}
+use Rattle.calculus.specs.Term.{Env, Aggs, val, attribute_value, number_value, of_number, of_text, opposite_value, value_without_sign, operated_values, joined_text, joined_values, aggregate_value, value_before}
 use Rattle.calculus.specs.Targets.{all_there, target_values}
 use Rattle.quel_meaning.proofs.Each.{Each, front_of, back_of, each_to}
 use Rattle.lawful_updates.specs.Spelled.{is_proper, row_is_proper, rows_are_proper, term_is_spelled, targets_are_spelled}

@@ -103,7 +103,7 @@ fn read_qual(q: &QQual)
 /// Walks through a query: each text constant of its targets and aggregates is at most 255 bytes from 32 to
 /// 126, as every `Chars` is. Takes no memory, and time by the size of the query.
 #[tactic(auto, using(crate::proofs::ReadForms::query_read))]
-pub fn query_stands(q: &Query)
+pub fn query_is_spelled(q: &Query)
     ensures { IsTrue (query_is_spelled q.now) }
 {
     read_targets(q.targets.items());
@@ -120,9 +120,9 @@ fn read_key(key: &RelKey)
 
 /// Walks through an update: the relation has a key of names, and each text constant of its targets and
 /// aggregates is at most 255 bytes from 32 to 126. Takes no memory, and time by the size of the update.
-pub fn update_stands(u: &Update)
+pub fn update_is_spelled(u: &Update)
     ensures { IsTrue (is_spelled u.now) }
 {
     read_key(&u.rel);
-    query_stands(&u.query);
+    query_is_spelled(&u.query);
 }
