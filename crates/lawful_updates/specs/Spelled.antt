@@ -50,7 +50,7 @@ term_is_spelled (Agg' mark row) = true
 abbrev pub targets_are_spelled : List Target → Bool
 targets_are_spelled targets = list_all (λ t. term_is_spelled t.term) targets
 
--- the rows of a source hold what a relation holds, or what such targets give
+-- a source is what stands under a key, or the rows of a query whose targets have such constants
 unfoldable pub source_is_spelled : AggSource → Bool
 source_is_spelled (Named key) = true
 source_is_spelled (rows_of_query q) = targets_are_spelled (targets_of q)

@@ -101,7 +101,7 @@ fn read_qual(q: &QQual)
 }
 
 /// Walks through a query: each text constant of its targets and aggregates is at most 255 bytes from 32 to
-/// 126, as every `Chars` is. Takes no memory, and time by the size of the query.
+/// 126, as every `Chars` is. Takes no memory.
 #[tactic(auto, using(crate::proofs::ReadForms::query_read))]
 pub fn query_is_spelled(q: &Query)
     ensures { IsTrue (query_is_spelled q.now) }
@@ -119,7 +119,7 @@ fn read_key(key: &RelKey)
 }
 
 /// Walks through an update: the relation has a key of names, and each text constant of its targets and
-/// aggregates is at most 255 bytes from 32 to 126. Takes no memory, and time by the size of the update.
+/// aggregates is at most 255 bytes from 32 to 126. Takes no memory.
 pub fn update_is_spelled(u: &Update)
     ensures { IsTrue (is_spelled u.now) }
 {
