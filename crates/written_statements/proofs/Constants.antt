@@ -1,6 +1,5 @@
 -- The text constants in a term that is read are text constants.
-use denote.Hole.Carrier.{hidden}
-use Rattle.std.proofs.Common.{◌≡◌, ℕ, true, List, [], ◌∷◌, ◌++◌, refl, sym, subst}
+use Rattle.std.proofs.Common.{◌≡◌, ℕ, true, List, [], sym, subst}
 use Rattle.calculus.specs.declared.operator.ArithOp.{ArithOp}
 use Rattle.calculus.specs.declared.operator.ArithOp.TheVariants as ops
 use Rattle.calculus.specs.declared.statement.AggTerm.{AggTerm}
@@ -9,7 +8,7 @@ use Rattle.calculus.specs.declared.statement.Qual.TheVariants as quals
 use Rattle.calculus.specs.declared.statement.Term.{Term}
 use Rattle.calculus.specs.declared.statement.Term.TheVariants as terms
 use Rattle.calculus.specs.Chars.{is_chars}
-use Rattle.calculus.specs.Written.{aggregate, term_row}
+use Rattle.calculus.specs.Written.{term_row}
 use Rattle.calculus.proofs.WrittenForms.{neg_is, abs_is, operation_is, concat_is, both_is, either_is, negated_is, agg_is}
 use Rattle.quel_grammar.specs.declared.token.Token.{Token}
 use Rattle.quel_grammar.specs.Grammar.{IsTerm, IsSums, IsProd, IsProducts, IsPow, IsUnary, IsPrim, IsFunction, IsAggregate, IsBy, IsTerms, IsWhere, IsQual, IsOrs, IsConj, IsAnds, IsNeg}

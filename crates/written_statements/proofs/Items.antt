@@ -1,5 +1,5 @@
 -- Lists that are read have an item, and the items of a target list are written.
-use Rattle.std.proofs.Common.{◌≡◌, true, List, ◌∷◌, refl}
+use Rattle.std.proofs.Common.{◌≡◌, true, List, refl}
 use Rattle.std.specs.List.{list_all}
 use Rattle.calculus.specs.declared.statement.Item.{Item}
 use Rattle.calculus.specs.Chars.{is_chars}

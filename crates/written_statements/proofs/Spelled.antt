@@ -9,8 +9,8 @@ use Rattle.quel_grammar.specs.declared.token.Token.{Token}
 use Rattle.quel_grammar.specs.declared.token.Token.TheVariants as tokens
 use Rattle.quel_grammar.specs.declared.token.Piece.{Piece}
 use Rattle.quel_grammar.specs.declared.token.Piece.TheVariants as pieces
-use Rattle.quel_grammar.specs.Words.{fixed_of, symbol_at}
-use Rattle.quel_grammar.specs.Lexer.{is_white, is_letter, is_word_byte, lower, starts_with_byte, comment_len, quoted_len, number_of, word_token, word_at, int_at, quoted, text_at, token_at, piece_at}
+use Rattle.quel_grammar.specs.Words.{symbol_at}
+use Rattle.quel_grammar.specs.Lexer.{is_white, is_letter, starts_with_byte, comment_len, number_of, word_token, word_at, int_at, quoted, text_at, token_at, piece_at}
 use Rattle.quel_grammar.specs.Pieces.{Pieces, with_piece, pieces_behind, pieces_from, tokens_of}
 use Rattle.quel_meaning.proofs.Each.{Each}
 

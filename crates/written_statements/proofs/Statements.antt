@@ -3,8 +3,7 @@ use Rattle.std.proofs.Common.{◌≡◌, ℕ, true, List, ◌++◌, None, refl, 
 use Rattle.calculus.specs.declared.statement.Statement.{Statement}
 use Rattle.quel_grammar.specs.declared.token.Token.{Token}
 use Rattle.quel_grammar.specs.Bounds.{first_past}
-use Rattle.quel_grammar.specs.Pieces.{pieces_from}
-use Rattle.quel_grammar.specs.Next.{Reading, IsRead, IsNext, IsGrammatical}
+use Rattle.quel_grammar.specs.Next.{Reading, IsNext, IsGrammatical}
 use Rattle.quel_grammar.specs.Next.Next.{Read}
 use Rattle.quel_grammar.specs.NextReader.{next_at}
 use Rattle.quel_grammar.specs.Statements.{IsStatement}
