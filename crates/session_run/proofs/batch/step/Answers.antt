@@ -1,0 +1,32 @@
+use Rattle.std.proofs.Common.{◌≡◌, ◌∙◌, ◌++◌, ℕ, ap, subst, sym}
+use Rattle.quel_grammar.specs.Next.{line_at}
+use Rattle.calculus.specs.declared.reply.Reply.TheVariants.{Refused}
+use Rattle.quel_meaning.specs.Printed.{reply_bytes}
+use Rattle.quel_meaning.specs.Happening.{refused}
+use Rattle.quel_meaning.specs.Running.{after_statement}
+use Rattle.session_run.specs.Doing.{Did, setting, with_state}
+use Rattle.session_run.proofs.Batches.{none_read, some_read, refused_read, goes_nothing, goes_statement, goes_refusal, refused_did, moves_past}
+use Rattle.session_run.proofs.batch.step.Goals as goal
+
+pub returns-in-Ok-None-clause-goes : goal.returns-in-Ok-None-clause-goes
+returns-in-Ok-None-clause-goes g c = λ k. goes_nothing _ c.args.text.now _ _ _ (none_read c.args.text.now _ c.in-Ok-None.field-0 c.in-Ok-None.ensures c.in-Ok-None.field-0-is)
+
+pub returns-in_ok-run_placed-in-Ok-Some-clause-goes : goal.returns-in_ok-run_placed-in-Ok-Some-clause-goes
+returns-in_ok-run_placed-in-Ok-Some-clause-goes g c = λ k.
+    let line = c.line.ensures ∙ ap (line_at c.args.text.now) (c.at-counted.ensures.place ∙ c.in_ok-first-in-Ok-Some.ensures) in
+    let m = g.S.Statements.meaning (g.S.Statements.user c.args.statements.now) in
+    goes_statement m c.args.text.now _ _ _ _ _ _ _ (some_read c.args.text.now _ c.in-Ok-Some.field-0 (c.in-Ok-Some.s, c.in-Ok-Some.end) c.in-Ok-Some.ensures c.in-Ok-Some.field-0-is)
+    (subst (λ (n : ℕ). Did (after_statement (setting m) (with_state (g.S.Statements.state c.args.statements.now) k) (record { statement = c.in-Ok-Some.s; line = n })) c.args.out.now.items c.run_placed.new.out.items (with_state (g.S.Statements.state c.run_placed.new.statements) k))
+    line (c.in_ok-run_placed-in-Ok-Some.ensures.did k))
+
+pub returns-in_ok-run_placed-in-Ok-Some-clause-further : goal.returns-in_ok-run_placed-in-Ok-Some-clause-further
+returns-in_ok-run_placed-in-Ok-Some-clause-further g c =
+    moves_past c.args.text.now _ _ _ (some_read c.args.text.now _ c.in-Ok-Some.field-0 (c.in-Ok-Some.s, c.in-Ok-Some.end) c.in-Ok-Some.ensures c.in-Ok-Some.field-0-is)
+
+pub returns-in_ok-push_refused-in-Err-Syntax-clause-goes : goal.returns-in_ok-push_refused-in-Err-Syntax-clause-goes
+returns-in_ok-push_refused-in-Err-Syntax-clause-goes g c = λ k.
+    let r = refused_read c.args.text.now _ c.in-Err-Syntax.field-0 c.in-Err-Syntax.line _ c.in-Err-Syntax.ensures c.in-Err-Syntax.field-0-is in
+    let kept = with_state (g.S.Statements.state c.args.statements.now) k in
+    goes_refusal _ c.args.text.now _ kept _ c.args.out.now.items c.push_refused.new.out.items r.0
+    (subst (λ (n : ℕ). Did (refused kept 1 n) c.args.out.now.items c.push_refused.new.out.items kept) r.1 (refused_did kept 1 c.in-Err-Syntax.line c.args.out.now.items c.push_refused.new.out.items
+    (subst (λ (n : ℕ). c.push_refused.new.out.items ≡ c.args.out.now.items ++ reply_bytes (Refused (record { code = 1; line = n; row = 0 }))) (sym c.in-Err-Syntax.line-is) c.in_ok-push_refused-in-Err-Syntax.ensures)))
