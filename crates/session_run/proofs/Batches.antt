@@ -19,7 +19,7 @@ use Rattle.calculus.specs.declared.reply.Reply.{Reply}
 use Rattle.calculus.specs.declared.reply.Reply.TheVariants.{Refused}
 use Rattle.quel_meaning.proofs.Grammatical.{moves_on}
 use Rattle.quel_meaning.proofs.LeftOfBatch.{nothing_left, statement_next, refusal_next}
-use Rattle.session_run.specs.Doing.{Meaning, setting, with_state, left, Did, Goes}
+use Rattle.session_run.specs.Doing.{Meaning, setting, with_state, left, Did, Goes, Refuses}
 use Rattle.quel_meaning.specs.Session.{printed}
 use Rattle.session_run.proofs.Goings.{goes_first, goes_all, goes_both, goes_done}
 
@@ -81,8 +81,13 @@ none_read text next o answers e = subst (λ (x : Option (Statement × ℕ)). Ans
 pub some_read : (text : List ℕ) (next : Next) (o : Option (Statement × ℕ)) (x : Statement × ℕ) → Answers text next (Ok o) → o ≡ Some x → next ≡ Read x.0 x.1
 some_read text next o x answers e = subst (λ (y : Option (Statement × ℕ)). Answers text next (Ok y)) e answers
 
-pub refused_read : (text : List ℕ) (next : Next) (f : ParseFault) (line at : ℕ) → Answers text next (Err f) → f ≡ fault.Syntax line at → (next ≡ Syntax at) × (line ≡ line_at text at)
-refused_read text next f line at answers e = subst (λ (x : ParseFault). Answers text next (Err x)) e answers
+-- the rest was refused
+pub goes_fault : (m : Meaning) (text : List ℕ) (from : ℕ) (kept : Kept) (f : ParseFault) (old new : List ℕ) → Answers text (next_at text from) (Err f) → Refuses f old new
+    → Goes (left (setting m) text (Some from) kept) old (left (setting m) text None kept) new
+goes_fault m text from kept (fault.Syntax line at) old new answers grown =
+    goes_refusal m text from kept at old new answers.0
+    (subst (λ (n : ℕ). Did (refused kept 1 n) old new kept) answers.1 (refused_did kept 1 line old new grown))
+goes_fault m text from kept fault.OutOfMemory old new answers grown = absurd grown
 
 -- a batch whose walk has ended
 pub batch_ends : (means : List ℕ → Meaning) (text u v : List ℕ) (first now last : Kept) (o p q : List ℕ) (at : ℕ) → v ≡ u

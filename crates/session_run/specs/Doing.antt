@@ -1,6 +1,10 @@
 -- What a part of a session does, whatever its statements mean.
 use Rattle.std.specs.Prelude.{◌≡◌, ℕ, Bool, not, List, ◌++◌, Option, Some, None}
+use Rattle.calculus.specs.declared.reply.Reply.TheVariants.{Refused}
 use Rattle.calculus.specs.declared.statement.Statement.{Statement}
+use Rattle.quel_parse.specs.declared.next.ParseFault.{ParseFault}
+use Rattle.quel_parse.specs.declared.next.ParseFault.TheVariants as fault
+use Rattle.quel_meaning.specs.Printed.{reply_bytes}
 use Rattle.quel_grammar.specs.NextReader.{next_at}
 use Rattle.quel_meaning.specs.Batch.{batch_from}
 use Rattle.quel_meaning.specs.Buffer.{Buffer}
@@ -45,3 +49,8 @@ pub record Goes (first : After) (old : List ℕ) (rest : After) (now : List ℕ)
 abbrev pub left : Setting → List ℕ → Option ℕ → Kept → After
 left setting text None kept = quiet kept
 left setting text (Some from) kept = after_batch setting (batch_from setting.reading text from) kept
+
+-- of a fault of the reader the syntax refusal at its line was printed
+abbrev pub Refuses : ParseFault → List ℕ → List ℕ → Type 0
+Refuses (fault.Syntax line at) old new = new ≡ old ++ reply_bytes (Refused (record { code = 1; line = line; row = 0 }))
+Refuses fault.OutOfMemory old new = ⊥

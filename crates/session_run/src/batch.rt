@@ -8,7 +8,7 @@ ghost use Rattle.quel_meaning.specs.Happening.{Kept};
 ghost use Rattle.quel_meaning.specs.Printed.{reply_bytes};
 ghost use Rattle.quel_meaning.specs.Running.{after_batch, after_statement, at_line};
 ghost use Rattle.session_run.specs.Counted.{IsCounted};
-ghost use Rattle.session_run.specs.Doing.{Did, Goes, left, setting, with_state};
+ghost use Rattle.session_run.specs.Doing.{Did, Goes, Refuses, left, setting, with_state};
 
 use crate::Statements;
 use crate::counted::Counted;
@@ -53,6 +53,19 @@ pub(crate) fn push_refused(out: &mut Vec<u8>, code: u8, line: u32) -> Result<(),
     push_reply(out, &Reply::Refused(Refusal { code, line, row: 0 }))
 }
 
+/// Adds the syntax refusal at the line that the reader of statements gives.
+fn push_syntax(out: &mut Vec<u8>, fault: ParseFault) -> Result<(), OutOfMemory>
+    ensures { OnOk result (Refuses fault out.old.items out.new.items) }
+{
+    match fault {
+        ParseFault::Syntax { line, .. } => {
+            push_refused(out, SYNTAX, line)?;
+            Ok(())
+        }
+        ParseFault::OutOfMemory => Err(OutOfMemory),
+    }
+}
+
 /// Runs a statement whose first token has this line, and prints its reply.
 fn run_placed<S: Statements>(
     alloc: Global,
@@ -95,11 +108,10 @@ fn step<S: Statements>(
             run_placed(alloc, statements, &s, counted.line(text), out)?;
             Ok(Some(Walk { at: end, counted }))
         }
-        Err(ParseFault::Syntax { line, .. }) => {
-            push_refused(out, SYNTAX, line)?;
+        Err(fault) => {
+            push_syntax(out, fault)?;
             Ok(None)
         }
-        Err(ParseFault::OutOfMemory) => Err(OutOfMemory),
     }
 }
 

@@ -1,11 +1,8 @@
-use Rattle.std.proofs.Common.{◌≡◌, ◌∙◌, ◌++◌, ℕ, ap, subst, sym}
+use Rattle.std.proofs.Common.{◌≡◌, ◌∙◌, ℕ, ap, subst, sym}
 use Rattle.quel_grammar.specs.Next.{line_at}
-use Rattle.calculus.specs.declared.reply.Reply.TheVariants.{Refused}
-use Rattle.quel_meaning.specs.Printed.{reply_bytes}
-use Rattle.quel_meaning.specs.Happening.{refused}
 use Rattle.quel_meaning.specs.Running.{after_statement}
 use Rattle.session_run.specs.Doing.{Did, setting, with_state}
-use Rattle.session_run.proofs.Batches.{none_read, some_read, refused_read, goes_nothing, goes_statement, goes_refusal, refused_did, moves_past}
+use Rattle.session_run.proofs.Batches.{none_read, some_read, goes_nothing, goes_statement, goes_fault, moves_past}
 use Rattle.session_run.proofs.batch.step.Goals as goal
 
 pub returns-in-Ok-None-clause-goes : goal.returns-in-Ok-None-clause-goes
@@ -23,10 +20,7 @@ pub returns-in_ok-run_placed-in-Ok-Some-clause-further : goal.returns-in_ok-run_
 returns-in_ok-run_placed-in-Ok-Some-clause-further g c =
     moves_past c.args.text.now _ _ _ (some_read c.args.text.now _ c.in-Ok-Some.field-0 (c.in-Ok-Some.s, c.in-Ok-Some.end) c.in-Ok-Some.ensures c.in-Ok-Some.field-0-is)
 
-pub returns-in_ok-push_refused-in-Err-Syntax-clause-goes : goal.returns-in_ok-push_refused-in-Err-Syntax-clause-goes
-returns-in_ok-push_refused-in-Err-Syntax-clause-goes g c = λ k.
-    let r = refused_read c.args.text.now _ c.in-Err-Syntax.field-0 c.in-Err-Syntax.line _ c.in-Err-Syntax.ensures c.in-Err-Syntax.field-0-is in
-    let kept = with_state (g.S.Statements.state c.args.statements.now) k in
-    goes_refusal _ c.args.text.now _ kept _ c.args.out.now.items c.push_refused.new.out.items r.0
-    (subst (λ (n : ℕ). Did (refused kept 1 n) c.args.out.now.items c.push_refused.new.out.items kept) r.1 (refused_did kept 1 c.in-Err-Syntax.line c.args.out.now.items c.push_refused.new.out.items
-    (subst (λ (n : ℕ). c.push_refused.new.out.items ≡ c.args.out.now.items ++ reply_bytes (Refused (record { code = 1; line = n; row = 0 }))) (sym c.in-Err-Syntax.line-is) c.in_ok-push_refused-in-Err-Syntax.ensures)))
+pub returns-in_ok-push_syntax-in-Err-clause-goes : goal.returns-in_ok-push_syntax-in-Err-clause-goes
+returns-in_ok-push_syntax-in-Err-clause-goes g c = λ k.
+    goes_fault (g.S.Statements.meaning (g.S.Statements.user c.args.statements.now)) c.args.text.now c.args.walk.at (with_state (g.S.Statements.state c.args.statements.now) k) c.in-Err.fault
+    c.args.out.now.items c.push_syntax.new.out.items c.in-Err.ensures c.in_ok-push_syntax-in-Err.ensures

@@ -26,25 +26,25 @@ returns-then-given-eq-LONGEST_SCRIPT-clause-cut_off g c = λ e.
 pub returns-in_err-hear-clause-partly : goal.returns-in_err-hear-clause-partly
 returns-in_err-hear-clause-partly g c =
     partly_heard _ _ _ _ _ _ _ _ _ _ _ _ c.script.invariant.0 c.in_ok-count.ensures.bytes.0 (grind (arith, common_steps))
-    (same_partly g.S.Statements.meaning _ _ _ _ _ _ c.script.invariant.2 c.in_err-hear.ensures.partly)
+    (same_partly g.S.Statements.meaning _ _ c.script.listener _ _ _ c.script.invariant.2 c.in_err-hear.ensures.partly)
 
 pub returns-then-has_quit-clause-done : goal.returns-then-has_quit-clause-done
 returns-then-has_quit-clause-done g c =
-    quits _ _ _ _ _ _ _ _
-    (goes_on _ _ _ _ _ _ _ _ _ _ _ _ _ _ c.script.invariant.0 c.in_ok-count.ensures.bytes.0 (grind (arith, common_steps)) (grind (arith, common_steps))
-    (same_hears g.S.Statements.meaning _ _ _ _ _ _ _ c.script.invariant.2 c.in_ok-hear.ensures.heard))
+    quits _ _ _ _ _ _ c.hear.new.listener _
+    (goes_on _ _ _ _ _ _ _ _ _ _ _ _ _ c.in_ok-count.count c.script.invariant.0 c.in_ok-count.ensures.bytes.0 (grind (arith, common_steps)) (grind (arith, common_steps))
+    (same_hears g.S.Statements.meaning _ _ c.script.listener c.hear.new.listener _ _ _ c.script.invariant.2 c.in_ok-hear.ensures.heard))
     (sym c.has_quit.ensures ∙ c.if-has_quit.true)
 
 pub returns-then-has_quit-clause-partly : goal.returns-then-has_quit-clause-partly
 returns-then-has_quit-clause-partly g c =
-    partly_read _ _ _ _ _ _ _ _
-    (goes_on _ _ _ _ _ _ _ _ _ _ _ _ _ _ c.script.invariant.0 c.in_ok-count.ensures.bytes.0 (grind (arith, common_steps)) (grind (arith, common_steps))
-    (same_hears g.S.Statements.meaning _ _ _ _ _ _ _ c.script.invariant.2 c.in_ok-hear.ensures.heard))
+    partly_read _ _ _ _ _ _ c.hear.new.listener _
+    (goes_on _ _ _ _ _ _ _ _ _ _ _ _ _ c.in_ok-count.count c.script.invariant.0 c.in_ok-count.ensures.bytes.0 (grind (arith, common_steps)) (grind (arith, common_steps))
+    (same_hears g.S.Statements.meaning _ _ c.script.listener c.hear.new.listener _ _ _ c.script.invariant.2 c.in_ok-hear.ensures.heard))
 
 pub script-preserved : goal.script-preserved
 script-preserved g c = (
   goes_on _ _ _ _ _ _ _ _ _ _ _ _ _ _ c.script.invariant.0 c.in_ok-count.ensures.bytes.0 (grind (arith, common_steps)) (grind (arith, common_steps))
-      (same_hears g.S.Statements.meaning _ _ _ _ _ _ _ c.script.invariant.2 c.in_ok-hear.ensures.heard),
+      (same_hears g.S.Statements.meaning _ _ c.script.listener c.hear.new.listener _ _ _ c.script.invariant.2 c.in_ok-hear.ensures.heard),
   grind (arith, common_steps),
   c.in_ok-hear.ensures.same ∙ c.script.invariant.2,
   sym c.has_quit.ensures ∙ c.if-has_quit.false,
