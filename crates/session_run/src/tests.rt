@@ -32,7 +32,7 @@ fn scripts_print_replies_refusals_and_the_buffer(rt: HostRuntime) -> Result<(), 
         (b"print p\n\n\\p\\g\\g", b"print p\ndone\ndone\n"),
         (b"print p\n\\r\\p\\g", b""),
         (
-            b"print p print q\n/* */ print\n\\g",
+            b"print p print q\n/* */ print\n,\n\\g",
             b"done\ndone\nrefused 1 line 3: syntax\n",
         ),
         (b"print p\n\\g\nprint q\n\\p\n", b"done\nprint q\n"),
