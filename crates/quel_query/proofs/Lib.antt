@@ -1,0 +1,4 @@
+pub mod KindsKnown
+pub mod Putting
+pub mod Updating
+pub mod Whole

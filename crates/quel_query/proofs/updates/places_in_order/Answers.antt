@@ -1,0 +1,10 @@
+use Rattle.std.proofs.Common.{◌≤◌, ◌++◌, ◌∷◌, [], ℕ, List, sym, ap, ◌∙◌, arith}
+use Rattle.quel_query.proofs.Updating.{numbers_next}
+use Rattle.quel_query.proofs.updates.places_in_order.Goals as goal
+
+pub loop-place-preserved : goal.loop-place-preserved
+loop-place-preserved c = λ few.
+    let fits : c.loop-place.place ≤ 255 = omega arith in
+    c.in_ok-push.ensures.items ∙ ap (λ (n : ℕ). c.loop-place.places.items ++ n ∷ []) (c.byte.ensures fits)
+    ∙ ap (λ (ns : List ℕ). ns ++ c.loop-place.place ∷ []) (c.loop-place.invariant few)
+    ∙ sym (numbers_next c.args.targets.now c.loop-place.place c.loop-place-test.true)

@@ -1,0 +1,18 @@
+//! What statements without aggregates ask for: their queries, their updates and their trees.
+#![tactic(auto)]
+
+mod known;
+mod parts;
+mod places;
+mod queries;
+mod sorting;
+mod targets;
+mod trees;
+mod updates;
+
+pub use queries::query_of;
+pub use trees::tree_by;
+pub use updates::{append_of, delete_of, into_of, replace_of};
+
+#[cfg(test)]
+mod tests;

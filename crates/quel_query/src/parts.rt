@@ -1,0 +1,31 @@
+//! The target list of a statement.
+
+ghost use Rattle.std.specs.Prelude.{◌≡◌};
+ghost use Rattle.quel_meaning.specs.WrittenParts.{items_of};
+
+use calculus::{Item, Statement};
+
+/// The target list of a statement; none where it has none.
+pub(crate) fn items_of(s: &Statement) -> &[Item]
+    ensures { result.now ≡ items_of s.now }
+{
+    match s {
+        Statement::Retrieve { items, .. } => items.items(),
+        Statement::Append { items, .. } => items.items(),
+        Statement::Replace { items, .. } => items.items(),
+        Statement::View { items, .. } => items.items(),
+        Statement::Range { .. } => &[],
+        Statement::Delete { .. } => &[],
+        Statement::Create { .. } => &[],
+        Statement::Destroy { .. } => &[],
+        Statement::DropPermits { .. } => &[],
+        Statement::DropRules { .. } => &[],
+        Statement::Modify { .. } => &[],
+        Statement::Index { .. } => &[],
+        Statement::Print { .. } => &[],
+        Statement::Help { .. } => &[],
+        Statement::Copy { .. } => &[],
+        Statement::Permit { .. } => &[],
+        Statement::Rule { .. } => &[],
+    }
+}

@@ -1,0 +1,166 @@
+//! The tree of a statement.
+
+ghost use Rattle.std.specs.Prelude.{◌≡◌, ◌≤◌, ℕ, List as Items, [], ◌∷◌, is_some, length, map, option_copied, IfOk, IfSome};
+ghost use Rattle.calculus.specs.declared.request.Checked.TheVariants.{Answer, Update, Utility as ForUtilities};
+ghost use Rattle.calculus.specs.declared.request.Utility.TheVariants as utility;
+ghost use Rattle.calculus.specs.declared.statement.Item.{Item as WrittenItem};
+ghost use Rattle.calculus.specs.declared.statement.Qual.{Qual as WrittenQual};
+ghost use Rattle.calculus.specs.declared.statement.Statement.TheVariants as statement;
+ghost use Rattle.calculus.specs.Keys.{key_of};
+ghost use Rattle.calculus.specs.QueryParts.{targets_of};
+ghost use Rattle.calculus.specs.Stored.{attrs_in};
+ghost use Rattle.quel_meaning.specs.Resolved.{sort_key, stored_attr, tree_by};
+ghost use Rattle.quel_meaning.specs.Scope.{Scope, named, ranged};
+ghost use Rattle.quel_meaning.specs.StatementUpdate.{append_of, delete_of, replace_of};
+ghost use Rattle.quel_query.specs.Changed.{Suits, is_built};
+
+use crate::sorting::sort_keys;
+use crate::updates::{append_of, delete_of, into_of, replace_of};
+use calculus::{
+    Asked, Attr, Checked, Domain, Kind, List, Name, OutOfMemory, Query, RelInfo, RelKey, Statement,
+    TryCopy, Utility,
+};
+use std::alloc::Global;
+
+/// The tree of a `retrieve` that prints, for a query of at most 256 targets.
+fn printed(alloc: Global, q: Query, sort: &[(Name, bool)]) -> Result<Checked, OutOfMemory>
+    ensures { IfOk result (λ tree. length (targets_of q) ≤ 256 → tree ≡ Answer (record { query = q; sort = map (sort_key (targets_of q)) sort.now } ∷ [])) }
+{
+    let keys = sort_keys(alloc, q.targets.items(), sort)?;
+    let mut asked = Vec::new(alloc);
+    asked.push(Asked {
+        query: q,
+        sort: List::of(keys),
+    })?;
+    Ok(Checked::Answer(List::of(asked)))
+}
+
+/// The attributes with their domains.
+fn stored_attrs(alloc: Global, attrs: &[(Name, Domain)]) -> Result<Vec<Attr>, OutOfMemory>
+    ensures { IfOk result (λ stored. stored.items ≡ map stored_attr attrs.now) }
+{
+    let mut stored = Vec::new(alloc);
+    for (name, domain) in attrs {
+        stored.push(Attr {
+            name: name.copy(alloc)?,
+            kind: Kind::Of(*domain),
+        })?;
+    }
+    Ok(stored)
+}
+
+/// The tree of a `create`.
+fn created(
+    alloc: Global,
+    user: &Name,
+    rel: &Name,
+    attrs: &[(Name, Domain)],
+) -> Result<Checked, OutOfMemory>
+    ensures { IfOk result (λ tree. tree ≡ ForUtilities (utility.Create (key_of user.now rel.now) (map stored_attr attrs.now))) }
+{
+    let owner = user.copy(alloc)?;
+    let name = rel.copy(alloc)?;
+    let attrs = stored_attrs(alloc, attrs)?;
+    Ok(Checked::Utility(Utility::Create {
+        rel: RelKey { owner, name },
+        attrs: List::of(attrs),
+    }))
+}
+
+/// The tree of a `retrieve`, for a query of at most 256 targets.
+fn retrieved(
+    alloc: Global,
+    user: &Name,
+    into: &Option<Name>,
+    sort: &[(Name, bool)],
+    q: Query,
+) -> Result<Checked, OutOfMemory>
+    ensures { IfOk result (λ tree. (scope : Scope) (items : Items WrittenItem) (qual : WrittenQual) → scope.user ≡ user.now → length (targets_of q) ≤ 256 → tree ≡ tree_by scope q (statement.Retrieve into.now items qual sort.now)) }
+{
+    match into {
+        None => printed(alloc, q, sort),
+        Some(name) => Ok(Checked::Update(into_of(alloc, user, name, q)?)),
+    }
+}
+
+/// The tree of an `append`; `None` where what it changes isn't there.
+fn appended(
+    alloc: Global,
+    target: Option<&RelInfo>,
+    q: Query,
+) -> Result<Option<Checked>, OutOfMemory>
+    ensures built { IfOk result (λ tree. is_some tree ≡ is_some target.entry) }
+    ensures tree { IfOk result (λ tree. (scope : Scope) (rel : Items ℕ) → named scope rel ≡ option_copied target.entry → length (attrs_in (option_copied target.entry)) ≤ 256 → IfSome tree (λ checked. checked ≡ Update (append_of scope rel q))) }
+{
+    match target {
+        Some(info) => Ok(Some(Checked::Update(append_of(alloc, info, q)?))),
+        None => Ok(None),
+    }
+}
+
+/// The tree of a `replace`; `None` where what it changes isn't there.
+fn replaced(
+    alloc: Global,
+    target: Option<&RelInfo>,
+    q: Query,
+) -> Result<Option<Checked>, OutOfMemory>
+    ensures built { IfOk result (λ tree. is_some tree ≡ is_some target.entry) }
+    ensures tree { IfOk result (λ tree. (scope : Scope) (var : Items ℕ) → ranged scope var ≡ option_copied target.entry → length (attrs_in (option_copied target.entry)) ≤ 256 → IfSome tree (λ checked. checked ≡ Update (replace_of scope var q))) }
+{
+    match target {
+        Some(info) => Ok(Some(Checked::Update(replace_of(alloc, info, q)?))),
+        None => Ok(None),
+    }
+}
+
+/// The tree of a `delete`; `None` where what it changes isn't there.
+fn deleted(
+    alloc: Global,
+    target: Option<&RelInfo>,
+    q: Query,
+) -> Result<Option<Checked>, OutOfMemory>
+    ensures built { IfOk result (λ tree. is_some tree ≡ is_some target.entry) }
+    ensures tree { IfOk result (λ tree. (scope : Scope) (var : Items ℕ) → ranged scope var ≡ option_copied target.entry → length (attrs_in (option_copied target.entry)) ≤ 256 → IfSome tree (λ checked. checked ≡ Update (delete_of scope var q))) }
+{
+    match target {
+        Some(info) => Ok(Some(Checked::Update(delete_of(alloc, info, q)?))),
+        None => Ok(None),
+    }
+}
+
+/// The tree of a user's statement whose query is this, where `target` is what the statement changes,
+/// and the query has at most 256 targets and `target` as many attributes: of a `retrieve`, of a
+/// `create`, and of an `append`, a `replace` or a `delete` whose `target` is there. `None` of all
+/// others, which have no trees yet.
+pub fn tree_by(
+    alloc: Global,
+    user: &Name,
+    s: &Statement,
+    q: Query,
+    target: Option<&RelInfo>,
+) -> Result<Option<Checked>, OutOfMemory>
+    ensures built { IfOk result (λ tree. is_some tree ≡ is_built s.now (option_copied target.entry)) }
+    ensures tree { IfOk result (λ tree. (scope : Scope) → Suits scope user.now s.now q (option_copied target.entry) → IfSome tree (λ checked. checked ≡ tree_by scope q s.now)) }
+{
+    match s {
+        Statement::Retrieve { into, sort, .. } => {
+            Ok(Some(retrieved(alloc, user, into, sort.items(), q)?))
+        }
+        Statement::Create { rel, attrs } => Ok(Some(created(alloc, user, rel, attrs.items())?)),
+        Statement::Append { .. } => appended(alloc, target, q),
+        Statement::Replace { .. } => replaced(alloc, target, q),
+        Statement::Delete { .. } => deleted(alloc, target, q),
+        Statement::Range { .. } => Ok(None),
+        Statement::Destroy { .. } => Ok(None),
+        Statement::DropPermits { .. } => Ok(None),
+        Statement::DropRules { .. } => Ok(None),
+        Statement::Modify { .. } => Ok(None),
+        Statement::Index { .. } => Ok(None),
+        Statement::Print { .. } => Ok(None),
+        Statement::Help { .. } => Ok(None),
+        Statement::Copy { .. } => Ok(None),
+        Statement::View { .. } => Ok(None),
+        Statement::Permit { .. } => Ok(None),
+        Statement::Rule { .. } => Ok(None),
+    }
+}
