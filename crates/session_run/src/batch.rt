@@ -1,10 +1,11 @@
 //! Runs the statements of a batch.
 
-ghost use Rattle.std.specs.Prelude.{◌≡◌, ◌++◌, ◌<◌, length, option_map, Some, IfOk, OnOk, IfSome};
+ghost use Rattle.std.specs.Prelude.{◌≡◌, ◌++◌, ◌<◌, length, option_map, Some, true, IfOk, OnOk, IfSome};
 ghost use Rattle.calculus.specs.declared.reply.Reply.TheVariants.{Refused};
 ghost use Rattle.quel_grammar.specs.NextReader.{next_at};
 ghost use Rattle.quel_meaning.specs.Batch.{batch_of};
 ghost use Rattle.quel_meaning.specs.Happening.{Kept};
+ghost use Rattle.quel_meaning.specs.IsWritten.{is_written};
 ghost use Rattle.quel_meaning.specs.Printed.{reply_bytes};
 ghost use Rattle.quel_meaning.specs.Running.{after_batch, after_statement, at_line};
 ghost use Rattle.session_run.specs.Counted.{IsCounted};
@@ -74,6 +75,7 @@ fn run_placed<S: Statements>(
     line: u32,
     out: &mut Vec<u8>,
 ) -> Result<(), OutOfMemory>
+    requires { is_written s.now ≡ true }
     ensures did { OnOk result ((k : Kept) → Did (after_statement (setting (S.meaning (S.user statements.old))) (with_state (S.state statements.old) k) (record { statement = s.now; line = line }))
         out.old.items out.new.items (with_state (S.state statements.new) k)) }
     ensures same { S.user statements.new ≡ S.user statements.old }
