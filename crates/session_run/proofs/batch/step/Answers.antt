@@ -2,11 +2,16 @@ use Rattle.std.proofs.Common.{◌≡◌, ◌∙◌, ℕ, ap, subst, sym}
 use Rattle.quel_grammar.specs.Next.{line_at}
 use Rattle.quel_meaning.specs.Running.{after_statement}
 use Rattle.session_run.specs.Doing.{Did, setting, with_state}
+use Rattle.written_statements.proofs.Statements.{computed_written}
 use Rattle.session_run.proofs.Batches.{none_read, some_read, goes_nothing, goes_statement, goes_fault, moves_past}
 use Rattle.session_run.proofs.batch.step.Goals as goal
 
 pub returns-in-Ok-None-clause-goes : goal.returns-in-Ok-None-clause-goes
 returns-in-Ok-None-clause-goes g c = λ k. goes_nothing _ c.args.text.now _ _ _ (none_read c.args.text.now _ c.in-Ok-None.field-0 c.in-Ok-None.ensures c.in-Ok-None.field-0-is)
+
+pub run_placed-requires : goal.run_placed-requires
+run_placed-requires g c =
+    computed_written c.args.text.now c.args.walk.at c.in-Ok-Some.s c.in-Ok-Some.end (some_read c.args.text.now _ c.in-Ok-Some.field-0 (c.in-Ok-Some.s, c.in-Ok-Some.end) c.in-Ok-Some.ensures c.in-Ok-Some.field-0-is)
 
 pub returns-in_ok-run_placed-in-Ok-Some-clause-goes : goal.returns-in_ok-run_placed-in-Ok-Some-clause-goes
 returns-in_ok-run_placed-in-Ok-Some-clause-goes g c = λ k.
