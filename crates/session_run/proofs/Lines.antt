@@ -1,0 +1,161 @@
+-- Lines of a script that is heard byte by byte.
+use Rattle.std.proofs.Common.{◌≡◌, ℕ, Bool, true, false, eqb, ltb, List, [], ◌∷◌, ◌++◌, refl, sym, ap, subst, ◌∙◌, append_assoc, append-nil, length, arith, ◌-◌, ◌<◌, suc, length-append}
+use Rattle.std.proofs.Math.Seq.{get_or-append_seam}
+use Rattle.std.specs.Prelude.{◌&&◌, ◌==◌, not, filter, nat_lt, slice_index}
+use Rattle.std.proofs.lemmas.Bool.{lt-ltb}
+use Rattle.std.specs.List.{list_all}
+use Rattle.std.specs.Io.BufRead.{ends_with_byte}
+use Rattle.fault_io.specs.Told.{IsFront}
+use Rattle.quel_meaning.specs.Happening.{Kept, After, quiet, and_then, over}
+use Rattle.quel_meaning.specs.Lines.{lines_of, whole_lines, is_no_newline}
+use Rattle.quel_meaning.specs.Running.{after_line, after_lines, Deeper}
+use Rattle.quel_meaning.specs.Session.{printed, files_of}
+use Rattle.quel_meaning.proofs.Agreement.{nothing_more}
+use Rattle.quel_meaning.proofs.LineLaws.{line_first, line_last}
+use Rattle.quel_meaning.proofs.Steps.{printed_append}
+use Rattle.session_run.specs.Doing.{Meaning, setting, Did}
+use Rattle.session_run.specs.Hearing.{Heard, counted_lines, lines_done, later, Begins}
+
+pub both : (a b : Bool) → (a && b) ≡ true → (a ≡ true) × (b ≡ true)
+both true b e = (refl, e)
+both false b e = absurd cc
+
+pub unequal : (b : Bool) → not b ≡ true → b ≡ false
+unequal true e = absurd cc
+unequal false e = refl
+
+-- a line with its newline ends so
+ends_with : (l : List ℕ) → ends_with_byte 10 (l ++ 10 ∷ []) ≡ true
+ends_with l =
+    let place : length (l ++ 10 ∷ []) - 1 ≡ length l = omega (arith, length-append l (10 ∷ [])) in
+    let some : 0 < length (l ++ 10 ∷ []) = omega (arith, length-append l (10 ∷ [])) in
+    rw (place, get_or-append_seam l 10 [] 0, lt-ltb 0 (length (l ++ 10 ∷ [])) some) refl
+
+-- a line that lacks it doesn't
+last_is_none : (l : List ℕ) → list_all is_no_newline l ≡ true → (slice_index l (length l - 1) == 10) ≡ false
+last_is_none [] e = refl
+last_is_none (b ∷ []) e = let parts = both (is_no_newline b) true e in unequal (eqb b 10) parts.0
+last_is_none (b ∷ c ∷ l) e =
+    let parts = both (is_no_newline b) (list_all is_no_newline (c ∷ l)) e in
+    let place : length (b ∷ c ∷ l) - 1 ≡ suc (length l) = omega arith in
+    let before : length (c ∷ l) - 1 ≡ length l = omega arith in
+    rw place (rw before at (last_is_none (c ∷ l) parts.1))
+
+and_false : (a : Bool) → (a && false) ≡ false
+and_false true = refl
+and_false false = refl
+
+ends_without : (l : List ℕ) → list_all is_no_newline l ≡ true → ends_with_byte 10 l ≡ false
+ends_without l e = ap (λ (b : Bool). nat_lt 0 (length l) && b) (last_is_none l e) ∙ and_false (nat_lt 0 (length l))
+
+whole_first : (l rest : List ℕ) → list_all is_no_newline l ≡ true → whole_lines ((l ++ 10 ∷ []) ++ rest) ≡ (l ++ 10 ∷ []) ∷ whole_lines rest
+whole_first l rest e = rw (line_first l rest e, ends_with l) refl
+
+nothing_whole : whole_lines [] ≡ []
+unfolding lines_of
+nothing_whole = refl
+
+-- of the front of a line no whole line is counted
+pub whole_none : (l : List ℕ) → list_all is_no_newline l ≡ true → whole_lines l ≡ []
+whole_none [] e = nothing_whole
+whole_none (b ∷ l) e = rw (line_last b l e, ends_without (b ∷ l) e) refl
+
+counted_first : (last : Bool) (l rest : List ℕ) → list_all is_no_newline l ≡ true → counted_lines last ((l ++ 10 ∷ []) ++ rest) ≡ (l ++ 10 ∷ []) ∷ counted_lines last rest
+counted_first true l rest e = line_first l rest e
+counted_first false l rest e = whole_first l rest e
+
+-- ---- what lines do
+
+-- a part that is done prints its bytes, and the rest goes on from what it kept
+begins_first : (first : After) (rest : Kept → After) (more : List ℕ) (now : Kept) → Did first [] more now → Begins (and_then first rest) more (rest now)
+begins_first first rest more now did =
+    let done = rest first.kept in
+    let same : rest now ≡ done = ap rest did.keeps in
+    record {
+      output =
+          printed_append first.events done.events
+          ∙ ap (λ (x : List ℕ). x ++ printed done.events) (sym did.output)
+          ∙ ap (λ (a : After). more ++ printed a.events) (sym same);
+      keeps = ap (λ (a : After). a.kept) (sym same);
+    }
+
+-- a line and then the others
+line_begins : (m : Meaning) (kept : Kept) (line : List ℕ) (lines : List (List ℕ)) (more : List ℕ) (now : Kept)
+    → Did (after_line (setting m) (files_of (setting m)) kept line) [] more now → Begins (lines_done m kept (line ∷ lines)) more (lines_done m now lines)
+unfolding after_lines over
+line_begins m kept line lines more now did =
+    begins_first (after_line (setting m) (files_of (setting m)) kept line) (λ k. lines_done m k lines) more now did
+
+-- ---- hearing
+
+abbrev pub hearing : List ℕ → Kept → List ℕ → Heard
+hearing user kept partial = record { user = user; kept = kept; partial = partial }
+
+-- a byte that is no newline goes to the partial line
+pub hears_byte : (last : Bool) (m : Meaning) (user : List ℕ) (kept : Kept) (partial : List ℕ) (b : ℕ) (rest : List ℕ)
+    → later m last (hearing user kept partial) (b ∷ rest) ≡ later m last (hearing user kept (partial ++ b ∷ [])) rest
+hears_byte last m user kept partial b rest = ap (λ (x : List ℕ). lines_done m kept (counted_lines last x)) (sym (append_assoc partial (b ∷ []) rest))
+
+-- a newline ends the line
+pub hears_newline : (last : Bool) (m : Meaning) (user : List ℕ) (kept : Kept) (partial rest more : List ℕ) (now : Kept) → list_all is_no_newline partial ≡ true
+    → Did (after_line (setting m) (files_of (setting m)) kept (partial ++ 10 ∷ [])) [] more now
+    → Begins (later m last (hearing user kept partial) (10 ∷ rest)) more (later m last (hearing user now []) rest)
+hears_newline last m user kept partial rest more now e did =
+    let same = hears_byte last m user kept partial 10 rest ∙ ap (lines_done m kept) (counted_first last partial rest e) in
+    subst (λ (a : After). Begins a more (later m last (hearing user now []) rest)) (sym same)
+    (line_begins m kept (partial ++ 10 ∷ []) (counted_lines last rest) more now did)
+
+-- what a line prints is a front of what is printed from it on
+front_then : (first : After) (rest : Kept → After) (more : List ℕ) → IsFront more (printed first.events) → IsFront more (printed (and_then first rest).events)
+front_then first rest more front =
+    let others = printed (rest first.kept).events in
+    (front.0 ++ others, printed_append first.events (rest first.kept).events ∙ ap (λ (x : List ℕ). x ++ others) front.1 ∙ append_assoc more front.0 others)
+
+line_front : (m : Meaning) (kept : Kept) (line : List ℕ) (lines : List (List ℕ)) (more : List ℕ)
+    → IsFront more (printed (after_line (setting m) (files_of (setting m)) kept line).events) → IsFront more (printed (lines_done m kept (line ∷ lines)).events)
+unfolding after_lines over
+line_front m kept line lines more front = front_then (after_line (setting m) (files_of (setting m)) kept line) (λ k. lines_done m k lines) more front
+
+pub hears_front : (m : Meaning) (user : List ℕ) (kept : Kept) (partial rest more : List ℕ) → list_all is_no_newline partial ≡ true
+    → IsFront more (printed (after_line (setting m) (files_of (setting m)) kept (partial ++ 10 ∷ [])).events)
+    → IsFront more (printed (later m true (hearing user kept partial) (10 ∷ rest)).events)
+hears_front m user kept partial rest more e front =
+    let same = hears_byte true m user kept partial 10 rest ∙ ap (lines_done m kept) (counted_first true partial rest e) in
+    subst (λ (a : After). IsFront more (printed a.events)) (sym same) (line_front m kept (partial ++ 10 ∷ []) (lines_of rest) more front)
+
+-- behind the end of the session nothing happens
+pub hears_end : (last : Bool) (m : Meaning) (h : Heard) (bytes : List ℕ) → h.kept.quit ≡ true → later m last h bytes ≡ quiet h.kept
+hears_end last m h bytes e = nothing_more (setting m) (files_of (setting m)) h.kept e (counted_lines last (h.partial ++ bytes))
+
+-- nothing follows, and no line has begun
+pub closes_none : (m : Meaning) (user : List ℕ) (kept : Kept) (partial : List ℕ) → length partial ≡ 0 → printed (later m true (hearing user kept partial) []).events ≡ []
+unfolding after_lines over printed lines_of
+closes_none m user kept [] e = refl
+closes_none m user kept (b ∷ l) e = absurd (omega arith)
+
+-- nothing follows, and a line has begun: it is the last
+last_line : (m : Meaning) (user : List ℕ) (kept : Kept) (partial : List ℕ) → list_all is_no_newline partial ≡ true → (length partial ≡ 0 → ⊥)
+    → later m true (hearing user kept partial) [] ≡ lines_done m kept (partial ∷ [])
+last_line m user kept [] e some = absurd (some refl)
+last_line m user kept (b ∷ l) e some =
+    ap (λ (x : List ℕ). lines_done m kept (lines_of x)) (append-nil (b ∷ l)) ∙ ap (lines_done m kept) (line_last b l e)
+
+only_line : (m : Meaning) (kept : Kept) (line : List ℕ) → printed (lines_done m kept (line ∷ [])).events ≡ printed (after_line (setting m) (files_of (setting m)) kept line).events
+unfolding after_lines over printed
+only_line m kept line = ap printed (append-nil (after_line (setting m) (files_of (setting m)) kept line).events)
+
+pub closes_some : (m : Meaning) (user : List ℕ) (kept : Kept) (partial more : List ℕ) (now : Kept) → list_all is_no_newline partial ≡ true → (length partial ≡ 0 → ⊥)
+    → Did (after_line (setting m) (files_of (setting m)) kept partial) [] more now → printed (later m true (hearing user kept partial) []).events ≡ more
+closes_some m user kept partial more now e some did =
+    ap (λ (a : After). printed a.events) (last_line m user kept partial e some) ∙ only_line m kept partial ∙ sym did.output
+
+pub closes_front : (m : Meaning) (user : List ℕ) (kept : Kept) (partial more : List ℕ) → list_all is_no_newline partial ≡ true → (length partial ≡ 0 → ⊥)
+    → IsFront more (printed (after_line (setting m) (files_of (setting m)) kept partial).events) → IsFront more (printed (later m true (hearing user kept partial) []).events)
+closes_front m user kept partial more e some front =
+    subst (λ (x : List ℕ). IsFront more x) (sym (ap (λ (a : After). printed a.events) (last_line m user kept partial e some) ∙ only_line m kept partial)) front
+
+-- nothing counts but whole lines, and nothing follows
+pub hears_whole : (m : Meaning) (user : List ℕ) (kept : Kept) (partial : List ℕ) → list_all is_no_newline partial ≡ true → later m false (hearing user kept partial) [] ≡ quiet kept
+unfolding after_lines over
+hears_whole m user kept partial e =
+    ap (λ (x : List ℕ). lines_done m kept (whole_lines x)) (append-nil partial) ∙ ap (lines_done m kept) (whole_none partial e)

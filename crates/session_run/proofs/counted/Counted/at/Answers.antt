@@ -1,0 +1,14 @@
+use Rattle.std.proofs.Common.{◌≡◌, ◌+◌, ◌∙◌, ap, rules, arith, take, drop}
+use Rattle.session_run.specs.Counted.{newlines}
+use Rattle.session_run.proofs.Counting.{counted_on, few}
+use Rattle.session_run.proofs.counted.Counted.at.Goals as goal
+
+together : goal.returns-clause-counted
+together c =
+    rw (c.newlines-more.ensures, c.behind.ensures, c.before-front.ensures, c.requires) (counted_on c.args.text.now c.args.self.place c.args.place (omega (arith, c.if-place-self.false)))
+
+pub overflow_add-result : goal.overflow_add-result
+overflow_add-result c = rw (together c) (omega (arith, few c.args.text.now c.args.place, c.type_inv.text))
+
+pub returns-clause-counted : goal.returns-clause-counted
+returns-clause-counted c = together c

@@ -1,0 +1,4 @@
+pub mod Counted
+pub mod Doing
+pub mod Hearing
+pub mod Runs

@@ -1,0 +1,100 @@
+//! Runs a script from a source into a sink.
+
+ghost use Rattle.std.specs.Prelude.{◌≡◌, ◌⊎◌, ◌↔◌, OnOk, IsErrOf, IfSome};
+ghost use Rattle.fault_io.specs.Causes.{Rose};
+ghost use Rattle.session_run.specs.Runs.{IsDone, IsPartlyDone, IsCutOff, GaveTooMuch};
+ghost use Rattle.session_run.specs.declared.running.RunFault.TheVariants.{OutOfMemory as no_memory, Source as source_fault, Sink as sink_fault};
+
+use crate::Statements;
+use crate::listener::{Listener, close, hear};
+use calculus::OutOfMemory;
+use fault_io::{Failed, Sink, SinkFault, Source};
+use std::alloc::Global;
+
+/// The greatest number of bytes of a script.
+const LONGEST_SCRIPT: usize = 16_777_216;
+
+/// The greatest number of bytes that are read at once.
+const LONGEST_PIECE: usize = 4096;
+
+/// Why a run ended early.
+#[derive(Clone, Copy, Debug, PartialEq, Eq)]
+pub enum RunFault {
+    /// A call of the source failed.
+    Source,
+    /// A call of the sink failed, or it took nothing.
+    Sink,
+    /// The script is too long.
+    TooLong,
+    /// Want of memory.
+    OutOfMemory,
+}
+
+impl From<OutOfMemory> for RunFault {
+    ghost from_gives = { λ _ e. e ≡ no_memory };
+
+    fn from(_e: OutOfMemory) -> RunFault {
+        RunFault::OutOfMemory
+    }
+}
+
+impl From<Failed> for RunFault {
+    ghost from_gives = { λ _ e. e ≡ source_fault };
+
+    fn from(_e: Failed) -> RunFault {
+        RunFault::Source
+    }
+}
+
+impl From<SinkFault> for RunFault {
+    ghost from_gives = { λ _ e. e ≡ sink_fault };
+
+    fn from(_e: SinkFault) -> RunFault {
+        RunFault::Sink
+    }
+}
+
+/// Runs the script of the source, and gives what it prints to the sink.
+///
+/// It is read in pieces as it comes, to its end or to a command that ends the session; no byte behind
+/// that command is looked at. Nothing past its first 16,777,216 bytes is read until all lines up to
+/// there were heard; then one byte more is asked for.
+pub fn run<S: Statements + Drop, R: Source, K: Sink>(
+    alloc: Global,
+    statements: S,
+    source: &mut R,
+    sink: &mut K,
+) -> Result<(), RunFault>
+    ensures done { OnOk result (IsDone (S.meaning (S.user statements)) (S.state statements) (R.left source.old) (R.left source.new) (K.written sink.old) (K.written sink.new)) }
+    ensures partly { IsPartlyDone (S.meaning (S.user statements)) (S.state statements) (R.left source.old) (K.written sink.old) (K.written sink.new) }
+    ensures cut_off { IsErrOf result RunFault.TooLong → IsCutOff (S.meaning (S.user statements)) (S.state statements) (R.left source.old) (R.left source.new) (K.written sink.old) (K.written sink.new) }
+
+    ensures source_fault { IsErrOf result RunFault.Source → Rose (R.faults source.old) (R.faults source.new) }
+    ensures sink_fault { IsErrOf result RunFault.Sink
+        → Rose (K.faults sink.old) (K.faults sink.new) ⊎ Rose (K.stalls sink.old) (K.stalls sink.new) }
+    ensures too_long { IfSome (R.left source.old) (λ script. IfSome (R.left source.new) (λ rest.
+        IsErrOf result RunFault.TooLong ↔ GaveTooMuch script rest)) }
+{
+    let mut listener = Listener::new(alloc, statements);
+    let mut buf = [0u8; LONGEST_PIECE];
+    let mut given = 0usize;
+    'script: loop {
+        let room = LONGEST_PIECE.min(LONGEST_SCRIPT - given).max(1);
+        let piece = &mut buf[..room];
+        let count = source.read(piece)?;
+        if count == 0 {
+            break;
+        }
+        if given == LONGEST_SCRIPT {
+            let _partial = listener.partial();
+            return Err(RunFault::TooLong);
+        }
+        hear(alloc, &mut listener, &piece[..count], sink)?;
+        if listener.has_quit() {
+            return Ok(());
+        }
+        given += count;
+    }
+    close(alloc, &mut listener, sink)?;
+    Ok(())
+}
