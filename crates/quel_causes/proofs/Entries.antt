@@ -1,26 +1,26 @@
 -- What stands under a key of a database: entries, ranges and catalogues.
 use Rattle.std.proofs.Common.{◌≡◌, refl, sym, ap, ◌∙◌, subst, ℕ, Bool, true, false, not, ◌||◌, ◌&&◌, cond, List, [], ◌∷◌, ◌++◌, map, Option, Some, None, is_some, codes}
-use Rattle.std.specs.List.{find, list_any, list_all, flat_map}
+use Rattle.std.specs.List.{find, flat_map}
 use Rattle.std.specs.Option.{option_map, option_or}
 use Rattle.std.specs.Str.{bytes_eq}
-use Rattle.std.proofs.lemmas.List.Folds.{find-append, list_any-append}
+use Rattle.std.proofs.lemmas.List.Folds.{find-append}
 use Rattle.calculus.specs.declared.query.RelKey.{RelKey}
 use Rattle.calculus.specs.declared.schema.Attr.{Attr}
 use Rattle.calculus.specs.declared.schema.RelInfo.{RelInfo}
 use Rattle.calculus.specs.declared.schema.Spec.{Spec}
 use Rattle.calculus.specs.declared.schema.Spec.TheVariants as spec
 use Rattle.calculus.specs.Keys.{same_key, key_of}
-use Rattle.calculus.specs.Lists.{is_any, differ_by}
+use Rattle.calculus.specs.Lists.{is_any}
 use Rattle.calculus.specs.Database.{Db, Relation, Index, View, entries, entry_at, relation_at, view_at, index_at, is_relation}
 use Rattle.calculus.specs.Rows.{set_of}
 use Rattle.calculus.specs.Name.{is_name}
-use Rattle.calculus.specs.Catalogue.{catalogue_at, is_catalogue_name, relation_key, attribute_key, relation_info, attribute_info, relation_row, attribute_rows, all_entries}
+use Rattle.calculus.specs.Catalogue.{catalogue_at, is_catalogue_name, relation_info, attribute_info, relation_row, attribute_rows, all_entries}
 use Rattle.calculus.specs.IsDatabase.{IsDatabase, key_is_named, index_stands, keys_stand}
 use Rattle.calculus.specs.Stored.{Range, Kept, Viewed, range_at, range_info, info_at, attrs_in, attrs_at, kinds_at}
 use Rattle.am_traits.specs.Told.{known_at}
 use Rattle.quel_meaning.specs.Passing.{is_taken}
-use Rattle.quel_meaning.proofs.Each.{left, right, not_not}
-use Rattle.quel_meaning.proofs.Keys.{find_passes, same_keys, keys_same}
+use Rattle.quel_meaning.proofs.Each.{left, right}
+use Rattle.quel_meaning.proofs.Keys.{find_passes, same_keys}
 use Rattle.quel_meaning.proofs.DatabaseFacts.{found_passes}
 
 -- ---- catalogues

@@ -1,6 +1,5 @@
 pub mod Counting
 pub mod Entries
-pub mod First
 pub mod Fits
 pub mod Standing
 pub mod TooMany

@@ -1,6 +1,6 @@
 -- What is known of views once the views in them are put in.
-use Rattle.std.proofs.Common.{◌≡◌, refl, sym, ap, ◌∙◌, ℕ, zero, suc, ◌+◌, ◌-◌, ◌^◌, ◌<◌, ◌≤◌, min, nat_le, arith, Bool, true, false, not, ◌||◌, ◌&&◌, cond, List, [], ◌∷◌, ◌++◌, map, length, Option, Some, None, Result, Ok, Err}
-use Rattle.std.specs.List.{find, list_any, list_all}
+use Rattle.std.proofs.Common.{◌≡◌, refl, sym, ap, ◌∙◌, ℕ, zero, suc, ◌-◌, ◌^◌, ◌<◌, ◌≤◌, min, nat_le, arith, Bool, true, false, not, ◌||◌, ◌&&◌, cond, List, [], ◌∷◌, ◌++◌, map, length, Option, Some, None, Result, Ok, Err}
+use Rattle.std.specs.List.{find, list_any}
 use Rattle.std.specs.Option.{option_map, option_or}
 use Rattle.std.specs.Result.{IfOk}
 use Rattle.std.proofs.lemmas.Bool.{leb-true}
@@ -12,14 +12,14 @@ use Rattle.calculus.specs.declared.schema.RelInfo.{RelInfo}
 use Rattle.calculus.specs.Keys.{same_key}
 use Rattle.calculus.specs.Lists.{differ_by}
 use Rattle.calculus.specs.Limits.{most_expanded_variables}
-use Rattle.calculus.specs.Database.{Db, Relation, View, entries, relation_at, view_at}
+use Rattle.calculus.specs.Database.{Db, Relation, View, relation_at, view_at}
 use Rattle.calculus.specs.Catalogue.{catalogue_at}
 use Rattle.calculus.specs.IsDatabase.{IsDatabase}
 use Rattle.calculus.specs.QueryParts.{vars_of}
-use Rattle.calculus.specs.Sizes.{Measure, plain_measure, query_measure, range_measure, measure_within}
+use Rattle.calculus.specs.Sizes.{Measure, query_measure, range_measure, measure_within}
 use Rattle.calculus.specs.Stored.{Range, Kept, Viewed, range_at}
 use Rattle.am_traits.specs.Told.{query_at}
-use Rattle.quel_meaning.proofs.Keys.{find_passes, same_keys, keys_same}
+use Rattle.quel_meaning.proofs.Keys.{same_keys, keys_same}
 use Rattle.quel_meaning.proofs.DatabaseFacts.{found_passes}
 use Rattle.quel_causes.proofs.Entries.{find_mapped}
 

@@ -1,5 +1,5 @@
 -- Which statements are judged here, and the updates that they are.
-use Rattle.std.specs.Prelude.{ℕ, Bool, true, false, Option, Some, None}
+use Rattle.std.specs.Prelude.{Bool, true, false, Option, Some, None}
 use Rattle.calculus.specs.declared.query.Query.{Query}
 use Rattle.calculus.specs.declared.request.Update.{Update}
 use Rattle.calculus.specs.declared.statement.Statement.{Statement}

@@ -4,74 +4,19 @@ ghost use Rattle.std.proofs.Common.{subst};
 use super::*;
 use am_traits::{Base, BaseFault};
 use calculus::{
-    Attr, DbChange, Domain, Kind, List, Name, OutOfMemory, Permit, Place, Probe, QQual, QTerm,
-    Qual, Query, RelInfo, RelKey, Row, Rule, Spec, Statement, Target, TryCopy,
+    DbChange, Domain, Kind, Name, OutOfMemory, Permit, Place, Probe, Query, RelInfo, RelKey, Row,
+    Rule,
 };
 use std::alloc::Global;
 use std::test::*;
 
-/// A base that tells no database, and answers as one of the administrator ann with the relation
-/// `p (a = i2)` and the view `v (a = x.a, b = y.a)` over `x` and `y` in `p`.
+/// A base that tells no database, with so many entries, and nothing under any key.
 #[derive(Drop)]
-struct Small {
+struct Few {
     entries: u32,
 }
 
-fn name(alloc: Global, bytes: &[u8]) -> Result<Name, OutOfMemory> {
-    match Name::of(alloc, bytes)? {
-        Some(name) => Ok(name),
-        None => Err(OutOfMemory),
-    }
-}
-
-fn key(alloc: Global, bytes: &[u8]) -> Result<RelKey, OutOfMemory> {
-    let owner = name(alloc, b"ann")?;
-    let name = name(alloc, bytes)?;
-    Ok(RelKey { owner, name })
-}
-
-/// The only attribute of `p`.
-fn attrs(alloc: Global) -> Result<List<Attr>, OutOfMemory> {
-    let name = name(alloc, b"a")?;
-    let mut attrs = Vec::with_capacity(alloc, 1)?;
-    let kind = Kind::Of(Domain::I2);
-    attrs.push(Attr { name, kind })?;
-    Ok(List::of(attrs))
-}
-
-/// A target for the attribute of a variable over `p`.
-fn target(alloc: Global, title: &[u8], var: u8) -> Result<Target, OutOfMemory> {
-    let name = name(alloc, title)?;
-    let kind = Kind::Of(Domain::I2);
-    let term = QTerm::Attr { var, attr: 0 };
-    Ok(Target { name, kind, term })
-}
-
-/// Two targets, for the first variable and for one that may be there.
-fn targets(alloc: Global, second: u8) -> Result<List<Target>, OutOfMemory> {
-    let first = target(alloc, b"a", 0)?;
-    let other = target(alloc, b"b", second)?;
-    let mut targets = Vec::with_capacity(alloc, 2)?;
-    targets.push(first)?;
-    targets.push(other)?;
-    Ok(List::of(targets))
-}
-
-/// Two targets over so many variables over what has this name.
-fn query(alloc: Global, over: &[u8], many: u8, second: u8) -> Result<Query, OutOfMemory> {
-    let mut vars = Vec::new(alloc);
-    for _ in 0..many {
-        vars.push(key(alloc, over)?)?;
-    }
-    let targets = targets(alloc, second)?;
-    Ok(Query {
-        vars: List::of(vars),
-        targets,
-        qual: QQual::True,
-    })
-}
-
-impl Base for Small {
+impl Base for Few {
     ghost database = { λ _. None };
 
     ghost faults = { λ _. 0 };
@@ -82,8 +27,8 @@ impl Base for Small {
 
     ghost scanned = { λ _ _ _ h. absurd (subst (λ o. MatchOption o (Unit {0}) (λ _. ⊥)) h tt) };
 
-    fn dba(&mut self, alloc: Global) -> Result<Name, BaseFault> {
-        Ok(name(alloc, b"ann")?)
+    fn dba(&mut self, _alloc: Global) -> Result<Name, BaseFault> {
+        Err(BaseFault::OutOfMemory)
     }
 
     fn count(&mut self) -> Result<u32, BaseFault> {
@@ -99,18 +44,8 @@ impl Base for Small {
         Ok(None)
     }
 
-    fn info(&mut self, alloc: Global, key: &RelKey) -> Result<Option<RelInfo>, BaseFault> {
-        if key.name.bytes() != b"p".as_slice() {
-            return Ok(None);
-        }
-        let key = key.copy(alloc)?;
-        let attrs = attrs(alloc)?;
-        Ok(Some(RelInfo {
-            key,
-            spec: Spec::Heap,
-            attrs,
-            keys: List::of(Vec::new(alloc)),
-        }))
+    fn info(&mut self, _alloc: Global, _key: &RelKey) -> Result<Option<RelInfo>, BaseFault> {
+        Ok(None)
     }
 
     fn size(&mut self, _alloc: Global, _key: &RelKey) -> Result<u32, BaseFault> {
@@ -131,11 +66,8 @@ impl Base for Small {
         Ok(None)
     }
 
-    fn view(&mut self, alloc: Global, key: &RelKey) -> Result<Option<Query>, BaseFault> {
-        if key.name.bytes() != b"v".as_slice() {
-            return Ok(None);
-        }
-        Ok(Some(query(alloc, b"p", 2, 1)?))
+    fn view(&mut self, _alloc: Global, _key: &RelKey) -> Result<Option<Query>, BaseFault> {
+        Ok(None)
     }
 
     fn rules(&mut self, alloc: Global, _key: &RelKey) -> Result<Vec<Rule>, BaseFault> {
@@ -162,99 +94,53 @@ impl Base for Small {
     fn hand_over(&mut self) {}
 }
 
-fn let_go(_s: Statement) {}
-
-fn let_query_go(_q: Query) {}
-
-/// What refuses the statement, where so many entries are there, and it asks for two targets over so
-/// many variables over `p`; 0 where the base failed.
-fn refused(
-    alloc: Global,
-    entries: u32,
-    s: &Statement,
-    many: u8,
-    second: u8,
-) -> Result<Option<u8>, OutOfMemory> {
-    let user = name(alloc, b"ann")?;
-    let q = query(alloc, b"p", many, second)?;
-    let found = cause(alloc, &mut Small { entries }, &user, s, &q, None);
-    let_query_go(q);
-    Ok(found.unwrap_or(Some(0)))
+fn name(alloc: Global, bytes: &[u8]) -> Result<Name, OutOfMemory> {
+    match Name::of(alloc, bytes)? {
+        Some(name) => Ok(name),
+        None => Err(OutOfMemory),
+    }
 }
 
-fn two_attrs(alloc: Global, second: &[u8]) -> Result<List<(Name, Domain)>, OutOfMemory> {
+/// Whether the name is in use where nothing is there; nothing where the base failed.
+fn taken(alloc: Global, bytes: &[u8]) -> Result<Option<bool>, OutOfMemory> {
+    let name = name(alloc, bytes)?;
+    Ok(is_taken(alloc, &mut Few { entries: 0 }, &name, &name).ok())
+}
+
+#[test]
+fn only_catalogues_names_are_in_use_where_nothing_is_there(rt: HostRuntime) -> Result<(), Fail> {
+    let alloc = rt.alloc();
+    assert_eq!(rt; taken(alloc, b"p")?, Some(false));
+    assert_eq!(rt; taken(alloc, b"attribute")?, Some(true));
+    Ok(())
+}
+
+#[test]
+fn ten_thousand_entries_leave_no_room(rt: HostRuntime) -> Result<(), Fail> {
+    assert_eq!(rt; is_full(&mut Few { entries: 9_999 }).ok(), Some(false));
+    assert_eq!(rt; is_full(&mut Few { entries: 10_000 }).ok(), Some(true));
+    Ok(())
+}
+
+/// Whether a name stands twice among `a` and this one.
+fn twice(alloc: Global, other: &[u8]) -> Result<bool, OutOfMemory> {
     let first = name(alloc, b"a")?;
-    let second = name(alloc, second)?;
-    let mut attrs = Vec::with_capacity(alloc, 2)?;
-    attrs.push((first, Domain::I2))?;
-    attrs.push((second, Domain::I2))?;
-    Ok(List::of(attrs))
-}
-
-/// `create REL (a = i2, SECOND = i2)`
-fn create(alloc: Global, rel: &[u8], second: &[u8]) -> Result<Statement, OutOfMemory> {
-    let rel = name(alloc, rel)?;
-    let attrs = two_attrs(alloc, second)?;
-    Ok(Statement::Create { rel, attrs })
-}
-
-/// What refuses it where so many entries are there.
-fn created(
-    alloc: Global,
-    entries: u32,
-    rel: &[u8],
-    second: &[u8],
-) -> Result<Option<u8>, OutOfMemory> {
-    let s = create(alloc, rel, second)?;
-    let found = refused(alloc, entries, &s, 0, 0);
-    let_go(s);
-    found
+    let other = name(alloc, other)?;
+    repeats(alloc, [&first, &other].as_slice())
 }
 
 #[test]
-fn a_new_relation_is_refused_by_its_first_cause(rt: HostRuntime) -> Result<(), Fail> {
+fn a_name_stands_twice(rt: HostRuntime) -> Result<(), Fail> {
     let alloc = rt.alloc();
-    assert_eq!(rt; created(alloc, 3, b"r", b"b")?, None);
-    assert_eq!(rt; created(alloc, 3, b"p", b"a")?, Some(17));
-    assert_eq!(rt; created(alloc, 10_000, b"p", b"a")?, Some(14));
+    assert!(rt; twice(alloc, b"a")?);
+    assert!(rt; !twice(alloc, b"b")?);
     Ok(())
 }
 
 #[test]
-fn a_name_is_in_use(rt: HostRuntime) -> Result<(), Fail> {
-    let alloc = rt.alloc();
-    assert_eq!(rt; created(alloc, 3, b"p", b"b")?, Some(15));
-    assert_eq!(rt; created(alloc, 3, b"relation", b"b")?, Some(15));
-    Ok(())
-}
-
-fn sort_by(alloc: Global, title: &[u8]) -> Result<List<(Name, bool)>, OutOfMemory> {
-    let title = name(alloc, title)?;
-    let mut sort = Vec::with_capacity(alloc, 1)?;
-    sort.push((title, false))?;
-    Ok(List::of(sort))
-}
-
-/// What refuses a `retrieve` of two targets that is printed in the order of this title.
-fn printed(alloc: Global, many: u8, second: u8, title: &[u8]) -> Result<Option<u8>, OutOfMemory> {
-    let sort = sort_by(alloc, title)?;
-    let s = Statement::Retrieve {
-        into: None,
-        items: List::of(Vec::new(alloc)),
-        qual: Qual::True,
-        sort,
-    };
-    let found = refused(alloc, 3, &s, many, second);
-    let_go(s);
-    found
-}
-
-#[test]
-fn a_retrieve_is_refused_by_its_first_cause(rt: HostRuntime) -> Result<(), Fail> {
-    let alloc = rt.alloc();
-    assert_eq!(rt; printed(alloc, 2, 1, b"b")?, None);
-    assert_eq!(rt; printed(alloc, 2, 1, b"c")?, Some(12));
-    assert_eq!(rt; printed(alloc, 2, 2, b"c")?, Some(13));
-    assert_eq!(rt; printed(alloc, 11, 2, b"c")?, Some(14));
+fn four_wide_texts_are_too_wide(rt: HostRuntime) -> Result<(), Fail> {
+    let text = Kind::Of(Domain::C(250));
+    assert!(rt; !is_too_wide([text, text, text, text].as_slice()));
+    assert!(rt; is_too_wide([text, text, text, text, Kind::Wide].as_slice()));
     Ok(())
 }

@@ -1,4 +1,4 @@
-use Rattle.std.proofs.Common.{sym, ◌∙◌, ap, ◌&&◌, map, vec_items, true, false}
+use Rattle.std.proofs.Common.{sym, ◌∙◌, ap, map, vec_items, true, false}
 use Rattle.std.specs.List.{list_all}
 use Rattle.calculus.specs.IsDatabase.{has_kind}
 use Rattle.calculus.specs.Kinds.{kind_of, kinds_fit}

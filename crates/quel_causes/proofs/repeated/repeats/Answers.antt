@@ -1,4 +1,4 @@
-use Rattle.std.proofs.Common.{sym, ◌∙◌, ap, not, rules}
+use Rattle.std.proofs.Common.{sym, ◌∙◌, rules}
 use Rattle.quel_causes.proofs.Twice.{one_more, one_seen, some_repeat}
 use Rattle.quel_causes.proofs.repeated.repeats.Goals as goal
 

@@ -1,7 +1,5 @@
-use Rattle.std.proofs.Common.{sym, ◌∙◌, ap, ◌||◌, take}
-use Rattle.std.specs.List.{list_any}
+use Rattle.std.proofs.Common.{◌∙◌, ap, ◌||◌}
 use Rattle.std.specs.Str.{bytes_eq}
-use Rattle.quel_check.proofs.Declared.{flip}
 use Rattle.quel_causes.proofs.Twice.{among_more, title_more}
 use Rattle.quel_causes.proofs.repeated.titles.Goals as goal
 

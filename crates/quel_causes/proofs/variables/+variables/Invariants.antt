@@ -1,4 +1,4 @@
-use Rattle.std.proofs.Common.{◌≡◌, ℕ, ◌+◌, ◌*◌, ◌-◌, ◌^◌, ◌≤◌, min, take, Some}
+use Rattle.std.proofs.Common.{◌≡◌, ◌+◌, ◌*◌, ◌-◌, ◌^◌, ◌≤◌, min, take, Some}
 use Rattle.calculus.specs.Database.{Db}
 use Rattle.calculus.specs.Lists.{is_any}
 use Rattle.calculus.specs.Sizes.{measure_within}
