@@ -1,0 +1,4 @@
+mod After
+mod ByKind
+mod Failing
+mod Few
