@@ -13,7 +13,6 @@ use Rattle.update_change.specs.Causes.{IsCause, IsCaused, MayFail, HasCause, Wou
 use Rattle.update_change.specs.Changes.{is_into}
 use Rattle.update_change.specs.Named.{named_of}
 use Rattle.update_change.proofs.Few.{no_more_named}
-use Rattle.update_change.proofs.ByKind.{none_before}
 
 -- where more of these rows would stand than may, more would in each database that is told
 may_fail : (u : Update) (ps : List Pair) (told : Option Db) (before now : ℕ) (rows : List Row) (fault : UpdateFault)
@@ -34,15 +33,3 @@ named_fails {T = T} u ps told before now rows fault result is later ascend named
     more : (db : Db) → told ≡ Some db → most_rows < length (after rows ps) → most_rows < length (after (rows_at db u.rel) ps)
     more db e many =
         omega (arith, many, ap (λ rows. length (after rows ps)) (named db e), no_more_named (rows_at db u.rel) ps (ascend db e))
-
-caused_made : {T : Type 0} (u : Update) (ps : List Pair) (told : Option Db) (before : ℕ) (result : Result T UpdateFault) → is_into u.op ≡ true
-    → ((fault : UpdateFault) → result ≡ Err fault → IsCause [] ps fault) → IsCaused u ps told before before result
-caused_made u ps told before (Ok x) into cause = tt
-caused_made u ps told before (Err fault) into cause =
-    may_fail u ps told before before [] fault
-    (λ db e many new. subst (λ rows. most_rows < length (after rows ps)) (sym (none_before db u into new)) many) (cause fault (λ i. Err fault))
-
--- a fault where a relation is made
-pub made_fails : {T : Type 0} (u : Update) (ps : List Pair) (told : Option Db) (before : ℕ) (result : Result T UpdateFault) → is_into u.op ≡ true
-    → ((fault : UpdateFault) → result ≡ Err fault → IsCause [] ps fault) → HasCause {T = T} u ps told before before result
-made_fails u ps told before result into cause = record { later = omega arith; caused = caused_made u ps told before result into cause }

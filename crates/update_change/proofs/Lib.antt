@@ -1,4 +1,4 @@
 mod After
-mod ByKind
 mod Failing
 mod Few
+mod TargetsRead

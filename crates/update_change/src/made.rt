@@ -45,7 +45,7 @@ fn made_attrs(alloc: Global, targets: &[Target]) -> Result<Vec<Attr>, OutOfMemor
 }
 
 /// What is known of the relation that an update makes.
-#[tactic(auto, using(crate::proofs::ByKind::targets_is))]
+#[tactic(auto, using(crate::proofs::TargetsRead::targets_is))]
 fn made_info(alloc: Global, u: &Update) -> Result<RelInfo, OutOfMemory>
     ensures { IfOk result (λ info. info ≡ made_info u.now) }
 {
