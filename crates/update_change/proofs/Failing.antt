@@ -1,5 +1,5 @@
 -- A fault over given rows is one that may come where a database is told.
-use Rattle.std.proofs.Common.{◌≡◌, sym, ap, subst, ℕ, ◌≤◌, ◌<◌, true, List, [], length, Option, Some, Result, Ok, Err, arith}
+use Rattle.std.proofs.Common.{◌≡◌, sym, ap, subst, ℕ, ◌≤◌, ◌<◌, List, length, Option, Some, Result, Err, arith}
 use Rattle.calculus.specs.declared.change.Pair.{Pair}
 use Rattle.calculus.specs.declared.request.Update.{Update}
 use Rattle.calculus.specs.Database.{Db}
@@ -9,8 +9,7 @@ use Rattle.calculus.specs.Rows.{Row, Ascends}
 use Rattle.calculus.specs.Stored.{rows_at}
 use Rattle.update_change.specs.declared.fault.UpdateFault.{UpdateFault}
 use Rattle.update_change.specs.declared.fault.UpdateFault.TheVariants.{Contended, TooMany, Base, OutOfMemory}
-use Rattle.update_change.specs.Causes.{IsCause, IsCaused, MayFail, HasCause, WouldBeTooMany}
-use Rattle.update_change.specs.Changes.{is_into}
+use Rattle.update_change.specs.Causes.{IsCause, MayFail, HasCause, WouldBeTooMany}
 use Rattle.update_change.specs.Named.{named_of}
 use Rattle.update_change.proofs.Few.{no_more_named}
 
