@@ -1,0 +1,4 @@
+mod After
+mod Failing
+mod Few
+mod TargetsRead

@@ -1,0 +1,10 @@
+-- The targets of a query, as the program reads them.
+use Rattle.std.proofs.Common.{◌≡◌, sym, ap, ◌∙◌}
+use denote.Hole.Carrier.{roll}
+use Rattle.calculus.specs.declared.query.AggSource.TheBlock.{items_hidden-the_row-Target-5}
+use Rattle.calculus.specs.declared.query.Query.{Query, out-Query, roll-Query, roll-out-Query}
+use Rattle.calculus.specs.QueryParts.{targets_of}
+
+pub targets_is : (q : Query) → (out-Query q).targets ≡ targets_of q
+unfolding roll-Query roll
+targets_is q = sym (items_hidden-the_row-Target-5 (out-Query q).targets) ∙ ap targets_of (roll-out-Query q)

@@ -1,0 +1,42 @@
+-- Why an update makes no change.
+use Rattle.std.specs.Prelude.{◌≡◌, ℕ, ◌≤◌, ◌<◌, List, length, Option, Some, Result, Ok, Err, IsTrue, IsFalse, ⊤}
+use Rattle.calculus.specs.declared.change.Pair.{Pair}
+use Rattle.calculus.specs.declared.request.Update.{Update}
+use Rattle.calculus.specs.Database.{Db}
+use Rattle.calculus.specs.Limits.{most_rows}
+use Rattle.calculus.specs.Replacement.{after, contended}
+use Rattle.calculus.specs.Rows.{Row}
+use Rattle.calculus.specs.Stored.{rows_at}
+use Rattle.am_traits.specs.Causes.{MayCome}
+use Rattle.change_list.specs.Contention.{IsLeastContention}
+use Rattle.update_change.specs.Changes.{MakesNew}
+use Rattle.update_change.specs.declared.fault.UpdateFault.{UpdateFault}
+use Rattle.update_change.specs.declared.fault.UpdateFault.TheVariants.{Contended, TooMany, Base, OutOfMemory}
+
+-- the cause of a fault over given rows: an old row has different new rows, and the fault carries the least contention; or else more rows would stand than a relation may have; want of memory has none
+abbrev pub IsCause : List Row → List Pair → UpdateFault → Type 0
+IsCause rows ps (Contended old first second) = IsTrue (contended ps) × IsLeastContention ps old first second
+IsCause rows ps TooMany = IsFalse (contended ps) × (most_rows < length (after rows ps))
+IsCause rows ps (Base fault) = ⊥
+IsCause rows ps OutOfMemory = ⊤
+
+-- more rows would stand in this database than a relation may have, where an update that makes a relation finds none there
+abbrev pub WouldBeTooMany : Update → List Pair → Db → Type 0
+WouldBeTooMany u ps db = MakesNew db u → most_rows < length (after (rows_at db u.rel) ps)
+
+-- this fault may come: an old row has different new rows, and the fault carries the least contention; or else more rows would stand than a relation may have, where a database is told; a fault of the database where it may come; want of memory
+abbrev pub MayFail : Update → List Pair → Option Db → ℕ → ℕ → UpdateFault → Type 0
+MayFail u ps told before now (Contended old first second) = IsTrue (contended ps) × IsLeastContention ps old first second
+MayFail u ps told before now TooMany = IsFalse (contended ps) × ((db : Db) → told ≡ Some db → WouldBeTooMany u ps db)
+MayFail u ps told before now (Base fault) = MayCome told before now fault
+MayFail u ps told before now OutOfMemory = ⊤
+
+-- a change, or a fault that may come
+abbrev pub IsCaused : {T : Type 0} → Update → List Pair → Option Db → ℕ → ℕ → Result T UpdateFault → Type 0
+IsCaused u ps told before now (Ok x) = ⊤
+IsCaused u ps told before now (Err fault) = MayFail u ps told before now fault
+
+-- the count of faults never falls, and a fault comes only where it may
+pub record HasCause {T : Type 0} (u : Update) (ps : List Pair) (told : Option Db) (before now : ℕ) (result : Result T UpdateFault) : Type 0 where
+  pub later : before ≤ now
+  pub caused : IsCaused u ps told before now result

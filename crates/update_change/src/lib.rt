@@ -1,0 +1,16 @@
+//! The change that the pairs of an update make of a database.
+#![tactic(auto)]
+
+mod change;
+mod fault;
+mod limit;
+mod made;
+mod moved;
+mod named;
+mod pairs_change;
+
+pub use change::change_of;
+pub use fault::UpdateFault;
+
+#[cfg(test)]
+mod tests;

@@ -1,0 +1,80 @@
+//! The change that makes a relation of the new rows of pairs.
+
+ghost use Rattle.std.specs.Prelude.{◌≡◌, ◌≤◌, [], map, length, IsFalse, IfOk, IfErr, OnOk};
+ghost use Rattle.calculus.specs.declared.change.DbChange.TheVariants.{Create};
+ghost use Rattle.calculus.specs.Limits.{most_rows};
+ghost use Rattle.calculus.specs.Replacement.{after, contended, made_attr, made_info};
+ghost use Rattle.update_change.specs.Causes.{IsCause};
+
+use crate::UpdateFault;
+use crate::pairs_change::pairs_change;
+use calculus::{
+    Attr, DbChange, Domain, Kind, List, OutOfMemory, Pair, RelInfo, RowSet, Spec, Target, TryCopy,
+    Update,
+};
+use std::alloc::Global;
+
+/// The kind of the attribute that is made of a target: numbers of 64 bits become ones of 32.
+fn made_kind(target: &Target) -> Kind
+    ensures { result ≡ (made_attr target.now).kind }
+{
+    match target.kind {
+        Kind::Wide => Kind::Of(Domain::I4),
+        Kind::Of(domain) => Kind::Of(domain),
+    }
+}
+
+/// The attribute that is made of a target.
+fn made_attr(alloc: Global, target: &Target) -> Result<Attr, OutOfMemory>
+    ensures { IfOk result (λ attr. attr ≡ made_attr target.now) }
+{
+    let name = target.name.copy(alloc)?;
+    let kind = made_kind(target);
+    Ok(Attr { name, kind })
+}
+
+/// The attributes that are made of targets.
+fn made_attrs(alloc: Global, targets: &[Target]) -> Result<Vec<Attr>, OutOfMemory>
+    ensures { IfOk result (λ attrs. attrs.items ≡ map made_attr targets.now) }
+{
+    let mut attrs = Vec::new(alloc);
+    for target in targets {
+        attrs.push(made_attr(alloc, target)?)?;
+    }
+    Ok(attrs)
+}
+
+/// What is known of the relation that an update makes.
+#[tactic(auto, using(crate::proofs::TargetsRead::targets_is))]
+fn made_info(alloc: Global, u: &Update) -> Result<RelInfo, OutOfMemory>
+    ensures { IfOk result (λ info. info ≡ made_info u.now) }
+{
+    let key = u.rel.copy(alloc)?;
+    let attrs = List::of(made_attrs(alloc, u.query.targets.items())?);
+    let keys = List::of(Vec::new(alloc));
+    Ok(RelInfo {
+        key,
+        spec: Spec::Heap,
+        attrs,
+        keys,
+    })
+}
+
+/// The change that makes a relation with the set of the new rows. Asks no database.
+#[tactic(auto, using(crate::proofs::Few::all_come))]
+pub(crate) fn relation_made(
+    alloc: Global,
+    u: &Update,
+    pairs: &[Pair],
+) -> Result<DbChange, UpdateFault>
+    ensures change { IfOk result (λ c. c ≡ Create (made_info u.now) (after [] pairs.now)) }
+    ensures uncontended { OnOk result (IsFalse (contended pairs.now)) }
+    ensures few { OnOk result (length (after [] pairs.now) ≤ most_rows) }
+    ensures cause { IfErr result (IsCause [] pairs.now) }
+{
+    let none = RowSet::new(alloc);
+    let change = pairs_change(alloc, &none, pairs)?;
+    let info = made_info(alloc, u)?;
+    let rows = List::of(change.add.into_rows());
+    Ok(DbChange::Create { info, rows })
+}

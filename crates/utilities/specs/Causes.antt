@@ -1,0 +1,26 @@
+-- Why a utility makes no change.
+use Rattle.std.specs.Prelude.{◌≡◌, ℕ, ◌≤◌, List, Option, Some, Result, Ok, Err, IsFalse, ⊤}
+use Rattle.calculus.specs.declared.request.Utility.{Utility}
+use Rattle.calculus.specs.Database.{Db}
+use Rattle.am_traits.specs.Causes.{MayCome}
+use Rattle.quel_meaning.specs.Planned.{planned}
+use Rattle.utilities.specs.Built.{is_built}
+use Rattle.utilities.specs.declared.fault.UtilFault.{UtilFault}
+use Rattle.utilities.specs.declared.fault.UtilFault.TheVariants.{NotBuilt, No, Base, OutOfMemory}
+
+-- this fault may come: the utility isn't built; or the cause of this number refuses it, where a database is told; a fault of the database where it may come; want of memory
+abbrev pub MayFail : List ℕ → Utility → Option Db → ℕ → ℕ → UtilFault → Type 0
+MayFail user u told before now NotBuilt = IsFalse (is_built u)
+MayFail user u told before now (No number) = (db : Db) → told ≡ Some db → planned db user u ≡ Err number
+MayFail user u told before now (Base fault) = MayCome told before now fault
+MayFail user u told before now OutOfMemory = ⊤
+
+-- a change, or a fault that may come
+abbrev pub IsCaused : {T : Type 0} → List ℕ → Utility → Option Db → ℕ → ℕ → Result T UtilFault → Type 0
+IsCaused user u told before now (Ok x) = ⊤
+IsCaused user u told before now (Err fault) = MayFail user u told before now fault
+
+-- the count of faults never falls, and a fault comes only where it may
+pub record HasCause {T : Type 0} (user : List ℕ) (u : Utility) (told : Option Db) (before now : ℕ) (result : Result T UtilFault) : Type 0 where
+  pub later : before ≤ now
+  pub caused : IsCaused user u told before now result
