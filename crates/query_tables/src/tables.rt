@@ -31,12 +31,9 @@ pub fn table_of<B: Base>(alloc: Global, base: &mut B, asked: &Asked) -> Result<T
     ensures cause { HasOneCause (tabled []) asked.now.query (B.database base.old) (B.faults base.old) (B.faults base.new) result }
 {
     let set = answer(alloc, base, &asked.query, &[])?;
-    let columns = columns_of(alloc, asked.query.targets.items())?;
-    let rows = sorted(set.into_rows(), asked.sort.items());
-    Ok(Table {
-        columns: List::of(columns),
-        rows: List::of(rows),
-    })
+    let columns = List::of(columns_of(alloc, asked.query.targets.items())?);
+    let rows = List::of(sorted(set.into_rows(), asked.sort.items()));
+    Ok(Table { columns, rows })
 }
 
 /// The table behind the others.
@@ -67,5 +64,6 @@ pub fn tables_of<B: Base>(
         let table = table_of(alloc, base, one)?;
         put_behind(&mut tables, table)?;
     }
-    Ok(List::of(tables))
+    let tables = List::of(tables);
+    Ok(tables)
 }

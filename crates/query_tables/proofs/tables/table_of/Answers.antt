@@ -7,6 +7,6 @@ use Rattle.query_tables.proofs.tables.table_of.Goals as goal
 pub returns-clause-told : goal.returns-clause-told
 returns-clause-told g c = λ db e none.
     let asked = c.args.asked.now in
-    made_table db asked c.of.result c.of-2.result
-    (c.of.ensures ∙ c.in_ok-columns.ensures ∙ ap (map column_of) (c.items.ensures ∙ targets_is asked.query))
-    (c.of-2.ensures ∙ c.sorted-rows.ensures ∙ ap (λ keys. sorted keys c.into_rows.result.items) c.items-2.ensures ∙ ap (sorted asked.sort) (c.into_rows.ensures.rows ∙ c.in_ok-set.ensures.plain db e none))
+    made_table db asked c.of-columns.result c.of-rows.result
+    (c.of-columns.ensures ∙ c.in_ok-columns_of.ensures ∙ ap (map column_of) (c.items.ensures ∙ targets_is asked.query))
+    (c.of-rows.ensures ∙ c.sorted.ensures ∙ ap (λ keys. sorted keys c.into_rows.result.items) c.items-2.ensures ∙ ap (sorted asked.sort) (c.into_rows.ensures.rows ∙ c.in_ok-set.ensures.plain db e none))

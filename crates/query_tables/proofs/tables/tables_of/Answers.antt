@@ -41,7 +41,7 @@ loop-one-preserved g c = record {
 }
 
 pub returns-clause-told : goal.returns-clause-told
-returns-clause-told g c = λ db e none. c.of.ensures ∙ c.loop-one.invariant.told db e none ∙ ap (map (table_of db Free)) (take_all c.loop-one.one-index c.args.asked.now (omega arith))
+returns-clause-told g c = λ db e none. c.of-tables.ensures ∙ c.loop-one.invariant.told db e none ∙ ap (map (table_of db Free)) (take_all c.loop-one.one-index c.args.asked.now (omega arith))
 
 pub returns-clause-none_lacks : goal.returns-clause-none_lacks
 returns-clause-none_lacks g c = λ db e none. ap (some_query_lacks db Free) (sym (take_all c.loop-one.one-index c.args.asked.now (omega arith))) ∙ c.loop-one.invariant.none_lacks db e none
