@@ -1,0 +1,3 @@
+pub mod Ordered
+pub mod Keys
+pub mod Tabling
