@@ -14,11 +14,7 @@ use calculus::{Attr, DbChange, List, Name, OutOfMemory, RelInfo, RelKey, Spec, T
 use std::alloc::Global;
 
 /// The change that makes a relation without rows: a heap with these attributes.
-fn relation_made(
-    alloc: Global,
-    rel: &RelKey,
-    attrs: &List<Attr>,
-) -> Result<DbChange, OutOfMemory>
+fn relation_made(alloc: Global, rel: &RelKey, attrs: &List<Attr>) -> Result<DbChange, OutOfMemory>
     ensures { IfOk result (λ c. c ≡ Create (heap_info rel.now attrs.now) []) }
 {
     let info = RelInfo {
