@@ -1,5 +1,5 @@
 -- What is planned is lawful.
-use Rattle.std.proofs.Common.{◌≡◌, refl, sym, ap, ◌∙◌, subst, ℕ, ◌<◌, nat_le, nat_lt, Bool, true, false, ◌&&◌, ◌||◌, not, IsTrue, List, [], length, Option, Some, None, Result, Ok, Err, arith}
+use Rattle.std.proofs.Common.{◌≡◌, refl, sym, ap, ◌∙◌, subst, ℕ, ◌<◌, nat_eq, nat_le, nat_lt, Bool, true, false, ◌&&◌, ◌||◌, not, IsTrue, List, [], length, Option, Some, None, Result, Ok, Err, arith}
 use Rattle.std.specs.List.{list_all}
 use Rattle.std.proofs.lemmas.Bool.{lt-ltb, leb-false}
 use Rattle.calculus.specs.declared.change.DbChange.{DbChange}
@@ -17,7 +17,10 @@ use Rattle.calculus.specs.IsDatabase.{IsDatabase, key_is_named, attrs_stand, are
 use Rattle.calculus.specs.Limits.{most_entries}
 use Rattle.calculus.specs.Name.{is_name}
 use Rattle.calculus.specs.Stored.{kept_rows, rows_at}
-use Rattle.quel_meaning.specs.Fit.{is_new, relation_fits, update_fits, utility_fits}
+use Rattle.calculus.specs.Limits.{most_expanded_variables}
+use Rattle.calculus.specs.Sizes.{update_expanded_variables}
+use Rattle.quel_meaning.specs.Fit.{is_new, checks_fit, places_fit, update_kinds_fit, relation_fits, update_fits, utility_fits}
+use Rattle.quel_meaning.specs.KindsInQueries.{assignments_fit}
 use Rattle.quel_meaning.specs.FitQueries.{kept, reads_fit}
 use Rattle.quel_meaning.specs.Passing.{is_full, is_taken}
 use Rattle.quel_meaning.specs.Planned.{planned}
@@ -62,12 +65,16 @@ free db rel new spelled =
 module _ (db : Db) (u : Update) where
   relation_of : update_fits (kept db) db u ≡ true → relation_fits db u ≡ true
   unfolding update_fits
-  relation_of h = right _ _ (right _ _ (right _ _ (right _ _ (right _ _ (right (reads_fit (kept db) db u.query) _ h)))))
+  relation_of h =
+      right (checks_fit db u) _ (right (places_fit db u) _
+      (right (nat_le (update_expanded_variables db u) most_expanded_variables) _
+      (right (assignments_fit db u) _ (right (update_kinds_fit db u.query) _ (right (reads_fit (kept db) db u.query) _ h)))))
 
   pub makes_new : IsDoableUpdate db u → IsTrue (key_is_spelled u.rel) → MakesNew db u
   makes_new doable spelled into =
-      let fits = subst (λ does. relation_fits db (record u { op = does }) ≡ true) into (relation_of doable.fits) in
-      let f = free db u.rel (left _ _ (right _ _ fits)) spelled in
+      let fits : relation_fits db (record u { op = op.Into }) ≡ true = subst (λ does. relation_fits db (record u { op = does }) ≡ true) into (relation_of doable.fits) in
+      let room = left (is_new db u.rel.owner u.rel.name) _ (right (nat_eq u.old 255) _ fits) in
+      let f = free db u.rel room spelled in
       ap kept_rows (nothing_ranges db u.rel f.named f.unused)
 
   pub vars_kept : IsDoableUpdate db u → IsTrue (list_all (is_kept db) (vars_of u.query))
