@@ -2,7 +2,7 @@ use Rattle.stage_proc.specs.declared.fault.PairFault.{PairFault}
 use Rattle.stage_proc.specs.declared.fault.PairFault.TheVariants.{Query}
 use Rattle.std.proofs.Common.{[], subst}
 use Rattle.calculus.specs.Table.{tabled}
-use Rattle.stage_proc.specs.Causes.{HasCause, IsCaused, MayFail}
+use Rattle.stage_proc.specs.Causes.{MayFail}
 use Rattle.plain_statements.proofs.Outcomes.{lacking_refused, unfit_refused}
 use Rattle.plain_statements.proofs.pairing.paired.Goals as goal
 

@@ -16,4 +16,4 @@ returns-clause-told g c = λ db e.
     let new = makes_new db c.args.u.now (c.requires db e) (left (key_is_spelled c.args.u.now.rel) (query_is_spelled c.args.u.now.query) c.update_is_spelled.ensures) in
     let are = subst (ArePairs db c.args.u.now) (sym c.deref.ensures.value) (c.in_ok-pairs.ensures.told db e) in
     update_lawful db c.args.u.now (g.B.Base.lawful c.args.base.now db e) (c.requires db e) c.update_is_spelled.ensures c.changed_by.result
-      (c.changed_by.ensures.told db (c.paired.ensures.kept ∙ e) new are)
+    (c.changed_by.ensures.told db (c.paired.ensures.kept ∙ e) new are)
