@@ -1,0 +1,32 @@
+-- What a run of a script says of sessions, as the top call says it.
+use Rattle.std.proofs.Common.{◌≡◌, ◌⊎◌, refl, subst, ℕ, true, List, [], Some, None}
+use Rattle.std.specs.declared.option.Option.{Option}
+use Rattle.std.specs.Io.KnownBytes.{Appends}
+use Rattle.fault_io.specs.Told.{IsFront, GrewBy}
+use Rattle.plain_statements.specs.Built.{built}
+use Rattle.quel_meaning.specs.Meaning.{meaning}
+use Rattle.quel_meaning.specs.Session.{Session, session, output}
+use Rattle.session_run.specs.Doing.{Meaning}
+use Rattle.session_run.specs.Runs as runs
+use Rattle.ingres_top.specs.Top.{nothing_yet, whole, within, IsDone, IsPartlyDone, IsCutOff, CutOff}
+
+-- what each statement means for the user
+abbrev pub of_user : List ℕ → Meaning
+of_user user state s = meaning built state user s
+
+pub same_whole : (user script : List ℕ) → runs.whole (of_user user) (nothing_yet user) script ≡ whole user script
+unfolding session
+same_whole user script = refl
+
+pub done_is : (user : List ℕ) (left0 left1 w0 w1 : Option (List ℕ)) → runs.IsDone (of_user user) (nothing_yet user) left0 left1 w0 w1 → IsDone user left0 left1 w0 w1
+done_is user None left1 w0 w1 done = done
+done_is user (Some script) left1 w0 w1 done =
+    subst (λ (s : Session). ((left1 ≡ Some []) ⊎ (s.quit ≡ true)) × Appends w0 w1 (output s)) (same_whole user script) done
+
+pub partly_is : (user : List ℕ) (left0 w0 w1 : Option (List ℕ)) → runs.IsPartlyDone (of_user user) (nothing_yet user) left0 w0 w1 → IsPartlyDone user left0 w0 w1
+partly_is user None w0 w1 done = done
+partly_is user (Some script) w0 w1 done = subst (λ (s : Session). GrewBy w0 w1 (λ more. IsFront more (output s))) (same_whole user script) done
+
+pub cut_off_is : (user : List ℕ) (left0 left1 w0 w1 : Option (List ℕ)) → runs.IsCutOff (of_user user) (nothing_yet user) left0 left1 w0 w1 → IsCutOff user left0 left1 w0 w1
+cut_off_is user None left1 w0 w1 cut = cut
+cut_off_is user (Some script) left1 w0 w1 cut = record { read = cut.read; goes_on = cut.goes_on; printed = cut.printed }

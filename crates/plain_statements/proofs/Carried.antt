@@ -1,0 +1,90 @@
+-- What a statement asks for that is built here can be carried out.
+use Rattle.std.proofs.Common.{◌≡◌, refl, sym, ap, ◌∙◌, subst, ℕ, Bool, true, false, ◌&&◌, not, List, [], ◌∷◌, length, IsTrue, Option, Some, None, Ok, arith}
+use Rattle.std.specs.Prelude.{nat_eq, nat_lt, All}
+use Rattle.std.specs.List.{list_all}
+use Rattle.std.proofs.lemmas.List.Elements.{All-nil, All-cons}
+use Rattle.calculus.specs.declared.request.Checked.{Checked}
+use Rattle.calculus.specs.declared.request.Checked.TheVariants as checked
+use Rattle.calculus.specs.declared.request.Asked.{Asked}
+use Rattle.calculus.specs.declared.request.Update.{Update}
+use Rattle.calculus.specs.declared.request.UpdateOp.{UpdateOp}
+use Rattle.calculus.specs.declared.request.UpdateOp.TheVariants as op
+use Rattle.calculus.specs.declared.request.Utility.TheVariants as utility
+use Rattle.calculus.specs.declared.statement.Statement.{Statement}
+use Rattle.calculus.specs.declared.statement.Statement.TheVariants as statement
+use Rattle.calculus.specs.Database.{Db}
+use Rattle.calculus.specs.IsDatabase.{IsDatabase}
+use Rattle.calculus.specs.Lists.{is_any}
+use Rattle.calculus.specs.QueryParts.{vars_of, query_aggregates}
+use Rattle.quel_causes.specs.Judged.{is_judged}
+use Rattle.quel_meaning.specs.Fit.{fits, is_fit_with_views, update_fits, utility_fits}
+use Rattle.quel_meaning.specs.FitQueries.{kept, is_kept, kept_or_viewed}
+use Rattle.quel_meaning.specs.IsWritten.{is_written}
+use Rattle.quel_meaning.specs.Ranges.{Ranges}
+use Rattle.quel_meaning.specs.Resolved.{tree_of, resolved}
+use Rattle.quel_meaning.specs.Scope.{Scope}
+use Rattle.quel_meaning.specs.StatementUpdate.{append_of, replace_of, delete_of, into_of}
+use Rattle.quel_meaning.specs.WrittenParts.{text_aggregates}
+use Rattle.quel_meaning.specs.WrittenQuery.{query_of}
+use Rattle.quel_meaning.proofs.Accepted.{scope, accepted}
+use Rattle.quel_meaning.proofs.Each.{left, right}
+use Rattle.quel_meaning.proofs.FitResolved.{resolved_fits}
+use Rattle.quel_meaning.proofs.Slots.{as_many}
+use Rattle.owner_sessions.specs.Plain.{IsPlain}
+use Rattle.quel_resolve.specs.Built.{is_built}
+use Rattle.plain_statements.specs.Doable.{AreDoable, IsDoableUpdate, IsDoable}
+use Rattle.plain_statements.proofs.WithoutViews.{asked_kept, update_kept}
+
+-- ---- a query without aggregates
+
+none_of : {X Y : Type 0} (xs : List X) (ys : List Y) → length xs ≡ length ys → is_any ys ≡ false → xs ≡ []
+none_of [] ys e h = refl
+none_of (x ∷ xs) [] e h = absurd (omega (arith, e))
+none_of (x ∷ xs) (y ∷ ys) e h = absurd (cc h)
+
+isnt : (b : Bool) → not b ≡ true → b ≡ false
+isnt true h = cc h
+isnt false h = refl
+
+built_parts : (s : Statement) → is_built s ≡ true → (is_judged s ≡ true) × (is_any (text_aggregates s) ≡ false)
+unfolding is_built
+built_parts s h = (left _ _ h, isnt _ (right (is_judged s) _ h))
+
+-- ---- its tree
+
+module _ (s : Scope) (none : s.db.views ≡ []) where
+  one_asked : (a : Asked) → fits (kept_or_viewed s.db) s.db s.user (checked.Answer (a ∷ [])) ≡ true → query_aggregates a.query ≡ [] → AreDoable s.db (a ∷ [])
+  unfolding fits
+  one_asked a h plain = record {
+    read = All-cons _ a [] (asked_kept s.db none a (left _ _ h)) (All-nil _);
+    plain = All-cons _ a [] plain (All-nil _);
+  }
+
+  update_doable : (u : Update) → fits (kept_or_viewed s.db) s.db s.user (checked.Update u) ≡ true → query_aggregates u.query ≡ [] → IsDoableUpdate s.db u
+  unfolding fits
+  update_doable u h plain = record { fits = update_kept s.db none u h; plain = plain }
+
+  tree_doable : (stmt : Statement) → is_judged stmt ≡ true → query_aggregates (query_of s stmt) ≡ [] → is_fit_with_views s.db s.user (tree_of s stmt) ≡ true → IsDoable s.db (tree_of s stmt)
+  unfolding tree_of append_of replace_of delete_of into_of
+  tree_doable (statement.Range var rel) j plain h = record { read = All-nil _; plain = All-nil _ }
+  tree_doable (statement.Retrieve None items qual sort) j plain h = one_asked _ h plain
+  tree_doable (statement.Retrieve (Some name) items qual sort) j plain h = update_doable _ h plain
+  tree_doable (statement.Append rel items qual) j plain h = update_doable _ h plain
+  tree_doable (statement.Replace var items qual) j plain h = update_doable _ h plain
+  tree_doable (statement.Delete var qual) j plain h = update_doable _ h plain
+  tree_doable (statement.Create rel attrs) j plain h = work_doable rel attrs h
+    where
+      work_doable : (rel : List ℕ) (attrs : _) → is_fit_with_views s.db s.user (tree_of s (statement.Create rel attrs)) ≡ true → IsDoable s.db (tree_of s (statement.Create rel attrs))
+      unfolding tree_of fits utility_fits
+      work_doable rel attrs h = h
+  tree_doable stmt j plain h = absurd (cc j)
+
+pub resolved_doable : (db : Db) (user : List ℕ) (ranges : Ranges) (stmt : Statement) (tree : Checked) → IsDatabase db → IsPlain db user → is_built stmt ≡ true → is_written stmt ≡ true
+    → resolved db user ranges stmt ≡ Ok tree → IsDoable db tree
+resolved_doable db user ranges stmt tree is plain built written e =
+    let a = accepted db user ranges stmt tree e in
+    let parts = built_parts stmt built in
+    let none = none_of (query_aggregates (query_of (scope db user ranges) stmt)) (text_aggregates stmt) (as_many (scope db user ranges) stmt) parts.1 in
+    let fit = resolved_fits db user ranges stmt tree is written e in
+    subst (IsDoable db) a.is
+    (tree_doable (scope db user ranges) plain.own.no_views stmt parts.0 none (subst (λ t. is_fit_with_views db user t ≡ true) (sym a.is) fit))

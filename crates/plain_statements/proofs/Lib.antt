@@ -1,0 +1,5 @@
+pub mod Outcomes
+pub mod WithoutViews
+pub mod Carried
+pub mod Planned
+pub mod Runs

@@ -1,0 +1,76 @@
+-- What statements do in a plain state of the user's own.
+use Rattle.std.proofs.Common.{◌≡◌, refl, sym, ap, ◌∙◌, subst, ℕ, Bool, true, false, ◌&&◌, IsTrue, List, [], Option, Some, None, Result, Ok, Err}
+use Rattle.calculus.specs.declared.reply.Reply.{Reply}
+use Rattle.calculus.specs.declared.reply.Reply.TheVariants.{Refused, Nothing}
+use Rattle.calculus.specs.declared.request.Checked.{Checked}
+use Rattle.calculus.specs.declared.statement.Statement.{Statement}
+use Rattle.calculus.specs.declared.statement.Statement.TheVariants as statement
+use Rattle.calculus.specs.Database.{Db}
+use Rattle.calculus.specs.Finding.{found}
+use Rattle.calculus.specs.Who.{Free}
+use Rattle.quel_causes.specs.Judged.{is_judged}
+use Rattle.quel_meaning.specs.Copying.{refusal}
+use Rattle.quel_meaning.specs.Meaning.{meaning, meaning_by, built_outcome, range_outcome, is_range, tree_meaning, with_ranges}
+use Rattle.quel_meaning.specs.Ranges.{Ranges}
+use Rattle.quel_meaning.specs.Resolved.{resolved}
+use Rattle.owner_sessions.specs.Freely.{free_tree_outcome, free_statement_outcome, free_built_outcome, free_meaning}
+use Rattle.owner_sessions.specs.Plain.{IsPlain, IsPlainState, BuildsPlain, is_plain, empty_db}
+use Rattle.owner_sessions.proofs.FreeMeaning.{free_means}
+use Rattle.owner_sessions.proofs.Stays.{meaning_plain}
+use Rattle.quel_resolve.specs.Built.{is_built}
+use Rattle.plain_statements.specs.Built.{built}
+use Rattle.plain_statements.specs.Standing.{state_of, outcome_of, effect_of}
+
+module _ (db : Db) (ranges : Ranges) (user : List ℕ) (s : Statement) where
+  pub not_built : is_built s ≡ false → meaning built (state_of db ranges) user s ≡ outcome_of db ranges (Refused (refusal 9))
+  unfolding meaning_by
+  not_built e = ap (λ b. built_outcome b resolved (state_of db ranges) user s) e
+
+  runs : IsPlain db user → is_built s ≡ true → meaning built (state_of db ranges) user s ≡ free_statement_outcome (state_of db ranges) user s
+  unfolding free_meaning
+  runs plain e = free_means (state_of db ranges) user plain.own plain.no_rules built s ∙ ap (λ b. free_built_outcome b (state_of db ranges) user s) e
+
+-- a declaration of a variable
+pub range_runs : (db : Db) (ranges : Ranges) (user var rel : List ℕ) → IsPlain db user → is_built (statement.Range var rel) ≡ true
+    → meaning built (state_of db ranges) user (statement.Range var rel) ≡ range_outcome (state_of db ranges) var (found db user rel)
+unfolding free_statement_outcome
+range_runs db ranges user var rel plain e = runs db ranges user (statement.Range var rel) plain e
+
+-- each other statement
+by_tree : (db : Db) (ranges : Ranges) (user : List ℕ) (s : Statement) → is_range s ≡ false → free_statement_outcome (state_of db ranges) user s ≡ free_tree_outcome (state_of db ranges) user (resolved db user ranges s)
+unfolding free_statement_outcome
+by_tree db ranges user (statement.Range var rel) h = absurd (cc h)
+by_tree db ranges user s h = refl
+
+pub tree_runs : (db : Db) (ranges : Ranges) (user : List ℕ) (s : Statement) → IsPlain db user → is_built s ≡ true → is_range s ≡ false
+    → meaning built (state_of db ranges) user s ≡ free_tree_outcome (state_of db ranges) user (resolved db user ranges s)
+tree_runs db ranges user s plain e h = runs db ranges user s plain e ∙ by_tree db ranges user s h
+
+-- what a tree does is what its statement does
+pub tree_outcome : (db now : Db) (ranges : Ranges) (user : List ℕ) (s : Statement) (tree : Checked) (reply : Reply) → resolved db user ranges s ≡ Ok tree
+    → tree_meaning db [] Free user tree ≡ effect_of now reply
+    → free_tree_outcome (state_of db ranges) user (resolved db user ranges s) ≡ outcome_of now ranges reply
+tree_outcome db now ranges user s tree reply is h = ap (free_tree_outcome (state_of db ranges) user) is ∙ ap (with_ranges ranges) h
+
+-- what is refused stays
+pub refused_outcome : (db now : Db) (ranges : Ranges) (user : List ℕ) (s : Statement) (number : ℕ) → resolved db user ranges s ≡ Err number → now ≡ db
+    → free_tree_outcome (state_of db ranges) user (resolved db user ranges s) ≡ outcome_of now ranges (Refused (refusal number))
+refused_outcome db now ranges user s number is same =
+    ap (free_tree_outcome (state_of db ranges) user) is ∙ ap (λ db. outcome_of db ranges (Refused (refusal number))) (sym same)
+
+-- ---- the state stays plain
+
+builds_plain : BuildsPlain built
+unfolding is_built is_plain
+builds_plain (statement.Index base name keys) h = absurd (cc h)
+builds_plain (statement.View name items qual) h = absurd (cc h)
+builds_plain (statement.Permit ops var attrs user qual) h = absurd (cc h)
+builds_plain (statement.Rule var qual) h = absurd (cc h)
+builds_plain s h = refl
+
+pub stays_plain : (db now : Db) (old new : Ranges) (user : List ℕ) (s : Statement) (reply : Reply) → IsPlainState (state_of db old) user
+    → meaning built (state_of db old) user s ≡ outcome_of now new reply → IsPlainState (state_of now new) user
+stays_plain db now old new user s reply plain h = subst (λ o. IsPlainState o.state user) h (meaning_plain built (state_of db old) user s builds_plain plain)
+
+pub same_plain : (db now : Db) (old new : Ranges) (user : List ℕ) → IsPlainState (state_of db old) user → now ≡ db → new ≡ old → IsPlainState (state_of now new) user
+same_plain db now old new user plain d r = subst (λ state. IsPlainState state user) (λ i. state_of (sym d i) (sym r i)) plain

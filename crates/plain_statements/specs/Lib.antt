@@ -1,0 +1,4 @@
+pub mod Built
+pub mod Doable
+pub mod Plans
+pub mod Standing

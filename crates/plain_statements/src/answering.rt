@@ -1,0 +1,34 @@
+//! The reply to queries.
+
+ghost use Rattle.std.specs.Prelude.{◌≡◌, Some, IfOk};
+ghost use Rattle.calculus.specs.Database.{Db};
+ghost use Rattle.calculus.specs.Who.{Free};
+ghost use Rattle.quel_meaning.specs.Meaning.{answer_reply};
+ghost use Rattle.plain_statements.specs.Doable.{AreDoable};
+
+use crate::refusing::refused;
+use am_traits::Base;
+use calculus::{Asked, OutOfMemory, Reply};
+use query_tables::{QueryFault, tables_of};
+use std::alloc::Global;
+
+/// The number of a query of which a target has no value.
+const NO_VALUE: u8 = 20;
+
+/// The tables of queries, or the refusal where a target has no value.
+pub(crate) fn answered<B: Base>(
+    alloc: Global,
+    base: &mut B,
+    asked: &[Asked],
+) -> Result<Reply, OutOfMemory>
+    requires { (db : Db) → B.database base.old ≡ Some db → AreDoable db asked.now }
+    ensures told { (db : Db) → B.database base.old ≡ Some db → IfOk result (λ reply. reply ≡ answer_reply db Free asked.now) }
+    ensures kept { B.database base.new ≡ B.database base.old }
+{
+    match tables_of(alloc, base, asked) {
+        Ok(tables) => Ok(Reply::Tables(tables)),
+        Err(QueryFault::NoValue { at: _ }) => Ok(refused(NO_VALUE)),
+        Err(QueryFault::Base(_)) => Err(OutOfMemory),
+        Err(QueryFault::OutOfMemory) => Err(OutOfMemory),
+    }
+}

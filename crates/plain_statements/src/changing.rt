@@ -1,0 +1,46 @@
+//! The change that the pairs of an update make, or the number of what refuses it.
+
+ghost use Rattle.std.specs.Prelude.{◌≡◌, Some, Ok, Err};
+ghost use Rattle.calculus.specs.Database.{Db};
+ghost use Rattle.calculus.specs.Replacement.{updated};
+ghost use Rattle.calculus.specs.Who.{Free};
+ghost use Rattle.update_change.specs.Changes.{MakesNew};
+ghost use Rattle.plain_statements.specs.Plans.{Plans, ArePairs};
+
+use crate::Stopped;
+use am_traits::Base;
+use calculus::{DbChange, Pair, Update};
+use std::alloc::Global;
+use update_change::{UpdateFault, change_of};
+
+/// The number of an update by which a row would have different new rows.
+const CONTENDED: u8 = 22;
+
+/// The number of an update by which a relation would have too many rows.
+const TOO_MANY: u8 = 29;
+
+/// The change that an update makes, of whose pairs these are all.
+pub(crate) fn changed_by<B: Base>(
+    alloc: Global,
+    base: &mut B,
+    u: &Update,
+    pairs: &[Pair],
+) -> Result<DbChange, Stopped>
+    ensures told { (db : Db) → B.database base.old ≡ Some db → MakesNew db u.now → ArePairs db u.now pairs.now
+        → Plans (λ change. updated db Free u.now ≡ Ok change) (λ number. updated db Free u.now ≡ Err number) result }
+    ensures kept { B.database base.new ≡ B.database base.old }
+{
+    match change_of(alloc, base, u, pairs) {
+        Ok(change) => Ok(change),
+        Err(
+            UpdateFault::Contended {
+                old: _,
+                first: _,
+                second: _,
+            },
+        ) => Err(Stopped::No(CONTENDED)),
+        Err(UpdateFault::TooMany) => Err(Stopped::No(TOO_MANY)),
+        Err(UpdateFault::Base(_)) => Err(Stopped::OutOfMemory),
+        Err(UpdateFault::OutOfMemory) => Err(Stopped::OutOfMemory),
+    }
+}

@@ -1,0 +1,17 @@
+//! Runs one statement after the other on a database in memory.
+#![tactic(auto)]
+
+mod answering;
+mod carrying;
+mod changing;
+mod pairing;
+mod planning;
+mod refusing;
+mod running;
+mod session;
+mod stopped;
+mod trees;
+mod working;
+
+pub use session::PlainStatements;
+pub(crate) use stopped::Stopped;

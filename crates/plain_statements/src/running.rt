@@ -1,0 +1,116 @@
+//! Runs a statement of the user's on a database in memory and the range variables.
+
+ghost use Rattle.std.specs.Prelude.{◌≡◌, true, false, IfOk, OnErr};
+ghost use Rattle.calculus.specs.Finding.{found};
+ghost use Rattle.quel_meaning.specs.IsWritten.{is_written};
+ghost use Rattle.quel_meaning.specs.Meaning.{meaning, range_outcome};
+ghost use Rattle.quel_meaning.specs.Resolved.{resolved};
+ghost use Rattle.owner_sessions.specs.Freely.{free_tree_outcome};
+ghost use Rattle.owner_sessions.specs.Plain.{IsPlain, IsPlainState};
+ghost use Rattle.quel_resolve.specs.Built.{is_built};
+ghost use Rattle.plain_base.specs.Shown.{database_of};
+ghost use Rattle.plain_statements.specs.Built.{built};
+ghost use Rattle.plain_statements.specs.Standing.{state_of, outcome_of};
+
+use crate::Stopped;
+use crate::carrying::tree_done;
+use crate::refusing::refused;
+use crate::trees::tree_of;
+use am_traits::Base;
+use calculus::{Name, OutOfMemory, Reply, Statement, TryCopy};
+use plain_base::DbPlain;
+use quel_check::RangeTable;
+use quel_resolve::is_built;
+use std::alloc::Global;
+
+/// The number of a statement that isn't built.
+const NOT_BUILT: u8 = 9;
+
+/// The number of an unknown relation.
+const NO_RELATION: u8 = 10;
+
+/// Declares a range variable over what the user means by a name.
+fn declared(
+    alloc: Global,
+    base: &mut DbPlain,
+    ranges: &mut RangeTable,
+    user: &Name,
+    var: &Name,
+    rel: &Name,
+) -> Result<Reply, OutOfMemory>
+    ensures done { IfOk result (λ reply. range_outcome (state_of (database_of base.old) ranges.old) var.now (found (database_of base.old) user.now rel.now) ≡ outcome_of (database_of base.new) ranges.new reply) }
+    ensures kept { database_of base.new ≡ database_of base.old }
+    ensures same { OnErr result (ranges.new ≡ ranges.old) }
+{
+    match base.find(alloc, rel, user) {
+        Ok(Some(info)) => {
+            ranges.declare(var.copy(alloc)?, info.key)?;
+            Ok(Reply::Nothing)
+        }
+        Ok(None) => Ok(refused(NO_RELATION)),
+        Err(_) => Err(OutOfMemory),
+    }
+}
+
+/// Carries out a statement that is built here and has a tree; or refuses it.
+fn carried_out(
+    alloc: Global,
+    base: &mut DbPlain,
+    ranges: &RangeTable,
+    user: &Name,
+    s: &Statement,
+) -> Result<Reply, OutOfMemory>
+    requires plain { IsPlain (database_of base.old) user.now }
+    requires built { is_built s.now ≡ true }
+    requires written { is_written s.now ≡ true }
+    ensures done { IfOk result (λ reply. free_tree_outcome (state_of (database_of base.old) ranges.now) user.now (resolved (database_of base.old) user.now ranges.now s.now) ≡ outcome_of (database_of base.new) ranges.now reply) }
+    ensures same { OnErr result (database_of base.new ≡ database_of base.old) }
+{
+    match tree_of(alloc, base, user, ranges, s) {
+        Ok(tree) => tree_done(alloc, base, user, &tree),
+        Err(Stopped::No(number)) => Ok(refused(number)),
+        Err(Stopped::OutOfMemory) => Err(OutOfMemory),
+    }
+}
+
+/// Runs a statement that is built here.
+fn built_run(
+    alloc: Global,
+    base: &mut DbPlain,
+    ranges: &mut RangeTable,
+    user: &Name,
+    s: &Statement,
+) -> Result<Reply, OutOfMemory>
+    requires plain { IsPlainState (state_of (database_of base.old) ranges.old) user.now }
+    requires built { is_built s.now ≡ true }
+    requires written { is_written s.now ≡ true }
+    ensures outcome { IfOk result (λ reply. meaning built (state_of (database_of base.old) ranges.old) user.now s.now ≡ outcome_of (database_of base.new) ranges.new reply) }
+    ensures database { OnErr result (database_of base.new ≡ database_of base.old) }
+    ensures ranges { OnErr result (ranges.new ≡ ranges.old) }
+{
+    match s {
+        Statement::Range { var, rel } => declared(alloc, base, ranges, user, var, rel),
+        _ => carried_out(alloc, base, ranges, user, s),
+    }
+}
+
+/// Runs a statement where the database and the ranges are all the user's own, and they stay that.
+/// After want of memory both are as before.
+pub(crate) fn run(
+    alloc: Global,
+    base: &mut DbPlain,
+    ranges: &mut RangeTable,
+    user: &Name,
+    s: &Statement,
+) -> Result<Reply, OutOfMemory>
+    requires own { IsPlainState (state_of (database_of base.old) ranges.old) user.now }
+    requires written { is_written s.now ≡ true }
+    ensures outcome { IfOk result (λ reply. meaning built (state_of (database_of base.old) ranges.old) user.now s.now ≡ outcome_of (database_of base.new) ranges.new reply) }
+    ensures plain { IsPlainState (state_of (database_of base.new) ranges.new) user.now }
+{
+    if is_built(s) {
+        built_run(alloc, base, ranges, user, s)
+    } else {
+        Ok(refused(NOT_BUILT))
+    }
+}
