@@ -9,7 +9,7 @@ use Rattle.quel_meaning.specs.Session.{Session, session, output}
 use Rattle.quel_meaning.specs.State.{State}
 use Rattle.session_run.specs.Doing.{Meaning}
 use Rattle.session_run.specs.Runs as runs
-use Rattle.ingres_top.specs.Top.{nothing_yet, whole, within, IsDone, IsPartlyDone, IsCutOff, CutOff}
+use Rattle.ingres_top.specs.Top.{nothing_yet, whole, IsDone, IsPartlyDone, IsCutOff}
 
 -- what each statement means for the user
 abbrev pub of_user : List ℕ → Meaning
