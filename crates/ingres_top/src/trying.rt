@@ -13,8 +13,8 @@ use std::alloc::Global;
 /// What runs the statements of the user whom the words name.
 fn begun(alloc: Global, words: &[String]) -> Result<PlainStatements, OutOfMemory>
     requires { are_try (map string_bytes words.now) ≡ true }
-    ensures user { IfOk result (λ s. Statements.user s ≡ user_of (map string_bytes words.now)) }
-    ensures state { IfOk result (λ s. Statements.state s ≡ nothing_yet (user_of (map string_bytes words.now))) }
+    ensures user { IfOk result (λ s. ⟦<PlainStatements as Statements>⟧.user s ≡ user_of (map string_bytes words.now)) }
+    ensures state { IfOk result (λ s. ⟦<PlainStatements as Statements>⟧.state s ≡ nothing_yet (user_of (map string_bytes words.now))) }
 {
     let name = match words {
         [_, user] => Name::of(alloc, user.as_bytes())?,
