@@ -27,8 +27,8 @@ pub struct PlainStatements {
 impl PlainStatements {
     /// The database of this user without anything in it, and no range variables.
     pub fn new(alloc: Global, user: Name) -> Result<PlainStatements, OutOfMemory>
-        ensures user { IfOk result (λ s. Statements.user s ≡ user) }
-        ensures state { IfOk result (λ s. Statements.state s ≡ state_of (empty_db user) []) }
+        ensures user { IfOk result (λ s. ⟦<PlainStatements as Statements>⟧.user s ≡ user) }
+        ensures state { IfOk result (λ s. ⟦<PlainStatements as Statements>⟧.state s ≡ state_of (empty_db user) []) }
     {
         let base = DbPlain::new(alloc, user.copy(alloc)?);
         let ranges = RangeTable::new(alloc);
