@@ -1,14 +1,13 @@
 -- What a statement asks for that is built here can be carried out.
-use Rattle.std.proofs.Common.{◌≡◌, refl, sym, ap, ◌∙◌, subst, ℕ, Bool, true, false, ◌&&◌, not, List, [], ◌∷◌, length, IsTrue, Option, Some, None, Ok, arith}
-use Rattle.std.specs.Prelude.{nat_eq, nat_lt, All}
+use Rattle.std.proofs.Common.{◌≡◌, refl, sym, subst, ℕ, Bool, true, false, not, List, [], ◌∷◌, length, IsTrue, Some, None, Ok, arith}
 use Rattle.std.specs.List.{list_all}
 use Rattle.std.proofs.lemmas.List.Elements.{All-nil, All-cons}
+use Rattle.calculus.specs.declared.query.RelKey.{RelKey}
+use Rattle.calculus.specs.declared.schema.Attr.{Attr}
 use Rattle.calculus.specs.declared.request.Checked.{Checked}
 use Rattle.calculus.specs.declared.request.Checked.TheVariants as checked
 use Rattle.calculus.specs.declared.request.Asked.{Asked}
 use Rattle.calculus.specs.declared.request.Update.{Update}
-use Rattle.calculus.specs.declared.request.UpdateOp.{UpdateOp}
-use Rattle.calculus.specs.declared.request.UpdateOp.TheVariants as op
 use Rattle.calculus.specs.declared.request.Utility.TheVariants as utility
 use Rattle.calculus.specs.declared.statement.Statement.{Statement}
 use Rattle.calculus.specs.declared.statement.Statement.TheVariants as statement
@@ -17,8 +16,8 @@ use Rattle.calculus.specs.IsDatabase.{IsDatabase}
 use Rattle.calculus.specs.Lists.{is_any}
 use Rattle.calculus.specs.QueryParts.{vars_of, query_aggregates}
 use Rattle.quel_causes.specs.Judged.{is_judged}
-use Rattle.quel_meaning.specs.Fit.{fits, is_fit_with_views, update_fits, utility_fits}
-use Rattle.quel_meaning.specs.FitQueries.{kept, is_kept, kept_or_viewed}
+use Rattle.quel_meaning.specs.Fit.{fits, is_fit_with_views, utility_fits}
+use Rattle.quel_meaning.specs.FitQueries.{is_kept, kept_or_viewed}
 use Rattle.quel_meaning.specs.IsWritten.{is_written}
 use Rattle.quel_meaning.specs.Ranges.{Ranges}
 use Rattle.quel_meaning.specs.Resolved.{tree_of, resolved}
@@ -56,13 +55,18 @@ module _ (s : Scope) (none : s.db.views ≡ []) where
   one_asked : (a : Asked) → fits (kept_or_viewed s.db) s.db s.user (checked.Answer (a ∷ [])) ≡ true → query_aggregates a.query ≡ [] → AreDoable s.db (a ∷ [])
   unfolding fits
   one_asked a h plain = record {
-    read = All-cons _ a [] (asked_kept s.db none a (left _ _ h)) (All-nil _);
-    plain = All-cons _ a [] plain (All-nil _);
+    read = All-cons (λ (x : Asked). IsTrue (list_all (is_kept s.db) (vars_of x.query))) a [] (asked_kept s.db none a (left _ _ h)) (All-nil _);
+    plain = All-cons (λ (x : Asked). query_aggregates x.query ≡ []) a [] plain (All-nil _);
   }
 
   update_doable : (u : Update) → fits (kept_or_viewed s.db) s.db s.user (checked.Update u) ≡ true → query_aggregates u.query ≡ [] → IsDoableUpdate s.db u
   unfolding fits
   update_doable u h plain = record { fits = update_kept s.db none u h; plain = plain }
+
+  work_doable : (rel : RelKey) (attrs : List Attr) → fits (kept_or_viewed s.db) s.db s.user (checked.Utility (utility.Create rel attrs)) ≡ true
+      → utility_fits s.db [] (utility.Create rel attrs) ≡ true
+  unfolding fits utility_fits
+  work_doable rel attrs h = h
 
   tree_doable : (stmt : Statement) → is_judged stmt ≡ true → query_aggregates (query_of s stmt) ≡ [] → is_fit_with_views s.db s.user (tree_of s stmt) ≡ true → IsDoable s.db (tree_of s stmt)
   unfolding tree_of append_of replace_of delete_of into_of
@@ -72,11 +76,7 @@ module _ (s : Scope) (none : s.db.views ≡ []) where
   tree_doable (statement.Append rel items qual) j plain h = update_doable _ h plain
   tree_doable (statement.Replace var items qual) j plain h = update_doable _ h plain
   tree_doable (statement.Delete var qual) j plain h = update_doable _ h plain
-  tree_doable (statement.Create rel attrs) j plain h = work_doable rel attrs h
-    where
-      work_doable : (rel : List ℕ) (attrs : _) → is_fit_with_views s.db s.user (tree_of s (statement.Create rel attrs)) ≡ true → IsDoable s.db (tree_of s (statement.Create rel attrs))
-      unfolding tree_of fits utility_fits
-      work_doable rel attrs h = h
+  tree_doable (statement.Create rel attrs) j plain h = work_doable _ _ h
   tree_doable stmt j plain h = absurd (cc j)
 
 pub resolved_doable : (db : Db) (user : List ℕ) (ranges : Ranges) (stmt : Statement) (tree : Checked) → IsDatabase db → IsPlain db user → is_built stmt ≡ true → is_written stmt ≡ true

@@ -1,5 +1,6 @@
 pub mod Outcomes
 pub mod WithoutViews
 pub mod Carried
+pub mod Effects
 pub mod Planned
 pub mod Runs

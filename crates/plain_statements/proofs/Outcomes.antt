@@ -54,13 +54,13 @@ module _ (db : Db) (u : Update) (ps : List Pair) (are : ArePairs db u ps) where
   unfolding judged
   many_refused h many =
       at db u false true false true are.values are.fit (ap contended (sym are.are) ∙ h)
-        (ap (λ ps. nat_lt most_rows (length (after (rows_at db u.rel) ps))) (sym are.are) ∙ many_rows _ many)
+      (ap (λ ps. nat_lt most_rows (length (after (rows_at db u.rel) ps))) (sym are.are) ∙ many_rows _ many)
 
   pub changed : IsFalse (contended ps) → length (after (rows_at db u.rel) ps) ≤ most_rows → (change : DbChange) → change ≡ change_of db Free u → updated db Free u ≡ Ok change
   unfolding judged
   changed h few change is =
       at db u false true false false are.values are.fit (ap contended (sym are.are) ∙ h)
-        (ap (λ ps. nat_lt most_rows (length (after (rows_at db u.rel) ps))) (sym are.are) ∙ few_rows _ few)
+      (ap (λ ps. nat_lt most_rows (length (after (rows_at db u.rel) ps))) (sym are.are) ∙ few_rows _ few)
       ∙ ap Ok (sym is)
 
 -- ---- queries

@@ -1,28 +1,26 @@
 -- What is planned is lawful.
-use Rattle.std.proofs.Common.{◌≡◌, refl, sym, ap, ◌∙◌, subst, ℕ, ◌<◌, nat_le, nat_lt, Bool, true, false, ◌&&◌, ◌||◌, not, IsTrue, List, [], length, Option, Some, None, Result, Ok, Err, arith}
+use Rattle.std.proofs.Common.{◌≡◌, refl, ap, subst, ℕ, nat_eq, nat_le, nat_lt, Bool, true, false, not, IsTrue, List, length, Result, Ok, Err, arith}
 use Rattle.std.specs.List.{list_all}
 use Rattle.std.proofs.lemmas.Bool.{lt-ltb, leb-false}
 use Rattle.calculus.specs.declared.change.DbChange.{DbChange}
 use Rattle.calculus.specs.declared.query.RelKey.{RelKey}
 use Rattle.calculus.specs.declared.request.Update.{Update}
-use Rattle.calculus.specs.declared.request.UpdateOp.{UpdateOp}
 use Rattle.calculus.specs.declared.request.UpdateOp.TheVariants as op
 use Rattle.calculus.specs.declared.request.Utility.{Utility}
 use Rattle.calculus.specs.declared.request.Utility.TheVariants as utility
-use Rattle.calculus.specs.declared.schema.Attr.{Attr}
-use Rattle.calculus.specs.Catalogue.{is_catalogue_name}
 use Rattle.calculus.specs.Change.{IsLawful}
 use Rattle.calculus.specs.Database.{Db, entries, is_there}
-use Rattle.calculus.specs.IsDatabase.{IsDatabase, key_is_named, attrs_stand, are_stored}
-use Rattle.calculus.specs.Limits.{most_entries}
+use Rattle.calculus.specs.IsDatabase.{IsDatabase, key_is_named, attrs_stand}
+use Rattle.calculus.specs.Limits.{most_entries, most_expanded_variables}
 use Rattle.calculus.specs.Name.{is_name}
-use Rattle.calculus.specs.Stored.{kept_rows, rows_at}
-use Rattle.quel_meaning.specs.Fit.{is_new, relation_fits, update_fits, utility_fits}
+use Rattle.calculus.specs.Sizes.{update_expanded_variables}
+use Rattle.calculus.specs.Stored.{kept_rows}
+use Rattle.quel_meaning.specs.Fit.{is_new, checks_fit, places_fit, update_kinds_fit, relation_fits, update_fits, utility_fits}
 use Rattle.quel_meaning.specs.FitQueries.{kept, reads_fit}
+use Rattle.quel_meaning.specs.KindsInQueries.{assignments_fit}
 use Rattle.quel_meaning.specs.Passing.{is_full, is_taken}
 use Rattle.quel_meaning.specs.Planned.{planned}
 use Rattle.quel_meaning.proofs.Each.{left, right, and, not_left, not_right, not_so}
-use Rattle.lawful_plans.specs.Fitting.{IsFitRelation}
 use Rattle.lawful_plans.proofs.Created.{nothing_ranges, created_planned}
 use Rattle.lawful_updates.specs.Spelled.{key_is_spelled}
 use Rattle.update_change.specs.Changes.{MakesNew}
@@ -62,12 +60,16 @@ free db rel new spelled =
 module _ (db : Db) (u : Update) where
   relation_of : update_fits (kept db) db u ≡ true → relation_fits db u ≡ true
   unfolding update_fits
-  relation_of h = right _ _ (right _ _ (right _ _ (right _ _ (right _ _ (right (reads_fit (kept db) db u.query) _ h)))))
+  relation_of h =
+      right (checks_fit db u) _ (right (places_fit db u) _
+      (right (nat_le (update_expanded_variables db u) most_expanded_variables) _
+      (right (assignments_fit db u) _ (right (update_kinds_fit db u.query) _ (right (reads_fit (kept db) db u.query) _ h)))))
 
   pub makes_new : IsDoableUpdate db u → IsTrue (key_is_spelled u.rel) → MakesNew db u
   makes_new doable spelled into =
-      let fits = subst (λ does. relation_fits db (record u { op = does }) ≡ true) into (relation_of doable.fits) in
-      let f = free db u.rel (left _ _ (right _ _ fits)) spelled in
+      let fits : relation_fits db (record u { op = op.Into }) ≡ true = subst (λ does. relation_fits db (record u { op = does }) ≡ true) into (relation_of doable.fits) in
+      let room = left (is_new db u.rel.owner u.rel.name) _ (right (nat_eq u.old 255) _ fits) in
+      let f = free db u.rel room spelled in
       ap kept_rows (nothing_ranges db u.rel f.named f.unused)
 
   pub vars_kept : IsDoableUpdate db u → IsTrue (list_all (is_kept db) (vars_of u.query))

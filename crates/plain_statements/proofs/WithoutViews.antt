@@ -1,5 +1,5 @@
 -- Where there are no views, a tree that is fit with views is fit.
-use Rattle.std.proofs.Common.{◌≡◌, refl, ap, ℕ, nat_le, Bool, true, false, ◌&&◌, List, [], Option, Some, None}
+use Rattle.std.proofs.Common.{◌≡◌, refl, ap, Bool, true, List, [], Option, Some, None}
 use Rattle.std.specs.Prelude.{find, is_some}
 use Rattle.std.specs.List.{list_all}
 use Rattle.std.specs.Option.{option_map}
@@ -13,7 +13,7 @@ use Rattle.calculus.specs.Tree.{rows_of_query}
 use Rattle.calculus.specs.Catalogue.{catalogue_at}
 use Rattle.calculus.specs.Database.{Db, Relation, View, relation_at, view_at}
 use Rattle.calculus.specs.Keys.{same_key}
-use Rattle.calculus.specs.Stored.{Range, Kept, Viewed, range_at, range_info, info_at}
+use Rattle.calculus.specs.Stored.{Kept, Viewed, range_at, range_info, info_at}
 use Rattle.calculus.specs.QueryParts.{vars_of, query_aggregates}
 use Rattle.quel_meaning.specs.FitQueries.{keeps_rows, is_kept, kept, is_named, kept_or_viewed, source_fits, sources_fit, reads_fit, asked_fits}
 use Rattle.quel_meaning.specs.Fit.{update_fits}

@@ -32,11 +32,13 @@ pub(crate) fn changed_by<B: Base>(
 {
     match change_of(alloc, base, u, pairs) {
         Ok(change) => Ok(change),
-        Err(UpdateFault::Contended {
-            old: _,
-            first: _,
-            second: _,
-        }) => Err(Stopped::No(CONTENDED)),
+        Err(
+            UpdateFault::Contended {
+                old: _,
+                first: _,
+                second: _,
+            },
+        ) => Err(Stopped::No(CONTENDED)),
         Err(UpdateFault::TooMany) => Err(Stopped::No(TOO_MANY)),
         Err(UpdateFault::Base(_)) => Err(Stopped::OutOfMemory),
         Err(UpdateFault::OutOfMemory) => Err(Stopped::OutOfMemory),

@@ -13,5 +13,5 @@ mod stopped;
 mod trees;
 mod working;
 
-pub(crate) use stopped::Stopped;
 pub use session::PlainStatements;
+pub(crate) use stopped::Stopped;

@@ -23,13 +23,9 @@ const NO_VALUE: u8 = 20;
 const NOT_FIT: u8 = 21;
 
 /// The pairs of an update without aggregates, for nobody in particular.
-pub(crate) fn paired<B: Base>(
-    alloc: Global,
-    base: &mut B,
-    u: &Update,
-) -> Result<Vec<Pair>, Stopped>
+pub(crate) fn paired<B: Base>(alloc: Global, base: &mut B, u: &Update) -> Result<Vec<Pair>, Stopped>
     requires read { (db : Db) → B.database base.old ≡ Some db → IsTrue (list_all (is_kept db) (vars_of u.now.query)) }
-    requires plain { query_aggregates u.now.query ≡ [] }
+    requires plain { (db : Db) → B.database base.old ≡ Some db → query_aggregates u.now.query ≡ [] }
     ensures told { (db : Db) → B.database base.old ≡ Some db → Plans (λ ps. ArePairs db u.now ps.items) (λ number. updated db Free u.now ≡ Err number) result }
     ensures kept { B.database base.new ≡ B.database base.old }
 {
