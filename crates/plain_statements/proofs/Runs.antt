@@ -1,7 +1,8 @@
 -- What statements do in a plain state of the user's own.
-use Rattle.std.specs.Prelude.{IfOk}
+use Rattle.std.specs.Prelude.{IfOk, OnErr}
 use Rattle.std.proofs.lemmas.Option.{same_Some}
 use Rattle.std.proofs.Common.{◌≡◌, refl, sym, ap, ◌∙◌, subst, ℕ, Bool, true, false, ◌&&◌, IsTrue, List, [], Option, Some, None, Result, Ok, Err}
+use Rattle.memory.specs.declared.out_of_memory.OutOfMemory.{OutOfMemory as Short}
 use Rattle.calculus.specs.declared.reply.Reply.{Reply}
 use Rattle.calculus.specs.declared.reply.Reply.TheVariants.{Refused, Nothing}
 use Rattle.calculus.specs.declared.request.Checked.{Checked}
@@ -52,6 +53,18 @@ pub tree_runs : (db : Db) (ranges : Ranges) (user : List ℕ) (s : Statement) �
     → meaning built (state_of db ranges) user s ≡ free_tree_outcome (state_of db ranges) user (resolved db user ranges s)
 tree_runs db ranges user s plain e h = runs db ranges user s plain e ∙ by_tree db ranges user s h
 
+-- ---- what a statement does that is built
+
+module _ (db now : Db) (old new : Ranges) (user : List ℕ) (s : Statement) (plain : IsPlainState (state_of db old) user) (e : is_built s ≡ true) where
+  pub range_done : (var rel : List ℕ) → s ≡ statement.Range var rel → (reply : Reply) → range_outcome (state_of db old) var (found db user rel) ≡ outcome_of now new reply
+      → meaning built (state_of db old) user s ≡ outcome_of now new reply
+  range_done var rel is reply h =
+      ap (meaning built (state_of db old) user) is ∙ range_runs db old user var rel plain.database (subst (λ s. is_built s ≡ true) is e) ∙ h
+
+  pub tree_done : is_range s ≡ false → (reply : Reply) → free_tree_outcome (state_of db old) user (resolved db user old s) ≡ outcome_of now new reply
+      → meaning built (state_of db old) user s ≡ outcome_of now new reply
+  tree_done not reply h = tree_runs db old user s plain.database e not ∙ h
+
 -- ---- what is made for a statement
 
 pub made_doable : (db now : Db) (P : Checked → Type 0) (Q : ℕ → Type 0) (made : Result Checked Stopped) → Some now ≡ Some db → Plans (λ tree. P tree × IsDoable db tree) Q made
@@ -100,3 +113,10 @@ stays_plain db now old new user s reply plain h = subst (λ o. IsPlainState o.st
 
 pub same_plain : (db now : Db) (old new : Ranges) (user : List ℕ) → IsPlainState (state_of db old) user → now ≡ db → new ≡ old → IsPlainState (state_of now new) user
 same_plain db now old new user plain d r = subst (λ state. IsPlainState state user) (λ i. state_of (sym d i) (sym r i)) plain
+
+-- it stays plain, whether the statement was done or memory was wanting
+pub run_plain : (db now : Db) (old new : Ranges) (user : List ℕ) (s : Statement) (result : Result Reply Short) → IsPlainState (state_of db old) user
+    → IfOk result (λ reply. meaning built (state_of db old) user s ≡ outcome_of now new reply) → OnErr result (now ≡ db) → OnErr result (new ≡ old)
+    → IsPlainState (state_of now new) user
+run_plain db now old new user s (Ok reply) plain h d r = stays_plain db now old new user s reply plain h
+run_plain db now old new user s (Err e) plain h d r = same_plain db now old new user plain d r
