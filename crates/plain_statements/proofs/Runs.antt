@@ -1,5 +1,8 @@
 -- What statements do in a plain state of the user's own.
+use Rattle.std.specs.Prelude.{IfOk, OnErr}
+use Rattle.std.proofs.lemmas.Option.{same_Some}
 use Rattle.std.proofs.Common.{◌≡◌, refl, sym, ap, ◌∙◌, subst, ℕ, Bool, true, false, ◌&&◌, IsTrue, List, [], Option, Some, None, Result, Ok, Err}
+use Rattle.memory.specs.declared.out_of_memory.OutOfMemory.{OutOfMemory as Short}
 use Rattle.calculus.specs.declared.reply.Reply.{Reply}
 use Rattle.calculus.specs.declared.reply.Reply.TheVariants.{Refused, Nothing}
 use Rattle.calculus.specs.declared.request.Checked.{Checked}
@@ -18,7 +21,11 @@ use Rattle.owner_sessions.specs.Plain.{IsPlain, IsPlainState, BuildsPlain, is_pl
 use Rattle.owner_sessions.proofs.FreeMeaning.{free_means}
 use Rattle.owner_sessions.proofs.Stays.{meaning_plain}
 use Rattle.quel_resolve.specs.Built.{is_built}
+use Rattle.plain_statements.specs.declared.stopped.Stopped.{Stopped}
+use Rattle.plain_statements.specs.declared.stopped.Stopped.TheVariants.{No, OutOfMemory}
 use Rattle.plain_statements.specs.Built.{built}
+use Rattle.plain_statements.specs.Doable.{IsDoable}
+use Rattle.plain_statements.specs.Plans.{Plans, IsMade}
 use Rattle.plain_statements.specs.Standing.{state_of, outcome_of, effect_of}
 
 module _ (db : Db) (ranges : Ranges) (user : List ℕ) (s : Statement) where
@@ -46,17 +53,49 @@ pub tree_runs : (db : Db) (ranges : Ranges) (user : List ℕ) (s : Statement) �
     → meaning built (state_of db ranges) user s ≡ free_tree_outcome (state_of db ranges) user (resolved db user ranges s)
 tree_runs db ranges user s plain e h = runs db ranges user s plain e ∙ by_tree db ranges user s h
 
--- what a tree does is what its statement does
-pub tree_outcome : (db now : Db) (ranges : Ranges) (user : List ℕ) (s : Statement) (tree : Checked) (reply : Reply) → resolved db user ranges s ≡ Ok tree
+-- ---- what a statement does that is built
+
+module _ (db now : Db) (old new : Ranges) (user : List ℕ) (s : Statement) (plain : IsPlainState (state_of db old) user) (e : is_built s ≡ true) where
+  pub range_done : (var rel : List ℕ) → s ≡ statement.Range var rel → (reply : Reply) → range_outcome (state_of db old) var (found db user rel) ≡ outcome_of now new reply
+      → meaning built (state_of db old) user s ≡ outcome_of now new reply
+  range_done var rel is reply h =
+      ap (meaning built (state_of db old) user) is ∙ range_runs db old user var rel plain.database (subst (λ s. is_built s ≡ true) is e) ∙ h
+
+  pub tree_done : is_range s ≡ false → (reply : Reply) → free_tree_outcome (state_of db old) user (resolved db user old s) ≡ outcome_of now new reply
+      → meaning built (state_of db old) user s ≡ outcome_of now new reply
+  tree_done not reply h = tree_runs db old user s plain.database e not ∙ h
+
+-- ---- what is made for a statement
+
+pub made_doable : (db now : Db) (P : Checked → Type 0) (Q : ℕ → Type 0) (made : Result Checked Stopped) → Some now ≡ Some db → Plans (λ tree. P tree × IsDoable db tree) Q made
+    → IfOk made (λ tree. IsDoable now tree)
+made_doable db now P Q (Ok tree) same h = subst (λ d. IsDoable d tree) (sym (same_Some now db same)) h.1
+made_doable db now P Q (Err fault) same h = tt
+
+pub is_made : (db : Db) (found : Result Checked ℕ) (made : Result Checked Stopped) → Plans (λ tree. (found ≡ Ok tree) × IsDoable db tree) (λ number. found ≡ Err number) made
+    → IsMade found made
+is_made db found (Ok tree) h = h.0
+is_made db found (Err (No number)) h = h
+is_made db found (Err OutOfMemory) h = tt
+
+-- what a tree does is what was found
+pub tree_outcome : (db now : Db) (ranges : Ranges) (user : List ℕ) (found : Result Checked ℕ) (tree : Checked) (reply : Reply) → found ≡ Ok tree
     → tree_meaning db [] Free user tree ≡ effect_of now reply
-    → free_tree_outcome (state_of db ranges) user (resolved db user ranges s) ≡ outcome_of now ranges reply
-tree_outcome db now ranges user s tree reply is h = ap (free_tree_outcome (state_of db ranges) user) is ∙ ap (with_ranges ranges) h
+    → free_tree_outcome (state_of db ranges) user found ≡ outcome_of now ranges reply
+tree_outcome db now ranges user found tree reply is h = ap (free_tree_outcome (state_of db ranges) user) is ∙ ap (with_ranges ranges) h
 
 -- what is refused stays
-pub refused_outcome : (db now : Db) (ranges : Ranges) (user : List ℕ) (s : Statement) (number : ℕ) → resolved db user ranges s ≡ Err number → now ≡ db
-    → free_tree_outcome (state_of db ranges) user (resolved db user ranges s) ≡ outcome_of now ranges (Refused (refusal number))
-refused_outcome db now ranges user s number is same =
-    ap (free_tree_outcome (state_of db ranges) user) is ∙ ap (λ db. outcome_of db ranges (Refused (refusal number))) (sym same)
+pub refused_outcome : (db now : Db) (ranges : Ranges) (user : List ℕ) (found : Result Checked ℕ) (stopped : Stopped) (reply : Reply) → now ≡ db → IsMade found (Err stopped)
+    → (number : ℕ) × (stopped ≡ No number) × (reply ≡ Refused (refusal number))
+    → free_tree_outcome (state_of db ranges) user found ≡ outcome_of now ranges reply
+refused_outcome db now ranges user found stopped reply same is w =
+    let e = subst (λ stopped. IsMade found (Err stopped)) w.1 is in
+    ap (free_tree_outcome (state_of db ranges) user) e ∙ (λ i. outcome_of (sym same i) ranges (sym w.2 i))
+
+-- what was carried out where the database is the same is what was carried out here
+pub same_outcome : (db between now : Db) (ranges : Ranges) (user : List ℕ) (found : Result Checked ℕ) → Some between ≡ Some db → (reply : Reply)
+    → free_tree_outcome (state_of between ranges) user found ≡ outcome_of now ranges reply → free_tree_outcome (state_of db ranges) user found ≡ outcome_of now ranges reply
+same_outcome db between now ranges user found same reply h = ap (λ d. free_tree_outcome (state_of d ranges) user found) (sym (same_Some between db same)) ∙ h
 
 -- ---- the state stays plain
 
@@ -74,3 +113,10 @@ stays_plain db now old new user s reply plain h = subst (λ o. IsPlainState o.st
 
 pub same_plain : (db now : Db) (old new : Ranges) (user : List ℕ) → IsPlainState (state_of db old) user → now ≡ db → new ≡ old → IsPlainState (state_of now new) user
 same_plain db now old new user plain d r = subst (λ state. IsPlainState state user) (λ i. state_of (sym d i) (sym r i)) plain
+
+-- it stays plain, whether the statement was done or memory was wanting
+pub run_plain : (db now : Db) (old new : Ranges) (user : List ℕ) (s : Statement) (result : Result Reply Short) → IsPlainState (state_of db old) user
+    → IfOk result (λ reply. meaning built (state_of db old) user s ≡ outcome_of now new reply) → OnErr result (now ≡ db) → OnErr result (new ≡ old)
+    → IsPlainState (state_of now new) user
+run_plain db now old new user s (Ok reply) plain h d r = stays_plain db now old new user s reply plain h
+run_plain db now old new user s (Err e) plain h d r = same_plain db now old new user plain d r

@@ -1,6 +1,7 @@
 -- What is said of what is made for a statement.
 use Rattle.std.specs.Prelude.{◌≡◌, ℕ, List, Result, Ok, Err, IsTrue, IsFalse}
 use Rattle.calculus.specs.declared.change.Pair.{Pair}
+use Rattle.calculus.specs.declared.request.Checked.{Checked}
 use Rattle.calculus.specs.declared.request.Update.{Update}
 use Rattle.calculus.specs.Database.{Db}
 use Rattle.calculus.specs.Pairs.{pairs}
@@ -14,6 +15,10 @@ abbrev pub Plans : {T : Type 0} → (T → Type 0) → (ℕ → Type 0) → Resu
 Plans made refused (Ok x) = made x
 Plans made refused (Err (No number)) = refused number
 Plans made refused (Err OutOfMemory) = Unit {0}
+
+-- what is made is the tree that was found, or the number that refuses
+abbrev pub IsMade : Result Checked ℕ → Result Checked Stopped → Type 0
+IsMade found made = Plans (λ tree. found ≡ Ok tree) (λ number. found ≡ Err number) made
 
 -- these are the update's pairs for nobody in particular; no target lacks a value, and all values fit
 pub record ArePairs (db : Db) (u : Update) (ps : List Pair) : Type 0 where

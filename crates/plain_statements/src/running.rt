@@ -1,15 +1,23 @@
 //! Runs a statement of the user's on a database in memory and the range variables.
 
-ghost use Rattle.std.specs.Prelude.{◌≡◌, true, false, IfOk, OnErr};
+ghost use Rattle.std.specs.Prelude.{◌≡◌, ℕ, true, false, None, Result as Found, IfOk, IfSome, OnErr};
+ghost use Rattle.calculus.specs.declared.request.Checked.{Checked as Tree};
+ghost use Rattle.calculus.specs.declared.reply.Reply.TheVariants.{Refused};
+ghost use Rattle.calculus.specs.declared.statement.Statement.TheVariants.{Range};
 ghost use Rattle.calculus.specs.Finding.{found};
+ghost use Rattle.quel_meaning.specs.Copying.{refusal};
 ghost use Rattle.quel_meaning.specs.IsWritten.{is_written};
-ghost use Rattle.quel_meaning.specs.Meaning.{meaning, range_outcome};
+ghost use Rattle.quel_meaning.specs.Meaning.{meaning, is_range, range_outcome};
+ghost use Rattle.quel_meaning.specs.Ranges.{Ranges};
 ghost use Rattle.quel_meaning.specs.Resolved.{resolved};
 ghost use Rattle.owner_sessions.specs.Freely.{free_tree_outcome};
 ghost use Rattle.owner_sessions.specs.Plain.{IsPlain, IsPlainState};
 ghost use Rattle.quel_resolve.specs.Built.{is_built};
 ghost use Rattle.plain_base.specs.Shown.{database_of};
+ghost use Rattle.plain_statements.specs.declared.stopped.Stopped.TheVariants.{No};
 ghost use Rattle.plain_statements.specs.Built.{built};
+ghost use Rattle.plain_statements.specs.Doable.{IsDoable};
+ghost use Rattle.plain_statements.specs.Plans.{IsMade};
 ghost use Rattle.plain_statements.specs.Standing.{state_of, outcome_of};
 
 use crate::Stopped;
@@ -17,7 +25,7 @@ use crate::carrying::tree_done;
 use crate::refusing::refused;
 use crate::trees::tree_of;
 use am_traits::Base;
-use calculus::{Name, OutOfMemory, Reply, Statement, TryCopy};
+use calculus::{Checked, Name, OutOfMemory, Reply, Statement, TryCopy};
 use plain_base::DbPlain;
 use quel_check::RangeTable;
 use quel_resolve::is_built;
@@ -52,6 +60,38 @@ fn declared(
     }
 }
 
+/// The reply where nothing is made for a statement.
+fn answer_to(stopped: Stopped) -> Result<Reply, OutOfMemory>
+    ensures { IfOk result (λ reply. (number : ℕ) × (stopped ≡ No number) × (reply ≡ Refused (refusal number))) }
+{
+    match stopped {
+        Stopped::No(number) => Ok(refused(number)),
+        Stopped::OutOfMemory => Err(OutOfMemory),
+    }
+}
+
+/// Carries out what is made for a statement, or refuses it.
+fn made_done(
+    alloc: Global,
+    base: &mut DbPlain,
+    user: &Name,
+    made: Result<Checked, Stopped>,
+) -> Result<Reply, OutOfMemory>
+    requires { IfOk made (λ tree. IsDoable (database_of base.old) tree) }
+    ensures done { (found : Found Tree ℕ) (ranges : Ranges) → IsMade found made
+        → IfOk result (λ reply. free_tree_outcome (state_of (database_of base.old) ranges) user.now found ≡ outcome_of (database_of base.new) ranges reply) }
+    ensures same { OnErr result (database_of base.new ≡ database_of base.old) }
+{
+    match made {
+        Ok(tree) => {
+            let done = tree_done(alloc, base, user, &tree);
+            drop(tree);
+            done
+        }
+        Err(stopped) => answer_to(stopped),
+    }
+}
+
 /// Carries out a statement that is built here and has a tree; or refuses it.
 fn carried_out(
     alloc: Global,
@@ -66,10 +106,18 @@ fn carried_out(
     ensures done { IfOk result (λ reply. free_tree_outcome (state_of (database_of base.old) ranges.now) user.now (resolved (database_of base.old) user.now ranges.now s.now) ≡ outcome_of (database_of base.new) ranges.now reply) }
     ensures same { OnErr result (database_of base.new ≡ database_of base.old) }
 {
-    match tree_of(alloc, base, user, ranges, s) {
-        Ok(tree) => tree_done(alloc, base, user, &tree),
-        Err(Stopped::No(number)) => Ok(refused(number)),
-        Err(Stopped::OutOfMemory) => Err(OutOfMemory),
+    let made = tree_of(alloc, base, user, ranges, s);
+    made_done(alloc, base, user, made)
+}
+
+/// The variable that a statement declares, and the name of what it is to range over.
+fn range_of(s: &Statement) -> Option<(&Name, &Name)>
+    ensures some { IfSome result (λ r. s.now ≡ Range r.0.now r.1.now) }
+    ensures none { result ≡ None → is_range s.now ≡ false }
+{
+    match s {
+        Statement::Range { var, rel } => Some((var, rel)),
+        _ => None,
     }
 }
 
@@ -88,9 +136,9 @@ fn built_run(
     ensures database { OnErr result (database_of base.new ≡ database_of base.old) }
     ensures ranges { OnErr result (ranges.new ≡ ranges.old) }
 {
-    match s {
-        Statement::Range { var, rel } => declared(alloc, base, ranges, user, var, rel),
-        _ => carried_out(alloc, base, ranges, user, s),
+    match range_of(s) {
+        Some((var, rel)) => declared(alloc, base, ranges, user, var, rel),
+        None => carried_out(alloc, base, ranges, user, s),
     }
 }
 

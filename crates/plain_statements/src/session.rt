@@ -7,6 +7,9 @@ ghost use Rattle.plain_base.specs.Shown.{database_of};
 ghost use Rattle.plain_statements.specs.Built.{built};
 ghost use Rattle.plain_statements.specs.Standing.{state_of};
 ghost use Rattle.std.proofs.Props.{props};
+ghost use Rattle.std.specs.Coded.{Coded-set};
+ghost use Rattle.calculus.specs.contracts.query.QQual as quals;
+ghost use Rattle.calculus.specs.contracts.query.Query as queries;
 
 use crate::running::run;
 use calculus::{Name, OutOfMemory, Reply, Statement, TryCopy};
@@ -21,14 +24,14 @@ pub struct PlainStatements {
     base: DbPlain,
     ranges: RangeTable,
     user: Name,
-    ghost own: { IsPlainState (state_of (database_of base) ranges) user } by { Prim.hlevel props },
+    ghost own: { IsPlainState (state_of (database_of base) ranges) user } by { Prim.hlevel (props, Coded-set queries.the_row.coded, Coded-set quals.the_row.coded) },
 }
 
 impl PlainStatements {
     /// The database of this user without anything in it, and no range variables.
     pub fn new(alloc: Global, user: Name) -> Result<PlainStatements, OutOfMemory>
-        ensures user { IfOk result (λ s. Statements.user s ≡ user) }
-        ensures state { IfOk result (λ s. Statements.state s ≡ state_of (empty_db user) []) }
+        ensures user { IfOk result (λ s. ⟦<PlainStatements as Statements>⟧.user s ≡ user) }
+        ensures state { IfOk result (λ s. ⟦<PlainStatements as Statements>⟧.state s ≡ state_of (empty_db user) []) }
     {
         let base = DbPlain::new(alloc, user.copy(alloc)?);
         let ranges = RangeTable::new(alloc);
