@@ -1,5 +1,5 @@
 -- What refuses an update, cause by cause.
-use Rattle.std.proofs.Common.{◌≡◌, refl, sym, ◌∙◌, ap, ℕ, ◌≤◌, map, ◌<◌, nat_lt, Bool, true, false, not, List, [], ◌∷◌, length, IsTrue, IsFalse, Option, Some, None, Result, Ok, Err}
+use Rattle.std.proofs.Common.{◌≡◌, refl, sym, ◌∙◌, ap, ℕ, ◌≤◌, map, ◌<◌, nat_lt, Bool, true, false, not, List, [], ◌∷◌, length, IsTrue, IsFalse, Some, None, Result, Ok, Err}
 use Rattle.std.proofs.lemmas.Bool.{lt-ltb, le-ltb}
 use Rattle.calculus.specs.declared.change.DbChange.{DbChange}
 use Rattle.calculus.specs.declared.change.Pair.{Pair}

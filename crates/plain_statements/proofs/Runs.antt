@@ -1,23 +1,22 @@
 -- What statements do in a plain state of the user's own.
 use Rattle.std.specs.Prelude.{IfOk, OnErr}
 use Rattle.std.proofs.lemmas.Option.{same_Some}
-use Rattle.std.proofs.Common.{◌≡◌, refl, sym, ap, ◌∙◌, subst, ℕ, Bool, true, false, ◌&&◌, IsTrue, List, [], Option, Some, None, Result, Ok, Err}
+use Rattle.std.proofs.Common.{◌≡◌, refl, sym, ap, ◌∙◌, subst, ℕ, true, false, List, [], Some, Result, Ok, Err}
 use Rattle.memory.specs.declared.out_of_memory.OutOfMemory.{OutOfMemory as Short}
 use Rattle.calculus.specs.declared.reply.Reply.{Reply}
-use Rattle.calculus.specs.declared.reply.Reply.TheVariants.{Refused, Nothing}
+use Rattle.calculus.specs.declared.reply.Reply.TheVariants.{Refused}
 use Rattle.calculus.specs.declared.request.Checked.{Checked}
 use Rattle.calculus.specs.declared.statement.Statement.{Statement}
 use Rattle.calculus.specs.declared.statement.Statement.TheVariants as statement
 use Rattle.calculus.specs.Database.{Db}
 use Rattle.calculus.specs.Finding.{found}
 use Rattle.calculus.specs.Who.{Free}
-use Rattle.quel_causes.specs.Judged.{is_judged}
 use Rattle.quel_meaning.specs.Copying.{refusal}
 use Rattle.quel_meaning.specs.Meaning.{meaning, meaning_by, built_outcome, range_outcome, is_range, tree_meaning, with_ranges}
 use Rattle.quel_meaning.specs.Ranges.{Ranges}
 use Rattle.quel_meaning.specs.Resolved.{resolved}
 use Rattle.owner_sessions.specs.Freely.{free_tree_outcome, free_statement_outcome, free_built_outcome, free_meaning}
-use Rattle.owner_sessions.specs.Plain.{IsPlain, IsPlainState, BuildsPlain, is_plain, empty_db}
+use Rattle.owner_sessions.specs.Plain.{IsPlain, IsPlainState, BuildsPlain, is_plain}
 use Rattle.owner_sessions.proofs.FreeMeaning.{free_means}
 use Rattle.owner_sessions.proofs.Stays.{meaning_plain}
 use Rattle.quel_resolve.specs.Built.{is_built}

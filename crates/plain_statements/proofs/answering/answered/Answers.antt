@@ -1,4 +1,4 @@
-use Rattle.query_tables.specs.Causes.{HasCause, IsCaused, MayFail}
+use Rattle.query_tables.specs.Causes.{MayFail}
 use Rattle.std.proofs.Common.{◌∙◌, subst}
 use Rattle.plain_statements.proofs.Outcomes.{queries_lack}
 use Rattle.plain_statements.proofs.answering.answered.Goals as goal

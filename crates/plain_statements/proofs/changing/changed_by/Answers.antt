@@ -1,4 +1,4 @@
-use Rattle.update_change.specs.Causes.{HasCause, IsCaused, MayFail}
+use Rattle.update_change.specs.Causes.{MayFail}
 use Rattle.std.proofs.Common.{subst}
 use Rattle.calculus.specs.Who.{Free}
 use Rattle.plain_statements.proofs.Outcomes.{changed, contended_refused, many_refused}
