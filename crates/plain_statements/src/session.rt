@@ -10,9 +10,6 @@ ghost use Rattle.calculus.specs.contracts.query.QQual as quals;
 ghost use Rattle.calculus.specs.contracts.query.Query as queries;
 ghost use Rattle.std.specs.Coded.{Coded-set};
 ghost use Rattle.std.proofs.Props.{props};
-ghost use Rattle.std.specs.Coded.{Coded-set};
-ghost use Rattle.calculus.specs.contracts.query.QQual as quals;
-ghost use Rattle.calculus.specs.contracts.query.Query as queries;
 
 use crate::running::run;
 use calculus::{Name, OutOfMemory, Reply, Statement, TryCopy};
