@@ -1,6 +1,6 @@
 //! Runs a statement of the user's on a database in memory and the range variables.
 
-ghost use Rattle.std.specs.Prelude.{◌≡◌, ℕ, true, false, None, Result as Found, IfOk, IfSome, OnErr};
+ghost use Rattle.std.specs.Prelude.{◌≡◌, ℕ, true, false, None, Result as Made, IfOk, IfSome, OnErr};
 ghost use Rattle.calculus.specs.declared.request.Checked.{Checked as Tree};
 ghost use Rattle.calculus.specs.declared.reply.Reply.TheVariants.{Refused};
 ghost use Rattle.calculus.specs.declared.statement.Statement.TheVariants.{Range};
@@ -78,7 +78,7 @@ fn made_done(
     made: Result<Checked, Stopped>,
 ) -> Result<Reply, OutOfMemory>
     requires { IfOk made (λ tree. IsDoable (database_of base.old) tree) }
-    ensures done { (found : Found Tree ℕ) (ranges : Ranges) → IsMade found made
+    ensures done { (found : Made Tree ℕ) (ranges : Ranges) → IsMade found made
         → IfOk result (λ reply. free_tree_outcome (state_of (database_of base.old) ranges) user.now found ≡ outcome_of (database_of base.new) ranges reply) }
     ensures same { OnErr result (database_of base.new ≡ database_of base.old) }
 {

@@ -6,10 +6,10 @@ ghost use Rattle.owner_sessions.specs.Plain.{IsPlainState, empty_db};
 ghost use Rattle.plain_base.specs.Shown.{database_of};
 ghost use Rattle.plain_statements.specs.Built.{built};
 ghost use Rattle.plain_statements.specs.Standing.{state_of};
-ghost use Rattle.std.proofs.Props.{props};
-ghost use Rattle.std.specs.Coded.{Coded-set};
 ghost use Rattle.calculus.specs.contracts.query.QQual as quals;
 ghost use Rattle.calculus.specs.contracts.query.Query as queries;
+ghost use Rattle.std.specs.Coded.{Coded-set};
+ghost use Rattle.std.proofs.Props.{props};
 
 use crate::running::run;
 use calculus::{Name, OutOfMemory, Reply, Statement, TryCopy};
@@ -24,7 +24,7 @@ pub struct PlainStatements {
     base: DbPlain,
     ranges: RangeTable,
     user: Name,
-    ghost own: { IsPlainState (state_of (database_of base) ranges) user } by { Prim.hlevel (props, Coded-set queries.the_row.coded, Coded-set quals.the_row.coded) },
+    ghost own: { IsPlainState (state_of (database_of base) ranges) user } by { Prim.hlevel (props, Coded-set quals.the_row.coded, Coded-set queries.the_row.coded) },
 }
 
 impl PlainStatements {
