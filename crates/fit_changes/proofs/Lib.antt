@@ -1,0 +1,6 @@
+mod Kept
+mod Orders
+mod Alike
+mod Numbered
+mod Tests
+mod Dropped

@@ -1,0 +1,21 @@
+//! For each kind of change a test of it that is true exactly where the change is lawful.
+
+ghost use Rattle.std.specs.Prelude.{◌≡◌, ◌↔◌, ℕ, true, List};
+ghost use Rattle.calculus.specs.declared.query.RelKey.{RelKey};
+ghost use Rattle.calculus.specs.declared.change.DbChange.TheVariants as change;
+ghost use Rattle.calculus.specs.Database.{Db};
+ghost use Rattle.calculus.specs.IsDatabase.{IsDatabase};
+ghost use Rattle.calculus.specs.Change.{IsLawful};
+ghost use Rattle.fit_changes.specs.Fit.{permits_may_go, rules_may_go};
+
+/// Permits may go.
+pub fn dropping_permits_is_lawful_exactly_where_fit()
+    ensures { (db : Db) (rel : RelKey) (numbers : List ℕ) → IsDatabase db
+        → (permits_may_go db rel numbers ≡ true) ↔ IsLawful db (change.DropPermits rel numbers) }
+{}
+
+/// Rules may go.
+pub fn dropping_rules_is_lawful_exactly_where_fit()
+    ensures { (db : Db) (rel : RelKey) (numbers : List ℕ) → IsDatabase db
+        → (rules_may_go db rel numbers ≡ true) ↔ IsLawful db (change.DropRules rel numbers) }
+{}

@@ -1,0 +1,9 @@
+//! Which changes a database may take, asked of it as it stands. Each function here is a law with no
+//! body: its clause speaks of the definitions alone.
+#![tactic(auto)]
+
+mod laws;
+
+pub use laws::{
+    dropping_permits_is_lawful_exactly_where_fit, dropping_rules_is_lawful_exactly_where_fit,
+};
