@@ -4,3 +4,8 @@ mod Alike
 mod Numbered
 mod Tests
 mod Dropped
+mod Ranging
+mod Changed
+mod RowsChanged
+mod Counted
+mod RowsFit

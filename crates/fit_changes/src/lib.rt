@@ -5,5 +5,6 @@
 mod laws;
 
 pub use laws::{
-    dropping_permits_is_lawful_exactly_where_fit, dropping_rules_is_lawful_exactly_where_fit,
+    a_change_of_rows_is_lawful_exactly_where_fit, dropping_permits_is_lawful_exactly_where_fit,
+    dropping_rules_is_lawful_exactly_where_fit,
 };
