@@ -33,7 +33,7 @@ other_way q r h = go (same r q) refl
 
 -- ---- rows that come
 
-length_put : (row : Row) (rows : List Row) → has rows row ≡ false → length (put row rows) ≡ suc (length rows)
+pub length_put : (row : Row) (rows : List Row) → has rows row ≡ false → length (put row rows) ≡ suc (length rows)
 length_put row [] h = refl
 length_put row (first ∷ rest) h =
     let parts = neither (same row first) (has rest row) h in
@@ -109,7 +109,7 @@ length_without (r ∷ remove) rows a d t =
 
 -- ---- what holds of all that stand then
 
-all_of_put : (test : Row → Bool) (row : Row) (rows : List Row) → IsTrue (list_all test (put row rows)) → IsTrue (test row) × IsTrue (list_all test rows)
+pub all_of_put : (test : Row → Bool) (row : Row) (rows : List Row) → IsTrue (list_all test (put row rows)) → IsTrue (test row) × IsTrue (list_all test rows)
 all_of_put test row [] t = both (test row) true t
 all_of_put test row (first ∷ rest) t = go (row_cmp row first) refl (ap (list_all test) (sym (put_is row first rest (row_cmp row first) refl)) ∙ t) (all_of_put test row rest)
   where

@@ -9,3 +9,14 @@ mod Changed
 mod RowsChanged
 mod Counted
 mod RowsFit
+mod Indexes
+mod NewIndexes
+mod Inserted
+mod PlainQueries
+mod Staying
+mod StayingFacts
+mod Beside
+mod Unused
+mod Created
+mod BesideViews
+mod Sublists

@@ -103,7 +103,7 @@ put_is row first rest Less e = rw (e, put) refl
 put_is row first rest Equal e = rw (e, put) refl
 put_is row first rest Greater e = rw (e, put) refl
 
-all_put : (test : Row → Bool) (row : Row) (rows : List Row) → IsTrue (test row) → IsTrue (list_all test rows) → IsTrue (list_all test (put row rows))
+pub all_put : (test : Row → Bool) (row : Row) (rows : List Row) → IsTrue (test row) → IsTrue (list_all test rows) → IsTrue (list_all test (put row rows))
 all_put test row [] s t = each (test row) true s refl
 all_put test row (first ∷ rest) s t =
     ap (list_all test) (put_is row first rest (row_cmp row first) refl) ∙ go (row_cmp row first) (both (test first) (list_all test rest) t) (all_put test row rest s (both (test first) (list_all test rest) t).1)

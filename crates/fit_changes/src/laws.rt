@@ -2,12 +2,13 @@
 
 ghost use Rattle.std.specs.Prelude.{◌≡◌, ◌↔◌, ℕ, true, List};
 ghost use Rattle.calculus.specs.declared.query.RelKey.{RelKey};
+ghost use Rattle.calculus.specs.declared.schema.RelInfo.{RelInfo};
 ghost use Rattle.calculus.specs.declared.change.DbChange.TheVariants as change;
 ghost use Rattle.calculus.specs.Rows.{Row};
 ghost use Rattle.calculus.specs.Database.{Db};
 ghost use Rattle.calculus.specs.IsDatabase.{IsDatabase};
 ghost use Rattle.calculus.specs.Change.{IsLawful};
-ghost use Rattle.fit_changes.specs.Fit.{permits_may_go, rules_may_go, rows_are_fit};
+ghost use Rattle.fit_changes.specs.Fit.{permits_may_go, rules_may_go, rows_are_fit, relation_is_fit};
 
 /// Permits may go.
 pub fn dropping_permits_is_lawful_exactly_where_fit()
@@ -25,4 +26,10 @@ pub fn dropping_rules_is_lawful_exactly_where_fit()
 pub fn a_change_of_rows_is_lawful_exactly_where_fit()
     ensures { (db : Db) (rel : RelKey) (remove add : List Row) → IsDatabase db
         → (rows_are_fit db rel remove add ≡ true) ↔ IsLawful db (change.Rows rel remove add) }
+{}
+
+/// A relation may be made.
+pub fn making_a_relation_is_lawful_exactly_where_fit()
+    ensures { (db : Db) (info : RelInfo) (rows : List Row) → IsDatabase db
+        → (relation_is_fit db info rows ≡ true) ↔ IsLawful db (change.Create info rows) }
 {}
