@@ -20,3 +20,4 @@ mod Unused
 mod Created
 mod BesideViews
 mod Sublists
+mod NewNumbers

@@ -70,6 +70,10 @@ with_permits db permits is new =
       small_permit_numbers = new.have_small_numbers;
     }
 
+-- the permits that stand then stand in the database as it was
+pub permits_as_before : (db : Db) (permits : List (RelKey × Permit)) → IsTrue (list_all (λ p. permit_stands (record db { permits = permits }) p.0 p.1) permits) → IsTrue (list_all (λ p. permit_stands db p.0 p.1) permits)
+permits_as_before db permits t = permits_stay db (record db { permits = permits }) (permits_alike db permits) refl permits ∙ t
+
 -- ---- rules
 
 rules_alike : (db : Db) (rules : List (RelKey × Rule)) → Alike db (record db { rules = rules })
@@ -126,3 +130,8 @@ with_rules db rules is new =
       small_rule_numbers = new.have_small_numbers;
       small_permit_numbers = is.small_permit_numbers;
     }
+
+-- the rules that stand then stand in the database as it was
+pub rules_as_before : (db : Db) (rules : List (RelKey × Rule)) → IsTrue (list_all (λ p. is_relation (record db { rules = rules }) p.0 && row_qual_stands (record db { rules = rules }) p.0 p.1.qual) rules)
+    → IsTrue (list_all (λ p. is_relation db p.0 && row_qual_stands db p.0 p.1.qual) rules)
+rules_as_before db rules t = rules_stay db (record db { rules = rules }) (rules_alike db rules) rules ∙ t

@@ -1,11 +1,13 @@
 -- Tests of numbers and of lists.
-use Rattle.std.proofs.Common.{◌≡◌, refl, subst, ℕ, ◌<◌, ◌≤◌, nat_le, nat_lt, Bool, true, false, ◌||◌, not, cond, IsTrue, List, [], ◌∷◌, Option, Some, None, arith}
+use Rattle.std.proofs.Common.{◌≡◌, refl, sym, ap, ◌∙◌, subst, ℕ, ◌<◌, ◌≤◌, nat_le, nat_lt, Bool, true, false, ◌||◌, not, cond, IsTrue, List, [], ◌∷◌, Option, Some, None, arith}
 use Rattle.std.specs.Prelude.{find, is_some}
 use Rattle.std.specs.List.{list_all, AllByRecursion}
 use Rattle.std.proofs.lemmas.Bool.Decides.{nat_tests}
 use Rattle.calculus.specs.declared.query.RelKey.{RelKey}
 use Rattle.calculus.specs.Keys.{same_key}
+use Rattle.calculus.specs.Database.{Relation}
 use Rattle.fit_changes.proofs.Kept.{both, each}
+use Rattle.fit_changes.proofs.Orders.{same_key_is}
 
 pub le_true : (m n : ℕ) → m ≤ n → IsTrue (nat_le m n)
 le_true m n h = grind (arith, nat_tests, h)
@@ -59,3 +61,15 @@ found_has {X} P test (y ∷ ys) x h e = go (test y) e (λ e. found_has P test ys
 pub each_true : {X : Type 0} (test : X → Bool) (xs : List X) → IsTrue (list_all test xs) → AllByRecursion (λ x. IsTrue (test x)) xs
 each_true test [] t = tt
 each_true test (x ∷ xs) t = let parts = both (test x) (list_all test xs) t in (parts.0, each_true test xs parts.1)
+
+-- what is found under a key has that key
+pub key_found : (rel : RelKey) (rs : List Relation) (r : Relation) → find (λ r. same_key r.info.key rel) rs ≡ Some r → r.info.key ≡ rel
+key_found rel [] r e = cc e
+key_found rel (x ∷ xs) r e = go (same_key x.info.key rel) refl e (key_found rel xs r)
+  where
+    the : {x y : Relation} → Some x ≡ Some y → x ≡ y
+    the e = cc e
+
+    go : (b : Bool) → same_key x.info.key rel ≡ b → cond b (Some x) (find (λ r. same_key r.info.key rel) xs) ≡ Some r → (find (λ r. same_key r.info.key rel) xs ≡ Some r → r.info.key ≡ rel) → r.info.key ≡ rel
+    go true f e later = ap (λ r. r.info.key) (sym (the e)) ∙ same_key_is x.info.key rel f
+    go false f e later = later e

@@ -2,13 +2,15 @@
 
 ghost use Rattle.std.specs.Prelude.{◌≡◌, ◌↔◌, ℕ, true, List};
 ghost use Rattle.calculus.specs.declared.query.RelKey.{RelKey};
+ghost use Rattle.calculus.specs.declared.schema.Permit.{Permit};
 ghost use Rattle.calculus.specs.declared.schema.RelInfo.{RelInfo};
+ghost use Rattle.calculus.specs.declared.schema.Rule.{Rule};
 ghost use Rattle.calculus.specs.declared.change.DbChange.TheVariants as change;
 ghost use Rattle.calculus.specs.Rows.{Row};
 ghost use Rattle.calculus.specs.Database.{Db};
 ghost use Rattle.calculus.specs.IsDatabase.{IsDatabase};
 ghost use Rattle.calculus.specs.Change.{IsLawful};
-ghost use Rattle.fit_changes.specs.Fit.{permits_may_go, rules_may_go, rows_are_fit, relation_is_fit};
+ghost use Rattle.fit_changes.specs.Fit.{permits_may_go, rules_may_go, rows_are_fit, relation_is_fit, permit_is_fit, rule_is_fit};
 
 /// Permits may go.
 pub fn dropping_permits_is_lawful_exactly_where_fit()
@@ -32,4 +34,16 @@ pub fn a_change_of_rows_is_lawful_exactly_where_fit()
 pub fn making_a_relation_is_lawful_exactly_where_fit()
     ensures { (db : Db) (info : RelInfo) (rows : List Row) → IsDatabase db
         → (relation_is_fit db info rows ≡ true) ↔ IsLawful db (change.Create info rows) }
+{}
+
+/// A permit may be made.
+pub fn making_a_permit_is_lawful_exactly_where_fit()
+    ensures { (db : Db) (rel : RelKey) (permit : Permit) → IsDatabase db
+        → (permit_is_fit db rel permit ≡ true) ↔ IsLawful db (change.Permit rel permit) }
+{}
+
+/// A rule may be made.
+pub fn making_a_rule_is_lawful_exactly_where_fit()
+    ensures { (db : Db) (rel : RelKey) (rule : Rule) → IsDatabase db
+        → (rule_is_fit db rel rule ≡ true) ↔ IsLawful db (change.Rule rel rule) }
 {}
