@@ -21,3 +21,7 @@ mod Created
 mod BesideViews
 mod Sublists
 mod NewNumbers
+mod Restructured
+mod IndexFit
+mod Destroyed
+mod Gone

@@ -5,12 +5,13 @@ ghost use Rattle.calculus.specs.declared.query.RelKey.{RelKey};
 ghost use Rattle.calculus.specs.declared.schema.Permit.{Permit};
 ghost use Rattle.calculus.specs.declared.schema.RelInfo.{RelInfo};
 ghost use Rattle.calculus.specs.declared.schema.Rule.{Rule};
+ghost use Rattle.calculus.specs.declared.schema.Spec.{Spec};
 ghost use Rattle.calculus.specs.declared.change.DbChange.TheVariants as change;
 ghost use Rattle.calculus.specs.Rows.{Row};
 ghost use Rattle.calculus.specs.Database.{Db};
 ghost use Rattle.calculus.specs.IsDatabase.{IsDatabase};
 ghost use Rattle.calculus.specs.Change.{IsLawful};
-ghost use Rattle.fit_changes.specs.Fit.{permits_may_go, rules_may_go, rows_are_fit, relation_is_fit, permit_is_fit, rule_is_fit};
+ghost use Rattle.fit_changes.specs.Fit.{permits_may_go, rules_may_go, rows_are_fit, relation_is_fit, permit_is_fit, rule_is_fit, structure_is_fit, index_is_fit, destroying_is_fit};
 
 /// Permits may go.
 pub fn dropping_permits_is_lawful_exactly_where_fit()
@@ -46,4 +47,22 @@ pub fn making_a_permit_is_lawful_exactly_where_fit()
 pub fn making_a_rule_is_lawful_exactly_where_fit()
     ensures { (db : Db) (rel : RelKey) (rule : Rule) → IsDatabase db
         → (rule_is_fit db rel rule ≡ true) ↔ IsLawful db (change.Rule rel rule) }
+{}
+
+/// A relation may be stored in another structure.
+pub fn another_structure_is_lawful_exactly_where_fit()
+    ensures { (db : Db) (rel : RelKey) (to : Spec) (keys : List ℕ) → IsDatabase db
+        → (structure_is_fit db rel to keys ≡ true) ↔ IsLawful db (change.Modify rel to keys) }
+{}
+
+/// An index may be made.
+pub fn making_an_index_is_lawful_exactly_where_fit()
+    ensures { (db : Db) (base : RelKey) (name keys : List ℕ) → IsDatabase db
+        → (index_is_fit db base name keys ≡ true) ↔ IsLawful db (change.Index base name keys) }
+{}
+
+/// Relations, views and indexes may go.
+pub fn destroying_is_lawful_exactly_where_fit()
+    ensures { (db : Db) (rels : List RelKey) → IsDatabase db
+        → (destroying_is_fit db rels ≡ true) ↔ IsLawful db (change.Destroy rels) }
 {}

@@ -6,5 +6,5 @@ mod laws;
 
 pub use laws::{
     a_change_of_rows_is_lawful_exactly_where_fit, dropping_permits_is_lawful_exactly_where_fit,
-    dropping_rules_is_lawful_exactly_where_fit, making_a_relation_is_lawful_exactly_where_fit, making_a_permit_is_lawful_exactly_where_fit, making_a_rule_is_lawful_exactly_where_fit,
+    dropping_rules_is_lawful_exactly_where_fit, making_a_relation_is_lawful_exactly_where_fit, making_a_permit_is_lawful_exactly_where_fit, making_a_rule_is_lawful_exactly_where_fit, another_structure_is_lawful_exactly_where_fit, making_an_index_is_lawful_exactly_where_fit, destroying_is_lawful_exactly_where_fit,
 };
