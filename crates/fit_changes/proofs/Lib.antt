@@ -25,3 +25,7 @@ mod Restructured
 mod IndexFit
 mod Destroyed
 mod Gone
+mod Levels
+mod ViewMade
+mod ViewFit
+mod Exactly

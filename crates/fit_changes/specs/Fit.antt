@@ -1,5 +1,5 @@
 -- Which changes a database may take, asked of it as it stands: a test for each kind of change.
-use Rattle.std.specs.Prelude.{ℕ, Bool, false, not, ◌&&◌, ◌+◌, nat_eq, nat_le, nat_lt, List, length, Some, None}
+use Rattle.std.specs.Prelude.{ℕ, Bool, not, ◌&&◌, ◌+◌, nat_eq, nat_le, nat_lt, List, length}
 use Rattle.std.specs.List.{list_all, list_any}
 use Rattle.calculus.specs.declared.query.RelKey.{RelKey}
 use Rattle.calculus.specs.declared.query.Query.{Query}
@@ -10,7 +10,7 @@ use Rattle.calculus.specs.declared.schema.Rule.{Rule}
 use Rattle.calculus.specs.declared.change.DbChange.{DbChange}
 use Rattle.calculus.specs.declared.change.DbChange.TheVariants as change
 use Rattle.calculus.specs.Keys.{key_of, same_key}
-use Rattle.calculus.specs.Limits.{most_rows, most_entries, most_permits, most_rules, greatest_number, most_listed_attributes, most_expanded_variables, most_variables, greatest_size, greatest_level, most_levels}
+use Rattle.calculus.specs.Limits.{most_rows, most_entries, most_permits, most_rules, greatest_number, most_listed_attributes, most_expanded_variables, most_variables, greatest_size, most_levels}
 use Rattle.calculus.specs.Lists.{is_any, has_number, differ_by}
 use Rattle.calculus.specs.Rows.{Row, has}
 use Rattle.calculus.specs.Database.{Db, entries, is_relation, is_there}
@@ -20,6 +20,7 @@ use Rattle.calculus.specs.Sizes.{query_level, variables, expanded_variables, que
 use Rattle.calculus.specs.TreeLevels.{query_levels}
 use Rattle.calculus.specs.IsDatabase.{key_is_named, structure_stands, attrs_stand, are_stored, keys_stand, row_fits, view_info_stands, attrs_are_targets, vars_are_there, query_stands, row_qual_stands, row_qual_is_small, permit_stands}
 use Rattle.calculus.specs.Change.{rows_differ, permit_numbers, rule_numbers}
+use Rattle.quel_meaning.specs.Passing.{is_too_high}
 use Rattle.quel_meaning.specs.Planned.{is_in_use}
 
 -- something may be made under the key: it is named, is no catalogue's and is not in use, and there is room for one more entry
@@ -81,10 +82,6 @@ index_is_fit db base name keys = is_relation db base && (is_any keys && (keys_st
 unfoldable pub destroying_is_fit : Db → List RelKey → Bool
 destroying_is_fit db rels = list_all (is_there db) rels && (differ_by same_key rels && not (is_in_use db rels))
 
--- a view of the query would have a level, and none above the greatest
-unfoldable pub level_is_fit : Db → Query → Bool
-level_is_fit db q = elim (query_level db q) [ None ↦ false | Some level ↦ nat_le level greatest_level ]
-
 -- the view is within the limits, once the views in it are put in
 unfoldable pub view_is_small : Db → Query → Bool
 view_is_small db q =
@@ -97,7 +94,7 @@ unfoldable pub view_is_fit : Db → RelInfo → Query → Bool
 view_is_fit db info q =
     key_is_free db info.key
     && (view_info_stands info
-    && (attrs_stand info.attrs && (attrs_are_targets info.attrs (targets_of q) && (vars_are_there db q && (level_is_fit db q && (query_stands db q && view_is_small db q))))))
+    && (attrs_stand info.attrs && (attrs_are_targets info.attrs (targets_of q) && (vars_are_there db q && (not (is_too_high (query_level db q)) && (query_stands db q && view_is_small db q))))))
 
 -- the change may be laid
 unfoldable pub change_is_fit : Db → DbChange → Bool

@@ -1,17 +1,19 @@
 //! For each kind of change a test of it that is true exactly where the change is lawful.
 
 ghost use Rattle.std.specs.Prelude.{◌≡◌, ◌↔◌, ℕ, true, List};
+ghost use Rattle.calculus.specs.declared.query.Query.{Query};
 ghost use Rattle.calculus.specs.declared.query.RelKey.{RelKey};
 ghost use Rattle.calculus.specs.declared.schema.Permit.{Permit};
 ghost use Rattle.calculus.specs.declared.schema.RelInfo.{RelInfo};
 ghost use Rattle.calculus.specs.declared.schema.Rule.{Rule};
 ghost use Rattle.calculus.specs.declared.schema.Spec.{Spec};
+ghost use Rattle.calculus.specs.declared.change.DbChange.{DbChange};
 ghost use Rattle.calculus.specs.declared.change.DbChange.TheVariants as change;
 ghost use Rattle.calculus.specs.Rows.{Row};
 ghost use Rattle.calculus.specs.Database.{Db};
 ghost use Rattle.calculus.specs.IsDatabase.{IsDatabase};
 ghost use Rattle.calculus.specs.Change.{IsLawful};
-ghost use Rattle.fit_changes.specs.Fit.{permits_may_go, rules_may_go, rows_are_fit, relation_is_fit, permit_is_fit, rule_is_fit, structure_is_fit, index_is_fit, destroying_is_fit};
+ghost use Rattle.fit_changes.specs.Fit.{permits_may_go, rules_may_go, rows_are_fit, relation_is_fit, permit_is_fit, rule_is_fit, structure_is_fit, index_is_fit, destroying_is_fit, view_is_fit, change_is_fit};
 
 /// Permits may go.
 pub fn dropping_permits_is_lawful_exactly_where_fit()
@@ -65,4 +67,15 @@ pub fn making_an_index_is_lawful_exactly_where_fit()
 pub fn destroying_is_lawful_exactly_where_fit()
     ensures { (db : Db) (rels : List RelKey) → IsDatabase db
         → (destroying_is_fit db rels ≡ true) ↔ IsLawful db (change.Destroy rels) }
+{}
+
+/// A view may be made.
+pub fn making_a_view_is_lawful_exactly_where_fit()
+    ensures { (db : Db) (info : RelInfo) (query : Query) → IsDatabase db
+        → (view_is_fit db info query ≡ true) ↔ IsLawful db (change.View info query) }
+{}
+
+/// A change of any kind is lawful exactly where its test is true.
+pub fn a_change_is_lawful_exactly_where_fit()
+    ensures { (db : Db) (made : DbChange) → IsDatabase db → (change_is_fit db made ≡ true) ↔ IsLawful db made }
 {}
