@@ -1,5 +1,5 @@
 -- A view that is put beside those that stand, under a key that nothing has.
-use Rattle.std.proofs.Common.{◌≡◌, refl, sym, ap, ◌∙◌, subst, suc, ◌≤◌, Bool, true, false, not, cond, IsTrue, List, [], ◌∷◌, ◌++◌, Some, None, map, length, arith}
+use Rattle.std.proofs.Common.{◌≡◌, refl, sym, ap, ◌∙◌, suc, ◌≤◌, Bool, true, false, not, cond, IsTrue, List, [], ◌∷◌, ◌++◌, Some, None, map, length, arith}
 use Rattle.std.specs.Prelude.{find}
 use Rattle.std.specs.List.{list_all, list_any, AllByRecursion}
 use Rattle.std.specs.List.Sorted.{IsStrictlySortedBy}
@@ -44,15 +44,6 @@ found_beside key x (y ∷ ys) other =
     go Greater e later = ap (λ o. cond (same_key y.info.key key) (Some y) o) later
 
 -- ---- each of them
-
-pub each_beside : (P : View → Type 0) (x : View) (rs : List View) → P x → AllByRecursion P rs → AllByRecursion P (insert_by by_view x rs)
-each_beside P x [] p h = (p, tt)
-each_beside P x (y ∷ ys) p h = subst (AllByRecursion P) (sym (insert-cons by_view x y ys (by_view x y) refl)) (go (by_view x y) (each_beside P x ys p h.1))
-  where
-    go : (o : Ordering) → AllByRecursion P (insert_by by_view x ys) → AllByRecursion P (insert_as o x y ys (insert_by by_view x ys))
-    go Less later = (p, h)
-    go Equal later = (p, h.1)
-    go Greater later = (h.0, later)
 
 pub all_beside : (test : RelInfo → Bool) (x : View) (rs : List View) (others : List RelInfo) → IsTrue (test x.info) → IsTrue (list_all test (views_known rs ++ others))
     → IsTrue (list_all test (views_known (insert_by by_view x rs) ++ others))

@@ -1,27 +1,23 @@
 -- A relation that is made.
-use Rattle.std.proofs.Common.{◌≡◌, refl, sym, ap, ◌∙◌, subst, ℕ, suc, ◌≤◌, nat_le, nat_lt, Bool, true, false, ◌&&◌, ◌||◌, not, cond, IsTrue, List, [], ◌∷◌, ◌++◌, Option, Some, None, map, filter, length, arith}
-use Rattle.std.specs.Prelude.{◌↔◌, bytes_eq, codes, find, is_some}
+use Rattle.std.proofs.Common.{◌≡◌, refl, sym, ap, ◌∙◌, subst, ℕ, suc, ◌≤◌, nat_le, nat_lt, Bool, true, false, ◌&&◌, not, IsTrue, List, [], ◌∷◌, ◌++◌, None, map, length, arith}
+use Rattle.std.specs.Prelude.{◌↔◌, is_some}
 use Rattle.std.specs.List.{list_all, AllByRecursion}
 use Rattle.std.proofs.lemmas.Bool.Decides.{nat_tests}
 use Rattle.std.proofs.lemmas.Cmp.{on_total}
 use Rattle.std.proofs.lemmas.List.{length-map, length-append}
 use Rattle.std.specs.Ordering.{is_eq}
 use Rattle.calculus.specs.declared.query.RelKey.{RelKey}
-use Rattle.calculus.specs.declared.schema.Attr.{Attr}
 use Rattle.calculus.specs.declared.schema.RelInfo.{RelInfo}
-use Rattle.calculus.specs.declared.schema.Spec.{Spec}
-use Rattle.calculus.specs.declared.schema.Spec.TheVariants as spec
 use Rattle.calculus.specs.declared.change.DbChange.TheVariants as change
 use Rattle.calculus.specs.Keys.{same_key}
-use Rattle.calculus.specs.Lists.{insert_by, is_any}
+use Rattle.calculus.specs.Lists.{insert_by}
 use Rattle.calculus.specs.Limits.{most_entries, most_rows, most_rules, most_permits}
 use Rattle.calculus.specs.Rows.{Row, Ascends, has, set_of}
-use Rattle.calculus.specs.Catalogue.{is_catalogue_name, is_catalogue, catalogue_at}
-use Rattle.calculus.specs.Database.{Db, Relation, View, Index, relation_at, view_at, is_relation, entries, is_there, rules_on, permits_on}
-use Rattle.calculus.specs.Stored.{Viewed, range_at, attrs_at}
+use Rattle.calculus.specs.Catalogue.{catalogue_at}
+use Rattle.calculus.specs.Database.{Db, Relation, View, relation_at, view_at, is_relation, entries, is_there, rules_on, permits_on}
+use Rattle.calculus.specs.Stored.{range_at}
 use Rattle.calculus.specs.QueryParts.{vars_of}
-use Rattle.calculus.specs.Name.{is_name}
-use Rattle.calculus.specs.IsDatabase.{IsDatabase, row_fits, key_is_named, structure_stands, attrs_stand, are_stored, relation_rows_fit, vars_are_there, query_stands, index_stands, row_qual_stands, permit_stands, keys_stand}
+use Rattle.calculus.specs.IsDatabase.{IsDatabase, row_fits, key_is_named, structure_stands, attrs_stand, are_stored, relation_rows_fit, vars_are_there, query_stands, index_stands, row_qual_stands, permit_stands}
 use Rattle.calculus.specs.Change.{laid, rows_differ, names_what_is_there, adds_what_is_new, lists_once, IsLawful}
 use Rattle.calculus.proofs.Sets.{Ascends-set_of, has-set_of}
 use Rattle.fit_changes.specs.Fit.{key_is_free, relation_is_fit}
@@ -32,11 +28,11 @@ use Rattle.fit_changes.proofs.Counted.{all_of_put, length_put}
 use Rattle.fit_changes.proofs.RowsChanged.{all_put}
 use Rattle.fit_changes.proofs.Inserted.{insert_passes, length_insert, never_equal}
 use Rattle.fit_changes.proofs.Unused.{nothing_ranges, ranged_is_other, relation_is_ranged, viewed_is_found, each_from, none_of_key, both_each, index_based}
-use Rattle.fit_changes.proofs.Orders.{key_total, same_key_is}
+use Rattle.fit_changes.proofs.Orders.{key_total}
 use Rattle.fit_changes.proofs.Alike.{AlikeRange}
-use Rattle.fit_changes.proofs.Ranging.{AlikeRelation, same_relation, ranged, ranged_alike, catalogue_alike}
+use Rattle.fit_changes.proofs.Ranging.{AlikeRelation, same_relation, ranged_alike, catalogue_alike}
 use Rattle.fit_changes.proofs.Indexes.{all-map}
-use Rattle.fit_changes.proofs.NewIndexes.{other_way, not_there, new-all, all-append}
+use Rattle.fit_changes.proofs.NewIndexes.{not_there, new-all, all-append}
 use Rattle.fit_changes.proofs.PlainQueries.{query_plain}
 use Rattle.fit_changes.proofs.Staying.{Staying}
 use Rattle.fit_changes.proofs.StayingFacts.{ViewStays, levels_hold, vars_hold, queries_hold, sizes_hold, expansions_hold, rules_hold, permits_hold, indexes_hold}
@@ -212,8 +208,8 @@ relation_fits_exactly db info rows is = (to, from)
     from : IsLawful db (change.Create info rows) → relation_is_fit db info rows ≡ true
     from l =
         each _ _ (each _ _ named (each _ _ l.additions_are_new room)) (each _ _ (its (λ r. structure_stands r.info) after.structures_stand) (each _ _ (its (λ r. attrs_stand r.info.attrs) after.relation_attrs_stand)
-            (each _ _ (its (λ r. are_stored r.info.attrs) after.relations_are_stored) (each _ _ l.nothing_is_listed_twice (each _ _ (all_of_set (row_fits info.attrs) rows (its relation_rows_fit after.rows_fit))
-            (ap (λ n. nat_le n most_rows) (sym (length_set rows l.nothing_is_listed_twice)) ∙ its (λ r. nat_le (length r.rows) most_rows) after.few_rows))))))
+        (each _ _ (its (λ r. are_stored r.info.attrs) after.relations_are_stored) (each _ _ l.nothing_is_listed_twice (each _ _ (all_of_set (row_fits info.attrs) rows (its relation_rows_fit after.rows_fit))
+        (ap (λ n. nat_le n most_rows) (sym (length_set rows l.nothing_is_listed_twice)) ∙ its (λ r. nat_le (length r.rows) most_rows) after.few_rows))))))
       where
         new : Relation
         new = record { info = info; rows = set_of rows }

@@ -11,14 +11,14 @@ use Rattle.calculus.specs.Keys.{same_key, has_key, key_cmp, numbered_cmp}
 use Rattle.calculus.specs.Lists.{differ_by}
 use Rattle.calculus.specs.Limits.{most_entries, most_rows, most_rules, most_permits}
 use Rattle.calculus.specs.Rows.{Row, Ascends, set_of}
-use Rattle.calculus.specs.Catalogue.{is_catalogue, relation_key, attribute_key, catalogue_at, relation_info, attribute_info, relation_row, attribute_rows, all_entries}
+use Rattle.calculus.specs.Catalogue.{relation_key, attribute_key, catalogue_at, relation_info, attribute_info, relation_row, attribute_rows, all_entries}
 use Rattle.calculus.specs.Database.{Db, Relation, View, Index, relation_at, view_at, entries, is_there, rules_on, permits_on}
 use Rattle.calculus.specs.Stored.{range_at}
 use Rattle.calculus.specs.QueryParts.{vars_of, targets_of}
 use Rattle.calculus.specs.IsDatabase.{IsDatabase, key_is_named, structure_stands, attrs_stand, are_stored, relation_rows_fit, index_stands, view_info_stands, attrs_are_targets, vars_are_there, query_stands}
 use Rattle.calculus.specs.Change.{laid, without_keys, names_what_is_there, adds_what_is_new, lists_once, IsLawful}
 use Rattle.quel_meaning.specs.Planned.{is_in_use}
-use Rattle.fit_changes.proofs.Kept.{both, each, all_filter, filter_fewer}
+use Rattle.fit_changes.proofs.Kept.{all_filter, filter_fewer}
 use Rattle.fit_changes.proofs.Orders.{same_key_is}
 use Rattle.fit_changes.proofs.Alike.{AlikeRange}
 use Rattle.fit_changes.proofs.Ranging.{AlikeRelation, same_relation, ranged, ranged_alike}

@@ -1,8 +1,7 @@
 -- Permits or rules that go, by their numbers.
-use Rattle.std.proofs.Common.{◌≡◌, refl, sym, ap, ◌∙◌, ℕ, ◌≤◌, nat_eq, nat_le, Bool, true, false, ◌&&◌, not, IsTrue, List, [], ◌∷◌, map, filter, length, arith}
+use Rattle.std.proofs.Common.{◌≡◌, refl, ℕ, ◌≤◌, nat_eq, nat_le, Bool, true, ◌&&◌, not, IsTrue, List, filter, length, arith}
 use Rattle.std.specs.Prelude.{◌↔◌}
 use Rattle.std.specs.List.{list_all}
-use Rattle.std.proofs.lemmas.Bool.Decides.{nat_tests}
 use Rattle.std.proofs.lemmas.List.{length-map}
 use Rattle.std.proofs.lemmas.List.Kept.{IsStrictlySortedBy-filter}
 use Rattle.calculus.specs.declared.query.RelKey.{RelKey}

@@ -1,5 +1,5 @@
 -- An index that is made.
-use Rattle.std.proofs.Common.{◌≡◌, refl, sym, ap, ◌∙◌, ℕ, suc, ◌+◌, nat_le, nat_lt, Bool, true, false, ◌&&◌, not, IsTrue, List, [], map, ◌++◌, length, arith}
+use Rattle.std.proofs.Common.{◌≡◌, sym, ◌∙◌, ℕ, suc, ◌+◌, nat_le, nat_lt, Bool, true, false, ◌&&◌, not, IsTrue, List, map, ◌++◌, length, arith}
 use Rattle.std.specs.Prelude.{◌↔◌}
 use Rattle.std.specs.List.{list_all, AllByRecursion}
 use Rattle.std.specs.Ordering.{is_eq}

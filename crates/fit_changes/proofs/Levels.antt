@@ -1,11 +1,11 @@
 -- The level that a view of a query would have.
-use Rattle.std.proofs.Common.{◌≡◌, refl, sym, ap, ◌∙◌, subst, ℕ, zero, suc, ◌≤◌, max, nat_lt, Bool, true, false, ◌&&◌, not, IsTrue, List, [], ◌∷◌, Option, Some, None, map, arith}
+use Rattle.std.proofs.Common.{◌≡◌, refl, sym, ap, ◌∙◌, ℕ, zero, suc, ◌≤◌, max, nat_lt, Bool, true, not, IsTrue, List, [], ◌∷◌, Option, Some, None, map, arith}
 use Rattle.std.specs.Prelude.{is_some, option_map}
 use Rattle.std.specs.List.{list_all, AllByRecursion}
 use Rattle.std.proofs.lemmas.Bool.Decides.{nat_tests}
 use Rattle.calculus.specs.declared.query.RelKey.{RelKey}
 use Rattle.calculus.specs.declared.query.Query.{Query}
-use Rattle.calculus.specs.Database.{Db, View}
+use Rattle.calculus.specs.Database.{Db}
 use Rattle.calculus.specs.Limits.{greatest_level}
 use Rattle.calculus.specs.Stored.{Range, Kept, Viewed, range_at}
 use Rattle.calculus.specs.QueryParts.{vars_of}
@@ -83,8 +83,8 @@ lower db (suc n) key i h low = go (lower db n) (range_at db key) h
     go ih (Some (Viewed view)) e =
         let top = one_less (greatest_of (map (level_within (suc n) db) (vars_of view.query))) i e in
         there_above (level_within n db) (vars_of view.query) (as_test (λ k. is_some (level_within n db k)) (vars_of view.query)
-            (each_maps (λ k. IsAtMost top.0 (level_within (suc n) db k)) (λ k. is_some (level_within n db k) ≡ true) (vars_of view.query)
-            (each_at_most (level_within (suc n) db) (vars_of view.query) top.0 top.2) (λ k at. ih k at.0 at.2 (omega (arith, at.1, top.1, low)))))
+        (each_maps (λ k. IsAtMost top.0 (level_within (suc n) db k)) (λ k. is_some (level_within n db k) ≡ true) (vars_of view.query)
+        (each_at_most (level_within (suc n) db) (vars_of view.query) top.0 top.2) (λ k at. ih k at.0 at.2 (omega (arith, at.1, top.1, low)))))
 
 -- a level within so many is at most so many, and the same within one more
 greatest_bound : (f : RelKey → Option ℕ) (n : ℕ) (keys : List RelKey) (j : ℕ) → ((key : RelKey) (i : ℕ) → f key ≡ Some i → i ≤ n) → greatest_of (map f keys) ≡ Some j → j ≤ n
@@ -136,7 +136,7 @@ within_more db (suc n) key there = go (within_more db n) (range_at db key) there
     go ih (Some (Kept relation)) h = refl
     go ih (Some (Viewed view)) h =
         ap level_above (map_same (λ key. is_some (level_within n db key) ≡ true) (level_within n db) (level_within (suc n) db) (vars_of view.query)
-            (each_level (λ key. is_some (level_within n db key)) (vars_of view.query) (there_below (level_within n db) (vars_of view.query) h)) ih)
+        (each_level (λ key. is_some (level_within n db key)) (vars_of view.query) (there_below (level_within n db) (vars_of view.query) h)) ih)
 
 -- ---- the level of a query
 

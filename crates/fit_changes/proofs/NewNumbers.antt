@@ -1,8 +1,7 @@
 -- A permit or a rule that is put beside those that stand.
-use Rattle.std.proofs.Common.{◌≡◌, refl, ap, subst, ℕ, suc, ◌<◌, ◌≤◌, nat_le, nat_lt, Bool, true, false, ◌&&◌, not, IsTrue, List, [], ◌∷◌, filter, length, arith}
-use Rattle.std.specs.Prelude.{◌↔◌, bytes_eq}
+use Rattle.std.proofs.Common.{◌≡◌, refl, ap, subst, ℕ, suc, ◌<◌, ◌≤◌, nat_le, nat_lt, Bool, true, false, ◌&&◌, not, IsTrue, List, filter, length, arith}
+use Rattle.std.specs.Prelude.{◌↔◌}
 use Rattle.std.specs.List.{list_all}
-use Rattle.std.proofs.lemmas.Bool.Decides.{nat_tests}
 use Rattle.std.proofs.lemmas.List.{length-map}
 use Rattle.calculus.specs.declared.query.RelKey.{RelKey}
 use Rattle.calculus.specs.declared.schema.Permit.{Permit}
@@ -86,7 +85,7 @@ permit_fits_exactly db rel permit is = (to, from)
     from : IsLawful db (change.Permit rel permit) → permit_is_fit db rel permit ≡ true
     from l =
         each _ _ stands (each _ _ (its (λ p. row_qual_is_small p.1.qual) after.small_permits) (each _ _ (its (λ p. nat_le (length p.1.attrs) most_listed_attributes) after.short_permits)
-            (each _ _ (its (λ p. nat_le p.1.number greatest_number) after.small_permit_numbers) (each _ _ l.additions_are_new few))))
+        (each _ _ (its (λ p. nat_le p.1.number greatest_number) after.small_permit_numbers) (each _ _ l.additions_are_new few))))
       where
         later : Db
         later = record db { permits = insert_by (numbered_cmp (λ p. p.number)) (rel, permit) db.permits }
@@ -103,7 +102,7 @@ permit_fits_exactly db rel permit is = (to, from)
         one_more : length (permits_on later rel) ≡ suc (length (permit_numbers db rel))
         one_more =
             let counted = count_insert (numbered_cmp (λ p. p.number)) (of_key rel) (rel, permit) db.permits
-                (number_unequal (λ p. p.number) rel permit db.permits (is_no (has_number (permit_numbers db rel) permit.number) l.additions_are_new)) (same_key_itself rel) in
+            (number_unequal (λ p. p.number) rel permit db.permits (is_no (has_number (permit_numbers db rel) permit.number) l.additions_are_new)) (same_key_itself rel) in
             let many = length-map (filter (of_key rel) later.permits) (λ p. p.1) in
             let before = length-map (filter (of_key rel) db.permits) (λ p. p.1) in
             let numbers = length-map (permits_on db rel) (λ p. p.number) in
@@ -112,7 +111,7 @@ permit_fits_exactly db rel permit is = (to, from)
         few : IsTrue (nat_lt (length (permit_numbers db rel)) most_permits)
         few = there_is (relation_at db rel) l.names_are_there (λ relation found.
             let most = found_has (λ r. IsTrue (nat_le (length (permits_on later r.info.key)) most_permits)) (λ r. same_key r.info.key rel) db.relations relation
-                (each_true (λ r. nat_le (length (permits_on later r.info.key)) most_permits) db.relations after.few_permits) found in
+            (each_true (λ r. nat_le (length (permits_on later r.info.key)) most_permits) db.relations after.few_permits) found in
             let own : IsTrue (nat_le (length (permits_on later rel)) most_permits) = subst (λ key. IsTrue (nat_le (length (permits_on later key)) most_permits)) (key_found rel db.relations relation found) most in
             let bound = le_is (length (permits_on later rel)) most_permits own in
             lt_true (length (permit_numbers db rel)) most_permits (omega (arith, bound, one_more)))
@@ -172,7 +171,7 @@ rule_fits_exactly db rel rule is = (to, from)
     from : IsLawful db (change.Rule rel rule) → rule_is_fit db rel rule ≡ true
     from l =
         each _ _ l.names_are_there (each _ _ (both (is_relation db rel) (row_qual_stands db rel rule.qual) stands).1 (each _ _ (its (λ p. row_qual_is_small p.1.qual) after.small_rules)
-            (each _ _ (its (λ p. nat_le p.1.number greatest_number) after.small_rule_numbers) (each _ _ l.additions_are_new few))))
+        (each _ _ (its (λ p. nat_le p.1.number greatest_number) after.small_rule_numbers) (each _ _ l.additions_are_new few))))
       where
         later : Db
         later = record db { rules = insert_by (numbered_cmp (λ r. r.number)) (rel, rule) db.rules }
@@ -189,7 +188,7 @@ rule_fits_exactly db rel rule is = (to, from)
         one_more : length (rules_on later rel) ≡ suc (length (rule_numbers db rel))
         one_more =
             let counted = count_insert (numbered_cmp (λ r. r.number)) (of_key rel) (rel, rule) db.rules
-                (number_unequal (λ r. r.number) rel rule db.rules (is_no (has_number (rule_numbers db rel) rule.number) l.additions_are_new)) (same_key_itself rel) in
+            (number_unequal (λ r. r.number) rel rule db.rules (is_no (has_number (rule_numbers db rel) rule.number) l.additions_are_new)) (same_key_itself rel) in
             let many = length-map (filter (of_key rel) later.rules) (λ p. p.1) in
             let before = length-map (filter (of_key rel) db.rules) (λ p. p.1) in
             let numbers = length-map (rules_on db rel) (λ r. r.number) in
@@ -198,7 +197,7 @@ rule_fits_exactly db rel rule is = (to, from)
         few : IsTrue (nat_lt (length (rule_numbers db rel)) most_rules)
         few = there_is (relation_at db rel) l.names_are_there (λ relation found.
             let most = found_has (λ r. IsTrue (nat_le (length (rules_on later r.info.key)) most_rules)) (λ r. same_key r.info.key rel) db.relations relation
-                (each_true (λ r. nat_le (length (rules_on later r.info.key)) most_rules) db.relations after.few_rules) found in
+            (each_true (λ r. nat_le (length (rules_on later r.info.key)) most_rules) db.relations after.few_rules) found in
             let own : IsTrue (nat_le (length (rules_on later rel)) most_rules) = subst (λ key. IsTrue (nat_le (length (rules_on later key)) most_rules)) (key_found rel db.relations relation found) most in
             let bound = le_is (length (rules_on later rel)) most_rules own in
             lt_true (length (rule_numbers db rel)) most_rules (omega (arith, bound, one_more)))

@@ -1,5 +1,5 @@
 -- A relation that is stored in another structure.
-use Rattle.std.proofs.Common.{◌≡◌, refl, sym, subst, ℕ, Bool, true, ◌&&◌, not, IsTrue, List, Some, filter}
+use Rattle.std.proofs.Common.{◌≡◌, refl, sym, subst, ℕ, Bool, true, not, IsTrue, List, Some, filter}
 use Rattle.std.specs.Prelude.{◌↔◌}
 use Rattle.std.specs.List.{AllByRecursion}
 use Rattle.calculus.specs.declared.query.RelKey.{RelKey}
@@ -65,4 +65,4 @@ structure_fits_exactly db rel to keys is = (onto, from)
     from : IsLawful db (change.Modify rel to keys) → structure_is_fit db rel to keys ≡ true
     from l = there_is (relation_at db rel) l.names_are_there (λ relation found.
         each _ _ l.names_are_there (subst (λ attrs. IsTrue (stands_for rel to keys attrs)) (sym (its_attrs db rel relation found))
-            (changed_passes rel (restructured to keys) (λ r. structure_stands r.info) db.relations relation found l.leaves_a_database.structures_stand)))
+        (changed_passes rel (restructured to keys) (λ r. structure_stands r.info) db.relations relation found l.leaves_a_database.structures_stand)))

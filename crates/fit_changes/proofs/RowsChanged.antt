@@ -1,11 +1,10 @@
 -- Rows that are put beside those of a relation, as a lawful change.
-use Rattle.std.proofs.Common.{◌≡◌, refl, sym, ap, ◌∙◌, subst, nat_le, Bool, true, false, ◌&&◌, ◌||◌, not, cond, IsTrue, List, [], ◌∷◌, Option, Some, None, map, filter, length}
+use Rattle.std.proofs.Common.{◌≡◌, refl, sym, ap, ◌∙◌, subst, nat_le, Bool, true, false, ◌&&◌, ◌||◌, cond, IsTrue, List, [], ◌∷◌, Option, Some, None, filter, length}
 use Rattle.std.specs.Prelude.{option_map}
 use Rattle.std.specs.List.{list_all, list_any, AllByRecursion}
 use Rattle.std.specs.Ordering.{eq_by_cmp, is_eq}
 use Rattle.std.specs.declared.cmp.Ordering.{Ordering}
 use Rattle.std.specs.declared.cmp.Ordering.TheVariants.{Less, Equal, Greater}
-use Rattle.std.proofs.lemmas.Map.Keys.{sorted_head, sorted_tail}
 use Rattle.calculus.specs.declared.query.RelKey.{RelKey}
 use Rattle.calculus.specs.Keys.{same_key}
 use Rattle.calculus.specs.Limits.{most_rows}
@@ -13,11 +12,11 @@ use Rattle.calculus.specs.Rows.{Row, Ascends, has, put}
 use Rattle.calculus.specs.Value.{row_cmp}
 use Rattle.calculus.specs.Database.{Db, Relation, relation_at, view_at}
 use Rattle.calculus.specs.Catalogue.{catalogue_at}
-use Rattle.calculus.specs.Stored.{Range, Kept, Viewed, range_at, range_info, info_at, kept_rows, attrs_in, attrs_at, rows_at, kinds_at}
+use Rattle.calculus.specs.Stored.{Range, Kept, Viewed, range_at, range_info, info_at, kept_rows, attrs_in, attrs_at, rows_at}
 use Rattle.calculus.specs.Replacement.{with_rows, without_rows}
 use Rattle.calculus.specs.IsDatabase.{IsDatabase, row_fits}
-use Rattle.calculus.specs.Change.{change_at, rows_differ}
-use Rattle.calculus.proofs.Sets.{same_exact, has-put, Ascends-put, same_set}
+use Rattle.calculus.specs.Change.{change_at}
+use Rattle.calculus.proofs.Sets.{same_exact, has-put, Ascends-put}
 use Rattle.fit_changes.proofs.Kept.{both, each}
 use Rattle.fit_changes.proofs.Changed.{ChangeStands, with_changed, owned, each_maps}
 
@@ -59,39 +58,10 @@ pub nothing_removed : (rows : List Row) → without_rows [] rows ≡ rows
 nothing_removed [] = refl
 nothing_removed (row ∷ rows) = ap (λ rows. row ∷ rows) (nothing_removed rows)
 
--- putting those that are new makes what putting all makes
-pub new_ones_put : (new rows : List Row) → Ascends rows → with_rows (without_rows rows (with_rows new rows)) (without_rows [] rows) ≡ with_rows new rows
-new_ones_put new rows h =
-    ap (with_rows (without_rows rows (with_rows new rows))) (nothing_removed rows)
-    ∙ same_set (with_rows (without_rows rows (with_rows new rows)) rows) (with_rows new rows) (Ascends-with_rows (without_rows rows (with_rows new rows)) rows h) (Ascends-with_rows new rows h)
-    (λ q. has-with_rows (without_rows rows (with_rows new rows)) rows q
-    ∙ ap (λ b. b || has rows q) (has-filter (λ row. not (has rows row)) (with_rows new rows) q ∙ ap (λ b. b && not (has rows q)) (has-with_rows new rows q))
-    ∙ again (has new q) (has rows q) ∙ sym (has-with_rows new rows q))
-  where
-    again : (a b : Bool) → (((a || b) && not b) || b) ≡ (a || b)
-    again true true = refl
-    again true false = refl
-    again false true = refl
-    again false false = refl
-
--- none of those that are new is there
-pub new_ones_are_new : (rows others : List Row) → list_any (has rows) (without_rows rows others) ≡ false
-new_ones_are_new rows [] = refl
-new_ones_are_new rows (row ∷ others) = go (has rows row) refl (new_ones_are_new rows others)
-  where
-    go : (b : Bool) → has rows row ≡ b → list_any (has rows) (without_rows rows others) ≡ false → list_any (has rows) (cond (not b) (row ∷ without_rows rows others) (without_rows rows others)) ≡ false
-    go true e later = later
-    go false e later = ap (λ b. b || list_any (has rows) (without_rows rows others)) e ∙ later
-
 -- rows that ascend differ
 pub smaller_is_none : (row : Row) (rows : List Row) → AllByRecursion (λ r. row_cmp row r ≡ Less) rows → list_any (eq_by_cmp row_cmp row) rows ≡ false
 smaller_is_none row [] h = refl
 smaller_is_none row (r ∷ rows) h = ap (λ o. is_eq o || list_any (eq_by_cmp row_cmp row) rows) h.0 ∙ smaller_is_none row rows h.1
-
-pub rows_that_ascend_differ : (rows : List Row) → Ascends rows → IsTrue (rows_differ rows)
-rows_that_ascend_differ [] h = refl
-rows_that_ascend_differ (row ∷ rows) h =
-    each (not (list_any (eq_by_cmp row_cmp row) rows)) (rows_differ rows) (ap not (smaller_is_none row rows (sorted_head row_cmp row rows h))) (rows_that_ascend_differ rows (sorted_tail row_cmp row rows h))
 
 abbrev pub put_as : Ordering → Row → Row → List Row → List Row → List Row
 put_as Less row first rest more = row ∷ first ∷ rest
@@ -128,10 +98,6 @@ range_is db rel relation e = ap (λ o. elim o as (λ o. Option Range) [
 
 pub its_rows : (db : Db) (rel : RelKey) (relation : Relation) → relation_at db rel ≡ Some relation → rows_at db rel ≡ relation.rows
 its_rows db rel relation e = ap kept_rows (range_is db rel relation e)
-
-pub its_kinds : (db : Db) (rel : RelKey) (relation : Relation) → relation_at db rel ≡ Some relation → kinds_at db rel ≡ map (λ a. a.kind) relation.info.attrs
-unfolding info_at
-its_kinds db rel relation e = ap (λ r. map (λ a. a.kind) (attrs_in (option_map range_info r))) (range_is db rel relation e)
 
 pub its_attrs : (db : Db) (rel : RelKey) (relation : Relation) → relation_at db rel ≡ Some relation → attrs_at db rel ≡ relation.info.attrs
 unfolding info_at

@@ -1,6 +1,6 @@
 -- Rows of a relation that go and come.
 use Rattle.std.proofs.Common.{◌≡◌, refl, sym, ap, ◌∙◌, subst, ℕ, ◌+◌, nat_le, Bool, true, false, ◌&&◌, ◌||◌, not, cond, IsTrue, List, [], ◌∷◌, Some, length, arith}
-use Rattle.std.specs.Prelude.{◌↔◌, find, is_some}
+use Rattle.std.specs.Prelude.{◌↔◌, find}
 use Rattle.std.specs.List.{list_all, list_any}
 use Rattle.std.proofs.lemmas.Bool.Decides.{nat_tests}
 use Rattle.std.proofs.lemmas.List.Kept.{IsStrictlySortedBy-filter}
@@ -118,8 +118,8 @@ rows_fit_exactly db rel remove add is = (to, from)
         let fitting = all_that_come (row_fits relation.info.attrs) add (without_rows remove relation.rows) (changed_passes rel changed relation_rows_fit db.relations relation found l.leaves_a_database.rows_fit) in
         let bound = no_more (length remove) (length (with_rows add (without_rows remove relation.rows))) (length relation.rows + length add) number few in
         each _ _ names.0 (each _ _ names.1 (each _ _ l.additions_are_new (each _ _ once.0 (each _ _ once.1 (each _ _
-            (subst (λ attrs. IsTrue (list_all (row_fits attrs) add)) (sym (its_attrs db rel relation found)) fitting)
-            (subst (λ (rows : List Row). IsTrue (nat_le (length rows + length add) (length remove + most_rows))) (sym old) bound))))))
+        (subst (λ attrs. IsTrue (list_all (row_fits attrs) add)) (sym (its_attrs db rel relation found)) fitting)
+        (subst (λ (rows : List Row). IsTrue (nat_le (length rows + length add) (length remove + most_rows))) (sym old) bound))))))
 
     from : IsLawful db (change.Rows rel remove add) → rows_are_fit db rel remove add ≡ true
     from l = there_is (relation_at db rel) (both (is_relation db rel) _ l.names_are_there).0 (λ relation found. fit relation found l)

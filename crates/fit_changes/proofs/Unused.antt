@@ -1,40 +1,25 @@
 -- A key under which nothing stands, and what stands under others.
-use Rattle.std.proofs.Common.{◌≡◌, refl, sym, ap, ◌∙◌, subst, ℕ, suc, ◌≤◌, nat_le, nat_lt, Bool, true, false, ◌&&◌, ◌||◌, not, cond, IsTrue, List, [], ◌∷◌, ◌++◌, Option, Some, None, map, filter, length, arith}
+use Rattle.std.proofs.Common.{◌≡◌, refl, sym, ap, ◌∙◌, Bool, true, false, ◌&&◌, ◌||◌, not, cond, IsTrue, List, [], ◌∷◌, ◌++◌, Option, Some, None, map, filter}
 use Rattle.std.specs.Prelude.{bytes_eq, codes, find, flat_map, is_some}
-use Rattle.std.specs.List.{list_all, AllByRecursion}
-use Rattle.std.proofs.lemmas.Bool.Decides.{nat_tests}
-use Rattle.std.proofs.lemmas.Cmp.{on_total}
+use Rattle.std.specs.List.{AllByRecursion}
 use Rattle.calculus.specs.declared.query.RelKey.{RelKey}
-use Rattle.calculus.specs.declared.schema.Attr.{Attr}
 use Rattle.calculus.specs.declared.schema.RelInfo.{RelInfo}
 use Rattle.calculus.specs.declared.schema.Spec.{Spec}
 use Rattle.calculus.specs.declared.schema.Spec.TheVariants as spec
-use Rattle.calculus.specs.declared.change.DbChange.TheVariants as change
 use Rattle.calculus.specs.Keys.{same_key}
-use Rattle.calculus.specs.Lists.{insert_by, is_any}
-use Rattle.calculus.specs.Limits.{most_entries, most_rows, most_rules, most_permits}
-use Rattle.calculus.specs.Rows.{Row, Ascends, set_of}
+use Rattle.calculus.specs.Lists.{is_any}
+use Rattle.calculus.specs.Rows.{set_of}
 use Rattle.calculus.specs.Catalogue.{is_catalogue_name, is_catalogue, catalogue_at, relation_key, attribute_key, relation_info, attribute_info, relation_row, attribute_rows, all_entries}
-use Rattle.calculus.specs.Database.{Db, Relation, View, Index, relation_at, view_at, is_relation, entries, is_there, rules_on, permits_on}
+use Rattle.calculus.specs.Database.{Db, Relation, View, Index, relation_at, view_at, is_relation, is_there}
 use Rattle.calculus.specs.Stored.{Viewed, range_at, attrs_at}
-use Rattle.calculus.specs.QueryParts.{vars_of}
 use Rattle.calculus.specs.Name.{is_name}
-use Rattle.calculus.specs.IsDatabase.{IsDatabase, row_fits, key_is_named, structure_stands, attrs_stand, are_stored, relation_rows_fit, vars_are_there, query_stands, index_stands, row_qual_stands, permit_stands, keys_stand}
-use Rattle.calculus.specs.Change.{laid, names_what_is_there, adds_what_is_new, lists_once, IsLawful}
-use Rattle.calculus.proofs.Sets.{Ascends-nil, Ascends-set_of, has-set_of, same_set}
-use Rattle.quel_meaning.proofs.InOrder.{in_order-insert}
-use Rattle.fit_changes.proofs.Tests.{neither, each_true, is_no}
-use Rattle.fit_changes.proofs.Kept.{both, all_insert}
-use Rattle.fit_changes.proofs.Orders.{key_total, same_key_is}
-use Rattle.fit_changes.proofs.Alike.{AlikeRange}
-use Rattle.fit_changes.proofs.Ranging.{AlikeRelation, same_relation, ranged, ranged_alike, catalogue_alike}
-use Rattle.fit_changes.proofs.Indexes.{all-map}
-use Rattle.fit_changes.proofs.NewIndexes.{other_way, not_there, new-all, all-append}
-use Rattle.fit_changes.proofs.RowsChanged.{rows_that_ascend_differ}
-use Rattle.fit_changes.proofs.PlainQueries.{query_plain}
-use Rattle.fit_changes.proofs.Staying.{Staying}
-use Rattle.fit_changes.proofs.StayingFacts.{ViewStays, levels_hold, vars_hold, queries_hold, sizes_hold, expansions_hold, rules_hold, permits_hold, indexes_hold}
-use Rattle.fit_changes.proofs.Beside.{by_rel, known_of, found_beside, each_beside, all_beside, differ_beside, one_beside, sorted_by_rel, sorted_by_key}
+use Rattle.calculus.specs.IsDatabase.{key_is_named, index_stands, keys_stand}
+use Rattle.fit_changes.proofs.Tests.{neither, is_no}
+use Rattle.fit_changes.proofs.Kept.{both}
+use Rattle.fit_changes.proofs.Orders.{same_key_is}
+use Rattle.fit_changes.proofs.Ranging.{ranged}
+use Rattle.fit_changes.proofs.NewIndexes.{other_way}
+use Rattle.fit_changes.proofs.Beside.{known_of}
 
 pub no_catalogue : (db : Db) (key : RelKey) → is_catalogue db key ≡ false → catalogue_at db key ≡ None
 unfolding catalogue_at

@@ -1,5 +1,5 @@
 -- A view that is made may be made.
-use Rattle.std.proofs.Common.{◌≡◌, refl, sym, ap, ◌∙◌, subst, ℕ, zero, suc, ◌+◌, nat_le, nat_lt, Bool, true, false, ◌&&◌, ◌||◌, not, IsTrue, List, [], ◌∷◌, ◌++◌, Some, None, map, length, arith}
+use Rattle.std.proofs.Common.{◌≡◌, refl, sym, ap, ◌∙◌, ℕ, zero, suc, ◌+◌, nat_le, nat_lt, Bool, true, false, ◌&&◌, ◌||◌, not, IsTrue, List, [], ◌∷◌, ◌++◌, Some, None, map, length, arith}
 use Rattle.std.specs.Prelude.{◌↔◌, is_some, sum, sum_by}
 use Rattle.std.specs.List.{list_all, AllByRecursion}
 use Rattle.std.specs.Ordering.{is_eq}
@@ -11,7 +11,6 @@ use Rattle.calculus.specs.declared.query.Query.{Query}
 use Rattle.calculus.specs.declared.schema.RelInfo.{RelInfo}
 use Rattle.calculus.specs.declared.change.DbChange.TheVariants as change
 use Rattle.calculus.specs.Keys.{same_key, has_key}
-use Rattle.calculus.specs.Lists.{insert_by}
 use Rattle.calculus.specs.Limits.{most_entries, most_expanded_variables, most_variables, most_levels, greatest_size}
 use Rattle.calculus.specs.Database.{Db, View, entries, is_there}
 use Rattle.calculus.specs.Stored.{Viewed, range_at, kinds_at}
@@ -224,4 +223,4 @@ view_fits_exactly db info q is = (to, from)
     from l =
         let facts = lawful_view db info q is l in
         each _ _ (each _ _ facts.named (each _ _ (ap not facts.unused) facts.room)) (each _ _ facts.kept (each _ _ facts.attributes (each _ _ facts.targets (each _ _ facts.vars
-            (each _ _ (not_too_high db q facts.levels) (each _ _ facts.stands (each _ _ facts.few_listed (each _ _ facts.few (each _ _ facts.few_expanded (each _ _ facts.small facts.shallow))))))))))
+        (each _ _ (not_too_high db q facts.levels) (each _ _ facts.stands (each _ _ facts.few_listed (each _ _ facts.few (each _ _ facts.few_expanded (each _ _ facts.small facts.shallow))))))))))

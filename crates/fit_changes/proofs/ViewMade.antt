@@ -1,5 +1,5 @@
 -- A view that is made.
-use Rattle.std.proofs.Common.{◌≡◌, refl, sym, ap, ◌∙◌, subst, ℕ, suc, ◌+◌, ◌≤◌, nat_le, nat_lt, Bool, true, false, ◌&&◌, not, IsTrue, List, [], ◌∷◌, ◌++◌, Option, Some, None, map, length, arith}
+use Rattle.std.proofs.Common.{◌≡◌, refl, sym, ap, ◌∙◌, subst, ℕ, suc, ◌+◌, ◌≤◌, nat_le, nat_lt, Bool, true, false, ◌&&◌, not, IsTrue, List, ◌++◌, Option, Some, None, map, length, arith}
 use Rattle.std.specs.Prelude.{flat_map, is_some, sum, sum_by}
 use Rattle.std.specs.List.{list_all, AllByRecursion}
 use Rattle.std.proofs.lemmas.Bool.Decides.{nat_tests}
@@ -22,7 +22,7 @@ use Rattle.calculus.specs.TreeLevels.{query_levels}
 use Rattle.calculus.specs.IsDatabase.{IsDatabase, key_is_named, view_info_stands, attrs_stand, attrs_are_targets, vars_are_there, query_stands, index_stands, row_qual_stands, permit_stands}
 use Rattle.calculus.specs.Change.{laid, names_what_is_there, adds_what_is_new, lists_once, IsLawful}
 use Rattle.quel_meaning.proofs.InOrder.{in_order-insert}
-use Rattle.fit_changes.proofs.Kept.{both, each, all_insert}
+use Rattle.fit_changes.proofs.Kept.{both, all_insert}
 use Rattle.fit_changes.proofs.Orders.{key_total}
 use Rattle.fit_changes.proofs.Alike.{AlikeRange}
 use Rattle.fit_changes.proofs.Ranging.{AlikeRelation, same_relation, ranged, ranged_alike}

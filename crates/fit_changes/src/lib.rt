@@ -5,6 +5,10 @@
 mod laws;
 
 pub use laws::{
-    a_change_of_rows_is_lawful_exactly_where_fit, dropping_permits_is_lawful_exactly_where_fit,
-    dropping_rules_is_lawful_exactly_where_fit, making_a_relation_is_lawful_exactly_where_fit, making_a_permit_is_lawful_exactly_where_fit, making_a_rule_is_lawful_exactly_where_fit, another_structure_is_lawful_exactly_where_fit, making_an_index_is_lawful_exactly_where_fit, destroying_is_lawful_exactly_where_fit, making_a_view_is_lawful_exactly_where_fit, a_change_is_lawful_exactly_where_fit,
+    change_is_fit_exactly_where_lawful, destroying_is_fit_exactly_where_lawful,
+    index_is_fit_exactly_where_lawful, permit_is_fit_exactly_where_lawful,
+    permits_may_go_exactly_where_lawful, relation_is_fit_exactly_where_lawful,
+    rows_are_fit_exactly_where_lawful, rule_is_fit_exactly_where_lawful,
+    rules_may_go_exactly_where_lawful, structure_is_fit_exactly_where_lawful,
+    view_is_fit_exactly_where_lawful,
 };
