@@ -20,10 +20,11 @@ use Rattle.calculus.specs.QueryParts.{vars_of}
 use Rattle.calculus.specs.IsDatabase.{IsDatabase, row_fits, key_is_named, structure_stands, attrs_stand, are_stored, relation_rows_fit, vars_are_there, query_stands, index_stands, row_qual_stands, permit_stands}
 use Rattle.calculus.specs.Change.{laid, rows_differ, names_what_is_there, adds_what_is_new, lists_once, IsLawful}
 use Rattle.calculus.proofs.Sets.{Ascends-set_of, has-set_of}
+use Rattle.quel_meaning.specs.Passing.{is_full}
 use Rattle.fit_changes.specs.Fit.{key_is_free, relation_is_fit}
 use Rattle.quel_meaning.proofs.InOrder.{in_order-insert}
 use Rattle.fit_changes.proofs.Kept.{both, each, all_insert}
-use Rattle.fit_changes.proofs.Tests.{found_has, each_true, is_no}
+use Rattle.fit_changes.proofs.Tests.{has_room, not_full, found_has, each_true, is_no}
 use Rattle.fit_changes.proofs.Counted.{all_of_put, length_put}
 use Rattle.fit_changes.proofs.RowsChanged.{all_put}
 use Rattle.fit_changes.proofs.Inserted.{insert_passes, length_insert, never_equal}
@@ -196,18 +197,18 @@ relation_fits_exactly db info rows is = (to, from)
     to : relation_is_fit db info rows ≡ true → IsLawful db (change.Create info rows)
     to t =
         let free = both (key_is_free db info.key) _ t in
-        let named = both (key_is_named info.key) (not (is_there db info.key) && nat_lt (length (entries db)) most_entries) free.0 in
-        let unused = both (not (is_there db info.key)) (nat_lt (length (entries db)) most_entries) named.1 in
+        let named = both (key_is_named info.key) (not (is_there db info.key) && not (is_full db)) free.0 in
+        let unused = both (not (is_there db info.key)) (not (is_full db)) named.1 in
         let structure = both (structure_stands info) _ free.1 in
         let attributes = both (attrs_stand info.attrs) _ structure.1 in
         let domains = both (are_stored info.attrs) _ attributes.1 in
         let differ = both (rows_differ rows) _ domains.1 in
         let fits = both (list_all (row_fits info.attrs) rows) (nat_le (length rows) most_rows) differ.1 in
-        made_lawful db info rows is named.0 (is_no (is_there db info.key) unused.0) unused.1 structure.0 attributes.0 domains.0 differ.0 fits.0 fits.1
+        made_lawful db info rows is named.0 (is_no (is_there db info.key) unused.0) (has_room db unused.1) structure.0 attributes.0 domains.0 differ.0 fits.0 fits.1
 
     from : IsLawful db (change.Create info rows) → relation_is_fit db info rows ≡ true
     from l =
-        each _ _ (each _ _ named (each _ _ l.additions_are_new room)) (each _ _ (its (λ r. structure_stands r.info) after.structures_stand) (each _ _ (its (λ r. attrs_stand r.info.attrs) after.relation_attrs_stand)
+        each _ _ (each _ _ named (each _ _ l.additions_are_new (not_full db room))) (each _ _ (its (λ r. structure_stands r.info) after.structures_stand) (each _ _ (its (λ r. attrs_stand r.info.attrs) after.relation_attrs_stand)
         (each _ _ (its (λ r. are_stored r.info.attrs) after.relations_are_stored) (each _ _ l.nothing_is_listed_twice (each _ _ (all_of_set (row_fits info.attrs) rows (its relation_rows_fit after.rows_fit))
         (ap (λ n. nat_le n most_rows) (sym (length_set rows l.nothing_is_listed_twice)) ∙ its (λ r. nat_le (length r.rows) most_rows) after.few_rows))))))
       where

@@ -13,9 +13,10 @@ use Rattle.calculus.specs.QueryParts.{vars_of}
 use Rattle.calculus.specs.IsDatabase.{IsDatabase, key_is_named, vars_are_there}
 use Rattle.calculus.specs.Change.{laid, names_what_is_there, lists_once, IsLawful}
 use Rattle.quel_meaning.specs.Planned.{is_in_use}
-use Rattle.fit_changes.specs.Fit.{destroying_is_fit}
+use Rattle.fit_changes.specs.Fit.{is_named_outside, destroying_is_fit}
 use Rattle.fit_changes.proofs.Kept.{both, each}
 use Rattle.fit_changes.proofs.Orders.{same_key_is}
+use Rattle.fit_changes.proofs.Swapped.{any_and, any_swap, either_way}
 use Rattle.fit_changes.proofs.Tests.{neither, is_no, all_imply}
 use Rattle.fit_changes.proofs.Indexes.{all-map}
 use Rattle.fit_changes.proofs.NewIndexes.{all-append}
@@ -113,6 +114,17 @@ none_in_use db rels (v ∷ views) is there t = go (not (has_key rels v.info.key)
         λ i. others_named db rels (vars_of v.query) is there parts.0 i || later parts.1 i
     go false t later = later t
 
+-- ---- asked key by key
+
+-- some view outside these names one of them, as it is asked of the views, where it is asked of each of them
+in_use_by_key : (db : Db) (rels : List RelKey) → list_any (is_named_outside db rels) rels ≡ is_in_use db rels
+unfolding is_named_outside
+in_use_by_key db rels =
+    any_swap (λ key v. not (has_key rels v.info.key) && has_key (vars_of v.query) key) rels db.views
+    ∙ ap (λ (f : View → Bool). list_any f db.views) (λ i v. any_and (not (has_key rels v.info.key)) (λ key. has_key (vars_of v.query) key) rels i)
+    ∙ ap (λ (f : View → Bool). list_any f db.views) (λ i v. not (has_key rels v.info.key) && any_swap same_key rels (vars_of v.query) i)
+    ∙ ap (λ (same : RelKey → RelKey → Bool). list_any (λ v. not (has_key rels v.info.key) && list_any (λ k. list_any (λ key. same key k) rels) (vars_of v.query)) db.views) (λ i a b. either_way a b i)
+
 -- ---- the test
 
 pub destroying_fits_exactly : (db : Db) (rels : List RelKey) → IsDatabase db → (destroying_is_fit db rels ≡ true) ↔ IsLawful db (change.Destroy rels)
@@ -122,8 +134,8 @@ destroying_fits_exactly db rels is = (to, from)
     to : destroying_is_fit db rels ≡ true → IsLawful db (change.Destroy rels)
     to t =
         let there = both (list_all (is_there db) rels) _ t in
-        let differ = both (differ_by same_key rels) (not (is_in_use db rels)) there.1 in
-        destroyed_lawful db rels is there.0 differ.0 (is_no (is_in_use db rels) differ.1)
+        let differ = both (differ_by same_key rels) (not (list_any (is_named_outside db rels) rels)) there.1 in
+        destroyed_lawful db rels is there.0 differ.0 (sym (in_use_by_key db rels) ∙ is_no (list_any (is_named_outside db rels) rels) differ.1)
 
     from : IsLawful db (change.Destroy rels) → destroying_is_fit db rels ≡ true
-    from l = each _ _ l.names_are_there (each _ _ l.nothing_is_listed_twice (ap not (none_in_use db rels db.views is l.names_are_there l.leaves_a_database.views_name_what_is_there)))
+    from l = each _ _ l.names_are_there (each _ _ l.nothing_is_listed_twice (ap not (in_use_by_key db rels ∙ none_in_use db rels db.views is l.names_are_there l.leaves_a_database.views_name_what_is_there)))

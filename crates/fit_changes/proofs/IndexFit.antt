@@ -15,9 +15,10 @@ use Rattle.calculus.specs.Database.{Db, Index, entries, is_relation, is_there}
 use Rattle.calculus.specs.Stored.{attrs_at}
 use Rattle.calculus.specs.IsDatabase.{IsDatabase, key_is_named, keys_stand, index_stands}
 use Rattle.calculus.specs.Change.{laid, index_info, names_what_is_there, adds_what_is_new, IsLawful}
+use Rattle.quel_meaning.specs.Passing.{is_full}
 use Rattle.fit_changes.specs.Fit.{key_is_free, index_is_fit}
 use Rattle.fit_changes.proofs.Kept.{both, each}
-use Rattle.fit_changes.proofs.Tests.{is_no, each_true}
+use Rattle.fit_changes.proofs.Tests.{has_room, not_full, is_no, each_true}
 use Rattle.fit_changes.proofs.Alike.{indexes_stay}
 use Rattle.fit_changes.proofs.Ranging.{indexed_alike}
 use Rattle.fit_changes.proofs.Changed.{each_maps}
@@ -38,11 +39,11 @@ index_fits_exactly db base name keys is = (to, from)
         let some = both (is_any keys) _ relation.1 in
         let places = both (keys_stand (attrs_at db base) keys) _ some.1 in
         let named = both (key_is_named key) _ places.1 in
-        let unused = both (not (is_there db key)) (nat_lt (length (entries db)) most_entries) named.1 in
-        index_lawful db base name keys is relation.0 some.0 places.0 named.0 (is_no (is_there db key) unused.0) unused.1
+        let unused = both (not (is_there db key)) (not (is_full db)) named.1 in
+        index_lawful db base name keys is relation.0 some.0 places.0 named.0 (is_no (is_there db key) unused.0) (has_room db unused.1)
 
     from : IsLawful db (change.Index base name keys) → index_is_fit db base name keys ≡ true
-    from l = each _ _ l.names_are_there (each _ _ stands.0 (each _ _ stands.1 (each _ _ named (each _ _ l.additions_are_new room))))
+    from l = each _ _ l.names_are_there (each _ _ stands.0 (each _ _ stands.1 (each _ _ named (each _ _ l.additions_are_new (not_full db room)))))
       where
         new : Index
         new = record { info = index_info base name keys; base = base }

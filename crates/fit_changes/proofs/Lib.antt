@@ -24,8 +24,9 @@ mod NewNumbers
 mod Restructured
 mod IndexFit
 mod Destroyed
+mod Swapped
 mod Gone
 mod Levels
 mod ViewMade
 mod ViewFit
-mod Exactly
+pub mod Exactly

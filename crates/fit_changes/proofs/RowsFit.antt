@@ -1,5 +1,5 @@
 -- Rows of a relation that go and come.
-use Rattle.std.proofs.Common.{◌≡◌, refl, sym, ap, ◌∙◌, subst, ℕ, ◌+◌, nat_le, Bool, true, false, ◌&&◌, ◌||◌, not, cond, IsTrue, List, [], ◌∷◌, Some, length, arith}
+use Rattle.std.proofs.Common.{◌≡◌, refl, sym, ap, ◌∙◌, subst, ℕ, ◌+◌, ◌-◌, nat_le, Bool, true, false, ◌&&◌, ◌||◌, not, cond, IsTrue, List, [], ◌∷◌, Some, length, arith}
 use Rattle.std.specs.Prelude.{◌↔◌, find}
 use Rattle.std.specs.List.{list_all, list_any}
 use Rattle.std.proofs.lemmas.Bool.Decides.{nat_tests}
@@ -69,10 +69,10 @@ rows_fit_exactly db rel remove add is = (to, from)
       found_has (λ r. IsTrue (relation_rows_fit r)) (λ r. same_key r.info.key rel) db.relations relation (each_true relation_rows_fit db.relations is.rows_fit) found,
     )
 
-    enough : (a b c : ℕ) → a + b ≡ c → IsTrue (nat_le c (a + most_rows)) → IsTrue (nat_le b most_rows)
+    enough : (a b c : ℕ) → a + b ≡ c → IsTrue (nat_le (c - a) most_rows) → IsTrue (nat_le b most_rows)
     enough a b c e t = grind (arith, nat_tests, e, t)
 
-    no_more : (a b c : ℕ) → a + b ≡ c → IsTrue (nat_le b most_rows) → IsTrue (nat_le c (a + most_rows))
+    no_more : (a b c : ℕ) → a + b ≡ c → IsTrue (nat_le b most_rows) → IsTrue (nat_le (c - a) most_rows)
     no_more a b c e t = grind (arith, nat_tests, e, t)
 
     lawful : (relation : Relation) → relation_at db rel ≡ Some relation → rows_are_fit db rel remove add ≡ true → IsLawful db (change.Rows rel remove add)
@@ -88,8 +88,8 @@ rows_fit_exactly db rel remove add is = (to, from)
         let own_there : IsTrue (list_all (has relation.rows) remove) = subst (λ rows. IsTrue (list_all (has rows) remove)) old there.0 in
         let own_new : IsTrue (not (list_any (has relation.rows) add)) = subst (λ rows. IsTrue (not (list_any (has rows) add))) old new.0 in
         let number = counted relation remove add own.0 own_there own_new gone_once.0 come_once.0 in
-        let few : IsTrue (nat_le (length relation.rows + length add) (length remove + most_rows)) =
-        subst (λ (rows : List Row). IsTrue (nat_le (length rows + length add) (length remove + most_rows))) old fits.1 in
+        let few : IsTrue (nat_le (length relation.rows + length add - length remove) most_rows) =
+        subst (λ (rows : List Row). IsTrue (nat_le (length rows + length add - length remove) most_rows)) old fits.1 in
         let fitting : IsTrue (list_all (row_fits relation.info.attrs) add) = subst (λ attrs. IsTrue (list_all (row_fits attrs) add)) (its_attrs db rel relation found) fits.0 in
         record {
           names_are_there = each _ _ relation_there.0 there.0;
@@ -119,7 +119,7 @@ rows_fit_exactly db rel remove add is = (to, from)
         let bound = no_more (length remove) (length (with_rows add (without_rows remove relation.rows))) (length relation.rows + length add) number few in
         each _ _ names.0 (each _ _ names.1 (each _ _ l.additions_are_new (each _ _ once.0 (each _ _ once.1 (each _ _
         (subst (λ attrs. IsTrue (list_all (row_fits attrs) add)) (sym (its_attrs db rel relation found)) fitting)
-        (subst (λ (rows : List Row). IsTrue (nat_le (length rows + length add) (length remove + most_rows))) (sym old) bound))))))
+        (subst (λ (rows : List Row). IsTrue (nat_le (length rows + length add - length remove) most_rows)) (sym old) bound))))))
 
     from : IsLawful db (change.Rows rel remove add) → rows_are_fit db rel remove add ≡ true
     from l = there_is (relation_at db rel) (both (is_relation db rel) _ l.names_are_there).0 (λ relation found. fit relation found l)

@@ -1,11 +1,13 @@
 -- Tests of numbers and of lists.
-use Rattle.std.proofs.Common.{◌≡◌, refl, sym, ap, ◌∙◌, subst, ℕ, ◌<◌, ◌≤◌, nat_le, nat_lt, Bool, true, false, ◌||◌, not, cond, IsTrue, List, [], ◌∷◌, Option, Some, None, arith}
+use Rattle.std.proofs.Common.{◌≡◌, refl, sym, ap, ◌∙◌, subst, ℕ, ◌<◌, ◌≤◌, nat_le, nat_lt, Bool, true, false, ◌||◌, not, cond, IsTrue, List, [], ◌∷◌, Option, Some, None, length, arith}
 use Rattle.std.specs.Prelude.{find, is_some}
 use Rattle.std.specs.List.{list_all, AllByRecursion}
 use Rattle.std.proofs.lemmas.Bool.Decides.{nat_tests}
 use Rattle.calculus.specs.declared.query.RelKey.{RelKey}
 use Rattle.calculus.specs.Keys.{same_key}
-use Rattle.calculus.specs.Database.{Relation}
+use Rattle.calculus.specs.Limits.{most_entries}
+use Rattle.calculus.specs.Database.{Db, Relation, entries}
+use Rattle.quel_meaning.specs.Passing.{is_full}
 use Rattle.fit_changes.proofs.Kept.{both, each}
 use Rattle.fit_changes.proofs.Orders.{same_key_is}
 
@@ -73,3 +75,18 @@ key_found rel (x ∷ xs) r e = go (same_key x.info.key rel) refl e (key_found re
     go : (b : Bool) → same_key x.info.key rel ≡ b → cond b (Some x) (find (λ r. same_key r.info.key rel) xs) ≡ Some r → (find (λ r. same_key r.info.key rel) xs ≡ Some r → r.info.key ≡ rel) → r.info.key ≡ rel
     go true f e later = ap (λ r. r.info.key) (sym (the e)) ∙ same_key_is x.info.key rel f
     go false f e later = later e
+
+-- there is room for one more entry exactly where it isn't full
+pub has_room : (db : Db) → IsTrue (not (is_full db)) → IsTrue (nat_lt (length (entries db)) most_entries)
+unfolding is_full
+has_room db t = room (length (entries db)) t
+  where
+    room : (n : ℕ) → IsTrue (not (nat_le most_entries n)) → IsTrue (nat_lt n most_entries)
+    room n t = grind (arith, nat_tests, t)
+
+pub not_full : (db : Db) → IsTrue (nat_lt (length (entries db)) most_entries) → IsTrue (not (is_full db))
+unfolding is_full
+not_full db t = room (length (entries db)) t
+  where
+    room : (n : ℕ) → IsTrue (nat_lt n most_entries) → IsTrue (not (nat_le most_entries n))
+    room n t = grind (arith, nat_tests, t)

@@ -19,11 +19,11 @@ use Rattle.calculus.specs.Sizes.{Measure, level_above, range_level, level_within
 use Rattle.calculus.specs.TreeLevels.{query_levels}
 use Rattle.calculus.specs.IsDatabase.{IsDatabase, key_is_named, view_info_stands, attrs_stand, attrs_are_targets, vars_are_there, query_stands}
 use Rattle.calculus.specs.Change.{laid, adds_what_is_new, IsLawful}
-use Rattle.quel_meaning.specs.Passing.{is_too_high}
+use Rattle.quel_meaning.specs.Passing.{is_full, is_too_high}
 use Rattle.fit_changes.specs.Fit.{key_is_free, view_is_small, view_is_fit}
 use Rattle.fit_changes.proofs.Kept.{both, each}
 use Rattle.fit_changes.proofs.Orders.{same_key_is}
-use Rattle.fit_changes.proofs.Tests.{is_no, each_true}
+use Rattle.fit_changes.proofs.Tests.{has_room, not_full, is_no, each_true}
 use Rattle.fit_changes.proofs.Changed.{each_maps}
 use Rattle.fit_changes.proofs.Indexes.{all-map}
 use Rattle.fit_changes.proofs.NewIndexes.{new-all, all-append, not_there}
@@ -190,8 +190,8 @@ view_fits_exactly db info q is = (to, from)
     to : view_is_fit db info q ≡ true → IsLawful db (change.View info q)
     to t =
         let free = both (key_is_free db info.key) _ t in
-        let named = both (key_is_named info.key) (not (is_there db info.key) && nat_lt (length (entries db)) most_entries) free.0 in
-        let unused = both (not (is_there db info.key)) (nat_lt (length (entries db)) most_entries) named.1 in
+        let named = both (key_is_named info.key) (not (is_there db info.key) && not (is_full db)) free.0 in
+        let unused = both (not (is_there db info.key)) (not (is_full db)) named.1 in
         let kept = both (view_info_stands info) _ free.1 in
         let attributes = both (attrs_stand info.attrs) _ kept.1 in
         let targets = both (attrs_are_targets info.attrs (targets_of q)) _ attributes.1 in
@@ -205,7 +205,7 @@ view_fits_exactly db info q is = (to, from)
         view_lawful db info q is (record {
           named = named.0;
           unused = is_no (is_there db info.key) unused.0;
-          room = unused.1;
+          room = has_room db unused.1;
           kept = kept.0;
           attributes = attributes.0;
           targets = targets.0;
@@ -222,5 +222,5 @@ view_fits_exactly db info q is = (to, from)
     from : IsLawful db (change.View info q) → view_is_fit db info q ≡ true
     from l =
         let facts = lawful_view db info q is l in
-        each _ _ (each _ _ facts.named (each _ _ (ap not facts.unused) facts.room)) (each _ _ facts.kept (each _ _ facts.attributes (each _ _ facts.targets (each _ _ facts.vars
+        each _ _ (each _ _ facts.named (each _ _ (ap not facts.unused) (not_full db facts.room))) (each _ _ facts.kept (each _ _ facts.attributes (each _ _ facts.targets (each _ _ facts.vars
         (each _ _ (not_too_high db q facts.levels) (each _ _ facts.stands (each _ _ facts.few_listed (each _ _ facts.few (each _ _ facts.few_expanded (each _ _ facts.small facts.shallow))))))))))

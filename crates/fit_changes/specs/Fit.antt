@@ -1,5 +1,5 @@
 -- Which changes a database may take, asked of it as it stands: a test for each kind of change.
-use Rattle.std.specs.Prelude.{ℕ, Bool, not, ◌&&◌, ◌+◌, nat_eq, nat_le, nat_lt, List, length}
+use Rattle.std.specs.Prelude.{ℕ, Bool, not, ◌&&◌, ◌+◌, ◌-◌, nat_eq, nat_le, nat_lt, List, length}
 use Rattle.std.specs.List.{list_all, list_any}
 use Rattle.calculus.specs.declared.query.RelKey.{RelKey}
 use Rattle.calculus.specs.declared.query.Query.{Query}
@@ -9,23 +9,22 @@ use Rattle.calculus.specs.declared.schema.Permit.{Permit}
 use Rattle.calculus.specs.declared.schema.Rule.{Rule}
 use Rattle.calculus.specs.declared.change.DbChange.{DbChange}
 use Rattle.calculus.specs.declared.change.DbChange.TheVariants as change
-use Rattle.calculus.specs.Keys.{key_of, same_key}
-use Rattle.calculus.specs.Limits.{most_rows, most_entries, most_permits, most_rules, greatest_number, most_listed_attributes, most_expanded_variables, most_variables, greatest_size, most_levels}
+use Rattle.calculus.specs.Keys.{key_of, same_key, has_key}
+use Rattle.calculus.specs.Limits.{most_rows, most_permits, most_rules, greatest_number, most_listed_attributes, most_expanded_variables, most_variables, greatest_size, most_levels}
 use Rattle.calculus.specs.Lists.{is_any, has_number, differ_by}
 use Rattle.calculus.specs.Rows.{Row, has}
-use Rattle.calculus.specs.Database.{Db, entries, is_relation, is_there}
+use Rattle.calculus.specs.Database.{Db, is_relation, is_there}
 use Rattle.calculus.specs.Stored.{rows_at, attrs_at}
 use Rattle.calculus.specs.QueryParts.{vars_of, targets_of}
 use Rattle.calculus.specs.Sizes.{query_level, variables, expanded_variables, query_size}
 use Rattle.calculus.specs.TreeLevels.{query_levels}
 use Rattle.calculus.specs.IsDatabase.{key_is_named, structure_stands, attrs_stand, are_stored, keys_stand, row_fits, view_info_stands, attrs_are_targets, vars_are_there, query_stands, row_qual_stands, row_qual_is_small, permit_stands}
 use Rattle.calculus.specs.Change.{rows_differ, permit_numbers, rule_numbers}
-use Rattle.quel_meaning.specs.Passing.{is_too_high}
-use Rattle.quel_meaning.specs.Planned.{is_in_use}
+use Rattle.quel_meaning.specs.Passing.{is_full, is_too_high}
 
 -- something may be made under the key: it is named, is no catalogue's and is not in use, and there is room for one more entry
 unfoldable pub key_is_free : Db → RelKey → Bool
-key_is_free db key = key_is_named key && (not (is_there db key) && nat_lt (length (entries db)) most_entries)
+key_is_free db key = key_is_named key && (not (is_there db key) && not (is_full db))
 
 -- one more permit or rule may have the number: it is not too great, none of these is it, and there may be one more of them
 unfoldable pub number_is_free : ℕ → List ℕ → ℕ → Bool
@@ -50,7 +49,7 @@ rows_are_fit db rel remove add =
     && (list_all (has (rows_at db rel)) remove
     && (not (list_any (has (rows_at db rel)) add)
     && (rows_differ remove
-    && (rows_differ add && (list_all (row_fits (attrs_at db rel)) add && nat_le (length (rows_at db rel) + length add) (length remove + most_rows))))))
+    && (rows_differ add && (list_all (row_fits (attrs_at db rel)) add && nat_le (length (rows_at db rel) + length add - length remove) most_rows)))))
 
 -- a relation may be made: its key is free, its structure and its attributes stand, these have domains, and its rows differ, fit and are no more than may be
 unfoldable pub relation_is_fit : Db → RelInfo → List Row → Bool
@@ -78,9 +77,13 @@ structure_is_fit db rel to keys = is_relation db rel && structure_stands (record
 unfoldable pub index_is_fit : Db → RelKey → List ℕ → List ℕ → Bool
 index_is_fit db base name keys = is_relation db base && (is_any keys && (keys_stand (attrs_at db base) keys && key_is_free db (key_of base.owner name)))
 
+-- a view that is none of these names what stands under the key
+unfoldable pub is_named_outside : Db → List RelKey → RelKey → Bool
+is_named_outside db rels key = list_any (λ v. not (has_key rels v.info.key) && has_key (vars_of v.query) key) db.views
+
 -- relations, views and indexes may go: each is there, none is listed twice, and no view that stays names one of them
 unfoldable pub destroying_is_fit : Db → List RelKey → Bool
-destroying_is_fit db rels = list_all (is_there db) rels && (differ_by same_key rels && not (is_in_use db rels))
+destroying_is_fit db rels = list_all (is_there db) rels && (differ_by same_key rels && not (list_any (is_named_outside db rels) rels))
 
 -- the view is within the limits, once the views in it are put in
 unfoldable pub view_is_small : Db → Query → Bool
