@@ -13,9 +13,10 @@ use Rattle.calculus.specs.Value.{row_cmp}
 use Rattle.calculus.specs.Replacement.{with_rows, without_rows}
 use Rattle.calculus.specs.Change.{rows_differ}
 use Rattle.calculus.proofs.Sets.{same_exact}
-use Rattle.fit_changes.proofs.Kept.{both, each}
-use Rattle.fit_changes.proofs.Tests.{neither, is_no}
-use Rattle.fit_changes.proofs.RowsChanged.{put_as, put_is, has-with_rows, has-filter, nothing_removed, smaller_is_none}
+use Rattle.lawful_plans.proofs.Kept.{both, each}
+use Rattle.lawful_plans.proofs.Planned.{neither}
+use Rattle.lawful_plans.proofs.Indexes.{is_no}
+use Rattle.lawful_plans.proofs.RowsChanged.{put_as, put_is, has-with_rows, has-filter, nothing_removed, smaller_is_none}
 
 -- the two rows are the same
 abbrev same : Row → Row → Bool

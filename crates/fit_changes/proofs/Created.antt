@@ -1,5 +1,5 @@
 -- A relation that is made.
-use Rattle.std.proofs.Common.{◌≡◌, refl, sym, ap, ◌∙◌, subst, ℕ, suc, ◌≤◌, nat_le, nat_lt, Bool, true, false, ◌&&◌, not, IsTrue, List, [], ◌∷◌, ◌++◌, None, map, length, arith}
+use Rattle.std.proofs.Common.{◌≡◌, refl, sym, ap, ◌∙◌, ℕ, suc, ◌≤◌, nat_le, nat_lt, Bool, true, false, ◌&&◌, not, IsTrue, List, [], ◌∷◌, ◌++◌, None, map, length, arith}
 use Rattle.std.specs.Prelude.{◌↔◌, is_some}
 use Rattle.std.specs.List.{list_all, AllByRecursion}
 use Rattle.std.proofs.lemmas.Bool.Decides.{nat_tests}
@@ -13,8 +13,7 @@ use Rattle.calculus.specs.Keys.{same_key}
 use Rattle.calculus.specs.Lists.{insert_by}
 use Rattle.calculus.specs.Limits.{most_entries, most_rows, most_rules, most_permits}
 use Rattle.calculus.specs.Rows.{Row, Ascends, has, set_of}
-use Rattle.calculus.specs.Catalogue.{catalogue_at}
-use Rattle.calculus.specs.Database.{Db, Relation, View, relation_at, view_at, is_relation, entries, is_there, rules_on, permits_on}
+use Rattle.calculus.specs.Database.{Db, Relation, View, is_relation, entries, is_there, rules_on, permits_on}
 use Rattle.calculus.specs.Stored.{range_at}
 use Rattle.calculus.specs.QueryParts.{vars_of}
 use Rattle.calculus.specs.IsDatabase.{IsDatabase, row_fits, key_is_named, structure_stands, attrs_stand, are_stored, relation_rows_fit, vars_are_there, query_stands, index_stands, row_qual_stands, permit_stands}
@@ -23,21 +22,20 @@ use Rattle.calculus.proofs.Sets.{Ascends-set_of, has-set_of}
 use Rattle.quel_meaning.specs.Passing.{is_full}
 use Rattle.fit_changes.specs.Fit.{key_is_free, relation_is_fit}
 use Rattle.quel_meaning.proofs.InOrder.{in_order-insert}
-use Rattle.fit_changes.proofs.Kept.{both, each, all_insert}
-use Rattle.fit_changes.proofs.Tests.{has_room, not_full, found_has, each_true, is_no}
+use Rattle.lawful_plans.proofs.Kept.{both, each, all_insert}
+use Rattle.lawful_plans.proofs.Created.{ranges_beside, each_true, nothing_ranges, ranged_is_other, relation_is_ranged, viewed_is_found, each_from, none_of_key, both_each, index_based}
+use Rattle.lawful_plans.proofs.Indexes.{is_no, all-map}
+use Rattle.lawful_plans.proofs.RowsChanged.{all_put}
+use Rattle.lawful_plans.proofs.Orders.{key_total}
+use Rattle.lawful_plans.proofs.Alike.{AlikeRange}
+use Rattle.lawful_plans.proofs.NewIndexes.{not_there, new-all, all-append}
+use Rattle.lawful_plans.proofs.PlainQueries.{query_plain}
+use Rattle.lawful_plans.proofs.Staying.{Staying}
+use Rattle.lawful_plans.proofs.StayingFacts.{ViewStays, levels_hold, vars_hold, queries_hold, sizes_hold, expansions_hold, rules_hold, permits_hold, indexes_hold}
+use Rattle.lawful_plans.proofs.Beside.{by_rel, known_of, found_beside, each_beside, all_beside, differ_beside, one_beside, sorted_by_rel, sorted_by_key}
+use Rattle.fit_changes.proofs.Tests.{has_room, not_full, found_has}
 use Rattle.fit_changes.proofs.Counted.{all_of_put, length_put}
-use Rattle.fit_changes.proofs.RowsChanged.{all_put}
 use Rattle.fit_changes.proofs.Inserted.{insert_passes, length_insert, never_equal}
-use Rattle.fit_changes.proofs.Unused.{nothing_ranges, ranged_is_other, relation_is_ranged, viewed_is_found, each_from, none_of_key, both_each, index_based}
-use Rattle.fit_changes.proofs.Orders.{key_total}
-use Rattle.fit_changes.proofs.Alike.{AlikeRange}
-use Rattle.fit_changes.proofs.Ranging.{AlikeRelation, same_relation, ranged_alike, catalogue_alike}
-use Rattle.fit_changes.proofs.Indexes.{all-map}
-use Rattle.fit_changes.proofs.NewIndexes.{not_there, new-all, all-append}
-use Rattle.fit_changes.proofs.PlainQueries.{query_plain}
-use Rattle.fit_changes.proofs.Staying.{Staying}
-use Rattle.fit_changes.proofs.StayingFacts.{ViewStays, levels_hold, vars_hold, queries_hold, sizes_hold, expansions_hold, rules_hold, permits_hold, indexes_hold}
-use Rattle.fit_changes.proofs.Beside.{by_rel, known_of, found_beside, each_beside, all_beside, differ_beside, one_beside, sorted_by_rel, sorted_by_key}
 
 -- ---- a set of rows
 
@@ -54,19 +52,6 @@ length_set [] d = refl
 length_set (row ∷ rows) d =
     let differ = both (not (has rows row)) (rows_differ rows) d in
     length_put row (set_of rows) (has-set_of rows row ∙ is_no (has rows row) differ.0) ∙ ap suc (length_set rows differ.1)
-
--- ---- relations beside others
-
-ranges_beside : (db : Db) (new : Relation) (key : RelKey) → same_key new.info.key key ≡ false
-    → AlikeRange (range_at db key) (range_at (record db { relations = insert_by by_rel new db.relations }) key)
-unfolding range_at
-ranges_beside db new key other =
-    ranged_alike (relation_at db key) (relation_at later key)
-    (subst (AlikeRelation (relation_at db key)) (sym (found_beside key new db.relations other)) (same_relation (relation_at db key)))
-    (view_at db key) (catalogue_at db key) (catalogue_at later key) (catalogue_alike db (insert_by by_rel new db.relations) db.indexes key)
-  where
-    later : Db
-    later = record db { relations = insert_by by_rel new db.relations }
 
 -- ---- the change
 

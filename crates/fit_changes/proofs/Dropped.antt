@@ -15,9 +15,9 @@ use Rattle.calculus.specs.Database.{Db, Relation, is_relation, rules_on, permits
 use Rattle.calculus.specs.IsDatabase.{IsDatabase, permit_stands, row_qual_stands, row_qual_is_small}
 use Rattle.calculus.specs.Change.{laid, permit_numbers, rule_numbers, names_what_is_there, adds_what_is_new, lists_once, IsLawful}
 use Rattle.fit_changes.specs.Fit.{numbers_may_go, permits_may_go, rules_may_go}
-use Rattle.fit_changes.proofs.Kept.{both, each, count, all_filter, filter_fewer}
-use Rattle.fit_changes.proofs.Numbered.{PermitsStand, with_permits, RulesStand, with_rules}
-use Rattle.fit_changes.proofs.Tests.{le_true, le_is, of_key, all_imply}
+use Rattle.lawful_plans.proofs.Kept.{both, each, count, all_filter, filter_fewer}
+use Rattle.lawful_plans.proofs.Numbered.{PermitsStand, with_permits, RulesStand, with_rules}
+use Rattle.lawful_plans.proofs.NewNumbers.{le_true, le_is, of_key, all_imply}
 
 -- ---- permits
 

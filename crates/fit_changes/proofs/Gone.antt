@@ -14,14 +14,15 @@ use Rattle.calculus.specs.IsDatabase.{IsDatabase, key_is_named, vars_are_there}
 use Rattle.calculus.specs.Change.{laid, names_what_is_there, lists_once, IsLawful}
 use Rattle.quel_meaning.specs.Planned.{is_in_use}
 use Rattle.fit_changes.specs.Fit.{is_named_outside, destroying_is_fit}
-use Rattle.fit_changes.proofs.Kept.{both, each}
-use Rattle.fit_changes.proofs.Orders.{same_key_is}
+use Rattle.lawful_plans.proofs.Kept.{both, each}
+use Rattle.lawful_plans.proofs.Orders.{same_key_is}
+use Rattle.lawful_plans.proofs.Planned.{neither}
+use Rattle.lawful_plans.proofs.Indexes.{is_no, all-map}
+use Rattle.lawful_plans.proofs.NewNumbers.{all_imply}
+use Rattle.lawful_plans.proofs.NewIndexes.{all-append}
+use Rattle.lawful_plans.proofs.Created.{nothing_ranges}
+use Rattle.lawful_plans.proofs.Destroyed.{left, destroyed_lawful}
 use Rattle.fit_changes.proofs.Swapped.{any_and, any_swap, either_way}
-use Rattle.fit_changes.proofs.Tests.{neither, is_no, all_imply}
-use Rattle.fit_changes.proofs.Indexes.{all-map}
-use Rattle.fit_changes.proofs.NewIndexes.{all-append}
-use Rattle.fit_changes.proofs.Unused.{nothing_ranges}
-use Rattle.fit_changes.proofs.Destroyed.{left, destroyed_lawful}
 
 -- ---- what has one of the keys
 

@@ -17,13 +17,14 @@ use Rattle.calculus.specs.IsDatabase.{IsDatabase, key_is_named, keys_stand, inde
 use Rattle.calculus.specs.Change.{laid, index_info, names_what_is_there, adds_what_is_new, IsLawful}
 use Rattle.quel_meaning.specs.Passing.{is_full}
 use Rattle.fit_changes.specs.Fit.{key_is_free, index_is_fit}
-use Rattle.fit_changes.proofs.Kept.{both, each}
-use Rattle.fit_changes.proofs.Tests.{has_room, not_full, is_no, each_true}
-use Rattle.fit_changes.proofs.Alike.{indexes_stay}
-use Rattle.fit_changes.proofs.Ranging.{indexed_alike}
-use Rattle.fit_changes.proofs.Changed.{each_maps}
-use Rattle.fit_changes.proofs.Indexes.{infos, all-map}
-use Rattle.fit_changes.proofs.NewIndexes.{by_key, new-all, all-append, not_there, index_lawful}
+use Rattle.lawful_plans.proofs.Kept.{both, each}
+use Rattle.lawful_plans.proofs.Indexes.{is_no, infos, all-map}
+use Rattle.lawful_plans.proofs.Created.{relation_is_ranged, each_true}
+use Rattle.lawful_plans.proofs.Alike.{indexes_stay}
+use Rattle.lawful_plans.proofs.Ranging.{indexed_alike}
+use Rattle.lawful_plans.proofs.Changed.{each_maps}
+use Rattle.lawful_plans.proofs.NewIndexes.{by_key, new-all, all-append, not_there, index_lawful}
+use Rattle.fit_changes.proofs.Tests.{has_room, not_full}
 use Rattle.fit_changes.proofs.Inserted.{insert_passes, length_insert, never_equal}
 
 pub index_fits_exactly : (db : Db) (base : RelKey) (name keys : List ℕ) → IsDatabase db → (index_is_fit db base name keys ≡ true) ↔ IsLawful db (change.Index base name keys)
@@ -40,7 +41,14 @@ index_fits_exactly db base name keys is = (to, from)
         let places = both (keys_stand (attrs_at db base) keys) _ some.1 in
         let named = both (key_is_named key) _ places.1 in
         let unused = both (not (is_there db key)) (not (is_full db)) named.1 in
-        index_lawful db base name keys is relation.0 some.0 places.0 named.0 (is_no (is_there db key) unused.0) (has_room db unused.1)
+        index_lawful db base name keys is (record {
+          there = relation_is_ranged db base relation.0;
+          some = some.0;
+          places = places.0;
+          named = named.0;
+          unused = is_no (is_there db key) unused.0;
+          room = has_room db unused.1;
+        }) relation.0
 
     from : IsLawful db (change.Index base name keys) → index_is_fit db base name keys ≡ true
     from l = each _ _ l.names_are_there (each _ _ stands.0 (each _ _ stands.1 (each _ _ named (each _ _ l.additions_are_new (not_full db room)))))

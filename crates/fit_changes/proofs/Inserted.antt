@@ -10,9 +10,10 @@ use Rattle.calculus.specs.declared.query.RelKey.{RelKey}
 use Rattle.calculus.specs.Keys.{same_key, key_cmp, numbered_cmp}
 use Rattle.calculus.specs.Lists.{has_number, insert_by}
 use Rattle.quel_meaning.proofs.InOrder.{insert_as, insert-cons}
-use Rattle.fit_changes.proofs.Kept.{both, count}
-use Rattle.fit_changes.proofs.Tests.{neither, of_key}
-use Rattle.fit_changes.proofs.NewIndexes.{key_exact, other_way}
+use Rattle.lawful_plans.proofs.Kept.{both, count}
+use Rattle.lawful_plans.proofs.Planned.{neither}
+use Rattle.lawful_plans.proofs.NewNumbers.{of_key}
+use Rattle.lawful_plans.proofs.NewIndexes.{key_exact, other_way}
 
 -- what each passes then, it passes
 pub insert_passes : {X : Type 0} (cmp : X → X → Ordering) (test : X → Bool) (x : X) (xs : List X) → IsTrue (list_all test (insert_by cmp x xs)) → IsTrue (test x)

@@ -11,20 +11,12 @@ use Rattle.calculus.specs.Stored.{Range, Kept, Viewed, range_at}
 use Rattle.calculus.specs.QueryParts.{vars_of}
 use Rattle.calculus.specs.Sizes.{greater_level, greatest_of, level_above, range_level, level_within, level_of, query_level}
 use Rattle.quel_meaning.specs.Passing.{is_too_high}
-use Rattle.fit_changes.proofs.Kept.{both, each}
-use Rattle.fit_changes.proofs.Changed.{each_maps}
-use Rattle.fit_changes.proofs.Staying.{map_same}
+use Rattle.lawful_plans.proofs.ViewMade.{there_above}
+use Rattle.lawful_plans.proofs.Kept.{both, each}
+use Rattle.lawful_plans.proofs.Changed.{each_maps}
+use Rattle.lawful_plans.proofs.Staying.{map_same}
 
 -- ---- levels that are there
-
-there_both : (l g : Option ℕ) → is_some l ≡ true → is_some (option_map suc g) ≡ true → is_some (option_map suc (greater_level l g)) ≡ true
-there_both None g h k = cc h
-there_both (Some i) None h k = cc k
-there_both (Some i) (Some j) h k = refl
-
-pub there_above : (f : RelKey → Option ℕ) (keys : List RelKey) → IsTrue (list_all (λ key. is_some (f key)) keys) → is_some (level_above (map f keys)) ≡ true
-there_above f [] h = refl
-there_above f (key ∷ keys) h = let parts = both (is_some (f key)) (list_all (λ key. is_some (f key)) keys) h in there_both (f key) (greatest_of (map f keys)) parts.0 (there_above f keys parts.1)
 
 both_there : (l g : Option ℕ) → is_some (option_map suc (greater_level l g)) ≡ true → (is_some l ≡ true) × (is_some (option_map suc g) ≡ true)
 both_there None g h = cc h

@@ -1,5 +1,5 @@
 -- A permit or a rule that is put beside those that stand.
-use Rattle.std.proofs.Common.{◌≡◌, refl, ap, subst, ℕ, suc, ◌<◌, ◌≤◌, nat_le, nat_lt, Bool, true, false, ◌&&◌, not, IsTrue, List, filter, length, arith}
+use Rattle.std.proofs.Common.{◌∙◌, ◌≡◌, refl, subst, suc, ◌<◌, ◌≤◌, nat_le, nat_lt, Bool, true, ◌&&◌, not, IsTrue, List, filter, length, arith}
 use Rattle.std.specs.Prelude.{◌↔◌}
 use Rattle.std.specs.List.{list_all}
 use Rattle.std.proofs.lemmas.List.{length-map}
@@ -15,24 +15,21 @@ use Rattle.calculus.specs.IsDatabase.{IsDatabase, row_qual_stands, permit_stands
 use Rattle.calculus.specs.Change.{laid, permit_numbers, rule_numbers, names_what_is_there, adds_what_is_new, lists_once, IsLawful}
 use Rattle.quel_meaning.proofs.InOrder.{in_order-insert}
 use Rattle.fit_changes.specs.Fit.{number_is_free, permit_is_fit, rule_is_fit}
-use Rattle.fit_changes.proofs.Tests.{le_true, le_is, lt_true, lt_is, of_key, all_imply, is_no, each_true, there_is, found_has, key_found}
+use Rattle.lawful_plans.proofs.Alike.{permits_stay, rules_stay}
+use Rattle.lawful_plans.proofs.NewNumbers.{still_few, le_true, le_is, of_key, all_imply}
+use Rattle.lawful_plans.proofs.Indexes.{is_no}
+use Rattle.lawful_plans.proofs.Created.{each_true}
+use Rattle.lawful_plans.proofs.Kept.{both, each, count, all_insert}
+use Rattle.lawful_plans.proofs.Orders.{numbered_total, same_key_itself}
+use Rattle.lawful_plans.proofs.Numbered.{permits_alike, rules_alike, PermitsStand, with_permits, RulesStand, with_rules}
+use Rattle.fit_changes.proofs.Tests.{lt_true, lt_is, there_is, found_has, key_found}
 use Rattle.fit_changes.proofs.Inserted.{insert_passes, count_insert, number_unequal}
-use Rattle.fit_changes.proofs.Kept.{both, each, count, all_insert, insert_one_more, insert_none_more}
-use Rattle.fit_changes.proofs.Orders.{numbered_total, same_key_is, same_key_itself}
-use Rattle.fit_changes.proofs.Numbered.{PermitsStand, with_permits, permits_as_before, RulesStand, with_rules, rules_as_before}
-
--- with one more there are few enough of each key, where there were, and fewer of its own key
-still_few : {X : Type 0} (number : X → ℕ) (most : ℕ) (rel key : RelKey) (x : X) (xs : List (RelKey × X))
-    → count (of_key rel) xs < most → count (of_key key) xs ≤ most → count (of_key key) (insert_by (numbered_cmp number) (rel, x) xs) ≤ most
-still_few number most rel key x xs own before = go (same_key rel key) refl
-  where
-    go : (b : Bool) → same_key rel key ≡ b → count (of_key key) (insert_by (numbered_cmp number) (rel, x) xs) ≤ most
-    go true e =
-        let one : count (of_key rel) xs ≡ count (of_key key) xs = ap (λ key. count (of_key key) xs) (same_key_is rel key e) in
-        omega (arith, own, one, insert_one_more (numbered_cmp number) (of_key key) (rel, x) xs)
-    go false e = omega (arith, before, insert_none_more (numbered_cmp number) (of_key key) (rel, x) xs e)
 
 -- ---- a permit
+
+-- the permits that stand then stand in the database as it was
+permits_as_before : (db : Db) (permits : List (RelKey × Permit)) → IsTrue (list_all (λ p. permit_stands (record db { permits = permits }) p.0 p.1) permits) → IsTrue (list_all (λ p. permit_stands db p.0 p.1) permits)
+permits_as_before db permits t = permits_stay db (record db { permits = permits }) (permits_alike db permits) refl permits ∙ t
 
 pub permit_lawful : (db : Db) (rel : RelKey) (permit : Permit) → IsDatabase db → IsTrue (permit_stands db rel permit) → IsTrue (row_qual_is_small permit.qual) → IsTrue (nat_le (length permit.attrs) most_listed_attributes)
     → IsTrue (nat_le permit.number greatest_number) → IsTrue (not (has_number (permit_numbers db rel) permit.number)) → IsTrue (nat_lt (length (permit_numbers db rel)) most_permits)
@@ -117,6 +114,11 @@ permit_fits_exactly db rel permit is = (to, from)
             lt_true (length (permit_numbers db rel)) most_permits (omega (arith, bound, one_more)))
 
 -- ---- a rule
+
+-- the rules that stand then stand in the database as it was
+rules_as_before : (db : Db) (rules : List (RelKey × Rule)) → IsTrue (list_all (λ p. is_relation (record db { rules = rules }) p.0 && row_qual_stands (record db { rules = rules }) p.0 p.1.qual) rules)
+    → IsTrue (list_all (λ p. is_relation db p.0 && row_qual_stands db p.0 p.1.qual) rules)
+rules_as_before db rules t = rules_stay db (record db { rules = rules }) (rules_alike db rules) rules ∙ t
 
 pub rule_lawful : (db : Db) (rel : RelKey) (rule : Rule) → IsDatabase db → IsTrue (is_relation db rel) → IsTrue (row_qual_stands db rel rule.qual) → IsTrue (row_qual_is_small rule.qual)
     → IsTrue (nat_le rule.number greatest_number) → IsTrue (not (has_number (rule_numbers db rel) rule.number)) → IsTrue (nat_lt (length (rule_numbers db rel)) most_rules)

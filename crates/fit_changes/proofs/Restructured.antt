@@ -12,11 +12,11 @@ use Rattle.calculus.specs.Stored.{attrs_at}
 use Rattle.calculus.specs.IsDatabase.{IsDatabase, structure_stands}
 use Rattle.calculus.specs.Change.{laid, restructured, names_what_is_there, adds_what_is_new, lists_once, IsLawful}
 use Rattle.fit_changes.specs.Fit.{structure_is_fit}
-use Rattle.fit_changes.proofs.Kept.{both, each}
+use Rattle.lawful_plans.proofs.Kept.{both, each}
+use Rattle.lawful_plans.proofs.Changed.{ChangeStands, with_changed, owned, each_maps, for_each}
+use Rattle.lawful_plans.proofs.Indexes.{without_indexes}
+use Rattle.lawful_plans.proofs.RowsChanged.{its_attrs}
 use Rattle.fit_changes.proofs.Tests.{there_is}
-use Rattle.fit_changes.proofs.Changed.{ChangeStands, with_changed, owned, each_maps, for_each}
-use Rattle.fit_changes.proofs.Indexes.{without_indexes}
-use Rattle.fit_changes.proofs.RowsChanged.{its_attrs}
 use Rattle.fit_changes.proofs.RowsFit.{changed_passes}
 
 -- a structure with these keys would be one for the attributes

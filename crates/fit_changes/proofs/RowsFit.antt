@@ -16,9 +16,11 @@ use Rattle.calculus.specs.Replacement.{with_rows, without_rows}
 use Rattle.calculus.specs.IsDatabase.{IsDatabase, row_fits, relation_rows_fit}
 use Rattle.calculus.specs.Change.{laid, change_at, rows_differ, names_what_is_there, adds_what_is_new, lists_once, IsLawful}
 use Rattle.fit_changes.specs.Fit.{rows_are_fit}
-use Rattle.fit_changes.proofs.Kept.{both, each, all_filter}
-use Rattle.fit_changes.proofs.Tests.{is_no, there_is, found_has, each_true}
-use Rattle.fit_changes.proofs.RowsChanged.{Ascends-with_rows, has-filter, all_with_rows, its_rows, its_attrs, rows_leave}
+use Rattle.lawful_plans.proofs.Kept.{both, each, all_filter}
+use Rattle.lawful_plans.proofs.Indexes.{is_no}
+use Rattle.lawful_plans.proofs.Created.{each_true}
+use Rattle.lawful_plans.proofs.RowsChanged.{Ascends-with_rows, has-filter, all_with_rows, its_rows, its_attrs, rows_leave}
+use Rattle.fit_changes.proofs.Tests.{there_is, found_has}
 use Rattle.fit_changes.proofs.Counted.{length_with, length_without, all_that_come}
 
 -- what each that stands passes, the one that is changed passes

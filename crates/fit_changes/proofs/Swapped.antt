@@ -3,7 +3,7 @@ use Rattle.std.proofs.Common.{◌≡◌, refl, sym, ap, ◌∙◌, Bool, true, f
 use Rattle.std.specs.List.{list_any}
 use Rattle.calculus.specs.declared.query.RelKey.{RelKey}
 use Rattle.calculus.specs.Keys.{same_key}
-use Rattle.fit_changes.proofs.Orders.{same_key_is, same_key_itself}
+use Rattle.lawful_plans.proofs.Orders.{same_key_is, same_key_itself}
 
 none_of_all : {X : Type 0} (xs : List X) → list_any (λ x. false) xs ≡ false
 none_of_all [] = refl

@@ -1,47 +1,20 @@
 -- Tests of numbers and of lists.
-use Rattle.std.proofs.Common.{◌≡◌, refl, sym, ap, ◌∙◌, subst, ℕ, ◌<◌, ◌≤◌, nat_le, nat_lt, Bool, true, false, ◌||◌, not, cond, IsTrue, List, [], ◌∷◌, Option, Some, None, length, arith}
+use Rattle.std.proofs.Common.{◌≡◌, refl, sym, ap, ◌∙◌, subst, ℕ, ◌<◌, nat_le, nat_lt, Bool, true, false, not, cond, IsTrue, List, [], ◌∷◌, Option, Some, None, length, arith}
 use Rattle.std.specs.Prelude.{find, is_some}
-use Rattle.std.specs.List.{list_all, AllByRecursion}
+use Rattle.std.specs.List.{AllByRecursion}
 use Rattle.std.proofs.lemmas.Bool.Decides.{nat_tests}
 use Rattle.calculus.specs.declared.query.RelKey.{RelKey}
 use Rattle.calculus.specs.Keys.{same_key}
 use Rattle.calculus.specs.Limits.{most_entries}
 use Rattle.calculus.specs.Database.{Db, Relation, entries}
 use Rattle.quel_meaning.specs.Passing.{is_full}
-use Rattle.fit_changes.proofs.Kept.{both, each}
-use Rattle.fit_changes.proofs.Orders.{same_key_is}
-
-pub le_true : (m n : ℕ) → m ≤ n → IsTrue (nat_le m n)
-le_true m n h = grind (arith, nat_tests, h)
-
-pub le_is : (m n : ℕ) → IsTrue (nat_le m n) → m ≤ n
-le_is m n t = grind (arith, nat_tests, t)
+use Rattle.lawful_plans.proofs.Orders.{same_key_is}
 
 pub lt_true : (m n : ℕ) → m < n → IsTrue (nat_lt m n)
 lt_true m n h = grind (arith, nat_tests, h)
 
 pub lt_is : (m n : ℕ) → IsTrue (nat_lt m n) → m < n
 lt_is m n t = grind (arith, nat_tests, t)
-
--- those of one key among rules or permits
-abbrev pub of_key : {X : Type 0} → RelKey → (RelKey × X) → Bool
-of_key key p = same_key p.0 key
-
-pub all_imply : {X : Type 0} (f g : X → Bool) → ((x : X) → IsTrue (f x) → IsTrue (g x)) → (xs : List X) → IsTrue (list_all f xs) → IsTrue (list_all g xs)
-all_imply f g h [] t = refl
-all_imply f g h (x ∷ xs) t = let parts = both (f x) (list_all f xs) t in each (g x) (list_all g xs) (h x parts.0) (all_imply f g h xs parts.1)
-
-pub neither : (a b : Bool) → (a || b) ≡ false → (a ≡ false) × (b ≡ false)
-neither true b h = cc h
-neither false b h = (refl, h)
-
-pub is_no : (b : Bool) → IsTrue (not b) → b ≡ false
-is_no true t = cc t
-is_no false t = refl
-
-pub is_yes : (b : Bool) → b ≡ false → IsTrue (not b)
-is_yes true h = cc h
-is_yes false h = refl
 
 -- where there is one, it is this one
 pub there_is : {X : Type 0} {P : Type 0} (o : Option X) → is_some o ≡ true → ((x : X) → o ≡ Some x → P) → P
@@ -59,10 +32,6 @@ found_has {X} P test (y ∷ ys) x h e = go (test y) e (λ e. found_has P test ys
     go : (b : Bool) → cond b (Some y) (find test ys) ≡ Some x → (find test ys ≡ Some x → P x) → P x
     go true e later = subst P (the e) h.0
     go false e later = later e
-
-pub each_true : {X : Type 0} (test : X → Bool) (xs : List X) → IsTrue (list_all test xs) → AllByRecursion (λ x. IsTrue (test x)) xs
-each_true test [] t = tt
-each_true test (x ∷ xs) t = let parts = both (test x) (list_all test xs) t in (parts.0, each_true test xs parts.1)
 
 -- what is found under a key has that key
 pub key_found : (rel : RelKey) (rs : List Relation) (r : Relation) → find (λ r. same_key r.info.key rel) rs ≡ Some r → r.info.key ≡ rel

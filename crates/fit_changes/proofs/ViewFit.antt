@@ -1,5 +1,5 @@
 -- A view that is made may be made.
-use Rattle.std.proofs.Common.{◌≡◌, refl, sym, ap, ◌∙◌, ℕ, zero, suc, ◌+◌, nat_le, nat_lt, Bool, true, false, ◌&&◌, ◌||◌, not, IsTrue, List, [], ◌∷◌, ◌++◌, Some, None, map, length, arith}
+use Rattle.std.proofs.Common.{◌≡◌, refl, sym, ap, ◌∙◌, subst, ℕ, zero, suc, ◌+◌, nat_le, nat_lt, Bool, true, false, ◌&&◌, ◌||◌, not, IsTrue, List, [], ◌∷◌, ◌++◌, Some, None, map, length, arith}
 use Rattle.std.specs.Prelude.{◌↔◌, is_some, sum, sum_by}
 use Rattle.std.specs.List.{list_all, AllByRecursion}
 use Rattle.std.specs.Ordering.{is_eq}
@@ -20,21 +20,24 @@ use Rattle.calculus.specs.TreeLevels.{query_levels}
 use Rattle.calculus.specs.IsDatabase.{IsDatabase, key_is_named, view_info_stands, attrs_stand, attrs_are_targets, vars_are_there, query_stands}
 use Rattle.calculus.specs.Change.{laid, adds_what_is_new, IsLawful}
 use Rattle.quel_meaning.specs.Passing.{is_full, is_too_high}
+use Rattle.quel_meaning.specs.Planned.{view_info}
 use Rattle.fit_changes.specs.Fit.{key_is_free, view_is_small, view_is_fit}
-use Rattle.fit_changes.proofs.Kept.{both, each}
-use Rattle.fit_changes.proofs.Orders.{same_key_is}
-use Rattle.fit_changes.proofs.Tests.{has_room, not_full, is_no, each_true}
-use Rattle.fit_changes.proofs.Changed.{each_maps}
-use Rattle.fit_changes.proofs.Indexes.{all-map}
-use Rattle.fit_changes.proofs.NewIndexes.{new-all, all-append, not_there}
+use Rattle.lawful_plans.specs.Fitting.{IsFitView}
+use Rattle.lawful_plans.proofs.ViewMade.{viewed, ranges_over_it, view_lawful}
+use Rattle.lawful_plans.proofs.Kept.{both, each}
+use Rattle.lawful_plans.proofs.Orders.{same_key_is}
+use Rattle.lawful_plans.proofs.Indexes.{is_no, all-map}
+use Rattle.lawful_plans.proofs.Created.{each_true, nothing_ranges}
+use Rattle.lawful_plans.proofs.Changed.{each_maps}
+use Rattle.lawful_plans.proofs.NewIndexes.{new-all, all-append, not_there}
+use Rattle.lawful_plans.proofs.PlainQueries.{query_plain}
+use Rattle.lawful_plans.proofs.Staying.{Staying, map_same, all_same, level_stays, query_stays, kinds_stay, there_stays}
+use Rattle.lawful_plans.proofs.StayingFacts.{stands_with}
+use Rattle.lawful_plans.proofs.BesideViews.{by_view, views_known}
+use Rattle.fit_changes.proofs.Tests.{has_room, not_full}
 use Rattle.fit_changes.proofs.Inserted.{insert_passes, length_insert, never_equal}
-use Rattle.fit_changes.proofs.PlainQueries.{query_plain}
-use Rattle.fit_changes.proofs.Staying.{Staying, map_same, all_same, level_stays, query_stays, kinds_stay, there_stays}
-use Rattle.fit_changes.proofs.StayingFacts.{stands_with}
-use Rattle.fit_changes.proofs.Unused.{nothing_ranges}
-use Rattle.fit_changes.proofs.BesideViews.{by_view, views_known}
 use Rattle.fit_changes.proofs.Levels.{there_below, below_the_greatest, not_too_high}
-use Rattle.fit_changes.proofs.ViewMade.{ViewFacts, viewed, ranges_over_it, staying, view_lawful}
+use Rattle.fit_changes.proofs.ViewMade.{view_known, staying}
 
 -- ---- a view with a level doesn't name itself
 
@@ -81,25 +84,33 @@ below_it db rel view range there = (there_below (level_within 15 db) (vars_of vi
 
 -- ---- the test
 
--- what a lawful view is
+-- what must hold of a view: it is kept as one, its attributes are the targets of its query, and a view of that fits
+record ViewFacts (db : Db) (info : RelInfo) (q : Query) : Type 0 where
+  kept : IsTrue (view_info_stands info)
+  targets : IsTrue (attrs_are_targets info.attrs (targets_of q))
+  fit : IsFitView db info.key q
+
+-- it holds where the view is lawful
 lawful_view : (db : Db) (info : RelInfo) (q : Query) → IsDatabase db → IsLawful db (change.View info q) → ViewFacts db info q
 unfolding laid adds_what_is_new query_size expanded_variables
 lawful_view db info q is l = record {
-  named = named;
-  unused = unused;
-  room = less (length (entries later)) (length (entries db)) more after.few_entries;
-  kept = its (λ v. view_info_stands v.info) after.view_infos_stand;
-  attributes = its (λ v. attrs_stand v.info.attrs) after.view_attrs_stand;
-  targets = its (λ v. attrs_are_targets v.info.attrs (targets_of v.query)) after.view_attrs_are_targets;
-  vars = all_same Other (λ key. is_some (range_at db key)) (λ key. is_some (range_at later key)) (vars_of q) own_vars (λ key p. there_stays Other db later stay key p)
-      ∙ its (λ v. vars_are_there later v.query) after.views_name_what_is_there;
-  levels = all_same Other (λ key. is_some (level_within 15 db key)) (λ key. is_some (level_within 15 later key)) (vars_of q) own_vars (λ key p. ap is_some (level_stays Other db later stay 15 key p)) ∙ below.0;
-  stands = stands;
-  few_listed = its (λ v. nat_le (length (vars_of v.query)) most_expanded_variables) after.few_listed_variables;
-  few = its (λ v. nat_le (variables v.query) most_variables) after.few_variables;
-  few_expanded = ap (λ n. nat_le n most_expanded_variables) expansion ∙ its (λ v. nat_le (expanded_variables later v.query) most_expanded_variables) after.few_expanded_variables;
-  small = ap (λ (m : Measure). nat_le (sum m.attrs + m.qual) greatest_size) (query_stays Other db later stay q own_vars) ∙ its (λ v. nat_le (query_size later v.query) greatest_size) after.small_views;
-  shallow = its (λ v. nat_le (query_levels v.query) most_levels) after.shallow_views;
+  kept = kept;
+  targets = targets;
+  fit = record {
+    named = named;
+    unused = unused;
+    room = less (length (entries later)) (length (entries db)) more after.few_entries;
+    attributes = subst (λ i. IsTrue (attrs_stand i.attrs)) (sym known) (its (λ v. attrs_stand v.info.attrs) after.view_attrs_stand);
+    vars = all_same Other (λ key. is_some (range_at db key)) (λ key. is_some (range_at later key)) (vars_of q) own_vars (λ key p. there_stays Other db later stay key p)
+        ∙ its (λ v. vars_are_there later v.query) after.views_name_what_is_there;
+    levels = all_same Other (λ key. is_some (level_within 15 db key)) (λ key. is_some (level_within 15 later key)) (vars_of q) own_vars (λ key p. ap is_some (level_stays Other db later stay 15 key p)) ∙ below.0;
+    stands = stands;
+    few_listed = its (λ v. nat_le (length (vars_of v.query)) most_expanded_variables) after.few_listed_variables;
+    few = its (λ v. nat_le (variables v.query) most_variables) after.few_variables;
+    few_expanded = ap (λ n. nat_le n most_expanded_variables) expansion ∙ its (λ v. nat_le (expanded_variables later v.query) most_expanded_variables) after.few_expanded_variables;
+    small = ap (λ (m : Measure). nat_le (sum m.attrs + m.qual) greatest_size) (query_stays Other db later stay q own_vars) ∙ its (λ v. nat_le (query_size later v.query) greatest_size) after.small_views;
+    shallow = its (λ v. nat_le (query_levels v.query) most_levels) after.shallow_views;
+  };
 }
   where
     new : View
@@ -127,6 +138,15 @@ lawful_view db info q is l = record {
     middle test vs t =
         let rest = both (list_all test relations) (list_all test (vs ++ indexes)) (sym (all-append test relations (vs ++ indexes)) ∙ t) in
         (both (list_all test vs) (list_all test indexes) (sym (all-append test vs indexes) ∙ rest.1)).0
+
+    kept : IsTrue (view_info_stands info)
+    kept = its (λ v. view_info_stands v.info) after.view_infos_stand
+
+    targets : IsTrue (attrs_are_targets info.attrs (targets_of q))
+    targets = its (λ v. attrs_are_targets v.info.attrs (targets_of v.query)) after.view_attrs_are_targets
+
+    known : view_info info.key q ≡ info
+    known = view_known info q kept targets
 
     named : IsTrue (key_is_named info.key)
     named = its (λ v. key_is_named v.info.key) (sym (all-map (λ i. key_is_named i.key) (λ v. v.info) later.views) ∙ middle (λ i. key_is_named i.key) (views_known later.views) after.keys_are_named)
@@ -202,13 +222,12 @@ view_fits_exactly db info q is = (to, from)
         let few = both (nat_le (variables q) most_variables) _ listed.1 in
         let expanded = both (nat_le (expanded_variables db q) most_expanded_variables) _ few.1 in
         let small = both (nat_le (query_size db q) greatest_size) (nat_le (query_levels q) most_levels) expanded.1 in
-        view_lawful db info q is (record {
+        let known = view_known info q kept.0 targets.0 in
+        subst (λ i. IsLawful db (change.View i q)) known (view_lawful db info.key q is (record {
           named = named.0;
           unused = is_no (is_there db info.key) unused.0;
           room = has_room db unused.1;
-          kept = kept.0;
-          attributes = attributes.0;
-          targets = targets.0;
+          attributes = subst (λ i. IsTrue (attrs_stand i.attrs)) (sym known) attributes.0;
           vars = vars.0;
           levels = below_the_greatest db q level.0;
           stands = stands.0;
@@ -217,10 +236,12 @@ view_fits_exactly db info q is = (to, from)
           few_expanded = expanded.0;
           small = small.0;
           shallow = small.1;
-        })
+        }))
 
     from : IsLawful db (change.View info q) → view_is_fit db info q ≡ true
     from l =
         let facts = lawful_view db info q is l in
-        each _ _ (each _ _ facts.named (each _ _ (ap not facts.unused) (not_full db facts.room))) (each _ _ facts.kept (each _ _ facts.attributes (each _ _ facts.targets (each _ _ facts.vars
-        (each _ _ (not_too_high db q facts.levels) (each _ _ facts.stands (each _ _ facts.few_listed (each _ _ facts.few (each _ _ facts.few_expanded (each _ _ facts.small facts.shallow))))))))))
+        let fit = facts.fit in
+        let attributes : IsTrue (attrs_stand info.attrs) = subst (λ i. IsTrue (attrs_stand i.attrs)) (view_known info q facts.kept facts.targets) fit.attributes in
+        each _ _ (each _ _ fit.named (each _ _ (ap not fit.unused) (not_full db fit.room))) (each _ _ facts.kept (each _ _ attributes (each _ _ facts.targets (each _ _ fit.vars
+        (each _ _ (not_too_high db q fit.levels) (each _ _ fit.stands (each _ _ fit.few_listed (each _ _ fit.few (each _ _ fit.few_expanded (each _ _ fit.small fit.shallow))))))))))
