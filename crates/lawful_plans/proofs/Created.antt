@@ -139,7 +139,7 @@ pub both_each : {X : Type 0} (P Q : X → Type 0) (xs : List X) → AllByRecursi
 both_each P Q [] p q = tt
 both_each P Q (x ∷ xs) p q = ((p.0, q.0), both_each P Q xs p.1 q.1)
 
-ranges_beside : (db : Db) (new : Relation) (key : RelKey) → same_key new.info.key key ≡ false
+pub ranges_beside : (db : Db) (new : Relation) (key : RelKey) → same_key new.info.key key ≡ false
     → AlikeRange (range_at db key) (range_at (record db { relations = insert_by by_rel new db.relations }) key)
 unfolding range_at
 ranges_beside db new key other =

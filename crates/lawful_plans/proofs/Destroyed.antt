@@ -76,7 +76,7 @@ found_kept {X} test kept (x ∷ xs) h = go (kept x) refl (test x) refl (found_ke
 -- ---- what is left
 
 -- the database without these
-abbrev left : Db → List RelKey → Db
+abbrev pub left : Db → List RelKey → Db
 left db rels = record db {
   relations = filter (λ r. not (has_key rels r.info.key)) db.relations;
   indexes = filter (λ x. not (has_key rels x.info.key || has_key rels x.base)) db.indexes;
@@ -145,7 +145,7 @@ stay_left db rels unused = record {
 
 -- ---- the change
 
-destroyed_lawful : (db : Db) (rels : List RelKey) → IsDatabase db → IsTrue (list_all (is_there db) rels) → IsTrue (differ_by same_key rels) → is_in_use db rels ≡ false
+pub destroyed_lawful : (db : Db) (rels : List RelKey) → IsDatabase db → IsTrue (list_all (is_there db) rels) → IsTrue (differ_by same_key rels) → is_in_use db rels ≡ false
     → IsLawful db (change.Destroy rels)
 unfolding laid names_what_is_there adds_what_is_new lists_once
 destroyed_lawful db rels is there differ unused = record {

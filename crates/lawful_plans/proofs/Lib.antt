@@ -1,26 +1,26 @@
-mod Kept
-mod Orders
-mod Alike
-mod Numbered
-mod Planned
-mod NewNumbers
+pub mod Kept
+pub mod Orders
+pub mod Alike
+pub mod Numbered
+pub mod Planned
+pub mod NewNumbers
 mod GoneNumbers
 pub mod Plans
-mod Ranging
-mod Changed
+pub mod Ranging
+pub mod Changed
 mod ReadRows
-mod RowsChanged
+pub mod RowsChanged
 pub mod CopiedRows
-mod Indexes
+pub mod Indexes
 pub mod Restructured
 pub mod NewIndexes
-mod Staying
-mod PlainQueries
-mod StayingFacts
-mod Beside
+pub mod Staying
+pub mod PlainQueries
+pub mod StayingFacts
+pub mod Beside
 pub mod Created
 mod Sublists
 pub mod Destroyed
 pub mod Replaced
-mod BesideViews
+pub mod BesideViews
 pub mod ViewMade

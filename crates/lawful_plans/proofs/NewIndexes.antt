@@ -30,7 +30,7 @@ use Rattle.lawful_plans.proofs.Planned.{neither, all_absent, not_refused, base_r
 use Rattle.lawful_plans.proofs.Indexes.{IndexesStand, with_indexes, infos, keys, all-map, is_no}
 
 -- the order of indexes by their keys
-abbrev by_key : Index → Index → Ordering
+abbrev pub by_key : Index → Index → Ordering
 by_key a b = key_cmp a.info.key b.info.key
 
 -- ---- a test of all entries
@@ -162,7 +162,7 @@ one_more [] x (y ∷ ys) =
 
 -- ---- the change
 
-index_lawful : (db : Db) (base : RelKey) (name : List ℕ) (ks : List ℕ) → IsDatabase db → IsFitIndex db base name ks → is_relation db base ≡ true → IsLawful db (change.Index base name ks)
+pub index_lawful : (db : Db) (base : RelKey) (name : List ℕ) (ks : List ℕ) → IsDatabase db → IsFitIndex db base name ks → is_relation db base ≡ true → IsLawful db (change.Index base name ks)
 unfolding laid names_what_is_there adds_what_is_new lists_once
 index_lawful db base name ks is fit relation = record {
   names_are_there = relation;

@@ -42,7 +42,7 @@ below_limit most numbers h =
     (grind (arith, nat_tests, parts.0), grind (arith, nat_tests, parts.1))
 
 -- with one more there are few enough of each key, where there were, and fewer of its own key
-still_few : {X : Type 0} (number : X → ℕ) (most : ℕ) (rel key : RelKey) (x : X) (xs : List (RelKey × X))
+pub still_few : {X : Type 0} (number : X → ℕ) (most : ℕ) (rel key : RelKey) (x : X) (xs : List (RelKey × X))
     → count (of_key rel) xs < most → count (of_key key) xs ≤ most → count (of_key key) (insert_by (numbered_cmp number) (rel, x) xs) ≤ most
 still_few number most rel key x xs own before = go (same_key rel key) refl
   where

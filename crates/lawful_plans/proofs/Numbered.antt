@@ -14,7 +14,7 @@ use Rattle.calculus.specs.Stored.{range_at}
 use Rattle.calculus.specs.IsDatabase.{IsDatabase, row_qual_stands, permit_stands, row_qual_is_small}
 use Rattle.lawful_plans.proofs.Alike.{Alike, alike_itself, levels_stay, vars_stay, queries_stay, expansions_stay, sizes_stay, rules_stay, permits_stay, indexes_stay}
 
-permits_alike : (db : Db) (permits : List (RelKey × Permit)) → Alike db (record db { permits = permits })
+pub permits_alike : (db : Db) (permits : List (RelKey × Permit)) → Alike db (record db { permits = permits })
 unfolding range_at catalogue_at
 permits_alike db permits = record { ranges = λ key. alike_itself (range_at db key); relations = λ key. refl }
 
@@ -72,7 +72,7 @@ with_permits db permits is new =
 
 -- ---- rules
 
-rules_alike : (db : Db) (rules : List (RelKey × Rule)) → Alike db (record db { rules = rules })
+pub rules_alike : (db : Db) (rules : List (RelKey × Rule)) → Alike db (record db { rules = rules })
 unfolding range_at catalogue_at
 rules_alike db rules = record { ranges = λ key. alike_itself (range_at db key); relations = λ key. refl }
 

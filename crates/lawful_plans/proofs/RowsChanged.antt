@@ -55,7 +55,7 @@ has-filter test (row ∷ rows) q = go (test row) refl (eq_by_cmp row_cmp q row) 
     go true e false f ih = ap (λ b. b || has (filter test rows) q) f ∙ ih ∙ ap (λ b. (b || has rows q) && test q) (sym f)
     go false e false f ih = ih ∙ ap (λ b. (b || has rows q) && test q) (sym f)
 
-nothing_removed : (rows : List Row) → without_rows [] rows ≡ rows
+pub nothing_removed : (rows : List Row) → without_rows [] rows ≡ rows
 nothing_removed [] = refl
 nothing_removed (row ∷ rows) = ap (λ rows. row ∷ rows) (nothing_removed rows)
 
@@ -84,7 +84,7 @@ new_ones_are_new rows (row ∷ others) = go (has rows row) refl (new_ones_are_ne
     go false e later = ap (λ b. b || list_any (has rows) (without_rows rows others)) e ∙ later
 
 -- rows that ascend differ
-smaller_is_none : (row : Row) (rows : List Row) → AllByRecursion (λ r. row_cmp row r ≡ Less) rows → list_any (eq_by_cmp row_cmp row) rows ≡ false
+pub smaller_is_none : (row : Row) (rows : List Row) → AllByRecursion (λ r. row_cmp row r ≡ Less) rows → list_any (eq_by_cmp row_cmp row) rows ≡ false
 smaller_is_none row [] h = refl
 smaller_is_none row (r ∷ rows) h = ap (λ o. is_eq o || list_any (eq_by_cmp row_cmp row) rows) h.0 ∙ smaller_is_none row rows h.1
 
@@ -93,17 +93,17 @@ rows_that_ascend_differ [] h = refl
 rows_that_ascend_differ (row ∷ rows) h =
     each (not (list_any (eq_by_cmp row_cmp row) rows)) (rows_differ rows) (ap not (smaller_is_none row rows (sorted_head row_cmp row rows h))) (rows_that_ascend_differ rows (sorted_tail row_cmp row rows h))
 
-abbrev put_as : Ordering → Row → Row → List Row → List Row → List Row
+abbrev pub put_as : Ordering → Row → Row → List Row → List Row → List Row
 put_as Less row first rest more = row ∷ first ∷ rest
 put_as Equal row first rest more = first ∷ rest
 put_as Greater row first rest more = first ∷ more
 
-put_is : (row first : Row) (rest : List Row) (o : Ordering) → row_cmp row first ≡ o → put row (first ∷ rest) ≡ put_as o row first rest (put row rest)
+pub put_is : (row first : Row) (rest : List Row) (o : Ordering) → row_cmp row first ≡ o → put row (first ∷ rest) ≡ put_as o row first rest (put row rest)
 put_is row first rest Less e = rw (e, put) refl
 put_is row first rest Equal e = rw (e, put) refl
 put_is row first rest Greater e = rw (e, put) refl
 
-all_put : (test : Row → Bool) (row : Row) (rows : List Row) → IsTrue (test row) → IsTrue (list_all test rows) → IsTrue (list_all test (put row rows))
+pub all_put : (test : Row → Bool) (row : Row) (rows : List Row) → IsTrue (test row) → IsTrue (list_all test rows) → IsTrue (list_all test (put row rows))
 all_put test row [] s t = each (test row) true s refl
 all_put test row (first ∷ rest) s t =
     ap (list_all test) (put_is row first rest (row_cmp row first) refl) ∙ go (row_cmp row first) (both (test first) (list_all test rest) t) (all_put test row rest s (both (test first) (list_all test rest) t).1)

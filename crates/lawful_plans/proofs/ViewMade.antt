@@ -52,7 +52,7 @@ there_both None g h k = cc h
 there_both (Some i) None h k = cc k
 there_both (Some i) (Some j) h k = refl
 
-there_above : (f : RelKey → Option ℕ) (keys : List RelKey) → IsTrue (list_all (λ key. is_some (f key)) keys) → is_some (level_above (map f keys)) ≡ true
+pub there_above : (f : RelKey → Option ℕ) (keys : List RelKey) → IsTrue (list_all (λ key. is_some (f key)) keys) → is_some (level_above (map f keys)) ≡ true
 there_above f [] h = refl
 there_above f (key ∷ keys) h = let parts = both (is_some (f key)) (list_all (λ key. is_some (f key)) keys) h in there_both (f key) (greatest_of (map f keys)) parts.0 (there_above f keys parts.1)
 
@@ -80,7 +80,7 @@ targets_itself (t ∷ ts) = each _ _ ((bytes_eq-Decides t.name t.name).1 refl) (
 -- ---- what stands with it
 
 -- the database with the view
-abbrev viewed : Db → View → Db
+abbrev pub viewed : Db → View → Db
 viewed db new = record db { views = insert_by by_view new db.views }
 
 catalogue_viewed : (db : Db) (new : View) (key : RelKey) → AlikeRelation (catalogue_at db key) (catalogue_at (viewed db new) key)
@@ -101,14 +101,14 @@ catalogue_viewed db new key =
     go false true r s t u = refl
     go false false r s t u = tt
 
-ranges_viewed : (db : Db) (new : View) (key : RelKey) → same_key new.info.key key ≡ false → AlikeRange (range_at db key) (range_at (viewed db new) key)
+pub ranges_viewed : (db : Db) (new : View) (key : RelKey) → same_key new.info.key key ≡ false → AlikeRange (range_at db key) (range_at (viewed db new) key)
 unfolding range_at
 ranges_viewed db new key other =
     subst (λ v. AlikeRange (range_at db key) (ranged (relation_at db key) v (catalogue_at (viewed db new) key))) (sym (found_beside key new db.views other))
     (ranged_alike (relation_at db key) (relation_at db key) (same_relation (relation_at db key)) (view_at db key) (catalogue_at db key) (catalogue_at (viewed db new) key) (catalogue_viewed db new key))
 
 -- the view stands under its key
-ranges_over_it : (db : Db) (new : View) → is_there db new.info.key ≡ false → range_at (viewed db new) new.info.key ≡ Some (Viewed new)
+pub ranges_over_it : (db : Db) (new : View) → is_there db new.info.key ≡ false → range_at (viewed db new) new.info.key ≡ Some (Viewed new)
 unfolding range_at
 ranges_over_it db new unused =
     let found = none_found new.info.key db.relations (map (λ v. v.info) db.views ++ map (λ x. x.info) db.indexes) unused in
@@ -117,7 +117,7 @@ ranges_over_it db new unused =
 
 -- ---- the change
 
-view_lawful : (db : Db) (rel : RelKey) (q : Query) → IsDatabase db → IsFitView db rel q → IsLawful db (change.View (view_info rel q) q)
+pub view_lawful : (db : Db) (rel : RelKey) (q : Query) → IsDatabase db → IsFitView db rel q → IsLawful db (change.View (view_info rel q) q)
 unfolding laid names_what_is_there adds_what_is_new lists_once query_size expanded_variables
 view_lawful db rel q is fit = record {
   names_are_there = refl;

@@ -1,0 +1,15 @@
+mod Tests
+mod Dropped
+mod Counted
+mod RowsFit
+mod Inserted
+mod Created
+mod NewNumbers
+mod Restructured
+mod IndexFit
+mod Swapped
+mod Gone
+mod Levels
+mod ViewMade
+mod ViewFit
+pub mod Exactly
