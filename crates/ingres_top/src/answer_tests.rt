@@ -296,16 +296,19 @@ fn texts_match_their_patterns(rt: HostRuntime) -> Result<(), Fail> {
 }
 
 #[test]
-fn a_batch_of_10_001_statements_is_run(rt: HostRuntime) -> Result<(), Fail> {
+fn a_batch_of_10_001_statements_makes_all_relations_but_the_last(
+    rt: HostRuntime,
+) -> Result<(), Fail> {
     let alloc = rt.alloc();
-    let mut script = Vec::from_slice(alloc, b"create r (a = i4)\n")?;
-    let mut output = Vec::from_slice(alloc, b"done\n")?;
+    let mut script = Vec::new(alloc);
+    let mut output = Vec::new(alloc);
     for number in 0..10_000u32 {
-        let statement = format!(in alloc; "append to r (a = {number})\n")?;
+        let statement = format!(in alloc; "create r{number} (a = i1)\n")?;
         script.extend_from_slice(statement.as_bytes())?;
         output.extend_from_slice(b"done\n")?;
     }
-    script.extend_from_slice(b"\\g\n")?;
+    script.extend_from_slice(b"create r10000 (a = i1)\n\\g\n")?;
+    output.extend_from_slice(b"refused 14 line 10001: limit\n")?;
     assert!(rt; gives(alloc, &script, &output)?);
     Ok(())
 }
