@@ -9,7 +9,7 @@ mod Restructured
 mod IndexFit
 mod Swapped
 mod Gone
-mod Levels
+pub mod Levels
 mod ViewMade
 mod ViewFit
 pub mod Exactly

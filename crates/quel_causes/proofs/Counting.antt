@@ -15,7 +15,8 @@ counted p f k xs = sum_by (λ e. f e.1) (filter (λ e. p e.0) (enumerate_from k 
 none_more : (n : ℕ) → 0 + n ≡ n
 none_more n = omega arith
 
-one_first : {X : Type 0} (p : ℕ → Bool) (f : X → ℕ) (k : ℕ) (x : X) (xs : List X) → counted p f k (x ∷ xs) ≡ cond (p k) (f x) 0 + counted p f (k + 1) xs
+-- the first item counts what it counts where its place passes
+pub one_first : {X : Type 0} (p : ℕ → Bool) (f : X → ℕ) (k : ℕ) (x : X) (xs : List X) → counted p f k (x ∷ xs) ≡ cond (p k) (f x) 0 + counted p f (k + 1) xs
 one_first p f k x xs = go (p k)
   where
     go : (b : Bool) → sum_by (λ (e : ℕ × _). f e.1) (cond b ((k, x) ∷ filter (λ e. p e.0) (enumerate_from (k + 1) xs)) (filter (λ e. p e.0) (enumerate_from (k + 1) xs)))

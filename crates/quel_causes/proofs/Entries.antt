@@ -106,7 +106,7 @@ no_attrs db x h = go x.info.spec h
     go spec.Index h = none x.info.attrs (not_any _ (left _ _ (right (is_relation db x.base) _ h)))
 
 -- an entry's key has no catalogue's name
-named_apart : (db : Db) → IsDatabase db → (key : RelKey) (info : RelInfo) → entry_at db key ≡ Some info → is_catalogue_name key.name ≡ false
+pub named_apart : (db : Db) → IsDatabase db → (key : RelKey) (info : RelInfo) → entry_at db key ≡ Some info → is_catalogue_name key.name ≡ false
 named_apart db is key info e =
     let named : key_is_named info.key ≡ true = found_passes (λ (i : RelInfo). same_key i.key key) (λ (i : RelInfo). key_is_named i.key) (entries db) info is.keys_are_named e in
     let same : info.key ≡ key = same_keys info.key key (find_passes (λ (i : RelInfo). same_key i.key key) (entries db) info e) in

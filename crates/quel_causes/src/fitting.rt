@@ -22,7 +22,8 @@ fn same_domain(left: Domain, right: Domain) -> bool
     }
 }
 
-fn same_kind(left: Kind, right: Kind) -> bool
+/// Whether the two kinds are the same.
+pub fn same_kind(left: Kind, right: Kind) -> bool
     ensures { result ≡ same_kind left right }
 {
     match (left, right) {
@@ -41,7 +42,9 @@ fn has_kind(found: Option<Kind>, kind: Kind) -> bool
     }
 }
 
-fn targets_fit(targets: &[Target], kinds: &[Vec<Kind>]) -> bool
+/// Whether each target is of its kind, where these are the kinds of each variable's attributes; false
+/// also where its term has none. Takes no memory.
+pub fn targets_fit(targets: &[Target], kinds: &[Vec<Kind>]) -> bool
     ensures { result ≡ list_all (λ t. has_kind (kind_of t.term (map vec_items kinds.now)) t.kind) targets.now }
 {
     for target in targets {

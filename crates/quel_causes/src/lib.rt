@@ -13,13 +13,13 @@ mod retrieved;
 mod variables;
 mod widths;
 
-pub use fitting::{assignments_fit, query_fits};
+pub use fitting::{assignments_fit, query_fits, same_kind, targets_fit};
 pub use judging::cause;
 pub use kinds::{kinds_at, var_kinds};
-pub use places::{is_full, is_taken};
+pub use places::{is_catalogue_name, is_full, is_taken};
 pub use repeated::{repeats, sorts_by_titles};
 pub use variables::has_too_many;
-pub use widths::is_too_wide;
+pub use widths::{is_too_wide, kind_bytes};
 
 #[cfg(test)]
 mod tests;

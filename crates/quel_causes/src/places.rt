@@ -36,7 +36,7 @@ pub(crate) fn key_of(alloc: Global, owner: &Name, name: &Name) -> Result<RelKey,
 }
 
 /// Whether only a catalogue has this name.
-pub(crate) fn is_catalogue_name(name: &Name) -> bool
+pub fn is_catalogue_name(name: &Name) -> bool
     ensures { result ≡ is_catalogue_name name.now }
 {
     name.bytes() == b"relation".as_slice() || name.bytes() == b"attribute".as_slice()

@@ -15,7 +15,8 @@ const MOST_ATTRIBUTES: usize = 49;
 /// The bytes that a row has at most.
 const MOST_ROW_BYTES: u32 = 1000;
 
-fn kind_bytes(kind: Kind) -> u32
+/// The bytes that a value of the kind takes in a row.
+pub fn kind_bytes(kind: Kind) -> u32
     ensures bytes { result ≡ kind_bytes kind }
     ensures few { result ≤ 255 }
 {

@@ -1,0 +1,4 @@
+pub mod Kept
+pub mod Measured
+pub mod Sized
+pub mod Standing

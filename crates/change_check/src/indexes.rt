@@ -1,0 +1,47 @@
+//! An index that is made.
+
+ghost use Rattle.std.specs.Prelude.{◌≡◌, IfOk, Some};
+ghost use Rattle.am_traits.specs.Causes.{HasCause};
+ghost use Rattle.calculus.specs.Database.{Db};
+ghost use Rattle.calculus.specs.Keys.{key_of};
+ghost use Rattle.fit_changes.specs.Fit.{index_is_fit};
+
+use crate::described::some_keys_stand;
+use crate::keys::{key_is_free, relation};
+use am_traits::{Base, BaseFault};
+use calculus::{Name, OutOfMemory, RelKey};
+use std::alloc::Global;
+
+/// The key of this owner and name.
+fn key_of(alloc: Global, owner: &Name, name: &Name) -> Result<RelKey, OutOfMemory>
+    ensures { IfOk result (λ key. key ≡ key_of owner.now name.now) }
+{
+    let owner = owner.copy(alloc)?;
+    let name = name.copy(alloc)?;
+    Ok(RelKey { owner, name })
+}
+
+/// Whether an index of a relation may be made: the relation is there, the index has key attributes of
+/// it, and its key is free.
+pub(crate) fn index_is_fit<B: Base>(
+    alloc: Global,
+    base: &mut B,
+    rel: &RelKey,
+    name: &Name,
+    keys: &[u8],
+) -> Result<bool, BaseFault>
+    ensures told { (db : Db) → B.database base.old ≡ Some db → IfOk result (λ fit. fit ≡ index_is_fit db rel.now name.now keys.now) }
+    ensures kept { B.database base.new ≡ B.database base.old }
+    ensures same { B.left base.new ≡ B.left base.old }
+    ensures cause { HasCause (B.database base.old) (B.faults base.old) (B.faults base.new) result }
+{
+    let info = match relation(alloc, base, rel)? {
+        Some(info) => info,
+        None => return Ok(false),
+    };
+    if !some_keys_stand(info.attrs.items(), keys) {
+        return Ok(false);
+    }
+    let key = key_of(alloc, &rel.owner, name)?;
+    key_is_free(alloc, base, &key)
+}

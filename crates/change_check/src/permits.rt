@@ -1,0 +1,256 @@
+//! Permits and rules that are made.
+
+ghost use Rattle.std.specs.Prelude.{◌≡◌, ◌∷◌, [], ◌&&◌, length, nat_le, nat_lt, IfOk, Some, bytes_eq};
+ghost use Rattle.std.specs.List.{list_all};
+ghost use Rattle.am_traits.specs.Causes.{HasCause};
+ghost use Rattle.calculus.specs.Change.{permit_numbers, rule_numbers};
+ghost use Rattle.calculus.specs.Database.{Db, is_relation};
+ghost use Rattle.calculus.specs.IsDatabase.{row_qual_is_small, row_qual_stands, user_is_named};
+ghost use Rattle.calculus.specs.Kinds.{kinds_fit};
+ghost use Rattle.calculus.specs.Stored.{kinds_at};
+ghost use Rattle.calculus.specs.Sizes.{qual_size};
+ghost use Rattle.change_check.specs.Sized.{qual_depth};
+ghost use Rattle.fit_changes.specs.Fit.{number_is_free, permit_is_fit, rule_is_fit};
+
+use crate::depths::qual_depth;
+use crate::keys::is_relation;
+use crate::numbers::{has_number, permit_numbers, rule_numbers};
+use crate::sizes::qual_size;
+use am_traits::{Base, BaseFault};
+use calculus::{Kind, Name, OutOfMemory, Permit, QQual, RelKey, Rule, is_name, kinds_fit};
+use quel_causes::kinds_at;
+use std::alloc::Global;
+
+/// The permits, and the rules, that a relation has at most.
+const MOST: usize = 100;
+
+/// The size of a qualification that is stored at most.
+const GREATEST_SIZE: u64 = 1000;
+
+/// The levels of a tree that is stored at most.
+const MOST_LEVELS: u64 = 3000;
+
+/// The attributes that a permit lists at most.
+const MOST_LISTED: usize = 65_535;
+
+/// Whether the administrator is the owner.
+fn is_administrators<B: Base>(alloc: Global, base: &mut B, rel: &RelKey) -> Result<bool, BaseFault>
+    ensures told { (db : Db) → B.database base.old ≡ Some db → IfOk result (λ own. own ≡ bytes_eq rel.now.owner db.dba) }
+    ensures kept { B.database base.new ≡ B.database base.old }
+    ensures same { B.left base.new ≡ B.left base.old }
+    ensures cause { HasCause (B.database base.old) (B.faults base.old) (B.faults base.new) result }
+{
+    let dba = base.dba(alloc)?;
+    Ok(rel.owner.bytes() == dba.bytes())
+}
+
+/// Whether the user of a permit has a name.
+fn user_is_named(user: &Option<Name>) -> bool
+    ensures { result ≡ user_is_named user.now }
+{
+    match user {
+        None => true,
+        Some(user) => is_name(user.bytes()),
+    }
+}
+
+fn are_places(kinds: &[Kind], attrs: &[u8]) -> bool
+    ensures { result ≡ list_all (λ a. nat_lt a (length kinds.now)) attrs.now }
+{
+    let most = kinds.len();
+    attrs.iter().all(|attr| (*attr as usize) < most)
+}
+
+/// Whether the kinds in a qualification over a row with attributes of these kinds fit.
+fn row_qual_fits(alloc: Global, kinds: Vec<Kind>, qual: &QQual) -> Result<bool, OutOfMemory>
+    ensures { IfOk result (λ fit. fit ≡ kinds_fit qual.now (kinds.items ∷ [])) }
+{
+    let mut vars = Vec::new(alloc);
+    vars.push(kinds)?;
+    Ok(kinds_fit(qual, &vars))
+}
+
+/// Whether a qualification in which no aggregate stands is no larger and no deeper than one that is
+/// stored may be.
+#[tactic(auto, using(crate::proofs::Numbered::stopped_le))]
+fn is_small(qual: &QQual) -> bool
+    ensures { result ≡ (nat_le (qual_size [] qual.now) 1000 && nat_le (qual_depth qual.now) 3000) }
+{
+    qual_size(&[], qual) <= GREATEST_SIZE && qual_depth(qual) <= MOST_LEVELS
+}
+
+/// Whether a qualification over a row of the relation stands, and is small enough to be stored.
+fn row_qual_is_fit<B: Base>(
+    alloc: Global,
+    base: &mut B,
+    rel: &RelKey,
+    qual: &QQual,
+) -> Result<bool, BaseFault>
+    ensures told { (db : Db) → B.database base.old ≡ Some db → IfOk result (λ fit. fit ≡ (row_qual_stands db rel.now qual.now && row_qual_is_small qual.now)) }
+    ensures kept { B.database base.new ≡ B.database base.old }
+    ensures same { B.left base.new ≡ B.left base.old }
+    ensures cause { HasCause (B.database base.old) (B.faults base.old) (B.faults base.new) result }
+{
+    let kinds = kinds_at(alloc, base, rel)?;
+    if !row_qual_fits(alloc, kinds, qual)? {
+        return Ok(false);
+    }
+    Ok(is_small(qual))
+}
+
+/// Whether the attributes of a permit are places of attributes of its relation, and not too many.
+fn attrs_are_fit<B: Base>(
+    alloc: Global,
+    base: &mut B,
+    rel: &RelKey,
+    attrs: &[u8],
+) -> Result<bool, BaseFault>
+    ensures told { (db : Db) → B.database base.old ≡ Some db → IfOk result (λ fit. fit ≡ (list_all (λ a. nat_lt a (length (kinds_at db rel.now))) attrs.now && nat_le (length attrs.now) 65535)) }
+    ensures kept { B.database base.new ≡ B.database base.old }
+    ensures same { B.left base.new ≡ B.left base.old }
+    ensures cause { HasCause (B.database base.old) (B.faults base.old) (B.faults base.new) result }
+{
+    let kinds = kinds_at(alloc, base, rel)?;
+    Ok(are_places(&kinds, attrs) && attrs.len() <= MOST_LISTED)
+}
+
+/// Whether a number is none of these, and there may be one more.
+#[tactic(auto, unfolding(fit_changes::specs::Fit::number_is_free))]
+fn number_is_free(numbers: &[u32], number: u32) -> bool
+    ensures { result ≡ number_is_free 100 numbers.now number }
+{
+    !has_number(numbers, number) && numbers.len() < MOST
+}
+
+/// Whether a permit of the relation may have the number.
+fn permit_number_is_free<B: Base>(
+    alloc: Global,
+    base: &mut B,
+    rel: &RelKey,
+    number: u32,
+) -> Result<bool, BaseFault>
+    ensures told { (db : Db) → B.database base.old ≡ Some db → IfOk result (λ free. free ≡ number_is_free 100 (permit_numbers db rel.now) number) }
+    ensures kept { B.database base.new ≡ B.database base.old }
+    ensures same { B.left base.new ≡ B.left base.old }
+    ensures cause { HasCause (B.database base.old) (B.faults base.old) (B.faults base.new) result }
+{
+    let permits = base.permits(alloc, rel)?;
+    let numbers = permit_numbers(alloc, &permits)?;
+    Ok(number_is_free(&numbers, number))
+}
+
+/// Whether a rule of the relation may have the number.
+fn rule_number_is_free<B: Base>(
+    alloc: Global,
+    base: &mut B,
+    rel: &RelKey,
+    number: u32,
+) -> Result<bool, BaseFault>
+    ensures told { (db : Db) → B.database base.old ≡ Some db → IfOk result (λ free. free ≡ number_is_free 100 (rule_numbers db rel.now) number) }
+    ensures kept { B.database base.new ≡ B.database base.old }
+    ensures same { B.left base.new ≡ B.left base.old }
+    ensures cause { HasCause (B.database base.old) (B.faults base.old) (B.faults base.new) result }
+{
+    let rules = base.rules(alloc, rel)?;
+    let numbers = rule_numbers(alloc, &rules)?;
+    Ok(number_is_free(&numbers, number))
+}
+
+/// Whether a rule has what one must have, asked part by part.
+fn rule_has_parts<B: Base>(
+    alloc: Global,
+    base: &mut B,
+    rel: &RelKey,
+    rule: &Rule,
+) -> Result<bool, BaseFault>
+    ensures told { (db : Db) → B.database base.old ≡ Some db → IfOk result (λ fit. fit ≡ (is_relation db rel.now && ((row_qual_stands db rel.now rule.now.qual && row_qual_is_small rule.now.qual) && number_is_free 100 (rule_numbers db rel.now) rule.now.number))) }
+    ensures kept { B.database base.new ≡ B.database base.old }
+    ensures same { B.left base.new ≡ B.left base.old }
+    ensures cause { HasCause (B.database base.old) (B.faults base.old) (B.faults base.new) result }
+{
+    if !is_relation(alloc, base, rel)? {
+        return Ok(false);
+    }
+    if !row_qual_is_fit(alloc, base, rel, &rule.qual)? {
+        return Ok(false);
+    }
+    rule_number_is_free(alloc, base, rel, rule.number)
+}
+
+/// Whether a rule may be made: it stands on a relation, is no larger than one may be, and has a free
+/// number.
+pub(crate) fn rule_is_fit<B: Base>(
+    alloc: Global,
+    base: &mut B,
+    rel: &RelKey,
+    rule: &Rule,
+) -> Result<bool, BaseFault>
+    ensures told { (db : Db) → B.database base.old ≡ Some db → IfOk result (λ fit. fit ≡ rule_is_fit db rel.now rule.now) }
+    ensures kept { B.database base.new ≡ B.database base.old }
+    ensures same { B.left base.new ≡ B.left base.old }
+    ensures cause { HasCause (B.database base.old) (B.faults base.old) (B.faults base.new) result }
+{
+    rule_has_parts(alloc, base, rel, rule)
+}
+
+/// Whether a permit lists attributes of its relation, not too many of them, and its qualification
+/// stands and is small enough.
+fn permit_covers<B: Base>(
+    alloc: Global,
+    base: &mut B,
+    rel: &RelKey,
+    permit: &Permit,
+) -> Result<bool, BaseFault>
+    ensures told { (db : Db) → B.database base.old ≡ Some db → IfOk result (λ fit. fit ≡ ((list_all (λ a. nat_lt a (length (kinds_at db rel.now))) permit.now.attrs && nat_le (length permit.now.attrs) 65535) && (row_qual_stands db rel.now permit.now.qual && row_qual_is_small permit.now.qual))) }
+    ensures kept { B.database base.new ≡ B.database base.old }
+    ensures same { B.left base.new ≡ B.left base.old }
+    ensures cause { HasCause (B.database base.old) (B.faults base.old) (B.faults base.new) result }
+{
+    if !attrs_are_fit(alloc, base, rel, permit.attrs.items())? {
+        return Ok(false);
+    }
+    row_qual_is_fit(alloc, base, rel, &permit.qual)
+}
+
+/// Whether a permit has what one must have, asked part by part.
+fn permit_has_parts<B: Base>(
+    alloc: Global,
+    base: &mut B,
+    rel: &RelKey,
+    permit: &Permit,
+) -> Result<bool, BaseFault>
+    ensures told { (db : Db) → B.database base.old ≡ Some db → IfOk result (λ fit. fit ≡ (is_relation db rel.now && (bytes_eq rel.now.owner db.dba && (user_is_named permit.now.user && (((list_all (λ a. nat_lt a (length (kinds_at db rel.now))) permit.now.attrs && nat_le (length permit.now.attrs) 65535) && (row_qual_stands db rel.now permit.now.qual && row_qual_is_small permit.now.qual)) && number_is_free 100 (permit_numbers db rel.now) permit.now.number))))) }
+    ensures kept { B.database base.new ≡ B.database base.old }
+    ensures same { B.left base.new ≡ B.left base.old }
+    ensures cause { HasCause (B.database base.old) (B.faults base.old) (B.faults base.new) result }
+{
+    if !is_relation(alloc, base, rel)? {
+        return Ok(false);
+    }
+    if !is_administrators(alloc, base, rel)? {
+        return Ok(false);
+    }
+    if !user_is_named(&permit.user) {
+        return Ok(false);
+    }
+    if !permit_covers(alloc, base, rel, permit)? {
+        return Ok(false);
+    }
+    permit_number_is_free(alloc, base, rel, permit.number)
+}
+
+/// Whether a permit may be made: it stands on a relation of the administrator's, is no larger than one
+/// may be, and has a free number.
+pub(crate) fn permit_is_fit<B: Base>(
+    alloc: Global,
+    base: &mut B,
+    rel: &RelKey,
+    permit: &Permit,
+) -> Result<bool, BaseFault>
+    ensures told { (db : Db) → B.database base.old ≡ Some db → IfOk result (λ fit. fit ≡ permit_is_fit db rel.now permit.now) }
+    ensures kept { B.database base.new ≡ B.database base.old }
+    ensures same { B.left base.new ≡ B.left base.old }
+    ensures cause { HasCause (B.database base.old) (B.faults base.old) (B.faults base.new) result }
+{
+    permit_has_parts(alloc, base, rel, permit)
+}

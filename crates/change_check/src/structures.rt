@@ -1,0 +1,32 @@
+//! A relation that is stored in another structure.
+
+ghost use Rattle.std.specs.Prelude.{◌≡◌, IfOk, Some};
+ghost use Rattle.am_traits.specs.Causes.{HasCause};
+ghost use Rattle.calculus.specs.Database.{Db};
+ghost use Rattle.fit_changes.specs.Fit.{structure_is_fit};
+
+use crate::described::structure_stands;
+use crate::keys::relation;
+use am_traits::{Base, BaseFault};
+use calculus::{RelKey, Spec};
+use std::alloc::Global;
+
+/// Whether a relation may be stored so: it is there, and the structure with these keys would be one
+/// for its attributes.
+pub(crate) fn structure_is_fit<B: Base>(
+    alloc: Global,
+    base: &mut B,
+    rel: &RelKey,
+    to: Spec,
+    keys: &[u8],
+) -> Result<bool, BaseFault>
+    ensures told { (db : Db) → B.database base.old ≡ Some db → IfOk result (λ fit. fit ≡ structure_is_fit db rel.now to keys.now) }
+    ensures kept { B.database base.new ≡ B.database base.old }
+    ensures same { B.left base.new ≡ B.left base.old }
+    ensures cause { HasCause (B.database base.old) (B.faults base.old) (B.faults base.new) result }
+{
+    match relation(alloc, base, rel)? {
+        Some(info) => Ok(structure_stands(to, info.attrs.items(), keys)),
+        None => Ok(false),
+    }
+}
