@@ -19,3 +19,6 @@ mod structures;
 mod views;
 
 pub use checking::fit_change;
+
+#[cfg(test)]
+mod tests;
