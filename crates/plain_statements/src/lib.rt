@@ -15,3 +15,6 @@ mod working;
 
 pub use session::PlainStatements;
 pub(crate) use stopped::Stopped;
+
+#[cfg(test)]
+mod tests;
