@@ -89,12 +89,19 @@ fn stored(alloc: Global, to: Spec, keys: &[u8]) -> Result<DbChange, Fail> {
 }
 
 /// Says whether the change may be laid, and lays it where it may.
-fn is_laid(alloc: Global, base: &mut DbPlain, change: &DbChange) -> Result<bool, BaseFault> {
+fn try_lay<B: Base>(alloc: Global, base: &mut B, change: &DbChange) -> Result<bool, BaseFault> {
     let fit = fit_change(alloc, base, change)?;
     if fit {
         base.apply(alloc, change)?;
     }
     Ok(fit)
+}
+
+/// Says whether the change may be laid, and lays it where it may.
+fn is_laid(alloc: Global, base: &mut DbPlain, change: DbChange) -> Result<bool, BaseFault> {
+    let laid = try_lay(alloc, base, &change);
+    drop(change);
+    laid
 }
 
 /// An index of `parts` by its second attribute is made.
@@ -206,11 +213,15 @@ fn viewed(alloc: Global, name: &[u8]) -> Result<DbChange, Fail> {
     Ok(DbChange::View { info, query })
 }
 
+/// Makes `parts` of two rows.
+fn is_made(alloc: Global, base: &mut DbPlain) -> Result<bool, Fail> {
+    Ok(is_laid(alloc, base, made(alloc, &[&[1, 5], &[2, 7]])?)?)
+}
+
 /// A database with `parts` of two rows.
 fn with_parts(alloc: Global) -> Result<DbPlain, Fail> {
     let mut base = DbPlain::new(alloc, named(alloc, b"ann")?);
-    let change = made(alloc, &[&[1, 5], &[2, 7]])?;
-    is_laid(alloc, &mut base, &change)?;
+    is_made(alloc, &mut base)?;
     Ok(base)
 }
 
@@ -218,11 +229,9 @@ fn with_parts(alloc: Global) -> Result<DbPlain, Fail> {
 fn a_relation_is_made_once(rt: HostRuntime) -> Result<(), Fail> {
     let alloc = rt.alloc();
     let mut base = DbPlain::new(alloc, named(alloc, b"ann")?);
-    let twice = made(alloc, &[&[1, 5], &[1, 5]])?;
-    assert!(rt; !is_laid(alloc, &mut base, &twice)?);
-    let change = made(alloc, &[&[1, 5], &[2, 7]])?;
-    assert!(rt; is_laid(alloc, &mut base, &change)?);
-    assert!(rt; !is_laid(alloc, &mut base, &change)?);
+    assert!(rt; !is_laid(alloc, &mut base, made(alloc, &[&[1, 5], &[1, 5]])?)?);
+    assert!(rt; is_made(alloc, &mut base)?);
+    assert!(rt; !is_made(alloc, &mut base)?);
     Ok(())
 }
 
@@ -230,13 +239,10 @@ fn a_relation_is_made_once(rt: HostRuntime) -> Result<(), Fail> {
 fn rows_come_and_go_once(rt: HostRuntime) -> Result<(), Fail> {
     let alloc = rt.alloc();
     let mut base = with_parts(alloc)?;
-    let change = moved(alloc, &[&[1, 5]], &[&[3, 3]])?;
-    assert!(rt; is_laid(alloc, &mut base, &change)?);
-    assert!(rt; !is_laid(alloc, &mut base, &change)?);
-    let again = moved(alloc, &[], &[&[3, 3]])?;
-    assert!(rt; !is_laid(alloc, &mut base, &again)?);
-    let too_great = moved(alloc, &[], &[&[70_000, 3]])?;
-    assert!(rt; !is_laid(alloc, &mut base, &too_great)?);
+    assert!(rt; is_laid(alloc, &mut base, moved(alloc, &[&[1, 5]], &[&[3, 3]])?)?);
+    assert!(rt; !is_laid(alloc, &mut base, moved(alloc, &[&[1, 5]], &[])?)?);
+    assert!(rt; !is_laid(alloc, &mut base, moved(alloc, &[], &[&[3, 3]])?)?);
+    assert!(rt; !is_laid(alloc, &mut base, moved(alloc, &[], &[&[70_000, 3]])?)?);
     Ok(())
 }
 
@@ -244,12 +250,9 @@ fn rows_come_and_go_once(rt: HostRuntime) -> Result<(), Fail> {
 fn a_structure_is_by_keys_that_are_there(rt: HostRuntime) -> Result<(), Fail> {
     let alloc = rt.alloc();
     let mut base = with_parts(alloc)?;
-    let hashed = stored(alloc, Spec::Hash, &[0])?;
-    assert!(rt; is_laid(alloc, &mut base, &hashed)?);
-    let keyless = stored(alloc, Spec::Isam, &[])?;
-    assert!(rt; !is_laid(alloc, &mut base, &keyless)?);
-    let beyond = stored(alloc, Spec::Hash, &[2])?;
-    assert!(rt; !is_laid(alloc, &mut base, &beyond)?);
+    assert!(rt; is_laid(alloc, &mut base, stored(alloc, Spec::Hash, &[0])?)?);
+    assert!(rt; !is_laid(alloc, &mut base, stored(alloc, Spec::Isam, &[])?)?);
+    assert!(rt; !is_laid(alloc, &mut base, stored(alloc, Spec::Hash, &[2])?)?);
     Ok(())
 }
 
@@ -257,11 +260,9 @@ fn a_structure_is_by_keys_that_are_there(rt: HostRuntime) -> Result<(), Fail> {
 fn an_index_has_a_name_of_its_own(rt: HostRuntime) -> Result<(), Fail> {
     let alloc = rt.alloc();
     let mut base = with_parts(alloc)?;
-    let taken = indexed(alloc, b"parts")?;
-    assert!(rt; !is_laid(alloc, &mut base, &taken)?);
-    let change = indexed(alloc, b"by_quantity")?;
-    assert!(rt; is_laid(alloc, &mut base, &change)?);
-    assert!(rt; !is_laid(alloc, &mut base, &change)?);
+    assert!(rt; !is_laid(alloc, &mut base, indexed(alloc, b"parts")?)?);
+    assert!(rt; is_laid(alloc, &mut base, indexed(alloc, b"by_quantity")?)?);
+    assert!(rt; !is_laid(alloc, &mut base, indexed(alloc, b"by_quantity")?)?);
     Ok(())
 }
 
@@ -269,15 +270,11 @@ fn an_index_has_a_name_of_its_own(rt: HostRuntime) -> Result<(), Fail> {
 fn a_permit_is_of_attributes_that_are_there(rt: HostRuntime) -> Result<(), Fail> {
     let alloc = rt.alloc();
     let mut base = with_parts(alloc)?;
-    let beyond = permitted(alloc, 1, &[2])?;
-    assert!(rt; !is_laid(alloc, &mut base, &beyond)?);
-    let change = permitted(alloc, 1, &[1])?;
-    assert!(rt; is_laid(alloc, &mut base, &change)?);
-    assert!(rt; !is_laid(alloc, &mut base, &change)?);
-    let twice = unpermitted(alloc, &[1, 1])?;
-    assert!(rt; !is_laid(alloc, &mut base, &twice)?);
-    let gone = unpermitted(alloc, &[1])?;
-    assert!(rt; is_laid(alloc, &mut base, &gone)?);
+    assert!(rt; !is_laid(alloc, &mut base, permitted(alloc, 1, &[2])?)?);
+    assert!(rt; is_laid(alloc, &mut base, permitted(alloc, 1, &[1])?)?);
+    assert!(rt; !is_laid(alloc, &mut base, permitted(alloc, 1, &[1])?)?);
+    assert!(rt; !is_laid(alloc, &mut base, unpermitted(alloc, &[1, 1])?)?);
+    assert!(rt; is_laid(alloc, &mut base, unpermitted(alloc, &[1])?)?);
     Ok(())
 }
 
@@ -285,11 +282,9 @@ fn a_permit_is_of_attributes_that_are_there(rt: HostRuntime) -> Result<(), Fail>
 fn a_rule_that_stands_goes(rt: HostRuntime) -> Result<(), Fail> {
     let alloc = rt.alloc();
     let mut base = with_parts(alloc)?;
-    let gone = unruled(alloc, &[1])?;
-    assert!(rt; !is_laid(alloc, &mut base, &gone)?);
-    let change = ruled(alloc, 1)?;
-    assert!(rt; is_laid(alloc, &mut base, &change)?);
-    assert!(rt; is_laid(alloc, &mut base, &gone)?);
+    assert!(rt; !is_laid(alloc, &mut base, unruled(alloc, &[1])?)?);
+    assert!(rt; is_laid(alloc, &mut base, ruled(alloc, 1)?)?);
+    assert!(rt; is_laid(alloc, &mut base, unruled(alloc, &[1])?)?);
     Ok(())
 }
 
@@ -297,14 +292,9 @@ fn a_rule_that_stands_goes(rt: HostRuntime) -> Result<(), Fail> {
 fn what_a_view_names_goes_only_with_it(rt: HostRuntime) -> Result<(), Fail> {
     let alloc = rt.alloc();
     let mut base = with_parts(alloc)?;
-    let of_nothing = viewed(alloc, b"suppliers")?;
-    assert!(rt; !is_laid(alloc, &mut base, &of_nothing)?);
-    let change = viewed(alloc, b"parts")?;
-    assert!(rt; is_laid(alloc, &mut base, &change)?);
-    let alone = destroyed(alloc, &[b"parts"])?;
-    assert!(rt; !is_laid(alloc, &mut base, &alone)?);
-    let both = destroyed(alloc, &[b"parts", b"numbers"])?;
-    assert!(rt; is_laid(alloc, &mut base, &both)?);
-    assert!(rt; !is_laid(alloc, &mut base, &both)?);
+    assert!(rt; !is_laid(alloc, &mut base, viewed(alloc, b"suppliers")?)?);
+    assert!(rt; is_laid(alloc, &mut base, viewed(alloc, b"parts")?)?);
+    assert!(rt; !is_laid(alloc, &mut base, destroyed(alloc, &[b"parts"])?)?);
+    assert!(rt; is_laid(alloc, &mut base, destroyed(alloc, &[b"parts", b"numbers"])?)?);
     Ok(())
 }
