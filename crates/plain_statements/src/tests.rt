@@ -1,4 +1,4 @@
-use calculus::{Checked, DbChange, Domain, Kind, Name, Statement, Utility};
+use calculus::{Checked, DbChange, Domain, Kind, Name, Statement};
 use plain_base::DbPlain;
 use quel_check::RangeTable;
 use quel_names::name_refusal;
@@ -26,9 +26,9 @@ fn refused_name(alloc: Global, text: &[u8]) -> Result<Option<u8>, Fail> {
     let mut base = DbPlain::new(alloc, named(alloc, b"ann")?);
     let ranges = RangeTable::new(alloc);
     let s = read(alloc, text)?;
-    let number = name_refusal(alloc, &s, &user, &ranges, &mut base)?;
+    let number = name_refusal(alloc, &s, &user, &ranges, &mut base);
     drop(s);
-    Ok(number)
+    Ok(number?)
 }
 
 /// What a statement of ann's asks an empty database for.
@@ -73,14 +73,6 @@ fn targets_in(alloc: Global, text: &[u8]) -> Result<Option<usize>, Fail> {
     Ok(Some(count))
 }
 
-/// The work for the utilities that a statement asks for.
-fn work_of(alloc: Global, text: &[u8]) -> Result<Utility, Fail> {
-    match resolved(alloc, text)? {
-        Ok(Checked::Utility(work)) => Ok(work),
-        _ => Err("no work")?,
-    }
-}
-
 /// Whether this is a relation `p` without rows, whose one attribute is a number of two bytes.
 fn makes_p(change: &DbChange) -> bool {
     let DbChange::Create { info, rows } = change else {
@@ -93,6 +85,20 @@ fn makes_p(change: &DbChange) -> bool {
         && info.key.name.bytes() == b"p".as_slice()
         && info.key.owner.bytes() == b"ann".as_slice()
         && attr.kind == Kind::Of(Domain::I2)
+}
+
+/// Whether what is asked for is planned as such a relation.
+fn plans_p(alloc: Global, base: &mut DbPlain, user: &Name, tree: &Checked) -> bool {
+    let Checked::Utility(work) = tree else {
+        return false;
+    };
+    let change = plan(alloc, base, user, work);
+    let is_made = match &change {
+        Ok(change) => makes_p(change),
+        Err(_) => false,
+    };
+    drop(change);
+    is_made
 }
 
 #[test]
@@ -127,14 +133,12 @@ fn a_relation_is_made_without_rows(rt: HostRuntime) -> Result<(), Fail> {
     let alloc = rt.alloc();
     let user = named(alloc, b"ann")?;
     let mut base = DbPlain::new(alloc, named(alloc, b"ann")?);
-    let work = work_of(alloc, b"create p (a = i2)")?;
-    let change = plan(alloc, &mut base, &user, &work);
-    drop(work);
-    let is_made = match &change {
-        Ok(change) => makes_p(change),
+    let tree = resolved(alloc, b"create p (a = i2)")?;
+    let is_made = match &tree {
+        Ok(tree) => plans_p(alloc, &mut base, &user, tree),
         Err(_) => false,
     };
-    drop(change);
+    drop(tree);
     assert!(rt; is_made);
     Ok(())
 }
