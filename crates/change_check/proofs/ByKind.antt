@@ -10,7 +10,7 @@ use Rattle.calculus.specs.declared.change.DbChange.{DbChange}
 use Rattle.calculus.specs.declared.change.DbChange.TheVariants as change
 use Rattle.calculus.specs.Rows.{Row}
 use Rattle.calculus.specs.Database.{Db}
-use Rattle.fit_changes.specs.Fit.{change_is_fit, rows_are_fit, relation_is_fit, destroying_is_fit, structure_is_fit, index_is_fit, view_is_fit, permit_is_fit, rule_is_fit, permits_may_go, rules_may_go}
+use Rattle.change_laws.specs.Fit.{change_is_fit, rows_are_fit, relation_is_fit, destroying_is_fit, structure_is_fit, index_is_fit, view_is_fit, permit_is_fit, rule_is_fit, permits_may_go, rules_may_go}
 
 pub of_rows : (db : Db) (made : DbChange) (rel : RelKey) (remove add : List Row) → made ≡ change.Rows rel remove add → rows_are_fit db rel remove add ≡ change_is_fit db made
 unfolding change_is_fit

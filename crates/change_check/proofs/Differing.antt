@@ -9,8 +9,8 @@ use Rattle.calculus.specs.Value.{row_cmp}
 use Rattle.calculus.specs.Change.{rows_differ}
 use Rattle.calculus.proofs.Sets.{has-set_of, Ascends-set_of}
 use Rattle.calculus.proofs.Placing.{put-there}
-use Rattle.lawful_plans.proofs.Planned.{neither}
-use Rattle.lawful_plans.proofs.RowsChanged.{put_as, put_is}
+use Rattle.plan_laws.proofs.Planned.{neither}
+use Rattle.plan_laws.proofs.RowsChanged.{put_as, put_is}
 
 -- a row that is new makes one more
 one_more : (row : Row) (rows : List Row) → has rows row ≡ false → length (put row rows) ≡ suc (length rows)

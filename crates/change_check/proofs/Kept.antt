@@ -11,7 +11,7 @@ use Rattle.calculus.specs.Database.{Db, Relation, Index, View, entry_at, relatio
 use Rattle.calculus.specs.IsDatabase.{IsDatabase, index_stands, keys_stand, structure_stands, view_info_stands}
 use Rattle.calculus.specs.Stored.{attrs_at}
 use Rattle.quel_meaning.proofs.DatabaseFacts.{found_passes}
-use Rattle.lawful_plans.proofs.RowsChanged.{its_attrs}
+use Rattle.plan_laws.proofs.RowsChanged.{its_attrs}
 use Rattle.quel_names.proofs.Known.{entry_parts}
 use Rattle.change_check.specs.Kept.{kept_info}
 

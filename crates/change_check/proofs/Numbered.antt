@@ -15,8 +15,8 @@ use Rattle.calculus.specs.QueryParts.{qual_aggregates}
 use Rattle.calculus.specs.Sizes.{qual_size}
 use Rattle.calculus.specs.Stored.{attrs_at, kinds_at}
 use Rattle.calculus.specs.Tree.{query}
-use Rattle.fit_changes.specs.Fit.{permit_is_fit, rule_is_fit, number_is_free}
-use Rattle.lawful_plans.proofs.PlainQueries.{query_plain}
+use Rattle.change_laws.specs.Fit.{permit_is_fit, rule_is_fit, number_is_free}
+use Rattle.plan_laws.proofs.PlainQueries.{query_plain}
 use Rattle.change_check.specs.Sized.{qual_depth}
 use Rattle.change_check.proofs.DepthForms.{qual_alone}
 

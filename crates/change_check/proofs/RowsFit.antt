@@ -9,7 +9,7 @@ use Rattle.calculus.specs.Database.{Db, is_relation}
 use Rattle.calculus.specs.Stored.{rows_at, attrs_at}
 use Rattle.calculus.specs.IsDatabase.{row_fits}
 use Rattle.calculus.specs.Change.{rows_differ}
-use Rattle.fit_changes.specs.Fit.{rows_are_fit}
+use Rattle.change_laws.specs.Fit.{rows_are_fit}
 use Rattle.change_check.proofs.Parts.{stops, goes_on, and_then}
 
 -- the rows that go are there, and none that comes is

@@ -7,7 +7,7 @@ use Rattle.calculus.specs.IsDatabase.{attrs_are_targets, attrs_stand, query_stan
 use Rattle.calculus.specs.QueryParts.{vars_of, targets_of}
 use Rattle.calculus.specs.Sizes.{expanded_variables, query_level, query_size, variables}
 use Rattle.calculus.specs.TreeLevels.{query_levels}
-use Rattle.fit_changes.specs.Fit.{key_is_free, view_is_fit, view_is_small}
+use Rattle.change_laws.specs.Fit.{key_is_free, view_is_fit, view_is_small}
 use Rattle.quel_meaning.specs.Passing.{is_too_high}
 
 three : (a b c r : Bool) → ((a && (b && c)) && r) ≡ (a && (b && (c && r)))

@@ -4,7 +4,7 @@ ghost use Rattle.std.specs.Prelude.{◌≡◌, ◌↔◌, true, IfOk, Some};
 ghost use Rattle.am_traits.specs.Causes.{HasCause};
 ghost use Rattle.calculus.specs.Change.{IsLawful};
 ghost use Rattle.calculus.specs.Database.{Db};
-ghost use Rattle.fit_changes.specs.Fit.{change_is_fit};
+ghost use Rattle.change_laws.specs.Fit.{change_is_fit};
 
 use crate::destroying::destroying_is_fit;
 use crate::indexes::index_is_fit;

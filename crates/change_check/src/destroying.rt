@@ -6,7 +6,7 @@ ghost use Rattle.am_traits.specs.Causes.{HasCause};
 ghost use Rattle.calculus.specs.Database.{Db, is_there};
 ghost use Rattle.calculus.specs.Keys.{same_key};
 ghost use Rattle.calculus.specs.Lists.{differ_by};
-ghost use Rattle.fit_changes.specs.Fit.{destroying_is_fit, is_named_outside};
+ghost use Rattle.change_laws.specs.Fit.{destroying_is_fit, is_named_outside};
 
 use crate::keys::is_there;
 use am_traits::{Base, BaseFault};
@@ -61,7 +61,7 @@ fn keys_differ(keys: &[RelKey]) -> bool
 }
 
 /// Whether a view that is none of these names what stands under a key.
-#[tactic(auto, unfolding(fit_changes::specs::Fit::is_named_outside))]
+#[tactic(auto, unfolding(change_laws::specs::Fit::is_named_outside))]
 fn is_named_outside<B: Base>(
     alloc: Global,
     base: &mut B,
@@ -99,7 +99,7 @@ fn some_named<B: Base>(
 
 /// Whether relations, views and indexes may go: each is there, none is listed twice, and no view that
 /// stays names one of them.
-#[tactic(auto, unfolding(fit_changes::specs::Fit::destroying_is_fit))]
+#[tactic(auto, unfolding(change_laws::specs::Fit::destroying_is_fit))]
 pub(crate) fn destroying_is_fit<B: Base>(
     alloc: Global,
     base: &mut B,

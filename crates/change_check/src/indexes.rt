@@ -4,7 +4,7 @@ ghost use Rattle.std.specs.Prelude.{◌≡◌, IfOk, Some};
 ghost use Rattle.am_traits.specs.Causes.{HasCause};
 ghost use Rattle.calculus.specs.Database.{Db};
 ghost use Rattle.calculus.specs.Keys.{key_of};
-ghost use Rattle.fit_changes.specs.Fit.{index_is_fit};
+ghost use Rattle.change_laws.specs.Fit.{index_is_fit};
 
 use crate::described::some_keys_stand;
 use crate::keys::{key_is_free, relation};

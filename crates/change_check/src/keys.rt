@@ -6,7 +6,7 @@ ghost use Rattle.calculus.specs.Catalogue.{is_catalogue_name};
 ghost use Rattle.calculus.specs.Database.{Db, entry_at, is_relation, is_there, relation_at};
 ghost use Rattle.calculus.specs.IsDatabase.{key_is_named};
 ghost use Rattle.change_check.specs.Kept.{kept_info};
-ghost use Rattle.fit_changes.specs.Fit.{key_is_free};
+ghost use Rattle.change_laws.specs.Fit.{key_is_free};
 
 use am_traits::{Base, BaseFault};
 use calculus::{RelInfo, RelKey, Spec};
@@ -102,7 +102,7 @@ fn is_named(key: &RelKey) -> bool
 
 /// Whether something may be made under the key: its name is no catalogue's and is not in use, and
 /// there is room for one more.
-#[tactic(auto, unfolding(fit_changes::specs::Fit::key_is_free))]
+#[tactic(auto, unfolding(change_laws::specs::Fit::key_is_free))]
 pub(crate) fn key_is_free<B: Base>(
     alloc: Global,
     base: &mut B,

@@ -5,7 +5,7 @@ ghost use Rattle.std.specs.List.{list_all, list_any};
 ghost use Rattle.am_traits.specs.Causes.{HasCause};
 ghost use Rattle.calculus.specs.Database.{Db};
 ghost use Rattle.calculus.specs.Lists.{differ_by, has_number};
-ghost use Rattle.fit_changes.specs.Fit.{permits_may_go, rules_may_go};
+ghost use Rattle.change_laws.specs.Fit.{permits_may_go, rules_may_go};
 
 use crate::keys::is_relation;
 use am_traits::{Base, BaseFault};
@@ -78,7 +78,7 @@ fn are_listed_once(standing: &[u32], numbers: &[u32]) -> bool
 
 /// Whether these permits of a relation may go: the relation is there, each number is that of one of
 /// its permits, and none is listed twice.
-#[tactic(auto, unfolding(fit_changes::specs::Fit::permits_may_go, fit_changes::specs::Fit::numbers_may_go))]
+#[tactic(auto, unfolding(change_laws::specs::Fit::permits_may_go, change_laws::specs::Fit::numbers_may_go))]
 pub(crate) fn permits_may_go<B: Base>(
     alloc: Global,
     base: &mut B,
@@ -100,7 +100,7 @@ pub(crate) fn permits_may_go<B: Base>(
 
 /// Whether these rules of a relation may go: the relation is there, each number is that of one of its
 /// rules, and none is listed twice.
-#[tactic(auto, unfolding(fit_changes::specs::Fit::rules_may_go, fit_changes::specs::Fit::numbers_may_go))]
+#[tactic(auto, unfolding(change_laws::specs::Fit::rules_may_go, change_laws::specs::Fit::numbers_may_go))]
 pub(crate) fn rules_may_go<B: Base>(
     alloc: Global,
     base: &mut B,

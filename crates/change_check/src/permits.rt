@@ -10,7 +10,7 @@ ghost use Rattle.calculus.specs.Kinds.{kinds_fit};
 ghost use Rattle.calculus.specs.Stored.{kinds_at};
 ghost use Rattle.calculus.specs.Sizes.{qual_size};
 ghost use Rattle.change_check.specs.Sized.{qual_depth};
-ghost use Rattle.fit_changes.specs.Fit.{number_is_free, permit_is_fit, rule_is_fit};
+ghost use Rattle.change_laws.specs.Fit.{number_is_free, permit_is_fit, rule_is_fit};
 
 use crate::depths::qual_depth;
 use crate::keys::is_relation;
@@ -115,7 +115,7 @@ fn attrs_are_fit<B: Base>(
 }
 
 /// Whether a number is none of these, and there may be one more.
-#[tactic(auto, unfolding(fit_changes::specs::Fit::number_is_free))]
+#[tactic(auto, unfolding(change_laws::specs::Fit::number_is_free))]
 fn number_is_free(numbers: &[u32], number: u32) -> bool
     ensures { result ≡ number_is_free 100 numbers.now number }
 {

@@ -7,7 +7,7 @@ ghost use Rattle.calculus.specs.Change.{rows_differ};
 ghost use Rattle.calculus.specs.Database.{Db};
 ghost use Rattle.calculus.specs.IsDatabase.{are_stored, attrs_stand, row_fits, structure_stands};
 ghost use Rattle.calculus.specs.Limits.{most_rows};
-ghost use Rattle.fit_changes.specs.Fit.{relation_is_fit};
+ghost use Rattle.change_laws.specs.Fit.{relation_is_fit};
 
 use crate::described::{are_stored, attrs_stand, structure_stands};
 use crate::keys::key_is_free;

@@ -9,7 +9,7 @@ ghost use Rattle.calculus.specs.IsDatabase.{row_fits};
 ghost use Rattle.calculus.specs.Limits.{most_rows};
 ghost use Rattle.calculus.specs.Rows.{has};
 ghost use Rattle.calculus.specs.Stored.{rows_at};
-ghost use Rattle.fit_changes.specs.Fit.{rows_are_fit};
+ghost use Rattle.change_laws.specs.Fit.{rows_are_fit};
 
 use crate::attributes::row_fits;
 use crate::keys::relation;

@@ -3,7 +3,7 @@
 ghost use Rattle.std.specs.Prelude.{◌≡◌, IfOk, Some};
 ghost use Rattle.am_traits.specs.Causes.{HasCause};
 ghost use Rattle.calculus.specs.Database.{Db};
-ghost use Rattle.fit_changes.specs.Fit.{structure_is_fit};
+ghost use Rattle.change_laws.specs.Fit.{structure_is_fit};
 
 use crate::described::structure_stands;
 use crate::keys::relation;

@@ -7,7 +7,7 @@ ghost use Rattle.calculus.specs.IsDatabase.{attrs_are_targets, attrs_stand, quer
 ghost use Rattle.calculus.specs.QueryParts.{query_aggregates, targets_of, vars_of};
 ghost use Rattle.calculus.specs.Sizes.{expanded_variables, query_level, query_size, variables};
 ghost use Rattle.calculus.specs.TreeLevels.{query_levels};
-ghost use Rattle.fit_changes.specs.Fit.{key_is_free, view_is_fit, view_is_small};
+ghost use Rattle.change_laws.specs.Fit.{key_is_free, view_is_fit, view_is_small};
 ghost use Rattle.quel_meaning.specs.Passing.{is_too_high};
 
 use crate::depths::query_depth;

@@ -29,7 +29,7 @@ use Rattle.quel_meaning.proofs.Accepted.{scope, accepted}
 use Rattle.quel_meaning.proofs.Each.{left, right}
 use Rattle.quel_meaning.proofs.FitResolved.{resolved_fits}
 use Rattle.quel_meaning.proofs.Slots.{as_many}
-use Rattle.owner_sessions.specs.Plain.{IsPlain}
+use Rattle.owner_session_laws.specs.Plain.{IsPlain}
 use Rattle.quel_resolve.specs.Built.{is_built}
 use Rattle.plain_statements.specs.Doable.{AreDoable, IsDoableUpdate, IsDoable}
 use Rattle.plain_statements.proofs.WithoutViews.{asked_kept, update_kept}

@@ -21,15 +21,15 @@ use Rattle.quel_meaning.specs.KindsInQueries.{assignments_fit}
 use Rattle.quel_meaning.specs.Passing.{is_full, is_taken}
 use Rattle.quel_meaning.specs.Planned.{planned}
 use Rattle.quel_meaning.proofs.Each.{left, right, and, not_left, not_right, not_so}
-use Rattle.lawful_plans.proofs.Created.{nothing_ranges, created_planned}
-use Rattle.lawful_updates.specs.Spelled.{key_is_spelled}
+use Rattle.plan_laws.proofs.Created.{nothing_ranges, created_planned}
+use Rattle.update_laws.specs.Spelled.{key_is_spelled}
 use Rattle.update_change.specs.Changes.{MakesNew}
 use Rattle.calculus.specs.QueryParts.{vars_of}
 use Rattle.calculus.specs.Replacement.{updated}
 use Rattle.calculus.specs.Who.{Free}
 use Rattle.quel_meaning.specs.FitQueries.{is_kept}
-use Rattle.lawful_updates.specs.Spelled.{is_spelled}
-use Rattle.lawful_updates.proofs.Fitted.{fitting_update_lawful}
+use Rattle.update_laws.specs.Spelled.{is_spelled}
+use Rattle.update_laws.proofs.Fitted.{fitting_update_lawful}
 use Rattle.plain_statements.specs.declared.stopped.Stopped.{Stopped}
 use Rattle.plain_statements.specs.declared.stopped.Stopped.TheVariants.{No, OutOfMemory}
 use Rattle.plain_statements.specs.Plans.{Plans}

@@ -15,10 +15,10 @@ use Rattle.quel_meaning.specs.Copying.{refusal}
 use Rattle.quel_meaning.specs.Meaning.{meaning, meaning_by, built_outcome, range_outcome, is_range, tree_meaning, with_ranges}
 use Rattle.quel_meaning.specs.Ranges.{Ranges}
 use Rattle.quel_meaning.specs.Resolved.{resolved}
-use Rattle.owner_sessions.specs.Freely.{free_tree_outcome, free_statement_outcome, free_built_outcome, free_meaning}
-use Rattle.owner_sessions.specs.Plain.{IsPlain, IsPlainState, BuildsPlain, is_plain}
-use Rattle.owner_sessions.proofs.FreeMeaning.{free_means}
-use Rattle.owner_sessions.proofs.Stays.{meaning_plain}
+use Rattle.owner_session_laws.specs.Freely.{free_tree_outcome, free_statement_outcome, free_built_outcome, free_meaning}
+use Rattle.owner_session_laws.specs.Plain.{IsPlain, IsPlainState, BuildsPlain, is_plain}
+use Rattle.owner_session_laws.proofs.FreeMeaning.{free_means}
+use Rattle.owner_session_laws.proofs.Stays.{meaning_plain}
 use Rattle.quel_resolve.specs.Built.{is_built}
 use Rattle.plain_statements.specs.declared.stopped.Stopped.{Stopped}
 use Rattle.plain_statements.specs.declared.stopped.Stopped.TheVariants.{No, OutOfMemory}

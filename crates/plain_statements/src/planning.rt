@@ -13,7 +13,7 @@ use crate::changing::changed_by;
 use crate::pairing::paired;
 use am_traits::Base;
 use calculus::{DbChange, Update};
-use lawful_updates::update_is_spelled;
+use update_laws::update_is_spelled;
 use std::alloc::Global;
 
 /// The change that an update makes of a database, which is lawful, or the number of what refuses it.

@@ -2,7 +2,7 @@
 
 ghost use Rattle.std.specs.Prelude.{◌≡◌, [], IfOk};
 ghost use Rattle.quel_meaning.specs.Meaning.{meaning};
-ghost use Rattle.owner_sessions.specs.Plain.{IsPlainState, empty_db};
+ghost use Rattle.owner_session_laws.specs.Plain.{IsPlainState, empty_db};
 ghost use Rattle.plain_base.specs.Shown.{database_of};
 ghost use Rattle.plain_statements.specs.Built.{built};
 ghost use Rattle.plain_statements.specs.Standing.{state_of};

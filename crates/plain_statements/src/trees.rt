@@ -4,7 +4,7 @@ ghost use Rattle.std.specs.Prelude.{◌≡◌, true, Some, Ok, Err};
 ghost use Rattle.calculus.specs.Database.{Db};
 ghost use Rattle.quel_meaning.specs.IsWritten.{is_written};
 ghost use Rattle.quel_meaning.specs.Resolved.{resolved};
-ghost use Rattle.owner_sessions.specs.Plain.{IsPlain};
+ghost use Rattle.owner_session_laws.specs.Plain.{IsPlain};
 ghost use Rattle.plain_statements.specs.Doable.{IsDoable};
 ghost use Rattle.plain_statements.specs.Plans.{Plans};
 

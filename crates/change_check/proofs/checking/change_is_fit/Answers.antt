@@ -1,5 +1,5 @@
 use Rattle.std.proofs.Common.{◌≡◌, ap, ◌∙◌, subst, Bool, IfOk}
-use Rattle.fit_changes.specs.Fit.{rows_are_fit, relation_is_fit, destroying_is_fit, structure_is_fit, index_is_fit, permits_may_go, rules_may_go}
+use Rattle.change_laws.specs.Fit.{rows_are_fit, relation_is_fit, destroying_is_fit, structure_is_fit, index_is_fit, permits_may_go, rules_may_go}
 use Rattle.change_check.proofs.ByKind.{of_rows, of_relation, of_destroying, of_structure, of_index, of_view, of_permit, of_rule, of_permits, of_rules}
 use Rattle.change_check.proofs.checking.change_is_fit.Goals as goal
 

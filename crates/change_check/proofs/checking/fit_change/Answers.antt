@@ -1,7 +1,7 @@
 use Rattle.std.proofs.Common.{◌≡◌, sym, subst, Bool, true}
 use Rattle.std.specs.Prelude.{◌↔◌}
 use Rattle.calculus.specs.Change.{IsLawful}
-use Rattle.fit_changes.proofs.Exactly.{fits_exactly}
+use Rattle.change_laws.proofs.Exactly.{fits_exactly}
 use Rattle.change_check.proofs.checking.fit_change.Goals as goal
 
 pub returns-clause-told : goal.returns-clause-told

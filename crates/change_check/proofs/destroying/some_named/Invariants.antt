@@ -1,7 +1,7 @@
 use Rattle.std.proofs.Common.{◌≡◌, ◌≤◌, take, false, Some}
 use Rattle.std.specs.List.{list_any}
 use Rattle.calculus.specs.Database.{Db}
-use Rattle.fit_changes.specs.Fit.{is_named_outside}
+use Rattle.change_laws.specs.Fit.{is_named_outside}
 use Rattle.change_check.proofs.destroying.some_named.Given as goal
 
 abbrev pub invariant-loop-key : goal.invariant-loop-key

@@ -5,7 +5,7 @@ use Rattle.calculus.specs.IsDatabase.{keys_stand}
 use Rattle.calculus.specs.Keys.{key_of}
 use Rattle.calculus.specs.Lists.{is_any}
 use Rattle.calculus.specs.Stored.{attrs_at}
-use Rattle.fit_changes.specs.Fit.{index_is_fit, key_is_free}
+use Rattle.change_laws.specs.Fit.{index_is_fit, key_is_free}
 use Rattle.change_check.proofs.Kept.{none_there, one_there, attrs_there}
 use Rattle.change_check.proofs.Parts.{stops, goes_on, and_then}
 use Rattle.change_check.proofs.indexes.index_is_fit.Goals as goal

@@ -3,7 +3,7 @@ use Rattle.std.specs.Prelude.{nat_eq}
 use Rattle.std.specs.List.{list_all}
 use Rattle.calculus.specs.Database.{is_relation}
 use Rattle.calculus.specs.Lists.{differ_by, has_number}
-use Rattle.fit_changes.specs.Fit.{rules_may_go, numbers_may_go}
+use Rattle.change_laws.specs.Fit.{rules_may_go, numbers_may_go}
 use Rattle.change_check.proofs.Parts.{goes_on}
 use Rattle.change_check.proofs.numbers.rules_may_go.Goals as goal
 

@@ -1,5 +1,5 @@
 use Rattle.std.proofs.Common.{◌∙◌, ap, map, ℕ, List}
-use Rattle.fit_changes.specs.Fit.{number_is_free}
+use Rattle.change_laws.specs.Fit.{number_is_free}
 use Rattle.change_check.proofs.permits.rule_number_is_free.Goals as goal
 
 pub returns-clause-told : goal.returns-clause-told

@@ -1,6 +1,6 @@
 use Rattle.std.proofs.Common.{◌≡◌, refl, ◌∙◌, true, false}
 use Rattle.calculus.specs.IsDatabase.{structure_stands, attrs_stand, are_stored}
-use Rattle.fit_changes.specs.Fit.{relation_is_fit, key_is_free}
+use Rattle.change_laws.specs.Fit.{relation_is_fit, key_is_free}
 use Rattle.change_check.proofs.Parts.{stops, goes_on, regrouped}
 use Rattle.change_check.proofs.relations.relation_is_fit.Goals as goal
 

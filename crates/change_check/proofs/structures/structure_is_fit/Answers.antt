@@ -2,7 +2,7 @@ use Rattle.std.proofs.Common.{refl, sym, ap, ◌∙◌, false, List}
 use Rattle.calculus.specs.declared.schema.Attr.{Attr}
 use Rattle.calculus.specs.Database.{is_relation}
 use Rattle.calculus.specs.IsDatabase.{structure_stands}
-use Rattle.fit_changes.specs.Fit.{structure_is_fit}
+use Rattle.change_laws.specs.Fit.{structure_is_fit}
 use Rattle.change_check.proofs.Kept.{none_there, one_there, attrs_there}
 use Rattle.change_check.proofs.Parts.{stops, goes_on}
 use Rattle.change_check.proofs.structures.structure_is_fit.Goals as goal

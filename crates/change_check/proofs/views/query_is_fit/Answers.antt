@@ -1,8 +1,8 @@
 use Rattle.std.proofs.Common.{◌≡◌, sym, ◌∙◌, ap, subst, Bool, true, ◌&&◌}
 use Rattle.std.specs.Prelude.{IfOk}
 use Rattle.calculus.specs.IsDatabase.{query_stands}
-use Rattle.fit_changes.specs.Fit.{view_is_small}
-use Rattle.lawful_plans.proofs.PlainQueries.{query_plain}
+use Rattle.change_laws.specs.Fit.{view_is_small}
+use Rattle.plan_laws.proofs.PlainQueries.{query_plain}
 use Rattle.change_check.proofs.views.query_is_fit.Goals as goal
 
 pub returns-clause-told : goal.returns-clause-told

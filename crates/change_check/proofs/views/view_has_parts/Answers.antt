@@ -3,7 +3,7 @@ use Rattle.std.specs.Prelude.{IfOk}
 use Rattle.calculus.specs.IsDatabase.{attrs_are_targets, attrs_stand, query_stands, vars_are_there, view_info_stands}
 use Rattle.calculus.specs.QueryParts.{targets_of}
 use Rattle.calculus.specs.Sizes.{query_level}
-use Rattle.fit_changes.specs.Fit.{key_is_free, view_is_small}
+use Rattle.change_laws.specs.Fit.{key_is_free, view_is_small}
 use Rattle.quel_meaning.specs.Passing.{is_too_high}
 use Rattle.change_check.proofs.views.view_has_parts.Goals as goal
 

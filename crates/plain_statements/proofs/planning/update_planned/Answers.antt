@@ -1,5 +1,5 @@
 use Rattle.std.proofs.Common.{◌∙◌, sym, subst}
-use Rattle.lawful_updates.specs.Spelled.{key_is_spelled, query_is_spelled}
+use Rattle.update_laws.specs.Spelled.{key_is_spelled, query_is_spelled}
 use Rattle.quel_meaning.proofs.Each.{left}
 use Rattle.plain_statements.specs.Plans.{ArePairs}
 use Rattle.plain_statements.proofs.Planned.{vars_kept, makes_new, update_lawful}

@@ -3,7 +3,7 @@ use Rattle.calculus.specs.declared.statement.Statement.TheVariants.{Range}
 use Rattle.calculus.specs.Finding.{found}
 use Rattle.quel_meaning.specs.Meaning.{meaning, range_outcome}
 use Rattle.quel_meaning.specs.Resolved.{resolved}
-use Rattle.owner_sessions.specs.Freely.{free_tree_outcome}
+use Rattle.owner_session_laws.specs.Freely.{free_tree_outcome}
 use Rattle.plain_base.specs.Shown.{database_of}
 use Rattle.plain_statements.specs.Built.{built}
 use Rattle.plain_statements.specs.Standing.{state_of, outcome_of}

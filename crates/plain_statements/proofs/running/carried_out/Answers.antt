@@ -1,6 +1,6 @@
 use Rattle.std.proofs.Common.{◌≡◌, refl, Ok, Err}
 use Rattle.quel_meaning.specs.Resolved.{resolved}
-use Rattle.owner_sessions.specs.Freely.{free_tree_outcome}
+use Rattle.owner_session_laws.specs.Freely.{free_tree_outcome}
 use Rattle.plain_base.specs.Shown.{database_of}
 use Rattle.plain_statements.specs.Standing.{state_of, outcome_of}
 use Rattle.plain_statements.proofs.Effects.{ok_to}

@@ -3,7 +3,7 @@ use Rattle.calculus.specs.declared.reply.Reply.TheVariants.{Refused}
 use Rattle.calculus.specs.Who.{Free}
 use Rattle.quel_meaning.specs.Copying.{refusal}
 use Rattle.quel_meaning.specs.Meaning.{tree_meaning}
-use Rattle.owner_sessions.specs.Freely.{free_tree_outcome}
+use Rattle.owner_session_laws.specs.Freely.{free_tree_outcome}
 use Rattle.plain_base.specs.Shown.{database_of}
 use Rattle.plain_statements.specs.declared.stopped.Stopped.TheVariants.{No}
 use Rattle.plain_statements.specs.Plans.{IsMade}

@@ -2,7 +2,7 @@ use Rattle.std.proofs.Common.{◌≡◌, ◌∙◌, ℕ, ap, subst, sym}
 use Rattle.quel_grammar.specs.Next.{line_at}
 use Rattle.quel_meaning.specs.Running.{after_statement}
 use Rattle.session_run.specs.Doing.{Did, setting, with_state}
-use Rattle.written_statements.proofs.Statements.{computed_written}
+use Rattle.reading_laws.proofs.Statements.{computed_written}
 use Rattle.session_run.proofs.Batches.{none_read, some_read, goes_nothing, goes_statement, goes_fault, moves_past}
 use Rattle.session_run.proofs.batch.step.Goals as goal
 

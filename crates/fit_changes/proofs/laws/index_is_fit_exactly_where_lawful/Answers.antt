@@ -1,5 +1,0 @@
-use Rattle.fit_changes.proofs.IndexFit.{index_fits_exactly}
-use Rattle.fit_changes.proofs.laws.index_is_fit_exactly_where_lawful.Goals as goal
-
-pub returns : goal.returns
-returns c = index_fits_exactly

@@ -1,5 +1,0 @@
-use Rattle.fit_changes.proofs.NewNumbers.{permit_fits_exactly}
-use Rattle.fit_changes.proofs.laws.permit_is_fit_exactly_where_lawful.Goals as goal
-
-pub returns : goal.returns
-returns c = permit_fits_exactly

@@ -1,5 +1,0 @@
-use Rattle.fit_changes.proofs.Created.{relation_fits_exactly}
-use Rattle.fit_changes.proofs.laws.relation_is_fit_exactly_where_lawful.Goals as goal
-
-pub returns : goal.returns
-returns c = relation_fits_exactly

@@ -1,5 +1,0 @@
-use Rattle.fit_changes.proofs.RowsFit.{rows_fit_exactly}
-use Rattle.fit_changes.proofs.laws.rows_are_fit_exactly_where_lawful.Goals as goal
-
-pub returns : goal.returns
-returns c = rows_fit_exactly

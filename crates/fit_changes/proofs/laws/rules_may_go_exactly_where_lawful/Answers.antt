@@ -1,5 +1,0 @@
-use Rattle.fit_changes.proofs.Dropped.{rules_dropped}
-use Rattle.fit_changes.proofs.laws.rules_may_go_exactly_where_lawful.Goals as goal
-
-pub returns : goal.returns
-returns c = rules_dropped

@@ -1,5 +1,0 @@
-use Rattle.fit_changes.proofs.Restructured.{structure_fits_exactly}
-use Rattle.fit_changes.proofs.laws.structure_is_fit_exactly_where_lawful.Goals as goal
-
-pub returns : goal.returns
-returns c = structure_fits_exactly

@@ -1,5 +1,0 @@
-use Rattle.fit_changes.proofs.ViewFit.{view_fits_exactly}
-use Rattle.fit_changes.proofs.laws.view_is_fit_exactly_where_lawful.Goals as goal
-
-pub returns : goal.returns
-returns c = view_fits_exactly

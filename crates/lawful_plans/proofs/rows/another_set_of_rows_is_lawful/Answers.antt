@@ -1,5 +1,0 @@
-use Rattle.lawful_plans.proofs.Replaced.{replaced_lawful}
-use Rattle.lawful_plans.proofs.rows.another_set_of_rows_is_lawful.Goals as goal
-
-pub returns : goal.returns
-returns c = replaced_lawful

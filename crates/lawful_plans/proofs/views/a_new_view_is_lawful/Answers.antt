@@ -1,5 +1,0 @@
-use Rattle.lawful_plans.proofs.ViewMade.{view_planned}
-use Rattle.lawful_plans.proofs.views.a_new_view_is_lawful.Goals as goal
-
-pub returns : goal.returns
-returns c = view_planned

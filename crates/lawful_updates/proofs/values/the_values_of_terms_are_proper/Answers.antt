@@ -1,5 +1,0 @@
-use Rattle.lawful_updates.proofs.Valued.{value_is_proper}
-use Rattle.lawful_updates.proofs.values.the_values_of_terms_are_proper.Goals as goal
-
-pub returns : goal.returns
-returns c = value_is_proper
