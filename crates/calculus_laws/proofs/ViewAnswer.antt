@@ -1,5 +1,5 @@
 -- In a database a view has the rows of the answer of its query.
-use Rattle.std.proofs.Common.{◌≡◌, ◌⊎◌, inl, inr, refl, sym, ap, ◌∙◌, subst, ℕ, suc, ◌≤◌, Bool, true, false, not, ◌&&◌, ◌||◌, cond, ◌↔◌, List, [], ◌∷◌, ◌++◌, map, Option, Some, None, is_some, find, Contains, arith}
+use Rattle.std.proofs.Common.{◌≡◌, ◌⊎◌, inl, inr, refl, sym, ap, ◌∙◌, subst, ℕ, suc, ◌≤◌, Bool, true, false, not, ◌&&◌, ◌||◌, cond, ◌↔◌, List, [], ◌∷◌, ◌++◌, map, Option, Some, None, is_some, option_map, find, Contains, arith}
 use Rattle.std.proofs.lemmas.List.{map-append}
 use Rattle.std.specs.List.{list_any, list_all, flat_map}
 use Rattle.calculus.specs.declared.value.Kind.{Kind}
@@ -158,11 +158,15 @@ no_relation db d key view v relation r =
 
 ranged : (db : Db) → IsDatabase db → (key : RelKey) (view : View) → view_at db key ≡ Some view → range_at db key ≡ Some (Viewed view)
 unfolding range_at
-ranged db d key view v = go (relation_at db key) refl
+ranged db d key view v = go (relation_at db key) (no_relation db d key view v)
   where
-    go : (r : Option Relation) → relation_at db key ≡ r → range_at db key ≡ Some (Viewed view)
-    go None e = rw (e, v) refl
-    go (Some relation) e = absurd (no_relation db d key view v relation e)
+    go : (r : Option Relation) → ((relation : Relation) → ¬ (r ≡ Some relation))
+        → (elim r as (λ r. Option Range) [
+          | Some relation ↦ Some (Kept relation)
+          | None ↦ elim (view_at db key) as (λ w. Option Range) [ Some view ↦ Some (Viewed view) | None ↦ option_map Kept (catalogue_at db key) ]
+        ]) ≡ Some (Viewed view)
+    go None none = ap (λ w. elim w as (λ w. Option Range) [ Some view ↦ Some (Viewed view) | None ↦ option_map Kept (catalogue_at db key) ]) v
+    go (Some relation) none = absurd (none relation refl)
 
 -- ---- the rows of a view
 
