@@ -192,6 +192,7 @@ view_answers db d who key view v attrs =
 pub view_rows_asked : (db : Db) → IsDatabase db → (who : Who) (key : RelKey) (view : View) → view_at db key ≡ Some view
     → (attrs : List ℕ) (row : Row) → Contains (rows_of db who key attrs) row ↔ IsAskedFor db who view.query row
 view_rows_asked db d who key view v attrs row =
-    let same = view_answers db d who key view v attrs in
-    (λ c. (answered db who view.query row).0 (subst (λ rows. Contains rows row) same c),
-    λ h. subst (λ rows. Contains rows row) (sym same) ((answered db who view.query row).1 h))
+    let same = view_answers db d who key view v attrs in (
+      λ c. (answered db who view.query row).0 (subst (λ rows. Contains rows row) same c),
+      λ h. subst (λ rows. Contains rows row) (sym same) ((answered db who view.query row).1 h),
+    )

@@ -9,7 +9,6 @@ use Rattle.calculus.specs.Rows.{Row}
 use Rattle.calculus.specs.Lists.{is_any}
 use Rattle.quel_meaning.specs.CopiedBack.{is_copy_form}
 use Rattle.quel_meaning.specs.Copying.{numbered_from, record_values, record_row, records, rows_in_file}
-use Rattle.quel_meaning.proofs.Fields.{append-nil}
 use Rattle.copy_laws.specs.Records.{IsRecord, IsEndedRecord, IsFileOf, BeginsWithNone, row_before}
 use Rattle.copy_laws.proofs.RecordsRead.{record_read, ended_read, IsReadOf, record_taken, record_some}
 
@@ -73,6 +72,10 @@ told_before : (kinds : List Kind) (columns : List CopyCol) (values : List Value)
 told_before kinds columns values (Ok others) = refl
 told_before kinds columns values (Err number) = refl
 
+append-nil : (xs : List ℕ) → xs ++ [] ≡ xs
+append-nil [] = refl
+append-nil (x ∷ xs) = ap (λ ys. x ∷ ys) (append-nil xs)
+
 pub nothing : (kinds : List Kind) (columns : List CopyCol) → rows_in_file kinds columns [] ≡ Ok []
 unfolding rows_in_file
 nothing kinds columns = refl
@@ -87,21 +90,21 @@ piece_first kinds columns piece rest values some e =
     ∙ ap (λ r. told kinds columns (item_before values r)) (numbered_further 1 (records (record_values kinds columns) 0 rest))
     ∙ told_before kinds columns values (numbered_from 1 (records (record_values kinds columns) 0 rest))
 
-pub record_first : (kinds : List Kind) (columns : List CopyCol) (record rest : List ℕ) (values : List Value)
-    → IsTrue (is_any columns) → IsTrue (list_all (λ c. is_copy_form c.form) columns) → IsRecord kinds columns record values
-    → rows_in_file kinds columns (record ++ rest) ≡ row_before (record_row kinds columns values) (rows_in_file kinds columns rest)
-record_first kinds columns record rest values some forms h =
-    piece_first kinds columns record rest values (record_some kinds columns record values some forms h) (record_read kinds columns record rest values h)
+pub record_first : (kinds : List Kind) (columns : List CopyCol) (piece rest : List ℕ) (values : List Value)
+    → IsTrue (is_any columns) → IsTrue (list_all (λ c. is_copy_form c.form) columns) → IsRecord kinds columns piece values
+    → rows_in_file kinds columns (piece ++ rest) ≡ row_before (record_row kinds columns values) (rows_in_file kinds columns rest)
+record_first kinds columns piece rest values some forms h =
+    piece_first kinds columns piece rest values (record_some kinds columns piece values some forms h) (record_read kinds columns piece rest values h)
 
 pub any_some : (bytes : List ℕ) → IsTrue (is_any bytes) → 0 < length bytes
 any_some [] t = cc t
 any_some (b ∷ bytes) t = omega arith
 
-pub ended_last : (kinds : List Kind) (columns : List CopyCol) (record : List ℕ) (values : List Value)
-    → IsTrue (is_any record) → IsEndedRecord kinds columns record values → rows_in_file kinds columns record ≡ Ok (record_row kinds columns values ∷ [])
-ended_last kinds columns record values some h =
-    ap (rows_in_file kinds columns) (sym (append-nil record))
-    ∙ piece_first kinds columns record [] values (any_some record some) (ap (record_values kinds columns) (append-nil record) ∙ ended_read kinds columns record values h)
+pub ended_last : (kinds : List Kind) (columns : List CopyCol) (piece : List ℕ) (values : List Value)
+    → IsTrue (is_any piece) → IsEndedRecord kinds columns piece values → rows_in_file kinds columns piece ≡ Ok (record_row kinds columns values ∷ [])
+ended_last kinds columns piece values some h =
+    ap (rows_in_file kinds columns) (sym (append-nil piece))
+    ∙ piece_first kinds columns piece [] values (any_some piece some) (ap (record_values kinds columns) (append-nil piece) ∙ ended_read kinds columns piece values h)
     ∙ ap (row_before (record_row kinds columns values)) (nothing kinds columns)
 
 unread_bad : (kinds : List Kind) (columns : List CopyCol) (file : List ℕ) → IsTrue (is_any file) → record_values kinds columns file ≡ None → rows_in_file kinds columns file ≡ Err 1
@@ -112,7 +115,7 @@ pub none_bad : (kinds : List Kind) (columns : List CopyCol) (file : List ℕ) �
 none_bad kinds columns file some none = go (record_values kinds columns file) refl
   where
     no : (values : List Value) (rest : List ℕ) → IsReadOf kinds columns file rest values → ⊥
-    no values rest (inl (record, is, h)) = none.0 values record rest is h
+    no values rest (inl (piece, is, h)) = none.0 values piece rest is h
     no values rest (inr (end, h)) = none.1 values h
 
     go : (o : Option (List Value × List ℕ)) → record_values kinds columns file ≡ o → rows_in_file kinds columns file ≡ Err 1
@@ -137,12 +140,12 @@ read_is kinds columns some forms (suc n) (b ∷ bytes) rows short h = go (λ res
   where
     behind : ((rest : List ℕ) (others : List Row) → length rest ≤ n → rows_in_file kinds columns rest ≡ Ok others → IsFileOf kinds columns rest others)
         → (values : List Value) (rest : List ℕ) → IsReadOf kinds columns (b ∷ bytes) rest values → IsFileOf kinds columns (b ∷ bytes) rows
-    behind later values rest (inl (record, is, of)) =
-        let read = sym (ap (rows_in_file kinds columns) is ∙ record_first kinds columns record rest values some forms of) ∙ h in
+    behind later values rest (inl (piece, is, of)) =
+        let read = sym (ap (rows_in_file kinds columns) is ∙ record_first kinds columns piece rest values some forms of) ∙ h in
         let (others, read_later, whole) = first_row (record_row kinds columns values) (rows_in_file kinds columns rest) rows read in
-        let long : length (b ∷ bytes) ≡ length (record ++ rest) = ap length is in
-        let shorter : length rest ≤ n = omega (arith, short, long, length-append record rest, record_some kinds columns record values some forms of) in
-        subst (IsFileOf kinds columns (b ∷ bytes)) whole (inl (values, record, rest, is, of, refl, later rest others shorter read_later))
+        let long : length (b ∷ bytes) ≡ length (piece ++ rest) = ap length is in
+        let shorter : length rest ≤ n = omega (arith, short, long, length-append piece rest, record_some kinds columns piece values some forms of) in
+        subst (IsFileOf kinds columns (b ∷ bytes)) whole (inl (values, piece, rest, is, of, refl, later rest others shorter read_later))
     behind later values rest (inr (end, ended)) =
         let whole = the_rows (record_row kinds columns values ∷ []) rows (sym (ended_last kinds columns (b ∷ bytes) values refl ended) ∙ h) in
         subst (IsFileOf kinds columns (b ∷ bytes)) whole (inr (values, refl, ended, refl, refl))
@@ -155,8 +158,8 @@ read_is kinds columns some forms (suc n) (b ∷ bytes) rows short h = go (λ res
 is_read : (kinds : List Kind) (columns : List CopyCol) → IsTrue (is_any columns) → IsTrue (list_all (λ c. is_copy_form c.form) columns)
     → (rows : List Row) (file : List ℕ) → IsFileOf kinds columns file rows → rows_in_file kinds columns file ≡ Ok rows
 is_read kinds columns some forms [] file h = ap (rows_in_file kinds columns) h ∙ nothing kinds columns
-is_read kinds columns some forms (row ∷ rows) file (inl (values, record, rest, is, of, same, more)) =
-    ap (rows_in_file kinds columns) is ∙ record_first kinds columns record rest values some forms of
+is_read kinds columns some forms (row ∷ rows) file (inl (values, piece, rest, is, of, same, more)) =
+    ap (rows_in_file kinds columns) is ∙ record_first kinds columns piece rest values some forms of
     ∙ (λ i. row_before (sym same i) (is_read kinds columns some forms rows rest more i))
 is_read kinds columns some forms (row ∷ rows) file (inr (values, filled, ended, same, none)) =
     ended_last kinds columns file values filled ended ∙ (λ i. Ok (sym same i ∷ sym none i))

@@ -32,8 +32,15 @@ second_record = inr (codes "2", codes "2\t", [], refl, (refl, refl), (refl, refl
 
 two_rows : IsFileOf kinds columns (codes "1\tx\n2\t") ((Int (pos 1) ∷ Text (codes "x") ∷ []) ∷ (Int (pos 2) ∷ Text [] ∷ []) ∷ [])
 two_rows =
-    inl (Int (pos 1) ∷ Text (codes "x") ∷ [], codes "1\tx\n", codes "2\t", refl, first_record, refl,
-    inr (Int (pos 2) ∷ Text [] ∷ [], refl, second_record, refl, refl))
+    inl (
+      Int (pos 1) ∷ Text (codes "x") ∷ [],
+      codes "1\tx\n",
+      codes "2\t",
+      refl,
+      first_record,
+      refl,
+      inr (Int (pos 2) ∷ Text [] ∷ [], refl, second_record, refl, refl),
+    )
 
 -- and these are read
 are_read : rows_in_file kinds columns (codes "1\tx\n2\t") ≡ Ok ((Int (pos 1) ∷ Text (codes "x") ∷ []) ∷ (Int (pos 2) ∷ Text [] ∷ []) ∷ [])

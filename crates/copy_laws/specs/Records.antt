@@ -55,14 +55,14 @@ IsEndedRecord kinds (c ∷ columns) written (v ∷ values) =
 abbrev pub IsFileOf : List Kind → List CopyCol → List ℕ → List Row → Type 0
 IsFileOf kinds columns file [] = file ≡ []
 IsFileOf kinds columns file (row ∷ rows) =
-    ((values : List Value) × (record rest : List ℕ) × (file ≡ record ++ rest) × IsRecord kinds columns record values
+    ((values : List Value) × (front rest : List ℕ) × (file ≡ front ++ rest) × IsRecord kinds columns front values
     × (row ≡ record_row kinds columns values) × IsFileOf kinds columns rest rows)
     ⊎ ((values : List Value) × IsTrue (is_any file) × IsEndedRecord kinds columns file values × (row ≡ record_row kinds columns values) × (rows ≡ []))
 
 -- no record stands at the front of these bytes
 abbrev pub BeginsWithNone : List Kind → List CopyCol → List ℕ → Type 0
 BeginsWithNone kinds columns file =
-    ((values : List Value) (record rest : List ℕ) → file ≡ record ++ rest → ¬ (IsRecord kinds columns record values))
+    ((values : List Value) (front rest : List ℕ) → file ≡ front ++ rest → ¬ (IsRecord kinds columns front values))
     × ((values : List Value) → ¬ (IsEndedRecord kinds columns file values))
 
 -- the row, and then what is read behind it: other rows, or the number of the first bad one, which is one more with the row in front

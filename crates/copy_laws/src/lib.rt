@@ -18,15 +18,15 @@ ghost use Rattle.copy_laws.specs.Records.{IsRecord, IsEndedRecord, IsFileOf, Beg
 /// the end of the file ends a record, its row is the last; and where no record stands in front, the next
 /// row is bad. So a file is read exactly where it is one of rows, and these are read.
 pub fn a_copied_file_is_read_record_by_record()
-    ensures nothing { (kinds : List Kind) (columns : List CopyCol) → rows_in_file kinds columns [] ≡ Ok [] }
-    ensures record { (kinds : List Kind) (columns : List CopyCol) (record rest : List ℕ) (values : List Value)
-        → IsTrue (is_any columns) → IsTrue (list_all (λ c. is_copy_form c.form) columns) → IsRecord kinds columns record values
-        → rows_in_file kinds columns (record ++ rest) ≡ row_before (record_row kinds columns values) (rows_in_file kinds columns rest) }
-    ensures last { (kinds : List Kind) (columns : List CopyCol) (record : List ℕ) (values : List Value)
-        → IsTrue (is_any record) → IsEndedRecord kinds columns record values → rows_in_file kinds columns record ≡ Ok (record_row kinds columns values ∷ []) }
-    ensures bad { (kinds : List Kind) (columns : List CopyCol) (file : List ℕ)
+    ensures nothing_left { (kinds : List Kind) (columns : List CopyCol) → rows_in_file kinds columns [] ≡ Ok [] }
+    ensures record_in_front { (kinds : List Kind) (columns : List CopyCol) (front rest : List ℕ) (values : List Value)
+        → IsTrue (is_any columns) → IsTrue (list_all (λ c. is_copy_form c.form) columns) → IsRecord kinds columns front values
+        → rows_in_file kinds columns (front ++ rest) ≡ row_before (record_row kinds columns values) (rows_in_file kinds columns rest) }
+    ensures last_record { (kinds : List Kind) (columns : List CopyCol) (file : List ℕ) (values : List Value)
+        → IsTrue (is_any file) → IsEndedRecord kinds columns file values → rows_in_file kinds columns file ≡ Ok (record_row kinds columns values ∷ []) }
+    ensures bad_record { (kinds : List Kind) (columns : List CopyCol) (file : List ℕ)
         → IsTrue (is_any file) → BeginsWithNone kinds columns file → rows_in_file kinds columns file ≡ Err 1 }
-    ensures file { (kinds : List Kind) (columns : List CopyCol) (file : List ℕ) (rows : List Row)
+    ensures whole_file { (kinds : List Kind) (columns : List CopyCol) (file : List ℕ) (rows : List Row)
         → IsTrue (is_any columns) → IsTrue (list_all (λ c. is_copy_form c.form) columns)
         → rows_in_file kinds columns file ≡ Ok rows ↔ IsFileOf kinds columns file rows }
 {}
