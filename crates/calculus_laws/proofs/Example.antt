@@ -1,5 +1,5 @@
 -- A query over a view, computed: the view put into it, and what it asks for in the words of tuple calculus: names and doubled pays of the toy department.
-use Rattle.std.proofs.Common.{◌≡◌, refl, subst, ℕ, zero, suc, pos, true, false, List, [], ◌∷◌, Some, None, Contains, arith}
+use Rattle.std.proofs.Common.{◌≡◌, refl, subst, ℕ, zero, suc, pos, true, false, List, [], ◌∷◌, Some, arith}
 use Rattle.std.specs.Prelude.{codes, slice_get}
 use Rattle.calculus.specs.declared.value.Value.{Value}
 use Rattle.calculus.specs.declared.value.Value.TheVariants as value
@@ -23,16 +23,16 @@ use Rattle.calculus.specs.Stored.{range_at}
 use Rattle.calculus.specs.QueryParts.{term_aggregates, qual_aggregates}
 use Rattle.calculus.specs.Constant.{constant_text, marks}
 use Rattle.calculus.specs.Rights.{may}
-use Rattle.calculus.specs.Rows.{Row, has}
+use Rattle.calculus.specs.Rows.{Row}
 use Rattle.calculus.specs.Used.{used_in_query}
 use Rattle.calculus.proofs.Made.{has-Contains}
-use Rattle.calculus.specs.Term.{Env, val, holds, attribute_value, operated_values, compared_values}
+use Rattle.calculus.specs.Term.{val, holds, attribute_value, operated_values, compared_values}
 use Rattle.calculus.specs.Assignments.{assigned}
 use Rattle.calculus.specs.Targets.{rows_given}
 use Rattle.calculus.specs.VariableRows.{rows_of}
 use Rattle.calculus.specs.Answer.{answer}
 use Rattle.calculus_laws.specs.Expansion.{expanded, IsOverView}
-use Rattle.calculus_laws.specs.TupleCalculus.{IsRowOf, IsAssignment, IsAskedFor, IsLacking}
+use Rattle.calculus_laws.specs.TupleCalculus.{IsRowOf, IsAssignment, IsAskedFor}
 use Rattle.calculus_laws.proofs.Asked.{answered}
 
 abbrev attribute : List ℕ → Kind → Attribute

@@ -1,7 +1,7 @@
 -- In a database a view has the rows of the answer of its query.
-use Rattle.std.proofs.Common.{◌≡◌, ◌⊎◌, inl, inr, refl, sym, ap, ◌∙◌, subst, ℕ, suc, ◌≤◌, Bool, true, false, not, ◌&&◌, ◌||◌, cond, ◌↔◌, List, [], ◌∷◌, ◌++◌, map, Option, Some, None, is_some, option_map, find, Contains, arith}
+use Rattle.std.proofs.Common.{◌≡◌, inl, inr, refl, sym, ap, ◌∙◌, subst, ℕ, suc, Bool, true, false, not, cond, ◌↔◌, List, [], ◌∷◌, ◌++◌, map, Option, Some, None, is_some, option_map, find, Contains, arith}
 use Rattle.std.proofs.lemmas.List.{map-append}
-use Rattle.std.specs.List.{list_any, list_all, flat_map}
+use Rattle.std.specs.List.{list_any, list_all}
 use Rattle.calculus.specs.declared.value.Kind.{Kind}
 use Rattle.calculus.specs.declared.query.RelKey.{RelKey}
 use Rattle.calculus.specs.declared.query.QTerm.{QTerm, Int, Chars, Attr, Agg'}

@@ -1,5 +1,5 @@
 -- A record is read, and the bytes behind it are left.
-use Rattle.std.proofs.Common.{◌≡◌, ◌⊎◌, inl, inr, refl, sym, ap, subst, ◌∙◌, ℕ, ◌+◌, ◌<◌, Bool, true, false, not, IsTrue, List, [], ◌∷◌, ◌++◌, Option, Some, None, length, arith, append_assoc, length-append}
+use Rattle.std.proofs.Common.{◌≡◌, ◌⊎◌, inl, inr, refl, sym, ap, subst, ◌∙◌, ℕ, ◌<◌, true, not, IsTrue, List, [], ◌∷◌, ◌++◌, Option, Some, None, length, arith, append_assoc, length-append}
 use Rattle.std.specs.Prelude.{option_map, slice_get}
 use Rattle.std.specs.List.{list_all}
 use Rattle.calculus.specs.declared.value.Kind.{Kind}
@@ -9,7 +9,7 @@ use Rattle.calculus.specs.Lists.{is_any}
 use Rattle.quel_meaning.specs.CopiedBack.{is_copy_form}
 use Rattle.quel_meaning.specs.Columns.{column_value}
 use Rattle.quel_meaning.specs.Copying.{record_values}
-use Rattle.copy_laws.specs.Records.{IsWrittenAs, IsUnended, IsValueOf, IsRecord, IsEndedRecord}
+use Rattle.copy_laws.specs.Records.{IsWrittenAs, IsValueOf, IsRecord, IsEndedRecord}
 use Rattle.copy_laws.proofs.FieldsRead.{the_pair, both, field_read, unended_read, IsTaken, field_taken, field_some}
 
 -- ---- what stands in front is read

@@ -1,7 +1,6 @@
 -- A file of two rows, of which the end of the file ends the second, taken apart.
 use Rattle.std.proofs.Common.{refl, inl, inr}
 use Rattle.std.specs.Prelude.{◌≡◌, pos, List, [], ◌∷◌, codes, Ok}
-use Rattle.calculus.specs.declared.value.Value.{Value}
 use Rattle.calculus.specs.declared.value.Value.TheVariants.{Int, Text}
 use Rattle.calculus.specs.declared.value.Domain.TheVariants.{I4, C}
 use Rattle.calculus.specs.declared.value.Kind.{Kind}
@@ -11,7 +10,7 @@ use Rattle.calculus.specs.declared.request.CopyForm.TheVariants.{Bin, Fixed, Unt
 use Rattle.calculus.specs.Kinds.{is_text_kind}
 use Rattle.calculus.specs.Text.{text_of}
 use Rattle.quel_meaning.specs.Copying.{rows_in_file}
-use Rattle.copy_laws.specs.Records.{IsRecord, IsEndedRecord, IsFileOf, BeginsWithNone}
+use Rattle.copy_laws.specs.Records.{IsRecord, IsEndedRecord, IsFileOf}
 
 -- a number and a text
 abbrev kinds : List Kind
