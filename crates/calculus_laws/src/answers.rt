@@ -11,9 +11,8 @@ ghost use Rattle.calculus.specs.Assignments.{Source, assigned};
 ghost use Rattle.calculus.specs.Answer.{answer, lacks};
 ghost use Rattle.calculus_laws.specs.TupleCalculus.{IsAssignment, IsAskedFor, IsLacking};
 
-/// The assignments of a query have one row for each of its variables, one of those that the variable has
-/// for these attributes; a variable of which no attribute is used has the empty row. All of these are
-/// assignments, and no others.
+/// The assignments of a query are those that have one row for each of its variables, one of those that the
+/// variable has for the attributes of it that are used, and the empty row where none is used; no others are.
 pub fn assignments_have_a_row_for_each_variable()
     ensures { (source : Source) (q : Query) (e : Env) → Contains (assigned source q) e ↔ IsAssignment source q e }
 {}
