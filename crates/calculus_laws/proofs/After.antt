@@ -73,13 +73,13 @@ has-after rows ps q =
 
 -- ---- the old rows and the new rows of pairs
 
-head_or_later : {X : Type 0} (x : X) (xs : List X) (y : X) → Contains (x ∷ xs) y → (x ≡ y) ⊎ Contains xs y
+pub head_or_later : {X : Type 0} (x : X) (xs : List X) (y : X) → Contains (x ∷ xs) y → (x ≡ y) ⊎ Contains xs y
 head_or_later x xs y c = elim (Contains-append_cases (x ∷ []) xs y c) [ inl h ↦ inl (only h) | inr h ↦ inr h ]
   where
     only : Contains (x ∷ []) y → x ≡ y
     only h = elim (Contains-push_cases [] x y h) [ inl none ↦ absurd (omega (arith, none.1)) | inr e ↦ e ]
 
-at_head : {X : Type 0} (x : X) (xs : List X) → Contains (x ∷ xs) x
+pub at_head : {X : Type 0} (x : X) (xs : List X) → Contains (x ∷ xs) x
 at_head x xs = (0, omega arith, refl)
 
 from_filter_map : (f : Pair → Option Row) (ps : List Pair) (row : Row) → Contains (filter_map f ps) row → (p : Pair) × Contains ps p × (f p ≡ Some row)

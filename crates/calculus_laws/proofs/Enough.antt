@@ -1,5 +1,5 @@
 -- More levels than a view has give no more rows.
-use Rattle.std.proofs.Common.{◌≡◌, refl, sym, ap, ◌∙◌, subst, ℕ, zero, suc, ◌+◌, max, ◌≤◌, Bool, true, false, cond, ◌&&◌, IsTrue, List, [], ◌∷◌, map, Option, Some, None, is_some, option_map, find, bytes_eq, arith}
+use Rattle.std.proofs.Common.{◌≡◌, refl, sym, ap, ◌∙◌, subst, ℕ, zero, suc, ◌+◌, ◌≤◌, Bool, true, false, cond, ◌&&◌, IsTrue, List, [], ◌∷◌, map, Option, Some, None, is_some, option_map, find, bytes_eq, arith}
 use Rattle.std.proofs.lemmas.Slice.Eq.{bytes_eq-Decides}
 use Rattle.std.specs.List.{AllByRecursion, list_all, enumerate_from}
 use Rattle.calculus.specs.declared.query.RelKey.{RelKey}
@@ -86,7 +86,7 @@ more_levels db who key there n h attrs = enough db who greatest_level n h key th
 
 -- ---- in a database each view has a level
 
-same_key-exact : (a b : RelKey) → same_key a b ≡ true → a ≡ b
+pub same_key-exact : (a b : RelKey) → same_key a b ≡ true → a ≡ b
 same_key-exact a b h = go (bytes_eq a.owner b.owner) refl (bytes_eq a.name b.name) refl h
   where
     go : (x : Bool) → bytes_eq a.owner b.owner ≡ x → (y : Bool) → bytes_eq a.name b.name ≡ y → same_key a b ≡ true → a ≡ b
@@ -107,7 +107,7 @@ found_level db key view (v ∷ views) all h = go (same_key v.info.key key) refl 
     go false e true f later all h = later all h
     go b e false f later all h = cc all
 
-viewed : (db : Db) (key : RelKey) (view : View) → range_at db key ≡ Some (Viewed view) → view_at db key ≡ Some view
+pub viewed : (db : Db) (key : RelKey) (view : View) → range_at db key ≡ Some (Viewed view) → view_at db key ≡ Some view
 unfolding range_at
 viewed db key view h = go (relation_at db key) (view_at db key) (catalogue_at db key) h
   where

@@ -1,6 +1,6 @@
--- A view put into a query, computed: names and doubled pays of the toy department.
-use Rattle.std.proofs.Common.{◌≡◌, refl, ℕ, pos, List, [], ◌∷◌}
-use Rattle.std.specs.Prelude.{codes}
+-- A query over a view, computed: the view put into it, and what it asks for in the words of tuple calculus: names and doubled pays of the toy department.
+use Rattle.std.proofs.Common.{◌≡◌, refl, subst, ℕ, zero, suc, pos, true, false, List, [], ◌∷◌, Some, arith}
+use Rattle.std.specs.Prelude.{codes, slice_get}
 use Rattle.calculus.specs.declared.value.Value.{Value}
 use Rattle.calculus.specs.declared.value.Value.TheVariants as value
 use Rattle.calculus.specs.declared.value.Domain.TheVariants.{I4, C}
@@ -23,12 +23,17 @@ use Rattle.calculus.specs.Stored.{range_at}
 use Rattle.calculus.specs.QueryParts.{term_aggregates, qual_aggregates}
 use Rattle.calculus.specs.Constant.{constant_text, marks}
 use Rattle.calculus.specs.Rights.{may}
+use Rattle.calculus.specs.Rows.{Row}
+use Rattle.calculus.specs.Used.{used_in_query}
+use Rattle.calculus.proofs.Made.{has-Contains}
 use Rattle.calculus.specs.Term.{val, holds, attribute_value, operated_values, compared_values}
 use Rattle.calculus.specs.Assignments.{assigned}
 use Rattle.calculus.specs.Targets.{rows_given}
 use Rattle.calculus.specs.VariableRows.{rows_of}
 use Rattle.calculus.specs.Answer.{answer}
 use Rattle.calculus_laws.specs.Expansion.{expanded, IsOverView}
+use Rattle.calculus_laws.specs.TupleCalculus.{IsRowOf, IsAssignment, IsAskedFor}
+use Rattle.calculus_laws.proofs.Asked.{answered}
 
 abbrev attribute : List ℕ → Kind → Attribute
 attribute name kind = record { name = name; kind = kind }
@@ -89,3 +94,48 @@ is_over_view = record { key = toys; only = refl; ranges = refl; is_used = refl; 
 one_row : answer db Free over_view ≡ (text (codes "bob") ∷ []) ∷ []
 unfolding answer rows_given assigned rows_of range_at may constant_text marks val holds attribute_value operated_values compared_values
 one_row = refl
+
+-- bob's row of the view, whose doubled pay is 40
+abbrev of_bob : Row
+of_bob = text (codes "bob") ∷ value.Int (pos 40) ∷ text (codes "a*") ∷ []
+
+-- it is one of the two rows of the view
+is_row : IsRowOf (rows_of db Free) toys (used_in_query 0 over_view) of_bob
+unfolding rows_given assigned rows_of range_at may constant_text marks val holds attribute_value operated_values compared_values
+is_row = (1, omega arith, refl)
+
+-- so it makes an assignment
+is_assignment : IsAssignment (rows_of db Free) over_view (of_bob ∷ [])
+is_assignment = record { one_for_each = refl; is_row_of = each }
+  where
+    key_is : (a b : RelKey) → Some a ≡ Some b → a ≡ b
+    key_is a b h = cc h
+
+    row_is : (a b : Row) → Some a ≡ Some b → a ≡ b
+    row_is a b h = cc h
+
+    nowhere : (v : ℕ) (key : RelKey) → slice_get {X = RelKey} [] v ≡ Some key → ⊥
+    nowhere zero key h = cc h
+    nowhere (suc v) key h = cc h
+
+    each : (v : ℕ) (key : RelKey) (row : Row) → slice_get (toys ∷ []) v ≡ Some key → slice_get (of_bob ∷ []) v ≡ Some row
+        → IsRowOf (rows_of db Free) key (used_in_query v over_view) row
+    each zero key row k r =
+        subst (λ key. IsRowOf (rows_of db Free) key (used_in_query 0 over_view) row) (key_is toys key k)
+        (subst (IsRowOf (rows_of db Free) toys (used_in_query 0 over_view)) (row_is of_bob row r) is_row)
+    each (suc v) key row k r = absurd (nowhere v key k)
+
+-- in which the qualification holds and the target is his name
+asked_for : IsAskedFor db Free over_view (text (codes "bob") ∷ [])
+unfolding constant_text marks val holds attribute_value operated_values compared_values
+asked_for = (of_bob ∷ [], is_assignment, refl, refl)
+
+-- ann's doubled pay is 20, and she isn't asked for
+not_asked_for : ¬ (IsAskedFor db Free over_view (text (codes "ann") ∷ []))
+unfolding answer rows_given assigned rows_of range_at may constant_text marks val holds attribute_value operated_values compared_values
+not_asked_for h = let no : false ≡ true = has-Contains (answer db Free over_view) (text (codes "ann") ∷ []) ((answered db Free over_view (text (codes "ann") ∷ [])).1 h) in cc no
+
+-- the view has the rows that its query answers
+view_rows : rows_of db Free toys (0 ∷ []) ≡ answer db Free view.query
+unfolding answer rows_given assigned rows_of range_at may constant_text marks val holds attribute_value operated_values compared_values
+view_rows = refl

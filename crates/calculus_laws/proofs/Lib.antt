@@ -1,4 +1,5 @@
 pub mod After
+pub mod Asked
 pub mod Cut
 pub mod Detached
 pub mod Enough
@@ -6,6 +7,7 @@ pub mod Example
 pub mod Expanded
 pub mod Fewer
 pub mod Given
+pub mod Matching
 pub mod Members
 pub mod OneVariable
 pub mod OwnLevel
@@ -14,3 +16,4 @@ pub mod PutIn
 pub mod SameRows
 pub mod Unpermitted
 pub mod UsedIn
+pub mod ViewAnswer

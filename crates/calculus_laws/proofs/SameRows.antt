@@ -25,7 +25,7 @@ pub both_true : (b c : Bool) → (b && c) ≡ true → (b ≡ true) × (c ≡ tr
 both_true true c h = (refl, h)
 both_true false c h = cc h
 
-all_at : {X : Type 0} (p : X → Bool) (xs : List X) (x : X) → In x xs → list_all p xs ≡ true → p x ≡ true
+pub all_at : {X : Type 0} (p : X → Bool) (xs : List X) (x : X) → In x xs → list_all p xs ≡ true → p x ≡ true
 all_at p [] x h k = absurd h
 all_at p (y ∷ ys) x (inl same) k = ap p (sym same) ∙ (both_true (p y) (list_all p ys) k).0
 all_at p (y ∷ ys) x (inr h) k = all_at p ys x h (both_true (p y) (list_all p ys) k).1

@@ -1,3 +1,4 @@
 pub mod Detaching
 pub mod Expansion
+pub mod TupleCalculus
 pub mod Updates

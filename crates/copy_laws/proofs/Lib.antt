@@ -1,0 +1,4 @@
+pub mod FieldsRead
+pub mod FilesRead
+pub mod RecordsRead
+pub mod Worked
