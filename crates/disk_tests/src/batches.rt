@@ -21,10 +21,7 @@ const KINDS: [Left; 5] = [
 
 /// A disk without a page that doesn't stop.
 fn empty_disk(alloc: Global, rt: &impl Abort) -> Stopping {
-    Stopping::over(
-        MemDisk::new(alloc, Vec::new(alloc), None),
-        ENDLESS,
-    )
+    Stopping::over(MemDisk::new(alloc, Vec::new(alloc), None), ENDLESS)
 }
 
 /// Where page `i` of the batches below stands.
@@ -63,8 +60,10 @@ fn byte_at<D: Disk>(rt: &impl Abort, disk: &mut D, at: Addr) -> Option<u8> {
 /// A disk on which the even ones of the first `n` places are full of 1, and the odd ones are empty.
 fn begun(alloc: Global, rt: &impl Abort, n: u32) -> MemDisk {
     let mut disk = MemDisk::new(alloc, Vec::new(alloc), None);
-    for i in (0..n).step_by(2) {
-        disk.write(place(i), &[1; 1024]).expect(rt, "write");
+    for i in 0..n {
+        if i % 2 == 0 {
+            disk.write(place(i), &[1; 1024]).expect(rt, "write");
+        }
     }
     disk.sync().expect(rt, "sync");
     disk
@@ -120,9 +119,18 @@ fn all_pages_stand_or_none_wherever_commit_and_restore_stop(rt: HostRuntime) {
             for left in KINDS {
                 for j in 0..u64::from(n + 6) {
                     for again in [Left::Old, Left::New, Left::Filled(1)] {
-                        let (done, is_new) = stopped_twice(rt.alloc(), &rt, n, (k, left), (j, again));
+                        let (done, is_new) = stopped_twice(
+                            rt.alloc(),
+                            &rt,
+                            n,
+                            (k, left),
+                            (j, again),
+                        );
                         let is_lawful = (!is_new || k >= gate) && (is_new || k < gate + 2);
-                        assert!(rt; done == (k == calls) && is_lawful, "{n} {k} {left:?} {j} {again:?}");
+                        assert!(rt;
+                            done == (k == calls) && is_lawful,
+                            "{n} {k} {left:?} {j} {again:?}"
+                        );
                     }
                 }
             }
@@ -190,9 +198,15 @@ fn files_to_be(alloc: Global, rt: &impl Abort, n: u32) -> Vec<u32> {
 fn a_commit_writes_each_page_twice_and_its_addresses_by_128(rt: HostRuntime) {
     for n in [1, 2, 128, 129, 300] {
         let mut disk = empty_disk(rt.alloc(), &rt);
-        assert!(rt; commit(&mut disk, &changes(rt.alloc(), &rt, n)).is_ok(), "{n}");
+        assert!(rt;
+            commit(&mut disk, &changes(rt.alloc(), &rt, n)).is_ok(),
+            "{n}"
+        );
         let files = disk.disk.calls().iter().map(file_of);
-        assert!(rt; files.eq(files_to_be(rt.alloc(), &rt, n).iter().copied()), "{n}");
+        assert!(rt;
+            files.eq(files_to_be(rt.alloc(), &rt, n).iter().copied()),
+            "{n}"
+        );
     }
 }
 
@@ -202,7 +216,10 @@ const B: Addr = Addr { file: 16, page: 1 };
 
 /// What a restore answers and what stands at two pages, after two images were added to a batch that
 /// was left as it was.
-fn left_unfinished(alloc: Global, rt: &impl Abort) -> (Result<Restored, RestoreFault>, Option<u8>, Option<u8>) {
+fn left_unfinished(
+    alloc: Global,
+    rt: &impl Abort,
+) -> (Result<Restored, RestoreFault>, Option<u8>, Option<u8>) {
     let mut disk = empty_disk(alloc, rt);
     disk.write(A, &[1; 1024]).expect(rt, "write");
     let mut batch = Batch::begin();
@@ -218,7 +235,10 @@ fn left_unfinished(alloc: Global, rt: &impl Abort) -> (Result<Restored, RestoreF
 
 #[test]
 fn a_batch_that_was_not_finished_changes_no_page(rt: HostRuntime) {
-    assert_eq!(rt; left_unfinished(rt.alloc(), &rt), (Ok(Restored::Nothing), Some(1), None));
+    assert_eq!(rt;
+        left_unfinished(rt.alloc(), &rt),
+        (Ok(Restored::Nothing), Some(1), None)
+    );
 }
 
 /// The counts of a batch as it grew, its image, and what stands at its page in the end, where its
@@ -250,6 +270,14 @@ fn page_of(bytes: &[u8]) -> Page {
     page
 }
 
+/// Writes page 0 of a file, where there are bytes for it.
+fn put<D: Disk>(rt: &impl Abort, disk: &mut D, file: u32, bytes: &[u8]) {
+    if !bytes.is_empty() {
+        let at = Addr { file, page: 0 };
+        disk.write(at, &page_of(bytes)).expect(rt, "write");
+    }
+}
+
 /// What a restore answers on a disk with this gate, head and page of addresses, and with the first
 /// image and no other.
 fn answer_to(
@@ -260,12 +288,10 @@ fn answer_to(
     addresses: &[u8],
 ) -> Result<Restored, RestoreFault> {
     let mut disk = empty_disk(alloc, rt);
-    for (file, bytes) in [(1, [gate].as_slice()), (2, head), (3, addresses), (4, &[7])] {
-        if !bytes.is_empty() {
-            let at = Addr { file, page: 0 };
-            disk.write(at, &page_of(bytes)).expect(rt, "write");
-        }
-    }
+    put(rt, &mut disk, 1, &[gate]);
+    put(rt, &mut disk, 2, head);
+    put(rt, &mut disk, 3, addresses);
+    put(rt, &mut disk, 4, &[7]);
     restore(&mut disk)
 }
 

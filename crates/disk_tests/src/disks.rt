@@ -12,16 +12,20 @@ const ADDED: Addr = Addr { file: 6, page: 9 };
 
 const CUT: Addr = Addr { file: 7, page: 3 };
 
+/// Fills pages with a byte each.
+fn fill(rt: &impl Abort, disk: &mut MemDisk, pages: &[(Addr, u8)]) {
+    for (at, byte) in pages {
+        disk.write(*at, &[*byte; 1024]).expect(rt, "write");
+    }
+}
+
 /// A disk on which one address is untouched since the last sync, one was written again, one is new,
 /// and the file of one was cut.
 fn written(alloc: Global, rt: &impl Abort) -> MemDisk {
     let mut disk = MemDisk::new(alloc, Vec::new(alloc), None);
-    for at in [KEPT, WRITTEN, CUT] {
-        disk.write(at, &[1; 1024]).expect(rt, "write");
-    }
+    fill(rt, &mut disk, &[(KEPT, 1), (WRITTEN, 1), (CUT, 1)]);
     disk.sync().expect(rt, "sync");
-    disk.write(WRITTEN, &[2; 1024]).expect(rt, "write");
-    disk.write(ADDED, &[3; 1024]).expect(rt, "write");
+    fill(rt, &mut disk, &[(WRITTEN, 2), (ADDED, 3)]);
     disk.cut(CUT.file).expect(rt, "cut");
     disk
 }
@@ -72,14 +76,12 @@ fn calls_fail_by_their_number_and_after_the_stop(rt: HostRuntime) {
     assert_eq!(rt; disk.cut(5), Ok(()));
     assert_eq!(rt; disk.read(KEPT, &mut page), Err(DiskFailed));
     assert_eq!(rt; disk.write(KEPT, &[3; 1024]), Err(DiskFailed));
-    assert!(rt; matches!(
-        disk.calls(),
-        [
-            Call::Write(KEPT, _),
-            Call::Write(KEPT, _),
-            Call::FailedSync,
-            Call::Cut(5),
-            Call::FailedWrite(KEPT),
-        ]
-    ));
+    let entries = [
+        Call::Write(KEPT, [1; 1024]),
+        Call::Write(KEPT, [2; 1024]),
+        Call::FailedSync,
+        Call::Cut(5),
+        Call::FailedWrite(KEPT),
+    ];
+    assert!(rt; disk.calls() == entries.as_slice());
 }

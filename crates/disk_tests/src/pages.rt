@@ -14,7 +14,7 @@ fn put(page: &mut Page, byte: u8, count: usize) -> Option<u16>
     ensures { IsPage page.new }
 {
     let row = [byte; 1012];
-    put_row(page, &row[..count])
+    put_row(page, row.split_at(count).0)
 }
 
 /// Whether a line has a row of so many equal bytes.
