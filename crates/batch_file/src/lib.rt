@@ -14,6 +14,3 @@ pub use committing::commit;
 pub use fault::{RestoreFault, Restored};
 pub use restoring::restore;
 pub use stage::Batch;
-
-#[cfg(test)]
-mod tests;

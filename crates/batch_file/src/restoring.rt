@@ -1,8 +1,8 @@
 // Laying the batch that a crash left behind an open gate.
-ghost use Rattle.std.specs.Prelude.{◌≡◌, ◌⊎◌, ◌↔◌, Some, Err, IsTrue, IfOk, OnOk};
+ghost use Rattle.std.specs.Prelude.{◌≡◌, ◌⊎◌, ◌↔◌, Some, None, Err, IsTrue, IfOk, OnOk, if◌then◌else◌};
 ghost use Rattle.fault_io.specs.Causes.{HasCause};
 ghost use Rattle.disk_model.specs.Disk.{OnlyReads, LeavesOnly};
-ghost use Rattle.batch_file.specs.Layout.{gate};
+ghost use Rattle.batch_file.specs.Layout.{first_byte, gate};
 ghost use Rattle.batch_file.specs.Redone.{redone, kept, answer};
 ghost use Rattle.batch_file.specs.OnDisk.{IsClosed, SameRedone};
 ghost use Rattle.batch_file.specs.Faults.{FailsBy};
@@ -11,7 +11,7 @@ use crate::check::check;
 use crate::fault::{RestoreFault, Restored};
 use crate::layout::GATE;
 use crate::redo::redo;
-use disk_model::{Disk, DiskFailed};
+use disk_model::{Disk, DiskFailed, Page};
 
 /// Whether the gate is open.
 fn is_open<D: Disk>(disk: &mut D) -> Result<bool, DiskFailed>
@@ -22,7 +22,15 @@ fn is_open<D: Disk>(disk: &mut D) -> Result<bool, DiskFailed>
     ensures cause { HasCause (D.faults disk.old) (D.faults disk.new) result }
 {
     let mut bytes = [0; 1024];
-    Ok(disk.read(GATE, &mut bytes)? && bytes[0] == 1)
+    let found = disk.read(GATE, &mut bytes)?;
+    Ok(opens(found, &bytes))
+}
+
+/// Whether the page of the gate is there and opens it.
+fn opens(found: bool, page: &Page) -> bool
+    ensures { IsTrue result ↔ (first_byte (if found then Some page.now else None) ≡ 1) }
+{
+    found && page[0] == 1
 }
 
 /// Lays the batch that a crash left behind an open gate on the disk, and shuts the gate. It begins

@@ -9,6 +9,3 @@ mod mem_disk;
 pub use calls::Call;
 pub use disk::{Addr, Disk, DiskFailed, Page};
 pub use mem_disk::{Left, MemDisk};
-
-#[cfg(test)]
-mod tests;

@@ -20,7 +20,7 @@ pub enum Left {
 
 /// A disk in memory, which tells what it holds and keeps the list of its writes, cuts and syncs. Its
 /// clock is their number.
-#[derive(Debug, Drop)]
+#[derive(Drop)]
 pub struct MemDisk {
     first: Vec<Call>,
     calls: Vec<Call>,
@@ -78,6 +78,16 @@ impl MemDisk {
             stop,
             faults: 0,
             reads: 0,
+        }
+    }
+
+    /// Puts the page that stands at an address into `out`, and answers whether there is one.
+    fn find(&self, a: Addr, out: &mut Page) -> bool
+        ensures { seen_now (state self.now) a ≡ (if result then Some out.new else None) }
+    {
+        match look(&self.calls, a, out) {
+            Some(found) => found,
+            None => look(&self.first, a, out).unwrap_or(false),
         }
     }
 
@@ -147,10 +157,7 @@ impl Disk for MemDisk {
             self.faults = self.faults.saturating_add(1);
             return Err(DiskFailed);
         }
-        match look(&self.calls, a, out) {
-            Some(found) => Ok(found),
-            None => Ok(look(&self.first, a, out).unwrap_or(false)),
-        }
+        Ok(self.find(a, out))
     }
 
     fn write(&mut self, a: Addr, page: &Page) -> Result<(), DiskFailed>

@@ -5,7 +5,7 @@ use crate::traits::Failed;
 
 /// The calls of an object in memory: which number comes next, which numbers are to fail, and how
 /// often a call has failed. Both counts stand still at 2^64 - 1.
-#[derive(Debug, Drop)]
+#[derive(Drop)]
 pub(crate) struct Calls {
     next: u64,
     failing: Vec<u64>,

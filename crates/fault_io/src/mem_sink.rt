@@ -13,7 +13,7 @@ use std::marker::Model;
 /// no bound), the number of the next call, the numbers of the calls that are to fail, and the count
 /// of faults. Calls are numbered from 0; that number and the count of faults stand still at
 /// 2^64 - 1.
-#[derive(Debug, Drop)]
+#[derive(Drop)]
 pub struct MemSink {
     bytes: Vec<u8>,
     room: Option<u64>,
@@ -84,7 +84,7 @@ fn fitting(room: Option<u64>, len: usize) -> usize
 {
     match room {
         None => len,
-        Some(room) => (len as u64).min(room) as usize,
+        Some(room) => len.min(room as usize),
     }
 }
 

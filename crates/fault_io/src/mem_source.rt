@@ -10,7 +10,7 @@ use std::marker::Model;
 /// A source in memory. Contracts see the bytes that are left, the number of the next call, the
 /// numbers of the calls that are to fail, and the count of faults. Calls are numbered from 0; that
 /// number and the count of faults stand still at 2^64 - 1.
-#[derive(Debug, Drop)]
+#[derive(Drop)]
 pub struct MemSource {
     bytes: Vec<u8>,
     at: usize,

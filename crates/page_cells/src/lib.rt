@@ -12,6 +12,3 @@ pub use check::page_ok;
 pub use page::{clear_row, fresh_page, next_of, set_next, slot};
 pub use putting::put_row;
 pub use row::{row_bytes, row_of};
-
-#[cfg(test)]
-mod tests;

@@ -1,6 +1,6 @@
 //! The bytes of a row.
 
-ghost use Rattle.std.specs.Prelude.{◌≡◌, ◌≤◌, ◌+◌, ◌++◌, Some, None, List, IsTrue, IfOk, IfSome, drop, length, take};
+ghost use Rattle.std.specs.Prelude.{◌≡◌, ◌≤◌, ◌+◌, ◌++◌, [], if◌then◌else◌, Some, None, List, IsTrue, IfOk, IfSome, drop, length, take};
 ghost use Rattle.calculus.specs.Value.{fits, number_fits};
 ghost use Rattle.calculus.specs.declared.value.Value.{Value as Cell};
 ghost use Rattle.page_cells.specs.RowBytes.{width, widths, number_bytes, filled, value_bytes, row_bytes, row_fits, is_row, number_of_bytes, value_in, row_in};
@@ -107,28 +107,42 @@ pub fn row_bytes(row: &Row, domains: &[Domain], out: &mut [u8]) -> usize
     at
 }
 
+/// Adds the values whose bytes these are to an empty list. `false` where they are not those of a
+/// row of the domains.
+fn add_values(
+    alloc: Global,
+    values: &mut Vec<Value>,
+    bytes: &[u8],
+    domains: &[Domain],
+) -> Result<bool, OutOfMemory>
+    requires { values.old.items ≡ [] }
+    ensures { IfOk result (λ all. row_in bytes.now domains.now ≡ (if all then Some values.new.items else None)) }
+{
+    let mut rest = bytes;
+    'values: for domain in domains {
+        let count = width(*domain);
+        if rest.len() < count {
+            return Ok(false);
+        }
+        let (front, behind) = rest.split_at(count);
+        match value_of(alloc, front, *domain)? {
+            Some(value) => values.push(value)?,
+            None => return Ok(false),
+        }
+        rest = behind;
+    }
+    Ok(rest.is_empty())
+}
+
 /// The row whose bytes these are, value by value.
 fn values_of(alloc: Global, bytes: &[u8], domains: &[Domain]) -> Result<Option<Row>, OutOfMemory>
     ensures { IfOk result (λ row. row ≡ row_in bytes.now domains.now) }
 {
     let mut values = Vec::new(alloc);
-    let mut rest = bytes;
-    'values: for domain in domains {
-        let count = width(*domain);
-        if rest.len() < count {
-            return Ok(None);
-        }
-        let (front, behind) = rest.split_at(count);
-        match value_of(alloc, front, *domain)? {
-            Some(value) => values.push(value)?,
-            None => return Ok(None),
-        }
-        rest = behind;
-    }
-    if rest.is_empty() {
-        Ok(Some(Row::of(values)))
-    } else {
-        Ok(None)
+    match add_values(alloc, &mut values, bytes, domains) {
+        Ok(true) => Ok(Some(Row::of(values))),
+        Ok(false) => Ok(None),
+        Err(want) => Err(want),
     }
 }
 

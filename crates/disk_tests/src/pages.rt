@@ -1,10 +1,9 @@
+// Pages of rows: what their room takes, and which bytes are such a page.
 ghost use Rattle.std.specs.Prelude.{◌≤◌};
 ghost use Rattle.page_cells.specs.Page.{IsPage};
 
-use super::*;
-use calculus::{Domain, OutOfMemory, Row, Text, Value};
 use disk_model::Page;
-use std::alloc::Global;
+use page_cells::{clear_row, fresh_page, next_of, page_ok, put_row, set_next, slot};
 use std::test::*;
 
 /// Puts a row of equal bytes.
@@ -15,7 +14,7 @@ fn put(page: &mut Page, byte: u8, count: usize) -> Option<u16>
     ensures { IsPage page.new }
 {
     let row = [byte; 1012];
-    put_row(page, &row[..count])
+    put_row(page, row.split_at(count).0)
 }
 
 /// Whether a line has a row of so many equal bytes.
@@ -29,59 +28,7 @@ fn has(page: &Page, line: u16, byte: u8, count: usize) -> bool
 }
 
 #[test]
-fn a_row_stands_in_its_columns(rt: HostRuntime) -> Result<(), Fail> {
-    let alloc = rt.alloc();
-    let domains = [Domain::I2, Domain::C(4)];
-    let Some(text) = Text::of(alloc, b"ab")? else {
-        return Err(Fail::new("ab is no text"));
-    };
-    if text.bytes().len() > 4 {
-        return Err(Fail::new("ab is no text"));
-    }
-    let row = Row::of(vec![in alloc; Value::Int(7), Value::Text(text)]?);
-    let mut out = [9; 8];
-    assert_eq!(rt; row_bytes(&row, &domains, &mut out), 6);
-    assert_eq!(rt; out.as_slice(), b"\x07\x00ab  \x09\x09".as_slice());
-    assert_eq!(rt; row_of(alloc, b"\x07\x00ab  ", &domains)?, Some(row));
-    Ok(())
-}
-
-#[test]
-fn other_bytes_are_no_row(rt: HostRuntime) -> Result<(), Fail> {
-    let alloc = rt.alloc();
-    let domains = [Domain::I2, Domain::C(4)];
-    for bytes in [
-        b"".as_slice(),
-        b"\x07\x00ab ".as_slice(),
-        b"\x07\x00ab   ".as_slice(),
-        b"\x07\x00ab\x00\x00".as_slice(),
-        b"\x07\x00a\x1f  ".as_slice(),
-        b"\x07\x00a\x7f  ".as_slice(),
-    ] {
-        assert!(rt; row_of(alloc, bytes, &domains)?.is_none());
-    }
-    Ok(())
-}
-
-#[test]
-fn numbers_are_read_in_twos_complement(rt: HostRuntime) -> Result<(), Fail> {
-    let alloc = rt.alloc();
-    for (bytes, domain, number) in [
-        (b"\x7f".as_slice(), Domain::I1, 127),
-        (b"\x80".as_slice(), Domain::I1, -128),
-        (b"\x00\x80".as_slice(), Domain::I2, -32768),
-        (b"\x39\x30".as_slice(), Domain::I2, 12345),
-        (b"\xfe\xff\xff\xff".as_slice(), Domain::I4, -2),
-        (b"\x15\xcd\x5b\x07".as_slice(), Domain::I4, 123456789),
-    ] {
-        let row = Row::of(vec![in alloc; Value::Int(number)]?);
-        assert_eq!(rt; row_of(alloc, bytes, &[domain])?, Some(row));
-    }
-    Ok(())
-}
-
-#[test]
-fn a_row_needs_room_for_itself_and_a_new_line(rt: HostRuntime) -> Result<(), Fail> {
+fn a_row_needs_room_for_itself_and_a_new_line(rt: HostRuntime) {
     let mut page = [0; 1024];
     fresh_page(&mut page);
     assert!(rt; page_ok(&page));
@@ -92,11 +39,10 @@ fn a_row_needs_room_for_itself_and_a_new_line(rt: HostRuntime) -> Result<(), Fai
     assert!(rt; has(&page, 0, 1, 1000));
     assert!(rt; has(&page, 1, 3, 4));
     assert!(rt; slot(&page, 2).is_none());
-    Ok(())
 }
 
 #[test]
-fn rows_are_moved_together_for_one_that_needs_it(rt: HostRuntime) -> Result<(), Fail> {
+fn rows_are_moved_together_for_one_that_needs_it(rt: HostRuntime) {
     let mut page = [0; 1024];
     fresh_page(&mut page);
     set_next(&mut page, 70_000);
@@ -116,7 +62,6 @@ fn rows_are_moved_together_for_one_that_needs_it(rt: HostRuntime) -> Result<(), 
     assert!(rt; has(&page, 3, 5, 50));
     assert_eq!(rt; next_of(&page), 70_000);
     assert!(rt; page_ok(&page));
-    Ok(())
 }
 
 /// A page whose line 0 has the bytes 1,014 to 1,023 and whose line 1 has the ten before them, but for
@@ -134,7 +79,7 @@ fn forged(at: usize, number: u16) -> Page {
 }
 
 #[test]
-fn forged_pages_are_found_out(rt: HostRuntime) -> Result<(), Fail> {
+fn forged_pages_are_found_out(rt: HostRuntime) {
     for (at, number, sound) in [
         (0, 65535, true),
         (4, 0, true),
@@ -157,5 +102,4 @@ fn forged_pages_are_found_out(rt: HostRuntime) -> Result<(), Fail> {
     ] {
         assert_eq!(rt; page_ok(&forged(at, number)), sound);
     }
-    Ok(())
 }

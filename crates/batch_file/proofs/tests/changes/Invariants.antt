@@ -1,7 +1,0 @@
-use Rattle.std.proofs.Common.{◌≡◌, IsTrue, length}
-use Rattle.std.specs.List.{All}
-use Rattle.batch_file.specs.Layout.{is_place}
-use Rattle.batch_file.proofs.tests.changes.Given as goal
-
-abbrev pub invariant-loop-i : goal.invariant-loop-i
-invariant-loop-i l = record { places : All (λ c. IsTrue (is_place c.0)) l.changes.items; size : length l.changes.items ≡ l.i }

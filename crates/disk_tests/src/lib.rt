@@ -1,0 +1,15 @@
+//! Tests of the way to the disk: sources and sinks, disks that crash, batches, pages and rows.
+#![tactic(auto)]
+
+#[cfg(test)]
+mod batches;
+#[cfg(test)]
+mod disks;
+#[cfg(test)]
+mod pages;
+#[cfg(test)]
+mod rows;
+#[cfg(test)]
+mod stopping;
+#[cfg(test)]
+mod streams;
