@@ -14,6 +14,3 @@ pub use fault::QueryFault;
 pub use laws::no_aggregates_need_no_tables;
 pub use scanned::rows_of;
 pub use sets::rows_of_variable;
-
-#[cfg(test)]
-mod tests;

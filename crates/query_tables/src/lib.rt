@@ -11,6 +11,3 @@ pub use decompose::QueryFault;
 pub use order::rows_order;
 pub use sorting::sorted;
 pub use tables::{table_of, tables_of};
-
-#[cfg(test)]
-mod tests;

@@ -9,18 +9,29 @@ use calculus::{
 };
 use std::alloc::Global;
 
-/// A base that tells no database, with three rows of one number under each key.
+/// A base that tells no database, with the same rows under each key: so many rows of one number,
+/// counted from 0.
 #[derive(Drop)]
-pub(super) struct Three;
+pub struct Numbers {
+    pub rows: u32,
+}
 
 /// The row of one number.
-pub(super) fn row_of(alloc: Global, number: u16) -> Result<Row, OutOfMemory> {
+pub fn row_of(alloc: Global, number: i64) -> Result<Row, OutOfMemory> {
     let mut values = Vec::new(alloc);
-    values.push(Value::Int(number as i64))?;
+    values.push(Value::Int(number))?;
     Ok(Row::of(values))
 }
 
-impl Base for Three {
+/// Whether the row has one number, from 0 on and less than this one.
+fn is_below(row: &Row, most: u32) -> bool {
+    match row.values().first() {
+        Some(Value::Int(number)) => *number >= 0 && *number < i64::from(most),
+        _ => false,
+    }
+}
+
+impl Base for Numbers {
     ghost database = { λ _. None };
 
     ghost faults = { λ _. 0 };
@@ -53,11 +64,11 @@ impl Base for Three {
     }
 
     fn size(&mut self, _alloc: Global, _key: &RelKey) -> Result<u32, BaseFault> {
-        Ok(3)
+        Ok(self.rows)
     }
 
-    fn has_row(&mut self, _alloc: Global, _key: &RelKey, _row: &Row) -> Result<bool, BaseFault> {
-        Ok(false)
+    fn has_row(&mut self, _alloc: Global, _key: &RelKey, row: &Row) -> Result<bool, BaseFault> {
+        Ok(is_below(row, self.rows))
     }
 
     fn scan(
@@ -67,11 +78,11 @@ impl Base for Three {
         _probe: &Probe,
         at: &mut Place,
     ) -> Result<Option<Row>, BaseFault> {
-        if at.line >= 3 {
+        if at.page >= self.rows {
             return Ok(None);
         }
-        let row = row_of(alloc, at.line)?;
-        at.line += 1;
+        let row = row_of(alloc, i64::from(at.page))?;
+        at.page += 1;
         Ok(Some(row))
     }
 

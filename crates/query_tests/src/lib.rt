@@ -1,0 +1,13 @@
+//! Tests of queries, updates and utilities over a base that tells no database.
+#![tactic(auto)]
+
+#[cfg(test)]
+mod numbers;
+#[cfg(test)]
+mod queries;
+#[cfg(test)]
+mod trees;
+#[cfg(test)]
+mod updates;
+#[cfg(test)]
+mod utilities;

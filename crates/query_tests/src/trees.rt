@@ -1,0 +1,62 @@
+//! Names, rows and queries of which the cases are made.
+
+use calculus::{Kind, List, Name, OutOfMemory, QQual, QTerm, Query, RelKey, Row, Target, Value};
+use std::alloc::Global;
+use std::process::Abort;
+
+/// The name of these bytes.
+pub fn named(rt: &impl Abort, alloc: Global, bytes: &[u8]) -> Result<Name, OutOfMemory> {
+    let name = Name::of(alloc, bytes)?;
+    Ok(name.expect(rt, "a name"))
+}
+
+/// What names the relation.
+pub fn key(rt: &impl Abort, alloc: Global) -> Result<RelKey, OutOfMemory> {
+    let owner = named(rt, alloc, b"ann")?;
+    let name = named(rt, alloc, b"p")?;
+    Ok(RelKey { owner, name })
+}
+
+/// The item alone.
+pub fn alone<T: Drop>(rt: &impl Abort, alloc: Global, item: T) -> Vec<T> {
+    let mut items = Vec::new(alloc);
+    items.push(item).expect(rt, "memory");
+    items
+}
+
+/// A query over so many variables for one term, under a title.
+pub fn query(rt: &impl Abort, alloc: Global, variables: usize, title: &[u8], term: QTerm) -> Query {
+    let mut vars = Vec::new(alloc);
+    for _ in 0..variables {
+        vars.push(key(rt, alloc).expect(rt, "memory"))
+            .expect(rt, "memory");
+    }
+    let target = Target {
+        name: named(rt, alloc, title).expect(rt, "memory"),
+        kind: Kind::Wide,
+        term,
+    };
+    Query {
+        vars: List::of(vars),
+        targets: List::of(alone(rt, alloc, target)),
+        qual: QQual::True,
+    }
+}
+
+/// The row of these numbers.
+fn row(rt: &impl Abort, alloc: Global, numbers: &[i64]) -> Row {
+    let mut values = Vec::new(alloc);
+    for number in numbers {
+        values.push(Value::Int(*number)).expect(rt, "memory");
+    }
+    Row::of(values)
+}
+
+/// The rows of these numbers.
+pub fn rows(rt: &impl Abort, alloc: Global, numbers: &[&[i64]]) -> Vec<Row> {
+    let mut rows = Vec::new(alloc);
+    for one in numbers {
+        rows.push(row(rt, alloc, one)).expect(rt, "memory");
+    }
+    rows
+}
