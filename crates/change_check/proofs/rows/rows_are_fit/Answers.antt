@@ -1,4 +1,4 @@
-use Rattle.std.proofs.Common.{◌≡◌, sym, ◌∙◌}
+use Rattle.std.proofs.Common.{sym, ◌∙◌}
 use Rattle.change_check.proofs.Kept.{none_there, one_there, attrs_there}
 use Rattle.change_check.proofs.RowsFit.{no_relation}
 use Rattle.change_check.proofs.rows.rows_are_fit.Goals as goal
