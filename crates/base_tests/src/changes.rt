@@ -13,9 +13,9 @@ use std::test::*;
 #[derive(Clone, Copy)]
 enum Change<'a> {
     /// `parts` is made with these rows.
-    Made(&'a [&'a [i64]]),
+    Made(&'a [(i64, i64)]),
     /// The first rows of `parts` go, and the others come.
-    Moved(&'a [&'a [i64]], &'a [&'a [i64]]),
+    Moved(&'a [(i64, i64)], &'a [(i64, i64)]),
     /// `parts` is stored so, by these keys.
     Stored(Spec, &'a [u8]),
     /// An index of `parts` by its second attribute is made.
@@ -30,8 +30,10 @@ enum Change<'a> {
     Unruled(&'a [u32]),
     /// `numbers` is made, a view of the numbers in what has this name.
     Viewed(&'a [u8]),
-    /// What has one of these names goes.
-    Destroyed(&'a [&'a [u8]]),
+    /// `parts` goes.
+    Destroyed,
+    /// `parts` goes, and `numbers` with it.
+    DestroyedWithView,
 }
 
 fn named<R: Abort>(rt: &R, alloc: Global, bytes: &[u8]) -> Name {
@@ -81,18 +83,18 @@ fn attrs<R: Abort>(rt: &R, alloc: Global, names: &[&[u8]]) -> List<Attr> {
     List::of(attrs)
 }
 
-fn row_of<R: Abort>(rt: &R, alloc: Global, numbers: &[i64]) -> Row {
+fn row_of<R: Abort>(rt: &R, alloc: Global, first: i64, second: i64) -> Row {
     let mut values = Vec::new(alloc);
-    for number in numbers {
-        values.push(Value::Int(*number)).expect(rt, "memory");
-    }
+    values.push(Value::Int(first)).expect(rt, "memory");
+    values.push(Value::Int(second)).expect(rt, "memory");
     Row::of(values)
 }
 
-fn rows_of<R: Abort>(rt: &R, alloc: Global, lists: &[&[i64]]) -> List<Row> {
+fn rows_of<R: Abort>(rt: &R, alloc: Global, pairs: &[(i64, i64)]) -> List<Row> {
     let mut rows = Vec::new(alloc);
-    for numbers in lists {
-        rows.push(row_of(rt, alloc, numbers)).expect(rt, "memory");
+    for (first, second) in pairs {
+        let row = row_of(rt, alloc, *first, *second);
+        rows.push(row).expect(rt, "memory");
     }
     List::of(rows)
 }
@@ -190,8 +192,11 @@ fn change_of<R: Abort>(rt: &R, alloc: Global, change: Change) -> DbChange {
             info: info(rt, alloc, b"numbers", Spec::View, &[b"pnum"]),
             query: numbers_in(rt, alloc, name),
         },
-        Change::Destroyed(names) => DbChange::Destroy {
-            rels: keys(rt, alloc, names),
+        Change::Destroyed => DbChange::Destroy {
+            rels: keys(rt, alloc, &[b"parts"]),
+        },
+        Change::DestroyedWithView => DbChange::Destroy {
+            rels: keys(rt, alloc, &[b"parts", b"numbers"]),
         },
     }
 }
@@ -226,14 +231,14 @@ fn as_said<R: Abort>(rt: &R, alloc: Global, changes: &[(Change, bool)]) -> usize
 }
 
 /// `parts` is made with two rows.
-const MADE: (Change, bool) = (Change::Made(&[&[1, 5], &[2, 7]]), true);
+const MADE: (Change, bool) = (Change::Made(&[(1, 5), (2, 7)]), true);
 
 #[test]
 fn a_relation_is_made_once(rt: HostRuntime) {
     let changes = [
-        (Change::Made(&[&[1, 5], &[1, 5]]), false),
+        (Change::Made(&[(1, 5), (1, 5)]), false),
         MADE,
-        (Change::Made(&[&[1, 5], &[2, 7]]), false),
+        (Change::Made(&[(1, 5), (2, 7)]), false),
     ];
     assert!(rt; as_said(&rt, rt.alloc(), &changes) == changes.len());
 }
@@ -242,10 +247,10 @@ fn a_relation_is_made_once(rt: HostRuntime) {
 fn rows_come_and_go_once(rt: HostRuntime) {
     let changes = [
         MADE,
-        (Change::Moved(&[&[1, 5]], &[&[3, 3]]), true),
-        (Change::Moved(&[&[1, 5]], &[]), false),
-        (Change::Moved(&[], &[&[3, 3]]), false),
-        (Change::Moved(&[], &[&[70_000, 3]]), false),
+        (Change::Moved(&[(1, 5)], &[(3, 3)]), true),
+        (Change::Moved(&[(1, 5)], &[]), false),
+        (Change::Moved(&[], &[(3, 3)]), false),
+        (Change::Moved(&[], &[(70_000, 3)]), false),
     ];
     assert!(rt; as_said(&rt, rt.alloc(), &changes) == changes.len());
 }
@@ -302,8 +307,8 @@ fn what_a_view_names_goes_only_with_it(rt: HostRuntime) {
         MADE,
         (Change::Viewed(b"suppliers"), false),
         (Change::Viewed(b"parts"), true),
-        (Change::Destroyed(&[b"parts"]), false),
-        (Change::Destroyed(&[b"parts", b"numbers"]), true),
+        (Change::Destroyed, false),
+        (Change::DestroyedWithView, true),
     ];
     assert!(rt; as_said(&rt, rt.alloc(), &changes) == changes.len());
 }

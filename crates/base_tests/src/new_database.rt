@@ -86,13 +86,19 @@ fn hanging<R: Abort>(rt: &R, alloc: Global, owner: &[u8], name: &[u8]) -> (u32, 
     (entries, rules.len(), permits.len())
 }
 
+/// Whether a view stands under a key.
+fn is_view<B: Base>(alloc: Global, base: &mut B, key: &RelKey) -> Result<bool, BaseFault> {
+    let query = base.view(alloc, key)?;
+    Ok(query.is_some())
+}
+
 /// Whether a view has this name, and whether one names what has it.
 fn viewed<R: Abort>(rt: &R, alloc: Global, owner: &[u8], name: &[u8]) -> (bool, bool) {
     let mut base = new_base(rt, alloc);
     let key = key_of(rt, alloc, owner, name);
-    let query = base.view(alloc, &key).expect(rt, "memory");
+    let there = is_view(alloc, &mut base, &key).expect(rt, "memory");
     let named = base.named_by_view(alloc, &key, &[]).expect(rt, "an answer");
-    (query.is_some(), named)
+    (there, named)
 }
 
 #[test]
