@@ -40,3 +40,13 @@ Gave probe before behind (Some row) = next_meeting probe before ≡ Some (row, b
 abbrev pub Gives : Probe → (Place → List Row) → Place → Place → Result (Option Row) BaseFault → Type 0
 Gives probe left before now (Ok answer) = Gave probe (left before) (left now) answer
 Gives probe left before now (Err fault) = Unit {0}
+
+-- a scan that answered none stands where none of the rows left meets the probe, so it goes on answering none
+abbrev pub StaysOver : Probe → List Row → Option Row → Type 0
+StaysOver probe behind None = next_meeting probe behind ≡ None
+StaysOver probe behind (Some row) = Unit {0}
+
+-- what a call of a scan says of those that follow, where these rows are left from each place on
+abbrev pub IsOver : Probe → (Place → List Row) → Place → Result (Option Row) BaseFault → Type 0
+IsOver probe left now (Ok answer) = StaysOver probe (left now) answer
+IsOver probe left now (Err fault) = Unit {0}

@@ -4,7 +4,7 @@ use Rattle.std.specs.List.{list_any}
 use Rattle.calculus.specs.declared.query.RelKey.{RelKey}
 use Rattle.calculus.specs.declared.query.Query.{Query}
 use Rattle.calculus.specs.declared.schema.RelInfo.{RelInfo}
-use Rattle.calculus.specs.Keys.{same_key, has_key}
+use Rattle.calculus.specs.Keys.{has_key}
 use Rattle.calculus.specs.Database.{Db, entry_at, view_at}
 use Rattle.calculus.specs.Catalogue.{catalogue_at}
 use Rattle.calculus.specs.QueryParts.{vars_of}

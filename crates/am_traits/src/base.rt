@@ -8,7 +8,7 @@ ghost use Rattle.calculus.specs.Stored.{rows_at};
 ghost use Rattle.calculus.specs.declared.probe.Place.{Place as At};
 ghost use Rattle.calculus.specs.declared.query.RelKey.{RelKey as Key};
 ghost use Rattle.am_traits.specs.Causes.{HasCause};
-ghost use Rattle.am_traits.specs.Scans.{Gives, IsScan, first_place};
+ghost use Rattle.am_traits.specs.Scans.{Gives, IsOver, IsScan, first_place};
 ghost use Rattle.am_traits.specs.Told.{known_at, query_at, is_named_by_view};
 
 use crate::BaseFault;
@@ -86,8 +86,9 @@ pub trait Base {
         ensures cause { HasCause (database self.old) (faults self.old) (faults self.new) result };
 
     /// The next row of the relation or catalogue under a key that meets the probe, from a place on,
-    /// which moves behind it; `None` where no more meets it. From the first place on, while nothing
-    /// is changed, the calls give each row that meets the probe once.
+    /// which moves behind it; `None` where no more meets it, and then each further call from there on
+    /// says so again. From the first place on, while nothing is changed, the calls give each row that
+    /// meets the probe once.
     fn scan(
         &mut self,
         alloc: Global,
@@ -97,6 +98,7 @@ pub trait Base {
     ) -> Result<Option<Row>, BaseFault>
         ensures told { (db : Db) → database self.old ≡ Some db
             → Gives probe.now (left self.old key.now) at.old at.new result }
+        ensures over { (db : Db) → database self.old ≡ Some db → IsOver probe.now (left self.old key.now) at.new result }
         ensures same { left self.new ≡ left self.old }
         ensures kept { database self.new ≡ database self.old }
         ensures cause { HasCause (database self.old) (faults self.old) (faults self.new) result };

@@ -1,15 +1,16 @@
 //! An index that is made.
 
-ghost use Rattle.std.specs.Prelude.{◌≡◌, IfOk, Some};
+ghost use Rattle.std.specs.Prelude.{◌≡◌, true, IfOk, Some};
 ghost use Rattle.am_traits.specs.Causes.{HasCause};
-ghost use Rattle.calculus.specs.Database.{Db};
+ghost use Rattle.calculus.specs.Database.{Db, is_relation};
 ghost use Rattle.calculus.specs.Keys.{key_of};
+ghost use Rattle.calculus.specs.Stored.{attrs_at};
 ghost use Rattle.change_laws.specs.Fit.{index_is_fit};
 
 use crate::described::some_keys_stand;
 use crate::keys::{key_is_free, relation};
 use am_traits::{Base, BaseFault};
-use calculus::{Name, OutOfMemory, RelKey};
+use calculus::{Attr, Name, OutOfMemory, RelKey};
 use std::alloc::Global;
 
 /// The key of this owner and name.
@@ -19,6 +20,29 @@ fn key_of(alloc: Global, owner: &Name, name: &Name) -> Result<RelKey, OutOfMemor
     let owner = owner.copy(alloc)?;
     let name = name.copy(alloc)?;
     Ok(RelKey { owner, name })
+}
+
+/// Whether an index of a relation with these attributes may be made: it has key attributes of them,
+/// and its key is free.
+fn index_has_parts<B: Base>(
+    alloc: Global,
+    base: &mut B,
+    rel: &RelKey,
+    attrs: &[Attr],
+    name: &Name,
+    keys: &[u8],
+) -> Result<bool, BaseFault>
+    ensures told { (db : Db) → B.database base.old ≡ Some db → is_relation db rel.now ≡ true → attrs_at db rel.now ≡ attrs.now
+        → IfOk result (λ fit. fit ≡ index_is_fit db rel.now name.now keys.now) }
+    ensures kept { B.database base.new ≡ B.database base.old }
+    ensures same { B.left base.new ≡ B.left base.old }
+    ensures cause { HasCause (B.database base.old) (B.faults base.old) (B.faults base.new) result }
+{
+    if !some_keys_stand(attrs, keys) {
+        return Ok(false);
+    }
+    let key = key_of(alloc, &rel.owner, name)?;
+    key_is_free(alloc, base, &key)
 }
 
 /// Whether an index of a relation may be made: the relation is there, the index has key attributes of
@@ -35,13 +59,8 @@ pub(crate) fn index_is_fit<B: Base>(
     ensures same { B.left base.new ≡ B.left base.old }
     ensures cause { HasCause (B.database base.old) (B.faults base.old) (B.faults base.new) result }
 {
-    let info = match relation(alloc, base, rel)? {
-        Some(info) => info,
-        None => return Ok(false),
-    };
-    if !some_keys_stand(info.attrs.items(), keys) {
-        return Ok(false);
+    match relation(alloc, base, rel)? {
+        Some(info) => index_has_parts(alloc, base, rel, info.attrs.items(), name, keys),
+        None => Ok(false),
     }
-    let key = key_of(alloc, &rel.owner, name)?;
-    key_is_free(alloc, base, &key)
 }

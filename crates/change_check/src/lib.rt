@@ -19,6 +19,3 @@ mod structures;
 mod views;
 
 pub use checking::fit_change;
-
-#[cfg(test)]
-mod tests;

@@ -14,7 +14,7 @@ ghost use Rattle.change_laws.specs.Fit.{number_is_free, permit_is_fit, rule_is_f
 
 use crate::depths::qual_depth;
 use crate::keys::is_relation;
-use crate::numbers::{has_number, permit_numbers, rule_numbers};
+use crate::numbers::{has_number, standing_permits, standing_rules};
 use crate::sizes::qual_size;
 use am_traits::{Base, BaseFault};
 use calculus::{Kind, Name, OutOfMemory, Permit, QQual, RelKey, Rule, is_name, kinds_fit};
@@ -134,8 +134,7 @@ fn permit_number_is_free<B: Base>(
     ensures same { B.left base.new ≡ B.left base.old }
     ensures cause { HasCause (B.database base.old) (B.faults base.old) (B.faults base.new) result }
 {
-    let permits = base.permits(alloc, rel)?;
-    let numbers = permit_numbers(alloc, &permits)?;
+    let numbers = standing_permits(alloc, base, rel)?;
     Ok(number_is_free(&numbers, number))
 }
 
@@ -151,8 +150,7 @@ fn rule_number_is_free<B: Base>(
     ensures same { B.left base.new ≡ B.left base.old }
     ensures cause { HasCause (B.database base.old) (B.faults base.old) (B.faults base.new) result }
 {
-    let rules = base.rules(alloc, rel)?;
-    let numbers = rule_numbers(alloc, &rules)?;
+    let numbers = standing_rules(alloc, base, rel)?;
     Ok(number_is_free(&numbers, number))
 }
 

@@ -1,14 +1,14 @@
 //! Rows that go and come.
 
-ghost use Rattle.std.specs.Prelude.{◌≡◌, ◌+◌, ◌-◌, ◌&&◌, not, length, nat_le, IfOk, Some};
+ghost use Rattle.std.specs.Prelude.{◌≡◌, ◌+◌, ◌-◌, ◌&&◌, not, length, nat_le, true, IfOk, Some};
 ghost use Rattle.std.specs.List.{list_all, list_any};
 ghost use Rattle.am_traits.specs.Causes.{HasCause};
 ghost use Rattle.calculus.specs.Change.{rows_differ};
-ghost use Rattle.calculus.specs.Database.{Db};
+ghost use Rattle.calculus.specs.Database.{Db, is_relation};
 ghost use Rattle.calculus.specs.IsDatabase.{row_fits};
 ghost use Rattle.calculus.specs.Limits.{most_rows};
 ghost use Rattle.calculus.specs.Rows.{has};
-ghost use Rattle.calculus.specs.Stored.{rows_at};
+ghost use Rattle.calculus.specs.Stored.{attrs_at, rows_at};
 ghost use Rattle.change_laws.specs.Fit.{rows_are_fit};
 
 use crate::attributes::row_fits;
@@ -170,6 +170,30 @@ fn lists_stand(
     differ_and_fit(alloc, attrs, add)
 }
 
+/// Whether these rows of a relation with these attributes may go and those come, asked part by part.
+fn rows_have_parts<B: Base>(
+    alloc: Global,
+    base: &mut B,
+    rel: &RelKey,
+    attrs: &[Attr],
+    remove: &[Row],
+    add: &[Row],
+) -> Result<bool, BaseFault>
+    ensures told { (db : Db) → B.database base.old ≡ Some db → is_relation db rel.now ≡ true → attrs_at db rel.now ≡ attrs.now
+        → IfOk result (λ fit. fit ≡ rows_are_fit db rel.now remove.now add.now) }
+    ensures kept { B.database base.new ≡ B.database base.old }
+    ensures same { B.left base.new ≡ B.left base.old }
+    ensures cause { HasCause (B.database base.old) (B.faults base.old) (B.faults base.new) result }
+{
+    if !rows_move(alloc, base, rel, remove, add)? {
+        return Ok(false);
+    }
+    if !lists_stand(alloc, attrs, remove, add)? {
+        return Ok(false);
+    }
+    few_stay(alloc, base, rel, remove, add)
+}
+
 /// Whether these rows of a relation may go and those come: the relation is there, each row that goes
 /// is one of its own and none that comes is, neither lists one twice, those that come fit, and
 /// afterwards there are no more than may be. Asks for each of these rows and for the number of all.
@@ -185,15 +209,8 @@ pub(crate) fn rows_are_fit<B: Base>(
     ensures same { B.left base.new ≡ B.left base.old }
     ensures cause { HasCause (B.database base.old) (B.faults base.old) (B.faults base.new) result }
 {
-    let info = match relation(alloc, base, rel)? {
-        Some(info) => info,
-        None => return Ok(false),
-    };
-    if !rows_move(alloc, base, rel, remove, add)? {
-        return Ok(false);
+    match relation(alloc, base, rel)? {
+        Some(info) => rows_have_parts(alloc, base, rel, info.attrs.items(), remove, add),
+        None => Ok(false),
     }
-    if !lists_stand(alloc, info.attrs.items(), remove, add)? {
-        return Ok(false);
-    }
-    few_stay(alloc, base, rel, remove, add)
 }

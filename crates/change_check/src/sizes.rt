@@ -7,7 +7,7 @@ ghost use Rattle.change_check.specs.Measured.{held};
 use calculus::{QQual, QTerm};
 
 /// What a variable is once the views in it are put in.
-#[derive(Debug, Drop)]
+#[derive(Drop)]
 pub(crate) struct Measure {
     /// How many variables.
     pub(crate) variables: u64,

@@ -1,6 +1,6 @@
 //! What is known of the two catalogues, and the values that their rows are made of.
 
-ghost use Rattle.std.specs.Prelude.{◌≡◌, IsTrue, IfOk};
+ghost use Rattle.std.specs.Prelude.{◌≡◌, IsTrue, All, IfOk, map};
 ghost use Rattle.calculus.specs.Catalogue.{attribute, relation_attrs, attribute_attrs};
 ghost use Rattle.calculus.specs.Keys.{key_of, same_key};
 ghost use Rattle.calculus.specs.Name.{is_name};
@@ -49,17 +49,32 @@ fn attribute(alloc: Global, name: &[u8], domain: Domain) -> Result<Attr, OutOfMe
     })
 }
 
+/// The attributes of these names and domains.
+fn attrs_of(alloc: Global, columns: &[(&[u8], Domain)]) -> Result<List<Attr>, OutOfMemory>
+    requires { All (λ c. IsTrue (is_name c.0.now)) columns.now }
+    ensures { IfOk result (λ attrs. attrs ≡ map (λ c. attribute c.0.now c.1) columns.now) }
+{
+    let mut attrs = Vec::new(alloc);
+    for (name, domain) in columns {
+        attrs.push(attribute(alloc, name, *domain)?)?;
+    }
+    Ok(List::of(attrs))
+}
+
 /// The attributes of the catalogue `relation`.
 #[tactic(auto, unfolding(calculus::specs::Name::is_name))]
 pub(crate) fn relation_attrs(alloc: Global) -> Result<List<Attr>, OutOfMemory>
     ensures { IfOk result (λ attrs. attrs ≡ relation_attrs) }
 {
-    let mut attrs = Vec::new(alloc);
-    attrs.push(attribute(alloc, b"relid", Domain::C(12))?)?;
-    attrs.push(attribute(alloc, b"relowner", Domain::C(12))?)?;
-    attrs.push(attribute(alloc, b"relspec", Domain::C(6))?)?;
-    attrs.push(attribute(alloc, b"relatts", Domain::I2)?)?;
-    Ok(List::of(attrs))
+    attrs_of(
+        alloc,
+        &[
+            (b"relid", Domain::C(12)),
+            (b"relowner", Domain::C(12)),
+            (b"relspec", Domain::C(6)),
+            (b"relatts", Domain::I2),
+        ],
+    )
 }
 
 /// The attributes of the catalogue `attribute`.
@@ -67,11 +82,14 @@ pub(crate) fn relation_attrs(alloc: Global) -> Result<List<Attr>, OutOfMemory>
 pub(crate) fn attribute_attrs(alloc: Global) -> Result<List<Attr>, OutOfMemory>
     ensures { IfOk result (λ attrs. attrs ≡ attribute_attrs) }
 {
-    let mut attrs = Vec::new(alloc);
-    attrs.push(attribute(alloc, b"attrelid", Domain::C(12))?)?;
-    attrs.push(attribute(alloc, b"attowner", Domain::C(12))?)?;
-    attrs.push(attribute(alloc, b"attid", Domain::I2)?)?;
-    attrs.push(attribute(alloc, b"attname", Domain::C(12))?)?;
-    attrs.push(attribute(alloc, b"attfrmt", Domain::C(4))?)?;
-    Ok(List::of(attrs))
+    attrs_of(
+        alloc,
+        &[
+            (b"attrelid", Domain::C(12)),
+            (b"attowner", Domain::C(12)),
+            (b"attid", Domain::I2),
+            (b"attname", Domain::C(12)),
+            (b"attfrmt", Domain::C(4)),
+        ],
+    )
 }

@@ -33,16 +33,26 @@ fn name_text(alloc: Global, name: &Name) -> Result<Value, OutOfMemory>
     solid_text(alloc, bytes)
 }
 
+/// What an entry is, in a word.
+fn spec_word(spec: Spec) -> &'static [u8]
+    ensures word { result.now ≡ spec_text spec }
+    ensures solid { IsTrue (list_all is_name_byte result.now) }
+    ensures short { length result.now ≤ 255 }
+{
+    match spec {
+        Spec::Heap => b"heap",
+        Spec::Hash => b"hash",
+        Spec::Isam => b"isam",
+        Spec::View => b"view",
+        Spec::Index => b"index",
+    }
+}
+
 fn spec_value(alloc: Global, spec: Spec) -> Result<Value, OutOfMemory>
     ensures { IfOk result (λ value. value ≡ Value.Text (spec_text spec)) }
 {
-    match spec {
-        Spec::Heap => solid_text(alloc, b"heap"),
-        Spec::Hash => solid_text(alloc, b"hash"),
-        Spec::Isam => solid_text(alloc, b"isam"),
-        Spec::View => solid_text(alloc, b"view"),
-        Spec::Index => solid_text(alloc, b"index"),
-    }
+    let word = spec_word(spec);
+    solid_text(alloc, word)
 }
 
 #[tactic(auto, using(crate::proofs::Named::width_solid, crate::proofs::Named::width_short))]

@@ -10,11 +10,9 @@ mod leaving;
 mod look_up;
 mod one_relation;
 mod ordered;
+mod pairs;
 mod rows;
 mod scanning;
 
 pub(crate) use db_lists::DbLists;
 pub use db_plain::DbPlain;
-
-#[cfg(test)]
-mod tests;

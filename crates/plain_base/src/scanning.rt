@@ -2,7 +2,7 @@
 
 ghost use Rattle.std.specs.Prelude.{◌≡◌, ◌<◌, ◌+◌, ◌^◌, Some, None, drop, length, slice_index_or, IfOk, IfSome, IfNone, OnErr};
 ghost use Rattle.calculus.specs.Rows.{Row as Values};
-ghost use Rattle.am_traits.specs.Scans.{Gave, has_value, meets, next_meeting};
+ghost use Rattle.am_traits.specs.Scans.{Gave, StaysOver, has_value, meets, next_meeting};
 ghost use Rattle.plain_base.specs.Places.{rows_before};
 
 use calculus::{OutOfMemory, Place, Probe, Row, TryCopy, Value};
@@ -71,6 +71,7 @@ pub(crate) fn next_row(
 ) -> Result<Option<Row>, OutOfMemory>
     requires { length rows.now < 2 ^ 32 }
     ensures gave { IfOk result (λ answer. Gave probe.now (drop (rows_before at.old) rows.now) (drop (rows_before at.new) rows.now) answer) }
+    ensures over { IfOk result (λ answer. StaysOver probe.now (drop (rows_before at.new) rows.now) answer) }
     ensures err { OnErr result (at.new ≡ at.old) }
 {
     match first_meeting(rows, probe, rows_before(*at)) {

@@ -10,6 +10,7 @@ use crate::kept::{Indexed, Stored, Viewed};
 use crate::leaving::{leave, leave_base, leave_keys, leave_numbers, leave_with_base};
 use crate::one_relation::{change_rows, restructure};
 use crate::ordered::put_in_order;
+use crate::pairs::both;
 use crate::rows::copies_of;
 use calculus::{
     DbChange, List, Name, OutOfMemory, Permit, Query, RelInfo, RelKey, Row, RowSet, Rule, Spec,
@@ -21,8 +22,8 @@ use std::alloc::Global;
 fn stored_of(alloc: Global, info: &RelInfo, rows: &[Row]) -> Result<Stored, OutOfMemory>
     ensures { IfOk result (λ stored. stored ≡ record { info = info.now; rows = set_of rows.now }) }
 {
-    let info = info.copy(alloc)?;
-    let rows = RowSet::of_rows(copies_of(alloc, rows)?).into_rows();
+    let (info, rows) = both(info.copy(alloc), copies_of(alloc, rows))?;
+    let rows = RowSet::of_rows(rows).into_rows();
     Ok(Stored { info, rows })
 }
 
@@ -35,10 +36,9 @@ fn index_of(
 ) -> Result<Indexed, OutOfMemory>
     ensures { IfOk result (λ index. index ≡ record { info = index_info base.now name.now keys.now; base = base.now }) }
 {
-    let owner = base.owner.copy(alloc)?;
-    let name = name.copy(alloc)?;
-    let keys = keys.copy(alloc)?;
-    let base = base.copy(alloc)?;
+    let names = both(base.owner.copy(alloc), name.copy(alloc));
+    let places = both(keys.copy(alloc), base.copy(alloc));
+    let ((owner, name), (keys, base)) = both(names, places)?;
     let info = RelInfo {
         key: RelKey { owner, name },
         spec: Spec::Index,
@@ -52,8 +52,7 @@ fn index_of(
 fn view_of(alloc: Global, info: &RelInfo, query: &Query) -> Result<Viewed, OutOfMemory>
     ensures { IfOk result (λ view. view ≡ record { info = info.now; query = query.now }) }
 {
-    let info = info.copy(alloc)?;
-    let query = query.copy(alloc)?;
+    let (info, query) = both(info.copy(alloc), query.copy(alloc))?;
     Ok(Viewed { info, query })
 }
 
@@ -61,8 +60,7 @@ fn view_of(alloc: Global, info: &RelInfo, query: &Query) -> Result<Viewed, OutOf
 fn permit_of(alloc: Global, rel: &RelKey, permit: &Permit) -> Result<(RelKey, Permit), OutOfMemory>
     ensures { IfOk result (λ p. p ≡ (rel.now, permit.now)) }
 {
-    let rel = rel.copy(alloc)?;
-    let permit = permit.copy(alloc)?;
+    let (rel, permit) = both(rel.copy(alloc), permit.copy(alloc))?;
     Ok((rel, permit))
 }
 
@@ -70,8 +68,7 @@ fn permit_of(alloc: Global, rel: &RelKey, permit: &Permit) -> Result<(RelKey, Pe
 fn rule_of(alloc: Global, rel: &RelKey, rule: &Rule) -> Result<(RelKey, Rule), OutOfMemory>
     ensures { IfOk result (λ p. p ≡ (rel.now, rule.now)) }
 {
-    let rel = rel.copy(alloc)?;
-    let rule = rule.copy(alloc)?;
+    let (rel, rule) = both(rel.copy(alloc), rule.copy(alloc))?;
     Ok((rel, rule))
 }
 

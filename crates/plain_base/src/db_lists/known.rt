@@ -4,7 +4,7 @@ ghost use Rattle.std.specs.Prelude.{◌≡◌, option_map, IfOk};
 ghost use Rattle.calculus.specs.Catalogue.{catalogue_at, relation_info, attribute_info, relation_key, attribute_key};
 ghost use Rattle.calculus.specs.Database.{relation_at, view_at};
 ghost use Rattle.calculus.specs.Finding.{found};
-ghost use Rattle.calculus.specs.Keys.{same_key};
+ghost use Rattle.calculus.specs.Keys.{same_key, key_of};
 ghost use Rattle.calculus.specs.Stored.{info_at};
 ghost use Rattle.am_traits.specs.Told.{known_at};
 
@@ -12,6 +12,7 @@ use super::DbLists;
 use crate::catalogue::{attribute_attrs, is_named, key_of, relation_attrs};
 use crate::kept::{Stored, Viewed};
 use crate::look_up::under;
+use crate::pairs::both;
 use calculus::{List, Name, OutOfMemory, RelInfo, RelKey, Spec, TryCopy};
 use std::alloc::Global;
 
@@ -113,6 +114,20 @@ impl DbLists {
         }
     }
 
+    /// What is known of the relation, view or catalogue of this owner and name.
+    fn ranged_of(
+        &self,
+        alloc: Global,
+        owner: &Name,
+        name: &Name,
+    ) -> Result<Option<RelInfo>, OutOfMemory>
+        ensures { IfOk result (λ info. info ≡ info_at self.now (key_of owner.now name.now)) }
+    {
+        let (owner, name) = both(owner.copy(alloc), name.copy(alloc))?;
+        let key = RelKey { owner, name };
+        self.ranged(alloc, &key)
+    }
+
     /// What the user means by a name.
     #[tactic(auto, unfolding(calculus::specs::Finding::found))]
     pub fn found(
@@ -123,17 +138,9 @@ impl DbLists {
     ) -> Result<Option<RelInfo>, OutOfMemory>
         ensures { IfOk result (λ info. info ≡ found self.now user.now name.now) }
     {
-        let own = RelKey {
-            owner: user.copy(alloc)?,
-            name: name.copy(alloc)?,
-        };
-        if let Some(info) = self.ranged(alloc, &own)? {
+        if let Some(info) = self.ranged_of(alloc, user, name)? {
             return Ok(Some(info));
         }
-        let shared = RelKey {
-            owner: self.administrator().copy(alloc)?,
-            name: name.copy(alloc)?,
-        };
-        self.ranged(alloc, &shared)
+        self.ranged_of(alloc, self.administrator(), name)
     }
 }

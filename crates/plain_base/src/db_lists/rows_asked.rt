@@ -1,7 +1,7 @@
 //! The rows of relations and catalogues.
 
-ghost use Rattle.std.specs.Prelude.{◌≡◌, None, false, map, flat_map, option_map, unwrap_or, IfOk};
-ghost use Rattle.calculus.specs.Catalogue.{all_entries, relation_row, attribute_rows};
+ghost use Rattle.std.specs.Prelude.{◌≡◌, None, false, map, flat_map, option_map, unwrap_or, ◌++◌, IfOk, OnOk};
+ghost use Rattle.calculus.specs.Catalogue.{all_entries, relation_info, attribute_info, relation_row, attribute_rows};
 ghost use Rattle.calculus.specs.Database.{relation_at, view_at};
 ghost use Rattle.calculus.specs.Rows.{has, set_of};
 ghost use Rattle.calculus.specs.Stored.{rows_at};
@@ -14,16 +14,30 @@ use calculus::{OutOfMemory, RelKey, Row, RowSet};
 use std::alloc::Global;
 
 impl DbLists {
+    /// The row of `relation` for `relation` itself.
+    fn row_of_relation(&self, alloc: Global) -> Result<Row, OutOfMemory>
+        ensures { IfOk result (λ row. row ≡ relation_row (relation_info self.now)) }
+    {
+        let info = self.relation_info(alloc)?;
+        relation_row(alloc, &info)
+    }
+
+    /// The row of `relation` for `attribute`.
+    fn row_of_attribute(&self, alloc: Global) -> Result<Row, OutOfMemory>
+        ensures { IfOk result (λ row. row ≡ relation_row (attribute_info self.now)) }
+    {
+        let info = self.attribute_info(alloc)?;
+        relation_row(alloc, &info)
+    }
+
     /// A row of `relation` for each entry.
     fn relation_list(&self, alloc: Global) -> Result<Vec<Row>, OutOfMemory>
         ensures { IfOk result (λ rows. rows.items ≡ map relation_row (all_entries self.now)) }
     {
-        let relation = self.relation_info(alloc)?;
-        let attribute = self.attribute_info(alloc)?;
-        let first = relation_row(alloc, &relation)?;
-        let second = relation_row(alloc, &attribute)?;
         let mut rows = Vec::new(alloc);
+        let first = self.row_of_relation(alloc)?;
         rows.push(first)?;
+        let second = self.row_of_attribute(alloc)?;
         rows.push(second)?;
         push_relation_rows(alloc, &mut rows, &self.relations)?;
         push_relation_rows(alloc, &mut rows, &self.views)?;
@@ -31,15 +45,29 @@ impl DbLists {
         Ok(rows)
     }
 
+    /// Puts the rows of `attribute` for `relation` itself behind others.
+    fn push_rows_of_relation(&self, alloc: Global, rows: &mut Vec<Row>) -> Result<(), OutOfMemory>
+        ensures { OnOk result (rows.new.items ≡ rows.old.items ++ attribute_rows (relation_info self.now)) }
+    {
+        let relation = self.relation_info(alloc)?;
+        push_rows_of(alloc, rows, &relation)
+    }
+
+    /// Puts the rows of `attribute` for `attribute` itself behind others.
+    fn push_rows_of_attribute(&self, alloc: Global, rows: &mut Vec<Row>) -> Result<(), OutOfMemory>
+        ensures { OnOk result (rows.new.items ≡ rows.old.items ++ attribute_rows (attribute_info self.now)) }
+    {
+        let attribute = self.attribute_info(alloc)?;
+        push_rows_of(alloc, rows, &attribute)
+    }
+
     /// A row of `attribute` for each attribute of each entry.
     fn attribute_list(&self, alloc: Global) -> Result<Vec<Row>, OutOfMemory>
         ensures { IfOk result (λ rows. rows.items ≡ flat_map attribute_rows (all_entries self.now)) }
     {
-        let relation = self.relation_info(alloc)?;
-        let attribute = self.attribute_info(alloc)?;
         let mut rows = Vec::new(alloc);
-        push_rows_of(alloc, &mut rows, &relation)?;
-        push_rows_of(alloc, &mut rows, &attribute)?;
+        self.push_rows_of_relation(alloc, &mut rows)?;
+        self.push_rows_of_attribute(alloc, &mut rows)?;
         push_attribute_rows(alloc, &mut rows, &self.relations)?;
         push_attribute_rows(alloc, &mut rows, &self.views)?;
         push_attribute_rows(alloc, &mut rows, &self.indexes)?;

@@ -5,7 +5,7 @@ ghost use Rattle.std.specs.Option.{ForSome};
 ghost use Rattle.calculus.specs.Database.{relation_at, view_at};
 ghost use Rattle.calculus.specs.Rows.{Ascends, has};
 ghost use Rattle.calculus.specs.Stored.{rows_at};
-ghost use Rattle.am_traits.specs.Scans.{Gave};
+ghost use Rattle.am_traits.specs.Scans.{Gave, StaysOver};
 ghost use Rattle.plain_base.specs.Places.{rows_from};
 ghost use Rattle.plain_base.specs.Shown.{database_of, IsRelationReady, IsAttributeReady, IsReady};
 
@@ -132,6 +132,7 @@ impl DbPlain {
         at: &mut Place,
     ) -> Result<Option<Row>, OutOfMemory>
         ensures told { IfOk result (λ answer. Gave probe.now (rows_from (database_of self.old) key.now at.old) (rows_from (database_of self.old) key.now at.new) answer) }
+        ensures over { IfOk result (λ answer. StaysOver probe.now (rows_from (database_of self.old) key.now at.new) answer) }
         ensures same { database_of self.new ≡ database_of self.old }
         ensures err { OnErr result (at.new ≡ at.old) }
     {

@@ -1,4 +1,4 @@
-use Rattle.std.proofs.Common.{◌≡◌, ap, ◌∙◌, true, map, ◌&&◌, ℕ, List}
+use Rattle.std.proofs.Common.{◌≡◌, ap, ◌∙◌, true, ◌&&◌, ℕ, List}
 use Rattle.std.specs.Prelude.{nat_eq}
 use Rattle.std.specs.List.{list_all}
 use Rattle.calculus.specs.Database.{is_relation}
@@ -11,8 +11,7 @@ pub returns-clause-told : goal.returns-clause-told
 unfolding rules_may_go numbers_may_go
 returns-clause-told g c = λ db e.
     let there : is_relation db c.args.rel.now ≡ true = cc (c.in_ok-is_relation.ensures.told db e, c.if-not-branch.false) in
-    let rules = c.in_ok-rules.ensures.told db (ap (λ f. f) c.is_relation.ensures.kept ∙ e) in
     goes_on (is_relation db c.args.rel.now) _ _ there
     (c.are_listed_once.ensures
     ∙ ap (λ (standing : List ℕ). list_all (has_number standing) c.args.numbers.now && differ_by nat_eq c.args.numbers.now)
-    (c.deref-2.ensures.value ∙ c.in_ok-standing.ensures ∙ ap (map (λ r. r.number)) (c.deref.ensures.value ∙ rules)))
+    (c.deref.ensures.value ∙ c.in_ok-standing.ensures.told db (ap (λ f. f) c.is_relation.ensures.kept ∙ e)))

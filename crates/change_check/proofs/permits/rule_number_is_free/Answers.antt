@@ -1,4 +1,4 @@
-use Rattle.std.proofs.Common.{◌∙◌, ap, map, ℕ, List}
+use Rattle.std.proofs.Common.{◌∙◌, ap, ℕ, List}
 use Rattle.change_laws.specs.Fit.{number_is_free}
 use Rattle.change_check.proofs.permits.rule_number_is_free.Goals as goal
 
@@ -6,4 +6,4 @@ pub returns-clause-told : goal.returns-clause-told
 returns-clause-told g c = λ db e.
     c.number_is_free.ensures
     ∙ ap (λ (numbers : List ℕ). number_is_free 100 numbers c.args.number)
-    (c.deref-2.ensures.value ∙ c.in_ok-numbers.ensures ∙ ap (map (λ p. p.number)) (c.deref.ensures.value ∙ c.in_ok-rules.ensures.told db e))
+    (c.deref.ensures.value ∙ c.in_ok-numbers.ensures.told db e)

@@ -1,31 +1,14 @@
-use Rattle.std.proofs.Common.{◌≡◌, refl, ap, ◌∙◌, subst, Bool, true, false, IfOk}
+use Rattle.std.proofs.Common.{sym, ◌∙◌}
 use Rattle.change_check.proofs.Kept.{none_there, one_there, attrs_there}
-use Rattle.change_check.proofs.RowsFit.{moves, stand, no_relation, not_moved, not_standing, by_number}
+use Rattle.change_check.proofs.RowsFit.{no_relation}
 use Rattle.change_check.proofs.rows.rows_are_fit.Goals as goal
 
 pub returns-in-None-clause-told : goal.returns-in-None-clause-told
 returns-in-None-clause-told g c = λ db e.
     no_relation db c.args.rel.now c.args.remove.now c.args.add.now (none_there db c.args.rel.now _ (c.in_ok-info.ensures.told db e) c.in-None.is)
 
-pub returns-then-not-branch-clause-told : goal.returns-then-not-branch-clause-told
-returns-then-not-branch-clause-told g c = λ db e.
-    let there = one_there db c.args.rel.now _ _ (c.in_ok-info.ensures.told db e) c.in-Some.is in
-    let moved : moves db c.args.rel.now c.args.remove.now c.args.add.now ≡ false = cc (c.in_ok-rows_move.ensures.told db (c.relation.ensures.kept ∙ e), c.if-not-branch.true) in
-    not_moved db c.args.rel.now c.args.remove.now c.args.add.now there moved
-
-pub returns-then-not-branch-2-clause-told : goal.returns-then-not-branch-2-clause-told
-returns-then-not-branch-2-clause-told g c = λ db e.
+pub returns-in-Some-clause-told : goal.returns-in-Some-clause-told
+returns-in-Some-clause-told g c = λ db e.
     let there = one_there db c.args.rel.now _ _ (c.in_ok-info.ensures.told db e) c.in-Some.is in
     let attrs = attrs_there db c.args.rel.now _ _ (c.in_ok-info.ensures.told db e) c.in-Some.is in
-    let moved : moves db c.args.rel.now c.args.remove.now c.args.add.now ≡ true = cc (c.in_ok-rows_move.ensures.told db (c.relation.ensures.kept ∙ e), c.if-not-branch.false) in
-    let stands : stand c.in-Some.info.attrs c.args.remove.now c.args.add.now ≡ false = cc (c.in_ok-lists_stand.ensures, ap (λ attrs. stand attrs c.args.remove.now c.args.add.now) c.items.ensures, c.if-not-branch-2.true) in
-    not_standing db c.args.rel.now _ c.args.remove.now c.args.add.now there moved attrs stands
-
-pub returns-clause-told : goal.returns-clause-told
-returns-clause-told g c = λ db e.
-    let there = one_there db c.args.rel.now _ _ (c.in_ok-info.ensures.told db e) c.in-Some.is in
-    let attrs = attrs_there db c.args.rel.now _ _ (c.in_ok-info.ensures.told db e) c.in-Some.is in
-    let moved : moves db c.args.rel.now c.args.remove.now c.args.add.now ≡ true = cc (c.in_ok-rows_move.ensures.told db (c.relation.ensures.kept ∙ e), c.if-not-branch.false) in
-    let stands : stand c.in-Some.info.attrs c.args.remove.now c.args.add.now ≡ true = cc (c.in_ok-lists_stand.ensures, ap (λ attrs. stand attrs c.args.remove.now c.args.add.now) c.items.ensures, c.if-not-branch-2.false) in
-    subst (λ (b : Bool). IfOk c.few_stay.result (λ fit. fit ≡ b)) (by_number db c.args.rel.now _ c.args.remove.now c.args.add.now _ there moved attrs stands refl)
-    (c.few_stay.ensures.told db (c.rows_move.ensures.kept ∙ c.relation.ensures.kept ∙ e))
+    c.rows_have_parts.ensures.told db (c.relation.ensures.kept ∙ e) there (attrs ∙ sym c.items.ensures)

@@ -13,8 +13,8 @@ returns c =
     (c.in_ok-push-2.ensures.items
     ∙ ap (λ (ys : List Row). ys ++ c.in_ok-second.second ∷ [])
     (c.in_ok-push.ensures.items ∙ ap (λ (ys : List Row). ys ++ c.in_ok-first.first ∷ []) c.new-rows.ensures.items)
-    ∙ ap (λ (row : Row). c.in_ok-first.first ∷ row ∷ []) (c.in_ok-second.ensures ∙ ap relation_row c.in_ok-attribute.ensures)
-    ∙ ap (λ (row : Row). row ∷ relation_row (attribute_info c.args.self.now) ∷ []) (c.in_ok-first.ensures ∙ ap relation_row c.in_ok-relation.ensures))
+    ∙ ap (λ (row : Row). c.in_ok-first.first ∷ row ∷ []) c.in_ok-second.ensures
+    ∙ ap (λ (row : Row). row ∷ relation_row (attribute_info c.args.self.now) ∷ []) c.in_ok-first.ensures)
     (c.in_ok-push_relation_rows.ensures
     ∙ ap (λ (rs : List Relation). c.push-2.new.self.items ++ map relation_row (map (λ r. r.info) rs))
     (c.deref.ensures.value ∙ ap (λ (db : Db). db.relations) c.self.view_is)
