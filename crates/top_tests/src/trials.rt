@@ -1,9 +1,9 @@
 //! What the tests share.
 
-use crate::{World, ingres_top};
-use fault_io::{MemSink, MemSource, Sink};
-use std::alloc::{AllocError, Global};
-use std::test::*;
+use fault_io::{MemSink, MemSource, Source};
+use ingres_top::{World, ingres_top};
+use std::alloc::AllocGlobal;
+use std::process::Abort;
 
 /// Makes a relation with one row, and asks for it.
 pub(crate) const FIRST: &[u8] = b"create p (a = i2)\n\
@@ -31,40 +31,47 @@ pub(crate) const AGAIN: &[u8] = b"refused 15 line 1: name in use\n\
 /// What is printed where the first line has a fault.
 pub(crate) const SYNTAX: &[u8] = b"refused 1 line 1: syntax\n";
 
-pub(crate) fn words(alloc: Global, texts: &[&str]) -> Result<Vec<String>, Fail> {
-    let mut words = Vec::new(alloc);
+pub(crate) fn words(rt: &(impl Abort + AllocGlobal), texts: &[&str]) -> Vec<String> {
+    let mut words = Vec::new(rt.alloc());
     for text in texts {
-        words.push(String::from_str(alloc, text)?)?;
+        let word = String::from_str(rt.alloc(), text).expect(rt, "memory");
+        words.push(word).expect(rt, "memory");
     }
-    Ok(words)
+    words
 }
 
-pub(crate) fn joined(alloc: Global, parts: &[&[u8]]) -> Result<Vec<u8>, AllocError> {
-    let mut all = Vec::new(alloc);
-    for part in parts {
-        all.extend_from_slice(part)?;
-    }
-    Ok(all)
+pub(crate) fn joined(rt: &(impl Abort + AllocGlobal), parts: &[&[u8]]) -> Vec<u8> {
+    parts.concat(rt.alloc()).expect(rt, "memory")
 }
 
-/// The status for a script of ann's whose source fails at these calls, and the sink after it.
-pub(crate) fn outcome<K: Sink + Drop>(
-    alloc: Global,
-    script: &[u8],
-    failing: &[u64],
-    sink: K,
-) -> Result<(u8, K), Fail> {
-    let source = MemSource::new(
-        Vec::from_slice(alloc, script)?,
-        Vec::from_slice(alloc, failing)?,
-    );
-    let words = words(alloc, &["try", "ann"])?;
-    let (status, world) = ingres_top(alloc, &words, World { source, sink });
-    Ok((status, world.sink))
+/// A source of these bytes, whose calls with these numbers fail.
+pub(crate) fn source(rt: &(impl Abort + AllocGlobal), script: &[u8], failing: &[u64]) -> MemSource {
+    MemSource::new(
+        Vec::from_slice(rt.alloc(), script).expect(rt, "memory"),
+        Vec::from_slice(rt.alloc(), failing).expect(rt, "memory"),
+    )
 }
 
-/// Whether the script of ann's prints this, and ends with 0.
-pub(crate) fn gives(alloc: Global, script: &[u8], output: &[u8]) -> Result<bool, Fail> {
-    let (status, sink) = outcome(alloc, script, &[], MemSink::new(alloc, Vec::new(alloc)))?;
-    Ok(status == 0 && sink.bytes() == output)
+/// A sink whose calls with these numbers fail.
+pub(crate) fn sink(rt: &(impl Abort + AllocGlobal), failing: &[u64]) -> MemSink {
+    let failing = Vec::from_slice(rt.alloc(), failing).expect(rt, "memory");
+    MemSink::new(rt.alloc(), failing)
+}
+
+/// Whether ann's script ends with this status, and the sink then has these bytes.
+pub(crate) fn ends<S: Source + Drop>(
+    rt: &(impl Abort + AllocGlobal),
+    source: S,
+    sink: MemSink,
+    status: u8,
+    output: &[u8],
+) -> bool {
+    let words = words(rt, &["try", "ann"]);
+    let (answer, world) = ingres_top(rt.alloc(), &words, World { source, sink });
+    answer == status && world.sink.bytes() == output
+}
+
+/// Whether ann's script prints this, and ends with 0.
+pub(crate) fn gives(rt: &(impl Abort + AllocGlobal), script: &[u8], output: &[u8]) -> bool {
+    ends(rt, source(rt, script, &[]), sink(rt, &[]), 0, output)
 }
