@@ -1,6 +1,5 @@
 -- What a run keeps: what was taken from the source, and what was given to the sink.
-use Rattle.std.proofs.Common.{◌≡◌, ◌⊎◌, inl, inr, ℕ, ◌+◌, ◌≤◌, ◌<◌, Bool, true, false, List, [], ◌∷◌, ◌++◌, length, take, drop, None, Some, refl, sym, ap, subst, ◌∙◌, append_assoc, append-nil, arith, length-append}
-use Rattle.std.specs.Prelude.{IfSome, ◌↔◌}
+use Rattle.std.proofs.Common.{◌≡◌, inl, inr, ℕ, ◌+◌, ◌≤◌, Bool, true, false, List, [], ◌++◌, length, take, drop, None, Some, refl, sym, ap, subst, ◌∙◌, append_assoc, append-nil, arith, length-append}
 use Rattle.std.specs.List.{list_all}
 use Rattle.std.specs.declared.option.Option.{Option}
 use Rattle.std.specs.Io.KnownBytes.{Appends, Consumes, Keeps, IsAtEnd}
@@ -14,7 +13,7 @@ use Rattle.quel_meaning.specs.Session.{Session, printed, output, session_after, 
 use Rattle.quel_meaning.specs.State.{State}
 use Rattle.session_run.specs.Doing.{Meaning}
 use Rattle.session_run.specs.Hearing.{Heard, counted_lines, lines_done, later, Begins, Hears, HearsPartly}
-use Rattle.session_run.specs.Runs.{whole, within, IsDone, IsPartlyDone, CutOff, IsCutOff, KeptUp, IsKeptUp, BrokenOff, IsBrokenOff}
+use Rattle.session_run.specs.Runs.{whole, within, IsDone, IsPartlyDone, IsCutOff, IsKeptUp, IsBrokenOff}
 use Rattle.session_run.proofs.Heard.{begins_both}
 use Rattle.session_run.proofs.Lines.{hears_whole, hears_end}
 

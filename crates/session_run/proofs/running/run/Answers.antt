@@ -1,14 +1,12 @@
-use Rattle.std.proofs.Common.{rules, arith, ◌≡◌, ◌≤◌, ◌+◌, ◌∙◌, sym, subst, ap, ℕ, List, [], true}
-use Rattle.std.specs.List.{list_all}
+use Rattle.std.proofs.Common.{arith, ◌∙◌, sym, subst, ℕ, List, [], true}
 use Rattle.std.specs.Io.KnownBytes.{Appends}
 use Rattle.std.proofs.KnownBytes.{Appends-nil}
 use Rattle.fault_io.specs.Told.{IsFront, GrewBy}
-use Rattle.quel_meaning.specs.Lines.{is_no_newline}
 use Rattle.quel_meaning.specs.Session.{printed}
 use Rattle.session_run.specs.Hearing.{later}
 use Rattle.std.proofs.lemmas.Grind.{common_steps}
 use Rattle.session_run.proofs.Heard.{same_hears, same_partly}
-use Rattle.session_run.proofs.Runs.{Runs, goes_on, partly_read, partly_heard, partly_closed, reads_none, closes, quits, keeps_up, keeps_up_read, breaks_off, cuts_off}
+use Rattle.session_run.proofs.Runs.{goes_on, partly_read, partly_heard, partly_closed, reads_none, closes, quits, keeps_up, keeps_up_read, breaks_off, cuts_off}
 use Rattle.session_run.proofs.running.run.Goals as goal
 
 pub returns-in_err-count-clause-partly : goal.returns-in_err-count-clause-partly
