@@ -13,7 +13,7 @@ use Rattle.quel_meaning.specs.Session.{Session, session, session_of_lines, outpu
 use Rattle.quel_meaning.specs.State.{State}
 use Rattle.session_run.specs.Doing.{Meaning}
 use Rattle.session_run.specs.Runs as runs
-use Rattle.ingres_top.specs.Top.{nothing_yet, whole, IsDone, IsPartlyDone, IsCutOff, KeptUp, IsKeptUp, IsBrokenOff}
+use Rattle.ingres_top.specs.Top.{nothing_yet, whole, IsDone, IsPartlyDone, IsCutOff, IsKeptUp, IsBrokenOff}
 use Rattle.ingres_top.specs.Top.{within as lines_within}
 
 -- what each statement means for the user
