@@ -1,15 +1,20 @@
 -- What a run of a script says of sessions, as the top call says it.
-use Rattle.std.proofs.Common.{◌≡◌, ◌⊎◌, refl, subst, ℕ, true, List, [], Some, None}
+use Rattle.std.proofs.Common.{◌≡◌, ◌⊎◌, ◌∙◌, refl, sym, subst, ℕ, true, false, List, [], Some, None, append-nil, arith}
+use Rattle.std.proofs.KnownBytes.{Appends-nil}
 use Rattle.std.specs.declared.option.Option.{Option}
 use Rattle.std.specs.Io.KnownBytes.{Appends}
 use Rattle.fault_io.specs.Told.{IsFront, GrewBy}
 use Rattle.plain_statements.specs.Built.{built}
 use Rattle.quel_meaning.specs.Meaning.{meaning}
-use Rattle.quel_meaning.specs.Session.{Session, session, output}
+use Rattle.quel_meaning.specs.Happening.{over}
+use Rattle.quel_meaning.specs.Lines.{lines_of}
+use Rattle.quel_meaning.specs.Running.{after_lines}
+use Rattle.quel_meaning.specs.Session.{Session, session, session_of_lines, output, printed}
 use Rattle.quel_meaning.specs.State.{State}
 use Rattle.session_run.specs.Doing.{Meaning}
 use Rattle.session_run.specs.Runs as runs
-use Rattle.ingres_top.specs.Top.{nothing_yet, whole, IsDone, IsPartlyDone, IsCutOff}
+use Rattle.ingres_top.specs.Top.{nothing_yet, whole, IsDone, IsPartlyDone, IsCutOff, IsKeptUp, IsBrokenOff}
+use Rattle.ingres_top.specs.Top.{within as lines_within}
 
 -- what each statement means for the user
 abbrev pub of_user : List ℕ → Meaning
@@ -32,6 +37,35 @@ cut_off_is : (user : List ℕ) (left0 left1 w0 w1 : Option (List ℕ)) → runs.
 cut_off_is user None left1 w0 w1 cut = cut
 cut_off_is user (Some script) left1 w0 w1 cut = record { read = cut.read; goes_on = cut.goes_on; printed = cut.printed }
 
+kept_up_is : (user : List ℕ) (left0 left1 w0 w1 : Option (List ℕ)) → runs.IsKeptUp (of_user user) (nothing_yet user) left0 left1 w0 w1 → IsKeptUp user left0 left1 w0 w1
+kept_up_is user None left1 w0 w1 kept = kept
+kept_up_is user (Some script) left1 w0 w1 kept =
+    record { heard = kept.heard; piece = kept.piece; small = kept.small; read = kept.read; goes_on = kept.goes_on; printed = kept.printed }
+
+broken_off_is : (user : List ℕ) (left0 left1 w0 w1 : Option (List ℕ)) → runs.IsBrokenOff (of_user user) (nothing_yet user) left0 left1 w0 w1 → IsBrokenOff user left0 left1 w0 w1
+broken_off_is user None left1 w0 w1 broken = broken
+broken_off_is user (Some script) left1 w0 w1 broken = record { heard = broken.heard; read = broken.read; goes_on = broken.goes_on; printed = broken.printed }
+
+-- of a script of which nothing is read nothing is heard
+no_lines : (user : List ℕ) (script : List ℕ) → output (lines_within 0 user script) ≡ []
+unfolding session_of_lines after_lines over lines_of printed
+no_lines user script = refl
+
+none_quits : (user : List ℕ) (script : List ℕ) → (lines_within 0 user script).quit ≡ false
+unfolding session_of_lines after_lines over lines_of
+none_quits user script = refl
+
+pub nothing_read : (user : List ℕ) (left written : Option (List ℕ)) → IsKeptUp user left left written written
+nothing_read user None written = tt
+nothing_read user (Some script) written = record {
+  heard = 0;
+  piece = 0;
+  small = omega arith;
+  read = refl;
+  goes_on = none_quits user script;
+  printed = ([], Appends-nil written, ([], sym (append-nil (output (lines_within 0 user script)) ∙ no_lines user script)));
+}
+
 -- what is said of statements that begin so is said of the user's that work on nothing yet
 pub begins_so : (user begun : List ℕ) (state : State) (says : List ℕ → State → Type 0) → begun ≡ user → state ≡ nothing_yet user → says begun state → says user (nothing_yet user)
 begins_so user begun state says same_user same_state said =
@@ -51,3 +85,13 @@ pub cut_off_so : (user begun : List ℕ) (state : State) (left0 left1 w0 w1 : Op
     → runs.IsCutOff (of_user begun) state left0 left1 w0 w1 → IsCutOff user left0 left1 w0 w1
 cut_off_so user begun state left0 left1 w0 w1 same_user same_state cut =
     cut_off_is user left0 left1 w0 w1 (begins_so user begun state (λ u s. runs.IsCutOff (of_user u) s left0 left1 w0 w1) same_user same_state cut)
+
+pub kept_up_so : (user begun : List ℕ) (state : State) (left0 left1 w0 w1 : Option (List ℕ)) → begun ≡ user → state ≡ nothing_yet user
+    → runs.IsKeptUp (of_user begun) state left0 left1 w0 w1 → IsKeptUp user left0 left1 w0 w1
+kept_up_so user begun state left0 left1 w0 w1 same_user same_state kept =
+    kept_up_is user left0 left1 w0 w1 (begins_so user begun state (λ u s. runs.IsKeptUp (of_user u) s left0 left1 w0 w1) same_user same_state kept)
+
+pub broken_off_so : (user begun : List ℕ) (state : State) (left0 left1 w0 w1 : Option (List ℕ)) → begun ≡ user → state ≡ nothing_yet user
+    → runs.IsBrokenOff (of_user begun) state left0 left1 w0 w1 → IsBrokenOff user left0 left1 w0 w1
+broken_off_so user begun state left0 left1 w0 w1 same_user same_state broken =
+    broken_off_is user left0 left1 w0 w1 (begins_so user begun state (λ u s. runs.IsBrokenOff (of_user u) s left0 left1 w0 w1) same_user same_state broken)

@@ -2,7 +2,7 @@
 
 ghost use Rattle.std.specs.Prelude.{◌≡◌, ◌⊎◌, ◌↔◌, [], map, string_bytes, true, IfOk, IfSome, OnOk, IsErrOf};
 ghost use Rattle.fault_io.specs.Causes.{Rose};
-ghost use Rattle.ingres_top.specs.Top.{are_try, user_of, nothing_yet, IsDone, IsPartlyDone, IsCutOff, GaveTooMuch};
+ghost use Rattle.ingres_top.specs.Top.{are_try, user_of, nothing_yet, IsDone, IsPartlyDone, IsCutOff, IsKeptUp, IsBrokenOff, GaveTooMuch};
 
 use calculus::{Name, OutOfMemory};
 use fault_io::{Sink, Source};
@@ -38,6 +38,8 @@ pub(crate) fn run_try<S: Source, K: Sink>(
     ensures done { OnOk result (IsDone (user_of (map string_bytes words.now)) (S.left source.old) (S.left source.new) (K.written sink.old) (K.written sink.new)) }
     ensures partly { IsPartlyDone (user_of (map string_bytes words.now)) (S.left source.old) (K.written sink.old) (K.written sink.new) }
     ensures cut_off { IsErrOf result RunFault.TooLong → IsCutOff (user_of (map string_bytes words.now)) (S.left source.old) (S.left source.new) (K.written sink.old) (K.written sink.new) }
+    ensures keeps_up { IsKeptUp (user_of (map string_bytes words.now)) (S.left source.old) (S.left source.new) (K.written sink.old) (K.written sink.new) }
+    ensures broken_off { IsErrOf result RunFault.Source → IsBrokenOff (user_of (map string_bytes words.now)) (S.left source.old) (S.left source.new) (K.written sink.old) (K.written sink.new) }
 
     ensures source_fault { IsErrOf result RunFault.Source → Rose (S.faults source.old) (S.faults source.new) }
     ensures sink_fault { IsErrOf result RunFault.Sink

@@ -4,3 +4,4 @@ pub mod Carried
 pub mod Effects
 pub mod Planned
 pub mod Runs
+pub mod Stops

@@ -2,3 +2,4 @@ pub mod Built
 pub mod Doable
 pub mod Plans
 pub mod Standing
+pub mod Stopping

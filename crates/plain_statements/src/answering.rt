@@ -6,14 +6,12 @@ ghost use Rattle.calculus.specs.Who.{Free};
 ghost use Rattle.quel_meaning.specs.Meaning.{answer_reply};
 ghost use Rattle.plain_statements.specs.Doable.{AreDoable};
 
-use crate::refusing::refused;
+use crate::Stopped;
+use crate::refusing::answer_to;
 use am_traits::Base;
 use calculus::{Asked, OutOfMemory, Reply};
-use query_tables::{QueryFault, tables_of};
+use query_tables::tables_of;
 use std::alloc::Global;
-
-/// The number of a query of which a target has no value.
-const NO_VALUE: u8 = 20;
 
 /// The tables of queries, or the refusal where a target has no value.
 pub(crate) fn answered<B: Base>(
@@ -27,8 +25,6 @@ pub(crate) fn answered<B: Base>(
 {
     match tables_of(alloc, base, asked) {
         Ok(tables) => Ok(Reply::Tables(tables)),
-        Err(QueryFault::NoValue { at: _ }) => Ok(refused(NO_VALUE)),
-        Err(QueryFault::Base(_)) => Err(OutOfMemory),
-        Err(QueryFault::OutOfMemory) => Err(OutOfMemory),
+        Err(fault) => answer_to(Stopped::from(fault)),
     }
 }

@@ -11,13 +11,7 @@ use crate::Stopped;
 use am_traits::Base;
 use calculus::{DbChange, Pair, Update};
 use std::alloc::Global;
-use update_change::{UpdateFault, change_of};
-
-/// The number of an update by which a row would have different new rows.
-const CONTENDED: u8 = 22;
-
-/// The number of an update by which a relation would have too many rows.
-const TOO_MANY: u8 = 29;
+use update_change::change_of;
 
 /// The change that an update makes, of whose pairs these are all.
 pub(crate) fn changed_by<B: Base>(
@@ -30,17 +24,6 @@ pub(crate) fn changed_by<B: Base>(
         → Plans (λ change. updated db Free u.now ≡ Ok change) (λ number. updated db Free u.now ≡ Err number) result }
     ensures kept { B.database base.new ≡ B.database base.old }
 {
-    match change_of(alloc, base, u, pairs) {
-        Ok(change) => Ok(change),
-        Err(
-            UpdateFault::Contended {
-                old: _,
-                first: _,
-                second: _,
-            },
-        ) => Err(Stopped::No(CONTENDED)),
-        Err(UpdateFault::TooMany) => Err(Stopped::No(TOO_MANY)),
-        Err(UpdateFault::Base(_)) => Err(Stopped::OutOfMemory),
-        Err(UpdateFault::OutOfMemory) => Err(Stopped::OutOfMemory),
-    }
+    let change = change_of(alloc, base, u, pairs)?;
+    Ok(change)
 }

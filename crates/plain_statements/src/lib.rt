@@ -15,6 +15,3 @@ mod working;
 
 pub use session::PlainStatements;
 pub(crate) use stopped::Stopped;
-
-#[cfg(test)]
-mod tests;

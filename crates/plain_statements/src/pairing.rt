@@ -12,15 +12,8 @@ ghost use Rattle.plain_statements.specs.Plans.{Plans, ArePairs};
 use crate::Stopped;
 use am_traits::Base;
 use calculus::{Pair, Update};
-use decompose::QueryFault;
-use stage_proc::{PairFault, pairs_of};
+use stage_proc::pairs_of;
 use std::alloc::Global;
-
-/// The number of an update of which a target has no value.
-const NO_VALUE: u8 = 20;
-
-/// The number of an update of which a value doesn't fit its attribute.
-const NOT_FIT: u8 = 21;
 
 /// The pairs of an update without aggregates, for nobody in particular.
 pub(crate) fn paired<B: Base>(alloc: Global, base: &mut B, u: &Update) -> Result<Vec<Pair>, Stopped>
@@ -29,12 +22,6 @@ pub(crate) fn paired<B: Base>(alloc: Global, base: &mut B, u: &Update) -> Result
     ensures told { (db : Db) → B.database base.old ≡ Some db → Plans (λ ps. ArePairs db u.now ps.items) (λ number. updated db Free u.now ≡ Err number) result }
     ensures kept { B.database base.new ≡ B.database base.old }
 {
-    match pairs_of(alloc, base, u, &[]) {
-        Ok(pairs) => Ok(pairs),
-        Err(PairFault::NotFit { row: _ }) => Err(Stopped::No(NOT_FIT)),
-        Err(PairFault::Query(QueryFault::NoValue { at: _ })) => Err(Stopped::No(NO_VALUE)),
-        Err(PairFault::Query(QueryFault::Base(_))) => Err(Stopped::OutOfMemory),
-        Err(PairFault::Query(QueryFault::OutOfMemory)) => Err(Stopped::OutOfMemory),
-        Err(PairFault::OutOfMemory) => Err(Stopped::OutOfMemory),
-    }
+    let pairs = pairs_of(alloc, base, u, &[])?;
+    Ok(pairs)
 }

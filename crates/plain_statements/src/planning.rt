@@ -13,8 +13,8 @@ use crate::changing::changed_by;
 use crate::pairing::paired;
 use am_traits::Base;
 use calculus::{DbChange, Update};
-use update_laws::update_is_spelled;
 use std::alloc::Global;
+use update_laws::update_is_spelled;
 
 /// The change that an update makes of a database, which is lawful, or the number of what refuses it.
 pub(crate) fn update_planned<B: Base>(

@@ -1,10 +1,12 @@
 //! The reply to a statement that is refused.
 
-ghost use Rattle.std.specs.Prelude.{◌≡◌};
+ghost use Rattle.std.specs.Prelude.{◌≡◌, ℕ, Ok, IfOk};
 ghost use Rattle.calculus.specs.declared.reply.Reply.TheVariants.{Refused};
 ghost use Rattle.quel_meaning.specs.Copying.{refusal};
+ghost use Rattle.plain_statements.specs.declared.stopped.Stopped.TheVariants.{No};
 
-use calculus::{Refusal, Reply};
+use crate::Stopped;
+use calculus::{OutOfMemory, Refusal, Reply};
 
 /// A refusal with this number, of no line and no row.
 pub(crate) fn refused(code: u8) -> Reply
@@ -15,4 +17,15 @@ pub(crate) fn refused(code: u8) -> Reply
         line: 0,
         row: 0,
     })
+}
+
+/// The reply where nothing is made for a statement: the refusal by its number, where it has one.
+pub(crate) fn answer_to(stopped: Stopped) -> Result<Reply, OutOfMemory>
+    ensures refused { (number : ℕ) → stopped ≡ No number → result ≡ Ok (Refused (refusal number)) }
+    ensures only { IfOk result (λ reply. (number : ℕ) × (stopped ≡ No number) × (reply ≡ Refused (refusal number))) }
+{
+    match stopped {
+        Stopped::No(number) => Ok(refused(number)),
+        Stopped::OutOfMemory => Err(OutOfMemory),
+    }
 }

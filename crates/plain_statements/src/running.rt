@@ -1,11 +1,9 @@
 //! Runs a statement of the user's on a database in memory and the range variables.
 
-ghost use Rattle.std.specs.Prelude.{◌≡◌, ℕ, true, false, None, Result as Made, IfOk, IfSome, OnErr};
+ghost use Rattle.std.specs.Prelude.{◌≡◌, ℕ, true, false, None, Result as Made, IfOk, IsOk, IfSome, OnErr};
 ghost use Rattle.calculus.specs.declared.request.Checked.{Checked as Tree};
-ghost use Rattle.calculus.specs.declared.reply.Reply.TheVariants.{Refused};
 ghost use Rattle.calculus.specs.declared.statement.Statement.TheVariants.{Range};
 ghost use Rattle.calculus.specs.Finding.{found};
-ghost use Rattle.quel_meaning.specs.Copying.{refusal};
 ghost use Rattle.quel_meaning.specs.IsWritten.{is_written};
 ghost use Rattle.quel_meaning.specs.Meaning.{meaning, is_range, range_outcome};
 ghost use Rattle.quel_meaning.specs.Ranges.{Ranges};
@@ -14,7 +12,6 @@ ghost use Rattle.owner_session_laws.specs.Freely.{free_tree_outcome};
 ghost use Rattle.owner_session_laws.specs.Plain.{IsPlain, IsPlainState};
 ghost use Rattle.quel_resolve.specs.Built.{is_built};
 ghost use Rattle.plain_base.specs.Shown.{database_of};
-ghost use Rattle.plain_statements.specs.declared.stopped.Stopped.TheVariants.{No};
 ghost use Rattle.plain_statements.specs.Built.{built};
 ghost use Rattle.plain_statements.specs.Doable.{IsDoable};
 ghost use Rattle.plain_statements.specs.Plans.{IsMade};
@@ -22,7 +19,7 @@ ghost use Rattle.plain_statements.specs.Standing.{state_of, outcome_of};
 
 use crate::Stopped;
 use crate::carrying::tree_done;
-use crate::refusing::refused;
+use crate::refusing::{answer_to, refused};
 use crate::trees::tree_of;
 use am_traits::Base;
 use calculus::{Checked, Name, OutOfMemory, Reply, Statement, TryCopy};
@@ -57,16 +54,6 @@ fn declared(
         }
         Ok(None) => Ok(refused(NO_RELATION)),
         Err(_) => Err(OutOfMemory),
-    }
-}
-
-/// The reply where nothing is made for a statement.
-fn answer_to(stopped: Stopped) -> Result<Reply, OutOfMemory>
-    ensures { IfOk result (λ reply. (number : ℕ) × (stopped ≡ No number) × (reply ≡ Refused (refusal number))) }
-{
-    match stopped {
-        Stopped::No(number) => Ok(refused(number)),
-        Stopped::OutOfMemory => Err(OutOfMemory),
     }
 }
 
@@ -155,6 +142,7 @@ pub(crate) fn run(
     requires written { is_written s.now ≡ true }
     ensures outcome { IfOk result (λ reply. meaning built (state_of (database_of base.old) ranges.old) user.now s.now ≡ outcome_of (database_of base.new) ranges.new reply) }
     ensures plain { IsPlainState (state_of (database_of base.new) ranges.new) user.now }
+    ensures not_built { is_built s.now ≡ false → IsOk result }
 {
     if is_built(s) {
         built_run(alloc, base, ranges, user, s)

@@ -1,12 +1,28 @@
 //! Why nothing is made for a statement.
 
 ghost use Rattle.std.specs.Prelude.{◌≡◌};
-ghost use Rattle.plain_statements.specs.declared.stopped.Stopped.TheVariants.{OutOfMemory as NoMemory};
+ghost use Rattle.plain_statements.specs.Stopping.{change_stop, check_stop, pair_stop, query_stop, utility_stop};
 
-use calculus::OutOfMemory;
+use decompose::QueryFault;
+use quel_resolve::CheckFault;
+use stage_proc::PairFault;
+use update_change::UpdateFault;
+use utilities::UtilFault;
+
+/// The number of a query or an update of which a target has no value.
+const NO_VALUE: u8 = 20;
+
+/// The number of an update of which a value doesn't fit its attribute.
+const NOT_FIT: u8 = 21;
+
+/// The number of an update by which a row would have different new rows.
+const CONTENDED: u8 = 22;
+
+/// The number of an update by which a relation would have too many rows.
+const TOO_MANY: u8 = 29;
 
 /// Why nothing is made for a statement.
-#[derive(Clone, Copy, Debug, PartialEq, Eq)]
+#[derive(Clone, Copy)]
 pub enum Stopped {
     /// The number of what refuses the statement.
     No(u8),
@@ -14,10 +30,69 @@ pub enum Stopped {
     OutOfMemory,
 }
 
-impl From<OutOfMemory> for Stopped {
-    ghost from_gives = { λ _ fault. fault ≡ NoMemory };
+impl From<QueryFault> for Stopped {
+    ghost from_gives = { λ fault stopped. stopped ≡ query_stop fault };
 
-    fn from(_error: OutOfMemory) -> Stopped {
-        Stopped::OutOfMemory
+    fn from(fault: QueryFault) -> Stopped {
+        match fault {
+            QueryFault::NoValue { at: _ } => Stopped::No(NO_VALUE),
+            QueryFault::Base(_) => Stopped::OutOfMemory,
+            QueryFault::OutOfMemory => Stopped::OutOfMemory,
+        }
+    }
+}
+
+impl From<PairFault> for Stopped {
+    ghost from_gives = { λ fault stopped. stopped ≡ pair_stop fault };
+
+    fn from(fault: PairFault) -> Stopped {
+        match fault {
+            PairFault::NotFit { row: _ } => Stopped::No(NOT_FIT),
+            PairFault::Query(fault) => Stopped::from(fault),
+            PairFault::OutOfMemory => Stopped::OutOfMemory,
+        }
+    }
+}
+
+impl From<UpdateFault> for Stopped {
+    ghost from_gives = { λ fault stopped. stopped ≡ change_stop fault };
+
+    fn from(fault: UpdateFault) -> Stopped {
+        match fault {
+            UpdateFault::Contended {
+                old: _,
+                first: _,
+                second: _,
+            } => Stopped::No(CONTENDED),
+            UpdateFault::TooMany => Stopped::No(TOO_MANY),
+            UpdateFault::Base(_) => Stopped::OutOfMemory,
+            UpdateFault::OutOfMemory => Stopped::OutOfMemory,
+        }
+    }
+}
+
+impl From<UtilFault> for Stopped {
+    ghost from_gives = { λ fault stopped. stopped ≡ utility_stop fault };
+
+    fn from(fault: UtilFault) -> Stopped {
+        match fault {
+            UtilFault::No(number) => Stopped::No(number),
+            UtilFault::NotBuilt => Stopped::OutOfMemory,
+            UtilFault::Base(_) => Stopped::OutOfMemory,
+            UtilFault::OutOfMemory => Stopped::OutOfMemory,
+        }
+    }
+}
+
+impl From<CheckFault> for Stopped {
+    ghost from_gives = { λ fault stopped. stopped ≡ check_stop fault };
+
+    fn from(fault: CheckFault) -> Stopped {
+        match fault {
+            CheckFault::No(number) => Stopped::No(number),
+            CheckFault::NotBuilt => Stopped::OutOfMemory,
+            CheckFault::Base(_) => Stopped::OutOfMemory,
+            CheckFault::OutOfMemory => Stopped::OutOfMemory,
+        }
     }
 }

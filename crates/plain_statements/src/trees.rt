@@ -12,7 +12,7 @@ use crate::Stopped;
 use am_traits::Base;
 use calculus::{Checked, Name, Statement};
 use quel_check::RangeTable;
-use quel_resolve::{CheckFault, resolve};
+use quel_resolve::resolve;
 use std::alloc::Global;
 
 /// The tree of a statement that has what each one has that is read of a text, in a database that is
@@ -29,11 +29,6 @@ pub(crate) fn tree_of<B: Base>(
         → Plans (λ tree. (resolved db user.now ranges.now s.now ≡ Ok tree) × IsDoable db tree) (λ number. resolved db user.now ranges.now s.now ≡ Err number) result }
     ensures kept { B.database base.new ≡ B.database base.old }
 {
-    match resolve(alloc, s, user, ranges, base) {
-        Ok(tree) => Ok(tree),
-        Err(CheckFault::No(number)) => Err(Stopped::No(number)),
-        Err(CheckFault::NotBuilt) => Err(Stopped::OutOfMemory),
-        Err(CheckFault::Base(_)) => Err(Stopped::OutOfMemory),
-        Err(CheckFault::OutOfMemory) => Err(Stopped::OutOfMemory),
-    }
+    let tree = resolve(alloc, s, user, ranges, base)?;
+    Ok(tree)
 }

@@ -12,7 +12,7 @@ use crate::Stopped;
 use am_traits::Base;
 use calculus::{DbChange, Name, RelKey, Utility};
 use std::alloc::Global;
-use utilities::{UtilFault, plan};
+use utilities::plan;
 
 /// What is known of the names of a key.
 fn read_key(key: &RelKey)
@@ -45,11 +45,6 @@ pub(crate) fn work_planned<B: Base>(
     ensures kept { B.database base.new ≡ B.database base.old }
 {
     read_work(work);
-    match plan(alloc, base, user, work) {
-        Ok(change) => Ok(change),
-        Err(UtilFault::No(number)) => Err(Stopped::No(number)),
-        Err(UtilFault::NotBuilt) => Err(Stopped::OutOfMemory),
-        Err(UtilFault::Base(_)) => Err(Stopped::OutOfMemory),
-        Err(UtilFault::OutOfMemory) => Err(Stopped::OutOfMemory),
-    }
+    let change = plan(alloc, base, user, work)?;
+    Ok(change)
 }

@@ -1,5 +1,5 @@
 -- A batch, statement by statement.
-use Rattle.std.proofs.Common.{◌≡◌, refl, sym, ap, subst, ◌∙◌, ℕ, ◌<◌, ◌≤◌, List, [], ◌∷◌, ◌++◌, length, Some, None, arith, append-nil}
+use Rattle.std.proofs.Common.{◌≡◌, refl, sym, ap, subst, ◌∙◌, ℕ, ◌<◌, List, ◌++◌, length, Some, None, arith, append-nil}
 use Rattle.calculus.specs.declared.statement.Statement.{Statement}
 use Rattle.std.specs.Prelude.{Ok, Err}
 use Rattle.quel_parse.specs.declared.next.ParseFault.{ParseFault}
@@ -11,7 +11,7 @@ use Rattle.quel_grammar.specs.NextReader.{next_at}
 use Rattle.quel_grammar.proofs.Answered.{reads}
 use Rattle.quel_grammar.proofs.Further.{further}
 use Rattle.quel_meaning.specs.Batch.{MovesOn, placed_at, batch_from, batch_of}
-use Rattle.quel_meaning.specs.Happening.{Kept, After, quiet, refused, and_then}
+use Rattle.quel_meaning.specs.Happening.{Kept, After, quiet, refused}
 use Rattle.quel_meaning.specs.Running.{after_statement, after_outcome, after_batch, at_line}
 use Rattle.quel_meaning.specs.Printed.{reply_bytes, refusal_bytes}
 use Rattle.quel_meaning.specs.State.{State, Outcome}

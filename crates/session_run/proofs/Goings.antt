@@ -1,12 +1,12 @@
 -- Parts of a session one after the other.
-use Rattle.std.proofs.Common.{◌≡◌, refl, sym, ap, subst, ◌∙◌, ℕ, ◌+◌, ◌<◌, ◌≤◌, List, [], ◌∷◌, ◌++◌, append_assoc, append-nil, length, drop, map}
+use Rattle.std.proofs.Common.{◌≡◌, refl, sym, ap, subst, ◌∙◌, ℕ, ◌+◌, ◌<◌, ◌≤◌, List, ◌∷◌, ◌++◌, append_assoc, append-nil, length, drop, map}
 use Rattle.std.proofs.Math.ListN.{get_or}
 use Rattle.std.proofs.lemmas.List.{drop_more, drop_all}
 use Rattle.monitor.specs.Seen.{seen_part}
 use Rattle.monitor.specs.declared.line.Part.{Part as MadePart}
 use Rattle.quel_meaning.specs.Monitor.{Part, parts_of}
 use Rattle.quel_meaning.specs.Running.{Deeper, after_line, after_part}
-use Rattle.quel_meaning.specs.Happening.{Setting, Kept, After, quiet, behind, and_then, over}
+use Rattle.quel_meaning.specs.Happening.{Setting, Kept, After, quiet, and_then, over}
 use Rattle.quel_meaning.specs.Session.{printed}
 use Rattle.quel_meaning.proofs.Steps.{printed_append}
 use Rattle.session_run.specs.Doing.{Did, Goes}

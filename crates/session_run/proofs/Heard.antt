@@ -1,12 +1,12 @@
 -- Pieces of a script one after the other.
-use Rattle.std.proofs.Common.{◌≡◌, refl, sym, ap, subst, ◌∙◌, ℕ, Bool, true, List, [], ◌∷◌, ◌++◌, append_assoc, append-nil, length}
+use Rattle.std.proofs.Common.{◌≡◌, refl, sym, ap, subst, ◌∙◌, ℕ, true, List, [], ◌∷◌, ◌++◌, append_assoc, length}
 use Rattle.std.specs.declared.option.Option.{Option}
 use Rattle.std.specs.Io.KnownBytes.{Appends}
 use Rattle.std.proofs.KnownBytes.{Appends-nil, Appends-trans}
 use Rattle.std.specs.Prelude.{OnOk, Result, Ok, Err}
 use Rattle.std.specs.List.{list_all}
 use Rattle.fault_io.specs.Told.{IsFront, GrewBy}
-use Rattle.quel_meaning.specs.Happening.{Kept, After, quiet}
+use Rattle.quel_meaning.specs.Happening.{Kept, After}
 use Rattle.quel_meaning.specs.Lines.{is_no_newline}
 use Rattle.quel_meaning.specs.Running.{Deeper, after_line}
 use Rattle.quel_meaning.specs.Session.{printed, files_of}

@@ -1,14 +1,14 @@
 -- Lines of a script that is heard byte by byte.
-use Rattle.std.proofs.Common.{◌≡◌, ℕ, Bool, true, false, eqb, ltb, List, [], ◌∷◌, ◌++◌, refl, sym, ap, subst, ◌∙◌, append_assoc, append-nil, length, arith, ◌-◌, ◌<◌, suc, length-append}
+use Rattle.std.proofs.Common.{◌≡◌, ℕ, Bool, true, false, eqb, List, [], ◌∷◌, ◌++◌, refl, sym, ap, subst, ◌∙◌, append_assoc, append-nil, length, arith, ◌-◌, ◌<◌, suc, length-append}
 use Rattle.std.proofs.Math.Seq.{get_or-append_seam}
-use Rattle.std.specs.Prelude.{◌&&◌, ◌==◌, not, filter, nat_lt, slice_index}
+use Rattle.std.specs.Prelude.{◌&&◌, ◌==◌, not, nat_lt, slice_index}
 use Rattle.std.proofs.lemmas.Bool.{lt-ltb}
 use Rattle.std.specs.List.{list_all}
 use Rattle.std.specs.Io.BufRead.{ends_with_byte}
 use Rattle.fault_io.specs.Told.{IsFront}
 use Rattle.quel_meaning.specs.Happening.{Kept, After, quiet, and_then, over}
 use Rattle.quel_meaning.specs.Lines.{lines_of, whole_lines, is_no_newline}
-use Rattle.quel_meaning.specs.Running.{after_line, after_lines, Deeper}
+use Rattle.quel_meaning.specs.Running.{after_line, after_lines}
 use Rattle.quel_meaning.specs.Session.{printed, files_of}
 use Rattle.quel_meaning.proofs.Agreement.{nothing_more}
 use Rattle.quel_meaning.proofs.LineLaws.{line_first, line_last}

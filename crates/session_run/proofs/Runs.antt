@@ -1,11 +1,11 @@
 -- What a run keeps: what was taken from the source, and what was given to the sink.
-use Rattle.std.proofs.Common.{◌≡◌, ◌⊎◌, inl, inr, ℕ, ◌+◌, ◌≤◌, ◌<◌, Bool, true, false, List, [], ◌∷◌, ◌++◌, length, take, drop, None, Some, refl, sym, ap, subst, ◌∙◌, append_assoc, append-nil, arith, length-append}
-use Rattle.std.specs.Prelude.{IfSome, ◌↔◌}
+use Rattle.std.proofs.Common.{◌≡◌, inl, inr, ℕ, ◌+◌, ◌≤◌, Bool, true, false, List, [], ◌++◌, length, take, drop, None, Some, refl, sym, ap, subst, ◌∙◌, append_assoc, append-nil, arith, length-append}
 use Rattle.std.specs.List.{list_all}
 use Rattle.std.specs.declared.option.Option.{Option}
 use Rattle.std.specs.Io.KnownBytes.{Appends, Consumes, Keeps, IsAtEnd}
 use Rattle.std.proofs.KnownBytes.{Appends-nil, Appends-trans, Consumes-nil, Consumes-trans}
 use Rattle.std.proofs.Math.Seq.{take-append_seam, drop-append_seam}
+use Rattle.std.proofs.lemmas.List.{drop-drop}
 use Rattle.fault_io.specs.Told.{IsFront, GrewBy}
 use Rattle.quel_meaning.specs.Happening.{Kept, After, start, quiet}
 use Rattle.quel_meaning.specs.Lines.{is_no_newline}
@@ -13,7 +13,7 @@ use Rattle.quel_meaning.specs.Session.{Session, printed, output, session_after, 
 use Rattle.quel_meaning.specs.State.{State}
 use Rattle.session_run.specs.Doing.{Meaning}
 use Rattle.session_run.specs.Hearing.{Heard, counted_lines, lines_done, later, Begins, Hears, HearsPartly}
-use Rattle.session_run.specs.Runs.{whole, within, IsDone, IsPartlyDone, CutOff, IsCutOff}
+use Rattle.session_run.specs.Runs.{whole, within, IsDone, IsPartlyDone, IsCutOff, IsKeptUp, IsBrokenOff}
 use Rattle.session_run.proofs.Heard.{begins_both}
 use Rattle.session_run.proofs.Lines.{hears_whole, hears_end}
 
@@ -159,6 +159,87 @@ taken_front taken rest n e = rw (← e) (take-append_seam taken rest)
 dropped_front : (taken rest : List ℕ) (n : ℕ) → length taken ≡ n → drop n (taken ++ rest) ≡ rest
 dropped_front taken rest n e = rw (← e) (drop-append_seam taken rest)
 
+-- what was heard of a script is the session of the lines that lie wholly in it
+pub record SaysLines (m : Meaning) (state : State) (script : List ℕ) (given : ℕ) (out rest : List ℕ) : Type 0 where
+  pub rest_is : drop given script ≡ rest
+  pub output_is : output (within given m state script) ≡ out
+  pub goes_on : (within given m state script).quit ≡ false
+
+says_lines : (m : Meaning) (state : State) (left0 left1 written0 written1 : Option (List ℕ)) (heard : Heard) (given : ℕ) (runs : Runs m state left0 left1 written0 written1 heard given) (script rest : List ℕ)
+    → script ≡ runs.taken ++ rest → heard.kept.quit ≡ false → list_all is_no_newline heard.partial ≡ true → SaysLines m state script given runs.out rest
+says_lines m state left0 left1 written0 written1 heard given runs script rest parts still_open line =
+    let text : take given script ≡ runs.taken ++ [] = ap (take given) parts ∙ taken_front runs.taken rest given runs.count ∙ sym (append-nil runs.taken) in
+    let begun = runs.same false [] in
+    let still = hears_whole m heard.user heard.kept heard.partial line in
+    let session = within_session m state given script in
+    record {
+      rest_is = ap (drop given) parts ∙ dropped_front runs.taken rest given runs.count;
+      output_is =
+          ap output session
+          ∙ ap (λ (x : List ℕ). printed (done_by m state false x).events) text
+          ∙ begun.output
+          ∙ ap (λ (a : After). runs.out ++ printed a.events) still
+          ∙ nothing_printed runs.out heard.kept;
+      goes_on =
+          ap (λ (s : Session). s.quit) session
+          ∙ ap (λ (x : List ℕ). (done_by m state false x).kept.quit) text
+          ∙ ap (λ (k : Kept). k.quit) begun.keeps
+          ∙ ap (λ (a : After). a.kept.quit) still
+          ∙ still_open;
+    }
+
+-- a piece behind what was heard
+drop_both : (given : ℕ) (script piece rest : List ℕ) → drop given script ≡ piece ++ rest → drop (given + length piece) script ≡ rest
+drop_both given script piece rest e = sym (drop-drop (length piece) given script) ∙ ap (drop (length piece)) e ∙ dropped_front piece rest (length piece) refl
+
+-- whatever comes of a piece, all before it was heard
+pub keeps_up : (m : Meaning) (state : State) (left0 left1 left2 written0 written1 written2 : Option (List ℕ)) (heard : Heard) (given : ℕ) (piece : List ℕ)
+    → Runs m state left0 left1 written0 written1 heard given → heard.kept.quit ≡ false → list_all is_no_newline heard.partial ≡ true → Consumes left1 left2 piece → length piece ≤ 4096
+    → (more : List ℕ) → Appends written1 written2 more → IsKeptUp m state left0 left2 written0 written2
+keeps_up m state None left1 left2 written0 written1 written2 heard given piece runs still_open line consumed small more grown = tt
+keeps_up m state (Some script) left1 left2 written0 written1 written2 heard given piece runs still_open line consumed small more grown =
+    let t = told script left1 runs.taken runs.read in
+    let u = told t.0 left2 piece (subst (λ (l : Option (List ℕ)). Consumes l left2 piece) t.1 consumed) in
+    let says = says_lines m state (Some script) left1 written0 written1 heard given runs script t.0 t.2 still_open line in
+    record {
+      heard = given;
+      piece = length piece;
+      small = small;
+      read = u.1 ∙ ap Some (sym (drop_both given script piece u.0 (says.rest_is ∙ u.2)));
+      goes_on = says.goes_on;
+      printed = (
+        runs.out ++ more,
+        Appends-trans written0 written1 written2 runs.out more runs.grown grown,
+        (more, ap (λ (x : List ℕ). x ++ more) (sym says.output_is)),
+      );
+    }
+
+-- known bytes that stay as they were lose none
+keeps_consumes : (left0 left1 : Option (List ℕ)) → Keeps left0 left1 → Consumes left0 left1 []
+keeps_consumes None left1 kept = tt
+keeps_consumes (Some xs) None kept = kept
+keeps_consumes (Some xs) (Some ys) kept = sym kept
+
+-- the source failed
+pub keeps_up_read : (m : Meaning) (state : State) (left0 left1 left2 written0 written1 : Option (List ℕ)) (heard : Heard) (given : ℕ)
+    → Runs m state left0 left1 written0 written1 heard given → heard.kept.quit ≡ false → list_all is_no_newline heard.partial ≡ true → Keeps left1 left2 → IsKeptUp m state left0 left2 written0 written1
+keeps_up_read m state left0 left1 left2 written0 written1 heard given runs still_open line kept =
+    keeps_up m state left0 left1 left2 written0 written1 written1 heard given [] runs still_open line (keeps_consumes left1 left2 kept) (omega arith) [] (Appends-nil written1)
+
+pub breaks_off : (m : Meaning) (state : State) (left0 left1 left2 written0 written1 : Option (List ℕ)) (heard : Heard) (given : ℕ)
+    → Runs m state left0 left1 written0 written1 heard given → heard.kept.quit ≡ false → list_all is_no_newline heard.partial ≡ true → Keeps left1 left2 → IsBrokenOff m state left0 left2 written0 written1
+breaks_off m state None left1 left2 written0 written1 heard given runs still_open line kept = tt
+breaks_off m state (Some script) left1 left2 written0 written1 heard given runs still_open line kept =
+    let t = told script left1 runs.taken runs.read in
+    let u = told t.0 left2 [] (subst (λ (l : Option (List ℕ)). Consumes l left2 []) t.1 (keeps_consumes left1 left2 kept)) in
+    let says = says_lines m state (Some script) left1 written0 written1 heard given runs script t.0 t.2 still_open line in
+    record {
+      heard = given;
+      read = u.1 ∙ ap Some (sym (says.rest_is ∙ u.2));
+      goes_on = says.goes_on;
+      printed = subst (λ (x : List ℕ). Appends written0 written1 x) (sym says.output_is) runs.grown;
+    }
+
 -- one byte more came behind the greatest script
 pub cuts_off : (m : Meaning) (state : State) (left0 left1 left2 written0 written1 : Option (List ℕ)) (heard : Heard) (given : ℕ) (more : List ℕ)
     → Runs m state left0 left1 written0 written1 heard given → given ≡ 16777216 → heard.kept.quit ≡ false → list_all is_no_newline heard.partial ≡ true → Consumes left1 left2 more → length more ≡ 1
@@ -167,24 +248,9 @@ cuts_off m state None left1 left2 written0 written1 heard given more runs full s
 cuts_off m state (Some script) left1 left2 written0 written1 heard given more runs full still_open line consumed one =
     let t = told script left1 runs.taken runs.read in
     let u = told t.0 left2 more (subst (λ (l : Option (List ℕ)). Consumes l left2 more) t.1 consumed) in
-    let all : script ≡ (runs.taken ++ more) ++ u.0 = t.2 ∙ ap (λ (x : List ℕ). runs.taken ++ x) u.2 ∙ sym (append_assoc runs.taken more u.0) in
-    let front : length runs.taken ≡ 16777216 = runs.count ∙ full in
-    let count : length (runs.taken ++ more) ≡ 16777217 = omega (arith, length-append runs.taken more, front, one) in
-    let left : drop 16777217 script ≡ u.0 = ap (drop 16777217) all ∙ dropped_front (runs.taken ++ more) u.0 16777217 count in
-    let text : take 16777216 script ≡ runs.taken ++ [] = ap (take 16777216) t.2 ∙ taken_front runs.taken t.0 16777216 front ∙ sym (append-nil runs.taken) in
-    let begun = runs.same false [] in
-    let still = hears_whole m heard.user heard.kept heard.partial line in
-    let session = within_session m state 16777216 script in
-    let said : output (within 16777216 m state script) ≡ runs.out =
-    ap output session
-    ∙ ap (λ (x : List ℕ). printed (done_by m state false x).events) text
-    ∙ begun.output
-    ∙ ap (λ (a : After). runs.out ++ printed a.events) still
-    ∙ nothing_printed runs.out heard.kept in
-    let goes : (within 16777216 m state script).quit ≡ false =
-    ap (λ (s : Session). s.quit) session
-    ∙ ap (λ (x : List ℕ). (done_by m state false x).kept.quit) text
-    ∙ ap (λ (k : Kept). k.quit) begun.keeps
-    ∙ ap (λ (a : After). a.kept.quit) still
-    ∙ still_open in
-    record { read = u.1 ∙ ap Some (sym left); goes_on = goes; printed = subst (λ (x : List ℕ). Appends written0 written1 x) (sym said) runs.grown }
+    let says = subst (λ (n : ℕ). SaysLines m state script n runs.out t.0) full (says_lines m state (Some script) left1 written0 written1 heard given runs script t.0 t.2 still_open line) in
+    record {
+      read = u.1 ∙ ap Some (sym (subst (λ (n : ℕ). drop (16777216 + n) script ≡ u.0) one (drop_both 16777216 script more u.0 (says.rest_is ∙ u.2))));
+      goes_on = says.goes_on;
+      printed = subst (λ (x : List ℕ). Appends written0 written1 x) (sym says.output_is) runs.grown;
+    }

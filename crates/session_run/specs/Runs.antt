@@ -36,6 +36,30 @@ pub record CutOff (meaning : Meaning) (state : State) (script : List ℕ) (left_
 abbrev pub IsCutOff : Meaning → State → Option (List ℕ) → Option (List ℕ) → Option (List ℕ) → Option (List ℕ) → Type 0
 IsCutOff meaning state left_old left_new written_old written_new = IfSome left_old (λ script. CutOff meaning state script left_new written_old written_new)
 
+-- what was read is the bytes that were heard, and behind them a piece of at most 4,096; no line that lies wholly in the first ended the session, and the sink took at least what these lines print
+pub record KeptUp (meaning : Meaning) (state : State) (script : List ℕ) (left_new written_old written_new : Option (List ℕ)) : Type 0 where
+  pub heard : ℕ
+  pub piece : ℕ
+  pub small : piece ≤ 4096
+  pub read : left_new ≡ Some (drop (heard + piece) script)
+  pub goes_on : (within heard meaning state script).quit ≡ false
+  pub printed : GrewBy written_old written_new (λ more. IsFront (output (within heard meaning state script)) more)
+
+-- the same, where the script is told
+abbrev pub IsKeptUp : Meaning → State → Option (List ℕ) → Option (List ℕ) → Option (List ℕ) → Option (List ℕ) → Type 0
+IsKeptUp meaning state left_old left_new written_old written_new = IfSome left_old (λ script. KeptUp meaning state script left_new written_old written_new)
+
+-- the source broke off: no line that lies wholly in the bytes that were read ended the session, and the sink took exactly what these lines print
+pub record BrokenOff (meaning : Meaning) (state : State) (script : List ℕ) (left_new written_old written_new : Option (List ℕ)) : Type 0 where
+  pub heard : ℕ
+  pub read : left_new ≡ Some (drop heard script)
+  pub goes_on : (within heard meaning state script).quit ≡ false
+  pub printed : Appends written_old written_new (output (within heard meaning state script))
+
+-- the same, where the script is told
+abbrev pub IsBrokenOff : Meaning → State → Option (List ℕ) → Option (List ℕ) → Option (List ℕ) → Option (List ℕ) → Type 0
+IsBrokenOff meaning state left_old left_new written_old written_new = IfSome left_old (λ script. BrokenOff meaning state script left_new written_old written_new)
+
 -- the source gave more than 16,777,216 bytes
 abbrev pub GaveTooMuch : List ℕ → List ℕ → Type 0
 GaveTooMuch old new = 16777216 + length new < length old

@@ -13,6 +13,3 @@ mod statements;
 pub use running::{RunFault, run};
 pub use session::Session;
 pub use statements::Statements;
-
-#[cfg(test)]
-mod tests;

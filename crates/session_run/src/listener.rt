@@ -59,10 +59,10 @@ impl<S: Statements> Listener<S> {
         self.session.has_quit()
     }
 
-    /// The front of the next line.
+    /// The front of the next line, of which no byte is a newline.
     pub fn partial(&self) -> &[u8]
         ensures value { result.now ≡ self.now.partial }
-        ensures front { list_all is_no_newline result.now ≡ true }
+        ensures front { list_all is_no_newline self.now.partial ≡ true }
     {
         self.front.bytes()
     }

@@ -2,7 +2,7 @@
 
 ghost use Rattle.std.specs.Prelude.{◌≡◌, ◌⊎◌, ◌↔◌, OnOk, IsErrOf, IfSome};
 ghost use Rattle.fault_io.specs.Causes.{Rose};
-ghost use Rattle.session_run.specs.Runs.{IsDone, IsPartlyDone, IsCutOff, GaveTooMuch};
+ghost use Rattle.session_run.specs.Runs.{IsDone, IsPartlyDone, IsCutOff, IsKeptUp, IsBrokenOff, GaveTooMuch};
 ghost use Rattle.session_run.specs.declared.running.RunFault.TheVariants.{OutOfMemory as no_memory, Source as source_fault, Sink as sink_fault};
 
 use crate::Statements;
@@ -57,8 +57,9 @@ impl From<SinkFault> for RunFault {
 /// Runs the script of the source, and gives what it prints to the sink.
 ///
 /// It is read in pieces as it comes, to its end or to a command that ends the session; no byte behind
-/// that command is looked at. Nothing past its first 16,777,216 bytes is read until all lines up to
-/// there were heard; then one byte more is asked for.
+/// that command is looked at. A piece is read where no line of those before it ended the session, and
+/// what all their lines print was taken. Nothing past its first 16,777,216 bytes is read until all
+/// lines up to there were heard; then one byte more is asked for.
 pub fn run<S: Statements + Drop, R: Source, K: Sink>(
     alloc: Global,
     statements: S,
@@ -68,6 +69,8 @@ pub fn run<S: Statements + Drop, R: Source, K: Sink>(
     ensures done { OnOk result (IsDone (S.meaning (S.user statements)) (S.state statements) (R.left source.old) (R.left source.new) (K.written sink.old) (K.written sink.new)) }
     ensures partly { IsPartlyDone (S.meaning (S.user statements)) (S.state statements) (R.left source.old) (K.written sink.old) (K.written sink.new) }
     ensures cut_off { IsErrOf result RunFault.TooLong → IsCutOff (S.meaning (S.user statements)) (S.state statements) (R.left source.old) (R.left source.new) (K.written sink.old) (K.written sink.new) }
+    ensures keeps_up { IsKeptUp (S.meaning (S.user statements)) (S.state statements) (R.left source.old) (R.left source.new) (K.written sink.old) (K.written sink.new) }
+    ensures broken_off { IsErrOf result RunFault.Source → IsBrokenOff (S.meaning (S.user statements)) (S.state statements) (R.left source.old) (R.left source.new) (K.written sink.old) (K.written sink.new) }
 
     ensures source_fault { IsErrOf result RunFault.Source → Rose (R.faults source.old) (R.faults source.new) }
     ensures sink_fault { IsErrOf result RunFault.Sink
@@ -79,6 +82,7 @@ pub fn run<S: Statements + Drop, R: Source, K: Sink>(
     let mut buf = [0u8; LONGEST_PIECE];
     let mut given = 0usize;
     'script: loop {
+        let _front = listener.partial();
         let room = LONGEST_PIECE.min(LONGEST_SCRIPT - given).max(1);
         let piece = &mut buf[..room];
         let count = source.read(piece)?;
@@ -86,7 +90,6 @@ pub fn run<S: Statements + Drop, R: Source, K: Sink>(
             break;
         }
         if given == LONGEST_SCRIPT {
-            let _partial = listener.partial();
             return Err(RunFault::TooLong);
         }
         hear(alloc, &mut listener, &piece[..count], sink)?;

@@ -1,8 +1,15 @@
-use Rattle.query_tables.specs.Causes.{MayFail}
-use Rattle.std.proofs.Common.{◌∙◌, subst}
-use Rattle.plain_statements.proofs.Outcomes.{queries_lack}
+use Rattle.std.proofs.Common.{◌≡◌, ℕ}
+use Rattle.calculus.specs.declared.reply.Reply.TheVariants.{Refused}
+use Rattle.calculus.specs.Who.{Free}
+use Rattle.quel_meaning.specs.Copying.{refusal}
+use Rattle.quel_meaning.specs.Meaning.{answer_reply}
+use Rattle.plain_statements.specs.declared.stopped.Stopped.TheVariants.{No}
+use Rattle.plain_statements.proofs.Effects.{ok_to}
+use Rattle.plain_statements.proofs.Stops.{query_answered}
 use Rattle.plain_statements.proofs.answering.answered.Goals as goal
 
-pub returns-in-Err-NoValue-clause-told : goal.returns-in-Err-NoValue-clause-told
-returns-in-Err-NoValue-clause-told g c = λ db e.
-    c.refused.ensures ∙ queries_lack db c.args.asked.now (((subst (MayFail c.args.asked.now (g.B.Base.database c.args.base.now) (g.B.Base.faults c.args.base.now) (g.B.Base.faults c.tables_of.new.base)) c.in-Err-NoValue.field-0-is c.in-Err-NoValue.ensures.cause.caused) db e).plain (c.requires db e).plain)
+pub returns-in-Err-clause-told : goal.returns-in-Err-clause-told
+returns-in-Err-clause-told g c = λ db e.
+    ok_to (λ reply. (number : ℕ) × (c.from.result ≡ No number) × (reply ≡ Refused (refusal number))) (λ reply. reply ≡ answer_reply db Free c.args.asked.now)
+    (λ reply w. query_answered db c.args.asked.now _ _ _ c.in-Err.fault c.from.result reply e (c.requires db e).plain c.in-Err.ensures.cause.caused c.from.ensures w)
+    c.answer_to.result c.answer_to.ensures.only

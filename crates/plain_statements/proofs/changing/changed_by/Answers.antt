@@ -1,16 +1,16 @@
-use Rattle.update_change.specs.Causes.{MayFail}
-use Rattle.std.proofs.Common.{subst}
+use Rattle.std.proofs.Common.{◌≡◌, ℕ, Err, sym, subst}
+use Rattle.calculus.specs.Replacement.{updated}
 use Rattle.calculus.specs.Who.{Free}
-use Rattle.plain_statements.proofs.Outcomes.{changed, contended_refused, many_refused}
+use Rattle.plain_statements.proofs.Outcomes.{changed}
+use Rattle.plain_statements.proofs.Stops.{RefusedBy, refused_by, change_stops}
 use Rattle.plain_statements.proofs.changing.changed_by.Goals as goal
 
-pub returns-in-Ok-clause-told : goal.returns-in-Ok-clause-told
-returns-in-Ok-clause-told g c = λ db e new are.
-    changed db c.args.u.now c.args.pairs.now are c.in-Ok.ensures.uncontended (c.in-Ok.ensures.few db e new) c.in-Ok.change (c.in-Ok.ensures.meaning db e new Free are.are)
+pub returns-clause-told : goal.returns-clause-told
+returns-clause-told g c = λ db e new are.
+    changed db c.args.u.now c.args.pairs.now are c.in_ok-change.ensures.uncontended (c.in_ok-change.ensures.few db e new) c.in_ok-change.change (c.in_ok-change.ensures.meaning db e new Free are.are)
 
-pub returns-in-Err-Contended-clause-told : goal.returns-in-Err-Contended-clause-told
-returns-in-Err-Contended-clause-told g c = λ db e new are. contended_refused db c.args.u.now c.args.pairs.now are (subst (MayFail c.args.u.now c.args.pairs.now (g.B.Base.database c.args.base.now) (g.B.Base.faults c.args.base.now) (g.B.Base.faults c.change_of.new.base)) c.in-Err-Contended.field-0-is c.in-Err-Contended.ensures.cause.caused).0
-
-pub returns-in-Err-TooMany-clause-told : goal.returns-in-Err-TooMany-clause-told
-returns-in-Err-TooMany-clause-told g c = λ db e new are.
-    many_refused db c.args.u.now c.args.pairs.now are (subst (MayFail c.args.u.now c.args.pairs.now (g.B.Base.database c.args.base.now) (g.B.Base.faults c.args.base.now) (g.B.Base.faults c.change_of.new.base)) c.in-Err-TooMany.field-0-is c.in-Err-TooMany.ensures.cause.caused).0 ((subst (MayFail c.args.u.now c.args.pairs.now (g.B.Base.database c.args.base.now) (g.B.Base.faults c.args.base.now) (g.B.Base.faults c.change_of.new.base)) c.in-Err-TooMany.field-0-is c.in-Err-TooMany.ensures.cause.caused).1 db e new)
+pub returns-in_err-change-clause-told : goal.returns-in_err-change-clause-told
+returns-in_err-change-clause-told g c = λ db e new are.
+    let refuses : ℕ → Type 0 = λ number. updated db Free c.args.u.now ≡ Err number in
+    refused_by _ refuses c.from_residual.result c.from_residual.ensures
+    (λ stop is. subst (RefusedBy refuses) (sym is) (change_stops db c.args.u.now c.args.pairs.now _ _ _ c.in_err-change.field-0.0 e new are c.in_err-change.ensures.cause.caused))

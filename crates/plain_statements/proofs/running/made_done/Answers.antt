@@ -24,4 +24,4 @@ returns-in-Err-clause-done c = λ found ranges made.
     ok_to (λ reply. (number : ℕ) × (c.in-Err.stopped ≡ No number) × (reply ≡ Refused (refusal number)))
     (λ reply. free_tree_outcome (state_of (database_of c.args.base.now) ranges) c.args.user.now found ≡ outcome_of (database_of c.args.base.now) ranges reply)
     (λ reply w. refused_outcome (database_of c.args.base.now) (database_of c.args.base.now) ranges c.args.user.now found c.in-Err.stopped reply refl (subst (λ m. IsMade found m) c.in-Err.is made) w)
-    c.answer_to.result c.answer_to.ensures
+    c.answer_to.result c.answer_to.ensures.only

@@ -1,4 +1,4 @@
-use Rattle.std.proofs.Common.{◌≡◌, ◌∙◌, ℕ, ap, subst, sym}
+use Rattle.std.proofs.Common.{◌∙◌, ℕ, ap, subst}
 use Rattle.quel_grammar.specs.Next.{line_at}
 use Rattle.quel_meaning.specs.Running.{after_statement}
 use Rattle.session_run.specs.Doing.{Did, setting, with_state}

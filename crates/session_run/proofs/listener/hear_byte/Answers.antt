@@ -1,4 +1,4 @@
-use Rattle.std.proofs.Common.{◌≡◌, sym, subst, ℕ, ◌∷◌, []}
+use Rattle.std.proofs.Common.{sym, subst, ℕ, ◌∷◌, []}
 use Rattle.session_run.specs.Hearing.{HearsPartly}
 use Rattle.session_run.proofs.listener.hear_byte.Goals as goal
 

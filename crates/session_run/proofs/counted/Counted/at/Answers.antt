@@ -1,5 +1,4 @@
-use Rattle.std.proofs.Common.{◌≡◌, ◌+◌, ◌∙◌, ap, rules, arith, take, drop}
-use Rattle.session_run.specs.Counted.{newlines}
+use Rattle.std.proofs.Common.{arith}
 use Rattle.session_run.proofs.Counting.{counted_on, few}
 use Rattle.session_run.proofs.counted.Counted.at.Goals as goal
 

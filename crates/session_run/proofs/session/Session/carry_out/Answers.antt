@@ -1,4 +1,4 @@
-use Rattle.std.proofs.Common.{◌≡◌, ◌∙◌, ◌++◌, ℕ, List, ap, sym}
+use Rattle.std.proofs.Common.{◌∙◌, ◌++◌, ℕ, List, ap}
 use Rattle.monitor.specs.Seen.{seen_command}
 use Rattle.session_run.specs.Doing.{Running, kept}
 use Rattle.session_run.proofs.Orders.{goes_command, print_command, quit_command, unknown_command, reset_command, append_command}

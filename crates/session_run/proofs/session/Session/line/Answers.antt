@@ -1,4 +1,4 @@
-use Rattle.std.proofs.Common.{◌≡◌, ◌∙◌, ℕ, List, ap, sym, subst, arith}
+use Rattle.std.proofs.Common.{◌∙◌, ℕ, List, subst, arith}
 use Rattle.monitor.specs.Seen.{seen_part}
 use Rattle.quel_meaning.specs.Running.{after_part}
 use Rattle.session_run.specs.Doing.{Did, setting}

@@ -1,4 +1,4 @@
-use Rattle.std.proofs.Common.{◌≡◌, ◌∙◌, ap, sym}
+use Rattle.std.proofs.Common.{◌∙◌, ap, sym}
 use Rattle.monitor.specs.Seen.{seen_part}
 use Rattle.session_run.specs.Doing.{Running}
 use Rattle.session_run.proofs.Orders.{ended_part, piece_part}

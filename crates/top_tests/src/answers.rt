@@ -1,11 +1,15 @@
 //! What scripts print.
 
 use crate::trials::{gives, joined};
-use std::alloc::Global;
+use std::alloc::AllocGlobal;
+use std::process::Abort;
 use std::test::*;
 
+/// A script, and what it prints.
+type Case = (&'static [u8], &'static [u8]);
+
 /// Numbers: their tables, what has no value, and what doesn't fit.
-const NUMBERS: [(&[u8], &[u8]); 5] = [
+const NUMBERS: [Case; 5] = [
     (
         b"retrieve (x = 3)\n\
         retrieve (x = 3) where 1 = 2\n\
@@ -54,7 +58,7 @@ const NUMBERS: [(&[u8], &[u8]); 5] = [
 ];
 
 /// Relations: what is appended, replaced and deleted, and in which order it comes.
-const RELATIONS: [(&[u8], &[u8]); 5] = [
+const RELATIONS: [Case; 5] = [
     (
         b"create p (a = i2)\n\
         append to p (a = 7)\n\
@@ -175,7 +179,7 @@ const RELATIONS: [(&[u8], &[u8]); 5] = [
 ];
 
 /// Refusals, and what comes of the statements behind them.
-const REFUSALS: [(&[u8], &[u8]); 5] = [
+const REFUSALS: [Case; 5] = [
     (
         b"create w (a = c255, b = c255, c = c255, d = c235)\n\
         create x (a = c255, b = c255, c = c255, d = c235, e = i1)\n\
@@ -257,58 +261,182 @@ const NOT_FOUND: &[u8] = b"|x                   |\n\
     |--------------------|\n\
     |--------------------|\n";
 
-fn all_give(alloc: Global, cases: &[(&[u8], &[u8])]) -> Result<bool, Fail> {
-    for (script, output) in cases {
-        if !gives(alloc, script, output)? {
-            return Ok(false);
+/// Batches, the query buffer and commands.
+const BATCHES: [Case; 9] = [
+    (b"print p\n\\g\n", b"refused 9 line 1: not built\n"),
+    (
+        b"print p\n\n\\p\\g\\g",
+        b"print p\n\
+        refused 9 line 1: not built\n\
+        refused 9 line 1: not built\n",
+    ),
+    (b"print p\n\\r\\p\\g", b""),
+    (
+        b"print p print q\n\
+        /* */ print\n\
+        ,\n\
+        \\g",
+        b"refused 9 line 1: not built\n\
+        refused 9 line 1: not built\n\
+        refused 1 line 3: syntax\n",
+    ),
+    (
+        b"print p\n\
+        \\g\n\
+        print q\n\
+        \\p\n",
+        b"refused 9 line 1: not built\n\
+        print q\n",
+    ),
+    (
+        b"print p\n\
+        \\g\\a print q\n\
+        \\g",
+        b"refused 9 line 1: not built\n\
+        refused 9 line 1: not built\n\
+        refused 9 line 2: not built\n",
+    ),
+    (
+        b"\\x\n\\i f\n\\w\n",
+        b"refused 2 line 0: monitor command\n\
+        refused 9 line 0: not built\n\
+        refused 9 line 0: not built\n",
+    ),
+    (
+        b"print p \\g \\q \\g\n\\g\n",
+        b"refused 9 line 1: not built\n",
+    ),
+    (
+        b"create p (a = i1)\n\
+        \\g\\a append to p (a = 1)\n\
+        \\g\n\
+        range of x is p retrieve (x.a)\\g\\q\n\
+        retrieve (x.a)\\g\n",
+        b"done\n\
+        refused 15 line 1: name in use\n\
+        done\n\
+        |a   |\n\
+        |----|\n\
+        |   1|\n\
+        |----|\n",
+    ),
+];
+
+/// Makes a relation of 100,000 rows by one append, and then one row more; then one goes, and one
+/// more comes.
+const MANY_ROWS: Case = (
+    b"create dig (x = i1)\n\
+    append to dig (x = 0) append to dig (x = 1) append to dig (x = 2) append to dig (x = 3)\n\
+    append to dig (x = 4) append to dig (x = 5) append to dig (x = 6) append to dig (x = 7)\n\
+    append to dig (x = 8) append to dig (x = 9)\n\
+    create big (k = i4)\n\
+    range of a is dig range of b is dig range of c is dig range of d is dig range of e is dig\n\
+    append to big (k = 10 * (10 * (10 * (10 * a.x + b.x) + c.x) + d.x) + e.x)\n\
+    append to big (k = -1)\n\
+    range of u is big\n\
+    retrieve (u.k) where u.k < 1 or u.k = 99999\n\
+    delete u where u.k > 0\n\
+    append to big (k = -1)\n\
+    retrieve (u.k)\n\
+    \\g\n",
+    b"done\n\
+    done\n\
+    done\n\
+    done\n\
+    done\n\
+    done\n\
+    done\n\
+    done\n\
+    done\n\
+    done\n\
+    done\n\
+    done\n\
+    done\n\
+    refused 29 line 8: too many rows\n\
+    |k          |\n\
+    |-----------|\n\
+    |          0|\n\
+    |      99999|\n\
+    |-----------|\n\
+    done\n\
+    done\n\
+    |k          |\n\
+    |-----------|\n\
+    |         -1|\n\
+    |          0|\n\
+    |-----------|\n",
+);
+
+/// The number of the first of these scripts that prints something else.
+fn first_wrong(rt: &(impl Abort + AllocGlobal), cases: &[Case]) -> Option<usize> {
+    for (number, (script, output)) in cases.iter().enumerate() {
+        if !gives(rt, script, output) {
+            return Some(number);
         }
     }
-    Ok(true)
+    None
 }
 
 #[test]
-fn scripts_print_their_tables_and_refusals(rt: HostRuntime) -> Result<(), Fail> {
-    let alloc = rt.alloc();
-    assert!(rt; all_give(alloc, &NUMBERS)?);
-    assert!(rt; all_give(alloc, &RELATIONS)?);
-    assert!(rt; all_give(alloc, &REFUSALS)?);
-    Ok(())
+fn scripts_print_their_tables_and_refusals(rt: HostRuntime) {
+    assert!(rt; first_wrong(&rt, &NUMBERS).is_none());
+    assert!(rt; first_wrong(&rt, &RELATIONS).is_none());
+    assert!(rt; first_wrong(&rt, &REFUSALS).is_none());
+    assert!(rt; first_wrong(&rt, &BATCHES).is_none());
 }
 
 #[test]
-fn texts_match_their_patterns(rt: HostRuntime) -> Result<(), Fail> {
-    let alloc = rt.alloc();
-    for (text, pattern, matches) in PATTERNS {
-        let script = joined(
-            alloc,
-            &[
-                b"retrieve (x = 1) where \"",
-                text,
-                b"\" = \"",
-                pattern,
-                b"\"\n\\g\n",
-            ],
-        )?;
-        let output = if matches { FOUND } else { NOT_FOUND };
-        assert!(rt; gives(alloc, &script, output)?);
+fn a_relation_has_at_most_100_000_rows(rt: HostRuntime) {
+    let (script, output) = MANY_ROWS;
+    assert!(rt; gives(&rt, script, output));
+}
+
+/// Whether the query for 1 prints its row where the text is compared with the pattern.
+fn matches(rt: &(impl Abort + AllocGlobal), text: &[u8], pattern: &[u8], output: &[u8]) -> bool {
+    let script = joined(
+        rt,
+        &[
+            b"retrieve (x = 1) where \"",
+            text,
+            b"\" = \"",
+            pattern,
+            b"\"\n\\g\n",
+        ],
+    );
+    gives(rt, &script, output)
+}
+
+#[test]
+fn texts_match_their_patterns(rt: HostRuntime) {
+    for (text, pattern, is_found) in PATTERNS {
+        let output = if is_found { FOUND } else { NOT_FOUND };
+        assert!(rt; matches(&rt, text, pattern, output));
     }
-    Ok(())
+}
+
+/// The script that makes so many relations, a line each.
+fn relations(rt: &(impl Abort + AllocGlobal), count: u32) -> Vec<u8> {
+    let mut script = Vec::new(rt.alloc());
+    for number in 0..count {
+        let statement = format!(in rt.alloc(); "create r{number} (a = i1)\n").expect(rt, "memory");
+        script
+            .extend_from_slice(statement.as_bytes())
+            .expect(rt, "memory");
+    }
+    script.extend_from_slice(b"\\g\n").expect(rt, "memory");
+    script
+}
+
+/// What it prints where all relations but the last are made.
+fn acknowledgements(rt: &(impl Abort + AllocGlobal)) -> Vec<u8> {
+    let mut output = b"done\n".repeat(rt.alloc(), 10_000).expect(rt, "memory");
+    output
+        .extend_from_slice(b"refused 14 line 10001: limit\n")
+        .expect(rt, "memory");
+    output
 }
 
 #[test]
-fn a_batch_of_10_001_statements_makes_all_relations_but_the_last(
-    rt: HostRuntime,
-) -> Result<(), Fail> {
-    let alloc = rt.alloc();
-    let mut script = Vec::new(alloc);
-    let mut output = Vec::new(alloc);
-    for number in 0..10_000u32 {
-        let statement = format!(in alloc; "create r{number} (a = i1)\n")?;
-        script.extend_from_slice(statement.as_bytes())?;
-        output.extend_from_slice(b"done\n")?;
-    }
-    script.extend_from_slice(b"create r10000 (a = i1)\n\\g\n")?;
-    output.extend_from_slice(b"refused 14 line 10001: limit\n")?;
-    assert!(rt; gives(alloc, &script, &output)?);
-    Ok(())
+fn a_batch_of_10_001_statements_makes_all_relations_but_the_last(rt: HostRuntime) {
+    assert!(rt; gives(&rt, &relations(&rt, 10_001), &acknowledgements(&rt)));
 }

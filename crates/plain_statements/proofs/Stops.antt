@@ -1,0 +1,75 @@
+-- The number of a fault is that of the statement's cause.
+use Rattle.std.proofs.Common.{◌≡◌, ◌∙◌, sym, subst, ℕ, List, [], Some, Err}
+use Rattle.std.specs.Prelude.{Result, Ok, IsErr, IsErrAnd}
+use Rattle.std.specs.declared.option.Option.{Option}
+use Rattle.calculus.specs.declared.change.Pair.{Pair}
+use Rattle.calculus.specs.declared.request.Asked.{Asked}
+use Rattle.calculus.specs.declared.request.Update.{Update}
+use Rattle.calculus.specs.declared.reply.Reply.{Reply}
+use Rattle.calculus.specs.declared.reply.Reply.TheVariants.{Refused}
+use Rattle.calculus.specs.Database.{Db}
+use Rattle.calculus.specs.QueryParts.{query_aggregates}
+use Rattle.calculus.specs.Replacement.{updated}
+use Rattle.calculus.specs.Table.{tabled}
+use Rattle.calculus.specs.Who.{Free}
+use Rattle.decompose.specs.declared.fault.QueryFault.{QueryFault}
+use Rattle.decompose.specs.declared.fault.QueryFault.TheVariants as query
+use Rattle.stage_proc.specs.declared.fault.PairFault.{PairFault}
+use Rattle.stage_proc.specs.declared.fault.PairFault.TheVariants as pair
+use Rattle.stage_proc.specs.Causes as pairing
+use Rattle.update_change.specs.declared.fault.UpdateFault.{UpdateFault}
+use Rattle.update_change.specs.declared.fault.UpdateFault.TheVariants as change
+use Rattle.update_change.specs.Causes as changing
+use Rattle.update_change.specs.Changes.{MakesNew}
+use Rattle.query_tables.specs.Causes as asking
+use Rattle.quel_meaning.specs.Copying.{refusal}
+use Rattle.quel_meaning.specs.Meaning.{answer_reply}
+use Rattle.plain_statements.specs.declared.stopped.Stopped.{Stopped}
+use Rattle.plain_statements.specs.declared.stopped.Stopped.TheVariants.{No, OutOfMemory}
+use Rattle.plain_statements.specs.Plans.{Plans, ArePairs}
+use Rattle.plain_statements.specs.Stopping.{query_stop, pair_stop, change_stop}
+use Rattle.plain_statements.proofs.Outcomes.{contended_refused, many_refused, lacking_refused, unfit_refused, queries_lack}
+
+-- this of the number that refuses
+abbrev pub RefusedBy : (ℕ → Type 0) → Stopped → Type 0
+RefusedBy refused (No number) = refused number
+RefusedBy refused OutOfMemory = Unit {0}
+
+-- where nothing is made, what is said of the number says all
+pub refused_by : {T : Type 0} {Q : Stopped → Type 0} (made : T → Type 0) (refused : ℕ → Type 0) (r : Result T Stopped) → IsErr r × IsErrAnd r Q → ((s : Stopped) → Q s → RefusedBy refused s)
+    → Plans made refused r
+refused_by made refused (Ok x) h f = absurd (cc h.0)
+refused_by made refused (Err (No number)) h f = f (No number) h.1
+refused_by made refused (Err OutOfMemory) h f = tt
+
+-- what refuses the change of an update
+pub change_stops : (db : Db) (u : Update) (ps : List Pair) (told : Option Db) (before now : ℕ) (fault : UpdateFault)
+    → told ≡ Some db → MakesNew db u → ArePairs db u ps → changing.MayFail u ps told before now fault → RefusedBy (λ number. updated db Free u ≡ Err number) (change_stop fault)
+change_stops db u ps told before now (change.Contended old first second) e new are may = contended_refused db u ps are may.0
+change_stops db u ps told before now change.TooMany e new are may = many_refused db u ps are may.0 (may.1 db e new)
+change_stops db u ps told before now (change.Base fault) e new are may = tt
+change_stops db u ps told before now change.OutOfMemory e new are may = tt
+
+-- what refuses its pairs
+pub pair_stops : (db : Db) (u : Update) (told : Option Db) (before now : ℕ) (fault : PairFault)
+    → told ≡ Some db → query_aggregates u.query ≡ [] → pairing.MayFail (tabled []) u told before now fault → RefusedBy (λ number. updated db Free u ≡ Err number) (pair_stop fault)
+pair_stops db u told before now (pair.NotFit row) e plain may = let unfit = may db e in unfit_refused db u (unfit.plain_values plain) (unfit.plain_fit plain)
+pair_stops db u told before now (pair.Query (query.NoValue at)) e plain may = lacking_refused db u ((may db e).plain plain)
+pair_stops db u told before now (pair.Query (query.Base fault)) e plain may = tt
+pair_stops db u told before now (pair.Query query.OutOfMemory) e plain may = tt
+pair_stops db u told before now pair.OutOfMemory e plain may = tt
+
+-- what refuses queries
+query_stops : (db : Db) (asked : List Asked) (told : Option Db) (before now : ℕ) (fault : QueryFault) → told ≡ Some db → asking.ArePlain asked → asking.MayFail asked told before now fault
+    → RefusedBy (λ number. Refused (refusal number) ≡ answer_reply db Free asked) (query_stop fault)
+query_stops db asked told before now (query.NoValue at) e plain may = queries_lack db asked ((may db e).plain plain)
+query_stops db asked told before now (query.Base fault) e plain may = tt
+query_stops db asked told before now query.OutOfMemory e plain may = tt
+
+pub query_answered : (db : Db) (asked : List Asked) (told : Option Db) (before now : ℕ) (fault : QueryFault) (stopped : Stopped) (reply : Reply)
+    → told ≡ Some db → asking.ArePlain asked → asking.MayFail asked told before now fault → stopped ≡ query_stop fault
+    → (number : ℕ) × (stopped ≡ No number) × (reply ≡ Refused (refusal number)) → reply ≡ answer_reply db Free asked
+query_answered db asked told before now fault stopped reply e plain may is w =
+    w.2
+    ∙ subst (RefusedBy (λ number. Refused (refusal number) ≡ answer_reply db Free asked)) (sym is ∙ w.1)
+    (query_stops db asked told before now fault e plain may)

@@ -1,0 +1,46 @@
+-- The number that refuses a statement where a part of its work answers a fault.
+use Rattle.decompose.specs.declared.fault.QueryFault.{QueryFault}
+use Rattle.decompose.specs.declared.fault.QueryFault.TheVariants as query
+use Rattle.stage_proc.specs.declared.fault.PairFault.{PairFault}
+use Rattle.stage_proc.specs.declared.fault.PairFault.TheVariants as pair
+use Rattle.update_change.specs.declared.fault.UpdateFault.{UpdateFault}
+use Rattle.update_change.specs.declared.fault.UpdateFault.TheVariants as change
+use Rattle.utilities.specs.declared.fault.UtilFault.{UtilFault}
+use Rattle.utilities.specs.declared.fault.UtilFault.TheVariants as utility
+use Rattle.quel_resolve.specs.declared.fault.CheckFault.{CheckFault}
+use Rattle.quel_resolve.specs.declared.fault.CheckFault.TheVariants as check
+use Rattle.plain_statements.specs.declared.stopped.Stopped.{Stopped}
+use Rattle.plain_statements.specs.declared.stopped.Stopped.TheVariants.{No, OutOfMemory}
+
+-- of a query: 20 where a target has no value
+abbrev pub query_stop : QueryFault → Stopped
+query_stop (query.NoValue at) = No 20
+query_stop (query.Base fault) = OutOfMemory
+query_stop query.OutOfMemory = OutOfMemory
+
+-- of an update's pairs: 21 where a value doesn't fit its attribute
+abbrev pub pair_stop : PairFault → Stopped
+pair_stop (pair.NotFit row) = No 21
+pair_stop (pair.Query fault) = query_stop fault
+pair_stop pair.OutOfMemory = OutOfMemory
+
+-- of the change that they make: 22 where a row would have different new rows, 29 where a relation would have too many
+abbrev pub change_stop : UpdateFault → Stopped
+change_stop (change.Contended old first second) = No 22
+change_stop change.TooMany = No 29
+change_stop (change.Base fault) = OutOfMemory
+change_stop change.OutOfMemory = OutOfMemory
+
+-- of a utility: the number of its cause
+abbrev pub utility_stop : UtilFault → Stopped
+utility_stop utility.NotBuilt = OutOfMemory
+utility_stop (utility.No number) = No number
+utility_stop (utility.Base fault) = OutOfMemory
+utility_stop utility.OutOfMemory = OutOfMemory
+
+-- of a statement's tree: the number of its cause
+abbrev pub check_stop : CheckFault → Stopped
+check_stop check.NotBuilt = OutOfMemory
+check_stop (check.No number) = No number
+check_stop (check.Base fault) = OutOfMemory
+check_stop check.OutOfMemory = OutOfMemory
