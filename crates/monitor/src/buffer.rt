@@ -11,7 +11,7 @@ use std::alloc::Global;
 use std::marker::Model;
 
 /// The query buffer: the text that the monitor collects, and the mark that it ran.
-#[derive(Debug, Drop)]
+#[derive(Drop)]
 pub struct Buffer {
     text: Vec<u8>,
     ran: bool,

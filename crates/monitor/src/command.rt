@@ -10,7 +10,7 @@ use calculus::{List, OutOfMemory};
 use std::alloc::Global;
 
 /// A command of the monitor.
-#[derive(Debug, PartialEq, Eq, Drop)]
+#[derive(Drop)]
 pub enum Command {
     /// The buffer is sent as a batch.
     Go,
@@ -31,7 +31,7 @@ pub enum Command {
 }
 
 /// What a word of the table says.
-#[derive(Clone, Copy, Debug, PartialEq, Eq)]
+#[derive(Clone, Copy)]
 enum Word {
     /// A buffer is sent.
     Go,

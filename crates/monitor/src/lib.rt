@@ -17,6 +17,3 @@ pub use line::{Part, parts_of};
 pub use refusals::refusal_bytes;
 pub use replies::{done_bytes, push_reply, reply_bytes};
 pub use tables::{head_bytes, push_head, push_row_line, push_rule, row_line, rule_bytes};
-
-#[cfg(test)]
-mod tests;

@@ -10,7 +10,7 @@ use calculus::{List, OutOfMemory};
 use std::alloc::Global;
 
 /// A part of a line.
-#[derive(Debug, PartialEq, Eq, Drop)]
+#[derive(Drop)]
 pub enum Part {
     /// A piece of text.
     Piece(List<u8>),
@@ -19,7 +19,7 @@ pub enum Part {
 }
 
 /// What the bytes of a line up to a place leave open.
-#[derive(Clone, Copy, Debug, PartialEq, Eq)]
+#[derive(Clone, Copy)]
 enum Quoting {
     /// Nothing.
     Plain,

@@ -12,7 +12,7 @@ use quel_grammar::{Fixed, Piece, Token};
 use std::alloc::Global;
 
 /// Where a token stands in a text.
-#[derive(Clone, Copy, Debug, PartialEq, Eq)]
+#[derive(Clone, Copy)]
 pub struct Span {
     /// The place of its first byte.
     pub begin: usize,
@@ -21,7 +21,7 @@ pub struct Span {
 }
 
 /// What follows the tokens that were cut.
-#[derive(Clone, Copy, Debug, PartialEq, Eq)]
+#[derive(Clone, Copy, PartialEq, Eq)]
 pub enum Stop {
     /// Perhaps more tokens: enough were cut.
     More,
@@ -32,7 +32,7 @@ pub enum Stop {
 }
 
 /// The first tokens of a text from a place on.
-#[derive(Debug, Drop)]
+#[derive(Drop)]
 pub struct Lexed {
     /// The tokens, in order.
     pub tokens: Vec<Token>,

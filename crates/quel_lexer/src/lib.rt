@@ -11,6 +11,3 @@ pub use front::number_of;
 pub use lexed::{Lexed, Span, Stop, first_place, lex_front};
 pub use lines::line_at;
 pub use piece::piece_at;
-
-#[cfg(test)]
-mod tests;

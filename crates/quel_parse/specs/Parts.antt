@@ -1,14 +1,18 @@
 -- Parts of statements, as the grammar says them.
-use Rattle.std.specs.Prelude.{ℕ, List, Option, Some, None, if◌then◌else◌}
+use Rattle.std.specs.Prelude.{ℕ, List, Option, Some, None, Ok, if◌then◌else◌}
 use Rattle.calculus.specs.declared.statement.Item.{Item}
 use Rattle.calculus.specs.declared.statement.Qual.{Qual}
 use Rattle.calculus.specs.declared.statement.Statement.{Statement}
 use Rattle.calculus.specs.declared.statement.Statement.TheVariants as statements
+use Rattle.quel_grammar.specs.declared.token.Fixed.TheVariants as fixed
 use Rattle.quel_grammar.specs.Lexer.{number_of}
+use Rattle.quel_grammar.specs.PartReaders.{covered_by, over_of, user_of, where_by}
+use Rattle.quel_grammar.specs.Reading.{Reader, ◌>>=◌, after, expect, name_at, on_fixed}
 use Rattle.quel_grammar.specs.Statements.{is_width}
 use Rattle.quel_grammar.specs.StatementReaders.{Defined as What, Verb as Said}
 use Rattle.quel_grammar.specs.StatementReaders.Defined.{DefinedView, DefinedPermit, DefinedRule}
 use Rattle.quel_grammar.specs.StatementReaders.Verb.{RangeVerb, RetrieveVerb, AppendVerb, ReplaceVerb, DeleteVerb, CreateVerb, DestroyVerb, ModifyVerb, IndexVerb, PrintVerb, HelpVerb, CopyVerb, DefineVerb}
+use Rattle.quel_grammar.specs.TermReaders.{Lower}
 use Rattle.quel_parse.specs.declared.changes.Change.{Change}
 use Rattle.quel_parse.specs.declared.changes.Change.TheVariants as changes
 use Rattle.quel_parse.specs.declared.relations.Dropped.{Dropped}
@@ -32,6 +36,17 @@ change_of changes.View = statements.View
 abbrev pub dropped_of : Dropped → List ℕ → List ℕ → Statement
 dropped_of drops.Permits = statements.DropPermits
 dropped_of drops.Rules = statements.DropRules
+
+-- what follows the operations of a permit, which give these rights together
+abbrev pub granted_by : ℕ → Lower → ℕ → Reader Statement
+granted_by n l ops ts = do
+  over ← expect (on_fixed over_of) ts
+  v ← name_at over.1
+  names ← covered_by n v.1
+  to ← after fixed.To names.1
+  user ← expect user_of to.1
+  q ← where_by l user.1
+  Ok (statements.Permit ops v.0 names.0 user.0 q.0, q.1)
 
 -- what is defined
 abbrev pub defined_of : Defined → What

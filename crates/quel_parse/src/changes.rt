@@ -8,13 +8,13 @@ ghost use Rattle.quel_terms.specs.View.{Gives};
 
 use crate::sort_keys::sort_by;
 use crate::targets::{into_at, maybe, targets_by, where_by};
-use calculus::{Item, List, Name, Qual, Statement};
+use calculus::{Boxed, Item, List, Name, Qual, Statement};
 use quel_grammar::{Fixed, Token};
-use quel_terms::{Read, name_at};
+use quel_terms::{Read, both, seen_name};
 use std::alloc::Global;
 
 /// What is done with a name, a target list and a qualification.
-#[derive(Clone, Copy, Debug, PartialEq, Eq)]
+#[derive(Clone, Copy)]
 pub enum Change {
     /// `append`
     Append,
@@ -50,19 +50,20 @@ pub fn changed_by<'a>(
     depth: u16,
     change: Change,
     tokens: &'a [Token],
-) -> Read<'a, Statement>
+) -> Read<'a, Boxed<Statement>>
     ensures { Gives (λ x. (x.0, x.1.now)) result (changed_by depth (level depth) (change_of change) tokens.now) }
 {
-    let (name, rest) = name_at(alloc, tokens)?;
+    let (name, rest) = seen_name(tokens)?;
     let (items, rest) = targets_by(alloc, depth, rest)?;
     let (qual, rest) = where_by(alloc, depth, rest)?;
-    let statement = change_of(change, name, List::of(items), qual);
-    Ok((statement, rest))
+    let (name, (items, qual)) = both(name.copy(alloc), Ok((items, qual)))?;
+    let statement = change_of(change, name, List::of(items), qual.into_inner());
+    Ok((Boxed::new(alloc, statement)?, rest))
 }
 
 /// `append`, behind its first word.
 #[tactic(auto, unfolding(quel_grammar::specs::StatementReaders::append_by))]
-pub fn append_by<'a>(alloc: Global, depth: u16, tokens: &'a [Token]) -> Read<'a, Statement>
+pub fn append_by<'a>(alloc: Global, depth: u16, tokens: &'a [Token]) -> Read<'a, Boxed<Statement>>
     ensures { Gives (λ x. (x.0, x.1.now)) result (append_by depth (level depth) tokens.now) }
 {
     let rest = maybe(Fixed::To, tokens);
@@ -71,17 +72,18 @@ pub fn append_by<'a>(alloc: Global, depth: u16, tokens: &'a [Token]) -> Read<'a,
 
 /// `delete`, behind its first word.
 #[tactic(auto, unfolding(quel_grammar::specs::StatementReaders::delete_by))]
-pub fn delete_by<'a>(alloc: Global, depth: u16, tokens: &'a [Token]) -> Read<'a, Statement>
+pub fn delete_by<'a>(alloc: Global, depth: u16, tokens: &'a [Token]) -> Read<'a, Boxed<Statement>>
     ensures { Gives (λ x. (x.0, x.1.now)) result (delete_by (level depth) tokens.now) }
 {
-    let (var, rest) = name_at(alloc, tokens)?;
+    let (var, rest) = seen_name(tokens)?;
     let (qual, rest) = where_by(alloc, depth, rest)?;
-    Ok((Statement::Delete { var, qual }, rest))
+    let (var, qual) = both(var.copy(alloc), Ok(qual.into_inner()))?;
+    Ok((Boxed::new(alloc, Statement::Delete { var, qual })?, rest))
 }
 
 /// `retrieve`, behind its first word.
 #[tactic(auto, unfolding(quel_grammar::specs::StatementReaders::retrieve_by))]
-pub fn retrieve_by<'a>(alloc: Global, depth: u16, tokens: &'a [Token]) -> Read<'a, Statement>
+pub fn retrieve_by<'a>(alloc: Global, depth: u16, tokens: &'a [Token]) -> Read<'a, Boxed<Statement>>
     ensures { Gives (λ x. (x.0, x.1.now)) result (retrieve_by depth (level depth) tokens.now) }
 {
     let rest = maybe(Fixed::Unique, tokens);
@@ -92,8 +94,8 @@ pub fn retrieve_by<'a>(alloc: Global, depth: u16, tokens: &'a [Token]) -> Read<'
     let statement = Statement::Retrieve {
         into,
         items: List::of(items),
-        qual,
+        qual: qual.into_inner(),
         sort: List::of(sort),
     };
-    Ok((statement, rest))
+    Ok((Boxed::new(alloc, statement)?, rest))
 }

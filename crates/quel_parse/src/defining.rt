@@ -4,20 +4,20 @@ ghost use Rattle.std.specs.Prelude.{◌≡◌, option_map};
 ghost use Rattle.quel_grammar.specs.Reading.{first, on_fixed};
 ghost use Rattle.quel_grammar.specs.StatementReaders.{permit_by, rule_by, defined_of, defined_by, define_by};
 ghost use Rattle.quel_grammar.specs.TermReaders.{level};
-ghost use Rattle.quel_parse.specs.Parts.{defined_of as what_of};
+ghost use Rattle.quel_parse.specs.Parts.{defined_of as what_of, granted_by};
 ghost use Rattle.quel_terms.specs.View.{Gives};
 
 use crate::changes::{Change, changed_by};
 use crate::names::covered_by;
 use crate::permits::{joined, operations_from, over_at, user_at};
 use crate::targets::where_by;
-use calculus::{List, Statement};
+use calculus::{Boxed, List, Statement};
 use quel_grammar::{Fixed, Token};
-use quel_terms::{Halt, Read, after, name_at, qual_by};
+use quel_terms::{Halt, Read, after, both, qual_by, seen_name};
 use std::alloc::Global;
 
 /// What is defined.
-#[derive(Clone, Copy, Debug, PartialEq, Eq)]
+#[derive(Clone, Copy)]
 enum Defined {
     /// A view.
     View,
@@ -27,38 +27,52 @@ enum Defined {
     Rule,
 }
 
-/// `define permit`, behind its words.
-#[tactic(auto, unfolding(quel_grammar::specs::StatementReaders::permit_by))]
-fn permit_by<'a>(alloc: Global, depth: u16, tokens: &'a [Token]) -> Read<'a, Statement>
-    ensures { Gives (λ x. (x.0, x.1.now)) result (permit_by depth (level depth) tokens.now) }
+/// What follows the operations of a permit, which give these rights together.
+fn granted_by<'a>(
+    alloc: Global,
+    depth: u16,
+    ops: u8,
+    tokens: &'a [Token],
+) -> Read<'a, Boxed<Statement>>
+    ensures { Gives (λ x. (x.0, x.1.now)) result (granted_by depth (level depth) ops tokens.now) }
 {
-    let (rights, rest) = operations_from(alloc, depth, Vec::new(alloc), tokens)?;
-    let rest = over_at(rest)?;
-    let (var, rest) = name_at(alloc, rest)?;
+    let rest = over_at(tokens)?;
+    let (var, rest) = seen_name(rest)?;
     let (attrs, rest) = covered_by(alloc, depth, rest)?;
     let rest = after(Fixed::To, rest)?;
     let (user, rest) = user_at(alloc, rest)?;
     let (qual, rest) = where_by(alloc, depth, rest)?;
+    let (var, (attrs, user, qual)) = both(var.copy(alloc), Ok((attrs, user, qual)))?;
     let statement = Statement::Permit {
-        ops: joined(&rights),
+        ops,
         var,
         attrs: List::of(attrs),
         user,
-        qual,
+        qual: qual.into_inner(),
     };
-    Ok((statement, rest))
+    Ok((Boxed::new(alloc, statement)?, rest))
+}
+
+/// `define permit`, behind its words.
+#[tactic(auto, unfolding(quel_grammar::specs::StatementReaders::permit_by))]
+fn permit_by<'a>(alloc: Global, depth: u16, tokens: &'a [Token]) -> Read<'a, Boxed<Statement>>
+    ensures { Gives (λ x. (x.0, x.1.now)) result (permit_by depth (level depth) tokens.now) }
+{
+    let (rights, rest) = operations_from(alloc, depth, Vec::new(alloc), tokens)?;
+    granted_by(alloc, depth, joined(&rights), rest)
 }
 
 /// `define integrity`, behind its words.
 #[tactic(auto, unfolding(quel_grammar::specs::StatementReaders::rule_by))]
-fn rule_by<'a>(alloc: Global, depth: u16, tokens: &'a [Token]) -> Read<'a, Statement>
+fn rule_by<'a>(alloc: Global, depth: u16, tokens: &'a [Token]) -> Read<'a, Boxed<Statement>>
     ensures { Gives (λ x. (x.0, x.1.now)) result (rule_by (level depth) tokens.now) }
 {
     let rest = after(Fixed::On, tokens)?;
-    let (var, rest) = name_at(alloc, rest)?;
+    let (var, rest) = seen_name(rest)?;
     let rest = after(Fixed::Is, rest)?;
     let (qual, rest) = qual_by(alloc, depth, rest)?;
-    Ok((Statement::Rule { var, qual }, rest))
+    let (var, qual) = both(var.copy(alloc), Ok(qual.into_inner()))?;
+    Ok((Boxed::new(alloc, Statement::Rule { var, qual })?, rest))
 }
 
 /// The word for what is defined, where one stands there.
@@ -82,7 +96,7 @@ fn defined_by<'a>(
     depth: u16,
     defined: Defined,
     tokens: &'a [Token],
-) -> Read<'a, Statement>
+) -> Read<'a, Boxed<Statement>>
     ensures { Gives (λ x. (x.0, x.1.now)) result (defined_by depth (level depth) (what_of defined) tokens.now) }
 {
     match defined {
@@ -94,7 +108,7 @@ fn defined_by<'a>(
 
 /// `define`, behind its first word.
 #[tactic(auto, unfolding(quel_grammar::specs::StatementReaders::define_by))]
-pub fn define_by<'a>(alloc: Global, depth: u16, tokens: &'a [Token]) -> Read<'a, Statement>
+pub fn define_by<'a>(alloc: Global, depth: u16, tokens: &'a [Token]) -> Read<'a, Boxed<Statement>>
     ensures { Gives (λ x. (x.0, x.1.now)) result (define_by depth (level depth) tokens.now) }
 {
     match defined_at(tokens) {

@@ -12,7 +12,7 @@ ghost use Rattle.quel_terms.specs.View.{Gives};
 use calculus::{CopyForm, Domain, Name};
 use quel_grammar::{Fixed, Token};
 use quel_lexer::number_of;
-use quel_terms::{Halt, Read, after, found, look_up, name_at};
+use quel_terms::{Halt, Read, after, found, look_up, seen_name};
 use std::alloc::Global;
 
 /// The greatest width of a text.
@@ -138,10 +138,10 @@ fn form_at(tokens: &[Token]) -> Read<'_, CopyForm>
 fn attribute_at<'a>(alloc: Global, tokens: &'a [Token]) -> Read<'a, (Name, Domain)>
     ensures { Gives (λ x. (x.0, x.1.now)) result (named_at format_of tokens.now) }
 {
-    let (name, rest) = name_at(alloc, tokens)?;
+    let (name, rest) = seen_name(tokens)?;
     let rest = after(Fixed::Equal, rest)?;
     let (form, rest) = domain_at(rest)?;
-    Ok(((name, form), rest))
+    Ok(((name.copy(alloc)?, form), rest))
 }
 
 /// A column, `=` and a form.
@@ -149,10 +149,10 @@ fn attribute_at<'a>(alloc: Global, tokens: &'a [Token]) -> Read<'a, (Name, Domai
 fn column_at<'a>(alloc: Global, tokens: &'a [Token]) -> Read<'a, (Name, CopyForm)>
     ensures { Gives (λ x. (x.0, x.1.now)) result (named_at copy_form_of tokens.now) }
 {
-    let (name, rest) = name_at(alloc, tokens)?;
+    let (name, rest) = seen_name(tokens)?;
     let rest = after(Fixed::Equal, rest)?;
     let (form, rest) = form_at(rest)?;
-    Ok(((name, form), rest))
+    Ok(((name.copy(alloc)?, form), rest))
 }
 
 /// Attributes with their domains with commas between them, behind those that were read before; at most so many.

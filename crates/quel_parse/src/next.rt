@@ -10,7 +10,7 @@ ghost use Rattle.quel_grammar.specs.Bounds.{first_past};
 
 use crate::bounds::first_past;
 use crate::verbs::statement_by;
-use calculus::{OutOfMemory, Statement};
+use calculus::{Boxed, OutOfMemory, Statement};
 use quel_grammar::Token;
 use quel_lexer::{Lexed, Span, Stop, lex_front, line_at};
 use quel_terms::Halt;
@@ -45,7 +45,7 @@ impl From<OutOfMemory> for ParseFault {
 }
 
 /// What is read.
-#[derive(Debug, Drop)]
+#[derive(Drop)]
 enum Next<T> {
     /// Nothing: only white space and comments follow.
     Nothing,
@@ -56,7 +56,7 @@ enum Next<T> {
 }
 
 /// What was read of tokens, and of how many.
-#[derive(Debug, Drop)]
+#[derive(Drop)]
 struct Front<T> {
     /// The value, if there is one.
     value: Option<T>,
@@ -65,7 +65,7 @@ struct Front<T> {
 }
 
 /// Reads a statement from the tokens, as if no more followed.
-fn read_tokens(alloc: Global, tokens: &[Token]) -> Result<Front<Statement>, OutOfMemory>
+fn read_tokens(alloc: Global, tokens: &[Token]) -> Result<Front<Boxed<Statement>>, OutOfMemory>
     requires { length tokens.now ≤ 501 }
     ensures { IfOk result (λ front. IsFrontRead tokens.now front) }
 {
@@ -161,7 +161,7 @@ fn told(
     from: usize,
     most: usize,
     one: bool,
-) -> Result<Option<Next<Statement>>, OutOfMemory>
+) -> Result<Option<Next<Boxed<Statement>>>, OutOfMemory>
     requires { most ≤ 501 }
     ensures next { IfOk result (λ o. IfSome o (λ next. seen next ≡ next_at text.now from)) }
     ensures all { IfOk result (λ o. most ≡ 501 → one ≡ false → is_some o ≡ true) }
@@ -177,7 +177,7 @@ fn told(
 }
 
 /// What is read of the text from a place on.
-fn read_next(alloc: Global, text: &[u8], from: usize) -> Result<Next<Statement>, OutOfMemory>
+fn read_next(alloc: Global, text: &[u8], from: usize) -> Result<Next<Boxed<Statement>>, OutOfMemory>
     ensures { IfOk result (λ next. seen next ≡ next_at text.now from) }
 {
     if let Some(next) = told(alloc, text, from, ENOUGH, true)? {
@@ -205,7 +205,7 @@ pub fn next_statement(
 {
     match read_next(alloc, text, from)? {
         Next::Nothing => Ok(None),
-        Next::Read(statement, end) => Ok(Some((statement, end))),
+        Next::Read(statement, end) => Ok(Some((statement.into_inner(), end))),
         Next::Syntax(at) => Err(ParseFault::Syntax {
             line: line_at(text, at),
             at,

@@ -11,13 +11,13 @@ use crate::formats::{attributes_by, columns_by};
 use crate::names::{covered_names, names_at};
 use crate::numbers::numbers_at;
 use crate::structures::structure_by;
-use calculus::{Chars, List, Name, Statement};
+use calculus::{Boxed, Chars, List, Name, Statement};
 use quel_grammar::{Fixed, Token};
-use quel_terms::{Halt, Read, after, name_at};
+use quel_terms::{Halt, Read, after, both, seen_name};
 use std::alloc::Global;
 
 /// What is dropped by its numbers.
-#[derive(Clone, Copy, Debug, PartialEq, Eq)]
+#[derive(Clone, Copy)]
 enum Dropped {
     /// Permits.
     Permits,
@@ -27,35 +27,36 @@ enum Dropped {
 
 /// `range`, behind its first word.
 #[tactic(auto, unfolding(quel_grammar::specs::StatementReaders::range_at))]
-pub fn range_at<'a>(alloc: Global, tokens: &'a [Token]) -> Read<'a, Statement>
+pub fn range_at<'a>(alloc: Global, tokens: &'a [Token]) -> Read<'a, Boxed<Statement>>
     ensures { Gives (λ x. (x.0, x.1.now)) result (range_at tokens.now) }
 {
     let rest = after(Fixed::Of, tokens)?;
-    let (var, rest) = name_at(alloc, rest)?;
+    let (var, rest) = seen_name(rest)?;
     let rest = after(Fixed::Is, rest)?;
-    let (rel, rest) = name_at(alloc, rest)?;
-    Ok((Statement::Range { var, rel }, rest))
+    let (rel, rest) = seen_name(rest)?;
+    let (var, rel) = both(var.copy(alloc), rel.copy(alloc))?;
+    Ok((Boxed::new(alloc, Statement::Range { var, rel })?, rest))
 }
 
 /// `create`, behind its first word.
 #[tactic(auto, unfolding(quel_grammar::specs::StatementReaders::create_by))]
-pub fn create_by<'a>(alloc: Global, most: u16, tokens: &'a [Token]) -> Read<'a, Statement>
+pub fn create_by<'a>(alloc: Global, most: u16, tokens: &'a [Token]) -> Read<'a, Boxed<Statement>>
     ensures { Gives (λ x. (x.0, x.1.now)) result (create_by most tokens.now) }
 {
-    let (rel, rest) = name_at(alloc, tokens)?;
+    let (rel, rest) = seen_name(tokens)?;
     let (attrs, rest) = attributes_by(alloc, most, rest)?;
-    let attrs = List::of(attrs);
-    Ok((Statement::Create { rel, attrs }, rest))
+    let (rel, attrs) = both(rel.copy(alloc), Ok(List::of(attrs)))?;
+    Ok((Boxed::new(alloc, Statement::Create { rel, attrs })?, rest))
 }
 
 /// `destroy`, of relations.
 #[tactic(auto, unfolding(quel_grammar::specs::StatementReaders::destroy_names))]
-fn destroy_names<'a>(alloc: Global, most: u16, tokens: &'a [Token]) -> Read<'a, Statement>
+fn destroy_names<'a>(alloc: Global, most: u16, tokens: &'a [Token]) -> Read<'a, Boxed<Statement>>
     ensures { Gives (λ x. (x.0, x.1.now)) result (destroy_names most tokens.now) }
 {
     let (names, rest) = names_at(alloc, most, tokens)?;
     let rels = List::of(names);
-    Ok((Statement::Destroy { rels }, rest))
+    Ok((Boxed::new(alloc, Statement::Destroy { rels })?, rest))
 }
 
 /// `permit` or `integrity` behind `destroy`, where one stands there.
@@ -89,18 +90,19 @@ fn drop_by<'a>(
     most: u16,
     dropped: Dropped,
     tokens: &'a [Token],
-) -> Read<'a, Statement>
+) -> Read<'a, Boxed<Statement>>
     ensures { Gives (λ x. (x.0, x.1.now)) result (drop_by most (dropped_of dropped) tokens.now) }
 {
-    let (rel, rest) = name_at(alloc, tokens)?;
+    let (rel, rest) = seen_name(tokens)?;
     let (numbers, rest) = numbers_at(alloc, most, rest)?;
-    let statement = dropped_of(dropped, rel, List::of(numbers));
-    Ok((statement, rest))
+    let (rel, numbers) = both(rel.copy(alloc), Ok(List::of(numbers)))?;
+    let statement = dropped_of(dropped, rel, numbers);
+    Ok((Boxed::new(alloc, statement)?, rest))
 }
 
 /// `destroy`, behind its first word.
 #[tactic(auto, unfolding(quel_grammar::specs::StatementReaders::destroy_by))]
-pub fn destroy_by<'a>(alloc: Global, most: u16, tokens: &'a [Token]) -> Read<'a, Statement>
+pub fn destroy_by<'a>(alloc: Global, most: u16, tokens: &'a [Token]) -> Read<'a, Boxed<Statement>>
     ensures { Gives (λ x. (x.0, x.1.now)) result (destroy_by most tokens.now) }
 {
     match dropped_at(tokens) {
@@ -111,52 +113,59 @@ pub fn destroy_by<'a>(alloc: Global, most: u16, tokens: &'a [Token]) -> Read<'a,
 
 /// `modify`, behind its first word.
 #[tactic(auto, unfolding(quel_grammar::specs::StatementReaders::modify_by))]
-pub fn modify_by<'a>(alloc: Global, most: u16, tokens: &'a [Token]) -> Read<'a, Statement>
+pub fn modify_by<'a>(alloc: Global, most: u16, tokens: &'a [Token]) -> Read<'a, Boxed<Statement>>
     ensures { Gives (λ x. (x.0, x.1.now)) result (modify_by most tokens.now) }
 {
-    let (rel, rest) = name_at(alloc, tokens)?;
+    let (rel, rest) = seen_name(tokens)?;
     let rest = after(Fixed::To, rest)?;
     let ((to, keys), rest) = structure_by(alloc, most, rest)?;
-    let keys = List::of(keys);
-    Ok((Statement::Modify { rel, to, keys }, rest))
+    let (rel, keys) = both(rel.copy(alloc), Ok(List::of(keys)))?;
+    Ok((
+        Boxed::new(alloc, Statement::Modify { rel, to, keys })?,
+        rest,
+    ))
 }
 
 /// `index`, behind its first word.
 #[tactic(auto, unfolding(quel_grammar::specs::StatementReaders::index_by))]
-pub fn index_by<'a>(alloc: Global, most: u16, tokens: &'a [Token]) -> Read<'a, Statement>
+pub fn index_by<'a>(alloc: Global, most: u16, tokens: &'a [Token]) -> Read<'a, Boxed<Statement>>
     ensures { Gives (λ x. (x.0, x.1.now)) result (index_by most tokens.now) }
 {
     let rest = after(Fixed::On, tokens)?;
-    let (base, rest) = name_at(alloc, rest)?;
+    let (base, rest) = seen_name(rest)?;
     let rest = after(Fixed::Is, rest)?;
-    let (name, rest) = name_at(alloc, rest)?;
+    let (name, rest) = seen_name(rest)?;
     let rest = after(Fixed::Open, rest)?;
     let (keys, rest) = covered_names(alloc, most, rest)?;
-    let keys = List::of(keys);
-    Ok((Statement::Index { base, name, keys }, rest))
+    let names = both(base.copy(alloc), name.copy(alloc));
+    let ((base, name), keys) = both(names, Ok(List::of(keys)))?;
+    Ok((
+        Boxed::new(alloc, Statement::Index { base, name, keys })?,
+        rest,
+    ))
 }
 
 /// `print`, behind its first word.
 #[tactic(auto, unfolding(quel_grammar::specs::StatementReaders::print_by))]
-pub fn print_by<'a>(alloc: Global, most: u16, tokens: &'a [Token]) -> Read<'a, Statement>
+pub fn print_by<'a>(alloc: Global, most: u16, tokens: &'a [Token]) -> Read<'a, Boxed<Statement>>
     ensures { Gives (λ x. (x.0, x.1.now)) result (print_by most tokens.now) }
 {
     let (names, rest) = names_at(alloc, most, tokens)?;
     let rels = List::of(names);
-    Ok((Statement::Print { rels }, rest))
+    Ok((Boxed::new(alloc, Statement::Print { rels })?, rest))
 }
 
 /// `help`, behind its first word.
 #[tactic(auto, unfolding(quel_grammar::specs::StatementReaders::help_at))]
-pub fn help_at<'a>(alloc: Global, tokens: &'a [Token]) -> Read<'a, Statement>
+pub fn help_at<'a>(alloc: Global, tokens: &'a [Token]) -> Read<'a, Boxed<Statement>>
     ensures { Gives (λ x. (x.0, x.1.now)) result (help_at tokens.now) }
 {
     match tokens {
         [Token::Name(name), rest @ ..] => {
             let rel = Some(name.copy(alloc)?);
-            Ok((Statement::Help { rel }, rest))
+            Ok((Boxed::new(alloc, Statement::Help { rel })?, rest))
         }
-        _ => Ok((Statement::Help { rel: None }, tokens)),
+        _ => Ok((Boxed::new(alloc, Statement::Help { rel: None })?, tokens)),
     }
 }
 
@@ -172,32 +181,31 @@ fn way_at(tokens: &[Token]) -> Read<'_, bool>
 }
 
 /// A text constant, which must stand there.
-fn file_at<'a>(alloc: Global, tokens: &'a [Token]) -> Read<'a, Chars>
-    ensures { Gives (λ x. (x.0, x.1.now)) result (expect text_of tokens.now) }
+fn seen_file(tokens: &[Token]) -> Read<'_, &Chars>
+    ensures { Gives (λ x. (x.0.now, x.1.now)) result (expect text_of tokens.now) }
 {
     match tokens {
-        [Token::Text(text), rest @ ..] => Ok((text.copy(alloc)?, rest)),
+        [Token::Text(text), rest @ ..] => Ok((text, rest)),
         _ => Err(Halt::Stop(tokens)),
     }
 }
 
 /// `copy`, behind its first word.
 #[tactic(auto, unfolding(quel_grammar::specs::StatementReaders::copy_by))]
-pub fn copy_by<'a>(alloc: Global, most: u16, tokens: &'a [Token]) -> Read<'a, Statement>
+pub fn copy_by<'a>(alloc: Global, most: u16, tokens: &'a [Token]) -> Read<'a, Boxed<Statement>>
     ensures { Gives (λ x. (x.0, x.1.now)) result (copy_by most tokens.now) }
 {
-    let (rel, rest) = name_at(alloc, tokens)?;
+    let (rel, rest) = seen_name(tokens)?;
     let (columns, rest) = columns_by(alloc, most, rest)?;
     let (from, rest) = way_at(rest)?;
-    let (file, rest) = file_at(alloc, rest)?;
-    let columns = List::of(columns);
-    Ok((
-        Statement::Copy {
-            rel,
-            columns,
-            from,
-            file,
-        },
-        rest,
-    ))
+    let (file, rest) = seen_file(rest)?;
+    let names = both(rel.copy(alloc), file.copy(alloc));
+    let ((rel, file), columns) = both(names, Ok(List::of(columns)))?;
+    let statement = Statement::Copy {
+        rel,
+        columns,
+        from,
+        file,
+    };
+    Ok((Boxed::new(alloc, statement)?, rest))
 }

@@ -7,7 +7,7 @@ ghost use Rattle.quel_terms.specs.View.{Gives};
 
 use calculus::Name;
 use quel_grammar::{Fixed, Token};
-use quel_terms::{Halt, Read, after, found, look_up, name_at};
+use quel_terms::{Halt, Read, after, found, look_up, seen_name};
 use std::alloc::Global;
 
 /// The words of direction, and whether they say that it descends.
@@ -55,9 +55,9 @@ fn direction_at(tokens: &[Token]) -> Read<'_, bool>
 fn key_at<'a>(alloc: Global, tokens: &'a [Token]) -> Read<'a, (Name, bool)>
     ensures { Gives (λ x. (x.0, x.1.now)) result (key_at tokens.now) }
 {
-    let (name, rest) = name_at(alloc, tokens)?;
+    let (name, rest) = seen_name(tokens)?;
     let (down, rest) = direction_at(rest)?;
-    Ok(((name, down), rest))
+    Ok(((name.copy(alloc)?, down), rest))
 }
 
 /// Sort keys with commas between them, behind those that were read before; at most so many.

@@ -7,9 +7,9 @@ ghost use Rattle.quel_grammar.specs.Reading.{first, choose, done, name_of};
 ghost use Rattle.quel_grammar.specs.TermReaders.{level};
 ghost use Rattle.quel_terms.specs.View.{Gives};
 
-use calculus::{Item, Name, Qual};
+use calculus::{Boxed, Item, Name, Qual};
 use quel_grammar::{Fixed, Token};
-use quel_terms::{Halt, Read, after, found, name_at, qual_by, term_by};
+use quel_terms::{Halt, Read, after, both, found, name_at, qual_by, seen_name, term_by};
 use std::alloc::Global;
 
 /// The tokens behind a reserved word that may stand there.
@@ -25,30 +25,31 @@ pub fn maybe(fixed: Fixed, tokens: &[Token]) -> &[Token]
 
 /// All attributes of a variable, behind the dot.
 #[tactic(auto, unfolding(quel_grammar::specs::PartReaders::all_target))]
-fn all_target(var: Name, tokens: &[Token]) -> Read<'_, Item>
-    ensures { Gives (λ x. (x.0, x.1.now)) result (all_target var tokens.now) }
+fn all_target<'a>(alloc: Global, var: &Name, tokens: &'a [Token]) -> Read<'a, Item>
+    ensures { Gives (λ x. (x.0, x.1.now)) result (all_target var.now tokens.now) }
 {
     let rest = after(Fixed::All, tokens)?;
+    let var = var.copy(alloc)?;
     Ok((Item::All { var }, rest))
 }
 
 /// An attribute of a variable or all of them, behind the dot.
-fn named_target<'a>(alloc: Global, var: Name, tokens: &'a [Token]) -> Read<'a, Item>
-    ensures { Gives (λ x. (x.0, x.1.now)) result (choose (all_target var) (λ a. done (items.Attr var a)) tokens.now (first name_of tokens.now)) }
+fn named_target<'a>(alloc: Global, var: &Name, tokens: &'a [Token]) -> Read<'a, Item>
+    ensures { Gives (λ x. (x.0, x.1.now)) result (choose (all_target var.now) (λ a. done (items.Attr var.now a)) tokens.now (first name_of tokens.now)) }
 {
     match tokens {
         [Token::Name(attr), rest @ ..] => {
-            let attr = attr.copy(alloc)?;
+            let (var, attr) = both(var.copy(alloc), attr.copy(alloc))?;
             Ok((Item::Attr { var, attr }, rest))
         }
-        _ => all_target(var, tokens),
+        _ => all_target(alloc, var, tokens),
     }
 }
 
 /// An attribute of a variable or all of them, behind the variable.
 #[tactic(auto, unfolding(quel_grammar::specs::PartReaders::dot_target))]
-fn dot_target<'a>(alloc: Global, var: Name, tokens: &'a [Token]) -> Read<'a, Item>
-    ensures { Gives (λ x. (x.0, x.1.now)) result (dot_target var tokens.now) }
+fn dot_target<'a>(alloc: Global, var: &Name, tokens: &'a [Token]) -> Read<'a, Item>
+    ensures { Gives (λ x. (x.0, x.1.now)) result (dot_target var.now tokens.now) }
 {
     let rest = after(Fixed::Dot, tokens)?;
     named_target(alloc, var, rest)
@@ -56,10 +57,11 @@ fn dot_target<'a>(alloc: Global, var: Name, tokens: &'a [Token]) -> Read<'a, Ite
 
 /// The term of a title, behind the `=`.
 #[tactic(auto, unfolding(quel_grammar::specs::PartReaders::set_target))]
-fn set_target<'a>(alloc: Global, depth: u16, name: Name, tokens: &'a [Token]) -> Read<'a, Item>
-    ensures { Gives (λ x. (x.0, x.1.now)) result (set_target (level depth) name tokens.now) }
+fn set_target<'a>(alloc: Global, depth: u16, name: &Name, tokens: &'a [Token]) -> Read<'a, Item>
+    ensures { Gives (λ x. (x.0, x.1.now)) result (set_target (level depth) name.now tokens.now) }
 {
     let (term, rest) = term_by(alloc, depth, tokens)?;
+    let (name, term) = both(name.copy(alloc), Ok(term.into_inner()))?;
     Ok((Item::Set { name, term }, rest))
 }
 
@@ -68,7 +70,7 @@ fn set_target<'a>(alloc: Global, depth: u16, name: Name, tokens: &'a [Token]) ->
 fn target_by<'a>(alloc: Global, depth: u16, tokens: &'a [Token]) -> Read<'a, Item>
     ensures { Gives (λ x. (x.0, x.1.now)) result (target_by (level depth) tokens.now) }
 {
-    let (name, rest) = name_at(alloc, tokens)?;
+    let (name, rest) = seen_name(tokens)?;
     match found(Fixed::Equal, rest) {
         Some(rest) => set_target(alloc, depth, name, rest),
         None => dot_target(alloc, name, rest),
@@ -134,12 +136,12 @@ pub fn targets_by<'a>(alloc: Global, depth: u16, tokens: &'a [Token]) -> Read<'a
 
 /// `where` and a qualification, or nothing.
 #[tactic(auto, unfolding(quel_grammar::specs::PartReaders::where_by))]
-pub fn where_by<'a>(alloc: Global, depth: u16, tokens: &'a [Token]) -> Read<'a, Qual>
+pub fn where_by<'a>(alloc: Global, depth: u16, tokens: &'a [Token]) -> Read<'a, Boxed<Qual>>
     ensures { Gives (λ x. (x.0, x.1.now)) result (where_by (level depth) tokens.now) }
 {
     match found(Fixed::Where, tokens) {
         Some(rest) => qual_by(alloc, depth, rest),
-        None => Ok((Qual::True, tokens)),
+        None => Ok((Boxed::new(alloc, Qual::True)?, tokens)),
     }
 }
 

@@ -12,13 +12,13 @@ use crate::defining::define_by;
 use crate::relations::{
     copy_by, create_by, destroy_by, help_at, index_by, modify_by, print_by, range_at,
 };
-use calculus::Statement;
+use calculus::{Boxed, Statement};
 use quel_grammar::{Fixed, Token};
 use quel_terms::{Halt, Read};
 use std::alloc::Global;
 
 /// The first words.
-#[derive(Clone, Copy, Debug, PartialEq, Eq)]
+#[derive(Clone, Copy)]
 enum Verb {
     /// `range`
     Range,
@@ -84,7 +84,12 @@ fn verb_at(tokens: &[Token]) -> Option<(Verb, &[Token])>
 }
 
 /// A statement, behind its first word.
-fn verb_by<'a>(alloc: Global, depth: u16, verb: Verb, tokens: &'a [Token]) -> Read<'a, Statement>
+fn verb_by<'a>(
+    alloc: Global,
+    depth: u16,
+    verb: Verb,
+    tokens: &'a [Token],
+) -> Read<'a, Boxed<Statement>>
     ensures { Gives (λ x. (x.0, x.1.now)) result (verb_by depth (level depth) (said_of verb) tokens.now) }
 {
     match verb {
@@ -106,7 +111,11 @@ fn verb_by<'a>(alloc: Global, depth: u16, verb: Verb, tokens: &'a [Token]) -> Re
 
 /// A statement of at most `depth` tokens.
 #[tactic(auto, unfolding(quel_grammar::specs::StatementReaders::statement_by))]
-pub fn statement_by<'a>(alloc: Global, depth: u16, tokens: &'a [Token]) -> Read<'a, Statement>
+pub fn statement_by<'a>(
+    alloc: Global,
+    depth: u16,
+    tokens: &'a [Token],
+) -> Read<'a, Boxed<Statement>>
     ensures { Gives (λ x. (x.0, x.1.now)) result (statement_by depth tokens.now) }
 {
     match verb_at(tokens) {

@@ -9,7 +9,7 @@ use crate::table::look_up;
 use calculus::AggOp;
 
 /// What is called by a name.
-#[derive(Clone, Copy, Debug, PartialEq, Eq)]
+#[derive(Clone, Copy)]
 pub enum Call {
     /// `abs`
     Abs,

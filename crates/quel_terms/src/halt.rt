@@ -8,7 +8,6 @@ use quel_grammar::Token;
 use std::alloc::{AllocError, AllocFailed};
 
 /// Why nothing more was read.
-#[derive(Debug)]
 pub enum Halt<'a> {
     /// No memory was left.
     Memory,

@@ -3,6 +3,7 @@
 
 mod called;
 mod halt;
+mod pairs;
 mod primaries;
 mod qualifications;
 mod signs;
@@ -11,7 +12,8 @@ mod taking;
 mod terms;
 
 pub use halt::{Halt, Read};
+pub use pairs::both;
 pub use qualifications::qual_by;
 pub use table::look_up;
-pub use taking::{after, found, name_at};
+pub use taking::{after, found, name_at, seen_name};
 pub use terms::term_by;

@@ -12,8 +12,9 @@ ghost use Rattle.quel_terms.specs.View.{Gives};
 
 use crate::called::{Call, call_of};
 use crate::halt::{Halt, Read};
+use crate::pairs::both;
 use crate::qualifications::{demanded, mixed_at};
-use crate::taking::{after, found, name_at};
+use crate::taking::{after, found, seen_name};
 use crate::terms::{arith, term_at, terms_at};
 use calculus::{AggOp, AggTerm, ArithOp, Boxed, List, Name, Qual, Term};
 use quel_grammar::{Fixed, Token};
@@ -22,7 +23,7 @@ use std::alloc::Global;
 /// A term and the closing parenthesis.
 #[cycle(terms)]
 #[tactic(auto, unfolding(quel_grammar::specs::TermReaders::inside_by))]
-fn inside_by<'a>(alloc: Global, depth: u16, tokens: &'a [Token]) -> Read<'a, Term>
+fn inside_by<'a>(alloc: Global, depth: u16, tokens: &'a [Token]) -> Read<'a, Boxed<Term>>
     ensures { Gives (λ x. (x.0, x.1.now)) result (inside_by (level depth) tokens.now) }
 {
     let (term, rest) = term_at(alloc, depth, tokens)?;
@@ -33,17 +34,17 @@ fn inside_by<'a>(alloc: Global, depth: u16, tokens: &'a [Token]) -> Read<'a, Ter
 /// The absolute value of a term, behind the open parenthesis.
 #[cycle(terms)]
 #[tactic(auto, unfolding(quel_grammar::specs::TermReaders::abs_by))]
-fn abs_by<'a>(alloc: Global, depth: u16, tokens: &'a [Token]) -> Read<'a, Term>
+fn abs_by<'a>(alloc: Global, depth: u16, tokens: &'a [Token]) -> Read<'a, Boxed<Term>>
     ensures { Gives (λ x. (x.0, x.1.now)) result (abs_by (level depth) tokens.now) }
 {
     let (term, rest) = inside_by(alloc, depth, tokens)?;
-    Ok((Term::Abs(Boxed::new(alloc, term)?), rest))
+    Ok((Boxed::new(alloc, Term::Abs(term))?, rest))
 }
 
 /// A term modulo another, behind the open parenthesis.
 #[cycle(terms)]
 #[tactic(auto, unfolding(quel_grammar::specs::TermReaders::two_by))]
-fn mod_by<'a>(alloc: Global, depth: u16, tokens: &'a [Token]) -> Read<'a, Term>
+fn mod_by<'a>(alloc: Global, depth: u16, tokens: &'a [Token]) -> Read<'a, Boxed<Term>>
     ensures { Gives (λ x. (x.0, x.1.now)) result (two_by (level depth) (tree_arith Mod) tokens.now) }
 {
     let (left, rest) = term_at(alloc, depth, tokens)?;
@@ -55,15 +56,13 @@ fn mod_by<'a>(alloc: Global, depth: u16, tokens: &'a [Token]) -> Read<'a, Term>
 /// Two terms put together, behind the open parenthesis.
 #[cycle(terms)]
 #[tactic(auto, unfolding(quel_grammar::specs::TermReaders::two_by))]
-fn concat_by<'a>(alloc: Global, depth: u16, tokens: &'a [Token]) -> Read<'a, Term>
+fn concat_by<'a>(alloc: Global, depth: u16, tokens: &'a [Token]) -> Read<'a, Boxed<Term>>
     ensures { Gives (λ x. (x.0, x.1.now)) result (two_by (level depth) tree_concat tokens.now) }
 {
     let (left, rest) = term_at(alloc, depth, tokens)?;
     let rest = after(Fixed::Comma, rest)?;
     let (right, rest) = inside_by(alloc, depth, rest)?;
-    let left = Boxed::new(alloc, left)?;
-    let right = Boxed::new(alloc, right)?;
-    Ok((Term::Concat { left, right }, rest))
+    Ok((Boxed::new(alloc, Term::Concat { left, right })?, rest))
 }
 
 /// The terms of `by`.
@@ -81,7 +80,7 @@ fn by_by<'a>(alloc: Global, depth: u16, tokens: &'a [Token]) -> Read<'a, Vec<Ter
 /// A qualification, behind the `where` of an aggregate.
 #[cycle(terms)]
 #[tactic(auto, unfolding(quel_grammar::specs::TermReaders::inner_qual_by))]
-fn inner_qual_by<'a>(alloc: Global, depth: u16, tokens: &'a [Token]) -> Read<'a, Qual>
+fn inner_qual_by<'a>(alloc: Global, depth: u16, tokens: &'a [Token]) -> Read<'a, Boxed<Qual>>
     ensures { Gives (λ x. (x.0, x.1.now)) result (inner_qual_by (level depth) tokens.now) }
 {
     let (mixed, rest) = mixed_at(alloc, depth, tokens)?;
@@ -91,19 +90,24 @@ fn inner_qual_by<'a>(alloc: Global, depth: u16, tokens: &'a [Token]) -> Read<'a,
 /// The qualification of an aggregate.
 #[cycle(terms)]
 #[tactic(auto, unfolding(quel_grammar::specs::TermReaders::inner_where_by))]
-fn inner_where_by<'a>(alloc: Global, depth: u16, tokens: &'a [Token]) -> Read<'a, Qual>
+fn inner_where_by<'a>(alloc: Global, depth: u16, tokens: &'a [Token]) -> Read<'a, Boxed<Qual>>
     ensures { Gives (λ x. (x.0, x.1.now)) result (inner_where_by (level depth) tokens.now) }
 {
     match found(Fixed::Where, tokens) {
         Some(rest) => inner_qual_by(alloc, depth, rest),
-        None => Ok((Qual::True, tokens)),
+        None => Ok((Boxed::new(alloc, Qual::True)?, tokens)),
     }
 }
 
 /// An aggregate, behind the open parenthesis.
 #[cycle(terms)]
 #[tactic(auto, unfolding(quel_grammar::specs::TermReaders::aggregate_by))]
-fn aggregate_by<'a>(alloc: Global, depth: u16, op: AggOp, tokens: &'a [Token]) -> Read<'a, Term>
+fn aggregate_by<'a>(
+    alloc: Global,
+    depth: u16,
+    op: AggOp,
+    tokens: &'a [Token],
+) -> Read<'a, Boxed<Term>>
     ensures { Gives (λ x. (x.0, x.1.now)) result (aggregate_by (level depth) op tokens.now) }
 {
     let (arg, rest) = term_at(alloc, depth, tokens)?;
@@ -111,13 +115,19 @@ fn aggregate_by<'a>(alloc: Global, depth: u16, op: AggOp, tokens: &'a [Token]) -
     let (qual, rest) = inner_where_by(alloc, depth, rest)?;
     let rest = after(Fixed::Close, rest)?;
     let by = List::of(by);
-    let aggregate = AggTerm { op, arg, by, qual };
-    Ok((Term::Agg(Boxed::new(alloc, aggregate)?), rest))
+    let aggregate = AggTerm {
+        op,
+        arg: arg.into_inner(),
+        by,
+        qual: qual.into_inner(),
+    };
+    let aggregate = Boxed::new(alloc, aggregate)?;
+    Ok((Boxed::new(alloc, Term::Agg(aggregate))?, rest))
 }
 
 /// What is called, behind the open parenthesis.
 #[cycle(terms)]
-fn call_by<'a>(alloc: Global, depth: u16, call: Call, tokens: &'a [Token]) -> Read<'a, Term>
+fn call_by<'a>(alloc: Global, depth: u16, call: Call, tokens: &'a [Token]) -> Read<'a, Boxed<Term>>
     ensures { Gives (λ x. (x.0, x.1.now)) result (call_by (level depth) (call_of call) tokens.now) }
 {
     match call {
@@ -131,7 +141,12 @@ fn call_by<'a>(alloc: Global, depth: u16, call: Call, tokens: &'a [Token]) -> Re
 /// What is called, behind its name.
 #[cycle(terms)]
 #[tactic(auto, unfolding(quel_grammar::specs::TermReaders::opened_by))]
-fn opened_by<'a>(alloc: Global, depth: u16, call: Call, tokens: &'a [Token]) -> Read<'a, Term>
+fn opened_by<'a>(
+    alloc: Global,
+    depth: u16,
+    call: Call,
+    tokens: &'a [Token],
+) -> Read<'a, Boxed<Term>>
     ensures { Gives (λ x. (x.0, x.1.now)) result (opened_by (level depth) (call_of call) tokens.now) }
 {
     let rest = after(Fixed::Open, tokens)?;
@@ -140,7 +155,12 @@ fn opened_by<'a>(alloc: Global, depth: u16, call: Call, tokens: &'a [Token]) -> 
 
 /// What the name calls.
 #[cycle(terms)]
-fn called_by<'a>(alloc: Global, depth: u16, name: &Name, tokens: &'a [Token]) -> Read<'a, Term>
+fn called_by<'a>(
+    alloc: Global,
+    depth: u16,
+    name: &Name,
+    tokens: &'a [Token],
+) -> Read<'a, Boxed<Term>>
     ensures { Gives (λ x. (x.0, x.1.now)) result (called_by (level depth) (look_up calls name.now) tokens.now) }
 {
     match call_of(name.bytes()) {
@@ -151,18 +171,23 @@ fn called_by<'a>(alloc: Global, depth: u16, name: &Name, tokens: &'a [Token]) ->
 
 /// The attribute of a variable, behind the dot.
 #[tactic(auto, unfolding(quel_grammar::specs::TermReaders::attribute_of))]
-fn attribute_of<'a>(alloc: Global, var: &Name, tokens: &'a [Token]) -> Read<'a, Term>
+fn attribute_of<'a>(alloc: Global, var: &Name, tokens: &'a [Token]) -> Read<'a, Boxed<Term>>
     ensures { Gives (λ x. (x.0, x.1.now)) result (attribute_of var.now tokens.now) }
 {
-    let (attr, rest) = name_at(alloc, tokens)?;
-    let var = var.copy(alloc)?;
-    Ok((Term::Attr { var, attr }, rest))
+    let (attr, rest) = seen_name(tokens)?;
+    let (var, attr) = both(var.copy(alloc), attr.copy(alloc))?;
+    Ok((Boxed::new(alloc, Term::Attr { var, attr })?, rest))
 }
 
 /// An attribute, a function or an aggregate, behind its name.
 #[cycle(terms)]
 #[tactic(auto, unfolding(quel_grammar::specs::TermReaders::named_by))]
-fn named_by<'a>(alloc: Global, depth: u16, name: &Name, tokens: &'a [Token]) -> Read<'a, Term>
+fn named_by<'a>(
+    alloc: Global,
+    depth: u16,
+    name: &Name,
+    tokens: &'a [Token],
+) -> Read<'a, Boxed<Term>>
     ensures { Gives (λ x. (x.0, x.1.now)) result (named_by (level depth) name.now tokens.now) }
 {
     match found(Fixed::Dot, tokens) {
@@ -174,12 +199,18 @@ fn named_by<'a>(alloc: Global, depth: u16, name: &Name, tokens: &'a [Token]) -> 
 /// A primary term.
 #[cycle(terms)]
 #[tactic(auto, unfolding(quel_grammar::specs::TermReaders::prim_by))]
-pub fn prim_by<'a>(alloc: Global, depth: u16, tokens: &'a [Token]) -> Read<'a, Term>
+pub fn prim_by<'a>(alloc: Global, depth: u16, tokens: &'a [Token]) -> Read<'a, Boxed<Term>>
     ensures { Gives (λ x. (x.0, x.1.now)) result (prim_by (level depth) tokens.now) }
 {
     match tokens {
-        [Token::Int(number), rest @ ..] => Ok((Term::Int(number.signed()), rest)),
-        [Token::Text(text), rest @ ..] => Ok((Term::Chars(text.copy(alloc)?), rest)),
+        [Token::Int(number), rest @ ..] => Ok((
+            Boxed::new(alloc, Term::Int(number.signed()))?,
+            rest,
+        )),
+        [Token::Text(text), rest @ ..] => Ok((
+            Boxed::new(alloc, Term::Chars(text.copy(alloc)?))?,
+            rest,
+        )),
         [Token::Name(name), rest @ ..] => named_by(alloc, depth, name, rest),
         [Token::Fixed(Fixed::Open), rest @ ..] => inside_by(alloc, depth, rest),
         _ => Err(Halt::Stop(tokens)),

@@ -16,17 +16,17 @@ use quel_grammar::{Fixed, Token};
 use std::alloc::Global;
 
 /// A qualification, or a term where no comparison follows it.
-#[derive(Debug, Drop)]
+#[derive(Drop)]
 pub enum Mixed {
     /// A term.
-    Bare(Term),
+    Bare(Boxed<Term>),
     /// A qualification.
-    Whole(Qual),
+    Whole(Boxed<Qual>),
 }
 
 /// A side of `and`.
 #[cycle(terms)]
-fn neg_at<'a>(alloc: Global, depth: u16, tokens: &'a [Token]) -> Read<'a, Qual>
+fn neg_at<'a>(alloc: Global, depth: u16, tokens: &'a [Token]) -> Read<'a, Boxed<Qual>>
     ensures { Gives (λ x. (x.0, x.1.now)) result ((level depth).neg tokens.now) }
 {
     if depth == 0 {
@@ -37,7 +37,12 @@ fn neg_at<'a>(alloc: Global, depth: u16, tokens: &'a [Token]) -> Read<'a, Qual>
 
 /// The rest of a conjunction, whose left part is this.
 #[cycle(terms)]
-fn ands_at<'a>(alloc: Global, depth: u16, left: Qual, tokens: &'a [Token]) -> Read<'a, Qual>
+fn ands_at<'a>(
+    alloc: Global,
+    depth: u16,
+    left: Boxed<Qual>,
+    tokens: &'a [Token],
+) -> Read<'a, Boxed<Qual>>
     ensures { Gives (λ x. (x.0, x.1.now)) result ((level depth).ands left tokens.now) }
 {
     if depth == 0 {
@@ -48,7 +53,12 @@ fn ands_at<'a>(alloc: Global, depth: u16, left: Qual, tokens: &'a [Token]) -> Re
 
 /// The rest of a disjunction, whose left part is this.
 #[cycle(terms)]
-fn ors_at<'a>(alloc: Global, depth: u16, left: Qual, tokens: &'a [Token]) -> Read<'a, Qual>
+fn ors_at<'a>(
+    alloc: Global,
+    depth: u16,
+    left: Boxed<Qual>,
+    tokens: &'a [Token],
+) -> Read<'a, Boxed<Qual>>
     ensures { Gives (λ x. (x.0, x.1.now)) result ((level depth).ors left tokens.now) }
 {
     if depth == 0 {
@@ -69,7 +79,7 @@ pub fn mixed_at<'a>(alloc: Global, depth: u16, tokens: &'a [Token]) -> Read<'a, 
 }
 
 /// The qualification that was read, where it is one.
-pub fn demanded(mixed: Mixed, tokens: &[Token]) -> Read<'_, Qual>
+pub fn demanded(mixed: Mixed, tokens: &[Token]) -> Read<'_, Boxed<Qual>>
     ensures { Gives (λ x. (x.0, x.1.now)) result (demanded (mixed_of mixed) tokens.now) }
 {
     match mixed {
@@ -84,20 +94,29 @@ pub fn demanded(mixed: Mixed, tokens: &[Token]) -> Read<'_, Qual>
 fn right_side_by<'a>(
     alloc: Global,
     depth: u16,
-    left: Term,
+    left: Boxed<Term>,
     op: CmpOp,
     tokens: &'a [Token],
 ) -> Read<'a, Mixed>
     ensures { Gives (λ x. (mixed_of x.0, x.1.now)) result (right_side_by (level depth) left op tokens.now) }
 {
     let (right, rest) = term_by(alloc, depth, tokens)?;
-    Ok((Mixed::Whole(Qual::Cmp { op, left, right }), rest))
+    let (left, right) = (left.into_inner(), right.into_inner());
+    Ok((
+        Mixed::Whole(Boxed::new(alloc, Qual::Cmp { op, left, right })?),
+        rest,
+    ))
 }
 
 /// A comparison whose left side is this term, or the bare term.
 #[cycle(terms)]
 #[tactic(auto, unfolding(quel_grammar::specs::TermReaders::compare_by))]
-fn compare_by<'a>(alloc: Global, depth: u16, left: Term, tokens: &'a [Token]) -> Read<'a, Mixed>
+fn compare_by<'a>(
+    alloc: Global,
+    depth: u16,
+    left: Boxed<Term>,
+    tokens: &'a [Token],
+) -> Read<'a, Mixed>
     ensures { Gives (λ x. (mixed_of x.0, x.1.now)) result (compare_by (level depth) left tokens.now) }
 {
     match comparison_at(tokens) {
@@ -149,7 +168,7 @@ fn negated_by<'a>(alloc: Global, depth: u16, tokens: &'a [Token]) -> Read<'a, Mi
     ensures { Gives (λ x. (mixed_of x.0, x.1.now)) result (negated_by (level depth) tokens.now) }
 {
     let (qual, rest) = neg_at(alloc, depth, tokens)?;
-    Ok((Mixed::Whole(Qual::Not(Boxed::new(alloc, qual)?)), rest))
+    Ok((Mixed::Whole(Boxed::new(alloc, Qual::Not(qual))?), rest))
 }
 
 /// What begins with no `not`.
@@ -179,7 +198,7 @@ fn operand_by<'a>(alloc: Global, depth: u16, tokens: &'a [Token]) -> Read<'a, Mi
 /// A side of `and`.
 #[cycle(terms)]
 #[tactic(auto, unfolding(quel_grammar::specs::TermReaders::neg_by))]
-fn neg_by<'a>(alloc: Global, depth: u16, tokens: &'a [Token]) -> Read<'a, Qual>
+fn neg_by<'a>(alloc: Global, depth: u16, tokens: &'a [Token]) -> Read<'a, Boxed<Qual>>
     ensures { Gives (λ x. (x.0, x.1.now)) result (neg_by (level depth) tokens.now) }
 {
     let (mixed, rest) = operand_by(alloc, depth, tokens)?;
@@ -189,18 +208,28 @@ fn neg_by<'a>(alloc: Global, depth: u16, tokens: &'a [Token]) -> Read<'a, Qual>
 /// The rest of a conjunction, behind `and`.
 #[cycle(terms)]
 #[tactic(auto, unfolding(quel_grammar::specs::TermReaders::next_and_by))]
-fn next_and_by<'a>(alloc: Global, depth: u16, left: Qual, tokens: &'a [Token]) -> Read<'a, Qual>
+fn next_and_by<'a>(
+    alloc: Global,
+    depth: u16,
+    left: Boxed<Qual>,
+    tokens: &'a [Token],
+) -> Read<'a, Boxed<Qual>>
     ensures { Gives (λ x. (x.0, x.1.now)) result (next_and_by (level depth) left tokens.now) }
 {
     let (right, rest) = neg_by(alloc, depth, tokens)?;
-    let left = Qual::And(Boxed::new(alloc, left)?, Boxed::new(alloc, right)?);
+    let left = Boxed::new(alloc, Qual::And(left, right))?;
     ands_at(alloc, depth, left, rest)
 }
 
 /// The rest of a conjunction, whose left part is this.
 #[cycle(terms)]
 #[tactic(auto, unfolding(quel_grammar::specs::TermReaders::ands_by))]
-fn ands_by<'a>(alloc: Global, depth: u16, left: Qual, tokens: &'a [Token]) -> Read<'a, Qual>
+fn ands_by<'a>(
+    alloc: Global,
+    depth: u16,
+    left: Boxed<Qual>,
+    tokens: &'a [Token],
+) -> Read<'a, Boxed<Qual>>
     ensures { Gives (λ x. (x.0, x.1.now)) result (ands_by (level depth) left tokens.now) }
 {
     match found(Fixed::And, tokens) {
@@ -212,7 +241,7 @@ fn ands_by<'a>(alloc: Global, depth: u16, left: Qual, tokens: &'a [Token]) -> Re
 /// A side of `or`.
 #[cycle(terms)]
 #[tactic(auto, unfolding(quel_grammar::specs::TermReaders::conj_by))]
-fn conj_by<'a>(alloc: Global, depth: u16, tokens: &'a [Token]) -> Read<'a, Qual>
+fn conj_by<'a>(alloc: Global, depth: u16, tokens: &'a [Token]) -> Read<'a, Boxed<Qual>>
     ensures { Gives (λ x. (x.0, x.1.now)) result (conj_by (level depth) tokens.now) }
 {
     let (left, rest) = neg_by(alloc, depth, tokens)?;
@@ -222,18 +251,28 @@ fn conj_by<'a>(alloc: Global, depth: u16, tokens: &'a [Token]) -> Read<'a, Qual>
 /// The rest of a disjunction, behind `or`.
 #[cycle(terms)]
 #[tactic(auto, unfolding(quel_grammar::specs::TermReaders::next_or_by))]
-fn next_or_by<'a>(alloc: Global, depth: u16, left: Qual, tokens: &'a [Token]) -> Read<'a, Qual>
+fn next_or_by<'a>(
+    alloc: Global,
+    depth: u16,
+    left: Boxed<Qual>,
+    tokens: &'a [Token],
+) -> Read<'a, Boxed<Qual>>
     ensures { Gives (λ x. (x.0, x.1.now)) result (next_or_by (level depth) left tokens.now) }
 {
     let (right, rest) = conj_by(alloc, depth, tokens)?;
-    let left = Qual::Or(Boxed::new(alloc, left)?, Boxed::new(alloc, right)?);
+    let left = Boxed::new(alloc, Qual::Or(left, right))?;
     ors_at(alloc, depth, left, rest)
 }
 
 /// The rest of a disjunction, whose left part is this.
 #[cycle(terms)]
 #[tactic(auto, unfolding(quel_grammar::specs::TermReaders::ors_by))]
-fn ors_by<'a>(alloc: Global, depth: u16, left: Qual, tokens: &'a [Token]) -> Read<'a, Qual>
+fn ors_by<'a>(
+    alloc: Global,
+    depth: u16,
+    left: Boxed<Qual>,
+    tokens: &'a [Token],
+) -> Read<'a, Boxed<Qual>>
     ensures { Gives (λ x. (x.0, x.1.now)) result (ors_by (level depth) left tokens.now) }
 {
     match found(Fixed::Or, tokens) {
@@ -270,7 +309,7 @@ fn mixed_by<'a>(alloc: Global, depth: u16, tokens: &'a [Token]) -> Read<'a, Mixe
 
 /// A qualification.
 #[tactic(auto, unfolding(quel_grammar::specs::TermReaders::qual_by))]
-pub fn qual_by<'a>(alloc: Global, depth: u16, tokens: &'a [Token]) -> Read<'a, Qual>
+pub fn qual_by<'a>(alloc: Global, depth: u16, tokens: &'a [Token]) -> Read<'a, Boxed<Qual>>
     ensures { Gives (λ x. (x.0, x.1.now)) result (qual_by (level depth) tokens.now) }
 {
     let (mixed, rest) = mixed_by(alloc, depth, tokens)?;

@@ -29,6 +29,16 @@ pub fn after<'a>(fixed: Fixed, tokens: &'a [Token]) -> Result<&'a [Token], Halt<
     }
 }
 
+/// The name that stands there, which must be one.
+pub fn seen_name(tokens: &[Token]) -> Read<'_, &Name>
+    ensures { Gives (λ x. (x.0.now, x.1.now)) result (name_at tokens.now) }
+{
+    match tokens {
+        [Token::Name(name), rest @ ..] => Ok((name, rest)),
+        _ => Err(Halt::Stop(tokens)),
+    }
+}
+
 /// A name, which must stand there.
 pub fn name_at<'a>(alloc: Global, tokens: &'a [Token]) -> Read<'a, Name>
     ensures { Gives (λ x. (x.0, x.1.now)) result (name_at tokens.now) }

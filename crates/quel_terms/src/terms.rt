@@ -16,7 +16,7 @@ use std::alloc::Global;
 
 /// A unary term.
 #[cycle(terms)]
-fn unary_at<'a>(alloc: Global, depth: u16, tokens: &'a [Token]) -> Read<'a, Term>
+fn unary_at<'a>(alloc: Global, depth: u16, tokens: &'a [Token]) -> Read<'a, Boxed<Term>>
     ensures { Gives (λ x. (x.0, x.1.now)) result ((level depth).unary tokens.now) }
 {
     if depth == 0 {
@@ -27,7 +27,7 @@ fn unary_at<'a>(alloc: Global, depth: u16, tokens: &'a [Token]) -> Read<'a, Term
 
 /// A power.
 #[cycle(terms)]
-fn pow_at<'a>(alloc: Global, depth: u16, tokens: &'a [Token]) -> Read<'a, Term>
+fn pow_at<'a>(alloc: Global, depth: u16, tokens: &'a [Token]) -> Read<'a, Boxed<Term>>
     ensures { Gives (λ x. (x.0, x.1.now)) result ((level depth).pow tokens.now) }
 {
     if depth == 0 {
@@ -38,7 +38,12 @@ fn pow_at<'a>(alloc: Global, depth: u16, tokens: &'a [Token]) -> Read<'a, Term>
 
 /// The rest of a product, whose left part is this term.
 #[cycle(terms)]
-fn products_at<'a>(alloc: Global, depth: u16, left: Term, tokens: &'a [Token]) -> Read<'a, Term>
+fn products_at<'a>(
+    alloc: Global,
+    depth: u16,
+    left: Boxed<Term>,
+    tokens: &'a [Token],
+) -> Read<'a, Boxed<Term>>
     ensures { Gives (λ x. (x.0, x.1.now)) result ((level depth).products left tokens.now) }
 {
     if depth == 0 {
@@ -49,7 +54,12 @@ fn products_at<'a>(alloc: Global, depth: u16, left: Term, tokens: &'a [Token]) -
 
 /// The rest of a sum, whose left part is this term.
 #[cycle(terms)]
-fn sums_at<'a>(alloc: Global, depth: u16, left: Term, tokens: &'a [Token]) -> Read<'a, Term>
+fn sums_at<'a>(
+    alloc: Global,
+    depth: u16,
+    left: Boxed<Term>,
+    tokens: &'a [Token],
+) -> Read<'a, Boxed<Term>>
     ensures { Gives (λ x. (x.0, x.1.now)) result ((level depth).sums left tokens.now) }
 {
     if depth == 0 {
@@ -60,7 +70,7 @@ fn sums_at<'a>(alloc: Global, depth: u16, left: Term, tokens: &'a [Token]) -> Re
 
 /// A term.
 #[cycle(terms)]
-pub fn term_at<'a>(alloc: Global, depth: u16, tokens: &'a [Token]) -> Read<'a, Term>
+pub fn term_at<'a>(alloc: Global, depth: u16, tokens: &'a [Token]) -> Read<'a, Boxed<Term>>
     ensures { Gives (λ x. (x.0, x.1.now)) result ((level depth).term tokens.now) }
 {
     if depth == 0 {
@@ -86,23 +96,31 @@ pub fn terms_at<'a>(
 }
 
 /// Two terms with an operation between them.
-pub fn arith(alloc: Global, op: ArithOp, left: Term, right: Term) -> Result<Term, OutOfMemory>
+pub fn arith(
+    alloc: Global,
+    op: ArithOp,
+    left: Boxed<Term>,
+    right: Boxed<Term>,
+) -> Result<Boxed<Term>, OutOfMemory>
     ensures { IfOk result (λ t. t ≡ tree_arith op left right) }
 {
-    let left = Boxed::new(alloc, left)?;
-    let right = Boxed::new(alloc, right)?;
-    Ok(Term::Arith { op, left, right })
+    Boxed::new(alloc, Term::Arith { op, left, right })
 }
 
 /// A unary term, behind its sign.
 #[cycle(terms)]
 #[tactic(auto, unfolding(quel_grammar::specs::TermReaders::signed_by))]
-fn signed_by<'a>(alloc: Global, depth: u16, negative: bool, tokens: &'a [Token]) -> Read<'a, Term>
+fn signed_by<'a>(
+    alloc: Global,
+    depth: u16,
+    negative: bool,
+    tokens: &'a [Token],
+) -> Read<'a, Boxed<Term>>
     ensures { Gives (λ x. (x.0, x.1.now)) result (signed_by (level depth) negative tokens.now) }
 {
     let (term, rest) = unary_at(alloc, depth, tokens)?;
     if negative {
-        Ok((Term::Neg(Boxed::new(alloc, term)?), rest))
+        Ok((Boxed::new(alloc, Term::Neg(term))?, rest))
     } else {
         Ok((term, rest))
     }
@@ -111,7 +129,7 @@ fn signed_by<'a>(alloc: Global, depth: u16, negative: bool, tokens: &'a [Token])
 /// A unary term.
 #[cycle(terms)]
 #[tactic(auto, unfolding(quel_grammar::specs::TermReaders::unary_by))]
-fn unary_by<'a>(alloc: Global, depth: u16, tokens: &'a [Token]) -> Read<'a, Term>
+fn unary_by<'a>(alloc: Global, depth: u16, tokens: &'a [Token]) -> Read<'a, Boxed<Term>>
     ensures { Gives (λ x. (x.0, x.1.now)) result (unary_by (level depth) tokens.now) }
 {
     match sign_at(tokens) {
@@ -123,7 +141,12 @@ fn unary_by<'a>(alloc: Global, depth: u16, tokens: &'a [Token]) -> Read<'a, Term
 /// A power, behind its sign.
 #[cycle(terms)]
 #[tactic(auto, unfolding(quel_grammar::specs::TermReaders::raised_by))]
-fn raised_by<'a>(alloc: Global, depth: u16, base: Term, tokens: &'a [Token]) -> Read<'a, Term>
+fn raised_by<'a>(
+    alloc: Global,
+    depth: u16,
+    base: Boxed<Term>,
+    tokens: &'a [Token],
+) -> Read<'a, Boxed<Term>>
     ensures { Gives (λ x. (x.0, x.1.now)) result (raised_by (level depth) base tokens.now) }
 {
     let (power, rest) = pow_at(alloc, depth, tokens)?;
@@ -133,7 +156,12 @@ fn raised_by<'a>(alloc: Global, depth: u16, base: Term, tokens: &'a [Token]) -> 
 /// The rest of a power, whose base is this term.
 #[cycle(terms)]
 #[tactic(auto, unfolding(quel_grammar::specs::TermReaders::power_by))]
-fn power_by<'a>(alloc: Global, depth: u16, base: Term, tokens: &'a [Token]) -> Read<'a, Term>
+fn power_by<'a>(
+    alloc: Global,
+    depth: u16,
+    base: Boxed<Term>,
+    tokens: &'a [Token],
+) -> Read<'a, Boxed<Term>>
     ensures { Gives (λ x. (x.0, x.1.now)) result (power_by (level depth) base tokens.now) }
 {
     match found(Fixed::Power, tokens) {
@@ -145,7 +173,7 @@ fn power_by<'a>(alloc: Global, depth: u16, base: Term, tokens: &'a [Token]) -> R
 /// A power.
 #[cycle(terms)]
 #[tactic(auto, unfolding(quel_grammar::specs::TermReaders::pow_by))]
-fn pow_by<'a>(alloc: Global, depth: u16, tokens: &'a [Token]) -> Read<'a, Term>
+fn pow_by<'a>(alloc: Global, depth: u16, tokens: &'a [Token]) -> Read<'a, Boxed<Term>>
     ensures { Gives (λ x. (x.0, x.1.now)) result (pow_by (level depth) tokens.now) }
 {
     let (base, rest) = unary_by(alloc, depth, tokens)?;
@@ -158,10 +186,10 @@ fn pow_by<'a>(alloc: Global, depth: u16, tokens: &'a [Token]) -> Read<'a, Term>
 fn next_product_by<'a>(
     alloc: Global,
     depth: u16,
-    left: Term,
+    left: Boxed<Term>,
     op: ArithOp,
     tokens: &'a [Token],
-) -> Read<'a, Term>
+) -> Read<'a, Boxed<Term>>
     ensures { Gives (λ x. (x.0, x.1.now)) result (next_product_by (level depth) left op tokens.now) }
 {
     let (right, rest) = pow_by(alloc, depth, tokens)?;
@@ -172,7 +200,12 @@ fn next_product_by<'a>(
 /// The rest of a product, whose left part is this term.
 #[cycle(terms)]
 #[tactic(auto, unfolding(quel_grammar::specs::TermReaders::products_by))]
-fn products_by<'a>(alloc: Global, depth: u16, left: Term, tokens: &'a [Token]) -> Read<'a, Term>
+fn products_by<'a>(
+    alloc: Global,
+    depth: u16,
+    left: Boxed<Term>,
+    tokens: &'a [Token],
+) -> Read<'a, Boxed<Term>>
     ensures { Gives (λ x. (x.0, x.1.now)) result (products_by (level depth) left tokens.now) }
 {
     match product_sign_at(tokens) {
@@ -184,7 +217,7 @@ fn products_by<'a>(alloc: Global, depth: u16, left: Term, tokens: &'a [Token]) -
 /// A product.
 #[cycle(terms)]
 #[tactic(auto, unfolding(quel_grammar::specs::TermReaders::prod_by))]
-fn prod_by<'a>(alloc: Global, depth: u16, tokens: &'a [Token]) -> Read<'a, Term>
+fn prod_by<'a>(alloc: Global, depth: u16, tokens: &'a [Token]) -> Read<'a, Boxed<Term>>
     ensures { Gives (λ x. (x.0, x.1.now)) result (prod_by (level depth) tokens.now) }
 {
     let (left, rest) = pow_by(alloc, depth, tokens)?;
@@ -197,10 +230,10 @@ fn prod_by<'a>(alloc: Global, depth: u16, tokens: &'a [Token]) -> Read<'a, Term>
 fn next_sum_by<'a>(
     alloc: Global,
     depth: u16,
-    left: Term,
+    left: Boxed<Term>,
     op: ArithOp,
     tokens: &'a [Token],
-) -> Read<'a, Term>
+) -> Read<'a, Boxed<Term>>
     ensures { Gives (λ x. (x.0, x.1.now)) result (next_sum_by (level depth) left op tokens.now) }
 {
     let (right, rest) = prod_by(alloc, depth, tokens)?;
@@ -211,7 +244,12 @@ fn next_sum_by<'a>(
 /// The rest of a sum, whose left part is this term.
 #[cycle(terms)]
 #[tactic(auto, unfolding(quel_grammar::specs::TermReaders::sums_by))]
-fn sums_by<'a>(alloc: Global, depth: u16, left: Term, tokens: &'a [Token]) -> Read<'a, Term>
+fn sums_by<'a>(
+    alloc: Global,
+    depth: u16,
+    left: Boxed<Term>,
+    tokens: &'a [Token],
+) -> Read<'a, Boxed<Term>>
     ensures { Gives (λ x. (x.0, x.1.now)) result (sums_by (level depth) left tokens.now) }
 {
     match sum_sign_at(tokens) {
@@ -223,7 +261,7 @@ fn sums_by<'a>(alloc: Global, depth: u16, left: Term, tokens: &'a [Token]) -> Re
 /// A term.
 #[cycle(terms)]
 #[tactic(auto, unfolding(quel_grammar::specs::TermReaders::term_by))]
-pub fn term_by<'a>(alloc: Global, depth: u16, tokens: &'a [Token]) -> Read<'a, Term>
+pub fn term_by<'a>(alloc: Global, depth: u16, tokens: &'a [Token]) -> Read<'a, Boxed<Term>>
     ensures { Gives (λ x. (x.0, x.1.now)) result (term_by (level depth) tokens.now) }
 {
     let (left, rest) = prod_by(alloc, depth, tokens)?;
@@ -243,7 +281,7 @@ fn terms_by<'a>(
 {
     let mut terms = before;
     let (term, rest) = term_by(alloc, depth, tokens)?;
-    terms.push(term)?;
+    terms.push(term.into_inner())?;
     match found(Fixed::Comma, rest) {
         Some(rest) => terms_at(alloc, depth, terms, rest),
         None => Ok((terms, rest)),
@@ -253,7 +291,12 @@ fn terms_by<'a>(
 /// The rest of a term that begins with this one in parentheses.
 #[cycle(terms)]
 #[tactic(auto, unfolding(quel_grammar::specs::TermReaders::term_from))]
-pub fn term_from<'a>(alloc: Global, depth: u16, first: Term, tokens: &'a [Token]) -> Read<'a, Term>
+pub fn term_from<'a>(
+    alloc: Global,
+    depth: u16,
+    first: Boxed<Term>,
+    tokens: &'a [Token],
+) -> Read<'a, Boxed<Term>>
     ensures { Gives (λ x. (x.0, x.1.now)) result (term_from (level depth) first tokens.now) }
 {
     let (base, rest) = power_by(alloc, depth, first, tokens)?;

@@ -1,8 +1,8 @@
 //! Whole statements, and texts at the edges of the language.
 
-use crate::test_lines::parts_of;
-use crate::{ParseFault, next_statement};
-use calculus::Statement;
+use crate::table_lines::parts_of;
+use calculus::{OutOfMemory, Statement};
+use quel_parse::{ParseFault, next_statement};
 use std::alloc::Global;
 use std::test::*;
 
@@ -32,29 +32,47 @@ fn is_right(alloc: Global, line: &[u8]) -> bool {
     }
 }
 
-#[test]
-fn texts_are_read_as_the_grammar_says(rt: HostRuntime) -> Result<(), Fail> {
-    let alloc = rt.alloc();
-    let mut lines = 0usize;
-    for line in TEXTS.split(|byte| *byte == b'\n') {
-        assert!(rt; is_right(alloc, line));
-        lines = lines.saturating_add(1);
+/// How many lines say what is read of their texts, and how many lines there are.
+fn right(alloc: Global, lines: &[u8]) -> (usize, usize) {
+    let mut right = 0usize;
+    let mut all = 0usize;
+    for line in lines.split(|byte| *byte == b'\n') {
+        if is_right(alloc, line) {
+            right = right.saturating_add(1);
+        }
+        all = all.saturating_add(1);
     }
-    assert_eq!(rt; lines, 71);
-    Ok(())
+    (right, all)
 }
 
 #[test]
-fn a_statement_is_read_behind_another(rt: HostRuntime) -> Result<(), Fail> {
-    let alloc = rt.alloc();
+fn texts_are_read_as_the_grammar_says(rt: HostRuntime) {
+    assert_eq!(rt; right(rt.alloc(), TEXTS), (71, 71));
+}
+
+/// Whether the statement declares `e` over `emp`.
+fn declares(statement: &Statement) -> bool {
+    match statement {
+        Statement::Range { var, rel } => {
+            var.bytes() == b"e".as_slice() && rel.bytes() == b"emp".as_slice()
+        }
+        _ => false,
+    }
+}
+
+/// Where the statement ends that is read of a text from a place on, if it declares `e` over `emp`.
+fn ranged(alloc: Global, text: &[u8], from: usize) -> Option<usize> {
+    match next_statement(alloc, text, from) {
+        Ok(Some((statement, end))) if declares(&statement) => Some(end),
+        _ => None,
+    }
+}
+
+#[test]
+fn a_statement_is_read_behind_another(rt: HostRuntime) {
     let text = b"help\nrange of E is emp\n\nprint ;";
-    let second = next_statement(alloc, text, 4)?;
-    let ranged =
-        matches!(&second, Some((Statement::Range { var, rel }, 22)) if var.bytes() == b"e".as_slice() && rel.bytes() == b"emp".as_slice());
-    assert!(rt; ranged);
-    let third = next_statement(alloc, text, 22);
-    assert!(rt; matches!(third, Err(ParseFault::Syntax { line: 4, at: 30 })));
-    Ok(())
+    assert!(rt; ranged(rt.alloc(), text, 4) == Some(22));
+    assert!(rt; refused_behind(rt.alloc(), text) == (2, 4, 30));
 }
 
 /// How many statements of the text are read, and the line and the place where it is refused then.
@@ -75,48 +93,71 @@ fn refused_behind(alloc: Global, text: &[u8]) -> (usize, u32, usize) {
 }
 
 #[test]
-fn scripts_are_refused_at_their_lines(rt: HostRuntime) -> Result<(), Fail> {
-    let alloc = rt.alloc();
+fn scripts_are_refused_at_their_lines(rt: HostRuntime) {
     let long_name =
         b"create w (a = c255, b = c255, c = c255, d = c235)\ncreate x (a = c255, b = c255, c = c255, d = c235, e = i1)\ncreate abcdefghijkl (a = i1)\ncreate abcdefghijklm (a = i1)\ncreate y (a = i1)\n";
-    assert_eq!(rt; refused_behind(alloc, long_name), (3, 4, 144));
+    assert!(rt; refused_behind(rt.alloc(), long_name) == (3, 4, 144));
     let wrong_word = b"create g (a = i1)\nretreive (x = 1)\ncreate h (a = i1)\n";
-    assert_eq!(rt; refused_behind(alloc, wrong_word), (1, 2, 18));
-    Ok(())
+    assert!(rt; refused_behind(rt.alloc(), wrong_word) == (1, 2, 18));
 }
 
-/// The text with so many copies of a part between its front and its back.
+/// A text: its front, so many copies of a part, what stands behind these, and so many closing
+/// parentheses.
 fn repeated(
     alloc: Global,
     front: &[u8],
     part: &[u8],
     count: usize,
-    back: &[u8],
-) -> Result<Vec<u8>, Fail> {
+    middle: &[u8],
+    closed: usize,
+) -> Result<Vec<u8>, OutOfMemory> {
     let mut text = Vec::from_slice(alloc, front)?;
     for _ in 0..count {
         text.extend_from_slice(part)?;
     }
-    text.extend_from_slice(back)?;
+    text.extend_from_slice(middle)?;
+    for _ in 0..closed {
+        text.push(b')')?;
+    }
     Ok(text)
 }
 
+/// What is read of such a text: the letter, and the place.
+fn read_repeated(
+    alloc: Global,
+    front: &[u8],
+    part: &[u8],
+    count: usize,
+    middle: &[u8],
+    closed: usize,
+) -> (u8, usize) {
+    match repeated(alloc, front, part, count, middle, closed) {
+        Ok(text) => read(alloc, &text),
+        Err(_) => (b'm', 0),
+    }
+}
+
 #[test]
-fn statements_have_500_tokens_and_50_parentheses(rt: HostRuntime) -> Result<(), Fail> {
-    let alloc = rt.alloc();
-    let signs = repeated(alloc, b"delete e where e.a = ", b"-", 492, b"1")?;
-    assert_eq!(rt; read(alloc, &signs), (b'r', 514));
-    let more = repeated(alloc, b"delete e where e.a = ", b"-", 493, b"1")?;
-    assert_eq!(rt; read(alloc, &more), (b's', 514));
-    let negations = repeated(alloc, b"delete e where ", b"not ", 492, b"e.a = 1")?;
-    assert_eq!(rt; read(alloc, &negations), (b'r', 1990));
-    let groups = repeated(alloc, b"delete e where e.a = ", b"(", 50, b"1")?;
-    let groups = repeated(alloc, &groups, b")", 50, b"")?;
-    assert_eq!(rt; read(alloc, &groups), (b'r', 122));
-    let deeper = repeated(alloc, b"delete e where e.a = ", b"(", 51, b"1")?;
-    assert_eq!(rt; read(alloc, &deeper), (b's', 71));
-    let conditions = repeated(alloc, b"delete e where ", b"(", 50, b"e.a = 1")?;
-    let conditions = repeated(alloc, &conditions, b")", 50, b"")?;
-    assert_eq!(rt; read(alloc, &conditions), (b'r', 122));
-    Ok(())
+fn statements_have_500_tokens_and_50_parentheses(rt: HostRuntime) {
+    let term = b"delete e where e.a = ".as_slice();
+    let condition = b"delete e where ".as_slice();
+    let compared = b"e.a = 1".as_slice();
+    for (front, part, count, middle, closed, answer) in [
+        (term, b"-".as_slice(), 492, b"1".as_slice(), 0, (b'r', 514)),
+        (term, b"-".as_slice(), 493, b"1".as_slice(), 0, (b's', 514)),
+        (
+            condition,
+            b"not ".as_slice(),
+            492,
+            compared,
+            0,
+            (b'r', 1990),
+        ),
+        (term, b"(".as_slice(), 50, b"1".as_slice(), 50, (b'r', 122)),
+        (term, b"(".as_slice(), 51, b"1".as_slice(), 0, (b's', 71)),
+        (condition, b"(".as_slice(), 50, compared, 50, (b'r', 122)),
+    ] {
+        let read = read_repeated(rt.alloc(), front, part, count, middle, closed);
+        assert!(rt; read == answer);
+    }
 }

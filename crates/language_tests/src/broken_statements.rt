@@ -1,8 +1,8 @@
 //! Broken statements, each with the place of the first token that no statement has there. Each is
 //! made of a whole statement: of every kind, at every token.
 
-use crate::test_lines::parts_of;
-use crate::{ParseFault, next_statement};
+use crate::table_lines::parts_of;
+use quel_parse::{ParseFault, next_statement};
 use std::alloc::Global;
 use std::test::*;
 
@@ -41,22 +41,16 @@ fn refused(alloc: Global, table: &[u8]) -> (usize, usize) {
 }
 
 #[test]
-fn a_missing_token_is_refused_at_its_place(rt: HostRuntime) -> Result<(), Fail> {
-    let alloc = rt.alloc();
-    assert_eq!(rt; refused(alloc, DROPPED), (98, 98));
-    Ok(())
+fn a_missing_token_is_refused_at_its_place(rt: HostRuntime) {
+    assert!(rt; refused(rt.alloc(), DROPPED) == (98, 98));
 }
 
 #[test]
-fn a_doubled_token_is_refused_at_its_place(rt: HostRuntime) -> Result<(), Fail> {
-    let alloc = rt.alloc();
-    assert_eq!(rt; refused(alloc, DOUBLED), (88, 88));
-    Ok(())
+fn a_doubled_token_is_refused_at_its_place(rt: HostRuntime) {
+    assert!(rt; refused(rt.alloc(), DOUBLED) == (88, 88));
 }
 
 #[test]
-fn swapped_tokens_are_refused_at_their_place(rt: HostRuntime) -> Result<(), Fail> {
-    let alloc = rt.alloc();
-    assert_eq!(rt; refused(alloc, SWAPPED), (79, 79));
-    Ok(())
+fn swapped_tokens_are_refused_at_their_place(rt: HostRuntime) {
+    assert!(rt; refused(rt.alloc(), SWAPPED) == (79, 79));
 }
