@@ -13,12 +13,17 @@ pub fn copied<T: TryCopy + PartialEq + Drop>(rt: &impl Abort, alloc: Global, wha
 
 /// The list of this one item.
 pub fn one<T: Drop>(rt: &impl Abort, alloc: Global, item: T) -> List<T> {
-    List::of(vec![in alloc; item].expect(rt, "no memory"))
+    let mut items = Vec::new(alloc);
+    items.push(item).expect(rt, "no memory");
+    List::of(items)
 }
 
 /// The list of these two items.
 pub fn two<T: Drop>(rt: &impl Abort, alloc: Global, first: T, second: T) -> List<T> {
-    List::of(vec![in alloc; first, second].expect(rt, "no memory"))
+    let mut items = Vec::new(alloc);
+    items.push(first).expect(rt, "no memory");
+    items.push(second).expect(rt, "no memory");
+    List::of(items)
 }
 
 pub fn boxed<T: Drop>(rt: &impl Abort, alloc: Global, value: T) -> Boxed<T> {
