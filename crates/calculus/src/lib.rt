@@ -36,6 +36,3 @@ pub use schema::{Attr, Permit, RelFile, RelInfo, Rule, Spec};
 pub use statement::{AggTerm, Item, Qual, Statement, Term};
 pub use text::{Chars, Text, is_printable};
 pub use value::{Domain, Kind, Value};
-
-#[cfg(test)]
-mod tests;

@@ -10,6 +10,3 @@ mod update;
 pub use calculus::{Change, Pair, Row, RowSet};
 pub use fault::ChangeFault;
 pub use update::set_replace;
-
-#[cfg(test)]
-mod tests;

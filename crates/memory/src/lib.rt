@@ -10,6 +10,3 @@ pub use boxed::Boxed;
 pub use list::List;
 pub use out_of_memory::OutOfMemory;
 pub use try_copy::TryCopy;
-
-#[cfg(test)]
-mod tests;

@@ -16,6 +16,3 @@ pub use laws::{matches_are_by_the_relation, tables_stand_for_aggregates};
 pub use pattern::like;
 pub use truth::holds;
 pub use values::value_of;
-
-#[cfg(test)]
-mod tests;

@@ -1,0 +1,65 @@
+//! The answers of queries over given rows.
+
+use crate::made::{key, named, one, two};
+use calculus::{CmpOp, Kind, List, QQual, QTerm, Query, Row, RowSet, Target, Value};
+use plain_product::{ProductFault, answer_over, is_used, uses};
+use std::alloc::Global;
+use std::process::Abort;
+use std::test::*;
+
+/// Rows of one number each.
+fn set_of(rt: &impl Abort, alloc: Global, numbers: &[i64]) -> RowSet {
+    let mut rows = Vec::new(alloc);
+    for number in numbers {
+        let values = one(rt, alloc, Value::Int(*number)).into_items();
+        rows.push(Row::of(values)).expect(rt, "no memory");
+    }
+    RowSet::of_rows(rows)
+}
+
+fn attribute(var: u8) -> QTerm {
+    QTerm::Attr { var, attr: 0 }
+}
+
+/// The second variable's attribute.
+fn second(rt: &impl Abort, alloc: Global) -> List<Target> {
+    let (name, kind, term) = (named(rt, alloc, b"x"), Kind::Wide, attribute(1));
+    one(rt, alloc, Target { name, kind, term })
+}
+
+/// The second variable's attribute, where the first one's is less.
+fn greater(rt: &impl Abort, alloc: Global) -> Query {
+    let (op, left, right) = (CmpOp::Lt, attribute(0), attribute(1));
+    Query {
+        vars: two(rt, alloc, key(rt, alloc), key(rt, alloc)),
+        targets: second(rt, alloc),
+        qual: QQual::Cmp { op, left, right },
+    }
+}
+
+/// How many rows the answer has over these numbers; `None` where a target lacks a value.
+fn count(rt: &impl Abort, alloc: Global, first: &[i64], second: &[i64]) -> Option<usize> {
+    let query = greater(rt, alloc);
+    let sets = [set_of(rt, alloc, first), set_of(rt, alloc, second)];
+    match answer_over(alloc, &query, &[], &sets) {
+        Ok(rows) => Some(rows.len()),
+        Err(ProductFault::NoValue { .. }) => None,
+        Err(ProductFault::OutOfMemory) => panic!(*rt; "no memory"),
+    }
+}
+
+#[test]
+fn rows_of_two_variables_are_compared(rt: HostRuntime) {
+    let alloc = rt.alloc();
+    assert!(rt; count(&rt, alloc, &[1, 2, 4], &[2, 3, 1]) == Some(2));
+    assert!(rt; count(&rt, alloc, &[], &[2, 3]) == Some(0));
+}
+
+#[test]
+fn a_query_tells_what_it_uses(rt: HostRuntime) {
+    let query = greater(&rt, rt.alloc());
+    let used = uses(rt.alloc(), &query, 1).expect(&rt, "no memory");
+    assert!(rt; used.len() == 2);
+    assert!(rt; is_used(&query, 0));
+    assert!(rt; !is_used(&query, 2));
+}

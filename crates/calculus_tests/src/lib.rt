@@ -1,0 +1,31 @@
+//! Tests of the calculus, and of the crates that compute with it alone.
+#![tactic(auto)]
+
+#[cfg(test)]
+mod answers;
+#[cfg(test)]
+mod changes;
+#[cfg(test)]
+mod containers;
+#[cfg(test)]
+mod copies;
+#[cfg(test)]
+mod kinds;
+#[cfg(test)]
+mod leaves;
+#[cfg(test)]
+mod made;
+#[cfg(test)]
+mod patterns;
+#[cfg(test)]
+mod refused;
+#[cfg(test)]
+mod rows;
+#[cfg(test)]
+mod statements;
+#[cfg(test)]
+mod truths;
+#[cfg(test)]
+mod utilities;
+#[cfg(test)]
+mod values;

@@ -1,0 +1,76 @@
+//! What the tests make their values of.
+
+use calculus::{Boxed, Chars, List, Name, RelKey, Row, RowSet, Text, TryCopy, Value};
+use std::alloc::Global;
+use std::process::Abort;
+use std::test::*;
+
+/// The copy of the tree is equal to it.
+pub fn copied<T: TryCopy + PartialEq + Drop>(rt: &impl Abort, alloc: Global, what: &str, tree: T) {
+    let copy = tree.copy(alloc).expect(rt, "no memory");
+    assert!(*rt; copy == tree, "{what}");
+}
+
+/// The list of this one item.
+pub fn one<T: Drop>(rt: &impl Abort, alloc: Global, item: T) -> List<T> {
+    let mut items = Vec::new(alloc);
+    items.push(item).expect(rt, "no memory");
+    List::of(items)
+}
+
+/// The list of these two items.
+pub fn two<T: Drop>(rt: &impl Abort, alloc: Global, first: T, second: T) -> List<T> {
+    let mut items = Vec::new(alloc);
+    items.push(first).expect(rt, "no memory");
+    items.push(second).expect(rt, "no memory");
+    List::of(items)
+}
+
+pub fn boxed<T: Drop>(rt: &impl Abort, alloc: Global, value: T) -> Boxed<T> {
+    Boxed::new(alloc, value).expect(rt, "no memory")
+}
+
+pub fn named(rt: &impl Abort, alloc: Global, bytes: &[u8]) -> Name {
+    let name = Name::of(alloc, bytes).expect(rt, "no memory");
+    name.expect(rt, "no name")
+}
+
+pub fn chars(rt: &impl Abort, alloc: Global, bytes: &[u8]) -> Chars {
+    let chars = Chars::of(alloc, bytes).expect(rt, "no memory");
+    chars.expect(rt, "no text constant")
+}
+
+pub fn text(rt: &impl Abort, alloc: Global, bytes: &[u8]) -> Value {
+    let text = Text::of(alloc, bytes).expect(rt, "no memory");
+    Value::Text(text.expect(rt, "no text"))
+}
+
+/// What names a relation of ann's.
+pub fn key(rt: &impl Abort, alloc: Global) -> RelKey {
+    let owner = named(rt, alloc, b"ann");
+    let name = named(rt, alloc, b"p");
+    RelKey { owner, name }
+}
+
+/// The row of these numbers.
+pub fn row(rt: &impl Abort, alloc: Global, numbers: &[i64]) -> Row {
+    let mut values = Vec::new(alloc);
+    for number in numbers {
+        values.push(Value::Int(*number)).expect(rt, "no memory");
+    }
+    Row::of(values)
+}
+
+/// The rows of these numbers.
+pub fn rows(rt: &impl Abort, alloc: Global, lists: &[&[i64]]) -> Vec<Row> {
+    let mut rows = Vec::new(alloc);
+    for numbers in lists {
+        rows.push(row(rt, alloc, numbers)).expect(rt, "no memory");
+    }
+    rows
+}
+
+/// The set of the rows of these numbers.
+pub fn set(rt: &impl Abort, alloc: Global, lists: &[&[i64]]) -> RowSet {
+    RowSet::of_rows(rows(rt, alloc, lists))
+}
