@@ -13,6 +13,3 @@ mod updates;
 pub use queries::query_of;
 pub use trees::tree_by;
 pub use updates::{append_of, delete_of, into_of, replace_of};
-
-#[cfg(test)]
-mod tests;
