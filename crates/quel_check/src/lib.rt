@@ -4,6 +4,7 @@
 mod aggregated;
 mod mentions;
 mod names;
+mod pairs;
 mod parts;
 mod places;
 mod range_table;

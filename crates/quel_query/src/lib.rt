@@ -2,6 +2,7 @@
 #![tactic(auto)]
 
 mod known;
+mod pairs;
 mod parts;
 mod places;
 mod queries;

@@ -2,7 +2,7 @@
 
 use crate::given::{name, relation, statement, two_relations, two_vars};
 use crate::shown::{put, put_qual, put_term};
-use calculus::{Item, Qual, RelKey, Statement, Term};
+use calculus::{Item, Name, Qual, RelKey, Statement};
 use quel_check::{
     Mention, RangeTable, has_aggregate, mentions_in_qual, mentions_in_term, qual_has_aggregate,
     qual_tree, term_has_aggregate, term_tree, vars_in, where_tree,
@@ -40,26 +40,30 @@ fn a_variable_ranges_over_what_it_was_declared_for_last(rt: HostRuntime) {
     assert!(rt; ranged(&rt, alloc, b"y") == None);
 }
 
-/// The term of a replacement's first target, and its qualification.
-fn parts<'a>(rt: &impl Abort, s: &'a Statement) -> (&'a Term, &'a Qual) {
-    match s {
-        Statement::Replace { items, qual, .. } => match items.items() {
-            [Item::Set { name: _, term }, ..] => (term, qual),
-            _ => panic!(rt; "no term"),
-        },
-        _ => panic!(rt; "no replacement"),
+/// Whether the first target of a target list has an aggregate.
+fn has_in_first(items: &[Item]) -> bool {
+    match items {
+        [Item::Set { name: _, term }, ..] => term_has_aggregate(term),
+        _ => false,
     }
 }
 
-/// Whether a replacement has an aggregate, its term has one, its qualification has one.
+/// Whether there is an aggregate in a replacement, in its first target, in its qualification.
+fn aggregates_in(s: &Statement) -> (bool, bool, bool) {
+    match s {
+        Statement::Replace { items, qual, .. } => (
+            has_aggregate(s),
+            has_in_first(items.items()),
+            qual_has_aggregate(qual),
+        ),
+        _ => (false, false, true),
+    }
+}
+
+/// The same of a text.
 fn aggregates(rt: &impl Abort, alloc: Global, text: &[u8]) -> (bool, bool, bool) {
     let s = statement(rt, alloc, text);
-    let (term, qual) = parts(rt, &s);
-    (
-        has_aggregate(&s),
-        term_has_aggregate(term),
-        qual_has_aggregate(qual),
-    )
+    aggregates_in(&s)
 }
 
 #[test]
@@ -99,20 +103,38 @@ fn put_mention(rt: &impl Abort, shown: &mut Vec<u8>, mention: &Mention<'_>) {
     }
 }
 
-/// What the term and the qualification of a replacement mention.
+fn put_mentions(rt: &impl Abort, shown: &mut Vec<u8>, mentions: &[Mention<'_>]) {
+    for mention in mentions {
+        put_mention(rt, shown, mention);
+    }
+}
+
+fn put_term_mentions(rt: &impl Abort, alloc: Global, shown: &mut Vec<u8>, items: &[Item]) {
+    if let [Item::Set { name: _, term }, ..] = items {
+        let mentions = mentions_in_term(alloc, term).expect(rt, "memory");
+        put_mentions(rt, shown, &mentions);
+    }
+}
+
+fn put_qual_mentions(rt: &impl Abort, alloc: Global, shown: &mut Vec<u8>, qual: &Qual) {
+    let mentions = mentions_in_qual(alloc, qual).expect(rt, "memory");
+    put(rt, shown, b"where ");
+    put_mentions(rt, shown, &mentions);
+}
+
+/// Puts what the first target and the qualification of a replacement mention behind the others.
+fn put_all_mentions(rt: &impl Abort, alloc: Global, shown: &mut Vec<u8>, s: &Statement) {
+    if let Statement::Replace { items, qual, .. } = s {
+        put_term_mentions(rt, alloc, shown, items.items());
+        put_qual_mentions(rt, alloc, shown, qual);
+    }
+}
+
+/// What the first target and the qualification of a replacement mention.
 fn mentions(rt: &impl Abort, alloc: Global, text: &[u8]) -> Vec<u8> {
     let mut shown = Vec::new(alloc);
     let s = statement(rt, alloc, text);
-    let (term, qual) = parts(rt, &s);
-    let in_term = mentions_in_term(alloc, term).expect(rt, "memory");
-    for mention in &in_term {
-        put_mention(rt, &mut shown, mention);
-    }
-    put(rt, &mut shown, b"where ");
-    let in_qual = mentions_in_qual(alloc, qual).expect(rt, "memory");
-    for mention in &in_qual {
-        put_mention(rt, &mut shown, mention);
-    }
+    put_all_mentions(rt, alloc, &mut shown, &s);
     shown
 }
 
@@ -122,19 +144,46 @@ fn an_aggregate_mentions_its_term_by_list_and_qualification(rt: HostRuntime) {
     assert!(rt; mentions(&rt, alloc, COUNTED).as_slice() == b"y.b x.c y.d where y.d ".as_slice());
 }
 
-/// The trees of a replacement's term and qualification over `x` and `y`.
-fn trees(rt: &impl Abort, alloc: Global, text: &[u8]) -> Vec<u8> {
-    let mut shown = Vec::new(alloc);
+fn put_first_tree(rt: &impl Abort, alloc: Global, shown: &mut Vec<u8>, items: &[Item]) {
     let vars = two_vars(rt, alloc);
     let infos = two_relations(rt, alloc);
+    if let [Item::Set { name: _, term }, ..] = items {
+        let tree = term_tree(alloc, &vars, &infos, term).expect(rt, "memory");
+        put_term(rt, shown, &tree);
+    }
+}
+
+fn put_qual_tree(rt: &impl Abort, alloc: Global, shown: &mut Vec<u8>, qual: &Qual) {
+    let vars = two_vars(rt, alloc);
+    let infos = two_relations(rt, alloc);
+    let tree = qual_tree(alloc, &vars, &infos, qual).expect(rt, "memory");
+    put(rt, shown, b" where ");
+    put_qual(rt, shown, &tree);
+}
+
+/// Puts the trees of a replacement's first target and qualification behind the others.
+fn put_trees(rt: &impl Abort, alloc: Global, shown: &mut Vec<u8>, s: &Statement) {
+    if let Statement::Replace { items, qual, .. } = s {
+        put_first_tree(rt, alloc, shown, items.items());
+        put_qual_tree(rt, alloc, shown, qual);
+    }
+}
+
+/// The trees of a replacement's first target and qualification over `x` and `y`.
+fn trees(rt: &impl Abort, alloc: Global, text: &[u8]) -> Vec<u8> {
+    let mut shown = Vec::new(alloc);
     let s = statement(rt, alloc, text);
-    let (term, qual) = parts(rt, &s);
-    let term = term_tree(alloc, &vars, &infos, term).expect(rt, "memory");
-    put_term(rt, &mut shown, &term);
-    put(rt, &mut shown, b" where ");
-    let qual = qual_tree(alloc, &vars, &infos, qual).expect(rt, "memory");
-    put_qual(rt, &mut shown, &qual);
+    put_trees(rt, alloc, &mut shown, &s);
     shown
+}
+
+/// The tree of a statement's qualification over `q`.
+fn put_where(rt: &impl Abort, alloc: Global, shown: &mut Vec<u8>, vars: &[Name], s: &Statement) {
+    let mut infos = Vec::new(alloc);
+    let info = relation(rt, alloc, b"q", b"b", b"d");
+    infos.push(info).expect(rt, "memory");
+    let tree = where_tree(alloc, vars, &infos, s).expect(rt, "memory");
+    put_qual(rt, shown, &tree);
 }
 
 /// The tree of a statement's qualification, whose only variable ranges over `q`.
@@ -142,12 +191,7 @@ fn tree_alone(rt: &impl Abort, alloc: Global, text: &[u8]) -> Vec<u8> {
     let mut shown = Vec::new(alloc);
     let s = statement(rt, alloc, text);
     let vars = vars_in(alloc, &s).expect(rt, "memory");
-    let mut infos = Vec::new(alloc);
-    infos
-        .push(relation(rt, alloc, b"q", b"b", b"d"))
-        .expect(rt, "memory");
-    let tree = where_tree(alloc, vars.items(), &infos, &s).expect(rt, "memory");
-    put_qual(rt, &mut shown, &tree);
+    put_where(rt, alloc, &mut shown, vars.items(), &s);
     shown
 }
 
