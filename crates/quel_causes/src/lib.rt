@@ -20,6 +20,3 @@ pub use places::{is_catalogue_name, is_full, is_taken};
 pub use repeated::{repeats, sorts_by_titles};
 pub use variables::has_too_many;
 pub use widths::{is_too_wide, kind_bytes};
-
-#[cfg(test)]
-mod tests;

@@ -1,5 +1,7 @@
 -- Trees of terms and qualifications without aggregates, form by form.
-use Rattle.std.proofs.Common.{◌≡◌, refl, sym, ap, ◌∙◌, subst, ℕ, ◌+◌, ℤ, Bool, true, false, ◌||◌, ◌&&◌, List, ◌++◌, length}
+use Rattle.std.proofs.Common.{◌≡◌, refl, sym, ap, ◌∙◌, subst, ℕ, ◌+◌, ℤ, Bool, true, false, ◌||◌, ◌&&◌, List, ◌++◌, length, Result, Ok}
+use Rattle.std.specs.Prelude.{IfOk}
+use Rattle.std.proofs.lemmas.Result.{IfOk-at_ok}
 use Rattle.std.proofs.lemmas.List.Folds.{list_all-append}
 use denote.Hole.Carrier.{hidden}
 use Rattle.calculus.specs.declared.operator.ArithOp.{ArithOp}
@@ -133,3 +135,13 @@ same_tree vars infos t found other e h = subst (IsTermTree vars infos t) (sym e)
 
 pub same_qual_tree : (vars : Vars) (infos : List RelInfo) (q : Qual) (found other : QQual) → other ≡ found → IsQualTree vars infos q found → IsQualTree vars infos q other
 same_qual_tree vars infos q found other e h = subst (IsQualTree vars infos q) (sym e) h
+
+-- ---- trees that calls gave
+
+pub term_of : {E : Type 0} (vars : Vars) (infos : List RelInfo) (t u : Term) (found : QTerm) (r : Result QTerm E) → t ≡ u → r ≡ Ok found → IfOk r (IsTermTree vars infos u)
+    → IsTermTree vars infos t found
+term_of vars infos t u found r e is h = same_term vars infos t u found e (IfOk-at_ok (IsTermTree vars infos u) is h)
+
+pub qual_of : {E : Type 0} (vars : Vars) (infos : List RelInfo) (p q : Qual) (found : QQual) (r : Result QQual E) → p ≡ q → r ≡ Ok found → IfOk r (IsQualTree vars infos q)
+    → IsQualTree vars infos p found
+qual_of vars infos p q found r e is h = same_qual vars infos p q found e (IfOk-at_ok (IsQualTree vars infos q) is h)

@@ -4,6 +4,7 @@
 mod aggregated;
 mod mentions;
 mod names;
+mod pairs;
 mod parts;
 mod places;
 mod range_table;
@@ -14,6 +15,3 @@ pub use mentions::{Mention, mentions_in_qual, mentions_in_term};
 pub use names::vars_in;
 pub use range_table::RangeTable;
 pub use trees::{qual_tree, term_tree, where_tree};
-
-#[cfg(test)]
-mod tests;

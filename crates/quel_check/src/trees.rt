@@ -9,6 +9,7 @@ ghost use Rattle.quel_meaning.specs.WrittenParts.{text_aggregates, vars_in, wher
 ghost use Rattle.quel_meaning.specs.WrittenQuery.{where_tree};
 ghost use Rattle.quel_meaning.specs.WrittenTree.{attr_in, var_place};
 
+use crate::pairs::both;
 use crate::parts::where_of;
 use crate::places::{attr_place, compared, var_place};
 use calculus::{Boxed, Name, OutOfMemory, QQual, QTerm, Qual, RelInfo, Statement, Term};
@@ -69,8 +70,9 @@ pub fn term_tree(
         Term::Neg(inner) => Ok(QTerm::Neg(boxed_tree(alloc, vars, infos, inner.get())?)),
         Term::Abs(inner) => Ok(QTerm::Abs(boxed_tree(alloc, vars, infos, inner.get())?)),
         Term::Arith { op, left, right } => {
-            let left = boxed_tree(alloc, vars, infos, left.get())?;
-            let right = boxed_tree(alloc, vars, infos, right.get())?;
+            let left = boxed_tree(alloc, vars, infos, left.get());
+            let right = boxed_tree(alloc, vars, infos, right.get());
+            let (left, right) = both(left, right)?;
             Ok(QTerm::Arith {
                 op: *op,
                 left,
@@ -78,8 +80,9 @@ pub fn term_tree(
             })
         }
         Term::Concat { left, right } => {
-            let left = boxed_tree(alloc, vars, infos, left.get())?;
-            let right = boxed_tree(alloc, vars, infos, right.get())?;
+            let left = boxed_tree(alloc, vars, infos, left.get());
+            let right = boxed_tree(alloc, vars, infos, right.get());
+            let (left, right) = both(left, right)?;
             Ok(QTerm::Concat { left, right })
         }
         Term::Agg(_) => Ok(QTerm::Int(0)),
@@ -112,18 +115,21 @@ pub fn qual_tree(
     match q {
         Qual::True => Ok(QQual::True),
         Qual::Cmp { op, left, right } => {
-            let left = term_tree(alloc, vars, infos, left)?;
-            let right = term_tree(alloc, vars, infos, right)?;
+            let left = term_tree(alloc, vars, infos, left);
+            let right = term_tree(alloc, vars, infos, right);
+            let (left, right) = both(left, right)?;
             Ok(compared(*op, left, right))
         }
         Qual::And(left, right) => {
-            let left = boxed_qual(alloc, vars, infos, left.get())?;
-            let right = boxed_qual(alloc, vars, infos, right.get())?;
+            let left = boxed_qual(alloc, vars, infos, left.get());
+            let right = boxed_qual(alloc, vars, infos, right.get());
+            let (left, right) = both(left, right)?;
             Ok(QQual::And(left, right))
         }
         Qual::Or(left, right) => {
-            let left = boxed_qual(alloc, vars, infos, left.get())?;
-            let right = boxed_qual(alloc, vars, infos, right.get())?;
+            let left = boxed_qual(alloc, vars, infos, left.get());
+            let right = boxed_qual(alloc, vars, infos, right.get());
+            let (left, right) = both(left, right)?;
             Ok(QQual::Or(left, right))
         }
         Qual::Not(inner) => Ok(QQual::Not(boxed_qual(alloc, vars, infos, inner.get())?)),

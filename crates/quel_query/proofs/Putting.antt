@@ -122,7 +122,7 @@ no_aggregates s vars n (concat t u) h =
 no_aggregates s vars n (Agg' mark row) h = no_row s vars n row h
 
 -- a target of these parts
-abbrev made : List ℕ → QTerm → List (List Kind) → Target
+abbrev pub made : List ℕ → QTerm → List (List Kind) → Target
 made name tree kinds = record { name = name; kind = unwrap_or (kind_of tree kinds) Wide; term = tree }
 
 same_target : (s : Scope) (vars : Vars) (infos : List RelInfo) (n : ℕ) (name : List ℕ) (t : Term) (tree : QTerm) (kinds : List (List Kind)) → Knows s vars infos

@@ -1,10 +1,20 @@
 //! What is known of what the variables range over: keys and kinds.
 
 ghost use Rattle.std.specs.Prelude.{◌≡◌, map, vec_items, IfOk};
+ghost use Rattle.calculus.specs.Keys.{key_of};
 ghost use Rattle.quel_query.specs.Targets.{kinds_in};
 
-use calculus::{Attr, Kind, OutOfMemory, RelInfo, RelKey, TryCopy};
+use crate::pairs::both;
+use calculus::{Attr, Kind, Name, OutOfMemory, RelInfo, RelKey, TryCopy};
 use std::alloc::Global;
+
+/// The key of this owner and name.
+pub(crate) fn key_of(alloc: Global, owner: &Name, name: &Name) -> Result<RelKey, OutOfMemory>
+    ensures { IfOk result (λ key. key ≡ key_of owner.now name.now) }
+{
+    let (owner, name) = both(owner.copy(alloc), name.copy(alloc))?;
+    Ok(RelKey { owner, name })
+}
 
 /// The key of each.
 pub(crate) fn keys_of(alloc: Global, infos: &[RelInfo]) -> Result<Vec<RelKey>, OutOfMemory>

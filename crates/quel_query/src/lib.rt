@@ -2,6 +2,7 @@
 #![tactic(auto)]
 
 mod known;
+mod pairs;
 mod parts;
 mod places;
 mod queries;
@@ -13,6 +14,3 @@ mod updates;
 pub use queries::query_of;
 pub use trees::tree_by;
 pub use updates::{append_of, delete_of, into_of, replace_of};
-
-#[cfg(test)]
-mod tests;

@@ -10,6 +10,7 @@ ghost use Rattle.calculus.specs.Stored.{attrs_in};
 ghost use Rattle.quel_meaning.specs.WrittenQuery.{attr_targets};
 ghost use Rattle.quel_query.specs.Targets.{Puts, kinds_in};
 
+use crate::pairs::{both, push};
 use crate::places::{byte, var_place};
 use calculus::{
     Attr, Item, Kind, Name, OutOfMemory, QTerm, RelInfo, Target, Term, TryCopy, kind_of,
@@ -18,17 +19,11 @@ use quel_check::term_tree;
 use std::alloc::Global;
 
 /// The target of this name for a term, with the term's kind.
-fn target(
-    alloc: Global,
-    name: &Name,
-    term: QTerm,
-    kinds: &[Vec<Kind>],
-) -> Result<Target, OutOfMemory>
-    ensures { IfOk result (λ target. target ≡ record { name = name.now; kind = unwrap_or (kind_of term (map vec_items kinds.now)) Wide; term = term }) }
+fn target(name: Name, term: QTerm, kinds: &[Vec<Kind>]) -> Target
+    ensures { result ≡ record { name = name; kind = unwrap_or (kind_of term (map vec_items kinds.now)) Wide; term = term } }
 {
-    let name = name.copy(alloc)?;
     let kind = kind_of(&term, kinds).unwrap_or(Kind::Wide);
-    Ok(Target { name, kind, term })
+    Target { name, kind, term }
 }
 
 /// Puts the target of this name for a written term behind the others.
@@ -44,10 +39,9 @@ fn push_term(
     requires { map vec_items kinds.now ≡ kinds_in infos.now }
     ensures { OnOk result (Puts vars.now infos.now (item.Set name.now term.now ∷ []) targets.old.items targets.new.items) }
 {
-    let term = term_tree(alloc, vars, infos, term)?;
-    let target = target(alloc, name, term, kinds)?;
-    targets.push(target)?;
-    Ok(())
+    let term = term_tree(alloc, vars, infos, term);
+    let (term, name) = both(term, name.copy(alloc))?;
+    push(targets, target(name, term, kinds))
 }
 
 /// The target of an attribute of a variable, both by place.
@@ -77,7 +71,7 @@ fn push_attrs(
 {
     for (place, attr) in attrs.iter().enumerate() {
         let target = attr_target(alloc, var, place, attr)?;
-        targets.push(target)?;
+        push(targets, target)?;
     }
     Ok(())
 }

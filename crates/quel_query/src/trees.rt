@@ -1,6 +1,6 @@
 //! The tree of a statement.
 
-ghost use Rattle.std.specs.Prelude.{◌≡◌, ◌≤◌, ℕ, List as Items, [], ◌∷◌, is_some, length, map, option_copied, IfOk, IfSome};
+ghost use Rattle.std.specs.Prelude.{◌≡◌, ◌≤◌, ℕ, List as Items, [], ◌∷◌, None, is_some, length, map, option_copied, IfOk, IfSome};
 ghost use Rattle.calculus.specs.declared.request.Checked.TheVariants.{Answer, Update, Utility as ForUtilities};
 ghost use Rattle.calculus.specs.declared.request.Utility.TheVariants as utility;
 ghost use Rattle.calculus.specs.declared.statement.Item.{Item as WrittenItem};
@@ -14,11 +14,12 @@ ghost use Rattle.quel_meaning.specs.Scope.{Scope, named, ranged};
 ghost use Rattle.quel_meaning.specs.StatementUpdate.{append_of, delete_of, replace_of};
 ghost use Rattle.quel_query.specs.Changed.{Suits, is_built};
 
+use crate::known::key_of;
+use crate::pairs::{alone, beside, both, push};
 use crate::sorting::sort_keys;
 use crate::updates::{append_of, delete_of, into_of, replace_of};
 use calculus::{
-    Asked, Attr, Checked, Domain, Kind, List, Name, OutOfMemory, Query, RelInfo, RelKey, Statement,
-    TryCopy, Utility,
+    Asked, Attr, Checked, Domain, Kind, List, Name, OutOfMemory, Query, RelInfo, Statement, Utility,
 };
 use std::alloc::Global;
 
@@ -26,13 +27,20 @@ use std::alloc::Global;
 fn printed(alloc: Global, q: Query, sort: &[(Name, bool)]) -> Result<Checked, OutOfMemory>
     ensures { IfOk result (λ tree. length (targets_of q) ≤ 256 → tree ≡ Answer (record { query = q; sort = map (sort_key (targets_of q)) sort.now } ∷ [])) }
 {
-    let keys = sort_keys(alloc, q.targets.items(), sort)?;
-    let mut asked = Vec::new(alloc);
-    asked.push(Asked {
-        query: q,
-        sort: List::of(keys),
-    })?;
+    let keys = sort_keys(alloc, q.targets.items(), sort);
+    let (keys, query) = beside(keys, q)?;
+    let sort = List::of(keys);
+    let asked = alone(alloc, Asked { query, sort })?;
     Ok(Checked::Answer(List::of(asked)))
+}
+
+/// The attribute of this name with its domain.
+fn stored_attr(alloc: Global, name: &Name, domain: Domain) -> Result<Attr, OutOfMemory>
+    ensures { IfOk result (λ attr. attr ≡ stored_attr (name.now, domain)) }
+{
+    let name = name.copy(alloc)?;
+    let kind = Kind::Of(domain);
+    Ok(Attr { name, kind })
 }
 
 /// The attributes with their domains.
@@ -41,10 +49,8 @@ fn stored_attrs(alloc: Global, attrs: &[(Name, Domain)]) -> Result<Vec<Attr>, Ou
 {
     let mut stored = Vec::new(alloc);
     for (name, domain) in attrs {
-        stored.push(Attr {
-            name: name.copy(alloc)?,
-            kind: Kind::Of(*domain),
-        })?;
+        let attr = stored_attr(alloc, name, *domain)?;
+        push(&mut stored, attr)?;
     }
     Ok(stored)
 }
@@ -58,13 +64,10 @@ fn created(
 ) -> Result<Checked, OutOfMemory>
     ensures { IfOk result (λ tree. tree ≡ ForUtilities (utility.Create (key_of user.now rel.now) (map stored_attr attrs.now))) }
 {
-    let owner = user.copy(alloc)?;
-    let name = rel.copy(alloc)?;
-    let attrs = stored_attrs(alloc, attrs)?;
-    Ok(Checked::Utility(Utility::Create {
-        rel: RelKey { owner, name },
-        attrs: List::of(attrs),
-    }))
+    let key = key_of(alloc, user, rel);
+    let (rel, attrs) = both(key, stored_attrs(alloc, attrs))?;
+    let attrs = List::of(attrs);
+    Ok(Checked::Utility(Utility::Create { rel, attrs }))
 }
 
 /// The tree of a `retrieve`, for a query of at most 256 targets.
@@ -83,6 +86,15 @@ fn retrieved(
     }
 }
 
+fn let_go(_q: Query) {}
+
+/// No tree for a query.
+fn no_tree(_q: Query) -> Result<Option<Checked>, OutOfMemory>
+    ensures { IfOk result (λ tree. tree ≡ None) }
+{
+    Ok(None)
+}
+
 /// The tree of an `append`; `None` where what it changes isn't there.
 fn appended(
     alloc: Global,
@@ -94,7 +106,7 @@ fn appended(
 {
     match target {
         Some(info) => Ok(Some(Checked::Update(append_of(alloc, info, q)?))),
-        None => Ok(None),
+        None => no_tree(q),
     }
 }
 
@@ -109,7 +121,7 @@ fn replaced(
 {
     match target {
         Some(info) => Ok(Some(Checked::Update(replace_of(alloc, info, q)?))),
-        None => Ok(None),
+        None => no_tree(q),
     }
 }
 
@@ -124,7 +136,7 @@ fn deleted(
 {
     match target {
         Some(info) => Ok(Some(Checked::Update(delete_of(alloc, info, q)?))),
-        None => Ok(None),
+        None => no_tree(q),
     }
 }
 
@@ -146,21 +158,24 @@ pub fn tree_by(
         Statement::Retrieve { into, sort, .. } => {
             Ok(Some(retrieved(alloc, user, into, sort.items(), q)?))
         }
-        Statement::Create { rel, attrs } => Ok(Some(created(alloc, user, rel, attrs.items())?)),
+        Statement::Create { rel, attrs } => {
+            let_go(q);
+            Ok(Some(created(alloc, user, rel, attrs.items())?))
+        }
         Statement::Append { .. } => appended(alloc, target, q),
         Statement::Replace { .. } => replaced(alloc, target, q),
         Statement::Delete { .. } => deleted(alloc, target, q),
-        Statement::Range { .. } => Ok(None),
-        Statement::Destroy { .. } => Ok(None),
-        Statement::DropPermits { .. } => Ok(None),
-        Statement::DropRules { .. } => Ok(None),
-        Statement::Modify { .. } => Ok(None),
-        Statement::Index { .. } => Ok(None),
-        Statement::Print { .. } => Ok(None),
-        Statement::Help { .. } => Ok(None),
-        Statement::Copy { .. } => Ok(None),
-        Statement::View { .. } => Ok(None),
-        Statement::Permit { .. } => Ok(None),
-        Statement::Rule { .. } => Ok(None),
+        Statement::Range { .. } => no_tree(q),
+        Statement::Destroy { .. } => no_tree(q),
+        Statement::DropPermits { .. } => no_tree(q),
+        Statement::DropRules { .. } => no_tree(q),
+        Statement::Modify { .. } => no_tree(q),
+        Statement::Index { .. } => no_tree(q),
+        Statement::Print { .. } => no_tree(q),
+        Statement::Help { .. } => no_tree(q),
+        Statement::Copy { .. } => no_tree(q),
+        Statement::View { .. } => no_tree(q),
+        Statement::Permit { .. } => no_tree(q),
+        Statement::Rule { .. } => no_tree(q),
     }
 }

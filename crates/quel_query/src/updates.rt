@@ -1,11 +1,14 @@
 //! The updates that statements are.
 
-ghost use Rattle.std.specs.Prelude.{◌≡◌, ◌≤◌, ℕ, List as Items, Some, length, map, IfOk};
+ghost use Rattle.std.specs.Prelude.{◌≡◌, ◌≤◌, ℕ, List as Items, [], Some, length, map, IfOk};
 ghost use Rattle.std.specs.List.{enumerate_from};
+ghost use Rattle.calculus.specs.declared.query.QQual.TheVariants.{True};
 ghost use Rattle.calculus.specs.QueryParts.{targets_of};
 ghost use Rattle.quel_meaning.specs.Scope.{Scope, named, place_found, ranged};
 ghost use Rattle.quel_meaning.specs.StatementUpdate.{append_of, changing, delete_of, into_of, replace_of};
 
+use crate::known::key_of;
+use crate::pairs::{beside, both};
 use crate::places::{attr_place, byte};
 use calculus::{
     List, Name, OutOfMemory, QQual, Query, RelInfo, RelKey, Target, TryCopy, Update, UpdateOp,
@@ -34,6 +37,21 @@ fn places_in_order(alloc: Global, targets: &[Target]) -> Result<Vec<u8>, OutOfMe
     Ok(places)
 }
 
+/// The update of these parts, without checks.
+fn update(alloc: Global, op: UpdateOp, rel: RelKey, old: u8, places: Vec<u8>, q: Query) -> Update
+    ensures { result ≡ record { op = op; rel = rel; old = old; places = places.items; query = q; checks = []; new_cut = True } }
+{
+    Update {
+        op,
+        rel,
+        old,
+        places: List::of(places),
+        query: q,
+        checks: List::of(Vec::new(alloc)),
+        new_cut: QQual::True,
+    }
+}
+
 /// An update of this relation that gives new values to the attributes that the titles name.
 fn changing(
     alloc: Global,
@@ -44,17 +62,10 @@ fn changing(
 ) -> Result<Update, OutOfMemory>
     ensures { IfOk result (λ update. length info.now.attrs ≤ 256 → update ≡ changing op old (Some info.now) q) }
 {
-    let rel = info.key.copy(alloc)?;
-    let places = places_of(alloc, info, q.targets.items())?;
-    Ok(Update {
-        op,
-        rel,
-        old,
-        places: List::of(places),
-        query: q,
-        checks: List::of(Vec::new(alloc)),
-        new_cut: QQual::True,
-    })
+    let places = places_of(alloc, info, q.targets.items());
+    let parts = both(info.key.copy(alloc), places);
+    let ((rel, places), q) = beside(parts, q)?;
+    Ok(update(alloc, op, rel, old, places, q))
 }
 
 /// An append to the relation of which this is known, where it has at most 256 attributes.
@@ -84,16 +95,8 @@ pub fn delete_of(alloc: Global, info: &RelInfo, q: Query) -> Result<Update, OutO
 pub fn into_of(alloc: Global, user: &Name, name: &Name, q: Query) -> Result<Update, OutOfMemory>
     ensures { IfOk result (λ update. (scope : Scope) → scope.user ≡ user.now → length (targets_of q) ≤ 256 → update ≡ into_of scope name.now q) }
 {
-    let owner = user.copy(alloc)?;
-    let name = name.copy(alloc)?;
-    let places = places_in_order(alloc, q.targets.items())?;
-    Ok(Update {
-        op: UpdateOp::Into,
-        rel: RelKey { owner, name },
-        old: 255,
-        places: List::of(places),
-        query: q,
-        checks: List::of(Vec::new(alloc)),
-        new_cut: QQual::True,
-    })
+    let places = places_in_order(alloc, q.targets.items());
+    let parts = both(key_of(alloc, user, name), places);
+    let ((rel, places), q) = beside(parts, q)?;
+    Ok(update(alloc, UpdateOp::Into, rel, 255, places, q))
 }

@@ -1,6 +1,6 @@
 //! What a statement changes, and the update that it is.
 
-ghost use Rattle.std.specs.Prelude.{◌≡◌, ◌≤◌, Some, IfOk, length};
+ghost use Rattle.std.specs.Prelude.{◌≡◌, ◌≤◌, None, Some, IfOk, length};
 ghost use Rattle.am_traits.specs.Causes.{HasCause};
 ghost use Rattle.calculus.specs.Database.{Db};
 ghost use Rattle.quel_causes.specs.Judged.{update_of};
@@ -37,6 +37,13 @@ pub(crate) fn changed<B: Base>(
     }
 }
 
+/// No update for a query.
+fn no_update(_q: Query) -> Result<Option<Update>, OutOfMemory>
+    ensures { IfOk result (λ update. update ≡ None) }
+{
+    Ok(None)
+}
+
 /// The update that a statement with this query is, of whose relation this is known.
 pub(crate) fn update_of(
     alloc: Global,
@@ -50,6 +57,6 @@ pub(crate) fn update_of(
         Statement::Append { .. } => Ok(Some(append_of(alloc, info, q)?)),
         Statement::Replace { .. } => Ok(Some(replace_of(alloc, info, q)?)),
         Statement::Delete { .. } => Ok(Some(delete_of(alloc, info, q)?)),
-        _ => Ok(None),
+        _ => no_update(q),
     }
 }

@@ -92,6 +92,29 @@ fn made<B: Base>(
     }
 }
 
+/// The tree of a statement with this query, of which it is known what it changes.
+fn tree_over<B: Base>(
+    alloc: Global,
+    base: &mut B,
+    user: &Name,
+    ranges: &RangeTable,
+    s: &Statement,
+    changes: Option<RelInfo>,
+    q: Query,
+) -> Result<Checked, CheckFault>
+    ensures told { (db : Db) → B.database base.old ≡ Some db → q ≡ query_of (scope_of db user.now ranges.now) s.now → name_refusal (scope_of db user.now ranges.now) s.now ≡ None → is_built s.now ≡ true → is_range s.now ≡ false → changes ≡ changed (scope_of db user.now ranges.now) s.now
+        → Says (λ tree. (tree ≡ tree_of (scope_of db user.now ranges.now) s.now) × (first_cause (causes (scope_of db user.now ranges.now) s.now) ≡ None)) (λ number. first_cause (causes (scope_of db user.now ranges.now) s.now) ≡ Some number) (Unit {0}) result }
+    ensures judged { IsJudged result }
+    ensures kept { B.database base.new ≡ B.database base.old }
+    ensures same { B.left base.new ≡ B.left base.old }
+    ensures cause { HasCheckCause (B.database base.old) (B.faults base.old) (B.faults base.new) result }
+{
+    match changes {
+        Some(info) => updated(alloc, base, user, s, &info, q),
+        None => made(alloc, base, user, s, q),
+    }
+}
+
 /// The tree of a statement with this query.
 fn tree_with<B: Base>(
     alloc: Global,
@@ -108,9 +131,12 @@ fn tree_with<B: Base>(
     ensures same { B.left base.new ≡ B.left base.old }
     ensures cause { HasCheckCause (B.database base.old) (B.faults base.old) (B.faults base.new) result }
 {
-    match changed(alloc, base, user, ranges, s)? {
-        Some(info) => updated(alloc, base, user, s, &info, q),
-        None => made(alloc, base, user, s, q),
+    match changed(alloc, base, user, ranges, s) {
+        Ok(changes) => tree_over(alloc, base, user, ranges, s, changes, q),
+        Err(fault) => {
+            let_query_go(q);
+            Err(CheckFault::Base(fault))
+        }
     }
 }
 

@@ -1,6 +1,6 @@
 use Rattle.std.proofs.Common.{sym, ap}
 use Rattle.calculus.specs.declared.query.QTerm.TheVariants as qterm
-use Rattle.quel_check.proofs.TreeForms.{of_int, of_chars, of_attr, of_neg, of_abs, of_arith, of_concat, of_agg, same_term, same_tree}
+use Rattle.quel_check.proofs.TreeForms.{of_int, of_chars, of_attr, of_neg, of_abs, of_arith, of_concat, of_agg, same_term, same_tree, term_of}
 use Rattle.quel_check.proofs.trees.+trees.Goals as goal
 
 pub term_tree-returns-in-Int : goal.term_tree-returns-in-Int
@@ -21,17 +21,17 @@ pub term_tree-returns-in_ok-boxed_tree-in-Abs : goal.term_tree-returns-in_ok-box
 term_tree-returns-in_ok-boxed_tree-in-Abs t c =
     same_term _ _ _ _ _ c.in-Abs.is (of_abs _ _ _ _ (same_term _ _ _ _ _ (sym c.get-in-Abs.ensures) c.in_ok-boxed_tree-in-Abs.ensures))
 
-pub term_tree-returns-in_ok-right-in-Arith : goal.term_tree-returns-in_ok-right-in-Arith
-term_tree-returns-in_ok-right-in-Arith t c =
+pub term_tree-returns-in_ok-left-in-Arith : goal.term_tree-returns-in_ok-left-in-Arith
+term_tree-returns-in_ok-left-in-Arith t c =
     same_term _ _ _ _ _ c.in-Arith.is
-    (of_arith _ _ c.in-Arith.op _ _ _ _ (same_term _ _ _ _ _ (sym c.get-in-Arith.ensures) c.in_ok-left-in-Arith.ensures)
-    (same_term _ _ _ _ _ (sym c.get-in-Arith-2.ensures) c.in_ok-right-in-Arith.ensures))
+    (of_arith _ _ c.in-Arith.op _ _ _ _ (term_of _ _ _ _ _ _ (sym c.get-in-Arith.ensures) c.in_ok-left-in-Arith.ensures.0 c.boxed_tree-left.ensures)
+    (term_of _ _ _ _ _ _ (sym c.get-in-Arith-2.ensures) c.in_ok-left-in-Arith.ensures.1 c.boxed_tree-right.ensures))
 
-pub term_tree-returns-in_ok-right-in-Concat : goal.term_tree-returns-in_ok-right-in-Concat
-term_tree-returns-in_ok-right-in-Concat t c =
+pub term_tree-returns-in_ok-left-in-Concat : goal.term_tree-returns-in_ok-left-in-Concat
+term_tree-returns-in_ok-left-in-Concat t c =
     same_term _ _ _ _ _ c.in-Concat.is
-    (of_concat _ _ _ _ _ _ (same_term _ _ _ _ _ (sym c.get-in-Concat.ensures) c.in_ok-left-in-Concat.ensures)
-    (same_term _ _ _ _ _ (sym c.get-in-Concat-2.ensures) c.in_ok-right-in-Concat.ensures))
+    (of_concat _ _ _ _ _ _ (term_of _ _ _ _ _ _ (sym c.get-in-Concat.ensures) c.in_ok-left-in-Concat.ensures.0 c.boxed_tree-left-in-Concat.ensures)
+    (term_of _ _ _ _ _ _ (sym c.get-in-Concat-2.ensures) c.in_ok-left-in-Concat.ensures.1 c.boxed_tree-right-in-Concat.ensures))
 
 pub term_tree-returns-in-Agg : goal.term_tree-returns-in-Agg
 term_tree-returns-in-Agg t c = same_term _ _ _ _ _ c.in-Agg.is (of_agg _ _ _ _)

@@ -9,11 +9,11 @@ use Rattle.quel_resolve.proofs.Overs.{knows}
 use Rattle.quel_resolve.proofs.Passing.{no_aggregate}
 use Rattle.quel_resolve.proofs.queries.query_over.Goals as goal
 
-pub returns-in_ok-query_of-in-Some-clause-told : goal.returns-in_ok-query_of-in-Some-clause-told
-returns-in_ok-query_of-in-Some-clause-told g c = λ db user h names w mine few.
+pub returns-in_ok-query-in-Some-clause-told : goal.returns-in_ok-query-in-Some-clause-told
+returns-in_ok-query-in-Some-clause-told g c = λ db user h names w mine few.
     let over : map (ranged (scope_of db user c.args.ranges.now)) c.args.vars.now ≡ map (λ info. Some info) c.in-Some.infos.items =
     subst (λ o. AreOver (scope_of db user c.args.ranges.now) c.args.vars.now (option_map (λ (v : Vec RelInfo Global). v.items) o)) c.in-Some.is (c.in_ok-infos.ensures.told db user h) in
-    c.in_ok-query_of-in-Some.ensures (scope_of db user c.args.ranges.now) mine
+    c.in_ok-query-in-Some.ensures (scope_of db user c.args.ranges.now) mine
     (knows (scope_of db user c.args.ranges.now) (g.B.Base.lawful c.args.base.now db h) c.args.vars.now c.deref.result.now (over ∙ ap (map (λ info. Some info)) (sym c.deref.ensures.value)) few)
     (no_aggregate c.args.s.now w)
 

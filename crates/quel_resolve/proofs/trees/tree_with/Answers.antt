@@ -1,11 +1,5 @@
-use Rattle.std.proofs.Common.{◌≡◌, None, refl, sym, ◌∙◌}
-use Rattle.quel_names.specs.Asking.{scope_of}
-use Rattle.quel_query.specs.Changed.{changed}
-use Rattle.quel_resolve.proofs.Changes.{no_update}
+use Rattle.std.proofs.Common.{◌∙◌}
 use Rattle.quel_resolve.proofs.trees.tree_with.Goals as goal
 
-pub returns-in-None-clause-told : goal.returns-in-None-clause-told
-returns-in-None-clause-told g c = λ db h q names w r.
-    let none : changed (scope_of db c.args.user.now c.args.ranges.now) c.args.s.now ≡ None = sym (c.in_ok-info.ensures.told db h) ∙ c.in-None.is in
-    c.made.ensures.told (scope_of db c.args.user.now c.args.ranges.now) (c.in_ok-info.ensures.kept ∙ h) refl q
-    (no_update (scope_of db c.args.user.now c.args.ranges.now) c.args.s.now c.args.q names none) none w r
+pub returns-in-Ok-clause-told : goal.returns-in-Ok-clause-told
+returns-in-Ok-clause-told g c = λ db h q names w r. c.tree_over.ensures.told db (c.in-Ok.ensures.kept ∙ h) q names w r (c.in-Ok.ensures.told db h)

@@ -1,0 +1,90 @@
+//! Trees as bytes: places as digits, `VARIABLE.ATTRIBUTE`.
+
+use calculus::{ArithOp, Domain, Kind, QQual, QTerm, Query, RelKey, Target};
+use std::process::Abort;
+
+/// Puts bytes behind the others.
+pub(crate) fn put(rt: &impl Abort, shown: &mut Vec<u8>, bytes: &[u8]) {
+    shown.extend_from_slice(bytes).expect(rt, "memory");
+}
+
+/// Puts a number of one digit behind the others; a question mark for all that are greater.
+fn put_digit(rt: &impl Abort, shown: &mut Vec<u8>, number: u8) {
+    let digit = if number < 10 { b'0' + number } else { b'?' };
+    put(rt, shown, &[digit]);
+}
+
+pub(crate) fn put_term(rt: &impl Abort, shown: &mut Vec<u8>, term: &QTerm) {
+    match term {
+        QTerm::Attr { var, attr } => {
+            put_digit(rt, shown, *var);
+            put(rt, shown, b".");
+            put_digit(rt, shown, *attr);
+        }
+        QTerm::Neg(inner) => {
+            put(rt, shown, b"-");
+            put_term(rt, shown, inner.get());
+        }
+        QTerm::Arith {
+            op: ArithOp::Sub,
+            left,
+            right,
+        } => {
+            put_term(rt, shown, left.get());
+            put(rt, shown, b" - ");
+            put_term(rt, shown, right.get());
+        }
+        _ => put(rt, shown, b"?"),
+    }
+}
+
+/// Puts a match with a pattern behind the others; a question mark for what compares terms or
+/// qualifications.
+pub(crate) fn put_qual(rt: &impl Abort, shown: &mut Vec<u8>, qual: &QQual) {
+    match qual {
+        QQual::True => put(rt, shown, b"true"),
+        QQual::Like {
+            term,
+            pattern,
+            same: true,
+        } => {
+            put_term(rt, shown, term);
+            put(rt, shown, b" like ");
+            put(rt, shown, pattern.bytes());
+        }
+        _ => put(rt, shown, b"?"),
+    }
+}
+
+fn kind_of(target: &Target) -> &'static [u8] {
+    match target.kind {
+        Kind::Wide => b" wide ".as_slice(),
+        Kind::Of(Domain::I2) => b" i2 ".as_slice(),
+        _ => b" ? ".as_slice(),
+    }
+}
+
+fn put_key(rt: &impl Abort, shown: &mut Vec<u8>, key: &RelKey) {
+    put(rt, shown, key.owner.bytes());
+    put(rt, shown, b"'s ");
+    put(rt, shown, key.name.bytes());
+    put(rt, shown, b", ");
+}
+
+fn put_target(rt: &impl Abort, shown: &mut Vec<u8>, target: &Target) {
+    put(rt, shown, target.name.bytes());
+    put(rt, shown, kind_of(target));
+    put_term(rt, shown, &target.term);
+    put(rt, shown, b", ");
+}
+
+/// Puts what the variables range over, the targets and the qualification behind the others.
+pub(crate) fn put_query(rt: &impl Abort, shown: &mut Vec<u8>, query: &Query) {
+    for key in query.vars.items() {
+        put_key(rt, shown, key);
+    }
+    for target in query.targets.items() {
+        put_target(rt, shown, target);
+    }
+    put_qual(rt, shown, &query.qual);
+}
