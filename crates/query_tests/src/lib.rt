@@ -1,4 +1,4 @@
-//! Tests of queries, updates and utilities over a base that tells no database.
+//! Tests of queries over a base that tells no database.
 #![tactic(auto)]
 
 #[cfg(test)]
@@ -7,7 +7,3 @@ mod numbers;
 mod queries;
 #[cfg(test)]
 mod trees;
-#[cfg(test)]
-mod updates;
-#[cfg(test)]
-mod utilities;

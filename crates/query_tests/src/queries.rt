@@ -6,17 +6,20 @@ use query_tables::{sorted, tables_of};
 use std::alloc::Global;
 use std::process::Abort;
 
-/// How many rows there are of an attribute of the second of two variables; `None` where it has no
-/// value.
-fn answered(rt: &impl Abort, alloc: Global, attr: u8) -> Option<usize> {
-    let q = query(rt, alloc, 2, b"x", QTerm::Attr { var: 1, attr });
-    let answer = answer(alloc, &mut Numbers { rows: 3 }, &q, &[]);
-    drop(q);
+/// How many rows there are; `None` where a target has no value.
+fn row_count(answer: &Result<RowSet, QueryFault>) -> Option<usize> {
     match answer {
         Ok(rows) => Some(rows.len()),
         Err(QueryFault::NoValue { at: _ }) => None,
         Err(_) => Some(0),
     }
+}
+
+/// How many rows there are of an attribute of the second of two variables; `None` where it has no
+/// value.
+fn answered(rt: &impl Abort, alloc: Global, attr: u8) -> Option<usize> {
+    let q = query(rt, alloc, 2, b"x", QTerm::Attr { var: 1, attr });
+    row_count(&answer(alloc, &mut Numbers { rows: 3 }, &q, &[]))
 }
 
 #[test]

@@ -11,3 +11,6 @@ mod pairs_change;
 
 pub use change::change_of;
 pub use fault::UpdateFault;
+
+#[cfg(test)]
+mod tests;

@@ -1,0 +1,104 @@
+//! A base for tests.
+
+ghost use Rattle.std.specs.Prelude.{None, []};
+ghost use Rattle.std.proofs.lemmas.Option.{none-some};
+
+use am_traits::{Base, BaseFault};
+use calculus::{
+    DbChange, Name, OutOfMemory, Permit, Place, Probe, Query, RelInfo, RelKey, Row, Rule, Value,
+};
+use std::alloc::Global;
+
+/// A base that tells no database, with three rows of one number under each key.
+#[derive(Drop)]
+pub struct Three;
+
+/// The row of one number.
+fn row_of(alloc: Global, number: u16) -> Result<Row, OutOfMemory> {
+    let mut values = Vec::new(alloc);
+    values.push(Value::Int(number as i64))?;
+    Ok(Row::of(values))
+}
+
+impl Base for Three {
+    ghost database = { λ _. None };
+
+    ghost faults = { λ _. 0 };
+
+    ghost left = { λ _ _ _. [] };
+
+    ghost lawful = { λ _ db told. absurd (none-some db told) };
+
+    ghost scanned = { λ _ db _ told. absurd (none-some db told) };
+
+    fn dba(&mut self, _alloc: Global) -> Result<Name, BaseFault> {
+        Err(BaseFault::OutOfMemory)
+    }
+
+    fn count(&mut self) -> Result<u32, BaseFault> {
+        Ok(1)
+    }
+
+    fn find(
+        &mut self,
+        _alloc: Global,
+        _name: &Name,
+        _user: &Name,
+    ) -> Result<Option<RelInfo>, BaseFault> {
+        Ok(None)
+    }
+
+    fn info(&mut self, _alloc: Global, _key: &RelKey) -> Result<Option<RelInfo>, BaseFault> {
+        Ok(None)
+    }
+
+    fn size(&mut self, _alloc: Global, _key: &RelKey) -> Result<u32, BaseFault> {
+        Ok(3)
+    }
+
+    fn has_row(&mut self, _alloc: Global, _key: &RelKey, _row: &Row) -> Result<bool, BaseFault> {
+        Ok(false)
+    }
+
+    fn scan(
+        &mut self,
+        alloc: Global,
+        _key: &RelKey,
+        _probe: &Probe,
+        at: &mut Place,
+    ) -> Result<Option<Row>, BaseFault> {
+        if at.line >= 3 {
+            return Ok(None);
+        }
+        let row = row_of(alloc, at.line)?;
+        at.line += 1;
+        Ok(Some(row))
+    }
+
+    fn view(&mut self, _alloc: Global, _key: &RelKey) -> Result<Option<Query>, BaseFault> {
+        Ok(None)
+    }
+
+    fn rules(&mut self, alloc: Global, _key: &RelKey) -> Result<Vec<Rule>, BaseFault> {
+        Ok(Vec::new(alloc))
+    }
+
+    fn permits(&mut self, alloc: Global, _key: &RelKey) -> Result<Vec<Permit>, BaseFault> {
+        Ok(Vec::new(alloc))
+    }
+
+    fn named_by_view(
+        &mut self,
+        _alloc: Global,
+        _key: &RelKey,
+        _but: &[RelKey],
+    ) -> Result<bool, BaseFault> {
+        Ok(false)
+    }
+
+    fn apply(&mut self, _alloc: Global, _change: &DbChange) -> Result<(), BaseFault> {
+        Ok(())
+    }
+
+    fn hand_over(&mut self) {}
+}
