@@ -17,7 +17,10 @@ fn refused_name(rt: &impl Abort, alloc: Global, text: &[u8]) -> Option<u8> {
     let mut base = DbPlain::new(alloc, name(rt, alloc, b"ann"));
     let ranges = RangeTable::new(alloc);
     let s = statement(rt, alloc, text);
-    name_refusal(alloc, &s, &user, &ranges, &mut base).expect(rt, "an answer")
+    let number = name_refusal(alloc, &s, &user, &ranges, &mut base);
+    drop(s);
+    drop(base);
+    number.expect(rt, "an answer")
 }
 
 #[test]
@@ -34,18 +37,29 @@ fn resolved(rt: &impl Abort, alloc: Global, text: &[u8]) -> Result<Checked, Chec
     let mut base = DbPlain::new(alloc, name(rt, alloc, b"ann"));
     let ranges = RangeTable::new(alloc);
     let s = statement(rt, alloc, text);
-    resolve(alloc, &s, &user, &ranges, &mut base)
+    let tree = resolve(alloc, &s, &user, &ranges, &mut base);
+    drop(s);
+    drop(base);
+    tree
+}
+
+/// The number of an answer; 0 where it is a tree, 9 where the statement isn't built.
+fn number_of(rt: &impl Abort, tree: &Result<Checked, CheckFault>) -> u8 {
+    match tree {
+        Ok(_) => 0,
+        Err(CheckFault::No(number)) => *number,
+        Err(CheckFault::NotBuilt) => 9,
+        Err(_) => panic!(rt; "no answer"),
+    }
 }
 
 /// The number that refuses a statement before it is carried out; 0 where nothing does, 9 where it
 /// isn't built.
 fn refused(rt: &impl Abort, alloc: Global, text: &[u8]) -> u8 {
-    match resolved(rt, alloc, text) {
-        Ok(_) => 0,
-        Err(CheckFault::No(number)) => number,
-        Err(CheckFault::NotBuilt) => 9,
-        Err(_) => panic!(rt; "no answer"),
-    }
+    let tree = resolved(rt, alloc, text);
+    let number = number_of(rt, &tree);
+    drop(tree);
+    number
 }
 
 #[test]
@@ -68,12 +82,20 @@ fn targets_of(tree: &Checked) -> usize {
     count
 }
 
-/// How many targets the queries of a statement have; `None` where it is refused.
-fn targets_in(rt: &impl Abort, alloc: Global, text: &[u8]) -> Option<usize> {
-    match &resolved(rt, alloc, text) {
+/// The same of an answer; `None` where it is no tree.
+fn targets_told(tree: &Result<Checked, CheckFault>) -> Option<usize> {
+    match tree {
         Ok(tree) => Some(targets_of(tree)),
         Err(_) => None,
     }
+}
+
+/// How many targets the queries of a statement have; `None` where it is refused.
+fn targets_in(rt: &impl Abort, alloc: Global, text: &[u8]) -> Option<usize> {
+    let tree = resolved(rt, alloc, text);
+    let count = targets_told(&tree);
+    drop(tree);
+    count
 }
 
 #[test]
@@ -102,15 +124,26 @@ fn plans_p(rt: &impl Abort, alloc: Global, work: &Utility) -> bool {
     let user = name(rt, alloc, b"ann");
     let mut base = DbPlain::new(alloc, name(rt, alloc, b"ann"));
     let change = plan(alloc, &mut base, &user, work).expect(rt, "a change");
-    makes_p(&change)
+    let found = makes_p(&change);
+    drop(change);
+    drop(base);
+    found
+}
+
+/// Whether a tree is planned so.
+fn tree_plans_p(rt: &impl Abort, alloc: Global, tree: &Result<Checked, CheckFault>) -> bool {
+    match tree {
+        Ok(Checked::Utility(work)) => plans_p(rt, alloc, work),
+        _ => false,
+    }
 }
 
 /// Whether what a statement asks for is planned so.
 fn is_planned(rt: &impl Abort, alloc: Global, text: &[u8]) -> bool {
-    match &resolved(rt, alloc, text) {
-        Ok(Checked::Utility(work)) => plans_p(rt, alloc, work),
-        _ => false,
-    }
+    let tree = resolved(rt, alloc, text);
+    let found = tree_plans_p(rt, alloc, &tree);
+    drop(tree);
+    found
 }
 
 #[test]

@@ -17,6 +17,12 @@ const COUNTED: &[u8] = b"replace z (a = count(y.b by x.c where y.d = \"s*\")) wh
 /// `replace z (a = x.c - -y.b) where y.d = "s*"`
 const SUBTRACTED: &[u8] = b"replace z (a = x.c - -y.b) where y.d = \"s*\"";
 
+/// The first byte of the name of what a variable ranges over.
+fn relation_of(table: &RangeTable, var: &Name) -> Option<u8> {
+    let key = table.of(var)?;
+    key.name.bytes().first().copied()
+}
+
 /// What a variable ranges over, where `x` was declared for `p` and then for `q`: the relation's name.
 fn ranged(rt: &impl Abort, alloc: Global, var: &[u8]) -> Option<u8> {
     let mut table = RangeTable::new(alloc);
@@ -29,8 +35,9 @@ fn ranged(rt: &impl Abort, alloc: Global, var: &[u8]) -> Option<u8> {
         done.expect(rt, "memory");
     }
     let var = name(rt, alloc, var);
-    let key = table.of(&var)?;
-    key.name.bytes().first().copied()
+    let found = relation_of(&table, &var);
+    drop(table);
+    found
 }
 
 #[test]
@@ -63,7 +70,9 @@ fn aggregates_in(s: &Statement) -> (bool, bool, bool) {
 /// The same of a text.
 fn aggregates(rt: &impl Abort, alloc: Global, text: &[u8]) -> (bool, bool, bool) {
     let s = statement(rt, alloc, text);
-    aggregates_in(&s)
+    let found = aggregates_in(&s);
+    drop(s);
+    found
 }
 
 #[test]
@@ -78,9 +87,11 @@ fn variables(rt: &impl Abort, alloc: Global, text: &[u8]) -> Vec<u8> {
     let mut shown = Vec::new(alloc);
     let s = statement(rt, alloc, text);
     let vars = vars_in(alloc, &s).expect(rt, "memory");
+    drop(s);
     for var in vars.items() {
         put(rt, &mut shown, var.bytes());
     }
+    drop(vars);
     shown
 }
 
@@ -135,6 +146,7 @@ fn mentions(rt: &impl Abort, alloc: Global, text: &[u8]) -> Vec<u8> {
     let mut shown = Vec::new(alloc);
     let s = statement(rt, alloc, text);
     put_all_mentions(rt, alloc, &mut shown, &s);
+    drop(s);
     shown
 }
 
@@ -145,20 +157,27 @@ fn an_aggregate_mentions_its_term_by_list_and_qualification(rt: HostRuntime) {
 }
 
 fn put_first_tree(rt: &impl Abort, alloc: Global, shown: &mut Vec<u8>, items: &[Item]) {
+    let [Item::Set { name: _, term }, ..] = items else {
+        return;
+    };
     let vars = two_vars(rt, alloc);
     let infos = two_relations(rt, alloc);
-    if let [Item::Set { name: _, term }, ..] = items {
-        let tree = term_tree(alloc, &vars, &infos, term).expect(rt, "memory");
-        put_term(rt, shown, &tree);
-    }
+    let tree = term_tree(alloc, &vars, &infos, term).expect(rt, "memory");
+    drop(vars);
+    drop(infos);
+    put_term(rt, shown, &tree);
+    drop(tree);
 }
 
 fn put_qual_tree(rt: &impl Abort, alloc: Global, shown: &mut Vec<u8>, qual: &Qual) {
     let vars = two_vars(rt, alloc);
     let infos = two_relations(rt, alloc);
     let tree = qual_tree(alloc, &vars, &infos, qual).expect(rt, "memory");
+    drop(vars);
+    drop(infos);
     put(rt, shown, b" where ");
     put_qual(rt, shown, &tree);
+    drop(tree);
 }
 
 /// Puts the trees of a replacement's first target and qualification behind the others.
@@ -174,6 +193,7 @@ fn trees(rt: &impl Abort, alloc: Global, text: &[u8]) -> Vec<u8> {
     let mut shown = Vec::new(alloc);
     let s = statement(rt, alloc, text);
     put_trees(rt, alloc, &mut shown, &s);
+    drop(s);
     shown
 }
 
@@ -183,7 +203,9 @@ fn put_where(rt: &impl Abort, alloc: Global, shown: &mut Vec<u8>, vars: &[Name],
     let info = relation(rt, alloc, b"q", b"b", b"d");
     infos.push(info).expect(rt, "memory");
     let tree = where_tree(alloc, vars, &infos, s).expect(rt, "memory");
+    drop(infos);
     put_qual(rt, shown, &tree);
+    drop(tree);
 }
 
 /// The tree of a statement's qualification, whose only variable ranges over `q`.
@@ -192,6 +214,8 @@ fn tree_alone(rt: &impl Abort, alloc: Global, text: &[u8]) -> Vec<u8> {
     let s = statement(rt, alloc, text);
     let vars = vars_in(alloc, &s).expect(rt, "memory");
     put_where(rt, alloc, &mut shown, vars.items(), &s);
+    drop(vars);
+    drop(s);
     shown
 }
 

@@ -1,6 +1,6 @@
 //! Where memory is refused, that is the answer, and no other one changes.
 
-use calculus::{Name, OutOfMemory, Statement};
+use calculus::{Checked, Name, OutOfMemory, Statement};
 use plain_base::DbPlain;
 use quel_check::RangeTable;
 use quel_parse::{ParseFault, next_statement};
@@ -21,25 +21,54 @@ fn read(alloc: Global, text: &[u8]) -> Result<Option<Statement>, OutOfMemory> {
     }
 }
 
-/// The number that refuses ann's statement in an empty database; 0 where nothing does.
-fn refused(alloc: Global, s: &Statement) -> Result<u8, OutOfMemory> {
-    let user = ann(alloc)?;
-    let mut base = DbPlain::new(alloc, ann(alloc)?);
-    let ranges = RangeTable::new(alloc);
-    match resolve(alloc, s, &user, &ranges, &mut base) {
+/// The number of an answer; 0 where it is a tree, 9 where the statement isn't built.
+fn number_of(tree: &Result<Checked, CheckFault>) -> Result<u8, OutOfMemory> {
+    match tree {
         Ok(_) => Ok(0),
-        Err(CheckFault::No(number)) => Ok(number),
+        Err(CheckFault::No(number)) => Ok(*number),
         Err(CheckFault::NotBuilt) => Ok(9),
         Err(_) => Err(OutOfMemory),
     }
 }
 
-/// The number that refuses what a text begins with.
-fn answer(alloc: Global, text: &[u8]) -> Result<u8, OutOfMemory> {
-    match &read(alloc, text)? {
+/// The number that refuses a user's statement in a base; 0 where nothing does.
+fn refused_in(
+    alloc: Global,
+    s: &Statement,
+    user: &Name,
+    base: &mut DbPlain,
+) -> Result<u8, OutOfMemory> {
+    let ranges = RangeTable::new(alloc);
+    let tree = resolve(alloc, s, user, &ranges, base);
+    let number = number_of(&tree);
+    drop(tree);
+    number
+}
+
+/// The number that refuses ann's statement in an empty database.
+fn refused(alloc: Global, s: &Statement) -> Result<u8, OutOfMemory> {
+    let user = ann(alloc)?;
+    let dba = ann(alloc)?;
+    let mut base = DbPlain::new(alloc, dba);
+    let number = refused_in(alloc, s, &user, &mut base);
+    drop(base);
+    number
+}
+
+/// The same of what is read of a text.
+fn answer_to(alloc: Global, read: &Option<Statement>) -> Result<u8, OutOfMemory> {
+    match read {
         Some(statement) => refused(alloc, statement),
         None => Ok(255),
     }
+}
+
+/// The number that refuses what a text begins with.
+fn answer(alloc: Global, text: &[u8]) -> Result<u8, OutOfMemory> {
+    let read = read(alloc, text)?;
+    let number = answer_to(alloc, &read);
+    drop(read);
+    number
 }
 
 #[test]
