@@ -7,11 +7,11 @@ use Rattle.calculus.specs.declared.value.Domain.TheVariants.{I1, I2, I4, C}
 use Rattle.calculus.specs.declared.value.Kind.{Kind}
 use Rattle.calculus.specs.declared.value.Kind.TheVariants.{Of, Wide}
 use Rattle.calculus.specs.declared.query.RelKey.{RelKey}
-use Rattle.calculus.specs.declared.schema.Spec.{Spec}
-use Rattle.calculus.specs.declared.schema.Spec.TheVariants.{Heap, Hash, Isam, View, Index}
+use Rattle.calculus.specs.declared.schema.Spec.TheVariants.{Heap}
 use Rattle.calculus.specs.declared.schema.Attr.{Attr}
 use Rattle.calculus.specs.declared.schema.RelInfo.{RelInfo}
 use Rattle.calculus.specs.Rows.{Row, set_of}
+use Rattle.calculus.specs.Structures.{is_index, spec_text}
 use Rattle.calculus.specs.Keys.{key_of, same_key}
 use Rattle.calculus.specs.Database.{Db, Relation, entries}
 
@@ -57,27 +57,13 @@ attribute_info db = record { key = attribute_key db; spec = Heap; attrs = attrib
 abbrev pub all_entries : Db → List RelInfo
 all_entries db = relation_info db ∷ attribute_info db ∷ entries db
 
--- what an entry is, in a word
-abbrev pub spec_text : Spec → List ℕ
-spec_text Heap = codes "heap"
-spec_text Hash = codes "hash"
-spec_text Isam = codes "isam"
-spec_text View = codes "view"
-spec_text Index = codes "index"
-
 -- how many attributes an entry has; of an index, how many key attributes
-abbrev pub width_of : RelInfo → ℕ
-width_of info = elim info.spec [
-  | Heap ↦ length info.attrs
-  | Hash ↦ length info.attrs
-  | Isam ↦ length info.attrs
-  | View ↦ length info.attrs
-  | Index ↦ length info.keys
-]
+abbrev pub column_count : RelInfo → ℕ
+column_count info = elim (is_index info.spec) [ true ↦ length info.keys | false ↦ length info.attrs ]
 
 -- the row of `relation` for an entry
 abbrev pub relation_row : RelInfo → Row
-relation_row info = Text info.key.name ∷ Text info.key.owner ∷ Text (spec_text info.spec) ∷ Int (pos (width_of info)) ∷ []
+relation_row info = Text info.key.name ∷ Text info.key.owner ∷ Text (spec_text info.spec) ∷ Int (pos (column_count info)) ∷ []
 
 -- the format of a kind's values
 abbrev pub format_text : Kind → List ℕ
@@ -93,13 +79,7 @@ attribute_row key number attr = Text key.name ∷ Text key.owner ∷ Int (pos nu
 
 -- the rows of `attribute` for an entry: one for each attribute, numbered from 1; none for an index
 abbrev pub attribute_rows : RelInfo → List Row
-attribute_rows info = elim info.spec [
-  | Heap ↦ rows
-  | Hash ↦ rows
-  | Isam ↦ rows
-  | View ↦ rows
-  | Index ↦ []
-]
+attribute_rows info = elim (is_index info.spec) [ true ↦ [] | false ↦ rows ]
   where
     rows : List Row
     rows = map (λ p. attribute_row info.key p.0 p.1) (enumerate_from 1 info.attrs)

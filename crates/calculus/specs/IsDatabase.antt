@@ -12,15 +12,15 @@ use Rattle.calculus.specs.declared.query.RelKey.{RelKey}
 use Rattle.calculus.specs.declared.query.QQual.{QQual}
 use Rattle.calculus.specs.declared.query.Target.{Target}
 use Rattle.calculus.specs.declared.query.Query.{Query}
-use Rattle.calculus.specs.declared.schema.Spec.TheVariants as spec
 use Rattle.calculus.specs.declared.schema.Attr.{Attr}
 use Rattle.calculus.specs.declared.schema.RelInfo.{RelInfo}
 use Rattle.calculus.specs.declared.schema.Permit.{Permit}
+use Rattle.calculus.specs.Structures.{is_structure, is_keyed, is_view, is_index}
 use Rattle.calculus.specs.Name.{is_name}
 use Rattle.calculus.specs.Text.{is_text}
 use Rattle.calculus.specs.Value.{fits}
 use Rattle.calculus.specs.Rows.{Row, Ascends}
-use Rattle.calculus.specs.Limits.{most_attributes, most_row_bytes, most_keys, most_variables, most_expanded_variables, greatest_size, greatest_qual_size, most_levels, most_listed_attributes, most_permits, most_rules, greatest_number, most_entries, most_rows}
+use Rattle.calculus.specs.Limits.{most_attributes, most_row_bytes, most_keys, most_variables, most_expanded_variables, greatest_size, most_permits, most_rules, greatest_number, most_entries, most_rows}
 use Rattle.calculus.specs.Keys.{same_key, key_cmp, numbered_cmp}
 use Rattle.calculus.specs.Lists.{is_any, differ_by}
 use Rattle.calculus.specs.Kinds.{kind_of, kinds_fit}
@@ -28,8 +28,8 @@ use Rattle.calculus.specs.Database.{Db, Relation, Index, is_relation, entries, r
 use Rattle.calculus.specs.Catalogue.{is_catalogue_name}
 use Rattle.calculus.specs.Stored.{range_at, kinds_at, attrs_at}
 use Rattle.calculus.specs.QueryParts.{vars_of, targets_of, qual_of}
-use Rattle.calculus.specs.Sizes.{level_of, variables, expanded_variables, query_size, qual_size}
-use Rattle.calculus.specs.TreeLevels.{query_levels, qual_levels}
+use Rattle.calculus.specs.Sizes.{level_of, variables, expanded_variables, query_size}
+use Rattle.calculus.specs.Storable.{query_is_storable, row_qual_is_storable, permit_lists_are_storable}
 
 -- ---- names and attributes
 
@@ -77,14 +77,11 @@ keys_stand attrs keys = list_all (λ k. nat_lt k (length attrs)) keys && (differ
 
 -- ---- relations
 
--- the structure of a base relation: a heap without keys, or a hash or an ISAM structure with at least one
+-- the structure of a base relation: one without keys, or one whose rows lie by at least one key attribute
 abbrev pub structure_stands : RelInfo → Bool
-structure_stands info = elim info.spec [
-  | spec.Heap ↦ not (is_any info.keys)
-  | spec.Hash ↦ is_any info.keys && keys_stand info.attrs info.keys
-  | spec.Isam ↦ is_any info.keys && keys_stand info.attrs info.keys
-  | spec.View ↦ false
-  | spec.Index ↦ false
+structure_stands info = elim (is_keyed info.spec) [
+  | true ↦ is_any info.keys && keys_stand info.attrs info.keys
+  | false ↦ is_structure info.spec && not (is_any info.keys)
 ]
 
 -- the attributes of a base relation have domains
@@ -112,13 +109,8 @@ relation_rows_fit r = list_all (row_fits r.info.attrs) r.rows
 
 -- an index: no attributes of its own, and at least one key attribute of a base relation that is there
 abbrev pub index_stands : Db → Index → Bool
-index_stands db x = elim x.info.spec [
-  | spec.Heap ↦ false
-  | spec.Hash ↦ false
-  | spec.Isam ↦ false
-  | spec.View ↦ false
-  | spec.Index ↦ is_relation db x.base && (not (is_any x.info.attrs) && (is_any x.info.keys && keys_stand (attrs_at db x.base) x.info.keys))
-]
+index_stands db x =
+    is_index x.info.spec && (is_relation db x.base && (not (is_any x.info.attrs) && (is_any x.info.keys && keys_stand (attrs_at db x.base) x.info.keys)))
 
 -- ---- views
 
@@ -138,7 +130,7 @@ same_kind (Of d) (Of e) = same_domain d e
 
 -- a view is kept as a view, and has no keys
 abbrev pub view_info_stands : RelInfo → Bool
-view_info_stands info = elim info.spec [ spec.Heap ↦ false | spec.Hash ↦ false | spec.Isam ↦ false | spec.View ↦ not (is_any info.keys) | spec.Index ↦ false ]
+view_info_stands info = is_view info.spec && not (is_any info.keys)
 
 -- the attributes have the names and kinds of the targets, one by one
 abbrev pub attrs_are_targets : List Attr → List Target → Bool
@@ -184,10 +176,6 @@ abbrev pub permit_stands : Db → RelKey → Permit → Bool
 permit_stands db rel permit =
     is_relation db rel && (bytes_eq rel.owner db.dba && (user_is_named permit.user && (permit_attrs_stand db rel permit.attrs && row_qual_stands db rel permit.qual)))
 
--- a qualification over one row is no larger and no deeper than one that is stored may be
-abbrev pub row_qual_is_small : QQual → Bool
-row_qual_is_small q = nat_le (qual_size [] q) greatest_qual_size && nat_le (qual_levels q) most_levels
-
 -- ---- the facts
 
 -- a database
@@ -220,17 +208,17 @@ pub record IsDatabase (db : Db) : Type 0 where
   -- rules stand on base relations, permits on those of the administrator
   pub rules_stand : IsTrue (list_all (λ p. is_relation db p.0 && row_qual_stands db p.0 p.1.qual) db.rules)
   pub permits_stand : IsTrue (list_all (λ p. permit_stands db p.0 p.1) db.permits)
-  -- the limits hold
+  -- the limits hold, and what is stored as a tree can be
   pub few_entries : IsTrue (nat_le (length (entries db)) most_entries)
   pub few_rows : IsTrue (list_all (λ r. nat_le (length r.rows) most_rows) db.relations)
   pub few_listed_variables : IsTrue (list_all (λ v. nat_le (length (vars_of v.query)) most_expanded_variables) db.views)
   pub few_variables : IsTrue (list_all (λ v. nat_le (variables v.query) most_variables) db.views)
   pub few_expanded_variables : IsTrue (list_all (λ v. nat_le (expanded_variables db v.query) most_expanded_variables) db.views)
   pub small_views : IsTrue (list_all (λ v. nat_le (query_size db v.query) greatest_size) db.views)
-  pub shallow_views : IsTrue (list_all (λ v. nat_le (query_levels v.query) most_levels) db.views)
-  pub small_rules : IsTrue (list_all (λ p. row_qual_is_small p.1.qual) db.rules)
-  pub small_permits : IsTrue (list_all (λ p. row_qual_is_small p.1.qual) db.permits)
-  pub short_permits : IsTrue (list_all (λ p. nat_le (length p.1.attrs) most_listed_attributes) db.permits)
+  pub storable_views : IsTrue (list_all (λ v. query_is_storable v.query) db.views)
+  pub storable_rules : IsTrue (list_all (λ p. row_qual_is_storable p.1.qual) db.rules)
+  pub storable_permits : IsTrue (list_all (λ p. row_qual_is_storable p.1.qual) db.permits)
+  pub storable_lists : IsTrue (list_all (λ p. permit_lists_are_storable p.1) db.permits)
   pub few_rules : IsTrue (list_all (λ r. nat_le (length (rules_on db r.info.key)) most_rules) db.relations)
   pub few_permits : IsTrue (list_all (λ r. nat_le (length (permits_on db r.info.key)) most_permits) db.relations)
   pub small_rule_numbers : IsTrue (list_all (λ p. nat_le p.1.number greatest_number) db.rules)

@@ -4,9 +4,13 @@ use Rattle.calculus.specs.Value.{is_within}
 use Rattle.calculus.specs.declared.operator.ArithOp.{ArithOp}
 use Rattle.calculus.specs.declared.operator.ArithOp.TheVariants.{Add, Sub, Mul, Div, Pow, Mod}
 
+-- the number has 64 bits in two's complement
+abbrev pub has_64_bits : ℤ → Bool
+has_64_bits n = is_within (negsuc 9223372036854775807) n (pos 9223372036854775807)
+
 -- the number, where it has 64 bits in two's complement; else none
 abbrev pub number : ℤ → Option ℤ
-number n = if is_within (negsuc 9223372036854775807) n (pos 9223372036854775807) then Some n else None
+number n = if has_64_bits n then Some n else None
 
 -- the number with the other sign
 abbrev pub opposite : ℤ → Option ℤ

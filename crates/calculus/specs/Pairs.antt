@@ -1,5 +1,5 @@
 -- What an update does with single rows, as pairs of an old row and a new one.
-use Rattle.std.specs.Prelude.{ℕ, pos, Bool, true, false, ◌&&◌, if◌then◌else◌, List, [], ◌∷◌, ◌++◌, map, filter, filter_map, zip, fold, slice_get, slice_set, Option, Some, None, option_map}
+use Rattle.std.specs.Prelude.{ℕ, pos, Bool, true, false, ◌&&◌, if◌then◌else◌, List, [], ◌∷◌, ◌++◌, map, filter, filter_map, zip, fold, slice_set, Option, Some, None, option_map}
 use Rattle.std.specs.List.{list_all}
 use Rattle.calculus.specs.declared.value.Value.{Value}
 use Rattle.calculus.specs.declared.value.Value.TheVariants.{Int, Text}
@@ -9,16 +9,16 @@ use Rattle.calculus.specs.declared.request.Update.{Update}
 use Rattle.calculus.specs.declared.request.UpdateOp.{UpdateOp}
 use Rattle.calculus.specs.declared.request.UpdateOp.TheVariants.{Append, Replace, Delete, Into}
 use Rattle.calculus.specs.Rows.{Row}
-use Rattle.calculus.specs.Term.{Env, holds, no_aggs}
+use Rattle.calculus.specs.Term.{holds, no_aggs}
 use Rattle.calculus.specs.Kinds.{is_number_kind}
 use Rattle.calculus.specs.Who.{Who}
 use Rattle.calculus.specs.Database.{Db, rules_on}
 use Rattle.calculus.specs.Stored.{kinds_at}
 use Rattle.calculus.specs.Rights as right
 use Rattle.calculus.specs.Rights.{may}
-use Rattle.calculus.specs.QueryParts.{targets_of}
-use Rattle.calculus.specs.Assignments.{changed, update_assigned}
-use Rattle.calculus.specs.Targets.{target_values, qualifying}
+use Rattle.calculus.specs.QueryParts.{targets_of, qual_of}
+use Rattle.calculus.specs.Assignments.{Changing, update_assigned}
+use Rattle.calculus.specs.Targets.{target_values}
 use Rattle.calculus.specs.VariableRows.{rows_of}
 use Rattle.calculus.specs.Aggregate.{aggregates}
 
@@ -36,7 +36,7 @@ with_values places values row = fold (λ r p. slice_set r p.0 p.1) row (zip plac
 abbrev pub put_pair : Row → Pair
 put_pair row = record { old = None; new = Some row }
 
--- the pair where the changed variable has the row `old` and the targets have these values: an append fills the attributes that it doesn't name, a replace leaves them
+-- the pair where the old row is this one and the targets have these values: an append fills the attributes that it doesn't name, a replace leaves them
 abbrev pub pair_of : Db → Update → Option Row → Row → Pair
 pair_of db u old values = elim u.op [
   | Append ↦ put_pair (with_values u.places values (map blank (kinds_at db u.rel)))
@@ -45,13 +45,9 @@ pair_of db u old values = elim u.op [
   | Into ↦ put_pair values
 ]
 
--- the row of the variable that is replaced or deleted, where there is one
-abbrev pub old_row : Update → Env → Option Row
-old_row u e = elim (changed u) [ None ↦ None | Some c ↦ slice_get e c.0 ]
-
 -- the pair of an assignment; none where a target has no value there
-abbrev pub pair_at : Db → Who → Update → Env → Option Pair
-pair_at db who u e = option_map (pair_of db u (old_row u e)) (target_values (aggregates db who) (targets_of u.query) e)
+abbrev pub pair_at : Db → Who → Update → Changing → Option Pair
+pair_at db who u c = option_map (pair_of db u c.old) (target_values (aggregates db who) (targets_of u.query) c.env)
 
 -- ---- which pairs stand
 
@@ -75,8 +71,8 @@ abbrev pub pair_stands : Db → Who → Update → Pair → Bool
 pair_stands db who u p = elim p.new [ None ↦ true | Some row ↦ new_stands db who u row ]
 
 -- the assignments of an update in which its qualification holds
-abbrev pub qualifying_updates : Db → Who → Update → List Env
-qualifying_updates db who u = qualifying (aggregates db who) u.query (update_assigned db who (rows_of db who) u)
+abbrev pub qualifying_updates : Db → Who → Update → List Changing
+qualifying_updates db who u = filter (λ c. holds (aggregates db who) (qual_of u.query) c.env) (update_assigned db who (rows_of db who) u)
 
 -- the pairs of an update, one for each qualifying assignment, without those that don't stand
 unfoldable pub pairs : Db → Who → Update → List Pair

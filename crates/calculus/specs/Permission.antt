@@ -1,5 +1,5 @@
 -- Whether all that a query or an update reads and changes is permitted, whatever the rows.
-use Rattle.std.specs.Prelude.{ℕ, zero, suc, Bool, true, false, ◌&&◌, not, List, [], ◌∷◌, filter, Option, Some, None}
+use Rattle.std.specs.Prelude.{ℕ, Bool, true, false, ◌&&◌, not, List, [], ◌∷◌, filter, Option, Some, None}
 use Rattle.std.specs.List.{list_all}
 use Rattle.calculus.specs.declared.query.RelKey.{RelKey}
 use Rattle.calculus.specs.declared.query.AggSource.{AggSource, Named}
@@ -10,7 +10,8 @@ use Rattle.calculus.specs.Tree.{rows_of_query}
 use Rattle.calculus.specs.Limits.{greatest_level}
 use Rattle.calculus.specs.Who.{Who}
 use Rattle.calculus.specs.Database.{Db, View}
-use Rattle.calculus.specs.Stored.{Range, Kept, Viewed, range_at}
+use Rattle.calculus.specs.Stored.{Range, Kept, Viewed}
+use Rattle.calculus.specs.Through.{through}
 use Rattle.calculus.specs.Rights.{Right, Retrieve, Append, permitted}
 use Rattle.calculus.specs.QueryParts.{query_aggregates}
 use Rattle.calculus.specs.Used.{used_in_query, used_in_aggregate, used_vars}
@@ -32,9 +33,9 @@ range_permitted of_view db who key attrs (Some (Viewed view)) = of_view view
 
 -- whether these attributes may be read through at most so many levels of views: of a view all variables in its text, with the attributes that the text uses
 abbrev pub permitted_within : ℕ → Db → Who → Reads
-permitted_within zero db who key attrs = range_permitted (λ view. false) db who key attrs (range_at db key)
-permitted_within (suc n) db who key attrs =
-    range_permitted (λ view. vars_permitted (permitted_within n db who) view.query (used_vars view.query)) db who key attrs (range_at db key)
+permitted_within n db who =
+    through (λ of_view key range attrs. range_permitted (λ view. of_view view attrs) db who key attrs range)
+    (λ below view attrs. vars_permitted below view.query (used_vars view.query)) (λ attrs. false) n db
 
 -- whether these attributes of a relation, view or catalogue may be read
 unfoldable pub readable : Db → Who → Reads

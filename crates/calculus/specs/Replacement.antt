@@ -1,5 +1,5 @@
 -- The rows after an update, and what refuses it.
-use Rattle.std.specs.Prelude.{ℕ, Bool, true, false, not, nat_lt, List, [], ◌∷◌, map, length, filter, filter_map, zip, slice_get, Option, Some, None, Result, Ok, Err}
+use Rattle.std.specs.Prelude.{ℕ, Bool, true, false, not, nat_lt, List, [], ◌∷◌, map, length, filter, filter_map, zip, slice_get, Option, Some, None, is_none, Result, Ok, Err}
 use Rattle.std.specs.List.{list_any, list_all}
 use Rattle.std.specs.Ordering.{eq_by_cmp}
 use Rattle.calculus.specs.declared.value.Value.{Value}
@@ -22,9 +22,7 @@ use Rattle.calculus.specs.Who.{Who}
 use Rattle.calculus.specs.Database.{Db}
 use Rattle.calculus.specs.Stored.{rows_at, kinds_at}
 use Rattle.calculus.specs.QueryParts.{targets_of}
-use Rattle.calculus.specs.Assignments.{update_assigned}
-use Rattle.calculus.specs.Targets.{target_values, some_lacks}
-use Rattle.calculus.specs.VariableRows.{rows_of}
+use Rattle.calculus.specs.Targets.{target_values}
 use Rattle.calculus.specs.Aggregate.{aggregates}
 use Rattle.calculus.specs.Pairs.{pairs, qualifying_updates}
 
@@ -77,14 +75,14 @@ made_attr t = record { name = t.name; kind = made_kind t.kind }
 -- the kind of the attribute that each target's value is for
 abbrev pub wanted_kinds : Db → Update → List (Option Kind)
 wanted_kinds db u = elim u.op [
-  | Append ↦ placed
-  | Replace ↦ placed
-  | Delete ↦ placed
+  | Append ↦ at_places
+  | Replace ↦ at_places
+  | Delete ↦ at_places
   | Into ↦ map (λ t. Some (made_attr t).kind) (targets_of u.query)
 ]
   where
-    placed : List (Option Kind)
-    placed = map (slice_get (kinds_at db u.rel)) u.places
+    at_places : List (Option Kind)
+    at_places = map (slice_get (kinds_at db u.rel)) u.places
 
 -- the value is one of the kind; where there is no attribute it is not
 abbrev pub is_of_kind : Value → Option Kind → Bool
@@ -99,19 +97,19 @@ all_fit kinds (Some values) = list_all (λ p. is_of_kind p.0 p.1) (zip values ki
 
 -- in some qualifying assignment a target has no value
 abbrev pub update_lacks : Db → Who → Update → Bool
-update_lacks db who u = some_lacks (aggregates db who) u.query (update_assigned db who (rows_of db who) u)
+update_lacks db who u = list_any (λ c. is_none (target_values (aggregates db who) (targets_of u.query) c.env)) (qualifying_updates db who u)
 
 -- in each qualifying assignment the values of the targets fit
 abbrev pub values_fit : Db → Who → Update → Bool
-values_fit db who u = list_all (λ e. all_fit (wanted_kinds db u) (target_values (aggregates db who) (targets_of u.query) e)) (qualifying_updates db who u)
+values_fit db who u = list_all (λ c. all_fit (wanted_kinds db u) (target_values (aggregates db who) (targets_of u.query) c.env)) (qualifying_updates db who u)
 
 -- the rows that would stand
 abbrev pub rows_after : Db → Who → Update → List Row
 rows_after db who u = after (rows_at db u.rel) (pairs db who u)
 
--- each cause that refuses an update, by its number, and whether it is there; in the order in which they count
-abbrev pub causes : Db → Who → Update → List (ℕ × Bool)
-causes db who u =
+-- each cause that refuses an update by what rows have, by its number, and whether it is there; in the order in which they count
+abbrev pub update_refusals : Db → Who → Update → List (ℕ × Bool)
+update_refusals db who u =
     (20, update_lacks db who u)
     ∷ (21, not (values_fit db who u))
     ∷ (22, contended (pairs db who u))
@@ -144,4 +142,4 @@ change_of db who u = elim u.op [
 
 -- the change that an update makes, or the number of the cause that refuses it
 unfoldable pub updated : Db → Who → Update → Result DbChange ℕ
-updated db who u = elim (first_cause (causes db who u)) [ None ↦ Ok (change_of db who u) | Some number ↦ Err number ]
+updated db who u = elim (first_cause (update_refusals db who u)) [ None ↦ Ok (change_of db who u) | Some number ↦ Err number ]

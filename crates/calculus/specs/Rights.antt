@@ -1,5 +1,5 @@
 -- What may be done with rows, and by whom.
-use Rattle.std.specs.Prelude.{ℕ, Bool, true, false, not, ◌&&◌, ◌||◌, ◌==◌, bit_and, List, [], ◌∷◌, Option, Some, None, bytes_eq}
+use Rattle.std.specs.Prelude.{ℕ, Bool, true, false, not, ◌&&◌, ◌||◌, ◌==◌, nat_le, bit_and, List, [], ◌∷◌, Option, Some, None, bytes_eq}
 use Rattle.std.specs.List.{list_any, list_all}
 use Rattle.calculus.specs.declared.query.RelKey.{RelKey}
 use Rattle.calculus.specs.declared.schema.Permit.{Permit}
@@ -23,6 +23,10 @@ right_number Retrieve = 1
 right_number Append = 2
 right_number Replace = 4
 right_number Delete = 8
+
+-- the number is a sum of rights, each at most once
+abbrev pub are_rights : ℕ → Bool
+are_rights ops = nat_le ops 15
 
 -- the sum has this right
 abbrev pub has_right : ℕ → Right → Bool

@@ -1,5 +1,5 @@
 -- How large queries and views are once the views in them are put in: levels, variables and sizes, each from what is known of the views below.
-use Rattle.std.specs.Prelude.{ℕ, zero, suc, ◌+◌, max, ◌||◌, filter, List, [], ◌∷◌, map, length, sum, sum_by, slice_get, Option, Some, None, option_map, unwrap_or}
+use Rattle.std.specs.Prelude.{ℕ, suc, ◌+◌, max, ◌||◌, filter, List, [], ◌∷◌, map, length, sum, sum_by, slice_get, Option, Some, None, option_map, unwrap_or}
 use Rattle.std.specs.List.{enumerate_from}
 use Rattle.calculus.specs.declared.query.RelKey.{RelKey}
 use Rattle.calculus.specs.declared.query.AggSource.{AggSource, Named}
@@ -9,7 +9,8 @@ use Rattle.calculus.specs.declared.query.Query.{Query}
 use Rattle.calculus.specs.Tree.{neg, abs, operation, concat, both, either, negated, rows_of_query}
 use Rattle.calculus.specs.Limits.{greatest_level}
 use Rattle.calculus.specs.Database.{Db, View}
-use Rattle.calculus.specs.Stored.{Range, Kept, Viewed, range_at}
+use Rattle.calculus.specs.Stored.{Range, Kept, Viewed}
+use Rattle.calculus.specs.Through.{through}
 use Rattle.calculus.specs.QueryParts.{vars_of, targets_of, qual_of, query_aggregates}
 use Rattle.calculus.specs.Lists.{is_any}
 use Rattle.calculus.specs.Used.{used_in_query, used_vars}
@@ -41,8 +42,8 @@ range_level of_view (Some (Viewed view)) = of_view view
 
 -- the level of what stands under a key, where it is at most this one: a view's is one more than the greatest among what it names
 abbrev pub level_within : ℕ → Db → RelKey → Option ℕ
-level_within zero db key = range_level (λ view. None) (range_at db key)
-level_within (suc n) db key = range_level (λ view. level_above (map (level_within n db) (vars_of view.query))) (range_at db key)
+level_within n db =
+    through (λ of_view key range. range_level of_view range) (λ below view. level_above (map below (vars_of view.query))) None n db
 
 -- the level of what stands under a key; none where nothing is there, or where a view names something of no smaller level or of none
 unfoldable pub level_of : Db → RelKey → Option ℕ
@@ -116,8 +117,7 @@ range_measure of_view (Some (Viewed view)) = of_view view
 
 -- what is known of what stands under a key, through at most so many levels of views
 abbrev pub measure_within : ℕ → Db → Known
-measure_within zero db key = plain_measure
-measure_within (suc n) db key = range_measure (λ view. query_measure (measure_within n db) view.query) (range_at db key)
+measure_within n db = through (λ of_view key range. range_measure of_view range) (λ below view. query_measure below view.query) plain_measure n db
 
 -- what is known of what stands under a key
 unfoldable pub measure_of : Db → Known

@@ -5,7 +5,15 @@ use Rattle.std.specs.Prelude.{ℕ, List}
 pub record Asker : Type 0 where
   pub user : List ℕ
 
+-- the one who asks as this user
+abbrev pub asker_of : List ℕ → Asker
+asker_of user = record { user = user }
+
 -- nobody in particular, whom no permit binds, or one who asks
 pub data Who : Type 0 where
   Free : Who
   Asks : Asker → Who
+
+-- this user asks
+abbrev pub asks : List ℕ → Who
+asks user = Asks (asker_of user)
