@@ -34,7 +34,7 @@ use Rattle.quel_meaning.specs.StatementUpdate.{titles_of, changing, append_of, r
 use Rattle.quel_meaning.specs.Causes.{repeats, causes, update_causes, delete_causes}
 use Rattle.quel_meaning.specs.Resolved.{tree_of}
 use Rattle.quel_meaning.specs.FitQueries.{kept_or_viewed, has_few_targets, reads_fit}
-use Rattle.quel_meaning.specs.Fit.{has_key, update_kinds_fit, update_fits, fits, is_fit_with_views}
+use Rattle.quel_meaning.specs.Fit.{is_this_key, update_kinds_fit, update_fits, fits, is_fit_with_views}
 use Rattle.quel_meaning.proofs.Each.{Each, passed, each_passes, each_to, left, right, and, not_not}
 use Rattle.quel_meaning.proofs.Keys.{keys_same}
 use Rattle.quel_meaning.proofs.Found.{IsFound, IsNamed, IsRanged, names_found, named_with, named_again, ranged_with, ranged_is, ranged_again}
@@ -105,7 +105,7 @@ append_ready s info q r h k a =
     (and _ _ a (and _ _ (update_expanded_few s.db (changing op.Append 255 (Some info) q) r.few) (and _ _ (placed s info q r h k) (and _ _ refl (and _ _ r.relation refl))))))
 
 replace_ready : (s : Scope) (info : RelInfo) (q : Query) → Ready s info q → Each (HasAttr info) (titles_of q) → differ_by bytes_eq (titles_of q) ≡ true
-    → assignments_fit s.db (changing op.Replace 0 (Some info) q) ≡ true → has_key (slice_get (vars_of q) 0) info.key ≡ true
+    → assignments_fit s.db (changing op.Replace 0 (Some info) q) ≡ true → is_this_key (slice_get (vars_of q) 0) info.key ≡ true
     → update_fits (kept_or_viewed s.db) s.db (changing op.Replace 0 (Some info) q) ≡ true
 unfolding update_fits kinds_fit
 replace_ready s info q r h k a old =
@@ -114,7 +114,7 @@ replace_ready s info q r h k a old =
     (and _ _ a (and _ _ (update_expanded_few s.db (changing op.Replace 0 (Some info) q) r.few) (and _ _ (placed s info q r h k) (and _ _ refl (and _ _ r.relation old))))))
 
 delete_ready : (s : Scope) (info : RelInfo) (q : Query) → Ready s info q → Each (HasAttr info) (titles_of q) → differ_by bytes_eq (titles_of q) ≡ true
-    → assignments_fit s.db (changing op.Delete 0 (Some info) q) ≡ true → has_key (slice_get (vars_of q) 0) info.key ≡ true
+    → assignments_fit s.db (changing op.Delete 0 (Some info) q) ≡ true → is_this_key (slice_get (vars_of q) 0) info.key ≡ true
     → update_fits (kept_or_viewed s.db) s.db (changing op.Delete 0 (Some info) q) ≡ true
 unfolding update_fits kinds_fit
 delete_ready s info q r h k a old =
@@ -161,11 +161,11 @@ append_fits s is rel items qual h k =
 
 -- the variable whose rows are replaced or deleted is the query's first, over the relation
 first_replaced : (s : Scope) (var : List ℕ) (items : List Item) (qual : Qual) (r : IsRanged s var)
-    → has_key (slice_get (vars_of (query_of s (statement.Replace var items qual))) 0) r.info.key ≡ true
+    → is_this_key (slice_get (vars_of (query_of s (statement.Replace var items qual))) 0) r.info.key ≡ true
 unfolding query_of vars_in
 first_replaced s var items qual r = keys_same _ _ (ap key_found (ranged_is s var r))
 
-first_deleted : (s : Scope) (var : List ℕ) (qual : Qual) (r : IsRanged s var) → has_key (slice_get (vars_of (query_of s (statement.Delete var qual))) 0) r.info.key ≡ true
+first_deleted : (s : Scope) (var : List ℕ) (qual : Qual) (r : IsRanged s var) → is_this_key (slice_get (vars_of (query_of s (statement.Delete var qual))) 0) r.info.key ≡ true
 unfolding query_of vars_in
 first_deleted s var qual r = keys_same _ _ (ap key_found (ranged_is s var r))
 

@@ -25,7 +25,8 @@ use Rattle.quel_meaning.specs.Passing.{is_full, is_taken}
 use Rattle.quel_meaning.specs.Causes.{repeats, repeats_keys, causes}
 use Rattle.quel_meaning.specs.Resolved.{tree_of}
 use Rattle.quel_meaning.specs.FitQueries.{is_named}
-use Rattle.quel_meaning.specs.Fit.{is_entry, is_structure, utility_fits, fits, is_fit_with_views}
+use Rattle.quel_meaning.specs.Fit.{is_entry, utility_fits, fits, is_fit_with_views}
+use Rattle.calculus.specs.Structures.{is_structure}
 use Rattle.quel_meaning.specs.IsWritten.{is_written}
 use Rattle.quel_meaning.proofs.Each.{Each, of_map, each_to, passed, left, right, and, not_not, not_so}
 use Rattle.quel_meaning.proofs.Keys.{find_passes, same_keys, found_again}

@@ -22,8 +22,9 @@ use Rattle.quel_meaning.specs.Ranges.{declared}
 use Rattle.quel_meaning.specs.Shelf.{Shelf}
 use Rattle.quel_meaning.specs.State.{State, Outcome, Built}
 use Rattle.quel_meaning.specs.Planned.{planned}
-use Rattle.quel_meaning.specs.Copying.{copied_from, copied_into, file_name}
-use Rattle.quel_meaning.specs.Meaning.{Effect, Resolving, change_effect, numbered_effect, file_effect, copy_effect, utility_effect, tree_meaning, ruled_tree, checked_permitted, asks, is_range, refused, range_outcome, with_ranges, permitted_outcome, tree_outcome, built_outcome, statement_outcome, meaning_by}
+use Rattle.quel_meaning.specs.Copying.{copied_from, copied_into, file_of_constant}
+use Rattle.quel_meaning.specs.Meaning.{Effect, Resolving, change_effect, numbered_effect, file_effect, copy_effect, utility_effect, tree_meaning, ruled_tree, checked_permitted, is_range, refused_outcome, range_outcome, with_ranges, permitted_outcome, tree_outcome, built_outcome, statement_outcome, meaning_by}
+use Rattle.calculus.specs.Who.{asks}
 
 -- ---- a refusal changes nothing
 
@@ -46,7 +47,7 @@ kept_file db shelf file (Err x) r h = (refl, refl)
 kept_copy : (db : Db) (shelf : Shelf) (user : List ℕ) (rel : RelKey) (columns : List CopyCol) (from : Bool) (constant : List ℕ)
     → KeptBy db shelf (copy_effect db shelf user rel columns from constant)
 kept_copy db shelf user rel columns true constant = kept_change db shelf (copied_from db shelf user rel columns constant)
-kept_copy db shelf user rel columns false constant = kept_file db shelf (file_name constant) (copied_into db user rel columns)
+kept_copy db shelf user rel columns false constant = kept_file db shelf (file_of_constant constant) (copied_into db user rel columns)
 
 kept_utility : (db : Db) (shelf : Shelf) (user : List ℕ) (work : Work) → KeptBy db shelf (utility_effect db shelf user work)
 unfolding utility_effect
@@ -98,7 +99,7 @@ refused_keeps resolved built state user s = kept_built (built.statement s) resol
 -- ---- what is not built
 
 pub not_built : (resolved : Resolving) (built : Built) (state : State) (user : List ℕ) (s : Statement)
-    → built.statement s ≡ false → meaning_by resolved built state user s ≡ refused state 9
+    → built.statement s ≡ false → meaning_by resolved built state user s ≡ refused_outcome state 9
 unfolding meaning_by
 not_built resolved built state user s e = ap (λ b. built_outcome b resolved state user s) e
 
@@ -127,7 +128,7 @@ range_declares resolved built state user var rel info e f = range_outcome_is res
 
 -- where nothing is found under the name it is refused
 pub range_refused : (resolved : Resolving) (built : Built) (state : State) (user var rel : List ℕ)
-    → built.statement (Range var rel) ≡ true → found state.db user rel ≡ None → meaning_by resolved built state user (Range var rel) ≡ refused state 10
+    → built.statement (Range var rel) ≡ true → found state.db user rel ≡ None → meaning_by resolved built state user (Range var rel) ≡ refused_outcome state 10
 range_refused resolved built state user var rel e f = range_outcome_is resolved built state user var rel e ∙ ap (range_outcome state var) f
 
 -- ---- the ranges that other statements leave

@@ -13,7 +13,7 @@ use Rattle.calculus.specs.Limits.{most_keys}
 use Rattle.calculus.specs.Lists.{is_any}
 use Rattle.calculus.specs.Name.{is_name}
 use Rattle.calculus.specs.Written.{neg, abs, operation, concat, both, either, negated}
-use Rattle.quel_meaning.specs.Fit.{is_structure}
+use Rattle.calculus.specs.Structures.{is_structure}
 
 -- the text constants in a term, from left to right; of an aggregate those of its term, of its by-list and of its qualification
 abbrev mutual

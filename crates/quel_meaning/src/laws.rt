@@ -20,7 +20,7 @@ ghost use Rattle.quel_meaning.specs.Ranges.{Ranges, range_of, declared};
 ghost use Rattle.quel_meaning.specs.Shelf.{Shelf, fetched, stored};
 ghost use Rattle.quel_meaning.specs.State.{State, Built};
 ghost use Rattle.quel_meaning.specs.Tables.{rows_order, table_of};
-ghost use Rattle.quel_meaning.specs.Meaning.{Resolving, is_range, refused, range_outcome, meaning_by};
+ghost use Rattle.quel_meaning.specs.Meaning.{Resolving, is_range, refused_outcome, range_outcome, meaning_by};
 
 /// A statement that is refused, whatever for, leaves the database, the shelf and the ranges as they were.
 #[tactic(auto, using(crate::proofs::Kept::refused_keeps))]
@@ -33,7 +33,7 @@ pub fn a_refusal_changes_nothing()
 #[tactic(auto, using(crate::proofs::Kept::not_built))]
 pub fn what_is_not_built_is_refused()
     ensures { (resolved : Resolving) (built : Built) (state : State) (user : List ℕ) (s : Statement)
-        → built.statement s ≡ false → meaning_by resolved built state user s ≡ refused state 9 }
+        → built.statement s ≡ false → meaning_by resolved built state user s ≡ refused_outcome state 9 }
 {}
 
 /// Declaring a range variable prints nothing, and leaves the database and the shelf: the variable ranges
@@ -45,7 +45,7 @@ pub fn range_declares_a_variable()
         → meaning_by resolved built state user (Range var rel) ≡ record { state = record state { ranges = declared state.ranges var info.key }; reply = Nothing } }
     ensures unknown { (resolved : Resolving) (built : Built) (state : State) (user var rel : List ℕ)
         → built.statement (Range var rel) ≡ true → found state.db user rel ≡ None
-        → meaning_by resolved built state user (Range var rel) ≡ refused state 10 }
+        → meaning_by resolved built state user (Range var rel) ≡ refused_outcome state 10 }
     ensures itself { (ranges : Ranges) (var : List ℕ) (key : RelKey) → range_of (declared ranges var key) var ≡ Some key }
     ensures others { (ranges : Ranges) (var other : List ℕ) (key : RelKey)
         → bytes_eq var other ≡ false → range_of (declared ranges var key) other ≡ range_of ranges other }

@@ -7,7 +7,7 @@ ghost use Rattle.calculus.specs.Database.{Db};
 ghost use Rattle.quel_grammar.specs.Next.{Reading, IsGrammatical};
 ghost use Rattle.quel_meaning.specs.State.{State, Built};
 ghost use Rattle.quel_meaning.specs.Lines.{lines_of, is_no_newline};
-ghost use Rattle.quel_meaning.specs.Monitor.{Plain, has_no_command, quoting_behind, is_letter, word_length, command_of, before_parts, order_before, parts_of};
+ghost use Rattle.quel_meaning.specs.Monitor.{Plain, has_no_command, quoting_behind, is_command_letter, word_length, command_of, before_parts, order_before, parts_of};
 ghost use Rattle.quel_meaning.specs.Batch.{MovesOn, batch_from, read_on};
 ghost use Rattle.quel_meaning.specs.Happening.{Setting, Agree, Event, Kept, quiet, and_then};
 ghost use Rattle.quel_meaning.specs.Running.{Deeper, after_lines};
@@ -27,7 +27,7 @@ pub fn lines_are_the_script()
 pub fn a_line_is_cut_at_its_first_command()
     ensures piece { (line : List ℕ) → has_no_command Plain line ≡ true → parts_of line ≡ before_parts line [] }
     ensures command { (piece word rest : List ℕ) → has_no_command Plain piece ≡ true → quoting_behind Plain piece ≡ Plain
-        → list_all is_letter word ≡ true → word_length rest ≡ 0
+        → list_all is_command_letter word ≡ true → word_length rest ≡ 0
         → parts_of (piece ++ (92 ∷ (word ++ rest))) ≡ before_parts piece (order_before (command_of word rest) (parts_of rest)) }
 {}
 
