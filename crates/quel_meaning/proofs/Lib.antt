@@ -51,7 +51,11 @@ pub mod FitMade
 pub mod FewExpanded
 mod Full
 pub mod FitShown
+pub mod NameChars
+pub mod SpelledTerms
+pub mod SpelledResolved
 pub mod FitResolved
+pub mod Judged
 pub mod FitViews
 pub mod UsedVars
 pub mod VarPlaces
