@@ -13,7 +13,6 @@ use Rattle.calculus.specs.declared.statement.Statement.{Statement}
 use Rattle.calculus.specs.declared.statement.Term.{Attr as Dot}
 use Rattle.calculus.specs.declared.value.Kind.{Kind}
 use Rattle.calculus.specs.declared.value.Kind.TheVariants.{Wide}
-use Rattle.calculus.specs.Chars.{is_chars}
 use Rattle.calculus.specs.IsDatabase.{IsDatabase, is_kind}
 use Rattle.calculus.specs.Lists.{is_any}
 use Rattle.calculus.specs.Name.{is_name}

@@ -10,6 +10,7 @@ mod Printing
 mod Sessions
 mod Toy
 mod Fitting
+mod WorkedWritten
 pub mod Accepted
 pub mod Slots
 pub mod Declared

@@ -1,27 +1,23 @@
 -- The parts of what a written statement asks for are what their types ask for.
-use Rattle.std.proofs.Common.{◌≡◌, refl, sym, subst, ℕ, true, ◌&&◌, List, [], ◌∷◌, map, Option, Some, None}
+use Rattle.std.proofs.Common.{◌≡◌, refl, sym, subst, ℕ, true, List, [], ◌∷◌, map, Option, Some, None}
 use Rattle.std.specs.List.{list_all}
-use Rattle.calculus.specs.declared.query.QQual.{QQual}
 use Rattle.calculus.specs.declared.query.RelKey.{RelKey}
 use Rattle.calculus.specs.declared.request.Asked.{Asked}
 use Rattle.calculus.specs.declared.schema.RelInfo.{RelInfo}
-use Rattle.calculus.specs.declared.statement.Item.{Item}
-use Rattle.calculus.specs.declared.statement.Qual.{Qual}
 use Rattle.calculus.specs.declared.statement.Statement.{Statement}
 use Rattle.calculus.specs.declared.statement.Statement.TheVariants as statement
 use Rattle.calculus.specs.Chars.{is_chars}
-use Rattle.calculus.specs.Catalogue.{relation_key, attribute_key, relation_info, attribute_info}
 use Rattle.calculus.specs.Database.{Db, Relation, View, entries}
 use Rattle.calculus.specs.IsDatabase.{IsDatabase, key_is_named, user_is_named}
 use Rattle.calculus.specs.Name.{is_name}
 use Rattle.calculus.specs.QueryParts.{qual_of}
 use Rattle.calculus.specs.Rights.{are_rights}
-use Rattle.calculus.specs.Spelled.{qual_is_spelled, targets_are_spelled, query_is_spelled}
+use Rattle.calculus.specs.Spelled.{qual_is_spelled, query_is_spelled}
 use Rattle.calculus.specs.Stored.{info_at, attrs_in}
-use Rattle.quel_meaning.specs.IsWritten.{items_are_written, qual_is_written, query_is_written, item_is_written, result_is_named, is_written}
+use Rattle.quel_meaning.specs.IsWritten.{items_are_written, qual_is_written, query_is_written, item_is_written, is_written}
 use Rattle.quel_meaning.specs.Naming.{mentions, no_refusal, name_refusal}
 use Rattle.quel_meaning.specs.Resolved.{whole, help_on_all, help_on, tree_of}
-use Rattle.quel_meaning.specs.Scope.{Scope, named, key_found}
+use Rattle.quel_meaning.specs.Scope.{Scope, named}
 use Rattle.quel_meaning.specs.SpelledTree.{key_is_spelled, update_is_spelled, utility_is_spelled, tree_is_spelled}
 use Rattle.quel_meaning.specs.StatementUpdate.{append_of, replace_of, delete_of, into_of}
 use Rattle.quel_meaning.specs.WrittenParts.{items_of, where_of}

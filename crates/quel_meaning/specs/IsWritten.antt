@@ -70,8 +70,7 @@ abbrev pub result_is_named : Option (List ℕ) → Bool
 result_is_named None = true
 result_is_named (Some name) = is_name name
 
--- what a statement has that is read: target lists, attributes, keys and columns are there and of their forms, what it makes has a name, its rights are rights, and its constants
--- are ones of their types
+-- what a statement has that is read: its lists are there and of their forms, what it makes has a name, its rights are rights, and its constants are ones of their types
 unfoldable pub is_written : Statement → Bool
 is_written (statement.Retrieve into items qual sort) = result_is_named into && query_is_written items qual
 is_written (statement.Append rel items qual) = query_is_written items qual
