@@ -11,7 +11,8 @@ use Rattle.calculus.specs.Keys.{same_key, numbered_cmp}
 use Rattle.calculus.specs.Lists.{has_number, insert_by}
 use Rattle.calculus.specs.Limits.{most_permits, most_rules, greatest_number, most_listed_attributes}
 use Rattle.calculus.specs.Database.{Db, Relation, relation_at, is_relation, rules_on, permits_on}
-use Rattle.calculus.specs.IsDatabase.{IsDatabase, row_qual_stands, permit_stands, row_qual_is_small}
+use Rattle.calculus.specs.IsDatabase.{IsDatabase, row_qual_stands, permit_stands}
+use Rattle.calculus.specs.Storable.{row_qual_is_small}
 use Rattle.calculus.specs.Change.{laid, permit_numbers, rule_numbers, names_what_is_there, adds_what_is_new, lists_once, IsLawful}
 use Rattle.quel_meaning.proofs.InOrder.{in_order-insert}
 use Rattle.change_laws.specs.Fit.{number_is_free, permit_is_fit, rule_is_fit}
@@ -59,8 +60,8 @@ permit_lawful db rel permit is stands small short low new few =
     stand = record {
       ascend = in_order-insert (numbered_total (λ p. p.number)) (rel, permit) db.permits is.permits_ascend;
       stand = put (λ p. permit_stands db p.0 p.1) stands is.permits_stand;
-      are_small = put (λ p. row_qual_is_small p.1.qual) small is.small_permits;
-      are_short = put (λ p. nat_le (length p.1.attrs) most_listed_attributes) short is.short_permits;
+      are_small = put (λ p. row_qual_is_small p.1.qual) small is.storable_permits;
+      are_short = put (λ p. nat_le (length p.1.attrs) most_listed_attributes) short is.storable_lists;
       are_few = all_imply (λ (r : Relation). nat_le (length (permits_on db r.info.key)) most_permits) (λ r. nat_le (length (permits_on (record db { permits = later }) r.info.key)) most_permits)
           (λ r t. few_later r.info.key (le_is (length (permits_on db r.info.key)) most_permits t)) db.relations is.few_permits;
       have_small_numbers = put (λ p. nat_le p.1.number greatest_number) low is.small_permit_numbers;
@@ -81,7 +82,7 @@ permit_fits_exactly db rel permit is = (to, from)
 
     from : IsLawful db (change.Permit rel permit) → permit_is_fit db rel permit ≡ true
     from l =
-        each _ _ stands (each _ _ (its (λ p. row_qual_is_small p.1.qual) after.small_permits) (each _ _ (its (λ p. nat_le (length p.1.attrs) most_listed_attributes) after.short_permits)
+        each _ _ stands (each _ _ (its (λ p. row_qual_is_small p.1.qual) after.storable_permits) (each _ _ (its (λ p. nat_le (length p.1.attrs) most_listed_attributes) after.storable_lists)
         (each _ _ (its (λ p. nat_le p.1.number greatest_number) after.small_permit_numbers) (each _ _ l.additions_are_new few))))
       where
         later : Db
@@ -151,7 +152,7 @@ rule_lawful db rel rule is relation stands small low new few =
     stand = record {
       ascend = in_order-insert (numbered_total (λ p. p.number)) (rel, rule) db.rules is.rules_ascend;
       stand = put (λ p. is_relation db p.0 && row_qual_stands db p.0 p.1.qual) own_stands is.rules_stand;
-      are_small = put (λ p. row_qual_is_small p.1.qual) small is.small_rules;
+      are_small = put (λ p. row_qual_is_small p.1.qual) small is.storable_rules;
       are_few = all_imply (λ (r : Relation). nat_le (length (rules_on db r.info.key)) most_rules) (λ r. nat_le (length (rules_on (record db { rules = later }) r.info.key)) most_rules)
           (λ r t. few_later r.info.key (le_is (length (rules_on db r.info.key)) most_rules t)) db.relations is.few_rules;
       have_small_numbers = put (λ p. nat_le p.1.number greatest_number) low is.small_rule_numbers;
@@ -172,7 +173,7 @@ rule_fits_exactly db rel rule is = (to, from)
 
     from : IsLawful db (change.Rule rel rule) → rule_is_fit db rel rule ≡ true
     from l =
-        each _ _ l.names_are_there (each _ _ (both (is_relation db rel) (row_qual_stands db rel rule.qual) stands).1 (each _ _ (its (λ p. row_qual_is_small p.1.qual) after.small_rules)
+        each _ _ l.names_are_there (each _ _ (both (is_relation db rel) (row_qual_stands db rel rule.qual) stands).1 (each _ _ (its (λ p. row_qual_is_small p.1.qual) after.storable_rules)
         (each _ _ (its (λ p. nat_le p.1.number greatest_number) after.small_rule_numbers) (each _ _ l.additions_are_new few))))
       where
         later : Db

@@ -109,7 +109,7 @@ lawful_view db info q is l = record {
     few = its (λ v. nat_le (variables v.query) most_variables) after.few_variables;
     few_expanded = ap (λ n. nat_le n most_expanded_variables) expansion ∙ its (λ v. nat_le (expanded_variables later v.query) most_expanded_variables) after.few_expanded_variables;
     small = ap (λ (m : Measure). nat_le (sum m.attrs + m.qual) greatest_size) (query_stays Other db later stay q own_vars) ∙ its (λ v. nat_le (query_size later v.query) greatest_size) after.small_views;
-    shallow = its (λ v. nat_le (query_levels v.query) most_levels) after.shallow_views;
+    shallow = its (λ v. nat_le (query_levels v.query) most_levels) after.storable_views;
   };
 }
   where

@@ -11,7 +11,8 @@ use Rattle.calculus.specs.Limits.{most_permits, most_rules, greatest_number, mos
 use Rattle.calculus.specs.Database.{Db, is_relation, rules_on, permits_on}
 use Rattle.calculus.specs.Catalogue.{catalogue_at}
 use Rattle.calculus.specs.Stored.{range_at}
-use Rattle.calculus.specs.IsDatabase.{IsDatabase, row_qual_stands, permit_stands, row_qual_is_small}
+use Rattle.calculus.specs.IsDatabase.{IsDatabase, row_qual_stands, permit_stands}
+use Rattle.calculus.specs.Storable.{row_qual_is_small}
 use Rattle.plan_laws.proofs.Alike.{Alike, alike_itself, levels_stay, vars_stay, queries_stay, expansions_stay, sizes_stay, rules_stay, permits_stay, indexes_stay}
 
 pub permits_alike : (db : Db) (permits : List (RelKey × Permit)) → Alike db (record db { permits = permits })
@@ -60,10 +61,10 @@ with_permits db permits is new =
       few_variables = is.few_variables;
       few_expanded_variables = sym (expansions_stay db later alike db.views) ∙ is.few_expanded_variables;
       small_views = sym (sizes_stay db later alike db.views) ∙ is.small_views;
-      shallow_views = is.shallow_views;
-      small_rules = is.small_rules;
-      small_permits = new.are_small;
-      short_permits = new.are_short;
+      storable_views = is.storable_views;
+      storable_rules = is.storable_rules;
+      storable_permits = new.are_small;
+      storable_lists = new.are_short;
       few_rules = is.few_rules;
       few_permits = new.are_few;
       small_rule_numbers = is.small_rule_numbers;
@@ -117,10 +118,10 @@ with_rules db rules is new =
       few_variables = is.few_variables;
       few_expanded_variables = sym (expansions_stay db later alike db.views) ∙ is.few_expanded_variables;
       small_views = sym (sizes_stay db later alike db.views) ∙ is.small_views;
-      shallow_views = is.shallow_views;
-      small_rules = new.are_small;
-      small_permits = is.small_permits;
-      short_permits = is.short_permits;
+      storable_views = is.storable_views;
+      storable_rules = new.are_small;
+      storable_permits = is.storable_permits;
+      storable_lists = is.storable_lists;
       few_rules = new.are_few;
       few_permits = is.few_permits;
       small_rule_numbers = new.have_small_numbers;

@@ -16,7 +16,7 @@ use Rattle.calculus.specs.IsDatabase.{IsDatabase, attrs_stand, keys_stand, struc
 use Rattle.calculus.specs.Change.{laid, restructured, names_what_is_there, adds_what_is_new, lists_once, IsLawful}
 use Rattle.quel_meaning.specs.Structures.{structure_keys}
 use Rattle.quel_meaning.specs.Planned.{planned, plan_causes, plan_change}
-use Rattle.quel_meaning.specs.Fit.{is_structure}
+use Rattle.calculus.specs.Structures.{is_structure}
 use Rattle.plan_laws.specs.Fitting.{IsFitStructure}
 use Rattle.plan_laws.proofs.Kept.{both}
 use Rattle.plan_laws.proofs.Planned.{all_absent, not_refused, base_relation}

@@ -160,10 +160,10 @@ view_lawful db rel q is fit = record {
     small_views = put (λ v. nat_le (query_size later v.query) greatest_size)
         (sym (ap (λ (m : Measure). nat_le (sum m.attrs + m.qual) greatest_size) (query_stays Other db later stay q own_vars)) ∙ fit.small)
         (sym (sizes_hold Other db later stay db.views views) ∙ is.small_views);
-    shallow_views = put (λ v. nat_le (query_levels v.query) most_levels) fit.shallow is.shallow_views;
-    small_rules = is.small_rules;
-    small_permits = is.small_permits;
-    short_permits = is.short_permits;
+    storable_views = put (λ v. nat_le (query_levels v.query) most_levels) fit.shallow is.storable_views;
+    storable_rules = is.storable_rules;
+    storable_permits = is.storable_permits;
+    storable_lists = is.storable_lists;
     few_rules = is.few_rules;
     few_permits = is.few_permits;
     small_rule_numbers = is.small_rule_numbers;
