@@ -13,7 +13,7 @@ use Rattle.calculus.specs.Term.{Env, Aggs, holds, no_aggs}
 use Rattle.calculus.specs.Who.{Who}
 use Rattle.calculus.specs.Database.{Db}
 use Rattle.calculus.specs.QueryParts.{vars_of, targets_of, qual_of}
-use Rattle.calculus.specs.Assignments.{choices, assigned_by, variable_rows, assigned, Seen, Changing, changing_by, update_rows, update_assigned}
+use Rattle.calculus.specs.Assignments.{choices, assigned_by, variable_rows, assigned, Seen, changing_by, update_rows, update_assigned}
 use Rattle.calculus.specs.Targets.{target_values, qualifying, rows_given, some_lacks}
 use Rattle.calculus.specs.VariableRows.{rows_of}
 use Rattle.calculus.specs.Aggregate.{aggregates}

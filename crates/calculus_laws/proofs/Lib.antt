@@ -14,6 +14,7 @@ pub mod OwnLevel
 pub mod Plain
 pub mod PutIn
 pub mod SameRows
+pub mod Through
 pub mod Unpermitted
 pub mod UsedIn
 pub mod ViewAnswer
