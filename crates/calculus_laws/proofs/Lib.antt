@@ -18,3 +18,4 @@ pub mod Through
 pub mod Unpermitted
 pub mod UsedIn
 pub mod ViewAnswer
+pub mod WhatIsRead
