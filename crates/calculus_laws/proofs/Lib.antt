@@ -13,7 +13,9 @@ pub mod OneVariable
 pub mod OwnLevel
 pub mod Plain
 pub mod PutIn
+pub mod SameAnswer
 pub mod SameRows
+pub mod SameSchema
 pub mod Through
 pub mod Unpermitted
 pub mod UsedIn

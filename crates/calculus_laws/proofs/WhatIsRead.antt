@@ -1,12 +1,12 @@
 -- What is read is kept.
-use Rattle.std.proofs.Common.{◌≡◌, inl, inr, refl, sym, ap, ◌∙◌, subst, ℕ, List, [], ◌∷◌, ◌++◌, Some, Contains}
+use Rattle.std.proofs.Common.{◌≡◌, inl, inr, refl, sym, ap, ◌∙◌, subst, ℕ, List, [], ◌∷◌, Some, Contains}
 use Rattle.std.specs.List.{flat_map}
 use Rattle.calculus.specs.declared.query.RelKey.{RelKey}
 use Rattle.calculus.specs.declared.query.AggSource.{AggSource, Named}
 use Rattle.calculus.specs.declared.query.Query.{Query}
 use Rattle.calculus.specs.Tree.{rows_of_query}
 use Rattle.calculus.specs.Limits.{greatest_level}
-use Rattle.calculus.specs.Database.{Db, Relation, View}
+use Rattle.calculus.specs.Database.{Db, Relation}
 use Rattle.calculus.specs.Stored.{Kept, range_at}
 use Rattle.calculus.specs.QueryParts.{query_aggregates}
 use Rattle.calculus.specs.Used.{used_vars}
