@@ -3,4 +3,4 @@ pub mod Through
 pub mod Told
 pub mod SchemaStands
 pub mod Scopes
-pub mod Judging
+pub mod Judged
