@@ -1,5 +1,5 @@
 -- What must hold of a permit, a rule, or a structure for what the utilities plan of it to be lawful: that of which it speaks is there, and it would stand in the database.
-use Rattle.std.specs.Prelude.{◌≡◌, ℕ, Bool, true, false, List, nat_le, nat_lt, is_some, length, IsTrue}
+use Rattle.std.specs.Prelude.{◌≡◌, ℕ, Bool, false, List, nat_le, nat_lt, is_some, length, IsTrue}
 use Rattle.calculus.specs.declared.query.RelKey.{RelKey}
 use Rattle.std.specs.List.{list_all}
 use Rattle.calculus.specs.declared.query.Query.{Query}
