@@ -23,7 +23,7 @@ use Rattle.plan_laws.proofs.Created.{each_true}
 use Rattle.plan_laws.proofs.Kept.{both, each, count, all_insert}
 use Rattle.plan_laws.proofs.Orders.{numbered_total, same_key_itself}
 use Rattle.plan_laws.proofs.Numbered.{permits_alike, rules_alike, PermitsStand, with_permits, RulesStand, with_rules}
-use Rattle.change_laws.proofs.Tests.{lt_true, lt_is, there_is, found_has, key_found}
+use Rattle.plan_laws.proofs.Tests.{lt_true, lt_is, there_is, found_has, key_found}
 use Rattle.change_laws.proofs.Inserted.{insert_passes, count_insert, number_unequal}
 
 -- ---- a permit
@@ -36,7 +36,7 @@ pub permit_lawful : (db : Db) (rel : RelKey) (permit : Permit) → IsDatabase db
     → IsTrue (nat_le permit.number greatest_number) → IsTrue (not (has_number (permit_numbers db rel) permit.number)) → IsTrue (nat_lt (length (permit_numbers db rel)) most_permits)
     → IsLawful db (change.Permit rel permit)
 unfolding laid names_what_is_there adds_what_is_new lists_once
-permit_lawful db rel permit is stands small short low new few =
+permit_lawful db rel permit is stands storable lists low new few =
     record { names_are_there = (both (is_relation db rel) _ stands).0; additions_are_new = new; nothing_is_listed_twice = refl; leaves_a_database = with_permits db later is stand }
   where
     later : List (RelKey × Permit)
@@ -60,8 +60,8 @@ permit_lawful db rel permit is stands small short low new few =
     stand = record {
       ascend = in_order-insert (numbered_total (λ p. p.number)) (rel, permit) db.permits is.permits_ascend;
       stand = put (λ p. permit_stands db p.0 p.1) stands is.permits_stand;
-      are_small = put (λ p. row_qual_is_storable p.1.qual) small is.storable_permits;
-      are_short = put (λ p. permit_lists_are_storable p.1) short is.storable_lists;
+      are_storable = put (λ p. row_qual_is_storable p.1.qual) storable is.storable_permits;
+      have_storable_lists = put (λ p. permit_lists_are_storable p.1) lists is.storable_lists;
       are_few = all_imply (λ (r : Relation). nat_le (length (permits_on db r.info.key)) most_permits) (λ r. nat_le (length (permits_on (record db { permits = later }) r.info.key)) most_permits)
           (λ r t. few_later r.info.key (le_is (length (permits_on db r.info.key)) most_permits t)) db.relations is.few_permits;
       have_small_numbers = put (λ p. nat_le p.1.number greatest_number) low is.small_permit_numbers;
@@ -74,11 +74,11 @@ permit_fits_exactly db rel permit is = (to, from)
     to : permit_is_fit db rel permit ≡ true → IsLawful db (change.Permit rel permit)
     to t =
         let stands = both (permit_stands db rel permit) _ t in
-        let small = both (row_qual_is_storable permit.qual) _ stands.1 in
-        let short = both (permit_lists_are_storable permit) _ small.1 in
-        let low = both (nat_le permit.number greatest_number) _ short.1 in
+        let storable = both (row_qual_is_storable permit.qual) _ stands.1 in
+        let lists = both (permit_lists_are_storable permit) _ storable.1 in
+        let low = both (nat_le permit.number greatest_number) _ lists.1 in
         let new = both (not (has_number (permit_numbers db rel) permit.number)) (nat_lt (length (permit_numbers db rel)) most_permits) low.1 in
-        permit_lawful db rel permit is stands.0 small.0 short.0 low.0 new.0 new.1
+        permit_lawful db rel permit is stands.0 storable.0 lists.0 low.0 new.0 new.1
 
     from : IsLawful db (change.Permit rel permit) → permit_is_fit db rel permit ≡ true
     from l =
@@ -125,7 +125,7 @@ pub rule_lawful : (db : Db) (rel : RelKey) (rule : Rule) → IsDatabase db → I
     → IsTrue (nat_le rule.number greatest_number) → IsTrue (not (has_number (rule_numbers db rel) rule.number)) → IsTrue (nat_lt (length (rule_numbers db rel)) most_rules)
     → IsLawful db (change.Rule rel rule)
 unfolding laid names_what_is_there adds_what_is_new lists_once
-rule_lawful db rel rule is relation stands small low new few =
+rule_lawful db rel rule is relation stands storable low new few =
     record { names_are_there = relation; additions_are_new = new; nothing_is_listed_twice = refl; leaves_a_database = with_rules db later is stand }
   where
     later : List (RelKey × Rule)
@@ -152,7 +152,7 @@ rule_lawful db rel rule is relation stands small low new few =
     stand = record {
       ascend = in_order-insert (numbered_total (λ p. p.number)) (rel, rule) db.rules is.rules_ascend;
       stand = put (λ p. is_relation db p.0 && row_qual_stands db p.0 p.1.qual) own_stands is.rules_stand;
-      are_small = put (λ p. row_qual_is_storable p.1.qual) small is.storable_rules;
+      are_storable = put (λ p. row_qual_is_storable p.1.qual) storable is.storable_rules;
       are_few = all_imply (λ (r : Relation). nat_le (length (rules_on db r.info.key)) most_rules) (λ r. nat_le (length (rules_on (record db { rules = later }) r.info.key)) most_rules)
           (λ r t. few_later r.info.key (le_is (length (rules_on db r.info.key)) most_rules t)) db.relations is.few_rules;
       have_small_numbers = put (λ p. nat_le p.1.number greatest_number) low is.small_rule_numbers;
@@ -166,10 +166,10 @@ rule_fits_exactly db rel rule is = (to, from)
     to t =
         let relation = both (is_relation db rel) _ t in
         let stands = both (row_qual_stands db rel rule.qual) _ relation.1 in
-        let small = both (row_qual_is_storable rule.qual) _ stands.1 in
-        let low = both (nat_le rule.number greatest_number) _ small.1 in
+        let storable = both (row_qual_is_storable rule.qual) _ stands.1 in
+        let low = both (nat_le rule.number greatest_number) _ storable.1 in
         let new = both (not (has_number (rule_numbers db rel) rule.number)) (nat_lt (length (rule_numbers db rel)) most_rules) low.1 in
-        rule_lawful db rel rule is relation.0 stands.0 small.0 low.0 new.0 new.1
+        rule_lawful db rel rule is relation.0 stands.0 storable.0 low.0 new.0 new.1
 
     from : IsLawful db (change.Rule rel rule) → rule_is_fit db rel rule ≡ true
     from l =

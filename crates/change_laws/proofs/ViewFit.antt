@@ -34,9 +34,9 @@ use Rattle.plan_laws.proofs.PlainQueries.{query_plain}
 use Rattle.plan_laws.proofs.Staying.{Staying, map_same, all_same, level_stays, query_stays, kinds_stay, there_stays}
 use Rattle.plan_laws.proofs.StayingFacts.{stands_with}
 use Rattle.plan_laws.proofs.BesideViews.{by_view, views_known}
-use Rattle.change_laws.proofs.Tests.{has_room, not_full}
+use Rattle.plan_laws.proofs.Tests.{has_room, not_full}
 use Rattle.change_laws.proofs.Inserted.{insert_passes, length_insert, never_equal}
-use Rattle.change_laws.proofs.Levels.{there_below, below_the_greatest, not_too_high}
+use Rattle.plan_laws.proofs.Levels.{there_below, below_the_greatest, not_too_high}
 use Rattle.change_laws.proofs.ViewMade.{view_known, staying}
 
 -- ---- a view with a level doesn't name itself
@@ -109,7 +109,7 @@ lawful_view db info q is l = record {
     few = its (λ v. nat_le (variables v.query) most_variables) after.few_variables;
     few_expanded = ap (λ n. nat_le n most_expanded_variables) expansion ∙ its (λ v. nat_le (expanded_variables later v.query) most_expanded_variables) after.few_expanded_variables;
     small = ap (λ (m : Measure). nat_le (sum m.attrs + m.qual) greatest_size) (query_stays Other db later stay q own_vars) ∙ its (λ v. nat_le (query_size later v.query) greatest_size) after.small_views;
-    shallow = its (λ v. query_is_storable v.query) after.storable_views;
+    storable = its (λ v. query_is_storable v.query) after.storable_views;
   };
 }
   where
@@ -235,7 +235,7 @@ view_fits_exactly db info q is = (to, from)
           few = few.0;
           few_expanded = expanded.0;
           small = small.0;
-          shallow = small.1;
+          storable = small.1;
         }))
 
     from : IsLawful db (change.View info q) → view_is_fit db info q ≡ true
@@ -244,4 +244,4 @@ view_fits_exactly db info q is = (to, from)
         let fit = facts.fit in
         let attributes : IsTrue (attrs_stand info.attrs) = subst (λ i. IsTrue (attrs_stand i.attrs)) (view_known info q facts.kept facts.targets) fit.attributes in
         each _ _ (each _ _ fit.named (each _ _ (ap not fit.unused) (not_full db fit.room))) (each _ _ facts.kept (each _ _ attributes (each _ _ facts.targets (each _ _ fit.vars
-        (each _ _ (not_too_high db q fit.levels) (each _ _ fit.stands (each _ _ fit.few_listed (each _ _ fit.few (each _ _ fit.few_expanded (each _ _ fit.small fit.shallow))))))))))
+        (each _ _ (not_too_high db q fit.levels) (each _ _ fit.stands (each _ _ fit.few_listed (each _ _ fit.few (each _ _ fit.few_expanded (each _ _ fit.small fit.storable))))))))))

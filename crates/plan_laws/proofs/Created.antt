@@ -74,13 +74,16 @@ named_is_no_catalogue db key t =
     and_false true = refl
     and_false false = refl
 
-pub nothing_ranges : (db : Db) (key : RelKey) → IsTrue (key_is_named key) → is_there db key ≡ false → range_at db key ≡ None
+pub nothing_stands : (db : Db) (key : RelKey) → is_there db key ≡ false → is_catalogue db key ≡ false → range_at db key ≡ None
 unfolding range_at
-nothing_ranges db key named unused =
+nothing_stands db key unused none =
     let found = none_found key db.relations (map (λ v. v.info) db.views ++ map (λ x. x.info) db.indexes) unused in
     let view = no_view key db.views (map (λ x. x.info) db.indexes) found.1 in
-    let catalogue = no_catalogue db key (named_is_no_catalogue db key named) in
+    let catalogue = no_catalogue db key none in
     λ i. ranged (found.0 i) (view i) (catalogue i)
+
+pub nothing_ranges : (db : Db) (key : RelKey) → IsTrue (key_is_named key) → is_there db key ≡ false → range_at db key ≡ None
+nothing_ranges db key named unused = nothing_stands db key unused (named_is_no_catalogue db key named)
 
 -- ---- what is there has another key
 

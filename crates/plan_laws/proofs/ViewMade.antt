@@ -160,7 +160,7 @@ view_lawful db rel q is fit = record {
     small_views = put (λ v. nat_le (query_size later v.query) greatest_size)
         (sym (ap (λ (m : Measure). nat_le (sum m.attrs + m.qual) greatest_size) (query_stays Other db later stay q own_vars)) ∙ fit.small)
         (sym (sizes_hold Other db later stay db.views views) ∙ is.small_views);
-    storable_views = put (λ v. query_is_storable v.query) fit.shallow is.storable_views;
+    storable_views = put (λ v. query_is_storable v.query) fit.storable is.storable_views;
     storable_rules = is.storable_rules;
     storable_permits = is.storable_permits;
     storable_lists = is.storable_lists;
