@@ -1,12 +1,12 @@
 -- A script, step by step, while files are open.
-use Rattle.std.proofs.Common.{◌≡◌, refl, sym, ap, ◌∙◌, ℕ, zero, suc, ◌≤◌, Bool, true, false, List, [], ◌∷◌, ◌++◌, length, append_assoc, append-nil, Option, Some, None, arith}
+use Rattle.std.proofs.Common.{◌≡◌, refl, ap, ◌∙◌, ℕ, suc, ◌≤◌, Bool, true, false, List, [], ◌∷◌, ◌++◌, length, append_assoc, append-nil, Some, arith}
 use Rattle.std.proofs.lemmas.Bool.{le-leb}
 use Rattle.std.specs.Prelude.{◌+◌, ◌-◌, if◌then◌else◌, nat_le}
 use Rattle.std.specs.List.{list_all}
 use Rattle.quel_meaning.specs.Lines.{lines_of}
 use Rattle.quel_meaning.specs.Monitor.{Command, Part, Piece, Order, Plain, has_no_command, quoting_behind, is_command_letter, word_length, command_of, names_file, before_parts, order_before, parts_of}
 use Rattle.quel_meaning.specs.Buffer.{with_piece}
-use Rattle.quel_meaning.specs.Happening.{Setting, Event, Kept, After, quiet, refused, behind, and_then, over}
+use Rattle.quel_meaning.specs.Happening.{Setting, Event, Kept, After, quiet, refused, and_then, over}
 use Rattle.quel_meaning.specs.Running.{Deeper, most_included, after_include, after_command, after_open_part, after_part, after_line, after_lines, files_within}
 use Rattle.quel_meaning.specs.Session.{files_of}
 use Rattle.quel_meaning.specs.OpenFiles.{OpenFiles, included_in, after_files, after_rest}

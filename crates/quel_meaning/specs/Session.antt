@@ -1,6 +1,7 @@
 -- A session: what a script does in order, and what stands after it.
 use Rattle.std.specs.Prelude.{ℕ, suc, ◌+◌, max, nat_le, Bool, ◌&&◌, if◌then◌else◌, List, [], ◌∷◌, map, length, ◌++◌}
 use Rattle.calculus.specs.Lists.{is_any}
+use Rattle.calculus.specs.Who.{Asker}
 use Rattle.calculus.specs.Database.{Db}
 use Rattle.quel_grammar.specs.Next.{Reading}
 use Rattle.quel_meaning.specs.State.{State, Built}

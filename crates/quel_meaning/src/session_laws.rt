@@ -3,6 +3,7 @@
 ghost use Rattle.std.specs.Prelude.{◌≡◌, ◌+◌, ℕ, suc, Bool, true, List, [], ◌∷◌, ◌++◌, length, not};
 ghost use Rattle.std.specs.List.{concat, list_all};
 ghost use Rattle.calculus.specs.Lists.{is_any};
+ghost use Rattle.calculus.specs.Who.{Asker};
 ghost use Rattle.calculus.specs.Database.{Db};
 ghost use Rattle.quel_grammar.specs.Next.{Reading, IsGrammatical};
 ghost use Rattle.quel_meaning.specs.State.{State, Built};
@@ -78,7 +79,7 @@ pub fn all_output_ends_the_last_reply()
 pub fn equal_readings_give_equal_sessions()
     ensures settings { (s t : Setting) → Agree s t → (state : State) (script : List ℕ) → session_of s state script ≡ session_of t state script }
     ensures readings { (r q : Reading) → ((text : List ℕ) (from : ℕ) → r text from ≡ q text from)
-        → (built : Built) (user : List ℕ) (state : State) (script : List ℕ) → session r built user state script ≡ session q built user state script }
+        → (built : Built) (asker : Asker) (state : State) (script : List ℕ) → session r built asker state script ≡ session q built asker state script }
     ensures grammatical { (r q : Reading) → IsGrammatical r → IsGrammatical q
-        → (built : Built) (user : List ℕ) (state : State) (script : List ℕ) → session r built user state script ≡ session q built user state script }
+        → (built : Built) (asker : Asker) (state : State) (script : List ℕ) → session r built asker state script ≡ session q built asker state script }
 {}
