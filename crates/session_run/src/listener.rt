@@ -9,7 +9,8 @@ ghost use Rattle.quel_meaning.specs.Running.{Deeper, after_line};
 ghost use Rattle.quel_meaning.specs.Session.{printed};
 ghost use Rattle.quel_meaning.specs.Happening.{start};
 ghost use Rattle.session_run.specs.Doing.{Did, setting};
-ghost use Rattle.session_run.specs.Hearing.{later, AreSame, Hears, HearsPartly, IsSinkOrMemory};
+ghost use Rattle.session_run.specs.Hearing.{later, Hears, HearsPartly, IsSinkOrMemory};
+ghost use Rattle.session_run.specs.Runs.{AreSame};
 
 use crate::front::LineFront;
 use crate::running::RunFault;

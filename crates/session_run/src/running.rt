@@ -2,8 +2,7 @@
 
 ghost use Rattle.std.specs.Prelude.{◌≡◌, ◌⊎◌, ◌↔◌, OnOk, IsErrOf, IfSome};
 ghost use Rattle.fault_io.specs.Causes.{Rose};
-ghost use Rattle.session_run.specs.Hearing.{AreSame};
-ghost use Rattle.session_run.specs.Runs.{IsDone, IsPartlyDone, IsCutOff, IsKeptUp, IsBrokenOff, GaveTooMuch};
+ghost use Rattle.session_run.specs.Runs.{AreSame, IsDone, IsPartlyDone, IsCutOff, IsKeptUp, IsBrokenOff, GaveTooMuch};
 ghost use Rattle.session_run.specs.declared.running.RunFault.TheVariants.{OutOfMemory as no_memory, Source as source_fault, Sink as sink_fault};
 
 use crate::Statements;
