@@ -9,11 +9,12 @@ ghost use Rattle.calculus.specs.Who.{Who};
 ghost use Rattle.calculus.specs.Database.{Db};
 ghost use Rattle.calculus.specs.VariableRows.{rows_of};
 ghost use Rattle.calculus.specs.Answer.{answer, lacks};
+ghost use Rattle.calculus.specs.Replacement.{updated};
 ghost use Rattle.calculus.specs.Permission.{query_permitted, update_permitted};
 ghost use Rattle.calculus.specs.Sizes.{level_of};
 ghost use Rattle.calculus.specs.Reads.{reads_of, query_reads, update_reads};
 ghost use Rattle.calculus.specs.Schema.{schema_of};
-ghost use Rattle.calculus_laws.specs.Reading.{IsKept, HaveSameRows};
+ghost use Rattle.calculus_laws.specs.Reading.{IsKept, HaveSameRows, IsOverItsRelation};
 
 /// What a key reads, and what a query reads, through views of views and by aggregates, are base relations
 /// and catalogues that are there.
@@ -24,7 +25,8 @@ pub fn what_is_read_is_kept()
 
 /// Two databases of one schema that have the same rows under each key that a query reads give the same
 /// answer, whoever asks, and lack the value of a target in the same cases; and what has a key has the same
-/// rows, where those of each key that it reads are the same.
+/// rows, where those of each key that it reads are the same. An update makes the same change of both, or is
+/// refused by the same number, where what it reads is the same.
 pub fn what_is_read_decides()
     ensures rows { (db other : Db) → schema_of db ≡ schema_of other → (who : Who) (key : RelKey) → HaveSameRows db other (reads_of db key)
         → (attrs : List ℕ) → rows_of db who key attrs ≡ rows_of other who key attrs }
@@ -32,6 +34,8 @@ pub fn what_is_read_decides()
         → answer db who q ≡ answer other who q }
     ensures lacks { (db other : Db) → schema_of db ≡ schema_of other → (who : Who) (q : Query) → HaveSameRows db other (query_reads db q)
         → lacks db who q ≡ lacks other who q }
+    ensures updates { (db other : Db) → schema_of db ≡ schema_of other → (who : Who) (u : Update) → IsOverItsRelation u → HaveSameRows db other (update_reads db u)
+        → updated db who u ≡ updated other who u }
 {}
 
 /// The schema decides what is read and what is permitted, and the level of what stands under a key: in two
