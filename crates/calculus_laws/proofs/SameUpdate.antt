@@ -1,5 +1,5 @@
 -- Databases of one schema that have the same of the rows that an update reads are changed alike.
-use Rattle.std.proofs.Common.{◌≡◌, inl, inr, refl, sym, ap, ◌∙◌, ℕ, suc, ◌+◌, Bool, true, false, not, nat_lt, List, [], ◌∷◌, map, length, filter, filter_map, Option, Some, None, option_map, is_none, slice_get, Result, Ok, Err, Contains, arith}
+use Rattle.std.proofs.Common.{◌≡◌, inl, inr, refl, sym, ap, ◌∙◌, ℕ, suc, ◌+◌, Bool, true, false, not, nat_lt, List, [], ◌∷◌, map, length, filter, filter_map, Option, Some, None, option_map, is_none, slice_get, Result, Ok, Err, arith}
 use Rattle.std.proofs.lemmas.Bool.Decides.{Decides-eqb}
 use Rattle.std.proofs.lemmas.List.Elements.{Contains-append_right}
 use Rattle.std.specs.Prelude.{◌&&◌, ◌==◌}
@@ -13,10 +13,9 @@ use Rattle.calculus.specs.declared.request.Update.{Update}
 use Rattle.calculus.specs.declared.request.UpdateOp.TheVariants.{Append, Replace, Delete, Into}
 use Rattle.calculus.specs.Rows.{Row}
 use Rattle.calculus.specs.Limits.{most_rows}
-use Rattle.calculus.specs.Term.{holds}
 use Rattle.calculus.specs.Who.{Who, Free, Asks}
 use Rattle.calculus.specs.Database.{Db}
-use Rattle.calculus.specs.Stored.{rows_at, kinds_at}
+use Rattle.calculus.specs.Stored.{rows_at}
 use Rattle.calculus.specs.Rights.{Right, Retrieve, may}
 use Rattle.calculus.specs.QueryParts.{vars_of, targets_of, qual_of, query_aggregates, qual_aggregates}
 use Rattle.calculus.specs.Used.{used_in_query}
