@@ -10,7 +10,8 @@ use Rattle.calculus.specs.declared.schema.Permit.{Permit}
 use Rattle.calculus.specs.declared.schema.Rule.{Rule}
 use Rattle.calculus.specs.Change.{permit_numbers, rule_numbers}
 use Rattle.calculus.specs.Database.{Db, is_relation}
-use Rattle.calculus.specs.IsDatabase.{row_qual_stands, row_qual_is_small, permit_attrs_stand, user_is_named}
+use Rattle.calculus.specs.IsDatabase.{row_qual_stands, permit_attrs_stand, user_is_named}
+use Rattle.calculus.specs.Storable.{row_qual_is_small}
 use Rattle.calculus.specs.QueryParts.{qual_aggregates}
 use Rattle.calculus.specs.Sizes.{qual_size}
 use Rattle.calculus.specs.Stored.{attrs_at, kinds_at}

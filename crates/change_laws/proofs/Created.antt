@@ -33,7 +33,7 @@ use Rattle.plan_laws.proofs.PlainQueries.{query_plain}
 use Rattle.plan_laws.proofs.Staying.{Staying}
 use Rattle.plan_laws.proofs.StayingFacts.{ViewStays, levels_hold, vars_hold, queries_hold, sizes_hold, expansions_hold, rules_hold, permits_hold, indexes_hold}
 use Rattle.plan_laws.proofs.Beside.{by_rel, known_of, found_beside, each_beside, all_beside, differ_beside, one_beside, sorted_by_rel, sorted_by_key}
-use Rattle.change_laws.proofs.Tests.{has_room, not_full, found_has}
+use Rattle.plan_laws.proofs.Tests.{has_room, not_full, found_has}
 use Rattle.change_laws.proofs.Counted.{all_of_put, length_put}
 use Rattle.change_laws.proofs.Inserted.{insert_passes, length_insert, never_equal}
 
@@ -93,10 +93,10 @@ made_lawful db info rows is named unused room structure attributes domains diffe
     few_variables = is.few_variables;
     few_expanded_variables = sym (expansions_hold Other db later stay db.views views) ∙ is.few_expanded_variables;
     small_views = sym (sizes_hold Other db later stay db.views views) ∙ is.small_views;
-    shallow_views = is.shallow_views;
-    small_rules = is.small_rules;
-    small_permits = is.small_permits;
-    short_permits = is.short_permits;
+    storable_views = is.storable_views;
+    storable_rules = is.storable_rules;
+    storable_permits = is.storable_permits;
+    storable_lists = is.storable_lists;
     few_rules = put (λ r. nat_le (length (rules_on db r.info.key)) most_rules) (ap (λ ps. nat_le (length (map (λ p. p.1) ps)) most_rules) (none_of_key info.key db.rules ruled)) is.few_rules;
     few_permits = put (λ r. nat_le (length (permits_on db r.info.key)) most_permits) (ap (λ ps. nat_le (length (map (λ p. p.1) ps)) most_permits) (none_of_key info.key db.permits permitted)) is.few_permits;
     small_rule_numbers = is.small_rule_numbers;

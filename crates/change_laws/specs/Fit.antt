@@ -10,15 +10,15 @@ use Rattle.calculus.specs.declared.schema.Rule.{Rule}
 use Rattle.calculus.specs.declared.change.DbChange.{DbChange}
 use Rattle.calculus.specs.declared.change.DbChange.TheVariants as change
 use Rattle.calculus.specs.Keys.{key_of, same_key, has_key}
-use Rattle.calculus.specs.Limits.{most_rows, most_permits, most_rules, greatest_number, most_listed_attributes, most_expanded_variables, most_variables, greatest_size, most_levels}
+use Rattle.calculus.specs.Limits.{most_rows, most_permits, most_rules, greatest_number, most_expanded_variables, most_variables, greatest_size}
 use Rattle.calculus.specs.Lists.{is_any, has_number, differ_by}
 use Rattle.calculus.specs.Rows.{Row, has}
 use Rattle.calculus.specs.Database.{Db, is_relation, is_there}
 use Rattle.calculus.specs.Stored.{rows_at, attrs_at}
 use Rattle.calculus.specs.QueryParts.{vars_of, targets_of}
 use Rattle.calculus.specs.Sizes.{query_level, variables, expanded_variables, query_size}
-use Rattle.calculus.specs.TreeLevels.{query_levels}
-use Rattle.calculus.specs.IsDatabase.{key_is_named, structure_stands, attrs_stand, are_stored, keys_stand, row_fits, view_info_stands, attrs_are_targets, vars_are_there, query_stands, row_qual_stands, row_qual_is_small, permit_stands}
+use Rattle.calculus.specs.IsDatabase.{key_is_named, structure_stands, attrs_stand, are_stored, keys_stand, row_fits, view_info_stands, attrs_are_targets, vars_are_there, query_stands, row_qual_stands, permit_stands}
+use Rattle.calculus.specs.Storable.{row_qual_is_storable, permit_lists_are_storable, query_is_storable}
 use Rattle.calculus.specs.Change.{rows_differ, permit_numbers, rule_numbers}
 use Rattle.quel_meaning.specs.Passing.{is_full, is_too_high}
 
@@ -58,16 +58,16 @@ relation_is_fit db info rows =
     && (structure_stands info
     && (attrs_stand info.attrs && (are_stored info.attrs && (rows_differ rows && (list_all (row_fits info.attrs) rows && nat_le (length rows) most_rows)))))
 
--- a permit may be made: it stands on a relation, is no larger than one may be, and has a free number
+-- a permit may be made: it stands on a relation, its qualification and what it lists can be stored, and it has a free number
 unfoldable pub permit_is_fit : Db → RelKey → Permit → Bool
 permit_is_fit db rel permit =
     permit_stands db rel permit
-    && (row_qual_is_small permit.qual && (nat_le (length permit.attrs) most_listed_attributes && number_is_free most_permits (permit_numbers db rel) permit.number))
+    && (row_qual_is_storable permit.qual && (permit_lists_are_storable permit && number_is_free most_permits (permit_numbers db rel) permit.number))
 
--- a rule may be made: it stands on a relation, is no larger than one may be, and has a free number
+-- a rule may be made: it stands on a relation, its qualification can be stored, and it has a free number
 unfoldable pub rule_is_fit : Db → RelKey → Rule → Bool
 rule_is_fit db rel rule =
-    is_relation db rel && (row_qual_stands db rel rule.qual && (row_qual_is_small rule.qual && number_is_free most_rules (rule_numbers db rel) rule.number))
+    is_relation db rel && (row_qual_stands db rel rule.qual && (row_qual_is_storable rule.qual && number_is_free most_rules (rule_numbers db rel) rule.number))
 
 -- a relation may be stored so: it is there, and the structure with these keys would be one for its attributes
 unfoldable pub structure_is_fit : Db → RelKey → Spec → List ℕ → Bool
@@ -85,12 +85,12 @@ is_named_outside db rels key = list_any (λ v. not (has_key rels v.info.key) && 
 unfoldable pub destroying_is_fit : Db → List RelKey → Bool
 destroying_is_fit db rels = list_all (is_there db) rels && (differ_by same_key rels && not (list_any (is_named_outside db rels) rels))
 
--- the view is within the limits, once the views in it are put in
+-- the view is within the limits, once the views in it are put in, and can be stored
 unfoldable pub view_is_small : Db → Query → Bool
 view_is_small db q =
     nat_le (length (vars_of q)) most_expanded_variables
     && (nat_le (variables q) most_variables
-    && (nat_le (expanded_variables db q) most_expanded_variables && (nat_le (query_size db q) greatest_size && nat_le (query_levels q) most_levels)))
+    && (nat_le (expanded_variables db q) most_expanded_variables && (nat_le (query_size db q) greatest_size && query_is_storable q)))
 
 -- a view may be made: its key is free, it is kept as a view whose attributes are the targets of its query, what that names is there, its kinds fit, and its level and sizes are within the limits
 unfoldable pub view_is_fit : Db → RelInfo → Query → Bool

@@ -2,7 +2,7 @@
 use Rattle.std.proofs.Common.{◌≡◌, refl, sym, ap, ◌∙◌, ℕ, ◌<◌, zero, suc, Bool, true, false, List, [], ◌∷◌, ◌++◌, length, take, drop, arith, get_or, subst, append-nil, append_assoc, length-drop, drop-cons}
 use Rattle.std.specs.Prelude.{◌&&◌, not, cond, ◌+◌}
 use Rattle.std.specs.List.{list_all, prefix_len}
-use Rattle.quel_meaning.specs.Monitor.{Command, Part, Order, Quoting, Plain, quoting_after, begins_command, has_no_command, quoting_behind, is_letter, before_parts, order_before, names_file, word_length, parts_from, parts_of, command_of}
+use Rattle.quel_meaning.specs.Monitor.{Command, Part, Order, Quoting, Plain, quoting_after, begins_command, has_no_command, quoting_behind, is_command_letter, before_parts, order_before, names_file, word_length, parts_from, parts_of, command_of}
 use Rattle.quel_meaning.proofs.Cutting.{first_command, only_text}
 
 not_and : (b : Bool) (t : Bool) → b ≡ false → t ≡ true → (not b && t) ≡ true
@@ -62,7 +62,7 @@ order_of bytes = order_before (command_of (take (word_length bytes) bytes) (drop
 pub cut_at : (line piece later : List ℕ) (b : ℕ) → line ≡ piece ++ b ∷ later → b ≡ 92 → has_no_command Plain piece ≡ true → quoting_behind Plain piece ≡ Plain
     → parts_of line ≡ before_parts piece (order_of later)
 cut_at line piece later b e is free closed =
-    e' ∙ first_command piece (take (word_length later) later) (drop (word_length later) later) free closed (all_letters is_letter later) (none_behind is_letter later)
+    e' ∙ first_command piece (take (word_length later) later) (drop (word_length later) later) free closed (all_letters is_command_letter later) (none_behind is_command_letter later)
   where
     e' : parts_of line ≡ parts_of (piece ++ 92 ∷ (take (word_length later) later ++ drop (word_length later) later))
     e' = rw (e, is, joined (word_length later) later) refl

@@ -4,7 +4,7 @@ ghost use Rattle.std.specs.Prelude.{◌≡◌, ◌≤◌, length, IfOk};
 ghost use Rattle.std.specs.List.{list_all};
 ghost use Rattle.std.specs.Io.BufRead.{ends_with_byte};
 ghost use Rattle.quel_grammar.specs.Lexer.{is_white};
-ghost use Rattle.quel_meaning.specs.Monitor.{is_letter, word_length};
+ghost use Rattle.quel_meaning.specs.Monitor.{is_command_letter, word_length};
 
 use calculus::{List, OutOfMemory};
 use std::alloc::Global;
@@ -34,8 +34,8 @@ pub fn ends_line(bytes: &[u8]) -> bool
 }
 
 /// Whether the byte is a letter a to z.
-fn is_letter(byte: u8) -> bool
-    ensures { result ≡ is_letter byte }
+fn is_command_letter(byte: u8) -> bool
+    ensures { result ≡ is_command_letter byte }
 {
     b'a' <= byte && byte <= b'z'
 }
@@ -45,7 +45,7 @@ pub fn word_length(bytes: &[u8]) -> usize
     ensures length { result ≡ word_length bytes.now }
     ensures within { result ≤ length bytes.now }
 {
-    bytes.iter().take_while(|b| is_letter(**b)).count()
+    bytes.iter().take_while(|b| is_command_letter(**b)).count()
 }
 
 /// The bytes in a list of their own.

@@ -28,7 +28,8 @@ use Rattle.quel_meaning.specs.Shelf.{Shelf}
 use Rattle.quel_meaning.specs.State.{State}
 use Rattle.quel_meaning.specs.Tables.{column_of, sorted, table_of, some_query_lacks}
 use Rattle.quel_meaning.proofs.Each.{Each, each_passes}
-use Rattle.owner_laws.specs.Own.{IsOwn, asks, are_own}
+use Rattle.owner_laws.specs.Own.{IsOwn, are_own}
+use Rattle.calculus.specs.Who.{asks}
 use Rattle.owner_laws.proofs.Seen.{answer_same, lacks_same}
 use Rattle.owner_laws.proofs.Changed.{update_same}
 use Rattle.owner_session_laws.specs.TreeKeys.{tree_keys}

@@ -25,7 +25,8 @@ use Rattle.calculus.specs.Tree.{rows_of_query}
 use Rattle.calculus.specs.Used.{used_in_query, used_in_aggregate, used_vars}
 use Rattle.quel_meaning.specs.Meaning.{checked_permitted}
 use Rattle.quel_meaning.proofs.Each.{Each, front_of, back_of, of_flat_map, in_filter, each_to, passed, and}
-use Rattle.owner_laws.specs.Own.{IsOwn, asks}
+use Rattle.owner_laws.specs.Own.{IsOwn}
+use Rattle.calculus.specs.Who.{asks}
 use Rattle.owner_laws.proofs.Own.{no_view, permitted_own}
 use Rattle.owner_session_laws.specs.TreeKeys.{source_keys, query_keys, tree_keys}
 use Rattle.owner_session_laws.proofs.Found.{Mine}

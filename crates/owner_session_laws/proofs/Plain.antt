@@ -18,7 +18,8 @@ use Rattle.calculus.specs.Change.{change_at, restructured, without_keys, without
 use Rattle.calculus.specs.Database.{Db, Relation}
 use Rattle.calculus.specs.Keys.{key_cmp, same_key, has_key}
 use Rattle.calculus.specs.Lists.{insert_by}
-use Rattle.calculus.specs.Replacement.{first_cause, causes, made_info, rows_change, rows_after, change_of, with_rows, without_rows, updated}
+use Rattle.calculus.specs.Replacement.{first_cause, made_info, rows_change, rows_after, change_of, with_rows, without_rows, updated}
+use Rattle.calculus.specs.Replacement.{update_refusals}
 use Rattle.calculus.specs.Rows.{Row, set_of}
 use Rattle.calculus.specs.Stored.{rows_at}
 use Rattle.calculus.specs.Who.{Who}
@@ -178,7 +179,7 @@ unrefused P (Some number) whole made e h = absurd (cc e)
 pub update_plain : (db : Db) (who : Who) (user : List ℕ) (u : Update) (made : DbChange) → Mine user u.rel → updated db who u ≡ Ok made → is_plain_change user made ≡ true
 unfolding updated
 update_plain db who user u made mine e =
-    unrefused (λ c. is_plain_change user c ≡ true) (first_cause (causes db who u)) (change_of db who u) made e (change_plain db who user u mine)
+    unrefused (λ c. is_plain_change user c ≡ true) (first_cause (update_refusals db who u)) (change_of db who u) made e (change_plain db who user u mine)
 
 -- the utility makes no index, view, permit or rule, and no relation but the user's
 abbrev pub is_plain_work : List ℕ → Utility → Bool

@@ -22,8 +22,9 @@ use Rattle.calculus.specs.Replacement.{first_cause, with_rows, without_rows, upd
 use Rattle.calculus.specs.Rows.{Row}
 use Rattle.calculus.specs.Stored.{kinds_at, rows_at}
 use Rattle.calculus.specs.Who.{Who}
-use Rattle.quel_meaning.specs.Copying.{most_file_bytes, file_name, refusal, bad_row, keeps_rules, rows_in_file, rows_appended, file_appended, copied_from, copied_into}
-use Rattle.quel_meaning.specs.Meaning.{change_effect, numbered_effect, file_effect, copy_effect, utility_effect, tree_meaning, ruled_tree, checked_permitted, asks, range_outcome, permitted_outcome, tree_outcome, built_outcome, statement_outcome, meaning_by, meaning, statements_run}
+use Rattle.quel_meaning.specs.Copying.{most_file_bytes, file_of_constant, refusal, bad_row, keeps_rules, rows_in_file, rows_appended, file_appended, copied_from, copied_into}
+use Rattle.quel_meaning.specs.Meaning.{change_effect, numbered_effect, file_effect, copy_effect, utility_effect, tree_meaning, ruled_tree, checked_permitted, range_outcome, permitted_outcome, tree_outcome, built_outcome, statement_outcome, meaning_by, meaning, statements_run}
+use Rattle.calculus.specs.Who.{asks}
 use Rattle.quel_meaning.specs.Planned.{owner_causes, planned}
 use Rattle.quel_meaning.specs.Ranges.{Ranges}
 use Rattle.quel_meaning.specs.Resolved.{tree_of, resolved}
@@ -118,8 +119,8 @@ copy_only : (db : Db) (shelf : Shelf) (user : List ℕ) (rel : RelKey) (columns 
 unfolding copied_from only_appended
 copy_only db shelf user rel columns constant = go (first_cause (owner_causes db user rel))
   where
-    go : (o : Option ℕ) → only_appended user (elim o [ Some number ↦ Err (refusal number) | None ↦ file_appended db rel columns (fetched shelf (file_name constant)) ])
-    go None = file_only db user rel columns (fetched shelf (file_name constant))
+    go : (o : Option ℕ) → only_appended user (elim o [ Some number ↦ Err (refusal number) | None ↦ file_appended db rel columns (fetched shelf (file_of_constant constant)) ])
+    go None = file_only db user rel columns (fetched shelf (file_of_constant constant))
     go (Some number) = tt
 
 appended_plain : (db : Db) (shelf : Shelf) (user : List ℕ) (c : Result DbChange Refusal) → IsPlain db user → only_appended user c → IsPlain (change_effect db shelf c).db user
@@ -135,7 +136,7 @@ copy_plain : (db : Db) (shelf : Shelf) (user : List ℕ) (rel : RelKey) (columns
     → IsPlain (copy_effect db shelf user rel columns from constant).db user
 copy_plain db shelf user rel columns true constant plain =
     appended_plain db shelf user (copied_from db shelf user rel columns constant) plain (copy_only db shelf user rel columns constant)
-copy_plain db shelf user rel columns false constant plain = into_plain db shelf user (file_name constant) (copied_into db user rel columns) plain
+copy_plain db shelf user rel columns false constant plain = into_plain db shelf user (file_of_constant constant) (copied_into db user rel columns) plain
 
 work_plain : (db : Db) (shelf : Shelf) (user : List ℕ) (work : Utility) → IsPlain db user → is_plain_work user work ≡ true → IsPlain (utility_effect db shelf user work).db user
 unfolding utility_effect

@@ -7,14 +7,14 @@ use Rattle.calculus.specs.Finding.{found}
 use Rattle.calculus.specs.Who.{Free}
 use Rattle.quel_grammar.specs.Next.{Reading}
 use Rattle.quel_meaning.specs.Happening.{Setting}
-use Rattle.quel_meaning.specs.Meaning.{refused, range_outcome, with_ranges, tree_meaning}
+use Rattle.quel_meaning.specs.Meaning.{refused_outcome, range_outcome, with_ranges, tree_meaning}
 use Rattle.quel_meaning.specs.Resolved.{resolved}
 use Rattle.quel_meaning.specs.Session.{Session, session_of}
 use Rattle.quel_meaning.specs.State.{State, Outcome, Built}
 
 -- what the tree of a statement means for nobody in particular; refused where there is none
 abbrev pub free_tree_outcome : State → List ℕ → Result Checked ℕ → Outcome
-free_tree_outcome state user (Err number) = refused state number
+free_tree_outcome state user (Err number) = refused_outcome state number
 free_tree_outcome state user (Ok tree) = with_ranges state.ranges (tree_meaning state.db state.shelf Free user tree)
 
 -- what a statement of the user's that is built does there
@@ -25,7 +25,7 @@ free_statement_outcome state user s = free_tree_outcome state user (resolved sta
 -- the same where it is built; else it is refused before all else
 abbrev pub free_built_outcome : Bool → State → List ℕ → Statement → Outcome
 free_built_outcome true state user s = free_statement_outcome state user s
-free_built_outcome false state user s = refused state 9
+free_built_outcome false state user s = refused_outcome state 9
 
 -- what a statement of the user's does there
 unfoldable pub free_meaning : Built → State → List ℕ → Statement → Outcome

@@ -2,7 +2,9 @@
 
 ghost use Rattle.std.specs.Prelude.{◌≡◌, ◌≤◌, IsTrue, IfOk, OnOk, ◌<◌, ◌^◌, length, map, flat_map, codes, decimal, ◌++◌};
 ghost use Rattle.std.specs.List.{list_all, enumerate_from};
-ghost use Rattle.calculus.specs.Catalogue.{relation_row, attribute_row, attribute_rows, width_of, format_text, spec_text};
+ghost use Rattle.calculus.specs.Catalogue.{relation_row, attribute_row, attribute_rows, format_text};
+ghost use Rattle.calculus.specs.Catalogue.{column_count};
+ghost use Rattle.calculus.specs.Structures.{spec_text};
 ghost use Rattle.calculus.specs.Name.{is_name_byte};
 
 use crate::kept::Known;
@@ -75,8 +77,8 @@ fn format_value(alloc: Global, kind: Kind) -> Result<Value, OutOfMemory>
     }
 }
 
-fn width_of(info: &RelInfo) -> usize
-    ensures width { result ≡ width_of info.now }
+fn column_count(info: &RelInfo) -> usize
+    ensures width { result ≡ column_count info.now }
     ensures small { result < 2 ^ 63 }
 {
     match info.spec {
@@ -96,7 +98,7 @@ pub(crate) fn relation_row(alloc: Global, info: &RelInfo) -> Result<Row, OutOfMe
     values.push(name_text(alloc, &info.key.name)?)?;
     values.push(name_text(alloc, &info.key.owner)?)?;
     values.push(spec_value(alloc, info.spec)?)?;
-    values.push(Value::Int(width_of(info) as i64))?;
+    values.push(Value::Int(column_count(info) as i64))?;
     Ok(Row::of(values))
 }
 

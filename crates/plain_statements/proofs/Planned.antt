@@ -16,7 +16,7 @@ use Rattle.calculus.specs.Name.{is_name}
 use Rattle.calculus.specs.Sizes.{update_expanded_variables}
 use Rattle.calculus.specs.Stored.{kept_rows}
 use Rattle.quel_meaning.specs.Fit.{is_new, checks_fit, places_fit, update_kinds_fit, relation_fits, update_fits, utility_fits}
-use Rattle.quel_meaning.specs.FitQueries.{kept, reads_fit}
+use Rattle.quel_meaning.specs.FitQueries.{kept_alone, reads_fit}
 use Rattle.quel_meaning.specs.KindsInQueries.{assignments_fit}
 use Rattle.quel_meaning.specs.Passing.{is_full, is_taken}
 use Rattle.quel_meaning.specs.Planned.{planned}
@@ -58,12 +58,12 @@ free db rel new spelled =
 -- ---- updates
 
 module _ (db : Db) (u : Update) where
-  relation_of : update_fits (kept db) db u ≡ true → relation_fits db u ≡ true
+  relation_of : update_fits (kept_alone db) db u ≡ true → relation_fits db u ≡ true
   unfolding update_fits
   relation_of h =
       right (checks_fit db u) _ (right (places_fit db u) _
       (right (nat_le (update_expanded_variables db u) most_expanded_variables) _
-      (right (assignments_fit db u) _ (right (update_kinds_fit db u.query) _ (right (reads_fit (kept db) db u.query) _ h)))))
+      (right (assignments_fit db u) _ (right (update_kinds_fit db u.query) _ (right (reads_fit (kept_alone db) db u.query) _ h)))))
 
   pub makes_new : IsDoableUpdate db u → IsTrue (key_is_spelled u.rel) → MakesNew db u
   makes_new doable spelled into =

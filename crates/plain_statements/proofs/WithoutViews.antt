@@ -15,7 +15,7 @@ use Rattle.calculus.specs.Database.{Db, Relation, View, relation_at, view_at}
 use Rattle.calculus.specs.Keys.{same_key}
 use Rattle.calculus.specs.Stored.{Kept, Viewed, range_at, range_info, info_at}
 use Rattle.calculus.specs.QueryParts.{vars_of, query_aggregates}
-use Rattle.quel_meaning.specs.FitQueries.{keeps_rows, is_kept, kept, is_named, kept_or_viewed, source_fits, sources_fit, reads_fit, asked_fits}
+use Rattle.quel_meaning.specs.FitQueries.{keeps_rows, is_kept, kept_alone, is_named, kept_or_viewed, source_fits, sources_fit, reads_fit, asked_fits}
 use Rattle.quel_meaning.specs.Fit.{update_fits}
 use Rattle.quel_meaning.proofs.Each.{each_to, passed, each_passes, left, right, and}
 
@@ -37,20 +37,20 @@ all_kept : {X : Type 0} (p q : X → Bool) → ((x : X) → p x ≡ true → q x
 all_kept p q f xs h = passed q xs (each_to _ _ f xs (each_passes p xs h))
 
 module _ (db : Db) (none : db.views ≡ []) where
-  source_kept : (source : AggSource) → source_fits (kept_or_viewed db) db source ≡ true → source_fits (kept db) db source ≡ true
+  source_kept : (source : AggSource) → source_fits (kept_or_viewed db) db source ≡ true → source_fits (kept_alone db) db source ≡ true
   unfolding source_fits
   source_kept (Named key) h = named_kept db none key (left _ _ h)
   source_kept (rows_of_query q) h =
       and _ _ (all_kept (kept_or_viewed db).source (is_kept db) (λ key k. named_kept db none key (left _ _ k)) (vars_of q) (left _ _ h))
       (right (list_all (kept_or_viewed db).source (vars_of q)) _ h)
 
-  reads_kept : (q : Query) → reads_fit (kept_or_viewed db) db q ≡ true → reads_fit (kept db) db q ≡ true
+  reads_kept : (q : Query) → reads_fit (kept_or_viewed db) db q ≡ true → reads_fit (kept_alone db) db q ≡ true
   unfolding reads_fit
   reads_kept q h =
       let rest = right (list_all (is_named db) (vars_of q)) _ h in
       and _ _ (all_kept (is_named db) (is_kept db) (named_kept db none) (vars_of q) (left _ _ h))
       (and _ _
-      (all_kept (λ (g : QAgg). source_fits (kept_or_viewed db) db g.source) (λ (g : QAgg). source_fits (kept db) db g.source) (λ (g : QAgg) k. source_kept g.source k) (query_aggregates q) (left _ _ rest))
+      (all_kept (λ (g : QAgg). source_fits (kept_or_viewed db) db g.source) (λ (g : QAgg). source_fits (kept_alone db) db g.source) (λ (g : QAgg) k. source_kept g.source k) (query_aggregates q) (left _ _ rest))
       (right (sources_fit (kept_or_viewed db) db q) _ rest))
 
   -- the variables of a query that is asked keep rows
@@ -58,6 +58,6 @@ module _ (db : Db) (none : db.views ≡ []) where
   unfolding asked_fits reads_fit
   asked_kept a h = left _ _ (reads_kept a.query (left _ _ h))
 
-  pub update_kept : (u : Update) → update_fits (kept_or_viewed db) db u ≡ true → update_fits (kept db) db u ≡ true
+  pub update_kept : (u : Update) → update_fits (kept_or_viewed db) db u ≡ true → update_fits (kept_alone db) db u ≡ true
   unfolding update_fits
   update_kept u h = and _ _ (reads_kept u.query (left _ _ h)) (right (reads_fit (kept_or_viewed db) db u.query) _ h)

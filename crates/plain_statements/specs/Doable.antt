@@ -9,7 +9,7 @@ use Rattle.calculus.specs.declared.request.Utility.{Utility}
 use Rattle.calculus.specs.declared.request.Utility.TheVariants as utility
 use Rattle.calculus.specs.Database.{Db}
 use Rattle.calculus.specs.QueryParts.{vars_of, query_aggregates}
-use Rattle.quel_meaning.specs.FitQueries.{kept, is_kept}
+use Rattle.quel_meaning.specs.FitQueries.{kept_alone, is_kept}
 use Rattle.quel_meaning.specs.Fit.{update_fits, utility_fits}
 use Rattle.update_laws.specs.Spelled.{key_is_spelled}
 use Rattle.query_tables.specs.Causes.{ArePlain}
@@ -21,7 +21,7 @@ pub record AreDoable (db : Db) (asked : List Asked) : Type 0 where
 
 -- the update fits and ranges over base relations and catalogues alone, and no aggregate stands in it
 pub record IsDoableUpdate (db : Db) (u : Update) : Type 0 where
-  pub fits : update_fits (kept db) db u ≡ true
+  pub fits : update_fits (kept_alone db) db u ≡ true
   pub plain : query_aggregates u.query ≡ []
 
 -- a relation is made, and it fits

@@ -20,7 +20,7 @@ use Rattle.calculus.specs.IsDatabase.{IsDatabase, row_fits, are_stored, relation
 use Rattle.calculus.specs.Change.{laid, names_what_is_there, adds_what_is_new, lists_once, rows_differ, IsLawful}
 use Rattle.quel_meaning.specs.Shelf.{Shelf, fetched}
 use Rattle.quel_meaning.specs.Planned.{owner_causes}
-use Rattle.quel_meaning.specs.Copying.{file_name, refusal, bad_row, keeps_rules, rows_in_file, rows_appended, file_appended, copied_from, most_file_bytes}
+use Rattle.quel_meaning.specs.Copying.{file_of_constant, refusal, bad_row, keeps_rules, rows_in_file, rows_appended, file_appended, copied_from, most_file_bytes}
 use Rattle.plan_laws.specs.Fitting.{is_ranged}
 use Rattle.plan_laws.proofs.Kept.{both, each, all_filter}
 use Rattle.plan_laws.proofs.Planned.{all_absent, base_relation}
@@ -132,9 +132,9 @@ unfolding copied_from
 copy_lawful db shelf user rel columns constant change is there e = go (first_cause (owner_causes db user rel)) refl e
   where
     go : (o : Option ℕ) → first_cause (owner_causes db user rel) ≡ o
-        → (elim o as (λ o. Result DbChange Refusal) [ Some number ↦ Err (refusal number) | None ↦ file_appended db rel columns (fetched shelf (file_name constant)) ]) ≡ Ok change → IsLawful db change
+        → (elim o as (λ o. Result DbChange Refusal) [ Some number ↦ Err (refusal number) | None ↦ file_appended db rel columns (fetched shelf (file_of_constant constant)) ]) ≡ Ok change → IsLawful db change
     go (Some number) f e = cc e
     go None f e =
         let absent = all_absent (owner_causes db user rel) f in
         there_is (relation_at db rel) (base_relation db rel there absent.0 absent.1.0) λ relation found.
-        file_lawful db rel relation columns (fetched shelf (file_name constant)) change is found e
+        file_lawful db rel relation columns (fetched shelf (file_of_constant constant)) change is found e

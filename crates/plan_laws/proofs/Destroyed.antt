@@ -181,10 +181,10 @@ destroyed_lawful db rels is there differ unused = record {
     few_variables = all_filter _ keep_view db.views is.few_variables;
     few_expanded_variables = sym (expansions_hold (Stays rels) db later stay later.views views) ∙ all_filter _ keep_view db.views is.few_expanded_variables;
     small_views = sym (sizes_hold (Stays rels) db later stay later.views views) ∙ all_filter _ keep_view db.views is.small_views;
-    shallow_views = all_filter _ keep_view db.views is.shallow_views;
-    small_rules = all_filter _ (λ p. not (has_key rels p.0)) db.rules is.small_rules;
-    small_permits = all_filter _ (λ p. not (has_key rels p.0)) db.permits is.small_permits;
-    short_permits = all_filter _ (λ p. not (has_key rels p.0)) db.permits is.short_permits;
+    storable_views = all_filter _ keep_view db.views is.storable_views;
+    storable_rules = all_filter _ (λ p. not (has_key rels p.0)) db.rules is.storable_rules;
+    storable_permits = all_filter _ (λ p. not (has_key rels p.0)) db.permits is.storable_permits;
+    storable_lists = all_filter _ (λ p. not (has_key rels p.0)) db.permits is.storable_lists;
     few_rules = all_imply (λ (r : Relation). nat_le (length (rules_on db r.info.key)) most_rules) (λ r. nat_le (length (rules_on later r.info.key)) most_rules)
         (λ r t. fewer (length (rules_on later r.info.key)) (length (rules_on db r.info.key)) most_rules (fewer_rules r.info.key) t) later.relations (all_filter _ keep_relation db.relations is.few_rules);
     few_permits = all_imply (λ (r : Relation). nat_le (length (permits_on db r.info.key)) most_permits) (λ r. nat_le (length (permits_on later r.info.key)) most_permits)

@@ -12,7 +12,7 @@ use Rattle.calculus.specs.Database.{Db, Relation, View, relation_at, view_at, is
 use Rattle.calculus.specs.Catalogue.{relation_key, attribute_key, is_catalogue, catalogue_at, relation_info, attribute_info, relation_row, attribute_rows, all_entries}
 use Rattle.calculus.specs.Stored.{Range, Kept, Viewed, range_at}
 use Rattle.calculus.specs.Replacement.{first_cause}
-use Rattle.quel_meaning.specs.Planned.{plan_causes, plan_change, planned, is_view, is_anothers, is_none_to_permit}
+use Rattle.quel_meaning.specs.Planned.{plan_causes, plan_change, planned, has_view, is_anothers, is_none_to_permit}
 use Rattle.plan_laws.specs.Fitting.{is_ranged}
 
 -- ---- no cause is there
@@ -64,7 +64,7 @@ no_catalogue db key h =
     go false false e f = refl
 
 -- what is there and is no catalogue and no view is a base relation
-pub base_relation : (db : Db) (key : RelKey) → IsTrue (is_ranged db key) → is_catalogue db key ≡ false → is_view db key ≡ false → is_relation db key ≡ true
+pub base_relation : (db : Db) (key : RelKey) → IsTrue (is_ranged db key) → is_catalogue db key ≡ false → has_view db key ≡ false → is_relation db key ≡ true
 unfolding range_at
 base_relation db key there catalogue view = go (relation_at db key) (view_at db key) view (catalogue_at db key) (no_catalogue db key catalogue) there
   where

@@ -7,36 +7,43 @@ use Rattle.calculus.specs.declared.schema.Attr.{Attr}
 use Rattle.calculus.specs.declared.schema.Spec.{Spec}
 use Rattle.calculus.specs.declared.schema.Permit.{Permit}
 use Rattle.calculus.specs.declared.schema.Rule.{Rule}
+use Rattle.calculus.specs.declared.request.Utility.{Utility}
+use Rattle.calculus.specs.declared.request.Utility.TheVariants as utility
 use Rattle.calculus.specs.Keys.{key_of}
 use Rattle.calculus.specs.Lists.{is_any}
-use Rattle.calculus.specs.Limits.{most_listed_attributes, most_entries, most_expanded_variables, most_variables, most_levels, greatest_size}
+use Rattle.calculus.specs.Limits.{most_entries, most_expanded_variables, most_variables, greatest_size}
 use Rattle.calculus.specs.Database.{Db, entries, is_there}
 use Rattle.calculus.specs.Stored.{range_at, attrs_at}
 use Rattle.calculus.specs.QueryParts.{vars_of}
 use Rattle.calculus.specs.Sizes.{level_within, variables, expanded_variables, query_size}
-use Rattle.calculus.specs.TreeLevels.{query_levels}
 use Rattle.quel_meaning.specs.Planned.{view_info}
-use Rattle.calculus.specs.IsDatabase.{user_is_named, permit_attrs_stand, row_qual_stands, row_qual_is_small, keys_stand, key_is_named, attrs_stand, are_stored, vars_are_there, query_stands}
-use Rattle.quel_meaning.specs.Fit.{is_structure}
+use Rattle.calculus.specs.IsDatabase.{user_is_named, permit_attrs_stand, row_qual_stands, keys_stand, key_is_named, attrs_stand, are_stored, vars_are_there, query_stands}
+use Rattle.calculus.specs.Storable.{row_qual_is_storable, permit_lists_are_storable, query_is_storable}
+use Rattle.calculus.specs.Structures.{is_structure}
 
 -- a relation, a view or a catalogue stands under the key
 abbrev pub is_ranged : Db → RelKey → Bool
 is_ranged db key = is_some (range_at db key)
 
--- a permit on what is there: its user has a name, its attributes are there, and its qualification fits and is small
+-- the utility copies rows between a relation and a file, for which there is no plan
+abbrev pub is_copy : Utility → Bool
+is_copy (utility.Copy rel columns from file) = true
+is_copy work = false
+
+-- a permit on what is there: its user has a name, its attributes are there, its qualification fits, and what it lists and its qualification can be stored
 pub record IsFitPermit (db : Db) (rel : RelKey) (permit : Permit) : Type 0 where
   pub there : IsTrue (is_ranged db rel)
   pub user : IsTrue (user_is_named permit.user)
   pub attrs : IsTrue (permit_attrs_stand db rel permit.attrs)
-  pub few_attrs : IsTrue (nat_le (length permit.attrs) most_listed_attributes)
+  pub lists : IsTrue (permit_lists_are_storable permit)
   pub qual : IsTrue (row_qual_stands db rel permit.qual)
-  pub small : IsTrue (row_qual_is_small permit.qual)
+  pub storable : IsTrue (row_qual_is_storable permit.qual)
 
--- a rule on what is there: its qualification fits and is small
+-- a rule on what is there: its qualification fits and can be stored
 pub record IsFitRule (db : Db) (rel : RelKey) (rule : Rule) : Type 0 where
   pub there : IsTrue (is_ranged db rel)
   pub qual : IsTrue (row_qual_stands db rel rule.qual)
-  pub small : IsTrue (row_qual_is_small rule.qual)
+  pub storable : IsTrue (row_qual_is_storable rule.qual)
 
 -- a structure for what is there: its keys are places of attributes, all different, and not too many
 pub record IsFitStructure (db : Db) (rel : RelKey) (to : Spec) (keys : List ℕ) : Type 0 where
@@ -61,7 +68,7 @@ pub record IsFitRelation (db : Db) (rel : RelKey) (attrs : List Attr) : Type 0 w
   pub domains : IsTrue (are_stored attrs)
   pub room : IsTrue (nat_lt (length (entries db)) most_entries)
 
--- a view that may be made: its key is named, is no catalogue's and is not in use, there is room for one more entry, its attributes stand, what it names is there and below the greatest level, its kinds fit, and it is within the limits
+-- a view that may be made: its key is named, is no catalogue's and is not in use, there is room for one more entry, its attributes stand, what it names is there and below the greatest level, its kinds fit, and it is within the limits and can be stored
 pub record IsFitView (db : Db) (rel : RelKey) (q : Query) : Type 0 where
   pub named : IsTrue (key_is_named rel)
   pub unused : is_there db rel ≡ false
@@ -74,4 +81,4 @@ pub record IsFitView (db : Db) (rel : RelKey) (q : Query) : Type 0 where
   pub few : IsTrue (nat_le (variables q) most_variables)
   pub few_expanded : IsTrue (nat_le (expanded_variables db q) most_expanded_variables)
   pub small : IsTrue (nat_le (query_size db q) greatest_size)
-  pub shallow : IsTrue (nat_le (query_levels q) most_levels)
+  pub storable : IsTrue (query_is_storable q)

@@ -1,5 +1,6 @@
 -- Settings that agree give equal sessions, and nothing happens behind the end.
 use Rattle.std.proofs.Common.{◌≡◌, refl, ap, ℕ, Bool, true, false, List, [], ◌∷◌}
+use Rattle.calculus.specs.Who.{Asker}
 use Rattle.quel_grammar.specs.Next.{Reading}
 use Rattle.quel_meaning.specs.State.{State, Built}
 use Rattle.quel_meaning.specs.Monitor.{Part, parts_of}
@@ -21,10 +22,10 @@ same_sessions s t agree state script = ap (λ (x : Setting). session_of x state 
 
 -- readings that are equal everywhere give the same session
 pub same_reading : (r q : Reading) → ((text : List ℕ) (from : ℕ) → r text from ≡ q text from)
-    → (built : Built) (user : List ℕ) (state : State) (script : List ℕ) → session r built user state script ≡ session q built user state script
+    → (built : Built) (asker : Asker) (state : State) (script : List ℕ) → session r built asker state script ≡ session q built asker state script
 unfolding session
-same_reading r q same built user state script =
-    same_sessions (setting_of r built user) (setting_of q built user) (record { reading = same; meaning = λ s u. refl; is_built = λ c. refl }) state script
+same_reading r q same built asker state script =
+    same_sessions (setting_of r built asker) (setting_of q built asker) (record { reading = same; meaning = λ s u. refl; is_built = λ c. refl }) state script
 
 -- where steps do nothing, nothing happens
 still : {X : Type 0} (step : Kept → X → After) (kept : Kept) → ((x : X) → step kept x ≡ quiet kept) → (xs : List X) → over step kept xs ≡ quiet kept

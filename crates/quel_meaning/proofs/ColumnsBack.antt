@@ -19,7 +19,7 @@ use Rattle.calculus.specs.Kinds.{is_text_kind}
 use Rattle.calculus.specs.Lists.{has_number}
 use Rattle.calculus.specs.IsDatabase.{value_fits}
 use Rattle.quel_meaning.specs.CopiedBack.{is_copy_form}
-use Rattle.quel_meaning.specs.Columns.{number_bytes, number_of_bytes, has_bytes, cut_behind, cut_at, piece_of, printed_value, piece_value, fitting, column_value, printed, filled, column_bytes}
+use Rattle.quel_meaning.specs.Columns.{number_bytes, number_of_bytes, has_bytes, cut_behind, cut_at, piece_of, printed_value, piece_value, fitting, column_value, value_text, filled, column_bytes}
 use Rattle.quel_meaning.proofs.Fields.{both, cut_behind_front, cut_at_front, Is64, number_printed, bytes_1, bytes_2, bytes_4, append-nil, text_printed}
 
 -- ---- one value
@@ -50,7 +50,7 @@ printed_back (Text s) (Of I2) n t = cc
 printed_back (Text s) (Of I4) n t = cc
 printed_back (Text s) (Of (C w)) n t = ap (option_map Text) (text_printed s n (both (fits (Text s) (C w)) (is_text s) t).1)
 
-plain_back : (v : Value) (k : Kind) → IsTrue (value_fits v k) → printed_value (Some k) (printed v) ≡ Some v
+plain_back : (v : Value) (k : Kind) → IsTrue (value_fits v k) → printed_value (Some k) (value_text v) ≡ Some v
 plain_back (Int z) k t = printed_back (Int z) k 0 t
 plain_back (Text s) k t = ap (printed_value (Some k)) (sym (append-nil s)) ∙ printed_back (Text s) k 0 t
 
@@ -97,7 +97,7 @@ binary_back n z form = binary (λ n. IsTrue (has_bytes n z) → number_of_bytes 
 length-number : (n : ℕ) (z : ℤ) → length (number_bytes n z) ≡ n
 length-number n z = length-bytes_low_first 0 n _
 
-length-filled : (n : ℕ) (v : Value) → length (printed v) ≤ n → length (filled n v) ≡ n
+length-filled : (n : ℕ) (v : Value) → length (value_text v) ≤ n → length (filled n v) ≡ n
 length-filled n (Int z) le = omega (arith, length-append (replicate (n - length (signed_decimal z)) 32) (signed_decimal z), length-replicate (n - length (signed_decimal z)))
 length-filled n (Text s) le = omega (arith, length-append s (replicate (n - length s) 32), length-replicate (n - length s))
 
@@ -105,7 +105,7 @@ length-filled n (Text s) le = omega (arith, length-append s (replicate (n - leng
 cut_front : (n : ℕ) (front more : List ℕ) → length front ≡ n → cut_behind n (front ++ more) ≡ Some (front, more)
 cut_front n front more e = subst (λ m. cut_behind m (front ++ more) ≡ Some (front, more)) e (cut_behind_front front more)
 
-filled_is_padded : (n : ℕ) (v : Value) → filled n v ≡ padded (n - length (printed v)) v
+filled_is_padded : (n : ℕ) (v : Value) → filled n v ≡ padded (n - length (value_text v)) v
 filled_is_padded n (Int z) = refl
 filled_is_padded n (Text s) = refl
 
@@ -119,17 +119,17 @@ column_back last (Bin n) k (Int z) bytes more form t e =
     let value : piece_value (Bin n) (Some k) bytes ≡ Some (Int z) = ap (λ bytes. Some (Int (number_of_bytes n bytes))) (sym known.1) ∙ ap (λ z. Some (Int z)) (binary_back n z form known.0) in
     read_as last (Bin n) k (Int z) (bytes ++ more) bytes more cut value (fits_back (Int z) k t)
 column_back last (Fixed n) k v bytes more form t e =
-    let known = some_unless (nat_lt n (length (printed v))) (filled n v) bytes e in
-    let short : length (printed v) ≤ n = grind (arith, nat_tests, known.0) in
+    let known = some_unless (nat_lt n (length (value_text v))) (filled n v) bytes e in
+    let short : length (value_text v) ≤ n = grind (arith, nat_tests, known.0) in
     let cut : cut_behind n (bytes ++ more) ≡ Some (bytes, more) = cut_front n bytes more (ap length (sym known.1) ∙ length-filled n v short) in
-    let value : printed_value (Some k) bytes ≡ Some v = ap (printed_value (Some k)) (sym known.1 ∙ filled_is_padded n v) ∙ printed_back v k (n - length (printed v)) t in
+    let value : printed_value (Some k) bytes ≡ Some v = ap (printed_value (Some k)) (sym known.1 ∙ filled_is_padded n v) ∙ printed_back v k (n - length (value_text v)) t in
     read_as last (Fixed n) k v (bytes ++ more) bytes more cut value (fits_back v k t)
 column_back last (Until stop) k v bytes more form t e =
-    let known = some_unless (has_number (printed v) stop) (printed v ++ stop ∷ []) bytes e in
-    let whole : bytes ++ more ≡ printed v ++ stop ∷ more = ap (λ bytes. bytes ++ more) (sym known.1) ∙ append_assoc (printed v) (stop ∷ []) more in
-    let cut : cut_at stop (bytes ++ more) ≡ Some (printed v, more) = ap (cut_at stop) whole ∙ cut_at_front stop (printed v) more known.0 in
-    let piece : piece_of last (Until stop) (bytes ++ more) ≡ Some (printed v, more) = rw (cut, piece_of) refl in
-    read_as last (Until stop) k v (bytes ++ more) (printed v) more piece (plain_back v k t) (fits_back v k t)
+    let known = some_unless (has_number (value_text v) stop) (value_text v ++ stop ∷ []) bytes e in
+    let whole : bytes ++ more ≡ value_text v ++ stop ∷ more = ap (λ bytes. bytes ++ more) (sym known.1) ∙ append_assoc (value_text v) (stop ∷ []) more in
+    let cut : cut_at stop (bytes ++ more) ≡ Some (value_text v, more) = ap (cut_at stop) whole ∙ cut_at_front stop (value_text v) more known.0 in
+    let piece : piece_of last (Until stop) (bytes ++ more) ≡ Some (value_text v, more) = rw (cut, piece_of) refl in
+    read_as last (Until stop) k v (bytes ++ more) (value_text v) more piece (plain_back v k t) (fits_back v k t)
 
 -- it has a byte
 pub column_some : (form : CopyForm) (v : Value) (bytes : List ℕ) → IsTrue (is_copy_form form) → column_bytes form v ≡ Some bytes → 0 < length bytes
@@ -140,13 +140,13 @@ column_some (Bin n) (Int z) bytes form e =
     let some : 0 < n = binary (λ n. 0 < n) n form (omega arith) (omega arith) (omega arith) in
     omega (arith, long, some)
 column_some (Fixed n) v bytes form e =
-    let known = some_unless (nat_lt n (length (printed v))) (filled n v) bytes e in
-    let short : length (printed v) ≤ n = grind (arith, nat_tests, known.0) in
+    let known = some_unless (nat_lt n (length (value_text v))) (filled n v) bytes e in
+    let short : length (value_text v) ≤ n = grind (arith, nat_tests, known.0) in
     let long : length bytes ≡ n = ap length (sym known.1) ∙ length-filled n v short in
     let bound = both (nat_le 1 n) (nat_le n 255) form in
     let some : 1 ≤ n = grind (arith, nat_tests, bound.0) in
     omega (arith, long, some)
 column_some (Until stop) v bytes form e =
-    let known = some_unless (has_number (printed v) stop) (printed v ++ stop ∷ []) bytes e in
-    let long : length bytes ≡ length (printed v ++ stop ∷ []) = ap length (sym known.1) in
-    omega (arith, long, length-append (printed v) (stop ∷ []))
+    let known = some_unless (has_number (value_text v) stop) (value_text v ++ stop ∷ []) bytes e in
+    let long : length bytes ≡ length (value_text v ++ stop ∷ []) = ap length (sym known.1) in
+    omega (arith, long, length-append (value_text v) (stop ∷ []))

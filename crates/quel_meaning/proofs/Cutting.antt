@@ -4,7 +4,7 @@ use Rattle.std.proofs.Math.Seq.{take-append_seam, drop-append_seam}
 use Rattle.std.proofs.lemmas.Bool.{eqb-true}
 use Rattle.std.specs.Prelude.{◌==◌, ◌&&◌, if◌then◌else◌, not}
 use Rattle.std.specs.List.{list_all}
-use Rattle.quel_meaning.specs.Monitor.{Command, Part, Piece, Order, Quoting, Plain, quoting_after, begins_command, has_no_command, quoting_behind, is_letter, onto_piece, before_parts, without_front, order_before, word_length, command_at, parts_at, parts_from, parts_of, command_of, names_file}
+use Rattle.quel_meaning.specs.Monitor.{Command, Part, Piece, Order, Quoting, Plain, quoting_after, begins_command, has_no_command, quoting_behind, is_command_letter, onto_piece, before_parts, without_front, order_before, word_length, command_at, parts_at, parts_from, parts_of, command_of, names_file}
 
 both : (a b : Bool) → (a && b) ≡ true → (a ≡ true) × (b ≡ true)
 both true b e = (refl, e)
@@ -46,17 +46,17 @@ only_text line e = ap parts_of (sym (append-nil line)) ∙ passed Plain line [] 
 
 -- ---- letters
 
-letter_is_no : (n b : ℕ) → is_letter n ≡ false → is_letter b ≡ true → (b == n) ≡ false
+letter_is_no : (n b : ℕ) → is_command_letter n ≡ false → is_command_letter b ≡ true → (b == n) ≡ false
 letter_is_no n b other it = by_case (b == n) refl
   where
     by_case : (t : Bool) → (b == n) ≡ t → t ≡ false
     by_case false e = refl
-    by_case true e = absurd (cc (sym it ∙ ap is_letter (eqb-true b n e) ∙ other))
+    by_case true e = absurd (cc (sym it ∙ ap is_command_letter (eqb-true b n e) ∙ other))
 
-letters_pass : (word : List ℕ) → list_all is_letter word ≡ true → (has_no_command Plain word ≡ true) × (quoting_behind Plain word ≡ Plain)
+letters_pass : (word : List ℕ) → list_all is_command_letter word ≡ true → (has_no_command Plain word ≡ true) × (quoting_behind Plain word ≡ Plain)
 letters_pass [] e = (refl, refl)
 letters_pass (b ∷ bs) e =
-    let parts = both (is_letter b) (list_all is_letter bs) e in
+    let parts = both (is_command_letter b) (list_all is_command_letter bs) e in
     let later = letters_pass bs parts.1 in
     rw (letter_is_no 92 b refl parts.0, letter_is_no 34 b refl parts.0) later
 
@@ -106,13 +106,13 @@ without_word (b ∷ bs) parts e = without_one (length bs) b (fronted bs parts) �
 
 -- ---- the first command
 
-word_counted : (word behind : List ℕ) → list_all is_letter word ≡ true → word_length behind ≡ 0 → word_length (word ++ behind) ≡ length word
+word_counted : (word behind : List ℕ) → list_all is_command_letter word ≡ true → word_length behind ≡ 0 → word_length (word ++ behind) ≡ length word
 word_counted [] behind e none = none
 word_counted (b ∷ bs) behind e none =
-    let parts = both (is_letter b) (list_all is_letter bs) e in
+    let parts = both (is_command_letter b) (list_all is_command_letter bs) e in
     rw (parts.0, word_counted bs behind parts.1 none) (omega arith)
 
-at_word : (word behind : List ℕ) → list_all is_letter word ≡ true → word_length behind ≡ 0
+at_word : (word behind : List ℕ) → list_all is_command_letter word ≡ true → word_length behind ≡ 0
     → command_at (word ++ behind) (parts_of (word ++ behind)) ≡ order_before (command_of word behind) (parts_of behind)
 at_word word behind e none =
     let pass = letters_pass word e in
@@ -121,7 +121,7 @@ at_word word behind e none =
     rw (counted, cut, take-append_seam word behind, drop-append_seam word behind, without_word word (parts_of behind) (neat Plain behind)) refl
 
 -- a line is cut at its first command: the bytes before it, the command, and the parts of what is behind its word
-pub first_command : (piece word behind : List ℕ) → has_no_command Plain piece ≡ true → quoting_behind Plain piece ≡ Plain → list_all is_letter word ≡ true → word_length behind ≡ 0
+pub first_command : (piece word behind : List ℕ) → has_no_command Plain piece ≡ true → quoting_behind Plain piece ≡ Plain → list_all is_command_letter word ≡ true → word_length behind ≡ 0
     → parts_of (piece ++ 92 ∷ (word ++ behind)) ≡ before_parts piece (order_before (command_of word behind) (parts_of behind))
 unfolding parts_from
 first_command piece word behind free closed letters none =

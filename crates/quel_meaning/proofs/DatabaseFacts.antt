@@ -36,63 +36,81 @@ attribute_attrs_stand : attrs_stand attribute_attrs ≡ true
 unfolding is_name
 attribute_attrs_stand = refl
 
-catalogue_stands : (db : Db) (key : RelKey) (r : Relation) → catalogue_at db key ≡ Some r → attrs_stand r.info.attrs ≡ true
+catalogue_passes : (test : RelInfo → Bool) (db : Db) → test (relation_info db) ≡ true → test (attribute_info db) ≡ true
+    → (key : RelKey) (r : Relation) → catalogue_at db key ≡ Some r → test r.info ≡ true
 unfolding catalogue_at
-catalogue_stands db key r h = first (same_key key (relation_key db)) h
+catalogue_passes test db c d key r h = first (same_key key (relation_key db)) h
   where
     second : (b : Bool)
         → ◌≡◌ {A = Option Relation} (elim b [ true ↦ Some (record { info = attribute_info db; rows = set_of (flat_map attribute_rows (all_entries db)) }) | false ↦ None ]) (Some r)
-        → attrs_stand r.info.attrs ≡ true
+        → test r.info ≡ true
     second true k =
         let same : record { info = attribute_info db; rows = set_of (flat_map attribute_rows (all_entries db)) } ≡ r = cc k in
-        subst (λ (x : Relation). attrs_stand x.info.attrs ≡ true) same attribute_attrs_stand
+        subst (λ (x : Relation). test x.info ≡ true) same d
     second false k = absurd (cc k)
 
     first : (b : Bool)
         → ◌≡◌ {A = Option Relation} (elim b [
           | true ↦ Some (record { info = relation_info db; rows = set_of (map relation_row (all_entries db)) })
           | false ↦ elim (same_key key (attribute_key db)) [ true ↦ Some (record { info = attribute_info db; rows = set_of (flat_map attribute_rows (all_entries db)) }) | false ↦ None ]
-        ]) (Some r) → attrs_stand r.info.attrs ≡ true
+        ]) (Some r) → test r.info ≡ true
     first true k =
         let same : record { info = relation_info db; rows = set_of (map relation_row (all_entries db)) } ≡ r = cc k in
-        subst (λ (x : Relation). attrs_stand x.info.attrs ≡ true) same relation_attrs_stand
+        subst (λ (x : Relation). test x.info ≡ true) same c
     first false k = second (same_key key (attribute_key db)) k
 
-range_stands : (db : Db) → IsDatabase db → (key : RelKey) (r : Range) → range_at db key ≡ Some r → attrs_stand (range_info r).attrs ≡ true
+-- what each relation, each view and the catalogues pass
+pub record AllPass (test : RelInfo → Bool) (db : Db) : Type 0 where
+  pub relations : list_all (λ (r : Relation). test r.info) db.relations ≡ true
+  pub views : list_all (λ (v : View). test v.info) db.views ≡ true
+  pub names : test (relation_info db) ≡ true
+  pub attributes : test (attribute_info db) ≡ true
+
+range_passes : (test : RelInfo → Bool) (db : Db) → AllPass test db → (key : RelKey) (r : Range) → range_at db key ≡ Some r → test (range_info r) ≡ true
 unfolding range_at
-range_stands db is key r h = at_relation (relation_at db key) refl h
+range_passes test db all key r h = at_relation (relation_at db key) refl h
   where
-    at_catalogue : (c : Option Relation) → catalogue_at db key ≡ c → option_map Kept c ≡ Some r → attrs_stand (range_info r).attrs ≡ true
+    at_catalogue : (c : Option Relation) → catalogue_at db key ≡ c → option_map Kept c ≡ Some r → test (range_info r) ≡ true
     at_catalogue None e k = absurd (cc k)
-    at_catalogue (Some relation) e k = let same : Kept relation ≡ r = cc k in subst (λ x. attrs_stand (range_info x).attrs ≡ true) same (catalogue_stands db key relation e)
+    at_catalogue (Some relation) e k =
+        let same : Kept relation ≡ r = cc k in subst (λ x. test (range_info x) ≡ true) same (catalogue_passes test db all.names all.attributes key relation e)
 
     at_view : (v : Option View) → view_at db key ≡ v → ◌≡◌ {A = Option Range} (elim v [ Some view ↦ Some (Viewed view) | None ↦ option_map Kept (catalogue_at db key) ]) (Some r)
-        → attrs_stand (range_info r).attrs ≡ true
+        → test (range_info r) ≡ true
     at_view None e k = at_catalogue (catalogue_at db key) refl k
     at_view (Some view) e k =
         let same : Viewed view ≡ r = cc k in
-        subst (λ x. attrs_stand (range_info x).attrs ≡ true) same
-        (found_passes (λ (v : View). same_key v.info.key key) (λ (v : View). attrs_stand v.info.attrs) db.views view is.view_attrs_stand e)
+        subst (λ x. test (range_info x) ≡ true) same
+        (found_passes (λ (v : View). same_key v.info.key key) (λ (v : View). test v.info) db.views view all.views e)
 
     at_relation : (o : Option Relation) → relation_at db key ≡ o
         → ◌≡◌ {A = Option Range} (elim o [
           | Some relation ↦ Some (Kept relation)
           | None ↦ elim (view_at db key) [ Some view ↦ Some (Viewed view) | None ↦ option_map Kept (catalogue_at db key) ]
-        ]) (Some r) → attrs_stand (range_info r).attrs ≡ true
+        ]) (Some r) → test (range_info r) ≡ true
     at_relation None e k = at_view (view_at db key) refl k
     at_relation (Some relation) e k =
         let same : Kept relation ≡ r = cc k in
-        subst (λ x. attrs_stand (range_info x).attrs ≡ true) same
-        (found_passes (λ (r : Relation). same_key r.info.key key) (λ (r : Relation). attrs_stand r.info.attrs) db.relations relation is.relation_attrs_stand e)
+        subst (λ x. test (range_info x) ≡ true) same
+        (found_passes (λ (r : Relation). same_key r.info.key key) (λ (r : Relation). test r.info) db.relations relation all.relations e)
+
+-- what is found in a database passes what all there pass
+pub info_passes : (test : RelInfo → Bool) (db : Db) → AllPass test db → (key : RelKey) (info : RelInfo) → info_at db key ≡ Some info → test info ≡ true
+unfolding info_at
+info_passes test db all key info h = go (range_at db key) refl h
+  where
+    go : (o : Option Range) → range_at db key ≡ o → option_map range_info o ≡ Some info → test info ≡ true
+    go None e k = absurd (cc k)
+    go (Some r) e k = let same : range_info r ≡ info = cc k in subst (λ (i : RelInfo). test i ≡ true) same (range_passes test db all key r e)
 
 -- what is found in a database has attributes as a relation or a view has
 pub info_stands : (db : Db) → IsDatabase db → (key : RelKey) (info : RelInfo) → info_at db key ≡ Some info → attrs_stand info.attrs ≡ true
-unfolding info_at
-info_stands db is key info h = go (range_at db key) refl h
-  where
-    go : (o : Option Range) → range_at db key ≡ o → option_map range_info o ≡ Some info → attrs_stand info.attrs ≡ true
-    go None e k = absurd (cc k)
-    go (Some r) e k = let same : range_info r ≡ info = cc k in subst (λ (i : RelInfo). attrs_stand i.attrs ≡ true) same (range_stands db is key r e)
+info_stands db is = info_passes (λ (i : RelInfo). attrs_stand i.attrs) db (record {
+  relations = is.relation_attrs_stand;
+  views = is.view_attrs_stand;
+  names = relation_attrs_stand;
+  attributes = attribute_attrs_stand;
+})
 
 -- ---- base relations
 

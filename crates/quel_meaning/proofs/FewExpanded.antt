@@ -13,7 +13,7 @@ use Rattle.calculus.specs.Keys.{same_key}
 use Rattle.calculus.specs.Limits.{greatest_level, most_expanded_variables}
 use Rattle.calculus.specs.Lists.{is_any}
 use Rattle.calculus.specs.QueryParts.{vars_of}
-use Rattle.calculus.specs.Sizes.{greater_level, greatest_of, level_above, range_level, level_within, level_of, Known, query_measure, range_measure, measure_within, measure_of, expanded_variables}
+use Rattle.calculus.specs.Sizes.{greater_level, greatest_of, level_above, range_level, level_within, level_of, Known, plain_measure, query_measure, range_measure, measure_within, measure_of, expanded_variables}
 use Rattle.calculus.specs.Stored.{Range, Kept, Viewed, range_at}
 use Rattle.calculus.specs.Used.{used_in_query, used_vars}
 use Rattle.quel_meaning.proofs.Each.{Each, of_map, in_filter, each_to}
@@ -60,7 +60,8 @@ same_counts known other q h =
 enough : (n : ℕ) (db : Db) (key : RelKey) → is_some (level_within n db key) ≡ true → (measure_within n db key).variables ≡ (measure_within (suc n) db key).variables
 enough zero db key h = go (range_at db key) h
   where
-    go : (r : Option Range) → is_some (range_level (λ view. None) r) ≡ true → 1 ≡ (range_measure (λ view. query_measure (measure_within zero db) view.query) r).variables
+    go : (r : Option Range) → is_some (range_level (λ view. None) r) ≡ true
+        → (range_measure (λ view. plain_measure) r).variables ≡ (range_measure (λ view. query_measure (measure_within zero db) view.query) r).variables
     go None h = absurd (cc h)
     go (Some (Kept relation)) h = refl
     go (Some (Viewed view)) h = absurd (cc h)

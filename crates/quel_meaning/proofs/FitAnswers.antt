@@ -12,15 +12,15 @@ use Rattle.quel_meaning.specs.Aggregates.{aggregates_stand}
 use Rattle.quel_meaning.specs.WrittenQuery.{query_of}
 use Rattle.quel_meaning.specs.Causes.{causes, print_causes}
 use Rattle.quel_meaning.specs.Resolved.{tree_of}
-use Rattle.quel_meaning.specs.FitQueries.{asked_fits}
-use Rattle.quel_meaning.specs.Fit.{fits, is_fit_with_views}
+use Rattle.quel_meaning.specs.FitQueries.{kept_or_viewed, asked_fits}
+use Rattle.quel_meaning.specs.Fit.{suits}
 use Rattle.quel_meaning.proofs.Each.{and, not_not}
 use Rattle.quel_meaning.proofs.Few.{expanded_few}
 use Rattle.quel_meaning.proofs.ReadsFit.{none_of, reads, narrow_targets, sorts}
 
 pub retrieve_fits : (s : Scope) (items : List Item) (qual : Qual) (sort : List (List ℕ × Bool)) → name_refusal s (statement.Retrieve None items qual sort) ≡ None
-    → first_cause (causes s (statement.Retrieve None items qual sort)) ≡ None → is_fit_with_views s.db s.user (tree_of s (statement.Retrieve None items qual sort)) ≡ true
-unfolding causes tree_of fits asked_fits aggregates_stand
+    → first_cause (causes s (statement.Retrieve None items qual sort)) ≡ None → suits (kept_or_viewed s.db) s.db s.user (tree_of s (statement.Retrieve None items qual sort)) ≡ true
+unfolding causes tree_of suits asked_fits aggregates_stand
 retrieve_fits s items qual sort h k =
     let none = none_of (print_causes s (aggregates_stand s stmt) sort q) k in
     let few = none.1.0 in

@@ -31,7 +31,8 @@ use Rattle.quel_meaning.specs.WrittenQuery.{query_of}
 use Rattle.quel_meaning.specs.Passing.{is_full, is_too_wide, is_taken}
 use Rattle.quel_meaning.specs.Causes.{repeats, is_binary, is_binary_text, row_causes, causes}
 use Rattle.quel_meaning.specs.Resolved.{stored_attr, copy_col, tree_of}
-use Rattle.quel_meaning.specs.Fit.{utility_fits, fits, is_fit_with_views}
+use Rattle.quel_meaning.specs.FitQueries.{kept_or_viewed}
+use Rattle.quel_meaning.specs.Fit.{utility_fits, suits}
 use Rattle.quel_meaning.specs.IsWritten.{is_written}
 use Rattle.quel_meaning.proofs.Each.{Each, front_of, of_map, in_map, each_to, passed, each_passes, left, right, and, not_left, not_right, not_not, not_so}
 use Rattle.quel_meaning.proofs.Found.{names_found, ranged_with, ranged_is, ranged_again, ranged_named}
@@ -63,15 +64,15 @@ no_binary_text s info (c ∷ columns) h = and _ _ (not_so _ (not_left _ _ h)) (n
 
 pub copy_fits : (s : Scope) (rel : List ℕ) (columns : List (List ℕ × CopyForm)) (from : Bool) (file : List ℕ) → is_written (statement.Copy rel columns from file) ≡ true
     → name_refusal s (statement.Copy rel columns from file) ≡ None → first_cause (causes s (statement.Copy rel columns from file)) ≡ None
-    → is_fit_with_views s.db s.user (tree_of s (statement.Copy rel columns from file)) ≡ true
-unfolding causes tree_of fits utility_fits mentions is_written
+    → suits (kept_or_viewed s.db) s.db s.user (tree_of s (statement.Copy rel columns from file)) ≡ true
+unfolding causes tree_of suits utility_fits mentions is_written
 copy_fits s rel columns from file w h k =
     let found = names_found s (statement.Copy rel columns from file) h in
     let r = by_name s rel found.0 in
     let none = none_of ((17, repeats (map (λ (c : List ℕ × CopyForm). c.0) columns)) ∷ (13, list_any (is_binary_text s (named s rel)) columns) ∷ []) k in
     let there = attrs_there s rel r (map (λ (c : List ℕ × CopyForm). c.0) columns) (in_map _ (AttrIn rel) _ (in_map _ (λ (c : List ℕ × CopyForm). c.0) columns (of_map _ (λ (c : List ℕ × CopyForm). AttrIn rel c.0) columns found.1))) in
     and _ _ (named_is s rel r)
-    (and _ _ (some_column (named s rel) columns w)
+    (and _ _ (some_column (named s rel) columns (left _ _ w))
     (and _ _
     (subst (λ o. list_all (λ (c : CopyCol). nat_lt c.attr (length (attrs_at s.db (key_found o)))) (map (copy_col o) columns) ≡ true) (sym r.is)
     (subst (λ attrs. list_all (λ (c : CopyCol). nat_lt c.attr (length attrs)) (map (copy_col (Some r.info)) columns) ≡ true) (sym (its_attrs s rel r))
@@ -85,8 +86,8 @@ copy_fits s rel columns from file w h k =
 
 pub permit_fits : (s : Scope) (ops : ℕ) (var : List ℕ) (attrs : List (List ℕ)) (user : Option (List ℕ)) (qual : Qual)
     → name_refusal s (statement.Permit ops var attrs user qual) ≡ None → first_cause (causes s (statement.Permit ops var attrs user qual)) ≡ None
-    → is_fit_with_views s.db s.user (tree_of s (statement.Permit ops var attrs user qual)) ≡ true
-unfolding causes tree_of fits utility_fits mentions aggregates_stand
+    → suits (kept_or_viewed s.db) s.db s.user (tree_of s (statement.Permit ops var attrs user qual)) ≡ true
+unfolding causes tree_of suits utility_fits mentions aggregates_stand
 permit_fits s ops var attrs user qual h k =
     let stmt : Statement = statement.Permit ops var attrs user qual in
     let found = names_found s stmt h in
@@ -104,8 +105,8 @@ permit_fits s ops var attrs user qual h k =
     (le-leb _ _ (omega (arith, ltb-false most_listed_attributes (length attrs) short, length-map attrs (place_found (ranged s var))))))
 
 pub rule_fits : (s : Scope) (var : List ℕ) (qual : Qual) → name_refusal s (statement.Rule var qual) ≡ None → first_cause (causes s (statement.Rule var qual)) ≡ None
-    → is_fit_with_views s.db s.user (tree_of s (statement.Rule var qual)) ≡ true
-unfolding causes tree_of fits utility_fits mentions aggregates_stand
+    → suits (kept_or_viewed s.db) s.db s.user (tree_of s (statement.Rule var qual)) ≡ true
+unfolding causes tree_of suits utility_fits mentions aggregates_stand
 rule_fits s var qual h k =
     let stmt : Statement = statement.Rule var qual in
     let r = (ranged_with s no_refusal var (names_found s stmt h).0).is in
@@ -143,12 +144,13 @@ made_stand {X} attr xs any named differ kinds narrow =
 
 pub create_fits : (s : Scope) (rel : List ℕ) (attrs : List (List ℕ × Domain)) → is_written (statement.Create rel attrs) ≡ true
     → first_cause (causes s (statement.Create rel attrs)) ≡ None
-    → is_fit_with_views s.db s.user (tree_of s (statement.Create rel attrs)) ≡ true
-unfolding causes tree_of fits utility_fits is_written
+    → suits (kept_or_viewed s.db) s.db s.user (tree_of s (statement.Create rel attrs)) ≡ true
+unfolding causes tree_of suits utility_fits is_written
 create_fits s rel attrs w k =
     let none = none_of ((14, is_full s.db) ∷ (17, repeats (map (λ (a : List ℕ × Domain). a.0) attrs)) ∷ (16, is_too_wide (map (λ (a : List ℕ × Domain). Of a.1) attrs)) ∷ (15, is_taken s.db s.user rel) ∷ []) k in
-    let written = each_passes (λ (a : List ℕ × Domain). is_name a.0 && is_domain a.1) attrs (right _ _ w) in
+    let listed = right (is_name rel) _ w in
+    let written = each_passes (λ (a : List ℕ × Domain). is_name a.0 && is_domain a.1) attrs (right _ _ listed) in
     and _ _ (and _ _ (not_so _ none.1.1.1.0) (not_so _ none.0))
     (and _ _
-    (made_stand stored_attr attrs (left _ _ w) (each_to _ _ (λ (a : List ℕ × Domain) e. left _ _ e) attrs written) (not_not _ none.1.0) (each_to _ _ (λ (a : List ℕ × Domain) e. right (is_name a.0) _ e) attrs written) none.1.1.0)
+    (made_stand stored_attr attrs (left _ _ listed) (each_to _ _ (λ (a : List ℕ × Domain) e. left _ _ e) attrs written) (not_not _ none.1.0) (each_to _ _ (λ (a : List ℕ × Domain) e. right (is_name a.0) _ e) attrs written) none.1.1.0)
     (passed (λ (a : Attr). is_stored_kind a.kind) _ (in_map _ stored_attr attrs (each_to _ _ (λ (a : List ℕ × Domain) e. right (is_name a.0) _ e) attrs written))))

@@ -20,6 +20,7 @@ use Rattle.calculus.specs.Database.{Db}
 use Rattle.calculus.specs.IsDatabase.{IsDatabase, attrs_stand, are_stored, is_kind, is_stored_kind, has_kind, var_kinds, query_stands}
 use Rattle.calculus.specs.Kinds.{comparable, kinds_fit, kind_of}
 use Rattle.calculus.specs.Lists.{is_any, differ_by}
+use Rattle.calculus.specs.Name.{is_name}
 use Rattle.calculus.specs.QueryParts.{vars_of, targets_of, qual_of, term_aggregates, qual_aggregates, query_aggregates}
 use Rattle.calculus.specs.Replacement.{first_cause, made_attr}
 use Rattle.calculus.specs.Stored.{Range, range_at, range_info, info_at}
@@ -34,9 +35,9 @@ use Rattle.quel_meaning.specs.Passing.{has_too_many, is_full, is_too_large}
 use Rattle.quel_meaning.specs.StatementUpdate.{into_of}
 use Rattle.quel_meaning.specs.Causes.{into_causes, view_causes, causes}
 use Rattle.quel_meaning.specs.Resolved.{tree_of}
-use Rattle.quel_meaning.specs.FitQueries.{is_named}
-use Rattle.quel_meaning.specs.Fit.{view_fits, update_fits, utility_fits, fits, is_fit_with_views}
-use Rattle.quel_meaning.specs.IsWritten.{is_written}
+use Rattle.quel_meaning.specs.FitQueries.{kept_or_viewed, is_named}
+use Rattle.quel_meaning.specs.Fit.{view_fits, update_fits, utility_fits, suits}
+use Rattle.quel_meaning.specs.IsWritten.{items_are_written, is_written}
 use Rattle.quel_meaning.proofs.Each.{Each, in_map, each_to, passed, each_passes, left, right, and, not_left, not_right, not_not, not_so}
 use Rattle.quel_meaning.proofs.Few.{listed_few, variables_few, expanded_few, update_expanded_few}
 use Rattle.quel_meaning.proofs.FitKept.{made_stand}
@@ -105,8 +106,8 @@ places_counted ts =
 pub into_fits : (s : Scope) → IsDatabase s.db → (name : List ℕ) (items : List Item) (qual : Qual) (sort : List (List ℕ × Bool))
     → is_written (statement.Retrieve (Some name) items qual sort) ≡ true
     → name_refusal s (statement.Retrieve (Some name) items qual sort) ≡ None → first_cause (causes s (statement.Retrieve (Some name) items qual sort)) ≡ None
-    → is_fit_with_views s.db s.user (tree_of s (statement.Retrieve (Some name) items qual sort)) ≡ true
-unfolding causes tree_of fits update_fits aggregates_stand mentions into_of assignments_fit kinds_fit is_written
+    → suits (kept_or_viewed s.db) s.db s.user (tree_of s (statement.Retrieve (Some name) items qual sort)) ≡ true
+unfolding causes tree_of suits update_fits aggregates_stand mentions into_of assignments_fit kinds_fit is_written
 into_fits s is name items qual sort w h k =
     and _ _ (reads s stmt h (not_not _ none.0) few (narrow_targets q (λ t. (made_attr t).kind) none.1.1.1.1.1.0))
     (and _ _ (fitting_kinds s.db q (not_not _ none.1.1.1.0))
@@ -121,6 +122,9 @@ into_fits s is name items qual sort w h k =
     q : Query
     q = query_of s stmt
 
+    items_written : items_are_written items ≡ true
+    items_written = left _ _ (right (is_name name) _ w)
+
     none : Each (λ c. c.1 ≡ false) (into_causes s (aggregates_stand s stmt) name sort q)
     none = none_of (into_causes s (aggregates_stand s stmt) name sort q) k
 
@@ -128,11 +132,11 @@ into_fits s is name items qual sort w h k =
     few = not_left _ _ none.1.0
 
     good : Each (λ (t : Target). IsGood t.name t.kind) (targets_of q)
-    good = targets_good s is new_title stmt qual w (names_found s stmt h)
+    good = targets_good s is new_title stmt qual items_written (names_found s stmt h)
 
     attributes : attrs_stand (map made_attr (targets_of q)) ≡ true
     attributes =
-        made_stand made_attr (targets_of q) (some_target s is new_title stmt qual w (names_found s stmt h))
+        made_stand made_attr (targets_of q) (some_target s is new_title stmt qual items_written (names_found s stmt h))
         (each_to _ _ (λ (t : Target) g. g.0) (targets_of q) good) (not_not _ none.1.1.0) (each_to _ _ (λ (t : Target) g. made_kind_is t g.1) (targets_of q) good) none.1.1.1.1.1.0
 
     stored : are_stored (map made_attr (targets_of q)) ≡ true
@@ -183,8 +187,8 @@ query_alone db q none h =
 
 pub view_stmt_fits : (s : Scope) → IsDatabase s.db → (name : List ℕ) (items : List Item) (qual : Qual) → is_written (statement.View name items qual) ≡ true
     → name_refusal s (statement.View name items qual) ≡ None → first_cause (causes s (statement.View name items qual)) ≡ None
-    → is_fit_with_views s.db s.user (tree_of s (statement.View name items qual)) ≡ true
-unfolding causes tree_of fits utility_fits view_fits aggregates_stand mentions is_written
+    → suits (kept_or_viewed s.db) s.db s.user (tree_of s (statement.View name items qual)) ≡ true
+unfolding causes tree_of suits utility_fits view_fits aggregates_stand mentions is_written
 view_stmt_fits s is name items qual w h k =
     and _ _ (and _ _ (not_so _ none.1.1.1.1.1.0) (not_so _ (not_left _ _ room)))
     (and _ _ (passed (λ key. is_some (range_at s.db key)) _ (each_to _ _ (λ key e. range_there s.db key e) (vars_of q) (each_passes (is_named s.db) (vars_of q) (vars_named s stmt h))))
@@ -198,6 +202,9 @@ view_stmt_fits s is name items qual w h k =
     q : Query
     q = query_of s stmt
 
+    items_written : items_are_written items ≡ true
+    items_written = left _ _ (right (is_name name) _ w)
+
     none : Each (λ c. c.1 ≡ false) (view_causes s (aggregates_stand s stmt) name q)
     none = none_of (view_causes s (aggregates_stand s stmt) name q) k
 
@@ -208,9 +215,9 @@ view_stmt_fits s is name items qual w h k =
     room = not_right (has_too_many s.db q) _ none.1.0
 
     good : Each (λ (t : Target). IsGood t.name t.kind) (targets_of q)
-    good = targets_good s is new_title stmt qual w (names_found s stmt h)
+    good = targets_good s is new_title stmt qual items_written (names_found s stmt h)
 
     attributes : attrs_stand (map target_attr (targets_of q)) ≡ true
     attributes =
-        made_stand target_attr (targets_of q) (some_target s is new_title stmt qual w (names_found s stmt h))
+        made_stand target_attr (targets_of q) (some_target s is new_title stmt qual items_written (names_found s stmt h))
         (each_to _ _ (λ (t : Target) g. g.0) (targets_of q) good) (not_not _ none.1.1.0) (each_to _ _ (λ (t : Target) g. g.1) (targets_of q) good) none.1.1.1.1.0

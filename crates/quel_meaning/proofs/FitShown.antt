@@ -39,7 +39,7 @@ use Rattle.quel_meaning.specs.KindsInQueries.{kind_in_query, kinds_fit_in_query,
 use Rattle.quel_meaning.specs.WrittenQuery.{attr_targets}
 use Rattle.quel_meaning.specs.Resolved.{unsorted, whole, is_name_at, help_on_all, help_on, tree_of}
 use Rattle.quel_meaning.specs.FitQueries.{is_named, kept_or_viewed, source_fits, slots_count_from, has_few_targets, reads_fit, asked_fits}
-use Rattle.quel_meaning.specs.Fit.{fits, is_fit_with_views}
+use Rattle.quel_meaning.specs.Fit.{suits}
 use Rattle.quel_meaning.proofs.DatabaseFacts.{found_passes, info_stands, stood}
 use Rattle.quel_meaning.proofs.Each.{Each, front_of, back_of, of_map, in_map, each_to, passed, each_passes, right, and}
 use Rattle.quel_meaning.proofs.Few.{some_measures}
@@ -117,8 +117,8 @@ whole_fits db is info h =
     shown db is info.key (attr_targets 0 info.attrs) True (ap is_some h) (whole_none info) (whole_few info (info_stands db is info.key info h)) (whole_kinds db info h)
 
 pub print_fits : (s : Scope) → IsDatabase s.db → (rels : List (List ℕ)) → name_refusal s (statement.Print rels) ≡ None
-    → is_fit_with_views s.db s.user (tree_of s (statement.Print rels)) ≡ true
-unfolding tree_of fits mentions
+    → suits (kept_or_viewed s.db) s.db s.user (tree_of s (statement.Print rels)) ≡ true
+unfolding tree_of suits mentions
 print_fits s is rels h =
     passed (asked_fits (kept_or_viewed s.db) s.db) _
     (in_map _ (λ rel. whole (named s rel)) rels (each_to _ _ each rels (of_map (IsFound s) RelationNamed rels (names_found s (statement.Print rels) h))))

@@ -34,7 +34,7 @@ use Rattle.quel_meaning.specs.StatementUpdate.{titles_of, changing, append_of, r
 use Rattle.quel_meaning.specs.Causes.{repeats, causes, update_causes, delete_causes}
 use Rattle.quel_meaning.specs.Resolved.{tree_of}
 use Rattle.quel_meaning.specs.FitQueries.{kept_or_viewed, has_few_targets, reads_fit}
-use Rattle.quel_meaning.specs.Fit.{has_key, update_kinds_fit, update_fits, fits, is_fit_with_views}
+use Rattle.quel_meaning.specs.Fit.{is_this_key, update_kinds_fit, update_fits, suits}
 use Rattle.quel_meaning.proofs.Each.{Each, passed, each_passes, each_to, left, right, and, not_not}
 use Rattle.quel_meaning.proofs.Keys.{keys_same}
 use Rattle.quel_meaning.proofs.Found.{IsFound, IsNamed, IsRanged, names_found, named_with, named_again, ranged_with, ranged_is, ranged_again}
@@ -105,7 +105,7 @@ append_ready s info q r h k a =
     (and _ _ a (and _ _ (update_expanded_few s.db (changing op.Append 255 (Some info) q) r.few) (and _ _ (placed s info q r h k) (and _ _ refl (and _ _ r.relation refl))))))
 
 replace_ready : (s : Scope) (info : RelInfo) (q : Query) → Ready s info q → Each (HasAttr info) (titles_of q) → differ_by bytes_eq (titles_of q) ≡ true
-    → assignments_fit s.db (changing op.Replace 0 (Some info) q) ≡ true → has_key (slice_get (vars_of q) 0) info.key ≡ true
+    → assignments_fit s.db (changing op.Replace 0 (Some info) q) ≡ true → is_this_key (slice_get (vars_of q) 0) info.key ≡ true
     → update_fits (kept_or_viewed s.db) s.db (changing op.Replace 0 (Some info) q) ≡ true
 unfolding update_fits kinds_fit
 replace_ready s info q r h k a old =
@@ -114,7 +114,7 @@ replace_ready s info q r h k a old =
     (and _ _ a (and _ _ (update_expanded_few s.db (changing op.Replace 0 (Some info) q) r.few) (and _ _ (placed s info q r h k) (and _ _ refl (and _ _ r.relation old))))))
 
 delete_ready : (s : Scope) (info : RelInfo) (q : Query) → Ready s info q → Each (HasAttr info) (titles_of q) → differ_by bytes_eq (titles_of q) ≡ true
-    → assignments_fit s.db (changing op.Delete 0 (Some info) q) ≡ true → has_key (slice_get (vars_of q) 0) info.key ≡ true
+    → assignments_fit s.db (changing op.Delete 0 (Some info) q) ≡ true → is_this_key (slice_get (vars_of q) 0) info.key ≡ true
     → update_fits (kept_or_viewed s.db) s.db (changing op.Delete 0 (Some info) q) ≡ true
 unfolding update_fits kinds_fit
 delete_ready s info q r h k a old =
@@ -125,8 +125,8 @@ delete_ready s info q r h k a old =
 -- ---- the statements
 
 pub append_fits : (s : Scope) → IsDatabase s.db → (rel : List ℕ) (items : List Item) (qual : Qual) → name_refusal s (statement.Append rel items qual) ≡ None
-    → first_cause (causes s (statement.Append rel items qual)) ≡ None → is_fit_with_views s.db s.user (tree_of s (statement.Append rel items qual)) ≡ true
-unfolding causes tree_of fits aggregates_stand append_of mentions
+    → first_cause (causes s (statement.Append rel items qual)) ≡ None → suits (kept_or_viewed s.db) s.db s.user (tree_of s (statement.Append rel items qual)) ≡ true
+unfolding causes tree_of suits aggregates_stand append_of mentions
 append_fits s is rel items qual h k =
     subst (λ o. update_fits (kept_or_viewed s.db) s.db (changing op.Append 255 o q) ≡ true) (sym r.is)
     (append_ready s r.info q ready there (names_differ q none.1.1.0) (subst (λ o. assignments_fit s.db (changing op.Append 255 o q) ≡ true) r.is (right (query_fits s.db q) _ (not_not _ none.1.1.1.0))))
@@ -161,17 +161,17 @@ append_fits s is rel items qual h k =
 
 -- the variable whose rows are replaced or deleted is the query's first, over the relation
 first_replaced : (s : Scope) (var : List ℕ) (items : List Item) (qual : Qual) (r : IsRanged s var)
-    → has_key (slice_get (vars_of (query_of s (statement.Replace var items qual))) 0) r.info.key ≡ true
+    → is_this_key (slice_get (vars_of (query_of s (statement.Replace var items qual))) 0) r.info.key ≡ true
 unfolding query_of vars_in
 first_replaced s var items qual r = keys_same _ _ (ap key_found (ranged_is s var r))
 
-first_deleted : (s : Scope) (var : List ℕ) (qual : Qual) (r : IsRanged s var) → has_key (slice_get (vars_of (query_of s (statement.Delete var qual))) 0) r.info.key ≡ true
+first_deleted : (s : Scope) (var : List ℕ) (qual : Qual) (r : IsRanged s var) → is_this_key (slice_get (vars_of (query_of s (statement.Delete var qual))) 0) r.info.key ≡ true
 unfolding query_of vars_in
 first_deleted s var qual r = keys_same _ _ (ap key_found (ranged_is s var r))
 
 pub replace_fits : (s : Scope) → IsDatabase s.db → (var : List ℕ) (items : List Item) (qual : Qual) → name_refusal s (statement.Replace var items qual) ≡ None
-    → first_cause (causes s (statement.Replace var items qual)) ≡ None → is_fit_with_views s.db s.user (tree_of s (statement.Replace var items qual)) ≡ true
-unfolding causes tree_of fits aggregates_stand replace_of mentions
+    → first_cause (causes s (statement.Replace var items qual)) ≡ None → suits (kept_or_viewed s.db) s.db s.user (tree_of s (statement.Replace var items qual)) ≡ true
+unfolding causes tree_of suits aggregates_stand replace_of mentions
 replace_fits s is var items qual h k =
     subst (λ o. update_fits (kept_or_viewed s.db) s.db (changing op.Replace 0 o q) ≡ true) (sym over)
     (replace_ready s r.info q ready there (names_differ q none.1.1.0)
@@ -212,8 +212,8 @@ replace_fits s is var items qual h k =
     }
 
 pub delete_fits : (s : Scope) → IsDatabase s.db → (var : List ℕ) (qual : Qual) → name_refusal s (statement.Delete var qual) ≡ None
-    → first_cause (causes s (statement.Delete var qual)) ≡ None → is_fit_with_views s.db s.user (tree_of s (statement.Delete var qual)) ≡ true
-unfolding causes tree_of fits aggregates_stand delete_of mentions assignments_fit query_of
+    → first_cause (causes s (statement.Delete var qual)) ≡ None → suits (kept_or_viewed s.db) s.db s.user (tree_of s (statement.Delete var qual)) ≡ true
+unfolding causes tree_of suits aggregates_stand delete_of mentions assignments_fit query_of
 delete_fits s is var qual h k =
     subst (λ o. update_fits (kept_or_viewed s.db) s.db (changing op.Delete 0 o q) ≡ true) (sym over)
     (delete_ready s r.info q ready tt refl refl (first_deleted s var qual r))

@@ -16,6 +16,7 @@ use Rattle.calculus.specs.IsDatabase.{IsDatabase, keys_stand}
 use Rattle.calculus.specs.Keys.{key_of, same_key}
 use Rattle.calculus.specs.Limits.{most_keys}
 use Rattle.calculus.specs.Lists.{is_any, differ_by}
+use Rattle.calculus.specs.Name.{is_name}
 use Rattle.calculus.specs.Replacement.{first_cause}
 use Rattle.calculus.specs.Stored.{info_at, attrs_in, attrs_at}
 use Rattle.quel_meaning.specs.Structures.{structure_keys, first_or_these}
@@ -24,8 +25,9 @@ use Rattle.quel_meaning.specs.Naming.{Relation, AttrIn, mentions, no_refusal, na
 use Rattle.quel_meaning.specs.Passing.{is_full, is_taken}
 use Rattle.quel_meaning.specs.Causes.{repeats, repeats_keys, causes}
 use Rattle.quel_meaning.specs.Resolved.{tree_of}
-use Rattle.quel_meaning.specs.FitQueries.{is_named}
-use Rattle.quel_meaning.specs.Fit.{is_entry, is_structure, utility_fits, fits, is_fit_with_views}
+use Rattle.quel_meaning.specs.FitQueries.{kept_or_viewed, is_named}
+use Rattle.quel_meaning.specs.Fit.{is_entry, utility_fits, suits}
+use Rattle.calculus.specs.Structures.{is_structure}
 use Rattle.quel_meaning.specs.IsWritten.{is_written}
 use Rattle.quel_meaning.proofs.Each.{Each, of_map, each_to, passed, left, right, and, not_not, not_so}
 use Rattle.quel_meaning.proofs.Keys.{find_passes, same_keys, found_again}
@@ -92,8 +94,8 @@ entries_are s (n ∷ names) = go (entry_named s n) refl (entries_are s names)
     go (Some key) e later = (entry_is s n key e, later)
 
 pub destroy_fits : (s : Scope) (rels : List (List ℕ)) → first_cause (causes s (statement.Destroy rels)) ≡ None
-    → is_fit_with_views s.db s.user (tree_of s (statement.Destroy rels)) ≡ true
-unfolding causes tree_of fits utility_fits
+    → suits (kept_or_viewed s.db) s.db s.user (tree_of s (statement.Destroy rels)) ≡ true
+unfolding causes tree_of suits utility_fits
 destroy_fits s rels k =
     let none = none_of ((17, repeats_keys s rels) ∷ []) k in
     and _ _ (passed (is_entry s.db) _ (entries_are s rels)) (not_not _ none.0)
@@ -101,13 +103,13 @@ destroy_fits s rels k =
 -- ---- permits and rules that go
 
 pub drop_permits_fits : (s : Scope) (rel : List ℕ) (numbers : List ℕ) → name_refusal s (statement.DropPermits rel numbers) ≡ None
-    → is_fit_with_views s.db s.user (tree_of s (statement.DropPermits rel numbers)) ≡ true
-unfolding tree_of fits utility_fits mentions
+    → suits (kept_or_viewed s.db) s.db s.user (tree_of s (statement.DropPermits rel numbers)) ≡ true
+unfolding tree_of suits utility_fits mentions
 drop_permits_fits s rel numbers h = named_is s rel (by_name s rel (names_found s (statement.DropPermits rel numbers) h).0)
 
 pub drop_rules_fits : (s : Scope) (rel : List ℕ) (numbers : List ℕ) → name_refusal s (statement.DropRules rel numbers) ≡ None
-    → is_fit_with_views s.db s.user (tree_of s (statement.DropRules rel numbers)) ≡ true
-unfolding tree_of fits utility_fits mentions
+    → suits (kept_or_viewed s.db) s.db s.user (tree_of s (statement.DropRules rel numbers)) ≡ true
+unfolding tree_of suits utility_fits mentions
 drop_rules_fits s rel numbers h = named_is s rel (by_name s rel (names_found s (statement.DropRules rel numbers) h).0)
 
 -- ---- keys
@@ -145,8 +147,8 @@ its_attrs s rel r = ap attrs_in (named_again s rel r)
 
 pub modify_fits : (s : Scope) → IsDatabase s.db → (rel : List ℕ) (to : Spec) (keys : List (List ℕ)) → is_written (statement.Modify rel to keys) ≡ true
     → name_refusal s (statement.Modify rel to keys) ≡ None → first_cause (causes s (statement.Modify rel to keys)) ≡ None
-    → is_fit_with_views s.db s.user (tree_of s (statement.Modify rel to keys)) ≡ true
-unfolding causes tree_of fits utility_fits mentions is_written
+    → suits (kept_or_viewed s.db) s.db s.user (tree_of s (statement.Modify rel to keys)) ≡ true
+unfolding causes tree_of suits utility_fits mentions is_written
 modify_fits s is rel to keys w h k =
     let found = names_found s (statement.Modify rel to keys) h in
     let r = by_name s rel found.0 in
@@ -160,16 +162,17 @@ modify_fits s is rel to keys w h k =
 
 pub index_fits : (s : Scope) (base name : List ℕ) (keys : List (List ℕ)) → is_written (statement.Index base name keys) ≡ true
     → name_refusal s (statement.Index base name keys) ≡ None → first_cause (causes s (statement.Index base name keys)) ≡ None
-    → is_fit_with_views s.db s.user (tree_of s (statement.Index base name keys)) ≡ true
-unfolding causes tree_of fits utility_fits mentions is_written
+    → suits (kept_or_viewed s.db) s.db s.user (tree_of s (statement.Index base name keys)) ≡ true
+unfolding causes tree_of suits utility_fits mentions is_written
 index_fits s base name keys w h k =
     let found = names_found s (statement.Index base name keys) h in
     let r = by_name s base found.0 in
+    let listed = right (is_name name) _ w in
     let none = none_of ((17, repeats keys) ∷ (14, is_full s.db) ∷ (15, is_taken s.db s.user name) ∷ []) k in
-    let stand = keys_fit r.info keys (attrs_there s base r keys found.1) (not_not _ none.0) (right _ _ w) in
+    let stand = keys_fit r.info keys (attrs_there s base r keys found.1) (not_not _ none.0) (right _ _ listed) in
     and _ _ (named_is s base r)
     (and _ _ (and _ _ (not_so _ none.1.1.0) (not_so _ none.1.0))
-    (and _ _ (some_keys keys (left _ _ w))
+    (and _ _ (some_keys keys (left _ _ listed))
     (subst (λ o. keys_stand (attrs_at s.db (key_found o)) (map (place_found o) keys) ≡ true) (sym r.is)
     (subst (λ attrs. keys_stand attrs (map (place_found (Some r.info)) keys) ≡ true) (sym (its_attrs s base r)) stand))))
   where

@@ -1,6 +1,6 @@
 -- Computed: which trees are fit for a small database.
 use Rattle.std.proofs.Common.{refl}
-use Rattle.std.specs.Prelude.{◌≡◌, ℕ, pos, true, false, List, [], ◌∷◌, codes}
+use Rattle.std.specs.Prelude.{◌≡◌, ℕ, pos, true, false, List, [], ◌∷◌, None, codes}
 use Rattle.calculus.specs.declared.value.Domain.TheVariants.{I2, C}
 use Rattle.calculus.specs.declared.value.Kind.TheVariants.{Of, Wide}
 use Rattle.calculus.specs.declared.operator.CmpOp.TheVariants.{Eq}
@@ -15,6 +15,7 @@ use Rattle.calculus.specs.declared.request.Checked.TheVariants as checked
 use Rattle.calculus.specs.declared.request.Utility.TheVariants as utility
 use Rattle.calculus.specs.declared.request.UpdateOp.TheVariants as op
 use Rattle.calculus.specs.declared.request.CopyForm.TheVariants.{Bin, Fixed}
+use Rattle.calculus.specs.declared.schema.Permit.{Permit}
 use Rattle.calculus.specs.declared.schema.Spec.TheVariants as spec
 use Rattle.calculus.specs.Catalogue.{catalogue_at}
 use Rattle.calculus.specs.Constant.{constant_text, marks}
@@ -36,7 +37,9 @@ use Rattle.quel_meaning.specs.StatementUpdate.{append_of, replace_of, delete_of,
 use Rattle.quel_meaning.specs.Causes.{causes}
 use Rattle.quel_meaning.specs.Resolved.{tree_of, resolved}
 use Rattle.quel_meaning.specs.FitQueries.{source_fits, reads_fit, asked_fits}
-use Rattle.quel_meaning.specs.Fit.{update_fits, view_fits, utility_fits, fits, is_fit}
+use Rattle.quel_meaning.specs.Fit.{update_fits, view_fits, utility_fits, suits, fits, is_fit}
+use Rattle.quel_meaning.specs.SpelledTree.{update_is_spelled, utility_is_spelled, tree_is_spelled}
+use Rattle.calculus.specs.Chars.{is_chars}
 use Rattle.calculus.specs.Name.{is_name}
 use Rattle.calculus.specs.declared.query.QQual.{QQual}
 use Rattle.calculus.specs.declared.request.UpdateOp.{UpdateOp}
@@ -70,6 +73,10 @@ replaced old places = update op.Replace p old places (tree.query (p ∷ []) (num
 abbrev one_count : ℕ → Target
 one_count slot = number (counted (codes "p") slot)
 
+-- a permit of these rights for everybody
+abbrev permit : ℕ → Permit
+permit ops = record { number = 0; ops = ops; attrs = []; user = None; qual = qual.True }
+
 record Facts : Type 0 where
   a_query : judged (asked (p ∷ []) (target (codes "a") (Of I2) (q.Attr 0 0) ∷ []) qual.True) ≡ true
   kinds_of_targets : judged (asked (p ∷ []) (number (q.Attr 0 0) ∷ []) qual.True) ≡ false
@@ -98,8 +105,15 @@ record Facts : Type 0 where
   a_column : judged (checked.Utility (utility.Copy p (record { attr = 1; form = Fixed 3 } ∷ []) true (codes "f"))) ≡ true
   a_binary_text : judged (checked.Utility (utility.Copy p (record { attr = 1; form = Bin 2 } ∷ []) true (codes "f"))) ≡ false
   a_view_over_a_view : judged (checked.Utility (utility.View (key (codes "w")) (tree.query (key (codes "two") ∷ []) (target (codes "a") (Of I2) (q.Attr 0 0) ∷ []) qual.True))) ≡ true
+  greatest_number : judged (asked [] (number (q.Int (pos 9223372036854775807)) ∷ []) qual.True) ≡ true
+  no_greater_number : judged (asked [] (number (q.Int (pos 9223372036854775808)) ∷ []) qual.True) ≡ false
+  no_name : judged (made (codes "W")) ≡ false
+  no_pattern : judged (asked (p ∷ []) (target (codes "a") (Of I2) (q.Attr 0 0) ∷ []) (qual.Like (q.Attr 0 1) (10 ∷ []) true)) ≡ false
+  no_file_name : judged (checked.Utility (utility.Copy p (record { attr = 1; form = Fixed 3 } ∷ []) true (10 ∷ []))) ≡ false
+  all_rights : judged (checked.Utility (utility.Permit p (permit 15))) ≡ true
+  no_right : judged (checked.Utility (utility.Permit p (permit 16))) ≡ false
   no_aggregate_in_a_view : judged (checked.Utility (utility.View (key (codes "w")) (tree.query [] (one_count 0 ∷ []) qual.True))) ≡ false
 
 facts : Facts
-unfolding resolved tree_of name_refusal mentions range_of ranged named found entry_named info_at range_at catalogue_at causes aggregates_stand aggregate_stands aggregate_vars aggregates_in aggregates_in_qual vars_in query_of where_tree append_of replace_of delete_of into_of kind_in_query kinds_fit_in_query aggregate_kind query_fits assignments_fit kind_of attribute_kind constant_kind number_kind operated_kind joined_kind is_text_kind kinds_fit comparable constant_text marks has_too_many is_full is_too_large is_too_wide is_taken variables expanded_variables update_variables update_expanded_variables term_aggregates qual_aggregates measure_of term_size qual_size query_size query_level level_of source_fits reads_fit asked_fits update_fits view_fits utility_fits fits is_name
-facts = record { a_query = refl; kinds_of_targets = refl; nothing_there = refl; over_a_view = refl; over_a_catalogue = refl; past_the_attributes = refl; past_the_variables = refl; slots_count = refl; slots_begin_at_0 = refl; slots_differ = refl; text_with_number = refl; a_replacement = refl; a_number_for_a_text = refl; no_old_variable = refl; two_places = refl; a_new_relation = refl; a_name_in_use = refl; a_catalogue_name = refl; a_structure = refl; no_structure = refl; keys_differ = refl; a_destroyed_catalogue = refl; destroyed_twice = refl; no_columns = refl; a_column = refl; a_binary_text = refl; a_view_over_a_view = refl; no_aggregate_in_a_view = refl }
+unfolding resolved tree_of name_refusal mentions range_of ranged named found entry_named info_at range_at catalogue_at causes aggregates_stand aggregate_stands aggregate_vars aggregates_in aggregates_in_qual vars_in query_of where_tree append_of replace_of delete_of into_of kind_in_query kinds_fit_in_query aggregate_kind query_fits assignments_fit kind_of attribute_kind constant_kind number_kind operated_kind joined_kind is_text_kind kinds_fit comparable constant_text marks has_too_many is_full is_too_large is_too_wide is_taken variables expanded_variables update_variables update_expanded_variables term_aggregates qual_aggregates measure_of term_size qual_size query_size query_level level_of source_fits reads_fit asked_fits update_fits view_fits utility_fits suits fits update_is_spelled utility_is_spelled tree_is_spelled is_name is_chars
+facts = record { a_query = refl; kinds_of_targets = refl; nothing_there = refl; over_a_view = refl; over_a_catalogue = refl; past_the_attributes = refl; past_the_variables = refl; slots_count = refl; slots_begin_at_0 = refl; slots_differ = refl; text_with_number = refl; a_replacement = refl; a_number_for_a_text = refl; no_old_variable = refl; two_places = refl; a_new_relation = refl; a_name_in_use = refl; a_catalogue_name = refl; a_structure = refl; no_structure = refl; keys_differ = refl; a_destroyed_catalogue = refl; destroyed_twice = refl; no_columns = refl; a_column = refl; a_binary_text = refl; a_view_over_a_view = refl; greatest_number = refl; no_greater_number = refl; no_name = refl; no_pattern = refl; no_file_name = refl; all_rights = refl; no_right = refl; no_aggregate_in_a_view = refl }

@@ -13,13 +13,12 @@ use Rattle.calculus.specs.declared.statement.Statement.{Statement}
 use Rattle.calculus.specs.declared.statement.Term.{Attr as Dot}
 use Rattle.calculus.specs.declared.value.Kind.{Kind}
 use Rattle.calculus.specs.declared.value.Kind.TheVariants.{Wide}
-use Rattle.calculus.specs.Chars.{is_chars}
 use Rattle.calculus.specs.IsDatabase.{IsDatabase, is_kind}
 use Rattle.calculus.specs.Lists.{is_any}
 use Rattle.calculus.specs.Name.{is_name}
 use Rattle.calculus.specs.QueryParts.{targets_of}
 use Rattle.calculus.specs.Stored.{attrs_in, kinds_at}
-use Rattle.quel_meaning.specs.IsWritten.{constants, item_is_written, items_are_written}
+use Rattle.quel_meaning.specs.IsWritten.{item_is_written, items_are_written}
 use Rattle.quel_meaning.specs.KindsInQueries.{kind_in_query}
 use Rattle.quel_meaning.specs.Naming.{Mention, item_mentions, query_mentions, no_refusal, attr_refusal}
 use Rattle.quel_meaning.specs.Scope.{Scope}
@@ -72,11 +71,11 @@ item_good : (s : Scope) → IsDatabase s.db → (titled : List ℕ → List Ment
     → Each (IsFound s) (item_mentions s titled i)
     → Each (λ (t : Target). IsGood t.name t.kind) (item_targets s vars n i)
 item_good s is titled vars n (item.Set name term) w h =
-    ((left _ _ w, unwrapped (kind_in_query s.db (term_tree s vars n term) (kinds_over s vars)) (λ k e. term_lawful s is vars n term (kinds_over s vars) (kinds_lawful s is vars) (each_passes is_chars (constants term) (right (is_name name) _ w)) k e)), tt)
+    ((left _ _ w, unwrapped (kind_in_query s.db (term_tree s vars n term) (kinds_over s vars)) (λ k e. term_lawful s is vars n term (kinds_over s vars) (kinds_lawful s is vars) (right (is_name name) _ w) k e)), tt)
 item_good s is titled vars n (item.Attr var attr) w h = (
   (
     subst (λ name. is_name name ≡ true) (place.named d) (at_place (λ (a : Attr). is_name a.name ≡ true) r.is.info.attrs place.place d (each_passes (λ (a : Attr). is_name a.name) r.is.info.attrs (stood_at s is var r.is).named) place.below),
-    unwrapped (kind_in_query s.db (term_tree s vars n (Dot var attr)) (kinds_over s vars)) (λ k e. term_lawful s is vars n (Dot var attr) (kinds_over s vars) (kinds_lawful s is vars) tt k e),
+    unwrapped (kind_in_query s.db (term_tree s vars n (Dot var attr)) (kinds_over s vars)) (λ k e. term_lawful s is vars n (Dot var attr) (kinds_over s vars) (kinds_lawful s is vars) refl k e),
   ),
   tt,
 )

@@ -1,6 +1,7 @@
 -- Readings that the grammar allows: they move on through each text, and two of them are the same.
 use Rattle.std.proofs.Common.{◌≡◌, refl, subst, ℕ, ◌≤◌, List, length}
 use Rattle.std.proofs.lemmas.List.{drop_all}
+use Rattle.calculus.specs.Who.{Asker}
 use Rattle.quel_grammar.specs.Pieces.{pieces_behind, pieces_from}
 use Rattle.quel_grammar.specs.Next.{Nothing, Reading, IsBlank, IsNext, IsGrammatical}
 use Rattle.quel_grammar.proofs.Further.{further}
@@ -28,5 +29,5 @@ same_readings r q a b text from = one_next (pieces_from text from) (r text from)
 
 -- so are their sessions
 pub same_grammatical : (r q : Reading) → IsGrammatical r → IsGrammatical q
-    → (built : Built) (user : List ℕ) (state : State) (script : List ℕ) → session r built user state script ≡ session q built user state script
+    → (built : Built) (asker : Asker) (state : State) (script : List ℕ) → session r built asker state script ≡ session q built asker state script
 same_grammatical r q a b = same_reading r q (same_readings r q a b)

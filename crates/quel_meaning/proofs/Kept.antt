@@ -14,7 +14,7 @@ use Rattle.calculus.specs.declared.reply.Reply.TheVariants.{Nothing, Refused}
 use Rattle.calculus.specs.declared.schema.RelInfo.{RelInfo}
 use Rattle.calculus.specs.declared.statement.Statement.{Statement}
 use Rattle.calculus.specs.declared.statement.Statement.TheVariants.{Range}
-use Rattle.calculus.specs.Who.{Who}
+use Rattle.calculus.specs.Who.{Who, Asker, Asks}
 use Rattle.calculus.specs.Database.{Db}
 use Rattle.calculus.specs.Replacement.{updated}
 use Rattle.calculus.specs.Finding.{found}
@@ -22,8 +22,8 @@ use Rattle.quel_meaning.specs.Ranges.{declared}
 use Rattle.quel_meaning.specs.Shelf.{Shelf}
 use Rattle.quel_meaning.specs.State.{State, Outcome, Built}
 use Rattle.quel_meaning.specs.Planned.{planned}
-use Rattle.quel_meaning.specs.Copying.{copied_from, copied_into, file_name}
-use Rattle.quel_meaning.specs.Meaning.{Effect, Resolving, change_effect, numbered_effect, file_effect, copy_effect, utility_effect, tree_meaning, ruled_tree, checked_permitted, asks, is_range, refused, range_outcome, with_ranges, permitted_outcome, tree_outcome, built_outcome, statement_outcome, meaning_by}
+use Rattle.quel_meaning.specs.Copying.{copied_from, copied_into, file_of_constant}
+use Rattle.quel_meaning.specs.Meaning.{Effect, Resolving, change_effect, numbered_effect, file_effect, copy_effect, utility_effect, tree_meaning, ruled_tree, checked_permitted, is_range, refused_outcome, range_outcome, with_ranges, permitted_tree, judged_tree, judged_by, judged_outcome, built_outcome, statement_outcome, meaning_by}
 
 -- ---- a refusal changes nothing
 
@@ -46,7 +46,7 @@ kept_file db shelf file (Err x) r h = (refl, refl)
 kept_copy : (db : Db) (shelf : Shelf) (user : List ℕ) (rel : RelKey) (columns : List CopyCol) (from : Bool) (constant : List ℕ)
     → KeptBy db shelf (copy_effect db shelf user rel columns from constant)
 kept_copy db shelf user rel columns true constant = kept_change db shelf (copied_from db shelf user rel columns constant)
-kept_copy db shelf user rel columns false constant = kept_file db shelf (file_name constant) (copied_into db user rel columns)
+kept_copy db shelf user rel columns false constant = kept_file db shelf (file_of_constant constant) (copied_into db user rel columns)
 
 kept_utility : (db : Db) (shelf : Shelf) (user : List ℕ) (work : Work) → KeptBy db shelf (utility_effect db shelf user work)
 unfolding utility_effect
@@ -67,120 +67,109 @@ same_state : (state : State) (e : Effect) → (e.db ≡ state.db) × (e.shelf �
 same_state state e h =
     ap (λ db. record { db = db; shelf = e.shelf; ranges = state.ranges }) h.0 ∙ ap (λ shelf. record { db = state.db; shelf = shelf; ranges = state.ranges }) h.1
 
-kept_permitted : (permitted : Bool) (state : State) (user : List ℕ) (tree : Checked) → StateKeptBy state (permitted_outcome permitted state user tree)
-kept_permitted true state user tree = λ r h.
-    same_state state (tree_meaning state.db state.shelf (asks user) user (ruled_tree state.db tree)) (kept_tree state.db state.shelf (asks user) user (ruled_tree state.db tree) r h)
-kept_permitted false state user tree = λ r h. refl
-
-kept_resolved : (state : State) (user : List ℕ) (tree : Result Checked ℕ) → StateKeptBy state (tree_outcome state user tree)
-kept_resolved state user (Err number) = λ r h. refl
-kept_resolved state user (Ok tree) = kept_permitted (checked_permitted state.db (asks user) tree) state user tree
+kept_judged : (state : State) (asker : Asker) (tree : Result Checked ℕ) → StateKeptBy state (judged_outcome state asker tree)
+kept_judged state asker (Err number) = λ r h. refl
+kept_judged state asker (Ok tree) = λ r h.
+    same_state state (tree_meaning state.db state.shelf (Asks asker) asker.user (ruled_tree state.db tree))
+    (kept_tree state.db state.shelf (Asks asker) asker.user (ruled_tree state.db tree) r h)
 
 kept_range : (state : State) (var : List ℕ) (info : Option RelInfo) → StateKeptBy state (range_outcome state var info)
 kept_range state var None = λ r h. refl
 kept_range state var (Some info) = λ r h. cc h
 
-kept_statement : (resolved : Resolving) (state : State) (user : List ℕ) (s : Statement) → StateKeptBy state (statement_outcome resolved state user s)
+kept_statement : (resolved : Resolving) (state : State) (asker : Asker) (s : Statement) → StateKeptBy state (statement_outcome resolved state asker s)
 unfolding statement_outcome
-kept_statement resolved state user (Range var rel) = kept_range state var (found state.db user rel)
-kept_statement resolved state user s = kept_resolved state user (resolved state.db user state.ranges s)
+kept_statement resolved state asker (Range var rel) = kept_range state var (found state.db asker.user rel)
+kept_statement resolved state asker s = kept_judged state asker (judged_by resolved state.db asker state.ranges s)
 
-kept_built : (built : Bool) (resolved : Resolving) (state : State) (user : List ℕ) (s : Statement) → StateKeptBy state (built_outcome built resolved state user s)
-kept_built true resolved state user s = kept_statement resolved state user s
-kept_built false resolved state user s = λ r h. refl
+kept_built : (built : Bool) (resolved : Resolving) (state : State) (asker : Asker) (s : Statement) → StateKeptBy state (built_outcome built resolved state asker s)
+kept_built true resolved state asker s = kept_statement resolved state asker s
+kept_built false resolved state asker s = λ r h. refl
 
 -- a statement that is refused leaves the database, the shelf and the ranges as they were
-pub refused_keeps : (resolved : Resolving) (built : Built) (state : State) (user : List ℕ) (s : Statement) (r : Refusal)
-    → (meaning_by resolved built state user s).reply ≡ Refused r → (meaning_by resolved built state user s).state ≡ state
+pub refused_keeps : (resolved : Resolving) (built : Built) (state : State) (asker : Asker) (s : Statement) (r : Refusal)
+    → (meaning_by resolved built state asker s).reply ≡ Refused r → (meaning_by resolved built state asker s).state ≡ state
 unfolding meaning_by
-refused_keeps resolved built state user s = kept_built (built.statement s) resolved state user s
+refused_keeps resolved built state asker s = kept_built (built.statement s) resolved state asker s
 
 -- ---- what is not built
 
-pub not_built : (resolved : Resolving) (built : Built) (state : State) (user : List ℕ) (s : Statement)
-    → built.statement s ≡ false → meaning_by resolved built state user s ≡ refused state 9
+pub not_built : (resolved : Resolving) (built : Built) (state : State) (asker : Asker) (s : Statement)
+    → built.statement s ≡ false → meaning_by resolved built state asker s ≡ refused_outcome state 9
 unfolding meaning_by
-not_built resolved built state user s e = ap (λ b. built_outcome b resolved state user s) e
+not_built resolved built state asker s e = ap (λ b. built_outcome b resolved state asker s) e
 
 -- what a statement that is built does
-when_built : (resolved : Resolving) (built : Built) (state : State) (user : List ℕ) (s : Statement)
-    → built.statement s ≡ true → meaning_by resolved built state user s ≡ statement_outcome resolved state user s
+pub when_built : (resolved : Resolving) (built : Built) (state : State) (asker : Asker) (s : Statement)
+    → built.statement s ≡ true → meaning_by resolved built state asker s ≡ statement_outcome resolved state asker s
 unfolding meaning_by
-when_built resolved built state user s e = ap (λ b. built_outcome b resolved state user s) e
+when_built resolved built state asker s e = ap (λ b. built_outcome b resolved state asker s) e
 
 -- ---- range
 
-range_is : (resolved : Resolving) (state : State) (user var rel : List ℕ)
-    → statement_outcome resolved state user (Range var rel) ≡ range_outcome state var (found state.db user rel)
+range_is : (resolved : Resolving) (state : State) (asker : Asker) (var rel : List ℕ)
+    → statement_outcome resolved state asker (Range var rel) ≡ range_outcome state var (found state.db asker.user rel)
 unfolding statement_outcome
-range_is resolved state user var rel = refl
+range_is resolved state asker var rel = refl
 
-range_outcome_is : (resolved : Resolving) (built : Built) (state : State) (user var rel : List ℕ) → built.statement (Range var rel) ≡ true
-    → meaning_by resolved built state user (Range var rel) ≡ range_outcome state var (found state.db user rel)
-range_outcome_is resolved built state user var rel e = when_built resolved built state user (Range var rel) e ∙ range_is resolved state user var rel
+range_outcome_is : (resolved : Resolving) (built : Built) (state : State) (asker : Asker) (var rel : List ℕ) → built.statement (Range var rel) ≡ true
+    → meaning_by resolved built state asker (Range var rel) ≡ range_outcome state var (found state.db asker.user rel)
+range_outcome_is resolved built state asker var rel e = when_built resolved built state asker (Range var rel) e ∙ range_is resolved state asker var rel
 
 -- a variable ranges over what is found under the name
-pub range_declares : (resolved : Resolving) (built : Built) (state : State) (user var rel : List ℕ) (info : RelInfo)
-    → built.statement (Range var rel) ≡ true → found state.db user rel ≡ Some info
-    → meaning_by resolved built state user (Range var rel) ≡ record { state = record state { ranges = declared state.ranges var info.key }; reply = Nothing }
-range_declares resolved built state user var rel info e f = range_outcome_is resolved built state user var rel e ∙ ap (range_outcome state var) f
+pub range_declares : (resolved : Resolving) (built : Built) (state : State) (asker : Asker) (var rel : List ℕ) (info : RelInfo)
+    → built.statement (Range var rel) ≡ true → found state.db asker.user rel ≡ Some info
+    → meaning_by resolved built state asker (Range var rel) ≡ record { state = record state { ranges = declared state.ranges var info.key }; reply = Nothing }
+range_declares resolved built state asker var rel info e f = range_outcome_is resolved built state asker var rel e ∙ ap (range_outcome state var) f
 
 -- where nothing is found under the name it is refused
-pub range_refused : (resolved : Resolving) (built : Built) (state : State) (user var rel : List ℕ)
-    → built.statement (Range var rel) ≡ true → found state.db user rel ≡ None → meaning_by resolved built state user (Range var rel) ≡ refused state 10
-range_refused resolved built state user var rel e f = range_outcome_is resolved built state user var rel e ∙ ap (range_outcome state var) f
+pub range_refused : (resolved : Resolving) (built : Built) (state : State) (asker : Asker) (var rel : List ℕ)
+    → built.statement (Range var rel) ≡ true → found state.db asker.user rel ≡ None → meaning_by resolved built state asker (Range var rel) ≡ refused_outcome state 10
+range_refused resolved built state asker var rel e f = range_outcome_is resolved built state asker var rel e ∙ ap (range_outcome state var) f
 
 -- ---- the ranges that other statements leave
 
-kept_ranges_permitted : (permitted : Bool) (state : State) (user : List ℕ) (tree : Checked) → (permitted_outcome permitted state user tree).state.ranges ≡ state.ranges
-kept_ranges_permitted true state user tree = refl
-kept_ranges_permitted false state user tree = refl
+kept_ranges_judged : (state : State) (asker : Asker) (tree : Result Checked ℕ) → (judged_outcome state asker tree).state.ranges ≡ state.ranges
+kept_ranges_judged state asker (Err number) = refl
+kept_ranges_judged state asker (Ok tree) = refl
 
-kept_ranges_resolved : (state : State) (user : List ℕ) (tree : Result Checked ℕ) → (tree_outcome state user tree).state.ranges ≡ state.ranges
-kept_ranges_resolved state user (Err number) = refl
-kept_ranges_resolved state user (Ok tree) = kept_ranges_permitted (checked_permitted state.db (asks user) tree) state user tree
-
-kept_ranges_statement : (resolved : Resolving) (state : State) (user : List ℕ) (s : Statement)
-    → is_range s ≡ false → (statement_outcome resolved state user s).state.ranges ≡ state.ranges
+kept_ranges_statement : (resolved : Resolving) (state : State) (asker : Asker) (s : Statement)
+    → is_range s ≡ false → (statement_outcome resolved state asker s).state.ranges ≡ state.ranges
 unfolding statement_outcome
-kept_ranges_statement resolved state user (Range var rel) = λ h. cc h
-kept_ranges_statement resolved state user s = λ h. kept_ranges_resolved state user (resolved state.db user state.ranges s)
+kept_ranges_statement resolved state asker (Range var rel) = λ h. cc h
+kept_ranges_statement resolved state asker s = λ h. kept_ranges_judged state asker (judged_by resolved state.db asker state.ranges s)
 
-kept_ranges_built : (built : Bool) (resolved : Resolving) (state : State) (user : List ℕ) (s : Statement)
-    → is_range s ≡ false → (built_outcome built resolved state user s).state.ranges ≡ state.ranges
-kept_ranges_built true resolved state user s h = kept_ranges_statement resolved state user s h
-kept_ranges_built false resolved state user s h = refl
+kept_ranges_built : (built : Bool) (resolved : Resolving) (state : State) (asker : Asker) (s : Statement)
+    → is_range s ≡ false → (built_outcome built resolved state asker s).state.ranges ≡ state.ranges
+kept_ranges_built true resolved state asker s h = kept_ranges_statement resolved state asker s h
+kept_ranges_built false resolved state asker s h = refl
 
-pub other_statements_keep_ranges : (resolved : Resolving) (built : Built) (state : State) (user : List ℕ) (s : Statement)
-    → is_range s ≡ false → (meaning_by resolved built state user s).state.ranges ≡ state.ranges
+pub other_statements_keep_ranges : (resolved : Resolving) (built : Built) (state : State) (asker : Asker) (s : Statement)
+    → is_range s ≡ false → (meaning_by resolved built state asker s).state.ranges ≡ state.ranges
 unfolding meaning_by
-other_statements_keep_ranges resolved built state user s = kept_ranges_built (built.statement s) resolved state user s
+other_statements_keep_ranges resolved built state asker s = kept_ranges_built (built.statement s) resolved state asker s
 
 -- ---- what asks
 
-kept_answer_permitted : (permitted : Bool) (state : State) (user : List ℕ) (asked : List Asked)
-    → (permitted_outcome permitted state user (Answer asked)).state ≡ state
+kept_answer : (state : State) (asker : Asker) (asked : List Asked) (permitted : Bool) → (judged_outcome state asker (permitted_tree permitted (Answer asked))).state ≡ state
 unfolding tree_meaning ruled_tree
-kept_answer_permitted true state user asked = refl
-kept_answer_permitted false state user asked = refl
+kept_answer state asker asked true = refl
+kept_answer state asker asked false = refl
 
-kept_answer_resolved : (state : State) (user : List ℕ) (tree : Result Checked ℕ) (asked : List Asked) → tree ≡ Ok (Answer asked) → (tree_outcome state user tree).state ≡ state
-kept_answer_resolved state user tree asked e =
-    ap (λ tree. (tree_outcome state user tree).state) e ∙ kept_answer_permitted (checked_permitted state.db (asks user) (Answer asked)) state user asked
+kept_answer_statement : (resolved : Resolving) (state : State) (asker : Asker) (s : Statement) (asked : List Asked)
+    → is_range s ≡ false → resolved state.db asker.user state.ranges s ≡ Ok (Answer asked) → (statement_outcome resolved state asker s).state ≡ state
+unfolding statement_outcome judged_by
+kept_answer_statement resolved state asker (Range var rel) asked = λ h e. cc h
+kept_answer_statement resolved state asker s asked = λ h e.
+    ap (λ tree. (judged_outcome state asker (judged_tree state.db asker tree)).state) e ∙ kept_answer state asker asked (checked_permitted state.db (Asks asker) (Answer asked))
 
-kept_answer_statement : (resolved : Resolving) (state : State) (user : List ℕ) (s : Statement) (asked : List Asked)
-    → is_range s ≡ false → resolved state.db user state.ranges s ≡ Ok (Answer asked) → (statement_outcome resolved state user s).state ≡ state
-unfolding statement_outcome
-kept_answer_statement resolved state user (Range var rel) asked = λ h e. cc h
-kept_answer_statement resolved state user s asked = λ h e. kept_answer_resolved state user (resolved state.db user state.ranges s) asked e
-
-kept_answer_built : (built : Bool) (resolved : Resolving) (state : State) (user : List ℕ) (s : Statement) (asked : List Asked)
-    → is_range s ≡ false → resolved state.db user state.ranges s ≡ Ok (Answer asked) → (built_outcome built resolved state user s).state ≡ state
-kept_answer_built true resolved state user s asked = kept_answer_statement resolved state user s asked
-kept_answer_built false resolved state user s asked = λ h e. refl
+kept_answer_built : (built : Bool) (resolved : Resolving) (state : State) (asker : Asker) (s : Statement) (asked : List Asked)
+    → is_range s ≡ false → resolved state.db asker.user state.ranges s ≡ Ok (Answer asked) → (built_outcome built resolved state asker s).state ≡ state
+kept_answer_built true resolved state asker s asked = kept_answer_statement resolved state asker s asked
+kept_answer_built false resolved state asker s asked = λ h e. refl
 
 -- a statement whose tree asks changes nothing
-pub what_asks_keeps : (resolved : Resolving) (built : Built) (state : State) (user : List ℕ) (s : Statement) (asked : List Asked)
-    → is_range s ≡ false → resolved state.db user state.ranges s ≡ Ok (Answer asked) → (meaning_by resolved built state user s).state ≡ state
+pub what_asks_keeps : (resolved : Resolving) (built : Built) (state : State) (asker : Asker) (s : Statement) (asked : List Asked)
+    → is_range s ≡ false → resolved state.db asker.user state.ranges s ≡ Ok (Answer asked) → (meaning_by resolved built state asker s).state ≡ state
 unfolding meaning_by
-what_asks_keeps resolved built state user s = kept_answer_built (built.statement s) resolved state user s
+what_asks_keeps resolved built state asker s = kept_answer_built (built.statement s) resolved state asker s

@@ -1,5 +1,5 @@
 -- The kinds of written terms are kinds that an attribute may have.
-use Rattle.std.proofs.Common.{◌≡◌, refl, subst, ℕ, zero, suc, ◌+◌, ◌≤◌, min, max, nat_le, Bool, true, false, ◌&&◌, cond, List, [], ◌∷◌, ◌++◌, map, length, slice_get, Option, Some, None, arith}
+use Rattle.std.proofs.Common.{◌≡◌, refl, subst, ℕ, zero, suc, ◌+◌, ◌≤◌, min, max, nat_le, Bool, true, false, ◌&&◌, cond, List, [], ◌∷◌, map, length, slice_get, Option, Some, None, arith}
 use Rattle.std.proofs.lemmas.Bool.{le-leb, leb-true}
 use Rattle.calculus.specs.declared.operator.AggOp.{AggOp}
 use Rattle.calculus.specs.declared.schema.Attr.{Attr as Attribute}
@@ -17,11 +17,11 @@ use Rattle.calculus.specs.Kinds.{kind_in, attribute_kind, constant_kind, is_numb
 use Rattle.calculus.specs.Stored.{attrs_in, info_at, kinds_at}
 use Rattle.calculus.specs.Written.{neg, abs, operation, concat}
 use Rattle.quel_meaning.specs.KindsInQueries.{adds_up, picks, folded_kind, fitting_kind, aggregate_kind, kind_in_query}
-use Rattle.quel_meaning.specs.IsWritten.{constants, constants_in_aggregate, constants_in_row, constants_in_qual}
+use Rattle.quel_meaning.specs.IsWritten.{term_is_written, aggregate_is_written}
 use Rattle.quel_meaning.specs.Scope.{Scope}
 use Rattle.quel_meaning.specs.WrittenParts.{aggregate_vars}
 use Rattle.quel_meaning.specs.WrittenTree.{Vars, key_over, first_var, term_tree, aggregate_tree}
-use Rattle.quel_meaning.proofs.Each.{Each, front_of, in_map, each_passes, left, and}
+use Rattle.quel_meaning.proofs.Each.{Each, in_map, each_passes, left, and}
 use Rattle.quel_meaning.proofs.ConstantLengths.{constant_short}
 use Rattle.quel_meaning.proofs.DatabaseFacts.{info_stands, stood}
 use Rattle.quel_meaning.proofs.KindFacts.{kind_too}
@@ -131,22 +131,22 @@ constant_lawful bytes h =
 mutual
   unfolding kind_in_query aggregate_kind
 
-  pub term_lawful : (s : Scope) → IsDatabase s.db → (vars : Vars) (n : ℕ) (t : Term) (kinds : List (List Kind)) → AreKinds kinds → Each (λ b. is_chars b ≡ true) (constants t)
+  pub term_lawful : (s : Scope) → IsDatabase s.db → (vars : Vars) (n : ℕ) (t : Term) (kinds : List (List Kind)) → AreKinds kinds → term_is_written t ≡ true
       → (k : Kind) → kind_in_query s.db (term_tree s vars n t) kinds ≡ Some k → IsKind k
   term_lawful s is vars n (Int number) kinds h c k e = wide k e
-  term_lawful s is vars n (Chars bytes) kinds h c k e = let same : constant_kind bytes ≡ k = cc e in subst IsKind same (constant_lawful bytes c.0)
+  term_lawful s is vars n (Chars bytes) kinds h c k e = let same : constant_kind bytes ≡ k = cc e in subst IsKind same (constant_lawful bytes c)
   term_lawful s is vars n (Attr var attr) kinds h c k e = attribute_lawful kinds _ _ k h e
   term_lawful s is vars n (neg t) kinds h c k e = number_lawful _ k e
   term_lawful s is vars n (abs t) kinds h c k e = number_lawful _ k e
   term_lawful s is vars n (operation op t u) kinds h c k e = operated_lawful _ _ k e
-  term_lawful s is vars n (concat t u) kinds h c k e = joined_lawful _ _ k (λ l f. term_lawful s is vars n t kinds h (front_of _ (constants t) (constants u) c) l f) e
+  term_lawful s is vars n (concat t u) kinds h c k e = joined_lawful _ _ k (λ l f. term_lawful s is vars n t kinds h (left _ _ c) l f) e
   term_lawful s is vars n (Agg' mark row) kinds h c k e = row_lawful s is vars n row kinds h c k e
 
   pub row_lawful : (s : Scope) → IsDatabase s.db → (vars : Vars) (n : ℕ) → {m : _} → (row : Row_of-AggTerm m) (kinds : List (List Kind)) → AreKinds kinds
-      → Each (λ b. is_chars b ≡ true) (constants_in_aggregate row) → (k : Kind) → kind_in_query s.db (aggregate_tree s vars n row) kinds ≡ Some k → IsKind k
+      → aggregate_is_written row ≡ true → (k : Kind) → kind_in_query s.db (aggregate_tree s vars n row) kinds ≡ Some k → IsKind k
   row_lawful s is vars n end_of-AggTerm kinds h c k e = wide k e
   row_lawful s is vars n (more_of-AggTerm op arg bys by qual rest) kinds h c k e =
       let inner = aggregate_vars (record { op = op; arg = arg; by = items-the_row-Term _ by; qual = qual }) in
       let source = kinds_at s.db (key_over s (first_var inner)) ∷ [] in
       fitting_lawful _ op (kind_of (term_tree s inner 0 arg) source) k
-      (λ l f. term_lawful s is inner 0 arg source (kinds_stored s.db is (key_over s (first_var inner)), tt) (front_of _ (constants arg) (constants_in_row by ++ constants_in_qual qual) c) l (kind_too s.db (term_tree s inner 0 arg) source l f)) e
+      (λ l f. term_lawful s is inner 0 arg source (kinds_stored s.db is (key_over s (first_var inner)), tt) (left _ _ c) l (kind_too s.db (term_tree s inner 0 arg) source l f)) e

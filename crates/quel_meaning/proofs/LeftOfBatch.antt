@@ -1,9 +1,9 @@
 -- A batch, statement by statement.
-use Rattle.std.proofs.Common.{◌≡◌, refl, ap, ◌∙◌, ℕ, List}
+use Rattle.std.proofs.Common.{◌≡◌, ap, ◌∙◌, ℕ, List}
 use Rattle.calculus.specs.declared.statement.Statement.{Statement}
 use Rattle.quel_grammar.specs.Next.{Next, Nothing, Read, Syntax, line_at}
 use Rattle.quel_meaning.specs.Batch.{Batch, MovesOn, placed_at, read_on, batch_from}
-use Rattle.quel_meaning.specs.Happening.{Setting, Kept, After, quiet, refused, and_then, over}
+use Rattle.quel_meaning.specs.Happening.{Setting, Kept, quiet, refused, and_then, over}
 use Rattle.quel_meaning.specs.Running.{after_statement, after_refusal, after_batch}
 use Rattle.quel_meaning.proofs.LeftOpen.{then_both}
 use Rattle.quel_meaning.proofs.ReadWhole.{read_next}

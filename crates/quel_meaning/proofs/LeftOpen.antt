@@ -1,12 +1,12 @@
 -- A script, step by step, while files are open.
-use Rattle.std.proofs.Common.{◌≡◌, refl, sym, ap, ◌∙◌, ℕ, zero, suc, ◌≤◌, Bool, true, false, List, [], ◌∷◌, ◌++◌, length, append_assoc, append-nil, Option, Some, None, arith}
+use Rattle.std.proofs.Common.{◌≡◌, refl, ap, ◌∙◌, ℕ, suc, ◌≤◌, Bool, true, false, List, [], ◌∷◌, ◌++◌, length, append_assoc, append-nil, Some, arith}
 use Rattle.std.proofs.lemmas.Bool.{le-leb}
 use Rattle.std.specs.Prelude.{◌+◌, ◌-◌, if◌then◌else◌, nat_le}
 use Rattle.std.specs.List.{list_all}
 use Rattle.quel_meaning.specs.Lines.{lines_of}
-use Rattle.quel_meaning.specs.Monitor.{Command, Part, Piece, Order, Plain, has_no_command, quoting_behind, is_letter, word_length, command_of, names_file, before_parts, order_before, parts_of}
+use Rattle.quel_meaning.specs.Monitor.{Command, Part, Piece, Order, Plain, has_no_command, quoting_behind, is_command_letter, word_length, command_of, names_file, before_parts, order_before, parts_of}
 use Rattle.quel_meaning.specs.Buffer.{with_piece}
-use Rattle.quel_meaning.specs.Happening.{Setting, Event, Kept, After, quiet, refused, behind, and_then, over}
+use Rattle.quel_meaning.specs.Happening.{Setting, Event, Kept, After, quiet, refused, and_then, over}
 use Rattle.quel_meaning.specs.Running.{Deeper, most_included, after_include, after_command, after_open_part, after_part, after_line, after_lines, files_within}
 use Rattle.quel_meaning.specs.Session.{files_of}
 use Rattle.quel_meaning.specs.OpenFiles.{OpenFiles, included_in, after_files, after_rest}
@@ -81,7 +81,7 @@ order_first setting deeper kept command parts e =
 
 -- a line up to its first command, and the parts behind it
 command_line : (setting : Setting) (deeper : Deeper) (kept : Kept) (piece word rest : List ℕ) → has_no_command Plain piece ≡ true → quoting_behind Plain piece ≡ Plain
-    → list_all is_letter word ≡ true → word_length rest ≡ 0 → kept.quit ≡ false
+    → list_all is_command_letter word ≡ true → word_length rest ≡ 0 → kept.quit ≡ false
     → after_line setting deeper kept (piece ++ (92 ∷ (word ++ rest)))
     ≡ and_then (after_command setting deeper (taking kept piece) (command_of word rest)) (λ k. over (after_part setting deeper) k (if names_file (command_of word rest) then [] else parts_of rest))
 unfolding after_line
@@ -92,7 +92,7 @@ command_line setting deeper kept piece word rest free closed letters none e =
 
 -- behind a command that names no file the rest of the line runs
 pub plain_command : (setting : Setting) (kept : Kept) (piece word rest : List ℕ) (files : OpenFiles) → has_no_command Plain piece ≡ true → quoting_behind Plain piece ≡ Plain
-    → list_all is_letter word ≡ true → word_length rest ≡ 0 → kept.quit ≡ false → names_file (command_of word rest) ≡ false
+    → list_all is_command_letter word ≡ true → word_length rest ≡ 0 → kept.quit ≡ false → names_file (command_of word rest) ≡ false
     → after_rest setting kept (piece ++ (92 ∷ (word ++ rest))) files
     ≡ and_then (after_command setting (included_in setting files) (taking kept piece) (command_of word rest)) (λ k. after_rest setting k rest files)
 unfolding after_line
@@ -106,7 +106,7 @@ plain_command setting kept piece word rest files free closed letters none e name
 
 -- behind a command that names a file nothing is left of the line
 pub file_command : (setting : Setting) (kept : Kept) (piece word rest : List ℕ) (files : OpenFiles) → has_no_command Plain piece ≡ true → quoting_behind Plain piece ≡ Plain
-    → list_all is_letter word ≡ true → word_length rest ≡ 0 → kept.quit ≡ false → names_file (command_of word rest) ≡ true
+    → list_all is_command_letter word ≡ true → word_length rest ≡ 0 → kept.quit ≡ false → names_file (command_of word rest) ≡ true
     → after_rest setting kept (piece ++ (92 ∷ (word ++ rest))) files
     ≡ and_then (after_command setting (included_in setting files) (taking kept piece) (command_of word rest)) (λ k. after_files setting k files)
 unfolding over

@@ -10,6 +10,7 @@ mod Printing
 mod Sessions
 mod Toy
 mod Fitting
+mod WorkedWritten
 pub mod Accepted
 pub mod Slots
 pub mod Declared
@@ -51,7 +52,11 @@ pub mod FitMade
 pub mod FewExpanded
 mod Full
 pub mod FitShown
+pub mod NameChars
+pub mod SpelledTerms
+pub mod SpelledResolved
 pub mod FitResolved
+pub mod Judged
 pub mod FitViews
 pub mod UsedVars
 pub mod VarPlaces

@@ -21,7 +21,8 @@ use Rattle.calculus.specs.Stored.{kinds_at}
 use Rattle.calculus.specs.QueryParts.{vars_of, targets_of, qual_of}
 use Rattle.calculus.specs.Replacement.{made_attr}
 use Rattle.calculus.specs.Change.{permit_numbers, rule_numbers}
-use Rattle.calculus.specs.IsDatabase.{row_qual_stands, row_qual_is_small}
+use Rattle.calculus.specs.IsDatabase.{row_qual_stands}
+use Rattle.calculus.specs.Storable.{row_qual_is_small}
 use Rattle.quel_meaning.specs.Scope.{Scope, named, ranged, entry_named, key_found, place_found}
 use Rattle.quel_meaning.specs.Aggregates.{aggregates_stand}
 use Rattle.quel_meaning.specs.KindsInQueries.{query_fits, assignments_fit}

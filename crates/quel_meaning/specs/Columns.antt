@@ -84,9 +84,9 @@ column_value last form kind bytes =
 -- ---- into a file
 
 -- the bytes of a value as it is printed
-abbrev pub printed : Value → List ℕ
-printed (Int z) = signed_decimal z
-printed (Text bytes) = bytes
+abbrev pub value_text : Value → List ℕ
+value_text (Int z) = signed_decimal z
+value_text (Text bytes) = bytes
 
 -- the bytes in n bytes filled with blanks, a number at the right, a text at the left
 abbrev pub filled : ℕ → Value → List ℕ
@@ -97,5 +97,5 @@ filled n (Text bytes) = bytes ++ replicate (n - length bytes) 32
 abbrev pub column_bytes : CopyForm → Value → Option (List ℕ)
 column_bytes (Bin n) (Int z) = if has_bytes n z then Some (number_bytes n z) else None
 column_bytes (Bin n) (Text bytes) = None
-column_bytes (Fixed n) v = if nat_lt n (length (printed v)) then None else Some (filled n v)
-column_bytes (Until stop) v = if has_number (printed v) stop then None else Some (printed v ++ stop ∷ [])
+column_bytes (Fixed n) v = if nat_lt n (length (value_text v)) then None else Some (filled n v)
+column_bytes (Until stop) v = if has_number (value_text v) stop then None else Some (value_text v ++ stop ∷ [])

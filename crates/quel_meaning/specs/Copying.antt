@@ -26,8 +26,8 @@ abbrev pub most_file_bytes : ℕ
 most_file_bytes = 4294967295
 
 -- the name of the file that a text constant names: its bytes with escapes removed, and with the blanks at their end
-abbrev pub file_name : List ℕ → List ℕ
-file_name constant = plain_bytes (marks constant)
+abbrev pub file_of_constant : List ℕ → List ℕ
+file_of_constant constant = plain_bytes (marks constant)
 
 -- a refusal with this number, of no line and no row
 abbrev pub refusal : ℕ → Refusal
@@ -91,7 +91,7 @@ file_appended db rel columns (Some bytes) = elim (nat_lt most_file_bytes (length
 unfoldable pub copied_from : Db → Shelf → List ℕ → RelKey → List CopyCol → List ℕ → Result DbChange Refusal
 copied_from db shelf user rel columns constant = elim (first_cause (owner_causes db user rel)) [
   | Some number ↦ Err (refusal number)
-  | None ↦ file_appended db rel columns (fetched shelf (file_name constant))
+  | None ↦ file_appended db rel columns (fetched shelf (file_of_constant constant))
 ]
 
 -- ---- into a file

@@ -5,8 +5,6 @@ use Rattle.calculus.specs.declared.query.RelKey.{RelKey}
 use Rattle.calculus.specs.declared.query.QQual.{QQual}
 use Rattle.calculus.specs.declared.query.Query.{Query}
 use Rattle.calculus.specs.declared.schema.Attr.{Attr}
-use Rattle.calculus.specs.declared.schema.Spec.{Spec}
-use Rattle.calculus.specs.declared.schema.Spec.TheVariants as spec
 use Rattle.calculus.specs.declared.schema.Permit.{Permit}
 use Rattle.calculus.specs.declared.request.CopyCol.{CopyCol}
 use Rattle.calculus.specs.declared.request.Update.{Update}
@@ -24,12 +22,15 @@ use Rattle.calculus.specs.Stored.{attrs_at, kinds_at}
 use Rattle.calculus.specs.QueryParts.{vars_of, targets_of, qual_of}
 use Rattle.calculus.specs.Replacement.{made_attr}
 use Rattle.calculus.specs.Sizes.{variables, expanded_variables, update_expanded_variables}
-use Rattle.calculus.specs.IsDatabase.{attrs_stand, are_stored, keys_stand, var_kinds, query_stands, vars_are_there, row_qual_stands, row_qual_is_small, permit_attrs_stand}
+use Rattle.calculus.specs.IsDatabase.{attrs_stand, are_stored, keys_stand, var_kinds, query_stands, vars_are_there, row_qual_stands, permit_attrs_stand}
+use Rattle.calculus.specs.Storable.{row_qual_is_small}
+use Rattle.calculus.specs.Structures.{is_structure}
 use Rattle.quel_meaning.specs.Passing.{is_full, is_taken, is_too_large}
 use Rattle.quel_meaning.specs.KindsInQueries.{kind_in_query, kinds_fit_in_query, assignments_fit}
-use Rattle.quel_meaning.specs.FitQueries.{Allowed, kept, kept_or_viewed, is_named, lists_few_vars, reads_fit, asked_fits}
+use Rattle.quel_meaning.specs.FitQueries.{Allowed, kept_alone, kept_or_viewed, is_named, lists_few_vars, reads_fit, asked_fits}
 use Rattle.quel_meaning.specs.Causes.{is_binary}
 use Rattle.quel_meaning.specs.Planned.{target_attr}
+use Rattle.quel_meaning.specs.SpelledTree.{tree_is_spelled}
 
 -- ---- updates
 
@@ -57,9 +58,9 @@ abbrev pub checks_fit : Db → Update → Bool
 checks_fit db u = list_all (λ check. kinds_fit check (map (λ a. a.kind) (new_attrs db u) ∷ [])) (u.new_cut ∷ u.checks)
 
 -- the key is there and is this one
-abbrev pub has_key : Option RelKey → RelKey → Bool
-has_key None key = false
-has_key (Some k) key = same_key k key
+abbrev pub is_this_key : Option RelKey → RelKey → Bool
+is_this_key None key = false
+is_this_key (Some k) key = same_key k key
 
 -- there is room for what is made, and its name is not in use
 abbrev pub is_new : Db → List ℕ → List ℕ → Bool
@@ -69,8 +70,8 @@ is_new db owner name = not (is_taken db owner name) && not (is_full db)
 abbrev pub relation_fits : Db → Update → Bool
 relation_fits db u = elim u.op [
   | op.Append ↦ is_relation db u.rel && nat_eq u.old 255
-  | op.Replace ↦ is_relation db u.rel && has_key (slice_get (vars_of u.query) u.old) u.rel
-  | op.Delete ↦ is_relation db u.rel && has_key (slice_get (vars_of u.query) u.old) u.rel
+  | op.Replace ↦ is_relation db u.rel && is_this_key (slice_get (vars_of u.query) u.old) u.rel
+  | op.Delete ↦ is_relation db u.rel && is_this_key (slice_get (vars_of u.query) u.old) u.rel
   | op.Into ↦ nat_eq u.old 255 && (is_new db u.rel.owner u.rel.name && (attrs_stand (new_attrs db u) && are_stored (new_attrs db u)))
 ]
 
@@ -87,10 +88,6 @@ update_fits may db u =
 -- a relation, view, index or catalogue is there under the key
 abbrev pub is_entry : Db → RelKey → Bool
 is_entry db key = is_there db key || is_named db key
-
--- a structure that a relation may be given
-abbrev pub is_structure : Spec → Bool
-is_structure to = elim to [ spec.Heap ↦ true | spec.Hash ↦ true | spec.Isam ↦ true | spec.View ↦ false | spec.Index ↦ false ]
 
 -- the columns of a file: at least one, each for an attribute, all different, none of a number's bytes for a text
 abbrev pub columns_fit : Db → RelKey → List CopyCol → Bool
@@ -130,15 +127,19 @@ utility_fits db user (utility.Rule rel rule) = row_qual_fits db rel rule.qual
 utility_fits db user (utility.DropPermits rel numbers) = is_named db rel
 utility_fits db user (utility.DropRules rel numbers) = is_named db rel
 
--- a tree is fit for a database and a user where this is what it may read
+-- what a tree asks for suits a database and a user where this is what it may read
+unfoldable pub suits : Allowed → Db → List ℕ → Checked → Bool
+suits may db user (checked.Answer asked) = list_all (asked_fits may db) asked
+suits may db user (checked.Update update) = update_fits may db update
+suits may db user (checked.Utility request) = utility_fits db user request
+
+-- a tree is fit for a database and a user where this is what it may read: its parts are what their types ask for, and it suits
 unfoldable pub fits : Allowed → Db → List ℕ → Checked → Bool
-fits may db user (checked.Answer asked) = list_all (asked_fits may db) asked
-fits may db user (checked.Update update) = update_fits may db update
-fits may db user (checked.Utility request) = utility_fits db user request
+fits may db user tree = tree_is_spelled tree && suits may db user tree
 
 -- a tree is fit for a database and a user: it reads base relations and catalogues alone
 abbrev pub is_fit : Db → List ℕ → Checked → Bool
-is_fit db user tree = fits (kept db) db user tree
+is_fit db user tree = fits (kept_alone db) db user tree
 
 -- a tree is fit once the views in it are put in
 abbrev pub is_fit_with_views : Db → List ℕ → Checked → Bool

@@ -31,8 +31,8 @@ pub record Allowed : Type 0 where
   pub source : RelKey → Bool
 
 -- base relations and catalogues that are there
-abbrev pub kept : Db → Allowed
-kept db = record { variable = is_kept db; source = is_kept db }
+abbrev pub kept_alone : Db → Allowed
+kept_alone db = record { variable = is_kept db; source = is_kept db }
 
 -- a relation, view or catalogue is there under the key
 abbrev pub is_named : Db → RelKey → Bool

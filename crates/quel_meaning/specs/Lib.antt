@@ -28,6 +28,7 @@ pub mod StatementUpdate
 pub mod Causes
 pub mod Resolved
 pub mod FitQueries
+pub mod SpelledTree
 pub mod Fit
 pub mod Purpose
 pub mod CopiedBack

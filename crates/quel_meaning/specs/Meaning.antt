@@ -15,7 +15,7 @@ use Rattle.calculus.specs.declared.reply.Reply.TheVariants.{Nothing, Done, Refus
 use Rattle.calculus.specs.declared.schema.RelInfo.{RelInfo}
 use Rattle.calculus.specs.declared.statement.Statement.{Statement}
 use Rattle.calculus.specs.declared.statement.Statement.TheVariants.{Range}
-use Rattle.calculus.specs.Who.{Who, Asks}
+use Rattle.calculus.specs.Who.{Who, Asker, Asks}
 use Rattle.calculus.specs.Database.{Db}
 use Rattle.calculus.specs.Finding.{found}
 use Rattle.calculus.specs.Permission.{query_permitted, update_permitted}
@@ -27,7 +27,7 @@ use Rattle.quel_meaning.specs.Shelf.{Shelf, stored}
 use Rattle.quel_meaning.specs.State.{State, Outcome, Built}
 use Rattle.quel_meaning.specs.Resolved.{resolved}
 use Rattle.quel_meaning.specs.Planned.{planned}
-use Rattle.quel_meaning.specs.Copying.{copied_from, copied_into, file_name, refusal}
+use Rattle.quel_meaning.specs.Copying.{copied_from, copied_into, file_of_constant, refusal}
 use Rattle.quel_meaning.specs.Tables.{table_of, some_query_lacks}
 
 -- ---- trees
@@ -64,7 +64,7 @@ answer_reply db who asked = elim (some_query_lacks db who asked) [ true ↦ Refu
 -- rows are copied from a file into the relation, or from the relation into a file
 abbrev pub copy_effect : Db → Shelf → List ℕ → RelKey → List CopyCol → Bool → List ℕ → Effect
 copy_effect db shelf user rel columns true constant = change_effect db shelf (copied_from db shelf user rel columns constant)
-copy_effect db shelf user rel columns false constant = file_effect db shelf (file_name constant) (copied_into db user rel columns)
+copy_effect db shelf user rel columns false constant = file_effect db shelf (file_of_constant constant) (copied_into db user rel columns)
 
 -- what the utilities do for the user
 unfoldable pub utility_effect : Db → Shelf → List ℕ → Work → Effect
@@ -89,61 +89,73 @@ ruled_tree db (Answer asked) = Answer asked
 ruled_tree db (Update u) = Update (ruled db u)
 ruled_tree db (Utility work) = Utility work
 
--- ---- statements
+-- ---- what a statement asks for, judged
 
 -- what a statement is found to be: its tree, or the number of what refuses it
 abbrev pub Resolving : Type 0
 Resolving = Db → List ℕ → Ranges → Statement → Result Checked ℕ
 
--- the user asks
-abbrev pub asks : List ℕ → Who
-asks user = Asks (record { user = user })
+-- the tree, where all is permitted; else 23
+abbrev pub permitted_tree : Bool → Checked → Result Checked ℕ
+permitted_tree true tree = Ok tree
+permitted_tree false tree = Err 23
+
+-- the tree of a statement, where all that it reads and changes is permitted to the one who asks; else 23
+abbrev pub judged_tree : Db → Asker → Result Checked ℕ → Result Checked ℕ
+judged_tree db asker (Err number) = Err number
+judged_tree db asker (Ok tree) = permitted_tree (checked_permitted db (Asks asker) tree) tree
+
+-- what a statement asks for: its tree, or the number of what refuses it before any row is looked at
+unfoldable pub judged_by : Resolving → Db → Asker → Ranges → Statement → Result Checked ℕ
+judged_by resolved db asker ranges s = judged_tree db asker (resolved db asker.user ranges s)
+
+-- the same, resolved as statements are
+abbrev pub judged : Db → Asker → Ranges → Statement → Result Checked ℕ
+judged db asker ranges s = judged_by resolved db asker ranges s
+
+-- ---- statements
 
 -- nothing changes, and the statement is refused
-abbrev pub refused : State → ℕ → Outcome
-refused state number = record { state = state; reply = Refused (refusal number) }
+abbrev pub refused_outcome : State → ℕ → Outcome
+refused_outcome state number = record { state = state; reply = Refused (refusal number) }
 
 -- the variable ranges over what was found; refused where that is nothing
 abbrev pub range_outcome : State → List ℕ → Option RelInfo → Outcome
-range_outcome state var None = refused state 10
+range_outcome state var None = refused_outcome state 10
 range_outcome state var (Some info) = record { state = record state { ranges = declared state.ranges var info.key }; reply = Nothing }
 
 -- what was carried out, with the ranges of before
 abbrev pub with_ranges : Ranges → Effect → Outcome
 with_ranges ranges e = record { state = record { db = e.db; shelf = e.shelf; ranges = ranges }; reply = e.reply }
 
--- what the tree means for the user, with the rules of its relation, where it is permitted; else refused
-abbrev pub permitted_outcome : Bool → State → List ℕ → Checked → Outcome
-permitted_outcome true state user tree = with_ranges state.ranges (tree_meaning state.db state.shelf (asks user) user (ruled_tree state.db tree))
-permitted_outcome false state user tree = refused state 23
-
--- what the tree of a statement means for the user; refused where there is none
-abbrev pub tree_outcome : State → List ℕ → Result Checked ℕ → Outcome
-tree_outcome state user (Err number) = refused state number
-tree_outcome state user (Ok tree) = permitted_outcome (checked_permitted state.db (asks user) tree) state user tree
+-- what a judged tree means for the one who asks, with the rules of the relation that it changes; or the statement is refused
+abbrev pub judged_outcome : State → Asker → Result Checked ℕ → Outcome
+judged_outcome state asker (Err number) = refused_outcome state number
+judged_outcome state asker (Ok tree) =
+    with_ranges state.ranges (tree_meaning state.db state.shelf (Asks asker) asker.user (ruled_tree state.db tree))
 
 -- the statement declares a range variable
 abbrev pub is_range : Statement → Bool
 is_range (Range var rel) = true
 is_range s = false
 
--- what a statement that is built does for the user
-unfoldable pub statement_outcome : Resolving → State → List ℕ → Statement → Outcome
-statement_outcome resolved state user (Range var rel) = range_outcome state var (found state.db user rel)
-statement_outcome resolved state user s = tree_outcome state user (resolved state.db user state.ranges s)
+-- what a statement that is built does for the one who asks
+unfoldable pub statement_outcome : Resolving → State → Asker → Statement → Outcome
+statement_outcome resolved state asker (Range var rel) = range_outcome state var (found state.db asker.user rel)
+statement_outcome resolved state asker s = judged_outcome state asker (judged_by resolved state.db asker state.ranges s)
 
--- what a statement does for the user, where it is built; else it is refused before all else
-abbrev pub built_outcome : Bool → Resolving → State → List ℕ → Statement → Outcome
-built_outcome true resolved state user s = statement_outcome resolved state user s
-built_outcome false resolved state user s = refused state 9
+-- what a statement does for the one who asks, where it is built; else it is refused before all else
+abbrev pub built_outcome : Bool → Resolving → State → Asker → Statement → Outcome
+built_outcome true resolved state asker s = statement_outcome resolved state asker s
+built_outcome false resolved state asker s = refused_outcome state 9
 
--- what a statement does for the user
-unfoldable pub meaning_by : Resolving → Built → State → List ℕ → Statement → Outcome
-meaning_by resolved built state user s = built_outcome (built.statement s) resolved state user s
+-- what a statement does for the one who asks
+unfoldable pub meaning_by : Resolving → Built → State → Asker → Statement → Outcome
+meaning_by resolved built state asker s = built_outcome (built.statement s) resolved state asker s
 
--- what a statement does for the user, resolved as statements are
-abbrev pub meaning : Built → State → List ℕ → Statement → Outcome
-meaning built state user s = meaning_by resolved built state user s
+-- what a statement does for the one who asks, resolved as statements are
+abbrev pub meaning : Built → State → Asker → Statement → Outcome
+meaning built state asker s = meaning_by resolved built state asker s
 
 -- what statements do that run one after the other, each on what the one before left
 unfoldable pub statements_run : (State → Statement → Outcome) → State → List Statement → List Outcome

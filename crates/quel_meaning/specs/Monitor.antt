@@ -89,8 +89,8 @@ quoting_behind quoting [] = quoting
 quoting_behind quoting (b ∷ bs) = quoting_behind (quoting_after quoting b) bs
 
 -- a letter a to z
-abbrev pub is_letter : ℕ → Bool
-is_letter b = nat_le 97 b && nat_le b 122
+abbrev pub is_command_letter : ℕ → Bool
+is_command_letter b = nat_le 97 b && nat_le b 122
 
 -- ---- parts
 
@@ -122,7 +122,7 @@ order_before command parts = Order command ∷ (if names_file command then [] el
 
 -- the length of a command's word: as many letters as stand behind its backslash
 abbrev pub word_length : List ℕ → ℕ
-word_length bytes = prefix_len is_letter bytes
+word_length bytes = prefix_len is_command_letter bytes
 
 -- the parts from a command's backslash on, where these bytes and these parts stand behind it
 abbrev pub command_at : List ℕ → List Part → List Part

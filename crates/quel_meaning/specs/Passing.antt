@@ -1,9 +1,8 @@
 -- What passes a limit: variables, sizes, widths, numbers and names.
 use Rattle.std.specs.Prelude.{ℕ, ◌+◌, Bool, true, ◌||◌, nat_le, nat_lt, List, length, sum_by, Option, Some, None}
-use Rattle.std.specs.List.{list_any}
 use Rattle.calculus.specs.declared.value.Kind.{Kind}
 use Rattle.calculus.specs.declared.query.Query.{Query}
-use Rattle.calculus.specs.Limits.{most_attributes, most_row_bytes, most_variables, most_expanded_variables, greatest_size, most_levels, greatest_level, greatest_number, most_entries}
+use Rattle.calculus.specs.Limits.{most_attributes, most_row_bytes, most_variables, most_expanded_variables, greatest_size, most_levels, greatest_level, most_entries}
 use Rattle.calculus.specs.Keys.{key_of}
 use Rattle.calculus.specs.Database.{Db, entries, is_there}
 use Rattle.calculus.specs.Catalogue.{is_catalogue_name}

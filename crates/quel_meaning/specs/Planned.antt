@@ -53,8 +53,8 @@ dropped standing (n ∷ ns) = ascending (n ∷ ns)
 -- ---- what refuses a utility
 
 -- a view stands under the key
-abbrev pub is_view : Db → RelKey → Bool
-is_view db key = is_some (view_at db key)
+abbrev pub has_view : Db → RelKey → Bool
+has_view db key = is_some (view_at db key)
 
 -- the user is not the owner
 abbrev pub is_anothers : List ℕ → RelKey → Bool
@@ -74,7 +74,7 @@ is_broken db rel rule = list_any (λ row. not (holds no_aggs rule.qual (row ∷ 
 
 -- what has the key can't be changed as a base relation of the user's: it is a catalogue, a view, or another's
 abbrev pub owner_causes : Db → List ℕ → RelKey → List (ℕ × Bool)
-owner_causes db user key = (28, is_catalogue db key) ∷ (26, is_view db key) ∷ (24, is_anothers user key) ∷ []
+owner_causes db user key = (28, is_catalogue db key) ∷ (26, has_view db key) ∷ (24, is_anothers user key) ∷ []
 
 -- each cause that refuses a utility, by its number, and whether it is there; in the order in which they count. Of a copy, which is no plan, there is none here
 unfoldable pub plan_causes : Db → List ℕ → Utility → List (ℕ × Bool)
@@ -86,16 +86,16 @@ plan_causes db user (utility.Index base name keys) = owner_causes db user base
 plan_causes db user (utility.Copy rel columns from file) = []
 plan_causes db user (utility.View rel query) = []
 plan_causes db user (utility.Permit rel permit) =
-    (14, is_past_limit most_permits (permit_numbers db rel)) ∷ (28, is_catalogue db rel) ∷ (26, is_view db rel) ∷ (24, is_none_to_permit db user rel) ∷ []
+    (14, is_past_limit most_permits (permit_numbers db rel)) ∷ (28, is_catalogue db rel) ∷ (26, has_view db rel) ∷ (24, is_none_to_permit db user rel) ∷ []
 plan_causes db user (utility.Rule rel rule) =
     (14, is_past_limit most_rules (rule_numbers db rel))
-    ∷ (28, is_catalogue db rel) ∷ (26, is_view db rel) ∷ (24, is_anothers user rel) ∷ (27, is_broken db rel rule) ∷ []
+    ∷ (28, is_catalogue db rel) ∷ (26, has_view db rel) ∷ (24, is_anothers user rel) ∷ (27, is_broken db rel rule) ∷ []
 plan_causes db user (utility.DropPermits rel numbers) =
     (28, is_catalogue db rel)
-    ∷ (26, is_view db rel) ∷ (24, is_none_to_permit db user rel) ∷ (19, not (list_all (has_number (permit_numbers db rel)) numbers)) ∷ []
+    ∷ (26, has_view db rel) ∷ (24, is_none_to_permit db user rel) ∷ (19, not (list_all (has_number (permit_numbers db rel)) numbers)) ∷ []
 plan_causes db user (utility.DropRules rel numbers) =
     (28, is_catalogue db rel)
-    ∷ (26, is_view db rel) ∷ (24, is_anothers user rel) ∷ (19, not (list_all (has_number (rule_numbers db rel)) numbers)) ∷ []
+    ∷ (26, has_view db rel) ∷ (24, is_anothers user rel) ∷ (19, not (list_all (has_number (rule_numbers db rel)) numbers)) ∷ []
 
 -- ---- the change
 

@@ -1,6 +1,7 @@
 -- A session: what a script does in order, and what stands after it.
 use Rattle.std.specs.Prelude.{ℕ, suc, ◌+◌, max, nat_le, Bool, ◌&&◌, if◌then◌else◌, List, [], ◌∷◌, map, length, ◌++◌}
 use Rattle.calculus.specs.Lists.{is_any}
+use Rattle.calculus.specs.Who.{Asker}
 use Rattle.calculus.specs.Database.{Db}
 use Rattle.quel_grammar.specs.Next.{Reading}
 use Rattle.quel_meaning.specs.State.{State, Built}
@@ -35,13 +36,13 @@ session_of_lines setting state lines = session_after (after_lines setting (files
 unfoldable pub session_of : Setting → State → List ℕ → Session
 session_of setting state script = session_of_lines setting state (lines_of script)
 
--- what sessions of a user rest on: this reading, and what is built of the language
-abbrev pub setting_of : Reading → Built → List ℕ → Setting
-setting_of reading built user = record { reading = reading; meaning = λ state s. meaning built state user s; is_built = built.command }
+-- what sessions of one who asks rest on: this reading, and what is built of the language
+abbrev pub setting_of : Reading → Built → Asker → Setting
+setting_of reading built asker = record { reading = reading; meaning = λ state s. meaning built state asker s; is_built = built.command }
 
--- the session of a user's script, from what stands before it
-unfoldable pub session : Reading → Built → List ℕ → State → List ℕ → Session
-session reading built user state script = session_of (setting_of reading built user) state script
+-- the session of the script of one who asks, from what stands before it
+unfoldable pub session : Reading → Built → Asker → State → List ℕ → Session
+session reading built asker state script = session_of (setting_of reading built asker) state script
 
 -- ---- what a session prints
 

@@ -2,6 +2,7 @@
 #![tactic(auto)]
 
 mod copy_laws;
+mod judging_laws;
 mod laws;
 mod plan_laws;
 mod resolving_laws;
@@ -9,6 +10,9 @@ mod session_laws;
 mod step_laws;
 
 pub use copy_laws::a_copy_is_read_back;
+pub use judging_laws::{
+    statements_do_what_they_are_judged_to_ask_for, what_is_judged_is_permitted,
+};
 pub use laws::{
     a_refusal_changes_nothing, a_shelf_keeps_files, a_table_is_the_answer_in_order,
     range_declares_a_variable, what_asks_changes_nothing, what_is_not_built_is_refused,

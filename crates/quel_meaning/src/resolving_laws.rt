@@ -12,6 +12,7 @@ ghost use Rattle.calculus.specs.Used.{used_vars};
 ghost use Rattle.quel_meaning.specs.Naming.{name_refusal};
 ghost use Rattle.quel_meaning.specs.StatementUpdate.{replace_of, delete_of};
 ghost use Rattle.calculus.specs.Lists.{has_number};
+ghost use Rattle.calculus.specs.Name.{is_name};
 ghost use Rattle.calculus.specs.Database.{Db};
 ghost use Rattle.quel_meaning.specs.Ranges.{Ranges};
 ghost use Rattle.quel_meaning.specs.Scope.{Scope};
@@ -50,11 +51,11 @@ pub fn slots_count_the_aggregates_of_a_text()
 {}
 
 /// What a statement that was read asks for is fit for the database and the user, once the views in it
-/// are put in.
+/// are put in. The user's name has to be one.
 #[tactic(auto, using(crate::proofs::FitResolved::resolved_fits))]
 pub fn what_is_resolved_is_fit()
     ensures { (db : Db) (user : List ℕ) (ranges : Ranges) (statement : Statement) (tree : Checked)
-        → IsDatabase db → is_written statement ≡ true → resolved db user ranges statement ≡ Ok tree → is_fit_with_views db user tree ≡ true }
+        → IsDatabase db → is_name user ≡ true → is_written statement ≡ true → resolved db user ranges statement ≡ Ok tree → is_fit_with_views db user tree ≡ true }
 {}
 
 /// A tree that is fit is fit once the views in it are put in. Of the user only the name of an index speaks.

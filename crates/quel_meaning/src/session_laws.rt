@@ -3,11 +3,12 @@
 ghost use Rattle.std.specs.Prelude.{◌≡◌, ◌+◌, ℕ, suc, Bool, true, List, [], ◌∷◌, ◌++◌, length, not};
 ghost use Rattle.std.specs.List.{concat, list_all};
 ghost use Rattle.calculus.specs.Lists.{is_any};
+ghost use Rattle.calculus.specs.Who.{Asker};
 ghost use Rattle.calculus.specs.Database.{Db};
 ghost use Rattle.quel_grammar.specs.Next.{Reading, IsGrammatical};
 ghost use Rattle.quel_meaning.specs.State.{State, Built};
 ghost use Rattle.quel_meaning.specs.Lines.{lines_of, is_no_newline};
-ghost use Rattle.quel_meaning.specs.Monitor.{Plain, has_no_command, quoting_behind, is_letter, word_length, command_of, before_parts, order_before, parts_of};
+ghost use Rattle.quel_meaning.specs.Monitor.{Plain, has_no_command, quoting_behind, is_command_letter, word_length, command_of, before_parts, order_before, parts_of};
 ghost use Rattle.quel_meaning.specs.Batch.{MovesOn, batch_from, read_on};
 ghost use Rattle.quel_meaning.specs.Happening.{Setting, Agree, Event, Kept, quiet, and_then};
 ghost use Rattle.quel_meaning.specs.Running.{Deeper, after_lines};
@@ -27,7 +28,7 @@ pub fn lines_are_the_script()
 pub fn a_line_is_cut_at_its_first_command()
     ensures piece { (line : List ℕ) → has_no_command Plain line ≡ true → parts_of line ≡ before_parts line [] }
     ensures command { (piece word rest : List ℕ) → has_no_command Plain piece ≡ true → quoting_behind Plain piece ≡ Plain
-        → list_all is_letter word ≡ true → word_length rest ≡ 0
+        → list_all is_command_letter word ≡ true → word_length rest ≡ 0
         → parts_of (piece ++ (92 ∷ (word ++ rest))) ≡ before_parts piece (order_before (command_of word rest) (parts_of rest)) }
 {}
 
@@ -78,7 +79,7 @@ pub fn all_output_ends_the_last_reply()
 pub fn equal_readings_give_equal_sessions()
     ensures settings { (s t : Setting) → Agree s t → (state : State) (script : List ℕ) → session_of s state script ≡ session_of t state script }
     ensures readings { (r q : Reading) → ((text : List ℕ) (from : ℕ) → r text from ≡ q text from)
-        → (built : Built) (user : List ℕ) (state : State) (script : List ℕ) → session r built user state script ≡ session q built user state script }
+        → (built : Built) (asker : Asker) (state : State) (script : List ℕ) → session r built asker state script ≡ session q built asker state script }
     ensures grammatical { (r q : Reading) → IsGrammatical r → IsGrammatical q
-        → (built : Built) (user : List ℕ) (state : State) (script : List ℕ) → session r built user state script ≡ session q built user state script }
+        → (built : Built) (asker : Asker) (state : State) (script : List ℕ) → session r built asker state script ≡ session q built asker state script }
 {}

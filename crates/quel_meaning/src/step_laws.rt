@@ -6,7 +6,7 @@ ghost use Rattle.std.specs.List.{list_all};
 ghost use Rattle.calculus.specs.declared.statement.Statement.{Statement};
 ghost use Rattle.quel_grammar.specs.Next.{Nothing, Read, Syntax, line_at};
 ghost use Rattle.quel_meaning.specs.Lines.{lines_of};
-ghost use Rattle.quel_meaning.specs.Monitor.{Plain, has_no_command, quoting_behind, is_letter, word_length, command_of, names_file};
+ghost use Rattle.quel_meaning.specs.Monitor.{Plain, has_no_command, quoting_behind, is_command_letter, word_length, command_of, names_file};
 ghost use Rattle.quel_meaning.specs.Buffer.{with_piece};
 ghost use Rattle.quel_meaning.specs.Batch.{MovesOn, placed_at, batch_from};
 ghost use Rattle.quel_meaning.specs.Happening.{Setting, Kept, quiet, refused, and_then};
@@ -30,11 +30,11 @@ pub fn a_line_is_worked_off_command_by_command()
     ensures piece { (setting : Setting) (kept : Kept) (piece : List ℕ) (files : OpenFiles) → has_no_command Plain piece ≡ true → kept.quit ≡ false
         → after_rest setting kept piece files ≡ after_files setting (record kept { buffer = with_piece kept.buffer piece }) files }
     ensures command { (setting : Setting) (kept : Kept) (piece word rest : List ℕ) (files : OpenFiles) → has_no_command Plain piece ≡ true → quoting_behind Plain piece ≡ Plain
-        → list_all is_letter word ≡ true → word_length rest ≡ 0 → kept.quit ≡ false → names_file (command_of word rest) ≡ false
+        → list_all is_command_letter word ≡ true → word_length rest ≡ 0 → kept.quit ≡ false → names_file (command_of word rest) ≡ false
         → after_rest setting kept (piece ++ (92 ∷ (word ++ rest))) files
         ≡ and_then (after_command setting (included_in setting files) (record kept { buffer = with_piece kept.buffer piece }) (command_of word rest)) (λ k. after_rest setting k rest files) }
     ensures file { (setting : Setting) (kept : Kept) (piece word rest : List ℕ) (files : OpenFiles) → has_no_command Plain piece ≡ true → quoting_behind Plain piece ≡ Plain
-        → list_all is_letter word ≡ true → word_length rest ≡ 0 → kept.quit ≡ false → names_file (command_of word rest) ≡ true
+        → list_all is_command_letter word ≡ true → word_length rest ≡ 0 → kept.quit ≡ false → names_file (command_of word rest) ≡ true
         → after_rest setting kept (piece ++ (92 ∷ (word ++ rest))) files
         ≡ and_then (after_command setting (included_in setting files) (record kept { buffer = with_piece kept.buffer piece }) (command_of word rest)) (λ k. after_files setting k files) }
 {}

@@ -15,7 +15,7 @@ use Rattle.quel_grammar.specs.Grammar.IsName.{name}
 use Rattle.quel_grammar.specs.Statements.{IsOn, IsStructure}
 use Rattle.quel_grammar.specs.Statements.IsOn.{without_keys, on_keys}
 use Rattle.quel_grammar.specs.Statements.IsStructure.{heap, hash, isam}
-use Rattle.quel_meaning.specs.Fit.{is_structure}
+use Rattle.calculus.specs.Structures.{is_structure}
 use Rattle.quel_meaning.specs.IsWritten.{keys_are_written}
 use Rattle.quel_meaning.proofs.Each.{not_right, and}
 use Rattle.reading_laws.proofs.Items.{list_any}

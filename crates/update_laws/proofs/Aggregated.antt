@@ -31,7 +31,7 @@ use Rattle.calculus.specs.Targets.{target_values, qualifying, rows_given}
 use Rattle.calculus.specs.VariableRows.{rows_of}
 use Rattle.calculus.specs.Aggregate.{source_rows, agree, folded_rows, arguments, different, total, first_or, last_or, fold_values, source_kinds, none_value, fold_arguments, fold_linked, aggregates}
 use Rattle.calculus.specs.IsDatabase.{IsDatabase, query_stands}
-use Rattle.quel_meaning.specs.FitQueries.{is_kept, kept, has_few_targets, source_fits}
+use Rattle.quel_meaning.specs.FitQueries.{is_kept, kept_alone, has_few_targets, source_fits}
 use Rattle.quel_meaning.proofs.Each.{Each, in_filter, each_to}
 use Rattle.update_laws.specs.Spelled.{is_proper, row_is_proper, rows_are_proper, term_is_spelled, targets_are_spelled, source_is_spelled, aggregate_is_spelled}
 use Rattle.update_laws.proofs.Lists.{in_filter_map}
@@ -69,16 +69,16 @@ given_proper q es spelled h =
 query_proper : (db : Db) (who : Who) (q : Query) → IsDatabase db → IsTrue (list_all (is_kept db) (vars_of q)) → IsTrue (targets_are_spelled (targets_of q))
     → Each Proper (rows_given no_aggs q (assigned (rows_of db who) q))
 unfolding assigned
-query_proper db who q is kept spelled =
+query_proper db who q is kept_alone spelled =
     given_proper q (assigned (rows_of db who) q) spelled
     (each_to (Chosen Anywhere 0 (vars_of q)) (λ e. IsTrue (rows_are_proper e)) (all_proper Anywhere (λ n key row p. p) 0 (vars_of q)) (assigned (rows_of db who) q)
-    (chosen Anywhere (variable_rows (rows_of db who) q) 0 (vars_of q) (of_keys 0 (vars_of q) kept)))
+    (chosen Anywhere (variable_rows (rows_of db who) q) 0 (vars_of q) (of_keys 0 (vars_of q) kept_alone)))
   where
     of_keys : (n : ℕ) (keys : List RelKey) → IsTrue (list_all (is_kept db) keys) → OfRows Anywhere (variable_rows (rows_of db who) q) (enumerate_from n keys)
     of_keys n [] h = tt
     of_keys n (key ∷ keys) h = let parts = both (is_kept db key) (list_all (is_kept db) keys) h in (variable_proper db who q n key is parts.0, of_keys (n + 1) keys parts.1)
 
-source_proper : (db : Db) (who : Who) (attrs : List ℕ) (source : AggSource) → IsDatabase db → IsTrue (source_fits (kept db) db source) → IsTrue (source_is_spelled source)
+source_proper : (db : Db) (who : Who) (attrs : List ℕ) (source : AggSource) → IsDatabase db → IsTrue (source_fits (kept_alone db) db source) → IsTrue (source_is_spelled source)
     → Each Proper (source_rows (rows_of db who) attrs source)
 unfolding source_fits source_is_spelled
 source_proper db who attrs (Named key) is fit spelled = named_proper db who key attrs is fit
@@ -150,7 +150,7 @@ none_value_proper db g = go (is_text_kind (kind_of g.arg (source_kinds db g.sour
 -- ---- aggregates
 
 -- what an aggregate gives whose source is kept and whose constants are such
-pub aggregate_gives_proper : (db : Db) (who : Who) (g : QAgg) (e : Env) → IsDatabase db → IsTrue (source_fits (kept db) db g.source) → IsTrue (aggregate_is_spelled g)
+pub aggregate_gives_proper : (db : Db) (who : Who) (g : QAgg) (e : Env) → IsDatabase db → IsTrue (source_fits (kept_alone db) db g.source) → IsTrue (aggregate_is_spelled g)
     → IsTrue (gives_proper (aggregates db who g e))
 unfolding aggregates
 aggregate_gives_proper db who g e is fit spelled = linked (values_of g.link e)

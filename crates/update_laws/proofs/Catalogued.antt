@@ -17,7 +17,8 @@ use Rattle.calculus.specs.Rows.{Row, put, set_of}
 use Rattle.calculus.specs.Value.{row_cmp}
 use Rattle.calculus.specs.Database.{Db, Relation, Index, entries, is_relation}
 use Rattle.calculus.specs.Stored.{attrs_at}
-use Rattle.calculus.specs.Catalogue.{is_catalogue_name, relation_key, attribute_key, relation_info, attribute_info, relation_attrs, attribute_attrs, all_entries, spec_text, relation_row, format_text, attribute_row, attribute_rows, catalogue_at}
+use Rattle.calculus.specs.Catalogue.{is_catalogue_name, relation_key, attribute_key, relation_info, attribute_info, relation_attrs, attribute_attrs, all_entries, relation_row, format_text, attribute_row, attribute_rows, catalogue_at}
+use Rattle.calculus.specs.Structures.{spec_text}
 use Rattle.calculus.specs.IsDatabase.{IsDatabase, key_is_named, attrs_stand, is_kind, index_stands, keys_stand}
 use Rattle.quel_meaning.proofs.DatabaseFacts.{stood}
 use Rattle.quel_meaning.proofs.Each.{Each, both_of, in_map, in_flat_map, each_to, each_passes}

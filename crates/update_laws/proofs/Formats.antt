@@ -12,7 +12,8 @@ use Rattle.calculus.specs.declared.schema.Spec.TheVariants.{Heap, Hash, Isam, Vi
 use Rattle.calculus.specs.Chars.{is_chars}
 use Rattle.calculus.specs.Name.{is_name_byte}
 use Rattle.calculus.specs.Text.{is_text}
-use Rattle.calculus.specs.Catalogue.{spec_text, format_text}
+use Rattle.calculus.specs.Catalogue.{format_text}
+use Rattle.calculus.specs.Structures.{spec_text}
 use Rattle.calculus.specs.IsDatabase.{is_kind}
 use Rattle.update_laws.proofs.Texts.{both, each, solid_text}
 

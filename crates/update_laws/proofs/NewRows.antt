@@ -27,7 +27,7 @@ use Rattle.calculus.specs.Targets.{target_values}
 use Rattle.calculus.specs.IsDatabase.{value_fits, row_fits, are_stored, is_stored_kind}
 use Rattle.calculus.specs.Pairs.{blank, with_values, pair_of, old_row}
 use Rattle.calculus.specs.Replacement.{is_of_kind, all_fit, made_attr, wanted_kinds}
-use Rattle.quel_meaning.specs.Fit.{new_attrs, has_key, relation_fits}
+use Rattle.quel_meaning.specs.Fit.{new_attrs, is_this_key, relation_fits}
 use Rattle.quel_meaning.proofs.Keys.{same_keys}
 use Rattle.update_laws.specs.Spelled.{is_proper, row_is_proper}
 use Rattle.update_laws.proofs.Texts.{both, each}
@@ -146,10 +146,10 @@ same_number n = search rules
 old_fits : (db : Db) (u : Update) (e : Env) (values : Row) → Fitting db (record u { op = Replace }) e values → Fits (attrs_at db u.rel) (slice_get e u.old)
 old_fits db u e values f = go (slice_get e u.old) refl
   where
-    parts : IsTrue (is_relation db u.rel) × IsTrue (has_key (slice_get (vars_of u.query) u.old) u.rel)
-    parts = both (is_relation db u.rel) (has_key (slice_get (vars_of u.query) u.old) u.rel) f.relation
+    parts : IsTrue (is_relation db u.rel) × IsTrue (is_this_key (slice_get (vars_of u.query) u.old) u.rel)
+    parts = both (is_relation db u.rel) (is_this_key (slice_get (vars_of u.query) u.old) u.rel) f.relation
 
-    of_key : (row : Row) → slice_get e u.old ≡ Some row → (k : Option RelKey) → slice_get (vars_of u.query) u.old ≡ k → IsTrue (has_key k u.rel) → IsTrue (row_fits (attrs_at db u.rel) row)
+    of_key : (row : Row) → slice_get e u.old ≡ Some row → (k : Option RelKey) → slice_get (vars_of u.query) u.old ≡ k → IsTrue (is_this_key k u.rel) → IsTrue (row_fits (attrs_at db u.rel) row)
     of_key row r None k h = cc h
     of_key row r (Some key) k h =
         let one : key ≡ u.rel = same_keys key u.rel h in

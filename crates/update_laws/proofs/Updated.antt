@@ -28,12 +28,13 @@ use Rattle.calculus.specs.VariableRows.{rows_of}
 use Rattle.calculus.specs.Aggregate.{aggregates}
 use Rattle.calculus.specs.IsDatabase.{IsDatabase, attrs_stand, are_stored, row_fits}
 use Rattle.calculus.specs.Pairs.{pair_at, pair_of, old_row, pair_stands, pairs, qualifying_updates}
-use Rattle.calculus.specs.Replacement.{old_rows, new_rows, with_rows, without_rows, after, made_attr, wanted_kinds, all_fit, values_fit, rows_after, rows_change, causes, first_cause, change_of, updated}
+use Rattle.calculus.specs.Replacement.{old_rows, new_rows, with_rows, without_rows, after, made_attr, wanted_kinds, all_fit, values_fit, rows_after, rows_change, first_cause, change_of, updated}
+use Rattle.calculus.specs.Replacement.{update_refusals}
 use Rattle.calculus.specs.Change.{IsLawful}
 use Rattle.calculus.proofs.Sets.{Ascends-nil, Ascends-put}
 use Rattle.quel_meaning.specs.Passing.{is_full, is_taken}
 use Rattle.quel_meaning.specs.FitQueries.{is_kept}
-use Rattle.quel_meaning.specs.Fit.{new_attrs, has_key, is_new, relation_fits}
+use Rattle.quel_meaning.specs.Fit.{new_attrs, is_this_key, is_new, relation_fits}
 use Rattle.quel_meaning.proofs.DatabaseFacts.{found_passes}
 use Rattle.quel_meaning.proofs.Each.{Each, in_filter, each_passes, passed}
 use Rattle.plan_laws.specs.Fitting.{IsFitRelation}
@@ -172,9 +173,9 @@ before u = go u.op
     go : (o : UpdateOp) → BeforeIs (record u { op = o })
     go Append db is spelled h = let b = of_relation db is (both (is_relation db u.rel) (nat_eq u.old 255) h).0 in record { stored = b.stored; fit = b.fit; ascend = b.ascend }
     go Replace db is spelled h =
-        let b = of_relation db is (both (is_relation db u.rel) (has_key (slice_get (vars_of u.query) u.old) u.rel) h).0 in record { stored = b.stored; fit = b.fit; ascend = b.ascend }
+        let b = of_relation db is (both (is_relation db u.rel) (is_this_key (slice_get (vars_of u.query) u.old) u.rel) h).0 in record { stored = b.stored; fit = b.fit; ascend = b.ascend }
     go Delete db is spelled h =
-        let b = of_relation db is (both (is_relation db u.rel) (has_key (slice_get (vars_of u.query) u.old) u.rel) h).0 in record { stored = b.stored; fit = b.fit; ascend = b.ascend }
+        let b = of_relation db is (both (is_relation db u.rel) (is_this_key (slice_get (vars_of u.query) u.old) u.rel) h).0 in record { stored = b.stored; fit = b.fit; ascend = b.ascend }
     go Into db is spelled h =
         let f = into_fits db u spelled h in
         let none : rows_at db u.rel ≡ [] = ap kept_rows (nothing_ranges db u.rel f.named f.unused) in
@@ -221,9 +222,9 @@ change_lawful u = go u.op
     go Append db who is spelled h ascend fit few =
         rows_lawful (record u { op = Append }) db who is (both (is_relation db u.rel) (nat_eq u.old 255) h).0 (rows_after db who (record u { op = Append })) ascend fit few
     go Replace db who is spelled h ascend fit few =
-        rows_lawful (record u { op = Replace }) db who is (both (is_relation db u.rel) (has_key (slice_get (vars_of u.query) u.old) u.rel) h).0 (rows_after db who (record u { op = Replace })) ascend fit few
+        rows_lawful (record u { op = Replace }) db who is (both (is_relation db u.rel) (is_this_key (slice_get (vars_of u.query) u.old) u.rel) h).0 (rows_after db who (record u { op = Replace })) ascend fit few
     go Delete db who is spelled h ascend fit few =
-        rows_lawful (record u { op = Delete }) db who is (both (is_relation db u.rel) (has_key (slice_get (vars_of u.query) u.old) u.rel) h).0 (rows_after db who (record u { op = Delete })) ascend fit few
+        rows_lawful (record u { op = Delete }) db who is (both (is_relation db u.rel) (is_this_key (slice_get (vars_of u.query) u.old) u.rel) h).0 (rows_after db who (record u { op = Delete })) ascend fit few
     go Into db who is spelled h ascend fit few =
         made_lawful db u.rel (map made_attr (targets_of u.query)) (rows_after db who (record u { op = Into })) is (into_fits db u spelled h) ascend fit few
 
@@ -237,21 +238,21 @@ few_rows : (n : ℕ) → nat_lt most_rows n ≡ false → IsTrue (nat_le n most_
 few_rows n h = grind (arith, nat_tests, h)
 
 -- where no cause is there, each is absent
-all_absent : (causes : List (ℕ × Bool)) → first_cause causes ≡ None → Each (λ c. c.1 ≡ false) causes
+all_absent : (update_refusals : List (ℕ × Bool)) → first_cause update_refusals ≡ None → Each (λ c. c.1 ≡ false) update_refusals
 all_absent [] h = tt
-all_absent (c ∷ causes) h = go c.1 h (all_absent causes)
+all_absent (c ∷ update_refusals) h = go c.1 h (all_absent update_refusals)
   where
-    go : (b : Bool) → (elim b as (λ b. Option ℕ) [ true ↦ Some c.0 | false ↦ first_cause causes ]) ≡ None → (first_cause causes ≡ None → Each (λ c. c.1 ≡ false) causes)
-        → (b ≡ false) × Each (λ c. c.1 ≡ false) causes
+    go : (b : Bool) → (elim b as (λ b. Option ℕ) [ true ↦ Some c.0 | false ↦ first_cause update_refusals ]) ≡ None → (first_cause update_refusals ≡ None → Each (λ c. c.1 ≡ false) update_refusals)
+        → (b ≡ false) × Each (λ c. c.1 ≡ false) update_refusals
     go true h later = cc h
     go false h later = (refl, later h)
 
-not_refused : (db : Db) (who : Who) (u : Update) (change : DbChange) → updated db who u ≡ Ok change → (first_cause (causes db who u) ≡ None) × (change_of db who u ≡ change)
+not_refused : (db : Db) (who : Who) (u : Update) (change : DbChange) → updated db who u ≡ Ok change → (first_cause (update_refusals db who u) ≡ None) × (change_of db who u ≡ change)
 unfolding updated
-not_refused db who u change h = go (first_cause (causes db who u)) refl h
+not_refused db who u change h = go (first_cause (update_refusals db who u)) refl h
   where
-    go : (o : Option ℕ) → first_cause (causes db who u) ≡ o → (elim o as (λ o. Result DbChange ℕ) [ None ↦ Ok (change_of db who u) | Some number ↦ Err number ]) ≡ Ok change
-        → (first_cause (causes db who u) ≡ None) × (change_of db who u ≡ change)
+    go : (o : Option ℕ) → first_cause (update_refusals db who u) ≡ o → (elim o as (λ o. Result DbChange ℕ) [ None ↦ Ok (change_of db who u) | Some number ↦ Err number ]) ≡ Ok change
+        → (first_cause (update_refusals db who u) ≡ None) × (change_of db who u ≡ change)
     go None e h = (e, cc h)
     go (Some number) e h = cc h
 
@@ -261,7 +262,7 @@ pub update_lawful : (db : Db) (who : Who) (u : Update) (change : DbChange) → I
     → updated db who u ≡ Ok change → IsLawful db change
 update_lawful db who u change is kept relation spelled constants aggs h =
     let plan = not_refused db who u change h in
-    let absent = all_absent (causes db who u) plan.0 in
+    let absent = all_absent (update_refusals db who u) plan.0 in
     let was = before u db is spelled relation in
     let given : Given db who u = record { is = is; kept = kept; relation = relation; stored = was.stored; spelled = constants; aggs = aggs } in
     subst (IsLawful db) plan.1

@@ -8,7 +8,7 @@ ghost use Rattle.calculus.specs.Database.{Db};
 ghost use Rattle.calculus.specs.IsDatabase.{IsDatabase};
 ghost use Rattle.calculus.specs.Replacement.{updated};
 ghost use Rattle.calculus.specs.Change.{IsLawful};
-ghost use Rattle.quel_meaning.specs.FitQueries.{kept};
+ghost use Rattle.quel_meaning.specs.FitQueries.{kept_alone};
 ghost use Rattle.quel_meaning.specs.Fit.{update_fits};
 ghost use Rattle.update_laws.specs.Spelled.{is_spelled};
 
@@ -17,5 +17,5 @@ ghost use Rattle.update_laws.specs.Spelled.{is_spelled};
 /// left is a database. So it is of what makes a relation of an answer.
 pub fn an_update_is_lawful()
     ensures { (db : Db) (who : Who) (u : Update) (change : DbChange)
-        → IsDatabase db → update_fits (kept db) db u ≡ true → IsTrue (is_spelled u) → updated db who u ≡ Ok change → IsLawful db change }
+        → IsDatabase db → update_fits (kept_alone db) db u ≡ true → IsTrue (is_spelled u) → updated db who u ≡ Ok change → IsLawful db change }
 {}

@@ -3,7 +3,8 @@ use Rattle.std.specs.Prelude.{IfOk}
 use Rattle.std.specs.List.{list_all}
 use Rattle.calculus.specs.Database.{Db}
 use Rattle.calculus.specs.declared.query.RelKey.{RelKey}
-use Rattle.calculus.specs.IsDatabase.{row_qual_stands, row_qual_is_small}
+use Rattle.calculus.specs.IsDatabase.{row_qual_stands}
+use Rattle.calculus.specs.Storable.{row_qual_is_small}
 use Rattle.calculus.specs.Stored.{kinds_at}
 use Rattle.change_check.proofs.permits.permit_covers.Goals as goal
 

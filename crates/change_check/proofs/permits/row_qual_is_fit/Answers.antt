@@ -1,5 +1,6 @@
 use Rattle.std.proofs.Common.{◌≡◌, ◌∙◌, ap, sym, true, ◌&&◌}
-use Rattle.calculus.specs.IsDatabase.{row_qual_stands, row_qual_is_small}
+use Rattle.calculus.specs.IsDatabase.{row_qual_stands}
+use Rattle.calculus.specs.Storable.{row_qual_is_small}
 use Rattle.change_check.proofs.Numbered.{small_alone}
 use Rattle.change_check.proofs.permits.row_qual_is_fit.Goals as goal
 

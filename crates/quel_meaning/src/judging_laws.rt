@@ -1,0 +1,31 @@
+//! What statements are judged to ask for, before any row is looked at.
+
+ghost use Rattle.std.specs.Prelude.{◌≡◌, ◌||◌, ℕ, nat_lt, true, false, List, [], ◌∷◌, Ok, Err};
+ghost use Rattle.calculus.specs.declared.request.Checked.{Checked};
+ghost use Rattle.calculus.specs.declared.statement.Statement.{Statement};
+ghost use Rattle.calculus.specs.Database.{Db};
+ghost use Rattle.calculus.specs.Lists.{has_number};
+ghost use Rattle.calculus.specs.Who.{Asker, Asks};
+ghost use Rattle.quel_meaning.specs.Ranges.{Ranges};
+ghost use Rattle.quel_meaning.specs.State.{State, Built};
+ghost use Rattle.quel_meaning.specs.Meaning.{Resolving, checked_permitted, judged_by, judged, judged_outcome, is_range, meaning_by};
+
+/// A statement that is refused before rows are looked at is refused by a number below 20, or by 23, 26 or
+/// 28. A tree that it is judged to ask for is the one that it is resolved to, and all that this reads and
+/// changes is permitted to the one who asks.
+pub fn what_is_judged_is_permitted()
+    ensures refused { (db : Db) (asker : Asker) (ranges : Ranges) (s : Statement) (number : ℕ)
+        → judged db asker ranges s ≡ Err number → (nat_lt number 20 || has_number (23 ∷ 26 ∷ 28 ∷ []) number) ≡ true }
+    ensures resolved { (resolved : Resolving) (db : Db) (asker : Asker) (ranges : Ranges) (s : Statement) (tree : Checked)
+        → judged_by resolved db asker ranges s ≡ Ok tree → resolved db asker.user ranges s ≡ Ok tree }
+    ensures permitted { (resolved : Resolving) (db : Db) (asker : Asker) (ranges : Ranges) (s : Statement) (tree : Checked)
+        → judged_by resolved db asker ranges s ≡ Ok tree → checked_permitted db (Asks asker) tree ≡ true }
+{}
+
+/// What a statement that is built does, but for one that declares a variable, is what it is judged to
+/// ask for.
+#[tactic(auto, using(crate::proofs::Judged::meaning_judged))]
+pub fn statements_do_what_they_are_judged_to_ask_for()
+    ensures { (resolved : Resolving) (built : Built) (state : State) (asker : Asker) (s : Statement) → built.statement s ≡ true → is_range s ≡ false
+        → meaning_by resolved built state asker s ≡ judged_outcome state asker (judged_by resolved state.db asker state.ranges s) }
+{}
