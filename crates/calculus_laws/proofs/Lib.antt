@@ -16,6 +16,8 @@ pub mod PutIn
 pub mod SameAnswer
 pub mod SameRows
 pub mod SameSchema
+pub mod SameUpdate
+pub mod SchemaDecides
 pub mod Through
 pub mod Unpermitted
 pub mod UsedIn

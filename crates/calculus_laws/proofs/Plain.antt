@@ -25,10 +25,10 @@ none_right (x ∷ xs) ys h = cc h
 abbrev pub AgreeOn : Aggs → Aggs → List QAgg → Type 0
 AgreeOn f g named = (a : QAgg) → In a named → (e : Env) → f a e ≡ g a e
 
-agree_left : (f g : Aggs) (named others : List QAgg) → AgreeOn f g (named ++ others) → AgreeOn f g named
+pub agree_left : (f g : Aggs) (named others : List QAgg) → AgreeOn f g (named ++ others) → AgreeOn f g named
 agree_left f g named others h a inside = h a (In-append_left named others a inside)
 
-agree_right : (f g : Aggs) (named others : List QAgg) → AgreeOn f g (named ++ others) → AgreeOn f g others
+pub agree_right : (f g : Aggs) (named others : List QAgg) → AgreeOn f g (named ++ others) → AgreeOn f g others
 agree_right f g named others h a inside = h a (In-append_right named others a inside)
 
 aggregate_agrees : (f g : Aggs) (e : Env) {n : _} (row : Row_of-QAgg n) → AgreeOn f g (aggregates_of row) → aggregate_value f row e ≡ aggregate_value g row e
@@ -49,7 +49,7 @@ val_agrees f g e (concat t u) h = λ i. joined_values
     (val_agrees f g e t (agree_left f g (term_aggregates t) (term_aggregates u) h) i) (val_agrees f g e u (agree_right f g (term_aggregates t) (term_aggregates u) h) i)
 val_agrees f g e (Agg' mark row) h = aggregate_agrees f g e row h
 
-holds_agrees : (f g : Aggs) (e : Env) (q : QQual) → AgreeOn f g (qual_aggregates q) → holds f q e ≡ holds g q e
+pub holds_agrees : (f g : Aggs) (e : Env) (q : QQual) → AgreeOn f g (qual_aggregates q) → holds f q e ≡ holds g q e
 unfolding holds qual_aggregates
 holds_agrees f g e True h = refl
 holds_agrees f g e (Cmp op t u) h = λ i. compared_values op
@@ -65,7 +65,7 @@ holds_agrees f g e (negated p) h = ap not (holds_agrees f g e p h)
 abbrev pub in_targets : List Target → List QAgg
 in_targets ts = flat_map (λ t. term_aggregates t.term) ts
 
-targets_agree : (f g : Aggs) (e : Env) (ts : List Target) → AgreeOn f g (in_targets ts) → target_values f ts e ≡ target_values g ts e
+pub targets_agree : (f g : Aggs) (e : Env) (ts : List Target) → AgreeOn f g (in_targets ts) → target_values f ts e ≡ target_values g ts e
 targets_agree f g e [] h = refl
 targets_agree f g e (t ∷ ts) h = λ i. value_before
     (val_agrees f g e t.term (agree_left f g (term_aggregates t.term) (in_targets ts) h) i)

@@ -35,20 +35,27 @@ use Rattle.calculus_laws.proofs.WhatIsRead.{In-flat_map}
 
 -- ---- assignments, where the used variables have the same rows
 
-lists_same : {X : Type 0} (f g : X → List Row) (xs : List X) → ((x : X) → In x xs → f x ≡ g x) → map f xs ≡ map g xs
+pub lists_same : {X Y : Type 0} (f g : X → Y) (xs : List X) → ((x : X) → In x xs → f x ≡ g x) → map f xs ≡ map g xs
 lists_same f g [] h = refl
 lists_same f g (x ∷ xs) h = λ i. h x (inl refl) i ∷ lists_same f g xs (λ y inside. h y (inr inside)) i
 
-pub assigned_same : (source other : Source) (q : Query) → ((p : ℕ × RelKey) → In p (used_vars q) → (attrs : List ℕ) → source p.1 attrs ≡ other p.1 attrs)
-    → assigned source q ≡ assigned other q
+-- the used variables have the same rows
+abbrev pub AgreeUsed : Source → Source → Query → Type 0
+AgreeUsed source other q = (p : ℕ × RelKey) → In p (used_vars q) → (attrs : List ℕ) → source p.1 attrs ≡ other p.1 attrs
+
+pub variable_same : (source other : Source) (q : Query) → AgreeUsed source other q → (p : ℕ × RelKey) → In p (enumerate_from 0 (vars_of q))
+    → variable_rows source q p.0 p.1 ≡ variable_rows other q p.0 p.1
+variable_same source other q same p inside = go (used_in_query p.0 q) refl
+  where
+    go : (attrs : List ℕ) → used_in_query p.0 q ≡ attrs → rows_used source p.1 attrs ≡ rows_used other p.1 attrs
+    go [] e = refl
+    go (a ∷ attrs) e = same p (In-filter (λ p. is_any (used_in_query p.0 q)) (enumerate_from 0 (vars_of q)) p inside (ap is_any e)) (a ∷ attrs)
+
+assigned_same : (source other : Source) (q : Query) → AgreeUsed source other q → assigned source q ≡ assigned other q
 unfolding assigned
 assigned_same source other q same =
     ap choices (lists_same (λ (p : ℕ × RelKey). variable_rows source q p.0 p.1) (λ p. variable_rows other q p.0 p.1) (enumerate_from 0 (vars_of q))
-    (λ p inside. go p inside (used_in_query p.0 q) refl))
-  where
-    go : (p : ℕ × RelKey) → In p (enumerate_from 0 (vars_of q)) → (attrs : List ℕ) → used_in_query p.0 q ≡ attrs → rows_used source p.1 attrs ≡ rows_used other p.1 attrs
-    go p inside [] e = refl
-    go p inside (a ∷ attrs) e = same p (In-filter (λ p. is_any (used_in_query p.0 q)) (enumerate_from 0 (vars_of q)) p inside (ap is_any e)) (a ∷ attrs)
+    (variable_same source other q same))
 
 -- ---- the databases
 
@@ -80,12 +87,15 @@ module _ (db other : Db) (schema : schema_of db ≡ schema_of other) (who : Who)
       ap (λ rows. rows attrs) (told_at (rows_told db who) zero db key (Some (Viewed view)) e)
       ∙ sym (ap (λ rows. rows attrs) (told_at (rows_told other who) zero other key (Some (Viewed view)) there))
 
-  -- of a query, where it is so of what its used variables read
+  -- the used variables of a query, where it is so of what each key reads
+  used_same : (reads : RelKey → List RelKey) (source others : Source) → ((key : RelKey) → SameUnder (reads key) → (attrs : List ℕ) → source key attrs ≡ others key attrs)
+      → (q : Query) → SameUnder (vars_read reads q) → AgreeUsed source others q
+  used_same reads source others below q same p inside attrs =
+      below p.1 (λ key read. same key (In-flat_map (λ (p : ℕ × RelKey). reads p.1) (used_vars q) p key inside read)) attrs
+
   query_same : (reads : RelKey → List RelKey) (source others : Source) → ((key : RelKey) → SameUnder (reads key) → (attrs : List ℕ) → source key attrs ≡ others key attrs)
       → (q : Query) → SameUnder (vars_read reads q) → assigned source q ≡ assigned others q
-  query_same reads source others below q same =
-      assigned_same source others q
-      (λ p inside attrs. below p.1 (λ key read. same key (In-flat_map (λ (p : ℕ × RelKey). reads p.1) (used_vars q) p key inside read)) attrs)
+  query_same reads source others below q same = assigned_same source others q (used_same reads source others below q same)
 
   view_same : (n : ℕ) (reads : RelKey → List RelKey) → ((key : RelKey) → SameRows n key (reads key)) → (key : RelKey) (view : View) → range_at db key ≡ Some (Viewed view)
       → SameRows (suc n) key (vars_read reads view.query)
@@ -131,20 +141,20 @@ module _ (db other : Db) (schema : schema_of db ≡ schema_of other) (who : Who)
 
   -- ---- queries
 
-  by_variables : (q : Query) → SameUnder (query_reads db q) → assigned (rows_of db who) q ≡ assigned (rows_of other who) q
-  unfolding query_reads
-  by_variables q same =
-      query_same (reads_of db) (rows_of db who) (rows_of other who) rows_same q
-      (λ key read. same key (In-append_left (vars_read (reads_of db) q) (flat_map (λ g. source_reads db g.source) (query_aggregates q)) key read))
-
-  by_aggregates : (q : Query) → SameUnder (query_reads db q) → AgreeOn (aggregates db who) (aggregates other who) (query_aggregates q)
-  unfolding query_reads
-  by_aggregates q same =
-      aggregates_same (query_aggregates q)
-      (λ key read. same key (In-append_right (vars_read (reads_of db) q) (flat_map (λ g. source_reads db g.source) (query_aggregates q)) key read))
-
   told_under : (keys : List RelKey) → HaveSameRows db other keys → SameUnder keys
   told_under keys same key inside = same key (In-Contains keys key inside)
+
+  pub variables_agree : (q : Query) → HaveSameRows db other (query_reads db q) → AgreeUsed (rows_of db who) (rows_of other who) q
+  unfolding query_reads
+  variables_agree q same =
+      used_same (reads_of db) (rows_of db who) (rows_of other who) rows_same q
+      (λ key read. told_under (query_reads db q) same key (In-append_left (vars_read (reads_of db) q) (flat_map (λ g. source_reads db g.source) (query_aggregates q)) key read))
+
+  pub aggregates_agree : (q : Query) → HaveSameRows db other (query_reads db q) → AgreeOn (aggregates db who) (aggregates other who) (query_aggregates q)
+  unfolding query_reads
+  aggregates_agree q same =
+      aggregates_same (query_aggregates q)
+      (λ key read. told_under (query_reads db q) same key (In-append_right (vars_read (reads_of db) q) (flat_map (λ g. source_reads db g.source) (query_aggregates q)) key read))
 
   pub rows_are_same : (key : RelKey) → HaveSameRows db other (reads_of db key) → (attrs : List ℕ) → rows_of db who key attrs ≡ rows_of other who key attrs
   rows_are_same key same attrs = rows_same key (told_under (reads_of db key) same) attrs
@@ -152,11 +162,11 @@ module _ (db other : Db) (schema : schema_of db ≡ schema_of other) (who : Who)
   pub answers_are_same : (q : Query) → HaveSameRows db other (query_reads db q) → answer db who q ≡ answer other who q
   unfolding answer
   answers_are_same q same =
-      ap (rows_given (aggregates db who) q) (by_variables q (told_under (query_reads db q) same))
-      ∙ given_agree (aggregates db who) (aggregates other who) q (assigned (rows_of other who) q) (by_aggregates q (told_under (query_reads db q) same))
+      ap (rows_given (aggregates db who) q) (assigned_same (rows_of db who) (rows_of other who) q (variables_agree q same))
+      ∙ given_agree (aggregates db who) (aggregates other who) q (assigned (rows_of other who) q) (aggregates_agree q same)
 
   pub lacks_are_same : (q : Query) → HaveSameRows db other (query_reads db q) → lacks db who q ≡ lacks other who q
   unfolding lacks
   lacks_are_same q same =
-      ap (some_lacks (aggregates db who) q) (by_variables q (told_under (query_reads db q) same))
-      ∙ lacks_agree (aggregates db who) (aggregates other who) q (assigned (rows_of other who) q) (by_aggregates q (told_under (query_reads db q) same))
+      ap (some_lacks (aggregates db who) q) (assigned_same (rows_of db who) (rows_of other who) q (variables_agree q same))
+      ∙ lacks_agree (aggregates db who) (aggregates other who) q (assigned (rows_of other who) q) (aggregates_agree q same)

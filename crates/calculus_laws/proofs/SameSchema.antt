@@ -138,7 +138,7 @@ module _ (db other : Db) (same : schema_of db ≡ schema_of other) where
   may_same who right attrs key row =
       sym (may_bare db who right attrs key row) ∙ ap (λ d. may d who right attrs key row) same ∙ may_bare other who right attrs key row
 
-  kinds_same : (key : RelKey) → kinds_at db key ≡ kinds_at other key
+  pub kinds_same : (key : RelKey) → kinds_at db key ≡ kinds_at other key
   unfolding info_at
   kinds_same key = ap (λ info. map (λ a. a.kind) (attrs_in info)) (infos_alike (range_at db key) (range_at other key) (ranges_alike key))
 
