@@ -1,0 +1,14 @@
+-- What is read: rows that are kept, and databases that have the same of them.
+use Rattle.std.specs.Prelude.{◌≡◌, List, Some}
+use Rattle.std.specs.List.{Contains}
+use Rattle.calculus.specs.declared.query.RelKey.{RelKey}
+use Rattle.calculus.specs.Database.{Db, Relation}
+use Rattle.calculus.specs.Stored.{Kept, range_at, rows_at}
+
+-- rows are kept under the key: those of a base relation or of a catalogue that is there
+abbrev pub IsKept : Db → RelKey → Type 0
+IsKept db key = (relation : Relation) × (range_at db key ≡ Some (Kept relation))
+
+-- the two databases have the same rows under each of these keys
+abbrev pub HaveSameRows : Db → Db → List RelKey → Type 0
+HaveSameRows db other keys = (key : RelKey) → Contains keys key → rows_at db key ≡ rows_at other key
