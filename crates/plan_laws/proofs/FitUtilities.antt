@@ -4,7 +4,6 @@ use Rattle.std.specs.Prelude.{is_some, option_map, Ok}
 use Rattle.std.specs.List.{list_all}
 use Rattle.std.proofs.lemmas.Bool.Decides.{nat_tests}
 use Rattle.calculus.specs.declared.query.RelKey.{RelKey}
-use Rattle.calculus.specs.declared.query.QQual.{QQual}
 use Rattle.calculus.specs.declared.query.Query.{Query}
 use Rattle.calculus.specs.declared.schema.Attr.{Attr}
 use Rattle.calculus.specs.declared.schema.Permit.{Permit}
@@ -17,7 +16,7 @@ use Rattle.calculus.specs.declared.request.CopyCol.{CopyCol}
 use Rattle.calculus.specs.declared.request.Checked.TheVariants as checked
 use Rattle.calculus.specs.declared.change.DbChange.{DbChange}
 use Rattle.calculus.specs.Change.{IsLawful}
-use Rattle.calculus.specs.Database.{Db, Relation, relation_at, is_relation, entries, is_there}
+use Rattle.calculus.specs.Database.{Db, relation_at, is_relation, entries, is_there}
 use Rattle.calculus.specs.IsDatabase.{IsDatabase, key_is_named, attrs_stand, are_stored, keys_stand, vars_are_there, query_stands, row_qual_stands, permit_attrs_stand, user_is_named}
 use Rattle.calculus.specs.Catalogue.{is_catalogue, is_catalogue_name}
 use Rattle.calculus.specs.Keys.{key_of, same_key}
