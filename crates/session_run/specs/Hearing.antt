@@ -44,6 +44,11 @@ abbrev pub HearsPartly : Meaning → Heard → List ℕ → Option (List ℕ) �
 HearsPartly meaning old piece written_old written_new =
     GrewBy written_old written_new (λ more. (rest : List ℕ) → IsFront more (printed (later meaning true old (piece ++ rest)).events))
 
+-- neither the count of faults nor that of stalls changed
+pub record AreSame (faults_old faults_new stalls_old stalls_new : ℕ) : Type 0 where
+  pub faults : faults_new ≡ faults_old
+  pub stalls : stalls_new ≡ stalls_old
+
 -- only the sink or want of memory is the cause
 pub record IsSinkOrMemory (result : Result (Unit {0}) RunFault) (faults_old faults_new stalls_old stalls_new : ℕ) : Type 0 where
   pub sink : IsErrOf result faults.Sink → Rose faults_old faults_new ⊎ Rose stalls_old stalls_new
