@@ -7,3 +7,4 @@ pub mod Placing
 pub mod Made
 pub mod Forms
 pub mod WrittenForms
+pub mod OldRows

@@ -18,7 +18,7 @@ use Rattle.am_traits.specs.Told.{known_at, query_at}
 use Rattle.quel_names.specs.Ranging.{but_index, is_index}
 use Rattle.quel_names.proofs.Known.{ranged_if}
 use Rattle.quel_meaning.specs.Passing.{is_too_high}
-use Rattle.change_laws.proofs.Levels.{below_the_greatest, not_too_high}
+use Rattle.plan_laws.proofs.Levels.{below_the_greatest, not_too_high}
 use Rattle.change_check.specs.Standing.{is_ranged}
 
 but_one : (o : Option RelInfo) → is_ranged o ≡ is_some (but_index o)

@@ -33,7 +33,7 @@ use Rattle.plan_laws.proofs.PlainQueries.{query_plain}
 use Rattle.plan_laws.proofs.Staying.{Staying}
 use Rattle.plan_laws.proofs.StayingFacts.{ViewStays, levels_hold, vars_hold, queries_hold, sizes_hold, expansions_hold, rules_hold, permits_hold, indexes_hold}
 use Rattle.plan_laws.proofs.Beside.{by_rel, known_of, found_beside, each_beside, all_beside, differ_beside, one_beside, sorted_by_rel, sorted_by_key}
-use Rattle.change_laws.proofs.Tests.{has_room, not_full, found_has}
+use Rattle.plan_laws.proofs.Tests.{has_room, not_full, found_has}
 use Rattle.change_laws.proofs.Counted.{all_of_put, length_put}
 use Rattle.change_laws.proofs.Inserted.{insert_passes, length_insert, never_equal}
 

@@ -24,7 +24,7 @@ use Rattle.plan_laws.proofs.Alike.{indexes_stay}
 use Rattle.plan_laws.proofs.Ranging.{indexed_alike}
 use Rattle.plan_laws.proofs.Changed.{each_maps}
 use Rattle.plan_laws.proofs.NewIndexes.{by_key, new-all, all-append, not_there, index_lawful}
-use Rattle.change_laws.proofs.Tests.{has_room, not_full}
+use Rattle.plan_laws.proofs.Tests.{has_room, not_full}
 use Rattle.change_laws.proofs.Inserted.{insert_passes, length_insert, never_equal}
 
 pub index_fits_exactly : (db : Db) (base : RelKey) (name keys : List ℕ) → IsDatabase db → (index_is_fit db base name keys ≡ true) ↔ IsLawful db (change.Index base name keys)

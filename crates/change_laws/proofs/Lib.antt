@@ -1,4 +1,3 @@
-mod Tests
 mod Dropped
 mod Counted
 mod RowsFit
@@ -9,7 +8,6 @@ mod Restructured
 mod IndexFit
 mod Swapped
 mod Gone
-pub mod Levels
 mod ViewMade
 mod ViewFit
 pub mod Exactly

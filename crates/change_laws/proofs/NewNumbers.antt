@@ -9,10 +9,10 @@ use Rattle.calculus.specs.declared.schema.Rule.{Rule}
 use Rattle.calculus.specs.declared.change.DbChange.TheVariants as change
 use Rattle.calculus.specs.Keys.{same_key, numbered_cmp}
 use Rattle.calculus.specs.Lists.{has_number, insert_by}
-use Rattle.calculus.specs.Limits.{most_permits, most_rules, greatest_number, most_listed_attributes}
+use Rattle.calculus.specs.Limits.{most_permits, most_rules, greatest_number}
 use Rattle.calculus.specs.Database.{Db, Relation, relation_at, is_relation, rules_on, permits_on}
 use Rattle.calculus.specs.IsDatabase.{IsDatabase, row_qual_stands, permit_stands}
-use Rattle.calculus.specs.Storable.{row_qual_is_small}
+use Rattle.calculus.specs.Storable.{row_qual_is_storable, permit_lists_are_storable}
 use Rattle.calculus.specs.Change.{laid, permit_numbers, rule_numbers, names_what_is_there, adds_what_is_new, lists_once, IsLawful}
 use Rattle.quel_meaning.proofs.InOrder.{in_order-insert}
 use Rattle.change_laws.specs.Fit.{number_is_free, permit_is_fit, rule_is_fit}
@@ -23,7 +23,7 @@ use Rattle.plan_laws.proofs.Created.{each_true}
 use Rattle.plan_laws.proofs.Kept.{both, each, count, all_insert}
 use Rattle.plan_laws.proofs.Orders.{numbered_total, same_key_itself}
 use Rattle.plan_laws.proofs.Numbered.{permits_alike, rules_alike, PermitsStand, with_permits, RulesStand, with_rules}
-use Rattle.change_laws.proofs.Tests.{lt_true, lt_is, there_is, found_has, key_found}
+use Rattle.plan_laws.proofs.Tests.{lt_true, lt_is, there_is, found_has, key_found}
 use Rattle.change_laws.proofs.Inserted.{insert_passes, count_insert, number_unequal}
 
 -- ---- a permit
@@ -32,11 +32,11 @@ use Rattle.change_laws.proofs.Inserted.{insert_passes, count_insert, number_uneq
 permits_as_before : (db : Db) (permits : List (RelKey × Permit)) → IsTrue (list_all (λ p. permit_stands (record db { permits = permits }) p.0 p.1) permits) → IsTrue (list_all (λ p. permit_stands db p.0 p.1) permits)
 permits_as_before db permits t = permits_stay db (record db { permits = permits }) (permits_alike db permits) refl permits ∙ t
 
-pub permit_lawful : (db : Db) (rel : RelKey) (permit : Permit) → IsDatabase db → IsTrue (permit_stands db rel permit) → IsTrue (row_qual_is_small permit.qual) → IsTrue (nat_le (length permit.attrs) most_listed_attributes)
+pub permit_lawful : (db : Db) (rel : RelKey) (permit : Permit) → IsDatabase db → IsTrue (permit_stands db rel permit) → IsTrue (row_qual_is_storable permit.qual) → IsTrue (permit_lists_are_storable permit)
     → IsTrue (nat_le permit.number greatest_number) → IsTrue (not (has_number (permit_numbers db rel) permit.number)) → IsTrue (nat_lt (length (permit_numbers db rel)) most_permits)
     → IsLawful db (change.Permit rel permit)
 unfolding laid names_what_is_there adds_what_is_new lists_once
-permit_lawful db rel permit is stands small short low new few =
+permit_lawful db rel permit is stands storable lists low new few =
     record { names_are_there = (both (is_relation db rel) _ stands).0; additions_are_new = new; nothing_is_listed_twice = refl; leaves_a_database = with_permits db later is stand }
   where
     later : List (RelKey × Permit)
@@ -60,8 +60,8 @@ permit_lawful db rel permit is stands small short low new few =
     stand = record {
       ascend = in_order-insert (numbered_total (λ p. p.number)) (rel, permit) db.permits is.permits_ascend;
       stand = put (λ p. permit_stands db p.0 p.1) stands is.permits_stand;
-      are_small = put (λ p. row_qual_is_small p.1.qual) small is.storable_permits;
-      are_short = put (λ p. nat_le (length p.1.attrs) most_listed_attributes) short is.storable_lists;
+      are_storable = put (λ p. row_qual_is_storable p.1.qual) storable is.storable_permits;
+      have_storable_lists = put (λ p. permit_lists_are_storable p.1) lists is.storable_lists;
       are_few = all_imply (λ (r : Relation). nat_le (length (permits_on db r.info.key)) most_permits) (λ r. nat_le (length (permits_on (record db { permits = later }) r.info.key)) most_permits)
           (λ r t. few_later r.info.key (le_is (length (permits_on db r.info.key)) most_permits t)) db.relations is.few_permits;
       have_small_numbers = put (λ p. nat_le p.1.number greatest_number) low is.small_permit_numbers;
@@ -74,15 +74,15 @@ permit_fits_exactly db rel permit is = (to, from)
     to : permit_is_fit db rel permit ≡ true → IsLawful db (change.Permit rel permit)
     to t =
         let stands = both (permit_stands db rel permit) _ t in
-        let small = both (row_qual_is_small permit.qual) _ stands.1 in
-        let short = both (nat_le (length permit.attrs) most_listed_attributes) _ small.1 in
-        let low = both (nat_le permit.number greatest_number) _ short.1 in
+        let storable = both (row_qual_is_storable permit.qual) _ stands.1 in
+        let lists = both (permit_lists_are_storable permit) _ storable.1 in
+        let low = both (nat_le permit.number greatest_number) _ lists.1 in
         let new = both (not (has_number (permit_numbers db rel) permit.number)) (nat_lt (length (permit_numbers db rel)) most_permits) low.1 in
-        permit_lawful db rel permit is stands.0 small.0 short.0 low.0 new.0 new.1
+        permit_lawful db rel permit is stands.0 storable.0 lists.0 low.0 new.0 new.1
 
     from : IsLawful db (change.Permit rel permit) → permit_is_fit db rel permit ≡ true
     from l =
-        each _ _ stands (each _ _ (its (λ p. row_qual_is_small p.1.qual) after.storable_permits) (each _ _ (its (λ p. nat_le (length p.1.attrs) most_listed_attributes) after.storable_lists)
+        each _ _ stands (each _ _ (its (λ p. row_qual_is_storable p.1.qual) after.storable_permits) (each _ _ (its (λ p. permit_lists_are_storable p.1) after.storable_lists)
         (each _ _ (its (λ p. nat_le p.1.number greatest_number) after.small_permit_numbers) (each _ _ l.additions_are_new few))))
       where
         later : Db
@@ -121,11 +121,11 @@ rules_as_before : (db : Db) (rules : List (RelKey × Rule)) → IsTrue (list_all
     → IsTrue (list_all (λ p. is_relation db p.0 && row_qual_stands db p.0 p.1.qual) rules)
 rules_as_before db rules t = rules_stay db (record db { rules = rules }) (rules_alike db rules) rules ∙ t
 
-pub rule_lawful : (db : Db) (rel : RelKey) (rule : Rule) → IsDatabase db → IsTrue (is_relation db rel) → IsTrue (row_qual_stands db rel rule.qual) → IsTrue (row_qual_is_small rule.qual)
+pub rule_lawful : (db : Db) (rel : RelKey) (rule : Rule) → IsDatabase db → IsTrue (is_relation db rel) → IsTrue (row_qual_stands db rel rule.qual) → IsTrue (row_qual_is_storable rule.qual)
     → IsTrue (nat_le rule.number greatest_number) → IsTrue (not (has_number (rule_numbers db rel) rule.number)) → IsTrue (nat_lt (length (rule_numbers db rel)) most_rules)
     → IsLawful db (change.Rule rel rule)
 unfolding laid names_what_is_there adds_what_is_new lists_once
-rule_lawful db rel rule is relation stands small low new few =
+rule_lawful db rel rule is relation stands storable low new few =
     record { names_are_there = relation; additions_are_new = new; nothing_is_listed_twice = refl; leaves_a_database = with_rules db later is stand }
   where
     later : List (RelKey × Rule)
@@ -152,7 +152,7 @@ rule_lawful db rel rule is relation stands small low new few =
     stand = record {
       ascend = in_order-insert (numbered_total (λ p. p.number)) (rel, rule) db.rules is.rules_ascend;
       stand = put (λ p. is_relation db p.0 && row_qual_stands db p.0 p.1.qual) own_stands is.rules_stand;
-      are_small = put (λ p. row_qual_is_small p.1.qual) small is.storable_rules;
+      are_storable = put (λ p. row_qual_is_storable p.1.qual) storable is.storable_rules;
       are_few = all_imply (λ (r : Relation). nat_le (length (rules_on db r.info.key)) most_rules) (λ r. nat_le (length (rules_on (record db { rules = later }) r.info.key)) most_rules)
           (λ r t. few_later r.info.key (le_is (length (rules_on db r.info.key)) most_rules t)) db.relations is.few_rules;
       have_small_numbers = put (λ p. nat_le p.1.number greatest_number) low is.small_rule_numbers;
@@ -166,14 +166,14 @@ rule_fits_exactly db rel rule is = (to, from)
     to t =
         let relation = both (is_relation db rel) _ t in
         let stands = both (row_qual_stands db rel rule.qual) _ relation.1 in
-        let small = both (row_qual_is_small rule.qual) _ stands.1 in
-        let low = both (nat_le rule.number greatest_number) _ small.1 in
+        let storable = both (row_qual_is_storable rule.qual) _ stands.1 in
+        let low = both (nat_le rule.number greatest_number) _ storable.1 in
         let new = both (not (has_number (rule_numbers db rel) rule.number)) (nat_lt (length (rule_numbers db rel)) most_rules) low.1 in
-        rule_lawful db rel rule is relation.0 stands.0 small.0 low.0 new.0 new.1
+        rule_lawful db rel rule is relation.0 stands.0 storable.0 low.0 new.0 new.1
 
     from : IsLawful db (change.Rule rel rule) → rule_is_fit db rel rule ≡ true
     from l =
-        each _ _ l.names_are_there (each _ _ (both (is_relation db rel) (row_qual_stands db rel rule.qual) stands).1 (each _ _ (its (λ p. row_qual_is_small p.1.qual) after.storable_rules)
+        each _ _ l.names_are_there (each _ _ (both (is_relation db rel) (row_qual_stands db rel rule.qual) stands).1 (each _ _ (its (λ p. row_qual_is_storable p.1.qual) after.storable_rules)
         (each _ _ (its (λ p. nat_le p.1.number greatest_number) after.small_rule_numbers) (each _ _ l.additions_are_new few))))
       where
         later : Db

@@ -16,7 +16,7 @@ use Rattle.plan_laws.proofs.Kept.{both, each}
 use Rattle.plan_laws.proofs.Changed.{ChangeStands, with_changed, owned, each_maps, for_each}
 use Rattle.plan_laws.proofs.Indexes.{without_indexes}
 use Rattle.plan_laws.proofs.RowsChanged.{its_attrs}
-use Rattle.change_laws.proofs.Tests.{there_is}
+use Rattle.plan_laws.proofs.Tests.{there_is}
 use Rattle.change_laws.proofs.RowsFit.{changed_passes}
 
 -- a structure with these keys would be one for the attributes

@@ -20,7 +20,7 @@ use Rattle.plan_laws.proofs.Kept.{both, each, all_filter}
 use Rattle.plan_laws.proofs.Indexes.{is_no}
 use Rattle.plan_laws.proofs.Created.{each_true}
 use Rattle.plan_laws.proofs.RowsChanged.{Ascends-with_rows, has-filter, all_with_rows, its_rows, its_attrs, rows_leave}
-use Rattle.change_laws.proofs.Tests.{there_is, found_has}
+use Rattle.plan_laws.proofs.Tests.{there_is, found_has}
 use Rattle.change_laws.proofs.Counted.{length_with, length_without, all_that_come}
 
 -- what each that stands passes, the one that is changed passes

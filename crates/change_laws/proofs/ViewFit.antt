@@ -11,12 +11,12 @@ use Rattle.calculus.specs.declared.query.Query.{Query}
 use Rattle.calculus.specs.declared.schema.RelInfo.{RelInfo}
 use Rattle.calculus.specs.declared.change.DbChange.TheVariants as change
 use Rattle.calculus.specs.Keys.{same_key, has_key}
-use Rattle.calculus.specs.Limits.{most_entries, most_expanded_variables, most_variables, most_levels, greatest_size}
+use Rattle.calculus.specs.Limits.{most_entries, most_expanded_variables, most_variables, greatest_size}
 use Rattle.calculus.specs.Database.{Db, View, entries, is_there}
 use Rattle.calculus.specs.Stored.{Viewed, range_at, kinds_at}
 use Rattle.calculus.specs.QueryParts.{vars_of, targets_of, query_aggregates}
 use Rattle.calculus.specs.Sizes.{Measure, level_above, range_level, level_within, level_of, query_level, query_measure, measure_of, variables, expanded_variables, query_size, source_variables}
-use Rattle.calculus.specs.TreeLevels.{query_levels}
+use Rattle.calculus.specs.Storable.{query_is_storable}
 use Rattle.calculus.specs.IsDatabase.{IsDatabase, key_is_named, view_info_stands, attrs_stand, attrs_are_targets, vars_are_there, query_stands}
 use Rattle.calculus.specs.Change.{laid, adds_what_is_new, IsLawful}
 use Rattle.quel_meaning.specs.Passing.{is_full, is_too_high}
@@ -34,9 +34,9 @@ use Rattle.plan_laws.proofs.PlainQueries.{query_plain}
 use Rattle.plan_laws.proofs.Staying.{Staying, map_same, all_same, level_stays, query_stays, kinds_stay, there_stays}
 use Rattle.plan_laws.proofs.StayingFacts.{stands_with}
 use Rattle.plan_laws.proofs.BesideViews.{by_view, views_known}
-use Rattle.change_laws.proofs.Tests.{has_room, not_full}
+use Rattle.plan_laws.proofs.Tests.{has_room, not_full}
 use Rattle.change_laws.proofs.Inserted.{insert_passes, length_insert, never_equal}
-use Rattle.change_laws.proofs.Levels.{there_below, below_the_greatest, not_too_high}
+use Rattle.plan_laws.proofs.Levels.{there_below, below_the_greatest, not_too_high}
 use Rattle.change_laws.proofs.ViewMade.{view_known, staying}
 
 -- ---- a view with a level doesn't name itself
@@ -109,7 +109,7 @@ lawful_view db info q is l = record {
     few = its (λ v. nat_le (variables v.query) most_variables) after.few_variables;
     few_expanded = ap (λ n. nat_le n most_expanded_variables) expansion ∙ its (λ v. nat_le (expanded_variables later v.query) most_expanded_variables) after.few_expanded_variables;
     small = ap (λ (m : Measure). nat_le (sum m.attrs + m.qual) greatest_size) (query_stays Other db later stay q own_vars) ∙ its (λ v. nat_le (query_size later v.query) greatest_size) after.small_views;
-    shallow = its (λ v. nat_le (query_levels v.query) most_levels) after.storable_views;
+    storable = its (λ v. query_is_storable v.query) after.storable_views;
   };
 }
   where
@@ -221,7 +221,7 @@ view_fits_exactly db info q is = (to, from)
         let listed = both (nat_le (length (vars_of q)) most_expanded_variables) _ stands.1 in
         let few = both (nat_le (variables q) most_variables) _ listed.1 in
         let expanded = both (nat_le (expanded_variables db q) most_expanded_variables) _ few.1 in
-        let small = both (nat_le (query_size db q) greatest_size) (nat_le (query_levels q) most_levels) expanded.1 in
+        let small = both (nat_le (query_size db q) greatest_size) (query_is_storable q) expanded.1 in
         let known = view_known info q kept.0 targets.0 in
         subst (λ i. IsLawful db (change.View i q)) known (view_lawful db info.key q is (record {
           named = named.0;
@@ -235,7 +235,7 @@ view_fits_exactly db info q is = (to, from)
           few = few.0;
           few_expanded = expanded.0;
           small = small.0;
-          shallow = small.1;
+          storable = small.1;
         }))
 
     from : IsLawful db (change.View info q) → view_is_fit db info q ≡ true
@@ -244,4 +244,4 @@ view_fits_exactly db info q is = (to, from)
         let fit = facts.fit in
         let attributes : IsTrue (attrs_stand info.attrs) = subst (λ i. IsTrue (attrs_stand i.attrs)) (view_known info q facts.kept facts.targets) fit.attributes in
         each _ _ (each _ _ fit.named (each _ _ (ap not fit.unused) (not_full db fit.room))) (each _ _ facts.kept (each _ _ attributes (each _ _ facts.targets (each _ _ fit.vars
-        (each _ _ (not_too_high db q fit.levels) (each _ _ fit.stands (each _ _ fit.few_listed (each _ _ fit.few (each _ _ fit.few_expanded (each _ _ fit.small fit.shallow))))))))))
+        (each _ _ (not_too_high db q fit.levels) (each _ _ fit.stands (each _ _ fit.few_listed (each _ _ fit.few (each _ _ fit.few_expanded (each _ _ fit.small fit.storable))))))))))

@@ -1,5 +1,5 @@
 -- A view of a query: what is known of it, and what stands with it.
-use Rattle.std.proofs.Common.{◌≡◌, refl, sym, ap, ℕ, Bool, true, false, not, IsTrue, List, [], ◌∷◌, None, map}
+use Rattle.std.proofs.Common.{◌≡◌, refl, sym, ap, ℕ, true, false, not, IsTrue, List, [], ◌∷◌, None, map}
 use Rattle.std.specs.Prelude.{is_some}
 use Rattle.std.specs.List.{AllByRecursion}
 use Rattle.std.proofs.lemmas.Bool.Decides.{Decides-eqb}
@@ -21,6 +21,7 @@ use Rattle.calculus.specs.Database.{Db, View}
 use Rattle.calculus.specs.Stored.{range_at}
 use Rattle.calculus.specs.QueryParts.{vars_of, targets_of}
 use Rattle.calculus.specs.IsDatabase.{IsDatabase, view_info_stands, attrs_are_targets, same_domain, same_kind, vars_are_there}
+use Rattle.calculus.specs.Structures.{is_view}
 use Rattle.quel_meaning.specs.Planned.{view_info, target_attr}
 use Rattle.plan_laws.proofs.Kept.{both}
 use Rattle.plan_laws.proofs.Created.{each_true, each_from, ranged_is_other, viewed_is_found, found_has}
@@ -66,18 +67,16 @@ no_keys : (keys : List ℕ) → IsTrue (not (is_any keys)) → keys ≡ []
 no_keys [] t = refl
 no_keys (k ∷ keys) t = cc t
 
-kept_as_view : (s : Spec) (b : Bool) → IsTrue (elim s as (λ s. Bool) [ spec.Heap ↦ false | spec.Hash ↦ false | spec.Isam ↦ false | spec.View ↦ b | spec.Index ↦ false ]) → (s ≡ spec.View) × IsTrue b
-kept_as_view spec.Heap b t = cc t
-kept_as_view spec.Hash b t = cc t
-kept_as_view spec.Isam b t = cc t
-kept_as_view spec.View b t = (refl, t)
-kept_as_view spec.Index b t = cc t
+-- a view is kept as nothing else
+the_view : (s : Spec) → IsTrue (is_view s) → s ≡ spec.View
+the_view spec.View t = refl
+the_view _ t = cc t
 
 -- what is kept as a view, with the targets of a query as its attributes, is what is known of a view of it
 pub view_known : (info : RelInfo) (q : Query) → IsTrue (view_info_stands info) → IsTrue (attrs_are_targets info.attrs (targets_of q)) → view_info info.key q ≡ info
 view_known info q kept targets =
-    let view = kept_as_view info.spec (not (is_any info.keys)) kept in
-    λ i. record { key = info.key; spec = sym view.0 i; attrs = sym (attrs_are info.attrs (targets_of q) targets) i; keys = sym (no_keys info.keys view.1) i }
+    let view = both (is_view info.spec) (not (is_any info.keys)) kept in
+    λ i. record { key = info.key; spec = sym (the_view info.spec view.0) i; attrs = sym (attrs_are info.attrs (targets_of q) targets) i; keys = sym (no_keys info.keys view.1) i }
 
 -- ---- what stands with it
 

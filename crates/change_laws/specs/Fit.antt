@@ -58,13 +58,13 @@ relation_is_fit db info rows =
     && (structure_stands info
     && (attrs_stand info.attrs && (are_stored info.attrs && (rows_differ rows && (list_all (row_fits info.attrs) rows && nat_le (length rows) most_rows)))))
 
--- a permit may be made: it stands on a relation, is no larger than one may be, and has a free number
+-- a permit may be made: it stands on a relation, its qualification and what it lists can be stored, and it has a free number
 unfoldable pub permit_is_fit : Db → RelKey → Permit → Bool
 permit_is_fit db rel permit =
     permit_stands db rel permit
     && (row_qual_is_storable permit.qual && (permit_lists_are_storable permit && number_is_free most_permits (permit_numbers db rel) permit.number))
 
--- a rule may be made: it stands on a relation, is no larger than one may be, and has a free number
+-- a rule may be made: it stands on a relation, its qualification can be stored, and it has a free number
 unfoldable pub rule_is_fit : Db → RelKey → Rule → Bool
 rule_is_fit db rel rule =
     is_relation db rel && (row_qual_stands db rel rule.qual && (row_qual_is_storable rule.qual && number_is_free most_rules (rule_numbers db rel) rule.number))
@@ -85,7 +85,7 @@ is_named_outside db rels key = list_any (λ v. not (has_key rels v.info.key) && 
 unfoldable pub destroying_is_fit : Db → List RelKey → Bool
 destroying_is_fit db rels = list_all (is_there db) rels && (differ_by same_key rels && not (list_any (is_named_outside db rels) rels))
 
--- the view is within the limits, once the views in it are put in
+-- the view is within the limits, once the views in it are put in, and can be stored
 unfoldable pub view_is_small : Db → Query → Bool
 view_is_small db q =
     nat_le (length (vars_of q)) most_expanded_variables

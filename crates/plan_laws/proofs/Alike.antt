@@ -1,5 +1,5 @@
 -- Two databases in which variables range over the same: the same views, and relations with the same attributes. Levels, sizes and kinds are the same in both.
-use Rattle.std.proofs.Common.{◌≡◌, refl, ap, ◌∙◌, ℕ, zero, suc, nat_le, nat_lt, Bool, false, ◌&&◌, List, [], ◌∷◌, Option, Some, None, map, length}
+use Rattle.std.proofs.Common.{◌≡◌, refl, ap, ◌∙◌, ℕ, zero, suc, nat_le, nat_lt, Bool, ◌&&◌, List, [], ◌∷◌, Option, Some, None, map, length}
 use Rattle.std.specs.Prelude.{◌+◌, not, sum, sum_by, bytes_eq, is_some, option_map}
 use Rattle.std.specs.List.{list_all}
 use Rattle.calculus.specs.declared.value.Kind.{Kind}
@@ -7,14 +7,14 @@ use Rattle.calculus.specs.declared.query.RelKey.{RelKey}
 use Rattle.calculus.specs.declared.query.Query.{Query}
 use Rattle.calculus.specs.declared.schema.Permit.{Permit}
 use Rattle.calculus.specs.declared.schema.Rule.{Rule}
-use Rattle.calculus.specs.declared.schema.Spec.TheVariants as spec
 use Rattle.calculus.specs.Database.{Db, View, Index, is_relation}
 use Rattle.calculus.specs.Limits.{greatest_level, most_expanded_variables, greatest_size}
 use Rattle.calculus.specs.Stored.{Range, Kept, Viewed, range_at, range_info, info_at, attrs_in, attrs_at, kinds_at}
+use Rattle.calculus.specs.Structures.{is_index}
 use Rattle.calculus.specs.QueryParts.{vars_of, targets_of, qual_of, query_aggregates}
 use Rattle.calculus.specs.Kinds.{kind_of, kinds_fit}
 use Rattle.calculus.specs.Lists.{is_any}
-use Rattle.calculus.specs.Sizes.{Measure, Known, range_level, level_above, level_within, level_of, range_measure, query_measure, measure_within, measure_of, query_size, expanded_variables, source_variables}
+use Rattle.calculus.specs.Sizes.{Measure, Known, range_level, level_above, level_within, level_of, range_measure, query_measure, measure_within, measure_of, query_size, expanded_variables, source_variables, plain_measure}
 use Rattle.calculus.specs.IsDatabase.{query_stands, vars_are_there, row_qual_stands, permit_stands, index_stands, has_kind, keys_stand, user_is_named}
 
 -- ---- what is the same
@@ -72,7 +72,7 @@ range_measure_same f g h (Some (Viewed v)) (Some (Kept s)) a = absurd a
 range_measure_same f g h (Some (Viewed v)) (Some (Viewed w)) a = h v ∙ ap g a
 
 measure_at : (db later : Db) → Alike db later → (n : ℕ) (key : RelKey) → measure_within n db key ≡ measure_within n later key
-measure_at db later alike zero key = refl
+measure_at db later alike zero key = range_measure_same (λ view. plain_measure) (λ view. plain_measure) (λ view. refl) (range_at db key) (range_at later key) (alike.ranges key)
 measure_at db later alike (suc n) key =
     range_measure_same (λ view. query_measure (measure_within n db) view.query) (λ view. query_measure (measure_within n later) view.query)
     (λ view. ap (λ known. query_measure known view.query) (λ i key. measure_at db later alike n key i)) (range_at db key) (range_at later key) (alike.ranges key)
@@ -162,10 +162,5 @@ permits_stay db later alike dba permits =
     && (list_all (λ a. nat_lt a (length (attrs_same db later alike i p.0))) p.1.attrs && kinds_fit p.1.qual (kinds_same db later alike i p.0 ∷ []))))) permits
 
 pub indexes_stay : (db later : Db) → Alike db later → (indexes : List Index) → list_all (index_stands db) indexes ≡ list_all (index_stands later) indexes
-indexes_stay db later alike indexes = λ i. list_all (λ x. elim x.info.spec [
-  | spec.Heap ↦ false
-  | spec.Hash ↦ false
-  | spec.Isam ↦ false
-  | spec.View ↦ false
-  | spec.Index ↦ relations_same db later alike i x.base && (not (is_any x.info.attrs) && (is_any x.info.keys && keys_stand (attrs_same db later alike i x.base) x.info.keys))
-]) indexes
+indexes_stay db later alike indexes = λ i. list_all (λ x. is_index x.info.spec
+    && (relations_same db later alike i x.base && (not (is_any x.info.attrs) && (is_any x.info.keys && keys_stand (attrs_same db later alike i x.base) x.info.keys)))) indexes

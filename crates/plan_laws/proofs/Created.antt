@@ -7,21 +7,20 @@ use Rattle.std.proofs.lemmas.Cmp.{on_total}
 use Rattle.calculus.specs.declared.query.RelKey.{RelKey}
 use Rattle.calculus.specs.declared.schema.Attr.{Attr}
 use Rattle.calculus.specs.declared.schema.RelInfo.{RelInfo}
-use Rattle.calculus.specs.declared.schema.Spec.{Spec}
-use Rattle.calculus.specs.declared.schema.Spec.TheVariants as spec
 use Rattle.calculus.specs.declared.request.Utility.TheVariants as utility
 use Rattle.calculus.specs.declared.change.DbChange.{DbChange}
 use Rattle.calculus.specs.declared.change.DbChange.TheVariants as change
 use Rattle.calculus.specs.Keys.{same_key}
-use Rattle.calculus.specs.Lists.{insert_by, is_any}
+use Rattle.calculus.specs.Lists.{insert_by}
 use Rattle.calculus.specs.Limits.{most_entries, most_rows, most_rules, most_permits}
 use Rattle.calculus.specs.Rows.{Row, Ascends, set_of}
 use Rattle.calculus.specs.Catalogue.{is_catalogue_name, is_catalogue, catalogue_at}
 use Rattle.calculus.specs.Database.{Db, Relation, View, Index, relation_at, view_at, is_relation, entries, is_there, rules_on, permits_on}
-use Rattle.calculus.specs.Stored.{Viewed, range_at, attrs_at}
+use Rattle.calculus.specs.Stored.{Viewed, range_at}
+use Rattle.calculus.specs.Structures.{is_index}
 use Rattle.calculus.specs.QueryParts.{vars_of}
 use Rattle.calculus.specs.Name.{is_name}
-use Rattle.calculus.specs.IsDatabase.{IsDatabase, row_fits, key_is_named, structure_stands, attrs_stand, are_stored, relation_rows_fit, vars_are_there, query_stands, index_stands, row_qual_stands, permit_stands, keys_stand}
+use Rattle.calculus.specs.IsDatabase.{IsDatabase, row_fits, key_is_named, structure_stands, attrs_stand, are_stored, relation_rows_fit, vars_are_there, query_stands, index_stands, row_qual_stands, permit_stands}
 use Rattle.calculus.specs.Change.{laid, names_what_is_there, adds_what_is_new, lists_once, IsLawful}
 use Rattle.calculus.proofs.Sets.{Ascends-nil, Ascends-set_of, has-set_of, same_set}
 use Rattle.quel_meaning.specs.Planned.{planned, plan_causes, plan_change, heap_info}
@@ -75,13 +74,16 @@ named_is_no_catalogue db key t =
     and_false true = refl
     and_false false = refl
 
-pub nothing_ranges : (db : Db) (key : RelKey) → IsTrue (key_is_named key) → is_there db key ≡ false → range_at db key ≡ None
+pub nothing_stands : (db : Db) (key : RelKey) → is_there db key ≡ false → is_catalogue db key ≡ false → range_at db key ≡ None
 unfolding range_at
-nothing_ranges db key named unused =
+nothing_stands db key unused none =
     let found = none_found key db.relations (map (λ v. v.info) db.views ++ map (λ x. x.info) db.indexes) unused in
     let view = no_view key db.views (map (λ x. x.info) db.indexes) found.1 in
-    let catalogue = no_catalogue db key (named_is_no_catalogue db key named) in
+    let catalogue = no_catalogue db key none in
     λ i. ranged (found.0 i) (view i) (catalogue i)
+
+pub nothing_ranges : (db : Db) (key : RelKey) → IsTrue (key_is_named key) → is_there db key ≡ false → range_at db key ≡ None
+nothing_ranges db key named unused = nothing_stands db key unused (named_is_no_catalogue db key named)
 
 -- ---- what is there has another key
 
@@ -151,17 +153,7 @@ ranges_beside db new key other =
     later = record db { relations = insert_by by_rel new db.relations }
 
 pub index_based : (db : Db) (x : Index) → IsTrue (index_stands db x) → is_relation db x.base ≡ true
-index_based db x t = go x.info.spec t
-  where
-    rest : Bool
-    rest = not (is_any x.info.attrs) && (is_any x.info.keys && keys_stand (attrs_at db x.base) x.info.keys)
-
-    go : (s : Spec) → IsTrue (elim s as (λ s. Bool) [ spec.Heap ↦ false | spec.Hash ↦ false | spec.Isam ↦ false | spec.View ↦ false | spec.Index ↦ is_relation db x.base && rest ]) → is_relation db x.base ≡ true
-    go spec.Heap t = cc t
-    go spec.Hash t = cc t
-    go spec.Isam t = cc t
-    go spec.View t = cc t
-    go spec.Index t = (both (is_relation db x.base) rest t).0
+index_based db x t = (both (is_relation db x.base) _ (both (is_index x.info.spec) _ t).1).0
 
 -- the set of rows that ascend is these rows
 set_itself : (rows : List Row) → Ascends rows → set_of rows ≡ rows

@@ -24,3 +24,6 @@ pub mod Destroyed
 pub mod Replaced
 pub mod BesideViews
 pub mod ViewMade
+pub mod Tests
+pub mod Levels
+pub mod FitUtilities

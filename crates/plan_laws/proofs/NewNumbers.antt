@@ -10,10 +10,10 @@ use Rattle.calculus.specs.declared.schema.Rule.{Rule}
 use Rattle.calculus.specs.declared.change.DbChange.TheVariants as change
 use Rattle.calculus.specs.Keys.{same_key, numbered_cmp}
 use Rattle.calculus.specs.Lists.{has_number, insert_by}
-use Rattle.calculus.specs.Limits.{most_permits, most_rules, greatest_number, most_listed_attributes}
+use Rattle.calculus.specs.Limits.{most_permits, most_rules, greatest_number}
 use Rattle.calculus.specs.Database.{Db, Relation, is_relation, rules_on, permits_on}
 use Rattle.calculus.specs.IsDatabase.{IsDatabase, row_qual_stands, permit_stands}
-use Rattle.calculus.specs.Storable.{row_qual_is_small}
+use Rattle.calculus.specs.Storable.{row_qual_is_storable, permit_lists_are_storable}
 use Rattle.calculus.specs.Change.{laid, permit_numbers, rule_numbers, names_what_is_there, adds_what_is_new, lists_once, IsLawful}
 use Rattle.quel_meaning.specs.Planned.{next_number, is_past_limit}
 use Rattle.quel_meaning.proofs.InOrder.{in_order-insert}
@@ -103,8 +103,8 @@ permit_lawful db rel permit is fit relation owner few =
     stand = record {
       ascend = in_order-insert (numbered_total (λ p. p.number)) (rel, numbered) db.permits is.permits_ascend;
       stand = put (λ p. permit_stands db p.0 p.1) new is.permits_stand;
-      are_small = put (λ p. row_qual_is_small p.1.qual) fit.small is.storable_permits;
-      are_short = put (λ p. nat_le (length p.1.attrs) most_listed_attributes) fit.few_attrs is.storable_lists;
+      are_storable = put (λ p. row_qual_is_storable p.1.qual) fit.storable is.storable_permits;
+      have_storable_lists = put (λ p. permit_lists_are_storable p.1) fit.lists is.storable_lists;
       are_few = all_imply (λ (r : Relation). nat_le (length (permits_on db r.info.key)) most_permits) (λ r. nat_le (length (permits_on (record db { permits = later }) r.info.key)) most_permits)
           (λ r t. few_later r.info.key (le_is (length (permits_on db r.info.key)) most_permits t)) db.relations is.few_permits;
       have_small_numbers = put (λ p. nat_le p.1.number greatest_number) (le_true (next_number (permit_numbers db rel)) greatest_number limit.1) is.small_permit_numbers;
@@ -148,7 +148,7 @@ rule_lawful db rel rule is fit relation few =
     stand = record {
       ascend = in_order-insert (numbered_total (λ p. p.number)) (rel, numbered) db.rules is.rules_ascend;
       stand = put (λ p. is_relation db p.0 && row_qual_stands db p.0 p.1.qual) new is.rules_stand;
-      are_small = put (λ p. row_qual_is_small p.1.qual) fit.small is.storable_rules;
+      are_storable = put (λ p. row_qual_is_storable p.1.qual) fit.storable is.storable_rules;
       are_few = all_imply (λ (r : Relation). nat_le (length (rules_on db r.info.key)) most_rules) (λ r. nat_le (length (rules_on (record db { rules = later }) r.info.key)) most_rules)
           (λ r t. few_later r.info.key (le_is (length (rules_on db r.info.key)) most_rules t)) db.relations is.few_rules;
       have_small_numbers = put (λ p. nat_le p.1.number greatest_number) (le_true (next_number (rule_numbers db rel)) greatest_number limit.1) is.small_rule_numbers;

@@ -7,12 +7,12 @@ use Rattle.calculus.specs.declared.query.RelKey.{RelKey}
 use Rattle.calculus.specs.declared.schema.Permit.{Permit}
 use Rattle.calculus.specs.declared.schema.Rule.{Rule}
 use Rattle.calculus.specs.Keys.{numbered_cmp}
-use Rattle.calculus.specs.Limits.{most_permits, most_rules, greatest_number, most_listed_attributes}
+use Rattle.calculus.specs.Limits.{most_permits, most_rules, greatest_number}
 use Rattle.calculus.specs.Database.{Db, is_relation, rules_on, permits_on}
 use Rattle.calculus.specs.Catalogue.{catalogue_at}
 use Rattle.calculus.specs.Stored.{range_at}
 use Rattle.calculus.specs.IsDatabase.{IsDatabase, row_qual_stands, permit_stands}
-use Rattle.calculus.specs.Storable.{row_qual_is_small}
+use Rattle.calculus.specs.Storable.{row_qual_is_storable, permit_lists_are_storable}
 use Rattle.plan_laws.proofs.Alike.{Alike, alike_itself, levels_stay, vars_stay, queries_stay, expansions_stay, sizes_stay, rules_stay, permits_stay, indexes_stay}
 
 pub permits_alike : (db : Db) (permits : List (RelKey × Permit)) → Alike db (record db { permits = permits })
@@ -23,8 +23,8 @@ permits_alike db permits = record { ranges = λ key. alike_itself (range_at db k
 pub record PermitsStand (db : Db) (permits : List (RelKey × Permit)) : Type 0 where
   pub ascend : IsStrictlySortedBy (numbered_cmp (λ p. p.number)) permits
   pub stand : IsTrue (list_all (λ p. permit_stands db p.0 p.1) permits)
-  pub are_small : IsTrue (list_all (λ p. row_qual_is_small p.1.qual) permits)
-  pub are_short : IsTrue (list_all (λ p. nat_le (length p.1.attrs) most_listed_attributes) permits)
+  pub are_storable : IsTrue (list_all (λ p. row_qual_is_storable p.1.qual) permits)
+  pub have_storable_lists : IsTrue (list_all (λ p. permit_lists_are_storable p.1) permits)
   pub are_few : IsTrue (list_all (λ r. nat_le (length (permits_on (record db { permits = permits }) r.info.key)) most_permits) db.relations)
   pub have_small_numbers : IsTrue (list_all (λ p. nat_le p.1.number greatest_number) permits)
 
@@ -63,8 +63,8 @@ with_permits db permits is new =
       small_views = sym (sizes_stay db later alike db.views) ∙ is.small_views;
       storable_views = is.storable_views;
       storable_rules = is.storable_rules;
-      storable_permits = new.are_small;
-      storable_lists = new.are_short;
+      storable_permits = new.are_storable;
+      storable_lists = new.have_storable_lists;
       few_rules = is.few_rules;
       few_permits = new.are_few;
       small_rule_numbers = is.small_rule_numbers;
@@ -81,7 +81,7 @@ rules_alike db rules = record { ranges = λ key. alike_itself (range_at db key);
 pub record RulesStand (db : Db) (rules : List (RelKey × Rule)) : Type 0 where
   pub ascend : IsStrictlySortedBy (numbered_cmp (λ r. r.number)) rules
   pub stand : IsTrue (list_all (λ p. is_relation db p.0 && row_qual_stands db p.0 p.1.qual) rules)
-  pub are_small : IsTrue (list_all (λ p. row_qual_is_small p.1.qual) rules)
+  pub are_storable : IsTrue (list_all (λ p. row_qual_is_storable p.1.qual) rules)
   pub are_few : IsTrue (list_all (λ r. nat_le (length (rules_on (record db { rules = rules }) r.info.key)) most_rules) db.relations)
   pub have_small_numbers : IsTrue (list_all (λ p. nat_le p.1.number greatest_number) rules)
 
@@ -119,7 +119,7 @@ with_rules db rules is new =
       few_expanded_variables = sym (expansions_stay db later alike db.views) ∙ is.few_expanded_variables;
       small_views = sym (sizes_stay db later alike db.views) ∙ is.small_views;
       storable_views = is.storable_views;
-      storable_rules = new.are_small;
+      storable_rules = new.are_storable;
       storable_permits = is.storable_permits;
       storable_lists = is.storable_lists;
       few_rules = new.are_few;

@@ -1,12 +1,11 @@
 -- A relation that is stored in another structure.
-use Rattle.std.proofs.Common.{◌≡◌, refl, ap, subst, ℕ, Bool, true, ◌&&◌, not, IsTrue, List, [], ◌∷◌, Some, filter, length, nat_lt, suc, arith}
+use Rattle.std.proofs.Common.{◌≡◌, refl, ap, subst, ℕ, Bool, true, false, ◌&&◌, not, IsTrue, List, [], ◌∷◌, Some, filter, length, nat_lt, suc, arith}
 use Rattle.std.specs.Prelude.{Ok}
 use Rattle.std.specs.List.{list_all, AllByRecursion}
 use Rattle.std.proofs.lemmas.Bool.Decides.{nat_tests}
 use Rattle.calculus.specs.declared.query.RelKey.{RelKey}
 use Rattle.calculus.specs.declared.schema.Attr.{Attr}
 use Rattle.calculus.specs.declared.schema.Spec.{Spec}
-use Rattle.calculus.specs.declared.schema.Spec.TheVariants as spec
 use Rattle.calculus.specs.declared.request.Utility.TheVariants as utility
 use Rattle.calculus.specs.declared.change.DbChange.{DbChange}
 use Rattle.calculus.specs.declared.change.DbChange.TheVariants as change
@@ -14,11 +13,12 @@ use Rattle.calculus.specs.Keys.{same_key}
 use Rattle.calculus.specs.Database.{Db, Relation, Index, relation_at, is_relation}
 use Rattle.calculus.specs.IsDatabase.{IsDatabase, attrs_stand, keys_stand, structure_stands}
 use Rattle.calculus.specs.Change.{laid, restructured, names_what_is_there, adds_what_is_new, lists_once, IsLawful}
-use Rattle.quel_meaning.specs.Structures.{structure_keys}
+use Rattle.quel_meaning.specs.Structures.{structure_keys, first_or_these}
 use Rattle.quel_meaning.specs.Planned.{planned, plan_causes, plan_change}
-use Rattle.calculus.specs.Structures.{is_structure}
+use Rattle.calculus.specs.Lists.{is_any}
+use Rattle.calculus.specs.Structures.{is_structure, is_keyed}
 use Rattle.plan_laws.specs.Fitting.{IsFitStructure}
-use Rattle.plan_laws.proofs.Kept.{both}
+use Rattle.plan_laws.proofs.Kept.{both, each}
 use Rattle.plan_laws.proofs.Planned.{all_absent, not_refused, base_relation}
 use Rattle.plan_laws.proofs.Changed.{ChangeStands, with_changed, owned, each_maps, for_each}
 use Rattle.plan_laws.proofs.Indexes.{without_indexes}
@@ -33,15 +33,19 @@ first_is_key x attrs = ap (λ b. (b && true) && true) (some (length attrs))
 -- keys of attributes that stand make a structure that stands, the first attribute being the key where none is named
 structure_lawful : (attrs : List Attr) (to : Spec) (keys : List ℕ) → IsTrue (is_structure to) → IsTrue (attrs_stand attrs) → IsTrue (keys_stand attrs keys)
     → (rel : RelKey) → IsTrue (structure_stands (record { key = rel; spec = to; attrs = attrs; keys = structure_keys to keys }))
-structure_lawful attrs spec.Heap keys s a k rel = refl
-structure_lawful attrs spec.View keys s a k rel = cc s
-structure_lawful attrs spec.Index keys s a k rel = cc s
-structure_lawful attrs spec.Hash (key ∷ keys) s a k rel = k
-structure_lawful attrs spec.Isam (key ∷ keys) s a k rel = k
-structure_lawful [] spec.Hash [] s a k rel = cc a
-structure_lawful (x ∷ attrs) spec.Hash [] s a k rel = first_is_key x attrs
-structure_lawful [] spec.Isam [] s a k rel = cc a
-structure_lawful (x ∷ attrs) spec.Isam [] s a k rel = first_is_key x attrs
+structure_lawful attrs to keys structure stand places rel = go (is_keyed to)
+  where
+    keyed : (attrs : List Attr) (keys : List ℕ) → IsTrue (attrs_stand attrs) → IsTrue (keys_stand attrs keys) → IsTrue (is_any (first_or_these keys) && keys_stand attrs (first_or_these keys))
+    keyed attrs (key ∷ keys) a k = k
+    keyed [] [] a k = cc a
+    keyed (x ∷ attrs) [] a k = first_is_key x attrs
+
+    keys_of : Bool → List ℕ
+    keys_of b = elim b [ true ↦ first_or_these keys | false ↦ [] ]
+
+    go : (b : Bool) → IsTrue (elim b as (λ b. Bool) [ true ↦ is_any (keys_of b) && keys_stand attrs (keys_of b) | false ↦ is_structure to && not (is_any (keys_of b)) ])
+    go true = keyed attrs keys stand places
+    go false = each _ _ structure refl
 
 both_each : {X : Type 0} (P Q : X → Type 0) (xs : List X) → AllByRecursion P xs → AllByRecursion Q xs → AllByRecursion (λ x. P x × Q x) xs
 both_each P Q [] p q = tt

@@ -10,7 +10,7 @@ use Rattle.calculus.specs.Lists.{is_any}
 use Rattle.calculus.specs.Stored.{Range, Kept, Viewed, range_at, info_at, attrs_at, kinds_at}
 use Rattle.calculus.specs.QueryParts.{vars_of, targets_of, qual_of}
 use Rattle.calculus.specs.Used.{used_in_query, used_vars}
-use Rattle.calculus.specs.Sizes.{Measure, Known, measures, term_size, qual_size, range_level, level_above, level_within, level_of, range_measure, query_measure, measure_within, measure_of}
+use Rattle.calculus.specs.Sizes.{Measure, Known, measures, term_size, qual_size, range_level, level_above, level_within, level_of, range_measure, query_measure, measure_within, measure_of, plain_measure}
 use Rattle.plan_laws.proofs.Alike.{AlikeRange, range_attrs_same, range_there_same}
 
 -- under each of these keys the two have the like, and views there name such keys alone
@@ -94,7 +94,7 @@ range_measure_by f g (Some (Viewed v)) (Some (Kept s)) h a = absurd a
 range_measure_by f g (Some (Viewed v)) (Some (Viewed w)) h a = h v refl ∙ ap g a
 
 measure_stays : (P : RelKey → Type 0) (db later : Db) → Staying P db later → (n : ℕ) (key : RelKey) → P key → measure_within n db key ≡ measure_within n later key
-measure_stays P db later stay zero key p = refl
+measure_stays P db later stay zero key p = range_measure_by (λ view. plain_measure) (λ view. plain_measure) (range_at db key) (range_at later key) (λ view e. refl) (stay.ranges key p)
 measure_stays P db later stay (suc n) key p =
     range_measure_by (λ view. query_measure (measure_within n db) view.query) (λ view. query_measure (measure_within n later) view.query) (range_at db key) (range_at later key)
     (λ view e. query_measure_same P (measure_within n db) (measure_within n later) view.query (stay.closed key view p e) (λ key p. measure_stays P db later stay n key p)) (stay.ranges key p)

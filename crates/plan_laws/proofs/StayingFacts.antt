@@ -1,5 +1,5 @@
 -- The facts of a database that carry over to one in which what its views, rules, permits and indexes name stays alike.
-use Rattle.std.proofs.Common.{◌≡◌, sym, ap, ◌∙◌, ℕ, ◌+◌, nat_le, nat_lt, Bool, false, ◌&&◌, not, List, [], ◌∷◌, length}
+use Rattle.std.proofs.Common.{◌≡◌, sym, ap, ◌∙◌, ℕ, ◌+◌, nat_le, nat_lt, Bool, ◌&&◌, not, List, [], ◌∷◌, length}
 use Rattle.std.specs.Prelude.{is_some, sum, sum_by, bytes_eq}
 use Rattle.std.specs.List.{list_all, AllByRecursion}
 use Rattle.calculus.specs.declared.value.Kind.{Kind}
@@ -8,7 +8,6 @@ use Rattle.calculus.specs.declared.query.QAgg.{QAgg}
 use Rattle.calculus.specs.declared.query.Query.{Query}
 use Rattle.calculus.specs.declared.schema.Permit.{Permit}
 use Rattle.calculus.specs.declared.schema.Rule.{Rule}
-use Rattle.calculus.specs.declared.schema.Spec.TheVariants as spec
 use Rattle.calculus.specs.Database.{Db, View, Index, is_relation}
 use Rattle.calculus.specs.Limits.{most_expanded_variables, greatest_size}
 use Rattle.calculus.specs.Kinds.{kind_of, kinds_fit}
@@ -17,6 +16,7 @@ use Rattle.calculus.specs.Stored.{kinds_at}
 use Rattle.calculus.specs.QueryParts.{vars_of, targets_of, qual_of, query_aggregates}
 use Rattle.calculus.specs.Sizes.{Measure, query_measure, measure_of, level_of, expanded_variables, query_size, source_variables}
 use Rattle.calculus.specs.IsDatabase.{vars_are_there, query_stands, has_kind, row_qual_stands, permit_stands, user_is_named, index_stands, keys_stand}
+use Rattle.calculus.specs.Structures.{is_index}
 use Rattle.plan_laws.proofs.Staying.{Staying, map_same, all_same, level_stays_same, query_stays, attrs_stay, kinds_stay, there_stays}
 
 -- a view under such a key, which names only such keys, and has no aggregates
@@ -74,10 +74,5 @@ permits_hold P db later stay dba permits h = all_same (λ p. P p.0) _ _ permits 
 
 pub indexes_hold : (P : RelKey → Type 0) (db later : Db) → Staying P db later → (indexes : List Index) → AllByRecursion (λ x. P x.base) indexes
     → list_all (index_stands db) indexes ≡ list_all (index_stands later) indexes
-indexes_hold P db later stay indexes h = all_same (λ x. P x.base) _ _ indexes h (λ x s i. elim x.info.spec [
-  | spec.Heap ↦ false
-  | spec.Hash ↦ false
-  | spec.Isam ↦ false
-  | spec.View ↦ false
-  | spec.Index ↦ stay.relations x.base s i && (not (is_any x.info.attrs) && (is_any x.info.keys && keys_stand (attrs_stay P db later stay x.base s i) x.info.keys))
-])
+indexes_hold P db later stay indexes h = all_same (λ x. P x.base) _ _ indexes h (λ x s i. is_index x.info.spec
+    && (stay.relations x.base s i && (not (is_any x.info.attrs) && (is_any x.info.keys && keys_stand (attrs_stay P db later stay x.base s i) x.info.keys))))

@@ -19,14 +19,14 @@ use Rattle.calculus.specs.declared.change.DbChange.{DbChange}
 use Rattle.calculus.specs.declared.change.DbChange.TheVariants as change
 use Rattle.calculus.specs.Keys.{same_key}
 use Rattle.calculus.specs.Lists.{insert_by}
-use Rattle.calculus.specs.Limits.{most_entries, most_expanded_variables, most_variables, most_levels, greatest_size}
+use Rattle.calculus.specs.Limits.{most_entries, most_expanded_variables, most_variables, greatest_size}
 use Rattle.calculus.specs.Rows.{Row, set_of}
 use Rattle.calculus.specs.Catalogue.{relation_key, attribute_key, catalogue_at, relation_info, attribute_info, relation_row, attribute_rows, all_entries}
 use Rattle.calculus.specs.Database.{Db, Relation, View, relation_at, view_at, is_relation, entries, is_there}
 use Rattle.calculus.specs.Stored.{Viewed, range_at, kinds_at}
 use Rattle.calculus.specs.QueryParts.{vars_of, targets_of, query_aggregates}
 use Rattle.calculus.specs.Sizes.{Measure, greater_level, greatest_of, level_above, range_level, level_within, level_of, query_measure, measure_of, variables, expanded_variables, query_size, source_variables}
-use Rattle.calculus.specs.TreeLevels.{query_levels}
+use Rattle.calculus.specs.Storable.{query_is_storable}
 use Rattle.calculus.specs.IsDatabase.{IsDatabase, key_is_named, view_info_stands, attrs_stand, attrs_are_targets, same_domain, same_kind, vars_are_there, query_stands, index_stands, row_qual_stands, permit_stands}
 use Rattle.calculus.specs.Change.{laid, names_what_is_there, adds_what_is_new, lists_once, IsLawful}
 use Rattle.quel_meaning.specs.Planned.{planned, plan_causes, plan_change, view_info, target_attr}
@@ -160,7 +160,7 @@ view_lawful db rel q is fit = record {
     small_views = put (λ v. nat_le (query_size later v.query) greatest_size)
         (sym (ap (λ (m : Measure). nat_le (sum m.attrs + m.qual) greatest_size) (query_stays Other db later stay q own_vars)) ∙ fit.small)
         (sym (sizes_hold Other db later stay db.views views) ∙ is.small_views);
-    storable_views = put (λ v. nat_le (query_levels v.query) most_levels) fit.shallow is.storable_views;
+    storable_views = put (λ v. query_is_storable v.query) fit.storable is.storable_views;
     storable_rules = is.storable_rules;
     storable_permits = is.storable_permits;
     storable_lists = is.storable_lists;

@@ -7,6 +7,8 @@ use Rattle.calculus.specs.declared.schema.Attr.{Attr}
 use Rattle.calculus.specs.declared.schema.Spec.{Spec}
 use Rattle.calculus.specs.declared.schema.Permit.{Permit}
 use Rattle.calculus.specs.declared.schema.Rule.{Rule}
+use Rattle.calculus.specs.declared.request.Utility.{Utility}
+use Rattle.calculus.specs.declared.request.Utility.TheVariants as utility
 use Rattle.calculus.specs.Keys.{key_of}
 use Rattle.calculus.specs.Lists.{is_any}
 use Rattle.calculus.specs.Limits.{most_entries, most_expanded_variables, most_variables, greatest_size}
@@ -23,20 +25,25 @@ use Rattle.calculus.specs.Structures.{is_structure}
 abbrev pub is_ranged : Db → RelKey → Bool
 is_ranged db key = is_some (range_at db key)
 
--- a permit on what is there: its user has a name, its attributes are there, and its qualification fits and is small
+-- the utility copies rows between a relation and a file, for which there is no plan
+abbrev pub is_copy : Utility → Bool
+is_copy (utility.Copy rel columns from file) = true
+is_copy work = false
+
+-- a permit on what is there: its user has a name, its attributes are there, its qualification fits, and what it lists and its qualification can be stored
 pub record IsFitPermit (db : Db) (rel : RelKey) (permit : Permit) : Type 0 where
   pub there : IsTrue (is_ranged db rel)
   pub user : IsTrue (user_is_named permit.user)
   pub attrs : IsTrue (permit_attrs_stand db rel permit.attrs)
-  pub few_attrs : IsTrue (permit_lists_are_storable permit)
+  pub lists : IsTrue (permit_lists_are_storable permit)
   pub qual : IsTrue (row_qual_stands db rel permit.qual)
-  pub small : IsTrue (row_qual_is_storable permit.qual)
+  pub storable : IsTrue (row_qual_is_storable permit.qual)
 
--- a rule on what is there: its qualification fits and is small
+-- a rule on what is there: its qualification fits and can be stored
 pub record IsFitRule (db : Db) (rel : RelKey) (rule : Rule) : Type 0 where
   pub there : IsTrue (is_ranged db rel)
   pub qual : IsTrue (row_qual_stands db rel rule.qual)
-  pub small : IsTrue (row_qual_is_storable rule.qual)
+  pub storable : IsTrue (row_qual_is_storable rule.qual)
 
 -- a structure for what is there: its keys are places of attributes, all different, and not too many
 pub record IsFitStructure (db : Db) (rel : RelKey) (to : Spec) (keys : List ℕ) : Type 0 where
@@ -61,7 +68,7 @@ pub record IsFitRelation (db : Db) (rel : RelKey) (attrs : List Attr) : Type 0 w
   pub domains : IsTrue (are_stored attrs)
   pub room : IsTrue (nat_lt (length (entries db)) most_entries)
 
--- a view that may be made: its key is named, is no catalogue's and is not in use, there is room for one more entry, its attributes stand, what it names is there and below the greatest level, its kinds fit, and it is within the limits
+-- a view that may be made: its key is named, is no catalogue's and is not in use, there is room for one more entry, its attributes stand, what it names is there and below the greatest level, its kinds fit, and it is within the limits and can be stored
 pub record IsFitView (db : Db) (rel : RelKey) (q : Query) : Type 0 where
   pub named : IsTrue (key_is_named rel)
   pub unused : is_there db rel ≡ false
@@ -74,4 +81,4 @@ pub record IsFitView (db : Db) (rel : RelKey) (q : Query) : Type 0 where
   pub few : IsTrue (nat_le (variables q) most_variables)
   pub few_expanded : IsTrue (nat_le (expanded_variables db q) most_expanded_variables)
   pub small : IsTrue (nat_le (query_size db q) greatest_size)
-  pub shallow : IsTrue (query_is_storable q)
+  pub storable : IsTrue (query_is_storable q)

@@ -1,4 +1,4 @@
--- The values of aggregates over base relations and catalogues, and over the rows of queries over these, are numbers and texts in the language's sense.
+-- The values of aggregates are numbers and texts in the language's sense.
 use Rattle.std.proofs.Common.{◌≡◌, refl, ap, subst, ◌∙◌, ℕ, ◌+◌, Bool, true, false, ◌&&◌, IsTrue, List, [], ◌∷◌, Option, Some, None, length, nat_le}
 use Rattle.std.specs.Prelude.{pos, filter_map, if◌then◌else◌}
 use Rattle.std.specs.List.{list_all, enumerate_from}
@@ -27,63 +27,28 @@ use Rattle.calculus.specs.Term.{Env, val, holds, no_aggs, values_of}
 use Rattle.calculus.specs.QueryParts.{vars_of, targets_of, qual_of, term_aggregates}
 use Rattle.calculus.specs.Used.{used_in_aggregate}
 use Rattle.calculus.specs.Assignments.{variable_rows, assigned}
+use Rattle.calculus.specs.Spelled.{term_is_spelled, source_is_spelled}
 use Rattle.calculus.specs.Targets.{target_values, qualifying, rows_given}
 use Rattle.calculus.specs.VariableRows.{rows_of}
 use Rattle.calculus.specs.Aggregate.{source_rows, agree, folded_rows, arguments, different, total, first_or, last_or, fold_values, source_kinds, none_value, fold_arguments, fold_linked, aggregates}
 use Rattle.calculus.specs.IsDatabase.{IsDatabase, query_stands}
 use Rattle.quel_meaning.specs.FitQueries.{is_kept, kept_alone, has_few_targets, source_fits}
 use Rattle.quel_meaning.proofs.Each.{Each, in_filter, each_to}
-use Rattle.update_laws.specs.Spelled.{is_proper, row_is_proper, rows_are_proper, term_is_spelled, targets_are_spelled, source_is_spelled, aggregate_is_spelled}
+use Rattle.update_laws.specs.Proper.{is_proper, row_is_proper, rows_are_proper}
 use Rattle.update_laws.proofs.Lists.{in_filter_map}
 use Rattle.update_laws.proofs.Texts.{both, each}
 use Rattle.update_laws.proofs.Valued.{gives_proper, AggsProper, gives_row, before_proper, number_proper, val_proper, targets_proper}
 use Rattle.update_laws.proofs.Assigned.{OfVariable, Chosen, OfRows, chosen, all_proper}
 use Rattle.update_laws.proofs.Catalogued.{Proper, set_each}
-use Rattle.update_laws.proofs.Ranged.{named_proper, variable_proper}
+use Rattle.update_laws.proofs.Standing.{AggregateStands}
+use Rattle.update_laws.proofs.Queried.{none_proper, query_proper}
+use Rattle.update_laws.proofs.Ranged.{named_proper}
 
 -- ---- the rows of a source
 
--- no aggregate has a value
-none_proper : (e : Env) (gs : List QAgg) → AggsProper no_aggs e gs
-none_proper e [] = tt
-none_proper e (g ∷ gs) = (refl, none_proper e gs)
-
-none_in_targets : (e : Env) (ts : List Target) → Each (λ t. AggsProper no_aggs e (term_aggregates t.term)) ts
-none_in_targets e [] = tt
-none_in_targets e (t ∷ ts) = (none_proper e (term_aggregates t.term), none_in_targets e ts)
-
--- each row of each variable is of numbers and texts
-abbrev Anywhere : OfVariable
-Anywhere n key row = Proper row
-
-given_proper : (q : Query) (es : List Env) → IsTrue (targets_are_spelled (targets_of q)) → Each (λ e. IsTrue (rows_are_proper e)) es → Each Proper (rows_given no_aggs q es)
-unfolding rows_given
-given_proper q es spelled h =
-    set_each Proper (filter_map (target_values no_aggs (targets_of q)) (qualifying no_aggs q es))
-    (in_filter_map (λ e. IsTrue (rows_are_proper e)) Proper (target_values no_aggs (targets_of q)) of_targets (qualifying no_aggs q es)
-    (in_filter (λ e. IsTrue (rows_are_proper e)) (holds no_aggs (qual_of q)) es h))
-  where
-    of_targets : (e : Env) → IsTrue (rows_are_proper e) → (row : Row) → target_values no_aggs (targets_of q) e ≡ Some row → Proper row
-    of_targets e r row v = subst (λ o. IsTrue (gives_row o)) v (targets_proper no_aggs (targets_of q) e spelled r (none_in_targets e (targets_of q)))
-
-query_proper : (db : Db) (who : Who) (q : Query) → IsDatabase db → IsTrue (list_all (is_kept db) (vars_of q)) → IsTrue (targets_are_spelled (targets_of q))
-    → Each Proper (rows_given no_aggs q (assigned (rows_of db who) q))
-unfolding assigned
-query_proper db who q is kept_alone spelled =
-    given_proper q (assigned (rows_of db who) q) spelled
-    (each_to (Chosen Anywhere 0 (vars_of q)) (λ e. IsTrue (rows_are_proper e)) (all_proper Anywhere (λ n key row p. p) 0 (vars_of q)) (assigned (rows_of db who) q)
-    (chosen Anywhere (variable_rows (rows_of db who) q) 0 (vars_of q) (of_keys 0 (vars_of q) kept_alone)))
-  where
-    of_keys : (n : ℕ) (keys : List RelKey) → IsTrue (list_all (is_kept db) keys) → OfRows Anywhere (variable_rows (rows_of db who) q) (enumerate_from n keys)
-    of_keys n [] h = tt
-    of_keys n (key ∷ keys) h = let parts = both (is_kept db key) (list_all (is_kept db) keys) h in (variable_proper db who q n key is parts.0, of_keys (n + 1) keys parts.1)
-
-source_proper : (db : Db) (who : Who) (attrs : List ℕ) (source : AggSource) → IsDatabase db → IsTrue (source_fits (kept_alone db) db source) → IsTrue (source_is_spelled source)
-    → Each Proper (source_rows (rows_of db who) attrs source)
-unfolding source_fits source_is_spelled
-source_proper db who attrs (Named key) is fit spelled = named_proper db who key attrs is fit
-source_proper db who attrs (rows_of_query q) is fit spelled =
-    query_proper db who q is (both (list_all (is_kept db) (vars_of q)) (nat_le (length (vars_of q)) 1 && (has_few_targets q && query_stands db q)) fit).0 spelled
+source_proper : (db : Db) (who : Who) (attrs : List ℕ) (source : AggSource) → IsDatabase db → IsTrue (source_is_spelled source) → Each Proper (source_rows (rows_of db who) attrs source)
+source_proper db who attrs (Named key) is spelled = named_proper db who is key attrs
+source_proper db who attrs (rows_of_query q) is spelled = query_proper (rows_of db who) (named_proper db who is) q spelled
 
 -- ---- the arguments
 
@@ -149,15 +114,11 @@ none_value_proper db g = go (is_text_kind (kind_of g.arg (source_kinds db g.sour
 
 -- ---- aggregates
 
--- what an aggregate gives whose source is kept and whose constants are such
-pub aggregate_gives_proper : (db : Db) (who : Who) (g : QAgg) (e : Env) → IsDatabase db → IsTrue (source_fits (kept_alone db) db g.source) → IsTrue (aggregate_is_spelled g)
-    → IsTrue (gives_proper (aggregates db who g e))
+-- what an aggregate gives whose constants stand
+pub aggregate_gives_proper : (db : Db) (who : Who) (g : QAgg) (e : Env) → IsDatabase db → AggregateStands g → IsTrue (gives_proper (aggregates db who g e))
 unfolding aggregates
-aggregate_gives_proper db who g e is fit spelled = linked (values_of g.link e)
+aggregate_gives_proper db who g e is stands = linked (values_of g.link e)
   where
-    parts : IsTrue (term_is_spelled g.arg) × IsTrue (source_is_spelled g.source)
-    parts = both (term_is_spelled g.arg) (source_is_spelled g.source) spelled
-
     folded : (vs : Option (List Value)) → IsTrue (gives_row vs) → IsTrue (gives_proper (fold_arguments db g vs))
     folded None h = refl
     folded (Some vs) h = fold_proper g.op (none_value db g) vs (none_value_proper db g) h
@@ -166,6 +127,6 @@ aggregate_gives_proper db who g e is fit spelled = linked (values_of g.link e)
     linked None = refl
     linked (Some link) =
         folded (arguments g (folded_rows (rows_of db who) g link))
-        (arguments_proper g (folded_rows (rows_of db who) g link) parts.0
+        (arguments_proper g (folded_rows (rows_of db who) g link) stands.1
         (in_filter Proper (λ s. holds no_aggs g.qual (s ∷ []) && agree link (values_of g.by (s ∷ []))) (source_rows (rows_of db who) (used_in_aggregate g) g.source)
-        (source_proper db who (used_in_aggregate g) g.source is fit parts.1)))
+        (source_proper db who (used_in_aggregate g) g.source is stands.0)))

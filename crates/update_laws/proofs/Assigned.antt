@@ -7,7 +7,7 @@ use Rattle.calculus.specs.Rows.{Row}
 use Rattle.calculus.specs.Term.{Env}
 use Rattle.calculus.specs.Assignments.{choices}
 use Rattle.quel_meaning.proofs.Each.{Each, in_map, in_flat_map, each_to}
-use Rattle.update_laws.specs.Spelled.{row_is_proper, rows_are_proper}
+use Rattle.update_laws.specs.Proper.{row_is_proper, rows_are_proper}
 use Rattle.update_laws.proofs.Texts.{each}
 
 -- what a row of a variable is, by the variable's place and what it ranges over

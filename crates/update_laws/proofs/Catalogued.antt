@@ -18,11 +18,11 @@ use Rattle.calculus.specs.Value.{row_cmp}
 use Rattle.calculus.specs.Database.{Db, Relation, Index, entries, is_relation}
 use Rattle.calculus.specs.Stored.{attrs_at}
 use Rattle.calculus.specs.Catalogue.{is_catalogue_name, relation_key, attribute_key, relation_info, attribute_info, relation_attrs, attribute_attrs, all_entries, relation_row, format_text, attribute_row, attribute_rows, catalogue_at}
-use Rattle.calculus.specs.Structures.{spec_text}
+use Rattle.calculus.specs.Structures.{is_index, spec_text}
 use Rattle.calculus.specs.IsDatabase.{IsDatabase, key_is_named, attrs_stand, is_kind, index_stands, keys_stand}
 use Rattle.quel_meaning.proofs.DatabaseFacts.{stood}
 use Rattle.quel_meaning.proofs.Each.{Each, both_of, in_map, in_flat_map, each_to, each_passes}
-use Rattle.update_laws.specs.Spelled.{row_is_proper}
+use Rattle.update_laws.specs.Proper.{row_is_proper}
 use Rattle.update_laws.proofs.Lists.{two_each}
 use Rattle.update_laws.proofs.Texts.{both, each, name_is_text}
 use Rattle.update_laws.proofs.Formats.{spec_is_text, format_is_text}
@@ -85,22 +85,11 @@ standing_tell attrs h =
     each_tells attrs (each_passes (λ a. is_name a.name) attrs facts.named) (each_passes (λ a. is_kind a.kind) attrs facts.kinds)
 
 index_tells : (db : Db) (x : Index) → IsTrue (index_stands db x) → AttrsTell x.info
-index_tells db x h = go x.info.spec h
+index_tells db x h = none x.info.attrs (both (not (is_any x.info.attrs)) _ (both (is_relation db x.base) _ (both (is_index x.info.spec) _ h).1).1).0
   where
-    rest : Bool
-    rest = is_any x.info.keys && keys_stand (attrs_at db x.base) x.info.keys
-
     none : (attrs : List Attr) → IsTrue (not (is_any attrs)) → Each (λ a. IsTrue (attr_tells a)) attrs
     none [] h = tt
     none (a ∷ attrs) h = cc h
-
-    go : (s : Spec) → IsTrue (elim s as (λ s. Bool) [ spec.Heap ↦ false | spec.Hash ↦ false | spec.Isam ↦ false | spec.View ↦ false | spec.Index ↦ is_relation db x.base && (not (is_any x.info.attrs) && rest) ])
-        → AttrsTell x.info
-    go spec.Heap h = cc h
-    go spec.Hash h = cc h
-    go spec.Isam h = cc h
-    go spec.View h = cc h
-    go spec.Index h = none x.info.attrs (both (not (is_any x.info.attrs)) rest (both (is_relation db x.base) (not (is_any x.info.attrs) && rest) h).1).0
 
 catalogue_attrs : Each (λ a. IsTrue (attr_tells a)) relation_attrs × Each (λ a. IsTrue (attr_tells a)) attribute_attrs
 unfolding is_name
@@ -157,17 +146,14 @@ numbered_proper i n [] k h = tt
 numbered_proper i n (a ∷ attrs) k h = (attribute_row_proper i n a k h.0, numbered_proper i (n + 1) attrs k h.1)
 
 attribute_rows_proper : (i : RelInfo) → Tells i → Each Proper (attribute_rows i)
-attribute_rows_proper i t = go i.spec
+attribute_rows_proper i t = go (is_index i.spec)
   where
     rows : List Row
     rows = map (λ p. attribute_row i.key p.0 p.1) (enumerate_from 1 i.attrs)
 
-    go : (s : Spec) → Each Proper (elim s as (λ s. List Row) [ spec.Heap ↦ rows | spec.Hash ↦ rows | spec.Isam ↦ rows | spec.View ↦ rows | spec.Index ↦ [] ])
-    go spec.Heap = numbered_proper i 1 i.attrs t.0 t.1
-    go spec.Hash = numbered_proper i 1 i.attrs t.0 t.1
-    go spec.Isam = numbered_proper i 1 i.attrs t.0 t.1
-    go spec.View = numbered_proper i 1 i.attrs t.0 t.1
-    go spec.Index = tt
+    go : (b : Bool) → Each Proper (elim b as (λ b. List Row) [ true ↦ [] | false ↦ rows ])
+    go true = tt
+    go false = numbered_proper i 1 i.attrs t.0 t.1
 
 -- the rows of a relation that may be there
 abbrev pub RowsProper : Option Relation → Type 0

@@ -1,13 +1,15 @@
 mod Lists
 mod Texts
+mod Standing
 pub mod Valued
 mod Assigned
 mod Formats
 mod Catalogued
+mod Queried
 mod Ranged
 mod NewRows
 mod Aggregated
 mod Updated
 pub mod Fitted
-pub mod ReadForms
+pub mod WalkedForms
 mod Worked

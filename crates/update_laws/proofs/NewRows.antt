@@ -25,11 +25,12 @@ use Rattle.calculus.specs.QueryParts.{vars_of, targets_of}
 use Rattle.calculus.specs.Assignments.{changed}
 use Rattle.calculus.specs.Targets.{target_values}
 use Rattle.calculus.specs.IsDatabase.{value_fits, row_fits, are_stored, is_stored_kind}
-use Rattle.calculus.specs.Pairs.{blank, with_values, pair_of, old_row}
+use Rattle.calculus.specs.Pairs.{blank, with_values, pair_of}
 use Rattle.calculus.specs.Replacement.{is_of_kind, all_fit, made_attr, wanted_kinds}
+use Rattle.calculus.proofs.OldRows.{old_in}
 use Rattle.quel_meaning.specs.Fit.{new_attrs, is_this_key, relation_fits}
 use Rattle.quel_meaning.proofs.Keys.{same_keys}
-use Rattle.update_laws.specs.Spelled.{is_proper, row_is_proper}
+use Rattle.update_laws.specs.Proper.{is_proper, row_is_proper}
 use Rattle.update_laws.proofs.Texts.{both, each}
 use Rattle.update_laws.proofs.Assigned.{Chosen, chosen_at}
 use Rattle.update_laws.proofs.Catalogued.{Proper}
@@ -137,7 +138,7 @@ pub record Fitting (db : Db) (u : Update) (e : Env) (values : Row) : Type 0 wher
   pub kinds : IsTrue (all_fit (wanted_kinds db u) (Some values))
 
 abbrev PairFits : Update → Type 0
-PairFits u = (db : Db) (e : Env) (values : Row) → Fitting db u e values → Fits (new_attrs db u) (pair_of db u (old_row u e) values).new
+PairFits u = (db : Db) (e : Env) (values : Row) → Fitting db u e values → Fits (new_attrs db u) (pair_of db u (old_in u e) values).new
 
 same_number : (n : ℕ) → (n == n) ≡ true
 same_number n = search rules

@@ -1,5 +1,5 @@
--- The rows of the variables of an update that reads base relations and catalogues alone.
-use Rattle.std.proofs.Common.{◌≡◌, refl, sym, ap, subst, ◌∙◌, ℕ, ◌+◌, ◌==◌, Bool, true, false, ◌&&◌, IsTrue, List, [], ◌∷◌, Option, Some, None}
+-- The rows of the variables of an update: of base relations, catalogues and views.
+use Rattle.std.proofs.Common.{◌≡◌, refl, sym, ap, subst, ◌∙◌, ℕ, zero, suc, ◌+◌, ◌==◌, nat_le, Bool, true, false, ◌&&◌, IsTrue, List, [], ◌∷◌, Option, Some, None}
 use Rattle.std.specs.Prelude.{is_some, option_map}
 use Rattle.std.specs.List.{list_all, enumerate_from}
 use Rattle.calculus.specs.declared.query.RelKey.{RelKey}
@@ -21,15 +21,21 @@ use Rattle.calculus.specs.Stored.{Range, Kept, Viewed, range_at, range_info, inf
 use Rattle.calculus.specs.Rights.{Right, Retrieve, may}
 use Rattle.calculus.specs.QueryParts.{vars_of}
 use Rattle.calculus.specs.Used.{used_in_query}
-use Rattle.calculus.specs.Assignments.{rows_used, variable_rows, changed, may_read, changed_rows, update_rows, update_assigned}
+use Rattle.calculus.specs.Assignments.{variable_rows, changed, may_read, changed_rows}
 use Rattle.calculus.specs.VariableRows.{range_rows, view_rows, rows_within, rows_of}
+use Rattle.calculus.specs.Limits.{greatest_level, most_levels}
+use Rattle.calculus.specs.Spelled.{query_is_spelled}
+use Rattle.calculus.specs.Storable.{query_is_storable}
+use Rattle.calculus.specs.TreeLevels.{query_levels}
+use Rattle.calculus.proofs.OldRows.{seen_rows, seen_assigned}
 use Rattle.calculus.specs.IsDatabase.{IsDatabase, value_fits, row_fits, relation_rows_fit}
-use Rattle.quel_meaning.specs.FitQueries.{keeps_rows, is_kept}
 use Rattle.quel_meaning.proofs.DatabaseFacts.{found_passes}
 use Rattle.quel_meaning.proofs.Each.{Each, in_filter, each_to, each_passes}
-use Rattle.update_laws.specs.Spelled.{is_proper, row_is_proper}
+use Rattle.update_laws.specs.Proper.{is_proper, row_is_proper}
 use Rattle.update_laws.proofs.Lists.{two_each}
 use Rattle.update_laws.proofs.Texts.{both, each}
+use Rattle.plan_laws.proofs.Created.{viewed_is_found}
+use Rattle.update_laws.proofs.Queried.{AllProper, variable_proper, query_proper}
 use Rattle.update_laws.proofs.Assigned.{OfVariable, Chosen, OfRows, chosen}
 use Rattle.update_laws.proofs.Catalogued.{Proper, RowsProper, catalogue_proper}
 
@@ -97,21 +103,32 @@ stored_proper db key is = go (relation_at db key) refl
 
 -- ---- the rows of a variable
 
-pub named_proper : (db : Db) (who : Who) (key : RelKey) (attrs : List ℕ) → IsDatabase db → IsTrue (is_kept db key) → Each Proper (rows_of db who key attrs)
-unfolding rows_of
-named_proper db who key attrs is kept = go (range_at db key) refl kept
-  where
-    go : (o : Option Range) → range_at db key ≡ o → IsTrue (keeps_rows o) → Each Proper (range_rows (view_rows (rows_within 15 db who)) db who key attrs o)
-    go None e h = tt
-    go (Some (Kept relation)) e h = in_filter Proper (may db who Retrieve attrs key) relation.rows (subst (Each Proper) (ap kept_rows e) (stored_proper db key is))
-    go (Some (Viewed view)) e h = cc h
+-- the constants of a view stand
+view_spelled : (db : Db) (key : RelKey) (view : View) → IsDatabase db → range_at db key ≡ Some (Viewed view) → IsTrue (query_is_spelled view.query)
+view_spelled db key view is e =
+    (both (nat_le (query_levels view.query) most_levels) (query_is_spelled view.query)
+    (found_passes (λ (v : View). same_key v.info.key key) (λ (v : View). query_is_storable v.query) db.views view is.storable_views (viewed_is_found db key view e))).1
 
-pub variable_proper : (db : Db) (who : Who) (q : Query) (v : ℕ) (key : RelKey) → IsDatabase db → IsTrue (is_kept db key) → Each Proper (variable_rows (rows_of db who) q v key)
-variable_proper db who q v key is kept = go (used_in_query v q)
+-- the rows of what stands under a key, where those of a view are such
+ranged_proper : (db : Db) (who : Who) (key : RelKey) (attrs : List ℕ) (of_view : View → List Row) → IsDatabase db → ((view : View) → range_at db key ≡ Some (Viewed view) → Each Proper (of_view view))
+    → Each Proper (range_rows of_view db who key attrs (range_at db key))
+ranged_proper db who key attrs of_view is views = go (range_at db key) refl
   where
-    go : (attrs : List ℕ) → Each Proper (rows_used (rows_of db who) key attrs)
-    go [] = (refl, tt)
-    go (a ∷ attrs) = named_proper db who key (a ∷ attrs) is kept
+    go : (o : Option Range) → range_at db key ≡ o → Each Proper (range_rows of_view db who key attrs o)
+    go None e = tt
+    go (Some (Kept relation)) e = in_filter Proper (may db who Retrieve attrs key) relation.rows (subst (Each Proper) (ap kept_rows e) (stored_proper db key is))
+    go (Some (Viewed view)) e = views view e
+
+within_proper : (db : Db) (who : Who) → IsDatabase db → (n : ℕ) → AllProper (rows_within n db who)
+within_proper db who is zero key attrs = ranged_proper db who key attrs (λ view. []) is (λ view e. tt)
+within_proper db who is (suc n) key attrs =
+    ranged_proper db who key attrs (view_rows (rows_within n db who)) is
+    (λ view e. query_proper (rows_within n db who) (within_proper db who is n) view.query (view_spelled db key view is e))
+
+-- so it is of base relations, catalogues and views
+pub named_proper : (db : Db) (who : Who) → IsDatabase db → AllProper (rows_of db who)
+unfolding rows_of
+named_proper db who is = within_proper db who is greatest_level
 
 -- the place is that of the variable that is changed
 abbrev pub is_at : Option (ℕ × Right) → ℕ → Bool
@@ -136,9 +153,8 @@ stored_are db o v key is =
         (each_passes (row_fits (attrs_at db key)) (rows_at db key) (stored_fit db key is e))
     go false e = each_any (λ row. is_at o v ≡ true → IsTrue false → IsTrue (row_fits (attrs_at db key) row)) (λ row a b. cc b) (rows_at db key)
 
-update_rows_are : (db : Db) (who : Who) (u : Update) (v : ℕ) (key : RelKey) → IsDatabase db → IsTrue (is_kept db key)
-    → Each (RowOf db (changed u) v key) (update_rows db who (rows_of db who) u v key)
-update_rows_are db who u v key is kept = go (changed u)
+seen_rows_are : (db : Db) (who : Who) (u : Update) (v : ℕ) (key : RelKey) → IsDatabase db → Each (RowOf db (changed u) v key) (seen_rows db who (rows_of db who) u v key)
+seen_rows_are db who u v key is = go (changed u)
   where
     others : List Row
     others = variable_rows (rows_of db who) u.query v key
@@ -147,7 +163,7 @@ update_rows_are db who u v key is kept = go (changed u)
     read = used_in_query v u.query
 
     unchanged : (o : Option (ℕ × Right)) → is_at o v ≡ false → Each (RowOf db o v key) others
-    unchanged o e = each_to Proper (RowOf db o v key) (λ row p. (p, λ h. cc (sym h ∙ e))) others (variable_proper db who u.query v key is kept)
+    unchanged o e = each_to Proper (RowOf db o v key) (λ row p. (p, λ h. cc (sym h ∙ e))) others (variable_proper (rows_of db who) (named_proper db who is) u.query v key)
 
     choice : (c : ℕ × Right) (b : Bool) → (c.0 == v) ≡ b
         → Each (RowOf db (Some c) v key) (elim b as (λ b. List Row) [ true ↦ changed_rows db who c.1 u.places read key | false ↦ others ])
@@ -164,13 +180,9 @@ update_rows_are db who u v key is kept = go (changed u)
 -- ---- assignments
 
 -- each row of each assignment of an update is such
-pub assignments_are : (db : Db) (who : Who) (u : Update) → IsDatabase db → IsTrue (list_all (is_kept db) (vars_of u.query))
-    → Each (Chosen (RowOf db (changed u)) 0 (vars_of u.query)) (update_assigned db who (rows_of db who) u)
-unfolding update_assigned
-assignments_are db who u is kept = chosen (RowOf db (changed u)) (update_rows db who (rows_of db who) u) 0 (vars_of u.query) (of_keys 0 (vars_of u.query) kept)
+pub assignments_are : (db : Db) (who : Who) (u : Update) → IsDatabase db → Each (Chosen (RowOf db (changed u)) 0 (vars_of u.query)) (seen_assigned db who (rows_of db who) u)
+assignments_are db who u is = chosen (RowOf db (changed u)) (seen_rows db who (rows_of db who) u) 0 (vars_of u.query) (of_keys 0 (vars_of u.query))
   where
-    of_keys : (n : ℕ) (keys : List RelKey) → IsTrue (list_all (is_kept db) keys) → OfRows (RowOf db (changed u)) (update_rows db who (rows_of db who) u) (enumerate_from n keys)
-    of_keys n [] h = tt
-    of_keys n (key ∷ keys) h =
-        let parts = both (is_kept db key) (list_all (is_kept db) keys) h in
-        (update_rows_are db who u n key is parts.0, of_keys (n + 1) keys parts.1)
+    of_keys : (n : ℕ) (keys : List RelKey) → OfRows (RowOf db (changed u)) (seen_rows db who (rows_of db who) u) (enumerate_from n keys)
+    of_keys n [] = tt
+    of_keys n (key ∷ keys) = (seen_rows_are db who u n key is, of_keys (n + 1) keys)

@@ -22,14 +22,13 @@ use Rattle.calculus.specs.Catalogue.{is_catalogue_name}
 use Rattle.calculus.specs.Stored.{kept_rows, attrs_at, rows_at}
 use Rattle.calculus.specs.Term.{Env, holds}
 use Rattle.calculus.specs.QueryParts.{vars_of, targets_of, qual_of, term_aggregates}
-use Rattle.calculus.specs.Assignments.{changed, update_assigned}
+use Rattle.calculus.specs.Assignments.{changed}
 use Rattle.calculus.specs.Targets.{target_values}
 use Rattle.calculus.specs.VariableRows.{rows_of}
 use Rattle.calculus.specs.Aggregate.{aggregates}
 use Rattle.calculus.specs.IsDatabase.{IsDatabase, attrs_stand, are_stored, row_fits}
-use Rattle.calculus.specs.Pairs.{pair_at, pair_of, old_row, pair_stands, pairs, qualifying_updates}
-use Rattle.calculus.specs.Replacement.{old_rows, new_rows, with_rows, without_rows, after, made_attr, wanted_kinds, all_fit, values_fit, rows_after, rows_change, first_cause, change_of, updated}
-use Rattle.calculus.specs.Replacement.{update_refusals}
+use Rattle.calculus.specs.Pairs.{pair_of, pair_stands, pairs}
+use Rattle.calculus.specs.Replacement.{old_rows, new_rows, with_rows, without_rows, after, made_attr, wanted_kinds, all_fit, values_fit, rows_after, rows_change, update_refusals, first_cause, change_of, updated}
 use Rattle.calculus.specs.Change.{IsLawful}
 use Rattle.calculus.proofs.Sets.{Ascends-nil, Ascends-put}
 use Rattle.quel_meaning.specs.Passing.{is_full, is_taken}
@@ -41,7 +40,10 @@ use Rattle.plan_laws.specs.Fitting.{IsFitRelation}
 use Rattle.plan_laws.proofs.CopiedRows.{found_passes as found_has}
 use Rattle.plan_laws.proofs.Created.{made_lawful, nothing_ranges}
 use Rattle.plan_laws.proofs.Replaced.{replaced_lawful}
-use Rattle.update_laws.specs.Spelled.{targets_are_spelled, key_is_spelled}
+use Rattle.calculus.proofs.OldRows.{old_in, pair_in, seen_assigned, seen_qualifying, pairs_with_old, fit_with_old}
+use Rattle.quel_meaning.specs.SpelledTree.{key_is_spelled, made_key_is_spelled}
+use Rattle.plan_laws.proofs.FitUtilities.{fit_relation}
+use Rattle.update_laws.proofs.Standing.{TargetStands}
 use Rattle.update_laws.proofs.Texts.{both, each}
 use Rattle.update_laws.proofs.Valued.{AggsProper, gives_row, targets_proper}
 use Rattle.update_laws.proofs.Assigned.{Chosen, all_proper}
@@ -63,26 +65,25 @@ TargetAggsProper db who u e = Each (λ t. AggsProper (aggregates db who) e (term
 -- what is known of an update before it is asked whether it is refused
 pub record Given (db : Db) (who : Who) (u : Update) : Type 0 where
   pub is : IsDatabase db
-  pub kept : IsTrue (list_all (is_kept db) (vars_of u.query))
   pub relation : IsTrue (relation_fits db u)
   pub stored : IsTrue (are_stored (new_attrs db u))
-  pub spelled : IsTrue (targets_are_spelled (targets_of u.query))
+  pub spelled : Each TargetStands (targets_of u.query)
   pub aggs : (e : Env) → IsAssigned db u e → TargetAggsProper db who u e
 
 -- the new row of the pair of an assignment fits
 new_fits : (db : Db) (who : Who) (u : Update) → Given db who u → (e : Env)
     → IsAssigned db u e × IsTrue (all_fit (wanted_kinds db u) (target_values (aggregates db who) (targets_of u.query) e))
-    → (p : Pair) → pair_at db who u e ≡ Some p → Fits (new_attrs db u) p.new
+    → (p : Pair) → pair_in db who u e ≡ Some p → Fits (new_attrs db u) p.new
 new_fits db who u g e h p f = go (target_values (aggregates db who) (targets_of u.query) e) refl proper h.1 f
   where
     proper : IsTrue (gives_row (target_values (aggregates db who) (targets_of u.query) e))
     proper = targets_proper (aggregates db who) (targets_of u.query) e g.spelled (all_proper (RowOf db (changed u)) (λ n key row h. h.0) 0 (vars_of u.query) e h.0) (g.aggs e h.0)
 
     go : (o : Option Row) → target_values (aggregates db who) (targets_of u.query) e ≡ o → IsTrue (gives_row o) → IsTrue (all_fit (wanted_kinds db u) o)
-        → option_map (pair_of db u (old_row u e)) o ≡ Some p → Fits (new_attrs db u) p.new
+        → option_map (pair_of db u (old_in u e)) o ≡ Some p → Fits (new_attrs db u) p.new
     go None v r k f = cc f
     go (Some values) v r k f =
-        let same : pair_of db u (old_row u e) values ≡ p = cc f in
+        let same : pair_of db u (old_in u e) values ≡ p = cc f in
         subst (λ p. Fits (new_attrs db u) p.new) same
         (pair_fits u db e values (record {
           assigned = h.0;
@@ -96,16 +97,15 @@ new_fits db who u g e h p f = go (target_values (aggregates db who) (targets_of 
 -- each new row fits
 new_rows_fit : (db : Db) (who : Who) (u : Update) → Given db who u → IsTrue (values_fit db who u)
     → Each (λ row. IsTrue (row_fits (new_attrs db u) row)) (new_rows (pairs db who u))
-unfolding pairs
-new_rows_fit db who u g fit =
-    in_filter_map (λ p. Fits (new_attrs db u) p.new) (λ row. IsTrue (row_fits (new_attrs db u) row)) (λ p. p.new) (λ p h row e. subst (Fits (new_attrs db u)) e h)
-    (filter (pair_stands db who u) (filter_map (pair_at db who u) (qualifying_updates db who u)))
-    (in_filter (λ p. Fits (new_attrs db u) p.new) (pair_stands db who u) (filter_map (pair_at db who u) (qualifying_updates db who u))
-    (in_filter_map (λ e. IsAssigned db u e × IsTrue (all_fit (wanted_kinds db u) (target_values (aggregates db who) (targets_of u.query) e))) (λ p. Fits (new_attrs db u) p.new) (pair_at db who u)
-    (new_fits db who u g) (qualifying_updates db who u)
-    (two_each (IsAssigned db u) (λ e. IsTrue (all_fit (wanted_kinds db u) (target_values (aggregates db who) (targets_of u.query) e))) (qualifying_updates db who u)
-    (in_filter (IsAssigned db u) (holds (aggregates db who) (qual_of u.query)) (update_assigned db who (rows_of db who) u) (assignments_are db who u g.is g.kept))
-    (each_passes (λ e. all_fit (wanted_kinds db u) (target_values (aggregates db who) (targets_of u.query) e)) (qualifying_updates db who u) fit))))
+new_rows_fit db who u g fit = subst (λ ps. Each (λ row. IsTrue (row_fits (new_attrs db u) row)) (new_rows ps)) (sym (pairs_with_old db who u))
+    (in_filter_map (λ p. Fits (new_attrs db u) p.new) (λ row. IsTrue (row_fits (new_attrs db u) row)) (λ p. p.new) (λ p h row e. subst (Fits (new_attrs db u)) e h)
+    (filter (pair_stands db who u) (filter_map (pair_in db who u) (seen_qualifying db who u)))
+    (in_filter (λ p. Fits (new_attrs db u) p.new) (pair_stands db who u) (filter_map (pair_in db who u) (seen_qualifying db who u))
+    (in_filter_map (λ e. IsAssigned db u e × IsTrue (all_fit (wanted_kinds db u) (target_values (aggregates db who) (targets_of u.query) e))) (λ p. Fits (new_attrs db u) p.new) (pair_in db who u)
+    (new_fits db who u g) (seen_qualifying db who u)
+    (two_each (IsAssigned db u) (λ e. IsTrue (all_fit (wanted_kinds db u) (target_values (aggregates db who) (targets_of u.query) e))) (seen_qualifying db who u)
+    (in_filter (IsAssigned db u) (holds (aggregates db who) (qual_of u.query)) (seen_assigned db who (rows_of db who) u) (assignments_are db who u g.is))
+    (each_passes (λ e. all_fit (wanted_kinds db u) (target_values (aggregates db who) (targets_of u.query) e)) (seen_qualifying db who u) (sym (fit_with_old db who u) ∙ fit))))))
 
 -- ---- the rows before
 
@@ -136,33 +136,10 @@ relation_before db key is there = there_is (relation_at db key) there λ relatio
 
 -- a relation that is made
 into_fits : (db : Db) (u : Update) → IsTrue (key_is_spelled u.rel) → IsTrue (relation_fits db (record u { op = Into })) → IsFitRelation db u.rel (map made_attr (targets_of u.query))
-unfolding is_taken is_full
-into_fits db u spelled fit =
-    let attrs = map made_attr (targets_of u.query) in
-    let place = both (nat_eq u.old 255) (is_new db u.rel.owner u.rel.name && (attrs_stand attrs && are_stored attrs)) fit in
-    let new = both (is_new db u.rel.owner u.rel.name) (attrs_stand attrs && are_stored attrs) place.1 in
-    let free = both (not (is_taken db u.rel.owner u.rel.name)) (not (is_full db)) new.0 in
-    let names = both (is_name u.rel.owner) (is_name u.rel.name) spelled in
-    let untaken = neither (is_there db u.rel) (is_catalogue_name u.rel.name) free.0 in
-    let stand = both (attrs_stand attrs) (are_stored attrs) new.1 in
-    record {
-      named = each (is_name u.rel.owner) (is_name u.rel.name && not (is_catalogue_name u.rel.name)) names.0 (each (is_name u.rel.name) (not (is_catalogue_name u.rel.name)) names.1 (ap not untaken.1));
-      unused = untaken.0;
-      attributes = stand.0;
-      domains = stand.1;
-      room = room (length (entries db)) free.1;
-    }
-  where
-    neither : (a b : Bool) → IsTrue (not (a || b)) → (a ≡ false) × (b ≡ false)
-    neither true b h = cc h
-    neither false true h = cc h
-    neither false false h = (refl, refl)
-
-    room : (n : ℕ) → IsTrue (not (nat_le most_entries n)) → IsTrue (nat_lt n most_entries)
-    room n h = grind (arith, nat_tests, h)
+into_fits db u spelled fit = fit_relation db u.rel (map made_attr (targets_of u.query)) spelled (both (nat_eq u.old 255) _ fit).1
 
 abbrev BeforeIs : Update → Type 0
-BeforeIs u = (db : Db) → IsDatabase db → IsTrue (key_is_spelled u.rel) → IsTrue (relation_fits db u) → Before db u
+BeforeIs u = (db : Db) → IsDatabase db → IsTrue (made_key_is_spelled u) → IsTrue (relation_fits db u) → Before db u
 
 before : (u : Update) → BeforeIs u
 before u = go u.op
@@ -207,7 +184,7 @@ after_fits attrs rows ps h new =
 
 -- rows that ascend, fit and are few make the change lawful
 abbrev Lawful : Update → Type 0
-Lawful u = (db : Db) (who : Who) → IsDatabase db → IsTrue (key_is_spelled u.rel) → IsTrue (relation_fits db u) → Ascends (rows_after db who u)
+Lawful u = (db : Db) (who : Who) → IsDatabase db → IsTrue (made_key_is_spelled u) → IsTrue (relation_fits db u) → Ascends (rows_after db who u)
     → IsTrue (list_all (row_fits (new_attrs db u)) (rows_after db who u)) → IsTrue (nat_le (length (rows_after db who u)) most_rows) → IsLawful db (change_of db who u)
 
 change_lawful : (u : Update) → Lawful u
@@ -238,12 +215,12 @@ few_rows : (n : ℕ) → nat_lt most_rows n ≡ false → IsTrue (nat_le n most_
 few_rows n h = grind (arith, nat_tests, h)
 
 -- where no cause is there, each is absent
-all_absent : (update_refusals : List (ℕ × Bool)) → first_cause update_refusals ≡ None → Each (λ c. c.1 ≡ false) update_refusals
+all_absent : (causes : List (ℕ × Bool)) → first_cause causes ≡ None → Each (λ c. c.1 ≡ false) causes
 all_absent [] h = tt
-all_absent (c ∷ update_refusals) h = go c.1 h (all_absent update_refusals)
+all_absent (c ∷ causes) h = go c.1 h (all_absent causes)
   where
-    go : (b : Bool) → (elim b as (λ b. Option ℕ) [ true ↦ Some c.0 | false ↦ first_cause update_refusals ]) ≡ None → (first_cause update_refusals ≡ None → Each (λ c. c.1 ≡ false) update_refusals)
-        → (b ≡ false) × Each (λ c. c.1 ≡ false) update_refusals
+    go : (b : Bool) → (elim b as (λ b. Option ℕ) [ true ↦ Some c.0 | false ↦ first_cause causes ]) ≡ None → (first_cause causes ≡ None → Each (λ c. c.1 ≡ false) causes)
+        → (b ≡ false) × Each (λ c. c.1 ≡ false) causes
     go true h later = cc h
     go false h later = (refl, later h)
 
@@ -256,15 +233,14 @@ not_refused db who u change h = go (first_cause (update_refusals db who u)) refl
     go None e h = (e, cc h)
     go (Some number) e h = cc h
 
--- an update of base relations and catalogues alone, whose aggregates give numbers and texts, and which isn't refused
-pub update_lawful : (db : Db) (who : Who) (u : Update) (change : DbChange) → IsDatabase db → IsTrue (list_all (is_kept db) (vars_of u.query)) → IsTrue (relation_fits db u)
-    → IsTrue (key_is_spelled u.rel) → IsTrue (targets_are_spelled (targets_of u.query)) → ((e : Env) → IsAssigned db u e → TargetAggsProper db who u e)
-    → updated db who u ≡ Ok change → IsLawful db change
-update_lawful db who u change is kept relation spelled constants aggs h =
+-- an update whose constants stand, whose aggregates give numbers and texts, and which isn't refused
+pub update_lawful : (db : Db) (who : Who) (u : Update) (change : DbChange) → IsDatabase db → IsTrue (relation_fits db u) → IsTrue (made_key_is_spelled u) → Each TargetStands (targets_of u.query)
+    → ((e : Env) → IsAssigned db u e → TargetAggsProper db who u e) → updated db who u ≡ Ok change → IsLawful db change
+update_lawful db who u change is relation spelled constants aggs h =
     let plan = not_refused db who u change h in
     let absent = all_absent (update_refusals db who u) plan.0 in
     let was = before u db is spelled relation in
-    let given : Given db who u = record { is = is; kept = kept; relation = relation; stored = was.stored; spelled = constants; aggs = aggs } in
+    let given : Given db who u = record { is = is; relation = relation; stored = was.stored; spelled = constants; aggs = aggs } in
     subst (IsLawful db) plan.1
     (change_lawful u db who is spelled relation (after_ascends (rows_at db u.rel) (pairs db who u) was.ascend)
     (after_fits (new_attrs db u) (rows_at db u.rel) (pairs db who u) was.fit (new_rows_fit db who u given (is_not (values_fit db who u) absent.1.0)))

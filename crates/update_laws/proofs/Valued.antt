@@ -13,9 +13,11 @@ use Rattle.calculus.specs.Text.{is_text}
 use Rattle.calculus.specs.Rows.{Row}
 use Rattle.calculus.specs.QueryParts.{aggregates_of, term_aggregates}
 use Rattle.calculus.specs.Term.{Env, Aggs, val, attribute_value, number_value, of_number, of_text, opposite_value, value_without_sign, operated_values, joined_text, joined_values, aggregate_value, value_before}
+use Rattle.calculus.specs.Spelled.{term_is_spelled}
 use Rattle.calculus.specs.Targets.{all_there, target_values}
 use Rattle.quel_meaning.proofs.Each.{Each, front_of, back_of, each_to}
-use Rattle.update_laws.specs.Spelled.{is_proper, row_is_proper, rows_are_proper, term_is_spelled, targets_are_spelled}
+use Rattle.update_laws.specs.Proper.{is_proper, row_is_proper, rows_are_proper}
+use Rattle.update_laws.proofs.Standing.{TargetStands}
 use Rattle.update_laws.proofs.Texts.{both, each, constant_is_text, joined_is_text}
 
 -- the value, where there is one, is a number or a text in the language's sense
@@ -87,7 +89,7 @@ aggregate_proper aggs (more_of-QAgg slot op source arg bys by links link qual re
 
 -- the value of a term whose constants are texts', over rows of such values, where its aggregates give such
 pub val_proper : (aggs : Aggs) (t : QTerm) (e : Env) → IsTrue (term_is_spelled t) → IsTrue (rows_are_proper e) → AggsProper aggs e (term_aggregates t) → IsTrue (gives_proper (val aggs t e))
-unfolding val term_is_spelled term_aggregates
+unfolding val term_aggregates
 val_proper aggs (Int n) e c r a = refl
 val_proper aggs (Chars bytes) e c r a = constant_is_text bytes c
 val_proper aggs (Attr var attr) e c r a = attribute_proper e var attr r
@@ -113,12 +115,11 @@ before_proper None vs p q = refl
 before_proper (Some v) None p q = refl
 before_proper (Some v) (Some vs) p q = each (is_proper v) (row_is_proper vs) p q
 
-pub targets_proper : (aggs : Aggs) (ts : List Target) (e : Env) → IsTrue (targets_are_spelled ts) → IsTrue (rows_are_proper e) → Each (λ t. AggsProper aggs e (term_aggregates t.term)) ts
+pub targets_proper : (aggs : Aggs) (ts : List Target) (e : Env) → Each TargetStands ts → IsTrue (rows_are_proper e) → Each (λ t. AggsProper aggs e (term_aggregates t.term)) ts
     → IsTrue (gives_row (target_values aggs ts e))
 targets_proper aggs [] e c r a = refl
 targets_proper aggs (t ∷ ts) e c r a =
-    let parts = both (term_is_spelled t.term) (targets_are_spelled ts) c in
-    before_proper (val aggs t.term e) (all_there (map (λ t. val aggs t.term e) ts)) (val_proper aggs t.term e parts.0 r a.0) (targets_proper aggs ts e parts.1 r a.1)
+    before_proper (val aggs t.term e) (all_there (map (λ t. val aggs t.term e) ts)) (val_proper aggs t.term e c.0 r a.0) (targets_proper aggs ts e c.1 r a.1)
 
 -- ---- the law of terms
 

@@ -1,2 +1,2 @@
-pub mod Spelled
-pub mod Reading
+pub mod Proper
+pub mod Walked

@@ -6,7 +6,8 @@ ghost use Rattle.calculus.specs.declared.query.QTerm.{QTerm};
 ghost use Rattle.calculus.specs.declared.value.Value.{Value};
 ghost use Rattle.calculus.specs.Term.{Env, Aggs, val};
 ghost use Rattle.calculus.specs.QueryParts.{term_aggregates};
-ghost use Rattle.update_laws.specs.Spelled.{term_is_spelled, is_proper, rows_are_proper};
+ghost use Rattle.calculus.specs.Spelled.{term_is_spelled};
+ghost use Rattle.update_laws.specs.Proper.{is_proper, rows_are_proper};
 
 /// A value of a term, over rows that hold numbers and texts in the language's sense, is one of these itself,
 /// where each aggregate in the term gives one: a text that comes out has at most 255 bytes from 32 to 126,

@@ -1,5 +1,5 @@
-use Rattle.update_laws.proofs.Fitted.{fitting_update_lawful}
+use Rattle.update_laws.proofs.Fitted.{fit_update_lawful}
 use Rattle.update_laws.proofs.updates.an_update_is_lawful.Goals as goal
 
 pub returns : goal.returns
-returns c = fitting_update_lawful
+returns c = fit_update_lawful
