@@ -1,4 +1,4 @@
-ghost use Rattle.std.specs.Prelude.{◌≡◌, ℕ, Bool, List, Option, Some, IfOk, OnOk, length, is_some, map};
+ghost use Rattle.std.specs.Prelude.{◌≡◌, ℕ, Bool, List, Option, Some, IfOk, OnOk, IsErrOf, length, is_some, map};
 ghost use Rattle.calculus.specs.Change.{IsLawful, laid};
 ghost use Rattle.calculus.specs.Database.{Db, rules_on, permits_on, entries};
 ghost use Rattle.calculus.specs.Finding.{found};
@@ -136,11 +136,12 @@ pub trait Base {
         ensures same { left self.new ≡ left self.old }
         ensures cause { HasCause (database self.old) (faults self.old) (faults self.new) result };
 
-    /// Lays a change that is lawful. What stands after an error isn't said here: a base says it of
-    /// itself.
+    /// Lays a change that is lawful. After want of memory the database is as before; what stands after
+    /// a fault of the disk isn't said here: a base says it of itself.
     fn apply(&mut self, alloc: Global, change: &DbChange) -> Result<(), BaseFault>
         requires { (db : Db) → database self.old ≡ Some db → IsLawful db change.now }
         ensures told { (db : Db) → database self.old ≡ Some db → OnOk result (database self.new ≡ Some (laid db change.now)) }
+        ensures no_memory { IsErrOf result BaseFault.OutOfMemory → database self.new ≡ database self.old }
         ensures cause { HasCause (database self.old) (faults self.old) (faults self.new) result };
 
     /// Forgets all that was kept of the disk. Takes no memory.

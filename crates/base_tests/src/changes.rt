@@ -20,8 +20,8 @@ enum Change<'a> {
     Stored(Spec, &'a [u8]),
     /// An index of `parts` by its second attribute is made.
     Indexed(&'a [u8]),
-    /// All users may retrieve these attributes of `parts`, by a permit with this number.
-    Permitted(u32, &'a [u8]),
+    /// All users have these rights to these attributes of `parts`, by a permit with this number.
+    Permitted(u32, u8, &'a [u8]),
     /// A rule of `parts` with this number, that each row meets.
     Ruled(u32),
     /// Permits of `parts` go.
@@ -130,11 +130,11 @@ fn numbers_in<R: Abort>(rt: &R, alloc: Global, name: &[u8]) -> Query {
     }
 }
 
-/// A permit of all users to retrieve these attributes.
-fn permit<R: Abort>(rt: &R, alloc: Global, number: u32, attrs: &[u8]) -> Permit {
+/// A permit of all users with these rights to these attributes.
+fn permit<R: Abort>(rt: &R, alloc: Global, number: u32, ops: u8, attrs: &[u8]) -> Permit {
     Permit {
         number,
-        ops: 1,
+        ops,
         attrs: listed(rt, alloc, attrs),
         user: None,
         qual: QQual::True,
@@ -172,9 +172,9 @@ fn change_of<R: Abort>(rt: &R, alloc: Global, change: Change) -> DbChange {
             name: named(rt, alloc, name),
             keys: listed(rt, alloc, &[1]),
         },
-        Change::Permitted(number, attrs) => DbChange::Permit {
+        Change::Permitted(number, ops, attrs) => DbChange::Permit {
             rel,
-            permit: permit(rt, alloc, number, attrs),
+            permit: permit(rt, alloc, number, ops, attrs),
         },
         Change::Ruled(number) => DbChange::Rule {
             rel,
@@ -278,12 +278,13 @@ fn an_index_has_a_name_of_its_own(rt: HostRuntime) {
 }
 
 #[test]
-fn a_permit_is_of_attributes_that_are_there(rt: HostRuntime) {
+fn a_permit_is_of_rights_and_attributes_that_are_there(rt: HostRuntime) {
     let changes = [
         MADE,
-        (Change::Permitted(1, &[2]), false),
-        (Change::Permitted(1, &[1]), true),
-        (Change::Permitted(1, &[1]), false),
+        (Change::Permitted(1, 1, &[2]), false),
+        (Change::Permitted(1, 16, &[1]), false),
+        (Change::Permitted(1, 15, &[1]), true),
+        (Change::Permitted(1, 1, &[1]), false),
         (Change::Unpermitted(&[1, 1]), false),
         (Change::Unpermitted(&[1]), true),
     ];

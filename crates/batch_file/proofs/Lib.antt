@@ -1,4 +1,5 @@
 pub mod Adding
+pub mod Calling
 pub mod Checking
 pub mod Closing
 pub mod Collecting

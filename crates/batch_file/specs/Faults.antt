@@ -8,10 +8,11 @@ use Rattle.batch_file.specs.declared.fault.RestoreFault.TheVariants.{Disk, Damag
 use Rattle.batch_file.specs.Layout.{addr, address_in, count, has_image, is_head, is_lawful, or_empty}
 use Rattle.batch_file.specs.Redone.{first_failing}
 
--- The count never falls, and `Disk` comes only where it rose.
+-- The count never falls; `Disk` comes only where it rose, and any other answer only where it stayed.
 pub record FailsBy {T : Type 0} (before now : ℕ) (result : Result T RestoreFault) : Type 0 where
   pub later : before ≤ now
   pub failed : IsErrOf result Disk → Rose before now
+  pub answered : (IsErrOf result Disk → ⊥) → now ≡ before
 
 -- Ok is the page that is there, and damage means that there is none.
 abbrev pub IsPage : Option (List ℕ) → Addr → List ℕ → Result Unit RestoreFault → Type 0

@@ -1,7 +1,7 @@
 // Reading a batch, and looking for its first page at fault.
-ghost use Rattle.std.specs.Prelude.{◌≡◌, ◌⊎◌, ◌/◌, ◌+◌, ◌≤◌, ℕ, Some, None, Ok, Err, IsTrue, OnOk, true, false};
+ghost use Rattle.std.specs.Prelude.{◌≡◌, ◌⊎◌, ◌/◌, ◌+◌, ◌≤◌, ℕ, Some, None, Ok, Err, IsTrue, IfOk, OnOk, true, false};
 ghost use Rattle.disk_model.specs.Disk.{OnlyReads};
-ghost use Rattle.batch_file.specs.Layout.{addr, count};
+ghost use Rattle.batch_file.specs.Layout.{addr, count, is_place};
 ghost use Rattle.batch_file.specs.Redone.{damage};
 ghost use Rattle.batch_file.specs.Faults.{IsAnswerOf, FailsBy, IsPage, IsAddress, IsBuffered, IsHeadOf, AreLawful, AreThere};
 
@@ -14,6 +14,7 @@ pub fn page<D: Disk>(disk: &mut D, a: Addr, out: &mut Page) -> Result<(), Restor
     ensures page { IsTrue D.tells → IsPage (D.seen disk.old a) a out.new result }
     ensures same { IsTrue D.tells →
         OnlyReads D.seen D.touched D.clock D.left_since disk.old disk.new }
+    ensures unwritten { D.history disk.new ≡ D.history disk.old }
     ensures cause { FailsBy (D.faults disk.old) (D.faults disk.new) result }
 {
     if disk.read(a, out)? {
@@ -33,6 +34,7 @@ fn buffered<D: Disk>(disk: &mut D, k: u32, buffer: &mut Page) -> Result<(), Rest
         IsPage (D.seen disk.old (addr 3 (k / 128))) (addr 3 (k / 128)) buffer.new result }
     ensures same { IsTrue D.tells →
         OnlyReads D.seen D.touched D.clock D.left_since disk.old disk.new }
+    ensures unwritten { D.history disk.new ≡ D.history disk.old }
     ensures cause { FailsBy (D.faults disk.old) (D.faults disk.new) result }
 {
     if k % 128 != 0 {
@@ -50,10 +52,12 @@ fn buffered<D: Disk>(disk: &mut D, k: u32, buffer: &mut Page) -> Result<(), Rest
 pub fn next_address<D: Disk>(disk: &mut D, k: u32, buffer: &mut Page) -> Result<Addr, RestoreFault>
     requires { IsTrue D.tells → IsBuffered (D.seen disk.old) k buffer.old }
     ensures address { IsTrue D.tells → IsAddress (D.seen disk.old) k result }
+    ensures place { IfOk result (λ a. is_place a ≡ true) }
     ensures buffered { IsTrue D.tells →
         OnOk result (IsBuffered (D.seen disk.old) (k + 1) buffer.new) }
     ensures same { IsTrue D.tells →
         OnlyReads D.seen D.touched D.clock D.left_since disk.old disk.new }
+    ensures unwritten { D.history disk.new ≡ D.history disk.old }
     ensures cause { FailsBy (D.faults disk.old) (D.faults disk.new) result }
 {
     buffered(disk, k, buffer)?;
@@ -72,6 +76,7 @@ fn head<D: Disk>(disk: &mut D) -> Result<u32, RestoreFault>
     ensures head { IsTrue D.tells → IsHeadOf (D.seen disk.old) result }
     ensures same { IsTrue D.tells →
         OnlyReads D.seen D.touched D.clock D.left_since disk.old disk.new }
+    ensures unwritten { D.history disk.new ≡ D.history disk.old }
     ensures cause { FailsBy (D.faults disk.old) (D.faults disk.new) result }
 {
     let mut bytes = [0; 1024];
@@ -88,6 +93,7 @@ fn check_addresses<D: Disk>(disk: &mut D, count: u32) -> Result<(), RestoreFault
     ensures lawful { IsTrue D.tells → AreLawful (D.seen disk.old) count result }
     ensures same { IsTrue D.tells →
         OnlyReads D.seen D.touched D.clock D.left_since disk.old disk.new }
+    ensures unwritten { D.history disk.new ≡ D.history disk.old }
     ensures cause { FailsBy (D.faults disk.old) (D.faults disk.new) result }
 {
     let mut buffer = [0; 1024];
@@ -102,6 +108,7 @@ fn check_images<D: Disk>(disk: &mut D, count: u32) -> Result<(), RestoreFault>
     ensures there { IsTrue D.tells → AreThere (D.seen disk.old) count result }
     ensures same { IsTrue D.tells →
         OnlyReads D.seen D.touched D.clock D.left_since disk.old disk.new }
+    ensures unwritten { D.history disk.new ≡ D.history disk.old }
     ensures cause { FailsBy (D.faults disk.old) (D.faults disk.new) result }
 {
     let mut image = [0; 1024];
@@ -118,6 +125,7 @@ pub fn check<D: Disk>(disk: &mut D) -> Result<u32, RestoreFault>
         ⊎ IsAnswerOf (damage (D.seen disk.old)) (count (D.seen disk.old)) result }
     ensures same { IsTrue D.tells →
         OnlyReads D.seen D.touched D.clock D.left_since disk.old disk.new }
+    ensures unwritten { D.history disk.new ≡ D.history disk.old }
     ensures cause { FailsBy (D.faults disk.old) (D.faults disk.new) result }
 {
     let count = head(disk)?;

@@ -1,19 +1,24 @@
 // A whole batch at once.
-ghost use Rattle.std.specs.Prelude.{◌≡◌, ◌<◌, ◌^◌, IsTrue, IsOk, OnOk, All, length};
-ghost use Rattle.fault_io.specs.Causes.{HasCause};
+ghost use Rattle.std.specs.Prelude.{◌≡◌, ◌⊎◌, ◌<◌, ◌^◌, Ok, Err, IsTrue, IsOk, OnOk, All, length};
 ghost use Rattle.disk_model.specs.Disk.{LeavesOnly};
+ghost use Rattle.disk_model.specs.History.{CameSo};
+ghost use Rattle.batch_file.specs.Faults.{FailsBy};
 ghost use Rattle.batch_file.specs.Layout.{is_place};
 ghost use Rattle.batch_file.specs.Redone.{kept, laid, IsShut};
 ghost use Rattle.batch_file.specs.OnDisk.{BeforeOrAfter, IsClosed};
+ghost use Rattle.batch_file.specs.Order.{Lays, Writes};
 
+use crate::fault::RestoreFault;
 use crate::stage::Batch;
-use disk_model::{Addr, Disk, DiskFailed, Page};
+use disk_model::{Addr, Disk, Page};
 
 /// Lays all pages on the disk, each at its address, or none. Without a change it does nothing. Takes
 /// no memory. Where an address comes twice, the later page stands.
 ///
-/// After an error the disk is restored before it is used further.
-pub fn commit<D: Disk>(disk: &mut D, changes: &[(Addr, Page)]) -> Result<(), DiskFailed>
+/// After an error the disk is restored before it is used further. `Disk` only where a call to the disk
+/// failed. `Damaged` where a page of the batch isn't there when it is read again, and no call failed:
+/// never on a disk that tells what it holds.
+pub fn commit<D: Disk>(disk: &mut D, changes: &[(Addr, Page)]) -> Result<(), RestoreFault>
     requires shut { IsTrue D.tells → IsShut (D.seen disk.old) (D.touched disk.old) }
     requires places { All (λ c. IsTrue (is_place c.0)) changes.now }
     requires few { length changes.now < 2 ^ 32 }
@@ -27,7 +32,11 @@ pub fn commit<D: Disk>(disk: &mut D, changes: &[(Addr, Page)]) -> Result<(), Dis
     ensures closed { IsTrue D.tells →
         OnOk result (0 < length changes.now → IsClosed (D.seen disk.new) (D.touched disk.new)) }
     ensures empty { length changes.now ≡ 0 → (disk.new ≡ disk.old) × IsOk result }
-    ensures cause { HasCause (D.faults disk.old) (D.faults disk.new) result }
+    ensures whole { IsTrue D.tells → (result ≡ Err RestoreFault.Disk) ⊎ (result ≡ Ok record {}) }
+    // Whatever the disk tells of what it holds, these calls were made and answered Ok.
+    ensures made { OnOk result (0 < length changes.now
+        → CameSo (D.history disk.old) (D.history disk.new) (Lays (Writes changes.now) (length changes.now))) }
+    ensures cause { FailsBy (D.faults disk.old) (D.faults disk.new) result }
 {
     let mut batch = Batch::begin();
     for (a, page) in changes {

@@ -12,13 +12,13 @@ pub enum Restored {
     Redone(u32),
 }
 
-/// Why a restore was given up.
+/// Why a batch wasn't laid.
 #[derive(Clone, Copy, Debug, PartialEq, Eq)]
 pub enum RestoreFault {
     /// A call to the disk failed.
     Disk,
-    /// The gate is open over a batch that is not of its form. This is the first page at fault, in the
-    /// order head, addresses, images.
+    /// The gate is open over a batch that is not of its form. Of a restore this is the first page at
+    /// fault, in the order head, addresses, images.
     Damaged {
         /// Its file.
         file: u32,

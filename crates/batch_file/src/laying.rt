@@ -1,10 +1,13 @@
 // Opening the gate over a batch, and laying it.
-ghost use Rattle.std.specs.Prelude.{◌≡◌, ◌<◌, IsTrue, OnOk};
+ghost use Rattle.std.specs.Prelude.{◌≡◌, ◌⊎◌, ◌<◌, Ok, Err, IsTrue, OnOk};
 ghost use Rattle.fault_io.specs.Causes.{HasCause};
 ghost use Rattle.disk_model.specs.Disk.{LeavesOnly};
+ghost use Rattle.disk_model.specs.History.{CameSo};
+ghost use Rattle.batch_file.specs.Faults.{FailsBy};
 ghost use Rattle.batch_file.specs.Layout.{entries};
 ghost use Rattle.batch_file.specs.Redone.{redone, kept, laid, IsShut};
 ghost use Rattle.batch_file.specs.OnDisk.{BeforeOrAfter, IsWhole, IsOpen, IsClosed};
+ghost use Rattle.batch_file.specs.Order.{Heads, Opens, Lays};
 
 use crate::fault::RestoreFault;
 use crate::layout::{GATE, HEAD, head_page};
@@ -23,6 +26,7 @@ fn open_gate<D: Disk>(disk: &mut D, count: u32) -> Result<(), DiskFailed>
     ensures same { IsTrue D.tells →
         OnOk result (redone (D.seen disk.new)
         ≡ redone (laid (entries (D.seen disk.old) count) (D.seen disk.old))) }
+    ensures made { OnOk result (CameSo (D.history disk.old) (D.history disk.new) (Opens (Heads count))) }
     ensures cause { HasCause (D.faults disk.old) (D.faults disk.new) result }
 {
     let head = head_page(count);
@@ -35,8 +39,10 @@ fn open_gate<D: Disk>(disk: &mut D, count: u32) -> Result<(), DiskFailed>
     Ok(())
 }
 
-/// Lays a batch whose addresses and images are on the disk.
-pub fn lay<D: Disk>(disk: &mut D, count: u32) -> Result<(), DiskFailed>
+/// Lays a batch whose addresses and images are on the disk. `Damaged` never comes where the disk tells
+/// what it holds: an image or an address that was written isn't there when it is read, and no call
+/// failed. The gate then stays open, so that the next restore says the same.
+pub fn lay<D: Disk>(disk: &mut D, count: u32) -> Result<(), RestoreFault>
     requires some { 0 < count }
     requires shut { IsTrue D.tells → IsShut (D.seen disk.old) (D.touched disk.old) }
     requires whole { IsTrue D.tells → IsWhole (D.seen disk.old) count }
@@ -47,14 +53,12 @@ pub fn lay<D: Disk>(disk: &mut D, count: u32) -> Result<(), DiskFailed>
         ≡ kept (laid (entries (D.seen disk.old) count) (D.seen disk.old))) }
     ensures closed { IsTrue D.tells →
         OnOk result (IsClosed (D.seen disk.new) (D.touched disk.new)) }
-    ensures cause { HasCause (D.faults disk.old) (D.faults disk.new) result }
+    ensures whole { IsTrue D.tells → (result ≡ Err RestoreFault.Disk) ⊎ (result ≡ Ok record {}) }
+    ensures made { OnOk result
+        (CameSo (D.history disk.old) (D.history disk.new) (Lays (Heads count) count)) }
+    ensures cause { FailsBy (D.faults disk.old) (D.faults disk.new) result }
 {
     open_gate(disk, count)?;
-    match redo(disk, count) {
-        Ok(()) => Ok(()),
-        Err(RestoreFault::Disk) => Err(DiskFailed),
-        // A disk that tells what it holds never answers damage here. Of another one the gate stays
-        // open, so that the next restore says what is damaged.
-        Err(RestoreFault::Damaged { .. }) => Ok(()),
-    }
+    redo(disk, count)?;
+    Ok(())
 }

@@ -1,10 +1,12 @@
 // Laying a batch on the disk whose gate is open.
 ghost use Rattle.std.specs.Prelude.{◌≡◌, ◌⊎◌, Some, Ok, Err, IsTrue, OnOk};
 ghost use Rattle.disk_model.specs.Disk.{LeavesOnly};
+ghost use Rattle.disk_model.specs.History.{CameSo};
 ghost use Rattle.batch_file.specs.Layout.{entries};
 ghost use Rattle.batch_file.specs.Redone.{redone, kept, laid};
 ghost use Rattle.batch_file.specs.OnDisk.{IsOpen, IsClosed};
 ghost use Rattle.batch_file.specs.Faults.{FailsBy};
+ghost use Rattle.batch_file.specs.Order.{Places, Shuts};
 
 use crate::check::{next_address, page};
 use crate::fault::RestoreFault;
@@ -20,6 +22,7 @@ fn place_all<D: Disk>(disk: &mut D, count: u32) -> Result<(), RestoreFault>
     ensures placed { IsTrue D.tells →
         OnOk result (D.seen disk.new ≡ laid (entries (D.seen disk.old) count) (D.seen disk.old)) }
     ensures whole { IsTrue D.tells → (result ≡ Err RestoreFault.Disk) ⊎ (result ≡ Ok record {}) }
+    ensures made { OnOk result (CameSo (D.history disk.old) (D.history disk.new) (Places count)) }
     ensures cause { FailsBy (D.faults disk.old) (D.faults disk.new) result }
 {
     let mut buffer = [0; 1024];
@@ -43,6 +46,7 @@ pub fn redo<D: Disk>(disk: &mut D, count: u32) -> Result<(), RestoreFault>
     ensures closed { IsTrue D.tells →
         OnOk result (IsClosed (D.seen disk.new) (D.touched disk.new)) }
     ensures whole { IsTrue D.tells → (result ≡ Err RestoreFault.Disk) ⊎ (result ≡ Ok record {}) }
+    ensures made { OnOk result (CameSo (D.history disk.old) (D.history disk.new) (Shuts count)) }
     ensures cause { FailsBy (D.faults disk.old) (D.faults disk.new) result }
 {
     place_all(disk, count)?;

@@ -2,10 +2,12 @@
 ghost use Rattle.std.specs.Prelude.{◌≡◌, ◌⊎◌, ◌↔◌, Some, None, Err, IsTrue, IfOk, OnOk, if◌then◌else◌};
 ghost use Rattle.fault_io.specs.Causes.{HasCause};
 ghost use Rattle.disk_model.specs.Disk.{OnlyReads, LeavesOnly};
+ghost use Rattle.disk_model.specs.History.{CameSo};
 ghost use Rattle.batch_file.specs.Layout.{first_byte, gate};
 ghost use Rattle.batch_file.specs.Redone.{redone, kept, answer};
 ghost use Rattle.batch_file.specs.OnDisk.{IsClosed, SameRedone};
 ghost use Rattle.batch_file.specs.Faults.{FailsBy};
+ghost use Rattle.batch_file.specs.Order.{Restores};
 
 use crate::check::check;
 use crate::fault::{RestoreFault, Restored};
@@ -19,6 +21,7 @@ fn is_open<D: Disk>(disk: &mut D) -> Result<bool, DiskFailed>
         IfOk result (λ yes. IsTrue yes ↔ (gate (D.seen disk.old) ≡ 1)) }
     ensures same { IsTrue D.tells →
         OnlyReads D.seen D.touched D.clock D.left_since disk.old disk.new }
+    ensures unwritten { D.history disk.new ≡ D.history disk.old }
     ensures cause { HasCause (D.faults disk.old) (D.faults disk.new) result }
 {
     let mut bytes = [0; 1024];
@@ -49,6 +52,8 @@ pub fn restore<D: Disk>(disk: &mut D) -> Result<Restored, RestoreFault>
     ensures crash { IsTrue D.tells →
         LeavesOnly D.clock D.left_since disk.old disk.new
         (SameRedone (D.seen disk.old) (D.touched disk.old)) }
+    // Whatever the disk tells of what it holds, these calls were made and answered Ok.
+    ensures made { IfOk result (λ done. CameSo (D.history disk.old) (D.history disk.new) (Restores done)) }
     ensures cause { FailsBy (D.faults disk.old) (D.faults disk.new) result }
 {
     disk.sync()?;

@@ -1,11 +1,15 @@
 // Writing a batch to its own files.
-ghost use Rattle.std.specs.Prelude.{◌≡◌, ◌≢◌, ◌⊎◌, ◌+◌, ◌-◌, ◌<◌, ◌≤◌, ◌^◌, ◌++◌, ◌∷◌, [], ℕ, Some, true, IsTrue, IsOk, OnOk};
+ghost use Rattle.std.specs.Prelude.{◌≡◌, ◌≢◌, ◌⊎◌, ◌+◌, ◌-◌, ◌<◌, ◌≤◌, ◌^◌, ◌++◌, ◌∷◌, [], ℕ, Some, true, Ok, Err, IsTrue, IsOk, OnOk, if◌then◌else◌};
 ghost use Rattle.fault_io.specs.Causes.{HasCause};
 ghost use Rattle.disk_model.specs.Disk.{Image, Changes, Elapses, OnlyReads, LeavesOnly};
+ghost use Rattle.disk_model.specs.History.{Came, CameSo};
+ghost use Rattle.disk_model.specs.declared.calls.Call.TheVariants.{Write as AWrite};
+ghost use Rattle.batch_file.specs.Faults.{FailsBy};
 ghost use Rattle.batch_file.specs.Layout.{addr, is_place};
 ghost use Rattle.batch_file.specs.Redone.{kept, laid, IsShut};
 ghost use Rattle.batch_file.specs.OnDisk.{InBatch, SameOutside, BeforeOrAfter, IsClosed, renewed, image_in};
 
+use crate::fault::RestoreFault;
 use crate::laying::lay;
 use crate::layout::put_address;
 use disk_model::{Addr, Disk, DiskFailed, Page};
@@ -23,6 +27,7 @@ pub struct Batch {
 }
 
 impl Batch {
+    ghost use Rattle.batch_file.specs.Order.{Adds, Completes, Lays};
     ghost use Rattle.batch_file.specs.Staged.{size_of, staged, Holds};
 
     /// A batch without an image.
@@ -63,6 +68,8 @@ impl Batch {
         ensures crash { IsTrue D.tells →
             LeavesOnly D.clock D.left_since disk.old disk.new
             (SameOutside (D.seen disk.old) (D.touched disk.old)) }
+        ensures made { OnOk result (CameSo (D.history disk.old) (D.history disk.new)
+            (Adds self.old self.new ((a, page.now) ∷ []))) }
         ensures cause { HasCause (D.faults disk.old) (D.faults disk.new) result }
     {
         let k = self.count;
@@ -90,6 +97,8 @@ impl Batch {
         ensures crash { IsTrue D.tells →
             LeavesOnly D.clock D.left_since disk.old disk.new
             (SameOutside (D.seen disk.old) (D.touched disk.old)) }
+        ensures made { OnOk result
+            (Came (D.history disk.old) (D.history disk.new) (AWrite (addr 4 i) page.now ∷ [])) }
         ensures cause { HasCause (D.faults disk.old) (D.faults disk.new) result }
     {
         disk.write(Addr { file: 4, page: i }, page)?;
@@ -104,6 +113,7 @@ impl Batch {
             OnOk result (image_in (staged (D.seen disk.old) self.now) i ≡ Some out.new) }
         ensures same { IsTrue D.tells →
             OnlyReads D.seen D.touched D.clock D.left_since disk.old disk.new }
+        ensures unwritten { D.history disk.new ≡ D.history disk.old }
         ensures cause { HasCause (D.faults disk.old) (D.faults disk.new) result }
     {
         // A disk that tells what it holds has the page.
@@ -112,7 +122,11 @@ impl Batch {
     }
 
     /// Lays all pages of the batch on the disk, or none. Without an image it does nothing.
-    pub fn finish<D: Disk>(self, disk: &mut D) -> Result<(), DiskFailed>
+    ///
+    /// `Disk` only where a call to the disk failed. `Damaged` where a page of the batch isn't there when
+    /// it is read again, and no call failed: never on a disk that tells what it holds. The gate then
+    /// stays open.
+    pub fn finish<D: Disk>(self, disk: &mut D) -> Result<(), RestoreFault>
         requires shut { IsTrue D.tells → IsShut (D.seen disk.old) (D.touched disk.old) }
         requires held { IsTrue D.tells → Holds (D.seen disk.old) self }
 
@@ -126,7 +140,11 @@ impl Batch {
         ensures closed { IsTrue D.tells →
             OnOk result (0 < size_of self → IsClosed (D.seen disk.new) (D.touched disk.new)) }
         ensures empty { size_of self ≡ 0 → (disk.new ≡ disk.old) × IsOk result }
-        ensures cause { HasCause (D.faults disk.old) (D.faults disk.new) result }
+        ensures whole { IsTrue D.tells → (result ≡ Err RestoreFault.Disk) ⊎ (result ≡ Ok record {}) }
+        // Whatever the disk tells of what it holds, these calls were made and answered Ok.
+        ensures made { OnOk result (0 < size_of self
+            → CameSo (D.history disk.old) (D.history disk.new) (Lays (Completes self) (size_of self))) }
+        ensures cause { FailsBy (D.faults disk.old) (D.faults disk.new) result }
     {
         if self.count == 0 {
             return Ok(());
@@ -150,6 +168,8 @@ fn write_if<D: Disk>(disk: &mut D, due: bool, n: u32, addresses: &Page) -> Resul
         Changes (λ b. b ≡ addr 3 n) D.seen D.touched disk.old disk.new }
     ensures time { IsTrue D.tells →
         Elapses D.seen D.touched D.clock D.left_since disk.old disk.new }
+    ensures made { OnOk result (Came (D.history disk.old) (D.history disk.new)
+        (if due then AWrite (addr 3 n) addresses.now ∷ [] else [])) }
     ensures cause { HasCause (D.faults disk.old) (D.faults disk.new) result }
 {
     if !due {

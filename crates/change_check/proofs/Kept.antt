@@ -1,5 +1,5 @@
 -- What is known of a base relation.
-use Rattle.std.proofs.Common.{◌≡◌, refl, sym, ap, ◌∙◌, true, false, not, ◌&&◌, Option, Some, None, is_some}
+use Rattle.std.proofs.Common.{◌≡◌, refl, sym, ap, ◌∙◌, true, false, not, ◌&&◌, Bool, Option, Some, None, is_some}
 use Rattle.std.specs.Option.{option_map, option_or}
 use Rattle.calculus.specs.declared.query.RelKey.{RelKey}
 use Rattle.calculus.specs.declared.schema.RelInfo.{RelInfo}
@@ -10,6 +10,7 @@ use Rattle.calculus.specs.Lists.{is_any}
 use Rattle.calculus.specs.Database.{Db, Relation, Index, View, entry_at, relation_at, view_at, index_at, is_relation}
 use Rattle.calculus.specs.IsDatabase.{IsDatabase, index_stands, keys_stand, structure_stands, view_info_stands}
 use Rattle.calculus.specs.Stored.{attrs_at}
+use Rattle.calculus.specs.Structures.{is_structure, is_keyed, is_view, is_index}
 use Rattle.quel_meaning.proofs.DatabaseFacts.{found_passes}
 use Rattle.plan_laws.proofs.RowsChanged.{its_attrs}
 use Rattle.quel_names.proofs.Known.{entry_parts}
@@ -18,13 +19,10 @@ use Rattle.change_check.specs.Kept.{kept_info}
 kept_structure : (info : RelInfo) → structure_stands info ≡ true → kept_info (Some info) ≡ Some info
 kept_structure info h = go info.spec h
   where
-    go : (s : Spec) → elim s [
-      | spec.Heap ↦ not (is_any info.keys)
-      | spec.Hash ↦ is_any info.keys && keys_stand info.attrs info.keys
-      | spec.Isam ↦ is_any info.keys && keys_stand info.attrs info.keys
-      | spec.View ↦ false
-      | spec.Index ↦ false
-    ] ≡ true → ◌≡◌ {A = Option RelInfo} (elim s [ spec.Heap ↦ Some info | spec.Hash ↦ Some info | spec.Isam ↦ Some info | spec.View ↦ None | spec.Index ↦ None ]) (Some info)
+    go : (s : Spec) → (elim (is_keyed s) as (λ b. Bool) [
+      | true ↦ is_any info.keys && keys_stand info.attrs info.keys
+      | false ↦ is_structure s && not (is_any info.keys)
+    ]) ≡ true → ◌≡◌ {A = Option RelInfo} (elim (is_structure s) as (λ b. Option RelInfo) [ true ↦ Some info | false ↦ None ]) (Some info)
     go spec.Heap h = refl
     go spec.Hash h = refl
     go spec.Isam h = refl
@@ -34,8 +32,8 @@ kept_structure info h = go info.spec h
 kept_view : (info : RelInfo) → view_info_stands info ≡ true → kept_info (Some info) ≡ None
 kept_view info h = go info.spec h
   where
-    go : (s : Spec) → elim s [ spec.Heap ↦ false | spec.Hash ↦ false | spec.Isam ↦ false | spec.View ↦ not (is_any info.keys) | spec.Index ↦ false ] ≡ true
-        → ◌≡◌ {A = Option RelInfo} (elim s [ spec.Heap ↦ Some info | spec.Hash ↦ Some info | spec.Isam ↦ Some info | spec.View ↦ None | spec.Index ↦ None ]) None
+    go : (s : Spec) → (is_view s && not (is_any info.keys)) ≡ true
+        → ◌≡◌ {A = Option RelInfo} (elim (is_structure s) as (λ b. Option RelInfo) [ true ↦ Some info | false ↦ None ]) None
     go spec.Heap h = absurd (cc h)
     go spec.Hash h = absurd (cc h)
     go spec.Isam h = absurd (cc h)
@@ -45,13 +43,8 @@ kept_view info h = go info.spec h
 kept_index : (db : Db) (x : Index) → index_stands db x ≡ true → kept_info (Some x.info) ≡ None
 kept_index db x h = go x.info.spec h
   where
-    go : (s : Spec) → elim s [
-      | spec.Heap ↦ false
-      | spec.Hash ↦ false
-      | spec.Isam ↦ false
-      | spec.View ↦ false
-      | spec.Index ↦ is_relation db x.base && (not (is_any x.info.attrs) && (is_any x.info.keys && keys_stand (attrs_at db x.base) x.info.keys))
-    ] ≡ true → ◌≡◌ {A = Option RelInfo} (elim s [ spec.Heap ↦ Some x.info | spec.Hash ↦ Some x.info | spec.Isam ↦ Some x.info | spec.View ↦ None | spec.Index ↦ None ]) None
+    go : (s : Spec) → (is_index s && (is_relation db x.base && (not (is_any x.info.attrs) && (is_any x.info.keys && keys_stand (attrs_at db x.base) x.info.keys)))) ≡ true
+        → ◌≡◌ {A = Option RelInfo} (elim (is_structure s) as (λ b. Option RelInfo) [ true ↦ Some x.info | false ↦ None ]) None
     go spec.Heap h = absurd (cc h)
     go spec.Hash h = absurd (cc h)
     go spec.Isam h = absurd (cc h)

@@ -10,4 +10,5 @@ pub mod QueryDepths
 pub mod Ranged
 pub mod RowsFit
 pub mod SizeForms
+pub mod SpelledForms
 pub mod ViewParts

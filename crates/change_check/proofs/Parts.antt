@@ -1,5 +1,5 @@
 -- Tests that are asked part by part.
-use Rattle.std.proofs.Common.{◌≡◌, refl, sym, ap, ◌∙◌, Bool, true, false, ◌&&◌}
+use Rattle.std.proofs.Common.{◌≡◌, refl, sym, ap, ◌∙◌, Bool, true, false, ◌&&◌, IsTrue}
 
 -- a part that is false decides
 pub stops : (a b r : Bool) → a ≡ false → r ≡ false → r ≡ (a && b)
@@ -18,3 +18,8 @@ pub regrouped : (a b c d : Bool) → (a && ((b && c) && d)) ≡ (a && (b && (c &
 regrouped true true c d = refl
 regrouped true false c d = refl
 regrouped false b c d = refl
+
+-- what is true besides changes nothing
+pub also : (a b : Bool) → IsTrue b → a ≡ (a && b)
+also true b h = sym h
+also false b h = refl

@@ -13,6 +13,7 @@ use Rattle.calculus.specs.IsDatabase.{IsDatabase}
 use Rattle.calculus.specs.QueryParts.{vars_of}
 use Rattle.calculus.specs.Sizes.{level_within, level_above, greatest_of, greater_level, range_level, query_level}
 use Rattle.calculus.specs.Stored.{Range, Kept, Viewed, range_at, range_info, info_at}
+use Rattle.calculus.specs.Structures as structures
 use Rattle.am_traits.specs.Told.{known_at, query_at}
 use Rattle.quel_names.specs.Ranging.{but_index, is_index}
 use Rattle.quel_names.proofs.Known.{ranged_if}
@@ -24,7 +25,7 @@ but_one : (o : Option RelInfo) → is_ranged o ≡ is_some (but_index o)
 but_one None = refl
 but_one (Some info) = go info.spec
   where
-    go : (s : Spec) → (elim s as (λ s. Bool) [ spec.Heap ↦ true | spec.Hash ↦ true | spec.Isam ↦ true | spec.View ↦ true | spec.Index ↦ false ]) ≡ is_some (elim (is_index s) as (λ b. Option RelInfo) [ true ↦ None | false ↦ Some info ])
+    go : (s : Spec) → not (structures.is_index s) ≡ is_some (elim (is_index s) as (λ b. Option RelInfo) [ true ↦ None | false ↦ Some info ])
     go spec.Heap = refl
     go spec.Hash = refl
     go spec.Isam = refl

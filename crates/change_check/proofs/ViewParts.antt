@@ -6,7 +6,7 @@ use Rattle.calculus.specs.Database.{Db}
 use Rattle.calculus.specs.IsDatabase.{attrs_are_targets, attrs_stand, query_stands, vars_are_there, view_info_stands}
 use Rattle.calculus.specs.QueryParts.{vars_of, targets_of}
 use Rattle.calculus.specs.Sizes.{expanded_variables, query_level, query_size, variables}
-use Rattle.calculus.specs.TreeLevels.{query_levels}
+use Rattle.calculus.specs.Storable.{query_is_storable}
 use Rattle.change_laws.specs.Fit.{key_is_free, view_is_fit, view_is_small}
 use Rattle.quel_meaning.specs.Passing.{is_too_high}
 
@@ -27,20 +27,20 @@ view_parts db info q =
 -- too many variables are listed
 pub lists_many : (db : Db) (q : Query) → nat_le (length (vars_of q)) 50 ≡ false → false ≡ view_is_small db q
 unfolding view_is_small
-lists_many db q h = sym (ap (λ b. b && (nat_le (variables q) 10 && (nat_le (expanded_variables db q) 50 && (nat_le (query_size db q) 1000 && nat_le (query_levels q) 3000)))) h)
+lists_many db q h = sym (ap (λ b. b && (nat_le (variables q) 10 && (nat_le (expanded_variables db q) 50 && (nat_le (query_size db q) 1000 && query_is_storable q)))) h)
 
 -- too many variables are used
 pub uses_many : (db : Db) (q : Query) → nat_le (length (vars_of q)) 50 ≡ true → nat_le (variables q) 10 ≡ false → false ≡ view_is_small db q
 unfolding view_is_small
-uses_many db q h k = sym (λ i. h i && (k i && (nat_le (expanded_variables db q) 50 && (nat_le (query_size db q) 1000 && nat_le (query_levels q) 3000))))
+uses_many db q h k = sym (λ i. h i && (k i && (nat_le (expanded_variables db q) 50 && (nat_le (query_size db q) 1000 && query_is_storable q))))
 
 -- the rest decides
 pub then_small : (db : Db) (q : Query) (fits deep : Bool) → nat_le (length (vars_of q)) 50 ≡ true → nat_le (variables q) 10 ≡ true
-    → fits ≡ (nat_le (expanded_variables db q) 50 && nat_le (query_size db q) 1000) → deep ≡ nat_le (query_levels q) 3000 → (fits && deep) ≡ view_is_small db q
+    → fits ≡ (nat_le (expanded_variables db q) 50 && nat_le (query_size db q) 1000) → deep ≡ query_is_storable q → (fits && deep) ≡ view_is_small db q
 unfolding view_is_small
 then_small db q fits deep h k f d =
-    (λ i. f i && d i) ∙ two (nat_le (expanded_variables db q) 50) (nat_le (query_size db q) 1000) (nat_le (query_levels q) 3000)
-    ∙ sym (λ i. h i && (k i && (nat_le (expanded_variables db q) 50 && (nat_le (query_size db q) 1000 && nat_le (query_levels q) 3000))))
+    (λ i. f i && d i) ∙ two (nat_le (expanded_variables db q) 50) (nat_le (query_size db q) 1000) (query_is_storable q)
+    ∙ sym (λ i. h i && (k i && (nat_le (expanded_variables db q) 50 && (nat_le (query_size db q) 1000 && query_is_storable q))))
   where
     two : (a b c : Bool) → ((a && b) && c) ≡ (a && (b && c))
     two false b c = refl

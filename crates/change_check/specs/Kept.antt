@@ -1,15 +1,9 @@
 -- What is known of a base relation.
-use Rattle.std.specs.Prelude.{Option, Some, None}
+use Rattle.std.specs.Prelude.{true, false, Option, Some, None}
 use Rattle.calculus.specs.declared.schema.RelInfo.{RelInfo}
-use Rattle.calculus.specs.declared.schema.Spec.TheVariants as spec
+use Rattle.calculus.specs.Structures.{is_structure}
 
 -- what is known, where it is kept as a base relation is
 abbrev pub kept_info : Option RelInfo → Option RelInfo
 kept_info None = None
-kept_info (Some info) = elim info.spec [
-  | spec.Heap ↦ Some info
-  | spec.Hash ↦ Some info
-  | spec.Isam ↦ Some info
-  | spec.View ↦ None
-  | spec.Index ↦ None
-]
+kept_info (Some info) = elim (is_structure info.spec) [ true ↦ Some info | false ↦ None ]

@@ -15,6 +15,7 @@ mod ranges;
 mod relations;
 mod rows;
 mod sizes;
+mod spelled;
 mod structures;
 mod views;
 

@@ -6,10 +6,11 @@ ghost use Rattle.am_traits.specs.Causes.{HasCause};
 ghost use Rattle.calculus.specs.Change.{permit_numbers, rule_numbers};
 ghost use Rattle.calculus.specs.Database.{Db, is_relation};
 ghost use Rattle.calculus.specs.IsDatabase.{row_qual_stands, user_is_named};
-ghost use Rattle.calculus.specs.Storable.{row_qual_is_small};
 ghost use Rattle.calculus.specs.Kinds.{kinds_fit};
-ghost use Rattle.calculus.specs.Stored.{kinds_at};
+ghost use Rattle.calculus.specs.QueryParts.{qual_aggregates};
 ghost use Rattle.calculus.specs.Sizes.{qual_size};
+ghost use Rattle.calculus.specs.Storable.{permit_lists_are_storable, row_qual_is_storable};
+ghost use Rattle.calculus.specs.Stored.{kinds_at};
 ghost use Rattle.change_check.specs.Sized.{qual_depth};
 ghost use Rattle.change_laws.specs.Fit.{number_is_free, permit_is_fit, rule_is_fit};
 
@@ -17,6 +18,7 @@ use crate::depths::qual_depth;
 use crate::keys::is_relation;
 use crate::numbers::{has_number, standing_permits, standing_rules};
 use crate::sizes::qual_size;
+use crate::spelled::read_qual;
 use am_traits::{Base, BaseFault};
 use calculus::{Kind, Name, OutOfMemory, Permit, QQual, RelKey, Rule, is_name, kinds_fit};
 use quel_causes::kinds_at;
@@ -33,6 +35,9 @@ const MOST_LEVELS: u64 = 3000;
 
 /// The attributes that a permit lists at most.
 const MOST_LISTED: usize = 65_535;
+
+/// The sum of all rights.
+const ALL_RIGHTS: u8 = 15;
 
 /// Whether the administrator is the owner.
 fn is_administrators<B: Base>(alloc: Global, base: &mut B, rel: &RelKey) -> Result<bool, BaseFault>
@@ -80,14 +85,23 @@ fn is_small(qual: &QQual) -> bool
     qual_size(&[], qual) <= GREATEST_SIZE && qual_depth(qual) <= MOST_LEVELS
 }
 
-/// Whether a qualification over a row of the relation stands, and is small enough to be stored.
+/// Whether a qualification in which no aggregate stands can be stored: it is small enough, and its
+/// constants are those of their types.
+fn is_storable(qual: &QQual) -> bool
+    ensures { qual_aggregates qual.now ≡ [] → result ≡ row_qual_is_storable qual.now }
+{
+    read_qual(qual);
+    is_small(qual)
+}
+
+/// Whether a qualification over a row of the relation stands, and can be stored.
 fn row_qual_is_fit<B: Base>(
     alloc: Global,
     base: &mut B,
     rel: &RelKey,
     qual: &QQual,
 ) -> Result<bool, BaseFault>
-    ensures told { (db : Db) → B.database base.old ≡ Some db → IfOk result (λ fit. fit ≡ (row_qual_stands db rel.now qual.now && row_qual_is_small qual.now)) }
+    ensures told { (db : Db) → B.database base.old ≡ Some db → IfOk result (λ fit. fit ≡ (row_qual_stands db rel.now qual.now && row_qual_is_storable qual.now)) }
     ensures kept { B.database base.new ≡ B.database base.old }
     ensures same { B.left base.new ≡ B.left base.old }
     ensures cause { HasCause (B.database base.old) (B.faults base.old) (B.faults base.new) result }
@@ -96,23 +110,37 @@ fn row_qual_is_fit<B: Base>(
     if !row_qual_fits(alloc, kinds, qual)? {
         return Ok(false);
     }
-    Ok(is_small(qual))
+    Ok(is_storable(qual))
 }
 
-/// Whether the attributes of a permit are places of attributes of its relation, and not too many.
-fn attrs_are_fit<B: Base>(
+/// Whether the attributes of a permit are places of attributes of its relation.
+fn attrs_are_places<B: Base>(
     alloc: Global,
     base: &mut B,
     rel: &RelKey,
     attrs: &[u8],
 ) -> Result<bool, BaseFault>
-    ensures told { (db : Db) → B.database base.old ≡ Some db → IfOk result (λ fit. fit ≡ (list_all (λ a. nat_lt a (length (kinds_at db rel.now))) attrs.now && nat_le (length attrs.now) 65535)) }
+    ensures told { (db : Db) → B.database base.old ≡ Some db → IfOk result (λ fit. fit ≡ list_all (λ a. nat_lt a (length (kinds_at db rel.now))) attrs.now) }
     ensures kept { B.database base.new ≡ B.database base.old }
     ensures same { B.left base.new ≡ B.left base.old }
     ensures cause { HasCause (B.database base.old) (B.faults base.old) (B.faults base.new) result }
 {
     let kinds = kinds_at(alloc, base, rel)?;
-    Ok(are_places(&kinds, attrs) && attrs.len() <= MOST_LISTED)
+    Ok(are_places(&kinds, attrs))
+}
+
+/// Whether a permit lists rights, and no more attributes than one may.
+fn lists_are_storable(permit: &Permit) -> bool
+    ensures { result ≡ permit_lists_are_storable permit.now }
+{
+    permit.attrs.items().len() <= MOST_LISTED && permit.ops <= ALL_RIGHTS
+}
+
+/// Whether the user of a permit has a name, and what the permit lists can be stored.
+fn is_said_well(permit: &Permit) -> bool
+    ensures { result ≡ (user_is_named permit.now.user && permit_lists_are_storable permit.now) }
+{
+    user_is_named(&permit.user) && lists_are_storable(permit)
 }
 
 /// Whether a number is none of these, and there may be one more.
@@ -162,7 +190,7 @@ fn rule_has_parts<B: Base>(
     rel: &RelKey,
     rule: &Rule,
 ) -> Result<bool, BaseFault>
-    ensures told { (db : Db) → B.database base.old ≡ Some db → IfOk result (λ fit. fit ≡ (is_relation db rel.now && ((row_qual_stands db rel.now rule.now.qual && row_qual_is_small rule.now.qual) && number_is_free 100 (rule_numbers db rel.now) rule.now.number))) }
+    ensures told { (db : Db) → B.database base.old ≡ Some db → IfOk result (λ fit. fit ≡ (is_relation db rel.now && ((row_qual_stands db rel.now rule.now.qual && row_qual_is_storable rule.now.qual) && number_is_free 100 (rule_numbers db rel.now) rule.now.number))) }
     ensures kept { B.database base.new ≡ B.database base.old }
     ensures same { B.left base.new ≡ B.left base.old }
     ensures cause { HasCause (B.database base.old) (B.faults base.old) (B.faults base.new) result }
@@ -192,20 +220,19 @@ pub(crate) fn rule_is_fit<B: Base>(
     rule_has_parts(alloc, base, rel, rule)
 }
 
-/// Whether a permit lists attributes of its relation, not too many of them, and its qualification
-/// stands and is small enough.
+/// Whether a permit lists attributes of its relation, and its qualification stands and can be stored.
 fn permit_covers<B: Base>(
     alloc: Global,
     base: &mut B,
     rel: &RelKey,
     permit: &Permit,
 ) -> Result<bool, BaseFault>
-    ensures told { (db : Db) → B.database base.old ≡ Some db → IfOk result (λ fit. fit ≡ ((list_all (λ a. nat_lt a (length (kinds_at db rel.now))) permit.now.attrs && nat_le (length permit.now.attrs) 65535) && (row_qual_stands db rel.now permit.now.qual && row_qual_is_small permit.now.qual))) }
+    ensures told { (db : Db) → B.database base.old ≡ Some db → IfOk result (λ fit. fit ≡ (list_all (λ a. nat_lt a (length (kinds_at db rel.now))) permit.now.attrs && (row_qual_stands db rel.now permit.now.qual && row_qual_is_storable permit.now.qual))) }
     ensures kept { B.database base.new ≡ B.database base.old }
     ensures same { B.left base.new ≡ B.left base.old }
     ensures cause { HasCause (B.database base.old) (B.faults base.old) (B.faults base.new) result }
 {
-    if !attrs_are_fit(alloc, base, rel, permit.attrs.items())? {
+    if !attrs_are_places(alloc, base, rel, permit.attrs.items())? {
         return Ok(false);
     }
     row_qual_is_fit(alloc, base, rel, &permit.qual)
@@ -218,7 +245,7 @@ fn permit_has_parts<B: Base>(
     rel: &RelKey,
     permit: &Permit,
 ) -> Result<bool, BaseFault>
-    ensures told { (db : Db) → B.database base.old ≡ Some db → IfOk result (λ fit. fit ≡ (is_relation db rel.now && (bytes_eq rel.now.owner db.dba && (user_is_named permit.now.user && (((list_all (λ a. nat_lt a (length (kinds_at db rel.now))) permit.now.attrs && nat_le (length permit.now.attrs) 65535) && (row_qual_stands db rel.now permit.now.qual && row_qual_is_small permit.now.qual)) && number_is_free 100 (permit_numbers db rel.now) permit.now.number))))) }
+    ensures told { (db : Db) → B.database base.old ≡ Some db → IfOk result (λ fit. fit ≡ (is_relation db rel.now && (bytes_eq rel.now.owner db.dba && ((user_is_named permit.now.user && permit_lists_are_storable permit.now) && ((list_all (λ a. nat_lt a (length (kinds_at db rel.now))) permit.now.attrs && (row_qual_stands db rel.now permit.now.qual && row_qual_is_storable permit.now.qual)) && number_is_free 100 (permit_numbers db rel.now) permit.now.number))))) }
     ensures kept { B.database base.new ≡ B.database base.old }
     ensures same { B.left base.new ≡ B.left base.old }
     ensures cause { HasCause (B.database base.old) (B.faults base.old) (B.faults base.new) result }
@@ -229,7 +256,7 @@ fn permit_has_parts<B: Base>(
     if !is_administrators(alloc, base, rel)? {
         return Ok(false);
     }
-    if !user_is_named(&permit.user) {
+    if !is_said_well(permit) {
         return Ok(false);
     }
     if !permit_covers(alloc, base, rel, permit)? {

@@ -6,7 +6,7 @@ ghost use Rattle.calculus.specs.Database.{Db};
 ghost use Rattle.calculus.specs.IsDatabase.{attrs_are_targets, attrs_stand, query_stands, vars_are_there, view_info_stands};
 ghost use Rattle.calculus.specs.QueryParts.{query_aggregates, targets_of, vars_of};
 ghost use Rattle.calculus.specs.Sizes.{expanded_variables, query_level, query_size, variables};
-ghost use Rattle.calculus.specs.TreeLevels.{query_levels};
+ghost use Rattle.calculus.specs.Storable.{query_is_storable};
 ghost use Rattle.change_laws.specs.Fit.{key_is_free, view_is_fit, view_is_small};
 ghost use Rattle.quel_meaning.specs.Passing.{is_too_high};
 
@@ -16,6 +16,7 @@ use crate::keys::key_is_free;
 use crate::measures::{measure_of, used_count};
 use crate::ranges::{are_ranges, have_levels};
 use crate::sizes::Measure;
+use crate::spelled::read_query;
 use am_traits::{Base, BaseFault};
 use calculus::{Attr, OutOfMemory, Query, RelInfo, Target, kinds_fit};
 use quel_causes::{same_kind, targets_fit, var_kinds};
@@ -138,10 +139,12 @@ fn measure_fits<B: Base>(alloc: Global, base: &mut B, query: &Query) -> Result<b
     Ok(is_within(&measure))
 }
 
-/// Whether the tree of a query without aggregates is no deeper than one that is stored may be.
-fn depth_fits(query: &Query) -> bool
-    ensures { query_aggregates query.now ≡ [] → result ≡ nat_le (query_levels query.now) 3000 }
+/// Whether the tree of a query without aggregates can be stored: it is no deeper than one that is
+/// stored may be, and its constants are those of their types.
+fn can_be_stored(query: &Query) -> bool
+    ensures { query_aggregates query.now ≡ [] → result ≡ query_is_storable query.now }
 {
+    read_query(query);
     query_depth(query) <= MOST_LEVELS
 }
 
@@ -159,7 +162,7 @@ fn view_is_small<B: Base>(alloc: Global, base: &mut B, query: &Query) -> Result<
         return Ok(false);
     }
     let fits = measure_fits(alloc, base, query)?;
-    Ok(fits && depth_fits(query))
+    Ok(fits && can_be_stored(query))
 }
 
 /// Whether a query stands as that of a view, and is within the limits.

@@ -7,6 +7,7 @@ use Rattle.disk_model.specs.declared.disk.DiskFailed.{DiskFailed}
 use Rattle.disk_model.specs.declared.calls.Call.{Call}
 use Rattle.disk_model.specs.declared.calls.Call.TheVariants.{Write, FailedWrite, Cut, FailedCut, Sync, FailedSync}
 use Rattle.disk_model.specs.Disk.{Image, IsImage, IsSettled, Changes, Elapses}
+use Rattle.disk_model.specs.History.{Came}
 use Rattle.disk_model.specs.Calls.{seen_after, touched_after, seen_from, touched_from, seen_of, touched_of, LeftSince, failed_call}
 use Rattle.disk_model.proofs.Addresses.{is_at_self, off_at}
 use Rattle.disk_model.specs.MemoryDisk.{State, seen_now, Notes}
@@ -175,3 +176,7 @@ synced_touched old new r h b t = elim (moved old new Sync r h) [
   | inr (inl is) ↦ touched_grown old new FailedSync is b t
   | inr (inr is) ↦ touched_stays old new is b t
 ]
+
+-- a call that was answered Ok came behind those of before
+pub noted : (old new : State) (c : Call) (r : Result Unit DiskFailed) → Notes old new c r → OnOk r (Came (Some old.calls) (Some new.calls) (c ∷ []))
+noted old new c r h = done old new c r _ h (λ is. ap Some is.calls_more)

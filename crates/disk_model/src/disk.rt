@@ -1,6 +1,7 @@
-ghost use Rattle.std.specs.Prelude.{◌≡◌, ◌<◌, ◌≤◌, ℕ, Bool, Some, None, IsTrue, IfOk, OnOk, if◌then◌else◌};
+ghost use Rattle.std.specs.Prelude.{◌≡◌, ◌<◌, ◌≤◌, ℕ, Bool, Some, None, List, Option, [], ◌∷◌, IsTrue, IfOk, OnOk, if◌then◌else◌};
 ghost use Rattle.fault_io.specs.Causes.{HasCause};
 ghost use Rattle.disk_model.specs.Disk.{Image, IsImage, IsSettled, Changes, OnlyReads, Elapses, RisesUpTo};
+ghost use Rattle.disk_model.specs.History.{Came};
 
 /// The address of a page: a file's number, and the page's number in it, each from 0.
 #[derive(Clone, Copy, Debug, PartialEq, Eq)]
@@ -25,9 +26,13 @@ pub struct DiskFailed;
 /// and at each other address what a read gave. After a sync that succeeds nothing is touched.
 ///
 /// What a disk holds may be told or not, by its type: one in memory tells it, a real one does not.
-/// The counts of faults and of reads are always told.
+/// The counts of faults and of reads are always told. The writes, cuts and syncs that it had may be
+/// told or not, also where what it holds isn't: so whoever answers by what was written has to have
+/// made the calls, on whatever disk.
 pub trait Disk {
     ghost use Rattle.disk_model.specs.declared.disk.Addr.{Addr};
+    ghost use Rattle.disk_model.specs.declared.calls.Call.{Call as Made};
+    ghost use Rattle.disk_model.specs.declared.calls.Call.TheVariants.{Write as AWrite, Cut as ACut, Sync as ASync};
 
     /// Whether disks of this type tell what they hold. The next four speak of one that does.
     ghost tells: { Bool };
@@ -50,6 +55,9 @@ pub trait Disk {
     /// How often a page was read.
     ghost reads: { Self → ℕ };
 
+    /// The writes, cuts and syncs that it had, in their order, where they are told.
+    ghost history: { Self → Option (List Made) };
+
     /// Reads the page at an address. `Ok(false)` where there is none: it was never written, or it
     /// was cut. What `out` holds then, or after an error, is not said.
     fn read(&mut self, a: Addr, out: &mut Page) -> Result<bool, DiskFailed>
@@ -57,7 +65,8 @@ pub trait Disk {
             IfOk result (λ found. seen self.old a ≡ (if found then Some out.new else None)) }
         ensures same { IsTrue tells → OnlyReads seen touched clock left_since self.old self.new }
         ensures cause { HasCause (faults self.old) (faults self.new) result }
-        ensures reads { RisesUpTo 1 (reads self.old) (reads self.new) };
+        ensures reads { RisesUpTo 1 (reads self.old) (reads self.new) }
+        ensures unwritten { history self.new ≡ history self.old };
 
     /// Writes a page. Until a sync succeeds, a crash may leave any bytes there, or no page; after an
     /// error reads may give any bytes there, too.
@@ -67,7 +76,8 @@ pub trait Disk {
         ensures time { IsTrue tells → Elapses seen touched clock left_since self.old self.new }
         ensures rises { IsTrue tells → OnOk result (clock self.old < clock self.new) }
         ensures cause { HasCause (faults self.old) (faults self.new) result }
-        ensures reads { reads self.new ≡ reads self.old };
+        ensures reads { reads self.new ≡ reads self.old }
+        ensures noted { OnOk result (Came (history self.old) (history self.new) (AWrite a page.now ∷ [])) };
 
     /// Takes all pages of a file away. Until a sync succeeds, a crash may leave anything in that
     /// file; after an error reads may give anything there, too.
@@ -79,7 +89,8 @@ pub trait Disk {
         ensures time { IsTrue tells → Elapses seen touched clock left_since self.old self.new }
         ensures rises { IsTrue tells → OnOk result (clock self.old < clock self.new) }
         ensures cause { HasCause (faults self.old) (faults self.new) result }
-        ensures reads { reads self.new ≡ reads self.old };
+        ensures reads { reads self.new ≡ reads self.old }
+        ensures noted { OnOk result (Came (history self.old) (history self.new) (ACut file ∷ [])) };
 
     /// After it, a crash leaves what a read gives. A sync that fails touches nothing more.
     fn sync(&mut self) -> Result<(), DiskFailed>
@@ -89,7 +100,8 @@ pub trait Disk {
         ensures time { IsTrue tells → Elapses seen touched clock left_since self.old self.new }
         ensures rises { IsTrue tells → OnOk result (clock self.old < clock self.new) }
         ensures cause { HasCause (faults self.old) (faults self.new) result }
-        ensures reads { reads self.new ≡ reads self.old };
+        ensures reads { reads self.new ≡ reads self.old }
+        ensures noted { OnOk result (Came (history self.old) (history self.new) (ASync ∷ [])) };
 
     /// Since this moment there is no other.
     ghost only_now: { (d : Self) (m : Image) → IsTrue tells

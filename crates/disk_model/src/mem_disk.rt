@@ -1,6 +1,7 @@
-ghost use Rattle.std.specs.Prelude.{◌≡◌, ◌<◌, ◌≤◌, [], None, true, IfOk, OnOk, IsTrue, ◌↔◌, if◌then◌else◌, Some};
+ghost use Rattle.std.specs.Prelude.{◌≡◌, ◌<◌, ◌≤◌, [], ◌∷◌, None, true, IfOk, OnOk, IsTrue, ◌↔◌, if◌then◌else◌, Some};
 ghost use Rattle.fault_io.specs.Causes.{HasCause};
 ghost use Rattle.disk_model.specs.Disk.{Image, IsImage, IsSettled, Changes, Elapses, OnlyReads, RisesUpTo};
+ghost use Rattle.disk_model.specs.History.{Came};
 
 use crate::calls::{Call, failed, fill_all, look, synced};
 use crate::disk::{Addr, Disk, DiskFailed, Page};
@@ -139,6 +140,8 @@ impl Disk for MemDisk {
 
     ghost reads = { λ d. (state d).reads };
 
+    ghost history = { λ d. Some (state d).calls };
+
     ghost only_now = { λ d m _ left. only_now_of (seen_of (state d).first) (state d).calls m left };
 
     ghost counts_now = { λ d t m _ le now. counts_now_of (seen_of (state d).first) (state d).calls t m le now };
@@ -149,6 +152,7 @@ impl Disk for MemDisk {
         ensures same { OnlyReads seen_in touched_in clock_in left_in self.old self.new }
         ensures cause { HasCause (state self.old).faults (state self.new).faults result }
         ensures reads { RisesUpTo 1 (state self.old).reads (state self.new).reads }
+        ensures unwritten { Some (state self.new).calls ≡ Some (state self.old).calls }
     {
         let due = self.is_due();
         self.made = self.made.saturating_add(1);
@@ -168,6 +172,7 @@ impl Disk for MemDisk {
         ensures rises { OnOk result (clock_in self.old < clock_in self.new) }
         ensures cause { HasCause (state self.old).faults (state self.new).faults result }
         ensures reads { (state self.new).reads ≡ (state self.old).reads }
+        ensures noted { OnOk result (Came (Some (state self.old).calls) (Some (state self.new).calls) (AWrite a page.now ∷ [])) }
     {
         self.note(Call::Write(a, *page))
     }
@@ -180,6 +185,7 @@ impl Disk for MemDisk {
         ensures rises { OnOk result (clock_in self.old < clock_in self.new) }
         ensures cause { HasCause (state self.old).faults (state self.new).faults result }
         ensures reads { (state self.new).reads ≡ (state self.old).reads }
+        ensures noted { OnOk result (Came (Some (state self.old).calls) (Some (state self.new).calls) (ACut file ∷ [])) }
     {
         self.note(Call::Cut(file))
     }
@@ -193,6 +199,7 @@ impl Disk for MemDisk {
         ensures rises { OnOk result (clock_in self.old < clock_in self.new) }
         ensures cause { HasCause (state self.old).faults (state self.new).faults result }
         ensures reads { (state self.new).reads ≡ (state self.old).reads }
+        ensures noted { OnOk result (Came (Some (state self.old).calls) (Some (state self.new).calls) (ASync ∷ [])) }
     {
         self.note(Call::Sync)
     }

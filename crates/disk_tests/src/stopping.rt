@@ -60,6 +60,8 @@ impl Disk for Stopping {
 
     ghost reads = { λ d. d.reads };
 
+    ghost history = { λ _. None };
+
     ghost only_now = { λ d m told left. absurd left };
 
     ghost counts_now = { λ d t m told le image. absurd (Prim.cc told) };

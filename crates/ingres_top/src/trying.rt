@@ -2,6 +2,7 @@
 
 ghost use Rattle.std.specs.Prelude.{◌≡◌, ◌⊎◌, ◌↔◌, [], map, string_bytes, true, IfOk, IfSome, OnOk, IsErrOf};
 ghost use Rattle.fault_io.specs.Causes.{Rose};
+ghost use Rattle.session_run.specs.Runs.{AreSame};
 ghost use Rattle.ingres_top.specs.Top.{are_try, user_of, nothing_yet, IsDone, IsPartlyDone, IsCutOff, IsKeptUp, IsBrokenOff, GaveTooMuch};
 
 use calculus::{Name, OutOfMemory};
@@ -44,6 +45,9 @@ pub(crate) fn run_try<S: Source, K: Sink>(
     ensures source_fault { IsErrOf result RunFault.Source → Rose (S.faults source.old) (S.faults source.new) }
     ensures sink_fault { IsErrOf result RunFault.Sink
         → Rose (K.faults sink.old) (K.faults sink.new) ⊎ Rose (K.stalls sink.old) (K.stalls sink.new) }
+    ensures source_same { (IsErrOf result RunFault.Source → ⊥) → S.faults source.new ≡ S.faults source.old }
+    ensures sink_same { (IsErrOf result RunFault.Sink → ⊥)
+        → AreSame (K.faults sink.old) (K.faults sink.new) (K.stalls sink.old) (K.stalls sink.new) }
     ensures too_long { IfSome (S.left source.old) (λ script. IfSome (S.left source.new) (λ rest.
         IsErrOf result RunFault.TooLong ↔ GaveTooMuch script rest)) }
 {

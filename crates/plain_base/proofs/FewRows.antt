@@ -1,5 +1,5 @@
 -- Few rows stand under a key.
-use Rattle.std.proofs.Common.{◌≡◌, refl, ap, ◌∙◌, ◌+◌, ◌*◌, ◌<◌, ◌≤◌, ◌^◌, Bool, true, false, ◌&&◌, not, nat_le, IsTrue, List, [], ◌∷◌, ◌++◌, length, map, length-append, rules, arith}
+use Rattle.std.proofs.Common.{◌≡◌, refl, ap, ◌∙◌, ◌+◌, ◌*◌, ◌<◌, ◌≤◌, ◌^◌, Bool, true, false, ◌&&◌, nat_le, IsTrue, List, [], ◌∷◌, ◌++◌, length, map, length-append, rules, arith}
 use Rattle.std.proofs.lemmas.Grind.{flat_map-append}
 use Rattle.std.proofs.lemmas.List.{length-map}
 use Rattle.std.proofs.lemmas.List.FromFn.{length-enumerate_from}
@@ -9,15 +9,13 @@ use Rattle.std.specs.declared.cmp.Ordering.TheVariants.{Less, Equal, Greater}
 use Rattle.calculus.specs.declared.query.RelKey.{RelKey}
 use Rattle.calculus.specs.declared.schema.Attr.{Attr}
 use Rattle.calculus.specs.declared.schema.RelInfo.{RelInfo}
-use Rattle.calculus.specs.declared.schema.Spec.{Spec}
-use Rattle.calculus.specs.declared.schema.Spec.TheVariants as spec
 use Rattle.calculus.specs.Catalogue.{all_entries, relation_row, attribute_row, attribute_rows}
-use Rattle.calculus.specs.Database.{Db, Relation, View, Index, entries, is_relation}
-use Rattle.calculus.specs.IsDatabase.{IsDatabase, attrs_stand, index_stands, keys_stand}
+use Rattle.calculus.specs.Database.{Db, Relation, View, Index, entries}
+use Rattle.calculus.specs.IsDatabase.{IsDatabase, attrs_stand, index_stands}
 use Rattle.calculus.specs.Limits.{most_rows}
-use Rattle.calculus.specs.Lists.{is_any}
 use Rattle.calculus.specs.Rows.{Row, put, set_of}
-use Rattle.calculus.specs.Stored.{rows_at, attrs_at}
+use Rattle.calculus.specs.Stored.{rows_at}
+use Rattle.calculus.specs.Structures.{is_index}
 use Rattle.calculus.specs.Value.{row_cmp}
 use Rattle.plain_base.specs.FoundRows.{under_key}
 
@@ -55,7 +53,7 @@ narrow_attrs : (attrs : List Attr) → IsTrue (attrs_stand attrs) → length att
 narrow_attrs attrs h = search (rules, h)
 
 narrow : (info : RelInfo) → IsTrue (attrs_stand info.attrs) → IsNarrow info
-narrow info h = go info.spec
+narrow info h = go (is_index info.spec)
   where
     rows : List Row
     rows = map (λ p. attribute_row info.key p.0 p.1) (enumerate_from 1 info.attrs)
@@ -63,33 +61,19 @@ narrow info h = go info.spec
     few : length rows ≤ 49
     few = omega (arith, length-numbered info.key info.attrs, narrow_attrs info.attrs h)
 
-    go : (s : Spec) → length {A = Row} (elim s [ spec.Heap ↦ rows | spec.Hash ↦ rows | spec.Isam ↦ rows | spec.View ↦ rows | spec.Index ↦ [] ]) ≤ 49
-    go spec.Heap = few
-    go spec.Hash = few
-    go spec.Isam = few
-    go spec.View = few
-    go spec.Index = omega arith
+    go : (b : Bool) → length {A = Row} (elim b as (λ b. List Row) [ true ↦ [] | false ↦ rows ]) ≤ 49
+    go true = omega arith
+    go false = few
 
 narrow_index : (db : Db) (x : Index) → IsTrue (index_stands db x) → IsNarrow x.info
-narrow_index db x h = go x.info.spec h
+narrow_index db x h = go (is_index x.info.spec) (both (is_index x.info.spec) _ h).0
   where
     rows : List Row
     rows = map (λ p. attribute_row x.info.key p.0 p.1) (enumerate_from 1 x.info.attrs)
 
-    go : (s : Spec)
-        → IsTrue (elim s [
-          | spec.Heap ↦ false
-          | spec.Hash ↦ false
-          | spec.Isam ↦ false
-          | spec.View ↦ false
-          | spec.Index ↦ is_relation db x.base && (not (is_any x.info.attrs) && (is_any x.info.keys && keys_stand (attrs_at db x.base) x.info.keys))
-        ])
-        → length {A = Row} (elim s [ spec.Heap ↦ rows | spec.Hash ↦ rows | spec.Isam ↦ rows | spec.View ↦ rows | spec.Index ↦ [] ]) ≤ 49
-    go spec.Heap h = cc h
-    go spec.Hash h = cc h
-    go spec.Isam h = cc h
-    go spec.View h = cc h
-    go spec.Index h = omega arith
+    go : (b : Bool) → IsTrue b → length {A = Row} (elim b as (λ b. List Row) [ true ↦ [] | false ↦ rows ]) ≤ 49
+    go true h = omega arith
+    go false h = cc h
 
 -- entries of one kind have few rows together
 few_of : {X : Type 0} (about : X → RelInfo) (p : X → Bool) → ((x : X) → IsTrue (p x) → IsNarrow (about x)) → (xs : List X) → IsTrue (list_all p xs)

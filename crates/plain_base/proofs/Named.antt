@@ -5,7 +5,10 @@ use Rattle.std.proofs.lemmas.Fmt.{decimal_by_steps, length-decimal-le}
 use Rattle.std.proofs.lemmas.List.Folds.{list_all-append}
 use Rattle.std.specs.List.{list_all}
 use Rattle.calculus.specs.Chars.{is_printable}
+use Rattle.calculus.specs.declared.schema.Spec.{Spec}
+use Rattle.calculus.specs.declared.schema.Spec.TheVariants.{Heap, Hash, Isam, View, Index}
 use Rattle.calculus.specs.Name.{is_name, is_name_byte, starts_name}
+use Rattle.calculus.specs.Structures.{spec_text}
 use Rattle.calculus.specs.Text.{is_blank, before_trimmed, trimmed, text_of}
 
 both : (b c : Bool) → IsTrue (b && c) → IsTrue b × IsTrue c
@@ -67,3 +70,18 @@ width_solid n h = digits_solid n (search rules)
 
 pub width_short : (n : ℕ) → n < 2 ^ 8 → length (codes "c" ++ decimal n) ≤ 255
 width_short n h = let few : length (decimal n) ≤ 3 = length-decimal-le 3 n (search rules) (search rules) (search rules) in search (rules, few)
+
+-- so are the words for what an entry is
+pub spec_solid : (spec : Spec) → IsTrue (list_all is_name_byte (spec_text spec))
+spec_solid Heap = refl
+spec_solid Hash = refl
+spec_solid Isam = refl
+spec_solid View = refl
+spec_solid Index = refl
+
+pub spec_short : (spec : Spec) → length (spec_text spec) ≤ 255
+spec_short Heap = search rules
+spec_short Hash = search rules
+spec_short Isam = search rules
+spec_short View = search rules
+spec_short Index = search rules

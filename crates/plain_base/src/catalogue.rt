@@ -5,6 +5,7 @@ ghost use Rattle.calculus.specs.Catalogue.{attribute, relation_attrs, attribute_
 ghost use Rattle.calculus.specs.Keys.{key_of, same_key};
 ghost use Rattle.calculus.specs.Name.{is_name};
 
+use crate::pairs::both;
 use calculus::{Attr, Domain, Kind, List, Name, OutOfMemory, RelKey};
 use std::alloc::Global;
 
@@ -33,8 +34,7 @@ pub(crate) fn key_of(alloc: Global, owner: &Name, name: &[u8]) -> Result<RelKey,
     requires { IsTrue (is_name name.now) }
     ensures { IfOk result (λ key. key ≡ key_of owner.now name.now) }
 {
-    let owner = owner.copy(alloc)?;
-    let name = name_of(alloc, name)?;
+    let (owner, name) = both(owner.copy(alloc), name_of(alloc, name))?;
     Ok(RelKey { owner, name })
 }
 

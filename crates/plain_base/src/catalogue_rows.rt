@@ -1,9 +1,8 @@
 //! The rows of the two catalogues for what stands in a database.
 
-ghost use Rattle.std.specs.Prelude.{◌≡◌, ◌≤◌, IsTrue, IfOk, OnOk, ◌<◌, ◌^◌, length, map, flat_map, codes, decimal, ◌++◌};
+ghost use Rattle.std.specs.Prelude.{◌≡◌, ◌≤◌, IsTrue, IfOk, OnOk, ◌<◌, ◌^◌, [], ◌∷◌, length, map, flat_map, codes, decimal, ◌++◌};
 ghost use Rattle.std.specs.List.{list_all, enumerate_from};
-ghost use Rattle.calculus.specs.Catalogue.{relation_row, attribute_row, attribute_rows, format_text};
-ghost use Rattle.calculus.specs.Catalogue.{column_count};
+ghost use Rattle.calculus.specs.Catalogue.{relation_row, attribute_row, attribute_rows, column_count, format_text};
 ghost use Rattle.calculus.specs.Structures.{spec_text};
 ghost use Rattle.calculus.specs.Name.{is_name_byte};
 
@@ -37,9 +36,7 @@ fn name_text(alloc: Global, name: &Name) -> Result<Value, OutOfMemory>
 
 /// What an entry is, in a word.
 fn spec_word(spec: Spec) -> &'static [u8]
-    ensures word { result.now ≡ spec_text spec }
-    ensures solid { IsTrue (list_all is_name_byte result.now) }
-    ensures short { length result.now ≤ 255 }
+    ensures { result.now ≡ spec_text spec }
 {
     match spec {
         Spec::Heap => b"heap",
@@ -50,6 +47,7 @@ fn spec_word(spec: Spec) -> &'static [u8]
     }
 }
 
+#[tactic(auto, using(crate::proofs::Named::spec_solid, crate::proofs::Named::spec_short))]
 fn spec_value(alloc: Global, spec: Spec) -> Result<Value, OutOfMemory>
     ensures { IfOk result (λ value. value ≡ Value.Text (spec_text spec)) }
 {
@@ -78,7 +76,7 @@ fn format_value(alloc: Global, kind: Kind) -> Result<Value, OutOfMemory>
 }
 
 fn column_count(info: &RelInfo) -> usize
-    ensures width { result ≡ column_count info.now }
+    ensures count { result ≡ column_count info.now }
     ensures small { result < 2 ^ 63 }
 {
     match info.spec {
@@ -121,6 +119,13 @@ fn attribute_row(
     Ok(Row::of(values))
 }
 
+/// Puts a row behind others.
+fn push_row(rows: &mut Vec<Row>, row: Row) -> Result<(), OutOfMemory>
+    ensures { OnOk result (rows.new.items ≡ rows.old.items ++ row ∷ []) }
+{
+    Ok(rows.push(row)?)
+}
+
 /// Puts the rows of `relation` for these entries behind others.
 pub(crate) fn push_relation_rows<T: Known>(
     alloc: Global,
@@ -131,7 +136,7 @@ pub(crate) fn push_relation_rows<T: Known>(
 {
     for item in items {
         let row = relation_row(alloc, item.info())?;
-        rows.push(row)?;
+        push_row(rows, row)?;
     }
     Ok(())
 }
@@ -147,7 +152,7 @@ fn push_attributes(
 {
     for (i, attr) in attrs.iter().enumerate() {
         let row = attribute_row(alloc, key, i + 1, attr)?;
-        rows.push(row)?;
+        push_row(rows, row)?;
     }
     Ok(())
 }

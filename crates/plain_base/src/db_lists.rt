@@ -14,7 +14,7 @@ use std::alloc::Global;
 use std::marker::Model;
 
 /// A database as lists in order. Contracts see the database itself.
-#[derive(Debug, Drop)]
+#[derive(Drop)]
 pub(crate) struct DbLists {
     dba: Name,
     relations: Vec<Stored>,

@@ -17,7 +17,7 @@ use calculus::RowSet;
 /// A database in memory, as a base. It shows the database that it is.
 ///
 /// The rows of a catalogue are made when they are first asked for, and kept until a change.
-#[derive(Debug, Drop)]
+#[derive(Drop)]
 pub struct DbPlain {
     lists: DbLists,
     kept_relation: Option<RowSet>,

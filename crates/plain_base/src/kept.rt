@@ -17,7 +17,7 @@ pub(crate) trait Known {
 }
 
 /// A base relation with the set of its rows, ascending.
-#[derive(Debug, Drop)]
+#[derive(Drop)]
 pub(crate) struct Stored {
     pub(crate) info: RelInfo,
     pub(crate) rows: Vec<Row>,
@@ -35,7 +35,7 @@ impl Model for Stored {
 }
 
 /// A secondary index, and the relation below it.
-#[derive(Debug, Drop)]
+#[derive(Drop)]
 pub(crate) struct Indexed {
     pub(crate) info: RelInfo,
     pub(crate) base: RelKey,
@@ -50,7 +50,7 @@ impl Model for Indexed {
 }
 
 /// A view, and the query whose rows it has.
-#[derive(Debug, Drop)]
+#[derive(Drop)]
 pub(crate) struct Viewed {
     pub(crate) info: RelInfo,
     pub(crate) query: Query,

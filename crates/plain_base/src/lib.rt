@@ -3,6 +3,7 @@
 
 mod catalogue;
 mod catalogue_rows;
+mod copying;
 mod db_lists;
 mod db_plain;
 mod kept;

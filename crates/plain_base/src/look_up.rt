@@ -1,11 +1,12 @@
 //! What stands under a key in lists.
 
-ghost use Rattle.std.specs.Prelude.{◌≡◌, not, ◌&&◌, find, filter, map, option_map, IfOk};
+ghost use Rattle.std.specs.Prelude.{◌≡◌, ◌++◌, not, ◌&&◌, find, filter, map, option_map, IfOk, OnOk};
 ghost use Rattle.std.specs.List.{list_any};
 ghost use Rattle.std.specs.List.Sorted.{IsStrictlySortedBy};
 ghost use Rattle.calculus.specs.Keys.{same_key, has_key, key_cmp};
 ghost use Rattle.calculus.specs.QueryParts.{vars_of};
 
+use crate::copying::push_copy;
 use crate::kept::{Known, Viewed};
 use crate::ordered::key_order;
 use calculus::{OutOfMemory, RelInfo, RelKey, TryCopy};
@@ -47,6 +48,23 @@ pub(crate) fn about<'a, T: Known>(items: &'a [T], key: &RelKey) -> Option<&'a Re
     }
 }
 
+/// Puts copies of the rules or permits of a relation behind others.
+fn push_on<T: TryCopy + Drop>(
+    alloc: Global,
+    copies: &mut Vec<T>,
+    items: &[(RelKey, T)],
+    key: &RelKey,
+) -> Result<(), OutOfMemory>
+    ensures { OnOk result (copies.new.items ≡ copies.old.items ++ map (λ p. p.1) (filter (λ p. same_key p.0 key.now) items.now)) }
+{
+    for item in items {
+        if is_same(&item.0, key) {
+            push_copy(alloc, copies, &item.1)?;
+        }
+    }
+    Ok(())
+}
+
 /// Copies of the rules or permits of a relation.
 pub(crate) fn on<T: TryCopy + Drop>(
     alloc: Global,
@@ -56,11 +74,7 @@ pub(crate) fn on<T: TryCopy + Drop>(
     ensures { IfOk result (λ copies. copies.items ≡ map (λ p. p.1) (filter (λ p. same_key p.0 key.now) items.now)) }
 {
     let mut copies = Vec::new(alloc);
-    for item in items {
-        if is_same(&item.0, key) {
-            copies.push(item.1.copy(alloc)?)?;
-        }
-    }
+    push_on(alloc, &mut copies, items, key)?;
     Ok(copies)
 }
 

@@ -5,7 +5,8 @@ ghost use Rattle.std.specs.List.{remove};
 ghost use Rattle.calculus.specs.Replacement.{with_rows, without_rows};
 ghost use Rattle.calculus.specs.Rows.{Ascends, has, put, IsPlaceOf};
 
-use calculus::{OutOfMemory, Row, RowSet, TryCopy};
+use crate::copying::copies;
+use calculus::{OutOfMemory, Row, RowSet};
 use std::alloc::Global;
 
 /// Where the row is among ascending rows, or else where it belongs. A binary search.
@@ -25,17 +26,6 @@ pub(crate) fn is_there(rows: &[Row], row: &Row) -> bool
     ensures { result ≡ has rows.now row.now }
 {
     place_of(rows, row).is_ok()
-}
-
-/// Copies of rows.
-pub(crate) fn copies_of(alloc: Global, rows: &[Row]) -> Result<Vec<Row>, OutOfMemory>
-    ensures { IfOk result (λ copies. copies.items ≡ rows.now) }
-{
-    let mut copies = Vec::new(alloc);
-    for row in rows {
-        copies.push(row.copy(alloc)?)?;
-    }
-    Ok(copies)
 }
 
 /// Takes a row from ascending rows. A binary search.
@@ -130,7 +120,7 @@ pub(crate) fn change(
     ensures ok { OnOk result (rows.new.items ≡ with_rows new.now (without_rows gone.now rows.old.items)) }
     ensures err { OnErr result (rows.new.items ≡ rows.old.items) }
 {
-    let new = copies_of(alloc, new)?;
+    let new = copies(alloc, new)?;
     rows.reserve(new.len())?;
     take(alloc, rows, gone)?;
     put(rows, new);
@@ -149,7 +139,7 @@ fn take(alloc: Global, rows: &mut Vec<Row>, gone: &[Row]) -> Result<(), OutOfMem
         take_few(rows, gone);
         return Ok(());
     }
-    let gone = RowSet::of_rows(copies_of(alloc, gone)?);
+    let gone = RowSet::of_rows(copies(alloc, gone)?);
     take_set(rows, &gone);
     Ok(())
 }

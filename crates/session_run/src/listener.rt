@@ -1,6 +1,6 @@
 //! A script that is heard in pieces, each line handled as its newline comes.
 
-ghost use Rattle.std.specs.Prelude.{◌≡◌, ◌≤◌, ◌∷◌, [], true, false, ◌==◌, OnOk, OnErr};
+ghost use Rattle.std.specs.Prelude.{◌≡◌, ◌≤◌, ◌∷◌, [], true, false, ◌==◌, OnOk, OnErr, IsErrOf};
 ghost use Rattle.std.specs.Io.KnownBytes.{Appends};
 ghost use Rattle.std.specs.List.{list_all};
 ghost use Rattle.quel_meaning.specs.Lines.{is_no_newline};
@@ -10,6 +10,7 @@ ghost use Rattle.quel_meaning.specs.Session.{printed};
 ghost use Rattle.quel_meaning.specs.Happening.{start};
 ghost use Rattle.session_run.specs.Doing.{Did, setting};
 ghost use Rattle.session_run.specs.Hearing.{later, Hears, HearsPartly, IsSinkOrMemory};
+ghost use Rattle.session_run.specs.Runs.{AreSame};
 
 use crate::front::LineFront;
 use crate::running::RunFault;
@@ -83,6 +84,7 @@ fn print_line<S: Statements, K: Sink>(
     ensures faults { K.faults sink.old ≤ K.faults sink.new }
     ensures stalls { K.stalls sink.old ≤ K.stalls sink.new }
     ensures cause { OnErr result (IsSinkOrMemory result (K.faults sink.old) (K.faults sink.new) (K.stalls sink.old) (K.stalls sink.new)) }
+    ensures sink_same { (IsErrOf result RunFault.Sink → ⊥) → AreSame (K.faults sink.old) (K.faults sink.new) (K.stalls sink.old) (K.stalls sink.new) }
 {
     let mut out = Vec::new(alloc);
     session.line(alloc, line, &mut out)?;
@@ -103,6 +105,7 @@ fn hear_newline<S: Statements, K: Sink>(
     ensures faults { K.faults sink.old ≤ K.faults sink.new }
     ensures stalls { K.stalls sink.old ≤ K.stalls sink.new }
     ensures cause { OnErr result (IsSinkOrMemory result (K.faults sink.old) (K.faults sink.new) (K.stalls sink.old) (K.stalls sink.new)) }
+    ensures sink_same { (IsErrOf result RunFault.Sink → ⊥) → AreSame (K.faults sink.old) (K.faults sink.new) (K.stalls sink.old) (K.stalls sink.new) }
 {
     let front = replace(&mut listener.front, LineFront::new(alloc));
     let line = front.ended()?;
@@ -123,6 +126,7 @@ fn hear_byte<S: Statements, K: Sink>(
     ensures faults { K.faults sink.old ≤ K.faults sink.new }
     ensures stalls { K.stalls sink.old ≤ K.stalls sink.new }
     ensures cause { OnErr result (IsSinkOrMemory result (K.faults sink.old) (K.faults sink.new) (K.stalls sink.old) (K.stalls sink.new)) }
+    ensures sink_same { (IsErrOf result RunFault.Sink → ⊥) → AreSame (K.faults sink.old) (K.faults sink.new) (K.stalls sink.old) (K.stalls sink.new) }
 {
     if byte == b'\n' {
         return hear_newline(alloc, listener, sink);
@@ -146,6 +150,7 @@ pub fn hear<S: Statements, K: Sink>(
     ensures faults { K.faults sink.old ≤ K.faults sink.new }
     ensures stalls { K.stalls sink.old ≤ K.stalls sink.new }
     ensures cause { OnErr result (IsSinkOrMemory result (K.faults sink.old) (K.faults sink.new) (K.stalls sink.old) (K.stalls sink.new)) }
+    ensures sink_same { (IsErrOf result RunFault.Sink → ⊥) → AreSame (K.faults sink.old) (K.faults sink.new) (K.stalls sink.old) (K.stalls sink.new) }
 {
     for byte in piece {
         if listener.has_quit() {
@@ -169,6 +174,7 @@ pub fn close<S: Statements, K: Sink>(
     ensures faults { K.faults sink.old ≤ K.faults sink.new }
     ensures stalls { K.stalls sink.old ≤ K.stalls sink.new }
     ensures cause { OnErr result (IsSinkOrMemory result (K.faults sink.old) (K.faults sink.new) (K.stalls sink.old) (K.stalls sink.new)) }
+    ensures sink_same { (IsErrOf result RunFault.Sink → ⊥) → AreSame (K.faults sink.old) (K.faults sink.new) (K.stalls sink.old) (K.stalls sink.new) }
 {
     if listener.front.bytes().is_empty() {
         return Ok(());

@@ -2,7 +2,7 @@
 
 ghost use Rattle.std.specs.Prelude.{◌≡◌, ◌⊎◌, ◌↔◌, OnOk, IsErrOf, IfSome};
 ghost use Rattle.fault_io.specs.Causes.{Rose};
-ghost use Rattle.session_run.specs.Runs.{IsDone, IsPartlyDone, IsCutOff, IsKeptUp, IsBrokenOff, GaveTooMuch};
+ghost use Rattle.session_run.specs.Runs.{AreSame, IsDone, IsPartlyDone, IsCutOff, IsKeptUp, IsBrokenOff, GaveTooMuch};
 ghost use Rattle.session_run.specs.declared.running.RunFault.TheVariants.{OutOfMemory as no_memory, Source as source_fault, Sink as sink_fault};
 
 use crate::Statements;
@@ -75,6 +75,8 @@ pub fn run<S: Statements + Drop, R: Source, K: Sink>(
     ensures source_fault { IsErrOf result RunFault.Source → Rose (R.faults source.old) (R.faults source.new) }
     ensures sink_fault { IsErrOf result RunFault.Sink
         → Rose (K.faults sink.old) (K.faults sink.new) ⊎ Rose (K.stalls sink.old) (K.stalls sink.new) }
+    ensures source_same { (IsErrOf result RunFault.Source → ⊥) → R.faults source.new ≡ R.faults source.old }
+    ensures sink_same { (IsErrOf result RunFault.Sink → ⊥) → AreSame (K.faults sink.old) (K.faults sink.new) (K.stalls sink.old) (K.stalls sink.new) }
     ensures too_long { IfSome (R.left source.old) (λ script. IfSome (R.left source.new) (λ rest.
         IsErrOf result RunFault.TooLong ↔ GaveTooMuch script rest)) }
 {

@@ -6,12 +6,12 @@ ghost use Rattle.calculus.specs.Rows.{set_of};
 ghost use Rattle.calculus.specs.IsDatabase.{IsDatabase};
 
 use super::DbLists;
+use crate::copying::copies;
 use crate::kept::{Indexed, Stored, Viewed};
 use crate::leaving::{leave, leave_base, leave_keys, leave_numbers, leave_with_base};
 use crate::one_relation::{change_rows, restructure};
 use crate::ordered::put_in_order;
 use crate::pairs::both;
-use crate::rows::copies_of;
 use calculus::{
     DbChange, List, Name, OutOfMemory, Permit, Query, RelInfo, RelKey, Row, RowSet, Rule, Spec,
     TryCopy,
@@ -22,7 +22,7 @@ use std::alloc::Global;
 fn stored_of(alloc: Global, info: &RelInfo, rows: &[Row]) -> Result<Stored, OutOfMemory>
     ensures { IfOk result (λ stored. stored ≡ record { info = info.now; rows = set_of rows.now }) }
 {
-    let (info, rows) = both(info.copy(alloc), copies_of(alloc, rows))?;
+    let (info, rows) = both(info.copy(alloc), copies(alloc, rows))?;
     let rows = RowSet::of_rows(rows).into_rows();
     Ok(Stored { info, rows })
 }
@@ -60,16 +60,14 @@ fn view_of(alloc: Global, info: &RelInfo, query: &Query) -> Result<Viewed, OutOf
 fn permit_of(alloc: Global, rel: &RelKey, permit: &Permit) -> Result<(RelKey, Permit), OutOfMemory>
     ensures { IfOk result (λ p. p ≡ (rel.now, permit.now)) }
 {
-    let (rel, permit) = both(rel.copy(alloc), permit.copy(alloc))?;
-    Ok((rel, permit))
+    both(rel.copy(alloc), permit.copy(alloc))
 }
 
 /// The rule beside its relation.
 fn rule_of(alloc: Global, rel: &RelKey, rule: &Rule) -> Result<(RelKey, Rule), OutOfMemory>
     ensures { IfOk result (λ p. p ≡ (rel.now, rule.now)) }
 {
-    let (rel, rule) = both(rel.copy(alloc), rule.copy(alloc))?;
-    Ok((rel, rule))
+    both(rel.copy(alloc), rule.copy(alloc))
 }
 
 impl DbLists {

@@ -1,6 +1,6 @@
 //! What is known of relations, views, indexes and catalogues without their rows.
 
-ghost use Rattle.std.specs.Prelude.{◌≡◌, option_map, IfOk};
+ghost use Rattle.std.specs.Prelude.{◌≡◌, [], option_map, IfOk};
 ghost use Rattle.calculus.specs.Catalogue.{catalogue_at, relation_info, attribute_info, relation_key, attribute_key};
 ghost use Rattle.calculus.specs.Database.{relation_at, view_at};
 ghost use Rattle.calculus.specs.Finding.{found};
@@ -13,8 +13,20 @@ use crate::catalogue::{attribute_attrs, is_named, key_of, relation_attrs};
 use crate::kept::{Stored, Viewed};
 use crate::look_up::under;
 use crate::pairs::both;
-use calculus::{List, Name, OutOfMemory, RelInfo, RelKey, Spec, TryCopy};
+use calculus::{Attr, List, Name, OutOfMemory, RelInfo, RelKey, Spec, TryCopy};
 use std::alloc::Global;
+
+/// What is known of a heap with these attributes.
+fn heap_of(alloc: Global, key: RelKey, attrs: List<Attr>) -> RelInfo
+    ensures { result ≡ record { key = key; spec = Spec.Heap; attrs = attrs; keys = [] } }
+{
+    RelInfo {
+        key,
+        spec: Spec::Heap,
+        attrs,
+        keys: List::of(Vec::new(alloc)),
+    }
+}
 
 impl DbLists {
     /// The base relation under a key.
@@ -50,14 +62,9 @@ impl DbLists {
     pub(super) fn relation_info(&self, alloc: Global) -> Result<RelInfo, OutOfMemory>
         ensures { IfOk result (λ info. info ≡ relation_info self.now) }
     {
-        let key = key_of(alloc, &self.dba, b"relation")?;
-        let attrs = relation_attrs(alloc)?;
-        Ok(RelInfo {
-            key,
-            spec: Spec::Heap,
-            attrs,
-            keys: List::of(Vec::new(alloc)),
-        })
+        let key = key_of(alloc, &self.dba, b"relation");
+        let (key, attrs) = both(key, relation_attrs(alloc))?;
+        Ok(heap_of(alloc, key, attrs))
     }
 
     /// What is known of the catalogue `attribute`.
@@ -65,14 +72,9 @@ impl DbLists {
     pub(super) fn attribute_info(&self, alloc: Global) -> Result<RelInfo, OutOfMemory>
         ensures { IfOk result (λ info. info ≡ attribute_info self.now) }
     {
-        let key = key_of(alloc, &self.dba, b"attribute")?;
-        let attrs = attribute_attrs(alloc)?;
-        Ok(RelInfo {
-            key,
-            spec: Spec::Heap,
-            attrs,
-            keys: List::of(Vec::new(alloc)),
-        })
+        let key = key_of(alloc, &self.dba, b"attribute");
+        let (key, attrs) = both(key, attribute_attrs(alloc))?;
+        Ok(heap_of(alloc, key, attrs))
     }
 
     /// What is known of the catalogue under a key.

@@ -1,4 +1,4 @@
-use Rattle.std.proofs.Common.{IsTrue, ◌≤◌, ◌≡◌, None}
+use Rattle.std.proofs.Common.{IsTrue, ◌≡◌, None}
 use Rattle.disk_model.specs.Disk.{OnlyReads}
 use Rattle.batch_file.specs.Layout.{has_image}
 use Rattle.batch_file.specs.Redone.{first_failing}
@@ -8,5 +8,6 @@ abbrev pub invariant-loop-k : goal.invariant-loop-k
 invariant-loop-k g l = record {
   same : IsTrue g.D.Disk.tells → OnlyReads g.D.Disk.seen g.D.Disk.touched g.D.Disk.clock g.D.Disk.left_since l.fn.disk l.disk;
   there : IsTrue g.D.Disk.tells → first_failing (has_image (g.D.Disk.seen l.fn.disk)) l.k ≡ None;
-  faults : g.D.Disk.faults l.fn.disk ≤ g.D.Disk.faults l.disk;
+  unwritten : g.D.Disk.history l.disk ≡ g.D.Disk.history l.fn.disk;
+  faults : g.D.Disk.faults l.disk ≡ g.D.Disk.faults l.fn.disk;
 }

@@ -1,17 +1,22 @@
 use Rattle.batch_file.specs.Layout.{entries}
+use Rattle.batch_file.specs.Order.{Heads}
+use Rattle.batch_file.proofs.Calling.{lays}
 use Rattle.batch_file.proofs.Finishing.{lay_run, lay_done}
 use Rattle.batch_file.proofs.laying.lay.Goals as goal
 
-pub returns-in-Err-Disk-clause-crash : goal.returns-in-Err-Disk-clause-crash
-returns-in-Err-Disk-clause-crash g c = λ told.
+pub returns-in_err-redo-clause-crash : goal.returns-in_err-redo-clause-crash
+returns-in_err-redo-clause-crash g c = λ told.
     lay_run g.D.Disk.seen g.D.Disk.touched g.D.Disk.clock g.D.Disk.left_since c.args.disk.now c.open_gate.new.disk c.redo.new.disk (entries (g.D.Disk.seen c.args.disk.now) c.args.count)
     (c.open_gate.ensures.crash told) (c.in_ok-open_gate.ensures.same told) (c.redo.ensures.crash told)
 
-pub returns-in-Ok-clause-crash : goal.returns-in-Ok-clause-crash
-returns-in-Ok-clause-crash g c = λ told.
+pub returns-clause-crash : goal.returns-clause-crash
+returns-clause-crash g c = λ told.
     lay_run g.D.Disk.seen g.D.Disk.touched g.D.Disk.clock g.D.Disk.left_since c.args.disk.now c.open_gate.new.disk c.redo.new.disk (entries (g.D.Disk.seen c.args.disk.now) c.args.count)
     (c.open_gate.ensures.crash told) (c.in_ok-open_gate.ensures.same told) (c.redo.ensures.crash told)
 
-pub returns-in-Ok-clause-laid : goal.returns-in-Ok-clause-laid
-returns-in-Ok-clause-laid g c = λ told.
-    lay_done g.D.Disk.seen g.D.Disk.touched g.D.Disk.clock g.D.Disk.left_since c.args.disk.now c.open_gate.new.disk c.redo.new.disk c.args.count (c.requires.shut told) (c.requires.whole told) (c.in_ok-open_gate.ensures.same told) (c.in-Ok.ensures.done told)
+pub returns-clause-laid : goal.returns-clause-laid
+returns-clause-laid g c = λ told.
+    lay_done g.D.Disk.seen g.D.Disk.touched g.D.Disk.clock g.D.Disk.left_since c.args.disk.now c.open_gate.new.disk c.redo.new.disk c.args.count (c.requires.shut told) (c.requires.whole told) (c.in_ok-open_gate.ensures.same told) (c.in_ok-redo.ensures.done told)
+
+pub returns-clause-made : goal.returns-clause-made
+returns-clause-made g c = lays _ _ _ (Heads c.args.count) c.args.count c.in_ok-open_gate.ensures.made c.in_ok-redo.ensures.made

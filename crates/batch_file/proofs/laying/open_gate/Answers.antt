@@ -1,3 +1,4 @@
+use Rattle.batch_file.proofs.Calling.{opens}
 use Rattle.std.proofs.Common.{refl}
 use Rattle.batch_file.proofs.Opening.{run_headed, run_synced, run_gated, run_opened, opened, opened_redone}
 use Rattle.batch_file.proofs.laying.open_gate.Goals as goal
@@ -46,3 +47,7 @@ returns-clause-same g c = λ told.
     (c.in_ok-sync.ensures.durable told) (c.in_ok-write.ensures.written told) c.write-2.new.self (c.write-2.ensures.change told) (c.write-2.ensures.time told)
     c.sync-2.new.self (c.sync-2.ensures.seen told) (c.sync-2.ensures.touched told) (c.sync-2.ensures.time told)
     (c.in_ok-sync-2.ensures.durable told) _ refl (c.in_ok-write-2.ensures.written told)
+
+pub returns-clause-made : goal.returns-clause-made
+returns-clause-made g c =
+    opens _ _ _ _ _ _ _ c.args.count c.in_ok-write.ensures.noted c.in_ok-sync.ensures.noted c.in_ok-write-2.ensures.noted c.in_ok-sync-2.ensures.noted c.head_page-head.ensures.head c.head_page-head.ensures.count refl

@@ -1,6 +1,7 @@
-use Rattle.std.proofs.Common.{rules, ◌≡◌, ◌+◌, inl, arith, refl}
+use Rattle.std.proofs.Common.{rules, ◌≡◌, ◌+◌, ◌∙◌, inl, arith, refl}
 use Rattle.batch_file.specs.declared.fault.RestoreFault.TheVariants.{Disk}
 use Rattle.batch_file.specs.Layout.{addr}
+use Rattle.batch_file.proofs.Calling.{places_none, places_more}
 use Rattle.batch_file.proofs.Placing.{placing_reads, buffered_now, buffered_then, lawful_now, has_now, step_run, step_done, address_fault, page_fault}
 use Rattle.batch_file.proofs.redo.place_all.Goals as goal
 
@@ -33,5 +34,6 @@ loop-k-preserved g c = record {
       c.next_address.new.disk c.page.new.disk c.write.new.self _ (c.next_address.ensures.same told) (c.page.ensures.same told) (c.in_ok-a.ensures.address told).1 (c.write.ensures.change told) (c.write.ensures.time told)
       _ (c.in_ok-page.ensures.page told) (c.in_ok-write.ensures.written told);
   buffered = λ told. buffered_then g.D.Disk.seen g.D.Disk.touched g.D.Disk.clock g.D.Disk.left_since c.args.count c.loop-k.k c.args.disk.now c.loop-k.disk (c.requires told) (c.loop-k.invariant.told told) (c.loop-k.k + 1) c.next_address.new.buffer (c.in_ok-a.ensures.buffered told);
-  faults = omega (arith, c.loop-k.invariant.faults, c.next_address.ensures.cause.later, c.page.ensures.cause.later, c.write.ensures.cause.later);
+  made = places_more _ _ _ _ _ c.loop-k.k _ _ c.loop-k.invariant.made c.next_address.ensures.unwritten c.page.ensures.unwritten c.in_ok-write.ensures.noted c.in_ok-a.ensures.place;
+  faults = c.in_ok-write.ensures.cause.answered ∙ c.in_ok-page.ensures.cause.answered (λ e. absurd (cc e)) ∙ c.in_ok-a.ensures.cause.answered (λ e. absurd (cc e)) ∙ c.loop-k.invariant.faults;
 }

@@ -1,5 +1,6 @@
 use Rattle.std.proofs.Common.{◌≢◌, ◌∙◌, subst}
 use Rattle.batch_file.specs.Layout.{gate}
+use Rattle.batch_file.proofs.Calling.{restores_none, restores_all}
 use Rattle.batch_file.proofs.Reopening.{synced_run, read_run, read_twice, redo_run, nothing_done}
 use Rattle.batch_file.proofs.restoring.restore.Goals as goal
 
@@ -32,3 +33,9 @@ returns-then-not-branch-clause-done g c = λ told.
     let opened = c.in_ok-is_open.ensures.opened told in
     let shut : gate (g.D.Disk.seen c.sync.new.self) ≢ 1 = λ e. let yes = opened.1 e in cc (yes, c.if-not-branch.true) in
     nothing_done (g.D.Disk.seen c.args.disk.now) (g.D.Disk.seen c.is_open.new.disk) (subst (λ m. gate m ≢ 1) (c.sync.ensures.seen told) shut) ((c.is_open.ensures.same told).seen_same ∙ c.sync.ensures.seen told)
+
+pub returns-then-not-branch-clause-made : goal.returns-then-not-branch-clause-made
+returns-then-not-branch-clause-made g c = restores_none _ _ _ c.in_ok-sync.ensures.noted c.is_open.ensures.unwritten
+
+pub returns-clause-made : goal.returns-clause-made
+returns-clause-made g c = restores_all _ _ _ _ _ _ c.in_ok-sync.ensures.noted c.is_open.ensures.unwritten c.check.ensures.unwritten c.in_ok-redo.ensures.made

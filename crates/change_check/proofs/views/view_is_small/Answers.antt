@@ -2,7 +2,7 @@ use Rattle.std.proofs.Common.{◌≡◌, refl, sym, ◌∙◌, ◌≤◌, arith,
 use Rattle.std.proofs.lemmas.Bool.{leb-true}
 use Rattle.calculus.specs.QueryParts.{vars_of}
 use Rattle.calculus.specs.Sizes.{variables}
-use Rattle.calculus.specs.TreeLevels.{query_levels}
+use Rattle.calculus.specs.Storable.{query_is_storable}
 use Rattle.change_check.proofs.ViewParts.{lists_many, uses_many, then_small}
 use Rattle.change_check.proofs.views.view_is_small.Goals as goal
 
@@ -25,7 +25,7 @@ returns-then-fits-clause-told g c = λ db h none.
     let listed : length (vars_of c.args.query.now) ≤ 50 = leb-true _ _ few in
     let used = c.uses_few.ensures (omega (arith, listed)) none in
     let little : nat_le (variables c.args.query.now) 10 ≡ true = cc (used, c.if-not-uses_few.false) in
-    then_small db c.args.query.now true c.depth_fits.result few little (sym c.if-fits.true ∙ c.in_ok-fits.ensures.told db h (omega (arith, listed)) none) (c.depth_fits.ensures none)
+    then_small db c.args.query.now true c.can_be_stored.result few little (sym c.if-fits.true ∙ c.in_ok-fits.ensures.told db h (omega (arith, listed)) none) (c.can_be_stored.ensures none)
 
 pub returns-else-fits-clause-told : goal.returns-else-fits-clause-told
 returns-else-fits-clause-told g c = λ db h none.
@@ -34,4 +34,4 @@ returns-else-fits-clause-told g c = λ db h none.
     let used = c.uses_few.ensures (omega (arith, listed)) none in
     let little : nat_le (variables c.args.query.now) 10 ≡ true = cc (used, c.if-not-uses_few.false) in
     c.if-fits.false
-    ∙ then_small db c.args.query.now false (nat_le (query_levels c.args.query.now) 3000) few little (sym c.if-fits.false ∙ c.in_ok-fits.ensures.told db h (omega (arith, listed)) none) refl
+    ∙ then_small db c.args.query.now false (query_is_storable c.args.query.now) few little (sym c.if-fits.false ∙ c.in_ok-fits.ensures.told db h (omega (arith, listed)) none) refl

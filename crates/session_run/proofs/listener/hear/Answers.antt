@@ -1,4 +1,4 @@
-use Rattle.std.proofs.Common.{◌∙◌, ℕ, ◌+◌, List, [], ◌∷◌, take, drop, sym, subst, arith}
+use Rattle.std.proofs.Common.{◌∙◌, ℕ, ◌+◌, List, [], ◌∷◌, take, drop, sym, subst}
 use Rattle.std.proofs.Math.ListN.{get_or}
 use Rattle.std.proofs.lemmas.List.{take-append-drop}
 use Rattle.session_run.specs.Hearing.{Hears, HearsPartly}
@@ -40,8 +40,8 @@ loop-byte-preserved g c =
           (both_heard m c.args.listener.now c.loop-byte.listener c.hear_byte.new.listener (take i piece) (get_or piece i 0 ∷ []) _ (g.K.Sink.written c.loop-byte.sink) _ c.loop-byte.invariant.0
           (same_hears g.S.Statements.meaning _ _ c.loop-byte.listener c.hear_byte.new.listener (get_or piece i 0 ∷ []) _ _ c.loop-byte.invariant.1 c.in_ok-hear_byte.ensures.heard)),
       c.in_ok-hear_byte.ensures.same ∙ c.loop-byte.invariant.1,
-      omega (arith, c.loop-byte.invariant.2, c.in_ok-hear_byte.ensures.faults),
-      omega (arith, c.loop-byte.invariant.3, c.in_ok-hear_byte.ensures.stalls),
+      (c.in_ok-hear_byte.ensures.sink_same (λ e. absurd (cc e))).faults ∙ c.loop-byte.invariant.2,
+      (c.in_ok-hear_byte.ensures.sink_same (λ e. absurd (cc e))).stalls ∙ c.loop-byte.invariant.3,
     )
 
 pub returns-clause-partly : goal.returns-clause-partly

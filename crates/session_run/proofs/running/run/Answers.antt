@@ -65,9 +65,9 @@ script-preserved g c = (
   grind (arith, common_steps),
   c.in_ok-hear.ensures.same ∙ c.script.invariant.2,
   sym c.has_quit.ensures ∙ c.if-has_quit.false,
-  omega (arith, c.in_ok-count.ensures.cause.later),
-  omega (arith, c.in_ok-hear.ensures.faults),
-  omega (arith, c.in_ok-hear.ensures.stalls),
+  c.in_ok-count.ensures.cause.answered ∙ c.script.invariant.4,
+  (c.in_ok-hear.ensures.sink_same (λ e. absurd (cc e))).faults ∙ c.script.invariant.5,
+  (c.in_ok-hear.ensures.sink_same (λ e. absurd (cc e))).stalls ∙ c.script.invariant.6,
 )
 
 pub returns-in_err-close-clause-partly : goal.returns-in_err-close-clause-partly

@@ -8,9 +8,9 @@ invariant-script g l =
     × (l.given ≤ 16777216)
     × (l.listener.user ≡ g.S.Statements.user l.fn.statements)
     × (l.listener.kept.quit ≡ false)
-    × (g.R.Source.faults l.fn.source ≤ g.R.Source.faults l.source)
-    × (g.K.Sink.faults l.fn.sink ≤ g.K.Sink.faults l.sink)
-    × (g.K.Sink.stalls l.fn.sink ≤ g.K.Sink.stalls l.sink)
+    × (g.R.Source.faults l.source ≡ g.R.Source.faults l.fn.source)
+    × (g.K.Sink.faults l.sink ≡ g.K.Sink.faults l.fn.sink)
+    × (g.K.Sink.stalls l.sink ≡ g.K.Sink.stalls l.fn.sink)
 
 abbrev pub decreases-script : goal.decreases-script
 decreases-script g l = 16777216 - l.given

@@ -2,6 +2,7 @@ use Rattle.std.proofs.Common.{◌+◌, ◌/◌, ◌∙◌, refl, arith}
 use Rattle.batch_file.specs.Layout.{addr}
 use Rattle.batch_file.specs.declared.stage.Batch.{Batch}
 use Rattle.batch_file.proofs.Adding.{files_differ, due_full, is_next, staged_more, holds_more}
+use Rattle.batch_file.proofs.Calling.{came_then, adds}
 use Rattle.batch_file.proofs.Outside.{apart_starts, image_written, addresses_written, still_shut}
 use Rattle.batch_file.proofs.stage.Batch.add.Goals as goal
 
@@ -68,3 +69,12 @@ returns-clause-held g c = λ told.
     ((c.write_if.ensures.change told).elsewhere (addr 4 batch.count) (files_differ 4 3 batch.count (batch.count / 128) (omega arith)) ∙ c.in_ok-write.ensures.written told)
     (λ full. c.in_ok-write_if.ensures.written told (due_full batch.count full)) in
     holds_more (g.D.Disk.seen c.args.disk.now) (g.D.Disk.seen c.write_if.new.disk) batch more c.args.a c.args.page.now refl next (c.requires.held told) c.requires.place
+
+pub returns-clause-made : goal.returns-clause-made
+returns-clause-made g c =
+    let batch = c.args.self.now in
+    let more : Batch = record { count = batch.count + 1; addresses = c.put_address.new.page } in (
+      _,
+      came_then _ _ _ _ _ c.in_ok-write.ensures.noted c.in_ok-write_if.ensures.made,
+      adds batch more c.args.a c.args.page.now refl _ (due_full batch.count) c.put_address.ensures.there c.put_address.ensures.others c.requires.place,
+    )

@@ -5,6 +5,7 @@ use Rattle.batch_file.specs.Redone.{kept, laid}
 use Rattle.batch_file.specs.OnDisk.{BeforeOrAfter}
 use Rattle.batch_file.specs.Staged.{staged, completed}
 use Rattle.batch_file.proofs.Form.{named}
+use Rattle.batch_file.proofs.Calling.{finishes}
 use Rattle.batch_file.proofs.Finishing.{nothing_run}
 use Rattle.batch_file.proofs.Adding.{due_rest, all_staged, all_whole}
 use Rattle.batch_file.proofs.Outside.{apart_starts, addresses_written, still_shut, gives_up, then_run, then_laid}
@@ -59,3 +60,6 @@ returns-clause-laid g c = λ told.
     let places = named (completed (g.D.Disk.seen c.args.disk.now) c.args.self) c.args.self.count (c.requires.held told).addresses in
     then_laid g.D.Disk.seen g.D.Disk.touched g.D.Disk.clock g.D.Disk.left_since c.args.disk.now c.write_if.new.disk cs (c.requires.shut told) places one c.lay.new.disk
     (c.in_ok-lay.ensures.laid told ∙ ap (λ (l : Entries). kept (laid l (g.D.Disk.seen c.write_if.new.disk))) listed)
+
+pub returns-clause-made : goal.returns-clause-made
+returns-clause-made g c = λ some. finishes _ _ _ c.args.self _ (due_rest c.args.self.count) c.in_ok-write_if.ensures.made c.in_ok-lay.ensures.made

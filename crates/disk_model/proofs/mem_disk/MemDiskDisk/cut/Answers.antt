@@ -1,7 +1,7 @@
 use Rattle.std.proofs.Common.{◌≡◌}
 use Rattle.disk_model.specs.declared.calls.Call.TheVariants.{Cut}
 use Rattle.disk_model.specs.MemoryDisk.{state}
-use Rattle.disk_model.proofs.Entries.{was_cut, changes, cut_alters, failed_cut_alters, elapses}
+use Rattle.disk_model.proofs.Entries.{was_cut, changes, cut_alters, failed_cut_alters, elapses, noted}
 use Rattle.disk_model.proofs.mem_disk.MemDiskDisk.cut.Goals as goal
 
 pub returns-clause-cut : goal.returns-clause-cut
@@ -16,3 +16,6 @@ pub returns-clause-time : goal.returns-clause-time
 returns-clause-time c =
     let e = elapses (state c.args.self.now) (state c.note.new.self) (Cut c.args.file) c.note.result c.note.ensures.does in
     record { later = e.later; nothing_else = e.nothing_else; keeps = e.keeps }
+
+pub returns-clause-noted : goal.returns-clause-noted
+returns-clause-noted c = noted (state c.args.self.now) (state c.note.new.self) (Cut c.args.file) c.note.result c.note.ensures.does

@@ -1,0 +1,6 @@
+use Rattle.std.proofs.Common.{◌∙◌}
+use Rattle.change_check.proofs.Numbered.{small_and_spelled}
+use Rattle.change_check.proofs.permits.is_storable.Goals as goal
+
+pub returns : goal.returns
+returns c = λ none. c.is_small.ensures ∙ small_and_spelled c.args.qual.now none c.read_qual.ensures
