@@ -1,5 +1,6 @@
 //! Runs a user's script on an empty database in memory.
 
+ghost use Rattle.calculus.specs.Who.{asker_of};
 ghost use Rattle.std.specs.Prelude.{◌≡◌, ◌⊎◌, ◌↔◌, [], map, string_bytes, true, IfOk, IfSome, OnOk, IsErrOf};
 ghost use Rattle.fault_io.specs.Causes.{Rose};
 ghost use Rattle.session_run.specs.Runs.{AreSame};
@@ -14,7 +15,7 @@ use std::alloc::Global;
 /// What runs the statements of the user whom the words name.
 fn begun(alloc: Global, words: &[String]) -> Result<PlainStatements, OutOfMemory>
     requires { are_try (map string_bytes words.now) ≡ true }
-    ensures user { IfOk result (λ s. ⟦<PlainStatements as Statements>⟧.user s ≡ user_of (map string_bytes words.now)) }
+    ensures asker { IfOk result (λ s. ⟦<PlainStatements as Statements>⟧.asker s ≡ asker_of (user_of (map string_bytes words.now))) }
     ensures state { IfOk result (λ s. ⟦<PlainStatements as Statements>⟧.state s ≡ nothing_yet (user_of (map string_bytes words.now))) }
 {
     let name = match words {

@@ -1,4 +1,5 @@
 -- A script that is heard piece by piece.
+use Rattle.calculus.specs.Who.{Asker}
 use Rattle.std.specs.Prelude.{◌≡◌, ◌⊎◌, ℕ, Bool, true, false, List, ◌++◌, Option, Result, IsErrOf}
 use Rattle.fault_io.specs.Causes.{Rose}
 use Rattle.fault_io.specs.Told.{IsFront, GrewBy}
@@ -12,7 +13,7 @@ use Rattle.session_run.specs.declared.running.RunFault.TheVariants as faults
 
 -- what was heard so far: the user's, what whole lines have left, and the front of the next line
 pub record Heard : Type 0 where
-  pub user : List ℕ
+  pub asker : Asker
   pub kept : Kept
   pub partial : List ℕ
 
