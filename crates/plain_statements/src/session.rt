@@ -19,7 +19,7 @@ use session_run::Statements;
 use std::alloc::Global;
 
 /// Runs the statements of one user on a database in memory, whose administrator the user is.
-#[derive(Debug, Drop)]
+#[derive(Drop)]
 pub struct PlainStatements {
     base: DbPlain,
     ranges: RangeTable,
