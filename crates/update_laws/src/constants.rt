@@ -4,7 +4,7 @@
 ghost use Rattle.std.specs.Prelude.{IsTrue};
 ghost use Rattle.calculus.specs.Chars.{is_chars};
 ghost use Rattle.calculus.specs.Number.{has_64_bits};
-ghost use Rattle.calculus.specs.Spelled.{query_is_spelled};
+ghost use Rattle.calculus.specs.Spelled.{qual_is_spelled, query_is_spelled};
 ghost use Rattle.update_laws.specs.Walked.{term_is_walked, terms_are_walked, source_is_walked, aggregate_is_walked, targets_are_walked, qual_is_walked};
 
 use calculus::{AggSource, Chars, QAgg, QQual, QTerm, Query, Target};
@@ -135,4 +135,13 @@ pub fn query_is_spelled(q: &Query)
 {
     walk_targets(q.targets.items());
     walk_qual(&q.qual);
+}
+
+/// Walks through a qualification: each number in it has 64 bits, and each text constant and pattern is at
+/// most 255 bytes from 32 to 126, as every `Chars` is, in aggregates too. Takes no memory.
+#[tactic(auto, unfolding(crate::specs::Walked::qual_is_walked))]
+pub fn qual_is_spelled(q: &QQual)
+    ensures { IsTrue (qual_is_spelled q.now) }
+{
+    walk_qual(q);
 }

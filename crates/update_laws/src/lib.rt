@@ -7,6 +7,6 @@ mod constants;
 mod updates;
 mod values;
 
-pub use constants::query_is_spelled;
+pub use constants::{qual_is_spelled, query_is_spelled};
 pub use updates::an_update_is_lawful;
 pub use values::the_values_of_terms_are_proper;
