@@ -10,5 +10,4 @@ pub mod QueryDepths
 pub mod Ranged
 pub mod RowsFit
 pub mod SizeForms
-pub mod SpelledForms
 pub mod ViewParts

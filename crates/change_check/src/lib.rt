@@ -15,7 +15,6 @@ mod ranges;
 mod relations;
 mod rows;
 mod sizes;
-mod spelled;
 mod structures;
 mod views;
 

@@ -18,11 +18,11 @@ use crate::depths::qual_depth;
 use crate::keys::is_relation;
 use crate::numbers::{has_number, standing_permits, standing_rules};
 use crate::sizes::qual_size;
-use crate::spelled::read_qual;
 use am_traits::{Base, BaseFault};
 use calculus::{Kind, Name, OutOfMemory, Permit, QQual, RelKey, Rule, is_name, kinds_fit};
 use quel_causes::kinds_at;
 use std::alloc::Global;
+use update_laws::qual_is_spelled;
 
 /// The permits, and the rules, that a relation has at most.
 const MOST: usize = 100;
@@ -90,7 +90,7 @@ fn is_small(qual: &QQual) -> bool
 fn is_storable(qual: &QQual) -> bool
     ensures { qual_aggregates qual.now ≡ [] → result ≡ row_qual_is_storable qual.now }
 {
-    read_qual(qual);
+    qual_is_spelled(qual);
     is_small(qual)
 }
 

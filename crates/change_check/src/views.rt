@@ -16,11 +16,11 @@ use crate::keys::key_is_free;
 use crate::measures::{measure_of, used_count};
 use crate::ranges::{are_ranges, have_levels};
 use crate::sizes::Measure;
-use crate::spelled::read_query;
 use am_traits::{Base, BaseFault};
 use calculus::{Attr, OutOfMemory, Query, RelInfo, Target, kinds_fit};
 use quel_causes::{same_kind, targets_fit, var_kinds};
 use std::alloc::Global;
+use update_laws::query_is_spelled;
 
 /// The variables of a query as it stands at most.
 const MOST_VARIABLES: u64 = 10;
@@ -144,7 +144,7 @@ fn measure_fits<B: Base>(alloc: Global, base: &mut B, query: &Query) -> Result<b
 fn can_be_stored(query: &Query) -> bool
     ensures { query_aggregates query.now ≡ [] → result ≡ query_is_storable query.now }
 {
-    read_query(query);
+    query_is_spelled(query);
     query_depth(query) <= MOST_LEVELS
 }
 

@@ -12,4 +12,4 @@ pub returns : goal.returns
 returns c = λ none.
     ap (λ n. nat_le n 3000) c.query_depth.ensures
     ∙ stopped_le (1 + max (greatest_depth (targets_of c.args.query.now)) (qual_depth (qual_of c.args.query.now))) 3000 (omega arith) ∙ ap (λ n. nat_le n 3000) (query_alone c.args.query.now none)
-    ∙ also (nat_le (query_levels c.args.query.now) 3000) (query_is_spelled c.args.query.now) c.read_query.ensures
+    ∙ also (nat_le (query_levels c.args.query.now) 3000) (query_is_spelled c.args.query.now) c.query_is_spelled.ensures
