@@ -1,5 +1,5 @@
 -- What the calls that read a batch answer, and why.
-use Rattle.std.specs.Prelude.{◌≡◌, ℕ, ◌/◌, ◌%◌, ◌≤◌, ◌<◌, List, Option, Some, None, Result, Ok, Err, IsErrOf, OnOk, true, false}
+use Rattle.std.specs.Prelude.{◌≡◌, ℕ, ◌/◌, ◌%◌, ◌≤◌, ◌<◌, List, Option, Some, None, Result, Ok, Err, IsErrOf, true, false}
 use Rattle.fault_io.specs.Causes.{Rose}
 use Rattle.disk_model.specs.Disk.{Image}
 use Rattle.disk_model.specs.declared.disk.Addr.{Addr}
@@ -8,11 +8,11 @@ use Rattle.batch_file.specs.declared.fault.RestoreFault.TheVariants.{Disk, Damag
 use Rattle.batch_file.specs.Layout.{addr, address_in, count, has_image, is_head, is_lawful, or_empty}
 use Rattle.batch_file.specs.Redone.{first_failing}
 
--- The count never falls; `Disk` comes only where it rose, and Ok only where it stayed.
+-- The count never falls; `Disk` comes only where it rose, and any other answer only where it stayed.
 pub record FailsBy {T : Type 0} (before now : ℕ) (result : Result T RestoreFault) : Type 0 where
   pub later : before ≤ now
   pub failed : IsErrOf result Disk → Rose before now
-  pub answered : OnOk result (now ≡ before)
+  pub answered : (IsErrOf result Disk → ⊥) → now ≡ before
 
 -- Ok is the page that is there, and damage means that there is none.
 abbrev pub IsPage : Option (List ℕ) → Addr → List ℕ → Result Unit RestoreFault → Type 0

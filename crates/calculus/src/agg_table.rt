@@ -3,7 +3,7 @@
 use crate::{List, Row, Value};
 
 /// The values of an aggregate, one for each group of rows.
-#[derive(Debug, PartialEq, Eq, Drop)]
+#[derive(PartialEq, Eq, Drop)]
 pub struct AggTable {
     /// The groups: the values that the rows of a group have in common, and what the aggregate gives
     /// for the group; `None` where it has no value there.

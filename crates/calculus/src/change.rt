@@ -14,7 +14,7 @@ pub struct Pair {
 }
 
 /// What changes in the rows of one relation.
-#[derive(Debug, PartialEq, Eq, Drop)]
+#[derive(PartialEq, Eq, Drop)]
 pub struct Change {
     /// The rows that go.
     pub remove: RowSet,
@@ -23,7 +23,7 @@ pub struct Change {
 }
 
 /// A change of a database.
-#[derive(Debug, PartialEq, Eq, Drop)]
+#[derive(PartialEq, Eq, Drop)]
 pub enum DbChange {
     /// Rows of a relation go and come.
     Rows {

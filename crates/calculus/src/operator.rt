@@ -1,7 +1,7 @@
 //! The operators of terms and qualifications.
 
 /// An operation on two numbers.
-#[derive(Clone, Copy, Debug, PartialEq, Eq)]
+#[derive(Clone, Copy, PartialEq, Eq)]
 pub enum ArithOp {
     /// `+`
     Add,
@@ -18,7 +18,7 @@ pub enum ArithOp {
 }
 
 /// A comparison of two terms.
-#[derive(Clone, Copy, Debug, PartialEq, Eq)]
+#[derive(Clone, Copy, PartialEq, Eq)]
 pub enum CmpOp {
     /// `=`
     Eq,
@@ -35,7 +35,7 @@ pub enum CmpOp {
 }
 
 /// An aggregate: what is made of a term's values over many rows.
-#[derive(Clone, Copy, Debug, PartialEq, Eq)]
+#[derive(Clone, Copy, PartialEq, Eq)]
 pub enum AggOp {
     /// The number of rows.
     Count,

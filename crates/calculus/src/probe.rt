@@ -3,7 +3,7 @@
 use crate::{List, Value};
 
 /// What rows are looked for.
-#[derive(Debug, PartialEq, Eq, Drop)]
+#[derive(PartialEq, Eq, Drop)]
 pub struct Probe {
     /// The places of attributes, counted from 0, each with the value that the row must have there;
     /// none means every row.
@@ -11,7 +11,7 @@ pub struct Probe {
 }
 
 /// Where a row lies in a file.
-#[derive(Clone, Copy, Debug, PartialEq, Eq)]
+#[derive(Clone, Copy, PartialEq, Eq)]
 pub struct Place {
     /// The page, counted from 0.
     pub page: u32,

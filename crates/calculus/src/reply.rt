@@ -4,7 +4,7 @@ use crate::value::Kind;
 use crate::{List, Name, Row};
 
 /// A refusal of a statement, a batch or a command of the monitor.
-#[derive(Clone, Copy, Debug, PartialEq, Eq)]
+#[derive(Clone, Copy, PartialEq, Eq)]
 pub struct Refusal {
     /// Its number, which says the cause.
     pub code: u8,
@@ -15,7 +15,7 @@ pub struct Refusal {
 }
 
 /// A column of a table.
-#[derive(Debug, PartialEq, Eq, Drop)]
+#[derive(PartialEq, Eq, Drop)]
 pub struct Column {
     /// Its title.
     pub name: Name,
@@ -24,7 +24,7 @@ pub struct Column {
 }
 
 /// A table that is printed.
-#[derive(Debug, PartialEq, Eq, Drop)]
+#[derive(PartialEq, Eq, Drop)]
 pub struct Table {
     /// Its columns, in order.
     pub columns: List<Column>,
@@ -33,7 +33,7 @@ pub struct Table {
 }
 
 /// What a statement is answered.
-#[derive(Debug, PartialEq, Eq, Drop)]
+#[derive(PartialEq, Eq, Drop)]
 pub enum Reply {
     /// Nothing is printed.
     Nothing,

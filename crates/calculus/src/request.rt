@@ -6,7 +6,7 @@ use crate::schema::{Attr, Permit, Rule, Spec};
 use crate::{Chars, List, Name};
 
 /// A column to sort by.
-#[derive(Clone, Copy, Debug, PartialEq, Eq)]
+#[derive(Clone, Copy, PartialEq, Eq)]
 pub struct SortKey {
     /// The place of the column, counted from 0.
     pub column: u16,
@@ -15,7 +15,7 @@ pub struct SortKey {
 }
 
 /// A query whose rows are printed, with the order of the rows.
-#[derive(Debug, PartialEq, Eq, Drop)]
+#[derive(PartialEq, Eq, Drop)]
 pub struct Asked {
     /// The query.
     pub query: Query,
@@ -24,7 +24,7 @@ pub struct Asked {
 }
 
 /// What an update does.
-#[derive(Clone, Copy, Debug, PartialEq, Eq)]
+#[derive(Clone, Copy, PartialEq, Eq)]
 pub enum UpdateOp {
     /// Puts new rows beside the old ones.
     Append,
@@ -37,7 +37,7 @@ pub enum UpdateOp {
 }
 
 /// An update of one relation.
-#[derive(Debug, PartialEq, Eq, Drop)]
+#[derive(PartialEq, Eq, Drop)]
 pub struct Update {
     /// What it does.
     pub op: UpdateOp,
@@ -57,7 +57,7 @@ pub struct Update {
 }
 
 /// The form of a column in a file that is copied.
-#[derive(Clone, Copy, Debug, PartialEq, Eq)]
+#[derive(Clone, Copy, PartialEq, Eq)]
 pub enum CopyForm {
     /// A number of 1, 2 or 4 bytes, the low byte first: `i1`, `i2`, `i4`.
     Bin(u8),
@@ -69,7 +69,7 @@ pub enum CopyForm {
 }
 
 /// A column of a file that is copied.
-#[derive(Clone, Copy, Debug, PartialEq, Eq)]
+#[derive(Clone, Copy, PartialEq, Eq)]
 pub struct CopyCol {
     /// The place of its attribute, counted from 0.
     pub attr: u8,
@@ -78,7 +78,7 @@ pub struct CopyCol {
 }
 
 /// What the utilities are asked for.
-#[derive(Debug, PartialEq, Eq, Drop)]
+#[derive(PartialEq, Eq, Drop)]
 pub enum Utility {
     /// To make a relation without rows.
     Create {
@@ -159,7 +159,7 @@ pub enum Utility {
 }
 
 /// A statement whose names were found and whose checks were made.
-#[derive(Debug, PartialEq, Eq, Drop)]
+#[derive(PartialEq, Eq, Drop)]
 pub enum Checked {
     /// Queries whose rows are printed, one table each.
     Answer(List<Asked>),

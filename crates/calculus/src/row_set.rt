@@ -9,12 +9,12 @@ ghost use Rattle.calculus.specs.Value.{row_cmp};
 ghost use Rattle.calculus.specs.Rows.{Row, Ascends, has, put, set_of, IsBehind, IsPlaceOf};
 
 use crate::{OutOfMemory, Row};
-use memory::TryCopy;
+use memory::{TryCopy, copies};
 use std::alloc::Global;
 use std::marker::Model;
 
 /// A set of rows. Contracts see its rows in strictly ascending order.
-#[derive(Debug, Drop)]
+#[derive(Drop)]
 pub struct RowSet {
     rows: Vec<Row>,
 }
@@ -31,7 +31,7 @@ impl Model for RowSet {
 }
 
 /// A row that found no room in a set, given back.
-#[derive(Debug, PartialEq, Eq, Drop)]
+#[derive(PartialEq, Eq, Drop)]
 pub struct RowBack {
     /// The row.
     pub row: Row,
@@ -144,19 +144,9 @@ impl RowSet {
     }
 }
 
-fn copies_of(alloc: Global, rows: &[Row]) -> Result<Vec<Row>, OutOfMemory>
-    ensures { IfOk result (λ copies. copies.items ≡ rows.now) }
-{
-    let mut copies = Vec::new(alloc);
-    for row in rows {
-        copies.push(row.copy(alloc)?)?;
-    }
-    Ok(copies)
-}
-
 impl TryCopy for RowSet {
     fn copy(&self, alloc: Global) -> Result<RowSet, OutOfMemory> {
-        let rows = copies_of(alloc, &self.rows)?;
+        let rows = copies(alloc, &self.rows)?;
         Ok(RowSet { rows })
     }
 }

@@ -5,7 +5,7 @@ use crate::value::{Domain, Kind};
 use crate::{List, Name};
 
 /// What something is, and how its rows are stored.
-#[derive(Clone, Copy, Debug, PartialEq, Eq)]
+#[derive(Clone, Copy, PartialEq, Eq)]
 pub enum Spec {
     /// A relation whose rows are in no order.
     Heap,
@@ -20,7 +20,7 @@ pub enum Spec {
 }
 
 /// An attribute of a relation, a view or a catalogue.
-#[derive(Debug, PartialEq, Eq, Drop)]
+#[derive(PartialEq, Eq, Drop)]
 pub struct Attr {
     /// Its name.
     pub name: Name,
@@ -29,7 +29,7 @@ pub struct Attr {
 }
 
 /// What is known of a relation, a view, an index or a catalogue without its rows.
-#[derive(Debug, PartialEq, Eq, Drop)]
+#[derive(PartialEq, Eq, Drop)]
 pub struct RelInfo {
     /// What names it.
     pub key: RelKey,
@@ -43,7 +43,7 @@ pub struct RelInfo {
 }
 
 /// What lets a user do something with rows of a relation.
-#[derive(Debug, PartialEq, Eq, Drop)]
+#[derive(PartialEq, Eq, Drop)]
 pub struct Permit {
     /// Its number among the permits of the relation, from 1; 0 before it has one.
     pub number: u32,
@@ -58,7 +58,7 @@ pub struct Permit {
 }
 
 /// An integrity rule, which each new row of a relation must meet.
-#[derive(Debug, PartialEq, Eq, Drop)]
+#[derive(PartialEq, Eq, Drop)]
 pub struct Rule {
     /// Its number among the rules of the relation, from 1; 0 before it has one.
     pub number: u32,
@@ -67,7 +67,7 @@ pub struct Rule {
 }
 
 /// Where the rows of a relation or an index lie on the disk, and how.
-#[derive(Debug, PartialEq, Eq, Drop)]
+#[derive(PartialEq, Eq, Drop)]
 pub struct RelFile {
     /// The number of its file.
     pub file: u32,

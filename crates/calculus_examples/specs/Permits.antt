@@ -2,9 +2,10 @@
 use Rattle.calculus.specs.Answer.{answer}
 use Rattle.calculus.specs.Permission.{query_permitted, update_permitted}
 use Rattle.calculus.specs.Replacement.{updated}
+use Rattle.calculus.specs.Who.{asks}
 use Rattle.calculus.specs.declared.change.DbChange.TheVariants as change
 use Rattle.calculus.specs.declared.schema.Permit.{Permit}
-use Rattle.calculus_examples.specs.Small.{key, num, text, attr, relation, target, asks, fold_of, replace, delete, append}
+use Rattle.calculus_examples.specs.Small.{key, num, text, attr, relation, target, fold_of, replace, delete, append}
 use Rattle.std.specs.Prelude.{◌≡◌, ℕ, pos, true, false, List, [], ◌∷◌, Some, Ok, codes}
 use Rattle.calculus_examples.specs.Words.{I2, C, Of, Wide, Add, Lt, Gt, Count, Int, Chars, Attr, QQual, True, Cmp, Query, Update, operation, query, aggregate, Free, Db}
 

@@ -8,9 +8,8 @@ use Rattle.calculus.specs.declared.query.Target.{Target}
 use Rattle.calculus.specs.declared.schema.Spec.TheVariants as spec
 use Rattle.calculus.specs.declared.schema.Attr.{Attr}
 use Rattle.calculus.specs.Keys.{key_of}
-use Rattle.calculus.specs.Who.{Asks}
 use Rattle.std.specs.Prelude.{ℕ, ℤ, List, [], codes}
-use Rattle.calculus_examples.specs.Words.{Named, True, QTerm, QQual, QAgg, Query, Update, Row, Who, Db, Relation, View, Append, Replace, Delete, Into}
+use Rattle.calculus_examples.specs.Words.{Named, True, QTerm, QQual, QAgg, Query, Update, Row, Db, Relation, View, Append, Replace, Delete, Into}
 
 -- the administrator's key of this name
 abbrev pub key : List ℕ → RelKey
@@ -43,10 +42,6 @@ database relations = record { dba = codes "ann"; relations = relations; indexes 
 -- a target
 abbrev pub target : List ℕ → Kind → QTerm → Target
 target name kind term = record { name = name; kind = kind; term = term }
-
--- a user who asks
-abbrev pub asks : List ℕ → Who
-asks user = Asks (record { user = user })
 
 -- an aggregate over one of the administrator's relations or views, without `by`
 abbrev pub fold_of : AggOp → List ℕ → QTerm → QQual → QAgg

@@ -2,9 +2,11 @@
 use Rattle.calculus.specs.Answer.{answer}
 use Rattle.calculus.specs.Change.{laid, IsLawful}
 use Rattle.calculus.specs.IsDatabase.{IsDatabase, vars_are_there}
+use Rattle.calculus.specs.Reads.{query_reads}
 use Rattle.calculus.specs.Sizes.{expanded_variables, level_of, query_size}
+use Rattle.calculus.specs.Who.{asks}
 use Rattle.calculus.specs.declared.change.DbChange.TheVariants as change
-use Rattle.calculus_examples.specs.Small.{key, num, text, attr, relation, view, target, asks, fold_of}
+use Rattle.calculus_examples.specs.Small.{key, num, text, attr, relation, view, target, fold_of}
 use Rattle.std.specs.Prelude.{◌≡◌, ℕ, pos, true, false, List, [], ◌∷◌, Some, codes}
 use Rattle.calculus_examples.specs.Words.{C, Of, Wide, Eq, Count, Attr, True, Cmp, Like, Query, query, aggregate, Row, Free, Db}
 use Rattle.std.specs.List.{list_all}
@@ -58,6 +60,9 @@ pub record Shown : Type 0 where
   pub depts_has_one : expanded_variables db count_of_depts ≡ 1
   pub level_one : level_of db (key (codes "sells")) ≡ Some 1
   pub size_four : query_size db names ≡ 4
+  pub read_through_a_view : query_reads db names ≡ key (codes "emp") ∷ key (codes "item") ∷ []
+  pub read_by_an_aggregate : query_reads db count_of_depts ≡ key (codes "item") ∷ []
+  pub the_catalogue_is_read : query_reads db view_names ≡ key (codes "relation") ∷ []
 
 -- the database is one; without emp, which a view names, it isn't
 pub record Lawful : Type 0 where

@@ -34,7 +34,7 @@ pub fn aggregates_fold_different_rows()
 {}
 
 /// A view shows the set of its query's rows, to one who asks only what he may read below it; the catalogue
-/// has it, and its variables, level and size are counted.
+/// has it, and its variables, level and size are counted. A query over it reads what its query reads.
 #[tactic(auto, using(crate::proofs::Views::shown))]
 pub fn views_show_sets()
     ensures { Shown }

@@ -4,7 +4,6 @@ use Rattle.std.proofs.lemmas.Slice.Eq.{bytes_eq-Decides}
 use Rattle.std.specs.List.{AllByRecursion, list_all, enumerate_from}
 use Rattle.calculus.specs.declared.query.RelKey.{RelKey}
 use Rattle.calculus.specs.declared.query.Query.{Query}
-use Rattle.calculus.specs.Rows.{Row}
 use Rattle.calculus.specs.Term.{no_aggs}
 use Rattle.calculus.specs.Limits.{greatest_level}
 use Rattle.calculus.specs.Keys.{same_key}
@@ -14,11 +13,12 @@ use Rattle.calculus.specs.Catalogue.{catalogue_at}
 use Rattle.calculus.specs.Stored.{Range, Kept, Viewed, range_at}
 use Rattle.calculus.specs.QueryParts.{vars_of}
 use Rattle.calculus.specs.Used.{used_in_query}
-use Rattle.calculus.specs.Sizes.{greater_level, greatest_of, level_above, range_level, level_within, level_of}
+use Rattle.calculus.specs.Sizes.{greater_level, greatest_of, level_above, level_within, level_of}
 use Rattle.calculus.specs.IsDatabase.{IsDatabase}
 use Rattle.calculus.specs.Assignments.{Source, rows_used, variable_rows, choices, assigned}
 use Rattle.calculus.specs.Targets.{rows_given}
-use Rattle.calculus.specs.VariableRows.{range_rows, view_rows, rows_within, rows_of}
+use Rattle.calculus.specs.VariableRows.{view_rows, rows_within, rows_of}
+use Rattle.calculus_laws.proofs.Through.{told_at, rows_told, level_told, each_told}
 
 -- ---- each of what a view names has a level
 
@@ -56,33 +56,43 @@ all_map P Q f (key ∷ keys) h = (f key h.0, all_map P Q f keys h.1)
 
 -- ---- enough levels
 
-kept_same : (f g : View → List Row) (db : Db) (who : Who) (key : RelKey) (attrs : List ℕ) (r : Option Range)
-    → is_some (range_level (λ view. None) r) ≡ true → range_rows f db who key attrs r ≡ range_rows g db who key attrs r
-kept_same f g db who key attrs None h = refl
-kept_same f g db who key attrs (Some (Kept relation)) h = refl
-kept_same f g db who key attrs (Some (Viewed view)) h = cc h
+-- where rows are kept, they are the same through any number of levels; and where nothing is there
+pub kept_through : (db : Db) (who : Who) (m n : ℕ) (key : RelKey) (attrs : List ℕ) (relation : Relation) → range_at db key ≡ Some (Kept relation)
+    → rows_within n db who key attrs ≡ rows_within m db who key attrs
+kept_through db who m n key attrs relation e =
+    ap (λ rows. rows attrs) (told_at (rows_told db who) n db key (Some (Kept relation)) e ∙ sym (told_at (rows_told db who) m db key (Some (Kept relation)) e))
 
-range_same : (s t : Source) (level : RelKey → Option ℕ) (db : Db) (who : Who) (key : RelKey) (attrs : List ℕ) (r : Option Range)
-    → ((key : RelKey) → is_some (level key) ≡ true → Agree s t key)
-    → is_some (range_level (λ view. level_above (map level (vars_of view.query))) r) ≡ true
-    → range_rows (view_rows s) db who key attrs r ≡ range_rows (view_rows t) db who key attrs r
-range_same s t level db who key attrs None below h = refl
-range_same s t level db who key attrs (Some (Kept relation)) below h = refl
-range_same s t level db who key attrs (Some (Viewed view)) below h =
-    view_agrees s t view (all_map (λ k. is_some (level k) ≡ true) (Agree s t) below (vars_of view.query) (all_there level (vars_of view.query) h))
+nothing_through : (db : Db) (who : Who) (m n : ℕ) (key : RelKey) (attrs : List ℕ) → range_at db key ≡ None → rows_within n db who key attrs ≡ rows_within m db who key attrs
+nothing_through db who m n key attrs e =
+    ap (λ rows. rows attrs) (told_at (rows_told db who) n db key None e ∙ sym (told_at (rows_told db who) m db key None e))
 
-pub enough : (db : Db) (who : Who) (m n : ℕ) → m ≤ n → (key : RelKey) → is_some (level_within m db key) ≡ true
-    → (attrs : List ℕ) → rows_within n db who key attrs ≡ rows_within m db who key attrs
-enough db who zero zero h key there attrs = refl
-enough db who zero (suc n) h key there attrs = kept_same (view_rows (rows_within n db who)) (λ view. []) db who key attrs (range_at db key) there
-enough db who (suc m) zero h key there attrs = let no : ⊥ = omega arith in absurd no
-enough db who (suc m) (suc n) h key there attrs =
-    range_same (rows_within n db who) (rows_within m db who) (level_within m db) db who key attrs (range_at db key) (enough db who m n (omega arith)) there
+-- the level is there, and so many levels are enough for the key
+abbrev IsEnough : Db → Who → ℕ → RelKey → Option ℕ → Type 0
+IsEnough db who m key level = is_some level ≡ true → (n : ℕ) → m ≤ n → (attrs : List ℕ) → rows_within n db who key attrs ≡ rows_within m db who key attrs
+
+view_through : (db : Db) (who : Who) (m : ℕ) (level : RelKey → Option ℕ) → ((key : RelKey) → IsEnough db who m key (level key)) → (key : RelKey) (view : View)
+    → range_at db key ≡ Some (Viewed view) → IsEnough db who (suc m) key (level_above (map level (vars_of view.query)))
+view_through db who m level below key view e there zero h attrs = absurd (omega (arith, h))
+view_through db who m level below key view e there (suc n) h attrs =
+    ap (λ rows. rows attrs) (told_at (rows_told db who) (suc n) db key (Some (Viewed view)) e)
+    ∙ view_agrees (rows_within n db who) (rows_within m db who) view
+    (all_map (λ k. is_some (level k) ≡ true) (Agree (rows_within n db who) (rows_within m db who)) (λ k one. below k one n (omega (arith, h))) (vars_of view.query)
+    (all_there level (vars_of view.query) there))
+    ∙ sym (ap (λ rows. rows attrs) (told_at (rows_told db who) (suc m) db key (Some (Viewed view)) e))
+
+pub enough : (db : Db) (who : Who) (m : ℕ) (key : RelKey) → IsEnough db who m key (level_within m db key)
+enough db who =
+    each_told level_told db (IsEnough db who) (record {
+      nothing = λ m f key e there. cc there;
+      kept = λ m f key relation e there n h attrs. kept_through db who m n key attrs relation e;
+      view_past = λ key view e there. cc there;
+      view_above = view_through db who;
+    })
 
 pub more_levels : (db : Db) (who : Who) (key : RelKey) → IsTrue (is_some (level_of db key))
     → (n : ℕ) → greatest_level ≤ n → (attrs : List ℕ) → rows_within n db who key attrs ≡ rows_of db who key attrs
 unfolding level_of rows_of
-more_levels db who key there n h attrs = enough db who greatest_level n h key there attrs
+more_levels db who key there n h attrs = enough db who greatest_level key there n h attrs
 
 -- ---- in a database each view has a level
 
@@ -119,17 +129,14 @@ viewed db key view h = go (relation_at db key) (view_at db key) (catalogue_at db
     go None None (Some r) h = cc h
     go None None None h = cc h
 
-nothing_there : (db : Db) (who : Who) (n : ℕ) (key : RelKey) (attrs : List ℕ) → range_at db key ≡ None → rows_within n db who key attrs ≡ []
-nothing_there db who zero key attrs h = ap (range_rows (λ view. []) db who key attrs) h
-nothing_there db who (suc n) key attrs h = ap (range_rows (view_rows (rows_within n db who)) db who key attrs) h
-
 nothing_either_way : (db : Db) (who : Who) (n : ℕ) (key : RelKey) (attrs : List ℕ) → range_at db key ≡ None → rows_within n db who key attrs ≡ rows_of db who key attrs
 unfolding rows_of
-nothing_either_way db who n key attrs h = nothing_there db who n key attrs h ∙ sym (nothing_there db who greatest_level key attrs h)
+nothing_either_way db who n key attrs h = nothing_through db who greatest_level n key attrs h
 
-kept_level : (db : Db) (key : RelKey) (relation : Relation) → range_at db key ≡ Some (Kept relation) → is_some (level_of db key) ≡ true
-unfolding level_of
-kept_level db key relation h = ap (λ r. is_some (range_level (λ view. level_above (map (level_within 15 db) (vars_of view.query))) r)) h
+kept_either_way : (db : Db) (who : Who) (n : ℕ) (key : RelKey) (attrs : List ℕ) (relation : Relation) → range_at db key ≡ Some (Kept relation)
+    → rows_within n db who key attrs ≡ rows_of db who key attrs
+unfolding rows_of
+kept_either_way db who n key attrs relation h = kept_through db who greatest_level n key attrs relation h
 
 pub more_levels_in_a_database : (db : Db) → IsDatabase db → (who : Who) (key : RelKey)
     → (n : ℕ) → greatest_level ≤ n → (attrs : List ℕ) → rows_within n db who key attrs ≡ rows_of db who key attrs
@@ -137,5 +144,5 @@ more_levels_in_a_database db d who key n h attrs = go (range_at db key) refl
   where
     go : (r : Option Range) → range_at db key ≡ r → rows_within n db who key attrs ≡ rows_of db who key attrs
     go None e = nothing_either_way db who n key attrs e
-    go (Some (Kept relation)) e = more_levels db who key (kept_level db key relation e) n h attrs
+    go (Some (Kept relation)) e = kept_either_way db who n key attrs relation e
     go (Some (Viewed view)) e = more_levels db who key (found_level db key view db.views d.views_have_levels (viewed db key view e)) n h attrs

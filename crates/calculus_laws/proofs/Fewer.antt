@@ -1,6 +1,6 @@
 -- Whoever asks has no rows that nobody in particular hasn't.
-use Rattle.std.proofs.Common.{◌≡◌, refl, ap, ◌∙◌, ℕ, zero, suc, true, List, [], ◌∷◌, map, Option, Some, None}
-use Rattle.std.specs.List.{enumerate_from}
+use Rattle.std.proofs.Common.{◌≡◌, refl, ap, ◌∙◌, ℕ, true, List, [], ◌∷◌, map}
+use Rattle.std.specs.List.{filter, enumerate_from}
 use Rattle.calculus.specs.declared.query.RelKey.{RelKey}
 use Rattle.calculus.specs.declared.query.Query.{Query}
 use Rattle.calculus.specs.Rows.{Row, has}
@@ -8,18 +8,18 @@ use Rattle.calculus.specs.Limits.{greatest_level}
 use Rattle.calculus.specs.Term.{Env, Aggs, no_aggs}
 use Rattle.calculus.specs.Who.{Who, Free}
 use Rattle.calculus.specs.Database.{Db, View}
-use Rattle.calculus.specs.Stored.{Range, Kept, Viewed, range_at}
 use Rattle.calculus.specs.Rights.{Retrieve, may}
 use Rattle.calculus.specs.QueryParts.{vars_of, query_aggregates}
 use Rattle.calculus.specs.Used.{used_in_query}
 use Rattle.calculus.specs.Assignments.{Source, rows_used, variable_rows, assigned}
 use Rattle.calculus.specs.Targets.{rows_given}
-use Rattle.calculus.specs.VariableRows.{range_rows, view_rows, rows_within, rows_of}
+use Rattle.calculus.specs.VariableRows.{view_rows, rows_within, rows_of}
 use Rattle.calculus.specs.Aggregate.{aggregates}
 use Rattle.calculus.specs.Answer.{answer}
 use Rattle.calculus_laws.proofs.Members.{Within, Chosen, choices-Chosen, Chosen-choices, has-In, In-has, In-filter, filter-In}
 use Rattle.calculus_laws.proofs.Given.{given-is, is-given}
 use Rattle.calculus_laws.proofs.Plain.{given_plain}
+use Rattle.calculus_laws.proofs.Through.{rows_told, both_told}
 
 chosen_fewer : {X : Type 0} (f g : X → List Row) → ((x : X) → Within (f x) (g x)) → (xs : List X) (e : Env) → Chosen (map f xs) e → Chosen (map g xs) e
 chosen_fewer f g fewer [] [] h = tt
@@ -45,26 +45,28 @@ given_fewer aggs q es fs fewer row h =
     let (e, there, holding, values) = given-is aggs q es row h in
     is-given aggs q fs row (e, fewer e there, holding, values)
 
-range_fewer : (of_view other : View → List Row) → ((view : View) → Within (of_view view) (other view)) → (db : Db) (who : Who) (key : RelKey) (attrs : List ℕ) (range : Option Range)
-    → Within (range_rows of_view db who key attrs range) (range_rows other db Free key attrs range)
-unfolding may
-range_fewer of_view other fewer db who key attrs None row h = h
-range_fewer of_view other fewer db who key attrs (Some (Kept relation)) row h =
-    In-filter (may db Free Retrieve attrs key) relation.rows row (filter-In (may db who Retrieve attrs key) relation.rows row h).0 refl
-range_fewer of_view other fewer db who key attrs (Some (Viewed view)) row h = fewer view row h
+view_fewer : (source other : Source) → ((key : RelKey) (attrs : List ℕ) → Within (source key attrs) (other key attrs)) → (view : View) → Within (view_rows source view) (view_rows other view)
+view_fewer source other fewer view row h =
+    has-In (view_rows other view) row
+    (given_fewer no_aggs view.query (assigned source view.query) (assigned other view.query) (assigned_fewer source other fewer view.query) row
+    (In-has (view_rows source view) row h))
 
-within_fewer : (n : ℕ) (db : Db) (who : Who) (key : RelKey) (attrs : List ℕ) → Within (rows_within n db who key attrs) (rows_within n db Free key attrs)
-within_fewer zero db who key attrs = range_fewer (λ view. []) (λ view. []) (λ view row h. h) db who key attrs (range_at db key)
-within_fewer (suc n) db who key attrs =
-    range_fewer (view_rows (rows_within n db who)) (view_rows (rows_within n db Free)) (λ view row h. has-In (view_rows (rows_within n db Free) view) row
-    (given_fewer no_aggs view.query (assigned (rows_within n db who) view.query) (assigned (rows_within n db Free) view.query)
-    (assigned_fewer (rows_within n db who) (rows_within n db Free) (λ key attrs. within_fewer n db who key attrs) view.query)
-    row (In-has (view_rows (rows_within n db who) view) row h)))
-    db who key attrs (range_at db key)
+kept_fewer : (db : Db) (who : Who) (key : RelKey) (attrs : List ℕ) (rows : List Row) → Within (filter (may db who Retrieve attrs key) rows) (filter (may db Free Retrieve attrs key) rows)
+unfolding may
+kept_fewer db who key attrs rows row h = In-filter (may db Free Retrieve attrs key) rows row (filter-In (may db who Retrieve attrs key) rows row h).0 refl
+
+within_fewer : (db : Db) (who : Who) (n : ℕ) (key : RelKey) (attrs : List ℕ) → Within (rows_within n db who key attrs) (rows_within n db Free key attrs)
+within_fewer db who =
+    both_told (rows_told db who) (rows_told db Free) db (λ n key source other. (attrs : List ℕ) → Within (source attrs) (other attrs)) (record {
+      nothing = λ n f g key e attrs row h. h;
+      kept = λ n f g key relation e attrs. kept_fewer db who key attrs relation.rows;
+      view_past = λ key view e attrs row h. h;
+      view_above = λ n source other fewer key view e attrs. view_fewer source other fewer view;
+    })
 
 rows_fewer : (db : Db) (who : Who) (key : RelKey) (attrs : List ℕ) → Within (rows_of db who key attrs) (rows_of db Free key attrs)
 unfolding rows_of
-rows_fewer db who key attrs = within_fewer greatest_level db who key attrs
+rows_fewer db who key attrs = within_fewer db who greatest_level key attrs
 
 pub has_fewer : (db : Db) (who : Who) (key : RelKey) (attrs : List ℕ) (row : Row) → has (rows_of db who key attrs) row ≡ true → has (rows_of db Free key attrs) row ≡ true
 has_fewer db who key attrs row h = In-has (rows_of db Free key attrs) row (rows_fewer db who key attrs row (has-In (rows_of db who key attrs) row h))

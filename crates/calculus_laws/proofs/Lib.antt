@@ -13,7 +13,13 @@ pub mod OneVariable
 pub mod OwnLevel
 pub mod Plain
 pub mod PutIn
+pub mod SameAnswer
 pub mod SameRows
+pub mod SameSchema
+pub mod SameUpdate
+pub mod SchemaDecides
+pub mod Through
 pub mod Unpermitted
 pub mod UsedIn
 pub mod ViewAnswer
+pub mod WhatIsRead

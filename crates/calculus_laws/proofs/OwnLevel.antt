@@ -5,12 +5,13 @@ use Rattle.std.specs.List.{AllByRecursion}
 use Rattle.calculus.specs.declared.query.RelKey.{RelKey}
 use Rattle.calculus.specs.Limits.{greatest_level}
 use Rattle.calculus.specs.Who.{Who}
-use Rattle.calculus.specs.Database.{Db, View}
-use Rattle.calculus.specs.Stored.{Range, Kept, Viewed, range_at}
+use Rattle.calculus.specs.Database.{Db, Relation, View}
+use Rattle.calculus.specs.Stored.{Kept, Viewed, range_at}
 use Rattle.calculus.specs.QueryParts.{vars_of}
-use Rattle.calculus.specs.Sizes.{greater_level, greatest_of, level_above, range_level, level_within, level_of}
+use Rattle.calculus.specs.Sizes.{greater_level, greatest_of, level_above, level_within, level_of}
 use Rattle.calculus.specs.VariableRows.{rows_within, rows_of}
 use Rattle.calculus_laws.proofs.Enough.{all_there, enough, more_levels, all_map}
+use Rattle.calculus_laws.proofs.Through.{told_at, level_told, each_told}
 
 -- ---- where there is a level, there is one through more levels
 
@@ -23,25 +24,30 @@ there_above : (f : RelKey → Option ℕ) (keys : List RelKey) → AllByRecursio
 there_above f [] h = refl
 there_above f (key ∷ keys) h = there_both (f key) (greatest_of (map f keys)) h.0 (there_above f keys h.1)
 
-kept_there : (f : View → Option ℕ) (r : Option Range) → is_some (range_level (λ view. None) r) ≡ true → is_some (range_level f r) ≡ true
-kept_there f None h = h
-kept_there f (Some (Kept relation)) h = refl
-kept_there f (Some (Viewed view)) h = cc h
+-- there is a level of this key through any more levels
+abbrev StaysThere : Db → ℕ → RelKey → Option ℕ → Type 0
+StaysThere db m key level = is_some level ≡ true → (n : ℕ) → m ≤ n → is_some (level_within n db key) ≡ true
 
-range_there : (f g : RelKey → Option ℕ) (r : Option Range) → ((key : RelKey) → is_some (f key) ≡ true → is_some (g key) ≡ true)
-    → is_some (range_level (λ view. level_above (map f (vars_of view.query))) r) ≡ true
-    → is_some (range_level (λ view. level_above (map g (vars_of view.query))) r) ≡ true
-range_there f g None more h = h
-range_there f g (Some (Kept relation)) more h = refl
-range_there f g (Some (Viewed view)) more h =
-    there_above g (vars_of view.query)
-    (all_map (λ k. is_some (f k) ≡ true) (λ k. is_some (g k) ≡ true) more (vars_of view.query) (all_there f (vars_of view.query) h))
+kept_there : (db : Db) (key : RelKey) (relation : Relation) → range_at db key ≡ Some (Kept relation) → (n : ℕ) → is_some (level_within n db key) ≡ true
+kept_there db key relation e n = ap is_some (told_at level_told n db key (Some (Kept relation)) e)
 
-more_there : (db : Db) (m n : ℕ) → m ≤ n → (key : RelKey) → is_some (level_within m db key) ≡ true → is_some (level_within n db key) ≡ true
-more_there db zero zero h key there = there
-more_there db zero (suc n) h key there = kept_there (λ view. level_above (map (level_within n db) (vars_of view.query))) (range_at db key) there
-more_there db (suc m) zero h key there = let no : ⊥ = omega arith in absurd no
-more_there db (suc m) (suc n) h key there = range_there (level_within m db) (level_within n db) (range_at db key) (more_there db m n (omega arith)) there
+view_there : (db : Db) (m : ℕ) (level : RelKey → Option ℕ) → ((key : RelKey) → StaysThere db m key (level key)) → (key : RelKey) (view : View)
+    → range_at db key ≡ Some (Viewed view) → StaysThere db (suc m) key (level_above (map level (vars_of view.query)))
+view_there db m level below key view e there zero h = absurd (omega (arith, h))
+view_there db m level below key view e there (suc n) h =
+    ap is_some (told_at level_told (suc n) db key (Some (Viewed view)) e)
+    ∙ there_above (level_within n db) (vars_of view.query)
+    (all_map (λ k. is_some (level k) ≡ true) (λ k. is_some (level_within n db k) ≡ true) (λ k one. below k one n (omega (arith, h))) (vars_of view.query)
+    (all_there level (vars_of view.query) there))
+
+more_there : (db : Db) (m : ℕ) (key : RelKey) → StaysThere db m key (level_within m db key)
+more_there db =
+    each_told level_told db (StaysThere db) (record {
+      nothing = λ m f key e there. cc there;
+      kept = λ m f key relation e there n h. kept_there db key relation e n;
+      view_past = λ key view e there. cc there;
+      view_above = view_there db;
+    })
 
 -- ---- what a view names has smaller levels
 
@@ -80,24 +86,25 @@ view_own f g keys m h more =
     (all_map (λ k. IsAtMost top.0 (f k)) (λ k. is_some (g k) ≡ true) (λ k at. more k at.0 (omega (arith, at.1, top.1)) at.2) keys
     (each_at_most f keys top.0 top.2))
 
-own : (db : Db) (k : ℕ) (key : RelKey) (m : ℕ) → level_within k db key ≡ Some m → is_some (level_within m db key) ≡ true
-own db zero key zero h = ap is_some h
-own db zero key (suc m) h = kept_there (λ view. level_above (map (level_within m db) (vars_of view.query))) (range_at db key) (ap is_some h)
-own db (suc k) key zero h = go (range_at db key) h
-  where
-    go : (r : Option Range) → range_level (λ view. level_above (map (level_within k db) (vars_of view.query))) r ≡ Some 0
-        → is_some (range_level (λ view. None) r) ≡ true
-    go None e = cc e
-    go (Some (Kept relation)) e = refl
-    go (Some (Viewed view)) e = let top = one_less (greatest_of (map (level_within k db) (vars_of view.query))) 0 e in absurd (omega (arith, top.1))
-own db (suc k) key (suc m) h = go (range_at db key) (λ key i low e. more_there db i m low key (own db k key i e)) h
-  where
-    go : (r : Option Range) → ((key : RelKey) (i : ℕ) → i ≤ m → level_within k db key ≡ Some i → is_some (level_within m db key) ≡ true)
-        → range_level (λ view. level_above (map (level_within k db) (vars_of view.query))) r ≡ Some (suc m)
-        → is_some (range_level (λ view. level_above (map (level_within m db) (vars_of view.query))) r) ≡ true
-    go None more e = cc e
-    go (Some (Kept relation)) more e = refl
-    go (Some (Viewed view)) more e = view_own (level_within k db) (level_within m db) (vars_of view.query) m e more
+-- the level of this key is enough for it to have one
+abbrev IsOwn : Db → RelKey → Option ℕ → Type 0
+IsOwn db key level = (m : ℕ) → level ≡ Some m → is_some (level_within m db key) ≡ true
+
+view_is_own : (db : Db) (level : RelKey → Option ℕ) → ((key : RelKey) → IsOwn db key (level key)) → (key : RelKey) (view : View) → range_at db key ≡ Some (Viewed view)
+    → IsOwn db key (level_above (map level (vars_of view.query)))
+view_is_own db level below key view e zero h = let top = one_less (greatest_of (map level (vars_of view.query))) 0 h in absurd (omega (arith, top.1))
+view_is_own db level below key view e (suc m) h =
+    ap is_some (told_at level_told (suc m) db key (Some (Viewed view)) e)
+    ∙ view_own level (level_within m db) (vars_of view.query) m h (λ k i low at. more_there db i k (below k i at) m low)
+
+own : (db : Db) (n : ℕ) (key : RelKey) → IsOwn db key (level_within n db key)
+own db =
+    each_told level_told db (λ n. IsOwn db) (record {
+      nothing = λ n f key e m h. cc h;
+      kept = λ n f key relation e m h. kept_there db key relation e m;
+      view_past = λ key view e m h. cc h;
+      view_above = λ n level below key view e. view_is_own db level below key view e;
+    })
 
 own_there : (db : Db) (key : RelKey) (level : ℕ) → level_of db key ≡ Some level → is_some (level_within level db key) ≡ true
 unfolding level_of
@@ -106,7 +113,7 @@ own_there db key level h = own db greatest_level key level h
 greatest_rows : (db : Db) (who : Who) (key : RelKey) (m : ℕ) → m ≤ greatest_level → is_some (level_within m db key) ≡ true
     → (attrs : List ℕ) → rows_of db who key attrs ≡ rows_within m db who key attrs
 unfolding rows_of
-greatest_rows db who key m h there attrs = enough db who m greatest_level h key there attrs
+greatest_rows db who key m h there attrs = enough db who m key there greatest_level h attrs
 
 pub own_level : (db : Db) (who : Who) (key : RelKey) (level : ℕ) → level_of db key ≡ Some level
     → (n : ℕ) → level ≤ n → (attrs : List ℕ) → rows_within n db who key attrs ≡ rows_of db who key attrs
@@ -115,4 +122,4 @@ own_level db who key level e n h attrs = go (cases_lt greatest_level level)
     go : (greatest_level < level) ⊎ (level ≤ greatest_level) → rows_within n db who key attrs ≡ rows_of db who key attrs
     go (inl above) = more_levels db who key (ap is_some e) n (omega (arith, above, h)) attrs
     go (inr within) =
-        enough db who level n h key (own_there db key level e) attrs ∙ sym (greatest_rows db who key level within (own_there db key level e) attrs)
+        enough db who level key (own_there db key level e) n h attrs ∙ sym (greatest_rows db who key level within (own_there db key level e) attrs)

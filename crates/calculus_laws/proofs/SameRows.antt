@@ -1,5 +1,5 @@
 -- A variable that ranges over no view has the same rows wherever the same attributes of it are used.
-use Rattle.std.proofs.Common.{◌≡◌, refl, sym, ap, ◌∙◌, inl, inr, ℕ, zero, suc, ◌+◌, Bool, true, false, ◌&&◌, ◌||◌, List, [], ◌∷◌, map, Option, Some, None}
+use Rattle.std.proofs.Common.{◌≡◌, refl, sym, ap, ◌∙◌, inl, inr, ℕ, ◌+◌, Bool, true, false, ◌&&◌, ◌||◌, List, [], ◌∷◌, map, Option, Some, None}
 use Rattle.std.specs.List.{list_any, list_all, filter, enumerate_from}
 use Rattle.calculus.specs.declared.query.RelKey.{RelKey}
 use Rattle.calculus.specs.declared.query.Query.{Query}
@@ -14,8 +14,9 @@ use Rattle.calculus.specs.Rights.{Right, Retrieve, has_right, is_for, has_attrs,
 use Rattle.calculus.specs.QueryParts.{vars_of, query_aggregates}
 use Rattle.calculus.specs.Used.{used_in_query}
 use Rattle.calculus.specs.Assignments.{Source, choices, rows_used, variable_rows, assigned}
-use Rattle.calculus.specs.VariableRows.{range_rows, view_rows, rows_within, rows_of}
+use Rattle.calculus.specs.VariableRows.{range_rows, rows_within, rows_of}
 use Rattle.calculus_laws.specs.Expansion.{expanded, is_no_view}
+use Rattle.calculus_laws.proofs.Through.{told_view, told_at, rows_told}
 use Rattle.calculus_laws.proofs.Members.{In, Within}
 use Rattle.calculus_laws.proofs.UsedIn.{expanded_within, within_expanded}
 
@@ -63,11 +64,14 @@ same_range of_view other db who key xs ys to from (Some (Viewed view)) h = cc h
 -- through however many levels
 same_kept : (m n : ℕ) (db : Db) (who : Who) (key : RelKey) (xs ys : List ℕ) → Within xs ys → Within ys xs → is_no_view (range_at db key) ≡ true
     → rows_within m db who key xs ≡ rows_within n db who key ys
-same_kept zero zero db who key xs ys to from h = same_range (λ view. []) (λ view. []) db who key xs ys to from (range_at db key) h
-same_kept zero (suc n) db who key xs ys to from h = same_range (λ view. []) (view_rows (rows_within n db who)) db who key xs ys to from (range_at db key) h
-same_kept (suc m) zero db who key xs ys to from h = same_range (view_rows (rows_within m db who)) (λ view. []) db who key xs ys to from (range_at db key) h
-same_kept (suc m) (suc n) db who key xs ys to from h =
-    same_range (view_rows (rows_within m db who)) (view_rows (rows_within n db who)) db who key xs ys to from (range_at db key) h
+same_kept m n db who key xs ys to from h =
+    told_same m xs ∙ same_range (through_levels m xs) (through_levels n ys) db who key xs ys to from (range_at db key) h ∙ sym (told_same n ys)
+  where
+    through_levels : ℕ → List ℕ → View → List Row
+    through_levels n attrs view = told_view (rows_told db who) n db view attrs
+
+    told_same : (n : ℕ) (attrs : List ℕ) → rows_within n db who key attrs ≡ range_rows (through_levels n attrs) db who key attrs (range_at db key)
+    told_same n attrs = ap (λ rows. rows attrs) (told_at (rows_told db who) n db key (range_at db key) refl)
 
 -- ---- assignments
 

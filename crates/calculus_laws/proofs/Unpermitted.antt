@@ -1,5 +1,5 @@
 -- Where nothing is permitted no row is used.
-use Rattle.std.proofs.Common.{◌≡◌, refl, sym, ap, ◌∙◌, ℕ, zero, suc, Bool, true, false, ◌||◌, ◌&&◌, List, [], ◌∷◌, cond, map, Option, Some, None}
+use Rattle.std.proofs.Common.{◌≡◌, refl, sym, ap, ◌∙◌, ℕ, Bool, true, false, ◌||◌, ◌&&◌, List, [], ◌∷◌, cond, map, Some}
 use Rattle.std.specs.List.{filter, flat_map, list_any, list_all, enumerate_from}
 use Rattle.calculus.specs.declared.query.RelKey.{RelKey}
 use Rattle.calculus.specs.declared.query.Query.{Query}
@@ -10,16 +10,17 @@ use Rattle.calculus.specs.Limits.{greatest_level}
 use Rattle.calculus.specs.Term.{Env, Aggs, no_aggs, holds}
 use Rattle.calculus.specs.Who.{Who, Free, Asks}
 use Rattle.calculus.specs.Database.{Db, Relation, View, permits_on}
-use Rattle.calculus.specs.Stored.{Range, Kept, Viewed, range_at, rows_at}
+use Rattle.calculus.specs.Stored.{Kept, range_at, rows_at}
 use Rattle.calculus.specs.Rights.{Right, Retrieve, covers, needs_none, permitted, may}
 use Rattle.calculus.specs.Used.{used_in_query, used_vars}
 use Rattle.calculus.specs.QueryParts.{vars_of}
 use Rattle.calculus.specs.Assignments.{Source, choices, rows_used, variable_rows, assigned, changed_rows, may_read}
 use Rattle.calculus.specs.Targets.{rows_given}
-use Rattle.calculus.specs.VariableRows.{range_rows, view_rows, rows_within, rows_of}
-use Rattle.calculus.specs.Permission.{Reads, vars_permitted, range_permitted, permitted_within, readable, change_permitted}
+use Rattle.calculus.specs.VariableRows.{view_rows, rows_within, rows_of}
+use Rattle.calculus.specs.Permission.{Reads, vars_permitted, permitted_within, readable, change_permitted}
 use Rattle.calculus.specs.Aggregate.{aggregates}
 use Rattle.calculus.specs.Answer.{answer}
+use Rattle.calculus_laws.proofs.Through.{rows_told, permitted_told, both_told}
 
 -- where no item passes the first test, none passes both
 none_of_both : {X : Type 0} (p q : X → Bool) (xs : List X) → list_any p xs ≡ false → list_any (λ x. p x && q x) xs ≡ false
@@ -126,30 +127,26 @@ unfolding assigned
 none_assigned reads source q none h =
     no_choice (λ (p : ℕ × RelKey). variable_rows source q p.0 p.1) (enumerate_from 0 (vars_of q)) (some_empty reads source q none (enumerate_from 0 (vars_of q)) h)
 
--- what a variable ranges over has no rows where it may not be read, if that is so of a view
-none_of_range : (of_view : View → List Row) (view_read : View → Bool) → ((view : View) → view_read view ≡ false → of_view view ≡ [])
-    → (db : Db) (who : Who) (key : RelKey) (attrs : List ℕ) (range : Option Range)
-    → range_permitted view_read db who key attrs range ≡ false → range_rows of_view db who key attrs range ≡ []
-none_of_range of_view view_read none db who key attrs None h = refl
-none_of_range of_view view_read none db who key attrs (Some (Kept relation)) h =
-    filter_none (may db who Retrieve attrs key) relation.rows (λ row. no_row db who Retrieve attrs key row h)
-none_of_range of_view view_read none db who key attrs (Some (Viewed view)) h = none view h
-
 none_given : (aggs : Aggs) (q : Query) (es : List Env) → es ≡ [] → rows_given aggs q es ≡ []
 unfolding rows_given
 none_given aggs q es h = rw h refl
 
-none_within : (n : ℕ) (db : Db) (who : Who) (key : RelKey) (attrs : List ℕ) → permitted_within n db who key attrs ≡ false → rows_within n db who key attrs ≡ []
-none_within zero db who key attrs h = none_of_range (λ view. []) (λ view. false) (λ view _. refl) db who key attrs (range_at db key) h
-none_within (suc n) db who key attrs h =
-    none_of_range (view_rows (rows_within n db who)) (λ view. vars_permitted (permitted_within n db who) view.query (used_vars view.query))
-    (λ view k. none_given no_aggs view.query (assigned (rows_within n db who) view.query)
-    (none_assigned (permitted_within n db who) (rows_within n db who) view.query (λ key attrs. none_within n db who key attrs) k))
-    db who key attrs (range_at db key) h
+none_viewed : (reads : Reads) (source : Source) → ((key : RelKey) (attrs : List ℕ) → reads key attrs ≡ false → source key attrs ≡ [])
+    → (view : View) → vars_permitted reads view.query (used_vars view.query) ≡ false → view_rows source view ≡ []
+none_viewed reads source none view h = none_given no_aggs view.query (assigned source view.query) (none_assigned reads source view.query none h)
+
+none_within : (db : Db) (who : Who) (n : ℕ) (key : RelKey) (attrs : List ℕ) → permitted_within n db who key attrs ≡ false → rows_within n db who key attrs ≡ []
+none_within db who =
+    both_told (permitted_told db who) (rows_told db who) db (λ n key reads source. (attrs : List ℕ) → reads attrs ≡ false → source attrs ≡ []) (record {
+      nothing = λ n f g key e attrs h. refl;
+      kept = λ n f g key relation e attrs h. filter_none (may db who Retrieve attrs key) relation.rows (λ row. no_row db who Retrieve attrs key row h);
+      view_past = λ key view e attrs h. refl;
+      view_above = λ n reads source none key view e attrs h. none_viewed reads source none view h;
+    })
 
 pub none_read : (db : Db) (who : Who) (attrs : List ℕ) (key : RelKey) → readable db who key attrs ≡ false → rows_of db who key attrs ≡ []
 unfolding readable rows_of
-none_read db who attrs key h = none_within greatest_level db who key attrs h
+none_read db who attrs key h = none_within db who greatest_level key attrs h
 
 pub none_kept : (db : Db) (who : Who) (attrs : List ℕ) (key : RelKey) (relation : Relation) → range_at db key ≡ Some (Kept relation)
     → permitted db who Retrieve attrs key ≡ false → rows_of db who key attrs ≡ []

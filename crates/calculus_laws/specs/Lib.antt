@@ -1,4 +1,5 @@
 pub mod Detaching
 pub mod Expansion
+pub mod Reading
 pub mod TupleCalculus
 pub mod Updates

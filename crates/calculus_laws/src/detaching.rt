@@ -1,6 +1,6 @@
 //! Conditions on one variable, applied to its rows before they are joined with others.
 
-ghost use Rattle.std.specs.Prelude.{◌≡◌, ◌<◌, ℕ, List, length};
+ghost use Rattle.std.specs.Prelude.{◌≡◌, ◌<◌, ℕ, List, map, length};
 ghost use Rattle.calculus.specs.declared.query.RelKey.{RelKey};
 ghost use Rattle.calculus.specs.declared.query.QQual.{QQual};
 ghost use Rattle.calculus.specs.declared.query.Query.{Query};
@@ -11,13 +11,13 @@ ghost use Rattle.calculus.specs.Term.{Aggs};
 ghost use Rattle.calculus.specs.Who.{Who};
 ghost use Rattle.calculus.specs.Database.{Db};
 ghost use Rattle.calculus.specs.QueryParts.{vars_of, qual_of};
-ghost use Rattle.calculus.specs.Assignments.{assigned_by, variable_rows, update_rows};
+ghost use Rattle.calculus.specs.Assignments.{assigned_by, variable_rows, changing_by, update_rows};
 ghost use Rattle.calculus.specs.Targets.{qualifying, rows_given, some_lacks};
 ghost use Rattle.calculus.specs.VariableRows.{rows_of};
 ghost use Rattle.calculus.specs.Aggregate.{aggregates};
 ghost use Rattle.calculus.specs.Answer.{answer, lacks};
 ghost use Rattle.calculus.specs.Pairs.{qualifying_updates};
-ghost use Rattle.calculus_laws.specs.Detaching.{AsksForBoth, IsOfOne, cut_down, with_qual};
+ghost use Rattle.calculus_laws.specs.Detaching.{AsksForBoth, IsOfOne, cut_down, seen_cut_down, qualifying_changes, with_qual};
 
 /// `p and q` asks for what `p` and `q` ask for, and so does `q and p`.
 pub fn and_asks_for_both()
@@ -27,7 +27,6 @@ pub fn and_asks_for_both()
 
 /// A condition on one variable may be applied to its rows first: then the rest of the qualification
 /// holds in the same assignments, wherever the rows of the variables come from.
-#[tactic(auto, using(crate::proofs::Detached::condition_detached))]
 pub fn a_condition_is_detached()
     ensures { (aggs : Aggs) (q : Query) (p rest : QQual) (v : ℕ)
         → AsksForBoth (qual_of q) p rest → IsOfOne v p → v < length (vars_of q) → (rows : ℕ → RelKey → List Row)
@@ -48,10 +47,12 @@ pub fn a_lack_is_detached()
         → lacks db who q ≡ some_lacks (aggregates db who) (with_qual rest q) (assigned_by (cut_down v p (variable_rows (rows_of db who) q)) q) }
 {}
 
-/// An update has the same assignments where the condition is applied first.
+/// An update has the same assignments where the condition is applied first, with the same rows that are
+/// replaced or deleted.
 pub fn an_update_is_detached()
     ensures { (db : Db) (who : Who) (u : Update) (p rest : QQual) (v : ℕ)
         → AsksForBoth (qual_of u.query) p rest → IsOfOne v p → v < length (vars_of u.query)
         → qualifying_updates db who u
-        ≡ qualifying (aggregates db who) (with_qual rest u.query) (assigned_by (cut_down v p (update_rows db who (rows_of db who) u)) u.query) }
+        ≡ qualifying_changes (aggregates db who) (with_qual rest u.query)
+        (map changing_by (assigned_by (seen_cut_down v p (update_rows db who (rows_of db who) u)) u.query)) }
 {}

@@ -7,6 +7,7 @@ mod detaching;
 mod expansion;
 mod levels;
 mod patterns;
+mod reading;
 mod rights;
 mod updates;
 mod views;
@@ -21,6 +22,7 @@ pub use levels::{
     its_own_level_is_enough, more_levels_change_nothing, more_levels_change_nothing_in_a_database,
 };
 pub use patterns::a_text_matches_where_the_relation_holds;
+pub use reading::{the_schema_decides, what_is_read_decides, what_is_read_is_kept};
 pub use rights::{nobody_sees_more_than_is_there, what_is_not_permitted_is_not_used};
 pub use updates::{
     a_set_stays_a_set, no_pair_changes_nothing, old_in_no_pair_stays, what_stands_after,

@@ -6,6 +6,7 @@ ghost use Rattle.change_list.specs.Contention.{IsFound};
 
 use crate::replacements::sorted_replacements;
 use calculus::{OutOfMemory, Pair, Row, TryCopy};
+use memory::both;
 use std::alloc::Global;
 
 /// An old row and two different new rows of it.
@@ -42,8 +43,7 @@ pub fn least_contention(alloc: Global, pairs: &[Pair]) -> Result<Option<Contenti
     };
     let least = &all[place];
     let next = &all[place + 1];
-    let old = least.0.copy(alloc)?;
-    let first = least.1.copy(alloc)?;
-    let second = next.1.copy(alloc)?;
+    let rows = both(least.1.copy(alloc), next.1.copy(alloc));
+    let (old, (first, second)) = both(least.0.copy(alloc), rows)?;
     Ok(Some(Contention { old, first, second }))
 }

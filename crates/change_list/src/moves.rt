@@ -6,6 +6,7 @@ ghost use Rattle.calculus.specs.Replacement.{old_rows, new_rows, without_rows};
 ghost use Rattle.change_list.specs.Moves.{IsChange};
 
 use calculus::{Change, OutOfMemory, Pair, Row, RowSet, TryCopy};
+use memory::both;
 use std::alloc::Global;
 
 /// The set of the old rows of the pairs.
@@ -64,9 +65,9 @@ fn that_come(alloc: Global, rows: &RowSet, new: Vec<Row>) -> Result<RowSet, OutO
 pub fn change_of(alloc: Global, rows: &RowSet, pairs: &[Pair]) -> Result<Change, OutOfMemory>
     ensures { IfOk result (IsChange rows.now pairs.now) }
 {
-    let old = old_rows(alloc, pairs)?;
-    let new = new_rows(alloc, pairs)?;
-    let remove = that_go(alloc, rows.rows(), &old, &new)?;
-    let add = that_come(alloc, rows, new.into_rows())?;
+    let (old, new) = both(old_rows(alloc, pairs), new_rows(alloc, pairs))?;
+    let remove = that_go(alloc, rows.rows(), &old, &new);
+    let add = that_come(alloc, rows, new.into_rows());
+    let (remove, add) = both(remove, add)?;
     Ok(Change { remove, add })
 }

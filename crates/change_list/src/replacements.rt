@@ -7,6 +7,7 @@ ghost use Rattle.calculus.specs.Rows.{Row};
 ghost use Rattle.change_list.specs.Replacements.{replacement, replacements, both_cmp, is_both};
 
 use calculus::{OutOfMemory, Pair, Row, TryCopy};
+use memory::both;
 use std::alloc::Global;
 
 /// The old row and the new one of a pair that has both.
@@ -15,9 +16,8 @@ fn replacement(alloc: Global, pair: &Pair) -> Result<Option<(Row, Row)>, OutOfMe
 {
     match (&pair.old, &pair.new) {
         (Some(old), Some(new)) => {
-            let old = old.copy(alloc)?;
-            let new = new.copy(alloc)?;
-            Ok(Some((old, new)))
+            let copies = both(old.copy(alloc), new.copy(alloc))?;
+            Ok(Some(copies))
         }
         _ => Ok(None),
     }

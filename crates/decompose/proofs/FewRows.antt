@@ -12,10 +12,9 @@ use Rattle.std.proofs.lemmas.List.Folds.{list_all-append, list_all-map}
 use Rattle.calculus.specs.declared.query.RelKey.{RelKey}
 use Rattle.calculus.specs.declared.schema.Attr.{Attr}
 use Rattle.calculus.specs.declared.schema.RelInfo.{RelInfo}
-use Rattle.calculus.specs.declared.schema.Spec.{Spec}
-use Rattle.calculus.specs.declared.schema.Spec.TheVariants as spec
 use Rattle.calculus.specs.Value.{row_cmp}
 use Rattle.calculus.specs.Lists.{is_any}
+use Rattle.calculus.specs.Structures.{is_index}
 use Rattle.calculus.specs.Rows.{Row, put, set_of}
 use Rattle.calculus.specs.Keys.{same_key}
 use Rattle.calculus.specs.Limits.{most_rows}
@@ -53,19 +52,16 @@ has_few : RelInfo → Bool
 has_few info = nat_le (length info.attrs) 49
 
 -- these rows but for an index
-abbrev unless_index : List Row → Spec → List Row
-unless_index rows s = elim s [ spec.Heap ↦ rows | spec.Hash ↦ rows | spec.Isam ↦ rows | spec.View ↦ rows | spec.Index ↦ [] ]
+abbrev unless_index : List Row → Bool → List Row
+unless_index rows b = elim b [ true ↦ [] | false ↦ rows ]
 
-rows_by_spec : (rows : List Row) (n : ℕ) → length rows ≤ n → (s : Spec) → length (unless_index rows s) ≤ n
-rows_by_spec rows n h spec.Heap = h
-rows_by_spec rows n h spec.Hash = h
-rows_by_spec rows n h spec.Isam = h
-rows_by_spec rows n h spec.View = h
-rows_by_spec rows n h spec.Index = omega arith
+rows_by_index : (rows : List Row) (n : ℕ) → length rows ≤ n → (b : Bool) → length (unless_index rows b) ≤ n
+rows_by_index rows n h true = omega arith
+rows_by_index rows n h false = h
 
 -- the rows of `attribute` for an entry are no more than its attributes
 described : (info : RelInfo) → length (attribute_rows info) ≤ length info.attrs
-described info = rows_by_spec rows (length info.attrs) (omega (arith, as_many)) info.spec
+described info = rows_by_index rows (length info.attrs) (omega (arith, as_many)) (is_index info.spec)
   where
     rows : List Row
     rows = map (λ p. attribute_row info.key p.0 p.1) (enumerate_from 1 info.attrs)
@@ -96,16 +92,8 @@ unfolding has_few
 none_few info [] e h = ap (λ attrs. nat_le (length attrs) 49) (sym e)
 none_few info (a ∷ attrs) e h = absurd cc
 
-index_has_none : (s : Spec) (a b c : Bool)
-    → elim s [ spec.Heap ↦ false | spec.Hash ↦ false | spec.Isam ↦ false | spec.View ↦ false | spec.Index ↦ a && (b && c) ] ≡ true → b ≡ true
-index_has_none spec.Heap a b c h = absurd cc
-index_has_none spec.Hash a b c h = absurd cc
-index_has_none spec.Isam a b c h = absurd cc
-index_has_none spec.View a b c h = absurd cc
-index_has_none spec.Index a b c h = left b c (right a (b && c) h)
-
 index_few : (db : Db) (x : Index) → index_stands db x ≡ true → has_few x.info ≡ true
-index_few db x h = none_few x.info x.info.attrs refl (index_has_none x.info.spec (is_relation db x.base) (not (is_any x.info.attrs)) _ h)
+index_few db x h = none_few x.info x.info.attrs refl (left (not (is_any x.info.attrs)) _ (right (is_relation db x.base) _ (right (is_index x.info.spec) _ h)))
 
 all_few : (db : Db) → IsDatabase db → list_all has_few (entries db) ≡ true
 all_few db is =

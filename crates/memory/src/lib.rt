@@ -4,9 +4,11 @@
 mod boxed;
 mod list;
 mod out_of_memory;
+mod pairs;
 mod try_copy;
 
 pub use boxed::Boxed;
 pub use list::List;
 pub use out_of_memory::OutOfMemory;
-pub use try_copy::TryCopy;
+pub use pairs::both;
+pub use try_copy::{TryCopy, copies};

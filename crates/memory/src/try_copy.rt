@@ -1,6 +1,6 @@
 ghost use Rattle.std.specs.Prelude.{◌≡◌, IfOk};
 
-use crate::{Boxed, List, OutOfMemory};
+use crate::{Boxed, List, OutOfMemory, both};
 use std::alloc::Global;
 
 /// A type whose values can be copied where there is memory for it.
@@ -30,9 +30,7 @@ impl TryCopy for bool {
 
 impl<A: TryCopy + Drop, B: TryCopy + Drop> TryCopy for (A, B) {
     fn copy(&self, alloc: Global) -> Result<(A, B), OutOfMemory> {
-        let first = self.0.copy(alloc)?;
-        let second = self.1.copy(alloc)?;
-        Ok((first, second))
+        both(self.0.copy(alloc), self.1.copy(alloc))
     }
 }
 
@@ -51,12 +49,19 @@ impl<T: TryCopy + Drop> TryCopy for Boxed<T> {
     }
 }
 
+/// Copies of the items, in order.
+pub fn copies<T: TryCopy + Drop>(alloc: Global, items: &[T]) -> Result<Vec<T>, OutOfMemory>
+    ensures { IfOk result (λ copies. copies.items ≡ items.now) }
+{
+    let mut copies = Vec::new(alloc);
+    for item in items {
+        copies.push(item.copy(alloc)?)?;
+    }
+    Ok(copies)
+}
+
 impl<T: TryCopy + Drop> TryCopy for List<T> {
     fn copy(&self, alloc: Global) -> Result<List<T>, OutOfMemory> {
-        let mut copies = Vec::new(alloc);
-        for item in self.items() {
-            copies.push(item.copy(alloc)?)?;
-        }
-        Ok(List::of(copies))
+        Ok(List::of(copies(alloc, self.items())?))
     }
 }

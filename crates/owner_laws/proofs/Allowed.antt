@@ -19,7 +19,8 @@ use Rattle.calculus.specs.Rights.{Right, Retrieve, permitted}
 use Rattle.calculus.specs.Rights as right
 use Rattle.calculus.specs.Stored.{Range, Kept, Viewed, range_at}
 use Rattle.calculus.specs.Used.{used_in_query, used_in_aggregate, used_vars}
-use Rattle.owner_laws.specs.Own.{IsOwn, asks, are_own, names_no_aggregates}
+use Rattle.calculus.specs.Who.{asks}
+use Rattle.owner_laws.specs.Own.{IsOwn, are_own, names_no_aggregates}
 use Rattle.owner_laws.proofs.Own.{no_view, permitted_own}
 
 both : (a b : Bool) → (a && b) ≡ true → (a ≡ true) × (b ≡ true)

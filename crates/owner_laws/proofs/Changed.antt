@@ -1,7 +1,7 @@
 -- The owner of all changes what nobody in particular changes.
-use Rattle.std.proofs.Common.{◌≡◌, ℕ, Bool, true, false, List, [], ◌∷◌, Option, Some, None, Result, Ok, Err, refl, sym, ap, ◌∙◌, length}
-use Rattle.std.specs.Prelude.{option_map, filter, filter_map, not, nat_lt, ◌==◌, ◌&&◌, if◌then◌else◌}
-use Rattle.std.specs.List.{list_all}
+use Rattle.std.proofs.Common.{◌≡◌, ℕ, Bool, true, false, List, [], ◌∷◌, Option, Some, None, Result, Ok, Err, refl, sym, ap, ◌∙◌, map, length}
+use Rattle.std.specs.Prelude.{is_none, option_map, filter, filter_map, not, nat_lt, ◌==◌, ◌&&◌, if◌then◌else◌}
+use Rattle.std.specs.List.{list_any, list_all}
 use Rattle.std.specs.Str.{bytes_eq}
 use Rattle.calculus.specs.declared.change.Pair.{Pair}
 use Rattle.calculus.specs.declared.change.DbChange.{DbChange}
@@ -10,22 +10,22 @@ use Rattle.calculus.specs.declared.request.Update.{Update}
 use Rattle.calculus.specs.declared.request.UpdateOp.TheVariants.{Append, Replace, Delete, Into}
 use Rattle.calculus.specs.declared.change.DbChange.TheVariants.{Create}
 use Rattle.calculus.specs.Aggregate.{aggregates}
-use Rattle.calculus.specs.Assignments.{assigned_by, variable_rows, changed, changed_rows, may_read, update_rows, update_assigned}
+use Rattle.calculus.specs.Assignments.{assigned_by, variable_rows, changed, changed_rows, may_read, Seen, staying, going, update_rows, Changing, changing_by, update_assigned}
 use Rattle.calculus.specs.Database.{Db}
 use Rattle.calculus.specs.Limits.{most_rows}
-use Rattle.calculus.specs.Pairs.{pair_of, old_row, may_append, is_append, new_stands, pair_stands, pairs}
-use Rattle.calculus.specs.QueryParts.{targets_of}
+use Rattle.calculus.specs.Pairs.{pair_of, may_append, is_append, new_stands, pair_stands, pairs}
+use Rattle.calculus.specs.QueryParts.{targets_of, qual_of}
 use Rattle.calculus.specs.Replacement.{wanted_kinds, all_fit, contended, after, first_cause, made_info, rows_change, updated}
 use Rattle.calculus.specs.Rights.{Right, Retrieve, may}
 use Rattle.calculus.specs.Rights as right
 use Rattle.calculus.specs.Rows.{Row}
 use Rattle.calculus.specs.Stored.{Range, Kept, Viewed, range_at, kept_rows, rows_at}
-use Rattle.calculus.specs.Targets.{target_values, qualifying, some_lacks}
-use Rattle.calculus.specs.Term.{Env, Aggs, holds, no_aggs}
+use Rattle.calculus.specs.Targets.{target_values}
+use Rattle.calculus.specs.Term.{Aggs, holds, no_aggs}
 use Rattle.calculus.specs.Used.{used_in_query}
 use Rattle.calculus.specs.VariableRows.{rows_of}
-use Rattle.calculus.specs.Who.{Who, Free}
-use Rattle.owner_laws.specs.Own.{IsOwn, asks}
+use Rattle.calculus.specs.Who.{Who, Free, asks}
+use Rattle.owner_laws.specs.Own.{IsOwn}
 use Rattle.owner_laws.proofs.Own.{kept_own, may_own, may_free, filter_all}
 use Rattle.owner_laws.proofs.Seen.{rows_same, aggregates_same}
 
@@ -54,25 +54,25 @@ module _ (user : List ℕ) (db : Db) (own : IsOwn db user) where
   changed_same : (right : Right) (places read : List ℕ) (key : RelKey) → changed_rows db (asks user) right places read key ≡ changed_rows db Free right places read key
   changed_same right places read key = changed_one right places read key (range_at db key) refl
 
-  -- the rows of a variable that is changed by this right, or isn't
-  abbrev var_by : Who → Update → ℕ → RelKey → Right → Bool → List Row
+  -- what a variable may have that is changed by this right, or isn't
+  abbrev var_by : Who → Update → ℕ → RelKey → Right → Bool → List Seen
   var_by who u v key does b = elim b [
-    | true ↦ changed_rows db who does u.places (used_in_query v u.query) key
-    | false ↦ variable_rows (rows_of db who) u.query v key
+    | true ↦ map going (changed_rows db who does u.places (used_in_query v u.query) key)
+    | false ↦ map staying (variable_rows (rows_of db who) u.query v key)
   ]
 
-  abbrev var_with : Who → Update → ℕ → RelKey → Option (ℕ × Right) → List Row
+  abbrev var_with : Who → Update → ℕ → RelKey → Option (ℕ × Right) → List Seen
   var_with who u v key o = elim o [
-    | None ↦ variable_rows (rows_of db who) u.query v key
+    | None ↦ map staying (variable_rows (rows_of db who) u.query v key)
     | Some c ↦ var_by who u v key c.1 (c.0 == v)
   ]
 
   var_test : (u : Update) (v : ℕ) (key : RelKey) (does : Right) (b : Bool) → var_by (asks user) u v key does b ≡ var_by Free u v key does b
-  var_test u v key does true = changed_same does u.places (used_in_query v u.query) key
-  var_test u v key does false = ap (λ source. variable_rows source u.query v key) (rows_same user db own)
+  var_test u v key does true = ap (map going) (changed_same does u.places (used_in_query v u.query) key)
+  var_test u v key does false = ap (λ source. map staying (variable_rows source u.query v key)) (rows_same user db own)
 
   var_one : (u : Update) (v : ℕ) (key : RelKey) (o : Option (ℕ × Right)) → var_with (asks user) u v key o ≡ var_with Free u v key o
-  var_one u v key None = ap (λ source. variable_rows source u.query v key) (rows_same user db own)
+  var_one u v key None = ap (λ source. map staying (variable_rows source u.query v key)) (rows_same user db own)
   var_one u v key (Some c) = var_test u v key c.1 (c.0 == v)
 
   vars_same : (u : Update) → update_rows db (asks user) (rows_of db (asks user)) u ≡ update_rows db Free (rows_of db Free) u
@@ -80,7 +80,7 @@ module _ (user : List ℕ) (db : Db) (own : IsOwn db user) where
 
   assigned_same : (u : Update) → update_assigned db (asks user) (rows_of db (asks user)) u ≡ update_assigned db Free (rows_of db Free) u
   unfolding update_assigned
-  assigned_same u = ap (λ rows. assigned_by rows u.query) (vars_same u)
+  assigned_same u = ap (λ rows. map changing_by (assigned_by rows u.query)) (vars_same u)
 
   append_same : (u : Update) (row : Row) → bytes_eq u.rel.owner user ≡ true → may_append db (asks user) u row ≡ may_append db Free u row
   append_same u row mine = ap (λ b. holds no_aggs u.new_cut (row ∷ []) && b) (may_own user db right.Append u.places u.rel row mine ∙ sym (may_free db right.Append u.places u.rel row))
@@ -99,9 +99,16 @@ module _ (user : List ℕ) (db : Db) (own : IsOwn db user) where
   pair_same : (u : Update) → bytes_eq u.rel.owner user ≡ true → pair_stands db (asks user) u ≡ pair_stands db Free u
   pair_same u mine = λ i p. pair_one u p.new mine i
 
+  -- the assignments in which the qualification holds, and the values of the targets in one, where these are the aggregates
+  abbrev qualifying_over : Update → Aggs → List Changing → List Changing
+  qualifying_over u aggs cs = filter (λ c. holds aggs (qual_of u.query) c.env) cs
+
+  abbrev values_over : Update → Aggs → Changing → Option Row
+  values_over u aggs c = target_values aggs (targets_of u.query) c.env
+
   -- the pairs, where these are the aggregates, the assignments and the pairs that stand
-  abbrev pairs_over : Update → Aggs → List Env → (Pair → Bool) → List Pair
-  pairs_over u aggs es stands = filter stands (filter_map (λ e. option_map (pair_of db u (old_row u e)) (target_values aggs (targets_of u.query) e)) (qualifying aggs u.query es))
+  abbrev pairs_over : Update → Aggs → List Changing → (Pair → Bool) → List Pair
+  pairs_over u aggs cs stands = filter stands (filter_map (λ c. option_map (pair_of db u c.old) (values_over u aggs c)) (qualifying_over u aggs cs))
 
   pairs_are : (who : Who) (u : Update) → pairs db who u ≡ pairs_over u (aggregates db who) (update_assigned db who (rows_of db who) u) (pair_stands db who u)
   unfolding pairs
@@ -111,16 +118,16 @@ module _ (user : List ℕ) (db : Db) (own : IsOwn db user) where
   pairs_same u mine =
       pairs_are (asks user) u
       ∙ ap (λ aggs. pairs_over u aggs (update_assigned db (asks user) (rows_of db (asks user)) u) (pair_stands db (asks user) u)) (aggregates_same user db own)
-      ∙ ap (λ es. pairs_over u (aggregates db Free) es (pair_stands db (asks user) u)) (assigned_same u)
+      ∙ ap (λ cs. pairs_over u (aggregates db Free) cs (pair_stands db (asks user) u)) (assigned_same u)
       ∙ ap (λ stands. pairs_over u (aggregates db Free) (update_assigned db Free (rows_of db Free) u) stands) (pair_same u mine)
       ∙ sym (pairs_are Free u)
 
   -- the change or the number that refuses it, where these are the aggregates, the assignments and the pairs
-  abbrev updated_over : Update → Aggs → List Env → List Pair → Result DbChange ℕ
-  updated_over u aggs es ps =
+  abbrev updated_over : Update → Aggs → List Changing → List Pair → Result DbChange ℕ
+  updated_over u aggs cs ps =
       elim (first_cause (
-      (20, some_lacks aggs u.query es)
-      ∷ (21, not (list_all (λ e. all_fit (wanted_kinds db u) (target_values aggs (targets_of u.query) e)) (qualifying aggs u.query es)))
+      (20, list_any (λ c. is_none (values_over u aggs c)) (qualifying_over u aggs cs))
+      ∷ (21, not (list_all (λ c. all_fit (wanted_kinds db u) (values_over u aggs c)) (qualifying_over u aggs cs)))
       ∷ (22, contended ps) ∷ (29, nat_lt most_rows (length (after (rows_at db u.rel) ps))) ∷ []
       )) [
         | None ↦
@@ -142,6 +149,6 @@ module _ (user : List ℕ) (db : Db) (own : IsOwn db user) where
   update_same u mine =
       updated_is (asks user) u
       ∙ ap (λ aggs. updated_over u aggs (update_assigned db (asks user) (rows_of db (asks user)) u) (pairs db (asks user) u)) (aggregates_same user db own)
-      ∙ ap (λ es. updated_over u (aggregates db Free) es (pairs db (asks user) u)) (assigned_same u)
+      ∙ ap (λ cs. updated_over u (aggregates db Free) cs (pairs db (asks user) u)) (assigned_same u)
       ∙ ap (λ ps. updated_over u (aggregates db Free) (update_assigned db Free (rows_of db Free) u) ps) (pairs_same u mine)
       ∙ sym (updated_is Free u)

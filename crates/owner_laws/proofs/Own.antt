@@ -11,8 +11,8 @@ use Rattle.calculus.specs.Keys.{same_key}
 use Rattle.calculus.specs.Rights.{Right, may, permitted}
 use Rattle.calculus.specs.Rows.{Row}
 use Rattle.calculus.specs.Stored.{Range, Kept, Viewed, range_at}
-use Rattle.calculus.specs.Who.{Free}
-use Rattle.owner_laws.specs.Own.{IsOwn, asks}
+use Rattle.calculus.specs.Who.{Free, asks}
+use Rattle.owner_laws.specs.Own.{IsOwn}
 
 both : (a b : Bool) → (a && b) ≡ true → (a ≡ true) × (b ≡ true)
 both true true e = (refl, refl)

@@ -13,8 +13,8 @@ use Rattle.calculus.specs.Stored.{Range, Kept, Viewed, range_at}
 use Rattle.calculus.specs.Targets.{rows_given, some_lacks}
 use Rattle.calculus.specs.Term.{Aggs, values_of}
 use Rattle.calculus.specs.VariableRows.{range_rows, rows_within, rows_of}
-use Rattle.calculus.specs.Who.{Free}
-use Rattle.owner_laws.specs.Own.{IsOwn, asks}
+use Rattle.calculus.specs.Who.{Free, asks}
+use Rattle.owner_laws.specs.Own.{IsOwn}
 use Rattle.owner_laws.proofs.Own.{kept_own, no_view, may_own, may_free, filter_all}
 
 module _ (user : List ℕ) (db : Db) (own : IsOwn db user) where

@@ -7,11 +7,6 @@ use Rattle.calculus.specs.declared.query.Query.{Query}
 use Rattle.calculus.specs.Lists.{is_any}
 use Rattle.calculus.specs.Database.{Db}
 use Rattle.calculus.specs.QueryParts.{query_aggregates}
-use Rattle.calculus.specs.Who.{Who, Asks}
-
--- the user asks
-abbrev pub asks : List ℕ → Who
-asks user = Asks (record { user = user })
 
 -- these are the user's own
 abbrev pub are_own : List ℕ → List RelKey → Bool

@@ -13,8 +13,8 @@ ghost use Rattle.calculus.specs.Permission.{query_permitted, update_permitted};
 ghost use Rattle.calculus.specs.QueryParts.{vars_of};
 ghost use Rattle.calculus.specs.Replacement.{updated};
 ghost use Rattle.calculus.specs.VariableRows.{rows_of};
-ghost use Rattle.calculus.specs.Who.{Free};
-ghost use Rattle.owner_laws.specs.Own.{IsOwn, asks, are_own, names_no_aggregates};
+ghost use Rattle.calculus.specs.Who.{Free, asks};
+ghost use Rattle.owner_laws.specs.Own.{IsOwn, are_own, names_no_aggregates};
 
 /// Where a database is all its user's own and has no views, the user sees what nobody in particular
 /// sees: the rows of each variable, so each answer, and where a target has no value.

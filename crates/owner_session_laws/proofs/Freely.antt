@@ -19,9 +19,9 @@ use Rattle.calculus.specs.Database.{Db}
 use Rattle.calculus.specs.Keys.{same_key}
 use Rattle.calculus.specs.Pairs.{ruled}
 use Rattle.calculus.specs.QueryParts.{targets_of}
-use Rattle.calculus.specs.Who.{Free}
+use Rattle.calculus.specs.Who.{Free, asker_of}
 use Rattle.quel_meaning.specs.Copying.{refusal}
-use Rattle.quel_meaning.specs.Meaning.{unchanged, numbered_effect, answer_reply, tree_meaning, ruled_tree, checked_permitted, with_ranges, permitted_outcome, tree_outcome}
+use Rattle.quel_meaning.specs.Meaning.{unchanged, numbered_effect, answer_reply, tree_meaning, ruled_tree, checked_permitted, with_ranges, permitted_tree, judged_outcome, judged_tree}
 use Rattle.quel_meaning.specs.Ranges.{Ranges}
 use Rattle.quel_meaning.specs.Resolved.{resolved}
 use Rattle.quel_meaning.specs.Shelf.{Shelf}
@@ -108,15 +108,15 @@ pub always_permitted : (db : Db) (user : List ℕ) (ranges : Ranges) (s : Statem
 always_permitted db user ranges s tree own e = tree_permitted user db own tree (asked_own db user ranges s tree own e)
 
 pub freely : (state : State) (user : List ℕ) (s : Statement) (tree : Checked) → IsOwn state.db user → resolved state.db user state.ranges s ≡ Ok tree
-    → tree_outcome state user (Ok tree) ≡ with_ranges state.ranges (tree_meaning state.db state.shelf Free user (ruled_tree state.db tree))
+    → judged_outcome state (asker_of user) (judged_tree state.db (asker_of user) (Ok tree)) ≡ with_ranges state.ranges (tree_meaning state.db state.shelf Free user (ruled_tree state.db tree))
 freely state user s tree own e =
-    ap (λ b. permitted_outcome b state user tree) (always_permitted state.db user state.ranges s tree own e)
+    ap (λ b. judged_outcome state (asker_of user) (permitted_tree b tree)) (always_permitted state.db user state.ranges s tree own e)
     ∙ ap (with_ranges state.ranges)
     (meaning_alike user state.db own state.shelf (ruled_tree state.db tree)
     (subst (Each (Mine user)) (sym (ruled_keys state.db tree)) (asked_own state.db user state.ranges s tree own e)))
 
 pub freely_without_rules : (state : State) (user : List ℕ) (s : Statement) (tree : Checked) → IsOwn state.db user → state.db.rules ≡ []
     → resolved state.db user state.ranges s ≡ Ok tree
-    → tree_outcome state user (Ok tree) ≡ with_ranges state.ranges (tree_meaning state.db state.shelf Free user tree)
+    → judged_outcome state (asker_of user) (judged_tree state.db (asker_of user) (Ok tree)) ≡ with_ranges state.ranges (tree_meaning state.db state.shelf Free user tree)
 freely_without_rules state user s tree own none e =
     freely state user s tree own e ∙ ap (λ tree. with_ranges state.ranges (tree_meaning state.db state.shelf Free user tree)) (not_ruled state.db none tree)

@@ -21,9 +21,9 @@ use Rattle.calculus.specs.Limits.{most_rows}
 use Rattle.calculus.specs.Replacement.{first_cause, with_rows, without_rows, updated}
 use Rattle.calculus.specs.Rows.{Row}
 use Rattle.calculus.specs.Stored.{kinds_at, rows_at}
-use Rattle.calculus.specs.Who.{Who}
+use Rattle.calculus.specs.Who.{Who, asker_of}
 use Rattle.quel_meaning.specs.Copying.{most_file_bytes, file_of_constant, refusal, bad_row, keeps_rules, rows_in_file, rows_appended, file_appended, copied_from, copied_into}
-use Rattle.quel_meaning.specs.Meaning.{change_effect, numbered_effect, file_effect, copy_effect, utility_effect, tree_meaning, ruled_tree, checked_permitted, range_outcome, permitted_outcome, tree_outcome, built_outcome, statement_outcome, meaning_by, meaning, statements_run}
+use Rattle.quel_meaning.specs.Meaning.{change_effect, numbered_effect, file_effect, copy_effect, utility_effect, tree_meaning, ruled_tree, checked_permitted, range_outcome, permitted_tree, judged_outcome, judged_tree, built_outcome, statement_outcome, meaning_by, meaning, statements_run, judged_by}
 use Rattle.calculus.specs.Who.{asks}
 use Rattle.quel_meaning.specs.Planned.{owner_causes, planned}
 use Rattle.quel_meaning.specs.Ranges.{Ranges}
@@ -157,7 +157,7 @@ range_plain state user var None mine plain = plain
 range_plain state user var (Some info) mine plain = record { database = plain.database; ranges = declared_own user state.ranges var info.key plain.ranges (mine info refl) }
 
 permitted_plain : (b : Bool) (state : State) (user : List ℕ) (tree : Checked) → is_plain_tree user tree ≡ true → IsPlainState state user
-    → IsPlainState (permitted_outcome b state user tree).state user
+    → IsPlainState (judged_outcome state (asker_of user) (permitted_tree b tree)).state user
 permitted_plain true state user tree h plain = record {
   database = tree_plain state.db state.shelf (asks user) user (ruled_tree state.db tree) plain.database (subst (λ t. is_plain_tree user t ≡ true) (sym (not_ruled state.db plain.database.no_rules tree)) h);
   ranges = plain.ranges;
@@ -165,30 +165,30 @@ permitted_plain true state user tree h plain = record {
 permitted_plain false state user tree h plain = plain
 
 outcome_plain : (state : State) (user : List ℕ) (tree : Result Checked ℕ) → ((t : Checked) → tree ≡ Ok t → is_plain_tree user t ≡ true) → IsPlainState state user
-    → IsPlainState (tree_outcome state user tree).state user
+    → IsPlainState (judged_outcome state (asker_of user) (judged_tree state.db (asker_of user) tree)).state user
 outcome_plain state user (Err number) h plain = plain
 outcome_plain state user (Ok tree) h plain = permitted_plain (checked_permitted state.db (asks user) tree) state user tree (h tree refl) plain
 
-statement_plain : (state : State) (user : List ℕ) (s : Statement) → is_plain s ≡ true → IsPlainState state user → IsPlainState (statement_outcome resolved state user s).state user
-unfolding statement_outcome
+statement_plain : (state : State) (user : List ℕ) (s : Statement) → is_plain s ≡ true → IsPlainState state user → IsPlainState (statement_outcome resolved state (asker_of user) s).state user
+unfolding statement_outcome judged_by
 statement_plain state user (statement.Range var rel) = λ h plain.
     range_plain state user var (found state.db user rel) (λ info e. found_own state.db user plain.database.own user rel info e) plain
 statement_plain state user s = λ h plain.
     outcome_plain state user (resolved state.db user state.ranges s) (λ tree e. resolved_plain state.db user state.ranges s tree plain.database.own h e) plain
 
-built_plain : (b : Bool) (state : State) (user : List ℕ) (s : Statement) → (b ≡ true → is_plain s ≡ true) → IsPlainState state user → IsPlainState (built_outcome b resolved state user s).state user
+built_plain : (b : Bool) (state : State) (user : List ℕ) (s : Statement) → (b ≡ true → is_plain s ≡ true) → IsPlainState state user → IsPlainState (built_outcome b resolved state (asker_of user) s).state user
 built_plain true state user s h plain = statement_plain state user s (h refl) plain
 built_plain false state user s h plain = plain
 
-pub meaning_plain : (built : Built) (state : State) (user : List ℕ) (s : Statement) → BuildsPlain built → IsPlainState state user → IsPlainState (meaning built state user s).state user
+pub meaning_plain : (built : Built) (state : State) (user : List ℕ) (s : Statement) → BuildsPlain built → IsPlainState state user → IsPlainState (meaning built state (asker_of user) s).state user
 unfolding meaning_by
 meaning_plain built state user s h plain = built_plain (built.statement s) state user s (h s) plain
 
 -- ---- runs
 
 pub run_plain : (built : Built) (state : State) (user : List ℕ) (ss : List Statement) → BuildsPlain built → IsPlainState state user
-    → AllByRecursion (λ o. IsPlainState o.state user) (statements_run (λ before s. meaning built before user s) state ss)
+    → AllByRecursion (λ o. IsPlainState o.state user) (statements_run (λ before s. meaning built before (asker_of user) s) state ss)
 unfolding statements_run
 run_plain built state user [] h plain = tt
 run_plain built state user (s ∷ ss) h plain =
-    let next = meaning_plain built state user s h plain in (next, run_plain built (meaning built state user s).state user ss h next)
+    let next = meaning_plain built state user s h plain in (next, run_plain built (meaning built state (asker_of user) s).state user ss h next)

@@ -4,8 +4,8 @@ ghost use Rattle.std.specs.Prelude.{◌≡◌, ℕ, true, List, [], IsTrue, Ok};
 ghost use Rattle.calculus.specs.declared.request.Checked.{Checked};
 ghost use Rattle.calculus.specs.declared.statement.Statement.{Statement};
 ghost use Rattle.calculus.specs.Database.{Db};
-ghost use Rattle.calculus.specs.Who.{Free};
-ghost use Rattle.quel_meaning.specs.Meaning.{checked_permitted, ruled_tree, tree_meaning, tree_outcome, with_ranges};
+ghost use Rattle.calculus.specs.Who.{Free, asker_of};
+ghost use Rattle.quel_meaning.specs.Meaning.{checked_permitted, ruled_tree, tree_meaning, judged_outcome, judged_tree, with_ranges};
 ghost use Rattle.calculus.specs.Who.{asks};
 ghost use Rattle.quel_meaning.specs.Ranges.{Ranges};
 ghost use Rattle.quel_meaning.specs.Resolved.{resolved};
@@ -28,8 +28,8 @@ pub fn the_owner_is_permitted_all()
 /// its relation; where no rules stand on anything, just what the tree means.
 pub fn statements_mean_what_they_mean_freely()
     ensures with_rules { (state : State) (user : List ℕ) (s : Statement) (tree : Checked) → IsOwn state.db user → resolved state.db user state.ranges s ≡ Ok tree
-        → tree_outcome state user (Ok tree) ≡ with_ranges state.ranges (tree_meaning state.db state.shelf Free user (ruled_tree state.db tree)) }
+        → judged_outcome state (asker_of user) (judged_tree state.db (asker_of user) (Ok tree)) ≡ with_ranges state.ranges (tree_meaning state.db state.shelf Free user (ruled_tree state.db tree)) }
     ensures without_rules { (state : State) (user : List ℕ) (s : Statement) (tree : Checked)
         → IsOwn state.db user → state.db.rules ≡ [] → resolved state.db user state.ranges s ≡ Ok tree
-        → tree_outcome state user (Ok tree) ≡ with_ranges state.ranges (tree_meaning state.db state.shelf Free user tree) }
+        → judged_outcome state (asker_of user) (judged_tree state.db (asker_of user) (Ok tree)) ≡ with_ranges state.ranges (tree_meaning state.db state.shelf Free user tree) }
 {}

@@ -1,5 +1,6 @@
 //! What sessions are that begin with a plain database of the user's own.
 
+ghost use Rattle.calculus.specs.Who.{asker_of};
 ghost use Rattle.std.specs.Prelude.{◌≡◌, ℕ, List, []};
 ghost use Rattle.std.specs.List.{AllByRecursion};
 ghost use Rattle.calculus.specs.declared.statement.Statement.{Statement};
@@ -17,11 +18,11 @@ ghost use Rattle.owner_session_laws.specs.Plain.{IsPlain, IsPlainState, BuildsPl
 /// the script, with all commands and included files; and each of its databases is plain and the user's own.
 pub fn sessions_ask_no_permits()
     ensures statements { (built : Built) (state : State) (user : List ℕ) (s : Statement)
-        → IsOwn state.db user → state.db.rules ≡ [] → meaning built state user s ≡ free_meaning built state user s }
+        → IsOwn state.db user → state.db.rules ≡ [] → meaning built state (asker_of user) s ≡ free_meaning built state user s }
     ensures sessions { (reading : Reading) (built : Built) (user : List ℕ) (state : State) (script : List ℕ)
-        → BuildsPlain built → IsPlainState state user → session reading built user state script ≡ free_session reading built user state script }
+        → BuildsPlain built → IsPlainState state user → session reading built (asker_of user) state script ≡ free_session reading built user state script }
     ensures after { (reading : Reading) (built : Built) (user : List ℕ) (state : State) (script : List ℕ)
-        → BuildsPlain built → IsPlainState state user → IsPlainState (session reading built user state script).state user }
+        → BuildsPlain built → IsPlainState state user → IsPlainState (session reading built (asker_of user) state script).state user }
     ensures databases { (reading : Reading) (built : Built) (user : List ℕ) (state : State) (script : List ℕ)
-        → BuildsPlain built → IsPlainState state user → AllByRecursion (λ db. IsPlain db user) (databases state.db (session reading built user state script)) }
+        → BuildsPlain built → IsPlainState state user → AllByRecursion (λ db. IsPlain db user) (databases state.db (session reading built (asker_of user) state script)) }
 {}

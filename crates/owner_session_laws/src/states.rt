@@ -15,7 +15,7 @@ ghost use Rattle.calculus.specs.Change.{laid};
 ghost use Rattle.calculus.specs.Database.{Db};
 ghost use Rattle.calculus.specs.Replacement.{updated};
 ghost use Rattle.calculus.specs.Rows.{Row};
-ghost use Rattle.calculus.specs.Who.{Who};
+ghost use Rattle.calculus.specs.Who.{Who, asker_of};
 ghost use Rattle.quel_meaning.specs.Meaning.{meaning, statements_run};
 ghost use Rattle.quel_meaning.specs.Planned.{planned};
 ghost use Rattle.quel_meaning.specs.Shelf.{Shelf};
@@ -40,7 +40,7 @@ pub fn plain_changes_leave_plain_databases()
 pub fn own_stays_own()
     ensures empty { (user : List ℕ) (shelf : Shelf) → IsPlainState (record { db = empty_db user; shelf = shelf; ranges = [] }) user }
     ensures statement { (built : Built) (state : State) (user : List ℕ) (s : Statement)
-        → BuildsPlain built → IsPlainState state user → IsPlainState (meaning built state user s).state user }
+        → BuildsPlain built → IsPlainState state user → IsPlainState (meaning built state (asker_of user) s).state user }
     ensures run { (built : Built) (state : State) (user : List ℕ) (ss : List Statement) → BuildsPlain built → IsPlainState state user
-        → AllByRecursion (λ o. IsPlainState o.state user) (statements_run (λ before s. meaning built before user s) state ss) }
+        → AllByRecursion (λ o. IsPlainState o.state user) (statements_run (λ before s. meaning built before (asker_of user) s) state ss) }
 {}

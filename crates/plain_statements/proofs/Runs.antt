@@ -10,7 +10,7 @@ use Rattle.calculus.specs.declared.statement.Statement.{Statement}
 use Rattle.calculus.specs.declared.statement.Statement.TheVariants as statement
 use Rattle.calculus.specs.Database.{Db}
 use Rattle.calculus.specs.Finding.{found}
-use Rattle.calculus.specs.Who.{Free}
+use Rattle.calculus.specs.Who.{Free, asker_of}
 use Rattle.quel_meaning.specs.Copying.{refusal}
 use Rattle.quel_meaning.specs.Meaning.{meaning, meaning_by, built_outcome, range_outcome, is_range, tree_meaning, with_ranges}
 use Rattle.quel_meaning.specs.Ranges.{Ranges}
@@ -28,17 +28,17 @@ use Rattle.plain_statements.specs.Plans.{Plans, IsMade}
 use Rattle.plain_statements.specs.Standing.{state_of, outcome_of, effect_of}
 
 module _ (db : Db) (ranges : Ranges) (user : List ℕ) (s : Statement) where
-  pub not_built : is_built s ≡ false → meaning built (state_of db ranges) user s ≡ outcome_of db ranges (Refused (refusal 9))
+  pub not_built : is_built s ≡ false → meaning built (state_of db ranges) (asker_of user) s ≡ outcome_of db ranges (Refused (refusal 9))
   unfolding meaning_by
-  not_built e = ap (λ b. built_outcome b resolved (state_of db ranges) user s) e
+  not_built e = ap (λ b. built_outcome b resolved (state_of db ranges) (asker_of user) s) e
 
-  runs : IsPlain db user → is_built s ≡ true → meaning built (state_of db ranges) user s ≡ free_statement_outcome (state_of db ranges) user s
+  runs : IsPlain db user → is_built s ≡ true → meaning built (state_of db ranges) (asker_of user) s ≡ free_statement_outcome (state_of db ranges) user s
   unfolding free_meaning
   runs plain e = free_means (state_of db ranges) user plain.own plain.no_rules built s ∙ ap (λ b. free_built_outcome b (state_of db ranges) user s) e
 
 -- a declaration of a variable
 pub range_runs : (db : Db) (ranges : Ranges) (user var rel : List ℕ) → IsPlain db user → is_built (statement.Range var rel) ≡ true
-    → meaning built (state_of db ranges) user (statement.Range var rel) ≡ range_outcome (state_of db ranges) var (found db user rel)
+    → meaning built (state_of db ranges) (asker_of user) (statement.Range var rel) ≡ range_outcome (state_of db ranges) var (found db user rel)
 unfolding free_statement_outcome
 range_runs db ranges user var rel plain e = runs db ranges user (statement.Range var rel) plain e
 
@@ -49,19 +49,19 @@ by_tree db ranges user (statement.Range var rel) h = absurd (cc h)
 by_tree db ranges user s h = refl
 
 pub tree_runs : (db : Db) (ranges : Ranges) (user : List ℕ) (s : Statement) → IsPlain db user → is_built s ≡ true → is_range s ≡ false
-    → meaning built (state_of db ranges) user s ≡ free_tree_outcome (state_of db ranges) user (resolved db user ranges s)
+    → meaning built (state_of db ranges) (asker_of user) s ≡ free_tree_outcome (state_of db ranges) user (resolved db user ranges s)
 tree_runs db ranges user s plain e h = runs db ranges user s plain e ∙ by_tree db ranges user s h
 
 -- ---- what a statement does that is built
 
 module _ (db now : Db) (old new : Ranges) (user : List ℕ) (s : Statement) (plain : IsPlainState (state_of db old) user) (e : is_built s ≡ true) where
   pub range_done : (var rel : List ℕ) → s ≡ statement.Range var rel → (reply : Reply) → range_outcome (state_of db old) var (found db user rel) ≡ outcome_of now new reply
-      → meaning built (state_of db old) user s ≡ outcome_of now new reply
+      → meaning built (state_of db old) (asker_of user) s ≡ outcome_of now new reply
   range_done var rel is reply h =
-      ap (meaning built (state_of db old) user) is ∙ range_runs db old user var rel plain.database (subst (λ s. is_built s ≡ true) is e) ∙ h
+      ap (meaning built (state_of db old) (asker_of user)) is ∙ range_runs db old user var rel plain.database (subst (λ s. is_built s ≡ true) is e) ∙ h
 
   pub tree_done : is_range s ≡ false → (reply : Reply) → free_tree_outcome (state_of db old) user (resolved db user old s) ≡ outcome_of now new reply
-      → meaning built (state_of db old) user s ≡ outcome_of now new reply
+      → meaning built (state_of db old) (asker_of user) s ≡ outcome_of now new reply
   tree_done not reply h = tree_runs db old user s plain.database e not ∙ h
 
 -- ---- what is made for a statement
@@ -107,7 +107,7 @@ builds_plain (statement.Rule var qual) h = absurd (cc h)
 builds_plain s h = refl
 
 pub stays_plain : (db now : Db) (old new : Ranges) (user : List ℕ) (s : Statement) (reply : Reply) → IsPlainState (state_of db old) user
-    → meaning built (state_of db old) user s ≡ outcome_of now new reply → IsPlainState (state_of now new) user
+    → meaning built (state_of db old) (asker_of user) s ≡ outcome_of now new reply → IsPlainState (state_of now new) user
 stays_plain db now old new user s reply plain h = subst (λ o. IsPlainState o.state user) h (meaning_plain built (state_of db old) user s builds_plain plain)
 
 pub same_plain : (db now : Db) (old new : Ranges) (user : List ℕ) → IsPlainState (state_of db old) user → now ≡ db → new ≡ old → IsPlainState (state_of now new) user
@@ -115,7 +115,7 @@ same_plain db now old new user plain d r = subst (λ state. IsPlainState state u
 
 -- it stays plain, whether the statement was done or memory was wanting
 pub run_plain : (db now : Db) (old new : Ranges) (user : List ℕ) (s : Statement) (result : Result Reply Short) → IsPlainState (state_of db old) user
-    → IfOk result (λ reply. meaning built (state_of db old) user s ≡ outcome_of now new reply) → OnErr result (now ≡ db) → OnErr result (new ≡ old)
+    → IfOk result (λ reply. meaning built (state_of db old) (asker_of user) s ≡ outcome_of now new reply) → OnErr result (now ≡ db) → OnErr result (new ≡ old)
     → IsPlainState (state_of now new) user
 run_plain db now old new user s (Ok reply) plain h d r = stays_plain db now old new user s reply plain h
 run_plain db now old new user s (Err e) plain h d r = same_plain db now old new user plain d r

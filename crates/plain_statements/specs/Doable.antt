@@ -11,7 +11,7 @@ use Rattle.calculus.specs.Database.{Db}
 use Rattle.calculus.specs.QueryParts.{vars_of, query_aggregates}
 use Rattle.quel_meaning.specs.FitQueries.{kept_alone, is_kept}
 use Rattle.quel_meaning.specs.Fit.{update_fits, utility_fits}
-use Rattle.update_laws.specs.Spelled.{key_is_spelled}
+use Rattle.quel_meaning.specs.SpelledTree.{key_is_spelled}
 use Rattle.query_tables.specs.Causes.{ArePlain}
 
 -- the queries range over base relations and catalogues alone, and no aggregate stands in them

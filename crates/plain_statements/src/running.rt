@@ -1,5 +1,6 @@
 //! Runs a statement of the user's on a database in memory and the range variables.
 
+ghost use Rattle.calculus.specs.Who.{asker_of};
 ghost use Rattle.std.specs.Prelude.{◌≡◌, ℕ, true, false, None, Result as Made, IfOk, IsOk, IfSome, OnErr};
 ghost use Rattle.calculus.specs.declared.request.Checked.{Checked as Tree};
 ghost use Rattle.calculus.specs.declared.statement.Statement.TheVariants.{Range};
@@ -119,7 +120,7 @@ fn built_run(
     requires plain { IsPlainState (state_of (database_of base.old) ranges.old) user.now }
     requires built { is_built s.now ≡ true }
     requires written { is_written s.now ≡ true }
-    ensures outcome { IfOk result (λ reply. meaning built (state_of (database_of base.old) ranges.old) user.now s.now ≡ outcome_of (database_of base.new) ranges.new reply) }
+    ensures outcome { IfOk result (λ reply. meaning built (state_of (database_of base.old) ranges.old) (asker_of user.now) s.now ≡ outcome_of (database_of base.new) ranges.new reply) }
     ensures database { OnErr result (database_of base.new ≡ database_of base.old) }
     ensures ranges { OnErr result (ranges.new ≡ ranges.old) }
 {
@@ -140,7 +141,7 @@ pub(crate) fn run(
 ) -> Result<Reply, OutOfMemory>
     requires own { IsPlainState (state_of (database_of base.old) ranges.old) user.now }
     requires written { is_written s.now ≡ true }
-    ensures outcome { IfOk result (λ reply. meaning built (state_of (database_of base.old) ranges.old) user.now s.now ≡ outcome_of (database_of base.new) ranges.new reply) }
+    ensures outcome { IfOk result (λ reply. meaning built (state_of (database_of base.old) ranges.old) (asker_of user.now) s.now ≡ outcome_of (database_of base.new) ranges.new reply) }
     ensures plain { IsPlainState (state_of (database_of base.new) ranges.new) user.now }
     ensures not_built { is_built s.now ≡ false → IsOk result }
 {

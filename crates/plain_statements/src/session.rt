@@ -1,6 +1,7 @@
 //! What runs the statements of one user on a database in memory.
 
 ghost use Rattle.std.specs.Prelude.{◌≡◌, [], IfOk};
+ghost use Rattle.calculus.specs.Who.{asker_of};
 ghost use Rattle.quel_meaning.specs.Meaning.{meaning};
 ghost use Rattle.owner_session_laws.specs.Plain.{IsPlainState, empty_db};
 ghost use Rattle.plain_base.specs.Shown.{database_of};
@@ -30,7 +31,7 @@ pub struct PlainStatements {
 impl PlainStatements {
     /// The database of this user without anything in it, and no range variables.
     pub fn new(alloc: Global, user: Name) -> Result<PlainStatements, OutOfMemory>
-        ensures user { IfOk result (λ s. ⟦<PlainStatements as Statements>⟧.user s ≡ user) }
+        ensures asker { IfOk result (λ s. ⟦<PlainStatements as Statements>⟧.asker s ≡ asker_of user) }
         ensures state { IfOk result (λ s. ⟦<PlainStatements as Statements>⟧.state s ≡ state_of (empty_db user) []) }
     {
         let base = DbPlain::new(alloc, user.copy(alloc)?);
@@ -40,9 +41,9 @@ impl PlainStatements {
 }
 
 impl Statements for PlainStatements {
-    ghost meaning = { λ user state s. meaning built state user s };
+    ghost meaning = { λ asker state s. meaning built state asker s };
 
-    ghost user = { λ s. s.user };
+    ghost asker = { λ s. asker_of s.user };
 
     ghost state = { λ s. state_of (database_of s.base) s.ranges };
 

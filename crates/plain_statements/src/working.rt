@@ -3,7 +3,7 @@
 ghost use Rattle.std.specs.Prelude.{◌≡◌, Some, Ok, Err, IsTrue};
 ghost use Rattle.calculus.specs.Change.{IsLawful};
 ghost use Rattle.calculus.specs.Database.{Db};
-ghost use Rattle.update_laws.specs.Spelled.{key_is_spelled};
+ghost use Rattle.quel_meaning.specs.SpelledTree.{key_is_spelled};
 ghost use Rattle.quel_meaning.specs.Planned.{planned};
 ghost use Rattle.plain_statements.specs.Doable.{IsDoableWork, work_is_spelled};
 ghost use Rattle.plain_statements.specs.Plans.{Plans};

@@ -9,7 +9,7 @@ const GREATEST: u64 = i64::MAX as u64;
 
 /// The number of a token: at most 9,223,372,036,854,775,807, so that a term can have it. Contracts
 /// see the number itself.
-#[derive(Clone, Copy, Debug, PartialEq, Eq)]
+#[derive(Clone, Copy)]
 pub struct Number {
     value: u64,
 }

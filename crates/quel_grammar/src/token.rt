@@ -4,7 +4,7 @@ use crate::number::Number;
 use calculus::{Chars, Name};
 
 /// A token with one spelling: a reserved word or a symbol.
-#[derive(Clone, Copy, Debug, PartialEq, Eq)]
+#[derive(Clone, Copy, PartialEq, Eq)]
 pub enum Fixed {
     /// `all`
     All,
@@ -101,7 +101,7 @@ pub enum Fixed {
 }
 
 /// A token.
-#[derive(Debug, Drop)]
+#[derive(Drop)]
 pub enum Token {
     /// A name, in lower case. Where a text is read, it's no reserved word.
     Name(Name),
@@ -114,7 +114,7 @@ pub enum Token {
 }
 
 /// What stands at a place of a text.
-#[derive(Debug, Drop)]
+#[derive(Drop)]
 pub enum Piece {
     /// White space or a comment.
     White,

@@ -1,5 +1,5 @@
--- The text constants in a term that is read are text constants.
-use Rattle.std.proofs.Common.{◌≡◌, ℕ, true, List, [], sym, subst}
+-- The constants in a term and in a qualification that are read are ones of their types.
+use Rattle.std.proofs.Common.{◌≡◌, true, List, refl, sym, subst}
 use Rattle.calculus.specs.declared.operator.ArithOp.{ArithOp}
 use Rattle.calculus.specs.declared.operator.ArithOp.TheVariants as ops
 use Rattle.calculus.specs.declared.statement.AggTerm.{AggTerm}
@@ -7,7 +7,6 @@ use Rattle.calculus.specs.declared.statement.Qual.{Qual}
 use Rattle.calculus.specs.declared.statement.Qual.TheVariants as quals
 use Rattle.calculus.specs.declared.statement.Term.{Term}
 use Rattle.calculus.specs.declared.statement.Term.TheVariants as terms
-use Rattle.calculus.specs.Chars.{is_chars}
 use Rattle.calculus.specs.Written.{term_row}
 use Rattle.calculus.proofs.WrittenForms.{neg_is, abs_is, operation_is, concat_is, both_is, either_is, negated_is, agg_is}
 use Rattle.quel_grammar.specs.declared.token.Token.{Token}
@@ -29,24 +28,21 @@ use Rattle.quel_grammar.specs.Grammar.IsOrs.{last_or, next_or}
 use Rattle.quel_grammar.specs.Grammar.IsConj.{conjunction}
 use Rattle.quel_grammar.specs.Grammar.IsAnds.{last_and, next_and}
 use Rattle.quel_grammar.specs.Grammar.IsNeg.{not_, grouped, compared}
-use Rattle.quel_meaning.specs.IsWritten.{constants, constants_in_row, constants_in_qual}
-use Rattle.quel_meaning.proofs.Each.{Each, front_of, back_of, both_of}
+use Rattle.quel_meaning.specs.IsWritten.{term_is_written, terms_are_written, qual_is_written}
+use Rattle.quel_meaning.proofs.Each.{front_of, back_of, and}
 use Rattle.reading_laws.proofs.Spelled.{Spelled}
 
--- these are text constants
-abbrev pub AreChars : List (List ℕ) → Type 0
-AreChars cs = Each (λ c. is_chars c ≡ true) cs
-
--- the text constants in the term are
+-- the constants in the term are ones of their types
 abbrev pub Safe : Term → Type 0
-Safe t = AreChars (constants t)
+Safe t = term_is_written t ≡ true
 
--- the text constants in the qualification are
-abbrev SafeQual : Qual → Type 0
-SafeQual q = AreChars (constants_in_qual q)
+-- so they are in the qualification
+abbrev pub SafeQual : Qual → Type 0
+SafeQual q = qual_is_written q ≡ true
 
+-- and in several terms
 abbrev SafeRow : List Term → Type 0
-SafeRow ts = AreChars (constants_in_row (term_row ts))
+SafeRow ts = terms_are_written (term_row ts) ≡ true
 
 -- ---- of terms and qualifications that are made of others
 
@@ -57,20 +53,20 @@ abs_safe : (t : Term) → Safe t → Safe (terms.Abs t)
 abs_safe t h = subst Safe (sym (abs_is t)) h
 
 operation_safe : (op : ArithOp) (t u : Term) → Safe t → Safe u → Safe (terms.Arith op t u)
-operation_safe op t u h k = subst Safe (sym (operation_is op t u)) (both_of _ (constants t) (constants u) h k)
+operation_safe op t u h k = subst Safe (sym (operation_is op t u)) (and (term_is_written t) (term_is_written u) h k)
 
 concat_safe : (t u : Term) → Safe t → Safe u → Safe (terms.Concat t u)
-concat_safe t u h k = subst Safe (sym (concat_is t u)) (both_of _ (constants t) (constants u) h k)
+concat_safe t u h k = subst Safe (sym (concat_is t u)) (and (term_is_written t) (term_is_written u) h k)
 
 aggregate_safe : (a : AggTerm) → Safe a.arg → SafeRow a.by → SafeQual a.qual → Safe (terms.Agg a)
 aggregate_safe a h b q = subst Safe (sym (agg_is a))
-    (both_of _ (constants a.arg) _ h (both_of _ (constants_in_row (term_row a.by)) (constants_in_qual a.qual) b q))
+    (and (term_is_written a.arg) _ h (and (terms_are_written (term_row a.by)) (qual_is_written a.qual) b q))
 
 and_safe : (p q : Qual) → SafeQual p → SafeQual q → SafeQual (quals.And p q)
-and_safe p q h k = subst SafeQual (sym (both_is p q)) (both_of _ (constants_in_qual p) (constants_in_qual q) h k)
+and_safe p q h k = subst SafeQual (sym (both_is p q)) (and (qual_is_written p) (qual_is_written q) h k)
 
 or_safe : (p q : Qual) → SafeQual p → SafeQual q → SafeQual (quals.Or p q)
-or_safe p q h k = subst SafeQual (sym (either_is p q)) (both_of _ (constants_in_qual p) (constants_in_qual q) h k)
+or_safe p q h k = subst SafeQual (sym (either_is p q)) (and (qual_is_written p) (qual_is_written q) h k)
 
 not_safe : (p : Qual) → SafeQual p → SafeQual (quals.Not p)
 not_safe p h = subst SafeQual (sym (negated_is p)) h
@@ -102,9 +98,9 @@ mutual
   unary_safe (prim p) h = prim_safe p h
 
   prim_safe : {ts : List Token} {t : Term} → IsPrim ts t → Spelled ts → Safe t
-  prim_safe int h = tt
-  prim_safe text h = (h.0, tt)
-  prim_safe attribute h = tt
+  prim_safe int h = h.0
+  prim_safe text h = h.0
+  prim_safe attribute h = refl
   prim_safe (group {ts = ts} p) h = term_safe p (front_of _ ts _ h.1)
   prim_safe (function p) h = function_safe p h
   prim_safe (aggregated p) h = agg_safe p h
@@ -120,18 +116,18 @@ mutual
       aggregate_safe _ (term_safe p (front_of _ ts _ h.1.1)) (by_safe b (front_of _ bs _ behind)) (where_safe w (front_of _ ws _ (back_of _ bs _ behind)))
 
   by_safe : {bs : List Token} {by : List Term} → IsBy bs by → Spelled bs → SafeRow by
-  by_safe ungrouped h = tt
+  by_safe ungrouped h = refl
   by_safe (by_terms p) h = terms_safe p h.1
 
   terms_safe : {us : List Token} {ts : List Term} → IsTerms us ts → Spelled us → SafeRow ts
-  terms_safe (last_term {t = t} p) h = both_of _ (constants t) [] (term_safe p h) tt
-  terms_safe (next_term {ts = ts} {us = us} {t = t} {more = more} p q) h = both_of _ (constants t) (constants_in_row (term_row more)) (term_safe p (front_of _ ts _ h)) (terms_safe q (back_of _ ts _ h).1)
+  terms_safe (last_term {t = t} p) h = and (term_is_written t) true (term_safe p h) refl
+  terms_safe (next_term {ts = ts} {us = us} {t = t} {more = more} p q) h = and (term_is_written t) (terms_are_written (term_row more)) (term_safe p (front_of _ ts _ h)) (terms_safe q (back_of _ ts _ h).1)
 
-  where_safe : {ws : List Token} {q : Qual} → IsWhere ws q → Spelled ws → SafeQual q
-  where_safe unqualified h = tt
+  pub where_safe : {ws : List Token} {q : Qual} → IsWhere ws q → Spelled ws → SafeQual q
+  where_safe unqualified h = refl
   where_safe (qualified p) h = qual_safe p h.1
 
-  qual_safe : {ts : List Token} {q : Qual} → IsQual ts q → Spelled ts → SafeQual q
+  pub qual_safe : {ts : List Token} {q : Qual} → IsQual ts q → Spelled ts → SafeQual q
   qual_safe (choice {ts = ts} {us = us} p o) h = ors_safe o (conj_safe p (front_of _ ts us h)) (back_of _ ts us h)
 
   ors_safe : {left q : Qual} {us : List Token} → IsOrs left us q → SafeQual left → Spelled us → SafeQual q
@@ -148,4 +144,4 @@ mutual
   negation_safe : {ts : List Token} {q : Qual} → IsNeg ts q → Spelled ts → SafeQual q
   negation_safe (not_ p) h = not_safe _ (negation_safe p h.1)
   negation_safe (grouped {ts = ts} p) h = qual_safe p (front_of _ ts _ h.1)
-  negation_safe (compared {ts = ts} {us = us} {t = t} {u = u} p c q) h = both_of _ (constants t) (constants u) (term_safe p (front_of _ ts _ h)) (term_safe q (back_of _ ts _ h).1)
+  negation_safe (compared {ts = ts} {us = us} {t = t} {u = u} p c q) h = and (term_is_written t) (term_is_written u) (term_safe p (front_of _ ts _ h)) (term_safe q (back_of _ ts _ h).1)

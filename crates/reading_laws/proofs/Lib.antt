@@ -3,4 +3,5 @@ pub mod Constants
 pub mod Items
 pub mod Attributes
 pub mod Keys
+pub mod Permits
 pub mod Statements

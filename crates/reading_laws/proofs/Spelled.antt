@@ -1,9 +1,11 @@
--- Each token of a text is spelled as it must be: a name is one, and a text constant is one.
-use Rattle.std.proofs.Common.{◌≡◌, ℕ, zero, suc, ◌+◌, ◌-◌, Bool, true, false, cond, List, [], ◌∷◌, drop, take, Option, Some, None, refl}
-use Rattle.std.specs.Prelude.{option_map, IfSome, nat_le, ◌&&◌, ◌==◌, ◌^◌}
+-- Each token of a text is spelled as it must be: a name is one, a text constant is one, and a number has 64 bits.
+use Rattle.std.proofs.Common.{◌≡◌, ℕ, zero, suc, ◌+◌, ◌-◌, Bool, true, false, cond, List, [], ◌∷◌, drop, take, Option, Some, None, Less, Equal, Greater, is_le, refl, arith}
+use Rattle.std.specs.Prelude.{pos, option_map, IfSome, nat_le, nat_lt, ◌&&◌, ◌==◌, ◌^◌}
 use Rattle.std.specs.List.{prefix_len}
+use Rattle.std.proofs.lemmas.Bool.Decides.{nat_tests}
 use Rattle.calculus.specs.Chars.{is_chars}
 use Rattle.calculus.specs.Name.{is_digit, is_name}
+use Rattle.calculus.specs.Number.{has_64_bits}
 use Rattle.quel_grammar.specs.declared.token.Fixed.{Fixed}
 use Rattle.quel_grammar.specs.declared.token.Token.{Token}
 use Rattle.quel_grammar.specs.declared.token.Token.TheVariants as tokens
@@ -14,11 +16,11 @@ use Rattle.quel_grammar.specs.Lexer.{is_white, is_letter, starts_with_byte, comm
 use Rattle.quel_grammar.specs.Pieces.{Pieces, with_piece, pieces_behind, pieces_from, tokens_of}
 use Rattle.quel_meaning.proofs.Each.{Each}
 
--- a name is one, and a text constant is one
+-- a name is one, a text constant is one, and a number has 64 bits
 abbrev pub is_spelled : Token → Bool
 is_spelled (tokens.Name w) = is_name w
 is_spelled (tokens.Text c) = is_chars c
-is_spelled (tokens.Int n) = true
+is_spelled (tokens.Int n) = has_64_bits (pos n)
 is_spelled (tokens.Fixed f) = true
 
 -- each of these tokens is
@@ -35,6 +37,17 @@ if_fine false o p f g = g refl
 
 -- ---- words, numbers, texts, symbols
 
+in_order : (less more : Bool) → more ≡ false → is_le (cond less Less (cond more Greater Equal)) ≡ true
+in_order true more h = refl
+in_order false false h = refl
+in_order false true h = absurd (cc h)
+
+not_more : (m n : ℕ) → nat_le n m ≡ true → nat_lt m n ≡ false
+not_more m n h = grind (arith, nat_tests, h)
+
+small_number : (n : ℕ) → nat_le n (2 ^ 63 - 1) ≡ true → has_64_bits (pos n) ≡ true
+small_number n h = in_order (nat_lt n (2 ^ 63 - 1)) (nat_lt (2 ^ 63 - 1) n) (not_more (2 ^ 63 - 1) n h)
+
 name_fine : (word : List ℕ) (n : ℕ) (b : Bool) → is_name word ≡ b → Fine (option_map (λ t. (t, n)) (cond b (Some (tokens.Name word)) None))
 name_fine word n true e = e
 name_fine word n false e = tt
@@ -49,7 +62,7 @@ word_at_fine text = word_fine _ _ _
 
 int_at_fine : (text : List ℕ) → Fine (int_at text)
 unfolding int_at
-int_at_fine text = if_fine (nat_le (number_of (take (prefix_len is_digit text) text)) (2 ^ 63 - 1)) _ None (λ e. refl) (λ e. tt)
+int_at_fine text = if_fine (nat_le (number_of (take (prefix_len is_digit text) text)) (2 ^ 63 - 1)) _ None (λ e. small_number (number_of (take (prefix_len is_digit text) text)) e) (λ e. tt)
 
 quoted_fine : (behind : List ℕ) (o : Option ℕ) → Fine (quoted behind o)
 quoted_fine behind None = tt

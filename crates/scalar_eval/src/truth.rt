@@ -9,6 +9,7 @@ use crate::Assigned;
 use crate::pattern::like;
 use crate::values::value_in;
 use calculus::{AggTable, Chars, CmpOp, OutOfMemory, QQual, Row, Value};
+use memory::both;
 use std::alloc::Global;
 
 /// Whether the order of two values is one that the comparison asks for.
@@ -62,8 +63,8 @@ fn holds_in(
     match q {
         QQual::True => Ok(true),
         QQual::Cmp { op, left, right } => {
-            let left = value_in(alloc, left, rows, tables)?;
-            let right = value_in(alloc, right, rows, tables)?;
+            let left = value_in(alloc, left, rows, tables);
+            let (left, right) = both(left, value_in(alloc, right, rows, tables))?;
             Ok(compared_values(*op, &left, &right))
         }
         QQual::Like {

@@ -8,6 +8,7 @@ use crate::Assigned;
 use crate::constant::constant_value;
 use crate::number::{operated, opposite, without_sign};
 use calculus::{AggTable, ArithOp, OutOfMemory, QAgg, QTerm, Row, Text, TryCopy, Value};
+use memory::both;
 use std::alloc::Global;
 
 fn number_value(number: Option<i64>) -> Option<Value>
@@ -20,32 +21,32 @@ fn number_value(number: Option<i64>) -> Option<Value>
 }
 
 #[tactic(auto, unfolding(calculus::specs::Term::opposite_value))]
-fn opposite_value(value: Option<Value>) -> Option<Value>
-    ensures { result ≡ opposite_value value }
+fn opposite_value(value: &Option<Value>) -> Option<Value>
+    ensures { result ≡ opposite_value value.now }
 {
     match value {
-        Some(Value::Int(number)) => number_value(opposite(number)),
+        Some(Value::Int(number)) => number_value(opposite(*number)),
         _ => None,
     }
 }
 
 #[tactic(auto, unfolding(calculus::specs::Term::value_without_sign))]
-fn value_without_sign(value: Option<Value>) -> Option<Value>
-    ensures { result ≡ value_without_sign value }
+fn value_without_sign(value: &Option<Value>) -> Option<Value>
+    ensures { result ≡ value_without_sign value.now }
 {
     match value {
-        Some(Value::Int(number)) => number_value(without_sign(number)),
+        Some(Value::Int(number)) => number_value(without_sign(*number)),
         _ => None,
     }
 }
 
 #[tactic(auto, unfolding(calculus::specs::Term::operated_values))]
-fn operated_values(op: ArithOp, left: Option<Value>, right: Option<Value>) -> Option<Value>
-    ensures { result ≡ operated_values op left right }
+fn operated_values(op: ArithOp, left: &Option<Value>, right: &Option<Value>) -> Option<Value>
+    ensures { result ≡ operated_values op left.now right.now }
 {
     match (left, right) {
         (Some(Value::Int(left)), Some(Value::Int(right))) => {
-            number_value(operated(op, left, right))
+            number_value(operated(op, *left, *right))
         }
         _ => None,
     }
@@ -66,13 +67,13 @@ fn joined_text(alloc: Global, left: &Text, right: &Text) -> Result<Option<Value>
 #[tactic(auto, unfolding(calculus::specs::Term::joined_values))]
 fn joined_values(
     alloc: Global,
-    left: Option<Value>,
-    right: Option<Value>,
+    left: &Option<Value>,
+    right: &Option<Value>,
 ) -> Result<Option<Value>, OutOfMemory>
-    ensures { IfOk result (λ v. v ≡ joined_values left right) }
+    ensures { IfOk result (λ v. v ≡ joined_values left.now right.now) }
 {
     match (left, right) {
-        (Some(Value::Text(left)), Some(Value::Text(right))) => joined_text(alloc, &left, &right),
+        (Some(Value::Text(left)), Some(Value::Text(right))) => joined_text(alloc, left, right),
         _ => Ok(None),
     }
 }
@@ -160,17 +161,17 @@ pub(crate) fn value_in(
         QTerm::Int(number) => Ok(Some(Value::Int(*number))),
         QTerm::Chars(written) => constant_value(alloc, written),
         QTerm::Attr { var, attr } => attribute_value(alloc, rows, *var, *attr),
-        QTerm::Neg(inner) => Ok(opposite_value(value_in(alloc, inner.get(), rows, tables)?)),
-        QTerm::Abs(inner) => Ok(value_without_sign(value_in(alloc, inner.get(), rows, tables)?)),
+        QTerm::Neg(inner) => Ok(opposite_value(&value_in(alloc, inner.get(), rows, tables)?)),
+        QTerm::Abs(inner) => Ok(value_without_sign(&value_in(alloc, inner.get(), rows, tables)?)),
         QTerm::Arith { op, left, right } => {
-            let left = value_in(alloc, left.get(), rows, tables)?;
-            let right = value_in(alloc, right.get(), rows, tables)?;
-            Ok(operated_values(*op, left, right))
+            let left = value_in(alloc, left.get(), rows, tables);
+            let (left, right) = both(left, value_in(alloc, right.get(), rows, tables))?;
+            Ok(operated_values(*op, &left, &right))
         }
         QTerm::Concat { left, right } => {
-            let left = value_in(alloc, left.get(), rows, tables)?;
-            let right = value_in(alloc, right.get(), rows, tables)?;
-            joined_values(alloc, left, right)
+            let left = value_in(alloc, left.get(), rows, tables);
+            let (left, right) = both(left, value_in(alloc, right.get(), rows, tables))?;
+            joined_values(alloc, &left, &right)
         }
         QTerm::Agg(agg) => table_value(alloc, agg.get(), rows, tables),
     }

@@ -1,6 +1,7 @@
 -- Sessions on a small database, one after the other, written short.
 use Rattle.std.specs.Prelude.{ℕ, true, List, [], ◌∷◌, ◌++◌}
 use Rattle.std.specs.List.{flat_map}
+use Rattle.calculus.specs.Who.{asker_of}
 use Rattle.quel_grammar.specs.Next.{Reading}
 use Rattle.quel_meaning.specs.State.{State, Built}
 use Rattle.quel_meaning.specs.Session.{Session, session, output}
@@ -23,7 +24,7 @@ Turn = List ℕ × List ℕ
 
 -- the session of a turn, which begins without range variables
 abbrev pub taken : Reading → State → Turn → Session
-taken reading state turn = session reading all_built turn.0 (record state { ranges = [] }) turn.1
+taken reading state turn = session reading all_built (asker_of turn.0) (record state { ranges = [] }) turn.1
 
 -- what each of these turns prints, each on what the one before left
 abbrev pub printed : Reading → State → List Turn → List (List ℕ)

@@ -1,4 +1,5 @@
 -- Pieces of a script one after the other.
+use Rattle.calculus.specs.Who.{Asker}
 use Rattle.std.proofs.Common.{◌≡◌, refl, sym, ap, subst, ◌∙◌, ℕ, true, List, [], ◌∷◌, ◌++◌, append_assoc, length}
 use Rattle.std.specs.declared.option.Option.{Option}
 use Rattle.std.specs.Io.KnownBytes.{Appends}
@@ -79,34 +80,34 @@ on_ok (Ok x) f a = f a
 on_ok (Err e) f a = a
 
 -- the line was whole
-pub newline_heard : (m : Meaning) (user : List ℕ) (kept now : Kept) (partial : List ℕ) (w0 w1 : Option (List ℕ)) → list_all is_no_newline partial ≡ true
+pub newline_heard : (m : Meaning) (asker : Asker) (kept now : Kept) (partial : List ℕ) (w0 w1 : Option (List ℕ)) → list_all is_no_newline partial ≡ true
     → GrewBy w0 w1 (λ more. (deeper : Deeper) → Did (after_line (setting m) deeper kept (partial ++ 10 ∷ [])) [] more now)
-    → Hears m (hearing user kept partial) (hearing user now []) (10 ∷ []) w0 w1
-newline_heard m user kept now partial w0 w1 e grew =
-    (grew.0, grew.1, λ last rest. hears_newline last m user kept partial rest grew.0 now e (grew.2 (files_of (setting m))))
+    → Hears m (hearing asker kept partial) (hearing asker now []) (10 ∷ []) w0 w1
+newline_heard m asker kept now partial w0 w1 e grew =
+    (grew.0, grew.1, λ last rest. hears_newline last m asker kept partial rest grew.0 now e (grew.2 (files_of (setting m))))
 
-pub newline_partly : (m : Meaning) (user : List ℕ) (kept : Kept) (partial : List ℕ) (w0 w1 : Option (List ℕ)) → list_all is_no_newline partial ≡ true
+pub newline_partly : (m : Meaning) (asker : Asker) (kept : Kept) (partial : List ℕ) (w0 w1 : Option (List ℕ)) → list_all is_no_newline partial ≡ true
     → GrewBy w0 w1 (λ more. (deeper : Deeper) → IsFront more (printed (after_line (setting m) deeper kept (partial ++ 10 ∷ [])).events))
-    → HearsPartly m (hearing user kept partial) (10 ∷ []) w0 w1
-newline_partly m user kept partial w0 w1 e grew =
-    (grew.0, grew.1, λ rest. hears_front m user kept partial rest grew.0 e (grew.2 (files_of (setting m))))
+    → HearsPartly m (hearing asker kept partial) (10 ∷ []) w0 w1
+newline_partly m asker kept partial w0 w1 e grew =
+    (grew.0, grew.1, λ rest. hears_front m asker kept partial rest grew.0 e (grew.2 (files_of (setting m))))
 
 -- the last line, which lacks its newline
-pub last_heard : (m : Meaning) (user : List ℕ) (kept now : Kept) (partial : List ℕ) (w0 w1 : Option (List ℕ)) → list_all is_no_newline partial ≡ true → (length partial ≡ 0 → ⊥)
+pub last_heard : (m : Meaning) (asker : Asker) (kept now : Kept) (partial : List ℕ) (w0 w1 : Option (List ℕ)) → list_all is_no_newline partial ≡ true → (length partial ≡ 0 → ⊥)
     → GrewBy w0 w1 (λ more. (deeper : Deeper) → Did (after_line (setting m) deeper kept partial) [] more now)
-    → Appends w0 w1 (printed (later m true (hearing user kept partial) []).events)
-last_heard m user kept now partial w0 w1 e some grew =
-    subst (λ (x : List ℕ). Appends w0 w1 x) (sym (closes_some m user kept partial grew.0 now e some (grew.2 (files_of (setting m))))) grew.1
+    → Appends w0 w1 (printed (later m true (hearing asker kept partial) []).events)
+last_heard m asker kept now partial w0 w1 e some grew =
+    subst (λ (x : List ℕ). Appends w0 w1 x) (sym (closes_some m asker kept partial grew.0 now e some (grew.2 (files_of (setting m))))) grew.1
 
 -- whatever follows, it prints what the last line begins with
-pub last_partly : (m : Meaning) (user : List ℕ) (kept : Kept) (partial : List ℕ) (w0 w1 : Option (List ℕ)) → list_all is_no_newline partial ≡ true → (length partial ≡ 0 → ⊥)
+pub last_partly : (m : Meaning) (asker : Asker) (kept : Kept) (partial : List ℕ) (w0 w1 : Option (List ℕ)) → list_all is_no_newline partial ≡ true → (length partial ≡ 0 → ⊥)
     → GrewBy w0 w1 (λ more. (deeper : Deeper) → IsFront more (printed (after_line (setting m) deeper kept partial).events))
-    → GrewBy w0 w1 (λ more. IsFront more (printed (later m true (hearing user kept partial) []).events))
-last_partly m user kept partial w0 w1 e some grew = (grew.0, grew.1, closes_front m user kept partial grew.0 e some (grew.2 (files_of (setting m))))
+    → GrewBy w0 w1 (λ more. IsFront more (printed (later m true (hearing asker kept partial) []).events))
+last_partly m asker kept partial w0 w1 e some grew = (grew.0, grew.1, closes_front m asker kept partial grew.0 e some (grew.2 (files_of (setting m))))
 
 -- no line has begun
-pub none_left : (m : Meaning) (user : List ℕ) (kept : Kept) (partial : List ℕ) (w : Option (List ℕ)) → length partial ≡ 0 → Appends w w (printed (later m true (hearing user kept partial) []).events)
-none_left m user kept partial w e = subst (λ (x : List ℕ). Appends w w x) (sym (closes_none m user kept partial e)) (Appends-nil w)
+pub none_left : (m : Meaning) (asker : Asker) (kept : Kept) (partial : List ℕ) (w : Option (List ℕ)) → length partial ≡ 0 → Appends w w (printed (later m true (hearing asker kept partial) []).events)
+none_left m asker kept partial w e = subst (λ (x : List ℕ). Appends w w x) (sym (closes_none m asker kept partial e)) (Appends-nil w)
 
 -- ---- the same user
 

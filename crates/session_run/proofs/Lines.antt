@@ -1,4 +1,5 @@
 -- Lines of a script that is heard byte by byte.
+use Rattle.calculus.specs.Who.{Asker}
 use Rattle.std.proofs.Common.{◌≡◌, ℕ, Bool, true, false, eqb, List, [], ◌∷◌, ◌++◌, refl, sym, ap, subst, ◌∙◌, append_assoc, append-nil, length, arith, ◌-◌, ◌<◌, suc, length-append}
 use Rattle.std.proofs.Math.Seq.{get_or-append_seam}
 use Rattle.std.specs.Prelude.{◌&&◌, ◌==◌, not, nat_lt, slice_index}
@@ -88,21 +89,21 @@ line_begins m kept line lines more now did =
 
 -- ---- hearing
 
-abbrev pub hearing : List ℕ → Kept → List ℕ → Heard
-hearing user kept partial = record { user = user; kept = kept; partial = partial }
+abbrev pub hearing : Asker → Kept → List ℕ → Heard
+hearing asker kept partial = record { asker = asker; kept = kept; partial = partial }
 
 -- a byte that is no newline goes to the partial line
-pub hears_byte : (last : Bool) (m : Meaning) (user : List ℕ) (kept : Kept) (partial : List ℕ) (b : ℕ) (rest : List ℕ)
-    → later m last (hearing user kept partial) (b ∷ rest) ≡ later m last (hearing user kept (partial ++ b ∷ [])) rest
-hears_byte last m user kept partial b rest = ap (λ (x : List ℕ). lines_done m kept (counted_lines last x)) (sym (append_assoc partial (b ∷ []) rest))
+pub hears_byte : (last : Bool) (m : Meaning) (asker : Asker) (kept : Kept) (partial : List ℕ) (b : ℕ) (rest : List ℕ)
+    → later m last (hearing asker kept partial) (b ∷ rest) ≡ later m last (hearing asker kept (partial ++ b ∷ [])) rest
+hears_byte last m asker kept partial b rest = ap (λ (x : List ℕ). lines_done m kept (counted_lines last x)) (sym (append_assoc partial (b ∷ []) rest))
 
 -- a newline ends the line
-pub hears_newline : (last : Bool) (m : Meaning) (user : List ℕ) (kept : Kept) (partial rest more : List ℕ) (now : Kept) → list_all is_no_newline partial ≡ true
+pub hears_newline : (last : Bool) (m : Meaning) (asker : Asker) (kept : Kept) (partial rest more : List ℕ) (now : Kept) → list_all is_no_newline partial ≡ true
     → Did (after_line (setting m) (files_of (setting m)) kept (partial ++ 10 ∷ [])) [] more now
-    → Begins (later m last (hearing user kept partial) (10 ∷ rest)) more (later m last (hearing user now []) rest)
-hears_newline last m user kept partial rest more now e did =
-    let same = hears_byte last m user kept partial 10 rest ∙ ap (lines_done m kept) (counted_first last partial rest e) in
-    subst (λ (a : After). Begins a more (later m last (hearing user now []) rest)) (sym same)
+    → Begins (later m last (hearing asker kept partial) (10 ∷ rest)) more (later m last (hearing asker now []) rest)
+hears_newline last m asker kept partial rest more now e did =
+    let same = hears_byte last m asker kept partial 10 rest ∙ ap (lines_done m kept) (counted_first last partial rest e) in
+    subst (λ (a : After). Begins a more (later m last (hearing asker now []) rest)) (sym same)
     (line_begins m kept (partial ++ 10 ∷ []) (counted_lines last rest) more now did)
 
 -- what a line prints is a front of what is printed from it on
@@ -116,11 +117,11 @@ line_front : (m : Meaning) (kept : Kept) (line : List ℕ) (lines : List (List �
 unfolding after_lines over
 line_front m kept line lines more front = front_then (after_line (setting m) (files_of (setting m)) kept line) (λ k. lines_done m k lines) more front
 
-pub hears_front : (m : Meaning) (user : List ℕ) (kept : Kept) (partial rest more : List ℕ) → list_all is_no_newline partial ≡ true
+pub hears_front : (m : Meaning) (asker : Asker) (kept : Kept) (partial rest more : List ℕ) → list_all is_no_newline partial ≡ true
     → IsFront more (printed (after_line (setting m) (files_of (setting m)) kept (partial ++ 10 ∷ [])).events)
-    → IsFront more (printed (later m true (hearing user kept partial) (10 ∷ rest)).events)
-hears_front m user kept partial rest more e front =
-    let same = hears_byte true m user kept partial 10 rest ∙ ap (lines_done m kept) (counted_first true partial rest e) in
+    → IsFront more (printed (later m true (hearing asker kept partial) (10 ∷ rest)).events)
+hears_front m asker kept partial rest more e front =
+    let same = hears_byte true m asker kept partial 10 rest ∙ ap (lines_done m kept) (counted_first true partial rest e) in
     subst (λ (a : After). IsFront more (printed a.events)) (sym same) (line_front m kept (partial ++ 10 ∷ []) (lines_of rest) more front)
 
 -- behind the end of the session nothing happens
@@ -128,34 +129,34 @@ pub hears_end : (last : Bool) (m : Meaning) (h : Heard) (bytes : List ℕ) → h
 hears_end last m h bytes e = nothing_more (setting m) (files_of (setting m)) h.kept e (counted_lines last (h.partial ++ bytes))
 
 -- nothing follows, and no line has begun
-pub closes_none : (m : Meaning) (user : List ℕ) (kept : Kept) (partial : List ℕ) → length partial ≡ 0 → printed (later m true (hearing user kept partial) []).events ≡ []
+pub closes_none : (m : Meaning) (asker : Asker) (kept : Kept) (partial : List ℕ) → length partial ≡ 0 → printed (later m true (hearing asker kept partial) []).events ≡ []
 unfolding after_lines over printed lines_of
-closes_none m user kept [] e = refl
-closes_none m user kept (b ∷ l) e = absurd (omega arith)
+closes_none m asker kept [] e = refl
+closes_none m asker kept (b ∷ l) e = absurd (omega arith)
 
 -- nothing follows, and a line has begun: it is the last
-last_line : (m : Meaning) (user : List ℕ) (kept : Kept) (partial : List ℕ) → list_all is_no_newline partial ≡ true → (length partial ≡ 0 → ⊥)
-    → later m true (hearing user kept partial) [] ≡ lines_done m kept (partial ∷ [])
-last_line m user kept [] e some = absurd (some refl)
-last_line m user kept (b ∷ l) e some =
+last_line : (m : Meaning) (asker : Asker) (kept : Kept) (partial : List ℕ) → list_all is_no_newline partial ≡ true → (length partial ≡ 0 → ⊥)
+    → later m true (hearing asker kept partial) [] ≡ lines_done m kept (partial ∷ [])
+last_line m asker kept [] e some = absurd (some refl)
+last_line m asker kept (b ∷ l) e some =
     ap (λ (x : List ℕ). lines_done m kept (lines_of x)) (append-nil (b ∷ l)) ∙ ap (lines_done m kept) (line_last b l e)
 
 only_line : (m : Meaning) (kept : Kept) (line : List ℕ) → printed (lines_done m kept (line ∷ [])).events ≡ printed (after_line (setting m) (files_of (setting m)) kept line).events
 unfolding after_lines over printed
 only_line m kept line = ap printed (append-nil (after_line (setting m) (files_of (setting m)) kept line).events)
 
-pub closes_some : (m : Meaning) (user : List ℕ) (kept : Kept) (partial more : List ℕ) (now : Kept) → list_all is_no_newline partial ≡ true → (length partial ≡ 0 → ⊥)
-    → Did (after_line (setting m) (files_of (setting m)) kept partial) [] more now → printed (later m true (hearing user kept partial) []).events ≡ more
-closes_some m user kept partial more now e some did =
-    ap (λ (a : After). printed a.events) (last_line m user kept partial e some) ∙ only_line m kept partial ∙ sym did.output
+pub closes_some : (m : Meaning) (asker : Asker) (kept : Kept) (partial more : List ℕ) (now : Kept) → list_all is_no_newline partial ≡ true → (length partial ≡ 0 → ⊥)
+    → Did (after_line (setting m) (files_of (setting m)) kept partial) [] more now → printed (later m true (hearing asker kept partial) []).events ≡ more
+closes_some m asker kept partial more now e some did =
+    ap (λ (a : After). printed a.events) (last_line m asker kept partial e some) ∙ only_line m kept partial ∙ sym did.output
 
-pub closes_front : (m : Meaning) (user : List ℕ) (kept : Kept) (partial more : List ℕ) → list_all is_no_newline partial ≡ true → (length partial ≡ 0 → ⊥)
-    → IsFront more (printed (after_line (setting m) (files_of (setting m)) kept partial).events) → IsFront more (printed (later m true (hearing user kept partial) []).events)
-closes_front m user kept partial more e some front =
-    subst (λ (x : List ℕ). IsFront more x) (sym (ap (λ (a : After). printed a.events) (last_line m user kept partial e some) ∙ only_line m kept partial)) front
+pub closes_front : (m : Meaning) (asker : Asker) (kept : Kept) (partial more : List ℕ) → list_all is_no_newline partial ≡ true → (length partial ≡ 0 → ⊥)
+    → IsFront more (printed (after_line (setting m) (files_of (setting m)) kept partial).events) → IsFront more (printed (later m true (hearing asker kept partial) []).events)
+closes_front m asker kept partial more e some front =
+    subst (λ (x : List ℕ). IsFront more x) (sym (ap (λ (a : After). printed a.events) (last_line m asker kept partial e some) ∙ only_line m kept partial)) front
 
 -- nothing counts but whole lines, and nothing follows
-pub hears_whole : (m : Meaning) (user : List ℕ) (kept : Kept) (partial : List ℕ) → list_all is_no_newline partial ≡ true → later m false (hearing user kept partial) [] ≡ quiet kept
+pub hears_whole : (m : Meaning) (asker : Asker) (kept : Kept) (partial : List ℕ) → list_all is_no_newline partial ≡ true → later m false (hearing asker kept partial) [] ≡ quiet kept
 unfolding after_lines over
-hears_whole m user kept partial e =
+hears_whole m asker kept partial e =
     ap (λ (x : List ℕ). lines_done m kept (whole_lines x)) (append-nil partial) ∙ ap (lines_done m kept) (whole_none partial e)

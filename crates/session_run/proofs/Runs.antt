@@ -1,4 +1,5 @@
 -- What a run keeps: what was taken from the source, and what was given to the sink.
+use Rattle.calculus.specs.Who.{Asker}
 use Rattle.std.proofs.Common.{◌≡◌, inl, inr, ℕ, ◌+◌, ◌≤◌, Bool, true, false, List, [], ◌++◌, length, take, drop, None, Some, refl, sym, ap, subst, ◌∙◌, append_assoc, append-nil, arith, length-append}
 use Rattle.std.specs.List.{list_all}
 use Rattle.std.specs.declared.option.Option.{Option}
@@ -38,8 +39,8 @@ pub record Runs (m : Meaning) (state : State) (left0 left1 written0 written1 : O
   pub grown : Appends written0 written1 out
   pub same : (last : Bool) (rest : List ℕ) → Begins (done_by m state last (taken ++ rest)) out (later m last heard rest)
 
-pub starts : (m : Meaning) (user : List ℕ) (state : State) (left written : Option (List ℕ)) → Runs m state left left written written (record { user = user; kept = start state; partial = [] }) 0
-starts m user state left written = record {
+pub starts : (m : Meaning) (asker : Asker) (state : State) (left written : Option (List ℕ)) → Runs m state left left written written (record { asker = asker; kept = start state; partial = [] }) 0
+starts m asker state left written = record {
   taken = [];
   out = [];
   read = Consumes-nil left;
@@ -170,7 +171,7 @@ says_lines : (m : Meaning) (state : State) (left0 left1 written0 written1 : Opti
 says_lines m state left0 left1 written0 written1 heard given runs script rest parts still_open line =
     let text : take given script ≡ runs.taken ++ [] = ap (take given) parts ∙ taken_front runs.taken rest given runs.count ∙ sym (append-nil runs.taken) in
     let begun = runs.same false [] in
-    let still = hears_whole m heard.user heard.kept heard.partial line in
+    let still = hears_whole m heard.asker heard.kept heard.partial line in
     let session = within_session m state given script in
     record {
       rest_is = ap (drop given) parts ∙ dropped_front runs.taken rest given runs.count;

@@ -1,5 +1,6 @@
 -- What a part of a session does, whatever its statements mean.
 use Rattle.std.specs.Prelude.{◌≡◌, ℕ, Bool, not, List, ◌++◌, Option, Some, None}
+use Rattle.calculus.specs.Who.{Asker}
 use Rattle.calculus.specs.declared.reply.Reply.TheVariants.{Refused}
 use Rattle.calculus.specs.declared.statement.Statement.{Statement}
 use Rattle.quel_parse.specs.declared.next.ParseFault.{ParseFault}
@@ -24,7 +25,7 @@ setting meaning = record { reading = next_at; meaning = meaning; is_built = λ c
 
 -- a session that goes on: its user, and what it keeps
 pub record Running : Type 0 where
-  pub user : List ℕ
+  pub asker : Asker
   pub kept : Kept
 
 -- what a session keeps that includes no files

@@ -1,4 +1,5 @@
 -- A script that is heard piece by piece.
+use Rattle.calculus.specs.Who.{Asker}
 use Rattle.std.specs.Prelude.{◌≡◌, ◌⊎◌, ℕ, Bool, true, false, List, ◌++◌, Option, Result, IsErrOf}
 use Rattle.fault_io.specs.Causes.{Rose}
 use Rattle.fault_io.specs.Told.{IsFront, GrewBy}
@@ -12,7 +13,7 @@ use Rattle.session_run.specs.declared.running.RunFault.TheVariants as faults
 
 -- what was heard so far: the user's, what whole lines have left, and the front of the next line
 pub record Heard : Type 0 where
-  pub user : List ℕ
+  pub asker : Asker
   pub kept : Kept
   pub partial : List ℕ
 
@@ -43,11 +44,6 @@ Hears meaning old new piece written_old written_new =
 abbrev pub HearsPartly : Meaning → Heard → List ℕ → Option (List ℕ) → Option (List ℕ) → Type 0
 HearsPartly meaning old piece written_old written_new =
     GrewBy written_old written_new (λ more. (rest : List ℕ) → IsFront more (printed (later meaning true old (piece ++ rest)).events))
-
--- neither the count of faults nor that of stalls changed
-pub record AreSame (faults_old faults_new stalls_old stalls_new : ℕ) : Type 0 where
-  pub faults : faults_new ≡ faults_old
-  pub stalls : stalls_new ≡ stalls_old
 
 -- only the sink or want of memory is the cause
 pub record IsSinkOrMemory (result : Result (Unit {0}) RunFault) (faults_old faults_new stalls_old stalls_new : ℕ) : Type 0 where

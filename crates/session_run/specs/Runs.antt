@@ -68,3 +68,8 @@ GaveTooMuch old new = 16777216 + length new < length old
 abbrev pub IsWithinLimit : Meaning → State → Option (List ℕ) → Type 0
 IsWithinLimit meaning state left =
     (script : List ℕ) × (left ≡ Some script) × ((length script ≤ 16777216) ⊎ ((within 16777216 meaning state script).quit ≡ true))
+
+-- neither the sink's count of faults nor that of its stalls changed
+pub record AreSame (faults_old faults_new stalls_old stalls_new : ℕ) : Type 0 where
+  pub faults : faults_new ≡ faults_old
+  pub stalls : stalls_new ≡ stalls_old

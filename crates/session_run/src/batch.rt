@@ -76,9 +76,9 @@ fn run_placed<S: Statements>(
     out: &mut Vec<u8>,
 ) -> Result<(), OutOfMemory>
     requires { is_written s.now ≡ true }
-    ensures did { OnOk result ((k : Kept) → Did (after_statement (setting (S.meaning (S.user statements.old))) (with_state (S.state statements.old) k) (record { statement = s.now; line = line }))
+    ensures did { OnOk result ((k : Kept) → Did (after_statement (setting (S.meaning (S.asker statements.old))) (with_state (S.state statements.old) k) (record { statement = s.now; line = line }))
         out.old.items out.new.items (with_state (S.state statements.new) k)) }
-    ensures same { S.user statements.new ≡ S.user statements.old }
+    ensures same { S.asker statements.new ≡ S.asker statements.old }
 {
     let reply = statements.run(alloc, s)?;
     push_reply(out, &at_line(line, reply))?;
@@ -96,11 +96,11 @@ fn step<S: Statements>(
 ) -> Result<Option<Walk>, OutOfMemory>
     requires { IsCounted text.now walk.counted }
     ensures goes { IfOk result (λ next. (k : Kept) → Goes
-        (left (setting (S.meaning (S.user statements.old))) text.now (Some walk.at) (with_state (S.state statements.old) k)) out.old.items
-        (left (setting (S.meaning (S.user statements.old))) text.now (option_map (λ w. w.at) next) (with_state (S.state statements.new) k)) out.new.items) }
+        (left (setting (S.meaning (S.asker statements.old))) text.now (Some walk.at) (with_state (S.state statements.old) k)) out.old.items
+        (left (setting (S.meaning (S.asker statements.old))) text.now (option_map (λ w. w.at) next) (with_state (S.state statements.new) k)) out.new.items) }
     ensures further { IfOk result (λ next. IfSome next (λ w. (walk.at < w.at) × (walk.at < length text.now))) }
     ensures counted { IfOk result (λ next. IfSome next (λ w. IsCounted text.now w.counted)) }
-    ensures same { S.user statements.new ≡ S.user statements.old }
+    ensures same { S.asker statements.new ≡ S.asker statements.old }
 {
     match next_statement(alloc, text, walk.at) {
         Ok(None) => Ok(None),
@@ -126,9 +126,9 @@ pub(crate) fn run_batch<S: Statements>(
     text: &[u8],
     out: &mut Vec<u8>,
 ) -> Result<(), OutOfMemory>
-    ensures did { OnOk result ((k : Kept) → Did (after_batch (setting (S.meaning (S.user statements.old))) (batch_of next_at text.now) (with_state (S.state statements.old) k))
+    ensures did { OnOk result ((k : Kept) → Did (after_batch (setting (S.meaning (S.asker statements.old))) (batch_of next_at text.now) (with_state (S.state statements.old) k))
         out.old.items out.new.items (with_state (S.state statements.new) k)) }
-    ensures same { S.user statements.new ≡ S.user statements.old }
+    ensures same { S.asker statements.new ≡ S.asker statements.old }
 {
     let mut walk = Walk {
         at: 0,

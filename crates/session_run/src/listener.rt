@@ -9,7 +9,8 @@ ghost use Rattle.quel_meaning.specs.Running.{Deeper, after_line};
 ghost use Rattle.quel_meaning.specs.Session.{printed};
 ghost use Rattle.quel_meaning.specs.Happening.{start};
 ghost use Rattle.session_run.specs.Doing.{Did, setting};
-ghost use Rattle.session_run.specs.Hearing.{later, AreSame, Hears, HearsPartly, IsSinkOrMemory};
+ghost use Rattle.session_run.specs.Hearing.{later, Hears, HearsPartly, IsSinkOrMemory};
+ghost use Rattle.session_run.specs.Runs.{AreSame};
 
 use crate::front::LineFront;
 use crate::running::RunFault;
@@ -38,13 +39,13 @@ impl<S: Statements> Model for Listener<S> {
 
     ghost coded = { Prim.hlevel (codes, quals.the_row.coded, queries.the_row.coded) };
 
-    ghost view = { λ l. record { user = l.session.user; kept = l.session.kept; partial = l.front } };
+    ghost view = { λ l. record { asker = l.session.asker; kept = l.session.kept; partial = l.front } };
 }
 
 impl<S: Statements> Listener<S> {
     /// A listener that has heard nothing.
     pub fn new(alloc: Global, statements: S) -> Listener<S>
-        ensures { result ≡ record { user = S.user statements; kept = start (S.state statements); partial = [] } }
+        ensures { result ≡ record { asker = S.asker statements; kept = start (S.state statements); partial = [] } }
     {
         Listener {
             session: Session::new(alloc, statements),
@@ -75,10 +76,10 @@ fn print_line<S: Statements, K: Sink>(
     line: &[u8],
     sink: &mut K,
 ) -> Result<(), RunFault>
-    ensures did { OnOk result (GrewBy (K.written sink.old) (K.written sink.new) (λ more. (deeper : Deeper) → Did (after_line (setting (S.meaning session.old.user)) deeper session.old.kept line.now)
+    ensures did { OnOk result (GrewBy (K.written sink.old) (K.written sink.new) (λ more. (deeper : Deeper) → Did (after_line (setting (S.meaning session.old.asker)) deeper session.old.kept line.now)
         [] more session.new.kept)) }
-    ensures partly { GrewBy (K.written sink.old) (K.written sink.new) (λ more. (deeper : Deeper) → IsFront more (printed (after_line (setting (S.meaning session.old.user)) deeper session.old.kept line.now).events)) }
-    ensures same { session.new.user ≡ session.old.user }
+    ensures partly { GrewBy (K.written sink.old) (K.written sink.new) (λ more. (deeper : Deeper) → IsFront more (printed (after_line (setting (S.meaning session.old.asker)) deeper session.old.kept line.now).events)) }
+    ensures same { session.new.asker ≡ session.old.asker }
 
     ensures faults { K.faults sink.old ≤ K.faults sink.new }
     ensures stalls { K.stalls sink.old ≤ K.stalls sink.new }
@@ -97,9 +98,9 @@ fn hear_newline<S: Statements, K: Sink>(
     listener: &mut Listener<S>,
     sink: &mut K,
 ) -> Result<(), RunFault>
-    ensures heard { OnOk result (Hears (S.meaning listener.old.user) listener.old listener.new (10 ∷ []) (K.written sink.old) (K.written sink.new)) }
-    ensures partly { HearsPartly (S.meaning listener.old.user) listener.old (10 ∷ []) (K.written sink.old) (K.written sink.new) }
-    ensures same { listener.new.user ≡ listener.old.user }
+    ensures heard { OnOk result (Hears (S.meaning listener.old.asker) listener.old listener.new (10 ∷ []) (K.written sink.old) (K.written sink.new)) }
+    ensures partly { HearsPartly (S.meaning listener.old.asker) listener.old (10 ∷ []) (K.written sink.old) (K.written sink.new) }
+    ensures same { listener.new.asker ≡ listener.old.asker }
 
     ensures faults { K.faults sink.old ≤ K.faults sink.new }
     ensures stalls { K.stalls sink.old ≤ K.stalls sink.new }
@@ -118,9 +119,9 @@ fn hear_byte<S: Statements, K: Sink>(
     byte: u8,
     sink: &mut K,
 ) -> Result<(), RunFault>
-    ensures heard { OnOk result (Hears (S.meaning listener.old.user) listener.old listener.new (byte ∷ []) (K.written sink.old) (K.written sink.new)) }
-    ensures partly { HearsPartly (S.meaning listener.old.user) listener.old (byte ∷ []) (K.written sink.old) (K.written sink.new) }
-    ensures same { listener.new.user ≡ listener.old.user }
+    ensures heard { OnOk result (Hears (S.meaning listener.old.asker) listener.old listener.new (byte ∷ []) (K.written sink.old) (K.written sink.new)) }
+    ensures partly { HearsPartly (S.meaning listener.old.asker) listener.old (byte ∷ []) (K.written sink.old) (K.written sink.new) }
+    ensures same { listener.new.asker ≡ listener.old.asker }
 
     ensures faults { K.faults sink.old ≤ K.faults sink.new }
     ensures stalls { K.stalls sink.old ≤ K.stalls sink.new }
@@ -142,9 +143,9 @@ pub fn hear<S: Statements, K: Sink>(
     piece: &[u8],
     sink: &mut K,
 ) -> Result<(), RunFault>
-    ensures heard { OnOk result (Hears (S.meaning listener.old.user) listener.old listener.new piece.now (K.written sink.old) (K.written sink.new)) }
-    ensures partly { HearsPartly (S.meaning listener.old.user) listener.old piece.now (K.written sink.old) (K.written sink.new) }
-    ensures same { listener.new.user ≡ listener.old.user }
+    ensures heard { OnOk result (Hears (S.meaning listener.old.asker) listener.old listener.new piece.now (K.written sink.old) (K.written sink.new)) }
+    ensures partly { HearsPartly (S.meaning listener.old.asker) listener.old piece.now (K.written sink.old) (K.written sink.new) }
+    ensures same { listener.new.asker ≡ listener.old.asker }
 
     ensures faults { K.faults sink.old ≤ K.faults sink.new }
     ensures stalls { K.stalls sink.old ≤ K.stalls sink.new }
@@ -167,8 +168,8 @@ pub fn close<S: Statements, K: Sink>(
     sink: &mut K,
 ) -> Result<(), RunFault>
     ensures whole { OnOk result (Appends (K.written sink.old) (K.written sink.new)
-        (printed (later (S.meaning listener.old.user) true listener.old []).events)) }
-    ensures partly { GrewBy (K.written sink.old) (K.written sink.new) (λ more. IsFront more (printed (later (S.meaning listener.old.user) true listener.old []).events)) }
+        (printed (later (S.meaning listener.old.asker) true listener.old []).events)) }
+    ensures partly { GrewBy (K.written sink.old) (K.written sink.new) (λ more. IsFront more (printed (later (S.meaning listener.old.asker) true listener.old []).events)) }
 
     ensures faults { K.faults sink.old ≤ K.faults sink.new }
     ensures stalls { K.stalls sink.old ≤ K.stalls sink.new }

@@ -2,8 +2,7 @@
 
 ghost use Rattle.std.specs.Prelude.{◌≡◌, ◌⊎◌, ◌↔◌, OnOk, IsErrOf, IfSome};
 ghost use Rattle.fault_io.specs.Causes.{Rose};
-ghost use Rattle.session_run.specs.Hearing.{AreSame};
-ghost use Rattle.session_run.specs.Runs.{IsDone, IsPartlyDone, IsCutOff, IsKeptUp, IsBrokenOff, GaveTooMuch};
+ghost use Rattle.session_run.specs.Runs.{AreSame, IsDone, IsPartlyDone, IsCutOff, IsKeptUp, IsBrokenOff, GaveTooMuch};
 ghost use Rattle.session_run.specs.declared.running.RunFault.TheVariants.{OutOfMemory as no_memory, Source as source_fault, Sink as sink_fault};
 
 use crate::Statements;
@@ -67,11 +66,11 @@ pub fn run<S: Statements + Drop, R: Source, K: Sink>(
     source: &mut R,
     sink: &mut K,
 ) -> Result<(), RunFault>
-    ensures done { OnOk result (IsDone (S.meaning (S.user statements)) (S.state statements) (R.left source.old) (R.left source.new) (K.written sink.old) (K.written sink.new)) }
-    ensures partly { IsPartlyDone (S.meaning (S.user statements)) (S.state statements) (R.left source.old) (K.written sink.old) (K.written sink.new) }
-    ensures cut_off { IsErrOf result RunFault.TooLong → IsCutOff (S.meaning (S.user statements)) (S.state statements) (R.left source.old) (R.left source.new) (K.written sink.old) (K.written sink.new) }
-    ensures keeps_up { IsKeptUp (S.meaning (S.user statements)) (S.state statements) (R.left source.old) (R.left source.new) (K.written sink.old) (K.written sink.new) }
-    ensures broken_off { IsErrOf result RunFault.Source → IsBrokenOff (S.meaning (S.user statements)) (S.state statements) (R.left source.old) (R.left source.new) (K.written sink.old) (K.written sink.new) }
+    ensures done { OnOk result (IsDone (S.meaning (S.asker statements)) (S.state statements) (R.left source.old) (R.left source.new) (K.written sink.old) (K.written sink.new)) }
+    ensures partly { IsPartlyDone (S.meaning (S.asker statements)) (S.state statements) (R.left source.old) (K.written sink.old) (K.written sink.new) }
+    ensures cut_off { IsErrOf result RunFault.TooLong → IsCutOff (S.meaning (S.asker statements)) (S.state statements) (R.left source.old) (R.left source.new) (K.written sink.old) (K.written sink.new) }
+    ensures keeps_up { IsKeptUp (S.meaning (S.asker statements)) (S.state statements) (R.left source.old) (R.left source.new) (K.written sink.old) (K.written sink.new) }
+    ensures broken_off { IsErrOf result RunFault.Source → IsBrokenOff (S.meaning (S.asker statements)) (S.state statements) (R.left source.old) (R.left source.new) (K.written sink.old) (K.written sink.new) }
 
     ensures source_fault { IsErrOf result RunFault.Source → Rose (R.faults source.old) (R.faults source.new) }
     ensures sink_fault { IsErrOf result RunFault.Sink

@@ -41,7 +41,7 @@ impl<S: Statements> Model for Session<S> {
 
     ghost coded = { Prim.hlevel (codes, quals.the_row.coded, queries.the_row.coded) };
 
-    ghost view = { λ s. record { user = S.user s.statements; kept = kept (S.state s.statements) s.buffer s.quit } };
+    ghost view = { λ s. record { asker = S.asker s.statements; kept = kept (S.state s.statements) s.buffer s.quit } };
 }
 
 /// Whether a command names a file.
@@ -63,7 +63,7 @@ fn names_file(command: &Command) -> bool
 impl<S: Statements> Session<S> {
     /// A session that has seen no line.
     pub fn new(alloc: Global, statements: S) -> Session<S>
-        ensures { result ≡ record { user = S.user statements; kept = start (S.state statements) } }
+        ensures { result ≡ record { asker = S.asker statements; kept = start (S.state statements) } }
     {
         Session {
             statements,
@@ -88,9 +88,9 @@ impl<S: Statements> Session<S> {
         out: &mut Vec<u8>,
     ) -> Result<(), OutOfMemory>
         requires { names_file (seen_command command.now) ≡ false }
-        ensures did { OnOk result ((deeper : Deeper) → Did (carried_out (setting (S.meaning self.old.user)) deeper self.old.kept (seen_command command.now))
+        ensures did { OnOk result ((deeper : Deeper) → Did (carried_out (setting (S.meaning self.old.asker)) deeper self.old.kept (seen_command command.now))
             out.old.items out.new.items self.new.kept) }
-        ensures same { self.new.user ≡ self.old.user }
+        ensures same { self.new.asker ≡ self.old.asker }
     {
         match command {
             Command::Go => {
@@ -124,9 +124,9 @@ impl<S: Statements> Session<S> {
         command: &Command,
         out: &mut Vec<u8>,
     ) -> Result<(), OutOfMemory>
-        ensures did { OnOk result ((deeper : Deeper) → Did (after_command (setting (S.meaning self.old.user)) deeper self.old.kept (seen_command command.now))
+        ensures did { OnOk result ((deeper : Deeper) → Did (after_command (setting (S.meaning self.old.asker)) deeper self.old.kept (seen_command command.now))
             out.old.items out.new.items self.new.kept) }
-        ensures same { self.new.user ≡ self.old.user }
+        ensures same { self.new.asker ≡ self.old.asker }
     {
         if names_file(command) {
             push_refused(out, NOT_BUILT, 0)?;
@@ -140,9 +140,9 @@ impl<S: Statements> Session<S> {
     /// Puts a piece into the buffer, or carries a command out; behind the end of the session neither.
     #[tactic(auto, unfolding(quel_meaning::specs::Running::after_part))]
     fn part(&mut self, alloc: Global, part: &Part, out: &mut Vec<u8>) -> Result<(), OutOfMemory>
-        ensures did { OnOk result ((deeper : Deeper) → Did (after_part (setting (S.meaning self.old.user)) deeper self.old.kept (seen_part part.now))
+        ensures did { OnOk result ((deeper : Deeper) → Did (after_part (setting (S.meaning self.old.asker)) deeper self.old.kept (seen_part part.now))
             out.old.items out.new.items self.new.kept) }
-        ensures same { self.new.user ≡ self.old.user }
+        ensures same { self.new.asker ≡ self.old.asker }
     {
         if self.quit {
             return Ok(());
@@ -157,9 +157,9 @@ impl<S: Statements> Session<S> {
     /// Handles a line, and adds what it prints to `out`: each piece of text goes to the buffer, each
     /// command is carried out. What is behind a command that ends the session does nothing.
     pub fn line(&mut self, alloc: Global, line: &[u8], out: &mut Vec<u8>) -> Result<(), OutOfMemory>
-        ensures did { OnOk result ((deeper : Deeper) → Did (after_line (setting (S.meaning self.old.user)) deeper self.old.kept line.now)
+        ensures did { OnOk result ((deeper : Deeper) → Did (after_line (setting (S.meaning self.old.asker)) deeper self.old.kept line.now)
             out.old.items out.new.items self.new.kept) }
-        ensures same { self.new.user ≡ self.old.user }
+        ensures same { self.new.asker ≡ self.old.asker }
     {
         let parts = parts_of(alloc, line)?;
         for part in &parts {

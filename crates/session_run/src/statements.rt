@@ -1,6 +1,7 @@
 //! What runs statements.
 
 ghost use Rattle.std.specs.Prelude.{◌≡◌, ℕ, List, true, IfOk};
+ghost use Rattle.calculus.specs.Who.{Asker};
 ghost use Rattle.calculus.specs.declared.statement.Statement.{Statement as Stated};
 ghost use Rattle.quel_meaning.specs.IsWritten.{is_written};
 ghost use Rattle.quel_meaning.specs.State.{State, Outcome};
@@ -11,10 +12,10 @@ use std::alloc::Global;
 /// Runs statements one after the other.
 pub trait Statements {
     /// What each statement does for a user to what it works on, and its reply.
-    ghost meaning: { List ℕ → State → Stated → Outcome };
+    ghost meaning: { Asker → State → Stated → Outcome };
 
     /// The user whose statements they are.
-    ghost user: { Self → List ℕ };
+    ghost asker: { Self → Asker };
 
     /// What the next statement works on.
     ghost state: { Self → State };
@@ -23,6 +24,6 @@ pub trait Statements {
     /// reply; where that is a refusal, its line is 0.
     fn run(&mut self, alloc: Global, s: &Statement) -> Result<Reply, OutOfMemory>
         requires { is_written s.now ≡ true }
-        ensures outcome { IfOk result (λ reply. meaning (user self.old) (state self.old) s.now ≡ record { state = state self.new; reply = reply }) }
-        ensures same { user self.new ≡ user self.old };
+        ensures outcome { IfOk result (λ reply. meaning (asker self.old) (state self.old) s.now ≡ record { state = state self.new; reply = reply }) }
+        ensures same { asker self.new ≡ asker self.old };
 }

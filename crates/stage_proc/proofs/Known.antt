@@ -7,11 +7,10 @@ use Rattle.std.proofs.lemmas.List.Folds.{list_all-append, list_all-map}
 use Rattle.calculus.specs.declared.query.RelKey.{RelKey}
 use Rattle.calculus.specs.declared.schema.Attr.{Attr}
 use Rattle.calculus.specs.declared.schema.RelInfo.{RelInfo}
-use Rattle.calculus.specs.declared.schema.Spec.{Spec}
-use Rattle.calculus.specs.declared.schema.Spec.TheVariants as spec
 use Rattle.calculus.specs.Name.{is_name}
 use Rattle.calculus.specs.Keys.{same_key}
 use Rattle.calculus.specs.Lists.{is_any}
+use Rattle.calculus.specs.Structures.{is_index}
 use Rattle.calculus.specs.Database.{Db, Relation, View, Index, relation_at, view_at, index_at, is_relation, entry_at}
 use Rattle.calculus.specs.Catalogue.{is_catalogue_name, relation_key, attribute_key, catalogue_at}
 use Rattle.calculus.specs.Stored.{Kept, Viewed, range_at, range_info, info_at, attrs_in, attrs_at}
@@ -59,16 +58,8 @@ unnamed : (attrs : List Attr) → not (is_any attrs) ≡ true → attrs ≡ []
 unnamed [] h = refl
 unnamed (a ∷ attrs) h = absurd (cc h)
 
-index_has_none : (s : Spec) (a b c : Bool)
-    → elim s [ spec.Heap ↦ false | spec.Hash ↦ false | spec.Isam ↦ false | spec.View ↦ false | spec.Index ↦ a && (b && c) ] ≡ true → b ≡ true
-index_has_none spec.Heap a b c h = absurd (cc h)
-index_has_none spec.Hash a b c h = absurd (cc h)
-index_has_none spec.Isam a b c h = absurd (cc h)
-index_has_none spec.View a b c h = absurd (cc h)
-index_has_none spec.Index a b c h = left b c (right a (b && c) h)
-
 index_unnamed : (db : Db) (x : Index) → index_stands db x ≡ true → x.info.attrs ≡ []
-index_unnamed db x h = unnamed x.info.attrs (index_has_none x.info.spec (is_relation db x.base) (not (is_any x.info.attrs)) _ h)
+index_unnamed db x h = unnamed x.info.attrs (left (not (is_any x.info.attrs)) _ (right (is_relation db x.base) _ (right (is_index x.info.spec) _ h)))
 
 not_so : (b : Bool) → not b ≡ true → b ≡ false
 not_so true h = absurd (cc h)

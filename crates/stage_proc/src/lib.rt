@@ -20,6 +20,3 @@ pub use fault::PairFault;
 pub use kinds::NewKinds;
 pub use over::pairs_over;
 pub use pairs::pairs_of;
-
-#[cfg(test)]
-mod tests;

@@ -1,8 +1,8 @@
 //! The pair of one assignment.
 
 ghost use Rattle.std.specs.Prelude.{◌≡◌, map, slice_get, option_map, IfOk};
-ghost use Rattle.calculus.specs.Pairs.{blank, old_row, with_values};
-ghost use Rattle.stage_proc.specs.Given.{pair_of};
+ghost use Rattle.calculus.specs.Pairs.{blank, with_values};
+ghost use Rattle.stage_proc.specs.Given.{old_in, pair_of};
 
 use crate::new_row::{blank_row, with_values};
 use calculus::{Kind, OutOfMemory, Pair, Row, TryCopy, Update, UpdateOp};
@@ -21,7 +21,7 @@ fn row_at(alloc: Global, at: &Assigned, v: u8) -> Result<Option<Row>, OutOfMemor
 
 /// The row that an update replaces or deletes in an assignment.
 pub(crate) fn old_row(alloc: Global, u: &Update, at: &Assigned) -> Result<Option<Row>, OutOfMemory>
-    ensures { IfOk result (λ row. row ≡ old_row u.now at.now) }
+    ensures { IfOk result (λ row. row ≡ old_in u.now at.now) }
 {
     match u.op {
         UpdateOp::Append => Ok(None),
@@ -54,7 +54,7 @@ fn appended(alloc: Global, kinds: &[Kind], places: &[u8], values: &Row) -> Resul
     with_values(alloc, places, values, &row)
 }
 
-/// The pair where the changed variable has the row `old` and the targets have these values.
+/// The pair where the old row is this one and the targets have these values.
 pub(crate) fn pair_of(
     alloc: Global,
     kinds: &[Kind],

@@ -1,16 +1,12 @@
 -- The values of aggregates are numbers and texts in the language's sense.
-use Rattle.std.proofs.Common.{◌≡◌, refl, ap, subst, ◌∙◌, ℕ, ◌+◌, Bool, true, false, ◌&&◌, IsTrue, List, [], ◌∷◌, Option, Some, None, length, nat_le}
-use Rattle.std.specs.Prelude.{pos, filter_map, if◌then◌else◌}
-use Rattle.std.specs.List.{list_all, enumerate_from}
+use Rattle.std.proofs.Common.{◌≡◌, refl, ap, ◌∙◌, ℕ, Bool, true, false, ◌&&◌, IsTrue, List, [], ◌∷◌, Option, Some, None}
+use Rattle.std.specs.Prelude.{pos, if◌then◌else◌}
 use Rattle.std.specs.declared.cmp.Ordering.{Ordering}
 use Rattle.std.specs.declared.cmp.Ordering.TheVariants.{Less, Equal, Greater}
 use Rattle.calculus.specs.declared.operator.AggOp.{AggOp}
 use Rattle.calculus.specs.declared.operator.AggOp.TheVariants.{Count, Countu, Sum, Sumu, Avg, Avgu, Min, Max, Any}
 use Rattle.calculus.specs.declared.query.AggSource.{AggSource, Named}
 use Rattle.calculus.specs.declared.query.QAgg.{QAgg}
-use Rattle.calculus.specs.declared.query.Query.{Query}
-use Rattle.calculus.specs.declared.query.RelKey.{RelKey}
-use Rattle.calculus.specs.declared.query.Target.{Target}
 use Rattle.calculus.specs.declared.value.Value.{Value}
 use Rattle.calculus.specs.declared.value.Value.TheVariants.{Int, Text}
 use Rattle.calculus.specs.Chars.{is_chars}
@@ -24,22 +20,17 @@ use Rattle.calculus.specs.Value.{value_cmp}
 use Rattle.calculus.specs.Who.{Who}
 use Rattle.calculus.specs.Database.{Db}
 use Rattle.calculus.specs.Term.{Env, val, holds, no_aggs, values_of}
-use Rattle.calculus.specs.QueryParts.{vars_of, targets_of, qual_of, term_aggregates}
+use Rattle.calculus.specs.QueryParts.{term_aggregates}
 use Rattle.calculus.specs.Used.{used_in_aggregate}
-use Rattle.calculus.specs.Assignments.{variable_rows, assigned}
 use Rattle.calculus.specs.Spelled.{term_is_spelled, source_is_spelled}
-use Rattle.calculus.specs.Targets.{target_values, qualifying, rows_given}
 use Rattle.calculus.specs.VariableRows.{rows_of}
 use Rattle.calculus.specs.Aggregate.{source_rows, agree, folded_rows, arguments, different, total, first_or, last_or, fold_values, source_kinds, none_value, fold_arguments, fold_linked, aggregates}
-use Rattle.calculus.specs.IsDatabase.{IsDatabase, query_stands}
-use Rattle.quel_meaning.specs.FitQueries.{is_kept, kept_alone, has_few_targets, source_fits}
-use Rattle.quel_meaning.proofs.Each.{Each, in_filter, each_to}
-use Rattle.update_laws.specs.Proper.{is_proper, row_is_proper, rows_are_proper}
-use Rattle.update_laws.proofs.Lists.{in_filter_map}
+use Rattle.calculus.specs.IsDatabase.{IsDatabase}
+use Rattle.quel_meaning.proofs.Each.{Each, in_filter}
+use Rattle.update_laws.specs.Proper.{is_proper, row_is_proper}
 use Rattle.update_laws.proofs.Texts.{both, each}
-use Rattle.update_laws.proofs.Valued.{gives_proper, AggsProper, gives_row, before_proper, number_proper, val_proper, targets_proper}
-use Rattle.update_laws.proofs.Assigned.{OfVariable, Chosen, OfRows, chosen, all_proper}
-use Rattle.update_laws.proofs.Catalogued.{Proper, set_each}
+use Rattle.update_laws.proofs.Valued.{gives_proper, gives_row, before_proper, number_proper, val_proper}
+use Rattle.update_laws.proofs.Catalogued.{Proper}
 use Rattle.update_laws.proofs.Standing.{AggregateStands}
 use Rattle.update_laws.proofs.Queried.{none_proper, query_proper}
 use Rattle.update_laws.proofs.Ranged.{named_proper}

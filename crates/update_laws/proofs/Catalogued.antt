@@ -7,8 +7,6 @@ use Rattle.std.specs.declared.cmp.Ordering.TheVariants.{Less, Equal, Greater}
 use Rattle.calculus.specs.declared.query.RelKey.{RelKey}
 use Rattle.calculus.specs.declared.schema.Attr.{Attr}
 use Rattle.calculus.specs.declared.schema.RelInfo.{RelInfo}
-use Rattle.calculus.specs.declared.schema.Spec.{Spec}
-use Rattle.calculus.specs.declared.schema.Spec.TheVariants as spec
 use Rattle.calculus.specs.Lists.{is_any}
 use Rattle.calculus.specs.Name.{is_name}
 use Rattle.calculus.specs.Text.{is_text}
@@ -16,10 +14,9 @@ use Rattle.calculus.specs.Keys.{same_key}
 use Rattle.calculus.specs.Rows.{Row, put, set_of}
 use Rattle.calculus.specs.Value.{row_cmp}
 use Rattle.calculus.specs.Database.{Db, Relation, Index, entries, is_relation}
-use Rattle.calculus.specs.Stored.{attrs_at}
 use Rattle.calculus.specs.Catalogue.{is_catalogue_name, relation_key, attribute_key, relation_info, attribute_info, relation_attrs, attribute_attrs, all_entries, relation_row, format_text, attribute_row, attribute_rows, catalogue_at}
 use Rattle.calculus.specs.Structures.{is_index, spec_text}
-use Rattle.calculus.specs.IsDatabase.{IsDatabase, key_is_named, attrs_stand, is_kind, index_stands, keys_stand}
+use Rattle.calculus.specs.IsDatabase.{IsDatabase, key_is_named, attrs_stand, is_kind, index_stands}
 use Rattle.quel_meaning.proofs.DatabaseFacts.{stood}
 use Rattle.quel_meaning.proofs.Each.{Each, both_of, in_map, in_flat_map, each_to, each_passes}
 use Rattle.update_laws.specs.Proper.{row_is_proper}

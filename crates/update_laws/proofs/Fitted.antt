@@ -1,7 +1,6 @@
 -- An update that is fit, with its aggregates.
-use Rattle.std.proofs.Common.{◌≡◌, true, ◌&&◌, IsTrue, ℕ, List}
+use Rattle.std.proofs.Common.{◌≡◌, true, IsTrue, ℕ, List}
 use Rattle.std.specs.Prelude.{nat_le, Ok}
-use Rattle.std.specs.List.{list_all}
 use Rattle.calculus.specs.declared.change.DbChange.{DbChange}
 use Rattle.calculus.specs.declared.query.QAgg.{QAgg}
 use Rattle.calculus.specs.declared.request.Checked.TheVariants as checked

@@ -12,4 +12,5 @@ mod Aggregated
 mod Updated
 pub mod Fitted
 pub mod WalkedForms
+pub mod WalkedTrees
 mod Worked

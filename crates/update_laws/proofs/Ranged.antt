@@ -3,7 +3,6 @@ use Rattle.std.proofs.Common.{◌≡◌, refl, sym, ap, subst, ◌∙◌, ℕ, z
 use Rattle.std.specs.Prelude.{is_some, option_map}
 use Rattle.std.specs.List.{list_all, enumerate_from}
 use Rattle.calculus.specs.declared.query.RelKey.{RelKey}
-use Rattle.calculus.specs.declared.query.Query.{Query}
 use Rattle.calculus.specs.declared.schema.Attr.{Attr}
 use Rattle.calculus.specs.declared.request.Update.{Update}
 use Rattle.calculus.specs.declared.value.Value.{Value}

@@ -1,5 +1,5 @@
 -- The parts of a tree whose constants are those of their types.
-use Rattle.std.proofs.Common.{IsTrue, ◌&&◌}
+use Rattle.std.proofs.Common.{IsTrue}
 use Rattle.calculus.specs.declared.query.QAgg.{QAgg}
 use Rattle.calculus.specs.declared.query.QTerm.{QTerm, Int, Chars, Attr, Agg', Row_of-QAgg, end_of-QAgg, more_of-QAgg}
 use Rattle.calculus.specs.declared.query.Query.{Query, Query', items-the_row-Target, Row_of-Target, end_of-Target, more_of-Target}

@@ -1,5 +1,5 @@
 -- An update that isn't refused makes a lawful change.
-use Rattle.std.proofs.Common.{◌≡◌, refl, sym, ap, subst, ◌∙◌, ℕ, Bool, true, false, ◌&&◌, ◌||◌, not, IsTrue, List, [], ◌∷◌, Option, Some, None, map, filter, length, nat_le, nat_lt, nat_eq, arith}
+use Rattle.std.proofs.Common.{◌≡◌, refl, sym, ap, subst, ◌∙◌, ℕ, Bool, true, false, not, IsTrue, List, [], ◌∷◌, Option, Some, None, map, filter, length, nat_le, nat_lt, nat_eq, arith}
 use Rattle.std.specs.Prelude.{is_some, option_map, filter_map, slice_get, Result, Ok, Err}
 use Rattle.std.specs.List.{list_all}
 use Rattle.std.proofs.lemmas.Bool.Decides.{nat_tests}
@@ -12,13 +12,11 @@ use Rattle.calculus.specs.declared.request.Update.{Update}
 use Rattle.calculus.specs.declared.request.UpdateOp.{UpdateOp}
 use Rattle.calculus.specs.declared.request.UpdateOp.TheVariants.{Append, Replace, Delete, Into}
 use Rattle.calculus.specs.Keys.{same_key}
-use Rattle.calculus.specs.Limits.{most_rows, most_entries}
-use Rattle.calculus.specs.Name.{is_name}
+use Rattle.calculus.specs.Limits.{most_rows}
 use Rattle.calculus.specs.Rows.{Row, Ascends, has}
 use Rattle.calculus.specs.Value.{row_cmp}
 use Rattle.calculus.specs.Who.{Who}
-use Rattle.calculus.specs.Database.{Db, Relation, relation_at, is_relation, is_there, entries}
-use Rattle.calculus.specs.Catalogue.{is_catalogue_name}
+use Rattle.calculus.specs.Database.{Db, Relation, relation_at, is_relation}
 use Rattle.calculus.specs.Stored.{kept_rows, attrs_at, rows_at}
 use Rattle.calculus.specs.Term.{Env, holds}
 use Rattle.calculus.specs.QueryParts.{vars_of, targets_of, qual_of, term_aggregates}
@@ -26,14 +24,12 @@ use Rattle.calculus.specs.Assignments.{changed}
 use Rattle.calculus.specs.Targets.{target_values}
 use Rattle.calculus.specs.VariableRows.{rows_of}
 use Rattle.calculus.specs.Aggregate.{aggregates}
-use Rattle.calculus.specs.IsDatabase.{IsDatabase, attrs_stand, are_stored, row_fits}
+use Rattle.calculus.specs.IsDatabase.{IsDatabase, are_stored, row_fits}
 use Rattle.calculus.specs.Pairs.{pair_of, pair_stands, pairs}
 use Rattle.calculus.specs.Replacement.{old_rows, new_rows, with_rows, without_rows, after, made_attr, wanted_kinds, all_fit, values_fit, rows_after, rows_change, update_refusals, first_cause, change_of, updated}
 use Rattle.calculus.specs.Change.{IsLawful}
 use Rattle.calculus.proofs.Sets.{Ascends-nil, Ascends-put}
-use Rattle.quel_meaning.specs.Passing.{is_full, is_taken}
-use Rattle.quel_meaning.specs.FitQueries.{is_kept}
-use Rattle.quel_meaning.specs.Fit.{new_attrs, is_this_key, is_new, relation_fits}
+use Rattle.quel_meaning.specs.Fit.{new_attrs, is_this_key, relation_fits}
 use Rattle.quel_meaning.proofs.DatabaseFacts.{found_passes}
 use Rattle.quel_meaning.proofs.Each.{Each, in_filter, each_passes, passed}
 use Rattle.plan_laws.specs.Fitting.{IsFitRelation}
@@ -44,7 +40,7 @@ use Rattle.calculus.proofs.OldRows.{old_in, pair_in, seen_assigned, seen_qualify
 use Rattle.quel_meaning.specs.SpelledTree.{key_is_spelled, made_key_is_spelled}
 use Rattle.plan_laws.proofs.FitUtilities.{fit_relation}
 use Rattle.update_laws.proofs.Standing.{TargetStands}
-use Rattle.update_laws.proofs.Texts.{both, each}
+use Rattle.update_laws.proofs.Texts.{both}
 use Rattle.update_laws.proofs.Valued.{AggsProper, gives_row, targets_proper}
 use Rattle.update_laws.proofs.Assigned.{Chosen, all_proper}
 use Rattle.update_laws.proofs.Lists.{in_filter_map, two_each}

@@ -1,24 +1,20 @@
 -- What a walk finds of the constants of a tree, form by form.
-use Rattle.std.proofs.Common.{◌≡◌, refl, sym, ap, ◌∙◌, subst, ℕ, ℤ, Bool, true, ◌&&◌, IsTrue, List, [], ◌∷◌}
-use Rattle.std.specs.List.{list_all}
-use denote.Hole.Carrier.{out, roll}
+use Rattle.std.proofs.Common.{refl, sym, ap, ◌∙◌, ℕ, ℤ, Bool, IsTrue, List, [], ◌∷◌}
 use Rattle.calculus.specs.declared.operator.ArithOp.{ArithOp}
 use Rattle.calculus.specs.declared.operator.CmpOp.{CmpOp}
-use Rattle.calculus.specs.declared.query.AggSource.{AggSource}
 use Rattle.calculus.specs.declared.query.AggSource.TheVariants.{Named, Rows}
 use Rattle.calculus.specs.declared.query.QAgg.{QAgg}
 use Rattle.calculus.specs.declared.query.QQual.{QQual}
 use Rattle.calculus.specs.declared.query.QQual.TheVariants.{True, Cmp, Like, And, Or, Not}
 use Rattle.calculus.specs.declared.query.QTerm.{QTerm}
 use Rattle.calculus.specs.declared.query.QTerm.TheVariants.{Int, Chars, Attr, Neg, Abs, Arith, Concat, Agg}
-use Rattle.calculus.specs.declared.query.Query.{Query, Query', out-Query, roll-Query, roll-out-Query}
+use Rattle.calculus.specs.declared.query.Query.{Query, out-Query, roll-out-Query}
 use Rattle.calculus.specs.declared.query.RelKey.{RelKey}
 use Rattle.calculus.specs.declared.query.Target.{Target}
 use Rattle.calculus.specs.Chars.{is_chars}
 use Rattle.calculus.specs.Number.{has_64_bits}
 use Rattle.calculus.specs.Spelled.{term_is_spelled, source_is_spelled, terms_are_spelled, qual_is_spelled, targets_are_spelled, query_is_spelled}
-use Rattle.calculus.specs.Tree.{neg, abs, operation, concat, aggregate, negated, rows_of_query, term_row, target_row, query}
-use Rattle.calculus.specs.Tree as tree
+use Rattle.calculus.specs.Tree.{term_row, target_row}
 use Rattle.calculus.proofs.Forms.{neg_is, abs_is, operation_is, concat_is, agg_is, both_is, either_is, negated_is, rows_is, query_is}
 use Rattle.update_laws.specs.Walked.{term_is_walked, terms_are_walked, source_is_walked, aggregate_is_walked, targets_are_walked, qual_is_walked}
 use Rattle.update_laws.proofs.Texts.{both, each}

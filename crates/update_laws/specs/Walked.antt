@@ -1,12 +1,17 @@
 -- What a walk through a tree, as a program holds it, finds of its constants.
-use Rattle.std.specs.Prelude.{Bool, List}
+use Rattle.std.specs.Prelude.{Bool, true, List}
 use Rattle.std.specs.List.{list_all}
 use Rattle.calculus.specs.declared.query.AggSource.{AggSource}
 use Rattle.calculus.specs.declared.query.QAgg.{QAgg}
 use Rattle.calculus.specs.declared.query.QQual.{QQual}
 use Rattle.calculus.specs.declared.query.QTerm.{QTerm}
 use Rattle.calculus.specs.declared.query.Target.{Target}
-use Rattle.calculus.specs.Spelled.{term_is_spelled, source_is_spelled, qual_is_spelled}
+use Rattle.calculus.specs.declared.request.Asked.{Asked}
+use Rattle.calculus.specs.declared.request.Checked.{Checked}
+use Rattle.calculus.specs.declared.request.Checked.TheVariants as checked
+use Rattle.calculus.specs.declared.request.Utility.TheVariants as utility
+use Rattle.calculus.specs.Rights.{are_rights}
+use Rattle.calculus.specs.Spelled.{term_is_spelled, source_is_spelled, qual_is_spelled, query_is_spelled}
 use Rattle.calculus.specs.Tree.{aggregate}
 
 -- the constants of a term are those of their types
@@ -32,3 +37,16 @@ targets_are_walked targets = list_all (λ t. term_is_walked t.term) targets
 -- those of a qualification
 unfoldable pub qual_is_walked : QQual → Bool
 qual_is_walked q = qual_is_spelled q
+
+-- those of these qualifications
+unfoldable pub quals_are_walked : List QQual → Bool
+quals_are_walked quals = list_all qual_is_walked quals
+
+-- those of these queries
+unfoldable pub asked_are_walked : List Asked → Bool
+asked_are_walked asked = list_all (λ a. query_is_spelled a.query) asked
+
+-- where the tree defines a permit, what this allows is a sum of rights
+abbrev pub names_rights : Checked → Bool
+names_rights (checked.Utility (utility.Permit rel permit)) = are_rights permit.ops
+names_rights _ = true

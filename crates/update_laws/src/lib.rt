@@ -4,9 +4,11 @@
 #![tactic(auto)]
 
 mod constants;
+mod trees;
 mod updates;
 mod values;
 
 pub use constants::{qual_is_spelled, query_is_spelled};
+pub use trees::{tree_is_spelled, update_is_spelled, utility_is_spelled};
 pub use updates::an_update_is_lawful;
 pub use values::the_values_of_terms_are_proper;

@@ -5,7 +5,7 @@ ghost use Rattle.std.specs.Prelude.{◌≡◌, IfOk};
 use crate::{
     Change, DbChange, Name, OutOfMemory, Pair, Permit, Query, RelInfo, RelKey, Row, Rule, Spec,
 };
-use memory::{List, TryCopy};
+use memory::{List, TryCopy, both};
 use std::alloc::Global;
 
 fn copy_rows(
@@ -16,17 +16,15 @@ fn copy_rows(
 ) -> Result<DbChange, OutOfMemory>
     ensures { IfOk result (λ copy. copy ≡ DbChange.Rows rel.now remove.now add.now) }
 {
-    let rel = rel.copy(alloc)?;
-    let remove = remove.copy(alloc)?;
-    let add = add.copy(alloc)?;
+    let rows = both(remove.copy(alloc), add.copy(alloc));
+    let (rel, (remove, add)) = both(rel.copy(alloc), rows)?;
     Ok(DbChange::Rows { rel, remove, add })
 }
 
 fn copy_create(alloc: Global, info: &RelInfo, rows: &List<Row>) -> Result<DbChange, OutOfMemory>
     ensures { IfOk result (λ copy. copy ≡ DbChange.Create info.now rows.now) }
 {
-    let info = info.copy(alloc)?;
-    let rows = rows.copy(alloc)?;
+    let (info, rows) = both(info.copy(alloc), rows.copy(alloc))?;
     Ok(DbChange::Create { info, rows })
 }
 
@@ -45,8 +43,7 @@ fn copy_modify(
 ) -> Result<DbChange, OutOfMemory>
     ensures { IfOk result (λ copy. copy ≡ DbChange.Modify rel.now to keys.now) }
 {
-    let rel = rel.copy(alloc)?;
-    let keys = keys.copy(alloc)?;
+    let (rel, keys) = both(rel.copy(alloc), keys.copy(alloc))?;
     Ok(DbChange::Modify { rel, to, keys })
 }
 
@@ -58,33 +55,29 @@ fn copy_index(
 ) -> Result<DbChange, OutOfMemory>
     ensures { IfOk result (λ copy. copy ≡ DbChange.Index base.now name.now keys.now) }
 {
-    let base = base.copy(alloc)?;
-    let name = name.copy(alloc)?;
-    let keys = keys.copy(alloc)?;
+    let names = both(base.copy(alloc), name.copy(alloc));
+    let ((base, name), keys) = both(names, keys.copy(alloc))?;
     Ok(DbChange::Index { base, name, keys })
 }
 
 fn copy_view(alloc: Global, info: &RelInfo, query: &Query) -> Result<DbChange, OutOfMemory>
     ensures { IfOk result (λ copy. copy ≡ DbChange.View info.now query.now) }
 {
-    let info = info.copy(alloc)?;
-    let query = query.copy(alloc)?;
+    let (info, query) = both(info.copy(alloc), query.copy(alloc))?;
     Ok(DbChange::View { info, query })
 }
 
 fn copy_permit(alloc: Global, rel: &RelKey, permit: &Permit) -> Result<DbChange, OutOfMemory>
     ensures { IfOk result (λ copy. copy ≡ DbChange.Permit rel.now permit.now) }
 {
-    let rel = rel.copy(alloc)?;
-    let permit = permit.copy(alloc)?;
+    let (rel, permit) = both(rel.copy(alloc), permit.copy(alloc))?;
     Ok(DbChange::Permit { rel, permit })
 }
 
 fn copy_rule(alloc: Global, rel: &RelKey, rule: &Rule) -> Result<DbChange, OutOfMemory>
     ensures { IfOk result (λ copy. copy ≡ DbChange.Rule rel.now rule.now) }
 {
-    let rel = rel.copy(alloc)?;
-    let rule = rule.copy(alloc)?;
+    let (rel, rule) = both(rel.copy(alloc), rule.copy(alloc))?;
     Ok(DbChange::Rule { rel, rule })
 }
 
@@ -95,8 +88,7 @@ fn copy_drop_permits(
 ) -> Result<DbChange, OutOfMemory>
     ensures { IfOk result (λ copy. copy ≡ DbChange.DropPermits rel.now numbers.now) }
 {
-    let rel = rel.copy(alloc)?;
-    let numbers = numbers.copy(alloc)?;
+    let (rel, numbers) = both(rel.copy(alloc), numbers.copy(alloc))?;
     Ok(DbChange::DropPermits { rel, numbers })
 }
 
@@ -107,8 +99,7 @@ fn copy_drop_rules(
 ) -> Result<DbChange, OutOfMemory>
     ensures { IfOk result (λ copy. copy ≡ DbChange.DropRules rel.now numbers.now) }
 {
-    let rel = rel.copy(alloc)?;
-    let numbers = numbers.copy(alloc)?;
+    let (rel, numbers) = both(rel.copy(alloc), numbers.copy(alloc))?;
     Ok(DbChange::DropRules { rel, numbers })
 }
 
@@ -131,16 +122,14 @@ impl TryCopy for DbChange {
 
 impl TryCopy for Pair {
     fn copy(&self, alloc: Global) -> Result<Pair, OutOfMemory> {
-        let old = self.old.copy(alloc)?;
-        let new = self.new.copy(alloc)?;
+        let (old, new) = both(self.old.copy(alloc), self.new.copy(alloc))?;
         Ok(Pair { old, new })
     }
 }
 
 impl TryCopy for Change {
     fn copy(&self, alloc: Global) -> Result<Change, OutOfMemory> {
-        let remove = self.remove.copy(alloc)?;
-        let add = self.add.copy(alloc)?;
+        let (remove, add) = both(self.remove.copy(alloc), self.add.copy(alloc))?;
         Ok(Change { remove, add })
     }
 }

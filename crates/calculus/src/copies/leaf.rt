@@ -4,7 +4,7 @@ use crate::{
     AggTable, Chars, CopyCol, CopyForm, Domain, Name, OutOfMemory, Probe, RelKey, Row, SortKey,
     Text, Value,
 };
-use memory::TryCopy;
+use memory::{TryCopy, both, copies};
 use std::alloc::Global;
 
 impl TryCopy for Name {
@@ -60,8 +60,7 @@ impl TryCopy for Value {
 
 impl TryCopy for RelKey {
     fn copy(&self, alloc: Global) -> Result<RelKey, OutOfMemory> {
-        let owner = self.owner.copy(alloc)?;
-        let name = self.name.copy(alloc)?;
+        let (owner, name) = both(self.owner.copy(alloc), self.name.copy(alloc))?;
         Ok(RelKey { owner, name })
     }
 }
@@ -75,18 +74,13 @@ impl TryCopy for Probe {
 
 impl TryCopy for AggTable {
     fn copy(&self, alloc: Global) -> Result<AggTable, OutOfMemory> {
-        let groups = self.groups.copy(alloc)?;
-        let empty = self.empty.copy(alloc)?;
+        let (groups, empty) = both(self.groups.copy(alloc), self.empty.copy(alloc))?;
         Ok(AggTable { groups, empty })
     }
 }
 
 impl TryCopy for Row {
     fn copy(&self, alloc: Global) -> Result<Row, OutOfMemory> {
-        let mut copies = Vec::new(alloc);
-        for value in self.values() {
-            copies.push(value.copy(alloc)?)?;
-        }
-        Ok(Row::of(copies))
+        Ok(Row::of(copies(alloc, self.values())?))
     }
 }

@@ -3,7 +3,7 @@
 ghost use Rattle.std.specs.Prelude.{◌≡◌, IfOk};
 
 use crate::{AggSource, OutOfMemory, QAgg, QQual, QTerm, Query, Target};
-use memory::{Boxed, List, TryCopy};
+use memory::{Boxed, List, TryCopy, both};
 use std::alloc::Global;
 
 #[cycle(copy)]
@@ -20,8 +20,8 @@ fn copy_term(alloc: Global, term: &QTerm) -> Result<QTerm, OutOfMemory>
         QTerm::Neg(inner) => Ok(QTerm::Neg(boxed_term(alloc, inner.get())?)),
         QTerm::Abs(inner) => Ok(QTerm::Abs(boxed_term(alloc, inner.get())?)),
         QTerm::Arith { op, left, right } => {
-            let left = boxed_term(alloc, left.get())?;
-            let right = boxed_term(alloc, right.get())?;
+            let left = boxed_term(alloc, left.get());
+            let (left, right) = both(left, boxed_term(alloc, right.get()))?;
             Ok(QTerm::Arith {
                 op: *op,
                 left,
@@ -29,8 +29,8 @@ fn copy_term(alloc: Global, term: &QTerm) -> Result<QTerm, OutOfMemory>
             })
         }
         QTerm::Concat { left, right } => {
-            let left = boxed_term(alloc, left.get())?;
-            let right = boxed_term(alloc, right.get())?;
+            let left = boxed_term(alloc, left.get());
+            let (left, right) = both(left, boxed_term(alloc, right.get()))?;
             Ok(QTerm::Concat { left, right })
         }
         QTerm::Agg(agg) => Ok(QTerm::Agg(Boxed::new(alloc, copy_agg(alloc, agg.get())?)?)),
@@ -69,8 +69,7 @@ fn copy_qual(alloc: Global, qual: &QQual) -> Result<QQual, OutOfMemory>
     match qual {
         QQual::True => Ok(QQual::True),
         QQual::Cmp { op, left, right } => {
-            let left = copy_term(alloc, left)?;
-            let right = copy_term(alloc, right)?;
+            let (left, right) = both(copy_term(alloc, left), copy_term(alloc, right))?;
             Ok(QQual::Cmp {
                 op: *op,
                 left,
@@ -82,8 +81,7 @@ fn copy_qual(alloc: Global, qual: &QQual) -> Result<QQual, OutOfMemory>
             pattern,
             same,
         } => {
-            let term = copy_term(alloc, term)?;
-            let pattern = pattern.copy(alloc)?;
+            let (term, pattern) = both(copy_term(alloc, term), pattern.copy(alloc))?;
             Ok(QQual::Like {
                 term,
                 pattern,
@@ -91,12 +89,14 @@ fn copy_qual(alloc: Global, qual: &QQual) -> Result<QQual, OutOfMemory>
             })
         }
         QQual::And(left, right) => {
-            let left = boxed_qual(alloc, left.get())?;
-            Ok(QQual::And(left, boxed_qual(alloc, right.get())?))
+            let left = boxed_qual(alloc, left.get());
+            let (left, right) = both(left, boxed_qual(alloc, right.get()))?;
+            Ok(QQual::And(left, right))
         }
         QQual::Or(left, right) => {
-            let left = boxed_qual(alloc, left.get())?;
-            Ok(QQual::Or(left, boxed_qual(alloc, right.get())?))
+            let left = boxed_qual(alloc, left.get());
+            let (left, right) = both(left, boxed_qual(alloc, right.get()))?;
+            Ok(QQual::Or(left, right))
         }
         QQual::Not(inner) => Ok(QQual::Not(boxed_qual(alloc, inner.get())?)),
     }
@@ -106,11 +106,12 @@ fn copy_qual(alloc: Global, qual: &QQual) -> Result<QQual, OutOfMemory>
 fn copy_agg(alloc: Global, agg: &QAgg) -> Result<QAgg, OutOfMemory>
     ensures { IfOk result (λ a. a ≡ agg.now) }
 {
-    let source = copy_source(alloc, &agg.source)?;
-    let arg = copy_term(alloc, &agg.arg)?;
-    let by = copy_terms(alloc, agg.by.items())?;
-    let link = copy_terms(alloc, agg.link.items())?;
-    let qual = copy_qual(alloc, &agg.qual)?;
+    let source = copy_source(alloc, &agg.source);
+    let by = copy_terms(alloc, agg.by.items());
+    let link = copy_terms(alloc, agg.link.items());
+    let lists = both(by, link);
+    let body = both(copy_term(alloc, &agg.arg), copy_qual(alloc, &agg.qual));
+    let (source, ((by, link), (arg, qual))) = both(source, both(lists, body))?;
     Ok(QAgg {
         slot: agg.slot,
         op: agg.op,
@@ -139,8 +140,7 @@ fn copy_source(alloc: Global, source: &AggSource) -> Result<AggSource, OutOfMemo
 fn copy_target(alloc: Global, target: &Target) -> Result<Target, OutOfMemory>
     ensures { IfOk result (λ t. t ≡ target.now) }
 {
-    let name = target.name.copy(alloc)?;
-    let term = copy_term(alloc, &target.term)?;
+    let (name, term) = both(target.name.copy(alloc), copy_term(alloc, &target.term))?;
     Ok(Target {
         name,
         kind: target.kind,
@@ -163,9 +163,9 @@ fn copy_targets(alloc: Global, targets: &[Target]) -> Result<List<Target>, OutOf
 fn copy_query(alloc: Global, query: &Query) -> Result<Query, OutOfMemory>
     ensures { IfOk result (λ q. q ≡ query.now) }
 {
-    let vars = query.vars.copy(alloc)?;
-    let targets = copy_targets(alloc, query.targets.items())?;
-    let qual = copy_qual(alloc, &query.qual)?;
+    let targets = copy_targets(alloc, query.targets.items());
+    let rest = both(targets, copy_qual(alloc, &query.qual));
+    let (vars, (targets, qual)) = both(query.vars.copy(alloc), rest)?;
     Ok(Query {
         vars,
         targets,

@@ -1,7 +1,7 @@
 //! Copies of replies.
 
 use crate::{Column, OutOfMemory, Reply, Table};
-use memory::TryCopy;
+use memory::{TryCopy, both};
 use std::alloc::Global;
 
 impl TryCopy for Column {
@@ -16,8 +16,7 @@ impl TryCopy for Column {
 
 impl TryCopy for Table {
     fn copy(&self, alloc: Global) -> Result<Table, OutOfMemory> {
-        let columns = self.columns.copy(alloc)?;
-        let rows = self.rows.copy(alloc)?;
+        let (columns, rows) = both(self.columns.copy(alloc), self.rows.copy(alloc))?;
         Ok(Table { columns, rows })
     }
 }

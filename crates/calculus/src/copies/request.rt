@@ -6,14 +6,13 @@ use crate::{
     Asked, Attr, Chars, Checked, CopyCol, Name, OutOfMemory, Permit, Query, RelKey, Rule, Spec,
     Update, Utility,
 };
-use memory::{List, TryCopy};
+use memory::{List, TryCopy, both};
 use std::alloc::Global;
 
 fn copy_create(alloc: Global, rel: &RelKey, attrs: &List<Attr>) -> Result<Utility, OutOfMemory>
     ensures { IfOk result (λ copy. copy ≡ Utility.Create rel.now attrs.now) }
 {
-    let rel = rel.copy(alloc)?;
-    let attrs = attrs.copy(alloc)?;
+    let (rel, attrs) = both(rel.copy(alloc), attrs.copy(alloc))?;
     Ok(Utility::Create { rel, attrs })
 }
 
@@ -32,8 +31,7 @@ fn copy_modify(
 ) -> Result<Utility, OutOfMemory>
     ensures { IfOk result (λ copy. copy ≡ Utility.Modify rel.now to keys.now) }
 {
-    let rel = rel.copy(alloc)?;
-    let keys = keys.copy(alloc)?;
+    let (rel, keys) = both(rel.copy(alloc), keys.copy(alloc))?;
     Ok(Utility::Modify { rel, to, keys })
 }
 
@@ -45,9 +43,8 @@ fn copy_index(
 ) -> Result<Utility, OutOfMemory>
     ensures { IfOk result (λ copy. copy ≡ Utility.Index base.now name.now keys.now) }
 {
-    let base = base.copy(alloc)?;
-    let name = name.copy(alloc)?;
-    let keys = keys.copy(alloc)?;
+    let names = both(base.copy(alloc), name.copy(alloc));
+    let ((base, name), keys) = both(names, keys.copy(alloc))?;
     Ok(Utility::Index { base, name, keys })
 }
 
@@ -60,9 +57,8 @@ fn copy_file(
 ) -> Result<Utility, OutOfMemory>
     ensures { IfOk result (λ copy. copy ≡ Utility.Copy rel.now columns.now from file.now) }
 {
-    let rel = rel.copy(alloc)?;
-    let columns = columns.copy(alloc)?;
-    let file = file.copy(alloc)?;
+    let form = both(columns.copy(alloc), file.copy(alloc));
+    let (rel, (columns, file)) = both(rel.copy(alloc), form)?;
     Ok(Utility::Copy {
         rel,
         columns,
@@ -74,24 +70,21 @@ fn copy_file(
 fn copy_view(alloc: Global, rel: &RelKey, query: &Query) -> Result<Utility, OutOfMemory>
     ensures { IfOk result (λ copy. copy ≡ Utility.View rel.now query.now) }
 {
-    let rel = rel.copy(alloc)?;
-    let query = query.copy(alloc)?;
+    let (rel, query) = both(rel.copy(alloc), query.copy(alloc))?;
     Ok(Utility::View { rel, query })
 }
 
 fn copy_permit(alloc: Global, rel: &RelKey, permit: &Permit) -> Result<Utility, OutOfMemory>
     ensures { IfOk result (λ copy. copy ≡ Utility.Permit rel.now permit.now) }
 {
-    let rel = rel.copy(alloc)?;
-    let permit = permit.copy(alloc)?;
+    let (rel, permit) = both(rel.copy(alloc), permit.copy(alloc))?;
     Ok(Utility::Permit { rel, permit })
 }
 
 fn copy_rule(alloc: Global, rel: &RelKey, rule: &Rule) -> Result<Utility, OutOfMemory>
     ensures { IfOk result (λ copy. copy ≡ Utility.Rule rel.now rule.now) }
 {
-    let rel = rel.copy(alloc)?;
-    let rule = rule.copy(alloc)?;
+    let (rel, rule) = both(rel.copy(alloc), rule.copy(alloc))?;
     Ok(Utility::Rule { rel, rule })
 }
 
@@ -102,16 +95,14 @@ fn copy_drop_permits(
 ) -> Result<Utility, OutOfMemory>
     ensures { IfOk result (λ copy. copy ≡ Utility.DropPermits rel.now numbers.now) }
 {
-    let rel = rel.copy(alloc)?;
-    let numbers = numbers.copy(alloc)?;
+    let (rel, numbers) = both(rel.copy(alloc), numbers.copy(alloc))?;
     Ok(Utility::DropPermits { rel, numbers })
 }
 
 fn copy_drop_rules(alloc: Global, rel: &RelKey, numbers: &List<u32>) -> Result<Utility, OutOfMemory>
     ensures { IfOk result (λ copy. copy ≡ Utility.DropRules rel.now numbers.now) }
 {
-    let rel = rel.copy(alloc)?;
-    let numbers = numbers.copy(alloc)?;
+    let (rel, numbers) = both(rel.copy(alloc), numbers.copy(alloc))?;
     Ok(Utility::DropRules { rel, numbers })
 }
 
@@ -139,19 +130,17 @@ impl TryCopy for Utility {
 
 impl TryCopy for Asked {
     fn copy(&self, alloc: Global) -> Result<Asked, OutOfMemory> {
-        let query = self.query.copy(alloc)?;
-        let sort = self.sort.copy(alloc)?;
+        let (query, sort) = both(self.query.copy(alloc), self.sort.copy(alloc))?;
         Ok(Asked { query, sort })
     }
 }
 
 impl TryCopy for Update {
     fn copy(&self, alloc: Global) -> Result<Update, OutOfMemory> {
-        let rel = self.rel.copy(alloc)?;
-        let places = self.places.copy(alloc)?;
-        let query = self.query.copy(alloc)?;
-        let checks = self.checks.copy(alloc)?;
-        let new_cut = self.new_cut.copy(alloc)?;
+        let place = both(self.rel.copy(alloc), self.places.copy(alloc));
+        let tests = both(self.checks.copy(alloc), self.new_cut.copy(alloc));
+        let rest = both(self.query.copy(alloc), tests);
+        let ((rel, places), (query, (checks, new_cut))) = both(place, rest)?;
         Ok(Update {
             op: self.op,
             rel,

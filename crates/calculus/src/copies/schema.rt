@@ -1,7 +1,7 @@
 //! Copies of what a database says of relations.
 
 use crate::{Attr, OutOfMemory, Permit, RelFile, RelInfo, Rule};
-use memory::TryCopy;
+use memory::{TryCopy, both};
 use std::alloc::Global;
 
 impl TryCopy for Attr {
@@ -16,9 +16,8 @@ impl TryCopy for Attr {
 
 impl TryCopy for RelInfo {
     fn copy(&self, alloc: Global) -> Result<RelInfo, OutOfMemory> {
-        let key = self.key.copy(alloc)?;
-        let attrs = self.attrs.copy(alloc)?;
-        let keys = self.keys.copy(alloc)?;
+        let lists = both(self.attrs.copy(alloc), self.keys.copy(alloc));
+        let (key, (attrs, keys)) = both(self.key.copy(alloc), lists)?;
         Ok(RelInfo {
             key,
             spec: self.spec,
@@ -30,9 +29,8 @@ impl TryCopy for RelInfo {
 
 impl TryCopy for Permit {
     fn copy(&self, alloc: Global) -> Result<Permit, OutOfMemory> {
-        let attrs = self.attrs.copy(alloc)?;
-        let user = self.user.copy(alloc)?;
-        let qual = self.qual.copy(alloc)?;
+        let whom = both(self.attrs.copy(alloc), self.user.copy(alloc));
+        let ((attrs, user), qual) = both(whom, self.qual.copy(alloc))?;
         Ok(Permit {
             number: self.number,
             ops: self.ops,
@@ -55,8 +53,7 @@ impl TryCopy for Rule {
 
 impl TryCopy for RelFile {
     fn copy(&self, alloc: Global) -> Result<RelFile, OutOfMemory> {
-        let keys = self.keys.copy(alloc)?;
-        let domains = self.domains.copy(alloc)?;
+        let (keys, domains) = both(self.keys.copy(alloc), self.domains.copy(alloc))?;
         Ok(RelFile {
             file: self.file,
             spec: self.spec,

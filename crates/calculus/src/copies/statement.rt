@@ -3,14 +3,13 @@
 ghost use Rattle.std.specs.Prelude.{◌≡◌, IfOk};
 
 use crate::{Chars, CopyForm, Domain, Item, Name, OutOfMemory, Qual, Spec, Statement};
-use memory::{List, TryCopy};
+use memory::{List, TryCopy, both};
 use std::alloc::Global;
 
 fn copy_range(alloc: Global, var: &Name, rel: &Name) -> Result<Statement, OutOfMemory>
     ensures { IfOk result (λ copy. copy ≡ Statement.Range var.now rel.now) }
 {
-    let var = var.copy(alloc)?;
-    let rel = rel.copy(alloc)?;
+    let (var, rel) = both(var.copy(alloc), rel.copy(alloc))?;
     Ok(Statement::Range { var, rel })
 }
 
@@ -23,10 +22,9 @@ fn copy_retrieve(
 ) -> Result<Statement, OutOfMemory>
     ensures { IfOk result (λ copy. copy ≡ Statement.Retrieve into.now items.now qual.now sort.now) }
 {
-    let into = into.copy(alloc)?;
-    let items = items.copy(alloc)?;
-    let qual = qual.copy(alloc)?;
-    let sort = sort.copy(alloc)?;
+    let edges = both(into.copy(alloc), sort.copy(alloc));
+    let query = both(items.copy(alloc), qual.copy(alloc));
+    let ((into, sort), (items, qual)) = both(edges, query)?;
     Ok(Statement::Retrieve {
         into,
         items,
@@ -43,9 +41,8 @@ fn copy_append(
 ) -> Result<Statement, OutOfMemory>
     ensures { IfOk result (λ copy. copy ≡ Statement.Append rel.now items.now qual.now) }
 {
-    let rel = rel.copy(alloc)?;
-    let items = items.copy(alloc)?;
-    let qual = qual.copy(alloc)?;
+    let query = both(items.copy(alloc), qual.copy(alloc));
+    let (rel, (items, qual)) = both(rel.copy(alloc), query)?;
     Ok(Statement::Append { rel, items, qual })
 }
 
@@ -57,17 +54,15 @@ fn copy_replace(
 ) -> Result<Statement, OutOfMemory>
     ensures { IfOk result (λ copy. copy ≡ Statement.Replace var.now items.now qual.now) }
 {
-    let var = var.copy(alloc)?;
-    let items = items.copy(alloc)?;
-    let qual = qual.copy(alloc)?;
+    let query = both(items.copy(alloc), qual.copy(alloc));
+    let (var, (items, qual)) = both(var.copy(alloc), query)?;
     Ok(Statement::Replace { var, items, qual })
 }
 
 fn copy_delete(alloc: Global, var: &Name, qual: &Qual) -> Result<Statement, OutOfMemory>
     ensures { IfOk result (λ copy. copy ≡ Statement.Delete var.now qual.now) }
 {
-    let var = var.copy(alloc)?;
-    let qual = qual.copy(alloc)?;
+    let (var, qual) = both(var.copy(alloc), qual.copy(alloc))?;
     Ok(Statement::Delete { var, qual })
 }
 
@@ -78,8 +73,7 @@ fn copy_create(
 ) -> Result<Statement, OutOfMemory>
     ensures { IfOk result (λ copy. copy ≡ Statement.Create rel.now attrs.now) }
 {
-    let rel = rel.copy(alloc)?;
-    let attrs = attrs.copy(alloc)?;
+    let (rel, attrs) = both(rel.copy(alloc), attrs.copy(alloc))?;
     Ok(Statement::Create { rel, attrs })
 }
 
@@ -97,16 +91,14 @@ fn copy_drop_permits(
 ) -> Result<Statement, OutOfMemory>
     ensures { IfOk result (λ copy. copy ≡ Statement.DropPermits rel.now numbers.now) }
 {
-    let rel = rel.copy(alloc)?;
-    let numbers = numbers.copy(alloc)?;
+    let (rel, numbers) = both(rel.copy(alloc), numbers.copy(alloc))?;
     Ok(Statement::DropPermits { rel, numbers })
 }
 
 fn copy_drop_rules(alloc: Global, rel: &Name, numbers: &List<u32>) -> Result<Statement, OutOfMemory>
     ensures { IfOk result (λ copy. copy ≡ Statement.DropRules rel.now numbers.now) }
 {
-    let rel = rel.copy(alloc)?;
-    let numbers = numbers.copy(alloc)?;
+    let (rel, numbers) = both(rel.copy(alloc), numbers.copy(alloc))?;
     Ok(Statement::DropRules { rel, numbers })
 }
 
@@ -118,8 +110,7 @@ fn copy_modify(
 ) -> Result<Statement, OutOfMemory>
     ensures { IfOk result (λ copy. copy ≡ Statement.Modify rel.now to keys.now) }
 {
-    let rel = rel.copy(alloc)?;
-    let keys = keys.copy(alloc)?;
+    let (rel, keys) = both(rel.copy(alloc), keys.copy(alloc))?;
     Ok(Statement::Modify { rel, to, keys })
 }
 
@@ -131,9 +122,8 @@ fn copy_index(
 ) -> Result<Statement, OutOfMemory>
     ensures { IfOk result (λ copy. copy ≡ Statement.Index base.now name.now keys.now) }
 {
-    let base = base.copy(alloc)?;
-    let name = name.copy(alloc)?;
-    let keys = keys.copy(alloc)?;
+    let names = both(base.copy(alloc), name.copy(alloc));
+    let ((base, name), keys) = both(names, keys.copy(alloc))?;
     Ok(Statement::Index { base, name, keys })
 }
 
@@ -160,9 +150,8 @@ fn copy_file(
 ) -> Result<Statement, OutOfMemory>
     ensures { IfOk result (λ copy. copy ≡ Statement.Copy rel.now columns.now from file.now) }
 {
-    let rel = rel.copy(alloc)?;
-    let columns = columns.copy(alloc)?;
-    let file = file.copy(alloc)?;
+    let form = both(columns.copy(alloc), file.copy(alloc));
+    let (rel, (columns, file)) = both(rel.copy(alloc), form)?;
     Ok(Statement::Copy {
         rel,
         columns,
@@ -179,9 +168,8 @@ fn copy_view(
 ) -> Result<Statement, OutOfMemory>
     ensures { IfOk result (λ copy. copy ≡ Statement.View name.now items.now qual.now) }
 {
-    let name = name.copy(alloc)?;
-    let items = items.copy(alloc)?;
-    let qual = qual.copy(alloc)?;
+    let query = both(items.copy(alloc), qual.copy(alloc));
+    let (name, (items, qual)) = both(name.copy(alloc), query)?;
     Ok(Statement::View { name, items, qual })
 }
 
@@ -195,10 +183,9 @@ fn copy_permit(
 ) -> Result<Statement, OutOfMemory>
     ensures { IfOk result (λ copy. copy ≡ Statement.Permit ops var.now attrs.now user.now qual.now) }
 {
-    let var = var.copy(alloc)?;
-    let attrs = attrs.copy(alloc)?;
-    let user = user.copy(alloc)?;
-    let qual = qual.copy(alloc)?;
+    let covered = both(var.copy(alloc), attrs.copy(alloc));
+    let allowed = both(user.copy(alloc), qual.copy(alloc));
+    let ((var, attrs), (user, qual)) = both(covered, allowed)?;
     Ok(Statement::Permit {
         ops,
         var,
@@ -211,8 +198,7 @@ fn copy_permit(
 fn copy_rule(alloc: Global, var: &Name, qual: &Qual) -> Result<Statement, OutOfMemory>
     ensures { IfOk result (λ copy. copy ≡ Statement.Rule var.now qual.now) }
 {
-    let var = var.copy(alloc)?;
-    let qual = qual.copy(alloc)?;
+    let (var, qual) = both(var.copy(alloc), qual.copy(alloc))?;
     Ok(Statement::Rule { var, qual })
 }
 
@@ -259,14 +245,14 @@ impl TryCopy for Statement {
 impl TryCopy for Item {
     fn copy(&self, alloc: Global) -> Result<Item, OutOfMemory> {
         match self {
-            Item::Set { name, term } => Ok(Item::Set {
-                name: name.copy(alloc)?,
-                term: term.copy(alloc)?,
-            }),
-            Item::Attr { var, attr } => Ok(Item::Attr {
-                var: var.copy(alloc)?,
-                attr: attr.copy(alloc)?,
-            }),
+            Item::Set { name, term } => {
+                let (name, term) = both(name.copy(alloc), term.copy(alloc))?;
+                Ok(Item::Set { name, term })
+            }
+            Item::Attr { var, attr } => {
+                let (var, attr) = both(var.copy(alloc), attr.copy(alloc))?;
+                Ok(Item::Attr { var, attr })
+            }
             Item::All { var } => Ok(Item::All {
                 var: var.copy(alloc)?,
             }),

@@ -3,7 +3,7 @@
 ghost use Rattle.std.specs.Prelude.{◌≡◌, IfOk};
 
 use crate::{AggTerm, OutOfMemory, Qual, Term};
-use memory::{Boxed, List, TryCopy};
+use memory::{Boxed, List, TryCopy, both};
 use std::alloc::Global;
 
 #[cycle(copy)]
@@ -14,15 +14,14 @@ fn copy_term(alloc: Global, term: &Term) -> Result<Term, OutOfMemory>
         Term::Int(number) => Ok(Term::Int(*number)),
         Term::Chars(chars) => Ok(Term::Chars(chars.copy(alloc)?)),
         Term::Attr { var, attr } => {
-            let var = var.copy(alloc)?;
-            let attr = attr.copy(alloc)?;
+            let (var, attr) = both(var.copy(alloc), attr.copy(alloc))?;
             Ok(Term::Attr { var, attr })
         }
         Term::Neg(inner) => Ok(Term::Neg(boxed_term(alloc, inner.get())?)),
         Term::Abs(inner) => Ok(Term::Abs(boxed_term(alloc, inner.get())?)),
         Term::Arith { op, left, right } => {
-            let left = boxed_term(alloc, left.get())?;
-            let right = boxed_term(alloc, right.get())?;
+            let left = boxed_term(alloc, left.get());
+            let (left, right) = both(left, boxed_term(alloc, right.get()))?;
             Ok(Term::Arith {
                 op: *op,
                 left,
@@ -30,8 +29,8 @@ fn copy_term(alloc: Global, term: &Term) -> Result<Term, OutOfMemory>
             })
         }
         Term::Concat { left, right } => {
-            let left = boxed_term(alloc, left.get())?;
-            let right = boxed_term(alloc, right.get())?;
+            let left = boxed_term(alloc, left.get());
+            let (left, right) = both(left, boxed_term(alloc, right.get()))?;
             Ok(Term::Concat { left, right })
         }
         Term::Agg(agg) => Ok(Term::Agg(Boxed::new(alloc, copy_agg(alloc, agg.get())?)?)),
@@ -60,9 +59,10 @@ fn copy_terms(alloc: Global, terms: &[Term]) -> Result<List<Term>, OutOfMemory>
 fn copy_agg(alloc: Global, agg: &AggTerm) -> Result<AggTerm, OutOfMemory>
     ensures { IfOk result (λ a. a ≡ agg.now) }
 {
-    let arg = copy_term(alloc, &agg.arg)?;
-    let by = copy_terms(alloc, agg.by.items())?;
-    let qual = copy_qual(alloc, &agg.qual)?;
+    let arg = copy_term(alloc, &agg.arg);
+    let by = copy_terms(alloc, agg.by.items());
+    let qual = copy_qual(alloc, &agg.qual);
+    let (arg, (by, qual)) = both(arg, both(by, qual))?;
     Ok(AggTerm {
         op: agg.op,
         arg,
@@ -85,8 +85,7 @@ fn copy_qual(alloc: Global, qual: &Qual) -> Result<Qual, OutOfMemory>
     match qual {
         Qual::True => Ok(Qual::True),
         Qual::Cmp { op, left, right } => {
-            let left = copy_term(alloc, left)?;
-            let right = copy_term(alloc, right)?;
+            let (left, right) = both(copy_term(alloc, left), copy_term(alloc, right))?;
             Ok(Qual::Cmp {
                 op: *op,
                 left,
@@ -94,12 +93,14 @@ fn copy_qual(alloc: Global, qual: &Qual) -> Result<Qual, OutOfMemory>
             })
         }
         Qual::And(left, right) => {
-            let left = boxed_qual(alloc, left.get())?;
-            Ok(Qual::And(left, boxed_qual(alloc, right.get())?))
+            let left = boxed_qual(alloc, left.get());
+            let (left, right) = both(left, boxed_qual(alloc, right.get()))?;
+            Ok(Qual::And(left, right))
         }
         Qual::Or(left, right) => {
-            let left = boxed_qual(alloc, left.get())?;
-            Ok(Qual::Or(left, boxed_qual(alloc, right.get())?))
+            let left = boxed_qual(alloc, left.get());
+            let (left, right) = both(left, boxed_qual(alloc, right.get()))?;
+            Ok(Qual::Or(left, right))
         }
         Qual::Not(inner) => Ok(Qual::Not(boxed_qual(alloc, inner.get())?)),
     }

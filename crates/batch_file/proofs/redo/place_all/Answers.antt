@@ -35,5 +35,5 @@ loop-k-preserved g c = record {
       _ (c.in_ok-page.ensures.page told) (c.in_ok-write.ensures.written told);
   buffered = λ told. buffered_then g.D.Disk.seen g.D.Disk.touched g.D.Disk.clock g.D.Disk.left_since c.args.count c.loop-k.k c.args.disk.now c.loop-k.disk (c.requires told) (c.loop-k.invariant.told told) (c.loop-k.k + 1) c.next_address.new.buffer (c.in_ok-a.ensures.buffered told);
   made = places_more _ _ _ _ _ c.loop-k.k _ _ c.loop-k.invariant.made c.next_address.ensures.unwritten c.page.ensures.unwritten c.in_ok-write.ensures.noted c.in_ok-a.ensures.place;
-  faults = c.in_ok-write.ensures.cause.answered ∙ c.in_ok-page.ensures.cause.answered ∙ c.in_ok-a.ensures.cause.answered ∙ c.loop-k.invariant.faults;
+  faults = c.in_ok-write.ensures.cause.answered ∙ c.in_ok-page.ensures.cause.answered (λ e. absurd (cc e)) ∙ c.in_ok-a.ensures.cause.answered (λ e. absurd (cc e)) ∙ c.loop-k.invariant.faults;
 }

@@ -9,6 +9,6 @@ returns-in_default c =
 pub returns : goal.returns
 returns c =
     let is = contended-at c.args.pairs.now c.in_ok-all.all.items c.in-Some.place c.index-least.result.now c.index-next.result.now
-    c.in_ok-old.old c.in_ok-first.first c.in_ok-second.second c.in_ok-all.ensures.ascend c.in_ok-all.ensures.same (search rules)
+    c.in_ok-old.old c.in_ok-old.first c.in_ok-old.second c.in_ok-all.ensures.ascend c.in_ok-all.ensures.same (search rules)
     (search rules) (search rules) (search rules) (search rules) (search rules) in
     (is.is, is.least)

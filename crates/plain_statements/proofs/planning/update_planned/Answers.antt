@@ -1,6 +1,4 @@
 use Rattle.std.proofs.Common.{◌∙◌, sym, subst}
-use Rattle.update_laws.specs.Spelled.{key_is_spelled, query_is_spelled}
-use Rattle.quel_meaning.proofs.Each.{left}
 use Rattle.plain_statements.specs.Plans.{ArePairs}
 use Rattle.plain_statements.proofs.Planned.{vars_kept, makes_new, update_lawful}
 use Rattle.plain_statements.proofs.planning.update_planned.Goals as goal
@@ -13,7 +11,7 @@ paired-requires-clause-plain g c = λ db e. (c.requires db e).plain
 
 pub returns-clause-told : goal.returns-clause-told
 returns-clause-told g c = λ db e.
-    let new = makes_new db c.args.u.now (c.requires db e) (left (key_is_spelled c.args.u.now.rel) (query_is_spelled c.args.u.now.query) c.update_is_spelled.ensures) in
+    let new = makes_new db c.args.u.now (c.requires db e) c.update_is_spelled.ensures in
     let are = subst (ArePairs db c.args.u.now) (sym c.deref.ensures.value) (c.in_ok-pairs.ensures.told db e) in
     update_lawful db c.args.u.now (g.B.Base.lawful c.args.base.now db e) (c.requires db e) c.update_is_spelled.ensures c.changed_by.result
     (c.changed_by.ensures.told db (c.paired.ensures.kept ∙ e) new are)

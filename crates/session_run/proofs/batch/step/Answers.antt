@@ -16,7 +16,7 @@ run_placed-requires g c =
 pub returns-in_ok-run_placed-in-Ok-Some-clause-goes : goal.returns-in_ok-run_placed-in-Ok-Some-clause-goes
 returns-in_ok-run_placed-in-Ok-Some-clause-goes g c = λ k.
     let line = c.line.ensures ∙ ap (line_at c.args.text.now) (c.at-counted.ensures.place ∙ c.in_ok-first-in-Ok-Some.ensures) in
-    let m = g.S.Statements.meaning (g.S.Statements.user c.args.statements.now) in
+    let m = g.S.Statements.meaning (g.S.Statements.asker c.args.statements.now) in
     goes_statement m c.args.text.now _ _ _ _ _ _ _ (some_read c.args.text.now _ c.in-Ok-Some.field-0 (c.in-Ok-Some.s, c.in-Ok-Some.end) c.in-Ok-Some.ensures c.in-Ok-Some.field-0-is)
     (subst (λ (n : ℕ). Did (after_statement (setting m) (with_state (g.S.Statements.state c.args.statements.now) k) (record { statement = c.in-Ok-Some.s; line = n })) c.args.out.now.items c.run_placed.new.out.items (with_state (g.S.Statements.state c.run_placed.new.statements) k))
     line (c.in_ok-run_placed-in-Ok-Some.ensures.did k))
@@ -27,5 +27,5 @@ returns-in_ok-run_placed-in-Ok-Some-clause-further g c =
 
 pub returns-in_ok-push_syntax-in-Err-clause-goes : goal.returns-in_ok-push_syntax-in-Err-clause-goes
 returns-in_ok-push_syntax-in-Err-clause-goes g c = λ k.
-    goes_fault (g.S.Statements.meaning (g.S.Statements.user c.args.statements.now)) c.args.text.now c.args.walk.at (with_state (g.S.Statements.state c.args.statements.now) k) c.in-Err.fault
+    goes_fault (g.S.Statements.meaning (g.S.Statements.asker c.args.statements.now)) c.args.text.now c.args.walk.at (with_state (g.S.Statements.state c.args.statements.now) k) c.in-Err.fault
     c.args.out.now.items c.push_syntax.new.out.items c.in-Err.ensures c.in_ok-push_syntax-in-Err.ensures

@@ -1,4 +1,4 @@
-use Rattle.std.proofs.Common.{◌∙◌, ℕ, ◌+◌, List, [], ◌∷◌, take, drop, sym, subst, arith}
+use Rattle.std.proofs.Common.{◌∙◌, ℕ, ◌+◌, List, [], ◌∷◌, take, drop, sym, subst}
 use Rattle.std.proofs.Math.ListN.{get_or}
 use Rattle.std.proofs.lemmas.List.{take-append-drop}
 use Rattle.session_run.specs.Hearing.{Hears, HearsPartly}
@@ -8,7 +8,7 @@ use Rattle.session_run.proofs.listener.hear.Goals as goal
 
 pub returns-then-has_quit-clause-heard : goal.returns-then-has_quit-clause-heard
 returns-then-has_quit-clause-heard g c =
-    let m = g.S.Statements.meaning c.args.listener.now.user in
+    let m = g.S.Statements.meaning c.args.listener.now.asker in
     let i = c.loop-byte.byte-index in
     let piece = c.args.piece.now in
     subst (λ (xs : List ℕ). Hears m c.args.listener.now c.loop-byte.listener xs (g.K.Sink.written c.args.sink.now) (g.K.Sink.written c.loop-byte.sink)) (take-append-drop i piece)
@@ -16,7 +16,7 @@ returns-then-has_quit-clause-heard g c =
 
 pub returns-then-has_quit-clause-partly : goal.returns-then-has_quit-clause-partly
 returns-then-has_quit-clause-partly g c =
-    let m = g.S.Statements.meaning c.args.listener.now.user in
+    let m = g.S.Statements.meaning c.args.listener.now.asker in
     let i = c.loop-byte.byte-index in
     let piece = c.args.piece.now in
     subst (λ (xs : List ℕ). HearsPartly m c.args.listener.now xs (g.K.Sink.written c.args.sink.now) (g.K.Sink.written c.loop-byte.sink)) (take-append-drop i piece)
@@ -24,7 +24,7 @@ returns-then-has_quit-clause-partly g c =
 
 pub returns-in_err-hear_byte-clause-partly : goal.returns-in_err-hear_byte-clause-partly
 returns-in_err-hear_byte-clause-partly g c =
-    let m = g.S.Statements.meaning c.args.listener.now.user in
+    let m = g.S.Statements.meaning c.args.listener.now.asker in
     let i = c.loop-byte.byte-index in
     let piece = c.args.piece.now in
     subst (λ (xs : List ℕ). HearsPartly m c.args.listener.now xs (g.K.Sink.written c.args.sink.now) (g.K.Sink.written c.hear_byte.new.sink)) (next_parted piece i 0 c.loop-byte-test.true)
@@ -33,20 +33,20 @@ returns-in_err-hear_byte-clause-partly g c =
 
 pub loop-byte-preserved : goal.loop-byte-preserved
 loop-byte-preserved g c =
-    let m = g.S.Statements.meaning c.args.listener.now.user in
+    let m = g.S.Statements.meaning c.args.listener.now.asker in
     let i = c.loop-byte.byte-index in
     let piece = c.args.piece.now in (
       subst (λ (xs : List ℕ). Hears m c.args.listener.now c.hear_byte.new.listener xs (g.K.Sink.written c.args.sink.now) (g.K.Sink.written c.hear_byte.new.sink)) (next_taken piece i 0 c.loop-byte-test.true)
           (both_heard m c.args.listener.now c.loop-byte.listener c.hear_byte.new.listener (take i piece) (get_or piece i 0 ∷ []) _ (g.K.Sink.written c.loop-byte.sink) _ c.loop-byte.invariant.0
           (same_hears g.S.Statements.meaning _ _ c.loop-byte.listener c.hear_byte.new.listener (get_or piece i 0 ∷ []) _ _ c.loop-byte.invariant.1 c.in_ok-hear_byte.ensures.heard)),
       c.in_ok-hear_byte.ensures.same ∙ c.loop-byte.invariant.1,
-      omega (arith, c.loop-byte.invariant.2, c.in_ok-hear_byte.ensures.faults),
-      omega (arith, c.loop-byte.invariant.3, c.in_ok-hear_byte.ensures.stalls),
+      (c.in_ok-hear_byte.ensures.sink_same (λ e. absurd (cc e))).faults ∙ c.loop-byte.invariant.2,
+      (c.in_ok-hear_byte.ensures.sink_same (λ e. absurd (cc e))).stalls ∙ c.loop-byte.invariant.3,
     )
 
 pub returns-clause-partly : goal.returns-clause-partly
 returns-clause-partly g c =
-    let m = g.S.Statements.meaning c.args.listener.now.user in
+    let m = g.S.Statements.meaning c.args.listener.now.asker in
     let i = c.loop-byte.byte-index in
     let piece = c.args.piece.now in
     subst (λ (xs : List ℕ). HearsPartly m c.args.listener.now xs (g.K.Sink.written c.args.sink.now) (g.K.Sink.written c.loop-byte.sink)) (take-append-drop i piece)

@@ -1,3 +1,4 @@
+use Rattle.calculus.specs.Who.{Asker}
 use Rattle.std.proofs.Common.{arith, ◌∙◌, sym, subst, ℕ, List, [], true}
 use Rattle.std.specs.Io.KnownBytes.{Appends}
 use Rattle.std.proofs.KnownBytes.{Appends-nil}
@@ -65,15 +66,15 @@ script-preserved g c = (
   grind (arith, common_steps),
   c.in_ok-hear.ensures.same ∙ c.script.invariant.2,
   sym c.has_quit.ensures ∙ c.if-has_quit.false,
-  omega (arith, c.in_ok-count.ensures.cause.later),
-  omega (arith, c.in_ok-hear.ensures.faults),
-  omega (arith, c.in_ok-hear.ensures.stalls),
+  c.in_ok-count.ensures.cause.answered ∙ c.script.invariant.4,
+  (c.in_ok-hear.ensures.sink_same (λ e. absurd (cc e))).faults ∙ c.script.invariant.5,
+  (c.in_ok-hear.ensures.sink_same (λ e. absurd (cc e))).stalls ∙ c.script.invariant.6,
 )
 
 pub returns-in_err-close-clause-partly : goal.returns-in_err-close-clause-partly
 returns-in_err-close-clause-partly g c =
     partly_closed _ _ _ _ _ _ _ _ _ (reads_none _ _ _ _ _ _ _ _ _ _ c.script.invariant.0 c.in_ok-count.ensures.bytes.0 (grind (arith, common_steps))) (c.in_ok-count.ensures.bytes.1 c.if-count-eq0.true (grind (arith, common_steps)))
-    (subst (λ (u : List ℕ). GrewBy (g.K.Sink.written c.script.sink) (g.K.Sink.written c.close.new.sink) (λ more. IsFront more (printed (later (g.S.Statements.meaning u) true c.script.listener []).events))) c.script.invariant.2 c.in_err-close.ensures.partly)
+    (subst (λ (u : Asker). GrewBy (g.K.Sink.written c.script.sink) (g.K.Sink.written c.close.new.sink) (λ more. IsFront more (printed (later (g.S.Statements.meaning u) true c.script.listener []).events))) c.script.invariant.2 c.in_err-close.ensures.partly)
 
 pub returns-in_err-close-clause-keeps_up : goal.returns-in_err-close-clause-keeps_up
 returns-in_err-close-clause-keeps_up g c =
@@ -82,12 +83,12 @@ returns-in_err-close-clause-keeps_up g c =
 pub returns-clause-done : goal.returns-clause-done
 returns-clause-done g c =
     closes _ _ _ _ _ _ _ _ _ (reads_none _ _ _ _ _ _ _ _ _ _ c.script.invariant.0 c.in_ok-count.ensures.bytes.0 (grind (arith, common_steps))) (c.in_ok-count.ensures.bytes.1 c.if-count-eq0.true (grind (arith, common_steps)))
-    (subst (λ (u : List ℕ). Appends (g.K.Sink.written c.script.sink) (g.K.Sink.written c.close.new.sink) (printed (later (g.S.Statements.meaning u) true c.script.listener []).events)) c.script.invariant.2 c.in_ok-close.ensures.whole)
+    (subst (λ (u : Asker). Appends (g.K.Sink.written c.script.sink) (g.K.Sink.written c.close.new.sink) (printed (later (g.S.Statements.meaning u) true c.script.listener []).events)) c.script.invariant.2 c.in_ok-close.ensures.whole)
 
 pub returns-clause-partly : goal.returns-clause-partly
 returns-clause-partly g c =
     partly_closed _ _ _ _ _ _ _ _ _ (reads_none _ _ _ _ _ _ _ _ _ _ c.script.invariant.0 c.in_ok-count.ensures.bytes.0 (grind (arith, common_steps))) (c.in_ok-count.ensures.bytes.1 c.if-count-eq0.true (grind (arith, common_steps)))
-    (subst (λ (u : List ℕ). GrewBy (g.K.Sink.written c.script.sink) (g.K.Sink.written c.close.new.sink) (λ more. IsFront more (printed (later (g.S.Statements.meaning u) true c.script.listener []).events))) c.script.invariant.2 c.in_ok-close.ensures.partly)
+    (subst (λ (u : Asker). GrewBy (g.K.Sink.written c.script.sink) (g.K.Sink.written c.close.new.sink) (λ more. IsFront more (printed (later (g.S.Statements.meaning u) true c.script.listener []).events))) c.script.invariant.2 c.in_ok-close.ensures.partly)
 
 pub returns-clause-keeps_up : goal.returns-clause-keeps_up
 returns-clause-keeps_up g c =

@@ -4,9 +4,9 @@ use Rattle.session_run.proofs.running.run.Given as goal
 
 abbrev pub invariant-script : goal.invariant-script
 invariant-script g l =
-    Runs (g.S.Statements.meaning (g.S.Statements.user l.fn.statements)) (g.S.Statements.state l.fn.statements) (g.R.Source.left l.fn.source) (g.R.Source.left l.source) (g.K.Sink.written l.fn.sink) (g.K.Sink.written l.sink) l.listener l.given
+    Runs (g.S.Statements.meaning (g.S.Statements.asker l.fn.statements)) (g.S.Statements.state l.fn.statements) (g.R.Source.left l.fn.source) (g.R.Source.left l.source) (g.K.Sink.written l.fn.sink) (g.K.Sink.written l.sink) l.listener l.given
     × (l.given ≤ 16777216)
-    × (l.listener.user ≡ g.S.Statements.user l.fn.statements)
+    × (l.listener.asker ≡ g.S.Statements.asker l.fn.statements)
     × (l.listener.kept.quit ≡ false)
     × (g.R.Source.faults l.source ≡ g.R.Source.faults l.fn.source)
     × (g.K.Sink.faults l.sink ≡ g.K.Sink.faults l.fn.sink)

@@ -1,0 +1,15 @@
+//! Laws of schemas: what is said of a database without looking at its rows is said of its schema. Each
+//! function here is a law with no body: its clause speaks of the definitions alone.
+#![tactic(auto)]
+
+mod finding;
+mod judging;
+mod permission;
+mod sizes;
+mod standing;
+
+pub use finding::what_is_found_is_in_the_schema;
+pub use judging::what_is_asked_for_is_in_the_schema;
+pub use permission::what_is_permitted_is_in_the_schema;
+pub use sizes::levels_and_sizes_are_in_the_schema;
+pub use standing::a_schema_is_a_database;
