@@ -22,14 +22,29 @@ fn new_base<R: Abort>(rt: &R, alloc: Global) -> DbPlain {
     DbPlain::new(alloc, named(rt, alloc, b"ann"))
 }
 
+/// The probe that each row meets.
+fn every(alloc: Global) -> Probe {
+    Probe {
+        equal: List::of(Vec::new(alloc)),
+    }
+}
+
+/// Whether a scan gives one more row, from a place on, which moves behind it.
+fn has_more<B: Base>(
+    alloc: Global,
+    base: &mut B,
+    key: &RelKey,
+    at: &mut Place,
+) -> Result<bool, BaseFault> {
+    let row = base.scan(alloc, key, &every(alloc), at)?;
+    Ok(row.is_some())
+}
+
 /// How many rows a scan gives, as far as 20.
 fn scanned<B: Base>(alloc: Global, base: &mut B, key: &RelKey) -> Result<u32, BaseFault> {
-    let every = Probe {
-        equal: List::of(Vec::new(alloc)),
-    };
     let mut at = Place { page: 0, line: 0 };
     for count in 0..20u32 {
-        if base.scan(alloc, key, &every, &mut at)?.is_none() {
+        if !has_more(alloc, base, key, &mut at)? {
             return Ok(count);
         }
     }
@@ -51,11 +66,9 @@ fn counted<R: Abort>(rt: &R, alloc: Global, owner: &[u8], name: &[u8]) -> (u32, 
 fn has_first<R: Abort>(rt: &R, alloc: Global, owner: &[u8], name: &[u8]) -> bool {
     let mut base = new_base(rt, alloc);
     let key = key_of(rt, alloc, owner, name);
-    let every = Probe {
-        equal: List::of(Vec::new(alloc)),
-    };
+    let probe = every(alloc);
     let mut at = Place { page: 0, line: 0 };
-    let row = base.scan(alloc, &key, &every, &mut at).expect(rt, "a scan");
+    let row = base.scan(alloc, &key, &probe, &mut at).expect(rt, "a scan");
     let row = row.expect(rt, "a row");
     base.has_row(alloc, &key, &row).expect(rt, "an answer")
 }
@@ -129,13 +142,13 @@ fn nothing_stands_in_a_new_database(rt: HostRuntime) {
 
 /// How many rows a scan of a catalogue of a new database gives; 0 where its name is none.
 fn counted_or_refused(alloc: Global) -> Result<u32, BaseFault> {
+    let Some(key) = catalogue_key(alloc)? else {
+        return Ok(0);
+    };
     let Some(dba) = Name::of(alloc, b"ann")? else {
         return Ok(0);
     };
     let mut base = DbPlain::new(alloc, dba);
-    let Some(key) = catalogue_key(alloc)? else {
-        return Ok(0);
-    };
     scanned(alloc, &mut base, &key)
 }
 

@@ -5,17 +5,15 @@ use Rattle.std.specs.Option.{option_map}
 use Rattle.calculus.specs.declared.query.RelKey.{RelKey}
 use Rattle.calculus.specs.declared.query.Query.{Query}
 use Rattle.calculus.specs.declared.schema.RelInfo.{RelInfo}
-use Rattle.calculus.specs.declared.schema.Spec.{Spec}
-use Rattle.calculus.specs.declared.schema.Spec.TheVariants as spec
 use Rattle.calculus.specs.Database.{Db, Relation, View, is_relation, relation_at, view_at}
 use Rattle.calculus.specs.Catalogue.{catalogue_at}
 use Rattle.calculus.specs.IsDatabase.{IsDatabase}
 use Rattle.calculus.specs.QueryParts.{vars_of}
 use Rattle.calculus.specs.Sizes.{level_within, level_above, greatest_of, greater_level, range_level, query_level}
 use Rattle.calculus.specs.Stored.{Range, Kept, Viewed, range_at, range_info, info_at}
-use Rattle.calculus.specs.Structures as structures
+use Rattle.calculus.specs.Structures.{is_index}
 use Rattle.am_traits.specs.Told.{known_at, query_at}
-use Rattle.quel_names.specs.Ranging.{but_index, is_index}
+use Rattle.quel_names.specs.Ranging.{but_index}
 use Rattle.quel_names.proofs.Known.{ranged_if}
 use Rattle.quel_meaning.specs.Passing.{is_too_high}
 use Rattle.plan_laws.proofs.Levels.{below_the_greatest, not_too_high}
@@ -23,14 +21,11 @@ use Rattle.change_check.specs.Standing.{is_ranged}
 
 but_one : (o : Option RelInfo) → is_ranged o ≡ is_some (but_index o)
 but_one None = refl
-but_one (Some info) = go info.spec
+but_one (Some info) = go (is_index info.spec)
   where
-    go : (s : Spec) → not (structures.is_index s) ≡ is_some (elim (is_index s) as (λ b. Option RelInfo) [ true ↦ None | false ↦ Some info ])
-    go spec.Heap = refl
-    go spec.Hash = refl
-    go spec.Isam = refl
-    go spec.View = refl
-    go spec.Index = refl
+    go : (b : Bool) → not b ≡ is_some (elim b as (λ b. Option RelInfo) [ true ↦ None | false ↦ Some info ])
+    go true = refl
+    go false = refl
 
 -- a variable may range over what is known and no index
 pub range_known : (db : Db) → IsDatabase db → (key : RelKey) → is_ranged (known_at db key) ≡ is_some (range_at db key)

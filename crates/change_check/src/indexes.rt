@@ -11,14 +11,14 @@ use crate::described::some_keys_stand;
 use crate::keys::{key_is_free, relation};
 use am_traits::{Base, BaseFault};
 use calculus::{Attr, Name, OutOfMemory, RelKey};
+use memory::both;
 use std::alloc::Global;
 
 /// The key of this owner and name.
 fn key_of(alloc: Global, owner: &Name, name: &Name) -> Result<RelKey, OutOfMemory>
     ensures { IfOk result (λ key. key ≡ key_of owner.now name.now) }
 {
-    let owner = owner.copy(alloc)?;
-    let name = name.copy(alloc)?;
+    let (owner, name) = both(owner.copy(alloc), name.copy(alloc))?;
     Ok(RelKey { owner, name })
 }
 

@@ -14,28 +14,19 @@ ghost use Rattle.change_laws.specs.Fit.{rows_are_fit};
 use crate::attributes::row_fits;
 use crate::keys::relation;
 use am_traits::{Base, BaseFault};
-use calculus::{Attr, OutOfMemory, RelKey, Row, RowSet, TryCopy};
+use calculus::{Attr, OutOfMemory, RelKey, Row, RowSet};
+use memory::copies;
 use std::alloc::Global;
 
 /// The rows that a relation may have.
 const MOST_ROWS: usize = 100_000;
-
-fn copies_of(alloc: Global, rows: &[Row]) -> Result<Vec<Row>, OutOfMemory>
-    ensures { IfOk result (λ copies. copies.items ≡ rows.now) }
-{
-    let mut copies = Vec::new(alloc);
-    for row in rows {
-        copies.push(row.copy(alloc)?)?;
-    }
-    Ok(copies)
-}
 
 /// Whether no two of these rows are the same. Costs a sort of copies.
 #[tactic(auto, using(crate::proofs::Differing::differ_where_as_many))]
 pub(crate) fn rows_differ(alloc: Global, rows: &[Row]) -> Result<bool, OutOfMemory>
     ensures { IfOk result (λ differ. differ ≡ rows_differ rows.now) }
 {
-    let set = RowSet::of_rows(copies_of(alloc, rows)?);
+    let set = RowSet::of_rows(copies(alloc, rows)?);
     Ok(set.len() == rows.len())
 }
 

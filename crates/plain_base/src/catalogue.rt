@@ -5,8 +5,8 @@ ghost use Rattle.calculus.specs.Catalogue.{attribute, relation_attrs, attribute_
 ghost use Rattle.calculus.specs.Keys.{key_of, same_key};
 ghost use Rattle.calculus.specs.Name.{is_name};
 
-use crate::pairs::both;
 use calculus::{Attr, Domain, Kind, List, Name, OutOfMemory, RelKey};
+use memory::both;
 use std::alloc::Global;
 
 /// Whether the key has this owner and this name.

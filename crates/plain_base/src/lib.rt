@@ -3,7 +3,6 @@
 
 mod catalogue;
 mod catalogue_rows;
-mod copying;
 mod db_lists;
 mod db_plain;
 mod kept;
@@ -11,7 +10,6 @@ mod leaving;
 mod look_up;
 mod one_relation;
 mod ordered;
-mod pairs;
 mod rows;
 mod scanning;
 

@@ -1,12 +1,11 @@
 //! What stands under a key in lists.
 
-ghost use Rattle.std.specs.Prelude.{◌≡◌, ◌++◌, not, ◌&&◌, find, filter, map, option_map, IfOk, OnOk};
+ghost use Rattle.std.specs.Prelude.{◌≡◌, [], ◌∷◌, ◌++◌, not, ◌&&◌, find, filter, map, option_map, IfOk, OnOk};
 ghost use Rattle.std.specs.List.{list_any};
 ghost use Rattle.std.specs.List.Sorted.{IsStrictlySortedBy};
 ghost use Rattle.calculus.specs.Keys.{same_key, has_key, key_cmp};
 ghost use Rattle.calculus.specs.QueryParts.{vars_of};
 
-use crate::copying::push_copy;
 use crate::kept::{Known, Viewed};
 use crate::ordered::key_order;
 use calculus::{OutOfMemory, RelInfo, RelKey, TryCopy};
@@ -46,6 +45,18 @@ pub(crate) fn about<'a, T: Known>(items: &'a [T], key: &RelKey) -> Option<&'a Re
         Some(item) => Some(item.info()),
         None => None,
     }
+}
+
+/// Puts a copy behind others.
+fn push_copy<T: TryCopy + Drop>(
+    alloc: Global,
+    copies: &mut Vec<T>,
+    item: &T,
+) -> Result<(), OutOfMemory>
+    ensures { OnOk result (copies.new.items ≡ copies.old.items ++ item.now ∷ []) }
+{
+    let copy = item.copy(alloc)?;
+    Ok(copies.push(copy)?)
 }
 
 /// Puts copies of the rules or permits of a relation behind others.

@@ -5,8 +5,8 @@ ghost use Rattle.std.specs.List.{remove};
 ghost use Rattle.calculus.specs.Replacement.{with_rows, without_rows};
 ghost use Rattle.calculus.specs.Rows.{Ascends, has, put, IsPlaceOf};
 
-use crate::copying::copies;
 use calculus::{OutOfMemory, Row, RowSet};
+use memory::copies;
 use std::alloc::Global;
 
 /// Where the row is among ascending rows, or else where it belongs. A binary search.

@@ -6,16 +6,15 @@ ghost use Rattle.calculus.specs.Rows.{set_of};
 ghost use Rattle.calculus.specs.IsDatabase.{IsDatabase};
 
 use super::DbLists;
-use crate::copying::copies;
 use crate::kept::{Indexed, Stored, Viewed};
 use crate::leaving::{leave, leave_base, leave_keys, leave_numbers, leave_with_base};
 use crate::one_relation::{change_rows, restructure};
 use crate::ordered::put_in_order;
-use crate::pairs::both;
 use calculus::{
     DbChange, List, Name, OutOfMemory, Permit, Query, RelInfo, RelKey, Row, RowSet, Rule, Spec,
     TryCopy,
 };
+use memory::{both, copies};
 use std::alloc::Global;
 
 /// The relation with these rows.

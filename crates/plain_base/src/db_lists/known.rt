@@ -12,8 +12,8 @@ use super::DbLists;
 use crate::catalogue::{attribute_attrs, is_named, key_of, relation_attrs};
 use crate::kept::{Stored, Viewed};
 use crate::look_up::under;
-use crate::pairs::both;
 use calculus::{Attr, List, Name, OutOfMemory, RelInfo, RelKey, Spec, TryCopy};
+use memory::both;
 use std::alloc::Global;
 
 /// What is known of a heap with these attributes.
