@@ -41,7 +41,10 @@ fn small(rt: &impl Abort, alloc: Global) -> NewKinds {
 fn replaced(rt: &impl Abort, alloc: Global, number: i64) -> Option<usize> {
     let u = puts(rt, alloc, UpdateOp::Replace, number);
     let sets = alone(rt, alloc, RowSet::of_rows(rows(rt, alloc, &[&[1], &[2]])));
-    match pairs_over(alloc, &u, &[], &small(rt, alloc), &sets) {
+    let kinds = small(rt, alloc);
+    let pairs = pairs_over(alloc, &u, &[], &kinds, &sets);
+    drop((u, sets, kinds));
+    match pairs {
         Ok(pairs) => Some(pairs.len()),
         Err(PairFault::NotFit { row: _ }) => None,
         Err(_) => Some(0),
@@ -72,7 +75,9 @@ fn is_want_of_memory(fault: &PairFault) -> bool {
 fn deleted(rt: &impl Abort, alloc: Global) -> Result<usize, OutOfMemory> {
     let query = bare_query(alloc, alone(rt, alloc, key(rt, alloc)?));
     let u = update(rt, alloc, UpdateOp::Delete, Vec::new(alloc), query);
-    match pairs_of(alloc, &mut Numbers { rows: 3 }, &u, &[]) {
+    let pairs = pairs_of(alloc, &mut Numbers { rows: 3 }, &u, &[]);
+    drop(u);
+    match pairs {
         Ok(pairs) => Ok(pairs.len()),
         Err(fault) if is_want_of_memory(&fault) => Err(OutOfMemory),
         Err(_) => Ok(0),
@@ -108,7 +113,9 @@ fn moved(
 ) -> Option<(usize, usize)> {
     let u = puts(rt, alloc, op, 7);
     let pairs = appends(rt, alloc, numbers);
-    match change_of(alloc, &mut Numbers { rows }, &u, &pairs) {
+    let change = change_of(alloc, &mut Numbers { rows }, &u, &pairs);
+    drop((u, pairs));
+    match change {
         Ok(DbChange::Rows { remove, add, .. }) => Some((remove.items().len(), add.items().len())),
         Ok(DbChange::Create { rows, .. }) => Some((0, rows.items().len())),
         Err(UpdateFault::TooMany) => None,
