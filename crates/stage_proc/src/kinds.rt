@@ -8,7 +8,7 @@ use calculus::{Domain, Kind, OutOfMemory, Target, Update, UpdateOp};
 use std::alloc::Global;
 
 /// The kinds of the values of new rows.
-#[derive(Debug, PartialEq, Eq, Drop)]
+#[derive(Drop)]
 pub struct NewKinds {
     /// Those of the relation's attributes, in order.
     pub attributes: Vec<Kind>,
