@@ -1,5 +1,5 @@
 -- Calls behind calls, and what they leave on whatever disk.
-use Rattle.std.proofs.Common.{◌≡◌, ◌≢◌, ℕ, ◌+◌, ◌/◌, ◌%◌, ◌&&◌, Bool, true, false, List, [], ◌∷◌, ◌++◌, length, length-append, Option, Some, None, IsTrue, if◌then◌else◌, refl, sym, ◌∙◌, ap, subst, append_assoc, append-nil}
+use Rattle.std.proofs.Common.{◌≡◌, ◌≢◌, ℕ, ◌+◌, ◌/◌, ◌%◌, ◌&&◌, Bool, true, false, List, [], ◌∷◌, ◌++◌, length-append, Option, Some, None, IsTrue, if◌then◌else◌, refl, sym, ◌∙◌, ap, subst, append_assoc, append-nil}
 use Rattle.std.specs.List.{list_all}
 use Rattle.disk_model.specs.Calls.{seen_after, seen_from}
 use Rattle.disk_model.specs.Disk.{Image}
@@ -134,10 +134,6 @@ opens h0 h1 h2 h3 h4 head gate n one two three four form size is_open = (
     is_open = is_open;
   },
 )
-
--- nothing went to its place yet
-pub places_none : (h : Told) → CameSo h h (Places 0)
-places_none h = ([], came_none h h refl, record { size = refl; placing = refl })
 
 -- one page more, after calls that only read
 pub places_more : (h0 h1 h2 h3 h4 : Told) (n : ℕ) (a : Addr) (page : List ℕ) → CameSo h0 h1 (Places n) → h2 ≡ h1 → h3 ≡ h2 → Came h3 h4 (Write a page ∷ []) → is_place a ≡ true → CameSo h0 h4 (Places (n + 1))

@@ -1,7 +1,7 @@
 //! The answers of queries over given rows.
 
-use crate::made::{key, named, one, two};
-use calculus::{CmpOp, Kind, List, QQual, QTerm, Query, Row, RowSet, Target, Value};
+use crate::made::{key, named, one};
+use calculus::{CmpOp, Kind, List, QQual, QTerm, Query, RelKey, Row, RowSet, Target, Value};
 use plain_product::{ProductFault, answer_over, is_used, uses};
 use std::alloc::Global;
 use std::process::Abort;
@@ -21,6 +21,14 @@ fn attribute(var: u8) -> QTerm {
     QTerm::Attr { var, attr: 0 }
 }
 
+/// Two variables over one relation.
+fn vars(rt: &impl Abort, alloc: Global) -> List<RelKey> {
+    let mut vars = Vec::new(alloc);
+    vars.push(key(rt, alloc)).expect(rt, "no memory");
+    vars.push(key(rt, alloc)).expect(rt, "no memory");
+    List::of(vars)
+}
+
 /// The second variable's attribute.
 fn second(rt: &impl Abort, alloc: Global) -> List<Target> {
     let (name, kind, term) = (named(rt, alloc, b"x"), Kind::Wide, attribute(1));
@@ -31,9 +39,18 @@ fn second(rt: &impl Abort, alloc: Global) -> List<Target> {
 fn greater(rt: &impl Abort, alloc: Global) -> Query {
     let (op, left, right) = (CmpOp::Lt, attribute(0), attribute(1));
     Query {
-        vars: two(rt, alloc, key(rt, alloc), key(rt, alloc)),
+        vars: vars(rt, alloc),
         targets: second(rt, alloc),
         qual: QQual::Cmp { op, left, right },
+    }
+}
+
+/// How many rows there are; `None` where a target lacks a value.
+fn counted(rt: &impl Abort, answer: Result<RowSet, ProductFault>) -> Option<usize> {
+    match answer {
+        Ok(rows) => Some(rows.len()),
+        Err(ProductFault::NoValue { .. }) => None,
+        Err(ProductFault::OutOfMemory) => panic!(*rt; "no memory"),
     }
 }
 
@@ -41,11 +58,15 @@ fn greater(rt: &impl Abort, alloc: Global) -> Query {
 fn count(rt: &impl Abort, alloc: Global, first: &[i64], second: &[i64]) -> Option<usize> {
     let query = greater(rt, alloc);
     let sets = [set_of(rt, alloc, first), set_of(rt, alloc, second)];
-    match answer_over(alloc, &query, &[], &sets) {
-        Ok(rows) => Some(rows.len()),
-        Err(ProductFault::NoValue { .. }) => None,
-        Err(ProductFault::OutOfMemory) => panic!(*rt; "no memory"),
-    }
+    counted(rt, answer_over(alloc, &query, &[], &sets))
+}
+
+/// How many attributes of the second variable the query uses, and whether it uses the first
+/// variable and a third one.
+fn used(rt: &impl Abort, alloc: Global) -> (usize, bool, bool) {
+    let query = greater(rt, alloc);
+    let used = uses(alloc, &query, 1).expect(rt, "no memory");
+    (used.len(), is_used(&query, 0), is_used(&query, 2))
 }
 
 #[test]
@@ -53,13 +74,5 @@ fn rows_of_two_variables_are_compared(rt: HostRuntime) {
     let alloc = rt.alloc();
     assert!(rt; count(&rt, alloc, &[1, 2, 4], &[2, 3, 1]) == Some(2));
     assert!(rt; count(&rt, alloc, &[], &[2, 3]) == Some(0));
-}
-
-#[test]
-fn a_query_tells_what_it_uses(rt: HostRuntime) {
-    let query = greater(&rt, rt.alloc());
-    let used = uses(rt.alloc(), &query, 1).expect(&rt, "no memory");
-    assert!(rt; used.len() == 2);
-    assert!(rt; is_used(&query, 0));
-    assert!(rt; !is_used(&query, 2));
+    assert!(rt; used(&rt, alloc) == (2, true, false));
 }

@@ -6,11 +6,7 @@ mod answers;
 #[cfg(test)]
 mod changes;
 #[cfg(test)]
-mod containers;
-#[cfg(test)]
 mod copies;
-#[cfg(test)]
-mod kinds;
 #[cfg(test)]
 mod leaves;
 #[cfg(test)]
@@ -18,14 +14,16 @@ mod made;
 #[cfg(test)]
 mod patterns;
 #[cfg(test)]
+mod queries;
+#[cfg(test)]
 mod refused;
+#[cfg(test)]
+mod requests;
 #[cfg(test)]
 mod rows;
 #[cfg(test)]
 mod statements;
 #[cfg(test)]
 mod truths;
-#[cfg(test)]
-mod utilities;
 #[cfg(test)]
 mod values;

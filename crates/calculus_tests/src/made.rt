@@ -5,24 +5,15 @@ use std::alloc::Global;
 use std::process::Abort;
 use std::test::*;
 
-/// The copy of the tree is equal to it.
-pub fn copied<T: TryCopy + PartialEq + Drop>(rt: &impl Abort, alloc: Global, what: &str, tree: T) {
-    let copy = tree.copy(alloc).expect(rt, "no memory");
-    assert!(*rt; copy == tree, "{what}");
+/// Whether the copy of the tree is equal to it.
+pub fn is_copied<T: TryCopy + PartialEq + Drop>(rt: &impl Abort, alloc: Global, tree: T) -> bool {
+    tree.copy(alloc).expect(rt, "no memory") == tree
 }
 
 /// The list of this one item.
 pub fn one<T: Drop>(rt: &impl Abort, alloc: Global, item: T) -> List<T> {
     let mut items = Vec::new(alloc);
     items.push(item).expect(rt, "no memory");
-    List::of(items)
-}
-
-/// The list of these two items.
-pub fn two<T: Drop>(rt: &impl Abort, alloc: Global, first: T, second: T) -> List<T> {
-    let mut items = Vec::new(alloc);
-    items.push(first).expect(rt, "no memory");
-    items.push(second).expect(rt, "no memory");
     List::of(items)
 }
 

@@ -10,11 +10,25 @@ fn row(alloc: Global, number: i64) -> Result<Row, OutOfMemory> {
     Ok(Row::of(vec![in alloc; Value::Int(number)]?))
 }
 
-/// The value of the only attribute of a row and of its copy.
-fn value_copied(alloc: Global, number: i64) -> Result<Option<Value>, OutOfMemory> {
+/// Puts a copy of a row of this number on top.
+fn push_copy(alloc: Global, rows: &mut Assigned, number: i64) -> Result<(), OutOfMemory> {
+    rows.push(row(alloc, number)?.copy(alloc)?)
+}
+
+/// The number that a value is, where it is one.
+fn number_in(value: Option<Value>) -> Option<i64> {
+    match value {
+        Some(Value::Int(number)) => Some(number),
+        Some(Value::Text(_)) | None => None,
+    }
+}
+
+/// The value of the only attribute of a row's copy.
+fn value_copied(alloc: Global, number: i64) -> Result<Option<i64>, OutOfMemory> {
     let mut rows = Assigned::new(alloc);
-    rows.push(row(alloc, number)?.copy(alloc)?)?;
-    value_of(alloc, &QTerm::Attr { var: 0, attr: 0 }, &rows, &[])
+    push_copy(alloc, &mut rows, number)?;
+    let value = value_of(alloc, &QTerm::Attr { var: 0, attr: 0 }, &rows, &[])?;
+    Ok(number_in(value))
 }
 
 /// The number of rows that come where a row is replaced by another.
@@ -35,7 +49,7 @@ fn is_named(alloc: Global) -> Result<bool, OutOfMemory> {
 #[test]
 fn want_of_memory_is_an_answer(rt: HostRuntime) {
     let value = value_copied(rt.alloc(), 3);
-    assert!(rt; value == Ok(Some(Value::Int(3))) || value == Err(OutOfMemory));
+    assert!(rt; value == Ok(Some(3)) || value == Err(OutOfMemory));
     let named = is_named(rt.alloc());
     assert!(rt; named == Ok(true) || named == Err(OutOfMemory));
     let come = rows_that_come(rt.alloc());

@@ -1,9 +1,8 @@
 //! Copies of statements.
 
-use crate::made::{boxed, chars, copied, named, one};
+use crate::made::{boxed, chars, is_copied, named, one};
 use calculus::{
-    AggOp, AggTerm, ArithOp, Boxed, CmpOp, CopyForm, Domain, Item, List, Name, Qual, Spec,
-    Statement, Term,
+    AggOp, AggTerm, ArithOp, Boxed, CmpOp, CopyForm, Item, List, Name, Qual, Statement, Term,
 };
 use std::alloc::Global;
 use std::process::Abort;
@@ -11,10 +10,6 @@ use std::test::*;
 
 fn var(rt: &impl Abort, alloc: Global) -> Name {
     named(rt, alloc, b"v")
-}
-
-fn vars(rt: &impl Abort, alloc: Global) -> List<Name> {
-    one(rt, alloc, var(rt, alloc))
 }
 
 fn aggregate(rt: &impl Abort, alloc: Global) -> Term {
@@ -51,126 +46,49 @@ fn qual(rt: &impl Abort, alloc: Global) -> Qual {
     Qual::Or(both, not)
 }
 
+/// Puts one item of each kind.
+fn push_items(rt: &impl Abort, alloc: Global, items: &mut Vec<Item>) {
+    let (name, term) = (var(rt, alloc), Term::Int(2));
+    items.push(Item::Set { name, term }).expect(rt, "no memory");
+    let (owner, attr) = (var(rt, alloc), var(rt, alloc));
+    let item = Item::Attr { var: owner, attr };
+    items.push(item).expect(rt, "no memory");
+    let var = var(rt, alloc);
+    items.push(Item::All { var }).expect(rt, "no memory");
+}
+
 /// One item of each kind.
 fn items(rt: &impl Abort, alloc: Global) -> List<Item> {
-    let (name, term) = (var(rt, alloc), Term::Int(2));
-    let set = Item::Set { name, term };
-    let (owner, attr) = (var(rt, alloc), var(rt, alloc));
-    let attr = Item::Attr { var: owner, attr };
-    let var = var(rt, alloc);
-    List::of(vec![in alloc; set, attr, Item::All { var }].expect(rt, "no memory"))
+    let mut items = Vec::new(alloc);
+    push_items(rt, alloc, &mut items);
+    List::of(items)
 }
 
-#[test]
-fn trees_say_different_things(rt: HostRuntime) {
-    let alloc = rt.alloc();
-    let negated = |number| Term::Neg(boxed(&rt, alloc, Term::Int(number)));
-    assert!(rt; negated(1) == negated(1));
-    assert!(rt; negated(1) != negated(2));
-}
-
-#[test]
-fn retrievals_are_copied(rt: HostRuntime) {
-    let alloc = rt.alloc();
-    let (into, items, qual) = (Some(var(&rt, alloc)), items(&rt, alloc), qual(&rt, alloc));
-    let sort = one(&rt, alloc, (var(&rt, alloc), true));
-    let retrieved = Statement::Retrieve {
-        into,
-        items,
-        qual,
+/// A retrieval with everything that it may have.
+fn retrieval(rt: &impl Abort, alloc: Global) -> Statement {
+    let sort = one(rt, alloc, (var(rt, alloc), true));
+    Statement::Retrieve {
+        into: Some(var(rt, alloc)),
+        items: items(rt, alloc),
+        qual: qual(rt, alloc),
         sort,
-    };
-    copied(&rt, alloc, "retrieve", retrieved);
+    }
+}
+
+/// The copying of a relation into a file.
+fn copying(rt: &impl Abort, alloc: Global) -> Statement {
+    let form = CopyForm::Fixed(3);
+    Statement::Copy {
+        rel: var(rt, alloc),
+        columns: one(rt, alloc, (var(rt, alloc), form)),
+        from: false,
+        file: chars(rt, alloc, b"f"),
+    }
 }
 
 #[test]
-fn updates_are_copied(rt: HostRuntime) {
+fn statements_are_copied(rt: HostRuntime) {
     let alloc = rt.alloc();
-    let (rel, set, qual) = (var(&rt, alloc), items(&rt, alloc), Qual::True);
-    let items_put = Statement::Append {
-        rel,
-        items: set,
-        qual,
-    };
-    copied(&rt, alloc, "append", items_put);
-    let (changed, items, qual) = (var(&rt, alloc), items(&rt, alloc), Qual::True);
-    let replaced = Statement::Replace {
-        var: changed,
-        items,
-        qual,
-    };
-    copied(&rt, alloc, "replace", replaced);
-    let (var, qual) = (var(&rt, alloc), Qual::True);
-    copied(&rt, alloc, "delete", Statement::Delete { var, qual });
-}
-
-#[test]
-fn statements_on_relations_are_copied(rt: HostRuntime) {
-    let alloc = rt.alloc();
-    let rel = var(&rt, alloc);
-    let attrs = one(&rt, alloc, (var(&rt, alloc), Domain::C(9)));
-    copied(&rt, alloc, "create", Statement::Create { rel, attrs });
-    let rels = vars(&rt, alloc);
-    copied(&rt, alloc, "destroy", Statement::Destroy { rels });
-    let (rel, to, keys) = (var(&rt, alloc), Spec::Isam, vars(&rt, alloc));
-    copied(&rt, alloc, "modify", Statement::Modify { rel, to, keys });
-    let (base, name, keys) = (var(&rt, alloc), var(&rt, alloc), vars(&rt, alloc));
-    copied(&rt, alloc, "index", Statement::Index { base, name, keys });
-}
-
-#[test]
-fn statements_that_show_or_copy_are_copied(rt: HostRuntime) {
-    let alloc = rt.alloc();
-    let (ranging, rel) = (var(&rt, alloc), var(&rt, alloc));
-    copied(&rt, alloc, "range", Statement::Range { var: ranging, rel });
-    let rels = vars(&rt, alloc);
-    copied(&rt, alloc, "print", Statement::Print { rels });
-    copied(&rt, alloc, "help", Statement::Help { rel: None });
-    let columns = one(&rt, alloc, (var(&rt, alloc), CopyForm::Fixed(3)));
-    let (rel, from, file) = (var(&rt, alloc), false, chars(&rt, alloc, b"f"));
-    let copying = Statement::Copy {
-        rel,
-        columns,
-        from,
-        file,
-    };
-    copied(&rt, alloc, "copy", copying);
-}
-
-#[test]
-fn definitions_are_copied(rt: HostRuntime) {
-    let alloc = rt.alloc();
-    let (name, items, qual) = (var(&rt, alloc), items(&rt, alloc), Qual::True);
-    copied(&rt, alloc, "view", Statement::View { name, items, qual });
-    let (ops, attrs, user) = (1, vars(&rt, alloc), Some(var(&rt, alloc)));
-    let (ranging, qual) = (var(&rt, alloc), Qual::True);
-    let permit = Statement::Permit {
-        ops,
-        var: ranging,
-        attrs,
-        user,
-        qual,
-    };
-    copied(&rt, alloc, "permit", permit);
-    let (ranging, qual) = (var(&rt, alloc), Qual::True);
-    copied(
-        &rt,
-        alloc,
-        "integrity",
-        Statement::Rule { var: ranging, qual },
-    );
-    let (rel, numbers) = (var(&rt, alloc), one(&rt, alloc, 4));
-    copied(
-        &rt,
-        alloc,
-        "destroy permit",
-        Statement::DropPermits { rel, numbers },
-    );
-    let (rel, numbers) = (var(&rt, alloc), one(&rt, alloc, 4));
-    copied(
-        &rt,
-        alloc,
-        "destroy integrity",
-        Statement::DropRules { rel, numbers },
-    );
+    assert!(rt; is_copied(&rt, alloc, retrieval(&rt, alloc)));
+    assert!(rt; is_copied(&rt, alloc, copying(&rt, alloc)));
 }

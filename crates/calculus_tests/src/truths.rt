@@ -2,22 +2,26 @@
 
 use crate::made::boxed;
 use crate::values::operation;
-use calculus::{ArithOp, CmpOp, QQual, QTerm};
+use calculus::{ArithOp, Boxed, CmpOp, QQual, QTerm};
 use scalar_eval::{Assigned, holds};
 use std::alloc::Global;
 use std::process::Abort;
 use std::test::*;
 
 /// Whether the qualification holds over no rows.
-fn held(rt: &impl Abort, alloc: Global, qual: QQual) -> bool {
-    holds(alloc, &qual, &Assigned::new(alloc), &[]).expect(rt, "no memory")
+fn held(rt: &impl Abort, alloc: Global, qual: Boxed<QQual>) -> bool {
+    holds(alloc, qual.get(), &Assigned::new(alloc), &[]).expect(rt, "no memory")
 }
 
-/// Whether 6 divided by a number compares so with another.
-fn divided(rt: &impl Abort, alloc: Global, op: CmpOp, divisor: i64, right: i64) -> QQual {
-    let left = operation(rt, alloc, ArithOp::Div, 6, divisor);
+/// That 6 divided by a number compares so with another.
+fn divided(rt: &impl Abort, alloc: Global, op: CmpOp, divisor: i64, right: i64) -> Boxed<QQual> {
+    let left = operation(rt, alloc, ArithOp::Div, 6, divisor).into_inner();
     let right = QTerm::Int(right);
-    QQual::Cmp { op, left, right }
+    boxed(rt, alloc, QQual::Cmp { op, left, right })
+}
+
+fn negation(rt: &impl Abort, alloc: Global, qual: Boxed<QQual>) -> Boxed<QQual> {
+    boxed(rt, alloc, QQual::Not(qual))
 }
 
 #[test]
@@ -33,24 +37,23 @@ fn comparisons_without_a_value_are_false(rt: HostRuntime) {
         (CmpOp::Eq, 0, 6, false),
         (CmpOp::Ne, 0, 6, false),
     ] {
-        let qual = divided(&rt, alloc, op, divisor, right);
-        assert!(rt; held(&rt, alloc, qual) == holding);
-        let qual = divided(&rt, alloc, op, divisor, right);
-        let negation = QQual::Not(boxed(&rt, alloc, qual));
-        assert!(rt; held(&rt, alloc, negation) != holding);
+        let plain = held(&rt, alloc, divided(&rt, alloc, op, divisor, right));
+        assert!(rt; plain == holding);
+        let negated = negation(&rt, alloc, divided(&rt, alloc, op, divisor, right));
+        assert!(rt; held(&rt, alloc, negated) != holding);
     }
 }
 
-fn deep_qual(rt: &impl Abort, alloc: Global, levels: u32) -> QQual {
-    let mut qual = QQual::True;
+/// The true qualification behind so many negations.
+fn deep_qual(rt: &impl Abort, alloc: Global, levels: u32) -> Boxed<QQual> {
+    let mut qual = boxed(rt, alloc, QQual::True);
     for _ in 0..levels {
-        qual = QQual::Not(boxed(rt, alloc, qual));
+        qual = negation(rt, alloc, qual);
     }
     qual
 }
 
 #[test]
 fn qualifications_of_500_levels_hold(rt: HostRuntime) {
-    let qual = deep_qual(&rt, rt.alloc(), 500);
-    assert!(rt; held(&rt, rt.alloc(), qual));
+    assert!(rt; held(&rt, rt.alloc(), deep_qual(&rt, rt.alloc(), 500)));
 }

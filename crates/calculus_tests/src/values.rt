@@ -1,7 +1,7 @@
 //! The values of terms.
 
 use crate::made::{boxed, chars, key, one, row};
-use calculus::{AggOp, AggSource, AggTable, ArithOp, QAgg, QQual, QTerm, Value};
+use calculus::{AggOp, AggSource, AggTable, ArithOp, Boxed, QAgg, QQual, QTerm, Value};
 use scalar_eval::{Assigned, value_of};
 use std::alloc::Global;
 use std::process::Abort;
@@ -11,30 +11,44 @@ const LEAST: i64 = i64::MIN;
 
 const GREATEST: i64 = i64::MAX;
 
-/// The value of a term, which must be a number, over these rows.
-fn number_over(
-    rt: &impl Abort,
-    alloc: Global,
-    term: QTerm,
-    rows: &Assigned,
-    tables: &[AggTable],
-) -> Option<i64> {
-    match value_of(alloc, &term, rows, tables).expect(rt, "no memory") {
+/// The number that a value is, where there is one.
+fn number_in(rt: &impl Abort, value: Option<Value>) -> Option<i64> {
+    match value {
         Some(Value::Int(number)) => Some(number),
         Some(Value::Text(_)) => panic!(*rt; "a text"),
         None => None,
     }
 }
 
+/// The value of a term, which must be a number, over these rows.
+fn number_over(
+    rt: &impl Abort,
+    alloc: Global,
+    term: Boxed<QTerm>,
+    rows: &Assigned,
+    tables: &[AggTable],
+) -> Option<i64> {
+    number_in(
+        rt,
+        value_of(alloc, term.get(), rows, tables).expect(rt, "no memory"),
+    )
+}
+
 /// The value of a term, which must be a number, over no rows.
-fn number(rt: &impl Abort, alloc: Global, term: QTerm) -> Option<i64> {
+fn number(rt: &impl Abort, alloc: Global, term: Boxed<QTerm>) -> Option<i64> {
     number_over(rt, alloc, term, &Assigned::new(alloc), &[])
 }
 
-pub fn operation(rt: &impl Abort, alloc: Global, op: ArithOp, left: i64, right: i64) -> QTerm {
+pub fn operation(
+    rt: &impl Abort,
+    alloc: Global,
+    op: ArithOp,
+    left: i64,
+    right: i64,
+) -> Boxed<QTerm> {
     let left = boxed(rt, alloc, QTerm::Int(left));
     let right = boxed(rt, alloc, QTerm::Int(right));
-    QTerm::Arith { op, left, right }
+    boxed(rt, alloc, QTerm::Arith { op, left, right })
 }
 
 #[test]
@@ -56,64 +70,60 @@ fn numbers_have_64_bits(rt: HostRuntime) {
         (ArithOp::Sub, LEAST, 1, None),
         (ArithOp::Mul, LEAST, -1, None),
     ] {
-        let term = operation(&rt, rt.alloc(), op, left, right);
-        assert!(rt; number(&rt, rt.alloc(), term) == result);
+        let alloc = rt.alloc();
+        assert!(rt; number(&rt, alloc, operation(&rt, alloc, op, left, right)) == result);
     }
+}
+
+/// The negation of a number and its absolute value.
+fn unsigned(rt: &impl Abort, alloc: Global, value: i64) -> (Option<i64>, Option<i64>) {
+    let negated = QTerm::Neg(boxed(rt, alloc, QTerm::Int(value)));
+    let absolute = QTerm::Abs(boxed(rt, alloc, QTerm::Int(value)));
+    let negated = number(rt, alloc, boxed(rt, alloc, negated));
+    (negated, number(rt, alloc, boxed(rt, alloc, absolute)))
 }
 
 #[test]
 fn the_least_number_has_no_other_sign(rt: HostRuntime) {
-    let alloc = rt.alloc();
-    for (value, other, plain) in [
-        (-5, Some(5), Some(5)),
-        (7, Some(-7), Some(7)),
-        (LEAST, None, None),
-    ] {
-        let term = QTerm::Neg(boxed(&rt, alloc, QTerm::Int(value)));
-        assert!(rt; number(&rt, alloc, term) == other);
-        let term = QTerm::Abs(boxed(&rt, alloc, QTerm::Int(value)));
-        assert!(rt; number(&rt, alloc, term) == plain);
-    }
+    assert!(rt; unsigned(&rt, rt.alloc(), -5) == (Some(5), Some(5)));
+    assert!(rt; unsigned(&rt, rt.alloc(), 7) == (Some(-7), Some(7)));
+    assert!(rt; unsigned(&rt, rt.alloc(), LEAST) == (None, None));
 }
 
-/// The value of a term is the text of these bytes, or there is none of either.
-fn is_text(rt: &impl Abort, alloc: Global, term: QTerm, bytes: Option<&[u8]>) -> bool {
-    let rows = Assigned::new(alloc);
-    match value_of(alloc, &term, &rows, &[]).expect(rt, "no memory") {
+/// Whether a value is the text of these bytes, or there is none of either.
+fn is_text(value: Option<Value>, bytes: Option<&[u8]>) -> bool {
+    match value {
         Some(Value::Text(text)) => Some(text.bytes()) == bytes,
         Some(Value::Int(_)) => false,
         None => bytes.is_none(),
     }
 }
 
-fn constant(rt: &impl Abort, alloc: Global, written: &[u8]) -> QTerm {
-    QTerm::Chars(chars(rt, alloc, written))
+fn constant(rt: &impl Abort, alloc: Global, written: &[u8]) -> Boxed<QTerm> {
+    boxed(rt, alloc, QTerm::Chars(chars(rt, alloc, written)))
+}
+
+/// The value of two text constants that are put together.
+fn joined(rt: &impl Abort, alloc: Global, left: &[u8], right: &[u8]) -> Option<Value> {
+    let left = constant(rt, alloc, left);
+    let right = constant(rt, alloc, right);
+    let term = boxed(rt, alloc, QTerm::Concat { left, right });
+    value_of(alloc, term.get(), &Assigned::new(alloc), &[]).expect(rt, "no memory")
 }
 
 #[test]
-fn constants_lose_escapes_and_blanks(rt: HostRuntime) {
-    for (written, bytes) in [
-        (b"a b  ".as_slice(), b"a b".as_slice()),
-        (b"\\*\\[\\ ".as_slice(), b"*[".as_slice()),
-        (b"a\\".as_slice(), b"a\\".as_slice()),
-        (b"\\\\".as_slice(), b"\\".as_slice()),
-    ] {
-        let term = constant(&rt, rt.alloc(), written);
-        assert!(rt; is_text(&rt, rt.alloc(), term, Some(bytes)));
-    }
-}
-
-fn joined(rt: &impl Abort, alloc: Global, left: &[u8], right: &[u8]) -> QTerm {
-    let left = boxed(rt, alloc, constant(rt, alloc, left));
-    let right = boxed(rt, alloc, constant(rt, alloc, right));
-    QTerm::Concat { left, right }
-}
-
-#[test]
-fn texts_are_joined_up_to_255_bytes(rt: HostRuntime) {
+fn constants_lose_escapes_and_blanks_and_are_joined_up_to_255_bytes(rt: HostRuntime) {
     let longest = [b'a'; 255];
     let most = &longest[..254];
     for (left, right, bytes) in [
+        (b"a b  ".as_slice(), b"".as_slice(), Some(b"a b".as_slice())),
+        (
+            b"\\*\\[\\ ".as_slice(),
+            b"".as_slice(),
+            Some(b"*[".as_slice()),
+        ),
+        (b"a\\".as_slice(), b"".as_slice(), Some(b"a\\".as_slice())),
+        (b"\\\\".as_slice(), b"".as_slice(), Some(b"\\".as_slice())),
         (
             b"ab ".as_slice(),
             b"cd".as_slice(),
@@ -122,85 +132,97 @@ fn texts_are_joined_up_to_255_bytes(rt: HostRuntime) {
         (most, b"a".as_slice(), Some(longest.as_slice())),
         (most, b"aa".as_slice(), None),
     ] {
-        let term = joined(&rt, rt.alloc(), left, right);
-        assert!(rt; is_text(&rt, rt.alloc(), term, bytes));
+        assert!(rt; is_text(joined(&rt, rt.alloc(), left, right), bytes));
     }
 }
 
-fn first_attr() -> QTerm {
-    QTerm::Attr { var: 0, attr: 0 }
+/// Puts a row of this number on top.
+fn push(rt: &impl Abort, alloc: Global, rows: &mut Assigned, number: i64) {
+    rows.push(row(rt, alloc, &[number])).expect(rt, "no memory");
+}
+
+/// The first attribute of this variable.
+fn attribute(rt: &impl Abort, alloc: Global, var: u8) -> Boxed<QTerm> {
+    boxed(rt, alloc, QTerm::Attr { var, attr: 0 })
+}
+
+/// The second row's value where two rows are put, and where the second one is taken off again.
+fn second(rt: &impl Abort, alloc: Global, first: i64, second: i64) -> (Option<i64>, Option<i64>) {
+    let mut rows = Assigned::new(alloc);
+    push(rt, alloc, &mut rows, first);
+    push(rt, alloc, &mut rows, second);
+    let there = number_over(rt, alloc, attribute(rt, alloc, 1), &rows, &[]);
+    rows.pop();
+    (
+        there,
+        number_over(rt, alloc, attribute(rt, alloc, 1), &rows, &[]),
+    )
 }
 
 #[test]
 fn rows_are_put_on_top(rt: HostRuntime) {
-    let alloc = rt.alloc();
-    let mut rows = Assigned::new(alloc);
-    rows.push(row(&rt, alloc, &[3])).expect(&rt, "no memory");
-    rows.push(row(&rt, alloc, &[4])).expect(&rt, "no memory");
-    let second = QTerm::Attr { var: 1, attr: 0 };
-    assert!(rt; number_over(&rt, alloc, second, &rows, &[]) == Some(4));
-    assert!(rt; rows.pop().is_some());
-    let second = QTerm::Attr { var: 1, attr: 0 };
-    assert!(rt; number_over(&rt, alloc, second, &rows, &[]) == None);
-    assert!(rt; rows.rows().len() == 1);
+    assert!(rt; second(&rt, rt.alloc(), 3, 4) == (Some(4), None));
 }
 
 /// The count of a relation's rows with the first variable's first attribute.
-fn counted(rt: &impl Abort, alloc: Global, slot: u16) -> QTerm {
+fn counted(rt: &impl Abort, alloc: Global, slot: u16) -> Boxed<QTerm> {
     let agg = QAgg {
         slot,
         op: AggOp::Count,
         source: AggSource::Named(key(rt, alloc)),
-        arg: first_attr(),
-        by: one(rt, alloc, first_attr()),
-        link: one(rt, alloc, first_attr()),
+        arg: QTerm::Attr { var: 0, attr: 0 },
+        by: one(rt, alloc, QTerm::Attr { var: 0, attr: 0 }),
+        link: one(rt, alloc, QTerm::Attr { var: 0, attr: 0 }),
         qual: QQual::True,
     };
-    QTerm::Agg(boxed(rt, alloc, agg))
+    boxed(rt, alloc, QTerm::Agg(boxed(rt, alloc, agg)))
 }
 
-/// A table with one group, at 1, and what it says elsewhere.
-fn table(rt: &impl Abort, alloc: Global, value: Option<Value>, empty: i64) -> AggTable {
+/// A table with one group, at 1, which has this value, and 9 elsewhere.
+fn table(rt: &impl Abort, alloc: Global, value: Option<i64>) -> AggTable {
     AggTable {
-        groups: one(rt, alloc, (row(rt, alloc, &[1]), value)),
-        empty: Value::Int(empty),
+        groups: one(rt, alloc, (row(rt, alloc, &[1]), value.map(Value::Int))),
+        empty: Value::Int(9),
     }
 }
 
-/// What the table at a slot says of a row of this number.
-fn counted_at(rt: &impl Abort, alloc: Global, slot: u16, linked: i64) -> Option<i64> {
-    let tables = [
-        table(rt, alloc, Some(Value::Int(5)), 0),
-        table(rt, alloc, None, 9),
-    ];
+/// What the count at a slot is for a row of this number, where the only table has this value at 1.
+fn counted_at(
+    rt: &impl Abort,
+    alloc: Global,
+    slot: u16,
+    value: Option<i64>,
+    linked: i64,
+) -> Option<i64> {
+    let tables = one(rt, alloc, table(rt, alloc, value));
     let mut rows = Assigned::new(alloc);
-    rows.push(row(rt, alloc, &[linked])).expect(rt, "no memory");
-    number_over(rt, alloc, counted(rt, alloc, slot), &rows, &tables)
+    push(rt, alloc, &mut rows, linked);
+    number_over(rt, alloc, counted(rt, alloc, slot), &rows, tables.items())
 }
 
 #[test]
 fn aggregates_have_the_values_of_their_tables(rt: HostRuntime) {
-    for (slot, linked, number) in [
-        (0, 1, Some(5)),
-        (0, 2, Some(0)),
-        (1, 1, None),
-        (1, 2, Some(9)),
-        (2, 1, None),
+    for (slot, value, linked, number) in [
+        (0, Some(5), 1, Some(5)),
+        (0, Some(5), 2, Some(9)),
+        (0, None, 1, None),
+        (0, None, 2, Some(9)),
+        (1, Some(5), 1, None),
     ] {
-        assert!(rt; counted_at(&rt, rt.alloc(), slot, linked) == number);
+        assert!(rt; counted_at(&rt, rt.alloc(), slot, value, linked) == number);
     }
 }
 
-fn deep_term(rt: &impl Abort, alloc: Global, levels: u32) -> QTerm {
-    let mut term = QTerm::Int(5);
+/// The number behind so many signs.
+fn deep_term(rt: &impl Abort, alloc: Global, levels: u32) -> Boxed<QTerm> {
+    let mut term = boxed(rt, alloc, QTerm::Int(5));
     for _ in 0..levels {
-        term = QTerm::Neg(boxed(rt, alloc, term));
+        term = boxed(rt, alloc, QTerm::Neg(term));
     }
     term
 }
 
 #[test]
 fn terms_of_500_levels_have_values(rt: HostRuntime) {
-    let term = deep_term(&rt, rt.alloc(), 500);
-    assert!(rt; number(&rt, rt.alloc(), term) == Some(5));
+    assert!(rt; number(&rt, rt.alloc(), deep_term(&rt, rt.alloc(), 500)) == Some(5));
 }

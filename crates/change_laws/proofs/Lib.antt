@@ -1,5 +1,5 @@
 mod Dropped
-mod Counted
+pub mod Counted
 mod RowsFit
 mod Inserted
 mod Created

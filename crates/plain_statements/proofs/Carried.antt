@@ -14,9 +14,11 @@ use Rattle.calculus.specs.declared.statement.Statement.TheVariants as statement
 use Rattle.calculus.specs.Database.{Db}
 use Rattle.calculus.specs.IsDatabase.{IsDatabase}
 use Rattle.calculus.specs.Lists.{is_any}
+use Rattle.calculus.specs.Name.{is_name}
 use Rattle.calculus.specs.QueryParts.{vars_of, query_aggregates}
 use Rattle.quel_causes.specs.Judged.{is_judged}
-use Rattle.quel_meaning.specs.Fit.{fits, is_fit_with_views, utility_fits}
+use Rattle.quel_meaning.specs.Fit.{suits, fits, is_fit_with_views, utility_fits}
+use Rattle.quel_meaning.specs.SpelledTree.{tree_is_spelled}
 use Rattle.quel_meaning.specs.FitQueries.{is_kept, kept_or_viewed}
 use Rattle.quel_meaning.specs.IsWritten.{is_written}
 use Rattle.quel_meaning.specs.Ranges.{Ranges}
@@ -52,23 +54,23 @@ built_parts s h = (left _ _ h, isnt _ (right (is_judged s) _ h))
 -- ---- its tree
 
 module _ (s : Scope) (none : s.db.views ≡ []) where
-  one_asked : (a : Asked) → fits (kept_or_viewed s.db) s.db s.user (checked.Answer (a ∷ [])) ≡ true → query_aggregates a.query ≡ [] → AreDoable s.db (a ∷ [])
-  unfolding fits
+  one_asked : (a : Asked) → suits (kept_or_viewed s.db) s.db s.user (checked.Answer (a ∷ [])) ≡ true → query_aggregates a.query ≡ [] → AreDoable s.db (a ∷ [])
+  unfolding suits
   one_asked a h plain = record {
     read = All-cons (λ (x : Asked). IsTrue (list_all (is_kept s.db) (vars_of x.query))) a [] (asked_kept s.db none a (left _ _ h)) (All-nil _);
     plain = All-cons (λ (x : Asked). query_aggregates x.query ≡ []) a [] plain (All-nil _);
   }
 
-  update_doable : (u : Update) → fits (kept_or_viewed s.db) s.db s.user (checked.Update u) ≡ true → query_aggregates u.query ≡ [] → IsDoableUpdate s.db u
-  unfolding fits
+  update_doable : (u : Update) → suits (kept_or_viewed s.db) s.db s.user (checked.Update u) ≡ true → query_aggregates u.query ≡ [] → IsDoableUpdate s.db u
+  unfolding suits
   update_doable u h plain = record { fits = update_kept s.db none u h; plain = plain }
 
-  work_doable : (rel : RelKey) (attrs : List Attr) → fits (kept_or_viewed s.db) s.db s.user (checked.Utility (utility.Create rel attrs)) ≡ true
+  work_doable : (rel : RelKey) (attrs : List Attr) → suits (kept_or_viewed s.db) s.db s.user (checked.Utility (utility.Create rel attrs)) ≡ true
       → utility_fits s.db [] (utility.Create rel attrs) ≡ true
-  unfolding fits utility_fits
+  unfolding suits utility_fits
   work_doable rel attrs h = h
 
-  tree_doable : (stmt : Statement) → is_judged stmt ≡ true → query_aggregates (query_of s stmt) ≡ [] → is_fit_with_views s.db s.user (tree_of s stmt) ≡ true → IsDoable s.db (tree_of s stmt)
+  tree_doable : (stmt : Statement) → is_judged stmt ≡ true → query_aggregates (query_of s stmt) ≡ [] → suits (kept_or_viewed s.db) s.db s.user (tree_of s stmt) ≡ true → IsDoable s.db (tree_of s stmt)
   unfolding tree_of append_of replace_of delete_of into_of
   tree_doable (statement.Range var rel) j plain h = record { read = All-nil _; plain = All-nil _ }
   tree_doable (statement.Retrieve None items qual sort) j plain h = one_asked _ h plain
@@ -81,10 +83,12 @@ module _ (s : Scope) (none : s.db.views ≡ []) where
 
 pub resolved_doable : (db : Db) (user : List ℕ) (ranges : Ranges) (stmt : Statement) (tree : Checked) → IsDatabase db → IsPlain db user → is_built stmt ≡ true → is_written stmt ≡ true
     → resolved db user ranges stmt ≡ Ok tree → IsDoable db tree
+unfolding fits
 resolved_doable db user ranges stmt tree is plain built written e =
     let a = accepted db user ranges stmt tree e in
     let parts = built_parts stmt built in
     let none = none_of (query_aggregates (query_of (scope db user ranges) stmt)) (text_aggregates stmt) (as_many (scope db user ranges) stmt) parts.1 in
-    let fit = resolved_fits db user ranges stmt tree is written e in
-    subst (IsDoable db) a.is
-    (tree_doable (scope db user ranges) plain.own.no_views stmt parts.0 none (subst (λ t. is_fit_with_views db user t ≡ true) (sym a.is) fit))
+    let named : is_name user ≡ true = subst (λ u. is_name u ≡ true) plain.own.administrator is.dba_is_named in
+    let fit : is_fit_with_views db user tree ≡ true = resolved_fits db user ranges stmt tree is named written e in
+    let suited : suits (kept_or_viewed db) db user tree ≡ true = right (tree_is_spelled tree) _ fit in
+    subst (IsDoable db) a.is (tree_doable (scope db user ranges) plain.own.no_views stmt parts.0 none (subst (λ t. suits (kept_or_viewed db) db user t ≡ true) (sym a.is) suited))

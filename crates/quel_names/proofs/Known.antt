@@ -9,17 +9,18 @@ use Rattle.calculus.specs.declared.schema.RelInfo.{RelInfo}
 use Rattle.calculus.specs.declared.schema.Spec.{Spec}
 use Rattle.calculus.specs.declared.schema.Spec.TheVariants as spec
 use Rattle.calculus.specs.Catalogue.{catalogue_at, is_catalogue_name, relation_key, attribute_key, relation_info, attribute_info, relation_row, attribute_rows, all_entries}
-use Rattle.calculus.specs.Database.{Db, Relation, View, Index, is_relation, entries, entry_at, relation_at, view_at, index_at}
+use Rattle.calculus.specs.Database.{Db, Relation, View, Index, entries, entry_at, relation_at, view_at, index_at}
 use Rattle.calculus.specs.IsDatabase.{IsDatabase, key_is_named, keys_stand, structure_stands, view_info_stands, index_stands}
 use Rattle.calculus.specs.Keys.{same_key}
 use Rattle.calculus.specs.Lists.{is_any}
 use Rattle.calculus.specs.Name.{is_name}
 use Rattle.calculus.specs.Rows.{set_of}
-use Rattle.calculus.specs.Stored.{Kept, Viewed, range_at, range_info, info_at, attrs_at}
+use Rattle.calculus.specs.Stored.{Kept, Viewed, range_at, range_info, info_at}
+use Rattle.calculus.specs.Structures.{is_structure, is_keyed, is_view, is_index}
 use Rattle.quel_meaning.proofs.DatabaseFacts.{found_passes}
-use Rattle.quel_meaning.proofs.Each.{right, passed, each_passes, of_map, back_of}
+use Rattle.quel_meaning.proofs.Each.{left, right, passed, each_passes, of_map, back_of}
 use Rattle.quel_meaning.proofs.Keys.{find_passes, same_keys}
-use Rattle.quel_names.specs.Ranging.{but_index, is_index}
+use Rattle.quel_names.specs.Ranging.{but_index}
 
 -- ---- what is found among relations, views and indexes
 
@@ -48,24 +49,7 @@ no_structure : (info : RelInfo) → structure_stands info ≡ true → is_index 
 no_structure info h = go info.spec h
   where
     go : (s : Spec)
-        → ◌≡◌ {A = Bool} (elim s [
-          | spec.Heap ↦ not (is_any info.keys)
-          | spec.Hash ↦ is_any info.keys && keys_stand info.attrs info.keys
-          | spec.Isam ↦ is_any info.keys && keys_stand info.attrs info.keys
-          | spec.View ↦ false
-          | spec.Index ↦ false
-        ]) true → is_index s ≡ false
-    go spec.Heap k = refl
-    go spec.Hash k = refl
-    go spec.Isam k = refl
-    go spec.View k = refl
-    go spec.Index k = absurd (cc k)
-
-no_view : (info : RelInfo) → view_info_stands info ≡ true → is_index info.spec ≡ false
-no_view info h = go info.spec h
-  where
-    go : (s : Spec)
-        → ◌≡◌ {A = Bool} (elim s [ spec.Heap ↦ false | spec.Hash ↦ false | spec.Isam ↦ false | spec.View ↦ not (is_any info.keys) | spec.Index ↦ false ]) true
+        → ◌≡◌ {A = Bool} (elim (is_keyed s) [ true ↦ is_any info.keys && keys_stand info.attrs info.keys | false ↦ is_structure s && not (is_any info.keys) ]) true
         → is_index s ≡ false
     go spec.Heap k = refl
     go spec.Hash k = refl
@@ -73,22 +57,18 @@ no_view info h = go info.spec h
     go spec.View k = refl
     go spec.Index k = absurd (cc k)
 
-an_index : (db : Db) (x : Index) → index_stands db x ≡ true → is_index x.info.spec ≡ true
-an_index db x h = go x.info.spec h
+no_view : (info : RelInfo) → view_info_stands info ≡ true → is_index info.spec ≡ false
+no_view info h = go info.spec (left (is_view info.spec) _ h)
   where
-    go : (s : Spec)
-        → ◌≡◌ {A = Bool} (elim s [
-          | spec.Heap ↦ false
-          | spec.Hash ↦ false
-          | spec.Isam ↦ false
-          | spec.View ↦ false
-          | spec.Index ↦ is_relation db x.base && (not (is_any x.info.attrs) && (is_any x.info.keys && keys_stand (attrs_at db x.base) x.info.keys))
-        ]) true → is_index s ≡ true
-    go spec.Heap k = absurd (cc k)
-    go spec.Hash k = absurd (cc k)
-    go spec.Isam k = absurd (cc k)
-    go spec.View k = absurd (cc k)
-    go spec.Index k = refl
+    go : (s : Spec) → is_view s ≡ true → is_index s ≡ false
+    go spec.Heap k = refl
+    go spec.Hash k = refl
+    go spec.Isam k = refl
+    go spec.View k = refl
+    go spec.Index k = absurd (cc k)
+
+an_index : (db : Db) (x : Index) → index_stands db x ≡ true → is_index x.info.spec ≡ true
+an_index db x h = left (is_index x.info.spec) _ h
 
 kept_if : (info : RelInfo) → is_index info.spec ≡ false → but_index (Some info) ≡ Some info
 kept_if info h = ap (λ b. elim b as (λ b. Option RelInfo) [ true ↦ None | false ↦ Some info ]) h

@@ -2,17 +2,8 @@
 use Rattle.std.specs.Prelude.{◌≡◌, ℕ, Bool, true, false, List, map, is_some, Option, Some, None}
 use Rattle.std.specs.List.{list_all}
 use Rattle.calculus.specs.declared.schema.RelInfo.{RelInfo}
-use Rattle.calculus.specs.declared.schema.Spec.{Spec}
-use Rattle.calculus.specs.declared.schema.Spec.TheVariants as spec
+use Rattle.calculus.specs.Structures.{is_index}
 use Rattle.quel_meaning.specs.Scope.{Scope, ranged}
-
--- it is an index
-abbrev pub is_index : Spec → Bool
-is_index spec.Heap = false
-is_index spec.Hash = false
-is_index spec.Isam = false
-is_index spec.View = false
-is_index spec.Index = true
 
 -- what may be ranged over of what stands under a key: all but an index
 abbrev pub but_index : Option RelInfo → Option RelInfo

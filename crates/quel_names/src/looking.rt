@@ -6,8 +6,9 @@ ghost use Rattle.am_traits.specs.Causes.{HasCause};
 ghost use Rattle.calculus.specs.Database.{Db};
 ghost use Rattle.calculus.specs.Finding.{found};
 ghost use Rattle.calculus.specs.Stored.{info_at};
+ghost use Rattle.calculus.specs.Structures.{is_index};
 ghost use Rattle.quel_meaning.specs.Ranges.{range_of};
-ghost use Rattle.quel_names.specs.Ranging.{but_index, is_index};
+ghost use Rattle.quel_names.specs.Ranging.{but_index};
 
 use am_traits::{Base, BaseFault};
 use calculus::{Name, RelInfo, RelKey, Spec};

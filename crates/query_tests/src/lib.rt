@@ -1,4 +1,4 @@
-//! Tests of queries over a base that tells no database.
+//! Tests of queries and updates over a base that tells no database.
 #![tactic(auto)]
 
 #[cfg(test)]
@@ -7,3 +7,5 @@ mod numbers;
 mod queries;
 #[cfg(test)]
 mod trees;
+#[cfg(test)]
+mod updates;

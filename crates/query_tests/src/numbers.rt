@@ -23,6 +23,14 @@ fn row_of(alloc: Global, number: i64) -> Result<Row, OutOfMemory> {
     Ok(Row::of(values))
 }
 
+/// Whether the row is one of the first so many.
+fn is_among(row: &Row, rows: u32) -> bool {
+    match row.values().first() {
+        Some(Value::Int(number)) => *number >= 0 && *number < i64::from(rows),
+        _ => false,
+    }
+}
+
 impl Base for Numbers {
     ghost database = { λ _. None };
 
@@ -59,8 +67,8 @@ impl Base for Numbers {
         Ok(self.rows)
     }
 
-    fn has_row(&mut self, _alloc: Global, _key: &RelKey, _row: &Row) -> Result<bool, BaseFault> {
-        Ok(false)
+    fn has_row(&mut self, _alloc: Global, _key: &RelKey, row: &Row) -> Result<bool, BaseFault> {
+        Ok(is_among(row, self.rows))
     }
 
     fn scan(

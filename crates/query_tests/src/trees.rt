@@ -24,21 +24,35 @@ pub fn alone<T: Drop>(rt: &impl Abort, alloc: Global, item: T) -> Vec<T> {
     items
 }
 
-/// A query over so many variables for one term, under a title.
-pub fn query(rt: &impl Abort, alloc: Global, variables: usize, title: &[u8], term: QTerm) -> Query {
+/// So many variables.
+fn variables(rt: &impl Abort, alloc: Global, count: usize) -> List<RelKey> {
     let mut vars = Vec::new(alloc);
-    for _ in 0..variables {
+    for _ in 0..count {
         vars.push(key(rt, alloc).expect(rt, "memory"))
             .expect(rt, "memory");
     }
+    List::of(vars)
+}
+
+/// A query over so many variables for one term, under a title.
+pub fn query(rt: &impl Abort, alloc: Global, count: usize, title: &[u8], term: QTerm) -> Query {
     let target = Target {
         name: named(rt, alloc, title).expect(rt, "memory"),
         kind: Kind::Wide,
         term,
     };
     Query {
-        vars: List::of(vars),
+        vars: variables(rt, alloc, count),
         targets: List::of(alone(rt, alloc, target)),
+        qual: QQual::True,
+    }
+}
+
+/// A query over these variables for nothing.
+pub fn bare_query(alloc: Global, vars: Vec<RelKey>) -> Query {
+    Query {
+        vars: List::of(vars),
+        targets: List::of(Vec::new(alloc)),
         qual: QQual::True,
     }
 }

@@ -137,7 +137,7 @@ too_many_alike db q = λ i.
     || nat_lt most_expanded_variables
     (sum_by (λ key. (known_alike db i key).variables) (vars_of q) + sum_by (λ g. source_variables (known_alike db i) g.source) (query_aggregates q))
 
-full_alike : (db : Db) → is_full (schema_of db) ≡ is_full db
+pub full_alike : (db : Db) → is_full (schema_of db) ≡ is_full db
 unfolding is_full
 full_alike db = ap (λ (es : List RelInfo). nat_le most_entries (length es)) (entries_alike db)
 
@@ -207,11 +207,11 @@ row_causes_alike s stand info no_room q = λ i.
     ∷ (14, nat_lt 1 (length (vars_of q)) || (no_room || not (row_qual_is_small (qual_of q))))
     ∷ (13, not (kinds_fit (qual_of q) (kinds_alike s.db (key_found info) i ∷ []))) ∷ []
 
-permit_numbers_alike : (db : Db) (rel : RelKey) → permit_numbers (schema_of db) rel ≡ permit_numbers db rel
+pub permit_numbers_alike : (db : Db) (rel : RelKey) → permit_numbers (schema_of db) rel ≡ permit_numbers db rel
 unfolding schema_of
 permit_numbers_alike db rel = refl
 
-rule_numbers_alike : (db : Db) (rel : RelKey) → rule_numbers (schema_of db) rel ≡ rule_numbers db rel
+pub rule_numbers_alike : (db : Db) (rel : RelKey) → rule_numbers (schema_of db) rel ≡ rule_numbers db rel
 unfolding schema_of
 rule_numbers_alike db rel = refl
 

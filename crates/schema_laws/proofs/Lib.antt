@@ -4,3 +4,4 @@ pub mod Told
 pub mod SchemaStands
 pub mod Scopes
 pub mod Judged
+pub mod LawfulHalves

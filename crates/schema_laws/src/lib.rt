@@ -4,12 +4,14 @@
 
 mod finding;
 mod judging;
+mod lawful;
 mod permission;
 mod sizes;
 mod standing;
 
 pub use finding::what_is_found_is_in_the_schema;
 pub use judging::what_is_asked_for_is_in_the_schema;
+pub use lawful::a_change_is_lawful_by_schema_and_rows;
 pub use permission::what_is_permitted_is_in_the_schema;
 pub use sizes::levels_and_sizes_are_in_the_schema;
 pub use standing::a_schema_is_a_database;

@@ -11,6 +11,3 @@ mod pairs_change;
 
 pub use change::change_of;
 pub use fault::UpdateFault;
-
-#[cfg(test)]
-mod tests;

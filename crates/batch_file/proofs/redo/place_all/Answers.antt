@@ -1,7 +1,7 @@
 use Rattle.std.proofs.Common.{rules, ◌≡◌, ◌+◌, ◌∙◌, inl, arith, refl}
 use Rattle.batch_file.specs.declared.fault.RestoreFault.TheVariants.{Disk}
 use Rattle.batch_file.specs.Layout.{addr}
-use Rattle.batch_file.proofs.Calling.{places_none, places_more}
+use Rattle.batch_file.proofs.Calling.{places_more}
 use Rattle.batch_file.proofs.Placing.{placing_reads, buffered_now, buffered_then, lawful_now, has_now, step_run, step_done, address_fault, page_fault}
 use Rattle.batch_file.proofs.redo.place_all.Goals as goal
 
