@@ -167,9 +167,18 @@ measured_so known q ms m targets qual own below et eq h v a o b s = λ i. record
 
 -- ---- where no view stands
 
+-- through no levels of views each is as where rows are kept
+pub none_through : (db : Db) (key : RelKey) → plain_measure ≡ measure_within 0 db key
+none_through db key = go (range_at db key)
+  where
+    go : (o : Option Range) → plain_measure ≡ range_measure (λ view. plain_measure) o
+    go None = refl
+    go (Some (Kept relation)) = refl
+    go (Some (Viewed view)) = refl
+
 pub plain_known : (n : ℕ) (db : Db) (key : RelKey) → query_at db key ≡ None → measure_within n db key ≡ plain_measure
 unfolding range_at
-plain_known zero db key h = refl
+plain_known zero db key h = sym (none_through db key)
 plain_known (suc n) db key h = go (relation_at db key) (view_at db key) h
   where
     kept : (c : Option Relation) → range_measure (λ view. query_measure (measure_within n db) view.query) (option_map Kept c) ≡ plain_measure

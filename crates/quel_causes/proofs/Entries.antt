@@ -7,16 +7,15 @@ use Rattle.std.proofs.lemmas.List.Folds.{find-append}
 use Rattle.calculus.specs.declared.query.RelKey.{RelKey}
 use Rattle.calculus.specs.declared.schema.Attr.{Attr}
 use Rattle.calculus.specs.declared.schema.RelInfo.{RelInfo}
-use Rattle.calculus.specs.declared.schema.Spec.{Spec}
-use Rattle.calculus.specs.declared.schema.Spec.TheVariants as spec
 use Rattle.calculus.specs.Keys.{same_key, key_of}
 use Rattle.calculus.specs.Lists.{is_any}
 use Rattle.calculus.specs.Database.{Db, Relation, Index, View, entries, entry_at, relation_at, view_at, index_at, is_relation}
 use Rattle.calculus.specs.Rows.{set_of}
 use Rattle.calculus.specs.Name.{is_name}
 use Rattle.calculus.specs.Catalogue.{catalogue_at, is_catalogue_name, relation_info, attribute_info, relation_row, attribute_rows, all_entries}
-use Rattle.calculus.specs.IsDatabase.{IsDatabase, key_is_named, index_stands, keys_stand}
+use Rattle.calculus.specs.IsDatabase.{IsDatabase, key_is_named, index_stands}
 use Rattle.calculus.specs.Stored.{Range, Kept, Viewed, range_at, range_info, info_at, attrs_in, attrs_at, kinds_at}
+use Rattle.calculus.specs.Structures.{is_index}
 use Rattle.am_traits.specs.Told.{known_at}
 use Rattle.quel_meaning.specs.Passing.{is_taken}
 use Rattle.quel_meaning.proofs.Each.{left, right}
@@ -82,7 +81,7 @@ entry_parts db key =
 
 -- an index that stands has no attributes
 no_attrs : (db : Db) (x : Index) → index_stands db x ≡ true → x.info.attrs ≡ []
-no_attrs db x h = go x.info.spec h
+no_attrs db x h = none x.info.attrs (not_any _ (left _ _ (right (is_relation db x.base) _ (right (is_index x.info.spec) _ h))))
   where
     none : (attrs : List Attr) → is_any attrs ≡ false → attrs ≡ []
     none [] h = refl
@@ -91,19 +90,6 @@ no_attrs db x h = go x.info.spec h
     not_any : (b : Bool) → not b ≡ true → b ≡ false
     not_any true h = absurd (cc h)
     not_any false h = refl
-
-    go : (s : Spec) → elim s [
-      | spec.Heap ↦ false
-      | spec.Hash ↦ false
-      | spec.Isam ↦ false
-      | spec.View ↦ false
-      | spec.Index ↦ is_relation db x.base && (not (is_any x.info.attrs) && (is_any x.info.keys && keys_stand (attrs_at db x.base) x.info.keys))
-    ] ≡ true → x.info.attrs ≡ []
-    go spec.Heap h = absurd (cc h)
-    go spec.Hash h = absurd (cc h)
-    go spec.Isam h = absurd (cc h)
-    go spec.View h = absurd (cc h)
-    go spec.Index h = none x.info.attrs (not_any _ (left _ _ (right (is_relation db x.base) _ h)))
 
 -- an entry's key has no catalogue's name
 pub named_apart : (db : Db) → IsDatabase db → (key : RelKey) (info : RelInfo) → entry_at db key ≡ Some info → is_catalogue_name key.name ≡ false
