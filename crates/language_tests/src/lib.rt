@@ -9,6 +9,8 @@ mod memory_refused;
 #[cfg(test)]
 mod monitored;
 #[cfg(test)]
+mod reading;
+#[cfg(test)]
 mod replies;
 #[cfg(test)]
 mod statements;

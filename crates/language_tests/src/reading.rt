@@ -28,7 +28,7 @@ fn declares(statement: &Statement) -> bool {
 }
 
 /// What is read of the text from this place on.
-pub fn answer(alloc: Global, text: &[u8], from: usize) -> Answer {
+pub fn read_at(alloc: Global, text: &[u8], from: usize) -> Answer {
     match next_statement(alloc, text, from) {
         Ok(Some((statement, end))) => Answer::Statement(end, declares(&statement)),
         Ok(None) => Answer::Nothing,

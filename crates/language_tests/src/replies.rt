@@ -3,6 +3,7 @@
 use calculus::{
     Column, Domain, Kind, List, Name, OutOfMemory, Refusal, Reply, Row, Table, Text, Value,
 };
+use memory::both;
 use monitor::{
     done_bytes, head_bytes, push_head, push_reply, push_row_line, push_rule, refusal_bytes,
     reply_bytes, row_line, rule_bytes,
@@ -41,21 +42,36 @@ fn are(made: Result<Vec<u8>, OutOfMemory>, bytes: &[u8]) -> bool {
     }
 }
 
-/// A column, where the title is a name.
-fn column(alloc: Global, title: &[u8], kind: Kind) -> Result<Option<Column>, OutOfMemory> {
-    let name = Name::of(alloc, title)?;
-    Ok(name.map(|name| Column { name, kind }))
+/// Puts a column, where the title is a name.
+fn push_column(
+    alloc: Global,
+    columns: &mut Vec<Column>,
+    title: &[u8],
+    kind: Kind,
+) -> Result<(), OutOfMemory> {
+    if let Some(name) = Name::of(alloc, title)? {
+        columns.push(Column { name, kind })?;
+    }
+    Ok(())
+}
+
+/// Puts the columns of these titles.
+fn push_columns(
+    alloc: Global,
+    columns: &mut Vec<Column>,
+    titles: &[(&[u8], Kind)],
+) -> Result<(), OutOfMemory> {
+    for (title, kind) in titles {
+        push_column(alloc, columns, *title, *kind)?;
+    }
+    Ok(())
 }
 
 /// The columns of these titles.
-fn columns(alloc: Global, titles: &[(&[u8], Kind)]) -> Result<Vec<Column>, OutOfMemory> {
+fn columns(alloc: Global, titles: &[(&[u8], Kind)]) -> Result<List<Column>, OutOfMemory> {
     let mut columns = Vec::new(alloc);
-    for (title, kind) in titles {
-        if let Some(column) = column(alloc, title, *kind)? {
-            columns.push(column)?;
-        }
-    }
-    Ok(columns)
+    push_columns(alloc, &mut columns, titles)?;
+    Ok(List::of(columns))
 }
 
 /// A text, or a number where it can't be one.
@@ -64,13 +80,26 @@ fn text(alloc: Global, bytes: &[u8]) -> Result<Value, OutOfMemory> {
     Ok(text.map_or(Value::Int(0), Value::Text))
 }
 
-/// A row of these four values.
-fn row(alloc: Global, a: i64, b: &[u8], department: i64, wide: i64) -> Result<Row, OutOfMemory> {
-    let mut values = Vec::new(alloc);
+/// Puts these four values.
+fn push_values(
+    alloc: Global,
+    values: &mut Vec<Value>,
+    a: i64,
+    b: &[u8],
+    department: i64,
+    wide: i64,
+) -> Result<(), OutOfMemory> {
     values.push(Value::Int(a))?;
     values.push(text(alloc, b)?)?;
     values.push(Value::Int(department))?;
     values.push(Value::Int(wide))?;
+    Ok(())
+}
+
+/// A row of these four values.
+fn row(alloc: Global, a: i64, b: &[u8], department: i64, wide: i64) -> Result<Row, OutOfMemory> {
+    let mut values = Vec::new(alloc);
+    push_values(alloc, &mut values, a, b, department, wide)?;
     Ok(Row::of(values))
 }
 
@@ -79,20 +108,30 @@ fn first_row(alloc: Global) -> Result<Row, OutOfMemory> {
     row(alloc, -32_768, b"ab", -5, i64::MIN)
 }
 
-/// The rows of the table.
-fn rows(alloc: Global) -> Result<Vec<Row>, OutOfMemory> {
-    let mut rows = Vec::new(alloc);
+/// Puts the rows of the table.
+fn push_rows(alloc: Global, rows: &mut Vec<Row>) -> Result<(), OutOfMemory> {
     rows.push(first_row(alloc)?)?;
     rows.push(row(alloc, 7, b"", 127, 0)?)?;
-    Ok(rows)
+    Ok(())
 }
 
-/// A reply with one table, of two rows.
+/// The rows of the table.
+fn rows(alloc: Global) -> Result<List<Row>, OutOfMemory> {
+    let mut rows = Vec::new(alloc);
+    push_rows(alloc, &mut rows)?;
+    Ok(List::of(rows))
+}
+
+/// A table of two rows.
+fn table(alloc: Global) -> Result<Table, OutOfMemory> {
+    let (columns, rows) = both(columns(alloc, TITLES.as_slice()), rows(alloc))?;
+    Ok(Table { columns, rows })
+}
+
+/// A reply with that table.
 fn tables(alloc: Global) -> Result<Reply, OutOfMemory> {
-    let columns = List::of(columns(alloc, TITLES.as_slice())?);
-    let rows = List::of(rows(alloc)?);
     let mut tables = Vec::new(alloc);
-    tables.push(Table { columns, rows })?;
+    tables.push(table(alloc)?)?;
     Ok(Reply::Tables(List::of(tables)))
 }
 
@@ -105,20 +144,19 @@ pub fn printed_tables(alloc: Global) -> Result<Vec<u8>, OutOfMemory> {
 /// How that table begins.
 fn head(alloc: Global) -> Result<Vec<u8>, OutOfMemory> {
     let columns = columns(alloc, TITLES.as_slice())?;
-    head_bytes(alloc, &columns)
+    head_bytes(alloc, columns.items())
 }
 
 /// Its rule line.
 fn rule(alloc: Global) -> Result<Vec<u8>, OutOfMemory> {
     let columns = columns(alloc, TITLES.as_slice())?;
-    rule_bytes(alloc, &columns)
+    rule_bytes(alloc, columns.items())
 }
 
 /// The line of its first row.
 fn first_line(alloc: Global) -> Result<Vec<u8>, OutOfMemory> {
-    let columns = columns(alloc, TITLES.as_slice())?;
-    let row = first_row(alloc)?;
-    row_line(alloc, &columns, &row)
+    let (columns, row) = both(columns(alloc, TITLES.as_slice()), first_row(alloc))?;
+    row_line(alloc, columns.items(), &row)
 }
 
 #[test]
@@ -136,14 +174,24 @@ fn push_small(out: &mut Vec<u8>, columns: &[Column], row: &Row) -> Result<(), Ou
     push_rule(out, columns)
 }
 
-/// The parts of a table with the least number of four bytes.
-fn small_table(alloc: Global) -> Result<Vec<u8>, OutOfMemory> {
-    let columns = columns(alloc, [(b"n".as_slice(), Kind::Of(Domain::I4))].as_slice())?;
+/// The row of the least number of four bytes.
+fn least_row(alloc: Global) -> Result<Row, OutOfMemory> {
     let mut values = Vec::new(alloc);
     values.push(Value::Int(-2_147_483_648))?;
-    let row = Row::of(values);
+    Ok(Row::of(values))
+}
+
+/// Adds the parts of a table with that row.
+fn push_least(alloc: Global, out: &mut Vec<u8>) -> Result<(), OutOfMemory> {
+    let titles = [(b"n".as_slice(), Kind::Of(Domain::I4))];
+    let (columns, row) = both(columns(alloc, titles.as_slice()), least_row(alloc))?;
+    push_small(out, columns.items(), &row)
+}
+
+/// The parts of a table with that row.
+fn small_table(alloc: Global) -> Result<Vec<u8>, OutOfMemory> {
     let mut out = Vec::new(alloc);
-    push_small(&mut out, &columns, &row)?;
+    push_least(alloc, &mut out)?;
     Ok(out)
 }
 

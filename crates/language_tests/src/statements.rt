@@ -1,9 +1,8 @@
 //! Whole statements, and texts at the edges of the language.
 
+use crate::reading::{Answer, read_at};
 use crate::table_lines::parts_of;
-use calculus::{OutOfMemory, Statement};
-use quel_parse::{ParseFault, next_statement};
-use std::alloc::Global;
+use std::alloc::{AllocError, Global};
 use std::test::*;
 
 /// Texts that begin with their blank, each behind what is read of it: `r` and where the statement
@@ -11,22 +10,22 @@ use std::test::*;
 const TEXTS: &[u8] =
     b"r18 RANGE OF E IS EMP\nr29 range/**/of/*x*/e is/***/emp\nr18 range of e is emp range of f is emp\nr10 print a,b help\nr5 help help\nr7 help a b\nr25 retrieve(e.a)where e.a=1retrieve(e.b)\nr9 delete e delete f\nr16 append emp(a=1)\nr37 append to emp(a=9223372036854775807)\ns17 append to emp(a=9223372036854775808)\nr19 print abcdefghijkl\ns7 print abcdefghijklm\nr9 print _1\ns7 print 1a\nr26 delete e where e.a=\"\\\"\\\\\"\ns20 delete e where e.a=\"\\\"\nr43 retrieve (x = 1 ** 2 ** 3 - 4 - 5 * 6 / 7)\nr23 retrieve (x = - - + 1)\nr54 delete e where not not e.a = 1 or e.b = 2 and e.c = 3\nr31 delete e where ((e.a) + 1) = 2\nr27 delete e where ((e.a = 1))\ns21 delete e where (e.a)\ns19 delete e where e.a\ns10 retrieve where e.a = 1\nr17 retrieve r (e.a)\nr51 retrieve into r (e.a) sort by a:a, b:descending, c\ns28 retrieve (e.a) sort by a : up\nr34 modify emp to isam on a,b,c,d,e,f\ns35 modify emp to isam on a,b,c,d,e,f,g\ns35 modify emp to hash on a,b,c,d,e,f,\nr32 index on emp is x (a,b,c,d,e,f)\ns32 index on emp is x (a,b,c,d,e,f,g)\nr19 modify emp to heap on a\ns15 modify emp to cheap\ns15 create emp (a=c0)\nr30 create emp (a=c255,b=i1,c=i2)\ns15 create emp (a=c256)\ns15 create emp (a=c01)\ns15 create emp (a=i3)\nr59 copy emp (a=c0nl,b=c0sp,c=c0comma,d=c0colon,e=c1) into \"f\"\ns13 copy emp (a=c0xx) into \"f\"\nr30 destroy permit emp 4294967295\ns20 destroy permit emp 4294967296\nr28 destroy integrity emp 0, 01\ns32 define permit retrieve on e to where\nr63 define permit replace, delete to e (a, b) to all where e.a = 1 print x\ns8 define index\ns7 define\nn0 \nn0   /* */ \ns1 /*\nr8 print a /* b\nr8 print a ;\ns1 ; print a\ns7 print \"a\"\ns1 select\ns6 range\ns11 append to to (a=1)\nr26 retrieve (x = count(e.a))\nr53 retrieve (x = count (e.a by e.b, e.c where e.d = 1))\ns32 retrieve (x = any(e.a where e.b))\ns20 retrieve (x = abs(1, 2))\ns18 retrieve (x = foo(1))\ns20 retrieve (x = mod(1))\nr22 retrieve (e.all, e.a)\ns11 retrieve (all = 1)\ns15 retrieve (e.a = 1)\ns20 delete e where e.a ! = 1\ns22 delete e where e.a < > 1\nr5 help \\";
 
-/// What is read of a text: the letter, and the place.
-fn read(alloc: Global, text: &[u8]) -> (u8, usize) {
-    match next_statement(alloc, text, 0) {
-        Ok(None) => (b'n', 0),
-        Ok(Some((_, end))) => (b'r', end),
-        Err(ParseFault::Syntax { at, .. }) => (b's', at),
-        Err(ParseFault::OutOfMemory) => (b'm', 0),
+/// Whether this is what a table says: the letter, and the place.
+fn is_told(answer: Answer, letter: u8, place: usize) -> bool {
+    match answer {
+        Answer::Statement(end, _) => letter == b'r' && place == end,
+        Answer::Syntax(_, at) => letter == b's' && place == at,
+        Answer::Nothing => letter == b'n' && place == 0,
+        Answer::OutOfMemory => false,
     }
 }
 
 /// Whether the line says what is read of its text.
 fn is_right(alloc: Global, line: &[u8]) -> bool {
     match line {
-        [kind, rest @ ..] => {
+        [letter, rest @ ..] => {
             let (place, text) = parts_of(rest);
-            read(alloc, text) == (*kind, place)
+            is_told(read_at(alloc, text, 0), *letter, place)
         }
         [] => false,
     }
@@ -47,82 +46,63 @@ fn right(alloc: Global, lines: &[u8]) -> (usize, usize) {
 
 #[test]
 fn texts_are_read_as_the_grammar_says(rt: HostRuntime) {
-    assert_eq!(rt; right(rt.alloc(), TEXTS), (71, 71));
-}
-
-/// Whether the statement declares `e` over `emp`.
-fn declares(statement: &Statement) -> bool {
-    match statement {
-        Statement::Range { var, rel } => {
-            var.bytes() == b"e".as_slice() && rel.bytes() == b"emp".as_slice()
-        }
-        _ => false,
-    }
-}
-
-/// Where the statement ends that is read of a text from a place on, if it declares `e` over `emp`.
-fn ranged(alloc: Global, text: &[u8], from: usize) -> Option<usize> {
-    match next_statement(alloc, text, from) {
-        Ok(Some((statement, end))) if declares(&statement) => Some(end),
-        _ => None,
-    }
+    assert!(rt; right(rt.alloc(), TEXTS) == (71, 71));
 }
 
 #[test]
 fn a_statement_is_read_behind_another(rt: HostRuntime) {
     let text = b"help\nrange of E is emp\n\nprint ;";
-    assert!(rt; ranged(rt.alloc(), text, 4) == Some(22));
-    assert!(rt; refused_behind(rt.alloc(), text) == (2, 4, 30));
+    assert!(rt; read_at(rt.alloc(), text, 4) == Answer::Statement(22, true));
+    assert!(rt; refused_behind(rt.alloc(), text) == (2, Answer::Syntax(4, 30)));
 }
 
-/// How many statements of the text are read, and the line and the place where it is refused then.
-fn refused_behind(alloc: Global, text: &[u8]) -> (usize, u32, usize) {
+/// How many statements of the text are read, and what is read behind them.
+fn refused_behind(alloc: Global, text: &[u8]) -> (usize, Answer) {
     let mut place = 0usize;
     let mut count = 0usize;
     for _ in 0..text.len() {
-        match next_statement(alloc, text, place) {
-            Ok(Some((_, end))) => {
+        match read_at(alloc, text, place) {
+            Answer::Statement(end, _) => {
                 place = end;
                 count = count.saturating_add(1);
             }
-            Err(ParseFault::Syntax { line, at }) => return (count, line, at),
-            Ok(None) | Err(ParseFault::OutOfMemory) => return (count, 0, 0),
+            other => return (count, other),
         }
     }
-    (count, 0, 0)
+    (count, Answer::Nothing)
 }
 
 #[test]
 fn scripts_are_refused_at_their_lines(rt: HostRuntime) {
     let long_name =
         b"create w (a = c255, b = c255, c = c255, d = c235)\ncreate x (a = c255, b = c255, c = c255, d = c235, e = i1)\ncreate abcdefghijkl (a = i1)\ncreate abcdefghijklm (a = i1)\ncreate y (a = i1)\n";
-    assert!(rt; refused_behind(rt.alloc(), long_name) == (3, 4, 144));
+    assert!(rt; refused_behind(rt.alloc(), long_name) == (3, Answer::Syntax(4, 144)));
     let wrong_word = b"create g (a = i1)\nretreive (x = 1)\ncreate h (a = i1)\n";
-    assert!(rt; refused_behind(rt.alloc(), wrong_word) == (1, 2, 18));
+    assert!(rt; refused_behind(rt.alloc(), wrong_word) == (1, Answer::Syntax(2, 18)));
 }
 
-/// A text: its front, so many copies of a part, what stands behind these, and so many closing
-/// parentheses.
-fn repeated(
-    alloc: Global,
+/// Puts a text together: its front, so many copies of a part, what stands behind these, and so many
+/// closing parentheses.
+fn push_repeated(
+    text: &mut Vec<u8>,
     front: &[u8],
     part: &[u8],
     count: usize,
     middle: &[u8],
     closed: usize,
-) -> Result<Vec<u8>, OutOfMemory> {
-    let mut text = Vec::from_slice(alloc, front)?;
+) -> Result<(), AllocError> {
+    text.extend_from_slice(front)?;
     for _ in 0..count {
         text.extend_from_slice(part)?;
     }
     text.extend_from_slice(middle)?;
     for _ in 0..closed {
-        text.push(b')')?;
+        text.extend_from_slice(b")")?;
     }
-    Ok(text)
+    Ok(())
 }
 
-/// What is read of such a text: the letter, and the place.
+/// What is read of such a text.
 fn read_repeated(
     alloc: Global,
     front: &[u8],
@@ -130,10 +110,11 @@ fn read_repeated(
     count: usize,
     middle: &[u8],
     closed: usize,
-) -> (u8, usize) {
-    match repeated(alloc, front, part, count, middle, closed) {
-        Ok(text) => read(alloc, &text),
-        Err(_) => (b'm', 0),
+) -> Answer {
+    let mut text = Vec::new(alloc);
+    match push_repeated(&mut text, front, part, count, middle, closed) {
+        Ok(()) => read_at(alloc, &text, 0),
+        Err(_) => Answer::OutOfMemory,
     }
 }
 
@@ -142,22 +123,15 @@ fn statements_have_500_tokens_and_50_parentheses(rt: HostRuntime) {
     let term = b"delete e where e.a = ".as_slice();
     let condition = b"delete e where ".as_slice();
     let compared = b"e.a = 1".as_slice();
-    for (front, part, count, middle, closed, answer) in [
-        (term, b"-".as_slice(), 492, b"1".as_slice(), 0, (b'r', 514)),
-        (term, b"-".as_slice(), 493, b"1".as_slice(), 0, (b's', 514)),
-        (
-            condition,
-            b"not ".as_slice(),
-            492,
-            compared,
-            0,
-            (b'r', 1990),
-        ),
-        (term, b"(".as_slice(), 50, b"1".as_slice(), 50, (b'r', 122)),
-        (term, b"(".as_slice(), 51, b"1".as_slice(), 0, (b's', 71)),
-        (condition, b"(".as_slice(), 50, compared, 50, (b'r', 122)),
+    for (front, part, count, middle, closed, letter, place) in [
+        (term, b"-".as_slice(), 492, b"1".as_slice(), 0, b'r', 514),
+        (term, b"-".as_slice(), 493, b"1".as_slice(), 0, b's', 514),
+        (condition, b"not ".as_slice(), 492, compared, 0, b'r', 1990),
+        (term, b"(".as_slice(), 50, b"1".as_slice(), 50, b'r', 122),
+        (term, b"(".as_slice(), 51, b"1".as_slice(), 0, b's', 71),
+        (condition, b"(".as_slice(), 50, compared, 50, b'r', 122),
     ] {
         let read = read_repeated(rt.alloc(), front, part, count, middle, closed);
-        assert!(rt; read == answer);
+        assert!(rt; is_told(read, letter, place));
     }
 }

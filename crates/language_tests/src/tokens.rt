@@ -19,12 +19,21 @@ fn stand_at(spans: &[Span], places: &[(usize, usize)]) -> bool {
     rest.is_empty()
 }
 
-/// The number of tokens that are cut of a text from a place on, where they stand at these places, and
-/// what follows them.
-fn cut_at(alloc: Global, text: &[u8], from: usize, places: &[(usize, usize)]) -> (usize, Stop) {
-    match lex_front(alloc, text, from, 9, false) {
-        Ok(lexed) if stand_at(&lexed.spans, places) => (lexed.tokens.len(), lexed.stop),
-        _ => (99, Stop::More),
+/// The number of tokens that are cut of a text from a place on, at most so many, what follows them,
+/// and whether they stand at these places.
+fn cut_at(
+    alloc: Global,
+    text: &[u8],
+    (from, most, one): (usize, usize, bool),
+    places: &[(usize, usize)],
+) -> (usize, Stop, bool) {
+    match lex_front(alloc, text, from, most, one) {
+        Ok(lexed) => (
+            lexed.tokens.len(),
+            lexed.stop,
+            stand_at(&lexed.spans, places),
+        ),
+        Err(_) => (99, Stop::More, false),
     }
 }
 
@@ -32,17 +41,8 @@ fn cut_at(alloc: Global, text: &[u8], from: usize, places: &[(usize, usize)]) ->
 fn tokens_have_places(rt: HostRuntime) {
     let text = b" print /* two */ A_1,\n\"x y\" 07 <= ;";
     let places = [(1, 6), (17, 20), (20, 21), (22, 27), (28, 30), (31, 33)];
-    let cut = cut_at(rt.alloc(), text, 1, places.as_slice());
-    assert!(rt; cut == (6, Stop::Bad(34)));
-}
-
-/// The number of tokens that are cut of a text from a place on, at most so many, and what follows
-/// them.
-fn counted(alloc: Global, text: &[u8], from: usize, most: usize, one: bool) -> (usize, Stop) {
-    match lex_front(alloc, text, from, most, one) {
-        Ok(lexed) => (lexed.tokens.len(), lexed.stop),
-        Err(_) => (99, Stop::More),
-    }
+    let cut = cut_at(rt.alloc(), text, (1, 9, false), places.as_slice());
+    assert!(rt; cut == (6, Stop::Bad(34), true));
 }
 
 #[test]
@@ -54,7 +54,8 @@ fn only_the_tokens_of_one_statement_are_cut(rt: HostRuntime) {
         (0, 9, false, 7, Stop::End),
         (99, 9, false, 0, Stop::End),
     ] {
-        assert!(rt; counted(rt.alloc(), text, from, most, one) == (count, stop));
+        let (tokens, follows, _) = cut_at(rt.alloc(), text, (from, most, one), &[]);
+        assert!(rt; (tokens, follows) == (count, stop));
     }
 }
 

@@ -9,8 +9,9 @@ ghost use Rattle.quel_terms.specs.View.{Gives};
 use crate::sort_keys::sort_by;
 use crate::targets::{into_at, maybe, targets_by, where_by};
 use calculus::{Boxed, Item, List, Name, Qual, Statement};
+use memory::both;
 use quel_grammar::{Fixed, Token};
-use quel_terms::{Read, both, seen_name};
+use quel_terms::{Read, seen_name};
 use std::alloc::Global;
 
 /// What is done with a name, a target list and a qualification.

@@ -12,8 +12,9 @@ use crate::names::covered_by;
 use crate::permits::{joined, operations_from, over_at, user_at};
 use crate::targets::where_by;
 use calculus::{Boxed, List, Statement};
+use memory::both;
 use quel_grammar::{Fixed, Token};
-use quel_terms::{Halt, Read, after, both, qual_by, seen_name};
+use quel_terms::{Halt, Read, after, qual_by, seen_name};
 use std::alloc::Global;
 
 /// What is defined.

@@ -12,8 +12,9 @@ use crate::names::{covered_names, names_at};
 use crate::numbers::numbers_at;
 use crate::structures::structure_by;
 use calculus::{Boxed, Chars, List, Name, Statement};
+use memory::both;
 use quel_grammar::{Fixed, Token};
-use quel_terms::{Halt, Read, after, both, seen_name};
+use quel_terms::{Halt, Read, after, seen_name};
 use std::alloc::Global;
 
 /// What is dropped by its numbers.

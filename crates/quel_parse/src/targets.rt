@@ -8,8 +8,9 @@ ghost use Rattle.quel_grammar.specs.TermReaders.{level};
 ghost use Rattle.quel_terms.specs.View.{Gives};
 
 use calculus::{Boxed, Item, Name, Qual};
+use memory::both;
 use quel_grammar::{Fixed, Token};
-use quel_terms::{Halt, Read, after, both, found, name_at, qual_by, seen_name, term_by};
+use quel_terms::{Halt, Read, after, found, name_at, qual_by, seen_name, term_by};
 use std::alloc::Global;
 
 /// The tokens behind a reserved word that may stand there.

@@ -3,7 +3,6 @@
 
 mod called;
 mod halt;
-mod pairs;
 mod primaries;
 mod qualifications;
 mod signs;
@@ -12,7 +11,6 @@ mod taking;
 mod terms;
 
 pub use halt::{Halt, Read};
-pub use pairs::both;
 pub use qualifications::qual_by;
 pub use table::look_up;
 pub use taking::{after, found, name_at, seen_name};

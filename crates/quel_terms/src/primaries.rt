@@ -12,11 +12,11 @@ ghost use Rattle.quel_terms.specs.View.{Gives};
 
 use crate::called::{Call, call_of};
 use crate::halt::{Halt, Read};
-use crate::pairs::both;
 use crate::qualifications::{demanded, mixed_at};
 use crate::taking::{after, found, seen_name};
 use crate::terms::{arith, term_at, terms_at};
 use calculus::{AggOp, AggTerm, ArithOp, Boxed, List, Name, Qual, Term};
+use memory::both;
 use quel_grammar::{Fixed, Token};
 use std::alloc::Global;
 
