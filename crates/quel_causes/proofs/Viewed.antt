@@ -16,7 +16,7 @@ use Rattle.calculus.specs.Database.{Db, Relation, View, relation_at, view_at}
 use Rattle.calculus.specs.Catalogue.{catalogue_at}
 use Rattle.calculus.specs.IsDatabase.{IsDatabase}
 use Rattle.calculus.specs.QueryParts.{vars_of}
-use Rattle.calculus.specs.Sizes.{Measure, query_measure, range_measure, measure_within}
+use Rattle.calculus.specs.Sizes.{Measure, plain_measure, query_measure, range_measure, measure_within}
 use Rattle.calculus.specs.Stored.{Range, Kept, Viewed, range_at}
 use Rattle.am_traits.specs.Told.{query_at}
 use Rattle.quel_meaning.proofs.Keys.{same_keys, keys_same}
@@ -78,14 +78,13 @@ no_relation db is key view e = go (relation_at db key) refl
 
 -- ---- measures
 
--- where no view stands, there is one variable
-pub one_variable : (n : ℕ) (db : Db) (key : RelKey) → query_at db key ≡ None → (measure_within n db key).variables ≡ 1
+-- where no view stands, there is one variable, whatever is said of views
+one_measured : (of_view : View → Measure) (db : Db) (key : RelKey) → query_at db key ≡ None → (range_measure of_view (range_at db key)).variables ≡ 1
 unfolding range_at
-one_variable zero db key h = refl
-one_variable (suc n) db key h = go (relation_at db key) (view_at db key) h
+one_measured of_view db key h = go (relation_at db key) (view_at db key) h
   where
     measured : Option Range → ℕ
-    measured r = (range_measure (λ view. query_measure (measure_within n db) view.query) r).variables
+    measured r = (range_measure of_view r).variables
 
     kept : (c : Option Relation) → measured (option_map Kept c) ≡ 1
     kept None = refl
@@ -96,6 +95,11 @@ one_variable (suc n) db key h = go (relation_at db key) (view_at db key) h
     go (Some r) v h = refl
     go None (Some v) h = absurd (cc h)
     go None None h = kept (catalogue_at db key)
+
+-- so it is through any number of levels
+pub one_variable : (n : ℕ) (db : Db) (key : RelKey) → query_at db key ≡ None → (measure_within n db key).variables ≡ 1
+one_variable zero db key h = one_measured (λ view. plain_measure) db key h
+one_variable (suc n) db key h = one_measured (λ view. query_measure (measure_within n db) view.query) db key h
 
 record IsView (db : Db) (key : RelKey) (q : Query) : Type 0 where
   view : View
