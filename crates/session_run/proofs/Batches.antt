@@ -1,5 +1,6 @@
 -- A batch, statement by statement.
 use Rattle.std.proofs.Common.{◌≡◌, refl, sym, ap, subst, ◌∙◌, ℕ, ◌<◌, List, ◌++◌, length, Some, None, arith, append-nil}
+use Rattle.calculus.specs.Who.{Asker}
 use Rattle.calculus.specs.declared.statement.Statement.{Statement}
 use Rattle.std.specs.Prelude.{Ok, Err}
 use Rattle.quel_parse.specs.declared.next.ParseFault.{ParseFault}
@@ -90,7 +91,7 @@ goes_fault m text from kept (fault.Syntax line at) old new answers grown =
 goes_fault m text from kept fault.OutOfMemory old new answers grown = absurd grown
 
 -- a batch whose walk has ended
-pub batch_ends : (means : List ℕ → Meaning) (text u v : List ℕ) (first now last : Kept) (o p q : List ℕ) (at : ℕ) → v ≡ u
+pub batch_ends : (means : Asker → Meaning) (text : List ℕ) (u v : Asker) (first now last : Kept) (o p q : List ℕ) (at : ℕ) → v ≡ u
     → Goes (left (setting (means u)) text (Some 0) first) o (left (setting (means u)) text (Some at) now) p
     → Goes (left (setting (means v)) text (Some at) now) p (left (setting (means v)) text None last) q
     → Did (after_batch (setting (means u)) (batch_of next_at text) first) o q last
