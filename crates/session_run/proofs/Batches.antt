@@ -98,4 +98,4 @@ pub batch_ends : (means : Asker → Meaning) (text : List ℕ) (u v : Asker) (fi
 batch_ends means text u v first now last o p q at e begun done =
     goes_done (after_batch (setting (means u)) (batch_of next_at text) first) o q last
     (goes_both (left (setting (means u)) text (Some 0) first) (left (setting (means u)) text (Some at) now) (quiet last) o p q begun
-    (subst (λ (w : List ℕ). Goes (left (setting (means w)) text (Some at) now) p (left (setting (means w)) text None last) q) e done))
+    (subst (λ (w : Asker). Goes (left (setting (means w)) text (Some at) now) p (left (setting (means w)) text None last) q) e done))

@@ -112,7 +112,7 @@ none_left m asker kept partial w e = subst (λ (x : List ℕ). Appends w w x) (s
 -- ---- the same user
 
 pub same_hears : (means : Asker → Meaning) (u v : Asker) (a b : Heard) (xs : List ℕ) (w0 w1 : Option (List ℕ)) → v ≡ u → Hears (means v) a b xs w0 w1 → Hears (means u) a b xs w0 w1
-same_hears means u v a b xs w0 w1 e h = subst (λ (w : List ℕ). Hears (means w) a b xs w0 w1) e h
+same_hears means u v a b xs w0 w1 e h = subst (λ (w : Asker). Hears (means w) a b xs w0 w1) e h
 
 pub same_partly : (means : Asker → Meaning) (u v : Asker) (a : Heard) (xs : List ℕ) (w0 w1 : Option (List ℕ)) → v ≡ u → HearsPartly (means v) a xs w0 w1 → HearsPartly (means u) a xs w0 w1
-same_partly means u v a xs w0 w1 e h = subst (λ (w : List ℕ). HearsPartly (means w) a xs w0 w1) e h
+same_partly means u v a xs w0 w1 e h = subst (λ (w : Asker). HearsPartly (means w) a xs w0 w1) e h
