@@ -2,7 +2,7 @@
 use Rattle.std.specs.Prelude.{ℕ, List, [], ◌∷◌, ◌++◌, map, zip, flat_map, replicate}
 use Rattle.calculus.specs.declared.reply.Column.{Column}
 use Rattle.calculus.specs.Rows.{Row}
-use Rattle.quel_meaning.specs.Printed.{column_width, at_left, cell}
+use Rattle.quel_meaning.specs.Printed.{column_width, at_left, cell_text}
 
 -- these cells, a bar behind each
 abbrev pub cells_with_bars : List (List ℕ) → List ℕ
@@ -18,4 +18,4 @@ rule_cells columns = cells_with_bars (map (λ c. replicate (column_width c) 45) 
 
 -- the cells of a row
 abbrev pub row_cells : List Column → Row → List ℕ
-row_cells columns row = cells_with_bars (map (λ p. cell p.0 p.1) (zip columns row))
+row_cells columns row = cells_with_bars (map (λ p. cell_text p.0 p.1) (zip columns row))

@@ -1,7 +1,7 @@
 //! Values in their columns.
 
 ghost use Rattle.std.specs.Prelude.{◌≡◌, ◌++◌, OnOk};
-ghost use Rattle.quel_meaning.specs.Printed.{kind_width, column_width, cell};
+ghost use Rattle.quel_meaning.specs.Printed.{kind_width, column_width, cell_text};
 
 use crate::texts::{push_left, push_right};
 use calculus::{Column, Domain, Kind, Value};
@@ -30,7 +30,7 @@ pub fn column_width(column: &Column) -> usize
 
 /// Adds a value in its column: a number in decimal at the right, a text at the left.
 pub fn push_cell(out: &mut Vec<u8>, column: &Column, value: &Value) -> Result<(), AllocError>
-    ensures { OnOk result (out.new.items ≡ out.old.items ++ cell column.now value.now) }
+    ensures { OnOk result (out.new.items ≡ out.old.items ++ cell_text column.now value.now) }
 {
     let width = column_width(column);
     match value {

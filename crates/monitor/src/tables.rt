@@ -1,7 +1,7 @@
 //! The lines of tables.
 
 ghost use Rattle.std.specs.Prelude.{◌≡◌, ◌++◌, ◌∷◌, [], List, ℕ, map, zip, flat_map, replicate, OnOk, IfOk};
-ghost use Rattle.quel_meaning.specs.Printed.{at_left, column_width, cell, title_line, rule_bytes, head_bytes, row_line, table_bytes};
+ghost use Rattle.quel_meaning.specs.Printed.{at_left, column_width, cell_text, title_line, rule_bytes, head_bytes, row_line, table_bytes};
 ghost use Rattle.monitor.specs.Cells.{title_cells, rule_cells, row_cells};
 
 use crate::cells::{column_width, push_cell};

@@ -3,7 +3,7 @@ use Rattle.std.proofs.Common.{◌≡◌, refl, sym, ap, ◌∙◌, subst, ℕ, z
 use Rattle.calculus.specs.declared.statement.Statement.{Statement}
 use Rattle.calculus.specs.Database.{Db}
 use Rattle.quel_grammar.specs.Next.{Reading}
-use Rattle.quel_meaning.specs.Batch.{Placed, Batch, batch_of}
+use Rattle.quel_meaning.specs.Batch.{StatementAt, Batch, batch_of}
 use Rattle.quel_meaning.specs.Buffer.{buffer_after}
 use Rattle.quel_meaning.specs.Happening.{Setting, Event, Wrote, Ran, Kept, After, start, quiet, refused, behind, and_then, over}
 use Rattle.quel_meaning.specs.Lines.{lines_of}
@@ -60,7 +60,7 @@ module _ (P : State → Type 0) (Q : Db → Type 0) (m n : State → Statement �
 
   -- ---- a batch
 
-  good_statement : (kept : Kept) (placed : Placed) → P kept.state → Good (after_statement first kept placed) (after_statement second kept placed)
+  good_statement : (kept : Kept) (placed : StatementAt) → P kept.state → Good (after_statement first kept placed) (after_statement second kept placed)
   unfolding after_statement
   good_statement kept placed p =
       let later = together.keeps kept.state placed.statement p in record {

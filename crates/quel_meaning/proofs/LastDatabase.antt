@@ -7,7 +7,7 @@ use Rattle.quel_meaning.specs.State.{State}
 use Rattle.quel_meaning.specs.Lines.{lines_of}
 use Rattle.quel_meaning.specs.Monitor.{Command, Go, Print, Reset, Append, Quit, Include, Write, Unknown, Part, Piece, Order, parts_of}
 use Rattle.quel_meaning.specs.Buffer.{buffer_after}
-use Rattle.quel_meaning.specs.Batch.{Placed, Batch, batch_of}
+use Rattle.quel_meaning.specs.Batch.{StatementAt, Batch, batch_of}
 use Rattle.quel_meaning.specs.Happening.{Setting, Event, Wrote, Ran, Kept, After, start, quiet, refused, and_then, over}
 use Rattle.quel_meaning.specs.Running.{after_statement, after_refusal, after_batch, Deeper, most_included, after_include, after_file, carried_out, after_command, after_open_part, after_part, after_line, after_lines, files_within}
 use Rattle.quel_meaning.specs.Session.{session_of_lines, databases, databases_after, greatest_depth, files_of}
@@ -37,7 +37,7 @@ unfolding over last
 keeps_over step each kept [] = refl
 keeps_over step each kept (x ∷ xs) = keeps_then kept.state.db (step kept x) (λ k. over step k xs) (each kept x) (λ k. keeps_over step each k xs)
 
-keeps_statement : (setting : Setting) (kept : Kept) (placed : Placed) → Keeps kept.state.db (after_statement setting kept placed)
+keeps_statement : (setting : Setting) (kept : Kept) (placed : StatementAt) → Keeps kept.state.db (after_statement setting kept placed)
 unfolding after_statement last
 keeps_statement setting kept placed = refl
 

@@ -2,7 +2,7 @@
 use Rattle.std.proofs.Common.{◌≡◌, ap, ◌∙◌, ℕ, List}
 use Rattle.calculus.specs.declared.statement.Statement.{Statement}
 use Rattle.quel_grammar.specs.Next.{Next, Nothing, Read, Syntax, line_at}
-use Rattle.quel_meaning.specs.Batch.{Batch, MovesOn, placed_at, read_on, batch_from}
+use Rattle.quel_meaning.specs.Batch.{Batch, MovesOn, statement_at, read_on, batch_from}
 use Rattle.quel_meaning.specs.Happening.{Setting, Kept, quiet, refused, and_then, over}
 use Rattle.quel_meaning.specs.Running.{after_statement, after_refusal, after_batch}
 use Rattle.quel_meaning.proofs.LeftOpen.{then_both}
@@ -21,12 +21,12 @@ nothing_left setting text from kept moves e = next_decides setting text from kep
 
 pub statement_next : (setting : Setting) (text : List ℕ) (from : ℕ) (kept : Kept) (s : Statement) (end : ℕ) → MovesOn setting.reading text → setting.reading text from ≡ Read s end
     → after_batch setting (batch_from setting.reading text from) kept
-    ≡ and_then (after_statement setting kept (placed_at text from s)) (λ k. after_batch setting (batch_from setting.reading text end) k)
+    ≡ and_then (after_statement setting kept (statement_at text from s)) (λ k. after_batch setting (batch_from setting.reading text end) k)
 unfolding after_batch over
 statement_next setting text from kept s end moves e =
     let rest = batch_from setting.reading text end in
     next_decides setting text from kept (Read s end) moves e
-    ∙ then_both (after_statement setting kept (placed_at text from s)) (λ k. over (after_statement setting) k rest.statements) (after_refusal rest.refused)
+    ∙ then_both (after_statement setting kept (statement_at text from s)) (λ k. over (after_statement setting) k rest.statements) (after_refusal rest.refused)
 
 pub refusal_next : (setting : Setting) (text : List ℕ) (from : ℕ) (kept : Kept) (place : ℕ) → MovesOn setting.reading text → setting.reading text from ≡ Syntax place
     → after_batch setting (batch_from setting.reading text from) kept ≡ refused kept 1 (line_at text place)

@@ -3,12 +3,12 @@ use Rattle.std.proofs.Common.{◌≡◌, refl, ap, ℕ, zero, suc, ◌≤◌, Li
 use Rattle.std.specs.Prelude.{◌+◌}
 use Rattle.calculus.specs.declared.statement.Statement.{Statement}
 use Rattle.quel_grammar.specs.Next.{Next, Nothing, Read, Syntax, Reading}
-use Rattle.quel_meaning.specs.Batch.{Batch, read_before, placed_at, read_on, read_within, batch_from, MovesOn}
+use Rattle.quel_meaning.specs.Batch.{Batch, read_before, statement_at, read_on, read_within, batch_from, MovesOn}
 
 same_on : (f g : ℕ → Batch) (text : List ℕ) (from : ℕ) (next : Next) → ((s : Statement) (end : ℕ) → next ≡ Read s end → f end ≡ g end)
     → read_on f text from next ≡ read_on g text from next
 same_on f g text from Nothing same = refl
-same_on f g text from (Read s end) same = ap (read_before (placed_at text from s)) (same s end refl)
+same_on f g text from (Read s end) same = ap (read_before (statement_at text from s)) (same s end refl)
 same_on f g text from (Syntax place) same = refl
 
 -- where as many statements may be read as bytes follow, more change nothing

@@ -4,13 +4,13 @@ use Rattle.calculus.specs.declared.statement.Statement.{Statement}
 use Rattle.quel_grammar.specs.Next.{Next, Nothing, Read, Syntax, Reading, first_place, line_at}
 
 -- a statement, and the line of its first token
-pub record Placed : Type 0 where
+pub record StatementAt : Type 0 where
   pub statement : Statement
   pub line : ℕ
 
 -- the statements of a batch in order, and the line of the syntax refusal behind them, if there is one
 pub record Batch : Type 0 where
-  pub statements : List Placed
+  pub statements : List StatementAt
   pub refused : Option ℕ
 
 -- nothing is read
@@ -18,12 +18,12 @@ abbrev pub empty_batch : Batch
 empty_batch = record { statements = []; refused = None }
 
 -- a statement before what is read behind it
-abbrev pub read_before : Placed → Batch → Batch
+abbrev pub read_before : StatementAt → Batch → Batch
 read_before first batch = record { statements = first ∷ batch.statements; refused = batch.refused }
 
 -- a statement that is read from a place of a text on
-abbrev pub placed_at : List ℕ → ℕ → Statement → Placed
-placed_at text from statement = record { statement = statement; line = line_at text (first_place text from) }
+abbrev pub statement_at : List ℕ → ℕ → Statement → StatementAt
+statement_at text from statement = record { statement = statement; line = line_at text (first_place text from) }
 
 -- a batch that is refused at a place of its text
 abbrev pub refused_at : List ℕ → ℕ → Batch
@@ -32,7 +32,7 @@ refused_at text place = record { statements = []; refused = Some (line_at text p
 -- what is read of a text from a place on, where this is read next, and the rest from the end of a statement on
 abbrev pub read_on : (ℕ → Batch) → List ℕ → ℕ → Next → Batch
 read_on rest text from Nothing = empty_batch
-read_on rest text from (Read statement end) = read_before (placed_at text from statement) (rest end)
+read_on rest text from (Read statement end) = read_before (statement_at text from statement) (rest end)
 read_on rest text from (Syntax place) = refused_at text place
 
 -- what is read of a text from a place on, of at most so many statements

@@ -40,9 +40,9 @@ abbrev pub at_right : ℕ → List ℕ → List ℕ
 at_right width text = replicate (width - length text) 32 ++ text
 
 -- a value in its column: a number in decimal at the right, a text at the left
-abbrev pub cell : Column → Value → List ℕ
-cell column (Int n) = at_right (column_width column) (signed_decimal n)
-cell column (Text bytes) = at_left (column_width column) bytes
+abbrev pub cell_text : Column → Value → List ℕ
+cell_text column (Int n) = at_right (column_width column) (signed_decimal n)
+cell_text column (Text bytes) = at_left (column_width column) bytes
 
 -- the line of these cells: a bar before the first, and one behind each
 abbrev pub barred : List (List ℕ) → List ℕ
@@ -62,7 +62,7 @@ head_bytes columns = title_line columns ++ rule_bytes columns
 
 -- the line of a row, each value in its column
 unfoldable pub row_line : List Column → Row → List ℕ
-row_line columns row = barred (map (λ p. cell p.0 p.1) (zip columns row))
+row_line columns row = barred (map (λ p. cell_text p.0 p.1) (zip columns row))
 
 -- the table: its head, the lines of its rows in order, and the rule line again
 unfoldable pub table_bytes : Table → List ℕ

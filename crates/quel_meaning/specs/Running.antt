@@ -8,7 +8,7 @@ use Rattle.quel_meaning.specs.Printed.{reply_bytes}
 use Rattle.quel_meaning.specs.Lines.{lines_of}
 use Rattle.quel_meaning.specs.Monitor.{Command, Go, Print, Reset, Append, Quit, Include, Write, Unknown, Part, Piece, Order, parts_of}
 use Rattle.quel_meaning.specs.Buffer.{with_piece, buffer_after}
-use Rattle.quel_meaning.specs.Batch.{Placed, Batch, batch_of}
+use Rattle.quel_meaning.specs.Batch.{StatementAt, Batch, batch_of}
 use Rattle.quel_meaning.specs.Happening.{Setting, Ran, Kept, After, quiet, wrote, refused, and_then, over}
 
 -- ---- a batch
@@ -28,7 +28,7 @@ after_outcome kept line outcome = record {
 }
 
 -- a statement runs
-unfoldable pub after_statement : Setting → Kept → Placed → After
+unfoldable pub after_statement : Setting → Kept → StatementAt → After
 after_statement setting kept placed = after_outcome kept placed.line (setting.meaning kept.state placed.statement)
 
 -- the rest of a batch is refused at a line, or nothing is

@@ -8,7 +8,7 @@ ghost use Rattle.quel_grammar.specs.Next.{Nothing, Read, Syntax, line_at};
 ghost use Rattle.quel_meaning.specs.Lines.{lines_of};
 ghost use Rattle.quel_meaning.specs.Monitor.{Plain, has_no_command, quoting_behind, is_command_letter, word_length, command_of, names_file};
 ghost use Rattle.quel_meaning.specs.Buffer.{with_piece};
-ghost use Rattle.quel_meaning.specs.Batch.{MovesOn, placed_at, batch_from};
+ghost use Rattle.quel_meaning.specs.Batch.{MovesOn, statement_at, batch_from};
 ghost use Rattle.quel_meaning.specs.Happening.{Setting, Kept, quiet, refused, and_then};
 ghost use Rattle.quel_meaning.specs.Running.{most_included, after_include, after_command, after_lines, after_statement, after_batch};
 ghost use Rattle.quel_meaning.specs.Session.{files_of};
@@ -56,7 +56,7 @@ pub fn a_batch_is_worked_off_statement_by_statement()
         → after_batch setting (batch_from setting.reading text from) kept ≡ quiet kept }
     ensures statement { (setting : Setting) (text : List ℕ) (from : ℕ) (kept : Kept) (s : Statement) (end : ℕ) → MovesOn setting.reading text → setting.reading text from ≡ Read s end
         → after_batch setting (batch_from setting.reading text from) kept
-        ≡ and_then (after_statement setting kept (placed_at text from s)) (λ k. after_batch setting (batch_from setting.reading text end) k) }
+        ≡ and_then (after_statement setting kept (statement_at text from s)) (λ k. after_batch setting (batch_from setting.reading text end) k) }
     ensures syntax { (setting : Setting) (text : List ℕ) (from : ℕ) (kept : Kept) (place : ℕ) → MovesOn setting.reading text → setting.reading text from ≡ Syntax place
         → after_batch setting (batch_from setting.reading text from) kept ≡ refused kept 1 (line_at text place) }
 {}

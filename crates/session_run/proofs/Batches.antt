@@ -11,7 +11,7 @@ use Rattle.quel_grammar.specs.Next.{Next, Nothing, Read, Syntax, IsNext, line_at
 use Rattle.quel_grammar.specs.NextReader.{next_at}
 use Rattle.quel_grammar.proofs.Answered.{reads}
 use Rattle.quel_grammar.proofs.Further.{further}
-use Rattle.quel_meaning.specs.Batch.{MovesOn, placed_at, batch_from, batch_of}
+use Rattle.quel_meaning.specs.Batch.{MovesOn, statement_at, batch_from, batch_of}
 use Rattle.quel_meaning.specs.Happening.{Kept, After, quiet, refused}
 use Rattle.quel_meaning.specs.Running.{after_statement, after_outcome, after_batch, at_line}
 use Rattle.quel_meaning.specs.Printed.{reply_bytes, refusal_bytes}
@@ -37,12 +37,12 @@ goes_nothing m text from kept old e =
 
 -- a statement ran
 pub goes_statement : (m : Meaning) (text : List ℕ) (from : ℕ) (kept : Kept) (s : Statement) (end : ℕ) (old new : List ℕ) (now : Kept) → next_at text from ≡ Read s end
-    → Did (after_statement (setting m) kept (placed_at text from s)) old new now
+    → Did (after_statement (setting m) kept (statement_at text from s)) old new now
     → Goes (left (setting m) text (Some from) kept) old (left (setting m) text (Some end) now) new
 goes_statement m text from kept s end old new now e did =
     let same = statement_next (setting m) text from kept s end (moves text) e in
     subst (λ (a : After). Goes a old (left (setting m) text (Some end) now) new) (sym same)
-    (goes_first (after_statement (setting m) kept (placed_at text from s)) (λ k. after_batch (setting m) (batch_from next_at text end) k) old new now did)
+    (goes_first (after_statement (setting m) kept (statement_at text from s)) (λ k. after_batch (setting m) (batch_from next_at text end) k) old new now did)
 
 -- the rest is refused
 pub goes_refusal : (m : Meaning) (text : List ℕ) (from : ℕ) (kept : Kept) (place : ℕ) (old new : List ℕ) → next_at text from ≡ Syntax place
