@@ -1,10 +1,11 @@
--- The constants in a tree: whether each is one of its type, in aggregates too.
+-- The constants in a tree, and the names of its targets: whether each is one of its type, in aggregates too.
 use Rattle.std.specs.Prelude.{ℕ, Bool, true, ◌&&◌, List}
 use Rattle.calculus.specs.declared.query.AggSource.{AggSource, Named}
 use Rattle.calculus.specs.declared.query.QTerm.{QTerm, Int, Chars, Attr, Agg', Row_of-QTerm, end_of-QTerm, more_of-QTerm, Row_of-QAgg, end_of-QAgg, more_of-QAgg}
 use Rattle.calculus.specs.declared.query.QQual.{QQual, True, Cmp, Like}
 use Rattle.calculus.specs.declared.query.Query.{Query, Query', Row_of-Target, end_of-Target, more_of-Target}
 use Rattle.calculus.specs.Chars.{is_chars}
+use Rattle.calculus.specs.Name.{is_name}
 use Rattle.calculus.specs.Number.{has_64_bits}
 use Rattle.calculus.specs.Tree.{neg, abs, operation, concat, both, either, negated, rows_of_query}
 
@@ -45,10 +46,10 @@ abbrev mutual
   qual_is_spelled (either p q) = qual_is_spelled p && qual_is_spelled q
   qual_is_spelled (negated p) = qual_is_spelled p
 
-  -- in several targets
+  -- in several targets, whose names are names
   pub targets_are_spelled : {n : _} → Row_of-Target n → Bool
   targets_are_spelled end_of-Target = true
-  targets_are_spelled (more_of-Target name kind term rest) = term_is_spelled term && targets_are_spelled rest
+  targets_are_spelled (more_of-Target name kind term rest) = is_name name && (term_is_spelled term && targets_are_spelled rest)
 
   -- in a query
   pub query_is_spelled : Query → Bool

@@ -10,8 +10,7 @@ use Rattle.calculus.specs.declared.request.CopyForm.{CopyForm}
 use Rattle.calculus.specs.declared.request.CopyForm.TheVariants.{Bin, Fixed, Until}
 use Rattle.calculus.specs.Lists.{has_number}
 use Rattle.calculus.specs.Replacement.{is_of_kind}
-use Rattle.quel_meaning.specs.CopiedBack.{is_copy_form}
-use Rattle.quel_meaning.specs.Columns.{cut_behind, cut_at, piece_of, piece_value, fitting, column_value}
+use Rattle.quel_meaning.specs.Columns.{is_copy_form, cut_behind, cut_at, piece_of, piece_value, fitting, column_value}
 use Rattle.copy_laws.specs.Records.{IsWrittenAs, IsUnended, IsValueOf}
 
 -- where two pairs are the same, so are their parts

@@ -7,7 +7,7 @@ use Rattle.calculus.specs.declared.value.Value.{Value}
 use Rattle.calculus.specs.declared.request.CopyCol.{CopyCol}
 use Rattle.calculus.specs.Rows.{Row}
 use Rattle.calculus.specs.Lists.{is_any}
-use Rattle.quel_meaning.specs.CopiedBack.{is_copy_form}
+use Rattle.quel_meaning.specs.Columns.{is_copy_form}
 use Rattle.quel_meaning.specs.Copying.{numbered_from, record_values, record_row, records, rows_in_file}
 use Rattle.copy_laws.specs.Records.{IsRecord, IsEndedRecord, IsFileOf, BeginsWithNone, row_before}
 use Rattle.copy_laws.proofs.RecordsRead.{record_read, ended_read, IsReadOf, record_taken, record_some}

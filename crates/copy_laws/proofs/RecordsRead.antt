@@ -6,8 +6,7 @@ use Rattle.calculus.specs.declared.value.Kind.{Kind}
 use Rattle.calculus.specs.declared.value.Value.{Value}
 use Rattle.calculus.specs.declared.request.CopyCol.{CopyCol}
 use Rattle.calculus.specs.Lists.{is_any}
-use Rattle.quel_meaning.specs.CopiedBack.{is_copy_form}
-use Rattle.quel_meaning.specs.Columns.{column_value}
+use Rattle.quel_meaning.specs.Columns.{is_copy_form, column_value}
 use Rattle.quel_meaning.specs.Copying.{record_values}
 use Rattle.copy_laws.specs.Records.{IsWrittenAs, IsValueOf, IsRecord, IsEndedRecord}
 use Rattle.copy_laws.proofs.FieldsRead.{the_pair, both, field_read, unended_read, IsTaken, field_taken, field_some}

@@ -9,7 +9,7 @@ ghost use Rattle.calculus.specs.declared.value.Value.{Value};
 ghost use Rattle.calculus.specs.declared.request.CopyCol.{CopyCol};
 ghost use Rattle.calculus.specs.Rows.{Row};
 ghost use Rattle.calculus.specs.Lists.{is_any};
-ghost use Rattle.quel_meaning.specs.CopiedBack.{is_copy_form};
+ghost use Rattle.quel_meaning.specs.Columns.{is_copy_form};
 ghost use Rattle.quel_meaning.specs.Copying.{record_row, rows_in_file};
 ghost use Rattle.copy_laws.specs.Records.{IsRecord, IsEndedRecord, IsFileOf, BeginsWithNone, row_before};
 

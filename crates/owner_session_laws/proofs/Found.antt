@@ -8,7 +8,7 @@ use Rattle.calculus.specs.Database.{Db}
 use Rattle.calculus.specs.Finding.{found}
 use Rattle.calculus.specs.Keys.{key_of}
 use Rattle.calculus.specs.Stored.{Range, Kept, Viewed, range_at, range_info, info_at}
-use Rattle.quel_meaning.specs.FitQueries.{is_named}
+use Rattle.quel_meaning.specs.FitQueries.{can_be_ranged_over}
 use Rattle.quel_meaning.specs.Scope.{Scope, named, key_found}
 use Rattle.quel_meaning.specs.WrittenTree.{key_over}
 use Rattle.quel_meaning.proofs.Found.{IsRanged, IsNamed, ranged_is}
@@ -41,7 +41,7 @@ module _ (db : Db) (user : List ℕ) (own : IsOwn db user) where
   pub info_own : (key : RelKey) (info : RelInfo) → info_at db key ≡ Some info → Mine user info.key
   info_own key info h = subst (Mine user) (sym (info_key_is db key info h)) (there_own key info h)
 
-  pub is_named_own : (key : RelKey) → is_named db key ≡ true → Mine user key
+  pub is_named_own : (key : RelKey) → can_be_ranged_over db key ≡ true → Mine user key
   is_named_own key h = go (info_at db key) refl h
     where
       go : (o : Option RelInfo) → info_at db key ≡ o → is_some o ≡ true → Mine user key

@@ -15,13 +15,13 @@ use Rattle.calculus.specs.Database.{Db, Relation, View, relation_at, view_at}
 use Rattle.calculus.specs.Keys.{same_key}
 use Rattle.calculus.specs.Stored.{Kept, Viewed, range_at, range_info, info_at}
 use Rattle.calculus.specs.QueryParts.{vars_of, query_aggregates}
-use Rattle.quel_meaning.specs.FitQueries.{keeps_rows, is_kept, kept_alone, is_named, kept_or_viewed, source_fits, sources_fit, reads_fit, asked_fits}
+use Rattle.quel_meaning.specs.FitQueries.{keeps_rows, is_kept, kept_alone, can_be_ranged_over, kept_or_viewed, source_fits, sources_fit, reads_fit, asked_fits}
 use Rattle.quel_meaning.specs.Fit.{update_fits}
 use Rattle.quel_meaning.proofs.Each.{each_to, passed, each_passes, left, right, and}
 
 -- ---- what is named keeps rows
 
-named_kept : (db : Db) → db.views ≡ [] → (key : RelKey) → is_named db key ≡ true → is_kept db key ≡ true
+named_kept : (db : Db) → db.views ≡ [] → (key : RelKey) → can_be_ranged_over db key ≡ true → is_kept db key ≡ true
 unfolding info_at range_at
 named_kept db none key h = go (relation_at db key) (view_at db key) (catalogue_at db key) (ap (find (λ v. same_key v.info.key key)) none) h
   where
@@ -47,8 +47,8 @@ module _ (db : Db) (none : db.views ≡ []) where
   reads_kept : (q : Query) → reads_fit (kept_or_viewed db) db q ≡ true → reads_fit (kept_alone db) db q ≡ true
   unfolding reads_fit
   reads_kept q h =
-      let rest = right (list_all (is_named db) (vars_of q)) _ h in
-      and _ _ (all_kept (is_named db) (is_kept db) (named_kept db none) (vars_of q) (left _ _ h))
+      let rest = right (list_all (can_be_ranged_over db) (vars_of q)) _ h in
+      and _ _ (all_kept (can_be_ranged_over db) (is_kept db) (named_kept db none) (vars_of q) (left _ _ h))
       (and _ _
       (all_kept (λ (g : QAgg). source_fits (kept_or_viewed db) db g.source) (λ (g : QAgg). source_fits (kept_alone db) db g.source) (λ (g : QAgg) k. source_kept g.source k) (query_aggregates q) (left _ _ rest))
       (right (sources_fit (kept_or_viewed db) db q) _ rest))

@@ -33,7 +33,7 @@ use Rattle.calculus.specs.Structures.{is_structure}
 use Rattle.calculus.specs.TreeLevels.{query_levels}
 use Rattle.quel_meaning.specs.Copying.{copied_from}
 use Rattle.quel_meaning.specs.Fit.{is_new, is_entry, columns_fit, view_fits, row_qual_fits, listed_attrs_fit, utility_fits, suits, fits}
-use Rattle.quel_meaning.specs.FitQueries.{Allowed, is_named, lists_few_vars}
+use Rattle.quel_meaning.specs.FitQueries.{Allowed, can_be_ranged_over, lists_few_vars}
 use Rattle.quel_meaning.specs.Passing.{is_full, is_taken, is_too_high, is_too_large}
 use Rattle.quel_meaning.specs.Planned.{planned, plan_causes, target_attr}
 use Rattle.quel_meaning.specs.Shelf.{Shelf}
@@ -55,7 +55,7 @@ use Rattle.plan_laws.proofs.ViewMade.{view_planned}
 -- ---- what is there
 
 -- what is named is something to range over
-pub named_is_ranged : (db : Db) (key : RelKey) → IsTrue (is_named db key) → IsTrue (is_ranged db key)
+pub named_is_ranged : (db : Db) (key : RelKey) → IsTrue (can_be_ranged_over db key) → IsTrue (is_ranged db key)
 unfolding info_at
 named_is_ranged db key t = go (range_at db key) t
   where
@@ -67,7 +67,7 @@ named_is_ranged db key t = go (range_at db key) t
 entry_stands : (db : Db) (key : RelKey) → IsTrue (is_entry db key) → IsTrue (is_there db key || is_catalogue db key)
 entry_stands db key t = go (is_there db key) refl (is_catalogue db key) refl t
   where
-    go : (a : Bool) → is_there db key ≡ a → (b : Bool) → is_catalogue db key ≡ b → IsTrue (a || is_named db key) → IsTrue (a || b)
+    go : (a : Bool) → is_there db key ≡ a → (b : Bool) → is_catalogue db key ≡ b → IsTrue (a || can_be_ranged_over db key) → IsTrue (a || b)
     go true e b f t = refl
     go false e true f t = refl
     go false e false f t =
@@ -117,18 +117,18 @@ fit_relation db rel attrs spelled fits =
     let free = new_is_free db rel spelled new.0 in
     record { named = free.named; unused = free.unused; attributes = stand.0; domains = stand.1; room = free.room }
 
-pub fit_structure : (db : Db) (rel : RelKey) (to : Spec) (keys : List ℕ) → IsTrue (is_named db rel && (is_structure to && keys_stand (attrs_at db rel) keys)) → IsFitStructure db rel to keys
+pub fit_structure : (db : Db) (rel : RelKey) (to : Spec) (keys : List ℕ) → IsTrue (can_be_ranged_over db rel && (is_structure to && keys_stand (attrs_at db rel) keys)) → IsFitStructure db rel to keys
 fit_structure db rel to keys fits =
-    let named = both (is_named db rel) (is_structure to && keys_stand (attrs_at db rel) keys) fits in
+    let named = both (can_be_ranged_over db rel) (is_structure to && keys_stand (attrs_at db rel) keys) fits in
     let stands = both (is_structure to) (keys_stand (attrs_at db rel) keys) named.1 in
     record { there = named_is_ranged db rel named.0; structure = stands.0; places = stands.1 }
 
 -- the name of an index is one of the user's, who owns the relation where nothing refuses it
 pub fit_index : (db : Db) (user : List ℕ) (base : RelKey) (name keys : List ℕ) (made : DbChange) → IsDatabase db → IsTrue (is_name name)
-    → IsTrue (is_named db base && (is_new db user name && (is_any keys && keys_stand (attrs_at db base) keys))) → planned db user (utility.Index base name keys) ≡ Ok made → IsFitIndex db base name keys
+    → IsTrue (can_be_ranged_over db base && (is_new db user name && (is_any keys && keys_stand (attrs_at db base) keys))) → planned db user (utility.Index base name keys) ≡ Ok made → IsFitIndex db base name keys
 unfolding plan_causes
 fit_index db user base name keys made is spelled fits e =
-    let named = both (is_named db base) (is_new db user name && (is_any keys && keys_stand (attrs_at db base) keys)) fits in
+    let named = both (can_be_ranged_over db base) (is_new db user name && (is_any keys && keys_stand (attrs_at db base) keys)) fits in
     let new = both (is_new db user name) (is_any keys && keys_stand (attrs_at db base) keys) named.1 in
     let stands = both (is_any keys) (keys_stand (attrs_at db base) keys) new.1 in
     let there = named_is_ranged db base named.0 in
@@ -175,14 +175,14 @@ fit_permit db rel permit spelled fits =
     let user = both (user_is_named permit.user) (are_rights permit.ops && qual_is_spelled permit.qual) spelled in
     let rights = both (are_rights permit.ops) (qual_is_spelled permit.qual) user.1 in
     let parts = both (row_qual_fits db rel permit.qual) (listed_attrs_fit db rel permit) fits in
-    let named = both (is_named db rel) (row_qual_stands db rel permit.qual && row_qual_is_small permit.qual) parts.0 in
+    let named = both (can_be_ranged_over db rel) (row_qual_stands db rel permit.qual && row_qual_is_small permit.qual) parts.0 in
     let qual = both (row_qual_stands db rel permit.qual) (row_qual_is_small permit.qual) named.1 in
     let attrs = both (permit_attrs_stand db rel permit.attrs) (nat_le (length permit.attrs) most_listed_attributes) parts.1 in
     record { there = named_is_ranged db rel named.0; user = user.0; attrs = attrs.0; lists = each _ _ attrs.1 rights.0; qual = qual.0; storable = each _ _ qual.1 rights.1 }
 
 pub fit_rule : (db : Db) (rel : RelKey) (rule : Rule) → IsTrue (qual_is_spelled rule.qual) → IsTrue (row_qual_fits db rel rule.qual) → IsFitRule db rel rule
 fit_rule db rel rule spelled fits =
-    let named = both (is_named db rel) (row_qual_stands db rel rule.qual && row_qual_is_small rule.qual) fits in
+    let named = both (can_be_ranged_over db rel) (row_qual_stands db rel rule.qual && row_qual_is_small rule.qual) fits in
     let qual = both (row_qual_stands db rel rule.qual) (row_qual_is_small rule.qual) named.1 in
     record { there = named_is_ranged db rel named.0; qual = qual.0; storable = each _ _ qual.1 spelled }
 
@@ -220,4 +220,4 @@ pub fitting_copy_lawful : (may : Allowed) (db : Db) (shelf : Shelf) (user : List
 unfolding utility_fits
 fitting_copy_lawful may db shelf user rel columns constant change is fit e =
     let parts = utility_parts may db user (utility.Copy rel columns true constant) fit in
-    copy_lawful db shelf user rel columns constant change is (named_is_ranged db rel (both (is_named db rel) (columns_fit db rel columns) parts.1).0) e
+    copy_lawful db shelf user rel columns constant change is (named_is_ranged db rel (both (can_be_ranged_over db rel) (columns_fit db rel columns) parts.1).0) e

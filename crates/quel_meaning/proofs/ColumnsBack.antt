@@ -18,8 +18,7 @@ use Rattle.calculus.specs.Value.{fits, number_fits}
 use Rattle.calculus.specs.Kinds.{is_text_kind}
 use Rattle.calculus.specs.Lists.{has_number}
 use Rattle.calculus.specs.IsDatabase.{value_fits}
-use Rattle.quel_meaning.specs.CopiedBack.{is_copy_form}
-use Rattle.quel_meaning.specs.Columns.{number_bytes, number_of_bytes, has_bytes, cut_behind, cut_at, piece_of, printed_value, piece_value, fitting, column_value, value_text, filled, column_bytes}
+use Rattle.quel_meaning.specs.Columns.{is_copy_form, number_bytes, number_of_bytes, has_bytes, cut_behind, cut_at, piece_of, printed_value, piece_value, fitting, column_value, value_text, filled, column_bytes}
 use Rattle.quel_meaning.proofs.Fields.{both, cut_behind_front, cut_at_front, Is64, number_printed, bytes_1, bytes_2, bytes_4, append-nil, text_printed}
 
 -- ---- one value

@@ -23,6 +23,7 @@ use Rattle.calculus.specs.Change.{permit_numbers, rule_numbers}
 use Rattle.calculus.specs.QueryParts.{vars_of}
 use Rattle.calculus.specs.Replacement.{first_cause}
 use Rattle.calculus.specs.Stored.{attrs_in, attrs_at, kinds_at}
+use Rattle.quel_meaning.specs.Columns.{is_copy_form}
 use Rattle.quel_meaning.specs.Planned.{is_past_limit}
 use Rattle.quel_meaning.specs.Scope.{Scope, named, ranged, key_found, place_found}
 use Rattle.quel_meaning.specs.Naming.{AttrIn, AttrOf, mentions, no_refusal, name_refusal}
@@ -62,6 +63,12 @@ no_binary_text : (s : Scope) (info : Option RelInfo) (columns : List (List ℕ �
 no_binary_text s info [] h = refl
 no_binary_text s info (c ∷ columns) h = and _ _ (not_so _ (not_left _ _ h)) (no_binary_text s info columns (not_right _ _ h))
 
+-- the forms of the columns are those that are written
+forms_stand : (o : Option RelInfo) (columns : List (List ℕ × CopyForm)) → list_all (λ (c : List ℕ × CopyForm). is_copy_form c.1) columns ≡ true
+    → list_all (λ (c : CopyCol). is_copy_form c.form) (map (copy_col o) columns) ≡ true
+forms_stand o [] h = refl
+forms_stand o (c ∷ columns) h = and _ _ (left (is_copy_form c.1) _ h) (forms_stand o columns (right (is_copy_form c.1) _ h))
+
 pub copy_fits : (s : Scope) (rel : List ℕ) (columns : List (List ℕ × CopyForm)) (from : Bool) (file : List ℕ) → is_written (statement.Copy rel columns from file) ≡ true
     → name_refusal s (statement.Copy rel columns from file) ≡ None → first_cause (causes s (statement.Copy rel columns from file)) ≡ None
     → suits (kept_or_viewed s.db) s.db s.user (tree_of s (statement.Copy rel columns from file)) ≡ true
@@ -73,6 +80,7 @@ copy_fits s rel columns from file w h k =
     let there = attrs_there s rel r (map (λ (c : List ℕ × CopyForm). c.0) columns) (in_map _ (AttrIn rel) _ (in_map _ (λ (c : List ℕ × CopyForm). c.0) columns (of_map _ (λ (c : List ℕ × CopyForm). AttrIn rel c.0) columns found.1))) in
     and _ _ (named_is s rel r)
     (and _ _ (some_column (named s rel) columns (left _ _ w))
+    (and _ _ (forms_stand (named s rel) columns (left _ _ (right _ _ w)))
     (and _ _
     (subst (λ o. list_all (λ (c : CopyCol). nat_lt c.attr (length (attrs_at s.db (key_found o)))) (map (copy_col o) columns) ≡ true) (sym r.is)
     (subst (λ attrs. list_all (λ (c : CopyCol). nat_lt c.attr (length attrs)) (map (copy_col (Some r.info)) columns) ≡ true) (sym (its_attrs s rel r))
@@ -80,7 +88,7 @@ copy_fits s rel columns from file w h k =
     (and _ _
     (subst (λ o. differ_by nat_eq (map (λ (c : CopyCol). c.attr) (map (copy_col o) columns)) ≡ true) (sym r.is)
     (subst (λ ps. differ_by nat_eq ps ≡ true) (sym (columns_are_places r.info columns)) (places_differ r.info _ there (not_not _ none.0))))
-    (no_binary_text s (named s rel) columns none.1.0))))
+    (no_binary_text s (named s rel) columns none.1.0)))))
 
 -- ---- permits and rules
 

@@ -35,7 +35,7 @@ use Rattle.quel_meaning.specs.Passing.{has_too_many, is_full, is_too_large}
 use Rattle.quel_meaning.specs.StatementUpdate.{into_of}
 use Rattle.quel_meaning.specs.Causes.{into_causes, view_causes, causes}
 use Rattle.quel_meaning.specs.Resolved.{tree_of}
-use Rattle.quel_meaning.specs.FitQueries.{kept_or_viewed, is_named}
+use Rattle.quel_meaning.specs.FitQueries.{kept_or_viewed, can_be_ranged_over}
 use Rattle.quel_meaning.specs.Fit.{view_fits, update_fits, utility_fits, suits}
 use Rattle.quel_meaning.specs.IsWritten.{items_are_written, is_written}
 use Rattle.quel_meaning.proofs.Each.{Each, in_map, each_to, passed, each_passes, left, right, and, not_left, not_right, not_not, not_so}
@@ -110,7 +110,7 @@ pub into_fits : (s : Scope) → IsDatabase s.db → (name : List ℕ) (items : L
 unfolding causes tree_of suits update_fits aggregates_stand mentions into_of assignments_fit kinds_fit is_written
 into_fits s is name items qual sort w h k =
     and _ _ (reads s stmt h (not_not _ none.0) few (narrow_targets q (λ t. (made_attr t).kind) none.1.1.1.1.1.0))
-    (and _ _ (fitting_kinds s.db q (not_not _ none.1.1.1.0))
+    (and _ _ (fitting_kinds s.db q (each_to _ _ (λ (t : Target) g. g.1) (targets_of q) good) (not_not _ none.1.1.1.0))
     (and _ _ (results_fit (targets_of q))
     (and _ _ (update_expanded_few s.db (into_of s name q) few)
     (and _ _ (places_counted (targets_of q))
@@ -144,7 +144,7 @@ into_fits s is name items qual sort w h k =
 
 -- ---- a view
 
-range_there : (db : Db) (key : RelKey) → is_named db key ≡ true → is_some (range_at db key) ≡ true
+range_there : (db : Db) (key : RelKey) → can_be_ranged_over db key ≡ true → is_some (range_at db key) ≡ true
 unfolding info_at
 range_there db key h = go (range_at db key) h
   where
@@ -191,7 +191,7 @@ pub view_stmt_fits : (s : Scope) → IsDatabase s.db → (name : List ℕ) (item
 unfolding causes tree_of suits utility_fits view_fits aggregates_stand mentions is_written
 view_stmt_fits s is name items qual w h k =
     and _ _ (and _ _ (not_so _ none.1.1.1.1.1.0) (not_so _ (not_left _ _ room)))
-    (and _ _ (passed (λ key. is_some (range_at s.db key)) _ (each_to _ _ (λ key e. range_there s.db key e) (vars_of q) (each_passes (is_named s.db) (vars_of q) (vars_named s stmt h))))
+    (and _ _ (passed (λ key. is_some (range_at s.db key)) _ (each_to _ _ (λ key e. range_there s.db key e) (vars_of q) (each_passes (can_be_ranged_over s.db) (vars_of q) (vars_named s stmt h))))
     (and _ _ (query_alone s.db q (no_aggregates s stmt (not_not _ none.0)) (not_not _ none.1.1.1.0))
     (and _ _ attributes
     (and _ _ (listed_few s.db q few) (and _ _ (variables_few s.db q few) (and _ _ (expanded_few s.db q few) (not_so _ (not_right (is_full s.db) _ room))))))))

@@ -14,9 +14,9 @@ use Rattle.quel_meaning.specs.Causes.{causes}
 use Rattle.quel_meaning.specs.Resolved.{tree_of, resolved}
 use Rattle.quel_meaning.specs.FitQueries.{kept_or_viewed}
 use Rattle.quel_meaning.specs.Fit.{suits, fits, is_fit_with_views}
-use Rattle.quel_meaning.specs.IsWritten.{is_written}
+use Rattle.quel_meaning.specs.IsWritten.{items_are_written, is_written}
 use Rattle.quel_meaning.proofs.Accepted.{scope, accepted}
-use Rattle.quel_meaning.proofs.Each.{and}
+use Rattle.quel_meaning.proofs.Each.{left, and}
 use Rattle.quel_meaning.proofs.FitAnswers.{retrieve_fits}
 use Rattle.quel_meaning.proofs.FitKept.{copy_fits, permit_fits, rule_fits, create_fits}
 use Rattle.quel_meaning.proofs.FitMade.{into_fits, view_stmt_fits}
@@ -27,12 +27,12 @@ use Rattle.quel_meaning.proofs.SpelledResolved.{tree_spelled}
 
 tree_suits : (s : Scope) → IsDatabase s.db → (stmt : Statement) → is_written stmt ≡ true → name_refusal s stmt ≡ None → first_cause (causes s stmt) ≡ None
     → suits (kept_or_viewed s.db) s.db s.user (tree_of s stmt) ≡ true
-unfolding tree_of suits
+unfolding tree_of suits is_written
 tree_suits s is (statement.Range var rel) w h k = refl
 tree_suits s is (statement.Retrieve None items qual sort) w h k = retrieve_fits s items qual sort h k
 tree_suits s is (statement.Retrieve (Some name) items qual sort) w h k = into_fits s is name items qual sort w h k
-tree_suits s is (statement.Append rel items qual) w h k = append_fits s is rel items qual h k
-tree_suits s is (statement.Replace var items qual) w h k = replace_fits s is var items qual h k
+tree_suits s is (statement.Append rel items qual) w h k = append_fits s is rel items qual (left (items_are_written items) _ w) h k
+tree_suits s is (statement.Replace var items qual) w h k = replace_fits s is var items qual (left (items_are_written items) _ w) h k
 tree_suits s is (statement.Delete var qual) w h k = delete_fits s is var qual h k
 tree_suits s is (statement.Create rel attrs) w h k = create_fits s rel attrs w k
 tree_suits s is (statement.Destroy rels) w h k = destroy_fits s rels k

@@ -38,7 +38,7 @@ use Rattle.quel_meaning.specs.Naming.{Relation as RelationNamed, mentions, no_re
 use Rattle.quel_meaning.specs.KindsInQueries.{kind_in_query, kinds_fit_in_query, query_fits}
 use Rattle.quel_meaning.specs.WrittenQuery.{attr_targets}
 use Rattle.quel_meaning.specs.Resolved.{unsorted, whole, is_name_at, help_on_all, help_on, tree_of}
-use Rattle.quel_meaning.specs.FitQueries.{is_named, kept_or_viewed, source_fits, slots_count_from, has_few_targets, reads_fit, asked_fits}
+use Rattle.quel_meaning.specs.FitQueries.{can_be_ranged_over, kept_or_viewed, source_fits, slots_count_from, has_few_targets, reads_fit, asked_fits}
 use Rattle.quel_meaning.specs.Fit.{suits}
 use Rattle.quel_meaning.proofs.DatabaseFacts.{found_passes, info_stands, stood}
 use Rattle.quel_meaning.proofs.Each.{Each, front_of, back_of, of_map, in_map, each_to, passed, each_passes, right, and}
@@ -50,7 +50,7 @@ use Rattle.quel_meaning.proofs.Slots.{in_targets, none_in_attrs}
 
 -- ---- a query over one variable without aggregates
 
-pub shown : (db : Db) → IsDatabase db → (key : RelKey) (ts : List Target) (qual : QQual) → is_named db key ≡ true → query_aggregates (query (key ∷ []) ts qual) ≡ []
+pub shown : (db : Db) → IsDatabase db → (key : RelKey) (ts : List Target) (qual : QQual) → can_be_ranged_over db key ≡ true → query_aggregates (query (key ∷ []) ts qual) ≡ []
     → has_few_targets (query (key ∷ []) ts qual) ≡ true → query_fits db (query (key ∷ []) ts qual) ≡ true → asked_fits (kept_or_viewed db) db (unsorted (query (key ∷ []) ts qual)) ≡ true
 unfolding asked_fits reads_fit expanded_variables
 shown db is key ts qual there none few fit =

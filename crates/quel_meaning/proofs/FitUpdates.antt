@@ -17,12 +17,13 @@ use Rattle.calculus.specs.declared.statement.Statement.{Statement}
 use Rattle.calculus.specs.declared.statement.Statement.TheVariants as statement
 use Rattle.calculus.specs.Catalogue.{is_catalogue}
 use Rattle.calculus.specs.Database.{Db, view_at, is_relation}
-use Rattle.calculus.specs.IsDatabase.{IsDatabase, has_kind, same_kind, var_kinds}
+use Rattle.calculus.specs.IsDatabase.{IsDatabase, is_kind, has_kind, same_kind, var_kinds}
 use Rattle.calculus.specs.Kinds.{comparable, kinds_fit}
 use Rattle.calculus.specs.Lists.{differ_by}
 use Rattle.calculus.specs.QueryParts.{vars_of, targets_of}
 use Rattle.calculus.specs.Replacement.{first_cause}
 use Rattle.calculus.specs.Stored.{info_at, attrs_in, attrs_at}
+use Rattle.quel_meaning.specs.IsWritten.{items_are_written}
 use Rattle.quel_meaning.specs.Scope.{Scope, ranged, key_found, place_found}
 use Rattle.quel_meaning.specs.Naming.{AttrIn, AttrOf, mentions, no_refusal, name_refusal}
 use Rattle.quel_meaning.specs.WrittenParts.{vars_in}
@@ -38,6 +39,8 @@ use Rattle.quel_meaning.specs.Fit.{is_this_key, update_kinds_fit, update_fits, s
 use Rattle.quel_meaning.proofs.Each.{Each, passed, each_passes, each_to, left, right, and, not_not}
 use Rattle.quel_meaning.proofs.Keys.{keys_same}
 use Rattle.quel_meaning.proofs.Found.{IsFound, IsNamed, IsRanged, names_found, named_with, named_again, ranged_with, ranged_is, ranged_again}
+use Rattle.quel_meaning.proofs.GoodTargets.{targets_good}
+use Rattle.quel_meaning.proofs.LawfulKinds.{IsKind}
 use Rattle.quel_meaning.proofs.DatabaseFacts.{info_stands, found_relation}
 use Rattle.quel_meaning.proofs.Titles.{HasAttr, titles, titled_in, titled_of, places_in_range, places_differ, few_titles}
 use Rattle.quel_meaning.proofs.Few.{update_expanded_few}
@@ -60,14 +63,19 @@ kind_comparable : (o : Option Kind) (l : Kind) → has_kind o l ≡ true → com
 kind_comparable None l h = absurd (cc h)
 kind_comparable (Some k) l h = same_comparable k l h
 
-pub fitting_kinds : (db : Db) (q : Query) → query_fits db q ≡ true → update_kinds_fit db q ≡ true
+-- each target is of a kind
+abbrev pub HaveKinds : Query → Type 0
+HaveKinds q = Each (λ (t : Target). IsKind t.kind) (targets_of q)
+
+pub fitting_kinds : (db : Db) (q : Query) → HaveKinds q → query_fits db q ≡ true → update_kinds_fit db q ≡ true
 unfolding query_fits
-fitting_kinds db q h =
-    and _ _
+fitting_kinds db q kinds h =
+    and _ _ (passed (λ (t : Target). is_kind t.kind) (targets_of q) kinds)
+    (and _ _
     (passed (λ (t : Target). comparable (kind_in_query db t.term (var_kinds db q)) (Some t.kind)) (targets_of q)
     (each_to _ _ (λ (t : Target) k. kind_comparable (kind_in_query db t.term (var_kinds db q)) t.kind k) (targets_of q)
     (each_passes (λ (t : Target). has_kind (kind_in_query db t.term (var_kinds db q)) t.kind) (targets_of q) (left _ _ h))))
-    (right _ _ h)
+    (right _ _ h))
 
 -- ---- what an update of a relation that was found has
 
@@ -77,6 +85,7 @@ record Ready (s : Scope) (info : RelInfo) (q : Query) : Type 0 where
   there : info_at s.db info.key ≡ Some info
   reading : has_few_targets q ≡ true → reads_fit (kept_or_viewed s.db) s.db q ≡ true
   few : has_too_many s.db q ≡ false
+  good : HaveKinds q
   kinds : query_fits s.db q ≡ true
   relation : is_relation s.db info.key ≡ true
 
@@ -101,7 +110,7 @@ append_ready : (s : Scope) (info : RelInfo) (q : Query) → Ready s info q → E
 unfolding update_fits kinds_fit
 append_ready s info q r h k a =
     and _ _ (r.reading (few_targets s info q r h k))
-    (and _ _ (fitting_kinds s.db q r.kinds)
+    (and _ _ (fitting_kinds s.db q r.good r.kinds)
     (and _ _ a (and _ _ (update_expanded_few s.db (changing op.Append 255 (Some info) q) r.few) (and _ _ (placed s info q r h k) (and _ _ refl (and _ _ r.relation refl))))))
 
 replace_ready : (s : Scope) (info : RelInfo) (q : Query) → Ready s info q → Each (HasAttr info) (titles_of q) → differ_by bytes_eq (titles_of q) ≡ true
@@ -110,7 +119,7 @@ replace_ready : (s : Scope) (info : RelInfo) (q : Query) → Ready s info q → 
 unfolding update_fits kinds_fit
 replace_ready s info q r h k a old =
     and _ _ (r.reading (few_targets s info q r h k))
-    (and _ _ (fitting_kinds s.db q r.kinds)
+    (and _ _ (fitting_kinds s.db q r.good r.kinds)
     (and _ _ a (and _ _ (update_expanded_few s.db (changing op.Replace 0 (Some info) q) r.few) (and _ _ (placed s info q r h k) (and _ _ refl (and _ _ r.relation old))))))
 
 delete_ready : (s : Scope) (info : RelInfo) (q : Query) → Ready s info q → Each (HasAttr info) (titles_of q) → differ_by bytes_eq (titles_of q) ≡ true
@@ -119,15 +128,15 @@ delete_ready : (s : Scope) (info : RelInfo) (q : Query) → Ready s info q → E
 unfolding update_fits kinds_fit
 delete_ready s info q r h k a old =
     and _ _ (r.reading (few_targets s info q r h k))
-    (and _ _ (fitting_kinds s.db q r.kinds)
+    (and _ _ (fitting_kinds s.db q r.good r.kinds)
     (and _ _ a (and _ _ (update_expanded_few s.db (changing op.Delete 0 (Some info) q) r.few) (and _ _ (placed s info q r h k) (and _ _ refl (and _ _ r.relation old))))))
 
 -- ---- the statements
 
-pub append_fits : (s : Scope) → IsDatabase s.db → (rel : List ℕ) (items : List Item) (qual : Qual) → name_refusal s (statement.Append rel items qual) ≡ None
+pub append_fits : (s : Scope) → IsDatabase s.db → (rel : List ℕ) (items : List Item) (qual : Qual) → items_are_written items ≡ true → name_refusal s (statement.Append rel items qual) ≡ None
     → first_cause (causes s (statement.Append rel items qual)) ≡ None → suits (kept_or_viewed s.db) s.db s.user (tree_of s (statement.Append rel items qual)) ≡ true
 unfolding causes tree_of suits aggregates_stand append_of mentions
-append_fits s is rel items qual h k =
+append_fits s is rel items qual w h k =
     subst (λ o. update_fits (kept_or_viewed s.db) s.db (changing op.Append 255 o q) ≡ true) (sym r.is)
     (append_ready s r.info q ready there (names_differ q none.1.1.0) (subst (λ o. assignments_fit s.db (changing op.Append 255 o q) ≡ true) r.is (right (query_fits s.db q) _ (not_not _ none.1.1.1.0))))
   where
@@ -155,6 +164,7 @@ append_fits s is rel items qual h k =
       there = named_again s rel r;
       reading = reads s stmt h (not_not _ none.0) none.1.0;
       few = none.1.0;
+      good = each_to _ _ (λ (t : Target) g. g.1) (targets_of q) (targets_good s is (λ a. AttrIn rel a ∷ []) stmt qual w found.1);
       kinds = left _ _ (not_not _ none.1.1.1.0);
       relation = found_relation s.db r.info.key r.info (named_again s rel r) (subst (λ o. is_catalogue s.db (key_found o) ≡ false) r.is none.1.1.1.1.0) (subst (λ o. is_some (view_at s.db (key_found o)) ≡ false) r.is none.1.1.1.1.1.0);
     }
@@ -169,10 +179,10 @@ first_deleted : (s : Scope) (var : List ℕ) (qual : Qual) (r : IsRanged s var) 
 unfolding query_of vars_in
 first_deleted s var qual r = keys_same _ _ (ap key_found (ranged_is s var r))
 
-pub replace_fits : (s : Scope) → IsDatabase s.db → (var : List ℕ) (items : List Item) (qual : Qual) → name_refusal s (statement.Replace var items qual) ≡ None
+pub replace_fits : (s : Scope) → IsDatabase s.db → (var : List ℕ) (items : List Item) (qual : Qual) → items_are_written items ≡ true → name_refusal s (statement.Replace var items qual) ≡ None
     → first_cause (causes s (statement.Replace var items qual)) ≡ None → suits (kept_or_viewed s.db) s.db s.user (tree_of s (statement.Replace var items qual)) ≡ true
 unfolding causes tree_of suits aggregates_stand replace_of mentions
-replace_fits s is var items qual h k =
+replace_fits s is var items qual w h k =
     subst (λ o. update_fits (kept_or_viewed s.db) s.db (changing op.Replace 0 o q) ≡ true) (sym over)
     (replace_ready s r.info q ready there (names_differ q none.1.1.0)
     (subst (λ o. assignments_fit s.db (changing op.Replace 0 o q) ≡ true) over (right (query_fits s.db q) _ (not_not _ none.1.1.1.0)))
@@ -205,6 +215,7 @@ replace_fits s is var items qual h k =
       there = ranged_again s var r;
       reading = reads s stmt h (not_not _ none.0) none.1.0;
       few = none.1.0;
+      good = each_to _ _ (λ (t : Target) g. g.1) (targets_of q) (targets_good s is (λ a. AttrOf var a ∷ []) stmt qual w found.1);
       kinds = left _ _ (not_not _ none.1.1.1.0);
       relation =
           found_relation s.db r.info.key r.info (ranged_again s var r) (subst (λ o. is_catalogue s.db (key_found o) ≡ false) over none.1.1.1.1.0)
@@ -239,6 +250,7 @@ delete_fits s is var qual h k =
       there = ranged_again s var r;
       reading = reads s stmt h (not_not _ none.0) none.1.0;
       few = none.1.0;
+      good = tt;
       kinds = not_not _ none.1.1.0;
       relation =
           found_relation s.db r.info.key r.info (ranged_again s var r) (subst (λ o. is_catalogue s.db (key_found o) ≡ false) over none.1.1.1.0)

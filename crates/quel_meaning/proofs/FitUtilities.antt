@@ -25,7 +25,7 @@ use Rattle.quel_meaning.specs.Naming.{Relation, AttrIn, mentions, no_refusal, na
 use Rattle.quel_meaning.specs.Passing.{is_full, is_taken}
 use Rattle.quel_meaning.specs.Causes.{repeats, repeats_keys, causes}
 use Rattle.quel_meaning.specs.Resolved.{tree_of}
-use Rattle.quel_meaning.specs.FitQueries.{kept_or_viewed, is_named}
+use Rattle.quel_meaning.specs.FitQueries.{kept_or_viewed, can_be_ranged_over}
 use Rattle.quel_meaning.specs.Fit.{is_entry, utility_fits, suits}
 use Rattle.calculus.specs.Structures.{is_structure}
 use Rattle.quel_meaning.specs.IsWritten.{is_written}
@@ -38,8 +38,8 @@ use Rattle.quel_meaning.proofs.ReadsFit.{none_of}
 
 -- ---- names
 
-pub named_is : (s : Scope) (rel : List ℕ) → IsNamed s rel → is_named s.db (key_found (named s rel)) ≡ true
-named_is s rel r = ap (λ o. is_named s.db (key_found o)) r.is ∙ ap is_some (named_again s rel r)
+pub named_is : (s : Scope) (rel : List ℕ) → IsNamed s rel → can_be_ranged_over s.db (key_found (named s rel)) ≡ true
+named_is s rel r = ap (λ o. can_be_ranged_over s.db (key_found o)) r.is ∙ ap is_some (named_again s rel r)
 
 pub by_name : (s : Scope) (rel : List ℕ) → IsFound s (Relation rel) → IsNamed s rel
 by_name s rel h = named_with s no_refusal rel h
@@ -69,7 +69,7 @@ entry_is s name key h = own (entry_at s.db (key_of s.user name)) refl h
 
     catalogue : (o : Option RelInfo) → info_at s.db (key_of s.db.dba name) ≡ o → option_map (λ (i : RelInfo). i.key) o ≡ Some key → is_entry s.db key ≡ true
     catalogue None e k = absurd (cc k)
-    catalogue (Some i) e k = or_is _ _ (let same : i.key ≡ key = cc k in subst (λ k. is_named s.db k ≡ true) same (ap is_some (found_again s.db _ i e)))
+    catalogue (Some i) e k = or_is _ _ (let same : i.key ≡ key = cc k in subst (λ k. can_be_ranged_over s.db k ≡ true) same (ap is_some (found_again s.db _ i e)))
 
     other : (o : Option RelInfo) → entry_at s.db (key_of s.db.dba name) ≡ o
         → ◌≡◌ {A = Option RelKey} (elim o [ Some other ↦ Some other.key | None ↦ option_map (λ catalogue. catalogue.key) (info_at s.db (key_of s.db.dba name)) ]) (Some key) → is_entry s.db key ≡ true

@@ -16,14 +16,14 @@ use Rattle.calculus.specs.Database.{Db}
 use Rattle.calculus.specs.Sizes.{query_measure, range_measure, measure_within, measure_of}
 use Rattle.calculus.specs.Stored.{Range, Kept, Viewed, range_at, range_info, info_at}
 use Rattle.calculus.specs.QueryParts.{vars_of, query_aggregates}
-use Rattle.quel_meaning.specs.FitQueries.{keeps_rows, is_kept, kept_alone, is_named, kept_or_viewed, source_fits, sources_fit, reads_fit, asked_fits}
+use Rattle.quel_meaning.specs.FitQueries.{keeps_rows, is_kept, kept_alone, can_be_ranged_over, kept_or_viewed, source_fits, sources_fit, reads_fit, asked_fits}
 use Rattle.quel_meaning.specs.Fit.{update_fits, utility_fits, suits, fits, is_fit, is_fit_with_views, makes_an_index}
 use Rattle.quel_meaning.specs.SpelledTree.{tree_is_spelled}
 use Rattle.quel_meaning.proofs.Each.{each_to, passed, each_passes, left, right, and}
 
 -- ---- what keeps rows is named, and is one variable
 
-named_too : (db : Db) (key : RelKey) → is_kept db key ≡ true → is_named db key ≡ true
+named_too : (db : Db) (key : RelKey) → is_kept db key ≡ true → can_be_ranged_over db key ≡ true
 unfolding info_at
 named_too db key h = go (range_at db key) h
   where
@@ -40,7 +40,7 @@ one_variable db key h = go (range_at db key) h
     go (Some (Kept relation)) h = refl
     go (Some (Viewed view)) h = absurd (cc h)
 
-allowed_too : (db : Db) (key : RelKey) → is_kept db key ≡ true → (is_named db key && nat_le (measure_of db key).variables 1) ≡ true
+allowed_too : (db : Db) (key : RelKey) → is_kept db key ≡ true → (can_be_ranged_over db key && nat_le (measure_of db key).variables 1) ≡ true
 allowed_too db key h = and _ _ (named_too db key h) (one_variable db key h)
 
 all_too : {X : Type 0} (p q : X → Bool) → ((x : X) → p x ≡ true → q x ≡ true) → (xs : List X) → list_all p xs ≡ true → list_all q xs ≡ true
@@ -55,7 +55,7 @@ reads_too : (db : Db) (q : Query) → reads_fit (kept_alone db) db q ≡ true �
 unfolding reads_fit
 reads_too db q h =
     let rest = right (list_all (is_kept db) (vars_of q)) _ h in
-    and _ _ (all_too (is_kept db) (is_named db) (named_too db) (vars_of q) (left _ _ h))
+    and _ _ (all_too (is_kept db) (can_be_ranged_over db) (named_too db) (vars_of q) (left _ _ h))
     (and _ _
     (all_too (λ (g : QAgg). source_fits (kept_alone db) db g.source) (λ (g : QAgg). source_fits (kept_or_viewed db) db g.source) (λ (g : QAgg) k. source_too db g.source k) (query_aggregates q) (left _ _ rest))
     (right (sources_fit (kept_alone db) db q) _ rest))

@@ -19,7 +19,7 @@ use Rattle.quel_meaning.specs.Ranges.{range_of}
 use Rattle.quel_meaning.specs.Scope.{Scope, named, ranged, key_found}
 use Rattle.quel_meaning.specs.WrittenParts.{Dotted, once, attributes, attributes_in_row, attributes_in_qual, attributes_in_aggregate, outer_vars, linked_vars, outer_vars_in_row, outer_vars_in_qual, outer_vars_in_item, items_of, where_of, first_vars, vars_in}
 use Rattle.quel_meaning.specs.Naming.{Mention, Variable, AttrOf, AttrIn, dotted, item_mentions, query_mentions, new_title, mentions, refusal_in, variable_refusal, no_refusal, attr_refusal, mention_refusal, first_number, name_refusal}
-use Rattle.quel_meaning.specs.FitQueries.{is_named}
+use Rattle.quel_meaning.specs.FitQueries.{can_be_ranged_over}
 use Rattle.quel_meaning.proofs.Each.{Each, front_of, back_of, both_of, of_map, of_flat_map, in_flat_map, each_to, in_filter}
 use Rattle.quel_meaning.proofs.Keys.{found_again}
 
@@ -71,9 +71,9 @@ unfolding ranged
 ranged_is s var r = ap (option_and_then (info_at s.db)) r.declared ∙ r.there
 
 -- the key of what is ranged over is that of something there
-pub ranged_named : (s : Scope) (var : List ℕ) → IsRanged s var → is_named s.db (key_found (ranged s var)) ≡ true
+pub ranged_named : (s : Scope) (var : List ℕ) → IsRanged s var → can_be_ranged_over s.db (key_found (ranged s var)) ≡ true
 ranged_named s var r =
-    ap (λ i. is_named s.db (key_found i)) (ranged_is s var r) ∙ ap is_some (found_again s.db r.key r.info r.there)
+    ap (λ i. can_be_ranged_over s.db (key_found i)) (ranged_is s var r) ∙ ap is_some (found_again s.db r.key r.info r.there)
 
 pub dotted_ranged : (s : Scope) (ds : List Dotted) → Each (IsFound s) (dotted ds) → Each (λ d. IsRanged s d.0) ds
 dotted_ranged s ds h = each_to _ _ (λ (d : Dotted) k. (ranged_with s (attr_refusal d.1) d.0 k).is) ds (of_map (IsFound s) (λ (d : Dotted). AttrOf d.0 d.1) ds h)

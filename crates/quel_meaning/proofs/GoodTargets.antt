@@ -1,6 +1,6 @@
 -- The targets of a written statement have names, and kinds that an attribute may have.
 use Rattle.std.proofs.Common.{◌≡◌, refl, sym, subst, ℕ, zero, suc, ◌+◌, ◌<◌, true, List, [], ◌∷◌, ◌++◌, map, length, get_or, Option, Some, None, arith}
-use Rattle.std.specs.List.{enumerate_from}
+use Rattle.std.specs.List.{enumerate_from, list_all}
 use Rattle.std.specs.Option.{unwrap_or}
 use Rattle.calculus.proofs.Forms.{items_of_targets}
 use Rattle.calculus.specs.declared.query.QTerm.TheVariants as qterm
@@ -99,13 +99,19 @@ items_good s is titled vars n [] w h = tt
 items_good s is titled vars n (i ∷ items) w h =
     both_of _ (item_targets s vars n i) _ (item_good s is titled vars n i w.0 h.0) (items_good s is titled vars (n + length (aggregates_in_item i)) items w.1 h.1)
 
--- the targets of a written statement whose names were found are good
+-- the targets of a written statement whose names were found are good, where its target list may be empty
+pub items_targets_good : (s : Scope) → IsDatabase s.db → (titled : List ℕ → List Mention) (stmt : Statement) (q : Qual) → list_all item_is_written (items_of stmt) ≡ true
+    → Each (IsFound s) (query_mentions s titled (items_of stmt) q) → Each (λ (t : Target). IsGood t.name t.kind) (targets_from s (vars_in stmt) 0 (items_of stmt))
+items_targets_good s is titled stmt q w h =
+    items_good s is titled (vars_in stmt) 0 (items_of stmt) (each_passes item_is_written (items_of stmt) w) (of_flat_map _ (item_mentions s titled) (items_of stmt) (front_of _ _ _ h))
+
+-- so are those of its query
 pub targets_good : (s : Scope) → IsDatabase s.db → (titled : List ℕ → List Mention) (stmt : Statement) (q : Qual) → items_are_written (items_of stmt) ≡ true
     → Each (IsFound s) (query_mentions s titled (items_of stmt) q) → Each (λ (t : Target). IsGood t.name t.kind) (targets_of (query_of s stmt))
 unfolding query_of
 targets_good s is titled stmt q w h =
     subst (Each (λ (t : Target). IsGood t.name t.kind)) (sym (items_of_targets (targets_from s (vars_in stmt) 0 (items_of stmt))))
-    (items_good s is titled (vars_in stmt) 0 (items_of stmt) (each_passes item_is_written (items_of stmt) (right (is_any (items_of stmt)) _ w)) (of_flat_map _ (item_mentions s titled) (items_of stmt) (front_of _ _ _ h)))
+    (items_targets_good s is titled stmt q (right (is_any (items_of stmt)) _ w) h)
 
 -- ---- there is a target
 

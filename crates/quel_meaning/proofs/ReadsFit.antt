@@ -23,7 +23,7 @@ use Rattle.quel_meaning.specs.WrittenQuery.{query_of}
 use Rattle.quel_meaning.specs.Passing.{has_too_many, is_too_wide}
 use Rattle.quel_meaning.specs.Causes.{Causes, title_place, sorts_by_titles}
 use Rattle.quel_meaning.specs.Resolved.{sort_key}
-use Rattle.quel_meaning.specs.FitQueries.{kept_or_viewed, is_named, has_few_targets, reads_fit, sort_is_in_range}
+use Rattle.quel_meaning.specs.FitQueries.{kept_or_viewed, can_be_ranged_over, has_few_targets, reads_fit, sort_is_in_range}
 use Rattle.quel_meaning.proofs.Each.{Each, in_map, each_to, passed, each_passes, and, not_left}
 use Rattle.quel_meaning.proofs.Found.{ranged_named, vars_ranged}
 use Rattle.quel_meaning.proofs.Sources.{sources_allowed}
@@ -40,9 +40,9 @@ none_of (c ∷ cs) h = go (none_of cs) c.1 refl h
     go later true e h = absurd (cc h)
     go later false e h = (e, later h)
 
-pub vars_named : (s : Scope) (stmt : Statement) → name_refusal s stmt ≡ None → list_all (is_named s.db) (vars_of (query_of s stmt)) ≡ true
+pub vars_named : (s : Scope) (stmt : Statement) → name_refusal s stmt ≡ None → list_all (can_be_ranged_over s.db) (vars_of (query_of s stmt)) ≡ true
 unfolding query_of
-vars_named s stmt h = passed (is_named s.db) _ (in_map _ (key_over s) (vars_in stmt) (each_to _ _ (λ var r. ranged_named s var r) (vars_in stmt) (vars_ranged s stmt h)))
+vars_named s stmt h = passed (can_be_ranged_over s.db) _ (in_map _ (key_over s) (vars_in stmt) (each_to _ _ (λ var r. ranged_named s var r) (vars_in stmt) (vars_ranged s stmt h)))
 
 pub reads : (s : Scope) (stmt : Statement) → name_refusal s stmt ≡ None → list_all (aggregate_stands s) (text_aggregates stmt) ≡ true → has_too_many s.db (query_of s stmt) ≡ false
     → has_few_targets (query_of s stmt) ≡ true → reads_fit (kept_or_viewed s.db) s.db (query_of s stmt) ≡ true

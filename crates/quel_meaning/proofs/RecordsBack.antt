@@ -10,8 +10,8 @@ use Rattle.calculus.specs.declared.request.CopyCol.{CopyCol}
 use Rattle.calculus.specs.Rows.{Row}
 use Rattle.calculus.specs.Lists.{is_any}
 use Rattle.calculus.specs.IsDatabase.{value_fits, row_fits}
-use Rattle.quel_meaning.specs.CopiedBack.{is_copy_form, kinds_of, column_values, copied_row}
-use Rattle.quel_meaning.specs.Columns.{column_value, column_bytes}
+use Rattle.quel_meaning.specs.CopiedBack.{kinds_of, column_values, copied_row}
+use Rattle.quel_meaning.specs.Columns.{is_copy_form, column_value, column_bytes}
 use Rattle.quel_meaning.specs.Copying.{numbered_from, record_values, record_row, records, rows_in_file, field_bytes, record_bytes, file_of_rows}
 use Rattle.quel_meaning.proofs.Fields.{both}
 use Rattle.quel_meaning.proofs.ColumnsBack.{column_back, column_some}

@@ -22,7 +22,7 @@ use Rattle.quel_meaning.specs.Aggregates.{is_one_plain, holds_another, aggregate
 use Rattle.quel_meaning.specs.Naming.{Mention, dotted, AttrIn, AttrOf, item_mentions, query_mentions, new_title, mentions, name_refusal}
 use Rattle.quel_meaning.specs.WrittenTree.{Vars, var_place, first_var, term_tree, aggregate_tree, qual_tree}
 use Rattle.quel_meaning.specs.WrittenQuery.{item_targets, targets_from, where_tree, query_of}
-use Rattle.quel_meaning.specs.FitQueries.{is_named, kept_or_viewed, source_fits, sources_fit}
+use Rattle.quel_meaning.specs.FitQueries.{can_be_ranged_over, kept_or_viewed, source_fits, sources_fit}
 use Rattle.quel_meaning.proofs.Each.{Each, front_of, back_of, both_of, in_map, of_flat_map, each_to, passed, each_passes, and, right}
 use Rattle.quel_meaning.proofs.Found.{IsFound, IsRanged, names_found, ranged_named, dotted_ranged, in_once}
 use Rattle.quel_meaning.proofs.Slots.{compared_has, in_targets, none_in_attrs}
@@ -97,7 +97,7 @@ row_list end_of-Term = refl
 row_list (more_of-Term t rest) = ap (λ ds. attributes t ++ ds) (row_list rest)
 
 one_plain : (s : Scope) (vars : List (List ℕ)) → Each (IsRanged s) vars → is_one_plain s vars ≡ true
-    → (is_named s.db (key_found (ranged s (first_var vars))) && nat_le (measure_of s.db (key_found (ranged s (first_var vars)))).variables 1) ≡ true
+    → (can_be_ranged_over s.db (key_found (ranged s (first_var vars))) && nat_le (measure_of s.db (key_found (ranged s (first_var vars)))).variables 1) ≡ true
 one_plain s [] h k = absurd (cc k)
 one_plain s (var ∷ []) h k = and _ _ (ranged_named s var h.0) k
 one_plain s (var ∷ other ∷ more) h k = absurd (cc k)

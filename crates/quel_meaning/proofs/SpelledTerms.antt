@@ -12,6 +12,7 @@ use Rattle.calculus.specs.declared.statement.Item.TheVariants as item
 use Rattle.calculus.specs.declared.statement.Qual.{Qual, True, Cmp}
 use Rattle.calculus.specs.declared.statement.Statement.{Statement}
 use Rattle.calculus.specs.declared.statement.Term.{Term, Int, Chars, Attr as Dot, Agg', Row_of-Term, end_of-Term, more_of-Term, items-the_row-Term, Row_of-AggTerm, end_of-AggTerm, more_of-AggTerm}
+use Rattle.calculus.specs.Name.{is_name}
 use Rattle.calculus.specs.Spelled.{term_is_spelled, terms_are_spelled, qual_is_spelled, targets_are_spelled, query_is_spelled}
 use Rattle.calculus.specs.Stored.{attrs_in}
 use Rattle.calculus.specs.Tree.{term_row, target_row}
@@ -75,16 +76,25 @@ mutual
 abbrev pub AreSpelled : List Target → Type 0
 AreSpelled ts = Each (λ (t : Target). term_is_spelled t.term ≡ true) ts
 
-pub targets_spelled : (ts : List Target) → AreSpelled ts → targets_are_spelled (target_row ts) ≡ true
-targets_spelled [] h = refl
-targets_spelled (t ∷ ts) h = and _ _ h.0 (targets_spelled ts h.1)
+-- each of these targets has a name
+abbrev pub AreNamed : List Target → Type 0
+AreNamed ts = Each (λ (t : Target). is_name t.name ≡ true) ts
+
+pub targets_spelled : (ts : List Target) → AreNamed ts → AreSpelled ts → targets_are_spelled (target_row ts) ≡ true
+targets_spelled [] n h = refl
+targets_spelled (t ∷ ts) n h = and _ _ n.0 (and _ _ h.0 (targets_spelled ts n.1 h.1))
 
 attrs_spelled : (var k : ℕ) (attrs : List Attr) → AreSpelled (map (λ (p : ℕ × Attr). record { name = p.1.name; kind = p.1.kind; term = qterm.Attr var p.0 }) (enumerate_from k attrs))
 attrs_spelled var k [] = tt
 attrs_spelled var k (a ∷ attrs) = (refl, attrs_spelled var (k + 1) attrs)
 
-pub all_attrs_spelled : (var : ℕ) (attrs : List Attr) → targets_are_spelled (target_row (attr_targets var attrs)) ≡ true
-all_attrs_spelled var attrs = targets_spelled (attr_targets var attrs) (attrs_spelled var 0 attrs)
+attrs_named : (var k : ℕ) (attrs : List Attr) → Each (λ (a : Attr). is_name a.name ≡ true) attrs
+    → AreNamed (map (λ (p : ℕ × Attr). record { name = p.1.name; kind = p.1.kind; term = qterm.Attr var p.0 }) (enumerate_from k attrs))
+attrs_named var k [] h = tt
+attrs_named var k (a ∷ attrs) h = (h.0, attrs_named var (k + 1) attrs h.1)
+
+pub all_attrs_spelled : (var : ℕ) (attrs : List Attr) → Each (λ (a : Attr). is_name a.name ≡ true) attrs → targets_are_spelled (target_row (attr_targets var attrs)) ≡ true
+all_attrs_spelled var attrs h = targets_spelled (attr_targets var attrs) (attrs_named var 0 attrs h) (attrs_spelled var 0 attrs)
 
 item_spelled : (s : Scope) (vars : Vars) (n : ℕ) (i : Item) → item_is_written i ≡ true → AreSpelled (item_targets s vars n i)
 item_spelled s vars n (item.Set name term) w = (term_spelled s vars n term (right _ (term_is_written term) w), tt)
@@ -98,9 +108,10 @@ items_spelled s vars n (i ∷ items) w =
 
 -- ---- queries
 
--- the query of a statement whose target list and qualification are written
-pub query_spelled : (s : Scope) (stmt : Statement) → list_all item_is_written (items_of stmt) ≡ true → qual_is_written (where_of stmt) ≡ true → query_is_spelled (query_of s stmt) ≡ true
+-- the query of a statement whose target list and qualification are written, and whose targets have names
+pub query_spelled : (s : Scope) (stmt : Statement) → AreNamed (targets_from s (vars_in stmt) 0 (items_of stmt)) → list_all item_is_written (items_of stmt) ≡ true
+    → qual_is_written (where_of stmt) ≡ true → query_is_spelled (query_of s stmt) ≡ true
 unfolding query_of where_tree
-query_spelled s stmt w q =
-    and _ _ (targets_spelled (targets_from s (vars_in stmt) 0 (items_of stmt)) (items_spelled s (vars_in stmt) 0 (items_of stmt) w))
+query_spelled s stmt n w q =
+    and _ _ (targets_spelled (targets_from s (vars_in stmt) 0 (items_of stmt)) n (items_spelled s (vars_in stmt) 0 (items_of stmt) w))
     (qual_spelled s (vars_in stmt) _ (where_of stmt) q)

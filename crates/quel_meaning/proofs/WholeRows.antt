@@ -12,7 +12,8 @@ use Rattle.calculus.specs.Rows.{Row}
 use Rattle.calculus.specs.Lists.{is_any, has_number}
 use Rattle.calculus.specs.IsDatabase.{value_fits, row_fits}
 use Rattle.calculus.specs.Pairs.{blank}
-use Rattle.quel_meaning.specs.CopiedBack.{is_copy_form, kinds_of, column_values, copied_row, places, ListsAll}
+use Rattle.quel_meaning.specs.Columns.{is_copy_form}
+use Rattle.quel_meaning.specs.CopiedBack.{kinds_of, column_values, copied_row, places, ListsAll}
 use Rattle.quel_meaning.specs.Copying.{rows_in_file, file_of_rows}
 use Rattle.quel_meaning.proofs.Fields.{both}
 use Rattle.quel_meaning.proofs.RecordsBack.{file_back}

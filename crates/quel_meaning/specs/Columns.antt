@@ -1,5 +1,5 @@
 -- The columns of a copied file: the bytes of a value in a form, and the value that bytes are.
-use Rattle.std.specs.Prelude.{ℕ, ℤ, pos, neg_ℤ, ◌-◌, ◌*◌, ◌^◌, ◌==◌, nat_lt, Bool, true, false, ◌&&◌, if◌then◌else◌, List, [], ◌∷◌, ◌++◌, length, take, drop, replicate, Option, Some, None, option_map, option_and_then}
+use Rattle.std.specs.Prelude.{ℕ, ℤ, pos, neg_ℤ, ◌-◌, ◌*◌, ◌^◌, ◌==◌, nat_le, nat_lt, Bool, true, false, ◌&&◌, if◌then◌else◌, List, [], ◌∷◌, ◌++◌, length, take, drop, replicate, Option, Some, None, option_map, option_and_then}
 use Rattle.std.specs.Int.{w64}
 use Rattle.std.specs.Fmt.{signed_decimal}
 use Rattle.std.specs.Str.Parse.{digits_value}
@@ -16,6 +16,14 @@ use Rattle.calculus.specs.Value.{is_within}
 use Rattle.calculus.specs.Lists.{is_any, has_number}
 use Rattle.calculus.specs.Kinds.{is_text_kind}
 use Rattle.calculus.specs.Replacement.{is_of_kind}
+
+-- ---- forms
+
+-- a form of a column: 1, 2 or 4 bytes; 1 to 255 bytes; or up to a tab, a newline, a blank, a comma or a colon
+abbrev pub is_copy_form : CopyForm → Bool
+is_copy_form (Bin n) = has_number (1 ∷ 2 ∷ 4 ∷ []) n
+is_copy_form (Fixed n) = nat_le 1 n && nat_le n 255
+is_copy_form (Until stop) = has_number (9 ∷ 10 ∷ 32 ∷ 44 ∷ 58 ∷ []) stop
 
 -- ---- numbers
 

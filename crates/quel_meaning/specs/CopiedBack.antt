@@ -11,12 +11,6 @@ use Rattle.calculus.specs.Rows.{Row}
 use Rattle.calculus.specs.Lists.{has_number}
 use Rattle.quel_meaning.specs.Copying.{record_row}
 
--- a form of a column: 1, 2 or 4 bytes; 1 to 255 bytes; or up to a tab, a newline, a blank, a comma or a colon
-abbrev pub is_copy_form : CopyForm → Bool
-is_copy_form (Bin n) = has_number (1 ∷ 2 ∷ 4 ∷ []) n
-is_copy_form (Fixed n) = nat_le 1 n && nat_le n 255
-is_copy_form (Until stop) = has_number (9 ∷ 10 ∷ 32 ∷ 44 ∷ 58 ∷ []) stop
-
 -- the kinds of attributes
 abbrev pub kinds_of : List Attr → List Kind
 kinds_of attrs = map (λ a. a.kind) attrs

@@ -22,13 +22,14 @@ use Rattle.calculus.specs.Stored.{attrs_at, kinds_at}
 use Rattle.calculus.specs.QueryParts.{vars_of, targets_of, qual_of}
 use Rattle.calculus.specs.Replacement.{made_attr}
 use Rattle.calculus.specs.Sizes.{variables, expanded_variables, update_expanded_variables}
-use Rattle.calculus.specs.IsDatabase.{attrs_stand, are_stored, keys_stand, var_kinds, query_stands, vars_are_there, row_qual_stands, permit_attrs_stand}
+use Rattle.calculus.specs.IsDatabase.{is_kind, attrs_stand, are_stored, keys_stand, var_kinds, query_stands, vars_are_there, row_qual_stands, permit_attrs_stand}
 use Rattle.calculus.specs.Storable.{row_qual_is_small}
 use Rattle.calculus.specs.Structures.{is_structure}
 use Rattle.quel_meaning.specs.Passing.{is_full, is_taken, is_too_large}
 use Rattle.quel_meaning.specs.KindsInQueries.{kind_in_query, kinds_fit_in_query, assignments_fit}
-use Rattle.quel_meaning.specs.FitQueries.{Allowed, kept_alone, kept_or_viewed, is_named, lists_few_vars, reads_fit, asked_fits}
+use Rattle.quel_meaning.specs.FitQueries.{Allowed, kept_alone, kept_or_viewed, can_be_ranged_over, lists_few_vars, reads_fit, asked_fits}
 use Rattle.quel_meaning.specs.Causes.{is_binary}
+use Rattle.quel_meaning.specs.Columns.{is_copy_form}
 use Rattle.quel_meaning.specs.Planned.{target_attr}
 use Rattle.quel_meaning.specs.SpelledTree.{tree_is_spelled}
 
@@ -48,10 +49,11 @@ abbrev pub places_fit : Db → Update → Bool
 places_fit db u =
     list_all (λ p. nat_lt p (length (new_attrs db u))) u.places && (differ_by nat_eq u.places && nat_eq (length u.places) (length (targets_of u.query)))
 
--- a target of an update and its term are both numbers or both texts, and so are the sides of each comparison
+-- a target of an update is of a kind, it and its term are both numbers or both texts, and so are the sides of each comparison
 abbrev pub update_kinds_fit : Db → Query → Bool
 update_kinds_fit db q =
-    list_all (λ t. comparable (kind_in_query db t.term (var_kinds db q)) (Some t.kind)) (targets_of q) && kinds_fit_in_query db (qual_of q) (var_kinds db q)
+    list_all (λ t. is_kind t.kind) (targets_of q)
+    && (list_all (λ t. comparable (kind_in_query db t.term (var_kinds db q)) (Some t.kind)) (targets_of q) && kinds_fit_in_query db (qual_of q) (var_kinds db q))
 
 -- what must hold of a new row speaks of that row alone, and its kinds fit
 abbrev pub checks_fit : Db → Update → Bool
@@ -87,15 +89,16 @@ update_fits may db u =
 
 -- a relation, view, index or catalogue is there under the key
 abbrev pub is_entry : Db → RelKey → Bool
-is_entry db key = is_there db key || is_named db key
+is_entry db key = is_there db key || can_be_ranged_over db key
 
--- the columns of a file: at least one, each for an attribute, all different, none of a number's bytes for a text
+-- the columns of a file: at least one, of forms that are ones, each for an attribute, all different, none of a number's bytes for a text
 abbrev pub columns_fit : Db → RelKey → List CopyCol → Bool
 columns_fit db rel columns =
     is_any columns
+    && (list_all (λ c. is_copy_form c.form) columns
     && (list_all (λ c. nat_lt c.attr (length (attrs_at db rel))) columns
     && (differ_by nat_eq (map (λ c. c.attr) columns)
-    && list_all (λ c. not (is_binary c.form && is_text_kind (slice_get (kinds_at db rel) c.attr))) columns))
+    && list_all (λ c. not (is_binary c.form && is_text_kind (slice_get (kinds_at db rel) c.attr))) columns)))
 
 -- the query of a new view: what it names is there, its kinds fit and no aggregate stands; its attributes, variables, size and level are within the limits
 unfoldable pub view_fits : Db → Query → Bool
@@ -108,7 +111,7 @@ view_fits db q =
 
 -- a qualification over a row of a relation, view or catalogue that is there: its kinds fit, no aggregate stands, and it isn't too large to be kept
 abbrev pub row_qual_fits : Db → RelKey → QQual → Bool
-row_qual_fits db rel q = is_named db rel && (row_qual_stands db rel q && row_qual_is_small q)
+row_qual_fits db rel q = can_be_ranged_over db rel && (row_qual_stands db rel q && row_qual_is_small q)
 
 -- a permit lists attributes of its relation, and not too many
 abbrev pub listed_attrs_fit : Db → RelKey → Permit → Bool
@@ -118,14 +121,14 @@ listed_attrs_fit db rel permit = permit_attrs_stand db rel permit.attrs && nat_l
 unfoldable pub utility_fits : Db → List ℕ → Utility → Bool
 utility_fits db user (utility.Create rel attrs) = is_new db rel.owner rel.name && (attrs_stand attrs && are_stored attrs)
 utility_fits db user (utility.Destroy rels) = list_all (is_entry db) rels && differ_by same_key rels
-utility_fits db user (utility.Modify rel to keys) = is_named db rel && (is_structure to && keys_stand (attrs_at db rel) keys)
-utility_fits db user (utility.Index base name keys) = is_named db base && (is_new db user name && (is_any keys && keys_stand (attrs_at db base) keys))
-utility_fits db user (utility.Copy rel columns from file) = is_named db rel && columns_fit db rel columns
+utility_fits db user (utility.Modify rel to keys) = can_be_ranged_over db rel && (is_structure to && keys_stand (attrs_at db rel) keys)
+utility_fits db user (utility.Index base name keys) = can_be_ranged_over db base && (is_new db user name && (is_any keys && keys_stand (attrs_at db base) keys))
+utility_fits db user (utility.Copy rel columns from file) = can_be_ranged_over db rel && columns_fit db rel columns
 utility_fits db user (utility.View rel query) = is_new db rel.owner rel.name && view_fits db query
 utility_fits db user (utility.Permit rel permit) = row_qual_fits db rel permit.qual && listed_attrs_fit db rel permit
 utility_fits db user (utility.Rule rel rule) = row_qual_fits db rel rule.qual
-utility_fits db user (utility.DropPermits rel numbers) = is_named db rel
-utility_fits db user (utility.DropRules rel numbers) = is_named db rel
+utility_fits db user (utility.DropPermits rel numbers) = can_be_ranged_over db rel
+utility_fits db user (utility.DropRules rel numbers) = can_be_ranged_over db rel
 
 -- what a tree asks for suits a database and a user where this is what it may read
 unfoldable pub suits : Allowed → Db → List ℕ → Checked → Bool

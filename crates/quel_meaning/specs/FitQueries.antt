@@ -35,12 +35,12 @@ abbrev pub kept_alone : Db → Allowed
 kept_alone db = record { variable = is_kept db; source = is_kept db }
 
 -- a relation, view or catalogue is there under the key
-abbrev pub is_named : Db → RelKey → Bool
-is_named db key = is_some (info_at db key)
+abbrev pub can_be_ranged_over : Db → RelKey → Bool
+can_be_ranged_over db key = is_some (info_at db key)
 
 -- views too, those that an aggregate is over having at most one variable once the views in them are put in
 abbrev pub kept_or_viewed : Db → Allowed
-kept_or_viewed db = record { variable = is_named db; source = λ key. is_named db key && nat_le (measure_of db key).variables 1 }
+kept_or_viewed db = record { variable = can_be_ranged_over db; source = λ key. can_be_ranged_over db key && nat_le (measure_of db key).variables 1 }
 
 -- a query lists no more variables than one may have that stands for views
 abbrev pub lists_few_vars : Query → Bool

@@ -16,6 +16,7 @@ use Rattle.calculus.specs.Number.{has_64_bits}
 use Rattle.calculus.specs.Rights.{are_rights}
 use Rattle.calculus.specs.Structures.{is_structure}
 use Rattle.calculus.specs.Written.{neg, abs, operation, concat, both, either, negated}
+use Rattle.quel_meaning.specs.Columns.{is_copy_form}
 
 abbrev mutual
   -- in a term each number has 64 bits, and each text constant is one, in aggregates too
@@ -70,7 +71,7 @@ abbrev pub result_is_named : Option (List ℕ) → Bool
 result_is_named None = true
 result_is_named (Some name) = is_name name
 
--- what a statement has that is read: its lists are there and of their forms, what it makes has a name, its rights are rights, and its constants are ones of their types
+-- what a statement has that is read: a target list, attributes, keys of an index and columns are there, these of forms that are ones, what it makes has a name, its rights are a sum of rights, and its constants are ones of their types
 unfoldable pub is_written : Statement → Bool
 is_written (statement.Retrieve into items qual sort) = result_is_named into && query_is_written items qual
 is_written (statement.Append rel items qual) = query_is_written items qual
@@ -80,7 +81,7 @@ is_written (statement.View name items qual) = is_name name && query_is_written i
 is_written (statement.Create rel attrs) = is_name rel && (is_any attrs && list_all (λ a. is_name a.0 && is_domain a.1) attrs)
 is_written (statement.Modify rel to keys) = is_structure to && keys_are_written keys
 is_written (statement.Index base name keys) = is_name name && (is_any keys && keys_are_written keys)
-is_written (statement.Copy rel columns from file) = is_any columns && is_chars file
+is_written (statement.Copy rel columns from file) = is_any columns && (list_all (λ c. is_copy_form c.1) columns && is_chars file)
 is_written (statement.Permit ops var attrs user qual) = are_rights ops && (user_is_named user && qual_is_written qual)
 is_written (statement.Rule var qual) = qual_is_written qual
 is_written _ = true

@@ -105,7 +105,7 @@ abbrev pub judged_tree : Db → Asker → Result Checked ℕ → Result Checked 
 judged_tree db asker (Err number) = Err number
 judged_tree db asker (Ok tree) = permitted_tree (checked_permitted db (Asks asker) tree) tree
 
--- what a statement asks for: its tree, or the number of what refuses it before any row is looked at
+-- what a statement asks for: its tree, or the number of what refuses it before the tree is handed on; what utilities refuse of it is judged later
 unfoldable pub judged_by : Resolving → Db → Asker → Ranges → Statement → Result Checked ℕ
 judged_by resolved db asker ranges s = judged_tree db asker (resolved db asker.user ranges s)
 

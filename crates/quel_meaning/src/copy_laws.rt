@@ -7,7 +7,8 @@ ghost use Rattle.calculus.specs.declared.request.CopyCol.{CopyCol};
 ghost use Rattle.calculus.specs.Rows.{Row};
 ghost use Rattle.calculus.specs.Lists.{is_any};
 ghost use Rattle.calculus.specs.IsDatabase.{row_fits};
-ghost use Rattle.quel_meaning.specs.CopiedBack.{is_copy_form, kinds_of, copied_row, ListsAll};
+ghost use Rattle.quel_meaning.specs.Columns.{is_copy_form};
+ghost use Rattle.quel_meaning.specs.CopiedBack.{kinds_of, copied_row, ListsAll};
 ghost use Rattle.quel_meaning.specs.Copying.{rows_in_file, file_of_rows};
 
 /// What a copy into a file writes, a copy from it by the same columns reads: the values of the columns,

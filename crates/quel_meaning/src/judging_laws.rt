@@ -1,4 +1,4 @@
-//! What statements are judged to ask for, before any row is looked at.
+//! What statements are judged to ask for, before their trees are handed on.
 
 ghost use Rattle.std.specs.Prelude.{◌≡◌, ◌||◌, ℕ, nat_lt, true, false, List, [], ◌∷◌, Ok, Err};
 ghost use Rattle.calculus.specs.declared.request.Checked.{Checked};

@@ -26,7 +26,7 @@ stays n (d ∷ ds) h = stays (10 * n + (d - 48)) ds (omega (arith, h))
 first_counts : (d : ℕ) → not (d == 48) ≡ true → is_digit d ≡ true → 1 ≤ 10 * 0 + (d - 48)
 first_counts d h k = grind (arith, nat_tests)
 
-width_stands : (digits : List ℕ) → is_width digits ≡ true → is_domain (domains.C (number_of digits)) ≡ true
+pub width_stands : (digits : List ℕ) → is_width digits ≡ true → is_domain (domains.C (number_of digits)) ≡ true
 width_stands [] h = absurd cc
 width_stands (d ∷ ds) h =
     let some = left (not (d == 48)) _ h in

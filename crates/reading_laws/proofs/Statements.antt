@@ -1,5 +1,6 @@
 -- What is read of a text is written.
 use Rattle.std.proofs.Common.{◌≡◌, ℕ, true, ◌&&◌, List, ◌++◌, Option, None, refl, subst}
+use Rattle.std.specs.List.{list_all}
 use Rattle.calculus.specs.declared.statement.Item.{Item}
 use Rattle.calculus.specs.declared.statement.Qual.{Qual}
 use Rattle.calculus.specs.declared.statement.Statement.{Statement}
@@ -19,6 +20,7 @@ use Rattle.quel_grammar.specs.Statements.{IsStatement, IsInto, IsTarget, IsOpera
 use Rattle.quel_grammar.specs.Statements.IsInto.{shown, kept, kept_into}
 use Rattle.quel_grammar.specs.Statements.IsStatement.{range, retrieve, append, replace, delete, create, destroy, destroy_permit, destroy_integrity, modify, index, print, help, help_about, copy, define_view, define_permit, define_integrity}
 use Rattle.quel_grammar.proofs.Answered.{reads}
+use Rattle.quel_meaning.specs.Columns.{is_copy_form}
 use Rattle.quel_meaning.specs.IsWritten.{qual_is_written, query_is_written, result_is_named, is_written}
 use Rattle.quel_meaning.proofs.Each.{front_of, back_of, and}
 use Rattle.reading_laws.proofs.Spelled.{Spelled, text_spelled}
@@ -26,6 +28,7 @@ use Rattle.reading_laws.proofs.Items.{list_any, query_written}
 use Rattle.reading_laws.proofs.Constants.{where_safe, qual_safe}
 use Rattle.reading_laws.proofs.Permits.{rights_read, user_read}
 use Rattle.reading_laws.proofs.Attributes.{attributes_stand}
+use Rattle.reading_laws.proofs.Forms.{forms_written}
 use Rattle.reading_laws.proofs.Keys.{modify_written, index_written}
 
 into_named : {ts : List Token} {name : Option (List ℕ)} → IsInto ts name → Spelled ts → result_is_named name ≡ true
@@ -64,7 +67,9 @@ statement_written (index {n = n} p) h e = and (is_name n) _ h.1.1.1.1.0 (index_w
 statement_written (print p) h e = refl
 statement_written help h e = refl
 statement_written help_about h e = refl
-statement_written (copy {ts = ts} {us = us} {file = file} {columns = columns} p w) h e = and (is_any columns) (is_chars file) (list_any p) (back_of _ us _ (back_of _ ts _ h.1.1.1).1).0
+statement_written (copy {ts = ts} {us = us} {file = file} {columns = columns} p w) h e =
+    and (is_any columns) _ (list_any p)
+    (and (list_all (λ c. is_copy_form c.1) columns) (is_chars file) (forms_written p (front_of _ ts _ h.1.1.1)) (back_of _ us _ (back_of _ ts _ h.1.1.1).1).0)
 statement_written (define_view {n = n} {targets = targets} {q = q} p w) h e = and (is_name n) (query_is_written targets q) h.1.1.0 (in_parens p w h.1.1.1.1)
 statement_written (define_permit {vs = vs} {as_ = as_} {v = v} o over c u w) h e = permit_written vs as_ v o u w h.1.1
 statement_written (define_integrity p) h e = qual_safe p h.1.1.1.1.1

@@ -1,4 +1,4 @@
-//! What a statement asks for, and what refuses it before any row is looked at.
+//! What a statement asks for, and what refuses it before its tree is handed on.
 
 ghost use Rattle.std.specs.Prelude.{◌≡◌, ℕ, List};
 ghost use Rattle.calculus.specs.declared.statement.Statement.{Statement};
@@ -9,7 +9,7 @@ ghost use Rattle.quel_meaning.specs.Ranges.{Ranges};
 ghost use Rattle.quel_meaning.specs.Resolved.{resolved};
 ghost use Rattle.quel_meaning.specs.Meaning.{judged};
 
-/// The tree of a statement, or the number that refuses it before any row is looked at, is told by the schema.
+/// The tree of a statement, or the number that refuses it before its tree is handed on, is told by the schema.
 pub fn what_is_asked_for_is_in_the_schema()
     ensures resolved { (db : Db) (user : List ℕ) (ranges : Ranges) (s : Statement)
         → resolved (schema_of db) user ranges s ≡ resolved db user ranges s }

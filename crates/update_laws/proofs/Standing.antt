@@ -4,6 +4,7 @@ use Rattle.calculus.specs.declared.query.QAgg.{QAgg}
 use Rattle.calculus.specs.declared.query.QTerm.{QTerm, Int, Chars, Attr, Agg', Row_of-QAgg, end_of-QAgg, more_of-QAgg}
 use Rattle.calculus.specs.declared.query.Query.{Query, Query', items-the_row-Target, Row_of-Target, end_of-Target, more_of-Target}
 use Rattle.calculus.specs.declared.query.Target.{Target}
+use Rattle.calculus.specs.Name.{is_name}
 use Rattle.calculus.specs.QueryParts.{targets_of, aggregates_of, term_aggregates}
 use Rattle.calculus.specs.Spelled.{term_is_spelled, aggregate_is_spelled, source_is_spelled, targets_are_spelled, qual_is_spelled, query_is_spelled}
 use Rattle.calculus.specs.Tree.{neg, abs, operation, concat}
@@ -16,7 +17,8 @@ TargetStands t = IsTrue (term_is_spelled t.term)
 
 in_row : {n : _} (row : Row_of-Target n) → IsTrue (targets_are_spelled row) → Each TargetStands (items-the_row-Target _ row)
 in_row end_of-Target h = tt
-in_row (more_of-Target name kind term rest) h = let parts = both (term_is_spelled term) (targets_are_spelled rest) h in (parts.0, in_row rest parts.1)
+in_row (more_of-Target name kind term rest) h =
+    let parts = both (term_is_spelled term) (targets_are_spelled rest) (both (is_name name) _ h).1 in (parts.0, in_row rest parts.1)
 
 -- so it is of each target of a query
 pub in_targets : (q : Query) → IsTrue (query_is_spelled q) → Each TargetStands (targets_of q)

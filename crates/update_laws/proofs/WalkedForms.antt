@@ -12,6 +12,7 @@ use Rattle.calculus.specs.declared.query.Query.{Query, out-Query, roll-out-Query
 use Rattle.calculus.specs.declared.query.RelKey.{RelKey}
 use Rattle.calculus.specs.declared.query.Target.{Target}
 use Rattle.calculus.specs.Chars.{is_chars}
+use Rattle.calculus.specs.Name.{is_name}
 use Rattle.calculus.specs.Number.{has_64_bits}
 use Rattle.calculus.specs.Spelled.{term_is_spelled, source_is_spelled, terms_are_spelled, qual_is_spelled, targets_are_spelled, query_is_spelled}
 use Rattle.calculus.specs.Tree.{term_row, target_row}
@@ -105,7 +106,9 @@ targets_walked : (ts : List Target) → IsTrue (targets_are_walked ts) → IsTru
 unfolding targets_are_walked term_is_walked
 targets_walked [] h = refl
 targets_walked (t ∷ ts) h =
-    let parts = both (term_is_spelled t.term) (targets_are_walked ts) h in each (term_is_spelled t.term) (targets_are_spelled (target_row ts)) parts.0 (targets_walked ts parts.1)
+    let parts = both (is_name t.name && term_is_spelled t.term) (targets_are_walked ts) h in
+    let first = both (is_name t.name) (term_is_spelled t.term) parts.0 in
+    each (is_name t.name) _ first.0 (each (term_is_spelled t.term) (targets_are_spelled (target_row ts)) first.1 (targets_walked ts parts.1))
 
 -- the query, as the program reads it
 pub walked_query : (q : Query) → IsTrue (targets_are_walked (out-Query q).targets) → IsTrue (qual_is_walked (out-Query q).qual) → IsTrue (query_is_spelled q)

@@ -1,5 +1,5 @@
 -- What a walk through a tree, as a program holds it, finds of its constants.
-use Rattle.std.specs.Prelude.{Bool, true, List}
+use Rattle.std.specs.Prelude.{Bool, true, ◌&&◌, List}
 use Rattle.std.specs.List.{list_all}
 use Rattle.calculus.specs.declared.query.AggSource.{AggSource}
 use Rattle.calculus.specs.declared.query.QAgg.{QAgg}
@@ -10,6 +10,7 @@ use Rattle.calculus.specs.declared.request.Asked.{Asked}
 use Rattle.calculus.specs.declared.request.Checked.{Checked}
 use Rattle.calculus.specs.declared.request.Checked.TheVariants as checked
 use Rattle.calculus.specs.declared.request.Utility.TheVariants as utility
+use Rattle.calculus.specs.Name.{is_name}
 use Rattle.calculus.specs.Rights.{are_rights}
 use Rattle.calculus.specs.Spelled.{term_is_spelled, source_is_spelled, qual_is_spelled, query_is_spelled}
 use Rattle.calculus.specs.Tree.{aggregate}
@@ -30,9 +31,9 @@ source_is_walked source = source_is_spelled source
 unfoldable pub aggregate_is_walked : QAgg → Bool
 aggregate_is_walked g = term_is_spelled (aggregate g)
 
--- those of the terms of these targets
+-- those of the terms of these targets, and the names of the targets
 unfoldable pub targets_are_walked : List Target → Bool
-targets_are_walked targets = list_all (λ t. term_is_walked t.term) targets
+targets_are_walked targets = list_all (λ t. is_name t.name && term_is_walked t.term) targets
 
 -- those of a qualification
 unfoldable pub qual_is_walked : QQual → Bool

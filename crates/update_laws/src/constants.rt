@@ -83,13 +83,14 @@ fn walk_source(source: &AggSource)
     }
 }
 
-/// What is known of the constants of targets.
+/// What is known of the names of targets and of their constants.
 #[cycle(walking)]
 #[tactic(auto, unfolding(crate::specs::Walked::targets_are_walked))]
 fn walk_targets(targets: &[Target])
     ensures { IsTrue (targets_are_walked targets.now) }
 {
     for target in targets {
+        let _ = target.name.bytes();
         walk_term(&target.term);
     }
 }
