@@ -1,5 +1,5 @@
 -- What a walk finds of the constants of a tree, form by form.
-use Rattle.std.proofs.Common.{refl, sym, ap, ◌∙◌, ℕ, ℤ, Bool, IsTrue, List, [], ◌∷◌}
+use Rattle.std.proofs.Common.{refl, sym, ap, ◌∙◌, ℕ, ℤ, Bool, ◌&&◌, IsTrue, List, [], ◌∷◌}
 use Rattle.calculus.specs.declared.operator.ArithOp.{ArithOp}
 use Rattle.calculus.specs.declared.operator.CmpOp.{CmpOp}
 use Rattle.calculus.specs.declared.query.AggSource.TheVariants.{Named, Rows}
@@ -17,7 +17,7 @@ use Rattle.calculus.specs.Number.{has_64_bits}
 use Rattle.calculus.specs.Spelled.{term_is_spelled, source_is_spelled, terms_are_spelled, qual_is_spelled, targets_are_spelled, query_is_spelled}
 use Rattle.calculus.specs.Tree.{term_row, target_row}
 use Rattle.calculus.proofs.Forms.{neg_is, abs_is, operation_is, concat_is, agg_is, both_is, either_is, negated_is, rows_is, query_is}
-use Rattle.update_laws.specs.Walked.{term_is_walked, terms_are_walked, source_is_walked, aggregate_is_walked, targets_are_walked, qual_is_walked}
+use Rattle.update_laws.specs.Walked.{term_is_walked, terms_are_walked, source_is_walked, aggregate_is_walked, target_is_walked, targets_are_walked, qual_is_walked}
 use Rattle.update_laws.proofs.Texts.{both, each}
 
 -- ---- terms
@@ -102,8 +102,12 @@ walked_not p h = ap qual_is_spelled (negated_is p) ∙ h
 
 -- ---- queries
 
+pub walked_target : (name : List ℕ) (t : QTerm) → IsTrue (is_name name) → IsTrue (term_is_walked t) → IsTrue (target_is_walked name t)
+unfolding target_is_walked term_is_walked
+walked_target name t h k = each (is_name name) (term_is_spelled t) h k
+
 targets_walked : (ts : List Target) → IsTrue (targets_are_walked ts) → IsTrue (targets_are_spelled (target_row ts))
-unfolding targets_are_walked term_is_walked
+unfolding targets_are_walked target_is_walked term_is_walked
 targets_walked [] h = refl
 targets_walked (t ∷ ts) h =
     let parts = both (is_name t.name && term_is_spelled t.term) (targets_are_walked ts) h in

@@ -1,5 +1,5 @@
 -- What a walk through a tree, as a program holds it, finds of its constants.
-use Rattle.std.specs.Prelude.{Bool, true, ◌&&◌, List}
+use Rattle.std.specs.Prelude.{ℕ, Bool, true, ◌&&◌, List}
 use Rattle.std.specs.List.{list_all}
 use Rattle.calculus.specs.declared.query.AggSource.{AggSource}
 use Rattle.calculus.specs.declared.query.QAgg.{QAgg}
@@ -31,9 +31,13 @@ source_is_walked source = source_is_spelled source
 unfoldable pub aggregate_is_walked : QAgg → Bool
 aggregate_is_walked g = term_is_spelled (aggregate g)
 
--- those of the terms of these targets, and the names of the targets
+-- a target's name, and the constants of its term
+unfoldable pub target_is_walked : List ℕ → QTerm → Bool
+target_is_walked name term = is_name name && term_is_walked term
+
+-- those of these targets
 unfoldable pub targets_are_walked : List Target → Bool
-targets_are_walked targets = list_all (λ t. is_name t.name && term_is_walked t.term) targets
+targets_are_walked targets = list_all (λ t. target_is_walked t.name t.term) targets
 
 -- those of a qualification
 unfoldable pub qual_is_walked : QQual → Bool

@@ -5,9 +5,9 @@ ghost use Rattle.std.specs.Prelude.{IsTrue};
 ghost use Rattle.calculus.specs.Chars.{is_chars};
 ghost use Rattle.calculus.specs.Number.{has_64_bits};
 ghost use Rattle.calculus.specs.Spelled.{qual_is_spelled, query_is_spelled};
-ghost use Rattle.update_laws.specs.Walked.{term_is_walked, terms_are_walked, source_is_walked, aggregate_is_walked, targets_are_walked, qual_is_walked};
+ghost use Rattle.update_laws.specs.Walked.{term_is_walked, terms_are_walked, source_is_walked, aggregate_is_walked, target_is_walked, targets_are_walked, qual_is_walked};
 
-use calculus::{AggSource, Chars, QAgg, QQual, QTerm, Query, Target};
+use calculus::{AggSource, Chars, Name, QAgg, QQual, QTerm, Query, Target};
 
 /// What is known of a number.
 fn walk_number(n: &i64)
@@ -83,15 +83,24 @@ fn walk_source(source: &AggSource)
     }
 }
 
-/// What is known of the names of targets and of their constants.
+/// What is known of a target by its name and its term.
+#[cycle(walking)]
+#[tactic(auto, using(crate::proofs::WalkedForms::walked_target))]
+fn walk_target(name: &Name, term: &QTerm)
+    ensures { IsTrue (target_is_walked name.now term.now) }
+{
+    let _ = name.bytes();
+    walk_term(term);
+}
+
+/// What is known of targets.
 #[cycle(walking)]
 #[tactic(auto, unfolding(crate::specs::Walked::targets_are_walked))]
 fn walk_targets(targets: &[Target])
     ensures { IsTrue (targets_are_walked targets.now) }
 {
     for target in targets {
-        let _ = target.name.bytes();
-        walk_term(&target.term);
+        walk_target(&target.name, &target.term);
     }
 }
 
