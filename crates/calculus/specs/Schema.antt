@@ -23,9 +23,10 @@ abbrev pub without_going : DbChange → DbChange
 without_going (Rows rel remove add) = Rows rel [] add
 without_going change = change
 
--- the rows that go by a change fit, and none is listed twice
+-- the rows that go by a change fit, none is listed twice, none comes, and they are no more than a relation may have
 abbrev pub going_rows_stand : Db → DbChange → Bool
-going_rows_stand db (Rows rel remove add) = rows_differ remove && list_all (row_fits (attrs_at db rel)) remove
+going_rows_stand db (Rows rel remove add) =
+    rows_differ remove && (list_all (row_fits (attrs_at db rel)) remove && (not (list_any (has remove) add) && nat_le (length remove) most_rows))
 going_rows_stand db change = true
 
 -- what the schema of a database and the change alone decide: the change, without the rows that go, is lawful for the schema, and these stand

@@ -118,6 +118,32 @@ all_are test (row ∷ some) rows h t =
 fewer : (a b c d : ℕ) → a + b ≡ c → IsTrue (nat_le (c + d - a) most_rows) → IsTrue (nat_le (0 + d - 0) most_rows)
 fewer a b c d e t = grind (arith, nat_tests, e, t)
 
+neither : (a b : Bool) → IsTrue (not (a || b)) → IsTrue (not a) × IsTrue (not b)
+neither true b t = cc t
+neither false b t = (refl, t)
+
+nor : (a b : Bool) → IsTrue (not a) → IsTrue (not b) → IsTrue (not (a || b))
+nor true b s t = cc s
+nor false b s t = t
+
+-- a row that isn't among rows isn't among some of them
+absent : (rows some : List Row) (row : Row) → IsTrue (list_all (has rows) some) → IsTrue (not (has rows row)) → IsTrue (not (has some row))
+absent rows some row h k = go (has some row) refl
+  where
+    go : (b : Bool) → has some row ≡ b → IsTrue (not b)
+    go true e = let there = row_is (has rows) row some e h in cc (there, k)
+    go false e = refl
+
+-- rows that are there and rows that aren't have none in common
+apart : (rows some others : List Row) → IsTrue (list_all (has rows) some) → IsTrue (not (list_any (has rows) others)) → IsTrue (not (list_any (has some) others))
+apart rows some [] h k = refl
+apart rows some (row ∷ others) h k =
+    let parts = neither (has rows row) (list_any (has rows) others) k in
+    nor (has some row) (list_any (has some) others) (absent rows some row h parts.0) (apart rows some others h parts.1)
+
+no_more : (a b c : ℕ) → a + b ≡ c → IsTrue (nat_le c most_rows) → IsTrue (nat_le a most_rows)
+no_more a b c e t = grind (arith, nat_tests, e, t)
+
 module _ (db : Db) (rel : RelKey) (remove add : List Row) (is : IsDatabase db) where
   Halves : Type 0
   Halves = IsTrue (rows_are_fit (schema_of db) rel [] add) × IsTrue (going_rows_stand (schema_of db) (change.Rows rel remove add)) × IsTrue (rows_allow db (change.Rows rel remove add))
@@ -137,6 +163,9 @@ module _ (db : Db) (rel : RelKey) (remove add : List Row) (is : IsDatabase db) w
       found_has (λ (r : Relation). IsTrue (relation_rows_fit r)) (λ r. same_key r.info.key rel) db.relations relation (each_true relation_rows_fit db.relations is.rows_fit) found in
       let own_there : IsTrue (list_all (has relation.rows) remove) = subst (λ rows. IsTrue (list_all (has rows) remove)) old there.0 in
       let gone = length_without remove relation.rows ascend gone_once.0 own_there in
+      let enough : IsTrue (nat_le (length relation.rows) most_rows) =
+      found_has (λ (r : Relation). IsTrue (nat_le (length r.rows) most_rows)) (λ r. same_key r.info.key rel) db.relations relation
+      (each_true (λ (r : Relation). nat_le (length r.rows) most_rows) db.relations is.few_rows) found in
       let few : IsTrue (nat_le (length relation.rows + length add - length remove) most_rows) =
       subst (λ (rows : List Row). IsTrue (nat_le (length rows + length add - length remove) most_rows)) old fits.1 in
       let none = no_rows db rel relation found in
@@ -146,7 +175,8 @@ module _ (db : Db) (rel : RelKey) (remove add : List Row) (is : IsDatabase db) w
             (subst (λ attrs. IsTrue (list_all (row_fits attrs) add)) (sym (attrs_alike db rel)) fits.0)
             (subst (λ (rows : List Row). IsTrue (nat_le (length rows + length add - 0) most_rows)) (sym none)
             (fewer (length remove) _ (length relation.rows) (length add) gone few))))))),
-        each _ _ gone_once.0 (subst (λ attrs. IsTrue (list_all (row_fits attrs) remove)) (sym attrs) (all_are (row_fits relation.info.attrs) remove relation.rows own_there rows_fit)),
+        each _ _ gone_once.0 (each _ _ (subst (λ attrs. IsTrue (list_all (row_fits attrs) remove)) (sym attrs) (all_are (row_fits relation.info.attrs) remove relation.rows own_there rows_fit))
+        (each _ _ (apart (rows_at db rel) remove add there.0 new.0) (no_more (length remove) _ (length relation.rows) gone enough))),
         each _ _ there.0 (each _ _ new.0 fits.1),
       )
 
