@@ -2,6 +2,7 @@
 
 mod change;
 mod leaf;
+mod parts;
 mod query;
 mod reply;
 mod request;

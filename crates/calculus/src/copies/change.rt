@@ -2,6 +2,7 @@
 
 ghost use Rattle.std.specs.Prelude.{◌≡◌, IfOk};
 
+use super::parts::copy_both;
 use crate::{
     Change, DbChange, Name, OutOfMemory, Pair, Permit, Query, RelInfo, RelKey, Row, Rule, Spec,
 };
@@ -16,23 +17,29 @@ fn copy_rows(
 ) -> Result<DbChange, OutOfMemory>
     ensures { IfOk result (λ copy. copy ≡ DbChange.Rows rel.now remove.now add.now) }
 {
-    let rows = both(remove.copy(alloc), add.copy(alloc));
-    let (rel, (remove, add)) = both(rel.copy(alloc), rows)?;
-    Ok(DbChange::Rows { rel, remove, add })
+    let rows = copy_both(alloc, remove, add);
+    match both(rel.copy(alloc), rows) {
+        Ok((rel, (remove, add))) => Ok(DbChange::Rows { rel, remove, add }),
+        Err(error) => Err(error),
+    }
 }
 
 fn copy_create(alloc: Global, info: &RelInfo, rows: &List<Row>) -> Result<DbChange, OutOfMemory>
     ensures { IfOk result (λ copy. copy ≡ DbChange.Create info.now rows.now) }
 {
-    let (info, rows) = both(info.copy(alloc), rows.copy(alloc))?;
-    Ok(DbChange::Create { info, rows })
+    match copy_both(alloc, info, rows) {
+        Ok((info, rows)) => Ok(DbChange::Create { info, rows }),
+        Err(error) => Err(error),
+    }
 }
 
 fn copy_destroy(alloc: Global, rels: &List<RelKey>) -> Result<DbChange, OutOfMemory>
     ensures { IfOk result (λ copy. copy ≡ DbChange.Destroy rels.now) }
 {
-    let rels = rels.copy(alloc)?;
-    Ok(DbChange::Destroy { rels })
+    match rels.copy(alloc) {
+        Ok(rels) => Ok(DbChange::Destroy { rels }),
+        Err(error) => Err(error),
+    }
 }
 
 fn copy_modify(
@@ -43,8 +50,10 @@ fn copy_modify(
 ) -> Result<DbChange, OutOfMemory>
     ensures { IfOk result (λ copy. copy ≡ DbChange.Modify rel.now to keys.now) }
 {
-    let (rel, keys) = both(rel.copy(alloc), keys.copy(alloc))?;
-    Ok(DbChange::Modify { rel, to, keys })
+    match copy_both(alloc, rel, keys) {
+        Ok((rel, keys)) => Ok(DbChange::Modify { rel, to, keys }),
+        Err(error) => Err(error),
+    }
 }
 
 fn copy_index(
@@ -55,30 +64,38 @@ fn copy_index(
 ) -> Result<DbChange, OutOfMemory>
     ensures { IfOk result (λ copy. copy ≡ DbChange.Index base.now name.now keys.now) }
 {
-    let names = both(base.copy(alloc), name.copy(alloc));
-    let ((base, name), keys) = both(names, keys.copy(alloc))?;
-    Ok(DbChange::Index { base, name, keys })
+    let names = copy_both(alloc, base, name);
+    match both(names, keys.copy(alloc)) {
+        Ok(((base, name), keys)) => Ok(DbChange::Index { base, name, keys }),
+        Err(error) => Err(error),
+    }
 }
 
 fn copy_view(alloc: Global, info: &RelInfo, query: &Query) -> Result<DbChange, OutOfMemory>
     ensures { IfOk result (λ copy. copy ≡ DbChange.View info.now query.now) }
 {
-    let (info, query) = both(info.copy(alloc), query.copy(alloc))?;
-    Ok(DbChange::View { info, query })
+    match copy_both(alloc, info, query) {
+        Ok((info, query)) => Ok(DbChange::View { info, query }),
+        Err(error) => Err(error),
+    }
 }
 
 fn copy_permit(alloc: Global, rel: &RelKey, permit: &Permit) -> Result<DbChange, OutOfMemory>
     ensures { IfOk result (λ copy. copy ≡ DbChange.Permit rel.now permit.now) }
 {
-    let (rel, permit) = both(rel.copy(alloc), permit.copy(alloc))?;
-    Ok(DbChange::Permit { rel, permit })
+    match copy_both(alloc, rel, permit) {
+        Ok((rel, permit)) => Ok(DbChange::Permit { rel, permit }),
+        Err(error) => Err(error),
+    }
 }
 
 fn copy_rule(alloc: Global, rel: &RelKey, rule: &Rule) -> Result<DbChange, OutOfMemory>
     ensures { IfOk result (λ copy. copy ≡ DbChange.Rule rel.now rule.now) }
 {
-    let (rel, rule) = both(rel.copy(alloc), rule.copy(alloc))?;
-    Ok(DbChange::Rule { rel, rule })
+    match copy_both(alloc, rel, rule) {
+        Ok((rel, rule)) => Ok(DbChange::Rule { rel, rule }),
+        Err(error) => Err(error),
+    }
 }
 
 fn copy_drop_permits(
@@ -88,8 +105,10 @@ fn copy_drop_permits(
 ) -> Result<DbChange, OutOfMemory>
     ensures { IfOk result (λ copy. copy ≡ DbChange.DropPermits rel.now numbers.now) }
 {
-    let (rel, numbers) = both(rel.copy(alloc), numbers.copy(alloc))?;
-    Ok(DbChange::DropPermits { rel, numbers })
+    match copy_both(alloc, rel, numbers) {
+        Ok((rel, numbers)) => Ok(DbChange::DropPermits { rel, numbers }),
+        Err(error) => Err(error),
+    }
 }
 
 fn copy_drop_rules(
@@ -99,8 +118,10 @@ fn copy_drop_rules(
 ) -> Result<DbChange, OutOfMemory>
     ensures { IfOk result (λ copy. copy ≡ DbChange.DropRules rel.now numbers.now) }
 {
-    let (rel, numbers) = both(rel.copy(alloc), numbers.copy(alloc))?;
-    Ok(DbChange::DropRules { rel, numbers })
+    match copy_both(alloc, rel, numbers) {
+        Ok((rel, numbers)) => Ok(DbChange::DropRules { rel, numbers }),
+        Err(error) => Err(error),
+    }
 }
 
 impl TryCopy for DbChange {
@@ -122,14 +143,18 @@ impl TryCopy for DbChange {
 
 impl TryCopy for Pair {
     fn copy(&self, alloc: Global) -> Result<Pair, OutOfMemory> {
-        let (old, new) = both(self.old.copy(alloc), self.new.copy(alloc))?;
-        Ok(Pair { old, new })
+        match copy_both(alloc, &self.old, &self.new) {
+            Ok((old, new)) => Ok(Pair { old, new }),
+            Err(error) => Err(error),
+        }
     }
 }
 
 impl TryCopy for Change {
     fn copy(&self, alloc: Global) -> Result<Change, OutOfMemory> {
-        let (remove, add) = both(self.remove.copy(alloc), self.add.copy(alloc))?;
-        Ok(Change { remove, add })
+        match copy_both(alloc, &self.remove, &self.add) {
+            Ok((remove, add)) => Ok(Change { remove, add }),
+            Err(error) => Err(error),
+        }
     }
 }

@@ -1,10 +1,11 @@
 //! Copies of what trees are made of.
 
+use super::parts::copy_both;
 use crate::{
     AggTable, Chars, CopyCol, CopyForm, Domain, Name, OutOfMemory, Probe, RelKey, Row, SortKey,
     Text, Value,
 };
-use memory::{TryCopy, both, copies};
+use memory::{TryCopy, copies};
 use std::alloc::Global;
 
 impl TryCopy for Name {
@@ -53,34 +54,46 @@ impl TryCopy for Value {
     fn copy(&self, alloc: Global) -> Result<Value, OutOfMemory> {
         match self {
             Value::Int(number) => Ok(Value::Int(*number)),
-            Value::Text(text) => Ok(Value::Text(text.copy(alloc)?)),
+            Value::Text(text) => match text.copy(alloc) {
+                Ok(text) => Ok(Value::Text(text)),
+                Err(error) => Err(error),
+            },
         }
     }
 }
 
 impl TryCopy for RelKey {
     fn copy(&self, alloc: Global) -> Result<RelKey, OutOfMemory> {
-        let (owner, name) = both(self.owner.copy(alloc), self.name.copy(alloc))?;
-        Ok(RelKey { owner, name })
+        match copy_both(alloc, &self.owner, &self.name) {
+            Ok((owner, name)) => Ok(RelKey { owner, name }),
+            Err(error) => Err(error),
+        }
     }
 }
 
 impl TryCopy for Probe {
     fn copy(&self, alloc: Global) -> Result<Probe, OutOfMemory> {
-        let equal = self.equal.copy(alloc)?;
-        Ok(Probe { equal })
+        match self.equal.copy(alloc) {
+            Ok(equal) => Ok(Probe { equal }),
+            Err(error) => Err(error),
+        }
     }
 }
 
 impl TryCopy for AggTable {
     fn copy(&self, alloc: Global) -> Result<AggTable, OutOfMemory> {
-        let (groups, empty) = both(self.groups.copy(alloc), self.empty.copy(alloc))?;
-        Ok(AggTable { groups, empty })
+        match copy_both(alloc, &self.groups, &self.empty) {
+            Ok((groups, empty)) => Ok(AggTable { groups, empty }),
+            Err(error) => Err(error),
+        }
     }
 }
 
 impl TryCopy for Row {
     fn copy(&self, alloc: Global) -> Result<Row, OutOfMemory> {
-        Ok(Row::of(copies(alloc, self.values())?))
+        match copies(alloc, self.values()) {
+            Ok(values) => Ok(Row::of(values)),
+            Err(error) => Err(error),
+        }
     }
 }

@@ -2,9 +2,38 @@
 
 ghost use Rattle.std.specs.Prelude.{◌≡◌, IfOk};
 
-use crate::{AggSource, OutOfMemory, QAgg, QQual, QTerm, Query, Target};
-use memory::{Boxed, List, TryCopy, both};
+use super::parts::{boxed, boxed_both};
+use crate::{AggSource, Chars, OutOfMemory, QAgg, QQual, QTerm, Query, Target};
+use memory::{List, TryCopy, both};
 use std::alloc::Global;
+
+fn copy_chars(alloc: Global, chars: &Chars) -> Result<QTerm, OutOfMemory>
+    ensures { IfOk result (λ copy. copy ≡ QTerm.Chars chars.now) }
+{
+    match chars.copy(alloc) {
+        Ok(chars) => Ok(QTerm::Chars(chars)),
+        Err(error) => Err(error),
+    }
+}
+
+fn like(alloc: Global, term: QTerm, pattern: &Chars, same: bool) -> Result<QQual, OutOfMemory>
+    ensures { IfOk result (λ copy. copy ≡ QQual.Like term pattern.now same) }
+{
+    match both(Ok(term), pattern.copy(alloc)) {
+        Ok((term, pattern)) => Ok(QQual::Like {
+            term,
+            pattern,
+            same,
+        }),
+        Err(error) => Err(error),
+    }
+}
+
+fn place(var: u8, attr: u8) -> QTerm
+    ensures { result ≡ QTerm.Attr var attr }
+{
+    QTerm::Attr { var, attr }
+}
 
 #[cycle(copy)]
 fn copy_term(alloc: Global, term: &QTerm) -> Result<QTerm, OutOfMemory>
@@ -12,36 +41,36 @@ fn copy_term(alloc: Global, term: &QTerm) -> Result<QTerm, OutOfMemory>
 {
     match term {
         QTerm::Int(number) => Ok(QTerm::Int(*number)),
-        QTerm::Chars(chars) => Ok(QTerm::Chars(chars.copy(alloc)?)),
-        QTerm::Attr { var, attr } => Ok(QTerm::Attr {
-            var: *var,
-            attr: *attr,
-        }),
-        QTerm::Neg(inner) => Ok(QTerm::Neg(boxed_term(alloc, inner.get())?)),
-        QTerm::Abs(inner) => Ok(QTerm::Abs(boxed_term(alloc, inner.get())?)),
+        QTerm::Chars(chars) => copy_chars(alloc, chars),
+        QTerm::Attr { var, attr } => Ok(place(*var, *attr)),
+        QTerm::Neg(inner) => match boxed(alloc, copy_term(alloc, inner.get())) {
+            Ok(inner) => Ok(QTerm::Neg(inner)),
+            Err(error) => Err(error),
+        },
+        QTerm::Abs(inner) => match boxed(alloc, copy_term(alloc, inner.get())) {
+            Ok(inner) => Ok(QTerm::Abs(inner)),
+            Err(error) => Err(error),
+        },
         QTerm::Arith { op, left, right } => {
-            let left = boxed_term(alloc, left.get());
-            let (left, right) = both(left, boxed_term(alloc, right.get()))?;
-            Ok(QTerm::Arith {
-                op: *op,
-                left,
-                right,
-            })
+            let op = *op;
+            let left = copy_term(alloc, left.get());
+            match boxed_both(alloc, left, copy_term(alloc, right.get())) {
+                Ok((left, right)) => Ok(QTerm::Arith { op, left, right }),
+                Err(error) => Err(error),
+            }
         }
         QTerm::Concat { left, right } => {
-            let left = boxed_term(alloc, left.get());
-            let (left, right) = both(left, boxed_term(alloc, right.get()))?;
-            Ok(QTerm::Concat { left, right })
+            let left = copy_term(alloc, left.get());
+            match boxed_both(alloc, left, copy_term(alloc, right.get())) {
+                Ok((left, right)) => Ok(QTerm::Concat { left, right }),
+                Err(error) => Err(error),
+            }
         }
-        QTerm::Agg(agg) => Ok(QTerm::Agg(Boxed::new(alloc, copy_agg(alloc, agg.get())?)?)),
+        QTerm::Agg(agg) => match boxed(alloc, copy_agg(alloc, agg.get())) {
+            Ok(agg) => Ok(QTerm::Agg(agg)),
+            Err(error) => Err(error),
+        },
     }
-}
-
-#[cycle(copy)]
-fn boxed_term(alloc: Global, term: &QTerm) -> Result<Boxed<QTerm>, OutOfMemory>
-    ensures { IfOk result (λ t. t ≡ term.now) }
-{
-    Boxed::new(alloc, copy_term(alloc, term)?)
 }
 
 #[cycle(copy)]
@@ -56,49 +85,44 @@ fn copy_terms(alloc: Global, terms: &[QTerm]) -> Result<List<QTerm>, OutOfMemory
 }
 
 #[cycle(copy)]
-fn boxed_qual(alloc: Global, qual: &QQual) -> Result<Boxed<QQual>, OutOfMemory>
-    ensures { IfOk result (λ q. q ≡ qual.now) }
-{
-    Boxed::new(alloc, copy_qual(alloc, qual)?)
-}
-
-#[cycle(copy)]
 fn copy_qual(alloc: Global, qual: &QQual) -> Result<QQual, OutOfMemory>
     ensures { IfOk result (λ q. q ≡ qual.now) }
 {
     match qual {
         QQual::True => Ok(QQual::True),
         QQual::Cmp { op, left, right } => {
-            let (left, right) = both(copy_term(alloc, left), copy_term(alloc, right))?;
-            Ok(QQual::Cmp {
-                op: *op,
-                left,
-                right,
-            })
+            let op = *op;
+            match both(copy_term(alloc, left), copy_term(alloc, right)) {
+                Ok((left, right)) => Ok(QQual::Cmp { op, left, right }),
+                Err(error) => Err(error),
+            }
         }
         QQual::Like {
             term,
             pattern,
             same,
-        } => {
-            let (term, pattern) = both(copy_term(alloc, term), pattern.copy(alloc))?;
-            Ok(QQual::Like {
-                term,
-                pattern,
-                same: *same,
-            })
-        }
+        } => match copy_term(alloc, term) {
+            Ok(term) => like(alloc, term, pattern, *same),
+            Err(error) => Err(error),
+        },
         QQual::And(left, right) => {
-            let left = boxed_qual(alloc, left.get());
-            let (left, right) = both(left, boxed_qual(alloc, right.get()))?;
-            Ok(QQual::And(left, right))
+            let left = copy_qual(alloc, left.get());
+            match boxed_both(alloc, left, copy_qual(alloc, right.get())) {
+                Ok((left, right)) => Ok(QQual::And(left, right)),
+                Err(error) => Err(error),
+            }
         }
         QQual::Or(left, right) => {
-            let left = boxed_qual(alloc, left.get());
-            let (left, right) = both(left, boxed_qual(alloc, right.get()))?;
-            Ok(QQual::Or(left, right))
+            let left = copy_qual(alloc, left.get());
+            match boxed_both(alloc, left, copy_qual(alloc, right.get())) {
+                Ok((left, right)) => Ok(QQual::Or(left, right)),
+                Err(error) => Err(error),
+            }
         }
-        QQual::Not(inner) => Ok(QQual::Not(boxed_qual(alloc, inner.get())?)),
+        QQual::Not(inner) => match boxed(alloc, copy_qual(alloc, inner.get())) {
+            Ok(inner) => Ok(QQual::Not(inner)),
+            Err(error) => Err(error),
+        },
     }
 }
 
@@ -111,16 +135,18 @@ fn copy_agg(alloc: Global, agg: &QAgg) -> Result<QAgg, OutOfMemory>
     let link = copy_terms(alloc, agg.link.items());
     let lists = both(by, link);
     let body = both(copy_term(alloc, &agg.arg), copy_qual(alloc, &agg.qual));
-    let (source, ((by, link), (arg, qual))) = both(source, both(lists, body))?;
-    Ok(QAgg {
-        slot: agg.slot,
-        op: agg.op,
-        source,
-        arg,
-        by,
-        link,
-        qual,
-    })
+    match both(source, both(lists, body)) {
+        Ok((source, ((by, link), (arg, qual)))) => Ok(QAgg {
+            slot: agg.slot,
+            op: agg.op,
+            source,
+            arg,
+            by,
+            link,
+            qual,
+        }),
+        Err(error) => Err(error),
+    }
 }
 
 #[cycle(copy)]
@@ -128,11 +154,14 @@ fn copy_source(alloc: Global, source: &AggSource) -> Result<AggSource, OutOfMemo
     ensures { IfOk result (λ s. s ≡ source.now) }
 {
     match source {
-        AggSource::Named(key) => Ok(AggSource::Named(key.copy(alloc)?)),
-        AggSource::Rows(query) => {
-            let query = Boxed::new(alloc, copy_query(alloc, query.get())?)?;
-            Ok(AggSource::Rows(query))
-        }
+        AggSource::Named(key) => match key.copy(alloc) {
+            Ok(key) => Ok(AggSource::Named(key)),
+            Err(error) => Err(error),
+        },
+        AggSource::Rows(query) => match boxed(alloc, copy_query(alloc, query.get())) {
+            Ok(query) => Ok(AggSource::Rows(query)),
+            Err(error) => Err(error),
+        },
     }
 }
 
@@ -140,12 +169,14 @@ fn copy_source(alloc: Global, source: &AggSource) -> Result<AggSource, OutOfMemo
 fn copy_target(alloc: Global, target: &Target) -> Result<Target, OutOfMemory>
     ensures { IfOk result (λ t. t ≡ target.now) }
 {
-    let (name, term) = both(target.name.copy(alloc), copy_term(alloc, &target.term))?;
-    Ok(Target {
-        name,
-        kind: target.kind,
-        term,
-    })
+    match both(target.name.copy(alloc), copy_term(alloc, &target.term)) {
+        Ok((name, term)) => Ok(Target {
+            name,
+            kind: target.kind,
+            term,
+        }),
+        Err(error) => Err(error),
+    }
 }
 
 #[cycle(copy)]
@@ -165,12 +196,14 @@ fn copy_query(alloc: Global, query: &Query) -> Result<Query, OutOfMemory>
 {
     let targets = copy_targets(alloc, query.targets.items());
     let rest = both(targets, copy_qual(alloc, &query.qual));
-    let (vars, (targets, qual)) = both(query.vars.copy(alloc), rest)?;
-    Ok(Query {
-        vars,
-        targets,
-        qual,
-    })
+    match both(query.vars.copy(alloc), rest) {
+        Ok((vars, (targets, qual))) => Ok(Query {
+            vars,
+            targets,
+            qual,
+        }),
+        Err(error) => Err(error),
+    }
 }
 
 impl TryCopy for QTerm {

@@ -1,23 +1,28 @@
 //! Copies of replies.
 
+use super::parts::copy_both;
 use crate::{Column, OutOfMemory, Reply, Table};
-use memory::{TryCopy, both};
+use memory::TryCopy;
 use std::alloc::Global;
 
 impl TryCopy for Column {
     fn copy(&self, alloc: Global) -> Result<Column, OutOfMemory> {
-        let name = self.name.copy(alloc)?;
-        Ok(Column {
-            name,
-            kind: self.kind,
-        })
+        match self.name.copy(alloc) {
+            Ok(name) => Ok(Column {
+                name,
+                kind: self.kind,
+            }),
+            Err(error) => Err(error),
+        }
     }
 }
 
 impl TryCopy for Table {
     fn copy(&self, alloc: Global) -> Result<Table, OutOfMemory> {
-        let (columns, rows) = both(self.columns.copy(alloc), self.rows.copy(alloc))?;
-        Ok(Table { columns, rows })
+        match copy_both(alloc, &self.columns, &self.rows) {
+            Ok((columns, rows)) => Ok(Table { columns, rows }),
+            Err(error) => Err(error),
+        }
     }
 }
 
@@ -27,7 +32,10 @@ impl TryCopy for Reply {
             Reply::Nothing => Ok(Reply::Nothing),
             Reply::Done => Ok(Reply::Done),
             Reply::Refused(refusal) => Ok(Reply::Refused(*refusal)),
-            Reply::Tables(tables) => Ok(Reply::Tables(tables.copy(alloc)?)),
+            Reply::Tables(tables) => match tables.copy(alloc) {
+                Ok(tables) => Ok(Reply::Tables(tables)),
+                Err(error) => Err(error),
+            },
         }
     }
 }

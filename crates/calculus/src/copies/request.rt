@@ -2,6 +2,7 @@
 
 ghost use Rattle.std.specs.Prelude.{◌≡◌, IfOk};
 
+use super::parts::copy_both;
 use crate::{
     Asked, Attr, Chars, Checked, CopyCol, Name, OutOfMemory, Permit, Query, RelKey, Rule, Spec,
     Update, Utility,
@@ -12,15 +13,19 @@ use std::alloc::Global;
 fn copy_create(alloc: Global, rel: &RelKey, attrs: &List<Attr>) -> Result<Utility, OutOfMemory>
     ensures { IfOk result (λ copy. copy ≡ Utility.Create rel.now attrs.now) }
 {
-    let (rel, attrs) = both(rel.copy(alloc), attrs.copy(alloc))?;
-    Ok(Utility::Create { rel, attrs })
+    match copy_both(alloc, rel, attrs) {
+        Ok((rel, attrs)) => Ok(Utility::Create { rel, attrs }),
+        Err(error) => Err(error),
+    }
 }
 
 fn copy_destroy(alloc: Global, rels: &List<RelKey>) -> Result<Utility, OutOfMemory>
     ensures { IfOk result (λ copy. copy ≡ Utility.Destroy rels.now) }
 {
-    let rels = rels.copy(alloc)?;
-    Ok(Utility::Destroy { rels })
+    match rels.copy(alloc) {
+        Ok(rels) => Ok(Utility::Destroy { rels }),
+        Err(error) => Err(error),
+    }
 }
 
 fn copy_modify(
@@ -31,8 +36,10 @@ fn copy_modify(
 ) -> Result<Utility, OutOfMemory>
     ensures { IfOk result (λ copy. copy ≡ Utility.Modify rel.now to keys.now) }
 {
-    let (rel, keys) = both(rel.copy(alloc), keys.copy(alloc))?;
-    Ok(Utility::Modify { rel, to, keys })
+    match copy_both(alloc, rel, keys) {
+        Ok((rel, keys)) => Ok(Utility::Modify { rel, to, keys }),
+        Err(error) => Err(error),
+    }
 }
 
 fn copy_index(
@@ -43,9 +50,11 @@ fn copy_index(
 ) -> Result<Utility, OutOfMemory>
     ensures { IfOk result (λ copy. copy ≡ Utility.Index base.now name.now keys.now) }
 {
-    let names = both(base.copy(alloc), name.copy(alloc));
-    let ((base, name), keys) = both(names, keys.copy(alloc))?;
-    Ok(Utility::Index { base, name, keys })
+    let names = copy_both(alloc, base, name);
+    match both(names, keys.copy(alloc)) {
+        Ok(((base, name), keys)) => Ok(Utility::Index { base, name, keys }),
+        Err(error) => Err(error),
+    }
 }
 
 fn copy_file(
@@ -57,35 +66,43 @@ fn copy_file(
 ) -> Result<Utility, OutOfMemory>
     ensures { IfOk result (λ copy. copy ≡ Utility.Copy rel.now columns.now from file.now) }
 {
-    let form = both(columns.copy(alloc), file.copy(alloc));
-    let (rel, (columns, file)) = both(rel.copy(alloc), form)?;
-    Ok(Utility::Copy {
-        rel,
-        columns,
-        from,
-        file,
-    })
+    let form = copy_both(alloc, columns, file);
+    match both(rel.copy(alloc), form) {
+        Ok((rel, (columns, file))) => Ok(Utility::Copy {
+            rel,
+            columns,
+            from,
+            file,
+        }),
+        Err(error) => Err(error),
+    }
 }
 
 fn copy_view(alloc: Global, rel: &RelKey, query: &Query) -> Result<Utility, OutOfMemory>
     ensures { IfOk result (λ copy. copy ≡ Utility.View rel.now query.now) }
 {
-    let (rel, query) = both(rel.copy(alloc), query.copy(alloc))?;
-    Ok(Utility::View { rel, query })
+    match copy_both(alloc, rel, query) {
+        Ok((rel, query)) => Ok(Utility::View { rel, query }),
+        Err(error) => Err(error),
+    }
 }
 
 fn copy_permit(alloc: Global, rel: &RelKey, permit: &Permit) -> Result<Utility, OutOfMemory>
     ensures { IfOk result (λ copy. copy ≡ Utility.Permit rel.now permit.now) }
 {
-    let (rel, permit) = both(rel.copy(alloc), permit.copy(alloc))?;
-    Ok(Utility::Permit { rel, permit })
+    match copy_both(alloc, rel, permit) {
+        Ok((rel, permit)) => Ok(Utility::Permit { rel, permit }),
+        Err(error) => Err(error),
+    }
 }
 
 fn copy_rule(alloc: Global, rel: &RelKey, rule: &Rule) -> Result<Utility, OutOfMemory>
     ensures { IfOk result (λ copy. copy ≡ Utility.Rule rel.now rule.now) }
 {
-    let (rel, rule) = both(rel.copy(alloc), rule.copy(alloc))?;
-    Ok(Utility::Rule { rel, rule })
+    match copy_both(alloc, rel, rule) {
+        Ok((rel, rule)) => Ok(Utility::Rule { rel, rule }),
+        Err(error) => Err(error),
+    }
 }
 
 fn copy_drop_permits(
@@ -95,15 +112,19 @@ fn copy_drop_permits(
 ) -> Result<Utility, OutOfMemory>
     ensures { IfOk result (λ copy. copy ≡ Utility.DropPermits rel.now numbers.now) }
 {
-    let (rel, numbers) = both(rel.copy(alloc), numbers.copy(alloc))?;
-    Ok(Utility::DropPermits { rel, numbers })
+    match copy_both(alloc, rel, numbers) {
+        Ok((rel, numbers)) => Ok(Utility::DropPermits { rel, numbers }),
+        Err(error) => Err(error),
+    }
 }
 
 fn copy_drop_rules(alloc: Global, rel: &RelKey, numbers: &List<u32>) -> Result<Utility, OutOfMemory>
     ensures { IfOk result (λ copy. copy ≡ Utility.DropRules rel.now numbers.now) }
 {
-    let (rel, numbers) = both(rel.copy(alloc), numbers.copy(alloc))?;
-    Ok(Utility::DropRules { rel, numbers })
+    match copy_both(alloc, rel, numbers) {
+        Ok((rel, numbers)) => Ok(Utility::DropRules { rel, numbers }),
+        Err(error) => Err(error),
+    }
 }
 
 impl TryCopy for Utility {
@@ -130,35 +151,48 @@ impl TryCopy for Utility {
 
 impl TryCopy for Asked {
     fn copy(&self, alloc: Global) -> Result<Asked, OutOfMemory> {
-        let (query, sort) = both(self.query.copy(alloc), self.sort.copy(alloc))?;
-        Ok(Asked { query, sort })
+        match copy_both(alloc, &self.query, &self.sort) {
+            Ok((query, sort)) => Ok(Asked { query, sort }),
+            Err(error) => Err(error),
+        }
     }
 }
 
 impl TryCopy for Update {
     fn copy(&self, alloc: Global) -> Result<Update, OutOfMemory> {
-        let place = both(self.rel.copy(alloc), self.places.copy(alloc));
-        let tests = both(self.checks.copy(alloc), self.new_cut.copy(alloc));
+        let place = copy_both(alloc, &self.rel, &self.places);
+        let tests = copy_both(alloc, &self.checks, &self.new_cut);
         let rest = both(self.query.copy(alloc), tests);
-        let ((rel, places), (query, (checks, new_cut))) = both(place, rest)?;
-        Ok(Update {
-            op: self.op,
-            rel,
-            old: self.old,
-            places,
-            query,
-            checks,
-            new_cut,
-        })
+        match both(place, rest) {
+            Ok(((rel, places), (query, (checks, new_cut)))) => Ok(Update {
+                op: self.op,
+                rel,
+                old: self.old,
+                places,
+                query,
+                checks,
+                new_cut,
+            }),
+            Err(error) => Err(error),
+        }
     }
 }
 
 impl TryCopy for Checked {
     fn copy(&self, alloc: Global) -> Result<Checked, OutOfMemory> {
         match self {
-            Checked::Answer(asked) => Ok(Checked::Answer(asked.copy(alloc)?)),
-            Checked::Update(update) => Ok(Checked::Update(update.copy(alloc)?)),
-            Checked::Utility(utility) => Ok(Checked::Utility(utility.copy(alloc)?)),
+            Checked::Answer(asked) => match asked.copy(alloc) {
+                Ok(asked) => Ok(Checked::Answer(asked)),
+                Err(error) => Err(error),
+            },
+            Checked::Update(update) => match update.copy(alloc) {
+                Ok(update) => Ok(Checked::Update(update)),
+                Err(error) => Err(error),
+            },
+            Checked::Utility(utility) => match utility.copy(alloc) {
+                Ok(utility) => Ok(Checked::Utility(utility)),
+                Err(error) => Err(error),
+            },
         }
     }
 }

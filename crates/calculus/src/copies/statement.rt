@@ -2,6 +2,7 @@
 
 ghost use Rattle.std.specs.Prelude.{◌≡◌, IfOk};
 
+use super::parts::copy_both;
 use crate::{Chars, CopyForm, Domain, Item, Name, OutOfMemory, Qual, Spec, Statement};
 use memory::{List, TryCopy, both};
 use std::alloc::Global;
@@ -9,8 +10,10 @@ use std::alloc::Global;
 fn copy_range(alloc: Global, var: &Name, rel: &Name) -> Result<Statement, OutOfMemory>
     ensures { IfOk result (λ copy. copy ≡ Statement.Range var.now rel.now) }
 {
-    let (var, rel) = both(var.copy(alloc), rel.copy(alloc))?;
-    Ok(Statement::Range { var, rel })
+    match copy_both(alloc, var, rel) {
+        Ok((var, rel)) => Ok(Statement::Range { var, rel }),
+        Err(error) => Err(error),
+    }
 }
 
 fn copy_retrieve(
@@ -22,15 +25,17 @@ fn copy_retrieve(
 ) -> Result<Statement, OutOfMemory>
     ensures { IfOk result (λ copy. copy ≡ Statement.Retrieve into.now items.now qual.now sort.now) }
 {
-    let edges = both(into.copy(alloc), sort.copy(alloc));
-    let query = both(items.copy(alloc), qual.copy(alloc));
-    let ((into, sort), (items, qual)) = both(edges, query)?;
-    Ok(Statement::Retrieve {
-        into,
-        items,
-        qual,
-        sort,
-    })
+    let edges = copy_both(alloc, into, sort);
+    let query = copy_both(alloc, items, qual);
+    match both(edges, query) {
+        Ok(((into, sort), (items, qual))) => Ok(Statement::Retrieve {
+            into,
+            items,
+            qual,
+            sort,
+        }),
+        Err(error) => Err(error),
+    }
 }
 
 fn copy_append(
@@ -41,9 +46,11 @@ fn copy_append(
 ) -> Result<Statement, OutOfMemory>
     ensures { IfOk result (λ copy. copy ≡ Statement.Append rel.now items.now qual.now) }
 {
-    let query = both(items.copy(alloc), qual.copy(alloc));
-    let (rel, (items, qual)) = both(rel.copy(alloc), query)?;
-    Ok(Statement::Append { rel, items, qual })
+    let query = copy_both(alloc, items, qual);
+    match both(rel.copy(alloc), query) {
+        Ok((rel, (items, qual))) => Ok(Statement::Append { rel, items, qual }),
+        Err(error) => Err(error),
+    }
 }
 
 fn copy_replace(
@@ -54,16 +61,20 @@ fn copy_replace(
 ) -> Result<Statement, OutOfMemory>
     ensures { IfOk result (λ copy. copy ≡ Statement.Replace var.now items.now qual.now) }
 {
-    let query = both(items.copy(alloc), qual.copy(alloc));
-    let (var, (items, qual)) = both(var.copy(alloc), query)?;
-    Ok(Statement::Replace { var, items, qual })
+    let query = copy_both(alloc, items, qual);
+    match both(var.copy(alloc), query) {
+        Ok((var, (items, qual))) => Ok(Statement::Replace { var, items, qual }),
+        Err(error) => Err(error),
+    }
 }
 
 fn copy_delete(alloc: Global, var: &Name, qual: &Qual) -> Result<Statement, OutOfMemory>
     ensures { IfOk result (λ copy. copy ≡ Statement.Delete var.now qual.now) }
 {
-    let (var, qual) = both(var.copy(alloc), qual.copy(alloc))?;
-    Ok(Statement::Delete { var, qual })
+    match copy_both(alloc, var, qual) {
+        Ok((var, qual)) => Ok(Statement::Delete { var, qual }),
+        Err(error) => Err(error),
+    }
 }
 
 fn copy_create(
@@ -73,15 +84,19 @@ fn copy_create(
 ) -> Result<Statement, OutOfMemory>
     ensures { IfOk result (λ copy. copy ≡ Statement.Create rel.now attrs.now) }
 {
-    let (rel, attrs) = both(rel.copy(alloc), attrs.copy(alloc))?;
-    Ok(Statement::Create { rel, attrs })
+    match copy_both(alloc, rel, attrs) {
+        Ok((rel, attrs)) => Ok(Statement::Create { rel, attrs }),
+        Err(error) => Err(error),
+    }
 }
 
 fn copy_destroy(alloc: Global, rels: &List<Name>) -> Result<Statement, OutOfMemory>
     ensures { IfOk result (λ copy. copy ≡ Statement.Destroy rels.now) }
 {
-    let rels = rels.copy(alloc)?;
-    Ok(Statement::Destroy { rels })
+    match rels.copy(alloc) {
+        Ok(rels) => Ok(Statement::Destroy { rels }),
+        Err(error) => Err(error),
+    }
 }
 
 fn copy_drop_permits(
@@ -91,15 +106,19 @@ fn copy_drop_permits(
 ) -> Result<Statement, OutOfMemory>
     ensures { IfOk result (λ copy. copy ≡ Statement.DropPermits rel.now numbers.now) }
 {
-    let (rel, numbers) = both(rel.copy(alloc), numbers.copy(alloc))?;
-    Ok(Statement::DropPermits { rel, numbers })
+    match copy_both(alloc, rel, numbers) {
+        Ok((rel, numbers)) => Ok(Statement::DropPermits { rel, numbers }),
+        Err(error) => Err(error),
+    }
 }
 
 fn copy_drop_rules(alloc: Global, rel: &Name, numbers: &List<u32>) -> Result<Statement, OutOfMemory>
     ensures { IfOk result (λ copy. copy ≡ Statement.DropRules rel.now numbers.now) }
 {
-    let (rel, numbers) = both(rel.copy(alloc), numbers.copy(alloc))?;
-    Ok(Statement::DropRules { rel, numbers })
+    match copy_both(alloc, rel, numbers) {
+        Ok((rel, numbers)) => Ok(Statement::DropRules { rel, numbers }),
+        Err(error) => Err(error),
+    }
 }
 
 fn copy_modify(
@@ -110,8 +129,10 @@ fn copy_modify(
 ) -> Result<Statement, OutOfMemory>
     ensures { IfOk result (λ copy. copy ≡ Statement.Modify rel.now to keys.now) }
 {
-    let (rel, keys) = both(rel.copy(alloc), keys.copy(alloc))?;
-    Ok(Statement::Modify { rel, to, keys })
+    match copy_both(alloc, rel, keys) {
+        Ok((rel, keys)) => Ok(Statement::Modify { rel, to, keys }),
+        Err(error) => Err(error),
+    }
 }
 
 fn copy_index(
@@ -122,23 +143,29 @@ fn copy_index(
 ) -> Result<Statement, OutOfMemory>
     ensures { IfOk result (λ copy. copy ≡ Statement.Index base.now name.now keys.now) }
 {
-    let names = both(base.copy(alloc), name.copy(alloc));
-    let ((base, name), keys) = both(names, keys.copy(alloc))?;
-    Ok(Statement::Index { base, name, keys })
+    let names = copy_both(alloc, base, name);
+    match both(names, keys.copy(alloc)) {
+        Ok(((base, name), keys)) => Ok(Statement::Index { base, name, keys }),
+        Err(error) => Err(error),
+    }
 }
 
 fn copy_print(alloc: Global, rels: &List<Name>) -> Result<Statement, OutOfMemory>
     ensures { IfOk result (λ copy. copy ≡ Statement.Print rels.now) }
 {
-    let rels = rels.copy(alloc)?;
-    Ok(Statement::Print { rels })
+    match rels.copy(alloc) {
+        Ok(rels) => Ok(Statement::Print { rels }),
+        Err(error) => Err(error),
+    }
 }
 
 fn copy_help(alloc: Global, rel: &Option<Name>) -> Result<Statement, OutOfMemory>
     ensures { IfOk result (λ copy. copy ≡ Statement.Help rel.now) }
 {
-    let rel = rel.copy(alloc)?;
-    Ok(Statement::Help { rel })
+    match rel.copy(alloc) {
+        Ok(rel) => Ok(Statement::Help { rel }),
+        Err(error) => Err(error),
+    }
 }
 
 fn copy_file(
@@ -150,14 +177,16 @@ fn copy_file(
 ) -> Result<Statement, OutOfMemory>
     ensures { IfOk result (λ copy. copy ≡ Statement.Copy rel.now columns.now from file.now) }
 {
-    let form = both(columns.copy(alloc), file.copy(alloc));
-    let (rel, (columns, file)) = both(rel.copy(alloc), form)?;
-    Ok(Statement::Copy {
-        rel,
-        columns,
-        from,
-        file,
-    })
+    let form = copy_both(alloc, columns, file);
+    match both(rel.copy(alloc), form) {
+        Ok((rel, (columns, file))) => Ok(Statement::Copy {
+            rel,
+            columns,
+            from,
+            file,
+        }),
+        Err(error) => Err(error),
+    }
 }
 
 fn copy_view(
@@ -168,9 +197,11 @@ fn copy_view(
 ) -> Result<Statement, OutOfMemory>
     ensures { IfOk result (λ copy. copy ≡ Statement.View name.now items.now qual.now) }
 {
-    let query = both(items.copy(alloc), qual.copy(alloc));
-    let (name, (items, qual)) = both(name.copy(alloc), query)?;
-    Ok(Statement::View { name, items, qual })
+    let query = copy_both(alloc, items, qual);
+    match both(name.copy(alloc), query) {
+        Ok((name, (items, qual))) => Ok(Statement::View { name, items, qual }),
+        Err(error) => Err(error),
+    }
 }
 
 fn copy_permit(
@@ -183,23 +214,27 @@ fn copy_permit(
 ) -> Result<Statement, OutOfMemory>
     ensures { IfOk result (λ copy. copy ≡ Statement.Permit ops var.now attrs.now user.now qual.now) }
 {
-    let covered = both(var.copy(alloc), attrs.copy(alloc));
-    let allowed = both(user.copy(alloc), qual.copy(alloc));
-    let ((var, attrs), (user, qual)) = both(covered, allowed)?;
-    Ok(Statement::Permit {
-        ops,
-        var,
-        attrs,
-        user,
-        qual,
-    })
+    let covered = copy_both(alloc, var, attrs);
+    let allowed = copy_both(alloc, user, qual);
+    match both(covered, allowed) {
+        Ok(((var, attrs), (user, qual))) => Ok(Statement::Permit {
+            ops,
+            var,
+            attrs,
+            user,
+            qual,
+        }),
+        Err(error) => Err(error),
+    }
 }
 
 fn copy_rule(alloc: Global, var: &Name, qual: &Qual) -> Result<Statement, OutOfMemory>
     ensures { IfOk result (λ copy. copy ≡ Statement.Rule var.now qual.now) }
 {
-    let (var, qual) = both(var.copy(alloc), qual.copy(alloc))?;
-    Ok(Statement::Rule { var, qual })
+    match copy_both(alloc, var, qual) {
+        Ok((var, qual)) => Ok(Statement::Rule { var, qual }),
+        Err(error) => Err(error),
+    }
 }
 
 impl TryCopy for Statement {
@@ -245,17 +280,18 @@ impl TryCopy for Statement {
 impl TryCopy for Item {
     fn copy(&self, alloc: Global) -> Result<Item, OutOfMemory> {
         match self {
-            Item::Set { name, term } => {
-                let (name, term) = both(name.copy(alloc), term.copy(alloc))?;
-                Ok(Item::Set { name, term })
-            }
-            Item::Attr { var, attr } => {
-                let (var, attr) = both(var.copy(alloc), attr.copy(alloc))?;
-                Ok(Item::Attr { var, attr })
-            }
-            Item::All { var } => Ok(Item::All {
-                var: var.copy(alloc)?,
-            }),
+            Item::Set { name, term } => match copy_both(alloc, name, term) {
+                Ok((name, term)) => Ok(Item::Set { name, term }),
+                Err(error) => Err(error),
+            },
+            Item::Attr { var, attr } => match copy_both(alloc, var, attr) {
+                Ok((var, attr)) => Ok(Item::Attr { var, attr }),
+                Err(error) => Err(error),
+            },
+            Item::All { var } => match var.copy(alloc) {
+                Ok(var) => Ok(Item::All { var }),
+                Err(error) => Err(error),
+            },
         }
     }
 }

@@ -2,9 +2,28 @@
 
 ghost use Rattle.std.specs.Prelude.{◌≡◌, IfOk};
 
-use crate::{AggTerm, OutOfMemory, Qual, Term};
-use memory::{Boxed, List, TryCopy, both};
+use super::parts::{boxed, boxed_both, copy_both};
+use crate::{AggTerm, Chars, Name, OutOfMemory, Qual, Term};
+use memory::{List, TryCopy, both};
 use std::alloc::Global;
+
+fn copy_chars(alloc: Global, chars: &Chars) -> Result<Term, OutOfMemory>
+    ensures { IfOk result (λ copy. copy ≡ Term.Chars chars.now) }
+{
+    match chars.copy(alloc) {
+        Ok(chars) => Ok(Term::Chars(chars)),
+        Err(error) => Err(error),
+    }
+}
+
+fn copy_attribute(alloc: Global, var: &Name, attr: &Name) -> Result<Term, OutOfMemory>
+    ensures { IfOk result (λ copy. copy ≡ Term.Attr var.now attr.now) }
+{
+    match copy_both(alloc, var, attr) {
+        Ok((var, attr)) => Ok(Term::Attr { var, attr }),
+        Err(error) => Err(error),
+    }
+}
 
 #[cycle(copy)]
 fn copy_term(alloc: Global, term: &Term) -> Result<Term, OutOfMemory>
@@ -12,36 +31,36 @@ fn copy_term(alloc: Global, term: &Term) -> Result<Term, OutOfMemory>
 {
     match term {
         Term::Int(number) => Ok(Term::Int(*number)),
-        Term::Chars(chars) => Ok(Term::Chars(chars.copy(alloc)?)),
-        Term::Attr { var, attr } => {
-            let (var, attr) = both(var.copy(alloc), attr.copy(alloc))?;
-            Ok(Term::Attr { var, attr })
-        }
-        Term::Neg(inner) => Ok(Term::Neg(boxed_term(alloc, inner.get())?)),
-        Term::Abs(inner) => Ok(Term::Abs(boxed_term(alloc, inner.get())?)),
+        Term::Chars(chars) => copy_chars(alloc, chars),
+        Term::Attr { var, attr } => copy_attribute(alloc, var, attr),
+        Term::Neg(inner) => match boxed(alloc, copy_term(alloc, inner.get())) {
+            Ok(inner) => Ok(Term::Neg(inner)),
+            Err(error) => Err(error),
+        },
+        Term::Abs(inner) => match boxed(alloc, copy_term(alloc, inner.get())) {
+            Ok(inner) => Ok(Term::Abs(inner)),
+            Err(error) => Err(error),
+        },
         Term::Arith { op, left, right } => {
-            let left = boxed_term(alloc, left.get());
-            let (left, right) = both(left, boxed_term(alloc, right.get()))?;
-            Ok(Term::Arith {
-                op: *op,
-                left,
-                right,
-            })
+            let op = *op;
+            let left = copy_term(alloc, left.get());
+            match boxed_both(alloc, left, copy_term(alloc, right.get())) {
+                Ok((left, right)) => Ok(Term::Arith { op, left, right }),
+                Err(error) => Err(error),
+            }
         }
         Term::Concat { left, right } => {
-            let left = boxed_term(alloc, left.get());
-            let (left, right) = both(left, boxed_term(alloc, right.get()))?;
-            Ok(Term::Concat { left, right })
+            let left = copy_term(alloc, left.get());
+            match boxed_both(alloc, left, copy_term(alloc, right.get())) {
+                Ok((left, right)) => Ok(Term::Concat { left, right }),
+                Err(error) => Err(error),
+            }
         }
-        Term::Agg(agg) => Ok(Term::Agg(Boxed::new(alloc, copy_agg(alloc, agg.get())?)?)),
+        Term::Agg(agg) => match boxed(alloc, copy_agg(alloc, agg.get())) {
+            Ok(agg) => Ok(Term::Agg(agg)),
+            Err(error) => Err(error),
+        },
     }
-}
-
-#[cycle(copy)]
-fn boxed_term(alloc: Global, term: &Term) -> Result<Boxed<Term>, OutOfMemory>
-    ensures { IfOk result (λ t. t ≡ term.now) }
-{
-    Boxed::new(alloc, copy_term(alloc, term)?)
 }
 
 #[cycle(copy)]
@@ -62,20 +81,15 @@ fn copy_agg(alloc: Global, agg: &AggTerm) -> Result<AggTerm, OutOfMemory>
     let arg = copy_term(alloc, &agg.arg);
     let by = copy_terms(alloc, agg.by.items());
     let qual = copy_qual(alloc, &agg.qual);
-    let (arg, (by, qual)) = both(arg, both(by, qual))?;
-    Ok(AggTerm {
-        op: agg.op,
-        arg,
-        by,
-        qual,
-    })
-}
-
-#[cycle(copy)]
-fn boxed_qual(alloc: Global, qual: &Qual) -> Result<Boxed<Qual>, OutOfMemory>
-    ensures { IfOk result (λ q. q ≡ qual.now) }
-{
-    Boxed::new(alloc, copy_qual(alloc, qual)?)
+    match both(arg, both(by, qual)) {
+        Ok((arg, (by, qual))) => Ok(AggTerm {
+            op: agg.op,
+            arg,
+            by,
+            qual,
+        }),
+        Err(error) => Err(error),
+    }
 }
 
 #[cycle(copy)]
@@ -85,24 +99,30 @@ fn copy_qual(alloc: Global, qual: &Qual) -> Result<Qual, OutOfMemory>
     match qual {
         Qual::True => Ok(Qual::True),
         Qual::Cmp { op, left, right } => {
-            let (left, right) = both(copy_term(alloc, left), copy_term(alloc, right))?;
-            Ok(Qual::Cmp {
-                op: *op,
-                left,
-                right,
-            })
+            let op = *op;
+            match both(copy_term(alloc, left), copy_term(alloc, right)) {
+                Ok((left, right)) => Ok(Qual::Cmp { op, left, right }),
+                Err(error) => Err(error),
+            }
         }
         Qual::And(left, right) => {
-            let left = boxed_qual(alloc, left.get());
-            let (left, right) = both(left, boxed_qual(alloc, right.get()))?;
-            Ok(Qual::And(left, right))
+            let left = copy_qual(alloc, left.get());
+            match boxed_both(alloc, left, copy_qual(alloc, right.get())) {
+                Ok((left, right)) => Ok(Qual::And(left, right)),
+                Err(error) => Err(error),
+            }
         }
         Qual::Or(left, right) => {
-            let left = boxed_qual(alloc, left.get());
-            let (left, right) = both(left, boxed_qual(alloc, right.get()))?;
-            Ok(Qual::Or(left, right))
+            let left = copy_qual(alloc, left.get());
+            match boxed_both(alloc, left, copy_qual(alloc, right.get())) {
+                Ok((left, right)) => Ok(Qual::Or(left, right)),
+                Err(error) => Err(error),
+            }
         }
-        Qual::Not(inner) => Ok(Qual::Not(boxed_qual(alloc, inner.get())?)),
+        Qual::Not(inner) => match boxed(alloc, copy_qual(alloc, inner.get())) {
+            Ok(inner) => Ok(Qual::Not(inner)),
+            Err(error) => Err(error),
+        },
     }
 }
 
