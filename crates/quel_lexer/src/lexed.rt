@@ -1,6 +1,6 @@
 //! The first tokens of a text from a place on, with their places.
 
-ghost use Rattle.std.specs.Prelude.{◌≡◌, ◌≤◌, false, length, drop, IfOk};
+ghost use Rattle.std.specs.Prelude.{◌≡◌, ◌≤◌, ◌++◌, ◌∷◌, [], false, length, drop, IfOk, OnOk};
 ghost use Rattle.quel_grammar.specs.Next.{first_place};
 ghost use Rattle.quel_grammar.specs.Pieces.{pieces_from};
 ghost use Rattle.quel_lexer.specs.declared.lexed.Stop.TheVariants.{More};
@@ -67,6 +67,61 @@ fn behind(text: &[u8], at: usize) -> &[u8]
     text.split_at(at).1
 }
 
+/// Puts a token and its place behind others.
+fn put(
+    tokens: &mut Vec<Token>,
+    spans: &mut Vec<Span>,
+    token: Token,
+    span: Span,
+) -> Result<(), OutOfMemory>
+    ensures tokens { OnOk result (tokens.new.items ≡ tokens.old.items ++ token ∷ []) }
+    ensures spans { OnOk result (spans.new.items ≡ spans.old.items ++ span ∷ []) }
+{
+    tokens.push(token)?;
+    spans.push(span)?;
+    Ok(())
+}
+
+/// Cuts the first tokens of a text from a place on into two lists that have none, and says what
+/// follows them.
+fn cut(
+    alloc: Global,
+    text: &[u8],
+    from: usize,
+    most: usize,
+    one: bool,
+    tokens: &mut Vec<Token>,
+    spans: &mut Vec<Span>,
+) -> Result<Stop, OutOfMemory>
+    requires no_tokens { tokens.old.items ≡ [] }
+    requires no_spans { spans.old.items ≡ [] }
+    ensures front { IfOk result (λ stop. IsFront (pieces_from text.now from) (record { tokens = tokens.new; spans = spans.new; stop = stop })) }
+    ensures many { IfOk result (λ stop. length tokens.new.items ≤ most) }
+    ensures all { IfOk result (λ stop. one ≡ false → stop ≡ More → length tokens.new.items ≡ most) }
+{
+    let mut rest = behind(text, from);
+    let mut at = from;
+    while tokens.len() < most {
+        if rest.is_empty() {
+            return Ok(Stop::End);
+        }
+        let Some((piece, len)) = piece_at(alloc, rest)? else {
+            return Ok(Stop::Bad(at));
+        };
+        let end = at + len;
+        rest = rest.split_at(len).1;
+        if let Piece::Token(token) = piece {
+            let last = one && !tokens.is_empty() && is_verb(&token);
+            put(tokens, spans, token, Span { begin: at, end })?;
+            if last {
+                return Ok(Stop::More);
+            }
+        }
+        at = end;
+    }
+    Ok(Stop::More)
+}
+
 /// The first tokens of a text from a place on, at most so many. With `one`, no more are cut than
 /// up to the first one behind the first that begins a statement: mostly that is the next
 /// statement's.
@@ -83,43 +138,11 @@ pub fn lex_front(
 {
     let mut tokens = Vec::new(alloc);
     let mut spans = Vec::new(alloc);
-    let mut rest = behind(text, from);
-    let mut at = from;
-    while tokens.len() < most {
-        if rest.is_empty() {
-            return Ok(Lexed {
-                tokens,
-                spans,
-                stop: Stop::End,
-            });
-        }
-        let Some((piece, len)) = piece_at(alloc, rest)? else {
-            return Ok(Lexed {
-                tokens,
-                spans,
-                stop: Stop::Bad(at),
-            });
-        };
-        let end = at + len;
-        rest = rest.split_at(len).1;
-        if let Piece::Token(token) = piece {
-            let last = one && !tokens.is_empty() && is_verb(&token);
-            tokens.push(token)?;
-            spans.push(Span { begin: at, end })?;
-            if last {
-                return Ok(Lexed {
-                    tokens,
-                    spans,
-                    stop: Stop::More,
-                });
-            }
-        }
-        at = end;
-    }
+    let stop = cut(alloc, text, from, most, one, &mut tokens, &mut spans)?;
     Ok(Lexed {
         tokens,
         spans,
-        stop: Stop::More,
+        stop,
     })
 }
 

@@ -1,7 +1,8 @@
 //! Why nothing more was read.
 
-ghost use Rattle.std.specs.Prelude.{◌≡◌};
+ghost use Rattle.std.specs.Prelude.{◌≡◌, Ok, IfOk};
 ghost use Rattle.quel_terms.specs.declared.halt.Halt.TheVariants.{Memory};
+ghost use Rattle.quel_terms.specs.View.{Gives};
 
 use calculus::OutOfMemory;
 use quel_grammar::Token;
@@ -39,5 +40,15 @@ impl<'a, T: Drop> From<AllocFailed<T>> for Halt<'a> {
 
     fn from(_error: AllocFailed<T>) -> Halt<'a> {
         Halt::Memory
+    }
+}
+
+/// What was made, with the tokens behind it.
+pub fn made<'a, T: Drop>(value: Result<T, OutOfMemory>, rest: &'a [Token]) -> Read<'a, T>
+    ensures { (v : T) → IfOk value (λ w. w ≡ v) → Gives (λ x. (x.0, x.1.now)) result (Ok (v, rest.now)) }
+{
+    match value {
+        Ok(value) => Ok((value, rest)),
+        Err(OutOfMemory) => Err(Halt::Memory),
     }
 }

@@ -2,6 +2,7 @@
 #![tactic(auto)]
 
 mod called;
+mod depth;
 mod halt;
 mod primaries;
 mod qualifications;

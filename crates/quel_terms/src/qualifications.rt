@@ -2,16 +2,18 @@
 //! its name in the grammar's definitions reads, where at most `depth` functions that take a token may
 //! call each other.
 
-ghost use Rattle.std.specs.Prelude.{◌≡◌};
-ghost use Rattle.quel_grammar.specs.TermReaders.{level, demanded, right_side_by, compare_by, grouped_by, compared_by, mixed_group_by, negated_by, plain_by, operand_by, neg_by, next_and_by, ands_by, conj_by, next_or_by, ors_by, mixed_from, mixed_by, qual_by};
+ghost use Rattle.std.specs.Prelude.{Ok};
+ghost use Rattle.quel_grammar.specs.TermReaders.{level, demanded, compare_by, grouped_by, mixed_group_by, operand_by, neg_by, ands_by, conj_by, ors_by, mixed_from, mixed_by, qual_by};
+ghost use Rattle.quel_grammar.specs.TermReaders.Mixed.{Whole};
 ghost use Rattle.quel_terms.specs.Mixed.{mixed_of};
 ghost use Rattle.quel_terms.specs.View.{Gives};
 
+use crate::depth::below;
 use crate::halt::{Halt, Read};
 use crate::signs::comparison_at;
 use crate::taking::{after, found};
 use crate::terms::{term_by, term_from};
-use calculus::{Boxed, CmpOp, Qual, Term};
+use calculus::{Boxed, Qual, Term};
 use quel_grammar::{Fixed, Token};
 use std::alloc::Global;
 
@@ -24,60 +26,6 @@ pub enum Mixed {
     Whole(Boxed<Qual>),
 }
 
-/// A side of `and`.
-#[cycle(terms)]
-fn neg_at<'a>(alloc: Global, depth: u16, tokens: &'a [Token]) -> Read<'a, Boxed<Qual>>
-    ensures { Gives (λ x. (x.0, x.1.now)) result ((level depth).neg tokens.now) }
-{
-    if depth == 0 {
-        return Err(Halt::Stop(tokens));
-    }
-    neg_by(alloc, depth - 1, tokens)
-}
-
-/// The rest of a conjunction, whose left part is this.
-#[cycle(terms)]
-fn ands_at<'a>(
-    alloc: Global,
-    depth: u16,
-    left: Boxed<Qual>,
-    tokens: &'a [Token],
-) -> Read<'a, Boxed<Qual>>
-    ensures { Gives (λ x. (x.0, x.1.now)) result ((level depth).ands left tokens.now) }
-{
-    if depth == 0 {
-        return Err(Halt::Stop(tokens));
-    }
-    ands_by(alloc, depth - 1, left, tokens)
-}
-
-/// The rest of a disjunction, whose left part is this.
-#[cycle(terms)]
-fn ors_at<'a>(
-    alloc: Global,
-    depth: u16,
-    left: Boxed<Qual>,
-    tokens: &'a [Token],
-) -> Read<'a, Boxed<Qual>>
-    ensures { Gives (λ x. (x.0, x.1.now)) result ((level depth).ors left tokens.now) }
-{
-    if depth == 0 {
-        return Err(Halt::Stop(tokens));
-    }
-    ors_by(alloc, depth - 1, left, tokens)
-}
-
-/// A qualification, or a bare term.
-#[cycle(terms)]
-pub fn mixed_at<'a>(alloc: Global, depth: u16, tokens: &'a [Token]) -> Read<'a, Mixed>
-    ensures { Gives (λ x. (mixed_of x.0, x.1.now)) result ((level depth).mixed tokens.now) }
-{
-    if depth == 0 {
-        return Err(Halt::Stop(tokens));
-    }
-    mixed_by(alloc, depth - 1, tokens)
-}
-
 /// The qualification that was read, where it is one.
 pub fn demanded(mixed: Mixed, tokens: &[Token]) -> Read<'_, Boxed<Qual>>
     ensures { Gives (λ x. (x.0, x.1.now)) result (demanded (mixed_of mixed) tokens.now) }
@@ -88,29 +36,16 @@ pub fn demanded(mixed: Mixed, tokens: &[Token]) -> Read<'_, Boxed<Qual>>
     }
 }
 
-/// The right side of a comparison.
-#[cycle(terms)]
-#[tactic(auto, unfolding(quel_grammar::specs::TermReaders::right_side_by))]
-fn right_side_by<'a>(
-    alloc: Global,
-    depth: u16,
-    left: Boxed<Term>,
-    op: CmpOp,
-    tokens: &'a [Token],
-) -> Read<'a, Mixed>
-    ensures { Gives (λ x. (mixed_of x.0, x.1.now)) result (right_side_by (level depth) left op tokens.now) }
+/// A qualification that was read, and the tokens behind it.
+fn whole<'a>(alloc: Global, qual: Qual, rest: &'a [Token]) -> Read<'a, Mixed>
+    ensures { Gives (λ x. (mixed_of x.0, x.1.now)) result (Ok (Whole qual, rest.now)) }
 {
-    let (right, rest) = term_by(alloc, depth, tokens)?;
-    let (left, right) = (left.into_inner(), right.into_inner());
-    Ok((
-        Mixed::Whole(Boxed::new(alloc, Qual::Cmp { op, left, right })?),
-        rest,
-    ))
+    Ok((Mixed::Whole(Boxed::new(alloc, qual)?), rest))
 }
 
 /// A comparison whose left side is this term, or the bare term.
 #[cycle(terms)]
-#[tactic(auto, unfolding(quel_grammar::specs::TermReaders::compare_by))]
+#[tactic(auto, unfolding(quel_grammar::specs::TermReaders::compare_by, quel_grammar::specs::TermReaders::right_side_by))]
 fn compare_by<'a>(
     alloc: Global,
     depth: u16,
@@ -120,7 +55,11 @@ fn compare_by<'a>(
     ensures { Gives (λ x. (mixed_of x.0, x.1.now)) result (compare_by (level depth) left tokens.now) }
 {
     match comparison_at(tokens) {
-        Some((op, rest)) => right_side_by(alloc, depth, left, op, rest),
+        Some((op, rest)) => {
+            let (right, rest) = term_by(alloc, depth, rest)?;
+            let (left, right) = (left.into_inner(), right.into_inner());
+            whole(alloc, Qual::Cmp { op, left, right }, rest)
+        }
         None => Ok((Mixed::Bare(left), tokens)),
     }
 }
@@ -140,59 +79,38 @@ fn grouped_by<'a>(alloc: Global, depth: u16, group: Mixed, tokens: &'a [Token]) 
     }
 }
 
-/// A comparison, or a bare term, that begins with no parenthesis.
-#[cycle(terms)]
-#[tactic(auto, unfolding(quel_grammar::specs::TermReaders::compared_by))]
-fn compared_by<'a>(alloc: Global, depth: u16, tokens: &'a [Token]) -> Read<'a, Mixed>
-    ensures { Gives (λ x. (mixed_of x.0, x.1.now)) result (compared_by (level depth) tokens.now) }
-{
-    let (left, rest) = term_by(alloc, depth, tokens)?;
-    compare_by(alloc, depth, left, rest)
-}
-
 /// A qualification or a term, behind its first parenthesis.
 #[cycle(terms)]
 #[tactic(auto, unfolding(quel_grammar::specs::TermReaders::mixed_group_by))]
 fn mixed_group_by<'a>(alloc: Global, depth: u16, tokens: &'a [Token]) -> Read<'a, Mixed>
     ensures { Gives (λ x. (mixed_of x.0, x.1.now)) result (mixed_group_by (level depth) tokens.now) }
 {
-    let (group, rest) = mixed_at(alloc, depth, tokens)?;
+    let Some(lower) = below(depth) else {
+        return Err(Halt::Stop(tokens));
+    };
+    let (group, rest) = mixed_by(alloc, lower, tokens)?;
     let rest = after(Fixed::Close, rest)?;
     grouped_by(alloc, depth, group, rest)
 }
 
-/// A negation, behind `not`.
-#[cycle(terms)]
-#[tactic(auto, unfolding(quel_grammar::specs::TermReaders::negated_by))]
-fn negated_by<'a>(alloc: Global, depth: u16, tokens: &'a [Token]) -> Read<'a, Mixed>
-    ensures { Gives (λ x. (mixed_of x.0, x.1.now)) result (negated_by (level depth) tokens.now) }
-{
-    let (qual, rest) = neg_at(alloc, depth, tokens)?;
-    Ok((Mixed::Whole(Boxed::new(alloc, Qual::Not(qual))?), rest))
-}
-
-/// What begins with no `not`.
-#[cycle(terms)]
-#[tactic(auto, unfolding(quel_grammar::specs::TermReaders::plain_by))]
-fn plain_by<'a>(alloc: Global, depth: u16, tokens: &'a [Token]) -> Read<'a, Mixed>
-    ensures { Gives (λ x. (mixed_of x.0, x.1.now)) result (plain_by (level depth) tokens.now) }
-{
-    match found(Fixed::Open, tokens) {
-        Some(rest) => mixed_group_by(alloc, depth, rest),
-        None => compared_by(alloc, depth, tokens),
-    }
-}
-
 /// A side of `and`, or a bare term.
 #[cycle(terms)]
-#[tactic(auto, unfolding(quel_grammar::specs::TermReaders::operand_by))]
+#[tactic(auto, unfolding(quel_grammar::specs::TermReaders::operand_by, quel_grammar::specs::TermReaders::negated_by, quel_grammar::specs::TermReaders::plain_by, quel_grammar::specs::TermReaders::compared_by))]
 fn operand_by<'a>(alloc: Global, depth: u16, tokens: &'a [Token]) -> Read<'a, Mixed>
     ensures { Gives (λ x. (mixed_of x.0, x.1.now)) result (operand_by (level depth) tokens.now) }
 {
-    match found(Fixed::Not, tokens) {
-        Some(rest) => negated_by(alloc, depth, rest),
-        None => plain_by(alloc, depth, tokens),
+    if let Some(rest) = found(Fixed::Not, tokens) {
+        let Some(lower) = below(depth) else {
+            return Err(Halt::Stop(rest));
+        };
+        let (qual, rest) = neg_by(alloc, lower, rest)?;
+        return whole(alloc, Qual::Not(qual), rest);
     }
+    if let Some(rest) = found(Fixed::Open, tokens) {
+        return mixed_group_by(alloc, depth, rest);
+    }
+    let (left, rest) = term_by(alloc, depth, tokens)?;
+    compare_by(alloc, depth, left, rest)
 }
 
 /// A side of `and`.
@@ -205,25 +123,9 @@ fn neg_by<'a>(alloc: Global, depth: u16, tokens: &'a [Token]) -> Read<'a, Boxed<
     demanded(mixed, rest)
 }
 
-/// The rest of a conjunction, behind `and`.
-#[cycle(terms)]
-#[tactic(auto, unfolding(quel_grammar::specs::TermReaders::next_and_by))]
-fn next_and_by<'a>(
-    alloc: Global,
-    depth: u16,
-    left: Boxed<Qual>,
-    tokens: &'a [Token],
-) -> Read<'a, Boxed<Qual>>
-    ensures { Gives (λ x. (x.0, x.1.now)) result (next_and_by (level depth) left tokens.now) }
-{
-    let (right, rest) = neg_by(alloc, depth, tokens)?;
-    let left = Boxed::new(alloc, Qual::And(left, right))?;
-    ands_at(alloc, depth, left, rest)
-}
-
 /// The rest of a conjunction, whose left part is this.
 #[cycle(terms)]
-#[tactic(auto, unfolding(quel_grammar::specs::TermReaders::ands_by))]
+#[tactic(auto, unfolding(quel_grammar::specs::TermReaders::ands_by, quel_grammar::specs::TermReaders::next_and_by))]
 fn ands_by<'a>(
     alloc: Global,
     depth: u16,
@@ -233,7 +135,14 @@ fn ands_by<'a>(
     ensures { Gives (λ x. (x.0, x.1.now)) result (ands_by (level depth) left tokens.now) }
 {
     match found(Fixed::And, tokens) {
-        Some(rest) => next_and_by(alloc, depth, left, rest),
+        Some(rest) => {
+            let (right, rest) = neg_by(alloc, depth, rest)?;
+            let left = Boxed::new(alloc, Qual::And(left, right))?;
+            let Some(lower) = below(depth) else {
+                return Err(Halt::Stop(rest));
+            };
+            ands_by(alloc, lower, left, rest)
+        }
         None => Ok((left, tokens)),
     }
 }
@@ -248,25 +157,9 @@ fn conj_by<'a>(alloc: Global, depth: u16, tokens: &'a [Token]) -> Read<'a, Boxed
     ands_by(alloc, depth, left, rest)
 }
 
-/// The rest of a disjunction, behind `or`.
-#[cycle(terms)]
-#[tactic(auto, unfolding(quel_grammar::specs::TermReaders::next_or_by))]
-fn next_or_by<'a>(
-    alloc: Global,
-    depth: u16,
-    left: Boxed<Qual>,
-    tokens: &'a [Token],
-) -> Read<'a, Boxed<Qual>>
-    ensures { Gives (λ x. (x.0, x.1.now)) result (next_or_by (level depth) left tokens.now) }
-{
-    let (right, rest) = conj_by(alloc, depth, tokens)?;
-    let left = Boxed::new(alloc, Qual::Or(left, right))?;
-    ors_at(alloc, depth, left, rest)
-}
-
 /// The rest of a disjunction, whose left part is this.
 #[cycle(terms)]
-#[tactic(auto, unfolding(quel_grammar::specs::TermReaders::ors_by))]
+#[tactic(auto, unfolding(quel_grammar::specs::TermReaders::ors_by, quel_grammar::specs::TermReaders::next_or_by))]
 fn ors_by<'a>(
     alloc: Global,
     depth: u16,
@@ -276,7 +169,14 @@ fn ors_by<'a>(
     ensures { Gives (λ x. (x.0, x.1.now)) result (ors_by (level depth) left tokens.now) }
 {
     match found(Fixed::Or, tokens) {
-        Some(rest) => next_or_by(alloc, depth, left, rest),
+        Some(rest) => {
+            let (right, rest) = conj_by(alloc, depth, rest)?;
+            let left = Boxed::new(alloc, Qual::Or(left, right))?;
+            let Some(lower) = below(depth) else {
+                return Err(Halt::Stop(rest));
+            };
+            ors_by(alloc, lower, left, rest)
+        }
         None => Ok((left, tokens)),
     }
 }
@@ -300,7 +200,7 @@ fn mixed_from<'a>(alloc: Global, depth: u16, first: Mixed, tokens: &'a [Token]) 
 /// A qualification, or a bare term.
 #[cycle(terms)]
 #[tactic(auto, unfolding(quel_grammar::specs::TermReaders::mixed_by))]
-fn mixed_by<'a>(alloc: Global, depth: u16, tokens: &'a [Token]) -> Read<'a, Mixed>
+pub fn mixed_by<'a>(alloc: Global, depth: u16, tokens: &'a [Token]) -> Read<'a, Mixed>
     ensures { Gives (λ x. (mixed_of x.0, x.1.now)) result (mixed_by (level depth) tokens.now) }
 {
     let (first, rest) = operand_by(alloc, depth, tokens)?;
