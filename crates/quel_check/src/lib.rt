@@ -4,7 +4,6 @@
 mod aggregated;
 mod mentions;
 mod names;
-mod pairs;
 mod parts;
 mod places;
 mod range_table;

@@ -10,7 +10,7 @@ use std::marker::Model;
 
 /// The range variables of a run, each with what it ranges over. Contracts see them in the order in
 /// which they were first declared.
-#[derive(Debug, Drop)]
+#[derive(Drop)]
 pub struct RangeTable {
     ranges: IndexMap<Name, RelKey>,
 }

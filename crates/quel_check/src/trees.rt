@@ -9,10 +9,10 @@ ghost use Rattle.quel_meaning.specs.WrittenParts.{text_aggregates, vars_in, wher
 ghost use Rattle.quel_meaning.specs.WrittenQuery.{where_tree};
 ghost use Rattle.quel_meaning.specs.WrittenTree.{attr_in, var_place};
 
-use crate::pairs::both;
 use crate::parts::where_of;
 use crate::places::{attr_place, compared, var_place};
 use calculus::{Boxed, Name, OutOfMemory, QQual, QTerm, Qual, RelInfo, Statement, Term};
+use memory::both;
 use std::alloc::Global;
 
 /// The place of an attribute in what stands at this place; 0 where nothing does.

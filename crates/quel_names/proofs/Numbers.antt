@@ -40,3 +40,22 @@ part_stops f g xs i x h e k = before_more f (g x) (flat_map g (drop (i + 1) xs))
 pub part_passes : {X : Type 0} (f : Mention → Option ℕ) (g : X → List Mention) (xs : List X) (i : ℕ) (x : X) → i < length xs → x ≡ get_or xs i x
     → first_number (map f (g x)) ≡ None → first_number (map f (flat_map g (drop (i + 1) xs))) ≡ first_number (map f (flat_map g (drop i xs)))
 part_passes f g xs i x h e k = after_none f (g x) (flat_map g (drop (i + 1) xs)) k ∙ ap (λ ms. first_number (map f ms)) (sym (this_first g xs i x h e))
+
+-- ---- in a loop over single names
+
+one_first : {X : Type 0} (g : X → Mention) (xs : List X) (i : ℕ) (x : X) → i < length xs → x ≡ get_or xs i x → map g (drop i xs) ≡ g x ∷ map g (drop (i + 1) xs)
+one_first g xs i x h e =
+    ap (map g) (drop-cons xs i x h) ∙ (λ j. g (sym e j) ∷ map g (drop (sym (add-one i) j) xs))
+
+pub one_stops : {X : Type 0} (f : Mention → Option ℕ) (g : X → Mention) (xs : List X) (i : ℕ) (x : X) → i < length xs → x ≡ get_or xs i x
+    → is_some (f (g x)) ≡ true → f (g x) ≡ first_number (map f (map g (drop i xs)))
+one_stops f g xs i x h e k = go (f (g x)) k ∙ ap (λ ms. first_number (map f ms)) (sym (one_first g xs i x h e))
+  where
+    go : (o : Option ℕ) → is_some o ≡ true → o ≡ first_number (o ∷ map f (map g (drop (i + 1) xs)))
+    go None k = absurd (cc k)
+    go (Some n) k = refl
+
+pub one_passes : {X : Type 0} (f : Mention → Option ℕ) (g : X → Mention) (xs : List X) (i : ℕ) (x : X) → i < length xs → x ≡ get_or xs i x
+    → f (g x) ≡ None → first_number (map f (map g (drop (i + 1) xs))) ≡ first_number (map f (map g (drop i xs)))
+one_passes f g xs i x h e n =
+    sym (ap (λ ms. first_number (map f ms)) (one_first g xs i x h e) ∙ ap (λ o. first_number (o ∷ map f (map g (drop (i + 1) xs)))) n)

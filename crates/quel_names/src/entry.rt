@@ -10,8 +10,28 @@ ghost use Rattle.quel_meaning.specs.Ranges.{Ranges};
 ghost use Rattle.quel_names.specs.Asking.{scope_of};
 
 use am_traits::{Base, BaseFault};
-use calculus::{Name, RelKey};
+use calculus::{Name, OutOfMemory, RelKey};
+use memory::both;
 use std::alloc::Global;
+
+/// The key of this owner and name.
+fn key_of(alloc: Global, owner: &Name, name: &Name) -> Result<RelKey, OutOfMemory>
+    ensures { IfOk result (λ key. key ≡ key_of owner.now name.now) }
+{
+    let (owner, name) = both(owner.copy(alloc), name.copy(alloc))?;
+    Ok(RelKey { owner, name })
+}
+
+/// Whether anything stands under a key.
+fn is_under<B: Base>(alloc: Global, base: &mut B, key: &RelKey) -> Result<bool, BaseFault>
+    ensures told { (db : Db) → B.database base.old ≡ Some db → IfOk result (λ b. b ≡ is_some (known_at db key.now)) }
+    ensures kept { B.database base.new ≡ B.database base.old }
+    ensures same { B.left base.new ≡ B.left base.old }
+    ensures cause { HasCause (B.database base.old) (B.faults base.old) (B.faults base.new) result }
+{
+    let info = base.info(alloc, key)?;
+    Ok(info.is_some())
+}
 
 /// Whether anything stands under the key of this owner and name: a relation, a view, an index or a
 /// catalogue.
@@ -26,11 +46,8 @@ fn is_known<B: Base>(
     ensures same { B.left base.new ≡ B.left base.old }
     ensures cause { HasCause (B.database base.old) (B.faults base.old) (B.faults base.new) result }
 {
-    let owner = owner.copy(alloc)?;
-    let name = name.copy(alloc)?;
-    let key = RelKey { owner, name };
-    let info = base.info(alloc, &key)?;
-    Ok(info.is_some())
+    let key = key_of(alloc, owner, name)?;
+    is_under(alloc, base, &key)
 }
 
 /// The same of the administrator's key.

@@ -24,14 +24,14 @@ term_tree-returns-in_ok-boxed_tree-in-Abs t c =
 pub term_tree-returns-in_ok-left-in-Arith : goal.term_tree-returns-in_ok-left-in-Arith
 term_tree-returns-in_ok-left-in-Arith t c =
     same_term _ _ _ _ _ c.in-Arith.is
-    (of_arith _ _ c.in-Arith.op _ _ _ _ (term_of _ _ _ _ _ _ (sym c.get-in-Arith.ensures) c.in_ok-left-in-Arith.ensures.0 c.boxed_tree-left.ensures)
-    (term_of _ _ _ _ _ _ (sym c.get-in-Arith-2.ensures) c.in_ok-left-in-Arith.ensures.1 c.boxed_tree-right.ensures))
+    (of_arith _ _ c.in-Arith.op _ _ _ _ (term_of _ _ _ _ _ _ (sym c.get-in-Arith.ensures) c.in_ok-left-in-Arith.ensures.first c.boxed_tree-left.ensures)
+    (term_of _ _ _ _ _ _ (sym c.get-in-Arith-2.ensures) c.in_ok-left-in-Arith.ensures.second c.boxed_tree-right.ensures))
 
 pub term_tree-returns-in_ok-left-in-Concat : goal.term_tree-returns-in_ok-left-in-Concat
 term_tree-returns-in_ok-left-in-Concat t c =
     same_term _ _ _ _ _ c.in-Concat.is
-    (of_concat _ _ _ _ _ _ (term_of _ _ _ _ _ _ (sym c.get-in-Concat.ensures) c.in_ok-left-in-Concat.ensures.0 c.boxed_tree-left-in-Concat.ensures)
-    (term_of _ _ _ _ _ _ (sym c.get-in-Concat-2.ensures) c.in_ok-left-in-Concat.ensures.1 c.boxed_tree-right-in-Concat.ensures))
+    (of_concat _ _ _ _ _ _ (term_of _ _ _ _ _ _ (sym c.get-in-Concat.ensures) c.in_ok-left-in-Concat.ensures.first c.boxed_tree-left-in-Concat.ensures)
+    (term_of _ _ _ _ _ _ (sym c.get-in-Concat-2.ensures) c.in_ok-left-in-Concat.ensures.second c.boxed_tree-right-in-Concat.ensures))
 
 pub term_tree-returns-in-Agg : goal.term_tree-returns-in-Agg
 term_tree-returns-in-Agg t c = same_term _ _ _ _ _ c.in-Agg.is (of_agg _ _ _ _)

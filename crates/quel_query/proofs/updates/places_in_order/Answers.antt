@@ -1,4 +1,6 @@
-use Rattle.std.proofs.Common.{◌≤◌, ◌++◌, ◌∷◌, [], ℕ, List, sym, ap, ◌∙◌, arith}
+use Rattle.std.proofs.Common.{◌≤◌, ◌++◌, ◌∷◌, [], ℕ, List, sym, ap, ◌∙◌, map, arith}
+use Rattle.std.specs.List.{enumerate_from}
+use Rattle.std.proofs.lemmas.List.{take_all}
 use Rattle.quel_query.proofs.Updating.{numbers_next}
 use Rattle.quel_query.proofs.updates.places_in_order.Goals as goal
 
@@ -8,3 +10,7 @@ loop-place-preserved c = λ few.
     c.in_ok-push.ensures.items ∙ ap (λ (n : ℕ). c.loop-place.places.items ++ n ∷ []) (c.byte.ensures fits)
     ∙ ap (λ (ns : List ℕ). ns ++ c.loop-place.place ∷ []) (c.loop-place.invariant few)
     ∙ sym (numbers_next c.args.targets.now c.loop-place.place c.loop-place-test.true)
+
+pub returns : goal.returns
+returns c = λ few.
+    c.loop-place.invariant few ∙ ap (λ ts. map (λ p. p.0) (enumerate_from 0 ts)) (take_all c.loop-place.place c.args.targets.now c.loop-place-test.false)

@@ -1,0 +1,26 @@
+use Rattle.std.proofs.Common.{sym, ap, ◌∙◌, is_some, le_trans}
+use Rattle.quel_check.specs.Seen.{seen}
+use Rattle.quel_meaning.specs.Naming.{mention_refusal}
+use Rattle.quel_names.proofs.Numbers.{one_stops, one_passes}
+use Rattle.quel_names.proofs.Telling.{none_if}
+use Rattle.quel_names.specs.Asking.{scope_of}
+use Rattle.quel_names.proofs.mentioned.first_refusal.Goals as goal
+
+pub returns-then-is_some-clause-told : goal.returns-then-is_some-clause-told
+returns-then-is_some-clause-told g c = λ db h.
+    let told = c.in_ok-refusal.ensures.told db (c.loop-mention.invariant.0 ∙ h) in
+    told
+    ∙ one_stops (mention_refusal (scope_of db c.args.user.now c.args.ranges.now)) seen c.args.mentions.now c.loop-mention.mention-index c.mention-item.result c.loop-mention-test.true c.mention-item.is
+    (sym (ap is_some told) ∙ sym c.is_some.ensures ∙ c.if-is_some.true)
+    ∙ c.loop-mention.invariant.3 db h
+
+pub loop-mention-preserved : goal.loop-mention-preserved
+loop-mention-preserved g c = (
+  c.in_ok-refusal.ensures.kept ∙ c.loop-mention.invariant.0,
+  c.in_ok-refusal.ensures.same ∙ c.loop-mention.invariant.1,
+  le_trans c.loop-mention.invariant.2 c.in_ok-refusal.ensures.cause.later,
+  λ db h.
+      one_passes (mention_refusal (scope_of db c.args.user.now c.args.ranges.now)) seen c.args.mentions.now c.loop-mention.mention-index c.mention-item.result c.loop-mention-test.true c.mention-item.is
+      (sym (c.in_ok-refusal.ensures.told db (c.loop-mention.invariant.0 ∙ h)) ∙ none_if c.in_ok-refusal.refusal (sym c.is_some.ensures ∙ c.if-is_some.false))
+      ∙ c.loop-mention.invariant.3 db h,
+)
