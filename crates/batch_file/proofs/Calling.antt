@@ -136,10 +136,10 @@ opens h0 h1 h2 h3 h4 head gate n one two three four form size is_open = (
 )
 
 -- one page more, after calls that only read
-pub places_more : (h0 h1 h2 h3 h4 : Told) (n : ℕ) (a : Addr) (page : List ℕ) → CameSo h0 h1 (Places n) → h2 ≡ h1 → h3 ≡ h2 → Came h3 h4 (Write a page ∷ []) → is_place a ≡ true → CameSo h0 h4 (Places (n + 1))
-places_more h0 h1 h2 h3 h4 n a page so_far one two came place = (
+pub places_more : (h0 h1 h2 h3 : Told) (n : ℕ) (a : Addr) (page : List ℕ) → CameSo h0 h1 (Places n) → h2 ≡ h1 → Came h2 h3 (Write a page ∷ []) → is_place a ≡ true → CameSo h0 h3 (Places (n + 1))
+places_more h0 h1 h2 h3 n a page so_far same came place = (
   so_far.0 ++ Write a page ∷ [],
-  came_then h0 h1 h4 so_far.0 (Write a page ∷ []) so_far.1 (reads_came h1 h3 h4 (Write a page ∷ []) (two ∙ one) came),
+  came_then h0 h1 h3 so_far.0 (Write a page ∷ []) so_far.1 (reads_came h1 h2 h3 (Write a page ∷ []) same came),
   record {
     size = length-append so_far.0 (Write a page ∷ []) ∙ ap (λ k. k + 1) so_far.2.size;
     placing = all_behind is_placing so_far.0 (Write a page ∷ []) so_far.2.placing (ap (λ t. t && true) place);

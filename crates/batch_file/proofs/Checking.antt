@@ -1,5 +1,5 @@
 -- The first page at fault of a batch.
-use Rattle.std.proofs.Common.{◌≡◌, ◌⊎◌, inl, inr, ℕ, zero, suc, ◌+◌, ◌/◌, ◌<◌, Bool, true, false, List, Some, None, is_some, Result, Ok, Err, sym, ◌∙◌, ap, subst, arith, add-one}
+use Rattle.std.proofs.Common.{◌≡◌, ◌⊎◌, inl, inr, ℕ, zero, suc, ◌+◌, ◌/◌, ◌<◌, Bool, true, false, List, Some, None, is_some, Result, Ok, Err, refl, sym, ◌∙◌, ap, subst, arith, add-one}
 use Rattle.disk_model.specs.declared.disk.Addr.{Addr}
 use Rattle.disk_model.specs.Disk.{Image}
 use Rattle.batch_file.specs.declared.fault.RestoreFault.{RestoreFault}
@@ -88,3 +88,12 @@ whole_damage m n head lawful has =
 
 pub none_fails : (m : Image) (n : ℕ) (r : Result ℕ RestoreFault) → IsHeadOf m (Ok n) → first_failing (is_lawful m) n ≡ None → first_failing (has_image m) n ≡ None → r ≡ Ok n → Answers m r
 none_fails m n r head lawful has is = inr (subst (λ d. IsAnswerOf d (count m) r) (sym (whole_damage m n head lawful has)) (is ∙ ap Ok (sym head.1)))
+
+-- a lawful address is not damaged, nor is an image that is there
+pub address_fault : (m : Image) (k : ℕ) (e : RestoreFault) → is_lawful m k ≡ true → IsAddress m k (Err e) → e ≡ Disk
+address_fault m k Disk lawful h = refl
+address_fault m k (Damaged file page) lawful h = absurd (cc (h.0, lawful))
+
+pub page_fault : (m : Image) (a : Addr) (k : ℕ) (out : List ℕ) (e : RestoreFault) → has_image m k ≡ true → IsPage (m (addr 4 k)) a out (Err e) → e ≡ Disk
+page_fault m a k out Disk has h = refl
+page_fault m a k out (Damaged file page) has h = let gone : has_image m k ≡ false = ap is_some h.0 in absurd (cc (gone, has))

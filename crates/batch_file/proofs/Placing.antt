@@ -136,49 +136,32 @@ module _ {S : Type 0} (seen : S → Image) (touched : S → Addr → Type 0) (cl
         | inr off ↦ elsewhere b off.0 ∙ ap (λ (f : Image). f b) so_far.placed ∙ sym (more b ∙ ap (λ t. pick b t) off.1)
       ]
 
-  module _ (n k : ℕ) (old now : S) (lt : k < n) (is : IsOpen (seen old) (touched old) n) (so_far : Placing n old now k) where
+  module _ (n k : ℕ) (old now : S) (lt : k < n) (opened : IsOpen (seen old) (touched old) n) (so_far : Placing n old now k) where
     pub lawful_now : is_lawful (seen now) k ≡ true
     lawful_now =
-        let third = batch_stays n k old now is so_far (addr 3 (k / 128)) (omega arith) (omega arith) in
-        ap (λ x. is_lawful_in x k) third ∙ (sound (seen old) n is.no_damage is.size).lawful k lt
+        let third = batch_stays n k old now opened so_far (addr 3 (k / 128)) (omega arith) (omega arith) in
+        ap (λ x. is_lawful_in x k) third ∙ (sound (seen old) n opened.no_damage opened.size).lawful k lt
 
     pub has_now : has_image (seen now) k ≡ true
-    has_now = ap is_some (batch_stays n k old now is so_far (addr 4 k) (omega arith) (omega arith)) ∙ (sound (seen old) n is.no_damage is.size).has k lt
+    has_now = ap is_some (batch_stays n k old now opened so_far (addr 4 k) (omega arith) (omega arith)) ∙ (sound (seen old) n opened.no_damage opened.size).has k lt
 
-    module _ (one two next : S) (a : Addr) (r1 : OnlyReads seen touched clock left_since now one) (r2 : OnlyReads seen touched clock left_since one two) (is_a : a ≡ (entry (seen now) k).0)
-        (change : Changes (λ b. b ≡ a) seen touched two next) (time : Elapses seen touched clock left_since two next) where
-      before : Placing n old two k
-      before = placing_reads n k old one two (placing_reads n k old now one so_far r1) r2
+    module _ (one next : S) (a : Addr) (image : List ℕ) (reads : OnlyReads seen touched clock left_since now one) (is : entry (seen now) k ≡ (a, image))
+        (change : Changes (λ b. b ≡ a) seen touched one next) (time : Elapses seen touched clock left_since one next) where
+      before : Placing n old one k
+      before = placing_reads n k old now one so_far reads
 
-      same_seen : seen two ≡ seen now
-      same_seen = r2.seen_same ∙ r1.seen_same
+      is_one : entry (seen one) k ≡ (a, image)
+      is_one = ap (λ (m : Image). entry m k) reads.seen_same ∙ is
 
-      a_two : a ≡ (entry (seen two) k).0
-      a_two = is_a ∙ ap (λ (m : Image). (entry m k).0) (sym same_seen)
-
-      there : Changes (λ b. b ≡ (entry (seen two) k).0) seen touched two next
-      there = subst (λ x. Changes (λ b. b ≡ x) seen touched two next) a_two change
+      there : Changes (λ b. b ≡ (entry (seen one) k).0) seen touched one next
+      there = subst (λ (e : Addr × List ℕ). Changes (λ b. b ≡ e.0) seen touched one next) (sym is_one) change
 
       pub step_run : LeavesOnly clock left_since old next (λ m. redone m ≡ redone (seen old))
-      step_run = (placing_writes n k old two next lt is before there time).0
+      step_run = (placing_writes n k old one next lt opened before there time).0
 
-      pub step_done : (image : List ℕ) → seen one (addr 4 k) ≡ Some image → seen next a ≡ Some image → Placing n old next (k + 1)
-      step_done image page written =
-          let is_image : image ≡ (entry (seen two) k).1 = sym (ap or_empty (ap (λ (f : Image). f (addr 4 k)) r2.seen_same ∙ page)) in
-          let goal_written : seen next (entry (seen two) k).0 ≡ Some (entry (seen two) k).1 = ap (seen next) (sym a_two) ∙ written ∙ ap Some is_image in
-          placing_goes_on n k old two next lt is before there time goal_written
-
--- a lawful address is not damaged, nor is an image that is there
-pub address_fault : (m : Image) (k : ℕ) (e : RestoreFault) → is_lawful m k ≡ true → IsAddress m k (Err e) → e ≡ Disk
-address_fault m k Disk lawful h = refl
-address_fault m k (Damaged file page) lawful h = absurd (cc (h.0, lawful))
-
-pub page_fault : (m : Image) (a b : Addr) (k : ℕ) (out : List ℕ) (e : RestoreFault) → has_image m k ≡ true → b ≡ addr 4 k → IsPage (m b) a out (Err e) → e ≡ Disk
-page_fault m a b k out Disk has is h = refl
-page_fault m a b k out (Damaged file page) has is h =
-    let none : m (addr 4 k) ≡ None = subst (λ x. m x ≡ None) is h.0 in
-    let gone : has_image m k ≡ false = ap is_some none in
-    absurd (cc (gone, has))
+      pub step_done : seen next a ≡ Some image → Placing n old next (k + 1)
+      step_done written =
+          placing_goes_on n k old one next lt opened before there time (subst (λ (e : Addr × List ℕ). seen next e.0 ≡ Some e.1) (sym is_one) written)
 
 module _ {S : Type 0} (seen : S → Image) (touched : S → Addr → Type 0) (clock : S → ℕ) (left_since : S → ℕ → Image → Type 0)
     (n k : ℕ) (old now : S) (is : IsOpen (seen old) (touched old) n) (so_far : Placing seen touched clock left_since n old now k) where

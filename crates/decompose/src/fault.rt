@@ -9,7 +9,7 @@ use calculus::{List, OutOfMemory, Row};
 use plain_product::ProductFault;
 
 /// Why a query gives no answer.
-#[derive(Debug, PartialEq, Eq, Drop)]
+#[derive(PartialEq, Eq, Drop)]
 pub enum QueryFault {
     /// A target has no value in an assignment in which the qualification holds.
     NoValue {

@@ -10,3 +10,4 @@ pub mod RowsAt
 pub mod FewRows
 pub mod NextRow
 pub mod SearchByKey
+pub mod Picked

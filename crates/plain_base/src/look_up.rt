@@ -1,6 +1,6 @@
 //! What stands under a key in lists.
 
-ghost use Rattle.std.specs.Prelude.{◌≡◌, [], ◌∷◌, ◌++◌, not, ◌&&◌, find, filter, map, option_map, IfOk, OnOk};
+ghost use Rattle.std.specs.Prelude.{◌≡◌, [], ◌∷◌, ◌++◌, not, ◌&&◌, cond, find, filter, map, option_map, IfOk, OnOk};
 ghost use Rattle.std.specs.List.{list_any};
 ghost use Rattle.std.specs.List.Sorted.{IsStrictlySortedBy};
 ghost use Rattle.calculus.specs.Keys.{same_key, has_key, key_cmp};
@@ -47,20 +47,24 @@ pub(crate) fn about<'a, T: Known>(items: &'a [T], key: &RelKey) -> Option<&'a Re
     }
 }
 
-/// Puts a copy behind others.
-fn push_copy<T: TryCopy + Drop>(
+/// Puts a copy of a rule or permit behind others, where it is one of the relation.
+fn push_on<T: TryCopy + Drop>(
     alloc: Global,
     copies: &mut Vec<T>,
-    item: &T,
+    item: &(RelKey, T),
+    key: &RelKey,
 ) -> Result<(), OutOfMemory>
-    ensures { OnOk result (copies.new.items ≡ copies.old.items ++ item.now ∷ []) }
+    ensures { OnOk result (copies.new.items ≡ copies.old.items ++ cond (same_key item.now.0 key.now) (item.now.1 ∷ []) []) }
 {
-    let copy = item.copy(alloc)?;
-    Ok(copies.push(copy)?)
+    if is_same(&item.0, key) {
+        let copy = item.1.copy(alloc)?;
+        copies.push(copy)?;
+    }
+    Ok(())
 }
 
 /// Puts copies of the rules or permits of a relation behind others.
-fn push_on<T: TryCopy + Drop>(
+fn push_all_on<T: TryCopy + Drop>(
     alloc: Global,
     copies: &mut Vec<T>,
     items: &[(RelKey, T)],
@@ -69,9 +73,7 @@ fn push_on<T: TryCopy + Drop>(
     ensures { OnOk result (copies.new.items ≡ copies.old.items ++ map (λ p. p.1) (filter (λ p. same_key p.0 key.now) items.now)) }
 {
     for item in items {
-        if is_same(&item.0, key) {
-            push_copy(alloc, copies, &item.1)?;
-        }
+        push_on(alloc, copies, item, key)?;
     }
     Ok(())
 }
@@ -85,7 +87,7 @@ pub(crate) fn on<T: TryCopy + Drop>(
     ensures { IfOk result (λ copies. copies.items ≡ map (λ p. p.1) (filter (λ p. same_key p.0 key.now) items.now)) }
 {
     let mut copies = Vec::new(alloc);
-    push_on(alloc, &mut copies, items, key)?;
+    push_all_on(alloc, &mut copies, items, key)?;
     Ok(copies)
 }
 

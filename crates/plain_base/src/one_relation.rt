@@ -10,7 +10,7 @@ ghost use Rattle.calculus.specs.Replacement.{with_rows, without_rows};
 use crate::kept::Stored;
 use crate::look_up::is_same;
 use crate::rows;
-use calculus::{List, OutOfMemory, RelKey, Row, Spec};
+use calculus::{List, OutOfMemory, RelInfo, RelKey, Row, Spec};
 use std::alloc::Global;
 
 /// The place of the relation under a key.
@@ -27,6 +27,14 @@ fn place_under(relations: &[Stored], key: &RelKey) -> Option<usize>
     None
 }
 
+/// What is known of a relation that has another structure.
+fn set_structure(info: &mut RelInfo, to: Spec, keys: List<u8>)
+    ensures { info.new ≡ record info.old { spec = to; keys = keys } }
+{
+    info.spec = to;
+    info.keys = keys;
+}
+
 impl Stored {
     /// Rows go and come. After an error all is as before.
     fn change_rows(&mut self, alloc: Global, remove: &[Row], add: &[Row]) -> Result<(), OutOfMemory>
@@ -40,8 +48,7 @@ impl Stored {
     fn restructure(&mut self, to: Spec, keys: List<u8>)
         ensures { self.new ≡ restructured to keys self.old }
     {
-        self.info.spec = to;
-        self.info.keys = keys;
+        set_structure(&mut self.info, to, keys);
     }
 }
 

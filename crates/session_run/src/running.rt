@@ -18,7 +18,7 @@ const LONGEST_SCRIPT: usize = 16_777_216;
 const LONGEST_PIECE: usize = 4096;
 
 /// Why a run ended early.
-#[derive(Clone, Copy, Debug, PartialEq, Eq)]
+#[derive(Clone, Copy, PartialEq, Eq)]
 pub enum RunFault {
     /// A call of the source failed.
     Source,

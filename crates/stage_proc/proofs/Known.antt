@@ -1,6 +1,6 @@
 -- What is known of a key has the attributes of what may be ranged over there.
 use Rattle.std.proofs.Common.{◌≡◌, refl, sym, ap, ◌∙◌, subst, cond, Bool, true, false, List, [], ◌∷◌, ◌++◌, map, Option, Some, None}
-use Rattle.std.specs.Prelude.{codes, option_map, not, ◌&&◌, ◌||◌}
+use Rattle.std.specs.Prelude.{codes, option_map, not, ◌||◌}
 use Rattle.std.specs.List.{find, list_all}
 use Rattle.std.specs.Str.{bytes_eq}
 use Rattle.std.proofs.lemmas.List.Folds.{list_all-append, list_all-map}

@@ -6,3 +6,4 @@ pub mod Known
 pub mod Meaning
 pub mod Failing
 pub mod Changed
+pub mod Mapped

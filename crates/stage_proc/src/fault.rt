@@ -11,7 +11,7 @@ use decompose::QueryFault;
 use plain_product::ProductFault;
 
 /// Why an update gives no pairs.
-#[derive(Debug, PartialEq, Eq, Drop)]
+#[derive(PartialEq, Eq, Drop)]
 pub enum PairFault {
     /// A value isn't of the kind of its attribute.
     NotFit {

@@ -5,6 +5,7 @@ ghost use Rattle.calculus.specs.Pairs.{blank, with_values};
 ghost use Rattle.calculus.specs.declared.value.Value.TheVariants.{Text as TextValue};
 
 use calculus::{Domain, Kind, OutOfMemory, Row, Text, TryCopy, Value};
+use memory::copies;
 use std::alloc::Global;
 
 /// The empty text.
@@ -36,17 +37,6 @@ pub(crate) fn blank_row(alloc: Global, kinds: &[Kind]) -> Result<Row, OutOfMemor
         values.push(blank(alloc, *kind)?)?;
     }
     Ok(Row::of(values))
-}
-
-/// Copies of the values.
-fn copies_of(alloc: Global, values: &[Value]) -> Result<Vec<Value>, OutOfMemory>
-    ensures { IfOk result (λ copies. copies.items ≡ values.now) }
-{
-    let mut copies = Vec::new(alloc);
-    for value in values {
-        copies.push(value.copy(alloc)?)?;
-    }
-    Ok(copies)
 }
 
 /// Puts the value at the place, where there is one.
@@ -87,7 +77,7 @@ pub(crate) fn with_values(
 ) -> Result<Row, OutOfMemory>
     ensures { IfOk result (λ new. new ≡ with_values places.now values.now row.now) }
 {
-    let mut new = copies_of(alloc, row.values())?;
+    let mut new = copies(alloc, row.values())?;
     put_values(alloc, places, values.values(), &mut new)?;
     Ok(Row::of(new))
 }

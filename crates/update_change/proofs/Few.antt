@@ -130,20 +130,19 @@ pub come_all : (rows few add : List Row) (ps : List Pair) → Ascends rows → f
 come_all rows few add ps h is come = come ∙ (λ i. without_rows (is i) (after (is i) ps)) ∙ come_named rows ps h
 
 -- what was counted says whether too many stand after
-counted : (rows few remove add : List Row) (ps : List Pair) (answer b : Bool) → Ascends rows → few ≡ named_of rows ps → remove ≡ without_rows (after few ps) few
-    → add ≡ without_rows few (after few ps) → answer ≡ nat_lt most_rows (length rows + length add - length remove) → answer ≡ b → nat_lt most_rows (length (after rows ps)) ≡ b
-counted rows few remove add ps answer b h is go come counts said =
-    ap (nat_lt most_rows) (sym (stand_after rows remove add ps h (go_all rows few remove ps h is go) (come_all rows few add ps h is come))) ∙ sym counts ∙ said
+counted : (rows remove add : List Row) (ps : List Pair) (answer b : Bool) → Ascends rows → remove ≡ without_rows (after rows ps) rows → add ≡ without_rows rows (after rows ps)
+    → answer ≡ nat_lt most_rows (length rows + length add - length remove) → answer ≡ b → nat_lt most_rows (length (after rows ps)) ≡ b
+counted rows remove add ps answer b h go come counts said = ap (nat_lt most_rows) (sym (stand_after rows remove add ps h go come)) ∙ sym counts ∙ said
 
-pub too_many_after : (rows few remove add : List Row) (ps : List Pair) (answer : Bool) → Ascends rows → few ≡ named_of rows ps → remove ≡ without_rows (after few ps) few
-    → add ≡ without_rows few (after few ps) → answer ≡ nat_lt most_rows (length rows + length add - length remove) → answer ≡ true → most_rows < length (after rows ps)
-too_many_after rows few remove add ps answer h is go come counts said =
-    ltb-true most_rows (length (after rows ps)) (counted rows few remove add ps answer true h is go come counts said)
+pub too_many_after : (rows remove add : List Row) (ps : List Pair) (answer : Bool) → Ascends rows → remove ≡ without_rows (after rows ps) rows → add ≡ without_rows rows (after rows ps)
+    → answer ≡ nat_lt most_rows (length rows + length add - length remove) → answer ≡ true → most_rows < length (after rows ps)
+too_many_after rows remove add ps answer h go come counts said =
+    ltb-true most_rows (length (after rows ps)) (counted rows remove add ps answer true h go come counts said)
 
-pub few_after : (rows few remove add : List Row) (ps : List Pair) (answer : Bool) → Ascends rows → few ≡ named_of rows ps → remove ≡ without_rows (after few ps) few
-    → add ≡ without_rows few (after few ps) → answer ≡ nat_lt most_rows (length rows + length add - length remove) → answer ≡ false → length (after rows ps) ≤ most_rows
-few_after rows few remove add ps answer h is go come counts said =
-    ltb-false most_rows (length (after rows ps)) (counted rows few remove add ps answer false h is go come counts said)
+pub few_after : (rows remove add : List Row) (ps : List Pair) (answer : Bool) → Ascends rows → remove ≡ without_rows (after rows ps) rows → add ≡ without_rows rows (after rows ps)
+    → answer ≡ nat_lt most_rows (length rows + length add - length remove) → answer ≡ false → length (after rows ps) ≤ most_rows
+few_after rows remove add ps answer h go come counts said =
+    ltb-false most_rows (length (after rows ps)) (counted rows remove add ps answer false h go come counts said)
 
 -- without rows before, all come
 pub all_come : (rows : List Row) → without_rows [] rows ≡ rows

@@ -2,3 +2,4 @@ mod After
 mod Failing
 mod Few
 mod TargetsRead
+pub mod Mapped

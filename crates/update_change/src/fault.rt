@@ -7,7 +7,7 @@ use am_traits::BaseFault;
 use calculus::{OutOfMemory, Row};
 
 /// Why an update makes no change.
-#[derive(Debug, PartialEq, Eq, Drop)]
+#[derive(PartialEq, Eq, Drop)]
 pub enum UpdateFault {
     /// An old row has different new rows.
     Contended {

@@ -12,6 +12,7 @@ use calculus::{
     Attr, DbChange, Domain, Kind, List, OutOfMemory, Pair, RelInfo, RowSet, Spec, Target, TryCopy,
     Update,
 };
+use memory::both;
 use std::alloc::Global;
 
 /// The kind of the attribute that is made of a target: numbers of 64 bits become ones of 32.
@@ -49,14 +50,13 @@ fn made_attrs(alloc: Global, targets: &[Target]) -> Result<Vec<Attr>, OutOfMemor
 fn made_info(alloc: Global, u: &Update) -> Result<RelInfo, OutOfMemory>
     ensures { IfOk result (λ info. info ≡ made_info u.now) }
 {
-    let key = u.rel.copy(alloc)?;
-    let attrs = List::of(made_attrs(alloc, u.query.targets.items())?);
-    let keys = List::of(Vec::new(alloc));
+    let attrs = made_attrs(alloc, u.query.targets.items());
+    let (key, attrs) = both(u.rel.copy(alloc), attrs)?;
     Ok(RelInfo {
         key,
         spec: Spec::Heap,
-        attrs,
-        keys,
+        attrs: List::of(attrs),
+        keys: List::of(Vec::new(alloc)),
     })
 }
 

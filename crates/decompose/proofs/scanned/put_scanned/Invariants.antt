@@ -1,7 +1,7 @@
 use Rattle.std.proofs.Common.{◌≡◌, ◌≤◌, ◌++◌, Some, length}
 use Rattle.calculus.specs.Database.{Db}
 use Rattle.am_traits.specs.Scans.{first_place}
-use Rattle.decompose.proofs.scanned.rows_of.Given as goal
+use Rattle.decompose.proofs.scanned.put_scanned.Given as goal
 
 abbrev pub invariant-loop-call : goal.invariant-loop-call
 invariant-loop-call g l = record {
