@@ -10,7 +10,7 @@ use memory::both;
 use std::alloc::Global;
 
 /// An old row and two different new rows of it.
-#[derive(Debug, Drop)]
+#[derive(Drop)]
 pub struct Contention {
     /// The old row.
     pub old: Row,

@@ -15,10 +15,10 @@ fn replacement(alloc: Global, pair: &Pair) -> Result<Option<(Row, Row)>, OutOfMe
     ensures { IfOk result (λ both. both ≡ replacement pair.now) }
 {
     match (&pair.old, &pair.new) {
-        (Some(old), Some(new)) => {
-            let copies = both(old.copy(alloc), new.copy(alloc))?;
-            Ok(Some(copies))
-        }
+        (Some(old), Some(new)) => match both(old.copy(alloc), new.copy(alloc)) {
+            Ok(copies) => Ok(Some(copies)),
+            Err(error) => Err(error),
+        },
         _ => Ok(None),
     }
 }

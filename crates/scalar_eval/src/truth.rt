@@ -28,18 +28,18 @@ fn compared(op: CmpOp, left: &Value, right: &Value) -> bool
 }
 
 #[tactic(auto, unfolding(calculus::specs::Term::compared_values))]
-fn compared_values(op: CmpOp, left: &Option<Value>, right: &Option<Value>) -> bool
-    ensures { result ≡ compared_values op left.now right.now }
+fn compared_values(op: CmpOp, values: (Option<Value>, Option<Value>)) -> bool
+    ensures { result ≡ compared_values op values.0 values.1 }
 {
-    match (left, right) {
+    match (&values.0, &values.1) {
         (Some(left), Some(right)) => compared(op, left, right),
         _ => false,
     }
 }
 
 #[tactic(auto, unfolding(calculus::specs::Term::matched_value))]
-fn matched_value(pattern: &Chars, same: bool, value: &Option<Value>) -> bool
-    ensures { result ≡ matched_value pattern.now same value.now }
+fn matched_value(pattern: &Chars, same: bool, value: Option<Value>) -> bool
+    ensures { result ≡ matched_value pattern.now same value }
 {
     match value {
         Some(Value::Text(text)) => {
@@ -64,30 +64,31 @@ fn holds_in(
         QQual::True => Ok(true),
         QQual::Cmp { op, left, right } => {
             let left = value_in(alloc, left, rows, tables);
-            let (left, right) = both(left, value_in(alloc, right, rows, tables))?;
-            Ok(compared_values(*op, &left, &right))
+            match both(left, value_in(alloc, right, rows, tables)) {
+                Ok(values) => Ok(compared_values(*op, values)),
+                Err(error) => Err(error),
+            }
         }
         QQual::Like {
             term,
             pattern,
             same,
-        } => {
-            let value = value_in(alloc, term, rows, tables)?;
-            Ok(matched_value(pattern, *same, &value))
-        }
-        QQual::And(left, right) => {
-            if !holds_in(alloc, left.get(), rows, tables)? {
-                return Ok(false);
-            }
-            holds_in(alloc, right.get(), rows, tables)
-        }
-        QQual::Or(left, right) => {
-            if holds_in(alloc, left.get(), rows, tables)? {
-                return Ok(true);
-            }
-            holds_in(alloc, right.get(), rows, tables)
-        }
-        QQual::Not(inner) => Ok(!holds_in(alloc, inner.get(), rows, tables)?),
+        } => match value_in(alloc, term, rows, tables) {
+            Ok(value) => Ok(matched_value(pattern, *same, value)),
+            Err(error) => Err(error),
+        },
+        QQual::And(left, right) => match holds_in(alloc, left.get(), rows, tables) {
+            Ok(true) => holds_in(alloc, right.get(), rows, tables),
+            other => other,
+        },
+        QQual::Or(left, right) => match holds_in(alloc, left.get(), rows, tables) {
+            Ok(false) => holds_in(alloc, right.get(), rows, tables),
+            other => other,
+        },
+        QQual::Not(inner) => match holds_in(alloc, inner.get(), rows, tables) {
+            Ok(there) => Ok(!there),
+            Err(error) => Err(error),
+        },
     }
 }
 

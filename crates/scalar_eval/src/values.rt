@@ -21,30 +21,30 @@ fn number_value(number: Option<i64>) -> Option<Value>
 }
 
 #[tactic(auto, unfolding(calculus::specs::Term::opposite_value))]
-fn opposite_value(value: &Option<Value>) -> Option<Value>
-    ensures { result ≡ opposite_value value.now }
+fn opposite_value(value: Option<Value>) -> Option<Value>
+    ensures { result ≡ opposite_value value }
 {
     match value {
-        Some(Value::Int(number)) => number_value(opposite(*number)),
+        Some(Value::Int(number)) => number_value(opposite(number)),
         _ => None,
     }
 }
 
 #[tactic(auto, unfolding(calculus::specs::Term::value_without_sign))]
-fn value_without_sign(value: &Option<Value>) -> Option<Value>
-    ensures { result ≡ value_without_sign value.now }
+fn value_without_sign(value: Option<Value>) -> Option<Value>
+    ensures { result ≡ value_without_sign value }
 {
     match value {
-        Some(Value::Int(number)) => number_value(without_sign(*number)),
+        Some(Value::Int(number)) => number_value(without_sign(number)),
         _ => None,
     }
 }
 
 #[tactic(auto, unfolding(calculus::specs::Term::operated_values))]
-fn operated_values(op: ArithOp, left: &Option<Value>, right: &Option<Value>) -> Option<Value>
-    ensures { result ≡ operated_values op left.now right.now }
+fn operated_values(op: ArithOp, values: (Option<Value>, Option<Value>)) -> Option<Value>
+    ensures { result ≡ operated_values op values.0 values.1 }
 {
-    match (left, right) {
+    match (&values.0, &values.1) {
         (Some(Value::Int(left)), Some(Value::Int(right))) => {
             number_value(operated(op, *left, *right))
         }
@@ -67,12 +67,11 @@ fn joined_text(alloc: Global, left: &Text, right: &Text) -> Result<Option<Value>
 #[tactic(auto, unfolding(calculus::specs::Term::joined_values))]
 fn joined_values(
     alloc: Global,
-    left: &Option<Value>,
-    right: &Option<Value>,
+    values: (Option<Value>, Option<Value>),
 ) -> Result<Option<Value>, OutOfMemory>
-    ensures { IfOk result (λ v. v ≡ joined_values left.now right.now) }
+    ensures { IfOk result (λ v. v ≡ joined_values values.0 values.1) }
 {
-    match (left, right) {
+    match (&values.0, &values.1) {
         (Some(Value::Text(left)), Some(Value::Text(right))) => joined_text(alloc, left, right),
         _ => Ok(None),
     }
@@ -92,7 +91,10 @@ fn attribute_value(
         None => Ok(None),
         Some(row) => match row.values().get(attr as usize) {
             None => Ok(None),
-            Some(value) => Ok(Some(value.copy(alloc)?)),
+            Some(value) => match value.copy(alloc) {
+                Ok(value) => Ok(Some(value)),
+                Err(error) => Err(error),
+            },
         },
     }
 }
@@ -107,7 +109,17 @@ fn said(alloc: Global, table: &AggTable, link: &[Value]) -> Result<Option<Value>
             return group.1.copy(alloc);
         }
     }
-    Ok(Some(table.empty.copy(alloc)?))
+    match table.empty.copy(alloc) {
+        Ok(value) => Ok(Some(value)),
+        Err(error) => Err(error),
+    }
+}
+
+/// The same, where the values of the links are given away.
+fn said_of(alloc: Global, table: &AggTable, link: Row) -> Result<Option<Value>, OutOfMemory>
+    ensures { IfOk result (λ v. v ≡ in_groups table.now.empty table.now.groups link) }
+{
+    said(alloc, table, link.values())
 }
 
 /// The values of terms that hold no aggregate; `None` where one of them has none.
@@ -139,9 +151,10 @@ fn table_value(
 {
     match tables.get(agg.slot as usize) {
         None => Ok(None),
-        Some(table) => match values_of(alloc, agg.link.items(), rows)? {
-            None => Ok(None),
-            Some(link) => said(alloc, table, link.values()),
+        Some(table) => match values_of(alloc, agg.link.items(), rows) {
+            Ok(Some(link)) => said_of(alloc, table, link),
+            Ok(None) => Ok(None),
+            Err(error) => Err(error),
         },
     }
 }
@@ -161,17 +174,27 @@ pub(crate) fn value_in(
         QTerm::Int(number) => Ok(Some(Value::Int(*number))),
         QTerm::Chars(written) => constant_value(alloc, written),
         QTerm::Attr { var, attr } => attribute_value(alloc, rows, *var, *attr),
-        QTerm::Neg(inner) => Ok(opposite_value(&value_in(alloc, inner.get(), rows, tables)?)),
-        QTerm::Abs(inner) => Ok(value_without_sign(&value_in(alloc, inner.get(), rows, tables)?)),
+        QTerm::Neg(inner) => match value_in(alloc, inner.get(), rows, tables) {
+            Ok(value) => Ok(opposite_value(value)),
+            Err(error) => Err(error),
+        },
+        QTerm::Abs(inner) => match value_in(alloc, inner.get(), rows, tables) {
+            Ok(value) => Ok(value_without_sign(value)),
+            Err(error) => Err(error),
+        },
         QTerm::Arith { op, left, right } => {
             let left = value_in(alloc, left.get(), rows, tables);
-            let (left, right) = both(left, value_in(alloc, right.get(), rows, tables))?;
-            Ok(operated_values(*op, &left, &right))
+            match both(left, value_in(alloc, right.get(), rows, tables)) {
+                Ok(values) => Ok(operated_values(*op, values)),
+                Err(error) => Err(error),
+            }
         }
         QTerm::Concat { left, right } => {
             let left = value_in(alloc, left.get(), rows, tables);
-            let (left, right) = both(left, value_in(alloc, right.get(), rows, tables))?;
-            joined_values(alloc, &left, &right)
+            match both(left, value_in(alloc, right.get(), rows, tables)) {
+                Ok(values) => joined_values(alloc, values),
+                Err(error) => Err(error),
+            }
         }
         QTerm::Agg(agg) => table_value(alloc, agg.get(), rows, tables),
     }
