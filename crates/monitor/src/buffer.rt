@@ -65,8 +65,7 @@ impl Buffer {
         if are_white(piece) {
             return Ok(());
         }
-        let room = piece.len().checked_add(1).ok_or(OutOfMemory)?;
-        self.text.reserve(room)?;
+        self.text.reserve(piece.len() + 1)?;
         if self.ran {
             self.text.clear();
         }

@@ -57,10 +57,11 @@ fn push_code_text(out: &mut Vec<u8>, code: u8) -> Result<(), AllocError>
     out.extend_from_slice(beside(table, code))
 }
 
-/// Adds a number in decimal.
-fn push_number(out: &mut Vec<u8>, number: u32) -> Result<(), AllocError>
-    ensures { OnOk result (out.new.items ≡ out.old.items ++ decimal number) }
+/// Adds some bytes, and a number in decimal behind them.
+fn push_numbered(out: &mut Vec<u8>, bytes: &[u8], number: u32) -> Result<(), AllocError>
+    ensures { OnOk result (out.new.items ≡ out.old.items ++ bytes.now ++ decimal number) }
 {
+    out.extend_from_slice(bytes)?;
     let mut digits = Buffer::new();
     out.extend_from_slice(digits.format(number).as_bytes())
 }
@@ -70,8 +71,7 @@ fn push_refusal_text(out: &mut Vec<u8>, refusal: &Refusal) -> Result<(), AllocEr
     ensures { OnOk result (out.new.items ≡ out.old.items ++ refusal_text refusal.now) }
 {
     if refusal.code == BAD_ROW {
-        out.extend_from_slice(b"bad row ")?;
-        return push_number(out, refusal.row);
+        return push_numbered(out, b"bad row ", refusal.row);
     }
     push_code_text(out, refusal.code)
 }
@@ -81,10 +81,8 @@ fn push_refusal_text(out: &mut Vec<u8>, refusal: &Refusal) -> Result<(), AllocEr
 pub fn push_refusal(out: &mut Vec<u8>, refusal: &Refusal) -> Result<(), OutOfMemory>
     ensures { OnOk result (out.new.items ≡ out.old.items ++ refusal_bytes refusal.now) }
 {
-    out.extend_from_slice(b"refused ")?;
-    push_number(out, u32::from(refusal.code))?;
-    out.extend_from_slice(b" line ")?;
-    push_number(out, refusal.line)?;
+    push_numbered(out, b"refused ", u32::from(refusal.code))?;
+    push_numbered(out, b" line ", refusal.line)?;
     out.extend_from_slice(b": ")?;
     push_refusal_text(out, refusal)?;
     out.push(b'\n')?;

@@ -7,11 +7,11 @@ ghost use Rattle.quel_parse.specs.Parts.{change_of};
 ghost use Rattle.quel_terms.specs.View.{Gives};
 
 use crate::sort_keys::sort_by;
+use crate::stated::boxed;
 use crate::targets::{into_at, maybe, targets_by, where_by};
 use calculus::{Boxed, Item, List, Name, Qual, Statement};
-use memory::both;
 use quel_grammar::{Fixed, Token};
-use quel_terms::{Read, seen_name};
+use quel_terms::{Read, name_at};
 use std::alloc::Global;
 
 /// What is done with a name, a target list and a qualification.
@@ -54,12 +54,11 @@ pub fn changed_by<'a>(
 ) -> Read<'a, Boxed<Statement>>
     ensures { Gives (λ x. (x.0, x.1.now)) result (changed_by depth (level depth) (change_of change) tokens.now) }
 {
-    let (name, rest) = seen_name(tokens)?;
+    let (name, rest) = name_at(alloc, tokens)?;
     let (items, rest) = targets_by(alloc, depth, rest)?;
     let (qual, rest) = where_by(alloc, depth, rest)?;
-    let (name, (items, qual)) = both(name.copy(alloc), Ok((items, qual)))?;
     let statement = change_of(change, name, List::of(items), qual.into_inner());
-    Ok((Boxed::new(alloc, statement)?, rest))
+    boxed(alloc, statement, rest)
 }
 
 /// `append`, behind its first word.
@@ -76,10 +75,10 @@ pub fn append_by<'a>(alloc: Global, depth: u16, tokens: &'a [Token]) -> Read<'a,
 pub fn delete_by<'a>(alloc: Global, depth: u16, tokens: &'a [Token]) -> Read<'a, Boxed<Statement>>
     ensures { Gives (λ x. (x.0, x.1.now)) result (delete_by (level depth) tokens.now) }
 {
-    let (var, rest) = seen_name(tokens)?;
+    let (var, rest) = name_at(alloc, tokens)?;
     let (qual, rest) = where_by(alloc, depth, rest)?;
-    let (var, qual) = both(var.copy(alloc), Ok(qual.into_inner()))?;
-    Ok((Boxed::new(alloc, Statement::Delete { var, qual })?, rest))
+    let qual = qual.into_inner();
+    boxed(alloc, Statement::Delete { var, qual }, rest)
 }
 
 /// `retrieve`, behind its first word.
@@ -98,5 +97,5 @@ pub fn retrieve_by<'a>(alloc: Global, depth: u16, tokens: &'a [Token]) -> Read<'
         qual: qual.into_inner(),
         sort: List::of(sort),
     };
-    Ok((Boxed::new(alloc, statement)?, rest))
+    boxed(alloc, statement, rest)
 }

@@ -10,11 +10,12 @@ ghost use Rattle.quel_terms.specs.View.{Gives};
 use crate::changes::{Change, changed_by};
 use crate::names::covered_by;
 use crate::permits::{joined, operations_from, over_at, user_at};
+use crate::stated::boxed;
 use crate::targets::where_by;
 use calculus::{Boxed, List, Statement};
 use memory::both;
 use quel_grammar::{Fixed, Token};
-use quel_terms::{Halt, Read, after, qual_by, seen_name};
+use quel_terms::{Halt, Read, after, name_at, qual_by, seen_name};
 use std::alloc::Global;
 
 /// What is defined.
@@ -51,7 +52,7 @@ fn granted_by<'a>(
         user,
         qual: qual.into_inner(),
     };
-    Ok((Boxed::new(alloc, statement)?, rest))
+    boxed(alloc, statement, rest)
 }
 
 /// `define permit`, behind its words.
@@ -59,7 +60,8 @@ fn granted_by<'a>(
 fn permit_by<'a>(alloc: Global, depth: u16, tokens: &'a [Token]) -> Read<'a, Boxed<Statement>>
     ensures { Gives (λ x. (x.0, x.1.now)) result (permit_by depth (level depth) tokens.now) }
 {
-    let (rights, rest) = operations_from(alloc, depth, Vec::new(alloc), tokens)?;
+    let mut rights = Vec::new(alloc);
+    let rest = operations_from(depth, &mut rights, tokens)?;
     granted_by(alloc, depth, joined(&rights), rest)
 }
 
@@ -69,11 +71,11 @@ fn rule_by<'a>(alloc: Global, depth: u16, tokens: &'a [Token]) -> Read<'a, Boxed
     ensures { Gives (λ x. (x.0, x.1.now)) result (rule_by (level depth) tokens.now) }
 {
     let rest = after(Fixed::On, tokens)?;
-    let (var, rest) = seen_name(rest)?;
+    let (var, rest) = name_at(alloc, rest)?;
     let rest = after(Fixed::Is, rest)?;
     let (qual, rest) = qual_by(alloc, depth, rest)?;
-    let (var, qual) = both(var.copy(alloc), Ok(qual.into_inner()))?;
-    Ok((Boxed::new(alloc, Statement::Rule { var, qual })?, rest))
+    let qual = qual.into_inner();
+    boxed(alloc, Statement::Rule { var, qual }, rest)
 }
 
 /// The word for what is defined, where one stands there.

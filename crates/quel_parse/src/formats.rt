@@ -1,18 +1,19 @@
 //! The domains of attributes, and the forms of columns that are copied.
 
-ghost use Rattle.std.specs.Prelude.{suc, ◌≡◌, []};
+ghost use Rattle.std.specs.Prelude.{◌≡◌};
 ghost use Rattle.std.specs.List.{list_all};
 ghost use Rattle.calculus.specs.Name.{is_digit};
-ghost use Rattle.quel_grammar.specs.PartReaders.{list_by, width_of, number_formats, copy_forms, format_of, copy_form_of, named_at, closed, in_parens, parts_by};
+ghost use Rattle.quel_grammar.specs.PartReaders.{list_by, width_of, number_formats, copy_forms, format_of, copy_form_of, named_at, parts_by};
 ghost use Rattle.quel_grammar.specs.Reading.{expect, on_name, look_up};
 ghost use Rattle.quel_grammar.specs.Statements.{is_width};
 ghost use Rattle.quel_parse.specs.Parts.{width_from};
 ghost use Rattle.quel_terms.specs.View.{Gives};
 
+use crate::lists::one_less;
 use calculus::{CopyForm, Domain, Name};
 use quel_grammar::{Fixed, Token};
 use quel_lexer::number_of;
-use quel_terms::{Halt, Read, after, found, look_up, seen_name};
+use quel_terms::{Halt, Read, after, found, look_up, name_at};
 use std::alloc::Global;
 
 /// The greatest width of a text.
@@ -138,10 +139,10 @@ fn form_at(tokens: &[Token]) -> Read<'_, CopyForm>
 fn attribute_at<'a>(alloc: Global, tokens: &'a [Token]) -> Read<'a, (Name, Domain)>
     ensures { Gives (λ x. (x.0, x.1.now)) result (named_at format_of tokens.now) }
 {
-    let (name, rest) = seen_name(tokens)?;
+    let (name, rest) = name_at(alloc, tokens)?;
     let rest = after(Fixed::Equal, rest)?;
     let (form, rest) = domain_at(rest)?;
-    Ok(((name.copy(alloc)?, form), rest))
+    Ok(((name, form), rest))
 }
 
 /// A column, `=` and a form.
@@ -149,100 +150,58 @@ fn attribute_at<'a>(alloc: Global, tokens: &'a [Token]) -> Read<'a, (Name, Domai
 fn column_at<'a>(alloc: Global, tokens: &'a [Token]) -> Read<'a, (Name, CopyForm)>
     ensures { Gives (λ x. (x.0, x.1.now)) result (named_at copy_form_of tokens.now) }
 {
-    let (name, rest) = seen_name(tokens)?;
+    let (name, rest) = name_at(alloc, tokens)?;
     let rest = after(Fixed::Equal, rest)?;
     let (form, rest) = form_at(rest)?;
-    Ok(((name.copy(alloc)?, form), rest))
+    Ok(((name, form), rest))
 }
 
-/// Attributes with their domains with commas between them, behind those that were read before; at most so many.
-#[cycle(attributes)]
-pub fn attributes_from<'a>(
-    alloc: Global,
-    most: u16,
-    before: Vec<(Name, Domain)>,
-    tokens: &'a [Token],
-) -> Read<'a, Vec<(Name, Domain)>>
-    ensures { Gives (λ x. (x.0.items, x.1.now)) result (list_by (named_at format_of) most before.items tokens.now) }
-{
-    if most == 0 {
-        return Err(Halt::Stop(tokens));
-    }
-    next_attributes(alloc, most - 1, before, tokens)
-}
-
-/// Attributes with their domains with commas between them, of which the first one is read here.
-#[cycle(attributes)]
+/// Attributes with their domains with commas between them, put behind others; at most so many. Gives the tokens behind
+/// them.
 #[tactic(auto, unfolding(quel_grammar::specs::PartReaders::list_by))]
-fn next_attributes<'a>(
+fn attributes_from<'a>(
     alloc: Global,
     most: u16,
-    before: Vec<(Name, Domain)>,
+    attributes: &mut Vec<(Name, Domain)>,
     tokens: &'a [Token],
-) -> Read<'a, Vec<(Name, Domain)>>
-    ensures { Gives (λ x. (x.0.items, x.1.now)) result (list_by (named_at format_of) (suc most) before.items tokens.now) }
+) -> Result<&'a [Token], Halt<'a>>
+    ensures { Gives (λ rest. (attributes.new.items, rest.now)) result (list_by (named_at format_of) most attributes.old.items tokens.now) }
 {
-    let mut items = before;
-    let (item, rest) = attribute_at(alloc, tokens)?;
-    items.push(item)?;
-    match found(Fixed::Comma, rest) {
-        Some(rest) => attributes_from(alloc, most, items, rest),
-        None => Ok((items, rest)),
-    }
-}
-
-/// Columns with their forms with commas between them, behind those that were read before; at most so many.
-#[cycle(columns)]
-pub fn columns_from<'a>(
-    alloc: Global,
-    most: u16,
-    before: Vec<(Name, CopyForm)>,
-    tokens: &'a [Token],
-) -> Read<'a, Vec<(Name, CopyForm)>>
-    ensures { Gives (λ x. (x.0.items, x.1.now)) result (list_by (named_at copy_form_of) most before.items tokens.now) }
-{
-    if most == 0 {
+    let Some(less) = one_less(most) else {
         return Err(Halt::Stop(tokens));
-    }
-    next_columns(alloc, most - 1, before, tokens)
-}
-
-/// Columns with their forms with commas between them, of which the first one is read here.
-#[cycle(columns)]
-#[tactic(auto, unfolding(quel_grammar::specs::PartReaders::list_by))]
-fn next_columns<'a>(
-    alloc: Global,
-    most: u16,
-    before: Vec<(Name, CopyForm)>,
-    tokens: &'a [Token],
-) -> Read<'a, Vec<(Name, CopyForm)>>
-    ensures { Gives (λ x. (x.0.items, x.1.now)) result (list_by (named_at copy_form_of) (suc most) before.items tokens.now) }
-{
-    let mut items = before;
-    let (item, rest) = column_at(alloc, tokens)?;
-    items.push(item)?;
+    };
+    let (attribute, rest) = attribute_at(alloc, tokens)?;
+    attributes.push(attribute)?;
     match found(Fixed::Comma, rest) {
-        Some(rest) => columns_from(alloc, most, items, rest),
-        None => Ok((items, rest)),
+        Some(rest) => attributes_from(alloc, less, attributes, rest),
+        None => Ok(rest),
     }
 }
 
-/// These and the closing parenthesis.
-#[tactic(auto, unfolding(quel_grammar::specs::PartReaders::closed))]
-fn closed_attributes<'a>(
+/// Columns with their forms with commas between them, put behind others; at most so many. Gives the tokens behind
+/// them.
+#[tactic(auto, unfolding(quel_grammar::specs::PartReaders::list_by))]
+fn columns_from<'a>(
     alloc: Global,
     most: u16,
+    columns: &mut Vec<(Name, CopyForm)>,
     tokens: &'a [Token],
-) -> Read<'a, Vec<(Name, Domain)>>
-    ensures { Gives (λ x. (x.0.items, x.1.now)) result (closed (list_by (named_at format_of) most []) tokens.now) }
+) -> Result<&'a [Token], Halt<'a>>
+    ensures { Gives (λ rest. (columns.new.items, rest.now)) result (list_by (named_at copy_form_of) most columns.old.items tokens.now) }
 {
-    let (items, rest) = attributes_from(alloc, most, Vec::new(alloc), tokens)?;
-    let rest = after(Fixed::Close, rest)?;
-    Ok((items, rest))
+    let Some(less) = one_less(most) else {
+        return Err(Halt::Stop(tokens));
+    };
+    let (column, rest) = column_at(alloc, tokens)?;
+    columns.push(column)?;
+    match found(Fixed::Comma, rest) {
+        Some(rest) => columns_from(alloc, less, columns, rest),
+        None => Ok(rest),
+    }
 }
 
-/// These in parentheses.
-#[tactic(auto, unfolding(quel_grammar::specs::PartReaders::in_parens))]
+/// Attributes with their domains in parentheses.
+#[tactic(auto, unfolding(quel_grammar::specs::PartReaders::in_parens, quel_grammar::specs::PartReaders::closed))]
 pub fn attributes_by<'a>(
     alloc: Global,
     most: u16,
@@ -251,25 +210,14 @@ pub fn attributes_by<'a>(
     ensures { Gives (λ x. (x.0.items, x.1.now)) result (parts_by format_of most tokens.now) }
 {
     let rest = after(Fixed::Open, tokens)?;
-    closed_attributes(alloc, most, rest)
-}
-
-/// These and the closing parenthesis.
-#[tactic(auto, unfolding(quel_grammar::specs::PartReaders::closed))]
-fn closed_columns<'a>(
-    alloc: Global,
-    most: u16,
-    tokens: &'a [Token],
-) -> Read<'a, Vec<(Name, CopyForm)>>
-    ensures { Gives (λ x. (x.0.items, x.1.now)) result (closed (list_by (named_at copy_form_of) most []) tokens.now) }
-{
-    let (items, rest) = columns_from(alloc, most, Vec::new(alloc), tokens)?;
+    let mut attributes = Vec::new(alloc);
+    let rest = attributes_from(alloc, most, &mut attributes, rest)?;
     let rest = after(Fixed::Close, rest)?;
-    Ok((items, rest))
+    Ok((attributes, rest))
 }
 
-/// These in parentheses.
-#[tactic(auto, unfolding(quel_grammar::specs::PartReaders::in_parens))]
+/// Columns with their forms in parentheses.
+#[tactic(auto, unfolding(quel_grammar::specs::PartReaders::in_parens, quel_grammar::specs::PartReaders::closed))]
 pub fn columns_by<'a>(
     alloc: Global,
     most: u16,
@@ -278,5 +226,8 @@ pub fn columns_by<'a>(
     ensures { Gives (λ x. (x.0.items, x.1.now)) result (parts_by copy_form_of most tokens.now) }
 {
     let rest = after(Fixed::Open, tokens)?;
-    closed_columns(alloc, most, rest)
+    let mut columns = Vec::new(alloc);
+    let rest = columns_from(alloc, most, &mut columns, rest)?;
+    let rest = after(Fixed::Close, rest)?;
+    Ok((columns, rest))
 }

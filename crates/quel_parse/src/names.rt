@@ -1,48 +1,35 @@
 //! Names with commas between them.
 
-ghost use Rattle.std.specs.Prelude.{suc, ◌≡◌, []};
+ghost use Rattle.std.specs.Prelude.{[]};
 ghost use Rattle.quel_grammar.specs.PartReaders.{list_by, names_at, closed, covered_names, covered_by, on_by};
 ghost use Rattle.quel_grammar.specs.Reading.{name_at};
 ghost use Rattle.quel_terms.specs.View.{Gives};
 
+use crate::lists::one_less;
 use calculus::Name;
 use quel_grammar::{Fixed, Token};
 use quel_terms::{Halt, Read, after, found, name_at};
 use std::alloc::Global;
 
-/// Names with commas between them, behind those that were read before; at most so many.
-#[cycle(names)]
-pub fn names_from<'a>(
-    alloc: Global,
-    most: u16,
-    before: Vec<Name>,
-    tokens: &'a [Token],
-) -> Read<'a, Vec<Name>>
-    ensures { Gives (λ x. (x.0.items, x.1.now)) result (list_by name_at most before.items tokens.now) }
-{
-    if most == 0 {
-        return Err(Halt::Stop(tokens));
-    }
-    next_names(alloc, most - 1, before, tokens)
-}
-
-/// Names with commas between them, of which the first one is read here.
-#[cycle(names)]
+/// Names with commas between them, put behind others; at most so many. Gives the tokens behind
+/// them.
 #[tactic(auto, unfolding(quel_grammar::specs::PartReaders::list_by))]
-fn next_names<'a>(
+fn names_from<'a>(
     alloc: Global,
     most: u16,
-    before: Vec<Name>,
+    names: &mut Vec<Name>,
     tokens: &'a [Token],
-) -> Read<'a, Vec<Name>>
-    ensures { Gives (λ x. (x.0.items, x.1.now)) result (list_by name_at (suc most) before.items tokens.now) }
+) -> Result<&'a [Token], Halt<'a>>
+    ensures { Gives (λ rest. (names.new.items, rest.now)) result (list_by name_at most names.old.items tokens.now) }
 {
-    let mut items = before;
-    let (item, rest) = name_at(alloc, tokens)?;
-    items.push(item)?;
+    let Some(less) = one_less(most) else {
+        return Err(Halt::Stop(tokens));
+    };
+    let (name, rest) = name_at(alloc, tokens)?;
+    names.push(name)?;
     match found(Fixed::Comma, rest) {
-        Some(rest) => names_from(alloc, most, items, rest),
-        None => Ok((items, rest)),
+        Some(rest) => names_from(alloc, less, names, rest),
+        None => Ok(rest),
     }
 }
 
@@ -50,7 +37,9 @@ fn next_names<'a>(
 pub fn names_at<'a>(alloc: Global, most: u16, tokens: &'a [Token]) -> Read<'a, Vec<Name>>
     ensures { Gives (λ x. (x.0.items, x.1.now)) result (names_at most tokens.now) }
 {
-    names_from(alloc, most, Vec::new(alloc), tokens)
+    let mut names = Vec::new(alloc);
+    let rest = names_from(alloc, most, &mut names, tokens)?;
+    Ok((names, rest))
 }
 
 /// Names and the closing parenthesis, behind the open one.

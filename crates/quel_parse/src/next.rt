@@ -22,7 +22,7 @@ const ENOUGH: usize = 501;
 const SOME: usize = 64;
 
 /// Why there is no statement.
-#[derive(Clone, Copy, Debug, PartialEq, Eq)]
+#[derive(Clone, Copy, Debug)]
 pub enum ParseFault {
     /// No statement begins there.
     Syntax {

@@ -1,10 +1,11 @@
 //! The numbers of permits and rules.
 
-ghost use Rattle.std.specs.Prelude.{suc, ◌≡◌, nat_le, Some, None, if◌then◌else◌};
+ghost use Rattle.std.specs.Prelude.{◌≡◌, nat_le, Some, None, if◌then◌else◌};
 ghost use Rattle.quel_grammar.specs.PartReaders.{list_by, small_number, numbers_at};
 ghost use Rattle.quel_grammar.specs.Reading.{expect};
 ghost use Rattle.quel_terms.specs.View.{Gives};
 
+use crate::lists::one_less;
 use quel_grammar::{Fixed, Number, Token};
 use quel_terms::{Halt, Read, found};
 use std::alloc::Global;
@@ -35,39 +36,24 @@ fn number_at(tokens: &[Token]) -> Read<'_, u32>
     }
 }
 
-/// Numbers with commas between them, behind those that were read before; at most so many.
-#[cycle(numbers)]
-pub fn numbers_from<'a>(
-    alloc: Global,
-    most: u16,
-    before: Vec<u32>,
-    tokens: &'a [Token],
-) -> Read<'a, Vec<u32>>
-    ensures { Gives (λ x. (x.0.items, x.1.now)) result (list_by (expect small_number) most before.items tokens.now) }
-{
-    if most == 0 {
-        return Err(Halt::Stop(tokens));
-    }
-    next_numbers(alloc, most - 1, before, tokens)
-}
-
-/// Numbers with commas between them, of which the first one is read here.
-#[cycle(numbers)]
+/// Numbers with commas between them, put behind others; at most so many. Gives the tokens behind
+/// them.
 #[tactic(auto, unfolding(quel_grammar::specs::PartReaders::list_by))]
-fn next_numbers<'a>(
-    alloc: Global,
+fn numbers_from<'a>(
     most: u16,
-    before: Vec<u32>,
+    numbers: &mut Vec<u32>,
     tokens: &'a [Token],
-) -> Read<'a, Vec<u32>>
-    ensures { Gives (λ x. (x.0.items, x.1.now)) result (list_by (expect small_number) (suc most) before.items tokens.now) }
+) -> Result<&'a [Token], Halt<'a>>
+    ensures { Gives (λ rest. (numbers.new.items, rest.now)) result (list_by (expect small_number) most numbers.old.items tokens.now) }
 {
-    let mut items = before;
-    let (item, rest) = number_at(tokens)?;
-    items.push(item)?;
+    let Some(less) = one_less(most) else {
+        return Err(Halt::Stop(tokens));
+    };
+    let (number, rest) = number_at(tokens)?;
+    numbers.push(number)?;
     match found(Fixed::Comma, rest) {
-        Some(rest) => numbers_from(alloc, most, items, rest),
-        None => Ok((items, rest)),
+        Some(rest) => numbers_from(less, numbers, rest),
+        None => Ok(rest),
     }
 }
 
@@ -78,6 +64,10 @@ pub fn numbers_at<'a>(alloc: Global, most: u16, tokens: &'a [Token]) -> Read<'a,
 {
     match found(Fixed::All, tokens) {
         Some(rest) => Ok((Vec::new(alloc), rest)),
-        None => numbers_from(alloc, most, Vec::new(alloc), tokens),
+        None => {
+            let mut numbers = Vec::new(alloc);
+            let rest = numbers_from(most, &mut numbers, tokens)?;
+            Ok((numbers, rest))
+        }
     }
 }

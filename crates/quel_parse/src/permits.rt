@@ -1,11 +1,12 @@
 //! The parts of a permit.
 
-ghost use Rattle.std.specs.Prelude.{suc, ◌≡◌};
+ghost use Rattle.std.specs.Prelude.{◌≡◌};
 ghost use Rattle.quel_grammar.specs.PartReaders.{list_by, operation_of, over_of, user_of};
 ghost use Rattle.quel_grammar.specs.Reading.{expect, on_fixed};
 ghost use Rattle.quel_grammar.specs.Statements.{joined};
 ghost use Rattle.quel_terms.specs.View.{Gives};
 
+use crate::lists::one_less;
 use calculus::Name;
 use quel_grammar::{Fixed, Token};
 use quel_terms::{Halt, Read, found};
@@ -38,39 +39,24 @@ fn operation_at(tokens: &[Token]) -> Read<'_, u8>
     }
 }
 
-/// Operations, each as the number of its right with commas between them, behind those that were read before; at most so many.
-#[cycle(operations)]
-pub fn operations_from<'a>(
-    alloc: Global,
-    most: u16,
-    before: Vec<u8>,
-    tokens: &'a [Token],
-) -> Read<'a, Vec<u8>>
-    ensures { Gives (λ x. (x.0.items, x.1.now)) result (list_by (expect (on_fixed operation_of)) most before.items tokens.now) }
-{
-    if most == 0 {
-        return Err(Halt::Stop(tokens));
-    }
-    next_operations(alloc, most - 1, before, tokens)
-}
-
-/// Operations, each as the number of its right with commas between them, of which the first one is read here.
-#[cycle(operations)]
+/// Operations, each as the number of its right with commas between them, put behind others; at most so many. Gives the tokens behind
+/// them.
 #[tactic(auto, unfolding(quel_grammar::specs::PartReaders::list_by))]
-fn next_operations<'a>(
-    alloc: Global,
+pub fn operations_from<'a>(
     most: u16,
-    before: Vec<u8>,
+    rights: &mut Vec<u8>,
     tokens: &'a [Token],
-) -> Read<'a, Vec<u8>>
-    ensures { Gives (λ x. (x.0.items, x.1.now)) result (list_by (expect (on_fixed operation_of)) (suc most) before.items tokens.now) }
+) -> Result<&'a [Token], Halt<'a>>
+    ensures { Gives (λ rest. (rights.new.items, rest.now)) result (list_by (expect (on_fixed operation_of)) most rights.old.items tokens.now) }
 {
-    let mut items = before;
-    let (item, rest) = operation_at(tokens)?;
-    items.push(item)?;
+    let Some(less) = one_less(most) else {
+        return Err(Halt::Stop(tokens));
+    };
+    let (right, rest) = operation_at(tokens)?;
+    rights.push(right)?;
     match found(Fixed::Comma, rest) {
-        Some(rest) => operations_from(alloc, most, items, rest),
-        None => Ok((items, rest)),
+        Some(rest) => operations_from(less, rights, rest),
+        None => Ok(rest),
     }
 }
 

@@ -10,11 +10,12 @@ ghost use Rattle.quel_terms.specs.View.{Gives};
 use crate::formats::{attributes_by, columns_by};
 use crate::names::{covered_names, names_at};
 use crate::numbers::numbers_at;
+use crate::stated::boxed;
 use crate::structures::structure_by;
 use calculus::{Boxed, Chars, List, Name, Statement};
 use memory::both;
 use quel_grammar::{Fixed, Token};
-use quel_terms::{Halt, Read, after, seen_name};
+use quel_terms::{Halt, Read, after, name_at, seen_name};
 use std::alloc::Global;
 
 /// What is dropped by its numbers.
@@ -36,7 +37,7 @@ pub fn range_at<'a>(alloc: Global, tokens: &'a [Token]) -> Read<'a, Boxed<Statem
     let rest = after(Fixed::Is, rest)?;
     let (rel, rest) = seen_name(rest)?;
     let (var, rel) = both(var.copy(alloc), rel.copy(alloc))?;
-    Ok((Boxed::new(alloc, Statement::Range { var, rel })?, rest))
+    boxed(alloc, Statement::Range { var, rel }, rest)
 }
 
 /// `create`, behind its first word.
@@ -44,10 +45,10 @@ pub fn range_at<'a>(alloc: Global, tokens: &'a [Token]) -> Read<'a, Boxed<Statem
 pub fn create_by<'a>(alloc: Global, most: u16, tokens: &'a [Token]) -> Read<'a, Boxed<Statement>>
     ensures { Gives (λ x. (x.0, x.1.now)) result (create_by most tokens.now) }
 {
-    let (rel, rest) = seen_name(tokens)?;
+    let (rel, rest) = name_at(alloc, tokens)?;
     let (attrs, rest) = attributes_by(alloc, most, rest)?;
-    let (rel, attrs) = both(rel.copy(alloc), Ok(List::of(attrs)))?;
-    Ok((Boxed::new(alloc, Statement::Create { rel, attrs })?, rest))
+    let attrs = List::of(attrs);
+    boxed(alloc, Statement::Create { rel, attrs }, rest)
 }
 
 /// `destroy`, of relations.
@@ -57,7 +58,7 @@ fn destroy_names<'a>(alloc: Global, most: u16, tokens: &'a [Token]) -> Read<'a, 
 {
     let (names, rest) = names_at(alloc, most, tokens)?;
     let rels = List::of(names);
-    Ok((Boxed::new(alloc, Statement::Destroy { rels })?, rest))
+    boxed(alloc, Statement::Destroy { rels }, rest)
 }
 
 /// `permit` or `integrity` behind `destroy`, where one stands there.
@@ -94,11 +95,10 @@ fn drop_by<'a>(
 ) -> Read<'a, Boxed<Statement>>
     ensures { Gives (λ x. (x.0, x.1.now)) result (drop_by most (dropped_of dropped) tokens.now) }
 {
-    let (rel, rest) = seen_name(tokens)?;
+    let (rel, rest) = name_at(alloc, tokens)?;
     let (numbers, rest) = numbers_at(alloc, most, rest)?;
-    let (rel, numbers) = both(rel.copy(alloc), Ok(List::of(numbers)))?;
-    let statement = dropped_of(dropped, rel, numbers);
-    Ok((Boxed::new(alloc, statement)?, rest))
+    let statement = dropped_of(dropped, rel, List::of(numbers));
+    boxed(alloc, statement, rest)
 }
 
 /// `destroy`, behind its first word.
@@ -117,14 +117,11 @@ pub fn destroy_by<'a>(alloc: Global, most: u16, tokens: &'a [Token]) -> Read<'a,
 pub fn modify_by<'a>(alloc: Global, most: u16, tokens: &'a [Token]) -> Read<'a, Boxed<Statement>>
     ensures { Gives (λ x. (x.0, x.1.now)) result (modify_by most tokens.now) }
 {
-    let (rel, rest) = seen_name(tokens)?;
+    let (rel, rest) = name_at(alloc, tokens)?;
     let rest = after(Fixed::To, rest)?;
     let ((to, keys), rest) = structure_by(alloc, most, rest)?;
-    let (rel, keys) = both(rel.copy(alloc), Ok(List::of(keys)))?;
-    Ok((
-        Boxed::new(alloc, Statement::Modify { rel, to, keys })?,
-        rest,
-    ))
+    let keys = List::of(keys);
+    boxed(alloc, Statement::Modify { rel, to, keys }, rest)
 }
 
 /// `index`, behind its first word.
@@ -137,13 +134,10 @@ pub fn index_by<'a>(alloc: Global, most: u16, tokens: &'a [Token]) -> Read<'a, B
     let rest = after(Fixed::Is, rest)?;
     let (name, rest) = seen_name(rest)?;
     let rest = after(Fixed::Open, rest)?;
+    let (base, name) = both(base.copy(alloc), name.copy(alloc))?;
     let (keys, rest) = covered_names(alloc, most, rest)?;
-    let names = both(base.copy(alloc), name.copy(alloc));
-    let ((base, name), keys) = both(names, Ok(List::of(keys)))?;
-    Ok((
-        Boxed::new(alloc, Statement::Index { base, name, keys })?,
-        rest,
-    ))
+    let keys = List::of(keys);
+    boxed(alloc, Statement::Index { base, name, keys }, rest)
 }
 
 /// `print`, behind its first word.
@@ -153,7 +147,7 @@ pub fn print_by<'a>(alloc: Global, most: u16, tokens: &'a [Token]) -> Read<'a, B
 {
     let (names, rest) = names_at(alloc, most, tokens)?;
     let rels = List::of(names);
-    Ok((Boxed::new(alloc, Statement::Print { rels })?, rest))
+    boxed(alloc, Statement::Print { rels }, rest)
 }
 
 /// `help`, behind its first word.
@@ -164,9 +158,9 @@ pub fn help_at<'a>(alloc: Global, tokens: &'a [Token]) -> Read<'a, Boxed<Stateme
     match tokens {
         [Token::Name(name), rest @ ..] => {
             let rel = Some(name.copy(alloc)?);
-            Ok((Boxed::new(alloc, Statement::Help { rel })?, rest))
+            boxed(alloc, Statement::Help { rel }, rest)
         }
-        _ => Ok((Boxed::new(alloc, Statement::Help { rel: None })?, tokens)),
+        _ => boxed(alloc, Statement::Help { rel: None }, tokens),
     }
 }
 
@@ -208,5 +202,5 @@ pub fn copy_by<'a>(alloc: Global, most: u16, tokens: &'a [Token]) -> Read<'a, Bo
         from,
         file,
     };
-    Ok((Boxed::new(alloc, statement)?, rest))
+    boxed(alloc, statement, rest)
 }

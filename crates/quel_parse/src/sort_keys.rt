@@ -1,13 +1,14 @@
 //! The keys by which a result is sorted.
 
-ghost use Rattle.std.specs.Prelude.{suc, ◌≡◌, []};
+ghost use Rattle.std.specs.Prelude.{◌≡◌, []};
 ghost use Rattle.quel_grammar.specs.PartReaders.{list_by, directions, direction_at, key_at, keys_by, sort_by};
 ghost use Rattle.quel_grammar.specs.Reading.{expect, on_name, look_up};
 ghost use Rattle.quel_terms.specs.View.{Gives};
 
+use crate::lists::one_less;
 use calculus::Name;
 use quel_grammar::{Fixed, Token};
-use quel_terms::{Halt, Read, after, found, look_up, seen_name};
+use quel_terms::{Halt, Read, after, found, look_up, name_at};
 use std::alloc::Global;
 
 /// The words of direction, and whether they say that it descends.
@@ -55,44 +56,30 @@ fn direction_at(tokens: &[Token]) -> Read<'_, bool>
 fn key_at<'a>(alloc: Global, tokens: &'a [Token]) -> Read<'a, (Name, bool)>
     ensures { Gives (λ x. (x.0, x.1.now)) result (key_at tokens.now) }
 {
-    let (name, rest) = seen_name(tokens)?;
+    let (name, rest) = name_at(alloc, tokens)?;
     let (down, rest) = direction_at(rest)?;
-    Ok(((name.copy(alloc)?, down), rest))
+    Ok(((name, down), rest))
 }
 
-/// Sort keys with commas between them, behind those that were read before; at most so many.
-#[cycle(keys)]
-pub fn keys_from<'a>(
-    alloc: Global,
-    most: u16,
-    before: Vec<(Name, bool)>,
-    tokens: &'a [Token],
-) -> Read<'a, Vec<(Name, bool)>>
-    ensures { Gives (λ x. (x.0.items, x.1.now)) result (list_by key_at most before.items tokens.now) }
-{
-    if most == 0 {
-        return Err(Halt::Stop(tokens));
-    }
-    next_keys(alloc, most - 1, before, tokens)
-}
-
-/// Sort keys with commas between them, of which the first one is read here.
-#[cycle(keys)]
+/// Sort keys with commas between them, put behind others; at most so many. Gives the tokens behind
+/// them.
 #[tactic(auto, unfolding(quel_grammar::specs::PartReaders::list_by))]
-fn next_keys<'a>(
+fn keys_from<'a>(
     alloc: Global,
     most: u16,
-    before: Vec<(Name, bool)>,
+    keys: &mut Vec<(Name, bool)>,
     tokens: &'a [Token],
-) -> Read<'a, Vec<(Name, bool)>>
-    ensures { Gives (λ x. (x.0.items, x.1.now)) result (list_by key_at (suc most) before.items tokens.now) }
+) -> Result<&'a [Token], Halt<'a>>
+    ensures { Gives (λ rest. (keys.new.items, rest.now)) result (list_by key_at most keys.old.items tokens.now) }
 {
-    let mut items = before;
-    let (item, rest) = key_at(alloc, tokens)?;
-    items.push(item)?;
+    let Some(less) = one_less(most) else {
+        return Err(Halt::Stop(tokens));
+    };
+    let (key, rest) = key_at(alloc, tokens)?;
+    keys.push(key)?;
     match found(Fixed::Comma, rest) {
-        Some(rest) => keys_from(alloc, most, items, rest),
-        None => Ok((items, rest)),
+        Some(rest) => keys_from(alloc, less, keys, rest),
+        None => Ok(rest),
     }
 }
 
@@ -102,7 +89,9 @@ fn keys_by<'a>(alloc: Global, most: u16, tokens: &'a [Token]) -> Read<'a, Vec<(N
     ensures { Gives (λ x. (x.0.items, x.1.now)) result (keys_by most tokens.now) }
 {
     let rest = after(Fixed::By, tokens)?;
-    keys_from(alloc, most, Vec::new(alloc), rest)
+    let mut keys = Vec::new(alloc);
+    let rest = keys_from(alloc, most, &mut keys, rest)?;
+    Ok((keys, rest))
 }
 
 /// `sort by` and keys, or nothing.

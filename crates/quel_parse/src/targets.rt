@@ -1,12 +1,13 @@
 //! Target lists, qualifications behind `where`, and where a result is kept.
 
-ghost use Rattle.std.specs.Prelude.{suc, ◌≡◌, [], Ok};
-ghost use Rattle.quel_grammar.specs.PartReaders.{list_by, maybe, all_target, dot_target, set_target, target_by, in_parens, closed, targets_by, where_by, name_into, plain_into, into_at};
+ghost use Rattle.std.specs.Prelude.{◌≡◌, Ok};
+ghost use Rattle.quel_grammar.specs.PartReaders.{list_by, maybe, all_target, dot_target, set_target, target_by, targets_by, where_by, name_into, plain_into, into_at};
 ghost use Rattle.calculus.specs.declared.statement.Item.TheVariants as items;
 ghost use Rattle.quel_grammar.specs.Reading.{first, choose, done, name_of};
 ghost use Rattle.quel_grammar.specs.TermReaders.{level};
 ghost use Rattle.quel_terms.specs.View.{Gives};
 
+use crate::lists::one_less;
 use calculus::{Boxed, Item, Name, Qual};
 use memory::both;
 use quel_grammar::{Fixed, Token};
@@ -61,8 +62,9 @@ fn dot_target<'a>(alloc: Global, var: &Name, tokens: &'a [Token]) -> Read<'a, It
 fn set_target<'a>(alloc: Global, depth: u16, name: &Name, tokens: &'a [Token]) -> Read<'a, Item>
     ensures { Gives (λ x. (x.0, x.1.now)) result (set_target (level depth) name.now tokens.now) }
 {
+    let name = name.copy(alloc)?;
     let (term, rest) = term_by(alloc, depth, tokens)?;
-    let (name, term) = both(name.copy(alloc), Ok(term.into_inner()))?;
+    let term = term.into_inner();
     Ok((Item::Set { name, term }, rest))
 }
 
@@ -78,61 +80,39 @@ fn target_by<'a>(alloc: Global, depth: u16, tokens: &'a [Token]) -> Read<'a, Ite
     }
 }
 
-/// Targets with commas between them, behind those that were read before; at most so many.
-#[cycle(targets)]
-pub fn targets_from<'a>(
-    alloc: Global,
-    depth: u16,
-    most: u16,
-    before: Vec<Item>,
-    tokens: &'a [Token],
-) -> Read<'a, Vec<Item>>
-    ensures { Gives (λ x. (x.0.items, x.1.now)) result (list_by (target_by (level depth)) most before.items tokens.now) }
-{
-    if most == 0 {
-        return Err(Halt::Stop(tokens));
-    }
-    next_targets(alloc, depth, most - 1, before, tokens)
-}
-
-/// Targets with commas between them, of which the first one is read here.
-#[cycle(targets)]
+/// Targets with commas between them, put behind others; at most so many. Gives the tokens behind
+/// them.
 #[tactic(auto, unfolding(quel_grammar::specs::PartReaders::list_by))]
-fn next_targets<'a>(
+fn targets_from<'a>(
     alloc: Global,
     depth: u16,
     most: u16,
-    before: Vec<Item>,
+    items: &mut Vec<Item>,
     tokens: &'a [Token],
-) -> Read<'a, Vec<Item>>
-    ensures { Gives (λ x. (x.0.items, x.1.now)) result (list_by (target_by (level depth)) (suc most) before.items tokens.now) }
+) -> Result<&'a [Token], Halt<'a>>
+    ensures { Gives (λ rest. (items.new.items, rest.now)) result (list_by (target_by (level depth)) most items.old.items tokens.now) }
 {
-    let mut items = before;
+    let Some(less) = one_less(most) else {
+        return Err(Halt::Stop(tokens));
+    };
     let (item, rest) = target_by(alloc, depth, tokens)?;
     items.push(item)?;
     match found(Fixed::Comma, rest) {
-        Some(rest) => targets_from(alloc, depth, most, items, rest),
-        None => Ok((items, rest)),
+        Some(rest) => targets_from(alloc, depth, less, items, rest),
+        None => Ok(rest),
     }
 }
 
-/// Targets and the closing parenthesis.
-#[tactic(auto, unfolding(quel_grammar::specs::PartReaders::closed))]
-fn closed_targets<'a>(alloc: Global, depth: u16, tokens: &'a [Token]) -> Read<'a, Vec<Item>>
-    ensures { Gives (λ x. (x.0.items, x.1.now)) result (closed (list_by (target_by (level depth)) depth []) tokens.now) }
-{
-    let (items, rest) = targets_from(alloc, depth, depth, Vec::new(alloc), tokens)?;
-    let rest = after(Fixed::Close, rest)?;
-    Ok((items, rest))
-}
-
 /// Targets in parentheses.
-#[tactic(auto, unfolding(quel_grammar::specs::PartReaders::in_parens))]
+#[tactic(auto, unfolding(quel_grammar::specs::PartReaders::in_parens, quel_grammar::specs::PartReaders::closed))]
 pub fn targets_by<'a>(alloc: Global, depth: u16, tokens: &'a [Token]) -> Read<'a, Vec<Item>>
     ensures { Gives (λ x. (x.0.items, x.1.now)) result (targets_by depth (level depth) tokens.now) }
 {
     let rest = after(Fixed::Open, tokens)?;
-    closed_targets(alloc, depth, rest)
+    let mut items = Vec::new(alloc);
+    let rest = targets_from(alloc, depth, depth, &mut items, rest)?;
+    let rest = after(Fixed::Close, rest)?;
+    Ok((items, rest))
 }
 
 /// `where` and a qualification, or nothing.

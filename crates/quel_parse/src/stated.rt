@@ -1,0 +1,20 @@
+//! Statements that were read.
+
+ghost use Rattle.std.specs.Prelude.{Ok};
+ghost use Rattle.quel_terms.specs.View.{Gives};
+
+use calculus::{Boxed, Statement};
+use quel_grammar::Token;
+use quel_terms::Read;
+use std::alloc::Global;
+
+/// A statement that was read, and the tokens behind it.
+pub fn boxed<'a>(
+    alloc: Global,
+    statement: Statement,
+    rest: &'a [Token],
+) -> Read<'a, Boxed<Statement>>
+    ensures { Gives (λ x. (x.0, x.1.now)) result (Ok (statement, rest.now)) }
+{
+    Ok((Boxed::new(alloc, statement)?, rest))
+}
