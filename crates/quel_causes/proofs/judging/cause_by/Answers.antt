@@ -3,7 +3,7 @@ use Rattle.calculus.specs.QueryParts.{query_aggregates}
 use Rattle.calculus.specs.Replacement.{first_cause}
 use Rattle.quel_meaning.specs.Causes.{causes_by}
 use Rattle.quel_meaning.specs.StatementUpdate.{append_of, replace_of, delete_of}
-use Rattle.quel_causes.specs.Judged.{is_judged, update_of}
+use Rattle.quel_causes.specs.Judged.{update_of}
 use Rattle.quel_causes.proofs.Standing.{append_query, append_wants, replace_query, replace_wants, delete_query}
 use Rattle.quel_causes.proofs.judging.cause_by.Goals as goal
 
@@ -30,39 +30,3 @@ returns-in-Delete-clause-told g c = λ scope h u k e j.
     subst (λ s. IfOk c.taken_cause.result (λ n. n ≡ first_cause (causes_by scope true q s))) (sym c.in-Delete.is)
     (c.taken_cause.ensures.told scope (delete_of scope var q) h (e ∙ ap (λ s. update_of scope s q) c.in-Delete.is)
     (ap query_aggregates (delete_query scope var q) ∙ k))
-
-pub returns-in-Range-clause-told : goal.returns-in-Range-clause-told
-returns-in-Range-clause-told g c = λ scope h u k e j. sym (ap (λ s. first_cause (causes_by scope true c.args.q.now s)) c.in-Range.is)
-
-pub returns-in-Destroy-clause-told : goal.returns-in-Destroy-clause-told
-returns-in-Destroy-clause-told g c = λ scope h u k e j. absurd (cc (sym (ap is_judged c.in-Destroy.is) ∙ j))
-
-pub returns-in-DropPermits-clause-told : goal.returns-in-DropPermits-clause-told
-returns-in-DropPermits-clause-told g c = λ scope h u k e j. absurd (cc (sym (ap is_judged c.in-DropPermits.is) ∙ j))
-
-pub returns-in-DropRules-clause-told : goal.returns-in-DropRules-clause-told
-returns-in-DropRules-clause-told g c = λ scope h u k e j. absurd (cc (sym (ap is_judged c.in-DropRules.is) ∙ j))
-
-pub returns-in-Modify-clause-told : goal.returns-in-Modify-clause-told
-returns-in-Modify-clause-told g c = λ scope h u k e j. absurd (cc (sym (ap is_judged c.in-Modify.is) ∙ j))
-
-pub returns-in-Index-clause-told : goal.returns-in-Index-clause-told
-returns-in-Index-clause-told g c = λ scope h u k e j. absurd (cc (sym (ap is_judged c.in-Index.is) ∙ j))
-
-pub returns-in-Print-clause-told : goal.returns-in-Print-clause-told
-returns-in-Print-clause-told g c = λ scope h u k e j. absurd (cc (sym (ap is_judged c.in-Print.is) ∙ j))
-
-pub returns-in-Help-clause-told : goal.returns-in-Help-clause-told
-returns-in-Help-clause-told g c = λ scope h u k e j. absurd (cc (sym (ap is_judged c.in-Help.is) ∙ j))
-
-pub returns-in-Copy-clause-told : goal.returns-in-Copy-clause-told
-returns-in-Copy-clause-told g c = λ scope h u k e j. absurd (cc (sym (ap is_judged c.in-Copy.is) ∙ j))
-
-pub returns-in-View-clause-told : goal.returns-in-View-clause-told
-returns-in-View-clause-told g c = λ scope h u k e j. absurd (cc (sym (ap is_judged c.in-View.is) ∙ j))
-
-pub returns-in-Permit-clause-told : goal.returns-in-Permit-clause-told
-returns-in-Permit-clause-told g c = λ scope h u k e j. absurd (cc (sym (ap is_judged c.in-Permit.is) ∙ j))
-
-pub returns-in-Rule-clause-told : goal.returns-in-Rule-clause-told
-returns-in-Rule-clause-told g c = λ scope h u k e j. absurd (cc (sym (ap is_judged c.in-Rule.is) ∙ j))
