@@ -10,7 +10,6 @@ ghost use Rattle.calculus.specs.Sizes.{Known, measure_within, plain_measure, que
 ghost use Rattle.calculus.specs.Used.{used_in_query, used_vars};
 ghost use Rattle.change_check.specs.Measured.{held, stopped_measure};
 
-use crate::ranges::let_go;
 use crate::sizes::{Measure, qual_size, term_size};
 use am_traits::{Base, BaseFault};
 use calculus::{OutOfMemory, Query, RelKey, Target};
@@ -121,7 +120,7 @@ fn measure_within<B: Base>(
     match base.view(alloc, key)? {
         Some(query) => {
             let measure = measure_of(alloc, base, &query, levels - 1);
-            let_go(query);
+            drop(query);
             measure
         }
         None => Ok(plain(alloc)),

@@ -10,7 +10,7 @@ ghost use Rattle.change_check.specs.Standing.{is_ranged};
 
 use crate::keys::is_relation;
 use am_traits::{Base, BaseFault};
-use calculus::{Query, RelInfo, RelKey, Spec};
+use calculus::{RelInfo, RelKey, Spec};
 use std::alloc::Global;
 
 /// Whether this is known of what a variable may range over: anything but an index.
@@ -64,9 +64,6 @@ pub(crate) fn are_ranges<B: Base>(
     Ok(true)
 }
 
-/// Lets a query go.
-pub(crate) fn let_go(_query: Query) {}
-
 /// Whether what stands under a key has a level, and this is at most so many.
 #[cycle(levels)]
 fn has_level<B: Base>(
@@ -86,11 +83,11 @@ fn has_level<B: Base>(
     match base.view(alloc, key)? {
         Some(query) => {
             if levels == 0 {
-                let_go(query);
+                drop(query);
                 return Ok(false);
             }
             let all = have_levels(alloc, base, query.vars.items(), levels - 1);
-            let_go(query);
+            drop(query);
             all
         }
         None => is_range(alloc, base, key),

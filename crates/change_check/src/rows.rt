@@ -43,7 +43,8 @@ fn has_all<B: Base>(
     ensures cause { HasCause (B.database base.old) (B.faults base.old) (B.faults base.new) result }
 {
     for row in rows {
-        if !base.has_row(alloc, rel, row)? {
+        let there = base.has_row(alloc, rel, row)?;
+        if !there {
             return Ok(false);
         }
     }
@@ -63,7 +64,8 @@ fn has_any<B: Base>(
     ensures cause { HasCause (B.database base.old) (B.faults base.old) (B.faults base.new) result }
 {
     for row in rows {
-        if base.has_row(alloc, rel, row)? {
+        let there = base.has_row(alloc, rel, row)?;
+        if there {
             return Ok(true);
         }
     }

@@ -19,7 +19,7 @@ use crate::repeated::titles_repeat;
 use crate::retrieved::kinds_fit;
 use crate::variables::has_too_many;
 use am_traits::{Base, BaseFault};
-use calculus::{Name, Query, RelKey, Update};
+use calculus::{Name, RelKey, Update};
 use std::alloc::Global;
 
 /// Whether the administrator's catalogue of a name has this key.
@@ -29,9 +29,6 @@ fn has_catalogue_key(key: &RelKey, dba: &Name) -> bool
     let names = is_catalogue_name(&key.name);
     key.owner == *dba && names
 }
-
-/// Lets what may be a query go.
-fn let_all_go(_query: Option<Query>) {}
 
 /// Whether a catalogue stands under the key.
 fn is_catalogue<B: Base>(alloc: Global, base: &mut B, key: &RelKey) -> Result<bool, BaseFault>
@@ -53,7 +50,7 @@ fn is_view<B: Base>(alloc: Global, base: &mut B, key: &RelKey) -> Result<bool, B
 {
     let query = base.view(alloc, key)?;
     let found = query.is_some();
-    let_all_go(query);
+    drop(query);
     Ok(found)
 }
 

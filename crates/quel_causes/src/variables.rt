@@ -23,9 +23,6 @@ const MOST_VARIABLES: usize = 10;
 /// The variables that a query has at most once the views in it are put in.
 const MOST_EXPANDED_VARIABLES: u64 = 50;
 
-/// Lets a query go.
-fn let_go(_query: Query) {}
-
 /// The variables of what stands under a key, through at most so many levels of views.
 #[cycle(variables)]
 fn variables_within<B: Base>(
@@ -45,7 +42,7 @@ fn variables_within<B: Base>(
     match base.view(alloc, key)? {
         Some(query) => {
             let count = variables_of(alloc, base, &query, levels - 1);
-            let_go(query);
+            drop(query);
             count
         }
         None => Ok(1),

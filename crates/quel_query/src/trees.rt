@@ -86,12 +86,11 @@ fn retrieved(
     }
 }
 
-fn let_go(_q: Query) {}
-
 /// No tree for a query.
-fn no_tree(_q: Query) -> Result<Option<Checked>, OutOfMemory>
+fn no_tree(q: Query) -> Result<Option<Checked>, OutOfMemory>
     ensures { IfOk result (λ tree. tree ≡ None) }
 {
+    drop(q);
     Ok(None)
 }
 
@@ -159,7 +158,7 @@ pub fn tree_by(
             Ok(Some(retrieved(alloc, user, into, sort.items(), q)?))
         }
         Statement::Create { rel, attrs } => {
-            let_go(q);
+            drop(q);
             Ok(Some(created(alloc, user, rel, attrs.items())?))
         }
         Statement::Append { .. } => appended(alloc, target, q),

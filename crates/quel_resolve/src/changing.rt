@@ -38,9 +38,10 @@ pub(crate) fn changed<B: Base>(
 }
 
 /// No update for a query.
-fn no_update(_q: Query) -> Result<Option<Update>, OutOfMemory>
+fn no_update(q: Query) -> Result<Option<Update>, OutOfMemory>
     ensures { IfOk result (λ update. update ≡ None) }
 {
+    drop(q);
     Ok(None)
 }
 

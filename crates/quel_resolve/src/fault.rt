@@ -7,7 +7,7 @@ use am_traits::BaseFault;
 use calculus::OutOfMemory;
 
 /// Why a statement has no tree.
-#[derive(Clone, Copy, Debug, PartialEq, Eq)]
+#[derive(Clone, Copy)]
 pub enum CheckFault {
     /// The statement is of a kind that isn't resolved yet, or it holds an aggregate.
     NotBuilt,

@@ -39,8 +39,6 @@ pub(crate) fn judge<B: Base>(
     }
 }
 
-fn let_update_go(_update: Update) {}
-
 /// The tree of a statement that is this update, where no cause refuses it.
 pub(crate) fn judge_update<B: Base>(
     alloc: Global,
@@ -59,7 +57,7 @@ pub(crate) fn judge_update<B: Base>(
     match judge(alloc, base, user, s, &update.query, Some(&update)) {
         Ok(()) => Ok(Checked::Update(update)),
         Err(fault) => {
-            let_update_go(update);
+            drop(update);
             Err(fault)
         }
     }

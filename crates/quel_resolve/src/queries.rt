@@ -14,7 +14,7 @@ ghost use Rattle.quel_resolve.specs.Causes.{HasCheckCause};
 
 use crate::fault::CheckFault;
 use am_traits::Base;
-use calculus::{Name, Query, RelInfo, Statement};
+use calculus::{Name, Query, Statement};
 use quel_check::{RangeTable, vars_in};
 use quel_names::infos_of;
 use quel_query::query_of;
@@ -28,8 +28,6 @@ const TOO_MANY: u8 = 14;
 
 /// The number of an unknown relation.
 const NO_RELATION: u8 = 10;
-
-fn let_all_go(_infos: Vec<RelInfo>) {}
 
 /// The query of a statement over these variables, which are its own.
 fn query_over<B: Base>(
@@ -50,7 +48,7 @@ fn query_over<B: Base>(
     match infos_of(alloc, base, ranges, vars)? {
         Some(infos) => {
             let query = query_of(alloc, s, vars, &infos);
-            let_all_go(infos);
+            drop(infos);
             Ok(query?)
         }
         None => Err(CheckFault::No(NO_RELATION)),

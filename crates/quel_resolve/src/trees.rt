@@ -66,8 +66,6 @@ fn asked(alloc: Global, user: &Name, s: &Statement, q: Query) -> Result<Checked,
     }
 }
 
-fn let_query_go(_q: Query) {}
-
 /// The tree of a statement with this query that changes no relation.
 fn made<B: Base>(
     alloc: Global,
@@ -86,7 +84,7 @@ fn made<B: Base>(
     match judge(alloc, base, user, s, &q, None) {
         Ok(()) => asked(alloc, user, s, q),
         Err(fault) => {
-            let_query_go(q);
+            drop(q);
             Err(fault)
         }
     }
@@ -134,7 +132,7 @@ fn tree_with<B: Base>(
     match changed(alloc, base, user, ranges, s) {
         Ok(changes) => tree_over(alloc, base, user, ranges, s, changes, q),
         Err(fault) => {
-            let_query_go(q);
+            drop(q);
             Err(CheckFault::Base(fault))
         }
     }

@@ -1,5 +1,7 @@
 use Rattle.std.proofs.Common.{◌∙◌, ap, ◌||◌}
 use Rattle.std.specs.Str.{bytes_eq}
+use Rattle.std.specs.List.{list_any}
+use Rattle.std.proofs.lemmas.List.{take_all}
 use Rattle.quel_causes.proofs.Twice.{among_more, title_more}
 use Rattle.quel_causes.proofs.repeated.titles.Goals as goal
 
@@ -8,3 +10,6 @@ loop-target-preserved c = λ n.
     among_more (λ k. k.now) _ c.loop-target.seen.keys c.insert_full.new.self.keys c.in_ok-insert_full.ensures.keys n
     ∙ ap (λ b. b || bytes_eq n c.target-item.result.name) (c.loop-target.invariant n)
     ∙ title_more c.args.targets.now c.loop-target.target-index c.target-item.result c.loop-target-test.true c.target-item.is n
+
+pub returns : goal.returns
+returns c = λ n. c.loop-target.invariant n ∙ ap (list_any (λ t. bytes_eq t.name n)) (take_all c.loop-target.target-index c.args.targets.now c.loop-target-test.false)

@@ -1,4 +1,5 @@
-use Rattle.std.proofs.Common.{◌∙◌, arith}
+use Rattle.std.proofs.Common.{ap, ◌∙◌, ◌-◌, ◌^◌, min, sum_by, arith}
+use Rattle.std.proofs.lemmas.List.{take_all}
 use Rattle.calculus.specs.Sizes.{measure_within}
 use Rattle.quel_causes.proofs.Counting.{sum_more}
 use Rattle.quel_causes.proofs.variables.variables_under.Goals as goal
@@ -12,3 +13,7 @@ loop-key-preserved g c = record {
   same = c.in_ok-more.ensures.same ∙ c.loop-key.invariant.same;
   later = omega (arith, c.in_ok-more.ensures.cause.later, c.loop-key.invariant.later);
 }
+
+pub returns-clause-told : goal.returns-clause-told
+returns-clause-told g c = λ db h.
+    c.loop-key.invariant.told db h ∙ ap (λ keys. min (sum_by (λ key. (measure_within 16 db key).variables) keys) (2 ^ 64 - 1)) (take_all c.loop-key.key-index c.args.vars.now c.loop-key-test.false)

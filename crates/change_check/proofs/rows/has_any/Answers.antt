@@ -1,0 +1,27 @@
+use Rattle.std.proofs.Common.{◌≡◌, sym, ap, ◌∙◌, arith, true, false, ◌||◌}
+use Rattle.std.specs.List.{list_any}
+use Rattle.std.proofs.lemmas.List.{take_all}
+use Rattle.std.proofs.lemmas.List.Folds.{list_any_more, list_any_at}
+use Rattle.calculus.specs.Rows.{has}
+use Rattle.calculus.specs.Stored.{rows_at}
+use Rattle.change_check.proofs.rows.has_any.Goals as goal
+
+pub loop-row-preserved : goal.loop-row-preserved
+loop-row-preserved g c = record {
+  so_far = λ db h.
+      let on : c.in_ok-there.there ≡ false = cc (c.if-there.false) in
+      list_any_more (has (rows_at db c.args.rel.now)) c.args.rows.now c.loop-row.row-index c.row-item.result c.loop-row-test.true
+      ∙ (λ i. c.loop-row.invariant.so_far db h i || (ap (has (rows_at db c.args.rel.now)) (sym c.row-item.is) ∙ sym (c.in_ok-there.ensures.told db (c.loop-row.invariant.kept ∙ h)) ∙ on) i);
+  kept = c.in_ok-there.ensures.kept ∙ c.loop-row.invariant.kept;
+  same = c.in_ok-there.ensures.same ∙ c.loop-row.invariant.same;
+  later = omega (arith, c.in_ok-there.ensures.cause.later, c.loop-row.invariant.later);
+}
+
+pub returns-then-there-clause-told : goal.returns-then-there-clause-told
+returns-then-there-clause-told g c = λ db h.
+    let off : c.in_ok-there.there ≡ true = cc (c.if-there.true) in
+    sym (list_any_at (has (rows_at db c.args.rel.now)) c.args.rows.now c.loop-row.row-index c.row-item.result c.loop-row-test.true
+    (ap (has (rows_at db c.args.rel.now)) (sym c.row-item.is) ∙ sym (c.in_ok-there.ensures.told db (c.loop-row.invariant.kept ∙ h)) ∙ off))
+
+pub returns-clause-told : goal.returns-clause-told
+returns-clause-told g c = λ db h. sym (c.loop-row.invariant.so_far db h) ∙ ap (list_any (has (rows_at db c.args.rel.now))) (take_all c.loop-row.row-index c.args.rows.now c.loop-row-test.false)
