@@ -1,5 +1,5 @@
 -- How a batch whose gate is open is laid on the disk, and the gate shut.
-use Rattle.std.proofs.Common.{◌≡◌, ◌≢◌, ◌⊎◌, inl, inr, ℕ, ◌+◌, ◌/◌, ◌<◌, ◌≤◌, Bool, true, false, List, [], ◌∷◌, Option, Some, None, refl, sym, ◌∙◌, ap, subst, arith, add-one, if◌then◌else◌}
+use Rattle.std.proofs.Common.{◌≡◌, ◌≢◌, ◌⊎◌, inl, inr, ℕ, ◌+◌, ◌/◌, ◌<◌, ◌≤◌, Bool, true, List, [], ◌∷◌, Option, Some, refl, sym, ◌∙◌, ap, subst, arith, add-one, if◌then◌else◌}
 use Rattle.disk_model.specs.declared.disk.Addr.{Addr}
 use Rattle.disk_model.specs.Disk.{Image, IsImage, Changes, OnlyReads, Elapses, LeavesOnly}
 use Rattle.disk_model.specs.Disk.{is_at}
@@ -8,10 +8,8 @@ use Rattle.disk_model.proofs.Moments.{started, goes_on, reads_on, unchanged, cha
 use Rattle.batch_file.specs.Layout.{addr, gate, count, is_lawful, is_lawful_in, has_image, or_empty, address_in, entry, entries, first_byte}
 use Rattle.batch_file.specs.Redone.{latest, laid, kept, redone}
 use Rattle.batch_file.specs.OnDisk.{InBatch, IsOpen}
-use Rattle.std.proofs.Common.{Err, is_some}
-use Rattle.batch_file.specs.declared.fault.RestoreFault.{RestoreFault}
-use Rattle.batch_file.specs.declared.fault.RestoreFault.TheVariants.{Disk, Damaged}
-use Rattle.batch_file.specs.Faults.{IsAddress, IsPage, IsBuffered}
+use Rattle.std.proofs.Common.{is_some}
+use Rattle.batch_file.specs.Faults.{IsBuffered}
 use Rattle.batch_file.proofs.Lays.{Among, latest-append, latest_off, latest_twice, latest_same, kept_by, kept_not_gate, redone_shut, redone_open, same_batch, SameBatch}
 use Rattle.batch_file.proofs.Form.{sound, IsSound, off_batch, among_entry}
 

@@ -1,6 +1,4 @@
-use Rattle.std.proofs.Common.{rules, ◌≡◌, ◌+◌, ◌∙◌, inl, arith, refl, ap, sym}
-use Rattle.disk_model.specs.declared.disk.Addr.{Addr}
-use Rattle.std.proofs.Common.{List, ℕ, Some}
+use Rattle.std.proofs.Common.{rules, ◌≡◌, ◌+◌, ◌∙◌, inl, arith}
 use Rattle.batch_file.specs.declared.fault.RestoreFault.TheVariants.{Disk}
 use Rattle.batch_file.proofs.Calling.{places_more}
 use Rattle.batch_file.proofs.Placing.{buffered_now, buffered_then, lawful_now, has_now, step_run, step_done}
