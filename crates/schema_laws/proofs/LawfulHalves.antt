@@ -176,7 +176,7 @@ module _ (db : Db) (rel : RelKey) (remove add : List Row) (is : IsDatabase db) w
             (subst (λ (rows : List Row). IsTrue (nat_le (length rows + length add - 0) most_rows)) (sym none)
             (fewer (length remove) _ (length relation.rows) (length add) gone few))))))),
         each _ _ gone_once.0 (each _ _ (subst (λ attrs. IsTrue (list_all (row_fits attrs) remove)) (sym attrs) (all_are (row_fits relation.info.attrs) remove relation.rows own_there rows_fit))
-        (each _ _ (apart (rows_at db rel) remove add there.0 new.0) (no_more (length remove) _ (length relation.rows) gone enough))),
+            (each _ _ (apart (rows_at db rel) remove add there.0 new.0) (no_more (length remove) _ (length relation.rows) gone enough))),
         each _ _ there.0 (each _ _ new.0 fits.1),
       )
 
