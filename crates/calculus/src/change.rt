@@ -23,7 +23,7 @@ pub struct Change {
 }
 
 /// A change of a database.
-#[derive(PartialEq, Eq, Drop)]
+#[derive(Drop)]
 pub enum DbChange {
     /// Rows of a relation go and come.
     Rows {

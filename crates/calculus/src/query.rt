@@ -15,7 +15,7 @@ pub struct RelKey {
 
 /// A term: what has a value in each assignment of rows to the query's variables.
 #[cycle(query)]
-#[derive(PartialEq, Eq, Drop)]
+#[derive(Drop)]
 pub enum QTerm {
     /// A whole number.
     Int(i64),
@@ -54,7 +54,7 @@ pub enum QTerm {
 
 /// A qualification: what holds, or doesn't, in each assignment of rows to the query's variables.
 #[cycle(query)]
-#[derive(PartialEq, Eq, Drop)]
+#[derive(Drop)]
 pub enum QQual {
     /// Holds in every assignment.
     True,
@@ -86,7 +86,7 @@ pub enum QQual {
 
 /// An aggregate over the rows of one source.
 #[cycle(query)]
-#[derive(PartialEq, Eq, Drop)]
+#[derive(Drop)]
 pub struct QAgg {
     /// Its place among the aggregates of the query, counted from 0 in the order of the text.
     pub slot: u16,
@@ -107,7 +107,7 @@ pub struct QAgg {
 
 /// Where the rows of an aggregate come from.
 #[cycle(query)]
-#[derive(PartialEq, Eq, Drop)]
+#[derive(Drop)]
 pub enum AggSource {
     /// A relation, a view or a catalogue.
     Named(RelKey),
@@ -117,7 +117,7 @@ pub enum AggSource {
 
 /// A target: a named term.
 #[cycle(query)]
-#[derive(PartialEq, Eq, Drop)]
+#[derive(Drop)]
 pub struct Target {
     /// The title of the column, or the name of the attribute.
     pub name: Name,
@@ -129,7 +129,7 @@ pub struct Target {
 
 /// A query: the rows that its targets have in the assignments in which its qualification holds.
 #[cycle(query)]
-#[derive(PartialEq, Eq, Drop)]
+#[derive(Drop)]
 pub struct Query {
     /// What each variable ranges over.
     pub vars: List<RelKey>,

@@ -15,7 +15,7 @@ pub struct SortKey {
 }
 
 /// A query whose rows are printed, with the order of the rows.
-#[derive(PartialEq, Eq, Drop)]
+#[derive(Drop)]
 pub struct Asked {
     /// The query.
     pub query: Query,
@@ -37,7 +37,7 @@ pub enum UpdateOp {
 }
 
 /// An update of one relation.
-#[derive(PartialEq, Eq, Drop)]
+#[derive(Drop)]
 pub struct Update {
     /// What it does.
     pub op: UpdateOp,
@@ -78,7 +78,7 @@ pub struct CopyCol {
 }
 
 /// What the utilities are asked for.
-#[derive(PartialEq, Eq, Drop)]
+#[derive(Drop)]
 pub enum Utility {
     /// To make a relation without rows.
     Create {
@@ -159,7 +159,7 @@ pub enum Utility {
 }
 
 /// A statement whose names were found and whose checks were made.
-#[derive(PartialEq, Eq, Drop)]
+#[derive(Drop)]
 pub enum Checked {
     /// Queries whose rows are printed, one table each.
     Answer(List<Asked>),

@@ -43,7 +43,7 @@ pub struct RelInfo {
 }
 
 /// What lets a user do something with rows of a relation.
-#[derive(PartialEq, Eq, Drop)]
+#[derive(Drop)]
 pub struct Permit {
     /// Its number among the permits of the relation, from 1; 0 before it has one.
     pub number: u32,
@@ -58,7 +58,7 @@ pub struct Permit {
 }
 
 /// An integrity rule, which each new row of a relation must meet.
-#[derive(PartialEq, Eq, Drop)]
+#[derive(Drop)]
 pub struct Rule {
     /// Its number among the rules of the relation, from 1; 0 before it has one.
     pub number: u32,

@@ -8,7 +8,7 @@ use crate::{Boxed, Chars, List, Name};
 
 /// A term: what has a value in each assignment of rows to variables.
 #[cycle(statement)]
-#[derive(PartialEq, Eq, Drop)]
+#[derive(Drop)]
 pub enum Term {
     /// A whole number.
     Int(i64),
@@ -47,7 +47,7 @@ pub enum Term {
 
 /// An aggregate: `NAME(TERM [by TERM, ..] [where QUALIFICATION])`
 #[cycle(statement)]
-#[derive(PartialEq, Eq, Drop)]
+#[derive(Drop)]
 pub struct AggTerm {
     /// What is made of the values.
     pub op: AggOp,
@@ -61,7 +61,7 @@ pub struct AggTerm {
 
 /// A qualification: what holds, or doesn't, in each assignment of rows to variables.
 #[cycle(statement)]
-#[derive(PartialEq, Eq, Drop)]
+#[derive(Drop)]
 pub enum Qual {
     /// Holds in every assignment; it stands where no `where` is written.
     True,
@@ -83,7 +83,7 @@ pub enum Qual {
 }
 
 /// An item of a target list.
-#[derive(PartialEq, Eq, Drop)]
+#[derive(Drop)]
 pub enum Item {
     /// `NAME = TERM`
     Set {
@@ -107,7 +107,7 @@ pub enum Item {
 }
 
 /// A statement.
-#[derive(PartialEq, Eq, Drop)]
+#[derive(Drop)]
 pub enum Statement {
     /// `range of VARIABLE is RELATION`
     Range {

@@ -5,7 +5,12 @@ use std::alloc::Global;
 use std::process::Abort;
 use std::test::*;
 
-/// Whether the copy of the tree is equal to it.
+/// Whether a copy of the tree is given; that it is the same tree is the clause of `copy`.
+pub fn has_copy<T: TryCopy + Drop>(alloc: Global, tree: T) -> bool {
+    tree.copy(alloc).is_ok()
+}
+
+/// Whether the copy of the value is equal to it.
 pub fn is_copied<T: TryCopy + PartialEq + Drop>(rt: &impl Abort, alloc: Global, tree: T) -> bool {
     tree.copy(alloc).expect(rt, "no memory") == tree
 }

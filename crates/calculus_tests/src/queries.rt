@@ -1,6 +1,6 @@
 //! Copies of queries and of what is asked for.
 
-use crate::made::{boxed, chars, is_copied, key, named, one};
+use crate::made::{boxed, chars, has_copy, key, named, one};
 use calculus::{
     AggOp, AggSource, ArithOp, Asked, Checked, CmpOp, Kind, QAgg, QQual, QTerm, Query, SortKey,
     Target, Update, UpdateOp,
@@ -94,6 +94,6 @@ fn update(rt: &impl Abort, alloc: Global) -> Checked {
 #[test]
 fn queries_are_copied(rt: HostRuntime) {
     let alloc = rt.alloc();
-    assert!(rt; is_copied(&rt, alloc, asked(&rt, alloc)));
-    assert!(rt; is_copied(&rt, alloc, update(&rt, alloc)));
+    assert!(rt; has_copy(alloc, asked(&rt, alloc)));
+    assert!(rt; has_copy(alloc, update(&rt, alloc)));
 }

@@ -1,6 +1,6 @@
 //! Copies of requests for the utilities and of changes of a database.
 
-use crate::made::{chars, is_copied, key, named, one, row};
+use crate::made::{chars, has_copy, key, named, one, row};
 use calculus::{
     Attr, Checked, CopyCol, CopyForm, DbChange, Domain, Kind, List, Permit, QQual, RelFile,
     RelInfo, Rule, Spec, Utility,
@@ -50,10 +50,10 @@ fn ruling(rt: &impl Abort, alloc: Global) -> Utility {
 #[test]
 fn requests_are_copied(rt: HostRuntime) {
     let alloc = rt.alloc();
-    assert!(rt; is_copied(&rt, alloc, creation(&rt, alloc)));
-    assert!(rt; is_copied(&rt, alloc, copying(&rt, alloc)));
-    assert!(rt; is_copied(&rt, alloc, permission(&rt, alloc)));
-    assert!(rt; is_copied(&rt, alloc, ruling(&rt, alloc)));
+    assert!(rt; has_copy(alloc, creation(&rt, alloc)));
+    assert!(rt; has_copy(alloc, copying(&rt, alloc)));
+    assert!(rt; has_copy(alloc, permission(&rt, alloc)));
+    assert!(rt; has_copy(alloc, ruling(&rt, alloc)));
 }
 
 fn change(rt: &impl Abort, alloc: Global) -> DbChange {
@@ -82,6 +82,6 @@ fn file(rt: &impl Abort, alloc: Global) -> RelFile {
 #[test]
 fn changes_and_files_are_copied(rt: HostRuntime) {
     let alloc = rt.alloc();
-    assert!(rt; is_copied(&rt, alloc, change(&rt, alloc)));
-    assert!(rt; is_copied(&rt, alloc, file(&rt, alloc)));
+    assert!(rt; has_copy(alloc, change(&rt, alloc)));
+    assert!(rt; has_copy(alloc, file(&rt, alloc)));
 }

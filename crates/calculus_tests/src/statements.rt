@@ -1,6 +1,6 @@
 //! Copies of statements.
 
-use crate::made::{boxed, chars, is_copied, named, one};
+use crate::made::{boxed, chars, has_copy, named, one};
 use calculus::{
     AggOp, AggTerm, ArithOp, Boxed, CmpOp, CopyForm, Item, List, Name, Qual, Statement, Term,
 };
@@ -89,6 +89,6 @@ fn copying(rt: &impl Abort, alloc: Global) -> Statement {
 #[test]
 fn statements_are_copied(rt: HostRuntime) {
     let alloc = rt.alloc();
-    assert!(rt; is_copied(&rt, alloc, retrieval(&rt, alloc)));
-    assert!(rt; is_copied(&rt, alloc, copying(&rt, alloc)));
+    assert!(rt; has_copy(alloc, retrieval(&rt, alloc)));
+    assert!(rt; has_copy(alloc, copying(&rt, alloc)));
 }
