@@ -1,7 +1,8 @@
 //! Runs a script from a source into a sink.
 
-ghost use Rattle.std.specs.Prelude.{◌≡◌, ◌⊎◌, ◌↔◌, OnOk, IsErrOf, IfSome};
+ghost use Rattle.std.specs.Prelude.{◌≡◌, ◌⊎◌, ◌↔◌, [], OnOk, IsErrOf, IfSome};
 ghost use Rattle.fault_io.specs.Causes.{Rose};
+ghost use Rattle.quel_meaning.specs.Happening.{start};
 ghost use Rattle.session_run.specs.Runs.{AreSame, IsDone, IsPartlyDone, IsCutOff, IsKeptUp, IsBrokenOff, GaveTooMuch};
 ghost use Rattle.session_run.specs.declared.running.RunFault.TheVariants.{OutOfMemory as no_memory, Source as source_fault, Sink as sink_fault};
 
@@ -54,6 +55,51 @@ impl From<SinkFault> for RunFault {
     }
 }
 
+/// Lets a listener that has heard nothing hear the script of the source.
+fn hear_all<S: Statements, R: Source, K: Sink>(
+    alloc: Global,
+    listener: &mut Listener<S>,
+    source: &mut R,
+    sink: &mut K,
+) -> Result<(), RunFault>
+    requires { listener.old ≡ record { asker = listener.old.asker; kept = start listener.old.kept.state; partial = [] } }
+    ensures done { OnOk result (IsDone (S.meaning listener.old.asker) listener.old.kept.state (R.left source.old) (R.left source.new) (K.written sink.old) (K.written sink.new)) }
+    ensures partly { IsPartlyDone (S.meaning listener.old.asker) listener.old.kept.state (R.left source.old) (K.written sink.old) (K.written sink.new) }
+    ensures cut_off { IsErrOf result RunFault.TooLong → IsCutOff (S.meaning listener.old.asker) listener.old.kept.state (R.left source.old) (R.left source.new) (K.written sink.old) (K.written sink.new) }
+    ensures keeps_up { IsKeptUp (S.meaning listener.old.asker) listener.old.kept.state (R.left source.old) (R.left source.new) (K.written sink.old) (K.written sink.new) }
+    ensures broken_off { IsErrOf result RunFault.Source → IsBrokenOff (S.meaning listener.old.asker) listener.old.kept.state (R.left source.old) (R.left source.new) (K.written sink.old) (K.written sink.new) }
+
+    ensures source_fault { IsErrOf result RunFault.Source → Rose (R.faults source.old) (R.faults source.new) }
+    ensures sink_fault { IsErrOf result RunFault.Sink
+        → Rose (K.faults sink.old) (K.faults sink.new) ⊎ Rose (K.stalls sink.old) (K.stalls sink.new) }
+    ensures source_same { (IsErrOf result RunFault.Source → ⊥) → R.faults source.new ≡ R.faults source.old }
+    ensures sink_same { (IsErrOf result RunFault.Sink → ⊥) → AreSame (K.faults sink.old) (K.faults sink.new) (K.stalls sink.old) (K.stalls sink.new) }
+    ensures too_long { IfSome (R.left source.old) (λ script. IfSome (R.left source.new) (λ rest.
+        IsErrOf result RunFault.TooLong ↔ GaveTooMuch script rest)) }
+{
+    let mut buf = [0u8; LONGEST_PIECE];
+    let mut given = 0usize;
+    'script: loop {
+        let _front = listener.partial();
+        let room = LONGEST_PIECE.min(LONGEST_SCRIPT - given).max(1);
+        let piece = &mut buf[..room];
+        let count = source.read(piece)?;
+        if count == 0 {
+            break;
+        }
+        if given == LONGEST_SCRIPT {
+            return Err(RunFault::TooLong);
+        }
+        hear(alloc, listener, &piece[..count], sink)?;
+        if listener.has_quit() {
+            return Ok(());
+        }
+        given += count;
+    }
+    close(alloc, listener, sink)?;
+    Ok(())
+}
+
 /// Runs the script of the source, and gives what it prints to the sink.
 ///
 /// It is read in pieces as it comes, to its end or to a command that ends the session; no byte behind
@@ -81,25 +127,5 @@ pub fn run<S: Statements + Drop, R: Source, K: Sink>(
         IsErrOf result RunFault.TooLong ↔ GaveTooMuch script rest)) }
 {
     let mut listener = Listener::new(alloc, statements);
-    let mut buf = [0u8; LONGEST_PIECE];
-    let mut given = 0usize;
-    'script: loop {
-        let _front = listener.partial();
-        let room = LONGEST_PIECE.min(LONGEST_SCRIPT - given).max(1);
-        let piece = &mut buf[..room];
-        let count = source.read(piece)?;
-        if count == 0 {
-            break;
-        }
-        if given == LONGEST_SCRIPT {
-            return Err(RunFault::TooLong);
-        }
-        hear(alloc, &mut listener, &piece[..count], sink)?;
-        if listener.has_quit() {
-            return Ok(());
-        }
-        given += count;
-    }
-    close(alloc, &mut listener, sink)?;
-    Ok(())
+    hear_all(alloc, &mut listener, source, sink)
 }

@@ -1,14 +1,26 @@
 use Rattle.calculus.specs.Who.{Asker}
-use Rattle.std.proofs.Common.{arith, ◌∙◌, sym, subst, ℕ, List, [], true}
+use Rattle.std.proofs.Common.{arith, refl, ap, ◌∙◌, sym, subst, [], true}
 use Rattle.std.specs.Io.KnownBytes.{Appends}
 use Rattle.std.proofs.KnownBytes.{Appends-nil}
 use Rattle.fault_io.specs.Told.{IsFront, GrewBy}
 use Rattle.quel_meaning.specs.Session.{printed}
-use Rattle.session_run.specs.Hearing.{later}
+use Rattle.session_run.specs.Hearing.{Heard, later}
 use Rattle.std.proofs.lemmas.Grind.{common_steps}
 use Rattle.session_run.proofs.Heard.{same_hears, same_partly}
-use Rattle.session_run.proofs.Runs.{goes_on, partly_read, partly_heard, partly_closed, reads_none, closes, quits, keeps_up, keeps_up_read, breaks_off, cuts_off}
-use Rattle.session_run.proofs.running.run.Goals as goal
+use Rattle.session_run.proofs.Runs.{Runs, starts, goes_on, partly_read, partly_heard, partly_closed, reads_none, closes, quits, keeps_up, keeps_up_read, breaks_off, cuts_off}
+use Rattle.session_run.proofs.running.hear_all.Goals as goal
+
+pub script-init : goal.script-init
+script-init g c = (
+  subst (λ (h : Heard). Runs (g.S.Statements.meaning c.args.listener.now.asker) c.args.listener.now.kept.state (g.R.Source.left c.args.source.now) (g.R.Source.left c.args.source.now)
+      (g.K.Sink.written c.args.sink.now) (g.K.Sink.written c.args.sink.now) h 0) (sym c.requires) (starts _ _ _ _ _),
+  omega arith,
+  refl,
+  ap (λ (h : Heard). h.kept.quit) c.requires,
+  refl,
+  refl,
+  refl,
+)
 
 pub returns-in_err-count-clause-partly : goal.returns-in_err-count-clause-partly
 returns-in_err-count-clause-partly g c = partly_read _ _ _ _ _ _ _ _ c.script.invariant.0

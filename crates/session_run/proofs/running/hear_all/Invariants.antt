@@ -1,12 +1,12 @@
 use Rattle.std.proofs.Common.{◌≡◌, ◌-◌, ◌≤◌, false}
 use Rattle.session_run.proofs.Runs.{Runs}
-use Rattle.session_run.proofs.running.run.Given as goal
+use Rattle.session_run.proofs.running.hear_all.Given as goal
 
 abbrev pub invariant-script : goal.invariant-script
 invariant-script g l =
-    Runs (g.S.Statements.meaning (g.S.Statements.asker l.fn.statements)) (g.S.Statements.state l.fn.statements) (g.R.Source.left l.fn.source) (g.R.Source.left l.source) (g.K.Sink.written l.fn.sink) (g.K.Sink.written l.sink) l.listener l.given
+    Runs (g.S.Statements.meaning l.fn.listener.asker) l.fn.listener.kept.state (g.R.Source.left l.fn.source) (g.R.Source.left l.source) (g.K.Sink.written l.fn.sink) (g.K.Sink.written l.sink) l.listener l.given
     × (l.given ≤ 16777216)
-    × (l.listener.asker ≡ g.S.Statements.asker l.fn.statements)
+    × (l.listener.asker ≡ l.fn.listener.asker)
     × (l.listener.kept.quit ≡ false)
     × (g.R.Source.faults l.source ≡ g.R.Source.faults l.fn.source)
     × (g.K.Sink.faults l.sink ≡ g.K.Sink.faults l.fn.sink)

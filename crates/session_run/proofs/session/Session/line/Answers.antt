@@ -1,5 +1,5 @@
 use Rattle.calculus.specs.Who.{Asker}
-use Rattle.std.proofs.Common.{◌∙◌, ℕ, List, subst, arith}
+use Rattle.std.proofs.Common.{◌∙◌, subst, arith}
 use Rattle.monitor.specs.Seen.{seen_part}
 use Rattle.quel_meaning.specs.Running.{after_part}
 use Rattle.session_run.specs.Doing.{Did, setting}
