@@ -7,7 +7,7 @@ use am_traits::BaseFault;
 use calculus::OutOfMemory;
 
 /// Why a utility makes no change.
-#[derive(Clone, Copy, PartialEq, Eq)]
+#[derive(Clone, Copy, Debug, PartialEq, Eq)]
 pub enum UtilFault {
     /// Utilities of this kind aren't built.
     NotBuilt,
