@@ -57,16 +57,23 @@ fn counted(rt: &impl Abort, answer: Result<RowSet, ProductFault>) -> Option<usiz
 /// How many rows the answer has over these numbers; `None` where a target lacks a value.
 fn count(rt: &impl Abort, alloc: Global, first: &[i64], second: &[i64]) -> Option<usize> {
     let query = greater(rt, alloc);
-    let sets = [set_of(rt, alloc, first), set_of(rt, alloc, second)];
+    let mut sets = Vec::new(alloc);
+    sets.push(set_of(rt, alloc, first)).expect(rt, "no memory");
+    sets.push(set_of(rt, alloc, second)).expect(rt, "no memory");
     counted(rt, answer_over(alloc, &query, &[], &sets))
+}
+
+/// How many attributes of the second variable the query uses.
+fn used_of_second(rt: &impl Abort, alloc: Global, query: &Query) -> usize {
+    uses(alloc, query, 1).expect(rt, "no memory").len()
 }
 
 /// How many attributes of the second variable the query uses, and whether it uses the first
 /// variable and a third one.
 fn used(rt: &impl Abort, alloc: Global) -> (usize, bool, bool) {
     let query = greater(rt, alloc);
-    let used = uses(alloc, &query, 1).expect(rt, "no memory");
-    (used.len(), is_used(&query, 0), is_used(&query, 2))
+    let count = used_of_second(rt, alloc, &query);
+    (count, is_used(&query, 0), is_used(&query, 2))
 }
 
 #[test]

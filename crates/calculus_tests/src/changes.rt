@@ -1,8 +1,8 @@
 //! The change that the pairs of an update make.
 
 use crate::made::{row, set};
-use calculus::{Pair, Row};
-use change_list::{Change, ChangeFault, set_replace};
+use calculus::{Pair, Row, Value};
+use change_list::{ChangeFault, set_replace};
 use std::alloc::Global;
 use std::process::Abort;
 use std::test::*;
@@ -40,7 +40,10 @@ fn is_changed(
     let pairs = pairs(rt, alloc, numbers);
     let remove = set(rt, alloc, moved.0);
     let add = set(rt, alloc, moved.1);
-    set_replace(alloc, &rows, &pairs) == Ok(Change { remove, add })
+    match set_replace(alloc, &rows, &pairs) {
+        Ok(change) => change.remove == remove && change.add == add,
+        Err(_) => false,
+    }
 }
 
 #[test]
@@ -68,6 +71,14 @@ fn rows_go_and_come(rt: HostRuntime) {
     assert!(rt; is_changed(&rt, rt.alloc(), &rows, &moves, moved));
 }
 
+/// Whether the row has this number alone.
+fn is_row(row: &Row, number: i64) -> bool {
+    match row.values() {
+        [Value::Int(value)] => *value == number,
+        _ => false,
+    }
+}
+
 /// Whether these replacements of rows are refused for this old row and these two new ones of it.
 fn is_contended(
     rt: &impl Abort,
@@ -77,10 +88,16 @@ fn is_contended(
 ) -> bool {
     let rows = set(rt, alloc, &[&[1], &[5], &[8]]);
     let pairs = pairs(rt, alloc, numbers);
-    let old = row(rt, alloc, &[old]);
-    let first = row(rt, alloc, &[first]);
-    let second = row(rt, alloc, &[second]);
-    set_replace(alloc, &rows, &pairs) == Err(ChangeFault::Contended { old, first, second })
+    match set_replace(alloc, &rows, &pairs) {
+        Err(
+            ChangeFault::Contended {
+                old: contended,
+                first: one,
+                second: other,
+            },
+        ) => is_row(&contended, old) && is_row(&one, first) && is_row(&other, second),
+        _ => false,
+    }
 }
 
 #[test]

@@ -35,64 +35,82 @@ fn kept(rt: &impl Abort, alloc: Global, bytes: &[u8]) -> Option<usize> {
     }
 }
 
+/// Whether there is a name of these bytes, whether a text constant, and how many of them a text keeps.
+fn made(rt: &impl Abort, alloc: Global, bytes: &[u8]) -> (bool, bool, Option<usize>) {
+    let (name, constant) = (is_name(rt, alloc, bytes), is_constant(rt, alloc, bytes));
+    (name, constant, kept(rt, alloc, bytes))
+}
+
+/// Bytes, whether they are a name, whether a text constant, and how many of them a text keeps.
+type Bytes = (&'static [u8], bool, bool, Option<usize>);
+
+const BYTES: [Bytes; 16] = [
+    (b"a", true, true, Some(1)),
+    (b"_1", true, true, Some(2)),
+    (b"abcdefghijkl", true, true, Some(12)),
+    (b"abcdefghijklm", false, true, Some(13)),
+    (b"", false, true, Some(0)),
+    (b"1a", false, true, Some(2)),
+    (b"aB", false, true, Some(2)),
+    (b"a b", false, true, Some(3)),
+    (b" A\\\"~", false, true, Some(5)),
+    (b"   ", false, true, Some(0)),
+    (b" a b  ", false, true, Some(4)),
+    (b"a\t", false, false, None),
+    (b"a\n", false, false, None),
+    (b"\x7f", false, false, None),
+    (b"\x7f ", false, false, None),
+    (b"\xc3", false, false, None),
+];
+
 #[test]
 fn names_constants_and_texts_are_made_and_copied(rt: HostRuntime) {
-    let longest = [b'a'; 255];
-    let too_long = [b'a'; 256];
-    let mut padded = [b' '; 300];
-    padded[0] = b'x';
-    for (bytes, name, constant, length) in [
-        (b"a".as_slice(), true, true, Some(1)),
-        (b"_1".as_slice(), true, true, Some(2)),
-        (b"abcdefghijkl".as_slice(), true, true, Some(12)),
-        (b"abcdefghijklm".as_slice(), false, true, Some(13)),
-        (b"".as_slice(), false, true, Some(0)),
-        (b"1a".as_slice(), false, true, Some(2)),
-        (b"aB".as_slice(), false, true, Some(2)),
-        (b"a b".as_slice(), false, true, Some(3)),
-        (b" A\\\"~".as_slice(), false, true, Some(5)),
-        (b"   ".as_slice(), false, true, Some(0)),
-        (b" a b  ".as_slice(), false, true, Some(4)),
-        (longest.as_slice(), false, true, Some(255)),
-        (padded.as_slice(), false, false, Some(1)),
-        (too_long.as_slice(), false, false, None),
-        (b"a\t".as_slice(), false, false, None),
-        (b"a\n".as_slice(), false, false, None),
-        (b"\x7f".as_slice(), false, false, None),
-        (b"\x7f ".as_slice(), false, false, None),
-        (b"\xc3".as_slice(), false, false, None),
-    ] {
-        assert!(rt; is_name(&rt, rt.alloc(), bytes) == name);
-        assert!(rt; is_constant(&rt, rt.alloc(), bytes) == constant);
-        assert!(rt; kept(&rt, rt.alloc(), bytes) == length);
+    for (bytes, name, constant, length) in &BYTES {
+        assert!(rt; made(&rt, rt.alloc(), bytes) == (*name, *constant, *length));
     }
 }
 
 #[test]
+fn texts_have_at_most_255_bytes(rt: HostRuntime) {
+    assert!(rt; made(&rt, rt.alloc(), &[b'a'; 255]) == (false, true, Some(255)));
+    assert!(rt; made(&rt, rt.alloc(), &[b'a'; 256]) == (false, false, None));
+    let mut padded = [b' '; 300];
+    padded[0] = b'x';
+    assert!(rt; made(&rt, rt.alloc(), &padded) == (false, false, Some(1)));
+}
+
+/// Whether the number fits one, two and four bytes, and whether a text.
+fn fitting(number: i64) -> (bool, bool, bool, bool) {
+    let value = Value::Int(number);
+    (
+        value.fits(Domain::I1),
+        value.fits(Domain::I2),
+        value.fits(Domain::I4),
+        value.fits(Domain::C(255)),
+    )
+}
+
+/// A number, and whether it fits one, two and four bytes.
+const NUMBERS: [(i64, bool, bool, bool); 13] = [
+    (0, true, true, true),
+    (127, true, true, true),
+    (-128, true, true, true),
+    (128, false, true, true),
+    (-129, false, true, true),
+    (32_767, false, true, true),
+    (-32_768, false, true, true),
+    (32_768, false, false, true),
+    (-32_769, false, false, true),
+    (2_147_483_647, false, false, true),
+    (-2_147_483_648, false, false, true),
+    (2_147_483_648, false, false, false),
+    (-2_147_483_649, false, false, false),
+];
+
+#[test]
 fn numbers_fit_their_domains(rt: HostRuntime) {
-    for (number, i1, i2, i4) in [
-        (0, true, true, true),
-        (127, true, true, true),
-        (-128, true, true, true),
-        (128, false, true, true),
-        (-129, false, true, true),
-        (32_767, false, true, true),
-        (-32_768, false, true, true),
-        (32_768, false, false, true),
-        (-32_769, false, false, true),
-        (2_147_483_647, false, false, true),
-        (-2_147_483_648, false, false, true),
-        (2_147_483_648, false, false, false),
-        (-2_147_483_649, false, false, false),
-    ] {
-        let value = Value::Int(number);
-        let fitting = (
-            value.fits(Domain::I1),
-            value.fits(Domain::I2),
-            value.fits(Domain::I4),
-        );
-        assert!(rt; fitting == (i1, i2, i4));
-        assert!(rt; !value.fits(Domain::C(255)));
+    for (number, i1, i2, i4) in &NUMBERS {
+        assert!(rt; fitting(*number) == (*i1, *i2, *i4, false));
     }
 }
 

@@ -2,12 +2,15 @@
 
 use calculus::{Name, OutOfMemory, Pair, QTerm, Row, RowSet, TryCopy, Value};
 use change_list::{ChangeFault, set_replace};
+use memory::both;
 use scalar_eval::{Assigned, value_of};
 use std::alloc::Global;
 use std::test::*;
 
 fn row(alloc: Global, number: i64) -> Result<Row, OutOfMemory> {
-    Ok(Row::of(vec![in alloc; Value::Int(number)]?))
+    let mut values = Vec::new(alloc);
+    values.push(Value::Int(number))?;
+    Ok(Row::of(values))
 }
 
 /// Puts a copy of a row of this number on top.
@@ -31,14 +34,29 @@ fn value_copied(alloc: Global, number: i64) -> Result<Option<i64>, OutOfMemory> 
     Ok(number_in(value))
 }
 
-/// The number of rows that come where a row is replaced by another.
-fn rows_that_come(alloc: Global) -> Result<usize, ChangeFault> {
-    let pair = Pair {
-        old: Some(row(alloc, 1)?),
-        new: Some(row(alloc, 2)?),
+/// A row that is replaced by another.
+fn pair(alloc: Global) -> Result<Pair, OutOfMemory> {
+    let (old, new) = both(row(alloc, 1), row(alloc, 2))?;
+    let (old, new) = (Some(old), Some(new));
+    Ok(Pair { old, new })
+}
+
+fn pairs(alloc: Global) -> Result<Vec<Pair>, OutOfMemory> {
+    let mut pairs = Vec::new(alloc);
+    pairs.push(pair(alloc)?)?;
+    Ok(pairs)
+}
+
+/// Whether one row comes where these are replaced, or memory is wanting.
+fn comes(alloc: Global, pairs: Result<Vec<Pair>, OutOfMemory>) -> bool {
+    let Ok(pairs) = pairs else {
+        return true;
     };
-    let change = set_replace(alloc, &RowSet::new(alloc), &[pair])?;
-    Ok(change.add.len())
+    match set_replace(alloc, &RowSet::new(alloc), &pairs) {
+        Ok(change) => change.add.len() == 1,
+        Err(ChangeFault::OutOfMemory) => true,
+        Err(_) => false,
+    }
 }
 
 fn is_named(alloc: Global) -> Result<bool, OutOfMemory> {
@@ -52,6 +70,5 @@ fn want_of_memory_is_an_answer(rt: HostRuntime) {
     assert!(rt; value == Ok(Some(3)) || value == Err(OutOfMemory));
     let named = is_named(rt.alloc());
     assert!(rt; named == Ok(true) || named == Err(OutOfMemory));
-    let come = rows_that_come(rt.alloc());
-    assert!(rt; come == Ok(1) || come == Err(ChangeFault::OutOfMemory));
+    assert!(rt; comes(rt.alloc(), pairs(rt.alloc())));
 }

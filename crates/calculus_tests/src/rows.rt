@@ -22,7 +22,10 @@ fn sets_hold_each_row_once_and_in_order(rt: HostRuntime) {
 
 /// Puts a row of this number into the set, and gives whether it was new.
 fn put(rt: &impl Abort, alloc: Global, set: &mut RowSet, number: i64) -> bool {
-    set.insert(row(rt, alloc, &[number])) == Ok(true)
+    match set.insert(row(rt, alloc, &[number])) {
+        Ok(new) => new,
+        Err(_) => panic!(*rt; "no memory"),
+    }
 }
 
 /// Puts the rows of so many numbers from 0 on into the set, and gives whether each was new.

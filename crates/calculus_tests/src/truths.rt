@@ -24,23 +24,29 @@ fn negation(rt: &impl Abort, alloc: Global, qual: Boxed<QQual>) -> Boxed<QQual> 
     boxed(rt, alloc, QQual::Not(qual))
 }
 
+/// Whether 6 divided by a number compares so with another, and whether it is denied that it does.
+fn compared(rt: &impl Abort, alloc: Global, op: CmpOp, divisor: i64, right: i64) -> (bool, bool) {
+    let plain = held(rt, alloc, divided(rt, alloc, op, divisor, right));
+    let negated = negation(rt, alloc, divided(rt, alloc, op, divisor, right));
+    (plain, held(rt, alloc, negated))
+}
+
+/// A comparison, the divisor of 6, the number to the right, and whether it holds.
+const COMPARED: [(CmpOp, i64, i64, bool); 8] = [
+    (CmpOp::Eq, 1, 6, true),
+    (CmpOp::Ne, 1, 6, false),
+    (CmpOp::Lt, 2, 4, true),
+    (CmpOp::Le, 2, 3, true),
+    (CmpOp::Gt, 2, 3, false),
+    (CmpOp::Ge, 2, 3, true),
+    (CmpOp::Eq, 0, 6, false),
+    (CmpOp::Ne, 0, 6, false),
+];
+
 #[test]
 fn comparisons_without_a_value_are_false(rt: HostRuntime) {
-    let alloc = rt.alloc();
-    for (op, divisor, right, holding) in [
-        (CmpOp::Eq, 1, 6, true),
-        (CmpOp::Ne, 1, 6, false),
-        (CmpOp::Lt, 2, 4, true),
-        (CmpOp::Le, 2, 3, true),
-        (CmpOp::Gt, 2, 3, false),
-        (CmpOp::Ge, 2, 3, true),
-        (CmpOp::Eq, 0, 6, false),
-        (CmpOp::Ne, 0, 6, false),
-    ] {
-        let plain = held(&rt, alloc, divided(&rt, alloc, op, divisor, right));
-        assert!(rt; plain == holding);
-        let negated = negation(&rt, alloc, divided(&rt, alloc, op, divisor, right));
-        assert!(rt; held(&rt, alloc, negated) != holding);
+    for (op, divisor, right, holding) in &COMPARED {
+        assert!(rt; compared(&rt, rt.alloc(), *op, *divisor, *right) == (*holding, !*holding));
     }
 }
 

@@ -51,27 +51,34 @@ pub fn operation(
     boxed(rt, alloc, QTerm::Arith { op, left, right })
 }
 
+/// The value of an operation on two numbers.
+fn computed(rt: &impl Abort, alloc: Global, op: ArithOp, left: i64, right: i64) -> Option<i64> {
+    number(rt, alloc, operation(rt, alloc, op, left, right))
+}
+
+/// An operation, its numbers, and its value.
+const OPERATIONS: [(ArithOp, i64, i64, Option<i64>); 15] = [
+    (ArithOp::Div, -7, 2, Some(-3)),
+    (ArithOp::Div, 1, 0, None),
+    (ArithOp::Div, LEAST, -1, None),
+    (ArithOp::Mod, -7, 2, Some(-1)),
+    (ArithOp::Mod, 7, -2, Some(1)),
+    (ArithOp::Mod, LEAST, -1, Some(0)),
+    (ArithOp::Pow, -2, 2, Some(4)),
+    (ArithOp::Pow, 2, 9, Some(512)),
+    (ArithOp::Pow, 2, -1, None),
+    (ArithOp::Pow, 0, 0, Some(1)),
+    (ArithOp::Pow, -2, 63, Some(LEAST)),
+    (ArithOp::Pow, 2, 63, None),
+    (ArithOp::Add, GREATEST, 1, None),
+    (ArithOp::Sub, LEAST, 1, None),
+    (ArithOp::Mul, LEAST, -1, None),
+];
+
 #[test]
 fn numbers_have_64_bits(rt: HostRuntime) {
-    for (op, left, right, result) in [
-        (ArithOp::Div, -7, 2, Some(-3)),
-        (ArithOp::Div, 1, 0, None),
-        (ArithOp::Div, LEAST, -1, None),
-        (ArithOp::Mod, -7, 2, Some(-1)),
-        (ArithOp::Mod, 7, -2, Some(1)),
-        (ArithOp::Mod, LEAST, -1, Some(0)),
-        (ArithOp::Pow, -2, 2, Some(4)),
-        (ArithOp::Pow, 2, 9, Some(512)),
-        (ArithOp::Pow, 2, -1, None),
-        (ArithOp::Pow, 0, 0, Some(1)),
-        (ArithOp::Pow, -2, 63, Some(LEAST)),
-        (ArithOp::Pow, 2, 63, None),
-        (ArithOp::Add, GREATEST, 1, None),
-        (ArithOp::Sub, LEAST, 1, None),
-        (ArithOp::Mul, LEAST, -1, None),
-    ] {
-        let alloc = rt.alloc();
-        assert!(rt; number(&rt, alloc, operation(&rt, alloc, op, left, right)) == result);
+    for (op, left, right, result) in &OPERATIONS {
+        assert!(rt; computed(&rt, rt.alloc(), *op, *left, *right) == *result);
     }
 }
 
@@ -111,29 +118,37 @@ fn joined(rt: &impl Abort, alloc: Global, left: &[u8], right: &[u8]) -> Option<V
     value_of(alloc, term.get(), &Assigned::new(alloc), &[]).expect(rt, "no memory")
 }
 
+/// Whether two text constants put together have these bytes, or no value where there are none.
+fn is_joined(
+    rt: &impl Abort,
+    alloc: Global,
+    left: &[u8],
+    right: &[u8],
+    bytes: Option<&[u8]>,
+) -> bool {
+    is_text(joined(rt, alloc, left, right), bytes)
+}
+
+/// Two text constants, and the bytes of them put together.
+type Joined = (&'static [u8], &'static [u8], &'static [u8]);
+
+const JOINED: [Joined; 5] = [
+    (b"a b  ", b"", b"a b"),
+    (b"\\*\\[\\ ", b"", b"*["),
+    (b"a\\", b"", b"a\\"),
+    (b"\\\\", b"", b"\\"),
+    (b"ab ", b"cd", b"abcd"),
+];
+
 #[test]
 fn constants_lose_escapes_and_blanks_and_are_joined_up_to_255_bytes(rt: HostRuntime) {
+    for (left, right, bytes) in &JOINED {
+        assert!(rt; is_joined(&rt, rt.alloc(), left, right, Some(*bytes)));
+    }
     let longest = [b'a'; 255];
     let most = &longest[..254];
-    for (left, right, bytes) in [
-        (b"a b  ".as_slice(), b"".as_slice(), Some(b"a b".as_slice())),
-        (
-            b"\\*\\[\\ ".as_slice(),
-            b"".as_slice(),
-            Some(b"*[".as_slice()),
-        ),
-        (b"a\\".as_slice(), b"".as_slice(), Some(b"a\\".as_slice())),
-        (b"\\\\".as_slice(), b"".as_slice(), Some(b"\\".as_slice())),
-        (
-            b"ab ".as_slice(),
-            b"cd".as_slice(),
-            Some(b"abcd".as_slice()),
-        ),
-        (most, b"a".as_slice(), Some(longest.as_slice())),
-        (most, b"aa".as_slice(), None),
-    ] {
-        assert!(rt; is_text(joined(&rt, rt.alloc(), left, right), bytes));
-    }
+    assert!(rt; is_joined(&rt, rt.alloc(), most, b"a", Some(&longest)));
+    assert!(rt; is_joined(&rt, rt.alloc(), most, b"aa", None));
 }
 
 /// Puts a row of this number on top.
@@ -180,10 +195,12 @@ fn counted(rt: &impl Abort, alloc: Global, slot: u16) -> Boxed<QTerm> {
 
 /// A table with one group, at 1, which has this value, and 9 elsewhere.
 fn table(rt: &impl Abort, alloc: Global, value: Option<i64>) -> AggTable {
-    AggTable {
-        groups: one(rt, alloc, (row(rt, alloc, &[1]), value.map(Value::Int))),
-        empty: Value::Int(9),
-    }
+    let value = match value {
+        Some(number) => Some(Value::Int(number)),
+        None => None,
+    };
+    let (groups, empty) = (one(rt, alloc, (row(rt, alloc, &[1]), value)), Value::Int(9));
+    AggTable { groups, empty }
 }
 
 /// What the count at a slot is for a row of this number, where the only table has this value at 1.
@@ -200,16 +217,19 @@ fn counted_at(
     number_over(rt, alloc, counted(rt, alloc, slot), &rows, tables.items())
 }
 
+/// A slot, the table's value at 1, the number of the row, and the count.
+const COUNTS: [(u16, Option<i64>, i64, Option<i64>); 5] = [
+    (0, Some(5), 1, Some(5)),
+    (0, Some(5), 2, Some(9)),
+    (0, None, 1, None),
+    (0, None, 2, Some(9)),
+    (1, Some(5), 1, None),
+];
+
 #[test]
 fn aggregates_have_the_values_of_their_tables(rt: HostRuntime) {
-    for (slot, value, linked, number) in [
-        (0, Some(5), 1, Some(5)),
-        (0, Some(5), 2, Some(9)),
-        (0, None, 1, None),
-        (0, None, 2, Some(9)),
-        (1, Some(5), 1, None),
-    ] {
-        assert!(rt; counted_at(&rt, rt.alloc(), slot, value, linked) == number);
+    for (slot, value, linked, number) in &COUNTS {
+        assert!(rt; counted_at(&rt, rt.alloc(), *slot, *value, *linked) == *number);
     }
 }
 
