@@ -127,10 +127,7 @@ fn all_pages_stand_or_none_wherever_commit_and_restore_stop(rt: HostRuntime) {
                             (j, again),
                         );
                         let is_lawful = (!is_new || k >= gate) && (is_new || k < gate + 2);
-                        assert!(rt;
-                            done == (k == calls) && is_lawful,
-                            "{n} {k} {left:?} {j} {again:?}"
-                        );
+                        assert!(rt; done == (k == calls) && is_lawful);
                     }
                 }
             }
@@ -155,13 +152,13 @@ fn one_change_is_ten_calls_and_stands_from_the_gate_on(rt: HostRuntime) {
     for k in 0..11 {
         for left in KINDS {
             let (byte, done) = after_one_change(rt.alloc(), &rt, k, left);
-            assert_eq!(rt; done, k == 10);
+            assert!(rt; done == (k == 10));
             let is_lawful = match k {
                 0..=3 => byte == Some(1),
                 4 | 5 => byte == Some(1) || byte == Some(2),
                 _ => byte == Some(2),
             };
-            assert!(rt; is_lawful, "{k} {left:?}");
+            assert!(rt; is_lawful);
         }
     }
 }
@@ -198,15 +195,9 @@ fn files_to_be(alloc: Global, rt: &impl Abort, n: u32) -> Vec<u32> {
 fn a_commit_writes_each_page_twice_and_its_addresses_by_128(rt: HostRuntime) {
     for n in [1, 2, 128, 129, 300] {
         let mut disk = empty_disk(rt.alloc(), &rt);
-        assert!(rt;
-            commit(&mut disk, &changes(rt.alloc(), &rt, n)).is_ok(),
-            "{n}"
-        );
+        assert!(rt; commit(&mut disk, &changes(rt.alloc(), &rt, n)).is_ok());
         let files = disk.disk.calls().iter().map(file_of);
-        assert!(rt;
-            files.eq(files_to_be(rt.alloc(), &rt, n).iter().copied()),
-            "{n}"
-        );
+        assert!(rt; files.eq(files_to_be(rt.alloc(), &rt, n).iter().copied()));
     }
 }
 
@@ -235,10 +226,7 @@ fn left_unfinished(
 
 #[test]
 fn a_batch_that_was_not_finished_changes_no_page(rt: HostRuntime) {
-    assert_eq!(rt;
-        left_unfinished(rt.alloc(), &rt),
-        (Ok(Restored::Nothing), Some(1), None)
-    );
+    assert!(rt; left_unfinished(rt.alloc(), &rt) == (Ok(Restored::Nothing), Some(1), None));
 }
 
 /// The counts of a batch as it grew, its image, and what stands at its page in the end, where its
@@ -258,7 +246,7 @@ fn renewed(alloc: Global, rt: &impl Abort) -> (u32, u32, u8, Option<u8>) {
 
 #[test]
 fn a_renewed_image_is_the_one_that_is_laid(rt: HostRuntime) {
-    assert_eq!(rt; renewed(rt.alloc(), &rt), (0, 1, 3, Some(3)));
+    assert!(rt; renewed(rt.alloc(), &rt) == (0, 1, 3, Some(3)));
 }
 
 /// A page whose first bytes are these.
@@ -327,6 +315,6 @@ fn a_restore_answers_by_the_gate_and_the_first_page_at_fault(rt: HostRuntime) {
         (1, many, [].as_slice(), damaged(3, 0)),
     ] {
         let restored = answer_to(rt.alloc(), &rt, gate, head, addresses);
-        assert_eq!(rt; restored, answer, "{gate} {head:?} {addresses:?}");
+        assert!(rt; restored == answer);
     }
 }

@@ -44,10 +44,10 @@ fn byte_at(disk: &mut MemDisk, at: Addr) -> u8 {
 /// What a crash leaves at the four addresses and beside the last; the disk then goes on.
 fn bytes_after(alloc: Global, rt: &impl Abort, left: Left) -> [u8; 5] {
     let mut disk = written(alloc, rt).crash(alloc, left).expect(rt, "memory");
-    assert_eq!(rt; disk.calls().len(), 0);
+    assert!(rt; disk.calls().len() == 0);
     let beside = Addr { file: 7, page: 0 };
     let bytes = [KEPT, WRITTEN, ADDED, CUT, beside].map(|at| byte_at(&mut disk, at));
-    assert_eq!(rt; disk.sync(), Ok(()));
+    assert!(rt; disk.sync() == Ok(()));
     bytes
 }
 
@@ -58,7 +58,7 @@ fn a_crash_leaves_what_its_kind_says(rt: HostRuntime) {
         (Left::New, [1, 2, 3, 0, 0]),
         (Left::Filled(7), [1, 7, 7, 7, 7]),
     ] {
-        assert_eq!(rt; bytes_after(rt.alloc(), &rt, left), bytes, "{left:?}");
+        assert!(rt; bytes_after(rt.alloc(), &rt, left) == bytes);
     }
 }
 
@@ -67,15 +67,15 @@ fn calls_fail_by_their_number_and_after_the_stop(rt: HostRuntime) {
     let failing = [1, 3].to_vec(rt.alloc()).expect(&rt, "memory");
     let mut page = [0; 1024];
     let mut disk = MemDisk::new(rt.alloc(), failing, Some(4));
-    assert_eq!(rt; disk.write(KEPT, &[1; 1024]), Ok(()));
-    assert_eq!(rt; disk.read(KEPT, &mut page), Err(DiskFailed));
-    assert_eq!(rt; disk.write(KEPT, &[2; 1024]), Ok(()));
-    assert_eq!(rt; disk.sync(), Err(DiskFailed));
-    assert_eq!(rt; disk.read(KEPT, &mut page), Ok(true));
-    assert_eq!(rt; page[1023], 2);
-    assert_eq!(rt; disk.cut(5), Ok(()));
-    assert_eq!(rt; disk.read(KEPT, &mut page), Err(DiskFailed));
-    assert_eq!(rt; disk.write(KEPT, &[3; 1024]), Err(DiskFailed));
+    assert!(rt; disk.write(KEPT, &[1; 1024]) == Ok(()));
+    assert!(rt; disk.read(KEPT, &mut page) == Err(DiskFailed));
+    assert!(rt; disk.write(KEPT, &[2; 1024]) == Ok(()));
+    assert!(rt; disk.sync() == Err(DiskFailed));
+    assert!(rt; disk.read(KEPT, &mut page) == Ok(true));
+    assert!(rt; page[1023] == 2);
+    assert!(rt; disk.cut(5) == Ok(()));
+    assert!(rt; disk.read(KEPT, &mut page) == Err(DiskFailed));
+    assert!(rt; disk.write(KEPT, &[3; 1024]) == Err(DiskFailed));
     let entries = [
         Call::Write(KEPT, [1; 1024]),
         Call::Write(KEPT, [2; 1024]),

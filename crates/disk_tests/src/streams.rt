@@ -31,7 +31,7 @@ fn a_source_goes_on_after_a_failed_call(rt: HostRuntime) {
         (Ok(0), [0; 3]),
         (Ok(0), [0; 3]),
     ] {
-        assert_eq!(rt; read_three(&mut source), (answer, buf));
+        assert!(rt; read_three(&mut source) == (answer, buf));
     }
 }
 
@@ -40,20 +40,17 @@ fn a_sink_takes_nothing_of_a_failed_call(rt: HostRuntime) {
     let failing = [1].to_vec(rt.alloc()).expect(&rt, "memory");
     let mut sink = MemSink::new(rt.alloc(), failing);
     let answers = write_three(&mut sink);
-    assert_eq!(rt; answers, [Ok(()), Err(SinkFault::Failed), Ok(())]);
-    assert_eq!(rt; sink.bytes(), b"abcghi".as_slice());
+    assert!(rt; answers == [Ok(()), Err(SinkFault::Failed), Ok(())]);
+    assert!(rt; sink.bytes() == b"abcghi".as_slice());
 }
 
 #[test]
 fn a_bounded_sink_takes_the_part_that_fits(rt: HostRuntime) {
     let mut sink = MemSink::upto(rt.alloc(), 4);
     let answers = write_three(&mut sink);
-    assert_eq!(rt;
-        answers,
-        [Ok(()), Err(SinkFault::Failed), Err(SinkFault::Failed)]
-    );
-    assert_eq!(rt; sink.bytes(), b"abcd".as_slice());
-    assert_eq!(rt; sink.write(b""), Ok(0));
+    assert!(rt; answers == [Ok(()), Err(SinkFault::Failed), Err(SinkFault::Failed)]);
+    assert!(rt; sink.bytes() == b"abcd".as_slice());
+    assert!(rt; sink.write(b"") == Ok(0));
 }
 
 /// A sink that takes at most so many bytes in a call.
@@ -101,9 +98,9 @@ impl Sink for SlowSink {
 #[test]
 fn a_piece_is_given_on_until_the_sink_takes_nothing(rt: HostRuntime) {
     let mut slow = SlowSink::new(rt.alloc(), 1);
-    assert_eq!(rt; write_three(&mut slow), [Ok(()); 3]);
-    assert_eq!(rt; slow.taken.as_slice(), b"abcdefghi".as_slice());
+    assert!(rt; write_three(&mut slow) == [Ok(()); 3]);
+    assert!(rt; slow.taken.as_slice() == b"abcdefghi".as_slice());
     let mut stalled = SlowSink::new(rt.alloc(), 0);
-    assert_eq!(rt; write_three(&mut stalled), [Err(SinkFault::Stalled); 3]);
-    assert_eq!(rt; write_all(&mut stalled, b""), Ok(()));
+    assert!(rt; write_three(&mut stalled) == [Err(SinkFault::Stalled); 3]);
+    assert!(rt; write_all(&mut stalled, b"") == Ok(()));
 }
