@@ -20,10 +20,18 @@ use disk_model::{Addr, Disk, DiskFailed, Page};
 /// Its calls are for one disk, whose gate is shut, and whose files 2 to 4 read as the calls left
 /// them. Until `finish` the gate stays shut, and every other page is as it was. None takes memory.
 /// After an error the batch is not used further, and the disk is restored.
-#[derive(Drop)]
 pub struct Batch {
     count: u32,
     addresses: Page,
+}
+
+impl Drop for Batch {
+    fn drop(self) {
+        let Self {
+            count: _,
+            addresses: _,
+        } = self;
+    }
 }
 
 impl Batch {

@@ -1,5 +1,5 @@
 -- The parts of a query, and the aggregates in it.
-use Rattle.std.specs.Prelude.{List, [], ◌∷◌, ◌++◌, flat_map}
+use Rattle.std.specs.Prelude.{ℕ, List, [], ◌∷◌, ◌++◌, flat_map, Result, Ok, Err}
 use Rattle.calculus.specs.declared.query.RelKey.{RelKey}
 use Rattle.calculus.specs.declared.query.QTerm.{QTerm, Int, Chars, Attr, Agg', items-the_row-QTerm, Row_of-QAgg, end_of-QAgg, more_of-QAgg}
 use Rattle.calculus.specs.declared.query.QQual.{QQual, True, Cmp, Like}
@@ -7,6 +7,11 @@ use Rattle.calculus.specs.declared.query.QAgg.{QAgg}
 use Rattle.calculus.specs.declared.query.Target.{Target}
 use Rattle.calculus.specs.declared.query.Query.{Query, Query', items-the_row-Target}
 use Rattle.calculus.specs.Tree.{neg, abs, operation, concat, both, either, negated}
+
+-- the bytes of a text constant; of any other term, the term
+abbrev pub chars_or_term : QTerm → Result (List ℕ) QTerm
+chars_or_term (Chars bytes) = Ok bytes
+chars_or_term t = Err t
 
 -- what its variables range over, in their order
 abbrev pub vars_of : Query → List RelKey

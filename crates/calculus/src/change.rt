@@ -1,11 +1,13 @@
 //! What changes in a database.
 
+ghost use Rattle.std.specs.Prelude.{◌≡◌};
+
 use crate::query::{Query, RelKey};
 use crate::schema::{Permit, RelInfo, Rule, Spec};
 use crate::{List, Name, Row, RowSet};
 
 /// What an update does with one row.
-#[derive(Debug, PartialEq, Eq, Drop)]
+#[derive(Debug, PartialEq, Eq)]
 pub struct Pair {
     /// The row that is replaced or deleted; none where a row is appended.
     pub old: Option<Row>,
@@ -13,8 +15,14 @@ pub struct Pair {
     pub new: Option<Row>,
 }
 
+impl Drop for Pair {
+    fn drop(self) {
+        let Self { old: _, new: _ } = self;
+    }
+}
+
 /// What changes in the rows of one relation.
-#[derive(PartialEq, Eq, Drop)]
+#[derive(PartialEq, Eq)]
 pub struct Change {
     /// The rows that go.
     pub remove: RowSet,
@@ -22,8 +30,23 @@ pub struct Change {
     pub add: RowSet,
 }
 
+impl Drop for Change {
+    fn drop(self) {
+        let Self { remove: _, add: _ } = self;
+    }
+}
+
+impl Change {
+    /// The rows that go, and those that come. Takes no memory.
+    pub fn into_parts(self) -> (RowSet, RowSet)
+        ensures { result ≡ (self.remove, self.add) }
+    {
+        let Self { remove, add } = self;
+        (remove, add)
+    }
+}
+
 /// A change of a database.
-#[derive(Drop)]
 pub enum DbChange {
     /// Rows of a relation go and come.
     Rows {
@@ -99,4 +122,33 @@ pub enum DbChange {
         /// Their numbers, ascending.
         numbers: List<u32>,
     },
+}
+
+impl Drop for DbChange {
+    fn drop(self) {
+        match self {
+            DbChange::Rows {
+                rel: _,
+                remove: _,
+                add: _,
+            }
+            | DbChange::Create { info: _, rows: _ }
+            | DbChange::Destroy { rels: _ }
+            | DbChange::Modify {
+                rel: _,
+                to: _,
+                keys: _,
+            }
+            | DbChange::Index {
+                base: _,
+                name: _,
+                keys: _,
+            }
+            | DbChange::View { info: _, query: _ }
+            | DbChange::Permit { rel: _, permit: _ }
+            | DbChange::Rule { rel: _, rule: _ }
+            | DbChange::DropPermits { rel: _, numbers: _ }
+            | DbChange::DropRules { rel: _, numbers: _ } => {}
+        }
+    }
 }

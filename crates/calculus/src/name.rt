@@ -19,9 +19,15 @@ const LONGEST: usize = 12;
 
 /// The name of a relation, an attribute, a variable or a user: 1 to 12 letters a to z, digits or
 /// underscores, the first of them no digit. Contracts see its bytes.
-#[derive(Debug, Drop)]
+#[derive(Debug)]
 pub struct Name {
     bytes: Vec<u8>,
+}
+
+impl Drop for Name {
+    fn drop(self) {
+        let Self { bytes: _ } = self;
+    }
 }
 
 impl Model for Name {

@@ -3,11 +3,17 @@
 use crate::{List, Value};
 
 /// What rows are looked for.
-#[derive(PartialEq, Eq, Drop)]
+#[derive(PartialEq, Eq)]
 pub struct Probe {
     /// The places of attributes, counted from 0, each with the value that the row must have there;
     /// none means every row.
     pub equal: List<(u8, Value)>,
+}
+
+impl Drop for Probe {
+    fn drop(self) {
+        let Self { equal: _ } = self;
+    }
 }
 
 /// Where a row lies in a file.

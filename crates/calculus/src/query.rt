@@ -1,11 +1,14 @@
 //! Queries whose names were found: variables and attributes are places, counted from 0.
 
+ghost use Rattle.std.specs.Prelude.{◌≡◌};
+ghost use Rattle.calculus.specs.QueryParts.{chars_or_term};
+
 use crate::operator::{AggOp, ArithOp, CmpOp};
 use crate::value::Kind;
 use crate::{Boxed, Chars, List, Name};
 
 /// What names a relation, a view, an index or a catalogue.
-#[derive(Debug, PartialEq, Eq, PartialOrd, Ord, Hash, Drop)]
+#[derive(Debug, PartialEq, Eq, PartialOrd, Ord, Hash)]
 pub struct RelKey {
     /// Its owner.
     pub owner: Name,
@@ -13,9 +16,14 @@ pub struct RelKey {
     pub name: Name,
 }
 
+impl Drop for RelKey {
+    fn drop(self) {
+        let Self { owner: _, name: _ } = self;
+    }
+}
+
 /// A term: what has a value in each assignment of rows to the query's variables.
 #[cycle(query)]
-#[derive(Drop)]
 pub enum QTerm {
     /// A whole number.
     Int(i64),
@@ -52,9 +60,40 @@ pub enum QTerm {
     Agg(Boxed<QAgg>),
 }
 
+impl Drop for QTerm {
+    #[cycle(query_drop)]
+    fn drop(self) {
+        match self {
+            QTerm::Int(_)
+            | QTerm::Chars(_)
+            | QTerm::Attr { var: _, attr: _ }
+            | QTerm::Neg(_)
+            | QTerm::Abs(_)
+            | QTerm::Arith {
+                op: _,
+                left: _,
+                right: _,
+            }
+            | QTerm::Concat { left: _, right: _ }
+            | QTerm::Agg(_) => {}
+        }
+    }
+}
+
+impl QTerm {
+    /// The text of a text constant; of any other term, the term. Takes no memory.
+    pub fn into_chars(self) -> Result<Chars, QTerm>
+        ensures { result ≡ chars_or_term self }
+    {
+        match self {
+            QTerm::Chars(chars) => Ok(chars),
+            other => Err(other),
+        }
+    }
+}
+
 /// A qualification: what holds, or doesn't, in each assignment of rows to the query's variables.
 #[cycle(query)]
-#[derive(Drop)]
 pub enum QQual {
     /// Holds in every assignment.
     True,
@@ -84,9 +123,30 @@ pub enum QQual {
     Not(Boxed<QQual>),
 }
 
+impl Drop for QQual {
+    #[cycle(query_drop)]
+    fn drop(self) {
+        match self {
+            QQual::True
+            | QQual::Cmp {
+                op: _,
+                left: _,
+                right: _,
+            }
+            | QQual::Like {
+                term: _,
+                pattern: _,
+                same: _,
+            }
+            | QQual::And(_, _)
+            | QQual::Or(_, _)
+            | QQual::Not(_) => {}
+        }
+    }
+}
+
 /// An aggregate over the rows of one source.
 #[cycle(query)]
-#[derive(Drop)]
 pub struct QAgg {
     /// Its place among the aggregates of the query, counted from 0 in the order of the text.
     pub slot: u16,
@@ -105,9 +165,23 @@ pub struct QAgg {
     pub qual: QQual,
 }
 
+impl Drop for QAgg {
+    #[cycle(query_drop)]
+    fn drop(self) {
+        let Self {
+            slot: _,
+            op: _,
+            source: _,
+            arg: _,
+            by: _,
+            link: _,
+            qual: _,
+        } = self;
+    }
+}
+
 /// Where the rows of an aggregate come from.
 #[cycle(query)]
-#[derive(Drop)]
 pub enum AggSource {
     /// A relation, a view or a catalogue.
     Named(RelKey),
@@ -115,9 +189,17 @@ pub enum AggSource {
     Rows(Boxed<Query>),
 }
 
+impl Drop for AggSource {
+    #[cycle(query_drop)]
+    fn drop(self) {
+        match self {
+            AggSource::Named(_) | AggSource::Rows(_) => {}
+        }
+    }
+}
+
 /// A target: a named term.
 #[cycle(query)]
-#[derive(Drop)]
 pub struct Target {
     /// The title of the column, or the name of the attribute.
     pub name: Name,
@@ -127,9 +209,19 @@ pub struct Target {
     pub term: QTerm,
 }
 
+impl Drop for Target {
+    #[cycle(query_drop)]
+    fn drop(self) {
+        let Self {
+            name: _,
+            kind: _,
+            term: _,
+        } = self;
+    }
+}
+
 /// A query: the rows that its targets have in the assignments in which its qualification holds.
 #[cycle(query)]
-#[derive(Drop)]
 pub struct Query {
     /// What each variable ranges over.
     pub vars: List<RelKey>,
@@ -137,4 +229,15 @@ pub struct Query {
     pub targets: List<Target>,
     /// The qualification.
     pub qual: QQual,
+}
+
+impl Drop for Query {
+    #[cycle(query_drop)]
+    fn drop(self) {
+        let Self {
+            vars: _,
+            targets: _,
+            qual: _,
+        } = self;
+    }
 }

@@ -15,7 +15,7 @@ pub struct Refusal {
 }
 
 /// A column of a table.
-#[derive(PartialEq, Eq, Drop)]
+#[derive(PartialEq, Eq)]
 pub struct Column {
     /// Its title.
     pub name: Name,
@@ -23,8 +23,14 @@ pub struct Column {
     pub kind: Kind,
 }
 
+impl Drop for Column {
+    fn drop(self) {
+        let Self { name: _, kind: _ } = self;
+    }
+}
+
 /// A table that is printed.
-#[derive(PartialEq, Eq, Drop)]
+#[derive(PartialEq, Eq)]
 pub struct Table {
     /// Its columns, in order.
     pub columns: List<Column>,
@@ -32,8 +38,17 @@ pub struct Table {
     pub rows: List<Row>,
 }
 
+impl Drop for Table {
+    fn drop(self) {
+        let Self {
+            columns: _,
+            rows: _,
+        } = self;
+    }
+}
+
 /// What a statement is answered.
-#[derive(PartialEq, Eq, Drop)]
+#[derive(PartialEq, Eq)]
 pub enum Reply {
     /// Nothing is printed.
     Nothing,
@@ -43,4 +58,12 @@ pub enum Reply {
     Refused(Refusal),
     /// Tables.
     Tables(List<Table>),
+}
+
+impl Drop for Reply {
+    fn drop(self) {
+        match self {
+            Reply::Nothing | Reply::Done | Reply::Refused(_) | Reply::Tables(_) => {}
+        }
+    }
 }

@@ -15,12 +15,17 @@ pub struct SortKey {
 }
 
 /// A query whose rows are printed, with the order of the rows.
-#[derive(Drop)]
 pub struct Asked {
     /// The query.
     pub query: Query,
     /// The columns to sort by, the weightiest first; rows that agree in all of them ascend.
     pub sort: List<SortKey>,
+}
+
+impl Drop for Asked {
+    fn drop(self) {
+        let Self { query: _, sort: _ } = self;
+    }
 }
 
 /// What an update does.
@@ -37,7 +42,6 @@ pub enum UpdateOp {
 }
 
 /// An update of one relation.
-#[derive(Drop)]
 pub struct Update {
     /// What it does.
     pub op: UpdateOp,
@@ -54,6 +58,20 @@ pub struct Update {
     pub checks: List<QQual>,
     /// What must hold of a new row for the user to put it; its only variable is 0, the new row.
     pub new_cut: QQual,
+}
+
+impl Drop for Update {
+    fn drop(self) {
+        let Self {
+            op: _,
+            rel: _,
+            old: _,
+            places: _,
+            query: _,
+            checks: _,
+            new_cut: _,
+        } = self;
+    }
 }
 
 /// The form of a column in a file that is copied.
@@ -78,7 +96,6 @@ pub struct CopyCol {
 }
 
 /// What the utilities are asked for.
-#[derive(Drop)]
 pub enum Utility {
     /// To make a relation without rows.
     Create {
@@ -158,8 +175,37 @@ pub enum Utility {
     },
 }
 
+impl Drop for Utility {
+    fn drop(self) {
+        match self {
+            Utility::Create { rel: _, attrs: _ }
+            | Utility::Destroy { rels: _ }
+            | Utility::Modify {
+                rel: _,
+                to: _,
+                keys: _,
+            }
+            | Utility::Index {
+                base: _,
+                name: _,
+                keys: _,
+            }
+            | Utility::Copy {
+                rel: _,
+                columns: _,
+                from: _,
+                file: _,
+            }
+            | Utility::View { rel: _, query: _ }
+            | Utility::Permit { rel: _, permit: _ }
+            | Utility::Rule { rel: _, rule: _ }
+            | Utility::DropPermits { rel: _, numbers: _ }
+            | Utility::DropRules { rel: _, numbers: _ } => {}
+        }
+    }
+}
+
 /// A statement whose names were found and whose checks were made.
-#[derive(Drop)]
 pub enum Checked {
     /// Queries whose rows are printed, one table each.
     Answer(List<Asked>),
@@ -167,4 +213,12 @@ pub enum Checked {
     Update(Update),
     /// Work for the utilities.
     Utility(Utility),
+}
+
+impl Drop for Checked {
+    fn drop(self) {
+        match self {
+            Checked::Answer(_) | Checked::Update(_) | Checked::Utility(_) => {}
+        }
+    }
 }

@@ -12,9 +12,15 @@ use std::marker::Model;
 
 /// A row: a value for each attribute, in the order of the attributes. Contracts see the list of its
 /// values.
-#[derive(Debug, Drop)]
+#[derive(Debug)]
 pub struct Row {
     values: Vec<Value>,
+}
+
+impl Drop for Row {
+    fn drop(self) {
+        let Self { values: _ } = self;
+    }
 }
 
 impl Model for Row {

@@ -14,9 +14,14 @@ use std::alloc::Global;
 use std::marker::Model;
 
 /// A set of rows. Contracts see its rows in strictly ascending order.
-#[derive(Drop)]
 pub struct RowSet {
     rows: Vec<Row>,
+}
+
+impl Drop for RowSet {
+    fn drop(self) {
+        let Self { rows: _ } = self;
+    }
 }
 
 impl Model for RowSet {
@@ -31,10 +36,16 @@ impl Model for RowSet {
 }
 
 /// A row that found no room in a set, given back.
-#[derive(PartialEq, Eq, Drop)]
+#[derive(PartialEq, Eq)]
 pub struct RowBack {
     /// The row.
     pub row: Row,
+}
+
+impl Drop for RowBack {
+    fn drop(self) {
+        let Self { row: _ } = self;
+    }
 }
 
 /// Whether the row is greater than the last one. It is not where there is none.

@@ -1,5 +1,7 @@
 //! What a database says of its relations, views, indexes, permits and rules.
 
+ghost use Rattle.std.specs.Prelude.{◌≡◌};
+
 use crate::query::{QQual, RelKey};
 use crate::value::{Domain, Kind};
 use crate::{List, Name};
@@ -20,7 +22,7 @@ pub enum Spec {
 }
 
 /// An attribute of a relation, a view or a catalogue.
-#[derive(PartialEq, Eq, Drop)]
+#[derive(PartialEq, Eq)]
 pub struct Attr {
     /// Its name.
     pub name: Name,
@@ -28,8 +30,14 @@ pub struct Attr {
     pub kind: Kind,
 }
 
+impl Drop for Attr {
+    fn drop(self) {
+        let Self { name: _, kind: _ } = self;
+    }
+}
+
 /// What is known of a relation, a view, an index or a catalogue without its rows.
-#[derive(PartialEq, Eq, Drop)]
+#[derive(PartialEq, Eq)]
 pub struct RelInfo {
     /// What names it.
     pub key: RelKey,
@@ -42,8 +50,33 @@ pub struct RelInfo {
     pub keys: List<u8>,
 }
 
+impl Drop for RelInfo {
+    fn drop(self) {
+        let Self {
+            key: _,
+            spec: _,
+            attrs: _,
+            keys: _,
+        } = self;
+    }
+}
+
+impl RelInfo {
+    /// What names it. Takes no memory.
+    pub fn into_key(self) -> RelKey
+        ensures { result ≡ self.key }
+    {
+        let Self {
+            key,
+            spec: _,
+            attrs: _,
+            keys: _,
+        } = self;
+        key
+    }
+}
+
 /// What lets a user do something with rows of a relation.
-#[derive(Drop)]
 pub struct Permit {
     /// Its number among the permits of the relation, from 1; 0 before it has one.
     pub number: u32,
@@ -57,8 +90,19 @@ pub struct Permit {
     pub qual: QQual,
 }
 
+impl Drop for Permit {
+    fn drop(self) {
+        let Self {
+            number: _,
+            ops: _,
+            attrs: _,
+            user: _,
+            qual: _,
+        } = self;
+    }
+}
+
 /// An integrity rule, which each new row of a relation must meet.
-#[derive(Drop)]
 pub struct Rule {
     /// Its number among the rules of the relation, from 1; 0 before it has one.
     pub number: u32,
@@ -66,8 +110,14 @@ pub struct Rule {
     pub qual: QQual,
 }
 
+impl Drop for Rule {
+    fn drop(self) {
+        let Self { number: _, qual: _ } = self;
+    }
+}
+
 /// Where the rows of a relation or an index lie on the disk, and how.
-#[derive(PartialEq, Eq, Drop)]
+#[derive(PartialEq, Eq)]
 pub struct RelFile {
     /// The number of its file.
     pub file: u32,
@@ -83,4 +133,18 @@ pub struct RelFile {
     pub directory: u32,
     /// The number of all pages.
     pub used: u32,
+}
+
+impl Drop for RelFile {
+    fn drop(self) {
+        let Self {
+            file: _,
+            spec: _,
+            keys: _,
+            domains: _,
+            primary: _,
+            directory: _,
+            used: _,
+        } = self;
+    }
 }

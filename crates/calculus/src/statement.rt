@@ -8,7 +8,6 @@ use crate::{Boxed, Chars, List, Name};
 
 /// A term: what has a value in each assignment of rows to variables.
 #[cycle(statement)]
-#[derive(Drop)]
 pub enum Term {
     /// A whole number.
     Int(i64),
@@ -45,9 +44,28 @@ pub enum Term {
     Agg(Boxed<AggTerm>),
 }
 
+impl Drop for Term {
+    #[cycle(statement_drop)]
+    fn drop(self) {
+        match self {
+            Term::Int(_)
+            | Term::Chars(_)
+            | Term::Attr { var: _, attr: _ }
+            | Term::Neg(_)
+            | Term::Abs(_)
+            | Term::Arith {
+                op: _,
+                left: _,
+                right: _,
+            }
+            | Term::Concat { left: _, right: _ }
+            | Term::Agg(_) => {}
+        }
+    }
+}
+
 /// An aggregate: `NAME(TERM [by TERM, ..] [where QUALIFICATION])`
 #[cycle(statement)]
-#[derive(Drop)]
 pub struct AggTerm {
     /// What is made of the values.
     pub op: AggOp,
@@ -59,9 +77,20 @@ pub struct AggTerm {
     pub qual: Qual,
 }
 
+impl Drop for AggTerm {
+    #[cycle(statement_drop)]
+    fn drop(self) {
+        let Self {
+            op: _,
+            arg: _,
+            by: _,
+            qual: _,
+        } = self;
+    }
+}
+
 /// A qualification: what holds, or doesn't, in each assignment of rows to variables.
 #[cycle(statement)]
-#[derive(Drop)]
 pub enum Qual {
     /// Holds in every assignment; it stands where no `where` is written.
     True,
@@ -82,8 +111,24 @@ pub enum Qual {
     Not(Boxed<Qual>),
 }
 
+impl Drop for Qual {
+    #[cycle(statement_drop)]
+    fn drop(self) {
+        match self {
+            Qual::True
+            | Qual::Cmp {
+                op: _,
+                left: _,
+                right: _,
+            }
+            | Qual::And(_, _)
+            | Qual::Or(_, _)
+            | Qual::Not(_) => {}
+        }
+    }
+}
+
 /// An item of a target list.
-#[derive(Drop)]
 pub enum Item {
     /// `NAME = TERM`
     Set {
@@ -106,8 +151,17 @@ pub enum Item {
     },
 }
 
+impl Drop for Item {
+    fn drop(self) {
+        match self {
+            Item::Set { name: _, term: _ }
+            | Item::Attr { var: _, attr: _ }
+            | Item::All { var: _ } => {}
+        }
+    }
+}
+
 /// A statement.
-#[derive(Drop)]
 pub enum Statement {
     /// `range of VARIABLE is RELATION`
     Range {
@@ -246,4 +300,64 @@ pub enum Statement {
         /// What must hold of each new row.
         qual: Qual,
     },
+}
+
+impl Drop for Statement {
+    fn drop(self) {
+        match self {
+            Statement::Range { var: _, rel: _ }
+            | Statement::Retrieve {
+                into: _,
+                items: _,
+                qual: _,
+                sort: _,
+            }
+            | Statement::Append {
+                rel: _,
+                items: _,
+                qual: _,
+            }
+            | Statement::Replace {
+                var: _,
+                items: _,
+                qual: _,
+            }
+            | Statement::Delete { var: _, qual: _ }
+            | Statement::Create { rel: _, attrs: _ }
+            | Statement::Destroy { rels: _ }
+            | Statement::DropPermits { rel: _, numbers: _ }
+            | Statement::DropRules { rel: _, numbers: _ }
+            | Statement::Modify {
+                rel: _,
+                to: _,
+                keys: _,
+            }
+            | Statement::Index {
+                base: _,
+                name: _,
+                keys: _,
+            }
+            | Statement::Print { rels: _ }
+            | Statement::Help { rel: _ }
+            | Statement::Copy {
+                rel: _,
+                columns: _,
+                from: _,
+                file: _,
+            }
+            | Statement::View {
+                name: _,
+                items: _,
+                qual: _,
+            }
+            | Statement::Permit {
+                ops: _,
+                var: _,
+                attrs: _,
+                user: _,
+                qual: _,
+            }
+            | Statement::Rule { var: _, qual: _ } => {}
+        }
+    }
 }

@@ -32,12 +32,20 @@ pub enum Kind {
 }
 
 /// The value of an attribute or a term.
-#[derive(Debug, Drop)]
+#[derive(Debug)]
 pub enum Value {
     /// A whole number of 64 bits.
     Int(i64),
     /// A text.
     Text(Text),
+}
+
+impl Drop for Value {
+    fn drop(self) {
+        match self {
+            Value::Int(_) | Value::Text(_) => {}
+        }
+    }
 }
 
 fn is_within(low: i64, number: i64, high: i64) -> bool

@@ -20,8 +20,8 @@ fn push_copy(alloc: Global, rows: &mut Assigned, number: i64) -> Result<(), OutO
 
 /// The number that a value is, where it is one.
 fn number_in(value: Option<Value>) -> Option<i64> {
-    match value {
-        Some(Value::Int(number)) => Some(number),
+    match &value {
+        Some(Value::Int(number)) => Some(*number),
         Some(Value::Text(_)) | None => None,
     }
 }

@@ -13,8 +13,8 @@ const GREATEST: i64 = i64::MAX;
 
 /// The number that a value is, where there is one.
 fn number_in(rt: &impl Abort, value: Option<Value>) -> Option<i64> {
-    match value {
-        Some(Value::Int(number)) => Some(number),
+    match &value {
+        Some(Value::Int(number)) => Some(*number),
         Some(Value::Text(_)) => panic!(*rt; "a text"),
         None => None,
     }
@@ -99,7 +99,7 @@ fn the_least_number_has_no_other_sign(rt: HostRuntime) {
 
 /// Whether a value is the text of these bytes, or there is none of either.
 fn is_text(value: Option<Value>, bytes: Option<&[u8]>) -> bool {
-    match value {
+    match &value {
         Some(Value::Text(text)) => Some(text.bytes()) == bytes,
         Some(Value::Int(_)) => false,
         None => bytes.is_none(),

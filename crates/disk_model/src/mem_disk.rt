@@ -21,7 +21,6 @@ pub enum Left {
 
 /// A disk in memory, which tells what it holds and keeps the list of its writes, cuts and syncs. Its
 /// clock is their number.
-#[derive(Drop)]
 pub struct MemDisk {
     first: Vec<Call>,
     calls: Vec<Call>,
@@ -30,6 +29,20 @@ pub struct MemDisk {
     stop: Option<u64>,
     faults: u64,
     reads: u64,
+}
+
+impl Drop for MemDisk {
+    fn drop(self) {
+        let Self {
+            first: _,
+            calls: _,
+            made: _,
+            failing: _,
+            stop: _,
+            faults: _,
+            reads: _,
+        } = self;
+    }
 }
 
 impl MemDisk {
@@ -48,8 +61,16 @@ impl MemDisk {
         ensures fresh { IfOk result (λ d. state d ≡ fresh (state d).first [] None) }
         ensures leaves { IfOk result (λ d. Leaves left (state self) (seen_now (state d))) }
     {
-        let mut first = self.first;
-        let calls = self.calls.as_slice();
+        let Self {
+            mut first,
+            calls,
+            made: _,
+            failing: _,
+            stop: _,
+            faults: _,
+            reads: _,
+        } = self;
+        let calls = calls.as_slice();
         let (before, since) = calls.split_at(synced(calls));
         first.extend_from_slice(before)?;
         match left {

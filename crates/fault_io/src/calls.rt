@@ -5,11 +5,20 @@ use crate::traits::Failed;
 
 /// The calls of an object in memory: which number comes next, which numbers are to fail, and how
 /// often a call has failed. Both counts stand still at 2^64 - 1.
-#[derive(Drop)]
 pub(crate) struct Calls {
     next: u64,
     failing: Vec<u64>,
     faults: u64,
+}
+
+impl Drop for Calls {
+    fn drop(self) {
+        let Self {
+            next: _,
+            failing: _,
+            faults: _,
+        } = self;
+    }
 }
 
 impl Calls {

@@ -13,11 +13,20 @@ use std::marker::Model;
 /// no bound), the number of the next call, the numbers of the calls that are to fail, and the count
 /// of faults. Calls are numbered from 0; that number and the count of faults stand still at
 /// 2^64 - 1.
-#[derive(Drop)]
 pub struct MemSink {
     bytes: Vec<u8>,
     room: Option<u64>,
     calls: Calls,
+}
+
+impl Drop for MemSink {
+    fn drop(self) {
+        let Self {
+            bytes: _,
+            room: _,
+            calls: _,
+        } = self;
+    }
 }
 
 impl Model for MemSink {

@@ -10,11 +10,20 @@ use std::marker::Model;
 /// A source in memory. Contracts see the bytes that are left, the number of the next call, the
 /// numbers of the calls that are to fail, and the count of faults. Calls are numbered from 0; that
 /// number and the count of faults stand still at 2^64 - 1.
-#[derive(Drop)]
 pub struct MemSource {
     bytes: Vec<u8>,
     at: usize,
     calls: Calls,
+}
+
+impl Drop for MemSource {
+    fn drop(self) {
+        let Self {
+            bytes: _,
+            at: _,
+            calls: _,
+        } = self;
+    }
 }
 
 impl Model for MemSource {

@@ -5,9 +5,15 @@ use std::alloc::Global;
 use std::marker::Model;
 
 /// One value on the heap. Contracts see it as the value itself; where it lies doesn't count.
-#[derive(Debug, Drop)]
+#[derive(Debug)]
 pub struct Boxed<T> {
     inner: Box<T>,
+}
+
+impl<T: Drop> Drop for Boxed<T> {
+    fn drop(self) {
+        let Self { inner: _ } = self;
+    }
 }
 
 impl<T> Model for Boxed<T> {

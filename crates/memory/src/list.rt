@@ -6,9 +6,15 @@ use std::marker::Model;
 
 /// A list of values. Contracts see it as its items alone; the room beyond them, and where they lie,
 /// don't count.
-#[derive(Debug, Drop)]
+#[derive(Debug)]
 pub struct List<T> {
     items: Vec<T>,
+}
+
+impl<T: Drop> Drop for List<T> {
+    fn drop(self) {
+        let Self { items: _ } = self;
+    }
 }
 
 impl<T> Model for List<T> {

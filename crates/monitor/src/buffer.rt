@@ -11,10 +11,15 @@ use std::alloc::Global;
 use std::marker::Model;
 
 /// The query buffer: the text that the monitor collects, and the mark that it ran.
-#[derive(Drop)]
 pub struct Buffer {
     text: Vec<u8>,
     ran: bool,
+}
+
+impl Drop for Buffer {
+    fn drop(self) {
+        let Self { text: _, ran: _ } = self;
+    }
 }
 
 impl Model for Buffer {

@@ -14,7 +14,6 @@ use std::alloc::Global;
 use std::marker::Model;
 
 /// A database as lists in order. Contracts see the database itself.
-#[derive(Drop)]
 pub(crate) struct DbLists {
     dba: Name,
     relations: Vec<Stored>,
@@ -22,6 +21,19 @@ pub(crate) struct DbLists {
     views: Vec<Viewed>,
     rules: Vec<(RelKey, Rule)>,
     permits: Vec<(RelKey, Permit)>,
+}
+
+impl Drop for DbLists {
+    fn drop(self) {
+        let Self {
+            dba: _,
+            relations: _,
+            indexes: _,
+            views: _,
+            rules: _,
+            permits: _,
+        } = self;
+    }
 }
 
 impl Model for DbLists {

@@ -17,7 +17,6 @@ use calculus::RowSet;
 /// A database in memory, as a base. It shows the database that it is.
 ///
 /// The rows of a catalogue are made when they are first asked for, and kept until a change.
-#[derive(Drop)]
 pub struct DbPlain {
     lists: DbLists,
     kept_relation: Option<RowSet>,
@@ -25,4 +24,14 @@ pub struct DbPlain {
     ghost is: { IsDatabase lists } by { Prim.hlevel props },
     ghost relation_is: { ForSome kept_relation (λ rows. rows ≡ set_of (map relation_row (all_entries lists))) },
     ghost attribute_is: { ForSome kept_attribute (λ rows. rows ≡ set_of (flat_map attribute_rows (all_entries lists))) },
+}
+
+impl Drop for DbPlain {
+    fn drop(self) {
+        let Self {
+            lists: _,
+            kept_relation: _,
+            kept_attribute: _,
+        } = self;
+    }
 }

@@ -17,10 +17,15 @@ pub(crate) trait Known {
 }
 
 /// A base relation with the set of its rows, ascending.
-#[derive(Drop)]
 pub(crate) struct Stored {
     pub(crate) info: RelInfo,
     pub(crate) rows: Vec<Row>,
+}
+
+impl Drop for Stored {
+    fn drop(self) {
+        let Self { info: _, rows: _ } = self;
+    }
 }
 
 impl Model for Stored {
@@ -35,10 +40,15 @@ impl Model for Stored {
 }
 
 /// A secondary index, and the relation below it.
-#[derive(Drop)]
 pub(crate) struct Indexed {
     pub(crate) info: RelInfo,
     pub(crate) base: RelKey,
+}
+
+impl Drop for Indexed {
+    fn drop(self) {
+        let Self { info: _, base: _ } = self;
+    }
 }
 
 impl Model for Indexed {
@@ -50,10 +60,15 @@ impl Model for Indexed {
 }
 
 /// A view, and the query whose rows it has.
-#[derive(Drop)]
 pub(crate) struct Viewed {
     pub(crate) info: RelInfo,
     pub(crate) query: Query,
+}
+
+impl Drop for Viewed {
+    fn drop(self) {
+        let Self { info: _, query: _ } = self;
+    }
 }
 
 impl Model for Viewed {

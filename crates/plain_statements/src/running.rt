@@ -50,7 +50,7 @@ fn declared(
 {
     match base.find(alloc, rel, user) {
         Ok(Some(info)) => {
-            ranges.declare(var.copy(alloc)?, info.key)?;
+            ranges.declare(var.copy(alloc)?, info.into_key())?;
             Ok(Reply::Nothing)
         }
         Ok(None) => Ok(refused(NO_RELATION)),

@@ -20,12 +20,21 @@ use session_run::Statements;
 use std::alloc::Global;
 
 /// Runs the statements of one user on a database in memory, whose administrator the user is.
-#[derive(Drop)]
 pub struct PlainStatements {
     base: DbPlain,
     ranges: RangeTable,
     user: Name,
     ghost own: { IsPlainState (state_of (database_of base) ranges) user } by { Prim.hlevel (props, Coded-set quals.the_row.coded, Coded-set queries.the_row.coded) },
+}
+
+impl Drop for PlainStatements {
+    fn drop(self) {
+        let Self {
+            base: _,
+            ranges: _,
+            user: _,
+        } = self;
+    }
 }
 
 impl PlainStatements {

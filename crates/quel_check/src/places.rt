@@ -68,19 +68,19 @@ pub(crate) fn compared(op: CmpOp, left: QTerm, right: QTerm) -> QQual
     let Some(same) = asks_for_match(op) else {
         return QQual::Cmp { op, left, right };
     };
-    match right {
-        QTerm::Chars(pattern) => QQual::Like {
+    match right.into_chars() {
+        Ok(pattern) => QQual::Like {
             term: left,
             pattern,
             same,
         },
-        right => match left {
-            QTerm::Chars(pattern) => QQual::Like {
+        Err(right) => match left.into_chars() {
+            Ok(pattern) => QQual::Like {
                 term: right,
                 pattern,
                 same,
             },
-            left => QQual::Cmp { op, left, right },
+            Err(left) => QQual::Cmp { op, left, right },
         },
     }
 }

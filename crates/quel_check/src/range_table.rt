@@ -10,9 +10,14 @@ use std::marker::Model;
 
 /// The range variables of a run, each with what it ranges over. Contracts see them in the order in
 /// which they were first declared.
-#[derive(Drop)]
 pub struct RangeTable {
     ranges: IndexMap<Name, RelKey>,
+}
+
+impl Drop for RangeTable {
+    fn drop(self) {
+        let Self { ranges: _ } = self;
+    }
 }
 
 impl Model for RangeTable {

@@ -32,7 +32,6 @@ pub enum Stop {
 }
 
 /// The first tokens of a text from a place on.
-#[derive(Drop)]
 pub struct Lexed {
     /// The tokens, in order.
     pub tokens: Vec<Token>,
@@ -40,6 +39,16 @@ pub struct Lexed {
     pub spans: Vec<Span>,
     /// What follows them.
     pub stop: Stop,
+}
+
+impl Drop for Lexed {
+    fn drop(self) {
+        let Self {
+            tokens: _,
+            spans: _,
+            stop: _,
+        } = self;
+    }
 }
 
 /// Whether the token begins a statement.

@@ -115,7 +115,7 @@ fn moved(
     let pairs = appends(rt, alloc, numbers);
     let change = change_of(alloc, &mut Numbers { rows }, &u, &pairs);
     drop((u, pairs));
-    match change {
+    match &change {
         Ok(DbChange::Rows { remove, add, .. }) => Some((remove.items().len(), add.items().len())),
         Ok(DbChange::Create { rows, .. }) => Some((0, rows.items().len())),
         Err(UpdateFault::TooMany) => None,

@@ -41,7 +41,7 @@ fn compared_values(op: CmpOp, values: (Option<Value>, Option<Value>)) -> bool
 fn matched_value(pattern: &Chars, same: bool, value: Option<Value>) -> bool
     ensures { result ≡ matched_value pattern.now same value }
 {
-    match value {
+    match &value {
         Some(Value::Text(text)) => {
             let matches = like(pattern.bytes(), text.bytes());
             if same { matches } else { !matches }

@@ -24,8 +24,8 @@ fn number_value(number: Option<i64>) -> Option<Value>
 fn opposite_value(value: Option<Value>) -> Option<Value>
     ensures { result ≡ opposite_value value }
 {
-    match value {
-        Some(Value::Int(number)) => number_value(opposite(number)),
+    match &value {
+        Some(Value::Int(number)) => number_value(opposite(*number)),
         _ => None,
     }
 }
@@ -34,8 +34,8 @@ fn opposite_value(value: Option<Value>) -> Option<Value>
 fn value_without_sign(value: Option<Value>) -> Option<Value>
     ensures { result ≡ value_without_sign value }
 {
-    match value {
-        Some(Value::Int(number)) => number_value(without_sign(number)),
+    match &value {
+        Some(Value::Int(number)) => number_value(without_sign(*number)),
         _ => None,
     }
 }

@@ -35,15 +35,13 @@ struct Walk {
 fn at_line(line: u32, reply: Reply) -> Reply
     ensures { result ≡ at_line line reply }
 {
-    match reply {
-        Reply::Nothing => Reply::Nothing,
-        Reply::Done => Reply::Done,
+    match &reply {
         Reply::Refused(refusal) => Reply::Refused(Refusal {
             code: refusal.code,
             line,
             row: refusal.row,
         }),
-        Reply::Tables(tables) => Reply::Tables(tables),
+        Reply::Nothing | Reply::Done | Reply::Tables(_) => reply,
     }
 }
 

@@ -9,9 +9,14 @@ use std::alloc::Global;
 use std::marker::Model;
 
 /// The front of a line, without its newline. Contracts see its bytes.
-#[derive(Drop)]
 pub struct LineFront {
     bytes: Vec<u8>,
+}
+
+impl Drop for LineFront {
+    fn drop(self) {
+        let Self { bytes: _ } = self;
+    }
 }
 
 impl Model for LineFront {

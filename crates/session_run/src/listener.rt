@@ -21,12 +21,20 @@ use std::marker::Model;
 use std::mem::replace;
 
 /// Hears a script in pieces.
-#[derive(Drop)]
 pub struct Listener<S: Statements> {
     /// What whole lines have left.
     session: Session<S>,
     /// The front of the next line.
     front: LineFront,
+}
+
+impl<S: Statements + Drop> Drop for Listener<S> {
+    fn drop(self) {
+        let Self {
+            session: _,
+            front: _,
+        } = self;
+    }
 }
 
 impl<S: Statements> Model for Listener<S> {

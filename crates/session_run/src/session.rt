@@ -21,7 +21,6 @@ const NOT_BUILT: u8 = 9;
 const NO_COMMAND: u8 = 2;
 
 /// What a session keeps from line to line.
-#[derive(Drop)]
 pub struct Session<S: Statements> {
     /// What runs its statements.
     statements: S,
@@ -29,6 +28,16 @@ pub struct Session<S: Statements> {
     buffer: Buffer,
     /// Whether a command ended the session.
     quit: bool,
+}
+
+impl<S: Statements + Drop> Drop for Session<S> {
+    fn drop(self) {
+        let Self {
+            statements: _,
+            buffer: _,
+            quit: _,
+        } = self;
+    }
 }
 
 impl<S: Statements> Model for Session<S> {

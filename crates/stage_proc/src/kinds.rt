@@ -8,13 +8,21 @@ use calculus::{Domain, Kind, OutOfMemory, Target, Update, UpdateOp};
 use std::alloc::Global;
 
 /// The kinds of the values of new rows.
-#[derive(Drop)]
 pub struct NewKinds {
     /// Those of the relation's attributes, in order.
     pub attributes: Vec<Kind>,
     /// Those of the attributes that the targets' values are for, target by target; `None` where there
     /// is no attribute.
     pub wanted: Vec<Option<Kind>>,
+}
+
+impl Drop for NewKinds {
+    fn drop(self) {
+        let Self {
+            attributes: _,
+            wanted: _,
+        } = self;
+    }
 }
 
 /// The kind of the attribute at a place.

@@ -46,8 +46,9 @@ fn rows_change<B: Base>(
 {
     let change = rows_moved(alloc, base, u, pairs)?;
     let rel = u.rel.copy(alloc)?;
-    let remove = List::of(change.remove.into_rows());
-    let add = List::of(change.add.into_rows());
+    let (remove, add) = change.into_parts();
+    let remove = List::of(remove.into_rows());
+    let add = List::of(add.into_rows());
     Ok(DbChange::Rows { rel, remove, add })
 }
 

@@ -75,6 +75,6 @@ pub(crate) fn relation_made(
     let none = RowSet::new(alloc);
     let change = pairs_change(alloc, &none, pairs)?;
     let info = made_info(alloc, u)?;
-    let rows = List::of(change.add.into_rows());
+    let rows = List::of(change.into_parts().1.into_rows());
     Ok(DbChange::Create { info, rows })
 }
