@@ -7,7 +7,7 @@ use crate::schema::{Permit, RelInfo, Rule, Spec};
 use crate::{List, Name, Row, RowSet};
 
 /// What an update does with one row.
-#[derive(Debug, PartialEq, Eq)]
+#[derive(PartialEq, Eq)]
 pub struct Pair {
     /// The row that is replaced or deleted; none where a row is appended.
     pub old: Option<Row>,

@@ -19,7 +19,7 @@ const LONGEST: usize = 12;
 
 /// The name of a relation, an attribute, a variable or a user: 1 to 12 letters a to z, digits or
 /// underscores, the first of them no digit. Contracts see its bytes.
-#[derive(Debug)]
+
 pub struct Name {
     bytes: Vec<u8>,
 }

@@ -17,7 +17,7 @@ impl Drop for Probe {
 }
 
 /// Where a row lies in a file.
-#[derive(Clone, Copy, PartialEq, Eq)]
+#[derive(Clone, Copy)]
 pub struct Place {
     /// The page, counted from 0.
     pub page: u32,

@@ -8,7 +8,7 @@ use crate::value::Kind;
 use crate::{Boxed, Chars, List, Name};
 
 /// What names a relation, a view, an index or a catalogue.
-#[derive(Debug, PartialEq, Eq, PartialOrd, Ord, Hash)]
+#[derive(PartialEq, Eq, PartialOrd, Ord, Hash)]
 pub struct RelKey {
     /// Its owner.
     pub owner: Name,

@@ -6,7 +6,7 @@ use crate::schema::{Attr, Permit, Rule, Spec};
 use crate::{Chars, List, Name};
 
 /// A column to sort by.
-#[derive(Clone, Copy, PartialEq, Eq)]
+#[derive(Clone, Copy)]
 pub struct SortKey {
     /// The place of the column, counted from 0.
     pub column: u16,
@@ -29,7 +29,7 @@ impl Drop for Asked {
 }
 
 /// What an update does.
-#[derive(Clone, Copy, PartialEq, Eq)]
+#[derive(Clone, Copy)]
 pub enum UpdateOp {
     /// Puts new rows beside the old ones.
     Append,
@@ -75,7 +75,7 @@ impl Drop for Update {
 }
 
 /// The form of a column in a file that is copied.
-#[derive(Clone, Copy, PartialEq, Eq)]
+#[derive(Clone, Copy)]
 pub enum CopyForm {
     /// A number of 1, 2 or 4 bytes, the low byte first: `i1`, `i2`, `i4`.
     Bin(u8),
@@ -87,7 +87,7 @@ pub enum CopyForm {
 }
 
 /// A column of a file that is copied.
-#[derive(Clone, Copy, PartialEq, Eq)]
+#[derive(Clone, Copy)]
 pub struct CopyCol {
     /// The place of its attribute, counted from 0.
     pub attr: u8,

@@ -12,7 +12,7 @@ use std::marker::Model;
 
 /// A row: a value for each attribute, in the order of the attributes. Contracts see the list of its
 /// values.
-#[derive(Debug)]
+
 pub struct Row {
     values: Vec<Value>,
 }

@@ -22,7 +22,6 @@ pub enum Spec {
 }
 
 /// An attribute of a relation, a view or a catalogue.
-#[derive(PartialEq, Eq)]
 pub struct Attr {
     /// Its name.
     pub name: Name,
@@ -37,7 +36,6 @@ impl Drop for Attr {
 }
 
 /// What is known of a relation, a view, an index or a catalogue without its rows.
-#[derive(PartialEq, Eq)]
 pub struct RelInfo {
     /// What names it.
     pub key: RelKey,
@@ -117,7 +115,6 @@ impl Drop for Rule {
 }
 
 /// Where the rows of a relation or an index lie on the disk, and how.
-#[derive(PartialEq, Eq)]
 pub struct RelFile {
     /// The number of its file.
     pub file: u32,

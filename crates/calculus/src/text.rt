@@ -17,7 +17,7 @@ const LONGEST: usize = 255;
 
 /// The bytes between the quotes of a text constant as they are written, escapes included: at most
 /// 255, each from 32 to 126. Contracts see its bytes.
-#[derive(Debug)]
+
 pub struct Chars {
     bytes: Vec<u8>,
 }
@@ -105,7 +105,7 @@ impl Eq for Chars {
 }
 
 /// A text: at most 255 bytes, each from 32 to 126, the last of them no blank. Contracts see its bytes.
-#[derive(Debug)]
+
 pub struct Text {
     bytes: Vec<u8>,
 }

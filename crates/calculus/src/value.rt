@@ -10,7 +10,7 @@ use crate::Text;
 use std::cmp::Ordering;
 
 /// The domain of a stored attribute: which values it may have.
-#[derive(Clone, Copy, Debug, PartialEq, Eq)]
+#[derive(Clone, Copy, PartialEq, Eq)]
 pub enum Domain {
     /// The whole numbers from -128 to 127: `i1`.
     I1,
@@ -23,7 +23,7 @@ pub enum Domain {
 }
 
 /// What an attribute's values are.
-#[derive(Clone, Copy, Debug, PartialEq, Eq)]
+#[derive(Clone, Copy, PartialEq, Eq)]
 pub enum Kind {
     /// Values of a domain, as those of a stored attribute.
     Of(Domain),
@@ -32,7 +32,7 @@ pub enum Kind {
 }
 
 /// The value of an attribute or a term.
-#[derive(Debug)]
+
 pub enum Value {
     /// A whole number of 64 bits.
     Int(i64),

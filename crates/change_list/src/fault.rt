@@ -6,7 +6,7 @@ ghost use Rattle.change_list.specs.declared.fault.ChangeFault.TheVariants.{OutOf
 use calculus::{OutOfMemory, Row};
 
 /// Why a set of pairs makes no change.
-#[derive(Debug, PartialEq, Eq, Drop)]
+#[derive(PartialEq, Eq, Drop)]
 pub enum ChangeFault {
     /// An old row has different new rows.
     Contended {

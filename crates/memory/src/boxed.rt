@@ -5,7 +5,7 @@ use std::alloc::Global;
 use std::marker::Model;
 
 /// One value on the heap. Contracts see it as the value itself; where it lies doesn't count.
-#[derive(Debug)]
+
 pub struct Boxed<T> {
     inner: Box<T>,
 }

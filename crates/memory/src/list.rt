@@ -6,7 +6,7 @@ use std::marker::Model;
 
 /// A list of values. Contracts see it as its items alone; the room beyond them, and where they lie,
 /// don't count.
-#[derive(Debug)]
+
 pub struct List<T> {
     items: Vec<T>,
 }

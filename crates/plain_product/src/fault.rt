@@ -6,7 +6,7 @@ ghost use Rattle.plain_product.specs.declared.fault.ProductFault.TheVariants.{Ou
 use calculus::{List, OutOfMemory, Row};
 
 /// Why a product gives no answer.
-#[derive(Debug, PartialEq, Eq, Drop)]
+#[derive(PartialEq, Eq, Drop)]
 pub enum ProductFault {
     /// A target has no value in an assignment in which the qualification holds.
     NoValue {
