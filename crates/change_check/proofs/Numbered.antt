@@ -22,7 +22,7 @@ use Rattle.change_laws.specs.Fit.{permit_is_fit, rule_is_fit, number_is_free}
 use Rattle.plan_laws.proofs.PlainQueries.{query_plain}
 use Rattle.change_check.specs.Sized.{qual_depth}
 use Rattle.change_check.proofs.DepthForms.{qual_alone}
-use Rattle.change_check.proofs.Parts.{also}
+use Rattle.change_check.proofs.Parts.{also, turned}
 
 -- a small bound is met by a number exactly where it is met by the number that stops at the greatest of 64 bits
 pub stopped_le : (n k : ℕ) → k ≤ 3000 → nat_le (min n (2 ^ 64 - 1)) k ≡ nat_le n k
@@ -71,12 +71,15 @@ as_many (a ∷ attrs) = ap suc (as_many attrs)
 
 -- what a permit must have
 pub permit_parts : (db : Db) (rel : RelKey) (permit : Permit)
-    → (is_relation db rel && (bytes_eq rel.owner db.dba && ((user_is_named permit.user && permit_lists_are_storable permit)
+    → ((user_is_named permit.user && permit_lists_are_storable permit) && ((is_relation db rel && bytes_eq rel.owner db.dba)
     && ((list_all (λ a. nat_lt a (length (kinds_at db rel))) permit.attrs && (row_qual_stands db rel permit.qual && row_qual_is_storable permit.qual))
-    && number_is_free 100 (permit_numbers db rel) permit.number)))) ≡ permit_is_fit db rel permit
+    && number_is_free 100 (permit_numbers db rel) permit.number))) ≡ permit_is_fit db rel permit
 unfolding permit_is_fit
 permit_parts db rel permit =
-    ap (λ n. is_relation db rel && (bytes_eq rel.owner db.dba && ((user_is_named permit.user && permit_lists_are_storable permit)
+    turned (is_relation db rel) (bytes_eq rel.owner db.dba) (user_is_named permit.user && permit_lists_are_storable permit)
+    ((list_all (λ a. nat_lt a (length (kinds_at db rel))) permit.attrs && (row_qual_stands db rel permit.qual && row_qual_is_storable permit.qual))
+    && number_is_free 100 (permit_numbers db rel) permit.number)
+    ∙ ap (λ n. is_relation db rel && (bytes_eq rel.owner db.dba && ((user_is_named permit.user && permit_lists_are_storable permit)
     && ((list_all (λ a. nat_lt a n) permit.attrs && (row_qual_stands db rel permit.qual && row_qual_is_storable permit.qual))
     && number_is_free 100 (permit_numbers db rel) permit.number)))) (as_many (attrs_at db rel))
     ∙ eight (is_relation db rel) (bytes_eq rel.owner db.dba) (user_is_named permit.user) (permit_lists_are_storable permit) (permit_attrs_stand db rel permit.attrs) (row_qual_stands db rel permit.qual)

@@ -23,3 +23,16 @@ regrouped false b c d = refl
 pub also : (a b : Bool) → IsTrue b → a ≡ (a && b)
 also true b h = sym h
 also false b h = refl
+
+-- the order in which parts are asked doesn't count
+pub turned : (a b c d : Bool) → (c && ((a && b) && d)) ≡ (a && (b && (c && d)))
+turned true true true d = refl
+turned true true false d = refl
+turned true false true d = refl
+turned true false false d = refl
+turned false b true d = refl
+turned false b false d = refl
+
+-- after two parts that are true the rest decides
+pub passed : (a b c : Bool) → a ≡ true → b ≡ true → c ≡ (a && (b && c))
+passed a b c e f = sym (ap (λ a. a && (b && c)) e ∙ ap (λ b. b && c) f)

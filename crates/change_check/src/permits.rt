@@ -238,14 +238,13 @@ fn permit_covers<B: Base>(
     row_qual_is_fit(alloc, base, rel, &permit.qual)
 }
 
-/// Whether a permit has what one must have, asked part by part.
-fn permit_has_parts<B: Base>(
+/// Whether a relation stands under a key, and is the administrator's.
+fn is_administrators_relation<B: Base>(
     alloc: Global,
     base: &mut B,
     rel: &RelKey,
-    permit: &Permit,
 ) -> Result<bool, BaseFault>
-    ensures told { (db : Db) → B.database base.old ≡ Some db → IfOk result (λ fit. fit ≡ (is_relation db rel.now && (bytes_eq rel.now.owner db.dba && ((user_is_named permit.now.user && permit_lists_are_storable permit.now) && ((list_all (λ a. nat_lt a (length (kinds_at db rel.now))) permit.now.attrs && (row_qual_stands db rel.now permit.now.qual && row_qual_is_storable permit.now.qual)) && number_is_free 100 (permit_numbers db rel.now) permit.now.number))))) }
+    ensures told { (db : Db) → B.database base.old ≡ Some db → IfOk result (λ own. own ≡ (is_relation db rel.now && bytes_eq rel.now.owner db.dba)) }
     ensures kept { B.database base.new ≡ B.database base.old }
     ensures same { B.left base.new ≡ B.left base.old }
     ensures cause { HasCause (B.database base.old) (B.faults base.old) (B.faults base.new) result }
@@ -253,16 +252,46 @@ fn permit_has_parts<B: Base>(
     if !is_relation(alloc, base, rel)? {
         return Ok(false);
     }
-    if !is_administrators(alloc, base, rel)? {
-        return Ok(false);
-    }
-    if !is_said_well(permit) {
-        return Ok(false);
-    }
+    is_administrators(alloc, base, rel)
+}
+
+/// Whether what a permit covers stands, and its number is free.
+fn permit_stands<B: Base>(
+    alloc: Global,
+    base: &mut B,
+    rel: &RelKey,
+    permit: &Permit,
+) -> Result<bool, BaseFault>
+    ensures told { (db : Db) → B.database base.old ≡ Some db → IfOk result (λ fit. fit ≡ ((list_all (λ a. nat_lt a (length (kinds_at db rel.now))) permit.now.attrs && (row_qual_stands db rel.now permit.now.qual && row_qual_is_storable permit.now.qual)) && number_is_free 100 (permit_numbers db rel.now) permit.now.number)) }
+    ensures kept { B.database base.new ≡ B.database base.old }
+    ensures same { B.left base.new ≡ B.left base.old }
+    ensures cause { HasCause (B.database base.old) (B.faults base.old) (B.faults base.new) result }
+{
     if !permit_covers(alloc, base, rel, permit)? {
         return Ok(false);
     }
     permit_number_is_free(alloc, base, rel, permit.number)
+}
+
+/// Whether a permit has what one must have, asked part by part.
+fn permit_has_parts<B: Base>(
+    alloc: Global,
+    base: &mut B,
+    rel: &RelKey,
+    permit: &Permit,
+) -> Result<bool, BaseFault>
+    ensures told { (db : Db) → B.database base.old ≡ Some db → IfOk result (λ fit. fit ≡ ((user_is_named permit.now.user && permit_lists_are_storable permit.now) && ((is_relation db rel.now && bytes_eq rel.now.owner db.dba) && ((list_all (λ a. nat_lt a (length (kinds_at db rel.now))) permit.now.attrs && (row_qual_stands db rel.now permit.now.qual && row_qual_is_storable permit.now.qual)) && number_is_free 100 (permit_numbers db rel.now) permit.now.number)))) }
+    ensures kept { B.database base.new ≡ B.database base.old }
+    ensures same { B.left base.new ≡ B.left base.old }
+    ensures cause { HasCause (B.database base.old) (B.faults base.old) (B.faults base.new) result }
+{
+    if !is_said_well(permit) {
+        return Ok(false);
+    }
+    if !is_administrators_relation(alloc, base, rel)? {
+        return Ok(false);
+    }
+    permit_stands(alloc, base, rel, permit)
 }
 
 /// Whether a permit may be made: it stands on a relation of the administrator's, is no larger than one
