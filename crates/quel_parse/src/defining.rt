@@ -8,8 +8,9 @@ ghost use Rattle.quel_parse.specs.Parts.{defined_of as what_of, granted_by};
 ghost use Rattle.quel_terms.specs.View.{Gives};
 
 use crate::changes::{Change, changed_by};
+use crate::lists::list_at;
 use crate::names::covered_by;
-use crate::permits::{joined, operations_from, over_at, user_at};
+use crate::permits::{joined, over_at, user_at};
 use crate::stated::boxed;
 use crate::targets::where_by;
 use calculus::{Boxed, List, Statement};
@@ -60,8 +61,7 @@ fn granted_by<'a>(
 fn permit_by<'a>(alloc: Global, depth: u16, tokens: &'a [Token]) -> Read<'a, Boxed<Statement>>
     ensures { Gives (λ x. (x.0, x.1.now)) result (permit_by depth (level depth) tokens.now) }
 {
-    let mut rights = Vec::new(alloc);
-    let rest = operations_from(depth, &mut rights, tokens)?;
+    let (rights, rest) = list_at(alloc, depth, tokens)?;
     granted_by(alloc, depth, joined(&rights), rest)
 }
 

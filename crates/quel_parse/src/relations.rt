@@ -7,8 +7,7 @@ ghost use Rattle.quel_grammar.specs.StatementReaders.{range_at, create_by, destr
 ghost use Rattle.quel_parse.specs.Parts.{dropped_of};
 ghost use Rattle.quel_terms.specs.View.{Gives};
 
-use crate::formats::{attributes_by, columns_by};
-use crate::names::{covered_names, names_at};
+use crate::lists::{covered_at, list_at};
 use crate::numbers::numbers_at;
 use crate::stated::boxed;
 use crate::structures::structure_by;
@@ -46,7 +45,7 @@ pub fn create_by<'a>(alloc: Global, most: u16, tokens: &'a [Token]) -> Read<'a, 
     ensures { Gives (λ x. (x.0, x.1.now)) result (create_by most tokens.now) }
 {
     let (rel, rest) = name_at(alloc, tokens)?;
-    let (attrs, rest) = attributes_by(alloc, most, rest)?;
+    let (attrs, rest) = covered_at(alloc, most, rest)?;
     let attrs = List::of(attrs);
     boxed(alloc, Statement::Create { rel, attrs }, rest)
 }
@@ -56,7 +55,7 @@ pub fn create_by<'a>(alloc: Global, most: u16, tokens: &'a [Token]) -> Read<'a, 
 fn destroy_names<'a>(alloc: Global, most: u16, tokens: &'a [Token]) -> Read<'a, Boxed<Statement>>
     ensures { Gives (λ x. (x.0, x.1.now)) result (destroy_names most tokens.now) }
 {
-    let (names, rest) = names_at(alloc, most, tokens)?;
+    let (names, rest) = list_at(alloc, most, tokens)?;
     let rels = List::of(names);
     boxed(alloc, Statement::Destroy { rels }, rest)
 }
@@ -125,7 +124,7 @@ pub fn modify_by<'a>(alloc: Global, most: u16, tokens: &'a [Token]) -> Read<'a, 
 }
 
 /// `index`, behind its first word.
-#[tactic(auto, unfolding(quel_grammar::specs::StatementReaders::index_by))]
+#[tactic(auto, unfolding(quel_grammar::specs::StatementReaders::index_by, quel_grammar::specs::PartReaders::in_parens))]
 pub fn index_by<'a>(alloc: Global, most: u16, tokens: &'a [Token]) -> Read<'a, Boxed<Statement>>
     ensures { Gives (λ x. (x.0, x.1.now)) result (index_by most tokens.now) }
 {
@@ -133,10 +132,9 @@ pub fn index_by<'a>(alloc: Global, most: u16, tokens: &'a [Token]) -> Read<'a, B
     let (base, rest) = seen_name(rest)?;
     let rest = after(Fixed::Is, rest)?;
     let (name, rest) = seen_name(rest)?;
-    let rest = after(Fixed::Open, rest)?;
-    let (base, name) = both(base.copy(alloc), name.copy(alloc))?;
-    let (keys, rest) = covered_names(alloc, most, rest)?;
-    let keys = List::of(keys);
+    let (keys, rest) = covered_at(alloc, most, rest)?;
+    let names = both(base.copy(alloc), name.copy(alloc));
+    let ((base, name), keys) = both(names, Ok(List::of(keys)))?;
     boxed(alloc, Statement::Index { base, name, keys }, rest)
 }
 
@@ -145,7 +143,7 @@ pub fn index_by<'a>(alloc: Global, most: u16, tokens: &'a [Token]) -> Read<'a, B
 pub fn print_by<'a>(alloc: Global, most: u16, tokens: &'a [Token]) -> Read<'a, Boxed<Statement>>
     ensures { Gives (λ x. (x.0, x.1.now)) result (print_by most tokens.now) }
 {
-    let (names, rest) = names_at(alloc, most, tokens)?;
+    let (names, rest) = list_at(alloc, most, tokens)?;
     let rels = List::of(names);
     boxed(alloc, Statement::Print { rels }, rest)
 }
@@ -191,7 +189,7 @@ pub fn copy_by<'a>(alloc: Global, most: u16, tokens: &'a [Token]) -> Read<'a, Bo
     ensures { Gives (λ x. (x.0, x.1.now)) result (copy_by most tokens.now) }
 {
     let (rel, rest) = seen_name(tokens)?;
-    let (columns, rest) = columns_by(alloc, most, rest)?;
+    let (columns, rest) = covered_at(alloc, most, rest)?;
     let (from, rest) = way_at(rest)?;
     let (file, rest) = seen_file(rest)?;
     let names = both(rel.copy(alloc), file.copy(alloc));

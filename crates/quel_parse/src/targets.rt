@@ -1,17 +1,17 @@
 //! Target lists, qualifications behind `where`, and where a result is kept.
 
 ghost use Rattle.std.specs.Prelude.{◌≡◌, Ok};
-ghost use Rattle.quel_grammar.specs.PartReaders.{list_by, maybe, all_target, dot_target, set_target, target_by, targets_by, where_by, name_into, plain_into, into_at};
+ghost use Rattle.quel_grammar.specs.PartReaders.{maybe, all_target, dot_target, set_target, where_by, name_into, plain_into, into_at};
 ghost use Rattle.calculus.specs.declared.statement.Item.TheVariants as items;
 ghost use Rattle.quel_grammar.specs.Reading.{first, choose, done, name_of};
 ghost use Rattle.quel_grammar.specs.TermReaders.{level};
 ghost use Rattle.quel_terms.specs.View.{Gives};
 
-use crate::lists::one_less;
+use crate::lists::Listed;
 use calculus::{Boxed, Item, Name, Qual};
 use memory::both;
 use quel_grammar::{Fixed, Token};
-use quel_terms::{Halt, Read, after, found, name_at, qual_by, seen_name, term_by};
+use quel_terms::{Read, after, found, name_at, qual_by, seen_name, term_by};
 use std::alloc::Global;
 
 /// The tokens behind a reserved word that may stand there.
@@ -68,51 +68,20 @@ fn set_target<'a>(alloc: Global, depth: u16, name: &Name, tokens: &'a [Token]) -
     Ok((Item::Set { name, term }, rest))
 }
 
-/// A target.
-#[tactic(auto, unfolding(quel_grammar::specs::PartReaders::target_by))]
-fn target_by<'a>(alloc: Global, depth: u16, tokens: &'a [Token]) -> Read<'a, Item>
-    ensures { Gives (λ x. (x.0, x.1.now)) result (target_by (level depth) tokens.now) }
-{
-    let (name, rest) = seen_name(tokens)?;
-    match found(Fixed::Equal, rest) {
-        Some(rest) => set_target(alloc, depth, name, rest),
-        None => dot_target(alloc, name, rest),
-    }
-}
+impl Listed for Item {
+    ghost use Rattle.quel_grammar.specs.PartReaders.{target_by};
+    ghost use Rattle.quel_grammar.specs.TermReaders.{level};
 
-/// Targets with commas between them, put behind others; at most so many. Gives the tokens behind
-/// them.
-#[tactic(auto, unfolding(quel_grammar::specs::PartReaders::list_by))]
-fn targets_from<'a>(
-    alloc: Global,
-    depth: u16,
-    most: u16,
-    items: &mut Vec<Item>,
-    tokens: &'a [Token],
-) -> Result<&'a [Token], Halt<'a>>
-    ensures { Gives (λ rest. (items.new.items, rest.now)) result (list_by (target_by (level depth)) most items.old.items tokens.now) }
-{
-    let Some(less) = one_less(most) else {
-        return Err(Halt::Stop(tokens));
-    };
-    let (item, rest) = target_by(alloc, depth, tokens)?;
-    items.push(item)?;
-    match found(Fixed::Comma, rest) {
-        Some(rest) => targets_from(alloc, depth, less, items, rest),
-        None => Ok(rest),
-    }
-}
+    ghost reader = { λ depth. target_by (level depth) };
 
-/// Targets in parentheses.
-#[tactic(auto, unfolding(quel_grammar::specs::PartReaders::in_parens, quel_grammar::specs::PartReaders::closed))]
-pub fn targets_by<'a>(alloc: Global, depth: u16, tokens: &'a [Token]) -> Read<'a, Vec<Item>>
-    ensures { Gives (λ x. (x.0.items, x.1.now)) result (targets_by depth (level depth) tokens.now) }
-{
-    let rest = after(Fixed::Open, tokens)?;
-    let mut items = Vec::new(alloc);
-    let rest = targets_from(alloc, depth, depth, &mut items, rest)?;
-    let rest = after(Fixed::Close, rest)?;
-    Ok((items, rest))
+    #[tactic(auto, unfolding(quel_grammar::specs::PartReaders::target_by))]
+    fn read<'a>(alloc: Global, depth: u16, tokens: &'a [Token]) -> Read<'a, Item> {
+        let (name, rest) = seen_name(tokens)?;
+        match found(Fixed::Equal, rest) {
+            Some(rest) => set_target(alloc, depth, name, rest),
+            None => dot_target(alloc, name, rest),
+        }
+    }
 }
 
 /// `where` and a qualification, or nothing.
