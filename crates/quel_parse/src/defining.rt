@@ -16,7 +16,7 @@ use crate::targets::where_by;
 use calculus::{Boxed, List, Statement};
 use memory::both;
 use quel_grammar::{Fixed, Token};
-use quel_terms::{Halt, Read, after, name_at, qual_by, seen_name};
+use quel_terms::{Halt, Read, after, found, name_at, qual_by, seen_name};
 use std::alloc::Global;
 
 /// What is defined.
@@ -42,7 +42,9 @@ fn granted_by<'a>(
     let rest = over_at(tokens)?;
     let (var, rest) = seen_name(rest)?;
     let (attrs, rest) = covered_by(alloc, depth, rest)?;
-    let rest = after(Fixed::To, rest)?;
+    let Some(rest) = found(Fixed::To, rest) else {
+        return Err(Halt::Stop(rest));
+    };
     let (user, rest) = user_at(alloc, rest)?;
     let (qual, rest) = where_by(alloc, depth, rest)?;
     let (var, (attrs, user, qual)) = both(var.copy(alloc), Ok((attrs, user, qual)))?;

@@ -8,7 +8,7 @@ ghost use Rattle.quel_terms.specs.View.{Gives};
 use crate::lists::{Listed, list_at};
 use calculus::Name;
 use quel_grammar::{Fixed, Token};
-use quel_terms::{Halt, Read, after, found, look_up, seen_name};
+use quel_terms::{Halt, Read, found, look_up, seen_name};
 use std::alloc::Global;
 
 /// The words of direction, and whether they say that it descends.
@@ -69,8 +69,10 @@ impl Listed for (Name, bool) {
 fn keys_by<'a>(alloc: Global, most: u16, tokens: &'a [Token]) -> Read<'a, Vec<(Name, bool)>>
     ensures { Gives (λ x. (x.0.items, x.1.now)) result (keys_by most tokens.now) }
 {
-    let rest = after(Fixed::By, tokens)?;
-    list_at(alloc, most, rest)
+    match found(Fixed::By, tokens) {
+        Some(rest) => list_at(alloc, most, rest),
+        None => Err(Halt::Stop(tokens)),
+    }
 }
 
 /// `sort by` and keys, or nothing.

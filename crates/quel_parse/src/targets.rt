@@ -11,7 +11,7 @@ use crate::lists::Listed;
 use calculus::{Boxed, Item, Name, Qual};
 use memory::both;
 use quel_grammar::{Fixed, Token};
-use quel_terms::{Read, after, found, name_at, qual_by, seen_name, term_by};
+use quel_terms::{Halt, Read, found, name_at, qual_by, seen_name, term_by};
 use std::alloc::Global;
 
 /// The tokens behind a reserved word that may stand there.
@@ -30,9 +30,13 @@ pub fn maybe(fixed: Fixed, tokens: &[Token]) -> &[Token]
 fn all_target<'a>(alloc: Global, var: &Name, tokens: &'a [Token]) -> Read<'a, Item>
     ensures { Gives (λ x. (x.0, x.1.now)) result (all_target var.now tokens.now) }
 {
-    let rest = after(Fixed::All, tokens)?;
-    let var = var.copy(alloc)?;
-    Ok((Item::All { var }, rest))
+    match found(Fixed::All, tokens) {
+        Some(rest) => {
+            let var = var.copy(alloc)?;
+            Ok((Item::All { var }, rest))
+        }
+        None => Err(Halt::Stop(tokens)),
+    }
 }
 
 /// An attribute of a variable or all of them, behind the dot.
@@ -53,8 +57,10 @@ fn named_target<'a>(alloc: Global, var: &Name, tokens: &'a [Token]) -> Read<'a, 
 fn dot_target<'a>(alloc: Global, var: &Name, tokens: &'a [Token]) -> Read<'a, Item>
     ensures { Gives (λ x. (x.0, x.1.now)) result (dot_target var.now tokens.now) }
 {
-    let rest = after(Fixed::Dot, tokens)?;
-    named_target(alloc, var, rest)
+    match found(Fixed::Dot, tokens) {
+        Some(rest) => named_target(alloc, var, rest),
+        None => Err(Halt::Stop(tokens)),
+    }
 }
 
 /// The term of a title, behind the `=`.
@@ -62,8 +68,8 @@ fn dot_target<'a>(alloc: Global, var: &Name, tokens: &'a [Token]) -> Read<'a, It
 fn set_target<'a>(alloc: Global, depth: u16, name: &Name, tokens: &'a [Token]) -> Read<'a, Item>
     ensures { Gives (λ x. (x.0, x.1.now)) result (set_target (level depth) name.now tokens.now) }
 {
-    let name = name.copy(alloc)?;
     let (term, rest) = term_by(alloc, depth, tokens)?;
+    let (name, term) = both(name.copy(alloc), Ok(term))?;
     let term = term.into_inner();
     Ok((Item::Set { name, term }, rest))
 }
