@@ -29,9 +29,13 @@ fn inside_by<'a>(alloc: Global, depth: u16, tokens: &'a [Token]) -> Read<'a, Box
     let Some(lower) = below(depth) else {
         return Err(Halt::Stop(tokens));
     };
-    let (term, rest) = term_by(alloc, lower, tokens)?;
-    let rest = after(Fixed::Close, rest)?;
-    Ok((term, rest))
+    match term_by(alloc, lower, tokens) {
+        Ok((term, rest)) => match found(Fixed::Close, rest) {
+            Some(rest) => Ok((term, rest)),
+            None => Err(Halt::Stop(rest)),
+        },
+        Err(halt) => Err(halt),
+    }
 }
 
 /// Two terms and the closing parenthesis, whatever is made of them.
@@ -49,8 +53,10 @@ fn two_by<'a>(
     };
     let (left, rest) = term_by(alloc, lower, tokens)?;
     let rest = after(Fixed::Comma, rest)?;
-    let (right, rest) = inside_by(alloc, depth, rest)?;
-    Ok(((left, right), rest))
+    match inside_by(alloc, depth, rest) {
+        Ok((right, rest)) => Ok(((left, right), rest)),
+        Err(halt) => Err(halt),
+    }
 }
 
 /// The terms of `by`.
@@ -59,16 +65,18 @@ fn two_by<'a>(
 fn by_by<'a>(alloc: Global, depth: u16, tokens: &'a [Token]) -> Read<'a, Vec<Term>>
     ensures { Gives (λ x. (x.0.items, x.1.now)) result (by_by (level depth) tokens.now) }
 {
-    let mut terms = Vec::new(alloc);
     match found(Fixed::By, tokens) {
         Some(rest) => {
             let Some(lower) = below(depth) else {
                 return Err(Halt::Stop(rest));
             };
-            let rest = terms_by(alloc, lower, &mut terms, rest)?;
-            Ok((terms, rest))
+            let mut terms = Vec::new(alloc);
+            match terms_by(alloc, lower, &mut terms, rest) {
+                Ok(rest) => Ok((terms, rest)),
+                Err(halt) => Err(halt),
+            }
         }
-        None => Ok((terms, tokens)),
+        None => Ok((Vec::new(alloc), tokens)),
     }
 }
 
@@ -83,8 +91,10 @@ fn inner_where_by<'a>(alloc: Global, depth: u16, tokens: &'a [Token]) -> Read<'a
             let Some(lower) = below(depth) else {
                 return Err(Halt::Stop(rest));
             };
-            let (mixed, rest) = mixed_by(alloc, lower, rest)?;
-            demanded(mixed, rest)
+            match mixed_by(alloc, lower, rest) {
+                Ok((mixed, rest)) => demanded(mixed, rest),
+                Err(halt) => Err(halt),
+            }
         }
         None => made(Boxed::new(alloc, Qual::True), tokens),
     }
@@ -128,8 +138,10 @@ fn aggregate_by<'a>(
     let (arg, rest) = term_by(alloc, lower, tokens)?;
     let (by, rest) = by_by(alloc, depth, rest)?;
     let (qual, rest) = inner_where_by(alloc, depth, rest)?;
-    let rest = after(Fixed::Close, rest)?;
-    aggregate(alloc, op, arg, by, qual, rest)
+    match found(Fixed::Close, rest) {
+        Some(rest) => aggregate(alloc, op, arg, by, qual, rest),
+        None => Err(Halt::Stop(rest)),
+    }
 }
 
 /// What is called, behind the open parenthesis.
@@ -139,18 +151,20 @@ fn call_by<'a>(alloc: Global, depth: u16, call: Call, tokens: &'a [Token]) -> Re
     ensures { Gives (λ x. (x.0, x.1.now)) result (call_by (level depth) (call_of call) tokens.now) }
 {
     match call {
-        Call::Abs => {
-            let (term, rest) = inside_by(alloc, depth, tokens)?;
-            made(Boxed::new(alloc, Term::Abs(term)), rest)
-        }
-        Call::Mod => {
-            let ((left, right), rest) = two_by(alloc, depth, tokens)?;
-            arith(alloc, ArithOp::Mod, left, right, rest)
-        }
-        Call::Concat => {
-            let ((left, right), rest) = two_by(alloc, depth, tokens)?;
-            made(Boxed::new(alloc, Term::Concat { left, right }), rest)
-        }
+        Call::Abs => match inside_by(alloc, depth, tokens) {
+            Ok((term, rest)) => made(Boxed::new(alloc, Term::Abs(term)), rest),
+            Err(halt) => Err(halt),
+        },
+        Call::Mod => match two_by(alloc, depth, tokens) {
+            Ok(((left, right), rest)) => arith(alloc, ArithOp::Mod, left, right, rest),
+            Err(halt) => Err(halt),
+        },
+        Call::Concat => match two_by(alloc, depth, tokens) {
+            Ok(((left, right), rest)) => {
+                made(Boxed::new(alloc, Term::Concat { left, right }), rest)
+            }
+            Err(halt) => Err(halt),
+        },
         Call::Aggregate(op) => aggregate_by(alloc, depth, op, tokens),
     }
 }
@@ -180,10 +194,10 @@ fn named_by<'a>(
         return attribute_of(alloc, name, rest);
     }
     match call_of(name.bytes()) {
-        Some(call) => {
-            let rest = after(Fixed::Open, tokens)?;
-            call_by(alloc, depth, call, rest)
-        }
+        Some(call) => match found(Fixed::Open, tokens) {
+            Some(rest) => call_by(alloc, depth, call, rest),
+            None => Err(Halt::Stop(tokens)),
+        },
         None => Err(Halt::Stop(tokens)),
     }
 }

@@ -11,7 +11,7 @@ ghost use Rattle.quel_terms.specs.View.{Gives};
 use crate::depth::below;
 use crate::halt::{Halt, Read};
 use crate::signs::comparison_at;
-use crate::taking::{after, found};
+use crate::taking::found;
 use crate::terms::{term_by, term_from};
 use calculus::{Boxed, Qual, Term};
 use quel_grammar::{Fixed, Token};
@@ -56,7 +56,10 @@ fn compare_by<'a>(
 {
     match comparison_at(tokens) {
         Some((op, rest)) => {
-            let (right, rest) = term_by(alloc, depth, rest)?;
+            let (right, rest) = match term_by(alloc, depth, rest) {
+                Ok(read) => read,
+                Err(halt) => return Err(halt),
+            };
             let (left, right) = (left.into_inner(), right.into_inner());
             whole(alloc, Qual::Cmp { op, left, right }, rest)
         }
@@ -72,10 +75,10 @@ fn grouped_by<'a>(alloc: Global, depth: u16, group: Mixed, tokens: &'a [Token]) 
 {
     match group {
         Mixed::Whole(qual) => Ok((Mixed::Whole(qual), tokens)),
-        Mixed::Bare(first) => {
-            let (left, rest) = term_from(alloc, depth, first, tokens)?;
-            compare_by(alloc, depth, left, rest)
-        }
+        Mixed::Bare(first) => match term_from(alloc, depth, first, tokens) {
+            Ok((left, rest)) => compare_by(alloc, depth, left, rest),
+            Err(halt) => Err(halt),
+        },
     }
 }
 
@@ -88,9 +91,13 @@ fn mixed_group_by<'a>(alloc: Global, depth: u16, tokens: &'a [Token]) -> Read<'a
     let Some(lower) = below(depth) else {
         return Err(Halt::Stop(tokens));
     };
-    let (group, rest) = mixed_by(alloc, lower, tokens)?;
-    let rest = after(Fixed::Close, rest)?;
-    grouped_by(alloc, depth, group, rest)
+    match mixed_by(alloc, lower, tokens) {
+        Ok((group, rest)) => match found(Fixed::Close, rest) {
+            Some(rest) => grouped_by(alloc, depth, group, rest),
+            None => Err(Halt::Stop(rest)),
+        },
+        Err(halt) => Err(halt),
+    }
 }
 
 /// A side of `and`, or a bare term.
@@ -103,14 +110,18 @@ fn operand_by<'a>(alloc: Global, depth: u16, tokens: &'a [Token]) -> Read<'a, Mi
         let Some(lower) = below(depth) else {
             return Err(Halt::Stop(rest));
         };
-        let (qual, rest) = neg_by(alloc, lower, rest)?;
-        return whole(alloc, Qual::Not(qual), rest);
+        return match neg_by(alloc, lower, rest) {
+            Ok((qual, rest)) => whole(alloc, Qual::Not(qual), rest),
+            Err(halt) => Err(halt),
+        };
     }
     if let Some(rest) = found(Fixed::Open, tokens) {
         return mixed_group_by(alloc, depth, rest);
     }
-    let (left, rest) = term_by(alloc, depth, tokens)?;
-    compare_by(alloc, depth, left, rest)
+    match term_by(alloc, depth, tokens) {
+        Ok((left, rest)) => compare_by(alloc, depth, left, rest),
+        Err(halt) => Err(halt),
+    }
 }
 
 /// A side of `and`.
@@ -119,8 +130,10 @@ fn operand_by<'a>(alloc: Global, depth: u16, tokens: &'a [Token]) -> Read<'a, Mi
 fn neg_by<'a>(alloc: Global, depth: u16, tokens: &'a [Token]) -> Read<'a, Boxed<Qual>>
     ensures { Gives (λ x. (x.0, x.1.now)) result (neg_by (level depth) tokens.now) }
 {
-    let (mixed, rest) = operand_by(alloc, depth, tokens)?;
-    demanded(mixed, rest)
+    match operand_by(alloc, depth, tokens) {
+        Ok((mixed, rest)) => demanded(mixed, rest),
+        Err(halt) => Err(halt),
+    }
 }
 
 /// The rest of a conjunction, whose left part is this.
@@ -153,8 +166,10 @@ fn ands_by<'a>(
 fn conj_by<'a>(alloc: Global, depth: u16, tokens: &'a [Token]) -> Read<'a, Boxed<Qual>>
     ensures { Gives (λ x. (x.0, x.1.now)) result (conj_by (level depth) tokens.now) }
 {
-    let (left, rest) = neg_by(alloc, depth, tokens)?;
-    ands_by(alloc, depth, left, rest)
+    match neg_by(alloc, depth, tokens) {
+        Ok((left, rest)) => ands_by(alloc, depth, left, rest),
+        Err(halt) => Err(halt),
+    }
 }
 
 /// The rest of a disjunction, whose left part is this.
@@ -191,8 +206,10 @@ fn mixed_from<'a>(alloc: Global, depth: u16, first: Mixed, tokens: &'a [Token]) 
         Mixed::Bare(term) => Ok((Mixed::Bare(term), tokens)),
         Mixed::Whole(left) => {
             let (left, rest) = ands_by(alloc, depth, left, tokens)?;
-            let (qual, rest) = ors_by(alloc, depth, left, rest)?;
-            Ok((Mixed::Whole(qual), rest))
+            match ors_by(alloc, depth, left, rest) {
+                Ok((qual, rest)) => Ok((Mixed::Whole(qual), rest)),
+                Err(halt) => Err(halt),
+            }
         }
     }
 }
@@ -203,8 +220,10 @@ fn mixed_from<'a>(alloc: Global, depth: u16, first: Mixed, tokens: &'a [Token]) 
 pub fn mixed_by<'a>(alloc: Global, depth: u16, tokens: &'a [Token]) -> Read<'a, Mixed>
     ensures { Gives (λ x. (mixed_of x.0, x.1.now)) result (mixed_by (level depth) tokens.now) }
 {
-    let (first, rest) = operand_by(alloc, depth, tokens)?;
-    mixed_from(alloc, depth, first, rest)
+    match operand_by(alloc, depth, tokens) {
+        Ok((first, rest)) => mixed_from(alloc, depth, first, rest),
+        Err(halt) => Err(halt),
+    }
 }
 
 /// A qualification.
@@ -212,6 +231,8 @@ pub fn mixed_by<'a>(alloc: Global, depth: u16, tokens: &'a [Token]) -> Read<'a, 
 pub fn qual_by<'a>(alloc: Global, depth: u16, tokens: &'a [Token]) -> Read<'a, Boxed<Qual>>
     ensures { Gives (λ x. (x.0, x.1.now)) result (qual_by (level depth) tokens.now) }
 {
-    let (mixed, rest) = mixed_by(alloc, depth, tokens)?;
-    demanded(mixed, rest)
+    match mixed_by(alloc, depth, tokens) {
+        Ok((mixed, rest)) => demanded(mixed, rest),
+        Err(halt) => Err(halt),
+    }
 }
