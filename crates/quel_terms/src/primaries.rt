@@ -13,9 +13,9 @@ use crate::called::{Call, call_of};
 use crate::depth::below;
 use crate::halt::{Halt, Read, made};
 use crate::qualifications::{demanded, mixed_by};
-use crate::taking::{after, found, seen_name};
+use crate::taking::{found, seen_name};
 use crate::terms::{arith, term_by, terms_by};
-use calculus::{AggOp, AggTerm, ArithOp, Boxed, List, Name, Qual, Term};
+use calculus::{AggOp, AggTerm, ArithOp, Boxed, List, Name, OutOfMemory, Qual, Term};
 use memory::both;
 use quel_grammar::{Fixed, Token};
 use std::alloc::Global;
@@ -51,8 +51,13 @@ fn two_by<'a>(
     let Some(lower) = below(depth) else {
         return Err(Halt::Stop(tokens));
     };
-    let (left, rest) = term_by(alloc, lower, tokens)?;
-    let rest = after(Fixed::Comma, rest)?;
+    let (left, rest) = match term_by(alloc, lower, tokens) {
+        Ok(read) => read,
+        Err(halt) => return Err(halt),
+    };
+    let Some(rest) = found(Fixed::Comma, rest) else {
+        return Err(Halt::Stop(rest));
+    };
     match inside_by(alloc, depth, rest) {
         Ok((right, rest)) => Ok(((left, right), rest)),
         Err(halt) => Err(halt),
@@ -117,8 +122,10 @@ fn aggregate<'a>(
         by: List::of(by),
         qual: qual.into_inner(),
     };
-    let aggregate = Boxed::new(alloc, aggregate)?;
-    made(Boxed::new(alloc, Term::Agg(aggregate)), rest)
+    match Boxed::new(alloc, aggregate) {
+        Ok(aggregate) => made(Boxed::new(alloc, Term::Agg(aggregate)), rest),
+        Err(OutOfMemory) => Err(Halt::Memory),
+    }
 }
 
 /// An aggregate, behind the open parenthesis.
@@ -135,9 +142,18 @@ fn aggregate_by<'a>(
     let Some(lower) = below(depth) else {
         return Err(Halt::Stop(tokens));
     };
-    let (arg, rest) = term_by(alloc, lower, tokens)?;
-    let (by, rest) = by_by(alloc, depth, rest)?;
-    let (qual, rest) = inner_where_by(alloc, depth, rest)?;
+    let (arg, rest) = match term_by(alloc, lower, tokens) {
+        Ok(read) => read,
+        Err(halt) => return Err(halt),
+    };
+    let (by, rest) = match by_by(alloc, depth, rest) {
+        Ok(read) => read,
+        Err(halt) => return Err(halt),
+    };
+    let (qual, rest) = match inner_where_by(alloc, depth, rest) {
+        Ok(read) => read,
+        Err(halt) => return Err(halt),
+    };
     match found(Fixed::Close, rest) {
         Some(rest) => aggregate(alloc, op, arg, by, qual, rest),
         None => Err(Halt::Stop(rest)),
@@ -174,9 +190,14 @@ fn call_by<'a>(alloc: Global, depth: u16, call: Call, tokens: &'a [Token]) -> Re
 fn attribute_of<'a>(alloc: Global, var: &Name, tokens: &'a [Token]) -> Read<'a, Boxed<Term>>
     ensures { Gives (λ x. (x.0, x.1.now)) result (attribute_of var.now tokens.now) }
 {
-    let (attr, rest) = seen_name(tokens)?;
-    let (var, attr) = both(var.copy(alloc), attr.copy(alloc))?;
-    made(Boxed::new(alloc, Term::Attr { var, attr }), rest)
+    let (attr, rest) = match seen_name(tokens) {
+        Ok(read) => read,
+        Err(halt) => return Err(halt),
+    };
+    match both(var.copy(alloc), attr.copy(alloc)) {
+        Ok((var, attr)) => made(Boxed::new(alloc, Term::Attr { var, attr }), rest),
+        Err(OutOfMemory) => Err(Halt::Memory),
+    }
 }
 
 /// An attribute, a function or an aggregate, behind its name.
@@ -213,8 +234,10 @@ pub fn prim_by<'a>(alloc: Global, depth: u16, tokens: &'a [Token]) -> Read<'a, B
             made(Boxed::new(alloc, Term::Int(number.signed())), rest)
         }
         [Token::Text(text), rest @ ..] => {
-            let text = text.copy(alloc)?;
-            made(Boxed::new(alloc, Term::Chars(text)), rest)
+            match text.copy(alloc) {
+                Ok(text) => made(Boxed::new(alloc, Term::Chars(text)), rest),
+                Err(OutOfMemory) => Err(Halt::Memory),
+            }
         }
         [Token::Name(name), rest @ ..] => named_by(alloc, depth, name, rest),
         [Token::Fixed(Fixed::Open), rest @ ..] => inside_by(alloc, depth, rest),

@@ -13,7 +13,7 @@ use crate::halt::{Halt, Read};
 use crate::signs::comparison_at;
 use crate::taking::found;
 use crate::terms::{term_by, term_from};
-use calculus::{Boxed, Qual, Term};
+use calculus::{Boxed, OutOfMemory, Qual, Term};
 use quel_grammar::{Fixed, Token};
 use std::alloc::Global;
 
@@ -40,7 +40,10 @@ pub fn demanded(mixed: Mixed, tokens: &[Token]) -> Read<'_, Boxed<Qual>>
 fn whole<'a>(alloc: Global, qual: Qual, rest: &'a [Token]) -> Read<'a, Mixed>
     ensures { Gives (λ x. (mixed_of x.0, x.1.now)) result (Ok (Whole qual, rest.now)) }
 {
-    Ok((Mixed::Whole(Boxed::new(alloc, qual)?), rest))
+    match Boxed::new(alloc, qual) {
+        Ok(qual) => Ok((Mixed::Whole(qual), rest)),
+        Err(OutOfMemory) => Err(Halt::Memory),
+    }
 }
 
 /// A comparison whose left side is this term, or the bare term.
@@ -149,12 +152,17 @@ fn ands_by<'a>(
 {
     match found(Fixed::And, tokens) {
         Some(rest) => {
-            let (right, rest) = neg_by(alloc, depth, rest)?;
-            let left = Boxed::new(alloc, Qual::And(left, right))?;
-            let Some(lower) = below(depth) else {
-                return Err(Halt::Stop(rest));
+            let (right, rest) = match neg_by(alloc, depth, rest) {
+                Ok(read) => read,
+                Err(halt) => return Err(halt),
             };
-            ands_by(alloc, lower, left, rest)
+            match Boxed::new(alloc, Qual::And(left, right)) {
+                Ok(left) => match below(depth) {
+                    Some(lower) => ands_by(alloc, lower, left, rest),
+                    None => Err(Halt::Stop(rest)),
+                },
+                Err(OutOfMemory) => Err(Halt::Memory),
+            }
         }
         None => Ok((left, tokens)),
     }
@@ -185,12 +193,17 @@ fn ors_by<'a>(
 {
     match found(Fixed::Or, tokens) {
         Some(rest) => {
-            let (right, rest) = conj_by(alloc, depth, rest)?;
-            let left = Boxed::new(alloc, Qual::Or(left, right))?;
-            let Some(lower) = below(depth) else {
-                return Err(Halt::Stop(rest));
+            let (right, rest) = match conj_by(alloc, depth, rest) {
+                Ok(read) => read,
+                Err(halt) => return Err(halt),
             };
-            ors_by(alloc, lower, left, rest)
+            match Boxed::new(alloc, Qual::Or(left, right)) {
+                Ok(left) => match below(depth) {
+                    Some(lower) => ors_by(alloc, lower, left, rest),
+                    None => Err(Halt::Stop(rest)),
+                },
+                Err(OutOfMemory) => Err(Halt::Memory),
+            }
         }
         None => Ok((left, tokens)),
     }
@@ -205,7 +218,10 @@ fn mixed_from<'a>(alloc: Global, depth: u16, first: Mixed, tokens: &'a [Token]) 
     match first {
         Mixed::Bare(term) => Ok((Mixed::Bare(term), tokens)),
         Mixed::Whole(left) => {
-            let (left, rest) = ands_by(alloc, depth, left, tokens)?;
+            let (left, rest) = match ands_by(alloc, depth, left, tokens) {
+                Ok(read) => read,
+                Err(halt) => return Err(halt),
+            };
             match ors_by(alloc, depth, left, rest) {
                 Ok((qual, rest)) => Ok((Mixed::Whole(qual), rest)),
                 Err(halt) => Err(halt),

@@ -114,12 +114,17 @@ fn products_by<'a>(
 {
     match product_sign_at(tokens) {
         Some((op, rest)) => {
-            let (right, rest) = pow_by(alloc, depth, rest)?;
-            let (left, rest) = arith(alloc, op, left, right, rest)?;
-            let Some(lower) = below(depth) else {
-                return Err(Halt::Stop(rest));
+            let (right, rest) = match pow_by(alloc, depth, rest) {
+                Ok(read) => read,
+                Err(halt) => return Err(halt),
             };
-            products_by(alloc, lower, left, rest)
+            match arith(alloc, op, left, right, rest) {
+                Ok((left, rest)) => match below(depth) {
+                    Some(lower) => products_by(alloc, lower, left, rest),
+                    None => Err(Halt::Stop(rest)),
+                },
+                Err(halt) => Err(halt),
+            }
         }
         None => Ok((left, tokens)),
     }
@@ -150,12 +155,17 @@ fn sums_by<'a>(
 {
     match sum_sign_at(tokens) {
         Some((op, rest)) => {
-            let (right, rest) = prod_by(alloc, depth, rest)?;
-            let (left, rest) = arith(alloc, op, left, right, rest)?;
-            let Some(lower) = below(depth) else {
-                return Err(Halt::Stop(rest));
+            let (right, rest) = match prod_by(alloc, depth, rest) {
+                Ok(read) => read,
+                Err(halt) => return Err(halt),
             };
-            sums_by(alloc, lower, left, rest)
+            match arith(alloc, op, left, right, rest) {
+                Ok((left, rest)) => match below(depth) {
+                    Some(lower) => sums_by(alloc, lower, left, rest),
+                    None => Err(Halt::Stop(rest)),
+                },
+                Err(halt) => Err(halt),
+            }
         }
         None => Ok((left, tokens)),
     }
@@ -184,7 +194,10 @@ pub fn terms_by<'a>(
 ) -> Result<&'a [Token], Halt<'a>>
     ensures { Gives (λ rest. (terms.new.items, rest.now)) result (terms_by (level depth) terms.old.items tokens.now) }
 {
-    let (term, rest) = term_by(alloc, depth, tokens)?;
+    let (term, rest) = match term_by(alloc, depth, tokens) {
+        Ok(read) => read,
+        Err(halt) => return Err(halt),
+    };
     terms.push(term.into_inner())?;
     match found(Fixed::Comma, rest) {
         Some(rest) => {
@@ -208,7 +221,10 @@ pub fn term_from<'a>(
 ) -> Read<'a, Boxed<Term>>
     ensures { Gives (λ x. (x.0, x.1.now)) result (term_from (level depth) first tokens.now) }
 {
-    let (base, rest) = power_by(alloc, depth, first, tokens)?;
+    let (base, rest) = match power_by(alloc, depth, first, tokens) {
+        Ok(read) => read,
+        Err(halt) => return Err(halt),
+    };
     match products_by(alloc, depth, base, rest) {
         Ok((left, rest)) => sums_by(alloc, depth, left, rest),
         Err(halt) => Err(halt),
