@@ -55,12 +55,12 @@ fn two_by<'a>(
         Ok(read) => read,
         Err(halt) => return Err(halt),
     };
-    let Some(rest) = found(Fixed::Comma, rest) else {
-        return Err(Halt::Stop(rest));
-    };
-    match inside_by(alloc, depth, rest) {
-        Ok((right, rest)) => Ok(((left, right), rest)),
-        Err(halt) => Err(halt),
+    match found(Fixed::Comma, rest) {
+        Some(rest) => match inside_by(alloc, depth, rest) {
+            Ok((right, rest)) => Ok(((left, right), rest)),
+            Err(halt) => Err(halt),
+        },
+        None => Err(Halt::Stop(rest)),
     }
 }
 
@@ -146,17 +146,15 @@ fn aggregate_by<'a>(
         Ok(read) => read,
         Err(halt) => return Err(halt),
     };
-    let (by, rest) = match by_by(alloc, depth, rest) {
-        Ok(read) => read,
-        Err(halt) => return Err(halt),
-    };
-    let (qual, rest) = match inner_where_by(alloc, depth, rest) {
-        Ok(read) => read,
-        Err(halt) => return Err(halt),
-    };
-    match found(Fixed::Close, rest) {
-        Some(rest) => aggregate(alloc, op, arg, by, qual, rest),
-        None => Err(Halt::Stop(rest)),
+    match by_by(alloc, depth, rest) {
+        Ok((by, rest)) => match inner_where_by(alloc, depth, rest) {
+            Ok((qual, rest)) => match found(Fixed::Close, rest) {
+                Some(rest) => aggregate(alloc, op, arg, by, qual, rest),
+                None => Err(Halt::Stop(rest)),
+            },
+            Err(halt) => Err(halt),
+        },
+        Err(halt) => Err(halt),
     }
 }
 

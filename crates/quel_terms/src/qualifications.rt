@@ -58,14 +58,13 @@ fn compare_by<'a>(
     ensures { Gives (λ x. (mixed_of x.0, x.1.now)) result (compare_by (level depth) left tokens.now) }
 {
     match comparison_at(tokens) {
-        Some((op, rest)) => {
-            let (right, rest) = match term_by(alloc, depth, rest) {
-                Ok(read) => read,
-                Err(halt) => return Err(halt),
-            };
-            let (left, right) = (left.into_inner(), right.into_inner());
-            whole(alloc, Qual::Cmp { op, left, right }, rest)
-        }
+        Some((op, rest)) => match term_by(alloc, depth, rest) {
+            Ok((right, rest)) => {
+                let (left, right) = (left.into_inner(), right.into_inner());
+                whole(alloc, Qual::Cmp { op, left, right }, rest)
+            }
+            Err(halt) => Err(halt),
+        },
         None => Ok((Mixed::Bare(left), tokens)),
     }
 }
@@ -150,21 +149,18 @@ fn ands_by<'a>(
 ) -> Read<'a, Boxed<Qual>>
     ensures { Gives (λ x. (x.0, x.1.now)) result (ands_by (level depth) left tokens.now) }
 {
-    match found(Fixed::And, tokens) {
-        Some(rest) => {
-            let (right, rest) = match neg_by(alloc, depth, rest) {
-                Ok(read) => read,
-                Err(halt) => return Err(halt),
-            };
-            match Boxed::new(alloc, Qual::And(left, right)) {
-                Ok(left) => match below(depth) {
-                    Some(lower) => ands_by(alloc, lower, left, rest),
-                    None => Err(Halt::Stop(rest)),
-                },
-                Err(OutOfMemory) => Err(Halt::Memory),
-            }
-        }
-        None => Ok((left, tokens)),
+    let Some(rest) = found(Fixed::And, tokens) else {
+        return Ok((left, tokens));
+    };
+    match neg_by(alloc, depth, rest) {
+        Ok((right, rest)) => match Boxed::new(alloc, Qual::And(left, right)) {
+            Ok(left) => match below(depth) {
+                Some(lower) => ands_by(alloc, lower, left, rest),
+                None => Err(Halt::Stop(rest)),
+            },
+            Err(OutOfMemory) => Err(Halt::Memory),
+        },
+        Err(halt) => Err(halt),
     }
 }
 
@@ -191,21 +187,18 @@ fn ors_by<'a>(
 ) -> Read<'a, Boxed<Qual>>
     ensures { Gives (λ x. (x.0, x.1.now)) result (ors_by (level depth) left tokens.now) }
 {
-    match found(Fixed::Or, tokens) {
-        Some(rest) => {
-            let (right, rest) = match conj_by(alloc, depth, rest) {
-                Ok(read) => read,
-                Err(halt) => return Err(halt),
-            };
-            match Boxed::new(alloc, Qual::Or(left, right)) {
-                Ok(left) => match below(depth) {
-                    Some(lower) => ors_by(alloc, lower, left, rest),
-                    None => Err(Halt::Stop(rest)),
-                },
-                Err(OutOfMemory) => Err(Halt::Memory),
-            }
-        }
-        None => Ok((left, tokens)),
+    let Some(rest) = found(Fixed::Or, tokens) else {
+        return Ok((left, tokens));
+    };
+    match conj_by(alloc, depth, rest) {
+        Ok((right, rest)) => match Boxed::new(alloc, Qual::Or(left, right)) {
+            Ok(left) => match below(depth) {
+                Some(lower) => ors_by(alloc, lower, left, rest),
+                None => Err(Halt::Stop(rest)),
+            },
+            Err(OutOfMemory) => Err(Halt::Memory),
+        },
+        Err(halt) => Err(halt),
     }
 }
 
@@ -217,16 +210,13 @@ fn mixed_from<'a>(alloc: Global, depth: u16, first: Mixed, tokens: &'a [Token]) 
 {
     match first {
         Mixed::Bare(term) => Ok((Mixed::Bare(term), tokens)),
-        Mixed::Whole(left) => {
-            let (left, rest) = match ands_by(alloc, depth, left, tokens) {
-                Ok(read) => read,
-                Err(halt) => return Err(halt),
-            };
-            match ors_by(alloc, depth, left, rest) {
+        Mixed::Whole(left) => match ands_by(alloc, depth, left, tokens) {
+            Ok((left, rest)) => match ors_by(alloc, depth, left, rest) {
                 Ok((qual, rest)) => Ok((Mixed::Whole(qual), rest)),
                 Err(halt) => Err(halt),
-            }
-        }
+            },
+            Err(halt) => Err(halt),
+        },
     }
 }
 

@@ -112,21 +112,18 @@ fn products_by<'a>(
 ) -> Read<'a, Boxed<Term>>
     ensures { Gives (λ x. (x.0, x.1.now)) result (products_by (level depth) left tokens.now) }
 {
-    match product_sign_at(tokens) {
-        Some((op, rest)) => {
-            let (right, rest) = match pow_by(alloc, depth, rest) {
-                Ok(read) => read,
-                Err(halt) => return Err(halt),
-            };
-            match arith(alloc, op, left, right, rest) {
-                Ok((left, rest)) => match below(depth) {
-                    Some(lower) => products_by(alloc, lower, left, rest),
-                    None => Err(Halt::Stop(rest)),
-                },
-                Err(halt) => Err(halt),
-            }
-        }
-        None => Ok((left, tokens)),
+    let Some((op, rest)) = product_sign_at(tokens) else {
+        return Ok((left, tokens));
+    };
+    match pow_by(alloc, depth, rest) {
+        Ok((right, rest)) => match arith(alloc, op, left, right, rest) {
+            Ok((left, rest)) => match below(depth) {
+                Some(lower) => products_by(alloc, lower, left, rest),
+                None => Err(Halt::Stop(rest)),
+            },
+            Err(halt) => Err(halt),
+        },
+        Err(halt) => Err(halt),
     }
 }
 
@@ -153,21 +150,18 @@ fn sums_by<'a>(
 ) -> Read<'a, Boxed<Term>>
     ensures { Gives (λ x. (x.0, x.1.now)) result (sums_by (level depth) left tokens.now) }
 {
-    match sum_sign_at(tokens) {
-        Some((op, rest)) => {
-            let (right, rest) = match prod_by(alloc, depth, rest) {
-                Ok(read) => read,
-                Err(halt) => return Err(halt),
-            };
-            match arith(alloc, op, left, right, rest) {
-                Ok((left, rest)) => match below(depth) {
-                    Some(lower) => sums_by(alloc, lower, left, rest),
-                    None => Err(Halt::Stop(rest)),
-                },
-                Err(halt) => Err(halt),
-            }
-        }
-        None => Ok((left, tokens)),
+    let Some((op, rest)) = sum_sign_at(tokens) else {
+        return Ok((left, tokens));
+    };
+    match prod_by(alloc, depth, rest) {
+        Ok((right, rest)) => match arith(alloc, op, left, right, rest) {
+            Ok((left, rest)) => match below(depth) {
+                Some(lower) => sums_by(alloc, lower, left, rest),
+                None => Err(Halt::Stop(rest)),
+            },
+            Err(halt) => Err(halt),
+        },
+        Err(halt) => Err(halt),
     }
 }
 
@@ -221,12 +215,11 @@ pub fn term_from<'a>(
 ) -> Read<'a, Boxed<Term>>
     ensures { Gives (λ x. (x.0, x.1.now)) result (term_from (level depth) first tokens.now) }
 {
-    let (base, rest) = match power_by(alloc, depth, first, tokens) {
-        Ok(read) => read,
-        Err(halt) => return Err(halt),
-    };
-    match products_by(alloc, depth, base, rest) {
-        Ok((left, rest)) => sums_by(alloc, depth, left, rest),
+    match power_by(alloc, depth, first, tokens) {
+        Ok((base, rest)) => match products_by(alloc, depth, base, rest) {
+            Ok((left, rest)) => sums_by(alloc, depth, left, rest),
+            Err(halt) => Err(halt),
+        },
         Err(halt) => Err(halt),
     }
 }
