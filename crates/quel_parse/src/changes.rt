@@ -55,11 +55,19 @@ pub fn changed_by<'a>(
 ) -> Read<'a, Boxed<Statement>>
     ensures { Gives (λ x. (x.0, x.1.now)) result (changed_by depth (level depth) (change_of change) tokens.now) }
 {
-    let (name, rest) = name_at(alloc, tokens)?;
-    let (items, rest) = covered_at(alloc, depth, rest)?;
-    let (qual, rest) = where_by(alloc, depth, rest)?;
-    let statement = change_of(change, name, List::of(items), qual.into_inner());
-    boxed(alloc, statement, rest)
+    match name_at(alloc, tokens) {
+        Ok((name, rest)) => match covered_at(alloc, depth, rest) {
+            Ok((items, rest)) => match where_by(alloc, depth, rest) {
+                Ok((qual, rest)) => {
+                    let statement = change_of(change, name, List::of(items), qual.into_inner());
+                    boxed(alloc, statement, rest)
+                }
+                Err(halt) => Err(halt),
+            },
+            Err(halt) => Err(halt),
+        },
+        Err(halt) => Err(halt),
+    }
 }
 
 /// `append`, behind its first word.
@@ -76,10 +84,16 @@ pub fn append_by<'a>(alloc: Global, depth: u16, tokens: &'a [Token]) -> Read<'a,
 pub fn delete_by<'a>(alloc: Global, depth: u16, tokens: &'a [Token]) -> Read<'a, Boxed<Statement>>
     ensures { Gives (λ x. (x.0, x.1.now)) result (delete_by (level depth) tokens.now) }
 {
-    let (var, rest) = name_at(alloc, tokens)?;
-    let (qual, rest) = where_by(alloc, depth, rest)?;
-    let qual = qual.into_inner();
-    boxed(alloc, Statement::Delete { var, qual }, rest)
+    match name_at(alloc, tokens) {
+        Ok((var, rest)) => match where_by(alloc, depth, rest) {
+            Ok((qual, rest)) => {
+                let qual = qual.into_inner();
+                boxed(alloc, Statement::Delete { var, qual }, rest)
+            }
+            Err(halt) => Err(halt),
+        },
+        Err(halt) => Err(halt),
+    }
 }
 
 /// `retrieve`, behind its first word.
@@ -89,14 +103,22 @@ pub fn retrieve_by<'a>(alloc: Global, depth: u16, tokens: &'a [Token]) -> Read<'
 {
     let rest = maybe(Fixed::Unique, tokens);
     let (into, rest) = into_at(alloc, rest)?;
-    let (items, rest) = covered_at(alloc, depth, rest)?;
-    let (qual, rest) = where_by(alloc, depth, rest)?;
-    let (sort, rest) = sort_by(alloc, depth, rest)?;
-    let statement = Statement::Retrieve {
-        into,
-        items: List::of(items),
-        qual: qual.into_inner(),
-        sort: List::of(sort),
-    };
-    boxed(alloc, statement, rest)
+    match covered_at(alloc, depth, rest) {
+        Ok((items, rest)) => match where_by(alloc, depth, rest) {
+            Ok((qual, rest)) => match sort_by(alloc, depth, rest) {
+                Ok((sort, rest)) => {
+                    let statement = Statement::Retrieve {
+                        into,
+                        items: List::of(items),
+                        qual: qual.into_inner(),
+                        sort: List::of(sort),
+                    };
+                    boxed(alloc, statement, rest)
+                }
+                Err(halt) => Err(halt),
+            },
+            Err(halt) => Err(halt),
+        },
+        Err(halt) => Err(halt),
+    }
 }

@@ -13,7 +13,7 @@ use crate::lists::Listed;
 use calculus::{CopyForm, Domain, Name};
 use quel_grammar::{Fixed, Token};
 use quel_lexer::number_of;
-use quel_terms::{Halt, Read, after, look_up, seen_name};
+use quel_terms::{Halt, Read, after, look_up, name_at};
 use std::alloc::Global;
 
 /// The greatest width of a text.
@@ -142,10 +142,16 @@ fn word_at<T: Named + Copy>(tokens: &[Token]) -> Read<'_, T>
 fn named_at<'a, T: Named + Copy>(alloc: Global, tokens: &'a [Token]) -> Read<'a, (Name, T)>
     ensures { Gives (λ x. (x.0, x.1.now)) result (named_at T.named tokens.now) }
 {
-    let (name, rest) = seen_name(tokens)?;
-    let rest = after(Fixed::Equal, rest)?;
-    let (named, rest) = word_at(rest)?;
-    Ok(((name.copy(alloc)?, named), rest))
+    match name_at(alloc, tokens) {
+        Ok((name, rest)) => match after(Fixed::Equal, rest) {
+            Ok(rest) => match word_at(rest) {
+                Ok((named, rest)) => Ok(((name, named), rest)),
+                Err(halt) => Err(halt),
+            },
+            Err(halt) => Err(halt),
+        },
+        Err(halt) => Err(halt),
+    }
 }
 
 /// An attribute with its domain.

@@ -46,11 +46,15 @@ fn list_from<'a, T: Listed + Drop>(
     let Some(less) = one_less(most) else {
         return Err(Halt::Stop(tokens));
     };
-    let (item, rest) = T::read(alloc, depth, tokens)?;
-    items.push(item)?;
-    match found(Fixed::Comma, rest) {
-        Some(rest) => list_from(alloc, depth, less, items, rest),
-        None => Ok(rest),
+    match T::read(alloc, depth, tokens) {
+        Ok((item, rest)) => match items.push(item) {
+            Ok(()) => match found(Fixed::Comma, rest) {
+                Some(rest) => list_from(alloc, depth, less, items, rest),
+                None => Ok(rest),
+            },
+            Err(_) => Err(Halt::Memory),
+        },
+        Err(halt) => Err(halt),
     }
 }
 
@@ -63,8 +67,10 @@ pub(crate) fn list_at<'a, T: Listed + Drop>(
     ensures { Gives (λ x. (x.0.items, x.1.now)) result (list_by (T.reader depth) depth [] tokens.now) }
 {
     let mut items = Vec::new(alloc);
-    let rest = list_from(alloc, depth, depth, &mut items, tokens)?;
-    Ok((items, rest))
+    match list_from(alloc, depth, depth, &mut items, tokens) {
+        Ok(rest) => Ok((items, rest)),
+        Err(halt) => Err(halt),
+    }
 }
 
 /// Parts and the closing parenthesis, behind the open one.
@@ -76,10 +82,12 @@ pub(crate) fn closed_at<'a, T: Listed + Drop>(
 ) -> Read<'a, Vec<T>>
     ensures { Gives (λ x. (x.0.items, x.1.now)) result (closed (list_by (T.reader depth) depth []) tokens.now) }
 {
-    let (items, rest) = list_at(alloc, depth, tokens)?;
-    match found(Fixed::Close, rest) {
-        Some(rest) => Ok((items, rest)),
-        None => Err(Halt::Stop(rest)),
+    match list_at(alloc, depth, tokens) {
+        Ok((items, rest)) => match found(Fixed::Close, rest) {
+            Some(rest) => Ok((items, rest)),
+            None => Err(Halt::Stop(rest)),
+        },
+        Err(halt) => Err(halt),
     }
 }
 

@@ -7,7 +7,7 @@ ghost use Rattle.quel_grammar.specs.Statements.{joined};
 ghost use Rattle.quel_terms.specs.View.{Gives};
 
 use crate::lists::Listed;
-use calculus::Name;
+use calculus::{Name, OutOfMemory};
 use quel_grammar::{Fixed, Token};
 use quel_terms::{Halt, Read};
 use std::alloc::Global;
@@ -66,7 +66,10 @@ pub fn user_at<'a>(alloc: Global, tokens: &'a [Token]) -> Read<'a, Option<Name>>
     ensures { Gives (λ x. (x.0, x.1.now)) result (expect user_of tokens.now) }
 {
     match tokens {
-        [Token::Name(name), rest @ ..] => Ok((Some(name.copy(alloc)?), rest)),
+        [Token::Name(name), rest @ ..] => match name.copy(alloc) {
+            Ok(name) => Ok((Some(name), rest)),
+            Err(OutOfMemory) => Err(Halt::Memory),
+        },
         [Token::Fixed(Fixed::All), rest @ ..] => Ok((None, rest)),
         _ => Err(Halt::Stop(tokens)),
     }

@@ -8,7 +8,7 @@ ghost use Rattle.quel_terms.specs.View.{Gives};
 use crate::lists::{Listed, list_at};
 use calculus::Name;
 use quel_grammar::{Fixed, Token};
-use quel_terms::{Halt, Read, found, look_up, seen_name};
+use quel_terms::{Halt, Read, found, look_up, name_at};
 use std::alloc::Global;
 
 /// The words of direction, and whether they say that it descends.
@@ -58,9 +58,13 @@ impl Listed for (Name, bool) {
 
     #[tactic(auto, unfolding(quel_grammar::specs::PartReaders::key_at))]
     fn read<'a>(alloc: Global, _depth: u16, tokens: &'a [Token]) -> Read<'a, (Name, bool)> {
-        let (name, rest) = seen_name(tokens)?;
-        let (down, rest) = direction_at(rest)?;
-        Ok(((name.copy(alloc)?, down), rest))
+        match name_at(alloc, tokens) {
+            Ok((name, rest)) => match direction_at(rest) {
+                Ok((down, rest)) => Ok(((name, down), rest)),
+                Err(halt) => Err(halt),
+            },
+            Err(halt) => Err(halt),
+        }
     }
 }
 

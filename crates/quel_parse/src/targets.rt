@@ -8,7 +8,7 @@ ghost use Rattle.quel_grammar.specs.TermReaders.{level};
 ghost use Rattle.quel_terms.specs.View.{Gives};
 
 use crate::lists::Listed;
-use calculus::{Boxed, Item, Name, Qual};
+use calculus::{Boxed, Item, Name, OutOfMemory, Qual};
 use memory::both;
 use quel_grammar::{Fixed, Token};
 use quel_terms::{Halt, Read, found, name_at, qual_by, seen_name, term_by};
@@ -31,10 +31,10 @@ fn all_target<'a>(alloc: Global, var: &Name, tokens: &'a [Token]) -> Read<'a, It
     ensures { Gives (λ x. (x.0, x.1.now)) result (all_target var.now tokens.now) }
 {
     match found(Fixed::All, tokens) {
-        Some(rest) => {
-            let var = var.copy(alloc)?;
-            Ok((Item::All { var }, rest))
-        }
+        Some(rest) => match var.copy(alloc) {
+            Ok(var) => Ok((Item::All { var }, rest)),
+            Err(OutOfMemory) => Err(Halt::Memory),
+        },
         None => Err(Halt::Stop(tokens)),
     }
 }
@@ -44,10 +44,10 @@ fn named_target<'a>(alloc: Global, var: &Name, tokens: &'a [Token]) -> Read<'a, 
     ensures { Gives (λ x. (x.0, x.1.now)) result (choose (all_target var.now) (λ a. done (items.Attr var.now a)) tokens.now (first name_of tokens.now)) }
 {
     match tokens {
-        [Token::Name(attr), rest @ ..] => {
-            let (var, attr) = both(var.copy(alloc), attr.copy(alloc))?;
-            Ok((Item::Attr { var, attr }, rest))
-        }
+        [Token::Name(attr), rest @ ..] => match both(var.copy(alloc), attr.copy(alloc)) {
+            Ok((var, attr)) => Ok((Item::Attr { var, attr }, rest)),
+            Err(OutOfMemory) => Err(Halt::Memory),
+        },
         _ => all_target(alloc, var, tokens),
     }
 }
@@ -68,10 +68,16 @@ fn dot_target<'a>(alloc: Global, var: &Name, tokens: &'a [Token]) -> Read<'a, It
 fn set_target<'a>(alloc: Global, depth: u16, name: &Name, tokens: &'a [Token]) -> Read<'a, Item>
     ensures { Gives (λ x. (x.0, x.1.now)) result (set_target (level depth) name.now tokens.now) }
 {
-    let (term, rest) = term_by(alloc, depth, tokens)?;
-    let (name, term) = both(name.copy(alloc), Ok(term))?;
-    let term = term.into_inner();
-    Ok((Item::Set { name, term }, rest))
+    match term_by(alloc, depth, tokens) {
+        Ok((term, rest)) => match name.copy(alloc) {
+            Ok(name) => {
+                let term = term.into_inner();
+                Ok((Item::Set { name, term }, rest))
+            }
+            Err(OutOfMemory) => Err(Halt::Memory),
+        },
+        Err(halt) => Err(halt),
+    }
 }
 
 impl Listed for Item {
@@ -82,10 +88,12 @@ impl Listed for Item {
 
     #[tactic(auto, unfolding(quel_grammar::specs::PartReaders::target_by))]
     fn read<'a>(alloc: Global, depth: u16, tokens: &'a [Token]) -> Read<'a, Item> {
-        let (name, rest) = seen_name(tokens)?;
-        match found(Fixed::Equal, rest) {
-            Some(rest) => set_target(alloc, depth, name, rest),
-            None => dot_target(alloc, name, rest),
+        match seen_name(tokens) {
+            Ok((name, rest)) => match found(Fixed::Equal, rest) {
+                Some(rest) => set_target(alloc, depth, name, rest),
+                None => dot_target(alloc, name, rest),
+            },
+            Err(halt) => Err(halt),
         }
     }
 }
@@ -97,7 +105,10 @@ pub fn where_by<'a>(alloc: Global, depth: u16, tokens: &'a [Token]) -> Read<'a, 
 {
     match found(Fixed::Where, tokens) {
         Some(rest) => qual_by(alloc, depth, rest),
-        None => Ok((Boxed::new(alloc, Qual::True)?, tokens)),
+        None => match Boxed::new(alloc, Qual::True) {
+            Ok(qual) => Ok((qual, tokens)),
+            Err(OutOfMemory) => Err(Halt::Memory),
+        },
     }
 }
 
@@ -106,8 +117,10 @@ pub fn where_by<'a>(alloc: Global, depth: u16, tokens: &'a [Token]) -> Read<'a, 
 fn name_into<'a>(alloc: Global, tokens: &'a [Token]) -> Read<'a, Option<Name>>
     ensures { Gives (λ x. (x.0, x.1.now)) result (name_into tokens.now) }
 {
-    let (name, rest) = name_at(alloc, tokens)?;
-    Ok((Some(name), rest))
+    match name_at(alloc, tokens) {
+        Ok((name, rest)) => Ok((Some(name), rest)),
+        Err(halt) => Err(halt),
+    }
 }
 
 /// The relation that keeps a result, without `into`; or nothing.
@@ -116,7 +129,10 @@ fn plain_into<'a>(alloc: Global, tokens: &'a [Token]) -> Read<'a, Option<Name>>
     ensures { Gives (λ x. (x.0, x.1.now)) result (plain_into tokens.now) }
 {
     match tokens {
-        [Token::Name(name), rest @ ..] => Ok((Some(name.copy(alloc)?), rest)),
+        [Token::Name(name), rest @ ..] => match name.copy(alloc) {
+            Ok(name) => Ok((Some(name), rest)),
+            Err(OutOfMemory) => Err(Halt::Memory),
+        },
         _ => Ok((None, tokens)),
     }
 }
