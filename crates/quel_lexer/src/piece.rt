@@ -21,7 +21,10 @@ fn word_token(alloc: Global, word: &[u8]) -> Result<Option<Token>, OutOfMemory>
 {
     match fixed_of(word) {
         Some(fixed) => Ok(Some(Token::Fixed(fixed))),
-        None => Ok(Name::of(alloc, word)?.map(Token::Name)),
+        None => match Name::of(alloc, word) {
+            Ok(name) => Ok(name.map(Token::Name)),
+            Err(error) => Err(error),
+        },
     }
 }
 
@@ -33,9 +36,13 @@ fn word_at(alloc: Global, text: &[u8]) -> Result<Option<(Token, usize)>, OutOfMe
     ensures token { IfOk result (λ o. o ≡ word_at text.now) }
 {
     let len = word_len(text);
-    let word = lowered(alloc, text.split_at(len).0)?;
-    let token = word_token(alloc, &word)?;
-    Ok(token.map(|t| (t, len)))
+    match lowered(alloc, text.split_at(len).0) {
+        Ok(word) => match word_token(alloc, &word) {
+            Ok(token) => Ok(token.map(|t| (t, len))),
+            Err(error) => Err(error),
+        },
+        Err(_) => Err(OutOfMemory),
+    }
 }
 
 /// The number at the front, and its length.
@@ -61,8 +68,10 @@ fn text_at(alloc: Global, text: &[u8]) -> Result<Option<(Token, usize)>, OutOfMe
     let Some(len) = quoted_len(behind) else {
         return Ok(None);
     };
-    let chars = Chars::of(alloc, behind.split_at(len).0)?;
-    Ok(chars.map(|c| (Token::Text(c), len + 2)))
+    match Chars::of(alloc, behind.split_at(len).0) {
+        Ok(chars) => Ok(chars.map(|c| (Token::Text(c), len + 2))),
+        Err(error) => Err(error),
+    }
 }
 
 /// The longest token at the front, and its length.
@@ -101,7 +110,9 @@ pub fn piece_at(alloc: Global, text: &[u8]) -> Result<Option<(Piece, usize)>, Ou
         let len = comment_len(later.split_at(1).1);
         Ok(len.map(|n| (Piece::White, n + 2)))
     } else {
-        let token = token_at(alloc, text)?;
-        Ok(token.map(|(t, len)| (Piece::Token(t), len)))
+        match token_at(alloc, text) {
+            Ok(token) => Ok(token.map(|(t, len)| (Piece::Token(t), len))),
+            Err(error) => Err(error),
+        }
     }
 }

@@ -6,9 +6,10 @@ ghost use Rattle.quel_grammar.specs.TermReaders.{level};
 ghost use Rattle.quel_parse.specs.Parts.{change_of};
 ghost use Rattle.quel_terms.specs.View.{Gives};
 
+use crate::lists::covered_at;
 use crate::sort_keys::sort_by;
 use crate::stated::boxed;
-use crate::targets::{into_at, maybe, targets_by, where_by};
+use crate::targets::{into_at, maybe, where_by};
 use calculus::{Boxed, Item, List, Name, Qual, Statement};
 use quel_grammar::{Fixed, Token};
 use quel_terms::{Read, name_at};
@@ -54,11 +55,19 @@ pub fn changed_by<'a>(
 ) -> Read<'a, Boxed<Statement>>
     ensures { Gives (λ x. (x.0, x.1.now)) result (changed_by depth (level depth) (change_of change) tokens.now) }
 {
-    let (name, rest) = name_at(alloc, tokens)?;
-    let (items, rest) = targets_by(alloc, depth, rest)?;
-    let (qual, rest) = where_by(alloc, depth, rest)?;
-    let statement = change_of(change, name, List::of(items), qual.into_inner());
-    boxed(alloc, statement, rest)
+    match name_at(alloc, tokens) {
+        Ok((name, rest)) => match covered_at(alloc, depth, rest) {
+            Ok((items, rest)) => match where_by(alloc, depth, rest) {
+                Ok((qual, rest)) => {
+                    let statement = change_of(change, name, List::of(items), qual.into_inner());
+                    boxed(alloc, statement, rest)
+                }
+                Err(halt) => Err(halt),
+            },
+            Err(halt) => Err(halt),
+        },
+        Err(halt) => Err(halt),
+    }
 }
 
 /// `append`, behind its first word.
@@ -75,10 +84,16 @@ pub fn append_by<'a>(alloc: Global, depth: u16, tokens: &'a [Token]) -> Read<'a,
 pub fn delete_by<'a>(alloc: Global, depth: u16, tokens: &'a [Token]) -> Read<'a, Boxed<Statement>>
     ensures { Gives (λ x. (x.0, x.1.now)) result (delete_by (level depth) tokens.now) }
 {
-    let (var, rest) = name_at(alloc, tokens)?;
-    let (qual, rest) = where_by(alloc, depth, rest)?;
-    let qual = qual.into_inner();
-    boxed(alloc, Statement::Delete { var, qual }, rest)
+    match name_at(alloc, tokens) {
+        Ok((var, rest)) => match where_by(alloc, depth, rest) {
+            Ok((qual, rest)) => {
+                let qual = qual.into_inner();
+                boxed(alloc, Statement::Delete { var, qual }, rest)
+            }
+            Err(halt) => Err(halt),
+        },
+        Err(halt) => Err(halt),
+    }
 }
 
 /// `retrieve`, behind its first word.
@@ -88,14 +103,22 @@ pub fn retrieve_by<'a>(alloc: Global, depth: u16, tokens: &'a [Token]) -> Read<'
 {
     let rest = maybe(Fixed::Unique, tokens);
     let (into, rest) = into_at(alloc, rest)?;
-    let (items, rest) = targets_by(alloc, depth, rest)?;
-    let (qual, rest) = where_by(alloc, depth, rest)?;
-    let (sort, rest) = sort_by(alloc, depth, rest)?;
-    let statement = Statement::Retrieve {
-        into,
-        items: List::of(items),
-        qual: qual.into_inner(),
-        sort: List::of(sort),
-    };
-    boxed(alloc, statement, rest)
+    match covered_at(alloc, depth, rest) {
+        Ok((items, rest)) => match where_by(alloc, depth, rest) {
+            Ok((qual, rest)) => match sort_by(alloc, depth, rest) {
+                Ok((sort, rest)) => {
+                    let statement = Statement::Retrieve {
+                        into,
+                        items: List::of(items),
+                        qual: qual.into_inner(),
+                        sort: List::of(sort),
+                    };
+                    boxed(alloc, statement, rest)
+                }
+                Err(halt) => Err(halt),
+            },
+            Err(halt) => Err(halt),
+        },
+        Err(halt) => Err(halt),
+    }
 }

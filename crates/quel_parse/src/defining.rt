@@ -1,6 +1,7 @@
 //! Definitions of views, permits and rules of integrity.
 
-ghost use Rattle.std.specs.Prelude.{◌≡◌, option_map};
+ghost use Rattle.std.specs.Prelude.{◌≡◌, Ok, option_map};
+ghost use Rattle.calculus.specs.declared.statement.Statement.TheVariants.{Permit as permit};
 ghost use Rattle.quel_grammar.specs.Reading.{first, on_fixed};
 ghost use Rattle.quel_grammar.specs.StatementReaders.{permit_by, rule_by, defined_of, defined_by, define_by};
 ghost use Rattle.quel_grammar.specs.TermReaders.{level};
@@ -8,12 +9,12 @@ ghost use Rattle.quel_parse.specs.Parts.{defined_of as what_of, granted_by};
 ghost use Rattle.quel_terms.specs.View.{Gives};
 
 use crate::changes::{Change, changed_by};
+use crate::lists::list_at;
 use crate::names::covered_by;
-use crate::permits::{joined, operations_from, over_at, user_at};
+use crate::permits::{joined, over_at, user_at};
 use crate::stated::boxed;
 use crate::targets::where_by;
-use calculus::{Boxed, List, Statement};
-use memory::both;
+use calculus::{Boxed, List, Name, OutOfMemory, Qual, Statement};
 use quel_grammar::{Fixed, Token};
 use quel_terms::{Halt, Read, after, name_at, qual_by, seen_name};
 use std::alloc::Global;
@@ -29,6 +30,33 @@ enum Defined {
     Rule,
 }
 
+/// The permit of these parts, and the tokens behind it.
+fn granted<'a>(
+    alloc: Global,
+    ops: u8,
+    var: &Name,
+    attrs: Vec<Name>,
+    user: Option<Name>,
+    qual: Boxed<Qual>,
+    rest: &'a [Token],
+) -> Read<'a, Boxed<Statement>>
+    ensures { Gives (λ x. (x.0, x.1.now)) result (Ok (permit ops var.now attrs.items user qual, rest.now)) }
+{
+    match var.copy(alloc) {
+        Ok(var) => {
+            let statement = Statement::Permit {
+                ops,
+                var,
+                attrs: List::of(attrs),
+                user,
+                qual: qual.into_inner(),
+            };
+            boxed(alloc, statement, rest)
+        }
+        Err(OutOfMemory) => Err(Halt::Memory),
+    }
+}
+
 /// What follows the operations of a permit, which give these rights together.
 fn granted_by<'a>(
     alloc: Global,
@@ -41,18 +69,16 @@ fn granted_by<'a>(
     let rest = over_at(tokens)?;
     let (var, rest) = seen_name(rest)?;
     let (attrs, rest) = covered_by(alloc, depth, rest)?;
-    let rest = after(Fixed::To, rest)?;
-    let (user, rest) = user_at(alloc, rest)?;
-    let (qual, rest) = where_by(alloc, depth, rest)?;
-    let (var, (attrs, user, qual)) = both(var.copy(alloc), Ok((attrs, user, qual)))?;
-    let statement = Statement::Permit {
-        ops,
-        var,
-        attrs: List::of(attrs),
-        user,
-        qual: qual.into_inner(),
-    };
-    boxed(alloc, statement, rest)
+    match after(Fixed::To, rest) {
+        Ok(rest) => match user_at(alloc, rest) {
+            Ok((user, rest)) => match where_by(alloc, depth, rest) {
+                Ok((qual, rest)) => granted(alloc, ops, var, attrs, user, qual, rest),
+                Err(halt) => Err(halt),
+            },
+            Err(halt) => Err(halt),
+        },
+        Err(halt) => Err(halt),
+    }
 }
 
 /// `define permit`, behind its words.
@@ -60,9 +86,10 @@ fn granted_by<'a>(
 fn permit_by<'a>(alloc: Global, depth: u16, tokens: &'a [Token]) -> Read<'a, Boxed<Statement>>
     ensures { Gives (λ x. (x.0, x.1.now)) result (permit_by depth (level depth) tokens.now) }
 {
-    let mut rights = Vec::new(alloc);
-    let rest = operations_from(depth, &mut rights, tokens)?;
-    granted_by(alloc, depth, joined(&rights), rest)
+    match list_at(alloc, depth, tokens) {
+        Ok((rights, rest)) => granted_by(alloc, depth, joined(&rights), rest),
+        Err(halt) => Err(halt),
+    }
 }
 
 /// `define integrity`, behind its words.
@@ -71,11 +98,19 @@ fn rule_by<'a>(alloc: Global, depth: u16, tokens: &'a [Token]) -> Read<'a, Boxed
     ensures { Gives (λ x. (x.0, x.1.now)) result (rule_by (level depth) tokens.now) }
 {
     let rest = after(Fixed::On, tokens)?;
-    let (var, rest) = name_at(alloc, rest)?;
-    let rest = after(Fixed::Is, rest)?;
-    let (qual, rest) = qual_by(alloc, depth, rest)?;
-    let qual = qual.into_inner();
-    boxed(alloc, Statement::Rule { var, qual }, rest)
+    match name_at(alloc, rest) {
+        Ok((var, rest)) => match after(Fixed::Is, rest) {
+            Ok(rest) => match qual_by(alloc, depth, rest) {
+                Ok((qual, rest)) => {
+                    let qual = qual.into_inner();
+                    boxed(alloc, Statement::Rule { var, qual }, rest)
+                }
+                Err(halt) => Err(halt),
+            },
+            Err(halt) => Err(halt),
+        },
+        Err(halt) => Err(halt),
+    }
 }
 
 /// The word for what is defined, where one stands there.

@@ -1,19 +1,19 @@
 //! The domains of attributes, and the forms of columns that are copied.
 
-ghost use Rattle.std.specs.Prelude.{◌≡◌};
+ghost use Rattle.std.specs.Prelude.{◌≡◌, ℕ, List, Option};
 ghost use Rattle.std.specs.List.{list_all};
 ghost use Rattle.calculus.specs.Name.{is_digit};
-ghost use Rattle.quel_grammar.specs.PartReaders.{list_by, width_of, number_formats, copy_forms, format_of, copy_form_of, named_at, parts_by};
+ghost use Rattle.quel_grammar.specs.PartReaders.{width_of, number_formats, copy_forms, named_at};
 ghost use Rattle.quel_grammar.specs.Reading.{expect, on_name, look_up};
 ghost use Rattle.quel_grammar.specs.Statements.{is_width};
 ghost use Rattle.quel_parse.specs.Parts.{width_from};
 ghost use Rattle.quel_terms.specs.View.{Gives};
 
-use crate::lists::one_less;
+use crate::lists::Listed;
 use calculus::{CopyForm, Domain, Name};
 use quel_grammar::{Fixed, Token};
 use quel_lexer::number_of;
-use quel_terms::{Halt, Read, after, found, look_up, name_at};
+use quel_terms::{Halt, Read, after, look_up, name_at};
 use std::alloc::Global;
 
 /// The greatest width of a text.
@@ -80,16 +80,6 @@ fn number_format_of(word: &[u8]) -> Option<Domain>
     look_up(table, word)
 }
 
-/// The domain that a word names.
-fn format_of(word: &[u8]) -> Option<Domain>
-    ensures { result ≡ format_of word.now }
-{
-    match width_of(word) {
-        Some(width) => Some(Domain::C(width)),
-        None => number_format_of(word),
-    }
-}
-
 /// The copy form without a width that a word names.
 fn plain_copy_form_of(word: &[u8]) -> Option<CopyForm>
     ensures { result ≡ look_up copy_forms word.now }
@@ -98,136 +88,90 @@ fn plain_copy_form_of(word: &[u8]) -> Option<CopyForm>
     look_up(table, word)
 }
 
-/// The copy form that a word names.
-fn copy_form_of(word: &[u8]) -> Option<CopyForm>
-    ensures { result ≡ copy_form_of word.now }
-{
-    match width_of(word) {
-        Some(width) => Some(CopyForm::Fixed(width)),
-        None => plain_copy_form_of(word),
+/// What a word names behind a name and `=`.
+pub(crate) trait Named {
+    /// What a word names.
+    ghost named: { List ℕ → Option Self };
+
+    /// What the word names.
+    fn of_word(word: &[u8]) -> Option<Self>
+        ensures { result ≡ named word.now };
+}
+
+impl Named for Domain {
+    ghost use Rattle.quel_grammar.specs.PartReaders.{format_of};
+
+    ghost named = { format_of };
+
+    fn of_word(word: &[u8]) -> Option<Domain> {
+        match width_of(word) {
+            Some(width) => Some(Domain::C(width)),
+            None => number_format_of(word),
+        }
     }
 }
 
-/// The name of a domain.
-fn domain_at(tokens: &[Token]) -> Read<'_, Domain>
-    ensures { Gives (λ x. (x.0, x.1.now)) result (expect (on_name format_of) tokens.now) }
+impl Named for CopyForm {
+    ghost use Rattle.quel_grammar.specs.PartReaders.{copy_form_of};
+
+    ghost named = { copy_form_of };
+
+    fn of_word(word: &[u8]) -> Option<CopyForm> {
+        match width_of(word) {
+            Some(width) => Some(CopyForm::Fixed(width)),
+            None => plain_copy_form_of(word),
+        }
+    }
+}
+
+/// A word that names something, which must stand there.
+fn word_at<T: Named + Copy>(tokens: &[Token]) -> Read<'_, T>
+    ensures { Gives (λ x. (x.0, x.1.now)) result (expect (on_name T.named) tokens.now) }
 {
     let [Token::Name(word), rest @ ..] = tokens else {
         return Err(Halt::Stop(tokens));
     };
-    match format_of(word.bytes()) {
-        Some(form) => Ok((form, rest)),
+    match T::of_word(word.bytes()) {
+        Some(named) => Ok((named, rest)),
         None => Err(Halt::Stop(tokens)),
     }
 }
 
-/// The name of a copy form.
-fn form_at(tokens: &[Token]) -> Read<'_, CopyForm>
-    ensures { Gives (λ x. (x.0, x.1.now)) result (expect (on_name copy_form_of) tokens.now) }
-{
-    let [Token::Name(word), rest @ ..] = tokens else {
-        return Err(Halt::Stop(tokens));
-    };
-    match copy_form_of(word.bytes()) {
-        Some(form) => Ok((form, rest)),
-        None => Err(Halt::Stop(tokens)),
-    }
-}
-
-/// An attribute, `=` and a domain.
+/// A name, `=`, and a word that names something.
 #[tactic(auto, unfolding(quel_grammar::specs::PartReaders::named_at))]
-fn attribute_at<'a>(alloc: Global, tokens: &'a [Token]) -> Read<'a, (Name, Domain)>
-    ensures { Gives (λ x. (x.0, x.1.now)) result (named_at format_of tokens.now) }
+fn named_at<'a, T: Named + Copy>(alloc: Global, tokens: &'a [Token]) -> Read<'a, (Name, T)>
+    ensures { Gives (λ x. (x.0, x.1.now)) result (named_at T.named tokens.now) }
 {
-    let (name, rest) = name_at(alloc, tokens)?;
-    let rest = after(Fixed::Equal, rest)?;
-    let (form, rest) = domain_at(rest)?;
-    Ok(((name, form), rest))
-}
-
-/// A column, `=` and a form.
-#[tactic(auto, unfolding(quel_grammar::specs::PartReaders::named_at))]
-fn column_at<'a>(alloc: Global, tokens: &'a [Token]) -> Read<'a, (Name, CopyForm)>
-    ensures { Gives (λ x. (x.0, x.1.now)) result (named_at copy_form_of tokens.now) }
-{
-    let (name, rest) = name_at(alloc, tokens)?;
-    let rest = after(Fixed::Equal, rest)?;
-    let (form, rest) = form_at(rest)?;
-    Ok(((name, form), rest))
-}
-
-/// Attributes with their domains with commas between them, put behind others; at most so many. Gives the tokens behind
-/// them.
-#[tactic(auto, unfolding(quel_grammar::specs::PartReaders::list_by))]
-fn attributes_from<'a>(
-    alloc: Global,
-    most: u16,
-    attributes: &mut Vec<(Name, Domain)>,
-    tokens: &'a [Token],
-) -> Result<&'a [Token], Halt<'a>>
-    ensures { Gives (λ rest. (attributes.new.items, rest.now)) result (list_by (named_at format_of) most attributes.old.items tokens.now) }
-{
-    let Some(less) = one_less(most) else {
-        return Err(Halt::Stop(tokens));
-    };
-    let (attribute, rest) = attribute_at(alloc, tokens)?;
-    attributes.push(attribute)?;
-    match found(Fixed::Comma, rest) {
-        Some(rest) => attributes_from(alloc, less, attributes, rest),
-        None => Ok(rest),
+    match name_at(alloc, tokens) {
+        Ok((name, rest)) => match after(Fixed::Equal, rest) {
+            Ok(rest) => match word_at(rest) {
+                Ok((named, rest)) => Ok(((name, named), rest)),
+                Err(halt) => Err(halt),
+            },
+            Err(halt) => Err(halt),
+        },
+        Err(halt) => Err(halt),
     }
 }
 
-/// Columns with their forms with commas between them, put behind others; at most so many. Gives the tokens behind
-/// them.
-#[tactic(auto, unfolding(quel_grammar::specs::PartReaders::list_by))]
-fn columns_from<'a>(
-    alloc: Global,
-    most: u16,
-    columns: &mut Vec<(Name, CopyForm)>,
-    tokens: &'a [Token],
-) -> Result<&'a [Token], Halt<'a>>
-    ensures { Gives (λ rest. (columns.new.items, rest.now)) result (list_by (named_at copy_form_of) most columns.old.items tokens.now) }
-{
-    let Some(less) = one_less(most) else {
-        return Err(Halt::Stop(tokens));
-    };
-    let (column, rest) = column_at(alloc, tokens)?;
-    columns.push(column)?;
-    match found(Fixed::Comma, rest) {
-        Some(rest) => columns_from(alloc, less, columns, rest),
-        None => Ok(rest),
+/// An attribute with its domain.
+impl Listed for (Name, Domain) {
+    ghost use Rattle.quel_grammar.specs.PartReaders.{format_of, named_at};
+
+    ghost reader = { λ _. named_at format_of };
+
+    fn read<'a>(alloc: Global, _depth: u16, tokens: &'a [Token]) -> Read<'a, (Name, Domain)> {
+        named_at(alloc, tokens)
     }
 }
 
-/// Attributes with their domains in parentheses.
-#[tactic(auto, unfolding(quel_grammar::specs::PartReaders::in_parens, quel_grammar::specs::PartReaders::closed))]
-pub fn attributes_by<'a>(
-    alloc: Global,
-    most: u16,
-    tokens: &'a [Token],
-) -> Read<'a, Vec<(Name, Domain)>>
-    ensures { Gives (λ x. (x.0.items, x.1.now)) result (parts_by format_of most tokens.now) }
-{
-    let rest = after(Fixed::Open, tokens)?;
-    let mut attributes = Vec::new(alloc);
-    let rest = attributes_from(alloc, most, &mut attributes, rest)?;
-    let rest = after(Fixed::Close, rest)?;
-    Ok((attributes, rest))
-}
+/// A column with its form.
+impl Listed for (Name, CopyForm) {
+    ghost use Rattle.quel_grammar.specs.PartReaders.{copy_form_of, named_at};
 
-/// Columns with their forms in parentheses.
-#[tactic(auto, unfolding(quel_grammar::specs::PartReaders::in_parens, quel_grammar::specs::PartReaders::closed))]
-pub fn columns_by<'a>(
-    alloc: Global,
-    most: u16,
-    tokens: &'a [Token],
-) -> Read<'a, Vec<(Name, CopyForm)>>
-    ensures { Gives (λ x. (x.0.items, x.1.now)) result (parts_by copy_form_of most tokens.now) }
-{
-    let rest = after(Fixed::Open, tokens)?;
-    let mut columns = Vec::new(alloc);
-    let rest = columns_from(alloc, most, &mut columns, rest)?;
-    let rest = after(Fixed::Close, rest)?;
-    Ok((columns, rest))
+    ghost reader = { λ _. named_at copy_form_of };
+
+    fn read<'a>(alloc: Global, _depth: u16, tokens: &'a [Token]) -> Read<'a, (Name, CopyForm)> {
+        named_at(alloc, tokens)
+    }
 }

@@ -1,15 +1,15 @@
 //! The parts of a permit.
 
 ghost use Rattle.std.specs.Prelude.{◌≡◌};
-ghost use Rattle.quel_grammar.specs.PartReaders.{list_by, operation_of, over_of, user_of};
+ghost use Rattle.quel_grammar.specs.PartReaders.{operation_of, over_of, user_of};
 ghost use Rattle.quel_grammar.specs.Reading.{expect, on_fixed};
 ghost use Rattle.quel_grammar.specs.Statements.{joined};
 ghost use Rattle.quel_terms.specs.View.{Gives};
 
-use crate::lists::one_less;
-use calculus::Name;
+use crate::lists::Listed;
+use calculus::{Name, OutOfMemory};
 use quel_grammar::{Fixed, Token};
-use quel_terms::{Halt, Read, found};
+use quel_terms::{Halt, Read};
 use std::alloc::Global;
 
 /// The number of the right that the word of an operation gives; `all` gives all four.
@@ -26,37 +26,21 @@ fn operation_of(fixed: Fixed) -> Option<u8>
     }
 }
 
-/// The word of an operation, which must stand there.
-fn operation_at(tokens: &[Token]) -> Read<'_, u8>
-    ensures { Gives (λ x. (x.0, x.1.now)) result (expect (on_fixed operation_of) tokens.now) }
-{
-    let [Token::Fixed(fixed), rest @ ..] = tokens else {
-        return Err(Halt::Stop(tokens));
-    };
-    match operation_of(*fixed) {
-        Some(right) => Ok((right, rest)),
-        None => Err(Halt::Stop(tokens)),
-    }
-}
+/// An operation is read as the number of its right.
+impl Listed for u8 {
+    ghost use Rattle.quel_grammar.specs.PartReaders.{operation_of};
+    ghost use Rattle.quel_grammar.specs.Reading.{expect, on_fixed};
 
-/// Operations, each as the number of its right with commas between them, put behind others; at most so many. Gives the tokens behind
-/// them.
-#[tactic(auto, unfolding(quel_grammar::specs::PartReaders::list_by))]
-pub fn operations_from<'a>(
-    most: u16,
-    rights: &mut Vec<u8>,
-    tokens: &'a [Token],
-) -> Result<&'a [Token], Halt<'a>>
-    ensures { Gives (λ rest. (rights.new.items, rest.now)) result (list_by (expect (on_fixed operation_of)) most rights.old.items tokens.now) }
-{
-    let Some(less) = one_less(most) else {
-        return Err(Halt::Stop(tokens));
-    };
-    let (right, rest) = operation_at(tokens)?;
-    rights.push(right)?;
-    match found(Fixed::Comma, rest) {
-        Some(rest) => operations_from(less, rights, rest),
-        None => Ok(rest),
+    ghost reader = { λ _. expect (on_fixed operation_of) };
+
+    fn read<'a>(_alloc: Global, _depth: u16, tokens: &'a [Token]) -> Read<'a, u8> {
+        let [Token::Fixed(fixed), rest @ ..] = tokens else {
+            return Err(Halt::Stop(tokens));
+        };
+        match operation_of(*fixed) {
+            Some(right) => Ok((right, rest)),
+            None => Err(Halt::Stop(tokens)),
+        }
     }
 }
 
@@ -82,7 +66,10 @@ pub fn user_at<'a>(alloc: Global, tokens: &'a [Token]) -> Read<'a, Option<Name>>
     ensures { Gives (λ x. (x.0, x.1.now)) result (expect user_of tokens.now) }
 {
     match tokens {
-        [Token::Name(name), rest @ ..] => Ok((Some(name.copy(alloc)?), rest)),
+        [Token::Name(name), rest @ ..] => match name.copy(alloc) {
+            Ok(name) => Ok((Some(name), rest)),
+            Err(OutOfMemory) => Err(Halt::Memory),
+        },
         [Token::Fixed(Fixed::All), rest @ ..] => Ok((None, rest)),
         _ => Err(Halt::Stop(tokens)),
     }

@@ -7,12 +7,11 @@ ghost use Rattle.quel_grammar.specs.StatementReaders.{range_at, create_by, destr
 ghost use Rattle.quel_parse.specs.Parts.{dropped_of};
 ghost use Rattle.quel_terms.specs.View.{Gives};
 
-use crate::formats::{attributes_by, columns_by};
-use crate::names::{covered_names, names_at};
+use crate::lists::{covered_at, list_at};
 use crate::numbers::numbers_at;
 use crate::stated::boxed;
 use crate::structures::structure_by;
-use calculus::{Boxed, Chars, List, Name, Statement};
+use calculus::{Boxed, Chars, List, Name, OutOfMemory, Statement};
 use memory::both;
 use quel_grammar::{Fixed, Token};
 use quel_terms::{Halt, Read, after, name_at, seen_name};
@@ -35,9 +34,13 @@ pub fn range_at<'a>(alloc: Global, tokens: &'a [Token]) -> Read<'a, Boxed<Statem
     let rest = after(Fixed::Of, tokens)?;
     let (var, rest) = seen_name(rest)?;
     let rest = after(Fixed::Is, rest)?;
-    let (rel, rest) = seen_name(rest)?;
-    let (var, rel) = both(var.copy(alloc), rel.copy(alloc))?;
-    boxed(alloc, Statement::Range { var, rel }, rest)
+    match seen_name(rest) {
+        Ok((rel, rest)) => match both(var.copy(alloc), rel.copy(alloc)) {
+            Ok((var, rel)) => boxed(alloc, Statement::Range { var, rel }, rest),
+            Err(OutOfMemory) => Err(Halt::Memory),
+        },
+        Err(halt) => Err(halt),
+    }
 }
 
 /// `create`, behind its first word.
@@ -45,10 +48,16 @@ pub fn range_at<'a>(alloc: Global, tokens: &'a [Token]) -> Read<'a, Boxed<Statem
 pub fn create_by<'a>(alloc: Global, most: u16, tokens: &'a [Token]) -> Read<'a, Boxed<Statement>>
     ensures { Gives (λ x. (x.0, x.1.now)) result (create_by most tokens.now) }
 {
-    let (rel, rest) = name_at(alloc, tokens)?;
-    let (attrs, rest) = attributes_by(alloc, most, rest)?;
-    let attrs = List::of(attrs);
-    boxed(alloc, Statement::Create { rel, attrs }, rest)
+    match name_at(alloc, tokens) {
+        Ok((rel, rest)) => match covered_at(alloc, most, rest) {
+            Ok((attrs, rest)) => {
+                let attrs = List::of(attrs);
+                boxed(alloc, Statement::Create { rel, attrs }, rest)
+            }
+            Err(halt) => Err(halt),
+        },
+        Err(halt) => Err(halt),
+    }
 }
 
 /// `destroy`, of relations.
@@ -56,9 +65,13 @@ pub fn create_by<'a>(alloc: Global, most: u16, tokens: &'a [Token]) -> Read<'a, 
 fn destroy_names<'a>(alloc: Global, most: u16, tokens: &'a [Token]) -> Read<'a, Boxed<Statement>>
     ensures { Gives (λ x. (x.0, x.1.now)) result (destroy_names most tokens.now) }
 {
-    let (names, rest) = names_at(alloc, most, tokens)?;
-    let rels = List::of(names);
-    boxed(alloc, Statement::Destroy { rels }, rest)
+    match list_at(alloc, most, tokens) {
+        Ok((names, rest)) => {
+            let rels = List::of(names);
+            boxed(alloc, Statement::Destroy { rels }, rest)
+        }
+        Err(halt) => Err(halt),
+    }
 }
 
 /// `permit` or `integrity` behind `destroy`, where one stands there.
@@ -95,10 +108,16 @@ fn drop_by<'a>(
 ) -> Read<'a, Boxed<Statement>>
     ensures { Gives (λ x. (x.0, x.1.now)) result (drop_by most (dropped_of dropped) tokens.now) }
 {
-    let (rel, rest) = name_at(alloc, tokens)?;
-    let (numbers, rest) = numbers_at(alloc, most, rest)?;
-    let statement = dropped_of(dropped, rel, List::of(numbers));
-    boxed(alloc, statement, rest)
+    match name_at(alloc, tokens) {
+        Ok((rel, rest)) => match numbers_at(alloc, most, rest) {
+            Ok((numbers, rest)) => {
+                let statement = dropped_of(dropped, rel, List::of(numbers));
+                boxed(alloc, statement, rest)
+            }
+            Err(halt) => Err(halt),
+        },
+        Err(halt) => Err(halt),
+    }
 }
 
 /// `destroy`, behind its first word.
@@ -117,15 +136,23 @@ pub fn destroy_by<'a>(alloc: Global, most: u16, tokens: &'a [Token]) -> Read<'a,
 pub fn modify_by<'a>(alloc: Global, most: u16, tokens: &'a [Token]) -> Read<'a, Boxed<Statement>>
     ensures { Gives (λ x. (x.0, x.1.now)) result (modify_by most tokens.now) }
 {
-    let (rel, rest) = name_at(alloc, tokens)?;
-    let rest = after(Fixed::To, rest)?;
-    let ((to, keys), rest) = structure_by(alloc, most, rest)?;
-    let keys = List::of(keys);
-    boxed(alloc, Statement::Modify { rel, to, keys }, rest)
+    match name_at(alloc, tokens) {
+        Ok((rel, rest)) => match after(Fixed::To, rest) {
+            Ok(rest) => match structure_by(alloc, most, rest) {
+                Ok(((to, keys), rest)) => {
+                    let keys = List::of(keys);
+                    boxed(alloc, Statement::Modify { rel, to, keys }, rest)
+                }
+                Err(halt) => Err(halt),
+            },
+            Err(halt) => Err(halt),
+        },
+        Err(halt) => Err(halt),
+    }
 }
 
 /// `index`, behind its first word.
-#[tactic(auto, unfolding(quel_grammar::specs::StatementReaders::index_by))]
+#[tactic(auto, unfolding(quel_grammar::specs::StatementReaders::index_by, quel_grammar::specs::PartReaders::in_parens))]
 pub fn index_by<'a>(alloc: Global, most: u16, tokens: &'a [Token]) -> Read<'a, Boxed<Statement>>
     ensures { Gives (λ x. (x.0, x.1.now)) result (index_by most tokens.now) }
 {
@@ -133,11 +160,16 @@ pub fn index_by<'a>(alloc: Global, most: u16, tokens: &'a [Token]) -> Read<'a, B
     let (base, rest) = seen_name(rest)?;
     let rest = after(Fixed::Is, rest)?;
     let (name, rest) = seen_name(rest)?;
-    let rest = after(Fixed::Open, rest)?;
-    let (base, name) = both(base.copy(alloc), name.copy(alloc))?;
-    let (keys, rest) = covered_names(alloc, most, rest)?;
-    let keys = List::of(keys);
-    boxed(alloc, Statement::Index { base, name, keys }, rest)
+    match covered_at(alloc, most, rest) {
+        Ok((keys, rest)) => match both(base.copy(alloc), name.copy(alloc)) {
+            Ok((base, name)) => {
+                let keys = List::of(keys);
+                boxed(alloc, Statement::Index { base, name, keys }, rest)
+            }
+            Err(OutOfMemory) => Err(Halt::Memory),
+        },
+        Err(halt) => Err(halt),
+    }
 }
 
 /// `print`, behind its first word.
@@ -145,9 +177,13 @@ pub fn index_by<'a>(alloc: Global, most: u16, tokens: &'a [Token]) -> Read<'a, B
 pub fn print_by<'a>(alloc: Global, most: u16, tokens: &'a [Token]) -> Read<'a, Boxed<Statement>>
     ensures { Gives (λ x. (x.0, x.1.now)) result (print_by most tokens.now) }
 {
-    let (names, rest) = names_at(alloc, most, tokens)?;
-    let rels = List::of(names);
-    boxed(alloc, Statement::Print { rels }, rest)
+    match list_at(alloc, most, tokens) {
+        Ok((names, rest)) => {
+            let rels = List::of(names);
+            boxed(alloc, Statement::Print { rels }, rest)
+        }
+        Err(halt) => Err(halt),
+    }
 }
 
 /// `help`, behind its first word.
@@ -156,10 +192,10 @@ pub fn help_at<'a>(alloc: Global, tokens: &'a [Token]) -> Read<'a, Boxed<Stateme
     ensures { Gives (λ x. (x.0, x.1.now)) result (help_at tokens.now) }
 {
     match tokens {
-        [Token::Name(name), rest @ ..] => {
-            let rel = Some(name.copy(alloc)?);
-            boxed(alloc, Statement::Help { rel }, rest)
-        }
+        [Token::Name(name), rest @ ..] => match name.copy(alloc) {
+            Ok(name) => boxed(alloc, Statement::Help { rel: Some(name) }, rest),
+            Err(OutOfMemory) => Err(Halt::Memory),
+        },
         _ => boxed(alloc, Statement::Help { rel: None }, tokens),
     }
 }
@@ -191,16 +227,24 @@ pub fn copy_by<'a>(alloc: Global, most: u16, tokens: &'a [Token]) -> Read<'a, Bo
     ensures { Gives (λ x. (x.0, x.1.now)) result (copy_by most tokens.now) }
 {
     let (rel, rest) = seen_name(tokens)?;
-    let (columns, rest) = columns_by(alloc, most, rest)?;
-    let (from, rest) = way_at(rest)?;
-    let (file, rest) = seen_file(rest)?;
-    let names = both(rel.copy(alloc), file.copy(alloc));
-    let ((rel, file), columns) = both(names, Ok(List::of(columns)))?;
-    let statement = Statement::Copy {
-        rel,
-        columns,
-        from,
-        file,
-    };
-    boxed(alloc, statement, rest)
+    let (columns, rest) = covered_at(alloc, most, rest)?;
+    match way_at(rest) {
+        Ok((from, rest)) => match seen_file(rest) {
+            Ok((file, rest)) => match both(rel.copy(alloc), file.copy(alloc)) {
+                Ok((rel, file)) => {
+                    let columns = List::of(columns);
+                    let statement = Statement::Copy {
+                        rel,
+                        columns,
+                        from,
+                        file,
+                    };
+                    boxed(alloc, statement, rest)
+                }
+                Err(OutOfMemory) => Err(Halt::Memory),
+            },
+            Err(halt) => Err(halt),
+        },
+        Err(halt) => Err(halt),
+    }
 }

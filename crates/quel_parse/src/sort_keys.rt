@@ -1,14 +1,14 @@
 //! The keys by which a result is sorted.
 
-ghost use Rattle.std.specs.Prelude.{◌≡◌, []};
-ghost use Rattle.quel_grammar.specs.PartReaders.{list_by, directions, direction_at, key_at, keys_by, sort_by};
+ghost use Rattle.std.specs.Prelude.{◌≡◌};
+ghost use Rattle.quel_grammar.specs.PartReaders.{directions, direction_at, keys_by, sort_by};
 ghost use Rattle.quel_grammar.specs.Reading.{expect, on_name, look_up};
 ghost use Rattle.quel_terms.specs.View.{Gives};
 
-use crate::lists::one_less;
+use crate::lists::{Listed, list_at};
 use calculus::Name;
 use quel_grammar::{Fixed, Token};
-use quel_terms::{Halt, Read, after, found, look_up, name_at};
+use quel_terms::{Halt, Read, found, look_up, name_at};
 use std::alloc::Global;
 
 /// The words of direction, and whether they say that it descends.
@@ -51,35 +51,20 @@ fn direction_at(tokens: &[Token]) -> Read<'_, bool>
     }
 }
 
-/// A sort key.
-#[tactic(auto, unfolding(quel_grammar::specs::PartReaders::key_at))]
-fn key_at<'a>(alloc: Global, tokens: &'a [Token]) -> Read<'a, (Name, bool)>
-    ensures { Gives (λ x. (x.0, x.1.now)) result (key_at tokens.now) }
-{
-    let (name, rest) = name_at(alloc, tokens)?;
-    let (down, rest) = direction_at(rest)?;
-    Ok(((name, down), rest))
-}
+impl Listed for (Name, bool) {
+    ghost use Rattle.quel_grammar.specs.PartReaders.{key_at};
 
-/// Sort keys with commas between them, put behind others; at most so many. Gives the tokens behind
-/// them.
-#[tactic(auto, unfolding(quel_grammar::specs::PartReaders::list_by))]
-fn keys_from<'a>(
-    alloc: Global,
-    most: u16,
-    keys: &mut Vec<(Name, bool)>,
-    tokens: &'a [Token],
-) -> Result<&'a [Token], Halt<'a>>
-    ensures { Gives (λ rest. (keys.new.items, rest.now)) result (list_by key_at most keys.old.items tokens.now) }
-{
-    let Some(less) = one_less(most) else {
-        return Err(Halt::Stop(tokens));
-    };
-    let (key, rest) = key_at(alloc, tokens)?;
-    keys.push(key)?;
-    match found(Fixed::Comma, rest) {
-        Some(rest) => keys_from(alloc, less, keys, rest),
-        None => Ok(rest),
+    ghost reader = { λ _. key_at };
+
+    #[tactic(auto, unfolding(quel_grammar::specs::PartReaders::key_at))]
+    fn read<'a>(alloc: Global, _depth: u16, tokens: &'a [Token]) -> Read<'a, (Name, bool)> {
+        match name_at(alloc, tokens) {
+            Ok((name, rest)) => match direction_at(rest) {
+                Ok((down, rest)) => Ok(((name, down), rest)),
+                Err(halt) => Err(halt),
+            },
+            Err(halt) => Err(halt),
+        }
     }
 }
 
@@ -88,10 +73,10 @@ fn keys_from<'a>(
 fn keys_by<'a>(alloc: Global, most: u16, tokens: &'a [Token]) -> Read<'a, Vec<(Name, bool)>>
     ensures { Gives (λ x. (x.0.items, x.1.now)) result (keys_by most tokens.now) }
 {
-    let rest = after(Fixed::By, tokens)?;
-    let mut keys = Vec::new(alloc);
-    let rest = keys_from(alloc, most, &mut keys, rest)?;
-    Ok((keys, rest))
+    match found(Fixed::By, tokens) {
+        Some(rest) => list_at(alloc, most, rest),
+        None => Err(Halt::Stop(tokens)),
+    }
 }
 
 /// `sort by` and keys, or nothing.

@@ -3,9 +3,9 @@
 ghost use Rattle.std.specs.Prelude.{Ok};
 ghost use Rattle.quel_terms.specs.View.{Gives};
 
-use calculus::{Boxed, Statement};
+use calculus::{Boxed, OutOfMemory, Statement};
 use quel_grammar::Token;
-use quel_terms::Read;
+use quel_terms::{Halt, Read};
 use std::alloc::Global;
 
 /// A statement that was read, and the tokens behind it.
@@ -16,5 +16,8 @@ pub fn boxed<'a>(
 ) -> Read<'a, Boxed<Statement>>
     ensures { Gives (λ x. (x.0, x.1.now)) result (Ok (statement, rest.now)) }
 {
-    Ok((Boxed::new(alloc, statement)?, rest))
+    match Boxed::new(alloc, statement) {
+        Ok(statement) => Ok((statement, rest)),
+        Err(OutOfMemory) => Err(Halt::Memory),
+    }
 }

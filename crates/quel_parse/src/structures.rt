@@ -43,9 +43,13 @@ fn keyed_at(tokens: &[Token]) -> Read<'_, Spec>
 fn keyed_by<'a>(alloc: Global, most: u16, tokens: &'a [Token]) -> Read<'a, (Spec, Vec<Name>)>
     ensures { Gives (λ x. ((x.0.0, x.0.1.items), x.1.now)) result (keyed_by most tokens.now) }
 {
-    let (structure, rest) = keyed_at(tokens)?;
-    let (keys, rest) = on_by(alloc, most, rest)?;
-    Ok(((structure, keys), rest))
+    match keyed_at(tokens) {
+        Ok((structure, rest)) => match on_by(alloc, most, rest) {
+            Ok((keys, rest)) => Ok(((structure, keys), rest)),
+            Err(halt) => Err(halt),
+        },
+        Err(halt) => Err(halt),
+    }
 }
 
 /// Whether the word is `heap`.

@@ -1,17 +1,17 @@
 //! Target lists, qualifications behind `where`, and where a result is kept.
 
 ghost use Rattle.std.specs.Prelude.{◌≡◌, Ok};
-ghost use Rattle.quel_grammar.specs.PartReaders.{list_by, maybe, all_target, dot_target, set_target, target_by, targets_by, where_by, name_into, plain_into, into_at};
+ghost use Rattle.quel_grammar.specs.PartReaders.{maybe, all_target, dot_target, set_target, where_by, name_into, plain_into, into_at};
 ghost use Rattle.calculus.specs.declared.statement.Item.TheVariants as items;
 ghost use Rattle.quel_grammar.specs.Reading.{first, choose, done, name_of};
 ghost use Rattle.quel_grammar.specs.TermReaders.{level};
 ghost use Rattle.quel_terms.specs.View.{Gives};
 
-use crate::lists::one_less;
-use calculus::{Boxed, Item, Name, Qual};
+use crate::lists::Listed;
+use calculus::{Boxed, Item, Name, OutOfMemory, Qual};
 use memory::both;
 use quel_grammar::{Fixed, Token};
-use quel_terms::{Halt, Read, after, found, name_at, qual_by, seen_name, term_by};
+use quel_terms::{Halt, Read, found, name_at, qual_by, seen_name, term_by};
 use std::alloc::Global;
 
 /// The tokens behind a reserved word that may stand there.
@@ -30,9 +30,13 @@ pub fn maybe(fixed: Fixed, tokens: &[Token]) -> &[Token]
 fn all_target<'a>(alloc: Global, var: &Name, tokens: &'a [Token]) -> Read<'a, Item>
     ensures { Gives (λ x. (x.0, x.1.now)) result (all_target var.now tokens.now) }
 {
-    let rest = after(Fixed::All, tokens)?;
-    let var = var.copy(alloc)?;
-    Ok((Item::All { var }, rest))
+    match found(Fixed::All, tokens) {
+        Some(rest) => match var.copy(alloc) {
+            Ok(var) => Ok((Item::All { var }, rest)),
+            Err(OutOfMemory) => Err(Halt::Memory),
+        },
+        None => Err(Halt::Stop(tokens)),
+    }
 }
 
 /// An attribute of a variable or all of them, behind the dot.
@@ -40,10 +44,10 @@ fn named_target<'a>(alloc: Global, var: &Name, tokens: &'a [Token]) -> Read<'a, 
     ensures { Gives (λ x. (x.0, x.1.now)) result (choose (all_target var.now) (λ a. done (items.Attr var.now a)) tokens.now (first name_of tokens.now)) }
 {
     match tokens {
-        [Token::Name(attr), rest @ ..] => {
-            let (var, attr) = both(var.copy(alloc), attr.copy(alloc))?;
-            Ok((Item::Attr { var, attr }, rest))
-        }
+        [Token::Name(attr), rest @ ..] => match both(var.copy(alloc), attr.copy(alloc)) {
+            Ok((var, attr)) => Ok((Item::Attr { var, attr }, rest)),
+            Err(OutOfMemory) => Err(Halt::Memory),
+        },
         _ => all_target(alloc, var, tokens),
     }
 }
@@ -53,8 +57,10 @@ fn named_target<'a>(alloc: Global, var: &Name, tokens: &'a [Token]) -> Read<'a, 
 fn dot_target<'a>(alloc: Global, var: &Name, tokens: &'a [Token]) -> Read<'a, Item>
     ensures { Gives (λ x. (x.0, x.1.now)) result (dot_target var.now tokens.now) }
 {
-    let rest = after(Fixed::Dot, tokens)?;
-    named_target(alloc, var, rest)
+    match found(Fixed::Dot, tokens) {
+        Some(rest) => named_target(alloc, var, rest),
+        None => Err(Halt::Stop(tokens)),
+    }
 }
 
 /// The term of a title, behind the `=`.
@@ -62,57 +68,34 @@ fn dot_target<'a>(alloc: Global, var: &Name, tokens: &'a [Token]) -> Read<'a, It
 fn set_target<'a>(alloc: Global, depth: u16, name: &Name, tokens: &'a [Token]) -> Read<'a, Item>
     ensures { Gives (λ x. (x.0, x.1.now)) result (set_target (level depth) name.now tokens.now) }
 {
-    let name = name.copy(alloc)?;
-    let (term, rest) = term_by(alloc, depth, tokens)?;
-    let term = term.into_inner();
-    Ok((Item::Set { name, term }, rest))
-}
-
-/// A target.
-#[tactic(auto, unfolding(quel_grammar::specs::PartReaders::target_by))]
-fn target_by<'a>(alloc: Global, depth: u16, tokens: &'a [Token]) -> Read<'a, Item>
-    ensures { Gives (λ x. (x.0, x.1.now)) result (target_by (level depth) tokens.now) }
-{
-    let (name, rest) = seen_name(tokens)?;
-    match found(Fixed::Equal, rest) {
-        Some(rest) => set_target(alloc, depth, name, rest),
-        None => dot_target(alloc, name, rest),
+    match term_by(alloc, depth, tokens) {
+        Ok((term, rest)) => match name.copy(alloc) {
+            Ok(name) => {
+                let term = term.into_inner();
+                Ok((Item::Set { name, term }, rest))
+            }
+            Err(OutOfMemory) => Err(Halt::Memory),
+        },
+        Err(halt) => Err(halt),
     }
 }
 
-/// Targets with commas between them, put behind others; at most so many. Gives the tokens behind
-/// them.
-#[tactic(auto, unfolding(quel_grammar::specs::PartReaders::list_by))]
-fn targets_from<'a>(
-    alloc: Global,
-    depth: u16,
-    most: u16,
-    items: &mut Vec<Item>,
-    tokens: &'a [Token],
-) -> Result<&'a [Token], Halt<'a>>
-    ensures { Gives (λ rest. (items.new.items, rest.now)) result (list_by (target_by (level depth)) most items.old.items tokens.now) }
-{
-    let Some(less) = one_less(most) else {
-        return Err(Halt::Stop(tokens));
-    };
-    let (item, rest) = target_by(alloc, depth, tokens)?;
-    items.push(item)?;
-    match found(Fixed::Comma, rest) {
-        Some(rest) => targets_from(alloc, depth, less, items, rest),
-        None => Ok(rest),
-    }
-}
+impl Listed for Item {
+    ghost use Rattle.quel_grammar.specs.PartReaders.{target_by};
+    ghost use Rattle.quel_grammar.specs.TermReaders.{level};
 
-/// Targets in parentheses.
-#[tactic(auto, unfolding(quel_grammar::specs::PartReaders::in_parens, quel_grammar::specs::PartReaders::closed))]
-pub fn targets_by<'a>(alloc: Global, depth: u16, tokens: &'a [Token]) -> Read<'a, Vec<Item>>
-    ensures { Gives (λ x. (x.0.items, x.1.now)) result (targets_by depth (level depth) tokens.now) }
-{
-    let rest = after(Fixed::Open, tokens)?;
-    let mut items = Vec::new(alloc);
-    let rest = targets_from(alloc, depth, depth, &mut items, rest)?;
-    let rest = after(Fixed::Close, rest)?;
-    Ok((items, rest))
+    ghost reader = { λ depth. target_by (level depth) };
+
+    #[tactic(auto, unfolding(quel_grammar::specs::PartReaders::target_by))]
+    fn read<'a>(alloc: Global, depth: u16, tokens: &'a [Token]) -> Read<'a, Item> {
+        match seen_name(tokens) {
+            Ok((name, rest)) => match found(Fixed::Equal, rest) {
+                Some(rest) => set_target(alloc, depth, name, rest),
+                None => dot_target(alloc, name, rest),
+            },
+            Err(halt) => Err(halt),
+        }
+    }
 }
 
 /// `where` and a qualification, or nothing.
@@ -122,7 +105,10 @@ pub fn where_by<'a>(alloc: Global, depth: u16, tokens: &'a [Token]) -> Read<'a, 
 {
     match found(Fixed::Where, tokens) {
         Some(rest) => qual_by(alloc, depth, rest),
-        None => Ok((Boxed::new(alloc, Qual::True)?, tokens)),
+        None => match Boxed::new(alloc, Qual::True) {
+            Ok(qual) => Ok((qual, tokens)),
+            Err(OutOfMemory) => Err(Halt::Memory),
+        },
     }
 }
 
@@ -131,8 +117,10 @@ pub fn where_by<'a>(alloc: Global, depth: u16, tokens: &'a [Token]) -> Read<'a, 
 fn name_into<'a>(alloc: Global, tokens: &'a [Token]) -> Read<'a, Option<Name>>
     ensures { Gives (λ x. (x.0, x.1.now)) result (name_into tokens.now) }
 {
-    let (name, rest) = name_at(alloc, tokens)?;
-    Ok((Some(name), rest))
+    match name_at(alloc, tokens) {
+        Ok((name, rest)) => Ok((Some(name), rest)),
+        Err(halt) => Err(halt),
+    }
 }
 
 /// The relation that keeps a result, without `into`; or nothing.
@@ -141,7 +129,10 @@ fn plain_into<'a>(alloc: Global, tokens: &'a [Token]) -> Read<'a, Option<Name>>
     ensures { Gives (λ x. (x.0, x.1.now)) result (plain_into tokens.now) }
 {
     match tokens {
-        [Token::Name(name), rest @ ..] => Ok((Some(name.copy(alloc)?), rest)),
+        [Token::Name(name), rest @ ..] => match name.copy(alloc) {
+            Ok(name) => Ok((Some(name), rest)),
+            Err(OutOfMemory) => Err(Halt::Memory),
+        },
         _ => Ok((None, tokens)),
     }
 }

@@ -13,9 +13,9 @@ use crate::called::{Call, call_of};
 use crate::depth::below;
 use crate::halt::{Halt, Read, made};
 use crate::qualifications::{demanded, mixed_by};
-use crate::taking::{after, found, seen_name};
+use crate::taking::{found, seen_name};
 use crate::terms::{arith, term_by, terms_by};
-use calculus::{AggOp, AggTerm, ArithOp, Boxed, List, Name, Qual, Term};
+use calculus::{AggOp, AggTerm, ArithOp, Boxed, List, Name, OutOfMemory, Qual, Term};
 use memory::both;
 use quel_grammar::{Fixed, Token};
 use std::alloc::Global;
@@ -29,9 +29,13 @@ fn inside_by<'a>(alloc: Global, depth: u16, tokens: &'a [Token]) -> Read<'a, Box
     let Some(lower) = below(depth) else {
         return Err(Halt::Stop(tokens));
     };
-    let (term, rest) = term_by(alloc, lower, tokens)?;
-    let rest = after(Fixed::Close, rest)?;
-    Ok((term, rest))
+    match term_by(alloc, lower, tokens) {
+        Ok((term, rest)) => match found(Fixed::Close, rest) {
+            Some(rest) => Ok((term, rest)),
+            None => Err(Halt::Stop(rest)),
+        },
+        Err(halt) => Err(halt),
+    }
 }
 
 /// Two terms and the closing parenthesis, whatever is made of them.
@@ -47,10 +51,17 @@ fn two_by<'a>(
     let Some(lower) = below(depth) else {
         return Err(Halt::Stop(tokens));
     };
-    let (left, rest) = term_by(alloc, lower, tokens)?;
-    let rest = after(Fixed::Comma, rest)?;
-    let (right, rest) = inside_by(alloc, depth, rest)?;
-    Ok(((left, right), rest))
+    let (left, rest) = match term_by(alloc, lower, tokens) {
+        Ok(read) => read,
+        Err(halt) => return Err(halt),
+    };
+    match found(Fixed::Comma, rest) {
+        Some(rest) => match inside_by(alloc, depth, rest) {
+            Ok((right, rest)) => Ok(((left, right), rest)),
+            Err(halt) => Err(halt),
+        },
+        None => Err(Halt::Stop(rest)),
+    }
 }
 
 /// The terms of `by`.
@@ -59,16 +70,18 @@ fn two_by<'a>(
 fn by_by<'a>(alloc: Global, depth: u16, tokens: &'a [Token]) -> Read<'a, Vec<Term>>
     ensures { Gives (λ x. (x.0.items, x.1.now)) result (by_by (level depth) tokens.now) }
 {
-    let mut terms = Vec::new(alloc);
     match found(Fixed::By, tokens) {
         Some(rest) => {
             let Some(lower) = below(depth) else {
                 return Err(Halt::Stop(rest));
             };
-            let rest = terms_by(alloc, lower, &mut terms, rest)?;
-            Ok((terms, rest))
+            let mut terms = Vec::new(alloc);
+            match terms_by(alloc, lower, &mut terms, rest) {
+                Ok(rest) => Ok((terms, rest)),
+                Err(halt) => Err(halt),
+            }
         }
-        None => Ok((terms, tokens)),
+        None => Ok((Vec::new(alloc), tokens)),
     }
 }
 
@@ -83,8 +96,10 @@ fn inner_where_by<'a>(alloc: Global, depth: u16, tokens: &'a [Token]) -> Read<'a
             let Some(lower) = below(depth) else {
                 return Err(Halt::Stop(rest));
             };
-            let (mixed, rest) = mixed_by(alloc, lower, rest)?;
-            demanded(mixed, rest)
+            match mixed_by(alloc, lower, rest) {
+                Ok((mixed, rest)) => demanded(mixed, rest),
+                Err(halt) => Err(halt),
+            }
         }
         None => made(Boxed::new(alloc, Qual::True), tokens),
     }
@@ -107,8 +122,10 @@ fn aggregate<'a>(
         by: List::of(by),
         qual: qual.into_inner(),
     };
-    let aggregate = Boxed::new(alloc, aggregate)?;
-    made(Boxed::new(alloc, Term::Agg(aggregate)), rest)
+    match Boxed::new(alloc, aggregate) {
+        Ok(aggregate) => made(Boxed::new(alloc, Term::Agg(aggregate)), rest),
+        Err(OutOfMemory) => Err(Halt::Memory),
+    }
 }
 
 /// An aggregate, behind the open parenthesis.
@@ -125,11 +142,20 @@ fn aggregate_by<'a>(
     let Some(lower) = below(depth) else {
         return Err(Halt::Stop(tokens));
     };
-    let (arg, rest) = term_by(alloc, lower, tokens)?;
-    let (by, rest) = by_by(alloc, depth, rest)?;
-    let (qual, rest) = inner_where_by(alloc, depth, rest)?;
-    let rest = after(Fixed::Close, rest)?;
-    aggregate(alloc, op, arg, by, qual, rest)
+    let (arg, rest) = match term_by(alloc, lower, tokens) {
+        Ok(read) => read,
+        Err(halt) => return Err(halt),
+    };
+    match by_by(alloc, depth, rest) {
+        Ok((by, rest)) => match inner_where_by(alloc, depth, rest) {
+            Ok((qual, rest)) => match found(Fixed::Close, rest) {
+                Some(rest) => aggregate(alloc, op, arg, by, qual, rest),
+                None => Err(Halt::Stop(rest)),
+            },
+            Err(halt) => Err(halt),
+        },
+        Err(halt) => Err(halt),
+    }
 }
 
 /// What is called, behind the open parenthesis.
@@ -139,18 +165,20 @@ fn call_by<'a>(alloc: Global, depth: u16, call: Call, tokens: &'a [Token]) -> Re
     ensures { Gives (λ x. (x.0, x.1.now)) result (call_by (level depth) (call_of call) tokens.now) }
 {
     match call {
-        Call::Abs => {
-            let (term, rest) = inside_by(alloc, depth, tokens)?;
-            made(Boxed::new(alloc, Term::Abs(term)), rest)
-        }
-        Call::Mod => {
-            let ((left, right), rest) = two_by(alloc, depth, tokens)?;
-            arith(alloc, ArithOp::Mod, left, right, rest)
-        }
-        Call::Concat => {
-            let ((left, right), rest) = two_by(alloc, depth, tokens)?;
-            made(Boxed::new(alloc, Term::Concat { left, right }), rest)
-        }
+        Call::Abs => match inside_by(alloc, depth, tokens) {
+            Ok((term, rest)) => made(Boxed::new(alloc, Term::Abs(term)), rest),
+            Err(halt) => Err(halt),
+        },
+        Call::Mod => match two_by(alloc, depth, tokens) {
+            Ok(((left, right), rest)) => arith(alloc, ArithOp::Mod, left, right, rest),
+            Err(halt) => Err(halt),
+        },
+        Call::Concat => match two_by(alloc, depth, tokens) {
+            Ok(((left, right), rest)) => {
+                made(Boxed::new(alloc, Term::Concat { left, right }), rest)
+            }
+            Err(halt) => Err(halt),
+        },
         Call::Aggregate(op) => aggregate_by(alloc, depth, op, tokens),
     }
 }
@@ -160,9 +188,14 @@ fn call_by<'a>(alloc: Global, depth: u16, call: Call, tokens: &'a [Token]) -> Re
 fn attribute_of<'a>(alloc: Global, var: &Name, tokens: &'a [Token]) -> Read<'a, Boxed<Term>>
     ensures { Gives (λ x. (x.0, x.1.now)) result (attribute_of var.now tokens.now) }
 {
-    let (attr, rest) = seen_name(tokens)?;
-    let (var, attr) = both(var.copy(alloc), attr.copy(alloc))?;
-    made(Boxed::new(alloc, Term::Attr { var, attr }), rest)
+    let (attr, rest) = match seen_name(tokens) {
+        Ok(read) => read,
+        Err(halt) => return Err(halt),
+    };
+    match both(var.copy(alloc), attr.copy(alloc)) {
+        Ok((var, attr)) => made(Boxed::new(alloc, Term::Attr { var, attr }), rest),
+        Err(OutOfMemory) => Err(Halt::Memory),
+    }
 }
 
 /// An attribute, a function or an aggregate, behind its name.
@@ -180,10 +213,10 @@ fn named_by<'a>(
         return attribute_of(alloc, name, rest);
     }
     match call_of(name.bytes()) {
-        Some(call) => {
-            let rest = after(Fixed::Open, tokens)?;
-            call_by(alloc, depth, call, rest)
-        }
+        Some(call) => match found(Fixed::Open, tokens) {
+            Some(rest) => call_by(alloc, depth, call, rest),
+            None => Err(Halt::Stop(tokens)),
+        },
         None => Err(Halt::Stop(tokens)),
     }
 }
@@ -199,8 +232,10 @@ pub fn prim_by<'a>(alloc: Global, depth: u16, tokens: &'a [Token]) -> Read<'a, B
             made(Boxed::new(alloc, Term::Int(number.signed())), rest)
         }
         [Token::Text(text), rest @ ..] => {
-            let text = text.copy(alloc)?;
-            made(Boxed::new(alloc, Term::Chars(text)), rest)
+            match text.copy(alloc) {
+                Ok(text) => made(Boxed::new(alloc, Term::Chars(text)), rest),
+                Err(OutOfMemory) => Err(Halt::Memory),
+            }
         }
         [Token::Name(name), rest @ ..] => named_by(alloc, depth, name, rest),
         [Token::Fixed(Fixed::Open), rest @ ..] => inside_by(alloc, depth, rest),

@@ -11,9 +11,9 @@ ghost use Rattle.quel_terms.specs.View.{Gives};
 use crate::depth::below;
 use crate::halt::{Halt, Read};
 use crate::signs::comparison_at;
-use crate::taking::{after, found};
+use crate::taking::found;
 use crate::terms::{term_by, term_from};
-use calculus::{Boxed, Qual, Term};
+use calculus::{Boxed, OutOfMemory, Qual, Term};
 use quel_grammar::{Fixed, Token};
 use std::alloc::Global;
 
@@ -40,7 +40,10 @@ pub fn demanded(mixed: Mixed, tokens: &[Token]) -> Read<'_, Boxed<Qual>>
 fn whole<'a>(alloc: Global, qual: Qual, rest: &'a [Token]) -> Read<'a, Mixed>
     ensures { Gives (λ x. (mixed_of x.0, x.1.now)) result (Ok (Whole qual, rest.now)) }
 {
-    Ok((Mixed::Whole(Boxed::new(alloc, qual)?), rest))
+    match Boxed::new(alloc, qual) {
+        Ok(qual) => Ok((Mixed::Whole(qual), rest)),
+        Err(OutOfMemory) => Err(Halt::Memory),
+    }
 }
 
 /// A comparison whose left side is this term, or the bare term.
@@ -55,11 +58,13 @@ fn compare_by<'a>(
     ensures { Gives (λ x. (mixed_of x.0, x.1.now)) result (compare_by (level depth) left tokens.now) }
 {
     match comparison_at(tokens) {
-        Some((op, rest)) => {
-            let (right, rest) = term_by(alloc, depth, rest)?;
-            let (left, right) = (left.into_inner(), right.into_inner());
-            whole(alloc, Qual::Cmp { op, left, right }, rest)
-        }
+        Some((op, rest)) => match term_by(alloc, depth, rest) {
+            Ok((right, rest)) => {
+                let (left, right) = (left.into_inner(), right.into_inner());
+                whole(alloc, Qual::Cmp { op, left, right }, rest)
+            }
+            Err(halt) => Err(halt),
+        },
         None => Ok((Mixed::Bare(left), tokens)),
     }
 }
@@ -72,10 +77,10 @@ fn grouped_by<'a>(alloc: Global, depth: u16, group: Mixed, tokens: &'a [Token]) 
 {
     match group {
         Mixed::Whole(qual) => Ok((Mixed::Whole(qual), tokens)),
-        Mixed::Bare(first) => {
-            let (left, rest) = term_from(alloc, depth, first, tokens)?;
-            compare_by(alloc, depth, left, rest)
-        }
+        Mixed::Bare(first) => match term_from(alloc, depth, first, tokens) {
+            Ok((left, rest)) => compare_by(alloc, depth, left, rest),
+            Err(halt) => Err(halt),
+        },
     }
 }
 
@@ -88,9 +93,13 @@ fn mixed_group_by<'a>(alloc: Global, depth: u16, tokens: &'a [Token]) -> Read<'a
     let Some(lower) = below(depth) else {
         return Err(Halt::Stop(tokens));
     };
-    let (group, rest) = mixed_by(alloc, lower, tokens)?;
-    let rest = after(Fixed::Close, rest)?;
-    grouped_by(alloc, depth, group, rest)
+    match mixed_by(alloc, lower, tokens) {
+        Ok((group, rest)) => match found(Fixed::Close, rest) {
+            Some(rest) => grouped_by(alloc, depth, group, rest),
+            None => Err(Halt::Stop(rest)),
+        },
+        Err(halt) => Err(halt),
+    }
 }
 
 /// A side of `and`, or a bare term.
@@ -103,14 +112,18 @@ fn operand_by<'a>(alloc: Global, depth: u16, tokens: &'a [Token]) -> Read<'a, Mi
         let Some(lower) = below(depth) else {
             return Err(Halt::Stop(rest));
         };
-        let (qual, rest) = neg_by(alloc, lower, rest)?;
-        return whole(alloc, Qual::Not(qual), rest);
+        return match neg_by(alloc, lower, rest) {
+            Ok((qual, rest)) => whole(alloc, Qual::Not(qual), rest),
+            Err(halt) => Err(halt),
+        };
     }
     if let Some(rest) = found(Fixed::Open, tokens) {
         return mixed_group_by(alloc, depth, rest);
     }
-    let (left, rest) = term_by(alloc, depth, tokens)?;
-    compare_by(alloc, depth, left, rest)
+    match term_by(alloc, depth, tokens) {
+        Ok((left, rest)) => compare_by(alloc, depth, left, rest),
+        Err(halt) => Err(halt),
+    }
 }
 
 /// A side of `and`.
@@ -119,8 +132,10 @@ fn operand_by<'a>(alloc: Global, depth: u16, tokens: &'a [Token]) -> Read<'a, Mi
 fn neg_by<'a>(alloc: Global, depth: u16, tokens: &'a [Token]) -> Read<'a, Boxed<Qual>>
     ensures { Gives (λ x. (x.0, x.1.now)) result (neg_by (level depth) tokens.now) }
 {
-    let (mixed, rest) = operand_by(alloc, depth, tokens)?;
-    demanded(mixed, rest)
+    match operand_by(alloc, depth, tokens) {
+        Ok((mixed, rest)) => demanded(mixed, rest),
+        Err(halt) => Err(halt),
+    }
 }
 
 /// The rest of a conjunction, whose left part is this.
@@ -134,16 +149,18 @@ fn ands_by<'a>(
 ) -> Read<'a, Boxed<Qual>>
     ensures { Gives (λ x. (x.0, x.1.now)) result (ands_by (level depth) left tokens.now) }
 {
-    match found(Fixed::And, tokens) {
-        Some(rest) => {
-            let (right, rest) = neg_by(alloc, depth, rest)?;
-            let left = Boxed::new(alloc, Qual::And(left, right))?;
-            let Some(lower) = below(depth) else {
-                return Err(Halt::Stop(rest));
-            };
-            ands_by(alloc, lower, left, rest)
-        }
-        None => Ok((left, tokens)),
+    let Some(rest) = found(Fixed::And, tokens) else {
+        return Ok((left, tokens));
+    };
+    match neg_by(alloc, depth, rest) {
+        Ok((right, rest)) => match Boxed::new(alloc, Qual::And(left, right)) {
+            Ok(left) => match below(depth) {
+                Some(lower) => ands_by(alloc, lower, left, rest),
+                None => Err(Halt::Stop(rest)),
+            },
+            Err(OutOfMemory) => Err(Halt::Memory),
+        },
+        Err(halt) => Err(halt),
     }
 }
 
@@ -153,8 +170,10 @@ fn ands_by<'a>(
 fn conj_by<'a>(alloc: Global, depth: u16, tokens: &'a [Token]) -> Read<'a, Boxed<Qual>>
     ensures { Gives (λ x. (x.0, x.1.now)) result (conj_by (level depth) tokens.now) }
 {
-    let (left, rest) = neg_by(alloc, depth, tokens)?;
-    ands_by(alloc, depth, left, rest)
+    match neg_by(alloc, depth, tokens) {
+        Ok((left, rest)) => ands_by(alloc, depth, left, rest),
+        Err(halt) => Err(halt),
+    }
 }
 
 /// The rest of a disjunction, whose left part is this.
@@ -168,16 +187,18 @@ fn ors_by<'a>(
 ) -> Read<'a, Boxed<Qual>>
     ensures { Gives (λ x. (x.0, x.1.now)) result (ors_by (level depth) left tokens.now) }
 {
-    match found(Fixed::Or, tokens) {
-        Some(rest) => {
-            let (right, rest) = conj_by(alloc, depth, rest)?;
-            let left = Boxed::new(alloc, Qual::Or(left, right))?;
-            let Some(lower) = below(depth) else {
-                return Err(Halt::Stop(rest));
-            };
-            ors_by(alloc, lower, left, rest)
-        }
-        None => Ok((left, tokens)),
+    let Some(rest) = found(Fixed::Or, tokens) else {
+        return Ok((left, tokens));
+    };
+    match conj_by(alloc, depth, rest) {
+        Ok((right, rest)) => match Boxed::new(alloc, Qual::Or(left, right)) {
+            Ok(left) => match below(depth) {
+                Some(lower) => ors_by(alloc, lower, left, rest),
+                None => Err(Halt::Stop(rest)),
+            },
+            Err(OutOfMemory) => Err(Halt::Memory),
+        },
+        Err(halt) => Err(halt),
     }
 }
 
@@ -189,11 +210,13 @@ fn mixed_from<'a>(alloc: Global, depth: u16, first: Mixed, tokens: &'a [Token]) 
 {
     match first {
         Mixed::Bare(term) => Ok((Mixed::Bare(term), tokens)),
-        Mixed::Whole(left) => {
-            let (left, rest) = ands_by(alloc, depth, left, tokens)?;
-            let (qual, rest) = ors_by(alloc, depth, left, rest)?;
-            Ok((Mixed::Whole(qual), rest))
-        }
+        Mixed::Whole(left) => match ands_by(alloc, depth, left, tokens) {
+            Ok((left, rest)) => match ors_by(alloc, depth, left, rest) {
+                Ok((qual, rest)) => Ok((Mixed::Whole(qual), rest)),
+                Err(halt) => Err(halt),
+            },
+            Err(halt) => Err(halt),
+        },
     }
 }
 
@@ -203,8 +226,10 @@ fn mixed_from<'a>(alloc: Global, depth: u16, first: Mixed, tokens: &'a [Token]) 
 pub fn mixed_by<'a>(alloc: Global, depth: u16, tokens: &'a [Token]) -> Read<'a, Mixed>
     ensures { Gives (λ x. (mixed_of x.0, x.1.now)) result (mixed_by (level depth) tokens.now) }
 {
-    let (first, rest) = operand_by(alloc, depth, tokens)?;
-    mixed_from(alloc, depth, first, rest)
+    match operand_by(alloc, depth, tokens) {
+        Ok((first, rest)) => mixed_from(alloc, depth, first, rest),
+        Err(halt) => Err(halt),
+    }
 }
 
 /// A qualification.
@@ -212,6 +237,8 @@ pub fn mixed_by<'a>(alloc: Global, depth: u16, tokens: &'a [Token]) -> Read<'a, 
 pub fn qual_by<'a>(alloc: Global, depth: u16, tokens: &'a [Token]) -> Read<'a, Boxed<Qual>>
     ensures { Gives (λ x. (x.0, x.1.now)) result (qual_by (level depth) tokens.now) }
 {
-    let (mixed, rest) = mixed_by(alloc, depth, tokens)?;
-    demanded(mixed, rest)
+    match mixed_by(alloc, depth, tokens) {
+        Ok((mixed, rest)) => demanded(mixed, rest),
+        Err(halt) => Err(halt),
+    }
 }

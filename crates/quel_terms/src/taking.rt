@@ -5,7 +5,7 @@ ghost use Rattle.quel_grammar.specs.Reading.{first, is_fixed, after, name_at};
 ghost use Rattle.quel_terms.specs.View.{Gives};
 
 use crate::halt::{Halt, Read};
-use calculus::Name;
+use calculus::{Name, OutOfMemory};
 use quel_grammar::{Fixed, Token};
 use std::alloc::Global;
 
@@ -44,7 +44,10 @@ pub fn name_at<'a>(alloc: Global, tokens: &'a [Token]) -> Read<'a, Name>
     ensures { Gives (λ x. (x.0, x.1.now)) result (name_at tokens.now) }
 {
     match tokens {
-        [Token::Name(name), rest @ ..] => Ok((name.copy(alloc)?, rest)),
+        [Token::Name(name), rest @ ..] => match name.copy(alloc) {
+            Ok(name) => Ok((name, rest)),
+            Err(OutOfMemory) => Err(Halt::Memory),
+        },
         _ => Err(Halt::Stop(tokens)),
     }
 }

@@ -55,8 +55,10 @@ fn unary_by<'a>(alloc: Global, depth: u16, tokens: &'a [Token]) -> Read<'a, Boxe
             let Some(lower) = below(depth) else {
                 return Err(Halt::Stop(rest));
             };
-            let (term, rest) = unary_by(alloc, lower, rest)?;
-            signed(alloc, negative, term, rest)
+            match unary_by(alloc, lower, rest) {
+                Ok((term, rest)) => signed(alloc, negative, term, rest),
+                Err(halt) => Err(halt),
+            }
         }
         None => prim_by(alloc, depth, tokens),
     }
@@ -78,8 +80,10 @@ fn power_by<'a>(
             let Some(lower) = below(depth) else {
                 return Err(Halt::Stop(rest));
             };
-            let (power, rest) = pow_by(alloc, lower, rest)?;
-            arith(alloc, ArithOp::Pow, base, power, rest)
+            match pow_by(alloc, lower, rest) {
+                Ok((power, rest)) => arith(alloc, ArithOp::Pow, base, power, rest),
+                Err(halt) => Err(halt),
+            }
         }
         None => Ok((base, tokens)),
     }
@@ -91,8 +95,10 @@ fn power_by<'a>(
 fn pow_by<'a>(alloc: Global, depth: u16, tokens: &'a [Token]) -> Read<'a, Boxed<Term>>
     ensures { Gives (λ x. (x.0, x.1.now)) result (pow_by (level depth) tokens.now) }
 {
-    let (base, rest) = unary_by(alloc, depth, tokens)?;
-    power_by(alloc, depth, base, rest)
+    match unary_by(alloc, depth, tokens) {
+        Ok((base, rest)) => power_by(alloc, depth, base, rest),
+        Err(halt) => Err(halt),
+    }
 }
 
 /// The rest of a product, whose left part is this term.
@@ -106,16 +112,18 @@ fn products_by<'a>(
 ) -> Read<'a, Boxed<Term>>
     ensures { Gives (λ x. (x.0, x.1.now)) result (products_by (level depth) left tokens.now) }
 {
-    match product_sign_at(tokens) {
-        Some((op, rest)) => {
-            let (right, rest) = pow_by(alloc, depth, rest)?;
-            let (left, rest) = arith(alloc, op, left, right, rest)?;
-            let Some(lower) = below(depth) else {
-                return Err(Halt::Stop(rest));
-            };
-            products_by(alloc, lower, left, rest)
-        }
-        None => Ok((left, tokens)),
+    let Some((op, rest)) = product_sign_at(tokens) else {
+        return Ok((left, tokens));
+    };
+    match pow_by(alloc, depth, rest) {
+        Ok((right, rest)) => match arith(alloc, op, left, right, rest) {
+            Ok((left, rest)) => match below(depth) {
+                Some(lower) => products_by(alloc, lower, left, rest),
+                None => Err(Halt::Stop(rest)),
+            },
+            Err(halt) => Err(halt),
+        },
+        Err(halt) => Err(halt),
     }
 }
 
@@ -125,8 +133,10 @@ fn products_by<'a>(
 fn prod_by<'a>(alloc: Global, depth: u16, tokens: &'a [Token]) -> Read<'a, Boxed<Term>>
     ensures { Gives (λ x. (x.0, x.1.now)) result (prod_by (level depth) tokens.now) }
 {
-    let (left, rest) = pow_by(alloc, depth, tokens)?;
-    products_by(alloc, depth, left, rest)
+    match pow_by(alloc, depth, tokens) {
+        Ok((left, rest)) => products_by(alloc, depth, left, rest),
+        Err(halt) => Err(halt),
+    }
 }
 
 /// The rest of a sum, whose left part is this term.
@@ -140,16 +150,18 @@ fn sums_by<'a>(
 ) -> Read<'a, Boxed<Term>>
     ensures { Gives (λ x. (x.0, x.1.now)) result (sums_by (level depth) left tokens.now) }
 {
-    match sum_sign_at(tokens) {
-        Some((op, rest)) => {
-            let (right, rest) = prod_by(alloc, depth, rest)?;
-            let (left, rest) = arith(alloc, op, left, right, rest)?;
-            let Some(lower) = below(depth) else {
-                return Err(Halt::Stop(rest));
-            };
-            sums_by(alloc, lower, left, rest)
-        }
-        None => Ok((left, tokens)),
+    let Some((op, rest)) = sum_sign_at(tokens) else {
+        return Ok((left, tokens));
+    };
+    match prod_by(alloc, depth, rest) {
+        Ok((right, rest)) => match arith(alloc, op, left, right, rest) {
+            Ok((left, rest)) => match below(depth) {
+                Some(lower) => sums_by(alloc, lower, left, rest),
+                None => Err(Halt::Stop(rest)),
+            },
+            Err(halt) => Err(halt),
+        },
+        Err(halt) => Err(halt),
     }
 }
 
@@ -159,8 +171,10 @@ fn sums_by<'a>(
 pub fn term_by<'a>(alloc: Global, depth: u16, tokens: &'a [Token]) -> Read<'a, Boxed<Term>>
     ensures { Gives (λ x. (x.0, x.1.now)) result (term_by (level depth) tokens.now) }
 {
-    let (left, rest) = prod_by(alloc, depth, tokens)?;
-    sums_by(alloc, depth, left, rest)
+    match prod_by(alloc, depth, tokens) {
+        Ok((left, rest)) => sums_by(alloc, depth, left, rest),
+        Err(halt) => Err(halt),
+    }
 }
 
 /// Terms with commas between them, put behind others; gives the tokens behind them.
@@ -174,7 +188,10 @@ pub fn terms_by<'a>(
 ) -> Result<&'a [Token], Halt<'a>>
     ensures { Gives (λ rest. (terms.new.items, rest.now)) result (terms_by (level depth) terms.old.items tokens.now) }
 {
-    let (term, rest) = term_by(alloc, depth, tokens)?;
+    let (term, rest) = match term_by(alloc, depth, tokens) {
+        Ok(read) => read,
+        Err(halt) => return Err(halt),
+    };
     terms.push(term.into_inner())?;
     match found(Fixed::Comma, rest) {
         Some(rest) => {
@@ -198,7 +215,11 @@ pub fn term_from<'a>(
 ) -> Read<'a, Boxed<Term>>
     ensures { Gives (λ x. (x.0, x.1.now)) result (term_from (level depth) first tokens.now) }
 {
-    let (base, rest) = power_by(alloc, depth, first, tokens)?;
-    let (left, rest) = products_by(alloc, depth, base, rest)?;
-    sums_by(alloc, depth, left, rest)
+    match power_by(alloc, depth, first, tokens) {
+        Ok((base, rest)) => match products_by(alloc, depth, base, rest) {
+            Ok((left, rest)) => sums_by(alloc, depth, left, rest),
+            Err(halt) => Err(halt),
+        },
+        Err(halt) => Err(halt),
+    }
 }

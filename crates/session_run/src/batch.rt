@@ -57,10 +57,7 @@ fn push_syntax(out: &mut Vec<u8>, fault: ParseFault) -> Result<(), OutOfMemory>
     ensures { OnOk result (Refuses fault out.old.items out.new.items) }
 {
     match fault {
-        ParseFault::Syntax { line, .. } => {
-            push_refused(out, SYNTAX, line)?;
-            Ok(())
-        }
+        ParseFault::Syntax { line, .. } => push_refused(out, SYNTAX, line),
         ParseFault::OutOfMemory => Err(OutOfMemory),
     }
 }

@@ -15,6 +15,7 @@ ghost use Rattle.session_run.specs.Runs.{AreSame};
 use crate::front::LineFront;
 use crate::running::RunFault;
 use crate::{Session, Statements};
+use calculus::OutOfMemory;
 use fault_io::{Sink, write_all};
 use std::alloc::Global;
 use std::marker::Model;
@@ -95,9 +96,13 @@ fn print_line<S: Statements, K: Sink>(
     ensures sink_same { (IsErrOf result RunFault.Sink → ⊥) → AreSame (K.faults sink.old) (K.faults sink.new) (K.stalls sink.old) (K.stalls sink.new) }
 {
     let mut out = Vec::new(alloc);
-    session.line(alloc, line, &mut out)?;
-    write_all(sink, &out)?;
-    Ok(())
+    match session.line(alloc, line, &mut out) {
+        Ok(()) => match write_all(sink, &out) {
+            Ok(()) => Ok(()),
+            Err(_) => Err(RunFault::Sink),
+        },
+        Err(OutOfMemory) => Err(RunFault::OutOfMemory),
+    }
 }
 
 /// Hears a newline: the line is whole.
