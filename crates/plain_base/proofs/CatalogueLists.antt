@@ -1,5 +1,6 @@
 -- The rows of the catalogues, built list by list.
-use Rattle.std.proofs.Common.{◌≡◌, refl, sym, ap, ◌∙◌, ℕ, zero, suc, ◌+◌, ◌<◌, List, [], ◌∷◌, ◌++◌, length, take, map, slice_index_or, append_assoc, rules, arith}
+use Rattle.std.proofs.Common.{◌≡◌, refl, sym, ap, ◌∙◌, ℕ, zero, suc, ◌+◌, ◌<◌, List, [], ◌∷◌, ◌++◌, length, take, map, get_or, slice_index_or, append_assoc, rules, arith}
+use Rattle.std.proofs.lemmas.List.{flat_map_more, map-append, map_more}
 use Rattle.std.proofs.lemmas.Grind.{flat_map-append}
 use Rattle.std.specs.List.{enumerate_from, flat_map}
 use Rattle.calculus.specs.declared.schema.RelInfo.{RelInfo}
@@ -43,3 +44,18 @@ lists_joined f db catalogues relations views indexes c r v x =
 pub one_each : {X Y : Type 0} (f : X → Y) (xs : List X) → flat_map (λ x. f x ∷ []) xs ≡ map f xs
 one_each f [] = refl
 one_each f (x ∷ xs) = ap (λ ys. f x ∷ ys) (one_each f xs)
+
+-- the parts for one more, behind those for the ones before
+pub parts_next : {T X Y : Type 0} (f : X → List Y) (g : T → X) (ts : List T) (i : ℕ) (t : T) (given before after : List Y) → i < length ts → t ≡ get_or ts i t
+    → before ≡ given ++ flat_map f (map g (take i ts)) → after ≡ before ++ f (g t) → after ≡ given ++ flat_map f (map g (take (i + 1) ts))
+parts_next f g ts i t given before after h is so_far more =
+    more ∙ ap (λ ys. ys ++ f (g t)) so_far ∙ flat_map_more f given (map g (take i ts)) (g t)
+    ∙ ap (λ xs. given ++ flat_map f xs) (ap (λ u. map g (take i ts) ++ g u ∷ []) is ∙ sym (map_more g ts i t h))
+
+-- the item for one more, behind those for the ones before
+pub item_next : {T X Y : Type 0} (f : X → Y) (g : T → X) (ts : List T) (i : ℕ) (t : T) (given before after : List Y) → i < length ts → t ≡ get_or ts i t
+    → before ≡ given ++ map f (map g (take i ts)) → after ≡ before ++ f (g t) ∷ [] → after ≡ given ++ map f (map g (take (i + 1) ts))
+item_next f g ts i t given before after h is so_far more =
+    more ∙ ap (λ ys. ys ++ f (g t) ∷ []) so_far ∙ append_assoc given (map f (map g (take i ts))) (f (g t) ∷ [])
+    ∙ ap (λ ys. given ++ ys)
+    (sym (map-append f (map g (take i ts)) (g t ∷ [])) ∙ ap (map f) (ap (λ u. map g (take i ts) ++ g u ∷ []) is ∙ sym (map_more g ts i t h)))

@@ -1,6 +1,6 @@
 //! What is known of the two catalogues, and the values that their rows are made of.
 
-ghost use Rattle.std.specs.Prelude.{◌≡◌, IsTrue, All, IfOk, map};
+ghost use Rattle.std.specs.Prelude.{◌≡◌, IsTrue, All, IfOk, OnOk, [], ◌∷◌, ◌++◌, map};
 ghost use Rattle.calculus.specs.Catalogue.{attribute, relation_attrs, attribute_attrs};
 ghost use Rattle.calculus.specs.Keys.{key_of, same_key};
 ghost use Rattle.calculus.specs.Name.{is_name};
@@ -38,15 +38,35 @@ pub(crate) fn key_of(alloc: Global, owner: &Name, name: &[u8]) -> Result<RelKey,
     Ok(RelKey { owner, name })
 }
 
-fn attribute(alloc: Global, name: &[u8], domain: Domain) -> Result<Attr, OutOfMemory>
+/// Puts the attribute of this name and domain behind others.
+fn put_attr(
+    alloc: Global,
+    attrs: &mut Vec<Attr>,
+    name: &[u8],
+    domain: Domain,
+) -> Result<(), OutOfMemory>
     requires { IsTrue (is_name name.now) }
-    ensures { IfOk result (λ attr. attr ≡ attribute name.now domain) }
+    ensures { OnOk result (attrs.new.items ≡ attrs.old.items ++ attribute name.now domain ∷ []) }
 {
     let name = name_of(alloc, name)?;
-    Ok(Attr {
-        name,
-        kind: Kind::Of(domain),
-    })
+    let kind = Kind::Of(domain);
+    Ok(attrs.push(Attr { name, kind })?)
+}
+
+/// Puts the attributes of these names and domains into an empty list.
+fn put_attrs(
+    alloc: Global,
+    attrs: &mut Vec<Attr>,
+    columns: &[(&[u8], Domain)],
+) -> Result<(), OutOfMemory>
+    requires names { All (λ c. IsTrue (is_name c.0.now)) columns.now }
+    requires empty { attrs.old.items ≡ [] }
+    ensures { OnOk result (attrs.new.items ≡ map (λ c. attribute c.0.now c.1) columns.now) }
+{
+    for (name, domain) in columns {
+        put_attr(alloc, attrs, name, *domain)?;
+    }
+    Ok(())
 }
 
 /// The attributes of these names and domains.
@@ -55,10 +75,10 @@ fn attrs_of(alloc: Global, columns: &[(&[u8], Domain)]) -> Result<List<Attr>, Ou
     ensures { IfOk result (λ attrs. attrs ≡ map (λ c. attribute c.0.now c.1) columns.now) }
 {
     let mut attrs = Vec::new(alloc);
-    for (name, domain) in columns {
-        attrs.push(attribute(alloc, name, *domain)?)?;
+    match put_attrs(alloc, &mut attrs, columns) {
+        Ok(()) => Ok(List::of(attrs)),
+        Err(error) => Err(error),
     }
-    Ok(List::of(attrs))
 }
 
 /// The attributes of the catalogue `relation`.

@@ -10,15 +10,15 @@ use crate::kept::Known;
 use calculus::{Attr, Domain, Kind, Name, OutOfMemory, RelInfo, RelKey, Row, Spec, Text, Value};
 use std::alloc::Global;
 
-/// The text of bytes that names are made of.
+/// Puts the text of bytes that names are made of behind other values.
 #[tactic(auto, using(crate::proofs::Named::solid_text))]
-fn solid_text(alloc: Global, bytes: &[u8]) -> Result<Value, OutOfMemory>
+fn put_text(alloc: Global, values: &mut Vec<Value>, bytes: &[u8]) -> Result<(), OutOfMemory>
     requires solid { IsTrue (list_all is_name_byte bytes.now) }
     requires short { length bytes.now ≤ 255 }
-    ensures { IfOk result (λ value. value ≡ Value.Text bytes.now) }
+    ensures { OnOk result (values.new.items ≡ values.old.items ++ Value.Text bytes.now ∷ []) }
 {
     match Text::of(alloc, bytes)? {
-        Some(text) => Ok(Value::Text(text)),
+        Some(text) => Ok(values.push(Value::Text(text))?),
         None => {
             prove!(false);
             Err(OutOfMemory)
@@ -27,11 +27,11 @@ fn solid_text(alloc: Global, bytes: &[u8]) -> Result<Value, OutOfMemory>
 }
 
 #[tactic(auto, using(crate::proofs::Named::name_solid, crate::proofs::Named::name_short))]
-fn name_text(alloc: Global, name: &Name) -> Result<Value, OutOfMemory>
-    ensures { IfOk result (λ value. value ≡ Value.Text name.now) }
+fn put_name(alloc: Global, values: &mut Vec<Value>, name: &Name) -> Result<(), OutOfMemory>
+    ensures { OnOk result (values.new.items ≡ values.old.items ++ Value.Text name.now ∷ []) }
 {
     let bytes = name.bytes();
-    solid_text(alloc, bytes)
+    put_text(alloc, values, bytes)
 }
 
 /// What an entry is, in a word.
@@ -47,31 +47,23 @@ fn spec_word(spec: Spec) -> &'static [u8]
     }
 }
 
-#[tactic(auto, using(crate::proofs::Named::spec_solid, crate::proofs::Named::spec_short))]
-fn spec_value(alloc: Global, spec: Spec) -> Result<Value, OutOfMemory>
-    ensures { IfOk result (λ value. value ≡ Value.Text (spec_text spec)) }
-{
-    let word = spec_word(spec);
-    solid_text(alloc, word)
-}
-
 #[tactic(auto, using(crate::proofs::Named::width_solid, crate::proofs::Named::width_short))]
-fn width_value(alloc: Global, width: u8) -> Result<Value, OutOfMemory>
-    ensures { IfOk result (λ value. value ≡ Value.Text (codes "c" ++ decimal width)) }
+fn put_width(alloc: Global, values: &mut Vec<Value>, width: u8) -> Result<(), OutOfMemory>
+    ensures { OnOk result (values.new.items ≡ values.old.items ++ Value.Text (codes "c" ++ decimal width) ∷ []) }
 {
     let text = format!(in alloc; "c{}", width)?;
-    solid_text(alloc, text.as_bytes())
+    put_text(alloc, values, text.as_bytes())
 }
 
-fn format_value(alloc: Global, kind: Kind) -> Result<Value, OutOfMemory>
-    ensures { IfOk result (λ value. value ≡ Value.Text (format_text kind)) }
+fn put_format(alloc: Global, values: &mut Vec<Value>, kind: Kind) -> Result<(), OutOfMemory>
+    ensures { OnOk result (values.new.items ≡ values.old.items ++ Value.Text (format_text kind) ∷ []) }
 {
     match kind {
-        Kind::Wide => solid_text(alloc, b"i8"),
-        Kind::Of(Domain::I1) => solid_text(alloc, b"i1"),
-        Kind::Of(Domain::I2) => solid_text(alloc, b"i2"),
-        Kind::Of(Domain::I4) => solid_text(alloc, b"i4"),
-        Kind::Of(Domain::C(width)) => width_value(alloc, width),
+        Kind::Wide => put_text(alloc, values, b"i8"),
+        Kind::Of(Domain::I1) => put_text(alloc, values, b"i1"),
+        Kind::Of(Domain::I2) => put_text(alloc, values, b"i2"),
+        Kind::Of(Domain::I4) => put_text(alloc, values, b"i4"),
+        Kind::Of(Domain::C(width)) => put_width(alloc, values, width),
     }
 }
 
@@ -88,42 +80,69 @@ fn column_count(info: &RelInfo) -> usize
     }
 }
 
-/// The row of `relation` for an entry.
-pub(crate) fn relation_row(alloc: Global, info: &RelInfo) -> Result<Row, OutOfMemory>
-    ensures { IfOk result (λ row. row ≡ relation_row info.now) }
+/// Puts the values of an entry's row of `relation` into an empty list.
+#[tactic(auto, using(crate::proofs::Named::spec_solid, crate::proofs::Named::spec_short))]
+fn put_relation(alloc: Global, values: &mut Vec<Value>, info: &RelInfo) -> Result<(), OutOfMemory>
+    requires { values.old.items ≡ [] }
+    ensures { OnOk result (values.new.items ≡ relation_row info.now) }
 {
-    let mut values = Vec::new(alloc);
-    values.push(name_text(alloc, &info.key.name)?)?;
-    values.push(name_text(alloc, &info.key.owner)?)?;
-    values.push(spec_value(alloc, info.spec)?)?;
-    values.push(Value::Int(column_count(info) as i64))?;
-    Ok(Row::of(values))
+    put_name(alloc, values, &info.key.name)?;
+    put_name(alloc, values, &info.key.owner)?;
+    let word = spec_word(info.spec);
+    put_text(alloc, values, word)?;
+    Ok(values.push(Value::Int(column_count(info) as i64))?)
 }
 
-/// The row of `attribute` for an attribute with this number.
-fn attribute_row(
+/// Puts the row of `relation` for an entry behind others.
+pub(crate) fn push_relation_row(
     alloc: Global,
+    rows: &mut Vec<Row>,
+    info: &RelInfo,
+) -> Result<(), OutOfMemory>
+    ensures { OnOk result (rows.new.items ≡ rows.old.items ++ relation_row info.now ∷ []) }
+{
+    let mut values = Vec::new(alloc);
+    match put_relation(alloc, &mut values, info) {
+        Ok(()) => Ok(rows.push(Row::of(values))?),
+        Err(error) => Err(error),
+    }
+}
+
+/// Puts the values of the row of `attribute` for an attribute with this number into an empty list.
+fn put_attribute(
+    alloc: Global,
+    values: &mut Vec<Value>,
     key: &RelKey,
     number: usize,
     attr: &Attr,
-) -> Result<Row, OutOfMemory>
-    requires { number < 2 ^ 63 }
-    ensures { IfOk result (λ row. row ≡ attribute_row key.now number attr.now) }
+) -> Result<(), OutOfMemory>
+    requires short { number < 2 ^ 63 }
+    requires empty { values.old.items ≡ [] }
+    ensures { OnOk result (values.new.items ≡ attribute_row key.now number attr.now) }
 {
-    let mut values = Vec::new(alloc);
-    values.push(name_text(alloc, &key.name)?)?;
-    values.push(name_text(alloc, &key.owner)?)?;
+    put_name(alloc, values, &key.name)?;
+    put_name(alloc, values, &key.owner)?;
     values.push(Value::Int(number as i64))?;
-    values.push(name_text(alloc, &attr.name)?)?;
-    values.push(format_value(alloc, attr.kind)?)?;
-    Ok(Row::of(values))
+    put_name(alloc, values, &attr.name)?;
+    put_format(alloc, values, attr.kind)
 }
 
-/// Puts a row behind others.
-fn push_row(rows: &mut Vec<Row>, row: Row) -> Result<(), OutOfMemory>
-    ensures { OnOk result (rows.new.items ≡ rows.old.items ++ row ∷ []) }
+/// Puts the row of `attribute` for an attribute with this number behind others.
+fn push_attribute_row(
+    alloc: Global,
+    rows: &mut Vec<Row>,
+    key: &RelKey,
+    number: usize,
+    attr: &Attr,
+) -> Result<(), OutOfMemory>
+    requires { number < 2 ^ 63 }
+    ensures { OnOk result (rows.new.items ≡ rows.old.items ++ attribute_row key.now number attr.now ∷ []) }
 {
-    Ok(rows.push(row)?)
+    let mut values = Vec::new(alloc);
+    match put_attribute(alloc, &mut values, key, number, attr) {
+        Ok(()) => Ok(rows.push(Row::of(values))?),
+        Err(error) => Err(error),
+    }
 }
 
 /// Puts the rows of `relation` for these entries behind others.
@@ -135,8 +154,7 @@ pub(crate) fn push_relation_rows<T: Known>(
     ensures { OnOk result (rows.new.items ≡ rows.old.items ++ map relation_row (map (λ t. T.known t) items.now)) }
 {
     for item in items {
-        let row = relation_row(alloc, item.info())?;
-        push_row(rows, row)?;
+        push_relation_row(alloc, rows, item.info())?;
     }
     Ok(())
 }
@@ -151,8 +169,7 @@ fn push_attributes(
     ensures { OnOk result (rows.new.items ≡ rows.old.items ++ map (λ p. attribute_row key.now p.0 p.1) (enumerate_from 1 attrs.now)) }
 {
     for (i, attr) in attrs.iter().enumerate() {
-        let row = attribute_row(alloc, key, i + 1, attr)?;
-        push_row(rows, row)?;
+        push_attribute_row(alloc, rows, key, i + 1, attr)?;
     }
     Ok(())
 }

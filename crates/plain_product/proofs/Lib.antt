@@ -5,3 +5,4 @@ pub mod Causing
 pub mod NamingForms
 pub mod Choosing
 pub mod NamedForms
+pub mod Gathered

@@ -1,7 +1,8 @@
 -- Numbers that leave 64 bits stay outside while they are multiplied on.
-use Rattle.std.proofs.Common.{◌≡◌, ◌≢◌, refl, sym, ap, ◌∙◌, ℕ, zero, suc, ◌*◌, ◌%◌, ◌<◌, ◌≤◌, ◌==◌, ℤ, pos, negsuc, ◌*ℤ◌, neg_ℤ, nat_abs, Some, None, inl, inr, if◌then◌else◌, arith}
+use Rattle.std.proofs.Common.{◌≡◌, ◌≢◌, refl, sym, ap, ◌∙◌, ℕ, zero, suc, ◌+◌, ◌*◌, ◌%◌, ◌<◌, ◌≤◌, ◌==◌, ℤ, pos, negsuc, ◌*ℤ◌, neg_ℤ, nat_abs, Bool, true, false, Some, None, inl, inr, if◌then◌else◌, arith}
 use Rattle.std.proofs.Math.Nat.{mul-le-mul_left, mul_comm, eq-or-lt_of_le}
-use Rattle.calculus.specs.Number.{number, repeated}
+use Rattle.std.proofs.lemmas.Option.{same_Some}
+use Rattle.calculus.specs.Number.{has_64_bits, number, repeated}
 
 abs_neg : (n : ℕ) → nat_abs (neg_ℤ (pos n)) ≡ n
 abs_neg zero = refl
@@ -66,3 +67,13 @@ odd_power n h = let one : n % 2 ≡ 1 = omega (arith, h) in ap number (turns n) 
 pub left_at_step : (x y p : ℤ) (k n : ℕ) → y ≡ x → 2 ≤ nat_abs x → k < n → p ≡ repeated y k → None ≡ number (y *ℤ p) → None ≡ number (repeated x n)
 left_at_step x y p k n e h l i o =
     sym (stays_outside x (suc k) n h l (ap (λ z. number (z *ℤ repeated z k)) (sym e) ∙ ap (λ q. number (y *ℤ q)) (sym i) ∙ sym o))
+
+there : (b : Bool) (z n : ℤ) → Some n ≡ (if b then Some z else None) → n ≡ z
+there true z n h = same_Some n z h
+there false z n h = cc h
+
+-- the next power is there where its number has 64 bits
+pub next_power : (y p next : ℤ) (k : ℕ) → p ≡ repeated y k → Some next ≡ number (y *ℤ p) → next ≡ repeated y (k + 1)
+next_power y p next k i h =
+    let e : k + 1 ≡ suc k = omega arith in
+    there (has_64_bits (y *ℤ p)) (y *ℤ p) next h ∙ ap (λ q. y *ℤ q) i ∙ ap (repeated y) (sym e)

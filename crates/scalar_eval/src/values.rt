@@ -44,12 +44,14 @@ fn value_without_sign(value: Option<Value>) -> Option<Value>
 fn operated_values(op: ArithOp, values: (Option<Value>, Option<Value>)) -> Option<Value>
     ensures { result ≡ operated_values op values.0 values.1 }
 {
-    match (&values.0, &values.1) {
+    let value = match (&values.0, &values.1) {
         (Some(Value::Int(left)), Some(Value::Int(right))) => {
             number_value(operated(op, *left, *right))
         }
         _ => None,
-    }
+    };
+    drop(values);
+    value
 }
 
 /// One text behind the other, where that has at most 255 bytes.
@@ -71,10 +73,12 @@ fn joined_values(
 ) -> Result<Option<Value>, OutOfMemory>
     ensures { IfOk result (λ v. v ≡ joined_values values.0 values.1) }
 {
-    match (&values.0, &values.1) {
+    let joined = match (&values.0, &values.1) {
         (Some(Value::Text(left)), Some(Value::Text(right))) => joined_text(alloc, left, right),
         _ => Ok(None),
-    }
+    };
+    drop(values);
+    joined
 }
 
 /// The value of a variable's attribute.

@@ -4,6 +4,7 @@ ghost use Rattle.std.specs.Prelude.{◌≡◌, map, Some, IfOk};
 ghost use Rattle.calculus.specs.Database.{Db};
 ghost use Rattle.calculus.specs.Replacement.{wanted_kinds};
 ghost use Rattle.calculus.specs.Stored.{attrs_in, kinds_at};
+ghost use Rattle.stage_proc.specs.Given.{wanted};
 ghost use Rattle.am_traits.specs.Causes.{HasCause};
 
 use crate::kinds::{NewKinds, wanted};
@@ -32,6 +33,18 @@ fn kinds_in(alloc: Global, info: &Option<RelInfo>) -> Result<Vec<Kind>, OutOfMem
     }
 }
 
+/// The kinds of the values of an update's new rows, where this is known of its relation.
+fn kinds_by(alloc: Global, info: &Option<RelInfo>, u: &Update) -> Result<NewKinds, OutOfMemory>
+    ensures attributes { IfOk result (λ kinds. kinds.attributes.items ≡ map (λ a. a.kind) (attrs_in info.now)) }
+    ensures wanted { IfOk result (λ kinds. kinds.wanted.items ≡ wanted (map (λ a. a.kind) (attrs_in info.now)) u.now) }
+{
+    let attributes = kinds_in(alloc, info)?;
+    match wanted(alloc, &attributes, u) {
+        Ok(wanted) => Ok(NewKinds { attributes, wanted }),
+        Err(error) => Err(error),
+    }
+}
+
 /// The kinds of the values of an update's new rows.
 pub(crate) fn new_kinds<B: Base>(
     alloc: Global,
@@ -45,7 +58,8 @@ pub(crate) fn new_kinds<B: Base>(
     ensures cause { HasCause (B.database base.old) (B.faults base.old) (B.faults base.new) result }
 {
     let info = base.info(alloc, &u.rel)?;
-    let attributes = kinds_in(alloc, &info)?;
-    let wanted = wanted(alloc, &attributes, u)?;
-    Ok(NewKinds { attributes, wanted })
+    let found = kinds_by(alloc, &info, u);
+    drop(info);
+    let kinds = found?;
+    Ok(kinds)
 }

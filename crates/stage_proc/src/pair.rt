@@ -66,20 +66,28 @@ pub(crate) fn pair_of(
 {
     match u.op {
         UpdateOp::Append => {
+            drop(old);
             let row = appended(alloc, kinds, u.places.items(), values)?;
             Ok(Pair {
                 old: None,
                 new: Some(row),
             })
         }
-        UpdateOp::Replace => {
-            let new = replaced(alloc, u.places.items(), values, &old)?;
-            Ok(Pair { old, new })
-        }
+        UpdateOp::Replace => match replaced(alloc, u.places.items(), values, &old) {
+            Ok(new) => Ok(Pair { old, new }),
+            Err(error) => {
+                drop(old);
+                Err(error)
+            }
+        },
         UpdateOp::Delete => Ok(Pair { old, new: None }),
-        UpdateOp::Into => Ok(Pair {
-            old: None,
-            new: Some(values.copy(alloc)?),
-        }),
+        UpdateOp::Into => {
+            drop(old);
+            let row = values.copy(alloc)?;
+            Ok(Pair {
+                old: None,
+                new: Some(row),
+            })
+        }
     }
 }

@@ -1,6 +1,6 @@
 //! Whether a pair stands.
 
-ghost use Rattle.std.specs.Prelude.{◌≡◌, true, if◌then◌else◌, [], ◌∷◌, ◌++◌, filter, IfOk, OnOk};
+ghost use Rattle.std.specs.Prelude.{◌≡◌, ◌&&◌, true, if◌then◌else◌, [], ◌∷◌, ◌++◌, filter, IfOk, OnOk};
 ghost use Rattle.std.specs.List.{list_all};
 ghost use Rattle.calculus.specs.Pairs.{is_append};
 ghost use Rattle.calculus.specs.Term.{holds, no_aggs};
@@ -42,16 +42,25 @@ fn cut_holds(alloc: Global, u: &Update, at: &Assigned) -> Result<bool, OutOfMemo
     }
 }
 
+/// Whether a new row stands, which is the only one of this assignment.
+fn stands_at(alloc: Global, u: &Update, at: &Assigned) -> Result<bool, OutOfMemory>
+    ensures { IfOk result (λ b. b ≡ (list_all (λ q. holds no_aggs q at.now) u.now.checks && (if is_append u.now.op then holds no_aggs u.now.new_cut at.now else true))) }
+{
+    if !all_hold(alloc, u.checks.items(), at)? {
+        return Ok(false);
+    }
+    cut_holds(alloc, u, at)
+}
+
 /// Whether a new row stands.
 fn row_stands(alloc: Global, u: &Update, row: &Row) -> Result<bool, OutOfMemory>
     ensures { IfOk result (λ b. b ≡ row_stands u.now row.now) }
 {
     let mut at = Assigned::new(alloc);
     at.push(row.copy(alloc)?)?;
-    if !all_hold(alloc, u.checks.items(), &at)? {
-        return Ok(false);
-    }
-    cut_holds(alloc, u, &at)
+    let stands = stands_at(alloc, u, &at);
+    drop(at);
+    stands
 }
 
 /// Whether a pair stands: its new row has to.
@@ -73,8 +82,15 @@ pub(crate) fn put_standing(
 ) -> Result<(), OutOfMemory>
     ensures { OnOk result (pairs.new.items ≡ pairs.old.items ++ filter (pair_stands u.now) (pair ∷ [])) }
 {
-    if pair_stands(alloc, u, &pair)? {
-        pairs.push(pair)?;
+    match pair_stands(alloc, u, &pair) {
+        Ok(true) => Ok(pairs.push(pair)?),
+        Ok(false) => {
+            drop(pair);
+            Ok(())
+        }
+        Err(error) => {
+            drop(pair);
+            Err(error)
+        }
     }
-    Ok(())
 }

@@ -14,7 +14,7 @@ use crate::UpdateFault;
 use crate::made::relation_made;
 use crate::moved::rows_moved;
 use am_traits::Base;
-use calculus::{DbChange, List, Pair, TryCopy, Update, UpdateOp};
+use calculus::{DbChange, List, OutOfMemory, Pair, TryCopy, Update, UpdateOp};
 use std::alloc::Global;
 
 /// Whether the update makes a relation.
@@ -45,11 +45,17 @@ fn rows_change<B: Base>(
     ensures cause { HasCause u.now pairs.now (B.database base.old) (B.faults base.old) (B.faults base.new) result }
 {
     let change = rows_moved(alloc, base, u, pairs)?;
-    let rel = u.rel.copy(alloc)?;
-    let (remove, add) = change.into_parts();
-    let remove = List::of(remove.into_rows());
-    let add = List::of(add.into_rows());
-    Ok(DbChange::Rows { rel, remove, add })
+    match u.rel.copy(alloc) {
+        Ok(rel) => {
+            let (remove, add) = change.into_parts();
+            Ok(DbChange::Rows {
+                rel,
+                remove: List::of(remove.into_rows()),
+                add: List::of(add.into_rows()),
+            })
+        }
+        Err(OutOfMemory) => Err(UpdateFault::OutOfMemory),
+    }
 }
 
 /// The change that these pairs of an update make of a database. All pairs take effect at once, on the

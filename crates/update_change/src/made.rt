@@ -60,8 +60,24 @@ fn made_info(alloc: Global, u: &Update) -> Result<RelInfo, OutOfMemory>
     })
 }
 
-/// The change that makes a relation with the set of the new rows. Asks no database.
+/// The set of the new rows of pairs.
 #[tactic(auto, using(crate::proofs::Few::all_come))]
+fn rows_made(alloc: Global, pairs: &[Pair]) -> Result<RowSet, UpdateFault>
+    ensures rows { IfOk result (λ rows. rows ≡ after [] pairs.now) }
+    ensures uncontended { OnOk result (IsFalse (contended pairs.now)) }
+    ensures few { OnOk result (length (after [] pairs.now) ≤ most_rows) }
+    ensures cause { IfErr result (IsCause [] pairs.now) }
+{
+    let none = RowSet::new(alloc);
+    let change = pairs_change(alloc, &none, pairs);
+    drop(none);
+    match change {
+        Ok(change) => Ok(change.into_parts().1),
+        Err(error) => Err(error),
+    }
+}
+
+/// The change that makes a relation with the set of the new rows. Asks no database.
 pub(crate) fn relation_made(
     alloc: Global,
     u: &Update,
@@ -72,9 +88,12 @@ pub(crate) fn relation_made(
     ensures few { OnOk result (length (after [] pairs.now) ≤ most_rows) }
     ensures cause { IfErr result (IsCause [] pairs.now) }
 {
-    let none = RowSet::new(alloc);
-    let change = pairs_change(alloc, &none, pairs)?;
-    let info = made_info(alloc, u)?;
-    let rows = List::of(change.into_parts().1.into_rows());
-    Ok(DbChange::Create { info, rows })
+    let rows = rows_made(alloc, pairs)?;
+    match made_info(alloc, u) {
+        Ok(info) => Ok(DbChange::Create {
+            info,
+            rows: List::of(rows.into_rows()),
+        }),
+        Err(OutOfMemory) => Err(UpdateFault::OutOfMemory),
+    }
 }

@@ -32,7 +32,9 @@ fn named_change<B: Base>(
     ensures cause { HasCause u.now pairs.now (B.database base.old) (B.faults base.old) (B.faults base.new) result }
 {
     let rows = named_rows(alloc, base, &u.rel, pairs)?;
-    let change = pairs_change(alloc, &rows, pairs)?;
+    let found = pairs_change(alloc, &rows, pairs);
+    drop(rows);
+    let change = found?;
     Ok(change)
 }
 
@@ -55,6 +57,7 @@ pub(crate) fn rows_moved<B: Base>(
 {
     let change = named_change(alloc, base, u, pairs)?;
     if is_too_large(alloc, base, &u.rel, &change)? {
+        drop(change);
         return Err(UpdateFault::TooMany);
     }
     Ok(change)

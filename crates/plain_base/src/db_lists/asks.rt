@@ -42,7 +42,10 @@ impl DbLists {
         ensures { IfOk result (λ query. query ≡ query_at self.now key.now) }
     {
         match under(&self.views, key) {
-            Some(view) => Ok(Some(view.query.copy(alloc)?)),
+            Some(view) => match view.query.copy(alloc) {
+                Ok(query) => Ok(Some(query)),
+                Err(error) => Err(error),
+            },
             None => Ok(None),
         }
     }

@@ -51,8 +51,10 @@ fn index_of(
 fn view_of(alloc: Global, info: &RelInfo, query: &Query) -> Result<Viewed, OutOfMemory>
     ensures { IfOk result (λ view. view ≡ record { info = info.now; query = query.now }) }
 {
-    let (info, query) = both(info.copy(alloc), query.copy(alloc))?;
-    Ok(Viewed { info, query })
+    match both(info.copy(alloc), query.copy(alloc)) {
+        Ok((info, query)) => Ok(Viewed { info, query }),
+        Err(error) => Err(error),
+    }
 }
 
 /// The permit beside its relation.

@@ -1,6 +1,6 @@
 //! What is known of relations, views, indexes and catalogues without their rows.
 
-ghost use Rattle.std.specs.Prelude.{◌≡◌, [], option_map, IfOk};
+ghost use Rattle.std.specs.Prelude.{◌≡◌, [], Some, option_map, IfOk};
 ghost use Rattle.calculus.specs.Catalogue.{catalogue_at, relation_info, attribute_info, relation_key, attribute_key};
 ghost use Rattle.calculus.specs.Database.{relation_at, view_at};
 ghost use Rattle.calculus.specs.Finding.{found};
@@ -25,6 +25,16 @@ fn heap_of(alloc: Global, key: RelKey, attrs: List<Attr>) -> RelInfo
         spec: Spec::Heap,
         attrs,
         keys: List::of(Vec::new(alloc)),
+    }
+}
+
+/// A copy of what is known.
+fn copied(alloc: Global, info: &RelInfo) -> Result<Option<RelInfo>, OutOfMemory>
+    ensures { IfOk result (λ copy. copy ≡ Some info.now) }
+{
+    match info.copy(alloc) {
+        Ok(info) => Ok(Some(info)),
+        Err(error) => Err(error),
     }
 }
 
@@ -97,7 +107,7 @@ impl DbLists {
         ensures { IfOk result (λ info. info ≡ known_at self.now key.now) }
     {
         match self.entry(key) {
-            Some(info) => Ok(Some(info.copy(alloc)?)),
+            Some(info) => copied(alloc, info),
             None => self.catalogue_info(alloc, key),
         }
     }
@@ -108,10 +118,10 @@ impl DbLists {
         ensures { IfOk result (λ info. info ≡ info_at self.now key.now) }
     {
         if let Some(relation) = self.relation(key) {
-            return Ok(Some(relation.info.copy(alloc)?));
+            return copied(alloc, &relation.info);
         }
         match self.viewed(key) {
-            Some(view) => Ok(Some(view.info.copy(alloc)?)),
+            Some(view) => copied(alloc, &view.info),
             None => self.catalogue_info(alloc, key),
         }
     }
@@ -127,7 +137,9 @@ impl DbLists {
     {
         let (owner, name) = both(owner.copy(alloc), name.copy(alloc))?;
         let key = RelKey { owner, name };
-        self.ranged(alloc, &key)
+        let info = self.ranged(alloc, &key);
+        drop(key);
+        info
     }
 
     /// What the user means by a name.

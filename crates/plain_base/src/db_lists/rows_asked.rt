@@ -1,92 +1,116 @@
 //! The rows of relations and catalogues.
 
-ghost use Rattle.std.specs.Prelude.{◌≡◌, None, false, map, flat_map, option_map, unwrap_or, ◌++◌, IfOk, OnOk};
+ghost use Rattle.std.specs.Prelude.{◌≡◌, [], map, flat_map, IfOk, OnOk};
 ghost use Rattle.calculus.specs.Catalogue.{all_entries, relation_info, attribute_info, relation_row, attribute_rows};
-ghost use Rattle.calculus.specs.Database.{relation_at, view_at};
-ghost use Rattle.calculus.specs.Rows.{has, set_of};
-ghost use Rattle.calculus.specs.Stored.{rows_at};
+ghost use Rattle.calculus.specs.Rows.{set_of};
 
 use super::DbLists;
-use crate::catalogue::is_named;
-use crate::catalogue_rows::{push_attribute_rows, push_relation_rows, push_rows_of, relation_row};
-use crate::rows::is_there;
-use calculus::{OutOfMemory, RelKey, Row, RowSet};
+use crate::catalogue_rows::{
+    push_attribute_rows, push_relation_row, push_relation_rows, push_rows_of,
+};
+use calculus::{OutOfMemory, RelInfo, Row, RowSet};
+use memory::both;
 use std::alloc::Global;
 
 impl DbLists {
-    /// The row of `relation` for `relation` itself.
-    fn row_of_relation(&self, alloc: Global) -> Result<Row, OutOfMemory>
-        ensures { IfOk result (λ row. row ≡ relation_row (relation_info self.now)) }
+    /// What is known of the two catalogues.
+    fn catalogues(&self, alloc: Global) -> Result<(RelInfo, RelInfo), OutOfMemory>
+        ensures { IfOk result (λ infos. infos ≡ (relation_info self.now, attribute_info self.now)) }
     {
-        let info = self.relation_info(alloc)?;
-        relation_row(alloc, &info)
+        both(self.relation_info(alloc), self.attribute_info(alloc))
     }
 
-    /// The row of `relation` for `attribute`.
-    fn row_of_attribute(&self, alloc: Global) -> Result<Row, OutOfMemory>
-        ensures { IfOk result (λ row. row ≡ relation_row (attribute_info self.now)) }
+    /// Puts a row of `relation` for each entry into an empty list.
+    fn put_relation_list(
+        &self,
+        alloc: Global,
+        rows: &mut Vec<Row>,
+        relation: &RelInfo,
+        attribute: &RelInfo,
+    ) -> Result<(), OutOfMemory>
+        requires relation { relation.now ≡ relation_info self.now }
+        requires attribute { attribute.now ≡ attribute_info self.now }
+        requires empty { rows.old.items ≡ [] }
+        ensures { OnOk result (rows.new.items ≡ map relation_row (all_entries self.now)) }
     {
-        let info = self.attribute_info(alloc)?;
-        relation_row(alloc, &info)
+        push_relation_row(alloc, rows, relation)?;
+        push_relation_row(alloc, rows, attribute)?;
+        push_relation_rows(alloc, rows, &self.relations)?;
+        push_relation_rows(alloc, rows, &self.views)?;
+        push_relation_rows(alloc, rows, &self.indexes)?;
+        Ok(())
     }
 
-    /// A row of `relation` for each entry.
-    fn relation_list(&self, alloc: Global) -> Result<Vec<Row>, OutOfMemory>
-        ensures { IfOk result (λ rows. rows.items ≡ map relation_row (all_entries self.now)) }
+    /// Puts a row of `relation` for each entry, and for the catalogues, into an empty list.
+    fn put_all_relations(&self, alloc: Global, rows: &mut Vec<Row>) -> Result<(), OutOfMemory>
+        requires { rows.old.items ≡ [] }
+        ensures { OnOk result (rows.new.items ≡ map relation_row (all_entries self.now)) }
     {
-        let mut rows = Vec::new(alloc);
-        let first = self.row_of_relation(alloc)?;
-        rows.push(first)?;
-        let second = self.row_of_attribute(alloc)?;
-        rows.push(second)?;
-        push_relation_rows(alloc, &mut rows, &self.relations)?;
-        push_relation_rows(alloc, &mut rows, &self.views)?;
-        push_relation_rows(alloc, &mut rows, &self.indexes)?;
-        Ok(rows)
+        match self.catalogues(alloc) {
+            Ok(infos) => {
+                let done = self.put_relation_list(alloc, rows, &infos.0, &infos.1);
+                drop(infos);
+                done
+            }
+            Err(error) => Err(error),
+        }
     }
 
-    /// Puts the rows of `attribute` for `relation` itself behind others.
-    fn push_rows_of_relation(&self, alloc: Global, rows: &mut Vec<Row>) -> Result<(), OutOfMemory>
-        ensures { OnOk result (rows.new.items ≡ rows.old.items ++ attribute_rows (relation_info self.now)) }
+    /// Puts a row of `attribute` for each attribute of each entry into an empty list.
+    fn put_attribute_list(
+        &self,
+        alloc: Global,
+        rows: &mut Vec<Row>,
+        relation: &RelInfo,
+        attribute: &RelInfo,
+    ) -> Result<(), OutOfMemory>
+        requires relation { relation.now ≡ relation_info self.now }
+        requires attribute { attribute.now ≡ attribute_info self.now }
+        requires empty { rows.old.items ≡ [] }
+        ensures { OnOk result (rows.new.items ≡ flat_map attribute_rows (all_entries self.now)) }
     {
-        let relation = self.relation_info(alloc)?;
-        push_rows_of(alloc, rows, &relation)
+        push_rows_of(alloc, rows, relation)?;
+        push_rows_of(alloc, rows, attribute)?;
+        push_attribute_rows(alloc, rows, &self.relations)?;
+        push_attribute_rows(alloc, rows, &self.views)?;
+        push_attribute_rows(alloc, rows, &self.indexes)?;
+        Ok(())
     }
 
-    /// Puts the rows of `attribute` for `attribute` itself behind others.
-    fn push_rows_of_attribute(&self, alloc: Global, rows: &mut Vec<Row>) -> Result<(), OutOfMemory>
-        ensures { OnOk result (rows.new.items ≡ rows.old.items ++ attribute_rows (attribute_info self.now)) }
+    /// Puts a row of `attribute` for each attribute, also of the catalogues, into an empty list.
+    fn put_all_attributes(&self, alloc: Global, rows: &mut Vec<Row>) -> Result<(), OutOfMemory>
+        requires { rows.old.items ≡ [] }
+        ensures { OnOk result (rows.new.items ≡ flat_map attribute_rows (all_entries self.now)) }
     {
-        let attribute = self.attribute_info(alloc)?;
-        push_rows_of(alloc, rows, &attribute)
-    }
-
-    /// A row of `attribute` for each attribute of each entry.
-    fn attribute_list(&self, alloc: Global) -> Result<Vec<Row>, OutOfMemory>
-        ensures { IfOk result (λ rows. rows.items ≡ flat_map attribute_rows (all_entries self.now)) }
-    {
-        let mut rows = Vec::new(alloc);
-        self.push_rows_of_relation(alloc, &mut rows)?;
-        self.push_rows_of_attribute(alloc, &mut rows)?;
-        push_attribute_rows(alloc, &mut rows, &self.relations)?;
-        push_attribute_rows(alloc, &mut rows, &self.views)?;
-        push_attribute_rows(alloc, &mut rows, &self.indexes)?;
-        Ok(rows)
+        match self.catalogues(alloc) {
+            Ok(infos) => {
+                let done = self.put_attribute_list(alloc, rows, &infos.0, &infos.1);
+                drop(infos);
+                done
+            }
+            Err(error) => Err(error),
+        }
     }
 
     /// The rows of the catalogue `relation`. They are made at each call.
     pub fn relation_rows(&self, alloc: Global) -> Result<RowSet, OutOfMemory>
         ensures { IfOk result (λ rows. rows ≡ set_of (map relation_row (all_entries self.now))) }
     {
-        let rows = self.relation_list(alloc)?;
-        Ok(RowSet::of_rows(rows))
+        let mut rows = Vec::new(alloc);
+        match self.put_all_relations(alloc, &mut rows) {
+            Ok(()) => Ok(RowSet::of_rows(rows)),
+            Err(error) => Err(error),
+        }
     }
 
     /// The rows of the catalogue `attribute`. They are made at each call.
     pub fn attribute_rows(&self, alloc: Global) -> Result<RowSet, OutOfMemory>
         ensures { IfOk result (λ rows. rows ≡ set_of (flat_map attribute_rows (all_entries self.now))) }
     {
-        let rows = self.attribute_list(alloc)?;
-        Ok(RowSet::of_rows(rows))
+        let mut rows = Vec::new(alloc);
+        match self.put_all_attributes(alloc, &mut rows) {
+            Ok(()) => Ok(RowSet::of_rows(rows)),
+            Err(error) => Err(error),
+        }
     }
 }
