@@ -1,5 +1,5 @@
 -- The variables of terms and qualifications, form by form.
-use Rattle.std.proofs.Common.{◌≡◌, ◌⊎◌, inl, inr, ℕ, ℤ, refl, ap, ◌∙◌, sym, List, [], ◌∷◌, ◌++◌, append_assoc}
+use Rattle.std.proofs.Common.{◌≡◌, ◌⊎◌, inl, inr, ℕ, ℤ, refl, ap, ◌∙◌, List, [], ◌∷◌, ◌++◌, append_assoc}
 use Rattle.std.specs.List.{flat_map}
 use denote.Hole.Carrier.{hidden}
 use Rattle.calculus.proofs.WrittenForms.{agg_is}

@@ -50,7 +50,8 @@ fn push_vars_of_qual<'a>(names: &mut Vec<&'a Name>, q: &'a Qual) -> Result<(), O
         }
         Qual::And(left, right) | Qual::Or(left, right) => {
             push_vars_of_qual(names, left.get())?;
-            push_vars_of_qual(names, right.get())
+            push_vars_of_qual(names, right.get())?;
+            Ok(())
         }
         Qual::Not(inner) => push_vars_of_qual(names, inner.get()),
     }
@@ -97,19 +98,7 @@ fn first_var(s: &Statement) -> Option<&Name>
         Statement::Delete { var, .. } => Some(var),
         Statement::Permit { var, .. } => Some(var),
         Statement::Rule { var, .. } => Some(var),
-        Statement::Range { .. } => None,
-        Statement::Retrieve { .. } => None,
-        Statement::Append { .. } => None,
-        Statement::Create { .. } => None,
-        Statement::Destroy { .. } => None,
-        Statement::DropPermits { .. } => None,
-        Statement::DropRules { .. } => None,
-        Statement::Modify { .. } => None,
-        Statement::Index { .. } => None,
-        Statement::Print { .. } => None,
-        Statement::Help { .. } => None,
-        Statement::Copy { .. } => None,
-        Statement::View { .. } => None,
+        _ => None,
     }
 }
 
@@ -174,7 +163,8 @@ fn push_vars_of_statement<'a>(
 {
     push_first_var(names, s)?;
     push_vars_of_items(names, items_of(s))?;
-    push_vars_of_where(names, s)
+    push_vars_of_where(names, s)?;
+    Ok(())
 }
 
 /// The variables of a statement's query, each once, in the order of its text: the one that it names

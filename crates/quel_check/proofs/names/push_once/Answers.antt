@@ -1,5 +1,4 @@
 use Rattle.std.proofs.Common.{sym, ap, ◌∙◌}
-use Rattle.std.proofs.lemmas.List.{take_all}
 use Rattle.quel_meaning.specs.WrittenParts.{once}
 use Rattle.quel_check.proofs.OnceMore.{comes, one_taken}
 use Rattle.quel_check.proofs.names.push_once.Goals as goal
