@@ -63,8 +63,7 @@ fn push_vars_of_item<'a>(names: &mut Vec<&'a Name>, item: &'a Item) -> Result<()
 {
     match item {
         Item::Set { name: _, term } => push_vars(names, term),
-        Item::Attr { var, attr: _ } => Ok(names.push(var)?),
-        Item::All { var } => Ok(names.push(var)?),
+        Item::Attr { var, attr: _ } | Item::All { var } => Ok(names.push(var)?),
     }
 }
 
