@@ -1,20 +1,24 @@
 -- Statements without aggregates, and the updates that they are.
-use Rattle.std.proofs.Common.{◌≡◌, refl, sym, ap, ◌∙◌, ℕ, Bool, true, false, not, List, [], ◌∷◌, map, slice_get, length}
+use Rattle.std.proofs.Common.{◌≡◌, refl, sym, ap, ◌∙◌, subst, ℕ, Bool, true, false, not, List, [], ◌∷◌, map, slice_get, length, unwrap_or, Some}
 use Rattle.std.specs.List.{list_all}
 use Rattle.calculus.specs.declared.query.QAgg.{QAgg}
 use Rattle.calculus.specs.declared.query.Query.{Query}
+use Rattle.calculus.specs.declared.request.Update.{Update}
+use Rattle.calculus.specs.declared.statement.Qual.{Qual}
 use Rattle.calculus.specs.declared.statement.Statement.{Statement}
+use Rattle.calculus.specs.declared.statement.Statement.TheVariants as statement
 use Rattle.calculus.specs.Lists.{is_any}
 use Rattle.calculus.specs.QueryParts.{query_aggregates}
 use Rattle.calculus.specs.Replacement.{wanted_kinds}
 use Rattle.calculus.specs.Stored.{kinds_at}
 use Rattle.quel_meaning.specs.Aggregates.{aggregates_stand, aggregate_stands, keeps_a_text}
-use Rattle.quel_meaning.specs.Causes.{causes, causes_by}
+use Rattle.quel_meaning.specs.Causes.{causes, causes_by, delete_causes, update_causes}
 use Rattle.quel_meaning.specs.Scope.{Scope}
 use Rattle.quel_meaning.specs.StatementUpdate.{append_of, replace_of, delete_of}
 use Rattle.quel_meaning.specs.WrittenParts.{text_aggregates}
 use Rattle.quel_meaning.specs.WrittenQuery.{query_of}
 use Rattle.quel_meaning.proofs.Slots.{as_many}
+use Rattle.quel_causes.specs.Judged.{update_of}
 
 none : {X : Type 0} (xs : List X) → is_any xs ≡ false → xs ≡ []
 none [] h = refl
@@ -63,3 +67,44 @@ replace_wants s var q = refl
 pub delete_query : (s : Scope) (var : List ℕ) (q : Query) → (delete_of s var q).query ≡ q
 unfolding delete_of
 delete_query s var q = refl
+
+-- the update that a deletion is
+pub deleted : (scope : Scope) (s : Statement) (q : Query) (u : Update) (var : List ℕ) (qual : Qual) → s ≡ statement.Delete var qual → Some u ≡ update_of scope s q → u ≡ delete_of scope var q
+deleted scope s q u var qual i e = ap (λ o. unwrap_or o u) (e ∙ ap (λ t. update_of scope t q) i)
+
+-- what is known of the update that an append or a replacement is
+pub record IsUpdate (scope : Scope) (s : Statement) (q : Query) (u : Update) : Type 0 where
+  pub query : u.query ≡ q
+  pub wants : wanted_kinds scope.db u ≡ map (slice_get (kinds_at scope.db u.rel)) u.places
+  pub are : update_causes scope true u ≡ causes_by scope true q s
+
+pub updated : (scope : Scope) (s : Statement) (q : Query) (u : Update) → ((var : List ℕ) (qual : Qual) → s ≡ statement.Delete var qual → ⊥) → Some u ≡ update_of scope s q → IsUpdate scope s q u
+updated scope (statement.Range var rel) q u other e = absurd (cc e)
+updated scope (statement.Retrieve into items qual sort) q u other e = absurd (cc e)
+updated scope (statement.Append rel items qual) q u other e =
+    let is : u ≡ append_of scope rel q = ap (λ o. unwrap_or o u) e in
+    record {
+      query = ap (λ v. v.query) is ∙ append_query scope rel q;
+      wants = subst (λ v. wanted_kinds scope.db v ≡ map (slice_get (kinds_at scope.db v.rel)) v.places) (sym is) (append_wants scope rel q);
+      are = ap (update_causes scope true) is;
+    }
+updated scope (statement.Replace var items qual) q u other e =
+    let is : u ≡ replace_of scope var q = ap (λ o. unwrap_or o u) e in
+    record {
+      query = ap (λ v. v.query) is ∙ replace_query scope var q;
+      wants = subst (λ v. wanted_kinds scope.db v ≡ map (slice_get (kinds_at scope.db v.rel)) v.places) (sym is) (replace_wants scope var q);
+      are = ap (update_causes scope true) is;
+    }
+updated scope (statement.Delete var qual) q u other e = absurd (other var qual refl)
+updated scope (statement.Create rel attrs) q u other e = absurd (cc e)
+updated scope (statement.Destroy rels) q u other e = absurd (cc e)
+updated scope (statement.DropPermits rel numbers) q u other e = absurd (cc e)
+updated scope (statement.DropRules rel numbers) q u other e = absurd (cc e)
+updated scope (statement.Modify rel to keys) q u other e = absurd (cc e)
+updated scope (statement.Index base name keys) q u other e = absurd (cc e)
+updated scope (statement.Print rels) q u other e = absurd (cc e)
+updated scope (statement.Help rel) q u other e = absurd (cc e)
+updated scope (statement.Copy rel columns from file) q u other e = absurd (cc e)
+updated scope (statement.View name items qual) q u other e = absurd (cc e)
+updated scope (statement.Permit ops var attrs user qual) q u other e = absurd (cc e)
+updated scope (statement.Rule var qual) q u other e = absurd (cc e)

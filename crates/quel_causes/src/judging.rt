@@ -1,17 +1,16 @@
 //! What refuses a statement whose names were found.
 
-ghost use Rattle.std.specs.Prelude.{◌≡◌, List, [], true, false, map, option_map, slice_get, IfOk, Some};
+ghost use Rattle.std.specs.Prelude.{◌≡◌, List, [], true, false, option_map, IfOk, None, Some};
 ghost use Rattle.am_traits.specs.Causes.{HasCause};
-ghost use Rattle.calculus.specs.declared.request.Update.{Update as Put};
+ghost use Rattle.calculus.specs.declared.query.Query.{Query};
 ghost use Rattle.calculus.specs.declared.statement.Item.{Item};
 ghost use Rattle.calculus.specs.declared.statement.Qual.{Qual};
 ghost use Rattle.calculus.specs.declared.statement.Statement.TheVariants as statement;
 ghost use Rattle.calculus.specs.Lists.{is_any};
 ghost use Rattle.calculus.specs.QueryParts.{query_aggregates};
-ghost use Rattle.calculus.specs.Replacement.{first_cause, wanted_kinds};
-ghost use Rattle.calculus.specs.Stored.{kinds_at};
+ghost use Rattle.calculus.specs.Replacement.{first_cause};
 ghost use Rattle.quel_causes.specs.Judged.{is_judged, update_of};
-ghost use Rattle.quel_meaning.specs.Causes.{causes, causes_by, delete_causes, update_causes};
+ghost use Rattle.quel_meaning.specs.Causes.{causes, causes_by};
 ghost use Rattle.quel_meaning.specs.Scope.{Scope};
 ghost use Rattle.quel_meaning.specs.WrittenParts.{text_aggregates};
 ghost use Rattle.quel_meaning.specs.WrittenQuery.{query_of};
@@ -43,74 +42,43 @@ fn retrieve_cause<B: Base>(
     }
 }
 
-/// What refuses an append or a replacement that is this update.
-fn put_cause<B: Base>(
+/// What refuses an append, a replacement or a deletion that is this update.
+fn changed_cause<B: Base>(
     alloc: Global,
     base: &mut B,
-    update: Option<&Update>,
-) -> Result<Option<u8>, BaseFault>
-    ensures told { (s : Scope) (u : Put) → B.database base.old ≡ Some s.db → option_map (λ v. v.now) update.entry ≡ Some u → query_aggregates u.query ≡ [] → wanted_kinds s.db u ≡ map (slice_get (kinds_at s.db u.rel)) u.places → IfOk result (λ n. n ≡ first_cause (update_causes s true u)) }
-    ensures kept { B.database base.new ≡ B.database base.old }
-    ensures same { B.left base.new ≡ B.left base.old }
-    ensures cause { HasCause (B.database base.old) (B.faults base.old) (B.faults base.new) result }
-{
-    match update {
-        Some(u) => update_cause(alloc, base, u),
-        None => Ok(None),
-    }
-}
-
-/// What refuses a deletion that is this update.
-fn taken_cause<B: Base>(
-    alloc: Global,
-    base: &mut B,
-    update: Option<&Update>,
-) -> Result<Option<u8>, BaseFault>
-    ensures told { (s : Scope) (u : Put) → B.database base.old ≡ Some s.db → option_map (λ v. v.now) update.entry ≡ Some u → query_aggregates u.query ≡ [] → IfOk result (λ n. n ≡ first_cause (delete_causes s true u)) }
-    ensures kept { B.database base.new ≡ B.database base.old }
-    ensures same { B.left base.new ≡ B.left base.old }
-    ensures cause { HasCause (B.database base.old) (B.faults base.old) (B.faults base.new) result }
-{
-    match update {
-        Some(u) => delete_cause(alloc, base, u),
-        None => Ok(None),
-    }
-}
-
-/// What refuses a statement whose query is this, and has no aggregate.
-fn cause_by<B: Base>(
-    alloc: Global,
-    base: &mut B,
-    user: &Name,
     s: &Statement,
-    q: &Query,
-    update: Option<&Update>,
+    u: &Update,
 ) -> Result<Option<u8>, BaseFault>
-    ensures told { (scope : Scope) → B.database base.old ≡ Some scope.db → scope.user ≡ user.now → query_aggregates q.now ≡ [] → option_map (λ v. v.now) update.entry ≡ update_of scope s.now q.now → is_judged s.now ≡ true → IfOk result (λ n. n ≡ first_cause (causes_by scope true q.now s.now)) }
+    ensures told { (scope : Scope) (q : Query) → B.database base.old ≡ Some scope.db → query_aggregates q ≡ [] → Some u.now ≡ update_of scope s.now q → IfOk result (λ n. n ≡ first_cause (causes_by scope true q s.now)) }
     ensures kept { B.database base.new ≡ B.database base.old }
     ensures same { B.left base.new ≡ B.left base.old }
     ensures cause { HasCause (B.database base.old) (B.faults base.old) (B.faults base.new) result }
 {
     match s {
-        Statement::Range { .. } => Ok(None),
+        Statement::Delete { .. } => delete_cause(alloc, base, u),
+        _ => update_cause(alloc, base, u),
+    }
+}
+
+/// What refuses a statement that is no update, whose query is this, and has no aggregate.
+fn unchanged_cause<B: Base>(
+    alloc: Global,
+    base: &mut B,
+    user: &Name,
+    s: &Statement,
+    q: &Query,
+) -> Result<Option<u8>, BaseFault>
+    ensures told { (scope : Scope) → B.database base.old ≡ Some scope.db → scope.user ≡ user.now → query_aggregates q.now ≡ [] → None ≡ update_of scope s.now q.now → is_judged s.now ≡ true → IfOk result (λ n. n ≡ first_cause (causes_by scope true q.now s.now)) }
+    ensures kept { B.database base.new ≡ B.database base.old }
+    ensures same { B.left base.new ≡ B.left base.old }
+    ensures cause { HasCause (B.database base.old) (B.faults base.old) (B.faults base.new) result }
+{
+    match s {
         Statement::Retrieve { into, sort, .. } => {
             retrieve_cause(alloc, base, user, into, sort.items(), q)
         }
-        Statement::Append { .. } => put_cause(alloc, base, update),
-        Statement::Replace { .. } => put_cause(alloc, base, update),
-        Statement::Delete { .. } => taken_cause(alloc, base, update),
         Statement::Create { rel, attrs } => create_cause(alloc, base, user, rel, attrs.items()),
-        Statement::Destroy { .. } => Ok(None),
-        Statement::DropPermits { .. } => Ok(None),
-        Statement::DropRules { .. } => Ok(None),
-        Statement::Modify { .. } => Ok(None),
-        Statement::Index { .. } => Ok(None),
-        Statement::Print { .. } => Ok(None),
-        Statement::Help { .. } => Ok(None),
-        Statement::Copy { .. } => Ok(None),
-        Statement::View { .. } => Ok(None),
-        Statement::Permit { .. } => Ok(None),
-        Statement::Rule { .. } => Ok(None),
+        _ => Ok(None),
     }
 }
 
@@ -131,5 +99,8 @@ pub fn cause<B: Base>(
     ensures same { B.left base.new ≡ B.left base.old }
     ensures cause { HasCause (B.database base.old) (B.faults base.old) (B.faults base.new) result }
 {
-    cause_by(alloc, base, user, s, q, update)
+    match update {
+        Some(u) => changed_cause(alloc, base, s, u),
+        None => unchanged_cause(alloc, base, user, s, q),
+    }
 }

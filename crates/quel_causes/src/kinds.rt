@@ -37,7 +37,9 @@ pub fn kinds_at<B: Base>(alloc: Global, base: &mut B, key: &RelKey) -> Result<Ve
     ensures cause { HasCause (B.database base.old) (B.faults base.old) (B.faults base.new) result }
 {
     let info = base.info(alloc, key)?;
-    Ok(kinds_in(alloc, &info)?)
+    let kinds = kinds_in(alloc, &info);
+    drop(info);
+    Ok(kinds?)
 }
 
 fn put_behind(kinds: &mut Vec<Vec<Kind>>, more: Vec<Kind>) -> Result<(), OutOfMemory>

@@ -1,7 +1,8 @@
 //! Whether there is room for one more relation, view or index, and whether its name is in use.
 
-ghost use Rattle.std.specs.Prelude.{◌≡◌, IfOk, Some};
+ghost use Rattle.std.specs.Prelude.{◌≡◌, is_some, IfOk, Some};
 ghost use Rattle.am_traits.specs.Causes.{HasCause};
+ghost use Rattle.am_traits.specs.Told.{known_at};
 ghost use Rattle.calculus.specs.Catalogue.{is_catalogue_name};
 ghost use Rattle.calculus.specs.Database.{Db};
 ghost use Rattle.calculus.specs.Keys.{key_of};
@@ -42,6 +43,19 @@ pub fn is_catalogue_name(name: &Name) -> bool
     name.bytes() == b"relation".as_slice() || name.bytes() == b"attribute".as_slice()
 }
 
+/// Whether a relation, a view, an index or a catalogue stands under the key.
+fn is_known<B: Base>(alloc: Global, base: &mut B, key: &RelKey) -> Result<bool, BaseFault>
+    ensures told { (db : Db) → B.database base.old ≡ Some db → IfOk result (λ known. known ≡ is_some (known_at db key.now)) }
+    ensures kept { B.database base.new ≡ B.database base.old }
+    ensures same { B.left base.new ≡ B.left base.old }
+    ensures cause { HasCause (B.database base.old) (B.faults base.old) (B.faults base.new) result }
+{
+    let info = base.info(alloc, key)?;
+    let known = info.is_some();
+    drop(info);
+    Ok(known)
+}
+
 /// Whether the user has a relation, view or index of this name, or it is a catalogue's.
 #[tactic(auto, using(crate::proofs::Entries::taken_where_known, crate::proofs::Entries::taken_by_catalogue))]
 pub fn is_taken<B: Base>(
@@ -59,5 +73,7 @@ pub fn is_taken<B: Base>(
         return Ok(true);
     }
     let key = key_of(alloc, user, name)?;
-    Ok(base.info(alloc, &key)?.is_some())
+    let known = is_known(alloc, base, &key);
+    drop(key);
+    known
 }

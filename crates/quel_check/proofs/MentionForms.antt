@@ -1,5 +1,5 @@
 -- The names of terms and qualifications, form by form.
-use Rattle.std.proofs.Common.{◌≡◌, ℕ, ℤ, refl, ap, ◌∙◌, sym, List, [], ◌∷◌, ◌++◌, append_assoc}
+use Rattle.std.proofs.Common.{◌≡◌, ◌⊎◌, inl, inr, ℕ, ℤ, refl, ap, ◌∙◌, sym, List, [], ◌∷◌, ◌++◌, append_assoc}
 use Rattle.std.specs.List.{flat_map}
 use Rattle.std.proofs.lemmas.List.{map-append}
 use denote.Hole.Carrier.{hidden}
@@ -45,6 +45,11 @@ pub in_concat : (t u : Term) → dotted (attributes (Concat t u)) ≡ dotted (at
 unfolding shape-the_row-Term-1 hidden-the_row-Term-1 hidden
 in_concat t u = dotted_both (attributes t) (attributes u)
 
+-- the names of a term that joins two
+pub in_pair : (t l r : Term) → ((op : ArithOp) × (t ≡ Arith op l r)) ⊎ (t ≡ Concat l r) → dotted (attributes t) ≡ dotted (attributes l) ++ dotted (attributes r)
+in_pair t l r (inl w) = ap (λ x. dotted (attributes x)) w.1 ∙ in_arith w.0 l r
+in_pair t l r (inr e) = ap (λ x. dotted (attributes x)) e ∙ in_concat l r
+
 in_row : (ts : List Term) → attributes_in_row (term_row ts) ≡ flat_map attributes ts
 in_row [] = refl
 in_row (t ∷ ts) = ap (λ ds. attributes t ++ ds) (in_row ts)
@@ -77,3 +82,8 @@ in_or p q = dotted_both (attributes_in_qual p) (attributes_in_qual q)
 pub in_not : (p : Qual) → dotted (attributes_in_qual (Not p)) ≡ dotted (attributes_in_qual p)
 unfolding shape-the_row-Qual-0 hidden-the_row-Qual-0 hidden
 in_not p = refl
+
+-- the names of a qualification that joins two
+pub in_quals : (q l r : Qual) → (q ≡ And l r) ⊎ (q ≡ Or l r) → dotted (attributes_in_qual q) ≡ dotted (attributes_in_qual l) ++ dotted (attributes_in_qual r)
+in_quals q l r (inl e) = ap (λ x. dotted (attributes_in_qual x)) e ∙ in_and l r
+in_quals q l r (inr e) = ap (λ x. dotted (attributes_in_qual x)) e ∙ in_or l r

@@ -44,13 +44,9 @@ once_more (x ∷ ns) n = go (bytes_eq x n) refl (is_among n (once ns)) refl (onc
         ap (λ ms. x ∷ without x ms) h ∙ ap (λ ms. x ∷ ms) (without_last x n (once ns) false e)
         ∙ sym (ap (λ b. cond b (x ∷ without x (once ns)) (x ∷ (without x (once ns) ++ n ∷ []))) (still_there x n e (once ns) ∙ f))
 
--- a name that is among them changes nothing
-pub stays : (found ns : List (List ℕ)) (n : List ℕ) → found ≡ once ns → is_among n found ≡ true → found ≡ once (ns ++ n ∷ [])
-stays found ns n e h = e ∙ sym (once_more ns n ∙ ap (λ b. cond b (once ns) (once ns ++ n ∷ [])) (ap (is_among n) (sym e) ∙ h))
-
--- another one comes behind them
-pub grows : (found ns : List (List ℕ)) (n : List ℕ) → found ≡ once ns → is_among n found ≡ false → found ++ n ∷ [] ≡ once (ns ++ n ∷ [])
-grows found ns n e h = ap (λ ms. ms ++ n ∷ []) e ∙ sym (once_more ns n ∙ ap (λ b. cond b (once ns) (once ns ++ n ∷ [])) (ap (is_among n) (sym e) ∙ h))
+-- one more name is put behind those found where it is none of them
+pub comes : (found ns : List (List ℕ)) (n : List ℕ) → found ≡ once ns → cond (is_among n found) found (found ++ n ∷ []) ≡ once (ns ++ n ∷ [])
+comes found ns n e = (λ i. cond (is_among n (e i)) (e i) (e i ++ n ∷ [])) ∙ sym (once_more ns n)
 
 -- ---- in a loop
 

@@ -1,5 +1,5 @@
 -- The variables of terms and qualifications, form by form.
-use Rattle.std.proofs.Common.{◌≡◌, ℕ, ℤ, refl, ap, ◌∙◌, sym, List, [], ◌∷◌, ◌++◌, append_assoc}
+use Rattle.std.proofs.Common.{◌≡◌, ◌⊎◌, inl, inr, ℕ, ℤ, refl, ap, ◌∙◌, List, [], ◌∷◌, ◌++◌, append_assoc}
 use Rattle.std.specs.List.{flat_map}
 use denote.Hole.Carrier.{hidden}
 use Rattle.calculus.proofs.WrittenForms.{agg_is}
@@ -39,6 +39,11 @@ pub vars_concat : (t u : Term) → outer_vars (Concat t u) ≡ outer_vars t ++ o
 unfolding shape-the_row-Term-1 hidden-the_row-Term-1 hidden
 vars_concat t u = refl
 
+-- the variables of a term that joins two
+pub vars_pair : (t l r : Term) → ((op : ArithOp) × (t ≡ Arith op l r)) ⊎ (t ≡ Concat l r) → outer_vars t ≡ outer_vars l ++ outer_vars r
+vars_pair t l r (inl w) = ap outer_vars w.1 ∙ vars_arith w.0 l r
+vars_pair t l r (inr e) = ap outer_vars e ∙ vars_concat l r
+
 vars_row : (ts : List Term) → outer_vars_in_row (term_row ts) ≡ flat_map outer_vars ts
 vars_row [] = refl
 vars_row (t ∷ ts) = ap (λ vs. outer_vars t ++ vs) (vars_row ts)
@@ -60,6 +65,11 @@ pub qual_or : (p q : Qual) → outer_vars_in_qual (Or p q) ≡ outer_vars_in_qua
 unfolding shape-the_row-Qual-0 hidden-the_row-Qual-0 hidden
 qual_or p q = refl
 
+-- the variables of a qualification that joins two
+pub quals_pair : (q l r : Qual) → (q ≡ And l r) ⊎ (q ≡ Or l r) → outer_vars_in_qual q ≡ outer_vars_in_qual l ++ outer_vars_in_qual r
+quals_pair q l r (inl e) = ap outer_vars_in_qual e ∙ qual_and l r
+quals_pair q l r (inr e) = ap outer_vars_in_qual e ∙ qual_or l r
+
 pub qual_not : (p : Qual) → outer_vars_in_qual (Not p) ≡ outer_vars_in_qual p
 unfolding shape-the_row-Qual-0 hidden-the_row-Qual-0 hidden
 qual_not p = refl
@@ -67,8 +77,8 @@ qual_not p = refl
 -- ---- one behind the other
 
 -- what is put behind in two steps is put behind
-pub twice : {X : Type 0} (before between after xs ys zs : List X) → between ≡ before ++ xs → after ≡ between ++ ys → zs ≡ xs ++ ys → after ≡ before ++ zs
-twice before between after xs ys zs e f g = f ∙ ap (λ vs. vs ++ ys) e ∙ append_assoc before xs ys ∙ ap (λ vs. before ++ vs) (sym g)
+pub behind : {X : Type 0} (before between after xs ys : List X) → between ≡ before ++ xs → after ≡ between ++ ys → after ≡ before ++ (xs ++ ys)
+behind before between after xs ys e f = f ∙ ap (λ vs. vs ++ ys) e ∙ append_assoc before xs ys
 
 -- what is put into nothing in three steps
 pub thrice : {X : Type 0} (start first second third xs ys zs : List X) → start ≡ [] → first ≡ start ++ xs → second ≡ first ++ ys → third ≡ second ++ zs → third ≡ xs ++ (ys ++ zs)

@@ -14,15 +14,9 @@ pub fn term_has_aggregate(t: &Term) -> bool
     ensures { result ≡ is_any (aggregates_in t.now) }
 {
     match t {
-        Term::Int(_) => false,
-        Term::Chars(_) => false,
-        Term::Attr { .. } => false,
-        Term::Neg(inner) => term_has_aggregate(inner.get()),
-        Term::Abs(inner) => term_has_aggregate(inner.get()),
-        Term::Arith { op: _, left, right } => {
-            term_has_aggregate(left.get()) || term_has_aggregate(right.get())
-        }
-        Term::Concat { left, right } => {
+        Term::Int(_) | Term::Chars(_) | Term::Attr { .. } => false,
+        Term::Neg(inner) | Term::Abs(inner) => term_has_aggregate(inner.get()),
+        Term::Arith { op: _, left, right } | Term::Concat { left, right } => {
             term_has_aggregate(left.get()) || term_has_aggregate(right.get())
         }
         Term::Agg(_) => true,
@@ -37,8 +31,9 @@ pub fn qual_has_aggregate(q: &Qual) -> bool
     match q {
         Qual::True => false,
         Qual::Cmp { op: _, left, right } => term_has_aggregate(left) || term_has_aggregate(right),
-        Qual::And(left, right) => qual_has_aggregate(left.get()) || qual_has_aggregate(right.get()),
-        Qual::Or(left, right) => qual_has_aggregate(left.get()) || qual_has_aggregate(right.get()),
+        Qual::And(left, right) | Qual::Or(left, right) => {
+            qual_has_aggregate(left.get()) || qual_has_aggregate(right.get())
+        }
         Qual::Not(inner) => qual_has_aggregate(inner.get()),
     }
 }

@@ -30,20 +30,12 @@ pub(crate) fn push_term<'a>(mentions: &mut Vec<Mention<'a>>, t: &'a Term) -> Res
     ensures { OnOk result (map seen mentions.new.items ≡ map seen mentions.old.items ++ dotted (attributes t.now)) }
 {
     match t {
-        Term::Int(_) => Ok(()),
-        Term::Chars(_) => Ok(()),
+        Term::Int(_) | Term::Chars(_) => Ok(()),
         Term::Attr { var, attr } => Ok(mentions.push(Mention::AttrOf(var, attr))?),
-        Term::Neg(inner) => push_term(mentions, inner.get()),
-        Term::Abs(inner) => push_term(mentions, inner.get()),
-        Term::Arith { op: _, left, right } => {
+        Term::Neg(inner) | Term::Abs(inner) => push_term(mentions, inner.get()),
+        Term::Arith { op: _, left, right } | Term::Concat { left, right } => {
             push_term(mentions, left.get())?;
-            push_term(mentions, right.get())?;
-            Ok(())
-        }
-        Term::Concat { left, right } => {
-            push_term(mentions, left.get())?;
-            push_term(mentions, right.get())?;
-            Ok(())
+            push_term(mentions, right.get())
         }
         Term::Agg(agg) => push_aggregate(mentions, agg.get()),
     }
@@ -55,8 +47,7 @@ fn push_aggregate<'a>(mentions: &mut Vec<Mention<'a>>, g: &'a AggTerm) -> Result
 {
     push_term(mentions, &g.arg)?;
     push_terms(mentions, g.by.items())?;
-    push_qual(mentions, &g.qual)?;
-    Ok(())
+    push_qual(mentions, &g.qual)
 }
 
 #[cycle(mentions)]
@@ -79,18 +70,11 @@ pub(crate) fn push_qual<'a>(mentions: &mut Vec<Mention<'a>>, q: &'a Qual) -> Res
         Qual::True => Ok(()),
         Qual::Cmp { op: _, left, right } => {
             push_term(mentions, left)?;
-            push_term(mentions, right)?;
-            Ok(())
+            push_term(mentions, right)
         }
-        Qual::And(left, right) => {
+        Qual::And(left, right) | Qual::Or(left, right) => {
             push_qual(mentions, left.get())?;
-            push_qual(mentions, right.get())?;
-            Ok(())
-        }
-        Qual::Or(left, right) => {
-            push_qual(mentions, left.get())?;
-            push_qual(mentions, right.get())?;
-            Ok(())
+            push_qual(mentions, right.get())
         }
         Qual::Not(inner) => push_qual(mentions, inner.get()),
     }

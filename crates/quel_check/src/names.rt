@@ -1,6 +1,6 @@
 //! The variables of a statement.
 
-ghost use Rattle.std.specs.Prelude.{◌≡◌, ◌++◌, flat_map, map, option_map, IfOk, OnOk, bytes_eq};
+ghost use Rattle.std.specs.Prelude.{◌≡◌, ◌++◌, ◌∷◌, [], cond, flat_map, map, option_map, IfOk, OnOk, bytes_eq};
 ghost use Rattle.std.specs.Option.{option_to_list};
 ghost use Rattle.std.specs.List.{list_any};
 ghost use Rattle.quel_meaning.specs.WrittenParts.{first_vars, once, outer_vars, outer_vars_in_item, outer_vars_in_qual, items_of, where_of, vars_in};
@@ -16,20 +16,12 @@ fn push_vars<'a>(names: &mut Vec<&'a Name>, t: &'a Term) -> Result<(), OutOfMemo
     ensures { OnOk result (map (λ n. n.now) names.new.items ≡ map (λ n. n.now) names.old.items ++ outer_vars t.now) }
 {
     match t {
-        Term::Int(_) => Ok(()),
-        Term::Chars(_) => Ok(()),
+        Term::Int(_) | Term::Chars(_) => Ok(()),
         Term::Attr { var, attr: _ } => Ok(names.push(var)?),
-        Term::Neg(inner) => push_vars(names, inner.get()),
-        Term::Abs(inner) => push_vars(names, inner.get()),
-        Term::Arith { op: _, left, right } => {
+        Term::Neg(inner) | Term::Abs(inner) => push_vars(names, inner.get()),
+        Term::Arith { op: _, left, right } | Term::Concat { left, right } => {
             push_vars(names, left.get())?;
-            push_vars(names, right.get())?;
-            Ok(())
-        }
-        Term::Concat { left, right } => {
-            push_vars(names, left.get())?;
-            push_vars(names, right.get())?;
-            Ok(())
+            push_vars(names, right.get())
         }
         Term::Agg(agg) => push_vars_of_terms(names, agg.get().by.items()),
     }
@@ -54,15 +46,9 @@ fn push_vars_of_qual<'a>(names: &mut Vec<&'a Name>, q: &'a Qual) -> Result<(), O
         Qual::True => Ok(()),
         Qual::Cmp { op: _, left, right } => {
             push_vars(names, left)?;
-            push_vars(names, right)?;
-            Ok(())
+            push_vars(names, right)
         }
-        Qual::And(left, right) => {
-            push_vars_of_qual(names, left.get())?;
-            push_vars_of_qual(names, right.get())?;
-            Ok(())
-        }
-        Qual::Or(left, right) => {
+        Qual::And(left, right) | Qual::Or(left, right) => {
             push_vars_of_qual(names, left.get())?;
             push_vars_of_qual(names, right.get())?;
             Ok(())
@@ -77,8 +63,7 @@ fn push_vars_of_item<'a>(names: &mut Vec<&'a Name>, item: &'a Item) -> Result<()
 {
     match item {
         Item::Set { name: _, term } => push_vars(names, term),
-        Item::Attr { var, attr: _ } => Ok(names.push(var)?),
-        Item::All { var } => Ok(names.push(var)?),
+        Item::Attr { var, attr: _ } | Item::All { var } => Ok(names.push(var)?),
     }
 }
 
@@ -112,19 +97,7 @@ fn first_var(s: &Statement) -> Option<&Name>
         Statement::Delete { var, .. } => Some(var),
         Statement::Permit { var, .. } => Some(var),
         Statement::Rule { var, .. } => Some(var),
-        Statement::Range { .. } => None,
-        Statement::Retrieve { .. } => None,
-        Statement::Append { .. } => None,
-        Statement::Create { .. } => None,
-        Statement::Destroy { .. } => None,
-        Statement::DropPermits { .. } => None,
-        Statement::DropRules { .. } => None,
-        Statement::Modify { .. } => None,
-        Statement::Index { .. } => None,
-        Statement::Print { .. } => None,
-        Statement::Help { .. } => None,
-        Statement::Copy { .. } => None,
-        Statement::View { .. } => None,
+        _ => None,
     }
 }
 
@@ -145,17 +118,52 @@ pub(crate) fn has_name(names: &[Name], name: &Name) -> bool
     names.iter().any(|n| n == name)
 }
 
+/// Puts a name behind those found where it is none of them.
+fn push_new(alloc: Global, found: &mut Vec<Name>, name: &Name) -> Result<(), OutOfMemory>
+    ensures { OnOk result (found.new.items ≡ cond (list_any (λ n. bytes_eq n name.now) found.old.items) found.old.items (found.old.items ++ name.now ∷ [])) }
+{
+    if !has_name(found, name) {
+        let copy = name.copy(alloc)?;
+        found.push(copy)?;
+    }
+    Ok(())
+}
+
+/// Puts each name once where none was found yet, in the order in which they first stand.
+fn push_once(alloc: Global, found: &mut Vec<Name>, names: &[&Name]) -> Result<(), OutOfMemory>
+    requires { found.old.items ≡ [] }
+    ensures { OnOk result (found.new.items ≡ once (map (λ n. n.now) names.now)) }
+{
+    for name in names {
+        push_new(alloc, found, name)?;
+    }
+    Ok(())
+}
+
 /// Each name once, in the order in which they first stand.
-fn once(alloc: Global, names: &[&Name]) -> Result<Vec<Name>, OutOfMemory>
-    ensures { IfOk result (λ found. found.items ≡ once (map (λ n. n.now) names.now)) }
+fn once(alloc: Global, names: &[&Name]) -> Result<List<Name>, OutOfMemory>
+    ensures { IfOk result (λ found. found ≡ once (map (λ n. n.now) names.now)) }
 {
     let mut found: Vec<Name> = Vec::new(alloc);
-    for name in names {
-        if !has_name(&found, name) {
-            found.push(name.copy(alloc)?)?;
-        }
+    match push_once(alloc, &mut found, names) {
+        Ok(()) => Ok(List::of(found)),
+        Err(error) => Err(error),
     }
-    Ok(found)
+}
+
+/// Puts all variables of a statement's query behind the names: the one that it names by itself, then
+/// those of its target list and of its qualification.
+fn push_vars_of_statement<'a>(
+    names: &mut Vec<&'a Name>,
+    s: &'a Statement,
+) -> Result<(), OutOfMemory>
+    requires { names.old.items ≡ [] }
+    ensures { OnOk result (map (λ n. n.now) names.new.items ≡ first_vars s.now ++ (flat_map outer_vars_in_item (items_of s.now) ++ outer_vars_in_qual (where_of s.now))) }
+{
+    push_first_var(names, s)?;
+    push_vars_of_items(names, items_of(s))?;
+    push_vars_of_where(names, s)?;
+    Ok(())
 }
 
 /// The variables of a statement's query, each once, in the order of its text: the one that it names
@@ -164,8 +172,8 @@ pub fn vars_in(alloc: Global, s: &Statement) -> Result<List<Name>, OutOfMemory>
     ensures { IfOk result (λ vars. vars ≡ vars_in s.now) }
 {
     let mut names: Vec<&Name> = Vec::new(alloc);
-    push_first_var(&mut names, s)?;
-    push_vars_of_items(&mut names, items_of(s))?;
-    push_vars_of_where(&mut names, s)?;
-    Ok(List::of(once(alloc, &names)?))
+    match push_vars_of_statement(&mut names, s) {
+        Ok(()) => once(alloc, &names),
+        Err(error) => Err(error),
+    }
 }

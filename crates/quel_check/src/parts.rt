@@ -15,19 +15,7 @@ pub(crate) fn items_of(s: &Statement) -> &[Item]
         Statement::Append { items, .. } => items.items(),
         Statement::Replace { items, .. } => items.items(),
         Statement::View { items, .. } => items.items(),
-        Statement::Range { .. } => &[],
-        Statement::Delete { .. } => &[],
-        Statement::Create { .. } => &[],
-        Statement::Destroy { .. } => &[],
-        Statement::DropPermits { .. } => &[],
-        Statement::DropRules { .. } => &[],
-        Statement::Modify { .. } => &[],
-        Statement::Index { .. } => &[],
-        Statement::Print { .. } => &[],
-        Statement::Help { .. } => &[],
-        Statement::Copy { .. } => &[],
-        Statement::Permit { .. } => &[],
-        Statement::Rule { .. } => &[],
+        _ => &[],
     }
 }
 
@@ -43,15 +31,6 @@ pub(crate) fn where_of(s: &Statement) -> Option<&Qual>
         Statement::View { qual, .. } => Some(qual),
         Statement::Permit { qual, .. } => Some(qual),
         Statement::Rule { qual, .. } => Some(qual),
-        Statement::Range { .. } => None,
-        Statement::Create { .. } => None,
-        Statement::Destroy { .. } => None,
-        Statement::DropPermits { .. } => None,
-        Statement::DropRules { .. } => None,
-        Statement::Modify { .. } => None,
-        Statement::Index { .. } => None,
-        Statement::Print { .. } => None,
-        Statement::Help { .. } => None,
-        Statement::Copy { .. } => None,
+        _ => None,
     }
 }

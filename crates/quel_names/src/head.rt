@@ -1,6 +1,6 @@
 //! The names of a statement in front of its target list and its qualification.
 
-ghost use Rattle.std.specs.Prelude.{◌≡◌, [], ◌∷◌, flat_map, map, IfOk};
+ghost use Rattle.std.specs.Prelude.{◌≡◌, [], ◌∷◌, ◌++◌, flat_map, map, IfOk, OnOk};
 ghost use Rattle.std.specs.Option.{option_to_list};
 ghost use Rattle.quel_check.specs.Seen.{seen};
 ghost use Rattle.quel_meaning.specs.Naming.{Entry, Relation, Variable, AttrIn, AttrOf};
@@ -33,6 +33,18 @@ fn each<'a>(
     Ok(mentions)
 }
 
+fn push_with_names<'a>(
+    mentions: &mut Vec<Mention<'a>>,
+    first: &Mention<'a>,
+    role: &Role<'a>,
+    names: &'a [Name],
+) -> Result<(), OutOfMemory>
+    ensures { OnOk result (map seen mentions.new.items ≡ map seen mentions.old.items ++ seen first.now ∷ flat_map (meant_by role.now) names.now) }
+{
+    mentions.push(*first)?;
+    push_names(mentions, role, names)
+}
+
 fn with_names<'a>(
     alloc: Global,
     first: &Mention<'a>,
@@ -42,9 +54,19 @@ fn with_names<'a>(
     ensures { IfOk result (λ found. map seen found.items ≡ seen first.now ∷ flat_map (meant_by role.now) names.now) }
 {
     let mut mentions: Vec<Mention<'a>> = Vec::new(alloc);
-    mentions.push(*first)?;
-    push_names(&mut mentions, role, names)?;
+    push_with_names(&mut mentions, first, role, names)?;
     Ok(mentions)
+}
+
+fn push_with_columns<'a>(
+    mentions: &mut Vec<Mention<'a>>,
+    rel: &'a Name,
+    columns: &'a [(Name, CopyForm)],
+) -> Result<(), OutOfMemory>
+    ensures { OnOk result (map seen mentions.new.items ≡ map seen mentions.old.items ++ Relation rel.now ∷ map (λ c. AttrIn rel.now c.0) columns.now) }
+{
+    mentions.push(Mention::Relation(rel))?;
+    push_columns(mentions, &Role::AttrIn(rel), columns)
 }
 
 fn with_columns<'a>(
@@ -55,8 +77,7 @@ fn with_columns<'a>(
     ensures { IfOk result (λ found. map seen found.items ≡ Relation rel.now ∷ map (λ c. AttrIn rel.now c.0) columns.now) }
 {
     let mut mentions: Vec<Mention<'a>> = Vec::new(alloc);
-    mentions.push(Mention::Relation(rel))?;
-    push_columns(&mut mentions, &Role::AttrIn(rel), columns)?;
+    push_with_columns(&mut mentions, rel, columns)?;
     Ok(mentions)
 }
 
@@ -119,22 +140,26 @@ pub(crate) fn head(alloc: Global, s: &Statement) -> Result<Vec<Mention<'_>>, Out
     ensures { IfOk result (λ found. map seen found.items ≡ head s.now) }
 {
     match s {
-        Statement::Range { rel, .. } => relation(alloc, rel),
-        Statement::Retrieve { .. } => Ok(Vec::new(alloc)),
-        Statement::Append { rel, .. } => relation(alloc, rel),
-        Statement::Replace { var, .. } => variable(alloc, var),
-        Statement::Delete { var, .. } => variable(alloc, var),
-        Statement::Create { .. } => Ok(Vec::new(alloc)),
+        Statement::Range { rel, .. }
+        | Statement::Append { rel, .. }
+        | Statement::DropPermits { rel, .. }
+        | Statement::DropRules { rel, .. } => relation(alloc, rel),
+        Statement::Replace { var, .. }
+        | Statement::Delete { var, .. }
+        | Statement::Rule { var, .. } => variable(alloc, var),
+        Statement::Retrieve { .. } | Statement::Create { .. } | Statement::View { .. } => {
+            Ok(Vec::new(alloc))
+        }
         Statement::Destroy { rels } => entries(alloc, rels.items()),
-        Statement::DropPermits { rel, .. } => relation(alloc, rel),
-        Statement::DropRules { rel, .. } => relation(alloc, rel),
-        Statement::Modify { rel, keys, .. } => attrs_in(alloc, rel, keys.items()),
-        Statement::Index { base, keys, .. } => attrs_in(alloc, base, keys.items()),
+        Statement::Modify { rel, keys, .. }
+        | Statement::Index {
+            base: rel,
+            keys,
+            ..
+        } => attrs_in(alloc, rel, keys.items()),
         Statement::Print { rels } => relations(alloc, rels.items()),
         Statement::Help { rel } => asked(alloc, rel),
         Statement::Copy { rel, columns, .. } => with_columns(alloc, rel, columns.items()),
-        Statement::View { .. } => Ok(Vec::new(alloc)),
         Statement::Permit { var, attrs, .. } => attrs_of(alloc, var, attrs.items()),
-        Statement::Rule { var, .. } => variable(alloc, var),
     }
 }

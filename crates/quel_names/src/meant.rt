@@ -1,6 +1,7 @@
 //! What names are that stand alone in a statement.
 
 ghost use Rattle.std.specs.Prelude.{◌≡◌, ◌++◌, ◌∷◌, flat_map, map, IfOk, OnOk};
+ghost use Rattle.std.specs.Option.{option_to_list};
 ghost use Rattle.quel_check.specs.Seen.{seen};
 ghost use Rattle.quel_meaning.specs.Naming.{AttrOf};
 ghost use Rattle.quel_names.specs.Roles.{meant_by};
@@ -10,6 +11,19 @@ use calculus::{Attr, CopyForm, Name, OutOfMemory};
 use quel_check::Mention;
 use std::alloc::Global;
 
+/// What a name is; `None` where it is nothing yet.
+fn mention_by<'a>(role: &Role<'a>, name: &'a Name) -> Option<Mention<'a>>
+    ensures { map seen (option_to_list result) ≡ meant_by role.now name.now }
+{
+    match role {
+        Role::New => None,
+        Role::Relation => Some(Mention::Relation(name)),
+        Role::Entry => Some(Mention::Entry(name)),
+        Role::AttrIn(rel) => Some(Mention::AttrIn(rel, name)),
+        Role::AttrOf(var) => Some(Mention::AttrOf(var, name)),
+    }
+}
+
 /// Puts what a name is behind the mentions.
 pub(crate) fn push_meant<'a>(
     mentions: &mut Vec<Mention<'a>>,
@@ -18,12 +32,9 @@ pub(crate) fn push_meant<'a>(
 ) -> Result<(), OutOfMemory>
     ensures { OnOk result (map seen mentions.new.items ≡ map seen mentions.old.items ++ meant_by role.now name.now) }
 {
-    match role {
-        Role::New => Ok(()),
-        Role::Relation => Ok(mentions.push(Mention::Relation(name))?),
-        Role::Entry => Ok(mentions.push(Mention::Entry(name))?),
-        Role::AttrIn(rel) => Ok(mentions.push(Mention::AttrIn(rel, name))?),
-        Role::AttrOf(var) => Ok(mentions.push(Mention::AttrOf(var, name))?),
+    match mention_by(role, name) {
+        Some(mention) => Ok(mentions.push(mention)?),
+        None => Ok(()),
     }
 }
 

@@ -1,15 +1,15 @@
 //! The first name that refuses, among mentions.
 
-ghost use Rattle.std.specs.Prelude.{◌≡◌, Some, IfOk, map};
+ghost use Rattle.std.specs.Prelude.{◌≡◌, List, Some, IfOk, map};
 ghost use Rattle.am_traits.specs.Causes.{HasCause};
 ghost use Rattle.calculus.specs.Database.{Db};
 ghost use Rattle.quel_check.specs.Seen.{seen};
-ghost use Rattle.quel_meaning.specs.Naming.{first_number, mention_refusal};
+ghost use Rattle.quel_meaning.specs.Naming.{Mention as Named, first_number, mention_refusal};
 ghost use Rattle.quel_names.specs.Asking.{scope_of};
 
 use crate::mention::mention_refusal;
 use am_traits::{Base, BaseFault};
-use calculus::Name;
+use calculus::{Name, OutOfMemory};
 use quel_check::{Mention, RangeTable};
 use std::alloc::Global;
 
@@ -35,4 +35,23 @@ pub(crate) fn first_refusal<B: Base>(
         }
     }
     Ok(None)
+}
+
+/// The same of names that were listed where there was memory for them.
+pub(crate) fn refusal_of<B: Base>(
+    alloc: Global,
+    base: &mut B,
+    user: &Name,
+    ranges: &RangeTable,
+    mentions: Result<Vec<Mention<'_>>, OutOfMemory>,
+) -> Result<Option<u8>, BaseFault>
+    ensures told { (db : Db) (names : List Named) → B.database base.old ≡ Some db
+        → IfOk mentions.entry (λ found. map seen found.items ≡ names)
+        → IfOk result (λ n. n ≡ first_number (map (mention_refusal (scope_of db user.now ranges.now)) names)) }
+    ensures kept { B.database base.new ≡ B.database base.old }
+    ensures same { B.left base.new ≡ B.left base.old }
+    ensures cause { HasCause (B.database base.old) (B.faults base.old) (B.faults base.new) result }
+{
+    let mentions = mentions?;
+    first_refusal(alloc, base, user, ranges, &mentions)
 }

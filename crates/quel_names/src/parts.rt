@@ -16,21 +16,7 @@ pub(crate) fn titles_of(s: &Statement) -> Role<'_>
     match s {
         Statement::Append { rel, .. } => Role::AttrIn(rel),
         Statement::Replace { var, .. } => Role::AttrOf(var),
-        Statement::Range { .. } => Role::New,
-        Statement::Retrieve { .. } => Role::New,
-        Statement::Delete { .. } => Role::New,
-        Statement::Create { .. } => Role::New,
-        Statement::Destroy { .. } => Role::New,
-        Statement::DropPermits { .. } => Role::New,
-        Statement::DropRules { .. } => Role::New,
-        Statement::Modify { .. } => Role::New,
-        Statement::Index { .. } => Role::New,
-        Statement::Print { .. } => Role::New,
-        Statement::Help { .. } => Role::New,
-        Statement::Copy { .. } => Role::New,
-        Statement::View { .. } => Role::New,
-        Statement::Permit { .. } => Role::New,
-        Statement::Rule { .. } => Role::New,
+        _ => Role::New,
     }
 }
 
@@ -43,19 +29,7 @@ pub(crate) fn items_of(s: &Statement) -> &[Item]
         Statement::Append { items, .. } => items.items(),
         Statement::Replace { items, .. } => items.items(),
         Statement::View { items, .. } => items.items(),
-        Statement::Range { .. } => &[],
-        Statement::Delete { .. } => &[],
-        Statement::Create { .. } => &[],
-        Statement::Destroy { .. } => &[],
-        Statement::DropPermits { .. } => &[],
-        Statement::DropRules { .. } => &[],
-        Statement::Modify { .. } => &[],
-        Statement::Index { .. } => &[],
-        Statement::Print { .. } => &[],
-        Statement::Help { .. } => &[],
-        Statement::Copy { .. } => &[],
-        Statement::Permit { .. } => &[],
-        Statement::Rule { .. } => &[],
+        _ => &[],
     }
 }
 
@@ -71,15 +45,6 @@ pub(crate) fn where_of(s: &Statement) -> Option<&Qual>
         Statement::View { qual, .. } => Some(qual),
         Statement::Permit { qual, .. } => Some(qual),
         Statement::Rule { qual, .. } => Some(qual),
-        Statement::Range { .. } => None,
-        Statement::Create { .. } => None,
-        Statement::Destroy { .. } => None,
-        Statement::DropPermits { .. } => None,
-        Statement::DropRules { .. } => None,
-        Statement::Modify { .. } => None,
-        Statement::Index { .. } => None,
-        Statement::Print { .. } => None,
-        Statement::Help { .. } => None,
-        Statement::Copy { .. } => None,
+        _ => None,
     }
 }

@@ -9,7 +9,7 @@ ghost use Rattle.quel_names.specs.Asking.{scope_of};
 ghost use Rattle.quel_names.specs.Parts.{head, title_in};
 
 use crate::head::head;
-use crate::mentioned::first_refusal;
+use crate::mentioned::refusal_of;
 use crate::parts::{items_of, titles_of, where_of};
 use crate::text::query_refusal;
 use am_traits::{Base, BaseFault};
@@ -31,8 +31,7 @@ fn head_refusal<B: Base>(
     ensures same { B.left base.new ≡ B.left base.old }
     ensures cause { HasCause (B.database base.old) (B.faults base.old) (B.faults base.new) result }
 {
-    let mentions = head(alloc, s)?;
-    first_refusal(alloc, base, user, ranges, &mentions)
+    refusal_of(alloc, base, user, ranges, head(alloc, s))
 }
 
 /// What refuses the names in the target list and in the qualification.

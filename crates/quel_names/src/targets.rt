@@ -1,10 +1,10 @@
 //! What refuses a target list.
 
-ghost use Rattle.std.specs.Prelude.{◌≡◌, ◌++◌, ◌∷◌, Some, IfOk, flat_map, map};
+ghost use Rattle.std.specs.Prelude.{◌≡◌, ◌++◌, Some, IfOk, flat_map, map};
 ghost use Rattle.am_traits.specs.Causes.{HasCause};
 ghost use Rattle.calculus.specs.Database.{Db};
 ghost use Rattle.calculus.specs.declared.statement.Item.TheVariants.{All};
-ghost use Rattle.quel_meaning.specs.Naming.{AttrOf, dotted, first_number, item_mentions, mention_refusal};
+ghost use Rattle.quel_meaning.specs.Naming.{dotted, first_number, item_mentions, mention_refusal};
 ghost use Rattle.quel_meaning.specs.WrittenParts.{attributes};
 ghost use Rattle.quel_names.specs.Asking.{scope_of};
 ghost use Rattle.quel_names.specs.Roles.{meant_by};
@@ -12,49 +12,12 @@ ghost use Rattle.quel_names.specs.Roles.{meant_by};
 use crate::looking::ranged;
 use crate::meant::{meant, titled_by_itself, titles};
 use crate::mention::mention_refusal;
-use crate::mentioned::first_refusal;
+use crate::mentioned::refusal_of;
 use crate::role::Role;
 use am_traits::{Base, BaseFault};
 use calculus::{Attr, Item, Name, Term};
 use quel_check::{Mention, RangeTable, mentions_in_term};
 use std::alloc::Global;
-
-/// What refuses the names in a term.
-fn term_refusal<B: Base>(
-    alloc: Global,
-    base: &mut B,
-    user: &Name,
-    ranges: &RangeTable,
-    term: &Term,
-) -> Result<Option<u8>, BaseFault>
-    ensures told { (db : Db) → B.database base.old ≡ Some db
-        → IfOk result (λ n. n ≡ first_number (map (mention_refusal (scope_of db user.now ranges.now)) (dotted (attributes term.now)))) }
-    ensures kept { B.database base.new ≡ B.database base.old }
-    ensures same { B.left base.new ≡ B.left base.old }
-    ensures cause { HasCause (B.database base.old) (B.faults base.old) (B.faults base.new) result }
-{
-    let mentions = mentions_in_term(alloc, term)?;
-    first_refusal(alloc, base, user, ranges, &mentions)
-}
-
-/// What refuses a title.
-fn title_refusal<B: Base>(
-    alloc: Global,
-    base: &mut B,
-    user: &Name,
-    ranges: &RangeTable,
-    role: &Role<'_>,
-    name: &Name,
-) -> Result<Option<u8>, BaseFault>
-    ensures told { (db : Db) → B.database base.old ≡ Some db
-        → IfOk result (λ n. n ≡ first_number (map (mention_refusal (scope_of db user.now ranges.now)) (meant_by role.now name.now))) }
-    ensures kept { B.database base.new ≡ B.database base.old }
-    ensures same { B.left base.new ≡ B.left base.old }
-    ensures cause { HasCause (B.database base.old) (B.faults base.old) (B.faults base.new) result }
-{
-    let mentions = meant(alloc, role, name)?;
-    first_refusal(alloc, base, user, ranges, &mentions)
-}
 
 /// What refuses a term with its title.
 fn set_refusal<B: Base>(
@@ -72,31 +35,11 @@ fn set_refusal<B: Base>(
     ensures same { B.left base.new ≡ B.left base.old }
     ensures cause { HasCause (B.database base.old) (B.faults base.old) (B.faults base.new) result }
 {
-    let refusal = title_refusal(alloc, base, user, ranges, role, name)?;
+    let refusal = refusal_of(alloc, base, user, ranges, meant(alloc, role, name))?;
     if refusal.is_some() {
         return Ok(refusal);
     }
-    term_refusal(alloc, base, user, ranges, term)
-}
-
-/// What refuses an attribute whose name is its title too.
-fn listed_refusal<B: Base>(
-    alloc: Global,
-    base: &mut B,
-    user: &Name,
-    ranges: &RangeTable,
-    role: &Role<'_>,
-    var: &Name,
-    attr: &Name,
-) -> Result<Option<u8>, BaseFault>
-    ensures told { (db : Db) → B.database base.old ≡ Some db
-        → IfOk result (λ n. n ≡ first_number (map (mention_refusal (scope_of db user.now ranges.now)) (AttrOf var.now attr.now ∷ meant_by role.now attr.now))) }
-    ensures kept { B.database base.new ≡ B.database base.old }
-    ensures same { B.left base.new ≡ B.left base.old }
-    ensures cause { HasCause (B.database base.old) (B.faults base.old) (B.faults base.new) result }
-{
-    let mentions = titled_by_itself(alloc, role, var, attr)?;
-    first_refusal(alloc, base, user, ranges, &mentions)
+    refusal_of(alloc, base, user, ranges, mentions_in_term(alloc, term))
 }
 
 /// What refuses the titles of these attributes.
@@ -114,8 +57,7 @@ fn titles_refusal<B: Base>(
     ensures same { B.left base.new ≡ B.left base.old }
     ensures cause { HasCause (B.database base.old) (B.faults base.old) (B.faults base.new) result }
 {
-    let mentions = titles(alloc, role, attrs)?;
-    first_refusal(alloc, base, user, ranges, &mentions)
+    refusal_of(alloc, base, user, ranges, titles(alloc, role, attrs))
 }
 
 /// What refuses a variable with `all`: the variable, else the titles of the attributes of what it
@@ -135,7 +77,11 @@ fn all_refusal<B: Base>(
     ensures cause { HasCause (B.database base.old) (B.faults base.old) (B.faults base.new) result }
 {
     match ranged(alloc, base, ranges, var)? {
-        Some(info) => titles_refusal(alloc, base, user, ranges, role, info.attrs.items()),
+        Some(info) => {
+            let refusal = titles_refusal(alloc, base, user, ranges, role, info.attrs.items());
+            drop(info);
+            refusal
+        }
         None => mention_refusal(alloc, base, user, ranges, &Mention::Variable(var)),
     }
 }
@@ -157,7 +103,10 @@ pub(crate) fn item_refusal<B: Base>(
 {
     match item {
         Item::Set { name, term } => set_refusal(alloc, base, user, ranges, role, name, term),
-        Item::Attr { var, attr } => listed_refusal(alloc, base, user, ranges, role, var, attr),
+        Item::Attr { var, attr } => {
+            let mentions = titled_by_itself(alloc, role, var, attr);
+            refusal_of(alloc, base, user, ranges, mentions)
+        }
         Item::All { var } => all_refusal(alloc, base, user, ranges, role, var),
     }
 }

@@ -9,7 +9,7 @@ ghost use Rattle.quel_meaning.specs.WrittenParts.{attributes_in_qual};
 ghost use Rattle.quel_names.specs.Asking.{scope_of};
 ghost use Rattle.quel_names.specs.Roles.{meant_by};
 
-use crate::mentioned::first_refusal;
+use crate::mentioned::refusal_of;
 use crate::role::Role;
 use crate::targets::item_refusal;
 use am_traits::{Base, BaseFault};
@@ -41,23 +41,6 @@ fn items_refusal<B: Base>(
     Ok(None)
 }
 
-fn written_refusal<B: Base>(
-    alloc: Global,
-    base: &mut B,
-    user: &Name,
-    ranges: &RangeTable,
-    qual: &Qual,
-) -> Result<Option<u8>, BaseFault>
-    ensures told { (db : Db) → B.database base.old ≡ Some db
-        → IfOk result (λ n. n ≡ first_number (map (mention_refusal (scope_of db user.now ranges.now)) (dotted (attributes_in_qual qual.now)))) }
-    ensures kept { B.database base.new ≡ B.database base.old }
-    ensures same { B.left base.new ≡ B.left base.old }
-    ensures cause { HasCause (B.database base.old) (B.faults base.old) (B.faults base.new) result }
-{
-    let mentions = mentions_in_qual(alloc, qual)?;
-    first_refusal(alloc, base, user, ranges, &mentions)
-}
-
 /// What refuses a qualification; nothing where there is none.
 fn qual_refusal<B: Base>(
     alloc: Global,
@@ -73,7 +56,7 @@ fn qual_refusal<B: Base>(
     ensures cause { HasCause (B.database base.old) (B.faults base.old) (B.faults base.new) result }
 {
     match qual {
-        Some(qual) => written_refusal(alloc, base, user, ranges, qual),
+        Some(qual) => refusal_of(alloc, base, user, ranges, mentions_in_qual(alloc, qual)),
         None => Ok(None),
     }
 }

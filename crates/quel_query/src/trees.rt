@@ -1,6 +1,6 @@
 //! The tree of a statement.
 
-ghost use Rattle.std.specs.Prelude.{◌≡◌, ◌≤◌, ℕ, List as Items, [], ◌∷◌, None, is_some, length, map, option_copied, IfOk, IfSome};
+ghost use Rattle.std.specs.Prelude.{◌≡◌, ◌≤◌, ℕ, List as Items, [], ◌∷◌, None, Some, true, is_some, length, map, option_copied, IfOk, IfSome};
 ghost use Rattle.calculus.specs.declared.request.Checked.TheVariants.{Answer, Update, Utility as ForUtilities};
 ghost use Rattle.calculus.specs.declared.request.Utility.TheVariants as utility;
 ghost use Rattle.calculus.specs.declared.statement.Item.{Item as WrittenItem};
@@ -24,14 +24,15 @@ use calculus::{
 use std::alloc::Global;
 
 /// The tree of a `retrieve` that prints, for a query of at most 256 targets.
-fn printed(alloc: Global, q: Query, sort: &[(Name, bool)]) -> Result<Checked, OutOfMemory>
-    ensures { IfOk result (λ tree. length (targets_of q) ≤ 256 → tree ≡ Answer (record { query = q; sort = map (sort_key (targets_of q)) sort.now } ∷ [])) }
+fn printed(alloc: Global, q: Query, sort: &[(Name, bool)]) -> Result<Option<Checked>, OutOfMemory>
+    ensures built { IfOk result (λ tree. is_some tree ≡ true) }
+    ensures tree { IfOk result (λ tree. length (targets_of q) ≤ 256 → tree ≡ Some (Answer (record { query = q; sort = map (sort_key (targets_of q)) sort.now } ∷ []))) }
 {
     let keys = sort_keys(alloc, q.targets.items(), sort);
     let (keys, query) = beside(keys, q)?;
     let sort = List::of(keys);
     let asked = alone(alloc, Asked { query, sort })?;
-    Ok(Checked::Answer(List::of(asked)))
+    Ok(Some(Checked::Answer(List::of(asked))))
 }
 
 /// The attribute of this name with its domain.
@@ -61,13 +62,13 @@ fn created(
     user: &Name,
     rel: &Name,
     attrs: &[(Name, Domain)],
-) -> Result<Checked, OutOfMemory>
-    ensures { IfOk result (λ tree. tree ≡ ForUtilities (utility.Create (key_of user.now rel.now) (map stored_attr attrs.now))) }
+) -> Result<Option<Checked>, OutOfMemory>
+    ensures { IfOk result (λ tree. tree ≡ Some (ForUtilities (utility.Create (key_of user.now rel.now) (map stored_attr attrs.now)))) }
 {
     let key = key_of(alloc, user, rel);
     let (rel, attrs) = both(key, stored_attrs(alloc, attrs))?;
     let attrs = List::of(attrs);
-    Ok(Checked::Utility(Utility::Create { rel, attrs }))
+    Ok(Some(Checked::Utility(Utility::Create { rel, attrs })))
 }
 
 /// The tree of a `retrieve`, for a query of at most 256 targets.
@@ -77,12 +78,13 @@ fn retrieved(
     into: &Option<Name>,
     sort: &[(Name, bool)],
     q: Query,
-) -> Result<Checked, OutOfMemory>
-    ensures { IfOk result (λ tree. (scope : Scope) (items : Items WrittenItem) (qual : WrittenQual) → scope.user ≡ user.now → length (targets_of q) ≤ 256 → tree ≡ tree_by scope q (statement.Retrieve into.now items qual sort.now)) }
+) -> Result<Option<Checked>, OutOfMemory>
+    ensures built { IfOk result (λ tree. is_some tree ≡ true) }
+    ensures tree { IfOk result (λ tree. (scope : Scope) (items : Items WrittenItem) (qual : WrittenQual) → scope.user ≡ user.now → length (targets_of q) ≤ 256 → tree ≡ Some (tree_by scope q (statement.Retrieve into.now items qual sort.now))) }
 {
     match into {
         None => printed(alloc, q, sort),
-        Some(name) => Ok(Checked::Update(into_of(alloc, user, name, q)?)),
+        Some(name) => Ok(Some(Checked::Update(into_of(alloc, user, name, q)?))),
     }
 }
 
@@ -154,27 +156,14 @@ pub fn tree_by(
     ensures tree { IfOk result (λ tree. (scope : Scope) → Suits scope user.now s.now q (option_copied target.entry) → IfSome tree (λ checked. checked ≡ tree_by scope q s.now)) }
 {
     match s {
-        Statement::Retrieve { into, sort, .. } => {
-            Ok(Some(retrieved(alloc, user, into, sort.items(), q)?))
-        }
+        Statement::Retrieve { into, sort, .. } => { retrieved(alloc, user, into, sort.items(), q) }
         Statement::Create { rel, attrs } => {
             drop(q);
-            Ok(Some(created(alloc, user, rel, attrs.items())?))
+            created(alloc, user, rel, attrs.items())
         }
         Statement::Append { .. } => appended(alloc, target, q),
         Statement::Replace { .. } => replaced(alloc, target, q),
         Statement::Delete { .. } => deleted(alloc, target, q),
-        Statement::Range { .. } => no_tree(q),
-        Statement::Destroy { .. } => no_tree(q),
-        Statement::DropPermits { .. } => no_tree(q),
-        Statement::DropRules { .. } => no_tree(q),
-        Statement::Modify { .. } => no_tree(q),
-        Statement::Index { .. } => no_tree(q),
-        Statement::Print { .. } => no_tree(q),
-        Statement::Help { .. } => no_tree(q),
-        Statement::Copy { .. } => no_tree(q),
-        Statement::View { .. } => no_tree(q),
-        Statement::Permit { .. } => no_tree(q),
-        Statement::Rule { .. } => no_tree(q),
+        _ => no_tree(q),
     }
 }

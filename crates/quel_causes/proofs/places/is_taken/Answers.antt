@@ -1,9 +1,10 @@
-use Rattle.std.proofs.Common.{◌∙◌, ap, sym, is_some}
+use Rattle.std.proofs.Common.{◌≡◌, ◌∙◌, ap, sym, subst, is_some, IfOk}
 use Rattle.am_traits.specs.Told.{known_at}
 use Rattle.quel_causes.proofs.Entries.{taken_where_known}
 use Rattle.quel_causes.proofs.places.is_taken.Goals as goal
 
 pub returns-clause-told : goal.returns-clause-told
 returns-clause-told g c = λ db h.
-    c.is_some.ensures ∙ ap is_some (c.in_ok-info.ensures.told db h ∙ ap (known_at db) c.in_ok-key.ensures)
-    ∙ taken_where_known db c.args.user.now c.args.name.now (sym c.is_catalogue_name.ensures ∙ c.if-is_catalogue_name.false)
+    subst (λ b. IfOk c.is_known-known.result (λ taken. taken ≡ b))
+    (ap (λ k. is_some (known_at db k)) c.in_ok-key.ensures ∙ taken_where_known db c.args.user.now c.args.name.now (sym c.is_catalogue_name.ensures ∙ c.if-is_catalogue_name.false))
+    (c.is_known-known.ensures.told db h)

@@ -1,14 +1,9 @@
-use Rattle.std.proofs.Common.{◌++◌, flat_map, map, ap, ◌∙◌}
-use Rattle.quel_meaning.specs.WrittenParts.{vars_in, once, outer_vars_in_item, outer_vars_in_qual, first_vars, where_of}
-use Rattle.quel_check.proofs.VarForms.{thrice}
+use Rattle.std.proofs.Common.{◌≡◌, ap, ◌∙◌, subst, map, IfOk}
+use Rattle.quel_meaning.specs.WrittenParts.{vars_in, once}
 use Rattle.quel_check.proofs.names.vars_in.Goals as goal
 
-pub returns : goal.returns
+pub returns-in-Ok : goal.returns-in-Ok
 unfolding vars_in
-returns c =
-    c.of.ensures ∙ c.in_ok-once.ensures
-    ∙ ap once
-    (ap (map (λ n. n.now)) c.deref.ensures.value
-    ∙ thrice _ _ _ _ (first_vars c.args.s.now) (flat_map outer_vars_in_item c.items_of.result.now) (outer_vars_in_qual (where_of c.args.s.now)) (ap (map (λ n. n.now)) c.new-names.ensures.items)
-    c.in_ok-push_first_var.ensures c.in_ok-push_vars_of_items.ensures c.in_ok-push_vars_of_where.ensures
-    ∙ ap (λ items. first_vars c.args.s.now ++ (flat_map outer_vars_in_item items ++ outer_vars_in_qual (where_of c.args.s.now))) c.items_of.ensures)
+returns-in-Ok c =
+    subst (λ vs. IfOk c.once.result (λ found. found ≡ vs)) (ap once (ap (map (λ n. n.now)) c.deref.ensures.value ∙ c.in-Ok.ensures))
+    c.once.ensures

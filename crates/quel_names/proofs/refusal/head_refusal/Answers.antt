@@ -1,12 +1,4 @@
-use Rattle.std.proofs.Common.{map, ap, ◌∙◌}
-use Rattle.quel_check.specs.Seen.{seen}
-use Rattle.quel_meaning.specs.Naming.{first_number, mention_refusal}
-use Rattle.quel_names.proofs.Telling.{told_as}
-use Rattle.quel_names.specs.Asking.{scope_of}
 use Rattle.quel_names.proofs.refusal.head_refusal.Goals as goal
 
 pub returns-clause-told : goal.returns-clause-told
-returns-clause-told g c = λ db h.
-    told_as c.first_refusal.result _ _
-    (ap (λ ms. first_number (map (mention_refusal (scope_of db c.args.user.now c.args.ranges.now)) ms)) (ap (map seen) c.deref.ensures.value ∙ c.in_ok-mentions.ensures))
-    (c.first_refusal.ensures.told db h)
+returns-clause-told g c = λ db h. c.refusal_of.ensures.told db _ h c.head.ensures

@@ -13,9 +13,9 @@ returns-in-Set-clause-told g c = λ db h.
 
 pub returns-in-Attr-clause-told : goal.returns-in-Attr-clause-told
 returns-in-Attr-clause-told g c = λ db h.
-    told_as c.listed_refusal.result _ _
+    told_as c.refusal_of.result _ _
     (ap (λ i. first_number (map (mention_refusal (scope_of db c.args.user.now c.args.ranges.now)) (item_mentions (scope_of db c.args.user.now c.args.ranges.now) (meant_by c.args.role.now) i))) (sym c.in-Attr.is))
-    (c.listed_refusal.ensures.told db h)
+    (c.refusal_of.ensures.told db _ h c.titled_by_itself-mentions.ensures)
 
 pub returns-in-All-clause-told : goal.returns-in-All-clause-told
 returns-in-All-clause-told g c = λ db h.

@@ -10,6 +10,6 @@ use Rattle.quel_names.proofs.text.qual_refusal.Goals as goal
 
 pub returns-in-Some-clause-told : goal.returns-in-Some-clause-told
 returns-in-Some-clause-told g c = λ db h.
-    told_as c.written_refusal.result _ _
+    told_as c.refusal_of.result _ _
     (ap (λ q. first_number (map (mention_refusal (scope_of db c.args.user.now c.args.ranges.now)) (dotted (attributes_in_qual (unwrap_or (option_map (λ (b : Bor Qual). b.now) q) True))))) (sym c.in-Some.is))
-    (c.written_refusal.ensures.told db h)
+    (c.refusal_of.ensures.told db _ h c.mentions_in_qual.ensures)

@@ -1,7 +1,7 @@
 use Rattle.std.proofs.Common.{◌≡◌, true, map, take}
 use Rattle.std.specs.Str.{bytes_eq}
 use Rattle.calculus.specs.Lists.{differ_by}
-use Rattle.quel_causes.proofs.repeated.repeats.Given as goal
+use Rattle.quel_causes.proofs.repeated.is_seen_twice.Given as goal
 
 abbrev pub invariant-loop-name : goal.invariant-loop-name
 invariant-loop-name l = record {

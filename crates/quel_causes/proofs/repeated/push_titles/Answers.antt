@@ -1,6 +1,6 @@
 use Rattle.std.proofs.Common.{sym, ap, ◌∙◌, map, ◌++◌, ◌∷◌, []}
 use Rattle.std.proofs.lemmas.List.{take_all, map_more, map_push}
-use Rattle.quel_causes.proofs.repeated.names_of.Goals as goal
+use Rattle.quel_causes.proofs.repeated.push_titles.Goals as goal
 
 pub loop-target-preserved : goal.loop-target-preserved
 loop-target-preserved c =

@@ -1,6 +1,6 @@
 use Rattle.std.proofs.Common.{sym, ap, ◌∙◌, map, ◌++◌, ◌∷◌, []}
 use Rattle.std.proofs.lemmas.List.{take_all, map_more, map_push}
-use Rattle.quel_causes.proofs.repeated.attr_names.Goals as goal
+use Rattle.quel_causes.proofs.repeated.push_attrs.Goals as goal
 
 pub loop-name-preserved : goal.loop-name-preserved
 loop-name-preserved c =

@@ -1,6 +1,6 @@
 use Rattle.std.proofs.Common.{sym, ◌∙◌, rules}
 use Rattle.quel_causes.proofs.Twice.{one_more, one_seen, some_repeat}
-use Rattle.quel_causes.proofs.repeated.repeats.Goals as goal
+use Rattle.quel_causes.proofs.repeated.is_seen_twice.Goals as goal
 
 pub returns-then-not-is_new : goal.returns-then-not-is_new
 returns-then-not-is_new c =
