@@ -1,7 +1,8 @@
 //! Calls to which memory is refused.
 
+use crate::changes::{Told, told_of};
 use calculus::{Name, OutOfMemory, Pair, QTerm, Row, RowSet, TryCopy, Value};
-use change_list::{ChangeFault, set_replace};
+use change_list::set_replace;
 use memory::both;
 use scalar_eval::{Assigned, value_of};
 use std::alloc::Global;
@@ -48,14 +49,24 @@ fn pairs(alloc: Global) -> Result<Vec<Pair>, OutOfMemory> {
 }
 
 /// Whether one row comes where these are replaced, or memory is wanting.
-fn comes(alloc: Global, pairs: Result<Vec<Pair>, OutOfMemory>) -> bool {
-    let Ok(pairs) = pairs else {
-        return true;
-    };
-    match set_replace(alloc, &RowSet::new(alloc), &pairs) {
-        Ok(change) => change.add.len() == 1,
-        Err(ChangeFault::OutOfMemory) => true,
-        Err(_) => false,
+fn comes(alloc: Global, pairs: &[Pair]) -> bool {
+    let rows = RowSet::new(alloc);
+    let made = set_replace(alloc, &rows, pairs);
+    let told = told_of(&made);
+    drop(made);
+    drop(rows);
+    told == Told::Comes(1) || told == Told::Wanting
+}
+
+/// Whether one row comes where one is replaced, or memory is wanting.
+fn is_replaced(alloc: Global) -> bool {
+    match pairs(alloc) {
+        Ok(pairs) => {
+            let comes = comes(alloc, &pairs);
+            drop(pairs);
+            comes
+        }
+        Err(_) => true,
     }
 }
 
@@ -70,5 +81,5 @@ fn want_of_memory_is_an_answer(rt: HostRuntime) {
     assert!(rt; value == Ok(Some(3)) || value == Err(OutOfMemory));
     let named = is_named(rt.alloc());
     assert!(rt; named == Ok(true) || named == Err(OutOfMemory));
-    assert!(rt; comes(rt.alloc(), pairs(rt.alloc())));
+    assert!(rt; is_replaced(rt.alloc()));
 }

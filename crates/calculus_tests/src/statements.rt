@@ -1,12 +1,11 @@
-//! Copies of statements.
+//! Statements.
 
-use crate::made::{boxed, chars, has_copy, named, one};
+use crate::made::{boxed, chars, named, one};
 use calculus::{
     AggOp, AggTerm, ArithOp, Boxed, CmpOp, CopyForm, Item, List, Name, Qual, Statement, Term,
 };
 use std::alloc::Global;
 use std::process::Abort;
-use std::test::*;
 
 fn var(rt: &impl Abort, alloc: Global) -> Name {
     named(rt, alloc, b"v")
@@ -65,7 +64,7 @@ fn items(rt: &impl Abort, alloc: Global) -> List<Item> {
 }
 
 /// A retrieval with everything that it may have.
-fn retrieval(rt: &impl Abort, alloc: Global) -> Statement {
+pub fn retrieval(rt: &impl Abort, alloc: Global) -> Statement {
     let sort = one(rt, alloc, (var(rt, alloc), true));
     Statement::Retrieve {
         into: Some(var(rt, alloc)),
@@ -76,7 +75,7 @@ fn retrieval(rt: &impl Abort, alloc: Global) -> Statement {
 }
 
 /// The copying of a relation into a file.
-fn copying(rt: &impl Abort, alloc: Global) -> Statement {
+pub fn copying(rt: &impl Abort, alloc: Global) -> Statement {
     let form = CopyForm::Fixed(3);
     Statement::Copy {
         rel: var(rt, alloc),
@@ -84,11 +83,4 @@ fn copying(rt: &impl Abort, alloc: Global) -> Statement {
         from: false,
         file: chars(rt, alloc, b"f"),
     }
-}
-
-#[test]
-fn statements_are_copied(rt: HostRuntime) {
-    let alloc = rt.alloc();
-    assert!(rt; has_copy(alloc, retrieval(&rt, alloc)));
-    assert!(rt; has_copy(alloc, copying(&rt, alloc)));
 }
