@@ -143,39 +143,44 @@ fn appended(rt: &impl Abort, alloc: Global, count: i64) -> Told {
     told
 }
 
+/// Two rows that are swapped.
+const SWAPPED: [Numbers<'static>; 2] = [(&[1, 2], &[2, 1]), (&[2, 1], &[1, 2])];
+
+/// Row 1 becomes 2, twice; row 2 goes, but comes back from row 1; row 3 goes and becomes 7; row 4 is put
+/// again, and row 6 is put.
+const MOVES: [Numbers<'static>; 7] = [
+    (&[1], &[2]),
+    (&[2], &[]),
+    (&[3], &[7]),
+    (&[3], &[]),
+    (&[1], &[2]),
+    (&[], &[4]),
+    (&[], &[6]),
+];
+
+/// Rows that are replaced, by different ones.
+const REPLACED: [Numbers<'static>; 6] = [
+    (&[8], &[2]),
+    (&[5], &[9]),
+    (&[1], &[2]),
+    (&[5], &[3]),
+    (&[8], &[1]),
+    (&[5], &[7]),
+];
+
 #[test]
 fn rows_are_swapped_and_go_and_come(rt: HostRuntime) {
-    let rows: [&[i64]; 2] = [&[1, 2], &[2, 1]];
-    let swapped: [Numbers<'_>; 2] = [(&[1, 2], &[2, 1]), (&[2, 1], &[1, 2])];
-    assert!(rt; is_changed(&rt, rt.alloc(), &rows, &swapped, (&[], &[])));
+    let swapped: [&[i64]; 2] = [&[1, 2], &[2, 1]];
+    assert!(rt; is_changed(&rt, rt.alloc(), &swapped, &SWAPPED, (&[], &[])));
     let rows: [&[i64]; 4] = [&[1], &[2], &[3], &[4]];
-    // Row 1 becomes 2, twice; row 2 goes, but comes back from row 1; row 3 goes and becomes 7; row 4
-    // is put again, and row 6 is put.
-    let moves: [Numbers<'_>; 7] = [
-        (&[1], &[2]),
-        (&[2], &[]),
-        (&[3], &[7]),
-        (&[3], &[]),
-        (&[1], &[2]),
-        (&[], &[4]),
-        (&[], &[6]),
-    ];
     let moved: (&[&[i64]], &[&[i64]]) = (&[&[1], &[3]], &[&[6], &[7]]);
-    assert!(rt; is_changed(&rt, rt.alloc(), &rows, &moves, moved));
+    assert!(rt; is_changed(&rt, rt.alloc(), &rows, &MOVES, moved));
 }
 
 #[test]
 fn different_new_rows_and_too_many_rows_are_refused(rt: HostRuntime) {
     let rows: [&[i64]; 3] = [&[1], &[5], &[8]];
-    let replaced: [Numbers<'_>; 6] = [
-        (&[8], &[2]),
-        (&[5], &[9]),
-        (&[1], &[2]),
-        (&[5], &[3]),
-        (&[8], &[1]),
-        (&[5], &[7]),
-    ];
-    assert!(rt; is_contended(&rt, rt.alloc(), &rows, &replaced, [5, 3, 7]));
+    assert!(rt; is_contended(&rt, rt.alloc(), &rows, &REPLACED, [5, 3, 7]));
     assert!(rt; appended(&rt, rt.alloc(), 100_001) == Told::TooMany(100_001));
     assert!(rt; appended(&rt, rt.alloc(), 100_000) == Told::Comes(100_000));
 }

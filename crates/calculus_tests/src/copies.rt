@@ -27,6 +27,15 @@ fn aggregates(rt: &impl Abort, alloc: Global) -> AggTable {
     AggTable { groups, empty }
 }
 
+#[test]
+fn replies_and_tables_are_copied(rt: HostRuntime) {
+    let alloc = rt.alloc();
+    assert!(rt; is_copied(&rt, alloc, reply(&rt, alloc)));
+    assert!(rt; is_copied(&rt, alloc, aggregates(&rt, alloc)));
+    let equal = one(&rt, alloc, (1, Value::Int(2)));
+    assert!(rt; is_copied(&rt, alloc, Probe { equal }));
+}
+
 fn pair(rt: &impl Abort, alloc: Global) -> Pair {
     let (old, new) = (None, Some(text_row(rt, alloc)));
     Pair { old, new }
@@ -38,24 +47,30 @@ fn change(rt: &impl Abort, alloc: Global) -> Change {
 }
 
 #[test]
-fn values_and_trees_are_copied(rt: HostRuntime) {
+fn changes_of_rows_and_containers_are_copied(rt: HostRuntime) {
     let alloc = rt.alloc();
-    assert!(rt; is_copied(&rt, alloc, reply(&rt, alloc)));
-    assert!(rt; is_copied(&rt, alloc, aggregates(&rt, alloc)));
-    let equal = one(&rt, alloc, (1, Value::Int(2)));
-    assert!(rt; is_copied(&rt, alloc, Probe { equal }));
     assert!(rt; is_copied(&rt, alloc, pair(&rt, alloc)));
     assert!(rt; is_copied(&rt, alloc, change(&rt, alloc)));
     assert!(rt; is_copied(&rt, alloc, one(&rt, alloc, (70_000_u32, Some(true)))));
     assert!(rt; is_copied(&rt, alloc, boxed(&rt, alloc, 5_u8)));
-    assert!(rt; has_copy(alloc, asked(&rt, alloc)));
-    assert!(rt; has_copy(alloc, update(&rt, alloc)));
+}
+
+#[test]
+fn statements_and_changes_of_a_database_are_copied(rt: HostRuntime) {
+    let alloc = rt.alloc();
     assert!(rt; has_copy(alloc, retrieval(&rt, alloc)));
     assert!(rt; has_copy(alloc, copying(&rt, alloc)));
+    assert!(rt; has_copy(alloc, change_of_base(&rt, alloc)));
+    assert!(rt; has_copy(alloc, file(&rt, alloc)));
+}
+
+#[test]
+fn what_is_asked_for_is_copied(rt: HostRuntime) {
+    let alloc = rt.alloc();
+    assert!(rt; has_copy(alloc, asked(&rt, alloc)));
+    assert!(rt; has_copy(alloc, update(&rt, alloc)));
     assert!(rt; has_copy(alloc, creation(&rt, alloc)));
     assert!(rt; has_copy(alloc, import(&rt, alloc)));
     assert!(rt; has_copy(alloc, permission(&rt, alloc)));
     assert!(rt; has_copy(alloc, ruling(&rt, alloc)));
-    assert!(rt; has_copy(alloc, change_of_base(&rt, alloc)));
-    assert!(rt; has_copy(alloc, file(&rt, alloc)));
 }

@@ -21,17 +21,13 @@ fn aggregate(rt: &impl Abort, alloc: Global, source: AggSource) -> QTerm {
     QTerm::Agg(boxed(rt, alloc, agg))
 }
 
-fn rest(rt: &impl Abort, alloc: Global, source: AggSource) -> QTerm {
+/// A term that holds each kind of term.
+fn term(rt: &impl Abort, alloc: Global, source: AggSource) -> QTerm {
     let op = ArithOp::Mod;
     let left = boxed(rt, alloc, QTerm::Neg(boxed(rt, alloc, QTerm::Int(5))));
     let right = boxed(rt, alloc, aggregate(rt, alloc, source));
     let right = boxed(rt, alloc, QTerm::Abs(right));
-    QTerm::Arith { op, left, right }
-}
-
-/// A term that holds each kind of term.
-fn term(rt: &impl Abort, alloc: Global, source: AggSource) -> QTerm {
-    let left = boxed(rt, alloc, rest(rt, alloc, source));
+    let left = boxed(rt, alloc, QTerm::Arith { op, left, right });
     let right = boxed(rt, alloc, QTerm::Int(i64::MIN));
     QTerm::Concat { left, right }
 }

@@ -16,13 +16,16 @@ fn row(alloc: Global, number: i64) -> Result<Row, OutOfMemory> {
 
 /// Puts a copy of a row of this number on top.
 fn push_copy(alloc: Global, rows: &mut Assigned, number: i64) -> Result<(), OutOfMemory> {
-    rows.push(row(alloc, number)?.copy(alloc)?)
+    let row = row(alloc, number)?;
+    let copy = row.copy(alloc);
+    drop(row);
+    rows.push(copy?)
 }
 
 /// The number that a value is, where it is one.
-fn number_in(value: Option<Value>) -> Option<i64> {
+fn number_in(value: &Option<Value>) -> Option<i64> {
     match value {
-        Some(Value::Int(number)) => Some(number),
+        Some(Value::Int(number)) => Some(*number),
         Some(Value::Text(_)) | None => None,
     }
 }
@@ -30,9 +33,17 @@ fn number_in(value: Option<Value>) -> Option<i64> {
 /// The value of the only attribute of a row's copy.
 fn value_copied(alloc: Global, number: i64) -> Result<Option<i64>, OutOfMemory> {
     let mut rows = Assigned::new(alloc);
-    push_copy(alloc, &mut rows, number)?;
-    let value = value_of(alloc, &QTerm::Attr { var: 0, attr: 0 }, &rows, &[])?;
-    Ok(number_in(value))
+    let pushed = push_copy(alloc, &mut rows, number);
+    let value = value_of(alloc, &QTerm::Attr { var: 0, attr: 0 }, &rows, &[]);
+    drop(rows);
+    match both(pushed, value) {
+        Ok((_, value)) => {
+            let number = number_in(&value);
+            drop(value);
+            Ok(number)
+        }
+        Err(error) => Err(error),
+    }
 }
 
 /// A row that is replaced by another.

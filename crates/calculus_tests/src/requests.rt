@@ -19,17 +19,17 @@ pub fn creation(rt: &impl Abort, alloc: Global) -> Checked {
 }
 
 /// The copying of a file into a relation.
-pub fn import(rt: &impl Abort, alloc: Global) -> Utility {
+pub fn import(rt: &impl Abort, alloc: Global) -> Checked {
     let (attr, form) = (0, CopyForm::Until(44));
-    Utility::Copy {
+    Checked::Utility(Utility::Copy {
         rel: key(rt, alloc),
         columns: one(rt, alloc, CopyCol { attr, form }),
         from: true,
         file: chars(rt, alloc, b"f"),
-    }
+    })
 }
 
-pub fn permission(rt: &impl Abort, alloc: Global) -> Utility {
+pub fn permission(rt: &impl Abort, alloc: Global) -> Checked {
     let permit = Permit {
         number: 2,
         ops: 5,
@@ -38,13 +38,13 @@ pub fn permission(rt: &impl Abort, alloc: Global) -> Utility {
         qual: QQual::True,
     };
     let rel = key(rt, alloc);
-    Utility::Permit { rel, permit }
+    Checked::Utility(Utility::Permit { rel, permit })
 }
 
-pub fn ruling(rt: &impl Abort, alloc: Global) -> Utility {
+pub fn ruling(rt: &impl Abort, alloc: Global) -> Checked {
     let (number, qual) = (3, QQual::True);
     let (rel, rule) = (key(rt, alloc), Rule { number, qual });
-    Utility::Rule { rel, rule }
+    Checked::Utility(Utility::Rule { rel, rule })
 }
 
 pub fn change_of_base(rt: &impl Abort, alloc: Global) -> DbChange {

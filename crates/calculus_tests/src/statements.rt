@@ -18,16 +18,12 @@ fn aggregate(rt: &impl Abort, alloc: Global) -> Term {
     Term::Agg(boxed(rt, alloc, AggTerm { op, arg, by, qual }))
 }
 
-fn power(rt: &impl Abort, alloc: Global) -> Term {
+/// A term that holds each kind of term.
+fn term(rt: &impl Abort, alloc: Global) -> Term {
     let op = ArithOp::Pow;
     let left = boxed(rt, alloc, Term::Neg(boxed(rt, alloc, Term::Int(5))));
     let right = boxed(rt, alloc, Term::Abs(boxed(rt, alloc, aggregate(rt, alloc))));
-    Term::Arith { op, left, right }
-}
-
-/// A term that holds each kind of term.
-fn term(rt: &impl Abort, alloc: Global) -> Term {
-    let left = boxed(rt, alloc, power(rt, alloc));
+    let left = boxed(rt, alloc, Term::Arith { op, left, right });
     let right = boxed(rt, alloc, Term::Chars(chars(rt, alloc, b"\\]")));
     Term::Concat { left, right }
 }
