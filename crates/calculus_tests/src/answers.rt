@@ -48,7 +48,11 @@ fn greater(rt: &impl Abort, alloc: Global) -> Query {
 /// How many rows there are; `None` where a target lacks a value.
 fn counted(rt: &impl Abort, answer: Result<RowSet, ProductFault>) -> Option<usize> {
     match answer {
-        Ok(rows) => Some(rows.len()),
+        Ok(rows) => {
+            let count = rows.len();
+            drop(rows);
+            Some(count)
+        }
         Err(ProductFault::NoValue { .. }) => None,
         Err(ProductFault::OutOfMemory) => panic!(*rt; "no memory"),
     }
@@ -60,20 +64,21 @@ fn count(rt: &impl Abort, alloc: Global, first: &[i64], second: &[i64]) -> Optio
     let mut sets = Vec::new(alloc);
     sets.push(set_of(rt, alloc, first)).expect(rt, "no memory");
     sets.push(set_of(rt, alloc, second)).expect(rt, "no memory");
-    counted(rt, answer_over(alloc, &query, &[], &sets))
-}
-
-/// How many attributes of the second variable the query uses.
-fn used_of_second(rt: &impl Abort, alloc: Global, query: &Query) -> usize {
-    uses(alloc, query, 1).expect(rt, "no memory").len()
+    let answer = answer_over(alloc, &query, &[], &sets);
+    drop(sets);
+    drop(query);
+    counted(rt, answer)
 }
 
 /// How many attributes of the second variable the query uses, and whether it uses the first
 /// variable and a third one.
 fn used(rt: &impl Abort, alloc: Global) -> (usize, bool, bool) {
     let query = greater(rt, alloc);
-    let count = used_of_second(rt, alloc, &query);
-    (count, is_used(&query, 0), is_used(&query, 2))
+    let of_second = uses(alloc, &query, 1).expect(rt, "no memory");
+    let used = (of_second.len(), is_used(&query, 0), is_used(&query, 2));
+    drop(of_second);
+    drop(query);
+    used
 }
 
 #[test]

@@ -1,7 +1,7 @@
 //! The change that the pairs of an update make.
 
 use crate::made::{row, set};
-use calculus::{Pair, Row, Value};
+use calculus::{Change, Pair, Row, RowSet, Value};
 use change_list::{ChangeFault, set_replace};
 use std::alloc::Global;
 use std::process::Abort;
@@ -9,6 +9,29 @@ use std::test::*;
 
 /// The numbers of an old row and of a new one; none where there is no such row.
 type Numbers<'a> = (&'a [i64], &'a [i64]);
+
+/// What came of an update.
+#[derive(Clone, Copy, PartialEq, Eq)]
+pub enum Told {
+    /// A change by which so many rows come.
+    Comes(usize),
+    /// Rows are contended.
+    Contended,
+    /// So many rows would be too many.
+    TooMany(u64),
+    /// Memory was wanting.
+    Wanting,
+}
+
+/// What came of an update.
+pub fn told_of(made: &Result<Change, ChangeFault>) -> Told {
+    match made {
+        Ok(change) => Told::Comes(change.add.len()),
+        Err(ChangeFault::Contended { .. }) => Told::Contended,
+        Err(ChangeFault::TooMany { rows }) => Told::TooMany(*rows),
+        Err(ChangeFault::OutOfMemory) => Told::Wanting,
+    }
+}
 
 fn row_there(rt: &impl Abort, alloc: Global, numbers: &[i64]) -> Option<Row> {
     if numbers.is_empty() {
@@ -18,14 +41,37 @@ fn row_there(rt: &impl Abort, alloc: Global, numbers: &[i64]) -> Option<Row> {
     }
 }
 
-fn pairs(rt: &impl Abort, alloc: Global, numbers: &[Numbers<'_>]) -> Vec<Pair> {
+/// Puts the pair of these numbers.
+fn push_pair(rt: &impl Abort, alloc: Global, pairs: &mut Vec<Pair>, old: &[i64], new: &[i64]) {
+    let old = row_there(rt, alloc, old);
+    let new = row_there(rt, alloc, new);
+    pairs.push(Pair { old, new }).expect(rt, "no memory");
+}
+
+/// What the pairs make of the rows.
+fn made(
+    rt: &impl Abort,
+    alloc: Global,
+    rows: &[&[i64]],
+    numbers: &[Numbers<'_>],
+) -> Result<Change, ChangeFault> {
+    let rows = set(rt, alloc, rows);
     let mut pairs = Vec::new(alloc);
     for (old, new) in numbers {
-        let old = row_there(rt, alloc, *old);
-        let new = row_there(rt, alloc, *new);
-        pairs.push(Pair { old, new }).expect(rt, "no memory");
+        push_pair(rt, alloc, &mut pairs, *old, *new);
     }
-    pairs
+    let made = set_replace(alloc, &rows, &pairs);
+    drop(pairs);
+    drop(rows);
+    made
+}
+
+/// Whether these rows go, and those come.
+fn moves(made: &Result<Change, ChangeFault>, remove: &RowSet, add: &RowSet) -> bool {
+    match made {
+        Ok(change) => change.remove == *remove && change.add == *add,
+        Err(_) => false,
+    }
 }
 
 /// Whether the pairs make this change of the rows.
@@ -36,39 +82,14 @@ fn is_changed(
     numbers: &[Numbers<'_>],
     moved: (&[&[i64]], &[&[i64]]),
 ) -> bool {
-    let rows = set(rt, alloc, rows);
-    let pairs = pairs(rt, alloc, numbers);
+    let made = made(rt, alloc, rows, numbers);
     let remove = set(rt, alloc, moved.0);
     let add = set(rt, alloc, moved.1);
-    match set_replace(alloc, &rows, &pairs) {
-        Ok(change) => change.remove == remove && change.add == add,
-        Err(_) => false,
-    }
-}
-
-#[test]
-fn two_rows_are_swapped(rt: HostRuntime) {
-    let rows: [&[i64]; 2] = [&[1, 2], &[2, 1]];
-    let swapped: [Numbers<'_>; 2] = [(&[1, 2], &[2, 1]), (&[2, 1], &[1, 2])];
-    assert!(rt; is_changed(&rt, rt.alloc(), &rows, &swapped, (&[], &[])));
-}
-
-#[test]
-fn rows_go_and_come(rt: HostRuntime) {
-    let rows: [&[i64]; 4] = [&[1], &[2], &[3], &[4]];
-    // Row 1 becomes 2, twice; row 2 goes, but comes back from row 1; row 3 goes and becomes 7; row 4
-    // is put again, and row 6 is put.
-    let moves: [Numbers<'_>; 7] = [
-        (&[1], &[2]),
-        (&[2], &[]),
-        (&[3], &[7]),
-        (&[3], &[]),
-        (&[1], &[2]),
-        (&[], &[4]),
-        (&[], &[6]),
-    ];
-    let moved: (&[&[i64]], &[&[i64]]) = (&[&[1], &[3]], &[&[6], &[7]]);
-    assert!(rt; is_changed(&rt, rt.alloc(), &rows, &moves, moved));
+    let moves = moves(&made, &remove, &add);
+    drop(add);
+    drop(remove);
+    drop(made);
+    moves
 }
 
 /// Whether the row has this number alone.
@@ -79,58 +100,87 @@ fn is_row(row: &Row, number: i64) -> bool {
     }
 }
 
-/// Whether these replacements of rows are refused for this old row and these two new ones of it.
-fn is_contended(
-    rt: &impl Abort,
-    alloc: Global,
-    numbers: &[Numbers<'_>],
-    [old, first, second]: [i64; 3],
-) -> bool {
-    let rows = set(rt, alloc, &[&[1], &[5], &[8]]);
-    let pairs = pairs(rt, alloc, numbers);
-    match set_replace(alloc, &rows, &pairs) {
+/// Whether this old row is contended by these two new ones of it.
+fn contends(made: &Result<Change, ChangeFault>, [old, first, second]: [i64; 3]) -> bool {
+    match made {
         Err(
             ChangeFault::Contended {
                 old: contended,
                 first: one,
                 second: other,
             },
-        ) => is_row(&contended, old) && is_row(&one, first) && is_row(&other, second),
+        ) => is_row(contended, old) && is_row(one, first) && is_row(other, second),
         _ => false,
     }
 }
 
-#[test]
-fn different_new_rows_are_contended(rt: HostRuntime) {
-    let replaced: [Numbers<'_>; 6] = [
-        (&[8], &[2]),
-        (&[5], &[9]),
-        (&[1], &[2]),
-        (&[5], &[3]),
-        (&[8], &[1]),
-        (&[5], &[7]),
-    ];
-    assert!(rt; is_contended(&rt, rt.alloc(), &replaced, [5, 3, 7]));
+/// Whether these replacements of rows are refused for this old row and these two new ones of it.
+fn is_contended(
+    rt: &impl Abort,
+    alloc: Global,
+    rows: &[&[i64]],
+    numbers: &[Numbers<'_>],
+    wanted: [i64; 3],
+) -> bool {
+    let made = made(rt, alloc, rows, numbers);
+    let contends = contends(&made, wanted);
+    drop(made);
+    contends
 }
 
-/// How many rows come where so many are appended to none; or how many there would be, where these are
-/// too many.
-fn appended(rt: &impl Abort, alloc: Global, count: i64) -> Result<usize, Option<u64>> {
-    let rows = set(rt, alloc, &[]);
+/// What comes of it where so many rows are appended to none.
+fn appended(rt: &impl Abort, alloc: Global, count: i64) -> Told {
+    let rows = RowSet::new(alloc);
     let mut pairs = Vec::new(alloc);
     for number in 0..count {
-        let new = Some(row(rt, alloc, &[number]));
-        pairs.push(Pair { old: None, new }).expect(rt, "no memory");
+        push_pair(rt, alloc, &mut pairs, &[], &[number]);
     }
-    match set_replace(alloc, &rows, &pairs) {
-        Ok(change) => Ok(change.add.len()),
-        Err(ChangeFault::TooMany { rows }) => Err(Some(rows)),
-        Err(_) => Err(None),
-    }
+    let made = set_replace(alloc, &rows, &pairs);
+    drop(pairs);
+    drop(rows);
+    let told = told_of(&made);
+    drop(made);
+    told
+}
+
+/// Two rows that are swapped.
+const SWAPPED: [Numbers<'static>; 2] = [(&[1, 2], &[2, 1]), (&[2, 1], &[1, 2])];
+
+/// Row 1 becomes 2, twice; row 2 goes, but comes back from row 1; row 3 goes and becomes 7; row 4 is put
+/// again, and row 6 is put.
+const MOVES: [Numbers<'static>; 7] = [
+    (&[1], &[2]),
+    (&[2], &[]),
+    (&[3], &[7]),
+    (&[3], &[]),
+    (&[1], &[2]),
+    (&[], &[4]),
+    (&[], &[6]),
+];
+
+/// Rows that are replaced, by different ones.
+const REPLACED: [Numbers<'static>; 6] = [
+    (&[8], &[2]),
+    (&[5], &[9]),
+    (&[1], &[2]),
+    (&[5], &[3]),
+    (&[8], &[1]),
+    (&[5], &[7]),
+];
+
+#[test]
+fn rows_are_swapped_and_go_and_come(rt: HostRuntime) {
+    let swapped: [&[i64]; 2] = [&[1, 2], &[2, 1]];
+    assert!(rt; is_changed(&rt, rt.alloc(), &swapped, &SWAPPED, (&[], &[])));
+    let rows: [&[i64]; 4] = [&[1], &[2], &[3], &[4]];
+    let moved: (&[&[i64]], &[&[i64]]) = (&[&[1], &[3]], &[&[6], &[7]]);
+    assert!(rt; is_changed(&rt, rt.alloc(), &rows, &MOVES, moved));
 }
 
 #[test]
-fn more_rows_than_a_relation_may_have(rt: HostRuntime) {
-    assert!(rt; appended(&rt, rt.alloc(), 100_001) == Err(Some(100_001)));
-    assert!(rt; appended(&rt, rt.alloc(), 100_000) == Ok(100_000));
+fn different_new_rows_and_too_many_rows_are_refused(rt: HostRuntime) {
+    let rows: [&[i64]; 3] = [&[1], &[5], &[8]];
+    assert!(rt; is_contended(&rt, rt.alloc(), &rows, &REPLACED, [5, 3, 7]));
+    assert!(rt; appended(&rt, rt.alloc(), 100_001) == Told::TooMany(100_001));
+    assert!(rt; appended(&rt, rt.alloc(), 100_000) == Told::Comes(100_000));
 }

@@ -1,6 +1,9 @@
-//! Copies of replies, of changes of rows, and of what they are made of.
+//! Copies of replies, of changes of rows, of what they are made of, and of trees.
 
-use crate::made::{boxed, is_copied, named, one, row, set, text};
+use crate::made::{boxed, has_copy, is_copied, named, one, row, set, text};
+use crate::queries::{asked, update};
+use crate::requests::{change_of_base, creation, file, import, permission, ruling};
+use crate::statements::{copying, retrieval};
 use calculus::{AggTable, Change, Column, Kind, Pair, Probe, Reply, Row, Table, Value};
 use std::alloc::Global;
 use std::process::Abort;
@@ -44,15 +47,30 @@ fn change(rt: &impl Abort, alloc: Global) -> Change {
 }
 
 #[test]
-fn changes_of_rows_are_copied(rt: HostRuntime) {
+fn changes_of_rows_and_containers_are_copied(rt: HostRuntime) {
     let alloc = rt.alloc();
     assert!(rt; is_copied(&rt, alloc, pair(&rt, alloc)));
     assert!(rt; is_copied(&rt, alloc, change(&rt, alloc)));
+    assert!(rt; is_copied(&rt, alloc, one(&rt, alloc, (70_000_u32, Some(true)))));
+    assert!(rt; is_copied(&rt, alloc, boxed(&rt, alloc, 5_u8)));
 }
 
 #[test]
-fn containers_are_copied(rt: HostRuntime) {
+fn statements_and_changes_of_a_database_are_copied(rt: HostRuntime) {
     let alloc = rt.alloc();
-    assert!(rt; is_copied(&rt, alloc, one(&rt, alloc, (70_000_u32, Some(true)))));
-    assert!(rt; is_copied(&rt, alloc, boxed(&rt, alloc, 5_u8)));
+    assert!(rt; has_copy(alloc, retrieval(&rt, alloc)));
+    assert!(rt; has_copy(alloc, copying(&rt, alloc)));
+    assert!(rt; has_copy(alloc, change_of_base(&rt, alloc)));
+    assert!(rt; has_copy(alloc, file(&rt, alloc)));
+}
+
+#[test]
+fn what_is_asked_for_is_copied(rt: HostRuntime) {
+    let alloc = rt.alloc();
+    assert!(rt; has_copy(alloc, asked(&rt, alloc)));
+    assert!(rt; has_copy(alloc, update(&rt, alloc)));
+    assert!(rt; has_copy(alloc, creation(&rt, alloc)));
+    assert!(rt; has_copy(alloc, import(&rt, alloc)));
+    assert!(rt; has_copy(alloc, permission(&rt, alloc)));
+    assert!(rt; has_copy(alloc, ruling(&rt, alloc)));
 }

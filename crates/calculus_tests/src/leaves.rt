@@ -1,15 +1,27 @@
 //! Names, text constants, texts and values.
 
 use crate::made::text;
-use calculus::{Chars, Domain, Name, Text, Value};
+use calculus::{Chars, Domain, Name, Text, TryCopy, Value};
 use std::alloc::Global;
 use std::process::Abort;
 use std::test::*;
 
+/// A copy in the place of a value.
+fn copied<T: TryCopy + Drop>(rt: &impl Abort, alloc: Global, value: T) -> T {
+    let copy = value.copy(alloc).expect(rt, "no memory");
+    drop(value);
+    copy
+}
+
 /// Whether there is a name of these bytes; its copy has them.
 fn is_name(rt: &impl Abort, alloc: Global, bytes: &[u8]) -> bool {
     match Name::of(alloc, bytes).expect(rt, "no memory") {
-        Some(name) => name.copy(alloc).expect(rt, "no memory").bytes() == bytes,
+        Some(name) => {
+            let copy = copied(rt, alloc, name);
+            let same = copy.bytes() == bytes;
+            drop(copy);
+            same
+        }
         None => false,
     }
 }
@@ -17,7 +29,12 @@ fn is_name(rt: &impl Abort, alloc: Global, bytes: &[u8]) -> bool {
 /// Whether there is a text constant of these bytes; its copy has them.
 fn is_constant(rt: &impl Abort, alloc: Global, bytes: &[u8]) -> bool {
     match Chars::of(alloc, bytes).expect(rt, "no memory") {
-        Some(chars) => chars.copy(alloc).expect(rt, "no memory").bytes() == bytes,
+        Some(chars) => {
+            let copy = copied(rt, alloc, chars);
+            let same = copy.bytes() == bytes;
+            drop(copy);
+            same
+        }
         None => false,
     }
 }
@@ -26,10 +43,11 @@ fn is_constant(rt: &impl Abort, alloc: Global, bytes: &[u8]) -> bool {
 fn kept(rt: &impl Abort, alloc: Global, bytes: &[u8]) -> Option<usize> {
     match Text::of(alloc, bytes).expect(rt, "no memory") {
         Some(text) => {
-            let copy = text.copy(alloc).expect(rt, "no memory");
-            bytes
-                .starts_with(copy.bytes())
-                .then_some(copy.bytes().len())
+            let copy = copied(rt, alloc, text);
+            let begins = bytes.starts_with(copy.bytes());
+            let length = copy.bytes().len();
+            drop(copy);
+            begins.then_some(length)
         }
         None => None,
     }
@@ -68,10 +86,7 @@ fn names_constants_and_texts_are_made_and_copied(rt: HostRuntime) {
     for (bytes, name, constant, length) in &BYTES {
         assert!(rt; made(&rt, rt.alloc(), bytes) == (*name, *constant, *length));
     }
-}
-
-#[test]
-fn texts_have_at_most_255_bytes(rt: HostRuntime) {
+    // A text has at most 255 bytes.
     assert!(rt; made(&rt, rt.alloc(), &[b'a'; 255]) == (false, true, Some(255)));
     assert!(rt; made(&rt, rt.alloc(), &[b'a'; 256]) == (false, false, None));
     let mut padded = [b' '; 300];
@@ -107,21 +122,19 @@ const NUMBERS: [(i64, bool, bool, bool); 13] = [
     (-2_147_483_649, false, false, false),
 ];
 
-#[test]
-fn numbers_fit_their_domains(rt: HostRuntime) {
-    for (number, i1, i2, i4) in &NUMBERS {
-        assert!(rt; fitting(*number) == (*i1, *i2, *i4, false));
-    }
-}
-
 /// Whether the text of these bytes fits a domain, and whether it comes behind a number.
 fn fits(rt: &impl Abort, alloc: Global, bytes: &[u8], domain: Domain) -> (bool, bool) {
     let value = text(rt, alloc, bytes);
-    (value.fits(domain), value.compare(&Value::Int(7)).is_gt())
+    let fits = (value.fits(domain), value.compare(&Value::Int(7)).is_gt());
+    drop(value);
+    fits
 }
 
 #[test]
-fn texts_fit_their_domains(rt: HostRuntime) {
+fn values_fit_their_domains(rt: HostRuntime) {
+    for (number, i1, i2, i4) in &NUMBERS {
+        assert!(rt; fitting(*number) == (*i1, *i2, *i4, false));
+    }
     assert!(rt; fits(&rt, rt.alloc(), b"abc", Domain::C(3)) == (true, true));
     assert!(rt; fits(&rt, rt.alloc(), b"abc", Domain::C(2)) == (false, true));
     assert!(rt; fits(&rt, rt.alloc(), b"abc", Domain::I4) == (false, true));

@@ -12,7 +12,11 @@ pub fn has_copy<T: TryCopy + Drop>(alloc: Global, tree: T) -> bool {
 
 /// Whether the copy of the value is equal to it.
 pub fn is_copied<T: TryCopy + PartialEq + Drop>(rt: &impl Abort, alloc: Global, tree: T) -> bool {
-    tree.copy(alloc).expect(rt, "no memory") == tree
+    let copy = tree.copy(alloc).expect(rt, "no memory");
+    let same = copy == tree;
+    drop(copy);
+    drop(tree);
+    same
 }
 
 /// The list of this one item.

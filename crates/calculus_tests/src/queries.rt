@@ -1,13 +1,12 @@
-//! Copies of queries and of what is asked for.
+//! Queries and what is asked for.
 
-use crate::made::{boxed, chars, has_copy, key, named, one};
+use crate::made::{boxed, chars, key, named, one};
 use calculus::{
     AggOp, AggSource, ArithOp, Asked, Checked, CmpOp, Kind, QAgg, QQual, QTerm, Query, SortKey,
     Target, Update, UpdateOp,
 };
 use std::alloc::Global;
 use std::process::Abort;
-use std::test::*;
 
 fn aggregate(rt: &impl Abort, alloc: Global, source: AggSource) -> QTerm {
     let agg = QAgg {
@@ -22,17 +21,13 @@ fn aggregate(rt: &impl Abort, alloc: Global, source: AggSource) -> QTerm {
     QTerm::Agg(boxed(rt, alloc, agg))
 }
 
-fn rest(rt: &impl Abort, alloc: Global, source: AggSource) -> QTerm {
+/// A term that holds each kind of term.
+fn term(rt: &impl Abort, alloc: Global, source: AggSource) -> QTerm {
     let op = ArithOp::Mod;
     let left = boxed(rt, alloc, QTerm::Neg(boxed(rt, alloc, QTerm::Int(5))));
     let right = boxed(rt, alloc, aggregate(rt, alloc, source));
     let right = boxed(rt, alloc, QTerm::Abs(right));
-    QTerm::Arith { op, left, right }
-}
-
-/// A term that holds each kind of term.
-fn term(rt: &impl Abort, alloc: Global, source: AggSource) -> QTerm {
-    let left = boxed(rt, alloc, rest(rt, alloc, source));
+    let left = boxed(rt, alloc, QTerm::Arith { op, left, right });
     let right = boxed(rt, alloc, QTerm::Int(i64::MIN));
     QTerm::Concat { left, right }
 }
@@ -71,7 +66,7 @@ fn small_query(rt: &impl Abort, alloc: Global) -> Query {
 }
 
 /// What is asked for: a query with an aggregate over the rows of another.
-fn asked(rt: &impl Abort, alloc: Global) -> Checked {
+pub fn asked(rt: &impl Abort, alloc: Global) -> Checked {
     let source = AggSource::Rows(boxed(rt, alloc, small_query(rt, alloc)));
     let (column, down) = (0, true);
     let sort = one(rt, alloc, SortKey { column, down });
@@ -79,7 +74,7 @@ fn asked(rt: &impl Abort, alloc: Global) -> Checked {
     Checked::Answer(one(rt, alloc, Asked { query, sort }))
 }
 
-fn update(rt: &impl Abort, alloc: Global) -> Checked {
+pub fn update(rt: &impl Abort, alloc: Global) -> Checked {
     Checked::Update(Update {
         op: UpdateOp::Replace,
         rel: key(rt, alloc),
@@ -89,11 +84,4 @@ fn update(rt: &impl Abort, alloc: Global) -> Checked {
         checks: one(rt, alloc, QQual::True),
         new_cut: QQual::True,
     })
-}
-
-#[test]
-fn queries_are_copied(rt: HostRuntime) {
-    let alloc = rt.alloc();
-    assert!(rt; has_copy(alloc, asked(&rt, alloc)));
-    assert!(rt; has_copy(alloc, update(&rt, alloc)));
 }

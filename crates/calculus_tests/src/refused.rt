@@ -1,7 +1,8 @@
 //! Calls to which memory is refused.
 
+use crate::changes::{Told, told_of};
 use calculus::{Name, OutOfMemory, Pair, QTerm, Row, RowSet, TryCopy, Value};
-use change_list::{ChangeFault, set_replace};
+use change_list::set_replace;
 use memory::both;
 use scalar_eval::{Assigned, value_of};
 use std::alloc::Global;
@@ -15,12 +16,15 @@ fn row(alloc: Global, number: i64) -> Result<Row, OutOfMemory> {
 
 /// Puts a copy of a row of this number on top.
 fn push_copy(alloc: Global, rows: &mut Assigned, number: i64) -> Result<(), OutOfMemory> {
-    rows.push(row(alloc, number)?.copy(alloc)?)
+    let row = row(alloc, number)?;
+    let copy = row.copy(alloc);
+    drop(row);
+    rows.push(copy?)
 }
 
 /// The number that a value is, where it is one.
-fn number_in(value: Option<Value>) -> Option<i64> {
-    match &value {
+fn number_in(value: &Option<Value>) -> Option<i64> {
+    match value {
         Some(Value::Int(number)) => Some(*number),
         Some(Value::Text(_)) | None => None,
     }
@@ -29,9 +33,17 @@ fn number_in(value: Option<Value>) -> Option<i64> {
 /// The value of the only attribute of a row's copy.
 fn value_copied(alloc: Global, number: i64) -> Result<Option<i64>, OutOfMemory> {
     let mut rows = Assigned::new(alloc);
-    push_copy(alloc, &mut rows, number)?;
-    let value = value_of(alloc, &QTerm::Attr { var: 0, attr: 0 }, &rows, &[])?;
-    Ok(number_in(value))
+    let pushed = push_copy(alloc, &mut rows, number);
+    let value = value_of(alloc, &QTerm::Attr { var: 0, attr: 0 }, &rows, &[]);
+    drop(rows);
+    match both(pushed, value) {
+        Ok((_, value)) => {
+            let number = number_in(&value);
+            drop(value);
+            Ok(number)
+        }
+        Err(error) => Err(error),
+    }
 }
 
 /// A row that is replaced by another.
@@ -48,14 +60,24 @@ fn pairs(alloc: Global) -> Result<Vec<Pair>, OutOfMemory> {
 }
 
 /// Whether one row comes where these are replaced, or memory is wanting.
-fn comes(alloc: Global, pairs: Result<Vec<Pair>, OutOfMemory>) -> bool {
-    let Ok(pairs) = pairs else {
-        return true;
-    };
-    match set_replace(alloc, &RowSet::new(alloc), &pairs) {
-        Ok(change) => change.add.len() == 1,
-        Err(ChangeFault::OutOfMemory) => true,
-        Err(_) => false,
+fn comes(alloc: Global, pairs: &[Pair]) -> bool {
+    let rows = RowSet::new(alloc);
+    let made = set_replace(alloc, &rows, pairs);
+    let told = told_of(&made);
+    drop(made);
+    drop(rows);
+    told == Told::Comes(1) || told == Told::Wanting
+}
+
+/// Whether one row comes where one is replaced, or memory is wanting.
+fn is_replaced(alloc: Global) -> bool {
+    match pairs(alloc) {
+        Ok(pairs) => {
+            let comes = comes(alloc, &pairs);
+            drop(pairs);
+            comes
+        }
+        Err(_) => true,
     }
 }
 
@@ -70,5 +92,5 @@ fn want_of_memory_is_an_answer(rt: HostRuntime) {
     assert!(rt; value == Ok(Some(3)) || value == Err(OutOfMemory));
     let named = is_named(rt.alloc());
     assert!(rt; named == Ok(true) || named == Err(OutOfMemory));
-    assert!(rt; comes(rt.alloc(), pairs(rt.alloc())));
+    assert!(rt; is_replaced(rt.alloc()));
 }

@@ -9,15 +9,10 @@ use std::test::*;
 /// Whether a set of these rows has those, in this order, and its copy too.
 fn has_rows(rt: &impl Abort, alloc: Global, lists: &[&[i64]], sorted: &[&[i64]]) -> bool {
     let set = set(rt, alloc, lists);
-    let same = set.rows() == rows(rt, alloc, sorted).as_slice();
+    let sorted = rows(rt, alloc, sorted);
+    let same = set.rows() == sorted.as_slice();
+    drop(sorted);
     is_copied(rt, alloc, set) && same
-}
-
-#[test]
-fn sets_hold_each_row_once_and_in_order(rt: HostRuntime) {
-    let lists: [&[i64]; 7] = [&[3], &[1, 2], &[3], &[2, 0], &[1], &[-5], &[1, 1]];
-    let sorted: [&[i64]; 6] = [&[-5], &[1], &[1, 1], &[1, 2], &[2, 0], &[3]];
-    assert!(rt; has_rows(&rt, rt.alloc(), &lists, &sorted));
 }
 
 /// Puts a row of this number into the set, and gives whether it was new.
@@ -51,10 +46,17 @@ fn falling(rt: &impl Abort, alloc: Global, count: i64) -> Vec<Row> {
 fn are_put_once(rt: &impl Abort, alloc: Global, count: i64) -> bool {
     let mut set = RowSet::new(alloc);
     let new = put_many(rt, alloc, &mut set, count) && !put(rt, alloc, &mut set, 1);
-    new && set == RowSet::of_rows(falling(rt, alloc, count))
+    let all = RowSet::of_rows(falling(rt, alloc, count));
+    let same = set == all;
+    drop(all);
+    drop(set);
+    new && same
 }
 
 #[test]
-fn many_rows_are_put_once(rt: HostRuntime) {
+fn sets_hold_each_row_once_and_in_order(rt: HostRuntime) {
+    let lists: [&[i64]; 7] = [&[3], &[1, 2], &[3], &[2, 0], &[1], &[-5], &[1, 1]];
+    let sorted: [&[i64]; 6] = [&[-5], &[1], &[1, 1], &[1, 2], &[2, 0], &[3]];
+    assert!(rt; has_rows(&rt, rt.alloc(), &lists, &sorted));
     assert!(rt; are_put_once(&rt, rt.alloc(), 2_000));
 }

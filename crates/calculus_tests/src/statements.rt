@@ -1,12 +1,11 @@
-//! Copies of statements.
+//! Statements.
 
-use crate::made::{boxed, chars, has_copy, named, one};
+use crate::made::{boxed, chars, named, one};
 use calculus::{
     AggOp, AggTerm, ArithOp, Boxed, CmpOp, CopyForm, Item, List, Name, Qual, Statement, Term,
 };
 use std::alloc::Global;
 use std::process::Abort;
-use std::test::*;
 
 fn var(rt: &impl Abort, alloc: Global) -> Name {
     named(rt, alloc, b"v")
@@ -19,16 +18,12 @@ fn aggregate(rt: &impl Abort, alloc: Global) -> Term {
     Term::Agg(boxed(rt, alloc, AggTerm { op, arg, by, qual }))
 }
 
-fn power(rt: &impl Abort, alloc: Global) -> Term {
+/// A term that holds each kind of term.
+fn term(rt: &impl Abort, alloc: Global) -> Term {
     let op = ArithOp::Pow;
     let left = boxed(rt, alloc, Term::Neg(boxed(rt, alloc, Term::Int(5))));
     let right = boxed(rt, alloc, Term::Abs(boxed(rt, alloc, aggregate(rt, alloc))));
-    Term::Arith { op, left, right }
-}
-
-/// A term that holds each kind of term.
-fn term(rt: &impl Abort, alloc: Global) -> Term {
-    let left = boxed(rt, alloc, power(rt, alloc));
+    let left = boxed(rt, alloc, Term::Arith { op, left, right });
     let right = boxed(rt, alloc, Term::Chars(chars(rt, alloc, b"\\]")));
     Term::Concat { left, right }
 }
@@ -65,7 +60,7 @@ fn items(rt: &impl Abort, alloc: Global) -> List<Item> {
 }
 
 /// A retrieval with everything that it may have.
-fn retrieval(rt: &impl Abort, alloc: Global) -> Statement {
+pub fn retrieval(rt: &impl Abort, alloc: Global) -> Statement {
     let sort = one(rt, alloc, (var(rt, alloc), true));
     Statement::Retrieve {
         into: Some(var(rt, alloc)),
@@ -76,7 +71,7 @@ fn retrieval(rt: &impl Abort, alloc: Global) -> Statement {
 }
 
 /// The copying of a relation into a file.
-fn copying(rt: &impl Abort, alloc: Global) -> Statement {
+pub fn copying(rt: &impl Abort, alloc: Global) -> Statement {
     let form = CopyForm::Fixed(3);
     Statement::Copy {
         rel: var(rt, alloc),
@@ -84,11 +79,4 @@ fn copying(rt: &impl Abort, alloc: Global) -> Statement {
         from: false,
         file: chars(rt, alloc, b"f"),
     }
-}
-
-#[test]
-fn statements_are_copied(rt: HostRuntime) {
-    let alloc = rt.alloc();
-    assert!(rt; has_copy(alloc, retrieval(&rt, alloc)));
-    assert!(rt; has_copy(alloc, copying(&rt, alloc)));
 }

@@ -10,7 +10,11 @@ use std::test::*;
 
 /// Whether the qualification holds over no rows.
 fn held(rt: &impl Abort, alloc: Global, qual: Boxed<QQual>) -> bool {
-    holds(alloc, qual.get(), &Assigned::new(alloc), &[]).expect(rt, "no memory")
+    let rows = Assigned::new(alloc);
+    let held = holds(alloc, qual.get(), &rows, &[]).expect(rt, "no memory");
+    drop(rows);
+    drop(qual);
+    held
 }
 
 /// That 6 divided by a number compares so with another.
@@ -31,6 +35,15 @@ fn compared(rt: &impl Abort, alloc: Global, op: CmpOp, divisor: i64, right: i64)
     (plain, held(rt, alloc, negated))
 }
 
+/// The true qualification behind so many negations.
+fn deep_qual(rt: &impl Abort, alloc: Global, levels: u32) -> Boxed<QQual> {
+    let mut qual = boxed(rt, alloc, QQual::True);
+    for _ in 0..levels {
+        qual = negation(rt, alloc, qual);
+    }
+    qual
+}
+
 /// A comparison, the divisor of 6, the number to the right, and whether it holds.
 const COMPARED: [(CmpOp, i64, i64, bool); 8] = [
     (CmpOp::Eq, 1, 6, true),
@@ -44,22 +57,9 @@ const COMPARED: [(CmpOp, i64, i64, bool); 8] = [
 ];
 
 #[test]
-fn comparisons_without_a_value_are_false(rt: HostRuntime) {
+fn comparisons_without_a_value_are_false_and_500_levels_hold(rt: HostRuntime) {
     for (op, divisor, right, holding) in &COMPARED {
         assert!(rt; compared(&rt, rt.alloc(), *op, *divisor, *right) == (*holding, !*holding));
     }
-}
-
-/// The true qualification behind so many negations.
-fn deep_qual(rt: &impl Abort, alloc: Global, levels: u32) -> Boxed<QQual> {
-    let mut qual = boxed(rt, alloc, QQual::True);
-    for _ in 0..levels {
-        qual = negation(rt, alloc, qual);
-    }
-    qual
-}
-
-#[test]
-fn qualifications_of_500_levels_hold(rt: HostRuntime) {
     assert!(rt; held(&rt, rt.alloc(), deep_qual(&rt, rt.alloc(), 500)));
 }

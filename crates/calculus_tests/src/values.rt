@@ -12,8 +12,8 @@ const LEAST: i64 = i64::MIN;
 const GREATEST: i64 = i64::MAX;
 
 /// The number that a value is, where there is one.
-fn number_in(rt: &impl Abort, value: Option<Value>) -> Option<i64> {
-    match &value {
+fn number_in(rt: &impl Abort, value: &Option<Value>) -> Option<i64> {
+    match value {
         Some(Value::Int(number)) => Some(*number),
         Some(Value::Text(_)) => panic!(*rt; "a text"),
         None => None,
@@ -28,15 +28,19 @@ fn number_over(
     rows: &Assigned,
     tables: &[AggTable],
 ) -> Option<i64> {
-    number_in(
-        rt,
-        value_of(alloc, term.get(), rows, tables).expect(rt, "no memory"),
-    )
+    let value = value_of(alloc, term.get(), rows, tables).expect(rt, "no memory");
+    let number = number_in(rt, &value);
+    drop(value);
+    drop(term);
+    number
 }
 
 /// The value of a term, which must be a number, over no rows.
 fn number(rt: &impl Abort, alloc: Global, term: Boxed<QTerm>) -> Option<i64> {
-    number_over(rt, alloc, term, &Assigned::new(alloc), &[])
+    let rows = Assigned::new(alloc);
+    let number = number_over(rt, alloc, term, &rows, &[]);
+    drop(rows);
+    number
 }
 
 pub fn operation(
@@ -80,6 +84,12 @@ fn numbers_have_64_bits(rt: HostRuntime) {
     for (op, left, right, result) in &OPERATIONS {
         assert!(rt; computed(&rt, rt.alloc(), *op, *left, *right) == *result);
     }
+    // The least number has no other sign.
+    assert!(rt; unsigned(&rt, rt.alloc(), -5) == (Some(5), Some(5)));
+    assert!(rt; unsigned(&rt, rt.alloc(), 7) == (Some(-7), Some(7)));
+    assert!(rt; unsigned(&rt, rt.alloc(), LEAST) == (None, None));
+    // A term of 500 levels has a value.
+    assert!(rt; number(&rt, rt.alloc(), deep_term(&rt, rt.alloc(), 500)) == Some(5));
 }
 
 /// The negation of a number and its absolute value.
@@ -90,16 +100,9 @@ fn unsigned(rt: &impl Abort, alloc: Global, value: i64) -> (Option<i64>, Option<
     (negated, number(rt, alloc, boxed(rt, alloc, absolute)))
 }
 
-#[test]
-fn the_least_number_has_no_other_sign(rt: HostRuntime) {
-    assert!(rt; unsigned(&rt, rt.alloc(), -5) == (Some(5), Some(5)));
-    assert!(rt; unsigned(&rt, rt.alloc(), 7) == (Some(-7), Some(7)));
-    assert!(rt; unsigned(&rt, rt.alloc(), LEAST) == (None, None));
-}
-
 /// Whether a value is the text of these bytes, or there is none of either.
-fn is_text(value: Option<Value>, bytes: Option<&[u8]>) -> bool {
-    match &value {
+fn is_text(value: &Option<Value>, bytes: Option<&[u8]>) -> bool {
+    match value {
         Some(Value::Text(text)) => Some(text.bytes()) == bytes,
         Some(Value::Int(_)) => false,
         None => bytes.is_none(),
@@ -110,14 +113,6 @@ fn constant(rt: &impl Abort, alloc: Global, written: &[u8]) -> Boxed<QTerm> {
     boxed(rt, alloc, QTerm::Chars(chars(rt, alloc, written)))
 }
 
-/// The value of two text constants that are put together.
-fn joined(rt: &impl Abort, alloc: Global, left: &[u8], right: &[u8]) -> Option<Value> {
-    let left = constant(rt, alloc, left);
-    let right = constant(rt, alloc, right);
-    let term = boxed(rt, alloc, QTerm::Concat { left, right });
-    value_of(alloc, term.get(), &Assigned::new(alloc), &[]).expect(rt, "no memory")
-}
-
 /// Whether two text constants put together have these bytes, or no value where there are none.
 fn is_joined(
     rt: &impl Abort,
@@ -126,7 +121,16 @@ fn is_joined(
     right: &[u8],
     bytes: Option<&[u8]>,
 ) -> bool {
-    is_text(joined(rt, alloc, left, right), bytes)
+    let left = constant(rt, alloc, left);
+    let right = constant(rt, alloc, right);
+    let term = boxed(rt, alloc, QTerm::Concat { left, right });
+    let rows = Assigned::new(alloc);
+    let value = value_of(alloc, term.get(), &rows, &[]).expect(rt, "no memory");
+    let same = is_text(&value, bytes);
+    drop(value);
+    drop(rows);
+    drop(term);
+    same
 }
 
 /// Two text constants, and the bytes of them put together.
@@ -168,15 +172,9 @@ fn second(rt: &impl Abort, alloc: Global, first: i64, second: i64) -> (Option<i6
     push(rt, alloc, &mut rows, second);
     let there = number_over(rt, alloc, attribute(rt, alloc, 1), &rows, &[]);
     rows.pop();
-    (
-        there,
-        number_over(rt, alloc, attribute(rt, alloc, 1), &rows, &[]),
-    )
-}
-
-#[test]
-fn rows_are_put_on_top(rt: HostRuntime) {
-    assert!(rt; second(&rt, rt.alloc(), 3, 4) == (Some(4), None));
+    let gone = number_over(rt, alloc, attribute(rt, alloc, 1), &rows, &[]);
+    drop(rows);
+    (there, gone)
 }
 
 /// The count of a relation's rows with the first variable's first attribute.
@@ -214,7 +212,10 @@ fn counted_at(
     let tables = one(rt, alloc, table(rt, alloc, value));
     let mut rows = Assigned::new(alloc);
     push(rt, alloc, &mut rows, linked);
-    number_over(rt, alloc, counted(rt, alloc, slot), &rows, tables.items())
+    let number = number_over(rt, alloc, counted(rt, alloc, slot), &rows, tables.items());
+    drop(rows);
+    drop(tables);
+    number
 }
 
 /// A slot, the table's value at 1, the number of the row, and the count.
@@ -227,7 +228,8 @@ const COUNTS: [(u16, Option<i64>, i64, Option<i64>); 5] = [
 ];
 
 #[test]
-fn aggregates_have_the_values_of_their_tables(rt: HostRuntime) {
+fn rows_are_put_on_top_and_aggregates_have_the_values_of_their_tables(rt: HostRuntime) {
+    assert!(rt; second(&rt, rt.alloc(), 3, 4) == (Some(4), None));
     for (slot, value, linked, number) in &COUNTS {
         assert!(rt; counted_at(&rt, rt.alloc(), *slot, *value, *linked) == *number);
     }
@@ -240,9 +242,4 @@ fn deep_term(rt: &impl Abort, alloc: Global, levels: u32) -> Boxed<QTerm> {
         term = boxed(rt, alloc, QTerm::Neg(term));
     }
     term
-}
-
-#[test]
-fn terms_of_500_levels_have_values(rt: HostRuntime) {
-    assert!(rt; number(&rt, rt.alloc(), deep_term(&rt, rt.alloc(), 500)) == Some(5));
 }

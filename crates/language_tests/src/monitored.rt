@@ -21,72 +21,45 @@ fn told(command: &Command) -> (&[u8], &[u8]) {
 
 /// Adds a part of a line: a piece in angle brackets, or a command in square ones.
 fn push_part(out: &mut Vec<u8>, part: &Part) -> Result<(), AllocError> {
-    match part {
-        Part::Piece(bytes) => {
-            out.push(b'<')?;
-            out.extend_from_slice(bytes.items())?;
-            Ok(out.push(b'>')?)
-        }
-        Part::Order(command) => {
-            let (name, file) = told(command);
-            out.push(b'[')?;
-            out.extend_from_slice(name)?;
-            out.extend_from_slice(file)?;
-            Ok(out.push(b']')?)
-        }
-    }
+    let (open, (name, file), close) = match part {
+        Part::Piece(bytes) => (b'<', (bytes.items(), [].as_slice()), b'>'),
+        Part::Order(command) => (b'[', told(command), b']'),
+    };
+    out.push(open)?;
+    out.extend_from_slice(name)?;
+    out.extend_from_slice(file)?;
+    Ok(out.push(close)?)
 }
 
-/// These parts, one behind the other.
-fn joined(alloc: Global, parts: &[Part]) -> Result<Vec<u8>, OutOfMemory> {
-    let mut out = Vec::new(alloc);
+/// Adds these parts, one behind the other.
+fn push_parts(out: &mut Vec<u8>, parts: &[Part]) -> Result<(), OutOfMemory> {
     for part in parts {
-        push_part(&mut out, part)?;
+        push_part(out, part)?;
     }
-    Ok(out)
+    Ok(())
 }
 
 /// The parts of a line, one behind the other.
 pub fn shown(alloc: Global, line: &[u8]) -> Result<Vec<u8>, OutOfMemory> {
     let parts = parts_of(alloc, line)?;
-    joined(alloc, &parts)
+    let mut out = Vec::new(alloc);
+    let pushed = push_parts(&mut out, &parts);
+    drop(parts);
+    match pushed {
+        Ok(()) => Ok(out),
+        Err(error) => Err(error),
+    }
 }
 
 /// Whether the line has these parts.
 fn has_parts(alloc: Global, line: &[u8], parts: &[u8]) -> bool {
     match shown(alloc, line) {
-        Ok(shown) => shown.as_slice() == parts,
+        Ok(shown) => {
+            let same = shown.as_slice() == parts;
+            drop(shown);
+            same
+        }
         Err(_) => false,
-    }
-}
-
-#[test]
-fn a_line_is_cut_at_its_commands(rt: HostRuntime) {
-    for (line, parts) in [
-        (
-            br#"abc "x\\g" \g def \p\i  f.q  "#.as_slice(),
-            br#"<abc "x\\g" >[go]< def >[print][include f.q]"#.as_slice(),
-        ),
-        (
-            br#""a\"\g" \q"#.as_slice(),
-            br#"<"a\"\g" >[quit]"#.as_slice(),
-        ),
-        (br#"a "\g"#.as_slice(), br#"<a "\g>"#.as_slice()),
-        (
-            b"\\r\\a\\w\n".as_slice(),
-            b"[reset][append][write ]".as_slice(),
-        ),
-        (
-            b"\\goo b\\\n".as_slice(),
-            b"[unknown]< b>[unknown]<\n>".as_slice(),
-        ),
-        (
-            b"\\write a b\\g\t\r\n".as_slice(),
-            b"[write a b\\g]".as_slice(),
-        ),
-        (b"".as_slice(), b"".as_slice()),
-    ] {
-        assert!(rt; has_parts(rt.alloc(), line, parts));
     }
 }
 
@@ -105,7 +78,11 @@ fn put_parts(buffer: &mut Buffer, parts: &[Part]) -> bool {
 /// Puts the parts of a line into the buffer, and gives whether there was room.
 fn put_line(alloc: Global, buffer: &mut Buffer, line: &[u8]) -> bool {
     match parts_of(alloc, line) {
-        Ok(parts) => put_parts(buffer, &parts),
+        Ok(parts) => {
+            let room = put_parts(buffer, &parts);
+            drop(parts);
+            room
+        }
         Err(_) => false,
     }
 }
@@ -117,29 +94,47 @@ fn collects(alloc: Global, lines: &[&[u8]], text: &[u8]) -> bool {
     for line in lines {
         room = room && put_line(alloc, &mut buffer, line);
     }
-    room && buffer.text() == text
+    let same = buffer.text() == text;
+    drop(buffer);
+    room && same
 }
 
+/// A line, and its parts.
+const LINES: [(&[u8], &[u8]); 7] = [
+    (
+        br#"abc "x\\g" \g def \p\i  f.q  "#,
+        br#"<abc "x\\g" >[go]< def >[print][include f.q]"#,
+    ),
+    (br#""a\"\g" \q"#, br#"<"a\"\g" >[quit]"#),
+    (br#"a "\g"#, br#"<a "\g>"#),
+    (b"\\r\\a\\w\n", b"[reset][append][write ]"),
+    (b"\\goo b\\\n", b"[unknown]< b>[unknown]<\n>"),
+    (b"\\write a b\\g\t\r\n", b"[write a b\\g]"),
+    (b"", b""),
+];
+
+/// Lines, and what the buffer has behind them.
+const COLLECTED: [(&[&[u8]], &[u8]); 4] = [
+    (
+        &[
+            b"range of x is p",
+            b" \t\r\n",
+            b"retrieve (x.a)\n",
+            b"\\g  \n",
+        ],
+        b"range of x is p\nretrieve (x.a)\n",
+    ),
+    (&[b"help\n\\g", b" print p"], b" print p\n"),
+    (&[b" print p\\g\\a", b"help\n", b"\\p"], b" print p\nhelp\n"),
+    (&[b"help\n", b"\\g\\r"], b""),
+];
+
 #[test]
-fn the_buffer_collects_pieces_until_it_ran(rt: HostRuntime) {
-    let first = [
-        b"range of x is p".as_slice(),
-        b" \t\r\n",
-        b"retrieve (x.a)\n",
-        b"\\g  \n",
-    ];
-    let second = [b"help\n\\g".as_slice(), b" print p"];
-    let third = [b" print p\\g\\a".as_slice(), b"help\n", b"\\p"];
-    let fourth = [b"help\n".as_slice(), b"\\g\\r"];
-    for (lines, text) in [
-        (
-            first.as_slice(),
-            b"range of x is p\nretrieve (x.a)\n".as_slice(),
-        ),
-        (second.as_slice(), b" print p\n".as_slice()),
-        (third.as_slice(), b" print p\nhelp\n".as_slice()),
-        (fourth.as_slice(), b"".as_slice()),
-    ] {
-        assert!(rt; collects(rt.alloc(), lines, text));
+fn a_line_is_cut_at_its_commands_and_the_buffer_collects_pieces_until_it_ran(rt: HostRuntime) {
+    for (line, parts) in &LINES {
+        assert!(rt; has_parts(rt.alloc(), *line, *parts));
+    }
+    for (lines, text) in &COLLECTED {
+        assert!(rt; collects(rt.alloc(), *lines, *text));
     }
 }

@@ -27,30 +27,16 @@ fn declares(statement: &Statement) -> bool {
     }
 }
 
-/// What a statement that is read says, if there is one.
-fn found(read: Option<(Statement, usize)>) -> Answer {
-    match read {
-        Some((statement, end)) => {
+/// What is read of the text from this place on.
+pub fn read_at(alloc: Global, text: &[u8], from: usize) -> Answer {
+    match next_statement(alloc, text, from) {
+        Ok(Some((statement, end))) => {
             let is_range = declares(&statement);
             drop(statement);
             Answer::Statement(end, is_range)
         }
-        None => Answer::Nothing,
-    }
-}
-
-/// What is said where none is read.
-fn told(fault: ParseFault) -> Answer {
-    match fault {
-        ParseFault::Syntax { line, at } => Answer::Syntax(line, at),
-        ParseFault::OutOfMemory => Answer::OutOfMemory,
-    }
-}
-
-/// What is read of the text from this place on.
-pub fn read_at(alloc: Global, text: &[u8], from: usize) -> Answer {
-    match next_statement(alloc, text, from) {
-        Ok(read) => found(read),
-        Err(fault) => told(fault),
+        Ok(None) => Answer::Nothing,
+        Err(ParseFault::Syntax { line, at }) => Answer::Syntax(line, at),
+        Err(ParseFault::OutOfMemory) => Answer::OutOfMemory,
     }
 }

@@ -37,7 +37,11 @@ const TABLE: &[u8] = b"|a     |b  |departments|w                   |
 /// Whether these bytes were made.
 fn are(made: Result<Vec<u8>, OutOfMemory>, bytes: &[u8]) -> bool {
     match made {
-        Ok(made) => made.as_slice() == bytes,
+        Ok(made) => {
+            let same = made.as_slice() == bytes;
+            drop(made);
+            same
+        }
         Err(_) => false,
     }
 }
@@ -138,33 +142,29 @@ fn tables(alloc: Global) -> Result<Reply, OutOfMemory> {
 /// What that reply is printed as.
 pub fn printed_tables(alloc: Global) -> Result<Vec<u8>, OutOfMemory> {
     let reply = tables(alloc)?;
-    reply_bytes(alloc, &reply)
+    let bytes = reply_bytes(alloc, &reply);
+    drop(reply);
+    bytes
 }
 
-/// How that table begins.
-fn head(alloc: Global) -> Result<Vec<u8>, OutOfMemory> {
-    let columns = columns(alloc, TITLES.as_slice())?;
-    head_bytes(alloc, columns.items())
+/// Whether the head, the rule and the first line of the table have these columns and this row.
+fn parts_are(alloc: Global, columns: &[Column], row: &Row) -> (bool, bool, bool) {
+    let head = are(head_bytes(alloc, columns), HEAD);
+    let rule = are(rule_bytes(alloc, columns), RULE);
+    (head, rule, are(row_line(alloc, columns, row), FIRST_ROW))
 }
 
-/// Its rule line.
-fn rule(alloc: Global) -> Result<Vec<u8>, OutOfMemory> {
-    let columns = columns(alloc, TITLES.as_slice())?;
-    rule_bytes(alloc, columns.items())
-}
-
-/// The line of its first row.
-fn first_line(alloc: Global) -> Result<Vec<u8>, OutOfMemory> {
-    let (columns, row) = both(columns(alloc, TITLES.as_slice()), first_row(alloc))?;
-    row_line(alloc, columns.items(), &row)
-}
-
-#[test]
-fn a_table_has_its_widths(rt: HostRuntime) {
-    assert!(rt; are(head(rt.alloc()), HEAD));
-    assert!(rt; are(rule(rt.alloc()), RULE));
-    assert!(rt; are(first_line(rt.alloc()), FIRST_ROW));
-    assert!(rt; are(printed_tables(rt.alloc()), TABLE));
+/// The same of its own columns and its first row.
+fn has_parts(alloc: Global) -> (bool, bool, bool) {
+    match both(columns(alloc, TITLES.as_slice()), first_row(alloc)) {
+        Ok((columns, row)) => {
+            let parts = parts_are(alloc, columns.items(), &row);
+            drop(row);
+            drop(columns);
+            parts
+        }
+        Err(_) => (false, false, false),
+    }
 }
 
 /// Adds the parts of a table with a column and a row.
@@ -185,7 +185,10 @@ fn least_row(alloc: Global) -> Result<Row, OutOfMemory> {
 fn push_least(alloc: Global, out: &mut Vec<u8>) -> Result<(), OutOfMemory> {
     let titles = [(b"n".as_slice(), Kind::Of(Domain::I4))];
     let (columns, row) = both(columns(alloc, titles.as_slice()), least_row(alloc))?;
-    push_small(out, columns.items(), &row)
+    let pushed = push_small(out, columns.items(), &row);
+    drop(row);
+    drop(columns);
+    pushed
 }
 
 /// The parts of a table with that row.
@@ -195,26 +198,6 @@ fn small_table(alloc: Global) -> Result<Vec<u8>, OutOfMemory> {
     Ok(out)
 }
 
-#[test]
-fn a_row_is_put_behind_what_is_there(rt: HostRuntime) {
-    let bytes = b"|n          |\n|-----------|\n|-2147483648|\n|-----------|\n";
-    assert!(rt; are(small_table(rt.alloc()), bytes));
-}
-
-#[test]
-fn a_refusal_has_its_number_and_its_line(rt: HostRuntime) {
-    for (code, line, row, text) in [
-        (14, 10_001, 0, b"refused 14 line 10001: limit\n".as_slice()),
-        (2, 0, 0, b"refused 2 line 0: monitor command\n".as_slice()),
-        (31, 2, 17, b"refused 31 line 2: bad row 17\n".as_slice()),
-        (32, 1, 0, b"refused 32 line 1: no such file\n".as_slice()),
-        (4, 1, 0, b"refused 4 line 1: \n".as_slice()),
-    ] {
-        let refusal = Refusal { code, line, row };
-        assert!(rt; are(refusal_bytes(rt.alloc(), &refusal), text));
-    }
-}
-
 /// An acknowledgement, and a refusal behind it.
 fn done_and_refused(alloc: Global, refusal: Refusal) -> Result<Vec<u8>, OutOfMemory> {
     let mut out = reply_bytes(alloc, &Reply::Done)?;
@@ -222,15 +205,39 @@ fn done_and_refused(alloc: Global, refusal: Refusal) -> Result<Vec<u8>, OutOfMem
     Ok(out)
 }
 
+const LEAST: &[u8] = b"|n          |\n|-----------|\n|-2147483648|\n|-----------|\n";
+
+const NOT_BUILT: Refusal = Refusal {
+    code: 9,
+    line: 1,
+    row: 0,
+};
+
+/// The number of a refusal, its line, its row, and what it is printed as.
+const REFUSALS: [(u8, u32, u32, &[u8]); 5] = [
+    (14, 10_001, 0, b"refused 14 line 10001: limit\n"),
+    (2, 0, 0, b"refused 2 line 0: monitor command\n"),
+    (31, 2, 17, b"refused 31 line 2: bad row 17\n"),
+    (32, 1, 0, b"refused 32 line 1: no such file\n"),
+    (4, 1, 0, b"refused 4 line 1: \n"),
+];
+
+/// Whether a refusal is printed as this text.
+fn is_printed(alloc: Global, code: u8, line: u32, row: u32, text: &[u8]) -> bool {
+    let refusal = Refusal { code, line, row };
+    are(refusal_bytes(alloc, &refusal), text)
+}
+
 #[test]
 fn replies_are_printed(rt: HostRuntime) {
-    let refusal = Refusal {
-        code: 9,
-        line: 1,
-        row: 0,
-    };
+    assert!(rt; has_parts(rt.alloc()) == (true, true, true));
+    assert!(rt; are(printed_tables(rt.alloc()), TABLE));
+    assert!(rt; are(small_table(rt.alloc()), LEAST));
+    for (code, line, row, text) in &REFUSALS {
+        assert!(rt; is_printed(rt.alloc(), *code, *line, *row, *text));
+    }
     assert!(rt; are(done_bytes(rt.alloc()), b"done\n"));
     assert!(rt; are(reply_bytes(rt.alloc(), &Reply::Nothing), b""));
     let both = b"done\nrefused 9 line 1: not built\n";
-    assert!(rt; are(done_and_refused(rt.alloc(), refusal), both));
+    assert!(rt; are(done_and_refused(rt.alloc(), NOT_BUILT), both));
 }

@@ -1,5 +1,6 @@
 //! Whole statements, and texts at the edges of the language.
 
+use crate::broken_statements::{DOUBLED, DROPPED, SWAPPED};
 use crate::reading::{Answer, read_at};
 use crate::table_lines::parts_of;
 use std::alloc::{AllocError, Global};
@@ -44,18 +45,6 @@ fn right(alloc: Global, lines: &[u8]) -> (usize, usize) {
     (right, all)
 }
 
-#[test]
-fn texts_are_read_as_the_grammar_says(rt: HostRuntime) {
-    assert!(rt; right(rt.alloc(), TEXTS) == (71, 71));
-}
-
-#[test]
-fn a_statement_is_read_behind_another(rt: HostRuntime) {
-    let text = b"help\nrange of E is emp\n\nprint ;";
-    assert!(rt; read_at(rt.alloc(), text, 4) == Answer::Statement(22, true));
-    assert!(rt; refused_behind(rt.alloc(), text) == (2, Answer::Syntax(4, 30)));
-}
-
 /// How many statements of the text are read, and what is read behind them.
 fn refused_behind(alloc: Global, text: &[u8]) -> (usize, Answer) {
     let mut place = 0usize;
@@ -70,15 +59,6 @@ fn refused_behind(alloc: Global, text: &[u8]) -> (usize, Answer) {
         }
     }
     (count, Answer::Nothing)
-}
-
-#[test]
-fn scripts_are_refused_at_their_lines(rt: HostRuntime) {
-    let long_name =
-        b"create w (a = c255, b = c255, c = c255, d = c235)\ncreate x (a = c255, b = c255, c = c255, d = c235, e = i1)\ncreate abcdefghijkl (a = i1)\ncreate abcdefghijklm (a = i1)\ncreate y (a = i1)\n";
-    assert!(rt; refused_behind(rt.alloc(), long_name) == (3, Answer::Syntax(4, 144)));
-    let wrong_word = b"create g (a = i1)\nretreive (x = 1)\ncreate h (a = i1)\n";
-    assert!(rt; refused_behind(rt.alloc(), wrong_word) == (1, Answer::Syntax(2, 18)));
 }
 
 /// Puts a text together: its front, so many copies of a part, what stands behind these, and so many
@@ -112,26 +92,69 @@ fn read_repeated(
     closed: usize,
 ) -> Answer {
     let mut text = Vec::new(alloc);
-    match push_repeated(&mut text, front, part, count, middle, closed) {
+    let answer = match push_repeated(&mut text, front, part, count, middle, closed) {
         Ok(()) => read_at(alloc, &text, 0),
         Err(_) => Answer::OutOfMemory,
-    }
+    };
+    drop(text);
+    answer
 }
 
 #[test]
-fn statements_have_500_tokens_and_50_parentheses(rt: HostRuntime) {
-    let term = b"delete e where e.a = ".as_slice();
-    let condition = b"delete e where ".as_slice();
-    let compared = b"e.a = 1".as_slice();
-    for (front, part, count, middle, closed, letter, place) in [
-        (term, b"-".as_slice(), 492, b"1".as_slice(), 0, b'r', 514),
-        (term, b"-".as_slice(), 493, b"1".as_slice(), 0, b's', 514),
-        (condition, b"not ".as_slice(), 492, compared, 0, b'r', 1990),
-        (term, b"(".as_slice(), 50, b"1".as_slice(), 50, b'r', 122),
-        (term, b"(".as_slice(), 51, b"1".as_slice(), 0, b's', 71),
-        (condition, b"(".as_slice(), 50, compared, 50, b'r', 122),
-    ] {
-        let read = read_repeated(rt.alloc(), front, part, count, middle, closed);
-        assert!(rt; is_told(read, letter, place));
+fn texts_are_read_and_refused_as_the_grammar_says(rt: HostRuntime) {
+    assert!(rt; right(rt.alloc(), TEXTS) == (71, 71));
+    assert!(rt; right(rt.alloc(), DROPPED) == (98, 98));
+    assert!(rt; right(rt.alloc(), DOUBLED) == (88, 88));
+    assert!(rt; right(rt.alloc(), SWAPPED) == (79, 79));
+}
+
+/// A script whose second statement stands behind the first.
+const SCRIPT: &[u8] = b"help\nrange of E is emp\n\nprint ;";
+
+/// A script whose fourth statement has a name that is too long.
+const LONG_NAME: &[u8] =
+    b"create w (a = c255, b = c255, c = c255, d = c235)\ncreate x (a = c255, b = c255, c = c255, d = c235, e = i1)\ncreate abcdefghijkl (a = i1)\ncreate abcdefghijklm (a = i1)\ncreate y (a = i1)\n";
+
+/// A script with a wrong word.
+const WRONG_WORD: &[u8] = b"create g (a = i1)\nretreive (x = 1)\ncreate h (a = i1)\n";
+
+const TERM: &[u8] = b"delete e where e.a = ";
+
+const CONDITION: &[u8] = b"delete e where ";
+
+const COMPARED: &[u8] = b"e.a = 1";
+
+/// A front, a part, how many copies of it, what stands behind these, how many closing parentheses, and
+/// what is read.
+type Long = (
+    &'static [u8],
+    &'static [u8],
+    usize,
+    &'static [u8],
+    usize,
+    u8,
+    usize,
+);
+
+const LONG: [Long; 6] = [
+    (TERM, b"-", 492, b"1", 0, b'r', 514),
+    (TERM, b"-", 493, b"1", 0, b's', 514),
+    (CONDITION, b"not ", 492, COMPARED, 0, b'r', 1990),
+    (TERM, b"(", 50, b"1", 50, b'r', 122),
+    (TERM, b"(", 51, b"1", 0, b's', 71),
+    (CONDITION, b"(", 50, COMPARED, 50, b'r', 122),
+];
+
+#[test]
+fn scripts_are_read_to_their_ends_and_statements_have_500_tokens_and_50_parentheses(
+    rt: HostRuntime,
+) {
+    assert!(rt; read_at(rt.alloc(), SCRIPT, 4) == Answer::Statement(22, true));
+    assert!(rt; refused_behind(rt.alloc(), SCRIPT) == (2, Answer::Syntax(4, 30)));
+    assert!(rt; refused_behind(rt.alloc(), LONG_NAME) == (3, Answer::Syntax(4, 144)));
+    assert!(rt; refused_behind(rt.alloc(), WRONG_WORD) == (1, Answer::Syntax(2, 18)));
+    for (front, part, count, middle, closed, letter, place) in &LONG {
+        let read = read_repeated(rt.alloc(), *front, *part, *count, *middle, *closed);
+        assert!(rt; is_told(read, *letter, *place));
     }
 }

@@ -1,153 +1,152 @@
 //! What statements ask an empty database for, and what refuses them.
 
-use crate::given::{name, statement};
-use calculus::{Checked, DbChange, Domain, Kind, Utility};
+use calculus::{Asked, Checked, DbChange, Domain, Kind, Name, OutOfMemory, Statement, Utility};
+use memory::both;
 use plain_base::DbPlain;
 use quel_check::RangeTable;
 use quel_names::name_refusal;
+use quel_parse::next_statement;
 use quel_resolve::{CheckFault, resolve};
 use std::alloc::Global;
-use std::process::Abort;
 use std::test::*;
 use utilities::plan;
 
-/// The number of the first name in a statement that is none of an empty database's.
-fn refused_name(rt: &impl Abort, alloc: Global, text: &[u8]) -> Option<u8> {
-    let user = name(rt, alloc, b"ann");
-    let mut base = DbPlain::new(alloc, name(rt, alloc, b"ann"));
-    let ranges = RangeTable::new(alloc);
-    let s = statement(rt, alloc, text);
-    let number = name_refusal(alloc, &s, &user, &ranges, &mut base);
-    drop(s);
-    drop(base);
-    number.expect(rt, "an answer")
+/// In the place of a number where memory was wanting.
+const WANTING: u8 = 8;
+
+/// The number of the first name that isn't there, and the number that refuses the statement, 9 where it
+/// isn't built, each 0 where there is none; how many targets the queries of its tree have; and 1 where
+/// it is planned as a relation `p` without rows, whose one attribute is a number of two bytes.
+type Told = [u8; 4];
+
+fn ann(alloc: Global) -> Result<Name, OutOfMemory> {
+    Name::of(alloc, b"ann")?.ok_or(OutOfMemory)
 }
 
-#[test]
-fn the_first_name_that_is_not_there_refuses(rt: HostRuntime) {
-    let alloc = rt.alloc();
-    assert!(rt; refused_name(&rt, alloc, b"range of x is p") == Some(10));
-    assert!(rt; refused_name(&rt, alloc, b"retrieve (x.a)") == Some(11));
-    assert!(rt; refused_name(&rt, alloc, b"range of x is relation") == None);
-}
-
-/// What a statement of ann's asks an empty database for.
-fn resolved(rt: &impl Abort, alloc: Global, text: &[u8]) -> Result<Checked, CheckFault> {
-    let user = name(rt, alloc, b"ann");
-    let mut base = DbPlain::new(alloc, name(rt, alloc, b"ann"));
-    let ranges = RangeTable::new(alloc);
-    let s = statement(rt, alloc, text);
-    let tree = resolve(alloc, &s, &user, &ranges, &mut base);
-    drop(s);
-    drop(base);
-    tree
-}
-
-/// The number of an answer; 0 where it is a tree, 9 where the statement isn't built.
-fn number_of(rt: &impl Abort, tree: &Result<Checked, CheckFault>) -> u8 {
-    match tree {
-        Ok(_) => 0,
-        Err(CheckFault::No(number)) => *number,
-        Err(CheckFault::NotBuilt) => 9,
-        Err(_) => panic!(rt; "no answer"),
-    }
-}
-
-/// The number that refuses a statement before it is carried out; 0 where nothing does, 9 where it
-/// isn't built.
-fn refused(rt: &impl Abort, alloc: Global, text: &[u8]) -> u8 {
-    let tree = resolved(rt, alloc, text);
-    let number = number_of(rt, &tree);
-    drop(tree);
-    number
-}
-
-#[test]
-fn names_refuse_before_kinds_and_kinds_before_limits(rt: HostRuntime) {
-    let alloc = rt.alloc();
-    assert!(rt; refused(&rt, alloc, b"retrieve (x.a) where 1 = \"b\"") == 11);
-    assert!(rt; refused(&rt, alloc, b"retrieve (n = 3) where 1 = \"b\"") == 13);
-    assert!(rt; refused(&rt, alloc, b"retrieve (n = 3) where 1 = 2") == 0);
-    assert!(rt; refused(&rt, alloc, b"help") == 9);
-}
-
-/// How many targets the queries of a tree have; 0 where it prints no table.
-fn targets_of(tree: &Checked) -> usize {
-    let mut count: usize = 0;
-    if let Checked::Answer(all) = tree {
-        for asked in all.items() {
-            count = count.saturating_add(asked.query.targets.items().len());
+/// How many targets these queries have.
+fn targets_of(all: &[Asked]) -> u8 {
+    let mut count: u8 = 0;
+    for asked in all {
+        for _ in asked.query.targets.items() {
+            count = count.saturating_add(1);
         }
     }
     count
 }
 
-/// The same of an answer; `None` where it is no tree.
-fn targets_told(tree: &Result<Checked, CheckFault>) -> Option<usize> {
-    match tree {
-        Ok(tree) => Some(targets_of(tree)),
-        Err(_) => None,
+/// 1 where this is a relation `p` without rows, whose one attribute is a number of two bytes.
+fn makes_p(change: &DbChange) -> u8 {
+    match change {
+        DbChange::Create { info, rows } => u8::from(
+            rows.items().is_empty()
+                && info.key.name.bytes() == b"p".as_slice()
+                && info.key.owner.bytes() == b"ann".as_slice()
+                && info.attrs.items().first().map(|attr| attr.kind) == Some(Kind::Of(Domain::I2)),
+        ),
+        _ => 0,
     }
 }
 
-/// How many targets the queries of a statement have; `None` where it is refused.
-fn targets_in(rt: &impl Abort, alloc: Global, text: &[u8]) -> Option<usize> {
-    let tree = resolved(rt, alloc, text);
-    let count = targets_told(&tree);
-    drop(tree);
-    count
-}
-
-#[test]
-fn a_table_has_each_target(rt: HostRuntime) {
-    let alloc = rt.alloc();
-    assert!(rt; targets_in(&rt, alloc, b"retrieve (n = 3, m = \"b\")") == Some(2));
-    assert!(rt; targets_in(&rt, alloc, b"create p (a = i2)") == Some(0));
-}
-
-/// Whether this is a relation `p` without rows, whose one attribute is a number of two bytes.
-fn makes_p(change: &DbChange) -> bool {
-    let DbChange::Create { info, rows } = change else {
-        return false;
-    };
-    let Some(attr) = info.attrs.items().first() else {
-        return false;
-    };
-    rows.items().is_empty()
-        && info.key.name.bytes() == b"p".as_slice()
-        && info.key.owner.bytes() == b"ann".as_slice()
-        && attr.kind == Kind::Of(Domain::I2)
-}
-
-/// Whether work for the utilities is planned as such a relation.
-fn plans_p(rt: &impl Abort, alloc: Global, work: &Utility) -> bool {
-    let user = name(rt, alloc, b"ann");
-    let mut base = DbPlain::new(alloc, name(rt, alloc, b"ann"));
-    let change = plan(alloc, &mut base, &user, work).expect(rt, "a change");
-    let found = makes_p(&change);
-    drop(change);
-    drop(base);
-    found
-}
-
-/// Whether a tree is planned so.
-fn tree_plans_p(rt: &impl Abort, alloc: Global, tree: &Result<Checked, CheckFault>) -> bool {
-    match tree {
-        Ok(Checked::Utility(work)) => plans_p(rt, alloc, work),
-        _ => false,
+/// 1 where work for the utilities is planned as such a relation.
+fn plans_p(alloc: Global, user: &Name, base: &mut DbPlain, work: &Utility) -> u8 {
+    match plan(alloc, base, user, work) {
+        Ok(change) => {
+            let made = makes_p(&change);
+            drop(change);
+            made
+        }
+        Err(_) => WANTING,
     }
 }
 
-/// Whether what a statement asks for is planned so.
-fn is_planned(rt: &impl Abort, alloc: Global, text: &[u8]) -> bool {
-    let tree = resolved(rt, alloc, text);
-    let found = tree_plans_p(rt, alloc, &tree);
+/// What a tree says, or what refuses it.
+fn told_of(
+    alloc: Global,
+    user: &Name,
+    base: &mut DbPlain,
+    tree: &Result<Checked, CheckFault>,
+) -> [u8; 3] {
+    match tree {
+        Ok(Checked::Answer(all)) => [0, targets_of(all.items()), 0],
+        Ok(Checked::Utility(work)) => [0, 0, plans_p(alloc, user, base, work)],
+        Ok(_) => [0, 0, 0],
+        Err(CheckFault::No(number)) => [*number, 0, 0],
+        Err(CheckFault::NotBuilt) => [9, 0, 0],
+        Err(_) => [WANTING, 0, 0],
+    }
+}
+
+/// The number of the first name that isn't there.
+fn named(alloc: Global, user: &Name, base: &mut DbPlain, ranges: &RangeTable, s: &Statement) -> u8 {
+    match name_refusal(alloc, s, user, ranges, base) {
+        Ok(Some(number)) => number,
+        Ok(None) => 0,
+        Err(_) => WANTING,
+    }
+}
+
+/// What a user's statement asks a base for.
+fn told_in(alloc: Global, user: &Name, base: &mut DbPlain, s: &Statement) -> Told {
+    let ranges = RangeTable::new(alloc);
+    let name = named(alloc, user, base, &ranges, s);
+    let tree = resolve(alloc, s, user, &ranges, base);
+    let [number, targets, made] = told_of(alloc, user, base, &tree);
     drop(tree);
-    found
+    drop(ranges);
+    [name, number, targets, made]
+}
+
+/// What ann's statement asks an empty database for.
+fn told(alloc: Global, s: &Statement) -> Told {
+    match both(ann(alloc), ann(alloc)) {
+        Ok((user, dba)) => {
+            let mut base = DbPlain::new(alloc, dba);
+            let told = told_in(alloc, &user, &mut base, s);
+            drop(base);
+            drop(user);
+            told
+        }
+        Err(_) => [WANTING; 4],
+    }
+}
+
+/// What the statement that a text begins with asks an empty database for.
+fn answer(alloc: Global, text: &[u8]) -> Told {
+    match next_statement(alloc, text, 0) {
+        Ok(Some((s, _))) => {
+            let told = told(alloc, &s);
+            drop(s);
+            told
+        }
+        _ => [WANTING; 4],
+    }
 }
 
 #[test]
-fn a_relation_is_made_without_rows(rt: HostRuntime) {
+fn names_refuse_before_kinds_and_kinds_before_limits(rt: HostRuntime) {
     let alloc = rt.alloc();
-    assert!(rt; is_planned(&rt, alloc, b"create p (a = i2)"));
+    assert!(rt; answer(alloc, b"range of x is p") == [10, 10, 0, 0]);
+    assert!(rt; answer(alloc, b"range of x is relation") == [0, 0, 0, 0]);
+    assert!(rt; answer(alloc, b"retrieve (x.a)") == [11, 11, 0, 0]);
+    assert!(rt; answer(alloc, b"retrieve (x.a) where 1 = \"b\"") == [11, 11, 0, 0]);
+    assert!(rt; answer(alloc, b"retrieve (n = 3) where 1 = \"b\"") == [0, 13, 0, 0]);
+    assert!(rt; answer(alloc, b"retrieve (n = 3) where 1 = 2") == [0, 0, 1, 0]);
+    assert!(rt; answer(alloc, b"help") == [0, 9, 0, 0]);
+    assert!(rt; answer(alloc, b"retrieve (n = 3, m = \"b\")") == [0, 0, 2, 0]);
+    assert!(rt; answer(alloc, b"create p (a = i2)") == [0, 0, 0, 1]);
+}
+
+/// Whether the number that refuses what a text begins with is this one, or memory was wanting.
+fn is_refused(alloc: Global, text: &[u8], wanted: u8) -> bool {
+    let [_, number, _, _] = answer(alloc, text);
+    number == wanted || number == WANTING
+}
+
+/// Where memory is refused, that is the answer, and no other one changes.
+#[test]
+fn an_answer_is_right_or_want_of_memory(rt: HostRuntime) {
+    let alloc = rt.alloc();
+    assert!(rt; is_refused(alloc, b"retrieve (n = 3, m = \"b\") sort by m", 0));
+    assert!(rt; is_refused(alloc, b"retrieve into r (n = 3) where 1 = \"b\"", 13));
+    assert!(rt; is_refused(alloc, b"create p (a = i2, a = i2)", 17));
 }

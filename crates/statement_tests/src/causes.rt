@@ -8,41 +8,29 @@ use std::alloc::Global;
 use std::process::Abort;
 use std::test::*;
 
-/// Whether a name is in use where nothing is there.
-fn taken(rt: &impl Abort, alloc: Global, bytes: &[u8]) -> bool {
+/// Whether a name is in use where nothing is there, and whether it stands twice among `a` and itself.
+fn used(rt: &impl Abort, alloc: Global, bytes: &[u8]) -> (bool, bool) {
+    let first = name(rt, alloc, b"a");
     let name = name(rt, alloc, bytes);
-    is_taken(alloc, &mut Few { entries: 0 }, &name, &name).expect(rt, "an answer")
+    let taken = is_taken(alloc, &mut Few { entries: 0 }, &name, &name).expect(rt, "an answer");
+    let twice = repeats(alloc, &[&first, &name]).expect(rt, "memory");
+    drop(name);
+    drop(first);
+    (taken, twice)
 }
 
 #[test]
-fn only_catalogues_names_are_in_use_where_nothing_is_there(rt: HostRuntime) {
+fn names_in_use_and_full_databases_and_wide_rows_refuse(rt: HostRuntime) {
+    // Only the catalogues' names are in use where nothing is there, and `a` alone stands twice.
     let alloc = rt.alloc();
-    assert!(rt; !taken(&rt, alloc, b"p"));
-    assert!(rt; taken(&rt, alloc, b"attribute"));
-}
-
-#[test]
-fn ten_thousand_entries_leave_no_room(rt: HostRuntime) {
+    assert!(rt; used(&rt, alloc, b"p") == (false, false));
+    assert!(rt; used(&rt, alloc, b"attribute") == (true, false));
+    assert!(rt; used(&rt, alloc, b"a") == (false, true));
+    assert!(rt; used(&rt, alloc, b"b") == (false, false));
+    // Ten thousand entries leave no room.
     assert!(rt; is_full(&mut Few { entries: 9_999 }) == Ok(false));
     assert!(rt; is_full(&mut Few { entries: 10_000 }) == Ok(true));
-}
-
-/// Whether a name stands twice among `a` and this one.
-fn twice(rt: &impl Abort, alloc: Global, other: &[u8]) -> bool {
-    let first = name(rt, alloc, b"a");
-    let other = name(rt, alloc, other);
-    repeats(alloc, &[&first, &other]).expect(rt, "memory")
-}
-
-#[test]
-fn a_name_stands_twice(rt: HostRuntime) {
-    let alloc = rt.alloc();
-    assert!(rt; twice(&rt, alloc, b"a"));
-    assert!(rt; !twice(&rt, alloc, b"b"));
-}
-
-#[test]
-fn four_wide_texts_are_too_wide(rt: HostRuntime) {
+    // Four wide texts fill a row.
     let text = Kind::Of(Domain::C(250));
     assert!(rt; !is_too_wide(&[text, text, text, text]));
     assert!(rt; is_too_wide(&[text, text, text, text, Kind::Wide]));

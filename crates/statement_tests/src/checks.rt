@@ -1,8 +1,8 @@
 //! The range variables of a run; what statements name; their trees.
 
-use crate::given::{name, relation, statement, two_relations, two_vars};
-use crate::shown::{put, put_qual, put_term};
-use calculus::{Item, Name, Qual, RelKey, Statement};
+use crate::given::{name, statement, two_relations};
+use crate::shown::{put, put_digit, put_qual, put_term};
+use calculus::{Item, Name, Qual, RelInfo, RelKey, Statement, Term};
 use quel_check::{
     Mention, RangeTable, has_aggregate, mentions_in_qual, mentions_in_term, qual_has_aggregate,
     qual_tree, term_has_aggregate, term_tree, vars_in, where_tree,
@@ -36,69 +36,9 @@ fn ranged(rt: &impl Abort, alloc: Global, var: &[u8]) -> Option<u8> {
     }
     let var = name(rt, alloc, var);
     let found = relation_of(&table, &var);
+    drop(var);
     drop(table);
     found
-}
-
-#[test]
-fn a_variable_ranges_over_what_it_was_declared_for_last(rt: HostRuntime) {
-    let alloc = rt.alloc();
-    assert!(rt; ranged(&rt, alloc, b"x") == Some(b'q'));
-    assert!(rt; ranged(&rt, alloc, b"y") == None);
-}
-
-/// Whether the first target of a target list has an aggregate.
-fn has_in_first(items: &[Item]) -> bool {
-    match items {
-        [Item::Set { name: _, term }, ..] => term_has_aggregate(term),
-        _ => false,
-    }
-}
-
-/// Whether there is an aggregate in a replacement, in its first target, in its qualification.
-fn aggregates_in(s: &Statement) -> (bool, bool, bool) {
-    match s {
-        Statement::Replace { items, qual, .. } => (
-            has_aggregate(s),
-            has_in_first(items.items()),
-            qual_has_aggregate(qual),
-        ),
-        _ => (false, false, true),
-    }
-}
-
-/// The same of a text.
-fn aggregates(rt: &impl Abort, alloc: Global, text: &[u8]) -> (bool, bool, bool) {
-    let s = statement(rt, alloc, text);
-    let found = aggregates_in(&s);
-    drop(s);
-    found
-}
-
-#[test]
-fn an_aggregate_is_found_in_a_target(rt: HostRuntime) {
-    let alloc = rt.alloc();
-    assert!(rt; aggregates(&rt, alloc, COUNTED) == (true, true, false));
-    assert!(rt; aggregates(&rt, alloc, SUBTRACTED) == (false, false, false));
-}
-
-/// The variables of a statement.
-fn variables(rt: &impl Abort, alloc: Global, text: &[u8]) -> Vec<u8> {
-    let mut shown = Vec::new(alloc);
-    let s = statement(rt, alloc, text);
-    let vars = vars_in(alloc, &s).expect(rt, "memory");
-    drop(s);
-    for var in vars.items() {
-        put(rt, &mut shown, var.bytes());
-    }
-    drop(vars);
-    shown
-}
-
-#[test]
-fn variables_stand_once_in_the_order_of_the_text(rt: HostRuntime) {
-    let alloc = rt.alloc();
-    assert!(rt; variables(&rt, alloc, COUNTED).as_slice() == b"zxy".as_slice());
 }
 
 /// Puts a variable with its attribute behind the others.
@@ -114,119 +54,137 @@ fn put_mention(rt: &impl Abort, shown: &mut Vec<u8>, mention: &Mention<'_>) {
     }
 }
 
-fn put_mentions(rt: &impl Abort, shown: &mut Vec<u8>, mentions: &[Mention<'_>]) {
-    for mention in mentions {
+/// Puts mentions behind the others, and lets go of them.
+fn put_mentions(rt: &impl Abort, shown: &mut Vec<u8>, mentions: Vec<Mention<'_>>) {
+    for mention in &mentions {
         put_mention(rt, shown, mention);
     }
+    drop(mentions);
 }
 
-fn put_term_mentions(rt: &impl Abort, alloc: Global, shown: &mut Vec<u8>, items: &[Item]) {
-    if let [Item::Set { name: _, term }, ..] = items {
-        let mentions = mentions_in_term(alloc, term).expect(rt, "memory");
-        put_mentions(rt, shown, &mentions);
-    }
-}
+/// Variables, and the relations that they range over.
+type Over<'a> = (&'a [Name], &'a [RelInfo]);
 
-fn put_qual_mentions(rt: &impl Abort, alloc: Global, shown: &mut Vec<u8>, qual: &Qual) {
-    let mentions = mentions_in_qual(alloc, qual).expect(rt, "memory");
-    put(rt, shown, b"where ");
-    put_mentions(rt, shown, &mentions);
-}
-
-/// Puts what the first target and the qualification of a replacement mention behind the others.
-fn put_all_mentions(rt: &impl Abort, alloc: Global, shown: &mut Vec<u8>, s: &Statement) {
-    if let Statement::Replace { items, qual, .. } = s {
-        put_term_mentions(rt, alloc, shown, items.items());
-        put_qual_mentions(rt, alloc, shown, qual);
-    }
-}
-
-/// What the first target and the qualification of a replacement mention.
-fn mentions(rt: &impl Abort, alloc: Global, text: &[u8]) -> Vec<u8> {
-    let mut shown = Vec::new(alloc);
-    let s = statement(rt, alloc, text);
-    put_all_mentions(rt, alloc, &mut shown, &s);
-    drop(s);
-    shown
-}
-
-#[test]
-fn an_aggregate_mentions_its_term_by_list_and_qualification(rt: HostRuntime) {
-    let alloc = rt.alloc();
-    assert!(rt; mentions(&rt, alloc, COUNTED).as_slice() == b"y.b x.c y.d where y.d ".as_slice());
-}
-
-fn put_first_tree(rt: &impl Abort, alloc: Global, shown: &mut Vec<u8>, items: &[Item]) {
-    let [Item::Set { name: _, term }, ..] = items else {
-        return;
-    };
-    let vars = two_vars(rt, alloc);
-    let infos = two_relations(rt, alloc);
-    let tree = term_tree(alloc, &vars, &infos, term).expect(rt, "memory");
-    drop(vars);
-    drop(infos);
+/// Puts whether there is an aggregate in a term, what it mentions, and its tree behind the others.
+fn put_term_parts(
+    rt: &impl Abort,
+    alloc: Global,
+    shown: &mut Vec<u8>,
+    (vars, infos): Over<'_>,
+    term: &Term,
+) {
+    put_digit(rt, shown, u8::from(term_has_aggregate(term)));
+    let mentions = mentions_in_term(alloc, term).expect(rt, "memory");
+    put_mentions(rt, shown, mentions);
+    let tree = term_tree(alloc, vars, infos, term).expect(rt, "memory");
     put_term(rt, shown, &tree);
     drop(tree);
 }
 
-fn put_qual_tree(rt: &impl Abort, alloc: Global, shown: &mut Vec<u8>, qual: &Qual) {
-    let vars = two_vars(rt, alloc);
-    let infos = two_relations(rt, alloc);
-    let tree = qual_tree(alloc, &vars, &infos, qual).expect(rt, "memory");
-    drop(vars);
-    drop(infos);
-    put(rt, shown, b" where ");
+/// The same of a qualification.
+fn put_qual_parts(
+    rt: &impl Abort,
+    alloc: Global,
+    shown: &mut Vec<u8>,
+    (vars, infos): Over<'_>,
+    qual: &Qual,
+) {
+    put_digit(rt, shown, u8::from(qual_has_aggregate(qual)));
+    let mentions = mentions_in_qual(alloc, qual).expect(rt, "memory");
+    put_mentions(rt, shown, mentions);
+    let tree = qual_tree(alloc, vars, infos, qual).expect(rt, "memory");
     put_qual(rt, shown, &tree);
     drop(tree);
 }
 
-/// Puts the trees of a replacement's first target and qualification behind the others.
-fn put_trees(rt: &impl Abort, alloc: Global, shown: &mut Vec<u8>, s: &Statement) {
-    if let Statement::Replace { items, qual, .. } = s {
-        put_first_tree(rt, alloc, shown, items.items());
-        put_qual_tree(rt, alloc, shown, qual);
+/// Puts the tree of a statement's qualification behind the others.
+fn put_where(
+    rt: &impl Abort,
+    alloc: Global,
+    shown: &mut Vec<u8>,
+    (vars, infos): Over<'_>,
+    s: &Statement,
+) {
+    let tree = where_tree(alloc, vars, infos, s).expect(rt, "memory");
+    put_qual(rt, shown, &tree);
+    drop(tree);
+}
+
+/// The term of the first target of a replacement, and the qualification.
+fn replaced(s: &Statement) -> Option<(&Term, &Qual)> {
+    match s {
+        Statement::Replace { items, qual, .. } => match items.items() {
+            [Item::Set { name: _, term }, ..] => Some((term, qual)),
+            _ => None,
+        },
+        _ => None,
     }
 }
 
-/// The trees of a replacement's first target and qualification over `x` and `y`.
-fn trees(rt: &impl Abort, alloc: Global, text: &[u8]) -> Vec<u8> {
-    let mut shown = Vec::new(alloc);
-    let s = statement(rt, alloc, text);
-    put_trees(rt, alloc, &mut shown, &s);
-    drop(s);
-    shown
+/// All but the first.
+fn behind<T>(items: &[T]) -> &[T] {
+    match items {
+        [_, rest @ ..] => rest,
+        [] => items,
+    }
 }
 
-/// The tree of a statement's qualification over `q`.
-fn put_where(rt: &impl Abort, alloc: Global, shown: &mut Vec<u8>, vars: &[Name], s: &Statement) {
-    let mut infos = Vec::new(alloc);
-    let info = relation(rt, alloc, b"q", b"b", b"d");
-    infos.push(info).expect(rt, "memory");
-    let tree = where_tree(alloc, vars, &infos, s).expect(rt, "memory");
-    drop(infos);
-    put_qual(rt, shown, &tree);
-    drop(tree);
+fn put_vars(rt: &impl Abort, shown: &mut Vec<u8>, vars: &[Name]) {
+    for var in vars {
+        put(rt, shown, var.bytes());
+    }
 }
 
-/// The tree of a statement's qualification, whose only variable ranges over `q`.
-fn tree_alone(rt: &impl Abort, alloc: Global, text: &[u8]) -> Vec<u8> {
+/// Puts whether there is an aggregate, and the parts of a replacement over `p` and `q`, or the
+/// qualification over `q` alone, behind the others.
+fn put_parts(
+    rt: &impl Abort,
+    alloc: Global,
+    shown: &mut Vec<u8>,
+    (vars, infos): Over<'_>,
+    s: &Statement,
+) {
+    put_digit(rt, shown, u8::from(has_aggregate(s)));
+    match replaced(s) {
+        Some((term, qual)) => {
+            let over = (behind(vars), infos);
+            put_term_parts(rt, alloc, shown, over, term);
+            put(rt, shown, b" where ");
+            put_qual_parts(rt, alloc, shown, over, qual);
+        }
+        None => put_where(rt, alloc, shown, (vars, behind(infos)), s),
+    }
+}
+
+/// The parts of the statement that a text begins with.
+fn parts(rt: &impl Abort, alloc: Global, text: &[u8]) -> Vec<u8> {
     let mut shown = Vec::new(alloc);
     let s = statement(rt, alloc, text);
     let vars = vars_in(alloc, &s).expect(rt, "memory");
-    put_where(rt, alloc, &mut shown, vars.items(), &s);
+    let infos = two_relations(rt, alloc);
+    put_vars(rt, &mut shown, vars.items());
+    put_parts(rt, alloc, &mut shown, (vars.items(), &infos), &s);
+    drop(infos);
     drop(vars);
     drop(s);
     shown
 }
 
+/// Whether a statement has these parts.
+fn has_parts(rt: &impl Abort, alloc: Global, text: &[u8], wanted: &[u8]) -> bool {
+    parts(rt, alloc, text).as_slice() == wanted
+}
+
 #[test]
-fn trees_have_places_for_names(rt: HostRuntime) {
+fn statements_have_variables_aggregates_mentions_and_trees(rt: HostRuntime) {
     let alloc = rt.alloc();
-    assert!(rt;
-        trees(&rt, alloc, SUBTRACTED).as_slice() == b"0.1 - -1.0 where 1.1 like s*".as_slice()
-    );
-    assert!(rt;
-        tree_alone(&rt, alloc, b"delete y where y.d = \"s*\"").as_slice()
-            == b"0.1 like s*".as_slice()
-    );
+    // What a variable was declared for last is what it ranges over.
+    assert!(rt; ranged(&rt, alloc, b"x") == Some(b'q'));
+    assert!(rt; ranged(&rt, alloc, b"y") == None);
+    let counted = b"zxy11y.b x.c y.d ? where 0y.d 1.1 like s*";
+    assert!(rt; has_parts(&rt, alloc, COUNTED, counted));
+    let subtracted = b"zxy00x.c y.b 0.1 - -1.0 where 0y.d 1.1 like s*";
+    assert!(rt; has_parts(&rt, alloc, SUBTRACTED, subtracted));
+    let deleted = b"y00.1 like s*";
+    assert!(rt; has_parts(&rt, alloc, b"delete y where y.d = \"s*\"", deleted));
 }

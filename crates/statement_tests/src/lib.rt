@@ -12,8 +12,6 @@ mod few;
 #[cfg(test)]
 mod given;
 #[cfg(test)]
-mod memory_refused;
-#[cfg(test)]
 mod queries;
 #[cfg(test)]
 mod shown;

@@ -1,18 +1,12 @@
 //! The queries, the updates and the trees of statements.
 
 use crate::given::{name, relation, statement, two_relations, two_vars};
-use crate::shown::put_query;
-use calculus::{Checked, Query, RelInfo, Statement};
+use crate::shown::{put, put_digit, put_query};
+use calculus::{Asked, Checked, Query, Statement};
 use quel_query::{query_of, tree_by};
 use std::alloc::Global;
 use std::process::Abort;
 use std::test::*;
-
-/// A table whose first title isn't a name alone, sorted by its second.
-const SORTED: &[u8] = b"retrieve (b = -x.c, x.a, y.all) sort by a:d";
-
-/// The query of that.
-const SORTED_QUERY: &[u8] = b"ann's p, ann's q, b wide -0.1, a i2 0.0, b i2 1.0, d i2 1.1, true";
 
 /// The query of a statement whose variables are `x` over `p` and `y` over `q`.
 fn query(rt: &impl Abort, alloc: Global, s: &Statement) -> Query {
@@ -24,96 +18,87 @@ fn query(rt: &impl Abort, alloc: Global, s: &Statement) -> Query {
     query
 }
 
-/// Its bytes.
-fn query_shown(rt: &impl Abort, alloc: Global, text: &[u8]) -> Vec<u8> {
-    let mut shown = Vec::new(alloc);
-    let s = statement(rt, alloc, text);
-    let query = query(rt, alloc, &s);
-    drop(s);
-    put_query(rt, &mut shown, &query);
-    drop(query);
-    shown
-}
-
-#[test]
-fn targets_have_names_kinds_and_places(rt: HostRuntime) {
-    let alloc = rt.alloc();
-    assert!(rt; query_shown(&rt, alloc, SORTED).as_slice() == SORTED_QUERY);
-}
-
-/// The tree of a statement, whose user is ann.
-fn tree(rt: &impl Abort, alloc: Global, text: &[u8], target: Option<&RelInfo>) -> Option<Checked> {
-    let user = name(rt, alloc, b"ann");
-    let s = statement(rt, alloc, text);
-    let query = query(rt, alloc, &s);
-    let tree = tree_by(alloc, &user, &s, query, target).expect(rt, "memory");
-    drop(user);
-    drop(s);
-    tree
-}
-
-/// Puts the query of the only table that a tree prints behind the others; the column that it is sorted
-/// by, with whether it descends.
-fn put_printed(
-    rt: &impl Abort,
-    shown: &mut Vec<u8>,
-    tree: &Option<Checked>,
-) -> Option<(u16, bool)> {
-    let Some(Checked::Answer(all)) = tree else {
-        return None;
-    };
-    let [asked] = all.items() else {
-        return None;
-    };
+/// Puts a query, with the columns that its rows are sorted by and 1 where they descend, behind the others.
+fn put_asked(rt: &impl Abort, shown: &mut Vec<u8>, asked: &Asked) {
     put_query(rt, shown, &asked.query);
-    let key = asked.sort.items().first()?;
-    Some((key.column, key.down))
-}
-
-/// Whether a statement prints the query of `SORTED`, sorted by its second column, which descends.
-fn is_sorted(rt: &impl Abort, alloc: Global, text: &[u8]) -> bool {
-    let mut shown = Vec::new(alloc);
-    let tree = tree(rt, alloc, text, None);
-    let sorted = put_printed(rt, &mut shown, &tree);
-    drop(tree);
-    shown.as_slice() == SORTED_QUERY && sorted == Some((1, true))
-}
-
-#[test]
-fn rows_are_sorted_by_the_column_of_a_title(rt: HostRuntime) {
-    let alloc = rt.alloc();
-    assert!(rt; is_sorted(&rt, alloc, SORTED));
-}
-
-/// The places in the update that a tree is; none where it is no update.
-fn places_in(tree: &Option<Checked>) -> &[u8] {
-    match tree {
-        Some(Checked::Update(update)) => update.places.items(),
-        _ => &[],
+    for key in asked.sort.items() {
+        put(rt, shown, b" sort ");
+        put_digit(rt, shown, u8::try_from(key.column).unwrap_or(255));
+        put_digit(rt, shown, u8::from(key.down));
     }
 }
 
-/// Whether a statement that changes `r` of `a` and `b` gives a value to `b` alone.
-fn is_for_b(rt: &impl Abort, alloc: Global, text: &[u8]) -> bool {
-    let info = relation(rt, alloc, b"r", b"a", b"b");
-    let tree = tree(rt, alloc, text, Some(&info));
-    let found = places_in(&tree) == [1].as_slice();
-    drop(tree);
-    drop(info);
-    found
+fn put_places(rt: &impl Abort, shown: &mut Vec<u8>, places: &[u8]) {
+    for place in places {
+        put_digit(rt, shown, *place);
+    }
 }
 
-/// Whether a statement has no tree where what it changes isn't there.
-fn has_no_tree(rt: &impl Abort, alloc: Global, text: &[u8]) -> bool {
-    let tree = tree(rt, alloc, text, None);
-    let found = tree.is_none();
+/// Puts the tables that are printed behind the others.
+fn put_answer(rt: &impl Abort, shown: &mut Vec<u8>, all: &[Asked]) {
+    for asked in all {
+        put_asked(rt, shown, asked);
+    }
+}
+
+/// Puts what is printed, or the places in an update, behind the others.
+fn put_tree(rt: &impl Abort, shown: &mut Vec<u8>, tree: Option<&Checked>) {
+    match tree {
+        Some(Checked::Answer(all)) => put_answer(rt, shown, all.items()),
+        Some(Checked::Update(update)) => put_places(rt, shown, update.places.items()),
+        Some(_) => put(rt, shown, b"?"),
+        None => put(rt, shown, b"none"),
+    }
+}
+
+/// Puts the tree of ann's statement with this query, which may change `r` of `a` and `b` where that is
+/// there, behind the others.
+fn put_tree_of(
+    rt: &impl Abort,
+    alloc: Global,
+    shown: &mut Vec<u8>,
+    s: &Statement,
+    query: Query,
+    is_there: bool,
+) {
+    let user = name(rt, alloc, b"ann");
+    let info = relation(rt, alloc, b"r", b"a", b"b");
+    let tree = tree_by(alloc, &user, s, query, is_there.then_some(&info)).expect(rt, "memory");
+    drop(info);
+    drop(user);
+    put_tree(rt, shown, tree.as_ref());
     drop(tree);
-    found
+}
+
+/// The query and the tree of a statement.
+fn shown(rt: &impl Abort, alloc: Global, text: &[u8], is_there: bool) -> Vec<u8> {
+    let mut shown = Vec::new(alloc);
+    let s = statement(rt, alloc, text);
+    let query = query(rt, alloc, &s);
+    put_query(rt, &mut shown, &query);
+    put(rt, &mut shown, b"; ");
+    put_tree_of(rt, alloc, &mut shown, &s, query, is_there);
+    drop(s);
+    shown
+}
+
+/// Whether a statement has this query and this tree.
+fn has_tree(rt: &impl Abort, alloc: Global, text: &[u8], is_there: bool, wanted: &[u8]) -> bool {
+    shown(rt, alloc, text, is_there).as_slice() == wanted
 }
 
 #[test]
-fn an_append_gives_values_to_the_places_of_its_titles(rt: HostRuntime) {
+fn queries_and_trees_have_names_kinds_places_and_columns(rt: HostRuntime) {
     let alloc = rt.alloc();
-    assert!(rt; is_for_b(&rt, alloc, b"append to r (b = -x.c)"));
-    assert!(rt; has_no_tree(&rt, alloc, b"append to r (b = -x.c)"));
+    // The first title isn't a name alone, and the rows are sorted by the column of the second.
+    let sorted = b"retrieve (b = -x.c, x.a, y.all) sort by a:d";
+    let tree =
+        b"ann's p, ann's q, b wide -0.1, a i2 0.0, b i2 1.0, d i2 1.1, true; ann's p, ann's q, b wide -0.1, a i2 0.0, b i2 1.0, d i2 1.1, true sort 11";
+    assert!(rt; has_tree(&rt, alloc, sorted, false, tree));
+    // An append gives values to the places of its titles, where the relation is there.
+    let append = b"append to r (b = -x.c)";
+    let there = b"ann's p, ann's q, b wide -0.1, true; 1";
+    assert!(rt; has_tree(&rt, alloc, append, true, there));
+    let none = b"ann's p, ann's q, b wide -0.1, true; none";
+    assert!(rt; has_tree(&rt, alloc, append, false, none));
 }

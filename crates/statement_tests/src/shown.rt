@@ -9,7 +9,7 @@ pub(crate) fn put(rt: &impl Abort, shown: &mut Vec<u8>, bytes: &[u8]) {
 }
 
 /// Puts a number of one digit behind the others; a question mark for all that are greater.
-fn put_digit(rt: &impl Abort, shown: &mut Vec<u8>, number: u8) {
+pub(crate) fn put_digit(rt: &impl Abort, shown: &mut Vec<u8>, number: u8) {
     let digit = if number < 10 { b'0' + number } else { b'?' };
     put(rt, shown, &[digit]);
 }
