@@ -103,11 +103,15 @@ fn stopped_twice(
     (j, again): (u64, Left),
 ) -> (bool, bool) {
     let mut disk = Stopping::over(begun(alloc, rt, n), k);
-    let done = commit(&mut disk, &changes(alloc, rt, n)).is_ok();
+    let changes = changes(alloc, rt, n);
+    let done = commit(&mut disk, &changes).is_ok();
+    drop(changes);
     let mut disk = crashed(alloc, rt, disk, left, j);
     let _stopped = restore(&mut disk).is_ok();
     let mut disk = restored(alloc, rt, disk, again);
-    (done, is_new(rt, &mut disk, n))
+    let is_new = is_new(rt, &mut disk, n);
+    drop(disk);
+    (done, is_new)
 }
 
 #[test]
@@ -144,7 +148,9 @@ fn after_one_change(alloc: Global, rt: &impl Abort, k: u64, left: Left) -> (Opti
     let mut disk = Stopping::over(disk, ENDLESS);
     let done = commit(&mut disk, &[(A, [2; 1024])]).is_ok();
     let mut disk = restored(alloc, rt, disk, left);
-    (byte_at(rt, &mut disk, A), done)
+    let byte = byte_at(rt, &mut disk, A);
+    drop(disk);
+    (byte, done)
 }
 
 #[test]
@@ -191,13 +197,24 @@ fn files_to_be(alloc: Global, rt: &impl Abort, n: u32) -> Vec<u32> {
     files
 }
 
+/// Whether a commit of `n` pages goes well and makes these calls.
+fn is_written(alloc: Global, rt: &impl Abort, n: u32) -> bool {
+    let mut disk = empty_disk(alloc, rt);
+    let changes = changes(alloc, rt, n);
+    let done = commit(&mut disk, &changes).is_ok();
+    drop(changes);
+    let to_be = files_to_be(alloc, rt, n);
+    let files = disk.disk.calls().iter().map(file_of);
+    let same = files.eq(to_be.iter().copied());
+    drop(to_be);
+    drop(disk);
+    done && same
+}
+
 #[test]
 fn a_commit_writes_each_page_twice_and_its_addresses_by_128(rt: HostRuntime) {
     for n in [1, 2, 128, 129, 300] {
-        let mut disk = empty_disk(rt.alloc(), &rt);
-        assert!(rt; commit(&mut disk, &changes(rt.alloc(), &rt, n)).is_ok());
-        let files = disk.disk.calls().iter().map(file_of);
-        assert!(rt; files.eq(files_to_be(rt.alloc(), &rt, n).iter().copied()));
+        assert!(rt; is_written(rt.alloc(), &rt, n));
     }
 }
 
@@ -217,16 +234,10 @@ fn left_unfinished(
     batch.add(&mut disk, A, &[2; 1024]).expect(rt, "add");
     batch.add(&mut disk, B, &[3; 1024]).expect(rt, "add");
     let restored = restore(&mut disk);
-    (
-        restored,
-        byte_at(rt, &mut disk, A),
-        byte_at(rt, &mut disk, B),
-    )
-}
-
-#[test]
-fn a_batch_that_was_not_finished_changes_no_page(rt: HostRuntime) {
-    assert!(rt; left_unfinished(rt.alloc(), &rt) == (Ok(Restored::Nothing), Some(1), None));
+    let first = byte_at(rt, &mut disk, A);
+    let second = byte_at(rt, &mut disk, B);
+    drop(disk);
+    (restored, first, second)
 }
 
 /// The counts of a batch as it grew, its image, and what stands at its page in the end, where its
@@ -241,11 +252,14 @@ fn renewed(alloc: Global, rt: &impl Abort) -> (u32, u32, u8, Option<u8>) {
     batch.renew(&mut disk, 0, &[3; 1024]).expect(rt, "renew");
     batch.image(&mut disk, 0, &mut image).expect(rt, "image");
     batch.finish(&mut disk).expect(rt, "finish");
-    (none, one, image[1023], byte_at(rt, &mut disk, A))
+    let byte = byte_at(rt, &mut disk, A);
+    drop(disk);
+    (none, one, image[1023], byte)
 }
 
 #[test]
-fn a_renewed_image_is_the_one_that_is_laid(rt: HostRuntime) {
+fn an_unfinished_batch_changes_no_page_and_a_renewed_image_is_laid(rt: HostRuntime) {
+    assert!(rt; left_unfinished(rt.alloc(), &rt) == (Ok(Restored::Nothing), Some(1), None));
     assert!(rt; renewed(rt.alloc(), &rt) == (0, 1, 3, Some(3)));
 }
 
@@ -280,41 +294,86 @@ fn answer_to(
     put(rt, &mut disk, 2, head);
     put(rt, &mut disk, 3, addresses);
     put(rt, &mut disk, 4, &[7]);
-    restore(&mut disk)
+    let restored = restore(&mut disk);
+    drop(disk);
+    restored
 }
+
+const ONE: &[u8] = b"BATCH7  \x01\0\0\0";
+
+const TWO: &[u8] = b"BATCH7  \x02\0\0\0";
+
+const MANY: &[u8] = b"BATCH7  \x81\0\0\0";
+
+const NONE: &[u8] = b"BATCH7  \0\0\0\0";
+
+const HEADER: &[u8] = &[0, 0, 0, 0, 0, 0, 0, 0];
+
+const BIRTH: &[u8] = &[0, 0, 0, 0, 1, 0, 0, 0];
+
+const OWN: &[u8] = &[4, 0, 0, 0, 0, 0, 0, 0];
+
+const FIFTH: &[u8] = &[5, 0, 0, 0, 9, 0, 0, 0, 0, 1, 0, 0, 9, 0, 0, 0];
+
+/// A gate, a head, a page of addresses, and what a restore answers.
+type Forged = (
+    u8,
+    &'static [u8],
+    &'static [u8],
+    Result<Restored, RestoreFault>,
+);
+
+const FORGED: [Forged; 14] = [
+    (0, &[], &[], Ok(Restored::Nothing)),
+    (0, NONE, OWN, Ok(Restored::Nothing)),
+    (2, ONE, FIFTH, Ok(Restored::Nothing)),
+    (1, ONE, FIFTH, Ok(Restored::Redone(1))),
+    (1, ONE, HEADER, Ok(Restored::Redone(1))),
+    (
+        1,
+        &[],
+        FIFTH,
+        Err(RestoreFault::Damaged { file: 2, page: 0 }),
+    ),
+    (
+        1,
+        NONE,
+        FIFTH,
+        Err(RestoreFault::Damaged { file: 2, page: 0 }),
+    ),
+    (
+        1,
+        b"BATCH7 \0\x01\0\0\0",
+        OWN,
+        Err(RestoreFault::Damaged { file: 2, page: 0 }),
+    ),
+    (1, ONE, &[], Err(RestoreFault::Damaged { file: 3, page: 0 })),
+    (1, ONE, OWN, Err(RestoreFault::Damaged { file: 3, page: 0 })),
+    (
+        1,
+        ONE,
+        BIRTH,
+        Err(RestoreFault::Damaged { file: 3, page: 0 }),
+    ),
+    (1, TWO, OWN, Err(RestoreFault::Damaged { file: 3, page: 0 })),
+    (
+        1,
+        TWO,
+        FIFTH,
+        Err(RestoreFault::Damaged { file: 4, page: 1 }),
+    ),
+    (
+        1,
+        MANY,
+        &[],
+        Err(RestoreFault::Damaged { file: 3, page: 0 }),
+    ),
+];
 
 #[test]
 fn a_restore_answers_by_the_gate_and_the_first_page_at_fault(rt: HostRuntime) {
-    let one = b"BATCH7  \x01\0\0\0".as_slice();
-    let two = b"BATCH7  \x02\0\0\0".as_slice();
-    let many = b"BATCH7  \x81\0\0\0".as_slice();
-    let header = [0, 0, 0, 0, 0, 0, 0, 0].as_slice();
-    let birth = [0, 0, 0, 0, 1, 0, 0, 0].as_slice();
-    let own = [4, 0, 0, 0, 0, 0, 0, 0].as_slice();
-    let fifth = [5, 0, 0, 0, 9, 0, 0, 0, 0, 1, 0, 0, 9, 0, 0, 0].as_slice();
-    let damaged = |file: u32, page: u32| Err(RestoreFault::Damaged { file, page });
-    for (gate, head, addresses, answer) in [
-        (0, [].as_slice(), [].as_slice(), Ok(Restored::Nothing)),
-        (
-            0,
-            b"BATCH7  \0\0\0\0".as_slice(),
-            own,
-            Ok(Restored::Nothing),
-        ),
-        (2, one, fifth, Ok(Restored::Nothing)),
-        (1, one, fifth, Ok(Restored::Redone(1))),
-        (1, one, header, Ok(Restored::Redone(1))),
-        (1, [].as_slice(), fifth, damaged(2, 0)),
-        (1, b"BATCH7  \0\0\0\0".as_slice(), fifth, damaged(2, 0)),
-        (1, b"BATCH7 \0\x01\0\0\0".as_slice(), own, damaged(2, 0)),
-        (1, one, [].as_slice(), damaged(3, 0)),
-        (1, one, own, damaged(3, 0)),
-        (1, one, birth, damaged(3, 0)),
-        (1, two, own, damaged(3, 0)),
-        (1, two, fifth, damaged(4, 1)),
-        (1, many, [].as_slice(), damaged(3, 0)),
-    ] {
-        let restored = answer_to(rt.alloc(), &rt, gate, head, addresses);
-        assert!(rt; restored == answer);
+    for (gate, head, addresses, answer) in &FORGED {
+        let restored = answer_to(rt.alloc(), &rt, *gate, *head, *addresses);
+        assert!(rt; restored == *answer);
     }
 }

@@ -48,6 +48,7 @@ fn bytes_after(alloc: Global, rt: &impl Abort, left: Left) -> [u8; 5] {
     let beside = Addr { file: 7, page: 0 };
     let bytes = [KEPT, WRITTEN, ADDED, CUT, beside].map(|at| byte_at(&mut disk, at));
     assert!(rt; disk.sync() == Ok(()));
+    drop(disk);
     bytes
 }
 
@@ -84,4 +85,5 @@ fn calls_fail_by_their_number_and_after_the_stop(rt: HostRuntime) {
         Call::FailedWrite(KEPT),
     ];
     assert!(rt; disk.calls() == entries.as_slice());
+    drop(disk);
 }

@@ -78,28 +78,31 @@ fn forged(at: usize, number: u16) -> Page {
     page
 }
 
+/// A place, the two bytes there as a number, and whether the page is sound.
+const FORGED: [(usize, u16, bool); 18] = [
+    (0, 65535, true),
+    (4, 0, true),
+    (4, 3, true),
+    (4, 254, false),
+    (6, 16, true),
+    (6, 15, false),
+    (6, 1005, false),
+    (6, 1025, false),
+    (8, 1015, false),
+    (8, 65535, false),
+    (10, 0, true),
+    (10, 9, true),
+    (10, 11, false),
+    (12, 1003, false),
+    (12, 1005, false),
+    (14, 9, true),
+    (14, 11, false),
+    (500, 65535, true),
+];
+
 #[test]
 fn forged_pages_are_found_out(rt: HostRuntime) {
-    for (at, number, sound) in [
-        (0, 65535, true),
-        (4, 0, true),
-        (4, 3, true),
-        (4, 254, false),
-        (6, 16, true),
-        (6, 15, false),
-        (6, 1005, false),
-        (6, 1025, false),
-        (8, 1015, false),
-        (8, 65535, false),
-        (10, 0, true),
-        (10, 9, true),
-        (10, 11, false),
-        (12, 1003, false),
-        (12, 1005, false),
-        (14, 9, true),
-        (14, 11, false),
-        (500, 65535, true),
-    ] {
-        assert!(rt; page_ok(&forged(at, number)) == sound);
+    for (at, number, sound) in &FORGED {
+        assert!(rt; page_ok(&forged(*at, *number)) == *sound);
     }
 }

@@ -17,53 +17,67 @@ fn there_and_back(alloc: Global, rt: &impl Abort) -> (usize, [u8; 8], bool) {
     let mut out = [9; 8];
     let count = row_bytes(&row, &COLUMNS, &mut out);
     let read = row_of(alloc, b"\x07\x00ab  ", &COLUMNS).expect(rt, "memory");
-    (count, out, read == Some(row))
+    let row = Some(row);
+    let is_same = read == row;
+    drop(read);
+    drop(row);
+    (count, out, is_same)
 }
 
+/// Whether these bytes are a row.
+fn is_row(alloc: Global, rt: &impl Abort, bytes: &[u8]) -> bool {
+    let row = row_of(alloc, bytes, &COLUMNS).expect(rt, "memory");
+    let is_row = row.is_some();
+    drop(row);
+    is_row
+}
+
+const NO_ROWS: [&[u8]; 6] = [
+    b"",
+    b"\x07\x00ab ",
+    b"\x07\x00ab   ",
+    b"\x07\x00ab\x00\x00",
+    b"\x07\x00a\x1f  ",
+    b"\x07\x00a\x7f  ",
+];
+
 #[test]
-fn a_row_stands_in_its_columns(rt: HostRuntime) {
+fn a_row_stands_in_its_columns_and_other_bytes_are_no_row(rt: HostRuntime) {
     let (count, out, is_same) = there_and_back(rt.alloc(), &rt);
     assert!(rt; count == 6);
     assert!(rt; out.as_slice() == b"\x07\x00ab  \x09\x09".as_slice());
     assert!(rt; is_same);
+    for bytes in &NO_ROWS {
+        assert!(rt; !is_row(rt.alloc(), &rt, *bytes));
+    }
 }
 
 /// The number in the only column of the row that bytes are; `None` where they are no row.
 fn number_in(alloc: Global, bytes: &[u8], domain: Domain) -> Result<Option<i64>, OutOfMemory> {
     let row = row_of(alloc, bytes, &[domain])?;
-    Ok(match row.as_ref().map(|row| row.values()) {
+    let number = match row.as_ref().map(|row| row.values()) {
         Some([Value::Int(number)]) => Some(*number),
         _ => None,
-    })
+    };
+    drop(row);
+    Ok(number)
 }
 
-#[test]
-fn other_bytes_are_no_row(rt: HostRuntime) {
-    for bytes in [
-        b"".as_slice(),
-        b"\x07\x00ab ".as_slice(),
-        b"\x07\x00ab   ".as_slice(),
-        b"\x07\x00ab\x00\x00".as_slice(),
-        b"\x07\x00a\x1f  ".as_slice(),
-        b"\x07\x00a\x7f  ".as_slice(),
-    ] {
-        let row = row_of(rt.alloc(), bytes, &COLUMNS).expect(&rt, "memory");
-        assert!(rt; row.is_none());
-    }
-}
+/// Bytes, the domain of their column, and the number that they are.
+const NUMBERS: [(&[u8], Domain, i64); 6] = [
+    (b"\x7f", Domain::I1, 127),
+    (b"\x80", Domain::I1, -128),
+    (b"\x00\x80", Domain::I2, -32768),
+    (b"\x39\x30", Domain::I2, 12345),
+    (b"\xfe\xff\xff\xff", Domain::I4, -2),
+    (b"\x15\xcd\x5b\x07", Domain::I4, 123456789),
+];
 
 // Where memory is refused to it, this test ends with that status.
 #[test]
 fn numbers_are_read_in_twos_complement(rt: HostRuntime) -> Result<(), Fail> {
-    for (bytes, domain, number) in [
-        (b"\x7f".as_slice(), Domain::I1, 127),
-        (b"\x80".as_slice(), Domain::I1, -128),
-        (b"\x00\x80".as_slice(), Domain::I2, -32768),
-        (b"\x39\x30".as_slice(), Domain::I2, 12345),
-        (b"\xfe\xff\xff\xff".as_slice(), Domain::I4, -2),
-        (b"\x15\xcd\x5b\x07".as_slice(), Domain::I4, 123456789),
-    ] {
-        assert!(rt; number_in(rt.alloc(), bytes, domain)? == Some(number));
+    for (bytes, domain, number) in &NUMBERS {
+        assert!(rt; number_in(rt.alloc(), *bytes, *domain)? == Some(*number));
     }
     Ok(())
 }

@@ -33,6 +33,7 @@ fn a_source_goes_on_after_a_failed_call(rt: HostRuntime) {
     ] {
         assert!(rt; read_three(&mut source) == (answer, buf));
     }
+    drop(source);
 }
 
 #[test]
@@ -42,6 +43,7 @@ fn a_sink_takes_nothing_of_a_failed_call(rt: HostRuntime) {
     let answers = write_three(&mut sink);
     assert!(rt; answers == [Ok(()), Err(SinkFault::Failed), Ok(())]);
     assert!(rt; sink.bytes() == b"abcghi".as_slice());
+    drop(sink);
 }
 
 #[test]
@@ -51,6 +53,7 @@ fn a_bounded_sink_takes_the_part_that_fits(rt: HostRuntime) {
     assert!(rt; answers == [Ok(()), Err(SinkFault::Failed), Err(SinkFault::Failed)]);
     assert!(rt; sink.bytes() == b"abcd".as_slice());
     assert!(rt; sink.write(b"") == Ok(0));
+    drop(sink);
 }
 
 /// A sink that takes at most so many bytes in a call.
@@ -100,7 +103,9 @@ fn a_piece_is_given_on_until_the_sink_takes_nothing(rt: HostRuntime) {
     let mut slow = SlowSink::new(rt.alloc(), 1);
     assert!(rt; write_three(&mut slow) == [Ok(()); 3]);
     assert!(rt; slow.taken.as_slice() == b"abcdefghi".as_slice());
+    drop(slow);
     let mut stalled = SlowSink::new(rt.alloc(), 0);
     assert!(rt; write_three(&mut stalled) == [Err(SinkFault::Stalled); 3]);
     assert!(rt; write_all(&mut stalled, b"") == Ok(()));
+    drop(stalled);
 }

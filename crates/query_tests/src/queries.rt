@@ -19,17 +19,11 @@ fn row_count(answer: &Result<RowSet, QueryFault>) -> Option<usize> {
 /// value.
 fn answered(rt: &impl Abort, alloc: Global, attr: u8) -> Option<usize> {
     let q = query(rt, alloc, 2, b"x", QTerm::Attr { var: 1, attr });
-    row_count(&answer(alloc, &mut Numbers { rows: 3 }, &q, &[]))
-}
-
-#[test]
-fn an_answer_reads_what_is_used(rt: HostRuntime) {
-    assert!(rt; answered(&rt, rt.alloc(), 0) == Some(3));
-}
-
-#[test]
-fn an_attribute_that_is_not_there_has_no_value(rt: HostRuntime) {
-    assert!(rt; answered(&rt, rt.alloc(), 1) == None);
+    let answer = answer(alloc, &mut Numbers { rows: 3 }, &q, &[]);
+    drop(q);
+    let count = row_count(&answer);
+    drop(answer);
+    count
 }
 
 /// Whether the rows of these numbers stand so where the first column is sorted down, the second up.
@@ -44,14 +38,11 @@ fn stand_so(rt: &impl Abort, alloc: Global, given: &[&[i64]], wanted: &[&[i64]])
     };
     let set = RowSet::of_rows(rows(rt, alloc, given));
     let found = sorted(set.into_rows(), &[down, up]);
-    found.as_slice() == rows(rt, alloc, wanted).as_slice()
-}
-
-#[test]
-fn the_first_column_is_the_weightiest(rt: HostRuntime) {
-    let given: [&[i64]; 3] = [&[1, 3], &[2, 1], &[1, 2]];
-    let wanted: [&[i64]; 3] = [&[2, 1], &[1, 2], &[1, 3]];
-    assert!(rt; stand_so(&rt, rt.alloc(), &given, &wanted));
+    let wanted = rows(rt, alloc, wanted);
+    let same = found.as_slice() == wanted.as_slice();
+    drop(wanted);
+    drop(found);
+    same
 }
 
 /// The query for the first attribute, under a title, sorted by it.
@@ -64,7 +55,7 @@ fn asked(rt: &impl Abort, alloc: Global, title: &[u8], down: bool) -> Asked {
 }
 
 /// The tables of two queries, one up and one down.
-fn two_tables(rt: &impl Abort, alloc: Global) -> Option<List<Table>> {
+fn two_tables(rt: &impl Abort, alloc: Global) -> List<Table> {
     let mut queries = Vec::new(alloc);
     queries
         .push(asked(rt, alloc, b"x", false))
@@ -72,7 +63,9 @@ fn two_tables(rt: &impl Abort, alloc: Global) -> Option<List<Table>> {
     queries
         .push(asked(rt, alloc, b"y", true))
         .expect(rt, "memory");
-    tables_of(alloc, &mut Numbers { rows: 3 }, &queries).ok()
+    let tables = tables_of(alloc, &mut Numbers { rows: 3 }, &queries);
+    drop(queries);
+    tables.ok().expect(rt, "tables")
 }
 
 /// Whether the table has this title above these rows.
@@ -81,13 +74,15 @@ fn shows(rt: &impl Abort, alloc: Global, table: &Table, title: &[u8], numbers: &
         Some(column) => column.name.bytes() == title,
         None => false,
     };
-    titled && table.rows.items() == rows(rt, alloc, numbers).as_slice()
+    let rows = rows(rt, alloc, numbers);
+    let same = table.rows.items() == rows.as_slice();
+    drop(rows);
+    titled && same
 }
 
-/// Whether there are two tables, one up and one down.
-fn both_show(rt: &impl Abort, alloc: Global) -> bool {
-    let tables = two_tables(rt, alloc).expect(rt, "tables");
-    match tables.items() {
+/// Whether these are two tables, one up and one down.
+fn are_both(rt: &impl Abort, alloc: Global, tables: &[Table]) -> bool {
+    match tables {
         [up, down] => {
             shows(rt, alloc, up, b"x", &[&[0], &[1], &[2]])
                 && shows(rt, alloc, down, b"y", &[&[2], &[1], &[0]])
@@ -96,7 +91,22 @@ fn both_show(rt: &impl Abort, alloc: Global) -> bool {
     }
 }
 
+/// Whether each of two queries has its table.
+fn both_show(rt: &impl Abort, alloc: Global) -> bool {
+    let tables = two_tables(rt, alloc);
+    let both = are_both(rt, alloc, tables.items());
+    drop(tables);
+    both
+}
+
 #[test]
-fn each_query_has_its_table(rt: HostRuntime) {
+fn an_answer_reads_what_is_used_and_each_query_has_its_table(rt: HostRuntime) {
+    assert!(rt; answered(&rt, rt.alloc(), 0) == Some(3));
+    // An attribute that isn't there has no value.
+    assert!(rt; answered(&rt, rt.alloc(), 1) == None);
+    // The first column is the weightiest.
+    let given: [&[i64]; 3] = [&[1, 3], &[2, 1], &[1, 2]];
+    let wanted: [&[i64]; 3] = [&[2, 1], &[1, 2], &[1, 3]];
+    assert!(rt; stand_so(&rt, rt.alloc(), &given, &wanted));
     assert!(rt; both_show(&rt, rt.alloc()));
 }

@@ -1,6 +1,7 @@
 //! Names, rows and queries of which the cases are made.
 
 use calculus::{Kind, List, Name, OutOfMemory, QQual, QTerm, Query, RelKey, Row, Target, Value};
+use memory::both;
 use std::alloc::Global;
 use std::process::Abort;
 
@@ -12,9 +13,10 @@ pub fn named(rt: &impl Abort, alloc: Global, bytes: &[u8]) -> Result<Name, OutOf
 
 /// What names the relation.
 pub fn key(rt: &impl Abort, alloc: Global) -> Result<RelKey, OutOfMemory> {
-    let owner = named(rt, alloc, b"ann")?;
-    let name = named(rt, alloc, b"p")?;
-    Ok(RelKey { owner, name })
+    match both(named(rt, alloc, b"ann"), named(rt, alloc, b"p")) {
+        Ok((owner, name)) => Ok(RelKey { owner, name }),
+        Err(error) => Err(error),
+    }
 }
 
 /// The item alone.

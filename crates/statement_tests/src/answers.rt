@@ -122,18 +122,24 @@ fn answer(alloc: Global, text: &[u8]) -> Told {
     }
 }
 
+/// A text, and what its statement asks for.
+const ANSWERS: [(&[u8], Told); 9] = [
+    (b"range of x is p", [10, 10, 0, 0]),
+    (b"range of x is relation", [0, 0, 0, 0]),
+    (b"retrieve (x.a)", [11, 11, 0, 0]),
+    (b"retrieve (x.a) where 1 = \"b\"", [11, 11, 0, 0]),
+    (b"retrieve (n = 3) where 1 = \"b\"", [0, 13, 0, 0]),
+    (b"retrieve (n = 3) where 1 = 2", [0, 0, 1, 0]),
+    (b"help", [0, 9, 0, 0]),
+    (b"retrieve (n = 3, m = \"b\")", [0, 0, 2, 0]),
+    (b"create p (a = i2)", [0, 0, 0, 1]),
+];
+
 #[test]
 fn names_refuse_before_kinds_and_kinds_before_limits(rt: HostRuntime) {
-    let alloc = rt.alloc();
-    assert!(rt; answer(alloc, b"range of x is p") == [10, 10, 0, 0]);
-    assert!(rt; answer(alloc, b"range of x is relation") == [0, 0, 0, 0]);
-    assert!(rt; answer(alloc, b"retrieve (x.a)") == [11, 11, 0, 0]);
-    assert!(rt; answer(alloc, b"retrieve (x.a) where 1 = \"b\"") == [11, 11, 0, 0]);
-    assert!(rt; answer(alloc, b"retrieve (n = 3) where 1 = \"b\"") == [0, 13, 0, 0]);
-    assert!(rt; answer(alloc, b"retrieve (n = 3) where 1 = 2") == [0, 0, 1, 0]);
-    assert!(rt; answer(alloc, b"help") == [0, 9, 0, 0]);
-    assert!(rt; answer(alloc, b"retrieve (n = 3, m = \"b\")") == [0, 0, 2, 0]);
-    assert!(rt; answer(alloc, b"create p (a = i2)") == [0, 0, 0, 1]);
+    for (text, told) in &ANSWERS {
+        assert!(rt; answer(rt.alloc(), *text) == *told);
+    }
 }
 
 /// Whether the number that refuses what a text begins with is this one, or memory was wanting.

@@ -19,14 +19,19 @@ fn used(rt: &impl Abort, alloc: Global, bytes: &[u8]) -> (bool, bool) {
     (taken, twice)
 }
 
+/// A name, whether it is in use, and whether it stands twice.
+const NAMES: [(&[u8], bool, bool); 4] = [
+    (b"p", false, false),
+    (b"attribute", true, false),
+    (b"a", false, true),
+    (b"b", false, false),
+];
+
 #[test]
 fn names_in_use_and_full_databases_and_wide_rows_refuse(rt: HostRuntime) {
-    // Only the catalogues' names are in use where nothing is there, and `a` alone stands twice.
-    let alloc = rt.alloc();
-    assert!(rt; used(&rt, alloc, b"p") == (false, false));
-    assert!(rt; used(&rt, alloc, b"attribute") == (true, false));
-    assert!(rt; used(&rt, alloc, b"a") == (false, true));
-    assert!(rt; used(&rt, alloc, b"b") == (false, false));
+    for (name, taken, twice) in &NAMES {
+        assert!(rt; used(&rt, rt.alloc(), *name) == (*taken, *twice));
+    }
     // Ten thousand entries leave no room.
     assert!(rt; is_full(&mut Few { entries: 9_999 }) == Ok(false));
     assert!(rt; is_full(&mut Few { entries: 10_000 }) == Ok(true));

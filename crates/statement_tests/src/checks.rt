@@ -170,21 +170,22 @@ fn parts(rt: &impl Abort, alloc: Global, text: &[u8]) -> Vec<u8> {
     shown
 }
 
-/// Whether a statement has these parts.
-fn has_parts(rt: &impl Abort, alloc: Global, text: &[u8], wanted: &[u8]) -> bool {
-    parts(rt, alloc, text).as_slice() == wanted
-}
+/// A text, and the parts of its statement.
+const PARTS: [(&[u8], &[u8]); 3] = [
+    (COUNTED, b"zxy11y.b x.c y.d ? where 0y.d 1.1 like s*"),
+    (
+        SUBTRACTED,
+        b"zxy00x.c y.b 0.1 - -1.0 where 0y.d 1.1 like s*",
+    ),
+    (b"delete y where y.d = \"s*\"", b"y00.1 like s*"),
+];
 
 #[test]
 fn statements_have_variables_aggregates_mentions_and_trees(rt: HostRuntime) {
-    let alloc = rt.alloc();
     // What a variable was declared for last is what it ranges over.
-    assert!(rt; ranged(&rt, alloc, b"x") == Some(b'q'));
-    assert!(rt; ranged(&rt, alloc, b"y") == None);
-    let counted = b"zxy11y.b x.c y.d ? where 0y.d 1.1 like s*";
-    assert!(rt; has_parts(&rt, alloc, COUNTED, counted));
-    let subtracted = b"zxy00x.c y.b 0.1 - -1.0 where 0y.d 1.1 like s*";
-    assert!(rt; has_parts(&rt, alloc, SUBTRACTED, subtracted));
-    let deleted = b"y00.1 like s*";
-    assert!(rt; has_parts(&rt, alloc, b"delete y where y.d = \"s*\"", deleted));
+    assert!(rt; ranged(&rt, rt.alloc(), b"x") == Some(b'q'));
+    assert!(rt; ranged(&rt, rt.alloc(), b"y") == None);
+    for (text, shown) in &PARTS {
+        assert!(rt; parts(&rt, rt.alloc(), *text).as_slice() == *shown);
+    }
 }

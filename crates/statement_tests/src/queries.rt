@@ -82,23 +82,25 @@ fn shown(rt: &impl Abort, alloc: Global, text: &[u8], is_there: bool) -> Vec<u8>
     shown
 }
 
-/// Whether a statement has this query and this tree.
-fn has_tree(rt: &impl Abort, alloc: Global, text: &[u8], is_there: bool, wanted: &[u8]) -> bool {
-    shown(rt, alloc, text, is_there).as_slice() == wanted
-}
+/// A table whose first title isn't a name alone, sorted by its second.
+const SORTED: &[u8] = b"retrieve (b = -x.c, x.a, y.all) sort by a:d";
+
+/// The query of that, and its tree.
+const SORTED_TREE: &[u8] =
+    b"ann's p, ann's q, b wide -0.1, a i2 0.0, b i2 1.0, d i2 1.1, true; ann's p, ann's q, b wide -0.1, a i2 0.0, b i2 1.0, d i2 1.1, true sort 11";
+
+const APPEND: &[u8] = b"append to r (b = -x.c)";
+
+/// A text, whether `r` is there, and the query and the tree.
+const TREES: [(&[u8], bool, &[u8]); 3] = [
+    (SORTED, false, SORTED_TREE),
+    (APPEND, true, b"ann's p, ann's q, b wide -0.1, true; 1"),
+    (APPEND, false, b"ann's p, ann's q, b wide -0.1, true; none"),
+];
 
 #[test]
 fn queries_and_trees_have_names_kinds_places_and_columns(rt: HostRuntime) {
-    let alloc = rt.alloc();
-    // The first title isn't a name alone, and the rows are sorted by the column of the second.
-    let sorted = b"retrieve (b = -x.c, x.a, y.all) sort by a:d";
-    let tree =
-        b"ann's p, ann's q, b wide -0.1, a i2 0.0, b i2 1.0, d i2 1.1, true; ann's p, ann's q, b wide -0.1, a i2 0.0, b i2 1.0, d i2 1.1, true sort 11";
-    assert!(rt; has_tree(&rt, alloc, sorted, false, tree));
-    // An append gives values to the places of its titles, where the relation is there.
-    let append = b"append to r (b = -x.c)";
-    let there = b"ann's p, ann's q, b wide -0.1, true; 1";
-    assert!(rt; has_tree(&rt, alloc, append, true, there));
-    let none = b"ann's p, ann's q, b wide -0.1, true; none";
-    assert!(rt; has_tree(&rt, alloc, append, false, none));
+    for (text, is_there, wanted) in &TREES {
+        assert!(rt; shown(&rt, rt.alloc(), *text, *is_there).as_slice() == *wanted);
+    }
 }
