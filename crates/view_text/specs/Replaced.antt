@@ -1,0 +1,60 @@
+-- Terms and qualifications with other terms in place of their attributes and aggregates.
+use Rattle.std.specs.Prelude.{ℕ, ◌+◌, zero, suc, pos, List, [], ◌∷◌, map}
+use Rattle.calculus.specs.declared.operator.ArithOp.TheVariants.{Div}
+use Rattle.calculus.specs.declared.query.QTerm.{QTerm, Int, Chars, Attr, Agg'}
+use Rattle.calculus.specs.declared.query.QQual.{QQual, True, Cmp, Like}
+use Rattle.calculus.specs.declared.query.Target.{Target}
+use Rattle.calculus.specs.Tree.{neg, abs, operation, concat, both, either, negated}
+
+-- a term that has no value, in place of what isn't there
+abbrev pub without_value : QTerm
+without_value = operation Div (Int (pos 1)) (Int (pos 0))
+
+-- what is put in place of an attribute of a variable, both by place
+abbrev pub Putting : Type 0
+Putting = ℕ → ℕ → QTerm
+
+-- the term with these in place of its attributes, and what is made of each of its aggregates in place of that
+unfoldable pub replaced : (QTerm → QTerm) → Putting → QTerm → QTerm
+replaced made put (Int n) = Int n
+replaced made put (Chars bytes) = Chars bytes
+replaced made put (Attr var attr) = put var attr
+replaced made put (neg t) = neg (replaced made put t)
+replaced made put (abs t) = abs (replaced made put t)
+replaced made put (operation op t u) = operation op (replaced made put t) (replaced made put u)
+replaced made put (concat t u) = concat (replaced made put t) (replaced made put u)
+replaced made put (Agg' mark row) = made (Agg' mark row)
+
+-- the qualification so: a text constant that is put in is compared as a value, and is no pattern
+unfoldable pub replaced_in_qual : (QTerm → QTerm) → Putting → QQual → QQual
+replaced_in_qual made put True = True
+replaced_in_qual made put (Cmp op t u) = Cmp op (replaced made put t) (replaced made put u)
+replaced_in_qual made put (Like t pattern same) = Like (replaced made put t) pattern same
+replaced_in_qual made put (both p q) = both (replaced_in_qual made put p) (replaced_in_qual made put q)
+replaced_in_qual made put (either p q) = either (replaced_in_qual made put p) (replaced_in_qual made put q)
+replaced_in_qual made put (negated p) = negated (replaced_in_qual made put p)
+
+-- the target so: its name and its kind stay
+abbrev pub replaced_target : (QTerm → QTerm) → Putting → Target → Target
+replaced_target made put t = record { name = t.name; kind = t.kind; term = replaced made put t.term }
+
+-- in place of an aggregate where none may stand: no value
+abbrev pub no_aggregate : QTerm → QTerm
+no_aggregate t = without_value
+
+-- the variables stand so many places further on
+abbrev pub further : ℕ → Putting
+further n var attr = Attr (n + var) attr
+
+-- the term, its variables so many places further on
+abbrev pub moved : ℕ → QTerm → QTerm
+moved n t = replaced no_aggregate (further n) t
+
+-- the qualification, its variables so many places further on
+abbrev pub moved_qual : ℕ → QQual → QQual
+moved_qual n q = replaced_in_qual no_aggregate (further n) q
+
+-- the attributes of the only variable; no other is there
+abbrev pub of_only : Putting
+of_only zero attr = Attr 0 attr
+of_only (suc var) attr = without_value
