@@ -111,14 +111,14 @@ targets_are_plain vars (t ∷ ts) h =
     let fit = both_true (has_kind (kind_of t.term vars) t.kind) (list_all (λ t. has_kind (kind_of t.term vars) t.kind) ts) h in
     neither (term_aggregates t.term) (in_targets ts) (term_plain vars t.term (kind_there (kind_of t.term vars) t.kind fit.0)) (targets_are_plain vars ts fit.1)
 
-stands_plain : (db : Db) (q : Query) → query_stands db q ≡ true → query_aggregates q ≡ []
+pub stands_plain : (db : Db) (q : Query) → query_stands db q ≡ true → query_aggregates q ≡ []
 stands_plain db q h =
     let fit = both_true (list_all (λ t. has_kind (kind_of t.term (var_kinds db q)) t.kind) (targets_of q)) (kinds_fit (qual_of q) (var_kinds db q)) h in
     neither (in_targets (targets_of q)) (qual_aggregates (qual_of q)) (targets_are_plain (var_kinds db q) (targets_of q) fit.0) (qual_plain (var_kinds db q) (qual_of q) fit.1)
 
 -- ---- what stands under a view's key is the view
 
-found : {X : Type 0} (p : X → Bool) (xs : List X) (x : X) → find p xs ≡ Some x → In x xs × (p x ≡ true)
+pub found : {X : Type 0} (p : X → Bool) (xs : List X) (x : X) → find p xs ≡ Some x → In x xs × (p x ≡ true)
 found p [] x h = cc h
 found {X} p (first ∷ xs) x h = go (p first) refl (found p xs x) h
   where

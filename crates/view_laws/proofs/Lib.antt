@@ -1,0 +1,14 @@
+pub mod Values
+pub mod Scopes
+pub mod Halves
+pub mod Joint
+pub mod Within
+pub mod Queries
+pub mod Rows
+pub mod Told
+pub mod Named
+pub mod Placed
+pub mod Sound
+pub mod Freely
+pub mod Aggregated
+pub mod Answering
