@@ -42,10 +42,10 @@ module _ (db : Db) (source : TextSource) (sound : AreSound db source) (made : QT
 
   all_used : (w : ℕ) → nat_lt w (length (texts_vars (query_texts source q))) ≡ true → is_any (used_in_query w (put_query made (query_texts source q) q)) ≡ true
   all_used w h =
-      elim (placed_first text_at (λ v. is_any (used_in_query v q) ≡ true) (λ v key. (at_sound v key).scoped) (λ v key. (at_sound v key).names)
+      elim (placed_first text_at (λ v j. is_any (used_in_query v q) ≡ true) (λ v key. (at_sound v key).scoped) (λ v key. (at_sound v key).names)
       (λ v key. used_meant source key (used_in_query v q)) (vars_of q) w h) [
         | inl condition ↦ condition_used made (query_texts source q) q keeps w condition
-        | inr (v, is_used, names) ↦ attribute_used made (query_texts source q) q keeps v w names is_used
+        | inr (v, j, at, is_used, names) ↦ attribute_used made (query_texts source q) q keeps v w names is_used
       ]
 
   pub free_assigned : assigned (rows_of db Free) (put_query made (query_texts source q) q) ≡ choices (kept_lists db (texts_vars (query_texts source q)))

@@ -12,3 +12,9 @@ pub mod Sound
 pub mod Freely
 pub mod Aggregated
 pub mod Answering
+pub mod Changing
+pub mod Beside
+pub mod Pairing
+pub mod Updating
+pub mod Ruled
+pub mod Shown

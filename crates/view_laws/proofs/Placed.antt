@@ -18,7 +18,7 @@ use Rattle.calculus_laws.proofs.Plain.{none_left, none_right, in_targets}
 use Rattle.view_text.specs.declared.text.Text.{Text}
 use Rattle.view_text.specs.Replaced.{Putting, further, moved, moved_qual, replaced, replaced_in_qual, replaced_target, no_aggregate}
 use Rattle.view_text.specs.Scoped.{is_within, is_qual_within, are_within, is_scoped}
-use Rattle.view_text.specs.Texts.{attr_term, texts_vars, put_from, conditions_from}
+use Rattle.view_text.specs.Texts.{attr_term, texts_vars, put_from, conditions_from, place_from}
 use Rattle.view_text.specs.Halves.{all_of}
 use Rattle.view_text.specs.TextOf.{has_value, kept_text, put_terms, rows_text}
 use Rattle.view_text.specs.PutIn.{put_query}
@@ -103,16 +103,16 @@ length_behind : {X : Type 0} (xs ys : List X) → length (xs ++ ys) ≡ length x
 length_behind [] ys = omega arith
 length_behind (x ∷ xs) ys = let more = length_behind xs ys in omega (arith, more)
 
--- texts, each made for a variable by its place and key, and what is known of a variable whose text has variables
-module _ (text_at : ℕ → RelKey → Text) (IsMeant : ℕ → Type 0) (scoped : (v : ℕ) (key : RelKey) → is_scoped (text_at v key) ≡ true)
-    (named : (v : ℕ) (key : RelKey) → NamesAll (text_at v key)) (meant : (v : ℕ) (key : RelKey) → nat_lt 0 (length (text_at v key).vars) ≡ true → IsMeant v) where
+-- texts, each made for a variable by its place and key, and what is known of a variable whose text has a variable at a place
+module _ (text_at : ℕ → RelKey → Text) (IsMeant : ℕ → ℕ → Type 0) (scoped : (v : ℕ) (key : RelKey) → is_scoped (text_at v key) ≡ true)
+    (named : (v : ℕ) (key : RelKey) → NamesAll (text_at v key)) (meant : (v : ℕ) (key : RelKey) (j : ℕ) → nat_lt j (length (text_at v key).vars) ≡ true → IsMeant v j) where
   -- the texts from this variable on
   abbrev pub texts_at : ℕ → List RelKey → List Text
   texts_at k keys = map (λ p. text_at p.0 p.1) (enumerate_from k keys)
 
   -- the place stands in a condition, or in what is put in for each attribute of a variable that is meant
   abbrev pub IsPlaced : ℕ → ℕ → List RelKey → ℕ → Type 0
-  IsPlaced n k keys w = (some_name w (conditions_from n (texts_at k keys)) ≡ true) ⊎ ((i : ℕ) × IsMeant (k + i) × Names (put_from n (texts_at k keys)) i w)
+  IsPlaced n k keys w = (some_name w (conditions_from n (texts_at k keys)) ≡ true) ⊎ ((i : ℕ) × (j : ℕ) × (w ≡ place_from n (texts_at k keys) i + j) × IsMeant (k + i) j × Names (put_from n (texts_at k keys)) i w)
 
   here : (n k : ℕ) (key : RelKey) (keys : List RelKey) (v w : ℕ) → w ≡ n + v → nat_lt v (length (text_at k key).vars) ≡ true → StandsIn (text_at k key) v → IsPlaced n k (key ∷ keys) w
   here n k key keys v w e inside (inl condition) =
@@ -121,12 +121,12 @@ module _ (text_at : ℕ → RelKey → Text) (IsMeant : ℕ → Type 0) (scoped 
       (conditions_moved n v w (length (text_at k key).vars) (text_at k key).conditions e
       (both_true (are_within (length (text_at k key).vars) (text_at k key).terms) (list_all (is_qual_within (length (text_at k key).vars)) (text_at k key).conditions) (scoped k key)).1 condition))
   here n k key keys v w e inside (inr attribute) =
-      let first : 0 + k ≡ k = omega arith in
-      let there : nat_lt 0 (length (text_at k key).vars) ≡ true = grind (arith, nat_tests, inside) in
       let same : k ≡ k + 0 = omega arith in
       inr (
         0,
-        subst IsMeant same (meant k key there),
+        v,
+        e,
+        subst (λ i. IsMeant i v) same (meant k key v inside),
         λ a. moved_named n v w (length (text_at k key).vars) (attr_term (text_at k key) a) e (attr_within (text_at k key) a (scoped k key)) (attribute a),
       )
 
@@ -134,7 +134,7 @@ module _ (text_at : ℕ → RelKey → Text) (IsMeant : ℕ → Type 0) (scoped 
   later n k key keys w (inl condition) =
       inl (any_behind (λ q. is_any (used_in_qual w q)) (map (moved_qual n) (text_at k key).conditions) (conditions_from (n + length (text_at k key).vars) (texts_at (k + 1) keys))
       ∙ right_true (some_name w (map (moved_qual n) (text_at k key).conditions)) (some_name w (conditions_from (n + length (text_at k key).vars) (texts_at (k + 1) keys))) condition)
-  later n k key keys w (inr (i, is_meant, names)) = let same : k + 1 + i ≡ k + suc i = omega arith in inr (suc i, subst IsMeant same is_meant, names)
+  later n k key keys w (inr (i, j, at, is_meant, names)) = let same : k + 1 + i ≡ k + suc i = omega arith in inr (suc i, j, at, subst (λ i. IsMeant i j) same is_meant, names)
 
   pub placed : (keys : List RelKey) (n k w v : ℕ) → w ≡ n + v → nat_lt v (length (texts_vars (texts_at k keys))) ≡ true → IsPlaced n k keys w
   placed [] n k w v e h = absurd (grind (arith, nat_tests, h))
@@ -154,10 +154,10 @@ module _ (text_at : ℕ → RelKey → Text) (IsMeant : ℕ → Type 0) (scoped 
 
   -- so it is with all of them
   pub placed_first : (keys : List RelKey) (w : ℕ) → nat_lt w (length (texts_vars (texts_at 0 keys))) ≡ true
-      → (some_name w (conditions_from 0 (texts_at 0 keys)) ≡ true) ⊎ ((i : ℕ) × IsMeant i × Names (put_from 0 (texts_at 0 keys)) i w)
+      → (some_name w (conditions_from 0 (texts_at 0 keys)) ≡ true) ⊎ ((i : ℕ) × (j : ℕ) × (w ≡ place_from 0 (texts_at 0 keys) i + j) × IsMeant i j × Names (put_from 0 (texts_at 0 keys)) i w)
   placed_first keys w h = elim (placed keys 0 0 w w (omega arith) h) [
     | inl condition ↦ inl condition
-    | inr (i, is_meant, names) ↦ inr (i, subst IsMeant (none_before i) is_meant, names)
+    | inr (i, j, at, is_meant, names) ↦ inr (i, j, at, subst (λ i. IsMeant i j) (none_before i) is_meant, names)
   ]
     where
       none_before : (i : ℕ) → 0 + i ≡ i

@@ -91,9 +91,9 @@ used_sound db texts sound key [] = no_text_sound db
 used_sound db texts sound key (a ∷ attrs) = sound key (a ∷ attrs)
 
 -- a text with variables is that of a variable that is used
-pub used_meant : (texts : TextSource) (key : RelKey) (attrs : List ℕ) → nat_lt 0 (length (used_text texts key attrs).vars) ≡ true → is_any attrs ≡ true
-used_meant texts key [] h = absurd (grind (arith, nat_tests, h))
-used_meant texts key (a ∷ attrs) h = refl
+pub used_meant : (texts : TextSource) (key : RelKey) (attrs : List ℕ) (j : ℕ) → nat_lt j (length (used_text texts key attrs).vars) ≡ true → is_any attrs ≡ true
+used_meant texts key [] j h = absurd (grind (arith, nat_tests, h))
+used_meant texts key (a ∷ attrs) j h = refl
 
 -- ---- texts of variables, each made for a variable by its place and key
 
@@ -114,8 +114,11 @@ view_sound : (db : Db) → IsDatabase db → (g : TextSource) → AreSound db g 
 view_sound db d g sound key view h = record {
   scoped = rows_text_scoped (query_texts g view.query) view.query (each_scoped_at db text_at at_sound 0 (vars_of view.query));
   names = λ v inside. inl (rows_name (query_texts g view.query) view.query (plain_view db d key view h) v
-      (placed_first text_at (λ v. is_any (used_in_query v view.query) ≡ true) (λ v key. (at_sound v key).scoped) (λ v key. (at_sound v key).names)
-      (λ v key. used_meant g key (used_in_query v view.query)) (vars_of view.query) v inside));
+      (elim (placed_first text_at (λ v j. is_any (used_in_query v view.query) ≡ true) (λ v key. (at_sound v key).scoped) (λ v key. (at_sound v key).names)
+      (λ v key. used_meant g key (used_in_query v view.query)) (vars_of view.query) v inside) [
+        | inl condition ↦ inl condition
+        | inr (i, j, at, is_used, names) ↦ inr (i, is_used, names)
+      ]));
   kept = each_kept_at db text_at at_sound 0 (vars_of view.query);
 }
   where
