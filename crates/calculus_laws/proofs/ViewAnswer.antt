@@ -75,7 +75,7 @@ kind_there (Some k) kind h = refl
 neither : {X : Type 0} (xs ys : List X) → xs ≡ [] → ys ≡ [] → xs ++ ys ≡ []
 neither xs ys e f = λ i. e i ++ f i
 
-term_plain : (vars : List (List Kind)) (t : QTerm) → is_some (kind_of t vars) ≡ true → term_aggregates t ≡ []
+pub term_plain : (vars : List (List Kind)) (t : QTerm) → is_some (kind_of t vars) ≡ true → term_aggregates t ≡ []
 unfolding kind_of term_aggregates
 term_plain vars (Int n) h = refl
 term_plain vars (Chars bytes) h = refl
