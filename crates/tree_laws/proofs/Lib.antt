@@ -1,2 +1,13 @@
 pub mod Nests
 pub mod Means
+pub mod SameKinds
+pub mod FitTexts
+pub mod FitViews
+pub mod FitWithin
+pub mod FitPlain
+pub mod FitPut
+pub mod FitOver
+pub mod FitAsked
+pub mod FitUpdated
+pub mod FitRuled
+pub mod FitTree

@@ -39,12 +39,12 @@ use Rattle.view_laws.proofs.Joint.{all_append, both_are}
 
 -- ---- kinds that are there
 
-number_there : (k : Option Kind) → is_some (number_kind k) ≡ true → is_some k ≡ true
+pub number_there : (k : Option Kind) → is_some (number_kind k) ≡ true → is_some k ≡ true
 unfolding number_kind
 number_there None h = cc h
 number_there (Some k) h = refl
 
-operated_there : (k l : Option Kind) → is_some (operated_kind k l) ≡ true → (is_some k ≡ true) × (is_some l ≡ true)
+pub operated_there : (k l : Option Kind) → is_some (operated_kind k l) ≡ true → (is_some k ≡ true) × (is_some l ≡ true)
 unfolding operated_kind number_kind
 operated_there None l h = cc h
 operated_there (Some k) (Some l) h = (refl, refl)
@@ -54,24 +54,24 @@ operated_there (Some k) None h = cc (go _ h)
     go true h = h
     go false h = h
 
-joined_there : (k l : Option Kind) → is_some (joined_kind k l) ≡ true → (is_some k ≡ true) × (is_some l ≡ true)
+pub joined_there : (k l : Option Kind) → is_some (joined_kind k l) ≡ true → (is_some k ≡ true) × (is_some l ≡ true)
 unfolding joined_kind
 joined_there None l h = cc h
 joined_there (Some k) None h = cc h
 joined_there (Some k) (Some l) h = (refl, refl)
 
-compared_there : (k l : Option Kind) → comparable k l ≡ true → (is_some k ≡ true) × (is_some l ≡ true)
+pub compared_there : (k l : Option Kind) → comparable k l ≡ true → (is_some k ≡ true) × (is_some l ≡ true)
 unfolding comparable
 compared_there None l h = cc h
 compared_there (Some k) None h = cc h
 compared_there (Some k) (Some l) h = (refl, refl)
 
-text_there : (k : Option Kind) → is_text_kind k ≡ true → is_some k ≡ true
+pub text_there : (k : Option Kind) → is_text_kind k ≡ true → is_some k ≡ true
 unfolding is_text_kind
 text_there None h = cc h
 text_there (Some k) h = refl
 
-kind_there : (o : Option Kind) (kind : Kind) → has_kind o kind ≡ true → is_some o ≡ true
+pub kind_there : (o : Option Kind) (kind : Kind) → has_kind o kind ≡ true → is_some o ≡ true
 kind_there None kind h = cc h
 kind_there (Some k) kind h = refl
 
@@ -93,7 +93,7 @@ linked inner vars (b ∷ by) (t ∷ link) h =
     let plain = not_any (term_aggregates t) (term_plain vars t (compared_there (kind_of b inner) (kind_of t vars) parts.0).1) in
     λ i. plain i && linked inner vars by link parts.1 i
 
-fitting : (fit : Bool) (o : AggOp) (k : Option Kind) → is_some (fitting_kind fit o k) ≡ true → fit ≡ true
+pub fitting : (fit : Bool) (o : AggOp) (k : Option Kind) → is_some (fitting_kind fit o k) ≡ true → fit ≡ true
 fitting true o k h = refl
 fitting false o None h = cc h
 fitting false o (Some k) h = cc h
@@ -154,7 +154,7 @@ targets_linked db vars test there (t ∷ ts) h =
     let parts = both_true (test t) (list_all test ts) h in
     all_two (term_aggregates t.term) (flat_map (λ t. term_aggregates t.term) ts) (term_linked db t.term vars (there t parts.0)) (targets_linked db vars test there ts parts.1)
 
-source_plain : (may : Allowed) (db : Db) (source : AggSource) → source_fits may db source ≡ true → source_is_plain source ≡ true
+pub source_plain : (may : Allowed) (db : Db) (source : AggSource) → source_fits may db source ≡ true → source_is_plain source ≡ true
 unfolding source_fits
 source_plain may db (Named key) h = refl
 source_plain may db (rows_of_query q) h =

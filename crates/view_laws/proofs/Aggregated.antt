@@ -107,13 +107,13 @@ domain_is (C m) I2 h = cc h
 domain_is (C m) I4 h = cc h
 domain_is (C m) (C n) h = ap C (same_number m n h)
 
-kind_is : (k l : Kind) → same_kind k l ≡ true → k ≡ l
+pub kind_is : (k l : Kind) → same_kind k l ≡ true → k ≡ l
 kind_is Wide Wide h = refl
 kind_is Wide (Of e) h = cc h
 kind_is (Of d) Wide h = cc h
 kind_is (Of d) (Of e) h = ap Of (domain_is d e h)
 
-kinds_are : (attrs : List Attribute) (ts : List Target) → attrs_are_targets attrs ts ≡ true → map (λ a. a.kind) attrs ≡ map (λ t. t.kind) ts
+pub kinds_are : (attrs : List Attribute) (ts : List Target) → attrs_are_targets attrs ts ≡ true → map (λ a. a.kind) attrs ≡ map (λ t. t.kind) ts
 kinds_are [] [] h = refl
 kinds_are [] (t ∷ ts) h = cc h
 kinds_are (a ∷ attrs) [] h = cc h
@@ -122,7 +122,7 @@ kinds_are (a ∷ attrs) (t ∷ ts) h =
     let more = both_true (same_kind a.kind t.kind) (attrs_are_targets attrs ts) parts.1 in
     λ i. kind_is a.kind t.kind more.0 i ∷ kinds_are attrs ts more.1 i
 
-kinds_put : (made : QTerm → QTerm) (put : Putting) (ts : List Target) → map (λ t. t.kind) (map (replaced_target made put) ts) ≡ map (λ t. t.kind) ts
+pub kinds_put : (made : QTerm → QTerm) (put : Putting) (ts : List Target) → map (λ t. t.kind) (map (replaced_target made put) ts) ≡ map (λ t. t.kind) ts
 kinds_put made put [] = refl
 kinds_put made put (t ∷ ts) = ap (λ ks. t.kind ∷ ks) (kinds_put made put ts)
 
@@ -134,7 +134,7 @@ none_any (x ∷ xs) h = cc h
 
 module _ (db : Db) (d : IsDatabase db) (who : Who) where
   -- the attributes of a view have the kinds of its targets
-  view_kinds : (key : RelKey) (view : View) → range_at db key ≡ Some (Viewed view) → kinds_at db key ≡ map (λ t. t.kind) (targets_of view.query)
+  pub view_kinds : (key : RelKey) (view : View) → range_at db key ≡ Some (Viewed view) → kinds_at db key ≡ map (λ t. t.kind) (targets_of view.query)
   unfolding info_at
   view_kinds key view h =
       ap (λ r. map (λ a. a.kind) (attrs_in (Rattle.std.specs.Prelude.option_map range_info r))) h
@@ -213,7 +213,7 @@ module _ (db : Db) (d : IsDatabase db) (who : Who) where
           ∙ kinds_put no_aggregate (put_from 0 (query_texts (text_within greatest_level db who) q)) (targets_of q);
     }
 
-    source_folds : (source : AggSource) → source_is_plain source ≡ true → FoldsAs source (put_source db who source) (source_cut db who attrs source)
+    pub source_folds : (source : AggSource) → source_is_plain source ≡ true → FoldsAs source (put_source db who source) (source_cut db who attrs source)
     source_folds (Named key) plain = range_folds key (range_at db key) refl
     source_folds (rows_of_query q) plain = query_folds q (none_any (query_aggregates q) plain)
 
@@ -241,7 +241,7 @@ module _ (db : Db) (d : IsDatabase db) (who : Who) where
 
 -- ---- the term that an aggregate is
 
-row_items : (ts : List QTerm) → items-the_row-QTerm _ (term_row ts) ≡ ts
+pub row_items : (ts : List QTerm) → items-the_row-QTerm _ (term_row ts) ≡ ts
 row_items [] = refl
 row_items (t ∷ ts) = ap (λ more. t ∷ more) (row_items ts)
 

@@ -28,7 +28,8 @@ use Rattle.calculus_laws.specs.Expansion.{is_no_view}
 use Rattle.calculus_laws.proofs.Members.{In, Chosen, choices-Chosen}
 use Rattle.view_text.specs.declared.text.Text.{Text}
 use Rattle.view_text.specs.Replaced.{without_value, replaced}
-use Rattle.view_text.specs.Texts.{texts_vars, put_from, conditions_from, place_from}
+use Rattle.view_text.specs.TextOf.{text_of}
+use Rattle.view_text.specs.Texts.{used_text, texts_vars, put_from, conditions_from, place_from}
 use Rattle.view_text.specs.PutIn.{put_query, put_made, put_over, put_place, changed_text, update_text, update_texts, put_in_update}
 use Rattle.view_laws.specs.Nesting.{aggregates_nest_none}
 use Rattle.view_laws.proofs.Values.{StandsFor, without_value_has_none}
@@ -63,7 +64,7 @@ is_changed_by v o = elim o [ None ↦ false | Some c ↦ c.0 == v ]
 
 module _ (db : Db) (who : Who) (u : Update) where
   -- its relation alone, each attribute standing for itself
-  abbrev IsOwn : Text → RelKey → Type 0
+  abbrev pub IsOwn : Text → RelKey → Type 0
   IsOwn text key = (text.vars ≡ key ∷ []) × (text.terms ≡ None)
 
   own_by : (v : ℕ) (key : RelKey) (right : Right) (b : Bool) → b ≡ true → IsOwn (text_by db who u v key right b) key
@@ -74,8 +75,20 @@ module _ (db : Db) (who : Who) (u : Update) where
   own_with v key None h = cc h
   own_with v key (Some c) h = own_by v key c.1 (c.0 == v) h
 
-  own_text : (v : ℕ) (key : RelKey) → is_changed u v ≡ true → IsOwn (update_text db who u v key) key
+  pub own_text : (v : ℕ) (key : RelKey) → is_changed u v ≡ true → IsOwn (update_text db who u v key) key
   own_text v key h = own_with v key (changed u) h
+
+  -- the text of another variable is that of a query's
+  plain_by : (v : ℕ) (key : RelKey) (right : Right) (b : Bool) → b ≡ false → text_by db who u v key right b ≡ used_text (text_of db who) key (used_in_query v u.query)
+  plain_by v key right true h = cc h
+  plain_by v key right false h = refl
+
+  plain_with : (v : ℕ) (key : RelKey) (o : Option (ℕ × Right)) → is_changed_by v o ≡ false → text_with db who u v key o ≡ used_text (text_of db who) key (used_in_query v u.query)
+  plain_with v key None h = refl
+  plain_with v key (Some c) h = plain_by v key c.1 (c.0 == v) h
+
+  pub plain_text : (v : ℕ) (key : RelKey) → is_changed u v ≡ false → update_text db who u v key ≡ used_text (text_of db who) key (used_in_query v u.query)
+  plain_text v key h = plain_with v key (changed u) h
 
   -- the texts from this variable on
   abbrev texts_at : ℕ → List RelKey → List Text

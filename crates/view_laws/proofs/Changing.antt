@@ -46,7 +46,7 @@ read_within : (db : Db) (who : Who) (read : List ℕ) (key : RelKey) → list_al
 read_within db who [] key = refl
 read_within db who (a ∷ read) key = cut_within db who Retrieve (a ∷ read) key
 
-changed_within : (db : Db) (who : Who) (right : Right) (places read : List ℕ) (key : RelKey) → list_all (is_qual_within 1) (cut db who right places key ++ read_cut db who read key) ≡ true
+pub changed_within : (db : Db) (who : Who) (right : Right) (places read : List ℕ) (key : RelKey) → list_all (is_qual_within 1) (cut db who right places key ++ read_cut db who read key) ≡ true
 changed_within db who right places read key =
     all_append (is_qual_within 1) (cut db who right places key) (read_cut db who read key)
     ∙ (λ i. cut_within db who right places key i && read_within db who read key i)
@@ -126,7 +126,7 @@ same_place e f v w both h = by (nat_lt v (length e)) refl
 
 module _ (db : Db) (d : IsDatabase db) (who : Who) (u : Update) where
   -- a text that names only its own variables, and each of them
-  abbrev IsNamed : Text → Type 0
+  abbrev pub IsNamed : Text → Type 0
   IsNamed text = (is_scoped text ≡ true) × NamesAll text
 
   named_by : (v : ℕ) (key : RelKey) (right : Right) (b : Bool) → IsNamed (text_by db who u v key right b)

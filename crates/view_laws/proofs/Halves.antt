@@ -35,19 +35,19 @@ module _ (join : Joining) (none : QQual) (test : QQual → Bool) (meet : Bool �
   test_joined zero qs = test_chained qs
   test_joined (suc n) qs = test_joined n (paired join qs) ∙ over_paired qs
 
-and_assoc : (a b c : Bool) → (a && (b && c)) ≡ ((a && b) && c)
+pub and_assoc : (a b c : Bool) → (a && (b && c)) ≡ ((a && b) && c)
 and_assoc true b c = refl
 and_assoc false b c = refl
 
-and_right : (a : Bool) → (a && true) ≡ a
+pub and_right : (a : Bool) → (a && true) ≡ a
 and_right true = refl
 and_right false = refl
 
-or_assoc : (a b c : Bool) → (a || (b || c)) ≡ ((a || b) || c)
+pub or_assoc : (a b c : Bool) → (a || (b || c)) ≡ ((a || b) || c)
 or_assoc true b c = refl
 or_assoc false b c = refl
 
-or_right : (a : Bool) → (a || false) ≡ a
+pub or_right : (a : Bool) → (a || false) ≡ a
 or_right true = refl
 or_right false = refl
 

@@ -31,7 +31,7 @@ use Rattle.view_laws.proofs.Named.{Names, KeepsNames, term_named, qual_named, ta
 
 -- ---- terms that have moved
 
-within_plain : (k : ℕ) (t : QTerm) → is_within k t ≡ true → term_aggregates t ≡ []
+pub within_plain : (k : ℕ) (t : QTerm) → is_within k t ≡ true → term_aggregates t ≡ []
 unfolding is_within term_aggregates
 within_plain k (Int n) h = refl
 within_plain k (Chars bytes) h = refl
@@ -42,7 +42,7 @@ within_plain k (operation op t u) h = let parts = both_true (is_within k t) (is_
 within_plain k (concat t u) h = let parts = both_true (is_within k t) (is_within k u) h in λ i. within_plain k t parts.0 i ++ within_plain k u parts.1 i
 within_plain k (Agg' mark row) h = cc h
 
-qual_within_plain : (k : ℕ) (q : QQual) → is_qual_within k q ≡ true → qual_aggregates q ≡ []
+pub qual_within_plain : (k : ℕ) (q : QQual) → is_qual_within k q ≡ true → qual_aggregates q ≡ []
 unfolding is_qual_within qual_aggregates
 qual_within_plain k True h = refl
 qual_within_plain k (Cmp op t u) h = let parts = both_true (is_within k t) (is_within k u) h in λ i. within_plain k t parts.0 i ++ within_plain k u parts.1 i

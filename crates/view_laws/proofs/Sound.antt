@@ -79,7 +79,7 @@ AreSound db texts = (key : RelKey) (attrs : List ℕ) → IsSound db (texts key 
 pub kept_sound : (db : Db) (conditions : List QQual) (key : RelKey) → list_all (is_qual_within 1) conditions ≡ true → is_no_view (range_at db key) ≡ true → IsSound db (kept_text conditions key)
 kept_sound db conditions key within kept = record { scoped = within; names = kept_names conditions key; kept = both_are (is_no_view (range_at db key)) true kept refl }
 
-no_text_sound : (db : Db) → IsSound db no_text
+pub no_text_sound : (db : Db) → IsSound db no_text
 no_text_sound db = record { scoped = refl; names = λ v h. absurd (grind (arith, nat_tests, h)); kept = refl }
 
 past_sound : (db : Db) → IsSound db past_text

@@ -117,23 +117,23 @@ outcome_is db who u = refl
 
 -- ---- targets with texts put in make the same attributes
 
-attrs_put : (made : QTerm → QTerm) (put : Putting) (ts : List Target) → map made_attr (map (replaced_target made put) ts) ≡ map made_attr ts
+pub attrs_put : (made : QTerm → QTerm) (put : Putting) (ts : List Target) → map made_attr (map (replaced_target made put) ts) ≡ map made_attr ts
 attrs_put made put [] = refl
 attrs_put made put (t ∷ ts) = ap (λ attrs. made_attr t ∷ attrs) (attrs_put made put ts)
 
-kinds_put : (made : QTerm → QTerm) (put : Putting) (ts : List Target) → map (λ t. Some (made_attr t).kind) (map (replaced_target made put) ts) ≡ map (λ t. Some (made_attr t).kind) ts
+pub kinds_put : (made : QTerm → QTerm) (put : Putting) (ts : List Target) → map (λ t. Some (made_attr t).kind) (map (replaced_target made put) ts) ≡ map (λ t. Some (made_attr t).kind) ts
 kinds_put made put [] = refl
 kinds_put made put (t ∷ ts) = ap (λ kinds. Some (made_attr t).kind ∷ kinds) (kinds_put made put ts)
 
 module _ (db : Db) (d : IsDatabase db) (who : Who) (u : Update) (nest : aggregates_nest_none u.query ≡ true)
     (over : (v : ℕ) (key : RelKey) → slice_get (vars_of u.query) v ≡ Some key → is_changed u v ≡ true → is_no_view (range_at db key) ≡ true) where
-  abbrev put : Update
+  abbrev pub put : Update
   put = put_in_update db who u
 
   abbrev made : QTerm → QTerm
   made = put_made db who (put_from 0 (update_texts db who u))
 
-  query_is : put.query ≡ put_over db who (update_texts db who u) u.query
+  pub query_is : put.query ≡ put_over db who (update_texts db who u) u.query
   unfolding put_in_update
   query_is = refl
 
