@@ -1,19 +1,17 @@
 -- A query that is asked is fit once its texts are put in, where it was fit but for views.
-use Rattle.std.proofs.Common.{◌≡◌, refl, sym, ap, ◌∙◌, subst, inl, inr, ℕ, zero, suc, ◌+◌, ◌≤◌, Bool, true, false, cond, not, ◌&&◌, List, [], ◌∷◌, ◌++◌, map, length, filter, Option, Some, None, is_some, arith}
+use Rattle.std.proofs.Common.{◌≡◌, refl, ap, ◌∙◌, ℕ, ◌≤◌, Bool, true, ◌&&◌, List, [], ◌∷◌, map, length, arith}
 use Rattle.std.proofs.lemmas.Bool.Decides.{nat_tests}
-use Rattle.std.specs.Prelude.{flat_map, nat_le, nat_lt, sum_by}
-use Rattle.std.specs.List.{list_all, enumerate_from}
-use Rattle.calculus.specs.declared.value.Kind.{Kind}
+use Rattle.std.specs.Prelude.{flat_map, nat_le, nat_lt}
+use Rattle.std.specs.List.{list_all}
 use Rattle.calculus.specs.declared.query.RelKey.{RelKey}
 use Rattle.calculus.specs.declared.query.QAgg.{QAgg}
-use Rattle.calculus.specs.declared.query.QTerm.{QTerm}
 use Rattle.calculus.specs.declared.query.Target.{Target}
 use Rattle.calculus.specs.declared.query.Query.{Query}
 use Rattle.calculus.specs.declared.request.Asked.{Asked}
 use Rattle.calculus.specs.declared.request.SortKey.{SortKey}
 use Rattle.calculus.specs.Lists.{is_any}
 use Rattle.calculus.specs.Limits.{most_expanded_variables}
-use Rattle.calculus.specs.Sizes.{query_measure, measure_of, source_variables, expanded_variables}
+use Rattle.calculus.specs.Sizes.{query_measure, measure_of, expanded_variables}
 use Rattle.calculus.specs.Who.{Who}
 use Rattle.calculus.specs.Database.{Db}
 use Rattle.calculus.specs.IsDatabase.{IsDatabase, has_kind, var_kinds}
@@ -22,14 +20,12 @@ use Rattle.calculus.specs.Used.{used, used_in_query}
 use Rattle.calculus_laws.proofs.Members.{In, Within}
 use Rattle.calculus_laws.proofs.Plain.{in_targets}
 use Rattle.quel_meaning.specs.KindsInQueries.{kind_in_query, kinds_fit_in_query, query_fits}
-use Rattle.quel_meaning.specs.FitQueries.{Allowed, is_kept, kept_alone, kept_or_viewed, can_be_ranged_over, sources_fit, slots_count_up, lists_few_vars, has_few_targets, reads_fit, sort_is_in_range, asked_fits}
+use Rattle.quel_meaning.specs.FitQueries.{Allowed, is_kept, kept_alone, kept_or_viewed, can_be_ranged_over, reads_fit, sort_is_in_range, asked_fits}
 use Rattle.view_text.specs.declared.text.Text.{Text}
-use Rattle.view_text.specs.Replaced.{Putting, replaced, replaced_target}
+use Rattle.view_text.specs.Replaced.{replaced, replaced_target}
 use Rattle.view_text.specs.Texts.{query_texts, texts_vars, put_from, conditions_from}
 use Rattle.view_text.specs.TextOf.{text_of}
 use Rattle.view_text.specs.PutIn.{put_made, put_over, put_in, put_in_asked}
-use Rattle.view_laws.proofs.Halves.{any_append}
-use Rattle.view_laws.proofs.Named.{left_true, right_true}
 use Rattle.view_laws.proofs.Scopes.{both_true}
 use Rattle.view_laws.proofs.Joint.{both_are}
 use Rattle.view_laws.proofs.Queries.{targets_of-put}
@@ -37,7 +33,7 @@ use Rattle.view_laws.proofs.Told.{all_told}
 use Rattle.view_laws.proofs.Values.{within_left, within_right, within_itself}
 use Rattle.view_laws.proofs.Within.{all_scoped}
 use Rattle.tree_laws.proofs.Nests.{kind_there}
-use Rattle.tree_laws.proofs.SameKinds.{VarKinds, HasKinds, Names, in_left, in_right}
+use Rattle.tree_laws.proofs.SameKinds.{HasKinds, Names, in_left, in_right}
 use Rattle.tree_laws.proofs.FitTexts.{kinds_of, all_fit, IsFitText}
 use Rattle.tree_laws.proofs.FitViews.{IsUsed, query_has, query_conditions, query_kept}
 use Rattle.tree_laws.proofs.FitWithin.{query_counts, all_count, each_scoped}

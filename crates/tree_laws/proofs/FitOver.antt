@@ -1,34 +1,32 @@
 -- A query over texts that fit reads base relations and catalogues alone, and its kinds and numbers are what they were.
-use Rattle.std.proofs.Common.{◌≡◌, refl, sym, ap, ◌∙◌, subst, inl, inr, ℕ, zero, suc, ◌+◌, ◌-◌, ◌≤◌, Bool, true, false, cond, not, ◌&&◌, List, [], ◌∷◌, ◌++◌, map, length, filter, Option, Some, None, is_some, arith}
+use Rattle.std.proofs.Common.{◌≡◌, refl, sym, ap, ◌∙◌, subst, ℕ, suc, ◌+◌, ◌-◌, ◌≤◌, Bool, true, false, cond, ◌&&◌, List, [], ◌∷◌, ◌++◌, map, length, filter, Option, Some, None, is_some, arith}
 use Rattle.std.proofs.lemmas.Bool.Decides.{nat_tests}
 use Rattle.std.proofs.lemmas.List.Sums.{sum_by-cons}
 use Rattle.std.specs.Prelude.{flat_map, nat_le, nat_eq, sum_by}
 use Rattle.std.specs.List.{list_all, enumerate_from}
-use Rattle.calculus.specs.declared.value.Kind.{Kind}
 use Rattle.calculus.specs.declared.query.RelKey.{RelKey}
 use Rattle.calculus.specs.declared.query.AggSource.{AggSource, Named}
 use Rattle.calculus.specs.declared.query.QAgg.{QAgg}
 use Rattle.calculus.specs.declared.query.QTerm.{QTerm}
 use Rattle.calculus.specs.declared.query.QQual.{QQual, True}
-use Rattle.calculus.specs.declared.query.Target.{Target}
 use Rattle.calculus.specs.declared.query.Query.{Query}
 use Rattle.calculus.specs.Tree.{both, rows_of_query}
 use Rattle.calculus.specs.Lists.{is_any}
 use Rattle.calculus.specs.Limits.{most_expanded_variables, greatest_level}
-use Rattle.calculus.specs.Sizes.{Measure, Known, plain_measure, query_measure, range_measure, measure_within, measure_of, source_variables}
+use Rattle.calculus.specs.Sizes.{query_measure, measure_within, measure_of, source_variables}
 use Rattle.calculus.specs.Who.{Who}
-use Rattle.calculus.specs.Database.{Db, View, Relation}
-use Rattle.calculus.specs.IsDatabase.{IsDatabase, has_kind, var_kinds}
-use Rattle.calculus.specs.Stored.{Range, Kept, Viewed, range_at, kinds_at}
+use Rattle.calculus.specs.Database.{Db}
+use Rattle.calculus.specs.IsDatabase.{IsDatabase, var_kinds}
+use Rattle.calculus.specs.Stored.{Range, Kept, Viewed, range_at}
 use Rattle.calculus.specs.QueryParts.{term_aggregates, qual_aggregates, query_aggregates, vars_of, targets_of, qual_of}
-use Rattle.calculus.specs.Used.{used, used_in_qual, used_in_query, used_vars}
-use Rattle.calculus_laws.proofs.Members.{In, Within}
+use Rattle.calculus.specs.Used.{used, used_in_qual, used_in_query}
+use Rattle.calculus_laws.proofs.Members.{Within}
 use Rattle.calculus_laws.proofs.Plain.{in_targets}
 use Rattle.calculus_laws.proofs.Through.{told_at}
 use Rattle.quel_meaning.specs.KindsInQueries.{kind_in_query, kinds_fit_in_query}
 use Rattle.quel_meaning.specs.FitQueries.{Allowed, is_kept, keeps_rows, kept_alone, kept_or_viewed, has_few_targets, lists_few_vars, source_fits, sources_fit, slots_count_from, slots_count_up, reads_fit}
 use Rattle.view_text.specs.declared.text.Text.{Text}
-use Rattle.view_text.specs.Replaced.{Putting, replaced, replaced_in_qual, replaced_target}
+use Rattle.view_text.specs.Replaced.{Putting, replaced, replaced_in_qual}
 use Rattle.view_text.specs.Halves.{all_of}
 use Rattle.view_text.specs.Scoped.{is_within, is_qual_within}
 use Rattle.view_text.specs.Texts.{query_texts, texts_vars, put_from, conditions_from}
@@ -39,11 +37,11 @@ use Rattle.view_laws.proofs.Named.{left_true, right_true}
 use Rattle.view_laws.proofs.Scopes.{both_true}
 use Rattle.view_laws.proofs.Joint.{both_are}
 use Rattle.view_laws.proofs.Queries.{targets_of-put}
-use Rattle.view_laws.proofs.Values.{within_left, within_right, within_itself}
+use Rattle.view_laws.proofs.Values.{within_right, within_itself}
 use Rattle.view_laws.proofs.Within.{all_scoped, put_within, conditions_are_within}
 use Rattle.tree_laws.proofs.SameKinds.{VarKinds, HasKinds, Names}
 use Rattle.tree_laws.proofs.FitTexts.{kinds_of, all_fit}
-use Rattle.tree_laws.proofs.FitWithin.{measure_told, query_counts, within_counts, all_count}
+use Rattle.tree_laws.proofs.FitWithin.{measure_told, query_counts, within_counts}
 use Rattle.tree_laws.proofs.FitPlain.{few_targets, put_source_fits, view_measure}
 use Rattle.tree_laws.proofs.FitPut.{qual_in_query_within, kind_put, fit_put, targets_made, qual_made, all_of_made, conditions_made}
 

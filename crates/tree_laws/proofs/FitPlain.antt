@@ -1,8 +1,8 @@
 -- A query without aggregates stands with its texts put in, over base relations and catalogues alone.
-use Rattle.std.proofs.Common.{◌≡◌, refl, sym, ap, ◌∙◌, subst, inl, inr, ℕ, zero, suc, ◌+◌, ◌≤◌, ◌-◌, Bool, true, false, cond, not, ◌&&◌, List, [], ◌∷◌, ◌++◌, map, length, filter, find, Option, Some, None, is_some, arith}
+use Rattle.std.proofs.Common.{◌≡◌, refl, sym, ap, ◌∙◌, subst, ℕ, suc, ◌+◌, ◌≤◌, ◌-◌, Bool, true, false, cond, ◌&&◌, List, [], ◌∷◌, map, length, filter, Option, Some, None, is_some, arith}
 use Rattle.std.proofs.lemmas.Bool.Decides.{nat_tests}
 use Rattle.std.proofs.lemmas.List.Sums.{sum_by-cons}
-use Rattle.std.specs.Prelude.{slice_get, sum_by, nat_le, flat_map}
+use Rattle.std.specs.Prelude.{slice_get, sum_by, nat_le, flat_map, option_map}
 use Rattle.std.specs.List.{list_all, enumerate_from}
 use Rattle.calculus.specs.declared.value.Kind.{Kind}
 use Rattle.calculus.specs.declared.query.RelKey.{RelKey}
@@ -11,20 +11,19 @@ use Rattle.calculus.specs.declared.query.QQual.{QQual, True}
 use Rattle.calculus.specs.declared.query.Target.{Target}
 use Rattle.calculus.specs.declared.query.Query.{Query}
 use Rattle.calculus.specs.declared.query.AggSource.{AggSource, Named}
-use Rattle.calculus.specs.declared.schema.Attr.{Attr as Attribute}
 use Rattle.calculus.specs.Tree.{both, rows_of_query}
 use Rattle.calculus.specs.Keys.{same_key}
 use Rattle.calculus.specs.Lists.{is_any}
 use Rattle.calculus.specs.Limits.{greatest_level, most_attributes}
 use Rattle.calculus.specs.Kinds.{kind_of, kinds_fit}
-use Rattle.calculus.specs.Sizes.{Measure, Known, query_measure, range_measure, measure_within, measure_of, level_within, level_of, level_above, range_level}
+use Rattle.calculus.specs.Sizes.{query_measure, measure_within, measure_of, level_within, level_of}
 use Rattle.calculus.specs.Who.{Who}
-use Rattle.calculus.specs.Database.{Db, View, Relation}
+use Rattle.calculus.specs.Database.{Db, View}
 use Rattle.calculus.specs.IsDatabase.{IsDatabase, has_kind, same_kind, attrs_stand, attrs_are_targets, var_kinds, query_stands}
-use Rattle.calculus.specs.Stored.{Range, Kept, Viewed, range_info, range_at, info_at, kinds_at}
+use Rattle.calculus.specs.Stored.{Range, Kept, Viewed, range_info, range_at, info_at}
 use Rattle.calculus.specs.QueryParts.{vars_of, targets_of, qual_of}
-use Rattle.calculus.specs.Used.{used, used_in_query, used_vars}
-use Rattle.calculus_laws.proofs.Enough.{all_there, same_key-exact}
+use Rattle.calculus.specs.Used.{used, used_in_query}
+use Rattle.calculus_laws.proofs.Enough.{all_there}
 use Rattle.calculus_laws.proofs.Members.{In}
 use Rattle.calculus_laws.proofs.SameRows.{all_at}
 use Rattle.calculus_laws.proofs.Through.{told_at, level_told}
@@ -43,10 +42,11 @@ use Rattle.view_laws.proofs.Joint.{both_are}
 use Rattle.view_laws.proofs.Queries.{targets_of-put}
 use Rattle.view_laws.proofs.Sound.{viewed}
 use Rattle.view_laws.proofs.Told.{all_told, within_told}
-use Rattle.tree_laws.proofs.SameKinds.{VarKinds, HasKinds, Names, fit_replaced}
+use Rattle.tree_laws.proofs.SameKinds.{VarKinds, Names, fit_replaced}
 use Rattle.tree_laws.proofs.FitTexts.{kinds_of, all_fit, IsFitText}
 use Rattle.tree_laws.proofs.FitViews.{IsUsed, targets_names, qual_names, target_kind, first_names, later_names, query_has, query_conditions, query_kept}
-use Rattle.tree_laws.proofs.FitWithin.{all_in, fits_within, fits_of, has_level, measure_told, Counts, query_counts, within_counts, all_count, used_scoped}
+use Rattle.tree_laws.proofs.FitWithin.{all_in, fits_within, fits_of, has_level, measure_told, query_counts, within_counts, all_count, used_scoped}
+use Rattle.view_laws.proofs.Aggregated.{kinds_are, kind_is}
 
 -- ---- what is joined
 
@@ -90,7 +90,7 @@ module _ (db : Db) (source : TextSource) (scoped : (key : RelKey) (attrs : List 
     where
       same_itself : (o : Option Kind) (kind : Kind) → has_kind o kind ≡ true → has_kind (Some kind) kind ≡ true
       same_itself None kind h = cc h
-      same_itself (Some k) kind h = let same = Rattle.view_laws.proofs.Aggregated.kind_is k kind h in ap (λ j. same_kind j kind) (sym same) ∙ h
+      same_itself (Some k) kind h = let same = kind_is k kind h in ap (λ j. same_kind j kind) (sym same) ∙ h
 
   pub plain_stands : query_stands db (put_plain source q) ≡ true
   plain_stands =
@@ -121,7 +121,7 @@ module _ (db : Db) (d : IsDatabase db) (who : Who) where
       let attrs = all_at (λ v. attrs_stand v.info.attrs) db.views view inside d.view_attrs_stand in
       let few = (both_true (nat_le (length view.info.attrs) most_attributes) _ (both_true (is_any view.info.attrs) _ attrs).1).0 in
       ap (λ n. nat_le n most_attributes)
-      (sym (map_long (λ t. t.kind) (targets_of view.query)) ∙ ap length (sym (Rattle.view_laws.proofs.Aggregated.kinds_are view.info.attrs (targets_of view.query)
+      (sym (map_long (λ t. t.kind) (targets_of view.query)) ∙ ap length (sym (kinds_are view.info.attrs (targets_of view.query)
       (all_at (λ v. attrs_are_targets v.info.attrs (targets_of v.query)) db.views view inside d.view_attrs_are_targets))) ∙ map_long (λ a. a.kind) view.info.attrs) ∙ few
     where
       map_long : {X Y : Type 0} (f : X → Y) (xs : List X) → length (map f xs) ≡ length xs
@@ -153,7 +153,7 @@ module _ (db : Db) (d : IsDatabase db) (who : Who) where
   unfolding info_at
   ranged_there key h = by (range_at db key) h
     where
-      by : (r : Option Range) → is_some (Rattle.std.specs.Prelude.option_map range_info r) ≡ true → is_some r ≡ true
+      by : (r : Option Range) → is_some (option_map range_info r) ≡ true → is_some r ≡ true
       by None h = cc h
       by (Some r) h = refl
 

@@ -1,6 +1,5 @@
 -- Terms and qualifications of a query have the kinds that they had once texts are put in, aggregates and all, and its aggregates are what they were over, put in.
-use Rattle.std.proofs.Common.{◌≡◌, refl, sym, ap, ◌∙◌, subst, inl, inr, ℕ, zero, suc, ◌+◌, ◌≤◌, Bool, true, false, cond, not, ◌&&◌, List, [], ◌∷◌, ◌++◌, map, length, Option, Some, None, is_some, arith}
-use Rattle.std.proofs.lemmas.Bool.Decides.{nat_tests}
+use Rattle.std.proofs.Common.{◌≡◌, refl, sym, ap, ◌∙◌, subst, inl, inr, ℕ, zero, suc, Bool, true, ◌&&◌, List, [], ◌∷◌, ◌++◌, map, length, Option, Some, None, is_some}
 use Rattle.std.specs.Prelude.{flat_map}
 use Rattle.std.specs.List.{list_all}
 use Rattle.calculus.specs.declared.operator.AggOp.{AggOp}
@@ -8,40 +7,34 @@ use Rattle.calculus.specs.declared.value.Kind.{Kind}
 use Rattle.calculus.specs.declared.query.RelKey.{RelKey}
 use Rattle.calculus.specs.declared.query.AggSource.{AggSource, Named}
 use Rattle.calculus.specs.declared.query.QAgg.{QAgg}
-use Rattle.calculus.specs.declared.query.QTerm.{QTerm, Int, Chars, Attr, Agg', items-the_row-QTerm, Row_of-QTerm, end_of-QTerm, more_of-QTerm, Row_of-QAgg, end_of-QAgg, more_of-QAgg}
+use Rattle.calculus.specs.declared.query.QTerm.{QTerm, Int, Chars, Attr, Agg', items-the_row-QTerm, Row_of-QTerm, end_of-QTerm, more_of-QTerm, more_of-QAgg}
 use Rattle.calculus.specs.declared.query.QQual.{QQual, True, Cmp, Like}
 use Rattle.calculus.specs.declared.query.Target.{Target}
-use Rattle.calculus.specs.declared.query.Query.{Query}
 use Rattle.calculus.specs.Tree.{neg, abs, operation, concat, both, either, negated, rows_of_query, aggregate}
-use Rattle.calculus.specs.Lists.{is_any}
-use Rattle.calculus.specs.Kinds.{attribute_kind, kind_of, number_kind, operated_kind, joined_kind, comparable, is_text_kind, kinds_fit}
+use Rattle.calculus.specs.Kinds.{kind_of, number_kind, operated_kind, joined_kind, comparable, is_text_kind, kinds_fit}
 use Rattle.calculus.specs.Who.{Who}
 use Rattle.calculus.specs.Database.{Db}
 use Rattle.calculus.specs.IsDatabase.{IsDatabase}
 use Rattle.calculus.specs.Stored.{Range, Kept, Viewed, range_at, kinds_at}
 use Rattle.calculus.specs.Rights.{Retrieve}
 use Rattle.calculus.specs.Aggregate.{source_kinds}
-use Rattle.calculus.specs.QueryParts.{aggregates_of, term_aggregates, qual_aggregates, query_aggregates, vars_of, targets_of, qual_of}
+use Rattle.calculus.specs.QueryParts.{term_aggregates, qual_aggregates}
 use Rattle.calculus.specs.Used.{used, used_in_row, used_in_qual, used_in_aggregate}
-use Rattle.calculus_laws.proofs.Members.{In, Within, In-append_left, In-append_right}
+use Rattle.calculus_laws.proofs.Members.{In, Within}
 use Rattle.calculus_laws.proofs.Plain.{in_targets}
 use Rattle.calculus_laws.proofs.SameRows.{all_at}
-use Rattle.quel_meaning.specs.KindsInQueries.{links_fit, fitting_kind, folded_kind, aggregate_kind, kind_of_row, kind_in_query, kinds_fit_in_query}
+use Rattle.quel_meaning.specs.KindsInQueries.{links_fit, fitting_kind, aggregate_kind, kind_in_query, kinds_fit_in_query}
 use Rattle.quel_meaning.specs.FitQueries.{kept_or_viewed, source_fits}
-use Rattle.view_text.specs.declared.text.Text.{Text}
 use Rattle.view_text.specs.Replaced.{Putting, replaced, replaced_in_qual, replaced_target, no_aggregate}
-use Rattle.view_text.specs.Halves.{Joining, paired, chained, joined_within, all_of}
+use Rattle.view_text.specs.Halves.{paired, chained, joined_within, all_of}
 use Rattle.view_text.specs.Scoped.{is_within, is_qual_within}
-use Rattle.view_text.specs.TextOf.{cut}
-use Rattle.view_text.specs.PutIn.{put_source, range_cut, source_cut, put_aggregate, put_row, put_made}
+use Rattle.view_text.specs.PutIn.{put_source, range_cut, source_cut, put_aggregate, put_made}
 use Rattle.view_laws.specs.Nesting.{source_is_plain}
-use Rattle.view_laws.proofs.Aggregated.{FoldsAs, source_folds, row_items}
-use Rattle.view_laws.proofs.Halves.{any_append}
-use Rattle.view_laws.proofs.Named.{left_true, right_true}
+use Rattle.view_laws.proofs.Aggregated.{source_folds, row_items}
 use Rattle.view_laws.proofs.Placed.{qual_within_plain, within_plain}
 use Rattle.view_laws.proofs.Scopes.{both_true}
 use Rattle.view_laws.proofs.Joint.{both_are}
-use Rattle.view_laws.proofs.Values.{is_aggregate, within_left, within_right}
+use Rattle.view_laws.proofs.Values.{within_left, within_right}
 use Rattle.tree_laws.proofs.Nests.{number_there, operated_there, joined_there, compared_there, text_there, source_plain, fitting}
 use Rattle.tree_laws.proofs.SameKinds.{VarKinds, HasKinds, Names, in_left, in_right, own_name, kind_replaced}
 use Rattle.tree_laws.proofs.FitTexts.{all_fit, cut_fits}

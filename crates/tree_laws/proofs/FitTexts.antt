@@ -1,45 +1,32 @@
 -- In a database the texts of what is there range over what is kept, their terms have the kinds of the attributes, and the kinds in their conditions fit.
-use Rattle.std.proofs.Common.{◌≡◌, refl, sym, ap, ◌∙◌, subst, inl, inr, ℕ, zero, suc, ◌+◌, Bool, true, false, cond, not, ◌&&◌, List, [], ◌∷◌, ◌++◌, map, length, filter, find, Option, Some, None, is_some, arith}
-use Rattle.std.proofs.lemmas.Bool.Decides.{nat_tests}
-use Rattle.std.specs.Prelude.{slice_get, nat_lt, bytes_eq, flat_map}
-use Rattle.std.specs.List.{list_all, enumerate_from, AllByRecursion}
+use Rattle.std.proofs.Common.{◌≡◌, refl, sym, ap, ◌∙◌, subst, ℕ, zero, suc, ◌+◌, Bool, true, false, cond, ◌&&◌, List, [], ◌∷◌, ◌++◌, map, length, filter, Some, is_some, arith}
+use Rattle.std.specs.Prelude.{slice_get, bytes_eq}
+use Rattle.std.specs.List.{list_all, enumerate_from}
 use Rattle.calculus.specs.declared.value.Kind.{Kind}
-use Rattle.calculus.specs.declared.value.Kind.TheVariants.{Wide}
 use Rattle.calculus.specs.declared.query.RelKey.{RelKey}
 use Rattle.calculus.specs.declared.query.QTerm.{QTerm, Attr}
 use Rattle.calculus.specs.declared.query.QQual.{QQual, True}
-use Rattle.calculus.specs.declared.query.Target.{Target}
-use Rattle.calculus.specs.declared.query.Query.{Query}
 use Rattle.calculus.specs.declared.schema.Permit.{Permit}
 use Rattle.calculus.specs.Tree.{either, negated}
 use Rattle.calculus.specs.Keys.{same_key}
-use Rattle.calculus.specs.Lists.{is_any}
-use Rattle.calculus.specs.Kinds.{kind_in, attribute_kind, kind_of, comparable, kinds_fit}
-use Rattle.calculus.specs.Who.{Who, Asker, Free, Asks}
-use Rattle.calculus.specs.Database.{Db, View, Relation, permits_on, is_relation}
-use Rattle.calculus.specs.IsDatabase.{IsDatabase, has_kind, same_kind, var_kinds, query_stands, user_is_named, permit_attrs_stand, permit_stands, row_qual_stands}
-use Rattle.calculus.specs.Stored.{Range, Kept, Viewed, range_at, kinds_at}
-use Rattle.calculus.specs.Rights.{Right, Retrieve, covers, needs_none}
-use Rattle.calculus.specs.QueryParts.{vars_of, targets_of, qual_of}
-use Rattle.calculus.specs.Used.{used, used_in_qual, used_in_query}
+use Rattle.calculus.specs.Kinds.{attribute_kind, kind_of, kinds_fit}
+use Rattle.calculus.specs.Who.{Who, Free, Asks}
+use Rattle.calculus.specs.Database.{Db, permits_on, is_relation}
+use Rattle.calculus.specs.IsDatabase.{IsDatabase, user_is_named, permit_attrs_stand, permit_stands, row_qual_stands}
+use Rattle.calculus.specs.Stored.{kinds_at}
+use Rattle.calculus.specs.Rights.{Right, covers, needs_none}
 use Rattle.calculus_laws.proofs.Enough.{same_key-exact}
-use Rattle.calculus_laws.proofs.Members.{In}
-use Rattle.calculus_laws.proofs.SameRows.{all_at}
 use Rattle.quel_meaning.specs.FitQueries.{is_kept}
 use Rattle.view_text.specs.declared.text.Text.{Text}
-use Rattle.view_text.specs.Replaced.{Putting, without_value, moved_qual, of_only, replaced, replaced_in_qual, no_aggregate}
-use Rattle.view_text.specs.Halves.{Joining, any_of}
+use Rattle.view_text.specs.Replaced.{Putting, without_value, moved_qual, of_only, replaced, replaced_in_qual, no_aggregate, moved}
+use Rattle.view_text.specs.Halves.{any_of}
 use Rattle.view_text.specs.Scoped.{is_within, is_qual_within, are_within, is_scoped}
-use Rattle.view_text.specs.Texts.{attr_term, term_at, used_text, texts_vars, put_from, conditions_from}
-use Rattle.view_text.specs.TextOf.{permit_condition, covering, cut, kept_text, has_value, put_terms, rows_text}
-use Rattle.view_laws.proofs.Aggregated.{kind_is}
-use Rattle.view_laws.proofs.Halves.{any_append, test_joined, over, and_assoc, and_right}
-use Rattle.view_laws.proofs.Named.{left_true, right_true}
+use Rattle.view_text.specs.Texts.{attr_term, texts_vars, put_from, conditions_from}
+use Rattle.view_text.specs.TextOf.{permit_condition, covering, cut, kept_text}
+use Rattle.view_laws.proofs.Halves.{test_joined, over, and_assoc, and_right}
 use Rattle.view_laws.proofs.Scopes.{both_true}
 use Rattle.view_laws.proofs.Joint.{all_append, both_are, attr_within}
-use Rattle.view_laws.proofs.Told.{cut_within}
-use Rattle.view_laws.proofs.Within.{all_scoped}
-use Rattle.tree_laws.proofs.SameKinds.{VarKinds, HasKinds, Names, kind_moved, all_fit_moved, kind_replaced, fit_replaced, itself_compares}
+use Rattle.tree_laws.proofs.SameKinds.{VarKinds, HasKinds, kind_moved, all_fit_moved, fit_replaced}
 
 -- the kinds of the attributes of what each key stands for
 abbrev pub kinds_of : Db → List RelKey → VarKinds
@@ -164,9 +151,9 @@ module _ (db : Db) (text_at : ℕ → RelKey → Text) (scoped : (v : ℕ) (key 
   FitEach k keys = (v : ℕ) (key : RelKey) → slice_get keys v ≡ Some key → Known (k + v) → IsFitText db key (text_at (k + v) key)
 
   moved_kind : (pre seg post : VarKinds) (n k : ℕ) (t : QTerm) → length pre ≡ n → length seg ≡ k → is_within k t ≡ true
-      → kind_of (Rattle.view_text.specs.Replaced.moved n t) (pre ++ (seg ++ post)) ≡ kind_of t seg
+      → kind_of (moved n t) (pre ++ (seg ++ post)) ≡ kind_of t seg
   moved_kind pre seg post n k t e f h =
-      subst (λ m. kind_of (Rattle.view_text.specs.Replaced.moved m t) (pre ++ (seg ++ post)) ≡ kind_of t seg) e (kind_moved pre seg post t (subst (λ k. is_within k t ≡ true) (sym f) h))
+      subst (λ m. kind_of (moved m t) (pre ++ (seg ++ post)) ≡ kind_of t seg) e (kind_moved pre seg post t (subst (λ k. is_within k t ≡ true) (sym f) h))
 
   shifted : (k v : ℕ) → k + 1 + v ≡ k + suc v
   shifted k v = omega arith

@@ -1,5 +1,5 @@
 -- A tree that is fit but for views is fit once texts are put in.
-use Rattle.std.proofs.Common.{◌≡◌, refl, sym, ap, ◌∙◌, subst, inl, inr, ℕ, zero, suc, ◌+◌, Bool, true, false, cond, not, ◌&&◌, List, [], ◌∷◌, ◌++◌, map, length, zip, Option, Some, None, is_some, arith}
+use Rattle.std.proofs.Common.{◌≡◌, refl, sym, ap, ◌∙◌, ℕ, zero, suc, ◌+◌, Bool, true, false, ◌&&◌, List, [], ◌∷◌, ◌++◌, map, length, zip, Option, Some, None, arith}
 use Rattle.std.proofs.lemmas.Bool.Decides.{nat_tests}
 use Rattle.std.specs.Prelude.{nat_le, nat_lt, nat_eq, slice_get, ◌==◌}
 use Rattle.std.specs.List.{list_all, enumerate_from}
@@ -8,7 +8,6 @@ use Rattle.calculus.specs.declared.query.RelKey.{RelKey}
 use Rattle.calculus.specs.declared.query.QTerm.{QTerm}
 use Rattle.calculus.specs.declared.query.QQual.{QQual}
 use Rattle.calculus.specs.declared.query.Target.{Target}
-use Rattle.calculus.specs.declared.query.Query.{Query}
 use Rattle.calculus.specs.declared.schema.Attr.{Attr as Attribute}
 use Rattle.calculus.specs.declared.request.Asked.{Asked}
 use Rattle.calculus.specs.declared.request.Checked.{Checked}
@@ -25,17 +24,16 @@ use Rattle.calculus.specs.Who.{Who}
 use Rattle.calculus.specs.Database.{Db, is_relation}
 use Rattle.calculus.specs.IsDatabase.{IsDatabase, attrs_stand, are_stored}
 use Rattle.calculus.specs.Stored.{attrs_at, kinds_at}
-use Rattle.calculus.specs.Rights.{Right, Append}
+use Rattle.calculus.specs.Rights.{Right, Append, Replace, Delete}
 use Rattle.calculus.specs.QueryParts.{vars_of, targets_of}
 use Rattle.calculus.specs.Replacement.{made_attr, wanted_kinds}
-use Rattle.calculus.specs.Assignments.{changed, is_changed}
+use Rattle.calculus.specs.Assignments.{is_changed}
 use Rattle.quel_meaning.specs.KindsInQueries.{assignments_fit}
 use Rattle.quel_meaning.specs.FitQueries.{Allowed, is_kept, kept_alone, kept_or_viewed, reads_fit, asked_fits}
 use Rattle.quel_meaning.specs.Fit.{new_attrs, places_fit, update_kinds_fit, checks_fit, is_this_key, is_new, relation_fits, update_fits, suits, fits, is_fit_with_views, is_fit}
 use Rattle.quel_meaning.specs.Meaning.{ruled_tree}
 use Rattle.quel_meaning.specs.SpelledTree.{tree_is_spelled}
 use Rattle.view_text.specs.declared.text.Text.{Text}
-use Rattle.view_text.specs.Halves.{all_of}
 use Rattle.view_text.specs.Replaced.{Putting, replaced_target}
 use Rattle.view_text.specs.Texts.{texts_vars, put_from, place_from}
 use Rattle.view_text.specs.TextOf.{cut}
@@ -174,7 +172,7 @@ module _ (db : Db) (d : IsDatabase db) (who : Who) where
         ap (λ o. is_this_key o u.rel) (place_key (vars_of u.query) 0 0 old key [] refl there (ap (is_changed u) none_before ∙ changes)) ∙ same
 
     abbrev changed_at : UpdateOp → ℕ → Option (ℕ × Right)
-    changed_at o old = elim o [ op.Append ↦ None | op.Replace ↦ Some (old, Rattle.calculus.specs.Rights.Replace) | op.Delete ↦ Some (old, Rattle.calculus.specs.Rights.Delete) | op.Into ↦ None ]
+    changed_at o old = elim o [ op.Append ↦ None | op.Replace ↦ Some (old, Replace) | op.Delete ↦ Some (old, Delete) | op.Into ↦ None ]
 
     abbrev changes_at : Option (ℕ × Right) → ℕ → Bool
     changes_at o v = elim o [ None ↦ false | Some c ↦ c.0 == v ]

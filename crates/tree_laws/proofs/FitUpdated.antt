@@ -1,61 +1,53 @@
 -- An update is fit once its texts are put in, where it was fit but for views.
-use Rattle.std.proofs.Common.{◌≡◌, ◌⊎◌, refl, sym, ap, ◌∙◌, subst, inl, inr, ℕ, zero, suc, ◌+◌, ◌≤◌, Bool, true, false, cond, not, ◌&&◌, ◌||◌, List, [], ◌∷◌, ◌++◌, map, length, filter, zip, Option, Some, None, is_some, arith}
+use Rattle.std.proofs.Common.{◌≡◌, refl, sym, ap, ◌∙◌, subst, inl, inr, ℕ, zero, suc, ◌+◌, ◌≤◌, Bool, true, false, cond, ◌&&◌, ◌||◌, List, [], ◌∷◌, ◌++◌, map, length, filter, Option, Some, None, is_some, arith}
 use Rattle.std.proofs.lemmas.Bool.Decides.{nat_tests}
 use Rattle.std.proofs.lemmas.List.Sums.{sum_by-cons}
-use Rattle.std.specs.Prelude.{flat_map, nat_le, nat_lt, nat_eq, sum_by, slice_get, ◌==◌}
+use Rattle.std.specs.Prelude.{flat_map, nat_le, nat_lt, nat_eq, sum_by, slice_get, ◌==◌, option_map}
 use Rattle.std.specs.List.{list_all, enumerate_from}
-use Rattle.calculus.specs.declared.value.Kind.{Kind}
 use Rattle.calculus.specs.declared.query.RelKey.{RelKey}
-use Rattle.calculus.specs.declared.query.QAgg.{QAgg}
 use Rattle.calculus.specs.declared.query.QTerm.{QTerm}
-use Rattle.calculus.specs.declared.query.QQual.{QQual}
 use Rattle.calculus.specs.declared.query.Target.{Target}
 use Rattle.calculus.specs.declared.query.Query.{Query}
-use Rattle.calculus.specs.declared.schema.Attr.{Attr as Attribute}
 use Rattle.calculus.specs.declared.request.Update.{Update}
 use Rattle.calculus.specs.declared.request.UpdateOp.{UpdateOp}
 use Rattle.calculus.specs.declared.request.UpdateOp.TheVariants as op
 use Rattle.calculus.specs.Lists.{is_any}
 use Rattle.calculus.specs.Limits.{most_expanded_variables}
 use Rattle.calculus.specs.Kinds.{comparable, kinds_fit}
-use Rattle.calculus.specs.Sizes.{query_measure, measure_of, source_variables, update_vars, update_expanded_variables}
+use Rattle.calculus.specs.Sizes.{measure_of, update_vars, update_expanded_variables}
 use Rattle.calculus.specs.Who.{Who}
 use Rattle.calculus.specs.Database.{Db, Relation, View, relation_at, view_at, is_relation}
 use Rattle.calculus.specs.Catalogue.{catalogue_at}
 use Rattle.calculus.specs.IsDatabase.{IsDatabase, is_kind, var_kinds}
-use Rattle.calculus.specs.Stored.{Range, Kept, Viewed, range_at, attrs_at, kinds_at}
-use Rattle.calculus.specs.Rights.{Right, Retrieve, Append}
+use Rattle.calculus.specs.Stored.{Range, Kept, Viewed, range_at, kinds_at}
+use Rattle.calculus.specs.Rights.{Right, Retrieve}
 use Rattle.calculus.specs.QueryParts.{term_aggregates, qual_aggregates, query_aggregates, vars_of, targets_of, qual_of}
-use Rattle.calculus.specs.Replacement.{made_attr, wanted_kinds}
 use Rattle.calculus.specs.Used.{used, used_in_query}
 use Rattle.calculus.specs.Assignments.{changed, is_changed}
 use Rattle.calculus_laws.proofs.Enough.{same_key-exact}
 use Rattle.calculus_laws.proofs.Members.{In, Within}
 use Rattle.calculus_laws.proofs.Plain.{in_targets}
-use Rattle.quel_meaning.specs.KindsInQueries.{kind_in_query, kinds_fit_in_query, assignments_fit}
-use Rattle.quel_meaning.specs.FitQueries.{Allowed, is_kept, keeps_rows, kept_alone, kept_or_viewed, can_be_ranged_over, sources_fit, slots_count_up, lists_few_vars, has_few_targets, reads_fit}
-use Rattle.quel_meaning.specs.Fit.{new_attrs, places_fit, update_kinds_fit, checks_fit, is_this_key, is_new, relation_fits, update_fits}
+use Rattle.quel_meaning.specs.KindsInQueries.{kind_in_query, kinds_fit_in_query}
+use Rattle.quel_meaning.specs.FitQueries.{Allowed, is_kept, keeps_rows, kept_alone, kept_or_viewed, can_be_ranged_over, reads_fit}
+use Rattle.quel_meaning.specs.Fit.{update_kinds_fit, is_this_key, relation_fits}
 use Rattle.view_text.specs.declared.text.Text.{Text}
-use Rattle.view_text.specs.Halves.{all_of}
 use Rattle.view_text.specs.Replaced.{Putting, replaced, replaced_target}
-use Rattle.view_text.specs.Scoped.{is_qual_within, is_scoped}
-use Rattle.view_text.specs.Texts.{used_text, query_texts, texts_vars, put_from, conditions_from, place_from}
+use Rattle.view_text.specs.Scoped.{is_scoped}
+use Rattle.view_text.specs.Texts.{used_text, texts_vars, put_from, conditions_from}
 use Rattle.view_text.specs.TextOf.{cut, text_of}
-use Rattle.view_text.specs.PutIn.{put_made, put_over, put_cut, put_place, read_cut, changed_text, update_text, update_texts, put_in_update}
-use Rattle.view_laws.proofs.Halves.{any_append}
+use Rattle.view_text.specs.PutIn.{put_made, put_over, read_cut, changed_text, update_text, update_texts, put_in_update}
 use Rattle.view_laws.proofs.Scopes.{both_true}
 use Rattle.view_laws.proofs.Joint.{both_are, all_append}
 use Rattle.view_laws.proofs.Queries.{targets_of-put}
-use Rattle.view_laws.proofs.Told.{cut_within}
-use Rattle.view_laws.proofs.Values.{within_left, within_right, within_itself}
+use Rattle.view_laws.proofs.Values.{within_left, within_itself}
 use Rattle.view_laws.proofs.Within.{all_scoped}
 use Rattle.view_laws.proofs.Changing.{text_by, text_with, changed_within, update_named}
 use Rattle.view_laws.proofs.Beside.{own_text, plain_text}
 use Rattle.tree_laws.proofs.Nests.{compared_there}
-use Rattle.tree_laws.proofs.SameKinds.{VarKinds, HasKinds, Names}
+use Rattle.tree_laws.proofs.SameKinds.{HasKinds, Names}
 use Rattle.tree_laws.proofs.FitTexts.{kinds_of, all_fit, IsFitText, cut_fits, kept_fits, FitEach, put_kinds, conditions_kinds}
 use Rattle.tree_laws.proofs.FitWithin.{all_count}
-use Rattle.tree_laws.proofs.FitPlain.{all_of_fit, vars_fit, targets_long}
+use Rattle.tree_laws.proofs.FitPlain.{vars_fit}
 use Rattle.tree_laws.proofs.FitOver.{kept_measure, target_names, reads_put, kind_over, qual_over, kept_counts, sources_over}
 use Rattle.tree_laws.proofs.FitAsked.{targets_pass}
 
@@ -70,7 +62,7 @@ get_in (y ∷ xs) (suc v) x h = inr (get_in xs v x h)
 abbrev ranged_by : Option Relation → Option View → Option Relation → Option Range
 ranged_by r v c = elim r [
   | Some relation ↦ Some (Kept relation)
-  | None ↦ elim v [ Some view ↦ Some (Viewed view) | None ↦ Rattle.std.specs.Prelude.option_map Kept c ]
+  | None ↦ elim v [ Some view ↦ Some (Viewed view) | None ↦ option_map Kept c ]
 ]
 
 pub relation_kept : (db : Db) (key : RelKey) → is_relation db key ≡ true → is_kept db key ≡ true

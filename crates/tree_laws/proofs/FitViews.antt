@@ -1,48 +1,33 @@
 -- In a database the text of each key that stands is fit, through the levels of views that there are.
-use Rattle.std.proofs.Common.{◌≡◌, refl, sym, ap, ◌∙◌, subst, inl, inr, ℕ, zero, suc, ◌+◌, Bool, true, false, cond, not, ◌&&◌, List, [], ◌∷◌, ◌++◌, map, length, find, Option, Some, None, is_some, arith}
-use Rattle.std.proofs.lemmas.Bool.Decides.{nat_tests}
+use Rattle.std.proofs.Common.{◌≡◌, refl, sym, ap, ◌∙◌, subst, inl, inr, ℕ, zero, suc, ◌+◌, true, List, [], ◌∷◌, ◌++◌, map, Option, Some, None, is_some, arith}
 use Rattle.std.specs.Prelude.{slice_get, flat_map}
-use Rattle.std.specs.List.{list_all, enumerate_from, AllByRecursion}
+use Rattle.std.specs.List.{list_all, enumerate_from}
 use Rattle.calculus.specs.declared.value.Kind.{Kind}
 use Rattle.calculus.specs.declared.query.RelKey.{RelKey}
-use Rattle.calculus.specs.declared.query.QTerm.{QTerm}
-use Rattle.calculus.specs.declared.query.QQual.{QQual}
 use Rattle.calculus.specs.declared.query.Target.{Target}
 use Rattle.calculus.specs.declared.query.Query.{Query}
-use Rattle.calculus.specs.Keys.{same_key}
 use Rattle.calculus.specs.Lists.{is_any}
-use Rattle.calculus.specs.Limits.{greatest_level}
 use Rattle.calculus.specs.Kinds.{kind_of, comparable, kinds_fit}
-use Rattle.calculus.specs.Sizes.{level_within, level_of}
-use Rattle.calculus.specs.Who.{Who}
-use Rattle.calculus.specs.Database.{Db, View, Relation}
-use Rattle.calculus.specs.IsDatabase.{IsDatabase, has_kind, same_kind, var_kinds, query_stands}
-use Rattle.calculus.specs.Stored.{Range, Kept, Viewed, range_at, kinds_at}
-use Rattle.calculus.specs.Rights.{Retrieve}
+use Rattle.calculus.specs.Database.{Db}
+use Rattle.calculus.specs.IsDatabase.{has_kind, var_kinds, query_stands}
+use Rattle.calculus.specs.Stored.{kinds_at}
 use Rattle.calculus.specs.QueryParts.{vars_of, targets_of, qual_of}
 use Rattle.calculus.specs.Used.{used, used_in_qual, used_in_query}
-use Rattle.calculus_laws.proofs.Enough.{all_there, same_key-exact}
 use Rattle.calculus_laws.proofs.Members.{In}
-use Rattle.calculus_laws.proofs.SameRows.{all_at}
-use Rattle.calculus_laws.proofs.Through.{Told, told, told_at, level_told, both_told}
-use Rattle.calculus_laws.proofs.ViewAnswer.{found}
-use Rattle.quel_meaning.specs.FitQueries.{is_kept, keeps_rows}
+use Rattle.quel_meaning.specs.FitQueries.{is_kept}
 use Rattle.view_text.specs.declared.text.Text.{Text}
 use Rattle.view_text.specs.Replaced.{Putting, replaced, replaced_in_qual, no_aggregate}
 use Rattle.view_text.specs.Scoped.{is_scoped}
 use Rattle.view_text.specs.Texts.{TextSource, no_text, term_at, used_text, query_texts, texts_vars, put_from, conditions_from}
-use Rattle.view_text.specs.TextOf.{cut, has_value, put_terms, rows_text, view_text, text_within, text_of}
-use Rattle.view_laws.proofs.Aggregated.{kind_is, view_kinds}
+use Rattle.view_text.specs.TextOf.{has_value, put_terms, rows_text}
+use Rattle.view_laws.proofs.Aggregated.{kind_is}
 use Rattle.view_laws.proofs.Halves.{any_append}
 use Rattle.view_laws.proofs.Named.{left_true, right_true}
 use Rattle.view_laws.proofs.Scopes.{both_true}
 use Rattle.view_laws.proofs.Joint.{all_append, both_are}
-use Rattle.view_laws.proofs.Sound.{IsSound, AreSound, used_sound, within_sound, viewed, no_text_sound}
-use Rattle.view_laws.proofs.Told.{cut_within, texts_told}
-use Rattle.view_laws.proofs.Within.{all_scoped, rows_text_scoped}
 use Rattle.tree_laws.proofs.Nests.{kind_there}
 use Rattle.tree_laws.proofs.SameKinds.{VarKinds, HasKinds, Names, kind_replaced, fit_replaced, itself_compares}
-use Rattle.tree_laws.proofs.FitTexts.{kinds_of, all_fit, IsFitText, cut_fits, kept_fits, FitEach, put_kinds, conditions_kinds}
+use Rattle.tree_laws.proofs.FitTexts.{kinds_of, all_fit, IsFitText, FitEach, put_kinds, conditions_kinds}
 
 -- ---- targets
 

@@ -1,32 +1,31 @@
 -- The text of each key that has a level is fit; it has no more variables than are counted of the key.
-use Rattle.std.proofs.Common.{◌≡◌, refl, sym, ap, ◌∙◌, subst, inl, inr, ℕ, zero, suc, ◌+◌, ◌≤◌, Bool, true, false, cond, not, ◌&&◌, List, [], ◌∷◌, ◌++◌, map, length, filter, find, Option, Some, None, is_some, arith}
-use Rattle.std.proofs.lemmas.Bool.Decides.{nat_tests}
+use Rattle.std.proofs.Common.{◌≡◌, refl, sym, ap, ◌∙◌, subst, inl, inr, ℕ, ◌+◌, ◌≤◌, true, cond, ◌&&◌, List, [], ◌∷◌, ◌++◌, map, length, filter, Option, Some, None, is_some, arith}
 use Rattle.std.proofs.lemmas.List.Sums.{sum_by-cons}
-use Rattle.std.specs.Prelude.{slice_get, sum_by}
-use Rattle.std.specs.List.{list_all, enumerate_from, AllByRecursion}
+use Rattle.std.specs.Prelude.{sum_by}
+use Rattle.std.specs.List.{enumerate_from, AllByRecursion}
 use Rattle.calculus.specs.declared.query.RelKey.{RelKey}
 use Rattle.calculus.specs.declared.query.Query.{Query}
 use Rattle.calculus.specs.Keys.{same_key}
 use Rattle.calculus.specs.Lists.{is_any}
 use Rattle.calculus.specs.Limits.{greatest_level}
-use Rattle.calculus.specs.Sizes.{Measure, Known, plain_measure, query_measure, range_measure, measure_within, measure_of, level_above, range_level, level_within, level_of}
+use Rattle.calculus.specs.Sizes.{Measure, Known, plain_measure, query_measure, range_measure, measure_within, measure_of, level_above, level_within, level_of}
 use Rattle.calculus.specs.Who.{Who}
 use Rattle.calculus.specs.Database.{Db, View, Relation}
 use Rattle.calculus.specs.IsDatabase.{IsDatabase, query_stands}
-use Rattle.calculus.specs.Stored.{Range, Kept, Viewed, range_at, kinds_at}
+use Rattle.calculus.specs.Stored.{Range, Kept, Viewed, range_at}
 use Rattle.calculus.specs.Rights.{Retrieve}
 use Rattle.calculus.specs.QueryParts.{vars_of}
-use Rattle.calculus.specs.Used.{used_in_query, used_vars}
+use Rattle.calculus.specs.Used.{used_in_query}
 use Rattle.calculus_laws.proofs.Enough.{all_there, same_key-exact}
 use Rattle.calculus_laws.proofs.Members.{In}
 use Rattle.calculus_laws.proofs.SameRows.{all_at}
-use Rattle.calculus_laws.proofs.Through.{Told, told, told_at, level_told, both_told}
+use Rattle.calculus_laws.proofs.Through.{Told, told_at, level_told, both_told}
 use Rattle.calculus_laws.proofs.ViewAnswer.{found}
-use Rattle.quel_meaning.specs.FitQueries.{is_kept, keeps_rows}
+use Rattle.quel_meaning.specs.FitQueries.{keeps_rows}
 use Rattle.view_text.specs.declared.text.Text.{Text}
 use Rattle.view_text.specs.Scoped.{is_qual_within, is_scoped}
 use Rattle.view_text.specs.Texts.{TextSource, no_text, used_text, query_texts, texts_vars}
-use Rattle.view_text.specs.TextOf.{cut, view_text, rows_text, text_within, text_of}
+use Rattle.view_text.specs.TextOf.{cut, view_text, rows_text, text_within, text_of, kept_text}
 use Rattle.view_laws.proofs.Aggregated.{view_kinds}
 use Rattle.view_laws.proofs.Sound.{viewed}
 use Rattle.view_laws.proofs.Told.{cut_within, texts_told}
@@ -64,7 +63,7 @@ module _ (db : Db) (d : IsDatabase db) (who : Who) where
   FitsWhere key level text = ((attrs : List ℕ) → is_scoped (text attrs) ≡ true) × (is_some level ≡ true → (attrs : List ℕ) → IsFitText db key (text attrs))
 
   kept_where : (key : RelKey) (relation : Relation) → range_at db key ≡ Some (Kept relation) → (attrs : List ℕ)
-      → IsFitText db key (Rattle.view_text.specs.TextOf.kept_text (cut db who Retrieve attrs key) key)
+      → IsFitText db key (kept_text (cut db who Retrieve attrs key) key)
   kept_where key relation h attrs = kept_fits db key (cut db who Retrieve attrs key) (ap keeps_rows h) (cut_within db who Retrieve attrs key) (cut_fits db d who Retrieve attrs key)
 
   pub used_scoped : (g : TextSource) → ((key : RelKey) (attrs : List ℕ) → is_scoped (g key attrs) ≡ true) → (key : RelKey) (attrs : List ℕ) → is_scoped (used_text g key attrs) ≡ true

@@ -1,10 +1,9 @@
 -- A fit tree means for the one who asks what it means for nobody in particular once texts are put in.
 use Rattle.std.proofs.Common.{◌≡◌, refl, sym, ap, ◌∙◌, ℕ, Bool, true, false, ◌&&◌, ◌||◌, List, [], ◌∷◌, map}
-use Rattle.std.specs.List.{list_all, list_any}
+use Rattle.std.specs.List.{list_all}
 use Rattle.calculus.specs.declared.query.QTerm.{QTerm}
 use Rattle.calculus.specs.declared.query.Target.{Target}
 use Rattle.calculus.specs.declared.query.Query.{Query}
-use Rattle.calculus.specs.declared.reply.Column.{Column}
 use Rattle.calculus.specs.declared.reply.Reply.TheVariants.{Refused, Tables}
 use Rattle.calculus.specs.declared.request.Asked.{Asked}
 use Rattle.calculus.specs.declared.request.Checked.{Checked}
@@ -12,26 +11,24 @@ use Rattle.calculus.specs.declared.request.Checked.TheVariants as checked
 use Rattle.calculus.specs.declared.request.Update.{Update}
 use Rattle.calculus.specs.declared.request.UpdateOp.{UpdateOp}
 use Rattle.calculus.specs.declared.request.UpdateOp.TheVariants as op
-use Rattle.calculus.specs.Answer.{answer, lacks}
 use Rattle.calculus.specs.Database.{Db}
 use Rattle.calculus.specs.IsDatabase.{IsDatabase}
 use Rattle.calculus.specs.Pairs.{ruled}
 use Rattle.calculus.specs.QueryParts.{targets_of}
-use Rattle.calculus.specs.Replacement.{updated}
 use Rattle.calculus.specs.Who.{Who, Free}
 use Rattle.quel_meaning.specs.Copying.{refusal}
 use Rattle.quel_meaning.specs.Fit.{fits, is_fit_with_views, suits}
 use Rattle.quel_meaning.specs.FitQueries.{kept_or_viewed, reads_fit, asked_fits}
 use Rattle.quel_meaning.specs.KindsInQueries.{query_fits}
-use Rattle.quel_meaning.specs.Meaning.{unchanged, numbered_effect, answer_reply, ruled_tree, tree_meaning, utility_effect}
+use Rattle.quel_meaning.specs.Meaning.{unchanged, numbered_effect, answer_reply, ruled_tree, tree_meaning}
 use Rattle.quel_meaning.specs.Shelf.{Shelf}
 use Rattle.quel_meaning.specs.SpelledTree.{tree_is_spelled}
 use Rattle.quel_meaning.specs.Tables.{column_of, sorted, table_of, some_query_lacks}
 use Rattle.view_text.specs.Replaced.{Putting, replaced_target}
 use Rattle.view_text.specs.Texts.{put_from, query_texts}
 use Rattle.view_text.specs.TextOf.{text_of}
-use Rattle.view_text.specs.PutIn.{put_made, put_in, put_in_update, put_in_asked, put_in_tree}
-use Rattle.view_laws.specs.Nesting.{aggregates_nest_none, IsOverNoView}
+use Rattle.view_text.specs.PutIn.{put_made, put_in, put_in_asked, put_in_tree}
+use Rattle.view_laws.specs.Nesting.{aggregates_nest_none}
 use Rattle.view_laws.proofs.Answering.{answer_put, lacks_put}
 use Rattle.view_laws.proofs.Queries.{targets_of-put}
 use Rattle.view_laws.proofs.Ruled.{ruled_put}

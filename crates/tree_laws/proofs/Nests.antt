@@ -1,7 +1,7 @@
 -- In the aggregates of a tree that is fit no other stands, and it changes no view.
-use Rattle.std.proofs.Common.{◌≡◌, refl, sym, ap, ◌∙◌, subst, inl, inr, ℕ, Bool, true, false, cond, not, ◌&&◌, ◌||◌, List, [], ◌∷◌, ◌++◌, map, Option, Some, None, is_some, arith}
+use Rattle.std.proofs.Common.{◌≡◌, refl, sym, ap, ◌∙◌, ℕ, Bool, true, false, cond, not, ◌&&◌, List, [], ◌∷◌, ◌++◌, Option, Some, None, is_some, arith}
 use Rattle.std.proofs.lemmas.Bool.Decides.{nat_tests}
-use Rattle.std.specs.Prelude.{slice_get, ◌==◌, flat_map}
+use Rattle.std.specs.Prelude.{slice_get, ◌==◌, flat_map, option_map}
 use Rattle.std.specs.List.{list_all}
 use Rattle.calculus.specs.declared.operator.AggOp.{AggOp}
 use Rattle.calculus.specs.declared.value.Kind.{Kind}
@@ -16,7 +16,6 @@ use Rattle.calculus.specs.declared.request.Update.{Update}
 use Rattle.calculus.specs.declared.request.UpdateOp.{UpdateOp}
 use Rattle.calculus.specs.declared.request.UpdateOp.TheVariants as op
 use Rattle.calculus.specs.Tree.{neg, abs, operation, concat, both, either, negated, rows_of_query}
-use Rattle.calculus.specs.Keys.{same_key}
 use Rattle.calculus.specs.Lists.{is_any}
 use Rattle.calculus.specs.Kinds.{kind_of, number_kind, operated_kind, joined_kind, comparable, is_text_kind, kinds_fit}
 use Rattle.calculus.specs.Database.{Db, Relation, View, relation_at, view_at, is_relation}
@@ -25,11 +24,9 @@ use Rattle.calculus.specs.Stored.{Range, Kept, Viewed, range_at}
 use Rattle.calculus.specs.Aggregate.{source_kinds}
 use Rattle.calculus.specs.IsDatabase.{has_kind, var_kinds, query_stands, is_kind}
 use Rattle.calculus.specs.QueryParts.{aggregates_of, term_aggregates, qual_aggregates, query_aggregates, vars_of, targets_of, qual_of}
-use Rattle.calculus.specs.Assignments.{changed, is_changed}
-use Rattle.calculus.specs.Rights.{Right}
-use Rattle.quel_meaning.specs.KindsInQueries.{links_fit, fitting_kind, folded_kind, aggregate_kind, kind_of_row, kind_in_query, kinds_fit_in_query, query_fits}
-use Rattle.quel_meaning.specs.FitQueries.{Allowed, kept_or_viewed, source_fits, sources_fit, slots_count_up, lists_few_vars, has_few_targets, reads_fit, asked_fits}
-use Rattle.quel_meaning.specs.Fit.{update_kinds_fit, update_fits, relation_fits, is_this_key}
+use Rattle.quel_meaning.specs.KindsInQueries.{links_fit, fitting_kind, folded_kind, aggregate_kind, kind_of_row, kind_in_query, kinds_fit_in_query, query_fits, assignments_fit}
+use Rattle.quel_meaning.specs.FitQueries.{Allowed, source_fits, sources_fit, has_few_targets, reads_fit}
+use Rattle.quel_meaning.specs.Fit.{update_kinds_fit, update_fits, relation_fits, is_this_key, places_fit, checks_fit}
 use Rattle.calculus_laws.specs.Expansion.{is_no_view}
 use Rattle.calculus_laws.proofs.Enough.{same_key-exact}
 use Rattle.calculus_laws.proofs.ViewAnswer.{stands_plain, term_plain}
@@ -198,7 +195,7 @@ update_nests may db q reads fits =
 abbrev ranged : Option Relation → Option View → Option Relation → Option Range
 ranged r v c = elim r [
   | Some relation ↦ Some (Kept relation)
-  | None ↦ elim v [ Some view ↦ Some (Viewed view) | None ↦ Rattle.std.specs.Prelude.option_map Kept c ]
+  | None ↦ elim v [ Some view ↦ Some (Viewed view) | None ↦ option_map Kept c ]
 ]
 
 relation_no_view : (db : Db) (key : RelKey) → is_relation db key ≡ true → is_no_view (range_at db key) ≡ true
@@ -238,8 +235,8 @@ unfolding update_fits
 update_sound may db u h =
     let one = both_true (reads_fit may db u.query) _ h in
     let two = both_true (update_kinds_fit db u.query) _ one.1 in
-    let three = both_true (Rattle.quel_meaning.specs.KindsInQueries.assignments_fit db u) _ two.1 in
-    let four = both_true _ (Rattle.quel_meaning.specs.Fit.places_fit db u && (Rattle.quel_meaning.specs.Fit.checks_fit db u && relation_fits db u)) three.1 in
-    let five = both_true (Rattle.quel_meaning.specs.Fit.places_fit db u) (Rattle.quel_meaning.specs.Fit.checks_fit db u && relation_fits db u) four.1 in
-    let six = both_true (Rattle.quel_meaning.specs.Fit.checks_fit db u) (relation_fits db u) five.1 in
+    let three = both_true (assignments_fit db u) _ two.1 in
+    let four = both_true _ (places_fit db u && (checks_fit db u && relation_fits db u)) three.1 in
+    let five = both_true (places_fit db u) (checks_fit db u && relation_fits db u) four.1 in
+    let six = both_true (checks_fit db u) (relation_fits db u) five.1 in
     record { nests = update_nests may db u.query one.0 two.0; over = over_op db u u.op six.1 }

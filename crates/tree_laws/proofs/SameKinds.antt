@@ -1,5 +1,5 @@
 -- What is put in has the kinds of what it stands for.
-use Rattle.std.proofs.Common.{◌≡◌, refl, sym, ap, ◌∙◌, subst, inl, inr, ℕ, zero, suc, ◌+◌, Bool, true, false, cond, not, ◌&&◌, List, [], ◌∷◌, ◌++◌, map, length, Option, Some, None, is_some, arith}
+use Rattle.std.proofs.Common.{◌≡◌, refl, ap, ◌∙◌, ℕ, zero, suc, ◌+◌, Bool, true, false, cond, not, ◌&&◌, List, [], ◌∷◌, ◌++◌, map, length, Option, Some, None, is_some, arith}
 use Rattle.std.proofs.lemmas.Bool.Decides.{nat_tests}
 use Rattle.std.specs.Prelude.{slice_get, nat_lt, ◌==◌}
 use Rattle.std.specs.List.{list_all}
@@ -7,10 +7,10 @@ use Rattle.calculus.specs.declared.value.Kind.{Kind}
 use Rattle.calculus.specs.declared.query.QTerm.{QTerm, Int, Chars, Attr, Agg'}
 use Rattle.calculus.specs.declared.query.QQual.{QQual, True, Cmp, Like}
 use Rattle.calculus.specs.Tree.{neg, abs, operation, concat, both, either, negated}
-use Rattle.calculus.specs.Kinds.{kind_in, attribute_kind, kind_of, number_kind, operated_kind, joined_kind, comparable, is_text_kind, kinds_fit}
+use Rattle.calculus.specs.Kinds.{kind_in, attribute_kind, kind_of, number_kind, operated_kind, joined_kind, comparable, is_text_kind, kinds_fit, is_number_kind}
 use Rattle.calculus.specs.Lists.{is_any}
 use Rattle.calculus.specs.Used.{used, used_in_qual}
-use Rattle.view_text.specs.Replaced.{Putting, further, moved, moved_qual, replaced, replaced_in_qual, no_aggregate}
+use Rattle.view_text.specs.Replaced.{Putting, moved, moved_qual, replaced, replaced_in_qual, no_aggregate}
 use Rattle.view_text.specs.Scoped.{is_within, is_qual_within}
 use Rattle.view_laws.proofs.Halves.{any_append}
 use Rattle.view_laws.proofs.Named.{left_true, right_true}
@@ -135,8 +135,8 @@ module _ (Known : ℕ → Type 0) (put : Putting) (new vars : VarKinds) (has : H
 pub itself_compares : (k : Option Kind) → is_some k ≡ true → comparable k k ≡ true
 unfolding comparable
 itself_compares None h = cc h
-itself_compares (Some k) h = by (Rattle.calculus.specs.Kinds.is_number_kind k) refl
+itself_compares (Some k) h = by (is_number_kind k) refl
   where
-    by : (b : Bool) → Rattle.calculus.specs.Kinds.is_number_kind k ≡ b → cond b (Rattle.calculus.specs.Kinds.is_number_kind k) (not (Rattle.calculus.specs.Kinds.is_number_kind k)) ≡ true
+    by : (b : Bool) → is_number_kind k ≡ b → cond b (is_number_kind k) (not (is_number_kind k)) ≡ true
     by true e = e
     by false e = ap not e

@@ -1,5 +1,5 @@
 -- Texts that are fit for what stands under a key.
-use Rattle.std.specs.Prelude.{◌≡◌, ℕ, true, List, map, slice_get, is_some}
+use Rattle.std.specs.Prelude.{◌≡◌, ℕ, true, map, slice_get, is_some}
 use Rattle.std.specs.List.{list_all}
 use Rattle.calculus.specs.declared.query.RelKey.{RelKey}
 use Rattle.calculus.specs.Database.{Db}

@@ -1,7 +1,7 @@
 -- An aggregate with texts put in gives for nobody in particular what the aggregate gives for the one who asks.
-use Rattle.std.proofs.Common.{◌≡◌, refl, sym, ap, ◌∙◌, subst, inl, inr, ℕ, zero, suc, ◌+◌, ◌-◌, Bool, true, false, cond, not, ◌&&◌, List, [], ◌∷◌, ◌++◌, map, length, Option, Some, None, find, arith}
+use Rattle.std.proofs.Common.{◌≡◌, refl, sym, ap, ◌∙◌, ℕ, ◌-◌, Bool, true, false, cond, not, ◌&&◌, List, [], ◌∷◌, map, Option, Some, None, arith}
 use Rattle.std.proofs.lemmas.Bool.Decides.{nat_tests}
-use Rattle.std.specs.Prelude.{filter, nat_eq, bytes_eq, if◌then◌else◌}
+use Rattle.std.specs.Prelude.{filter, nat_eq, bytes_eq, if◌then◌else◌, option_map, pos}
 use Rattle.std.specs.List.{list_all, enumerate_from}
 use Rattle.calculus.specs.declared.value.Value.{Value}
 use Rattle.calculus.specs.declared.value.Kind.{Kind}
@@ -11,31 +11,30 @@ use Rattle.calculus.specs.declared.value.Domain.TheVariants.{I1, I2, I4, C}
 use Rattle.calculus.specs.declared.query.RelKey.{RelKey}
 use Rattle.calculus.specs.declared.query.AggSource.{AggSource, Named}
 use Rattle.calculus.specs.declared.query.QAgg.{QAgg}
-use Rattle.calculus.specs.declared.query.QTerm.{QTerm, Int, Chars, Attr, Agg', items-the_row-QTerm, Row_of-QAgg, end_of-QAgg, more_of-QAgg}
+use Rattle.calculus.specs.declared.query.QTerm.{QTerm, items-the_row-QTerm}
 use Rattle.calculus.specs.declared.query.QQual.{QQual}
 use Rattle.calculus.specs.declared.query.Target.{Target}
 use Rattle.calculus.specs.declared.query.Query.{Query}
 use Rattle.calculus.specs.declared.schema.Attr.{Attr as Attribute}
-use Rattle.calculus.specs.Tree.{neg, abs, operation, concat, rows_of_query, term_row, aggregate}
+use Rattle.calculus.specs.Tree.{rows_of_query, term_row, aggregate}
 use Rattle.calculus.specs.Keys.{same_key}
 use Rattle.calculus.specs.Lists.{is_any}
-use Rattle.calculus.specs.Kinds.{kind_of}
+use Rattle.calculus.specs.Kinds.{kind_of, is_text_kind}
 use Rattle.calculus.specs.Limits.{greatest_level}
 use Rattle.calculus.specs.Rows.{Row}
 use Rattle.calculus.specs.Term.{Env, Aggs, val, holds, no_aggs, values_of, value_before}
 use Rattle.calculus.specs.Who.{Who, Free}
-use Rattle.calculus.specs.Database.{Db, View, view_at}
+use Rattle.calculus.specs.Database.{Db, View}
 use Rattle.calculus.specs.IsDatabase.{IsDatabase, same_domain, same_kind, attrs_are_targets}
 use Rattle.calculus.specs.Stored.{Range, Kept, Viewed, range_info, range_at, info_at, attrs_in, kinds_at, rows_at, kept_rows}
 use Rattle.calculus.specs.Rights.{Retrieve, may}
 use Rattle.calculus.specs.QueryParts.{term_aggregates, query_aggregates, targets_of}
-use Rattle.calculus.specs.Used.{used, used_in_aggregate}
+use Rattle.calculus.specs.Used.{used_in_aggregate}
 use Rattle.calculus.specs.Assignments.{assigned}
 use Rattle.calculus.specs.Targets.{rows_given}
 use Rattle.calculus.specs.VariableRows.{range_rows, rows_within, rows_of}
 use Rattle.calculus.specs.Aggregate.{source_rows, agree, folded_rows, arguments, source_kinds, none_value, fold_values, fold_arguments, fold_linked, aggregates}
 use Rattle.calculus_laws.specs.Expansion.{is_no_view}
-use Rattle.calculus_laws.proofs.Members.{In}
 use Rattle.calculus_laws.proofs.SameRows.{all_at}
 use Rattle.calculus_laws.proofs.Through.{told_view, told_at, rows_told}
 use Rattle.calculus_laws.proofs.ViewAnswer.{found}
@@ -43,16 +42,16 @@ use Rattle.view_text.specs.Replaced.{Putting, replaced, replaced_target, no_aggr
 use Rattle.view_text.specs.Halves.{all_of}
 use Rattle.view_text.specs.Texts.{put_from, query_texts}
 use Rattle.view_text.specs.TextOf.{cut, text_within, text_of}
-use Rattle.view_text.specs.PutIn.{put_plain, put_range, put_source, range_cut, source_cut, put_aggregate, put_row, put_made}
-use Rattle.view_laws.specs.Nesting.{source_is_plain, nests_none}
-use Rattle.view_laws.proofs.Values.{StandsFor, makes_none, val_replaced, within_itself, is_aggregate}
+use Rattle.view_text.specs.PutIn.{put_plain, put_range, put_source, range_cut, source_cut, put_aggregate}
+use Rattle.view_laws.specs.Nesting.{source_is_plain}
+use Rattle.view_laws.proofs.Values.{StandsFor, makes_none, val_replaced, within_itself}
 use Rattle.view_laws.proofs.Halves.{holds_all_of}
 use Rattle.view_laws.proofs.Scopes.{both_true}
-use Rattle.view_laws.proofs.Joint.{all_hold}
 use Rattle.view_laws.proofs.Queries.{targets_of-put}
 use Rattle.view_laws.proofs.Told.{cut_holds}
 use Rattle.view_laws.proofs.Sound.{viewed, plain_view, free_rows}
 use Rattle.view_laws.proofs.Freely.{plain_put}
+use Rattle.calculus.specs.declared.value.Value.TheVariants.{Text, Int}
 
 -- ---- links
 
@@ -137,7 +136,7 @@ module _ (db : Db) (d : IsDatabase db) (who : Who) where
   pub view_kinds : (key : RelKey) (view : View) → range_at db key ≡ Some (Viewed view) → kinds_at db key ≡ map (λ t. t.kind) (targets_of view.query)
   unfolding info_at
   view_kinds key view h =
-      ap (λ r. map (λ a. a.kind) (attrs_in (Rattle.std.specs.Prelude.option_map range_info r))) h
+      ap (λ r. map (λ a. a.kind) (attrs_in (option_map range_info r))) h
       ∙ kinds_are view.info.attrs (targets_of view.query)
       (all_at (λ v. attrs_are_targets v.info.attrs (targets_of v.query)) db.views view (found (λ v. same_key v.info.key key) db.views view (viewed db key view h)).0 d.view_attrs_are_targets)
 
@@ -228,7 +227,7 @@ module _ (db : Db) (d : IsDatabase db) (who : Who) where
       ∙ none_alike (arguments g (folded_rows (rows_of db who) g link)) (none_put folds.kinds)
     where
       none_put : source_kinds db (put_source db who g.source) ≡ source_kinds db g.source → none_value db (put_aggregate db who put g) ≡ none_value db g
-      none_put same = ap (λ kinds. if Rattle.calculus.specs.Kinds.is_text_kind (kind_of g.arg (kinds ∷ [])) then Rattle.calculus.specs.declared.value.Value.TheVariants.Text [] else Rattle.calculus.specs.declared.value.Value.TheVariants.Int (Rattle.std.specs.Prelude.pos 0)) same
+      none_put same = ap (λ kinds. if is_text_kind (kind_of g.arg (kinds ∷ [])) then Text [] else Int (pos 0)) same
 
       none_alike : (values : Option (List Value)) → none_value db (put_aggregate db who put g) ≡ none_value db g → fold_arguments db (put_aggregate db who put g) values ≡ fold_arguments db g values
       none_alike None same = refl

@@ -1,30 +1,30 @@
 -- A query answers for the one who asks what it answers for nobody in particular once its texts are put in.
-use Rattle.std.proofs.Common.{◌≡◌, refl, sym, ap, ◌∙◌, subst, inl, inr, ℕ, Bool, true, false, not, ◌&&◌, ◌||◌, List, [], ◌∷◌, ◌++◌, map}
+use Rattle.std.proofs.Common.{◌≡◌, refl, sym, ap, ◌∙◌, inl, inr, ℕ, true, not, List, [], map}
 use Rattle.std.specs.List.{list_all, enumerate_from}
 use Rattle.calculus.specs.declared.query.QAgg.{QAgg}
-use Rattle.calculus.specs.declared.query.QTerm.{QTerm, Int, Chars, Attr, Agg', items-the_row-QTerm, Row_of-QTerm, end_of-QTerm, more_of-QTerm, Row_of-QAgg, end_of-QAgg, more_of-QAgg}
+use Rattle.calculus.specs.declared.query.QTerm.{Int, Chars, Attr, Agg', items-the_row-QTerm, Row_of-QTerm, end_of-QTerm, more_of-QTerm, more_of-QAgg}
 use Rattle.calculus.specs.declared.query.Query.{Query}
-use Rattle.calculus.specs.Tree.{neg, abs, operation, concat, term_row, aggregate}
+use Rattle.calculus.specs.Tree.{neg, abs, operation, concat, term_row}
 use Rattle.calculus.specs.Lists.{is_any}
-use Rattle.calculus.specs.Term.{Env, Aggs, val}
+use Rattle.calculus.specs.Term.{Env, val}
 use Rattle.calculus.specs.Who.{Who, Free}
 use Rattle.calculus.specs.Database.{Db}
 use Rattle.calculus.specs.IsDatabase.{IsDatabase}
 use Rattle.calculus.specs.QueryParts.{term_aggregates, query_aggregates, vars_of}
 use Rattle.calculus.specs.Used.{used, used_in_row}
-use Rattle.calculus.specs.Assignments.{variable_rows, assigned}
+use Rattle.calculus.specs.Assignments.{variable_rows, assigned, choices}
 use Rattle.calculus.specs.Targets.{rows_given, some_lacks}
 use Rattle.calculus.specs.VariableRows.{rows_of}
 use Rattle.calculus.specs.Aggregate.{aggregates}
 use Rattle.calculus.specs.Answer.{answer, lacks}
-use Rattle.calculus_laws.proofs.Members.{In, Within}
+use Rattle.calculus_laws.proofs.Members.{In}
 use Rattle.calculus_laws.proofs.SameRows.{all_at}
 use Rattle.view_text.specs.Replaced.{Putting, replaced, no_aggregate}
-use Rattle.view_text.specs.Texts.{put_from, query_texts}
+use Rattle.view_text.specs.Texts.{put_from, query_texts, texts_vars}
 use Rattle.view_text.specs.TextOf.{text_of}
-use Rattle.view_text.specs.PutIn.{put_aggregate, put_made, put_over, put_in}
+use Rattle.view_text.specs.PutIn.{put_aggregate, put_made, put_in}
 use Rattle.view_laws.specs.Nesting.{source_is_plain, nests_none, aggregates_nest_none}
-use Rattle.view_laws.proofs.Values.{StandsFor, MakesAll, is_aggregate}
+use Rattle.view_laws.proofs.Values.{StandsFor, MakesAll}
 use Rattle.view_laws.proofs.Halves.{any_append}
 use Rattle.view_laws.proofs.Scopes.{both_true}
 use Rattle.view_laws.proofs.Queries.{same_given, same_lack}
@@ -34,6 +34,7 @@ use Rattle.view_laws.proofs.Placed.{within_none}
 use Rattle.view_laws.proofs.Sound.{all_sound}
 use Rattle.view_laws.proofs.Freely.{free_assigned}
 use Rattle.view_laws.proofs.Aggregated.{aggregate_put, val_aggregate, none_any}
+use Rattle.view_laws.proofs.Joint.{kept_lists}
 
 -- the aggregate is one of these, of which each nests none
 nested : (gs : List QAgg) → list_all nests_none gs ≡ true → (g : QAgg) → In g gs → nests_none g ≡ true
@@ -83,7 +84,7 @@ module _ (db : Db) (d : IsDatabase db) (who : Who) (put : Putting) (gs : List QA
   put_keeps v w names (concat t u) h within is_used = cc h
 
 module _ (db : Db) (d : IsDatabase db) (who : Who) (q : Query) (nest : aggregates_nest_none q ≡ true) where
-  put_assigned : assigned (rows_of db Free) (put_in db who q) ≡ Rattle.calculus.specs.Assignments.choices (Rattle.view_laws.proofs.Joint.kept_lists db (Rattle.view_text.specs.Texts.texts_vars (query_texts (text_of db who) q)))
+  put_assigned : assigned (rows_of db Free) (put_in db who q) ≡ choices (kept_lists db (texts_vars (query_texts (text_of db who) q)))
   unfolding put_in
   put_assigned =
       free_assigned db (text_of db who) (all_sound db who d) (put_made db who (put_from 0 (query_texts (text_of db who) q))) q

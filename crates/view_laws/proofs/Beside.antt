@@ -1,24 +1,22 @@
 -- Each assignment of an update stands beside one of the update with its texts put in: the same values, and the same old row.
-use Rattle.std.proofs.Common.{◌≡◌, ◌⊎◌, refl, sym, ap, ◌∙◌, subst, inl, inr, ℕ, zero, suc, ◌+◌, Bool, true, false, cond, not, ◌&&◌, List, [], ◌∷◌, ◌++◌, map, length, filter, Option, Some, None, arith}
+use Rattle.std.proofs.Common.{◌≡◌, ◌⊎◌, refl, sym, ap, ◌∙◌, inl, inr, ℕ, zero, suc, ◌+◌, Bool, true, false, List, [], ◌∷◌, ◌++◌, map, length, Option, Some, None, arith}
 use Rattle.std.proofs.lemmas.Bool.Decides.{nat_tests}
 use Rattle.std.specs.Prelude.{slice_get, nat_lt, ◌==◌, option_map}
-use Rattle.std.specs.List.{list_all, enumerate_from}
+use Rattle.std.specs.List.{enumerate_from}
 use Rattle.calculus.specs.declared.query.RelKey.{RelKey}
-use Rattle.calculus.specs.declared.query.QTerm.{QTerm, Attr}
-use Rattle.calculus.specs.declared.query.QQual.{QQual}
 use Rattle.calculus.specs.declared.query.Query.{Query}
 use Rattle.calculus.specs.declared.request.Update.{Update}
 use Rattle.calculus.specs.declared.request.UpdateOp.{UpdateOp}
 use Rattle.calculus.specs.declared.request.UpdateOp.TheVariants as op
 use Rattle.calculus.specs.Rows.{Row}
-use Rattle.calculus.specs.Term.{Env, Aggs, val, no_aggs, value_in, attribute_value}
+use Rattle.calculus.specs.Term.{Env, Aggs, val, no_aggs, value_in, attribute_value, holds}
 use Rattle.calculus.specs.Lists.{is_any}
 use Rattle.calculus.specs.Who.{Who, Free}
 use Rattle.calculus.specs.Database.{Db}
 use Rattle.calculus.specs.IsDatabase.{IsDatabase}
 use Rattle.calculus.specs.Stored.{range_at, rows_at}
 use Rattle.calculus.specs.Rights.{Right}
-use Rattle.calculus.specs.QueryParts.{vars_of, query_aggregates}
+use Rattle.calculus.specs.QueryParts.{vars_of, query_aggregates, qual_of}
 use Rattle.calculus.specs.Used.{used_in_query}
 use Rattle.calculus.specs.Assignments.{choices, variable_rows, changed, is_changed, changed_rows}
 use Rattle.calculus.specs.VariableRows.{rows_of}
@@ -27,17 +25,17 @@ use Rattle.calculus.proofs.OldRows.{seen_rows, seen_assigned, old_in}
 use Rattle.calculus_laws.specs.Expansion.{is_no_view}
 use Rattle.calculus_laws.proofs.Members.{In, Chosen, choices-Chosen}
 use Rattle.view_text.specs.declared.text.Text.{Text}
-use Rattle.view_text.specs.Replaced.{without_value, replaced}
+use Rattle.view_text.specs.Replaced.{without_value, replaced, moved}
 use Rattle.view_text.specs.TextOf.{text_of}
-use Rattle.view_text.specs.Texts.{used_text, texts_vars, put_from, conditions_from, place_from}
-use Rattle.view_text.specs.PutIn.{put_query, put_made, put_over, put_place, changed_text, update_text, update_texts, put_in_update}
+use Rattle.view_text.specs.Texts.{used_text, texts_vars, put_from, conditions_from, place_from, own_or}
+use Rattle.view_text.specs.PutIn.{put_made, put_over, update_text, update_texts, put_in_update}
 use Rattle.view_laws.specs.Nesting.{aggregates_nest_none}
 use Rattle.view_laws.proofs.Values.{StandsFor, without_value_has_none}
 use Rattle.view_laws.proofs.Joint.{kept_lists, TellEach}
 use Rattle.view_laws.proofs.Queries.{Beside, is_told, tells}
-use Rattle.view_laws.proofs.Named.{Names}
-use Rattle.view_laws.proofs.Placed.{some_name, placed_first, condition_used, attribute_used}
-use Rattle.view_laws.proofs.Sound.{no_views, free_used, all_kept}
+use Rattle.view_laws.proofs.Named.{Names, KeepsNames}
+use Rattle.view_laws.proofs.Placed.{placed_first, condition_used, attribute_used}
+use Rattle.view_laws.proofs.Sound.{free_used, all_kept}
 use Rattle.view_laws.proofs.Answering.{put_makes, put_keeps}
 use Rattle.view_laws.proofs.Changing.{text_by, text_with, update_told, update_named, IsSeen, update_seen, update_kept, changed_at, free_changed, same_place, get_past}
 
@@ -137,7 +135,7 @@ module _ (db : Db) (who : Who) (u : Update) where
   put_inside (key ∷ keys) k n zero h f long a =
       let same : k + 0 ≡ k = omega arith in
       let own = own_text k key (ap (is_changed u) (sym same) ∙ h) in
-      ap (λ terms. val no_aggs (Rattle.view_text.specs.Replaced.moved n (Rattle.view_text.specs.Texts.own_or terms a)) f) own.1 ∙ here
+      ap (λ terms. val no_aggs (moved n (own_or terms a)) f) own.1 ∙ here
     where
       none_more : n + 0 ≡ n
       none_more = omega arith
@@ -160,7 +158,7 @@ module _ (db : Db) (d : IsDatabase db) (who : Who) (u : Update) (nest : aggregat
   abbrev free_query : Query
   free_query = put_over db who texts u.query
 
-  keeps : Rattle.view_laws.proofs.Named.KeepsNames (put_made db who (put_from 0 texts)) (put_from 0 texts) (query_aggregates u.query)
+  keeps : KeepsNames (put_made db who (put_from 0 texts)) (put_from 0 texts) (query_aggregates u.query)
   keeps = put_keeps db d who (put_from 0 texts) (query_aggregates u.query) nest
 
   -- the rows of a variable, where this one is changed
@@ -299,7 +297,7 @@ module _ (db : Db) (d : IsDatabase db) (who : Who) (u : Update) (nest : aggregat
       (put_makes db d who (put_from 0 texts) (query_aggregates u.query) nest) e inside in
       (f, there, record { beside = by; old = old_same e f inside there by.stands })
 
-  pub from_free : (f : Env) → In f (choices (kept_lists db (texts_vars texts))) → Rattle.calculus.specs.Term.holds (aggregates db Free) (Rattle.calculus.specs.QueryParts.qual_of free_query) f ≡ true
+  pub from_free : (f : Env) → In f (choices (kept_lists db (texts_vars texts))) → holds (aggregates db Free) (qual_of free_query) f ≡ true
       → (e : Env) × In e (choices rowss) × IsBeside f e
   from_free f inside h =
       let (e, there, by) = is_told db (aggregates db who) (aggregates db Free) (put_made db who (put_from 0 texts)) u.query rowss texts told

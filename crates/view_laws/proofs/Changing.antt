@@ -1,40 +1,34 @@
 -- The assignments of an update, and those of the update with its texts put in, beside each other.
-use Rattle.std.proofs.Common.{◌≡◌, ◌⊎◌, refl, sym, ap, ◌∙◌, subst, inl, inr, ℕ, zero, suc, ◌+◌, Bool, true, false, cond, ◌&&◌, List, [], ◌∷◌, ◌++◌, map, length, filter, Option, Some, None, arith}
+use Rattle.std.proofs.Common.{◌≡◌, ◌⊎◌, refl, sym, ap, ◌∙◌, inl, inr, ℕ, zero, suc, ◌+◌, Bool, true, false, ◌&&◌, List, [], ◌∷◌, ◌++◌, map, length, filter, Option, Some, None, arith}
 use Rattle.std.proofs.lemmas.Bool.Decides.{nat_tests}
 use Rattle.std.specs.Prelude.{slice_get, nat_lt, ◌==◌}
 use Rattle.std.specs.List.{list_all, enumerate_from}
-use Rattle.calculus.specs.declared.value.Value.{Value}
 use Rattle.calculus.specs.declared.query.RelKey.{RelKey}
-use Rattle.calculus.specs.declared.query.QQual.{QQual}
 use Rattle.calculus.specs.declared.request.Update.{Update}
 use Rattle.calculus.specs.declared.request.UpdateOp.{UpdateOp}
 use Rattle.calculus.specs.declared.request.UpdateOp.TheVariants as op
 use Rattle.calculus.specs.Rows.{Row}
-use Rattle.calculus.specs.Term.{Env, val, no_aggs, value_in, attribute_value}
+use Rattle.calculus.specs.Term.{Env, val, no_aggs, value_in, attribute_value, holds}
 use Rattle.calculus.specs.Lists.{is_any}
 use Rattle.calculus.specs.Who.{Who, Free}
 use Rattle.calculus.specs.Database.{Db}
 use Rattle.calculus.specs.IsDatabase.{IsDatabase}
 use Rattle.calculus.specs.Stored.{range_at, rows_at}
 use Rattle.calculus.specs.Rights.{Right, Retrieve, Replace, Delete, may}
-use Rattle.calculus.specs.QueryParts.{vars_of, query_aggregates}
 use Rattle.calculus.specs.Used.{used_in_query}
-use Rattle.calculus.specs.Assignments.{choices, variable_rows, changed, is_changed, may_read, changed_rows}
+use Rattle.calculus.specs.Assignments.{variable_rows, changed, is_changed, may_read, changed_rows}
 use Rattle.calculus.specs.VariableRows.{rows_of}
-use Rattle.calculus.proofs.OldRows.{seen_rows, seen_assigned, old_in}
+use Rattle.calculus.proofs.OldRows.{seen_rows}
 use Rattle.calculus_laws.specs.Expansion.{is_no_view}
-use Rattle.calculus_laws.proofs.Members.{In, Chosen}
 use Rattle.view_text.specs.declared.text.Text.{Text}
 use Rattle.view_text.specs.Scoped.{is_qual_within, is_scoped}
-use Rattle.view_text.specs.Texts.{used_text, texts_vars, put_from, conditions_from, place_from}
-use Rattle.view_text.specs.TextOf.{cut, kept_text, text_of}
-use Rattle.view_text.specs.PutIn.{put_query, put_made, put_place, read_cut, changed_text, update_text, update_texts, put_in_update}
-use Rattle.view_laws.proofs.Values.{StandsFor}
-use Rattle.view_laws.proofs.Joint.{both_are, all_append, all_hold, kept_lists, Tells, TellEach}
+use Rattle.view_text.specs.Texts.{used_text, texts_vars}
+use Rattle.view_text.specs.TextOf.{cut, text_of}
+use Rattle.view_text.specs.PutIn.{read_cut, changed_text, update_text}
+use Rattle.view_laws.proofs.Joint.{both_are, all_append, all_hold, Tells, TellEach}
 use Rattle.view_laws.proofs.Told.{cut_holds, cut_within, kept_told, used_told, all_told}
-use Rattle.view_laws.proofs.Named.{Names, KeepsNames}
-use Rattle.view_laws.proofs.Placed.{some_name, NamesAll, kept_names, placed_first, condition_used, attribute_used}
-use Rattle.view_laws.proofs.Sound.{IsSound, AreSound, no_views, kept_sound, used_sound, used_meant, each_kept_at, all_sound, free_used, all_kept}
+use Rattle.view_laws.proofs.Placed.{NamesAll, kept_names}
+use Rattle.view_laws.proofs.Sound.{no_views, used_sound, used_meant, all_sound}
 
 -- ---- what the changed variable has
 
@@ -55,7 +49,7 @@ changed_told : (db : Db) (who : Who) (right : Right) (places read : List ℕ) (k
 changed_told db who right places read key =
     kept_told db key (cut db who right places key ++ read_cut db who read key) (λ row. may db who right places key row && may_read db who read key row)
     (changed_within db who right places read key)
-    (λ row. all_append (λ q. Rattle.calculus.specs.Term.holds no_aggs q (row ∷ [])) (cut db who right places key) (read_cut db who read key)
+    (λ row. all_append (λ q. holds no_aggs q (row ∷ [])) (cut db who right places key) (read_cut db who read key)
     ∙ (λ i. cut_holds db who right places key row i && read_holds db who read key row i))
 
 module _ (db : Db) (who : Who) (u : Update) where

@@ -1,13 +1,12 @@
 -- Nobody in particular has all assignments of kept rows for what is put in.
-use Rattle.std.proofs.Common.{◌≡◌, ◌⊎◌, refl, sym, ap, ◌∙◌, subst, inl, inr, ℕ, zero, suc, ◌+◌, Bool, true, false, ◌&&◌, List, [], ◌∷◌, map, length, Option, Some, None, arith}
+use Rattle.std.proofs.Common.{◌≡◌, sym, ap, ◌∙◌, subst, inl, inr, ℕ, ◌+◌, true, [], map, length, arith}
 use Rattle.std.specs.Prelude.{nat_lt}
 use Rattle.std.specs.List.{enumerate_from}
 use Rattle.calculus.specs.declared.query.RelKey.{RelKey}
 use Rattle.calculus.specs.declared.query.QTerm.{QTerm}
 use Rattle.calculus.specs.declared.query.Query.{Query}
 use Rattle.calculus.specs.Lists.{is_any}
-use Rattle.calculus.specs.Rows.{Row}
-use Rattle.calculus.specs.Term.{Env, no_aggs}
+use Rattle.calculus.specs.Term.{no_aggs}
 use Rattle.calculus.specs.Who.{Who, Free}
 use Rattle.calculus.specs.Database.{Db}
 use Rattle.calculus.specs.IsDatabase.{IsDatabase}
@@ -20,15 +19,15 @@ use Rattle.calculus.specs.VariableRows.{rows_within, rows_of}
 use Rattle.calculus_laws.specs.Expansion.{is_no_view}
 use Rattle.view_text.specs.declared.text.Text.{Text}
 use Rattle.view_text.specs.Replaced.{no_aggregate}
-use Rattle.view_text.specs.Texts.{TextSource, used_text, query_texts, texts_vars, put_from, conditions_from}
-use Rattle.view_text.specs.TextOf.{text_within, text_of}
+use Rattle.view_text.specs.Texts.{TextSource, used_text, query_texts, texts_vars, put_from}
+use Rattle.view_text.specs.TextOf.{text_within}
 use Rattle.view_text.specs.PutIn.{put_query, put_plain}
 use Rattle.view_laws.proofs.Values.{makes_none}
 use Rattle.view_laws.proofs.Joint.{kept_lists}
 use Rattle.view_laws.proofs.Queries.{same_given}
 use Rattle.view_laws.proofs.Told.{query_told, within_told}
-use Rattle.view_laws.proofs.Named.{Names, KeepsNames, none_keep}
-use Rattle.view_laws.proofs.Placed.{some_name, placed_first, condition_used, attribute_used}
+use Rattle.view_laws.proofs.Named.{KeepsNames, none_keep}
+use Rattle.view_laws.proofs.Placed.{placed_first, condition_used, attribute_used}
 use Rattle.view_laws.proofs.Sound.{IsSound, AreSound, used_sound, used_meant, each_kept_at, within_sound, free_used, all_kept}
 
 module _ (db : Db) (source : TextSource) (sound : AreSound db source) (made : QTerm → QTerm) (q : Query)

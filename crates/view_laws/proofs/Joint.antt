@@ -11,7 +11,7 @@ use Rattle.calculus.specs.Database.{Db}
 use Rattle.calculus.specs.Stored.{rows_at}
 use Rattle.calculus_laws.proofs.Members.{In, Chosen}
 use Rattle.view_text.specs.declared.text.Text.{Text}
-use Rattle.view_text.specs.Replaced.{moved_qual, without_value}
+use Rattle.view_text.specs.Replaced.{moved_qual}
 use Rattle.view_text.specs.Scoped.{is_within, is_qual_within, are_within, is_scoped}
 use Rattle.view_text.specs.Texts.{attr_term, own_or, term_at, texts_vars, put_from, conditions_from}
 use Rattle.view_laws.proofs.Values.{without_value_has_none, StandsFor}

@@ -1,32 +1,20 @@
 -- What is put in names what stands in its place, so each variable of what is put in is used.
-use Rattle.std.proofs.Common.{◌≡◌, ◌⊎◌, refl, sym, ap, ◌∙◌, subst, inl, inr, ℕ, zero, suc, ◌+◌, ◌-◌, Bool, true, false, cond, ◌&&◌, ◌||◌, List, [], ◌∷◌, ◌++◌, map, length, Option, Some, None, arith}
+use Rattle.std.proofs.Common.{◌≡◌, ◌⊎◌, refl, sym, ◌∙◌, subst, inl, inr, ℕ, Bool, true, false, cond, ◌||◌, List, [], ◌∷◌, ◌++◌, map, arith}
 use Rattle.std.proofs.lemmas.Bool.Decides.{nat_tests}
-use Rattle.std.specs.Prelude.{nat_lt, ◌==◌, flat_map}
-use Rattle.std.specs.List.{list_all, list_any, enumerate_from}
-use Rattle.calculus.specs.declared.query.RelKey.{RelKey}
+use Rattle.std.specs.Prelude.{◌==◌, flat_map}
 use Rattle.calculus.specs.declared.query.QAgg.{QAgg}
-use Rattle.calculus.specs.declared.query.QTerm.{QTerm, Int, Chars, Attr, Agg', Row_of-QAgg, end_of-QAgg, more_of-QAgg}
+use Rattle.calculus.specs.declared.query.QTerm.{QTerm, Int, Chars, Attr, Agg', more_of-QAgg}
 use Rattle.calculus.specs.declared.query.QQual.{QQual, True, Cmp, Like}
 use Rattle.calculus.specs.declared.query.Target.{Target}
-use Rattle.calculus.specs.declared.query.Query.{Query}
 use Rattle.calculus.specs.Tree.{neg, abs, operation, concat, both, either, negated}
 use Rattle.calculus.specs.Lists.{is_any}
-use Rattle.calculus.specs.QueryParts.{term_aggregates, qual_aggregates, query_aggregates, vars_of, targets_of, qual_of}
-use Rattle.calculus.specs.Used.{used, used_in_qual, used_in_query}
-use Rattle.calculus_laws.proofs.Members.{In, Within, In-append_left, In-append_right}
-use Rattle.calculus_laws.proofs.Plain.{none_left, none_right, in_targets}
-use Rattle.view_text.specs.declared.text.Text.{Text}
-use Rattle.view_text.specs.Replaced.{Putting, further, moved, moved_qual, replaced, replaced_in_qual, replaced_target, no_aggregate}
-use Rattle.view_text.specs.Scoped.{is_within, is_qual_within, are_within, is_scoped}
-use Rattle.view_text.specs.Texts.{attr_term, texts_vars, put_from, conditions_from}
-use Rattle.view_text.specs.Halves.{all_of}
-use Rattle.view_text.specs.TextOf.{has_value, kept_text, put_terms, rows_text}
-use Rattle.view_text.specs.PutIn.{put_query}
-use Rattle.view_laws.proofs.Values.{is_aggregate, within_left, within_right, within_itself}
-use Rattle.view_laws.proofs.Halves.{any_append, used_all_of}
-use Rattle.view_laws.proofs.Scopes.{both_true}
-use Rattle.view_laws.proofs.Joint.{attr_within}
-use Rattle.view_laws.proofs.Queries.{targets_of-put}
+use Rattle.calculus.specs.QueryParts.{term_aggregates, qual_aggregates}
+use Rattle.calculus.specs.Used.{used, used_in_qual}
+use Rattle.calculus_laws.proofs.Members.{Within}
+use Rattle.calculus_laws.proofs.Plain.{in_targets}
+use Rattle.view_text.specs.Replaced.{Putting, replaced, replaced_in_qual, replaced_target, no_aggregate}
+use Rattle.view_laws.proofs.Values.{is_aggregate, within_left, within_right}
+use Rattle.view_laws.proofs.Halves.{any_append}
 
 -- ---- one of two
 

@@ -1,9 +1,7 @@
 -- A query with texts put in is answered as the query is over the rows that the texts tell of.
-use Rattle.std.proofs.Common.{◌≡◌, refl, sym, ap, ◌∙◌, subst, ℕ, zero, suc, ◌+◌, Bool, true, false, ◌&&◌, List, [], ◌∷◌, ◌++◌, map, length, Option, Some, None}
-use Rattle.std.specs.List.{list_all, filter_map}
+use Rattle.std.proofs.Common.{◌≡◌, refl, sym, ap, ◌∙◌, Bool, true, false, ◌&&◌, List, [], ◌∷◌, map, Option, Some, None}
+use Rattle.std.specs.List.{filter_map}
 use Rattle.calculus.specs.declared.query.QTerm.{QTerm}
-use Rattle.calculus.specs.declared.query.QQual.{QQual}
-use Rattle.calculus.specs.declared.query.Target.{Target}
 use Rattle.calculus.specs.declared.query.Query.{Query}
 use Rattle.calculus.specs.Rows.{Row, Ascends, has}
 use Rattle.calculus.specs.Term.{Env, Aggs, holds}
@@ -13,19 +11,18 @@ use Rattle.calculus.specs.QueryParts.{targets_of, qual_of, qual_aggregates, quer
 use Rattle.calculus.specs.Targets.{target_values, qualifying, rows_given, some_lacks}
 use Rattle.calculus.proofs.Sets.{same_set, Ascends-set_of}
 use Rattle.calculus_laws.proofs.Given.{IsOutcome, given-is, is-given, lack-is, is-lack}
-use Rattle.calculus_laws.proofs.Members.{In, Chosen, choices-Chosen, Chosen-choices}
+use Rattle.calculus_laws.proofs.Members.{In, choices-Chosen, Chosen-choices}
 use Rattle.calculus_laws.proofs.Plain.{in_targets}
 use Rattle.calculus_laws.proofs.SameRows.{equal_by}
 use Rattle.calculus_laws.proofs.UsedIn.{targets_of-query}
 use Rattle.view_text.specs.declared.text.Text.{Text}
-use Rattle.view_text.specs.Halves.{all_of}
 use Rattle.view_text.specs.Replaced.{replaced_in_qual, replaced_target}
 use Rattle.view_text.specs.Texts.{texts_vars, put_from, conditions_from}
 use Rattle.view_text.specs.PutIn.{put_query}
 use Rattle.view_laws.proofs.Values.{StandsFor, MakesAll, holds_replaced, targets_replaced, within_left, within_right, within_itself}
 use Rattle.view_laws.proofs.Halves.{holds_all_of}
 use Rattle.view_laws.proofs.Scopes.{both_true}
-use Rattle.view_laws.proofs.Joint.{both_are, all_hold, kept_lists, TellEach, Says, to_rows, from_rows}
+use Rattle.view_laws.proofs.Joint.{all_hold, kept_lists, TellEach, Says, to_rows, from_rows}
 
 pub targets_of-put : (made : QTerm → QTerm) (texts : List Text) (q : Query) → targets_of (put_query made texts q) ≡ map (replaced_target made (put_from 0 texts)) (targets_of q)
 targets_of-put made texts q = targets_of-query (texts_vars texts) (map (replaced_target made (put_from 0 texts)) (targets_of q)) (qual_of (put_query made texts q))

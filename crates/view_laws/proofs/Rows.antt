@@ -1,8 +1,7 @@
 -- The text of a query's rows tells of them.
-use Rattle.std.proofs.Common.{◌≡◌, refl, sym, ap, ◌∙◌, subst, ℕ, zero, suc, ◌+◌, Bool, true, false, ◌&&◌, List, [], ◌∷◌, ◌++◌, map, length, Option, Some, None}
+use Rattle.std.proofs.Common.{◌≡◌, refl, sym, ap, ◌∙◌, ℕ, zero, suc, true, ◌&&◌, List, [], ◌∷◌, map, Option, Some, None}
 use Rattle.std.proofs.lemmas.Cmp.{tied_itself}
 use Rattle.std.specs.Prelude.{slice_get, is_some}
-use Rattle.std.specs.List.{list_all}
 use Rattle.std.specs.Ordering.{is_eq}
 use Rattle.calculus.specs.declared.operator.CmpOp.TheVariants.{Eq}
 use Rattle.calculus.specs.declared.value.Value.{Value}
@@ -21,13 +20,13 @@ use Rattle.calculus_laws.proofs.Given.{given-is, is-given}
 use Rattle.calculus_laws.proofs.Members.{In, Chosen, choices-Chosen, Chosen-choices, has-In, In-has}
 use Rattle.calculus_laws.proofs.PutIn.{before-is}
 use Rattle.view_text.specs.declared.text.Text.{Text}
-use Rattle.view_text.specs.Replaced.{Putting, without_value, replaced, replaced_in_qual, no_aggregate}
-use Rattle.view_text.specs.Texts.{attr_term, term_at, texts_vars, put_from, conditions_from}
+use Rattle.view_text.specs.Replaced.{Putting, replaced, replaced_in_qual, no_aggregate}
+use Rattle.view_text.specs.Texts.{term_at, texts_vars, put_from, conditions_from}
 use Rattle.view_text.specs.TextOf.{has_value, put_terms, rows_text}
 use Rattle.view_laws.proofs.Values.{without_value_has_none, StandsFor, makes_none, val_replaced, holds_replaced, within_itself}
 use Rattle.view_laws.proofs.Scopes.{both_true}
 use Rattle.view_laws.proofs.Within.{all_scoped, rows_text_scoped}
-use Rattle.view_laws.proofs.Joint.{both_are, all_append, all_hold, kept_lists, IsRow, Tells, TellEach, Says, to_rows, from_rows}
+use Rattle.view_laws.proofs.Joint.{both_are, all_append, all_hold, kept_lists, IsRow, Tells, TellEach, to_rows, from_rows}
 
 pub each_scoped : (db : Db) (rowss : List (List Row)) (texts : List Text) → TellEach db rowss texts → all_scoped texts ≡ true
 each_scoped db [] [] tell = refl
@@ -105,8 +104,8 @@ module _ (db : Db) (q : Query) (rowss : List (List Row)) (texts : List Text) (te
       let (row, values) = there_is (target_values no_aggs (targets_of q) e) (sym (values_needed (put_from 0 texts) e f says.attributes (targets_of q)) ∙ inner.0) in (
         row,
         has-In (rows_given no_aggs q (choices rowss)) row
-        (is-given no_aggs q (choices rowss) row
-        (e, Chosen-choices rowss e there, sym (holds_put (put_from 0 texts) e f says.attributes (qual_of q)) ∙ outer.0, values)),
+            (is-given no_aggs q (choices rowss) row
+            (e, Chosen-choices rowss e there, sym (holds_put (put_from 0 texts) e f says.attributes (qual_of q)) ∙ outer.0, values)),
         row_at (put_from 0 texts) e f says.attributes (targets_of q) row values,
       )
 
@@ -118,10 +117,10 @@ module _ (db : Db) (q : Query) (rowss : List (List Row)) (texts : List Text) (te
         f,
         chosen,
         conditions_are f
-        ∙ both_are (holds no_aggs qual_put f) (all_hold no_aggs needed f && all_hold no_aggs (conditions_from 0 texts) f)
-        (holds_put (put_from 0 texts) e f says.attributes (qual_of q) ∙ holding)
-        (both_are (all_hold no_aggs needed f) (all_hold no_aggs (conditions_from 0 texts) f)
-        (values_needed (put_from 0 texts) e f says.attributes (targets_of q) ∙ ap is_some values) says.conditions),
+            ∙ both_are (holds no_aggs qual_put f) (all_hold no_aggs needed f && all_hold no_aggs (conditions_from 0 texts) f)
+            (holds_put (put_from 0 texts) e f says.attributes (qual_of q) ∙ holding)
+            (both_are (all_hold no_aggs needed f) (all_hold no_aggs (conditions_from 0 texts) f)
+            (values_needed (put_from 0 texts) e f says.attributes (targets_of q) ∙ ap is_some values) says.conditions),
         row_at (put_from 0 texts) e f says.attributes (targets_of q) row values,
       )
 

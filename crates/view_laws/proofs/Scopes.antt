@@ -1,14 +1,13 @@
 -- Terms that name only some variables have the value that those variables give, wherever they stand.
-use Rattle.std.proofs.Common.{◌≡◌, refl, sym, ap, ◌∙◌, ℕ, zero, suc, ◌+◌, Bool, true, false, not, ◌&&◌, ◌||◌, List, [], ◌∷◌, ◌++◌, map, length, Option, Some, None, arith}
+use Rattle.std.proofs.Common.{◌≡◌, refl, ap, ◌∙◌, ℕ, zero, suc, ◌+◌, Bool, true, false, not, ◌&&◌, ◌||◌, List, [], ◌∷◌, ◌++◌, map, length, arith}
 use Rattle.std.proofs.lemmas.Bool.Decides.{nat_tests}
 use Rattle.std.specs.Prelude.{slice_get, nat_lt}
 use Rattle.std.specs.List.{list_all}
 use Rattle.calculus.specs.declared.query.QTerm.{QTerm, Int, Chars, Attr, Agg'}
 use Rattle.calculus.specs.declared.query.QQual.{QQual, True, Cmp, Like}
 use Rattle.calculus.specs.Tree.{neg, abs, operation, concat, both, either, negated}
-use Rattle.calculus.specs.Rows.{Row}
 use Rattle.calculus.specs.Term.{Env, Aggs, val, holds, value_in, attribute_value, opposite_value, value_without_sign, operated_values, joined_values, compared_values, matched_value}
-use Rattle.view_text.specs.Replaced.{moved, moved_qual, further, replaced, replaced_in_qual}
+use Rattle.view_text.specs.Replaced.{moved, moved_qual, replaced, replaced_in_qual}
 use Rattle.view_text.specs.Scoped.{is_within, is_qual_within}
 
 pub both_true : (b c : Bool) → (b && c) ≡ true → (b ≡ true) × (c ≡ true)

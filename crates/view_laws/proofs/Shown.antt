@@ -1,6 +1,5 @@
 -- What texts tell of rows, in the words of members.
-use Rattle.std.proofs.Common.{◌≡◌, ◌⊎◌, refl, sym, ap, ◌∙◌, subst, inl, inr, ℕ, Bool, true, false, ◌&&◌, List, [], ◌∷◌, map, Contains}
-use Rattle.std.specs.List.{list_all, enumerate_from}
+use Rattle.std.proofs.Common.{◌≡◌, ℕ, true, List, Contains}
 use Rattle.calculus.specs.declared.query.RelKey.{RelKey}
 use Rattle.calculus.specs.declared.query.Query.{Query}
 use Rattle.calculus.specs.Database.{Db}
@@ -12,7 +11,7 @@ use Rattle.calculus.specs.QueryParts.{vars_of}
 use Rattle.calculus.specs.Used.{used_in_query}
 use Rattle.calculus.specs.VariableRows.{rows_of}
 use Rattle.calculus.specs.Who.{Who}
-use Rattle.calculus_laws.proofs.Members.{In, choices-Chosen, Chosen-choices}
+use Rattle.calculus_laws.proofs.Members.{choices-Chosen, Chosen-choices}
 use Rattle.calculus_laws.proofs.Asked.{In-Contains, Contains-In}
 use Rattle.view_text.specs.declared.text.Text.{Text}
 use Rattle.view_text.specs.Texts.{used_text}

@@ -1,12 +1,10 @@
 -- In a database the text of what stands under a key names only base relations and catalogues, names only its own variables, and each of them.
-use Rattle.std.proofs.Common.{◌≡◌, ◌⊎◌, refl, sym, ap, ◌∙◌, subst, inl, inr, ℕ, zero, suc, ◌+◌, Bool, true, false, cond, not, ◌&&◌, ◌||◌, List, [], ◌∷◌, ◌++◌, map, length, Option, Some, None, find, arith}
+use Rattle.std.proofs.Common.{◌≡◌, refl, sym, ap, ◌∙◌, inl, inr, ℕ, suc, ◌+◌, Bool, true, ◌&&◌, List, [], ◌∷◌, map, length, Option, Some, None, arith}
 use Rattle.std.proofs.lemmas.Bool.Decides.{nat_tests}
 use Rattle.std.specs.Prelude.{nat_lt, filter, option_map}
-use Rattle.std.specs.List.{list_all, list_any, enumerate_from}
+use Rattle.std.specs.List.{list_all, enumerate_from}
 use Rattle.calculus.specs.declared.query.RelKey.{RelKey}
-use Rattle.calculus.specs.declared.query.QTerm.{QTerm}
 use Rattle.calculus.specs.declared.query.QQual.{QQual}
-use Rattle.calculus.specs.declared.query.Query.{Query}
 use Rattle.calculus.specs.Keys.{same_key}
 use Rattle.calculus.specs.Lists.{is_any}
 use Rattle.calculus.specs.Limits.{greatest_level}
@@ -17,7 +15,7 @@ use Rattle.calculus.specs.IsDatabase.{IsDatabase, query_stands}
 use Rattle.calculus.specs.Stored.{Range, Kept, Viewed, range_at, rows_at, kept_rows}
 use Rattle.calculus.specs.Rights.{Retrieve, may}
 use Rattle.calculus.specs.Rows.{Row}
-use Rattle.calculus.specs.Assignments.{Source, choices, rows_used, variable_rows, assigned}
+use Rattle.calculus.specs.Assignments.{rows_used}
 use Rattle.calculus.specs.VariableRows.{range_rows, rows_within, rows_of}
 use Rattle.calculus.specs.QueryParts.{query_aggregates, vars_of}
 use Rattle.calculus.specs.Used.{used_in_query}
@@ -26,16 +24,14 @@ use Rattle.calculus_laws.proofs.SameRows.{all_at}
 use Rattle.calculus_laws.proofs.Through.{each_told, told_view, told_at, rows_told}
 use Rattle.calculus_laws.proofs.ViewAnswer.{stands_plain, found}
 use Rattle.view_text.specs.declared.text.Text.{Text}
-use Rattle.view_text.specs.Replaced.{no_aggregate}
 use Rattle.view_text.specs.Scoped.{is_qual_within, is_scoped}
-use Rattle.view_text.specs.Texts.{TextSource, no_text, used_text, query_texts, texts_vars, put_from, conditions_from}
-use Rattle.view_text.specs.TextOf.{cut, kept_text, past_text, rows_text, view_text, text_within, text_of}
+use Rattle.view_text.specs.Texts.{TextSource, no_text, used_text, query_texts, texts_vars}
+use Rattle.view_text.specs.TextOf.{cut, kept_text, past_text, view_text, text_within, text_of}
 use Rattle.view_laws.proofs.Scopes.{both_true}
 use Rattle.view_laws.proofs.Joint.{both_are, all_append}
 use Rattle.view_laws.proofs.Told.{cut_within, texts_told}
 use Rattle.view_laws.proofs.Within.{all_scoped, rows_text_scoped}
-use Rattle.view_laws.proofs.Named.{Names}
-use Rattle.view_laws.proofs.Placed.{some_name, NamesAll, placed_first, kept_names, rows_name}
+use Rattle.view_laws.proofs.Placed.{NamesAll, placed_first, kept_names, rows_name}
 
 -- ---- views in a database
 

@@ -1,6 +1,6 @@
 -- The text of what stands under a key tells of the rows that one who asks has of it, through any number of levels of views.
-use Rattle.std.proofs.Common.{◌≡◌, refl, sym, ap, ◌∙◌, subst, inl, inr, ℕ, zero, suc, ◌+◌, Bool, true, false, cond, not, ◌&&◌, ◌||◌, List, [], ◌∷◌, ◌++◌, map, length, Option, Some, None}
-use Rattle.std.specs.Prelude.{slice_get, filter}
+use Rattle.std.proofs.Common.{◌≡◌, refl, sym, ap, ◌∙◌, subst, inl, inr, ℕ, zero, suc, ◌+◌, Bool, true, false, cond, ◌&&◌, ◌||◌, List, [], ◌∷◌, map, None}
+use Rattle.std.specs.Prelude.{filter}
 use Rattle.std.specs.List.{list_all, list_any, enumerate_from}
 use Rattle.calculus.specs.declared.query.RelKey.{RelKey}
 use Rattle.calculus.specs.declared.query.QQual.{QQual}
@@ -8,28 +8,27 @@ use Rattle.calculus.specs.declared.query.Query.{Query}
 use Rattle.calculus.specs.declared.schema.Permit.{Permit}
 use Rattle.calculus.specs.Rows.{Row}
 use Rattle.calculus.specs.Term.{Env, val, holds, no_aggs, attribute_value}
-use Rattle.calculus.specs.Who.{Who, Asker, Free, Asks}
-use Rattle.calculus.specs.Database.{Db, Relation, View, permits_on}
+use Rattle.calculus.specs.Who.{Who, Free, Asks}
+use Rattle.calculus.specs.Database.{Db, View, permits_on}
 use Rattle.calculus.specs.Limits.{greatest_level}
-use Rattle.calculus.specs.Stored.{Range, Kept, Viewed, range_at, rows_at, kept_rows}
+use Rattle.calculus.specs.Stored.{range_at, rows_at, kept_rows}
 use Rattle.calculus.specs.Rights.{Right, Retrieve, covers, needs_none, may}
 use Rattle.calculus.specs.QueryParts.{vars_of, qual_aggregates}
 use Rattle.calculus.specs.Used.{used_in_query}
-use Rattle.calculus.specs.Assignments.{Source, choices, rows_used, variable_rows, assigned}
-use Rattle.calculus.specs.VariableRows.{range_rows, view_rows, rows_within, rows_of}
+use Rattle.calculus.specs.Assignments.{Source, rows_used, variable_rows, assigned}
+use Rattle.calculus.specs.VariableRows.{view_rows, rows_within, rows_of}
 use Rattle.calculus_laws.proofs.Members.{In, Chosen, In-filter, filter-In}
-use Rattle.calculus_laws.proofs.Through.{Told, told, rows_told, both_told}
+use Rattle.calculus_laws.proofs.Through.{Told, rows_told, both_told}
 use Rattle.view_text.specs.declared.text.Text.{Text}
-use Rattle.view_text.specs.Replaced.{without_value, of_only, replaced_in_qual, no_aggregate}
+use Rattle.view_text.specs.Replaced.{of_only, no_aggregate}
 use Rattle.view_text.specs.Halves.{any_of}
-use Rattle.view_text.specs.Scoped.{is_within, is_qual_within, is_scoped}
+use Rattle.view_text.specs.Scoped.{is_within, is_qual_within}
 use Rattle.view_text.specs.Texts.{TextSource, no_text, used_text, query_texts}
 use Rattle.view_text.specs.TextOf.{permit_condition, covering, cut, kept_text, view_text, past_text, range_text, text_within, text_of}
 use Rattle.view_laws.proofs.Values.{without_value_has_none, StandsFor, makes_none, holds_replaced, within_itself}
 use Rattle.view_laws.proofs.Halves.{holds_any_of, any_within}
-use Rattle.view_laws.proofs.Scopes.{both_true}
 use Rattle.view_laws.proofs.Within.{qual_replaced_within}
-use Rattle.view_laws.proofs.Joint.{both_are, all_hold, kept_lists, IsRow, Tells, TellEach}
+use Rattle.view_laws.proofs.Joint.{all_hold, IsRow, Tells, TellEach}
 use Rattle.view_laws.proofs.Rows.{rows_told_by}
 
 -- ---- permits

@@ -1,6 +1,6 @@
 -- An update makes for the one who asks the change that it makes for nobody in particular once its texts are put in, or the same number refuses it.
-use Rattle.std.proofs.Common.{◌≡◌, refl, sym, ap, ◌∙◌, subst, inl, inr, ℕ, Bool, true, false, not, ◌&&◌, ◌||◌, List, [], ◌∷◌, map, length, Option, Some, None, Result, Ok, Err, find, cond}
-use Rattle.std.specs.Prelude.{slice_get, nat_lt, option_map, if◌then◌else◌}
+use Rattle.std.proofs.Common.{◌≡◌, refl, sym, ap, ◌∙◌, subst, inl, inr, ℕ, Bool, true, false, not, ◌&&◌, List, [], ◌∷◌, map, length, Option, Some, None, Result, Ok, Err}
+use Rattle.std.specs.Prelude.{slice_get, nat_lt, option_map, if◌then◌else◌, flat_map}
 use Rattle.std.specs.List.{list_all, list_any, filter, filter_map, AllByRecursion}
 use Rattle.calculus.specs.declared.change.Pair.{Pair}
 use Rattle.calculus.specs.declared.change.DbChange.{DbChange}
@@ -8,9 +8,7 @@ use Rattle.calculus.specs.declared.change.DbChange.TheVariants as change
 use Rattle.calculus.specs.declared.query.RelKey.{RelKey}
 use Rattle.calculus.specs.declared.query.QTerm.{QTerm}
 use Rattle.calculus.specs.declared.query.Target.{Target}
-use Rattle.calculus.specs.declared.query.Query.{Query}
 use Rattle.calculus.specs.declared.schema.RelInfo.{RelInfo}
-use Rattle.calculus.specs.declared.schema.Attr.{Attr as Attribute}
 use Rattle.calculus.specs.declared.value.Kind.{Kind}
 use Rattle.calculus.specs.declared.request.Update.{Update}
 use Rattle.calculus.specs.declared.request.UpdateOp.{UpdateOp}
@@ -18,22 +16,21 @@ use Rattle.calculus.specs.declared.request.UpdateOp.TheVariants as op
 use Rattle.calculus.specs.Keys.{same_key}
 use Rattle.calculus.specs.Limits.{most_rows}
 use Rattle.calculus.specs.Rows.{Row, Ascends, set_of}
-use Rattle.calculus.specs.Term.{Env, Aggs, holds, no_aggs}
+use Rattle.calculus.specs.Term.{Env, holds, no_aggs}
 use Rattle.calculus.specs.Who.{Who, Free}
 use Rattle.calculus.specs.Database.{Db, Relation, View, relation_at, view_at}
-use Rattle.calculus.specs.Catalogue.{relation_key, attribute_key, relation_row, attribute_rows, all_entries, catalogue_at}
+use Rattle.calculus.specs.Catalogue.{relation_key, attribute_key, relation_row, attribute_rows, all_entries, catalogue_at, attribute_info, relation_info}
 use Rattle.calculus.specs.IsDatabase.{IsDatabase}
 use Rattle.calculus.specs.Stored.{Range, Kept, Viewed, range_at, rows_at, kept_rows, kinds_at}
 use Rattle.calculus.specs.Rights as right
 use Rattle.calculus.specs.Rights.{may}
 use Rattle.calculus.specs.QueryParts.{vars_of, targets_of, qual_of, query_aggregates}
 use Rattle.calculus.specs.Assignments.{choices, is_changed}
-use Rattle.calculus.specs.Targets.{target_values, qualifying, some_lacks}
-use Rattle.calculus.specs.VariableRows.{rows_of}
+use Rattle.calculus.specs.Targets.{target_values, some_lacks}
 use Rattle.calculus.specs.Aggregate.{aggregates}
-use Rattle.calculus.specs.Pairs.{pair_of, may_append, is_append, new_stands, pair_stands, pairs}
-use Rattle.calculus.specs.Replacement.{old_rows, new_rows, without_rows, after, contended, made_attr, wanted_kinds, all_fit, update_lacks, values_fit, rows_after, first_cause, made_info, updated}
-use Rattle.calculus.proofs.OldRows.{seen_assigned, seen_qualifying, old_in, pair_in, pairs_with_old, lacks_with_old, fit_with_old}
+use Rattle.calculus.specs.Pairs.{pair_of, is_append, new_stands, pair_stands, pairs}
+use Rattle.calculus.specs.Replacement.{without_rows, after, contended, made_attr, wanted_kinds, all_fit, update_lacks, values_fit, rows_after, first_cause, made_info, updated}
+use Rattle.calculus.proofs.OldRows.{seen_qualifying, pair_in, pairs_with_old, lacks_with_old, fit_with_old}
 use Rattle.calculus.proofs.Sets.{Ascends-set_of, Ascends-nil}
 use Rattle.calculus_laws.specs.Expansion.{is_no_view}
 use Rattle.calculus_laws.proofs.Members.{In, Within, In-filter, filter-In, In-filter_map, filter_map-In}
@@ -52,6 +49,7 @@ use Rattle.view_laws.proofs.Told.{cut_holds}
 use Rattle.view_laws.proofs.Answering.{put_makes}
 use Rattle.view_laws.proofs.Beside.{IsBeside, rowss, told, free_seen, to_free, from_free}
 use Rattle.view_laws.proofs.Pairing.{same_contended, same_after}
+use Rattle.calculus.specs.declared.schema.Spec.TheVariants.{Heap}
 
 -- ---- rows that are kept ascend
 
@@ -68,14 +66,14 @@ unfolding catalogue_at
 catalogue_ascends db key = by (same_key key (relation_key db)) (same_key key (attribute_key db))
   where
     by : (b c : Bool) → Ascends (catalogue_rows (elim b [
-      | true ↦ Some (record { info = Rattle.calculus.specs.Catalogue.relation_info db; rows = set_of (map relation_row (all_entries db)) })
+      | true ↦ Some (record { info = relation_info db; rows = set_of (map relation_row (all_entries db)) })
       | false ↦ elim c [
-        | true ↦ Some (record { info = Rattle.calculus.specs.Catalogue.attribute_info db; rows = set_of (Rattle.std.specs.Prelude.flat_map attribute_rows (all_entries db)) })
+        | true ↦ Some (record { info = attribute_info db; rows = set_of (flat_map attribute_rows (all_entries db)) })
         | false ↦ None
       ]
     ]))
     by true c = Ascends-set_of (map relation_row (all_entries db))
-    by false true = Ascends-set_of (Rattle.std.specs.Prelude.flat_map attribute_rows (all_entries db))
+    by false true = Ascends-set_of (flat_map attribute_rows (all_entries db))
     by false false = Ascends-nil
 
 abbrev ranged : Option Relation → Option View → Option Relation → Option Range
@@ -143,7 +141,7 @@ module _ (db : Db) (d : IsDatabase db) (who : Who) (u : Update) (nest : aggregat
   info_same : made_info put ≡ made_info u
   unfolding put_in_update
   info_same =
-      ap (λ attrs. record { key = u.rel; spec = Rattle.calculus.specs.declared.schema.Spec.TheVariants.Heap; attrs = attrs; keys = [] })
+      ap (λ attrs. record { key = u.rel; spec = Heap; attrs = attrs; keys = [] })
       (ap (map made_attr) targets_are ∙ attrs_put made (put_from 0 (update_texts db who u)) (targets_of u.query))
 
   wanted_by : (o : UpdateOp) → List (Option Kind) → List (Option Kind) → List (Option Kind)
@@ -208,8 +206,8 @@ module _ (db : Db) (d : IsDatabase db) (who : Who) (u : Update) (nest : aggregat
       let (f, there, by) = to_free db d who u nest over e inside in (
         f,
         subst (In f) (sym assigned_free)
-        (In-filter (holds (aggregates db Free) (qual_of put.query)) (choices (kept_lists db (texts_vars (update_texts db who u)))) f there
-        (ap (λ q. holds (aggregates db Free) (qual_of q) f) query_is ∙ by.beside.qual ∙ holding)),
+            (In-filter (holds (aggregates db Free) (qual_of put.query)) (choices (kept_lists db (texts_vars (update_texts db who u)))) f there
+            (ap (λ q. holds (aggregates db Free) (qual_of q) f) query_is ∙ by.beside.qual ∙ holding)),
         by,
       )
 
