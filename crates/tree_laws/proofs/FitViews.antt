@@ -1,5 +1,8 @@
 -- In a database the text of each key that stands is fit, through the levels of views that there are.
-use Rattle.std.proofs.Common.{◌≡◌, refl, sym, ap, ◌∙◌, subst, inl, inr, ℕ, zero, suc, ◌+◌, true, List, [], ◌∷◌, ◌++◌, map, Option, Some, None, is_some, arith}
+use Rattle.std.proofs.Common.{◌≡◌, refl, sym, ap, ◌∙◌, subst, inl, inr, ℕ, zero, suc, ◌+◌, true, List, [], ◌∷◌, ◌++◌, map, Option, Some, None, is_some, arith, Bool, false}
+use Rattle.calculus.specs.declared.query.QQual.{QQual, True}
+use Rattle.calculus.specs.Tree.{negated}
+use Rattle.calculus.specs.Term.{holds, no_aggs}
 use Rattle.std.specs.Prelude.{slice_get, flat_map}
 use Rattle.std.specs.List.{list_all, enumerate_from}
 use Rattle.calculus.specs.declared.value.Kind.{Kind}
@@ -19,7 +22,7 @@ use Rattle.view_text.specs.declared.text.Text.{Text}
 use Rattle.view_text.specs.Replaced.{Putting, replaced, replaced_in_qual, no_aggregate}
 use Rattle.view_text.specs.Scoped.{is_scoped}
 use Rattle.view_text.specs.Texts.{TextSource, no_text, term_at, used_text, query_texts, texts_vars, put_from, conditions_from}
-use Rattle.view_text.specs.TextOf.{has_value, put_terms, rows_text}
+use Rattle.view_text.specs.TextOf.{has_value, put_terms, rows_text, rows_conditions, settled}
 use Rattle.view_laws.proofs.Aggregated.{kind_is}
 use Rattle.view_laws.proofs.Halves.{any_append}
 use Rattle.view_laws.proofs.Named.{left_true, right_true}
@@ -66,6 +69,16 @@ module _ (Known : ℕ → Type 0) (put : Putting) (new vars : VarKinds) (has : H
       let there = ap is_some (target_kind t (first_names t ts names) parts.0) in
       both_are (comparable (kind_of (replaced no_aggregate put t.term) new) (kind_of (replaced no_aggregate put t.term) new)) (all_fit new (map has_value (map (λ t. replaced no_aggregate put t.term) ts)))
       (itself_compares (kind_of (replaced no_aggregate put t.term) new) there) (values_fit ts (later_names t ts names) parts.1)
+
+-- conditions that are settled fit where they did
+settled_fits : (kinds : VarKinds) (vars : List RelKey) (conditions : List QQual) → all_fit kinds conditions ≡ true → all_fit kinds (settled vars conditions) ≡ true
+unfolding settled kinds_fit
+settled_fits kinds [] conditions h = by (list_all (λ q. holds no_aggs q []) conditions)
+  where
+    by : (b : Bool) → all_fit kinds (elim b [ true ↦ [] | false ↦ negated True ∷ [] ]) ≡ true
+    by true = refl
+    by false = refl
+settled_fits kinds (key ∷ vars) conditions h = h
 
 -- ---- a query whose texts fit
 
@@ -145,12 +158,12 @@ module _ (db : Db) (source : TextSource) (scoped : (key : RelKey) (attrs : List 
     kinds = λ a h.
         terms_kinds (IsUsed q) (put_from 0 (query_texts source q)) new (var_kinds db q) query_has (targets_of q) (targets_names q) parts.0 a (ap (λ ks. is_some (slice_get ks a)) (sym kinds) ∙ h)
         ∙ ap (λ ks. slice_get ks a) (sym kinds);
-    conditions =
-        both_are (kinds_fit (replaced_in_qual no_aggregate (put_from 0 (query_texts source q)) (qual_of q)) new) (all_fit new (map has_value (put_terms (query_texts source q) q) ++ conditions_from 0 (query_texts source q)))
+    conditions = settled_fits new (texts_vars (query_texts source q)) (rows_conditions (query_texts source q) q)
+        (both_are (kinds_fit (replaced_in_qual no_aggregate (put_from 0 (query_texts source q)) (qual_of q)) new) (all_fit new (map has_value (put_terms (query_texts source q) q) ++ conditions_from 0 (query_texts source q)))
         (fit_replaced (IsUsed q) (put_from 0 (query_texts source q)) new (var_kinds db q) query_has (qual_of q) (qual_names q) parts.1)
         (all_append (λ q. kinds_fit q new) (map has_value (put_terms (query_texts source q) q)) (conditions_from 0 (query_texts source q))
         ∙ both_are (all_fit new (map has_value (put_terms (query_texts source q) q))) (all_fit new (conditions_from 0 (query_texts source q)))
-        (values_fit (IsUsed q) (put_from 0 (query_texts source q)) new (var_kinds db q) query_has (targets_of q) (targets_names q) parts.0) query_conditions);
+        (values_fit (IsUsed q) (put_from 0 (query_texts source q)) new (var_kinds db q) query_has (targets_of q) (targets_names q) parts.0) query_conditions));
   }
     where
       new : VarKinds

@@ -18,7 +18,7 @@ use Rattle.view_text.specs.declared.text.Text.{Text}
 use Rattle.view_text.specs.Replaced.{further, moved, moved_qual, replaced, replaced_in_qual, no_aggregate}
 use Rattle.view_text.specs.Scoped.{is_within, is_qual_within, are_within, is_scoped}
 use Rattle.view_text.specs.Texts.{attr_term, texts_vars, put_from, conditions_from, place_from}
-use Rattle.view_text.specs.TextOf.{has_value, kept_text, put_terms, rows_text}
+use Rattle.view_text.specs.TextOf.{has_value, kept_text, put_terms, rows_conditions, settled, rows_text}
 use Rattle.view_text.specs.PutIn.{put_query}
 use Rattle.view_laws.proofs.Values.{within_left, within_right, within_itself}
 use Rattle.view_laws.proofs.Halves.{any_append, used_all_of}
@@ -205,14 +205,14 @@ some_value w (t ∷ ts) h =
       | inr k ↦ right_true (is_any (used w t ++ used w t)) (some_name w (map has_value ts)) (some_value w ts k)
     ]
 
--- a query without aggregates whose texts are so: its text names all
-pub rows_name : (texts : List Text) (q : Query) → query_aggregates q ≡ [] → (w : ℕ)
-    → (some_name w (conditions_from 0 texts) ≡ true) ⊎ ((v : ℕ) × (is_any (used_in_query v q) ≡ true) × Names (put_from 0 texts) v w) → some_name w (rows_text texts q).conditions ≡ true
-rows_name texts q plain w (inl condition) =
+-- a query without aggregates whose texts are so: its conditions name all
+conditions_name : (texts : List Text) (q : Query) → query_aggregates q ≡ [] → (w : ℕ)
+    → (some_name w (conditions_from 0 texts) ≡ true) ⊎ ((v : ℕ) × (is_any (used_in_query v q) ≡ true) × Names (put_from 0 texts) v w) → some_name w (rows_conditions texts q) ≡ true
+conditions_name texts q plain w (inl condition) =
     right_true (is_any (used_in_qual w (replaced_in_qual no_aggregate (put_from 0 texts) (qual_of q)))) (some_name w (map has_value (put_terms texts q) ++ conditions_from 0 texts))
     (any_behind (λ q. is_any (used_in_qual w q)) (map has_value (put_terms texts q)) (conditions_from 0 texts)
     ∙ right_true (some_name w (map has_value (put_terms texts q))) (some_name w (conditions_from 0 texts)) condition)
-rows_name texts q plain w (inr (v, is_used, names)) =
+conditions_name texts q plain w (inr (v, is_used, names)) =
     elim (either_true (is_any (flat_map (λ t. used v t.term) (targets_of q))) (is_any (used_in_qual v (qual_of q)))
     (sym (any_append (flat_map (λ t. used v t.term) (targets_of q)) (used_in_qual v (qual_of q))) ∙ is_used)) [
       | inl k ↦
@@ -240,3 +240,14 @@ rows_name texts q plain w (inr (v, is_used, names)) =
               right_true (is_any (used w (replaced no_aggregate (put_from 0 texts) t.term))) (is_any (flat_map (used w) (map (λ t. replaced no_aggregate (put_from 0 texts) t.term) ts)))
               (terms ts (none_right (term_aggregates t.term) (in_targets ts) none) k)
         ]
+
+-- conditions that are settled name what they named, where there is a variable
+settled_names : (vars : List RelKey) (conditions : List QQual) (w : ℕ) → nat_lt w (length vars) ≡ true → some_name w conditions ≡ true → some_name w (settled vars conditions) ≡ true
+unfolding settled
+settled_names [] conditions w h k = absurd (grind (arith, nat_tests, h))
+settled_names (key ∷ vars) conditions w h k = k
+
+-- and so its text does
+pub rows_name : (texts : List Text) (q : Query) → query_aggregates q ≡ [] → (w : ℕ) → nat_lt w (length (texts_vars texts)) ≡ true
+    → (some_name w (conditions_from 0 texts) ≡ true) ⊎ ((v : ℕ) × (is_any (used_in_query v q) ≡ true) × Names (put_from 0 texts) v w) → some_name w (rows_text texts q).conditions ≡ true
+rows_name texts q plain w inside placed = settled_names (texts_vars texts) (rows_conditions texts q) w inside (conditions_name texts q plain w placed)

@@ -1,12 +1,15 @@
 -- The text of a query's rows tells of them.
-use Rattle.std.proofs.Common.{◌≡◌, refl, sym, ap, ◌∙◌, ℕ, zero, suc, true, ◌&&◌, List, [], ◌∷◌, map, Option, Some, None}
+use Rattle.std.proofs.Common.{◌≡◌, refl, sym, ap, ◌∙◌, ℕ, zero, suc, true, ◌&&◌, List, [], ◌∷◌, map, Option, Some, None, Bool, false}
 use Rattle.std.proofs.lemmas.Cmp.{tied_itself}
+use Rattle.std.specs.List.{list_all}
 use Rattle.std.specs.Prelude.{slice_get, is_some}
 use Rattle.std.specs.Ordering.{is_eq}
 use Rattle.calculus.specs.declared.operator.CmpOp.TheVariants.{Eq}
 use Rattle.calculus.specs.declared.value.Value.{Value}
 use Rattle.calculus.specs.declared.query.QTerm.{QTerm}
-use Rattle.calculus.specs.declared.query.QQual.{QQual}
+use Rattle.calculus.specs.declared.query.QQual.{QQual, True}
+use Rattle.calculus.specs.declared.query.RelKey.{RelKey}
+use Rattle.calculus.specs.Tree.{negated}
 use Rattle.calculus.specs.declared.query.Target.{Target}
 use Rattle.calculus.specs.declared.query.Query.{Query}
 use Rattle.calculus.specs.Orders.{value_total}
@@ -22,7 +25,7 @@ use Rattle.calculus_laws.proofs.PutIn.{before-is}
 use Rattle.view_text.specs.declared.text.Text.{Text}
 use Rattle.view_text.specs.Replaced.{Putting, replaced, replaced_in_qual, no_aggregate}
 use Rattle.view_text.specs.Texts.{term_at, texts_vars, put_from, conditions_from}
-use Rattle.view_text.specs.TextOf.{has_value, put_terms, rows_text}
+use Rattle.view_text.specs.TextOf.{has_value, put_terms, rows_conditions, settled, rows_text}
 use Rattle.view_laws.proofs.Values.{without_value_has_none, StandsFor, makes_none, val_replaced, holds_replaced, within_itself}
 use Rattle.view_laws.proofs.Scopes.{both_true}
 use Rattle.view_laws.proofs.Within.{all_scoped, rows_text_scoped}
@@ -84,6 +87,17 @@ module _ (put : Putting) (e f : Env) (stands : StandsFor put f e) where
   holds_put : (q : QQual) → holds no_aggs (replaced_in_qual no_aggregate put q) f ≡ holds no_aggs q e
   holds_put q = holds_replaced no_aggs no_aggs no_aggregate put e f (qual_aggregates q) stands (makes_none no_aggs f e (qual_aggregates q)) q (within_itself (qual_aggregates q))
 
+-- conditions that are settled hold where they do
+settled_hold : (db : Db) (vars : List RelKey) (conditions : List QQual) (f : Env) → Chosen (kept_lists db vars) f → all_hold no_aggs (settled vars conditions) f ≡ all_hold no_aggs conditions f
+unfolding settled holds
+settled_hold db [] conditions [] chosen = by (list_all (λ q. holds no_aggs q []) conditions) refl
+  where
+    by : (b : Bool) → list_all (λ q. holds no_aggs q []) conditions ≡ b → all_hold no_aggs (elim b [ true ↦ [] | false ↦ negated True ∷ [] ]) [] ≡ list_all (λ q. holds no_aggs q []) conditions
+    by true e = sym e
+    by false e = sym e
+settled_hold db [] conditions (row ∷ f) chosen = absurd chosen
+settled_hold db (key ∷ vars) conditions f chosen = refl
+
 module _ (db : Db) (q : Query) (rowss : List (List Row)) (texts : List Text) (tell : TellEach db rowss texts) where
   -- the qualification, and what is needed beside it
   abbrev qual_put : QQual
@@ -92,13 +106,14 @@ module _ (db : Db) (q : Query) (rowss : List (List Row)) (texts : List Text) (te
   abbrev needed : List QQual
   needed = map has_value (put_terms texts q)
 
-  conditions_are : (f : Env) → all_hold no_aggs (rows_text texts q).conditions f ≡ (holds no_aggs qual_put f && (all_hold no_aggs needed f && all_hold no_aggs (conditions_from 0 texts) f))
-  conditions_are f = ap (λ b. holds no_aggs qual_put f && b) (all_append (λ q. holds no_aggs q f) needed (conditions_from 0 texts))
+  conditions_are : (f : Env) → Chosen (kept_lists db (texts_vars texts)) f
+      → all_hold no_aggs (rows_text texts q).conditions f ≡ (holds no_aggs qual_put f && (all_hold no_aggs needed f && all_hold no_aggs (conditions_from 0 texts) f))
+  conditions_are f chosen = settled_hold db (texts_vars texts) (rows_conditions texts q) f chosen ∙ ap (λ b. holds no_aggs qual_put f && b) (all_append (λ q. holds no_aggs q f) needed (conditions_from 0 texts))
 
   to : (f : Env) → Chosen (kept_lists db (texts_vars texts)) f → all_hold no_aggs (rows_text texts q).conditions f ≡ true
       → (row : Row) × In row (rows_given no_aggs q (choices rowss)) × IsRow (rows_text texts q) row f
   to f chosen h =
-      let outer = both_true (holds no_aggs qual_put f) (all_hold no_aggs needed f && all_hold no_aggs (conditions_from 0 texts) f) (sym (conditions_are f) ∙ h) in
+      let outer = both_true (holds no_aggs qual_put f) (all_hold no_aggs needed f && all_hold no_aggs (conditions_from 0 texts) f) (sym (conditions_are f chosen) ∙ h) in
       let inner = both_true (all_hold no_aggs needed f) (all_hold no_aggs (conditions_from 0 texts) f) outer.1 in
       let (e, there, says) = to_rows db no_aggs rowss texts 0 [] f refl tell chosen inner.1 in
       let (row, values) = there_is (target_values no_aggs (targets_of q) e) (sym (values_needed (put_from 0 texts) e f says.attributes (targets_of q)) ∙ inner.0) in (
@@ -116,7 +131,7 @@ module _ (db : Db) (q : Query) (rowss : List (List Row)) (texts : List Text) (te
       let (f, chosen, says) = from_rows db no_aggs rowss texts 0 [] e refl tell (choices-Chosen rowss e there) in (
         f,
         chosen,
-        conditions_are f
+        conditions_are f chosen
             ∙ both_are (holds no_aggs qual_put f) (all_hold no_aggs needed f && all_hold no_aggs (conditions_from 0 texts) f)
             (holds_put (put_from 0 texts) e f says.attributes (qual_of q) ∙ holding)
             (both_are (all_hold no_aggs needed f) (all_hold no_aggs (conditions_from 0 texts) f)

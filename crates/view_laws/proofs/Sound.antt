@@ -109,7 +109,7 @@ module _ (db : Db) (text_at : ℕ → RelKey → Text) (sound : (v : ℕ) (key :
 view_sound : (db : Db) → IsDatabase db → (g : TextSource) → AreSound db g → (key : RelKey) (view : View) → range_at db key ≡ Some (Viewed view) → IsSound db (view_text g view)
 view_sound db d g sound key view h = record {
   scoped = rows_text_scoped (query_texts g view.query) view.query (each_scoped_at db text_at at_sound 0 (vars_of view.query));
-  names = λ v inside. inl (rows_name (query_texts g view.query) view.query (plain_view db d key view h) v
+  names = λ v inside. inl (rows_name (query_texts g view.query) view.query (plain_view db d key view h) v inside
       (elim (placed_first text_at (λ v j. is_any (used_in_query v view.query) ≡ true) (λ v key. (at_sound v key).scoped) (λ v key. (at_sound v key).names)
       (λ v key. used_meant g key (used_in_query v view.query)) (vars_of view.query) v inside) [
         | inl condition ↦ inl condition

@@ -1,11 +1,13 @@
 -- What is put in names only the variables of the texts.
-use Rattle.std.proofs.Common.{◌≡◌, refl, ◌∙◌, ℕ, zero, suc, ◌+◌, ◌≤◌, Bool, true, ◌&&◌, List, [], ◌∷◌, ◌++◌, map, length, arith}
+use Rattle.std.proofs.Common.{◌≡◌, refl, ◌∙◌, ℕ, zero, suc, ◌+◌, ◌≤◌, Bool, true, false, ◌&&◌, List, [], ◌∷◌, ◌++◌, map, length, arith}
 use Rattle.std.proofs.lemmas.Bool.Decides.{nat_tests}
 use Rattle.std.specs.Prelude.{nat_lt}
 use Rattle.std.specs.List.{list_all}
 use Rattle.calculus.specs.declared.query.QTerm.{QTerm, Int, Chars, Attr, Agg'}
 use Rattle.calculus.specs.declared.query.QQual.{QQual, True, Cmp, Like}
+use Rattle.calculus.specs.declared.query.RelKey.{RelKey}
 use Rattle.calculus.specs.declared.query.Target.{Target}
+use Rattle.calculus.specs.Term.{holds, no_aggs}
 use Rattle.calculus.specs.declared.query.Query.{Query}
 use Rattle.calculus.specs.Tree.{neg, abs, operation, concat, both, either, negated}
 use Rattle.calculus.specs.QueryParts.{targets_of, qual_of}
@@ -13,7 +15,7 @@ use Rattle.view_text.specs.declared.text.Text.{Text}
 use Rattle.view_text.specs.Replaced.{Putting, without_value, moved, moved_qual, replaced, replaced_in_qual, no_aggregate}
 use Rattle.view_text.specs.Scoped.{is_within, is_qual_within, are_within, is_scoped}
 use Rattle.view_text.specs.Texts.{attr_term, texts_vars, put_from, conditions_from}
-use Rattle.view_text.specs.TextOf.{has_value, put_terms, rows_text}
+use Rattle.view_text.specs.TextOf.{has_value, put_terms, rows_conditions, settled, rows_text}
 use Rattle.view_laws.proofs.Scopes.{both_true}
 use Rattle.view_laws.proofs.Joint.{both_are, all_append, attr_within}
 
@@ -114,16 +116,27 @@ conditions_are_within (text ∷ texts) n total room scoped =
 
 -- ---- the text of a query's rows
 
+-- conditions that are settled name no more than they did
+settled_within : (n : ℕ) (vars : List RelKey) (conditions : List QQual) → list_all (is_qual_within n) conditions ≡ true → list_all (is_qual_within n) (settled vars conditions) ≡ true
+unfolding settled is_qual_within
+settled_within n [] conditions h = by (list_all (λ q. holds no_aggs q []) conditions)
+  where
+    by : (b : Bool) → list_all (is_qual_within n) (elim b [ true ↦ [] | false ↦ negated True ∷ [] ]) ≡ true
+    by true = refl
+    by false = refl
+settled_within n (key ∷ vars) conditions h = h
+
 pub rows_text_scoped : (texts : List Text) (q : Query) → all_scoped texts ≡ true → is_scoped (rows_text texts q) ≡ true
 unfolding is_qual_within
 rows_text_scoped texts q scoped =
-    both_are (list_all (is_within total) (put_terms texts q)) (is_qual_within total (replaced_in_qual no_aggregate (put_from 0 texts) (qual_of q)) && list_all (is_qual_within total) rest)
+    both_are (list_all (is_within total) (put_terms texts q)) (list_all (is_qual_within total) (settled (texts_vars texts) (rows_conditions texts q)))
     (terms (targets_of q))
+    (settled_within total (texts_vars texts) (rows_conditions texts q)
     (both_are (is_qual_within total (replaced_in_qual no_aggregate (put_from 0 texts) (qual_of q))) (list_all (is_qual_within total) rest)
     (qual_replaced_within total (put_from 0 texts) within (qual_of q))
     (all_append (is_qual_within total) (map has_value (put_terms texts q)) (conditions_from 0 texts)
     ∙ both_are (list_all (is_qual_within total) (map has_value (put_terms texts q))) (list_all (is_qual_within total) (conditions_from 0 texts))
-    (values (targets_of q)) (conditions_are_within texts 0 total room scoped)))
+    (values (targets_of q)) (conditions_are_within texts 0 total room scoped))))
   where
     total : ℕ
     total = length (texts_vars texts)

@@ -6,6 +6,8 @@ use Rattle.calculus.specs.declared.query.QTerm.{QTerm}
 use Rattle.calculus.specs.declared.query.QQual.{QQual, True, Cmp}
 use Rattle.calculus.specs.declared.query.Query.{Query}
 use Rattle.calculus.specs.declared.schema.Permit.{Permit}
+use Rattle.std.specs.List.{list_all}
+use Rattle.calculus.specs.Term.{holds, no_aggs}
 use Rattle.calculus.specs.Tree.{negated}
 use Rattle.calculus.specs.Limits.{greatest_level}
 use Rattle.calculus.specs.Who.{Who, Asker, Free, Asks}
@@ -51,12 +53,21 @@ has_value t = Cmp Eq t t
 abbrev pub put_terms : List Text → Query → List QTerm
 put_terms texts q = map (λ t. replaced no_aggregate (put_from 0 texts) t.term) (targets_of q)
 
--- the text of a query's rows: its qualification holds, each target has a value, and the conditions of its variables hold
+-- what must hold of a query's assignments: its qualification, that each target has a value, and the conditions of its variables
+abbrev pub rows_conditions : List Text → Query → List QQual
+rows_conditions texts q = replaced_in_qual no_aggregate (put_from 0 texts) (qual_of q) ∷ (map has_value (put_terms texts q) ++ conditions_from 0 texts)
+
+-- conditions about these variables; where there is none, whether they hold is settled, so that what stands on many views without variables stays small
+unfoldable pub settled : List RelKey → List QQual → List QQual
+settled [] conditions = elim (list_all (λ q. holds no_aggs q []) conditions) [ true ↦ [] | false ↦ negated True ∷ [] ]
+settled (key ∷ vars) conditions = conditions
+
+-- the text of a query's rows
 abbrev pub rows_text : List Text → Query → Text
 rows_text texts q = record {
   vars = texts_vars texts;
   terms = Some (put_terms texts q);
-  conditions = replaced_in_qual no_aggregate (put_from 0 texts) (qual_of q) ∷ (map has_value (put_terms texts q) ++ conditions_from 0 texts);
+  conditions = settled (texts_vars texts) (rows_conditions texts q);
 }
 
 -- the text of a view, where these are the texts of what it names
