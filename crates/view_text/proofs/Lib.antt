@@ -1,0 +1,3 @@
+pub mod ReplacedForms
+pub mod Within
+pub mod Moving
