@@ -1,3 +1,6 @@
 pub mod ReplacedForms
 pub mod Within
 pub mod Moving
+pub mod PutText
+pub mod HalvesForms
+pub mod Scope

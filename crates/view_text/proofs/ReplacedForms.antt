@@ -71,7 +71,7 @@ pub replaced_not : (made : Making) (put : Putting) (q : QQual) → replaced_in_q
 unfolding shape-the_row-QQual-1 hidden-the_row-QQual-1 hidden replaced_in_qual
 replaced_not made put q = refl
 
--- the quotient of one and nothing, as a tree holds it
+-- the quotient of one and nothing, as the program makes it
 pub quotient_of_nothing : Arith Div (Int (pos 1)) (Int (pos 0)) ≡ without_value
 unfolding shape-the_row-QTerm-2 hidden-the_row-QTerm-2 hidden
 quotient_of_nothing = refl

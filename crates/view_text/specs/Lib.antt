@@ -6,3 +6,4 @@ pub mod PutIn
 pub mod Scoped
 pub mod Further
 pub mod Fit
+pub mod Join
