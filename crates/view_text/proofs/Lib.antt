@@ -4,3 +4,4 @@ pub mod Moving
 pub mod PutText
 pub mod HalvesForms
 pub mod Scope
+pub mod JoinedWithin
