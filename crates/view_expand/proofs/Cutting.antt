@@ -1,5 +1,5 @@
 -- The condition with which one may do something, and whether it is permitted.
-use Rattle.std.proofs.Common.{◌≡◌, refl, sym, ap, ◌∙◌, ℕ, Bool, true, false, ◌||◌, List, [], ◌∷◌, map, filter, length, Option, Some, None, arith}
+use Rattle.std.proofs.Common.{◌≡◌, refl, sym, ap, ◌∙◌, ℕ, Bool, true, false, cond, ◌||◌, List, [], ◌∷◌, map, filter, length, Option, Some, None, arith}
 use Rattle.std.specs.List.{list_all, list_any}
 use Rattle.calculus.specs.declared.query.RelKey.{RelKey}
 use Rattle.calculus.specs.declared.query.QQual.{QQual}
@@ -31,21 +31,27 @@ one_is (q ∷ qs) c h = cc h
 
 -- ---- what the conditions of permits that cover say
 
+covered_step : (b x : Bool) (p : Permit) (fs : List Permit) (c : QQual) → (Some c ≡ one_of (map permit_condition fs) → x ≡ true)
+    → Some c ≡ one_of (map permit_condition (cond b (p ∷ fs) fs)) → (b || x) ≡ true
+covered_step true x p fs c below h = refl
+covered_step false x p fs c below h = below h
+
 covered : (ps : List Permit) (asker : Asker) (right : Right) (attrs : List ℕ) (c : QQual) → Some c ≡ one_of (covering_conditions ps asker right attrs)
     → list_any (λ p. covers p asker right attrs) ps ≡ true
 covered [] asker right attrs c h = cc h
-covered (p ∷ ps) asker right attrs c h = go (covers p asker right attrs) refl
-  where
-    go : (b : Bool) → covers p asker right attrs ≡ b → list_any (λ p. covers p asker right attrs) (p ∷ ps) ≡ true
-    go true e = ap (λ b. b || list_any (λ p. covers p asker right attrs) ps) e
-    go false e = ap (λ b. b || list_any (λ p. covers p asker right attrs) ps) e ∙ covered ps asker right attrs c (h ∙ ap one_of (skipped e))
-      where
-        skipped : covers p asker right attrs ≡ false → covering_conditions (p ∷ ps) asker right attrs ≡ covering_conditions ps asker right attrs
-        skipped e = ?
+covered (p ∷ ps) asker right attrs c h =
+    covered_step (covers p asker right attrs) (list_any (λ p. covers p asker right attrs) ps) p (filter (λ p. covers p asker right attrs) ps) c (covered ps asker right attrs c) h
+
+none_step : (b x : Bool) (p : Permit) (fs : List Permit) → (None ≡ one_of (map permit_condition fs) → x ≡ false)
+    → None ≡ one_of (map permit_condition (cond b (p ∷ fs) fs)) → (b || x) ≡ false
+none_step true x p fs below h = cc h
+none_step false x p fs below h = below h
 
 none_covered : (ps : List Permit) (asker : Asker) (right : Right) (attrs : List ℕ) → None ≡ one_of (covering_conditions ps asker right attrs)
     → list_any (λ p. covers p asker right attrs) ps ≡ false
-none_covered ps asker right attrs h = ?
+none_covered [] asker right attrs h = refl
+none_covered (p ∷ ps) asker right attrs h =
+    none_step (covers p asker right attrs) (list_any (λ p. covers p asker right attrs) ps) p (filter (λ p. covers p asker right attrs) ps) (none_covered ps asker right attrs) h
 
 all_conditions_within : (ps : List Permit) → list_all (is_qual_within 1) (map permit_condition ps) ≡ true
 all_conditions_within [] = refl
@@ -60,11 +66,15 @@ one_within ps asker right attrs c h =
 -- ---- the cut
 
 pub cut_without : (db : Db) (user : List ℕ) (right : Right) (attrs : List ℕ) (key : RelKey) → needs_none db (asker_of user) right key ≡ true → [] ≡ cut db (asks user) right attrs key
-cut_without db user right attrs key h = ?
+cut_without db user right attrs key h =
+    sym (ap (λ b. elim b as (λ x. List QQual) [ true ↦ [] | false ↦ any_of (covering_conditions (permits_on db key) (asker_of user) right attrs) ∷ [] ]) h)
 
 pub cut_with : (db : Db) (user : List ℕ) (right : Right) (attrs : List ℕ) (key : RelKey) (ps : List Permit) (c : QQual) → needs_none db (asker_of user) right key ≡ false
     → ps ≡ permits_on db key → Some c ≡ one_of (covering_conditions ps (asker_of user) right attrs) → c ∷ [] ≡ cut db (asks user) right attrs key
-cut_with db user right attrs key ps c h e o = ?
+cut_with db user right attrs key ps c h e o =
+    ap (λ q. q ∷ []) (one_is (covering_conditions ps (asker_of user) right attrs) c o)
+    ∙ ap (λ ps. any_of (covering_conditions ps (asker_of user) right attrs) ∷ []) e
+    ∙ sym (ap (λ b. elim b as (λ x. List QQual) [ true ↦ [] | false ↦ any_of (covering_conditions (permits_on db key) (asker_of user) right attrs) ∷ [] ]) h)
 
 pub permitted_without : (db : Db) (user : List ℕ) (right : Right) (attrs : List ℕ) (key : RelKey) → needs_none db (asker_of user) right key ≡ true
     → permitted db (asks user) right attrs key ≡ true

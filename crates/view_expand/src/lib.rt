@@ -2,12 +2,12 @@
 #![tactic(auto)]
 
 mod covering;
-mod cut;
 mod fault;
 mod needs;
 mod right;
+mod row_cut;
 
 pub use calculus::OutOfMemory;
-pub use cut::cut;
 pub use fault::TextFault;
 pub use right::Right;
+pub use row_cut::cut;

@@ -84,6 +84,7 @@ fn cut_for<B: Base>(
 /// The condition on the rows of what has a key, with which one may do this with these attributes: that
 /// the qualification of a permit that covers it holds. `None` where no permit is needed, as nobody in
 /// particular asks. `NoPermit` exactly where one is needed and none covers it.
+#[tactic(auto, unfolding(calculus::specs::Rights::permitted))]
 pub fn cut<B: Base>(
     alloc: Global,
     base: &mut B,
@@ -92,12 +93,12 @@ pub fn cut<B: Base>(
     attrs: &[u8],
     key: &RelKey,
 ) -> Result<Option<QQual>, TextFault>
-    ensures told { (db : Db) → B.database base.old ≡ Some db → IfOk result (λ o. option_to_list o ≡ cut db (who_of (option_map (λ n. n.now) who)) (right_of right) attrs.now key.now) }
-    ensures permitted { (db : Db) → B.database base.old ≡ Some db → OnOk result (permitted db (who_of (option_map (λ n. n.now) who)) (right_of right) attrs.now key.now ≡ true) }
+    ensures told { (db : Db) → B.database base.old ≡ Some db → IfOk result (λ o. option_to_list o ≡ cut db (who_of (option_map (λ n. n.now) who.entry)) (right_of right) attrs.now key.now) }
+    ensures permitted { (db : Db) → B.database base.old ≡ Some db → OnOk result (permitted db (who_of (option_map (λ n. n.now) who.entry)) (right_of right) attrs.now key.now ≡ true) }
     ensures within { IfOk result (λ o. list_all (is_qual_within 1) (option_to_list o) ≡ true) }
     ensures kept { B.database base.new ≡ B.database base.old }
     ensures same { B.left base.new ≡ B.left base.old }
-    ensures cause { HasCause (λ db. permitted db (who_of (option_map (λ n. n.now) who)) (right_of right) attrs.now key.now ≡ false) (B.database base.old) (B.faults base.old) (B.faults base.new) result }
+    ensures cause { HasCause (λ db. permitted db (who_of (option_map (λ n. n.now) who.entry)) (right_of right) attrs.now key.now ≡ false) (B.database base.old) (B.faults base.old) (B.faults base.new) result }
 {
     match who {
         Some(user) => cut_for(alloc, base, user, right, attrs, key),
