@@ -1,1 +1,4 @@
 pub mod Cutting
+pub mod Few
+pub mod Viewing
+pub mod Listing

@@ -11,6 +11,8 @@ use calculus::OutOfMemory;
 pub enum TextFault {
     /// The one who asks has no permit for it.
     NoPermit,
+    /// More variables than places: no database in which it is asked has so many.
+    TooMany,
     /// A call of the database failed.
     Base(BaseFault),
     /// No memory was left.
