@@ -2,3 +2,4 @@ pub mod Cutting
 pub mod Few
 pub mod Viewing
 pub mod Listing
+pub mod Causing

@@ -1,5 +1,5 @@
 -- What is said of the variables that a query lists, one variable more.
-use Rattle.std.proofs.Common.{◌≡◌, refl, sym, ap, ◌∙◌, ℕ, ◌+◌, ◌≤◌, Bool, true, false, cond, ◌&&◌, List, [], ◌∷◌, ◌++◌, filter, arith}
+use Rattle.std.proofs.Common.{◌≡◌, refl, sym, ap, ◌∙◌, ℕ, ◌+◌, ◌≤◌, Bool, true, false, cond, ◌&&◌, List, [], ◌∷◌, ◌++◌, filter, length, arith}
 use Rattle.std.specs.List.{enumerate_from, list_all}
 use Rattle.std.proofs.lemmas.List.{append_assoc, append-nil}
 use Rattle.calculus.specs.declared.query.RelKey.{RelKey}
@@ -84,3 +84,7 @@ pub all_scoped_more : (texts : List Text) (text : Text) → list_all is_scoped t
 all_scoped_more [] text h s = ap (λ b. b && true) s
 all_scoped_more (first ∷ texts) text h s =
     later_true (is_scoped first) (list_all is_scoped texts) (list_all is_scoped (texts ++ text ∷ [])) (λ k. all_scoped_more texts text k s) h
+
+pub any_where_some : (attrs : List ℕ) → ¬ (length attrs ≡ 0) → is_any attrs ≡ true
+any_where_some [] h = absurd (h refl)
+any_where_some (a ∷ attrs) h = refl

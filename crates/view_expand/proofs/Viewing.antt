@@ -1,9 +1,10 @@
 -- What is told of a key where a view stands there, and where none does.
 use Rattle.std.proofs.Common.{◌≡◌, refl, sym, ap, ◌∙◌, subst, ℕ, zero, suc, ◌+◌, ◌-◌, ◌<◌, ◌≤◌, Bool, true, false, cond, ◌&&◌, nat_le, List, [], ◌∷◌, length, Option, Some, None, option_map, find, arith}
+use denote.Hole.Carrier.{out}
 use Rattle.std.specs.List.{list_all}
 use Rattle.std.proofs.lemmas.Bool.{leb-true}
 use Rattle.calculus.specs.declared.query.RelKey.{RelKey}
-use Rattle.calculus.specs.declared.query.Query.{Query}
+use Rattle.calculus.specs.declared.query.Query.{Query, Query', out-Query}
 use Rattle.calculus.specs.Keys.{same_key}
 use Rattle.calculus.specs.Limits.{most_expanded_variables}
 use Rattle.calculus.specs.Who.{Who}
@@ -123,3 +124,9 @@ permitted_of_kept levels db who key attrs h = levelled levels
     levelled : (n : ℕ) → permitted db who Retrieve attrs key ≡ permitted_within n db who key attrs
     levelled zero = go (λ view. false) (relation_at db key) (view_at db key) (catalogue_at db key) h
     levelled (suc n) = go (λ view. vars_permitted (permitted_within n db who) view.query (used_vars view.query)) (relation_at db key) (view_at db key) (catalogue_at db key) h
+
+-- ---- as the program reads it
+
+pub vars_is : (q : Query) → (out-Query q).vars ≡ vars_of q
+unfolding out-Query out
+vars_is (Query' vars marks targets qual) = refl

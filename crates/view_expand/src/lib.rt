@@ -9,10 +9,8 @@ mod right;
 mod row_cut;
 mod texts;
 
-
 pub use calculus::OutOfMemory;
 pub use fault::TextFault;
 pub use right::Right;
 pub use row_cut::cut;
 pub use texts::{text_within, view_text};
-
