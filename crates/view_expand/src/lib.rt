@@ -2,6 +2,7 @@
 #![tactic(auto)]
 
 mod covering;
+mod expanded;
 mod fault;
 mod needs;
 mod plain;
@@ -10,6 +11,7 @@ mod row_cut;
 mod texts;
 
 pub use calculus::OutOfMemory;
+pub use expanded::{put_plain, query_texts};
 pub use fault::TextFault;
 pub use right::Right;
 pub use row_cut::cut;

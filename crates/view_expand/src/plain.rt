@@ -7,6 +7,8 @@ ghost use Rattle.calculus.specs.Database.{Db};
 ghost use Rattle.calculus.specs.Rights.{Retrieve, permitted};
 ghost use Rattle.view_expand.specs.Asking.{who_of};
 ghost use Rattle.view_expand.specs.Causes.{HasCause, IsCrowded};
+ghost use Rattle.view_text.specs.PutIn.{put_query};
+ghost use Rattle.view_text.specs.Replaced.{no_aggregate};
 ghost use Rattle.view_text.specs.Scoped.{is_qual_within, is_scoped};
 ghost use Rattle.view_text.specs.TextOf.{cut, kept_text, rows_text};
 ghost use Rattle.view_text.specs.Texts.{no_text, texts_vars};
@@ -15,7 +17,7 @@ use crate::{Right, TextFault, cut};
 use am_traits::Base;
 use calculus::{List, Name, OutOfMemory, QQual, Query, RelKey, TryCopy};
 use std::alloc::Global;
-use view_text::{Text, rows_text};
+use view_text::{Text, put_rows, rows_text};
 
 /// The variables that a query may number.
 const PLACES: usize = 256;
@@ -127,6 +129,21 @@ pub(crate) fn rows_of(alloc: Global, texts: &[Text], query: &Query) -> Result<Te
     }
     match rows_text(alloc, texts, query) {
         Ok(text) => Ok(text),
+        Err(_) => Err(TextFault::OutOfMemory),
+    }
+}
+
+/// The query over the variables of these texts, which are those of its own.
+pub(crate) fn query_over(alloc: Global, texts: &[Text], query: &Query) -> Result<Query, TextFault>
+    requires { list_all is_scoped texts.now ≡ true }
+    ensures query { IfOk result (λ made. made ≡ put_query no_aggregate texts.now query.now) }
+    ensures cause { IfErr result (IsCrowded (length (texts_vars texts.now))) }
+{
+    if !are_few(texts, PLACES) {
+        return Err(TextFault::TooMany);
+    }
+    match put_rows(alloc, texts, query) {
+        Ok(made) => Ok(made),
         Err(_) => Err(TextFault::OutOfMemory),
     }
 }

@@ -25,7 +25,7 @@ use std::alloc::Global;
 use view_text::Text;
 
 /// The variables that a query may list.
-const LISTED: usize = 256;
+pub(crate) const LISTED: usize = 256;
 
 /// Puts a text behind those that are there.
 #[tactic(auto, using(crate::proofs::Listing::all_scoped_more))]
@@ -106,7 +106,7 @@ pub fn view_text<B: Base>(
 
 /// Puts the texts of a query's variables, which range over these, behind those that are there.
 #[cycle(texts)]
-fn put_texts<B: Base>(
+pub(crate) fn put_texts<B: Base>(
     alloc: Global,
     base: &mut B,
     who: Option<&Name>,
