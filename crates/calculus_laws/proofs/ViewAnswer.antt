@@ -156,7 +156,7 @@ no_relation db d key view v relation r =
     (In-map (λ i. i.key) infos view.info (In-append_left (map (λ v. v.info) db.views) (map (λ x. x.info) db.indexes) view.info (In-map (λ v. v.info) db.views view of_view.0)))
     (ap (same_key relation.info.key) (same_key-exact view.info.key key of_view.1) ∙ of_relation.1)
 
-ranged : (db : Db) → IsDatabase db → (key : RelKey) (view : View) → view_at db key ≡ Some view → range_at db key ≡ Some (Viewed view)
+pub ranged : (db : Db) → IsDatabase db → (key : RelKey) (view : View) → view_at db key ≡ Some view → range_at db key ≡ Some (Viewed view)
 unfolding range_at
 ranged db d key view v = go (relation_at db key) (no_relation db d key view v)
   where

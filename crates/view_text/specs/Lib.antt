@@ -4,3 +4,6 @@ pub mod Texts
 pub mod TextOf
 pub mod PutIn
 pub mod Scoped
+pub mod Further
+pub mod Fit
+pub mod Join

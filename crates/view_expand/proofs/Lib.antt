@@ -1,0 +1,5 @@
+pub mod Cutting
+pub mod Few
+pub mod Viewing
+pub mod Listing
+pub mod Causing

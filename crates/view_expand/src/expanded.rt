@@ -1,0 +1,75 @@
+//! A query with the texts of its variables put in.
+
+ghost use Rattle.std.specs.Prelude.{◌≡◌, ◌≤◌, ◌++◌, true, false, Some, length, IfOk, OnOk, option_map};
+ghost use Rattle.std.specs.List.{list_all};
+ghost use Rattle.calculus.specs.Database.{Db};
+ghost use Rattle.calculus.specs.Permission.{permitted_within, vars_permitted};
+ghost use Rattle.calculus.specs.QueryParts.{vars_of};
+ghost use Rattle.calculus.specs.Sizes.{measure_within, query_measure};
+ghost use Rattle.calculus.specs.Used.{used_vars};
+ghost use Rattle.view_expand.specs.Asking.{who_of};
+ghost use Rattle.view_expand.specs.Causes.{HasCause};
+ghost use Rattle.view_text.specs.PutIn.{put_plain};
+ghost use Rattle.view_text.specs.Scoped.{is_scoped};
+ghost use Rattle.view_text.specs.TextOf.{text_within};
+ghost use Rattle.view_text.specs.Texts.{query_texts};
+
+use crate::TextFault;
+use crate::plain::query_over;
+use crate::texts::{LISTED, put_texts};
+use am_traits::Base;
+use calculus::{Name, Query};
+use std::alloc::Global;
+use view_text::Text;
+
+/// Puts the texts of a query's variables, which go through at most so many levels of views, behind
+/// those that are there. `NoPermit` exactly where a variable that is used may not be read.
+pub fn query_texts<B: Base>(
+    alloc: Global,
+    base: &mut B,
+    who: Option<&Name>,
+    query: &Query,
+    levels: u8,
+    texts: &mut Vec<Text>,
+) -> Result<(), TextFault>
+    requires listed { (db : Db) → B.database base.old ≡ Some db → length (vars_of query.now) ≤ 256 }
+    requires expanded { (db : Db) → B.database base.old ≡ Some db → (query_measure (measure_within levels db) query.now).variables ≤ 256 }
+    ensures told { (db : Db) → B.database base.old ≡ Some db → OnOk result (texts.new.items ≡ texts.old.items ++ query_texts (text_within levels db (who_of (option_map (λ n. n.now) who.entry))) query.now) }
+    ensures permitted { (db : Db) → B.database base.old ≡ Some db → OnOk result (vars_permitted (permitted_within levels db (who_of (option_map (λ n. n.now) who.entry))) query.now (used_vars query.now) ≡ true) }
+    ensures scoped { list_all is_scoped texts.old.items ≡ true → OnOk result (list_all is_scoped texts.new.items ≡ true) }
+    ensures kept { B.database base.new ≡ B.database base.old }
+    ensures same { B.left base.new ≡ B.left base.old }
+    ensures cause { HasCause (λ db. vars_permitted (permitted_within levels db (who_of (option_map (λ n. n.now) who.entry))) query.now (used_vars query.now) ≡ false) (B.database base.old) (B.faults base.old) (B.faults base.new) result }
+{
+    let keys = query.vars.items();
+    if keys.len() > LISTED {
+        return Err(TextFault::TooMany);
+    }
+    put_texts(alloc, base, who, query, keys, levels, texts)
+}
+
+/// The query with the texts of its variables put in, which go through at most so many levels of views:
+/// it is over base relations and catalogues alone, and the permits of the one who asks are conditions
+/// in its qualification. An aggregate becomes a term without value. `NoPermit` exactly where a variable
+/// that is used may not be read.
+pub fn put_plain<B: Base>(
+    alloc: Global,
+    base: &mut B,
+    who: Option<&Name>,
+    query: &Query,
+    levels: u8,
+) -> Result<Query, TextFault>
+    requires listed { (db : Db) → B.database base.old ≡ Some db → length (vars_of query.now) ≤ 256 }
+    requires expanded { (db : Db) → B.database base.old ≡ Some db → (query_measure (measure_within levels db) query.now).variables ≤ 256 }
+    ensures told { (db : Db) → B.database base.old ≡ Some db → IfOk result (λ made. made ≡ put_plain (text_within levels db (who_of (option_map (λ n. n.now) who.entry))) query.now) }
+    ensures permitted { (db : Db) → B.database base.old ≡ Some db → OnOk result (vars_permitted (permitted_within levels db (who_of (option_map (λ n. n.now) who.entry))) query.now (used_vars query.now) ≡ true) }
+    ensures kept { B.database base.new ≡ B.database base.old }
+    ensures same { B.left base.new ≡ B.left base.old }
+    ensures cause { HasCause (λ db. vars_permitted (permitted_within levels db (who_of (option_map (λ n. n.now) who.entry))) query.now (used_vars query.now) ≡ false) (B.database base.old) (B.faults base.old) (B.faults base.new) result }
+{
+    let mut texts = Vec::new(alloc);
+    match query_texts(alloc, base, who, query, levels, &mut texts) {
+        Ok(()) => query_over(alloc, &texts, query),
+        Err(error) => Err(error),
+    }
+}

@@ -1,0 +1,36 @@
+//! Why there is no text.
+
+ghost use Rattle.std.specs.Prelude.{◌≡◌};
+ghost use Rattle.view_expand.specs.declared.fault.TextFault.TheVariants.{Base as OfBase, OutOfMemory as NoMemory};
+
+use am_traits::BaseFault;
+use calculus::OutOfMemory;
+
+/// Why there is no text.
+#[derive(Clone, Copy, Debug, PartialEq, Eq)]
+pub enum TextFault {
+    /// The one who asks has no permit for it.
+    NoPermit,
+    /// More variables than places: no database in which it is asked has so many.
+    TooMany,
+    /// A call of the database failed.
+    Base(BaseFault),
+    /// No memory was left.
+    OutOfMemory,
+}
+
+impl From<BaseFault> for TextFault {
+    ghost from_gives = { λ error fault. fault ≡ OfBase error };
+
+    fn from(error: BaseFault) -> TextFault {
+        TextFault::Base(error)
+    }
+}
+
+impl From<OutOfMemory> for TextFault {
+    ghost from_gives = { λ _ fault. fault ≡ NoMemory };
+
+    fn from(_error: OutOfMemory) -> TextFault {
+        TextFault::OutOfMemory
+    }
+}

@@ -1,0 +1,18 @@
+//! The texts of what variables range over, found in a database.
+#![tactic(auto)]
+
+mod covering;
+mod expanded;
+mod fault;
+mod needs;
+mod plain;
+mod right;
+mod row_cut;
+mod texts;
+
+pub use calculus::OutOfMemory;
+pub use expanded::{put_plain, query_texts};
+pub use fault::TextFault;
+pub use right::Right;
+pub use row_cut::cut;
+pub use texts::{text_within, view_text};

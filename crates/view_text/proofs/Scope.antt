@@ -1,0 +1,128 @@
+-- Texts that name only their own variables, and what is made of them.
+use Rattle.std.proofs.Common.{◌≡◌, refl, sym, ap, ◌∙◌, ℕ, zero, suc, ◌+◌, ◌<◌, ◌≤◌, Bool, true, ◌&&◌, List, [], ◌∷◌, ◌++◌, map, length, Option, Some, None, length-append, arith}
+use Rattle.std.specs.List.{list_all}
+use Rattle.std.proofs.lemmas.Bool.{ltb-true, lt-ltb}
+use Rattle.calculus.specs.declared.query.RelKey.{RelKey}
+use Rattle.calculus.specs.declared.query.QTerm.{QTerm, Attr}
+use Rattle.calculus.specs.declared.query.QQual.{QQual}
+use Rattle.calculus.specs.declared.query.Query.{Query}
+use Rattle.calculus.specs.declared.query.Target.{Target}
+use Rattle.calculus.specs.QueryParts.{targets_of, qual_of}
+use Rattle.view_text.specs.declared.text.Text.{Text}
+use Rattle.view_text.specs.Replaced.{Putting, replaced, replaced_in_qual, no_aggregate, further, without_value, moved, moved_qual, of_only}
+use Rattle.view_text.specs.Scoped.{is_within, is_qual_within, are_within, is_scoped}
+use Rattle.view_text.specs.Texts.{term_at, own_or, attr_term, texts_vars, put_from, conditions_from}
+use Rattle.view_text.specs.TextOf.{kept_text, has_value, put_terms, rows_text}
+use Rattle.view_text.proofs.Within.{PutsWithin, FirstWithin, left_true, right_true, both_true, within_more, replaced_within, replaced_qual_within, first_within, first_qual_within}
+
+-- ---- lists
+
+pub all_append : (k : ℕ) (ps qs : List QQual) → list_all (is_qual_within k) ps ≡ true → list_all (is_qual_within k) qs ≡ true → list_all (is_qual_within k) (ps ++ qs) ≡ true
+all_append k [] qs h g = g
+all_append k (p ∷ ps) qs h g =
+    both_true (is_qual_within k p) (list_all (is_qual_within k) (ps ++ qs)) (left_true (is_qual_within k p) (list_all (is_qual_within k) ps) h)
+    (all_append k ps qs (right_true (is_qual_within k p) (list_all (is_qual_within k) ps) h) g)
+
+-- ---- what moves
+
+moves_within : (n k m : ℕ) → n + k ≤ m → FirstWithin k m (further n)
+unfolding is_within
+moves_within n k m h var attr l = lt-ltb (n + var) m (omega arith)
+
+pub moved_within : (n k m : ℕ) → n + k ≤ m → (t : QTerm) → is_within k t ≡ true → is_within m (moved n t) ≡ true
+moved_within n k m h t w = first_within k m (further n) (moves_within n k m h) t w
+
+all_moved : (n k m : ℕ) → n + k ≤ m → (qs : List QQual) → list_all (is_qual_within k) qs ≡ true → list_all (is_qual_within m) (map (moved_qual n) qs) ≡ true
+all_moved n k m h [] w = refl
+all_moved n k m h (q ∷ qs) w =
+    both_true (is_qual_within m (moved_qual n q)) (list_all (is_qual_within m) (map (moved_qual n) qs))
+    (first_qual_within k m (further n) (moves_within n k m h) q (left_true (is_qual_within k q) (list_all (is_qual_within k) qs) w))
+    (all_moved n k m h qs (right_true (is_qual_within k q) (list_all (is_qual_within k) qs) w))
+
+-- ---- the terms of texts
+
+without_within : (n : ℕ) → is_within n without_value ≡ true
+unfolding is_within
+without_within n = refl
+
+term_at_within : (k : ℕ) (terms : List QTerm) (place : ℕ) → list_all (is_within k) terms ≡ true → is_within k (term_at terms place) ≡ true
+term_at_within k [] place h = without_within k
+term_at_within k (t ∷ ts) zero h = left_true (is_within k t) (list_all (is_within k) ts) h
+term_at_within k (t ∷ ts) (suc place) h = term_at_within k ts place (right_true (is_within k t) (list_all (is_within k) ts) h)
+
+own_within : (k : ℕ) (o : Option (List QTerm)) (attr : ℕ) → are_within k o ≡ true → is_within k (own_or o attr) ≡ true
+unfolding is_within
+own_within k None attr h = h
+own_within k (Some terms) attr h = term_at_within k terms attr h
+
+attr_within : (text : Text) (attr : ℕ) → is_scoped text ≡ true → is_within (length text.vars) (attr_term text attr) ≡ true
+attr_within text attr h =
+    own_within (length text.vars) text.terms attr (left_true (are_within (length text.vars) text.terms) (list_all (is_qual_within (length text.vars)) text.conditions) h)
+
+vars_before : (text : Text) (texts : List Text) → length (texts_vars (text ∷ texts)) ≡ length text.vars + length (texts_vars texts)
+vars_before text texts = length-append text.vars (texts_vars texts)
+
+pub put_within : (n m : ℕ) (texts : List Text) → list_all is_scoped texts ≡ true → n + length (texts_vars texts) ≤ m → PutsWithin m (put_from n texts)
+put_within n m [] s h var attr = without_within m
+put_within n m (text ∷ texts) s h zero attr =
+    let e = vars_before text texts in
+    moved_within n (length text.vars) m (omega arith) (attr_term text attr) (attr_within text attr (left_true (is_scoped text) (list_all is_scoped texts) s))
+put_within n m (text ∷ texts) s h (suc var) attr =
+    let e = vars_before text texts in
+    put_within (n + length text.vars) m texts (right_true (is_scoped text) (list_all is_scoped texts) s) (omega arith) var attr
+
+pub conditions_within : (n m : ℕ) (texts : List Text) → list_all is_scoped texts ≡ true → n + length (texts_vars texts) ≤ m → list_all (is_qual_within m) (conditions_from n texts) ≡ true
+conditions_within n m [] s h = refl
+conditions_within n m (text ∷ texts) s h =
+    let e = vars_before text texts in
+    all_append m (map (moved_qual n) text.conditions) (conditions_from (n + length text.vars) texts)
+    (all_moved n (length text.vars) m (omega arith) text.conditions
+    (right_true (are_within (length text.vars) text.terms) (list_all (is_qual_within (length text.vars)) text.conditions) (left_true (is_scoped text) (list_all is_scoped texts) s)))
+    (conditions_within (n + length text.vars) m texts (right_true (is_scoped text) (list_all is_scoped texts) s) (omega arith))
+
+-- ---- the texts of queries and of what is kept
+
+terms_put_within : (m : ℕ) (put : Putting) → PutsWithin m put → (ts : List Target) → list_all (is_within m) (map (λ t. replaced no_aggregate put t.term) ts) ≡ true
+terms_put_within m put h [] = refl
+terms_put_within m put h (t ∷ ts) =
+    both_true (is_within m (replaced no_aggregate put t.term)) (list_all (is_within m) (map (λ t. replaced no_aggregate put t.term) ts))
+    (replaced_within m put h t.term) (terms_put_within m put h ts)
+
+value_within : (m : ℕ) (t : QTerm) → is_within m t ≡ true → is_qual_within m (has_value t) ≡ true
+unfolding is_qual_within
+value_within m t h = both_true (is_within m t) (is_within m t) h h
+
+values_within : (m : ℕ) (ts : List QTerm) → list_all (is_within m) ts ≡ true → list_all (is_qual_within m) (map has_value ts) ≡ true
+values_within m [] h = refl
+values_within m (t ∷ ts) h =
+    both_true (is_qual_within m (has_value t)) (list_all (is_qual_within m) (map has_value ts)) (value_within m t (left_true (is_within m t) (list_all (is_within m) ts) h))
+    (values_within m ts (right_true (is_within m t) (list_all (is_within m) ts) h))
+
+-- what is put in for a query's rows names only the texts' variables
+pub rows_scoped : (texts : List Text) (q : Query) → list_all is_scoped texts ≡ true → is_scoped (rows_text texts q) ≡ true
+rows_scoped texts q s =
+    let m : ℕ = length (texts_vars texts) in
+    let puts : PutsWithin m (put_from 0 texts) = put_within 0 m texts s (omega arith) in
+    let terms : list_all (is_within m) (put_terms texts q) ≡ true = terms_put_within m (put_from 0 texts) puts (targets_of q) in
+    both_true (list_all (is_within m) (put_terms texts q))
+    (list_all (is_qual_within m) (replaced_in_qual no_aggregate (put_from 0 texts) (qual_of q) ∷ (map has_value (put_terms texts q) ++ conditions_from 0 texts)))
+    terms
+    (both_true (is_qual_within m (replaced_in_qual no_aggregate (put_from 0 texts) (qual_of q))) (list_all (is_qual_within m) (map has_value (put_terms texts q) ++ conditions_from 0 texts))
+    (replaced_qual_within m (put_from 0 texts) puts (qual_of q))
+    (all_append m (map has_value (put_terms texts q)) (conditions_from 0 texts) (values_within m (put_terms texts q) terms) (conditions_within 0 m texts s (omega arith))))
+
+pub rows_made_scoped : (texts : List Text) (q : Query) (text : Text) → list_all is_scoped texts ≡ true → text ≡ rows_text texts q → is_scoped text ≡ true
+rows_made_scoped texts q text s e = ap is_scoped e ∙ rows_scoped texts q s
+
+-- what is kept, with conditions on the only variable's row
+pub kept_scoped : (conditions : List QQual) (key : RelKey) → list_all (is_qual_within 1) conditions ≡ true → is_scoped (kept_text conditions key) ≡ true
+kept_scoped conditions key h = h
+
+only_within : PutsWithin 1 of_only
+unfolding is_within
+only_within zero attr = refl
+only_within (suc var) attr = without_within 1
+
+-- the condition of a permit is on the only variable's row
+pub condition_within : (q : QQual) → is_qual_within 1 (replaced_in_qual no_aggregate of_only q) ≡ true
+condition_within q = replaced_qual_within 1 of_only only_within q

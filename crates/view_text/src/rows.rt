@@ -1,0 +1,205 @@
+//! The text of a query's rows, and a query over the variables of texts.
+
+ghost use Rattle.std.specs.Prelude.{◌≡◌, ◌≤◌, [], ◌∷◌, ◌++◌, true, map, length, IfOk, OnOk};
+ghost use Rattle.std.specs.List.{list_all};
+ghost use Rattle.calculus.specs.QueryParts.{targets_of};
+ghost use Rattle.calculus.specs.Tree.{query};
+ghost use Rattle.view_text.specs.Halves.{all_of};
+ghost use Rattle.view_text.specs.PutIn.{put_query};
+ghost use Rattle.view_text.specs.Replaced.{no_aggregate, replaced_in_qual, replaced_target};
+ghost use Rattle.view_text.specs.Scoped.{is_scoped};
+ghost use Rattle.view_text.specs.TextOf.{has_value, put_terms, rows_text};
+ghost use Rattle.view_text.specs.Texts.{conditions_from, put_from, texts_vars};
+
+use crate::put::put_terms;
+use crate::{Text, all_of, conditions, put_qual, put_targets};
+use calculus::{CmpOp, List, OutOfMemory, QQual, QTerm, Query, RelKey, Target, TryCopy};
+use memory::both;
+use std::alloc::Global;
+
+/// Puts copies of the keys behind those that are there.
+fn put_keys(alloc: Global, keys: &[RelKey], made: &mut Vec<RelKey>) -> Result<(), OutOfMemory>
+    ensures { OnOk result (made.new.items ≡ made.old.items ++ keys.now) }
+{
+    for key in keys {
+        made.push(key.copy(alloc)?)?;
+    }
+    Ok(())
+}
+
+/// Puts what the texts' variables range over behind those that are there.
+fn put_vars(alloc: Global, texts: &[Text], made: &mut Vec<RelKey>) -> Result<(), OutOfMemory>
+    ensures { OnOk result (made.new.items ≡ made.old.items ++ texts_vars texts.now) }
+{
+    for text in texts {
+        put_keys(alloc, text.vars.items(), made)?;
+    }
+    Ok(())
+}
+
+/// That a term has a value: it is equal to itself.
+fn has_value(alloc: Global, t: &QTerm) -> Result<QQual, OutOfMemory>
+    ensures { IfOk result (λ q. q ≡ has_value t.now) }
+{
+    match both(t.copy(alloc), t.copy(alloc)) {
+        Ok((left, right)) => Ok(QQual::Cmp {
+            op: CmpOp::Eq,
+            left,
+            right,
+        }),
+        Err(error) => Err(error),
+    }
+}
+
+/// Puts that each term has a value behind those that are there.
+fn put_values(alloc: Global, terms: &[QTerm], made: &mut Vec<QQual>) -> Result<(), OutOfMemory>
+    ensures { OnOk result (made.new.items ≡ made.old.items ++ map has_value terms.now) }
+{
+    for term in terms {
+        made.push(has_value(alloc, term)?)?;
+    }
+    Ok(())
+}
+
+/// Puts the qualification, with the texts put in, behind those that are there.
+fn put_one(
+    alloc: Global,
+    texts: &[Text],
+    qual: &QQual,
+    made: &mut Vec<QQual>,
+) -> Result<(), OutOfMemory>
+    requires scoped { list_all is_scoped texts.now ≡ true }
+    requires fits { length (texts_vars texts.now) ≤ 256 }
+    ensures { OnOk result (made.new.items ≡ made.old.items ++ replaced_in_qual no_aggregate (put_from 0 texts.now) qual.now ∷ []) }
+{
+    Ok(made.push(put_qual(alloc, texts, qual)?)?)
+}
+
+/// Puts the conditions of a query's rows, whose targets have become these terms, behind those that are there.
+fn put_conditions(
+    alloc: Global,
+    texts: &[Text],
+    qual: &QQual,
+    terms: &[QTerm],
+    made: &mut Vec<QQual>,
+) -> Result<(), OutOfMemory>
+    requires scoped { list_all is_scoped texts.now ≡ true }
+    requires fits { length (texts_vars texts.now) ≤ 256 }
+    ensures { OnOk result (made.new.items ≡ made.old.items ++ replaced_in_qual no_aggregate (put_from 0 texts.now) qual.now ∷ (map has_value terms.now ++ conditions_from 0 texts.now)) }
+{
+    put_one(alloc, texts, qual, made)?;
+    put_values(alloc, terms, made)?;
+    conditions(alloc, texts, made)
+}
+
+/// Puts the parts of the text of a query's rows behind those that are there.
+fn put_parts(
+    alloc: Global,
+    texts: &[Text],
+    query: &Query,
+    vars: &mut Vec<RelKey>,
+    terms: &mut Vec<QTerm>,
+) -> Result<(), OutOfMemory>
+    requires scoped { list_all is_scoped texts.now ≡ true }
+    requires fits { length (texts_vars texts.now) ≤ 256 }
+    ensures vars { OnOk result (vars.new.items ≡ vars.old.items ++ texts_vars texts.now) }
+    ensures terms { OnOk result (terms.new.items ≡ terms.old.items ++ put_terms texts.now query.now) }
+{
+    put_vars(alloc, texts, vars)?;
+    put_terms(alloc, texts, query.targets.items(), terms)
+}
+
+/// The text of a query's rows, where these are the texts of its variables.
+fn text_made(alloc: Global, texts: &[Text], query: &Query) -> Result<Text, OutOfMemory>
+    requires scoped { list_all is_scoped texts.now ≡ true }
+    requires fits { length (texts_vars texts.now) ≤ 256 }
+    ensures { IfOk result (λ text. text ≡ rows_text texts.now query.now) }
+{
+    let mut vars = Vec::new(alloc);
+    let mut terms = Vec::new(alloc);
+    let mut conditions = Vec::new(alloc);
+    let parts = put_parts(alloc, texts, query, &mut vars, &mut terms);
+    let rest = put_conditions(alloc, texts, &query.qual, &terms, &mut conditions);
+    match both(parts, rest) {
+        Ok(_) => Ok(Text {
+            vars: List::of(vars),
+            terms: Some(List::of(terms)),
+            conditions: List::of(conditions),
+        }),
+        Err(error) => Err(error),
+    }
+}
+
+/// The text of a query's rows, where these are the texts of its variables, which stand one behind the
+/// other: its qualification holds, each target has a value, and the conditions of the texts hold. It
+/// names only its own variables.
+#[tactic(auto, using(crate::proofs::Scope::rows_made_scoped))]
+pub fn rows_text(alloc: Global, texts: &[Text], query: &Query) -> Result<Text, OutOfMemory>
+    requires scoped { list_all is_scoped texts.now ≡ true }
+    requires fits { length (texts_vars texts.now) ≤ 256 }
+    ensures text { IfOk result (λ text. text ≡ rows_text texts.now query.now) }
+    ensures scoped { IfOk result (λ text. is_scoped text ≡ true) }
+{
+    match text_made(alloc, texts, query) {
+        Ok(text) => Ok(text),
+        Err(error) => Err(error),
+    }
+}
+
+/// The qualification of a query and the conditions of the texts, all of which hold.
+fn whole_qual(alloc: Global, texts: &[Text], qual: &QQual) -> Result<QQual, OutOfMemory>
+    requires scoped { list_all is_scoped texts.now ≡ true }
+    requires fits { length (texts_vars texts.now) ≤ 256 }
+    ensures { IfOk result (λ q. q ≡ all_of (replaced_in_qual no_aggregate (put_from 0 texts.now) qual.now ∷ conditions_from 0 texts.now)) }
+{
+    let mut made = Vec::new(alloc);
+    match put_conditions(alloc, texts, qual, &[], &mut made) {
+        Ok(()) => all_of(alloc, made),
+        Err(error) => Err(error),
+    }
+}
+
+/// Puts what the texts' variables range over, and the targets, behind those that are there.
+fn put_targeted(
+    alloc: Global,
+    texts: &[Text],
+    query: &Query,
+    vars: &mut Vec<RelKey>,
+    targets: &mut Vec<Target>,
+) -> Result<(), OutOfMemory>
+    requires scoped { list_all is_scoped texts.now ≡ true }
+    requires fits { length (texts_vars texts.now) ≤ 256 }
+    ensures vars { OnOk result (vars.new.items ≡ vars.old.items ++ texts_vars texts.now) }
+    ensures targets { OnOk result (targets.new.items ≡ targets.old.items ++ map (replaced_target no_aggregate (put_from 0 texts.now)) (targets_of query.now)) }
+{
+    put_vars(alloc, texts, vars)?;
+    put_targets(alloc, texts, query.targets.items(), targets)
+}
+
+/// The query of these variables, targets and qualification.
+#[tactic(auto, using(calculus::proofs::Forms::query_is))]
+fn query_of(vars: Vec<RelKey>, targets: Vec<Target>, qual: QQual) -> Query
+    ensures { result ≡ query vars.items targets.items qual }
+{
+    Query {
+        vars: List::of(vars),
+        targets: List::of(targets),
+        qual,
+    }
+}
+
+/// The query over the variables of these texts, one for each of its own: their terms stand in place of
+/// its attributes, and their conditions hold too. An aggregate becomes a term without value.
+pub fn put_rows(alloc: Global, texts: &[Text], query: &Query) -> Result<Query, OutOfMemory>
+    requires scoped { list_all is_scoped texts.now ≡ true }
+    requires fits { length (texts_vars texts.now) ≤ 256 }
+    ensures { IfOk result (λ made. made ≡ put_query no_aggregate texts.now query.now) }
+{
+    let mut vars = Vec::new(alloc);
+    let mut targets = Vec::new(alloc);
+    let filled = put_targeted(alloc, texts, query, &mut vars, &mut targets);
+    match both(filled, whole_qual(alloc, texts, &query.qual)) {
+        Ok((_, qual)) => Ok(query_of(vars, targets, qual)),
+        Err(error) => Err(error),
+    }
+}
