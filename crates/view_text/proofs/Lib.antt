@@ -5,3 +5,4 @@ pub mod PutText
 pub mod HalvesForms
 pub mod Scope
 pub mod JoinedWithin
+pub mod NoTables

@@ -1,10 +1,12 @@
 -- Texts that name only their own variables, and what is made of them.
-use Rattle.std.proofs.Common.{◌≡◌, refl, sym, ap, ◌∙◌, ℕ, zero, suc, ◌+◌, ◌<◌, ◌≤◌, Bool, true, ◌&&◌, List, [], ◌∷◌, ◌++◌, map, length, Option, Some, None, length-append, arith}
+use Rattle.std.proofs.Common.{◌≡◌, refl, sym, ap, ◌∙◌, ℕ, zero, suc, ◌+◌, ◌<◌, ◌≤◌, Bool, true, false, ◌&&◌, List, [], ◌∷◌, ◌++◌, map, length, Option, Some, None, length-append, arith}
 use Rattle.std.specs.List.{list_all}
 use Rattle.std.proofs.lemmas.Bool.{ltb-true, lt-ltb}
 use Rattle.calculus.specs.declared.query.RelKey.{RelKey}
 use Rattle.calculus.specs.declared.query.QTerm.{QTerm, Attr}
-use Rattle.calculus.specs.declared.query.QQual.{QQual}
+use Rattle.calculus.specs.declared.query.QQual.{QQual, True}
+use Rattle.calculus.specs.Tree.{negated}
+use Rattle.calculus.specs.Term.{holds, no_aggs}
 use Rattle.calculus.specs.declared.query.Query.{Query}
 use Rattle.calculus.specs.declared.query.Target.{Target}
 use Rattle.calculus.specs.QueryParts.{targets_of, qual_of}
@@ -12,7 +14,7 @@ use Rattle.view_text.specs.declared.text.Text.{Text}
 use Rattle.view_text.specs.Replaced.{Putting, replaced, replaced_in_qual, no_aggregate, further, without_value, moved, moved_qual, of_only}
 use Rattle.view_text.specs.Scoped.{is_within, is_qual_within, are_within, is_scoped}
 use Rattle.view_text.specs.Texts.{term_at, own_or, attr_term, texts_vars, put_from, conditions_from}
-use Rattle.view_text.specs.TextOf.{kept_text, has_value, put_terms, rows_text}
+use Rattle.view_text.specs.TextOf.{kept_text, has_value, put_terms, rows_conditions, settled, rows_text}
 use Rattle.view_text.proofs.Within.{PutsWithin, FirstWithin, left_true, right_true, both_true, within_more, replaced_within, replaced_qual_within, first_within, first_qual_within}
 
 -- ---- lists
@@ -98,18 +100,27 @@ values_within m (t ∷ ts) h =
     both_true (is_qual_within m (has_value t)) (list_all (is_qual_within m) (map has_value ts)) (value_within m t (left_true (is_within m t) (list_all (is_within m) ts) h))
     (values_within m ts (right_true (is_within m t) (list_all (is_within m) ts) h))
 
+-- conditions that are settled name no more than they did
+settled_within : (m : ℕ) (vars : List RelKey) (conditions : List QQual) → list_all (is_qual_within m) conditions ≡ true → list_all (is_qual_within m) (settled vars conditions) ≡ true
+unfolding settled is_qual_within
+settled_within m [] conditions h = by (list_all (λ q. holds no_aggs q []) conditions)
+  where
+    by : (b : Bool) → list_all (is_qual_within m) (elim b [ true ↦ [] | false ↦ negated True ∷ [] ]) ≡ true
+    by true = refl
+    by false = refl
+settled_within m (key ∷ vars) conditions h = h
+
 -- what is put in for a query's rows names only the texts' variables
 pub rows_scoped : (texts : List Text) (q : Query) → list_all is_scoped texts ≡ true → is_scoped (rows_text texts q) ≡ true
 rows_scoped texts q s =
     let m : ℕ = length (texts_vars texts) in
     let puts : PutsWithin m (put_from 0 texts) = put_within 0 m texts s (omega arith) in
     let terms : list_all (is_within m) (put_terms texts q) ≡ true = terms_put_within m (put_from 0 texts) puts (targets_of q) in
-    both_true (list_all (is_within m) (put_terms texts q))
-    (list_all (is_qual_within m) (replaced_in_qual no_aggregate (put_from 0 texts) (qual_of q) ∷ (map has_value (put_terms texts q) ++ conditions_from 0 texts)))
-    terms
+    both_true (list_all (is_within m) (put_terms texts q)) (list_all (is_qual_within m) (settled (texts_vars texts) (rows_conditions texts q))) terms
+    (settled_within m (texts_vars texts) (rows_conditions texts q)
     (both_true (is_qual_within m (replaced_in_qual no_aggregate (put_from 0 texts) (qual_of q))) (list_all (is_qual_within m) (map has_value (put_terms texts q) ++ conditions_from 0 texts))
     (replaced_qual_within m (put_from 0 texts) puts (qual_of q))
-    (all_append m (map has_value (put_terms texts q)) (conditions_from 0 texts) (values_within m (put_terms texts q) terms) (conditions_within 0 m texts s (omega arith))))
+    (all_append m (map has_value (put_terms texts q)) (conditions_from 0 texts) (values_within m (put_terms texts q) terms) (conditions_within 0 m texts s (omega arith)))))
 
 pub rows_made_scoped : (texts : List Text) (q : Query) (text : Text) → list_all is_scoped texts ≡ true → text ≡ rows_text texts q → is_scoped text ≡ true
 rows_made_scoped texts q text s e = ap is_scoped e ∙ rows_scoped texts q s

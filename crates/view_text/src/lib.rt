@@ -9,6 +9,7 @@ mod put;
 mod putting;
 mod replaced;
 mod rows;
+mod settled;
 mod text;
 mod text_conditions;
 

@@ -2,16 +2,17 @@
 
 ghost use Rattle.std.specs.Prelude.{◌≡◌, ◌≤◌, [], ◌∷◌, ◌++◌, true, map, length, IfOk, OnOk};
 ghost use Rattle.std.specs.List.{list_all};
-ghost use Rattle.calculus.specs.QueryParts.{targets_of};
+ghost use Rattle.calculus.specs.QueryParts.{qual_of, targets_of};
 ghost use Rattle.calculus.specs.Tree.{query};
 ghost use Rattle.view_text.specs.Halves.{all_of};
 ghost use Rattle.view_text.specs.PutIn.{put_query};
 ghost use Rattle.view_text.specs.Replaced.{no_aggregate, replaced_in_qual, replaced_target};
 ghost use Rattle.view_text.specs.Scoped.{is_scoped};
-ghost use Rattle.view_text.specs.TextOf.{has_value, put_terms, rows_text};
+ghost use Rattle.view_text.specs.TextOf.{has_value, put_terms, rows_text, settled};
 ghost use Rattle.view_text.specs.Texts.{conditions_from, put_from, texts_vars};
 
 use crate::put::put_terms;
+use crate::settled::settled;
 use crate::{Text, all_of, conditions, put_qual, put_targets};
 use calculus::{CmpOp, List, OutOfMemory, QQual, QTerm, Query, RelKey, Target, TryCopy};
 use memory::both;
@@ -109,6 +110,26 @@ fn put_parts(
     put_terms(alloc, texts, query.targets.items(), terms)
 }
 
+/// The conditions of a query's rows, whose targets have become these terms over these variables; where
+/// there is none, whether they hold is settled.
+fn settled_conditions(
+    alloc: Global,
+    texts: &[Text],
+    query: &Query,
+    vars: &[RelKey],
+    terms: &[QTerm],
+) -> Result<Vec<QQual>, OutOfMemory>
+    requires scoped { list_all is_scoped texts.now ≡ true }
+    requires fits { length (texts_vars texts.now) ≤ 256 }
+    ensures { IfOk result (λ made. made.items ≡ settled vars.now (replaced_in_qual no_aggregate (put_from 0 texts.now) (qual_of query.now) ∷ (map has_value terms.now ++ conditions_from 0 texts.now))) }
+{
+    let mut made = Vec::new(alloc);
+    match put_conditions(alloc, texts, &query.qual, terms, &mut made) {
+        Ok(()) => settled(alloc, vars, made),
+        Err(error) => Err(error),
+    }
+}
+
 /// The text of a query's rows, where these are the texts of its variables.
 fn text_made(alloc: Global, texts: &[Text], query: &Query) -> Result<Text, OutOfMemory>
     requires scoped { list_all is_scoped texts.now ≡ true }
@@ -117,11 +138,10 @@ fn text_made(alloc: Global, texts: &[Text], query: &Query) -> Result<Text, OutOf
 {
     let mut vars = Vec::new(alloc);
     let mut terms = Vec::new(alloc);
-    let mut conditions = Vec::new(alloc);
     let parts = put_parts(alloc, texts, query, &mut vars, &mut terms);
-    let rest = put_conditions(alloc, texts, &query.qual, &terms, &mut conditions);
+    let rest = settled_conditions(alloc, texts, query, &vars, &terms);
     match both(parts, rest) {
-        Ok(_) => Ok(Text {
+        Ok((_, conditions)) => Ok(Text {
             vars: List::of(vars),
             terms: Some(List::of(terms)),
             conditions: List::of(conditions),
@@ -131,8 +151,9 @@ fn text_made(alloc: Global, texts: &[Text], query: &Query) -> Result<Text, OutOf
 }
 
 /// The text of a query's rows, where these are the texts of its variables, which stand one behind the
-/// other: its qualification holds, each target has a value, and the conditions of the texts hold. It
-/// names only its own variables.
+/// other: its qualification holds, each target has a value, and the conditions of the texts hold. Where
+/// there is no variable these conditions are evaluated: no condition is left where they hold, else one
+/// that never holds. It names only its own variables.
 #[tactic(auto, using(crate::proofs::Scope::rows_made_scoped))]
 pub fn rows_text(alloc: Global, texts: &[Text], query: &Query) -> Result<Text, OutOfMemory>
     requires scoped { list_all is_scoped texts.now ≡ true }
