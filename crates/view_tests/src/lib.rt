@@ -1,0 +1,5 @@
+//! Tests of what puts texts in.
+#![tactic(auto)]
+
+#[cfg(test)]
+mod texts;
