@@ -1,5 +1,5 @@
 -- Permits and rules that are made, part by part.
-use Rattle.std.proofs.Common.{◌≡◌, refl, ap, ◌∙◌, ℕ, suc, ◌-◌, ◌^◌, ◌<◌, ◌≤◌, min, nat_le, nat_lt, arith, Bool, true, false, ◌&&◌, IsTrue, List, [], ◌∷◌, map, length}
+use Rattle.std.proofs.Common.{◌≡◌, refl, ap, ◌∙◌, suc, nat_le, nat_lt, Bool, true, false, ◌&&◌, IsTrue, List, [], ◌∷◌, map, length}
 use Rattle.std.specs.List.{list_all}
 use Rattle.std.specs.Str.{bytes_eq}
 use Rattle.calculus.specs.declared.schema.Attr.{Attr}
