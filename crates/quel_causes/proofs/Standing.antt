@@ -12,7 +12,7 @@ use Rattle.calculus.specs.QueryParts.{query_aggregates}
 use Rattle.calculus.specs.Replacement.{wanted_kinds}
 use Rattle.calculus.specs.Stored.{kinds_at}
 use Rattle.quel_meaning.specs.Aggregates.{aggregates_stand, aggregate_stands, keeps_a_text}
-use Rattle.quel_meaning.specs.Causes.{causes, causes_by, update_causes}
+use Rattle.quel_meaning.specs.Causes.{causes, causes_by, delete_causes, update_causes}
 use Rattle.quel_meaning.specs.Scope.{Scope}
 use Rattle.quel_meaning.specs.StatementUpdate.{append_of, replace_of, delete_of}
 use Rattle.quel_meaning.specs.WrittenParts.{text_aggregates}

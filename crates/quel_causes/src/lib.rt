@@ -10,7 +10,9 @@ mod kinds;
 mod numbers;
 mod places;
 mod repeated;
+mod restricted;
 mod retrieved;
+mod viewed;
 mod widths;
 
 pub use counted::has_too_many;

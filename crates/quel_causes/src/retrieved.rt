@@ -72,7 +72,11 @@ pub(crate) fn print_cause<B: Base>(
 
 /// Whether there is no room for a new relation with the rows of a query, or the query lists too many
 /// variables.
-fn has_no_room<B: Base>(alloc: Global, base: &mut B, q: &Query) -> Result<bool, BaseFault>
+pub(crate) fn has_no_room<B: Base>(
+    alloc: Global,
+    base: &mut B,
+    q: &Query,
+) -> Result<bool, BaseFault>
     ensures told { (db : Db) → B.database base.old ≡ Some db → query_aggregates q.now ≡ [] → IfOk result (λ none. none ≡ (has_too_many db q.now || is_full db)) }
     ensures kept { B.database base.new ≡ B.database base.old }
     ensures same { B.left base.new ≡ B.left base.old }
