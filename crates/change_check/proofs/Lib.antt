@@ -1,13 +1,8 @@
 pub mod ByKind
-pub mod DepthForms
 pub mod Differing
 pub mod Entries
 pub mod Kept
-pub mod Measuring
 pub mod Numbered
 pub mod Parts
-pub mod QueryDepths
-pub mod Ranged
 pub mod RowsFit
-pub mod SizeForms
 pub mod ViewParts

@@ -1,8 +1,7 @@
 -- Permits and rules that are made, part by part.
-use Rattle.std.proofs.Common.{◌≡◌, refl, ap, ◌∙◌, ℕ, suc, ◌-◌, ◌^◌, ◌<◌, ◌≤◌, min, nat_le, nat_lt, arith, Bool, true, false, ◌&&◌, IsTrue, List, [], ◌∷◌, map, length}
+use Rattle.std.proofs.Common.{◌≡◌, refl, ap, ◌∙◌, suc, nat_le, nat_lt, Bool, true, false, ◌&&◌, IsTrue, List, [], ◌∷◌, map, length}
 use Rattle.std.specs.List.{list_all}
 use Rattle.std.specs.Str.{bytes_eq}
-use Rattle.std.proofs.lemmas.Bool.{le-leb, lt-leb, leb-true, leb-false}
 use Rattle.calculus.specs.declared.schema.Attr.{Attr}
 use Rattle.calculus.specs.declared.query.RelKey.{RelKey}
 use Rattle.calculus.specs.declared.query.QQual.{QQual}
@@ -20,17 +19,9 @@ use Rattle.calculus.specs.Tree.{query}
 use Rattle.calculus.specs.TreeLevels.{qual_levels}
 use Rattle.change_laws.specs.Fit.{permit_is_fit, rule_is_fit, number_is_free}
 use Rattle.plan_laws.proofs.PlainQueries.{query_plain}
-use Rattle.change_check.specs.Sized.{qual_depth}
-use Rattle.change_check.proofs.DepthForms.{qual_alone}
+use Rattle.view_sizes.specs.Sized.{qual_depth}
+use Rattle.view_sizes.proofs.DepthForms.{qual_alone}
 use Rattle.change_check.proofs.Parts.{also, turned}
-
--- a small bound is met by a number exactly where it is met by the number that stops at the greatest of 64 bits
-pub stopped_le : (n k : ℕ) → k ≤ 3000 → nat_le (min n (2 ^ 64 - 1)) k ≡ nat_le n k
-stopped_le n k small = go (nat_le n k) refl
-  where
-    go : (b : Bool) → nat_le n k ≡ b → nat_le (min n (2 ^ 64 - 1)) k ≡ b
-    go true e = let less : n ≤ k = leb-true n k e in le-leb _ _ (omega arith)
-    go false e = let more : k < n = leb-false n k e in lt-leb _ _ (omega arith)
 
 -- in a qualification over a row whose kinds fit stands no aggregate
 pub qual_none : (db : Db) (rel : RelKey) (q : QQual) → row_qual_stands db rel q ≡ true → qual_aggregates q ≡ []

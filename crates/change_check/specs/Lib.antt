@@ -1,4 +1,1 @@
 pub mod Kept
-pub mod Measured
-pub mod Sized
-pub mod Standing

@@ -11,18 +11,17 @@ ghost use Rattle.calculus.specs.QueryParts.{qual_aggregates};
 ghost use Rattle.calculus.specs.Sizes.{qual_size};
 ghost use Rattle.calculus.specs.Storable.{permit_lists_are_storable, row_qual_is_storable};
 ghost use Rattle.calculus.specs.Stored.{kinds_at};
-ghost use Rattle.change_check.specs.Sized.{qual_depth};
+ghost use Rattle.view_sizes.specs.Sized.{qual_depth};
 ghost use Rattle.change_laws.specs.Fit.{number_is_free, permit_is_fit, rule_is_fit};
 
-use crate::depths::qual_depth;
 use crate::keys::is_relation;
 use crate::numbers::{has_number, standing_permits, standing_rules};
-use crate::sizes::qual_size;
 use am_traits::{Base, BaseFault};
 use calculus::{Kind, Name, OutOfMemory, Permit, QQual, RelKey, Rule, is_name, kinds_fit};
 use quel_causes::kinds_at;
 use std::alloc::Global;
 use update_laws::qual_is_spelled;
+use view_sizes::{qual_depth, qual_size};
 
 /// The permits, and the rules, that a relation has at most.
 const MOST: usize = 100;
@@ -78,7 +77,7 @@ fn row_qual_fits(alloc: Global, kinds: Vec<Kind>, qual: &QQual) -> Result<bool, 
 
 /// Whether a qualification in which no aggregate stands is no larger and no deeper than one that is
 /// stored may be.
-#[tactic(auto, using(crate::proofs::Numbered::stopped_le))]
+#[tactic(auto, using(view_sizes::proofs::Stopped::stopped_le))]
 fn is_small(qual: &QQual) -> bool
     ensures { result ≡ (nat_le (qual_size [] qual.now) 1000 && nat_le (qual_depth qual.now) 3000) }
 {

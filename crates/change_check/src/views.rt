@@ -10,17 +10,14 @@ ghost use Rattle.calculus.specs.Storable.{query_is_storable};
 ghost use Rattle.change_laws.specs.Fit.{key_is_free, view_is_fit, view_is_small};
 ghost use Rattle.quel_meaning.specs.Passing.{is_too_high};
 
-use crate::depths::query_depth;
 use crate::described::{attrs_stand, view_info_stands};
 use crate::keys::key_is_free;
-use crate::measures::{measure_of, used_count};
-use crate::ranges::{are_ranges, have_levels};
-use crate::sizes::Measure;
 use am_traits::{Base, BaseFault};
 use calculus::{Attr, OutOfMemory, Query, RelInfo, Target, kinds_fit};
 use quel_causes::{same_kind, targets_fit, var_kinds};
 use std::alloc::Global;
 use update_laws::query_is_spelled;
+use view_sizes::{Measure, are_ranges, has_high_level, measure_of, query_depth, used_count};
 
 /// The variables of a query as it stands at most.
 const MOST_VARIABLES: u64 = 10;
@@ -36,9 +33,6 @@ const GREATEST_SIZE: u64 = 1000;
 
 /// The levels of views that are looked through at most.
 const GREATEST_LEVEL: u8 = 16;
-
-/// The level that what a view names has at most.
-const LEVELS_BELOW: u8 = 15;
 
 /// The levels of a tree that is stored at most.
 const MOST_LEVELS: u64 = 3000;
@@ -66,16 +60,6 @@ fn vars_are_there<B: Base>(alloc: Global, base: &mut B, query: &Query) -> Result
     ensures cause { HasCause (B.database base.old) (B.faults base.old) (B.faults base.new) result }
 {
     are_ranges(alloc, base, query.vars.items())
-}
-
-/// Whether a view of this query would have a level that is no greater than there may be.
-fn level_fits<B: Base>(alloc: Global, base: &mut B, query: &Query) -> Result<bool, BaseFault>
-    ensures told { (db : Db) → B.database base.old ≡ Some db → IfOk result (λ fits. fits ≡ not (is_too_high (query_level db query.now))) }
-    ensures kept { B.database base.new ≡ B.database base.old }
-    ensures same { B.left base.new ≡ B.left base.old }
-    ensures cause { HasCause (B.database base.old) (B.faults base.old) (B.faults base.new) result }
-{
-    have_levels(alloc, base, query.vars.items(), LEVELS_BELOW)
 }
 
 /// Whether the attributes have the names and kinds of the query's targets.
@@ -110,22 +94,11 @@ fn uses_few(query: &Query) -> bool
     used_count(query) <= MOST_VARIABLES
 }
 
-/// The sum of sizes, or the greatest number of 64 bits.
-fn sum_of(sizes: &[u64]) -> u64
-    ensures { result ≡ min (sum sizes.now) (2 ^ 64 - 1) }
-{
-    let Some((size, others)) = sizes.split_first() else {
-        return 0;
-    };
-    size.saturating_add(sum_of(others))
-}
-
 /// Whether variables and size are within the limits of a view.
 fn is_within(measure: &Measure) -> bool
     ensures { result ≡ (nat_le measure.now.variables 50 && nat_le (min (sum measure.now.attrs.items + measure.now.qual) (2 ^ 64 - 1)) 1000) }
 {
-    let size = sum_of(&measure.attrs).saturating_add(measure.qual);
-    measure.variables <= MOST_EXPANDED_VARIABLES && size <= GREATEST_SIZE
+    measure.variables <= MOST_EXPANDED_VARIABLES && measure.size() <= GREATEST_SIZE
 }
 
 /// Whether a query without aggregates is within the limits of a view once the views in it are put in.
@@ -189,7 +162,7 @@ fn view_query_is_fit<B: Base>(alloc: Global, base: &mut B, query: &Query) -> Res
     if !vars_are_there(alloc, base, query)? {
         return Ok(false);
     }
-    if !level_fits(alloc, base, query)? {
+    if has_high_level(alloc, base, query)? {
         return Ok(false);
     }
     query_is_fit(alloc, base, query)

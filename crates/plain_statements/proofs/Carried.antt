@@ -16,7 +16,6 @@ use Rattle.calculus.specs.IsDatabase.{IsDatabase}
 use Rattle.calculus.specs.Lists.{is_any}
 use Rattle.calculus.specs.Name.{is_name}
 use Rattle.calculus.specs.QueryParts.{vars_of, query_aggregates}
-use Rattle.quel_causes.specs.Judged.{is_judged}
 use Rattle.quel_meaning.specs.Fit.{suits, fits, is_fit_with_views, utility_fits}
 use Rattle.quel_meaning.specs.SpelledTree.{tree_is_spelled}
 use Rattle.quel_meaning.specs.FitQueries.{is_kept, kept_or_viewed}
@@ -33,6 +32,7 @@ use Rattle.quel_meaning.proofs.FitResolved.{resolved_fits}
 use Rattle.quel_meaning.proofs.Slots.{as_many}
 use Rattle.owner_session_laws.specs.Plain.{IsPlain}
 use Rattle.quel_resolve.specs.Built.{is_built}
+use Rattle.plain_statements.specs.Built.{is_run_here, is_simple}
 use Rattle.plain_statements.specs.Doable.{AreDoable, IsDoableUpdate, IsDoable}
 use Rattle.plain_statements.proofs.WithoutViews.{asked_kept, update_kept}
 
@@ -47,9 +47,20 @@ isnt : (b : Bool) → not b ≡ true → b ≡ false
 isnt true h = cc h
 isnt false h = refl
 
-built_parts : (s : Statement) → is_built s ≡ true → (is_judged s ≡ true) × (is_any (text_aggregates s) ≡ false)
-unfolding is_built
-built_parts s h = (left _ _ h, isnt _ (right (is_judged s) _ h))
+built_parts : (s : Statement) → is_run_here s ≡ true → (is_simple s ≡ true) × (is_any (text_aggregates s) ≡ false)
+unfolding is_run_here
+built_parts s h = (left _ _ h, isnt _ (right (is_simple s) _ h))
+
+-- what is run here is resolved
+pub is_resolved : (s : Statement) → is_run_here s ≡ true → is_built s ≡ true
+unfolding is_run_here is_built
+is_resolved (statement.Range var rel) h = h
+is_resolved (statement.Retrieve into items qual sort) h = h
+is_resolved (statement.Append rel items qual) h = h
+is_resolved (statement.Replace var items qual) h = h
+is_resolved (statement.Delete var qual) h = h
+is_resolved (statement.Create rel attrs) h = h
+is_resolved s h = absurd (cc h)
 
 -- ---- its tree
 
@@ -70,7 +81,7 @@ module _ (s : Scope) (none : s.db.views ≡ []) where
   unfolding suits utility_fits
   work_doable rel attrs h = h
 
-  tree_doable : (stmt : Statement) → is_judged stmt ≡ true → query_aggregates (query_of s stmt) ≡ [] → suits (kept_or_viewed s.db) s.db s.user (tree_of s stmt) ≡ true → IsDoable s.db (tree_of s stmt)
+  tree_doable : (stmt : Statement) → is_simple stmt ≡ true → query_aggregates (query_of s stmt) ≡ [] → suits (kept_or_viewed s.db) s.db s.user (tree_of s stmt) ≡ true → IsDoable s.db (tree_of s stmt)
   unfolding tree_of append_of replace_of delete_of into_of
   tree_doable (statement.Range var rel) j plain h = record { read = All-nil _; plain = All-nil _ }
   tree_doable (statement.Retrieve None items qual sort) j plain h = one_asked _ h plain
@@ -81,7 +92,7 @@ module _ (s : Scope) (none : s.db.views ≡ []) where
   tree_doable (statement.Create rel attrs) j plain h = work_doable _ _ h
   tree_doable stmt j plain h = absurd (cc j)
 
-pub resolved_doable : (db : Db) (user : List ℕ) (ranges : Ranges) (stmt : Statement) (tree : Checked) → IsDatabase db → IsPlain db user → is_built stmt ≡ true → is_written stmt ≡ true
+pub resolved_doable : (db : Db) (user : List ℕ) (ranges : Ranges) (stmt : Statement) (tree : Checked) → IsDatabase db → IsPlain db user → is_run_here stmt ≡ true → is_written stmt ≡ true
     → resolved db user ranges stmt ≡ Ok tree → IsDoable db tree
 unfolding fits
 resolved_doable db user ranges stmt tree is plain built written e =

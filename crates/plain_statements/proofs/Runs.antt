@@ -19,25 +19,24 @@ use Rattle.owner_session_laws.specs.Freely.{free_tree_outcome, free_statement_ou
 use Rattle.owner_session_laws.specs.Plain.{IsPlain, IsPlainState, BuildsPlain, is_plain}
 use Rattle.owner_session_laws.proofs.FreeMeaning.{free_means}
 use Rattle.owner_session_laws.proofs.Stays.{meaning_plain}
-use Rattle.quel_resolve.specs.Built.{is_built}
 use Rattle.plain_statements.specs.declared.stopped.Stopped.{Stopped}
 use Rattle.plain_statements.specs.declared.stopped.Stopped.TheVariants.{No, OutOfMemory}
-use Rattle.plain_statements.specs.Built.{built}
+use Rattle.plain_statements.specs.Built.{built, is_run_here}
 use Rattle.plain_statements.specs.Doable.{IsDoable}
 use Rattle.plain_statements.specs.Plans.{Plans, IsMade}
 use Rattle.plain_statements.specs.Standing.{state_of, outcome_of, effect_of}
 
 module _ (db : Db) (ranges : Ranges) (user : List ℕ) (s : Statement) where
-  pub not_built : is_built s ≡ false → meaning built (state_of db ranges) (asker_of user) s ≡ outcome_of db ranges (Refused (refusal 9))
+  pub not_built : is_run_here s ≡ false → meaning built (state_of db ranges) (asker_of user) s ≡ outcome_of db ranges (Refused (refusal 9))
   unfolding meaning_by
   not_built e = ap (λ b. built_outcome b resolved (state_of db ranges) (asker_of user) s) e
 
-  runs : IsPlain db user → is_built s ≡ true → meaning built (state_of db ranges) (asker_of user) s ≡ free_statement_outcome (state_of db ranges) user s
+  runs : IsPlain db user → is_run_here s ≡ true → meaning built (state_of db ranges) (asker_of user) s ≡ free_statement_outcome (state_of db ranges) user s
   unfolding free_meaning
   runs plain e = free_means (state_of db ranges) user plain.own plain.no_rules built s ∙ ap (λ b. free_built_outcome b (state_of db ranges) user s) e
 
 -- a declaration of a variable
-pub range_runs : (db : Db) (ranges : Ranges) (user var rel : List ℕ) → IsPlain db user → is_built (statement.Range var rel) ≡ true
+pub range_runs : (db : Db) (ranges : Ranges) (user var rel : List ℕ) → IsPlain db user → is_run_here (statement.Range var rel) ≡ true
     → meaning built (state_of db ranges) (asker_of user) (statement.Range var rel) ≡ range_outcome (state_of db ranges) var (found db user rel)
 unfolding free_statement_outcome
 range_runs db ranges user var rel plain e = runs db ranges user (statement.Range var rel) plain e
@@ -48,17 +47,17 @@ unfolding free_statement_outcome
 by_tree db ranges user (statement.Range var rel) h = absurd (cc h)
 by_tree db ranges user s h = refl
 
-pub tree_runs : (db : Db) (ranges : Ranges) (user : List ℕ) (s : Statement) → IsPlain db user → is_built s ≡ true → is_range s ≡ false
+pub tree_runs : (db : Db) (ranges : Ranges) (user : List ℕ) (s : Statement) → IsPlain db user → is_run_here s ≡ true → is_range s ≡ false
     → meaning built (state_of db ranges) (asker_of user) s ≡ free_tree_outcome (state_of db ranges) user (resolved db user ranges s)
 tree_runs db ranges user s plain e h = runs db ranges user s plain e ∙ by_tree db ranges user s h
 
 -- ---- what a statement does that is built
 
-module _ (db now : Db) (old new : Ranges) (user : List ℕ) (s : Statement) (plain : IsPlainState (state_of db old) user) (e : is_built s ≡ true) where
+module _ (db now : Db) (old new : Ranges) (user : List ℕ) (s : Statement) (plain : IsPlainState (state_of db old) user) (e : is_run_here s ≡ true) where
   pub range_done : (var rel : List ℕ) → s ≡ statement.Range var rel → (reply : Reply) → range_outcome (state_of db old) var (found db user rel) ≡ outcome_of now new reply
       → meaning built (state_of db old) (asker_of user) s ≡ outcome_of now new reply
   range_done var rel is reply h =
-      ap (meaning built (state_of db old) (asker_of user)) is ∙ range_runs db old user var rel plain.database (subst (λ s. is_built s ≡ true) is e) ∙ h
+      ap (meaning built (state_of db old) (asker_of user)) is ∙ range_runs db old user var rel plain.database (subst (λ s. is_run_here s ≡ true) is e) ∙ h
 
   pub tree_done : is_range s ≡ false → (reply : Reply) → free_tree_outcome (state_of db old) user (resolved db user old s) ≡ outcome_of now new reply
       → meaning built (state_of db old) (asker_of user) s ≡ outcome_of now new reply
@@ -99,7 +98,7 @@ same_outcome db between now ranges user found same reply h = ap (λ d. free_tree
 -- ---- the state stays plain
 
 builds_plain : BuildsPlain built
-unfolding is_built is_plain
+unfolding is_run_here is_plain
 builds_plain (statement.Index base name keys) h = absurd (cc h)
 builds_plain (statement.View name items qual) h = absurd (cc h)
 builds_plain (statement.Permit ops var attrs user qual) h = absurd (cc h)

@@ -2,6 +2,7 @@
 #![tactic(auto)]
 
 mod answering;
+mod built;
 mod carrying;
 mod changing;
 mod pairing;

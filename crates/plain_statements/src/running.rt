@@ -11,14 +11,14 @@ ghost use Rattle.quel_meaning.specs.Ranges.{Ranges};
 ghost use Rattle.quel_meaning.specs.Resolved.{resolved};
 ghost use Rattle.owner_session_laws.specs.Freely.{free_tree_outcome};
 ghost use Rattle.owner_session_laws.specs.Plain.{IsPlain, IsPlainState};
-ghost use Rattle.quel_resolve.specs.Built.{is_built};
 ghost use Rattle.plain_base.specs.Shown.{database_of};
-ghost use Rattle.plain_statements.specs.Built.{built};
+ghost use Rattle.plain_statements.specs.Built.{built, is_run_here};
 ghost use Rattle.plain_statements.specs.Doable.{IsDoable};
 ghost use Rattle.plain_statements.specs.Plans.{IsMade};
 ghost use Rattle.plain_statements.specs.Standing.{state_of, outcome_of};
 
 use crate::Stopped;
+use crate::built::is_run_here;
 use crate::carrying::tree_done;
 use crate::refusing::{answer_to, refused};
 use crate::trees::tree_of;
@@ -26,7 +26,6 @@ use am_traits::Base;
 use calculus::{Checked, Name, OutOfMemory, Reply, Statement, TryCopy};
 use plain_base::DbPlain;
 use quel_check::RangeTable;
-use quel_resolve::is_built;
 use std::alloc::Global;
 
 /// The number of a statement that isn't built.
@@ -89,7 +88,7 @@ fn carried_out(
     s: &Statement,
 ) -> Result<Reply, OutOfMemory>
     requires plain { IsPlain (database_of base.old) user.now }
-    requires built { is_built s.now ≡ true }
+    requires built { is_run_here s.now ≡ true }
     requires written { is_written s.now ≡ true }
     ensures done { IfOk result (λ reply. free_tree_outcome (state_of (database_of base.old) ranges.now) user.now (resolved (database_of base.old) user.now ranges.now s.now) ≡ outcome_of (database_of base.new) ranges.now reply) }
     ensures same { OnErr result (database_of base.new ≡ database_of base.old) }
@@ -118,7 +117,7 @@ fn built_run(
     s: &Statement,
 ) -> Result<Reply, OutOfMemory>
     requires plain { IsPlainState (state_of (database_of base.old) ranges.old) user.now }
-    requires built { is_built s.now ≡ true }
+    requires built { is_run_here s.now ≡ true }
     requires written { is_written s.now ≡ true }
     ensures outcome { IfOk result (λ reply. meaning built (state_of (database_of base.old) ranges.old) (asker_of user.now) s.now ≡ outcome_of (database_of base.new) ranges.new reply) }
     ensures database { OnErr result (database_of base.new ≡ database_of base.old) }
@@ -143,9 +142,9 @@ pub(crate) fn run(
     requires written { is_written s.now ≡ true }
     ensures outcome { IfOk result (λ reply. meaning built (state_of (database_of base.old) ranges.old) (asker_of user.now) s.now ≡ outcome_of (database_of base.new) ranges.new reply) }
     ensures plain { IsPlainState (state_of (database_of base.new) ranges.new) user.now }
-    ensures not_built { is_built s.now ≡ false → IsOk result }
+    ensures not_built { is_run_here s.now ≡ false → IsOk result }
 {
-    if is_built(s) {
+    if is_run_here(s) {
         built_run(alloc, base, ranges, user, s)
     } else {
         Ok(refused(NOT_BUILT))

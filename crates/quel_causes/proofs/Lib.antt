@@ -1,7 +1,6 @@
-pub mod Counting
 pub mod Entries
 pub mod Fits
 pub mod Standing
+pub mod Stored
 pub mod TooMany
 pub mod Twice
-pub mod Viewed

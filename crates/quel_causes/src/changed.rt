@@ -11,13 +11,13 @@ ghost use Rattle.quel_meaning.specs.Causes.{delete_causes, update_causes};
 ghost use Rattle.quel_meaning.specs.KindsInQueries.{assignments_fit, query_fits};
 ghost use Rattle.quel_meaning.specs.Scope.{Scope};
 
+use crate::counted::has_too_many;
 use crate::fitting::assignments_fit;
 use crate::kinds::kinds_at;
 use crate::numbers::{IS_CATALOGUE, IS_VIEW, KINDS_DIFFER, NAMED_TWICE, PAST_LIMIT};
 use crate::places::is_catalogue_name;
 use crate::repeated::titles_repeat;
 use crate::retrieved::kinds_fit;
-use crate::variables::has_too_many;
 use am_traits::{Base, BaseFault};
 use calculus::{Name, RelKey, Update};
 use std::alloc::Global;

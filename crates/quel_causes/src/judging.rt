@@ -1,6 +1,6 @@
 //! What refuses a statement whose names were found.
 
-ghost use Rattle.std.specs.Prelude.{◌≡◌, List, [], true, false, option_map, IfOk, None, Some};
+ghost use Rattle.std.specs.Prelude.{◌≡◌, List, [], true, false, option_copied, option_map, IfOk, None, Some};
 ghost use Rattle.am_traits.specs.Causes.{HasCause};
 ghost use Rattle.calculus.specs.declared.query.Query.{Query};
 ghost use Rattle.calculus.specs.declared.statement.Item.{Item};
@@ -9,7 +9,7 @@ ghost use Rattle.calculus.specs.declared.statement.Statement.TheVariants as stat
 ghost use Rattle.calculus.specs.Lists.{is_any};
 ghost use Rattle.calculus.specs.QueryParts.{query_aggregates};
 ghost use Rattle.calculus.specs.Replacement.{first_cause};
-ghost use Rattle.quel_causes.specs.Judged.{is_judged, update_of};
+ghost use Rattle.quel_causes.specs.Judged.{IsOn, is_judged, update_of};
 ghost use Rattle.quel_meaning.specs.Causes.{causes, causes_by};
 ghost use Rattle.quel_meaning.specs.Scope.{Scope};
 ghost use Rattle.quel_meaning.specs.WrittenParts.{text_aggregates};
@@ -17,9 +17,11 @@ ghost use Rattle.quel_meaning.specs.WrittenQuery.{query_of};
 
 use crate::changed::{delete_cause, update_cause};
 use crate::created::create_cause;
+use crate::restricted::{permit_cause, rule_cause};
 use crate::retrieved::{into_cause, print_cause};
+use crate::viewed::view_cause;
 use am_traits::{Base, BaseFault};
-use calculus::{Name, Query, Statement, Update};
+use calculus::{Name, Query, RelInfo, Statement, Update};
 use std::alloc::Global;
 
 /// What refuses a `retrieve`, into a relation of this name or printed.
@@ -67,8 +69,9 @@ fn unchanged_cause<B: Base>(
     user: &Name,
     s: &Statement,
     q: &Query,
+    on: Option<&RelInfo>,
 ) -> Result<Option<u8>, BaseFault>
-    ensures told { (scope : Scope) → B.database base.old ≡ Some scope.db → scope.user ≡ user.now → query_aggregates q.now ≡ [] → None ≡ update_of scope s.now q.now → is_judged s.now ≡ true → IfOk result (λ n. n ≡ first_cause (causes_by scope true q.now s.now)) }
+    ensures told { (scope : Scope) → B.database base.old ≡ Some scope.db → scope.user ≡ user.now → query_aggregates q.now ≡ [] → None ≡ update_of scope s.now q.now → IsOn scope s.now (option_copied on.entry) → is_judged s.now ≡ true → IfOk result (λ n. n ≡ first_cause (causes_by scope true q.now s.now)) }
     ensures kept { B.database base.new ≡ B.database base.old }
     ensures same { B.left base.new ≡ B.left base.old }
     ensures cause { HasCause (B.database base.old) (B.faults base.old) (B.faults base.new) result }
@@ -78,14 +81,18 @@ fn unchanged_cause<B: Base>(
             retrieve_cause(alloc, base, user, into, sort.items(), q)
         }
         Statement::Create { rel, attrs } => create_cause(alloc, base, user, rel, attrs.items()),
+        Statement::View { name, .. } => view_cause(alloc, base, user, name, q),
+        Statement::Permit { attrs, .. } => permit_cause(alloc, base, on, attrs.items(), q),
+        Statement::Rule { .. } => rule_cause(alloc, base, on, q),
         _ => Ok(None),
     }
 }
 
 /// The number of the first cause that refuses a statement whose names were found, for this user;
-/// `None` where there is none. `q` is the statement's query, and `update` the update that it is where
-/// it appends, replaces or deletes. Nothing is said of statements with aggregates, nor of those that
-/// neither declare, retrieve, append, replace, delete nor create.
+/// `None` where there is none. `q` is the statement's query, `update` the update that it is where it
+/// appends, replaces or deletes, and `on` what is known of what the variable of a permit or a rule
+/// ranges over. Nothing is said of statements with aggregates, nor of `destroy`, `modify`, `index`,
+/// `print`, `help` and `copy`.
 pub fn cause<B: Base>(
     alloc: Global,
     base: &mut B,
@@ -93,14 +100,15 @@ pub fn cause<B: Base>(
     s: &Statement,
     q: &Query,
     update: Option<&Update>,
+    on: Option<&RelInfo>,
 ) -> Result<Option<u8>, BaseFault>
-    ensures told { (scope : Scope) → B.database base.old ≡ Some scope.db → scope.user ≡ user.now → q.now ≡ query_of scope s.now → option_map (λ v. v.now) update.entry ≡ update_of scope s.now q.now → is_any (text_aggregates s.now) ≡ false → is_judged s.now ≡ true → IfOk result (λ n. n ≡ first_cause (causes scope s.now)) }
+    ensures told { (scope : Scope) → B.database base.old ≡ Some scope.db → scope.user ≡ user.now → q.now ≡ query_of scope s.now → option_map (λ v. v.now) update.entry ≡ update_of scope s.now q.now → IsOn scope s.now (option_copied on.entry) → is_any (text_aggregates s.now) ≡ false → is_judged s.now ≡ true → IfOk result (λ n. n ≡ first_cause (causes scope s.now)) }
     ensures kept { B.database base.new ≡ B.database base.old }
     ensures same { B.left base.new ≡ B.left base.old }
     ensures cause { HasCause (B.database base.old) (B.faults base.old) (B.faults base.new) result }
 {
     match update {
         Some(u) => changed_cause(alloc, base, s, u),
-        None => unchanged_cause(alloc, base, user, s, q),
+        None => unchanged_cause(alloc, base, user, s, q, on),
     }
 }

@@ -2,6 +2,7 @@
 #![tactic(auto)]
 
 mod changed;
+mod counted;
 mod created;
 mod fitting;
 mod judging;
@@ -9,14 +10,15 @@ mod kinds;
 mod numbers;
 mod places;
 mod repeated;
+mod restricted;
 mod retrieved;
-mod variables;
+mod viewed;
 mod widths;
 
+pub use counted::has_too_many;
 pub use fitting::{assignments_fit, query_fits, same_kind, targets_fit};
 pub use judging::cause;
 pub use kinds::{kinds_at, var_kinds};
 pub use places::{is_catalogue_name, is_full, is_taken};
 pub use repeated::{repeats, sorts_by_titles};
-pub use variables::has_too_many;
 pub use widths::{is_too_wide, kind_bytes};

@@ -10,12 +10,12 @@ ghost use Rattle.quel_meaning.specs.KindsInQueries.{query_fits};
 ghost use Rattle.quel_meaning.specs.Passing.{has_too_many, is_full, is_taken, is_too_wide};
 ghost use Rattle.quel_meaning.specs.Scope.{Scope};
 
+use crate::counted::has_too_many;
 use crate::fitting::query_fits;
 use crate::kinds::var_kinds;
 use crate::numbers::{IN_USE, KINDS_DIFFER, NAMED_TWICE, PAST_LIMIT, TOO_WIDE, UNKNOWN};
 use crate::places::{is_full, is_taken};
 use crate::repeated::{sorts_by_titles, titles_repeat};
-use crate::variables::has_too_many;
 use crate::widths::{is_too_wide, made_kinds, target_kinds};
 use am_traits::{Base, BaseFault};
 use calculus::{Name, OutOfMemory, Query, Target};
@@ -72,7 +72,11 @@ pub(crate) fn print_cause<B: Base>(
 
 /// Whether there is no room for a new relation with the rows of a query, or the query lists too many
 /// variables.
-fn has_no_room<B: Base>(alloc: Global, base: &mut B, q: &Query) -> Result<bool, BaseFault>
+pub(crate) fn has_no_room<B: Base>(
+    alloc: Global,
+    base: &mut B,
+    q: &Query,
+) -> Result<bool, BaseFault>
     ensures told { (db : Db) → B.database base.old ≡ Some db → query_aggregates q.now ≡ [] → IfOk result (λ none. none ≡ (has_too_many db q.now || is_full db)) }
     ensures kept { B.database base.new ≡ B.database base.old }
     ensures same { B.left base.new ≡ B.left base.old }

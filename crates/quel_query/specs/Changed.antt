@@ -8,20 +8,37 @@ use Rattle.calculus.specs.QueryParts.{targets_of}
 use Rattle.calculus.specs.Stored.{attrs_in}
 use Rattle.quel_meaning.specs.Scope.{Scope, named, ranged}
 
--- what is known of what a statement changes: of the relation that gains rows, or of what the variable ranges over whose rows are replaced or deleted
+-- what is known of what a statement changes: of the relation that gains rows, or whose permits or rules go, or of what the variable ranges over whose rows are replaced or deleted, or that gets a permit or a rule
 abbrev pub changed : Scope → Statement → Option RelInfo
 changed s (statement.Append rel items qual) = named s rel
 changed s (statement.Replace var items qual) = ranged s var
 changed s (statement.Delete var qual) = ranged s var
+changed s (statement.DropPermits rel numbers) = named s rel
+changed s (statement.DropRules rel numbers) = named s rel
+changed s (statement.Permit ops var attrs user qual) = ranged s var
+changed s (statement.Rule var qual) = ranged s var
 changed s _ = None
 
--- a statement that changes this is one of those that have trees: `retrieve`, `create`, and `append`, `replace` and `delete` where what they change is there
+-- a statement that changes this defines permits or rules or takes them away, and what it changes is there
+abbrev pub restricts : Statement → Option RelInfo → Bool
+restricts (statement.DropPermits rel numbers) target = is_some target
+restricts (statement.DropRules rel numbers) target = is_some target
+restricts (statement.Permit ops var attrs user qual) target = is_some target
+restricts (statement.Rule var qual) target = is_some target
+restricts _ target = false
+
+-- a statement that changes this is one of those that have trees: `retrieve`, `create`, a view, and those that append, replace, delete or restrict where what they change is there
 abbrev pub is_built : Statement → Option RelInfo → Bool
 is_built (statement.Retrieve into items qual sort) target = true
 is_built (statement.Create rel attrs) target = true
 is_built (statement.Append rel items qual) target = is_some target
 is_built (statement.Replace var items qual) target = is_some target
 is_built (statement.Delete var qual) target = is_some target
+is_built (statement.View name items qual) target = true
+is_built (statement.DropPermits rel numbers) target = is_some target
+is_built (statement.DropRules rel numbers) target = is_some target
+is_built (statement.Permit ops var attrs user qual) target = is_some target
+is_built (statement.Rule var qual) target = is_some target
 is_built _ target = false
 
 -- the user's statement changes this, and there are so few attributes and targets that each place is a byte

@@ -7,6 +7,7 @@ mod parts;
 mod places;
 mod queries;
 mod sorting;
+mod stored;
 mod targets;
 mod trees;
 mod updates;

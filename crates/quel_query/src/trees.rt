@@ -12,11 +12,12 @@ ghost use Rattle.calculus.specs.Stored.{attrs_in};
 ghost use Rattle.quel_meaning.specs.Resolved.{sort_key, stored_attr, tree_by};
 ghost use Rattle.quel_meaning.specs.Scope.{Scope, named, ranged};
 ghost use Rattle.quel_meaning.specs.StatementUpdate.{append_of, delete_of, replace_of};
-ghost use Rattle.quel_query.specs.Changed.{Suits, is_built};
+ghost use Rattle.quel_query.specs.Changed.{Suits, changed, is_built, restricts};
 
 use crate::known::key_of;
 use crate::pairs::{alone, beside, both, push};
 use crate::sorting::sort_keys;
+use crate::stored::{permits_dropped, permitted, ruled, rules_dropped, viewed};
 use crate::updates::{append_of, delete_of, into_of, replace_of};
 use calculus::{
     Asked, Attr, Checked, Domain, Kind, List, Name, OutOfMemory, Query, RelInfo, Statement, Utility,
@@ -141,10 +142,35 @@ fn deleted(
     }
 }
 
+/// The tree of a statement that defines or drops permits or rules, where `target` is known of their
+/// relation, and has at most 256 attributes; `None` where it isn't there, and of all other statements.
+fn restricted(
+    alloc: Global,
+    s: &Statement,
+    q: &Query,
+    target: Option<&RelInfo>,
+) -> Result<Option<Checked>, OutOfMemory>
+    ensures built { IfOk result (λ tree. is_some tree ≡ restricts s.now (option_copied target.entry)) }
+    ensures tree { IfOk result (λ tree. (scope : Scope) → changed scope s.now ≡ option_copied target.entry → length (attrs_in (option_copied target.entry)) ≤ 256 → IfSome tree (λ checked. checked ≡ tree_by scope q.now s.now)) }
+{
+    match s {
+        Statement::Permit {
+            ops,
+            attrs,
+            user,
+            ..
+        } => permitted(alloc, target, *ops, attrs.items(), user, q),
+        Statement::Rule { .. } => ruled(alloc, target, q),
+        Statement::DropPermits { numbers, .. } => permits_dropped(alloc, target, numbers),
+        Statement::DropRules { numbers, .. } => rules_dropped(alloc, target, numbers),
+        _ => Ok(None),
+    }
+}
+
 /// The tree of a user's statement whose query is this, where `target` is what the statement changes,
 /// and the query has at most 256 targets and `target` as many attributes: of a `retrieve`, of a
-/// `create`, and of an `append`, a `replace` or a `delete` whose `target` is there. `None` of all
-/// others, which have no trees yet.
+/// `create`, of a view, and of an `append`, a `replace` or a `delete`, of permits and of rules that are
+/// defined or go, whose `target` is there. `None` of all others, which have no trees yet.
 pub fn tree_by(
     alloc: Global,
     user: &Name,
@@ -164,6 +190,11 @@ pub fn tree_by(
         Statement::Append { .. } => appended(alloc, target, q),
         Statement::Replace { .. } => replaced(alloc, target, q),
         Statement::Delete { .. } => deleted(alloc, target, q),
-        _ => no_tree(q),
+        Statement::View { name, .. } => viewed(alloc, user, name, q),
+        _ => {
+            let tree = restricted(alloc, s, &q, target);
+            drop(q);
+            tree
+        }
     }
 }

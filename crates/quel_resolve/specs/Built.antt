@@ -6,7 +6,7 @@ use Rattle.calculus.specs.declared.statement.Statement.TheVariants as statement
 use Rattle.quel_causes.specs.Judged.{is_judged}
 use Rattle.quel_meaning.specs.WrittenParts.{text_aggregates}
 
--- a declaration of a variable, a `retrieve`, an `append`, a `replace`, a `delete` or a `create`, without aggregates
+-- a declaration of a variable, a `retrieve`, an `append`, a `replace`, a `delete`, a `create`, a definition of a view, of a permit or of a rule, or permits or rules that go, without aggregates
 unfoldable pub is_built : Statement → Bool
 is_built s = is_judged s && not (is_any (text_aggregates s))
 
@@ -14,3 +14,10 @@ is_built s = is_judged s && not (is_any (text_aggregates s))
 abbrev pub is_range : Statement → Bool
 is_range (statement.Range var rel) = true
 is_range _ = false
+
+-- a statement that appends, replaces or deletes
+abbrev pub changes_rows : Statement → Bool
+changes_rows (statement.Append rel items qual) = true
+changes_rows (statement.Replace var items qual) = true
+changes_rows (statement.Delete var qual) = true
+changes_rows _ = false

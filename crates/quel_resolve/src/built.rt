@@ -2,7 +2,7 @@
 
 ghost use Rattle.std.specs.Prelude.{◌≡◌};
 ghost use Rattle.quel_causes.specs.Judged.{is_judged};
-ghost use Rattle.quel_resolve.specs.Built.{is_built, is_range};
+ghost use Rattle.quel_resolve.specs.Built.{changes_rows, is_built, is_range};
 
 use calculus::Statement;
 use quel_check::has_aggregate;
@@ -18,21 +18,22 @@ fn is_judged(s: &Statement) -> bool
         Statement::Delete { .. } => true,
         Statement::Create { .. } => true,
         Statement::Destroy { .. } => false,
-        Statement::DropPermits { .. } => false,
-        Statement::DropRules { .. } => false,
+        Statement::DropPermits { .. } => true,
+        Statement::DropRules { .. } => true,
         Statement::Modify { .. } => false,
         Statement::Index { .. } => false,
         Statement::Print { .. } => false,
         Statement::Help { .. } => false,
         Statement::Copy { .. } => false,
-        Statement::View { .. } => false,
-        Statement::Permit { .. } => false,
-        Statement::Rule { .. } => false,
+        Statement::View { .. } => true,
+        Statement::Permit { .. } => true,
+        Statement::Rule { .. } => true,
     }
 }
 
 /// Whether a statement is of a kind that is resolved so far, and holds no aggregate: a declaration of
-/// a variable, a `retrieve`, an `append`, a `replace`, a `delete` or a `create`. Takes no memory.
+/// a variable, a `retrieve`, an `append`, a `replace`, a `delete`, a `create`, a definition of a view, of
+/// a permit or of a rule, or permits or rules that go. Takes no memory.
 #[tactic(auto, unfolding(crate::specs::Built::is_built))]
 pub fn is_built(s: &Statement) -> bool
     ensures { result ≡ is_built s.now }
@@ -46,6 +47,16 @@ pub(crate) fn is_range(s: &Statement) -> bool
 {
     match s {
         Statement::Range { .. } => true,
+        _ => false,
+    }
+}
+
+/// Whether a statement appends, replaces or deletes.
+pub(crate) fn changes_rows(s: &Statement) -> bool
+    ensures { result ≡ changes_rows s.now }
+{
+    match s {
+        Statement::Append { .. } | Statement::Replace { .. } | Statement::Delete { .. } => true,
         _ => false,
     }
 }

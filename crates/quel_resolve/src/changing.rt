@@ -15,7 +15,8 @@ use quel_names::{named, ranged};
 use quel_query::{append_of, delete_of, replace_of};
 use std::alloc::Global;
 
-/// The relation that gains rows, or over which the variable ranges whose rows are replaced or deleted.
+/// The relation that gains rows, or whose permits or rules go, or over which the variable ranges whose
+/// rows are replaced or deleted, or whose relation gets a permit or a rule.
 #[tactic(auto, unfolding(quel_meaning::specs::Scope::named, quel_meaning::specs::Scope::ranged))]
 pub(crate) fn changed<B: Base>(
     alloc: Global,
@@ -30,9 +31,13 @@ pub(crate) fn changed<B: Base>(
     ensures cause { HasCause (B.database base.old) (B.faults base.old) (B.faults base.new) result }
 {
     match s {
-        Statement::Append { rel, .. } => named(alloc, base, user, rel),
-        Statement::Replace { var, .. } => ranged(alloc, base, ranges, var),
-        Statement::Delete { var, .. } => ranged(alloc, base, ranges, var),
+        Statement::Append { rel, .. }
+        | Statement::DropPermits { rel, .. }
+        | Statement::DropRules { rel, .. } => named(alloc, base, user, rel),
+        Statement::Replace { var, .. }
+        | Statement::Delete { var, .. }
+        | Statement::Permit { var, .. }
+        | Statement::Rule { var, .. } => ranged(alloc, base, ranges, var),
         _ => Ok(None),
     }
 }

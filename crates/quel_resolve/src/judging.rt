@@ -1,8 +1,8 @@
 //! What refuses a statement that is built and whose names were found.
 
-ghost use Rattle.std.specs.Prelude.{◌≡◌, Option, Some, None, true, option_map};
+ghost use Rattle.std.specs.Prelude.{◌≡◌, Option, Some, None, true, option_copied, option_map};
 ghost use Rattle.calculus.specs.Replacement.{first_cause};
-ghost use Rattle.quel_causes.specs.Judged.{update_of};
+ghost use Rattle.quel_causes.specs.Judged.{IsOn, update_of};
 ghost use Rattle.quel_meaning.specs.Causes.{causes};
 ghost use Rattle.quel_meaning.specs.Resolved.{tree_of};
 ghost use Rattle.quel_meaning.specs.Scope.{Scope};
@@ -13,11 +13,12 @@ ghost use Rattle.quel_resolve.specs.Causes.{HasCheckCause};
 
 use crate::fault::CheckFault;
 use am_traits::Base;
-use calculus::{Checked, Name, Query, Statement, Update};
+use calculus::{Checked, Name, Query, RelInfo, Statement, Update};
 use quel_causes::cause;
 use std::alloc::Global;
 
-/// Goes on where no cause refuses a statement with this query, which is this update.
+/// Goes on where no cause refuses a statement with this query, which is this update, or a permit or a rule
+/// on the relation of which this is known.
 pub(crate) fn judge<B: Base>(
     alloc: Global,
     base: &mut B,
@@ -25,15 +26,16 @@ pub(crate) fn judge<B: Base>(
     s: &Statement,
     q: &Query,
     update: Option<&Update>,
+    on: Option<&RelInfo>,
 ) -> Result<(), CheckFault>
-    ensures told { (scope : Scope) → B.database base.old ≡ Some scope.db → scope.user ≡ user.now → q.now ≡ query_of scope s.now → option_map (λ v. v.now) update.entry ≡ update_of scope s.now q.now → is_built s.now ≡ true
+    ensures told { (scope : Scope) → B.database base.old ≡ Some scope.db → scope.user ≡ user.now → q.now ≡ query_of scope s.now → option_map (λ v. v.now) update.entry ≡ update_of scope s.now q.now → IsOn scope s.now (option_copied on.entry) → is_built s.now ≡ true
         → Says (λ done. first_cause (causes scope s.now) ≡ None) (λ number. first_cause (causes scope s.now) ≡ Some number) (Unit {0}) result }
     ensures judged { IsJudged result }
     ensures kept { B.database base.new ≡ B.database base.old }
     ensures same { B.left base.new ≡ B.left base.old }
     ensures cause { HasCheckCause (B.database base.old) (B.faults base.old) (B.faults base.new) result }
 {
-    match cause(alloc, base, user, s, q, update)? {
+    match cause(alloc, base, user, s, q, update, on)? {
         Some(number) => Err(CheckFault::No(number)),
         None => Ok(()),
     }
@@ -54,7 +56,7 @@ pub(crate) fn judge_update<B: Base>(
     ensures same { B.left base.new ≡ B.left base.old }
     ensures cause { HasCheckCause (B.database base.old) (B.faults base.old) (B.faults base.new) result }
 {
-    match judge(alloc, base, user, s, &update.query, Some(&update)) {
+    match judge(alloc, base, user, s, &update.query, Some(&update), None) {
         Ok(()) => Ok(Checked::Update(update)),
         Err(fault) => {
             drop(update);

@@ -1,6 +1,6 @@
 //! The tree of a statement that is built and whose names were found.
 
-ghost use Rattle.std.specs.Prelude.{◌≡◌, ℕ, [], Option, Some, None, true, false};
+ghost use Rattle.std.specs.Prelude.{◌≡◌, ℕ, [], Option, Some, None, true, false, option_copied};
 ghost use Rattle.calculus.specs.IsDatabase.{IsDatabase};
 ghost use Rattle.calculus.specs.Database.{Db};
 ghost use Rattle.calculus.specs.Replacement.{first_cause};
@@ -12,12 +12,12 @@ ghost use Rattle.quel_meaning.specs.Resolved.{tree_of};
 ghost use Rattle.quel_meaning.specs.Scope.{Scope};
 ghost use Rattle.quel_meaning.specs.WrittenQuery.{query_of};
 ghost use Rattle.quel_names.specs.Asking.{scope_of};
-ghost use Rattle.quel_query.specs.Changed.{changed};
+ghost use Rattle.quel_query.specs.Changed.{changed, is_built as has_tree};
 ghost use Rattle.quel_resolve.specs.Answers.{IsJudged, Says};
-ghost use Rattle.quel_resolve.specs.Built.{is_built, is_range};
+ghost use Rattle.quel_resolve.specs.Built.{changes_rows, is_built, is_range};
 ghost use Rattle.quel_resolve.specs.Causes.{HasCheckCause, IsCaused};
 
-use crate::built::is_range;
+use crate::built::{changes_rows, is_range};
 use crate::changing::{changed, update_of};
 use crate::fault::CheckFault;
 use crate::judging::{judge, judge_update};
@@ -31,7 +31,7 @@ use std::alloc::Global;
 /// The number of an unknown relation.
 const NO_RELATION: u8 = 10;
 
-/// The tree of a statement with this query that changes the relation of which this is known.
+/// The tree of a statement with this query that changes rows of the relation of which this is known.
 fn updated<B: Base>(
     alloc: Global,
     base: &mut B,
@@ -40,7 +40,7 @@ fn updated<B: Base>(
     info: &RelInfo,
     q: Query,
 ) -> Result<Checked, CheckFault>
-    ensures told { (scope : Scope) → B.database base.old ≡ Some scope.db → scope.user ≡ user.now → q ≡ query_of scope s.now → changed scope s.now ≡ Some info.now → is_built s.now ≡ true
+    ensures told { (scope : Scope) → B.database base.old ≡ Some scope.db → scope.user ≡ user.now → q ≡ query_of scope s.now → changed scope s.now ≡ Some info.now → changes_rows s.now ≡ true → is_built s.now ≡ true
         → Says (λ tree. (tree ≡ tree_of scope s.now) × (first_cause (causes scope s.now) ≡ None)) (λ number. first_cause (causes scope s.now) ≡ Some number) (Unit {0}) result }
     ensures judged { IsJudged result }
     ensures kept { B.database base.new ≡ B.database base.old }
@@ -53,40 +53,72 @@ fn updated<B: Base>(
     }
 }
 
-/// The tree of a statement with this query that changes no relation, where no cause refuses it.
-fn asked(alloc: Global, user: &Name, s: &Statement, q: Query) -> Result<Checked, CheckFault>
-    ensures told { (scope : Scope) → IsDatabase scope.db → scope.user ≡ user.now → q ≡ query_of scope s.now → None ≡ update_of scope s.now q → changed scope s.now ≡ None → is_built s.now ≡ true → is_range s.now ≡ false → first_cause (causes scope s.now) ≡ None
+/// The tree of a statement with this query that changes no rows, where no cause refuses it.
+fn asked(
+    alloc: Global,
+    user: &Name,
+    s: &Statement,
+    on: Option<&RelInfo>,
+    q: Query,
+) -> Result<Checked, CheckFault>
+    ensures told { (scope : Scope) → IsDatabase scope.db → scope.user ≡ user.now → q ≡ query_of scope s.now → None ≡ update_of scope s.now q → changed scope s.now ≡ option_copied on.entry → has_tree s.now (option_copied on.entry) ≡ true → is_built s.now ≡ true → is_range s.now ≡ false → first_cause (causes scope s.now) ≡ None
         → Says (λ tree. (tree ≡ tree_of scope s.now) × (first_cause (causes scope s.now) ≡ None)) (λ number. first_cause (causes scope s.now) ≡ Some number) (Unit {0}) result }
     ensures judged { IsJudged result }
     ensures no_fault { (told : Option Db) (before now : ℕ) → IsCaused told before now result }
 {
-    match tree_by(alloc, user, s, q, None)? {
+    match tree_by(alloc, user, s, q, on)? {
         Some(tree) => Ok(tree),
         None => Err(CheckFault::No(NO_RELATION)),
     }
 }
 
-/// The tree of a statement with this query that changes no relation.
+/// The tree of a statement with this query that changes no rows, where this is known of the relation that
+/// it changes in another way.
+#[tactic(auto, using(crate::proofs::Changes::on_changed))]
 fn made<B: Base>(
     alloc: Global,
     base: &mut B,
     user: &Name,
     s: &Statement,
+    on: Option<&RelInfo>,
     q: Query,
 ) -> Result<Checked, CheckFault>
-    ensures told { (scope : Scope) → B.database base.old ≡ Some scope.db → scope.user ≡ user.now → q ≡ query_of scope s.now → None ≡ update_of scope s.now q → changed scope s.now ≡ None → is_built s.now ≡ true → is_range s.now ≡ false
+    ensures told { (scope : Scope) → B.database base.old ≡ Some scope.db → scope.user ≡ user.now → q ≡ query_of scope s.now → None ≡ update_of scope s.now q → changed scope s.now ≡ option_copied on.entry → has_tree s.now (option_copied on.entry) ≡ true → is_built s.now ≡ true → is_range s.now ≡ false
         → Says (λ tree. (tree ≡ tree_of scope s.now) × (first_cause (causes scope s.now) ≡ None)) (λ number. first_cause (causes scope s.now) ≡ Some number) (Unit {0}) result }
     ensures judged { IsJudged result }
     ensures kept { B.database base.new ≡ B.database base.old }
     ensures same { B.left base.new ≡ B.left base.old }
     ensures cause { HasCheckCause (B.database base.old) (B.faults base.old) (B.faults base.new) result }
 {
-    match judge(alloc, base, user, s, &q, None) {
-        Ok(()) => asked(alloc, user, s, q),
+    match judge(alloc, base, user, s, &q, None, on) {
+        Ok(()) => asked(alloc, user, s, on, q),
         Err(fault) => {
             drop(q);
             Err(fault)
         }
+    }
+}
+
+/// The tree of a statement with this query that changes the relation of which this is known.
+fn changing<B: Base>(
+    alloc: Global,
+    base: &mut B,
+    user: &Name,
+    s: &Statement,
+    info: &RelInfo,
+    q: Query,
+) -> Result<Checked, CheckFault>
+    ensures told { (scope : Scope) → B.database base.old ≡ Some scope.db → scope.user ≡ user.now → q ≡ query_of scope s.now → changed scope s.now ≡ Some info.now → is_built s.now ≡ true → is_range s.now ≡ false
+        → Says (λ tree. (tree ≡ tree_of scope s.now) × (first_cause (causes scope s.now) ≡ None)) (λ number. first_cause (causes scope s.now) ≡ Some number) (Unit {0}) result }
+    ensures judged { IsJudged result }
+    ensures kept { B.database base.new ≡ B.database base.old }
+    ensures same { B.left base.new ≡ B.left base.old }
+    ensures cause { HasCheckCause (B.database base.old) (B.faults base.old) (B.faults base.new) result }
+{
+    if changes_rows(s) {
+        updated(alloc, base, user, s, info, q)
+    } else {
+        made(alloc, base, user, s, Some(info), q)
     }
 }
 
@@ -108,8 +140,8 @@ fn tree_over<B: Base>(
     ensures cause { HasCheckCause (B.database base.old) (B.faults base.old) (B.faults base.new) result }
 {
     match changes {
-        Some(info) => updated(alloc, base, user, s, &info, q),
-        None => made(alloc, base, user, s, q),
+        Some(info) => changing(alloc, base, user, s, &info, q),
+        None => made(alloc, base, user, s, None, q),
     }
 }
 

@@ -2,10 +2,10 @@ use Rattle.std.proofs.Common.{◌∙◌, ap, arith, ◌+◌, max, nat_le}
 use Rattle.calculus.specs.QueryParts.{targets_of, qual_of}
 use Rattle.calculus.specs.Spelled.{query_is_spelled}
 use Rattle.calculus.specs.TreeLevels.{query_levels}
-use Rattle.change_check.specs.Sized.{greatest_depth, qual_depth}
-use Rattle.change_check.proofs.Numbered.{stopped_le}
+use Rattle.view_sizes.specs.Sized.{greatest_depth, qual_depth}
+use Rattle.view_sizes.proofs.Stopped.{stopped_le}
 use Rattle.change_check.proofs.Parts.{also}
-use Rattle.change_check.proofs.QueryDepths.{query_alone}
+use Rattle.view_sizes.proofs.QueryDepths.{query_alone}
 use Rattle.change_check.proofs.views.can_be_stored.Goals as goal
 
 pub returns : goal.returns

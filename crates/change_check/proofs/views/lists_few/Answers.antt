@@ -1,5 +1,5 @@
 use Rattle.std.proofs.Common.{◌∙◌, ap, length, nat_le}
-use Rattle.quel_causes.proofs.Counting.{vars_is}
+use Rattle.view_sizes.proofs.Counting.{vars_is}
 use Rattle.change_check.proofs.views.lists_few.Goals as goal
 
 pub returns : goal.returns

@@ -1,5 +1,5 @@
 use Rattle.std.proofs.Common.{◌∙◌}
-use Rattle.change_check.proofs.Measuring.{measured_within}
+use Rattle.view_sizes.proofs.Measuring.{measured_within}
 use Rattle.change_check.proofs.views.measure_fits.Goals as goal
 
 pub returns-clause-told : goal.returns-clause-told

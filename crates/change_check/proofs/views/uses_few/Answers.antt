@@ -1,7 +1,7 @@
 use Rattle.std.proofs.Common.{◌∙◌, ap, arith, length, nat_le}
 use Rattle.calculus.specs.Used.{used_vars}
-use Rattle.change_check.proofs.Numbered.{stopped_le}
-use Rattle.change_check.proofs.Measuring.{variables_used}
+use Rattle.view_sizes.proofs.Stopped.{stopped_le}
+use Rattle.view_sizes.proofs.Measuring.{variables_used}
 use Rattle.change_check.proofs.views.uses_few.Goals as goal
 
 pub returns : goal.returns

@@ -3,7 +3,7 @@ use Rattle.std.specs.Prelude.{IfOk}
 use Rattle.std.specs.List.{list_all}
 use Rattle.calculus.specs.declared.query.RelKey.{RelKey}
 use Rattle.calculus.specs.Stored.{range_at}
-use Rattle.quel_causes.proofs.Counting.{vars_is}
+use Rattle.view_sizes.proofs.Counting.{vars_is}
 use Rattle.change_check.proofs.views.vars_are_there.Goals as goal
 
 pub returns-clause-told : goal.returns-clause-told

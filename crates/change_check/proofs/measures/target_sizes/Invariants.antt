@@ -1,7 +1,0 @@
-use Rattle.std.proofs.Common.{◌≡◌, ◌-◌, ◌^◌, min, map, take}
-use Rattle.calculus.specs.Sizes.{term_size}
-use Rattle.change_check.specs.Measured.{held}
-use Rattle.change_check.proofs.measures.target_sizes.Given as goal
-
-abbrev pub invariant-loop-target : goal.invariant-loop-target
-invariant-loop-target l = l.sizes.items ≡ map (λ t. min (term_size (map held l.vars) t.term) (2 ^ 64 - 1)) (take l.target-index l.targets)

@@ -1,8 +1,0 @@
-use Rattle.std.proofs.Common.{◌∙◌, ap}
-use Rattle.change_check.specs.Standing.{is_ranged}
-use Rattle.change_check.proofs.Ranged.{range_known}
-use Rattle.change_check.proofs.ranges.is_range.Goals as goal
-
-pub returns-clause-told : goal.returns-clause-told
-returns-clause-told g c = λ db h.
-    c.is_ranged.ensures ∙ ap is_ranged (c.in_ok-info.ensures.told db h) ∙ range_known db (g.B.Base.lawful c.args.base.now db h) c.args.key.now

@@ -1,0 +1,10 @@
+pub mod AggregateForms
+pub mod Counting
+pub mod DepthForms
+pub mod Enlarged
+pub mod Measuring
+pub mod QueryDepths
+pub mod Ranged
+pub mod SizeForms
+pub mod Stopped
+pub mod Viewed

@@ -1,0 +1,7 @@
+use Rattle.std.proofs.Common.{◌∙◌}
+use Rattle.view_sizes.proofs.Enlarged.{expanded_so}
+use Rattle.view_sizes.proofs.expanded.expanded_variables.Goals as goal
+
+pub returns-clause-told : goal.returns-clause-told
+returns-clause-told g c = λ db h few all.
+    expanded_so db c.args.query.now c.in_ok-own.own c.in_ok-below.below c.saturating_add.result (c.in_ok-own.ensures.told db h few) (c.in_ok-below.ensures.told db (c.in_ok-own.ensures.kept ∙ h) all) c.saturating_add.ensures

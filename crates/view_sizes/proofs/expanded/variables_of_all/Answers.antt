@@ -1,0 +1,24 @@
+use Rattle.std.proofs.Common.{ap, ◌∙◌, ◌-◌, ◌^◌, min, sum_by, arith}
+use Rattle.std.proofs.lemmas.List.{take_all}
+use Rattle.calculus.specs.Sizes.{measure_within, source_variables}
+use Rattle.view_sizes.specs.Listing.{source_lists_few}
+use Rattle.view_sizes.proofs.Counting.{sum_more}
+use Rattle.view_sizes.proofs.Enlarged.{each_at}
+use Rattle.view_sizes.proofs.expanded.variables_of_all.Goals as goal
+
+pub loop-aggregate-preserved : goal.loop-aggregate-preserved
+loop-aggregate-preserved g c = record {
+  told = λ db h few.
+      sum_more (λ g. source_variables (measure_within 16 db) g.now.source) c.args.aggregates.now c.loop-aggregate.aggregate-index c.aggregate-item.result c.loop-aggregate.count c.in_ok-more.more
+      c.saturating_add-count.result c.loop-aggregate-test.true c.aggregate-item.is (c.loop-aggregate.invariant.told db h few)
+      (c.in_ok-more.ensures.told db (c.loop-aggregate.invariant.kept ∙ h) (each_at (λ g. source_lists_few g.now.source) c.args.aggregates.now c.loop-aggregate.aggregate-index c.aggregate-item.result c.loop-aggregate-test.true c.aggregate-item.is few))
+      c.saturating_add-count.ensures;
+  kept = c.in_ok-more.ensures.kept ∙ c.loop-aggregate.invariant.kept;
+  same = c.in_ok-more.ensures.same ∙ c.loop-aggregate.invariant.same;
+  later = omega (arith, c.in_ok-more.ensures.cause.later, c.loop-aggregate.invariant.later);
+}
+
+pub returns-clause-told : goal.returns-clause-told
+returns-clause-told g c = λ db h few.
+    c.loop-aggregate.invariant.told db h few
+    ∙ ap (λ gs. min (sum_by (λ g. source_variables (measure_within 16 db) g.now.source) gs) (2 ^ 64 - 1)) (take_all c.loop-aggregate.aggregate-index c.args.aggregates.now c.loop-aggregate-test.false)

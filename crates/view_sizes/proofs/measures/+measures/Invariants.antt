@@ -1,0 +1,19 @@
+use Rattle.std.proofs.Common.{◌≡◌, ◌+◌, ◌*◌, ◌≤◌, map, take, Some}
+use Rattle.calculus.specs.Database.{Db}
+use Rattle.calculus.specs.Sizes.{measure_within}
+use Rattle.view_sizes.specs.Measured.{held, stopped_measure}
+use Rattle.view_sizes.proofs.measures.+measures.Given as goal
+
+abbrev pub decreases-measure_within : goal.decreases-measure_within
+decreases-measure_within g l = 2 * l.levels
+
+abbrev pub decreases-measure_of : goal.decreases-measure_of
+decreases-measure_of g l = 2 * l.levels + 1
+
+abbrev pub invariant-measure_of-loop-key : goal.invariant-measure_of-loop-key
+invariant-measure_of-loop-key g l = record {
+  told : (db : Db) → g.B.Base.database l.initial.base ≡ Some db → map held l.vars.items ≡ map (λ key. stopped_measure (measure_within l.levels db key)) (take l.key-index l.key-items);
+  kept : g.B.Base.database l.base ≡ g.B.Base.database l.initial.base;
+  same : g.B.Base.left l.base ≡ g.B.Base.left l.initial.base;
+  later : g.B.Base.faults l.initial.base ≤ g.B.Base.faults l.base;
+}

@@ -1,0 +1,26 @@
+use Rattle.std.proofs.Common.{◌≡◌, sym, ap, ◌∙◌, arith, true, false, ◌&&◌, is_some}
+use Rattle.std.specs.List.{list_all}
+use Rattle.std.proofs.lemmas.List.{take_all}
+use Rattle.std.proofs.lemmas.List.Folds.{list_all_more, list_all_at}
+use Rattle.calculus.specs.Stored.{range_at}
+use Rattle.view_sizes.proofs.ranges.are_ranges.Goals as goal
+
+pub loop-key-preserved : goal.loop-key-preserved
+loop-key-preserved g c = record {
+  told = λ db h.
+      let on : c.in_ok-there.there ≡ true = cc (c.if-not-there.false) in
+      list_all_more (λ key. is_some (range_at db key)) c.args.vars.now c.loop-key.key-index c.key-item.result c.loop-key-test.true
+      ∙ (λ i. c.loop-key.invariant.told db h i && (ap (λ key. is_some (range_at db key)) (sym c.key-item.is) ∙ sym (c.in_ok-there.ensures.told db (c.loop-key.invariant.kept ∙ h)) ∙ on) i);
+  kept = c.in_ok-there.ensures.kept ∙ c.loop-key.invariant.kept;
+  same = c.in_ok-there.ensures.same ∙ c.loop-key.invariant.same;
+  later = omega (arith, c.in_ok-there.ensures.cause.later, c.loop-key.invariant.later);
+}
+
+pub returns-then-not-there-clause-told : goal.returns-then-not-there-clause-told
+returns-then-not-there-clause-told g c = λ db h.
+    let off : c.in_ok-there.there ≡ false = cc (c.if-not-there.true) in
+    sym (list_all_at (λ key. is_some (range_at db key)) c.args.vars.now c.loop-key.key-index c.key-item.result c.loop-key-test.true
+    (ap (λ key. is_some (range_at db key)) (sym c.key-item.is) ∙ sym (c.in_ok-there.ensures.told db (c.loop-key.invariant.kept ∙ h)) ∙ off))
+
+pub returns-clause-told : goal.returns-clause-told
+returns-clause-told g c = λ db h. sym (c.loop-key.invariant.told db h) ∙ ap (list_all (λ key. is_some (range_at db key))) (take_all c.loop-key.key-index c.args.vars.now c.loop-key-test.false)

@@ -1,0 +1,26 @@
+use Rattle.std.proofs.Common.{◌≡◌, ◌+◌, ◌*◌, ◌-◌, ◌^◌, ◌≤◌, min, take, Some}
+use Rattle.calculus.specs.Database.{Db}
+use Rattle.calculus.specs.Lists.{is_any}
+use Rattle.calculus.specs.Sizes.{measure_within}
+use Rattle.calculus.specs.Used.{used_in_query}
+use Rattle.view_sizes.proofs.Counting.{counted}
+use Rattle.view_sizes.proofs.variables.+variables.Given as goal
+
+abbrev pub decreases-variables_within : goal.decreases-variables_within
+decreases-variables_within g l = 3 * l.levels
+
+abbrev pub decreases-variables_at : goal.decreases-variables_at
+decreases-variables_at g l = 3 * l.levels + 1
+
+abbrev pub decreases-variables_of : goal.decreases-variables_of
+decreases-variables_of g l = 3 * l.levels + 2
+
+abbrev pub invariant-variables_of-loop-key : goal.invariant-variables_of-loop-key
+invariant-variables_of-loop-key g l = record {
+  place : l.place ≡ min l.key-index 255;
+  told : (db : Db) → g.B.Base.database l.initial.base ≡ Some db → l.key-index ≤ 256
+      → l.count ≡ min (counted (λ v. is_any (used_in_query v l.query)) (λ key. (measure_within l.levels db key).variables) 0 (take l.key-index l.key-items)) (2 ^ 64 - 1);
+  kept : g.B.Base.database l.base ≡ g.B.Base.database l.initial.base;
+  same : g.B.Base.left l.base ≡ g.B.Base.left l.initial.base;
+  later : g.B.Base.faults l.initial.base ≤ g.B.Base.faults l.base;
+}

@@ -1,0 +1,4 @@
+pub mod Listing
+pub mod Measured
+pub mod Sized
+pub mod Standing

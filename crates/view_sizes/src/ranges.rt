@@ -1,0 +1,124 @@
+//! What variables may range over, and the level that it has.
+
+ghost use Rattle.std.specs.Prelude.{◌≡◌, is_some, IfOk, Some};
+ghost use Rattle.std.specs.List.{list_all};
+ghost use Rattle.am_traits.specs.Causes.{HasCause};
+ghost use Rattle.calculus.specs.Database.{Db};
+ghost use Rattle.calculus.specs.Sizes.{level_within, query_level};
+ghost use Rattle.calculus.specs.Stored.{range_at};
+ghost use Rattle.quel_meaning.specs.Passing.{is_too_high};
+ghost use Rattle.view_sizes.specs.Standing.{is_ranged};
+
+use am_traits::{Base, BaseFault};
+use calculus::{Query, RelInfo, RelKey, Spec};
+use std::alloc::Global;
+
+/// The level that what a view names has at most.
+const LEVELS_BELOW: u8 = 15;
+
+/// Whether this is known of what a variable may range over: anything but an index.
+fn is_ranged(info: &Option<RelInfo>) -> bool
+    ensures { result ≡ is_ranged info.now }
+{
+    match info {
+        None => false,
+        Some(info) => match info.spec {
+            Spec::Heap => true,
+            Spec::Hash => true,
+            Spec::Isam => true,
+            Spec::View => true,
+            Spec::Index => false,
+        },
+    }
+}
+
+/// Whether a variable may range over what stands under a key.
+pub fn is_range<B: Base>(alloc: Global, base: &mut B, key: &RelKey) -> Result<bool, BaseFault>
+    ensures told { (db : Db) → B.database base.old ≡ Some db → IfOk result (λ there. there ≡ is_some (range_at db key.now)) }
+    ensures kept { B.database base.new ≡ B.database base.old }
+    ensures same { B.left base.new ≡ B.left base.old }
+    ensures cause { HasCause (B.database base.old) (B.faults base.old) (B.faults base.new) result }
+{
+    let info = base.info(alloc, key)?;
+    Ok(is_ranged(&info))
+}
+
+/// Whether a variable may range over what stands under each key.
+pub fn are_ranges<B: Base>(alloc: Global, base: &mut B, vars: &[RelKey]) -> Result<bool, BaseFault>
+    ensures told { (db : Db) → B.database base.old ≡ Some db → IfOk result (λ there. there ≡ list_all (λ key. is_some (range_at db key)) vars.now) }
+    ensures kept { B.database base.new ≡ B.database base.old }
+    ensures same { B.left base.new ≡ B.left base.old }
+    ensures cause { HasCause (B.database base.old) (B.faults base.old) (B.faults base.new) result }
+{
+    for key in vars {
+        let there = is_range(alloc, base, key)?;
+        if !there {
+            return Ok(false);
+        }
+    }
+    Ok(true)
+}
+
+/// Whether what stands under a key has a level, and this is at most so many.
+#[cycle(levels)]
+fn has_level<B: Base>(
+    alloc: Global,
+    base: &mut B,
+    key: &RelKey,
+    levels: u8,
+) -> Result<bool, BaseFault>
+    ensures told { (db : Db) → B.database base.old ≡ Some db → IfOk result (λ has. has ≡ is_some (level_within levels db key.now)) }
+    ensures kept { B.database base.new ≡ B.database base.old }
+    ensures same { B.left base.new ≡ B.left base.old }
+    ensures cause { HasCause (B.database base.old) (B.faults base.old) (B.faults base.new) result }
+{
+    match base.view(alloc, key)? {
+        Some(query) => {
+            if levels == 0 {
+                drop(query);
+                return Ok(false);
+            }
+            let all = have_levels(alloc, base, query.vars.items(), levels - 1);
+            drop(query);
+            all
+        }
+        None => is_range(alloc, base, key),
+    }
+}
+
+/// Whether what stands under each key has a level, and this is at most so many.
+#[cycle(levels)]
+pub fn have_levels<B: Base>(
+    alloc: Global,
+    base: &mut B,
+    vars: &[RelKey],
+    levels: u8,
+) -> Result<bool, BaseFault>
+    ensures told { (db : Db) → B.database base.old ≡ Some db → IfOk result (λ have. have ≡ list_all (λ key. is_some (level_within levels db key)) vars.now) }
+    ensures kept { B.database base.new ≡ B.database base.old }
+    ensures same { B.left base.new ≡ B.left base.old }
+    ensures cause { HasCause (B.database base.old) (B.faults base.old) (B.faults base.new) result }
+{
+    for key in vars {
+        let has = has_level(alloc, base, key, levels)?;
+        if !has {
+            return Ok(false);
+        }
+    }
+    Ok(true)
+}
+
+/// Whether a view of this query would have no level, or one that is greater than there may be.
+pub fn has_high_level<B: Base>(
+    alloc: Global,
+    base: &mut B,
+    query: &Query,
+) -> Result<bool, BaseFault>
+    ensures told { (db : Db) → B.database base.old ≡ Some db → IfOk result (λ high. high ≡ is_too_high (query_level db query.now)) }
+    ensures kept { B.database base.new ≡ B.database base.old }
+    ensures same { B.left base.new ≡ B.left base.old }
+    ensures cause { HasCause (B.database base.old) (B.faults base.old) (B.faults base.new) result }
+{
+    let have = have_levels(alloc, base, query.vars.items(), LEVELS_BELOW)?;
+    Ok(!have)
+}
