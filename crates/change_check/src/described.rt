@@ -32,7 +32,8 @@ fn is_domain(domain: Domain) -> bool
     }
 }
 
-fn is_kind(kind: Kind) -> bool
+/// Whether it is a domain, or whole numbers of 64 bits.
+pub fn is_kind(kind: Kind) -> bool
     ensures { result ≡ is_kind kind }
 {
     match kind {
@@ -133,7 +134,7 @@ fn is_narrow(attrs: &[Attr]) -> bool
 
 /// Whether there is at least one attribute and at most the limit, of kinds with names that differ,
 /// together no wider than a row may be.
-pub(crate) fn attrs_stand(alloc: Global, attrs: &[Attr]) -> Result<bool, OutOfMemory>
+pub fn attrs_stand(alloc: Global, attrs: &[Attr]) -> Result<bool, OutOfMemory>
     ensures { IfOk result (λ stand. stand ≡ attrs_stand attrs.now) }
 {
     if !is_any(attrs) {
@@ -158,7 +159,7 @@ fn is_among(key: u8, keys: &[u8]) -> bool
 }
 
 /// Whether no two of these few places are the same.
-fn places_differ(keys: &[u8]) -> bool
+pub fn places_differ(keys: &[u8]) -> bool
     ensures { result ≡ differ_by nat_eq keys.now }
 {
     let Some((key, others)) = keys.split_first() else {
@@ -175,7 +176,7 @@ fn are_places(attrs: &[Attr], keys: &[u8]) -> bool
 }
 
 /// Whether these are places of attributes, all different, and no more than there may be.
-pub(crate) fn keys_stand(attrs: &[Attr], keys: &[u8]) -> bool
+pub fn keys_stand(attrs: &[Attr], keys: &[u8]) -> bool
     ensures { result ≡ keys_stand attrs.now keys.now }
 {
     if keys.len() > MOST_KEYS {
@@ -185,7 +186,7 @@ pub(crate) fn keys_stand(attrs: &[Attr], keys: &[u8]) -> bool
 }
 
 /// Whether there is at least one key, and they are places of attributes, as they stand.
-pub(crate) fn some_keys_stand(attrs: &[Attr], keys: &[u8]) -> bool
+pub fn some_keys_stand(attrs: &[Attr], keys: &[u8]) -> bool
     ensures { result ≡ (is_any keys.now && keys_stand attrs.now keys.now) }
 {
     !keys.is_empty() && keys_stand(attrs, keys)

@@ -29,7 +29,8 @@ fn are_there<B: Base>(alloc: Global, base: &mut B, rels: &[RelKey]) -> Result<bo
     Ok(true)
 }
 
-fn same_key(a: &RelKey, b: &RelKey) -> bool
+/// Whether the two keys have one owner and one name.
+pub fn same_key(a: &RelKey, b: &RelKey) -> bool
     ensures { result ≡ same_key a.now b.now }
 {
     a.owner.bytes() == b.owner.bytes() && a.name.bytes() == b.name.bytes()
@@ -47,7 +48,7 @@ fn is_among(key: &RelKey, keys: &[RelKey]) -> bool
 }
 
 /// Whether no two of these keys are the same.
-fn keys_differ(keys: &[RelKey]) -> bool
+pub fn keys_differ(keys: &[RelKey]) -> bool
     ensures { result ≡ differ_by same_key keys.now }
 {
     let mut rest = keys;

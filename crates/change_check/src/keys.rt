@@ -77,11 +77,7 @@ pub(crate) fn relation<B: Base>(
 
 /// Whether a base relation stands under a key.
 #[tactic(auto, using(crate::proofs::Kept::there_where_known))]
-pub(crate) fn is_relation<B: Base>(
-    alloc: Global,
-    base: &mut B,
-    key: &RelKey,
-) -> Result<bool, BaseFault>
+pub fn is_relation<B: Base>(alloc: Global, base: &mut B, key: &RelKey) -> Result<bool, BaseFault>
     ensures told { (db : Db) → B.database base.old ≡ Some db → IfOk result (λ there. there ≡ is_relation db key.now) }
     ensures kept { B.database base.new ≡ B.database base.old }
     ensures same { B.left base.new ≡ B.left base.old }

@@ -15,3 +15,9 @@ mod structures;
 mod views;
 
 pub use checking::fit_change;
+pub use described::{attrs_stand, is_kind, keys_stand, places_differ, some_keys_stand};
+pub use destroying::{keys_differ, same_key};
+pub use keys::is_relation;
+pub use permits::{are_places, attrs_are_places, row_qual_is_fit};
+pub use relations::relation_attrs_stand;
+pub use views::{query_stands, view_query_is_fit};

@@ -59,7 +59,8 @@ fn user_is_named(user: &Option<Name>) -> bool
     }
 }
 
-fn are_places(kinds: &[Kind], attrs: &[u8]) -> bool
+/// Whether these are places of attributes, which are of these kinds.
+pub fn are_places(kinds: &[Kind], attrs: &[u8]) -> bool
     ensures { result ≡ list_all (λ a. nat_lt a (length kinds.now)) attrs.now }
 {
     let most = kinds.len();
@@ -94,7 +95,7 @@ fn is_storable(qual: &QQual) -> bool
 }
 
 /// Whether a qualification over a row of the relation stands, and can be stored.
-fn row_qual_is_fit<B: Base>(
+pub fn row_qual_is_fit<B: Base>(
     alloc: Global,
     base: &mut B,
     rel: &RelKey,
@@ -113,7 +114,7 @@ fn row_qual_is_fit<B: Base>(
 }
 
 /// Whether the attributes of a permit are places of attributes of its relation.
-fn attrs_are_places<B: Base>(
+pub fn attrs_are_places<B: Base>(
     alloc: Global,
     base: &mut B,
     rel: &RelKey,

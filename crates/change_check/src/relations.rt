@@ -24,7 +24,7 @@ fn has_structure(info: &RelInfo) -> bool
 }
 
 /// Whether the attributes stand and have domains.
-fn has_attrs(alloc: Global, attrs: &[Attr]) -> Result<bool, OutOfMemory>
+pub fn relation_attrs_stand(alloc: Global, attrs: &[Attr]) -> Result<bool, OutOfMemory>
     ensures { IfOk result (λ b. b ≡ (attrs_stand attrs.now && are_stored attrs.now)) }
 {
     if !attrs_stand(alloc, attrs)? {
@@ -51,7 +51,7 @@ fn stands(alloc: Global, info: &RelInfo, rows: &[Row]) -> Result<bool, OutOfMemo
     if !has_structure(info) {
         return Ok(false);
     }
-    if !has_attrs(alloc, info.attrs.items())? {
+    if !relation_attrs_stand(alloc, info.attrs.items())? {
         return Ok(false);
     }
     has_rows(alloc, info.attrs.items(), rows)

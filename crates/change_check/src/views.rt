@@ -70,7 +70,7 @@ fn has_targets(attrs: &[Attr], query: &Query) -> bool
 }
 
 /// Whether the kinds in a query fit, and each target is of its kind.
-fn query_stands<B: Base>(alloc: Global, base: &mut B, query: &Query) -> Result<bool, BaseFault>
+pub fn query_stands<B: Base>(alloc: Global, base: &mut B, query: &Query) -> Result<bool, BaseFault>
     ensures told { (db : Db) → B.database base.old ≡ Some db → IfOk result (λ stands. stands ≡ query_stands db query.now) }
     ensures kept { B.database base.new ≡ B.database base.old }
     ensures same { B.left base.new ≡ B.left base.old }
@@ -153,7 +153,11 @@ fn query_is_fit<B: Base>(alloc: Global, base: &mut B, query: &Query) -> Result<b
 }
 
 /// Whether what a query names is there, is not on too many levels, and the query is one of a view.
-fn view_query_is_fit<B: Base>(alloc: Global, base: &mut B, query: &Query) -> Result<bool, BaseFault>
+pub fn view_query_is_fit<B: Base>(
+    alloc: Global,
+    base: &mut B,
+    query: &Query,
+) -> Result<bool, BaseFault>
     ensures told { (db : Db) → B.database base.old ≡ Some db → IfOk result (λ fit. fit ≡ (vars_are_there db query.now && (not (is_too_high (query_level db query.now)) && (query_stands db query.now && view_is_small db query.now)))) }
     ensures kept { B.database base.new ≡ B.database base.old }
     ensures same { B.left base.new ≡ B.left base.old }

@@ -33,7 +33,8 @@ pub fn same_kind(left: Kind, right: Kind) -> bool
     }
 }
 
-fn has_kind(found: Option<Kind>, kind: Kind) -> bool
+/// Whether a kind is there and is this one.
+pub fn has_kind(found: Option<Kind>, kind: Kind) -> bool
     ensures { result ≡ has_kind found kind }
 {
     match found {

@@ -16,9 +16,9 @@ mod viewed;
 mod widths;
 
 pub use counted::has_too_many;
-pub use fitting::{assignments_fit, query_fits, same_kind, targets_fit};
+pub use fitting::{assignments_fit, has_kind, query_fits, same_kind, targets_fit};
 pub use judging::cause;
 pub use kinds::{kinds_at, var_kinds};
 pub use places::{is_catalogue_name, is_full, is_taken};
 pub use repeated::{repeats, sorts_by_titles};
-pub use widths::{is_too_wide, kind_bytes};
+pub use widths::{is_too_wide, kind_bytes, made_kind, made_kinds, target_kinds};

@@ -49,7 +49,7 @@ pub fn is_too_wide(kinds: &[Kind]) -> bool
 }
 
 /// The kinds of the targets.
-pub(crate) fn target_kinds(alloc: Global, targets: &[Target]) -> Result<Vec<Kind>, OutOfMemory>
+pub fn target_kinds(alloc: Global, targets: &[Target]) -> Result<Vec<Kind>, OutOfMemory>
     ensures { IfOk result (λ kinds. kinds.items ≡ map (λ t. t.kind) targets.now) }
 {
     let mut kinds = Vec::new(alloc);
@@ -59,7 +59,8 @@ pub(crate) fn target_kinds(alloc: Global, targets: &[Target]) -> Result<Vec<Kind
     Ok(kinds)
 }
 
-fn made_kind(target: &Target) -> Kind
+/// The kind of the attribute that is made of a target: a number of 64 bits becomes one of 32.
+pub fn made_kind(target: &Target) -> Kind
     ensures { result ≡ (made_attr target.now).kind }
 {
     match target.kind {
@@ -69,7 +70,7 @@ fn made_kind(target: &Target) -> Kind
 }
 
 /// The kinds of the attributes that are made of the targets: a number of 64 bits becomes one of 32.
-pub(crate) fn made_kinds(alloc: Global, targets: &[Target]) -> Result<Vec<Kind>, OutOfMemory>
+pub fn made_kinds(alloc: Global, targets: &[Target]) -> Result<Vec<Kind>, OutOfMemory>
     ensures { IfOk result (λ kinds. kinds.items ≡ map (λ t. (made_attr t).kind) targets.now) }
 {
     let mut kinds = Vec::new(alloc);

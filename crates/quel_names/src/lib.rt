@@ -16,5 +16,5 @@ mod text;
 
 pub use am_traits::BaseFault;
 pub use infos::{infos_of, variables_range_where_no_name_refuses};
-pub use looking::{named, ranged};
+pub use looking::{info_at, named, ranged};
 pub use refusal::name_refusal;

@@ -58,8 +58,8 @@ fn but_index(info: Option<RelInfo>) -> Option<RelInfo>
     }
 }
 
-/// The relation, view or catalogue under a key.
-pub(crate) fn info_at<B: Base>(
+/// The relation, view or catalogue under a key; `None` exactly where an index or nothing stands there.
+pub fn info_at<B: Base>(
     alloc: Global,
     base: &mut B,
     key: &RelKey,

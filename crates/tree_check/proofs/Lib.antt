@@ -1,0 +1,11 @@
+pub mod Fitted
+pub mod KindForms
+pub mod Known
+pub mod Linked
+pub mod Parts
+pub mod ReadParts
+pub mod RelationForms
+pub mod SourceParts
+pub mod Stood
+pub mod TreeForms
+pub mod UtilityForms
