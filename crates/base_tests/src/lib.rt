@@ -5,3 +5,5 @@
 mod changes;
 #[cfg(test)]
 mod new_database;
+#[cfg(test)]
+mod plans;
