@@ -36,7 +36,7 @@ enum Change<'a> {
     DestroyedWithView,
 }
 
-fn named<R: Abort>(rt: &R, alloc: Global, bytes: &[u8]) -> Name {
+pub(crate) fn named<R: Abort>(rt: &R, alloc: Global, bytes: &[u8]) -> Name {
     let name = Name::of(alloc, bytes).expect(rt, "memory");
     name.expect(rt, "a name")
 }
@@ -56,7 +56,7 @@ fn listed<R: Abort>(rt: &R, alloc: Global, numbers: &[u8]) -> List<u8> {
     List::of(items)
 }
 
-fn numbers_of<R: Abort>(rt: &R, alloc: Global, numbers: &[u32]) -> List<u32> {
+pub(crate) fn numbers_of<R: Abort>(rt: &R, alloc: Global, numbers: &[u32]) -> List<u32> {
     let mut items = Vec::new(alloc);
     for number in numbers {
         items.push(*number).expect(rt, "memory");
@@ -73,7 +73,7 @@ fn keys<R: Abort>(rt: &R, alloc: Global, names: &[&[u8]]) -> List<RelKey> {
 }
 
 /// Attributes of these names, of numbers of two bytes.
-fn attrs<R: Abort>(rt: &R, alloc: Global, names: &[&[u8]]) -> List<Attr> {
+pub(crate) fn attrs<R: Abort>(rt: &R, alloc: Global, names: &[&[u8]]) -> List<Attr> {
     let mut attrs = Vec::new(alloc);
     for name in names {
         let name = named(rt, alloc, name);
@@ -83,7 +83,7 @@ fn attrs<R: Abort>(rt: &R, alloc: Global, names: &[&[u8]]) -> List<Attr> {
     List::of(attrs)
 }
 
-fn row_of<R: Abort>(rt: &R, alloc: Global, first: i64, second: i64) -> Row {
+pub(crate) fn row_of<R: Abort>(rt: &R, alloc: Global, first: i64, second: i64) -> Row {
     let mut values = Vec::new(alloc);
     values.push(Value::Int(first)).expect(rt, "memory");
     values.push(Value::Int(second)).expect(rt, "memory");
@@ -202,7 +202,11 @@ fn change_of<R: Abort>(rt: &R, alloc: Global, change: Change) -> DbChange {
 }
 
 /// Says whether the change may be laid, and lays it where it may.
-fn try_lay<B: Base>(alloc: Global, base: &mut B, change: &DbChange) -> Result<bool, BaseFault> {
+pub(crate) fn try_lay<B: Base>(
+    alloc: Global,
+    base: &mut B,
+    change: &DbChange,
+) -> Result<bool, BaseFault> {
     let fit = fit_change(alloc, base, change)?;
     if fit {
         base.apply(alloc, change)?;

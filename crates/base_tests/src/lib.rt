@@ -8,4 +8,6 @@ mod making;
 #[cfg(test)]
 mod new_database;
 #[cfg(test)]
+mod plans;
+#[cfg(test)]
 mod trees;

@@ -15,10 +15,10 @@ ghost use Rattle.view_sizes.specs.Sized.{qual_depth};
 ghost use Rattle.change_laws.specs.Fit.{number_is_free, permit_is_fit, rule_is_fit};
 
 use crate::keys::is_relation;
-use crate::numbers::{has_number, standing_permits, standing_rules};
+use crate::numbers::has_number;
 use am_traits::{Base, BaseFault};
 use calculus::{Kind, Name, OutOfMemory, Permit, QQual, RelKey, Rule, is_name, kinds_fit};
-use quel_causes::kinds_at;
+use quel_causes::{kinds_at, standing_permits, standing_rules};
 use std::alloc::Global;
 use update_laws::qual_is_spelled;
 use view_sizes::{qual_depth, qual_size};

@@ -54,8 +54,8 @@ fn is_view<B: Base>(alloc: Global, base: &mut B, key: &RelKey) -> Result<bool, B
     Ok(found)
 }
 
-/// What refuses an update because of its relation: that it is a catalogue, or a view.
-fn relation_cause<B: Base>(
+/// What refuses a change of what has a key: that it is a catalogue, or a view.
+pub fn relation_cause<B: Base>(
     alloc: Global,
     base: &mut B,
     rel: &RelKey,

@@ -1,0 +1,4 @@
+pub mod Causes
+pub mod Breaking
+pub mod Ascending
+pub mod Plans

@@ -1,8 +1,17 @@
 //! What the utilities make of a database, as changes of it.
 #![tactic(auto)]
 
+mod dropping;
 mod fault;
+mod judging;
+mod listed;
+mod numbering;
+mod numbers;
+mod owners;
+mod permits;
 mod planning;
+mod rules;
+mod views;
 
 pub use fault::UtilFault;
 pub use planning::plan;

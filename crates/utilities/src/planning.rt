@@ -9,6 +9,10 @@ ghost use Rattle.utilities.specs.Causes.{HasCause};
 ghost use Rattle.utilities.specs.declared.fault.UtilFault.TheVariants.{NotBuilt};
 
 use crate::UtilFault;
+use crate::dropping::{permits_gone, rules_gone};
+use crate::permits::permit_planned;
+use crate::rules::rule_planned;
+use crate::views::view_made;
 use am_traits::Base;
 use calculus::{Attr, DbChange, List, Name, OutOfMemory, RelInfo, RelKey, Spec, TryCopy, Utility};
 use std::alloc::Global;
@@ -27,10 +31,12 @@ fn relation_made(alloc: Global, rel: &RelKey, attrs: &List<Attr>) -> Result<DbCh
     Ok(DbChange::Create { info, rows })
 }
 
-/// The change that a utility makes for the user. Of the utilities only `Create` is built so far: it
-/// makes a relation without rows. For every other kind the answer is `NotBuilt`. Asks the database
-/// nothing.
-#[tactic(auto, unfolding(quel_meaning::specs::Planned::planned, quel_meaning::specs::Planned::plan_causes, quel_meaning::specs::Planned::plan_change))]
+/// The change that a utility makes for the user, or what refuses it: of a new relation, which has no
+/// rows, a view, a permit, a rule, or permits or rules that go. For every other kind the answer is
+/// `NotBuilt`. Asks the database for what the causes of the kind need up to the first that is there; of
+/// a new relation or view for nothing, and of a rule for the rows of its relation up to the first that
+/// breaks it.
+#[tactic(auto, using(crate::proofs::Plans::create_planned, crate::proofs::Plans::view_planned))]
 pub fn plan<B: Base>(
     alloc: Global,
     base: &mut B,
@@ -46,6 +52,17 @@ pub fn plan<B: Base>(
 {
     match u {
         Utility::Create { rel, attrs } => Ok(relation_made(alloc, rel, attrs)?),
+        Utility::View { rel, query } => Ok(view_made(alloc, rel, query)?),
+        Utility::Permit { rel, permit } => permit_planned(alloc, base, user, rel, permit),
+        Utility::Rule { rel, rule } => rule_planned(alloc, base, user, rel, rule),
+        Utility::DropPermits { rel, numbers } => permits_gone(
+            alloc,
+            base,
+            user,
+            rel,
+            numbers.items(),
+        ),
+        Utility::DropRules { rel, numbers } => rules_gone(alloc, base, user, rel, numbers.items()),
         _ => Err(UtilFault::NotBuilt),
     }
 }

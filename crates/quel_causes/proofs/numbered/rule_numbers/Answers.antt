@@ -1,6 +1,6 @@
 use Rattle.std.proofs.Common.{sym, ap, ◌∙◌, map, ◌++◌, ◌∷◌, []}
 use Rattle.std.proofs.lemmas.List.{take_all, map_more}
-use Rattle.change_check.proofs.numbers.rule_numbers.Goals as goal
+use Rattle.quel_causes.proofs.numbered.rule_numbers.Goals as goal
 
 pub loop-rule-preserved : goal.loop-rule-preserved
 loop-rule-preserved c =

@@ -1,6 +1,6 @@
 use Rattle.std.proofs.Common.{sym, ap, ◌∙◌, map, ◌++◌, ◌∷◌, []}
 use Rattle.std.proofs.lemmas.List.{take_all, map_more}
-use Rattle.change_check.proofs.numbers.permit_numbers.Goals as goal
+use Rattle.quel_causes.proofs.numbered.permit_numbers.Goals as goal
 
 pub loop-permit-preserved : goal.loop-permit-preserved
 loop-permit-preserved c =

@@ -1,0 +1,395 @@
+//! What utilities plan over a database in memory, where what they plan is laid, and what refuses them.
+
+use crate::changes::{attrs, named, numbers_of, row_of, try_lay};
+use calculus::{
+    Attr, CmpOp, DbChange, Domain, Kind, List, Permit, QQual, QTerm, Query, RelInfo, RelKey, Row,
+    Rule, Spec, Target, Utility,
+};
+use plain_base::DbPlain;
+use std::alloc::Global;
+use std::process::Abort;
+use std::test::*;
+use utilities::{UtilFault, plan};
+
+/// What a utility is asked for, said in short.
+#[derive(Clone, Copy)]
+enum Work<'a> {
+    /// A view of the numbers in the administrator's `parts`.
+    View,
+    /// A permit to retrieve and replace the second attribute.
+    Permit,
+    /// A rule that the first attribute is this number or a greater one.
+    Rule(i64),
+    /// Permits go.
+    DropPermits(&'a [u32]),
+    /// Rules go.
+    DropRules(&'a [u32]),
+    /// What has the key goes.
+    Destroy,
+}
+
+/// What is said of the utility.
+#[derive(Clone, Copy)]
+enum Said<'a> {
+    /// A view is made, with one attribute `pnum`, a number of two bytes.
+    Viewed,
+    /// The permit is made, with this number.
+    Permitted(u32),
+    /// The rule is made, with this number.
+    Ruled(u32),
+    /// Permits with these numbers go.
+    Unpermitted(&'a [u32]),
+    /// Rules with these numbers go.
+    Unruled(&'a [u32]),
+    /// The cause of this number refuses it.
+    No(u8),
+    /// Utilities of this kind aren't built.
+    NotBuilt,
+}
+
+/// The user, the owner and the name of what the utility is for, and what it is asked for.
+type Asked<'a> = (&'a [u8], &'a [u8], &'a [u8], Work<'a>);
+
+fn key<R: Abort>(rt: &R, alloc: Global, owner: &[u8], name: &[u8]) -> RelKey {
+    RelKey {
+        owner: named(rt, alloc, owner),
+        name: named(rt, alloc, name),
+    }
+}
+
+/// Rows with these first values, and 5 behind them.
+fn rows_of<R: Abort>(rt: &R, alloc: Global, numbers: &[i64]) -> List<Row> {
+    let mut rows = Vec::new(alloc);
+    for number in numbers {
+        let row = row_of(rt, alloc, *number, 5);
+        rows.push(row).expect(rt, "memory");
+    }
+    List::of(rows)
+}
+
+/// The change that makes a relation of these rows.
+fn made<R: Abort>(rt: &R, alloc: Global, owner: &[u8], name: &[u8], numbers: &[i64]) -> DbChange {
+    DbChange::Create {
+        info: RelInfo {
+            key: key(rt, alloc, owner, name),
+            spec: Spec::Heap,
+            attrs: attrs(rt, alloc, &[b"pnum", b"qoh"]),
+            keys: List::of(Vec::new(alloc)),
+        },
+        rows: rows_of(rt, alloc, numbers),
+    }
+}
+
+/// The first attribute of the only variable.
+fn first() -> QTerm {
+    QTerm::Attr { var: 0, attr: 0 }
+}
+
+/// The query of the numbers in the administrator's `parts`.
+fn numbers_in_parts<R: Abort>(rt: &R, alloc: Global) -> Query {
+    let mut vars = Vec::new(alloc);
+    let parts = key(rt, alloc, b"ann", b"parts");
+    vars.push(parts).expect(rt, "memory");
+    let mut targets = Vec::new(alloc);
+    let target = Target {
+        name: named(rt, alloc, b"pnum"),
+        kind: Kind::Of(Domain::I2),
+        term: first(),
+    };
+    targets.push(target).expect(rt, "memory");
+    Query {
+        vars: List::of(vars),
+        targets: List::of(targets),
+        qual: QQual::True,
+    }
+}
+
+/// A permit to retrieve and replace the second attribute, without a number.
+fn permit<R: Abort>(rt: &R, alloc: Global) -> Permit {
+    Permit {
+        number: 0,
+        ops: 5,
+        attrs: List::of(Vec::from_slice(alloc, &[1u8]).expect(rt, "memory")),
+        user: None,
+        qual: QQual::True,
+    }
+}
+
+/// A rule that the first attribute is this number or a greater one, without a number.
+fn rule(least: i64) -> Rule {
+    Rule {
+        number: 0,
+        qual: QQual::Cmp {
+            op: CmpOp::Ge,
+            left: first(),
+            right: QTerm::Int(least),
+        },
+    }
+}
+
+/// What the utility is asked for.
+fn work_of<R: Abort>(rt: &R, alloc: Global, rel: RelKey, work: Work) -> Utility {
+    match work {
+        Work::View => Utility::View {
+            rel,
+            query: numbers_in_parts(rt, alloc),
+        },
+        Work::Permit => Utility::Permit {
+            rel,
+            permit: permit(rt, alloc),
+        },
+        Work::Rule(least) => Utility::Rule {
+            rel,
+            rule: rule(least),
+        },
+        Work::DropPermits(numbers) => Utility::DropPermits {
+            rel,
+            numbers: numbers_of(rt, alloc, numbers),
+        },
+        Work::DropRules(numbers) => Utility::DropRules {
+            rel,
+            numbers: numbers_of(rt, alloc, numbers),
+        },
+        Work::Destroy => {
+            let mut rels = Vec::new(alloc);
+            rels.push(rel).expect(rt, "memory");
+            Utility::Destroy {
+                rels: List::of(rels),
+            }
+        }
+    }
+}
+
+/// Whether these are the attributes of the view of numbers.
+fn are_numbers(attrs: &[Attr]) -> bool {
+    attrs.len() == 1
+        && attrs.first().map(|attr| attr.kind) == Some(Kind::Of(Domain::I2))
+        && attrs
+            .iter()
+            .all(|attr| attr.name.bytes() == b"pnum".as_slice())
+}
+
+/// Whether the qualification is that of a rule.
+fn is_least(qual: &QQual) -> bool {
+    match qual {
+        QQual::Cmp {
+            op: CmpOp::Ge,
+            left: QTerm::Attr { var: 0, attr: 0 },
+            right: QTerm::Int(_),
+        } => true,
+        _ => false,
+    }
+}
+
+/// Whether the change is as said, apart from what has the key.
+fn is_said(change: &DbChange, said: Said) -> bool {
+    match (change, said) {
+        (DbChange::View { info, query }, Said::Viewed) => {
+            info.spec == Spec::View
+                && are_numbers(info.attrs.items())
+                && query.vars.items().len() == 1
+        }
+        (DbChange::Permit { rel: _, permit }, Said::Permitted(number)) => {
+            permit.number == number
+                && permit.ops == 5
+                && permit.attrs.items() == [1u8].as_slice()
+                && permit.user.is_none()
+        }
+        (DbChange::Rule { rel: _, rule }, Said::Ruled(number)) => {
+            rule.number == number && is_least(&rule.qual)
+        }
+        (DbChange::DropPermits { rel: _, numbers }, Said::Unpermitted(wanted)) => {
+            numbers.items() == wanted
+        }
+        (DbChange::DropRules { rel: _, numbers }, Said::Unruled(wanted)) => {
+            numbers.items() == wanted
+        }
+        _ => false,
+    }
+}
+
+/// Whether the fault is as said.
+fn is_refused(fault: UtilFault, said: Said) -> bool {
+    match said {
+        Said::No(number) => fault == UtilFault::No(number),
+        Said::NotBuilt => fault == UtilFault::NotBuilt,
+        _ => false,
+    }
+}
+
+/// Whether what is planned of the utility is as said, and may be laid where it is a change.
+fn is_planned<R: Abort>(
+    rt: &R,
+    alloc: Global,
+    base: &mut DbPlain,
+    asked: &Asked,
+    said: Said,
+) -> bool {
+    let (user, owner, name, work) = *asked;
+    let user = named(rt, alloc, user);
+    let work = work_of(rt, alloc, key(rt, alloc, owner, name), work);
+    let planned = plan(alloc, base, &user, &work);
+    drop(work);
+    drop(user);
+    match planned {
+        Ok(change) => {
+            let right = is_said(&change, said)
+                && try_lay(alloc, base, &change).expect(rt, "an answer");
+            drop(change);
+            right
+        }
+        Err(fault) => is_refused(fault, said),
+    }
+}
+
+/// A database whose administrator is ann, who has `parts` with the numbers 3 and 4; bob has `own`.
+fn two_relations<R: Abort>(rt: &R, alloc: Global) -> DbPlain {
+    let mut base = DbPlain::new(alloc, named(rt, alloc, b"ann"));
+    for (owner, name) in [(b"ann", b"parts".as_slice()), (b"bob", b"own".as_slice())] {
+        let change = made(rt, alloc, owner, name, &[3, 4]);
+        let laid = try_lay(alloc, &mut base, &change).expect(rt, "an answer");
+        drop(change);
+        if !laid {
+            rt.abort();
+        }
+    }
+    base
+}
+
+/// How many of these utilities are planned in turn as is said beside each, up to the first that isn't.
+fn as_said<R: Abort>(rt: &R, alloc: Global, all: &[(Asked, Said)]) -> usize {
+    let mut base = two_relations(rt, alloc);
+    let mut right = 0usize;
+    for (asked, said) in all {
+        if !is_planned(rt, alloc, &mut base, asked, *said) {
+            break;
+        }
+        right = right.saturating_add(1);
+    }
+    drop(base);
+    right
+}
+
+/// ann asks for `parts`.
+fn parts(work: Work<'_>) -> Asked<'_> {
+    (b"ann", b"ann", b"parts", work)
+}
+
+/// bob asks for `own`.
+fn own(work: Work<'_>) -> Asked<'_> {
+    (b"bob", b"bob", b"own", work)
+}
+
+/// bob asks for `parts`, which is ann's.
+fn anothers(work: Work<'_>) -> Asked<'_> {
+    (b"bob", b"ann", b"parts", work)
+}
+
+/// ann asks for the catalogue.
+fn catalogue(work: Work<'_>) -> Asked<'_> {
+    (b"ann", b"ann", b"relation", work)
+}
+
+/// ann asks for the view.
+fn view(work: Work<'_>) -> Asked<'_> {
+    (b"ann", b"ann", b"numbers", work)
+}
+
+#[test]
+fn a_view_has_the_attributes_of_its_targets(rt: HostRuntime) {
+    let all = [(view(Work::View), Said::Viewed)];
+    assert!(rt; as_said(&rt, rt.alloc(), &all) == all.len());
+}
+
+#[test]
+fn permits_are_numbered_behind_the_greatest(rt: HostRuntime) {
+    let all = [
+        (parts(Work::Permit), Said::Permitted(1)),
+        (parts(Work::Permit), Said::Permitted(2)),
+        (parts(Work::Permit), Said::Permitted(3)),
+        (parts(Work::DropPermits(&[2, 9])), Said::No(19)),
+        (
+            parts(Work::DropPermits(&[2, 1, 2])),
+            Said::Unpermitted(&[1, 2]),
+        ),
+        (parts(Work::Permit), Said::Permitted(4)),
+        (parts(Work::DropPermits(&[])), Said::Unpermitted(&[3, 4])),
+        (parts(Work::DropPermits(&[])), Said::Unpermitted(&[])),
+        (parts(Work::Permit), Said::Permitted(1)),
+    ];
+    assert!(rt; as_said(&rt, rt.alloc(), &all) == all.len());
+}
+
+#[test]
+fn a_rule_is_one_that_each_row_meets(rt: HostRuntime) {
+    let all = [
+        (parts(Work::Rule(4)), Said::No(27)),
+        (parts(Work::Rule(3)), Said::Ruled(1)),
+        (own(Work::Rule(3)), Said::Ruled(1)),
+        (own(Work::Rule(2)), Said::Ruled(2)),
+        (own(Work::DropRules(&[1, 3])), Said::No(19)),
+        (own(Work::DropRules(&[2, 1])), Said::Unruled(&[1, 2])),
+        (parts(Work::DropRules(&[])), Said::Unruled(&[1])),
+    ];
+    assert!(rt; as_said(&rt, rt.alloc(), &all) == all.len());
+}
+
+#[test]
+fn only_the_owner_changes_a_relation_and_the_administrator_permits(rt: HostRuntime) {
+    let all = [
+        (own(Work::Permit), Said::No(24)),
+        (own(Work::DropPermits(&[])), Said::No(24)),
+        (anothers(Work::Permit), Said::No(24)),
+        (anothers(Work::Rule(4)), Said::No(24)),
+        (anothers(Work::DropPermits(&[7])), Said::No(24)),
+        (anothers(Work::DropRules(&[7])), Said::No(24)),
+    ];
+    assert!(rt; as_said(&rt, rt.alloc(), &all) == all.len());
+}
+
+#[test]
+fn a_catalogue_and_a_view_are_refused(rt: HostRuntime) {
+    let all = [
+        (view(Work::View), Said::Viewed),
+        (view(Work::Permit), Said::No(26)),
+        (view(Work::Rule(4)), Said::No(26)),
+        (view(Work::DropPermits(&[7])), Said::No(26)),
+        (view(Work::DropRules(&[7])), Said::No(26)),
+        (catalogue(Work::Permit), Said::No(28)),
+        (catalogue(Work::Rule(4)), Said::No(28)),
+        (catalogue(Work::DropPermits(&[7])), Said::No(28)),
+        (catalogue(Work::DropRules(&[7])), Said::No(28)),
+        (parts(Work::Destroy), Said::NotBuilt),
+    ];
+    assert!(rt; as_said(&rt, rt.alloc(), &all) == all.len());
+}
+
+/// How many of so many utilities are planned in turn with the numbers from 1 on.
+fn numbered<R: Abort>(rt: &R, alloc: Global, base: &mut DbPlain, work: Work, most: u32) -> u32 {
+    let mut right = 0u32;
+    for number in 1..=most {
+        let said = match work {
+            Work::Rule(_) => Said::Ruled(number),
+            _ => Said::Permitted(number),
+        };
+        if !is_planned(rt, alloc, base, &parts(work), said) {
+            break;
+        }
+        right = number;
+    }
+    right
+}
+
+/// 100 permits and 100 rules stand on a relation, and no more.
+#[test]
+fn a_hundred_stand_and_no_more(rt: HostRuntime) {
+    let alloc = rt.alloc();
+    let mut base = two_relations(&rt, alloc);
+    let permits = numbered(&rt, alloc, &mut base, Work::Permit, 100);
+    let permit = is_planned(&rt, alloc, &mut base, &parts(Work::Permit), Said::No(14));
+    let rules = numbered(&rt, alloc, &mut base, Work::Rule(3), 100);
+    let rule = is_planned(&rt, alloc, &mut base, &parts(Work::Rule(4)), Said::No(14));
+    drop(base);
+    assert!(rt; permits == 100 && permit);
+    assert!(rt; rules == 100 && rule);
+}

@@ -1,0 +1,89 @@
+//! What refuses a utility because of the relation that it changes, and of the user.
+
+ghost use Rattle.std.specs.Prelude.{◌≡◌, ◌∷◌, [], is_some, IfOk, Some};
+ghost use Rattle.am_traits.specs.Causes.{HasCause};
+ghost use Rattle.calculus.specs.Catalogue.{is_catalogue};
+ghost use Rattle.calculus.specs.Database.{Db, view_at};
+ghost use Rattle.calculus.specs.Replacement.{first_cause};
+ghost use Rattle.quel_meaning.specs.Planned.{has_view, is_anothers, is_none_to_permit, owner_causes};
+
+use crate::numbers::ANOTHERS;
+use am_traits::{Base, BaseFault};
+use calculus::{Name, RelKey};
+use quel_causes::relation_cause;
+use std::alloc::Global;
+
+/// Whether the user is not the owner.
+fn is_anothers(user: &Name, key: &RelKey) -> bool
+    ensures { result ≡ is_anothers user.now key.now }
+{
+    key.owner != *user
+}
+
+/// Whether the user is not the owner, or not the administrator, who alone gives permits.
+fn is_none_to_permit<B: Base>(
+    alloc: Global,
+    base: &mut B,
+    user: &Name,
+    key: &RelKey,
+) -> Result<bool, BaseFault>
+    ensures told { (db : Db) → B.database base.old ≡ Some db → IfOk result (λ b. b ≡ is_none_to_permit db user.now key.now) }
+    ensures kept { B.database base.new ≡ B.database base.old }
+    ensures same { B.left base.new ≡ B.left base.old }
+    ensures cause { HasCause (B.database base.old) (B.faults base.old) (B.faults base.new) result }
+{
+    if is_anothers(user, key) {
+        return Ok(true);
+    }
+    let dba = base.dba(alloc)?;
+    Ok(dba != *user)
+}
+
+/// The cause that what has the key is another's, where it is.
+fn anothers(there: bool) -> Option<u8>
+    ensures { result ≡ first_cause ((24, there) ∷ []) }
+{
+    if there { Some(ANOTHERS) } else { None }
+}
+
+/// What refuses a change of a relation of the user's: that the key is a catalogue's, a view's, or
+/// another's.
+pub(crate) fn owner_cause<B: Base>(
+    alloc: Global,
+    base: &mut B,
+    user: &Name,
+    rel: &RelKey,
+) -> Result<Option<u8>, BaseFault>
+    ensures told { (db : Db) → B.database base.old ≡ Some db → IfOk result (λ n. n ≡ first_cause (owner_causes db user.now rel.now)) }
+    ensures kept { B.database base.new ≡ B.database base.old }
+    ensures same { B.left base.new ≡ B.left base.old }
+    ensures cause { HasCause (B.database base.old) (B.faults base.old) (B.faults base.new) result }
+{
+    match relation_cause(alloc, base, rel) {
+        Ok(None) => Ok(anothers(is_anothers(user, rel))),
+        other => other,
+    }
+}
+
+/// What refuses a change of a relation's permits: that the key is a catalogue's or a view's, or that
+/// the user is not its owner, or not the administrator.
+pub(crate) fn permitting_cause<B: Base>(
+    alloc: Global,
+    base: &mut B,
+    user: &Name,
+    rel: &RelKey,
+) -> Result<Option<u8>, BaseFault>
+    ensures told { (db : Db) → B.database base.old ≡ Some db
+        → IfOk result (λ n. n ≡ first_cause ((28, is_catalogue db rel.now) ∷ (26, has_view db rel.now) ∷ (24, is_none_to_permit db user.now rel.now) ∷ [])) }
+    ensures kept { B.database base.new ≡ B.database base.old }
+    ensures same { B.left base.new ≡ B.left base.old }
+    ensures cause { HasCause (B.database base.old) (B.faults base.old) (B.faults base.new) result }
+{
+    match relation_cause(alloc, base, rel) {
+        Ok(None) => {
+            let none = is_none_to_permit(alloc, base, user, rel)?;
+            Ok(anothers(none))
+        }
+        other => other,
+    }
+}

@@ -1,0 +1,96 @@
+//! Integrity rules that are made.
+
+ghost use Rattle.std.specs.Prelude.{◌≡◌, ◌++◌, ◌∷◌, [], Some, Ok as Planned, IfOk};
+ghost use Rattle.am_traits.specs.Causes.{HasCause as HasBaseCause};
+ghost use Rattle.calculus.specs.Database.{Db};
+ghost use Rattle.calculus.specs.Replacement.{first_cause};
+ghost use Rattle.calculus.specs.declared.change.DbChange.TheVariants as change;
+ghost use Rattle.calculus.specs.declared.request.Utility.TheVariants as utility;
+ghost use Rattle.quel_meaning.specs.Planned.{is_broken, owner_causes, planned};
+ghost use Rattle.utilities.specs.Causes.{HasCause};
+
+use crate::UtilFault;
+use crate::judging::is_broken;
+use crate::numbering::next_number;
+use crate::numbers::{BROKEN, PAST_LIMIT};
+use crate::owners::owner_cause;
+use am_traits::{Base, BaseFault};
+use calculus::{DbChange, Name, OutOfMemory, RelKey, Rule, TryCopy};
+use memory::both;
+use quel_causes::standing_rules;
+use std::alloc::Global;
+
+/// The rule with this number.
+fn numbered(alloc: Global, rule: &Rule, number: u32) -> Result<Rule, OutOfMemory>
+    ensures { IfOk result (λ r. r ≡ record rule.now { number = number }) }
+{
+    match rule.qual.copy(alloc) {
+        Ok(qual) => Ok(Rule { number, qual }),
+        Err(error) => Err(error),
+    }
+}
+
+/// The change that makes a rule with this number.
+fn rule_made(alloc: Global, rel: &RelKey, rule: &Rule, number: u32) -> Result<DbChange, OutOfMemory>
+    ensures { IfOk result (λ c. c ≡ change.Rule rel.now (record rule.now { number = number })) }
+{
+    match both(rel.copy(alloc), numbered(alloc, rule, number)) {
+        Ok((rel, rule)) => Ok(DbChange::Rule { rel, rule }),
+        Err(error) => Err(error),
+    }
+}
+
+/// The cause that a row breaks a rule, where one does.
+fn broken(there: bool) -> Option<u8>
+    ensures { result ≡ first_cause ((27, there) ∷ []) }
+{
+    if there { Some(BROKEN) } else { None }
+}
+
+/// What refuses a rule for which there is a number: its relation, or a row that breaks it.
+fn rule_cause<B: Base>(
+    alloc: Global,
+    base: &mut B,
+    user: &Name,
+    rel: &RelKey,
+    rule: &Rule,
+) -> Result<Option<u8>, BaseFault>
+    ensures told { (db : Db) → B.database base.old ≡ Some db → IfOk result (λ n. n ≡ first_cause (owner_causes db user.now rel.now ++ (27, is_broken db rel.now rule.now) ∷ [])) }
+    ensures kept { B.database base.new ≡ B.database base.old }
+    ensures same { B.left base.new ≡ B.left base.old }
+    ensures cause { HasBaseCause (B.database base.old) (B.faults base.old) (B.faults base.new) result }
+{
+    match owner_cause(alloc, base, user, rel) {
+        Ok(None) => {
+            let there = is_broken(alloc, base, rel, rule)?;
+            Ok(broken(there))
+        }
+        other => other,
+    }
+}
+
+/// The change that makes a rule with the next number of its relation, or what refuses it.
+pub(crate) fn rule_planned<B: Base>(
+    alloc: Global,
+    base: &mut B,
+    user: &Name,
+    rel: &RelKey,
+    rule: &Rule,
+) -> Result<DbChange, UtilFault>
+    ensures change { (db : Db) → B.database base.old ≡ Some db → IfOk result (λ c. planned db user.now (utility.Rule rel.now rule.now) ≡ Planned c) }
+    ensures kept { B.database base.new ≡ B.database base.old }
+    ensures same { B.left base.new ≡ B.left base.old }
+    ensures cause { HasCause user.now (utility.Rule rel.now rule.now) (B.database base.old) (B.faults base.old) (B.faults base.new) result }
+{
+    let standing = standing_rules(alloc, base, rel)?;
+    let next = next_number(&standing);
+    drop(standing);
+    match next {
+        None => Err(UtilFault::No(PAST_LIMIT)),
+        Some(number) => match rule_cause(alloc, base, user, rel, rule) {
+            Ok(None) => Ok(rule_made(alloc, rel, rule, number)?),
+            Ok(Some(cause)) => Err(UtilFault::No(cause)),
+            Err(fault) => Err(UtilFault::Base(fault)),
+        },
+    }
+}
