@@ -15,3 +15,7 @@ mod given;
 mod queries;
 #[cfg(test)]
 mod shown;
+#[cfg(test)]
+mod stored;
+#[cfg(test)]
+mod tall;

@@ -64,7 +64,7 @@ fn kind_of(target: &Target) -> &'static [u8] {
     }
 }
 
-fn put_key(rt: &impl Abort, shown: &mut Vec<u8>, key: &RelKey) {
+pub(crate) fn put_key(rt: &impl Abort, shown: &mut Vec<u8>, key: &RelKey) {
     put(rt, shown, key.owner.bytes());
     put(rt, shown, b"'s ");
     put(rt, shown, key.name.bytes());

@@ -1,0 +1,196 @@
+//! Views, permits and rules that are defined, and permits and rules that go.
+
+use crate::given::{name, relation, statement, two_relations, two_vars};
+use crate::shown::{put, put_digit, put_key, put_qual, put_query};
+use crate::tall::Tall;
+use calculus::{Checked, Permit, RelKey, Rule, Utility};
+use quel_check::RangeTable;
+use quel_query::query_of;
+use quel_resolve::{CheckFault, resolve};
+use std::alloc::Global;
+use std::process::Abort;
+use std::test::*;
+
+/// A base with so many rules, whose views have one target, on each level larger by 10: 151 on level 15.
+fn base(rt: &impl Abort, alloc: Global, rules: u32) -> Tall {
+    let s = statement(rt, alloc, b"retrieve (a = x.a+1+1+1+1+1)");
+    let vars = two_vars(rt, alloc);
+    let infos = two_relations(rt, alloc);
+    let query = query_of(alloc, &s, &vars, &infos).expect(rt, "memory");
+    drop(infos);
+    drop(vars);
+    drop(s);
+    let info = relation(rt, alloc, b"p", b"a", b"b");
+    Tall { info, query, rules }
+}
+
+fn key(rt: &impl Abort, alloc: Global, rel: &[u8]) -> RelKey {
+    RelKey {
+        owner: name(rt, alloc, b"ann"),
+        name: name(rt, alloc, rel),
+    }
+}
+
+/// `x` over `p`, `y` over `q`, `t` over the view on level 16, and `z` over the one on level 15.
+fn ranges(rt: &impl Abort, alloc: Global) -> RangeTable {
+    let mut ranges = RangeTable::new(alloc);
+    for (var, rel) in [
+        (b"x", b"p".as_slice()),
+        (b"y", b"q"),
+        (b"z", b"vo"),
+        (b"t", b"vp"),
+    ] {
+        let done = ranges.declare(name(rt, alloc, var), key(rt, alloc, rel));
+        done.expect(rt, "memory");
+    }
+    ranges
+}
+
+fn put_numbers(rt: &impl Abort, shown: &mut Vec<u8>, numbers: &[u32]) {
+    for number in numbers {
+        put_digit(rt, shown, u8::try_from(*number).unwrap_or(255));
+    }
+}
+
+fn put_permit(rt: &impl Abort, shown: &mut Vec<u8>, permit: &Permit) {
+    put_numbers(rt, shown, &[permit.number, u32::from(permit.ops)]);
+    put(rt, shown, b" of ");
+    for place in permit.attrs.items() {
+        put_digit(rt, shown, *place);
+    }
+    put(rt, shown, b" to ");
+    if let Some(user) = &permit.user {
+        put(rt, shown, user.bytes());
+    }
+    put(rt, shown, b" where ");
+    put_qual(rt, shown, &permit.qual);
+}
+
+fn put_rule(rt: &impl Abort, shown: &mut Vec<u8>, rule: &Rule) {
+    put_numbers(rt, shown, &[rule.number]);
+    put(rt, shown, b" is ");
+    put_qual(rt, shown, &rule.qual);
+}
+
+/// Puts work for the utilities behind the others.
+fn put_work(rt: &impl Abort, shown: &mut Vec<u8>, work: &Utility) {
+    match work {
+        Utility::View { rel, query } => {
+            put_key(rt, shown, rel);
+            put_query(rt, shown, query);
+        }
+        Utility::Permit { rel, permit } => {
+            put_key(rt, shown, rel);
+            put_permit(rt, shown, permit);
+        }
+        Utility::Rule { rel, rule } => {
+            put_key(rt, shown, rel);
+            put_rule(rt, shown, rule);
+        }
+        Utility::DropPermits { rel, numbers } => {
+            put_key(rt, shown, rel);
+            put(rt, shown, b"permits ");
+            put_numbers(rt, shown, numbers.items());
+        }
+        Utility::DropRules { rel, numbers } => {
+            put_key(rt, shown, rel);
+            put(rt, shown, b"rules ");
+            put_numbers(rt, shown, numbers.items());
+        }
+        _ => put(rt, shown, b"?"),
+    }
+}
+
+/// Puts a tree, or the digits of the number that refuses a statement, behind the others.
+fn put_answer(rt: &impl Abort, shown: &mut Vec<u8>, answer: &Result<Checked, CheckFault>) {
+    match answer {
+        Ok(Checked::Utility(work)) => put_work(rt, shown, work),
+        Err(CheckFault::No(number)) => {
+            put_digit(rt, shown, *number / 10);
+            put_digit(rt, shown, *number % 10);
+        }
+        _ => put(rt, shown, b"?"),
+    }
+}
+
+/// What ann's statement asks a base for that has so many rules on each relation.
+fn shown(rt: &impl Abort, alloc: Global, text: &[u8], rules: u32) -> Vec<u8> {
+    let mut shown = Vec::new(alloc);
+    let mut base = base(rt, alloc, rules);
+    let ranges = ranges(rt, alloc);
+    let user = name(rt, alloc, b"ann");
+    let s = statement(rt, alloc, text);
+    let answer = resolve(alloc, &s, &user, &ranges, &mut base);
+    put_answer(rt, &mut shown, &answer);
+    drop(answer);
+    drop(s);
+    drop(user);
+    drop(ranges);
+    drop(base);
+    shown
+}
+
+/// A text, how many rules stand, and what its statement asks for, or the number that refuses it.
+const STORED: [(&[u8], u32, &[u8]); 22] = [
+    (
+        b"define view w (n = -x.b)",
+        0,
+        b"ann's w, ann's p, n wide -0.1, true",
+    ),
+    (
+        b"define view w (z.a)",
+        0,
+        b"ann's w, ann's vo, a i2 0.0, true",
+    ),
+    (
+        b"define view w (n = z.a+z.a+z.a+z.a+z.a+z.a)",
+        0,
+        b"ann's w, ann's vo, n wide ?, true",
+    ),
+    (b"define view w (n = z.a+z.a+z.a+z.a+z.a+z.a+z.a)", 0, b"14"),
+    (b"define view w (t.a)", 0, b"14"),
+    (b"define view p (t.a, t.a) where 1 = \"b\"", 0, b"14"),
+    (b"define view p (x.a, x.a) where 1 = \"b\"", 0, b"17"),
+    (b"define view p (x.a) where 1 = \"b\"", 0, b"13"),
+    (b"define view p (x.a)", 0, b"15"),
+    (b"define view w (x.c)", 0, b"12"),
+    (
+        b"define permit append on x (b) to bob",
+        0,
+        b"ann's p, 02 of 1 to bob where true",
+    ),
+    (
+        b"define permit retrieve on x to all",
+        0,
+        b"ann's p, 01 of  to  where true",
+    ),
+    (
+        b"define permit retrieve on x to bob where x.a = y.a",
+        0,
+        b"14",
+    ),
+    (
+        b"define permit retrieve on x to bob where x.a = \"b\"",
+        0,
+        b"13",
+    ),
+    (
+        b"define permit retrieve on x to bob where x.a = y.a and 1 = \"b\"",
+        0,
+        b"14",
+    ),
+    (b"define integrity on x is x.a = 1", 99, b"ann's p, 0 is ?"),
+    (b"define integrity on x is x.a = 1", 100, b"14"),
+    (b"define integrity on x is x.a = \"b\"", 99, b"13"),
+    (b"destroy permit p 1, 3", 0, b"ann's p, permits 13"),
+    (b"destroy permit w all", 0, b"10"),
+    (b"destroy integrity p all", 0, b"ann's p, rules "),
+    (b"destroy integrity w 2", 0, b"10"),
+];
+
+#[test]
+fn views_permits_and_rules_are_resolved_or_refused_in_order(rt: HostRuntime) {
+    for (text, rules, wanted) in &STORED {
+        assert!(rt; shown(&rt, rt.alloc(), *text, *rules).as_slice() == *wanted);
+    }
+}
