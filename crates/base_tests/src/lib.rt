@@ -1,8 +1,11 @@
-//! Tests of a database in memory, of the changes that one takes, and of the trees that are fit for one.
+//! Tests of a database in memory, of the changes that one takes, of the trees that are fit for one, and of
+//! the texts of its views.
 #![tactic(auto)]
 
 #[cfg(test)]
 mod changes;
+#[cfg(test)]
+mod levels;
 #[cfg(test)]
 mod making;
 #[cfg(test)]
@@ -10,4 +13,10 @@ mod new_database;
 #[cfg(test)]
 mod plans;
 #[cfg(test)]
+mod ruled;
+#[cfg(test)]
+mod tower;
+#[cfg(test)]
 mod trees;
+#[cfg(test)]
+mod view_texts;

@@ -1,105 +1,101 @@
 -- What a statement asks for that is built here can be carried out.
-use Rattle.std.proofs.Common.{◌≡◌, refl, sym, subst, ℕ, Bool, true, false, not, List, [], ◌∷◌, length, IsTrue, Some, None, Ok, arith}
+use Rattle.std.proofs.Common.{◌≡◌, refl, sym, ◌∙◌, ap, ℕ, Bool, true, List, [], ◌∷◌, IsTrue, Some, None}
+use Rattle.std.specs.Prelude.{All}
 use Rattle.std.specs.List.{list_all}
 use Rattle.std.proofs.lemmas.List.Elements.{All-nil, All-cons}
-use Rattle.calculus.specs.declared.query.RelKey.{RelKey}
-use Rattle.calculus.specs.declared.schema.Attr.{Attr}
 use Rattle.calculus.specs.declared.request.Checked.{Checked}
 use Rattle.calculus.specs.declared.request.Checked.TheVariants as checked
 use Rattle.calculus.specs.declared.request.Asked.{Asked}
 use Rattle.calculus.specs.declared.request.Update.{Update}
-use Rattle.calculus.specs.declared.request.Utility.TheVariants as utility
 use Rattle.calculus.specs.declared.statement.Statement.{Statement}
 use Rattle.calculus.specs.declared.statement.Statement.TheVariants as statement
 use Rattle.calculus.specs.Database.{Db}
-use Rattle.calculus.specs.IsDatabase.{IsDatabase}
-use Rattle.calculus.specs.Lists.{is_any}
-use Rattle.calculus.specs.Name.{is_name}
-use Rattle.calculus.specs.QueryParts.{vars_of, query_aggregates}
-use Rattle.quel_meaning.specs.Fit.{suits, fits, is_fit_with_views, utility_fits}
-use Rattle.quel_meaning.specs.SpelledTree.{tree_is_spelled}
-use Rattle.quel_meaning.specs.FitQueries.{is_kept, kept_or_viewed}
-use Rattle.quel_meaning.specs.IsWritten.{is_written}
+use Rattle.calculus.specs.QueryParts.{vars_of}
+use Rattle.calculus.specs.Who.{Who, asker_of, asks}
+use Rattle.quel_causes.specs.Judged.{is_judged}
+use Rattle.quel_meaning.specs.Fit.{suits, fits, is_fit}
+use Rattle.quel_meaning.specs.FitQueries.{is_kept, kept_alone, reads_fit, asked_fits}
+use Rattle.quel_meaning.specs.Meaning.{ruled_tree}
 use Rattle.quel_meaning.specs.Ranges.{Ranges}
 use Rattle.quel_meaning.specs.Resolved.{tree_of, resolved}
 use Rattle.quel_meaning.specs.Scope.{Scope}
-use Rattle.quel_meaning.specs.StatementUpdate.{append_of, replace_of, delete_of, into_of}
-use Rattle.quel_meaning.specs.WrittenParts.{text_aggregates}
-use Rattle.quel_meaning.specs.WrittenQuery.{query_of}
+use Rattle.quel_meaning.specs.SpelledTree.{tree_is_spelled}
 use Rattle.quel_meaning.proofs.Accepted.{scope, accepted}
 use Rattle.quel_meaning.proofs.Each.{left, right}
-use Rattle.quel_meaning.proofs.FitResolved.{resolved_fits}
-use Rattle.quel_meaning.proofs.Slots.{as_many}
-use Rattle.owner_session_laws.specs.Plain.{IsPlain}
+use Rattle.quel_meaning.proofs.Judged.{judged_resolved}
 use Rattle.quel_resolve.specs.Built.{is_built}
-use Rattle.plain_statements.specs.Built.{is_run_here, is_simple}
+use Rattle.stage_parse.specs.Checks.{HasNoAggregates, IsChecked}
+use Rattle.utilities.specs.Built.{is_built as is_planned}
+use Rattle.view_text.specs.PutIn.{put_in_tree}
 use Rattle.plain_statements.specs.Doable.{AreDoable, IsDoableUpdate, IsDoable}
-use Rattle.plain_statements.proofs.WithoutViews.{asked_kept, update_kept}
 
--- ---- a query without aggregates
+-- ---- the kind of its utility
 
-none_of : {X Y : Type 0} (xs : List X) (ys : List Y) → length xs ≡ length ys → is_any ys ≡ false → xs ≡ []
-none_of [] ys e h = refl
-none_of (x ∷ xs) [] e h = absurd (omega (arith, e))
-none_of (x ∷ xs) (y ∷ ys) e h = absurd (cc h)
+-- a utility that it asks for is of a kind that is planned
+abbrev work_is_planned : Checked → Bool
+work_is_planned (checked.Answer asked) = true
+work_is_planned (checked.Update u) = true
+work_is_planned (checked.Utility work) = is_planned work
 
-isnt : (b : Bool) → not b ≡ true → b ≡ false
-isnt true h = cc h
-isnt false h = refl
+-- of a statement that is built
+statement_planned : (s : Scope) (stmt : Statement) → is_judged stmt ≡ true → work_is_planned (tree_of s stmt) ≡ true
+unfolding tree_of
+statement_planned s (statement.Range var rel) h = refl
+statement_planned s (statement.Retrieve None items qual sort) h = refl
+statement_planned s (statement.Retrieve (Some name) items qual sort) h = refl
+statement_planned s (statement.Append rel items qual) h = refl
+statement_planned s (statement.Replace var items qual) h = refl
+statement_planned s (statement.Delete var qual) h = refl
+statement_planned s (statement.Create rel attrs) h = refl
+statement_planned s (statement.DropPermits rel numbers) h = refl
+statement_planned s (statement.DropRules rel numbers) h = refl
+statement_planned s (statement.View name items qual) h = refl
+statement_planned s (statement.Permit ops var attrs user qual) h = refl
+statement_planned s (statement.Rule var qual) h = refl
+statement_planned s stmt h = absurd (cc h)
 
-built_parts : (s : Statement) → is_run_here s ≡ true → (is_simple s ≡ true) × (is_any (text_aggregates s) ≡ false)
-unfolding is_run_here
-built_parts s h = (left _ _ h, isnt _ (right (is_simple s) _ h))
+-- views, permits and rules leave the kind
+kind_stays : (db : Db) (who : Who) (tree : Checked) → work_is_planned (ruled_tree db (put_in_tree db who tree)) ≡ work_is_planned tree
+unfolding ruled_tree put_in_tree
+kind_stays db who (checked.Answer asked) = refl
+kind_stays db who (checked.Update u) = refl
+kind_stays db who (checked.Utility work) = refl
 
--- what is run here is resolved
-pub is_resolved : (s : Statement) → is_run_here s ≡ true → is_built s ≡ true
-unfolding is_run_here is_built
-is_resolved (statement.Range var rel) h = h
-is_resolved (statement.Retrieve into items qual sort) h = h
-is_resolved (statement.Append rel items qual) h = h
-is_resolved (statement.Replace var items qual) h = h
-is_resolved (statement.Delete var qual) h = h
-is_resolved (statement.Create rel attrs) h = h
-is_resolved s h = absurd (cc h)
+judged_here : (stmt : Statement) → is_built stmt ≡ true → is_judged stmt ≡ true
+unfolding is_built
+judged_here stmt h = left _ _ h
 
--- ---- its tree
+checked_planned : (db : Db) (user : List ℕ) (ranges : Ranges) (stmt : Statement) (tree : Checked) → is_built stmt ≡ true → IsChecked db user ranges stmt tree
+    → work_is_planned tree ≡ true
+checked_planned db user ranges stmt tree built c =
+    let a = accepted db user ranges stmt c.asked (judged_resolved resolved db (asker_of user) ranges stmt c.asked c.judged) in
+    ap work_is_planned c.put_in
+    ∙ kind_stays db (asks user) c.asked ∙ ap work_is_planned (sym a.is) ∙ statement_planned (scope db user ranges) stmt (judged_here stmt built)
 
-module _ (s : Scope) (none : s.db.views ≡ []) where
-  one_asked : (a : Asked) → suits (kept_or_viewed s.db) s.db s.user (checked.Answer (a ∷ [])) ≡ true → query_aggregates a.query ≡ [] → AreDoable s.db (a ∷ [])
-  unfolding suits
-  one_asked a h plain = record {
-    read = All-cons (λ (x : Asked). IsTrue (list_all (is_kept s.db) (vars_of x.query))) a [] (asked_kept s.db none a (left _ _ h)) (All-nil _);
-    plain = All-cons (λ (x : Asked). query_aggregates x.query ≡ []) a [] plain (All-nil _);
-  }
+-- ---- a fit tree
 
-  update_doable : (u : Update) → suits (kept_or_viewed s.db) s.db s.user (checked.Update u) ≡ true → query_aggregates u.query ≡ [] → IsDoableUpdate s.db u
-  unfolding suits
-  update_doable u h plain = record { fits = update_kept s.db none u h; plain = plain }
+module _ (db : Db) (user : List ℕ) where
+  one_read : (a : Asked) → asked_fits (kept_alone db) db a ≡ true → IsTrue (list_all (is_kept db) (vars_of a.query))
+  unfolding asked_fits reads_fit
+  one_read a h = left _ _ (left _ _ h)
 
-  work_doable : (rel : RelKey) (attrs : List Attr) → suits (kept_or_viewed s.db) s.db s.user (checked.Utility (utility.Create rel attrs)) ≡ true
-      → utility_fits s.db [] (utility.Create rel attrs) ≡ true
-  unfolding suits utility_fits
-  work_doable rel attrs h = h
+  all_read : (asked : List Asked) → list_all (asked_fits (kept_alone db) db) asked ≡ true → All (λ a. IsTrue (list_all (is_kept db) (vars_of a.query))) asked
+  all_read [] h = All-nil _
+  all_read (a ∷ asked) h =
+      All-cons (λ (x : Asked). IsTrue (list_all (is_kept db) (vars_of x.query))) a asked (one_read a (left _ _ h)) (all_read asked (right (asked_fits (kept_alone db) db a) _ h))
 
-  tree_doable : (stmt : Statement) → is_simple stmt ≡ true → query_aggregates (query_of s stmt) ≡ [] → suits (kept_or_viewed s.db) s.db s.user (tree_of s stmt) ≡ true → IsDoable s.db (tree_of s stmt)
-  unfolding tree_of append_of replace_of delete_of into_of
-  tree_doable (statement.Range var rel) j plain h = record { read = All-nil _; plain = All-nil _ }
-  tree_doable (statement.Retrieve None items qual sort) j plain h = one_asked _ h plain
-  tree_doable (statement.Retrieve (Some name) items qual sort) j plain h = update_doable _ h plain
-  tree_doable (statement.Append rel items qual) j plain h = update_doable _ h plain
-  tree_doable (statement.Replace var items qual) j plain h = update_doable _ h plain
-  tree_doable (statement.Delete var qual) j plain h = update_doable _ h plain
-  tree_doable (statement.Create rel attrs) j plain h = work_doable _ _ h
-  tree_doable stmt j plain h = absurd (cc j)
+  answer_doable : (asked : List Asked) → is_fit db user (checked.Answer asked) ≡ true → HasNoAggregates (checked.Answer asked) → AreDoable db asked
+  unfolding fits suits HasNoAggregates
+  answer_doable asked h plain = record { read = all_read asked (right (tree_is_spelled (checked.Answer asked)) _ h); plain = plain }
 
-pub resolved_doable : (db : Db) (user : List ℕ) (ranges : Ranges) (stmt : Statement) (tree : Checked) → IsDatabase db → IsPlain db user → is_run_here stmt ≡ true → is_written stmt ≡ true
-    → resolved db user ranges stmt ≡ Ok tree → IsDoable db tree
-unfolding fits
-resolved_doable db user ranges stmt tree is plain built written e =
-    let a = accepted db user ranges stmt tree e in
-    let parts = built_parts stmt built in
-    let none = none_of (query_aggregates (query_of (scope db user ranges) stmt)) (text_aggregates stmt) (as_many (scope db user ranges) stmt) parts.1 in
-    let named : is_name user ≡ true = subst (λ u. is_name u ≡ true) plain.own.administrator is.dba_is_named in
-    let fit : is_fit_with_views db user tree ≡ true = resolved_fits db user ranges stmt tree is named written e in
-    let suited : suits (kept_or_viewed db) db user tree ≡ true = right (tree_is_spelled tree) _ fit in
-    subst (IsDoable db) a.is (tree_doable (scope db user ranges) plain.own.no_views stmt parts.0 none (subst (λ t. suits (kept_or_viewed db) db user t ≡ true) (sym a.is) suited))
+  update_doable : (u : Update) → is_fit db user (checked.Update u) ≡ true → HasNoAggregates (checked.Update u) → IsDoableUpdate db u
+  unfolding fits suits tree_is_spelled HasNoAggregates
+  update_doable u h plain = record { spelled = left _ _ h; fits = right (tree_is_spelled (checked.Update u)) _ h; plain = plain }
+
+  tree_doable : (tree : Checked) → is_fit db user tree ≡ true → HasNoAggregates tree → work_is_planned tree ≡ true → IsDoable db user tree
+  tree_doable (checked.Answer asked) h plain planned = answer_doable asked h plain
+  tree_doable (checked.Update u) h plain planned = update_doable u h plain
+  tree_doable (checked.Utility work) h plain planned = record { fit = h; built = planned }
+
+pub checked_doable : (db : Db) (user : List ℕ) (ranges : Ranges) (stmt : Statement) (tree : Checked) → is_built stmt ≡ true → IsChecked db user ranges stmt tree → IsDoable db user tree
+checked_doable db user ranges stmt tree built c = tree_doable db user tree c.fit c.plain (checked_planned db user ranges stmt tree built c)

@@ -1,5 +1,5 @@
 -- What carrying a tree out does, by what its parts do.
-use Rattle.std.proofs.Common.{◌≡◌, refl, sym, ap, ◌∙◌, subst, ℕ, List, [], Some, Result, Ok, Err}
+use Rattle.std.proofs.Common.{◌≡◌, refl, sym, ap, ◌∙◌, subst, ℕ, true, List, [], Some, Result, Ok, Err}
 use Rattle.std.proofs.lemmas.Option.{same_Some}
 use Rattle.std.specs.Prelude.{IfOk}
 use Rattle.calculus.specs.declared.change.DbChange.{DbChange}
@@ -18,6 +18,7 @@ use Rattle.calculus.specs.Who.{Free}
 use Rattle.quel_meaning.specs.Copying.{refusal}
 use Rattle.quel_meaning.specs.Meaning.{answer_reply, numbered_effect, tree_meaning, utility_effect}
 use Rattle.quel_meaning.specs.Planned.{planned}
+use Rattle.utilities.specs.Built.{is_built}
 use Rattle.plain_statements.specs.declared.stopped.Stopped.{Stopped}
 use Rattle.plain_statements.specs.declared.stopped.Stopped.TheVariants.{No}
 use Rattle.plain_statements.specs.Doable.{IsDoableWork}
@@ -29,19 +30,20 @@ pub ok_to : {T E : Type 0} (P Q : T → Type 0) → ((x : T) → P x → Q x) �
 ok_to P Q f (Ok x) h = f x h
 ok_to P Q f (Err e) h = tt
 
--- ---- relations that are made
+-- ---- utilities
 
-work_effect : (db : Db) (user : List ℕ) (work : Utility) → IsDoableWork db work → utility_effect db [] user work ≡ numbered_effect db [] (planned db user work)
+work_effect : (db : Db) (user : List ℕ) (work : Utility) → is_built work ≡ true → utility_effect db [] user work ≡ numbered_effect db [] (planned db user work)
 unfolding utility_effect
-work_effect db user (utility.Create rel attrs) h = refl
-work_effect db user work h = absurd h
+work_effect db user (utility.Copy rel columns from file) h = absurd (cc h)
+work_effect db user work h = refl
 
-module _ (old between : Db) (user : List ℕ) (work : Utility) (doable : IsDoableWork old work) (kept : Some between ≡ Some old) where
+module _ (old between : Db) (user : List ℕ) (work : Utility) (doable : IsDoableWork old user work) (kept : Some between ≡ Some old) where
   -- the change is planned, and then laid
   pub work_laid : (now : Db) (change : DbChange) → planned old user work ≡ Ok change → (reply : Reply) → numbered_effect between [] (Ok change) ≡ effect_of now reply
       → utility_effect old [] user work ≡ effect_of now reply
   work_laid now change e reply h =
-      work_effect old user work doable ∙ ap (numbered_effect old []) e ∙ ap (λ db. numbered_effect db [] (Ok change)) (sym (same_Some between old kept)) ∙ h
+      work_effect old user work doable.built
+      ∙ ap (numbered_effect old []) e ∙ ap (λ db. numbered_effect db [] (Ok change)) (sym (same_Some between old kept)) ∙ h
 
   -- a number refuses it
   pub work_refused : (fault : Stopped) (number : ℕ) → fault ≡ No number
@@ -49,7 +51,8 @@ module _ (old between : Db) (user : List ℕ) (work : Utility) (doable : IsDoabl
       → (reply : Reply) → reply ≡ Refused (refusal number) → utility_effect old [] user work ≡ effect_of between reply
   work_refused fault number is told reply h =
       let e = subst (λ f. Plans (λ change. (planned old user work ≡ Ok change) × IsLawful old change) (λ number. planned old user work ≡ Err number) (Err f)) is told in
-      work_effect old user work doable ∙ ap (numbered_effect old []) e ∙ (λ i. effect_of (sym (same_Some between old kept) i) (sym h i))
+      work_effect old user work doable.built
+      ∙ ap (numbered_effect old []) e ∙ (λ i. effect_of (sym (same_Some between old kept) i) (sym h i))
 
 -- ---- trees
 

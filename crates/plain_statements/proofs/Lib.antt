@@ -1,5 +1,4 @@
 pub mod Outcomes
-pub mod WithoutViews
 pub mod Carried
 pub mod Effects
 pub mod Planned

@@ -1,5 +1,5 @@
 -- What is planned is lawful.
-use Rattle.std.proofs.Common.{◌≡◌, ap, subst, ℕ, nat_eq, nat_le, true, IsTrue, List, Result, Ok, Err}
+use Rattle.std.proofs.Common.{◌≡◌, refl, ap, subst, ℕ, nat_eq, nat_le, true, false, IsTrue, List, Result, Ok, Err}
 use Rattle.std.specs.List.{list_all}
 use Rattle.calculus.specs.declared.change.DbChange.{DbChange}
 use Rattle.calculus.specs.declared.request.Update.{Update}
@@ -12,24 +12,26 @@ use Rattle.calculus.specs.IsDatabase.{IsDatabase}
 use Rattle.calculus.specs.Limits.{most_expanded_variables}
 use Rattle.calculus.specs.Sizes.{update_expanded_variables}
 use Rattle.calculus.specs.Stored.{kept_rows}
-use Rattle.quel_meaning.specs.Fit.{is_new, checks_fit, places_fit, update_kinds_fit, relation_fits, update_fits, utility_fits}
+use Rattle.quel_meaning.specs.Fit.{is_new, checks_fit, places_fit, update_kinds_fit, relation_fits, update_fits}
 use Rattle.quel_meaning.specs.FitQueries.{kept_alone, reads_fit}
 use Rattle.quel_meaning.specs.KindsInQueries.{assignments_fit}
 use Rattle.quel_meaning.specs.Planned.{planned}
 use Rattle.quel_meaning.proofs.Each.{left, right}
-use Rattle.plan_laws.proofs.Created.{nothing_ranges, created_planned}
+use Rattle.plan_laws.specs.Fitting.{is_copy}
+use Rattle.plan_laws.proofs.Created.{nothing_ranges}
 use Rattle.update_change.specs.Changes.{MakesNew}
 use Rattle.calculus.specs.QueryParts.{vars_of}
 use Rattle.calculus.specs.Replacement.{updated}
 use Rattle.calculus.specs.Who.{Free}
 use Rattle.quel_meaning.specs.FitQueries.{is_kept}
 use Rattle.quel_meaning.specs.SpelledTree.{made_key_is_spelled, update_is_spelled}
-use Rattle.plan_laws.proofs.FitUtilities.{new_is_free, fit_relation}
+use Rattle.plan_laws.proofs.FitUtilities.{new_is_free, fitting_plan_lawful}
 use Rattle.update_laws.proofs.Fitted.{fitting_update_lawful}
 use Rattle.plain_statements.specs.declared.stopped.Stopped.{Stopped}
 use Rattle.plain_statements.specs.declared.stopped.Stopped.TheVariants.{No, OutOfMemory}
 use Rattle.plain_statements.specs.Plans.{Plans}
-use Rattle.plain_statements.specs.Doable.{IsDoableUpdate, IsDoableWork, work_is_spelled}
+use Rattle.plain_statements.specs.Doable.{IsDoableUpdate, IsDoableWork}
+use Rattle.utilities.specs.Built.{is_built}
 
 -- ---- updates
 
@@ -41,11 +43,11 @@ module _ (db : Db) (u : Update) where
       (right (nat_le (update_expanded_variables db u) most_expanded_variables) _
       (right (assignments_fit db u) _ (right (update_kinds_fit db u.query) _ (right (reads_fit (kept_alone db) db u.query) _ h)))))
 
-  pub makes_new : IsDoableUpdate db u → IsTrue (update_is_spelled u) → MakesNew db u
+  pub makes_new : IsDoableUpdate db u → MakesNew db u
   unfolding update_is_spelled
-  makes_new doable spelled into =
+  makes_new doable into =
       let fits : relation_fits db (record u { op = op.Into }) ≡ true = subst (λ does. relation_fits db (record u { op = does }) ≡ true) into (relation_of doable.fits) in
-      let named : made_key_is_spelled (record u { op = op.Into }) ≡ true = subst (λ does. made_key_is_spelled (record u { op = does }) ≡ true) into (left (made_key_is_spelled u) _ spelled) in
+      let named : made_key_is_spelled (record u { op = op.Into }) ≡ true = subst (λ does. made_key_is_spelled (record u { op = does }) ≡ true) into (left (made_key_is_spelled u) _ doable.spelled) in
       let f = new_is_free db u.rel named (left (is_new db u.rel.owner u.rel.name) _ (right (nat_eq u.old 255) _ fits)) in
       ap kept_rows (nothing_ranges db u.rel f.named f.unused)
 
@@ -53,17 +55,19 @@ module _ (db : Db) (u : Update) where
   unfolding update_fits reads_fit
   vars_kept doable = left _ _ (left _ _ doable.fits)
 
-  pub update_lawful : IsDatabase db → IsDoableUpdate db u → IsTrue (update_is_spelled u) → (result : Result DbChange Stopped)
+  pub update_lawful : IsDatabase db → IsDoableUpdate db u → (result : Result DbChange Stopped)
       → Plans (λ change. updated db Free u ≡ Ok change) (λ number. updated db Free u ≡ Err number) result
       → Plans (λ change. (updated db Free u ≡ Ok change) × IsLawful db change) (λ number. updated db Free u ≡ Err number) result
-  update_lawful is doable spelled (Ok change) h = (h, fitting_update_lawful (kept_alone db) db Free u change is spelled doable.fits h)
-  update_lawful is doable spelled (Err (No number)) h = h
-  update_lawful is doable spelled (Err OutOfMemory) h = tt
+  update_lawful is doable (Ok change) h = (h, fitting_update_lawful (kept_alone db) db Free u change is doable.spelled doable.fits h)
+  update_lawful is doable (Err (No number)) h = h
+  update_lawful is doable (Err OutOfMemory) h = tt
 
--- ---- relations that are made
+-- ---- utilities
 
-pub work_lawful : (db : Db) (user : List ℕ) (work : Utility) (change : DbChange) → IsDatabase db → IsDoableWork db work → IsTrue (work_is_spelled work)
-    → planned db user work ≡ Ok change → IsLawful db change
-unfolding utility_fits
-work_lawful db user (utility.Create rel attrs) change is fits spelled e = created_planned db user rel attrs change is (fit_relation db rel attrs spelled fits) e
-work_lawful db user work change is fits spelled e = absurd fits
+-- what is planned is no copy
+no_copy : (work : Utility) → is_built work ≡ true → is_copy work ≡ false
+no_copy (utility.Copy rel columns from file) h = absurd (cc h)
+no_copy work h = refl
+
+pub work_lawful : (db : Db) (user : List ℕ) (work : Utility) (change : DbChange) → IsDatabase db → IsDoableWork db user work → planned db user work ≡ Ok change → IsLawful db change
+work_lawful db user work change is doable e = fitting_plan_lawful (kept_alone db) db user work change is doable.fit (no_copy work doable.built) e

@@ -3,10 +3,15 @@ use Rattle.std.specs.Prelude.{◌≡◌, ℕ, List, Result, Ok, Err, IsTrue, IsF
 use Rattle.calculus.specs.declared.change.Pair.{Pair}
 use Rattle.calculus.specs.declared.request.Checked.{Checked}
 use Rattle.calculus.specs.declared.request.Update.{Update}
+use Rattle.calculus.specs.declared.statement.Statement.{Statement}
 use Rattle.calculus.specs.Database.{Db}
 use Rattle.calculus.specs.Pairs.{pairs}
 use Rattle.calculus.specs.Replacement.{update_lacks, values_fit}
-use Rattle.calculus.specs.Who.{Free}
+use Rattle.calculus.specs.Who.{Free, asker_of}
+use Rattle.quel_meaning.specs.Meaning.{judged}
+use Rattle.quel_meaning.specs.Ranges.{Ranges}
+use Rattle.stage_parse.specs.Checks.{IsChecked}
+use Rattle.plain_statements.specs.Doable.{IsDoable}
 use Rattle.plain_statements.specs.declared.stopped.Stopped.{Stopped}
 use Rattle.plain_statements.specs.declared.stopped.Stopped.TheVariants.{No, OutOfMemory}
 
@@ -16,9 +21,9 @@ Plans made refused (Ok x) = made x
 Plans made refused (Err (No number)) = refused number
 Plans made refused (Err OutOfMemory) = Unit {0}
 
--- what is made is the tree that was found, or the number that refuses
-abbrev pub IsMade : Result Checked ℕ → Result Checked Stopped → Type 0
-IsMade found made = Plans (λ tree. found ≡ Ok tree) (λ number. found ≡ Err number) made
+-- what is made for the user's statement is its checked tree, which can be carried out, or the number that it is judged to be refused by
+abbrev pub IsMade : Db → List ℕ → Ranges → Statement → Result Checked Stopped → Type 0
+IsMade db user ranges s made = Plans (λ tree. IsChecked db user ranges s tree × IsDoable db user tree) (λ number. judged db (asker_of user) ranges s ≡ Err number) made
 
 -- these are the update's pairs for nobody in particular; no target lacks a value, and all values fit
 pub record ArePairs (db : Db) (u : Update) (ps : List Pair) : Type 0 where

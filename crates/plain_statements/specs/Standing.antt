@@ -1,10 +1,14 @@
 -- What stands before and after a statement, where there are no files.
-use Rattle.std.specs.Prelude.{[]}
+use Rattle.std.specs.Prelude.{ℕ, List, []}
 use Rattle.calculus.specs.declared.reply.Reply.{Reply}
 use Rattle.calculus.specs.Database.{Db}
 use Rattle.quel_meaning.specs.Meaning.{Effect}
 use Rattle.quel_meaning.specs.Ranges.{Ranges}
 use Rattle.quel_meaning.specs.State.{State, Outcome}
+
+-- the database of this administrator, without anything in it
+abbrev pub empty_db : List ℕ → Db
+empty_db dba = record { dba = dba; relations = []; indexes = []; views = []; rules = []; permits = [] }
 
 -- this database and these range variables
 abbrev pub state_of : Db → Ranges → State

@@ -41,14 +41,14 @@ fn update_done(alloc: Global, base: &mut DbPlain, u: &Update) -> Result<Reply, O
     }
 }
 
-/// Makes a relation.
+/// Does what the utilities are asked for.
 fn work_done(
     alloc: Global,
     base: &mut DbPlain,
     user: &Name,
     work: &Utility,
 ) -> Result<Reply, OutOfMemory>
-    requires { IsDoableWork (database_of base.old) work.now }
+    requires { IsDoableWork (database_of base.old) user.now work.now }
     ensures done { IfOk result (λ reply. utility_effect (database_of base.old) [] user.now work.now ≡ effect_of (database_of base.new) reply) }
     ensures same { OnErr result (database_of base.new ≡ database_of base.old) }
 {
@@ -59,14 +59,14 @@ fn work_done(
     }
 }
 
-/// Carries a tree out for the user.
+/// Carries a tree out for nobody in particular; the utilities work for the user.
 pub(crate) fn tree_done(
     alloc: Global,
     base: &mut DbPlain,
     user: &Name,
     tree: &Checked,
 ) -> Result<Reply, OutOfMemory>
-    requires { IsDoable (database_of base.old) tree.now }
+    requires { IsDoable (database_of base.old) user.now tree.now }
     ensures done { IfOk result (λ reply. tree_meaning (database_of base.old) [] Free user.now tree.now ≡ effect_of (database_of base.new) reply) }
     ensures same { OnErr result (database_of base.new ≡ database_of base.old) }
 {

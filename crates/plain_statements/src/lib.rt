@@ -2,7 +2,6 @@
 #![tactic(auto)]
 
 mod answering;
-mod built;
 mod carrying;
 mod changing;
 mod pairing;

@@ -14,7 +14,6 @@ use crate::pairing::paired;
 use am_traits::Base;
 use calculus::{DbChange, Update};
 use std::alloc::Global;
-use update_laws::update_is_spelled;
 
 /// The change that an update makes of a database, which is lawful, or the number of what refuses it.
 pub(crate) fn update_planned<B: Base>(
@@ -27,7 +26,6 @@ pub(crate) fn update_planned<B: Base>(
         → Plans (λ change. (updated db Free u.now ≡ Ok change) × IsLawful db change) (λ number. updated db Free u.now ≡ Err number) result }
     ensures kept { B.database base.new ≡ B.database base.old }
 {
-    update_is_spelled(u);
     let pairs = paired(alloc, base, u)?;
     changed_by(alloc, base, u, &pairs)
 }

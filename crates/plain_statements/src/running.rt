@@ -1,24 +1,21 @@
-//! Runs a statement of the user's on a database in memory and the range variables.
+//! Runs a statement of a user on a database in memory and the range variables.
 
+ghost use Rattle.std.specs.Prelude.{◌≡◌, true, false, None, IfOk, IsOk, IfSome, OnErr};
 ghost use Rattle.calculus.specs.Who.{asker_of};
-ghost use Rattle.std.specs.Prelude.{◌≡◌, ℕ, true, false, None, Result as Made, IfOk, IsOk, IfSome, OnErr};
-ghost use Rattle.calculus.specs.declared.request.Checked.{Checked as Tree};
+ghost use Rattle.calculus.specs.declared.statement.Statement.{Statement as Stated};
 ghost use Rattle.calculus.specs.declared.statement.Statement.TheVariants.{Range};
 ghost use Rattle.calculus.specs.Finding.{found};
 ghost use Rattle.quel_meaning.specs.IsWritten.{is_written};
-ghost use Rattle.quel_meaning.specs.Meaning.{meaning, is_range, range_outcome};
+ghost use Rattle.quel_meaning.specs.Meaning.{meaning, is_range, range_outcome, judged, judged_outcome};
 ghost use Rattle.quel_meaning.specs.Ranges.{Ranges};
-ghost use Rattle.quel_meaning.specs.Resolved.{resolved};
-ghost use Rattle.owner_session_laws.specs.Freely.{free_tree_outcome};
-ghost use Rattle.owner_session_laws.specs.Plain.{IsPlain, IsPlainState};
+ghost use Rattle.quel_resolve.specs.Built.{is_built};
 ghost use Rattle.plain_base.specs.Shown.{database_of};
-ghost use Rattle.plain_statements.specs.Built.{built, is_run_here};
+ghost use Rattle.plain_statements.specs.Built.{built};
 ghost use Rattle.plain_statements.specs.Doable.{IsDoable};
 ghost use Rattle.plain_statements.specs.Plans.{IsMade};
 ghost use Rattle.plain_statements.specs.Standing.{state_of, outcome_of};
 
 use crate::Stopped;
-use crate::built::is_run_here;
 use crate::carrying::tree_done;
 use crate::refusing::{answer_to, refused};
 use crate::trees::tree_of;
@@ -26,6 +23,7 @@ use am_traits::Base;
 use calculus::{Checked, Name, OutOfMemory, Reply, Statement, TryCopy};
 use plain_base::DbPlain;
 use quel_check::RangeTable;
+use quel_resolve::is_built;
 use std::alloc::Global;
 
 /// The number of a statement that isn't built.
@@ -64,9 +62,9 @@ fn made_done(
     user: &Name,
     made: Result<Checked, Stopped>,
 ) -> Result<Reply, OutOfMemory>
-    requires { IfOk made (λ tree. IsDoable (database_of base.old) tree) }
-    ensures done { (found : Made Tree ℕ) (ranges : Ranges) → IsMade found made
-        → IfOk result (λ reply. free_tree_outcome (state_of (database_of base.old) ranges) user.now found ≡ outcome_of (database_of base.new) ranges reply) }
+    requires { IfOk made (λ tree. IsDoable (database_of base.old) user.now tree) }
+    ensures done { (ranges : Ranges) (s : Stated) → IsMade (database_of base.old) user.now ranges s made
+        → IfOk result (λ reply. judged_outcome (state_of (database_of base.old) ranges) (asker_of user.now) (judged (database_of base.old) (asker_of user.now) ranges s) ≡ outcome_of (database_of base.new) ranges reply) }
     ensures same { OnErr result (database_of base.new ≡ database_of base.old) }
 {
     match made {
@@ -87,10 +85,9 @@ fn carried_out(
     user: &Name,
     s: &Statement,
 ) -> Result<Reply, OutOfMemory>
-    requires plain { IsPlain (database_of base.old) user.now }
-    requires built { is_run_here s.now ≡ true }
+    requires built { is_built s.now ≡ true }
     requires written { is_written s.now ≡ true }
-    ensures done { IfOk result (λ reply. free_tree_outcome (state_of (database_of base.old) ranges.now) user.now (resolved (database_of base.old) user.now ranges.now s.now) ≡ outcome_of (database_of base.new) ranges.now reply) }
+    ensures done { IfOk result (λ reply. judged_outcome (state_of (database_of base.old) ranges.now) (asker_of user.now) (judged (database_of base.old) (asker_of user.now) ranges.now s.now) ≡ outcome_of (database_of base.new) ranges.now reply) }
     ensures same { OnErr result (database_of base.new ≡ database_of base.old) }
 {
     let made = tree_of(alloc, base, user, ranges, s);
@@ -116,8 +113,7 @@ fn built_run(
     user: &Name,
     s: &Statement,
 ) -> Result<Reply, OutOfMemory>
-    requires plain { IsPlainState (state_of (database_of base.old) ranges.old) user.now }
-    requires built { is_run_here s.now ≡ true }
+    requires built { is_built s.now ≡ true }
     requires written { is_written s.now ≡ true }
     ensures outcome { IfOk result (λ reply. meaning built (state_of (database_of base.old) ranges.old) (asker_of user.now) s.now ≡ outcome_of (database_of base.new) ranges.new reply) }
     ensures database { OnErr result (database_of base.new ≡ database_of base.old) }
@@ -129,8 +125,7 @@ fn built_run(
     }
 }
 
-/// Runs a statement where the database and the ranges are all the user's own, and they stay that.
-/// After want of memory both are as before.
+/// Runs a statement of the user's. After want of memory the database and the ranges are as before.
 pub(crate) fn run(
     alloc: Global,
     base: &mut DbPlain,
@@ -138,13 +133,13 @@ pub(crate) fn run(
     user: &Name,
     s: &Statement,
 ) -> Result<Reply, OutOfMemory>
-    requires own { IsPlainState (state_of (database_of base.old) ranges.old) user.now }
-    requires written { is_written s.now ≡ true }
+    requires { is_written s.now ≡ true }
     ensures outcome { IfOk result (λ reply. meaning built (state_of (database_of base.old) ranges.old) (asker_of user.now) s.now ≡ outcome_of (database_of base.new) ranges.new reply) }
-    ensures plain { IsPlainState (state_of (database_of base.new) ranges.new) user.now }
-    ensures not_built { is_run_here s.now ≡ false → IsOk result }
+    ensures database { OnErr result (database_of base.new ≡ database_of base.old) }
+    ensures ranges { OnErr result (ranges.new ≡ ranges.old) }
+    ensures not_built { is_built s.now ≡ false → IsOk result }
 {
-    if is_run_here(s) {
+    if is_built(s) {
         built_run(alloc, base, ranges, user, s)
     } else {
         Ok(refused(NOT_BUILT))

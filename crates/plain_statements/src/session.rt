@@ -3,14 +3,9 @@
 ghost use Rattle.std.specs.Prelude.{◌≡◌, [], IfOk};
 ghost use Rattle.calculus.specs.Who.{asker_of};
 ghost use Rattle.quel_meaning.specs.Meaning.{meaning};
-ghost use Rattle.owner_session_laws.specs.Plain.{IsPlainState, empty_db};
 ghost use Rattle.plain_base.specs.Shown.{database_of};
 ghost use Rattle.plain_statements.specs.Built.{built};
-ghost use Rattle.plain_statements.specs.Standing.{state_of};
-ghost use Rattle.calculus.specs.contracts.query.QQual as quals;
-ghost use Rattle.calculus.specs.contracts.query.Query as queries;
-ghost use Rattle.std.specs.Coded.{Coded-set};
-ghost use Rattle.std.proofs.Props.{props};
+ghost use Rattle.plain_statements.specs.Standing.{state_of, empty_db};
 
 use crate::running::run;
 use calculus::{Name, OutOfMemory, Reply, Statement, TryCopy};
@@ -19,22 +14,12 @@ use quel_check::RangeTable;
 use session_run::Statements;
 use std::alloc::Global;
 
-/// Runs the statements of one user on a database in memory, whose administrator the user is.
+/// Runs the statements of one user on a database in memory, whosever it is.
+#[derive(Drop)]
 pub struct PlainStatements {
     base: DbPlain,
     ranges: RangeTable,
     user: Name,
-    ghost own: { IsPlainState (state_of (database_of base) ranges) user } by { Prim.hlevel (props, Coded-set quals.the_row.coded, Coded-set queries.the_row.coded) },
-}
-
-impl Drop for PlainStatements {
-    fn drop(self) {
-        let Self {
-            base: _,
-            ranges: _,
-            user: _,
-        } = self;
-    }
 }
 
 impl PlainStatements {
@@ -46,6 +31,26 @@ impl PlainStatements {
         let base = DbPlain::new(alloc, user.copy(alloc)?);
         let ranges = RangeTable::new(alloc);
         Ok(PlainStatements { base, ranges, user })
+    }
+
+    /// This database and these range variables, for this user's statements.
+    pub fn over(base: DbPlain, ranges: RangeTable, user: Name) -> PlainStatements
+        ensures asker { ⟦<PlainStatements as Statements>⟧.asker result ≡ asker_of user }
+        ensures state { ⟦<PlainStatements as Statements>⟧.state result ≡ state_of (database_of base) ranges }
+    {
+        PlainStatements { base, ranges, user }
+    }
+
+    /// The database as the statements left it.
+    pub fn into_base(self) -> DbPlain
+        ensures { database_of result ≡ (⟦<PlainStatements as Statements>⟧.state self).db }
+    {
+        let PlainStatements {
+            base,
+            ranges: _,
+            user: _,
+        } = self;
+        base
     }
 }
 

@@ -1,36 +1,17 @@
 //! The change that a utility makes of a database.
 
-ghost use Rattle.std.specs.Prelude.{◌≡◌, Some, Ok, Err, IsTrue};
+ghost use Rattle.std.specs.Prelude.{◌≡◌, Some, Ok, Err};
 ghost use Rattle.calculus.specs.Change.{IsLawful};
 ghost use Rattle.calculus.specs.Database.{Db};
-ghost use Rattle.quel_meaning.specs.SpelledTree.{key_is_spelled};
 ghost use Rattle.quel_meaning.specs.Planned.{planned};
-ghost use Rattle.plain_statements.specs.Doable.{IsDoableWork, work_is_spelled};
+ghost use Rattle.plain_statements.specs.Doable.{IsDoableWork};
 ghost use Rattle.plain_statements.specs.Plans.{Plans};
 
 use crate::Stopped;
 use am_traits::Base;
-use calculus::{DbChange, Name, RelKey, Utility};
+use calculus::{DbChange, Name, Utility};
 use std::alloc::Global;
 use utilities::plan;
-
-/// What is known of the names of a key.
-fn read_key(key: &RelKey)
-    ensures { IsTrue (key_is_spelled key.now) }
-{
-    let _ = key.owner.bytes();
-    let _ = key.name.bytes();
-}
-
-/// What is known of the key of a relation that is made.
-fn read_work(work: &Utility)
-    ensures { IsTrue (work_is_spelled work.now) }
-{
-    match work {
-        Utility::Create { rel, attrs: _ } => read_key(rel),
-        _ => {}
-    }
-}
 
 /// The change that a utility makes for the user, which is lawful, or the number of what refuses it.
 pub(crate) fn work_planned<B: Base>(
@@ -39,12 +20,11 @@ pub(crate) fn work_planned<B: Base>(
     user: &Name,
     work: &Utility,
 ) -> Result<DbChange, Stopped>
-    requires { (db : Db) → B.database base.old ≡ Some db → IsDoableWork db work.now }
+    requires { (db : Db) → B.database base.old ≡ Some db → IsDoableWork db user.now work.now }
     ensures told { (db : Db) → B.database base.old ≡ Some db
         → Plans (λ change. (planned db user.now work.now ≡ Ok change) × IsLawful db change) (λ number. planned db user.now work.now ≡ Err number) result }
     ensures kept { B.database base.new ≡ B.database base.old }
 {
-    read_work(work);
     let change = plan(alloc, base, user, work)?;
     Ok(change)
 }

@@ -1,9 +1,14 @@
-//! Tests of the program, from the words of its command line and a script to what is printed.
+//! Tests of the program, from the words of its command line and a script to what is printed, and of what
+//! several users do one after the other to one database.
 #![tactic(auto)]
 
 #[cfg(test)]
 mod answers;
 #[cfg(test)]
+mod guarded;
+#[cfg(test)]
 mod outside;
 #[cfg(test)]
 mod trials;
+#[cfg(test)]
+mod users;

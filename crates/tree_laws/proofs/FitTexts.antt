@@ -18,7 +18,7 @@ use Rattle.calculus.specs.Rights.{Right, covers, needs_none}
 use Rattle.calculus_laws.proofs.Enough.{same_key-exact}
 use Rattle.quel_meaning.specs.FitQueries.{is_kept}
 use Rattle.view_text.specs.declared.text.Text.{Text}
-use Rattle.view_text.specs.Replaced.{Putting, without_value, moved_qual, of_only, replaced, replaced_in_qual, no_aggregate, moved}
+use Rattle.view_text.specs.Replaced.{moved_qual, of_only, moved}
 use Rattle.view_text.specs.Halves.{any_of}
 use Rattle.view_text.specs.Scoped.{is_within, is_qual_within, are_within, is_scoped}
 use Rattle.view_text.specs.Texts.{attr_term, texts_vars, put_from, conditions_from}

@@ -11,3 +11,4 @@ pub mod FitAsked
 pub mod FitUpdated
 pub mod FitRuled
 pub mod FitTree
+pub mod Slotted

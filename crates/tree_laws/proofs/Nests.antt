@@ -1,7 +1,7 @@
 -- In the aggregates of a tree that is fit no other stands, and it changes no view.
 use Rattle.std.proofs.Common.{◌≡◌, refl, sym, ap, ◌∙◌, ℕ, Bool, true, false, cond, not, ◌&&◌, List, [], ◌∷◌, ◌++◌, Option, Some, None, is_some, arith}
 use Rattle.std.proofs.lemmas.Bool.Decides.{nat_tests}
-use Rattle.std.specs.Prelude.{slice_get, ◌==◌, flat_map, option_map}
+use Rattle.std.specs.Prelude.{slice_get, flat_map, option_map}
 use Rattle.std.specs.List.{list_all}
 use Rattle.calculus.specs.declared.operator.AggOp.{AggOp}
 use Rattle.calculus.specs.declared.value.Kind.{Kind}
@@ -24,7 +24,7 @@ use Rattle.calculus.specs.Stored.{Range, Kept, Viewed, range_at}
 use Rattle.calculus.specs.Aggregate.{source_kinds}
 use Rattle.calculus.specs.IsDatabase.{has_kind, var_kinds, query_stands, is_kind}
 use Rattle.calculus.specs.QueryParts.{aggregates_of, term_aggregates, qual_aggregates, query_aggregates, vars_of, targets_of, qual_of}
-use Rattle.quel_meaning.specs.KindsInQueries.{links_fit, fitting_kind, folded_kind, aggregate_kind, kind_of_row, kind_in_query, kinds_fit_in_query, query_fits, assignments_fit}
+use Rattle.quel_meaning.specs.KindsInQueries.{links_fit, fitting_kind, aggregate_kind, kind_of_row, kind_in_query, kinds_fit_in_query, query_fits, assignments_fit}
 use Rattle.quel_meaning.specs.FitQueries.{Allowed, source_fits, sources_fit, has_few_targets, reads_fit}
 use Rattle.quel_meaning.specs.Fit.{update_kinds_fit, update_fits, relation_fits, is_this_key, places_fit, checks_fit}
 use Rattle.calculus_laws.specs.Expansion.{is_no_view}

@@ -1,10 +1,10 @@
 -- Why there is no text, where something was asked before.
-use Rattle.std.proofs.Common.{◌≡◌, sym, ◌∙◌, ℕ, ◌<◌, ◌≤◌, Option, Some, None, Result, Ok, Err, IfErr, arith}
+use Rattle.std.proofs.Common.{◌≡◌, sym, ◌∙◌, ℕ, ◌≤◌, Option, Some, Result, Ok, Err, IfErr, arith}
 use Rattle.calculus.specs.Database.{Db}
 use Rattle.am_traits.specs.declared.fault.BaseFault.TheVariants as base
 use Rattle.view_expand.specs.declared.fault.TextFault.{TextFault}
 use Rattle.view_expand.specs.declared.fault.TextFault.TheVariants.{NoPermit, TooMany, Base, OutOfMemory}
-use Rattle.view_expand.specs.Causes.{MayFail, IsCaused, IsCrowded, HasCause}
+use Rattle.view_expand.specs.Causes.{MayFail, IsCrowded, HasCause}
 
 fails_behind : (refused other : Db → Type 0) (told mid_told : Option Db) (before mid now : ℕ) → mid_told ≡ told → before ≤ mid → ((db : Db) → told ≡ Some db → refused db → other db)
     → (fault : TextFault) → MayFail refused mid_told mid now fault → MayFail other told before now fault

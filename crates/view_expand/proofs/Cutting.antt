@@ -1,10 +1,10 @@
 -- The condition with which one may do something, and whether it is permitted.
-use Rattle.std.proofs.Common.{◌≡◌, refl, sym, ap, ◌∙◌, ℕ, Bool, true, false, cond, ◌||◌, List, [], ◌∷◌, map, filter, length, Option, Some, None, arith}
+use Rattle.std.proofs.Common.{◌≡◌, refl, sym, ap, ◌∙◌, ℕ, Bool, true, false, cond, ◌||◌, List, [], ◌∷◌, map, filter, length, Some, None, arith}
 use Rattle.std.specs.List.{list_all, list_any}
 use Rattle.calculus.specs.declared.query.RelKey.{RelKey}
 use Rattle.calculus.specs.declared.query.QQual.{QQual}
 use Rattle.calculus.specs.declared.schema.Permit.{Permit}
-use Rattle.calculus.specs.Who.{Asker, Free, asker_of, asks}
+use Rattle.calculus.specs.Who.{Asker, asker_of, asks}
 use Rattle.calculus.specs.Database.{Db, permits_on}
 use Rattle.calculus.specs.Rights.{Right, covers, needs_none, permitted}
 use Rattle.view_text.specs.Halves.{any_of}

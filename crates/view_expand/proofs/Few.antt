@@ -1,23 +1,20 @@
 -- The texts of a query's variables have no more variables than the query has once the views in it are put in.
-use Rattle.std.proofs.Common.{◌≡◌, refl, sym, ap, ◌∙◌, subst, ℕ, zero, suc, ◌+◌, ◌≤◌, Bool, true, false, cond, ◌&&◌, List, [], ◌∷◌, ◌++◌, map, filter, length, Option, Some, None, length-append, arith}
-use Rattle.std.specs.List.{enumerate_from, list_all, sum_by}
+use Rattle.std.proofs.Common.{◌≡◌, ℕ, ◌+◌, ◌≤◌, Bool, true, false, cond, List, [], ◌∷◌, filter, length, length-append, arith}
+use Rattle.std.specs.List.{enumerate_from, sum_by}
 use Rattle.std.proofs.lemmas.List.Sums.{sum_by-cons}
 use Rattle.calculus.specs.declared.query.RelKey.{RelKey}
 use Rattle.calculus.specs.declared.query.Query.{Query}
 use Rattle.calculus.specs.Who.{Who}
-use Rattle.calculus.specs.Database.{Db, View}
-use Rattle.calculus.specs.Stored.{Range, Kept, Viewed, range_at}
-use Rattle.calculus.specs.Rights.{Retrieve}
+use Rattle.calculus.specs.Database.{Db}
 use Rattle.calculus.specs.Lists.{is_any}
 use Rattle.calculus.specs.Used.{used_in_query}
 use Rattle.calculus.specs.QueryParts.{vars_of}
 use Rattle.calculus.specs.Sizes.{Known, Measure, plain_measure, range_measure, measure_within, query_measure}
-use Rattle.calculus.specs.Permission.{Reads}
 use Rattle.calculus_laws.proofs.Through.{Told, CarriesBoth, both_told}
 use Rattle.view_text.specs.declared.text.Text.{Text}
-use Rattle.view_text.specs.Texts.{TextSource, used_text, no_text, query_texts, texts_vars}
+use Rattle.view_text.specs.Texts.{TextSource, used_text, query_texts, texts_vars}
 use Rattle.view_text.specs.TextOf.{range_text, view_text, past_text, text_within}
-use Rattle.view_expand.specs.Listed.{texts_at, permitted_at, variables_at}
+use Rattle.view_expand.specs.Listed.{texts_at, variables_at}
 
 -- ---- one variable more
 

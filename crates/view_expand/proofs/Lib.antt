@@ -3,3 +3,4 @@ pub mod Few
 pub mod Viewing
 pub mod Listing
 pub mod Causing
+pub mod Keeping

@@ -1,5 +1,5 @@
 -- What is told of a key where a view stands there, and where none does.
-use Rattle.std.proofs.Common.{◌≡◌, refl, sym, ap, ◌∙◌, subst, ℕ, zero, suc, ◌+◌, ◌-◌, ◌<◌, ◌≤◌, Bool, true, false, cond, ◌&&◌, nat_le, List, [], ◌∷◌, length, Option, Some, None, option_map, find, arith}
+use Rattle.std.proofs.Common.{◌≡◌, refl, sym, ap, ◌∙◌, ℕ, zero, suc, ◌-◌, ◌<◌, ◌≤◌, Bool, true, false, cond, ◌&&◌, nat_le, List, [], ◌∷◌, length, Option, Some, None, option_map, find, arith}
 use denote.Hole.Carrier.{out}
 use Rattle.std.specs.List.{list_all}
 use Rattle.std.proofs.lemmas.Bool.{leb-true}
@@ -15,13 +15,14 @@ use Rattle.calculus.specs.Stored.{Range, Kept, Viewed, range_at}
 use Rattle.calculus.specs.Rights.{Retrieve, permitted}
 use Rattle.calculus.specs.QueryParts.{vars_of}
 use Rattle.calculus.specs.Used.{used_vars}
-use Rattle.calculus.specs.Sizes.{Measure, plain_measure, range_measure, measure_within, query_measure}
+use Rattle.calculus.specs.Sizes.{range_measure, measure_within, query_measure}
 use Rattle.calculus.specs.Permission.{vars_permitted, range_permitted, permitted_within}
 use Rattle.calculus_laws.proofs.ViewAnswer.{ranged}
 use Rattle.am_traits.specs.Told.{query_at}
 use Rattle.view_text.specs.declared.text.Text.{Text}
 use Rattle.view_text.specs.Texts.{query_texts}
 use Rattle.view_text.specs.TextOf.{cut, kept_text, rows_text, range_text, view_text, past_text, text_within}
+use Rattle.view_expand.specs.Found.{IsTextOf}
 
 -- ---- a view
 
@@ -130,3 +131,12 @@ permitted_of_kept levels db who key attrs h = levelled levels
 pub vars_is : (q : Query) → (out-Query q).vars ≡ vars_of q
 unfolding out-Query out
 vars_is (Query' vars marks targets qual) = refl
+
+-- ---- a view, as it is kept
+
+pub is_text_of : (levels : ℕ) (db : Db) → IsDatabase db → (who : Who) (key : RelKey) (q : Query) → 0 < levels → Some q ≡ query_at db key → (text : Text)
+    → text ≡ rows_text (query_texts (text_within (levels - 1) db who) q) q → vars_permitted (permitted_within (levels - 1) db who) q (used_vars q) ≡ true → IsTextOf db who key levels text
+is_text_of levels db d who key q h e text t p = record {
+  is = λ attrs. t ∙ text_of_view levels db d who key attrs q h e;
+  permitted = λ attrs. sym (permitted_of_view levels db d who key attrs q h e) ∙ p;
+}

@@ -5,7 +5,7 @@ use Rattle.am_traits.specs.Causes.{MayCome}
 use Rattle.view_expand.specs.declared.fault.TextFault.{TextFault}
 use Rattle.view_expand.specs.declared.fault.TextFault.TheVariants.{NoPermit, TooMany, Base, OutOfMemory}
 
--- this fault may come: no permit where it is refused in the database that is told; too many variables only where none is told; a fault of the database where it may come; want of memory
+-- this fault may come: no permit where it is refused in the database that is told, and freely where none is told; too many variables only where none is told; a fault of the database where it may come; want of memory
 abbrev pub MayFail : (Db → Type 0) → Option Db → ℕ → ℕ → TextFault → Type 0
 MayFail refused told before now NoPermit = (db : Db) → told ≡ Some db → refused db
 MayFail refused told before now TooMany = (db : Db) → told ≡ Some db → ⊥

@@ -1,4 +1,5 @@
 pub mod Asking
 pub mod Causes
 pub mod Covering
+pub mod Found
 pub mod Listed

@@ -14,9 +14,9 @@ ghost use Rattle.view_text.specs.Scoped.{is_scoped};
 ghost use Rattle.view_text.specs.TextOf.{text_within};
 ghost use Rattle.view_text.specs.Texts.{query_texts};
 
-use crate::TextFault;
 use crate::plain::query_over;
-use crate::texts::{LISTED, put_texts};
+use crate::walk::{LISTED, put_texts};
+use crate::{TextFault, TextsFound};
 use am_traits::Base;
 use calculus::{Name, Query};
 use std::alloc::Global;
@@ -45,7 +45,8 @@ pub fn query_texts<B: Base>(
     if keys.len() > LISTED {
         return Err(TextFault::TooMany);
     }
-    put_texts(alloc, base, who, query, keys, levels, texts)
+    let mut found = TextsFound::new(alloc);
+    put_texts(alloc, base, who, query, keys, levels, texts, &mut found)
 }
 
 /// The query with the texts of its variables put in, which go through at most so many levels of views:

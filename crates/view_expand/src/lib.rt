@@ -4,15 +4,19 @@
 mod covering;
 mod expanded;
 mod fault;
+mod found;
 mod needs;
 mod plain;
 mod right;
 mod row_cut;
 mod texts;
+mod walk;
 
 pub use calculus::OutOfMemory;
 pub use expanded::{put_plain, query_texts};
 pub use fault::TextFault;
+pub use found::TextsFound;
 pub use right::Right;
 pub use row_cut::cut;
-pub use texts::{text_within, view_text};
+pub use texts::{text_at, text_within, view_text};
+pub use walk::text_at_remembering;

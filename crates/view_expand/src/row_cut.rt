@@ -82,8 +82,9 @@ fn cut_for<B: Base>(
 }
 
 /// The condition on the rows of what has a key, with which one may do this with these attributes: that
-/// the qualification of a permit that covers it holds. `None` where no permit is needed, as nobody in
-/// particular asks. `NoPermit` exactly where one is needed and none covers it.
+/// the qualification of a permit that covers it holds. `None` where no permit is needed, as where nobody
+/// in particular asks, the owner asks, or a catalogue is read. `NoPermit` exactly where one is needed and
+/// none covers it.
 #[tactic(auto, unfolding(calculus::specs::Rights::permitted))]
 pub fn cut<B: Base>(
     alloc: Global,

@@ -1,7 +1,6 @@
 //! The text of what has a key, and of a query's rows, through views.
 
-ghost use Rattle.std.specs.Prelude.{◌≡◌, ◌≤◌, [], ◌∷◌, ◌++◌, true, false, Some, length, IfOk, IfErr, OnOk, option_map};
-ghost use Rattle.std.specs.List.{list_all};
+ghost use Rattle.std.specs.Prelude.{◌≡◌, ◌≤◌, true, false, Some, length, IfOk, OnOk, option_map};
 ghost use Rattle.calculus.specs.Database.{Db};
 ghost use Rattle.calculus.specs.Lists.{is_any};
 ghost use Rattle.calculus.specs.Permission.{permitted_within, vars_permitted};
@@ -10,42 +9,21 @@ ghost use Rattle.calculus.specs.Sizes.{measure_within, query_measure};
 ghost use Rattle.calculus.specs.Used.{used_in_query, used_vars};
 ghost use Rattle.view_expand.specs.Asking.{who_of};
 ghost use Rattle.view_expand.specs.Causes.{HasCause};
-ghost use Rattle.view_expand.specs.Listed.{permitted_at, texts_at, variables_at};
-ghost use Rattle.view_expand.specs.declared.fault.TextFault.TheVariants.{OutOfMemory as NoMemory};
 ghost use Rattle.view_text.specs.Scoped.{is_scoped};
 ghost use Rattle.view_text.specs.TextOf.{rows_text, text_within};
 ghost use Rattle.view_text.specs.Texts.{query_texts, used_text};
 
-use crate::TextFault;
-use crate::plain::{no_text, plain_text, rows_of};
+use crate::walk::{rows_through, text_at_remembering, text_through};
+use crate::{TextFault, TextsFound};
 use am_traits::Base;
 use calculus::{Name, Query, RelKey};
-use plain_product::uses;
 use std::alloc::Global;
 use view_text::Text;
 
-/// The variables that a query may list.
-pub(crate) const LISTED: usize = 256;
-
-/// Puts a text behind those that are there.
-#[tactic(auto, using(crate::proofs::Listing::all_scoped_more))]
-fn put_behind(texts: &mut Vec<Text>, more: Text) -> Result<(), TextFault>
-    requires { is_scoped more ≡ true }
-    ensures texts { OnOk result (texts.new.items ≡ texts.old.items ++ more ∷ []) }
-    ensures scoped { list_all is_scoped texts.old.items ≡ true → OnOk result (list_all is_scoped texts.new.items ≡ true) }
-    ensures cause { IfErr result (λ fault. fault ≡ NoMemory) }
-{
-    match texts.push(more) {
-        Ok(()) => Ok(()),
-        Err(_) => Err(TextFault::OutOfMemory),
-    }
-}
-
 /// The text of what has a key, for one who uses these attributes of it, through at most so many levels
-/// of views: its permits are cut in, and each view's own text is put in. `NoPermit` exactly where one
-/// of them may not be read, or where views stand on views through more levels.
-#[cycle(texts)]
-#[tactic(auto, using(crate::proofs::Viewing::few_listed, crate::proofs::Viewing::measure_of_view, crate::proofs::Viewing::text_of_view, crate::proofs::Viewing::text_of_kept))]
+/// of views: its permits are cut in, and each view's own text is put in. `NoPermit` exactly where
+/// something that it reads may not be read, or where views stand on views through more levels. Each view
+/// is walked once for each number of levels that is left where it is met.
 pub fn text_within<B: Base>(
     alloc: Global,
     base: &mut B,
@@ -62,21 +40,11 @@ pub fn text_within<B: Base>(
     ensures same { B.left base.new ≡ B.left base.old }
     ensures cause { HasCause (λ db. permitted_within levels db (who_of (option_map (λ n. n.now) who.entry)) key.now attrs.now ≡ false) (B.database base.old) (B.faults base.old) (B.faults base.new) result }
 {
-    match base.view(alloc, key)? {
-        Some(query) => {
-            if levels == 0 {
-                return Err(TextFault::NoPermit);
-            }
-            let text = view_text(alloc, base, who, &query, levels - 1);
-            drop(query);
-            text
-        }
-        None => plain_text(alloc, base, who, key, attrs),
-    }
+    let mut found = TextsFound::new(alloc);
+    text_through(alloc, base, who, key, attrs, levels, &mut found)
 }
 
 /// The text of a query's rows, where the texts of its variables go through at most so many levels.
-#[cycle(texts)]
 pub fn view_text<B: Base>(
     alloc: Global,
     base: &mut B,
@@ -93,51 +61,13 @@ pub fn view_text<B: Base>(
     ensures same { B.left base.new ≡ B.left base.old }
     ensures cause { HasCause (λ db. vars_permitted (permitted_within levels db (who_of (option_map (λ n. n.now) who.entry))) query.now (used_vars query.now) ≡ false) (B.database base.old) (B.faults base.old) (B.faults base.new) result }
 {
-    let keys = query.vars.items();
-    if keys.len() > LISTED {
-        return Err(TextFault::TooMany);
-    }
-    let mut texts = Vec::new(alloc);
-    match put_texts(alloc, base, who, query, keys, levels, &mut texts) {
-        Ok(()) => rows_of(alloc, &texts, query),
-        Err(error) => Err(error),
-    }
-}
-
-/// Puts the texts of a query's variables, which range over these, behind those that are there.
-#[cycle(texts)]
-pub(crate) fn put_texts<B: Base>(
-    alloc: Global,
-    base: &mut B,
-    who: Option<&Name>,
-    query: &Query,
-    keys: &[RelKey],
-    levels: u8,
-    texts: &mut Vec<Text>,
-) -> Result<(), TextFault>
-    requires listed { length keys.now ≤ 256 }
-    requires expanded { (db : Db) → B.database base.old ≡ Some db → variables_at (measure_within levels db) query.now 0 keys.now ≤ 256 }
-    ensures told { (db : Db) → B.database base.old ≡ Some db → OnOk result (texts.new.items ≡ texts.old.items ++ texts_at (text_within levels db (who_of (option_map (λ n. n.now) who.entry))) query.now 0 keys.now) }
-    ensures permitted { (db : Db) → B.database base.old ≡ Some db → OnOk result (permitted_at (permitted_within levels db (who_of (option_map (λ n. n.now) who.entry))) query.now 0 keys.now ≡ true) }
-    ensures scoped { list_all is_scoped texts.old.items ≡ true → OnOk result (list_all is_scoped texts.new.items ≡ true) }
-    ensures kept { B.database base.new ≡ B.database base.old }
-    ensures same { B.left base.new ≡ B.left base.old }
-    ensures cause { HasCause (λ db. permitted_at (permitted_within levels db (who_of (option_map (λ n. n.now) who.entry))) query.now 0 keys.now ≡ false) (B.database base.old) (B.faults base.old) (B.faults base.new) result }
-{
-    let mut place: usize = 0;
-    let mut rest = keys;
-    'keys: while let Some((key, others)) = rest.split_first() {
-        let more = text_at(alloc, base, who, query, place as u8, key, levels)?;
-        put_behind(texts, more)?;
-        place += 1;
-        rest = others;
-    }
-    Ok(())
+    let mut found = TextsFound::new(alloc);
+    rows_through(alloc, base, who, query, levels, &mut found)
 }
 
 /// The text of the query's variable at a place, which ranges over this; one that isn't used has none.
-#[cycle(texts)]
-fn text_at<B: Base>(
+/// `NoPermit` exactly where it is used and may not be read.
+pub fn text_at<B: Base>(
     alloc: Global,
     base: &mut B,
     who: Option<&Name>,
@@ -154,9 +84,6 @@ fn text_at<B: Base>(
     ensures same { B.left base.new ≡ B.left base.old }
     ensures cause { HasCause (λ db. (is_any (used_in_query place query.now) ≡ true) × (permitted_within levels db (who_of (option_map (λ n. n.now) who.entry)) key.now (used_in_query place query.now) ≡ false)) (B.database base.old) (B.faults base.old) (B.faults base.new) result }
 {
-    let attrs = uses(alloc, query, place)?;
-    if attrs.is_empty() {
-        return Ok(no_text(alloc));
-    }
-    text_within(alloc, base, who, key, &attrs, levels)
+    let mut found = TextsFound::new(alloc);
+    text_at_remembering(alloc, base, who, query, place, key, levels, &mut found)
 }

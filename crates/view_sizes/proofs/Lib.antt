@@ -6,5 +6,6 @@ pub mod Measuring
 pub mod QueryDepths
 pub mod Ranged
 pub mod SizeForms
+pub mod Slots
 pub mod Stopped
 pub mod Viewed

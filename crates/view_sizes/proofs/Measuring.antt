@@ -1,8 +1,7 @@
 -- What numbers that stop at the greatest of 64 bits say of sizes.
-use Rattle.std.proofs.Common.{◌≡◌, refl, sym, ap, ◌∙◌, ℕ, zero, suc, ◌+◌, ◌-◌, ◌^◌, ◌<◌, ◌≤◌, min, arith, Bool, true, false, cond, List, [], ◌∷◌, map, length, take, get_or, sum, nat_le, ◌&&◌, Option, Some, None, Result, Ok, Err, unwrap_or, slice_get}
+use Rattle.std.proofs.Common.{◌≡◌, refl, sym, ap, ◌∙◌, ℕ, zero, suc, ◌+◌, ◌-◌, ◌^◌, ◌<◌, ◌≤◌, min, arith, Bool, true, false, cond, List, [], ◌∷◌, map, length, take, get_or, sum, nat_le, ◌&&◌, Option, Some, None, unwrap_or, slice_get}
 use Rattle.std.specs.List.{filter, sum_by, enumerate_from}
 use Rattle.std.specs.Option.{option_map}
-use Rattle.std.specs.Result.{IfOk}
 use Rattle.std.proofs.lemmas.List.Sums.{sum_by-cons}
 use Rattle.std.proofs.lemmas.Option.{slice_get-map}
 use Rattle.calculus.specs.declared.query.QTerm.{QTerm, Int, Chars, Attr, Agg'}
@@ -217,12 +216,11 @@ few_held known q ms h few =
     omega arith
 
 -- where a view stands, what is known through some levels is what its query gives through one less
-pub measured_through : (levels : ℕ) (db : Db) → IsDatabase db → (key : RelKey) (q : Query) → 0 < levels → Some q ≡ query_at db key → {E : Type 0} → (r : Result Held E)
-    → IfOk r (λ m. held m ≡ stopped_measure (query_measure (measure_within (levels - 1) db) q)) → IfOk r (λ m. held m ≡ stopped_measure (measure_within levels db key))
-measured_through levels db is key q h e (Ok m) k =
+pub measured_through : (levels : ℕ) (db : Db) → IsDatabase db → (key : RelKey) (q : Query) → 0 < levels → Some q ≡ query_at db key → (m : Held)
+    → held m ≡ stopped_measure (query_measure (measure_within (levels - 1) db) q) → held m ≡ stopped_measure (measure_within levels db key)
+measured_through levels db is key q h e m k =
     let more : suc (levels - 1) ≡ levels = omega arith in
     k ∙ ap stopped_measure (sym (as_its_query (levels - 1) db is key q (sym e)) ∙ ap (λ k. measure_within k db key) more)
-measured_through levels db is key q h e (Err fault) k = k
 
 -- ---- limits
 

@@ -1,8 +1,7 @@
 -- What is known of views once the views in them are put in.
-use Rattle.std.proofs.Common.{◌≡◌, refl, sym, ap, ◌∙◌, ℕ, zero, suc, ◌-◌, ◌^◌, ◌<◌, ◌≤◌, min, nat_le, arith, Bool, true, false, not, ◌||◌, ◌&&◌, cond, List, [], ◌∷◌, ◌++◌, map, length, Option, Some, None, is_some, Result, Ok, Err}
+use Rattle.std.proofs.Common.{◌≡◌, refl, sym, ap, ◌∙◌, ℕ, suc, ◌≤◌, nat_le, Bool, true, false, not, ◌||◌, ◌&&◌, cond, List, [], ◌∷◌, ◌++◌, map, length, Option, Some, None, is_some}
 use Rattle.std.specs.List.{find, list_any}
 use Rattle.std.specs.Option.{option_map, option_or}
-use Rattle.std.specs.Result.{IfOk}
 use Rattle.std.proofs.lemmas.Bool.{leb-true}
 use Rattle.std.proofs.lemmas.List.Folds.{find-append, list_any-append}
 use Rattle.std.proofs.lemmas.List.{map-append}
@@ -16,7 +15,7 @@ use Rattle.calculus.specs.Database.{Db, Relation, View, is_relation, relation_at
 use Rattle.calculus.specs.Catalogue.{catalogue_at}
 use Rattle.calculus.specs.IsDatabase.{IsDatabase}
 use Rattle.calculus.specs.QueryParts.{vars_of}
-use Rattle.calculus.specs.Sizes.{Measure, plain_measure, query_measure, range_measure, measure_within}
+use Rattle.calculus.specs.Sizes.{query_measure, range_measure, measure_within}
 use Rattle.calculus.specs.Stored.{Range, Kept, Viewed, range_at}
 use Rattle.am_traits.specs.Told.{query_at}
 use Rattle.quel_meaning.proofs.Keys.{same_keys, keys_same}
@@ -86,29 +85,6 @@ no_relation db is key view e = go (relation_at db key) refl
 
 -- ---- measures
 
--- where no view stands, there is one variable, whatever is said of views
-one_measured : (of_view : View → Measure) (db : Db) (key : RelKey) → query_at db key ≡ None → (range_measure of_view (range_at db key)).variables ≡ 1
-unfolding range_at
-one_measured of_view db key h = go (relation_at db key) (view_at db key) h
-  where
-    measured : Option Range → ℕ
-    measured r = (range_measure of_view r).variables
-
-    kept : (c : Option Relation) → measured (option_map Kept c) ≡ 1
-    kept None = refl
-    kept (Some r) = refl
-
-    go : (r : Option Relation) (v : Option View) → option_map (λ v. v.query) v ≡ None
-        → measured (elim r as (λ x. Option Range) [ Some relation ↦ Some (Kept relation) | None ↦ elim v as (λ x. Option Range) [ Some view ↦ Some (Viewed view) | None ↦ option_map Kept (catalogue_at db key) ] ]) ≡ 1
-    go (Some r) v h = refl
-    go None (Some v) h = absurd (cc h)
-    go None None h = kept (catalogue_at db key)
-
--- so it is through any number of levels
-pub one_variable : (n : ℕ) (db : Db) (key : RelKey) → query_at db key ≡ None → (measure_within n db key).variables ≡ 1
-one_variable zero db key h = one_measured (λ view. plain_measure) db key h
-one_variable (suc n) db key h = one_measured (λ view. query_measure (measure_within n db) view.query) db key h
-
 record IsView (db : Db) (key : RelKey) (q : Query) : Type 0 where
   view : View
   there : view_at db key ≡ Some view
@@ -140,16 +116,3 @@ lists_few db is key q h =
     let v = of_query db key q h in
     let few = found_passes (λ (v : View). same_key v.info.key key) (λ (v : View). nat_le (length (vars_of v.query)) most_expanded_variables) db.views v.view is.few_listed_variables v.there in
     leb-true _ _ (ap (λ p. nat_le (length (vars_of p)) most_expanded_variables) (sym v.is) ∙ few)
-
--- where a view stands, what is known through some levels is what its query gives through one less
-pub through_levels : (levels : ℕ) (db : Db) → IsDatabase db → (key : RelKey) (q : Query) → 0 < levels → Some q ≡ query_at db key
-    → (query_measure (measure_within (levels - 1) db) q).variables ≡ (measure_within levels db key).variables
-through_levels levels db is key q h e =
-    let more : suc (levels - 1) ≡ levels = omega arith in
-    ap (λ (m : Measure). m.variables) (sym (as_its_query (levels - 1) db is key q (sym e)) ∙ ap (λ k. measure_within k db key) more)
-
--- so is a count of them that may have failed
-pub count_through : (levels : ℕ) (db : Db) → IsDatabase db → (key : RelKey) (q : Query) → 0 < levels → Some q ≡ query_at db key → {E : Type 0} → (r : Result ℕ E)
-    → IfOk r (λ n. n ≡ min (query_measure (measure_within (levels - 1) db) q).variables (2 ^ 64 - 1)) → IfOk r (λ n. n ≡ min (measure_within levels db key).variables (2 ^ 64 - 1))
-count_through levels db is key q h e (Ok n) k = k ∙ ap (λ m. min m (2 ^ 64 - 1)) (through_levels levels db is key q h e)
-count_through levels db is key q h e (Err fault) k = k

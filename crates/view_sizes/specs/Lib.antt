@@ -1,4 +1,5 @@
 pub mod Listing
 pub mod Measured
+pub mod Remembered
 pub mod Sized
 pub mod Standing

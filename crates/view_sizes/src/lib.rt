@@ -6,6 +6,7 @@ mod depths;
 mod expanded;
 mod measures;
 mod ranges;
+mod remembered;
 mod sizes;
 mod variables;
 

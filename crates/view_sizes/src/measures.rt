@@ -1,6 +1,6 @@
 //! What is known of views once the views in them are put in.
 
-ghost use Rattle.std.specs.Prelude.{◌≡◌, ◌≤◌, ◌-◌, ◌^◌, ◌∷◌, ◌++◌, [], min, cond, filter, length, map, sum_by, IfOk, OnOk, Some};
+ghost use Rattle.std.specs.Prelude.{◌≡◌, ◌≤◌, ◌<◌, ◌-◌, ◌^◌, ◌∷◌, ◌++◌, [], min, cond, filter, length, map, sum_by, IfOk, OnOk, Some};
 ghost use Rattle.std.specs.List.{enumerate_from};
 ghost use Rattle.am_traits.specs.Causes.{HasCause};
 ghost use Rattle.calculus.specs.Database.{Db};
@@ -9,10 +9,13 @@ ghost use Rattle.calculus.specs.QueryParts.{vars_of};
 ghost use Rattle.calculus.specs.Sizes.{Known, measure_within, plain_measure, query_measure, query_size, term_size};
 ghost use Rattle.calculus.specs.Used.{used_in_query, used_vars};
 ghost use Rattle.view_sizes.specs.Measured.{held, stopped_measure};
+ghost use Rattle.view_sizes.specs.Remembered.{AreMeasured};
 
+use crate::remembered::{Measures, measure_found, remember_measure};
 use crate::sizes::{Measure, qual_size, term_size};
 use am_traits::{Base, BaseFault};
 use calculus::{OutOfMemory, Query, RelKey, Target};
+use indexmap::IndexMap;
 use plain_product::is_used;
 use std::alloc::Global;
 
@@ -104,15 +107,18 @@ fn put_behind(measures: &mut Vec<Measure>, more: Measure) -> Result<(), OutOfMem
     Ok(measures.push(more)?)
 }
 
-/// What is known of what stands under a key, through at most so many levels of views.
+/// What is known of what stands under a key, through at most so many levels of views, where some of
+/// it was found before.
 #[cycle(measures)]
-fn measure_within<B: Base>(
+pub(crate) fn measure_within<B: Base>(
     alloc: Global,
     base: &mut B,
+    found: &mut Measures,
     key: &RelKey,
     levels: u8,
 ) -> Result<Measure, BaseFault>
-    ensures told { (db : Db) → B.database base.old ≡ Some db → IfOk result (λ m. held m ≡ stopped_measure (measure_within levels db key.now)) }
+    ensures told { (db : Db) → B.database base.old ≡ Some db → AreMeasured db found.old.entries → IfOk result (λ m. held m ≡ stopped_measure (measure_within levels db key.now)) }
+    ensures found { (db : Db) → B.database base.old ≡ Some db → AreMeasured db found.old.entries → OnOk result (AreMeasured db found.new.entries) }
     ensures kept { B.database base.new ≡ B.database base.old }
     ensures same { B.left base.new ≡ B.left base.old }
     ensures cause { HasCause (B.database base.old) (B.faults base.old) (B.faults base.new) result }
@@ -120,18 +126,67 @@ fn measure_within<B: Base>(
     if levels == 0 {
         return Ok(plain(alloc));
     }
+    match measure_found(alloc, found, key, levels)? {
+        Some(measure) => Ok(measure),
+        None => measure_anew(alloc, base, found, key, levels),
+    }
+}
+
+/// What is known of what stands under a key, through so many levels of views, more than 0: looked
+/// for in the base, and remembered where it is a view.
+#[cycle(measures)]
+fn measure_anew<B: Base>(
+    alloc: Global,
+    base: &mut B,
+    found: &mut Measures,
+    key: &RelKey,
+    levels: u8,
+) -> Result<Measure, BaseFault>
+    requires { 0 < levels }
+    ensures told { (db : Db) → B.database base.old ≡ Some db → AreMeasured db found.old.entries → IfOk result (λ m. held m ≡ stopped_measure (measure_within levels db key.now)) }
+    ensures found { (db : Db) → B.database base.old ≡ Some db → AreMeasured db found.old.entries → OnOk result (AreMeasured db found.new.entries) }
+    ensures kept { B.database base.new ≡ B.database base.old }
+    ensures same { B.left base.new ≡ B.left base.old }
+    ensures cause { HasCause (B.database base.old) (B.faults base.old) (B.faults base.new) result }
+{
     match base.view(alloc, key)? {
         Some(query) => {
-            let measure = measure_of(alloc, base, &query, levels - 1);
+            let measure = measure_through(alloc, base, found, &query, levels - 1);
             drop(query);
-            measure
+            let measure = measure?;
+            remember_measure(alloc, found, key, levels, &measure)?;
+            Ok(measure)
         }
         None => Ok(plain(alloc)),
     }
 }
 
-/// What a query is, the views in it put in, where it lists at most 256 variables.
+/// What a query is, the views in it put in, where it lists at most 256 variables, and where some of
+/// what they range over was found before.
 #[cycle(measures)]
+fn measure_through<B: Base>(
+    alloc: Global,
+    base: &mut B,
+    found: &mut Measures,
+    query: &Query,
+    levels: u8,
+) -> Result<Measure, BaseFault>
+    ensures told { (db : Db) → B.database base.old ≡ Some db → AreMeasured db found.old.entries → length (vars_of query.now) ≤ 256 → IfOk result (λ m. held m ≡ stopped_measure (query_measure (measure_within levels db) query.now)) }
+    ensures found { (db : Db) → B.database base.old ≡ Some db → AreMeasured db found.old.entries → OnOk result (AreMeasured db found.new.entries) }
+    ensures kept { B.database base.new ≡ B.database base.old }
+    ensures same { B.left base.new ≡ B.left base.old }
+    ensures cause { HasCause (B.database base.old) (B.faults base.old) (B.faults base.new) result }
+{
+    let mut vars = Vec::new(alloc);
+    for key in query.vars.items() {
+        let more = measure_within(alloc, base, found, key, levels)?;
+        put_behind(&mut vars, more)?;
+    }
+    Ok(measured(alloc, query, &vars)?)
+}
+
+/// What a query is, the views in it put in, where it lists at most 256 variables. What stands under a
+/// key is looked through once for so many levels.
 pub fn measure_of<B: Base>(
     alloc: Global,
     base: &mut B,
@@ -143,12 +198,8 @@ pub fn measure_of<B: Base>(
     ensures same { B.left base.new ≡ B.left base.old }
     ensures cause { HasCause (B.database base.old) (B.faults base.old) (B.faults base.new) result }
 {
-    let mut vars = Vec::new(alloc);
-    for key in query.vars.items() {
-        let more = measure_within(alloc, base, key, levels)?;
-        put_behind(&mut vars, more)?;
-    }
-    Ok(measured(alloc, query, &vars)?)
+    let mut found: Measures = IndexMap::new(alloc);
+    measure_through(alloc, base, &mut found, query, levels)
 }
 
 /// How many variables a query uses, where it lists at most 256.

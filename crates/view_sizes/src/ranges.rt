@@ -1,16 +1,19 @@
 //! What variables may range over, and the level that it has.
 
-ghost use Rattle.std.specs.Prelude.{◌≡◌, is_some, IfOk, Some};
+ghost use Rattle.std.specs.Prelude.{◌≡◌, is_some, IfOk, OnOk, Some};
 ghost use Rattle.std.specs.List.{list_all};
 ghost use Rattle.am_traits.specs.Causes.{HasCause};
 ghost use Rattle.calculus.specs.Database.{Db};
 ghost use Rattle.calculus.specs.Sizes.{level_within, query_level};
 ghost use Rattle.calculus.specs.Stored.{range_at};
 ghost use Rattle.quel_meaning.specs.Passing.{is_too_high};
+ghost use Rattle.view_sizes.specs.Remembered.{HaveLevels};
 ghost use Rattle.view_sizes.specs.Standing.{is_ranged};
 
+use crate::remembered::{Levels, level_is_found, remember_level};
 use am_traits::{Base, BaseFault};
 use calculus::{Query, RelInfo, RelKey, Spec};
+use indexmap::IndexSet;
 use std::alloc::Global;
 
 /// The level that what a view names has at most.
@@ -59,15 +62,40 @@ pub fn are_ranges<B: Base>(alloc: Global, base: &mut B, vars: &[RelKey]) -> Resu
     Ok(true)
 }
 
-/// Whether what stands under a key has a level, and this is at most so many.
+/// Whether what stands under a key has a level, and this is at most so many, where it was found of
+/// some that they have.
 #[cycle(levels)]
 fn has_level<B: Base>(
     alloc: Global,
     base: &mut B,
+    found: &mut Levels,
     key: &RelKey,
     levels: u8,
 ) -> Result<bool, BaseFault>
-    ensures told { (db : Db) → B.database base.old ≡ Some db → IfOk result (λ has. has ≡ is_some (level_within levels db key.now)) }
+    ensures told { (db : Db) → B.database base.old ≡ Some db → HaveLevels db found.old.keys → IfOk result (λ has. has ≡ is_some (level_within levels db key.now)) }
+    ensures found { (db : Db) → B.database base.old ≡ Some db → HaveLevels db found.old.keys → OnOk result (HaveLevels db found.new.keys) }
+    ensures kept { B.database base.new ≡ B.database base.old }
+    ensures same { B.left base.new ≡ B.left base.old }
+    ensures cause { HasCause (B.database base.old) (B.faults base.old) (B.faults base.new) result }
+{
+    if level_is_found(alloc, found, key, levels)? {
+        return Ok(true);
+    }
+    let has = has_level_anew(alloc, base, found, key, levels)?;
+    Ok(remember_level(alloc, found, key, levels, has)?)
+}
+
+/// Whether what stands under a key has a level, and this is at most so many: looked for in the base.
+#[cycle(levels)]
+fn has_level_anew<B: Base>(
+    alloc: Global,
+    base: &mut B,
+    found: &mut Levels,
+    key: &RelKey,
+    levels: u8,
+) -> Result<bool, BaseFault>
+    ensures told { (db : Db) → B.database base.old ≡ Some db → HaveLevels db found.old.keys → IfOk result (λ has. has ≡ is_some (level_within levels db key.now)) }
+    ensures found { (db : Db) → B.database base.old ≡ Some db → HaveLevels db found.old.keys → OnOk result (HaveLevels db found.new.keys) }
     ensures kept { B.database base.new ≡ B.database base.old }
     ensures same { B.left base.new ≡ B.left base.old }
     ensures cause { HasCause (B.database base.old) (B.faults base.old) (B.faults base.new) result }
@@ -78,7 +106,7 @@ fn has_level<B: Base>(
                 drop(query);
                 return Ok(false);
             }
-            let all = have_levels(alloc, base, query.vars.items(), levels - 1);
+            let all = have_levels_found(alloc, base, found, query.vars.items(), levels - 1);
             drop(query);
             all
         }
@@ -86,8 +114,33 @@ fn has_level<B: Base>(
     }
 }
 
-/// Whether what stands under each key has a level, and this is at most so many.
+/// Whether what stands under each key has a level, and this is at most so many, where it was found of
+/// some that they have.
 #[cycle(levels)]
+fn have_levels_found<B: Base>(
+    alloc: Global,
+    base: &mut B,
+    found: &mut Levels,
+    vars: &[RelKey],
+    levels: u8,
+) -> Result<bool, BaseFault>
+    ensures told { (db : Db) → B.database base.old ≡ Some db → HaveLevels db found.old.keys → IfOk result (λ have. have ≡ list_all (λ key. is_some (level_within levels db key)) vars.now) }
+    ensures found { (db : Db) → B.database base.old ≡ Some db → HaveLevels db found.old.keys → OnOk result (HaveLevels db found.new.keys) }
+    ensures kept { B.database base.new ≡ B.database base.old }
+    ensures same { B.left base.new ≡ B.left base.old }
+    ensures cause { HasCause (B.database base.old) (B.faults base.old) (B.faults base.new) result }
+{
+    for key in vars {
+        let has = has_level(alloc, base, found, key, levels)?;
+        if !has {
+            return Ok(false);
+        }
+    }
+    Ok(true)
+}
+
+/// Whether what stands under each key has a level, and this is at most so many. What stands under a
+/// key is looked through once for so many levels.
 pub fn have_levels<B: Base>(
     alloc: Global,
     base: &mut B,
@@ -99,13 +152,8 @@ pub fn have_levels<B: Base>(
     ensures same { B.left base.new ≡ B.left base.old }
     ensures cause { HasCause (B.database base.old) (B.faults base.old) (B.faults base.new) result }
 {
-    for key in vars {
-        let has = has_level(alloc, base, key, levels)?;
-        if !has {
-            return Ok(false);
-        }
-    }
-    Ok(true)
+    let mut found: Levels = IndexSet::new(alloc);
+    have_levels_found(alloc, base, &mut found, vars, levels)
 }
 
 /// Whether a view of this query would have no level, or one that is greater than there may be.

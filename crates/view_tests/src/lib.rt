@@ -2,4 +2,10 @@
 #![tactic(auto)]
 
 #[cfg(test)]
+mod joined;
+#[cfg(test)]
+mod making;
+#[cfg(test)]
 mod texts;
+#[cfg(test)]
+mod written;

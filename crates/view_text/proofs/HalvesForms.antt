@@ -1,5 +1,5 @@
 -- Qualifications joined by halves: it is all one how often neighbours are paired, where it is often enough.
-use Rattle.std.proofs.Common.{◌≡◌, refl, sym, ap, ◌∙◌, ℕ, zero, suc, ◌+◌, ◌<◌, ◌≤◌, List, [], ◌∷◌, ◌++◌, length, reverse, length-append, arith}
+use Rattle.std.proofs.Common.{◌≡◌, refl, sym, ap, ◌∙◌, ℕ, zero, suc, ◌<◌, ◌≤◌, List, [], ◌∷◌, ◌++◌, length, reverse, length-append, arith}
 use Rattle.std.proofs.lemmas.List.{reverse-append, append_assoc, append-nil}
 use Rattle.calculus.specs.declared.query.QQual.{QQual}
 use Rattle.view_text.specs.Halves.{Joining, paired, chained, joined_within, joined}

@@ -1,5 +1,5 @@
 -- What is joined names only the first variables where each part does.
-use Rattle.std.proofs.Common.{◌≡◌, refl, ℕ, zero, suc, Bool, true, ◌&&◌, List, [], ◌∷◌, length}
+use Rattle.std.proofs.Common.{◌≡◌, refl, ℕ, zero, suc, true, List, [], ◌∷◌, length}
 use Rattle.std.specs.List.{list_all}
 use Rattle.calculus.specs.declared.query.QQual.{QQual, True}
 use Rattle.calculus.specs.Tree.{both, either, negated}

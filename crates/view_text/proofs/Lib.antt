@@ -6,3 +6,4 @@ pub mod HalvesForms
 pub mod Scope
 pub mod JoinedWithin
 pub mod NoTables
+pub mod Slots

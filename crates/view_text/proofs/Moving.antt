@@ -1,11 +1,11 @@
 -- Terms and qualifications whose variables stand further on.
-use Rattle.std.proofs.Common.{◌≡◌, refl, ap, ℕ, ◌+◌, ◌-◌, ◌<◌, ◌≤◌, Bool, true, min, arith}
+use Rattle.std.proofs.Common.{◌≡◌, ap, ℕ, ◌+◌, ◌-◌, ◌≤◌, true, min, arith}
 use Rattle.calculus.specs.declared.query.QTerm.{QTerm, Attr}
 use Rattle.calculus.specs.declared.query.QQual.{QQual}
-use Rattle.view_text.specs.Replaced.{Putting, replaced, replaced_in_qual, no_aggregate, further, moved, moved_qual}
+use Rattle.view_text.specs.Replaced.{replaced, replaced_in_qual, no_aggregate, further, moved, moved_qual}
 use Rattle.view_text.specs.Further.{further_at_most}
 use Rattle.view_text.specs.Scoped.{is_within, is_qual_within}
-use Rattle.view_text.proofs.Within.{SamePut, FirstWithin, within_more, qual_within_more, replaced_same, replaced_qual_same, first_within, first_qual_within}
+use Rattle.view_text.proofs.Within.{SamePut, within_more, qual_within_more, replaced_same, replaced_qual_same}
 
 same_further : (n : ℕ) → SamePut (256 - n) (further_at_most n) (further n)
 same_further n var attr h = let e : min (n + var) 255 ≡ n + var = omega arith in ap (λ v. Attr v attr) e

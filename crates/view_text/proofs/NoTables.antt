@@ -1,5 +1,5 @@
 -- Where no table is given, no aggregate has a value.
-use Rattle.std.proofs.Common.{◌≡◌, refl, ap, ℕ, zero, suc, List, [], Option, None}
+use Rattle.std.proofs.Common.{◌≡◌, refl, ap, ℕ, zero, suc, [], None}
 use Rattle.std.specs.Prelude.{slice_get}
 use Rattle.calculus.specs.declared.agg_table.AggTable.{AggTable}
 use Rattle.calculus.specs.declared.query.QAgg.{QAgg}

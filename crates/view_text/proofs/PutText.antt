@@ -1,15 +1,15 @@
 -- What is put in place of attributes, text by text.
-use Rattle.std.proofs.Common.{◌≡◌, refl, sym, ap, ◌∙◌, ℕ, zero, suc, ◌+◌, ◌-◌, ◌<◌, ◌≤◌, Bool, true, ◌&&◌, nat_lt, List, [], ◌∷◌, ◌++◌, map, length, Option, Some, None, take, drop, arith, length-append}
+use Rattle.std.proofs.Common.{◌≡◌, refl, sym, ap, ◌∙◌, ℕ, zero, suc, ◌+◌, ◌-◌, ◌<◌, ◌≤◌, true, ◌&&◌, List, [], ◌∷◌, length, Option, Some, None, arith, length-append}
 use Rattle.std.specs.List.{list_all, slice_get}
 use Rattle.std.proofs.lemmas.Bool.{ltb-true}
 use Rattle.calculus.specs.declared.query.QTerm.{QTerm, Attr}
 use Rattle.calculus.specs.declared.query.QQual.{QQual}
 use Rattle.view_text.specs.declared.text.Text.{Text}
-use Rattle.view_text.specs.Replaced.{Putting, replaced, without_value, moved, moved_qual}
+use Rattle.view_text.specs.Replaced.{replaced, without_value, moved}
 use Rattle.view_text.specs.Scoped.{is_within, is_qual_within, are_within, is_scoped}
-use Rattle.view_text.specs.Texts.{term_at, own_or, attr_term, texts_vars, put_from, conditions_from}
+use Rattle.view_text.specs.Texts.{term_at, own_or, attr_term, texts_vars, put_from}
 use Rattle.view_text.specs.Fit.{AreFit}
-use Rattle.view_text.proofs.Within.{left_true, right_true, within_more, qual_within_more}
+use Rattle.view_text.proofs.Within.{left_true, right_true}
 use Rattle.view_text.proofs.Moving.{term_fits, qual_fits}
 
 -- ---- the term of an attribute

@@ -1,5 +1,5 @@
 -- Terms and qualifications with other terms in place of their attributes, form by form.
-use Rattle.std.proofs.Common.{◌≡◌, ℕ, ℤ, pos, Bool, refl, List}
+use Rattle.std.proofs.Common.{◌≡◌, ℕ, ℤ, pos, Bool, refl, ap, List}
 use denote.Hole.Carrier.{hidden}
 use Rattle.calculus.specs.declared.query.AggSource.TheBlock.{shape-the_row-QTerm-2, hidden-the_row-QTerm-2, shape-the_row-QQual-1, hidden-the_row-QQual-1, shape-the_row-QAgg-4, hidden-the_row-QAgg-4}
 use Rattle.calculus.specs.declared.operator.ArithOp.{ArithOp}
@@ -10,7 +10,9 @@ use Rattle.calculus.specs.declared.query.QTerm.TheVariants.{Int, Chars, Attr, Ne
 use Rattle.calculus.specs.declared.query.QQual.{QQual}
 use Rattle.calculus.specs.declared.query.QQual.TheVariants.{True, Cmp, Like, And, Or, Not}
 use Rattle.calculus.specs.declared.query.QAgg.{QAgg}
-use Rattle.view_text.specs.Replaced.{Putting, replaced, replaced_in_qual, no_aggregate, without_value}
+use Rattle.calculus.specs.Tree.{aggregate}
+use Rattle.calculus.proofs.Forms.{agg_is}
+use Rattle.view_text.specs.Replaced.{Putting, replaced, replaced_in_qual, without_value}
 
 abbrev Making : Type 0
 Making = QTerm → QTerm
@@ -43,9 +45,9 @@ pub replaced_concat : (made : Making) (put : Putting) (t u : QTerm) → replaced
 unfolding shape-the_row-QTerm-2 hidden-the_row-QTerm-2 hidden replaced
 replaced_concat made put t u = refl
 
-pub replaced_agg : (put : Putting) (g : QAgg) → replaced no_aggregate put (Agg g) ≡ without_value
+pub replaced_agg : (made : Making) (put : Putting) (g : QAgg) → replaced made put (Agg g) ≡ made (aggregate g)
 unfolding shape-the_row-QAgg-4 hidden-the_row-QAgg-4 hidden replaced
-replaced_agg put g = refl
+replaced_agg made put g = ap made (agg_is g)
 
 pub replaced_true : (made : Making) (put : Putting) → replaced_in_qual made put True ≡ True
 unfolding replaced_in_qual

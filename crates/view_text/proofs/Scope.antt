@@ -1,9 +1,9 @@
 -- Texts that name only their own variables, and what is made of them.
-use Rattle.std.proofs.Common.{◌≡◌, refl, sym, ap, ◌∙◌, ℕ, zero, suc, ◌+◌, ◌<◌, ◌≤◌, Bool, true, false, ◌&&◌, List, [], ◌∷◌, ◌++◌, map, length, Option, Some, None, length-append, arith}
+use Rattle.std.proofs.Common.{◌≡◌, refl, ap, ◌∙◌, ℕ, zero, suc, ◌+◌, ◌≤◌, Bool, true, false, List, [], ◌∷◌, ◌++◌, map, length, Option, Some, None, length-append, arith}
 use Rattle.std.specs.List.{list_all}
-use Rattle.std.proofs.lemmas.Bool.{ltb-true, lt-ltb}
+use Rattle.std.proofs.lemmas.Bool.{lt-ltb}
 use Rattle.calculus.specs.declared.query.RelKey.{RelKey}
-use Rattle.calculus.specs.declared.query.QTerm.{QTerm, Attr}
+use Rattle.calculus.specs.declared.query.QTerm.{QTerm}
 use Rattle.calculus.specs.declared.query.QQual.{QQual, True}
 use Rattle.calculus.specs.Tree.{negated}
 use Rattle.calculus.specs.Term.{holds, no_aggs}
@@ -15,7 +15,7 @@ use Rattle.view_text.specs.Replaced.{Putting, replaced, replaced_in_qual, no_agg
 use Rattle.view_text.specs.Scoped.{is_within, is_qual_within, are_within, is_scoped}
 use Rattle.view_text.specs.Texts.{term_at, own_or, attr_term, texts_vars, put_from, conditions_from}
 use Rattle.view_text.specs.TextOf.{kept_text, has_value, put_terms, rows_conditions, settled, rows_text}
-use Rattle.view_text.proofs.Within.{PutsWithin, FirstWithin, left_true, right_true, both_true, within_more, replaced_within, replaced_qual_within, first_within, first_qual_within}
+use Rattle.view_text.proofs.Within.{PutsWithin, FirstWithin, left_true, right_true, both_true, replaced_within, replaced_qual_within, first_within, first_qual_within}
 
 -- ---- lists
 

@@ -1,5 +1,5 @@
 -- Terms and qualifications that name only the first so many variables: what is put in keeps them so.
-use Rattle.std.proofs.Common.{◌≡◌, refl, ap, ◌∙◌, ℕ, ◌<◌, ◌≤◌, Bool, true, false, ◌&&◌, nat_lt, arith}
+use Rattle.std.proofs.Common.{◌≡◌, refl, ap, ℕ, ◌<◌, ◌≤◌, Bool, true, false, ◌&&◌, nat_lt, arith}
 use Rattle.std.proofs.lemmas.Bool.{ltb-true, lt-ltb}
 use Rattle.calculus.specs.declared.query.QTerm.{QTerm, Int, Chars, Attr, Agg'}
 use Rattle.calculus.specs.declared.query.QQual.{QQual, True, Cmp, Like}

@@ -1,8 +1,8 @@
--- Queries and updates with the texts of their variables put in: for nobody in particular they mean what they meant for the one who asked.
-use Rattle.std.specs.Prelude.{ℕ, ◌-◌, ◌==◌, Bool, true, false, List, [], ◌∷◌, ◌++◌, map, Option, Some, None}
+-- Queries and updates with the texts of their variables put in: views by what they stand for, permits as conditions on rows.
+use Rattle.std.specs.Prelude.{ℕ, ◌-◌, ◌==◌, true, false, List, [], ◌∷◌, ◌++◌, map, Option, Some, None}
 use Rattle.std.specs.List.{enumerate_from}
 use Rattle.calculus.specs.declared.query.RelKey.{RelKey}
-use Rattle.calculus.specs.declared.query.QTerm.{QTerm, Int, Chars, Attr, Agg', items-the_row-QTerm, Row_of-QAgg, end_of-QAgg, more_of-QAgg}
+use Rattle.calculus.specs.declared.query.QTerm.{QTerm, Agg', items-the_row-QTerm, Row_of-QAgg, end_of-QAgg, more_of-QAgg}
 use Rattle.calculus.specs.declared.query.QQual.{QQual}
 use Rattle.calculus.specs.declared.query.QAgg.{QAgg}
 use Rattle.calculus.specs.declared.query.AggSource.{AggSource, Named}
@@ -13,10 +13,10 @@ use Rattle.calculus.specs.declared.request.UpdateOp.{UpdateOp}
 use Rattle.calculus.specs.declared.request.UpdateOp.TheVariants as op
 use Rattle.calculus.specs.declared.request.Checked.{Checked}
 use Rattle.calculus.specs.declared.request.Checked.TheVariants as checked
-use Rattle.calculus.specs.Tree.{neg, abs, operation, concat, rows_of_query, query, aggregate}
+use Rattle.calculus.specs.Tree.{rows_of_query, query, aggregate}
 use Rattle.calculus.specs.Limits.{greatest_level}
 use Rattle.calculus.specs.Who.{Who}
-use Rattle.calculus.specs.Database.{Db, View}
+use Rattle.calculus.specs.Database.{Db}
 use Rattle.calculus.specs.Stored.{Range, Kept, Viewed, range_at}
 use Rattle.calculus.specs.Rights.{Right, Retrieve, Append}
 use Rattle.calculus.specs.QueryParts.{vars_of, targets_of, qual_of}
@@ -51,7 +51,7 @@ abbrev pub put_source : Db → Who → AggSource → AggSource
 put_source db who (Named key) = put_range db who key (range_at db key)
 put_source db who (rows_of_query q) = rows_of_query (put_plain (text_of db who) q)
 
--- the conditions on the rows of what has a key, of which these attributes are used; a view has them in its text
+-- the conditions on the rows of what has a key, of which these attributes are used; a view has them in the query that stands for it
 abbrev pub range_cut : Db → Who → List ℕ → RelKey → Option Range → List QQual
 range_cut db who attrs key None = cut db who Retrieve attrs key
 range_cut db who attrs key (Some (Kept relation)) = cut db who Retrieve attrs key

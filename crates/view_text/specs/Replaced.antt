@@ -1,10 +1,11 @@
 -- Terms and qualifications with other terms in place of their attributes and aggregates.
-use Rattle.std.specs.Prelude.{ℕ, ◌+◌, zero, suc, pos, List, [], ◌∷◌, map}
+use Rattle.std.specs.Prelude.{ℕ, ◌+◌, zero, suc, pos, List, [], ◌∷◌}
 use Rattle.calculus.specs.declared.operator.ArithOp.TheVariants.{Div}
-use Rattle.calculus.specs.declared.query.QTerm.{QTerm, Int, Chars, Attr, Agg'}
+use Rattle.calculus.specs.declared.query.QTerm.{QTerm, Int, Chars, Attr, Agg', Row_of-QAgg, end_of-QAgg, more_of-QAgg}
+use Rattle.calculus.specs.declared.query.QAgg.{QAgg}
 use Rattle.calculus.specs.declared.query.QQual.{QQual, True, Cmp, Like}
 use Rattle.calculus.specs.declared.query.Target.{Target}
-use Rattle.calculus.specs.Tree.{neg, abs, operation, concat, both, either, negated}
+use Rattle.calculus.specs.Tree.{neg, abs, operation, concat, both, either, negated, aggregate}
 
 -- a term that has no value, in place of what isn't there
 abbrev pub without_value : QTerm
@@ -58,3 +59,19 @@ moved_qual n q = replaced_in_qual no_aggregate (further n) q
 abbrev pub of_only : Putting
 of_only zero attr = Attr 0 attr
 of_only (suc var) attr = without_value
+
+-- the aggregate at a slot among these; where there is none, a term without value
+abbrev pub aggregate_at : List QAgg → ℕ → QTerm
+aggregate_at [] slot = without_value
+aggregate_at (g ∷ gs) zero = aggregate g
+aggregate_at (g ∷ gs) (suc slot) = aggregate_at gs slot
+
+-- the one among these at the slot of the aggregate that a term is
+abbrev pub at_slot : List QAgg → {n : _} → Row_of-QAgg n → QTerm
+at_slot made end_of-QAgg = without_value
+at_slot made (more_of-QAgg slot op source arg bys by links link qual rest) = aggregate_at made slot
+
+-- in place of an aggregate: the one among these at its slot
+abbrev pub listed : List QAgg → QTerm → QTerm
+listed made (Agg' mark row) = at_slot made row
+listed made t = without_value

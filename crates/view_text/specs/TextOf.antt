@@ -1,5 +1,5 @@
 -- The text of what stands under a key, for one who asks: views are put in, and permits are cut in as conditions on rows.
-use Rattle.std.specs.Prelude.{ℕ, ◌-◌, Bool, true, false, List, [], ◌∷◌, ◌++◌, map, filter, Option, Some, None}
+use Rattle.std.specs.Prelude.{ℕ, Bool, true, false, List, [], ◌∷◌, ◌++◌, map, filter, Option, Some, None}
 use Rattle.calculus.specs.declared.operator.CmpOp.TheVariants.{Eq}
 use Rattle.calculus.specs.declared.query.RelKey.{RelKey}
 use Rattle.calculus.specs.declared.query.QTerm.{QTerm}
@@ -17,7 +17,7 @@ use Rattle.calculus.specs.Through.{through}
 use Rattle.calculus.specs.Rights.{Right, Retrieve, covers, needs_none}
 use Rattle.calculus.specs.QueryParts.{targets_of, qual_of}
 use Rattle.view_text.specs.declared.text.Text.{Text}
-use Rattle.view_text.specs.Replaced.{Putting, replaced, replaced_in_qual, no_aggregate, of_only}
+use Rattle.view_text.specs.Replaced.{replaced, replaced_in_qual, no_aggregate, of_only}
 use Rattle.view_text.specs.Halves.{any_of}
 use Rattle.view_text.specs.Texts.{TextSource, query_texts, texts_vars, put_from, conditions_from}
 

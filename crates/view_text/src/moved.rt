@@ -1,13 +1,14 @@
 //! Terms and qualifications, their variables so many places further on.
 
 ghost use Rattle.std.specs.Prelude.{◌≡◌, ◌+◌, ◌-◌, true, IfOk};
-ghost use Rattle.view_text.specs.Replaced.{moved, moved_qual};
+ghost use Rattle.view_text.specs.Replaced.{moved, moved_qual, no_aggregate};
 ghost use Rattle.view_text.specs.Further.{further_at_most};
 ghost use Rattle.view_text.specs.Scoped.{is_within, is_qual_within};
 
+use crate::parts::without_value;
 use crate::putting::Putting;
 use crate::replaced::{replaced_qual, replaced_term};
-use calculus::{OutOfMemory, QQual, QTerm};
+use calculus::{OutOfMemory, QAgg, QQual, QTerm};
 use std::alloc::Global;
 
 /// The variables stand so many places further on.
@@ -19,11 +20,17 @@ struct Further {
 impl Putting for Further {
     ghost put = { λ further. further_at_most further.by };
 
+    ghost made = { λ _. no_aggregate };
+
     ghost fits = { λ further. Unit };
 
     fn put_attribute(&self, _alloc: Global, var: u8, attr: u8) -> Result<QTerm, OutOfMemory> {
         let var = (var as usize).saturating_add(self.by).min(255) as u8;
         Ok(QTerm::Attr { var, attr })
+    }
+
+    fn put_aggregate(&self, alloc: Global, _aggregate: &QAgg) -> Result<QTerm, OutOfMemory> {
+        without_value(alloc)
     }
 }
 

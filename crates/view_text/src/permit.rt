@@ -6,7 +6,7 @@ ghost use Rattle.view_text.specs.Replaced.{no_aggregate, of_only, replaced_in_qu
 use crate::parts::without_value;
 use crate::putting::Putting;
 use crate::replaced::replaced_qual;
-use calculus::{OutOfMemory, QQual, QTerm};
+use calculus::{OutOfMemory, QAgg, QQual, QTerm};
 use std::alloc::Global;
 
 /// The attributes of the only variable stay.
@@ -16,6 +16,8 @@ struct OfOnly;
 impl Putting for OfOnly {
     ghost put = { λ only. of_only };
 
+    ghost made = { λ _. no_aggregate };
+
     ghost fits = { λ only. Unit };
 
     fn put_attribute(&self, alloc: Global, var: u8, attr: u8) -> Result<QTerm, OutOfMemory> {
@@ -24,6 +26,10 @@ impl Putting for OfOnly {
         } else {
             without_value(alloc)
         }
+    }
+
+    fn put_aggregate(&self, alloc: Global, _aggregate: &QAgg) -> Result<QTerm, OutOfMemory> {
+        without_value(alloc)
     }
 }
 

@@ -3,16 +3,16 @@
 ghost use Rattle.std.specs.Prelude.{◌≡◌, ◌+◌, ◌-◌, ◌≤◌, ◌++◌, true, map, length, IfOk, OnOk};
 ghost use Rattle.std.specs.List.{list_all};
 ghost use Rattle.view_text.specs.Fit.{AreFit};
-ghost use Rattle.view_text.specs.Replaced.{moved, no_aggregate, replaced, replaced_in_qual, replaced_target};
+ghost use Rattle.view_text.specs.Replaced.{aggregate_at, listed, moved, no_aggregate, replaced, replaced_in_qual, replaced_target};
 ghost use Rattle.view_text.specs.Scoped.{is_scoped, is_within};
 ghost use Rattle.view_text.specs.Texts.{attr_term, put_from, term_at, texts_vars};
 
 use crate::Text;
 use crate::moved::moved_term;
-use crate::parts::without_value;
+use crate::parts::{boxed, without_value};
 use crate::putting::Putting;
 use crate::replaced::{replaced_qual, replaced_term};
-use calculus::{OutOfMemory, QQual, QTerm, Target};
+use calculus::{OutOfMemory, QAgg, QQual, QTerm, Target, TryCopy};
 use memory::both;
 use std::alloc::Global;
 
@@ -77,19 +77,61 @@ fn put_at(
     }
 }
 
-/// The texts of variables, by their places.
+/// The texts of variables, by their places; no aggregate may stand in what they are put in.
 #[derive(Drop)]
-struct Texts<'a> {
-    texts: &'a [Text],
+pub(crate) struct Texts<'a> {
+    pub(crate) texts: &'a [Text],
 }
 
 impl Putting for Texts<'_> {
     ghost put = { λ them. put_from 0 them.texts.now };
 
+    ghost made = { λ _. no_aggregate };
+
     ghost fits = { λ them. AreFit 0 them.texts.now };
 
     fn put_attribute(&self, alloc: Global, var: u8, attr: u8) -> Result<QTerm, OutOfMemory> {
         put_at(alloc, 0, self.texts, var, attr)
+    }
+
+    fn put_aggregate(&self, alloc: Global, _aggregate: &QAgg) -> Result<QTerm, OutOfMemory> {
+        without_value(alloc)
+    }
+}
+
+/// The texts of variables, by their places, and aggregates, by their slots.
+#[derive(Drop)]
+pub(crate) struct Whole<'a> {
+    pub(crate) texts: &'a [Text],
+    pub(crate) aggregates: &'a [QAgg],
+}
+
+impl Putting for Whole<'_> {
+    ghost put = { λ them. put_from 0 them.texts.now };
+
+    ghost made = { λ them. listed them.aggregates.now };
+
+    ghost fits = { λ them. AreFit 0 them.texts.now };
+
+    fn put_attribute(&self, alloc: Global, var: u8, attr: u8) -> Result<QTerm, OutOfMemory> {
+        put_at(alloc, 0, self.texts, var, attr)
+    }
+
+    fn put_aggregate(&self, alloc: Global, aggregate: &QAgg) -> Result<QTerm, OutOfMemory> {
+        aggregate_at(alloc, self.aggregates, aggregate.slot)
+    }
+}
+
+/// The aggregate at a slot among these; where there is none, a term without value.
+fn aggregate_at(alloc: Global, aggregates: &[QAgg], slot: u16) -> Result<QTerm, OutOfMemory>
+    ensures { IfOk result (λ t. t ≡ aggregate_at aggregates.now slot) }
+{
+    match aggregates.get(slot as usize) {
+        Some(aggregate) => match boxed(alloc, aggregate.copy(alloc)) {
+            Ok(aggregate) => Ok(QTerm::Agg(aggregate)),
+            Err(error) => Err(error),
+        },
+        None => without_value(alloc),
     }
 }
 
@@ -113,15 +155,18 @@ pub fn put_qual(alloc: Global, texts: &[Text], q: &QQual) -> Result<QQual, OutOf
     replaced_qual(alloc, &Texts { texts }, q)
 }
 
-/// The target so: its name and its kind stay.
-fn put_target(alloc: Global, texts: &[Text], target: &Target) -> Result<Target, OutOfMemory>
-    requires scoped { list_all is_scoped texts.now ≡ true }
-    requires fits { length (texts_vars texts.now) ≤ 256 }
-    ensures { IfOk result (λ made. made ≡ replaced_target no_aggregate (put_from 0 texts.now) target.now) }
+/// The target with what is put in place of its attributes and aggregates: its name and its kind stay.
+fn put_target<P: Putting>(
+    alloc: Global,
+    putting: &P,
+    target: &Target,
+) -> Result<Target, OutOfMemory>
+    requires { P.fits putting.now }
+    ensures { IfOk result (λ made. made ≡ replaced_target (P.made putting.now) (P.put putting.now) target.now) }
 {
     match both(
         target.name.copy(alloc),
-        put_term(alloc, texts, &target.term),
+        replaced_term(alloc, putting, &target.term),
     ) {
         Ok((name, term)) => Ok(Target {
             name,
@@ -133,23 +178,22 @@ fn put_target(alloc: Global, texts: &[Text], target: &Target) -> Result<Target, 
 }
 
 /// Puts the targets so behind those that are there.
-pub fn put_targets(
+pub(crate) fn put_targets<P: Putting>(
     alloc: Global,
-    texts: &[Text],
+    putting: &P,
     targets: &[Target],
     made: &mut Vec<Target>,
 ) -> Result<(), OutOfMemory>
-    requires scoped { list_all is_scoped texts.now ≡ true }
-    requires fits { length (texts_vars texts.now) ≤ 256 }
-    ensures { OnOk result (made.new.items ≡ made.old.items ++ map (replaced_target no_aggregate (put_from 0 texts.now)) targets.now) }
+    requires { P.fits putting.now }
+    ensures { OnOk result (made.new.items ≡ made.old.items ++ map (replaced_target (P.made putting.now) (P.put putting.now)) targets.now) }
 {
     for target in targets {
-        made.push(put_target(alloc, texts, target)?)?;
+        made.push(put_target(alloc, putting, target)?)?;
     }
     Ok(())
 }
 
-/// Puts the terms of the targets so behind those that are there.
+/// Puts the terms of the targets, with the texts of their variables put in, behind those that are there.
 pub(crate) fn put_terms(
     alloc: Global,
     texts: &[Text],

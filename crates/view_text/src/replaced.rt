@@ -1,9 +1,9 @@
-//! Terms and qualifications with other terms in place of their attributes.
+//! Terms and qualifications with other terms in place of their attributes and aggregates.
 
 ghost use Rattle.std.specs.Prelude.{◌≡◌, IfOk};
-ghost use Rattle.view_text.specs.Replaced.{no_aggregate, replaced, replaced_in_qual};
+ghost use Rattle.view_text.specs.Replaced.{replaced, replaced_in_qual};
 
-use crate::parts::{boxed, boxed_both, without_value};
+use crate::parts::{boxed, boxed_both};
 use crate::putting::Putting;
 use calculus::{Chars, OutOfMemory, QQual, QTerm};
 use memory::both;
@@ -33,7 +33,7 @@ fn like(alloc: Global, term: QTerm, pattern: &Chars, same: bool) -> Result<QQual
     }
 }
 
-/// The term with what is put in place of its attributes; a term without value in place of an aggregate.
+/// The term with what is put in place of its attributes and of its aggregates.
 #[tactic(auto, using(crate::proofs::ReplacedForms::replaced_int, crate::proofs::ReplacedForms::replaced_chars, crate::proofs::ReplacedForms::replaced_attr, crate::proofs::ReplacedForms::replaced_neg, crate::proofs::ReplacedForms::replaced_abs, crate::proofs::ReplacedForms::replaced_arith, crate::proofs::ReplacedForms::replaced_concat, crate::proofs::ReplacedForms::replaced_agg))]
 pub(crate) fn replaced_term<P: Putting>(
     alloc: Global,
@@ -41,7 +41,7 @@ pub(crate) fn replaced_term<P: Putting>(
     t: &QTerm,
 ) -> Result<QTerm, OutOfMemory>
     requires { P.fits putting.now }
-    ensures { IfOk result (λ made. made ≡ replaced no_aggregate (P.put putting.now) t.now) }
+    ensures { IfOk result (λ made. made ≡ replaced (P.made putting.now) (P.put putting.now) t.now) }
 {
     match t {
         QTerm::Int(number) => Ok(QTerm::Int(*number)),
@@ -70,7 +70,7 @@ pub(crate) fn replaced_term<P: Putting>(
                 Err(error) => Err(error),
             }
         }
-        QTerm::Agg(_) => without_value(alloc),
+        QTerm::Agg(aggregate) => putting.put_aggregate(alloc, aggregate.get()),
     }
 }
 
@@ -82,7 +82,7 @@ pub(crate) fn replaced_qual<P: Putting>(
     q: &QQual,
 ) -> Result<QQual, OutOfMemory>
     requires { P.fits putting.now }
-    ensures { IfOk result (λ made. made ≡ replaced_in_qual no_aggregate (P.put putting.now) q.now) }
+    ensures { IfOk result (λ made. made ≡ replaced_in_qual (P.made putting.now) (P.put putting.now) q.now) }
 {
     match q {
         QQual::True => Ok(QQual::True),

@@ -6,15 +6,17 @@ ghost use Rattle.calculus.specs.QueryParts.{qual_of, targets_of};
 ghost use Rattle.calculus.specs.Tree.{query};
 ghost use Rattle.view_text.specs.Halves.{all_of};
 ghost use Rattle.view_text.specs.PutIn.{put_query};
-ghost use Rattle.view_text.specs.Replaced.{no_aggregate, replaced_in_qual, replaced_target};
+ghost use Rattle.view_text.specs.Replaced.{listed, no_aggregate, replaced_in_qual, replaced_target};
 ghost use Rattle.view_text.specs.Scoped.{is_scoped};
 ghost use Rattle.view_text.specs.TextOf.{has_value, put_terms, rows_text, settled};
 ghost use Rattle.view_text.specs.Texts.{conditions_from, put_from, texts_vars};
 
-use crate::put::put_terms;
+use crate::put::{Texts, Whole, put_targets, put_terms};
+use crate::putting::Putting;
+use crate::replaced::replaced_qual;
 use crate::settled::settled;
-use crate::{Text, all_of, conditions, put_qual, put_targets};
-use calculus::{CmpOp, List, OutOfMemory, QQual, QTerm, Query, RelKey, Target, TryCopy};
+use crate::{Text, all_of, conditions};
+use calculus::{CmpOp, List, OutOfMemory, QAgg, QQual, QTerm, Query, RelKey, Target, TryCopy};
 use memory::both;
 use std::alloc::Global;
 
@@ -62,33 +64,34 @@ fn put_values(alloc: Global, terms: &[QTerm], made: &mut Vec<QQual>) -> Result<(
     Ok(())
 }
 
-/// Puts the qualification, with the texts put in, behind those that are there.
-fn put_one(
+/// Puts the qualification, with what is put in, behind those that are there.
+fn put_one<P: Putting>(
     alloc: Global,
-    texts: &[Text],
+    putting: &P,
     qual: &QQual,
     made: &mut Vec<QQual>,
 ) -> Result<(), OutOfMemory>
-    requires scoped { list_all is_scoped texts.now ≡ true }
-    requires fits { length (texts_vars texts.now) ≤ 256 }
-    ensures { OnOk result (made.new.items ≡ made.old.items ++ replaced_in_qual no_aggregate (put_from 0 texts.now) qual.now ∷ []) }
+    requires { P.fits putting.now }
+    ensures { OnOk result (made.new.items ≡ made.old.items ++ replaced_in_qual (P.made putting.now) (P.put putting.now) qual.now ∷ []) }
 {
-    Ok(made.push(put_qual(alloc, texts, qual)?)?)
+    Ok(made.push(replaced_qual(alloc, putting, qual)?)?)
 }
 
 /// Puts the conditions of a query's rows, whose targets have become these terms, behind those that are there.
-fn put_conditions(
+fn put_conditions<P: Putting>(
     alloc: Global,
+    putting: &P,
     texts: &[Text],
     qual: &QQual,
     terms: &[QTerm],
     made: &mut Vec<QQual>,
 ) -> Result<(), OutOfMemory>
+    requires put { P.fits putting.now }
     requires scoped { list_all is_scoped texts.now ≡ true }
     requires fits { length (texts_vars texts.now) ≤ 256 }
-    ensures { OnOk result (made.new.items ≡ made.old.items ++ replaced_in_qual no_aggregate (put_from 0 texts.now) qual.now ∷ (map has_value terms.now ++ conditions_from 0 texts.now)) }
+    ensures { OnOk result (made.new.items ≡ made.old.items ++ replaced_in_qual (P.made putting.now) (P.put putting.now) qual.now ∷ (map has_value terms.now ++ conditions_from 0 texts.now)) }
 {
-    put_one(alloc, texts, qual, made)?;
+    put_one(alloc, putting, qual, made)?;
     put_values(alloc, terms, made)?;
     conditions(alloc, texts, made)
 }
@@ -124,7 +127,14 @@ fn settled_conditions(
     ensures { IfOk result (λ made. made.items ≡ settled vars.now (replaced_in_qual no_aggregate (put_from 0 texts.now) (qual_of query.now) ∷ (map has_value terms.now ++ conditions_from 0 texts.now))) }
 {
     let mut made = Vec::new(alloc);
-    match put_conditions(alloc, texts, &query.qual, terms, &mut made) {
+    match put_conditions(
+        alloc,
+        &Texts { texts },
+        texts,
+        &query.qual,
+        terms,
+        &mut made,
+    ) {
         Ok(()) => settled(alloc, vars, made),
         Err(error) => Err(error),
     }
@@ -168,33 +178,39 @@ pub fn rows_text(alloc: Global, texts: &[Text], query: &Query) -> Result<Text, O
 }
 
 /// The qualification of a query and the conditions of the texts, all of which hold.
-fn whole_qual(alloc: Global, texts: &[Text], qual: &QQual) -> Result<QQual, OutOfMemory>
+fn whole_qual<P: Putting>(
+    alloc: Global,
+    putting: &P,
+    texts: &[Text],
+    qual: &QQual,
+) -> Result<QQual, OutOfMemory>
+    requires put { P.fits putting.now }
     requires scoped { list_all is_scoped texts.now ≡ true }
     requires fits { length (texts_vars texts.now) ≤ 256 }
-    ensures { IfOk result (λ q. q ≡ all_of (replaced_in_qual no_aggregate (put_from 0 texts.now) qual.now ∷ conditions_from 0 texts.now)) }
+    ensures { IfOk result (λ q. q ≡ all_of (replaced_in_qual (P.made putting.now) (P.put putting.now) qual.now ∷ conditions_from 0 texts.now)) }
 {
     let mut made = Vec::new(alloc);
-    match put_conditions(alloc, texts, qual, &[], &mut made) {
+    match put_conditions(alloc, putting, texts, qual, &[], &mut made) {
         Ok(()) => all_of(alloc, made),
         Err(error) => Err(error),
     }
 }
 
 /// Puts what the texts' variables range over, and the targets, behind those that are there.
-fn put_targeted(
+fn put_targeted<P: Putting>(
     alloc: Global,
+    putting: &P,
     texts: &[Text],
     query: &Query,
     vars: &mut Vec<RelKey>,
     targets: &mut Vec<Target>,
 ) -> Result<(), OutOfMemory>
-    requires scoped { list_all is_scoped texts.now ≡ true }
-    requires fits { length (texts_vars texts.now) ≤ 256 }
+    requires { P.fits putting.now }
     ensures vars { OnOk result (vars.new.items ≡ vars.old.items ++ texts_vars texts.now) }
-    ensures targets { OnOk result (targets.new.items ≡ targets.old.items ++ map (replaced_target no_aggregate (put_from 0 texts.now)) (targets_of query.now)) }
+    ensures targets { OnOk result (targets.new.items ≡ targets.old.items ++ map (replaced_target (P.made putting.now) (P.put putting.now)) (targets_of query.now)) }
 {
     put_vars(alloc, texts, vars)?;
-    put_targets(alloc, texts, query.targets.items(), targets)
+    put_targets(alloc, putting, query.targets.items(), targets)
 }
 
 /// The query of these variables, targets and qualification.
@@ -209,6 +225,28 @@ fn query_of(vars: Vec<RelKey>, targets: Vec<Target>, qual: QQual) -> Query
     }
 }
 
+/// The query over the variables of these texts, with what is put in place of its attributes and its
+/// aggregates.
+fn put_by<P: Putting>(
+    alloc: Global,
+    putting: &P,
+    texts: &[Text],
+    asked: &Query,
+) -> Result<Query, OutOfMemory>
+    requires put { P.fits putting.now }
+    requires scoped { list_all is_scoped texts.now ≡ true }
+    requires fits { length (texts_vars texts.now) ≤ 256 }
+    ensures { IfOk result (λ made. made ≡ query (texts_vars texts.now) (map (replaced_target (P.made putting.now) (P.put putting.now)) (targets_of asked.now)) (all_of (replaced_in_qual (P.made putting.now) (P.put putting.now) (qual_of asked.now) ∷ conditions_from 0 texts.now))) }
+{
+    let mut vars = Vec::new(alloc);
+    let mut targets = Vec::new(alloc);
+    let filled = put_targeted(alloc, putting, texts, asked, &mut vars, &mut targets);
+    match both(filled, whole_qual(alloc, putting, texts, &asked.qual)) {
+        Ok((_, qual)) => Ok(query_of(vars, targets, qual)),
+        Err(error) => Err(error),
+    }
+}
+
 /// The query over the variables of these texts, one for each of its own: their terms stand in place of
 /// its attributes, and their conditions hold too. An aggregate becomes a term without value.
 pub fn put_rows(alloc: Global, texts: &[Text], query: &Query) -> Result<Query, OutOfMemory>
@@ -216,11 +254,20 @@ pub fn put_rows(alloc: Global, texts: &[Text], query: &Query) -> Result<Query, O
     requires fits { length (texts_vars texts.now) ≤ 256 }
     ensures { IfOk result (λ made. made ≡ put_query no_aggregate texts.now query.now) }
 {
-    let mut vars = Vec::new(alloc);
-    let mut targets = Vec::new(alloc);
-    let filled = put_targeted(alloc, texts, query, &mut vars, &mut targets);
-    match both(filled, whole_qual(alloc, texts, &query.qual)) {
-        Ok((_, qual)) => Ok(query_of(vars, targets, qual)),
-        Err(error) => Err(error),
-    }
+    put_by(alloc, &Texts { texts }, texts, query)
+}
+
+/// The query over the variables of these texts so, with these aggregates, by their slots, in place of
+/// its own; one at whose slot there is none becomes a term without value.
+pub fn put_whole(
+    alloc: Global,
+    texts: &[Text],
+    aggregates: &[QAgg],
+    query: &Query,
+) -> Result<Query, OutOfMemory>
+    requires scoped { list_all is_scoped texts.now ≡ true }
+    requires fits { length (texts_vars texts.now) ≤ 256 }
+    ensures { IfOk result (λ made. made ≡ put_query (listed aggregates.now) texts.now query.now) }
+{
+    put_by(alloc, &Whole { texts, aggregates }, texts, query)
 }

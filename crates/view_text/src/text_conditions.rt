@@ -13,7 +13,6 @@ use calculus::{OutOfMemory, QQual};
 use std::alloc::Global;
 
 /// Puts the qualifications, their variables so many places further on, behind those that are there.
-
 fn put_moved(
     alloc: Global,
     by: usize,

@@ -11,7 +11,7 @@ paired-requires-clause-plain g c = λ db e. (c.requires db e).plain
 
 pub returns-clause-told : goal.returns-clause-told
 returns-clause-told g c = λ db e.
-    let new = makes_new db c.args.u.now (c.requires db e) c.update_is_spelled.ensures in
+    let new = makes_new db c.args.u.now (c.requires db e) in
     let are = subst (ArePairs db c.args.u.now) (sym c.deref.ensures.value) (c.in_ok-pairs.ensures.told db e) in
-    update_lawful db c.args.u.now (g.B.Base.lawful c.args.base.now db e) (c.requires db e) c.update_is_spelled.ensures c.changed_by.result
+    update_lawful db c.args.u.now (g.B.Base.lawful c.args.base.now db e) (c.requires db e) c.changed_by.result
     (c.changed_by.ensures.told db (c.paired.ensures.kept ∙ e) new are)

@@ -1,4 +1,4 @@
-use Rattle.std.proofs.Common.{◌≡◌, ap, ◌∙◌, ℕ, ◌≤◌, false, [], ◌++◌, length, option_map, arith}
+use Rattle.std.proofs.Common.{◌≡◌, ap, ◌∙◌, false, ◌++◌, length, option_map, arith}
 use Rattle.calculus.specs.Permission.{permitted_within, vars_permitted}
 use Rattle.calculus.specs.Used.{used_vars}
 use Rattle.view_text.specs.TextOf.{text_within}

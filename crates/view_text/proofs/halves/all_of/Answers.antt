@@ -1,4 +1,4 @@
-use Rattle.std.proofs.Common.{◌≡◌, sym, ◌∙◌, length, arith}
+use Rattle.std.proofs.Common.{sym, ◌∙◌, arith}
 use Rattle.calculus.specs.declared.query.QQual.{True}
 use Rattle.calculus.specs.Tree.{both}
 use Rattle.view_text.proofs.HalvesForms.{left_joined, none_joined}

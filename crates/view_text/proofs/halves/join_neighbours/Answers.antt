@@ -1,6 +1,4 @@
-use Rattle.std.proofs.Common.{◌≡◌, sym, ap, ◌∙◌, [], ◌++◌, reverse, arith}
-use Rattle.std.proofs.lemmas.List.{append-nil}
-use Rattle.view_text.specs.Halves.{paired}
+use Rattle.std.proofs.Common.{◌∙◌, arith}
 use Rattle.view_text.specs.Join.{join_by}
 use Rattle.view_text.proofs.HalvesForms.{none_paired}
 use Rattle.view_text.proofs.halves.join_neighbours.Goals as goal

@@ -1,0 +1,169 @@
+//! A base of views, each over the one below it ten times.
+
+ghost use Rattle.std.specs.Prelude.{MatchOption, None, []};
+ghost use Rattle.std.proofs.Common.{subst};
+
+use am_traits::{Base, BaseFault};
+use calculus::{
+    DbChange, Domain, Kind, List, Name, OutOfMemory, Permit, Place, Probe, QQual, QTerm, Query,
+    RelInfo, RelKey, Row, Rule, Target, TryCopy,
+};
+use memory::both;
+use std::alloc::Global;
+
+/// A base that tells no database. Each name of one letter is that of a view: `a` has no variable, and
+/// the number 3 as its only target; each other has ten variables over the view of the letter before, and
+/// the first attribute of each as a target.
+#[derive(Drop)]
+pub(crate) struct Tower;
+
+fn key_of(alloc: Global, owner: &Name, letter: u8) -> Result<RelKey, OutOfMemory> {
+    let name = match Name::of(alloc, &[letter]) {
+        Ok(Some(name)) => Ok(name),
+        _ => Err(OutOfMemory),
+    };
+    match both(owner.copy(alloc), name) {
+        Ok((owner, name)) => Ok(RelKey { owner, name }),
+        Err(error) => Err(error),
+    }
+}
+
+fn target(alloc: Global, term: QTerm) -> Result<Target, OutOfMemory> {
+    match Name::of(alloc, b"t") {
+        Ok(Some(name)) => Ok(Target {
+            name,
+            kind: Kind::Of(Domain::I2),
+            term,
+        }),
+        _ => Err(OutOfMemory),
+    }
+}
+
+/// The first attribute of each of ten variables.
+fn first_attributes(alloc: Global) -> Result<Vec<Target>, OutOfMemory> {
+    let mut targets = Vec::new(alloc);
+    for var in 0..10u8 {
+        targets.push(target(alloc, QTerm::Attr { var, attr: 0 })?)?;
+    }
+    Ok(targets)
+}
+
+/// The number 3.
+fn three(alloc: Global) -> Result<Vec<Target>, OutOfMemory> {
+    let mut targets = Vec::new(alloc);
+    targets.push(target(alloc, QTerm::Int(3))?)?;
+    Ok(targets)
+}
+
+/// The key of this letter, ten times.
+fn ten(alloc: Global, owner: &Name, letter: u8) -> Result<Vec<RelKey>, OutOfMemory> {
+    let mut keys = Vec::new(alloc);
+    for _ in 0..10u8 {
+        keys.push(key_of(alloc, owner, letter)?)?;
+    }
+    Ok(keys)
+}
+
+/// The query of the view of this letter.
+fn query_of(alloc: Global, owner: &Name, letter: u8) -> Result<Query, OutOfMemory> {
+    let parts = if letter == b'a' {
+        both(Ok(Vec::new(alloc)), three(alloc))
+    } else {
+        both(
+            ten(alloc, owner, letter.saturating_sub(1)),
+            first_attributes(alloc),
+        )
+    };
+    match parts {
+        Ok((vars, targets)) => Ok(Query {
+            vars: List::of(vars),
+            targets: List::of(targets),
+            qual: QQual::True,
+        }),
+        Err(error) => Err(error),
+    }
+}
+
+impl Base for Tower {
+    ghost database = { λ _. None };
+
+    ghost faults = { λ _. 0 };
+
+    ghost left = { λ _ _ _. [] };
+
+    ghost lawful = { λ _ _ h. absurd (subst (λ o. MatchOption o (Unit {0}) (λ _. ⊥)) h tt) };
+
+    ghost scanned = { λ _ _ _ h. absurd (subst (λ o. MatchOption o (Unit {0}) (λ _. ⊥)) h tt) };
+
+    fn dba(&mut self, _alloc: Global) -> Result<Name, BaseFault> {
+        Err(BaseFault::OutOfMemory)
+    }
+
+    fn count(&mut self) -> Result<u32, BaseFault> {
+        Ok(0)
+    }
+
+    fn find(
+        &mut self,
+        _alloc: Global,
+        _name: &Name,
+        _user: &Name,
+    ) -> Result<Option<RelInfo>, BaseFault> {
+        Ok(None)
+    }
+
+    fn info(&mut self, _alloc: Global, _key: &RelKey) -> Result<Option<RelInfo>, BaseFault> {
+        Ok(None)
+    }
+
+    fn size(&mut self, _alloc: Global, _key: &RelKey) -> Result<u32, BaseFault> {
+        Ok(0)
+    }
+
+    fn has_row(&mut self, _alloc: Global, _key: &RelKey, _row: &Row) -> Result<bool, BaseFault> {
+        Ok(false)
+    }
+
+    fn scan(
+        &mut self,
+        _alloc: Global,
+        _key: &RelKey,
+        _probe: &Probe,
+        _at: &mut Place,
+    ) -> Result<Option<Row>, BaseFault> {
+        Ok(None)
+    }
+
+    fn view(&mut self, alloc: Global, key: &RelKey) -> Result<Option<Query>, BaseFault> {
+        let [letter] = key.name.bytes() else {
+            return Ok(None);
+        };
+        match query_of(alloc, &key.owner, *letter) {
+            Ok(query) => Ok(Some(query)),
+            Err(_) => Err(BaseFault::OutOfMemory),
+        }
+    }
+
+    fn rules(&mut self, alloc: Global, _key: &RelKey) -> Result<Vec<Rule>, BaseFault> {
+        Ok(Vec::new(alloc))
+    }
+
+    fn permits(&mut self, alloc: Global, _key: &RelKey) -> Result<Vec<Permit>, BaseFault> {
+        Ok(Vec::new(alloc))
+    }
+
+    fn named_by_view(
+        &mut self,
+        _alloc: Global,
+        _key: &RelKey,
+        _but: &[RelKey],
+    ) -> Result<bool, BaseFault> {
+        Ok(false)
+    }
+
+    fn apply(&mut self, _alloc: Global, _change: &DbChange) -> Result<(), BaseFault> {
+        Ok(())
+    }
+
+    fn hand_over(&mut self) {}
+}

@@ -1,0 +1,82 @@
+-- Why a query isn't expanded, and what it answers once it is.
+use Rattle.std.proofs.Common.{◌≡◌, refl, sym, ap, ◌∙◌, subst, ℕ, ◌-◌, ◌^◌, ◌<◌, ◌≤◌, true, false, ◌&&◌, nat_le, List, [], ◌∷◌, length, Option, Some, Err, arith}
+use Rattle.std.specs.Prelude.{min}
+use Rattle.std.proofs.lemmas.Bool.Decides.{nat_tests}
+use Rattle.std.specs.List.{list_all}
+use Rattle.calculus.specs.declared.query.AggSource.{AggSource, Named}
+use Rattle.calculus.specs.declared.query.QAgg.{QAgg}
+use Rattle.calculus.specs.declared.query.Query.{Query}
+use Rattle.calculus.specs.Tree.{rows_of_query}
+use Rattle.calculus.specs.Answer.{answer, lacks}
+use Rattle.calculus.specs.Who.{Free}
+use Rattle.calculus.specs.Database.{Db}
+use Rattle.calculus.specs.IsDatabase.{IsDatabase, query_stands}
+use Rattle.calculus.specs.Permission.{query_permitted}
+use Rattle.calculus.specs.QueryParts.{vars_of, query_aggregates}
+use Rattle.am_traits.specs.declared.fault.BaseFault.TheVariants as base
+use Rattle.quel_meaning.specs.FitQueries.{kept_or_viewed, has_few_targets, source_fits, reads_fit}
+use Rattle.view_laws.specs.Nesting.{aggregates_nest_none}
+use Rattle.view_laws.proofs.Answering.{answer_put, lacks_put}
+use Rattle.view_sizes.specs.Listing.{source_lists_few, sources_list_few}
+use Rattle.view_text.specs.PutIn.{put_in}
+use Rattle.cut_rules.specs.declared.fault.CutFault.{CutFault}
+use Rattle.cut_rules.specs.declared.fault.CutFault.TheVariants as cut
+use Rattle.cut_rules.specs.declared.fault.ExpandFault.{ExpandFault}
+use Rattle.cut_rules.specs.Causes.{HasCause, MayFail, MayNotExpand, HasExpandCause}
+use Rattle.cut_rules.specs.Faults.{unexpanded}
+use Rattle.cut_rules.specs.Refused.{IsRefusedIn}
+use Rattle.cut_rules.proofs.Listing.{both_true}
+use Rattle.cut_rules.proofs.Fitting.{aggregates_fit}
+
+-- ---- nothing is refused to nobody in particular
+
+abbrev IsRefusedFreely : Query → Db → ℕ → Type 0
+IsRefusedFreely q db var = (query_permitted db Free q ≡ false) × IsRefusedIn db Free q var
+
+fails : (q : Query) (told mid_told : Option Db) (before mid now : ℕ) → mid_told ≡ told → before ≤ mid → ((db : Db) → told ≡ Some db → query_permitted db Free q ≡ true)
+    → (fault : CutFault) → MayFail (IsRefusedFreely q) mid_told mid now fault → MayNotExpand q told before now (unexpanded fault)
+fails q told mid_told before mid now e l free (cut.NoPermit var) c = λ db h. absurd (cc (sym (free db h) ∙ (c db (e ∙ h)).0))
+fails q told mid_told before mid now e l free cut.TooMany c = λ db h. absurd (c db (e ∙ h))
+fails q told mid_told before mid now e l free (cut.Base base.Disk) c = omega arith
+fails q told mid_told before mid now e l free (cut.Base (base.Damaged file page)) c = sym e ∙ c
+fails q told mid_told before mid now e l free (cut.Base base.OutOfMemory) c = tt
+fails q told mid_told before mid now e l free cut.OutOfMemory c = tt
+
+pub expand_failed : {S T : Type 0} (q : Query) (told mid_told : Option Db) (before mid now : ℕ) (fault : CutFault) (made : ExpandFault)
+    → HasCause {T = S} (IsRefusedFreely q) mid_told mid now (Err fault) → made ≡ unexpanded fault → mid_told ≡ told → before ≤ mid → ((db : Db) → told ≡ Some db → query_permitted db Free q ≡ true)
+    → HasExpandCause {T = T} q told before now (Err made)
+expand_failed q told mid_told before mid now fault made c m e l free =
+    let k = c.later in record { later = omega (arith, k, l); caused = subst (λ f. MayNotExpand q told before now f) (sym m) (fails q told mid_told before mid now e l free fault c.caused) }
+
+-- ---- how many variables
+
+few_source : (db : Db) (source : AggSource) → source_fits (kept_or_viewed db) db source ≡ true → source_lists_few source ≡ true
+unfolding source_fits
+few_source db (Named key) h = refl
+few_source db (rows_of_query q) h =
+    let one : nat_le (length (vars_of q)) 1 ≡ true =
+    (both_true (nat_le (length (vars_of q)) 1) (has_few_targets q && query_stands db q) (both_true (list_all (kept_or_viewed db).source (vars_of q)) _ h).1).0 in
+    grind (arith, nat_tests, one)
+
+few_in : (db : Db) (gs : List QAgg) → list_all (λ (g : QAgg). source_fits (kept_or_viewed db) db g.source) gs ≡ true → list_all (λ (g : QAgg). source_lists_few g.source) gs ≡ true
+few_in db [] h = refl
+few_in db (g ∷ gs) h =
+    let parts = both_true (source_fits (kept_or_viewed db) db g.source) _ h in
+    λ i. few_source db g.source parts.0 i && few_in db gs parts.1 i
+
+pub few_sources : (db : Db) (q : Query) → reads_fit (kept_or_viewed db) db q ≡ true → sources_list_few q ≡ true
+few_sources db q h = few_in db (query_aggregates q) (aggregates_fit (kept_or_viewed db) db q h)
+
+pub too_many : (vars n capped : ℕ) → vars ≡ min n (2 ^ 64 - 1) → 50 < vars → capped ≡ min vars (2 ^ 32 - 1) → (50 < n) × (capped ≡ min n (2 ^ 32 - 1))
+too_many vars n capped e l c = (omega (arith, e, l), omega (arith, e, c))
+
+pub few_enough : (vars n : ℕ) → vars ≡ min n (2 ^ 64 - 1) → vars ≤ 50 → n ≤ 50
+few_enough vars n e l = omega (arith, e, l)
+
+-- ---- what it answers
+
+pub same_answer : (db : Db) → IsDatabase db → (q made : Query) → aggregates_nest_none q ≡ true → made ≡ put_in db Free q → answer db Free made ≡ answer db Free q
+same_answer db d q made nests e = ap (answer db Free) e ∙ sym (answer_put db d Free q nests)
+
+pub same_lack : (db : Db) → IsDatabase db → (q made : Query) → aggregates_nest_none q ≡ true → made ≡ put_in db Free q → lacks db Free made ≡ lacks db Free q
+same_lack db d q made nests e = ap (lacks db Free) e ∙ sym (lacks_put db d Free q nests)

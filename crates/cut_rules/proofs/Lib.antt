@@ -1,0 +1,11 @@
+pub mod Gathering
+pub mod Naming
+pub mod Ranging
+pub mod Causing
+pub mod Listing
+pub mod Places
+pub mod Fitting
+pub mod Refusing
+pub mod Trees
+pub mod Freely
+pub mod Answered

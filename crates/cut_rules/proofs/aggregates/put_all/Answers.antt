@@ -1,0 +1,55 @@
+use Rattle.std.proofs.Common.{◌≡◌, sym, ap, ◌∙◌, false, ◌&&◌, [], ◌∷◌, ◌++◌, append_assoc, map, take, get_or, option_map, arith}
+use Rattle.std.specs.List.{list_all}
+use Rattle.std.proofs.lemmas.List.{map_more, take_all}
+use Rattle.std.proofs.lemmas.List.Folds.{list_all_more, list_all_at}
+use Rattle.calculus.specs.Permission.{readable, source_permitted}
+use Rattle.calculus.specs.Used.{used_in_aggregate}
+use Rattle.quel_meaning.specs.FitQueries.{kept_or_viewed, source_fits}
+use Rattle.view_expand.specs.Asking.{who_of}
+use Rattle.view_text.specs.PutIn.{put_aggregate}
+use Rattle.view_text.specs.Texts.{put_from}
+use Rattle.cut_rules.proofs.Gathering.{each_true, error_behind}
+use Rattle.cut_rules.proofs.aggregates.put_all.Goals as goal
+
+pub put_aggregate-requires-clause-source : goal.put_aggregate-requires-clause-source
+put_aggregate-requires-clause-source g c = λ db h.
+    each_true (λ a. source_fits (kept_or_viewed db) db a.now.source) c.args.aggregates.now c.loop-aggregate.aggregate-index c.aggregate-item.result
+    (c.requires.sources db (sym c.loop-aggregate.invariant.kept ∙ h)) c.loop-aggregate-test.true c.aggregate-item.is
+
+pub returns-in-Err-clause-cause : goal.returns-in-Err-clause-cause
+returns-in-Err-clause-cause g c =
+    error_behind (λ db. source_permitted (readable db (who_of (option_map (λ n. n.now) c.args.who))) (used_in_aggregate c.aggregate-item.result.now) c.aggregate-item.result.now.source ≡ false)
+    (λ db. list_all (λ a. source_permitted (readable db (who_of (option_map (λ n. n.now) c.args.who))) (used_in_aggregate a.now) a.now.source) c.args.aggregates.now ≡ false)
+    (g.B.Base.database c.args.base.now) (g.B.Base.database c.loop-aggregate.base) (g.B.Base.faults c.args.base.now) (g.B.Base.faults c.loop-aggregate.base) (g.B.Base.faults c.put_aggregate.new.base) c.in-Err.error
+    c.loop-aggregate.invariant.kept c.loop-aggregate.invariant.later
+    (λ db h e.
+    list_all_at (λ a. source_permitted (readable db (who_of (option_map (λ n. n.now) c.args.who))) (used_in_aggregate a.now) a.now.source) c.args.aggregates.now c.loop-aggregate.aggregate-index c.aggregate-item.result c.loop-aggregate-test.true
+    (ap (λ a. source_permitted (readable db (who_of (option_map (λ n. n.now) c.args.who))) (used_in_aggregate a.now) a.now.source) (sym c.aggregate-item.is) ∙ e))
+    c.in-Err.ensures.cause
+
+pub loop-aggregate-preserved : goal.loop-aggregate-preserved
+loop-aggregate-preserved g c = record {
+  told = λ db h.
+      c.in_ok-put_behind-in-Ok.ensures.items
+      ∙ (λ i. c.loop-aggregate.invariant.told db h i ++ (c.in-Ok.ensures.told db (c.loop-aggregate.invariant.kept ∙ h) ∙ ap (λ a. put_aggregate db (who_of (option_map (λ n. n.now) c.args.who)) (put_from 0 c.args.texts.now) a.now) c.aggregate-item.is) i ∷ [])
+      ∙ append_assoc c.args.made.now.items (map (λ a. put_aggregate db (who_of (option_map (λ n. n.now) c.args.who)) (put_from 0 c.args.texts.now) a.now) (take c.loop-aggregate.aggregate-index c.args.aggregates.now))
+      (put_aggregate db (who_of (option_map (λ n. n.now) c.args.who)) (put_from 0 c.args.texts.now) (get_or c.args.aggregates.now c.loop-aggregate.aggregate-index c.aggregate-item.result).now ∷ [])
+      ∙ ap (λ made. c.args.made.now.items ++ made)
+      (sym (map_more (λ a. put_aggregate db (who_of (option_map (λ n. n.now) c.args.who)) (put_from 0 c.args.texts.now) a.now) c.args.aggregates.now c.loop-aggregate.aggregate-index c.aggregate-item.result c.loop-aggregate-test.true));
+  permitted = λ db h.
+      list_all_more (λ a. source_permitted (readable db (who_of (option_map (λ n. n.now) c.args.who))) (used_in_aggregate a.now) a.now.source) c.args.aggregates.now c.loop-aggregate.aggregate-index c.aggregate-item.result c.loop-aggregate-test.true
+      ∙ (λ i. c.loop-aggregate.invariant.permitted db h i && (ap (λ a. source_permitted (readable db (who_of (option_map (λ n. n.now) c.args.who))) (used_in_aggregate a.now) a.now.source) (sym c.aggregate-item.is) ∙ c.in-Ok.ensures.permitted db (c.loop-aggregate.invariant.kept ∙ h)) i);
+  kept = c.in-Ok.ensures.kept ∙ c.loop-aggregate.invariant.kept;
+  same = c.in-Ok.ensures.same ∙ c.loop-aggregate.invariant.same;
+  later = omega (arith, c.in-Ok.ensures.cause.later, c.loop-aggregate.invariant.later);
+}
+
+pub returns-clause-told : goal.returns-clause-told
+returns-clause-told g c = λ db h.
+    c.loop-aggregate.invariant.told db h
+    ∙ ap (λ given. c.args.made.now.items ++ map (λ a. put_aggregate db (who_of (option_map (λ n. n.now) c.args.who)) (put_from 0 c.args.texts.now) a.now) given) (take_all c.loop-aggregate.aggregate-index c.args.aggregates.now c.loop-aggregate-test.false)
+
+pub returns-clause-permitted : goal.returns-clause-permitted
+returns-clause-permitted g c = λ db h.
+    sym (ap (list_all (λ a. source_permitted (readable db (who_of (option_map (λ n. n.now) c.args.who))) (used_in_aggregate a.now) a.now.source)) (take_all c.loop-aggregate.aggregate-index c.args.aggregates.now c.loop-aggregate-test.false))
+    ∙ c.loop-aggregate.invariant.permitted db h

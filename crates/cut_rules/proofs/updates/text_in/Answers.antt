@@ -1,0 +1,15 @@
+use Rattle.std.proofs.Common.{◌≡◌, subst, IfOk, option_map}
+use Rattle.view_expand.specs.Asking.{right_of, who_of}
+use Rattle.cut_rules.proofs.Fitting.{changed_text_is, read_text_is, small_stays}
+use Rattle.cut_rules.proofs.updates.text_in.Goals as goal
+
+pub read_text-requires : goal.read_text-requires
+read_text-requires g c = λ db h. small_stays db c.args.u.now c.args.place c.args.key.now c.in-None.ensures (c.requires db h)
+
+pub returns-in-Some-clause-told : goal.returns-in-Some-clause-told
+returns-in-Some-clause-told g c = λ db h.
+    subst (λ x. IfOk c.changed_at.result (λ text. text ≡ x)) (changed_text_is db (who_of (option_map (λ n. n.now) c.args.who)) c.args.u.now c.args.place c.args.key.now (right_of c.in-Some.right) c.in-Some.ensures) (c.changed_at.ensures.told db h)
+
+pub returns-in-None-clause-told : goal.returns-in-None-clause-told
+returns-in-None-clause-told g c = λ db h.
+    subst (λ x. IfOk c.read_text.result (λ text. text ≡ x)) (read_text_is db (who_of (option_map (λ n. n.now) c.args.who)) c.args.u.now c.args.place c.args.key.now c.in-None.ensures) (c.read_text.ensures.told db h)

@@ -1,0 +1,22 @@
+-- What a fault of a variable's text is for the tree.
+use Rattle.std.specs.Prelude.{ℕ, ◌-◌, ◌^◌}
+use Rattle.view_expand.specs.declared.fault.TextFault.{TextFault}
+use Rattle.view_expand.specs.declared.fault.TextFault.TheVariants as text
+use Rattle.cut_rules.specs.declared.fault.CutFault.{CutFault}
+use Rattle.cut_rules.specs.declared.fault.CutFault.TheVariants as cut
+use Rattle.cut_rules.specs.declared.fault.ExpandFault.{ExpandFault}
+use Rattle.cut_rules.specs.declared.fault.ExpandFault.TheVariants as expand
+
+-- where nothing is permitted of the variable at this place; the rest as it is
+abbrev pub fault_at : ℕ → TextFault → CutFault
+fault_at var text.NoPermit = cut.NoPermit var
+fault_at var text.TooMany = cut.TooMany
+fault_at var (text.Base fault) = cut.Base fault
+fault_at var text.OutOfMemory = cut.OutOfMemory
+
+-- why a query isn't expanded, where it isn't put in: where no database is told, more variables than can be numbered stand for what has no other name
+abbrev pub unexpanded : CutFault → ExpandFault
+unexpanded (cut.NoPermit var) = expand.TooMany (2 ^ 32 - 1)
+unexpanded cut.TooMany = expand.TooMany (2 ^ 32 - 1)
+unexpanded (cut.Base fault) = expand.Base fault
+unexpanded cut.OutOfMemory = expand.OutOfMemory

@@ -1,0 +1,4 @@
+pub mod Causes
+pub mod Refused
+pub mod Faults
+pub mod Placed

@@ -1,0 +1,69 @@
+//! Queries with the views in them put in.
+
+ghost use Rattle.std.specs.Prelude.{◌≡◌, ◌≤◌, ◌-◌, ◌^◌, min, true, Some, IfOk, OnOk};
+ghost use Rattle.calculus.specs.Answer.{answer, lacks};
+ghost use Rattle.calculus.specs.Database.{Db};
+ghost use Rattle.calculus.specs.Sizes.{expanded_variables};
+ghost use Rattle.calculus.specs.Who.{Free};
+ghost use Rattle.cut_rules.specs.Causes.{HasExpandCause};
+ghost use Rattle.cut_rules.specs.Faults.{unexpanded};
+ghost use Rattle.quel_meaning.specs.FitQueries.{kept_or_viewed, reads_fit};
+ghost use Rattle.view_laws.specs.Nesting.{aggregates_nest_none};
+ghost use Rattle.view_text.specs.PutIn.{put_in};
+
+use crate::put_in::put_in;
+use crate::{CutFault, ExpandFault};
+use am_traits::Base;
+use calculus::Query;
+use std::alloc::Global;
+use view_sizes::expanded_variables;
+
+/// The variables that may result.
+const MOST_VARIABLES: u64 = 50;
+
+/// The number, or the greatest one of 32 bits.
+fn capped(vars: u64) -> u32
+    ensures { result ≡ min vars (2 ^ 32 - 1) }
+{
+    if vars < 4_294_967_295 {
+        vars as u32
+    } else {
+        4_294_967_295
+    }
+}
+
+/// Why the query isn't expanded, where its texts aren't put in.
+fn unexpanded(fault: CutFault) -> ExpandFault
+    ensures { result ≡ unexpanded fault }
+{
+    match fault {
+        CutFault::NoPermit { var: _ } => ExpandFault::TooMany { vars: u32::MAX },
+        CutFault::TooMany => ExpandFault::TooMany { vars: u32::MAX },
+        CutFault::Base(fault) => ExpandFault::Base(fault),
+        CutFault::OutOfMemory => ExpandFault::OutOfMemory,
+    }
+}
+
+/// The query over base relations and catalogues alone, its views put in: it has the same answer for nobody
+/// in particular, and a target lacks a value in the same case, where no aggregate stands in another.
+/// `TooMany` exactly where more than 50 variables result, with their number. Not for the query of an
+/// update, whose changed variable stays what it is.
+pub fn expand<B: Base>(alloc: Global, base: &mut B, query: &Query) -> Result<Query, ExpandFault>
+    requires { (db : Db) → B.database base.old ≡ Some db → reads_fit (kept_or_viewed db) db query.now ≡ true }
+    ensures told { (db : Db) → B.database base.old ≡ Some db → IfOk result (λ made. made ≡ put_in db Free query.now) }
+    ensures answer { (db : Db) → B.database base.old ≡ Some db → aggregates_nest_none query.now ≡ true → IfOk result (λ made. answer db Free made ≡ answer db Free query.now) }
+    ensures lacks { (db : Db) → B.database base.old ≡ Some db → aggregates_nest_none query.now ≡ true → IfOk result (λ made. lacks db Free made ≡ lacks db Free query.now) }
+    ensures few { (db : Db) → B.database base.old ≡ Some db → OnOk result (expanded_variables db query.now ≤ 50) }
+    ensures kept { B.database base.new ≡ B.database base.old }
+    ensures same { B.left base.new ≡ B.left base.old }
+    ensures cause { HasExpandCause query.now (B.database base.old) (B.faults base.old) (B.faults base.new) result }
+{
+    let vars = expanded_variables(alloc, base, query)?;
+    if vars > MOST_VARIABLES {
+        return Err(ExpandFault::TooMany { vars: capped(vars) });
+    }
+    match put_in(alloc, base, None, query) {
+        Ok(made) => Ok(made),
+        Err(fault) => Err(unexpanded(fault)),
+    }
+}

@@ -1,0 +1,20 @@
+//! Cuts a tree down to what a user may see and change, with the views in it put in, and puts the rules of
+//! the relation that is changed among the checks of an update.
+#![tactic(auto)]
+
+mod aggregates;
+mod attributes;
+mod changing;
+mod cutting;
+mod expanding;
+mod fault;
+mod put_in;
+mod rules;
+mod sources;
+mod texts;
+mod updates;
+
+pub use cutting::cut_permits;
+pub use expanding::expand;
+pub use fault::{CutFault, ExpandFault, NO_VARIABLE};
+pub use rules::add_rules;

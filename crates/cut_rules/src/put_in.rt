@@ -1,0 +1,115 @@
+//! Queries with the texts of their variables put in, aggregates and all.
+
+ghost use Rattle.std.specs.Prelude.{◌≡◌, ◌≤◌, true, false, Some, length, IfOk, IfErr, OnOk, option_map};
+ghost use Rattle.std.specs.List.{list_all};
+ghost use Rattle.calculus.specs.Database.{Db};
+ghost use Rattle.calculus.specs.Permission.{aggregates_permitted, query_permitted, readable};
+ghost use Rattle.calculus.specs.Sizes.{expanded_variables};
+ghost use Rattle.cut_rules.specs.Causes.{HasCause};
+ghost use Rattle.cut_rules.specs.Refused.{HasRefusedAggregate, IsRefusedIn};
+ghost use Rattle.cut_rules.specs.declared.fault.CutFault.TheVariants.{OutOfMemory as NoMemory};
+ghost use Rattle.quel_meaning.specs.FitQueries.{kept_or_viewed, reads_fit};
+ghost use Rattle.view_expand.specs.Asking.{who_of};
+ghost use Rattle.view_text.specs.PutIn.{put_in, put_over, put_query};
+ghost use Rattle.view_text.specs.Replaced.{listed};
+ghost use Rattle.view_text.specs.Scoped.{is_scoped};
+ghost use Rattle.view_text.specs.Texts.{texts_vars};
+
+use crate::aggregates::put_aggregates;
+use crate::texts::{are_few, fault_at, put_texts};
+use crate::{CutFault, NO_VARIABLE};
+use am_traits::Base;
+use calculus::{Name, QAgg, Query};
+use std::alloc::Global;
+use view_text::{Text, put_whole};
+
+/// The variables that a query may number.
+const PLACES: usize = 256;
+
+/// The query over the variables of these texts, with these aggregates by their slots.
+fn whole(
+    alloc: Global,
+    texts: &[Text],
+    aggregates: &[QAgg],
+    query: &Query,
+) -> Result<Query, CutFault>
+    requires scoped { list_all is_scoped texts.now ≡ true }
+    requires fits { length (texts_vars texts.now) ≤ 256 }
+    ensures query { IfOk result (λ made. made ≡ put_query (listed aggregates.now) texts.now query.now) }
+    ensures cause { IfErr result (λ fault. fault ≡ NoMemory) }
+{
+    match put_whole(alloc, texts, aggregates, query) {
+        Ok(made) => Ok(made),
+        Err(_) => Err(CutFault::OutOfMemory),
+    }
+}
+
+/// The query over the variables of these texts, its aggregates over what their sources stand for.
+/// `NoPermit` exactly where what an aggregate names may not be read.
+pub(crate) fn put_over<B: Base>(
+    alloc: Global,
+    base: &mut B,
+    who: Option<&Name>,
+    query: &Query,
+    texts: &[Text],
+) -> Result<Query, CutFault>
+    requires fit { (db : Db) → B.database base.old ≡ Some db → reads_fit (kept_or_viewed db) db query.now ≡ true }
+    requires scoped { list_all is_scoped texts.now ≡ true }
+    requires fits { length (texts_vars texts.now) ≤ 256 }
+    ensures told { (db : Db) → B.database base.old ≡ Some db → IfOk result (λ made. made ≡ put_over db (who_of (option_map (λ n. n.now) who.entry)) texts.now query.now) }
+    ensures permitted { (db : Db) → B.database base.old ≡ Some db → OnOk result (aggregates_permitted (readable db (who_of (option_map (λ n. n.now) who.entry))) query.now ≡ true) }
+    ensures kept { B.database base.new ≡ B.database base.old }
+    ensures same { B.left base.new ≡ B.left base.old }
+    ensures cause { HasCause (λ db var. HasRefusedAggregate db (who_of (option_map (λ n. n.now) who.entry)) query.now var) (B.database base.old) (B.faults base.old) (B.faults base.new) result }
+{
+    match put_aggregates(alloc, base, who, query, texts) {
+        Ok(aggregates) => whole(alloc, texts, &aggregates, query),
+        Err(fault) => Err(fault_at(fault, NO_VARIABLE)),
+    }
+}
+
+/// The query over these texts, where they are few.
+fn put_over_few<B: Base>(
+    alloc: Global,
+    base: &mut B,
+    who: Option<&Name>,
+    query: &Query,
+    texts: &[Text],
+) -> Result<Query, CutFault>
+    requires fit { (db : Db) → B.database base.old ≡ Some db → reads_fit (kept_or_viewed db) db query.now ≡ true }
+    requires scoped { list_all is_scoped texts.now ≡ true }
+    requires few { (db : Db) → B.database base.old ≡ Some db → length (texts_vars texts.now) ≤ 256 }
+    ensures told { (db : Db) → B.database base.old ≡ Some db → IfOk result (λ made. made ≡ put_over db (who_of (option_map (λ n. n.now) who.entry)) texts.now query.now) }
+    ensures permitted { (db : Db) → B.database base.old ≡ Some db → OnOk result (aggregates_permitted (readable db (who_of (option_map (λ n. n.now) who.entry))) query.now ≡ true) }
+    ensures kept { B.database base.new ≡ B.database base.old }
+    ensures same { B.left base.new ≡ B.left base.old }
+    ensures cause { HasCause (λ db var. HasRefusedAggregate db (who_of (option_map (λ n. n.now) who.entry)) query.now var) (B.database base.old) (B.faults base.old) (B.faults base.new) result }
+{
+    if !are_few(texts, PLACES) {
+        return Err(CutFault::TooMany);
+    }
+    put_over(alloc, base, who, query, texts)
+}
+
+/// The query with the texts of its variables put in, and those that its aggregates are over. `NoPermit`
+/// exactly where a variable that is used, or what an aggregate names, may not be read.
+pub(crate) fn put_in<B: Base>(
+    alloc: Global,
+    base: &mut B,
+    who: Option<&Name>,
+    query: &Query,
+) -> Result<Query, CutFault>
+    requires fit { (db : Db) → B.database base.old ≡ Some db → reads_fit (kept_or_viewed db) db query.now ≡ true }
+    requires few { (db : Db) → B.database base.old ≡ Some db → expanded_variables db query.now ≤ 50 }
+    ensures told { (db : Db) → B.database base.old ≡ Some db → IfOk result (λ made. made ≡ put_in db (who_of (option_map (λ n. n.now) who.entry)) query.now) }
+    ensures permitted { (db : Db) → B.database base.old ≡ Some db → OnOk result (query_permitted db (who_of (option_map (λ n. n.now) who.entry)) query.now ≡ true) }
+    ensures kept { B.database base.new ≡ B.database base.old }
+    ensures same { B.left base.new ≡ B.left base.old }
+    ensures cause { HasCause (λ db var. (query_permitted db (who_of (option_map (λ n. n.now) who.entry)) query.now ≡ false) × IsRefusedIn db (who_of (option_map (λ n. n.now) who.entry)) query.now var) (B.database base.old) (B.faults base.old) (B.faults base.new) result }
+{
+    let mut texts = Vec::new(alloc);
+    match put_texts(alloc, base, who, query, &mut texts) {
+        Ok(()) => put_over_few(alloc, base, who, query, &texts),
+        Err(fault) => Err(fault),
+    }
+}

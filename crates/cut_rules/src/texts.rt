@@ -1,0 +1,145 @@
+//! The texts of a query's variables, and the place of one that is refused.
+
+ghost use Rattle.std.specs.Prelude.{◌≡◌, ◌≤◌, ◌<◌, ◌++◌, [], ◌∷◌, map, true, false, Some, length, IfOk, IfErr, OnOk, option_map};
+ghost use Rattle.std.specs.List.{enumerate_from, list_all};
+ghost use Rattle.calculus.specs.Database.{Db};
+ghost use Rattle.calculus.specs.QueryParts.{vars_of};
+ghost use Rattle.cut_rules.specs.Causes.{HasCause};
+ghost use Rattle.cut_rules.specs.Faults.{fault_at};
+ghost use Rattle.cut_rules.specs.Placed.{IsRefusedAt, is_small, may_be_read, read_text};
+ghost use Rattle.cut_rules.specs.declared.fault.CutFault.TheVariants.{OutOfMemory as NoMemory};
+ghost use Rattle.view_expand.specs.Asking.{who_of};
+ghost use Rattle.view_text.specs.Scoped.{is_scoped};
+ghost use Rattle.view_text.specs.Texts.{texts_vars};
+
+use crate::CutFault;
+use am_traits::Base;
+use calculus::{Name, Query, RelKey};
+use std::alloc::Global;
+use view_expand::{TextFault, text_at};
+use view_text::Text;
+
+/// The levels of views that there may be.
+const LEVELS: u8 = 16;
+
+/// The variables that a query may list.
+pub(crate) const LISTED: usize = 256;
+
+/// What a fault of the text of the variable at this place is for the tree.
+pub(crate) fn fault_at(fault: TextFault, var: u8) -> CutFault
+    ensures { result ≡ fault_at var fault }
+{
+    match fault {
+        TextFault::NoPermit => CutFault::NoPermit { var },
+        TextFault::TooMany => CutFault::TooMany,
+        TextFault::Base(fault) => CutFault::Base(fault),
+        TextFault::OutOfMemory => CutFault::OutOfMemory,
+    }
+}
+
+/// Puts a text behind those that are there.
+#[tactic(auto, using(view_expand::proofs::Listing::all_scoped_more))]
+pub(crate) fn put_behind(texts: &mut Vec<Text>, more: Text) -> Result<(), CutFault>
+    requires { is_scoped more ≡ true }
+    ensures texts { OnOk result (texts.new.items ≡ texts.old.items ++ more ∷ []) }
+    ensures scoped { list_all is_scoped texts.old.items ≡ true → OnOk result (list_all is_scoped texts.new.items ≡ true) }
+    ensures cause { IfErr result (λ fault. fault ≡ NoMemory) }
+{
+    match texts.push(more) {
+        Ok(()) => Ok(()),
+        Err(_) => Err(CutFault::OutOfMemory),
+    }
+}
+
+/// Whether the texts have at most so many variables together.
+#[tactic(auto, using(view_expand::proofs::Few::vars_before))]
+pub(crate) fn are_few(texts: &[Text], most: usize) -> bool
+    ensures few { result ≡ true → length (texts_vars texts.now) ≤ most }
+    ensures many { result ≡ false → most < length (texts_vars texts.now) }
+{
+    match texts.split_first() {
+        None => true,
+        Some((text, others)) => {
+            let some = text.vars.items().len();
+            some <= most && are_few(others, most - some)
+        }
+    }
+}
+
+/// The text of a query's variable at a place, which ranges over this; one that isn't used has none.
+/// `NoPermit` exactly where it is used and may not be read.
+pub(crate) fn read_text<B: Base>(
+    alloc: Global,
+    base: &mut B,
+    who: Option<&Name>,
+    query: &Query,
+    place: u8,
+    key: &RelKey,
+) -> Result<Text, CutFault>
+    requires { (db : Db) → B.database base.old ≡ Some db → is_small db query.now (place, key.now) ≡ true }
+    ensures told { (db : Db) → B.database base.old ≡ Some db → IfOk result (λ text. text ≡ read_text db (who_of (option_map (λ n. n.now) who.entry)) query.now (place, key.now)) }
+    ensures permitted { (db : Db) → B.database base.old ≡ Some db → OnOk result (may_be_read db (who_of (option_map (λ n. n.now) who.entry)) query.now (place, key.now) ≡ true) }
+    ensures scoped { IfOk result (λ text. is_scoped text ≡ true) }
+    ensures kept { B.database base.new ≡ B.database base.old }
+    ensures same { B.left base.new ≡ B.left base.old }
+    ensures cause { HasCause (λ db var. (var ≡ place) × (may_be_read db (who_of (option_map (λ n. n.now) who.entry)) query.now (place, key.now) ≡ false)) (B.database base.old) (B.faults base.old) (B.faults base.new) result }
+{
+    match text_at(alloc, base, who, query, place, key, LEVELS) {
+        Ok(text) => Ok(text),
+        Err(fault) => Err(fault_at(fault, place)),
+    }
+}
+
+/// Puts the texts of a query's variables, which range over these, behind those that are there.
+fn put_each<B: Base>(
+    alloc: Global,
+    base: &mut B,
+    who: Option<&Name>,
+    query: &Query,
+    keys: &[RelKey],
+    texts: &mut Vec<Text>,
+) -> Result<(), CutFault>
+    requires listed { length keys.now ≤ 256 }
+    requires small { (db : Db) → B.database base.old ≡ Some db → list_all (is_small db query.now) (enumerate_from 0 keys.now) ≡ true }
+    ensures told { (db : Db) → B.database base.old ≡ Some db → OnOk result (texts.new.items ≡ texts.old.items ++ map (read_text db (who_of (option_map (λ n. n.now) who.entry)) query.now) (enumerate_from 0 keys.now)) }
+    ensures permitted { (db : Db) → B.database base.old ≡ Some db → OnOk result (list_all (may_be_read db (who_of (option_map (λ n. n.now) who.entry)) query.now) (enumerate_from 0 keys.now) ≡ true) }
+    ensures scoped { list_all is_scoped texts.old.items ≡ true → OnOk result (list_all is_scoped texts.new.items ≡ true) }
+    ensures kept { B.database base.new ≡ B.database base.old }
+    ensures same { B.left base.new ≡ B.left base.old }
+    ensures cause { HasCause (λ db var. IsRefusedAt (may_be_read db (who_of (option_map (λ n. n.now) who.entry)) query.now) keys.now var) (B.database base.old) (B.faults base.old) (B.faults base.new) result }
+{
+    let mut place: usize = 0;
+    let mut rest = keys;
+    'keys: while let Some((key, others)) = rest.split_first() {
+        let more = read_text(alloc, base, who, query, place as u8, key)?;
+        put_behind(texts, more)?;
+        place += 1;
+        rest = others;
+    }
+    Ok(())
+}
+
+/// Puts the texts of a query's variables behind those that are there. `NoPermit` exactly where one that is
+/// used may not be read, and then its place.
+pub(crate) fn put_texts<B: Base>(
+    alloc: Global,
+    base: &mut B,
+    who: Option<&Name>,
+    query: &Query,
+    texts: &mut Vec<Text>,
+) -> Result<(), CutFault>
+    requires listed { (db : Db) → B.database base.old ≡ Some db → length (vars_of query.now) ≤ 256 }
+    requires small { (db : Db) → B.database base.old ≡ Some db → list_all (is_small db query.now) (enumerate_from 0 (vars_of query.now)) ≡ true }
+    ensures told { (db : Db) → B.database base.old ≡ Some db → OnOk result (texts.new.items ≡ texts.old.items ++ map (read_text db (who_of (option_map (λ n. n.now) who.entry)) query.now) (enumerate_from 0 (vars_of query.now))) }
+    ensures permitted { (db : Db) → B.database base.old ≡ Some db → OnOk result (list_all (may_be_read db (who_of (option_map (λ n. n.now) who.entry)) query.now) (enumerate_from 0 (vars_of query.now)) ≡ true) }
+    ensures scoped { list_all is_scoped texts.old.items ≡ true → OnOk result (list_all is_scoped texts.new.items ≡ true) }
+    ensures kept { B.database base.new ≡ B.database base.old }
+    ensures same { B.left base.new ≡ B.left base.old }
+    ensures cause { HasCause (λ db var. IsRefusedAt (may_be_read db (who_of (option_map (λ n. n.now) who.entry)) query.now) (vars_of query.now) var) (B.database base.old) (B.faults base.old) (B.faults base.new) result }
+{
+    let keys = query.vars.items();
+    if keys.len() > LISTED {
+        return Err(CutFault::TooMany);
+    }
+    put_each(alloc, base, who, query, keys, texts)
+}

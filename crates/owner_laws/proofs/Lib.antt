@@ -1,4 +1,0 @@
-pub mod Own
-pub mod Seen
-pub mod Changed
-pub mod Allowed

@@ -1,4 +1,0 @@
-pub mod TreeKeys
-pub mod OwnRanges
-pub mod Plain
-pub mod Freely

@@ -1,0 +1,3 @@
+pub mod Plain
+pub mod Resolved
+pub mod Trees

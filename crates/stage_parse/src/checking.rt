@@ -1,0 +1,43 @@
+//! What a statement asks for, checked.
+
+ghost use Rattle.std.specs.Prelude.{◌≡◌, true, false, Some};
+ghost use Rattle.calculus.specs.Database.{Db};
+ghost use Rattle.quel_meaning.specs.IsWritten.{is_written};
+ghost use Rattle.quel_resolve.specs.Answers.{Says};
+ghost use Rattle.quel_resolve.specs.Built.{is_built};
+ghost use Rattle.quel_resolve.specs.Causes.{HasCheckCause};
+ghost use Rattle.stage_parse.specs.Checks.{Checks};
+
+use crate::cutting::cut_and_ruled;
+use am_traits::Base;
+use calculus::{Checked, Name, Statement};
+use quel_check::RangeTable;
+use quel_resolve::{CheckFault, resolve};
+use std::alloc::Global;
+
+/// What the user's statement asks for, as a tree over base relations and catalogues alone that is fit for
+/// the database: its views are put in, it is cut down to what the user may see and change, and the rules
+/// of the relation that it changes are among its checks. For nobody in particular it means what the
+/// statement means for the user. `No` has the number of what refuses the statement: the first name that
+/// isn't what it has to be, else the first cause, else 23 where something isn't permitted. `NotBuilt`
+/// comes where no name refuses it, but it is of a kind that isn't resolved yet, or holds an aggregate.
+pub fn checked<B: Base>(
+    alloc: Global,
+    s: &Statement,
+    user: &Name,
+    ranges: &RangeTable,
+    base: &mut B,
+) -> Result<Checked, CheckFault>
+    requires { is_written s.now ≡ true }
+    ensures told { (db : Db) → B.database base.old ≡ Some db → Checks db user.now ranges.now s.now result }
+    ensures kinds { Says (λ tree. is_built s.now ≡ true) (λ number. Unit {0}) (is_built s.now ≡ false) result }
+    ensures kept { B.database base.new ≡ B.database base.old }
+    ensures same { B.left base.new ≡ B.left base.old }
+    ensures cause { HasCheckCause (B.database base.old) (B.faults base.old) (B.faults base.new) result }
+{
+    let _ = user.bytes();
+    match resolve(alloc, s, user, ranges, base) {
+        Ok(tree) => cut_and_ruled(alloc, base, user, tree),
+        Err(fault) => Err(fault),
+    }
+}

@@ -1,0 +1,83 @@
+//! Trees cut down to what a user may see and change, and ruled.
+
+ghost use Rattle.std.specs.Prelude.{◌≡◌, true, false, Some, IfOk, IsTrue};
+ghost use Rattle.calculus.specs.Database.{Db};
+ghost use Rattle.calculus.specs.Who.{asks};
+ghost use Rattle.quel_meaning.specs.Fit.{is_fit_with_views};
+ghost use Rattle.quel_meaning.specs.Meaning.{checked_permitted, ruled_tree};
+ghost use Rattle.quel_meaning.specs.SpelledTree.{tree_is_spelled};
+ghost use Rattle.quel_resolve.specs.Answers.{IsJudged, Says};
+ghost use Rattle.quel_resolve.specs.Causes.{HasCheckCause};
+ghost use Rattle.update_laws.specs.Walked.{names_rights};
+ghost use Rattle.view_text.specs.PutIn.{put_in_tree};
+
+use crate::ruling::ruled;
+use am_traits::Base;
+use calculus::{Checked, Name};
+use cut_rules::{CutFault, cut_permits};
+use quel_resolve::CheckFault;
+use std::alloc::Global;
+use update_laws::tree_is_spelled;
+
+/// The number of what isn't permitted.
+const NO_PERMIT: u8 = 23;
+
+/// The number of too many variables.
+const TOO_MANY: u8 = 14;
+
+/// The tree with its views put in, cut down to what the user may see and change; or 23, where something
+/// isn't permitted. 14 can come only where no database is told.
+fn cut<B: Base>(
+    alloc: Global,
+    base: &mut B,
+    user: &Name,
+    tree: Checked,
+) -> Result<Checked, CheckFault>
+    requires { (db : Db) → B.database base.old ≡ Some db → is_fit_with_views db user.now tree ≡ true }
+    ensures told { (db : Db) → B.database base.old ≡ Some db
+        → Says (λ made. (made ≡ put_in_tree db (asks user.now) tree) × (checked_permitted db (asks user.now) tree ≡ true))
+        (λ number. (number ≡ 23) × (checked_permitted db (asks user.now) tree ≡ false)) (true ≡ false) result }
+    ensures judged { IsJudged result }
+    ensures kept { B.database base.new ≡ B.database base.old }
+    ensures same { B.left base.new ≡ B.left base.old }
+    ensures cause { HasCheckCause (B.database base.old) (B.faults base.old) (B.faults base.new) result }
+{
+    let made = cut_permits(alloc, base, user, &tree);
+    drop(tree);
+    match made {
+        Ok(made) => Ok(made),
+        Err(CutFault::NoPermit { .. }) => Err(CheckFault::No(NO_PERMIT)),
+        Err(CutFault::TooMany) => Err(CheckFault::No(TOO_MANY)),
+        Err(CutFault::Base(fault)) => Err(CheckFault::Base(fault)),
+        Err(CutFault::OutOfMemory) => Err(CheckFault::OutOfMemory),
+    }
+}
+
+/// The same with the rules of the relation that the tree changes.
+pub(crate) fn cut_and_ruled<B: Base>(
+    alloc: Global,
+    base: &mut B,
+    user: &Name,
+    tree: Checked,
+) -> Result<Checked, CheckFault>
+    requires { (db : Db) → B.database base.old ≡ Some db → is_fit_with_views db user.now tree ≡ true }
+    ensures told { (db : Db) → B.database base.old ≡ Some db
+        → Says (λ made. (made ≡ ruled_tree db (put_in_tree db (asks user.now) tree)) × (checked_permitted db (asks user.now) tree ≡ true))
+        (λ number. (number ≡ 23) × (checked_permitted db (asks user.now) tree ≡ false)) (true ≡ false) result }
+    ensures spelled { IfOk result (λ made. names_rights made ≡ true → IsTrue (tree_is_spelled made)) }
+    ensures judged { IsJudged result }
+    ensures kept { B.database base.new ≡ B.database base.old }
+    ensures same { B.left base.new ≡ B.left base.old }
+    ensures cause { HasCheckCause (B.database base.old) (B.faults base.old) (B.faults base.new) result }
+{
+    match cut(alloc, base, user, tree) {
+        Ok(made) => match ruled(alloc, base, made) {
+            Ok(made) => {
+                tree_is_spelled(&made);
+                Ok(made)
+            }
+            Err(fault) => Err(CheckFault::Base(fault)),
+        },
+        Err(fault) => Err(fault),
+    }
+}

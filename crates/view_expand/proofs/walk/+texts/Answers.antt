@@ -1,0 +1,124 @@
+use Rattle.std.proofs.Common.{◌≡◌, refl, List, Err, IfSome, sym, ap, ◌∙◌, subst, ℕ, ◌-◌, ◌≤◌, true, false, ◌++◌, length, Some, IfOk, OnOk, option_map, rules, arith}
+use Rattle.calculus.specs.Database.{Db}
+use Rattle.calculus.specs.Lists.{is_any}
+use Rattle.calculus.specs.Permission.{permitted_within, vars_permitted}
+use Rattle.calculus.specs.QueryParts.{vars_of}
+use Rattle.calculus.specs.Rights.{Retrieve, permitted}
+use Rattle.calculus.specs.Sizes.{measure_within, query_measure}
+use Rattle.calculus.specs.Used.{used_in_query, used_vars}
+use Rattle.view_text.specs.TextOf.{text_within}
+use Rattle.view_text.specs.Texts.{query_texts, texts_vars}
+use Rattle.view_expand.specs.Asking.{who_of}
+use Rattle.view_expand.specs.Found.{IsTextOf}
+use Rattle.view_expand.specs.Listed.{texts_at}
+use Rattle.view_expand.proofs.Causing.{caused_behind, crowded_caused}
+use Rattle.view_expand.proofs.Few.{texts_few}
+use Rattle.view_expand.proofs.Keeping.{answered, answer_permitted}
+use Rattle.view_expand.proofs.Listing.{any_where_some, some_used}
+use Rattle.view_expand.proofs.Viewing.{permitted_of_view, permitted_past, measure_of_view, few_listed, text_of_kept, permitted_of_kept, vars_is, is_text_of}
+use Rattle.view_expand.proofs.walk.+texts.Goals as goal
+
+pub text_at_remembering-returns-clause-told : goal.text_at_remembering-returns-clause-told
+text_at_remembering-returns-clause-told g t c = λ db h.
+    let source = text_within c.args.levels db (who_of (option_map (λ n. n.now) c.args.who)) in
+    let attrs : c.deref.result.now ≡ used_in_query c.args.place c.args.query.now = c.deref.ensures.value ∙ c.in_ok-attrs.ensures in
+    let e = ap (source c.args.key.now) attrs ∙ some_used source c.args.key.now (used_in_query c.args.place c.args.query.now) (ap is_any (sym c.in_ok-attrs.ensures) ∙ any_where_some c.in_ok-attrs.attrs.items (grind arith)) in
+    subst (λ x. IfOk c.text_through.result (λ text. text ≡ x)) e (c.text_through.ensures.told db h)
+
+pub text_of_view-returns-then-levels-eq0-clause-cause : goal.text_of_view-returns-then-levels-eq0-clause-cause
+text_of_view-returns-then-levels-eq0-clause-cause g t c = record {
+  later = omega arith;
+  caused = λ db h attrs. permitted_past c.args.levels db (g.B.Base.lawful c.args.base.now db h) (who_of (option_map (λ n. n.now) c.args.who)) c.args.key.now attrs c.args.query.now c.if-levels-eq0.true (c.requires.stands db h);
+}
+
+pub text_of_view-rows_through-requires : goal.text_of_view-rows_through-requires
+text_of_view-rows_through-requires g t c =
+    let listed : (db : Db) → g.B.Base.database c.args.base.now ≡ Some db → length (vars_of c.args.query.now) ≤ 256 = λ db h.
+    few_listed db (g.B.Base.lawful c.args.base.now db h) c.args.key.now c.args.query.now (c.requires.stands db h) in
+    let expanded : (db : Db) → g.B.Base.database c.args.base.now ≡ Some db → (query_measure (measure_within (c.args.levels - 1) db) c.args.query.now).variables ≤ 256 = λ db h.
+    let e = measure_of_view c.args.levels db (g.B.Base.lawful c.args.base.now db h) c.args.key.now c.args.query.now (omega arith) (c.requires.stands db h) in
+    omega (arith, e, c.requires.few db h) in
+    search (rules, listed, expanded)
+
+pub text_anew-returns-in-None-clause-told : goal.text_anew-returns-in-None-clause-told
+text_anew-returns-in-None-clause-told g t c = λ db h.
+    let e = text_of_kept c.args.levels db (who_of (option_map (λ n. n.now) c.args.who)) c.args.key.now c.args.attrs.now (sym c.in-None.is ∙ c.in_ok-query.ensures.told db h) in
+    subst (λ x. IfOk c.plain_text.result (λ text. text ≡ x)) e (c.plain_text.ensures.told db (c.in_ok-query.ensures.kept ∙ h))
+
+pub text_anew-returns-in-None-clause-permitted : goal.text_anew-returns-in-None-clause-permitted
+text_anew-returns-in-None-clause-permitted g t c = λ db h.
+    let e = permitted_of_kept c.args.levels db (who_of (option_map (λ n. n.now) c.args.who)) c.args.key.now c.args.attrs.now (sym c.in-None.is ∙ c.in_ok-query.ensures.told db h) in
+    subst (λ b. OnOk c.plain_text.result (b ≡ true)) e (c.plain_text.ensures.permitted db (c.in_ok-query.ensures.kept ∙ h))
+
+pub text_anew-returns-in-None-clause-cause : goal.text_anew-returns-in-None-clause-cause
+text_anew-returns-in-None-clause-cause g t c =
+    caused_behind (λ db. permitted db (who_of (option_map (λ n. n.now) c.args.who)) Retrieve c.args.attrs.now c.args.key.now ≡ false)
+    (λ db. permitted_within c.args.levels db (who_of (option_map (λ n. n.now) c.args.who)) c.args.key.now c.args.attrs.now ≡ false)
+    (g.B.Base.database c.args.base.now) (g.B.Base.database c.view.new.self) (g.B.Base.faults c.args.base.now) (g.B.Base.faults c.view.new.self) (g.B.Base.faults c.plain_text.new.base) c.plain_text.result
+    c.in_ok-query.ensures.kept c.in_ok-query.ensures.cause.later
+    (λ db h e. sym (permitted_of_kept c.args.levels db (who_of (option_map (λ n. n.now) c.args.who)) c.args.key.now c.args.attrs.now (sym c.in-None.is ∙ c.in_ok-query.ensures.told db h)) ∙ e)
+    c.plain_text.ensures.cause
+
+pub rows_through-returns-in-Ok-clause-cause : goal.rows_through-returns-in-Ok-clause-cause
+rows_through-returns-in-Ok-clause-cause g t c =
+    crowded_caused (λ db. vars_permitted (permitted_within c.args.levels db (who_of (option_map (λ n. n.now) c.args.who))) c.args.query.now (used_vars c.args.query.now) ≡ false)
+    (g.B.Base.database c.args.base.now) (g.B.Base.faults c.args.base.now) (g.B.Base.faults c.put_texts.new.base) (length (texts_vars c.deref.result.now)) c.rows_of.result c.in-Ok.ensures.cause.later
+    (λ db h.
+    let source = text_within c.args.levels db (who_of (option_map (λ n. n.now) c.args.who)) in
+    let made : c.deref.result.now ≡ query_texts source c.args.query.now =
+    c.deref.ensures.value ∙ c.in-Ok.ensures.told db h ∙ ap (λ ts. ts ++ texts_at source c.args.query.now 0 c.items-keys.result.now) c.new-texts.ensures.items
+    ∙ ap (texts_at source c.args.query.now 0) (c.items-keys.ensures ∙ vars_is c.args.query.now) in
+    let same : length (texts_vars c.deref.result.now) ≡ length (texts_vars (query_texts source c.args.query.now)) = ap (λ ts. length (texts_vars ts)) made in
+    omega (arith, same, texts_few db (who_of (option_map (λ n. n.now) c.args.who)) c.args.levels c.args.query.now, c.requires.expanded db h))
+    c.rows_of.ensures.cause
+
+pub text_through-returns-in-Some-clause-told : goal.text_through-returns-in-Some-clause-told
+text_through-returns-in-Some-clause-told g t c = λ db h.
+    let k : IsTextOf db (who_of (option_map (λ n. n.now) c.args.who)) c.args.key.now c.args.levels c.in-Some.text =
+    subst (λ o. IfSome o (IsTextOf db (who_of (option_map (λ n. n.now) c.args.who)) c.args.key.now c.args.levels)) c.in-Some.is (c.in_ok-text.ensures.text db (who_of (option_map (λ n. n.now) c.args.who)) (c.requires.found db h)) in
+    k.is c.args.attrs.now
+
+pub text_through-returns-in-Some-clause-permitted : goal.text_through-returns-in-Some-clause-permitted
+text_through-returns-in-Some-clause-permitted g t c = λ db h.
+    let k : IsTextOf db (who_of (option_map (λ n. n.now) c.args.who)) c.args.key.now c.args.levels c.in-Some.text =
+    subst (λ o. IfSome o (IsTextOf db (who_of (option_map (λ n. n.now) c.args.who)) c.args.key.now c.args.levels)) c.in-Some.is (c.in_ok-text.ensures.text db (who_of (option_map (λ n. n.now) c.args.who)) (c.requires.found db h)) in
+    k.permitted c.args.attrs.now
+
+pub text_anew-returns-in-Some-clause-told : goal.text_anew-returns-in-Some-clause-told
+text_anew-returns-in-Some-clause-told g t c = λ db h.
+    answered db (who_of (option_map (λ n. n.now) c.args.who)) c.args.key.now c.args.levels c.args.attrs.now c.text_of_view-text.result (c.text_of_view-text.ensures.told db (c.in_ok-query.ensures.kept ∙ h))
+
+pub text_anew-returns-in-Some-clause-permitted : goal.text_anew-returns-in-Some-clause-permitted
+text_anew-returns-in-Some-clause-permitted g t c = λ db h.
+    answer_permitted db (who_of (option_map (λ n. n.now) c.args.who)) c.args.key.now c.args.levels c.args.attrs.now c.text_of_view-text.result (c.text_of_view-text.ensures.told db (c.in_ok-query.ensures.kept ∙ h))
+
+pub text_anew-returns-in-Some-clause-cause : goal.text_anew-returns-in-Some-clause-cause
+text_anew-returns-in-Some-clause-cause g t c =
+    caused_behind (λ db. (attrs : List ℕ) → permitted_within c.args.levels db (who_of (option_map (λ n. n.now) c.args.who)) c.args.key.now attrs ≡ false)
+    (λ db. permitted_within c.args.levels db (who_of (option_map (λ n. n.now) c.args.who)) c.args.key.now c.args.attrs.now ≡ false)
+    (g.B.Base.database c.args.base.now) (g.B.Base.database c.view.new.self) (g.B.Base.faults c.args.base.now) (g.B.Base.faults c.view.new.self) (g.B.Base.faults c.text_of_view-text.new.base) c.text_of_view-text.result
+    c.in_ok-query.ensures.kept c.in_ok-query.ensures.cause.later (λ db h e. e c.args.attrs.now) c.text_of_view-text.ensures.cause
+
+pub text_of_view-returns-in-Ok-kept-clause-told : goal.text_of_view-returns-in-Ok-kept-clause-told
+text_of_view-returns-in-Ok-kept-clause-told g t c = λ db h.
+    let one = is_text_of c.args.levels db (g.B.Base.lawful c.args.base.now db h) (who_of (option_map (λ n. n.now) c.args.who)) c.args.key.now c.args.query.now (omega arith) (c.requires.stands db h) c.in-Ok.text (c.in-Ok.ensures.told db h) (c.in-Ok.ensures.permitted db h) in
+    subst (IsTextOf db (who_of (option_map (λ n. n.now) c.args.who)) c.args.key.now c.args.levels) (sym c.in-Ok-kept.ensures.text) one
+
+pub text_of_view-returns-in-Ok-kept-clause-found : goal.text_of_view-returns-in-Ok-kept-clause-found
+text_of_view-returns-in-Ok-kept-clause-found g t c = λ db h.
+    let one = is_text_of c.args.levels db (g.B.Base.lawful c.args.base.now db h) (who_of (option_map (λ n. n.now) c.args.who)) c.args.key.now c.args.query.now (omega arith) (c.requires.stands db h) c.in-Ok.text (c.in-Ok.ensures.told db h) (c.in-Ok.ensures.permitted db h) in
+    c.kept.ensures.found db (who_of (option_map (λ n. n.now) c.args.who)) (c.rows_through.ensures.found db h) one
+
+pub text_of_view-returns-in-Err-kept-clause-found : goal.text_of_view-returns-in-Err-kept-clause-found
+text_of_view-returns-in-Err-kept-clause-found g t c = λ db h.
+    let one = is_text_of c.args.levels db (g.B.Base.lawful c.args.base.now db h) (who_of (option_map (λ n. n.now) c.args.who)) c.args.key.now c.args.query.now (omega arith) (c.requires.stands db h) c.in-Ok.text (c.in-Ok.ensures.told db h) (c.in-Ok.ensures.permitted db h) in
+    c.kept.ensures.found db (who_of (option_map (λ n. n.now) c.args.who)) (c.rows_through.ensures.found db h) one
+
+pub text_of_view-returns-in-Err-clause-cause : goal.text_of_view-returns-in-Err-clause-cause
+text_of_view-returns-in-Err-clause-cause g t c =
+    caused_behind (λ db. vars_permitted (permitted_within (c.args.levels - 1) db (who_of (option_map (λ n. n.now) c.args.who))) c.args.query.now (used_vars c.args.query.now) ≡ false)
+    (λ db. (attrs : List ℕ) → permitted_within c.args.levels db (who_of (option_map (λ n. n.now) c.args.who)) c.args.key.now attrs ≡ false)
+    (g.B.Base.database c.args.base.now) (g.B.Base.database c.args.base.now) (g.B.Base.faults c.args.base.now) (g.B.Base.faults c.args.base.now) (g.B.Base.faults c.rows_through.new.base) (Err c.in-Err.error)
+    refl (omega arith)
+    (λ db h e attrs. sym (permitted_of_view c.args.levels db (g.B.Base.lawful c.args.base.now db h) (who_of (option_map (λ n. n.now) c.args.who)) c.args.key.now attrs c.args.query.now (omega arith) (c.requires.stands db h)) ∙ e)
+    c.in-Err.ensures.cause

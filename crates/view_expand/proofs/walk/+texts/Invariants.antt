@@ -1,0 +1,49 @@
+use Rattle.std.proofs.Common.{◌≡◌, ◌+◌, ◌*◌, ◌≤◌, ◌++◌, true, length, Some, option_map}
+use Rattle.std.specs.List.{list_all}
+use Rattle.calculus.specs.Database.{Db}
+use Rattle.calculus.specs.Permission.{permitted_within}
+use Rattle.calculus.specs.Sizes.{measure_within}
+use Rattle.view_text.specs.Scoped.{is_scoped}
+use Rattle.view_text.specs.TextOf.{text_within}
+use Rattle.view_expand.specs.Asking.{who_of}
+use Rattle.view_expand.specs.Found.{AreTexts}
+use Rattle.view_expand.specs.Listed.{texts_at, permitted_at, variables_at}
+use Rattle.view_expand.proofs.walk.+texts.Given as goal
+
+abbrev pub decreases-text_of_view : goal.decreases-text_of_view
+decreases-text_of_view g l = 6 * l.levels
+
+abbrev pub decreases-text_anew : goal.decreases-text_anew
+decreases-text_anew g l = 6 * l.levels + 1
+
+abbrev pub decreases-text_through : goal.decreases-text_through
+decreases-text_through g l = 6 * l.levels + 2
+
+abbrev pub decreases-text_at_remembering : goal.decreases-text_at_remembering
+decreases-text_at_remembering g l = 6 * l.levels + 3
+
+abbrev pub decreases-put_texts : goal.decreases-put_texts
+decreases-put_texts g l = 6 * l.levels + 4
+
+abbrev pub decreases-rows_through : goal.decreases-rows_through
+decreases-rows_through g l = 6 * l.levels + 5
+
+abbrev pub decreases-put_texts-keys : goal.decreases-put_texts-keys
+decreases-put_texts-keys g l = length l.rest
+
+abbrev pub invariant-put_texts-keys : goal.invariant-put_texts-keys
+invariant-put_texts-keys g l = record {
+  place : l.place + length l.rest ≡ length l.keys;
+  told : (db : Db) → g.B.Base.database l.initial.base ≡ Some db
+      → l.texts.items ++ texts_at (text_within l.levels db (who_of (option_map (λ n. n.now) l.who))) l.query l.place l.rest
+      ≡ l.fn.texts.items ++ texts_at (text_within l.levels db (who_of (option_map (λ n. n.now) l.who))) l.query 0 l.keys;
+  permitted : (db : Db) → g.B.Base.database l.initial.base ≡ Some db
+      → permitted_at (permitted_within l.levels db (who_of (option_map (λ n. n.now) l.who))) l.query l.place l.rest
+      ≡ permitted_at (permitted_within l.levels db (who_of (option_map (λ n. n.now) l.who))) l.query 0 l.keys;
+  few : (db : Db) → g.B.Base.database l.initial.base ≡ Some db → variables_at (measure_within l.levels db) l.query l.place l.rest ≤ 256;
+  found : (db : Db) → g.B.Base.database l.initial.base ≡ Some db → AreTexts db (who_of (option_map (λ n. n.now) l.who)) l.found;
+  scoped : list_all is_scoped l.fn.texts.items ≡ true → list_all is_scoped l.texts.items ≡ true;
+  kept : g.B.Base.database l.base ≡ g.B.Base.database l.initial.base;
+  same : g.B.Base.left l.base ≡ g.B.Base.left l.initial.base;
+  later : g.B.Base.faults l.initial.base ≤ g.B.Base.faults l.base;
+}
