@@ -15,7 +15,8 @@ use std::test::*;
 /// A user, a batch of statements, and what it prints.
 type Turn = (&'static [u8], &'static [u8], &'static [u8]);
 
-/// Two permits of an attribute each don't permit both, and none of them a deletion.
+/// Two permits of an attribute each don't permit both, and none of them a deletion. What a statement names,
+/// its kinds and its titles are judged before its permits.
 const NAMED: [Turn; 2] = [
     (
         b"ann",
@@ -34,13 +35,21 @@ const NAMED: [Turn; 2] = [
         b"range of e is emp\n\
         retrieve (e.name, e.sal)\n\
         retrieve (e.name)\n\
-        delete e\n",
+        delete e\n\
+        retrieve (e.name, e.sal, e.none)\n\
+        retrieve (e.name, e.sal) where e.sal = \"x\"\n\
+        append to emp (name = \"cy\", none = 3)\n\
+        retrieve into two (e.name, n = e.sal, n = e.sal)\n",
         b"refused 23 line 2: no permit\n\
         |name  |\n\
         |------|\n\
         |bo    |\n\
         |------|\n\
-        refused 23 line 4: no permit\n",
+        refused 23 line 4: no permit\n\
+        refused 12 line 5: unknown attribute\n\
+        refused 13 line 6: types differ\n\
+        refused 12 line 7: unknown attribute\n\
+        refused 17 line 8: domain named twice\n",
     ),
 ];
 

@@ -1,0 +1,4 @@
+pub mod Terms
+pub mod Statements
+pub mod Trees
+pub mod Resolved
