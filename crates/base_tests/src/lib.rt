@@ -5,6 +5,10 @@
 #[cfg(test)]
 mod changes;
 #[cfg(test)]
+mod cutting;
+#[cfg(test)]
+mod expanding;
+#[cfg(test)]
 mod levels;
 #[cfg(test)]
 mod making;
@@ -13,10 +17,18 @@ mod new_database;
 #[cfg(test)]
 mod plans;
 #[cfg(test)]
+mod remembered;
+#[cfg(test)]
 mod ruled;
+#[cfg(test)]
+mod said;
+#[cfg(test)]
+mod shown;
 #[cfg(test)]
 mod tower;
 #[cfg(test)]
 mod trees;
+#[cfg(test)]
+mod untold;
 #[cfg(test)]
 mod view_texts;

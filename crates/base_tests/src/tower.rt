@@ -13,29 +13,47 @@ use std::alloc::Global;
 
 /// A base that tells no database. Each name of one letter is that of a view: `a` has no variable, and
 /// the number 3 as its only target; each other has ten variables over the view of the letter before, and
-/// the first attribute of each as a target.
+/// the first attribute of each as a target. Each name has one permit: everybody may read all of it.
 #[derive(Drop)]
-pub(crate) struct Tower;
+pub(crate) struct Tower {
+    /// How often it was asked for what may be a view.
+    pub(crate) views: u32,
+    /// How often it was asked for permits.
+    pub(crate) permits: u32,
+}
 
-fn key_of(alloc: Global, owner: &Name, letter: u8) -> Result<RelKey, OutOfMemory> {
-    let name = match Name::of(alloc, &[letter]) {
+impl Tower {
+    /// It wasn't asked yet.
+    pub(crate) fn new() -> Tower {
+        Tower {
+            views: 0,
+            permits: 0,
+        }
+    }
+}
+
+fn named(alloc: Global, name: &[u8]) -> Result<Name, OutOfMemory> {
+    match Name::of(alloc, name) {
         Ok(Some(name)) => Ok(name),
         _ => Err(OutOfMemory),
-    };
-    match both(owner.copy(alloc), name) {
+    }
+}
+
+fn key_of(alloc: Global, owner: &Name, name: &[u8]) -> Result<RelKey, OutOfMemory> {
+    match both(owner.copy(alloc), named(alloc, name)) {
         Ok((owner, name)) => Ok(RelKey { owner, name }),
         Err(error) => Err(error),
     }
 }
 
 fn target(alloc: Global, term: QTerm) -> Result<Target, OutOfMemory> {
-    match Name::of(alloc, b"t") {
-        Ok(Some(name)) => Ok(Target {
+    match named(alloc, b"t") {
+        Ok(name) => Ok(Target {
             name,
             kind: Kind::Of(Domain::I2),
             term,
         }),
-        _ => Err(OutOfMemory),
+        Err(error) => Err(error),
     }
 }
 
@@ -55,32 +73,52 @@ fn three(alloc: Global) -> Result<Vec<Target>, OutOfMemory> {
     Ok(targets)
 }
 
-/// The key of this letter, ten times.
-fn ten(alloc: Global, owner: &Name, letter: u8) -> Result<Vec<RelKey>, OutOfMemory> {
+/// The key of this name, ten times.
+fn ten(alloc: Global, owner: &Name, name: &[u8]) -> Result<Vec<RelKey>, OutOfMemory> {
     let mut keys = Vec::new(alloc);
     for _ in 0..10u8 {
-        keys.push(key_of(alloc, owner, letter)?)?;
+        keys.push(key_of(alloc, owner, name)?)?;
     }
     Ok(keys)
 }
 
-/// The query of the view of this letter.
-fn query_of(alloc: Global, owner: &Name, letter: u8) -> Result<Query, OutOfMemory> {
-    let parts = if letter == b'a' {
-        both(Ok(Vec::new(alloc)), three(alloc))
-    } else {
-        both(
-            ten(alloc, owner, letter.saturating_sub(1)),
-            first_attributes(alloc),
-        )
-    };
-    match parts {
+/// A query of these targets over these.
+fn query(
+    vars: Result<Vec<RelKey>, OutOfMemory>,
+    targets: Result<Vec<Target>, OutOfMemory>,
+) -> Result<Query, OutOfMemory> {
+    match both(vars, targets) {
         Ok((vars, targets)) => Ok(Query {
             vars: List::of(vars),
             targets: List::of(targets),
             qual: QQual::True,
         }),
         Err(error) => Err(error),
+    }
+}
+
+/// A query of ten variables over what has this name, and of the first attribute of each.
+pub(crate) fn ten_over(alloc: Global, owner: &Name, name: &[u8]) -> Result<Query, OutOfMemory> {
+    query(ten(alloc, owner, name), first_attributes(alloc))
+}
+
+/// The query of the view of this letter.
+fn query_of(alloc: Global, owner: &Name, letter: u8) -> Result<Query, OutOfMemory> {
+    if letter == b'a' {
+        query(Ok(Vec::new(alloc)), three(alloc))
+    } else {
+        ten_over(alloc, owner, &[letter.saturating_sub(1)])
+    }
+}
+
+/// The permit of everybody to read all.
+fn for_everybody(alloc: Global) -> Permit {
+    Permit {
+        number: 1,
+        ops: 1,
+        attrs: List::of(Vec::new(alloc)),
+        user: None,
+        qual: QQual::True,
     }
 }
 
@@ -95,8 +133,11 @@ impl Base for Tower {
 
     ghost scanned = { λ _ _ _ h. absurd (subst (λ o. MatchOption o (Unit {0}) (λ _. ⊥)) h tt) };
 
-    fn dba(&mut self, _alloc: Global) -> Result<Name, BaseFault> {
-        Err(BaseFault::OutOfMemory)
+    fn dba(&mut self, alloc: Global) -> Result<Name, BaseFault> {
+        match named(alloc, b"ann") {
+            Ok(name) => Ok(name),
+            Err(_) => Err(BaseFault::OutOfMemory),
+        }
     }
 
     fn count(&mut self) -> Result<u32, BaseFault> {
@@ -135,6 +176,7 @@ impl Base for Tower {
     }
 
     fn view(&mut self, alloc: Global, key: &RelKey) -> Result<Option<Query>, BaseFault> {
+        self.views = self.views.saturating_add(1);
         let [letter] = key.name.bytes() else {
             return Ok(None);
         };
@@ -149,7 +191,12 @@ impl Base for Tower {
     }
 
     fn permits(&mut self, alloc: Global, _key: &RelKey) -> Result<Vec<Permit>, BaseFault> {
-        Ok(Vec::new(alloc))
+        self.permits = self.permits.saturating_add(1);
+        let mut permits = Vec::new(alloc);
+        match permits.push(for_everybody(alloc)) {
+            Ok(()) => Ok(permits),
+            Err(_) => Err(BaseFault::OutOfMemory),
+        }
     }
 
     fn named_by_view(

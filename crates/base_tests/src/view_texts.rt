@@ -1,4 +1,5 @@
 use crate::changes::{attrs, named, try_lay};
+use crate::shown::{put, put_qual, put_terms, put_vars};
 use crate::tower::Tower;
 use am_traits::Base;
 use calculus::{
@@ -46,14 +47,14 @@ fn compared(said: (Term, CmpOp, Term)) -> QQual {
     }
 }
 
-fn key<R: Abort>(rt: &R, alloc: Global, name: &[u8]) -> RelKey {
+pub(crate) fn key<R: Abort>(rt: &R, alloc: Global, name: &[u8]) -> RelKey {
     RelKey {
         owner: named(rt, alloc, b"ann"),
         name: named(rt, alloc, name),
     }
 }
 
-fn keys<R: Abort>(rt: &R, alloc: Global, names: &[&[u8]]) -> List<RelKey> {
+pub(crate) fn keys<R: Abort>(rt: &R, alloc: Global, names: &[&[u8]]) -> List<RelKey> {
     let mut keys = Vec::new(alloc);
     for name in names {
         keys.push(key(rt, alloc, name)).expect(rt, "memory");
@@ -72,7 +73,7 @@ fn targets<R: Abort>(rt: &R, alloc: Global, said: &Said) -> List<Target> {
     List::of(targets)
 }
 
-fn attr<R: Abort>(rt: &R, alloc: Global, kind: Kind) -> List<Attr> {
+pub(crate) fn attr<R: Abort>(rt: &R, alloc: Global, kind: Kind) -> List<Attr> {
     let mut attrs = Vec::new(alloc);
     let name = named(rt, alloc, b"pnum");
     attrs.push(Attr { name, kind }).expect(rt, "memory");
@@ -109,24 +110,33 @@ fn created<R: Abort>(rt: &R, alloc: Global) -> DbChange {
     }
 }
 
-/// A permit of bob's to read the first two attributes of the parts that have the number 7.
-fn permitted<R: Abort>(rt: &R, alloc: Global) -> DbChange {
+/// A permit of bob's with this number, of the sum of rights `ops`, for attributes at these places, and for
+/// the parts that have this number.
+pub(crate) fn permit_of<R: Abort>(
+    rt: &R,
+    alloc: Global,
+    number: u32,
+    ops: u8,
+    attrs: &[u8],
+    part: i64,
+) -> DbChange {
     let mut places = Vec::new(alloc);
-    places.push(0).expect(rt, "memory");
-    places.push(1).expect(rt, "memory");
+    for place in attrs {
+        places.push(*place).expect(rt, "memory");
+    }
     DbChange::Permit {
         rel: key(rt, alloc, b"parts"),
         permit: Permit {
-            number: 1,
-            ops: 1,
+            number,
+            ops,
             attrs: List::of(places),
             user: Some(named(rt, alloc, b"bob")),
-            qual: compared((Term::Attr(0, 0), CmpOp::Eq, Term::Number(7))),
+            qual: compared((Term::Attr(0, 0), CmpOp::Eq, Term::Number(part))),
         },
     }
 }
 
-fn lay<R: Abort>(rt: &R, alloc: Global, base: &mut DbPlain, change: DbChange) {
+pub(crate) fn lay<R: Abort>(rt: &R, alloc: Global, base: &mut DbPlain, change: DbChange) {
     let laid = try_lay(alloc, base, &change);
     drop(change);
     assert!(rt; laid.expect(rt, "an answer"));
@@ -190,75 +200,16 @@ const VIEWS: [(&[u8], Said); 6] = [
     ),
 ];
 
-/// A database of ann's: `parts`, the permit, and the views.
-fn new_base<R: Abort>(rt: &R, alloc: Global) -> DbPlain {
+/// A database of ann's: `parts`, bob's permit to read the first two attributes of the parts that have the
+/// number 7, and the views.
+pub(crate) fn new_base<R: Abort>(rt: &R, alloc: Global) -> DbPlain {
     let mut base = DbPlain::new(alloc, named(rt, alloc, b"ann"));
     lay(rt, alloc, &mut base, created(rt, alloc));
-    lay(rt, alloc, &mut base, permitted(rt, alloc));
+    lay(rt, alloc, &mut base, permit_of(rt, alloc, 1, 1, &[0, 1], 7));
     for (name, said) in &VIEWS {
         lay(rt, alloc, &mut base, viewed(rt, alloc, name, said));
     }
     base
-}
-
-fn put<R: Abort>(rt: &R, written: &mut Vec<u8>, bytes: &[u8]) {
-    for byte in bytes {
-        written.push(*byte).expect(rt, "memory");
-    }
-}
-
-/// The digit of a number below 10.
-fn digit(number: u8) -> u8 {
-    number.saturating_add(b'0')
-}
-
-fn put_term<R: Abort>(rt: &R, written: &mut Vec<u8>, term: &QTerm) {
-    match term {
-        QTerm::Int(number) => match u8::try_from(*number) {
-            Ok(number) => put(rt, written, &[digit(number)]),
-            Err(_) => put(rt, written, b"?"),
-        },
-        QTerm::Attr { var, attr } => put(rt, written, &[digit(*var), b'.', digit(*attr)]),
-        _ => put(rt, written, b"?"),
-    }
-}
-
-fn sign(op: CmpOp) -> &'static [u8] {
-    match op {
-        CmpOp::Eq => b"=",
-        CmpOp::Gt => b">",
-        _ => b"?",
-    }
-}
-
-fn put_qual<R: Abort>(rt: &R, written: &mut Vec<u8>, qual: &QQual) {
-    match qual {
-        QQual::True => put(rt, written, b"true"),
-        QQual::Cmp { op, left, right } => {
-            put_term(rt, written, left);
-            put(rt, written, sign(*op));
-            put_term(rt, written, right);
-        }
-        QQual::Not(inner) => {
-            put(rt, written, b"not ");
-            put_qual(rt, written, inner.get());
-        }
-        _ => put(rt, written, b"?"),
-    }
-}
-
-fn put_vars<R: Abort>(rt: &R, written: &mut Vec<u8>, keys: &[RelKey]) {
-    for key in keys {
-        put(rt, written, key.name.bytes());
-        put(rt, written, b" ");
-    }
-}
-
-fn put_terms<R: Abort>(rt: &R, written: &mut Vec<u8>, terms: &[QTerm]) {
-    for term in terms {
-        put(rt, written, b" ");
-        put_term(rt, written, term);
-    }
 }
 
 fn put_conditions<R: Abort>(rt: &R, written: &mut Vec<u8>, conditions: &[QQual]) {
@@ -363,7 +314,7 @@ fn a_text_is_over_relations_with_what_is_permitted(rt: HostRuntime) {
 /// The text of the view of this letter, through so many levels.
 fn in_tower<R: Abort>(rt: &R, alloc: Global, letter: &[u8], levels: u8) -> Vec<u8> {
     let key = key(rt, alloc, letter);
-    let answer = text_within(alloc, &mut Tower, None, &key, &[0], levels);
+    let answer = text_within(alloc, &mut Tower::new(), None, &key, &[0], levels);
     let mut written = Vec::new(alloc);
     put_answer(rt, &mut written, &answer);
     written

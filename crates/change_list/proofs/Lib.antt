@@ -1,7 +1,8 @@
-mod After
+pub mod After
 mod Contended
 mod Differing
 mod InOrder
-mod Moved
+pub mod Joined
+pub mod Moved
 mod NewRows
 mod Searched

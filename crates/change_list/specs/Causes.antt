@@ -13,3 +13,9 @@ abbrev pub IsCause : List Row → List Pair → ChangeFault → Type 0
 IsCause rows ps (Contended old first second) = IsTrue (contended ps) × IsLeastContention ps old first second
 IsCause rows ps (TooMany count) = IsFalse (contended ps) × (count ≡ length (after rows ps)) × (most_rows < count)
 IsCause rows ps OutOfMemory = ⊤
+
+-- the cause of a fault that the pairs alone have: an old row has different new rows, and the fault carries the least contention; want of memory has none
+abbrev pub IsContention : List Pair → ChangeFault → Type 0
+IsContention ps (Contended old first second) = IsTrue (contended ps) × IsLeastContention ps old first second
+IsContention ps (TooMany count) = ⊥
+IsContention ps OutOfMemory = ⊤

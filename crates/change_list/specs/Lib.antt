@@ -1,4 +1,5 @@
 pub mod Causes
 pub mod Contention
 pub mod Moves
+pub mod Parts
 pub mod Replacements

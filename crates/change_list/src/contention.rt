@@ -1,11 +1,15 @@
 //! Old rows with different new rows.
 
-ghost use Rattle.std.specs.Prelude.{IfOk, IfSome, IfNone};
-ghost use Rattle.change_list.specs.Replacements.{IsFirstShared, SharesNone};
+ghost use Rattle.std.specs.Prelude.{List, IfOk, IfErr, IfSome, IfNone, IsFalse, OnOk};
+ghost use Rattle.std.specs.List.Sorted.{IsStrictlySortedBy};
+ghost use Rattle.calculus.specs.declared.change.Pair.{Pair};
+ghost use Rattle.calculus.specs.Replacement.{contended};
+ghost use Rattle.change_list.specs.Replacements.{both_cmp, AreReplacements, IsFirstShared, SharesNone};
+ghost use Rattle.change_list.specs.Causes.{IsContention};
 ghost use Rattle.change_list.specs.Contention.{IsFound};
 
-use crate::replacements::sorted_replacements;
-use calculus::{OutOfMemory, Pair, Row, TryCopy};
+use crate::ChangeFault;
+use calculus::{OutOfMemory, Row, TryCopy};
 use memory::both;
 use std::alloc::Global;
 
@@ -33,12 +37,13 @@ fn first_shared(all: &[(Row, Row)]) -> Option<usize>
     None
 }
 
-/// The least old row that has different new rows, and the two least of these.
-pub fn least_contention(alloc: Global, pairs: &[Pair]) -> Result<Option<Contention>, OutOfMemory>
-    ensures { IfOk result (IsFound pairs.now) }
+/// The least old row that has different new rows, and the two least of these, where these are the
+/// replacements among some pairs, in order.
+fn least_contention(alloc: Global, all: &[(Row, Row)]) -> Result<Option<Contention>, OutOfMemory>
+    requires { IsStrictlySortedBy both_cmp all.now }
+    ensures { (ps : List Pair) → AreReplacements ps all.now → IfOk result (IsFound ps) }
 {
-    let all = sorted_replacements(alloc, pairs)?;
-    let Some(place) = first_shared(&all) else {
+    let Some(place) = first_shared(all) else {
         return Ok(None);
     };
     let least = &all[place];
@@ -46,4 +51,20 @@ pub fn least_contention(alloc: Global, pairs: &[Pair]) -> Result<Option<Contenti
     let rows = both(least.1.copy(alloc), next.1.copy(alloc));
     let (old, (first, second)) = both(least.0.copy(alloc), rows)?;
     Ok(Some(Contention { old, first, second }))
+}
+
+/// Refuses replacements, in order, where an old row has different new rows.
+pub fn refuse_contended(alloc: Global, all: &[(Row, Row)]) -> Result<(), ChangeFault>
+    requires { IsStrictlySortedBy both_cmp all.now }
+    ensures uncontended { (ps : List Pair) → AreReplacements ps all.now → OnOk result (IsFalse (contended ps)) }
+    ensures cause { (ps : List Pair) → AreReplacements ps all.now → IfErr result (IsContention ps) }
+{
+    match least_contention(alloc, all) {
+        Ok(None) => Ok(()),
+        Ok(Some(contention)) => {
+            let Contention { old, first, second } = contention;
+            Err(ChangeFault::Contended { old, first, second })
+        }
+        Err(OutOfMemory) => Err(ChangeFault::OutOfMemory),
+    }
 }

@@ -1,73 +1,36 @@
 //! The rows that go and those that come.
 
-ghost use Rattle.std.specs.Prelude.{◌≡◌, ◌&&◌, not, filter, IfOk};
+ghost use Rattle.std.specs.Prelude.{◌≡◌, ◌&&◌, not, filter};
 ghost use Rattle.calculus.specs.Rows.{has, set_of};
-ghost use Rattle.calculus.specs.Replacement.{old_rows, new_rows, without_rows};
-ghost use Rattle.change_list.specs.Moves.{IsChange};
+ghost use Rattle.calculus.specs.Replacement.{without_rows};
 
-use calculus::{Change, OutOfMemory, Pair, Row, RowSet, TryCopy};
-use memory::both;
-use std::alloc::Global;
+use calculus::{Change, Row, RowSet};
 
-/// The set of the old rows of the pairs.
-fn old_rows(alloc: Global, pairs: &[Pair]) -> Result<RowSet, OutOfMemory>
-    ensures { IfOk result (λ rows. rows ≡ set_of (old_rows pairs.now)) }
+/// Those of these rows that are in no others. Takes no memory.
+pub fn without(rows: RowSet, others: &RowSet) -> RowSet
+    ensures { result ≡ without_rows others.now rows }
 {
-    let mut rows = Vec::new(alloc);
-    for pair in pairs {
-        if let Some(row) = &pair.old {
-            rows.push(row.copy(alloc)?)?;
-        }
-    }
-    Ok(RowSet::of_rows(rows))
+    let mut rows = rows.into_rows();
+    rows.retain(|row| !others.has(row));
+    RowSet::of_rows(rows)
 }
 
-/// The set of the new rows of the pairs.
-fn new_rows(alloc: Global, pairs: &[Pair]) -> Result<RowSet, OutOfMemory>
-    ensures { IfOk result (λ rows. rows ≡ set_of (new_rows pairs.now)) }
+/// Those of these rows that are in others, too. Takes no memory.
+fn among(rows: RowSet, others: &RowSet) -> RowSet
+    ensures { result ≡ filter (has others.now) rows }
 {
-    let mut rows = Vec::new(alloc);
-    for pair in pairs {
-        if let Some(row) = &pair.new {
-            rows.push(row.copy(alloc)?)?;
-        }
-    }
-    Ok(RowSet::of_rows(rows))
+    let mut rows = rows.into_rows();
+    rows.retain(|row| others.has(row));
+    RowSet::of_rows(rows)
 }
 
-/// Those of the rows that are old and not new.
-fn that_go(alloc: Global, rows: &[Row], old: &RowSet, new: &RowSet) -> Result<RowSet, OutOfMemory>
-    ensures { IfOk result (λ go. go ≡ set_of (filter (λ row. has old.now row && not (has new.now row)) rows.now)) }
+/// The change of the rows where these are the old rows and these the new ones.
+pub fn change_of(rows: &RowSet, old: RowSet, new: RowSet) -> Change
+    ensures removed { result.remove ≡ filter (has rows.now) (without_rows new old) }
+    ensures added { result.add ≡ without_rows rows.now new }
 {
-    let mut go = Vec::new(alloc);
-    for row in rows {
-        if old.has(row) && !new.has(row) {
-            go.push(row.copy(alloc)?)?;
-        }
-    }
-    Ok(RowSet::of_rows(go))
-}
-
-/// The new rows that are not there.
-fn that_come(alloc: Global, rows: &RowSet, new: Vec<Row>) -> Result<RowSet, OutOfMemory>
-    ensures { IfOk result (λ come. come ≡ set_of (without_rows rows.now new.items)) }
-{
-    let mut come = Vec::new(alloc);
-    for row in new {
-        if !rows.has(&row) {
-            come.push(row)?;
-        }
-    }
-    Ok(RowSet::of_rows(come))
-}
-
-/// The change that the pairs make of the rows.
-pub fn change_of(alloc: Global, rows: &RowSet, pairs: &[Pair]) -> Result<Change, OutOfMemory>
-    ensures { IfOk result (IsChange rows.now pairs.now) }
-{
-    let (old, new) = both(old_rows(alloc, pairs), new_rows(alloc, pairs))?;
-    let remove = that_go(alloc, rows.rows(), &old, &new);
-    let add = that_come(alloc, rows, new.into_rows());
-    let (remove, add) = both(remove, add)?;
-    Ok(Change { remove, add })
+    let going = without(old, &new);
+    let remove = among(going, rows);
+    let add = without(new, rows);
+    Change { remove, add }
 }

@@ -11,6 +11,7 @@ ghost use Rattle.calculus.specs.declared.query.QAgg.{QAgg as Aggregate};
 ghost use Rattle.quel_meaning.specs.FitQueries.{kept_or_viewed, source_fits, sources_fit};
 ghost use Rattle.view_expand.specs.Asking.{who_of};
 ghost use Rattle.view_expand.specs.Causes.{HasCause};
+ghost use Rattle.view_expand.specs.Found.{IsFound};
 ghost use Rattle.view_expand.specs.declared.fault.TextFault.TheVariants.{OutOfMemory as NoMemory};
 ghost use Rattle.view_text.specs.Halves.{all_of};
 ghost use Rattle.view_text.specs.PutIn.{put_aggregate};
@@ -24,7 +25,7 @@ use am_traits::Base;
 use calculus::{AggSource, List, Name, OutOfMemory, QAgg, QQual, QTerm, Query, TryCopy};
 use memory::{both, copies};
 use std::alloc::Global;
-use view_expand::TextFault;
+use view_expand::{TextFault, TextsFound};
 use view_sizes::aggregates_of;
 use view_text::{Text, all_of, put_term};
 
@@ -123,18 +124,21 @@ fn put_aggregate<B: Base>(
     who: Option<&Name>,
     g: &QAgg,
     texts: &[Text],
+    found: &mut TextsFound,
 ) -> Result<QAgg, TextFault>
     requires source { (db : Db) → B.database base.old ≡ Some db → source_fits (kept_or_viewed db) db g.now.source ≡ true }
     requires scoped { list_all is_scoped texts.now ≡ true }
     requires fits { length (texts_vars texts.now) ≤ 256 }
+    requires found { (db : Db) → B.database base.old ≡ Some db → IsFound db (who_of (option_map (λ n. n.now) who)) found.old }
     ensures told { (db : Db) → B.database base.old ≡ Some db → IfOk result (λ made. made ≡ put_aggregate db (who_of (option_map (λ n. n.now) who.entry)) (put_from 0 texts.now) g.now) }
     ensures permitted { (db : Db) → B.database base.old ≡ Some db → OnOk result (source_permitted (readable db (who_of (option_map (λ n. n.now) who.entry))) (used_in_aggregate g.now) g.now.source ≡ true) }
+    ensures found { (db : Db) → B.database base.old ≡ Some db → IsFound db (who_of (option_map (λ n. n.now) who.entry)) found.new }
     ensures kept { B.database base.new ≡ B.database base.old }
     ensures same { B.left base.new ≡ B.left base.old }
     ensures cause { HasCause (λ db. source_permitted (readable db (who_of (option_map (λ n. n.now) who.entry))) (used_in_aggregate g.now) g.now.source ≡ false) (B.database base.old) (B.faults base.old) (B.faults base.new) result }
 {
     let attrs = aggregate_uses(alloc, g)?;
-    match put_source(alloc, base, who, &g.source, &attrs) {
+    match put_source(alloc, base, who, &g.source, &attrs, found) {
         Ok((source, condition)) => match aggregate_over(alloc, g, texts, source, condition) {
             Ok(made) => Ok(made),
             Err(_) => Err(TextFault::OutOfMemory),
@@ -162,18 +166,21 @@ fn put_all<B: Base>(
     aggregates: &[&QAgg],
     texts: &[Text],
     made: &mut Vec<QAgg>,
+    found: &mut TextsFound,
 ) -> Result<(), TextFault>
     requires sources { (db : Db) → B.database base.old ≡ Some db → list_all (λ g. source_fits (kept_or_viewed db) db g.now.source) aggregates.now ≡ true }
     requires scoped { list_all is_scoped texts.now ≡ true }
     requires fits { length (texts_vars texts.now) ≤ 256 }
+    requires found { (db : Db) → B.database base.old ≡ Some db → IsFound db (who_of (option_map (λ n. n.now) who)) found.old }
     ensures told { (db : Db) → B.database base.old ≡ Some db → OnOk result (made.new.items ≡ made.old.items ++ map (λ g. put_aggregate db (who_of (option_map (λ n. n.now) who.entry)) (put_from 0 texts.now) g.now) aggregates.now) }
     ensures permitted { (db : Db) → B.database base.old ≡ Some db → OnOk result (list_all (λ g. source_permitted (readable db (who_of (option_map (λ n. n.now) who.entry))) (used_in_aggregate g.now) g.now.source) aggregates.now ≡ true) }
+    ensures found { (db : Db) → B.database base.old ≡ Some db → IsFound db (who_of (option_map (λ n. n.now) who.entry)) found.new }
     ensures kept { B.database base.new ≡ B.database base.old }
     ensures same { B.left base.new ≡ B.left base.old }
     ensures cause { HasCause (λ db. list_all (λ g. source_permitted (readable db (who_of (option_map (λ n. n.now) who.entry))) (used_in_aggregate g.now) g.now.source) aggregates.now ≡ false) (B.database base.old) (B.faults base.old) (B.faults base.new) result }
 {
     for aggregate in aggregates {
-        match put_aggregate(alloc, base, who, *aggregate, texts) {
+        match put_aggregate(alloc, base, who, *aggregate, texts, found) {
             Ok(one) => put_behind(made, one)?,
             Err(error) => return Err(error),
         }
@@ -190,19 +197,22 @@ pub(crate) fn put_aggregates<B: Base>(
     who: Option<&Name>,
     query: &Query,
     texts: &[Text],
+    found: &mut TextsFound,
 ) -> Result<Vec<QAgg>, TextFault>
     requires sources { (db : Db) → B.database base.old ≡ Some db → sources_fit (kept_or_viewed db) db query.now ≡ true }
     requires scoped { list_all is_scoped texts.now ≡ true }
     requires fits { length (texts_vars texts.now) ≤ 256 }
+    requires found { (db : Db) → B.database base.old ≡ Some db → IsFound db (who_of (option_map (λ n. n.now) who)) found.old }
     ensures told { (db : Db) → B.database base.old ≡ Some db → IfOk result (λ made. made.items ≡ map (put_aggregate db (who_of (option_map (λ n. n.now) who.entry)) (put_from 0 texts.now)) (query_aggregates query.now)) }
     ensures permitted { (db : Db) → B.database base.old ≡ Some db → OnOk result (aggregates_permitted (readable db (who_of (option_map (λ n. n.now) who.entry))) query.now ≡ true) }
+    ensures found { (db : Db) → B.database base.old ≡ Some db → IsFound db (who_of (option_map (λ n. n.now) who.entry)) found.new }
     ensures kept { B.database base.new ≡ B.database base.old }
     ensures same { B.left base.new ≡ B.left base.old }
     ensures cause { HasCause (λ db. aggregates_permitted (readable db (who_of (option_map (λ n. n.now) who.entry))) query.now ≡ false) (B.database base.old) (B.faults base.old) (B.faults base.new) result }
 {
     let aggregates = aggregates_of(alloc, query)?;
     let mut made = Vec::new(alloc);
-    match put_all(alloc, base, who, &aggregates, texts, &mut made) {
+    match put_all(alloc, base, who, &aggregates, texts, &mut made, found) {
         Ok(()) => Ok(made),
         Err(error) => Err(error),
     }

@@ -10,6 +10,7 @@ ghost use Rattle.calculus.specs.Rights.{Append, permitted};
 ghost use Rattle.cut_rules.specs.Placed.{changed_by, read_permitted};
 ghost use Rattle.view_expand.specs.Asking.{right_of, who_of};
 ghost use Rattle.view_expand.specs.Causes.{HasCause as HasTextCause};
+ghost use Rattle.view_expand.specs.Found.{IsFound};
 ghost use Rattle.view_expand.specs.declared.fault.TextFault.TheVariants.{OutOfMemory as NoTextMemory};
 ghost use Rattle.view_text.specs.Halves.{all_of};
 ghost use Rattle.view_text.specs.PutIn.{changed_text, read_cut};
@@ -19,7 +20,7 @@ ghost use Rattle.view_text.specs.TextOf.{cut, kept_text};
 use am_traits::Base;
 use calculus::{List, Name, OutOfMemory, QQual, RelKey, TryCopy, Update, UpdateOp};
 use std::alloc::Global;
-use view_expand::{Right, TextFault, cut};
+use view_expand::{Right, TextFault, TextsFound, cut_remembering};
 use view_text::{Text, all_of};
 
 /// The right to change the variable at a place; `None` where its rows stay.
@@ -68,15 +69,18 @@ pub(crate) fn put_cut<B: Base>(
     attrs: &[u8],
     key: &RelKey,
     conditions: &mut Vec<QQual>,
+    found: &mut TextsFound,
 ) -> Result<(), TextFault>
+    requires found { (db : Db) → B.database base.old ≡ Some db → IsFound db (who_of (option_map (λ n. n.now) who)) found.old }
     ensures told { (db : Db) → B.database base.old ≡ Some db → OnOk result (conditions.new.items ≡ conditions.old.items ++ cut db (who_of (option_map (λ n. n.now) who.entry)) (right_of right) attrs.now key.now) }
     ensures permitted { (db : Db) → B.database base.old ≡ Some db → OnOk result (permitted db (who_of (option_map (λ n. n.now) who.entry)) (right_of right) attrs.now key.now ≡ true) }
     ensures within { list_all (is_qual_within 1) conditions.old.items ≡ true → OnOk result (list_all (is_qual_within 1) conditions.new.items ≡ true) }
+    ensures found { (db : Db) → B.database base.old ≡ Some db → IsFound db (who_of (option_map (λ n. n.now) who.entry)) found.new }
     ensures kept { B.database base.new ≡ B.database base.old }
     ensures same { B.left base.new ≡ B.left base.old }
     ensures cause { HasTextCause (λ db. permitted db (who_of (option_map (λ n. n.now) who.entry)) (right_of right) attrs.now key.now ≡ false) (B.database base.old) (B.faults base.old) (B.faults base.new) result }
 {
-    match cut(alloc, base, who, right, attrs, key) {
+    match cut_remembering(alloc, base, who, right, attrs, key, found) {
         Ok(condition) => match put_condition(condition, conditions) {
             Ok(()) => Ok(()),
             Err(_) => Err(TextFault::OutOfMemory),
@@ -92,18 +96,21 @@ fn put_read_cut<B: Base>(
     who: Option<&Name>,
     read: &[u8],
     key: &RelKey,
-    conditions: &mut Vec<QQual>,
+    quals: &mut Vec<QQual>,
+    found: &mut TextsFound,
 ) -> Result<(), TextFault>
-    ensures told { (db : Db) → B.database base.old ≡ Some db → OnOk result (conditions.new.items ≡ conditions.old.items ++ read_cut db (who_of (option_map (λ n. n.now) who.entry)) read.now key.now) }
+    requires found { (db : Db) → B.database base.old ≡ Some db → IsFound db (who_of (option_map (λ n. n.now) who)) found.old }
+    ensures told { (db : Db) → B.database base.old ≡ Some db → OnOk result (quals.new.items ≡ quals.old.items ++ read_cut db (who_of (option_map (λ n. n.now) who.entry)) read.now key.now) }
     ensures permitted { (db : Db) → B.database base.old ≡ Some db → OnOk result (read_permitted db (who_of (option_map (λ n. n.now) who.entry)) read.now key.now ≡ true) }
-    ensures within { list_all (is_qual_within 1) conditions.old.items ≡ true → OnOk result (list_all (is_qual_within 1) conditions.new.items ≡ true) }
+    ensures within { list_all (is_qual_within 1) quals.old.items ≡ true → OnOk result (list_all (is_qual_within 1) quals.new.items ≡ true) }
+    ensures found { (db : Db) → B.database base.old ≡ Some db → IsFound db (who_of (option_map (λ n. n.now) who.entry)) found.new }
     ensures kept { B.database base.new ≡ B.database base.old }
     ensures same { B.left base.new ≡ B.left base.old }
     ensures cause { HasTextCause (λ db. read_permitted db (who_of (option_map (λ n. n.now) who.entry)) read.now key.now ≡ false) (B.database base.old) (B.faults base.old) (B.faults base.new) result }
 {
     match read {
         [] => Ok(()),
-        [_, ..] => put_cut(alloc, base, who, Right::Retrieve, read, key, conditions),
+        [_, ..] => put_cut(alloc, base, who, Right::Retrieve, read, key, quals, found),
     }
 }
 
@@ -117,16 +124,19 @@ fn put_cuts<B: Base>(
     read: &[u8],
     key: &RelKey,
     conditions: &mut Vec<QQual>,
+    found: &mut TextsFound,
 ) -> Result<(), TextFault>
+    requires found { (db : Db) → B.database base.old ≡ Some db → IsFound db (who_of (option_map (λ n. n.now) who)) found.old }
     ensures told { (db : Db) → B.database base.old ≡ Some db → OnOk result (conditions.new.items ≡ conditions.old.items ++ (cut db (who_of (option_map (λ n. n.now) who.entry)) (right_of right) places.now key.now ++ read_cut db (who_of (option_map (λ n. n.now) who.entry)) read.now key.now)) }
     ensures permitted { (db : Db) → B.database base.old ≡ Some db → OnOk result (change_permitted db (who_of (option_map (λ n. n.now) who.entry)) (right_of right) places.now key.now read.now ≡ true) }
     ensures within { list_all (is_qual_within 1) conditions.old.items ≡ true → OnOk result (list_all (is_qual_within 1) conditions.new.items ≡ true) }
+    ensures found { (db : Db) → B.database base.old ≡ Some db → IsFound db (who_of (option_map (λ n. n.now) who.entry)) found.new }
     ensures kept { B.database base.new ≡ B.database base.old }
     ensures same { B.left base.new ≡ B.left base.old }
     ensures cause { HasTextCause (λ db. change_permitted db (who_of (option_map (λ n. n.now) who.entry)) (right_of right) places.now key.now read.now ≡ false) (B.database base.old) (B.faults base.old) (B.faults base.new) result }
 {
-    match put_cut(alloc, base, who, right, places, key, conditions) {
-        Ok(()) => put_read_cut(alloc, base, who, read, key, conditions),
+    match put_cut(alloc, base, who, right, places, key, conditions, found) {
+        Ok(()) => put_read_cut(alloc, base, who, read, key, conditions, found),
         Err(fault) => Err(fault),
     }
 }
@@ -174,16 +184,29 @@ pub(crate) fn changed_text<B: Base>(
     places: &[u8],
     read: &[u8],
     key: &RelKey,
+    found: &mut TextsFound,
 ) -> Result<Text, TextFault>
+    requires found { (db : Db) → B.database base.old ≡ Some db → IsFound db (who_of (option_map (λ n. n.now) who)) found.old }
     ensures told { (db : Db) → B.database base.old ≡ Some db → IfOk result (λ text. text ≡ changed_text db (who_of (option_map (λ n. n.now) who.entry)) (right_of right) places.now read.now key.now) }
     ensures permitted { (db : Db) → B.database base.old ≡ Some db → OnOk result (change_permitted db (who_of (option_map (λ n. n.now) who.entry)) (right_of right) places.now key.now read.now ≡ true) }
     ensures scoped { IfOk result (λ text. is_scoped text ≡ true) }
+    ensures found { (db : Db) → B.database base.old ≡ Some db → IsFound db (who_of (option_map (λ n. n.now) who.entry)) found.new }
     ensures kept { B.database base.new ≡ B.database base.old }
     ensures same { B.left base.new ≡ B.left base.old }
     ensures cause { HasTextCause (λ db. change_permitted db (who_of (option_map (λ n. n.now) who.entry)) (right_of right) places.now key.now read.now ≡ false) (B.database base.old) (B.faults base.old) (B.faults base.new) result }
 {
     let mut conditions = Vec::new(alloc);
-    match put_cuts(alloc, base, who, right, places, read, key, &mut conditions) {
+    match put_cuts(
+        alloc,
+        base,
+        who,
+        right,
+        places,
+        read,
+        key,
+        &mut conditions,
+        found,
+    ) {
         Ok(()) => kept(alloc, key, conditions),
         Err(fault) => Err(fault),
     }
@@ -209,9 +232,12 @@ pub(crate) fn appended_cut<B: Base>(
     base: &mut B,
     who: Option<&Name>,
     u: &Update,
+    found: &mut TextsFound,
 ) -> Result<QQual, TextFault>
+    requires found { (db : Db) → B.database base.old ≡ Some db → IsFound db (who_of (option_map (λ n. n.now) who)) found.old }
     ensures told { (db : Db) → B.database base.old ≡ Some db → IfOk result (λ q. q ≡ all_of (u.now.new_cut ∷ cut db (who_of (option_map (λ n. n.now) who.entry)) Append u.now.places u.now.rel)) }
     ensures permitted { (db : Db) → B.database base.old ≡ Some db → OnOk result (permitted db (who_of (option_map (λ n. n.now) who.entry)) Append u.now.places u.now.rel ≡ true) }
+    ensures found { (db : Db) → B.database base.old ≡ Some db → IsFound db (who_of (option_map (λ n. n.now) who.entry)) found.new }
     ensures kept { B.database base.new ≡ B.database base.old }
     ensures same { B.left base.new ≡ B.left base.old }
     ensures cause { HasTextCause (λ db. permitted db (who_of (option_map (λ n. n.now) who.entry)) Append u.now.places u.now.rel ≡ false) (B.database base.old) (B.faults base.old) (B.faults base.new) result }
@@ -228,6 +254,7 @@ pub(crate) fn appended_cut<B: Base>(
         u.places.items(),
         &u.rel,
         &mut quals,
+        found,
     ) {
         Ok(()) => match all_of(alloc, quals) {
             Ok(q) => Ok(q),

@@ -14,6 +14,7 @@ ghost use Rattle.quel_meaning.specs.FitQueries.{asked_fits, kept_or_viewed};
 ghost use Rattle.quel_meaning.specs.Meaning.{checked_permitted, tree_meaning};
 ghost use Rattle.quel_meaning.specs.Shelf.{Shelf};
 ghost use Rattle.view_expand.specs.Asking.{who_of};
+ghost use Rattle.view_expand.specs.Found.{IsFound};
 ghost use Rattle.view_text.specs.PutIn.{put_in_asked, put_in_tree};
 
 use crate::CutFault;
@@ -22,6 +23,7 @@ use crate::updates::put_in_update;
 use am_traits::Base;
 use calculus::{Asked, Checked, List, Name, TryCopy};
 use std::alloc::Global;
+use view_expand::TextsFound;
 
 /// Puts the query that is asked, with the texts of its variables put in, behind those that are there.
 fn put_asked<B: Base>(
@@ -30,15 +32,18 @@ fn put_asked<B: Base>(
     who: Option<&Name>,
     asked: &Asked,
     made: &mut Vec<Asked>,
+    found: &mut TextsFound,
 ) -> Result<(), CutFault>
-    requires { (db : Db) → B.database base.old ≡ Some db → asked_fits (kept_or_viewed db) db asked.now ≡ true }
+    requires fit { (db : Db) → B.database base.old ≡ Some db → asked_fits (kept_or_viewed db) db asked.now ≡ true }
+    requires found { (db : Db) → B.database base.old ≡ Some db → IsFound db (who_of (option_map (λ n. n.now) who)) found.old }
     ensures told { (db : Db) → B.database base.old ≡ Some db → OnOk result (made.new.items ≡ made.old.items ++ put_in_asked db (who_of (option_map (λ n. n.now) who.entry)) asked.now ∷ []) }
     ensures permitted { (db : Db) → B.database base.old ≡ Some db → OnOk result (query_permitted db (who_of (option_map (λ n. n.now) who.entry)) asked.now.query ≡ true) }
+    ensures found { (db : Db) → B.database base.old ≡ Some db → IsFound db (who_of (option_map (λ n. n.now) who.entry)) found.new }
     ensures kept { B.database base.new ≡ B.database base.old }
     ensures same { B.left base.new ≡ B.left base.old }
     ensures cause { HasCause (λ db var. (query_permitted db (who_of (option_map (λ n. n.now) who.entry)) asked.now.query ≡ false) × IsRefusedIn db (who_of (option_map (λ n. n.now) who.entry)) asked.now.query var) (B.database base.old) (B.faults base.old) (B.faults base.new) result }
 {
-    match put_in(alloc, base, who, &asked.query) {
+    match put_in(alloc, base, who, &asked.query, found) {
         Ok(query) => match asked.sort.copy(alloc) {
             Ok(sort) => match made.push(Asked { query, sort }) {
                 Ok(()) => Ok(()),
@@ -57,17 +62,20 @@ fn put_all_asked<B: Base>(
     who: Option<&Name>,
     asked: &[Asked],
     made: &mut Vec<Asked>,
+    found: &mut TextsFound,
 ) -> Result<(), CutFault>
-    requires { (db : Db) → B.database base.old ≡ Some db → list_all (asked_fits (kept_or_viewed db) db) asked.now ≡ true }
+    requires fit { (db : Db) → B.database base.old ≡ Some db → list_all (asked_fits (kept_or_viewed db) db) asked.now ≡ true }
+    requires found { (db : Db) → B.database base.old ≡ Some db → IsFound db (who_of (option_map (λ n. n.now) who)) found.old }
     ensures told { (db : Db) → B.database base.old ≡ Some db → OnOk result (made.new.items ≡ made.old.items ++ map (put_in_asked db (who_of (option_map (λ n. n.now) who.entry))) asked.now) }
     ensures permitted { (db : Db) → B.database base.old ≡ Some db → OnOk result (list_all (λ a. query_permitted db (who_of (option_map (λ n. n.now) who.entry)) a.query) asked.now ≡ true) }
+    ensures found { (db : Db) → B.database base.old ≡ Some db → IsFound db (who_of (option_map (λ n. n.now) who.entry)) found.new }
     ensures kept { B.database base.new ≡ B.database base.old }
     ensures same { B.left base.new ≡ B.left base.old }
     ensures cause { HasCause (λ db var. (list_all (λ a. query_permitted db (who_of (option_map (λ n. n.now) who.entry)) a.query) asked.now ≡ false) × ((a : AskedFor) × (Contains asked.now a) × IsRefusedIn db (who_of (option_map (λ n. n.now) who.entry)) a.query var)) (B.database base.old) (B.faults base.old) (B.faults base.new) result }
 {
     let mut rest = asked;
     'asked: while let Some((first, others)) = rest.split_first() {
-        put_asked(alloc, base, who, first, made)?;
+        put_asked(alloc, base, who, first, made, found)?;
         rest = others;
     }
     Ok(())
@@ -79,16 +87,19 @@ fn asked_tree<B: Base>(
     base: &mut B,
     who: Option<&Name>,
     asked: &[Asked],
+    found: &mut TextsFound,
 ) -> Result<Checked, CutFault>
-    requires { (db : Db) → B.database base.old ≡ Some db → list_all (asked_fits (kept_or_viewed db) db) asked.now ≡ true }
+    requires fit { (db : Db) → B.database base.old ≡ Some db → list_all (asked_fits (kept_or_viewed db) db) asked.now ≡ true }
+    requires found { (db : Db) → B.database base.old ≡ Some db → IsFound db (who_of (option_map (λ n. n.now) who)) found.old }
     ensures told { (db : Db) → B.database base.old ≡ Some db → IfOk result (λ made. made ≡ Answer (map (put_in_asked db (who_of (option_map (λ n. n.now) who.entry))) asked.now)) }
     ensures permitted { (db : Db) → B.database base.old ≡ Some db → OnOk result (list_all (λ a. query_permitted db (who_of (option_map (λ n. n.now) who.entry)) a.query) asked.now ≡ true) }
+    ensures found { (db : Db) → B.database base.old ≡ Some db → IsFound db (who_of (option_map (λ n. n.now) who.entry)) found.new }
     ensures kept { B.database base.new ≡ B.database base.old }
     ensures same { B.left base.new ≡ B.left base.old }
     ensures cause { HasCause (λ db var. (list_all (λ a. query_permitted db (who_of (option_map (λ n. n.now) who.entry)) a.query) asked.now ≡ false) × ((a : AskedFor) × (Contains asked.now a) × IsRefusedIn db (who_of (option_map (λ n. n.now) who.entry)) a.query var)) (B.database base.old) (B.faults base.old) (B.faults base.new) result }
 {
     let mut made = Vec::new(alloc);
-    match put_all_asked(alloc, base, who, asked, &mut made) {
+    match put_all_asked(alloc, base, who, asked, &mut made, found) {
         Ok(()) => Ok(Checked::Answer(List::of(made))),
         Err(fault) => Err(fault),
     }
@@ -100,17 +111,20 @@ fn put_in_tree<B: Base>(
     base: &mut B,
     user: &Name,
     tree: &Checked,
+    found: &mut TextsFound,
 ) -> Result<Checked, CutFault>
-    requires { (db : Db) → B.database base.old ≡ Some db → is_fit_with_views db user.now tree.now ≡ true }
+    requires fit { (db : Db) → B.database base.old ≡ Some db → is_fit_with_views db user.now tree.now ≡ true }
+    requires found { (db : Db) → B.database base.old ≡ Some db → IsFound db (asks user.now) found.old }
     ensures told { (db : Db) → B.database base.old ≡ Some db → IfOk result (λ made. made ≡ put_in_tree db (asks user.now) tree.now) }
     ensures permitted { (db : Db) → B.database base.old ≡ Some db → OnOk result (checked_permitted db (asks user.now) tree.now ≡ true) }
+    ensures found { (db : Db) → B.database base.old ≡ Some db → IsFound db (asks user.now) found.new }
     ensures kept { B.database base.new ≡ B.database base.old }
     ensures same { B.left base.new ≡ B.left base.old }
     ensures cause { HasCause (λ db var. (checked_permitted db (asks user.now) tree.now ≡ false) × IsRefusedBy db (asks user.now) tree.now var) (B.database base.old) (B.faults base.old) (B.faults base.new) result }
 {
     match tree {
-        Checked::Answer(asked) => asked_tree(alloc, base, Some(user), asked.items()),
-        Checked::Update(u) => match put_in_update(alloc, base, Some(user), u) {
+        Checked::Answer(asked) => asked_tree(alloc, base, Some(user), asked.items(), found),
+        Checked::Update(u) => match put_in_update(alloc, base, Some(user), u, found) {
             Ok(u) => Ok(Checked::Update(u)),
             Err(fault) => Err(fault),
         },
@@ -140,5 +154,6 @@ pub fn cut_permits<B: Base>(
     ensures same { B.left base.new ≡ B.left base.old }
     ensures cause { HasCause (λ db var. (checked_permitted db (asks user.now) tree.now ≡ false) × IsRefusedBy db (asks user.now) tree.now var) (B.database base.old) (B.faults base.old) (B.faults base.new) result }
 {
-    put_in_tree(alloc, base, user, tree)
+    let mut found = TextsFound::new(alloc);
+    put_in_tree(alloc, base, user, tree, &mut found)
 }

@@ -16,6 +16,7 @@ use crate::{CutFault, ExpandFault};
 use am_traits::Base;
 use calculus::Query;
 use std::alloc::Global;
+use view_expand::TextsFound;
 use view_sizes::expanded_variables;
 
 /// The variables that may result.
@@ -62,7 +63,8 @@ pub fn expand<B: Base>(alloc: Global, base: &mut B, query: &Query) -> Result<Que
     if vars > MOST_VARIABLES {
         return Err(ExpandFault::TooMany { vars: capped(vars) });
     }
-    match put_in(alloc, base, None, query) {
+    let mut found = TextsFound::new(alloc);
+    match put_in(alloc, base, None, query, &mut found) {
         Ok(made) => Ok(made),
         Err(fault) => Err(unexpanded(fault)),
     }

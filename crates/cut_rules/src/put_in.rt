@@ -10,6 +10,7 @@ ghost use Rattle.cut_rules.specs.Refused.{HasRefusedAggregate, IsRefusedIn};
 ghost use Rattle.cut_rules.specs.declared.fault.CutFault.TheVariants.{OutOfMemory as NoMemory};
 ghost use Rattle.quel_meaning.specs.FitQueries.{kept_or_viewed, reads_fit};
 ghost use Rattle.view_expand.specs.Asking.{who_of};
+ghost use Rattle.view_expand.specs.Found.{IsFound};
 ghost use Rattle.view_text.specs.PutIn.{put_in, put_over, put_query};
 ghost use Rattle.view_text.specs.Replaced.{listed};
 ghost use Rattle.view_text.specs.Scoped.{is_scoped};
@@ -21,6 +22,7 @@ use crate::{CutFault, NO_VARIABLE};
 use am_traits::Base;
 use calculus::{Name, QAgg, Query};
 use std::alloc::Global;
+use view_expand::TextsFound;
 use view_text::{Text, put_whole};
 
 /// The variables that a query may number.
@@ -52,17 +54,20 @@ pub(crate) fn put_over<B: Base>(
     who: Option<&Name>,
     query: &Query,
     texts: &[Text],
+    found: &mut TextsFound,
 ) -> Result<Query, CutFault>
     requires fit { (db : Db) → B.database base.old ≡ Some db → reads_fit (kept_or_viewed db) db query.now ≡ true }
     requires scoped { list_all is_scoped texts.now ≡ true }
     requires fits { length (texts_vars texts.now) ≤ 256 }
+    requires found { (db : Db) → B.database base.old ≡ Some db → IsFound db (who_of (option_map (λ n. n.now) who)) found.old }
     ensures told { (db : Db) → B.database base.old ≡ Some db → IfOk result (λ made. made ≡ put_over db (who_of (option_map (λ n. n.now) who.entry)) texts.now query.now) }
     ensures permitted { (db : Db) → B.database base.old ≡ Some db → OnOk result (aggregates_permitted (readable db (who_of (option_map (λ n. n.now) who.entry))) query.now ≡ true) }
+    ensures found { (db : Db) → B.database base.old ≡ Some db → IsFound db (who_of (option_map (λ n. n.now) who.entry)) found.new }
     ensures kept { B.database base.new ≡ B.database base.old }
     ensures same { B.left base.new ≡ B.left base.old }
     ensures cause { HasCause (λ db var. HasRefusedAggregate db (who_of (option_map (λ n. n.now) who.entry)) query.now var) (B.database base.old) (B.faults base.old) (B.faults base.new) result }
 {
-    match put_aggregates(alloc, base, who, query, texts) {
+    match put_aggregates(alloc, base, who, query, texts, found) {
         Ok(aggregates) => whole(alloc, texts, &aggregates, query),
         Err(fault) => Err(fault_at(fault, NO_VARIABLE)),
     }
@@ -75,12 +80,15 @@ fn put_over_few<B: Base>(
     who: Option<&Name>,
     query: &Query,
     texts: &[Text],
+    found: &mut TextsFound,
 ) -> Result<Query, CutFault>
     requires fit { (db : Db) → B.database base.old ≡ Some db → reads_fit (kept_or_viewed db) db query.now ≡ true }
     requires scoped { list_all is_scoped texts.now ≡ true }
     requires few { (db : Db) → B.database base.old ≡ Some db → length (texts_vars texts.now) ≤ 256 }
+    requires found { (db : Db) → B.database base.old ≡ Some db → IsFound db (who_of (option_map (λ n. n.now) who)) found.old }
     ensures told { (db : Db) → B.database base.old ≡ Some db → IfOk result (λ made. made ≡ put_over db (who_of (option_map (λ n. n.now) who.entry)) texts.now query.now) }
     ensures permitted { (db : Db) → B.database base.old ≡ Some db → OnOk result (aggregates_permitted (readable db (who_of (option_map (λ n. n.now) who.entry))) query.now ≡ true) }
+    ensures found { (db : Db) → B.database base.old ≡ Some db → IsFound db (who_of (option_map (λ n. n.now) who.entry)) found.new }
     ensures kept { B.database base.new ≡ B.database base.old }
     ensures same { B.left base.new ≡ B.left base.old }
     ensures cause { HasCause (λ db var. HasRefusedAggregate db (who_of (option_map (λ n. n.now) who.entry)) query.now var) (B.database base.old) (B.faults base.old) (B.faults base.new) result }
@@ -88,7 +96,7 @@ fn put_over_few<B: Base>(
     if !are_few(texts, PLACES) {
         return Err(CutFault::TooMany);
     }
-    put_over(alloc, base, who, query, texts)
+    put_over(alloc, base, who, query, texts, found)
 }
 
 /// The query with the texts of its variables put in, and those that its aggregates are over. `NoPermit`
@@ -98,18 +106,21 @@ pub(crate) fn put_in<B: Base>(
     base: &mut B,
     who: Option<&Name>,
     query: &Query,
+    found: &mut TextsFound,
 ) -> Result<Query, CutFault>
     requires fit { (db : Db) → B.database base.old ≡ Some db → reads_fit (kept_or_viewed db) db query.now ≡ true }
     requires few { (db : Db) → B.database base.old ≡ Some db → expanded_variables db query.now ≤ 50 }
+    requires found { (db : Db) → B.database base.old ≡ Some db → IsFound db (who_of (option_map (λ n. n.now) who)) found.old }
     ensures told { (db : Db) → B.database base.old ≡ Some db → IfOk result (λ made. made ≡ put_in db (who_of (option_map (λ n. n.now) who.entry)) query.now) }
     ensures permitted { (db : Db) → B.database base.old ≡ Some db → OnOk result (query_permitted db (who_of (option_map (λ n. n.now) who.entry)) query.now ≡ true) }
+    ensures found { (db : Db) → B.database base.old ≡ Some db → IsFound db (who_of (option_map (λ n. n.now) who.entry)) found.new }
     ensures kept { B.database base.new ≡ B.database base.old }
     ensures same { B.left base.new ≡ B.left base.old }
     ensures cause { HasCause (λ db var. (query_permitted db (who_of (option_map (λ n. n.now) who.entry)) query.now ≡ false) × IsRefusedIn db (who_of (option_map (λ n. n.now) who.entry)) query.now var) (B.database base.old) (B.faults base.old) (B.faults base.new) result }
 {
     let mut texts = Vec::new(alloc);
-    match put_texts(alloc, base, who, query, &mut texts) {
-        Ok(()) => put_over_few(alloc, base, who, query, &texts),
+    match put_texts(alloc, base, who, query, &mut texts, found) {
+        Ok(()) => put_over_few(alloc, base, who, query, &texts, found),
         Err(fault) => Err(fault),
     }
 }

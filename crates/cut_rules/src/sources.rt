@@ -14,13 +14,14 @@ ghost use Rattle.calculus.specs.declared.query.AggSource.{Named};
 ghost use Rattle.quel_meaning.specs.FitQueries.{kept_or_viewed, source_fits};
 ghost use Rattle.view_expand.specs.Asking.{who_of};
 ghost use Rattle.view_expand.specs.Causes.{HasCause};
+ghost use Rattle.view_expand.specs.Found.{IsFound};
 ghost use Rattle.view_text.specs.PutIn.{put_plain, put_range, put_source, range_cut, source_cut};
 ghost use Rattle.view_text.specs.TextOf.{cut, text_within};
 
 use am_traits::Base;
 use calculus::{AggSource, Boxed, Name, OutOfMemory, QQual, Query, RelKey, TryCopy};
 use std::alloc::Global;
-use view_expand::{Right, TextFault, cut, put_plain};
+use view_expand::{Right, TextFault, TextsFound, cut_remembering, put_plain_remembering};
 
 /// The levels of views that are looked through at most.
 const GREATEST_LEVEL: u8 = 16;
@@ -45,17 +46,20 @@ fn rows_source<B: Base>(
     who: Option<&Name>,
     query: &Query,
     levels: u8,
+    found: &mut TextsFound,
 ) -> Result<(AggSource, Option<QQual>), TextFault>
     requires listed { (db : Db) → B.database base.old ≡ Some db → length (vars_of query.now) ≤ 256 }
     requires expanded { (db : Db) → B.database base.old ≡ Some db → (query_measure (measure_within levels db) query.now).variables ≤ 256 }
+    requires found { (db : Db) → B.database base.old ≡ Some db → IsFound db (who_of (option_map (λ n. n.now) who)) found.old }
     ensures told { (db : Db) → B.database base.old ≡ Some db → IfOk result (λ made. made.0 ≡ rows_of_query (put_plain (text_within levels db (who_of (option_map (λ n. n.now) who.entry))) query.now)) }
     ensures free { IfOk result (λ made. option_to_list made.1 ≡ []) }
     ensures permitted { (db : Db) → B.database base.old ≡ Some db → OnOk result (vars_permitted (permitted_within levels db (who_of (option_map (λ n. n.now) who.entry))) query.now (used_vars query.now) ≡ true) }
+    ensures found { (db : Db) → B.database base.old ≡ Some db → IsFound db (who_of (option_map (λ n. n.now) who.entry)) found.new }
     ensures kept { B.database base.new ≡ B.database base.old }
     ensures same { B.left base.new ≡ B.left base.old }
     ensures cause { HasCause (λ db. vars_permitted (permitted_within levels db (who_of (option_map (λ n. n.now) who.entry))) query.now (used_vars query.now) ≡ false) (B.database base.old) (B.faults base.old) (B.faults base.new) result }
 {
-    match put_plain(alloc, base, who, query, levels) {
+    match put_plain_remembering(alloc, base, who, query, levels, found) {
         Ok(query) => match rows_of(alloc, query) {
             Ok(source) => Ok((source, None)),
             Err(_) => Err(TextFault::OutOfMemory),
@@ -72,15 +76,18 @@ fn kept_source<B: Base>(
     who: Option<&Name>,
     key: &RelKey,
     attrs: &[u8],
+    found: &mut TextsFound,
 ) -> Result<(AggSource, Option<QQual>), TextFault>
+    requires found { (db : Db) → B.database base.old ≡ Some db → IsFound db (who_of (option_map (λ n. n.now) who)) found.old }
     ensures named { IfOk result (λ made. made.0 ≡ Named key.now) }
     ensures told { (db : Db) → B.database base.old ≡ Some db → IfOk result (λ made. option_to_list made.1 ≡ cut db (who_of (option_map (λ n. n.now) who.entry)) Retrieve attrs.now key.now) }
     ensures permitted { (db : Db) → B.database base.old ≡ Some db → OnOk result (permitted db (who_of (option_map (λ n. n.now) who.entry)) Retrieve attrs.now key.now ≡ true) }
+    ensures found { (db : Db) → B.database base.old ≡ Some db → IsFound db (who_of (option_map (λ n. n.now) who.entry)) found.new }
     ensures kept { B.database base.new ≡ B.database base.old }
     ensures same { B.left base.new ≡ B.left base.old }
     ensures cause { HasCause (λ db. permitted db (who_of (option_map (λ n. n.now) who.entry)) Retrieve attrs.now key.now ≡ false) (B.database base.old) (B.faults base.old) (B.faults base.new) result }
 {
-    match cut(alloc, base, who, Right::Retrieve, attrs, key) {
+    match cut_remembering(alloc, base, who, Right::Retrieve, attrs, key, found) {
         Ok(condition) => match key.copy(alloc) {
             Ok(key) => Ok((AggSource::Named(key), condition)),
             Err(_) => Err(TextFault::OutOfMemory),
@@ -97,22 +104,25 @@ fn named_source<B: Base>(
     who: Option<&Name>,
     key: &RelKey,
     attrs: &[u8],
+    found: &mut TextsFound,
 ) -> Result<(AggSource, Option<QQual>), TextFault>
-    requires { (db : Db) → B.database base.old ≡ Some db → (measure_of db key.now).variables ≤ 256 }
+    requires few { (db : Db) → B.database base.old ≡ Some db → (measure_of db key.now).variables ≤ 256 }
+    requires found { (db : Db) → B.database base.old ≡ Some db → IsFound db (who_of (option_map (λ n. n.now) who)) found.old }
     ensures told { (db : Db) → B.database base.old ≡ Some db → IfOk result (λ made. made.0 ≡ put_range db (who_of (option_map (λ n. n.now) who.entry)) key.now (range_at db key.now)) }
     ensures cuts { (db : Db) → B.database base.old ≡ Some db → IfOk result (λ made. option_to_list made.1 ≡ range_cut db (who_of (option_map (λ n. n.now) who.entry)) attrs.now key.now (range_at db key.now)) }
     ensures permitted { (db : Db) → B.database base.old ≡ Some db → OnOk result (readable db (who_of (option_map (λ n. n.now) who.entry)) key.now attrs.now ≡ true) }
+    ensures found { (db : Db) → B.database base.old ≡ Some db → IsFound db (who_of (option_map (λ n. n.now) who.entry)) found.new }
     ensures kept { B.database base.new ≡ B.database base.old }
     ensures same { B.left base.new ≡ B.left base.old }
     ensures cause { HasCause (λ db. readable db (who_of (option_map (λ n. n.now) who.entry)) key.now attrs.now ≡ false) (B.database base.old) (B.faults base.old) (B.faults base.new) result }
 {
     match base.view(alloc, key)? {
         Some(query) => {
-            let made = rows_source(alloc, base, who, &query, GREATEST_LEVEL - 1);
+            let made = rows_source(alloc, base, who, &query, GREATEST_LEVEL - 1, found);
             drop(query);
             made
         }
-        None => kept_source(alloc, base, who, key, attrs),
+        None => kept_source(alloc, base, who, key, attrs, found),
     }
 }
 
@@ -124,17 +134,20 @@ pub(crate) fn put_source<B: Base>(
     who: Option<&Name>,
     source: &AggSource,
     attrs: &[u8],
+    found: &mut TextsFound,
 ) -> Result<(AggSource, Option<QQual>), TextFault>
-    requires { (db : Db) → B.database base.old ≡ Some db → source_fits (kept_or_viewed db) db source.now ≡ true }
+    requires fits { (db : Db) → B.database base.old ≡ Some db → source_fits (kept_or_viewed db) db source.now ≡ true }
+    requires found { (db : Db) → B.database base.old ≡ Some db → IsFound db (who_of (option_map (λ n. n.now) who)) found.old }
     ensures told { (db : Db) → B.database base.old ≡ Some db → IfOk result (λ made. made.0 ≡ put_source db (who_of (option_map (λ n. n.now) who.entry)) source.now) }
     ensures cuts { (db : Db) → B.database base.old ≡ Some db → IfOk result (λ made. option_to_list made.1 ≡ source_cut db (who_of (option_map (λ n. n.now) who.entry)) attrs.now source.now) }
     ensures permitted { (db : Db) → B.database base.old ≡ Some db → OnOk result (source_permitted (readable db (who_of (option_map (λ n. n.now) who.entry))) attrs.now source.now ≡ true) }
+    ensures found { (db : Db) → B.database base.old ≡ Some db → IsFound db (who_of (option_map (λ n. n.now) who.entry)) found.new }
     ensures kept { B.database base.new ≡ B.database base.old }
     ensures same { B.left base.new ≡ B.left base.old }
     ensures cause { HasCause (λ db. source_permitted (readable db (who_of (option_map (λ n. n.now) who.entry))) attrs.now source.now ≡ false) (B.database base.old) (B.faults base.old) (B.faults base.new) result }
 {
     match source {
-        AggSource::Named(key) => named_source(alloc, base, who, key, attrs),
-        AggSource::Rows(query) => rows_source(alloc, base, who, query.get(), GREATEST_LEVEL),
+        AggSource::Named(key) => named_source(alloc, base, who, key, attrs, found),
+        AggSource::Rows(query) => rows_source(alloc, base, who, query.get(), GREATEST_LEVEL, found),
     }
 }

@@ -9,6 +9,7 @@ ghost use Rattle.cut_rules.specs.Faults.{fault_at};
 ghost use Rattle.cut_rules.specs.Placed.{IsRefusedAt, is_small, may_be_read, read_text};
 ghost use Rattle.cut_rules.specs.declared.fault.CutFault.TheVariants.{OutOfMemory as NoMemory};
 ghost use Rattle.view_expand.specs.Asking.{who_of};
+ghost use Rattle.view_expand.specs.Found.{IsFound};
 ghost use Rattle.view_text.specs.Scoped.{is_scoped};
 ghost use Rattle.view_text.specs.Texts.{texts_vars};
 
@@ -16,7 +17,7 @@ use crate::CutFault;
 use am_traits::Base;
 use calculus::{Name, Query, RelKey};
 use std::alloc::Global;
-use view_expand::{TextFault, text_at};
+use view_expand::{TextFault, TextsFound, text_at_remembering};
 use view_text::Text;
 
 /// The levels of views that there may be.
@@ -75,16 +76,19 @@ pub(crate) fn read_text<B: Base>(
     query: &Query,
     place: u8,
     key: &RelKey,
+    found: &mut TextsFound,
 ) -> Result<Text, CutFault>
-    requires { (db : Db) → B.database base.old ≡ Some db → is_small db query.now (place, key.now) ≡ true }
+    requires small { (db : Db) → B.database base.old ≡ Some db → is_small db query.now (place, key.now) ≡ true }
+    requires found { (db : Db) → B.database base.old ≡ Some db → IsFound db (who_of (option_map (λ n. n.now) who)) found.old }
     ensures told { (db : Db) → B.database base.old ≡ Some db → IfOk result (λ text. text ≡ read_text db (who_of (option_map (λ n. n.now) who.entry)) query.now (place, key.now)) }
     ensures permitted { (db : Db) → B.database base.old ≡ Some db → OnOk result (may_be_read db (who_of (option_map (λ n. n.now) who.entry)) query.now (place, key.now) ≡ true) }
     ensures scoped { IfOk result (λ text. is_scoped text ≡ true) }
+    ensures found { (db : Db) → B.database base.old ≡ Some db → IsFound db (who_of (option_map (λ n. n.now) who.entry)) found.new }
     ensures kept { B.database base.new ≡ B.database base.old }
     ensures same { B.left base.new ≡ B.left base.old }
     ensures cause { HasCause (λ db var. (var ≡ place) × (may_be_read db (who_of (option_map (λ n. n.now) who.entry)) query.now (place, key.now) ≡ false)) (B.database base.old) (B.faults base.old) (B.faults base.new) result }
 {
-    match text_at(alloc, base, who, query, place, key, LEVELS) {
+    match text_at_remembering(alloc, base, who, query, place, key, LEVELS, found) {
         Ok(text) => Ok(text),
         Err(fault) => Err(fault_at(fault, place)),
     }
@@ -98,12 +102,15 @@ fn put_each<B: Base>(
     query: &Query,
     keys: &[RelKey],
     texts: &mut Vec<Text>,
+    found: &mut TextsFound,
 ) -> Result<(), CutFault>
     requires listed { length keys.now ≤ 256 }
     requires small { (db : Db) → B.database base.old ≡ Some db → list_all (is_small db query.now) (enumerate_from 0 keys.now) ≡ true }
+    requires found { (db : Db) → B.database base.old ≡ Some db → IsFound db (who_of (option_map (λ n. n.now) who)) found.old }
     ensures told { (db : Db) → B.database base.old ≡ Some db → OnOk result (texts.new.items ≡ texts.old.items ++ map (read_text db (who_of (option_map (λ n. n.now) who.entry)) query.now) (enumerate_from 0 keys.now)) }
     ensures permitted { (db : Db) → B.database base.old ≡ Some db → OnOk result (list_all (may_be_read db (who_of (option_map (λ n. n.now) who.entry)) query.now) (enumerate_from 0 keys.now) ≡ true) }
     ensures scoped { list_all is_scoped texts.old.items ≡ true → OnOk result (list_all is_scoped texts.new.items ≡ true) }
+    ensures found { (db : Db) → B.database base.old ≡ Some db → IsFound db (who_of (option_map (λ n. n.now) who.entry)) found.new }
     ensures kept { B.database base.new ≡ B.database base.old }
     ensures same { B.left base.new ≡ B.left base.old }
     ensures cause { HasCause (λ db var. IsRefusedAt (may_be_read db (who_of (option_map (λ n. n.now) who.entry)) query.now) keys.now var) (B.database base.old) (B.faults base.old) (B.faults base.new) result }
@@ -111,7 +118,7 @@ fn put_each<B: Base>(
     let mut place: usize = 0;
     let mut rest = keys;
     'keys: while let Some((key, others)) = rest.split_first() {
-        let more = read_text(alloc, base, who, query, place as u8, key)?;
+        let more = read_text(alloc, base, who, query, place as u8, key, found)?;
         put_behind(texts, more)?;
         place += 1;
         rest = others;
@@ -127,12 +134,15 @@ pub(crate) fn put_texts<B: Base>(
     who: Option<&Name>,
     query: &Query,
     texts: &mut Vec<Text>,
+    found: &mut TextsFound,
 ) -> Result<(), CutFault>
     requires listed { (db : Db) → B.database base.old ≡ Some db → length (vars_of query.now) ≤ 256 }
     requires small { (db : Db) → B.database base.old ≡ Some db → list_all (is_small db query.now) (enumerate_from 0 (vars_of query.now)) ≡ true }
+    requires found { (db : Db) → B.database base.old ≡ Some db → IsFound db (who_of (option_map (λ n. n.now) who)) found.old }
     ensures told { (db : Db) → B.database base.old ≡ Some db → OnOk result (texts.new.items ≡ texts.old.items ++ map (read_text db (who_of (option_map (λ n. n.now) who.entry)) query.now) (enumerate_from 0 (vars_of query.now))) }
     ensures permitted { (db : Db) → B.database base.old ≡ Some db → OnOk result (list_all (may_be_read db (who_of (option_map (λ n. n.now) who.entry)) query.now) (enumerate_from 0 (vars_of query.now)) ≡ true) }
     ensures scoped { list_all is_scoped texts.old.items ≡ true → OnOk result (list_all is_scoped texts.new.items ≡ true) }
+    ensures found { (db : Db) → B.database base.old ≡ Some db → IsFound db (who_of (option_map (λ n. n.now) who.entry)) found.new }
     ensures kept { B.database base.new ≡ B.database base.old }
     ensures same { B.left base.new ≡ B.left base.old }
     ensures cause { HasCause (λ db var. IsRefusedAt (may_be_read db (who_of (option_map (λ n. n.now) who.entry)) query.now) (vars_of query.now) var) (B.database base.old) (B.faults base.old) (B.faults base.new) result }
@@ -141,5 +151,5 @@ pub(crate) fn put_texts<B: Base>(
     if keys.len() > LISTED {
         return Err(CutFault::TooMany);
     }
-    put_each(alloc, base, who, query, keys, texts)
+    put_each(alloc, base, who, query, keys, texts, found)
 }

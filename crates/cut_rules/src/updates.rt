@@ -15,6 +15,7 @@ ghost use Rattle.cut_rules.specs.declared.fault.CutFault.TheVariants.{OutOfMemor
 ghost use Rattle.quel_meaning.specs.Fit.{update_fits};
 ghost use Rattle.quel_meaning.specs.FitQueries.{kept_or_viewed, reads_fit};
 ghost use Rattle.view_expand.specs.Asking.{right_of, who_of};
+ghost use Rattle.view_expand.specs.Found.{IsFound};
 ghost use Rattle.view_text.specs.PutIn.{changed_text, put_cut, put_in_update, put_over, put_place};
 ghost use Rattle.view_text.specs.Scoped.{is_scoped};
 ghost use Rattle.view_text.specs.Texts.{place_from, texts_vars};
@@ -28,7 +29,7 @@ use calculus::{Name, QQual, Query, RelKey, TryCopy, Update, UpdateOp};
 use memory::both;
 use plain_product::uses;
 use std::alloc::Global;
-use view_expand::Right;
+use view_expand::{Right, TextsFound};
 use view_text::Text;
 
 /// The last place that a variable may have.
@@ -43,16 +44,28 @@ fn changed_at<B: Base>(
     right: Right,
     place: u8,
     key: &RelKey,
+    found: &mut TextsFound,
 ) -> Result<Text, CutFault>
+    requires found { (db : Db) → B.database base.old ≡ Some db → IsFound db (who_of (option_map (λ n. n.now) who)) found.old }
     ensures told { (db : Db) → B.database base.old ≡ Some db → IfOk result (λ text. text ≡ changed_text db (who_of (option_map (λ n. n.now) who.entry)) (right_of right) u.now.places (used_in_query place u.now.query) key.now) }
     ensures permitted { (db : Db) → B.database base.old ≡ Some db → OnOk result (change_permitted db (who_of (option_map (λ n. n.now) who.entry)) (right_of right) u.now.places key.now (used_in_query place u.now.query) ≡ true) }
     ensures scoped { IfOk result (λ text. is_scoped text ≡ true) }
+    ensures found { (db : Db) → B.database base.old ≡ Some db → IsFound db (who_of (option_map (λ n. n.now) who.entry)) found.new }
     ensures kept { B.database base.new ≡ B.database base.old }
     ensures same { B.left base.new ≡ B.left base.old }
     ensures cause { HasCause (λ db var. (var ≡ place) × (change_permitted db (who_of (option_map (λ n. n.now) who.entry)) (right_of right) u.now.places key.now (used_in_query place u.now.query) ≡ false)) (B.database base.old) (B.faults base.old) (B.faults base.new) result }
 {
     match uses(alloc, &u.query, place) {
-        Ok(read) => match changed_text(alloc, base, who, right, u.places.items(), &read, key) {
+        Ok(read) => match changed_text(
+            alloc,
+            base,
+            who,
+            right,
+            u.places.items(),
+            &read,
+            key,
+            found,
+        ) {
             Ok(text) => Ok(text),
             Err(fault) => Err(fault_at(fault, place)),
         },
@@ -69,18 +82,21 @@ fn text_in<B: Base>(
     u: &Update,
     place: u8,
     key: &RelKey,
+    found: &mut TextsFound,
 ) -> Result<Text, CutFault>
-    requires { (db : Db) → B.database base.old ≡ Some db → is_small_in db u.now (place, key.now) ≡ true }
+    requires small { (db : Db) → B.database base.old ≡ Some db → is_small_in db u.now (place, key.now) ≡ true }
+    requires found { (db : Db) → B.database base.old ≡ Some db → IsFound db (who_of (option_map (λ n. n.now) who)) found.old }
     ensures told { (db : Db) → B.database base.old ≡ Some db → IfOk result (λ text. text ≡ text_in db (who_of (option_map (λ n. n.now) who.entry)) u.now (place, key.now)) }
     ensures permitted { (db : Db) → B.database base.old ≡ Some db → OnOk result (may_be_used db (who_of (option_map (λ n. n.now) who.entry)) u.now (place, key.now) ≡ true) }
     ensures scoped { IfOk result (λ text. is_scoped text ≡ true) }
+    ensures found { (db : Db) → B.database base.old ≡ Some db → IsFound db (who_of (option_map (λ n. n.now) who.entry)) found.new }
     ensures kept { B.database base.new ≡ B.database base.old }
     ensures same { B.left base.new ≡ B.left base.old }
     ensures cause { HasCause (λ db var. (var ≡ place) × (may_be_used db (who_of (option_map (λ n. n.now) who.entry)) u.now (place, key.now) ≡ false)) (B.database base.old) (B.faults base.old) (B.faults base.new) result }
 {
     match changed_by(u, place) {
-        Some(right) => changed_at(alloc, base, who, u, right, place, key),
-        None => read_text(alloc, base, who, &u.query, place, key),
+        Some(right) => changed_at(alloc, base, who, u, right, place, key, found),
+        None => read_text(alloc, base, who, &u.query, place, key, found),
     }
 }
 
@@ -92,12 +108,15 @@ fn put_each<B: Base>(
     u: &Update,
     keys: &[RelKey],
     texts: &mut Vec<Text>,
+    found: &mut TextsFound,
 ) -> Result<(), CutFault>
     requires listed { length keys.now ≤ 256 }
     requires small { (db : Db) → B.database base.old ≡ Some db → list_all (is_small_in db u.now) (enumerate_from 0 keys.now) ≡ true }
+    requires found { (db : Db) → B.database base.old ≡ Some db → IsFound db (who_of (option_map (λ n. n.now) who)) found.old }
     ensures told { (db : Db) → B.database base.old ≡ Some db → OnOk result (texts.new.items ≡ texts.old.items ++ map (text_in db (who_of (option_map (λ n. n.now) who.entry)) u.now) (enumerate_from 0 keys.now)) }
     ensures permitted { (db : Db) → B.database base.old ≡ Some db → OnOk result (list_all (may_be_used db (who_of (option_map (λ n. n.now) who.entry)) u.now) (enumerate_from 0 keys.now) ≡ true) }
     ensures scoped { list_all is_scoped texts.old.items ≡ true → OnOk result (list_all is_scoped texts.new.items ≡ true) }
+    ensures found { (db : Db) → B.database base.old ≡ Some db → IsFound db (who_of (option_map (λ n. n.now) who.entry)) found.new }
     ensures kept { B.database base.new ≡ B.database base.old }
     ensures same { B.left base.new ≡ B.left base.old }
     ensures cause { HasCause (λ db var. IsRefusedAt (may_be_used db (who_of (option_map (λ n. n.now) who.entry)) u.now) keys.now var) (B.database base.old) (B.faults base.old) (B.faults base.new) result }
@@ -105,7 +124,7 @@ fn put_each<B: Base>(
     let mut place: usize = 0;
     let mut rest = keys;
     'keys: while let Some((key, others)) = rest.split_first() {
-        let more = text_in(alloc, base, who, u, place as u8, key)?;
+        let more = text_in(alloc, base, who, u, place as u8, key, found)?;
         put_behind(texts, more)?;
         place += 1;
         rest = others;
@@ -120,12 +139,15 @@ fn put_texts<B: Base>(
     who: Option<&Name>,
     u: &Update,
     texts: &mut Vec<Text>,
+    found: &mut TextsFound,
 ) -> Result<(), CutFault>
     requires listed { (db : Db) → B.database base.old ≡ Some db → length (vars_of u.now.query) ≤ 256 }
     requires small { (db : Db) → B.database base.old ≡ Some db → list_all (is_small_in db u.now) (enumerate_from 0 (vars_of u.now.query)) ≡ true }
+    requires found { (db : Db) → B.database base.old ≡ Some db → IsFound db (who_of (option_map (λ n. n.now) who)) found.old }
     ensures told { (db : Db) → B.database base.old ≡ Some db → OnOk result (texts.new.items ≡ texts.old.items ++ map (text_in db (who_of (option_map (λ n. n.now) who.entry)) u.now) (enumerate_from 0 (vars_of u.now.query))) }
     ensures permitted { (db : Db) → B.database base.old ≡ Some db → OnOk result (list_all (may_be_used db (who_of (option_map (λ n. n.now) who.entry)) u.now) (enumerate_from 0 (vars_of u.now.query)) ≡ true) }
     ensures scoped { list_all is_scoped texts.old.items ≡ true → OnOk result (list_all is_scoped texts.new.items ≡ true) }
+    ensures found { (db : Db) → B.database base.old ≡ Some db → IsFound db (who_of (option_map (λ n. n.now) who.entry)) found.new }
     ensures kept { B.database base.new ≡ B.database base.old }
     ensures same { B.left base.new ≡ B.left base.old }
     ensures cause { HasCause (λ db var. IsRefusedAt (may_be_used db (who_of (option_map (λ n. n.now) who.entry)) u.now) (vars_of u.now.query) var) (B.database base.old) (B.faults base.old) (B.faults base.new) result }
@@ -134,7 +156,7 @@ fn put_texts<B: Base>(
     if keys.len() > LISTED {
         return Err(CutFault::TooMany);
     }
-    put_each(alloc, base, who, u, keys, texts)
+    put_each(alloc, base, who, u, keys, texts, found)
 }
 
 /// The place at which the variable's text begins, where the variables of the texts stand from this one on.
@@ -173,15 +195,18 @@ fn put_new_cut<B: Base>(
     base: &mut B,
     who: Option<&Name>,
     u: &Update,
+    found: &mut TextsFound,
 ) -> Result<QQual, CutFault>
+    requires found { (db : Db) → B.database base.old ≡ Some db → IsFound db (who_of (option_map (λ n. n.now) who)) found.old }
     ensures told { (db : Db) → B.database base.old ≡ Some db → IfOk result (λ q. q ≡ put_cut db (who_of (option_map (λ n. n.now) who.entry)) u.now u.now.op) }
     ensures permitted { (db : Db) → B.database base.old ≡ Some db → OnOk result (u.now.op ≡ op.Append → permitted db (who_of (option_map (λ n. n.now) who.entry)) Append u.now.places u.now.rel ≡ true) }
+    ensures found { (db : Db) → B.database base.old ≡ Some db → IsFound db (who_of (option_map (λ n. n.now) who.entry)) found.new }
     ensures kept { B.database base.new ≡ B.database base.old }
     ensures same { B.left base.new ≡ B.left base.old }
     ensures cause { HasCause (λ db var. IsRefusedAppend db (who_of (option_map (λ n. n.now) who.entry)) u.now var) (B.database base.old) (B.faults base.old) (B.faults base.new) result }
 {
     match u.op {
-        UpdateOp::Append => match appended_cut(alloc, base, who, u) {
+        UpdateOp::Append => match appended_cut(alloc, base, who, u, found) {
             Ok(q) => Ok(q),
             Err(fault) => Err(fault_at(fault, NO_VARIABLE)),
         },
@@ -225,13 +250,16 @@ fn put_over_few<B: Base>(
     who: Option<&Name>,
     u: &Update,
     texts: &[Text],
+    found: &mut TextsFound,
 ) -> Result<Update, CutFault>
     requires fit { (db : Db) → B.database base.old ≡ Some db → reads_fit (kept_or_viewed db) db u.now.query ≡ true }
     requires scoped { list_all is_scoped texts.now ≡ true }
     requires few { (db : Db) → B.database base.old ≡ Some db → length (texts_vars texts.now) ≤ 255 }
+    requires found { (db : Db) → B.database base.old ≡ Some db → IsFound db (who_of (option_map (λ n. n.now) who)) found.old }
     ensures told { (db : Db) → B.database base.old ≡ Some db → IfOk result (λ made. made ≡ record u.now { old = put_place texts.now u.now; query = put_over db (who_of (option_map (λ n. n.now) who.entry)) texts.now u.now.query; new_cut = put_cut db (who_of (option_map (λ n. n.now) who.entry)) u.now u.now.op }) }
     ensures permitted { (db : Db) → B.database base.old ≡ Some db → OnOk result (aggregates_permitted (readable db (who_of (option_map (λ n. n.now) who.entry))) u.now.query ≡ true) }
     ensures appended { (db : Db) → B.database base.old ≡ Some db → OnOk result (u.now.op ≡ op.Append → permitted db (who_of (option_map (λ n. n.now) who.entry)) Append u.now.places u.now.rel ≡ true) }
+    ensures found { (db : Db) → B.database base.old ≡ Some db → IsFound db (who_of (option_map (λ n. n.now) who.entry)) found.new }
     ensures kept { B.database base.new ≡ B.database base.old }
     ensures same { B.left base.new ≡ B.left base.old }
     ensures cause { HasCause (λ db var. IsRefusedAppend db (who_of (option_map (λ n. n.now) who.entry)) u.now var ⊎ HasRefusedAggregate db (who_of (option_map (λ n. n.now) who.entry)) u.now.query var) (B.database base.old) (B.faults base.old) (B.faults base.new) result }
@@ -240,8 +268,8 @@ fn put_over_few<B: Base>(
         return Err(CutFault::TooMany);
     }
     let place = put_place(texts, u);
-    match put_new_cut(alloc, base, who, u) {
-        Ok(new_cut) => match put_over(alloc, base, who, &u.query, texts) {
+    match put_new_cut(alloc, base, who, u, found) {
+        Ok(new_cut) => match put_over(alloc, base, who, &u.query, texts, found) {
             Ok(query) => update_of(alloc, u, place, query, new_cut),
             Err(fault) => Err(fault),
         },
@@ -257,17 +285,20 @@ pub(crate) fn put_in_update<B: Base>(
     base: &mut B,
     who: Option<&Name>,
     u: &Update,
+    found: &mut TextsFound,
 ) -> Result<Update, CutFault>
-    requires { (db : Db) → B.database base.old ≡ Some db → update_fits (kept_or_viewed db) db u.now ≡ true }
+    requires fit { (db : Db) → B.database base.old ≡ Some db → update_fits (kept_or_viewed db) db u.now ≡ true }
+    requires found { (db : Db) → B.database base.old ≡ Some db → IsFound db (who_of (option_map (λ n. n.now) who)) found.old }
     ensures told { (db : Db) → B.database base.old ≡ Some db → IfOk result (λ made. made ≡ put_in_update db (who_of (option_map (λ n. n.now) who.entry)) u.now) }
     ensures permitted { (db : Db) → B.database base.old ≡ Some db → OnOk result (update_permitted db (who_of (option_map (λ n. n.now) who.entry)) u.now ≡ true) }
+    ensures found { (db : Db) → B.database base.old ≡ Some db → IsFound db (who_of (option_map (λ n. n.now) who.entry)) found.new }
     ensures kept { B.database base.new ≡ B.database base.old }
     ensures same { B.left base.new ≡ B.left base.old }
     ensures cause { HasCause (λ db var. (update_permitted db (who_of (option_map (λ n. n.now) who.entry)) u.now ≡ false) × IsRefusedOf db (who_of (option_map (λ n. n.now) who.entry)) u.now var) (B.database base.old) (B.faults base.old) (B.faults base.new) result }
 {
     let mut texts = Vec::new(alloc);
-    match put_texts(alloc, base, who, u, &mut texts) {
-        Ok(()) => put_over_few(alloc, base, who, u, &texts),
+    match put_texts(alloc, base, who, u, &mut texts, found) {
+        Ok(()) => put_over_few(alloc, base, who, u, &texts, found),
         Err(fault) => Err(fault),
     }
 }

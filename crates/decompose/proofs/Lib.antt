@@ -4,3 +4,10 @@ pub mod Kept
 pub mod Plain
 pub mod Variables
 pub mod Failing
+pub mod Agreeing
+pub mod StandIns
+pub mod Conditioned
+pub mod ConditionForms
+pub mod TakenOut
+pub mod Enough
+pub mod Qualifying

@@ -1,5 +1,5 @@
 -- Where no aggregates stand, what aggregates give doesn't count.
-use Rattle.std.proofs.Common.{◌≡◌, refl, sym, ap, ◌∙◌, false, not, ◌&&◌, ◌||◌, List, [], ◌∷◌, filter_map}
+use Rattle.std.proofs.Common.{◌≡◌, refl, ap, not, ◌&&◌, ◌||◌, List, [], ◌∷◌, filter_map}
 use Rattle.std.specs.Prelude.{filter, is_none}
 use Rattle.std.specs.List.{list_any, flat_map}
 use Rattle.calculus.specs.declared.query.QTerm.{QTerm, Int, Chars, Attr, Agg', Row_of-QAgg, end_of-QAgg, more_of-QAgg}
@@ -12,11 +12,11 @@ use Rattle.calculus.specs.Answer.{answer, lacks}
 use Rattle.calculus.specs.Assignments.{assigned}
 use Rattle.calculus.specs.Database.{Db}
 use Rattle.calculus.specs.QueryParts.{aggregates_of, term_aggregates, qual_aggregates, query_aggregates, targets_of, qual_of}
-use Rattle.calculus.specs.Rows.{Row, set_of}
+use Rattle.calculus.specs.Rows.{set_of}
 use Rattle.calculus.specs.Targets.{target_values, rows_given, some_lacks}
 use Rattle.calculus.specs.Term.{Env, Aggs, val, holds, aggregate_value, opposite_value, value_without_sign, operated_values, joined_values, compared_values, matched_value, value_before}
 use Rattle.calculus.specs.VariableRows.{rows_of}
-use Rattle.calculus.specs.Who.{Who, Free}
+use Rattle.calculus.specs.Who.{Who}
 use Rattle.quel_meaning.proofs.KindFacts.{none_before, none_behind}
 
 same_row : (aggs others : Aggs) {n : _} (row : Row_of-QAgg n) (e : Env) → aggregates_of row ≡ [] → aggregate_value aggs row e ≡ aggregate_value others row e
@@ -84,12 +84,3 @@ same_answer db who aggs q h = same_rows aggs (aggregates db who) q (assigned (ro
 pub same_query_lacks : (db : Db) (who : Who) (aggs : Aggs) (q : Query) → query_aggregates q ≡ [] → some_lacks aggs q (assigned (rows_of db who) q) ≡ lacks db who q
 unfolding lacks
 same_query_lacks db who aggs q h = same_lacks aggs (aggregates db who) q (assigned (rows_of db who) q) h
-
--- what is given over the assignments of a database is the answer there
-pub given_answer : (db : Db) (aggs : Aggs) (q : Query) (es : List Env) (set : List Row) → set ≡ rows_given aggs q es → es ≡ assigned (rows_of db Free) q
-    → query_aggregates q ≡ [] → set ≡ answer db Free q
-given_answer db aggs q es set given known none = given ∙ ap (rows_given aggs q) known ∙ same_answer db Free aggs q none
-
-pub given_lacks : (db : Db) (aggs : Aggs) (q : Query) (es : List Env) → some_lacks aggs q es ≡ false → es ≡ assigned (rows_of db Free) q
-    → query_aggregates q ≡ [] → lacks db Free q ≡ false
-given_lacks db aggs q es given known none = sym (same_query_lacks db Free aggs q none) ∙ ap (some_lacks aggs q) (sym known) ∙ given

@@ -1,2 +1,4 @@
 pub mod Causes
+pub mod Conditions
 pub mod Given
+pub mod Standing

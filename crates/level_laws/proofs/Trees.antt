@@ -23,13 +23,14 @@ use Rattle.calculus.specs.Assignments.{changed}
 use Rattle.quel_meaning.specs.Fit.{update_fits, suits, fits, is_fit_with_views}
 use Rattle.quel_meaning.specs.FitQueries.{kept_or_viewed, sources_fit, slots_count_up, lists_few_vars, has_few_targets, reads_fit, asked_fits}
 use Rattle.quel_meaning.specs.Meaning.{ruled_tree}
+use Rattle.quel_meaning.specs.Planned.{greatest}
 use Rattle.quel_meaning.specs.SpelledTree.{tree_is_spelled}
 use Rattle.view_text.specs.declared.text.Text.{Text}
 use Rattle.view_text.specs.Texts.{attr_term, used_text}
 use Rattle.view_text.specs.TextOf.{cut, text_of}
 use Rattle.view_text.specs.PutIn.{put_over, put_in, read_cut, changed_text, update_text, update_texts, put_cut, put_in_update, put_in_asked, put_in_tree}
 use Rattle.view_laws.proofs.Scopes.{both_true}
-use Rattle.level_laws.specs.Levels.{greatest_asked_levels, greatest_qual_levels, tree_levels}
+use Rattle.shallow_laws.specs.Levels.{tree_levels}
 use Rattle.level_laws.proofs.Joined.{Low, low_append}
 use Rattle.level_laws.proofs.Permits.{le_is, cut_low, rules_low}
 use Rattle.level_laws.proofs.Counted.{many_more, room, room_some, conditions_few, conditions_low, put_low}
@@ -58,7 +59,7 @@ module _ (db : Db) (d : IsDatabase db) (who : Who) where
       (puts_low db d who q) (query_conditions_low db d who q) (omega (arith, counted, more))
 
   asked_low : (asked : List Asked) → list_all (asked_fits (kept_or_viewed db) db) asked ≡ true
-      → greatest_asked_levels (map (put_in_asked db who) asked) ≤ greatest_asked_levels asked + 1160
+      → greatest (map (λ (a : Asked). query_levels a.query) (map (put_in_asked db who) asked)) ≤ greatest (map (λ (a : Asked). query_levels a.query) asked) + 1160
   unfolding asked_fits
   asked_low [] h = omega arith
   asked_low (a ∷ asked) h =
@@ -158,7 +159,7 @@ module _ (db : Db) (d : IsDatabase db) (who : Who) where
 
   -- ---- rules
 
-  with_rules_low : (rules checks : List QQual) → Low 1001 rules → greatest_qual_levels (rules ++ checks) ≤ max (greatest_qual_levels checks) 1001
+  with_rules_low : (rules checks : List QQual) → Low 1001 rules → greatest (map qual_levels (rules ++ checks)) ≤ max (greatest (map qual_levels checks)) 1001
   with_rules_low [] checks low = omega arith
   with_rules_low (q ∷ rules) checks low = let own = low.0 in let more = with_rules_low rules checks low.1 in omega (arith, own, more)
 

@@ -5,9 +5,10 @@ ghost use Rattle.calculus.specs.declared.request.Checked.{Checked};
 ghost use Rattle.calculus.specs.Database.{Db};
 ghost use Rattle.calculus.specs.IsDatabase.{IsDatabase};
 ghost use Rattle.calculus.specs.Who.{Who};
-ghost use Rattle.level_laws.specs.Levels.{most_put_in_levels, tree_levels};
+ghost use Rattle.level_laws.specs.Levels.{most_put_in_levels};
 ghost use Rattle.quel_meaning.specs.Fit.{is_fit_with_views};
 ghost use Rattle.quel_meaning.specs.Meaning.{ruled_tree};
+ghost use Rattle.shallow_laws.specs.Levels.{tree_levels};
 ghost use Rattle.view_text.specs.PutIn.{put_in_tree};
 
 /// In a database a tree that is fit but for the views in it has at most so many levels more once views and

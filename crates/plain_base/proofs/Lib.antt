@@ -11,3 +11,5 @@ pub mod FewRows
 pub mod NextRow
 pub mod SearchByKey
 pub mod Picked
+pub mod Between
+pub mod Told

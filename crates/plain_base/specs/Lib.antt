@@ -1,4 +1,5 @@
 pub mod FoundRows
 pub mod Laws
+pub mod Near
 pub mod Places
 pub mod Shown

@@ -8,6 +8,7 @@ mod db_plain;
 mod kept;
 mod leaving;
 mod look_up;
+mod near;
 mod one_relation;
 mod ordered;
 mod rows;

@@ -5,12 +5,13 @@ ghost use Rattle.std.specs.List.{remove};
 ghost use Rattle.calculus.specs.Replacement.{with_rows, without_rows};
 ghost use Rattle.calculus.specs.Rows.{Ascends, has, put, IsPlaceOf};
 
+use crate::near::has_near;
 use calculus::{OutOfMemory, Row, RowSet};
 use memory::copies;
 use std::alloc::Global;
 
 /// Where the row is among ascending rows, or else where it belongs. A binary search.
-fn place_of(rows: &[Row], row: &Row) -> Result<usize, usize>
+pub(crate) fn place_of(rows: &[Row], row: &Row) -> Result<usize, usize>
     requires { Ascends rows.now }
     ensures there { is_ok result ≡ has rows.now row.now }
     ensures place { IfErr result (IsPlaceOf rows.now row.now) }
@@ -18,14 +19,6 @@ fn place_of(rows: &[Row], row: &Row) -> Result<usize, usize>
     ensures gone { IfOk result (λ i. remove rows.now i ≡ without_rows (row.now ∷ []) rows.now) }
 {
     rows.binary_search(row)
-}
-
-/// Whether the row is among ascending rows. A binary search.
-pub(crate) fn is_there(rows: &[Row], row: &Row) -> bool
-    requires { Ascends rows.now }
-    ensures { result ≡ has rows.now row.now }
-{
-    place_of(rows, row).is_ok()
 }
 
 /// Takes a row from ascending rows. A binary search.
@@ -55,13 +48,14 @@ fn take_few(rows: &mut Vec<Row>, gone: &[Row])
     }
 }
 
-/// Takes a set of rows from ascending rows, in one pass.
+/// Takes a set of rows from ascending rows, in one pass over both.
 fn take_set(rows: &mut Vec<Row>, gone: &RowSet)
     ensures rows { rows.new.items ≡ filter (λ row. not (has gone.now row)) rows.old.items }
     ensures room { vec_capacity rows.new ≡ vec_capacity rows.old }
     ensures fewer { vec_len rows.new ≤ vec_len rows.old }
 {
-    rows.retain(|row| !gone.has(row));
+    let mut near = 0;
+    rows.retain(|row| !has_near(gone, row, &mut near));
 }
 
 /// Puts a row among ascending rows, where there is room for it. A binary search.

@@ -18,9 +18,9 @@ pub(crate) fn changed_by<B: Base>(
     alloc: Global,
     base: &mut B,
     u: &Update,
-    pairs: &[Pair],
+    pairs: Vec<Pair>,
 ) -> Result<DbChange, Stopped>
-    ensures told { (db : Db) → B.database base.old ≡ Some db → MakesNew db u.now → ArePairs db u.now pairs.now
+    ensures told { (db : Db) → B.database base.old ≡ Some db → MakesNew db u.now → ArePairs db u.now pairs.items
         → Plans (λ change. updated db Free u.now ≡ Ok change) (λ number. updated db Free u.now ≡ Err number) result }
     ensures kept { B.database base.new ≡ B.database base.old }
 {

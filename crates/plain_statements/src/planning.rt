@@ -27,5 +27,5 @@ pub(crate) fn update_planned<B: Base>(
     ensures kept { B.database base.new ≡ B.database base.old }
 {
     let pairs = paired(alloc, base, u)?;
-    changed_by(alloc, base, u, &pairs)
+    changed_by(alloc, base, u, pairs)
 }

@@ -1,5 +1,9 @@
+pub mod Aggregated
 pub mod Entries
 pub mod Fits
+pub mod KindForms
+pub mod Linked
+pub mod Sourced
 pub mod Standing
 pub mod Stored
 pub mod TooMany

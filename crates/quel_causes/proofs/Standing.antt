@@ -1,4 +1,4 @@
--- Statements without aggregates, and the updates that they are.
+-- Statements whose aggregates stand, and the updates that they are.
 use Rattle.std.proofs.Common.{◌≡◌, refl, sym, ap, ◌∙◌, subst, ℕ, Bool, true, false, not, List, [], ◌∷◌, map, slice_get, length, unwrap_or, Some}
 use Rattle.std.specs.List.{list_all}
 use Rattle.calculus.specs.declared.query.QAgg.{QAgg}
@@ -12,7 +12,7 @@ use Rattle.calculus.specs.QueryParts.{query_aggregates}
 use Rattle.calculus.specs.Replacement.{wanted_kinds}
 use Rattle.calculus.specs.Stored.{kinds_at}
 use Rattle.quel_meaning.specs.Aggregates.{aggregates_stand, aggregate_stands, keeps_a_text}
-use Rattle.quel_meaning.specs.Causes.{causes, causes_by, delete_causes, update_causes}
+use Rattle.quel_meaning.specs.Causes.{causes, causes_by, update_causes}
 use Rattle.quel_meaning.specs.Scope.{Scope}
 use Rattle.quel_meaning.specs.StatementUpdate.{append_of, replace_of, delete_of}
 use Rattle.quel_meaning.specs.WrittenParts.{text_aggregates}
@@ -25,7 +25,7 @@ none [] h = refl
 none (x ∷ xs) h = absurd (cc h)
 
 -- where there is no aggregate, the aggregates stand
-stands : (s : Scope) (stmt : Statement) → is_any (text_aggregates stmt) ≡ false → aggregates_stand s stmt ≡ true
+pub stands : (s : Scope) (stmt : Statement) → is_any (text_aggregates stmt) ≡ false → aggregates_stand s stmt ≡ true
 unfolding aggregates_stand
 stands s stmt h = ap (λ gs. elim (keeps_a_text stmt) as (λ b. Bool) [ true ↦ not (is_any gs) | false ↦ list_all (aggregate_stands s) gs ]) (none (text_aggregates stmt) h) ∙ go (keeps_a_text stmt)
   where
@@ -41,10 +41,24 @@ none_in_query s stmt q e h = empty (query_aggregates q) (ap (λ p. length (query
     empty [] h = refl
     empty (g ∷ gs) h = absurd (cc h)
 
--- what refuses it is what does where aggregates stand
-pub causes_are : (s : Scope) (stmt : Statement) (q : Query) → q ≡ query_of s stmt → is_any (text_aggregates stmt) ≡ false → causes_by s true q stmt ≡ causes s stmt
+-- what refuses a statement whose aggregates stand
+pub causes_are : (s : Scope) (stmt : Statement) (q : Query) → q ≡ query_of s stmt → aggregates_stand s stmt ≡ true → causes_by s true q stmt ≡ causes s stmt
 unfolding causes
-causes_are s stmt q e h = λ i. causes_by s (sym (stands s stmt h) i) (e i) stmt
+causes_are s stmt q e h = λ i. causes_by s (sym h i) (e i) stmt
+
+-- where they stand in a text that is kept, there is none
+pub none_in_text : (s : Scope) (stmt : Statement) (q : Query) → q ≡ query_of s stmt → aggregates_stand s stmt ≡ true → keeps_a_text stmt ≡ true → query_aggregates q ≡ []
+unfolding aggregates_stand
+none_in_text s stmt q e h t = none_in_query s stmt q e (not_so (is_any (text_aggregates stmt)) (go (keeps_a_text stmt) t h))
+  where
+    go : (b : Bool) → b ≡ true → elim b as (λ c. Bool) [ true ↦ not (is_any (text_aggregates stmt)) | false ↦ list_all (aggregate_stands s) (text_aggregates stmt) ] ≡ true
+        → not (is_any (text_aggregates stmt)) ≡ true
+    go true u k = k
+    go false u k = absurd (cc u)
+
+    not_so : (b : Bool) → not b ≡ true → b ≡ false
+    not_so true k = absurd (cc k)
+    not_so false k = refl
 
 -- ---- updates
 

@@ -1,5 +1,5 @@
 -- What refuses views, permits and rules.
-use Rattle.std.proofs.Common.{◌≡◌, refl, sym, ap, ◌∙◌, ℕ, suc, ◌<◌, ◌≤◌, ◌+◌, ◌-◌, ◌^◌, min, arith, Bool, true, false, not, ◌||◌, ◌&&◌, List, [], map, length, nat_le, nat_lt}
+use Rattle.std.proofs.Common.{◌≡◌, refl, sym, ap, ◌∙◌, ℕ, suc, ◌<◌, ◌≤◌, ◌-◌, ◌^◌, min, arith, Bool, true, false, ◌||◌, ◌&&◌, List, [], map, length, nat_le, nat_lt}
 use Rattle.std.proofs.lemmas.Bool.{lt-ltb, le-ltb, leb-true, leb-false, ltb-false}
 use Rattle.std.specs.List.{flat_map}
 use Rattle.std.proofs.lemmas.List.{length-map}
@@ -11,7 +11,7 @@ use Rattle.calculus.specs.QueryParts.{vars_of, targets_of, qual_of, term_aggrega
 use Rattle.calculus.specs.Storable.{row_qual_is_small}
 use Rattle.calculus.specs.Sizes.{qual_size, query_size, query_level}
 use Rattle.calculus.specs.TreeLevels.{query_levels}
-use Rattle.quel_meaning.specs.Passing.{has_too_many, is_full, is_too_high, is_too_large, listed_variables, listed_expanded_variables}
+use Rattle.quel_meaning.specs.Passing.{has_too_many, is_full, is_too_high, is_too_large, listed_variables}
 use Rattle.quel_meaning.specs.Planned.{greatest, is_past_limit}
 use Rattle.quel_meaning.proofs.KindFacts.{none_behind}
 use Rattle.view_sizes.proofs.DepthForms.{qual_alone}

@@ -1,42 +1,30 @@
--- Queries without aggregates that list too many variables.
-use Rattle.std.proofs.Common.{◌≡◌, refl, sym, ap, ◌∙◌, ℕ, ◌+◌, ◌-◌, ◌^◌, ◌<◌, ◌≤◌, min, nat_lt, arith, Bool, true, false, ◌||◌, List, [], length}
-use Rattle.std.specs.List.{sum_by}
-use Rattle.std.proofs.lemmas.Bool.{lt-ltb, le-ltb, ltb-true, ltb-false}
+-- Queries that list too many variables.
+use Rattle.std.proofs.Common.{◌≡◌, sym, ap, ◌∙◌, ℕ, ◌+◌, ◌-◌, ◌^◌, ◌<◌, ◌≤◌, min, nat_lt, arith, true, ◌||◌, List, length, map}
+use Rattle.std.proofs.lemmas.Bool.{lt-ltb, le-ltb}
+use Rattle.std.proofs.lemmas.List.{length-map}
 use Rattle.calculus.specs.declared.query.QAgg.{QAgg}
 use Rattle.calculus.specs.declared.query.RelKey.{RelKey}
 use Rattle.calculus.specs.declared.query.Query.{Query}
 use Rattle.calculus.specs.Database.{Db}
 use Rattle.calculus.specs.QueryParts.{vars_of, query_aggregates}
-use Rattle.calculus.specs.Sizes.{measure_of, measure_within, source_variables}
 use Rattle.quel_meaning.specs.Passing.{listed_variables, listed_expanded_variables, has_too_many}
+use Rattle.view_sizes.proofs.Stopped.{stopped_lt}
 
-as_listed : (q : Query) (vars : List RelKey) → vars ≡ vars_of q → query_aggregates q ≡ [] → listed_variables q ≡ length vars
-as_listed q vars e h = (λ i. length (sym e i) + length (h i)) ∙ none_more (length vars)
-  where
-    none_more : (n : ℕ) → n + 0 ≡ n
-    none_more n = omega arith
+-- variables and aggregates are counted
+pub listed : {X : Type 0} (q : Query) (vars : List RelKey) (f : X → QAgg) (xs : List X) (n : ℕ) → vars ≡ vars_of q → map f xs ≡ query_aggregates q
+    → n ≡ min (length vars + length xs) (2 ^ 64 - 1) → n ≡ min (listed_variables q) (2 ^ 64 - 1)
+listed q vars f xs n e g h = h ∙ (λ i. min (length (e i) + (sym (length-map xs f) ∙ ap length g) i) (2 ^ 64 - 1))
 
 -- more variables are listed than there may be
-pub too_many_listed : (db : Db) (q : Query) (vars : List RelKey) → vars ≡ vars_of q → query_aggregates q ≡ [] → 10 < length vars → true ≡ has_too_many db q
+pub too_many_listed : (db : Db) (q : Query) (n : ℕ) → n ≡ min (listed_variables q) (2 ^ 64 - 1) → 10 < n → true ≡ has_too_many db q
 unfolding has_too_many
-too_many_listed db q vars e h k = sym (ap (λ b. b || nat_lt 50 (listed_expanded_variables db q)) (ap (nat_lt 10) (as_listed q vars e h) ∙ lt-ltb _ _ k))
+too_many_listed db q n e more =
+    sym (ap (λ b. b || nat_lt 50 (listed_expanded_variables db q)) (sym (stopped_lt 10 (listed_variables q) (omega arith)) ∙ ap (nat_lt 10) (sym e) ∙ lt-ltb _ _ more))
 
 -- else it counts what they are once the views in them are put in
-pub too_many_expanded : (db : Db) (q : Query) (vars : List RelKey) (count : ℕ) → vars ≡ vars_of q → query_aggregates q ≡ [] → length vars ≤ 10
-    → count ≡ min (sum_by (λ key. (measure_within 16 db key).variables) vars) (2 ^ 64 - 1) → nat_lt 50 count ≡ has_too_many db q
-unfolding has_too_many measure_of
-too_many_expanded db q vars count e h few c =
-    ap (nat_lt 50) c ∙ limited (sum_by (λ key. (measure_within 16 db key).variables) vars)
-    ∙ ap (nat_lt 50) (all_counted (sum_by (λ key. (measure_within 16 db key).variables) vars)
-    ∙ (λ i. sum_by (λ key. (measure_within 16 db key).variables) (e i) + sum_by (λ (g : QAgg). source_variables (measure_of db) g.source) (sym h i)))
-    ∙ sym (ap (λ b. b || nat_lt 50 (listed_expanded_variables db q)) (ap (nat_lt 10) (as_listed q vars e h) ∙ le-ltb _ _ few))
-  where
-    all_counted : (n : ℕ) → n ≡ n + 0
-    all_counted n = omega arith
-
-    limited : (n : ℕ) → nat_lt 50 (min n (2 ^ 64 - 1)) ≡ nat_lt 50 n
-    limited n = go (nat_lt 50 n) refl
-      where
-        go : (b : Bool) → nat_lt 50 n ≡ b → nat_lt 50 (min n (2 ^ 64 - 1)) ≡ b
-        go true f = let more : 50 < n = ltb-true 50 n f in lt-ltb _ _ (omega arith)
-        go false f = let less : n ≤ 50 = ltb-false 50 n f in le-ltb _ _ (omega arith)
+pub too_many_expanded : (db : Db) (q : Query) (n count : ℕ) → n ≡ min (listed_variables q) (2 ^ 64 - 1) → n ≤ 10
+    → count ≡ min (listed_expanded_variables db q) (2 ^ 64 - 1) → nat_lt 50 count ≡ has_too_many db q
+unfolding has_too_many
+too_many_expanded db q n count e few c =
+    ap (nat_lt 50) c ∙ stopped_lt 50 (listed_expanded_variables db q) (omega arith)
+    ∙ sym (ap (λ b. b || nat_lt 50 (listed_expanded_variables db q)) (sym (stopped_lt 10 (listed_variables q) (omega arith)) ∙ ap (nat_lt 10) (sym e) ∙ le-ltb _ _ few))

@@ -4,20 +4,19 @@ ghost use Rattle.std.specs.Prelude.{◌≡◌, ◌∷◌, ◌&&◌, [], true, ma
 ghost use Rattle.am_traits.specs.Causes.{HasCause};
 ghost use Rattle.calculus.specs.Catalogue.{is_catalogue};
 ghost use Rattle.calculus.specs.Database.{Db, view_at};
-ghost use Rattle.calculus.specs.QueryParts.{query_aggregates};
 ghost use Rattle.calculus.specs.Replacement.{first_cause, wanted_kinds};
 ghost use Rattle.calculus.specs.Stored.{kinds_at};
 ghost use Rattle.quel_meaning.specs.Causes.{delete_causes, update_causes};
 ghost use Rattle.quel_meaning.specs.KindsInQueries.{assignments_fit, query_fits};
 ghost use Rattle.quel_meaning.specs.Scope.{Scope};
+ghost use Rattle.view_sizes.specs.Listing.{sources_list_few};
 
 use crate::counted::has_too_many;
-use crate::fitting::assignments_fit;
+use crate::fitting::{assignments_fit, query_fits};
 use crate::kinds::kinds_at;
 use crate::numbers::{IS_CATALOGUE, IS_VIEW, KINDS_DIFFER, NAMED_TWICE, PAST_LIMIT};
 use crate::places::is_catalogue_name;
 use crate::repeated::titles_repeat;
-use crate::retrieved::kinds_fit;
 use am_traits::{Base, BaseFault};
 use calculus::{Name, RelKey, Update};
 use std::alloc::Global;
@@ -77,12 +76,12 @@ pub fn relation_cause<B: Base>(
 /// Whether the kinds in an update's query fit each other, and those of its targets the attributes
 /// that they are for.
 fn update_fits<B: Base>(alloc: Global, base: &mut B, u: &Update) -> Result<bool, BaseFault>
-    ensures told { (db : Db) → B.database base.old ≡ Some db → query_aggregates u.now.query ≡ [] → wanted_kinds db u.now ≡ map (slice_get (kinds_at db u.now.rel)) u.now.places → IfOk result (λ fit. fit ≡ (query_fits db u.now.query && assignments_fit db u.now)) }
+    ensures told { (db : Db) → B.database base.old ≡ Some db → wanted_kinds db u.now ≡ map (slice_get (kinds_at db u.now.rel)) u.now.places → IfOk result (λ fit. fit ≡ (query_fits db u.now.query && assignments_fit db u.now)) }
     ensures kept { B.database base.new ≡ B.database base.old }
     ensures same { B.left base.new ≡ B.left base.old }
     ensures cause { HasCause (B.database base.old) (B.faults base.old) (B.faults base.new) result }
 {
-    if !kinds_fit(alloc, base, &u.query)? {
+    if !query_fits(alloc, base, &u.query)? {
         return Ok(false);
     }
     let kinds = kinds_at(alloc, base, &u.rel)?;
@@ -95,7 +94,7 @@ pub(crate) fn update_cause<B: Base>(
     base: &mut B,
     u: &Update,
 ) -> Result<Option<u8>, BaseFault>
-    ensures told { (s : Scope) → B.database base.old ≡ Some s.db → query_aggregates u.now.query ≡ [] → wanted_kinds s.db u.now ≡ map (slice_get (kinds_at s.db u.now.rel)) u.now.places → IfOk result (λ n. n ≡ first_cause (update_causes s true u.now)) }
+    ensures told { (s : Scope) → B.database base.old ≡ Some s.db → sources_list_few u.now.query ≡ true → wanted_kinds s.db u.now ≡ map (slice_get (kinds_at s.db u.now.rel)) u.now.places → IfOk result (λ n. n ≡ first_cause (update_causes s true u.now)) }
     ensures kept { B.database base.new ≡ B.database base.old }
     ensures same { B.left base.new ≡ B.left base.old }
     ensures cause { HasCause (B.database base.old) (B.faults base.old) (B.faults base.new) result }
@@ -118,7 +117,7 @@ pub(crate) fn delete_cause<B: Base>(
     base: &mut B,
     u: &Update,
 ) -> Result<Option<u8>, BaseFault>
-    ensures told { (s : Scope) → B.database base.old ≡ Some s.db → query_aggregates u.now.query ≡ [] → IfOk result (λ n. n ≡ first_cause (delete_causes s true u.now)) }
+    ensures told { (s : Scope) → B.database base.old ≡ Some s.db → sources_list_few u.now.query ≡ true → IfOk result (λ n. n ≡ first_cause (delete_causes s true u.now)) }
     ensures kept { B.database base.new ≡ B.database base.old }
     ensures same { B.left base.new ≡ B.left base.old }
     ensures cause { HasCause (B.database base.old) (B.faults base.old) (B.faults base.new) result }
@@ -126,7 +125,7 @@ pub(crate) fn delete_cause<B: Base>(
     if has_too_many(alloc, base, &u.query)? {
         return Ok(Some(PAST_LIMIT));
     }
-    if !kinds_fit(alloc, base, &u.query)? {
+    if !query_fits(alloc, base, &u.query)? {
         return Ok(Some(KINDS_DIFFER));
     }
     relation_cause(alloc, base, &u.rel)

@@ -1,15 +1,15 @@
 //! Whether a query lists too many variables.
 
-ghost use Rattle.std.specs.Prelude.{◌≡◌, [], IfOk, Some};
+ghost use Rattle.std.specs.Prelude.{◌≡◌, ◌-◌, ◌^◌, min, true, IfOk, Some};
 ghost use Rattle.am_traits.specs.Causes.{HasCause};
 ghost use Rattle.calculus.specs.Database.{Db};
-ghost use Rattle.calculus.specs.QueryParts.{query_aggregates};
-ghost use Rattle.quel_meaning.specs.Passing.{has_too_many};
+ghost use Rattle.quel_meaning.specs.Passing.{has_too_many, listed_variables};
+ghost use Rattle.view_sizes.specs.Listing.{sources_list_few};
 
 use am_traits::{Base, BaseFault};
-use calculus::Query;
+use calculus::{OutOfMemory, Query};
 use std::alloc::Global;
-use view_sizes::variables_under;
+use view_sizes::{aggregates_of, listed_expanded_variables};
 
 /// The variables that a query has at most.
 const MOST_VARIABLES: usize = 10;
@@ -17,18 +17,27 @@ const MOST_VARIABLES: usize = 10;
 /// The variables that a query has at most once the views in it are put in.
 const MOST_EXPANDED_VARIABLES: u64 = 50;
 
-/// Whether a query without aggregates lists more variables than it may, as it stands or once the
-/// views in it are put in.
+/// How many variables a query lists, each of its aggregates having one; it stops at the greatest number
+/// of 64 bits.
+fn listed_variables(alloc: Global, query: &Query) -> Result<usize, OutOfMemory>
+    ensures { IfOk result (λ n. n ≡ min (listed_variables query.now) (2 ^ 64 - 1)) }
+{
+    let aggregates = aggregates_of(alloc, query)?;
+    Ok(query.vars.items().len().saturating_add(aggregates.len()))
+}
+
+/// Whether a query lists more variables than it may, as it stands or once the views in it are put in,
+/// those of its aggregates counted too, where no query that is a source lists more than 256.
 pub fn has_too_many<B: Base>(alloc: Global, base: &mut B, query: &Query) -> Result<bool, BaseFault>
-    ensures told { (db : Db) → B.database base.old ≡ Some db → query_aggregates query.now ≡ [] → IfOk result (λ many. many ≡ has_too_many db query.now) }
+    ensures told { (db : Db) → B.database base.old ≡ Some db → sources_list_few query.now ≡ true → IfOk result (λ many. many ≡ has_too_many db query.now) }
     ensures kept { B.database base.new ≡ B.database base.old }
     ensures same { B.left base.new ≡ B.left base.old }
     ensures cause { HasCause (B.database base.old) (B.faults base.old) (B.faults base.new) result }
 {
-    let vars = query.vars.items();
-    if vars.len() > MOST_VARIABLES {
+    let listed = listed_variables(alloc, query)?;
+    if listed > MOST_VARIABLES {
         return Ok(true);
     }
-    let count = variables_under(alloc, base, vars)?;
+    let count = listed_expanded_variables(alloc, base, query)?;
     Ok(count > MOST_EXPANDED_VARIABLES)
 }

@@ -1,14 +1,19 @@
 //! Whether the kinds in a query, and those that an update sets, fit each other.
 
-ghost use Rattle.std.specs.Prelude.{◌≡◌, [], map, vec_items, zip, slice_get, Some};
+ghost use Rattle.std.specs.Prelude.{◌≡◌, map, vec_items, zip, slice_get, IfOk, Some};
 ghost use Rattle.std.specs.List.{list_all};
+ghost use Rattle.am_traits.specs.Causes.{HasCause};
 ghost use Rattle.calculus.specs.Database.{Db};
 ghost use Rattle.calculus.specs.IsDatabase.{has_kind, same_domain, same_kind, var_kinds};
-ghost use Rattle.calculus.specs.Kinds.{comparable, is_number_kind, kind_of};
-ghost use Rattle.calculus.specs.QueryParts.{query_aggregates};
-ghost use Rattle.quel_meaning.specs.KindsInQueries.{query_fits};
+ghost use Rattle.calculus.specs.Kinds.{comparable, kind_of};
+ghost use Rattle.quel_meaning.specs.KindsInQueries.{kind_in_query, query_fits};
 
-use calculus::{Domain, Kind, Query, Target, kind_of, kinds_fit};
+use crate::kinds::var_kinds;
+use crate::making::is_number_kind;
+use crate::terms::{kind_in_query, kinds_fit_in_query};
+use am_traits::{Base, BaseFault};
+use calculus::{Domain, Kind, Query, Target, kind_of};
+use std::alloc::Global;
 
 fn same_domain(left: Domain, right: Domain) -> bool
     ensures { result ≡ same_domain left right }
@@ -56,24 +61,58 @@ pub fn targets_fit(targets: &[Target], kinds: &[Vec<Kind>]) -> bool
     true
 }
 
-/// Whether the kinds in a query without aggregates fit each other, and each target is of its kind,
-/// where these are the kinds of each variable's attributes. Takes no memory.
-pub fn query_fits(q: &Query, kinds: &[Vec<Kind>]) -> bool
-    ensures { (db : Db) → query_aggregates q.now ≡ [] → var_kinds db q.now ≡ map vec_items kinds.now → result ≡ query_fits db q.now }
+/// Whether each target of a query is of its kind, where its variables have attributes of these kinds.
+fn all_of_kinds<B: Base>(
+    alloc: Global,
+    base: &mut B,
+    targets: &[Target],
+    vars: &[Vec<Kind>],
+) -> Result<bool, BaseFault>
+    ensures told { (db : Db) → B.database base.old ≡ Some db → IfOk result (λ fit. fit ≡ list_all (λ t. has_kind (kind_in_query db t.term (map vec_items vars.now)) t.kind) targets.now) }
+    ensures kept { B.database base.new ≡ B.database base.old }
+    ensures same { B.left base.new ≡ B.left base.old }
+    ensures cause { HasCause (B.database base.old) (B.faults base.old) (B.faults base.new) result }
 {
-    targets_fit(q.targets.items(), kinds) && kinds_fit(&q.qual, kinds)
+    for target in targets {
+        let kind = kind_in_query(alloc, base, &target.term, vars)?;
+        if !has_kind(kind, target.kind) {
+            return Ok(false);
+        }
+    }
+    Ok(true)
 }
 
-fn is_number_kind(kind: Kind) -> bool
-    ensures { result ≡ is_number_kind kind }
+/// Whether the kinds in a query fit, where its variables have attributes of these kinds.
+fn fits_over<B: Base>(
+    alloc: Global,
+    base: &mut B,
+    q: &Query,
+    vars: &[Vec<Kind>],
+) -> Result<bool, BaseFault>
+    ensures told { (db : Db) → B.database base.old ≡ Some db → var_kinds db q.now ≡ map vec_items vars.now → IfOk result (λ fit. fit ≡ query_fits db q.now) }
+    ensures kept { B.database base.new ≡ B.database base.old }
+    ensures same { B.left base.new ≡ B.left base.old }
+    ensures cause { HasCause (B.database base.old) (B.faults base.old) (B.faults base.new) result }
 {
-    match kind {
-        Kind::Wide => true,
-        Kind::Of(Domain::I1) => true,
-        Kind::Of(Domain::I2) => true,
-        Kind::Of(Domain::I4) => true,
-        Kind::Of(Domain::C(_)) => false,
+    let fit = all_of_kinds(alloc, base, q.targets.items(), vars)?;
+    if !fit {
+        return Ok(false);
     }
+    kinds_fit_in_query(alloc, base, &q.qual, vars)
+}
+
+/// Whether the kinds in a query fit each other, and each target is of its kind. The base is asked for
+/// the kinds of its variables and of the sources of its aggregates.
+pub fn query_fits<B: Base>(alloc: Global, base: &mut B, q: &Query) -> Result<bool, BaseFault>
+    ensures told { (db : Db) → B.database base.old ≡ Some db → IfOk result (λ fit. fit ≡ query_fits db q.now) }
+    ensures kept { B.database base.new ≡ B.database base.old }
+    ensures same { B.left base.new ≡ B.left base.old }
+    ensures cause { HasCause (B.database base.old) (B.faults base.old) (B.faults base.new) result }
+{
+    let kinds = var_kinds(alloc, base, q.vars.items())?;
+    let fit = fits_over(alloc, base, q, &kinds);
+    drop(kinds);
+    fit
 }
 
 #[tactic(auto, unfolding(calculus::specs::Kinds::comparable))]

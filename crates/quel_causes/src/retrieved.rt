@@ -3,16 +3,15 @@
 ghost use Rattle.std.specs.Prelude.{◌≡◌, ◌∷◌, ◌||◌, [], not, true, map, IfOk, Some};
 ghost use Rattle.am_traits.specs.Causes.{HasCause};
 ghost use Rattle.calculus.specs.Database.{Db};
-ghost use Rattle.calculus.specs.QueryParts.{query_aggregates, targets_of};
+ghost use Rattle.calculus.specs.QueryParts.{targets_of};
 ghost use Rattle.calculus.specs.Replacement.{first_cause, made_attr};
 ghost use Rattle.quel_meaning.specs.Causes.{into_causes, made_kinds, print_causes, sorts_by_titles};
-ghost use Rattle.quel_meaning.specs.KindsInQueries.{query_fits};
 ghost use Rattle.quel_meaning.specs.Passing.{has_too_many, is_full, is_taken, is_too_wide};
 ghost use Rattle.quel_meaning.specs.Scope.{Scope};
+ghost use Rattle.view_sizes.specs.Listing.{sources_list_few};
 
 use crate::counted::has_too_many;
 use crate::fitting::query_fits;
-use crate::kinds::var_kinds;
 use crate::numbers::{IN_USE, KINDS_DIFFER, NAMED_TWICE, PAST_LIMIT, TOO_WIDE, UNKNOWN};
 use crate::places::{is_full, is_taken};
 use crate::repeated::{sorts_by_titles, titles_repeat};
@@ -20,17 +19,6 @@ use crate::widths::{is_too_wide, made_kinds, target_kinds};
 use am_traits::{Base, BaseFault};
 use calculus::{Name, OutOfMemory, Query, Target};
 use std::alloc::Global;
-
-/// Whether the kinds in a query without aggregates fit each other, and each target is of its kind.
-pub(crate) fn kinds_fit<B: Base>(alloc: Global, base: &mut B, q: &Query) -> Result<bool, BaseFault>
-    ensures told { (db : Db) → B.database base.old ≡ Some db → query_aggregates q.now ≡ [] → IfOk result (λ fit. fit ≡ query_fits db q.now) }
-    ensures kept { B.database base.new ≡ B.database base.old }
-    ensures same { B.left base.new ≡ B.left base.old }
-    ensures cause { HasCause (B.database base.old) (B.faults base.old) (B.faults base.new) result }
-{
-    let kinds = var_kinds(alloc, base, q.vars.items())?;
-    Ok(query_fits(q, &kinds))
-}
 
 /// What refuses rows of these targets that are printed in this order: a name to sort by, their width.
 fn row_cause(
@@ -56,7 +44,7 @@ pub(crate) fn print_cause<B: Base>(
     sort: &[(Name, bool)],
     q: &Query,
 ) -> Result<Option<u8>, BaseFault>
-    ensures told { (s : Scope) → B.database base.old ≡ Some s.db → query_aggregates q.now ≡ [] → IfOk result (λ n. n ≡ first_cause (print_causes s true sort.now q.now)) }
+    ensures told { (s : Scope) → B.database base.old ≡ Some s.db → sources_list_few q.now ≡ true → IfOk result (λ n. n ≡ first_cause (print_causes s true sort.now q.now)) }
     ensures kept { B.database base.new ≡ B.database base.old }
     ensures same { B.left base.new ≡ B.left base.old }
     ensures cause { HasCause (B.database base.old) (B.faults base.old) (B.faults base.new) result }
@@ -64,7 +52,7 @@ pub(crate) fn print_cause<B: Base>(
     if has_too_many(alloc, base, q)? {
         return Ok(Some(PAST_LIMIT));
     }
-    if !kinds_fit(alloc, base, q)? {
+    if !query_fits(alloc, base, q)? {
         return Ok(Some(KINDS_DIFFER));
     }
     Ok(row_cause(alloc, q.targets.items(), sort)?)
@@ -77,7 +65,7 @@ pub(crate) fn has_no_room<B: Base>(
     base: &mut B,
     q: &Query,
 ) -> Result<bool, BaseFault>
-    ensures told { (db : Db) → B.database base.old ≡ Some db → query_aggregates q.now ≡ [] → IfOk result (λ none. none ≡ (has_too_many db q.now || is_full db)) }
+    ensures told { (db : Db) → B.database base.old ≡ Some db → sources_list_few q.now ≡ true → IfOk result (λ none. none ≡ (has_too_many db q.now || is_full db)) }
     ensures kept { B.database base.new ≡ B.database base.old }
     ensures same { B.left base.new ≡ B.left base.old }
     ensures cause { HasCause (B.database base.old) (B.faults base.old) (B.faults base.new) result }
@@ -155,7 +143,7 @@ pub(crate) fn into_cause<B: Base>(
     sort: &[(Name, bool)],
     q: &Query,
 ) -> Result<Option<u8>, BaseFault>
-    ensures told { (s : Scope) → B.database base.old ≡ Some s.db → s.user ≡ user.now → query_aggregates q.now ≡ [] → IfOk result (λ n. n ≡ first_cause (into_causes s true name.now sort.now q.now)) }
+    ensures told { (s : Scope) → B.database base.old ≡ Some s.db → s.user ≡ user.now → sources_list_few q.now ≡ true → IfOk result (λ n. n ≡ first_cause (into_causes s true name.now sort.now q.now)) }
     ensures kept { B.database base.new ≡ B.database base.old }
     ensures same { B.left base.new ≡ B.left base.old }
     ensures cause { HasCause (B.database base.old) (B.faults base.old) (B.faults base.new) result }
@@ -166,7 +154,7 @@ pub(crate) fn into_cause<B: Base>(
     if titles_repeat(alloc, q)? {
         return Ok(Some(NAMED_TWICE));
     }
-    if !kinds_fit(alloc, base, q)? {
+    if !query_fits(alloc, base, q)? {
         return Ok(Some(KINDS_DIFFER));
     }
     kept_cause(alloc, base, user, name, sort, q)

@@ -10,9 +10,10 @@ ghost use Rattle.quel_meaning.specs.Causes.{target_kinds, view_causes};
 ghost use Rattle.quel_meaning.specs.Passing.{has_too_many, is_full, is_taken, is_too_large, is_too_wide};
 ghost use Rattle.quel_meaning.specs.Scope.{Scope};
 
+use crate::fitting::query_fits;
 use crate::numbers::{KINDS_DIFFER, NAMED_TWICE, PAST_LIMIT, TOO_WIDE};
 use crate::repeated::titles_repeat;
-use crate::retrieved::{has_no_room, kinds_fit, name_cause};
+use crate::retrieved::{has_no_room, name_cause};
 use crate::widths::{is_too_wide, target_kinds};
 use am_traits::{Base, BaseFault};
 use calculus::{Name, OutOfMemory, Query};
@@ -112,7 +113,7 @@ pub(crate) fn view_cause<B: Base>(
     if titles_repeat(alloc, q)? {
         return Ok(Some(NAMED_TWICE));
     }
-    if !kinds_fit(alloc, base, q)? {
+    if !query_fits(alloc, base, q)? {
         return Ok(Some(KINDS_DIFFER));
     }
     shown_cause(alloc, base, user, name, q)

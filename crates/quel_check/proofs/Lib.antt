@@ -2,7 +2,10 @@ pub mod AggregateForms
 pub mod Among
 pub mod Declared
 pub mod Found
+pub mod InnerForms
+pub mod InnerTrees
 pub mod MentionForms
 pub mod OnceMore
 pub mod TreeForms
+pub mod TreesFrom
 pub mod VarForms

@@ -27,15 +27,15 @@ use Rattle.quel_meaning.specs.WrittenTree.{Vars, var_place, attr_in, compared, t
 
 -- ---- parts of what is known
 
-either_none : (a b : Bool) → (a || b) ≡ false → (a ≡ false) × (b ≡ false)
+pub either_none : (a b : Bool) → (a || b) ≡ false → (a ≡ false) × (b ≡ false)
 either_none true b h = cc h
 either_none false b h = (refl, h)
 
-both_so : (a b : Bool) → (a && b) ≡ true → (a ≡ true) × (b ≡ true)
+pub both_so : (a b : Bool) → (a && b) ≡ true → (a ≡ true) × (b ≡ true)
 both_so true b h = (refl, h)
 both_so false b h = cc h
 
-parted : (vars xs ys zs : Vars) → zs ≡ xs ++ ys → are_among vars zs ≡ true → (are_among vars xs ≡ true) × (are_among vars ys ≡ true)
+pub parted : (vars xs ys zs : Vars) → zs ≡ xs ++ ys → are_among vars zs ≡ true → (are_among vars xs ≡ true) × (are_among vars ys ≡ true)
 parted vars xs ys zs e h = both_so _ _ (sym (list_all-append (is_among vars) xs ys) ∙ ap (are_among vars) (sym e) ∙ h)
 
 none_parted : (a b c : Bool) → c ≡ (a || b) → c ≡ false → (a ≡ false) × (b ≡ false)

@@ -41,8 +41,12 @@ pub(crate) fn push_term<'a>(mentions: &mut Vec<Mention<'a>>, t: &'a Term) -> Res
     }
 }
 
+/// Puts the variables with their attributes in an aggregate behind the mentions.
 #[cycle(mentions)]
-fn push_aggregate<'a>(mentions: &mut Vec<Mention<'a>>, g: &'a AggTerm) -> Result<(), OutOfMemory>
+pub(crate) fn push_aggregate<'a>(
+    mentions: &mut Vec<Mention<'a>>,
+    g: &'a AggTerm,
+) -> Result<(), OutOfMemory>
     ensures { OnOk result (map seen mentions.new.items ≡ map seen mentions.old.items ++ dotted (attributes g.now.arg ++ (flat_map attributes g.now.by ++ attributes_in_qual g.now.qual))) }
 {
     push_term(mentions, &g.arg)?;

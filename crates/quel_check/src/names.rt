@@ -141,7 +141,7 @@ fn push_once(alloc: Global, found: &mut Vec<Name>, names: &[&Name]) -> Result<()
 }
 
 /// Each name once, in the order in which they first stand.
-fn once(alloc: Global, names: &[&Name]) -> Result<List<Name>, OutOfMemory>
+pub(crate) fn once(alloc: Global, names: &[&Name]) -> Result<List<Name>, OutOfMemory>
     ensures { IfOk result (λ found. found ≡ once (map (λ n. n.now) names.now)) }
 {
     let mut found: Vec<Name> = Vec::new(alloc);

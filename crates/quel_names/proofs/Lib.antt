@@ -1,5 +1,6 @@
 pub mod Alls
 pub mod Entries
+pub mod Inner
 pub mod Known
 pub mod Numbers
 pub mod Overs

@@ -4,6 +4,7 @@ ghost use Rattle.std.specs.Prelude.{◌≡◌, ◌++◌, ◌∷◌, [], ℕ, Lis
 ghost use Rattle.am_traits.specs.Causes.{HasCause};
 ghost use Rattle.calculus.specs.Database.{Db};
 ghost use Rattle.calculus.specs.declared.statement.Statement.{Statement};
+ghost use Rattle.quel_check.specs.Known.{inner_vars};
 ghost use Rattle.quel_meaning.specs.Naming.{name_refusal};
 ghost use Rattle.quel_meaning.specs.Scope.{Scope};
 ghost use Rattle.quel_meaning.specs.WrittenParts.{vars_in};
@@ -50,4 +51,10 @@ pub fn infos_of<B: Base>(
 #[tactic(auto, using(crate::proofs::Overs::named_vars_range))]
 pub fn variables_range_where_no_name_refuses()
     ensures { (s : Scope) (statement : Statement) → name_refusal s statement ≡ None → each_ranges s (vars_in statement) ≡ true }
+{}
+
+/// Where no name refuses a statement, the first variable of each of its aggregates ranges over something.
+#[tactic(auto, using(crate::proofs::Inner::inner_vars_range))]
+pub fn inner_variables_range_where_no_name_refuses()
+    ensures { (s : Scope) (statement : Statement) → name_refusal s statement ≡ None → each_ranges s (inner_vars statement) ≡ true }
 {}

@@ -15,6 +15,8 @@ mod targets;
 mod text;
 
 pub use am_traits::BaseFault;
-pub use infos::{infos_of, variables_range_where_no_name_refuses};
+pub use infos::{
+    infos_of, inner_variables_range_where_no_name_refuses, variables_range_where_no_name_refuses,
+};
 pub use looking::{info_at, named, ranged};
 pub use refusal::name_refusal;

@@ -1,6 +1,5 @@
 -- What refuses a statement with too many variables.
 use Rattle.std.proofs.Common.{◌≡◌, refl, ap, ◌∙◌, ℕ, ◌+◌, ◌<◌, arith, Bool, true, false, not, ◌||◌, List, [], ◌∷◌, length, map, slice_get, nat_lt, Option, Some, None}
-use Rattle.std.specs.List.{list_all}
 use Rattle.std.proofs.lemmas.Bool.{lt-ltb}
 use Rattle.std.proofs.lemmas.List.{length-map}
 use Rattle.calculus.specs.Change.{permit_numbers, rule_numbers}
@@ -13,7 +12,8 @@ use Rattle.calculus.specs.declared.statement.Statement.{Statement}
 use Rattle.calculus.specs.declared.statement.Statement.TheVariants as statement
 use Rattle.quel_causes.specs.Judged.{is_judged}
 use Rattle.quel_meaning.proofs.Each.{left, right}
-use Rattle.quel_meaning.specs.Aggregates.{aggregates_stand, aggregate_stands, keeps_a_text}
+use Rattle.quel_causes.proofs.Standing.{stands}
+use Rattle.quel_meaning.specs.Aggregates.{aggregates_stand}
 use Rattle.quel_meaning.specs.Causes.{Causes, causes, print_causes, into_causes, update_causes, delete_causes, view_causes, row_causes}
 use Rattle.quel_meaning.specs.Passing.{has_too_many, is_full, is_too_large}
 use Rattle.quel_meaning.specs.Planned.{is_past_limit}
@@ -39,17 +39,6 @@ judged stmt h = left (is_judged stmt) _ h
 none : {X : Type 0} (xs : List X) → is_any xs ≡ false → xs ≡ []
 none [] h = refl
 none (x ∷ xs) h = absurd (cc h)
-
--- where there is no aggregate, the aggregates stand
-stand : (s : Scope) (stmt : Statement) → is_any (text_aggregates stmt) ≡ false → aggregates_stand s stmt ≡ true
-unfolding aggregates_stand
-stand s stmt h =
-    ap (λ gs. elim (keeps_a_text stmt) as (λ b. Bool) [ true ↦ not (is_any gs) | false ↦ list_all (aggregate_stands s) gs ]) (none (text_aggregates stmt) h)
-    ∙ go (keeps_a_text stmt)
-  where
-    go : (b : Bool) → elim b as (λ c. Bool) [ true ↦ not false | false ↦ true ] ≡ true
-    go true = refl
-    go false = refl
 
 or_more : (a b : Bool) → a ≡ true → (a || b) ≡ true
 or_more true b k = refl
@@ -121,4 +110,4 @@ refused s (statement.Rule var qual) w h a m =
 
 -- 14 refuses it
 pub too_many : (s : Scope) (stmt : Statement) → is_built stmt ≡ true → 10 < length (vars_in stmt) → first_cause (causes s stmt) ≡ Some 14
-too_many s stmt w h = refused s stmt (judged stmt w) h (stand s stmt (no_aggregate stmt w)) (many s stmt h)
+too_many s stmt w h = refused s stmt (judged stmt w) h (stands s stmt (no_aggregate stmt w)) (many s stmt h)

@@ -38,6 +38,18 @@ fn variables(rt: &impl Abort, alloc: Global, count: usize) -> List<RelKey> {
 
 /// A query over so many variables for one term, under a title.
 pub fn query(rt: &impl Abort, alloc: Global, count: usize, title: &[u8], term: QTerm) -> Query {
+    query_where(rt, alloc, count, title, term, QQual::True)
+}
+
+/// The same where a qualification holds.
+pub fn query_where(
+    rt: &impl Abort,
+    alloc: Global,
+    count: usize,
+    title: &[u8],
+    term: QTerm,
+    qual: QQual,
+) -> Query {
     let target = Target {
         name: named(rt, alloc, title).expect(rt, "memory"),
         kind: Kind::Wide,
@@ -46,7 +58,7 @@ pub fn query(rt: &impl Abort, alloc: Global, count: usize, title: &[u8], term: Q
     Query {
         vars: variables(rt, alloc, count),
         targets: List::of(alone(rt, alloc, target)),
-        qual: QQual::True,
+        qual,
     }
 }
 

@@ -113,8 +113,8 @@ fn moved(
 ) -> Option<(usize, usize)> {
     let u = puts(rt, alloc, op, 7);
     let pairs = appends(rt, alloc, numbers);
-    let change = change_of(alloc, &mut Numbers { rows }, &u, &pairs);
-    drop((u, pairs));
+    let change = change_of(alloc, &mut Numbers { rows }, &u, pairs);
+    drop(u);
     match &change {
         Ok(DbChange::Rows { remove, add, .. }) => Some((remove.items().len(), add.items().len())),
         Ok(DbChange::Create { rows, .. }) => Some((0, rows.items().len())),

@@ -19,3 +19,7 @@ unfoldable pub tree_levels : Checked → ℕ
 tree_levels (checked.Answer asked) = greatest (map (λ a. query_levels a.query) asked)
 tree_levels (checked.Update update) = max (query_levels update.query) (greatest (map qual_levels (update.new_cut ∷ update.checks)))
 tree_levels (checked.Utility request) = utility_levels request
+
+-- the levels of a checked tree, at most: one of more can't be handed on as bytes
+abbrev pub most_tree_levels : ℕ
+most_tree_levels = 3000

@@ -1,3 +1,4 @@
 pub mod Plain
 pub mod Resolved
 pub mod Trees
+pub mod Shallow

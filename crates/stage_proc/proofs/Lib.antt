@@ -1,9 +1,11 @@
 pub mod Plain
+mod Untested
 pub mod Walks
 pub mod Results
 pub mod Faults
 pub mod Known
 pub mod Meaning
+pub mod Same
 pub mod Failing
 pub mod Changed
 pub mod Mapped

@@ -28,15 +28,15 @@ fn blank(alloc: Global, kind: Kind) -> Result<Value, OutOfMemory>
     }
 }
 
-/// The row in which no attribute is named.
-pub(crate) fn blank_row(alloc: Global, kinds: &[Kind]) -> Result<Row, OutOfMemory>
-    ensures { IfOk result (λ row. row ≡ map blank kinds.now) }
+/// The values of the row in which no attribute is named.
+fn blank_values(alloc: Global, kinds: &[Kind]) -> Result<Vec<Value>, OutOfMemory>
+    ensures { IfOk result (λ values. values.items ≡ map blank kinds.now) }
 {
     let mut values = Vec::new(alloc);
     for kind in kinds {
         values.push(blank(alloc, *kind)?)?;
     }
-    Ok(Row::of(values))
+    Ok(values)
 }
 
 /// Puts the value at the place, where there is one.
@@ -68,6 +68,17 @@ fn put_values(
     put_values(alloc, other_places, other_values, row)
 }
 
+/// The row in which these values are put at these places.
+fn with_put(alloc: Global, places: &[u8], values: &Row, row: Vec<Value>) -> Result<Row, OutOfMemory>
+    ensures { IfOk result (λ new. new ≡ with_values places.now values.now row.items) }
+{
+    let mut row = row;
+    match put_values(alloc, places, values.values(), &mut row) {
+        Ok(()) => Ok(Row::of(row)),
+        Err(error) => Err(error),
+    }
+}
+
 /// The row with these values at these places.
 pub(crate) fn with_values(
     alloc: Global,
@@ -77,7 +88,23 @@ pub(crate) fn with_values(
 ) -> Result<Row, OutOfMemory>
     ensures { IfOk result (λ new. new ≡ with_values places.now values.now row.now) }
 {
-    let mut new = copies(alloc, row.values())?;
-    put_values(alloc, places, values.values(), &mut new)?;
-    Ok(Row::of(new))
+    match copies(alloc, row.values()) {
+        Ok(new) => with_put(alloc, places, values, new),
+        Err(error) => Err(error),
+    }
+}
+
+/// The row that an append puts: what it doesn't name is blank.
+pub(crate) fn appended(
+    alloc: Global,
+    kinds: &[Kind],
+    places: &[u8],
+    values: &Row,
+) -> Result<Row, OutOfMemory>
+    ensures { IfOk result (λ new. new ≡ with_values places.now values.now (map blank kinds.now)) }
+{
+    match blank_values(alloc, kinds) {
+        Ok(new) => with_put(alloc, places, values, new),
+        Err(error) => Err(error),
+    }
 }

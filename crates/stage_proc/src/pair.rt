@@ -4,7 +4,7 @@ ghost use Rattle.std.specs.Prelude.{◌≡◌, map, slice_get, option_map, IfOk}
 ghost use Rattle.calculus.specs.Pairs.{blank, with_values};
 ghost use Rattle.stage_proc.specs.Given.{old_in, pair_of};
 
-use crate::new_row::{blank_row, with_values};
+use crate::new_row::{appended, with_values};
 use calculus::{Kind, OutOfMemory, Pair, Row, TryCopy, Update, UpdateOp};
 use scalar_eval::Assigned;
 use std::alloc::Global;
@@ -44,14 +44,6 @@ fn replaced(
         Some(row) => Ok(Some(with_values(alloc, places, values, row)?)),
         None => Ok(None),
     }
-}
-
-/// The row that an append puts: what it doesn't name is blank.
-fn appended(alloc: Global, kinds: &[Kind], places: &[u8], values: &Row) -> Result<Row, OutOfMemory>
-    ensures { IfOk result (λ new. new ≡ with_values places.now values.now (map blank kinds.now)) }
-{
-    let row = blank_row(alloc, kinds)?;
-    with_values(alloc, places, values, &row)
 }
 
 /// The pair where the old row is this one and the targets have these values.

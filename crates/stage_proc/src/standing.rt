@@ -1,12 +1,13 @@
 //! Whether a pair stands.
 
-ghost use Rattle.std.specs.Prelude.{◌≡◌, ◌&&◌, true, if◌then◌else◌, [], ◌∷◌, ◌++◌, filter, IfOk, OnOk};
+ghost use Rattle.std.specs.Prelude.{◌≡◌, ◌&&◌, true, if◌then◌else◌, [], ◌∷◌, ◌++◌, filter, IsTrue, IfOk, OnOk};
 ghost use Rattle.std.specs.List.{list_all};
+ghost use Rattle.calculus.specs.declared.change.Pair.{Pair as Changed};
 ghost use Rattle.calculus.specs.Pairs.{is_append};
-ghost use Rattle.calculus.specs.Term.{holds, no_aggs};
-ghost use Rattle.stage_proc.specs.Given.{row_stands, pair_stands};
+ghost use Rattle.calculus.specs.Term.{Env, holds, no_aggs};
+ghost use Rattle.stage_proc.specs.Given.{new_row_stands, pair_stands};
 
-use calculus::{OutOfMemory, Pair, QQual, Row, TryCopy, Update, UpdateOp};
+use calculus::{OutOfMemory, Pair, QQual, Row, Update, UpdateOp};
 use scalar_eval::{Assigned, holds};
 use std::alloc::Global;
 
@@ -52,29 +53,25 @@ fn stands_at(alloc: Global, u: &Update, at: &Assigned) -> Result<bool, OutOfMemo
     cut_holds(alloc, u, at)
 }
 
-/// Whether a new row stands.
-fn row_stands(alloc: Global, u: &Update, row: &Row) -> Result<bool, OutOfMemory>
-    ensures { IfOk result (λ b. b ≡ row_stands u.now row.now) }
+/// Whether the new row stands, where there is one. It is lent to the test, and given back unless memory
+/// is wanting.
+fn new_stands(alloc: Global, u: &Update, new: &mut Option<Row>) -> Result<bool, OutOfMemory>
+    ensures row { OnOk result (new.new ≡ new.old) }
+    ensures stands { IfOk result (λ b. b ≡ new_row_stands u.now new.old) }
 {
+    let Some(row) = new.take() else {
+        return Ok(true);
+    };
     let mut at = Assigned::new(alloc);
-    at.push(row.copy(alloc)?)?;
+    at.push(row)?;
     let stands = stands_at(alloc, u, &at);
+    *new = at.pop();
     drop(at);
     stands
 }
 
-/// Whether a pair stands: its new row has to.
-fn pair_stands(alloc: Global, u: &Update, pair: &Pair) -> Result<bool, OutOfMemory>
-    ensures { IfOk result (λ b. b ≡ pair_stands u.now pair.now) }
-{
-    match &pair.new {
-        Some(row) => row_stands(alloc, u, row),
-        None => Ok(true),
-    }
-}
-
-/// Puts the pair behind the others, where it stands.
-pub(crate) fn put_standing(
+/// Puts the pair behind the others, where it stands: its new row has to.
+fn put_tested(
     alloc: Global,
     u: &Update,
     pair: Pair,
@@ -82,7 +79,8 @@ pub(crate) fn put_standing(
 ) -> Result<(), OutOfMemory>
     ensures { OnOk result (pairs.new.items ≡ pairs.old.items ++ filter (pair_stands u.now) (pair ∷ [])) }
 {
-    match pair_stands(alloc, u, &pair) {
+    let mut pair = pair;
+    match new_stands(alloc, u, &mut pair.new) {
         Ok(true) => Ok(pairs.push(pair)?),
         Ok(false) => {
             drop(pair);
@@ -93,4 +91,52 @@ pub(crate) fn put_standing(
             Err(error)
         }
     }
+}
+
+/// Whether the qualification is the one that holds in every assignment.
+fn is_true(qual: &QQual) -> bool
+    ensures { IsTrue result → (e : Env) → holds no_aggs qual.now e ≡ true }
+{
+    match qual {
+        QQual::True => true,
+        _ => false,
+    }
+}
+
+/// Whether an update's own cut lets every new row through.
+fn cuts_none(u: &Update) -> bool
+    ensures { IsTrue result → (e : Env) → (if is_append u.now.op then holds no_aggs u.now.new_cut e else true) ≡ true }
+{
+    match u.op {
+        UpdateOp::Append => is_true(&u.new_cut),
+        UpdateOp::Replace => true,
+        UpdateOp::Delete => true,
+        UpdateOp::Into => true,
+    }
+}
+
+/// Whether nothing is to be tested of a new row.
+#[tactic(auto, using(crate::proofs::Untested::each_stands))]
+fn all_stand(u: &Update) -> bool
+    ensures { IsTrue result → (p : Changed) → pair_stands u.now p ≡ true }
+{
+    u.checks.items().is_empty() && cuts_none(u)
+}
+
+/// Puts the pair behind the others, where it stands. Its new row is tested only where something is to be
+/// tested of it, and is copied in no case.
+#[tactic(auto, using(crate::proofs::Untested::kept_one))]
+pub(crate) fn put_standing(
+    alloc: Global,
+    u: &Update,
+    pair: Pair,
+    pairs: &mut Vec<Pair>,
+) -> Result<(), OutOfMemory>
+    ensures { OnOk result (pairs.new.items ≡ pairs.old.items ++ filter (pair_stands u.now) (pair ∷ [])) }
+{
+    if all_stand(u) {
+        pairs.push(pair)?;
+        return Ok(());
+    }
+    put_tested(alloc, u, pair, pairs)
 }

@@ -1,5 +1,8 @@
 //! What the calls are given: names, statements, and what is known of relations.
 
+ghost use Rattle.std.specs.Prelude.{◌≡◌, true};
+ghost use Rattle.quel_meaning.specs.IsWritten.{is_written};
+
 use calculus::{Attr, Domain, Kind, List, Name, RelInfo, RelKey, Spec, Statement};
 use quel_parse::next_statement;
 use std::alloc::Global;
@@ -11,7 +14,10 @@ pub(crate) fn name(rt: &impl Abort, alloc: Global, bytes: &[u8]) -> Name {
 }
 
 /// The statement that a text begins with.
-pub(crate) fn statement(rt: &impl Abort, alloc: Global, text: &[u8]) -> Statement {
+#[tactic(auto, using(reading_laws::proofs::Statements::computed_written))]
+pub(crate) fn statement(rt: &impl Abort, alloc: Global, text: &[u8]) -> Statement
+    ensures { is_written result ≡ true }
+{
     let read = next_statement(alloc, text, 0).expect(rt, "memory");
     let (statement, _) = read.expect(rt, "a statement");
     statement
@@ -25,11 +31,22 @@ pub(crate) fn relation(
     first: &[u8],
     second: &[u8],
 ) -> RelInfo {
+    let small = Kind::Of(Domain::I2);
+    relation_of(rt, alloc, rel, [(first, small), (second, small)])
+}
+
+/// ann's relation of this name with these two attributes.
+pub(crate) fn relation_of(
+    rt: &impl Abort,
+    alloc: Global,
+    rel: &[u8],
+    both: [(&[u8], Kind); 2],
+) -> RelInfo {
     let mut attrs = Vec::new(alloc);
-    for attr in [first, second] {
+    for (attr, kind) in both {
         let attr = Attr {
             name: name(rt, alloc, attr),
-            kind: Kind::Of(Domain::I2),
+            kind,
         };
         attrs.push(attr).expect(rt, "memory");
     }

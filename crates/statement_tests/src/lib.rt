@@ -1,10 +1,13 @@
-//! Tests of checking, naming, asking, judging and resolving statements, through public calls alone.
+//! Tests of checking, naming, asking, judging and resolving statements, and of what they become, through
+//! public calls alone.
 #![tactic(auto)]
 
 #[cfg(test)]
 mod answers;
 #[cfg(test)]
 mod causes;
+#[cfg(test)]
+mod checked;
 #[cfg(test)]
 mod checks;
 #[cfg(test)]

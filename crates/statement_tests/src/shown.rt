@@ -1,6 +1,6 @@
 //! Trees as bytes: places as digits, `VARIABLE.ATTRIBUTE`.
 
-use calculus::{ArithOp, Domain, Kind, QQual, QTerm, Query, RelKey, Target};
+use calculus::{ArithOp, Asked, Domain, Kind, QQual, QTerm, Query, RelKey, Target};
 use std::process::Abort;
 
 /// Puts bytes behind the others.
@@ -38,8 +38,8 @@ pub(crate) fn put_term(rt: &impl Abort, shown: &mut Vec<u8>, term: &QTerm) {
     }
 }
 
-/// Puts a match with a pattern behind the others; a question mark for what compares terms or
-/// qualifications.
+/// Puts a match with a pattern, or what is joined of such, behind the others; a question mark for what
+/// compares terms.
 pub(crate) fn put_qual(rt: &impl Abort, shown: &mut Vec<u8>, qual: &QQual) {
     match qual {
         QQual::True => put(rt, shown, b"true"),
@@ -51,6 +51,18 @@ pub(crate) fn put_qual(rt: &impl Abort, shown: &mut Vec<u8>, qual: &QQual) {
             put_term(rt, shown, term);
             put(rt, shown, b" like ");
             put(rt, shown, pattern.bytes());
+        }
+        QQual::And(left, right) => {
+            put_qual(rt, shown, left.get());
+            put(rt, shown, b" and ");
+            put_qual(rt, shown, right.get());
+        }
+        QQual::Or(left, right) => {
+            put(rt, shown, b"(");
+            put_qual(rt, shown, left.get());
+            put(rt, shown, b" or ");
+            put_qual(rt, shown, right.get());
+            put(rt, shown, b")");
         }
         _ => put(rt, shown, b"?"),
     }
@@ -87,4 +99,17 @@ pub(crate) fn put_query(rt: &impl Abort, shown: &mut Vec<u8>, query: &Query) {
         put_target(rt, shown, target);
     }
     put_qual(rt, shown, &query.qual);
+}
+
+/// Puts the queries that are asked behind the others.
+pub(crate) fn put_asked(rt: &impl Abort, shown: &mut Vec<u8>, all: &[Asked]) {
+    for asked in all {
+        put_query(rt, shown, &asked.query);
+    }
+}
+
+/// Puts the two digits of a number that refuses a statement behind the others.
+pub(crate) fn put_number(rt: &impl Abort, shown: &mut Vec<u8>, number: u8) {
+    put_digit(rt, shown, number / 10);
+    put_digit(rt, shown, number % 10);
 }

@@ -1,9 +1,9 @@
 //! Views, permits and rules that are defined, and permits and rules that go.
 
-use crate::given::{name, relation, statement, two_relations, two_vars};
-use crate::shown::{put, put_digit, put_key, put_qual, put_query};
+use crate::given::{name, relation_of, statement, two_relations, two_vars};
+use crate::shown::{put, put_asked, put_digit, put_key, put_number, put_qual, put_query};
 use crate::tall::Tall;
-use calculus::{Checked, Permit, RelKey, Rule, Utility};
+use calculus::{Checked, Domain, Kind, Permit, RelKey, Rule, Utility};
 use quel_check::RangeTable;
 use quel_query::query_of;
 use quel_resolve::{CheckFault, resolve};
@@ -11,8 +11,12 @@ use std::alloc::Global;
 use std::process::Abort;
 use std::test::*;
 
-/// A base with so many rules, whose views have one target, on each level larger by 10: 151 on level 15.
-fn base(rt: &impl Abort, alloc: Global, rules: u32) -> Tall {
+/// How many rules and permits a relation has, and how many relations, views and indexes there are.
+pub(crate) type Standing = (u32, u32, u32);
+
+/// A base with so many of each, of relations with two attributes, the first of this kind and the second of
+/// that, whose views have one target, on each level larger by 10: 151 on level 15.
+pub(crate) fn base(rt: &impl Abort, alloc: Global, standing: Standing, kinds: [Kind; 2]) -> Tall {
     let s = statement(rt, alloc, b"retrieve (a = x.a+1+1+1+1+1)");
     let vars = two_vars(rt, alloc);
     let infos = two_relations(rt, alloc);
@@ -20,8 +24,16 @@ fn base(rt: &impl Abort, alloc: Global, rules: u32) -> Tall {
     drop(infos);
     drop(vars);
     drop(s);
-    let info = relation(rt, alloc, b"p", b"a", b"b");
-    Tall { info, query, rules }
+    let [first, second] = kinds;
+    let info = relation_of(rt, alloc, b"p", [(b"a", first), (b"b", second)]);
+    let (rules, permits, entries) = standing;
+    Tall {
+        info,
+        query,
+        rules,
+        permits,
+        entries,
+    }
 }
 
 fn key(rt: &impl Abort, alloc: Global, rel: &[u8]) -> RelKey {
@@ -31,12 +43,14 @@ fn key(rt: &impl Abort, alloc: Global, rel: &[u8]) -> RelKey {
     }
 }
 
-/// `x` over `p`, `y` over `q`, `t` over the view on level 16, and `z` over the one on level 15.
-fn ranges(rt: &impl Abort, alloc: Global) -> RangeTable {
+/// `x` over `p`, `y` over `q`, `v` over the view on level 1, `t` over the one on level 16, and `z` over the
+/// one on level 15.
+pub(crate) fn ranges(rt: &impl Abort, alloc: Global) -> RangeTable {
     let mut ranges = RangeTable::new(alloc);
     for (var, rel) in [
         (b"x", b"p".as_slice()),
         (b"y", b"q"),
+        (b"v", b"va"),
         (b"z", b"vo"),
         (b"t", b"vp"),
     ] {
@@ -105,27 +119,44 @@ fn put_work(rt: &impl Abort, shown: &mut Vec<u8>, work: &Utility) {
 fn put_answer(rt: &impl Abort, shown: &mut Vec<u8>, answer: &Result<Checked, CheckFault>) {
     match answer {
         Ok(Checked::Utility(work)) => put_work(rt, shown, work),
-        Err(CheckFault::No(number)) => {
-            put_digit(rt, shown, *number / 10);
-            put_digit(rt, shown, *number % 10);
-        }
+        Ok(Checked::Answer(all)) => put_asked(rt, shown, all.items()),
+        Err(CheckFault::No(number)) => put_number(rt, shown, *number),
         _ => put(rt, shown, b"?"),
     }
 }
 
-/// What ann's statement asks a base for that has so many rules on each relation.
-fn shown(rt: &impl Abort, alloc: Global, text: &[u8], rules: u32) -> Vec<u8> {
+/// What ann's statement asks this base for.
+fn shown_in(rt: &impl Abort, alloc: Global, text: &[u8], base: &mut Tall) -> Vec<u8> {
     let mut shown = Vec::new(alloc);
-    let mut base = base(rt, alloc, rules);
     let ranges = ranges(rt, alloc);
     let user = name(rt, alloc, b"ann");
     let s = statement(rt, alloc, text);
-    let answer = resolve(alloc, &s, &user, &ranges, &mut base);
+    let answer = resolve(alloc, &s, &user, &ranges, base);
     put_answer(rt, &mut shown, &answer);
     drop(answer);
     drop(s);
     drop(user);
     drop(ranges);
+    shown
+}
+
+/// What ann's statement asks a base for where so much stands.
+fn shown(rt: &impl Abort, alloc: Global, text: &[u8], standing: Standing) -> Vec<u8> {
+    let mut base = base(
+        rt,
+        alloc,
+        standing,
+        [Kind::Of(Domain::I2), Kind::Of(Domain::I2)],
+    );
+    let shown = shown_in(rt, alloc, text, &mut base);
+    drop(base);
+    shown
+}
+
+/// What ann's statement asks a base for whose attributes are a text of 250 bytes and a wide number.
+fn shown_wide(rt: &impl Abort, alloc: Global, text: &[u8]) -> Vec<u8> {
+    let mut base = base(rt, alloc, (0, 0, 1), [Kind::Of(Domain::C(250)), Kind::Wide]);
+    let shown = shown_in(rt, alloc, text, &mut base);
     drop(base);
     shown
 }
@@ -188,9 +219,74 @@ const STORED: [(&[u8], u32, &[u8]); 22] = [
     (b"destroy integrity w 2", 0, b"10"),
 ];
 
+/// A text, how many permits and how many relations, views and indexes stand, and what its statement asks
+/// for, or the number that refuses it.
+const CROWDED: [(&[u8], u32, u32, &[u8]); 10] = [
+    (
+        b"define view w (x.a)",
+        0,
+        9_999,
+        b"ann's w, ann's p, a i2 0.0, true",
+    ),
+    (b"define view w (x.a)", 0, 10_000, b"14"),
+    (b"define view p (x.a, x.a)", 0, 10_000, b"14"),
+    (b"retrieve into w (x.a)", 0, 10_000, b"14"),
+    (b"create w (a = i2)", 0, 10_000, b"14"),
+    (
+        b"define permit retrieve on x to all",
+        99,
+        1,
+        b"ann's p, 01 of  to  where true",
+    ),
+    (b"define permit retrieve on x to all", 100, 1, b"14"),
+    (b"define permit retrieve on u to all", 100, 1, b"11"),
+    (b"define view w (u.a)", 0, 10_000, b"11"),
+    (b"define integrity on u is u.a = 1", 0, 1, b"11"),
+];
+
+/// Four texts of 250 bytes of a view, and its wide number, are too wide; the statements, and what they ask
+/// for, or the numbers that refuse them.
+const WIDE: [(&[u8], &[u8]); 6] = [
+    (
+        b"retrieve (k = z.a, l = z.a, m = z.a, o = z.b)",
+        b"ann's vo, k ? 0.0, l ? 0.0, m ? 0.0, o wide 0.1, true",
+    ),
+    (
+        b"retrieve (k = z.a, l = z.a, m = z.a, n = z.a, o = z.b)",
+        b"16",
+    ),
+    (
+        b"retrieve (k = z.a, l = z.a, m = z.a, n = z.a, o = z.b) where 1 = \"b\"",
+        b"13",
+    ),
+    (
+        b"retrieve into p (k = z.a, l = z.a, m = z.a, n = z.a, o = z.b)",
+        b"16",
+    ),
+    (
+        b"define view p (k = z.a, l = z.a, m = z.a, n = z.a, o = z.b)",
+        b"16",
+    ),
+    (b"define view p (k = z.a, l = z.a, m = z.a, n = z.a)", b"15"),
+];
+
 #[test]
 fn views_permits_and_rules_are_resolved_or_refused_in_order(rt: HostRuntime) {
     for (text, rules, wanted) in &STORED {
-        assert!(rt; shown(&rt, rt.alloc(), *text, *rules).as_slice() == *wanted);
+        assert!(rt; shown(&rt, rt.alloc(), *text, (*rules, 0, 1)).as_slice() == *wanted);
+    }
+}
+
+#[test]
+fn what_is_full_and_what_is_not_declared_refuses(rt: HostRuntime) {
+    for (text, permits, entries, wanted) in &CROWDED {
+        assert!(rt; shown(&rt, rt.alloc(), *text, (0, *permits, *entries)).as_slice() == *wanted);
+    }
+}
+
+#[test]
+fn a_row_of_a_view_may_be_too_wide(rt: HostRuntime) {
+    for (text, wanted) in &WIDE {
+        assert!(rt; shown_wide(&rt, rt.alloc(), *text).as_slice() == *wanted);
     }
 }

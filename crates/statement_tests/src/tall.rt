@@ -12,7 +12,7 @@ use memory::{List, both};
 use std::alloc::Global;
 
 /// A base that tells no database. Under each key but that of `w` the same attributes are known, and
-/// so many rules stand there; under `va`, `vb` and so on stand views, the first over `pp`, which is none, each other
+/// so many rules and permits stand there; under `va`, `vb` and so on stand views, the first over `pp`, which is none, each other
 /// one over the one before it, and each with the same targets.
 #[derive(Drop)]
 pub(crate) struct Tall {
@@ -20,8 +20,12 @@ pub(crate) struct Tall {
     pub(crate) info: RelInfo,
     /// A query with the targets of the views.
     pub(crate) query: Query,
-    /// How many rules a relation has.
+    /// How many rules a relation has, each of which every row meets.
     pub(crate) rules: u32,
+    /// How many permits a relation has, each to retrieve every row, for all users.
+    pub(crate) permits: u32,
+    /// How many relations, views and indexes there are said to be.
+    pub(crate) entries: u32,
 }
 
 /// The name of what a view is over, by its own name; `None` of what is no view.
@@ -78,6 +82,25 @@ fn rules(alloc: Global, count: u32) -> Result<Vec<Rule>, OutOfMemory> {
     Ok(rules)
 }
 
+/// A permit to retrieve all, for all users.
+fn permit(alloc: Global, number: u32) -> Permit {
+    Permit {
+        number,
+        ops: 1,
+        attrs: List::of(Vec::new(alloc)),
+        user: None,
+        qual: QQual::True,
+    }
+}
+
+fn permits(alloc: Global, count: u32) -> Result<Vec<Permit>, OutOfMemory> {
+    let mut permits = Vec::new(alloc);
+    for number in 0..count {
+        permits.push(permit(alloc, number))?;
+    }
+    Ok(permits)
+}
+
 impl Tall {
     /// What is known under a key of this owner and name.
     fn known(&self, alloc: Global, owner: &Name, name: &Name) -> Result<RelInfo, OutOfMemory> {
@@ -121,12 +144,15 @@ impl Base for Tall {
 
     ghost scanned = { λ _ _ _ h. absurd (subst (λ o. MatchOption o (Unit {0}) (λ _. ⊥)) h tt) };
 
-    fn dba(&mut self, _alloc: Global) -> Result<Name, BaseFault> {
-        Err(BaseFault::OutOfMemory)
+    fn dba(&mut self, alloc: Global) -> Result<Name, BaseFault> {
+        match self.info.key.owner.copy(alloc) {
+            Ok(name) => Ok(name),
+            Err(_) => Err(BaseFault::OutOfMemory),
+        }
     }
 
     fn count(&mut self) -> Result<u32, BaseFault> {
-        Ok(1)
+        Ok(self.entries)
     }
 
     fn find(
@@ -184,7 +210,10 @@ impl Base for Tall {
     }
 
     fn permits(&mut self, alloc: Global, _key: &RelKey) -> Result<Vec<Permit>, BaseFault> {
-        Ok(Vec::new(alloc))
+        match permits(alloc, self.permits) {
+            Ok(permits) => Ok(permits),
+            Err(_) => Err(BaseFault::OutOfMemory),
+        }
     }
 
     fn named_by_view(

@@ -5,9 +5,13 @@
 #[cfg(test)]
 mod answers;
 #[cfg(test)]
+mod changed;
+#[cfg(test)]
 mod guarded;
 #[cfg(test)]
 mod outside;
+#[cfg(test)]
+mod shown;
 #[cfg(test)]
 mod trials;
 #[cfg(test)]

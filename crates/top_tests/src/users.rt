@@ -13,7 +13,7 @@ use std::process::Abort;
 use std::test::*;
 
 /// A user, a batch of statements, and what it prints.
-type Turn = (&'static [u8], &'static [u8], &'static [u8]);
+pub(crate) type Turn = (&'static [u8], &'static [u8], &'static [u8]);
 
 /// Two permits of an attribute each don't permit both, and none of them a deletion. What a statement names,
 /// its kinds and its titles are judged before its permits.
@@ -371,7 +371,7 @@ fn run_batch(
 }
 
 /// Whether each of these batches prints what it should, all on one database, whose administrator is ann.
-fn all_print(rt: &(impl Abort + AllocGlobal), turns: &[Turn]) -> bool {
+pub(crate) fn all_print(rt: &(impl Abort + AllocGlobal), turns: &[Turn]) -> bool {
     let mut base = DbPlain::new(rt.alloc(), name(rt, b"ann"));
     let mut printed = Vec::new(rt.alloc());
     let mut wanted = Vec::new(rt.alloc());

@@ -1,7 +1,5 @@
 pub mod Fitted
-pub mod KindForms
 pub mod Known
-pub mod Linked
 pub mod Parts
 pub mod ReadParts
 pub mod RelationForms

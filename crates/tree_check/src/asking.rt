@@ -9,10 +9,10 @@ ghost use Rattle.calculus.specs.Sizes.{expanded_variables};
 ghost use Rattle.quel_meaning.specs.FitQueries.{asked_fits, kept_alone, sort_is_in_range};
 ghost use Rattle.view_sizes.specs.Listing.{sources_list_few};
 
-use crate::queries::query_fits;
 use crate::reading::reads_fit;
 use am_traits::{Base, BaseFault};
 use calculus::{Asked, Query, SortKey};
+use quel_causes::query_fits;
 use std::alloc::Global;
 use view_sizes::expanded_variables;
 

@@ -1,10 +1,8 @@
 //! Whether a tree is fit for a user and a database.
 #![tactic(auto)]
 
-mod aggregates;
 mod asking;
 mod columns;
-mod kinds;
 mod made;
 mod queries;
 mod reading;
@@ -12,7 +10,6 @@ mod relations;
 mod slots;
 mod sources;
 mod standing;
-mod terms;
 mod tree;
 mod updates;
 mod utilities;

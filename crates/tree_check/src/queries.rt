@@ -1,74 +1,19 @@
-//! Whether the kinds in a query fit.
+//! Whether the kinds in the query of an update fit.
 
 ghost use Rattle.std.specs.Prelude.{◌≡◌, ◌&&◌, map, vec_items, IfOk, Some};
 ghost use Rattle.std.specs.List.{list_all};
 ghost use Rattle.am_traits.specs.Causes.{HasCause};
 ghost use Rattle.calculus.specs.Database.{Db};
-ghost use Rattle.calculus.specs.IsDatabase.{has_kind, is_kind, var_kinds};
+ghost use Rattle.calculus.specs.IsDatabase.{is_kind, var_kinds};
 ghost use Rattle.calculus.specs.Kinds.{comparable};
 ghost use Rattle.quel_meaning.specs.Fit.{update_kinds_fit};
-ghost use Rattle.quel_meaning.specs.KindsInQueries.{kind_in_query, query_fits};
+ghost use Rattle.quel_meaning.specs.KindsInQueries.{kind_in_query};
 
-use crate::kinds::comparable;
-use crate::terms::{kind_in_query, kinds_fit_in_query};
 use am_traits::{Base, BaseFault};
 use calculus::{Kind, Query, Target};
 use change_check::is_kind;
-use quel_causes::{has_kind, var_kinds};
+use quel_causes::{comparable, kind_in_query, kinds_fit_in_query, var_kinds};
 use std::alloc::Global;
-
-/// Whether each of these few targets is of its kind.
-fn targets_fit<B: Base>(
-    alloc: Global,
-    base: &mut B,
-    targets: &[Target],
-    vars: &[Vec<Kind>],
-) -> Result<bool, BaseFault>
-    ensures told { (db : Db) → B.database base.old ≡ Some db → IfOk result (λ fit. fit ≡ list_all (λ t. has_kind (kind_in_query db t.term (map vec_items vars.now)) t.kind) targets.now) }
-    ensures kept { B.database base.new ≡ B.database base.old }
-    ensures same { B.left base.new ≡ B.left base.old }
-    ensures cause { HasCause (B.database base.old) (B.faults base.old) (B.faults base.new) result }
-{
-    let Some((target, others)) = targets.split_first() else {
-        return Ok(true);
-    };
-    let kind = kind_in_query(alloc, base, &target.term, vars)?;
-    if !has_kind(kind, target.kind) {
-        return Ok(false);
-    }
-    targets_fit(alloc, base, others, vars)
-}
-
-/// Whether the kinds in a query with few targets fit, where its variables have attributes of these kinds.
-fn fits_over<B: Base>(
-    alloc: Global,
-    base: &mut B,
-    q: &Query,
-    vars: &[Vec<Kind>],
-) -> Result<bool, BaseFault>
-    ensures told { (db : Db) → B.database base.old ≡ Some db → var_kinds db q.now ≡ map vec_items vars.now → IfOk result (λ fit. fit ≡ query_fits db q.now) }
-    ensures kept { B.database base.new ≡ B.database base.old }
-    ensures same { B.left base.new ≡ B.left base.old }
-    ensures cause { HasCause (B.database base.old) (B.faults base.old) (B.faults base.new) result }
-{
-    if !targets_fit(alloc, base, q.targets.items(), vars)? {
-        return Ok(false);
-    }
-    kinds_fit_in_query(alloc, base, &q.qual, vars)
-}
-
-/// Whether the kinds in a query with few targets fit, and each target is of its kind.
-pub(crate) fn query_fits<B: Base>(alloc: Global, base: &mut B, q: &Query) -> Result<bool, BaseFault>
-    ensures told { (db : Db) → B.database base.old ≡ Some db → IfOk result (λ fit. fit ≡ query_fits db q.now) }
-    ensures kept { B.database base.new ≡ B.database base.old }
-    ensures same { B.left base.new ≡ B.left base.old }
-    ensures cause { HasCause (B.database base.old) (B.faults base.old) (B.faults base.new) result }
-{
-    let kinds = var_kinds(alloc, base, q.vars.items())?;
-    let fit = fits_over(alloc, base, q, &kinds);
-    drop(kinds);
-    fit
-}
 
 /// Whether the kinds of targets are ones.
 fn are_kinds(targets: &[Target]) -> bool

@@ -1,6 +1,6 @@
 //! Updates.
 
-ghost use Rattle.std.specs.Prelude.{◌≡◌, ◌≤◌, ◌&&◌, map, length, nat_eq, nat_le, slice_get, true, vec_items, zip, IfOk, Some};
+ghost use Rattle.std.specs.Prelude.{◌≡◌, ◌≤◌, ◌&&◌, map, length, nat_eq, nat_le, slice_get, true, vec_items, zip, IfOk, Some, ◌∷◌, []};
 ghost use Rattle.std.specs.List.{list_all};
 ghost use Rattle.am_traits.specs.Causes.{HasCause};
 ghost use Rattle.calculus.specs.Database.{Db};
@@ -13,7 +13,6 @@ ghost use Rattle.quel_meaning.specs.FitQueries.{kept_alone};
 ghost use Rattle.quel_meaning.specs.KindsInQueries.{assignments_fit};
 ghost use Rattle.view_sizes.specs.Listing.{sources_list_few};
 
-use crate::aggregates::alone;
 use crate::queries::update_kinds_fit;
 use crate::reading::reads_fit;
 use crate::relations::relation_fits;
@@ -93,6 +92,15 @@ fn all_fit(checks: &[QQual], vars: &[Vec<Kind>]) -> bool
     ensures { result ≡ list_all (λ q. kinds_fit q (map vec_items vars.now)) checks.now }
 {
     checks.iter().all(|check| kinds_fit(check, vars))
+}
+
+/// The kinds of the attributes of one variable, as those of all variables.
+fn alone(alloc: Global, kinds: Vec<Kind>) -> Result<Vec<Vec<Kind>>, OutOfMemory>
+    ensures { IfOk result (λ vars. map vec_items vars.items ≡ kinds.items ∷ []) }
+{
+    let mut vars = Vec::new(alloc);
+    vars.push(kinds)?;
+    Ok(vars)
 }
 
 /// Whether what must hold of a new row speaks of that row alone, and its kinds fit, where it has

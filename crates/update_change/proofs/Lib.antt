@@ -1,4 +1,3 @@
-mod After
 mod Failing
 mod Few
 mod TargetsRead

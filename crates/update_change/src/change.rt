@@ -34,15 +34,15 @@ fn rows_change<B: Base>(
     alloc: Global,
     base: &mut B,
     u: &Update,
-    pairs: &[Pair],
+    pairs: Vec<Pair>,
 ) -> Result<DbChange, UpdateFault>
     ensures change { (db : Db) → B.database base.old ≡ Some db
-        → IfOk result (λ c. c ≡ rows_change u.now (rows_at db u.now.rel) (after (rows_at db u.now.rel) pairs.now)) }
-    ensures uncontended { OnOk result (IsFalse (contended pairs.now)) }
-    ensures few { (db : Db) → B.database base.old ≡ Some db → OnOk result (length (after (rows_at db u.now.rel) pairs.now) ≤ most_rows) }
+        → IfOk result (λ c. c ≡ rows_change u.now (rows_at db u.now.rel) (after (rows_at db u.now.rel) pairs.items)) }
+    ensures uncontended { OnOk result (IsFalse (contended pairs.items)) }
+    ensures few { (db : Db) → B.database base.old ≡ Some db → OnOk result (length (after (rows_at db u.now.rel) pairs.items) ≤ most_rows) }
     ensures kept { B.database base.new ≡ B.database base.old }
     ensures same { B.left base.new ≡ B.left base.old }
-    ensures cause { HasCause u.now pairs.now (B.database base.old) (B.faults base.old) (B.faults base.new) result }
+    ensures cause { HasCause u.now pairs.items (B.database base.old) (B.faults base.old) (B.faults base.new) result }
 {
     let change = rows_moved(alloc, base, u, pairs)?;
     match u.rel.copy(alloc) {
@@ -68,17 +68,17 @@ pub fn change_of<B: Base>(
     alloc: Global,
     base: &mut B,
     u: &Update,
-    pairs: &[Pair],
+    pairs: Vec<Pair>,
 ) -> Result<DbChange, UpdateFault>
-    ensures change { (db : Db) → B.database base.old ≡ Some db → MakesNew db u.now → IfOk result (λ c. c ≡ change_by db u.now pairs.now) }
+    ensures change { (db : Db) → B.database base.old ≡ Some db → MakesNew db u.now → IfOk result (λ c. c ≡ change_by db u.now pairs.items) }
     ensures meaning { (db : Db) → B.database base.old ≡ Some db → MakesNew db u.now
-        → (who : Who) → pairs.now ≡ update_pairs db who u.now → IfOk result (λ c. c ≡ change_of db who u.now) }
-    ensures uncontended { OnOk result (IsFalse (contended pairs.now)) }
+        → (who : Who) → pairs.items ≡ update_pairs db who u.now → IfOk result (λ c. c ≡ change_of db who u.now) }
+    ensures uncontended { OnOk result (IsFalse (contended pairs.items)) }
     ensures few { (db : Db) → B.database base.old ≡ Some db → MakesNew db u.now
-        → OnOk result (length (after (rows_at db u.now.rel) pairs.now) ≤ most_rows) }
+        → OnOk result (length (after (rows_at db u.now.rel) pairs.items) ≤ most_rows) }
     ensures kept { B.database base.new ≡ B.database base.old }
     ensures same { B.left base.new ≡ B.left base.old }
-    ensures cause { HasCause u.now pairs.now (B.database base.old) (B.faults base.old) (B.faults base.new) result }
+    ensures cause { HasCause u.now pairs.items (B.database base.old) (B.faults base.old) (B.faults base.new) result }
 {
     if is_into(u.op) {
         relation_made(alloc, u, pairs)

@@ -6,8 +6,8 @@ mod fault;
 mod limit;
 mod made;
 mod moved;
-mod named;
-mod pairs_change;
+mod pairs_rows;
+mod there;
 
 pub use change::change_of;
 pub use fault::UpdateFault;

@@ -13,12 +13,19 @@ use std::alloc::Global;
 /// The rows that a relation may have.
 const MOST_ROWS: usize = 100_000;
 
+/// Whether a relation may not have so many rows.
+pub(crate) fn are_too_many(rows: usize) -> bool
+    ensures { result ≡ nat_lt most_rows rows }
+{
+    rows > MOST_ROWS
+}
+
 /// Whether more rows stand than a relation may have, where so many stood before the change.
 fn leaves_too_many(before: u32, change: &Change) -> bool
     ensures { result ≡ nat_lt most_rows (before + length change.now.add - length change.now.remove) }
 {
     let both = before as usize + change.add.rows().len();
-    both.saturating_sub(change.remove.len()) > MOST_ROWS
+    are_too_many(both.saturating_sub(change.remove.len()))
 }
 
 /// Whether more rows stand after the change than a relation may have, counted by the number of those

@@ -1,13 +1,15 @@
 //! The change that makes a relation of the new rows of pairs.
 
-ghost use Rattle.std.specs.Prelude.{◌≡◌, ◌≤◌, [], map, length, IsFalse, IfOk, IfErr, OnOk};
+ghost use Rattle.std.specs.Prelude.{◌≡◌, ◌≤◌, ◌<◌, [], map, length, IsFalse, IfOk, IfErr, OnOk};
 ghost use Rattle.calculus.specs.declared.change.DbChange.TheVariants.{Create};
 ghost use Rattle.calculus.specs.Limits.{most_rows};
 ghost use Rattle.calculus.specs.Replacement.{after, contended, made_attr, made_info};
 ghost use Rattle.update_change.specs.Causes.{IsCause};
+ghost use Rattle.update_change.specs.declared.fault.UpdateFault.TheVariants.{TooMany as TooManyRows};
 
 use crate::UpdateFault;
-use crate::pairs_change::pairs_change;
+use crate::limit::are_too_many;
+use crate::pairs_rows::pairs_rows;
 use calculus::{
     Attr, DbChange, Domain, Kind, List, OutOfMemory, Pair, RelInfo, RowSet, Spec, Target, TryCopy,
     Update,
@@ -60,20 +62,33 @@ fn made_info(alloc: Global, u: &Update) -> Result<RelInfo, OutOfMemory>
     })
 }
 
-/// The set of the new rows of pairs.
-#[tactic(auto, using(crate::proofs::Few::all_come))]
-fn rows_made(alloc: Global, pairs: &[Pair]) -> Result<RowSet, UpdateFault>
-    ensures rows { IfOk result (λ rows. rows ≡ after [] pairs.now) }
-    ensures uncontended { OnOk result (IsFalse (contended pairs.now)) }
-    ensures few { OnOk result (length (after [] pairs.now) ≤ most_rows) }
-    ensures cause { IfErr result (IsCause [] pairs.now) }
+/// The rows, unless they are more than a relation may have.
+fn few_rows(rows: RowSet) -> Result<RowSet, UpdateFault>
+    ensures rows { IfOk result (λ few. few ≡ rows) }
+    ensures few { OnOk result (length rows ≤ most_rows) }
+    ensures cause { IfErr result (λ fault. (fault ≡ TooManyRows) × (most_rows < length rows)) }
 {
-    let none = RowSet::new(alloc);
-    let change = pairs_change(alloc, &none, pairs);
-    drop(none);
-    match change {
-        Ok(change) => Ok(change.into_parts().1),
-        Err(error) => Err(error),
+    if are_too_many(rows.len()) {
+        drop(rows);
+        return Err(UpdateFault::TooMany);
+    }
+    Ok(rows)
+}
+
+/// The set of the new rows of pairs.
+#[tactic(auto, using(crate::proofs::Few::all_new))]
+fn rows_made(alloc: Global, pairs: Vec<Pair>) -> Result<RowSet, UpdateFault>
+    ensures rows { IfOk result (λ rows. rows ≡ after [] pairs.items) }
+    ensures uncontended { OnOk result (IsFalse (contended pairs.items)) }
+    ensures few { OnOk result (length (after [] pairs.items) ≤ most_rows) }
+    ensures cause { IfErr result (IsCause [] pairs.items) }
+{
+    match pairs_rows(alloc, pairs) {
+        Ok((old, new)) => {
+            drop(old);
+            few_rows(new)
+        }
+        Err(fault) => Err(fault),
     }
 }
 
@@ -81,12 +96,12 @@ fn rows_made(alloc: Global, pairs: &[Pair]) -> Result<RowSet, UpdateFault>
 pub(crate) fn relation_made(
     alloc: Global,
     u: &Update,
-    pairs: &[Pair],
+    pairs: Vec<Pair>,
 ) -> Result<DbChange, UpdateFault>
-    ensures change { IfOk result (λ c. c ≡ Create (made_info u.now) (after [] pairs.now)) }
-    ensures uncontended { OnOk result (IsFalse (contended pairs.now)) }
-    ensures few { OnOk result (length (after [] pairs.now) ≤ most_rows) }
-    ensures cause { IfErr result (IsCause [] pairs.now) }
+    ensures change { IfOk result (λ c. c ≡ Create (made_info u.now) (after [] pairs.items)) }
+    ensures uncontended { OnOk result (IsFalse (contended pairs.items)) }
+    ensures few { OnOk result (length (after [] pairs.items) ≤ most_rows) }
+    ensures cause { IfErr result (IsCause [] pairs.items) }
 {
     let rows = rows_made(alloc, pairs)?;
     match made_info(alloc, u) {

@@ -1,41 +1,75 @@
 //! The change of the rows of a relation that stands.
 
-ghost use Rattle.std.specs.Prelude.{◌≡◌, ◌≤◌, length, Some, IsFalse, IfOk, OnOk};
+ghost use Rattle.std.specs.Prelude.{◌≡◌, ◌≤◌, filter, length, Some, IsFalse, IfOk, OnOk};
 ghost use Rattle.calculus.specs.Database.{Db};
 ghost use Rattle.calculus.specs.Limits.{most_rows};
 ghost use Rattle.calculus.specs.Replacement.{after, contended, without_rows};
+ghost use Rattle.calculus.specs.Rows.{has, set_of};
 ghost use Rattle.calculus.specs.Stored.{rows_at};
+ghost use Rattle.am_traits.specs.Causes.{HasCause as HasBaseCause};
 ghost use Rattle.update_change.specs.Causes.{HasCause};
 
 use crate::UpdateFault;
 use crate::limit::is_too_large;
-use crate::named::named_rows;
-use crate::pairs_change::pairs_change;
-use am_traits::Base;
-use calculus::{Change, Pair, Update};
+use crate::pairs_rows::pairs_rows;
+use crate::there::{those_absent, those_there};
+use am_traits::{Base, BaseFault};
+use calculus::{Change, Pair, RelKey, RowSet, Update};
+use change_list::without;
 use std::alloc::Global;
 
-/// The rows that go and those that come, by the rows that the pairs name, however many stand after.
-fn named_change<B: Base>(
+/// Of old rows those that are there and not new, and of new ones those that aren't there.
+fn rows_asked<B: Base>(
+    alloc: Global,
+    base: &mut B,
+    key: &RelKey,
+    old: RowSet,
+    new: RowSet,
+) -> Result<Change, BaseFault>
+    ensures removed { (db : Db) → B.database base.old ≡ Some db
+        → IfOk result (λ change. change.remove ≡ set_of (filter (has (rows_at db key.now)) (without_rows new old))) }
+    ensures added { (db : Db) → B.database base.old ≡ Some db
+        → IfOk result (λ change. change.add ≡ set_of (without_rows (rows_at db key.now) new)) }
+    ensures kept { B.database base.new ≡ B.database base.old }
+    ensures same { B.left base.new ≡ B.left base.old }
+    ensures cause { HasBaseCause (B.database base.old) (B.faults base.old) (B.faults base.new) result }
+{
+    let going = without(old, &new);
+    match those_there(alloc, base, key, going.into_rows()) {
+        Ok(remove) => match those_absent(alloc, base, key, new.into_rows()) {
+            Ok(add) => Ok(Change { remove, add }),
+            Err(error) => {
+                drop(remove);
+                Err(error)
+            }
+        },
+        Err(error) => {
+            drop(new);
+            Err(error)
+        }
+    }
+}
+
+/// The rows that go and those that come, however many stand after.
+fn pairs_asked<B: Base>(
     alloc: Global,
     base: &mut B,
     u: &Update,
-    pairs: &[Pair],
+    pairs: Vec<Pair>,
 ) -> Result<Change, UpdateFault>
     ensures removed { (db : Db) → B.database base.old ≡ Some db
-        → IfOk result (λ change. change.remove ≡ without_rows (after (rows_at db u.now.rel) pairs.now) (rows_at db u.now.rel)) }
+        → IfOk result (λ change. change.remove ≡ without_rows (after (rows_at db u.now.rel) pairs.items) (rows_at db u.now.rel)) }
     ensures added { (db : Db) → B.database base.old ≡ Some db
-        → IfOk result (λ change. change.add ≡ without_rows (rows_at db u.now.rel) (after (rows_at db u.now.rel) pairs.now)) }
-    ensures uncontended { OnOk result (IsFalse (contended pairs.now)) }
+        → IfOk result (λ change. change.add ≡ without_rows (rows_at db u.now.rel) (after (rows_at db u.now.rel) pairs.items)) }
+    ensures uncontended { OnOk result (IsFalse (contended pairs.items)) }
     ensures kept { B.database base.new ≡ B.database base.old }
     ensures same { B.left base.new ≡ B.left base.old }
-    ensures cause { HasCause u.now pairs.now (B.database base.old) (B.faults base.old) (B.faults base.new) result }
+    ensures cause { HasCause u.now pairs.items (B.database base.old) (B.faults base.old) (B.faults base.new) result }
 {
-    let rows = named_rows(alloc, base, &u.rel, pairs)?;
-    let found = pairs_change(alloc, &rows, pairs);
-    drop(rows);
-    let change = found?;
-    Ok(change)
+    match pairs_rows(alloc, pairs) {
+        Ok((old, new)) => Ok(rows_asked(alloc, base, &u.rel, old, new)?),
+        Err(fault) => Err(fault),
+    }
 }
 
 /// The rows that go and those that come in the relation that is changed.
@@ -43,19 +77,19 @@ pub(crate) fn rows_moved<B: Base>(
     alloc: Global,
     base: &mut B,
     u: &Update,
-    pairs: &[Pair],
+    pairs: Vec<Pair>,
 ) -> Result<Change, UpdateFault>
     ensures removed { (db : Db) → B.database base.old ≡ Some db
-        → IfOk result (λ change. change.remove ≡ without_rows (after (rows_at db u.now.rel) pairs.now) (rows_at db u.now.rel)) }
+        → IfOk result (λ change. change.remove ≡ without_rows (after (rows_at db u.now.rel) pairs.items) (rows_at db u.now.rel)) }
     ensures added { (db : Db) → B.database base.old ≡ Some db
-        → IfOk result (λ change. change.add ≡ without_rows (rows_at db u.now.rel) (after (rows_at db u.now.rel) pairs.now)) }
-    ensures uncontended { OnOk result (IsFalse (contended pairs.now)) }
-    ensures few { (db : Db) → B.database base.old ≡ Some db → OnOk result (length (after (rows_at db u.now.rel) pairs.now) ≤ most_rows) }
+        → IfOk result (λ change. change.add ≡ without_rows (rows_at db u.now.rel) (after (rows_at db u.now.rel) pairs.items)) }
+    ensures uncontended { OnOk result (IsFalse (contended pairs.items)) }
+    ensures few { (db : Db) → B.database base.old ≡ Some db → OnOk result (length (after (rows_at db u.now.rel) pairs.items) ≤ most_rows) }
     ensures kept { B.database base.new ≡ B.database base.old }
     ensures same { B.left base.new ≡ B.left base.old }
-    ensures cause { HasCause u.now pairs.now (B.database base.old) (B.faults base.old) (B.faults base.new) result }
+    ensures cause { HasCause u.now pairs.items (B.database base.old) (B.faults base.old) (B.faults base.new) result }
 {
-    let change = named_change(alloc, base, u, pairs)?;
+    let change = pairs_asked(alloc, base, u, pairs)?;
     if is_too_large(alloc, base, &u.rel, &change)? {
         drop(change);
         return Err(UpdateFault::TooMany);

@@ -1,5 +1,6 @@
 -- The condition with which one may do something, and whether it is permitted.
-use Rattle.std.proofs.Common.{◌≡◌, refl, sym, ap, ◌∙◌, ℕ, Bool, true, false, cond, ◌||◌, List, [], ◌∷◌, map, filter, length, Some, None, arith}
+use Rattle.std.proofs.Common.{◌≡◌, refl, sym, ap, ◌∙◌, ℕ, Bool, true, false, cond, ◌||◌, ◌&&◌, List, [], ◌∷◌, map, filter, length, Option, Some, None, arith}
+use Rattle.std.specs.Option.{option_to_list}
 use Rattle.std.specs.List.{list_all, list_any}
 use Rattle.calculus.specs.declared.query.RelKey.{RelKey}
 use Rattle.calculus.specs.declared.query.QQual.{QQual}
@@ -58,10 +59,15 @@ all_conditions_within [] = refl
 all_conditions_within (p ∷ ps) =
     both_true (is_qual_within 1 (permit_condition p)) (list_all (is_qual_within 1) (map permit_condition ps)) (condition_within p.qual) (all_conditions_within ps)
 
-pub one_within : (ps : List Permit) (asker : Asker) (right : Right) (attrs : List ℕ) (c : QQual) → Some c ≡ one_of (covering_conditions ps asker right attrs) → is_qual_within 1 c ≡ true
-one_within ps asker right attrs c h =
+some_within : (ps : List Permit) (asker : Asker) (right : Right) (attrs : List ℕ) (c : QQual) → Some c ≡ one_of (covering_conditions ps asker right attrs) → is_qual_within 1 c ≡ true
+some_within ps asker right attrs c h =
     ap (is_qual_within 1) (one_is (covering_conditions ps asker right attrs) c h)
     ∙ any_within 1 (covering_conditions ps asker right attrs) (all_conditions_within (filter (λ p. covers p asker right attrs) ps))
+
+pub one_within : (ps : List Permit) (asker : Asker) (right : Right) (attrs : List ℕ) (o : Option QQual) → o ≡ one_of (covering_conditions ps asker right attrs)
+    → list_all (is_qual_within 1) (option_to_list o) ≡ true
+one_within ps asker right attrs None h = refl
+one_within ps asker right attrs (Some c) h = ap (λ b. b && true) (some_within ps asker right attrs c h)
 
 -- ---- the cut
 
@@ -69,11 +75,10 @@ pub cut_without : (db : Db) (user : List ℕ) (right : Right) (attrs : List ℕ)
 cut_without db user right attrs key h =
     sym (ap (λ b. elim b as (λ x. List QQual) [ true ↦ [] | false ↦ any_of (covering_conditions (permits_on db key) (asker_of user) right attrs) ∷ [] ]) h)
 
-pub cut_with : (db : Db) (user : List ℕ) (right : Right) (attrs : List ℕ) (key : RelKey) (ps : List Permit) (c : QQual) → needs_none db (asker_of user) right key ≡ false
-    → ps ≡ permits_on db key → Some c ≡ one_of (covering_conditions ps (asker_of user) right attrs) → c ∷ [] ≡ cut db (asks user) right attrs key
-cut_with db user right attrs key ps c h e o =
-    ap (λ q. q ∷ []) (one_is (covering_conditions ps (asker_of user) right attrs) c o)
-    ∙ ap (λ ps. any_of (covering_conditions ps (asker_of user) right attrs) ∷ []) e
+pub cut_with : (db : Db) (user : List ℕ) (right : Right) (attrs : List ℕ) (key : RelKey) (c : QQual) → needs_none db (asker_of user) right key ≡ false
+    → Some c ≡ one_of (covering_conditions (permits_on db key) (asker_of user) right attrs) → c ∷ [] ≡ cut db (asks user) right attrs key
+cut_with db user right attrs key c h o =
+    ap (λ q. q ∷ []) (one_is (covering_conditions (permits_on db key) (asker_of user) right attrs) c o)
     ∙ sym (ap (λ b. elim b as (λ x. List QQual) [ true ↦ [] | false ↦ any_of (covering_conditions (permits_on db key) (asker_of user) right attrs) ∷ [] ]) h)
 
 pub permitted_without : (db : Db) (user : List ℕ) (right : Right) (attrs : List ℕ) (key : RelKey) → needs_none db (asker_of user) right key ≡ true
@@ -81,16 +86,14 @@ pub permitted_without : (db : Db) (user : List ℕ) (right : Right) (attrs : Lis
 unfolding permitted
 permitted_without db user right attrs key h = ap (λ b. b || list_any (λ p. covers p (asker_of user) right attrs) (permits_on db key)) h
 
-pub permitted_with : (db : Db) (user : List ℕ) (right : Right) (attrs : List ℕ) (key : RelKey) (ps : List Permit) (c : QQual) → needs_none db (asker_of user) right key ≡ false
-    → ps ≡ permits_on db key → Some c ≡ one_of (covering_conditions ps (asker_of user) right attrs) → permitted db (asks user) right attrs key ≡ true
+pub permitted_with : (db : Db) (user : List ℕ) (right : Right) (attrs : List ℕ) (key : RelKey) (c : QQual) → needs_none db (asker_of user) right key ≡ false
+    → Some c ≡ one_of (covering_conditions (permits_on db key) (asker_of user) right attrs) → permitted db (asks user) right attrs key ≡ true
 unfolding permitted
-permitted_with db user right attrs key ps c h e o =
-    ap (λ b. b || list_any (λ p. covers p (asker_of user) right attrs) (permits_on db key)) h
-    ∙ ap (λ ps. list_any (λ p. covers p (asker_of user) right attrs) ps) (sym e) ∙ covered ps (asker_of user) right attrs c o
+permitted_with db user right attrs key c h o =
+    ap (λ b. b || list_any (λ p. covers p (asker_of user) right attrs) (permits_on db key)) h ∙ covered (permits_on db key) (asker_of user) right attrs c o
 
-pub not_permitted : (db : Db) (user : List ℕ) (right : Right) (attrs : List ℕ) (key : RelKey) (ps : List Permit) → needs_none db (asker_of user) right key ≡ false
-    → ps ≡ permits_on db key → None ≡ one_of (covering_conditions ps (asker_of user) right attrs) → permitted db (asks user) right attrs key ≡ false
+pub not_permitted : (db : Db) (user : List ℕ) (right : Right) (attrs : List ℕ) (key : RelKey) → needs_none db (asker_of user) right key ≡ false
+    → None ≡ one_of (covering_conditions (permits_on db key) (asker_of user) right attrs) → permitted db (asks user) right attrs key ≡ false
 unfolding permitted
-not_permitted db user right attrs key ps h e o =
-    ap (λ b. b || list_any (λ p. covers p (asker_of user) right attrs) (permits_on db key)) h
-    ∙ ap (λ ps. list_any (λ p. covers p (asker_of user) right attrs) ps) (sym e) ∙ none_covered ps (asker_of user) right attrs o
+not_permitted db user right attrs key h o =
+    ap (λ b. b || list_any (λ p. covers p (asker_of user) right attrs) (permits_on db key)) h ∙ none_covered (permits_on db key) (asker_of user) right attrs o

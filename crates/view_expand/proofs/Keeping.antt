@@ -5,15 +5,16 @@ use Rattle.std.specs.Map.{lookup}
 use Rattle.std.proofs.lemmas.Bool.{eqb-true}
 use Rattle.indexmap.specs.IndexMap.{insert_entry}
 use Rattle.calculus.specs.declared.query.RelKey.{RelKey}
+use Rattle.calculus.specs.declared.schema.Permit.{Permit}
 use Rattle.calculus.specs.Keys.{same_key}
 use Rattle.calculus.specs.Who.{Who}
-use Rattle.calculus.specs.Database.{Db}
+use Rattle.calculus.specs.Database.{Db, permits_on}
 use Rattle.calculus.specs.Permission.{permitted_within}
 use Rattle.calculus_laws.proofs.Enough.{same_key-exact}
 use Rattle.view_text.specs.declared.text.Text.{Text}
 use Rattle.view_text.specs.Scoped.{is_scoped}
 use Rattle.view_text.specs.TextOf.{text_within}
-use Rattle.view_expand.specs.Found.{Found, IsTextOf, AreTexts}
+use Rattle.view_expand.specs.Found.{IsTextOf, AreTexts, ArePermits}
 
 -- one key and as many levels
 abbrev pub same_pair : RelKey × ℕ → RelKey × ℕ → Bool
@@ -31,7 +32,7 @@ same_pair-exact a b h = go (same_key a.0 b.0) refl (nat_eq a.1 b.1) refl h
     go false e y f h = cc h
 
 -- what is looked up is the text of its key
-pub looked_up : (db : Db) (who : Who) (found : Found) (pair : RelKey × ℕ) (text : Text) → lookup (same_pair pair) found ≡ Some text → AreTexts db who found
+pub looked_up : (db : Db) (who : Who) (found : List ((RelKey × ℕ) × Text)) (pair : RelKey × ℕ) (text : Text) → lookup (same_pair pair) found ≡ Some text → AreTexts db who found
     → IsTextOf db who pair.0 pair.1 text
 looked_up db who [] pair text h k = cc h
 looked_up db who (e ∷ found) pair text h k = go (same_pair pair e.0) refl h (λ l. looked_up db who found pair text l k.1)
@@ -45,7 +46,7 @@ looked_up db who (e ∷ found) pair text h k = go (same_pair pair e.0) refl h (�
     go false same h later = later h
 
 -- it is scoped where all are
-pub scoped_up : (found : Found) (pair : RelKey × ℕ) (text : Text) → lookup (same_pair pair) found ≡ Some text → list_all (λ e. is_scoped e.1) found ≡ true → is_scoped text ≡ true
+pub scoped_up : (found : List ((RelKey × ℕ) × Text)) (pair : RelKey × ℕ) (text : Text) → lookup (same_pair pair) found ≡ Some text → list_all (λ e. is_scoped e.1) found ≡ true → is_scoped text ≡ true
 scoped_up [] pair text h k = cc h
 scoped_up (e ∷ found) pair text h k = go (same_pair pair e.0) h (is_scoped e.1) refl k (scoped_up found pair text)
   where
@@ -56,7 +57,7 @@ scoped_up (e ∷ found) pair text h k = go (same_pair pair e.0) h (is_scoped e.1
     go false h true s k later = later h k
 
 -- one more that is the text of its key leaves all so
-pub kept_texts : (db : Db) (who : Who) (found : Found) (pair : RelKey × ℕ) (text : Text) → AreTexts db who found → IsTextOf db who pair.0 pair.1 text
+pub kept_texts : (db : Db) (who : Who) (found : List ((RelKey × ℕ) × Text)) (pair : RelKey × ℕ) (text : Text) → AreTexts db who found → IsTextOf db who pair.0 pair.1 text
     → AreTexts db who (insert_entry same_pair found pair text)
 kept_texts db who [] pair text k t = (t, tt)
 kept_texts db who (e ∷ found) pair text k t = go (same_pair pair e.0) refl (kept_texts db who found pair text k.1 t)
@@ -67,7 +68,7 @@ kept_texts db who (e ∷ found) pair text k t = go (same_pair pair e.0) refl (ke
     go false same later = (k.0, later)
 
 -- and scoped
-pub kept_scoped : (found : Found) (pair : RelKey × ℕ) (text : Text) → list_all (λ e. is_scoped e.1) found ≡ true → is_scoped text ≡ true
+pub kept_scoped : (found : List ((RelKey × ℕ) × Text)) (pair : RelKey × ℕ) (text : Text) → list_all (λ e. is_scoped e.1) found ≡ true → is_scoped text ≡ true
     → list_all (λ e. is_scoped e.1) (insert_entry same_pair found pair text) ≡ true
 kept_scoped [] pair text k s = ap (λ b. b && true) s
 kept_scoped (e ∷ found) pair text k s = go (same_pair pair e.0) (is_scoped e.1) refl k (λ l. kept_scoped found pair text l s)
@@ -79,10 +80,33 @@ kept_scoped (e ∷ found) pair text k s = go (same_pair pair e.0) (is_scoped e.1
     go true true e k later = ap (λ b. b && list_all (λ e. is_scoped e.1) found) s ∙ k
     go false true e' k later = ap (λ b. b && list_all (λ e. is_scoped e.1) (insert_entry same_pair found pair text)) e' ∙ later k
 
+-- the permits that are looked up are those of the key
+pub permits_up : (db : Db) (found : List (RelKey × List Permit)) (key : RelKey) (permits : List Permit) → lookup (same_key key) found ≡ Some permits → ArePermits db found → permits ≡ permits_on db key
+permits_up db [] key permits h k = cc h
+permits_up db (e ∷ found) key permits h k = go (same_key key e.0) refl h (λ l. permits_up db found key permits l k.1)
+  where
+    go : (b : Bool) → same_key key e.0 ≡ b → cond b (Some e.1) (lookup (same_key key) found) ≡ Some permits
+        → (lookup (same_key key) found ≡ Some permits → permits ≡ permits_on db key) → permits ≡ permits_on db key
+    go true same h later =
+        let t : e.1 ≡ permits = cc h in
+        let p : key ≡ e.0 = same_key-exact key e.0 same in sym t ∙ k.0 ∙ ap (permits_on db) (sym p)
+    go false same h later = later h
+
+-- those of one key more leave all so
+pub kept_permits : (db : Db) (found : List (RelKey × List Permit)) (key : RelKey) (permits : List Permit) → ArePermits db found → permits ≡ permits_on db key
+    → ArePermits db (insert_entry same_key found key permits)
+kept_permits db [] key permits k t = (t, tt)
+kept_permits db (e ∷ found) key permits k t = go (same_key key e.0) refl (kept_permits db found key permits k.1 t)
+  where
+    go : (b : Bool) → same_key key e.0 ≡ b → ArePermits db (insert_entry same_key found key permits)
+        → ArePermits db (cond b ((e.0, permits) ∷ found) (e ∷ insert_entry same_key found key permits))
+    go true same later = (t ∙ ap (permits_on db) (same_key-exact key e.0 same), k.1)
+    go false same later = (k.0, later)
+
 -- what holds of what was found, and with one more, holds whether there was room for it or not
-pub after : {A E : Type 0} (P : Found → Type 0) (old new made : Found) (result : Result A E) → OnOk result (new ≡ made) → OnErr result (new ≡ old) → P old → P made → P new
-after {A} {E} P old new made (Ok x) h k p q = subst P (sym h) q
-after {A} {E} P old new made (Err e) h k p q = subst P (sym k) p
+pub after : {T A E : Type 0} (P : T → Type 0) (old new made : T) (result : Result A E) → OnOk result (new ≡ made) → OnErr result (new ≡ old) → P old → P made → P new
+after {T} {A} {E} P old new made (Ok x) h k p q = subst P (sym h) q
+after {T} {A} {E} P old new made (Err e) h k p q = subst P (sym k) p
 
 -- an answer that is the text of a key is so with each of its attributes
 pub answered : {E : Type 0} (db : Db) (who : Who) (key : RelKey) (levels : ℕ) (attrs : List ℕ) (result : Result Text E) → IfOk result (IsTextOf db who key levels)

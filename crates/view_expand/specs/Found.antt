@@ -1,22 +1,38 @@
--- What was found of views.
+-- What was found in a database: texts of views, and permits.
 use Rattle.std.specs.Prelude.{◌≡◌, ℕ, true, List, [], ◌∷◌, ⊤}
 use Rattle.calculus.specs.declared.query.RelKey.{RelKey}
+use Rattle.calculus.specs.declared.schema.Permit.{Permit}
 use Rattle.calculus.specs.Who.{Who}
-use Rattle.calculus.specs.Database.{Db}
+use Rattle.calculus.specs.Database.{Db, permits_on}
 use Rattle.calculus.specs.Permission.{permitted_within}
 use Rattle.view_text.specs.declared.text.Text.{Text}
 use Rattle.view_text.specs.TextOf.{text_within}
 
--- what was found: of a key, through so many levels of views, this text
-abbrev pub Found : Type 0
-Found = List ((RelKey × ℕ) × Text)
+-- what was found: of a key, through so many levels of views, this text; and of a key these permits
+pub record Found : Type 0 where
+  pub texts : List ((RelKey × ℕ) × Text)
+  pub permits : List (RelKey × List Permit)
+
+-- nothing was found yet
+abbrev pub nothing_found : Found
+nothing_found = record { texts = []; permits = [] }
 
 -- this is the text of what has the key, through so many levels, whatever attributes of it are asked for, and all that it reads may be read
 pub record IsTextOf (db : Db) (who : Who) (key : RelKey) (levels : ℕ) (text : Text) : Type 0 where
   pub is : (attrs : List ℕ) → text ≡ text_within levels db who key attrs
   pub permitted : (attrs : List ℕ) → permitted_within levels db who key attrs ≡ true
 
--- all that was found is so
-abbrev pub AreTexts : Db → Who → Found → Type 0
+-- all texts that were found are so
+abbrev pub AreTexts : Db → Who → List ((RelKey × ℕ) × Text) → Type 0
 AreTexts db who [] = ⊤
-AreTexts db who (e ∷ found) = IsTextOf db who e.0.0 e.0.1 e.1 × AreTexts db who found
+AreTexts db who (e ∷ texts) = IsTextOf db who e.0.0 e.0.1 e.1 × AreTexts db who texts
+
+-- all permits that were found are those of their key
+abbrev pub ArePermits : Db → List (RelKey × List Permit) → Type 0
+ArePermits db [] = ⊤
+ArePermits db (e ∷ permits) = (e.1 ≡ permits_on db e.0) × ArePermits db permits
+
+-- all that was found is so in this database for the one who asks
+pub record IsFound (db : Db) (who : Who) (found : Found) : Type 0 where
+  pub texts : AreTexts db who found.texts
+  pub permits : ArePermits db found.permits

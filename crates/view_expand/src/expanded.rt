@@ -9,6 +9,7 @@ ghost use Rattle.calculus.specs.Sizes.{measure_within, query_measure};
 ghost use Rattle.calculus.specs.Used.{used_vars};
 ghost use Rattle.view_expand.specs.Asking.{who_of};
 ghost use Rattle.view_expand.specs.Causes.{HasCause};
+ghost use Rattle.view_expand.specs.Found.{IsFound};
 ghost use Rattle.view_text.specs.PutIn.{put_plain};
 ghost use Rattle.view_text.specs.Scoped.{is_scoped};
 ghost use Rattle.view_text.specs.TextOf.{text_within};
@@ -41,12 +42,37 @@ pub fn query_texts<B: Base>(
     ensures same { B.left base.new ≡ B.left base.old }
     ensures cause { HasCause (λ db. vars_permitted (permitted_within levels db (who_of (option_map (λ n. n.now) who.entry))) query.now (used_vars query.now) ≡ false) (B.database base.old) (B.faults base.old) (B.faults base.new) result }
 {
+    let mut found = TextsFound::new(alloc);
+    texts_through(alloc, base, who, query, levels, texts, &mut found)
+}
+
+/// The same, where what was found before, for the same one who asks, is made use of, and what is found is
+/// kept beside it.
+fn texts_through<B: Base>(
+    alloc: Global,
+    base: &mut B,
+    who: Option<&Name>,
+    query: &Query,
+    levels: u8,
+    texts: &mut Vec<Text>,
+    found: &mut TextsFound,
+) -> Result<(), TextFault>
+    requires listed { (db : Db) → B.database base.old ≡ Some db → length (vars_of query.now) ≤ 256 }
+    requires expanded { (db : Db) → B.database base.old ≡ Some db → (query_measure (measure_within levels db) query.now).variables ≤ 256 }
+    requires found { (db : Db) → B.database base.old ≡ Some db → IsFound db (who_of (option_map (λ n. n.now) who)) found.old }
+    ensures told { (db : Db) → B.database base.old ≡ Some db → OnOk result (texts.new.items ≡ texts.old.items ++ query_texts (text_within levels db (who_of (option_map (λ n. n.now) who.entry))) query.now) }
+    ensures permitted { (db : Db) → B.database base.old ≡ Some db → OnOk result (vars_permitted (permitted_within levels db (who_of (option_map (λ n. n.now) who.entry))) query.now (used_vars query.now) ≡ true) }
+    ensures scoped { list_all is_scoped texts.old.items ≡ true → OnOk result (list_all is_scoped texts.new.items ≡ true) }
+    ensures found { (db : Db) → B.database base.old ≡ Some db → IsFound db (who_of (option_map (λ n. n.now) who.entry)) found.new }
+    ensures kept { B.database base.new ≡ B.database base.old }
+    ensures same { B.left base.new ≡ B.left base.old }
+    ensures cause { HasCause (λ db. vars_permitted (permitted_within levels db (who_of (option_map (λ n. n.now) who.entry))) query.now (used_vars query.now) ≡ false) (B.database base.old) (B.faults base.old) (B.faults base.new) result }
+{
     let keys = query.vars.items();
     if keys.len() > LISTED {
         return Err(TextFault::TooMany);
     }
-    let mut found = TextsFound::new(alloc);
-    put_texts(alloc, base, who, query, keys, levels, texts, &mut found)
+    put_texts(alloc, base, who, query, keys, levels, texts, found)
 }
 
 /// The query with the texts of its variables put in, which go through at most so many levels of views:
@@ -68,8 +94,32 @@ pub fn put_plain<B: Base>(
     ensures same { B.left base.new ≡ B.left base.old }
     ensures cause { HasCause (λ db. vars_permitted (permitted_within levels db (who_of (option_map (λ n. n.now) who.entry))) query.now (used_vars query.now) ≡ false) (B.database base.old) (B.faults base.old) (B.faults base.new) result }
 {
+    let mut found = TextsFound::new(alloc);
+    put_plain_remembering(alloc, base, who, query, levels, &mut found)
+}
+
+/// The query with the texts of its variables put in, as `put_plain`, where what was found before, for the
+/// same one who asks, is made use of, and what is found is kept beside it.
+pub fn put_plain_remembering<B: Base>(
+    alloc: Global,
+    base: &mut B,
+    who: Option<&Name>,
+    query: &Query,
+    levels: u8,
+    found: &mut TextsFound,
+) -> Result<Query, TextFault>
+    requires listed { (db : Db) → B.database base.old ≡ Some db → length (vars_of query.now) ≤ 256 }
+    requires expanded { (db : Db) → B.database base.old ≡ Some db → (query_measure (measure_within levels db) query.now).variables ≤ 256 }
+    requires found { (db : Db) → B.database base.old ≡ Some db → IsFound db (who_of (option_map (λ n. n.now) who)) found.old }
+    ensures told { (db : Db) → B.database base.old ≡ Some db → IfOk result (λ made. made ≡ put_plain (text_within levels db (who_of (option_map (λ n. n.now) who.entry))) query.now) }
+    ensures permitted { (db : Db) → B.database base.old ≡ Some db → OnOk result (vars_permitted (permitted_within levels db (who_of (option_map (λ n. n.now) who.entry))) query.now (used_vars query.now) ≡ true) }
+    ensures found { (db : Db) → B.database base.old ≡ Some db → IsFound db (who_of (option_map (λ n. n.now) who.entry)) found.new }
+    ensures kept { B.database base.new ≡ B.database base.old }
+    ensures same { B.left base.new ≡ B.left base.old }
+    ensures cause { HasCause (λ db. vars_permitted (permitted_within levels db (who_of (option_map (λ n. n.now) who.entry))) query.now (used_vars query.now) ≡ false) (B.database base.old) (B.faults base.old) (B.faults base.new) result }
+{
     let mut texts = Vec::new(alloc);
-    match query_texts(alloc, base, who, query, levels, &mut texts) {
+    match texts_through(alloc, base, who, query, levels, &mut texts, found) {
         Ok(()) => query_over(alloc, &texts, query),
         Err(error) => Err(error),
     }

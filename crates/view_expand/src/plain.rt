@@ -7,13 +7,15 @@ ghost use Rattle.calculus.specs.Database.{Db};
 ghost use Rattle.calculus.specs.Rights.{Retrieve, permitted};
 ghost use Rattle.view_expand.specs.Asking.{who_of};
 ghost use Rattle.view_expand.specs.Causes.{HasCause, IsCrowded};
+ghost use Rattle.view_expand.specs.Found.{IsFound};
 ghost use Rattle.view_text.specs.PutIn.{put_query};
 ghost use Rattle.view_text.specs.Replaced.{no_aggregate};
 ghost use Rattle.view_text.specs.Scoped.{is_qual_within, is_scoped};
 ghost use Rattle.view_text.specs.TextOf.{cut, kept_text, rows_text};
 ghost use Rattle.view_text.specs.Texts.{no_text, texts_vars};
 
-use crate::{Right, TextFault, cut};
+use crate::row_cut::cut_remembering;
+use crate::{Right, TextFault, TextsFound};
 use am_traits::Base;
 use calculus::{List, Name, OutOfMemory, QQual, Query, RelKey, TryCopy};
 use std::alloc::Global;
@@ -85,15 +87,18 @@ pub(crate) fn plain_text<B: Base>(
     who: Option<&Name>,
     key: &RelKey,
     attrs: &[u8],
+    found: &mut TextsFound,
 ) -> Result<Text, TextFault>
+    requires found { (db : Db) → B.database base.old ≡ Some db → IsFound db (who_of (option_map (λ n. n.now) who)) found.old }
     ensures told { (db : Db) → B.database base.old ≡ Some db → IfOk result (λ text. text ≡ kept_text (cut db (who_of (option_map (λ n. n.now) who.entry)) Retrieve attrs.now key.now) key.now) }
     ensures permitted { (db : Db) → B.database base.old ≡ Some db → OnOk result (permitted db (who_of (option_map (λ n. n.now) who.entry)) Retrieve attrs.now key.now ≡ true) }
     ensures scoped { IfOk result (λ text. is_scoped text ≡ true) }
+    ensures found { (db : Db) → B.database base.old ≡ Some db → IsFound db (who_of (option_map (λ n. n.now) who.entry)) found.new }
     ensures kept { B.database base.new ≡ B.database base.old }
     ensures same { B.left base.new ≡ B.left base.old }
     ensures cause { HasCause (λ db. permitted db (who_of (option_map (λ n. n.now) who.entry)) Retrieve attrs.now key.now ≡ false) (B.database base.old) (B.faults base.old) (B.faults base.new) result }
 {
-    match cut(alloc, base, who, Right::Retrieve, attrs, key) {
+    match cut_remembering(alloc, base, who, Right::Retrieve, attrs, key, found) {
         Ok(condition) => match kept(alloc, key, condition) {
             Ok(text) => Ok(text),
             Err(_) => Err(TextFault::OutOfMemory),

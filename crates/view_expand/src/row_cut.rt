@@ -3,20 +3,23 @@
 ghost use Rattle.std.specs.Prelude.{◌≡◌, true, false, Some, IfOk, OnOk, option_map};
 ghost use Rattle.std.specs.Option.{option_to_list};
 ghost use Rattle.std.specs.List.{list_all};
-ghost use Rattle.calculus.specs.Database.{Db};
+ghost use Rattle.am_traits.specs.Causes.{HasCause as HasBaseCause};
+ghost use Rattle.calculus.specs.Database.{Db, permits_on};
 ghost use Rattle.calculus.specs.Rights.{permitted};
 ghost use Rattle.calculus.specs.Who.{asker_of, asks};
 ghost use Rattle.view_expand.specs.Asking.{right_of, who_of};
 ghost use Rattle.view_expand.specs.Causes.{HasCause};
 ghost use Rattle.view_expand.specs.Covering.{covering_conditions, one_of};
+ghost use Rattle.view_expand.specs.Found.{IsFound};
 ghost use Rattle.view_text.specs.Scoped.{is_qual_within};
 ghost use Rattle.view_text.specs.TextOf.{cut};
 
 use crate::covering::put_covering;
 use crate::needs::needs_none;
-use crate::{Right, TextFault};
-use am_traits::Base;
+use crate::{Right, TextFault, TextsFound};
+use am_traits::{Base, BaseFault};
 use calculus::{Name, OutOfMemory, Permit, QQual, RelKey};
+use memory::both;
 use std::alloc::Global;
 use view_text::any_of;
 
@@ -35,6 +38,7 @@ fn one_of(alloc: Global, conditions: Vec<QQual>) -> Result<Option<QQual>, OutOfM
 }
 
 /// That the condition of one of the permits that cover this holds; `None` where none covers it.
+#[tactic(auto, using(crate::proofs::Cutting::one_within))]
 fn condition_of(
     alloc: Global,
     permits: &[Permit],
@@ -42,7 +46,8 @@ fn condition_of(
     right: Right,
     attrs: &[u8],
 ) -> Result<Option<QQual>, OutOfMemory>
-    ensures { IfOk result (λ o. o ≡ one_of (covering_conditions permits.now (asker_of user.now) (right_of right) attrs.now)) }
+    ensures one { IfOk result (λ o. o ≡ one_of (covering_conditions permits.now (asker_of user.now) (right_of right) attrs.now)) }
+    ensures within { IfOk result (λ o. list_all (is_qual_within 1) (option_to_list o) ≡ true) }
 {
     let mut conditions = Vec::new(alloc);
     match put_covering(alloc, permits, user, right, attrs, &mut conditions) {
@@ -51,8 +56,63 @@ fn condition_of(
     }
 }
 
+/// The same of the permits of a key, which are asked for and kept.
+fn condition_anew<B: Base>(
+    alloc: Global,
+    base: &mut B,
+    user: &Name,
+    right: Right,
+    attrs: &[u8],
+    key: &RelKey,
+    found: &mut TextsFound,
+) -> Result<Option<QQual>, BaseFault>
+    requires found { (db : Db) → B.database base.old ≡ Some db → IsFound db (asks user.now) found.old }
+    ensures told { (db : Db) → B.database base.old ≡ Some db → IfOk result (λ o. o ≡ one_of (covering_conditions (permits_on db key.now) (asker_of user.now) (right_of right) attrs.now)) }
+    ensures within { IfOk result (λ o. list_all (is_qual_within 1) (option_to_list o) ≡ true) }
+    ensures found { (db : Db) → B.database base.old ≡ Some db → IsFound db (asks user.now) found.new }
+    ensures kept { B.database base.new ≡ B.database base.old }
+    ensures same { B.left base.new ≡ B.left base.old }
+    ensures cause { HasBaseCause (B.database base.old) (B.faults base.old) (B.faults base.new) result }
+{
+    let permits = base.permits(alloc, key)?;
+    let condition = condition_of(alloc, &permits, user, right, attrs);
+    let kept = found.keep_permits(alloc, key, permits);
+    match both(condition, kept) {
+        Ok((condition, ())) => Ok(condition),
+        Err(_) => Err(BaseFault::OutOfMemory),
+    }
+}
+
+/// That the condition of one of the permits of a key that cover this holds; `None` where none covers it.
+/// The permits are asked for where they weren't found yet.
+fn condition_on<B: Base>(
+    alloc: Global,
+    base: &mut B,
+    user: &Name,
+    right: Right,
+    attrs: &[u8],
+    key: &RelKey,
+    found: &mut TextsFound,
+) -> Result<Option<QQual>, BaseFault>
+    requires found { (db : Db) → B.database base.old ≡ Some db → IsFound db (asks user.now) found.old }
+    ensures told { (db : Db) → B.database base.old ≡ Some db → IfOk result (λ o. o ≡ one_of (covering_conditions (permits_on db key.now) (asker_of user.now) (right_of right) attrs.now)) }
+    ensures within { IfOk result (λ o. list_all (is_qual_within 1) (option_to_list o) ≡ true) }
+    ensures found { (db : Db) → B.database base.old ≡ Some db → IsFound db (asks user.now) found.new }
+    ensures kept { B.database base.new ≡ B.database base.old }
+    ensures same { B.left base.new ≡ B.left base.old }
+    ensures cause { HasBaseCause (B.database base.old) (B.faults base.old) (B.faults base.new) result }
+{
+    match found.permits(key) {
+        Some(permits) => match condition_of(alloc, permits, user, right, attrs) {
+            Ok(condition) => Ok(condition),
+            Err(_) => Err(BaseFault::OutOfMemory),
+        },
+        None => condition_anew(alloc, base, user, right, attrs, key, found),
+    }
+}
+
 /// The condition on rows for a user who asks; `None` where no permit is needed.
-#[tactic(auto, using(crate::proofs::Cutting::cut_without, crate::proofs::Cutting::cut_with, crate::proofs::Cutting::permitted_without, crate::proofs::Cutting::permitted_with, crate::proofs::Cutting::not_permitted, crate::proofs::Cutting::one_within))]
+#[tactic(auto, using(crate::proofs::Cutting::cut_without, crate::proofs::Cutting::cut_with, crate::proofs::Cutting::permitted_without, crate::proofs::Cutting::permitted_with, crate::proofs::Cutting::not_permitted))]
 fn cut_for<B: Base>(
     alloc: Global,
     base: &mut B,
@@ -60,10 +120,13 @@ fn cut_for<B: Base>(
     right: Right,
     attrs: &[u8],
     key: &RelKey,
+    found: &mut TextsFound,
 ) -> Result<Option<QQual>, TextFault>
+    requires found { (db : Db) → B.database base.old ≡ Some db → IsFound db (asks user.now) found.old }
     ensures told { (db : Db) → B.database base.old ≡ Some db → IfOk result (λ o. option_to_list o ≡ cut db (asks user.now) (right_of right) attrs.now key.now) }
     ensures permitted { (db : Db) → B.database base.old ≡ Some db → OnOk result (permitted db (asks user.now) (right_of right) attrs.now key.now ≡ true) }
     ensures within { IfOk result (λ o. list_all (is_qual_within 1) (option_to_list o) ≡ true) }
+    ensures found { (db : Db) → B.database base.old ≡ Some db → IsFound db (asks user.now) found.new }
     ensures kept { B.database base.new ≡ B.database base.old }
     ensures same { B.left base.new ≡ B.left base.old }
     ensures cause { HasCause (λ db. permitted db (asks user.now) (right_of right) attrs.now key.now ≡ false) (B.database base.old) (B.faults base.old) (B.faults base.new) result }
@@ -71,13 +134,9 @@ fn cut_for<B: Base>(
     if needs_none(alloc, base, user, right, key)? {
         return Ok(None);
     }
-    let permits = base.permits(alloc, key)?;
-    let condition = condition_of(alloc, &permits, user, right, attrs);
-    drop(permits);
-    match condition {
-        Ok(Some(condition)) => Ok(Some(condition)),
-        Ok(None) => Err(TextFault::NoPermit),
-        Err(_) => Err(TextFault::OutOfMemory),
+    match condition_on(alloc, base, user, right, attrs, key, found)? {
+        Some(condition) => Ok(Some(condition)),
+        None => Err(TextFault::NoPermit),
     }
 }
 
@@ -85,7 +144,6 @@ fn cut_for<B: Base>(
 /// the qualification of a permit that covers it holds. `None` where no permit is needed, as where nobody
 /// in particular asks, the owner asks, or a catalogue is read. `NoPermit` exactly where one is needed and
 /// none covers it.
-#[tactic(auto, unfolding(calculus::specs::Rights::permitted))]
 pub fn cut<B: Base>(
     alloc: Global,
     base: &mut B,
@@ -101,8 +159,33 @@ pub fn cut<B: Base>(
     ensures same { B.left base.new ≡ B.left base.old }
     ensures cause { HasCause (λ db. permitted db (who_of (option_map (λ n. n.now) who.entry)) (right_of right) attrs.now key.now ≡ false) (B.database base.old) (B.faults base.old) (B.faults base.new) result }
 {
+    let mut found = TextsFound::new(alloc);
+    cut_remembering(alloc, base, who, right, attrs, key, &mut found)
+}
+
+/// The condition on the rows of what has a key, as `cut`, where the permits that were found before, for
+/// the same one who asks, are made use of, and those that are asked for are kept beside them.
+#[tactic(auto, unfolding(calculus::specs::Rights::permitted))]
+pub fn cut_remembering<B: Base>(
+    alloc: Global,
+    base: &mut B,
+    who: Option<&Name>,
+    right: Right,
+    attrs: &[u8],
+    key: &RelKey,
+    found: &mut TextsFound,
+) -> Result<Option<QQual>, TextFault>
+    requires found { (db : Db) → B.database base.old ≡ Some db → IsFound db (who_of (option_map (λ n. n.now) who)) found.old }
+    ensures told { (db : Db) → B.database base.old ≡ Some db → IfOk result (λ o. option_to_list o ≡ cut db (who_of (option_map (λ n. n.now) who.entry)) (right_of right) attrs.now key.now) }
+    ensures permitted { (db : Db) → B.database base.old ≡ Some db → OnOk result (permitted db (who_of (option_map (λ n. n.now) who.entry)) (right_of right) attrs.now key.now ≡ true) }
+    ensures within { IfOk result (λ o. list_all (is_qual_within 1) (option_to_list o) ≡ true) }
+    ensures found { (db : Db) → B.database base.old ≡ Some db → IsFound db (who_of (option_map (λ n. n.now) who.entry)) found.new }
+    ensures kept { B.database base.new ≡ B.database base.old }
+    ensures same { B.left base.new ≡ B.left base.old }
+    ensures cause { HasCause (λ db. permitted db (who_of (option_map (λ n. n.now) who.entry)) (right_of right) attrs.now key.now ≡ false) (B.database base.old) (B.faults base.old) (B.faults base.new) result }
+{
     match who {
-        Some(user) => cut_for(alloc, base, user, right, attrs, key),
+        Some(user) => cut_for(alloc, base, user, right, attrs, key, found),
         None => Ok(None),
     }
 }

@@ -1,5 +1,4 @@
-//! The text of what has a key, and of a query's rows, through views, where what was found of a view is
-//! kept.
+//! The text of what has a key, and of a query's rows, through views, where what was found is kept.
 
 ghost use Rattle.std.specs.Prelude.{◌≡◌, ℕ, ◌≤◌, List, [], ◌∷◌, ◌++◌, true, false, Some, length, IfOk, IfErr, OnOk, option_map};
 ghost use Rattle.std.specs.List.{list_all};
@@ -12,7 +11,7 @@ ghost use Rattle.calculus.specs.Used.{used_in_query, used_vars};
 ghost use Rattle.am_traits.specs.Told.{query_at};
 ghost use Rattle.view_expand.specs.Asking.{who_of};
 ghost use Rattle.view_expand.specs.Causes.{HasCause};
-ghost use Rattle.view_expand.specs.Found.{AreTexts, IsTextOf};
+ghost use Rattle.view_expand.specs.Found.{IsFound, IsTextOf};
 ghost use Rattle.view_expand.specs.Listed.{permitted_at, texts_at, variables_at};
 ghost use Rattle.view_expand.specs.declared.fault.TextFault.TheVariants.{OutOfMemory as NoMemory};
 ghost use Rattle.view_text.specs.Scoped.{is_scoped};
@@ -56,11 +55,11 @@ pub(crate) fn text_through<B: Base>(
     found: &mut TextsFound,
 ) -> Result<Text, TextFault>
     requires few { (db : Db) → B.database base.old ≡ Some db → (measure_within levels db key.now).variables ≤ 256 }
-    requires found { (db : Db) → B.database base.old ≡ Some db → AreTexts db (who_of (option_map (λ n. n.now) who)) found.old }
+    requires found { (db : Db) → B.database base.old ≡ Some db → IsFound db (who_of (option_map (λ n. n.now) who)) found.old }
     ensures told { (db : Db) → B.database base.old ≡ Some db → IfOk result (λ text. text ≡ text_within levels db (who_of (option_map (λ n. n.now) who.entry)) key.now attrs.now) }
     ensures permitted { (db : Db) → B.database base.old ≡ Some db → OnOk result (permitted_within levels db (who_of (option_map (λ n. n.now) who.entry)) key.now attrs.now ≡ true) }
     ensures scoped { IfOk result (λ text. is_scoped text ≡ true) }
-    ensures found { (db : Db) → B.database base.old ≡ Some db → AreTexts db (who_of (option_map (λ n. n.now) who.entry)) found.new }
+    ensures found { (db : Db) → B.database base.old ≡ Some db → IsFound db (who_of (option_map (λ n. n.now) who.entry)) found.new }
     ensures kept { B.database base.new ≡ B.database base.old }
     ensures same { B.left base.new ≡ B.left base.old }
     ensures cause { HasCause (λ db. permitted_within levels db (who_of (option_map (λ n. n.now) who.entry)) key.now attrs.now ≡ false) (B.database base.old) (B.faults base.old) (B.faults base.new) result }
@@ -84,11 +83,11 @@ fn text_anew<B: Base>(
     found: &mut TextsFound,
 ) -> Result<Text, TextFault>
     requires few { (db : Db) → B.database base.old ≡ Some db → (measure_within levels db key.now).variables ≤ 256 }
-    requires found { (db : Db) → B.database base.old ≡ Some db → AreTexts db (who_of (option_map (λ n. n.now) who)) found.old }
+    requires found { (db : Db) → B.database base.old ≡ Some db → IsFound db (who_of (option_map (λ n. n.now) who)) found.old }
     ensures told { (db : Db) → B.database base.old ≡ Some db → IfOk result (λ text. text ≡ text_within levels db (who_of (option_map (λ n. n.now) who.entry)) key.now attrs.now) }
     ensures permitted { (db : Db) → B.database base.old ≡ Some db → OnOk result (permitted_within levels db (who_of (option_map (λ n. n.now) who.entry)) key.now attrs.now ≡ true) }
     ensures scoped { IfOk result (λ text. is_scoped text ≡ true) }
-    ensures found { (db : Db) → B.database base.old ≡ Some db → AreTexts db (who_of (option_map (λ n. n.now) who.entry)) found.new }
+    ensures found { (db : Db) → B.database base.old ≡ Some db → IsFound db (who_of (option_map (λ n. n.now) who.entry)) found.new }
     ensures kept { B.database base.new ≡ B.database base.old }
     ensures same { B.left base.new ≡ B.left base.old }
     ensures cause { HasCause (λ db. permitted_within levels db (who_of (option_map (λ n. n.now) who.entry)) key.now attrs.now ≡ false) (B.database base.old) (B.faults base.old) (B.faults base.new) result }
@@ -99,7 +98,7 @@ fn text_anew<B: Base>(
             drop(query);
             text
         }
-        None => plain_text(alloc, base, who, key, attrs),
+        None => plain_text(alloc, base, who, key, attrs, found),
     }
 }
 
@@ -117,10 +116,10 @@ fn text_of_view<B: Base>(
 ) -> Result<Text, TextFault>
     requires stands { (db : Db) → B.database base.old ≡ Some db → Some query.now ≡ query_at db key.now }
     requires few { (db : Db) → B.database base.old ≡ Some db → (measure_within levels db key.now).variables ≤ 256 }
-    requires found { (db : Db) → B.database base.old ≡ Some db → AreTexts db (who_of (option_map (λ n. n.now) who)) found.old }
+    requires found { (db : Db) → B.database base.old ≡ Some db → IsFound db (who_of (option_map (λ n. n.now) who)) found.old }
     ensures told { (db : Db) → B.database base.old ≡ Some db → IfOk result (IsTextOf db (who_of (option_map (λ n. n.now) who.entry)) key.now levels) }
     ensures scoped { IfOk result (λ text. is_scoped text ≡ true) }
-    ensures found { (db : Db) → B.database base.old ≡ Some db → AreTexts db (who_of (option_map (λ n. n.now) who.entry)) found.new }
+    ensures found { (db : Db) → B.database base.old ≡ Some db → IsFound db (who_of (option_map (λ n. n.now) who.entry)) found.new }
     ensures kept { B.database base.new ≡ B.database base.old }
     ensures same { B.left base.new ≡ B.left base.old }
     ensures cause { HasCause (λ db. (attrs : List ℕ) → permitted_within levels db (who_of (option_map (λ n. n.now) who.entry)) key.now attrs ≡ false) (B.database base.old) (B.faults base.old) (B.faults base.new) result }
@@ -149,11 +148,11 @@ pub(crate) fn rows_through<B: Base>(
 ) -> Result<Text, TextFault>
     requires listed { (db : Db) → B.database base.old ≡ Some db → length (vars_of query.now) ≤ 256 }
     requires expanded { (db : Db) → B.database base.old ≡ Some db → (query_measure (measure_within levels db) query.now).variables ≤ 256 }
-    requires found { (db : Db) → B.database base.old ≡ Some db → AreTexts db (who_of (option_map (λ n. n.now) who)) found.old }
+    requires found { (db : Db) → B.database base.old ≡ Some db → IsFound db (who_of (option_map (λ n. n.now) who)) found.old }
     ensures told { (db : Db) → B.database base.old ≡ Some db → IfOk result (λ text. text ≡ rows_text (query_texts (text_within levels db (who_of (option_map (λ n. n.now) who.entry))) query.now) query.now) }
     ensures permitted { (db : Db) → B.database base.old ≡ Some db → OnOk result (vars_permitted (permitted_within levels db (who_of (option_map (λ n. n.now) who.entry))) query.now (used_vars query.now) ≡ true) }
     ensures scoped { IfOk result (λ text. is_scoped text ≡ true) }
-    ensures found { (db : Db) → B.database base.old ≡ Some db → AreTexts db (who_of (option_map (λ n. n.now) who.entry)) found.new }
+    ensures found { (db : Db) → B.database base.old ≡ Some db → IsFound db (who_of (option_map (λ n. n.now) who.entry)) found.new }
     ensures kept { B.database base.new ≡ B.database base.old }
     ensures same { B.left base.new ≡ B.left base.old }
     ensures cause { HasCause (λ db. vars_permitted (permitted_within levels db (who_of (option_map (λ n. n.now) who.entry))) query.now (used_vars query.now) ≡ false) (B.database base.old) (B.faults base.old) (B.faults base.new) result }
@@ -183,11 +182,11 @@ pub(crate) fn put_texts<B: Base>(
 ) -> Result<(), TextFault>
     requires listed { length keys.now ≤ 256 }
     requires expanded { (db : Db) → B.database base.old ≡ Some db → variables_at (measure_within levels db) query.now 0 keys.now ≤ 256 }
-    requires found { (db : Db) → B.database base.old ≡ Some db → AreTexts db (who_of (option_map (λ n. n.now) who)) found.old }
+    requires found { (db : Db) → B.database base.old ≡ Some db → IsFound db (who_of (option_map (λ n. n.now) who)) found.old }
     ensures told { (db : Db) → B.database base.old ≡ Some db → OnOk result (texts.new.items ≡ texts.old.items ++ texts_at (text_within levels db (who_of (option_map (λ n. n.now) who.entry))) query.now 0 keys.now) }
     ensures permitted { (db : Db) → B.database base.old ≡ Some db → OnOk result (permitted_at (permitted_within levels db (who_of (option_map (λ n. n.now) who.entry))) query.now 0 keys.now ≡ true) }
     ensures scoped { list_all is_scoped texts.old.items ≡ true → OnOk result (list_all is_scoped texts.new.items ≡ true) }
-    ensures found { (db : Db) → B.database base.old ≡ Some db → AreTexts db (who_of (option_map (λ n. n.now) who.entry)) found.new }
+    ensures found { (db : Db) → B.database base.old ≡ Some db → IsFound db (who_of (option_map (λ n. n.now) who.entry)) found.new }
     ensures kept { B.database base.new ≡ B.database base.old }
     ensures same { B.left base.new ≡ B.left base.old }
     ensures cause { HasCause (λ db. permitted_at (permitted_within levels db (who_of (option_map (λ n. n.now) who.entry))) query.now 0 keys.now ≡ false) (B.database base.old) (B.faults base.old) (B.faults base.new) result }
@@ -217,11 +216,11 @@ pub fn text_at_remembering<B: Base>(
     found: &mut TextsFound,
 ) -> Result<Text, TextFault>
     requires few { (db : Db) → B.database base.old ≡ Some db → is_any (used_in_query place query.now) ≡ true → (measure_within levels db key.now).variables ≤ 256 }
-    requires found { (db : Db) → B.database base.old ≡ Some db → AreTexts db (who_of (option_map (λ n. n.now) who)) found.old }
+    requires found { (db : Db) → B.database base.old ≡ Some db → IsFound db (who_of (option_map (λ n. n.now) who)) found.old }
     ensures told { (db : Db) → B.database base.old ≡ Some db → IfOk result (λ text. text ≡ used_text (text_within levels db (who_of (option_map (λ n. n.now) who.entry))) key.now (used_in_query place query.now)) }
     ensures permitted { (db : Db) → B.database base.old ≡ Some db → OnOk result (is_any (used_in_query place query.now) ≡ true → permitted_within levels db (who_of (option_map (λ n. n.now) who.entry)) key.now (used_in_query place query.now) ≡ true) }
     ensures scoped { IfOk result (λ text. is_scoped text ≡ true) }
-    ensures found { (db : Db) → B.database base.old ≡ Some db → AreTexts db (who_of (option_map (λ n. n.now) who.entry)) found.new }
+    ensures found { (db : Db) → B.database base.old ≡ Some db → IsFound db (who_of (option_map (λ n. n.now) who.entry)) found.new }
     ensures kept { B.database base.new ≡ B.database base.old }
     ensures same { B.left base.new ≡ B.left base.old }
     ensures cause { HasCause (λ db. (is_any (used_in_query place query.now) ≡ true) × (permitted_within levels db (who_of (option_map (λ n. n.now) who.entry)) key.now (used_in_query place query.now) ≡ false)) (B.database base.old) (B.faults base.old) (B.faults base.new) result }

@@ -1,6 +1,6 @@
 //! How many variables a query has once the views in it are put in, with those of its aggregates.
 
-ghost use Rattle.std.specs.Prelude.{◌≡◌, ◌+◌, ◌-◌, ◌^◌, ◌≤◌, ◌||◌, cond, min, length, map, sum_by, true, IfOk, Some};
+ghost use Rattle.std.specs.Prelude.{◌≡◌, ◌+◌, ◌-◌, ◌^◌, ◌≤◌, ◌||◌, cond, min, length, map, sum_by, true, IfOk, OnOk, Some};
 ghost use Rattle.std.specs.List.{list_all};
 ghost use Rattle.am_traits.specs.Causes.{HasCause};
 ghost use Rattle.calculus.specs.Assignments.{is_changed};
@@ -11,11 +11,14 @@ ghost use Rattle.calculus.specs.Sizes.{expanded_variables, measure_of, measure_w
 ghost use Rattle.calculus.specs.Used.{used_in_query};
 ghost use Rattle.quel_meaning.specs.Passing.{listed_expanded_variables};
 ghost use Rattle.view_sizes.specs.Listing.{source_lists_few, sources_list_few};
+ghost use Rattle.view_sizes.specs.Remembered.{AreMeasured};
 
 use crate::aggregates::aggregates_of;
-use crate::variables::{variables_of, variables_under, variables_within};
+use crate::remembered::Measures;
+use crate::variables::{variables_found, variables_through, variables_under_found};
 use am_traits::{Base, BaseFault};
 use calculus::{AggSource, QAgg, Query, RelKey, Update, UpdateOp};
+use indexmap::IndexMap;
 use plain_product::is_used;
 use std::alloc::Global;
 
@@ -26,16 +29,24 @@ const GREATEST_LEVEL: u8 = 16;
 fn source_variables<B: Base>(
     alloc: Global,
     base: &mut B,
+    found: &mut Measures,
     source: &AggSource,
 ) -> Result<u64, BaseFault>
-    ensures told { (db : Db) → B.database base.old ≡ Some db → source_lists_few source.now ≡ true → IfOk result (λ n. n ≡ min (source_variables (measure_within 16 db) source.now) (2 ^ 64 - 1)) }
+    ensures told { (db : Db) → B.database base.old ≡ Some db → AreMeasured db found.old.entries → source_lists_few source.now ≡ true → IfOk result (λ n. n ≡ min (source_variables (measure_within 16 db) source.now) (2 ^ 64 - 1)) }
+    ensures found { (db : Db) → B.database base.old ≡ Some db → AreMeasured db found.old.entries → OnOk result (AreMeasured db found.new.entries) }
     ensures kept { B.database base.new ≡ B.database base.old }
     ensures same { B.left base.new ≡ B.left base.old }
     ensures cause { HasCause (B.database base.old) (B.faults base.old) (B.faults base.new) result }
 {
     match source {
-        AggSource::Named(key) => variables_within(alloc, base, key, GREATEST_LEVEL),
-        AggSource::Rows(query) => variables_of(alloc, base, query.get(), GREATEST_LEVEL),
+        AggSource::Named(key) => variables_found(alloc, base, found, key, GREATEST_LEVEL),
+        AggSource::Rows(query) => variables_through(
+            alloc,
+            base,
+            found,
+            query.get(),
+            GREATEST_LEVEL,
+        ),
     }
 }
 
@@ -43,16 +54,18 @@ fn source_variables<B: Base>(
 fn variables_of_all<B: Base>(
     alloc: Global,
     base: &mut B,
+    found: &mut Measures,
     aggregates: &[&QAgg],
 ) -> Result<u64, BaseFault>
-    ensures told { (db : Db) → B.database base.old ≡ Some db → list_all (λ g. source_lists_few g.now.source) aggregates.now ≡ true → IfOk result (λ n. n ≡ min (sum_by (λ g. source_variables (measure_within 16 db) g.now.source) aggregates.now) (2 ^ 64 - 1)) }
+    ensures told { (db : Db) → B.database base.old ≡ Some db → AreMeasured db found.old.entries → list_all (λ g. source_lists_few g.now.source) aggregates.now ≡ true → IfOk result (λ n. n ≡ min (sum_by (λ g. source_variables (measure_within 16 db) g.now.source) aggregates.now) (2 ^ 64 - 1)) }
+    ensures found { (db : Db) → B.database base.old ≡ Some db → AreMeasured db found.old.entries → OnOk result (AreMeasured db found.new.entries) }
     ensures kept { B.database base.new ≡ B.database base.old }
     ensures same { B.left base.new ≡ B.left base.old }
     ensures cause { HasCause (B.database base.old) (B.faults base.old) (B.faults base.new) result }
 {
     let mut count: u64 = 0;
     for aggregate in aggregates {
-        let more = source_variables(alloc, base, &aggregate.source)?;
+        let more = source_variables(alloc, base, found, &aggregate.source)?;
         count = count.saturating_add(more);
     }
     Ok(count)
@@ -62,15 +75,17 @@ fn variables_of_all<B: Base>(
 fn aggregate_variables<B: Base>(
     alloc: Global,
     base: &mut B,
+    found: &mut Measures,
     query: &Query,
 ) -> Result<u64, BaseFault>
-    ensures told { (db : Db) → B.database base.old ≡ Some db → sources_list_few query.now ≡ true → IfOk result (λ n. n ≡ min (sum_by (λ g. source_variables (measure_within 16 db) g.source) (query_aggregates query.now)) (2 ^ 64 - 1)) }
+    ensures told { (db : Db) → B.database base.old ≡ Some db → AreMeasured db found.old.entries → sources_list_few query.now ≡ true → IfOk result (λ n. n ≡ min (sum_by (λ g. source_variables (measure_within 16 db) g.source) (query_aggregates query.now)) (2 ^ 64 - 1)) }
+    ensures found { (db : Db) → B.database base.old ≡ Some db → AreMeasured db found.old.entries → OnOk result (AreMeasured db found.new.entries) }
     ensures kept { B.database base.new ≡ B.database base.old }
     ensures same { B.left base.new ≡ B.left base.old }
     ensures cause { HasCause (B.database base.old) (B.faults base.old) (B.faults base.new) result }
 {
     let aggregates = aggregates_of(alloc, query)?;
-    variables_of_all(alloc, base, &aggregates)
+    variables_of_all(alloc, base, found, &aggregates)
 }
 
 /// The variables of a query once the views in it are put in, those of the sources of its aggregates
@@ -86,8 +101,9 @@ pub fn expanded_variables<B: Base>(
     ensures same { B.left base.new ≡ B.left base.old }
     ensures cause { HasCause (B.database base.old) (B.faults base.old) (B.faults base.new) result }
 {
-    let own = variables_of(alloc, base, query, GREATEST_LEVEL)?;
-    let below = aggregate_variables(alloc, base, query)?;
+    let mut found: Measures = IndexMap::new(alloc);
+    let own = variables_through(alloc, base, &mut found, query, GREATEST_LEVEL)?;
+    let below = aggregate_variables(alloc, base, &mut found, query)?;
     Ok(own.saturating_add(below))
 }
 
@@ -104,8 +120,9 @@ pub fn listed_expanded_variables<B: Base>(
     ensures same { B.left base.new ≡ B.left base.old }
     ensures cause { HasCause (B.database base.old) (B.faults base.old) (B.faults base.new) result }
 {
-    let own = variables_under(alloc, base, query.vars.items())?;
-    let below = aggregate_variables(alloc, base, query)?;
+    let mut found: Measures = IndexMap::new(alloc);
+    let own = variables_under_found(alloc, base, &mut found, query.vars.items())?;
+    let below = aggregate_variables(alloc, base, &mut found, query)?;
     Ok(own.saturating_add(below))
 }
 
@@ -131,25 +148,33 @@ fn counts(u: &Update, place: u8) -> bool
 fn counted_at<B: Base>(
     alloc: Global,
     base: &mut B,
+    found: &mut Measures,
     u: &Update,
     place: u8,
     key: &RelKey,
 ) -> Result<u64, BaseFault>
-    ensures told { (db : Db) → B.database base.old ≡ Some db → IfOk result (λ n. n ≡ cond (is_any (used_in_query place u.now.query) || is_changed u.now place) (min (measure_within 16 db key.now).variables (2 ^ 64 - 1)) 0) }
+    ensures told { (db : Db) → B.database base.old ≡ Some db → AreMeasured db found.old.entries → IfOk result (λ n. n ≡ cond (is_any (used_in_query place u.now.query) || is_changed u.now place) (min (measure_within 16 db key.now).variables (2 ^ 64 - 1)) 0) }
+    ensures found { (db : Db) → B.database base.old ≡ Some db → AreMeasured db found.old.entries → OnOk result (AreMeasured db found.new.entries) }
     ensures kept { B.database base.new ≡ B.database base.old }
     ensures same { B.left base.new ≡ B.left base.old }
     ensures cause { HasCause (B.database base.old) (B.faults base.old) (B.faults base.new) result }
 {
     if counts(u, place) {
-        variables_within(alloc, base, key, GREATEST_LEVEL)
+        variables_found(alloc, base, found, key, GREATEST_LEVEL)
     } else {
         Ok(0)
     }
 }
 
 /// The variables of an update that count, the views in it put in, where it lists at most 256.
-fn counted_variables<B: Base>(alloc: Global, base: &mut B, u: &Update) -> Result<u64, BaseFault>
-    ensures told { (db : Db) → B.database base.old ≡ Some db → length (vars_of u.now.query) ≤ 256 → IfOk result (λ n. n ≡ min (sum_by (λ p. (measure_within 16 db p.1).variables) (update_vars u.now)) (2 ^ 64 - 1)) }
+fn counted_variables<B: Base>(
+    alloc: Global,
+    base: &mut B,
+    found: &mut Measures,
+    u: &Update,
+) -> Result<u64, BaseFault>
+    ensures told { (db : Db) → B.database base.old ≡ Some db → AreMeasured db found.old.entries → length (vars_of u.now.query) ≤ 256 → IfOk result (λ n. n ≡ min (sum_by (λ p. (measure_within 16 db p.1).variables) (update_vars u.now)) (2 ^ 64 - 1)) }
+    ensures found { (db : Db) → B.database base.old ≡ Some db → AreMeasured db found.old.entries → OnOk result (AreMeasured db found.new.entries) }
     ensures kept { B.database base.new ≡ B.database base.old }
     ensures same { B.left base.new ≡ B.left base.old }
     ensures cause { HasCause (B.database base.old) (B.faults base.old) (B.faults base.new) result }
@@ -157,7 +182,7 @@ fn counted_variables<B: Base>(alloc: Global, base: &mut B, u: &Update) -> Result
     let mut count: u64 = 0;
     let mut place: u8 = 0;
     for key in u.query.vars.items() {
-        let more = counted_at(alloc, base, u, place, key)?;
+        let more = counted_at(alloc, base, found, u, place, key)?;
         count = count.saturating_add(more);
         place = place.saturating_add(1);
     }
@@ -177,7 +202,8 @@ pub fn update_expanded_variables<B: Base>(
     ensures same { B.left base.new ≡ B.left base.old }
     ensures cause { HasCause (B.database base.old) (B.faults base.old) (B.faults base.new) result }
 {
-    let own = counted_variables(alloc, base, u)?;
-    let below = aggregate_variables(alloc, base, &u.query)?;
+    let mut found: Measures = IndexMap::new(alloc);
+    let own = counted_variables(alloc, base, &mut found, u)?;
+    let below = aggregate_variables(alloc, base, &mut found, &u.query)?;
     Ok(own.saturating_add(below))
 }

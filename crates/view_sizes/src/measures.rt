@@ -164,7 +164,7 @@ fn measure_anew<B: Base>(
 /// What a query is, the views in it put in, where it lists at most 256 variables, and where some of
 /// what they range over was found before.
 #[cycle(measures)]
-fn measure_through<B: Base>(
+pub(crate) fn measure_through<B: Base>(
     alloc: Global,
     base: &mut B,
     found: &mut Measures,

@@ -7,7 +7,7 @@ ghost use Rattle.calculus.specs.QueryParts.{vars_of};
 ghost use Rattle.calculus.specs.Sizes.{measure_within, query_measure};
 ghost use Rattle.view_sizes.specs.Remembered.{AreMeasured};
 
-use crate::measures::{measure_of, measure_within};
+use crate::measures::{measure_of, measure_through, measure_within};
 use crate::remembered::Measures;
 use am_traits::{Base, BaseFault};
 use calculus::{Query, RelKey};
@@ -19,7 +19,7 @@ const GREATEST_LEVEL: u8 = 16;
 
 /// The variables of what stands under a key, through at most so many levels of views, where some of
 /// it was found before.
-fn variables_found<B: Base>(
+pub(crate) fn variables_found<B: Base>(
     alloc: Global,
     base: &mut B,
     found: &mut Measures,
@@ -68,14 +68,34 @@ pub fn variables_of<B: Base>(
     Ok(measure.variables)
 }
 
+/// The variables of a query, the views in it put in, where it lists at most 256, and where some of what
+/// they range over was found before.
+pub(crate) fn variables_through<B: Base>(
+    alloc: Global,
+    base: &mut B,
+    found: &mut Measures,
+    query: &Query,
+    levels: u8,
+) -> Result<u64, BaseFault>
+    ensures told { (db : Db) → B.database base.old ≡ Some db → AreMeasured db found.old.entries → length (vars_of query.now) ≤ 256 → IfOk result (λ n. n ≡ min (query_measure (measure_within levels db) query.now).variables (2 ^ 64 - 1)) }
+    ensures found { (db : Db) → B.database base.old ≡ Some db → AreMeasured db found.old.entries → OnOk result (AreMeasured db found.new.entries) }
+    ensures kept { B.database base.new ≡ B.database base.old }
+    ensures same { B.left base.new ≡ B.left base.old }
+    ensures cause { HasCause (B.database base.old) (B.faults base.old) (B.faults base.new) result }
+{
+    let measure = measure_through(alloc, base, found, query, levels)?;
+    Ok(measure.variables)
+}
+
 /// The variables of what stands under these keys, all together, where some of it was found before.
-fn variables_under_found<B: Base>(
+pub(crate) fn variables_under_found<B: Base>(
     alloc: Global,
     base: &mut B,
     found: &mut Measures,
     vars: &[RelKey],
 ) -> Result<u64, BaseFault>
     ensures told { (db : Db) → B.database base.old ≡ Some db → AreMeasured db found.old.entries → IfOk result (λ n. n ≡ min (sum_by (λ key. (measure_within 16 db key).variables) vars.now) (2 ^ 64 - 1)) }
+    ensures found { (db : Db) → B.database base.old ≡ Some db → AreMeasured db found.old.entries → OnOk result (AreMeasured db found.new.entries) }
     ensures kept { B.database base.new ≡ B.database base.old }
     ensures same { B.left base.new ≡ B.left base.old }
     ensures cause { HasCause (B.database base.old) (B.faults base.old) (B.faults base.new) result }

@@ -18,6 +18,7 @@ impl DbPlain {
             lists: DbLists::new(alloc, dba),
             kept_relation: None,
             kept_attribute: None,
+            near: 0,
         }
     }
 

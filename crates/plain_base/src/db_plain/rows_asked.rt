@@ -10,7 +10,7 @@ ghost use Rattle.plain_base.specs.Places.{rows_from};
 ghost use Rattle.plain_base.specs.Shown.{database_of, IsRelationReady, IsAttributeReady, IsReady};
 
 use super::DbPlain;
-use crate::rows::is_there;
+use crate::near::is_near;
 use crate::scanning::next_row;
 use calculus::{OutOfMemory, Place, Probe, RelKey, Row, RowSet};
 use std::alloc::Global;
@@ -119,8 +119,10 @@ impl DbPlain {
         ensures same { database_of self.new ≡ database_of self.old }
     {
         self.keep_rows(alloc, key)?;
-        let rows = self.rows_under(key);
-        Ok(is_there(rows, row))
+        let mut near = self.near;
+        let is_there = is_near(self.rows_under(key), row, &mut near);
+        self.near = near;
+        Ok(is_there)
     }
 
     /// The next row under a key that meets the probe, from a place on, which moves behind it.

@@ -39,6 +39,7 @@ loop-aggregate-preserved g c = record {
   permitted = λ db h.
       list_all_more (λ a. source_permitted (readable db (who_of (option_map (λ n. n.now) c.args.who))) (used_in_aggregate a.now) a.now.source) c.args.aggregates.now c.loop-aggregate.aggregate-index c.aggregate-item.result c.loop-aggregate-test.true
       ∙ (λ i. c.loop-aggregate.invariant.permitted db h i && (ap (λ a. source_permitted (readable db (who_of (option_map (λ n. n.now) c.args.who))) (used_in_aggregate a.now) a.now.source) (sym c.aggregate-item.is) ∙ c.in-Ok.ensures.permitted db (c.loop-aggregate.invariant.kept ∙ h)) i);
+  found = λ db h. c.in-Ok.ensures.found db (c.loop-aggregate.invariant.kept ∙ h);
   kept = c.in-Ok.ensures.kept ∙ c.loop-aggregate.invariant.kept;
   same = c.in-Ok.ensures.same ∙ c.loop-aggregate.invariant.same;
   later = omega (arith, c.in-Ok.ensures.cause.later, c.loop-aggregate.invariant.later);

@@ -4,6 +4,7 @@ use Rattle.calculus.specs.Database.{Db}
 use Rattle.calculus.specs.Permission.{readable, source_permitted}
 use Rattle.calculus.specs.Used.{used_in_aggregate}
 use Rattle.view_expand.specs.Asking.{who_of}
+use Rattle.view_expand.specs.Found.{IsFound}
 use Rattle.view_text.specs.PutIn.{put_aggregate}
 use Rattle.view_text.specs.Texts.{put_from}
 use Rattle.cut_rules.proofs.aggregates.put_all.Given as goal
@@ -14,6 +15,7 @@ invariant-loop-aggregate g l = record {
       → l.made.items ≡ l.fn.made.items ++ map (λ g. put_aggregate db (who_of (option_map (λ n. n.now) l.who)) (put_from 0 l.texts) g.now) (take l.aggregate-index l.aggregates);
   permitted : (db : Db) → g.B.Base.database l.initial.base ≡ Some db
       → list_all (λ g. source_permitted (readable db (who_of (option_map (λ n. n.now) l.who))) (used_in_aggregate g.now) g.now.source) (take l.aggregate-index l.aggregates) ≡ true;
+  found : (db : Db) → g.B.Base.database l.initial.base ≡ Some db → IsFound db (who_of (option_map (λ n. n.now) l.who)) l.found;
   kept : g.B.Base.database l.base ≡ g.B.Base.database l.initial.base;
   same : g.B.Base.left l.base ≡ g.B.Base.left l.initial.base;
   later : g.B.Base.faults l.initial.base ≤ g.B.Base.faults l.base;

@@ -11,8 +11,8 @@ use Rattle.cut_rules.proofs.Causing.{failed_behind}
 use Rattle.cut_rules.proofs.Listing.{first_of, others_of, passed_on, failed_first, all_done, contains_first, contains_later, next_mapped}
 use Rattle.cut_rules.proofs.cutting.put_all_asked.Goals as goal
 
-pub put_asked-requires : goal.put_asked-requires
-put_asked-requires g c = λ db h.
+pub put_asked-requires-clause-fit : goal.put_asked-requires-clause-fit
+put_asked-requires-clause-fit g c = λ db h.
     first_of (asked_fits (kept_or_viewed db) db) c.in-Some.first.now c.asked.rest.now c.in-Some.others.now c.in-Some.ensures.cases.0 (c.asked.invariant.fit db (sym c.asked.invariant.kept ∙ h))
 
 pub returns-in_err-put_asked-clause-cause : goal.returns-in_err-put_asked-clause-cause
@@ -35,6 +35,7 @@ asked-preserved g c = record {
   permitted = λ db h.
       passed_on (λ a. query_permitted db (who_of (option_map (λ n. n.now) c.args.who)) a.query) c.in-Some.first.now c.asked.rest.now c.in-Some.others.now _ c.in-Some.ensures.cases.0 (c.in_ok-put_asked.ensures.permitted db (c.asked.invariant.kept ∙ h)) (c.asked.invariant.permitted db h);
   fit = λ db h. others_of (asked_fits (kept_or_viewed db) db) c.in-Some.first.now c.asked.rest.now c.in-Some.others.now c.in-Some.ensures.cases.0 (c.asked.invariant.fit db h);
+  found = λ db h. c.in_ok-put_asked.ensures.found db (c.asked.invariant.kept ∙ h);
   kept = c.in_ok-put_asked.ensures.kept ∙ c.asked.invariant.kept;
   same = c.in_ok-put_asked.ensures.same ∙ c.asked.invariant.same;
   later = omega (arith, c.in_ok-put_asked.ensures.cause.later, c.asked.invariant.later);

@@ -5,6 +5,7 @@ use Rattle.calculus.specs.Database.{Db}
 use Rattle.calculus.specs.Permission.{query_permitted}
 use Rattle.quel_meaning.specs.FitQueries.{kept_or_viewed, asked_fits}
 use Rattle.view_expand.specs.Asking.{who_of}
+use Rattle.view_expand.specs.Found.{IsFound}
 use Rattle.view_text.specs.PutIn.{put_in_asked}
 use Rattle.cut_rules.proofs.cutting.put_all_asked.Given as goal
 
@@ -19,6 +20,7 @@ invariant-asked g l = record {
   permitted : (db : Db) → g.B.Base.database l.initial.base ≡ Some db
       → list_all (λ a. query_permitted db (who_of (option_map (λ n. n.now) l.who)) a.query) l.rest ≡ list_all (λ a. query_permitted db (who_of (option_map (λ n. n.now) l.who)) a.query) l.asked;
   fit : (db : Db) → g.B.Base.database l.initial.base ≡ Some db → list_all (asked_fits (kept_or_viewed db) db) l.rest ≡ true;
+  found : (db : Db) → g.B.Base.database l.initial.base ≡ Some db → IsFound db (who_of (option_map (λ n. n.now) l.who)) l.found;
   kept : g.B.Base.database l.base ≡ g.B.Base.database l.initial.base;
   same : g.B.Base.left l.base ≡ g.B.Base.left l.initial.base;
   later : g.B.Base.faults l.initial.base ≤ g.B.Base.faults l.base;

@@ -6,11 +6,11 @@ use Rattle.cut_rules.proofs.Fitting.{answer_fits, change_fits}
 use Rattle.cut_rules.proofs.Trees.{answer_put, update_put, utility_put, answer_permitted, change_permitted_is, utility_permitted, answer_refused, update_refused}
 use Rattle.cut_rules.proofs.cutting.put_in_tree.Goals as goal
 
-pub asked_tree-requires : goal.asked_tree-requires
-asked_tree-requires g c = λ db h. answer_fits db c.args.user.now c.args.tree.now c.items.result.now (c.requires db h) (c.in-Answer.is ∙ ap checked.Answer (sym c.items.ensures))
+pub asked_tree-requires-clause-fit : goal.asked_tree-requires-clause-fit
+asked_tree-requires-clause-fit g c = λ db h. answer_fits db c.args.user.now c.args.tree.now c.items.result.now (c.requires.fit db h) (c.in-Answer.is ∙ ap checked.Answer (sym c.items.ensures))
 
-pub put_in_update-requires : goal.put_in_update-requires
-put_in_update-requires g c = λ db h. change_fits db c.args.user.now c.args.tree.now c.in-Update.u (c.requires db h) c.in-Update.is
+pub put_in_update-requires-clause-fit : goal.put_in_update-requires-clause-fit
+put_in_update-requires-clause-fit g c = λ db h. change_fits db c.args.user.now c.args.tree.now c.in-Update.u (c.requires.fit db h) c.in-Update.is
 
 pub returns-in-Answer-clause-told : goal.returns-in-Answer-clause-told
 returns-in-Answer-clause-told g c = λ db h.

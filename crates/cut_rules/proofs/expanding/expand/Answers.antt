@@ -34,7 +34,7 @@ pub returns-in-Ok-clause-lacks : goal.returns-in-Ok-clause-lacks
 returns-in-Ok-clause-lacks g c = λ db h nests.
     same_lack db (g.B.Base.lawful c.args.base.now db h) c.args.query.now c.in-Ok.made nests (c.in-Ok.ensures.told db (c.in_ok-vars.ensures.kept ∙ h))
 
-pub returns-in-Err-clause-cause : goal.returns-in-Err-clause-cause
-returns-in-Err-clause-cause g c =
+pub returns-clause-cause : goal.returns-clause-cause
+returns-clause-cause g c =
     expand_failed _ _ _ _ _ _ _ _ c.in-Err.ensures.cause c.unexpanded.ensures c.in_ok-vars.ensures.kept c.in_ok-vars.ensures.cause.later
     (λ db h. free_query db (g.B.Base.lawful c.args.base.now db h) c.args.query.now (c.requires db h))

@@ -17,7 +17,7 @@ rows_source-made-requires-clause-listed g c = λ db h.
 pub rows_source-made-requires-clause-expanded : goal.rows_source-made-requires-clause-expanded
 rows_source-made-requires-clause-expanded g c = λ db h.
     let k = sym c.in_ok-query.ensures.kept ∙ h in
-    few_of_view db (g.B.Base.lawful c.args.base.now db k) c.args.key.now c.in-Some.query (sym c.in-Some.is ∙ c.in_ok-query.ensures.told db k) (c.requires db k)
+    few_of_view db (g.B.Base.lawful c.args.base.now db k) c.args.key.now c.in-Some.query (sym c.in-Some.is ∙ c.in_ok-query.ensures.told db k) (c.requires.few db k)
 
 pub returns-in-Some-clause-told : goal.returns-in-Some-clause-told
 returns-in-Some-clause-told g c = λ db h.

@@ -11,16 +11,16 @@ use Rattle.view_expand.proofs.Causing.{caused_behind}
 use Rattle.cut_rules.proofs.Ranging.{named_few, rows_cut, rows_few, rows_listed, rows_put, rows_readable}
 use Rattle.cut_rules.proofs.sources.put_source.Goals as goal
 
-pub named_source-requires : goal.named_source-requires
-named_source-requires g c = λ db h. named_few db c.in-Named.key (sym (ap (source_fits (kept_or_viewed db) db) c.in-Named.is) ∙ c.requires db h)
+pub named_source-requires-clause-few : goal.named_source-requires-clause-few
+named_source-requires-clause-few g c = λ db h. named_few db c.in-Named.key (sym (ap (source_fits (kept_or_viewed db) db) c.in-Named.is) ∙ c.requires.fits db h)
 
 pub rows_source-requires-clause-listed : goal.rows_source-requires-clause-listed
 rows_source-requires-clause-listed g c = λ db h.
-    subst (λ q. length (vars_of q) ≤ 256) (sym c.get.ensures) (rows_listed db c.in-Rows.query (sym (ap (source_fits (kept_or_viewed db) db) c.in-Rows.is) ∙ c.requires db h))
+    subst (λ q. length (vars_of q) ≤ 256) (sym c.get.ensures) (rows_listed db c.in-Rows.query (sym (ap (source_fits (kept_or_viewed db) db) c.in-Rows.is) ∙ c.requires.fits db h))
 
 pub rows_source-requires-clause-expanded : goal.rows_source-requires-clause-expanded
 rows_source-requires-clause-expanded g c = λ db h.
-    subst (λ q. (query_measure (measure_within 16 db) q).variables ≤ 256) (sym c.get.ensures) (rows_few db c.in-Rows.query (sym (ap (source_fits (kept_or_viewed db) db) c.in-Rows.is) ∙ c.requires db h))
+    subst (λ q. (query_measure (measure_within 16 db) q).variables ≤ 256) (sym c.get.ensures) (rows_few db c.in-Rows.query (sym (ap (source_fits (kept_or_viewed db) db) c.in-Rows.is) ∙ c.requires.fits db h))
 
 pub returns-in-Named-clause-permitted : goal.returns-in-Named-clause-permitted
 returns-in-Named-clause-permitted g c = λ db h.

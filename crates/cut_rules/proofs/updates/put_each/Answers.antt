@@ -7,8 +7,8 @@ use Rattle.cut_rules.proofs.Listing.{next_told, here_all, later_all, next_all, n
 use Rattle.cut_rules.proofs.Refusing.{refused_at}
 use Rattle.cut_rules.proofs.updates.put_each.Goals as goal
 
-pub text_in-requires : goal.text_in-requires
-text_in-requires g c = λ db h.
+pub text_in-requires-clause-small : goal.text_in-requires-clause-small
+text_in-requires-clause-small g c = λ db h.
     here_all (is_small_in db c.args.u.now) c.keys.place c.in-Some.key.now c.keys.rest.now c.in-Some.others.now c.in-Some.ensures.cases.0 (c.keys.invariant.small db (sym c.keys.invariant.kept ∙ h))
 
 pub returns-in_err-more-clause-cause : goal.returns-in_err-more-clause-cause
@@ -32,6 +32,7 @@ keys-preserved g c = record {
       next_all (may_be_used db who c.args.u.now) c.keys.place c.in-Some.key.now c.keys.rest.now c.in-Some.others.now _ c.in-Some.ensures.cases.0 (c.in_ok-more.ensures.permitted db (c.keys.invariant.kept ∙ h)) (c.keys.invariant.permitted db h);
   small = λ db h. later_all (is_small_in db c.args.u.now) c.keys.place c.in-Some.key.now c.keys.rest.now c.in-Some.others.now c.in-Some.ensures.cases.0 (c.keys.invariant.small db h);
   scoped = λ h. c.in_ok-put_behind.ensures.scoped (c.keys.invariant.scoped h);
+  found = λ db h. c.in_ok-more.ensures.found db (c.keys.invariant.kept ∙ h);
   kept = c.in_ok-more.ensures.kept ∙ c.keys.invariant.kept;
   same = c.in_ok-more.ensures.same ∙ c.keys.invariant.same;
   later = omega (arith, c.in_ok-more.ensures.cause.later, c.keys.invariant.later);

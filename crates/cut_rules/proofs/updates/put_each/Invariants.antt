@@ -3,6 +3,7 @@ use Rattle.std.specs.Prelude.{slice_get}
 use Rattle.std.specs.List.{enumerate_from, list_all}
 use Rattle.calculus.specs.Database.{Db}
 use Rattle.view_expand.specs.Asking.{who_of}
+use Rattle.view_expand.specs.Found.{IsFound}
 use Rattle.view_text.specs.Scoped.{is_scoped}
 use Rattle.cut_rules.specs.Placed.{text_in, may_be_used, is_small_in}
 use Rattle.cut_rules.proofs.updates.put_each.Given as goal
@@ -22,6 +23,7 @@ invariant-keys g l = record {
       ≡ list_all (may_be_used db (who_of (option_map (λ n. n.now) l.who)) l.u) (enumerate_from 0 l.keys);
   small : (db : Db) → g.B.Base.database l.initial.base ≡ Some db → list_all (is_small_in db l.u) (enumerate_from l.place l.rest) ≡ true;
   scoped : list_all is_scoped l.fn.texts.items ≡ true → list_all is_scoped l.texts.items ≡ true;
+  found : (db : Db) → g.B.Base.database l.initial.base ≡ Some db → IsFound db (who_of (option_map (λ n. n.now) l.who)) l.found;
   kept : g.B.Base.database l.base ≡ g.B.Base.database l.initial.base;
   same : g.B.Base.left l.base ≡ g.B.Base.left l.initial.base;
   later : g.B.Base.faults l.initial.base ≤ g.B.Base.faults l.base;

@@ -12,13 +12,13 @@ use Rattle.cut_rules.proofs.Refusing.{all_used, use_refused, rest_refused}
 use Rattle.cut_rules.proofs.updates.put_in_update.Goals as goal
 
 pub put_texts-requires-clause-listed : goal.put_texts-requires-clause-listed
-put_texts-requires-clause-listed g c = λ db h. few_listed (kept_or_viewed db) db c.args.u.now.query (update_reads (kept_or_viewed db) db c.args.u.now (c.requires db h))
+put_texts-requires-clause-listed g c = λ db h. few_listed (kept_or_viewed db) db c.args.u.now.query (update_reads (kept_or_viewed db) db c.args.u.now (c.requires.fit db h))
 
 pub put_texts-requires-clause-small : goal.put_texts-requires-clause-small
-put_texts-requires-clause-small g c = λ db h. small_in (kept_or_viewed db) db c.args.u.now (c.requires db h)
+put_texts-requires-clause-small g c = λ db h. small_in (kept_or_viewed db) db c.args.u.now (c.requires.fit db h)
 
 pub put_over_few-requires-clause-fit : goal.put_over_few-requires-clause-fit
-put_over_few-requires-clause-fit g c = λ db h. update_reads (kept_or_viewed db) db c.args.u.now (c.requires db (sym c.in-Ok.ensures.kept ∙ h))
+put_over_few-requires-clause-fit g c = λ db h. update_reads (kept_or_viewed db) db c.args.u.now (c.requires.fit db (sym c.in-Ok.ensures.kept ∙ h))
 
 pub put_over_few-requires-clause-few : goal.put_over_few-requires-clause-few
 put_over_few-requires-clause-few g c = λ db h.
@@ -26,7 +26,7 @@ put_over_few-requires-clause-few g c = λ db h.
     let who = (who_of (option_map (λ n. n.now) c.args.who)) in
     let made : c.deref.result.now ≡ map (text_in db who c.args.u.now) (enumerate_from 0 (vars_of c.args.u.now.query)) =
     c.deref.ensures.value ∙ c.in-Ok.ensures.told db k ∙ ap (λ ts. ts ++ map (text_in db who c.args.u.now) (enumerate_from 0 (vars_of c.args.u.now.query))) c.new-texts.ensures.items in
-    subst (λ ts. length (texts_vars ts) ≤ 255) (sym made) (small_texts_in (kept_or_viewed db) db who c.args.u.now (c.requires db k))
+    subst (λ ts. length (texts_vars ts) ≤ 255) (sym made) (small_texts_in (kept_or_viewed db) db who c.args.u.now (c.requires.fit db k))
 
 pub returns-in-Ok-clause-told : goal.returns-in-Ok-clause-told
 unfolding put_in_update
@@ -41,7 +41,7 @@ pub returns-in-Ok-clause-permitted : goal.returns-in-Ok-clause-permitted
 returns-in-Ok-clause-permitted g c = λ db h.
     let who = (who_of (option_map (λ n. n.now) c.args.who)) in
     on_both c.put_over_few.result _ _ _ (c.put_over_few.ensures.permitted db (c.in-Ok.ensures.kept ∙ h)) (c.put_over_few.ensures.appended db (c.in-Ok.ensures.kept ∙ h))
-    (λ a p. all_used (kept_or_viewed db) db who c.args.u.now (c.requires db h) (c.in-Ok.ensures.permitted db h) a p)
+    (λ a p. all_used (kept_or_viewed db) db who c.args.u.now (c.requires.fit db h) (c.in-Ok.ensures.permitted db h) a p)
 
 pub returns-in-Ok-clause-cause : goal.returns-in-Ok-clause-cause
 returns-in-Ok-clause-cause g c =
@@ -49,4 +49,4 @@ returns-in-Ok-clause-cause g c =
 
 pub returns-clause-cause : goal.returns-clause-cause
 returns-clause-cause g c =
-    failed_so _ _ _ _ _ _ c.in-Err.ensures.cause (λ db h var r. use_refused (kept_or_viewed db) db (who_of (option_map (λ n. n.now) c.args.who)) c.args.u.now (c.requires db h) var r)
+    failed_so _ _ _ _ _ _ c.in-Err.ensures.cause (λ db h var r. use_refused (kept_or_viewed db) db (who_of (option_map (λ n. n.now) c.args.who)) c.args.u.now (c.requires.fit db h) var r)

@@ -3,8 +3,8 @@ use Rattle.view_expand.specs.Asking.{right_of, who_of}
 use Rattle.cut_rules.proofs.Fitting.{changed_text_is, read_text_is, small_stays}
 use Rattle.cut_rules.proofs.updates.text_in.Goals as goal
 
-pub read_text-requires : goal.read_text-requires
-read_text-requires g c = λ db h. small_stays db c.args.u.now c.args.place c.args.key.now c.in-None.ensures (c.requires db h)
+pub read_text-requires-clause-small : goal.read_text-requires-clause-small
+read_text-requires-clause-small g c = λ db h. small_stays db c.args.u.now c.args.place c.args.key.now c.in-None.ensures (c.requires.small db h)
 
 pub returns-in-Some-clause-told : goal.returns-in-Some-clause-told
 returns-in-Some-clause-told g c = λ db h.

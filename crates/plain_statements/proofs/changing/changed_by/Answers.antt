@@ -7,10 +7,10 @@ use Rattle.plain_statements.proofs.changing.changed_by.Goals as goal
 
 pub returns-clause-told : goal.returns-clause-told
 returns-clause-told g c = λ db e new are.
-    changed db c.args.u.now c.args.pairs.now are c.in_ok-change.ensures.uncontended (c.in_ok-change.ensures.few db e new) c.in_ok-change.change (c.in_ok-change.ensures.meaning db e new Free are.are)
+    changed db c.args.u.now c.args.pairs.items are c.in_ok-change.ensures.uncontended (c.in_ok-change.ensures.few db e new) c.in_ok-change.change (c.in_ok-change.ensures.meaning db e new Free are.are)
 
 pub returns-in_err-change-clause-told : goal.returns-in_err-change-clause-told
 returns-in_err-change-clause-told g c = λ db e new are.
     let refuses : ℕ → Type 0 = λ number. updated db Free c.args.u.now ≡ Err number in
     refused_by _ refuses c.from_residual.result c.from_residual.ensures
-    (λ stop is. subst (RefusedBy refuses) (sym is) (change_stops db c.args.u.now c.args.pairs.now _ _ _ c.in_err-change.field-0.0 e new are c.in_err-change.ensures.cause.caused))
+    (λ stop is. subst (RefusedBy refuses) (sym is) (change_stops db c.args.u.now c.args.pairs.items _ _ _ c.in_err-change.field-0.0 e new are c.in_err-change.ensures.cause.caused))

@@ -1,4 +1,4 @@
-use Rattle.std.proofs.Common.{◌≡◌, ◌||◌, ◌≤◌, ◌∙◌, ap, arith, false, length, nat_lt, not, subst, sym}
+use Rattle.std.proofs.Common.{◌≡◌, ◌||◌, ◌≤◌, ◌∙◌, ap, false, length, nat_lt, not, subst, sym}
 use Rattle.std.proofs.lemmas.Bool.{le-ltb}
 use Rattle.calculus.specs.QueryParts.{qual_of, vars_of}
 use Rattle.calculus.specs.Storable.{row_qual_is_small}

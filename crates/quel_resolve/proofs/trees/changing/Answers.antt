@@ -1,4 +1,4 @@
-use Rattle.std.proofs.Common.{◌≡◌, sym, ◌∙◌, true, false}
+use Rattle.std.proofs.Common.{◌≡◌, sym, ◌∙◌, false}
 use Rattle.quel_resolve.proofs.Changes.{has_tree_on, no_rows}
 use Rattle.quel_resolve.proofs.Passing.{judged}
 use Rattle.quel_resolve.specs.Built.{changes_rows}

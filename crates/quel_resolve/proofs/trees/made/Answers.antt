@@ -1,5 +1,3 @@
-use Rattle.std.specs.Prelude.{option_copied}
-use Rattle.quel_resolve.proofs.Changes.{on_changed}
 use Rattle.quel_resolve.proofs.trees.made.Goals as goal
 
 pub returns-in-Ok-clause-cause : goal.returns-in-Ok-clause-cause

@@ -10,7 +10,7 @@ returns-then-branch-clause-cause g c = record {
   caused = (
     c.in_ok-change.ensures.uncontended,
     λ db e new.
-        too_many_after (rows_at db c.args.u.now.rel) c.in_ok-change.change.remove c.in_ok-change.change.add c.args.pairs.now c.in_ok-is_too_large.field-0
+        too_many_after (rows_at db c.args.u.now.rel) c.in_ok-change.change.remove c.in_ok-change.change.add c.args.pairs.items c.in_ok-is_too_large.field-0
         (ascends_scanned (rows_at db c.args.u.now.rel) (g.B.Base.left c.args.base.now c.args.u.now.rel first_place) (g.B.Base.scanned c.args.base.now db c.args.u.now.rel e))
         (c.in_ok-change.ensures.removed db e) (c.in_ok-change.ensures.added db e) (c.in_ok-is_too_large.ensures.told db (c.in_ok-change.ensures.kept ∙ e)) c.if-branch.true,
   );
@@ -18,6 +18,6 @@ returns-then-branch-clause-cause g c = record {
 
 pub returns-clause-few : goal.returns-clause-few
 returns-clause-few g c = λ db e.
-    few_after (rows_at db c.args.u.now.rel) c.in_ok-change.change.remove c.in_ok-change.change.add c.args.pairs.now c.in_ok-is_too_large.field-0
+    few_after (rows_at db c.args.u.now.rel) c.in_ok-change.change.remove c.in_ok-change.change.add c.args.pairs.items c.in_ok-is_too_large.field-0
     (ascends_scanned (rows_at db c.args.u.now.rel) (g.B.Base.left c.args.base.now c.args.u.now.rel first_place) (g.B.Base.scanned c.args.base.now db c.args.u.now.rel e))
     (c.in_ok-change.ensures.removed db e) (c.in_ok-change.ensures.added db e) (c.in_ok-is_too_large.ensures.told db (c.in_ok-change.ensures.kept ∙ e)) c.if-branch.false

@@ -6,7 +6,7 @@ use Rattle.calculus.specs.Sizes.{measure_within}
 use Rattle.view_text.specs.Scoped.{is_scoped}
 use Rattle.view_text.specs.TextOf.{text_within}
 use Rattle.view_expand.specs.Asking.{who_of}
-use Rattle.view_expand.specs.Found.{AreTexts}
+use Rattle.view_expand.specs.Found.{IsFound}
 use Rattle.view_expand.specs.Listed.{texts_at, permitted_at, variables_at}
 use Rattle.view_expand.proofs.walk.+texts.Given as goal
 
@@ -41,7 +41,7 @@ invariant-put_texts-keys g l = record {
       → permitted_at (permitted_within l.levels db (who_of (option_map (λ n. n.now) l.who))) l.query l.place l.rest
       ≡ permitted_at (permitted_within l.levels db (who_of (option_map (λ n. n.now) l.who))) l.query 0 l.keys;
   few : (db : Db) → g.B.Base.database l.initial.base ≡ Some db → variables_at (measure_within l.levels db) l.query l.place l.rest ≤ 256;
-  found : (db : Db) → g.B.Base.database l.initial.base ≡ Some db → AreTexts db (who_of (option_map (λ n. n.now) l.who)) l.found;
+  found : (db : Db) → g.B.Base.database l.initial.base ≡ Some db → IsFound db (who_of (option_map (λ n. n.now) l.who)) l.found;
   scoped : list_all is_scoped l.fn.texts.items ≡ true → list_all is_scoped l.texts.items ≡ true;
   kept : g.B.Base.database l.base ≡ g.B.Base.database l.initial.base;
   same : g.B.Base.left l.base ≡ g.B.Base.left l.initial.base;

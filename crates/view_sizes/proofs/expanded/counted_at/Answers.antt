@@ -4,6 +4,6 @@ use Rattle.calculus.specs.Sizes.{measure_within}
 use Rattle.view_sizes.proofs.expanded.counted_at.Goals as goal
 
 pub returns-then-counts-clause-told : goal.returns-then-counts-clause-told
-returns-then-counts-clause-told g c = λ db h.
-    subst (λ b. IfOk c.variables_within.result (λ n. n ≡ cond b (min (measure_within 16 db c.args.key.now).variables (2 ^ 64 - 1)) 0)) (sym (sym c.counts.ensures ∙ c.if-counts.true))
-    (c.variables_within.ensures.told db h)
+returns-then-counts-clause-told g c = λ db h all.
+    subst (λ b. IfOk c.variables_found.result (λ n. n ≡ cond b (min (measure_within 16 db c.args.key.now).variables (2 ^ 64 - 1)) 0)) (sym (sym c.counts.ensures ∙ c.if-counts.true))
+    (c.variables_found.ensures.told db h all)

@@ -9,17 +9,18 @@ use Rattle.view_sizes.proofs.expanded.counted_variables.Goals as goal
 pub loop-key-preserved : goal.loop-key-preserved
 loop-key-preserved g c = record {
   place = omega (arith, c.loop-key.invariant.place, c.saturating_add-place.ensures);
-  told = λ db h few.
+  told = λ db h all few.
       count_more (λ v. is_any (used_in_query v c.args.u.now.query) || is_changed c.args.u.now v) (λ key. (measure_within 16 db key).variables) c.items-key-items.result.now c.loop-key.key-index c.key-item.result
       c.loop-key.place c.loop-key.count c.in_ok-more.more c.saturating_add-count.result c.loop-key-test.true c.key-item.is few c.loop-key.invariant.place
-      (c.loop-key.invariant.told db h (omega arith)) (c.in_ok-more.ensures.told db (c.loop-key.invariant.kept ∙ h)) c.saturating_add-count.ensures;
+      (c.loop-key.invariant.told db h all (omega arith)) (c.in_ok-more.ensures.told db (c.loop-key.invariant.kept ∙ h) (c.loop-key.invariant.found db h all)) c.saturating_add-count.ensures;
+  found = λ db h all. c.in_ok-more.ensures.found db (c.loop-key.invariant.kept ∙ h) (c.loop-key.invariant.found db h all);
   kept = c.in_ok-more.ensures.kept ∙ c.loop-key.invariant.kept;
   same = c.in_ok-more.ensures.same ∙ c.loop-key.invariant.same;
   later = omega (arith, c.in_ok-more.ensures.cause.later, c.loop-key.invariant.later);
 }
 
 pub returns-clause-told : goal.returns-clause-told
-returns-clause-told g c = λ db h few.
+returns-clause-told g c = λ db h all few.
     count_all (λ v. is_any (used_in_query v c.args.u.now.query) || is_changed c.args.u.now v) (λ key. (measure_within 16 db key).variables) c.items-key-items.result.now _ c.loop-key.key-index
     c.loop-key.count (c.items-key-items.ensures ∙ vars_is c.args.u.now.query) c.loop-key-test.false
-    (c.loop-key.invariant.told db h (omega (arith, ap length (c.items-key-items.ensures ∙ vars_is c.args.u.now.query), c.loop-key.auto.key-index-end, few)))
+    (c.loop-key.invariant.told db h all (omega (arith, ap length (c.items-key-items.ensures ∙ vars_is c.args.u.now.query), c.loop-key.auto.key-index-end, few)))

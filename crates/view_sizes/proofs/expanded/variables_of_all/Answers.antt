@@ -8,17 +8,18 @@ use Rattle.view_sizes.proofs.expanded.variables_of_all.Goals as goal
 
 pub loop-aggregate-preserved : goal.loop-aggregate-preserved
 loop-aggregate-preserved g c = record {
-  told = λ db h few.
+  told = λ db h all few.
       sum_more (λ g. source_variables (measure_within 16 db) g.now.source) c.args.aggregates.now c.loop-aggregate.aggregate-index c.aggregate-item.result c.loop-aggregate.count c.in_ok-more.more
-      c.saturating_add-count.result c.loop-aggregate-test.true c.aggregate-item.is (c.loop-aggregate.invariant.told db h few)
-      (c.in_ok-more.ensures.told db (c.loop-aggregate.invariant.kept ∙ h) (each_at (λ g. source_lists_few g.now.source) c.args.aggregates.now c.loop-aggregate.aggregate-index c.aggregate-item.result c.loop-aggregate-test.true c.aggregate-item.is few))
+      c.saturating_add-count.result c.loop-aggregate-test.true c.aggregate-item.is (c.loop-aggregate.invariant.told db h all few)
+      (c.in_ok-more.ensures.told db (c.loop-aggregate.invariant.kept ∙ h) (c.loop-aggregate.invariant.found db h all) (each_at (λ g. source_lists_few g.now.source) c.args.aggregates.now c.loop-aggregate.aggregate-index c.aggregate-item.result c.loop-aggregate-test.true c.aggregate-item.is few))
       c.saturating_add-count.ensures;
+  found = λ db h all. c.in_ok-more.ensures.found db (c.loop-aggregate.invariant.kept ∙ h) (c.loop-aggregate.invariant.found db h all);
   kept = c.in_ok-more.ensures.kept ∙ c.loop-aggregate.invariant.kept;
   same = c.in_ok-more.ensures.same ∙ c.loop-aggregate.invariant.same;
   later = omega (arith, c.in_ok-more.ensures.cause.later, c.loop-aggregate.invariant.later);
 }
 
 pub returns-clause-told : goal.returns-clause-told
-returns-clause-told g c = λ db h few.
-    c.loop-aggregate.invariant.told db h few
+returns-clause-told g c = λ db h all few.
+    c.loop-aggregate.invariant.told db h all few
     ∙ ap (λ gs. min (sum_by (λ g. source_variables (measure_within 16 db) g.now.source) gs) (2 ^ 64 - 1)) (take_all c.loop-aggregate.aggregate-index c.args.aggregates.now c.loop-aggregate-test.false)

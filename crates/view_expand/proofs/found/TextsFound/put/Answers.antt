@@ -2,7 +2,7 @@ use Rattle.std.proofs.Common.{◌≡◌, sym, subst, true}
 use Rattle.std.specs.List.{list_all}
 use Rattle.indexmap.specs.IndexMap.{insert_entry}
 use Rattle.view_text.specs.Scoped.{is_scoped}
-use Rattle.view_expand.specs.Found.{AreTexts}
+use Rattle.view_expand.specs.Found.{IsFound, AreTexts}
 use Rattle.view_expand.proofs.Keeping.{same_pair, kept_texts, kept_scoped, after}
 use Rattle.view_expand.proofs.found.TextsFound.put.Goals as goal
 
@@ -16,7 +16,10 @@ pub returns-in-Ok : goal.returns-in-Ok
 returns-in-Ok c = record {
   found = λ db who all one.
       let old = c.self.inside.texts.entries in
-      let here = subst (AreTexts db who) (sym c.self.view_is) all in
-      after (AreTexts db who) old c.insert.new.self.entries (insert_entry same_pair old c.args.pair c.args.text) c.insert.result
-      c.insert.ensures.entries c.insert.ensures.err here (kept_texts db who old c.args.pair c.args.text here one);
+      let here = subst (IsFound db who) (sym c.self.view_is) all in
+      record {
+        texts = after (AreTexts db who) old c.insert.new.self.entries (insert_entry same_pair old c.args.pair c.args.text) c.insert.result
+            c.insert.ensures.entries c.insert.ensures.err here.texts (kept_texts db who old c.args.pair c.args.text here.texts one);
+        permits = here.permits;
+      };
 }

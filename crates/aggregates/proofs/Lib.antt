@@ -1,0 +1,10 @@
+pub mod Apart
+pub mod WithinSums
+pub mod Order
+pub mod InRuns
+pub mod Held
+pub mod AggregateForms
+pub mod Known
+pub mod Sourced
+pub mod Standing
+pub mod Placed

@@ -1,0 +1,14 @@
+use Rattle.std.proofs.Common.{◌≡◌, ◌≤◌, length, map, take, Some}
+use Rattle.calculus.specs.Database.{Db}
+use Rattle.aggregates.specs.Settled.{AllAscend, AllStand}
+use Rattle.aggregates.proofs.settling.tables_of.Given as goal
+
+abbrev pub invariant-loop-agg : goal.invariant-loop-agg
+invariant-loop-agg g l = record {
+  many : length l.tables.items ≡ l.agg-index;
+  ascend : AllAscend l.tables.items;
+  told : (db : Db) → g.B.Base.database l.initial.base ≡ Some db → AllStand db l.tables.items (map (λ g. g.now) (take l.agg-index l.aggs));
+  kept : g.B.Base.database l.base ≡ g.B.Base.database l.initial.base;
+  same : g.B.Base.left l.base ≡ g.B.Base.left l.initial.base;
+  later : g.B.Base.faults l.initial.base ≤ g.B.Base.faults l.base;
+}

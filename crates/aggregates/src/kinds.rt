@@ -1,0 +1,144 @@
+//! The kinds of a source's attributes, and the least and the greatest of no value.
+
+ghost use Rattle.std.specs.Prelude.{◌≡◌, [], ◌∷◌, map, vec_items, Some, IfOk};
+ghost use Rattle.am_traits.specs.Causes.{HasCause};
+ghost use Rattle.calculus.specs.declared.value.Value.TheVariants.{Text as Empty};
+ghost use Rattle.calculus.specs.Aggregate.{source_kinds, none_value};
+ghost use Rattle.calculus.specs.Database.{Db};
+ghost use Rattle.calculus.specs.Kinds.{is_text_kind};
+ghost use Rattle.calculus.specs.QueryParts.{targets_of};
+ghost use Rattle.calculus.specs.Stored.{attrs_in, kinds_at};
+ghost use Rattle.aggregates.specs.Settled.{none_over};
+
+use am_traits::{Base, BaseFault};
+use calculus::{
+    AggSource, Attr, Domain, Kind, OutOfMemory, QAgg, QTerm, Query, RelInfo, RelKey, Target, Text,
+    Value, kind_of,
+};
+use std::alloc::Global;
+
+fn kinds_of(alloc: Global, attrs: &[Attr]) -> Result<Vec<Kind>, OutOfMemory>
+    ensures { IfOk result (λ kinds. kinds.items ≡ map (λ a. a.kind) attrs.now) }
+{
+    let mut kinds = Vec::new(alloc);
+    for attr in attrs {
+        kinds.push(attr.kind)?;
+    }
+    Ok(kinds)
+}
+
+fn kinds_in(alloc: Global, info: &Option<RelInfo>) -> Result<Vec<Kind>, OutOfMemory>
+    ensures { IfOk result (λ kinds. kinds.items ≡ map (λ a. a.kind) (attrs_in info.now)) }
+{
+    match info {
+        Some(info) => kinds_of(alloc, info.attrs.items()),
+        None => Ok(Vec::new(alloc)),
+    }
+}
+
+/// The kinds of the attributes of the relation, view or catalogue under a key.
+fn kinds_at<B: Base>(alloc: Global, base: &mut B, key: &RelKey) -> Result<Vec<Kind>, BaseFault>
+    ensures told { (db : Db) → B.database base.old ≡ Some db → IfOk result (λ kinds. kinds.items ≡ kinds_at db key.now) }
+    ensures kept { B.database base.new ≡ B.database base.old }
+    ensures same { B.left base.new ≡ B.left base.old }
+    ensures cause { HasCause (B.database base.old) (B.faults base.old) (B.faults base.new) result }
+{
+    let info = base.info(alloc, key)?;
+    let kinds = kinds_in(alloc, &info);
+    drop(info);
+    Ok(kinds?)
+}
+
+fn target_kinds(alloc: Global, targets: &[Target]) -> Result<Vec<Kind>, OutOfMemory>
+    ensures { IfOk result (λ kinds. kinds.items ≡ map (λ t. t.kind) targets.now) }
+{
+    let mut kinds = Vec::new(alloc);
+    for target in targets {
+        kinds.push(target.kind)?;
+    }
+    Ok(kinds)
+}
+
+/// The kinds of the targets of a query.
+#[tactic(auto, using(plain_product::proofs::Parts::targets_is))]
+fn query_kinds(alloc: Global, q: &Query) -> Result<Vec<Kind>, OutOfMemory>
+    ensures { IfOk result (λ kinds. kinds.items ≡ map (λ t. t.kind) (targets_of q.now)) }
+{
+    target_kinds(alloc, q.targets.items())
+}
+
+/// The kinds of the attributes of a source.
+#[tactic(auto, using(crate::proofs::Sourced::rows_kinds))]
+fn source_kinds<B: Base>(
+    alloc: Global,
+    base: &mut B,
+    source: &AggSource,
+) -> Result<Vec<Kind>, BaseFault>
+    ensures told { (db : Db) → B.database base.old ≡ Some db → IfOk result (λ kinds. kinds.items ≡ source_kinds db source.now) }
+    ensures kept { B.database base.new ≡ B.database base.old }
+    ensures same { B.left base.new ≡ B.left base.old }
+    ensures cause { HasCause (B.database base.old) (B.faults base.old) (B.faults base.new) result }
+{
+    match source {
+        AggSource::Named(key) => kinds_at(alloc, base, key),
+        AggSource::Rows(q) => Ok(query_kinds(alloc, q.get())?),
+    }
+}
+
+/// The kinds of the attributes of one variable, as those of all variables.
+fn alone(alloc: Global, kinds: Vec<Kind>) -> Result<Vec<Vec<Kind>>, OutOfMemory>
+    ensures { IfOk result (λ vars. map vec_items vars.items ≡ kinds.items ∷ []) }
+{
+    let mut vars = Vec::new(alloc);
+    vars.push(kinds)?;
+    Ok(vars)
+}
+
+#[tactic(auto, unfolding(calculus::specs::Kinds::is_text_kind))]
+fn is_text_kind(kind: Option<Kind>) -> bool
+    ensures { result ≡ is_text_kind kind }
+{
+    match kind {
+        Some(Kind::Of(Domain::C(_))) => true,
+        _ => false,
+    }
+}
+
+/// The empty text.
+#[tactic(auto, unfolding(calculus::specs::Text::text_of))]
+fn no_text(alloc: Global) -> Result<Value, OutOfMemory>
+    ensures { IfOk result (λ v. v ≡ Empty []) }
+{
+    match Text::of(alloc, &[])? {
+        Some(text) => Ok(Value::Text(text)),
+        None => Ok(Value::Int(0)),
+    }
+}
+
+/// The least and the greatest of no value of a term, whose only variable has attributes of these
+/// kinds: the empty text of texts, else 0.
+fn none_over(alloc: Global, arg: &QTerm, kinds: Vec<Kind>) -> Result<Value, OutOfMemory>
+    ensures { IfOk result (λ v. v ≡ none_over arg.now kinds.items) }
+{
+    let vars = alone(alloc, kinds)?;
+    if is_text_kind(kind_of(arg, &vars)) {
+        no_text(alloc)
+    } else {
+        Ok(Value::Int(0))
+    }
+}
+
+/// The least and the greatest of no value of an aggregate.
+pub(crate) fn none_value<B: Base>(
+    alloc: Global,
+    base: &mut B,
+    agg: &QAgg,
+) -> Result<Value, BaseFault>
+    ensures told { (db : Db) → B.database base.old ≡ Some db → IfOk result (λ v. v ≡ none_value db agg.now) }
+    ensures kept { B.database base.new ≡ B.database base.old }
+    ensures same { B.left base.new ≡ B.left base.old }
+    ensures cause { HasCause (B.database base.old) (B.faults base.old) (B.faults base.new) result }
+{
+    let kinds = source_kinds(alloc, base, &agg.source)?;
+    Ok(none_over(alloc, &agg.arg, kinds)?)
+}

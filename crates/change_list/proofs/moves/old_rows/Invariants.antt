@@ -1,6 +1,0 @@
-use Rattle.std.proofs.Common.{◌≡◌, take}
-use Rattle.calculus.specs.Replacement.{old_rows}
-use Rattle.change_list.proofs.moves.old_rows.Given as goal
-
-abbrev pub invariant-loop-pair : goal.invariant-loop-pair
-invariant-loop-pair l = l.rows.items ≡ old_rows (take l.pair-index l.pairs)

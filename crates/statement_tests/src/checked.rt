@@ -1,0 +1,106 @@
+//! What statements become once views, permits and rules are put in, and what refuses them.
+
+use crate::given::{name, statement};
+use crate::shown::{put, put_asked, put_digit, put_key, put_number, put_qual, put_query};
+use crate::stored::{Standing, base, ranges};
+use calculus::{Checked, Domain, Kind, Update};
+use quel_resolve::CheckFault;
+use stage_parse::checked;
+use std::alloc::Global;
+use std::process::Abort;
+use std::test::*;
+
+/// Puts an update: what it changes, the place of its variable, its query and its checks.
+fn put_update(rt: &impl Abort, shown: &mut Vec<u8>, u: &Update) {
+    put_key(rt, shown, &u.rel);
+    put_digit(rt, shown, u.old);
+    put(rt, shown, b": ");
+    put_query(rt, shown, &u.query);
+    for check in u.checks.items() {
+        put(rt, shown, b"; ");
+        put_qual(rt, shown, check);
+    }
+}
+
+/// Puts a checked tree, or what refuses a statement, behind the others.
+fn put_answer(rt: &impl Abort, shown: &mut Vec<u8>, answer: &Result<Checked, CheckFault>) {
+    match answer {
+        Ok(Checked::Answer(all)) => put_asked(rt, shown, all.items()),
+        Ok(Checked::Update(u)) => put_update(rt, shown, u),
+        Ok(Checked::Utility(_)) => put(rt, shown, b"for the utilities"),
+        Err(CheckFault::No(number)) => put_number(rt, shown, *number),
+        Err(CheckFault::NotBuilt) => put(rt, shown, b"not built"),
+        Err(_) => put(rt, shown, b"a fault"),
+    }
+}
+
+/// What the user's statement becomes where so much stands.
+fn shown(rt: &impl Abort, alloc: Global, user: &[u8], text: &[u8], standing: Standing) -> Vec<u8> {
+    let mut shown = Vec::new(alloc);
+    let small = Kind::Of(Domain::I2);
+    let mut base = base(rt, alloc, standing, [small, small]);
+    let ranges = ranges(rt, alloc);
+    let user = name(rt, alloc, user);
+    let s = statement(rt, alloc, text);
+    let answer = checked(alloc, &s, &user, &ranges, &mut base);
+    put_answer(rt, &mut shown, &answer);
+    drop(answer);
+    drop(s);
+    drop(user);
+    drop(ranges);
+    drop(base);
+    shown
+}
+
+/// A user, a text, how many rules and permits stand on each relation of ann's, and what the statement
+/// becomes, or the number that refuses it.
+const CHECKED: [(&[u8], &[u8], u32, u32, &[u8]); 15] = [
+    (b"ann", b"retrieve (x.a)", 0, 0, b"ann's p, a i2 0.0, true"),
+    (b"bob", b"retrieve (x.a)", 0, 0, b"23"),
+    (
+        b"bob",
+        b"retrieve (x.a)",
+        0,
+        2,
+        b"ann's p, a i2 0.0, true and (true or true)",
+    ),
+    (b"bob", b"retrieve (x.c)", 0, 0, b"12"),
+    (b"bob", b"retrieve (u.a)", 0, 0, b"11"),
+    (b"bob", b"retrieve (x.a) where x.a = \"b\"", 0, 0, b"13"),
+    (
+        b"ann",
+        b"retrieve (v.a)",
+        0,
+        0,
+        b"ann's pp, a i2 ?, true and true and ?",
+    ),
+    (b"bob", b"retrieve (v.a)", 0, 0, b"23"),
+    (
+        b"ann",
+        b"replace x (a = y.b)",
+        2,
+        0,
+        b"ann's p, 0: ann's p, ann's q, a i2 1.1, true; true; true",
+    ),
+    (b"bob", b"replace x (a = y.b)", 2, 1, b"23"),
+    (
+        b"ann",
+        b"delete y where x.b = y.b and y.a = \"b\"",
+        0,
+        0,
+        b"13",
+    ),
+    (b"ann", b"delete v", 0, 0, b"26"),
+    (b"ann", b"create w (a = i2)", 0, 0, b"for the utilities"),
+    (b"ann", b"help", 0, 0, b"not built"),
+    (b"ann", b"retrieve (n = count(x.a))", 0, 0, b"not built"),
+];
+
+#[test]
+fn names_refuse_before_causes_and_causes_before_permits(rt: HostRuntime) {
+    for (user, text, rules, permits, wanted) in &CHECKED {
+        assert!(rt;
+            shown(&rt, rt.alloc(), *user, *text, (*rules, *permits, 1)).as_slice() == *wanted
+        );
+    }
+}

@@ -1,0 +1,21 @@
+use Rattle.std.proofs.Common.{◌≡◌, ap, ◌∙◌, false, ◌++◌, length, option_map, arith}
+use Rattle.calculus.specs.Permission.{permitted_within, vars_permitted}
+use Rattle.calculus.specs.Used.{used_vars}
+use Rattle.view_text.specs.TextOf.{text_within}
+use Rattle.view_text.specs.Texts.{query_texts, texts_vars}
+use Rattle.view_expand.specs.Asking.{who_of}
+use Rattle.view_expand.proofs.Causing.{crowded_caused}
+use Rattle.view_expand.proofs.Few.{texts_few}
+use Rattle.view_expand.proofs.expanded.put_plain_remembering.Goals as goal
+
+pub returns-in-Ok-clause-cause : goal.returns-in-Ok-clause-cause
+returns-in-Ok-clause-cause g c =
+    crowded_caused (λ db. vars_permitted (permitted_within c.args.levels db (who_of (option_map (λ n. n.now) c.args.who))) c.args.query.now (used_vars c.args.query.now) ≡ false)
+    (g.B.Base.database c.args.base.now) (g.B.Base.faults c.args.base.now) (g.B.Base.faults c.texts_through.new.base) (length (texts_vars c.deref.result.now)) c.query_over.result c.in-Ok.ensures.cause.later
+    (λ db h.
+    let source = text_within c.args.levels db (who_of (option_map (λ n. n.now) c.args.who)) in
+    let made : c.deref.result.now ≡ query_texts source c.args.query.now =
+    c.deref.ensures.value ∙ c.in-Ok.ensures.told db h ∙ ap (λ ts. ts ++ query_texts source c.args.query.now) c.new-texts.ensures.items in
+    let same : length (texts_vars c.deref.result.now) ≡ length (texts_vars (query_texts source c.args.query.now)) = ap (λ ts. length (texts_vars ts)) made in
+    omega (arith, same, texts_few db (who_of (option_map (λ n. n.now) c.args.who)) c.args.levels c.args.query.now, c.requires.expanded db h))
+    c.query_over.ensures.cause
