@@ -14,7 +14,8 @@ use Rattle.calculus.specs.Table.{in_groups}
 use Rattle.calculus.specs.Value.{row_cmp}
 use Rattle.calculus.proofs.Sets.{Ascends-cons, Ascends-nil}
 use Rattle.aggregates.specs.Members.{Member}
-use Rattle.aggregates.specs.Runs.{Run, in_front, runs, folded, group_of, groups_of, leading, Rises, GroupsAscend}
+use Rattle.aggregates.specs.Runs.{Run, in_front, runs, folded, group_of, groups_of, leading, Rises}
+use Rattle.calculus.specs.Groups.{GroupsAscend}
 use Rattle.aggregates.proofs.Order.{same_row, row_itself, either_way, later_are_above}
 
 -- the rows with these by-values

@@ -5,7 +5,7 @@ use Rattle.std.specs.Ordering.{is_eq, is_lt}
 use Rattle.calculus.specs.declared.operator.AggOp.{AggOp}
 use Rattle.calculus.specs.declared.value.Value.{Value}
 use Rattle.calculus.specs.Aggregate.{fold_values}
-use Rattle.calculus.specs.Rows.{Row, Ascends}
+use Rattle.calculus.specs.Rows.{Row}
 use Rattle.calculus.specs.Targets.{all_there}
 use Rattle.calculus.specs.Value.{row_cmp}
 use Rattle.aggregates.specs.Members.{Member}
@@ -50,7 +50,3 @@ leading by (m ∷ ms) = elim (is_eq (row_cmp m.0 by)) [ true ↦ suc (leading by
 abbrev pub Rises : List Member → Type 0
 Rises [] = ⊤
 Rises (m ∷ ms) = AllByRecursion (λ other. is_lt (row_cmp other.0 m.0) ≡ false) ms × Rises ms
-
--- the by-values of the groups of a table ascend strictly
-abbrev pub GroupsAscend : List (List Value × Option Value) → Type 0
-GroupsAscend groups = Ascends (map (λ g. g.0) groups)

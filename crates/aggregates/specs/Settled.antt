@@ -17,7 +17,7 @@ use Rattle.calculus.specs.Table.{StandsFor, HasTables}
 use Rattle.calculus.specs.Targets.{target_values, qualifying}
 use Rattle.calculus.specs.Term.{Env, no_aggs}
 use Rattle.calculus.specs.Who.{Free}
-use Rattle.aggregates.specs.Runs.{GroupsAscend}
+use Rattle.calculus.specs.Groups.{GroupsAscend}
 
 -- the least and the greatest of no value of a term, whose only variable has attributes of these kinds
 abbrev pub none_over : QTerm → List Kind → Value

@@ -4,11 +4,12 @@ ghost use Rattle.std.specs.Prelude.{◌≡◌, ◌≤◌, [], ◌∷◌, ◌++�
 ghost use Rattle.std.specs.Ordering.{is_eq};
 ghost use Rattle.calculus.specs.declared.value.Value.{Value as Cell};
 ghost use Rattle.calculus.specs.Aggregate.{fold_values};
+ghost use Rattle.calculus.specs.Groups.{GroupsAscend};
 ghost use Rattle.calculus.specs.Rows.{Row as Values};
 ghost use Rattle.calculus.specs.Table.{in_groups};
 ghost use Rattle.calculus.specs.Targets.{all_there};
 ghost use Rattle.calculus.specs.Value.{row_cmp};
-ghost use Rattle.aggregates.specs.Runs.{GroupsAscend, Rises, folded, leading, groups_of};
+ghost use Rattle.aggregates.specs.Runs.{Rises, folded, leading, groups_of};
 
 use crate::folding::fold_values;
 use calculus::{AggOp, OutOfMemory, Row, TryCopy, Value};

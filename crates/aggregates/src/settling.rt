@@ -7,6 +7,7 @@ ghost use Rattle.am_traits.specs.Causes.{HasCause};
 ghost use Rattle.calculus.specs.declared.value.Value.{Value as Cell};
 ghost use Rattle.calculus.specs.Aggregate.{aggregates, fold_values};
 ghost use Rattle.calculus.specs.Database.{Db};
+ghost use Rattle.calculus.specs.Groups.{GroupsAscend};
 ghost use Rattle.calculus.specs.QueryParts.{qual_of, query_aggregates, targets_of};
 ghost use Rattle.calculus.specs.Rows.{Row as Values};
 ghost use Rattle.calculus.specs.Table.{HasAllTables, StandsFor, in_groups, tabled};
@@ -16,7 +17,7 @@ ghost use Rattle.calculus.specs.Value.{row_cmp};
 ghost use Rattle.calculus.specs.Who.{Free};
 ghost use Rattle.quel_meaning.specs.FitQueries.{kept_alone, source_fits, sources_fit, slots_count_up};
 ghost use Rattle.aggregates.specs.Members.{members};
-ghost use Rattle.aggregates.specs.Runs.{GroupsAscend, folded};
+ghost use Rattle.aggregates.specs.Runs.{folded};
 ghost use Rattle.aggregates.specs.Settled.{AllAscend, AllStand, TargetsHaveTables};
 
 use crate::grouping::grouped;
@@ -26,7 +27,7 @@ use crate::members::members;
 use crate::sources::source_rows;
 use am_traits::{Base, BaseFault};
 use calculus::{
-    AggOp, AggTable, List as Items, OutOfMemory, QAgg, Query, Row, RowSet, TryCopy, Value,
+    AggOp, AggTable, Groups, OutOfMemory, QAgg, Query, Row, RowSet, TryCopy, Value,
 };
 use std::alloc::Global;
 
@@ -75,7 +76,7 @@ fn table_over(
     let empty = of_no_values(alloc, agg.op, none)?;
     match groups_over(alloc, agg, none, rows) {
         Ok(groups) => Ok(AggTable {
-            groups: Items::of(groups),
+            groups: Groups::of(groups),
             empty,
         }),
         Err(error) => Err(error),

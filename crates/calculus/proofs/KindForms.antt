@@ -1,5 +1,5 @@
 -- The kind of a term and whether the kinds of a qualification fit, form by form.
-use Rattle.std.proofs.Common.{◌≡◌, ℕ, ℤ, Bool, true, ◌&&◌, refl, List, Option, Some, None}
+use Rattle.std.proofs.Common.{◌≡◌, ℕ, ℤ, Bool, true, ◌&&◌, refl, List, Some, None}
 use denote.Hole.Carrier.{hidden}
 use Rattle.calculus.specs.declared.query.AggSource.TheBlock.{shape-the_row-QTerm-2, hidden-the_row-QTerm-2, shape-the_row-QQual-1, hidden-the_row-QQual-1, shape-the_row-QAgg-4, hidden-the_row-QAgg-4}
 use Rattle.calculus.specs.declared.operator.ArithOp.{ArithOp}

@@ -3,6 +3,7 @@ pub mod Val
 pub mod KindForms
 pub mod Constants
 pub mod Sets
+pub mod InGroups
 pub mod Placing
 pub mod Made
 pub mod Forms

@@ -1,5 +1,5 @@
 -- The value of a term and the truth of a qualification, form by form.
-use Rattle.std.proofs.Common.{◌≡◌, ℕ, ℤ, Bool, true, not, ◌&&◌, ◌||◌, refl, List, [], ◌∷◌, Option, Some}
+use Rattle.std.proofs.Common.{◌≡◌, ℕ, ℤ, Bool, true, not, ◌&&◌, ◌||◌, refl, List, Some}
 use denote.Hole.Carrier.{hidden}
 use Rattle.calculus.specs.declared.query.AggSource.TheBlock.{shape-the_row-QTerm-2, hidden-the_row-QTerm-2, shape-the_row-QQual-1, hidden-the_row-QQual-1, shape-the_row-QAgg-4, hidden-the_row-QAgg-4, items_hidden-the_row-QTerm-3}
 use Rattle.calculus.specs.declared.operator.ArithOp.{ArithOp}
@@ -9,10 +9,9 @@ use Rattle.calculus.specs.declared.query.QTerm.TheVariants.{Int, Chars, Attr, Ne
 use Rattle.calculus.specs.declared.query.QQual.{QQual}
 use Rattle.calculus.specs.declared.query.QQual.TheVariants.{True, Cmp, Like, And, Or, Not}
 use Rattle.calculus.specs.declared.query.QAgg.{QAgg}
-use Rattle.calculus.specs.declared.value.Value.{Value}
 use Rattle.calculus.specs.declared.value.Value.TheVariants as value
 use Rattle.calculus.specs.Constant.{constant_text}
-use Rattle.calculus.specs.Term.{Env, Aggs, val, holds, attribute_value, opposite_value, value_without_sign, operated_values, joined_values, compared_values, matched_value, values_of, value_before, no_aggs}
+use Rattle.calculus.specs.Term.{Env, Aggs, val, holds, attribute_value, opposite_value, value_without_sign, operated_values, joined_values, compared_values, matched_value}
 
 pub val_int : (aggs : Aggs) (n : ℤ) (e : Env) → val aggs (Int n) e ≡ Some (value.Int n)
 unfolding val

@@ -1,5 +1,5 @@
 -- Arithmetic on whole numbers of 64 bits.
-use Rattle.std.specs.Prelude.{ℕ, zero, suc, ℤ, pos, negsuc, nat_abs, neg_ℤ, ◌+ℤ◌, ◌-ℤ◌, ◌*ℤ◌, int_div, int_rem, Bool, true, false, ◌==◌, Option, Some, None, if◌then◌else◌}
+use Rattle.std.specs.Prelude.{ℕ, zero, suc, ℤ, pos, negsuc, nat_abs, neg_ℤ, ◌+ℤ◌, ◌-ℤ◌, ◌*ℤ◌, int_div, int_rem, Bool, false, ◌==◌, Option, Some, None, if◌then◌else◌}
 use Rattle.calculus.specs.Value.{is_within}
 use Rattle.calculus.specs.declared.operator.ArithOp.{ArithOp}
 use Rattle.calculus.specs.declared.operator.ArithOp.TheVariants.{Add, Sub, Mul, Div, Pow, Mod}

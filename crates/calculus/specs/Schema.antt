@@ -1,5 +1,5 @@
 -- The schema of a database: all of it but the rows of its relations; and which part of what is asked of a lawful change it decides.
-use Rattle.std.specs.Prelude.{Bool, true, not, ◌&&◌, ◌+◌, ◌-◌, nat_le, IsTrue, List, [], map, length}
+use Rattle.std.specs.Prelude.{Bool, true, not, ◌&&◌, ◌+◌, ◌-◌, nat_le, IsTrue, [], map, length}
 use Rattle.std.specs.List.{list_any, list_all}
 use Rattle.calculus.specs.declared.change.DbChange.{DbChange}
 use Rattle.calculus.specs.declared.change.DbChange.TheVariants.{Rows}

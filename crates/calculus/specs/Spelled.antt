@@ -1,5 +1,5 @@
 -- The constants in a tree, and the names of its targets: whether each is one of its type, in aggregates too.
-use Rattle.std.specs.Prelude.{ℕ, Bool, true, ◌&&◌, List}
+use Rattle.std.specs.Prelude.{Bool, true, ◌&&◌}
 use Rattle.calculus.specs.declared.query.AggSource.{AggSource, Named}
 use Rattle.calculus.specs.declared.query.QTerm.{QTerm, Int, Chars, Attr, Agg', Row_of-QTerm, end_of-QTerm, more_of-QTerm, Row_of-QAgg, end_of-QAgg, more_of-QAgg}
 use Rattle.calculus.specs.declared.query.QQual.{QQual, True, Cmp, Like}

@@ -1,5 +1,5 @@
 -- What a table of an aggregate's groups says, and when it stands for the aggregate.
-use Rattle.std.specs.Prelude.{Bool, true, false, ◌≡◌, List, [], ◌∷◌, slice_get, Option, Some, None}
+use Rattle.std.specs.Prelude.{true, false, ◌≡◌, List, [], ◌∷◌, slice_get, Option, Some, None}
 use Rattle.std.specs.Ordering.{is_eq}
 use Rattle.calculus.specs.Value.{row_cmp}
 use Rattle.calculus.specs.declared.value.Value.{Value}

@@ -7,7 +7,7 @@ use Rattle.calculus.specs.declared.value.Value.TheVariants as value
 use Rattle.calculus.specs.declared.operator.ArithOp.{ArithOp}
 use Rattle.calculus.specs.declared.operator.CmpOp.{CmpOp}
 use Rattle.calculus.specs.declared.operator.CmpOp.TheVariants as compare
-use Rattle.calculus.specs.declared.query.QTerm.{QTerm, Int, Chars, Attr, Agg', Row_of-QTerm, items-the_row-QTerm, Row_of-QAgg, end_of-QAgg, more_of-QAgg}
+use Rattle.calculus.specs.declared.query.QTerm.{QTerm, Int, Chars, Attr, Agg', items-the_row-QTerm, Row_of-QAgg, end_of-QAgg, more_of-QAgg}
 use Rattle.calculus.specs.declared.query.QQual.{QQual, True, Cmp, Like}
 use Rattle.calculus.specs.declared.query.QAgg.{QAgg}
 use Rattle.calculus.specs.Tree.{neg, abs, operation, concat, both, either, negated}

@@ -1,13 +1,13 @@
 -- Names for the forms of a term, a qualification, an aggregate and a query, to read them by and to write them with.
 use mathlib.Core.Former.{arity, list, this}
-use Rattle.std.specs.Prelude.{ℕ, List, [], ◌∷◌}
+use Rattle.std.specs.Prelude.{List, [], ◌∷◌}
 use Rattle.calculus.specs.declared.query.RelKey.{RelKey}
 use Rattle.calculus.specs.declared.operator.ArithOp.{ArithOp}
 use Rattle.calculus.specs.declared.query.Target.{Target}
-use Rattle.calculus.specs.declared.query.QTerm.{QTerm, Neg', Abs', Arith', Concat', Agg', Row_of-QTerm, end_of-QTerm, more_of-QTerm, Row_of-QAgg, end_of-QAgg, more_of-QAgg}
-use Rattle.calculus.specs.declared.query.QQual.{QQual, And', Or', Not', Row_of-QQual, end_of-QQual, more_of-QQual}
+use Rattle.calculus.specs.declared.query.QTerm.{QTerm, Neg', Abs', Arith', Concat', Agg', Row_of-QTerm, end_of-QTerm, more_of-QTerm, end_of-QAgg, more_of-QAgg}
+use Rattle.calculus.specs.declared.query.QQual.{QQual, And', Or', Not', end_of-QQual, more_of-QQual}
 use Rattle.calculus.specs.declared.query.QAgg.{QAgg}
-use Rattle.calculus.specs.declared.query.AggSource.{AggSource, Rows', Row_of-Query, end_of-Query, more_of-Query}
+use Rattle.calculus.specs.declared.query.AggSource.{AggSource, Rows', end_of-Query, more_of-Query}
 use Rattle.calculus.specs.declared.query.Query.{Query, Query', Row_of-Target, end_of-Target, more_of-Target}
 
 -- the term with the other sign

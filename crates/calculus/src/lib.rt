@@ -4,6 +4,7 @@
 mod agg_table;
 mod change;
 mod copies;
+mod groups;
 mod kinds;
 mod mark;
 mod name;
@@ -21,6 +22,7 @@ mod value;
 
 pub use agg_table::AggTable;
 pub use change::{Change, DbChange, Pair};
+pub use groups::Groups;
 pub use kinds::{kind_of, kinds_fit};
 pub use mark::{Mark, next_mark};
 pub use memory::{Boxed, List, OutOfMemory, TryCopy};

@@ -1,4 +1,4 @@
--- Looking for a group, and the values of terms one after the other.
+-- The values of terms, one after the other.
 use Rattle.std.proofs.Common.{◌≡◌, refl, sym, ap, ◌∙◌, true, false, List, [], ◌∷◌, ◌++◌, append_assoc, add-one, length, get_or, drop, ℕ, ◌+◌, ◌<◌, ◌≤◌, Option, Some, None}
 use Rattle.std.proofs.Math.Seq.{drop-cons}
 use Rattle.std.proofs.lemmas.List.{append-nil, drop_all}
@@ -7,15 +7,7 @@ use Rattle.calculus.specs.Value.{row_cmp}
 use Rattle.calculus.specs.declared.value.Value.{Value}
 use Rattle.calculus.specs.declared.query.QTerm.{QTerm}
 use Rattle.calculus.specs.Term.{Env, val, no_aggs, value_before, values_of}
-use Rattle.calculus.specs.Table.{in_groups, tabled}
-
-pub group_found : (empty : Value) (g : List Value × Option Value) (gs : List (List Value × Option Value)) (link : List Value)
-    → is_eq (row_cmp g.0 link) ≡ true → in_groups empty (g ∷ gs) link ≡ g.1
-group_found empty g gs link h = ap (λ u. elim u [ true ↦ g.1 | false ↦ in_groups empty gs link ]) h
-
-pub group_passed : (empty : Value) (g : List Value × Option Value) (gs : List (List Value × Option Value)) (link : List Value)
-    → is_eq (row_cmp g.0 link) ≡ false → in_groups empty (g ∷ gs) link ≡ in_groups empty gs link
-group_passed empty g gs link h = ap (λ u. elim u [ true ↦ g.1 | false ↦ in_groups empty gs link ]) h
+use Rattle.calculus.specs.Table.{tabled}
 
 -- these values in front of others, where those are there
 abbrev pub values_before : List Value → Option (List Value) → Option (List Value)

@@ -107,15 +107,12 @@ fn attribute_value(
 fn said(alloc: Global, table: &AggTable, link: &[Value]) -> Result<Option<Value>, OutOfMemory>
     ensures { IfOk result (λ v. v ≡ in_groups table.now.empty table.now.groups link.now) }
 {
-    let groups = table.groups.items();
-    for group in groups {
-        if group.0.values().cmp(link).is_eq() {
-            return group.1.copy(alloc);
-        }
-    }
-    match table.empty.copy(alloc) {
-        Ok(value) => Ok(Some(value)),
-        Err(error) => Err(error),
+    match table.groups.get(link) {
+        Some(value) => value.copy(alloc),
+        None => match table.empty.copy(alloc) {
+            Ok(value) => Ok(Some(value)),
+            Err(error) => Err(error),
+        },
     }
 }
 

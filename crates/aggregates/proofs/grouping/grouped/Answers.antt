@@ -1,6 +1,7 @@
 use Rattle.std.proofs.Common.{sym, ap, subst, ◌∙◌}
 use Rattle.std.proofs.lemmas.Result.{IfOk-weaker}
-use Rattle.aggregates.specs.Runs.{GroupsAscend, groups_of}
+use Rattle.calculus.specs.Groups.{GroupsAscend}
+use Rattle.aggregates.specs.Runs.{groups_of}
 use Rattle.aggregates.proofs.InRuns.{groups_ascend, found_sorted}
 use Rattle.aggregates.proofs.grouping.grouped.Goals as goal
 

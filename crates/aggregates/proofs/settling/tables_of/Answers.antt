@@ -2,7 +2,7 @@ use Rattle.std.proofs.Common.{◌∙◌, ap, sym, subst, ◌∷◌, [], length, 
 use Rattle.std.proofs.lemmas.List.{length-append, take_all}
 use Rattle.quel_meaning.specs.FitQueries.{kept_alone, source_fits}
 use Rattle.decompose.proofs.Variables.{one_of_all}
-use Rattle.aggregates.specs.Runs.{GroupsAscend}
+use Rattle.calculus.specs.Groups.{GroupsAscend}
 use Rattle.aggregates.specs.Settled.{AllAscend, AllStand}
 use Rattle.aggregates.proofs.Placed.{all_behind, next_stands}
 use Rattle.aggregates.proofs.settling.tables_of.Goals as goal

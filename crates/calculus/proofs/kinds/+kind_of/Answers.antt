@@ -1,4 +1,3 @@
-use Rattle.std.proofs.Common.{◌≡◌, length}
 use Rattle.calculus.proofs.Constants.{chars_short}
 use Rattle.calculus.proofs.kinds.+kind_of.Goals as goal
 

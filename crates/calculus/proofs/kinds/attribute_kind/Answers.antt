@@ -1,4 +1,4 @@
-use Rattle.std.proofs.Common.{◌≡◌, sym, ap, ◌∙◌, vec_items, slice_get, Some, None}
+use Rattle.std.proofs.Common.{sym, ap, ◌∙◌, vec_items, slice_get}
 use Rattle.std.proofs.lemmas.Option.{slice_get_past}
 use Rattle.calculus.proofs.Constants.{kind_absent, kind_present, found_at}
 use Rattle.calculus.proofs.kinds.attribute_kind.Goals as goal

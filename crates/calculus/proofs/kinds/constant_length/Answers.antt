@@ -1,4 +1,4 @@
-use Rattle.std.proofs.Common.{◌≡◌, length, sym, ap, ◌∙◌, refl, rules, arith}
+use Rattle.std.proofs.Common.{sym, ap, ◌∙◌, rules, arith}
 use Rattle.calculus.specs.Constant.{constant_text}
 use Rattle.calculus.proofs.Constants.{kept_with, text_step, no_text, blank_read, byte_read}
 use Rattle.calculus.proofs.kinds.constant_length.Goals as goal
