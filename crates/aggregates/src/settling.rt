@@ -26,9 +26,7 @@ use crate::listed::aggregates_of;
 use crate::members::members;
 use crate::sources::source_rows;
 use am_traits::{Base, BaseFault};
-use calculus::{
-    AggOp, AggTable, Groups, OutOfMemory, QAgg, Query, Row, RowSet, TryCopy, Value,
-};
+use calculus::{AggOp, AggTable, Groups, OutOfMemory, QAgg, Query, Row, RowSet, TryCopy, Value};
 use std::alloc::Global;
 
 /// What an operation makes of no values, where `none` is the least and the greatest of them.

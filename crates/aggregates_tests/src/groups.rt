@@ -25,7 +25,7 @@ fn one<T: Drop>(rt: &impl Abort, alloc: Global, item: T) -> List<T> {
     List::of(items)
 }
 
-fn boxed<T: Drop>(rt: &impl Abort, alloc: Global, value: T) -> Boxed<T> {
+pub(crate) fn boxed<T: Drop>(rt: &impl Abort, alloc: Global, value: T) -> Boxed<T> {
     Boxed::new(alloc, value).expect(rt, "memory")
 }
 
@@ -66,11 +66,11 @@ pub(crate) fn term(rt: &impl Abort, alloc: Global, said: Said) -> QTerm {
     }
 }
 
-/// The query for the text of each row.
-fn texts(rt: &impl Abort, alloc: Global) -> Query {
+/// The query for the text of each row, as a target of this kind.
+pub(crate) fn texts(rt: &impl Abort, alloc: Global, kind: Kind) -> Query {
     let target = Target {
         name: named(rt, alloc, b"t"),
-        kind: Kind::Wide,
+        kind,
         term: term(rt, alloc, Said::Text),
     };
     Query {
@@ -80,13 +80,31 @@ fn texts(rt: &impl Abort, alloc: Global) -> Query {
     }
 }
 
-/// The aggregate of an operation on a term over rows whose number is at most this, by a term.
-fn aggregate(
+/// The terms of a by-list.
+fn by_list(rt: &impl Abort, alloc: Global, by: &[Said]) -> List<QTerm> {
+    let mut terms = Vec::new(alloc);
+    for said in by {
+        terms.push(term(rt, alloc, *said)).expect(rt, "memory");
+    }
+    List::of(terms)
+}
+
+/// A link for each of them.
+fn links(rt: &impl Abort, alloc: Global, by: &[Said]) -> List<QTerm> {
+    let mut terms = Vec::new(alloc);
+    for _ in by {
+        terms.push(QTerm::Int(1)).expect(rt, "memory");
+    }
+    List::of(terms)
+}
+
+/// The aggregate of an operation on a term over rows whose number is at most this, by these terms.
+pub(crate) fn aggregate(
     rt: &impl Abort,
     alloc: Global,
     op: AggOp,
     arg: Said,
-    by: Said,
+    by: &[Said],
     most: i64,
     source: AggSource,
 ) -> QTerm {
@@ -100,15 +118,15 @@ fn aggregate(
         op,
         source,
         arg: term(rt, alloc, arg),
-        by: one(rt, alloc, term(rt, alloc, by)),
-        link: one(rt, alloc, QTerm::Int(1)),
+        by: by_list(rt, alloc, by),
+        link: links(rt, alloc, by),
         qual,
     };
     QTerm::Agg(boxed(rt, alloc, aggregate))
 }
 
 /// The one table of a query for this term.
-fn table_of(rt: &impl Abort, alloc: Global, term: QTerm) -> AggTable {
+pub(crate) fn table_of(rt: &impl Abort, alloc: Global, term: QTerm) -> AggTable {
     let target = Target {
         name: named(rt, alloc, b"x"),
         kind: Kind::Wide,
@@ -161,7 +179,7 @@ fn gives(
     wanted: &[i64],
 ) -> bool {
     let source = AggSource::Named(key(rt, alloc));
-    let term = aggregate(rt, alloc, op, terms.0, terms.1, most, source);
+    let term = aggregate(rt, alloc, op, terms.0, &[terms.1], most, source);
     let table = table_of(rt, alloc, term);
     let found = numbers(rt, alloc, &table);
     let same = found.as_slice() == wanted;
@@ -170,35 +188,79 @@ fn gives(
     same
 }
 
+/// An operation, its term and its by-term, the greatest number of a row, and the groups.
+type Case = (AggOp, (Said, Said), i64, &'static [i64]);
+
+/// Groups of the rows whose number is at most 9, or 1.
+const GROUPS: [Case; 5] = [
+    (AggOp::Count, (Said::Number, Said::Number), 9, &[1, 2, 2, 1]),
+    (
+        AggOp::Countu,
+        (Said::Number, Said::Number),
+        9,
+        &[1, 1, 2, 1],
+    ),
+    (AggOp::Sum, (Said::Number, Said::Number), 9, &[1, 2, 2, 2]),
+    // The inner qualification leaves out the row of 2.
+    (AggOp::Count, (Said::Number, Said::Number), 1, &[1, 2]),
+    (AggOp::Count, (Said::Number, Said::Number), 0, &[]),
+];
+
+/// An argument without value leaves its whole group without one.
+const NO_ARGUMENT: [Case; 10] = [
+    (AggOp::Count, (Said::Share, Said::Number), 9, &[1, 99, 2, 1]),
+    (
+        AggOp::Countu,
+        (Said::Share, Said::Number),
+        9,
+        &[1, 99, 2, 1],
+    ),
+    (AggOp::Sum, (Said::Share, Said::Number), 9, &[1, 99, 2, 2]),
+    (AggOp::Sumu, (Said::Share, Said::Number), 9, &[1, 99, 2, 2]),
+    (AggOp::Avg, (Said::Share, Said::Number), 9, &[1, 99, 2, 2]),
+    (AggOp::Avgu, (Said::Share, Said::Number), 9, &[1, 99, 2, 2]),
+    (AggOp::Min, (Said::Share, Said::Number), 9, &[1, 99, 2, 2]),
+    (AggOp::Max, (Said::Share, Said::Number), 9, &[1, 99, 2, 2]),
+    (AggOp::Any, (Said::Share, Said::Number), 9, &[1, 99, 2, 1]),
+    (AggOp::Any, (Said::Sum, Said::Number), 9, &[1, 99, 2, 99]),
+];
+
+/// A row with a by-value without value is in no group.
+const NO_BY_VALUE: [Case; 10] = [
+    (AggOp::Count, (Said::Number, Said::Share), 9, &[2, 1]),
+    (AggOp::Countu, (Said::Number, Said::Share), 9, &[2, 1]),
+    (AggOp::Sum, (Said::Number, Said::Share), 9, &[2, 2]),
+    (AggOp::Sumu, (Said::Number, Said::Share), 9, &[2, 2]),
+    (AggOp::Avg, (Said::Number, Said::Share), 9, &[2, 2]),
+    (AggOp::Avgu, (Said::Number, Said::Share), 9, &[2, 2]),
+    (AggOp::Min, (Said::Number, Said::Share), 9, &[2, 2]),
+    (AggOp::Max, (Said::Number, Said::Share), 9, &[2, 2]),
+    (AggOp::Any, (Said::Number, Said::Share), 9, &[2, 1]),
+    (AggOp::Count, (Said::Number, Said::Sum), 9, &[]),
+];
+
+/// Whether the groups of each of these are those.
+fn all_give(rt: &impl Abort, alloc: Global, cases: &[Case]) -> bool {
+    for (op, terms, most, wanted) in cases {
+        if !gives(rt, alloc, *op, *terms, *most, *wanted) {
+            return false;
+        }
+    }
+    true
+}
+
 #[test]
 fn groups_are_those_of_the_rows_that_are_folded(rt: HostRuntime) {
-    let cases: [(AggOp, (Said, Said), i64, &[i64]); 7] = [
-        (AggOp::Count, (Said::Number, Said::Number), 9, &[1, 2, 2, 1]),
-        (
-            AggOp::Countu,
-            (Said::Number, Said::Number),
-            9,
-            &[1, 1, 2, 1],
-        ),
-        (AggOp::Sum, (Said::Number, Said::Number), 9, &[1, 2, 2, 2]),
-        // The inner qualification leaves out the row of 2.
-        (AggOp::Count, (Said::Number, Said::Number), 1, &[1, 2]),
-        // An argument without value leaves its group without one.
-        (AggOp::Count, (Said::Share, Said::Number), 9, &[1, 99, 2, 1]),
-        (AggOp::Any, (Said::Sum, Said::Number), 9, &[1, 99, 2, 99]),
-        // A row with a by-value without value is in no group.
-        (AggOp::Count, (Said::Number, Said::Share), 9, &[2, 1]),
-    ];
-    for (op, terms, most, wanted) in &cases {
-        assert!(rt; gives(&rt, rt.alloc(), *op, *terms, *most, wanted));
-    }
+    assert!(rt; all_give(&rt, rt.alloc(), &GROUPS));
+    assert!(rt; all_give(&rt, rt.alloc(), &NO_ARGUMENT));
+    assert!(rt; all_give(&rt, rt.alloc(), &NO_BY_VALUE));
 }
 
 /// How many groups the rows of a query make, whose number is its text and so above every number.
 fn groups_of_a_query(rt: &impl Abort, alloc: Global, most: i64) -> usize {
-    let source = AggSource::Rows(boxed(rt, alloc, texts(rt, alloc)));
+    let source = AggSource::Rows(boxed(rt, alloc, texts(rt, alloc, Kind::Wide)));
     let (arg, by) = (Said::Number, Said::Number);
-    let term = aggregate(rt, alloc, AggOp::Count, arg, by, most, source);
+    let term = aggregate(rt, alloc, AggOp::Count, arg, &[by], most, source);
     let table = table_of(rt, alloc, term);
     let count = table.groups.items().len();
     drop(table);

@@ -6,6 +6,8 @@ mod folds;
 #[cfg(test)]
 mod groups;
 #[cfg(test)]
+mod looked_up;
+#[cfg(test)]
 mod one_variable;
 #[cfg(test)]
 mod shelf;

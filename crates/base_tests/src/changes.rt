@@ -1,9 +1,7 @@
-use am_traits::{Base, BaseFault};
-use calculus::{
-    Attr, DbChange, Domain, Kind, List, Name, Permit, QQual, QTerm, Query, RelInfo, RelKey, Row,
-    Rule, Spec, Target, Value,
+use crate::made::{
+    SMALL, attrs, empty, info, is_laid, key, keys, named, numbers_of, places, target,
 };
-use change_check::fit_change;
+use calculus::{DbChange, List, Permit, QQual, QTerm, Query, RelInfo, Row, Rule, Spec, Value};
 use plain_base::DbPlain;
 use std::alloc::Global;
 use std::process::Abort;
@@ -36,53 +34,6 @@ enum Change<'a> {
     DestroyedWithView,
 }
 
-pub(crate) fn named<R: Abort>(rt: &R, alloc: Global, bytes: &[u8]) -> Name {
-    let name = Name::of(alloc, bytes).expect(rt, "memory");
-    name.expect(rt, "a name")
-}
-
-fn key<R: Abort>(rt: &R, alloc: Global, name: &[u8]) -> RelKey {
-    RelKey {
-        owner: named(rt, alloc, b"ann"),
-        name: named(rt, alloc, name),
-    }
-}
-
-fn listed<R: Abort>(rt: &R, alloc: Global, numbers: &[u8]) -> List<u8> {
-    let mut items = Vec::new(alloc);
-    for number in numbers {
-        items.push(*number).expect(rt, "memory");
-    }
-    List::of(items)
-}
-
-pub(crate) fn numbers_of<R: Abort>(rt: &R, alloc: Global, numbers: &[u32]) -> List<u32> {
-    let mut items = Vec::new(alloc);
-    for number in numbers {
-        items.push(*number).expect(rt, "memory");
-    }
-    List::of(items)
-}
-
-fn keys<R: Abort>(rt: &R, alloc: Global, names: &[&[u8]]) -> List<RelKey> {
-    let mut keys = Vec::new(alloc);
-    for name in names {
-        keys.push(key(rt, alloc, name)).expect(rt, "memory");
-    }
-    List::of(keys)
-}
-
-/// Attributes of these names, of numbers of two bytes.
-pub(crate) fn attrs<R: Abort>(rt: &R, alloc: Global, names: &[&[u8]]) -> List<Attr> {
-    let mut attrs = Vec::new(alloc);
-    for name in names {
-        let name = named(rt, alloc, name);
-        let kind = Kind::Of(Domain::I2);
-        attrs.push(Attr { name, kind }).expect(rt, "memory");
-    }
-    List::of(attrs)
-}
-
 pub(crate) fn row_of<R: Abort>(rt: &R, alloc: Global, first: i64, second: i64) -> Row {
     let mut values = Vec::new(alloc);
     values.push(Value::Int(first)).expect(rt, "memory");
@@ -100,32 +51,16 @@ fn rows_of<R: Abort>(rt: &R, alloc: Global, pairs: &[(i64, i64)]) -> List<Row> {
 }
 
 /// What is said of what has this name, kept so, with attributes of these names.
-fn info<R: Abort>(rt: &R, alloc: Global, name: &[u8], spec: Spec, names: &[&[u8]]) -> RelInfo {
-    RelInfo {
-        key: key(rt, alloc, name),
-        spec,
-        attrs: attrs(rt, alloc, names),
-        keys: List::of(Vec::new(alloc)),
-    }
-}
-
-/// The first attribute of a variable, as a target.
-fn targets<R: Abort>(rt: &R, alloc: Global) -> List<Target> {
-    let mut targets = Vec::new(alloc);
-    let target = Target {
-        name: named(rt, alloc, b"pnum"),
-        kind: Kind::Of(Domain::I2),
-        term: QTerm::Attr { var: 0, attr: 0 },
-    };
-    targets.push(target).expect(rt, "memory");
-    List::of(targets)
+fn known<R: Abort>(rt: &R, alloc: Global, name: &[u8], spec: Spec, names: &[&[u8]]) -> RelInfo {
+    let key = key(rt, alloc, name);
+    info(alloc, key, spec, attrs(rt, alloc, names))
 }
 
 /// The query of the numbers in what has this name.
 fn numbers_in<R: Abort>(rt: &R, alloc: Global, name: &[u8]) -> Query {
     Query {
         vars: keys(rt, alloc, &[name]),
-        targets: targets(rt, alloc),
+        targets: target(rt, alloc, SMALL, QTerm::Attr { var: 0, attr: 0 }),
         qual: QQual::True,
     }
 }
@@ -135,7 +70,7 @@ fn permit<R: Abort>(rt: &R, alloc: Global, number: u32, ops: u8, attrs: &[u8]) -
     Permit {
         number,
         ops,
-        attrs: listed(rt, alloc, attrs),
+        attrs: places(rt, alloc, attrs),
         user: None,
         qual: QQual::True,
     }
@@ -154,7 +89,7 @@ fn change_of<R: Abort>(rt: &R, alloc: Global, change: Change) -> DbChange {
     let rel = key(rt, alloc, b"parts");
     match change {
         Change::Made(rows) => DbChange::Create {
-            info: info(rt, alloc, b"parts", Spec::Heap, &[b"pnum", b"qoh"]),
+            info: known(rt, alloc, b"parts", Spec::Heap, &[b"pnum", b"qoh"]),
             rows: rows_of(rt, alloc, rows),
         },
         Change::Moved(remove, add) => DbChange::Rows {
@@ -165,12 +100,12 @@ fn change_of<R: Abort>(rt: &R, alloc: Global, change: Change) -> DbChange {
         Change::Stored(to, keys) => DbChange::Modify {
             rel,
             to,
-            keys: listed(rt, alloc, keys),
+            keys: places(rt, alloc, keys),
         },
         Change::Indexed(name) => DbChange::Index {
             base: rel,
             name: named(rt, alloc, name),
-            keys: listed(rt, alloc, &[1]),
+            keys: places(rt, alloc, &[1]),
         },
         Change::Permitted(number, ops, attrs) => DbChange::Permit {
             rel,
@@ -189,7 +124,7 @@ fn change_of<R: Abort>(rt: &R, alloc: Global, change: Change) -> DbChange {
             numbers: numbers_of(rt, alloc, numbers),
         },
         Change::Viewed(name) => DbChange::View {
-            info: info(rt, alloc, b"numbers", Spec::View, &[b"pnum"]),
+            info: known(rt, alloc, b"numbers", Spec::View, &[b"pnum"]),
             query: numbers_in(rt, alloc, name),
         },
         Change::Destroyed => DbChange::Destroy {
@@ -201,32 +136,18 @@ fn change_of<R: Abort>(rt: &R, alloc: Global, change: Change) -> DbChange {
     }
 }
 
-/// Says whether the change may be laid, and lays it where it may.
-pub(crate) fn try_lay<B: Base>(
-    alloc: Global,
-    base: &mut B,
-    change: &DbChange,
-) -> Result<bool, BaseFault> {
-    let fit = fit_change(alloc, base, change)?;
-    if fit {
-        base.apply(alloc, change)?;
-    }
-    Ok(fit)
-}
-
 /// Whether the base takes the change.
-fn is_laid<R: Abort>(rt: &R, alloc: Global, base: &mut DbPlain, change: Change) -> bool {
-    let change = change_of(rt, alloc, change);
-    try_lay(alloc, base, &change).expect(rt, "an answer")
+fn is_taken_so<R: Abort>(rt: &R, alloc: Global, base: &mut DbPlain, change: Change) -> bool {
+    is_laid(rt, alloc, base, change_of(rt, alloc, change))
 }
 
 /// How many of these changes a new database takes or refuses in turn as is said beside each, up to
 /// the first that it doesn't.
 fn as_said<R: Abort>(rt: &R, alloc: Global, changes: &[(Change, bool)]) -> usize {
-    let mut base = DbPlain::new(alloc, named(rt, alloc, b"ann"));
+    let mut base = empty(rt, alloc);
     let mut right = 0usize;
     for (change, is_taken) in changes {
-        if is_laid(rt, alloc, &mut base, *change) != *is_taken {
+        if is_taken_so(rt, alloc, &mut base, *change) != *is_taken {
             break;
         }
         right = right.saturating_add(1);

@@ -1,12 +1,12 @@
 //! Trees cut down to what a user may see and change.
 
-use crate::changes::named;
+use crate::made::{lay, named};
 use crate::said::{
     Asking, OF_NUMBER, OF_PRICE, OF_ROWS, OF_VIEW, PARTS, PRICES, RELATIONS, Said, Tree, tree_of,
 };
 use crate::shown::{digit, put, put_qual, put_query};
 use crate::untold::Untold;
-use crate::view_texts::{lay, new_base, permit_of};
+use crate::view_texts::{new_base, permit_of};
 use calculus::{Checked, Update, UpdateOp};
 use cut_rules::{CutFault, cut_permits};
 use std::alloc::Global;

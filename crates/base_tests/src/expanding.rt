@@ -1,42 +1,40 @@
 //! Queries with the views in them put in, for nobody in particular.
 
-use crate::changes::named;
+use crate::made::{attr, info, key, keys, lay, target};
 use crate::said::{Asking, OF_NUMBER, OF_VIEW, Said, query_of};
 use crate::shown::{put, put_query};
 use crate::untold::Untold;
-use crate::view_texts::{attr, key, keys, lay, new_base};
-use calculus::{ArithOp, Boxed, DbChange, Kind, List, QQual, QTerm, Query, RelInfo, Spec, Target};
+use crate::view_texts::new_base;
+use calculus::{ArithOp, Boxed, DbChange, Kind, QQual, QTerm, Query, Spec};
 use cut_rules::{ExpandFault, expand};
 use std::alloc::Global;
 use std::process::Abort;
 use std::test::*;
 
+/// This term and the first attribute of a variable.
+fn plus<R: Abort>(rt: &R, alloc: Global, term: QTerm, var: u8) -> QTerm {
+    let more = QTerm::Attr { var, attr: 0 };
+    QTerm::Arith {
+        op: ArithOp::Add,
+        left: Boxed::new(alloc, term).expect(rt, "memory"),
+        right: Boxed::new(alloc, more).expect(rt, "memory"),
+    }
+}
+
 /// The sum of the first attributes of so many variables.
 fn sum<R: Abort>(rt: &R, alloc: Global, vars: u8) -> QTerm {
     let mut sum = QTerm::Int(0);
     for var in 0..vars {
-        let more = QTerm::Attr { var, attr: 0 };
-        sum = QTerm::Arith {
-            op: ArithOp::Add,
-            left: Boxed::new(alloc, sum).expect(rt, "memory"),
-            right: Boxed::new(alloc, more).expect(rt, "memory"),
-        };
+        sum = plus(rt, alloc, sum, var);
     }
     sum
 }
 
 /// The query of the sum over so many variables, where these are listed.
 fn summed<R: Abort>(rt: &R, alloc: Global, names: &[&[u8]], vars: u8) -> Query {
-    let mut targets = Vec::new(alloc);
-    let target = Target {
-        name: named(rt, alloc, b"pnum"),
-        kind: Kind::Wide,
-        term: sum(rt, alloc, vars),
-    };
-    targets.push(target).expect(rt, "memory");
     Query {
         vars: keys(rt, alloc, names),
-        targets: List::of(targets),
+        targets: target(rt, alloc, Kind::Wide, sum(rt, alloc, vars)),
         qual: QQual::True,
     }
 }
@@ -44,13 +42,9 @@ fn summed<R: Abort>(rt: &R, alloc: Global, names: &[&[u8]], vars: u8) -> Query {
 /// The view `sums` of the sum over ten variables.
 fn sums<R: Abort>(rt: &R, alloc: Global) -> DbChange {
     let parts: &[u8] = b"parts";
+    let key = key(rt, alloc, b"sums");
     DbChange::View {
-        info: RelInfo {
-            key: key(rt, alloc, b"sums"),
-            spec: Spec::View,
-            attrs: attr(rt, alloc, Kind::Wide),
-            keys: List::of(Vec::new(alloc)),
-        },
+        info: info(alloc, key, Spec::View, attr(rt, alloc, Kind::Wide)),
         query: summed(rt, alloc, &[parts; 10], 10),
     }
 }

@@ -1,10 +1,7 @@
 //! Views that stand on views, each of which names the one below ten times.
 
-use crate::changes::{named, try_lay};
-use crate::making::key;
-use calculus::{
-    Attr, CmpOp, DbChange, Domain, Kind, List, QQual, QTerm, Query, RelInfo, Spec, Target,
-};
+use crate::made::{SMALL, attr, compared, created, empty, first, info, is_laid, key, keys, target};
+use calculus::{CmpOp, DbChange, Kind, QQual, QTerm, Query, Spec};
 use plain_base::DbPlain;
 use std::alloc::Global;
 use std::process::Abort;
@@ -60,114 +57,103 @@ struct Tower {
 fn kind_of(lowest: Lowest) -> Kind {
     match lowest {
         Lowest::Number => Kind::Wide,
-        Lowest::Parts => Kind::Of(Domain::I2),
+        Lowest::Parts => SMALL,
     }
-}
-
-fn info<R: Abort>(rt: &R, alloc: Global, name: &[u8], spec: Spec, kind: Kind) -> RelInfo {
-    let mut attrs = Vec::new(alloc);
-    let name_of_attr = named(rt, alloc, b"pnum");
-    attrs
-        .push(Attr {
-            name: name_of_attr,
-            kind,
-        })
-        .expect(rt, "memory");
-    RelInfo {
-        key: key(rt, alloc, name),
-        spec,
-        attrs: List::of(attrs),
-        keys: List::of(Vec::new(alloc)),
-    }
-}
-
-fn target<R: Abort>(rt: &R, alloc: Global, kind: Kind, term: QTerm) -> List<Target> {
-    let mut targets = Vec::new(alloc);
-    let name = named(rt, alloc, b"pnum");
-    targets
-        .push(Target { name, kind, term })
-        .expect(rt, "memory");
-    List::of(targets)
 }
 
 /// The query of the lowest view.
 fn lowest_query<R: Abort>(rt: &R, alloc: Global, lowest: Lowest) -> Query {
-    let mut vars = Vec::new(alloc);
-    let term = match lowest {
-        Lowest::Number => QTerm::Int(1),
-        Lowest::Parts => {
-            vars.push(key(rt, alloc, b"parts")).expect(rt, "memory");
-            QTerm::Attr { var: 0, attr: 0 }
-        }
-    };
-    Query {
-        vars: List::of(vars),
-        targets: target(rt, alloc, kind_of(lowest), term),
-        qual: QQual::True,
-    }
-}
-
-/// The query of the number of the last of ten variables over what has this name, where it is 1.
-fn query_over<R: Abort>(rt: &R, alloc: Global, name: &[u8], kind: Kind) -> Query {
-    let mut vars = Vec::new(alloc);
-    for _ in 0..10 {
-        vars.push(key(rt, alloc, name)).expect(rt, "memory");
-    }
-    Query {
-        vars: List::of(vars),
-        targets: target(rt, alloc, kind, QTerm::Attr { var: 9, attr: 0 }),
-        qual: QQual::Cmp {
-            op: CmpOp::Eq,
-            left: QTerm::Attr { var: 9, attr: 0 },
-            right: QTerm::Int(1),
+    let kind = kind_of(lowest);
+    match lowest {
+        Lowest::Number => Query {
+            vars: keys(rt, alloc, &[]),
+            targets: target(rt, alloc, kind, QTerm::Int(1)),
+            qual: QQual::True,
+        },
+        Lowest::Parts => Query {
+            vars: keys(rt, alloc, &[b"parts"]),
+            targets: target(rt, alloc, kind, first()),
+            qual: QQual::True,
         },
     }
 }
 
-fn is_laid<R: Abort>(rt: &R, alloc: Global, base: &mut DbPlain, change: DbChange) -> bool {
-    try_lay(alloc, base, &change).expect(rt, "an answer")
+/// The first attribute of the last of ten variables.
+fn of_the_last() -> QTerm {
+    QTerm::Attr { var: 9, attr: 0 }
 }
 
-/// Lays `parts` and the views; says how many views are laid, up to the first that isn't.
-fn lay_views<R: Abort>(rt: &R, alloc: Global, base: &mut DbPlain, lowest: Lowest) -> usize {
+/// The query of the number of the last of ten variables over what has this name, where it is 1.
+fn query_over<R: Abort>(rt: &R, alloc: Global, name: &[u8], kind: Kind) -> Query {
+    Query {
+        vars: keys(rt, alloc, &[name; 10]),
+        targets: target(rt, alloc, kind, of_the_last()),
+        qual: compared(of_the_last(), CmpOp::Eq, QTerm::Int(1)),
+    }
+}
+
+/// The view of this name over the one below it; the lowest has none.
+fn viewed<R: Abort>(
+    rt: &R,
+    alloc: Global,
+    lowest: Lowest,
+    name: &[u8],
+    below: Option<&[u8]>,
+) -> DbChange {
     let kind = kind_of(lowest);
-    let made = DbChange::Create {
-        info: info(rt, alloc, b"parts", Spec::Heap, Kind::Of(Domain::I2)),
-        rows: List::of(Vec::new(alloc)),
-    };
-    is_laid(rt, alloc, base, made);
-    let mut query = lowest_query(rt, alloc, lowest);
+    let key = key(rt, alloc, name);
+    DbChange::View {
+        info: info(alloc, key, Spec::View, attr(rt, alloc, kind)),
+        query: match below {
+            Some(below) => query_over(rt, alloc, below, kind),
+            None => lowest_query(rt, alloc, lowest),
+        },
+    }
+}
+
+/// Lays the views; says how many are laid, up to the first that isn't.
+fn lay_views<R: Abort>(rt: &R, alloc: Global, base: &mut DbPlain, lowest: Lowest) -> usize {
     let mut laid = 0usize;
+    let mut below = None;
     for name in NAMES {
-        let info = info(rt, alloc, name, Spec::View, kind);
-        if !is_laid(rt, alloc, base, DbChange::View { info, query }) {
-            return laid;
+        if !is_laid(rt, alloc, base, viewed(rt, alloc, lowest, name, below)) {
+            break;
         }
         laid = laid.saturating_add(1);
-        query = query_over(rt, alloc, name, kind);
+        below = Some(name);
     }
-    drop(query);
     laid
 }
 
 /// Whether a view over what has this name would have a level that is too high.
 fn is_high<R: Abort>(rt: &R, alloc: Global, base: &mut DbPlain, name: &[u8], kind: Kind) -> bool {
     let query = query_over(rt, alloc, name, kind);
-    has_high_level(alloc, base, &query).expect(rt, "an answer")
+    let high = has_high_level(alloc, base, &query);
+    drop(query);
+    high.expect(rt, "an answer")
+}
+
+/// The variables that a query over the sixteenth view uses, those that it lists, and its size.
+fn counted<R: Abort>(rt: &R, alloc: Global, base: &mut DbPlain, kind: Kind) -> (u64, u64, u64) {
+    let query = query_over(rt, alloc, b"sixteenth", kind);
+    let used = expanded_variables(alloc, base, &query).expect(rt, "an answer");
+    let listed = listed_expanded_variables(alloc, base, &query).expect(rt, "an answer");
+    let size = query_size(alloc, base, &query).expect(rt, "an answer");
+    drop(query);
+    (used, listed, size)
 }
 
 /// Lays the views in a new database, and asks for what is said of them.
 fn measured<R: Abort>(rt: &R, alloc: Global, lowest: Lowest) -> Tower {
-    let mut base = DbPlain::new(alloc, named(rt, alloc, b"ann"));
+    let mut base = empty(rt, alloc);
+    let parts = created(rt, alloc, b"parts", &[b"pnum"]);
+    is_laid(rt, alloc, &mut base, parts);
     let laid = lay_views(rt, alloc, &mut base, lowest);
     let kind = kind_of(lowest);
-    let query = query_over(rt, alloc, b"sixteenth", kind);
-    let used = expanded_variables(alloc, &mut base, &query).expect(rt, "an answer");
-    let listed = listed_expanded_variables(alloc, &mut base, &query).expect(rt, "an answer");
-    let size = query_size(alloc, &mut base, &query).expect(rt, "an answer");
-    drop(query);
+    let (used, listed, size) = counted(rt, alloc, &mut base, kind);
     let low = is_high(rt, alloc, &mut base, b"fifteenth", kind);
     let high = is_high(rt, alloc, &mut base, b"sixteenth", kind);
+    drop(base);
     Tower {
         laid,
         is_high: (low, high),

@@ -11,6 +11,8 @@ mod expanding;
 #[cfg(test)]
 mod levels;
 #[cfg(test)]
+mod made;
+#[cfg(test)]
 mod making;
 #[cfg(test)]
 mod new_database;

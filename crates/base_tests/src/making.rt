@@ -1,9 +1,9 @@
 //! Trees that are said in short.
 
+use crate::made::{SMALL, alone, attrs, compared, first, key, keys, named, places, target};
 use calculus::{
-    AggOp, AggSource, Asked, Attr, Boxed, Chars, Checked, CmpOp, CopyCol, CopyForm, Domain, Kind,
-    List, Name, Permit, QAgg, QQual, QTerm, Query, RelKey, Rule, SortKey, Spec, Target, Update,
-    UpdateOp, Utility,
+    AggOp, AggSource, Asked, Boxed, Chars, Checked, CmpOp, CopyCol, CopyForm, Kind, List, Permit,
+    QAgg, QQual, QTerm, Query, Rule, SortKey, Spec, Update, UpdateOp, Utility,
 };
 use std::alloc::Global;
 use std::process::Abort;
@@ -22,8 +22,8 @@ pub(crate) enum Value<'a> {
     SumOfText(&'a [u8]),
     /// The number of the parts of each number, which no term around chooses.
     Unlinked,
-    /// The number of the rows of a query over so many variables.
-    CountOfRows(usize),
+    /// The number of the rows of a query over what has these names.
+    CountOfRows(&'a [&'a [u8]]),
 }
 
 /// A tree, said in short. What it speaks of is `parts`, which has two numbers and a text.
@@ -58,52 +58,8 @@ pub(crate) enum Tree<'a> {
     Unruled(&'a [u8]),
 }
 
-pub(crate) fn named<R: Abort>(rt: &R, alloc: Global, bytes: &[u8]) -> Name {
-    let name = Name::of(alloc, bytes).expect(rt, "memory");
-    name.expect(rt, "a name")
-}
-
-pub(crate) fn key<R: Abort>(rt: &R, alloc: Global, name: &[u8]) -> RelKey {
-    RelKey {
-        owner: named(rt, alloc, b"ann"),
-        name: named(rt, alloc, name),
-    }
-}
-
-fn keys<R: Abort>(rt: &R, alloc: Global, names: &[&[u8]]) -> List<RelKey> {
-    let mut keys = Vec::new(alloc);
-    for name in names {
-        keys.push(key(rt, alloc, name)).expect(rt, "memory");
-    }
-    List::of(keys)
-}
-
-fn places<R: Abort>(rt: &R, alloc: Global, numbers: &[u8]) -> List<u8> {
-    let mut items = Vec::new(alloc);
-    for number in numbers {
-        items.push(*number).expect(rt, "memory");
-    }
-    List::of(items)
-}
-
-/// Texts where this is `pname`, else numbers.
-fn kind_of(name: &[u8]) -> Kind {
-    if name == b"pname".as_slice() {
-        Kind::Of(Domain::C(10))
-    } else {
-        Kind::Of(Domain::I2)
-    }
-}
-
-pub(crate) fn attrs<R: Abort>(rt: &R, alloc: Global, names: &[&[u8]]) -> List<Attr> {
-    let mut attrs = Vec::new(alloc);
-    for name in names {
-        let kind = kind_of(name);
-        let name = named(rt, alloc, name);
-        attrs.push(Attr { name, kind }).expect(rt, "memory");
-    }
-    List::of(attrs)
-}
+/// The variables of a query that lists 51.
+const LONG: [&[u8]; 51] = [b"parts"; 51];
 
 fn columns<R: Abort>(rt: &R, alloc: Global, said: &[(u8, CopyForm)]) -> List<CopyCol> {
     let mut columns = Vec::new(alloc);
@@ -126,41 +82,29 @@ fn none(alloc: Global) -> List<QTerm> {
     List::of(Vec::new(alloc))
 }
 
-fn alone<R: Abort>(rt: &R, alloc: Global, term: QTerm) -> List<QTerm> {
-    let mut terms = Vec::new(alloc);
-    terms.push(term).expect(rt, "memory");
-    List::of(terms)
-}
-
-fn target<R: Abort>(rt: &R, alloc: Global, kind: Kind, term: QTerm) -> List<Target> {
-    let mut targets = Vec::new(alloc);
-    let name = named(rt, alloc, b"pnum");
-    targets
-        .push(Target { name, kind, term })
-        .expect(rt, "memory");
-    List::of(targets)
-}
-
-/// The number of each part, over `parts` so many times.
-pub(crate) fn rows<R: Abort>(rt: &R, alloc: Global, count: usize) -> Query {
-    let mut vars = Vec::new(alloc);
-    for _ in 0..count {
-        vars.push(key(rt, alloc, b"parts")).expect(rt, "memory");
-    }
-    let term = QTerm::Attr { var: 0, attr: 0 };
+/// The number of each row of the first of what has these names.
+pub(crate) fn rows<R: Abort>(rt: &R, alloc: Global, names: &[&[u8]]) -> Query {
     Query {
-        vars: List::of(vars),
-        targets: target(rt, alloc, Kind::Of(Domain::I2), term),
+        vars: keys(rt, alloc, names),
+        targets: target(rt, alloc, SMALL, first()),
         qual: QQual::True,
     }
 }
 
-fn count<R: Abort>(rt: &R, alloc: Global, slot: u16, source: AggSource, by: List<QTerm>) -> QTerm {
+/// What an operation makes of this argument.
+fn aggregate<R: Abort>(
+    rt: &R,
+    alloc: Global,
+    slot: u16,
+    (op, arg): (AggOp, QTerm),
+    source: AggSource,
+    by: List<QTerm>,
+) -> QTerm {
     let aggregate = QAgg {
         slot,
-        op: AggOp::Count,
+        op,
         source,
-        arg: QTerm::Attr { var: 0, attr: 0 },
+        arg,
         by,
         link: none(alloc),
         qual: QQual::True,
@@ -168,52 +112,42 @@ fn count<R: Abort>(rt: &R, alloc: Global, slot: u16, source: AggSource, by: List
     QTerm::Agg(Boxed::new(alloc, aggregate).expect(rt, "memory"))
 }
 
+/// What the rows of an aggregate come from, where they come from what has this name.
+fn over<R: Abort>(rt: &R, alloc: Global, name: &[u8]) -> AggSource {
+    AggSource::Named(key(rt, alloc, name))
+}
+
+fn count<R: Abort>(rt: &R, alloc: Global, slot: u16, name: &[u8], by: List<QTerm>) -> QTerm {
+    let source = over(rt, alloc, name);
+    aggregate(rt, alloc, slot, (AggOp::Count, first()), source, by)
+}
+
 fn sum_of_text<R: Abort>(rt: &R, alloc: Global, name: &[u8]) -> QTerm {
-    let aggregate = QAgg {
-        slot: 0,
-        op: AggOp::Sum,
-        source: AggSource::Named(key(rt, alloc, name)),
-        arg: text(rt, alloc),
-        by: none(alloc),
-        link: none(alloc),
-        qual: QQual::True,
-    };
-    QTerm::Agg(Boxed::new(alloc, aggregate).expect(rt, "memory"))
+    let text = text(rt, alloc);
+    let source = over(rt, alloc, name);
+    aggregate(rt, alloc, 0, (AggOp::Sum, text), source, none(alloc))
 }
 
-fn count_of_rows<R: Abort>(rt: &R, alloc: Global, number: usize) -> QTerm {
-    let query = rows(rt, alloc, number);
+fn count_of_rows<R: Abort>(rt: &R, alloc: Global, names: &[&[u8]]) -> QTerm {
+    let query = rows(rt, alloc, names);
     let source = AggSource::Rows(Boxed::new(alloc, query).expect(rt, "memory"));
-    count(rt, alloc, 0, source, none(alloc))
-}
-
-fn unlinked<R: Abort>(rt: &R, alloc: Global) -> QTerm {
-    let by = alone(rt, alloc, QTerm::Attr { var: 0, attr: 0 });
-    let source = AggSource::Named(key(rt, alloc, b"parts"));
-    count(rt, alloc, 0, source, by)
+    aggregate(rt, alloc, 0, (AggOp::Count, first()), source, none(alloc))
 }
 
 fn term<R: Abort>(rt: &R, alloc: Global, value: Value) -> QTerm {
     match value {
         Value::Attr(attr) => QTerm::Attr { var: 0, attr },
         Value::Text => text(rt, alloc),
-        Value::Count(slot, name) => {
-            let source = AggSource::Named(key(rt, alloc, name));
-            count(rt, alloc, slot, source, none(alloc))
-        }
+        Value::Count(slot, name) => count(rt, alloc, slot, name, none(alloc)),
         Value::SumOfText(name) => sum_of_text(rt, alloc, name),
-        Value::Unlinked => unlinked(rt, alloc),
-        Value::CountOfRows(number) => count_of_rows(rt, alloc, number),
+        Value::Unlinked => count(rt, alloc, 0, b"parts", alone(rt, alloc, first())),
+        Value::CountOfRows(names) => count_of_rows(rt, alloc, names),
     }
 }
 
 /// The value is 1.
 fn is_one<R: Abort>(rt: &R, alloc: Global, value: Value) -> QQual {
-    QQual::Cmp {
-        op: CmpOp::Eq,
-        left: term(rt, alloc, value),
-        right: QTerm::Int(1),
-    }
+    compared(term(rt, alloc, value), CmpOp::Eq, QTerm::Int(1))
 }
 
 fn query<R: Abort>(rt: &R, alloc: Global, name: &[u8], kind: Kind, value: Value) -> Query {
@@ -225,19 +159,12 @@ fn query<R: Abort>(rt: &R, alloc: Global, name: &[u8], kind: Kind, value: Value)
 }
 
 fn asked<R: Abort>(rt: &R, alloc: Global, query: Query, column: u16) -> Checked {
-    let mut sort = Vec::new(alloc);
     let first = SortKey {
         column,
         down: false,
     };
-    sort.push(first).expect(rt, "memory");
-    let mut asked = Vec::new(alloc);
-    let one = Asked {
-        query,
-        sort: List::of(sort),
-    };
-    asked.push(one).expect(rt, "memory");
-    Checked::Answer(List::of(asked))
+    let sort = alone(rt, alloc, first);
+    Checked::Answer(alone(rt, alloc, Asked { query, sort }))
 }
 
 fn utility_of<R: Abort>(rt: &R, alloc: Global, tree: Tree) -> Utility {
@@ -263,7 +190,7 @@ fn utility_of<R: Abort>(rt: &R, alloc: Global, tree: Tree) -> Utility {
         Tree::Copied(said) => copied(rt, alloc, said),
         Tree::Viewed(name, over, value) => Utility::View {
             rel: key(rt, alloc, name),
-            query: query(rt, alloc, over, Kind::Of(Domain::I2), value),
+            query: query(rt, alloc, over, SMALL, value),
         },
         Tree::Permitted(ops, listed, value) => permitted(rt, alloc, ops, listed, value),
         Tree::Ruled(name, value) => ruled(rt, alloc, name, value),
@@ -330,7 +257,7 @@ fn changed<R: Abort>(
         rel: key(rt, alloc, name),
         old,
         places: places(rt, alloc, at),
-        query: rows(rt, alloc, 1),
+        query: rows(rt, alloc, &[b"parts"]),
         checks: List::of(Vec::new(alloc)),
         new_cut: is_one(rt, alloc, check),
     })
@@ -341,7 +268,7 @@ pub(crate) fn tree_of<R: Abort>(rt: &R, alloc: Global, tree: Tree) -> Checked {
         Tree::Asked(name, kind, value, column) => {
             asked(rt, alloc, query(rt, alloc, name, kind, value), column)
         }
-        Tree::Long => asked(rt, alloc, rows(rt, alloc, 51), 0),
+        Tree::Long => asked(rt, alloc, rows(rt, alloc, &LONG), 0),
         Tree::Changed(op, name, old, at, check) => changed(rt, alloc, op, name, old, at, check),
         _ => Checked::Utility(utility_of(rt, alloc, tree)),
     }

@@ -1,26 +1,10 @@
+use crate::made::{empty, key_of};
 use am_traits::{Base, BaseFault};
 use calculus::{List, Name, OutOfMemory, Place, Probe, RelKey};
 use plain_base::DbPlain;
 use std::alloc::Global;
 use std::process::Abort;
 use std::test::*;
-
-fn named<R: Abort>(rt: &R, alloc: Global, bytes: &[u8]) -> Name {
-    let name = Name::of(alloc, bytes).expect(rt, "memory");
-    name.expect(rt, "a name")
-}
-
-fn key_of<R: Abort>(rt: &R, alloc: Global, owner: &[u8], name: &[u8]) -> RelKey {
-    RelKey {
-        owner: named(rt, alloc, owner),
-        name: named(rt, alloc, name),
-    }
-}
-
-/// The database of ann, without anything in it.
-fn new_base<R: Abort>(rt: &R, alloc: Global) -> DbPlain {
-    DbPlain::new(alloc, named(rt, alloc, b"ann"))
-}
 
 /// The probe that each row meets.
 fn every(alloc: Global) -> Probe {
@@ -54,7 +38,7 @@ fn scanned<B: Base>(alloc: Global, base: &mut B, key: &RelKey) -> Result<u32, Ba
 /// How many rows a scan of what has this name gives, and how many there are once what is kept is
 /// handed over.
 fn counted<R: Abort>(rt: &R, alloc: Global, owner: &[u8], name: &[u8]) -> (u32, u32) {
-    let mut base = new_base(rt, alloc);
+    let mut base = empty(rt, alloc);
     let key = key_of(rt, alloc, owner, name);
     let given = scanned(alloc, &mut base, &key).expect(rt, "rows");
     base.hand_over();
@@ -64,7 +48,7 @@ fn counted<R: Abort>(rt: &R, alloc: Global, owner: &[u8], name: &[u8]) -> (u32, 
 
 /// Whether the first row that a scan of what has this name gives is there.
 fn has_first<R: Abort>(rt: &R, alloc: Global, owner: &[u8], name: &[u8]) -> bool {
-    let mut base = new_base(rt, alloc);
+    let mut base = empty(rt, alloc);
     let key = key_of(rt, alloc, owner, name);
     let probe = every(alloc);
     let mut at = Place { page: 0, line: 0 };
@@ -75,14 +59,14 @@ fn has_first<R: Abort>(rt: &R, alloc: Global, owner: &[u8], name: &[u8]) -> bool
 
 /// Whether the administrator has this name.
 fn is_administrator<R: Abort>(rt: &R, alloc: Global, name: &[u8]) -> bool {
-    let mut base = new_base(rt, alloc);
+    let mut base = empty(rt, alloc);
     let dba = base.dba(alloc).expect(rt, "a name");
     dba.bytes() == name
 }
 
 /// Whether a user means something by a name, and whether something stands under both.
 fn found_and_known<R: Abort>(rt: &R, alloc: Global, user: &[u8], name: &[u8]) -> (bool, bool) {
-    let mut base = new_base(rt, alloc);
+    let mut base = empty(rt, alloc);
     let key = key_of(rt, alloc, user, name);
     let found = base.find(alloc, &key.name, &key.owner).expect(rt, "memory");
     let known = base.info(alloc, &key).expect(rt, "memory");
@@ -91,7 +75,7 @@ fn found_and_known<R: Abort>(rt: &R, alloc: Global, user: &[u8], name: &[u8]) ->
 
 /// How many entries there are, and how many rules and permits on what has this name.
 fn hanging<R: Abort>(rt: &R, alloc: Global, owner: &[u8], name: &[u8]) -> (u32, usize, usize) {
-    let mut base = new_base(rt, alloc);
+    let mut base = empty(rt, alloc);
     let key = key_of(rt, alloc, owner, name);
     let entries = base.count().expect(rt, "a number");
     let rules = base.rules(alloc, &key).expect(rt, "rules");
@@ -107,7 +91,7 @@ fn is_view<B: Base>(alloc: Global, base: &mut B, key: &RelKey) -> Result<bool, B
 
 /// Whether a view has this name, and whether one names what has it.
 fn viewed<R: Abort>(rt: &R, alloc: Global, owner: &[u8], name: &[u8]) -> (bool, bool) {
-    let mut base = new_base(rt, alloc);
+    let mut base = empty(rt, alloc);
     let key = key_of(rt, alloc, owner, name);
     let there = is_view(alloc, &mut base, &key).expect(rt, "memory");
     let named = base.named_by_view(alloc, &key, &[]).expect(rt, "an answer");

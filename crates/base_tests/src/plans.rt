@@ -1,9 +1,12 @@
 //! What utilities plan over a database in memory, where what they plan is laid, and what refuses them.
 
-use crate::changes::{attrs, named, numbers_of, row_of, try_lay};
+use crate::changes::row_of;
+use crate::made::{
+    SMALL, alone, attrs, compared, empty, first, info, key_of, keys, lay, named, numbers_of,
+    places, target, try_lay,
+};
 use calculus::{
-    Attr, CmpOp, DbChange, Domain, Kind, List, Permit, QQual, QTerm, Query, RelInfo, RelKey, Row,
-    Rule, Spec, Target, Utility,
+    Attr, CmpOp, DbChange, List, Permit, QQual, QTerm, Query, RelKey, Row, Rule, Spec, Utility,
 };
 use plain_base::DbPlain;
 use std::alloc::Global;
@@ -50,13 +53,6 @@ enum Said<'a> {
 /// The user, the owner and the name of what the utility is for, and what it is asked for.
 type Asked<'a> = (&'a [u8], &'a [u8], &'a [u8], Work<'a>);
 
-fn key<R: Abort>(rt: &R, alloc: Global, owner: &[u8], name: &[u8]) -> RelKey {
-    RelKey {
-        owner: named(rt, alloc, owner),
-        name: named(rt, alloc, name),
-    }
-}
-
 /// Rows with these first values, and 5 behind them.
 fn rows_of<R: Abort>(rt: &R, alloc: Global, numbers: &[i64]) -> List<Row> {
     let mut rows = Vec::new(alloc);
@@ -69,37 +65,18 @@ fn rows_of<R: Abort>(rt: &R, alloc: Global, numbers: &[i64]) -> List<Row> {
 
 /// The change that makes a relation of these rows.
 fn made<R: Abort>(rt: &R, alloc: Global, owner: &[u8], name: &[u8], numbers: &[i64]) -> DbChange {
+    let key = key_of(rt, alloc, owner, name);
     DbChange::Create {
-        info: RelInfo {
-            key: key(rt, alloc, owner, name),
-            spec: Spec::Heap,
-            attrs: attrs(rt, alloc, &[b"pnum", b"qoh"]),
-            keys: List::of(Vec::new(alloc)),
-        },
+        info: info(alloc, key, Spec::Heap, attrs(rt, alloc, &[b"pnum", b"qoh"])),
         rows: rows_of(rt, alloc, numbers),
     }
 }
 
-/// The first attribute of the only variable.
-fn first() -> QTerm {
-    QTerm::Attr { var: 0, attr: 0 }
-}
-
 /// The query of the numbers in the administrator's `parts`.
 fn numbers_in_parts<R: Abort>(rt: &R, alloc: Global) -> Query {
-    let mut vars = Vec::new(alloc);
-    let parts = key(rt, alloc, b"ann", b"parts");
-    vars.push(parts).expect(rt, "memory");
-    let mut targets = Vec::new(alloc);
-    let target = Target {
-        name: named(rt, alloc, b"pnum"),
-        kind: Kind::Of(Domain::I2),
-        term: first(),
-    };
-    targets.push(target).expect(rt, "memory");
     Query {
-        vars: List::of(vars),
-        targets: List::of(targets),
+        vars: keys(rt, alloc, &[b"parts"]),
+        targets: target(rt, alloc, SMALL, first()),
         qual: QQual::True,
     }
 }
@@ -109,7 +86,7 @@ fn permit<R: Abort>(rt: &R, alloc: Global) -> Permit {
     Permit {
         number: 0,
         ops: 5,
-        attrs: List::of(Vec::from_slice(alloc, &[1u8]).expect(rt, "memory")),
+        attrs: places(rt, alloc, &[1]),
         user: None,
         qual: QQual::True,
     }
@@ -119,11 +96,7 @@ fn permit<R: Abort>(rt: &R, alloc: Global) -> Permit {
 fn rule(least: i64) -> Rule {
     Rule {
         number: 0,
-        qual: QQual::Cmp {
-            op: CmpOp::Ge,
-            left: first(),
-            right: QTerm::Int(least),
-        },
+        qual: compared(first(), CmpOp::Ge, QTerm::Int(least)),
     }
 }
 
@@ -150,20 +123,16 @@ fn work_of<R: Abort>(rt: &R, alloc: Global, rel: RelKey, work: Work) -> Utility 
             rel,
             numbers: numbers_of(rt, alloc, numbers),
         },
-        Work::Destroy => {
-            let mut rels = Vec::new(alloc);
-            rels.push(rel).expect(rt, "memory");
-            Utility::Destroy {
-                rels: List::of(rels),
-            }
-        }
+        Work::Destroy => Utility::Destroy {
+            rels: alone(rt, alloc, rel),
+        },
     }
 }
 
 /// Whether these are the attributes of the view of numbers.
 fn are_numbers(attrs: &[Attr]) -> bool {
     attrs.len() == 1
-        && attrs.first().map(|attr| attr.kind) == Some(Kind::Of(Domain::I2))
+        && attrs.first().map(|attr| attr.kind) == Some(SMALL)
         && attrs
             .iter()
             .all(|attr| attr.name.bytes() == b"pnum".as_slice())
@@ -227,7 +196,7 @@ fn is_planned<R: Abort>(
 ) -> bool {
     let (user, owner, name, work) = *asked;
     let user = named(rt, alloc, user);
-    let work = work_of(rt, alloc, key(rt, alloc, owner, name), work);
+    let work = work_of(rt, alloc, key_of(rt, alloc, owner, name), work);
     let planned = plan(alloc, base, &user, &work);
     drop(work);
     drop(user);
@@ -244,15 +213,11 @@ fn is_planned<R: Abort>(
 
 /// A database whose administrator is ann, who has `parts` with the numbers 3 and 4; bob has `own`.
 fn two_relations<R: Abort>(rt: &R, alloc: Global) -> DbPlain {
-    let mut base = DbPlain::new(alloc, named(rt, alloc, b"ann"));
-    for (owner, name) in [(b"ann", b"parts".as_slice()), (b"bob", b"own".as_slice())] {
-        let change = made(rt, alloc, owner, name, &[3, 4]);
-        let laid = try_lay(alloc, &mut base, &change).expect(rt, "an answer");
-        drop(change);
-        if !laid {
-            rt.abort();
-        }
-    }
+    let mut base = empty(rt, alloc);
+    let parts = made(rt, alloc, b"ann", b"parts", &[3, 4]);
+    lay(rt, alloc, &mut base, parts);
+    let own = made(rt, alloc, b"bob", b"own", &[3, 4]);
+    lay(rt, alloc, &mut base, own);
     base
 }
 

@@ -1,4 +1,4 @@
-use crate::changes::named;
+use crate::made::{alone, named};
 use crate::tower::{Tower, ten_over};
 use calculus::{Asked, Checked, List};
 use cut_rules::{cut_permits, expand};
@@ -9,13 +9,11 @@ use std::test::*;
 /// The tree of one query of ten variables over what has this name.
 fn tree<R: Abort>(rt: &R, alloc: Global, name: &[u8]) -> Checked {
     let owner = named(rt, alloc, b"ann");
-    let mut asked = Vec::new(alloc);
-    let one = Asked {
-        query: ten_over(alloc, &owner, name).expect(rt, "memory"),
-        sort: List::of(Vec::new(alloc)),
-    };
-    asked.push(one).expect(rt, "memory");
-    Checked::Answer(List::of(asked))
+    let made = ten_over(alloc, &owner, name);
+    drop(owner);
+    let query = made.expect(rt, "memory");
+    let sort = List::of(Vec::new(alloc));
+    Checked::Answer(alone(rt, alloc, Asked { query, sort }))
 }
 
 /// How often the base is asked for views, and how often for permits, while bob's tree of a query of ten

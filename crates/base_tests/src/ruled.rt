@@ -1,6 +1,5 @@
-use crate::changes::try_lay;
-use crate::making::{attrs, key, named};
-use calculus::{CmpOp, DbChange, List, QQual, QTerm, Query, RelInfo, Rule, Spec, Update, UpdateOp};
+use crate::made::{alone, compared, created, empty, first, key, keys, lay, places};
+use calculus::{CmpOp, DbChange, List, QQual, QTerm, Query, Rule, Update, UpdateOp};
 use cut_rules::add_rules;
 use plain_base::DbPlain;
 use std::alloc::Global;
@@ -9,11 +8,7 @@ use std::test::*;
 
 /// That the first attribute is this number.
 fn is_number(number: i64) -> QQual {
-    QQual::Cmp {
-        op: CmpOp::Eq,
-        left: QTerm::Attr { var: 0, attr: 0 },
-        right: QTerm::Int(number),
-    }
+    compared(first(), CmpOp::Eq, QTerm::Int(number))
 }
 
 /// Whether the qualification is that the first attribute is this number.
@@ -41,53 +36,41 @@ fn ask_for(quals: &[QQual], numbers: &[i64]) -> bool {
     true
 }
 
-/// Lays a change that may be laid.
-fn lay<R: Abort>(rt: &R, alloc: Global, base: &mut DbPlain, change: DbChange) {
-    let is_laid = try_lay(alloc, base, &change);
-    drop(change);
-    assert!(rt; is_laid.expect(rt, "an answer"));
+/// The rule of `parts` with this number, that its first attribute is this number.
+fn rule<R: Abort>(rt: &R, alloc: Global, number: u8) -> DbChange {
+    DbChange::Rule {
+        rel: key(rt, alloc, b"parts"),
+        rule: Rule {
+            number: number.into(),
+            qual: is_number(number.into()),
+        },
+    }
 }
 
 /// A database of ann's with the relation `parts`, which has two rules: that its first attribute is 1, and
 /// that it is 2.
 fn ruled_base<R: Abort>(rt: &R, alloc: Global) -> DbPlain {
-    let mut base = DbPlain::new(alloc, named(rt, alloc, b"ann"));
-    let info = RelInfo {
-        key: key(rt, alloc, b"parts"),
-        spec: Spec::Heap,
-        attrs: attrs(rt, alloc, &[b"pnum"]),
-        keys: List::of(Vec::new(alloc)),
-    };
-    let rows = List::of(Vec::new(alloc));
-    lay(rt, alloc, &mut base, DbChange::Create { info, rows });
-    for number in [1u8, 2] {
-        let change = DbChange::Rule {
-            rel: key(rt, alloc, b"parts"),
-            rule: Rule {
-                number: number.into(),
-                qual: is_number(number.into()),
-            },
-        };
-        lay(rt, alloc, &mut base, change);
-    }
+    let mut base = empty(rt, alloc);
+    let parts = created(rt, alloc, b"parts", &[b"pnum"]);
+    lay(rt, alloc, &mut base, parts);
+    lay(rt, alloc, &mut base, rule(rt, alloc, 1));
+    lay(rt, alloc, &mut base, rule(rt, alloc, 2));
     base
 }
 
 /// An update of `parts` with a check of its own: that the first attribute is 3.
 fn update<R: Abort>(rt: &R, alloc: Global, op: UpdateOp) -> Update {
-    let mut checks = Vec::new(alloc);
-    checks.push(is_number(3)).expect(rt, "memory");
     Update {
         op,
         rel: key(rt, alloc, b"parts"),
         old: 255,
-        places: List::of(Vec::new(alloc)),
+        places: places(rt, alloc, &[]),
         query: Query {
-            vars: List::of(Vec::new(alloc)),
+            vars: keys(rt, alloc, &[]),
             targets: List::of(Vec::new(alloc)),
             qual: QQual::True,
         },
-        checks: List::of(checks),
+        checks: alone(rt, alloc, is_number(3)),
         new_cut: QQual::True,
     }
 }
@@ -96,6 +79,7 @@ fn update<R: Abort>(rt: &R, alloc: Global, op: UpdateOp) -> Update {
 fn has_checks<R: Abort>(rt: &R, alloc: Global, op: UpdateOp, numbers: &[i64]) -> bool {
     let mut base = ruled_base(rt, alloc);
     let made = add_rules(alloc, &mut base, update(rt, alloc, op));
+    drop(base);
     let ruled = made.expect(rt, "an answer");
     ask_for(ruled.checks.items(), numbers)
 }

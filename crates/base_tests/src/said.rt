@@ -1,10 +1,9 @@
 //! Queries with aggregates, and updates of `parts`, that are said in short.
 
-use crate::changes::named;
-use crate::view_texts::{key, keys};
+use crate::made::{SMALL, alone, compared, first, key, keys, named, places, target};
 use calculus::{
-    AggOp, AggSource, Asked, Boxed, Checked, CmpOp, Domain, Kind, List, QAgg, QQual, QTerm, Query,
-    Target, Update, UpdateOp,
+    AggOp, AggSource, Asked, Boxed, Checked, CmpOp, Kind, List, QAgg, QQual, QTerm, Query, Target,
+    Update, UpdateOp,
 };
 use std::alloc::Global;
 use std::process::Abort;
@@ -29,8 +28,8 @@ pub(crate) struct Counted<'a> {
     pub(crate) over: Over<'a>,
     /// The attribute of which values are taken.
     pub(crate) arg: u8,
-    /// The attributes that group the rows.
-    pub(crate) by: &'a [u8],
+    /// The attributes that group the rows, of the only variable.
+    pub(crate) by: &'a [At],
     /// The attributes of the query around that choose the group.
     pub(crate) link: &'a [At],
     /// An attribute that is 5 in the rows that are taken; `None` where all are taken.
@@ -79,7 +78,7 @@ pub(crate) const OF_NUMBER: Counted = Counted {
     op: AggOp::Count,
     over: Over::Named(b"parts"),
     arg: 1,
-    by: &[0],
+    by: &[(0, 0)],
     link: &[(1, 0)],
     five: Some(1),
 };
@@ -90,7 +89,7 @@ pub(crate) const OF_VIEW: Counted = Counted {
     op: AggOp::Max,
     over: Over::Named(b"numbers"),
     arg: 0,
-    by: &[0],
+    by: &[(0, 0)],
     link: &[(0, 0)],
     five: None,
 };
@@ -131,7 +130,7 @@ pub(crate) const OF_PRICE: Counted = Counted {
     op: AggOp::Count,
     over: Over::Named(b"parts"),
     arg: 0,
-    by: &[0],
+    by: &[(0, 0)],
     link: &[(1, 2)],
     five: None,
 };
@@ -149,23 +148,10 @@ fn attrs<R: Abort>(rt: &R, alloc: Global, all: &[At]) -> List<QTerm> {
     List::of(terms)
 }
 
-/// The attributes at these places of the only variable.
-fn grouping<R: Abort>(rt: &R, alloc: Global, by: &[u8]) -> List<QTerm> {
-    let mut terms = Vec::new(alloc);
-    for place in by {
-        terms.push(attr((0, *place))).expect(rt, "memory");
-    }
-    List::of(terms)
-}
-
 /// The two attributes are equal.
 fn equal(both: Option<(At, At)>) -> QQual {
     match both {
-        Some((left, right)) => QQual::Cmp {
-            op: CmpOp::Eq,
-            left: attr(left),
-            right: attr(right),
-        },
+        Some((left, right)) => compared(attr(left), CmpOp::Eq, attr(right)),
         None => QQual::True,
     }
 }
@@ -173,27 +159,16 @@ fn equal(both: Option<(At, At)>) -> QQual {
 /// The attribute of the only variable is 5.
 fn is_five(place: Option<u8>) -> QQual {
     match place {
-        Some(place) => QQual::Cmp {
-            op: CmpOp::Eq,
-            left: attr((0, place)),
-            right: QTerm::Int(5),
-        },
+        Some(place) => compared(attr((0, place)), CmpOp::Eq, QTerm::Int(5)),
         None => QQual::True,
     }
 }
 
 /// The first attribute of what has this name.
 fn first_of<R: Abort>(rt: &R, alloc: Global, name: &[u8]) -> Query {
-    let mut targets = Vec::new(alloc);
-    let target = Target {
-        name: named(rt, alloc, b"pnum"),
-        kind: Kind::Of(Domain::I2),
-        term: attr((0, 0)),
-    };
-    targets.push(target).expect(rt, "memory");
     Query {
         vars: keys(rt, alloc, &[name]),
-        targets: List::of(targets),
+        targets: target(rt, alloc, SMALL, first()),
         qual: QQual::True,
     }
 }
@@ -214,7 +189,7 @@ fn aggregate<R: Abort>(rt: &R, alloc: Global, slot: u16, said: &Counted) -> QTer
         op: said.op,
         source: source(rt, alloc, said.over),
         arg: attr((0, said.arg)),
-        by: grouping(rt, alloc, said.by),
+        by: attrs(rt, alloc, said.by),
         link: attrs(rt, alloc, said.link),
         qual: is_five(said.five),
     };
@@ -225,7 +200,7 @@ fn aggregate<R: Abort>(rt: &R, alloc: Global, slot: u16, said: &Counted) -> QTer
 fn term<R: Abort>(rt: &R, alloc: Global, said: Said) -> (Kind, QTerm) {
     match said {
         Said::Number(number) => (Kind::Wide, QTerm::Int(number)),
-        Said::Attr(var, place) => (Kind::Of(Domain::I2), attr((var, place))),
+        Said::Attr(var, place) => (SMALL, attr((var, place))),
         Said::Agg(slot, counted) => (Kind::Wide, aggregate(rt, alloc, slot, counted)),
     }
 }
@@ -251,21 +226,8 @@ pub(crate) fn query_of<R: Abort>(rt: &R, alloc: Global, said: &Asking) -> Query 
 }
 
 fn asked<R: Abort>(rt: &R, alloc: Global, query: Query) -> Checked {
-    let mut asked = Vec::new(alloc);
-    let one = Asked {
-        query,
-        sort: List::of(Vec::new(alloc)),
-    };
-    asked.push(one).expect(rt, "memory");
-    Checked::Answer(List::of(asked))
-}
-
-fn places<R: Abort>(rt: &R, alloc: Global, all: &[u8]) -> List<u8> {
-    let mut places = Vec::new(alloc);
-    for place in all {
-        places.push(*place).expect(rt, "memory");
-    }
-    List::of(places)
+    let sort = List::of(Vec::new(alloc));
+    Checked::Answer(alone(rt, alloc, Asked { query, sort }))
 }
 
 pub(crate) fn tree_of<R: Abort>(rt: &R, alloc: Global, tree: &Tree) -> Checked {

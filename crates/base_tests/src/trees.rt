@@ -1,53 +1,27 @@
-use crate::making::{Tree, Value, attrs, key, named, rows, tree_of};
-use am_traits::{Base, BaseFault};
-use calculus::{CopyForm, DbChange, Domain, Kind, List, RelInfo, Spec, UpdateOp};
-use change_check::fit_change;
+use crate::made::{SMALL, attr, created, empty, info, key, lay, named};
+use crate::making::{Tree, Value, rows, tree_of};
+use calculus::{CopyForm, DbChange, Kind, Spec, UpdateOp};
 use plain_base::DbPlain;
 use std::alloc::Global;
 use std::process::Abort;
 use std::test::*;
 use tree_check::fit_tree;
 
-/// Lays a change that may be laid.
-fn lay<B: Base>(alloc: Global, base: &mut B, change: &DbChange) -> Result<(), BaseFault> {
-    let fit = fit_change(alloc, base, change)?;
-    if fit {
-        base.apply(alloc, change)?;
-    }
-    Ok(())
-}
-
-/// What is said of what has this name, kept so, with attributes of these names.
-fn info<R: Abort>(rt: &R, alloc: Global, name: &[u8], spec: Spec, names: &[&[u8]]) -> RelInfo {
-    RelInfo {
-        key: key(rt, alloc, name),
-        spec,
-        attrs: attrs(rt, alloc, names),
-        keys: List::of(Vec::new(alloc)),
+/// The view `numbers` of the numbers of `parts`.
+fn viewed<R: Abort>(rt: &R, alloc: Global) -> DbChange {
+    let key = key(rt, alloc, b"numbers");
+    DbChange::View {
+        info: info(alloc, key, Spec::View, attr(rt, alloc, SMALL)),
+        query: rows(rt, alloc, &[b"parts"]),
     }
 }
 
 /// A database of ann's with the relation `parts` and the view `numbers` of its numbers.
 fn new_base<R: Abort>(rt: &R, alloc: Global) -> DbPlain {
-    let mut base = DbPlain::new(alloc, named(rt, alloc, b"ann"));
-    let made = DbChange::Create {
-        info: info(
-            rt,
-            alloc,
-            b"parts",
-            Spec::Heap,
-            &[b"pnum", b"qoh", b"pname"],
-        ),
-        rows: List::of(Vec::new(alloc)),
-    };
-    lay(alloc, &mut base, &made).expect(rt, "an answer");
-    drop(made);
-    let viewed = DbChange::View {
-        info: info(rt, alloc, b"numbers", Spec::View, &[b"pnum"]),
-        query: rows(rt, alloc, 1),
-    };
-    lay(alloc, &mut base, &viewed).expect(rt, "an answer");
-    drop(viewed);
+    let mut base = empty(rt, alloc);
+    let parts = created(rt, alloc, b"parts", &[b"pnum", b"qoh", b"pname"]);
+    lay(rt, alloc, &mut base, parts);
+    lay(rt, alloc, &mut base, viewed(rt, alloc));
     base
 }
 
@@ -72,9 +46,6 @@ fn as_said<R: Abort>(rt: &R, alloc: Global, trees: &[(Tree, bool)]) -> usize {
     }
     right
 }
-
-/// Numbers of two bytes.
-const SMALL: Kind = Kind::Of(Domain::I2);
 
 #[test]
 fn a_query_reads_what_is_kept(rt: HostRuntime) {
@@ -118,11 +89,16 @@ fn an_aggregate_has_a_source_a_slot_and_links(rt: HostRuntime) {
         ),
         (Tree::Asked(b"parts", Kind::Wide, Value::Unlinked, 0), false),
         (
-            Tree::Asked(b"parts", Kind::Wide, Value::CountOfRows(1), 0),
+            Tree::Asked(b"parts", Kind::Wide, Value::CountOfRows(&[b"parts"]), 0),
             true,
         ),
         (
-            Tree::Asked(b"parts", Kind::Wide, Value::CountOfRows(2), 0),
+            Tree::Asked(
+                b"parts",
+                Kind::Wide,
+                Value::CountOfRows(&[b"parts", b"parts"]),
+                0,
+            ),
             false,
         ),
     ];

@@ -1,11 +1,8 @@
-use crate::changes::{attrs, named, try_lay};
+use crate::made::{attr, compared, created, empty, info, key, keys, lay, named, places, target};
 use crate::shown::{put, put_qual, put_terms, put_vars};
 use crate::tower::Tower;
 use am_traits::Base;
-use calculus::{
-    Attr, CmpOp, DbChange, Domain, Kind, List, Name, Permit, QQual, QTerm, Query, RelInfo, RelKey,
-    Spec, Target,
-};
+use calculus::{CmpOp, DbChange, Domain, Kind, Name, Permit, QQual, QTerm, Query, RelKey, Spec};
 use plain_base::DbPlain;
 use std::alloc::Global;
 use std::process::Abort;
@@ -38,75 +35,21 @@ fn made(said: Term) -> QTerm {
     }
 }
 
-fn compared(said: (Term, CmpOp, Term)) -> QQual {
+fn condition(said: (Term, CmpOp, Term)) -> QQual {
     let (left, op, right) = said;
-    QQual::Cmp {
-        op,
-        left: made(left),
-        right: made(right),
-    }
-}
-
-pub(crate) fn key<R: Abort>(rt: &R, alloc: Global, name: &[u8]) -> RelKey {
-    RelKey {
-        owner: named(rt, alloc, b"ann"),
-        name: named(rt, alloc, name),
-    }
-}
-
-pub(crate) fn keys<R: Abort>(rt: &R, alloc: Global, names: &[&[u8]]) -> List<RelKey> {
-    let mut keys = Vec::new(alloc);
-    for name in names {
-        keys.push(key(rt, alloc, name)).expect(rt, "memory");
-    }
-    List::of(keys)
-}
-
-fn targets<R: Abort>(rt: &R, alloc: Global, said: &Said) -> List<Target> {
-    let mut targets = Vec::new(alloc);
-    let target = Target {
-        name: named(rt, alloc, b"pnum"),
-        kind: said.kind,
-        term: made(said.target),
-    };
-    targets.push(target).expect(rt, "memory");
-    List::of(targets)
-}
-
-pub(crate) fn attr<R: Abort>(rt: &R, alloc: Global, kind: Kind) -> List<Attr> {
-    let mut attrs = Vec::new(alloc);
-    let name = named(rt, alloc, b"pnum");
-    attrs.push(Attr { name, kind }).expect(rt, "memory");
-    List::of(attrs)
+    compared(made(left), op, made(right))
 }
 
 /// The view of this name.
 fn viewed<R: Abort>(rt: &R, alloc: Global, name: &[u8], said: &Said) -> DbChange {
+    let key = key(rt, alloc, name);
     DbChange::View {
-        info: RelInfo {
-            key: key(rt, alloc, name),
-            spec: Spec::View,
-            attrs: attr(rt, alloc, said.kind),
-            keys: List::of(Vec::new(alloc)),
-        },
+        info: info(alloc, key, Spec::View, attr(rt, alloc, said.kind)),
         query: Query {
             vars: keys(rt, alloc, said.over),
-            targets: targets(rt, alloc, said),
-            qual: compared(said.compared),
+            targets: target(rt, alloc, said.kind, made(said.target)),
+            qual: condition(said.compared),
         },
-    }
-}
-
-/// The relation `parts`, with three attributes and no rows.
-fn created<R: Abort>(rt: &R, alloc: Global) -> DbChange {
-    DbChange::Create {
-        info: RelInfo {
-            key: key(rt, alloc, b"parts"),
-            spec: Spec::Heap,
-            attrs: attrs(rt, alloc, &[b"pnum", b"qoh", b"price"]),
-            keys: List::of(Vec::new(alloc)),
-        },
-        rows: List::of(Vec::new(alloc)),
     }
 }
 
@@ -120,26 +63,16 @@ pub(crate) fn permit_of<R: Abort>(
     attrs: &[u8],
     part: i64,
 ) -> DbChange {
-    let mut places = Vec::new(alloc);
-    for place in attrs {
-        places.push(*place).expect(rt, "memory");
-    }
     DbChange::Permit {
         rel: key(rt, alloc, b"parts"),
         permit: Permit {
             number,
             ops,
-            attrs: List::of(places),
+            attrs: places(rt, alloc, attrs),
             user: Some(named(rt, alloc, b"bob")),
-            qual: compared((Term::Attr(0, 0), CmpOp::Eq, Term::Number(part))),
+            qual: condition((Term::Attr(0, 0), CmpOp::Eq, Term::Number(part))),
         },
     }
-}
-
-pub(crate) fn lay<R: Abort>(rt: &R, alloc: Global, base: &mut DbPlain, change: DbChange) {
-    let laid = try_lay(alloc, base, &change);
-    drop(change);
-    assert!(rt; laid.expect(rt, "an answer"));
 }
 
 /// The views of the database, each over those before it.
@@ -203,8 +136,9 @@ const VIEWS: [(&[u8], Said); 6] = [
 /// A database of ann's: `parts`, bob's permit to read the first two attributes of the parts that have the
 /// number 7, and the views.
 pub(crate) fn new_base<R: Abort>(rt: &R, alloc: Global) -> DbPlain {
-    let mut base = DbPlain::new(alloc, named(rt, alloc, b"ann"));
-    lay(rt, alloc, &mut base, created(rt, alloc));
+    let mut base = empty(rt, alloc);
+    let parts = created(rt, alloc, b"parts", &[b"pnum", b"qoh", b"price"]);
+    lay(rt, alloc, &mut base, parts);
     lay(rt, alloc, &mut base, permit_of(rt, alloc, 1, 1, &[0, 1], 7));
     for (name, said) in &VIEWS {
         lay(rt, alloc, &mut base, viewed(rt, alloc, name, said));

@@ -1,10 +1,10 @@
 //! Copies of replies, of changes of rows, of what they are made of, and of trees.
 
-use crate::made::{boxed, has_copy, is_copied, named, one, row, set, text};
+use crate::made::{boxed, has_copy, is_copied, named, one, set, table, text};
 use crate::queries::{asked, update};
 use crate::requests::{change_of_base, creation, file, import, permission, ruling};
 use crate::statements::{copying, retrieval};
-use calculus::{AggTable, Change, Column, Kind, Pair, Probe, Reply, Row, Table, Value};
+use calculus::{Change, Column, Kind, Pair, Probe, Reply, Row, Table, Value};
 use std::alloc::Global;
 use std::process::Abort;
 use std::test::*;
@@ -21,17 +21,11 @@ fn reply(rt: &impl Abort, alloc: Global) -> Reply {
     Reply::Tables(one(rt, alloc, Table { columns, rows }))
 }
 
-fn aggregates(rt: &impl Abort, alloc: Global) -> AggTable {
-    let group = (row(rt, alloc, &[1]), Some(Value::Int(1)));
-    let (groups, empty) = (one(rt, alloc, group), Value::Int(0));
-    AggTable { groups, empty }
-}
-
 #[test]
 fn replies_and_tables_are_copied(rt: HostRuntime) {
     let alloc = rt.alloc();
     assert!(rt; is_copied(&rt, alloc, reply(&rt, alloc)));
-    assert!(rt; is_copied(&rt, alloc, aggregates(&rt, alloc)));
+    assert!(rt; has_copy(alloc, table(&rt, alloc, 1, Some(1))));
     let equal = one(&rt, alloc, (1, Value::Int(2)));
     assert!(rt; is_copied(&rt, alloc, Probe { equal }));
 }

@@ -1,6 +1,8 @@
 //! What the tests make their values of.
 
-use calculus::{Boxed, Chars, List, Name, RelKey, Row, RowSet, Text, TryCopy, Value};
+use calculus::{
+    AggTable, Boxed, Chars, Groups, List, Name, RelKey, Row, RowSet, Text, TryCopy, Value,
+};
 use std::alloc::Global;
 use std::process::Abort;
 use std::test::*;
@@ -68,6 +70,27 @@ pub fn rows(rt: &impl Abort, alloc: Global, lists: &[&[i64]]) -> Vec<Row> {
         rows.push(row(rt, alloc, numbers)).expect(rt, "no memory");
     }
     rows
+}
+
+/// The group at this number, and what an aggregate gives there.
+fn group(rt: &impl Abort, alloc: Global, by: i64, value: Option<i64>) -> (Row, Option<Value>) {
+    let value = match value {
+        Some(number) => Some(Value::Int(number)),
+        None => None,
+    };
+    (row(rt, alloc, &[by]), value)
+}
+
+/// A table with one group, at this number, which has this value, and 9 elsewhere.
+pub fn table(rt: &impl Abort, alloc: Global, by: i64, value: Option<i64>) -> AggTable {
+    let mut groups = Vec::new(alloc);
+    groups
+        .push(group(rt, alloc, by, value))
+        .expect(rt, "no memory");
+    AggTable {
+        groups: Groups::of(groups),
+        empty: Value::Int(9),
+    }
 }
 
 /// The set of the rows of these numbers.

@@ -1,6 +1,6 @@
 //! The values of terms.
 
-use crate::made::{boxed, chars, key, one, row};
+use crate::made::{boxed, chars, key, one, row, table};
 use calculus::{AggOp, AggSource, AggTable, ArithOp, Boxed, QAgg, QQual, QTerm, Value};
 use scalar_eval::{Assigned, value_of};
 use std::alloc::Global;
@@ -191,16 +191,6 @@ fn counted(rt: &impl Abort, alloc: Global, slot: u16) -> Boxed<QTerm> {
     boxed(rt, alloc, QTerm::Agg(boxed(rt, alloc, agg)))
 }
 
-/// A table with one group, at 1, which has this value, and 9 elsewhere.
-fn table(rt: &impl Abort, alloc: Global, value: Option<i64>) -> AggTable {
-    let value = match value {
-        Some(number) => Some(Value::Int(number)),
-        None => None,
-    };
-    let (groups, empty) = (one(rt, alloc, (row(rt, alloc, &[1]), value)), Value::Int(9));
-    AggTable { groups, empty }
-}
-
 /// What the count at a slot is for a row of this number, where the only table has this value at 1.
 fn counted_at(
     rt: &impl Abort,
@@ -209,7 +199,7 @@ fn counted_at(
     value: Option<i64>,
     linked: i64,
 ) -> Option<i64> {
-    let tables = one(rt, alloc, table(rt, alloc, value));
+    let tables = one(rt, alloc, table(rt, alloc, 1, value));
     let mut rows = Assigned::new(alloc);
     push(rt, alloc, &mut rows, linked);
     let number = number_over(rt, alloc, counted(rt, alloc, slot), &rows, tables.items());

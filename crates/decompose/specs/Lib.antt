@@ -1,4 +1,2 @@
-pub mod Causes
 pub mod Conditions
-pub mod Given
 pub mod Standing

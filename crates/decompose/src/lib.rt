@@ -3,18 +3,15 @@
 
 mod answers;
 mod conditions;
-mod fault;
 mod laws;
 mod left;
-mod scanned;
 mod sets;
 mod used;
 
 pub use answers::answer;
 pub use calculus::OutOfMemory;
-pub use fault::QueryFault;
 pub use laws::no_aggregates_need_no_tables;
 pub use left::rows_passing;
-pub use scanned::rows_of;
+pub use ovqp::{QueryFault, rows_of};
 pub use sets::rows_of_variable;
 pub use used::is_used_at;

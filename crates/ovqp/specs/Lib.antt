@@ -1,2 +1,4 @@
 pub mod Causes
+pub mod Given
 pub mod Parts
+pub mod ScanCauses

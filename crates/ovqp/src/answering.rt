@@ -10,17 +10,17 @@ ghost use Rattle.calculus.specs.Targets.{rows_given, some_lacks};
 ghost use Rattle.calculus.specs.Term.{no_aggs};
 ghost use Rattle.calculus.specs.VariableRows.{rows_of};
 ghost use Rattle.calculus.specs.Who.{Free};
-ghost use Rattle.decompose.specs.Causes.{HasCause};
 ghost use Rattle.quel_meaning.specs.FitQueries.{is_kept};
 ghost use Rattle.plain_product.specs.Causes.{IsCause};
+ghost use Rattle.ovqp.specs.Causes.{HasCause};
 ghost use Rattle.ovqp.specs.Parts.{IsQueryOf, alone};
 
+use crate::fault::QueryFault;
 use crate::giving::give_of;
 use crate::scanning::given_by_scan;
 use crate::used::is_used;
 use am_traits::Base;
 use calculus::{QQual, RelKey, Row, RowSet, Target};
-use decompose::QueryFault;
 use plain_product::ProductFault;
 use std::alloc::Global;
 
@@ -60,7 +60,7 @@ pub fn one_variable<B: Base>(
     ensures same { B.left base.new ≡ B.left base.old }
     ensures cause { (q : Query) → IsQueryOf q rel.now qual.now targets.now → HasCause no_aggs q (B.database base.old) (B.faults base.old) (B.faults base.new) result }
 {
-    if is_used(qual, targets) {
+    if is_used(qual, targets, 0) {
         given_by_scan(alloc, base, rel, qual, targets)
     } else {
         Ok(given_once(alloc, qual, targets)?)

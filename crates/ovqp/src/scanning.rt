@@ -9,12 +9,12 @@ ghost use Rattle.calculus.specs.Term.{no_aggs};
 ghost use Rattle.plain_product.specs.Walk.{Gives};
 ghost use Rattle.am_traits.specs.Scans.{first_place};
 ghost use Rattle.ovqp.specs.Parts.{IsQueryOf, alone};
-ghost use Rattle.ovqp.specs.Causes.{HasCause};
+ghost use Rattle.ovqp.specs.ScanCauses.{HasCause};
 
+use crate::fault::QueryFault;
 use crate::giving::give_of;
 use am_traits::{Base, BaseFault};
 use calculus::{List, Place, Probe, QQual, RelKey, Row, RowSet, Target};
-use decompose::QueryFault;
 use std::alloc::Global;
 
 /// Puts what each row under a key gives into an empty list, by one scan.

@@ -1,20 +1,17 @@
 -- What a statement asks for that is built here can be carried out.
-use Rattle.std.proofs.Common.{◌≡◌, refl, sym, ◌∙◌, ap, ℕ, Bool, true, List, [], ◌∷◌, IsTrue, Some, None}
-use Rattle.std.specs.Prelude.{All}
+use Rattle.std.proofs.Common.{◌≡◌, refl, sym, ◌∙◌, ap, ℕ, Bool, true, List, [], ◌∷◌, Some, None}
 use Rattle.std.specs.List.{list_all}
 use Rattle.std.proofs.lemmas.List.Elements.{All-nil, All-cons}
 use Rattle.calculus.specs.declared.request.Checked.{Checked}
 use Rattle.calculus.specs.declared.request.Checked.TheVariants as checked
 use Rattle.calculus.specs.declared.request.Asked.{Asked}
-use Rattle.calculus.specs.declared.request.Update.{Update}
 use Rattle.calculus.specs.declared.statement.Statement.{Statement}
 use Rattle.calculus.specs.declared.statement.Statement.TheVariants as statement
 use Rattle.calculus.specs.Database.{Db}
-use Rattle.calculus.specs.QueryParts.{vars_of}
 use Rattle.calculus.specs.Who.{Who, asker_of, asks}
 use Rattle.quel_causes.specs.Judged.{is_judged}
 use Rattle.quel_meaning.specs.Fit.{suits, fits, is_fit}
-use Rattle.quel_meaning.specs.FitQueries.{is_kept, kept_alone, reads_fit, asked_fits}
+use Rattle.quel_meaning.specs.FitQueries.{kept_alone, asked_fits}
 use Rattle.quel_meaning.specs.Meaning.{ruled_tree}
 use Rattle.quel_meaning.specs.Ranges.{Ranges}
 use Rattle.quel_meaning.specs.Resolved.{tree_of, resolved}
@@ -24,10 +21,12 @@ use Rattle.quel_meaning.proofs.Accepted.{scope, accepted}
 use Rattle.quel_meaning.proofs.Each.{left, right}
 use Rattle.quel_meaning.proofs.Judged.{judged_resolved}
 use Rattle.quel_resolve.specs.Built.{is_built}
-use Rattle.stage_parse.specs.Checks.{HasNoAggregates, IsChecked}
+use Rattle.query_tables.specs.Causes.{CanBeAnswered}
+use Rattle.stage_parse.specs.Checks.{IsChecked}
 use Rattle.utilities.specs.Built.{is_built as is_planned}
 use Rattle.view_text.specs.PutIn.{put_in_tree}
-use Rattle.plain_statements.specs.Doable.{AreDoable, IsDoableUpdate, IsDoable}
+use Rattle.plain_statements.specs.Doable.{AreDoable, IsDoable}
+use Rattle.plain_statements.proofs.Answered.{can_be_answered}
 
 -- ---- the kind of its utility
 
@@ -61,41 +60,30 @@ kind_stays db who (checked.Answer asked) = refl
 kind_stays db who (checked.Update u) = refl
 kind_stays db who (checked.Utility work) = refl
 
-judged_here : (stmt : Statement) → is_built stmt ≡ true → is_judged stmt ≡ true
-unfolding is_built
-judged_here stmt h = left _ _ h
-
 checked_planned : (db : Db) (user : List ℕ) (ranges : Ranges) (stmt : Statement) (tree : Checked) → is_built stmt ≡ true → IsChecked db user ranges stmt tree
     → work_is_planned tree ≡ true
 checked_planned db user ranges stmt tree built c =
     let a = accepted db user ranges stmt c.asked (judged_resolved resolved db (asker_of user) ranges stmt c.asked c.judged) in
     ap work_is_planned c.put_in
-    ∙ kind_stays db (asks user) c.asked ∙ ap work_is_planned (sym a.is) ∙ statement_planned (scope db user ranges) stmt (judged_here stmt built)
+    ∙ kind_stays db (asks user) c.asked ∙ ap work_is_planned (sym a.is) ∙ statement_planned (scope db user ranges) stmt built
 
 -- ---- a fit tree
 
 module _ (db : Db) (user : List ℕ) where
-  one_read : (a : Asked) → asked_fits (kept_alone db) db a ≡ true → IsTrue (list_all (is_kept db) (vars_of a.query))
-  unfolding asked_fits reads_fit
-  one_read a h = left _ _ (left _ _ h)
+  one_answered : (a : Asked) → asked_fits (kept_alone db) db a ≡ true → CanBeAnswered db a.query
+  unfolding asked_fits
+  one_answered a h = can_be_answered db a.query (left _ _ h)
 
-  all_read : (asked : List Asked) → list_all (asked_fits (kept_alone db) db) asked ≡ true → All (λ a. IsTrue (list_all (is_kept db) (vars_of a.query))) asked
-  all_read [] h = All-nil _
-  all_read (a ∷ asked) h =
-      All-cons (λ (x : Asked). IsTrue (list_all (is_kept db) (vars_of x.query))) a asked (one_read a (left _ _ h)) (all_read asked (right (asked_fits (kept_alone db) db a) _ h))
+  answer_doable : (asked : List Asked) → list_all (asked_fits (kept_alone db) db) asked ≡ true → AreDoable db asked
+  answer_doable [] h = All-nil _
+  answer_doable (a ∷ asked) h =
+      All-cons (λ (x : Asked). CanBeAnswered db x.query) a asked (one_answered a (left _ _ h)) (answer_doable asked (right (asked_fits (kept_alone db) db a) _ h))
 
-  answer_doable : (asked : List Asked) → is_fit db user (checked.Answer asked) ≡ true → HasNoAggregates (checked.Answer asked) → AreDoable db asked
-  unfolding fits suits HasNoAggregates
-  answer_doable asked h plain = record { read = all_read asked (right (tree_is_spelled (checked.Answer asked)) _ h); plain = plain }
-
-  update_doable : (u : Update) → is_fit db user (checked.Update u) ≡ true → HasNoAggregates (checked.Update u) → IsDoableUpdate db u
-  unfolding fits suits tree_is_spelled HasNoAggregates
-  update_doable u h plain = record { spelled = left _ _ h; fits = right (tree_is_spelled (checked.Update u)) _ h; plain = plain }
-
-  tree_doable : (tree : Checked) → is_fit db user tree ≡ true → HasNoAggregates tree → work_is_planned tree ≡ true → IsDoable db user tree
-  tree_doable (checked.Answer asked) h plain planned = answer_doable asked h plain
-  tree_doable (checked.Update u) h plain planned = update_doable u h plain
-  tree_doable (checked.Utility work) h plain planned = record { fit = h; built = planned }
+  tree_doable : (tree : Checked) → is_fit db user tree ≡ true → work_is_planned tree ≡ true → IsDoable db user tree
+  unfolding fits suits tree_is_spelled
+  tree_doable (checked.Answer asked) h planned = answer_doable asked (right (tree_is_spelled (checked.Answer asked)) _ h)
+  tree_doable (checked.Update u) h planned = record { spelled = left _ _ h; fits = right (tree_is_spelled (checked.Update u)) _ h }
+  tree_doable (checked.Utility work) h planned = record { fit = h; built = planned }
 
 pub checked_doable : (db : Db) (user : List ℕ) (ranges : Ranges) (stmt : Statement) (tree : Checked) → is_built stmt ≡ true → IsChecked db user ranges stmt tree → IsDoable db user tree
-checked_doable db user ranges stmt tree built c = tree_doable db user tree c.fit c.plain (checked_planned db user ranges stmt tree built c)
+checked_doable db user ranges stmt tree built c = tree_doable db user tree c.fit (checked_planned db user ranges stmt tree built c)

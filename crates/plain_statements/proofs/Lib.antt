@@ -1,4 +1,5 @@
 pub mod Outcomes
+pub mod Answered
 pub mod Carried
 pub mod Effects
 pub mod Planned

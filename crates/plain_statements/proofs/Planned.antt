@@ -1,6 +1,5 @@
 -- What is planned is lawful.
-use Rattle.std.proofs.Common.{◌≡◌, refl, ap, subst, ℕ, nat_eq, nat_le, true, false, IsTrue, List, Result, Ok, Err}
-use Rattle.std.specs.List.{list_all}
+use Rattle.std.proofs.Common.{◌≡◌, refl, ap, subst, ℕ, nat_eq, nat_le, true, false, List, Result, Ok, Err}
 use Rattle.calculus.specs.declared.change.DbChange.{DbChange}
 use Rattle.calculus.specs.declared.request.Update.{Update}
 use Rattle.calculus.specs.declared.request.UpdateOp.TheVariants as op
@@ -20,10 +19,8 @@ use Rattle.quel_meaning.proofs.Each.{left, right}
 use Rattle.plan_laws.specs.Fitting.{is_copy}
 use Rattle.plan_laws.proofs.Created.{nothing_ranges}
 use Rattle.update_change.specs.Changes.{MakesNew}
-use Rattle.calculus.specs.QueryParts.{vars_of}
 use Rattle.calculus.specs.Replacement.{updated}
 use Rattle.calculus.specs.Who.{Free}
-use Rattle.quel_meaning.specs.FitQueries.{is_kept}
 use Rattle.quel_meaning.specs.SpelledTree.{made_key_is_spelled, update_is_spelled}
 use Rattle.plan_laws.proofs.FitUtilities.{new_is_free, fitting_plan_lawful}
 use Rattle.update_laws.proofs.Fitted.{fitting_update_lawful}
@@ -31,6 +28,8 @@ use Rattle.plain_statements.specs.declared.stopped.Stopped.{Stopped}
 use Rattle.plain_statements.specs.declared.stopped.Stopped.TheVariants.{No, OutOfMemory}
 use Rattle.plain_statements.specs.Plans.{Plans}
 use Rattle.plain_statements.specs.Doable.{IsDoableUpdate, IsDoableWork}
+use Rattle.plain_statements.proofs.Answered.{can_be_answered}
+use Rattle.query_tables.specs.Causes.{CanBeAnswered}
 use Rattle.utilities.specs.Built.{is_built}
 
 -- ---- updates
@@ -51,9 +50,9 @@ module _ (db : Db) (u : Update) where
       let f = new_is_free db u.rel named (left (is_new db u.rel.owner u.rel.name) _ (right (nat_eq u.old 255) _ fits)) in
       ap kept_rows (nothing_ranges db u.rel f.named f.unused)
 
-  pub vars_kept : IsDoableUpdate db u → IsTrue (list_all (is_kept db) (vars_of u.query))
-  unfolding update_fits reads_fit
-  vars_kept doable = left _ _ (left _ _ doable.fits)
+  pub update_answered : IsDoableUpdate db u → CanBeAnswered db u.query
+  unfolding update_fits
+  update_answered doable = can_be_answered db u.query (left _ _ doable.fits)
 
   pub update_lawful : IsDatabase db → IsDoableUpdate db u → (result : Result DbChange Stopped)
       → Plans (λ change. updated db Free u ≡ Ok change) (λ number. updated db Free u ≡ Err number) result

@@ -1,5 +1,5 @@
 -- The number of a fault is that of the statement's cause.
-use Rattle.std.proofs.Common.{◌≡◌, ◌∙◌, sym, subst, ℕ, List, [], Some, Err}
+use Rattle.std.proofs.Common.{◌≡◌, ◌∙◌, sym, subst, ℕ, List, Some, Err}
 use Rattle.std.specs.Prelude.{Result, Ok, IsErr, IsErrAnd}
 use Rattle.std.specs.declared.option.Option.{Option}
 use Rattle.calculus.specs.declared.change.Pair.{Pair}
@@ -8,12 +8,10 @@ use Rattle.calculus.specs.declared.request.Update.{Update}
 use Rattle.calculus.specs.declared.reply.Reply.{Reply}
 use Rattle.calculus.specs.declared.reply.Reply.TheVariants.{Refused}
 use Rattle.calculus.specs.Database.{Db}
-use Rattle.calculus.specs.QueryParts.{query_aggregates}
 use Rattle.calculus.specs.Replacement.{updated}
-use Rattle.calculus.specs.Table.{tabled}
 use Rattle.calculus.specs.Who.{Free}
-use Rattle.decompose.specs.declared.fault.QueryFault.{QueryFault}
-use Rattle.decompose.specs.declared.fault.QueryFault.TheVariants as query
+use Rattle.ovqp.specs.declared.fault.QueryFault.{QueryFault}
+use Rattle.ovqp.specs.declared.fault.QueryFault.TheVariants as query
 use Rattle.stage_proc.specs.declared.fault.PairFault.{PairFault}
 use Rattle.stage_proc.specs.declared.fault.PairFault.TheVariants as pair
 use Rattle.stage_proc.specs.Causes as pairing
@@ -52,24 +50,24 @@ change_stops db u ps told before now change.OutOfMemory e new are may = tt
 
 -- what refuses its pairs
 pub pair_stops : (db : Db) (u : Update) (told : Option Db) (before now : ℕ) (fault : PairFault)
-    → told ≡ Some db → query_aggregates u.query ≡ [] → pairing.MayFail (tabled []) u told before now fault → RefusedBy (λ number. updated db Free u ≡ Err number) (pair_stop fault)
-pair_stops db u told before now (pair.NotFit row) e plain may = let unfit = may db e in unfit_refused db u (unfit.plain_values plain) (unfit.plain_fit plain)
-pair_stops db u told before now (pair.Query (query.NoValue at)) e plain may = lacking_refused db u ((may db e).plain plain)
-pair_stops db u told before now (pair.Query (query.Base fault)) e plain may = tt
-pair_stops db u told before now (pair.Query query.OutOfMemory) e plain may = tt
-pair_stops db u told before now pair.OutOfMemory e plain may = tt
+    → told ≡ Some db → pairing.MayFailIn u told before now fault → RefusedBy (λ number. updated db Free u ≡ Err number) (pair_stop fault)
+pair_stops db u told before now (pair.NotFit row) e may = let unfit = may db e in unfit_refused db u unfit.none_lacks unfit.unfit
+pair_stops db u told before now (pair.Query (query.NoValue at)) e may = lacking_refused db u (may db e).somewhere
+pair_stops db u told before now (pair.Query (query.Base fault)) e may = tt
+pair_stops db u told before now (pair.Query query.OutOfMemory) e may = tt
+pair_stops db u told before now pair.OutOfMemory e may = tt
 
 -- what refuses queries
-query_stops : (db : Db) (asked : List Asked) (told : Option Db) (before now : ℕ) (fault : QueryFault) → told ≡ Some db → asking.ArePlain asked → asking.MayFail asked told before now fault
+query_stops : (db : Db) (asked : List Asked) (told : Option Db) (before now : ℕ) (fault : QueryFault) → told ≡ Some db → asking.MayFail (λ db at. asking.OneLacksIn db asked at) told before now fault
     → RefusedBy (λ number. Refused (refusal number) ≡ answer_reply db Free asked) (query_stop fault)
-query_stops db asked told before now (query.NoValue at) e plain may = queries_lack db asked ((may db e).plain plain)
-query_stops db asked told before now (query.Base fault) e plain may = tt
-query_stops db asked told before now query.OutOfMemory e plain may = tt
+query_stops db asked told before now (query.NoValue at) e may = queries_lack db asked (may db e).somewhere
+query_stops db asked told before now (query.Base fault) e may = tt
+query_stops db asked told before now query.OutOfMemory e may = tt
 
 pub query_answered : (db : Db) (asked : List Asked) (told : Option Db) (before now : ℕ) (fault : QueryFault) (stopped : Stopped) (reply : Reply)
-    → told ≡ Some db → asking.ArePlain asked → asking.MayFail asked told before now fault → stopped ≡ query_stop fault
+    → told ≡ Some db → asking.MayFail (λ db at. asking.OneLacksIn db asked at) told before now fault → stopped ≡ query_stop fault
     → (number : ℕ) × (stopped ≡ No number) × (reply ≡ Refused (refusal number)) → reply ≡ answer_reply db Free asked
-query_answered db asked told before now fault stopped reply e plain may is w =
+query_answered db asked told before now fault stopped reply e may is w =
     w.2
     ∙ subst (RefusedBy (λ number. Refused (refusal number) ≡ answer_reply db Free asked)) (sym is ∙ w.1)
-    (query_stops db asked told before now fault e plain may)
+    (query_stops db asked told before now fault e may)

@@ -1,6 +1,6 @@
 -- The number that refuses a statement where a part of its work answers a fault.
-use Rattle.decompose.specs.declared.fault.QueryFault.{QueryFault}
-use Rattle.decompose.specs.declared.fault.QueryFault.TheVariants as query
+use Rattle.ovqp.specs.declared.fault.QueryFault.{QueryFault}
+use Rattle.ovqp.specs.declared.fault.QueryFault.TheVariants as query
 use Rattle.stage_proc.specs.declared.fault.PairFault.{PairFault}
 use Rattle.stage_proc.specs.declared.fault.PairFault.TheVariants as pair
 use Rattle.update_change.specs.declared.fault.UpdateFault.{UpdateFault}

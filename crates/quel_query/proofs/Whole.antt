@@ -1,36 +1,29 @@
 -- The query of a statement, from its parts.
-use Rattle.std.proofs.Common.{◌≡◌, refl, sym, ap, ◌∙◌, ℕ, Bool, true, false, not, ◌||◌, ◌&&◌, List, [], ◌∷◌, ◌++◌, map}
-use Rattle.std.specs.List.{filter, flat_map, list_any, list_all}
+use Rattle.std.proofs.Common.{◌≡◌, refl, sym, ap, ◌∙◌, subst, ℕ, ◌+◌, ◌≤◌, arith, Bool, true, false, ◌||◌, ◌&&◌, List, [], ◌∷◌, ◌++◌, map, length}
+use Rattle.std.specs.List.{flat_map, list_all}
 use Rattle.std.specs.Str.{bytes_eq}
 use Rattle.std.proofs.lemmas.List.Folds.{list_any-append, list_all-append}
 use Rattle.calculus.proofs.Forms.{query_is}
-use Rattle.calculus.specs.declared.query.QQual.{QQual}
 use Rattle.calculus.specs.declared.query.Query.{roll-Query}
-use Rattle.calculus.specs.declared.query.RelKey.{RelKey}
 use Rattle.calculus.specs.declared.query.Target.{Target}
 use Rattle.calculus.specs.declared.schema.RelInfo.{RelInfo}
 use Rattle.calculus.specs.declared.statement.Item.{Item}
 use Rattle.calculus.specs.declared.statement.Statement.{Statement}
-use Rattle.calculus.specs.Lists.{is_any}
 use Rattle.calculus.specs.Tree.{query}
-use Rattle.quel_check.specs.Known.{Knows, is_among, are_among}
-use Rattle.quel_check.proofs.AggregateForms.{any_joined}
-use Rattle.quel_check.proofs.OnceMore.{still_there}
-use Rattle.quel_meaning.proofs.Keys.{bytes_same}
+use Rattle.quel_check.specs.Known.{Knows, inner_vars, is_among, are_among, is_over}
+use Rattle.quel_check.proofs.Among.{all_into, inner_many, kept, over_inner, themselves}
+use Rattle.quel_check.proofs.InnerForms.{length_joined}
+use Rattle.quel_check.proofs.TreeForms.{both_so}
+use Rattle.quel_meaning.specs.Aggregates.{aggregates_stand}
 use Rattle.quel_meaning.specs.Scope.{Scope}
 use Rattle.quel_meaning.specs.WrittenParts.{once, vars_in, first_vars, outer_vars_in_item, outer_vars_in_qual, items_of, where_of, text_aggregates, aggregates_in_item, aggregates_in_qual}
 use Rattle.quel_meaning.specs.WrittenTree.{Vars, key_over}
 use Rattle.quel_meaning.specs.WrittenQuery.{targets_from, where_tree, query_of}
-use Rattle.quel_query.specs.Targets.{Puts, is_plain}
+use Rattle.quel_query.specs.Targets.{Puts, is_sound}
 use Rattle.quel_query.proofs.KindsKnown.{keys_known}
-use Rattle.quel_query.proofs.Putting.{both_so}
 
 both : (a b : Bool) → a ≡ true → b ≡ true → (a && b) ≡ true
 both a b e f = λ i. e i && f i
-
-neither : (a b : Bool) → (a || b) ≡ false → (a ≡ false) × (b ≡ false)
-neither true b h = cc h
-neither false b h = (refl, h)
 
 or_first : (a b : Bool) → a ≡ true → (a || b) ≡ true
 or_first a b h = ap (λ c. c || b) h
@@ -41,52 +34,52 @@ or_later false b h = h
 
 -- ---- the variables of a target list are among those of its statement
 
-each_among : (ns all : Vars) → ((n : List ℕ) → is_among ns n ≡ true → is_among all n ≡ true) → are_among all ns ≡ true
-each_among [] all f = refl
-each_among (n ∷ ns) all f =
-    both _ _ (f n (or_first _ (is_among ns n) (bytes_same n n refl))) (each_among ns all (λ m h. f m (or_later (bytes_eq n m) (is_among ns m) h)))
-
-kept : (ns : Vars) (n : List ℕ) → is_among ns n ≡ true → is_among (once ns) n ≡ true
-kept [] n h = h
-kept (x ∷ ns) n h = go (bytes_eq x n) refl h (kept ns n)
-  where
-    go : (b : Bool) → bytes_eq x n ≡ b → (b || is_among ns n) ≡ true → (is_among ns n ≡ true → is_among (once ns) n ≡ true)
-        → (b || list_any (λ v. bytes_eq v n) (filter (λ v. not (bytes_eq v x)) (once ns))) ≡ true
-    go true e h later = refl
-    go false e h later = still_there x n e (once ns) ∙ later h
-
-inner : (xs ys zs : Vars) (n : List ℕ) → is_among ys n ≡ true → is_among (xs ++ (ys ++ zs)) n ≡ true
-inner xs ys zs n h =
+between : (xs ys zs : Vars) (n : List ℕ) → is_among ys n ≡ true → is_among (xs ++ (ys ++ zs)) n ≡ true
+between xs ys zs n h =
     list_any-append (λ v. bytes_eq v n) xs (ys ++ zs)
     ∙ or_later (is_among xs n) (is_among (ys ++ zs) n) (list_any-append (λ v. bytes_eq v n) ys zs ∙ or_first (is_among ys n) (is_among zs n) h)
 
+middle_among : (xs ys zs : Vars) → are_among (once (xs ++ (ys ++ zs))) ys ≡ true
+middle_among xs ys zs = all_into (is_among ys) (is_among (once (xs ++ (ys ++ zs)))) (λ n h. kept (xs ++ (ys ++ zs)) n (between xs ys zs n h)) ys (themselves ys)
+
 items_among : (s : Statement) → are_among (vars_in s) (flat_map outer_vars_in_item (items_of s)) ≡ true
 unfolding vars_in
-items_among s =
-    each_among (flat_map outer_vars_in_item (items_of s)) _
-    (λ n h. kept (first_vars s ++ (flat_map outer_vars_in_item (items_of s) ++ outer_vars_in_qual (where_of s))) n (inner (first_vars s) (flat_map outer_vars_in_item (items_of s)) (outer_vars_in_qual (where_of s)) n h))
+items_among s = middle_among (first_vars s) (flat_map outer_vars_in_item (items_of s)) (outer_vars_in_qual (where_of s))
 
-plain_each : (vars : Vars) (items : List Item) → are_among vars (flat_map outer_vars_in_item items) ≡ true → is_any (flat_map aggregates_in_item items) ≡ false
-    → list_all (is_plain vars) items ≡ true
-plain_each vars [] h none = refl
-plain_each vars (i ∷ items) h none =
+-- ---- the items of a statement whose aggregates stand
+
+sound_each : (vars inner : Vars) (items : List Item) → are_among vars (flat_map outer_vars_in_item items) ≡ true → list_all (is_over inner) (flat_map aggregates_in_item items) ≡ true
+    → list_all (is_sound vars inner) items ≡ true
+sound_each vars inner [] h over = refl
+sound_each vars inner (i ∷ items) h over =
     let among = both_so _ _ (sym (list_all-append (is_among vars) (outer_vars_in_item i) (flat_map outer_vars_in_item items)) ∙ h) in
-    let alone = neither _ _ (sym (any_joined (aggregates_in_item i) (flat_map aggregates_in_item items)) ∙ none) in
-    both _ _ (both _ _ among.0 (ap not alone.0)) (plain_each vars items among.1 alone.1)
+    let stand = both_so _ _ (sym (list_all-append (is_over inner) (aggregates_in_item i) (flat_map aggregates_in_item items)) ∙ over) in
+    both _ _ (both _ _ among.0 stand.0) (sound_each vars inner items among.1 stand.1)
 
-plain_items : (vars : Vars) (s : Statement) → vars ≡ vars_in s → is_any (text_aggregates s) ≡ false → list_all (is_plain vars) (items_of s) ≡ true
-plain_items vars s e none =
-    plain_each vars (items_of s) (ap (λ vs. are_among vs (flat_map outer_vars_in_item (items_of s))) e ∙ items_among s)
-    (neither _ _ (sym (any_joined (flat_map aggregates_in_item (items_of s)) (aggregates_in_qual (where_of s))) ∙ none)).0
+items_sound : (scope : Scope) (s : Statement) → aggregates_stand scope s ≡ true → list_all (is_sound (vars_in s) (inner_vars s)) (items_of s) ≡ true
+items_sound scope s stand =
+    sound_each (vars_in s) (inner_vars s) (items_of s) (items_among s)
+    (both_so _ _ (sym (list_all-append (is_over (inner_vars s)) (flat_map aggregates_in_item (items_of s)) (aggregates_in_qual (where_of s))) ∙ over_inner scope s stand)).0
+
+items_few : (scope : Scope) (s : Statement) → aggregates_stand scope s ≡ true → length (inner_vars s) ≤ 256 → length (flat_map aggregates_in_item (items_of s)) ≤ 65535
+items_few scope s stand few =
+    let many : length (inner_vars s) ≡ length (text_aggregates s) = inner_many scope s stand in
+    let parts : length (text_aggregates s) ≡ length (flat_map aggregates_in_item (items_of s)) + length (aggregates_in_qual (where_of s)) =
+    length_joined (flat_map aggregates_in_item (items_of s)) (aggregates_in_qual (where_of s)) in
+    omega (arith, few, many, parts)
 
 -- ---- the query
 
-pub query_whole : (scope : Scope) (s : Statement) (vars : Vars) (infos : List RelInfo) (keys : List RelKey) (items : List Item) (targets : List Target) (qual : QQual)
-    → keys ≡ map (λ (info : RelInfo). info.key) infos → items ≡ items_of s → Puts vars infos items [] targets → vars ≡ vars_in s → Knows scope vars infos
-    → is_any (text_aggregates s) ≡ false → qual ≡ where_tree scope s → roll-Query (record { vars = keys; targets = targets; qual = qual }) ≡ query_of scope s
+-- the query of these parts is that of the statement
+pub query_whole : (scope : Scope) (s : Statement) (vars : Vars) (infos : List RelInfo) (inner : Vars) (inner_infos : List RelInfo) (items : List Item) (targets : List Target)
+    → items ≡ items_of s → Puts scope.db vars infos inner inner_infos 0 items [] targets → vars ≡ vars_in s → inner ≡ inner_vars s
+    → Knows scope vars infos → Knows scope inner inner_infos → aggregates_stand scope s ≡ true
+    → roll-Query (record { vars = map (λ (info : RelInfo). info.key) infos; targets = targets; qual = where_tree scope s }) ≡ query_of scope s
 unfolding query_of Puts
-query_whole scope s vars infos keys items targets qual ek ei puts ev k none eq =
-    let over : keys ≡ map (key_over scope) (vars_in s) = ek ∙ sym (keys_known scope vars infos k) ∙ ap (map (key_over scope)) ev in
-    let plain : list_all (is_plain vars) items ≡ true = ap (list_all (is_plain vars)) ei ∙ plain_items vars s ev none in
-    let found : targets ≡ targets_from scope (vars_in s) 0 (items_of s) = puts scope 0 k plain ∙ (λ i. targets_from scope (ev i) 0 (ei i)) in
-    query_is keys targets qual ∙ (λ i. query (over i) (found i) (eq i))
+query_whole scope s vars infos inner inner_infos items targets ei puts ev en k ki stand =
+    let over : map (λ (info : RelInfo). info.key) infos ≡ map (key_over scope) (vars_in s) = sym (keys_known scope vars infos k) ∙ ap (map (key_over scope)) ev in
+    let sound : list_all (is_sound vars inner) items ≡ true = (λ i. list_all (is_sound (ev i) (en i)) (ei i)) ∙ items_sound scope s stand in
+    let few : length (flat_map aggregates_in_item items) ≤ 65535 =
+    subst (λ is. length (flat_map aggregates_in_item is) ≤ 65535) (sym ei) (items_few scope s stand (subst (λ (vs : Vars). length vs ≤ 256) en ki.few_vars)) in
+    let found : targets ≡ targets_from scope (vars_in s) 0 (items_of s) = puts scope refl k ki sound (omega (arith, few)) ∙ (λ i. targets_from scope (ev i) 0 (ei i)) in
+    query_is (map (λ (info : RelInfo). info.key) infos) targets (where_tree scope s) ∙ (λ i. query (over i) (found i) (where_tree scope s))

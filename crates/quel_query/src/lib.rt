@@ -1,4 +1,4 @@
-//! What statements without aggregates ask for: their queries, their updates and their trees.
+//! What statements ask for: their queries, their updates and their trees.
 #![tactic(auto)]
 
 mod known;

@@ -1,14 +1,12 @@
 -- Which statements are resolved so far.
-use Rattle.std.specs.Prelude.{Bool, true, false, not, ◌&&◌}
-use Rattle.calculus.specs.Lists.{is_any}
+use Rattle.std.specs.Prelude.{Bool, true, false}
 use Rattle.calculus.specs.declared.statement.Statement.{Statement}
 use Rattle.calculus.specs.declared.statement.Statement.TheVariants as statement
 use Rattle.quel_causes.specs.Judged.{is_judged}
-use Rattle.quel_meaning.specs.WrittenParts.{text_aggregates}
 
--- a declaration of a variable, a `retrieve`, an `append`, a `replace`, a `delete`, a `create`, a definition of a view, of a permit or of a rule, or permits or rules that go, without aggregates
-unfoldable pub is_built : Statement → Bool
-is_built s = is_judged s && not (is_any (text_aggregates s))
+-- a declaration of a variable, a `retrieve`, an `append`, a `replace`, a `delete`, a `create`, a definition of a view, of a permit or of a rule, or permits or rules that go
+abbrev pub is_built : Statement → Bool
+is_built s = is_judged s
 
 -- a declaration of a variable
 abbrev pub is_range : Statement → Bool

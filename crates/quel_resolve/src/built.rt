@@ -1,14 +1,15 @@
 //! Which statements are resolved so far.
 
 ghost use Rattle.std.specs.Prelude.{◌≡◌};
-ghost use Rattle.quel_causes.specs.Judged.{is_judged};
 ghost use Rattle.quel_resolve.specs.Built.{changes_rows, is_built, is_range};
 
 use calculus::Statement;
-use quel_check::has_aggregate;
 
-fn is_judged(s: &Statement) -> bool
-    ensures { result ≡ is_judged s.now }
+/// Whether a statement is of a kind that is resolved so far: a declaration of a variable, a `retrieve`,
+/// an `append`, a `replace`, a `delete`, a `create`, a definition of a view, of a permit or of a rule, or
+/// permits or rules that go. Takes no memory.
+pub fn is_built(s: &Statement) -> bool
+    ensures { result ≡ is_built s.now }
 {
     match s {
         Statement::Range { .. } => true,
@@ -29,16 +30,6 @@ fn is_judged(s: &Statement) -> bool
         Statement::Permit { .. } => true,
         Statement::Rule { .. } => true,
     }
-}
-
-/// Whether a statement is of a kind that is resolved so far, and holds no aggregate: a declaration of
-/// a variable, a `retrieve`, an `append`, a `replace`, a `delete`, a `create`, a definition of a view, of
-/// a permit or of a rule, or permits or rules that go. Takes no memory.
-#[tactic(auto, unfolding(crate::specs::Built::is_built))]
-pub fn is_built(s: &Statement) -> bool
-    ensures { result ≡ is_built s.now }
-{
-    is_judged(s) && !has_aggregate(s)
 }
 
 /// Whether a statement declares a variable.

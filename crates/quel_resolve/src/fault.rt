@@ -9,7 +9,7 @@ use calculus::OutOfMemory;
 /// Why a statement has no tree.
 #[derive(Clone, Copy)]
 pub enum CheckFault {
-    /// The statement is of a kind that isn't resolved yet, or it holds an aggregate.
+    /// The statement is of a kind that isn't resolved yet.
     NotBuilt,
     /// The number of what refuses the statement.
     No(u8),

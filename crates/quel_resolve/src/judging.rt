@@ -3,6 +3,7 @@
 ghost use Rattle.std.specs.Prelude.{◌≡◌, Option, Some, None, true, option_copied, option_map};
 ghost use Rattle.calculus.specs.Replacement.{first_cause};
 ghost use Rattle.quel_causes.specs.Judged.{IsOn, update_of};
+ghost use Rattle.quel_meaning.specs.Aggregates.{aggregates_stand};
 ghost use Rattle.quel_meaning.specs.Causes.{causes};
 ghost use Rattle.quel_meaning.specs.Resolved.{tree_of};
 ghost use Rattle.quel_meaning.specs.Scope.{Scope};
@@ -28,7 +29,7 @@ pub(crate) fn judge<B: Base>(
     update: Option<&Update>,
     on: Option<&RelInfo>,
 ) -> Result<(), CheckFault>
-    ensures told { (scope : Scope) → B.database base.old ≡ Some scope.db → scope.user ≡ user.now → q.now ≡ query_of scope s.now → option_map (λ v. v.now) update.entry ≡ update_of scope s.now q.now → IsOn scope s.now (option_copied on.entry) → is_built s.now ≡ true
+    ensures told { (scope : Scope) → B.database base.old ≡ Some scope.db → scope.user ≡ user.now → q.now ≡ query_of scope s.now → option_map (λ v. v.now) update.entry ≡ update_of scope s.now q.now → IsOn scope s.now (option_copied on.entry) → is_built s.now ≡ true → aggregates_stand scope s.now ≡ true
         → Says (λ done. first_cause (causes scope s.now) ≡ None) (λ number. first_cause (causes scope s.now) ≡ Some number) (Unit {0}) result }
     ensures judged { IsJudged result }
     ensures kept { B.database base.new ≡ B.database base.old }
@@ -49,7 +50,7 @@ pub(crate) fn judge_update<B: Base>(
     s: &Statement,
     update: Update,
 ) -> Result<Checked, CheckFault>
-    ensures told { (scope : Scope) → B.database base.old ≡ Some scope.db → scope.user ≡ user.now → update.query ≡ query_of scope s.now → Some update ≡ update_of scope s.now update.query → is_built s.now ≡ true
+    ensures told { (scope : Scope) → B.database base.old ≡ Some scope.db → scope.user ≡ user.now → update.query ≡ query_of scope s.now → Some update ≡ update_of scope s.now update.query → is_built s.now ≡ true → aggregates_stand scope s.now ≡ true
         → Says (λ tree. (tree ≡ tree_of scope s.now) × (first_cause (causes scope s.now) ≡ None)) (λ number. first_cause (causes scope s.now) ≡ Some number) (Unit {0}) result }
     ensures judged { IsJudged result }
     ensures kept { B.database base.new ≡ B.database base.old }

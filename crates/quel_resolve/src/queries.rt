@@ -1,10 +1,13 @@
 //! The query of a statement whose names were found.
 
-ghost use Rattle.std.specs.Prelude.{◌≡◌, ◌≤◌, ℕ, List, Some, None, true, length};
+ghost use Rattle.std.specs.Prelude.{◌≡◌, ◌+◌, ◌≤◌, ℕ, List, Some, None, true, length, map, nat_lt};
 ghost use Rattle.calculus.specs.Database.{Db};
 ghost use Rattle.calculus.specs.Replacement.{first_cause};
+ghost use Rattle.quel_check.specs.Known.{inner_vars};
+ghost use Rattle.quel_meaning.specs.Aggregates.{aggregates_stand};
 ghost use Rattle.quel_meaning.specs.Causes.{causes};
 ghost use Rattle.quel_meaning.specs.Naming.{name_refusal};
+ghost use Rattle.quel_meaning.specs.Scope.{ranged};
 ghost use Rattle.quel_meaning.specs.WrittenParts.{vars_in};
 ghost use Rattle.quel_meaning.specs.WrittenQuery.{query_of};
 ghost use Rattle.quel_names.specs.Asking.{scope_of};
@@ -14,14 +17,18 @@ ghost use Rattle.quel_resolve.specs.Causes.{HasCheckCause};
 
 use crate::fault::CheckFault;
 use am_traits::Base;
-use calculus::{Name, Query, Statement};
-use quel_check::{RangeTable, vars_in};
+use calculus::{Name, Query, RelInfo, Statement};
+use quel_causes::aggregates_stand;
+use quel_check::{Known, RangeTable, inner_vars, vars_in};
 use quel_names::infos_of;
 use quel_query::query_of;
 use std::alloc::Global;
 
-/// The greatest number of variables of a query.
+/// The greatest number of variables and aggregates of a query together.
 const MOST_VARIABLES: usize = 10;
+
+/// The number of an aggregate that may not stand where it does.
+const NO_AGGREGATE: u8 = 18;
 
 /// The number of a statement that passes a limit.
 const TOO_MANY: u8 = 14;
@@ -29,16 +36,53 @@ const TOO_MANY: u8 = 14;
 /// The number of an unknown relation.
 const NO_RELATION: u8 = 10;
 
-/// The query of a statement over these variables, which are its own.
+/// The query of a statement over these variables, which are its own and range over these, where its
+/// aggregates, which stand, are over those.
+fn query_known<B: Base>(
+    alloc: Global,
+    base: &mut B,
+    ranges: &RangeTable,
+    s: &Statement,
+    vars: &[Name],
+    infos: &[RelInfo],
+    inner: &[Name],
+) -> Result<Query, CheckFault>
+    ensures told { (db : Db) (user : List ℕ) → B.database base.old ≡ Some db → name_refusal (scope_of db user ranges.now) s.now ≡ None → aggregates_stand (scope_of db user ranges.now) s.now ≡ true
+        → vars.now ≡ vars_in s.now → inner.now ≡ inner_vars s.now → length vars.now + length inner.now ≤ 10 → map (ranged (scope_of db user ranges.now)) vars.now ≡ map Some infos.now
+        → Says (λ q. q ≡ query_of (scope_of db user ranges.now) s.now) (λ number. first_cause (causes (scope_of db user ranges.now) s.now) ≡ Some number) (Unit {0}) result }
+    ensures judged { IsJudged result }
+    ensures kept { B.database base.new ≡ B.database base.old }
+    ensures same { B.left base.new ≡ B.left base.old }
+    ensures cause { HasCheckCause (B.database base.old) (B.faults base.old) (B.faults base.new) result }
+{
+    match infos_of(alloc, base, ranges, inner)? {
+        Some(inner_infos) => {
+            let known = Known {
+                vars,
+                infos,
+                inner_vars: inner,
+                inner_infos: &inner_infos,
+            };
+            let query = query_of(alloc, base, s, known);
+            drop(inner_infos);
+            Ok(query?)
+        }
+        None => Err(CheckFault::No(NO_RELATION)),
+    }
+}
+
+/// The query of a statement whose aggregates stand, over these variables, which are its own, and those of
+/// its aggregates.
 fn query_over<B: Base>(
     alloc: Global,
     base: &mut B,
     ranges: &RangeTable,
     s: &Statement,
     vars: &[Name],
+    inner: &[Name],
 ) -> Result<Query, CheckFault>
-    ensures told { (db : Db) (user : List ℕ) → B.database base.old ≡ Some db → name_refusal (scope_of db user ranges.now) s.now ≡ None → is_built s.now ≡ true
-        → vars.now ≡ vars_in s.now → length vars.now ≤ 10
+    ensures told { (db : Db) (user : List ℕ) → B.database base.old ≡ Some db → name_refusal (scope_of db user ranges.now) s.now ≡ None → aggregates_stand (scope_of db user ranges.now) s.now ≡ true
+        → vars.now ≡ vars_in s.now → inner.now ≡ inner_vars s.now → length vars.now + length inner.now ≤ 10
         → Says (λ q. q ≡ query_of (scope_of db user ranges.now) s.now) (λ number. first_cause (causes (scope_of db user ranges.now) s.now) ≡ Some number) (Unit {0}) result }
     ensures judged { IsJudged result }
     ensures kept { B.database base.new ≡ B.database base.old }
@@ -47,23 +91,78 @@ fn query_over<B: Base>(
 {
     match infos_of(alloc, base, ranges, vars)? {
         Some(infos) => {
-            let query = query_of(alloc, s, vars, &infos);
+            let query = query_known(alloc, base, ranges, s, vars, &infos, inner);
             drop(infos);
-            Ok(query?)
+            query
         }
         None => Err(CheckFault::No(NO_RELATION)),
     }
 }
 
-/// The query of a statement that is built and whose names were found; where it has more variables than
-/// a query may have, the number that refuses it.
-pub(crate) fn query<B: Base>(
+/// Whether there are more variables and aggregates together than a query may have.
+fn are_too_many(vars: &[Name], inner: &[Name]) -> bool
+    ensures { result ≡ nat_lt 10 (length vars.now + length inner.now) }
+{
+    vars.len().saturating_add(inner.len()) > MOST_VARIABLES
+}
+
+/// The query of a statement whose names were found and whose aggregates stand, over these variables,
+/// which are its own, and those of its aggregates; where they are more than a query may have, the number
+/// that refuses it.
+fn query_within<B: Base>(
+    alloc: Global,
+    base: &mut B,
+    ranges: &RangeTable,
+    s: &Statement,
+    vars: &[Name],
+    inner: &[Name],
+) -> Result<Query, CheckFault>
+    ensures told { (db : Db) (user : List ℕ) → B.database base.old ≡ Some db → name_refusal (scope_of db user ranges.now) s.now ≡ None → is_built s.now ≡ true → aggregates_stand (scope_of db user ranges.now) s.now ≡ true
+        → vars.now ≡ vars_in s.now → inner.now ≡ inner_vars s.now
+        → Says (λ q. q ≡ query_of (scope_of db user ranges.now) s.now) (λ number. first_cause (causes (scope_of db user ranges.now) s.now) ≡ Some number) (Unit {0}) result }
+    ensures judged { IsJudged result }
+    ensures kept { B.database base.new ≡ B.database base.old }
+    ensures same { B.left base.new ≡ B.left base.old }
+    ensures cause { HasCheckCause (B.database base.old) (B.faults base.old) (B.faults base.new) result }
+{
+    if are_too_many(vars, inner) {
+        return Err(CheckFault::No(TOO_MANY));
+    }
+    query_over(alloc, base, ranges, s, vars, inner)
+}
+
+/// The query of a statement whose names were found and whose aggregates stand, over these variables,
+/// which are its own.
+fn query_beside<B: Base>(
+    alloc: Global,
+    base: &mut B,
+    ranges: &RangeTable,
+    s: &Statement,
+    vars: &[Name],
+) -> Result<Query, CheckFault>
+    ensures told { (db : Db) (user : List ℕ) → B.database base.old ≡ Some db → name_refusal (scope_of db user ranges.now) s.now ≡ None → is_built s.now ≡ true → aggregates_stand (scope_of db user ranges.now) s.now ≡ true
+        → vars.now ≡ vars_in s.now
+        → Says (λ q. q ≡ query_of (scope_of db user ranges.now) s.now) (λ number. first_cause (causes (scope_of db user ranges.now) s.now) ≡ Some number) (Unit {0}) result }
+    ensures judged { IsJudged result }
+    ensures kept { B.database base.new ≡ B.database base.old }
+    ensures same { B.left base.new ≡ B.left base.old }
+    ensures cause { HasCheckCause (B.database base.old) (B.faults base.old) (B.faults base.new) result }
+{
+    let inner = inner_vars(alloc, s)?;
+    let query = query_within(alloc, base, ranges, s, vars, inner.items());
+    drop(inner);
+    query
+}
+
+/// The query of a statement whose names were found and whose aggregates stand; where it has more
+/// variables and aggregates than a query may have, the number that refuses it.
+fn query_standing<B: Base>(
     alloc: Global,
     base: &mut B,
     ranges: &RangeTable,
     s: &Statement,
 ) -> Result<Query, CheckFault>
-    ensures told { (db : Db) (user : List ℕ) → B.database base.old ≡ Some db → name_refusal (scope_of db user ranges.now) s.now ≡ None → is_built s.now ≡ true
+    ensures told { (db : Db) (user : List ℕ) → B.database base.old ≡ Some db → name_refusal (scope_of db user ranges.now) s.now ≡ None → is_built s.now ≡ true → aggregates_stand (scope_of db user ranges.now) s.now ≡ true
         → Says (λ q. q ≡ query_of (scope_of db user ranges.now) s.now) (λ number. first_cause (causes (scope_of db user ranges.now) s.now) ≡ Some number) (Unit {0}) result }
     ensures judged { IsJudged result }
     ensures kept { B.database base.new ≡ B.database base.old }
@@ -71,8 +170,30 @@ pub(crate) fn query<B: Base>(
     ensures cause { HasCheckCause (B.database base.old) (B.faults base.old) (B.faults base.new) result }
 {
     let vars = vars_in(alloc, s)?;
-    if vars.items().len() > MOST_VARIABLES {
-        return Err(CheckFault::No(TOO_MANY));
+    let query = query_beside(alloc, base, ranges, s, vars.items());
+    drop(vars);
+    query
+}
+
+/// The query of a statement that is built and whose names were found; where an aggregate may not stand,
+/// or there are more variables and aggregates than a query may have, the number that refuses it.
+#[tactic(auto, using(crate::proofs::Passing::stands_not))]
+pub(crate) fn query<B: Base>(
+    alloc: Global,
+    base: &mut B,
+    ranges: &RangeTable,
+    s: &Statement,
+) -> Result<Query, CheckFault>
+    ensures told { (db : Db) (user : List ℕ) → B.database base.old ≡ Some db → name_refusal (scope_of db user ranges.now) s.now ≡ None → is_built s.now ≡ true
+        → Says (λ q. (q ≡ query_of (scope_of db user ranges.now) s.now) × (aggregates_stand (scope_of db user ranges.now) s.now ≡ true)) (λ number. first_cause (causes (scope_of db user ranges.now) s.now) ≡ Some number) (Unit {0}) result }
+    ensures judged { IsJudged result }
+    ensures kept { B.database base.new ≡ B.database base.old }
+    ensures same { B.left base.new ≡ B.left base.old }
+    ensures cause { HasCheckCause (B.database base.old) (B.faults base.old) (B.faults base.new) result }
+{
+    if aggregates_stand(alloc, base, ranges, s)? {
+        query_standing(alloc, base, ranges, s)
+    } else {
+        Err(CheckFault::No(NO_AGGREGATE))
     }
-    query_over(alloc, base, ranges, s, vars.items())
 }

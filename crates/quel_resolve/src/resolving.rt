@@ -40,8 +40,7 @@ fn resolve_named<B: Base>(
 
 /// What the user's statement asks for: its tree. `No` has the number of what refuses the statement:
 /// the first name in its text that isn't what it has to be, else the first cause that is there.
-/// `NotBuilt` comes where no name refuses it, but it is of a kind that isn't resolved yet, or holds an
-/// aggregate.
+/// `NotBuilt` comes where no name refuses it, but it is of a kind that isn't resolved yet.
 pub fn resolve<B: Base>(
     alloc: Global,
     s: &Statement,

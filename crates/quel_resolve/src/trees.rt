@@ -6,6 +6,7 @@ ghost use Rattle.calculus.specs.Database.{Db};
 ghost use Rattle.calculus.specs.Replacement.{first_cause};
 ghost use Rattle.calculus.specs.declared.request.Checked.TheVariants.{Answer};
 ghost use Rattle.quel_causes.specs.Judged.{update_of};
+ghost use Rattle.quel_meaning.specs.Aggregates.{aggregates_stand};
 ghost use Rattle.quel_meaning.specs.Causes.{causes};
 ghost use Rattle.quel_meaning.specs.Naming.{name_refusal};
 ghost use Rattle.quel_meaning.specs.Resolved.{tree_of};
@@ -40,7 +41,7 @@ fn updated<B: Base>(
     info: &RelInfo,
     q: Query,
 ) -> Result<Checked, CheckFault>
-    ensures told { (scope : Scope) → B.database base.old ≡ Some scope.db → scope.user ≡ user.now → q ≡ query_of scope s.now → changed scope s.now ≡ Some info.now → changes_rows s.now ≡ true → is_built s.now ≡ true
+    ensures told { (scope : Scope) → B.database base.old ≡ Some scope.db → scope.user ≡ user.now → q ≡ query_of scope s.now → changed scope s.now ≡ Some info.now → changes_rows s.now ≡ true → is_built s.now ≡ true → aggregates_stand scope s.now ≡ true
         → Says (λ tree. (tree ≡ tree_of scope s.now) × (first_cause (causes scope s.now) ≡ None)) (λ number. first_cause (causes scope s.now) ≡ Some number) (Unit {0}) result }
     ensures judged { IsJudged result }
     ensures kept { B.database base.new ≡ B.database base.old }
@@ -83,7 +84,7 @@ fn made<B: Base>(
     on: Option<&RelInfo>,
     q: Query,
 ) -> Result<Checked, CheckFault>
-    ensures told { (scope : Scope) → B.database base.old ≡ Some scope.db → scope.user ≡ user.now → q ≡ query_of scope s.now → None ≡ update_of scope s.now q → changed scope s.now ≡ option_copied on.entry → has_tree s.now (option_copied on.entry) ≡ true → is_built s.now ≡ true → is_range s.now ≡ false
+    ensures told { (scope : Scope) → B.database base.old ≡ Some scope.db → scope.user ≡ user.now → q ≡ query_of scope s.now → None ≡ update_of scope s.now q → changed scope s.now ≡ option_copied on.entry → has_tree s.now (option_copied on.entry) ≡ true → is_built s.now ≡ true → aggregates_stand scope s.now ≡ true → is_range s.now ≡ false
         → Says (λ tree. (tree ≡ tree_of scope s.now) × (first_cause (causes scope s.now) ≡ None)) (λ number. first_cause (causes scope s.now) ≡ Some number) (Unit {0}) result }
     ensures judged { IsJudged result }
     ensures kept { B.database base.new ≡ B.database base.old }
@@ -108,7 +109,7 @@ fn changing<B: Base>(
     info: &RelInfo,
     q: Query,
 ) -> Result<Checked, CheckFault>
-    ensures told { (scope : Scope) → B.database base.old ≡ Some scope.db → scope.user ≡ user.now → q ≡ query_of scope s.now → changed scope s.now ≡ Some info.now → is_built s.now ≡ true → is_range s.now ≡ false
+    ensures told { (scope : Scope) → B.database base.old ≡ Some scope.db → scope.user ≡ user.now → q ≡ query_of scope s.now → changed scope s.now ≡ Some info.now → is_built s.now ≡ true → aggregates_stand scope s.now ≡ true → is_range s.now ≡ false
         → Says (λ tree. (tree ≡ tree_of scope s.now) × (first_cause (causes scope s.now) ≡ None)) (λ number. first_cause (causes scope s.now) ≡ Some number) (Unit {0}) result }
     ensures judged { IsJudged result }
     ensures kept { B.database base.new ≡ B.database base.old }
@@ -132,7 +133,7 @@ fn tree_over<B: Base>(
     changes: Option<RelInfo>,
     q: Query,
 ) -> Result<Checked, CheckFault>
-    ensures told { (db : Db) → B.database base.old ≡ Some db → q ≡ query_of (scope_of db user.now ranges.now) s.now → name_refusal (scope_of db user.now ranges.now) s.now ≡ None → is_built s.now ≡ true → is_range s.now ≡ false → changes ≡ changed (scope_of db user.now ranges.now) s.now
+    ensures told { (db : Db) → B.database base.old ≡ Some db → q ≡ query_of (scope_of db user.now ranges.now) s.now → name_refusal (scope_of db user.now ranges.now) s.now ≡ None → is_built s.now ≡ true → aggregates_stand (scope_of db user.now ranges.now) s.now ≡ true → is_range s.now ≡ false → changes ≡ changed (scope_of db user.now ranges.now) s.now
         → Says (λ tree. (tree ≡ tree_of (scope_of db user.now ranges.now) s.now) × (first_cause (causes (scope_of db user.now ranges.now) s.now) ≡ None)) (λ number. first_cause (causes (scope_of db user.now ranges.now) s.now) ≡ Some number) (Unit {0}) result }
     ensures judged { IsJudged result }
     ensures kept { B.database base.new ≡ B.database base.old }
@@ -154,7 +155,7 @@ fn tree_with<B: Base>(
     s: &Statement,
     q: Query,
 ) -> Result<Checked, CheckFault>
-    ensures told { (db : Db) → B.database base.old ≡ Some db → q ≡ query_of (scope_of db user.now ranges.now) s.now → name_refusal (scope_of db user.now ranges.now) s.now ≡ None → is_built s.now ≡ true → is_range s.now ≡ false
+    ensures told { (db : Db) → B.database base.old ≡ Some db → q ≡ query_of (scope_of db user.now ranges.now) s.now → name_refusal (scope_of db user.now ranges.now) s.now ≡ None → is_built s.now ≡ true → aggregates_stand (scope_of db user.now ranges.now) s.now ≡ true → is_range s.now ≡ false
         → Says (λ tree. (tree ≡ tree_of (scope_of db user.now ranges.now) s.now) × (first_cause (causes (scope_of db user.now ranges.now) s.now) ≡ None)) (λ number. first_cause (causes (scope_of db user.now ranges.now) s.now) ≡ Some number) (Unit {0}) result }
     ensures judged { IsJudged result }
     ensures kept { B.database base.new ≡ B.database base.old }

@@ -1,25 +1,32 @@
 -- The tables of queries, one after the other.
-use Rattle.std.proofs.Common.{◌≡◌, refl, sym, ap, ◌∙◌, subst, ℕ, zero, suc, ◌+◌, ◌<◌, ◌≤◌, Bool, true, false, List, [], ◌∷◌, ◌++◌, length, map, get_or, take, Option, Result, Err, arith}
-use Rattle.std.specs.Prelude.{◌||◌, All}
+use Rattle.std.proofs.Common.{◌≡◌, refl, sym, ap, ◌∙◌, subst, ℕ, zero, suc, ◌+◌, ◌<◌, ◌≤◌, Bool, true, false, List, [], ◌∷◌, ◌++◌, length, map, get_or, take, Option, Some, Result, Ok, Err, arith}
+use Rattle.std.specs.Prelude.{◌||◌, All, IsNone, IfOk, OnOk}
 use Rattle.std.specs.List.{list_any}
 use Rattle.std.proofs.lemmas.List.{take_more}
+use Rattle.calculus.specs.declared.agg_table.AggTable.{AggTable}
+use Rattle.calculus.specs.declared.query.Query.{Query}
 use Rattle.calculus.specs.declared.reply.Column.{Column}
 use Rattle.calculus.specs.declared.reply.Table.{Table}
 use Rattle.calculus.specs.declared.request.Asked.{Asked}
+use Rattle.calculus.specs.Aggregate.{aggregates}
 use Rattle.calculus.specs.Answer.{answer, lacks}
+use Rattle.calculus.specs.Assignments.{assigned}
 use Rattle.calculus.specs.Database.{Db}
-use Rattle.calculus.specs.QueryParts.{targets_of, query_aggregates}
+use Rattle.calculus.specs.QueryParts.{targets_of, qual_of}
 use Rattle.calculus.specs.Rows.{Row}
 use Rattle.calculus.specs.Table.{tabled}
+use Rattle.calculus.specs.Targets.{rows_given, some_lacks, target_values}
+use Rattle.calculus.specs.Term.{Env, holds}
+use Rattle.calculus.specs.VariableRows.{rows_of}
 use Rattle.calculus.specs.Who.{Free}
 use Rattle.am_traits.specs.Causes.{MayCome}
 use Rattle.am_traits.specs.declared.fault.BaseFault.{BaseFault}
 use Rattle.am_traits.specs.declared.fault.BaseFault.TheVariants as faults
 use Rattle.quel_meaning.specs.Tables.{column_of, sorted, table_of, some_query_lacks}
-use Rattle.decompose.specs.declared.fault.QueryFault.{QueryFault}
-use Rattle.decompose.specs.declared.fault.QueryFault.TheVariants as query
-use Rattle.decompose.specs.Causes.{MayFail as MayFailOne}
-use Rattle.query_tables.specs.Causes.{MayFail, HasCause}
+use Rattle.ovqp.specs.declared.fault.QueryFault.{QueryFault}
+use Rattle.ovqp.specs.declared.fault.QueryFault.TheVariants as query
+use Rattle.ovqp.specs.Causes as asking
+use Rattle.query_tables.specs.Causes.{MayFail, IsCaused, LacksIn, OneLacksIn, HasOneCause, HasCause}
 
 -- ---- one table
 
@@ -75,6 +82,42 @@ one_lacks db asked i one h is lacking = any-at (λ a. lacks db Free a.query) ask
 pub one_of : {X : Type 0} (P : X → Type 0) (xs : List X) (i : ℕ) (x : X) → i < length xs → x ≡ get_or xs i x → All P xs → P x
 one_of P xs i x h is all = subst P (sym is) (all i x h)
 
+-- ---- what is said of an answer
+
+pub if_ok : {T E : Type 0} (P Q : T → Type 0) → ((x : T) → P x → Q x) → (r : Result T E) → IfOk r P → IfOk r Q
+if_ok P Q f (Ok x) h = f x h
+if_ok P Q f (Err e) h = tt
+
+pub on_ok : {T E P Q : Type 0} → (P → Q) → (r : Result T E) → OnOk r P → OnOk r Q
+on_ok f (Ok x) h = f h
+on_ok f (Err e) h = tt
+
+-- ---- tables that stand for the aggregates
+
+pub answer_by_tables : (db : Db) (q : Query) (tables : List AggTable) (set : List Row)
+    → ((es : List Env) → rows_given (tabled tables) q es ≡ rows_given (aggregates db Free) q es) → set ≡ rows_given (tabled tables) q (assigned (rows_of db Free) q) → set ≡ answer db Free q
+unfolding answer
+answer_by_tables db q tables set rows is = is ∙ rows (assigned (rows_of db Free) q)
+
+pub lacks_by_tables : (db : Db) (q : Query) (tables : List AggTable) (b : Bool)
+    → ((es : List Env) → some_lacks (tabled tables) q es ≡ some_lacks (aggregates db Free) q es) → some_lacks (tabled tables) q (assigned (rows_of db Free) q) ≡ b → lacks db Free q ≡ b
+unfolding lacks
+lacks_by_tables db q tables b same is = sym (same (assigned (rows_of db Free) q)) ∙ is
+
+lacks_in : (db : Db) (q : Query) (tables : List AggTable) (at : Env)
+    → ((e : Env) → target_values (tabled tables) (targets_of q) e ≡ target_values (aggregates db Free) (targets_of q) e)
+    → ((e : Env) → holds (tabled tables) (qual_of q) e ≡ holds (aggregates db Free) (qual_of q) e)
+    → ((es : List Env) → some_lacks (tabled tables) q es ≡ some_lacks (aggregates db Free) q es)
+    → asking.LacksIn (tabled tables) db q at → LacksIn db q at
+lacks_in db q tables at values truth same h = record {
+  somewhere = lacks_by_tables db q tables true same h.somewhere;
+  there = record {
+    is_there = h.there.is_there;
+    qualifies = sym (truth at) ∙ h.there.qualifies;
+    no_value = subst IsNone (values at) h.there.no_value;
+  };
+}
+
 -- ---- a fault
 
 pub comes_later : (told : Option Db) (before mid now : ℕ) (fault : BaseFault) → before ≤ mid → MayCome told mid now fault → MayCome told before now fault
@@ -82,18 +125,47 @@ comes_later told before mid now faults.Disk h may = omega (arith, h, may)
 comes_later told before mid now (faults.Damaged file page) h may = may
 comes_later told before mid now faults.OutOfMemory h may = may
 
-may_fail : (asked : List Asked) (i : ℕ) (one : Asked) (told : Option Db) (before mid now : ℕ) (fault : QueryFault) → i < length asked → one ≡ get_or asked i one → before ≤ mid
-    → MayFailOne (tabled []) one.query told mid now fault → MayFail asked told before now fault
-may_fail asked i one told before mid now (query.NoValue at) h is le may = λ db e. record {
+-- a fault of the answer by tables that stand for the aggregates
+may_fail : (q : Query) (tables : List AggTable) (told : Option Db) (before mid now : ℕ) (fault : QueryFault)
+    → ((db : Db) → told ≡ Some db → (e : Env) → target_values (tabled tables) (targets_of q) e ≡ target_values (aggregates db Free) (targets_of q) e)
+    → ((db : Db) → told ≡ Some db → (e : Env) → holds (tabled tables) (qual_of q) e ≡ holds (aggregates db Free) (qual_of q) e)
+    → ((db : Db) → told ≡ Some db → (es : List Env) → some_lacks (tabled tables) q es ≡ some_lacks (aggregates db Free) q es)
+    → before ≤ mid → asking.MayFail (tabled tables) q told mid now fault → MayFail (λ db at. LacksIn db q at) told before now fault
+may_fail q tables told before mid now (query.NoValue at) values truth same le may = λ db e. lacks_in db q tables at (values db e) (truth db e) (same db e) (may db e)
+may_fail q tables told before mid now (query.Base fault) values truth same le may = comes_later told before mid now fault le may
+may_fail q tables told before mid now query.OutOfMemory values truth same le may = tt
+
+is_caused : {T : Type 0} (q : Query) (tables : List AggTable) (told : Option Db) (before mid now : ℕ) (result : Result T QueryFault)
+    → ((db : Db) → told ≡ Some db → (e : Env) → target_values (tabled tables) (targets_of q) e ≡ target_values (aggregates db Free) (targets_of q) e)
+    → ((db : Db) → told ≡ Some db → (e : Env) → holds (tabled tables) (qual_of q) e ≡ holds (aggregates db Free) (qual_of q) e)
+    → ((db : Db) → told ≡ Some db → (es : List Env) → some_lacks (tabled tables) q es ≡ some_lacks (aggregates db Free) q es)
+    → before ≤ mid → asking.IsCaused {T = T} (tabled tables) q told mid now result → IsCaused {T = T} (λ db at. LacksIn db q at) told before now result
+is_caused q tables told before mid now (Ok x) values truth same le may = tt
+is_caused q tables told before mid now (Err fault) values truth same le may = may_fail q tables told before mid now fault values truth same le may
+
+pub settled_cause : {T : Type 0} (q : Query) (tables : List AggTable) (told : Option Db) (before mid now : ℕ) (result : Result T QueryFault)
+    → ((db : Db) → told ≡ Some db → (e : Env) → target_values (tabled tables) (targets_of q) e ≡ target_values (aggregates db Free) (targets_of q) e)
+    → ((db : Db) → told ≡ Some db → (e : Env) → holds (tabled tables) (qual_of q) e ≡ holds (aggregates db Free) (qual_of q) e)
+    → ((db : Db) → told ≡ Some db → (es : List Env) → some_lacks (tabled tables) q es ≡ some_lacks (aggregates db Free) q es)
+    → before ≤ mid → asking.HasCause {T = T} (tabled tables) q told mid now result → HasOneCause {T = T} q told before now result
+settled_cause q tables told before mid now result values truth same le cause = record {
+  later = omega (arith, le, cause.later);
+  caused = is_caused q tables told before mid now result values truth same le cause.caused;
+}
+
+-- a fault of one of several
+one_may_fail : (asked : List Asked) (i : ℕ) (one : Asked) (told : Option Db) (before mid now : ℕ) (fault : QueryFault) → i < length asked → one ≡ get_or asked i one → before ≤ mid
+    → MayFail (λ db at. LacksIn db one.query at) told mid now fault → MayFail (λ db at. OneLacksIn db asked at) told before now fault
+one_may_fail asked i one told before mid now (query.NoValue at) h is le may = λ db e. record {
   one = one;
   among = (i, h, sym is);
   there = may db e;
-  plain = λ none. one_lacks db asked i one h is ((may db e).plain (one_of (λ a. query_aggregates a.query ≡ []) asked i one h is none));
+  somewhere = one_lacks db asked i one h is (may db e).somewhere;
 }
-may_fail asked i one told before mid now (query.Base fault) h is le may = comes_later told before mid now fault le may
-may_fail asked i one told before mid now query.OutOfMemory h is le may = tt
+one_may_fail asked i one told before mid now (query.Base fault) h is le may = comes_later told before mid now fault le may
+one_may_fail asked i one told before mid now query.OutOfMemory h is le may = tt
 
 pub one_fails : {T : Type 0} (asked : List Asked) (i : ℕ) (one : Asked) (told : Option Db) (before mid now : ℕ) (fault : QueryFault) (result : Result T QueryFault) → i < length asked → one ≡ get_or asked i one
-    → result ≡ Err fault → before ≤ mid → mid ≤ now → MayFailOne (tabled []) one.query told mid now fault → HasCause {T = T} asked told before now result
+    → result ≡ Err fault → before ≤ mid → mid ≤ now → MayFail (λ db at. LacksIn db one.query at) told mid now fault → HasCause {T = T} asked told before now result
 one_fails {T = T} asked i one told before mid now fault result h is made le later may =
-    subst (HasCause {T = T} asked told before now) (sym made) (record { later = omega (arith, le, later); caused = may_fail asked i one told before mid now fault h is le may })
+    subst (HasCause {T = T} asked told before now) (sym made) (record { later = omega (arith, le, later); caused = one_may_fail asked i one told before mid now fault h is le may })

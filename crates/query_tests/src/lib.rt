@@ -2,11 +2,17 @@
 #![tactic(auto)]
 
 #[cfg(test)]
+mod cases;
+#[cfg(test)]
 mod conditions;
+#[cfg(test)]
+mod folded;
 #[cfg(test)]
 mod numbers;
 #[cfg(test)]
 mod queries;
+#[cfg(test)]
+mod shares;
 #[cfg(test)]
 mod trees;
 #[cfg(test)]

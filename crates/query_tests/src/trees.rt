@@ -72,7 +72,7 @@ pub fn bare_query(alloc: Global, vars: Vec<RelKey>) -> Query {
 }
 
 /// The row of these numbers.
-fn row(rt: &impl Abort, alloc: Global, numbers: &[i64]) -> Row {
+pub fn row(rt: &impl Abort, alloc: Global, numbers: &[i64]) -> Row {
     let mut values = Vec::new(alloc);
     for number in numbers {
         values.push(Value::Int(*number)).expect(rt, "memory");

@@ -75,7 +75,7 @@ fn is_want_of_memory(fault: &PairFault) -> bool {
 fn deleted(rt: &impl Abort, alloc: Global) -> Result<usize, OutOfMemory> {
     let query = bare_query(alloc, alone(rt, alloc, key(rt, alloc)?));
     let u = update(rt, alloc, UpdateOp::Delete, Vec::new(alloc), query);
-    let pairs = pairs_of(alloc, &mut Numbers { rows: 3 }, &u, &[]);
+    let pairs = pairs_of(alloc, &mut Numbers { rows: 3 }, &u);
     drop(u);
     match pairs {
         Ok(pairs) => Ok(pairs.len()),

@@ -1,4 +1,2 @@
-pub mod Plain
-pub mod Resolved
 pub mod Trees
 pub mod Shallow

@@ -1,5 +1,5 @@
 -- What comes of a statement, by what it is resolved to and what is cut of that.
-use Rattle.std.proofs.Common.{◌≡◌, refl, sym, ap, ◌∙◌, subst, ℕ, Bool, true, false, ◌&&◌, IsTrue, IfOk, List, Result, Ok, Err}
+use Rattle.std.proofs.Common.{◌≡◌, refl, sym, ap, ◌∙◌, ℕ, Bool, true, false, ◌&&◌, IsTrue, IfOk, List, Result, Ok, Err}
 use Rattle.calculus.specs.declared.request.Checked.{Checked}
 use Rattle.calculus.specs.declared.request.Checked.TheVariants as checked
 use Rattle.calculus.specs.declared.request.Utility.TheVariants as utility
@@ -27,9 +27,7 @@ use Rattle.update_laws.specs.Walked.{names_rights}
 use Rattle.view_text.specs.PutIn.{put_in_tree}
 use Rattle.tree_laws.proofs.FitTree.{fit_ruled}
 use Rattle.tree_laws.proofs.Means.{ruled_means_same}
-use Rattle.stage_parse.specs.Checks.{HasNoAggregates, IsChecked, Checks}
-use Rattle.stage_parse.proofs.Plain.{none_put_in}
-use Rattle.stage_parse.proofs.Resolved.{resolved_none}
+use Rattle.stage_parse.specs.Checks.{IsChecked, Checks}
 
 -- ---- rights
 
@@ -100,7 +98,6 @@ comes db user ranges s tree made d named written h spelled k =
         put_in = k.0;
         fit = ap (is_fit db user) k.0 ∙ fit_ruled db d (asks user) user tree fit (ap tree_is_spelled (sym k.0) ∙ spelled rights);
         means = λ shelf. ap (tree_meaning db shelf Free user) k.0 ∙ sym (ruled_means_same db d (asks user) shelf user tree fit);
-        plain = subst HasNoAggregates (sym k.0) (none_put_in db d (asks user) tree (resolved_none db user ranges s tree h.0 h.1));
       },
     )
 

@@ -1,10 +1,8 @@
 -- What is said of a statement's checked tree.
-use Rattle.std.specs.Prelude.{◌≡◌, ℕ, true, false, List, [], All, Some, None, Result, Ok, Err}
+use Rattle.std.specs.Prelude.{◌≡◌, ℕ, true, false, List, Some, None, Result, Ok, Err}
 use Rattle.calculus.specs.declared.request.Checked.{Checked}
-use Rattle.calculus.specs.declared.request.Checked.TheVariants as checked
 use Rattle.calculus.specs.declared.statement.Statement.{Statement}
 use Rattle.calculus.specs.Database.{Db}
-use Rattle.calculus.specs.QueryParts.{query_aggregates}
 use Rattle.calculus.specs.Who.{Free, asker_of, asks}
 use Rattle.quel_meaning.specs.Fit.{is_fit}
 use Rattle.quel_meaning.specs.Meaning.{judged, ruled_tree, tree_meaning}
@@ -17,20 +15,13 @@ use Rattle.quel_resolve.specs.Built.{is_built}
 use Rattle.quel_resolve.specs.declared.fault.CheckFault.{CheckFault}
 use Rattle.view_text.specs.PutIn.{put_in_tree}
 
--- no aggregate stands in the queries or the update of a tree
-unfoldable pub HasNoAggregates : Checked → Type 0
-HasNoAggregates (checked.Answer asked) = All (λ a. query_aggregates a.query ≡ []) asked
-HasNoAggregates (checked.Update u) = query_aggregates u.query ≡ []
-HasNoAggregates (checked.Utility work) = Unit {0}
-
--- the tree is what a statement is judged to ask for, once views and permits are put in and the rules join it: it is fit, means for nobody in particular what the other means for the user, and has no aggregate
+-- the tree is what a statement is judged to ask for, once views and permits are put in and the rules join it: it is fit, and means for nobody in particular what the other means for the user
 pub record IsChecked (db : Db) (user : List ℕ) (ranges : Ranges) (s : Statement) (tree : Checked) : Type 0 where
   pub asked : Checked
   pub judged : judged db (asker_of user) ranges s ≡ Ok asked
   pub put_in : tree ≡ ruled_tree db (put_in_tree db (asks user) asked)
   pub fit : is_fit db user tree ≡ true
   pub means : (shelf : Shelf) → tree_meaning db shelf Free user tree ≡ tree_meaning db shelf (asks user) user (ruled_tree db asked)
-  pub plain : HasNoAggregates tree
 
 -- what comes of a statement: its checked tree, where it is built; the number that refuses it, which is a name's where it isn't built; or that it isn't built, though no name refuses it
 abbrev pub Checks : Db → List ℕ → Ranges → Statement → Result Checked CheckFault → Type 0

@@ -22,9 +22,9 @@ use std::alloc::Global;
 /// of the relation that it changes are among its checks. For nobody in particular it means what the
 /// statement means for the user. `No` has the number of what refuses the statement: the first name that
 /// isn't what it has to be, else the first cause, else 23 where something isn't permitted. `NotBuilt`
-/// comes where no name refuses it, but it is of a kind that isn't resolved yet, or holds an aggregate. Of a
-/// statement of at most 500 levels, as each has that is read of a text, the tree has at most 3,000: one of
-/// more couldn't be handed on as bytes.
+/// comes where no name refuses it, but it is of a kind that isn't resolved yet. Of a statement of at most
+/// 500 levels, as each has that is read of a text, the tree has at most 3,000: one of more couldn't be
+/// handed on as bytes.
 pub fn checked<B: Base>(
     alloc: Global,
     s: &Statement,

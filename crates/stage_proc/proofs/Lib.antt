@@ -9,3 +9,4 @@ pub mod Same
 pub mod Failing
 pub mod Changed
 pub mod Mapped
+pub mod Settled

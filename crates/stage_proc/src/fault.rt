@@ -1,8 +1,8 @@
 //! Why an update gives no pairs.
 
 ghost use Rattle.std.specs.Prelude.{◌≡◌};
-ghost use Rattle.decompose.specs.declared.fault.QueryFault.TheVariants.{Base as OfBase};
-ghost use Rattle.decompose.specs.Given.{given_fault};
+ghost use Rattle.ovqp.specs.declared.fault.QueryFault.TheVariants.{Base as OfBase};
+ghost use Rattle.ovqp.specs.Given.{given_fault};
 ghost use Rattle.stage_proc.specs.declared.fault.PairFault.TheVariants.{Query as OfQuery, OutOfMemory as NoMemory};
 
 use am_traits::BaseFault;

@@ -54,7 +54,7 @@ fn shown(rt: &impl Abort, alloc: Global, user: &[u8], text: &[u8], standing: Sta
 
 /// A user, a text, how many rules and permits stand on each relation of ann's, and what the statement
 /// becomes, or the number that refuses it.
-const CHECKED: [(&[u8], &[u8], u32, u32, &[u8]); 15] = [
+const CHECKED: [(&[u8], &[u8], u32, u32, &[u8]); 21] = [
     (b"ann", b"retrieve (x.a)", 0, 0, b"ann's p, a i2 0.0, true"),
     (b"bob", b"retrieve (x.a)", 0, 0, b"23"),
     (
@@ -93,7 +93,37 @@ const CHECKED: [(&[u8], &[u8], u32, u32, &[u8]); 15] = [
     (b"ann", b"delete v", 0, 0, b"26"),
     (b"ann", b"create w (a = i2)", 0, 0, b"for the utilities"),
     (b"ann", b"help", 0, 0, b"not built"),
-    (b"ann", b"retrieve (n = count(x.a))", 0, 0, b"not built"),
+    (
+        b"ann",
+        b"retrieve (n = count(x.a))",
+        0,
+        0,
+        b"n wide ?, true",
+    ),
+    (
+        b"bob",
+        b"retrieve (n = count(x.a))",
+        0,
+        2,
+        b"n wide ?, true",
+    ),
+    (b"bob", b"retrieve (n = count(x.a))", 0, 0, b"23"),
+    (b"bob", b"retrieve (n = count(u.a))", 0, 0, b"11"),
+    (b"bob", b"retrieve (n = count(x.c by 3))", 0, 0, b"12"),
+    (
+        b"bob",
+        b"retrieve (n = count(3)) where 1 = \"b\"",
+        0,
+        0,
+        b"18",
+    ),
+    (
+        b"bob",
+        b"retrieve (n = count(x.a)) where 1 = \"b\"",
+        0,
+        0,
+        b"13",
+    ),
 ];
 
 #[test]

@@ -19,6 +19,8 @@ mod queries;
 #[cfg(test)]
 mod shown;
 #[cfg(test)]
+mod slots;
+#[cfg(test)]
 mod stored;
 #[cfg(test)]
 mod tall;

@@ -1,18 +1,26 @@
 //! The queries, the updates and the trees of statements.
 
+use crate::few::Few;
 use crate::given::{name, relation, statement, two_relations, two_vars};
 use crate::shown::{put, put_digit, put_query};
 use calculus::{Asked, Checked, Query, Statement};
+use quel_check::Known;
 use quel_query::{query_of, tree_by};
 use std::alloc::Global;
 use std::process::Abort;
 use std::test::*;
 
-/// The query of a statement whose variables are `x` over `p` and `y` over `q`.
-fn query(rt: &impl Abort, alloc: Global, s: &Statement) -> Query {
+/// The query of a statement without aggregates whose variables are `x` over `p` and `y` over `q`.
+pub(crate) fn query(rt: &impl Abort, alloc: Global, s: &Statement) -> Query {
     let vars = two_vars(rt, alloc);
     let infos = two_relations(rt, alloc);
-    let query = query_of(alloc, s, &vars, &infos).expect(rt, "memory");
+    let known = Known {
+        vars: &vars,
+        infos: &infos,
+        inner_vars: &[],
+        inner_infos: &[],
+    };
+    let query = query_of(alloc, &mut Few { entries: 0 }, s, known).expect(rt, "a query");
     drop(vars);
     drop(infos);
     query

@@ -83,9 +83,14 @@ pub(crate) fn put_key(rt: &impl Abort, shown: &mut Vec<u8>, key: &RelKey) {
     put(rt, shown, b", ");
 }
 
-fn put_target(rt: &impl Abort, shown: &mut Vec<u8>, target: &Target) {
+/// Puts the name and the kind of a target behind the others.
+pub(crate) fn put_title(rt: &impl Abort, shown: &mut Vec<u8>, target: &Target) {
     put(rt, shown, target.name.bytes());
     put(rt, shown, kind_of(target));
+}
+
+fn put_target(rt: &impl Abort, shown: &mut Vec<u8>, target: &Target) {
+    put_title(rt, shown, target);
     put_term(rt, shown, &target.term);
     put(rt, shown, b", ");
 }

@@ -1,11 +1,11 @@
 //! Views, permits and rules that are defined, and permits and rules that go.
 
-use crate::given::{name, relation_of, statement, two_relations, two_vars};
+use crate::given::{name, relation_of, statement};
+use crate::queries::query;
 use crate::shown::{put, put_asked, put_digit, put_key, put_number, put_qual, put_query};
 use crate::tall::Tall;
 use calculus::{Checked, Domain, Kind, Permit, RelKey, Rule, Utility};
 use quel_check::RangeTable;
-use quel_query::query_of;
 use quel_resolve::{CheckFault, resolve};
 use std::alloc::Global;
 use std::process::Abort;
@@ -18,11 +18,7 @@ pub(crate) type Standing = (u32, u32, u32);
 /// that, whose views have one target, on each level larger by 10: 151 on level 15.
 pub(crate) fn base(rt: &impl Abort, alloc: Global, standing: Standing, kinds: [Kind; 2]) -> Tall {
     let s = statement(rt, alloc, b"retrieve (a = x.a+1+1+1+1+1)");
-    let vars = two_vars(rt, alloc);
-    let infos = two_relations(rt, alloc);
-    let query = query_of(alloc, &s, &vars, &infos).expect(rt, "memory");
-    drop(infos);
-    drop(vars);
+    let query = query(rt, alloc, &s);
     drop(s);
     let [first, second] = kinds;
     let info = relation_of(rt, alloc, b"p", [(b"a", first), (b"b", second)]);
@@ -162,7 +158,7 @@ fn shown_wide(rt: &impl Abort, alloc: Global, text: &[u8]) -> Vec<u8> {
 }
 
 /// A text, how many rules stand, and what its statement asks for, or the number that refuses it.
-const STORED: [(&[u8], u32, &[u8]); 22] = [
+const STORED: [(&[u8], u32, &[u8]); 26] = [
     (
         b"define view w (n = -x.b)",
         0,
@@ -185,6 +181,14 @@ const STORED: [(&[u8], u32, &[u8]); 22] = [
     (b"define view p (x.a) where 1 = \"b\"", 0, b"13"),
     (b"define view p (x.a)", 0, b"15"),
     (b"define view w (x.c)", 0, b"12"),
+    (b"define view w (n = count(x.a))", 0, b"18"),
+    (b"define view w (x.a) where x.a = max(x.a)", 0, b"18"),
+    (
+        b"define permit retrieve on x to bob where x.a = max(x.a)",
+        0,
+        b"18",
+    ),
+    (b"define integrity on x is x.a < count(x.a)", 0, b"18"),
     (
         b"define permit append on x (b) to bob",
         0,

@@ -1,12 +1,9 @@
 //! What scripts print.
 
-use crate::trials::{gives, joined};
+use crate::trials::{Case, first_wrong, gives, joined};
 use std::alloc::AllocGlobal;
 use std::process::Abort;
 use std::test::*;
-
-/// A script, and what it prints.
-type Case = (&'static [u8], &'static [u8]);
 
 /// Numbers: their tables, what has no value, and what doesn't fit.
 const NUMBERS: [Case; 5] = [
@@ -322,73 +319,12 @@ const BATCHES: [Case; 9] = [
     ),
 ];
 
-/// Makes a relation of 100,000 rows by one append, and then one row more; then one goes, and one
-/// more comes.
-const MANY_ROWS: Case = (
-    b"create dig (x = i1)\n\
-    append to dig (x = 0) append to dig (x = 1) append to dig (x = 2) append to dig (x = 3)\n\
-    append to dig (x = 4) append to dig (x = 5) append to dig (x = 6) append to dig (x = 7)\n\
-    append to dig (x = 8) append to dig (x = 9)\n\
-    create big (k = i4)\n\
-    range of a is dig range of b is dig range of c is dig range of d is dig range of e is dig\n\
-    append to big (k = 10 * (10 * (10 * (10 * a.x + b.x) + c.x) + d.x) + e.x)\n\
-    append to big (k = -1)\n\
-    range of u is big\n\
-    retrieve (u.k) where u.k < 1 or u.k = 99999\n\
-    delete u where u.k > 0\n\
-    append to big (k = -1)\n\
-    retrieve (u.k)\n\
-    \\g\n",
-    b"done\n\
-    done\n\
-    done\n\
-    done\n\
-    done\n\
-    done\n\
-    done\n\
-    done\n\
-    done\n\
-    done\n\
-    done\n\
-    done\n\
-    done\n\
-    refused 29 line 8: too many rows\n\
-    |k          |\n\
-    |-----------|\n\
-    |          0|\n\
-    |      99999|\n\
-    |-----------|\n\
-    done\n\
-    done\n\
-    |k          |\n\
-    |-----------|\n\
-    |         -1|\n\
-    |          0|\n\
-    |-----------|\n",
-);
-
-/// The number of the first of these scripts that prints something else.
-fn first_wrong(rt: &(impl Abort + AllocGlobal), cases: &[Case]) -> Option<usize> {
-    for (number, (script, output)) in cases.iter().enumerate() {
-        if !gives(rt, script, output) {
-            return Some(number);
-        }
-    }
-    None
-}
-
 #[test]
 fn scripts_print_their_tables_and_refusals(rt: HostRuntime) {
     assert!(rt; first_wrong(&rt, &NUMBERS).is_none());
     assert!(rt; first_wrong(&rt, &RELATIONS).is_none());
     assert!(rt; first_wrong(&rt, &REFUSALS).is_none());
     assert!(rt; first_wrong(&rt, &BATCHES).is_none());
-}
-
-#[test]
-fn a_relation_has_at_most_100_000_rows(rt: HostRuntime) {
-    let (script, output) = MANY_ROWS;
-    assert!(rt; gives(&rt, script, output));
 }
 
 /// Whether the query for 1 prints its row where the text is compared with the pattern.
@@ -412,31 +348,4 @@ fn texts_match_their_patterns(rt: HostRuntime) {
         let output = if is_found { FOUND } else { NOT_FOUND };
         assert!(rt; matches(&rt, text, pattern, output));
     }
-}
-
-/// The script that makes so many relations, a line each.
-fn relations(rt: &(impl Abort + AllocGlobal), count: u32) -> Vec<u8> {
-    let mut script = Vec::new(rt.alloc());
-    for number in 0..count {
-        let statement = format!(in rt.alloc(); "create r{number} (a = i1)\n").expect(rt, "memory");
-        script
-            .extend_from_slice(statement.as_bytes())
-            .expect(rt, "memory");
-    }
-    script.extend_from_slice(b"\\g\n").expect(rt, "memory");
-    script
-}
-
-/// What it prints where all relations but the last are made.
-fn acknowledgements(rt: &(impl Abort + AllocGlobal)) -> Vec<u8> {
-    let mut output = b"done\n".repeat(rt.alloc(), 10_000).expect(rt, "memory");
-    output
-        .extend_from_slice(b"refused 14 line 10001: limit\n")
-        .expect(rt, "memory");
-    output
-}
-
-#[test]
-fn a_batch_of_10_001_statements_makes_all_relations_but_the_last(rt: HostRuntime) {
-    assert!(rt; gives(&rt, &relations(&rt, 10_001), &acknowledgements(&rt)));
 }

@@ -1,12 +1,7 @@
 //! What scripts print that define views, permits and rules.
 
-use crate::trials::gives;
-use std::alloc::AllocGlobal;
-use std::process::Abort;
+use crate::trials::{Case, first_wrong};
 use std::test::*;
-
-/// A script, and what it prints.
-type Case = (&'static [u8], &'static [u8]);
 
 /// Views, of several variables and over one another; what can't be done with them.
 const VIEWS: [Case; 3] = [
@@ -280,16 +275,9 @@ const RULES: [Case; 2] = [
     ),
 ];
 
-/// Whether each of these scripts prints what it should.
-fn all_print(rt: &(impl Abort + AllocGlobal), cases: &[Case]) -> bool {
-    cases
-        .iter()
-        .all(|(script, output)| gives(rt, script, output))
-}
-
 #[test]
 fn views_permits_and_rules_print_what_they_show(rt: HostRuntime) {
     for cases in [VIEWS.as_slice(), PERMITS.as_slice(), RULES.as_slice()] {
-        assert!(rt; all_print(&rt, cases));
+        assert!(rt; first_wrong(&rt, cases).is_none());
     }
 }

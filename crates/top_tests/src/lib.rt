@@ -3,13 +3,21 @@
 #![tactic(auto)]
 
 #[cfg(test)]
+mod aggregated;
+#[cfg(test)]
 mod answers;
 #[cfg(test)]
 mod changed;
 #[cfg(test)]
 mod guarded;
 #[cfg(test)]
+mod large;
+#[cfg(test)]
 mod outside;
+#[cfg(test)]
+mod permitted;
+#[cfg(test)]
+mod refused;
 #[cfg(test)]
 mod shown;
 #[cfg(test)]

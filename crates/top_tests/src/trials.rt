@@ -5,6 +5,9 @@ use ingres_top::{World, ingres_top};
 use std::alloc::AllocGlobal;
 use std::process::Abort;
 
+/// A script, and what it prints.
+pub(crate) type Case = (&'static [u8], &'static [u8]);
+
 /// Makes a relation with one row, and asks for it.
 pub(crate) const FIRST: &[u8] = b"create p (a = i2)\n\
     append to p (a = 7)\n\
@@ -74,4 +77,14 @@ pub(crate) fn ends<S: Source + Drop>(
 /// Whether ann's script prints this, and ends with 0.
 pub(crate) fn gives(rt: &(impl Abort + AllocGlobal), script: &[u8], output: &[u8]) -> bool {
     ends(rt, source(rt, script, &[]), sink(rt, &[]), 0, output)
+}
+
+/// The number of the first of these scripts that prints something else.
+pub(crate) fn first_wrong(rt: &(impl Abort + AllocGlobal), cases: &[Case]) -> Option<usize> {
+    for (number, (script, output)) in cases.iter().enumerate() {
+        if !gives(rt, script, output) {
+            return Some(number);
+        }
+    }
+    None
 }

@@ -16,8 +16,8 @@ use Rattle.calculus.specs.Table.{tabled}
 use Rattle.calculus.specs.Term.{Env, holds, no_aggs}
 use Rattle.calculus.specs.Value.{row_cmp}
 use Rattle.am_traits.specs.Scans.{next_meeting, first_place, IsScan}
-use Rattle.decompose.proofs.FewRows.{few_rows}
-use Rattle.decompose.proofs.Scanning.{first_left, none_left}
+use Rattle.ovqp.proofs.FewRows.{few_rows}
+use Rattle.ovqp.proofs.ByScan.{first_left, none_left}
 
 -- ---- a qualification without tables
 

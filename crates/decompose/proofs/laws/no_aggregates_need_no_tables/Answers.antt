@@ -1,4 +1,4 @@
-use Rattle.decompose.proofs.Plain.{same_value, same_truth, same_rows, same_lacks, same_answer, same_query_lacks}
+use Rattle.ovqp.proofs.Plain.{same_value, same_truth, same_rows, same_lacks, same_answer, same_query_lacks}
 use Rattle.decompose.proofs.laws.no_aggregates_need_no_tables.Goals as goal
 
 pub returns-clause-values : goal.returns-clause-values

@@ -6,9 +6,9 @@ use Rattle.calculus.specs.Targets.{rows_given, some_lacks}
 use Rattle.calculus.specs.Term.{no_aggs}
 use Rattle.calculus.specs.Used.{used_in_query}
 use Rattle.calculus.specs.Who.{Free}
-use Rattle.decompose.specs.Given.{given_fault}
-use Rattle.decompose.proofs.Failing.{product_fails}
-use Rattle.decompose.proofs.Plain.{same_answer, same_query_lacks}
+use Rattle.ovqp.specs.Given.{given_fault}
+use Rattle.ovqp.proofs.Failing.{product_fails}
+use Rattle.ovqp.proofs.Plain.{same_answer, same_query_lacks}
 use Rattle.plain_product.specs.Causes.{IsCause}
 use Rattle.ovqp.proofs.Assigning.{assigned_used, assigned_unused, told_fails}
 use Rattle.ovqp.proofs.answering.one_variable.Goals as goal

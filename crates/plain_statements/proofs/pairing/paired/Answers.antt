@@ -4,8 +4,17 @@ use Rattle.calculus.specs.Who.{Free}
 use Rattle.plain_statements.proofs.Stops.{RefusedBy, refused_by, pair_stops}
 use Rattle.plain_statements.proofs.pairing.paired.Goals as goal
 
+pub pairs_of-requires-clause-read : goal.pairs_of-requires-clause-read
+pairs_of-requires-clause-read g c = λ db e. (c.requires db e).read
+
+pub pairs_of-requires-clause-sources : goal.pairs_of-requires-clause-sources
+pairs_of-requires-clause-sources g c = λ db e. (c.requires db e).fit
+
+pub pairs_of-requires-clause-numbered : goal.pairs_of-requires-clause-numbered
+pairs_of-requires-clause-numbered g c = λ db e. (c.requires db e).numbered
+
 pub returns-in_err-pairs-clause-told : goal.returns-in_err-pairs-clause-told
 returns-in_err-pairs-clause-told g c = λ db e.
     let refuses : ℕ → Type 0 = λ number. updated db Free c.args.u.now ≡ Err number in
     refused_by _ refuses c.from_residual.result c.from_residual.ensures
-    (λ stop is. subst (RefusedBy refuses) (sym is) (pair_stops db c.args.u.now _ _ _ c.in_err-pairs.field-0.0 e (c.requires.plain db e) c.in_err-pairs.ensures.cause.caused))
+    (λ stop is. subst (RefusedBy refuses) (sym is) (pair_stops db c.args.u.now _ _ _ c.in_err-pairs.field-0.0 e c.in_err-pairs.ensures.cause.caused))

@@ -1,12 +1,9 @@
 use Rattle.std.proofs.Common.{◌∙◌}
-use Rattle.plain_statements.proofs.Planned.{vars_kept, makes_new, update_lawful}
+use Rattle.plain_statements.proofs.Planned.{update_answered, makes_new, update_lawful}
 use Rattle.plain_statements.proofs.planning.update_planned.Goals as goal
 
-pub paired-requires-clause-read : goal.paired-requires-clause-read
-paired-requires-clause-read g c = λ db e. vars_kept db c.args.u.now (c.requires db e)
-
-pub paired-requires-clause-plain : goal.paired-requires-clause-plain
-paired-requires-clause-plain g c = λ db e. (c.requires db e).plain
+pub paired-requires : goal.paired-requires
+paired-requires g c = λ db e. update_answered db c.args.u.now (c.requires db e)
 
 pub returns-clause-told : goal.returns-clause-told
 returns-clause-told g c = λ db e.

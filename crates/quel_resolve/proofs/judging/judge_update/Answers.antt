@@ -7,5 +7,5 @@ use Rattle.quel_resolve.proofs.judging.judge_update.Goals as goal
 
 pub returns-in-Ok-clause-told : goal.returns-in-Ok-clause-told
 unfolding tree_of
-returns-in-Ok-clause-told g c = λ scope h u q e w.
-    (update_tree scope c.args.s.now (query_of scope c.args.s.now) c.args.update (e ∙ ap (update_of scope c.args.s.now) q), c.in-Ok.ensures.told scope h u q e (update_on scope c.args.s.now c.args.update.query c.args.update e None) w)
+returns-in-Ok-clause-told g c = λ scope h u q e w a.
+    (update_tree scope c.args.s.now (query_of scope c.args.s.now) c.args.update (e ∙ ap (update_of scope c.args.s.now) q), c.in-Ok.ensures.told scope h u q e (update_on scope c.args.s.now c.args.update.query c.args.update e None) w a)

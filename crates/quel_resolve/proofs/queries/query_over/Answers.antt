@@ -5,20 +5,16 @@ use Rattle.quel_meaning.specs.Scope.{ranged}
 use Rattle.quel_names.proofs.Overs.{named_vars_range}
 use Rattle.quel_names.specs.Asking.{scope_of}
 use Rattle.quel_names.specs.Ranging.{AreOver, each_ranges}
-use Rattle.quel_resolve.proofs.Overs.{knows}
-use Rattle.quel_resolve.proofs.Passing.{no_aggregate}
 use Rattle.quel_resolve.proofs.queries.query_over.Goals as goal
 
-pub returns-in_ok-query-in-Some-clause-told : goal.returns-in_ok-query-in-Some-clause-told
-returns-in_ok-query-in-Some-clause-told g c = λ db user h names w mine few.
+pub returns-in-Some-clause-told : goal.returns-in-Some-clause-told
+returns-in-Some-clause-told g c = λ db user h names a mine inside few.
     let over : map (ranged (scope_of db user c.args.ranges.now)) c.args.vars.now ≡ map (λ info. Some info) c.in-Some.infos.items =
     subst (λ o. AreOver (scope_of db user c.args.ranges.now) c.args.vars.now (option_map (λ (v : Vec RelInfo Global). v.items) o)) c.in-Some.is (c.in_ok-infos.ensures.told db user h) in
-    c.in_ok-query-in-Some.ensures (scope_of db user c.args.ranges.now) mine
-    (knows (scope_of db user c.args.ranges.now) (g.B.Base.lawful c.args.base.now db h) c.args.vars.now c.deref.result.now (over ∙ ap (map (λ info. Some info)) (sym c.deref.ensures.value)) few)
-    (no_aggregate c.args.s.now w)
+    c.query_known-query.ensures.told db user (c.in_ok-infos.ensures.kept ∙ h) names a mine inside few (over ∙ ap (map (λ info. Some info)) (sym c.deref.ensures.value))
 
 pub returns-in-None-clause-told : goal.returns-in-None-clause-told
-returns-in-None-clause-told g c = λ db user h names w mine few.
+returns-in-None-clause-told g c = λ db user h names a mine inside few.
     let lost : each_ranges (scope_of db user c.args.ranges.now) c.args.vars.now ≡ false =
     subst (λ o. AreOver (scope_of db user c.args.ranges.now) c.args.vars.now (option_map (λ (v : Vec RelInfo Global). v.items) o)) c.in-None.is (c.in_ok-infos.ensures.told db user h) in
     let all : each_ranges (scope_of db user c.args.ranges.now) c.args.vars.now ≡ true =

@@ -7,14 +7,13 @@ use Rattle.quel_causes.specs.Judged.{update_of}
 use Rattle.quel_meaning.specs.Resolved.{tree_by, tree_of}
 use Rattle.quel_query.specs.Changed.{Suits}
 use Rattle.quel_resolve.proofs.Changes.{few_known, few_targets}
-use Rattle.quel_resolve.proofs.Passing.{judged}
 use Rattle.quel_resolve.proofs.trees.asked.Goals as goal
 
 pub returns-in-Some-clause-told : goal.returns-in-Some-clause-told
 unfolding tree_of
 returns-in-Some-clause-told c = λ scope is u q up ch has w r n.
     let few : length (targets_of c.args.q) ≤ 256 =
-    subst (λ p. length (targets_of p) ≤ 256) (sym q) (few_targets scope c.args.s.now (judged c.args.s.now w) r (up ∙ ap (update_of scope c.args.s.now) q) n) in
+    subst (λ p. length (targets_of p) ≤ 256) (sym q) (few_targets scope c.args.s.now w r (up ∙ ap (update_of scope c.args.s.now) q) n) in
     let suits : Suits scope c.args.user.now c.args.s.now c.args.q (option_copied c.args.on) =
     record { user_is = u; target_is = ch; few_attrs = few_known scope is c.args.s.now (option_copied c.args.on) ch; few_targets = few } in
     let tree : c.in-Some.tree ≡ tree_by scope c.args.q c.args.s.now =

@@ -2,7 +2,6 @@ use Rattle.std.proofs.Common.{◌≡◌, ◌≤◌, Some, false, map, take}
 use Rattle.calculus.specs.Database.{Db}
 use Rattle.calculus.specs.Who.{Free}
 use Rattle.quel_meaning.specs.Tables.{table_of, some_query_lacks}
-use Rattle.query_tables.specs.Causes.{ArePlain}
 use Rattle.query_tables.proofs.tables.tables_of.Given as goal
 
 abbrev pub invariant-loop-one : goal.invariant-loop-one
@@ -10,6 +9,6 @@ invariant-loop-one g l = record {
   kept : g.B.Base.database l.base ≡ g.B.Base.database l.fn.base;
   same : g.B.Base.left l.base ≡ g.B.Base.left l.fn.base;
   later : g.B.Base.faults l.fn.base ≤ g.B.Base.faults l.base;
-  told : (db : Db) → g.B.Base.database l.fn.base ≡ Some db → ArePlain l.asked → l.tables.items ≡ map (table_of db Free) (take l.one-index l.asked);
-  none_lacks : (db : Db) → g.B.Base.database l.fn.base ≡ Some db → ArePlain l.asked → some_query_lacks db Free (take l.one-index l.asked) ≡ false;
+  told : (db : Db) → g.B.Base.database l.fn.base ≡ Some db → l.tables.items ≡ map (table_of db Free) (take l.one-index l.asked);
+  none_lacks : (db : Db) → g.B.Base.database l.fn.base ≡ Some db → some_query_lacks db Free (take l.one-index l.asked) ≡ false;
 }

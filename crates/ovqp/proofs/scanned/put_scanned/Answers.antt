@@ -1,0 +1,40 @@
+use Rattle.std.proofs.Common.{sym, ap, ◌∙◌, [], ◌∷◌, ◌++◌, length, subst, arith}
+use Rattle.std.proofs.lemmas.List.{length-append}
+use Rattle.calculus.specs.declared.probe.Probe.{Probe}
+use Rattle.calculus.specs.Stored.{rows_at}
+use Rattle.am_traits.specs.Scans.{Gave, first_place}
+use Rattle.ovqp.proofs.ByScan.{one_more, all_given, too_many}
+use Rattle.ovqp.proofs.scanned.put_scanned.Goals as goal
+
+pub returns-in-None-clause-told : goal.returns-in-None-clause-told
+returns-in-None-clause-told g c = λ db e.
+    let probe : Probe = c.args.probe.now in
+    let met = subst (λ o. Gave probe (g.B.Base.left c.loop-call.base c.args.key.now c.loop-call.at) (g.B.Base.left c.loop-call.base c.args.key.now c.scan.new.at) o)
+    c.in-None.is (c.in_ok-row.ensures.told db (c.loop-call.invariant.kept ∙ e)) in
+    all_given probe c.loop-call.rows.items (g.B.Base.left c.loop-call.base c.args.key.now c.loop-call.at) (g.B.Base.left c.args.base.now c.args.key.now first_place) (rows_at db c.args.key.now)
+    c.requires.any met
+    (ap (λ left. c.loop-call.rows.items ++ left c.args.key.now c.loop-call.at) c.loop-call.invariant.same ∙ c.loop-call.invariant.so_far db e)
+    (g.B.Base.scanned c.args.base.now db c.args.key.now e)
+
+pub loop-call-preserved : goal.loop-call-preserved
+loop-call-preserved g c = record {
+  kept = c.in_ok-row.ensures.kept ∙ c.loop-call.invariant.kept;
+  same = c.in_ok-row.ensures.same ∙ c.loop-call.invariant.same;
+  later = omega (arith, c.loop-call.invariant.later, c.in_ok-row.ensures.cause.later);
+  counted = omega (arith, ap length c.in_ok-put_behind-in-Some.ensures, length-append c.loop-call.rows.items (c.in-Some.row ∷ []), c.loop-call.invariant.counted);
+  so_far = λ db e.
+      let probe : Probe = c.args.probe.now in
+      let met = subst (λ o. Gave probe (g.B.Base.left c.loop-call.base c.args.key.now c.loop-call.at) (g.B.Base.left c.loop-call.base c.args.key.now c.scan.new.at) o)
+      c.in-Some.is (c.in_ok-row.ensures.told db (c.loop-call.invariant.kept ∙ e)) in
+      (λ i. c.in_ok-put_behind-in-Some.ensures i ++ sym c.loop-call.invariant.same i c.args.key.now c.scan.new.at)
+      ∙ one_more probe c.loop-call.rows.items (g.B.Base.left c.loop-call.base c.args.key.now c.loop-call.at) (g.B.Base.left c.loop-call.base c.args.key.now c.scan.new.at)
+      (g.B.Base.left c.args.base.now c.args.key.now first_place) c.in-Some.row c.requires.any met
+      (ap (λ left. c.loop-call.rows.items ++ left c.args.key.now c.loop-call.at) c.loop-call.invariant.same ∙ c.loop-call.invariant.so_far db e);
+}
+
+pub returns-clause-cause : goal.returns-clause-cause
+returns-clause-cause g c = record {
+  later = c.loop-call.invariant.later;
+  caused = too_many (g.B.Base.database c.args.base.now) (g.B.Base.left c.args.base.now) c.args.key.now c.loop-call.at c.loop-call.rows.items
+      (g.B.Base.lawful c.args.base.now) (λ db. g.B.Base.scanned c.args.base.now db c.args.key.now) c.loop-call.invariant.so_far (omega arith);
+}

@@ -1,0 +1,135 @@
+//! A base that tells no database, of three rows of two numbers.
+
+ghost use Rattle.std.specs.Prelude.{None, []};
+ghost use Rattle.std.proofs.lemmas.Option.{none-some};
+
+use am_traits::{Base, BaseFault};
+use calculus::{
+    Attr, DbChange, Domain, Kind, List, Name, OutOfMemory, Permit, Place, Probe, Query, RelInfo,
+    RelKey, Row, Rule, Spec, TryCopy, Value,
+};
+use std::alloc::Global;
+
+/// A base that tells no database, with the same heap under each key: two numbers of 16 bits, a group
+/// and a share, and the rows 1 and 10, 1 and 20, 2 and 5.
+#[derive(Drop)]
+pub struct Shares {}
+
+/// The row at a place; `None` past the last one.
+fn row_at(alloc: Global, place: u32) -> Result<Option<Row>, OutOfMemory> {
+    let (group, share) = match place {
+        0 => (1, 10),
+        1 => (1, 20),
+        2 => (2, 5),
+        _ => return Ok(None),
+    };
+    let mut values = Vec::new(alloc);
+    values.push(Value::Int(group))?;
+    values.push(Value::Int(share))?;
+    Ok(Some(Row::of(values)))
+}
+
+/// Two attributes of 16 bits, which have the name of the relation.
+fn attributes(alloc: Global, name: &Name) -> Result<Vec<Attr>, OutOfMemory> {
+    let kind = Kind::Of(Domain::I2);
+    let mut attrs = Vec::new(alloc);
+    for _ in 0..2 {
+        let name = name.copy(alloc)?;
+        attrs.push(Attr { name, kind })?;
+    }
+    Ok(attrs)
+}
+
+/// The heap of the two attributes.
+fn relation(alloc: Global, key: &RelKey) -> Result<RelInfo, OutOfMemory> {
+    let attrs = attributes(alloc, &key.name)?;
+    match key.copy(alloc) {
+        Ok(key) => Ok(RelInfo {
+            key,
+            spec: Spec::Heap,
+            attrs: List::of(attrs),
+            keys: List::of(Vec::new(alloc)),
+        }),
+        Err(error) => Err(error),
+    }
+}
+
+impl Base for Shares {
+    ghost database = { λ _. None };
+
+    ghost faults = { λ _. 0 };
+
+    ghost left = { λ _ _ _. [] };
+
+    ghost lawful = { λ _ db told. absurd (none-some db told) };
+
+    ghost scanned = { λ _ db _ told. absurd (none-some db told) };
+
+    fn dba(&mut self, _alloc: Global) -> Result<Name, BaseFault> {
+        Err(BaseFault::OutOfMemory)
+    }
+
+    fn count(&mut self) -> Result<u32, BaseFault> {
+        Ok(1)
+    }
+
+    fn find(
+        &mut self,
+        _alloc: Global,
+        _name: &Name,
+        _user: &Name,
+    ) -> Result<Option<RelInfo>, BaseFault> {
+        Ok(None)
+    }
+
+    fn info(&mut self, alloc: Global, key: &RelKey) -> Result<Option<RelInfo>, BaseFault> {
+        Ok(Some(relation(alloc, key)?))
+    }
+
+    fn size(&mut self, _alloc: Global, _key: &RelKey) -> Result<u32, BaseFault> {
+        Ok(3)
+    }
+
+    fn has_row(&mut self, _alloc: Global, _key: &RelKey, row: &Row) -> Result<bool, BaseFault> {
+        Ok(row.values().len() == 2)
+    }
+
+    fn scan(
+        &mut self,
+        alloc: Global,
+        _key: &RelKey,
+        _probe: &Probe,
+        at: &mut Place,
+    ) -> Result<Option<Row>, BaseFault> {
+        let row = row_at(alloc, at.page)?;
+        at.page = at.page.saturating_add(1);
+        Ok(row)
+    }
+
+    fn view(&mut self, _alloc: Global, _key: &RelKey) -> Result<Option<Query>, BaseFault> {
+        Ok(None)
+    }
+
+    fn rules(&mut self, alloc: Global, _key: &RelKey) -> Result<Vec<Rule>, BaseFault> {
+        Ok(Vec::new(alloc))
+    }
+
+    fn permits(&mut self, alloc: Global, _key: &RelKey) -> Result<Vec<Permit>, BaseFault> {
+        Ok(Vec::new(alloc))
+    }
+
+    fn named_by_view(
+        &mut self,
+        _alloc: Global,
+        _key: &RelKey,
+        _but: &[RelKey],
+    ) -> Result<bool, BaseFault> {
+        Ok(false)
+    }
+
+    fn apply(&mut self, _alloc: Global, _change: &DbChange) -> Result<(), BaseFault> {
+        Ok(())
+    }
+
+    fn hand_over(&mut self) {}
+}
