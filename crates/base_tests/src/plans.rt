@@ -1,9 +1,12 @@
 //! What utilities plan over a database in memory, where what they plan is laid, and what refuses them.
 
+ghost use Rattle.std.specs.Prelude.{◌≡◌, false};
+ghost use Rattle.plan_laws.specs.Fitting.{is_copy};
+
 use crate::changes::row_of;
 use crate::made::{
-    SMALL, alone, attrs, compared, empty, first, info, key_of, keys, lay, named, numbers_of,
-    places, target, try_lay,
+    SMALL, attrs, compared, empty, first, info, key_of, keys, lay, named, numbers_of, places,
+    target, try_lay,
 };
 use calculus::{
     Attr, CmpOp, DbChange, List, Permit, QQual, QTerm, Query, RelKey, Row, Rule, Spec, Utility,
@@ -27,8 +30,12 @@ enum Work<'a> {
     DropPermits(&'a [u32]),
     /// Rules go.
     DropRules(&'a [u32]),
-    /// What has the key goes.
-    Destroy,
+    /// What has the key goes, and before it what ann has by these names.
+    Destroy(&'a [&'a [u8]]),
+    /// What has the key is stored so, with these keys.
+    Modify(Spec, &'a [u8]),
+    /// An index is made, with these keys.
+    Index(&'a [u8]),
 }
 
 /// What is said of the utility.
@@ -44,10 +51,14 @@ enum Said<'a> {
     Unpermitted(&'a [u32]),
     /// Rules with these numbers go.
     Unruled(&'a [u32]),
+    /// What has these names goes.
+    Destroyed(&'a [&'a [u8]]),
+    /// It is stored so, with these keys.
+    Modified(Spec, &'a [u8]),
+    /// The index is made, with these keys.
+    Indexed(&'a [u8]),
     /// The cause of this number refuses it.
     No(u8),
-    /// Utilities of this kind aren't built.
-    NotBuilt,
 }
 
 /// The user, the owner and the name of what the utility is for, and what it is asked for.
@@ -100,8 +111,17 @@ fn rule(least: i64) -> Rule {
     }
 }
 
-/// What the utility is asked for.
-fn work_of<R: Abort>(rt: &R, alloc: Global, rel: RelKey, work: Work) -> Utility {
+/// The keys of what ann has by these names, and this one behind them.
+fn keys_and<R: Abort>(rt: &R, alloc: Global, names: &[&[u8]], key: RelKey) -> List<RelKey> {
+    let mut all = keys(rt, alloc, names).into_items();
+    all.push(key).expect(rt, "memory");
+    List::of(all)
+}
+
+/// What the utility is asked for, which is no copy.
+fn work_of<R: Abort>(rt: &R, alloc: Global, rel: RelKey, work: Work) -> Utility
+    ensures { is_copy result ≡ false }
+{
     match work {
         Work::View => Utility::View {
             rel,
@@ -123,8 +143,18 @@ fn work_of<R: Abort>(rt: &R, alloc: Global, rel: RelKey, work: Work) -> Utility 
             rel,
             numbers: numbers_of(rt, alloc, numbers),
         },
-        Work::Destroy => Utility::Destroy {
-            rels: alone(rt, alloc, rel),
+        Work::Destroy(names) => Utility::Destroy {
+            rels: keys_and(rt, alloc, names, rel),
+        },
+        Work::Modify(to, keys) => Utility::Modify {
+            rel,
+            to,
+            keys: places(rt, alloc, keys),
+        },
+        Work::Index(keys) => Utility::Index {
+            base: rel,
+            name: named(rt, alloc, b"sorted"),
+            keys: places(rt, alloc, keys),
         },
     }
 }
@@ -150,6 +180,15 @@ fn is_least(qual: &QQual) -> bool {
     }
 }
 
+/// Whether the keys have these names, in order.
+fn have_names(keys: &[RelKey], names: &[&[u8]]) -> bool {
+    keys.len() == names.len()
+        && keys
+            .iter()
+            .zip(names)
+            .all(|(key, name)| key.name.bytes() == *name)
+}
+
 /// Whether the change is as said, apart from what has the key.
 fn is_said(change: &DbChange, said: Said) -> bool {
     match (change, said) {
@@ -173,6 +212,18 @@ fn is_said(change: &DbChange, said: Said) -> bool {
         (DbChange::DropRules { rel: _, numbers }, Said::Unruled(wanted)) => {
             numbers.items() == wanted
         }
+        (DbChange::Destroy { rels }, Said::Destroyed(names)) => have_names(rels.items(), names),
+        (DbChange::Modify { rel: _, to, keys }, Said::Modified(spec, wanted)) => {
+            *to == spec && keys.items() == wanted
+        }
+        (
+            DbChange::Index {
+                base: _,
+                name,
+                keys,
+            },
+            Said::Indexed(wanted),
+        ) => name.bytes() == b"sorted".as_slice() && keys.items() == wanted,
         _ => false,
     }
 }
@@ -181,7 +232,6 @@ fn is_said(change: &DbChange, said: Said) -> bool {
 fn is_refused(fault: UtilFault, said: Said) -> bool {
     match said {
         Said::No(number) => fault == UtilFault::No(number),
-        Said::NotBuilt => fault == UtilFault::NotBuilt,
         _ => false,
     }
 }
@@ -308,6 +358,8 @@ fn only_the_owner_changes_a_relation_and_the_administrator_permits(rt: HostRunti
         (anothers(Work::Rule(4)), Said::No(24)),
         (anothers(Work::DropPermits(&[7])), Said::No(24)),
         (anothers(Work::DropRules(&[7])), Said::No(24)),
+        (anothers(Work::Modify(Spec::Hash, &[])), Said::No(24)),
+        (anothers(Work::Index(&[0])), Said::No(24)),
     ];
     assert!(rt; as_said(&rt, rt.alloc(), &all) == all.len());
 }
@@ -320,11 +372,52 @@ fn a_catalogue_and_a_view_are_refused(rt: HostRuntime) {
         (view(Work::Rule(4)), Said::No(26)),
         (view(Work::DropPermits(&[7])), Said::No(26)),
         (view(Work::DropRules(&[7])), Said::No(26)),
+        (view(Work::Modify(Spec::Hash, &[])), Said::No(26)),
+        (view(Work::Index(&[0])), Said::No(26)),
         (catalogue(Work::Permit), Said::No(28)),
         (catalogue(Work::Rule(4)), Said::No(28)),
         (catalogue(Work::DropPermits(&[7])), Said::No(28)),
         (catalogue(Work::DropRules(&[7])), Said::No(28)),
-        (parts(Work::Destroy), Said::NotBuilt),
+        (catalogue(Work::Modify(Spec::Hash, &[])), Said::No(28)),
+        (catalogue(Work::Index(&[0])), Said::No(28)),
+    ];
+    assert!(rt; as_said(&rt, rt.alloc(), &all) == all.len());
+}
+
+#[test]
+fn a_structure_has_the_keys_that_are_named_or_the_first_attribute(rt: HostRuntime) {
+    let all = [
+        (
+            parts(Work::Modify(Spec::Hash, &[])),
+            Said::Modified(Spec::Hash, &[0]),
+        ),
+        (
+            parts(Work::Modify(Spec::Isam, &[1, 0])),
+            Said::Modified(Spec::Isam, &[1, 0]),
+        ),
+        (
+            parts(Work::Modify(Spec::Heap, &[1])),
+            Said::Modified(Spec::Heap, &[]),
+        ),
+        (parts(Work::Index(&[1, 0])), Said::Indexed(&[1, 0])),
+    ];
+    assert!(rt; as_said(&rt, rt.alloc(), &all) == all.len());
+}
+
+/// A catalogue counts before what is another's, and that before a view that stays.
+#[test]
+fn what_goes_is_the_users_own_and_no_view_that_stays_names_it(rt: HostRuntime) {
+    let all = [
+        (view(Work::View), Said::Viewed),
+        (own(Work::Destroy(&[b"relation"])), Said::No(28)),
+        (anothers(Work::Destroy(&[])), Said::No(24)),
+        (own(Work::Destroy(&[b"parts"])), Said::No(24)),
+        (parts(Work::Destroy(&[])), Said::No(25)),
+        (
+            parts(Work::Destroy(&[b"numbers"])),
+            Said::Destroyed(&[b"numbers", b"parts"]),
+        ),
+        (own(Work::Destroy(&[])), Said::Destroyed(&[b"own"])),
     ];
     assert!(rt; as_said(&rt, rt.alloc(), &all) == all.len());
 }

@@ -12,7 +12,7 @@ use Rattle.calculus.specs.IsDatabase.{IsDatabase}
 use Rattle.calculus.specs.Permission.{query_permitted, update_permitted}
 use Rattle.quel_meaning.specs.Fit.{is_fit_with_views}
 use Rattle.quel_meaning.specs.Meaning.{checked_permitted, tree_meaning}
-use Rattle.quel_meaning.specs.Shelf.{Shelf}
+use Rattle.fault_io.specs.Files.{Files}
 use Rattle.tree_laws.proofs.Means.{means_same}
 use Rattle.view_text.specs.PutIn.{put_in_asked, put_in_update, put_in_tree}
 use Rattle.cut_rules.specs.Refused.{IsRefusedIn, IsRefusedOf, IsRefusedBy}
@@ -49,7 +49,7 @@ pub update_refused : (db : Db) (who : Who) (tree : Checked) (u : Update) (var : 
     → (update_permitted db who u ≡ false) × IsRefusedOf db who u var → (checked_permitted db who tree ≡ false) × IsRefusedBy db who tree var
 update_refused db who tree u var t r = (sym (change_permitted_is db who tree u t) ∙ r.0, subst (λ t. IsRefusedBy db who t var) (sym t) r.1)
 
-pub put_means : (db : Db) → IsDatabase db → (shelf : Shelf) (user : List ℕ) (tree : Checked) → is_fit_with_views db user tree ≡ true → {E : Type 0} → (result : Result Checked E)
+pub put_means : (db : Db) → IsDatabase db → (shelf : Files) (user : List ℕ) (tree : Checked) → is_fit_with_views db user tree ≡ true → {E : Type 0} → (result : Result Checked E)
     → IfOk result (λ made. made ≡ put_in_tree db (asks user) tree) → IfOk result (λ made. tree_meaning db shelf Free user made ≡ tree_meaning db shelf (asks user) user tree)
 put_means db d shelf user tree fit (Ok made) e = ap (tree_meaning db shelf Free user) e ∙ sym (means_same db d (asks user) shelf user tree fit)
 put_means db d shelf user tree fit (Err error) e = e

@@ -12,7 +12,7 @@ ghost use Rattle.cut_rules.specs.Refused.{IsRefusedBy, IsRefusedIn};
 ghost use Rattle.quel_meaning.specs.Fit.{is_fit_with_views};
 ghost use Rattle.quel_meaning.specs.FitQueries.{asked_fits, kept_or_viewed};
 ghost use Rattle.quel_meaning.specs.Meaning.{checked_permitted, tree_meaning};
-ghost use Rattle.quel_meaning.specs.Shelf.{Shelf};
+ghost use Rattle.fault_io.specs.Files.{Files};
 ghost use Rattle.view_expand.specs.Asking.{who_of};
 ghost use Rattle.view_expand.specs.Found.{IsFound};
 ghost use Rattle.view_text.specs.PutIn.{put_in_asked, put_in_tree};
@@ -148,7 +148,7 @@ pub fn cut_permits<B: Base>(
 ) -> Result<Checked, CutFault>
     requires { (db : Db) → B.database base.old ≡ Some db → is_fit_with_views db user.now tree.now ≡ true }
     ensures told { (db : Db) → B.database base.old ≡ Some db → IfOk result (λ made. made ≡ put_in_tree db (asks user.now) tree.now) }
-    ensures means { (db : Db) → B.database base.old ≡ Some db → (shelf : Shelf) → IfOk result (λ made. tree_meaning db shelf Free user.now made ≡ tree_meaning db shelf (asks user.now) user.now tree.now) }
+    ensures means { (db : Db) → B.database base.old ≡ Some db → (shelf : Files) → IfOk result (λ made. tree_meaning db shelf Free user.now made ≡ tree_meaning db shelf (asks user.now) user.now tree.now) }
     ensures permitted { (db : Db) → B.database base.old ≡ Some db → OnOk result (checked_permitted db (asks user.now) tree.now ≡ true) }
     ensures kept { B.database base.new ≡ B.database base.old }
     ensures same { B.left base.new ≡ B.left base.old }

@@ -1,4 +1,4 @@
-//! Tests of the way to the disk: sources and sinks, disks that crash, batches, pages and rows.
+//! Tests of the way to the disk: sources, sinks and shelves, disks that crash, batches, pages and rows.
 #![tactic(auto)]
 
 #[cfg(test)]
@@ -9,6 +9,8 @@ mod disks;
 mod pages;
 #[cfg(test)]
 mod rows;
+#[cfg(test)]
+mod shelves;
 #[cfg(test)]
 mod stopping;
 #[cfg(test)]

@@ -1,7 +1,9 @@
--- Sources and sinks in memory, as contracts see them.
-use Rattle.std.specs.Prelude.{ℕ, ◌-◌, List, min}
+-- Sources, sinks and shelves in memory, as contracts see them.
+use Rattle.std.specs.Prelude.{ℕ, ◌-◌, List, [], ◌∷◌, min}
 use Rattle.std.specs.declared.option.Option.{Option}
 use Rattle.std.specs.declared.option.Option.TheVariants.{Some, None}
+use Rattle.std.specs.Global.{Vec}
+use Rattle.fault_io.specs.Files.{File, Files, stored}
 
 -- A source: the bytes that are left, the number of the next call, the numbers of the calls that are to fail, and how often a call has failed.
 pub record SourceInMemory : Type 0 where
@@ -27,3 +29,19 @@ fitting_count (Some room) n = min n room
 abbrev pub room_after : Option ℕ → ℕ → Option ℕ
 room_after None n = None
 room_after (Some room) n = Some (room - n)
+
+-- A shelf: its files, the number of the next call, the numbers of the calls that are to fail, and how often a call has failed.
+pub record ShelfInMemory : Type 0 where
+  pub files : Files
+  pub next_call : ℕ
+  pub failing : List ℕ
+  pub faults : ℕ
+
+-- The files with these, one after the other: of two with one name the later stands.
+unfoldable pub all_stored : Files → List File → Files
+all_stored files [] = files
+all_stored files (f ∷ more) = all_stored (stored files f.0 f.1) more
+
+-- A file, where names and bytes are vectors.
+abbrev pub seen_file : Vec ℕ × Vec ℕ → File
+seen_file f = (f.0.items, f.1.items)

@@ -5,7 +5,11 @@ use Rattle.std.specs.declared.option.Option.{Option}
 use Rattle.std.specs.Io.KnownBytes.{Appends}
 use Rattle.calculus.specs.Who.{Asker, asker_of}
 use Rattle.fault_io.specs.Told.{IsFront, GrewBy}
-use Rattle.plain_statements.specs.Built.{built}
+use Rattle.fault_io.specs.Files.{Files}
+use Rattle.plain_statements.specs.Standing.{empty_db}
+use Rattle.session_run.specs.Standing.{state_on}
+use Rattle.quel_meaning.specs.Ranges.{Ranges}
+use Rattle.calculus.specs.Database.{Db}
 use Rattle.quel_meaning.specs.Meaning.{meaning}
 use Rattle.quel_meaning.specs.Happening.{over}
 use Rattle.quel_meaning.specs.Lines.{lines_of}
@@ -19,81 +23,81 @@ use Rattle.ingres_top.specs.Top.{within as lines_within}
 
 -- what each statement means for the one who asks
 abbrev pub of_asker : Asker → Meaning
-of_asker asker state s = meaning built state asker s
+of_asker asker state s = meaning state asker s
 
-same_whole : (user script : List ℕ) → runs.whole (of_asker (asker_of user)) (nothing_yet user) script ≡ whole user script
+same_whole : (user : List ℕ) (files : Files) (script : List ℕ) → runs.whole (of_asker (asker_of user)) (nothing_yet user files) script ≡ whole user files script
 unfolding session
-same_whole user script = refl
+same_whole user files script = refl
 
-done_is : (user : List ℕ) (left0 left1 w0 w1 : Option (List ℕ)) → runs.IsDone (of_asker (asker_of user)) (nothing_yet user) left0 left1 w0 w1 → IsDone user left0 left1 w0 w1
-done_is user None left1 w0 w1 done = done
-done_is user (Some script) left1 w0 w1 done =
-    subst (λ (s : Session). ((left1 ≡ Some []) ⊎ (s.quit ≡ true)) × Appends w0 w1 (output s)) (same_whole user script) done
+module _ (user : List ℕ) (files : Files) where
+  done_is : (left0 left1 w0 w1 : Option (List ℕ)) (told1 : Option Files) → runs.IsDone (of_asker (asker_of user)) (nothing_yet user files) left0 left1 w0 w1 told1
+      → IsDone user files left0 left1 w0 w1 told1
+  done_is None left1 w0 w1 told1 done = done
+  done_is (Some script) left1 w0 w1 told1 done =
+      subst (λ (s : Session). ((left1 ≡ Some []) ⊎ (s.quit ≡ true)) × Appends w0 w1 (output s) × (told1 ≡ Some s.state.shelf)) (same_whole user files script) done
 
-partly_is : (user : List ℕ) (left0 w0 w1 : Option (List ℕ)) → runs.IsPartlyDone (of_asker (asker_of user)) (nothing_yet user) left0 w0 w1 → IsPartlyDone user left0 w0 w1
-partly_is user None w0 w1 done = done
-partly_is user (Some script) w0 w1 done = subst (λ (s : Session). GrewBy w0 w1 (λ more. IsFront more (output s))) (same_whole user script) done
+  partly_is : (left0 w0 w1 : Option (List ℕ)) → runs.IsPartlyDone (of_asker (asker_of user)) (nothing_yet user files) left0 w0 w1 → IsPartlyDone user files left0 w0 w1
+  partly_is None w0 w1 done = done
+  partly_is (Some script) w0 w1 done = subst (λ (s : Session). GrewBy w0 w1 (λ more. IsFront more (output s))) (same_whole user files script) done
 
-cut_off_is : (user : List ℕ) (left0 left1 w0 w1 : Option (List ℕ)) → runs.IsCutOff (of_asker (asker_of user)) (nothing_yet user) left0 left1 w0 w1 → IsCutOff user left0 left1 w0 w1
-cut_off_is user None left1 w0 w1 cut = cut
-cut_off_is user (Some script) left1 w0 w1 cut = record { read = cut.read; goes_on = cut.goes_on; printed = cut.printed }
+  cut_off_is : (left0 left1 w0 w1 : Option (List ℕ)) (told1 : Option Files) → runs.IsCutOff (of_asker (asker_of user)) (nothing_yet user files) left0 left1 w0 w1 told1
+      → IsCutOff user files left0 left1 w0 w1 told1
+  cut_off_is None left1 w0 w1 told1 cut = cut
+  cut_off_is (Some script) left1 w0 w1 told1 cut = record { read = cut.read; goes_on = cut.goes_on; printed = cut.printed; shelved = cut.shelved }
 
-kept_up_is : (user : List ℕ) (left0 left1 w0 w1 : Option (List ℕ)) → runs.IsKeptUp (of_asker (asker_of user)) (nothing_yet user) left0 left1 w0 w1 → IsKeptUp user left0 left1 w0 w1
-kept_up_is user None left1 w0 w1 kept = kept
-kept_up_is user (Some script) left1 w0 w1 kept =
-    record { heard = kept.heard; piece = kept.piece; small = kept.small; read = kept.read; goes_on = kept.goes_on; printed = kept.printed }
+  kept_up_is : (left0 left1 w0 w1 : Option (List ℕ)) → runs.IsKeptUp (of_asker (asker_of user)) (nothing_yet user files) left0 left1 w0 w1 → IsKeptUp user files left0 left1 w0 w1
+  kept_up_is None left1 w0 w1 kept = kept
+  kept_up_is (Some script) left1 w0 w1 kept =
+      record { heard = kept.heard; piece = kept.piece; small = kept.small; read = kept.read; goes_on = kept.goes_on; printed = kept.printed }
 
-broken_off_is : (user : List ℕ) (left0 left1 w0 w1 : Option (List ℕ)) → runs.IsBrokenOff (of_asker (asker_of user)) (nothing_yet user) left0 left1 w0 w1 → IsBrokenOff user left0 left1 w0 w1
-broken_off_is user None left1 w0 w1 broken = broken
-broken_off_is user (Some script) left1 w0 w1 broken = record { heard = broken.heard; read = broken.read; goes_on = broken.goes_on; printed = broken.printed }
+  broken_off_is : (left0 left1 w0 w1 : Option (List ℕ)) (told1 : Option Files) → runs.IsBrokenOff (of_asker (asker_of user)) (nothing_yet user files) left0 left1 w0 w1 told1
+      → IsBrokenOff user files left0 left1 w0 w1 told1
+  broken_off_is None left1 w0 w1 told1 broken = broken
+  broken_off_is (Some script) left1 w0 w1 told1 broken =
+      record { heard = broken.heard; read = broken.read; goes_on = broken.goes_on; printed = broken.printed; shelved = broken.shelved }
 
--- of a script of which nothing is read nothing is heard
-no_lines : (user : List ℕ) (script : List ℕ) → output (lines_within 0 user script) ≡ []
-unfolding session_of_lines after_lines over lines_of printed
-no_lines user script = refl
+  -- of a script of which nothing is read nothing is heard
+  no_lines : (script : List ℕ) → output (lines_within 0 user files script) ≡ []
+  unfolding session_of_lines after_lines over lines_of printed
+  no_lines script = refl
 
-none_quits : (user : List ℕ) (script : List ℕ) → (lines_within 0 user script).quit ≡ false
-unfolding session_of_lines after_lines over lines_of
-none_quits user script = refl
+  none_quits : (script : List ℕ) → (lines_within 0 user files script).quit ≡ false
+  unfolding session_of_lines after_lines over lines_of
+  none_quits script = refl
 
-pub nothing_read : (user : List ℕ) (left written : Option (List ℕ)) → IsKeptUp user left left written written
-nothing_read user None written = tt
-nothing_read user (Some script) written = record {
-  heard = 0;
-  piece = 0;
-  small = omega arith;
-  read = refl;
-  goes_on = none_quits user script;
-  printed = ([], Appends-nil written, ([], sym (append-nil (output (lines_within 0 user script)) ∙ no_lines user script)));
-}
+  pub nothing_read : (left written : Option (List ℕ)) → IsKeptUp user files left left written written
+  nothing_read None written = tt
+  nothing_read (Some script) written = record {
+    heard = 0;
+    piece = 0;
+    small = omega arith;
+    read = refl;
+    goes_on = none_quits script;
+    printed = ([], Appends-nil written, ([], sym (append-nil (output (lines_within 0 user files script)) ∙ no_lines script)));
+  }
 
--- what is said of statements that begin so is said of the user's that work on nothing yet
-pub begins_so : (user : List ℕ) (begun : Asker) (state : State) (says : Asker → State → Type 0) → begun ≡ asker_of user → state ≡ nothing_yet user → says begun state
-    → says (asker_of user) (nothing_yet user)
-begins_so user begun state says same_user same_state said =
-    subst (λ (s : State). says (asker_of user) s) same_state (subst (λ (a : Asker). says a state) same_user said)
+  -- what is said of statements that begin so is said of the user's that work on nothing yet
+  module _ (begun : Asker) (db : Db) (ranges : Ranges) (same_user : begun ≡ asker_of user) (same_db : db ≡ empty_db user) (no_ranges : ranges ≡ []) where
+    begins_so : (says : Asker → State → Type 0) → says begun (state_on db ranges files) → says (asker_of user) (nothing_yet user files)
+    begins_so says said =
+        subst (λ (r : Ranges). says (asker_of user) (state_on (empty_db user) r files)) no_ranges
+        (subst (λ (d : Db). says (asker_of user) (state_on d ranges files)) same_db (subst (λ (a : Asker). says a (state_on db ranges files)) same_user said))
 
-pub done_so : (user : List ℕ) (begun : Asker) (state : State) (left0 left1 w0 w1 : Option (List ℕ)) → begun ≡ asker_of user → state ≡ nothing_yet user
-    → runs.IsDone (of_asker begun) state left0 left1 w0 w1 → IsDone user left0 left1 w0 w1
-done_so user begun state left0 left1 w0 w1 same_user same_state done =
-    done_is user left0 left1 w0 w1 (begins_so user begun state (λ u s. runs.IsDone (of_asker u) s left0 left1 w0 w1) same_user same_state done)
+    pub done_so : (left0 left1 w0 w1 : Option (List ℕ)) (told1 : Option Files) → runs.IsDone (of_asker begun) (state_on db ranges files) left0 left1 w0 w1 told1
+        → IsDone user files left0 left1 w0 w1 told1
+    done_so left0 left1 w0 w1 told1 done = done_is left0 left1 w0 w1 told1 (begins_so (λ u s. runs.IsDone (of_asker u) s left0 left1 w0 w1 told1) done)
 
-pub partly_so : (user : List ℕ) (begun : Asker) (state : State) (left0 w0 w1 : Option (List ℕ)) → begun ≡ asker_of user → state ≡ nothing_yet user
-    → runs.IsPartlyDone (of_asker begun) state left0 w0 w1 → IsPartlyDone user left0 w0 w1
-partly_so user begun state left0 w0 w1 same_user same_state done =
-    partly_is user left0 w0 w1 (begins_so user begun state (λ u s. runs.IsPartlyDone (of_asker u) s left0 w0 w1) same_user same_state done)
+    pub partly_so : (left0 w0 w1 : Option (List ℕ)) → runs.IsPartlyDone (of_asker begun) (state_on db ranges files) left0 w0 w1 → IsPartlyDone user files left0 w0 w1
+    partly_so left0 w0 w1 done = partly_is left0 w0 w1 (begins_so (λ u s. runs.IsPartlyDone (of_asker u) s left0 w0 w1) done)
 
-pub cut_off_so : (user : List ℕ) (begun : Asker) (state : State) (left0 left1 w0 w1 : Option (List ℕ)) → begun ≡ asker_of user → state ≡ nothing_yet user
-    → runs.IsCutOff (of_asker begun) state left0 left1 w0 w1 → IsCutOff user left0 left1 w0 w1
-cut_off_so user begun state left0 left1 w0 w1 same_user same_state cut =
-    cut_off_is user left0 left1 w0 w1 (begins_so user begun state (λ u s. runs.IsCutOff (of_asker u) s left0 left1 w0 w1) same_user same_state cut)
+    pub cut_off_so : (left0 left1 w0 w1 : Option (List ℕ)) (told1 : Option Files) → runs.IsCutOff (of_asker begun) (state_on db ranges files) left0 left1 w0 w1 told1
+        → IsCutOff user files left0 left1 w0 w1 told1
+    cut_off_so left0 left1 w0 w1 told1 cut = cut_off_is left0 left1 w0 w1 told1 (begins_so (λ u s. runs.IsCutOff (of_asker u) s left0 left1 w0 w1 told1) cut)
 
-pub kept_up_so : (user : List ℕ) (begun : Asker) (state : State) (left0 left1 w0 w1 : Option (List ℕ)) → begun ≡ asker_of user → state ≡ nothing_yet user
-    → runs.IsKeptUp (of_asker begun) state left0 left1 w0 w1 → IsKeptUp user left0 left1 w0 w1
-kept_up_so user begun state left0 left1 w0 w1 same_user same_state kept =
-    kept_up_is user left0 left1 w0 w1 (begins_so user begun state (λ u s. runs.IsKeptUp (of_asker u) s left0 left1 w0 w1) same_user same_state kept)
+    pub kept_up_so : (left0 left1 w0 w1 : Option (List ℕ)) → runs.IsKeptUp (of_asker begun) (state_on db ranges files) left0 left1 w0 w1 → IsKeptUp user files left0 left1 w0 w1
+    kept_up_so left0 left1 w0 w1 kept = kept_up_is left0 left1 w0 w1 (begins_so (λ u s. runs.IsKeptUp (of_asker u) s left0 left1 w0 w1) kept)
 
-pub broken_off_so : (user : List ℕ) (begun : Asker) (state : State) (left0 left1 w0 w1 : Option (List ℕ)) → begun ≡ asker_of user → state ≡ nothing_yet user
-    → runs.IsBrokenOff (of_asker begun) state left0 left1 w0 w1 → IsBrokenOff user left0 left1 w0 w1
-broken_off_so user begun state left0 left1 w0 w1 same_user same_state broken =
-    broken_off_is user left0 left1 w0 w1 (begins_so user begun state (λ u s. runs.IsBrokenOff (of_asker u) s left0 left1 w0 w1) same_user same_state broken)
+    pub broken_off_so : (left0 left1 w0 w1 : Option (List ℕ)) (told1 : Option Files) → runs.IsBrokenOff (of_asker begun) (state_on db ranges files) left0 left1 w0 w1 told1
+        → IsBrokenOff user files left0 left1 w0 w1 told1
+    broken_off_so left0 left1 w0 w1 told1 broken =
+        broken_off_is left0 left1 w0 w1 told1 (begins_so (λ u s. runs.IsBrokenOff (of_asker u) s left0 left1 w0 w1 told1) broken)

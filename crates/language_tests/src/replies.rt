@@ -207,8 +207,8 @@ fn done_and_refused(alloc: Global, refusal: Refusal) -> Result<Vec<u8>, OutOfMem
 
 const LEAST: &[u8] = b"|n          |\n|-----------|\n|-2147483648|\n|-----------|\n";
 
-const NOT_BUILT: Refusal = Refusal {
-    code: 9,
+const IN_USE: Refusal = Refusal {
+    code: 25,
     line: 1,
     row: 0,
 };
@@ -238,6 +238,6 @@ fn replies_are_printed(rt: HostRuntime) {
     }
     assert!(rt; are(done_bytes(rt.alloc()), b"done\n"));
     assert!(rt; are(reply_bytes(rt.alloc(), &Reply::Nothing), b""));
-    let both = b"done\nrefused 9 line 1: not built\n";
-    assert!(rt; are(done_and_refused(rt.alloc(), NOT_BUILT), both));
+    let both = b"done\nrefused 25 line 1: in use\n";
+    assert!(rt; are(done_and_refused(rt.alloc(), IN_USE), both));
 }

@@ -1,10 +1,9 @@
 -- What is planned is lawful.
-use Rattle.std.proofs.Common.{◌≡◌, refl, ap, subst, ℕ, nat_eq, nat_le, true, false, List, Result, Ok, Err}
+use Rattle.std.proofs.Common.{◌≡◌, ap, subst, ℕ, nat_eq, nat_le, true, false, List, Result, Ok, Err}
 use Rattle.calculus.specs.declared.change.DbChange.{DbChange}
 use Rattle.calculus.specs.declared.request.Update.{Update}
 use Rattle.calculus.specs.declared.request.UpdateOp.TheVariants as op
 use Rattle.calculus.specs.declared.request.Utility.{Utility}
-use Rattle.calculus.specs.declared.request.Utility.TheVariants as utility
 use Rattle.calculus.specs.Change.{IsLawful}
 use Rattle.calculus.specs.Database.{Db}
 use Rattle.calculus.specs.IsDatabase.{IsDatabase}
@@ -30,7 +29,6 @@ use Rattle.plain_statements.specs.Plans.{Plans}
 use Rattle.plain_statements.specs.Doable.{IsDoableUpdate, IsDoableWork}
 use Rattle.plain_statements.proofs.Answered.{can_be_answered}
 use Rattle.query_tables.specs.Causes.{CanBeAnswered}
-use Rattle.utilities.specs.Built.{is_built}
 
 -- ---- updates
 
@@ -63,10 +61,6 @@ module _ (db : Db) (u : Update) where
 
 -- ---- utilities
 
--- what is planned is no copy
-no_copy : (work : Utility) → is_built work ≡ true → is_copy work ≡ false
-no_copy (utility.Copy rel columns from file) h = absurd (cc h)
-no_copy work h = refl
-
-pub work_lawful : (db : Db) (user : List ℕ) (work : Utility) (change : DbChange) → IsDatabase db → IsDoableWork db user work → planned db user work ≡ Ok change → IsLawful db change
-work_lawful db user work change is doable e = fitting_plan_lawful (kept_alone db) db user work change is doable.fit (no_copy work doable.built) e
+pub work_lawful : (db : Db) (user : List ℕ) (work : Utility) (change : DbChange) → IsDatabase db → IsDoableWork db user work → is_copy work ≡ false
+    → planned db user work ≡ Ok change → IsLawful db change
+work_lawful db user work change is doable planned_so e = fitting_plan_lawful (kept_alone db) db user work change is doable planned_so e

@@ -10,7 +10,6 @@ use Rattle.quel_meaning.specs.FitQueries.{kept_alone}
 use Rattle.quel_meaning.specs.Fit.{is_fit, update_fits}
 use Rattle.quel_meaning.specs.SpelledTree.{update_is_spelled}
 use Rattle.query_tables.specs.Causes.{CanBeAnswered}
-use Rattle.utilities.specs.Built.{is_built}
 
 -- the queries can be answered
 abbrev pub AreDoable : Db → List Asked → Type 0
@@ -21,10 +20,9 @@ pub record IsDoableUpdate (db : Db) (u : Update) : Type 0 where
   pub spelled : update_is_spelled u ≡ true
   pub fits : update_fits (kept_alone db) db u ≡ true
 
--- the utility is fit for the database and the user, and of a kind that is planned
-pub record IsDoableWork (db : Db) (user : List ℕ) (work : Utility) : Type 0 where
-  pub fit : is_fit db user (checked.Utility work) ≡ true
-  pub built : is_built work ≡ true
+-- the utility is fit for the database and the user
+abbrev pub IsDoableWork : Db → List ℕ → Utility → Type 0
+IsDoableWork db user work = is_fit db user (checked.Utility work) ≡ true
 
 -- queries, an update or work for the utilities
 abbrev pub IsDoable : Db → List ℕ → Checked → Type 0

@@ -1,4 +1,3 @@
-pub mod Built
 pub mod Doable
 pub mod Plans
 pub mod Standing

@@ -1,23 +1,20 @@
--- What stands before and after a statement, where there are no files.
-use Rattle.std.specs.Prelude.{ℕ, List, []}
+-- What stands before and after a tree is carried out and a statement runs.
+use Rattle.std.specs.Prelude.{◌≡◌, ℕ, List, [], Option, Some}
 use Rattle.calculus.specs.declared.reply.Reply.{Reply}
 use Rattle.calculus.specs.Database.{Db}
+use Rattle.fault_io.specs.Files.{Files}
 use Rattle.quel_meaning.specs.Meaning.{Effect}
-use Rattle.quel_meaning.specs.Ranges.{Ranges}
-use Rattle.quel_meaning.specs.State.{State, Outcome}
 
 -- the database of this administrator, without anything in it
 abbrev pub empty_db : List ℕ → Db
 empty_db dba = record { dba = dba; relations = []; indexes = []; views = []; rules = []; permits = [] }
 
--- this database and these range variables
-abbrev pub state_of : Db → Ranges → State
-state_of db ranges = record { db = db; shelf = []; ranges = ranges }
+-- this database and these files stand after a tree was carried out, and this is the reply
+abbrev pub effect_of : Db → Files → Reply → Effect
+effect_of db files reply = record { db = db; shelf = files; reply = reply }
 
--- these stand after a statement, and this is its reply
-abbrev pub outcome_of : Db → Ranges → Reply → Outcome
-outcome_of db ranges reply = record { state = state_of db ranges; reply = reply }
-
--- this database stands after a tree was carried out, and this is the reply
-abbrev pub effect_of : Db → Reply → Effect
-effect_of db reply = record { db = db; shelf = []; reply = reply }
+-- the effect is this database, the files that the shelf tells, and this reply
+pub record Leaves (effect : Effect) (db : Db) (told : Option Files) (reply : Reply) : Type 0 where
+  pub files : Files
+  pub told_so : told ≡ Some files
+  pub is : effect ≡ effect_of db files reply

@@ -1,4 +1,13 @@
--- The number that refuses a statement where a part of its work answers a fault.
+-- The number that refuses a statement where a part of its work answers a fault, and what comes of a copy.
+use Rattle.std.specs.Prelude.{Result, Ok, Err}
+use Rattle.memory.specs.declared.out_of_memory.OutOfMemory.{OutOfMemory as Short}
+use Rattle.calculus.specs.declared.reply.Reply.{Reply}
+use Rattle.calculus.specs.declared.reply.Reply.TheVariants.{Refused}
+use Rattle.fault_io.specs.declared.shelf.ShelfFault.{ShelfFault}
+use Rattle.fault_io.specs.declared.shelf.ShelfFault.TheVariants as shelf
+use Rattle.quel_meaning.specs.Copying.{refusal, bad_row}
+use Rattle.copy_util.specs.declared.fault.CopyFault.{CopyFault}
+use Rattle.copy_util.specs.declared.fault.CopyFault.TheVariants as copy
 use Rattle.ovqp.specs.declared.fault.QueryFault.{QueryFault}
 use Rattle.ovqp.specs.declared.fault.QueryFault.TheVariants as query
 use Rattle.stage_proc.specs.declared.fault.PairFault.{PairFault}
@@ -7,8 +16,8 @@ use Rattle.update_change.specs.declared.fault.UpdateFault.{UpdateFault}
 use Rattle.update_change.specs.declared.fault.UpdateFault.TheVariants as change
 use Rattle.utilities.specs.declared.fault.UtilFault.{UtilFault}
 use Rattle.utilities.specs.declared.fault.UtilFault.TheVariants as utility
-use Rattle.quel_resolve.specs.declared.fault.CheckFault.{CheckFault}
-use Rattle.quel_resolve.specs.declared.fault.CheckFault.TheVariants as check
+use Rattle.quel_utilities.specs.declared.fault.CheckFault.{CheckFault}
+use Rattle.quel_utilities.specs.declared.fault.CheckFault.TheVariants as check
 use Rattle.plain_statements.specs.declared.stopped.Stopped.{Stopped}
 use Rattle.plain_statements.specs.declared.stopped.Stopped.TheVariants.{No, OutOfMemory}
 
@@ -33,14 +42,26 @@ change_stop change.OutOfMemory = OutOfMemory
 
 -- of a utility: the number of its cause
 abbrev pub utility_stop : UtilFault → Stopped
-utility_stop utility.NotBuilt = OutOfMemory
 utility_stop (utility.No number) = No number
 utility_stop (utility.Base fault) = OutOfMemory
 utility_stop utility.OutOfMemory = OutOfMemory
 
 -- of a statement's tree: the number of its cause
 abbrev pub check_stop : CheckFault → Stopped
-check_stop check.NotBuilt = OutOfMemory
 check_stop (check.No number) = No number
 check_stop (check.Base fault) = OutOfMemory
 check_stop check.OutOfMemory = OutOfMemory
+
+-- of a copy: the refusal by its number, by the bad row, or as there is no such file; or a fault of the shelf
+abbrev pub copy_answer : CopyFault → Result Reply ShelfFault
+copy_answer (copy.No number) = Ok (Refused (refusal number))
+copy_answer (copy.BadRow row) = Ok (Refused (bad_row row))
+copy_answer copy.NoFile = Ok (Refused (refusal 32))
+copy_answer copy.Shelf = Err shelf.Failed
+copy_answer (copy.Base fault) = Err shelf.OutOfMemory
+copy_answer copy.OutOfMemory = Err shelf.OutOfMemory
+
+-- of what asks no shelf: the reply, or want of memory
+abbrev pub without_shelf : Result Reply Short → Result Reply ShelfFault
+without_shelf (Ok reply) = Ok reply
+without_shelf (Err short) = Err shelf.OutOfMemory

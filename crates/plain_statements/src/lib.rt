@@ -1,9 +1,11 @@
-//! Runs one statement after the other on a database in memory.
+//! Runs one statement after the other on a database in memory and a shelf.
 #![tactic(auto)]
 
 mod answering;
 mod carrying;
 mod changing;
+mod copying;
+mod laying;
 mod pairing;
 mod planning;
 mod refusing;

@@ -1,33 +1,31 @@
-//! Runs a statement of a user on a database in memory and the range variables.
+//! Runs a statement of a user on a database in memory, the range variables and a shelf.
 
-ghost use Rattle.std.specs.Prelude.{◌≡◌, true, false, None, IfOk, IsOk, IfSome, OnErr};
+ghost use Rattle.std.specs.Prelude.{◌≡◌, true, false, None, Some, IfOk, IfSome, OnErr};
 ghost use Rattle.calculus.specs.Who.{asker_of};
 ghost use Rattle.calculus.specs.declared.statement.Statement.{Statement as Stated};
 ghost use Rattle.calculus.specs.declared.statement.Statement.TheVariants.{Range};
 ghost use Rattle.calculus.specs.Finding.{found};
+ghost use Rattle.fault_io.specs.Files.{Files};
+ghost use Rattle.fault_io.specs.Shelves.{HasShelfCause};
 ghost use Rattle.quel_meaning.specs.IsWritten.{is_written};
 ghost use Rattle.quel_meaning.specs.Meaning.{meaning, is_range, range_outcome, judged, judged_outcome};
 ghost use Rattle.quel_meaning.specs.Ranges.{Ranges};
-ghost use Rattle.quel_resolve.specs.Built.{is_built};
+ghost use Rattle.session_run.specs.Standing.{Comes, state_on};
 ghost use Rattle.plain_base.specs.Shown.{database_of};
-ghost use Rattle.plain_statements.specs.Built.{built};
 ghost use Rattle.plain_statements.specs.Doable.{IsDoable};
 ghost use Rattle.plain_statements.specs.Plans.{IsMade};
-ghost use Rattle.plain_statements.specs.Standing.{state_of, outcome_of};
+ghost use Rattle.plain_statements.specs.Stopping.{without_shelf};
 
 use crate::Stopped;
-use crate::carrying::tree_done;
+use crate::carrying::{tree_done, without_shelf};
 use crate::refusing::{answer_to, refused};
 use crate::trees::tree_of;
 use am_traits::Base;
 use calculus::{Checked, Name, OutOfMemory, Reply, Statement, TryCopy};
+use fault_io::{Shelf, ShelfFault};
 use plain_base::DbPlain;
 use quel_check::RangeTable;
-use quel_resolve::is_built;
 use std::alloc::Global;
-
-/// The number of a statement that isn't built.
-const NOT_BUILT: u8 = 9;
 
 /// The number of an unknown relation.
 const NO_RELATION: u8 = 10;
@@ -41,7 +39,7 @@ fn declared(
     var: &Name,
     rel: &Name,
 ) -> Result<Reply, OutOfMemory>
-    ensures done { IfOk result (λ reply. range_outcome (state_of (database_of base.old) ranges.old) var.now (found (database_of base.old) user.now rel.now) ≡ outcome_of (database_of base.new) ranges.new reply) }
+    ensures done { (files : Files) → IfOk result (λ reply. range_outcome (state_on (database_of base.old) ranges.old files) var.now (found (database_of base.old) user.now rel.now) ≡ record { state = state_on (database_of base.new) ranges.new files; reply = reply }) }
     ensures kept { database_of base.new ≡ database_of base.old }
     ensures same { OnErr result (ranges.new ≡ ranges.old) }
 {
@@ -56,42 +54,46 @@ fn declared(
 }
 
 /// Carries out what is made for a statement, or refuses it.
-fn made_done(
+fn made_done<H: Shelf>(
     alloc: Global,
     base: &mut DbPlain,
+    shelf: &mut H,
     user: &Name,
     made: Result<Checked, Stopped>,
-) -> Result<Reply, OutOfMemory>
+) -> Result<Reply, ShelfFault>
     requires { IfOk made (λ tree. IsDoable (database_of base.old) user.now tree) }
-    ensures done { (ranges : Ranges) (s : Stated) → IsMade (database_of base.old) user.now ranges s made
-        → IfOk result (λ reply. judged_outcome (state_of (database_of base.old) ranges) (asker_of user.now) (judged (database_of base.old) (asker_of user.now) ranges s) ≡ outcome_of (database_of base.new) ranges reply) }
+    ensures done { (ranges : Ranges) (s : Stated) (files : Files) → H.files shelf.old ≡ Some files → IsMade (database_of base.old) user.now ranges s made
+        → IfOk result (λ reply. Comes (judged_outcome (state_on (database_of base.old) ranges files) (asker_of user.now) (judged (database_of base.old) (asker_of user.now) ranges s)) (database_of base.new) ranges (H.files shelf.new) reply) }
     ensures same { OnErr result (database_of base.new ≡ database_of base.old) }
+    ensures cause { HasShelfCause (H.faults shelf.old) (H.faults shelf.new) result }
 {
     match made {
         Ok(tree) => {
-            let done = tree_done(alloc, base, user, &tree);
+            let done = tree_done(alloc, base, shelf, user, &tree);
             drop(tree);
             done
         }
-        Err(stopped) => answer_to(stopped),
+        Err(stopped) => without_shelf(answer_to(stopped)),
     }
 }
 
-/// Carries out a statement that is built here and has a tree; or refuses it.
-fn carried_out(
+/// Carries out a statement that has a tree; or refuses it.
+fn carried_out<H: Shelf>(
     alloc: Global,
     base: &mut DbPlain,
+    shelf: &mut H,
     ranges: &RangeTable,
     user: &Name,
     s: &Statement,
-) -> Result<Reply, OutOfMemory>
-    requires built { is_built s.now ≡ true }
-    requires written { is_written s.now ≡ true }
-    ensures done { IfOk result (λ reply. judged_outcome (state_of (database_of base.old) ranges.now) (asker_of user.now) (judged (database_of base.old) (asker_of user.now) ranges.now s.now) ≡ outcome_of (database_of base.new) ranges.now reply) }
+) -> Result<Reply, ShelfFault>
+    requires { is_written s.now ≡ true }
+    ensures done { (files : Files) → H.files shelf.old ≡ Some files
+        → IfOk result (λ reply. Comes (judged_outcome (state_on (database_of base.old) ranges.now files) (asker_of user.now) (judged (database_of base.old) (asker_of user.now) ranges.now s.now)) (database_of base.new) ranges.now (H.files shelf.new) reply) }
     ensures same { OnErr result (database_of base.new ≡ database_of base.old) }
+    ensures cause { HasShelfCause (H.faults shelf.old) (H.faults shelf.new) result }
 {
     let made = tree_of(alloc, base, user, ranges, s);
-    made_done(alloc, base, user, made)
+    made_done(alloc, base, shelf, user, made)
 }
 
 /// The variable that a statement declares, and the name of what it is to range over.
@@ -105,43 +107,25 @@ fn range_of(s: &Statement) -> Option<(&Name, &Name)>
     }
 }
 
-/// Runs a statement that is built here.
-fn built_run(
+/// Runs a statement of the user's. After want of memory, and after a fault of the shelf, the database and
+/// the ranges are as before.
+pub(crate) fn run<H: Shelf>(
     alloc: Global,
     base: &mut DbPlain,
+    shelf: &mut H,
     ranges: &mut RangeTable,
     user: &Name,
     s: &Statement,
-) -> Result<Reply, OutOfMemory>
-    requires built { is_built s.now ≡ true }
-    requires written { is_written s.now ≡ true }
-    ensures outcome { IfOk result (λ reply. meaning built (state_of (database_of base.old) ranges.old) (asker_of user.now) s.now ≡ outcome_of (database_of base.new) ranges.new reply) }
+) -> Result<Reply, ShelfFault>
+    requires { is_written s.now ≡ true }
+    ensures outcome { (files : Files) → H.files shelf.old ≡ Some files
+        → IfOk result (λ reply. Comes (meaning (state_on (database_of base.old) ranges.old files) (asker_of user.now) s.now) (database_of base.new) ranges.new (H.files shelf.new) reply) }
     ensures database { OnErr result (database_of base.new ≡ database_of base.old) }
     ensures ranges { OnErr result (ranges.new ≡ ranges.old) }
+    ensures cause { HasShelfCause (H.faults shelf.old) (H.faults shelf.new) result }
 {
     match range_of(s) {
-        Some((var, rel)) => declared(alloc, base, ranges, user, var, rel),
-        None => carried_out(alloc, base, ranges, user, s),
-    }
-}
-
-/// Runs a statement of the user's. After want of memory the database and the ranges are as before.
-pub(crate) fn run(
-    alloc: Global,
-    base: &mut DbPlain,
-    ranges: &mut RangeTable,
-    user: &Name,
-    s: &Statement,
-) -> Result<Reply, OutOfMemory>
-    requires { is_written s.now ≡ true }
-    ensures outcome { IfOk result (λ reply. meaning built (state_of (database_of base.old) ranges.old) (asker_of user.now) s.now ≡ outcome_of (database_of base.new) ranges.new reply) }
-    ensures database { OnErr result (database_of base.new ≡ database_of base.old) }
-    ensures ranges { OnErr result (ranges.new ≡ ranges.old) }
-    ensures not_built { is_built s.now ≡ false → IsOk result }
-{
-    if is_built(s) {
-        built_run(alloc, base, ranges, user, s)
-    } else {
-        Ok(refused(NOT_BUILT))
+        Some((var, rel)) => without_shelf(declared(alloc, base, ranges, user, var, rel)),
+        None => carried_out(alloc, base, shelf, ranges, user, s),
     }
 }

@@ -4,11 +4,11 @@ ghost use Rattle.std.specs.Prelude.{◌≡◌, [], IfOk};
 ghost use Rattle.calculus.specs.Who.{asker_of};
 ghost use Rattle.quel_meaning.specs.Meaning.{meaning};
 ghost use Rattle.plain_base.specs.Shown.{database_of};
-ghost use Rattle.plain_statements.specs.Built.{built};
-ghost use Rattle.plain_statements.specs.Standing.{state_of, empty_db};
+ghost use Rattle.plain_statements.specs.Standing.{empty_db};
 
 use crate::running::run;
 use calculus::{Name, OutOfMemory, Reply, Statement, TryCopy};
+use fault_io::{Shelf, ShelfFault};
 use plain_base::DbPlain;
 use quel_check::RangeTable;
 use session_run::Statements;
@@ -26,7 +26,8 @@ impl PlainStatements {
     /// The database of this user without anything in it, and no range variables.
     pub fn new(alloc: Global, user: Name) -> Result<PlainStatements, OutOfMemory>
         ensures asker { IfOk result (λ s. ⟦<PlainStatements as Statements>⟧.asker s ≡ asker_of user) }
-        ensures state { IfOk result (λ s. ⟦<PlainStatements as Statements>⟧.state s ≡ state_of (empty_db user) []) }
+        ensures database { IfOk result (λ s. ⟦<PlainStatements as Statements>⟧.db s ≡ empty_db user) }
+        ensures ranges { IfOk result (λ s. ⟦<PlainStatements as Statements>⟧.ranges s ≡ []) }
     {
         let base = DbPlain::new(alloc, user.copy(alloc)?);
         let ranges = RangeTable::new(alloc);
@@ -36,14 +37,15 @@ impl PlainStatements {
     /// This database and these range variables, for this user's statements.
     pub fn over(base: DbPlain, ranges: RangeTable, user: Name) -> PlainStatements
         ensures asker { ⟦<PlainStatements as Statements>⟧.asker result ≡ asker_of user }
-        ensures state { ⟦<PlainStatements as Statements>⟧.state result ≡ state_of (database_of base) ranges }
+        ensures database { ⟦<PlainStatements as Statements>⟧.db result ≡ database_of base }
+        ensures ranges { ⟦<PlainStatements as Statements>⟧.ranges result ≡ ranges }
     {
         PlainStatements { base, ranges, user }
     }
 
     /// The database as the statements left it.
     pub fn into_base(self) -> DbPlain
-        ensures { database_of result ≡ (⟦<PlainStatements as Statements>⟧.state self).db }
+        ensures { database_of result ≡ ⟦<PlainStatements as Statements>⟧.db self }
     {
         let PlainStatements {
             base,
@@ -55,13 +57,27 @@ impl PlainStatements {
 }
 
 impl Statements for PlainStatements {
-    ghost meaning = { λ asker state s. meaning built state asker s };
+    ghost meaning = { λ asker state s. meaning state asker s };
 
     ghost asker = { λ s. asker_of s.user };
 
-    ghost state = { λ s. state_of (database_of s.base) s.ranges };
+    ghost db = { λ s. database_of s.base };
 
-    fn run(&mut self, alloc: Global, s: &Statement) -> Result<Reply, OutOfMemory> {
-        run(alloc, &mut self.base, &mut self.ranges, &self.user, s)
+    ghost ranges = { λ s. s.ranges };
+
+    fn run<H: Shelf>(
+        &mut self,
+        alloc: Global,
+        shelf: &mut H,
+        s: &Statement,
+    ) -> Result<Reply, ShelfFault> {
+        run(
+            alloc,
+            &mut self.base,
+            shelf,
+            &mut self.ranges,
+            &self.user,
+            s,
+        )
     }
 }

@@ -77,7 +77,6 @@ impl From<UtilFault> for Stopped {
     fn from(fault: UtilFault) -> Stopped {
         match fault {
             UtilFault::No(number) => Stopped::No(number),
-            UtilFault::NotBuilt => Stopped::OutOfMemory,
             UtilFault::Base(_) => Stopped::OutOfMemory,
             UtilFault::OutOfMemory => Stopped::OutOfMemory,
         }
@@ -90,7 +89,6 @@ impl From<CheckFault> for Stopped {
     fn from(fault: CheckFault) -> Stopped {
         match fault {
             CheckFault::No(number) => Stopped::No(number),
-            CheckFault::NotBuilt => Stopped::OutOfMemory,
             CheckFault::Base(_) => Stopped::OutOfMemory,
             CheckFault::OutOfMemory => Stopped::OutOfMemory,
         }

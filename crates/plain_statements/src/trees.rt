@@ -3,7 +3,6 @@
 ghost use Rattle.std.specs.Prelude.{◌≡◌, true, Some};
 ghost use Rattle.calculus.specs.Database.{Db};
 ghost use Rattle.quel_meaning.specs.IsWritten.{is_written};
-ghost use Rattle.quel_resolve.specs.Built.{is_built};
 ghost use Rattle.plain_statements.specs.Plans.{IsMade};
 
 use crate::Stopped;
@@ -13,8 +12,8 @@ use quel_check::RangeTable;
 use stage_parse::checked;
 use std::alloc::Global;
 
-/// The checked tree of a statement of the user's that is built here and has what each one has that is read
-/// of a text: it can be carried out for nobody in particular, and does then what the statement does for
+/// The checked tree of a statement of the user's which has what each one has that is read of a text: it
+/// can be carried out for nobody in particular, and does then what the statement does for
 /// the user. Or the number of what refuses the statement.
 pub(crate) fn tree_of<B: Base>(
     alloc: Global,
@@ -23,8 +22,7 @@ pub(crate) fn tree_of<B: Base>(
     ranges: &RangeTable,
     s: &Statement,
 ) -> Result<Checked, Stopped>
-    requires built { is_built s.now ≡ true }
-    requires written { is_written s.now ≡ true }
+    requires { is_written s.now ≡ true }
     ensures told { (db : Db) → B.database base.old ≡ Some db → IsMade db user.now ranges.now s.now result }
     ensures kept { B.database base.new ≡ B.database base.old }
 {

@@ -18,7 +18,7 @@ use Rattle.calculus.specs.Stored.{rows_at, kinds_at}
 use Rattle.calculus.specs.Replacement.{first_cause, with_rows, without_rows}
 use Rattle.calculus.specs.IsDatabase.{IsDatabase, row_fits, are_stored, relation_rows_fit}
 use Rattle.calculus.specs.Change.{laid, names_what_is_there, adds_what_is_new, lists_once, rows_differ, IsLawful}
-use Rattle.quel_meaning.specs.Shelf.{Shelf, fetched}
+use Rattle.fault_io.specs.Files.{Files, fetched}
 use Rattle.quel_meaning.specs.Planned.{owner_causes}
 use Rattle.quel_meaning.specs.Copying.{file_of_constant, refusal, bad_row, keeps_rules, rows_in_file, rows_appended, file_appended, copied_from, most_file_bytes}
 use Rattle.plan_laws.specs.Fitting.{is_ranged}
@@ -126,7 +126,7 @@ file_lawful db rel relation columns (Some bytes) change is found e = short (nat_
     short true e = cc e
     short false e = read (rows_in_file (kinds_at db rel) columns bytes) refl e
 
-pub copy_lawful : (db : Db) (shelf : Shelf) (user : List ℕ) (rel : RelKey) (columns : List CopyCol) (constant : List ℕ) (change : DbChange) → IsDatabase db → IsTrue (is_ranged db rel)
+pub copy_lawful : (db : Db) (shelf : Files) (user : List ℕ) (rel : RelKey) (columns : List CopyCol) (constant : List ℕ) (change : DbChange) → IsDatabase db → IsTrue (is_ranged db rel)
     → copied_from db shelf user rel columns constant ≡ Ok change → IsLawful db change
 unfolding copied_from
 copy_lawful db shelf user rel columns constant change is there e = go (first_cause (owner_causes db user rel)) refl e

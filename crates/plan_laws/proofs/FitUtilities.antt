@@ -36,7 +36,7 @@ use Rattle.quel_meaning.specs.Fit.{is_new, is_entry, columns_fit, view_fits, row
 use Rattle.quel_meaning.specs.FitQueries.{Allowed, can_be_ranged_over, lists_few_vars}
 use Rattle.quel_meaning.specs.Passing.{is_full, is_taken, is_too_high, is_too_large}
 use Rattle.quel_meaning.specs.Planned.{planned, plan_causes, target_attr}
-use Rattle.quel_meaning.specs.Shelf.{Shelf}
+use Rattle.fault_io.specs.Files.{Files}
 use Rattle.quel_meaning.specs.SpelledTree.{key_is_spelled, permit_is_spelled, utility_is_spelled, tree_is_spelled}
 use Rattle.plan_laws.specs.Fitting.{is_ranged, is_copy, IsFitPermit, IsFitRule, IsFitStructure, IsFitIndex, IsFitRelation, IsFitView}
 use Rattle.plan_laws.proofs.CopiedRows.{copy_lawful}
@@ -215,7 +215,7 @@ pub fitting_plan_lawful : (may : Allowed) (db : Db) (user : List ℕ) (work : Ut
     → planned db user work ≡ Ok change → IsLawful db change
 fitting_plan_lawful may db user work change is fit plan e = let parts = utility_parts may db user work fit in fit_plan_lawful db user work change is parts.0 parts.1 plan e
 
-pub fitting_copy_lawful : (may : Allowed) (db : Db) (shelf : Shelf) (user : List ℕ) (rel : RelKey) (columns : List CopyCol) (constant : List ℕ) (change : DbChange) → IsDatabase db
+pub fitting_copy_lawful : (may : Allowed) (db : Db) (shelf : Files) (user : List ℕ) (rel : RelKey) (columns : List CopyCol) (constant : List ℕ) (change : DbChange) → IsDatabase db
     → fits may db user (checked.Utility (utility.Copy rel columns true constant)) ≡ true → copied_from db shelf user rel columns constant ≡ Ok change → IsLawful db change
 unfolding utility_fits
 fitting_copy_lawful may db shelf user rel columns constant change is fit e =

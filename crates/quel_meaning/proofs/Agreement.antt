@@ -2,7 +2,7 @@
 use Rattle.std.proofs.Common.{◌≡◌, refl, ap, ℕ, Bool, true, false, List, [], ◌∷◌}
 use Rattle.calculus.specs.Who.{Asker}
 use Rattle.quel_grammar.specs.Next.{Reading}
-use Rattle.quel_meaning.specs.State.{State, Built}
+use Rattle.quel_meaning.specs.State.{State}
 use Rattle.quel_meaning.specs.Monitor.{Part, parts_of}
 use Rattle.quel_meaning.specs.Happening.{Setting, Agree, Kept, After, quiet, over}
 use Rattle.quel_meaning.specs.Running.{Deeper, after_open_part, after_part, after_line, after_lines}
@@ -13,7 +13,6 @@ same : (s t : Setting) → Agree s t → s ≡ t
 same s t agree = λ i. record {
   reading = λ text from. agree.reading text from i;
   meaning = λ state statement. agree.meaning state statement i;
-  is_built = λ command. agree.is_built command i;
 }
 
 -- their sessions are the same
@@ -22,10 +21,9 @@ same_sessions s t agree state script = ap (λ (x : Setting). session_of x state 
 
 -- readings that are equal everywhere give the same session
 pub same_reading : (r q : Reading) → ((text : List ℕ) (from : ℕ) → r text from ≡ q text from)
-    → (built : Built) (asker : Asker) (state : State) (script : List ℕ) → session r built asker state script ≡ session q built asker state script
+    → (asker : Asker) (state : State) (script : List ℕ) → session r asker state script ≡ session q asker state script
 unfolding session
-same_reading r q same built asker state script =
-    same_sessions (setting_of r built asker) (setting_of q built asker) (record { reading = same; meaning = λ s u. refl; is_built = λ c. refl }) state script
+same_reading r q same asker state script = same_sessions (setting_of r asker) (setting_of q asker) (record { reading = same; meaning = λ s u. refl }) state script
 
 -- where steps do nothing, nothing happens
 still : {X : Type 0} (step : Kept → X → After) (kept : Kept) → ((x : X) → step kept x ≡ quiet kept) → (xs : List X) → over step kept xs ≡ quiet kept

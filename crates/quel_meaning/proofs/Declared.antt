@@ -1,18 +1,17 @@
 -- What a variable ranges over once one was declared, and which file stands on a shelf once one was stored.
-use Rattle.std.proofs.Common.{◌≡◌, refl, sym, ap, ◌∙◌, ℕ, Bool, true, false, cond, List, [], ◌∷◌, Option, Some, None}
+use Rattle.std.proofs.Common.{◌≡◌, refl, sym, ap, ◌∙◌, ℕ, Bool, true, false, cond, List, [], ◌∷◌, Some, None}
 use Rattle.std.proofs.lemmas.Slice.Eq.{bytes_eq-Decides}
-use Rattle.std.specs.Prelude.{bytes_eq, option_map, find}
+use Rattle.std.specs.Prelude.{bytes_eq}
 use Rattle.std.specs.Cmp.Lexicographic.{slice_cmp}
 use Rattle.std.specs.FinMap.{nat_cmp-IsAntisymmetric, slice_cmp-IsAntisymmetric}
 use Rattle.std.proofs.lemmas.Map.Text.{is_eq-slice_cmp}
-use Rattle.std.specs.Ordering.{nat_cmp, is_eq}
+use Rattle.std.specs.Ordering.{nat_cmp, is_eq, match_ordering}
+use Rattle.std.specs.Map.{lookup}
 use Rattle.std.specs.declared.cmp.Ordering.{Ordering}
 use Rattle.std.specs.declared.cmp.Ordering.TheVariants.{Less, Equal, Greater}
 use Rattle.calculus.specs.declared.query.RelKey.{RelKey}
-use Rattle.calculus.specs.Lists.{insert_by}
 use Rattle.quel_meaning.specs.Ranges.{Ranges, range_of, declared}
-use Rattle.quel_meaning.specs.Shelf.{File, Shelf, fetched, stored}
-use Rattle.quel_meaning.proofs.InOrder.{insert_as, insert-cons}
+use Rattle.fault_io.specs.Files.{Files, fetched, stored}
 
 -- ---- names
 
@@ -58,48 +57,33 @@ declared_others (r ∷ ranges) var other key h = go (declared_others ranges var 
 
 -- ---- the shelf
 
--- the order of files by their names
-abbrev by_name : File → File → Ordering
-by_name f g = slice_cmp nat_cmp f.0 g.0
-
--- the file of this name
-abbrev named : List ℕ → Shelf → Option File
-named name shelf = find (λ f. bytes_eq f.0 name) shelf
-
-differ_by_order : (name : List ℕ) (f : File) → slice_cmp nat_cmp name f.0 ≡ Greater → bytes_eq f.0 name ≡ false
-differ_by_order name f e = differ_other_way name f.0 (sym (is_eq-slice_cmp name f.0) ∙ ap is_eq e)
-
-named_inserted : (shelf : Shelf) (name bytes : List ℕ) → named name (insert_by by_name (name, bytes) shelf) ≡ Some (name, bytes)
-named_inserted [] name bytes = ap (λ b. cond b (Some (name, bytes)) None) (same_itself name)
-named_inserted (f ∷ shelf) name bytes =
-    ap (named name) (insert-cons by_name (name, bytes) f shelf (by_name (name, bytes) f) refl) ∙ go (named_inserted shelf name bytes) (by_name (name, bytes) f) refl
-  where
-    go : named name (insert_by by_name (name, bytes) shelf) ≡ Some (name, bytes) → (o : Ordering) → by_name (name, bytes) f ≡ o
-        → named name (insert_as o (name, bytes) f shelf (insert_by by_name (name, bytes) shelf)) ≡ Some (name, bytes)
-    go later Less e = ap (λ b. cond b (Some (name, bytes)) (named name (f ∷ shelf))) (same_itself name)
-    go later Equal e = ap (λ b. cond b (Some (name, bytes)) (named name shelf)) (same_itself name)
-    go later Greater e = ap (λ b. cond b (Some f) (named name (insert_by by_name (name, bytes) shelf))) (differ_by_order name f e) ∙ later
-
-named_others : (shelf : Shelf) (name bytes other : List ℕ) → bytes_eq name other ≡ false → named other (insert_by by_name (name, bytes) shelf) ≡ named other shelf
-named_others [] name bytes other h = ap (λ b. cond b (Some (name, bytes)) None) h
-named_others (f ∷ shelf) name bytes other h =
-    ap (named other) (insert-cons by_name (name, bytes) f shelf (by_name (name, bytes) f) refl) ∙ go (named_others shelf name bytes other h) (by_name (name, bytes) f) refl
-  where
-    not_this : by_name (name, bytes) f ≡ Equal → bytes_eq f.0 other ≡ false
-    not_this e = ap (λ n. bytes_eq n other) (sym (slice_cmp-IsAntisymmetric nat_cmp-IsAntisymmetric name f.0 e)) ∙ h
-
-    go : named other (insert_by by_name (name, bytes) shelf) ≡ named other shelf → (o : Ordering) → by_name (name, bytes) f ≡ o
-        → named other (insert_as o (name, bytes) f shelf (insert_by by_name (name, bytes) shelf)) ≡ named other (f ∷ shelf)
-    go later Less e = ap (λ b. cond b (Some (name, bytes)) (named other (f ∷ shelf))) h
-    go later Equal e = ap (λ b. cond b (Some (name, bytes)) (named other shelf)) h ∙ sym (ap (λ b. cond b (Some f) (named other shelf)) (not_this e))
-    go later Greater e = ap (λ file. cond (bytes_eq f.0 other) (Some f) file) later
+differ_by_order : (name other : List ℕ) → slice_cmp nat_cmp name other ≡ Greater → bytes_eq name other ≡ false
+differ_by_order name other e = sym (is_eq-slice_cmp name other) ∙ ap is_eq e
 
 -- the file has the bytes that were stored
-pub stored_itself : (shelf : Shelf) (name bytes : List ℕ) → fetched (stored shelf name bytes) name ≡ Some bytes
+pub stored_itself : (shelf : Files) (name bytes : List ℕ) → fetched (stored shelf name bytes) name ≡ Some bytes
 unfolding fetched stored
-stored_itself shelf name bytes = ap (option_map (λ f. f.1)) (named_inserted shelf name bytes)
+stored_itself [] name bytes = ap (λ b. cond b (Some bytes) None) (same_itself name)
+stored_itself (f ∷ shelf) name bytes = go (stored_itself shelf name bytes) (slice_cmp nat_cmp name f.0) refl
+  where
+    go : fetched (stored shelf name bytes) name ≡ Some bytes → (o : Ordering) → slice_cmp nat_cmp name f.0 ≡ o
+        → lookup (bytes_eq name) (match_ordering o ((name, bytes) ∷ f ∷ shelf) ((f.0, bytes) ∷ shelf) (f ∷ stored shelf name bytes)) ≡ Some bytes
+    go later Less e = ap (λ b. cond b (Some bytes) (lookup (bytes_eq name) (f ∷ shelf))) (same_itself name)
+    go later Equal e = ap (λ b. cond b (Some bytes) (lookup (bytes_eq name) shelf)) (sym (is_eq-slice_cmp name f.0) ∙ ap is_eq e)
+    go later Greater e = ap (λ b. cond b (Some f.1) (lookup (bytes_eq name) (stored shelf name bytes))) (differ_by_order name f.0 e) ∙ later
 
 -- every other file has the bytes that it had
-pub stored_others : (shelf : Shelf) (name bytes other : List ℕ) → bytes_eq name other ≡ false → fetched (stored shelf name bytes) other ≡ fetched shelf other
+pub stored_others : (shelf : Files) (name bytes other : List ℕ) → bytes_eq other name ≡ false → fetched (stored shelf name bytes) other ≡ fetched shelf other
 unfolding fetched stored
-stored_others shelf name bytes other h = ap (option_map (λ f. f.1)) (named_others shelf name bytes other h)
+stored_others [] name bytes other h = ap (λ b. cond b (Some bytes) None) h
+stored_others (f ∷ shelf) name bytes other h = go (stored_others shelf name bytes other h) (slice_cmp nat_cmp name f.0) refl
+  where
+    not_this : slice_cmp nat_cmp name f.0 ≡ Equal → bytes_eq other f.0 ≡ false
+    not_this e = ap (bytes_eq other) (sym (slice_cmp-IsAntisymmetric nat_cmp-IsAntisymmetric name f.0 e)) ∙ h
+
+    go : fetched (stored shelf name bytes) other ≡ fetched shelf other → (o : Ordering) → slice_cmp nat_cmp name f.0 ≡ o
+        → lookup (bytes_eq other) (match_ordering o ((name, bytes) ∷ f ∷ shelf) ((f.0, bytes) ∷ shelf) (f ∷ stored shelf name bytes)) ≡ lookup (bytes_eq other) (f ∷ shelf)
+    go later Less e = ap (λ b. cond b (Some bytes) (lookup (bytes_eq other) (f ∷ shelf))) h
+    go later Equal e =
+        ap (λ b. cond b (Some bytes) (lookup (bytes_eq other) shelf)) (not_this e) ∙ sym (ap (λ b. cond b (Some f.1) (lookup (bytes_eq other) shelf)) (not_this e))
+    go later Greater e = ap (cond (bytes_eq other f.0) (Some f.1)) later

@@ -6,7 +6,7 @@ use Rattle.quel_grammar.specs.Pieces.{pieces_behind, pieces_from}
 use Rattle.quel_grammar.specs.Next.{Nothing, Reading, IsBlank, IsNext, IsGrammatical}
 use Rattle.quel_grammar.proofs.Further.{further}
 use Rattle.quel_grammar.proofs.OneReading.{one_next}
-use Rattle.quel_meaning.specs.State.{State, Built}
+use Rattle.quel_meaning.specs.State.{State}
 use Rattle.quel_meaning.specs.Session.{session}
 use Rattle.quel_meaning.proofs.Agreement.{same_reading}
 use Rattle.quel_meaning.specs.Batch.{MovesOn}
@@ -29,5 +29,5 @@ same_readings r q a b text from = one_next (pieces_from text from) (r text from)
 
 -- so are their sessions
 pub same_grammatical : (r q : Reading) → IsGrammatical r → IsGrammatical q
-    → (built : Built) (asker : Asker) (state : State) (script : List ℕ) → session r built asker state script ≡ session q built asker state script
+    → (asker : Asker) (state : State) (script : List ℕ) → session r asker state script ≡ session q asker state script
 same_grammatical r q a b = same_reading r q (same_readings r q a b)

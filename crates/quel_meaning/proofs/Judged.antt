@@ -8,14 +8,13 @@ use Rattle.calculus.specs.declared.statement.Statement.TheVariants as statement
 use Rattle.calculus.specs.Database.{Db}
 use Rattle.calculus.specs.Lists.{has_number}
 use Rattle.calculus.specs.Who.{Asker, Asks}
-use Rattle.quel_meaning.specs.Meaning.{Resolving, checked_permitted, permitted_tree, judged_tree, judged_by, judged, judged_outcome, is_range, statement_outcome, meaning_by}
+use Rattle.quel_meaning.specs.Meaning.{Resolving, checked_permitted, permitted_tree, judged_tree, judged_by, judged, judged_outcome, is_range, meaning_by}
 use Rattle.quel_meaning.specs.Purpose.{cause_numbers}
 use Rattle.quel_meaning.specs.Ranges.{Ranges}
 use Rattle.quel_meaning.specs.Resolved.{resolved}
-use Rattle.quel_meaning.specs.State.{State, Built}
+use Rattle.quel_meaning.specs.State.{State}
 use Rattle.quel_meaning.proofs.Accepted.{refused_by}
 use Rattle.quel_meaning.proofs.Each.{left, right}
-use Rattle.quel_meaning.proofs.Kept.{when_built}
 
 -- ---- the numbers that refuse
 
@@ -95,12 +94,8 @@ judged_resolved resolved db asker ranges s tree e = (judged_so resolved db asker
 
 -- ---- what statements mean by what they are judged to ask for
 
-no_range : (resolved : Resolving) (state : State) (asker : Asker) (s : Statement) → is_range s ≡ false
-    → statement_outcome resolved state asker s ≡ judged_outcome state asker (judged_by resolved state.db asker state.ranges s)
-unfolding statement_outcome
-no_range resolved state asker (statement.Range var rel) h = absurd (cc h)
-no_range resolved state asker s h = refl
-
-pub meaning_judged : (resolved : Resolving) (built : Built) (state : State) (asker : Asker) (s : Statement) → built.statement s ≡ true → is_range s ≡ false
-    → meaning_by resolved built state asker s ≡ judged_outcome state asker (judged_by resolved state.db asker state.ranges s)
-meaning_judged resolved built state asker s b h = when_built resolved built state asker s b ∙ no_range resolved state asker s h
+pub meaning_judged : (resolved : Resolving) (state : State) (asker : Asker) (s : Statement) → is_range s ≡ false
+    → meaning_by resolved state asker s ≡ judged_outcome state asker (judged_by resolved state.db asker state.ranges s)
+unfolding meaning_by
+meaning_judged resolved state asker (statement.Range var rel) h = absurd (cc h)
+meaning_judged resolved state asker s h = refl

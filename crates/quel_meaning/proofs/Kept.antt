@@ -19,41 +19,41 @@ use Rattle.calculus.specs.Database.{Db}
 use Rattle.calculus.specs.Replacement.{updated}
 use Rattle.calculus.specs.Finding.{found}
 use Rattle.quel_meaning.specs.Ranges.{declared}
-use Rattle.quel_meaning.specs.Shelf.{Shelf}
-use Rattle.quel_meaning.specs.State.{State, Outcome, Built}
+use Rattle.fault_io.specs.Files.{Files}
+use Rattle.quel_meaning.specs.State.{State, Outcome}
 use Rattle.quel_meaning.specs.Planned.{planned}
 use Rattle.quel_meaning.specs.Copying.{copied_from, copied_into, file_of_constant}
-use Rattle.quel_meaning.specs.Meaning.{Effect, Resolving, change_effect, numbered_effect, file_effect, copy_effect, utility_effect, tree_meaning, ruled_tree, checked_permitted, is_range, refused_outcome, range_outcome, with_ranges, permitted_tree, judged_tree, judged_by, judged_outcome, built_outcome, statement_outcome, meaning_by}
+use Rattle.quel_meaning.specs.Meaning.{Effect, Resolving, change_effect, numbered_effect, file_effect, copy_effect, utility_effect, tree_meaning, ruled_tree, checked_permitted, is_range, refused_outcome, range_outcome, with_ranges, permitted_tree, judged_tree, judged_by, judged_outcome, meaning_by}
 
 -- ---- a refusal changes nothing
 
 -- where the reply refuses, the database and the shelf are these
-abbrev KeptBy : Db → Shelf → Effect → Type 0
+abbrev KeptBy : Db → Files → Effect → Type 0
 KeptBy db shelf e = (r : Refusal) → e.reply ≡ Refused r → (e.db ≡ db) × (e.shelf ≡ shelf)
 
-kept_change : (db : Db) (shelf : Shelf) (c : Result DbChange Refusal) → KeptBy db shelf (change_effect db shelf c)
+kept_change : (db : Db) (shelf : Files) (c : Result DbChange Refusal) → KeptBy db shelf (change_effect db shelf c)
 kept_change db shelf (Ok change) r h = cc h
 kept_change db shelf (Err x) r h = (refl, refl)
 
-kept_numbered : (db : Db) (shelf : Shelf) (c : Result DbChange ℕ) → KeptBy db shelf (numbered_effect db shelf c)
+kept_numbered : (db : Db) (shelf : Files) (c : Result DbChange ℕ) → KeptBy db shelf (numbered_effect db shelf c)
 kept_numbered db shelf (Ok change) r h = cc h
 kept_numbered db shelf (Err number) r h = (refl, refl)
 
-kept_file : (db : Db) (shelf : Shelf) (file : List ℕ) (bytes : Result (List ℕ) Refusal) → KeptBy db shelf (file_effect db shelf file bytes)
+kept_file : (db : Db) (shelf : Files) (file : List ℕ) (bytes : Result (List ℕ) Refusal) → KeptBy db shelf (file_effect db shelf file bytes)
 kept_file db shelf file (Ok bytes) r h = cc h
 kept_file db shelf file (Err x) r h = (refl, refl)
 
-kept_copy : (db : Db) (shelf : Shelf) (user : List ℕ) (rel : RelKey) (columns : List CopyCol) (from : Bool) (constant : List ℕ)
+kept_copy : (db : Db) (shelf : Files) (user : List ℕ) (rel : RelKey) (columns : List CopyCol) (from : Bool) (constant : List ℕ)
     → KeptBy db shelf (copy_effect db shelf user rel columns from constant)
 kept_copy db shelf user rel columns true constant = kept_change db shelf (copied_from db shelf user rel columns constant)
 kept_copy db shelf user rel columns false constant = kept_file db shelf (file_of_constant constant) (copied_into db user rel columns)
 
-kept_utility : (db : Db) (shelf : Shelf) (user : List ℕ) (work : Work) → KeptBy db shelf (utility_effect db shelf user work)
+kept_utility : (db : Db) (shelf : Files) (user : List ℕ) (work : Work) → KeptBy db shelf (utility_effect db shelf user work)
 unfolding utility_effect
 kept_utility db shelf user (Copy rel columns from constant) = kept_copy db shelf user rel columns from constant
 kept_utility db shelf user work = kept_numbered db shelf (planned db user work)
 
-kept_tree : (db : Db) (shelf : Shelf) (who : Who) (user : List ℕ) (tree : Checked) → KeptBy db shelf (tree_meaning db shelf who user tree)
+kept_tree : (db : Db) (shelf : Files) (who : Who) (user : List ℕ) (tree : Checked) → KeptBy db shelf (tree_meaning db shelf who user tree)
 unfolding tree_meaning
 kept_tree db shelf who user (Answer asked) = λ r h. (refl, refl)
 kept_tree db shelf who user (Update u) = kept_numbered db shelf (updated db who u)
@@ -77,55 +77,33 @@ kept_range : (state : State) (var : List ℕ) (info : Option RelInfo) → StateK
 kept_range state var None = λ r h. refl
 kept_range state var (Some info) = λ r h. cc h
 
-kept_statement : (resolved : Resolving) (state : State) (asker : Asker) (s : Statement) → StateKeptBy state (statement_outcome resolved state asker s)
-unfolding statement_outcome
+-- a statement that is refused leaves the database, the shelf and the ranges as they were
+kept_statement : (resolved : Resolving) (state : State) (asker : Asker) (s : Statement) → StateKeptBy state (meaning_by resolved state asker s)
+unfolding meaning_by
 kept_statement resolved state asker (Range var rel) = kept_range state var (found state.db asker.user rel)
 kept_statement resolved state asker s = kept_judged state asker (judged_by resolved state.db asker state.ranges s)
 
-kept_built : (built : Bool) (resolved : Resolving) (state : State) (asker : Asker) (s : Statement) → StateKeptBy state (built_outcome built resolved state asker s)
-kept_built true resolved state asker s = kept_statement resolved state asker s
-kept_built false resolved state asker s = λ r h. refl
-
--- a statement that is refused leaves the database, the shelf and the ranges as they were
-pub refused_keeps : (resolved : Resolving) (built : Built) (state : State) (asker : Asker) (s : Statement) (r : Refusal)
-    → (meaning_by resolved built state asker s).reply ≡ Refused r → (meaning_by resolved built state asker s).state ≡ state
-unfolding meaning_by
-refused_keeps resolved built state asker s = kept_built (built.statement s) resolved state asker s
-
--- ---- what is not built
-
-pub not_built : (resolved : Resolving) (built : Built) (state : State) (asker : Asker) (s : Statement)
-    → built.statement s ≡ false → meaning_by resolved built state asker s ≡ refused_outcome state 9
-unfolding meaning_by
-not_built resolved built state asker s e = ap (λ b. built_outcome b resolved state asker s) e
-
--- what a statement that is built does
-pub when_built : (resolved : Resolving) (built : Built) (state : State) (asker : Asker) (s : Statement)
-    → built.statement s ≡ true → meaning_by resolved built state asker s ≡ statement_outcome resolved state asker s
-unfolding meaning_by
-when_built resolved built state asker s e = ap (λ b. built_outcome b resolved state asker s) e
+pub refused_keeps : (resolved : Resolving) (state : State) (asker : Asker) (s : Statement) (r : Refusal)
+    → (meaning_by resolved state asker s).reply ≡ Refused r → (meaning_by resolved state asker s).state ≡ state
+refused_keeps resolved state asker s = kept_statement resolved state asker s
 
 -- ---- range
 
 range_is : (resolved : Resolving) (state : State) (asker : Asker) (var rel : List ℕ)
-    → statement_outcome resolved state asker (Range var rel) ≡ range_outcome state var (found state.db asker.user rel)
-unfolding statement_outcome
+    → meaning_by resolved state asker (Range var rel) ≡ range_outcome state var (found state.db asker.user rel)
+unfolding meaning_by
 range_is resolved state asker var rel = refl
 
-range_outcome_is : (resolved : Resolving) (built : Built) (state : State) (asker : Asker) (var rel : List ℕ) → built.statement (Range var rel) ≡ true
-    → meaning_by resolved built state asker (Range var rel) ≡ range_outcome state var (found state.db asker.user rel)
-range_outcome_is resolved built state asker var rel e = when_built resolved built state asker (Range var rel) e ∙ range_is resolved state asker var rel
-
 -- a variable ranges over what is found under the name
-pub range_declares : (resolved : Resolving) (built : Built) (state : State) (asker : Asker) (var rel : List ℕ) (info : RelInfo)
-    → built.statement (Range var rel) ≡ true → found state.db asker.user rel ≡ Some info
-    → meaning_by resolved built state asker (Range var rel) ≡ record { state = record state { ranges = declared state.ranges var info.key }; reply = Nothing }
-range_declares resolved built state asker var rel info e f = range_outcome_is resolved built state asker var rel e ∙ ap (range_outcome state var) f
+pub range_declares : (resolved : Resolving) (state : State) (asker : Asker) (var rel : List ℕ) (info : RelInfo)
+    → found state.db asker.user rel ≡ Some info
+    → meaning_by resolved state asker (Range var rel) ≡ record { state = record state { ranges = declared state.ranges var info.key }; reply = Nothing }
+range_declares resolved state asker var rel info f = range_is resolved state asker var rel ∙ ap (range_outcome state var) f
 
 -- where nothing is found under the name it is refused
-pub range_refused : (resolved : Resolving) (built : Built) (state : State) (asker : Asker) (var rel : List ℕ)
-    → built.statement (Range var rel) ≡ true → found state.db asker.user rel ≡ None → meaning_by resolved built state asker (Range var rel) ≡ refused_outcome state 10
-range_refused resolved built state asker var rel e f = range_outcome_is resolved built state asker var rel e ∙ ap (range_outcome state var) f
+pub range_refused : (resolved : Resolving) (state : State) (asker : Asker) (var rel : List ℕ)
+    → found state.db asker.user rel ≡ None → meaning_by resolved state asker (Range var rel) ≡ refused_outcome state 10
+range_refused resolved state asker var rel f = range_is resolved state asker var rel ∙ ap (range_outcome state var) f
 
 -- ---- the ranges that other statements leave
 
@@ -133,21 +111,11 @@ kept_ranges_judged : (state : State) (asker : Asker) (tree : Result Checked ℕ)
 kept_ranges_judged state asker (Err number) = refl
 kept_ranges_judged state asker (Ok tree) = refl
 
-kept_ranges_statement : (resolved : Resolving) (state : State) (asker : Asker) (s : Statement)
-    → is_range s ≡ false → (statement_outcome resolved state asker s).state.ranges ≡ state.ranges
-unfolding statement_outcome
-kept_ranges_statement resolved state asker (Range var rel) = λ h. cc h
-kept_ranges_statement resolved state asker s = λ h. kept_ranges_judged state asker (judged_by resolved state.db asker state.ranges s)
-
-kept_ranges_built : (built : Bool) (resolved : Resolving) (state : State) (asker : Asker) (s : Statement)
-    → is_range s ≡ false → (built_outcome built resolved state asker s).state.ranges ≡ state.ranges
-kept_ranges_built true resolved state asker s h = kept_ranges_statement resolved state asker s h
-kept_ranges_built false resolved state asker s h = refl
-
-pub other_statements_keep_ranges : (resolved : Resolving) (built : Built) (state : State) (asker : Asker) (s : Statement)
-    → is_range s ≡ false → (meaning_by resolved built state asker s).state.ranges ≡ state.ranges
+pub other_statements_keep_ranges : (resolved : Resolving) (state : State) (asker : Asker) (s : Statement)
+    → is_range s ≡ false → (meaning_by resolved state asker s).state.ranges ≡ state.ranges
 unfolding meaning_by
-other_statements_keep_ranges resolved built state asker s = kept_ranges_built (built.statement s) resolved state asker s
+other_statements_keep_ranges resolved state asker (Range var rel) = λ h. cc h
+other_statements_keep_ranges resolved state asker s = λ h. kept_ranges_judged state asker (judged_by resolved state.db asker state.ranges s)
 
 -- ---- what asks
 
@@ -156,20 +124,10 @@ unfolding tree_meaning ruled_tree
 kept_answer state asker asked true = refl
 kept_answer state asker asked false = refl
 
-kept_answer_statement : (resolved : Resolving) (state : State) (asker : Asker) (s : Statement) (asked : List Asked)
-    → is_range s ≡ false → resolved state.db asker.user state.ranges s ≡ Ok (Answer asked) → (statement_outcome resolved state asker s).state ≡ state
-unfolding statement_outcome judged_by
-kept_answer_statement resolved state asker (Range var rel) asked = λ h e. cc h
-kept_answer_statement resolved state asker s asked = λ h e.
-    ap (λ tree. (judged_outcome state asker (judged_tree state.db asker tree)).state) e ∙ kept_answer state asker asked (checked_permitted state.db (Asks asker) (Answer asked))
-
-kept_answer_built : (built : Bool) (resolved : Resolving) (state : State) (asker : Asker) (s : Statement) (asked : List Asked)
-    → is_range s ≡ false → resolved state.db asker.user state.ranges s ≡ Ok (Answer asked) → (built_outcome built resolved state asker s).state ≡ state
-kept_answer_built true resolved state asker s asked = kept_answer_statement resolved state asker s asked
-kept_answer_built false resolved state asker s asked = λ h e. refl
-
 -- a statement whose tree asks changes nothing
-pub what_asks_keeps : (resolved : Resolving) (built : Built) (state : State) (asker : Asker) (s : Statement) (asked : List Asked)
-    → is_range s ≡ false → resolved state.db asker.user state.ranges s ≡ Ok (Answer asked) → (meaning_by resolved built state asker s).state ≡ state
-unfolding meaning_by
-what_asks_keeps resolved built state asker s = kept_answer_built (built.statement s) resolved state asker s
+pub what_asks_keeps : (resolved : Resolving) (state : State) (asker : Asker) (s : Statement) (asked : List Asked)
+    → is_range s ≡ false → resolved state.db asker.user state.ranges s ≡ Ok (Answer asked) → (meaning_by resolved state asker s).state ≡ state
+unfolding meaning_by judged_by
+what_asks_keeps resolved state asker (Range var rel) asked = λ h e. cc h
+what_asks_keeps resolved state asker s asked = λ h e.
+    ap (λ tree. (judged_outcome state asker (judged_tree state.db asker tree)).state) e ∙ kept_answer state asker asked (checked_permitted state.db (Asks asker) (Answer asked))

@@ -2,7 +2,7 @@
 use Rattle.std.proofs.Common.{◌≡◌, refl, ap, ◌∙◌, ℕ, zero, suc, Bool, true, false, List, [], ◌∷◌, ◌++◌, length, Option, Some, None}
 use Rattle.std.specs.Prelude.{◌+◌, nat_le}
 use Rattle.calculus.specs.Database.{Db}
-use Rattle.quel_meaning.specs.Shelf.{fetched}
+use Rattle.fault_io.specs.Files.{fetched}
 use Rattle.quel_meaning.specs.State.{State}
 use Rattle.quel_meaning.specs.Lines.{lines_of}
 use Rattle.quel_meaning.specs.Monitor.{Command, Go, Print, Reset, Append, Quit, Include, Write, Unknown, Part, Piece, Order, parts_of}
@@ -86,16 +86,10 @@ keeps_carried setting deeper each kept (Write []) = refl
 keeps_carried setting deeper each kept (Write (b ∷ bs)) = refl
 keeps_carried setting deeper each kept Unknown = refl
 
-keeps_built : (setting : Setting) (deeper : Deeper) → KeepsDeeper deeper → (kept : Kept) (command : Command) (built : Bool)
-    → Keeps kept.state.db (elim built [ true ↦ carried_out setting deeper (record kept { buffer = buffer_after command kept.buffer }) command | false ↦ refused kept 9 0 ])
-unfolding last
-keeps_built setting deeper each kept command true = keeps_carried setting deeper each (record kept { buffer = buffer_after command kept.buffer }) command
-keeps_built setting deeper each kept command false = refl
-
 keeps_open : (setting : Setting) (deeper : Deeper) → KeepsDeeper deeper → (kept : Kept) (part : Part) → Keeps kept.state.db (after_open_part setting deeper kept part)
 unfolding after_command last
 keeps_open setting deeper each kept (Piece bytes) = refl
-keeps_open setting deeper each kept (Order command) = keeps_built setting deeper each kept command (setting.is_built command)
+keeps_open setting deeper each kept (Order command) = keeps_carried setting deeper each (record kept { buffer = buffer_after command kept.buffer }) command
 
 keeps_quit : (setting : Setting) (deeper : Deeper) → KeepsDeeper deeper → (kept : Kept) (part : Part) (quit : Bool)
     → Keeps kept.state.db (elim quit [ true ↦ quiet kept | false ↦ after_open_part setting deeper kept part ])

@@ -1,11 +1,11 @@
 -- Worked examples of sessions, computed.
 use Rattle.std.proofs.Common.{◌≡◌, refl, ℕ, true, false, List, [], ◌∷◌, ◌++◌}
-use Rattle.std.specs.Prelude.{codes, not}
+use Rattle.std.specs.Prelude.{codes}
 use Rattle.std.specs.Fmt.{digits}
-use Rattle.quel_meaning.specs.Shelf.{fetched, stored}
+use Rattle.fault_io.specs.Files.{fetched, stored}
 use Rattle.quel_meaning.specs.Printed.{line, refusal_bytes, reply_bytes}
 use Rattle.quel_meaning.specs.Lines.{lines_of}
-use Rattle.quel_meaning.specs.Monitor.{file_name, command_of, names_file, parts_from}
+use Rattle.quel_meaning.specs.Monitor.{file_name, command_of, parts_from}
 use Rattle.quel_meaning.specs.Buffer.{with_piece, buffer_after}
 use Rattle.calculus.specs.Chars.{is_chars}
 use Rattle.calculus.specs.Name.{is_name}
@@ -17,15 +17,15 @@ use Rattle.quel_meaning.specs.Batch.{read_within, batch_from}
 use Rattle.quel_meaning.specs.Happening.{over}
 use Rattle.quel_meaning.specs.Running.{after_statement, after_batch, carried_out, after_command, after_part, after_line, after_lines, files_within}
 use Rattle.quel_meaning.specs.Session.{Session, session_of, session_of_lines, printed, output, ended, ends, databases}
-use Rattle.quel_meaning.proofs.Toy.{toy, all_built, of_ann, named}
+use Rattle.quel_meaning.proofs.Toy.{toy, of_ann, named}
 
 -- the session of a script, where no file is there
 abbrev of : List ℕ → Session
-of script = session_of (toy all_built) (of_ann []) script
+of script = session_of toy (of_ann []) script
 
 -- the session of a script, where these bytes are the file `f`
 abbrev with_file : List ℕ → List ℕ → Session
-with_file bytes script = session_of (toy all_built) (of_ann ((codes "f", bytes) ∷ [])) script
+with_file bytes script = session_of toy (of_ann ((codes "f", bytes) ∷ [])) script
 
 -- an acknowledgement
 abbrev done : List ℕ
@@ -75,9 +75,6 @@ record Examples : Type 0 where
   written : output (of (codes "h\n\\w f\n\\r\\p\\i f\n\\p\\g")) ≡ codes "h\n" ++ done
   -- a file without a name
   without_a_name : output (of (codes "\\i\n\\w  \n")) ≡ line (codes "refused 2 line 0: monitor command") ++ line (codes "refused 2 line 0: monitor command")
-  -- what is not built is refused before all else, and has no effect
-  not_built : output (session_of (toy (λ c. not (names_file c))) (of_ann []) (codes "h\n\\i\n\\w f\n\\g"))
-      ≡ line (codes "refused 9 line 0: not built") ++ line (codes "refused 9 line 0: not built") ++ done
 
 examples : Examples
 unfolding digits fetched stored refusal_bytes reply_bytes lines_of file_name command_of parts_from with_piece buffer_after first_place line_at pieces_from pieces_behind piece_at word_at int_at text_at token_at fixed_of symbol_at is_name is_chars read_within batch_from over after_statement after_batch carried_out after_command after_part after_line after_lines files_within session_of session_of_lines printed ended
@@ -100,5 +97,4 @@ examples = record {
   stays = refl;
   written = refl;
   without_a_name = refl;
-  not_built = refl;
 }

@@ -13,7 +13,7 @@ use Rattle.calculus.specs.Database.{Db, Relation}
 use Rattle.calculus.specs.Keys.{key_of}
 use Rattle.calculus.specs.Rows.{Row}
 use Rattle.calculus.specs.Who.{Free}
-use Rattle.quel_meaning.specs.Shelf.{Shelf}
+use Rattle.fault_io.specs.Files.{Files}
 use Rattle.quel_meaning.specs.Meaning.{Effect, tree_meaning}
 
 -- the administrator's name
@@ -37,7 +37,7 @@ abbrev pub heap : List ℕ → List Attr → List Row → Relation
 heap name attrs rows = record { info = record { key = key name; spec = spec.Heap; attrs = attrs; keys = [] }; rows = rows }
 
 -- what trees leave and reply that are carried out for ann one after the other
-abbrev pub effects : Db → Shelf → List Checked → List Effect
+abbrev pub effects : Db → Files → List Checked → List Effect
 effects db shelf [] = []
 effects db shelf (tree ∷ trees) = let e = tree_meaning db shelf Free ann tree in e ∷ effects e.db e.shelf trees
 

@@ -1,5 +1,5 @@
 -- A small language to try sessions with: `h` is done and puts a byte in front of the administrator's name, `r` prints nothing, `p` is refused, and no other byte begins a statement.
-use Rattle.std.proofs.Common.{ℕ, suc, Bool, true, List, [], ◌∷◌, None}
+use Rattle.std.proofs.Common.{ℕ, suc, List, [], ◌∷◌, None}
 use Rattle.std.specs.Prelude.{◌==◌, if◌then◌else◌, drop, codes}
 use Rattle.calculus.specs.declared.reply.Reply.TheVariants.{Done, Refused}
 use Rattle.calculus.specs.declared.reply.Reply.TheVariants as replies
@@ -8,9 +8,8 @@ use Rattle.calculus.specs.declared.statement.Statement.TheVariants as statements
 use Rattle.calculus.specs.Database.{Db}
 use Rattle.quel_grammar.specs.Lexer.{is_white}
 use Rattle.quel_grammar.specs.Next.{Next, Nothing, Read, Syntax}
-use Rattle.quel_meaning.specs.Shelf.{Shelf}
+use Rattle.fault_io.specs.Files.{Files}
 use Rattle.quel_meaning.specs.State.{State, Outcome}
-use Rattle.quel_meaning.specs.Monitor.{Command}
 use Rattle.quel_meaning.specs.Happening.{Setting}
 
 -- what is read at a place, where these bytes stand there
@@ -33,14 +32,10 @@ done state (statements.Help rel) = record { state = record state { db = named (3
 done state (statements.Range var rel) = record { state = state; reply = replies.Nothing }
 done state _ = record { state = state; reply = Refused (record { code = 10; line = 0; row = 0 }) }
 
--- all commands are built
-abbrev pub all_built : Command → Bool
-all_built command = true
-
--- the small language, with these commands built
-abbrev pub toy : (Command → Bool) → Setting
-toy is_built = record { reading = λ text from. read_at from (drop from text); meaning = done; is_built = is_built }
+-- the small language
+abbrev pub toy : Setting
+toy = record { reading = λ text from. read_at from (drop from text); meaning = done }
 
 -- the database of ann, with these files
-abbrev pub of_ann : Shelf → State
+abbrev pub of_ann : Files → State
 of_ann shelf = record { db = named (codes "ann"); shelf = shelf; ranges = [] }

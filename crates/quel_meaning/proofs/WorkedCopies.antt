@@ -38,7 +38,7 @@ use Rattle.quel_meaning.proofs.Small.{ann, key, attr, target, column, heap, one_
 use Rattle.quel_meaning.specs.Copying.{rows_in_file, file_of_rows, copied_from, copied_into, refusal, bad_row}
 use Rattle.quel_meaning.specs.Meaning.{tree_meaning, utility_effect}
 use Rattle.quel_meaning.specs.Planned.{planned, plan_causes, plan_change}
-use Rattle.quel_meaning.specs.Shelf.{fetched, stored}
+use Rattle.fault_io.specs.Files.{fetched, stored}
 use Rattle.quel_meaning.specs.Tables.{table_of, some_query_lacks, sorted, rows_order}
 
 -- a column of a file

@@ -1,6 +1,6 @@
 -- Worked values: what statements do for users, where the tree of each is given, computed.
 use Rattle.std.proofs.Common.{refl}
-use Rattle.std.specs.Prelude.{◌≡◌, ℕ, pos, true, false, List, [], ◌∷◌, Some, None, codes, Ok, Err}
+use Rattle.std.specs.Prelude.{◌≡◌, ℕ, pos, true, List, [], ◌∷◌, Some, None, codes, Ok, Err}
 use Rattle.calculus.specs.declared.value.Value.TheVariants as value
 use Rattle.calculus.specs.declared.value.Domain.TheVariants.{I2, C}
 use Rattle.calculus.specs.declared.value.Kind.TheVariants.{Of, Wide}
@@ -35,18 +35,14 @@ use Rattle.calculus.specs.Who.{asker_of}
 use Rattle.calculus.specs.VariableRows.{rows_of}
 use Rattle.quel_meaning.proofs.Small.{ann, key, attr, target, column, heap, one_relation}
 use Rattle.quel_meaning.specs.Copying.{refusal}
-use Rattle.quel_meaning.specs.Meaning.{meaning_by, statement_outcome, judged_by, checked_permitted, ruled_tree, tree_meaning}
+use Rattle.quel_meaning.specs.Meaning.{meaning_by, judged_by, checked_permitted, ruled_tree, tree_meaning}
 use Rattle.quel_meaning.specs.Ranges.{declared}
-use Rattle.quel_meaning.specs.State.{Outcome, Built}
+use Rattle.quel_meaning.specs.State.{Outcome}
 use Rattle.quel_meaning.specs.Tables.{table_of, some_query_lacks, sorted, rows_order}
-
--- every statement is built
-abbrev all_built : Built
-all_built = record { statement = λ s. true; command = λ c. true }
 
 -- what a statement of this tree does for the user
 abbrev outcome : Db → List ℕ → Checked → Outcome
-outcome db user tree = meaning_by (λ db user ranges s. Ok tree) all_built (record { db = db; shelf = []; ranges = [] }) (asker_of user) (Help None)
+outcome db user tree = meaning_by (λ db user ranges s. Ok tree) (record { db = db; shelf = []; ranges = [] }) (asker_of user) (Help None)
 
 -- a permit of bob's to retrieve one attribute
 abbrev permit : ℕ → ℕ → Permit
@@ -72,18 +68,18 @@ sal = target (codes "sal") (Of I2) 1
 
 -- each permit is for one attribute, and none is for both
 no_permit_for_both : (outcome permits_db (codes "bob") (retrieve (name ∷ sal ∷ []))).reply ≡ Refused (refusal 23)
-unfolding meaning_by statement_outcome judged_by checked_permitted query_permitted readable permitted covers term_aggregates qual_aggregates range_at info_at catalogue_at
+unfolding meaning_by judged_by checked_permitted query_permitted readable permitted covers term_aggregates qual_aggregates range_at info_at catalogue_at
 no_permit_for_both = refl
 
 one_permit_is_enough : (outcome permits_db (codes "bob") (retrieve (name ∷ []))).reply
     ≡ Tables ((record { columns = column (codes "name") (Of (C 6)) ∷ []; rows = (value.Text (codes "bo") ∷ []) ∷ [] }) ∷ [])
-unfolding meaning_by statement_outcome judged_by checked_permitted query_permitted readable permitted covers may term_aggregates qual_aggregates range_at info_at catalogue_at ruled_tree tree_meaning table_of some_query_lacks sorted rows_order answer lacks rows_given some_lacks assigned rows_of aggregates val holds attribute_value
+unfolding meaning_by judged_by checked_permitted query_permitted readable permitted covers may term_aggregates qual_aggregates range_at info_at catalogue_at ruled_tree tree_meaning table_of some_query_lacks sorted rows_order answer lacks rows_given some_lacks assigned rows_of aggregates val holds attribute_value
 one_permit_is_enough = refl
 
 -- delete e
 no_permit_to_delete : outcome permits_db (codes "bob") (Update (record { op = Delete; rel = key (codes "emp"); old = 0; places = []; query = query (key (codes "emp") ∷ []) [] True; checks = []; new_cut = True }))
     ≡ record { state = record { db = permits_db; shelf = []; ranges = [] }; reply = Refused (refusal 23) }
-unfolding meaning_by statement_outcome judged_by checked_permitted update_permitted readable permitted covers term_aggregates qual_aggregates range_at info_at catalogue_at
+unfolding meaning_by judged_by checked_permitted update_permitted readable permitted covers term_aggregates qual_aggregates range_at info_at catalogue_at
 no_permit_to_delete = refl
 
 -- w (sal) holds 12 and 20, each above 10
@@ -110,7 +106,7 @@ rules_are_kept : outcome rules_db ann (Update (record {
       };
       reply = Done;
     }
-unfolding meaning_by statement_outcome judged_by checked_permitted update_permitted readable permitted covers may term_aggregates qual_aggregates range_at info_at catalogue_at ruled_tree tree_meaning updated pairs ruled after contended update_assigned some_lacks rows_of aggregates val holds attribute_value operated_values compared_values laid
+unfolding meaning_by judged_by checked_permitted update_permitted readable permitted covers may term_aggregates qual_aggregates range_at info_at catalogue_at ruled_tree tree_meaning updated pairs ruled after contended update_assigned some_lacks rows_of aggregates val holds attribute_value operated_values compared_values laid
 rules_are_kept = refl
 
 -- retrieve (x = 10 / (e.sal - 20)): a row without a value refuses it, and nothing is printed
@@ -118,23 +114,17 @@ lacks_a_value : (outcome rules_db ann (Answer ((record {
   query = query (key (codes "w") ∷ []) ((record { name = codes "x"; kind = Wide; term = operation Div (Int (pos 10)) (operation Sub (Attr 0 0) (Int (pos 20))) }) ∷ []) True;
   sort = [];
 }) ∷ []))).reply ≡ Refused (refusal 20)
-unfolding meaning_by statement_outcome judged_by checked_permitted query_permitted readable permitted covers may term_aggregates qual_aggregates range_at info_at catalogue_at ruled_tree tree_meaning table_of some_query_lacks sorted rows_order answer lacks rows_given some_lacks assigned rows_of aggregates val holds attribute_value operated_values
+unfolding meaning_by judged_by checked_permitted query_permitted readable permitted covers may term_aggregates qual_aggregates range_at info_at catalogue_at ruled_tree tree_meaning table_of some_query_lacks sorted rows_order answer lacks rows_given some_lacks assigned rows_of aggregates val holds attribute_value operated_values
 lacks_a_value = refl
 
 -- retrieve (e.sal) sort by sal:d
 falling : (outcome rules_db ann (Answer ((record { query = query (key (codes "w") ∷ []) (target (codes "sal") (Of I2) 0 ∷ []) True; sort = (record { column = 0; down = true }) ∷ [] }) ∷ []))).reply
     ≡ Tables ((record { columns = column (codes "sal") (Of I2) ∷ []; rows = (value.Int (pos 20) ∷ []) ∷ (value.Int (pos 12) ∷ []) ∷ [] }) ∷ [])
-unfolding meaning_by statement_outcome judged_by checked_permitted query_permitted readable permitted covers may term_aggregates qual_aggregates range_at info_at catalogue_at ruled_tree tree_meaning table_of some_query_lacks sorted rows_order answer lacks rows_given some_lacks assigned rows_of aggregates val holds attribute_value
+unfolding meaning_by judged_by checked_permitted query_permitted readable permitted covers may term_aggregates qual_aggregates range_at info_at catalogue_at ruled_tree tree_meaning table_of some_query_lacks sorted rows_order answer lacks rows_given some_lacks assigned rows_of aggregates val holds attribute_value
 falling = refl
 
 -- range of e is emp, for bob, who has none of that name: it is ann's
-ranges_over_anns : meaning_by (λ db user ranges s. Err 10) all_built (record { db = permits_db; shelf = []; ranges = [] }) (asker_of (codes "bob")) (Range (codes "e") (codes "emp"))
+ranges_over_anns : meaning_by (λ db user ranges s. Err 10) (record { db = permits_db; shelf = []; ranges = [] }) (asker_of (codes "bob")) (Range (codes "e") (codes "emp"))
     ≡ record { state = record { db = permits_db; shelf = []; ranges = (codes "e", key (codes "emp")) ∷ [] }; reply = Nothing }
-unfolding meaning_by statement_outcome found range_at info_at catalogue_at declared
+unfolding meaning_by found range_at info_at catalogue_at declared
 ranges_over_anns = refl
-
--- a statement that is not built is refused, whatever else would refuse it
-not_built_comes_first : (meaning_by (λ db user ranges s. Err 10) (record { statement = λ s. false; command = λ c. true }) (record { db = permits_db; shelf = []; ranges = [] }) (asker_of ann) (Help None)).reply
-    ≡ Refused (refusal 9)
-unfolding meaning_by
-not_built_comes_first = refl

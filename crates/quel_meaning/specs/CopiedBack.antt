@@ -1,12 +1,10 @@
 -- What a copy from a file reads of what a copy into it wrote.
 use Rattle.std.specs.List.{list_all}
-use Rattle.std.specs.Prelude.{ℕ, ◌<◌, nat_le, nat_lt, IsTrue, Bool, ◌&&◌, List, [], ◌∷◌, filter_map, map, slice_get}
+use Rattle.std.specs.Prelude.{ℕ, ◌<◌, nat_lt, IsTrue, List, filter_map, map, slice_get}
 use Rattle.calculus.specs.declared.value.Value.{Value}
 use Rattle.calculus.specs.declared.value.Kind.{Kind}
 use Rattle.calculus.specs.declared.schema.Attr.{Attr}
 use Rattle.calculus.specs.declared.request.CopyCol.{CopyCol}
-use Rattle.calculus.specs.declared.request.CopyForm.{CopyForm}
-use Rattle.calculus.specs.declared.request.CopyForm.TheVariants.{Bin, Fixed, Until}
 use Rattle.calculus.specs.Rows.{Row}
 use Rattle.calculus.specs.Lists.{has_number}
 use Rattle.quel_meaning.specs.Copying.{record_row}

@@ -17,9 +17,9 @@ use Rattle.calculus.specs.Database.{Db, rules_on}
 use Rattle.calculus.specs.Stored.{rows_at, kinds_at}
 use Rattle.calculus.specs.Pairs.{blank, with_values}
 use Rattle.calculus.specs.Replacement.{first_cause, with_rows, without_rows}
+use Rattle.fault_io.specs.Files.{Files, fetched}
 use Rattle.quel_meaning.specs.Columns.{column_value, column_bytes}
 use Rattle.quel_meaning.specs.Planned.{owner_causes}
-use Rattle.quel_meaning.specs.Shelf.{Shelf, fetched}
 
 -- the bytes of a file that is copied from
 abbrev pub most_file_bytes : ℕ
@@ -88,7 +88,7 @@ file_appended db rel columns (Some bytes) = elim (nat_lt most_file_bytes (length
 ]
 
 -- the change that a copy from a file makes for the user, or its refusal
-unfoldable pub copied_from : Db → Shelf → List ℕ → RelKey → List CopyCol → List ℕ → Result DbChange Refusal
+unfoldable pub copied_from : Db → Files → List ℕ → RelKey → List CopyCol → List ℕ → Result DbChange Refusal
 copied_from db shelf user rel columns constant = elim (first_cause (owner_causes db user rel)) [
   | Some number ↦ Err (refusal number)
   | None ↦ file_appended db rel columns (fetched shelf (file_of_constant constant))

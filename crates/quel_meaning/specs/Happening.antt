@@ -5,22 +5,19 @@ use Rattle.calculus.specs.Database.{Db}
 use Rattle.quel_grammar.specs.Next.{Reading}
 use Rattle.quel_meaning.specs.State.{State, Outcome}
 use Rattle.quel_meaning.specs.Printed.{refusal_bytes}
-use Rattle.quel_meaning.specs.Monitor.{Command}
 use Rattle.quel_meaning.specs.Buffer.{Buffer, empty_buffer}
 
 -- ---- what a session rests on, and what it gives
 
--- how texts are read, what a statement means for the user, and which commands are built
+-- how texts are read, and what a statement means for the user
 pub record Setting : Type 0 where
   pub reading : Reading
   pub meaning : State → Statement → Outcome
-  pub is_built : Command → Bool
 
--- the settings agree: they read the same, mean the same, and have the same commands built
+-- the settings agree: they read the same and mean the same
 pub record Agree (s t : Setting) : Type 0 where
   pub reading : (text : List ℕ) (from : ℕ) → s.reading text from ≡ t.reading text from
   pub meaning : (state : State) (statement : Statement) → s.meaning state statement ≡ t.meaning state statement
-  pub is_built : (command : Command) → s.is_built command ≡ t.is_built command
 
 -- what happened: the monitor printed bytes; or a statement ran, with the bytes of its reply and the database after it
 pub data Event : Type 0 where

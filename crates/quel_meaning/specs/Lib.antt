@@ -1,5 +1,4 @@
 pub mod Ranges
-pub mod Shelf
 pub mod Structures
 pub mod State
 pub mod Scope

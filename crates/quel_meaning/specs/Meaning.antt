@@ -22,9 +22,9 @@ use Rattle.calculus.specs.Permission.{query_permitted, update_permitted}
 use Rattle.calculus.specs.Pairs.{ruled}
 use Rattle.calculus.specs.Replacement.{updated}
 use Rattle.calculus.specs.Change.{laid}
+use Rattle.fault_io.specs.Files.{Files, stored}
 use Rattle.quel_meaning.specs.Ranges.{Ranges, declared}
-use Rattle.quel_meaning.specs.Shelf.{Shelf, stored}
-use Rattle.quel_meaning.specs.State.{State, Outcome, Built}
+use Rattle.quel_meaning.specs.State.{State, Outcome}
 use Rattle.quel_meaning.specs.Resolved.{resolved}
 use Rattle.quel_meaning.specs.Planned.{planned}
 use Rattle.quel_meaning.specs.Copying.{copied_from, copied_into, file_of_constant, refusal}
@@ -35,25 +35,25 @@ use Rattle.quel_meaning.specs.Tables.{table_of, some_query_lacks}
 -- what stands after a tree was carried out, and its reply, whose refusal has the line 0
 pub record Effect : Type 0 where
   pub db : Db
-  pub shelf : Shelf
+  pub shelf : Files
   pub reply : Reply
 
 -- nothing changes, and this is the reply
-abbrev pub unchanged : Db → Shelf → Reply → Effect
+abbrev pub unchanged : Db → Files → Reply → Effect
 unchanged db shelf reply = record { db = db; shelf = shelf; reply = reply }
 
 -- the database after the change; or it is refused
-abbrev pub change_effect : Db → Shelf → Result DbChange Refusal → Effect
+abbrev pub change_effect : Db → Files → Result DbChange Refusal → Effect
 change_effect db shelf (Ok change) = record { db = laid db change; shelf = shelf; reply = Done }
 change_effect db shelf (Err r) = unchanged db shelf (Refused r)
 
 -- the same, where a number says what refuses it
-abbrev pub numbered_effect : Db → Shelf → Result DbChange ℕ → Effect
+abbrev pub numbered_effect : Db → Files → Result DbChange ℕ → Effect
 numbered_effect db shelf (Ok change) = change_effect db shelf (Ok change)
 numbered_effect db shelf (Err number) = change_effect db shelf (Err (refusal number))
 
 -- the shelf with these bytes in the file; or it is refused
-abbrev pub file_effect : Db → Shelf → List ℕ → Result (List ℕ) Refusal → Effect
+abbrev pub file_effect : Db → Files → List ℕ → Result (List ℕ) Refusal → Effect
 file_effect db shelf file (Ok bytes) = record { db = db; shelf = stored shelf file bytes; reply = Done }
 file_effect db shelf file (Err r) = unchanged db shelf (Refused r)
 
@@ -62,17 +62,17 @@ abbrev pub answer_reply : Db → Who → List Asked → Reply
 answer_reply db who asked = elim (some_query_lacks db who asked) [ true ↦ Refused (refusal 20) | false ↦ Tables (map (table_of db who) asked) ]
 
 -- rows are copied from a file into the relation, or from the relation into a file
-abbrev pub copy_effect : Db → Shelf → List ℕ → RelKey → List CopyCol → Bool → List ℕ → Effect
+abbrev pub copy_effect : Db → Files → List ℕ → RelKey → List CopyCol → Bool → List ℕ → Effect
 copy_effect db shelf user rel columns true constant = change_effect db shelf (copied_from db shelf user rel columns constant)
 copy_effect db shelf user rel columns false constant = file_effect db shelf (file_of_constant constant) (copied_into db user rel columns)
 
 -- what the utilities do for the user
-unfoldable pub utility_effect : Db → Shelf → List ℕ → Work → Effect
+unfoldable pub utility_effect : Db → Files → List ℕ → Work → Effect
 utility_effect db shelf user (Copy rel columns from constant) = copy_effect db shelf user rel columns from constant
 utility_effect db shelf user work = numbered_effect db shelf (planned db user work)
 
 -- what a tree means for the one who asks; the utilities work for the user
-unfoldable pub tree_meaning : Db → Shelf → Who → List ℕ → Checked → Effect
+unfoldable pub tree_meaning : Db → Files → Who → List ℕ → Checked → Effect
 tree_meaning db shelf who user (Answer asked) = unchanged db shelf (answer_reply db who asked)
 tree_meaning db shelf who user (Update u) = numbered_effect db shelf (updated db who u)
 tree_meaning db shelf who user (Utility work) = utility_effect db shelf user work
@@ -139,23 +139,14 @@ abbrev pub is_range : Statement → Bool
 is_range (Range var rel) = true
 is_range s = false
 
--- what a statement that is built does for the one who asks
-unfoldable pub statement_outcome : Resolving → State → Asker → Statement → Outcome
-statement_outcome resolved state asker (Range var rel) = range_outcome state var (found state.db asker.user rel)
-statement_outcome resolved state asker s = judged_outcome state asker (judged_by resolved state.db asker state.ranges s)
-
--- what a statement does for the one who asks, where it is built; else it is refused before all else
-abbrev pub built_outcome : Bool → Resolving → State → Asker → Statement → Outcome
-built_outcome true resolved state asker s = statement_outcome resolved state asker s
-built_outcome false resolved state asker s = refused_outcome state 9
-
 -- what a statement does for the one who asks
-unfoldable pub meaning_by : Resolving → Built → State → Asker → Statement → Outcome
-meaning_by resolved built state asker s = built_outcome (built.statement s) resolved state asker s
+unfoldable pub meaning_by : Resolving → State → Asker → Statement → Outcome
+meaning_by resolved state asker (Range var rel) = range_outcome state var (found state.db asker.user rel)
+meaning_by resolved state asker s = judged_outcome state asker (judged_by resolved state.db asker state.ranges s)
 
 -- what a statement does for the one who asks, resolved as statements are
-abbrev pub meaning : Built → State → Asker → Statement → Outcome
-meaning built state asker s = meaning_by resolved built state asker s
+abbrev pub meaning : State → Asker → Statement → Outcome
+meaning state asker s = meaning_by resolved state asker s
 
 -- what statements do that run one after the other, each on what the one before left
 unfoldable pub statements_run : (State → Statement → Outcome) → State → List Statement → List Outcome

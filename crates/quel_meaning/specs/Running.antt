@@ -2,7 +2,7 @@
 use Rattle.std.specs.Prelude.{ℕ, zero, suc, ◌+◌, nat_le, true, false, List, [], ◌∷◌, length, Option, Some, None}
 use Rattle.calculus.specs.declared.reply.Reply.{Reply}
 use Rattle.calculus.specs.declared.reply.Reply.TheVariants.{Nothing, Done, Refused, Tables}
-use Rattle.quel_meaning.specs.Shelf.{fetched, stored}
+use Rattle.fault_io.specs.Files.{fetched, stored}
 use Rattle.quel_meaning.specs.State.{Outcome}
 use Rattle.quel_meaning.specs.Printed.{reply_bytes}
 use Rattle.quel_meaning.specs.Lines.{lines_of}
@@ -80,12 +80,9 @@ carried_out setting deeper kept (Write []) = refused kept 2 0
 carried_out setting deeper kept (Write (b ∷ bs)) = after_write kept (b ∷ bs)
 carried_out setting deeper kept Unknown = refused kept 2 0
 
--- a command is carried out and changes the buffer, if it is built
+-- a command changes the buffer and is carried out
 unfoldable pub after_command : Setting → Deeper → Kept → Command → After
-after_command setting deeper kept command = elim (setting.is_built command) [
-  | true ↦ carried_out setting deeper (record kept { buffer = buffer_after command kept.buffer }) command
-  | false ↦ refused kept 9 0
-]
+after_command setting deeper kept command = carried_out setting deeper (record kept { buffer = buffer_after command kept.buffer }) command
 
 -- ---- lines and scripts
 

@@ -4,7 +4,7 @@ use Rattle.calculus.specs.Lists.{is_any}
 use Rattle.calculus.specs.Who.{Asker}
 use Rattle.calculus.specs.Database.{Db}
 use Rattle.quel_grammar.specs.Next.{Reading}
-use Rattle.quel_meaning.specs.State.{State, Built}
+use Rattle.quel_meaning.specs.State.{State}
 use Rattle.quel_meaning.specs.Meaning.{meaning}
 use Rattle.quel_meaning.specs.Lines.{lines_of}
 use Rattle.quel_meaning.specs.Happening.{Setting, Event, Wrote, Ran, Kept, After, start}
@@ -36,13 +36,13 @@ session_of_lines setting state lines = session_after (after_lines setting (files
 unfoldable pub session_of : Setting → State → List ℕ → Session
 session_of setting state script = session_of_lines setting state (lines_of script)
 
--- what sessions of one who asks rest on: this reading, and what is built of the language
-abbrev pub setting_of : Reading → Built → Asker → Setting
-setting_of reading built asker = record { reading = reading; meaning = λ state s. meaning built state asker s; is_built = built.command }
+-- what sessions of one who asks rest on: this reading, and what statements mean for him
+abbrev pub setting_of : Reading → Asker → Setting
+setting_of reading asker = record { reading = reading; meaning = λ state s. meaning state asker s }
 
 -- the session of the script of one who asks, from what stands before it
-unfoldable pub session : Reading → Built → Asker → State → List ℕ → Session
-session reading built asker state script = session_of (setting_of reading built asker) state script
+unfoldable pub session : Reading → Asker → State → List ℕ → Session
+session reading asker state script = session_of (setting_of reading asker) state script
 
 -- ---- what a session prints
 

@@ -7,7 +7,7 @@ ghost use Rattle.calculus.specs.Database.{Db};
 ghost use Rattle.calculus.specs.Lists.{has_number};
 ghost use Rattle.calculus.specs.Who.{Asker, Asks};
 ghost use Rattle.quel_meaning.specs.Ranges.{Ranges};
-ghost use Rattle.quel_meaning.specs.State.{State, Built};
+ghost use Rattle.quel_meaning.specs.State.{State};
 ghost use Rattle.quel_meaning.specs.Meaning.{Resolving, checked_permitted, judged_by, judged, judged_outcome, is_range, meaning_by};
 
 /// A statement that is refused before rows are looked at is refused by a number below 20, or by 23, 26 or
@@ -22,10 +22,9 @@ pub fn what_is_judged_is_permitted()
         → judged_by resolved db asker ranges s ≡ Ok tree → checked_permitted db (Asks asker) tree ≡ true }
 {}
 
-/// What a statement that is built does, but for one that declares a variable, is what it is judged to
-/// ask for.
+/// What a statement does, but for one that declares a variable, is what it is judged to ask for.
 #[tactic(auto, using(crate::proofs::Judged::meaning_judged))]
 pub fn statements_do_what_they_are_judged_to_ask_for()
-    ensures { (resolved : Resolving) (built : Built) (state : State) (asker : Asker) (s : Statement) → built.statement s ≡ true → is_range s ≡ false
-        → meaning_by resolved built state asker s ≡ judged_outcome state asker (judged_by resolved state.db asker state.ranges s) }
+    ensures { (resolved : Resolving) (state : State) (asker : Asker) (s : Statement) → is_range s ≡ false
+        → meaning_by resolved state asker s ≡ judged_outcome state asker (judged_by resolved state.db asker state.ranges s) }
 {}

@@ -15,7 +15,7 @@ pub use judging_laws::{
 };
 pub use laws::{
     a_refusal_changes_nothing, a_shelf_keeps_files, a_table_is_the_answer_in_order,
-    range_declares_a_variable, what_asks_changes_nothing, what_is_not_built_is_refused,
+    range_declares_a_variable, what_asks_changes_nothing,
 };
 pub use plan_laws::{a_new_number_is_greater, listed_numbers_ascend};
 pub use resolving_laws::{

@@ -6,7 +6,7 @@ ghost use Rattle.calculus.specs.Lists.{is_any};
 ghost use Rattle.calculus.specs.Who.{Asker};
 ghost use Rattle.calculus.specs.Database.{Db};
 ghost use Rattle.quel_grammar.specs.Next.{Reading, IsGrammatical};
-ghost use Rattle.quel_meaning.specs.State.{State, Built};
+ghost use Rattle.quel_meaning.specs.State.{State};
 ghost use Rattle.quel_meaning.specs.Lines.{lines_of, is_no_newline};
 ghost use Rattle.quel_meaning.specs.Monitor.{Plain, has_no_command, quoting_behind, is_command_letter, word_length, command_of, before_parts, order_before, parts_of};
 ghost use Rattle.quel_meaning.specs.Batch.{MovesOn, batch_from, read_on};
@@ -79,7 +79,7 @@ pub fn all_output_ends_the_last_reply()
 pub fn equal_readings_give_equal_sessions()
     ensures settings { (s t : Setting) → Agree s t → (state : State) (script : List ℕ) → session_of s state script ≡ session_of t state script }
     ensures readings { (r q : Reading) → ((text : List ℕ) (from : ℕ) → r text from ≡ q text from)
-        → (built : Built) (asker : Asker) (state : State) (script : List ℕ) → session r built asker state script ≡ session q built asker state script }
+        → (asker : Asker) (state : State) (script : List ℕ) → session r asker state script ≡ session q asker state script }
     ensures grammatical { (r q : Reading) → IsGrammatical r → IsGrammatical q
-        → (built : Built) (asker : Asker) (state : State) (script : List ℕ) → session r built asker state script ≡ session q built asker state script }
+        → (asker : Asker) (state : State) (script : List ℕ) → session r asker state script ≡ session q asker state script }
 {}

@@ -31,7 +31,7 @@ use Rattle.quel_meaning.specs.Scope.{Scope, named}
 use Rattle.quel_meaning.specs.WrittenQuery.{query_of}
 use Rattle.quel_query.specs.Changed.{changed, is_built as has_tree}
 use Rattle.quel_resolve.proofs.Overs.{few_under, few_over}
-use Rattle.quel_resolve.specs.Built.{changes_rows, is_range}
+use Rattle.quel_resolve.specs.Kinds.{changes_rows, is_range}
 
 few_named : (s : Scope) → IsDatabase s.db → (rel : List ℕ) (info : RelInfo) → named s rel ≡ Some info → length info.attrs ≤ 256
 unfolding named found
@@ -195,7 +195,7 @@ on_changed s (statement.Permit ops var attrs user qual) (Some info) h k = h
 on_changed s (statement.Rule var qual) None h k = absurd (cc k)
 on_changed s (statement.Rule var qual) (Some info) h k = h
 
--- a statement that is built, declares nothing and changes no rows has a tree where what it changes is there
+-- a statement that isn't served without a query, declares nothing and changes no rows has a tree where what it changes is there
 pub has_tree_on : (stmt : Statement) (info : RelInfo) → is_judged stmt ≡ true → is_range stmt ≡ false → changes_rows stmt ≡ false → has_tree stmt (Some info) ≡ true
 has_tree_on (statement.Range var rel) info w h k = absurd (cc h)
 has_tree_on (statement.Retrieve into items qual sort) info w h k = refl

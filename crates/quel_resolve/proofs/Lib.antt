@@ -1,4 +1,5 @@
 pub mod Changes
+pub mod NotServed
 pub mod Overs
 pub mod Passing
 pub mod Resolved

@@ -1,3 +1,2 @@
 pub mod Answers
-pub mod Built
-pub mod Causes
+pub mod Kinds

@@ -1,21 +1,20 @@
-//! What refuses a statement that is built and whose names were found.
+//! What refuses a statement whose names were found.
 
 ghost use Rattle.std.specs.Prelude.{◌≡◌, Option, Some, None, true, option_copied, option_map};
 ghost use Rattle.calculus.specs.Replacement.{first_cause};
-ghost use Rattle.quel_causes.specs.Judged.{IsOn, update_of};
+ghost use Rattle.quel_causes.specs.Judged.{IsOn, is_judged, update_of};
 ghost use Rattle.quel_meaning.specs.Aggregates.{aggregates_stand};
 ghost use Rattle.quel_meaning.specs.Causes.{causes};
 ghost use Rattle.quel_meaning.specs.Resolved.{tree_of};
 ghost use Rattle.quel_meaning.specs.Scope.{Scope};
 ghost use Rattle.quel_meaning.specs.WrittenQuery.{query_of};
-ghost use Rattle.quel_resolve.specs.Answers.{IsJudged, Says};
-ghost use Rattle.quel_resolve.specs.Built.{is_built};
-ghost use Rattle.quel_resolve.specs.Causes.{HasCheckCause};
+ghost use Rattle.quel_utilities.specs.Answers.{Says};
+ghost use Rattle.quel_utilities.specs.Causes.{HasCheckCause};
 
-use crate::fault::CheckFault;
 use am_traits::Base;
 use calculus::{Checked, Name, Query, RelInfo, Statement, Update};
 use quel_causes::cause;
+use quel_utilities::CheckFault;
 use std::alloc::Global;
 
 /// Goes on where no cause refuses a statement with this query, which is this update, or a permit or a rule
@@ -29,9 +28,8 @@ pub(crate) fn judge<B: Base>(
     update: Option<&Update>,
     on: Option<&RelInfo>,
 ) -> Result<(), CheckFault>
-    ensures told { (scope : Scope) → B.database base.old ≡ Some scope.db → scope.user ≡ user.now → q.now ≡ query_of scope s.now → option_map (λ v. v.now) update.entry ≡ update_of scope s.now q.now → IsOn scope s.now (option_copied on.entry) → is_built s.now ≡ true → aggregates_stand scope s.now ≡ true
-        → Says (λ done. first_cause (causes scope s.now) ≡ None) (λ number. first_cause (causes scope s.now) ≡ Some number) (Unit {0}) result }
-    ensures judged { IsJudged result }
+    ensures told { (scope : Scope) → B.database base.old ≡ Some scope.db → scope.user ≡ user.now → q.now ≡ query_of scope s.now → option_map (λ v. v.now) update.entry ≡ update_of scope s.now q.now → IsOn scope s.now (option_copied on.entry) → is_judged s.now ≡ true → aggregates_stand scope s.now ≡ true
+        → Says (λ done. first_cause (causes scope s.now) ≡ None) (λ number. first_cause (causes scope s.now) ≡ Some number) result }
     ensures kept { B.database base.new ≡ B.database base.old }
     ensures same { B.left base.new ≡ B.left base.old }
     ensures cause { HasCheckCause (B.database base.old) (B.faults base.old) (B.faults base.new) result }
@@ -50,9 +48,8 @@ pub(crate) fn judge_update<B: Base>(
     s: &Statement,
     update: Update,
 ) -> Result<Checked, CheckFault>
-    ensures told { (scope : Scope) → B.database base.old ≡ Some scope.db → scope.user ≡ user.now → update.query ≡ query_of scope s.now → Some update ≡ update_of scope s.now update.query → is_built s.now ≡ true → aggregates_stand scope s.now ≡ true
-        → Says (λ tree. (tree ≡ tree_of scope s.now) × (first_cause (causes scope s.now) ≡ None)) (λ number. first_cause (causes scope s.now) ≡ Some number) (Unit {0}) result }
-    ensures judged { IsJudged result }
+    ensures told { (scope : Scope) → B.database base.old ≡ Some scope.db → scope.user ≡ user.now → update.query ≡ query_of scope s.now → Some update ≡ update_of scope s.now update.query → is_judged s.now ≡ true → aggregates_stand scope s.now ≡ true
+        → Says (λ tree. (tree ≡ tree_of scope s.now) × (first_cause (causes scope s.now) ≡ None)) (λ number. first_cause (causes scope s.now) ≡ Some number) result }
     ensures kept { B.database base.new ≡ B.database base.old }
     ensures same { B.left base.new ≡ B.left base.old }
     ensures cause { HasCheckCause (B.database base.old) (B.faults base.old) (B.faults base.new) result }

@@ -3,6 +3,7 @@
 ghost use Rattle.std.specs.Prelude.{◌≡◌, ◌+◌, ◌≤◌, ℕ, List, Some, None, true, length, map, nat_lt};
 ghost use Rattle.calculus.specs.Database.{Db};
 ghost use Rattle.calculus.specs.Replacement.{first_cause};
+ghost use Rattle.quel_causes.specs.Judged.{is_judged};
 ghost use Rattle.quel_check.specs.Known.{inner_vars};
 ghost use Rattle.quel_meaning.specs.Aggregates.{aggregates_stand};
 ghost use Rattle.quel_meaning.specs.Causes.{causes};
@@ -11,17 +12,16 @@ ghost use Rattle.quel_meaning.specs.Scope.{ranged};
 ghost use Rattle.quel_meaning.specs.WrittenParts.{vars_in};
 ghost use Rattle.quel_meaning.specs.WrittenQuery.{query_of};
 ghost use Rattle.quel_names.specs.Asking.{scope_of};
-ghost use Rattle.quel_resolve.specs.Answers.{IsJudged, Says};
-ghost use Rattle.quel_resolve.specs.Built.{is_built};
-ghost use Rattle.quel_resolve.specs.Causes.{HasCheckCause};
+ghost use Rattle.quel_utilities.specs.Answers.{Says};
+ghost use Rattle.quel_utilities.specs.Causes.{HasCheckCause};
 
-use crate::fault::CheckFault;
 use am_traits::Base;
 use calculus::{Name, Query, RelInfo, Statement};
 use quel_causes::aggregates_stand;
 use quel_check::{Known, RangeTable, inner_vars, vars_in};
 use quel_names::infos_of;
 use quel_query::query_of;
+use quel_utilities::CheckFault;
 use std::alloc::Global;
 
 /// The greatest number of variables and aggregates of a query together.
@@ -49,8 +49,7 @@ fn query_known<B: Base>(
 ) -> Result<Query, CheckFault>
     ensures told { (db : Db) (user : List ℕ) → B.database base.old ≡ Some db → name_refusal (scope_of db user ranges.now) s.now ≡ None → aggregates_stand (scope_of db user ranges.now) s.now ≡ true
         → vars.now ≡ vars_in s.now → inner.now ≡ inner_vars s.now → length vars.now + length inner.now ≤ 10 → map (ranged (scope_of db user ranges.now)) vars.now ≡ map Some infos.now
-        → Says (λ q. q ≡ query_of (scope_of db user ranges.now) s.now) (λ number. first_cause (causes (scope_of db user ranges.now) s.now) ≡ Some number) (Unit {0}) result }
-    ensures judged { IsJudged result }
+        → Says (λ q. q ≡ query_of (scope_of db user ranges.now) s.now) (λ number. first_cause (causes (scope_of db user ranges.now) s.now) ≡ Some number) result }
     ensures kept { B.database base.new ≡ B.database base.old }
     ensures same { B.left base.new ≡ B.left base.old }
     ensures cause { HasCheckCause (B.database base.old) (B.faults base.old) (B.faults base.new) result }
@@ -83,8 +82,7 @@ fn query_over<B: Base>(
 ) -> Result<Query, CheckFault>
     ensures told { (db : Db) (user : List ℕ) → B.database base.old ≡ Some db → name_refusal (scope_of db user ranges.now) s.now ≡ None → aggregates_stand (scope_of db user ranges.now) s.now ≡ true
         → vars.now ≡ vars_in s.now → inner.now ≡ inner_vars s.now → length vars.now + length inner.now ≤ 10
-        → Says (λ q. q ≡ query_of (scope_of db user ranges.now) s.now) (λ number. first_cause (causes (scope_of db user ranges.now) s.now) ≡ Some number) (Unit {0}) result }
-    ensures judged { IsJudged result }
+        → Says (λ q. q ≡ query_of (scope_of db user ranges.now) s.now) (λ number. first_cause (causes (scope_of db user ranges.now) s.now) ≡ Some number) result }
     ensures kept { B.database base.new ≡ B.database base.old }
     ensures same { B.left base.new ≡ B.left base.old }
     ensures cause { HasCheckCause (B.database base.old) (B.faults base.old) (B.faults base.new) result }
@@ -117,10 +115,9 @@ fn query_within<B: Base>(
     vars: &[Name],
     inner: &[Name],
 ) -> Result<Query, CheckFault>
-    ensures told { (db : Db) (user : List ℕ) → B.database base.old ≡ Some db → name_refusal (scope_of db user ranges.now) s.now ≡ None → is_built s.now ≡ true → aggregates_stand (scope_of db user ranges.now) s.now ≡ true
+    ensures told { (db : Db) (user : List ℕ) → B.database base.old ≡ Some db → name_refusal (scope_of db user ranges.now) s.now ≡ None → is_judged s.now ≡ true → aggregates_stand (scope_of db user ranges.now) s.now ≡ true
         → vars.now ≡ vars_in s.now → inner.now ≡ inner_vars s.now
-        → Says (λ q. q ≡ query_of (scope_of db user ranges.now) s.now) (λ number. first_cause (causes (scope_of db user ranges.now) s.now) ≡ Some number) (Unit {0}) result }
-    ensures judged { IsJudged result }
+        → Says (λ q. q ≡ query_of (scope_of db user ranges.now) s.now) (λ number. first_cause (causes (scope_of db user ranges.now) s.now) ≡ Some number) result }
     ensures kept { B.database base.new ≡ B.database base.old }
     ensures same { B.left base.new ≡ B.left base.old }
     ensures cause { HasCheckCause (B.database base.old) (B.faults base.old) (B.faults base.new) result }
@@ -140,10 +137,9 @@ fn query_beside<B: Base>(
     s: &Statement,
     vars: &[Name],
 ) -> Result<Query, CheckFault>
-    ensures told { (db : Db) (user : List ℕ) → B.database base.old ≡ Some db → name_refusal (scope_of db user ranges.now) s.now ≡ None → is_built s.now ≡ true → aggregates_stand (scope_of db user ranges.now) s.now ≡ true
+    ensures told { (db : Db) (user : List ℕ) → B.database base.old ≡ Some db → name_refusal (scope_of db user ranges.now) s.now ≡ None → is_judged s.now ≡ true → aggregates_stand (scope_of db user ranges.now) s.now ≡ true
         → vars.now ≡ vars_in s.now
-        → Says (λ q. q ≡ query_of (scope_of db user ranges.now) s.now) (λ number. first_cause (causes (scope_of db user ranges.now) s.now) ≡ Some number) (Unit {0}) result }
-    ensures judged { IsJudged result }
+        → Says (λ q. q ≡ query_of (scope_of db user ranges.now) s.now) (λ number. first_cause (causes (scope_of db user ranges.now) s.now) ≡ Some number) result }
     ensures kept { B.database base.new ≡ B.database base.old }
     ensures same { B.left base.new ≡ B.left base.old }
     ensures cause { HasCheckCause (B.database base.old) (B.faults base.old) (B.faults base.new) result }
@@ -162,9 +158,8 @@ fn query_standing<B: Base>(
     ranges: &RangeTable,
     s: &Statement,
 ) -> Result<Query, CheckFault>
-    ensures told { (db : Db) (user : List ℕ) → B.database base.old ≡ Some db → name_refusal (scope_of db user ranges.now) s.now ≡ None → is_built s.now ≡ true → aggregates_stand (scope_of db user ranges.now) s.now ≡ true
-        → Says (λ q. q ≡ query_of (scope_of db user ranges.now) s.now) (λ number. first_cause (causes (scope_of db user ranges.now) s.now) ≡ Some number) (Unit {0}) result }
-    ensures judged { IsJudged result }
+    ensures told { (db : Db) (user : List ℕ) → B.database base.old ≡ Some db → name_refusal (scope_of db user ranges.now) s.now ≡ None → is_judged s.now ≡ true → aggregates_stand (scope_of db user ranges.now) s.now ≡ true
+        → Says (λ q. q ≡ query_of (scope_of db user ranges.now) s.now) (λ number. first_cause (causes (scope_of db user ranges.now) s.now) ≡ Some number) result }
     ensures kept { B.database base.new ≡ B.database base.old }
     ensures same { B.left base.new ≡ B.left base.old }
     ensures cause { HasCheckCause (B.database base.old) (B.faults base.old) (B.faults base.new) result }
@@ -175,8 +170,9 @@ fn query_standing<B: Base>(
     query
 }
 
-/// The query of a statement that is built and whose names were found; where an aggregate may not stand,
-/// or there are more variables and aggregates than a query may have, the number that refuses it.
+/// The query of a statement that isn't served without one and whose names were found; where an aggregate
+/// may not stand, or there are more variables and aggregates than a query may have, the number that
+/// refuses it.
 #[tactic(auto, using(crate::proofs::Passing::stands_not))]
 pub(crate) fn query<B: Base>(
     alloc: Global,
@@ -184,9 +180,8 @@ pub(crate) fn query<B: Base>(
     ranges: &RangeTable,
     s: &Statement,
 ) -> Result<Query, CheckFault>
-    ensures told { (db : Db) (user : List ℕ) → B.database base.old ≡ Some db → name_refusal (scope_of db user ranges.now) s.now ≡ None → is_built s.now ≡ true
-        → Says (λ q. (q ≡ query_of (scope_of db user ranges.now) s.now) × (aggregates_stand (scope_of db user ranges.now) s.now ≡ true)) (λ number. first_cause (causes (scope_of db user ranges.now) s.now) ≡ Some number) (Unit {0}) result }
-    ensures judged { IsJudged result }
+    ensures told { (db : Db) (user : List ℕ) → B.database base.old ≡ Some db → name_refusal (scope_of db user ranges.now) s.now ≡ None → is_judged s.now ≡ true
+        → Says (λ q. (q ≡ query_of (scope_of db user ranges.now) s.now) × (aggregates_stand (scope_of db user ranges.now) s.now ≡ true)) (λ number. first_cause (causes (scope_of db user ranges.now) s.now) ≡ Some number) result }
     ensures kept { B.database base.new ≡ B.database base.old }
     ensures same { B.left base.new ≡ B.left base.old }
     ensures cause { HasCheckCause (B.database base.old) (B.faults base.old) (B.faults base.new) result }

@@ -1,21 +1,18 @@
 //! What a statement asks for.
 
-ghost use Rattle.std.specs.Prelude.{◌≡◌, Some, None, true, false, Ok, Err};
+ghost use Rattle.std.specs.Prelude.{◌≡◌, Some, None};
 ghost use Rattle.calculus.specs.Database.{Db};
 ghost use Rattle.quel_meaning.specs.Naming.{name_refusal};
-ghost use Rattle.quel_meaning.specs.Resolved.{resolved};
 ghost use Rattle.quel_names.specs.Asking.{scope_of};
-ghost use Rattle.quel_resolve.specs.Answers.{Says, Resolves};
-ghost use Rattle.quel_resolve.specs.Built.{is_built};
-ghost use Rattle.quel_resolve.specs.Causes.{HasCheckCause};
+ghost use Rattle.quel_resolve.specs.Answers.{Resolves};
+ghost use Rattle.quel_utilities.specs.Causes.{HasCheckCause};
 
-use crate::built::is_built;
-use crate::fault::CheckFault;
 use crate::trees::tree;
 use am_traits::Base;
 use calculus::{Checked, Name, Statement};
 use quel_check::RangeTable;
 use quel_names::name_refusal;
+use quel_utilities::{CheckFault, is_served, served};
 use std::alloc::Global;
 
 /// What a statement asks for whose names were found.
@@ -27,20 +24,19 @@ fn resolve_named<B: Base>(
     base: &mut B,
 ) -> Result<Checked, CheckFault>
     ensures told { (db : Db) → B.database base.old ≡ Some db → name_refusal (scope_of db user.now ranges.now) s.now ≡ None → Resolves db user.now ranges.now s.now result }
-    ensures kinds { Says (λ tree. is_built s.now ≡ true) (λ number. Unit {0}) (is_built s.now ≡ false) result }
     ensures kept { B.database base.new ≡ B.database base.old }
     ensures same { B.left base.new ≡ B.left base.old }
     ensures cause { HasCheckCause (B.database base.old) (B.faults base.old) (B.faults base.new) result }
 {
-    if !is_built(s) {
-        return Err(CheckFault::NotBuilt);
+    if is_served(s) {
+        served(alloc, base, user, s)
+    } else {
+        tree(alloc, base, user, ranges, s)
     }
-    tree(alloc, base, user, ranges, s)
 }
 
 /// What the user's statement asks for: its tree. `No` has the number of what refuses the statement:
 /// the first name in its text that isn't what it has to be, else the first cause that is there.
-/// `NotBuilt` comes where no name refuses it, but it is of a kind that isn't resolved yet.
 pub fn resolve<B: Base>(
     alloc: Global,
     s: &Statement,
@@ -49,7 +45,6 @@ pub fn resolve<B: Base>(
     base: &mut B,
 ) -> Result<Checked, CheckFault>
     ensures told { (db : Db) → B.database base.old ≡ Some db → Resolves db user.now ranges.now s.now result }
-    ensures kinds { Says (λ tree. is_built s.now ≡ true) (λ number. Unit {0}) (is_built s.now ≡ false) result }
     ensures kept { B.database base.new ≡ B.database base.old }
     ensures same { B.left base.new ≡ B.left base.old }
     ensures cause { HasCheckCause (B.database base.old) (B.faults base.old) (B.faults base.new) result }

@@ -1,11 +1,11 @@
-//! The tree of a statement that is built and whose names were found.
+//! The tree of a statement that is made of a query and whose names were found.
 
 ghost use Rattle.std.specs.Prelude.{◌≡◌, ℕ, [], Option, Some, None, true, false, option_copied};
 ghost use Rattle.calculus.specs.IsDatabase.{IsDatabase};
 ghost use Rattle.calculus.specs.Database.{Db};
 ghost use Rattle.calculus.specs.Replacement.{first_cause};
 ghost use Rattle.calculus.specs.declared.request.Checked.TheVariants.{Answer};
-ghost use Rattle.quel_causes.specs.Judged.{update_of};
+ghost use Rattle.quel_causes.specs.Judged.{is_judged, update_of};
 ghost use Rattle.quel_meaning.specs.Aggregates.{aggregates_stand};
 ghost use Rattle.quel_meaning.specs.Causes.{causes};
 ghost use Rattle.quel_meaning.specs.Naming.{name_refusal};
@@ -14,19 +14,19 @@ ghost use Rattle.quel_meaning.specs.Scope.{Scope};
 ghost use Rattle.quel_meaning.specs.WrittenQuery.{query_of};
 ghost use Rattle.quel_names.specs.Asking.{scope_of};
 ghost use Rattle.quel_query.specs.Changed.{changed, is_built as has_tree};
-ghost use Rattle.quel_resolve.specs.Answers.{IsJudged, Says};
-ghost use Rattle.quel_resolve.specs.Built.{changes_rows, is_built, is_range};
-ghost use Rattle.quel_resolve.specs.Causes.{HasCheckCause, IsCaused};
+ghost use Rattle.quel_resolve.specs.Kinds.{changes_rows, is_range};
+ghost use Rattle.quel_utilities.specs.Answers.{Says};
+ghost use Rattle.quel_utilities.specs.Causes.{HasCheckCause, IsCaused};
 
-use crate::built::{changes_rows, is_range};
 use crate::changing::{changed, update_of};
-use crate::fault::CheckFault;
 use crate::judging::{judge, judge_update};
+use crate::kinds::{changes_rows, is_range};
 use crate::queries::query;
 use am_traits::Base;
 use calculus::{Checked, List, Name, Query, RelInfo, Statement};
 use quel_check::RangeTable;
 use quel_query::tree_by;
+use quel_utilities::CheckFault;
 use std::alloc::Global;
 
 /// The number of an unknown relation.
@@ -41,9 +41,8 @@ fn updated<B: Base>(
     info: &RelInfo,
     q: Query,
 ) -> Result<Checked, CheckFault>
-    ensures told { (scope : Scope) → B.database base.old ≡ Some scope.db → scope.user ≡ user.now → q ≡ query_of scope s.now → changed scope s.now ≡ Some info.now → changes_rows s.now ≡ true → is_built s.now ≡ true → aggregates_stand scope s.now ≡ true
-        → Says (λ tree. (tree ≡ tree_of scope s.now) × (first_cause (causes scope s.now) ≡ None)) (λ number. first_cause (causes scope s.now) ≡ Some number) (Unit {0}) result }
-    ensures judged { IsJudged result }
+    ensures told { (scope : Scope) → B.database base.old ≡ Some scope.db → scope.user ≡ user.now → q ≡ query_of scope s.now → changed scope s.now ≡ Some info.now → changes_rows s.now ≡ true → is_judged s.now ≡ true → aggregates_stand scope s.now ≡ true
+        → Says (λ tree. (tree ≡ tree_of scope s.now) × (first_cause (causes scope s.now) ≡ None)) (λ number. first_cause (causes scope s.now) ≡ Some number) result }
     ensures kept { B.database base.new ≡ B.database base.old }
     ensures same { B.left base.new ≡ B.left base.old }
     ensures cause { HasCheckCause (B.database base.old) (B.faults base.old) (B.faults base.new) result }
@@ -62,9 +61,8 @@ fn asked(
     on: Option<&RelInfo>,
     q: Query,
 ) -> Result<Checked, CheckFault>
-    ensures told { (scope : Scope) → IsDatabase scope.db → scope.user ≡ user.now → q ≡ query_of scope s.now → None ≡ update_of scope s.now q → changed scope s.now ≡ option_copied on.entry → has_tree s.now (option_copied on.entry) ≡ true → is_built s.now ≡ true → is_range s.now ≡ false → first_cause (causes scope s.now) ≡ None
-        → Says (λ tree. (tree ≡ tree_of scope s.now) × (first_cause (causes scope s.now) ≡ None)) (λ number. first_cause (causes scope s.now) ≡ Some number) (Unit {0}) result }
-    ensures judged { IsJudged result }
+    ensures told { (scope : Scope) → IsDatabase scope.db → scope.user ≡ user.now → q ≡ query_of scope s.now → None ≡ update_of scope s.now q → changed scope s.now ≡ option_copied on.entry → has_tree s.now (option_copied on.entry) ≡ true → is_judged s.now ≡ true → is_range s.now ≡ false → first_cause (causes scope s.now) ≡ None
+        → Says (λ tree. (tree ≡ tree_of scope s.now) × (first_cause (causes scope s.now) ≡ None)) (λ number. first_cause (causes scope s.now) ≡ Some number) result }
     ensures no_fault { (told : Option Db) (before now : ℕ) → IsCaused told before now result }
 {
     match tree_by(alloc, user, s, q, on)? {
@@ -84,9 +82,8 @@ fn made<B: Base>(
     on: Option<&RelInfo>,
     q: Query,
 ) -> Result<Checked, CheckFault>
-    ensures told { (scope : Scope) → B.database base.old ≡ Some scope.db → scope.user ≡ user.now → q ≡ query_of scope s.now → None ≡ update_of scope s.now q → changed scope s.now ≡ option_copied on.entry → has_tree s.now (option_copied on.entry) ≡ true → is_built s.now ≡ true → aggregates_stand scope s.now ≡ true → is_range s.now ≡ false
-        → Says (λ tree. (tree ≡ tree_of scope s.now) × (first_cause (causes scope s.now) ≡ None)) (λ number. first_cause (causes scope s.now) ≡ Some number) (Unit {0}) result }
-    ensures judged { IsJudged result }
+    ensures told { (scope : Scope) → B.database base.old ≡ Some scope.db → scope.user ≡ user.now → q ≡ query_of scope s.now → None ≡ update_of scope s.now q → changed scope s.now ≡ option_copied on.entry → has_tree s.now (option_copied on.entry) ≡ true → is_judged s.now ≡ true → aggregates_stand scope s.now ≡ true → is_range s.now ≡ false
+        → Says (λ tree. (tree ≡ tree_of scope s.now) × (first_cause (causes scope s.now) ≡ None)) (λ number. first_cause (causes scope s.now) ≡ Some number) result }
     ensures kept { B.database base.new ≡ B.database base.old }
     ensures same { B.left base.new ≡ B.left base.old }
     ensures cause { HasCheckCause (B.database base.old) (B.faults base.old) (B.faults base.new) result }
@@ -109,9 +106,8 @@ fn changing<B: Base>(
     info: &RelInfo,
     q: Query,
 ) -> Result<Checked, CheckFault>
-    ensures told { (scope : Scope) → B.database base.old ≡ Some scope.db → scope.user ≡ user.now → q ≡ query_of scope s.now → changed scope s.now ≡ Some info.now → is_built s.now ≡ true → aggregates_stand scope s.now ≡ true → is_range s.now ≡ false
-        → Says (λ tree. (tree ≡ tree_of scope s.now) × (first_cause (causes scope s.now) ≡ None)) (λ number. first_cause (causes scope s.now) ≡ Some number) (Unit {0}) result }
-    ensures judged { IsJudged result }
+    ensures told { (scope : Scope) → B.database base.old ≡ Some scope.db → scope.user ≡ user.now → q ≡ query_of scope s.now → changed scope s.now ≡ Some info.now → is_judged s.now ≡ true → aggregates_stand scope s.now ≡ true → is_range s.now ≡ false
+        → Says (λ tree. (tree ≡ tree_of scope s.now) × (first_cause (causes scope s.now) ≡ None)) (λ number. first_cause (causes scope s.now) ≡ Some number) result }
     ensures kept { B.database base.new ≡ B.database base.old }
     ensures same { B.left base.new ≡ B.left base.old }
     ensures cause { HasCheckCause (B.database base.old) (B.faults base.old) (B.faults base.new) result }
@@ -133,9 +129,8 @@ fn tree_over<B: Base>(
     changes: Option<RelInfo>,
     q: Query,
 ) -> Result<Checked, CheckFault>
-    ensures told { (db : Db) → B.database base.old ≡ Some db → q ≡ query_of (scope_of db user.now ranges.now) s.now → name_refusal (scope_of db user.now ranges.now) s.now ≡ None → is_built s.now ≡ true → aggregates_stand (scope_of db user.now ranges.now) s.now ≡ true → is_range s.now ≡ false → changes ≡ changed (scope_of db user.now ranges.now) s.now
-        → Says (λ tree. (tree ≡ tree_of (scope_of db user.now ranges.now) s.now) × (first_cause (causes (scope_of db user.now ranges.now) s.now) ≡ None)) (λ number. first_cause (causes (scope_of db user.now ranges.now) s.now) ≡ Some number) (Unit {0}) result }
-    ensures judged { IsJudged result }
+    ensures told { (db : Db) → B.database base.old ≡ Some db → q ≡ query_of (scope_of db user.now ranges.now) s.now → name_refusal (scope_of db user.now ranges.now) s.now ≡ None → is_judged s.now ≡ true → aggregates_stand (scope_of db user.now ranges.now) s.now ≡ true → is_range s.now ≡ false → changes ≡ changed (scope_of db user.now ranges.now) s.now
+        → Says (λ tree. (tree ≡ tree_of (scope_of db user.now ranges.now) s.now) × (first_cause (causes (scope_of db user.now ranges.now) s.now) ≡ None)) (λ number. first_cause (causes (scope_of db user.now ranges.now) s.now) ≡ Some number) result }
     ensures kept { B.database base.new ≡ B.database base.old }
     ensures same { B.left base.new ≡ B.left base.old }
     ensures cause { HasCheckCause (B.database base.old) (B.faults base.old) (B.faults base.new) result }
@@ -155,9 +150,8 @@ fn tree_with<B: Base>(
     s: &Statement,
     q: Query,
 ) -> Result<Checked, CheckFault>
-    ensures told { (db : Db) → B.database base.old ≡ Some db → q ≡ query_of (scope_of db user.now ranges.now) s.now → name_refusal (scope_of db user.now ranges.now) s.now ≡ None → is_built s.now ≡ true → aggregates_stand (scope_of db user.now ranges.now) s.now ≡ true → is_range s.now ≡ false
-        → Says (λ tree. (tree ≡ tree_of (scope_of db user.now ranges.now) s.now) × (first_cause (causes (scope_of db user.now ranges.now) s.now) ≡ None)) (λ number. first_cause (causes (scope_of db user.now ranges.now) s.now) ≡ Some number) (Unit {0}) result }
-    ensures judged { IsJudged result }
+    ensures told { (db : Db) → B.database base.old ≡ Some db → q ≡ query_of (scope_of db user.now ranges.now) s.now → name_refusal (scope_of db user.now ranges.now) s.now ≡ None → is_judged s.now ≡ true → aggregates_stand (scope_of db user.now ranges.now) s.now ≡ true → is_range s.now ≡ false
+        → Says (λ tree. (tree ≡ tree_of (scope_of db user.now ranges.now) s.now) × (first_cause (causes (scope_of db user.now ranges.now) s.now) ≡ None)) (λ number. first_cause (causes (scope_of db user.now ranges.now) s.now) ≡ Some number) result }
     ensures kept { B.database base.new ≡ B.database base.old }
     ensures same { B.left base.new ≡ B.left base.old }
     ensures cause { HasCheckCause (B.database base.old) (B.faults base.old) (B.faults base.new) result }
@@ -178,8 +172,8 @@ fn nothing(alloc: Global) -> Checked
     Checked::Answer(List::of(Vec::new(alloc)))
 }
 
-/// The tree of a statement that is built and whose names were found, or the number of the first cause
-/// that refuses it.
+/// The tree of a statement that is made of a query and whose names were found, or the number of the first
+/// cause that refuses it.
 pub(crate) fn tree<B: Base>(
     alloc: Global,
     base: &mut B,
@@ -187,9 +181,8 @@ pub(crate) fn tree<B: Base>(
     ranges: &RangeTable,
     s: &Statement,
 ) -> Result<Checked, CheckFault>
-    ensures told { (db : Db) → B.database base.old ≡ Some db → name_refusal (scope_of db user.now ranges.now) s.now ≡ None → is_built s.now ≡ true
-        → Says (λ tree. (tree ≡ tree_of (scope_of db user.now ranges.now) s.now) × (first_cause (causes (scope_of db user.now ranges.now) s.now) ≡ None)) (λ number. first_cause (causes (scope_of db user.now ranges.now) s.now) ≡ Some number) (Unit {0}) result }
-    ensures judged { IsJudged result }
+    ensures told { (db : Db) → B.database base.old ≡ Some db → name_refusal (scope_of db user.now ranges.now) s.now ≡ None → is_judged s.now ≡ true
+        → Says (λ tree. (tree ≡ tree_of (scope_of db user.now ranges.now) s.now) × (first_cause (causes (scope_of db user.now ranges.now) s.now) ≡ None)) (λ number. first_cause (causes (scope_of db user.now ranges.now) s.now) ≡ Some number) result }
     ensures kept { B.database base.new ≡ B.database base.old }
     ensures same { B.left base.new ≡ B.left base.old }
     ensures cause { HasCheckCause (B.database base.old) (B.faults base.old) (B.faults base.new) result }

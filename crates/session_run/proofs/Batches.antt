@@ -20,7 +20,11 @@ use Rattle.calculus.specs.declared.reply.Reply.{Reply}
 use Rattle.calculus.specs.declared.reply.Reply.TheVariants.{Refused}
 use Rattle.quel_meaning.proofs.Grammatical.{moves_on}
 use Rattle.quel_meaning.proofs.LeftOfBatch.{nothing_left, statement_next, refusal_next}
-use Rattle.session_run.specs.Doing.{Meaning, setting, with_state, left, Did, Goes, Refuses}
+use Rattle.calculus.specs.Database.{Db}
+use Rattle.fault_io.specs.Files.{Files}
+use Rattle.quel_meaning.specs.Ranges.{Ranges}
+use Rattle.session_run.specs.Doing.{Meaning, setting, with_state, left, Did, Goes, Refuses, Stands}
+use Rattle.session_run.specs.Standing.{Comes, state_on}
 use Rattle.quel_meaning.specs.Session.{printed}
 use Rattle.session_run.proofs.Goings.{goes_first, goes_all, goes_both, goes_done}
 
@@ -59,13 +63,18 @@ moves_past text from s end e =
     (f.0, omega (arith, f.0, f.1))
 
 -- a statement ran, and its reply was printed
-pub statement_did : (m : Meaning) (k : Kept) (state now : State) (s : Statement) (line : ℕ) (reply : Reply) (old new : List ℕ)
-    → m state s ≡ record { state = now; reply = reply } → new ≡ old ++ reply_bytes (at_line line reply)
-    → Did (after_statement (setting m) (with_state state k) (record { statement = s; line = line })) old new (with_state now k)
+pub statement_did : (m : Meaning) (k : Kept) (db : Db) (ranges : Ranges) (told : Option Files) (db_now : Db) (ranges_now : Ranges) (told_now : Option Files) (s : Statement) (line : ℕ) (reply : Reply) (old new : List ℕ)
+    → Stands db ranges told k.state → Comes (m (state_on db ranges k.state.shelf) s) db_now ranges_now told_now reply → new ≡ old ++ reply_bytes (at_line line reply)
+    → (now : State) × Stands db_now ranges_now told_now now × Did (after_statement (setting m) k (record { statement = s; line = line })) old new (with_state now k)
 unfolding after_statement printed
-statement_did m k state now s line reply old new e grown =
-    subst (λ (o : Outcome). Did (after_outcome (with_state state k) line o) old new (with_state now k)) (sym e)
-    (record { output = grown ∙ ap (λ (x : List ℕ). old ++ x) (sym (append-nil (reply_bytes (at_line line reply)))); keeps = refl })
+statement_did m k db ranges told db_now ranges_now told_now s line reply old new stands comes grown =
+    let now = state_on db_now ranges_now comes.files in
+    let is : m k.state s ≡ record { state = now; reply = reply } = ap (λ (x : State). m x s) stands.is ∙ comes.is in (
+      now,
+      record { told_so = comes.told_so; is = refl },
+      subst (λ (o : Outcome). Did (after_outcome k line o) old new (with_state now k)) (sym is)
+          (record { output = grown ∙ ap (λ (x : List ℕ). old ++ x) (sym (append-nil (reply_bytes (at_line line reply)))); keeps = refl }),
+    )
 
 -- a refusal was printed
 pub refused_did : (kept : Kept) (code line : ℕ) (old new : List ℕ) → new ≡ old ++ reply_bytes (Refused (record { code = code; line = line; row = 0 }))
@@ -99,3 +108,12 @@ batch_ends means text u v first now last o p q at e begun done =
     goes_done (after_batch (setting (means u)) (batch_of next_at text) first) o q last
     (goes_both (left (setting (means u)) text (Some 0) first) (left (setting (means u)) text (Some at) now) (quiet last) o p q begun
     (subst (λ (w : Asker). Goes (left (setting (means w)) text (Some at) now) p (left (setting (means w)) text None last) q) e done))
+
+-- the walk is one step further
+pub walks_on : (means : Asker → Meaning) (text : List ℕ) (u v : Asker) (first now last : Kept) (o p q : List ℕ) (at : ℕ) (next : Option ℕ) → v ≡ u
+    → Goes (left (setting (means u)) text (Some 0) first) o (left (setting (means u)) text (Some at) now) p
+    → Goes (left (setting (means v)) text (Some at) now) p (left (setting (means v)) text next last) q
+    → Goes (left (setting (means u)) text (Some 0) first) o (left (setting (means u)) text next last) q
+walks_on means text u v first now last o p q at next e begun done =
+    goes_both (left (setting (means u)) text (Some 0) first) (left (setting (means u)) text (Some at) now) (left (setting (means u)) text next last) o p q begun
+    (subst (λ (w : Asker). Goes (left (setting (means w)) text (Some at) now) p (left (setting (means w)) text next last) q) e done)

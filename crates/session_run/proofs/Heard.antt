@@ -1,23 +1,21 @@
 -- Pieces of a script one after the other.
+use Rattle.calculus.specs.Database.{Db}
 use Rattle.calculus.specs.Who.{Asker}
-use Rattle.std.proofs.Common.{◌≡◌, refl, sym, ap, subst, ◌∙◌, ℕ, true, List, [], ◌∷◌, ◌++◌, append_assoc, length}
+use Rattle.std.proofs.Common.{◌≡◌, refl, sym, ap, subst, ◌∙◌, ℕ, true, false, Some, List, [], ◌∷◌, ◌++◌, append_assoc, length}
 use Rattle.std.specs.declared.option.Option.{Option}
-use Rattle.std.specs.Io.KnownBytes.{Appends}
 use Rattle.std.proofs.KnownBytes.{Appends-nil, Appends-trans}
-use Rattle.std.specs.Prelude.{OnOk, Result, Ok, Err}
 use Rattle.std.specs.List.{list_all}
+use Rattle.fault_io.specs.Files.{Files}
 use Rattle.fault_io.specs.Told.{IsFront, GrewBy}
-use Rattle.quel_meaning.specs.Happening.{Kept, After}
+use Rattle.quel_meaning.specs.Buffer.{empty_buffer}
+use Rattle.quel_meaning.specs.Happening.{Kept, After, start}
 use Rattle.quel_meaning.specs.Lines.{is_no_newline}
-use Rattle.quel_meaning.specs.Running.{Deeper, after_line}
-use Rattle.quel_meaning.specs.Session.{printed, files_of}
-use Rattle.session_run.specs.Doing.{Meaning, setting, Did}
-use Rattle.session_run.specs.Hearing.{Heard, later, Begins, Hears, HearsPartly}
-use Rattle.session_run.proofs.Lines.{hearing, hears_end, hears_newline, hears_front, closes_none, closes_some, closes_front}
-
--- nothing was heard yet
-pub none_heard : (m : Meaning) (h : Heard) (w : Option (List ℕ)) → Hears m h h [] w w
-none_heard m h w = ([], Appends-nil w, λ last rest. record { output = refl; keeps = refl })
+use Rattle.quel_meaning.specs.Ranges.{Ranges}
+use Rattle.quel_meaning.specs.Session.{printed}
+use Rattle.session_run.specs.Doing.{Meaning, Did}
+use Rattle.session_run.specs.Standing.{state_on}
+use Rattle.session_run.specs.Hearing.{Heard, IsHeard, Listening, later, Begins, Hears, HearsPartly, TakesLine, TakesLinePartly}
+use Rattle.session_run.proofs.Lines.{hearing, hears_byte, hears_end, hears_newline, hears_front, closes_none, closes_some, closes_front}
 
 -- one part prints these bytes, and then another part
 pub begins_both : (a b c : After) (x y : List ℕ) → Begins a x b → Begins b y c → Begins a (x ++ y) c
@@ -74,40 +72,39 @@ partly_then m a b xs ys zs w0 w1 w2 p q = (
 
 -- ---- a line
 
--- where a fact follows on an answer, so does what the fact says
-pub on_ok : {T E : Type 0} {A B : Type 0} (r : Result T E) → (A → B) → OnOk r A → OnOk r B
-on_ok (Ok x) f a = f a
-on_ok (Err e) f a = a
+-- a byte that is no newline
+pub byte_heard : (m : Meaning) (kept : Kept) (partial : List ℕ) (byte : ℕ) (w : Option (List ℕ)) → Hears m (hearing kept partial) (hearing kept (partial ++ byte ∷ [])) (byte ∷ []) w w
+byte_heard m kept partial byte w = (
+  [],
+  Appends-nil w,
+  λ last rest.
+      subst (λ (a : After). Begins a [] (later m last (hearing kept (partial ++ byte ∷ [])) rest)) (sym (hears_byte last m kept partial byte rest)) (record { output = refl; keeps = refl }),
+)
 
 -- the line was whole
-pub newline_heard : (m : Meaning) (asker : Asker) (kept now : Kept) (partial : List ℕ) (w0 w1 : Option (List ℕ)) → list_all is_no_newline partial ≡ true
-    → GrewBy w0 w1 (λ more. (deeper : Deeper) → Did (after_line (setting m) deeper kept (partial ++ 10 ∷ [])) [] more now)
-    → Hears m (hearing asker kept partial) (hearing asker now []) (10 ∷ []) w0 w1
-newline_heard m asker kept now partial w0 w1 e grew =
-    (grew.0, grew.1, λ last rest. hears_newline last m asker kept partial rest grew.0 now e (grew.2 (files_of (setting m))))
+pub newline_heard : (m : Meaning) (kept now : Kept) (partial : List ℕ) (w0 w1 : Option (List ℕ)) → list_all is_no_newline partial ≡ true → TakesLine m kept (partial ++ 10 ∷ []) now w0 w1
+    → Hears m (hearing kept partial) (hearing now []) (10 ∷ []) w0 w1
+newline_heard m kept now partial w0 w1 e took = (took.0, took.1, λ last rest. hears_newline last m kept partial rest took.0 now e took.2)
 
-pub newline_partly : (m : Meaning) (asker : Asker) (kept : Kept) (partial : List ℕ) (w0 w1 : Option (List ℕ)) → list_all is_no_newline partial ≡ true
-    → GrewBy w0 w1 (λ more. (deeper : Deeper) → IsFront more (printed (after_line (setting m) deeper kept (partial ++ 10 ∷ [])).events))
-    → HearsPartly m (hearing asker kept partial) (10 ∷ []) w0 w1
-newline_partly m asker kept partial w0 w1 e grew =
-    (grew.0, grew.1, λ rest. hears_front m asker kept partial rest grew.0 e (grew.2 (files_of (setting m))))
+pub newline_partly : (m : Meaning) (kept : Kept) (partial : List ℕ) (w0 w1 : Option (List ℕ)) → list_all is_no_newline partial ≡ true → TakesLinePartly m kept (partial ++ 10 ∷ []) w0 w1
+    → HearsPartly m (hearing kept partial) (10 ∷ []) w0 w1
+newline_partly m kept partial w0 w1 e took = (took.0, took.1, λ rest. hears_front m kept partial rest took.0 e took.2)
 
 -- the last line, which lacks its newline
-pub last_heard : (m : Meaning) (asker : Asker) (kept now : Kept) (partial : List ℕ) (w0 w1 : Option (List ℕ)) → list_all is_no_newline partial ≡ true → (length partial ≡ 0 → ⊥)
-    → GrewBy w0 w1 (λ more. (deeper : Deeper) → Did (after_line (setting m) deeper kept partial) [] more now)
-    → Appends w0 w1 (printed (later m true (hearing asker kept partial) []).events)
-last_heard m asker kept now partial w0 w1 e some grew =
-    subst (λ (x : List ℕ). Appends w0 w1 x) (sym (closes_some m asker kept partial grew.0 now e some (grew.2 (files_of (setting m))))) grew.1
+pub last_heard : (m : Meaning) (kept now : Kept) (partial : List ℕ) (w0 w1 : Option (List ℕ)) → list_all is_no_newline partial ≡ true → (length partial ≡ 0 → ⊥) → TakesLine m kept partial now w0 w1
+    → GrewBy w0 w1 (λ more. Did (later m true (hearing kept partial) []) [] more now)
+last_heard m kept now partial w0 w1 e some took = (took.0, took.1, closes_some m kept partial took.0 now e some (took.2 []))
 
--- whatever follows, it prints what the last line begins with
-pub last_partly : (m : Meaning) (asker : Asker) (kept : Kept) (partial : List ℕ) (w0 w1 : Option (List ℕ)) → list_all is_no_newline partial ≡ true → (length partial ≡ 0 → ⊥)
-    → GrewBy w0 w1 (λ more. (deeper : Deeper) → IsFront more (printed (after_line (setting m) deeper kept partial).events))
-    → GrewBy w0 w1 (λ more. IsFront more (printed (later m true (hearing asker kept partial) []).events))
-last_partly m asker kept partial w0 w1 e some grew = (grew.0, grew.1, closes_front m asker kept partial grew.0 e some (grew.2 (files_of (setting m))))
+-- whatever comes, it prints what the last line begins with
+pub last_partly : (m : Meaning) (kept : Kept) (partial : List ℕ) (w0 w1 : Option (List ℕ)) → list_all is_no_newline partial ≡ true → (length partial ≡ 0 → ⊥) → TakesLinePartly m kept partial w0 w1
+    → GrewBy w0 w1 (λ more. IsFront more (printed (later m true (hearing kept partial) []).events))
+last_partly m kept partial w0 w1 e some took = (took.0, took.1, closes_front m kept partial took.0 e some (took.2 []))
 
 -- no line has begun
-pub none_left : (m : Meaning) (asker : Asker) (kept : Kept) (partial : List ℕ) (w : Option (List ℕ)) → length partial ≡ 0 → Appends w w (printed (later m true (hearing asker kept partial) []).events)
-none_left m asker kept partial w e = subst (λ (x : List ℕ). Appends w w x) (sym (closes_none m asker kept partial e)) (Appends-nil w)
+pub none_left : (m : Meaning) (kept : Kept) (partial : List ℕ) (w : Option (List ℕ)) → length partial ≡ 0 → GrewBy w w (λ more. Did (later m true (hearing kept partial) []) [] more kept)
+unfolding printed
+none_left m kept partial w e =
+    ([], Appends-nil w, subst (λ (a : After). Did a [] [] kept) (sym (closes_none m kept partial e)) (record { output = refl; keeps = refl }))
 
 -- ---- the same user
 
@@ -116,3 +113,13 @@ same_hears means u v a b xs w0 w1 e h = subst (λ (w : Asker). Hears (means w) a
 
 pub same_partly : (means : Asker → Meaning) (u v : Asker) (a : Heard) (xs : List ℕ) (w0 w1 : Option (List ℕ)) → v ≡ u → HearsPartly (means v) a xs w0 w1 → HearsPartly (means u) a xs w0 w1
 same_partly means u v a xs w0 w1 e h = subst (λ (w : Asker). HearsPartly (means w) a xs w0 w1) e h
+
+-- ---- the begin
+
+-- nothing was heard, and a shelf tells these files
+pub begins_heard : (l : Listening) (asker : Asker) (db : Db) (ranges : Ranges) (told : Option Files) (files : Files)
+    → l ≡ record { running = record { asker = asker; db = db; ranges = ranges; buffer = empty_buffer; included = 0; quit = false; files = [] }; partial = [] } → told ≡ Some files
+    → IsHeard l told (record { kept = start (state_on db ranges files); partial = [] })
+begins_heard l asker db ranges told files e telling =
+    subst (λ (x : Listening). IsHeard x told (record { kept = start (state_on db ranges files); partial = [] })) (sym e)
+    (record { kept = record { stands = record { told_so = telling; is = refl }; buffer = refl; included = refl; quit = refl }; partial = refl; none_open = refl })

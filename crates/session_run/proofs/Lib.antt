@@ -1,8 +1,11 @@
 pub mod Goings
 pub mod Batches
 pub mod Counting
+pub mod Files
+pub mod Orders
+pub mod Whole
 pub mod Lines
 pub mod Heard
+pub mod Takings
 pub mod Pieces
-pub mod Orders
 pub mod Runs

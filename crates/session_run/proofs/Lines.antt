@@ -1,5 +1,4 @@
 -- Lines of a script that is heard byte by byte.
-use Rattle.calculus.specs.Who.{Asker}
 use Rattle.std.proofs.Common.{◌≡◌, ℕ, Bool, true, false, eqb, List, [], ◌∷◌, ◌++◌, refl, sym, ap, subst, ◌∙◌, append_assoc, append-nil, length, arith, ◌-◌, ◌<◌, suc, length-append}
 use Rattle.std.proofs.Math.Seq.{get_or-append_seam}
 use Rattle.std.specs.Prelude.{◌&&◌, ◌==◌, not, nat_lt, slice_index}
@@ -7,13 +6,12 @@ use Rattle.std.proofs.lemmas.Bool.{lt-ltb}
 use Rattle.std.specs.List.{list_all}
 use Rattle.std.specs.Io.BufRead.{ends_with_byte}
 use Rattle.fault_io.specs.Told.{IsFront}
-use Rattle.quel_meaning.specs.Happening.{Kept, After, quiet, and_then, over}
+use Rattle.quel_meaning.specs.Happening.{Kept, After, quiet, over}
 use Rattle.quel_meaning.specs.Lines.{lines_of, whole_lines, is_no_newline}
-use Rattle.quel_meaning.specs.Running.{after_line, after_lines}
+use Rattle.quel_meaning.specs.Running.{after_lines}
 use Rattle.quel_meaning.specs.Session.{printed, files_of}
 use Rattle.quel_meaning.proofs.Agreement.{nothing_more}
 use Rattle.quel_meaning.proofs.LineLaws.{line_first, line_last}
-use Rattle.quel_meaning.proofs.Steps.{printed_append}
 use Rattle.session_run.specs.Doing.{Meaning, setting, Did}
 use Rattle.session_run.specs.Hearing.{Heard, counted_lines, lines_done, later, Begins}
 
@@ -65,98 +63,68 @@ counted_first : (last : Bool) (l rest : List ℕ) → list_all is_no_newline l �
 counted_first true l rest e = line_first l rest e
 counted_first false l rest e = whole_first l rest e
 
--- ---- what lines do
-
--- a part that is done prints its bytes, and the rest goes on from what it kept
-begins_first : (first : After) (rest : Kept → After) (more : List ℕ) (now : Kept) → Did first [] more now → Begins (and_then first rest) more (rest now)
-begins_first first rest more now did =
-    let done = rest first.kept in
-    let same : rest now ≡ done = ap rest did.keeps in
-    record {
-      output =
-          printed_append first.events done.events
-          ∙ ap (λ (x : List ℕ). x ++ printed done.events) (sym did.output)
-          ∙ ap (λ (a : After). more ++ printed a.events) (sym same);
-      keeps = ap (λ (a : After). a.kept) (sym same);
-    }
-
--- a line and then the others
-line_begins : (m : Meaning) (kept : Kept) (line : List ℕ) (lines : List (List ℕ)) (more : List ℕ) (now : Kept)
-    → Did (after_line (setting m) (files_of (setting m)) kept line) [] more now → Begins (lines_done m kept (line ∷ lines)) more (lines_done m now lines)
-unfolding after_lines over
-line_begins m kept line lines more now did =
-    begins_first (after_line (setting m) (files_of (setting m)) kept line) (λ k. lines_done m k lines) more now did
-
 -- ---- hearing
 
-abbrev pub hearing : Asker → Kept → List ℕ → Heard
-hearing asker kept partial = record { asker = asker; kept = kept; partial = partial }
+abbrev pub hearing : Kept → List ℕ → Heard
+hearing kept partial = record { kept = kept; partial = partial }
 
 -- a byte that is no newline goes to the partial line
-pub hears_byte : (last : Bool) (m : Meaning) (asker : Asker) (kept : Kept) (partial : List ℕ) (b : ℕ) (rest : List ℕ)
-    → later m last (hearing asker kept partial) (b ∷ rest) ≡ later m last (hearing asker kept (partial ++ b ∷ [])) rest
-hears_byte last m asker kept partial b rest = ap (λ (x : List ℕ). lines_done m kept (counted_lines last x)) (sym (append_assoc partial (b ∷ []) rest))
+pub hears_byte : (last : Bool) (m : Meaning) (kept : Kept) (partial : List ℕ) (b : ℕ) (rest : List ℕ)
+    → later m last (hearing kept partial) (b ∷ rest) ≡ later m last (hearing kept (partial ++ b ∷ [])) rest
+hears_byte last m kept partial b rest = ap (λ (x : List ℕ). lines_done m kept (counted_lines last x)) (sym (append_assoc partial (b ∷ []) rest))
 
 -- a newline ends the line
-pub hears_newline : (last : Bool) (m : Meaning) (asker : Asker) (kept : Kept) (partial rest more : List ℕ) (now : Kept) → list_all is_no_newline partial ≡ true
-    → Did (after_line (setting m) (files_of (setting m)) kept (partial ++ 10 ∷ [])) [] more now
-    → Begins (later m last (hearing asker kept partial) (10 ∷ rest)) more (later m last (hearing asker now []) rest)
-hears_newline last m asker kept partial rest more now e did =
-    let same = hears_byte last m asker kept partial 10 rest ∙ ap (lines_done m kept) (counted_first last partial rest e) in
-    subst (λ (a : After). Begins a more (later m last (hearing asker now []) rest)) (sym same)
-    (line_begins m kept (partial ++ 10 ∷ []) (counted_lines last rest) more now did)
+ended_line : (last : Bool) (m : Meaning) (kept : Kept) (partial rest : List ℕ) → list_all is_no_newline partial ≡ true
+    → later m last (hearing kept partial) (10 ∷ rest) ≡ lines_done m kept ((partial ++ 10 ∷ []) ∷ counted_lines last rest)
+ended_line last m kept partial rest e = hears_byte last m kept partial 10 rest ∙ ap (lines_done m kept) (counted_first last partial rest e)
+
+pub hears_newline : (last : Bool) (m : Meaning) (kept : Kept) (partial rest more : List ℕ) (now : Kept) → list_all is_no_newline partial ≡ true
+    → ((lines : List (List ℕ)) → Begins (lines_done m kept ((partial ++ 10 ∷ []) ∷ lines)) more (lines_done m now lines))
+    → Begins (later m last (hearing kept partial) (10 ∷ rest)) more (later m last (hearing now []) rest)
+hears_newline last m kept partial rest more now e begins =
+    subst (λ (a : After). Begins a more (later m last (hearing now []) rest)) (sym (ended_line last m kept partial rest e)) (begins (counted_lines last rest))
 
 -- what a line prints is a front of what is printed from it on
-front_then : (first : After) (rest : Kept → After) (more : List ℕ) → IsFront more (printed first.events) → IsFront more (printed (and_then first rest).events)
-front_then first rest more front =
-    let others = printed (rest first.kept).events in
-    (front.0 ++ others, printed_append first.events (rest first.kept).events ∙ ap (λ (x : List ℕ). x ++ others) front.1 ∙ append_assoc more front.0 others)
-
-line_front : (m : Meaning) (kept : Kept) (line : List ℕ) (lines : List (List ℕ)) (more : List ℕ)
-    → IsFront more (printed (after_line (setting m) (files_of (setting m)) kept line).events) → IsFront more (printed (lines_done m kept (line ∷ lines)).events)
-unfolding after_lines over
-line_front m kept line lines more front = front_then (after_line (setting m) (files_of (setting m)) kept line) (λ k. lines_done m k lines) more front
-
-pub hears_front : (m : Meaning) (asker : Asker) (kept : Kept) (partial rest more : List ℕ) → list_all is_no_newline partial ≡ true
-    → IsFront more (printed (after_line (setting m) (files_of (setting m)) kept (partial ++ 10 ∷ [])).events)
-    → IsFront more (printed (later m true (hearing asker kept partial) (10 ∷ rest)).events)
-hears_front m asker kept partial rest more e front =
-    let same = hears_byte true m asker kept partial 10 rest ∙ ap (lines_done m kept) (counted_first true partial rest e) in
-    subst (λ (a : After). IsFront more (printed a.events)) (sym same) (line_front m kept (partial ++ 10 ∷ []) (lines_of rest) more front)
+pub hears_front : (m : Meaning) (kept : Kept) (partial rest more : List ℕ) → list_all is_no_newline partial ≡ true
+    → ((lines : List (List ℕ)) → IsFront more (printed (lines_done m kept ((partial ++ 10 ∷ []) ∷ lines)).events))
+    → IsFront more (printed (later m true (hearing kept partial) (10 ∷ rest)).events)
+hears_front m kept partial rest more e front =
+    subst (λ (a : After). IsFront more (printed a.events)) (sym (ended_line true m kept partial rest e)) (front (lines_of rest))
 
 -- behind the end of the session nothing happens
 pub hears_end : (last : Bool) (m : Meaning) (h : Heard) (bytes : List ℕ) → h.kept.quit ≡ true → later m last h bytes ≡ quiet h.kept
 hears_end last m h bytes e = nothing_more (setting m) (files_of (setting m)) h.kept e (counted_lines last (h.partial ++ bytes))
 
+no_lines : (m : Meaning) (kept : Kept) → lines_done m kept [] ≡ quiet kept
+unfolding after_lines over
+no_lines m kept = refl
+
 -- nothing follows, and no line has begun
-pub closes_none : (m : Meaning) (asker : Asker) (kept : Kept) (partial : List ℕ) → length partial ≡ 0 → printed (later m true (hearing asker kept partial) []).events ≡ []
-unfolding after_lines over printed lines_of
-closes_none m asker kept [] e = refl
-closes_none m asker kept (b ∷ l) e = absurd (omega arith)
+pub closes_none : (m : Meaning) (kept : Kept) (partial : List ℕ) → length partial ≡ 0 → later m true (hearing kept partial) [] ≡ quiet kept
+unfolding lines_of
+closes_none m kept [] e = no_lines m kept
+closes_none m kept (b ∷ l) e = absurd (omega (arith, e))
 
 -- nothing follows, and a line has begun: it is the last
-last_line : (m : Meaning) (asker : Asker) (kept : Kept) (partial : List ℕ) → list_all is_no_newline partial ≡ true → (length partial ≡ 0 → ⊥)
-    → later m true (hearing asker kept partial) [] ≡ lines_done m kept (partial ∷ [])
-last_line m asker kept [] e some = absurd (some refl)
-last_line m asker kept (b ∷ l) e some =
+last_line : (m : Meaning) (kept : Kept) (partial : List ℕ) → list_all is_no_newline partial ≡ true → (length partial ≡ 0 → ⊥)
+    → later m true (hearing kept partial) [] ≡ lines_done m kept (partial ∷ [])
+last_line m kept [] e some = absurd (some refl)
+last_line m kept (b ∷ l) e some =
     ap (λ (x : List ℕ). lines_done m kept (lines_of x)) (append-nil (b ∷ l)) ∙ ap (lines_done m kept) (line_last b l e)
 
-only_line : (m : Meaning) (kept : Kept) (line : List ℕ) → printed (lines_done m kept (line ∷ [])).events ≡ printed (after_line (setting m) (files_of (setting m)) kept line).events
-unfolding after_lines over printed
-only_line m kept line = ap printed (append-nil (after_line (setting m) (files_of (setting m)) kept line).events)
+pub closes_some : (m : Meaning) (kept : Kept) (partial more : List ℕ) (now : Kept) → list_all is_no_newline partial ≡ true → (length partial ≡ 0 → ⊥)
+    → Begins (lines_done m kept (partial ∷ [])) more (lines_done m now []) → Did (later m true (hearing kept partial) []) [] more now
+unfolding printed
+closes_some m kept partial more now e some begins =
+    let done = subst (λ (a : After). Begins a more (quiet now)) (sym (last_line m kept partial e some)) (subst (λ (a : After). Begins (lines_done m kept (partial ∷ [])) more a) (no_lines m now) begins) in
+    record { output = sym (append-nil more) ∙ sym done.output; keeps = sym done.keeps }
 
-pub closes_some : (m : Meaning) (asker : Asker) (kept : Kept) (partial more : List ℕ) (now : Kept) → list_all is_no_newline partial ≡ true → (length partial ≡ 0 → ⊥)
-    → Did (after_line (setting m) (files_of (setting m)) kept partial) [] more now → printed (later m true (hearing asker kept partial) []).events ≡ more
-closes_some m asker kept partial more now e some did =
-    ap (λ (a : After). printed a.events) (last_line m asker kept partial e some) ∙ only_line m kept partial ∙ sym did.output
-
-pub closes_front : (m : Meaning) (asker : Asker) (kept : Kept) (partial more : List ℕ) → list_all is_no_newline partial ≡ true → (length partial ≡ 0 → ⊥)
-    → IsFront more (printed (after_line (setting m) (files_of (setting m)) kept partial).events) → IsFront more (printed (later m true (hearing asker kept partial) []).events)
-closes_front m asker kept partial more e some front =
-    subst (λ (x : List ℕ). IsFront more x) (sym (ap (λ (a : After). printed a.events) (last_line m asker kept partial e some) ∙ only_line m kept partial)) front
+pub closes_front : (m : Meaning) (kept : Kept) (partial more : List ℕ) → list_all is_no_newline partial ≡ true → (length partial ≡ 0 → ⊥)
+    → IsFront more (printed (lines_done m kept (partial ∷ [])).events) → IsFront more (printed (later m true (hearing kept partial) []).events)
+closes_front m kept partial more e some front =
+    subst (λ (a : After). IsFront more (printed a.events)) (sym (last_line m kept partial e some)) front
 
 -- nothing counts but whole lines, and nothing follows
-pub hears_whole : (m : Meaning) (asker : Asker) (kept : Kept) (partial : List ℕ) → list_all is_no_newline partial ≡ true → later m false (hearing asker kept partial) [] ≡ quiet kept
-unfolding after_lines over
-hears_whole m asker kept partial e =
-    ap (λ (x : List ℕ). lines_done m kept (whole_lines x)) (append-nil partial) ∙ ap (lines_done m kept) (whole_none partial e)
+pub hears_whole : (m : Meaning) (kept : Kept) (partial : List ℕ) → list_all is_no_newline partial ≡ true → later m false (hearing kept partial) [] ≡ quiet kept
+hears_whole m kept partial e =
+    ap (λ (x : List ℕ). lines_done m kept (whole_lines x)) (append-nil partial) ∙ ap (lines_done m kept) (whole_none partial e) ∙ no_lines m kept

@@ -1,18 +1,18 @@
 -- What a run keeps: what was taken from the source, and what was given to the sink.
-use Rattle.calculus.specs.Who.{Asker}
-use Rattle.std.proofs.Common.{◌≡◌, inl, inr, ℕ, ◌+◌, ◌≤◌, Bool, true, false, List, [], ◌++◌, length, take, drop, None, Some, refl, sym, ap, subst, ◌∙◌, append_assoc, append-nil, arith, length-append}
+use Rattle.std.proofs.Common.{IfSome, ◌≡◌, inl, inr, ℕ, ◌+◌, ◌≤◌, Bool, true, false, List, [], ◌++◌, length, take, drop, None, Some, refl, sym, ap, subst, ◌∙◌, append_assoc, append-nil, arith, length-append}
 use Rattle.std.specs.List.{list_all}
 use Rattle.std.specs.declared.option.Option.{Option}
 use Rattle.std.specs.Io.KnownBytes.{Appends, Consumes, Keeps, IsAtEnd}
 use Rattle.std.proofs.KnownBytes.{Appends-nil, Appends-trans, Consumes-nil, Consumes-trans}
 use Rattle.std.proofs.Math.Seq.{take-append_seam, drop-append_seam}
 use Rattle.std.proofs.lemmas.List.{drop-drop}
+use Rattle.fault_io.specs.Files.{Files}
 use Rattle.fault_io.specs.Told.{IsFront, GrewBy}
 use Rattle.quel_meaning.specs.Happening.{Kept, After, start, quiet}
 use Rattle.quel_meaning.specs.Lines.{is_no_newline}
 use Rattle.quel_meaning.specs.Session.{Session, printed, output, session_after, session_of, session_of_lines}
 use Rattle.quel_meaning.specs.State.{State}
-use Rattle.session_run.specs.Doing.{Meaning}
+use Rattle.session_run.specs.Doing.{Meaning, Did}
 use Rattle.session_run.specs.Hearing.{Heard, counted_lines, lines_done, later, Begins, Hears, HearsPartly}
 use Rattle.session_run.specs.Runs.{whole, within, IsDone, IsPartlyDone, IsCutOff, IsKeptUp, IsBrokenOff}
 use Rattle.session_run.proofs.Heard.{begins_both}
@@ -39,8 +39,24 @@ pub record Runs (m : Meaning) (state : State) (left0 left1 written0 written1 : O
   pub grown : Appends written0 written1 out
   pub same : (last : Bool) (rest : List ℕ) → Begins (done_by m state last (taken ++ rest)) out (later m last heard rest)
 
-pub starts : (m : Meaning) (asker : Asker) (state : State) (left written : Option (List ℕ)) → Runs m state left left written written (record { asker = asker; kept = start state; partial = [] }) 0
-starts m asker state left written = record {
+-- so many bytes were taken from the source
+pub record Took (left0 left1 : Option (List ℕ)) (given : ℕ) : Type 0 where
+  pub taken : List ℕ
+  pub read : Consumes left0 left1 taken
+  pub count : length taken ≡ given
+
+pub took_none : (left : Option (List ℕ)) → Took left left 0
+took_none left = record { taken = []; read = Consumes-nil left; count = refl }
+
+pub took_on : (left0 left1 left2 : Option (List ℕ)) (given : ℕ) (read : List ℕ) (count : ℕ) → Took left0 left1 given → Consumes left1 left2 read → length read ≡ count → Took left0 left2 (given + count)
+took_on left0 left1 left2 given read count took consumed len = record {
+  taken = took.taken ++ read;
+  read = Consumes-trans left0 left1 left2 took.taken read took.read consumed;
+  count = omega (arith, length-append took.taken read, took.count, len);
+}
+
+pub starts : (m : Meaning) (state : State) (left written : Option (List ℕ)) → Runs m state left left written written (record { kept = start state; partial = [] }) 0
+starts m state left written = record {
   taken = [];
   out = [];
   read = Consumes-nil left;
@@ -118,17 +134,29 @@ reads_none m state left0 left1 left2 written0 written1 heard given read runs con
   same = runs.same;
 }
 
+-- the state that the script leaves is that after what was heard and is still to come
+state_of : (m : Meaning) (state : State) (left0 left1 written0 written1 : Option (List ℕ)) (heard : Heard) (given : ℕ) (runs : Runs m state left0 left1 written0 written1 heard given) (script rest : List ℕ)
+    → script ≡ runs.taken ++ rest → (whole m state script).state ≡ (later m true heard rest).kept.state
+state_of m state left0 left1 written0 written1 heard given runs script rest e =
+    ap (λ (s : Session). s.state) (whole_session m state script)
+    ∙ ap (λ (x : List ℕ). (done_by m state true x).kept.state) e
+    ∙ ap (λ (k : Kept). k.state) ((runs.same true rest).keeps)
+
 -- all was read, and the last line was handled
-pub closes : (m : Meaning) (state : State) (left0 left1 written0 written1 written2 : Option (List ℕ)) (heard : Heard) (given : ℕ)
-    → Runs m state left0 left1 written0 written1 heard given → IsAtEnd left1 → Appends written1 written2 (printed (later m true heard []).events) → IsDone m state left0 left1 written0 written2
-closes m state None left1 written0 written1 written2 heard given runs end grown = tt
-closes m state (Some script) None written0 written1 written2 heard given runs end grown = absurd runs.read
-closes m state (Some script) (Some rest) written0 written1 written2 heard given runs end grown = (
-  inl (ap Some end),
-  subst (λ (x : List ℕ). Appends written0 written2 x)
-      (sym (output_of m state (Some script) (Some rest) written0 written1 heard given runs script [] (runs.read ∙ ap (λ (x : List ℕ). runs.taken ++ x) end)))
-      (Appends-trans written0 written1 written2 runs.out (printed (later m true heard []).events) runs.grown grown),
-)
+pub closes : (m : Meaning) (state : State) (left0 left1 written0 written1 written2 : Option (List ℕ)) (heard : Heard) (given : ℕ) (told : Option Files) (now : Kept)
+    → Runs m state left0 left1 written0 written1 heard given → IsAtEnd left1 → GrewBy written1 written2 (λ more. Did (later m true heard []) [] more now) → told ≡ Some now.state.shelf
+    → IsDone m state left0 left1 written0 written2 told
+closes m state None left1 written0 written1 written2 heard given told now runs end closed telling = tt
+closes m state (Some script) None written0 written1 written2 heard given told now runs end closed telling = absurd runs.read
+closes m state (Some script) (Some rest) written0 written1 written2 heard given told now runs end closed telling =
+    let parts : script ≡ runs.taken ++ [] = runs.read ∙ ap (λ (x : List ℕ). runs.taken ++ x) end in
+    let grown = subst (λ (x : List ℕ). Appends written1 written2 x) closed.2.output closed.1 in (
+      inl (ap Some end),
+      subst (λ (x : List ℕ). Appends written0 written2 x)
+          (sym (output_of m state (Some script) (Some rest) written0 written1 heard given runs script [] parts))
+          (Appends-trans written0 written1 written2 runs.out (printed (later m true heard []).events) runs.grown grown),
+      telling ∙ ap (λ (k : Kept). Some k.state.shelf) closed.2.keeps ∙ ap (λ (s : State). Some s.shelf) (sym (state_of m state (Some script) (Some rest) written0 written1 heard given runs script [] parts)),
+    )
 
 -- nothing more is printed
 nothing_printed : (out : List ℕ) (kept : Kept) → out ++ printed (quiet kept).events ≡ out
@@ -136,11 +164,11 @@ unfolding printed
 nothing_printed out kept = append-nil out
 
 -- a command ended the session
-pub quits : (m : Meaning) (state : State) (left0 left1 written0 written1 : Option (List ℕ)) (heard : Heard) (given : ℕ)
-    → Runs m state left0 left1 written0 written1 heard given → heard.kept.quit ≡ true → IsDone m state left0 left1 written0 written1
-quits m state None left1 written0 written1 heard given runs quit = tt
-quits m state (Some script) None written0 written1 heard given runs quit = absurd runs.read
-quits m state (Some script) (Some rest) written0 written1 heard given runs quit =
+pub quits : (m : Meaning) (state : State) (left0 left1 written0 written1 : Option (List ℕ)) (heard : Heard) (given : ℕ) (told : Option Files)
+    → Runs m state left0 left1 written0 written1 heard given → heard.kept.quit ≡ true → told ≡ Some heard.kept.state.shelf → IsDone m state left0 left1 written0 written1 told
+quits m state None left1 written0 written1 heard given told runs quit telling = tt
+quits m state (Some script) None written0 written1 heard given told runs quit telling = absurd runs.read
+quits m state (Some script) (Some rest) written0 written1 heard given told runs quit telling =
     let still = hears_end true m heard rest quit in
     let said : output (whole m state script) ≡ runs.out =
     output_of m state (Some script) (Some rest) written0 written1 heard given runs script rest runs.read
@@ -152,7 +180,9 @@ quits m state (Some script) (Some rest) written0 written1 heard given runs quit 
     ∙ ap (λ (k : Kept). k.quit) ((runs.same true rest).keeps)
     ∙ ap (λ (a : After). a.kept.quit) still
     ∙ quit in
-    (inr ended, subst (λ (x : List ℕ). Appends written0 written1 x) (sym said) runs.grown)
+    let leaves : (whole m state script).state ≡ heard.kept.state =
+    state_of m state (Some script) (Some rest) written0 written1 heard given runs script rest runs.read ∙ ap (λ (a : After). a.kept.state) still in
+    (inr ended, subst (λ (x : List ℕ). Appends written0 written1 x) (sym said) runs.grown, telling ∙ ap (λ (s : State). Some s.shelf) (sym leaves))
 
 taken_front : (taken rest : List ℕ) (n : ℕ) → length taken ≡ n → take n (taken ++ rest) ≡ taken
 taken_front taken rest n e = rw (← e) (take-append_seam taken rest)
@@ -161,17 +191,18 @@ dropped_front : (taken rest : List ℕ) (n : ℕ) → length taken ≡ n → dro
 dropped_front taken rest n e = rw (← e) (drop-append_seam taken rest)
 
 -- what was heard of a script is the session of the lines that lie wholly in it
-pub record SaysLines (m : Meaning) (state : State) (script : List ℕ) (given : ℕ) (out rest : List ℕ) : Type 0 where
+pub record SaysLines (m : Meaning) (state : State) (script : List ℕ) (given : ℕ) (kept : Kept) (out rest : List ℕ) : Type 0 where
   pub rest_is : drop given script ≡ rest
   pub output_is : output (within given m state script) ≡ out
   pub goes_on : (within given m state script).quit ≡ false
+  pub leaves : (within given m state script).state ≡ kept.state
 
 says_lines : (m : Meaning) (state : State) (left0 left1 written0 written1 : Option (List ℕ)) (heard : Heard) (given : ℕ) (runs : Runs m state left0 left1 written0 written1 heard given) (script rest : List ℕ)
-    → script ≡ runs.taken ++ rest → heard.kept.quit ≡ false → list_all is_no_newline heard.partial ≡ true → SaysLines m state script given runs.out rest
+    → script ≡ runs.taken ++ rest → heard.kept.quit ≡ false → list_all is_no_newline heard.partial ≡ true → SaysLines m state script given heard.kept runs.out rest
 says_lines m state left0 left1 written0 written1 heard given runs script rest parts still_open line =
     let text : take given script ≡ runs.taken ++ [] = ap (take given) parts ∙ taken_front runs.taken rest given runs.count ∙ sym (append-nil runs.taken) in
     let begun = runs.same false [] in
-    let still = hears_whole m heard.asker heard.kept heard.partial line in
+    let still = hears_whole m heard.kept heard.partial line in
     let session = within_session m state given script in
     record {
       rest_is = ap (drop given) parts ∙ dropped_front runs.taken rest given runs.count;
@@ -187,6 +218,11 @@ says_lines m state left0 left1 written0 written1 heard given runs script rest pa
           ∙ ap (λ (k : Kept). k.quit) begun.keeps
           ∙ ap (λ (a : After). a.kept.quit) still
           ∙ still_open;
+      leaves =
+          ap (λ (s : Session). s.state) session
+          ∙ ap (λ (x : List ℕ). (done_by m state false x).kept.state) text
+          ∙ ap (λ (k : Kept). k.state) begun.keeps
+          ∙ ap (λ (a : After). a.kept.state) still;
     }
 
 -- a piece behind what was heard
@@ -227,10 +263,11 @@ pub keeps_up_read : (m : Meaning) (state : State) (left0 left1 left2 written0 wr
 keeps_up_read m state left0 left1 left2 written0 written1 heard given runs still_open line kept =
     keeps_up m state left0 left1 left2 written0 written1 written1 heard given [] runs still_open line (keeps_consumes left1 left2 kept) (omega arith) [] (Appends-nil written1)
 
-pub breaks_off : (m : Meaning) (state : State) (left0 left1 left2 written0 written1 : Option (List ℕ)) (heard : Heard) (given : ℕ)
-    → Runs m state left0 left1 written0 written1 heard given → heard.kept.quit ≡ false → list_all is_no_newline heard.partial ≡ true → Keeps left1 left2 → IsBrokenOff m state left0 left2 written0 written1
-breaks_off m state None left1 left2 written0 written1 heard given runs still_open line kept = tt
-breaks_off m state (Some script) left1 left2 written0 written1 heard given runs still_open line kept =
+pub breaks_off : (m : Meaning) (state : State) (left0 left1 left2 written0 written1 : Option (List ℕ)) (heard : Heard) (given : ℕ) (told_files : Option Files)
+    → Runs m state left0 left1 written0 written1 heard given → heard.kept.quit ≡ false → list_all is_no_newline heard.partial ≡ true → Keeps left1 left2 → told_files ≡ Some heard.kept.state.shelf
+    → IsBrokenOff m state left0 left2 written0 written1 told_files
+breaks_off m state None left1 left2 written0 written1 heard given told_files runs still_open line kept telling = tt
+breaks_off m state (Some script) left1 left2 written0 written1 heard given told_files runs still_open line kept telling =
     let t = told script left1 runs.taken runs.read in
     let u = told t.0 left2 [] (subst (λ (l : Option (List ℕ)). Consumes l left2 []) t.1 (keeps_consumes left1 left2 kept)) in
     let says = says_lines m state (Some script) left1 written0 written1 heard given runs script t.0 t.2 still_open line in
@@ -239,19 +276,31 @@ breaks_off m state (Some script) left1 left2 written0 written1 heard given runs 
       read = u.1 ∙ ap Some (sym (says.rest_is ∙ u.2));
       goes_on = says.goes_on;
       printed = subst (λ (x : List ℕ). Appends written0 written1 x) (sym says.output_is) runs.grown;
+      shelved = telling ∙ ap (λ (s : State). Some s.shelf) (sym says.leaves);
     }
 
 -- one byte more came behind the greatest script
-pub cuts_off : (m : Meaning) (state : State) (left0 left1 left2 written0 written1 : Option (List ℕ)) (heard : Heard) (given : ℕ) (more : List ℕ)
+pub cuts_off : (m : Meaning) (state : State) (left0 left1 left2 written0 written1 : Option (List ℕ)) (heard : Heard) (given : ℕ) (more : List ℕ) (told_files : Option Files)
     → Runs m state left0 left1 written0 written1 heard given → given ≡ 16777216 → heard.kept.quit ≡ false → list_all is_no_newline heard.partial ≡ true → Consumes left1 left2 more → length more ≡ 1
-    → IsCutOff m state left0 left2 written0 written1
-cuts_off m state None left1 left2 written0 written1 heard given more runs full still_open line consumed one = tt
-cuts_off m state (Some script) left1 left2 written0 written1 heard given more runs full still_open line consumed one =
+    → told_files ≡ Some heard.kept.state.shelf → IsCutOff m state left0 left2 written0 written1 told_files
+cuts_off m state None left1 left2 written0 written1 heard given more told_files runs full still_open line consumed one telling = tt
+cuts_off m state (Some script) left1 left2 written0 written1 heard given more told_files runs full still_open line consumed one telling =
     let t = told script left1 runs.taken runs.read in
     let u = told t.0 left2 more (subst (λ (l : Option (List ℕ)). Consumes l left2 more) t.1 consumed) in
-    let says = subst (λ (n : ℕ). SaysLines m state script n runs.out t.0) full (says_lines m state (Some script) left1 written0 written1 heard given runs script t.0 t.2 still_open line) in
+    let says = subst (λ (n : ℕ). SaysLines m state script n heard.kept runs.out t.0) full (says_lines m state (Some script) left1 written0 written1 heard given runs script t.0 t.2 still_open line) in
     record {
       read = u.1 ∙ ap Some (sym (subst (λ (n : ℕ). drop (16777216 + n) script ≡ u.0) one (drop_both 16777216 script more u.0 (says.rest_is ∙ u.2))));
       goes_on = says.goes_on;
       printed = subst (λ (x : List ℕ). Appends written0 written1 x) (sym says.output_is) runs.grown;
+      shelved = telling ∙ ap (λ (s : State). Some s.shelf) (sym says.leaves);
     }
+
+-- where one byte more came behind the greatest script, that is all that was read
+pub reads_past : (left0 left1 left2 : Option (List ℕ)) (given : ℕ) (more : List ℕ) → Took left0 left1 given → given ≡ 16777216 → Consumes left1 left2 more → length more ≡ 1
+    → IfSome left0 (λ script. left2 ≡ Some (drop 16777217 script))
+reads_past None left1 left2 given more took full consumed one = tt
+reads_past (Some script) left1 left2 given more took full consumed one =
+    let t = took_on (Some script) left1 left2 given more 1 took consumed one in
+    let u = told script left2 t.taken t.read in
+    let all : 0 + length t.taken ≡ 16777217 = omega (arith, t.count, full) in
+    u.1 ∙ ap Some (sym (subst (λ (n : ℕ). drop n script ≡ u.0) all (drop_both 0 script t.taken u.0 u.2)))

@@ -2,3 +2,4 @@ pub mod Counted
 pub mod Doing
 pub mod Hearing
 pub mod Runs
+pub mod Standing

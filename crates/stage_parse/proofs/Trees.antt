@@ -19,10 +19,10 @@ use Rattle.quel_meaning.specs.Resolved.{resolved}
 use Rattle.quel_meaning.specs.SpelledTree.{tree_is_spelled, utility_is_spelled}
 use Rattle.quel_meaning.proofs.Each.{left}
 use Rattle.quel_meaning.proofs.FitResolved.{resolved_fits}
-use Rattle.quel_resolve.specs.Answers.{Resolves, Says}
-use Rattle.quel_resolve.specs.Built.{is_built}
-use Rattle.quel_resolve.specs.declared.fault.CheckFault.{CheckFault}
-use Rattle.quel_resolve.specs.declared.fault.CheckFault.TheVariants as fault
+use Rattle.quel_resolve.specs.Answers.{Resolves}
+use Rattle.quel_utilities.specs.Answers.{Says}
+use Rattle.quel_utilities.specs.declared.fault.CheckFault.{CheckFault}
+use Rattle.quel_utilities.specs.declared.fault.CheckFault.TheVariants as fault
 use Rattle.update_laws.specs.Walked.{names_rights}
 use Rattle.view_text.specs.PutIn.{put_in_tree}
 use Rattle.tree_laws.proofs.FitTree.{fit_ruled}
@@ -82,45 +82,41 @@ judged_with db user ranges s tree b e h = judged_of db user ranges s ∙ ap (jud
 -- what a statement asks for is fit but for the views in it
 pub fit_resolved : (db : Db) (user : List ℕ) (ranges : Ranges) (s : Statement) (tree : Checked) → IsDatabase db → is_name user ≡ true → is_written s ≡ true
     → Resolves db user ranges s (Ok tree) → is_fit_with_views db user tree ≡ true
-fit_resolved db user ranges s tree d named written h = resolved_fits db user ranges s tree d named written h.1
+fit_resolved db user ranges s tree d named written h = resolved_fits db user ranges s tree d named written h
 
 -- it is cut, and the rules join it
 comes : (db : Db) (user : List ℕ) (ranges : Ranges) (s : Statement) (tree made : Checked) → IsDatabase db → is_name user ≡ true → is_written s ≡ true
     → Resolves db user ranges s (Ok tree) → (names_rights made ≡ true → IsTrue (tree_is_spelled made))
-    → (made ≡ ruled_tree db (put_in_tree db (asks user) tree)) × (checked_permitted db (asks user) tree ≡ true) → (is_built s ≡ true) × IsChecked db user ranges s made
+    → (made ≡ ruled_tree db (put_in_tree db (asks user) tree)) × (checked_permitted db (asks user) tree ≡ true) → IsChecked db user ranges s made
 comes db user ranges s tree made d named written h spelled k =
     let fit : is_fit_with_views db user tree ≡ true = fit_resolved db user ranges s tree d named written h in
-    let rights : names_rights made ≡ true = ap names_rights k.0 ∙ fit_rights db user (asks user) tree fit in (
-      h.0,
-      record {
-        asked = tree;
-        judged = judged_with db user ranges s tree true h.1 k.1;
-        put_in = k.0;
-        fit = ap (is_fit db user) k.0 ∙ fit_ruled db d (asks user) user tree fit (ap tree_is_spelled (sym k.0) ∙ spelled rights);
-        means = λ shelf. ap (tree_meaning db shelf Free user) k.0 ∙ sym (ruled_means_same db d (asks user) shelf user tree fit);
-      },
-    )
+    let rights : names_rights made ≡ true = ap names_rights k.0 ∙ fit_rights db user (asks user) tree fit in
+    record {
+      asked = tree;
+      judged = judged_with db user ranges s tree true h k.1;
+      put_in = k.0;
+      fit = ap (is_fit db user) k.0 ∙ fit_ruled db d (asks user) user tree fit (ap tree_is_spelled (sym k.0) ∙ spelled rights);
+      means = λ shelf. ap (tree_meaning db shelf Free user) k.0 ∙ sym (ruled_means_same db d (asks user) shelf user tree fit);
+    }
 
 -- it isn't permitted
 refused : (db : Db) (user : List ℕ) (ranges : Ranges) (s : Statement) (tree : Checked) (number : ℕ) → Resolves db user ranges s (Ok tree)
     → (number ≡ 23) × (checked_permitted db (asks user) tree ≡ false) → Checks db user ranges s (Err (fault.No number))
-refused db user ranges s tree number h k = (judged_with db user ranges s tree false h.1 k.1 ∙ ap Err (sym k.0), λ other. absurd (cc (h.0, other)))
+refused db user ranges s tree number h k = judged_with db user ranges s tree false h k.1 ∙ ap Err (sym k.0)
 
 -- by what is told of what is cut and ruled
 pub tells : (db : Db) (user : List ℕ) (ranges : Ranges) (s : Statement) (tree : Checked) → IsDatabase db → is_name user ≡ true → is_written s ≡ true
     → Resolves db user ranges s (Ok tree) → (result : Result Checked CheckFault) → IfOk result (λ made. names_rights made ≡ true → IsTrue (tree_is_spelled made))
     → Says (λ made. (made ≡ ruled_tree db (put_in_tree db (asks user) tree)) × (checked_permitted db (asks user) tree ≡ true))
-    (λ number. (number ≡ 23) × (checked_permitted db (asks user) tree ≡ false)) (true ≡ false) result
+    (λ number. (number ≡ 23) × (checked_permitted db (asks user) tree ≡ false)) result
     → Checks db user ranges s result
 tells db user ranges s tree d named written h (Ok made) spelled k = comes db user ranges s tree made d named written h spelled k
 tells db user ranges s tree d named written h (Err (fault.No number)) spelled k = refused db user ranges s tree number h k
-tells db user ranges s tree d named written h (Err fault.NotBuilt) spelled k = absurd (cc k)
 tells db user ranges s tree d named written h (Err (fault.Base cause)) spelled k = tt
 tells db user ranges s tree d named written h (Err fault.OutOfMemory) spelled k = tt
 
 -- it has no tree
 pub passed_on : (db : Db) (user : List ℕ) (ranges : Ranges) (s : Statement) (cause : CheckFault) → Resolves db user ranges s (Err cause) → Checks db user ranges s (Err cause)
-passed_on db user ranges s (fault.No number) h = (judged_refused db user ranges s number h.0, h.1)
-passed_on db user ranges s fault.NotBuilt h = h
+passed_on db user ranges s (fault.No number) h = judged_refused db user ranges s number h
 passed_on db user ranges s (fault.Base cause) h = tt
 passed_on db user ranges s fault.OutOfMemory h = tt

@@ -1,18 +1,15 @@
 -- What is said of a statement's checked tree.
-use Rattle.std.specs.Prelude.{◌≡◌, ℕ, true, false, List, Some, None, Result, Ok, Err}
+use Rattle.std.specs.Prelude.{◌≡◌, ℕ, true, List, Result, Ok, Err}
 use Rattle.calculus.specs.declared.request.Checked.{Checked}
 use Rattle.calculus.specs.declared.statement.Statement.{Statement}
 use Rattle.calculus.specs.Database.{Db}
 use Rattle.calculus.specs.Who.{Free, asker_of, asks}
 use Rattle.quel_meaning.specs.Fit.{is_fit}
 use Rattle.quel_meaning.specs.Meaning.{judged, ruled_tree, tree_meaning}
-use Rattle.quel_meaning.specs.Naming.{name_refusal}
 use Rattle.quel_meaning.specs.Ranges.{Ranges}
-use Rattle.quel_meaning.specs.Shelf.{Shelf}
-use Rattle.quel_names.specs.Asking.{scope_of}
-use Rattle.quel_resolve.specs.Answers.{Says}
-use Rattle.quel_resolve.specs.Built.{is_built}
-use Rattle.quel_resolve.specs.declared.fault.CheckFault.{CheckFault}
+use Rattle.fault_io.specs.Files.{Files}
+use Rattle.quel_utilities.specs.Answers.{Says}
+use Rattle.quel_utilities.specs.declared.fault.CheckFault.{CheckFault}
 use Rattle.view_text.specs.PutIn.{put_in_tree}
 
 -- the tree is what a statement is judged to ask for, once views and permits are put in and the rules join it: it is fit, and means for nobody in particular what the other means for the user
@@ -21,11 +18,8 @@ pub record IsChecked (db : Db) (user : List ℕ) (ranges : Ranges) (s : Statemen
   pub judged : judged db (asker_of user) ranges s ≡ Ok asked
   pub put_in : tree ≡ ruled_tree db (put_in_tree db (asks user) asked)
   pub fit : is_fit db user tree ≡ true
-  pub means : (shelf : Shelf) → tree_meaning db shelf Free user tree ≡ tree_meaning db shelf (asks user) user (ruled_tree db asked)
+  pub means : (shelf : Files) → tree_meaning db shelf Free user tree ≡ tree_meaning db shelf (asks user) user (ruled_tree db asked)
 
--- what comes of a statement: its checked tree, where it is built; the number that refuses it, which is a name's where it isn't built; or that it isn't built, though no name refuses it
+-- what comes of a statement: its checked tree, or the number that it is judged to be refused with
 abbrev pub Checks : Db → List ℕ → Ranges → Statement → Result Checked CheckFault → Type 0
-Checks db user ranges s result =
-    Says (λ tree. (is_built s ≡ true) × IsChecked db user ranges s tree)
-    (λ number. (judged db (asker_of user) ranges s ≡ Err number) × (is_built s ≡ false → name_refusal (scope_of db user ranges) s ≡ Some number))
-    ((is_built s ≡ false) × (name_refusal (scope_of db user ranges) s ≡ None)) result
+Checks db user ranges s result = Says (λ tree. IsChecked db user ranges s tree) (λ number. judged db (asker_of user) ranges s ≡ Err number) result

@@ -1,11 +1,9 @@
 //! What a statement asks for, checked.
 
-ghost use Rattle.std.specs.Prelude.{◌≡◌, ◌≤◌, true, false, Some, IfOk};
+ghost use Rattle.std.specs.Prelude.{◌≡◌, ◌≤◌, true, Some, IfOk};
 ghost use Rattle.calculus.specs.Database.{Db};
 ghost use Rattle.quel_meaning.specs.IsWritten.{is_written};
-ghost use Rattle.quel_resolve.specs.Answers.{Says};
-ghost use Rattle.quel_resolve.specs.Built.{is_built};
-ghost use Rattle.quel_resolve.specs.Causes.{HasCheckCause};
+ghost use Rattle.quel_utilities.specs.Causes.{HasCheckCause};
 ghost use Rattle.shallow_laws.specs.Levels.{most_tree_levels, tree_levels};
 ghost use Rattle.shallow_laws.specs.Shallow.{statement_levels};
 ghost use Rattle.stage_parse.specs.Checks.{Checks};
@@ -21,10 +19,9 @@ use std::alloc::Global;
 /// the database: its views are put in, it is cut down to what the user may see and change, and the rules
 /// of the relation that it changes are among its checks. For nobody in particular it means what the
 /// statement means for the user. `No` has the number of what refuses the statement: the first name that
-/// isn't what it has to be, else the first cause, else 23 where something isn't permitted. `NotBuilt`
-/// comes where no name refuses it, but it is of a kind that isn't resolved yet. Of a statement of at most
-/// 500 levels, as each has that is read of a text, the tree has at most 3,000: one of more couldn't be
-/// handed on as bytes.
+/// isn't what it has to be, else the first cause, else 23 where something isn't permitted. Of a statement
+/// of at most 500 levels, as each has that is read of a text, the tree has at most 3,000: one of more
+/// couldn't be handed on as bytes.
 pub fn checked<B: Base>(
     alloc: Global,
     s: &Statement,
@@ -36,7 +33,6 @@ pub fn checked<B: Base>(
     ensures told { (db : Db) → B.database base.old ≡ Some db → Checks db user.now ranges.now s.now result }
     ensures shallow { (db : Db) → B.database base.old ≡ Some db → statement_levels s.now ≤ 500
         → IfOk result (λ tree. tree_levels tree ≤ most_tree_levels) }
-    ensures kinds { Says (λ tree. is_built s.now ≡ true) (λ number. Unit {0}) (is_built s.now ≡ false) result }
     ensures kept { B.database base.new ≡ B.database base.old }
     ensures same { B.left base.new ≡ B.left base.old }
     ensures cause { HasCheckCause (B.database base.old) (B.faults base.old) (B.faults base.new) result }

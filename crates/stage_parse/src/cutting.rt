@@ -6,8 +6,8 @@ ghost use Rattle.calculus.specs.Who.{asks};
 ghost use Rattle.quel_meaning.specs.Fit.{is_fit_with_views};
 ghost use Rattle.quel_meaning.specs.Meaning.{checked_permitted, ruled_tree};
 ghost use Rattle.quel_meaning.specs.SpelledTree.{tree_is_spelled};
-ghost use Rattle.quel_resolve.specs.Answers.{IsJudged, Says};
-ghost use Rattle.quel_resolve.specs.Causes.{HasCheckCause};
+ghost use Rattle.quel_utilities.specs.Answers.{Says};
+ghost use Rattle.quel_utilities.specs.Causes.{HasCheckCause};
 ghost use Rattle.update_laws.specs.Walked.{names_rights};
 ghost use Rattle.view_text.specs.PutIn.{put_in_tree};
 
@@ -36,8 +36,7 @@ fn cut<B: Base>(
     requires { (db : Db) → B.database base.old ≡ Some db → is_fit_with_views db user.now tree ≡ true }
     ensures told { (db : Db) → B.database base.old ≡ Some db
         → Says (λ made. (made ≡ put_in_tree db (asks user.now) tree) × (checked_permitted db (asks user.now) tree ≡ true))
-        (λ number. (number ≡ 23) × (checked_permitted db (asks user.now) tree ≡ false)) (true ≡ false) result }
-    ensures judged { IsJudged result }
+        (λ number. (number ≡ 23) × (checked_permitted db (asks user.now) tree ≡ false)) result }
     ensures kept { B.database base.new ≡ B.database base.old }
     ensures same { B.left base.new ≡ B.left base.old }
     ensures cause { HasCheckCause (B.database base.old) (B.faults base.old) (B.faults base.new) result }
@@ -63,9 +62,8 @@ pub(crate) fn cut_and_ruled<B: Base>(
     requires { (db : Db) → B.database base.old ≡ Some db → is_fit_with_views db user.now tree ≡ true }
     ensures told { (db : Db) → B.database base.old ≡ Some db
         → Says (λ made. (made ≡ ruled_tree db (put_in_tree db (asks user.now) tree)) × (checked_permitted db (asks user.now) tree ≡ true))
-        (λ number. (number ≡ 23) × (checked_permitted db (asks user.now) tree ≡ false)) (true ≡ false) result }
+        (λ number. (number ≡ 23) × (checked_permitted db (asks user.now) tree ≡ false)) result }
     ensures spelled { IfOk result (λ made. names_rights made ≡ true → IsTrue (tree_is_spelled made)) }
-    ensures judged { IsJudged result }
     ensures kept { B.database base.new ≡ B.database base.old }
     ensures same { B.left base.new ≡ B.left base.old }
     ensures cause { HasCheckCause (B.database base.old) (B.faults base.old) (B.faults base.new) result }

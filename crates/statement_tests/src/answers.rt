@@ -1,5 +1,8 @@
 //! What statements ask an empty database for, and what refuses them.
 
+ghost use Rattle.std.specs.Prelude.{◌≡◌, false};
+ghost use Rattle.plan_laws.specs.Fitting.{is_copy};
+
 use calculus::{Asked, Checked, DbChange, Domain, Kind, Name, OutOfMemory, Statement, Utility};
 use memory::both;
 use plain_base::DbPlain;
@@ -9,13 +12,13 @@ use quel_parse::next_statement;
 use quel_resolve::{CheckFault, resolve};
 use std::alloc::Global;
 use std::test::*;
-use utilities::plan;
+use utilities::{UtilFault, plan};
 
 /// In the place of a number where memory was wanting.
 const WANTING: u8 = 8;
 
-/// The number of the first name that isn't there, and the number that refuses the statement, 9 where it
-/// isn't built, each 0 where there is none; how many targets the queries of its tree have; and 1 where
+/// The number of the first name that isn't there, and the number that refuses the statement, each 0 where
+/// there is none; how many targets the queries of its tree have; and 1 where
 /// it is planned as a relation `p` without rows, whose one attribute is a number of two bytes.
 type Told = [u8; 4];
 
@@ -47,15 +50,29 @@ fn makes_p(change: &DbChange) -> u8 {
     }
 }
 
-/// 1 where work for the utilities is planned as such a relation.
-fn plans_p(alloc: Global, user: &Name, base: &mut DbPlain, work: &Utility) -> u8 {
+/// Whether work is a copy, which isn't planned.
+fn is_copy(work: &Utility) -> bool
+    ensures { result ≡ false → is_copy work.now ≡ false }
+{
+    match work {
+        Utility::Copy { .. } => true,
+        _ => false,
+    }
+}
+
+/// The number that refuses work for the utilities; and 1 where it is planned as such a relation.
+fn planned(alloc: Global, user: &Name, base: &mut DbPlain, work: &Utility) -> [u8; 2] {
+    if is_copy(work) {
+        return [0, 0];
+    }
     match plan(alloc, base, user, work) {
         Ok(change) => {
             let made = makes_p(&change);
             drop(change);
-            made
+            [0, made]
         }
-        Err(_) => WANTING,
+        Err(UtilFault::No(number)) => [number, 0],
+        Err(_) => [WANTING, 0],
     }
 }
 
@@ -68,10 +85,12 @@ fn told_of(
 ) -> [u8; 3] {
     match tree {
         Ok(Checked::Answer(all)) => [0, targets_of(all.items()), 0],
-        Ok(Checked::Utility(work)) => [0, 0, plans_p(alloc, user, base, work)],
+        Ok(Checked::Utility(work)) => {
+            let [number, made] = planned(alloc, user, base, work);
+            [number, 0, made]
+        }
         Ok(_) => [0, 0, 0],
         Err(CheckFault::No(number)) => [*number, 0, 0],
-        Err(CheckFault::NotBuilt) => [9, 0, 0],
         Err(_) => [WANTING, 0, 0],
     }
 }
@@ -123,14 +142,42 @@ fn answer(alloc: Global, text: &[u8]) -> Told {
 }
 
 /// A text, and what its statement asks for.
-const ANSWERS: [(&[u8], Told); 9] = [
+const ANSWERS: [(&[u8], Told); 31] = [
     (b"range of x is p", [10, 10, 0, 0]),
     (b"range of x is relation", [0, 0, 0, 0]),
     (b"retrieve (x.a)", [11, 11, 0, 0]),
     (b"retrieve (x.a) where 1 = \"b\"", [11, 11, 0, 0]),
     (b"retrieve (n = 3) where 1 = \"b\"", [0, 13, 0, 0]),
     (b"retrieve (n = 3) where 1 = 2", [0, 0, 1, 0]),
-    (b"help", [0, 9, 0, 0]),
+    (b"help", [0, 0, 3, 0]),
+    (b"help relation", [0, 0, 3, 0]),
+    (b"help p", [10, 10, 0, 0]),
+    (b"print relation", [0, 0, 4, 0]),
+    (b"print relation, attribute", [0, 0, 9, 0]),
+    (b"print relation, p", [10, 10, 0, 0]),
+    (b"destroy relation, p", [10, 10, 0, 0]),
+    (b"destroy relation, relation", [0, 17, 0, 0]),
+    (b"destroy attribute", [0, 28, 0, 0]),
+    (b"modify p to heap", [10, 10, 0, 0]),
+    (b"modify relation to hash on a", [12, 12, 0, 0]),
+    (b"modify relation to hash on relid, relid", [0, 17, 0, 0]),
+    (b"modify relation to isam", [0, 28, 0, 0]),
+    (b"index on p is i (a)", [10, 10, 0, 0]),
+    (b"index on relation is i (a)", [12, 12, 0, 0]),
+    (
+        b"index on relation is relation (relid, relid)",
+        [0, 17, 0, 0],
+    ),
+    (b"index on relation is relation (relid)", [0, 15, 0, 0]),
+    (b"index on relation is i (relid)", [0, 28, 0, 0]),
+    (b"copy p (a = c0nl) into \"f\"", [10, 10, 0, 0]),
+    (b"copy relation (a = c0nl) into \"f\"", [12, 12, 0, 0]),
+    (
+        b"copy relation (relid = i2, relid = c0nl) from \"f\"",
+        [0, 17, 0, 0],
+    ),
+    (b"copy relation (relid = i2) from \"f\"", [0, 13, 0, 0]),
+    (b"copy relation (relatts = i2) from \"f\"", [0, 0, 0, 0]),
     (b"retrieve (n = 3, m = \"b\")", [0, 0, 2, 0]),
     (b"create p (a = i2)", [0, 0, 0, 1]),
 ];

@@ -29,7 +29,6 @@ fn put_answer(rt: &impl Abort, shown: &mut Vec<u8>, answer: &Result<Checked, Che
         Ok(Checked::Update(u)) => put_update(rt, shown, u),
         Ok(Checked::Utility(_)) => put(rt, shown, b"for the utilities"),
         Err(CheckFault::No(number)) => put_number(rt, shown, *number),
-        Err(CheckFault::NotBuilt) => put(rt, shown, b"not built"),
         Err(_) => put(rt, shown, b"a fault"),
     }
 }
@@ -54,7 +53,7 @@ fn shown(rt: &impl Abort, alloc: Global, user: &[u8], text: &[u8], standing: Sta
 
 /// A user, a text, how many rules and permits stand on each relation of ann's, and what the statement
 /// becomes, or the number that refuses it.
-const CHECKED: [(&[u8], &[u8], u32, u32, &[u8]); 21] = [
+const CHECKED: [(&[u8], &[u8], u32, u32, &[u8]); 31] = [
     (b"ann", b"retrieve (x.a)", 0, 0, b"ann's p, a i2 0.0, true"),
     (b"bob", b"retrieve (x.a)", 0, 0, b"23"),
     (
@@ -92,7 +91,29 @@ const CHECKED: [(&[u8], &[u8], u32, u32, &[u8]); 21] = [
     ),
     (b"ann", b"delete v", 0, 0, b"26"),
     (b"ann", b"create w (a = i2)", 0, 0, b"for the utilities"),
-    (b"ann", b"help", 0, 0, b"not built"),
+    (
+        b"ann",
+        b"print p",
+        0,
+        0,
+        b"ann's p, a i2 0.0, b i2 0.1, true",
+    ),
+    (b"ann", b"print p, w", 0, 0, b"10"),
+    (b"ann", b"help w", 0, 0, b"10"),
+    (b"ann", b"destroy p, q", 0, 0, b"for the utilities"),
+    (b"ann", b"destroy p, q, p", 0, 0, b"17"),
+    (b"ann", b"modify p to hash on b", 0, 0, b"for the utilities"),
+    (b"ann", b"modify p to hash on b, b", 0, 0, b"17"),
+    (b"ann", b"index on p is w (b)", 0, 0, b"for the utilities"),
+    (b"ann", b"index on p is q (b)", 0, 0, b"15"),
+    (
+        b"ann",
+        b"copy p (b = c0nl) from \"f\"",
+        0,
+        0,
+        b"for the utilities",
+    ),
+    (b"ann", b"copy p (c = c0nl) from \"f\"", 0, 0, b"12"),
     (
         b"ann",
         b"retrieve (n = count(x.a))",

@@ -5,6 +5,8 @@
 #[cfg(test)]
 mod answers;
 #[cfg(test)]
+mod carried;
+#[cfg(test)]
 mod causes;
 #[cfg(test)]
 mod checked;

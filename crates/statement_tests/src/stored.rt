@@ -1,5 +1,6 @@
 //! Views, permits and rules that are defined, and permits and rules that go.
 
+use crate::carried::put_utility;
 use crate::given::{name, relation_of, statement};
 use crate::queries::query;
 use crate::shown::{put, put_asked, put_digit, put_key, put_number, put_qual, put_query};
@@ -107,7 +108,7 @@ fn put_work(rt: &impl Abort, shown: &mut Vec<u8>, work: &Utility) {
             put(rt, shown, b"rules ");
             put_numbers(rt, shown, numbers.items());
         }
-        _ => put(rt, shown, b"?"),
+        _ => put_utility(rt, shown, work),
     }
 }
 
@@ -137,7 +138,7 @@ fn shown_in(rt: &impl Abort, alloc: Global, text: &[u8], base: &mut Tall) -> Vec
 }
 
 /// What ann's statement asks a base for where so much stands.
-fn shown(rt: &impl Abort, alloc: Global, text: &[u8], standing: Standing) -> Vec<u8> {
+pub(crate) fn shown(rt: &impl Abort, alloc: Global, text: &[u8], standing: Standing) -> Vec<u8> {
     let mut base = base(
         rt,
         alloc,
@@ -225,7 +226,7 @@ const STORED: [(&[u8], u32, &[u8]); 26] = [
 
 /// A text, how many permits and how many relations, views and indexes stand, and what its statement asks
 /// for, or the number that refuses it.
-const CROWDED: [(&[u8], u32, u32, &[u8]); 10] = [
+const CROWDED: [(&[u8], u32, u32, &[u8]); 15] = [
     (
         b"define view w (x.a)",
         0,
@@ -236,6 +237,11 @@ const CROWDED: [(&[u8], u32, u32, &[u8]); 10] = [
     (b"define view p (x.a, x.a)", 0, 10_000, b"14"),
     (b"retrieve into w (x.a)", 0, 10_000, b"14"),
     (b"create w (a = i2)", 0, 10_000, b"14"),
+    (b"index on p is w (a)", 0, 9_999, b"ann's p, w 0"),
+    (b"index on p is w (a)", 0, 10_000, b"14"),
+    (b"index on p is p (a)", 0, 10_000, b"14"),
+    (b"index on p is p (a, a)", 0, 10_000, b"17"),
+    (b"destroy p", 0, 10_000, b"ann's p, gone"),
     (
         b"define permit retrieve on x to all",
         99,
@@ -250,7 +256,12 @@ const CROWDED: [(&[u8], u32, u32, &[u8]); 10] = [
 
 /// Four texts of 250 bytes of a view, and its wide number, are too wide; the statements, and what they ask
 /// for, or the numbers that refuse them.
-const WIDE: [(&[u8], &[u8]); 6] = [
+const WIDE: [(&[u8], &[u8]); 8] = [
+    (b"copy p (a = i2) from \"f\"", b"13"),
+    (
+        b"copy p (a = c0nl) from \"f\"",
+        b"ann's p, 0 until \n, from f",
+    ),
     (
         b"retrieve (k = z.a, l = z.a, m = z.a, o = z.b)",
         b"ann's vo, k ? 0.0, l ? 0.0, m ? 0.0, o wide 0.1, true",

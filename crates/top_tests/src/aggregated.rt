@@ -16,6 +16,7 @@ const ASKED: [Case; 4] = [
         retrieve (v.name)\n\
         retrieve (n = count(w.dept))\n\
         retrieve (n = count(v.name))\n\
+        destroy emp\n\
         \\g\n",
         b"done\n\
         done\n\
@@ -32,7 +33,8 @@ const ASKED: [Case; 4] = [
         |--------------------|\n\
         |                   1|\n\
         |--------------------|\n\
-        refused 18 line 10: aggregate\n",
+        refused 18 line 10: aggregate\n\
+        refused 25 line 11: in use\n",
     ),
     (
         b"create g (d = i2, s = i2)\n\

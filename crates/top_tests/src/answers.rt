@@ -260,12 +260,12 @@ const NOT_FOUND: &[u8] = b"|x                   |\n\
 
 /// Batches, the query buffer and commands.
 const BATCHES: [Case; 9] = [
-    (b"print p\n\\g\n", b"refused 9 line 1: not built\n"),
+    (b"print p\n\\g\n", b"refused 10 line 1: unknown relation\n"),
     (
         b"print p\n\n\\p\\g\\g",
         b"print p\n\
-        refused 9 line 1: not built\n\
-        refused 9 line 1: not built\n",
+        refused 10 line 1: unknown relation\n\
+        refused 10 line 1: unknown relation\n",
     ),
     (b"print p\n\\r\\p\\g", b""),
     (
@@ -273,8 +273,8 @@ const BATCHES: [Case; 9] = [
         /* */ print\n\
         ,\n\
         \\g",
-        b"refused 9 line 1: not built\n\
-        refused 9 line 1: not built\n\
+        b"refused 10 line 1: unknown relation\n\
+        refused 10 line 1: unknown relation\n\
         refused 1 line 3: syntax\n",
     ),
     (
@@ -282,26 +282,26 @@ const BATCHES: [Case; 9] = [
         \\g\n\
         print q\n\
         \\p\n",
-        b"refused 9 line 1: not built\n\
+        b"refused 10 line 1: unknown relation\n\
         print q\n",
     ),
     (
         b"print p\n\
         \\g\\a print q\n\
         \\g",
-        b"refused 9 line 1: not built\n\
-        refused 9 line 1: not built\n\
-        refused 9 line 2: not built\n",
+        b"refused 10 line 1: unknown relation\n\
+        refused 10 line 1: unknown relation\n\
+        refused 10 line 2: unknown relation\n",
     ),
     (
         b"\\x\n\\i f\n\\w\n",
         b"refused 2 line 0: monitor command\n\
-        refused 9 line 0: not built\n\
-        refused 9 line 0: not built\n",
+        refused 32 line 0: no such file\n\
+        refused 2 line 0: monitor command\n",
     ),
     (
         b"print p \\g \\q \\g\n\\g\n",
-        b"refused 9 line 1: not built\n",
+        b"refused 10 line 1: unknown relation\n",
     ),
     (
         b"create p (a = i1)\n\

@@ -1,6 +1,6 @@
 //! Scripts of as many rows or relations as there may be.
 
-use crate::trials::{Case, gives};
+use crate::trials::{Case, gives, has, run_over, shelf};
 use std::alloc::AllocGlobal;
 use std::process::Abort;
 use std::test::*;
@@ -123,4 +123,39 @@ fn acknowledgements(rt: &(impl Abort + AllocGlobal)) -> Vec<u8> {
 #[test]
 fn a_batch_of_10_001_statements_makes_all_relations_but_the_last(rt: HostRuntime) {
     assert!(rt; gives(&rt, &relations(&rt, 10_001), &acknowledgements(&rt)));
+}
+
+/// A line for each number from 0 on.
+fn numbers(rt: &(impl Abort + AllocGlobal), count: u32) -> Vec<u8> {
+    let mut lines = Vec::new(rt.alloc());
+    for number in 0..count {
+        let line = format!(in rt.alloc(); "{number}\n").expect(rt, "memory");
+        lines
+            .extend_from_slice(line.as_bytes())
+            .expect(rt, "memory");
+    }
+    lines
+}
+
+/// Copies a file in, one with a further row, and all rows out again.
+const COPIED: &[u8] = b"create big (k = i4)\n\
+    copy big (k = c0nl) from \"in\"\n\
+    copy big (k = c0nl) from \"more\"\n\
+    copy big (k = c0nl) into \"out\"\n\
+    \\g\n";
+
+/// What that prints where all but the further row is copied.
+const COPIES: &[u8] = b"done\n\
+    done\n\
+    refused 29 line 3: too many rows\n\
+    done\n";
+
+#[test]
+fn files_of_100_000_rows_are_copied_in_and_out(rt: HostRuntime) {
+    let lines = numbers(&rt, 100_000);
+    let files = [(b"in".as_slice(), lines.as_slice()), (b"more", b"100000")];
+    let (status, sink, mut shelf) = run_over(&rt, COPIED, shelf(&rt, &files, &[]));
+    assert_eq!(rt; status, 0);
+    assert!(rt; sink.bytes() == COPIES);
+    assert!(rt; has(&rt, &mut shelf, b"out", Some(&lines)));
 }

@@ -1,6 +1,6 @@
 //! What the tests share.
 
-use fault_io::{MemSink, MemSource, Source};
+use fault_io::{MemShelf, MemSink, MemSource, Shelf, Source};
 use ingres_top::{World, ingres_top};
 use std::alloc::AllocGlobal;
 use std::process::Abort;
@@ -61,6 +61,22 @@ pub(crate) fn sink(rt: &(impl Abort + AllocGlobal), failing: &[u64]) -> MemSink 
     MemSink::new(rt.alloc(), failing)
 }
 
+/// A shelf with these files, whose calls with these numbers fail.
+pub(crate) fn shelf(
+    rt: &(impl Abort + AllocGlobal),
+    files: &[(&[u8], &[u8])],
+    failing: &[u64],
+) -> MemShelf {
+    let mut standing = Vec::new(rt.alloc());
+    for (name, bytes) in files {
+        let name = Vec::from_slice(rt.alloc(), *name).expect(rt, "memory");
+        let bytes = Vec::from_slice(rt.alloc(), *bytes).expect(rt, "memory");
+        standing.push((name, bytes)).expect(rt, "memory");
+    }
+    let failing = Vec::from_slice(rt.alloc(), failing).expect(rt, "memory");
+    MemShelf::new(rt.alloc(), standing, failing).expect(rt, "memory")
+}
+
 /// Whether ann's script ends with this status, and the sink then has these bytes.
 pub(crate) fn ends<S: Source + Drop>(
     rt: &(impl Abort + AllocGlobal),
@@ -70,7 +86,13 @@ pub(crate) fn ends<S: Source + Drop>(
     output: &[u8],
 ) -> bool {
     let words = words(rt, &["try", "ann"]);
-    let (answer, world) = ingres_top(rt.alloc(), &words, World { source, sink });
+    let shelf = shelf(rt, &[], &[]);
+    let world = World {
+        source,
+        sink,
+        shelf,
+    };
+    let (answer, world) = ingres_top(rt.alloc(), &words, world);
     answer == status && world.sink.bytes() == output
 }
 
@@ -83,6 +105,81 @@ pub(crate) fn gives(rt: &(impl Abort + AllocGlobal), script: &[u8], output: &[u8
 pub(crate) fn first_wrong(rt: &(impl Abort + AllocGlobal), cases: &[Case]) -> Option<usize> {
     for (number, (script, output)) in cases.iter().enumerate() {
         if !gives(rt, script, output) {
+            return Some(number);
+        }
+    }
+    None
+}
+
+/// A file's name and its bytes.
+pub(crate) type File = (&'static [u8], &'static [u8]);
+
+/// A script over files.
+pub(crate) struct FileCase {
+    /// The files that stand before it.
+    pub(crate) files: &'static [File],
+    /// The script.
+    pub(crate) script: &'static [u8],
+    /// What it prints.
+    pub(crate) output: &'static [u8],
+    /// What some files are afterwards; nothing where there is no such file.
+    pub(crate) left: &'static [(&'static [u8], Option<&'static [u8]>)],
+}
+
+/// Runs ann's script over a shelf; the status, what was printed, and the shelf.
+pub(crate) fn run_over(
+    rt: &(impl Abort + AllocGlobal),
+    script: &[u8],
+    shelf: MemShelf,
+) -> (u8, MemSink, MemShelf) {
+    let words = words(rt, &["try", "ann"]);
+    let world = World {
+        source: source(rt, script, &[]),
+        sink: sink(rt, &[]),
+        shelf,
+    };
+    let (status, world) = ingres_top(rt.alloc(), &words, world);
+    let World {
+        source: _,
+        sink,
+        shelf,
+    } = world;
+    (status, sink, shelf)
+}
+
+/// Whether a file of a shelf has these bytes, or isn't there.
+pub(crate) fn has(
+    rt: &(impl Abort + AllocGlobal),
+    shelf: &mut MemShelf,
+    name: &[u8],
+    wanted: Option<&[u8]>,
+) -> bool {
+    let file = shelf.fetch(rt.alloc(), name).expect(rt, "a file");
+    match (file, wanted) {
+        (Some(bytes), Some(wanted)) => bytes.as_slice() == wanted,
+        (None, None) => true,
+        _ => false,
+    }
+}
+
+/// Whether a script over files ends with 0, prints what it should and leaves the files that it should.
+fn keeps(rt: &(impl Abort + AllocGlobal), case: &FileCase) -> bool {
+    let (status, sink, mut shelf) = run_over(rt, case.script, shelf(rt, case.files, &[]));
+    let mut is_right = status == 0 && sink.bytes() == case.output;
+    for (name, wanted) in case.left {
+        let is_left = has(rt, &mut shelf, *name, *wanted);
+        is_right = is_right && is_left;
+    }
+    is_right
+}
+
+/// The number of the first of these scripts that prints or leaves something else.
+pub(crate) fn first_wrong_over(
+    rt: &(impl Abort + AllocGlobal),
+    cases: &[FileCase],
+) -> Option<usize> {
+    for (number, case) in cases.iter().enumerate() {
+        if !keeps(rt, case) {
             return Some(number);
         }
     }

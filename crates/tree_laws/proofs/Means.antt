@@ -21,7 +21,7 @@ use Rattle.quel_meaning.specs.Fit.{fits, is_fit_with_views, suits}
 use Rattle.quel_meaning.specs.FitQueries.{kept_or_viewed, reads_fit, asked_fits}
 use Rattle.quel_meaning.specs.KindsInQueries.{query_fits}
 use Rattle.quel_meaning.specs.Meaning.{unchanged, numbered_effect, answer_reply, ruled_tree, tree_meaning}
-use Rattle.quel_meaning.specs.Shelf.{Shelf}
+use Rattle.fault_io.specs.Files.{Files}
 use Rattle.quel_meaning.specs.SpelledTree.{tree_is_spelled}
 use Rattle.quel_meaning.specs.Tables.{column_of, sorted, table_of, some_query_lacks}
 use Rattle.view_text.specs.Replaced.{Putting, replaced_target}
@@ -92,13 +92,13 @@ module _ (db : Db) (d : IsDatabase db) (who : Who) where
   unfolding fits
   suiting user tree h = (both_true (tree_is_spelled tree) (suits (kept_or_viewed db) db user tree) h).1
 
-  suited : (shelf : Shelf) (user : List ℕ) (tree : Checked) → suits (kept_or_viewed db) db user tree ≡ true → tree_meaning db shelf who user tree ≡ tree_meaning db shelf Free user (put_in_tree db who tree)
+  suited : (shelf : Files) (user : List ℕ) (tree : Checked) → suits (kept_or_viewed db) db user tree ≡ true → tree_meaning db shelf who user tree ≡ tree_meaning db shelf Free user (put_in_tree db who tree)
   unfolding suits tree_meaning put_in_tree
   suited shelf user (checked.Answer asked) h = ap (unchanged db shelf) (reply_put asked (asked_nest asked h))
   suited shelf user (checked.Update u) h = let sound = update_sound (kept_or_viewed db) db u h in ap (numbered_effect db shelf) (updated_put db d who u sound.nests sound.over)
   suited shelf user (checked.Utility work) h = refl
 
-  pub means_same : (shelf : Shelf) (user : List ℕ) (tree : Checked) → is_fit_with_views db user tree ≡ true → tree_meaning db shelf who user tree ≡ tree_meaning db shelf Free user (put_in_tree db who tree)
+  pub means_same : (shelf : Files) (user : List ℕ) (tree : Checked) → is_fit_with_views db user tree ≡ true → tree_meaning db shelf who user tree ≡ tree_meaning db shelf Free user (put_in_tree db who tree)
   means_same shelf user tree h = suited shelf user tree (suiting user tree h)
 
   -- an update with the rules is over what it was over
@@ -109,7 +109,7 @@ module _ (db : Db) (d : IsDatabase db) (who : Who) where
   ruled_op u op.Delete sound = record { nests = sound.nests; over = sound.over }
   ruled_op u op.Into sound = sound
 
-  ruled_suited : (shelf : Shelf) (user : List ℕ) (tree : Checked) → suits (kept_or_viewed db) db user tree ≡ true
+  ruled_suited : (shelf : Files) (user : List ℕ) (tree : Checked) → suits (kept_or_viewed db) db user tree ≡ true
       → tree_meaning db shelf who user (ruled_tree db tree) ≡ tree_meaning db shelf Free user (put_in_tree db who (ruled_tree db tree))
   unfolding suits tree_meaning put_in_tree ruled_tree
   ruled_suited shelf user (checked.Answer asked) h = ap (unchanged db shelf) (reply_put asked (asked_nest asked h))
@@ -118,6 +118,6 @@ module _ (db : Db) (d : IsDatabase db) (who : Who) where
       ap (numbered_effect db shelf) (updated_put db d who (ruled db u) sound.nests sound.over)
   ruled_suited shelf user (checked.Utility work) h = refl
 
-  pub ruled_means_same : (shelf : Shelf) (user : List ℕ) (tree : Checked) → is_fit_with_views db user tree ≡ true
+  pub ruled_means_same : (shelf : Files) (user : List ℕ) (tree : Checked) → is_fit_with_views db user tree ≡ true
       → tree_meaning db shelf who user (ruled_tree db tree) ≡ tree_meaning db shelf Free user (ruled_tree db (put_in_tree db who tree))
   ruled_means_same shelf user tree h = ruled_suited shelf user tree (suiting user tree h) ∙ ap (tree_meaning db shelf Free user) (tree_commutes db who tree)

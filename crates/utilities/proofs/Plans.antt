@@ -1,7 +1,7 @@
 -- What is planned of each kind, where its causes are there or not.
 use Rattle.std.proofs.Common.{◌≡◌, refl, sym, ap, ◌∙◌, ℕ, Bool, true, false, List, [], ◌∷◌, ◌++◌}
 use Rattle.std.specs.Prelude.{Some, None, Ok, Err, not}
-use Rattle.std.specs.List.{list_all}
+use Rattle.std.specs.List.{list_all, list_any}
 use Rattle.calculus.specs.declared.change.DbChange.{DbChange}
 use Rattle.calculus.specs.declared.change.DbChange.TheVariants as change
 use Rattle.calculus.specs.declared.query.Query.{Query}
@@ -10,12 +10,14 @@ use Rattle.calculus.specs.declared.request.Utility.TheVariants as utility
 use Rattle.calculus.specs.declared.schema.Attr.{Attr}
 use Rattle.calculus.specs.declared.schema.Permit.{Permit}
 use Rattle.calculus.specs.declared.schema.Rule.{Rule}
+use Rattle.calculus.specs.declared.schema.Spec.{Spec}
 use Rattle.calculus.specs.Catalogue.{is_catalogue}
 use Rattle.calculus.specs.Change.{permit_numbers, rule_numbers}
 use Rattle.calculus.specs.Database.{Db}
 use Rattle.calculus.specs.Lists.{has_number}
 use Rattle.calculus.specs.Replacement.{first_cause}
-use Rattle.quel_meaning.specs.Planned.{planned, plan_causes, plan_change, heap_info, view_info, is_past_limit, next_number, has_view, is_none_to_permit, is_broken, owner_causes, dropped}
+use Rattle.quel_meaning.specs.Planned.{planned, plan_causes, plan_change, heap_info, view_info, is_past_limit, next_number, has_view, is_anothers, is_none_to_permit, is_in_use, is_broken, owner_causes, dropped}
+use Rattle.quel_meaning.specs.Structures.{structure_keys}
 use Rattle.utilities.proofs.Causes.{first_there, first_past, refused, accepted}
 
 -- ---- what nothing refuses
@@ -27,6 +29,43 @@ create_planned db user rel attrs = accepted db user (utility.Create rel attrs) r
 pub view_planned : (db : Db) (user : List ℕ) (rel : RelKey) (q : Query) → planned db user (utility.View rel q) ≡ Ok (change.View (view_info rel q) q)
 unfolding plan_causes plan_change
 view_planned db user rel q = accepted db user (utility.View rel q) refl
+
+-- ---- what is destroyed
+
+-- what refuses that what has these keys goes
+abbrev pub destroying_causes : Db → List ℕ → List RelKey → List (ℕ × Bool)
+destroying_causes db user rels = (28, list_any (is_catalogue db) rels) ∷ (24, list_any (is_anothers user) rels) ∷ (25, is_in_use db rels) ∷ []
+
+pub destroy_refused : (db : Db) (user : List ℕ) (rels : List RelKey) (n : ℕ) → Some n ≡ first_cause (destroying_causes db user rels) → planned db user (utility.Destroy rels) ≡ Err n
+unfolding plan_causes
+destroy_refused db user rels n cause = refused db user (utility.Destroy rels) n cause
+
+pub destroy_planned : (db : Db) (user : List ℕ) (rels : List RelKey) (c : DbChange) → None ≡ first_cause (destroying_causes db user rels) → c ≡ change.Destroy rels
+    → planned db user (utility.Destroy rels) ≡ Ok c
+unfolding plan_causes plan_change
+destroy_planned db user rels c cause made = accepted db user (utility.Destroy rels) cause ∙ ap Ok (sym made)
+
+-- ---- another structure, and an index
+
+pub modify_refused : (db : Db) (user : List ℕ) (rel : RelKey) (to : Spec) (keys : List ℕ) (n : ℕ) → Some n ≡ first_cause (owner_causes db user rel)
+    → planned db user (utility.Modify rel to keys) ≡ Err n
+unfolding plan_causes
+modify_refused db user rel to keys n cause = refused db user (utility.Modify rel to keys) n cause
+
+pub modify_planned : (db : Db) (user : List ℕ) (rel : RelKey) (to : Spec) (keys : List ℕ) (c : DbChange) → None ≡ first_cause (owner_causes db user rel)
+    → c ≡ change.Modify rel to (structure_keys to keys) → planned db user (utility.Modify rel to keys) ≡ Ok c
+unfolding plan_causes plan_change
+modify_planned db user rel to keys c cause made = accepted db user (utility.Modify rel to keys) cause ∙ ap Ok (sym made)
+
+pub index_refused : (db : Db) (user : List ℕ) (rel : RelKey) (name : List ℕ) (keys : List ℕ) (n : ℕ) → Some n ≡ first_cause (owner_causes db user rel)
+    → planned db user (utility.Index rel name keys) ≡ Err n
+unfolding plan_causes
+index_refused db user rel name keys n cause = refused db user (utility.Index rel name keys) n cause
+
+pub index_planned : (db : Db) (user : List ℕ) (rel : RelKey) (name : List ℕ) (keys : List ℕ) (c : DbChange) → None ≡ first_cause (owner_causes db user rel)
+    → c ≡ change.Index rel name keys → planned db user (utility.Index rel name keys) ≡ Ok c
+unfolding plan_causes plan_change
+index_planned db user rel name keys c cause made = accepted db user (utility.Index rel name keys) cause ∙ ap Ok (sym made)
 
 -- ---- a permit
 

@@ -1,16 +1,14 @@
 -- Why a utility makes no change.
-use Rattle.std.specs.Prelude.{◌≡◌, ℕ, ◌≤◌, List, Option, Some, Result, Ok, Err, IsFalse, ⊤}
+use Rattle.std.specs.Prelude.{◌≡◌, ℕ, ◌≤◌, List, Option, Some, Result, Ok, Err, ⊤}
 use Rattle.calculus.specs.declared.request.Utility.{Utility}
 use Rattle.calculus.specs.Database.{Db}
 use Rattle.am_traits.specs.Causes.{MayCome}
 use Rattle.quel_meaning.specs.Planned.{planned}
-use Rattle.utilities.specs.Built.{is_built}
 use Rattle.utilities.specs.declared.fault.UtilFault.{UtilFault}
-use Rattle.utilities.specs.declared.fault.UtilFault.TheVariants.{NotBuilt, No, Base, OutOfMemory}
+use Rattle.utilities.specs.declared.fault.UtilFault.TheVariants.{No, Base, OutOfMemory}
 
--- this fault may come: the utility isn't built; or the cause of this number refuses it, where a database is told; a fault of the database where it may come; want of memory
+-- this fault may come: the cause of this number refuses the utility, where a database is told; a fault of the database where it may come; want of memory
 abbrev pub MayFail : List ℕ → Utility → Option Db → ℕ → ℕ → UtilFault → Type 0
-MayFail user u told before now NotBuilt = IsFalse (is_built u)
 MayFail user u told before now (No number) = (db : Db) → told ≡ Some db → planned db user u ≡ Err number
 MayFail user u told before now (Base fault) = MayCome told before now fault
 MayFail user u told before now OutOfMemory = ⊤

@@ -9,8 +9,6 @@ use calculus::OutOfMemory;
 /// Why a utility makes no change.
 #[derive(Clone, Copy, Debug, PartialEq, Eq)]
 pub enum UtilFault {
-    /// Utilities of this kind aren't built.
-    NotBuilt,
     /// What the utility is asked for is refused, by the cause of this number.
     No(u8),
     /// A call of the database failed.

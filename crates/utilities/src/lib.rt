@@ -1,6 +1,7 @@
 //! What the utilities make of a database, as changes of it.
 #![tactic(auto)]
 
+mod destroying;
 mod dropping;
 mod fault;
 mod judging;
@@ -11,7 +12,9 @@ mod owners;
 mod permits;
 mod planning;
 mod rules;
+mod structures;
 mod views;
 
 pub use fault::UtilFault;
+pub use owners::owner_cause;
 pub use planning::plan;

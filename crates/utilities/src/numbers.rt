@@ -9,5 +9,11 @@ pub(crate) const NOT_STANDING: u8 = 19;
 /// What would be changed is another's.
 pub(crate) const ANOTHERS: u8 = 24;
 
+/// A view that stays names what would go.
+pub(crate) const IN_USE: u8 = 25;
+
 /// A row breaks the rule.
 pub(crate) const BROKEN: u8 = 27;
+
+/// What would go is a catalogue.
+pub(crate) const IS_CATALOGUE: u8 = 28;

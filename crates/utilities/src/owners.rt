@@ -14,7 +14,7 @@ use quel_causes::relation_cause;
 use std::alloc::Global;
 
 /// Whether the user is not the owner.
-fn is_anothers(user: &Name, key: &RelKey) -> bool
+pub(crate) fn is_anothers(user: &Name, key: &RelKey) -> bool
     ensures { result ≡ is_anothers user.now key.now }
 {
     key.owner != *user
@@ -46,9 +46,10 @@ fn anothers(there: bool) -> Option<u8>
     if there { Some(ANOTHERS) } else { None }
 }
 
-/// What refuses a change of a relation of the user's: that the key is a catalogue's, a view's, or
-/// another's.
-pub(crate) fn owner_cause<B: Base>(
+/// What refuses a change of a relation of the user's, by its number, the first in this order: that
+/// the key is a catalogue's (28), a view's (26), or another's (24). `None` where nothing does. Asks
+/// the database for the administrator's name and for the view under the key, and changes nothing.
+pub fn owner_cause<B: Base>(
     alloc: Global,
     base: &mut B,
     user: &Name,

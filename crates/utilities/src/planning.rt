@@ -1,17 +1,18 @@
 //! The change that a utility makes of a database.
 
-ghost use Rattle.std.specs.Prelude.{◌≡◌, [], Some, Ok as Planned, Err as Refused, IsTrue, IsFalse, IfOk, OnOk};
+ghost use Rattle.std.specs.Prelude.{◌≡◌, [], false, Some, Ok as Planned, IfOk};
 ghost use Rattle.calculus.specs.Database.{Db};
 ghost use Rattle.calculus.specs.declared.change.DbChange.TheVariants.{Create};
+ghost use Rattle.plan_laws.specs.Fitting.{is_copy};
 ghost use Rattle.quel_meaning.specs.Planned.{heap_info, planned};
-ghost use Rattle.utilities.specs.Built.{is_built};
 ghost use Rattle.utilities.specs.Causes.{HasCause};
-ghost use Rattle.utilities.specs.declared.fault.UtilFault.TheVariants.{NotBuilt};
 
 use crate::UtilFault;
+use crate::destroying::destroyed;
 use crate::dropping::{permits_gone, rules_gone};
 use crate::permits::permit_planned;
 use crate::rules::rule_planned;
+use crate::structures::{index_planned, structure_planned};
 use crate::views::view_made;
 use am_traits::Base;
 use calculus::{Attr, DbChange, List, Name, OutOfMemory, RelInfo, RelKey, Spec, TryCopy, Utility};
@@ -31,11 +32,10 @@ fn relation_made(alloc: Global, rel: &RelKey, attrs: &List<Attr>) -> Result<DbCh
     Ok(DbChange::Create { info, rows })
 }
 
-/// The change that a utility makes for the user, or what refuses it: of a new relation, which has no
-/// rows, a view, a permit, a rule, or permits or rules that go. For every other kind the answer is
-/// `NotBuilt`. Asks the database for what the causes of the kind need up to the first that is there; of
-/// a new relation or view for nothing, and of a rule for the rows of its relation up to the first that
-/// breaks it.
+/// The change that a utility other than a copy makes for the user, or what refuses it. Asks the
+/// database for what the causes of the kind need up to the first that is there: of a new relation,
+/// which has no rows, or view for nothing; of what is to go whether views name it, for each key up to
+/// the first that is named; and of a rule for the rows of its relation up to the first that breaks it.
 #[tactic(auto, using(crate::proofs::Plans::create_planned, crate::proofs::Plans::view_planned))]
 pub fn plan<B: Base>(
     alloc: Global,
@@ -43,15 +43,28 @@ pub fn plan<B: Base>(
     user: &Name,
     u: &Utility,
 ) -> Result<DbChange, UtilFault>
+    requires { is_copy u.now ≡ false }
     ensures change { (db : Db) → B.database base.old ≡ Some db → IfOk result (λ c. planned db user.now u.now ≡ Planned c) }
-    ensures built { OnOk result (IsTrue (is_built u.now)) }
-    ensures not_built { IsFalse (is_built u.now) → result ≡ Refused NotBuilt }
     ensures kept { B.database base.new ≡ B.database base.old }
     ensures same { B.left base.new ≡ B.left base.old }
     ensures cause { HasCause user.now u.now (B.database base.old) (B.faults base.old) (B.faults base.new) result }
 {
     match u {
         Utility::Create { rel, attrs } => Ok(relation_made(alloc, rel, attrs)?),
+        Utility::Destroy { rels } => destroyed(alloc, base, user, rels),
+        Utility::Modify { rel, to, keys } => structure_planned(
+            alloc,
+            base,
+            user,
+            rel,
+            *to,
+            keys.items(),
+        ),
+        Utility::Index {
+            base: rel,
+            name,
+            keys,
+        } => index_planned(alloc, base, user, rel, name, keys),
         Utility::View { rel, query } => Ok(view_made(alloc, rel, query)?),
         Utility::Permit { rel, permit } => permit_planned(alloc, base, user, rel, permit),
         Utility::Rule { rel, rule } => rule_planned(alloc, base, user, rel, rule),
@@ -63,6 +76,11 @@ pub fn plan<B: Base>(
             numbers.items(),
         ),
         Utility::DropRules { rel, numbers } => rules_gone(alloc, base, user, rel, numbers.items()),
-        _ => Err(UtilFault::NotBuilt),
+        Utility::Copy {
+            rel: _,
+            columns: _,
+            from: _,
+            file: _,
+        } => unreachable!(),
     }
 }

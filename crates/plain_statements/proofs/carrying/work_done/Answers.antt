@@ -1,22 +1,16 @@
-use Rattle.std.proofs.Common.{◌≡◌, refl, ap, ◌∙◌, [], Ok}
-use Rattle.calculus.specs.declared.reply.Reply.TheVariants.{Refused}
-use Rattle.quel_meaning.specs.Copying.{refusal}
-use Rattle.quel_meaning.specs.Meaning.{numbered_effect, utility_effect}
+use Rattle.std.proofs.Common.{◌≡◌}
+use Rattle.quel_meaning.specs.Meaning.{utility_effect}
 use Rattle.plain_base.specs.Shown.{database_of}
-use Rattle.plain_statements.specs.Standing.{effect_of}
-use Rattle.plain_statements.proofs.Effects.{ok_to, work_laid, work_refused}
+use Rattle.plain_statements.specs.Standing.{Leaves, effect_of}
+use Rattle.plain_statements.proofs.Effects.{shelf_kept, shelf_unasked, plan_left}
 use Rattle.plain_statements.proofs.carrying.work_done.Goals as goal
 
-pub returns-in-Ok-clause-done : goal.returns-in-Ok-clause-done
-returns-in-Ok-clause-done c =
-    ok_to (λ reply. numbered_effect (database_of c.work_planned.new.base) [] (Ok c.in-Ok.change) ≡ effect_of (database_of c.laid.new.base) reply)
-    (λ reply. utility_effect (database_of c.args.base.now) [] c.args.user.now c.args.work.now ≡ effect_of (database_of c.laid.new.base) reply)
-    (work_laid (database_of c.args.base.now) (database_of c.work_planned.new.base) c.args.user.now c.args.work.now c.requires c.in-Ok.ensures.kept
-    (database_of c.laid.new.base) c.in-Ok.change (c.in-Ok.ensures.told (database_of c.args.base.now) refl).0)
-    c.laid.result c.laid.ensures.done
+pub returns-in-None-clause-done : goal.returns-in-None-clause-done
+returns-in-None-clause-done g c = λ files e.
+    shelf_kept (λ reply. utility_effect (database_of c.args.base.now) files c.args.user.now c.args.work.now ≡ effect_of (database_of c.plan_done.new.base) files reply)
+    (λ reply. Leaves (utility_effect (database_of c.args.base.now) files c.args.user.now c.args.work.now) (database_of c.plan_done.new.base) (g.H.Shelf.files c.args.shelf.now) reply)
+    (plan_left (database_of c.args.base.now) (database_of c.plan_done.new.base) files (g.H.Shelf.files c.args.shelf.now) e c.args.user.now c.args.work.now)
+    c.plan_done.result (c.plan_done.ensures.done files) c.without_shelf.result c.without_shelf.ensures
 
-pub returns-in-Err-No-clause-done : goal.returns-in-Err-No-clause-done
-returns-in-Err-No-clause-done c =
-    work_refused (database_of c.args.base.now) (database_of c.work_planned.new.base) c.args.user.now c.args.work.now c.requires c.in-Err-No.ensures.kept
-    c.in-Err-No.field-0 c.in-Err-No.number c.in-Err-No.field-0-is (c.in-Err-No.ensures.told (database_of c.args.base.now) refl)
-    c.refused.result (c.refused.ensures ∙ ap (λ n. Refused (refusal n)) c.in-Err-No.number-is)
+pub returns-in-None-clause-cause : goal.returns-in-None-clause-cause
+returns-in-None-clause-cause g c = shelf_unasked (g.H.Shelf.faults c.args.shelf.now) c.plan_done.result c.without_shelf.result c.without_shelf.ensures

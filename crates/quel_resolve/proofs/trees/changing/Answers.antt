@@ -1,6 +1,6 @@
 use Rattle.std.proofs.Common.{◌≡◌, sym, ◌∙◌, false}
 use Rattle.quel_resolve.proofs.Changes.{has_tree_on, no_rows}
-use Rattle.quel_resolve.specs.Built.{changes_rows}
+use Rattle.quel_resolve.specs.Kinds.{changes_rows}
 use Rattle.quel_resolve.proofs.trees.changing.Goals as goal
 
 pub returns-else-changes_rows-clause-told : goal.returns-else-changes_rows-clause-told

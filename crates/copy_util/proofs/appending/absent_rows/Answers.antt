@@ -1,0 +1,16 @@
+use Rattle.std.proofs.Common.{◌∙◌, sym, cond, not, [], ◌∷◌, ◌++◌, arith}
+use Rattle.std.proofs.lemmas.List.Elements.{filter-append}
+use Rattle.calculus.specs.Rows.{has}
+use Rattle.calculus.specs.Stored.{rows_at}
+use Rattle.copy_util.proofs.appending.absent_rows.Goals as goal
+
+pub loop-row-preserved : goal.loop-row-preserved
+loop-row-preserved g c = record {
+  kept = c.in_ok-is_there.ensures.kept ∙ c.loop-row.invariant.kept;
+  same = c.in_ok-is_there.ensures.same ∙ c.loop-row.invariant.same;
+  later = omega (arith, c.loop-row.invariant.later, c.in_ok-is_there.ensures.cause.later);
+  so_far = λ db e.
+      c.in_ok-put_if.ensures
+      ∙ (λ j. c.loop-row.invariant.so_far db e j ++ cond (not (c.in_ok-is_there.ensures.told db (c.loop-row.invariant.kept ∙ e) j)) (c.in-Some.row ∷ []) [])
+      ∙ sym (filter-append (λ row. not (has (rows_at db c.args.rel.now) row)) c.loop-row.yielded (c.in-Some.row ∷ []));
+}

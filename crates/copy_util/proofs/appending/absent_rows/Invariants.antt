@@ -1,0 +1,13 @@
+use Rattle.std.proofs.Common.{◌≡◌, ◌≤◌, Some}
+use Rattle.calculus.specs.Database.{Db}
+use Rattle.calculus.specs.Replacement.{without_rows}
+use Rattle.calculus.specs.Stored.{rows_at}
+use Rattle.copy_util.proofs.appending.absent_rows.Given as goal
+
+abbrev pub invariant-loop-row : goal.invariant-loop-row
+invariant-loop-row g l = record {
+  kept : g.B.Base.database l.base ≡ g.B.Base.database l.fn.base;
+  same : g.B.Base.left l.base ≡ g.B.Base.left l.fn.base;
+  later : g.B.Base.faults l.fn.base ≤ g.B.Base.faults l.base;
+  so_far : (db : Db) → g.B.Base.database l.fn.base ≡ Some db → l.absent.items ≡ without_rows (rows_at db l.rel) l.yielded;
+}

@@ -1,0 +1,5 @@
+pub mod Asking
+pub mod Differing
+pub mod Meant
+pub mod Resolving
+pub mod Saying

@@ -1,0 +1,21 @@
+//! What statements ask for that need no query: to destroy, to give a structure, to make an index, to
+//! print, to ask for help, to copy.
+#![tactic(auto)]
+
+mod asked;
+mod copied;
+mod destroyed;
+mod fault;
+mod finding;
+mod helped;
+mod keys;
+mod lists;
+mod numbers;
+mod places;
+mod printed;
+mod repeated;
+mod serving;
+mod stored;
+
+pub use fault::CheckFault;
+pub use serving::{is_served, served};
