@@ -1,0 +1,9 @@
+pub mod Headers
+pub mod Unrolled
+pub mod Pieces
+pub mod Payloads
+pub mod Stops
+pub mod Fed
+pub mod Written
+pub mod Spelled
+pub mod Examples

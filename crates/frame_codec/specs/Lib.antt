@@ -1,0 +1,4 @@
+pub mod Frames
+pub mod Messages
+pub mod Reading
+pub mod Sizes

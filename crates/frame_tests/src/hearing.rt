@@ -1,0 +1,51 @@
+// What a reader hears of a stream.
+ghost use Rattle.std.specs.Prelude.{◌≡◌, ◌+◌, ◌<◌, ◌≤◌, [], length};
+ghost use Rattle.frame_codec.specs.Reading.{left_at};
+
+use frame_codec::{FrameFault, FrameReader};
+use std::alloc::Global;
+use std::process::Abort;
+use std::test::*;
+
+/// Feeds a stream in pieces of so many bytes, up to the first fault.
+pub fn feed_in(reader: &mut FrameReader, stream: &[u8], size: usize) -> Result<(), FrameFault>
+    requires fresh { reader.old ≡ left_at 0 [] }
+    requires size { 0 < size }
+{
+    let mut rest = stream;
+    'pieces: while !rest.is_empty() {
+        let (piece, behind) = rest.split_at(rest.len().min(size));
+        reader.feed(piece)?;
+        rest = behind;
+    }
+    Ok(())
+}
+
+/// The frames that a reader gives: of each its kind, its payload, and a semicolon.
+pub fn given(alloc: Global, rt: &impl Abort, reader: &mut FrameReader) -> Vec<u8> {
+    let mut bytes = Vec::new(alloc);
+    'frames: while let Some(frame) = reader.next() {
+        bytes.push(frame.kind).expect(rt, "memory");
+        bytes
+            .extend_from_slice(frame.payload.items())
+            .expect(rt, "memory");
+        bytes.push(b';').expect(rt, "memory");
+    }
+    bytes
+}
+
+/// What a stream in pieces of so many bytes gives, and what the last feed answers.
+pub fn heard(
+    alloc: Global,
+    rt: &impl Abort,
+    stream: &[u8],
+    size: usize,
+) -> (Vec<u8>, Result<(), FrameFault>)
+    requires { 0 < size }
+{
+    let mut reader = FrameReader::new(alloc);
+    let answer = feed_in(&mut reader, stream, size);
+    let bytes = given(alloc, rt, &mut reader);
+    drop(reader);
+    (bytes, answer)
+}

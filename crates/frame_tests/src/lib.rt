@@ -1,0 +1,9 @@
+//! Tests of frames: what streams are read as, however they are cut, and which faults stand in them.
+#![tactic(auto)]
+
+#[cfg(test)]
+mod faults;
+#[cfg(test)]
+mod hearing;
+#[cfg(test)]
+mod streams;

@@ -1,0 +1,16 @@
+pub mod Codec
+pub mod Words
+pub mod Ways
+pub mod Exact
+pub mod Whole
+pub mod Slices
+pub mod Steps
+pub mod LetterLaws
+pub mod PairLaws
+pub mod FormLaws
+pub mod SizeLaws
+pub mod ListLaws
+pub mod WayLaws
+pub mod ChoiceLaws
+pub mod NumberLaws
+pub mod ShortLaws
