@@ -1,6 +1,8 @@
--- What was written of the variant that a value is was written of the value.
-use Rattle.std.specs.Prelude.{◌≡◌, ℕ, List, Result, OnOk}
-use Rattle.tree_words.specs.Codec.{Codec, Writes}
+-- The number of a variant and its fields, one behind the other, are the value that they are of.
+use Rattle.std.proofs.Common.{◌≡◌, ℕ, List, [], ◌∷◌, ◌++◌, sym, ap, ◌∙◌, append_assoc}
+use Rattle.tree_words.specs.Codec.{Codec, Writes, IsVariant}
 
-pub on_variant : {A E : Type 0} (r : Result (Unit {0}) E) (codec : ℕ → Codec A) (value variant : A) (old new : List ℕ) → value ≡ variant → OnOk r (Writes codec variant old new) → OnOk r (Writes codec value old new)
-on_variant r codec value variant old new e w = rw e w
+pub wrote_variant : {A B : Type 0} (codec : ℕ → Codec A) (whole : A) (tag : ℕ) (inner : ℕ → Codec B) (fields : B) (old mid new : List ℕ) → IsVariant codec whole tag inner fields → mid ≡ old ++ (tag ∷ []) → Writes inner fields mid new → Writes codec whole old new
+wrote_variant codec whole tag inner fields old mid new is e w n f =
+    let v = is n f in
+    w n v.0 ∙ ap (λ bs. bs ++ (inner n).write fields) e ∙ append_assoc old (tag ∷ []) ((inner n).write fields) ∙ ap (λ bs. old ++ bs) (sym v.1)

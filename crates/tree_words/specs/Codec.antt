@@ -29,6 +29,6 @@ Reads (Err faults.OutOfMemory) after reading = Unit {0}
 abbrev pub Writes : {A : Type 0} → (ℕ → Codec A) → A → List ℕ → List ℕ → Type 0
 Writes codec a old new = (levels : ℕ) → (codec levels).Fits a → new ≡ old ++ (codec levels).write a
 
--- what was appended is this byte and then the value's spelling
-abbrev pub WritesBehind : {A : Type 0} → ℕ → (ℕ → Codec A) → A → List ℕ → List ℕ → Type 0
-WritesBehind tag codec a old new = (levels : ℕ) → (codec levels).Fits a → new ≡ old ++ (tag ∷ (codec levels).write a)
+-- where the whole value fits, its fields fit, and it is written as this byte and then the fields
+abbrev pub IsVariant : {A B : Type 0} → (ℕ → Codec A) → A → ℕ → (ℕ → Codec B) → B → Type 0
+IsVariant codec whole tag inner fields = (levels : ℕ) → (codec levels).Fits whole → (inner levels).Fits fields × ((codec levels).write whole ≡ tag ∷ (inner levels).write fields)

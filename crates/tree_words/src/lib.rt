@@ -18,5 +18,5 @@ pub use fields::{
 pub use lists::{Many32, write_many16, write_many32};
 pub use reader::Reader;
 pub use short::{Shape, short_bytes, write_short};
-pub use spelling::{ByteIf, ByteTest, Spelling};
+pub use spelling::{ByteIf, ByteTest, SomeBytes, Spelled, Spelling};
 pub use whole::{read_whole, write_whole};

@@ -6,7 +6,7 @@ ghost use Rattle.tree_words.specs.Words.{number16, number32, list, items_read, i
 ghost use Rattle.tree_words.specs.NumberLaws.{number16_exact, number32_exact};
 ghost use Rattle.tree_words.specs.ListLaws.{list_exact};
 
-use crate::{Fault, Reader, Spelling};
+use crate::{Fault, Reader, Spelled, Spelling};
 use memory::{List, OutOfMemory};
 use std::alloc::Global;
 use std::marker::PhantomData;
@@ -60,8 +60,7 @@ pub fn write_many32<T: Spelling>(items: &[T::Value], out: &mut Vec<u8>) -> Resul
 }
 
 /// A count of two bytes and the items.
-#[tactic(auto, unfolding(crate::specs::Words::list))]
-impl<T: Spelling> Spelling for List<T> {
+impl<T: Spelled> Spelled for List<T> {
     type Value = List<T::Value>;
 
     ghost codec = { λ n. list number16 (T.codec n) };
@@ -69,7 +68,10 @@ impl<T: Spelling> Spelling for List<T> {
     ghost Enough = { T.Enough };
 
     ghost exact = { λ n e. list_exact number16 (T.codec n) number16_exact (T.exact n e) };
+}
 
+#[tactic(auto, unfolding(crate::specs::Words::list))]
+impl<T: Spelling> Spelling for List<T> {
     fn read(alloc: Global, levels: u32, reader: &mut Reader) -> Result<List<T::Value>, Fault> {
         let count = <u16 as Spelling>::read(alloc, levels, reader)?;
         read_items::<T>(alloc, levels, count as u32, reader)
@@ -85,8 +87,7 @@ pub struct Many32<T> {
     item: PhantomData<T>,
 }
 
-#[tactic(auto, unfolding(crate::specs::Words::list))]
-impl<T: Spelling> Spelling for Many32<T> {
+impl<T: Spelled> Spelled for Many32<T> {
     type Value = List<T::Value>;
 
     ghost codec = { λ n. list number32 (T.codec n) };
@@ -94,7 +95,10 @@ impl<T: Spelling> Spelling for Many32<T> {
     ghost Enough = { T.Enough };
 
     ghost exact = { λ n e. list_exact number32 (T.codec n) number32_exact (T.exact n e) };
+}
 
+#[tactic(auto, unfolding(crate::specs::Words::list))]
+impl<T: Spelling> Spelling for Many32<T> {
     fn read(alloc: Global, levels: u32, reader: &mut Reader) -> Result<List<T::Value>, Fault> {
         let count = <u32 as Spelling>::read(alloc, levels, reader)?;
         read_items::<T>(alloc, levels, count, reader)

@@ -14,7 +14,7 @@ use std::marker::PhantomData;
 
 /// How values of a type are spelled as bytes. A spelling is a type of its own beside that of its
 /// values, so that it can be given for types of other crates, and more than one for a type.
-pub trait Spelling {
+pub trait Spelled {
     /// What is spelled.
     type Value: Drop;
 
@@ -22,25 +22,30 @@ pub trait Spelling {
 
     ghost Enough: { ℕ → Type 0 } = { λ _. Unit {0} };
 
-    /// The value that the bytes in front spell, with at most so many levels.
-    fn read(alloc: Global, levels: u32, reader: &mut Reader) -> Result<Self::Value, Fault>
-        ensures { Reads result reader.new ((codec levels).read reader.old) };
-
-    /// Appends the value's spelling.
-    fn write(value: &Self::Value, out: &mut Vec<u8>) -> Result<(), OutOfMemory>
-        ensures { OnOk result (Writes codec value.now out.old.items out.new.items) };
-
     ghost exact: { (levels : ℕ) → Enough levels → Exact (codec levels) };
 }
 
+/// A spelling whose values are read and written.
+pub trait Spelling: Spelled {
+    /// The value that the bytes in front spell, with at most so many levels.
+    fn read(alloc: Global, levels: u32, reader: &mut Reader) -> Result<Self::Value, Fault>
+        ensures { Reads result reader.new ((Self.codec levels).read reader.old) };
+
+    /// Appends the value's spelling.
+    fn write(value: &Self::Value, out: &mut Vec<u8>) -> Result<(), OutOfMemory>
+        ensures { OnOk result (Writes Self.codec value.now out.old.items out.new.items) };
+}
+
 /// A byte.
-impl Spelling for u8 {
+impl Spelled for u8 {
     type Value = u8;
 
     ghost codec = { λ _. byte };
 
     ghost exact = { λ _ _. byte_exact };
+}
 
+impl Spelling for u8 {
     fn read(_alloc: Global, _levels: u32, reader: &mut Reader) -> Result<u8, Fault> {
         reader.byte()
     }
@@ -51,19 +56,22 @@ impl Spelling for u8 {
     }
 }
 
-/// A test of bytes that some byte passes.
-pub trait ByteTest {
+/// Which bytes there are, of which one is an example.
+pub trait SomeBytes {
     ghost passes: { ℕ → Bool };
 
     ghost example: { ℕ };
 
-    /// Whether the byte passes.
-    fn passes(byte: u8) -> bool
-        ensures { result ≡ passes byte };
-
     ghost is_byte: { example < 256 };
 
     ghost is_passed: { passes example ≡ true };
+}
+
+/// A test of bytes.
+pub trait ByteTest: SomeBytes {
+    /// Whether the byte passes.
+    fn passes(byte: u8) -> bool
+        ensures { result ≡ Self.SomeBytes.passes byte };
 }
 
 /// A byte that passes a test.
@@ -71,13 +79,15 @@ pub struct ByteIf<T> {
     test: PhantomData<T>,
 }
 
-impl<T: ByteTest> Spelling for ByteIf<T> {
+impl<T: SomeBytes> Spelled for ByteIf<T> {
     type Value = u8;
 
     ghost codec = { λ _. byte_if T.passes };
 
     ghost exact = { λ _ _. byte_if_exact T.passes T.example T.is_byte T.is_passed };
+}
 
+impl<T: ByteTest> Spelling for ByteIf<T> {
     fn read(_alloc: Global, _levels: u32, reader: &mut Reader) -> Result<u8, Fault> {
         let left = reader.left();
         let byte = reader.byte()?;
@@ -94,14 +104,16 @@ impl<T: ByteTest> Spelling for ByteIf<T> {
 }
 
 /// 0 for false, 1 for true.
-#[tactic(auto, unfolding(crate::specs::Ways::flag))]
-impl Spelling for bool {
+impl Spelled for bool {
     type Value = bool;
 
     ghost codec = { λ _. flag };
 
     ghost exact = { λ _ _. flag_exact };
+}
 
+#[tactic(auto, unfolding(crate::specs::Ways::flag))]
+impl Spelling for bool {
     fn read(_alloc: Global, _levels: u32, reader: &mut Reader) -> Result<bool, Fault> {
         let left = reader.left();
         match reader.byte()? {
@@ -118,7 +130,7 @@ impl Spelling for bool {
 }
 
 /// One value and then the other.
-impl<A: Spelling, B: Spelling> Spelling for (A, B) {
+impl<A: Spelled, B: Spelled> Spelled for (A, B) {
     type Value = (A::Value, B::Value);
 
     ghost codec = { λ n. both (A.codec n) (B.codec n) };
@@ -126,7 +138,9 @@ impl<A: Spelling, B: Spelling> Spelling for (A, B) {
     ghost Enough = { λ n. A.Enough n × B.Enough n };
 
     ghost exact = { λ n e. both_exact (A.codec n) (B.codec n) (A.exact n e.0) (B.exact n e.1) };
+}
 
+impl<A: Spelling, B: Spelling> Spelling for (A, B) {
     fn read(
         alloc: Global,
         levels: u32,
@@ -144,8 +158,7 @@ impl<A: Spelling, B: Spelling> Spelling for (A, B) {
 }
 
 /// 0, or 1 and the value.
-#[tactic(auto, unfolding(crate::specs::Ways::option))]
-impl<T: Spelling> Spelling for Option<T> {
+impl<T: Spelled> Spelled for Option<T> {
     type Value = Option<T::Value>;
 
     ghost codec = { λ n. option (T.codec n) };
@@ -153,7 +166,10 @@ impl<T: Spelling> Spelling for Option<T> {
     ghost Enough = { T.Enough };
 
     ghost exact = { λ n e. option_exact (T.codec n) (T.exact n e) };
+}
 
+#[tactic(auto, unfolding(crate::specs::Ways::option))]
+impl<T: Spelling> Spelling for Option<T> {
     fn read(alloc: Global, levels: u32, reader: &mut Reader) -> Result<Option<T::Value>, Fault> {
         let left = reader.left();
         match reader.byte()? {
@@ -178,7 +194,7 @@ impl<T: Spelling> Spelling for Option<T> {
 }
 
 /// The value itself.
-impl<T: Spelling> Spelling for Boxed<T> {
+impl<T: Spelled> Spelled for Boxed<T> {
     type Value = Boxed<T::Value>;
 
     ghost codec = { λ n. T.codec n };
@@ -186,7 +202,9 @@ impl<T: Spelling> Spelling for Boxed<T> {
     ghost Enough = { T.Enough };
 
     ghost exact = { T.exact };
+}
 
+impl<T: Spelling> Spelling for Boxed<T> {
     fn read(alloc: Global, levels: u32, reader: &mut Reader) -> Result<Boxed<T::Value>, Fault> {
         let value = T::read(alloc, levels, reader)?;
         Ok(Boxed::new(alloc, value)?)

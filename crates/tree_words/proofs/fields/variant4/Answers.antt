@@ -1,0 +1,7 @@
+use Rattle.std.proofs.lemmas.Result.{on_ok_weaker}
+use Rattle.tree_words.specs.Words.{both}
+use Rattle.tree_words.proofs.Variants.{wrote_variant}
+use Rattle.tree_words.proofs.fields.variant4.Goals as goal
+
+pub returns : goal.returns
+returns g c = on_ok_weaker c.fields4.result (wrote_variant g.T.Spelled.codec c.args.whole.now c.args.tag (λ n. (both (g.A.Spelled.codec n) (both (g.B.Spelled.codec n) (both (g.C.Spelled.codec n) (g.D.Spelled.codec n))))) (c.args.a.now, (c.args.b.now, (c.args.c.now, c.args.d.now))) c.args.out.now.items c.push.new.self.items c.fields4.new.out.items c.requires c.in_ok-push.ensures.items) c.fields4.ensures
