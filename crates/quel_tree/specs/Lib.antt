@@ -1,3 +1,5 @@
+pub mod Copies
+pub mod CopyLaws
 pub mod NameLaws
 pub mod Names
 pub mod OperatorLaws

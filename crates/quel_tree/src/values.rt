@@ -13,7 +13,7 @@ use tree_words::{
 };
 
 /// The widths of texts, 1 to 255.
-struct Width;
+pub(crate) struct Width;
 
 impl SomeBytes for Width {
     ghost passes = { is_width };

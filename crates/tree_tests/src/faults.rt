@@ -46,6 +46,16 @@ fn wrong_variants(rt: HostRuntime) {
 }
 
 #[test]
+fn wrong_columns_of_files(rt: HostRuntime) {
+    let alloc = rt.alloc();
+    assert!(rt; fault_of::<CopyFormTree>(alloc, b"\x00\x03") == wrong(1));
+    assert!(rt; fault_of::<CopyFormTree>(alloc, b"\x01\x00") == wrong(1));
+    assert!(rt; fault_of::<CopyFormTree>(alloc, b"\x02;") == wrong(1));
+    assert!(rt; fault_of::<CopyFormTree>(alloc, b"\x03\x01") == wrong(2));
+    assert!(rt; fault_of::<CopyColTree>(alloc, b"\x07\x00\x08") == wrong(1));
+}
+
+#[test]
 fn wrong_structs(rt: HostRuntime) {
     let alloc = rt.alloc();
     assert!(rt; fault_of::<SortKeyTree>(alloc, b"\x00\x01\x02") == wrong(1));

@@ -38,6 +38,20 @@ fn enums(rt: HostRuntime) {
 }
 
 #[test]
+fn columns_of_files(rt: HostRuntime) {
+    let alloc = rt.alloc();
+    for size in [1, 2, 4u8] {
+        assert!(rt; is_spelling::<CopyFormTree>(alloc, &rt, &[0, size]));
+    }
+    for mark in [b'\t', b'\n', b' ', b',', b':'] {
+        assert!(rt; is_spelling::<CopyFormTree>(alloc, &rt, &[2, mark]));
+    }
+    assert!(rt; is_spelling::<CopyFormTree>(alloc, &rt, b"\x01\x01"));
+    assert!(rt; is_spelling::<CopyFormTree>(alloc, &rt, b"\x01\xff"));
+    assert!(rt; is_spelling::<CopyColTree>(alloc, &rt, b"\x07\x02,"));
+}
+
+#[test]
 fn structs(rt: HostRuntime) {
     let alloc = rt.alloc();
     assert!(rt; is_spelling::<RelKeyTree>(alloc, &rt, b"\x02me\x03emp"));
