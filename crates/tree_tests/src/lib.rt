@@ -7,3 +7,5 @@ mod faults;
 mod round;
 #[cfg(test)]
 mod spelled;
+#[cfg(test)]
+mod words;
