@@ -12,7 +12,7 @@ use Rattle.tree_words.specs.WayLaws.{tagged_exact, or_exact, last_exact}
 use Rattle.calculus.specs.declared.schema.Spec.TheVariants as forms
 use Rattle.quel_tree.specs.NameLaws.{name_exact}
 use Rattle.quel_tree.specs.ValueLaws.{kind_exact}
-use Rattle.quel_tree.specs.Relations.{attr, column, rel_info, rel_key, sort_key, spec}
+use Rattle.quel_tree.specs.Relations.{attr, column, columns, rel_info, rel_key, sort_key, spec}
 
 pub spec_exact : Exact spec
 unfolding spec
@@ -36,6 +36,10 @@ sort_key_exact = mapped_exact _ _ _ (λ p f. refl) (λ x f. refl) (both_exact _ 
 pub column_exact : Exact column
 unfolding column
 column_exact = mapped_exact _ _ _ (λ p f. refl) (λ x f. refl) (both_exact _ _ name_exact kind_exact)
+
+pub columns_exact : Exact columns
+unfolding columns
+columns_exact = list_exact number16 column number16_exact column_exact
 
 pub rel_info_exact : Exact rel_info
 unfolding rel_info

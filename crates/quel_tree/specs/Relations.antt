@@ -1,5 +1,5 @@
 -- What is told of relations, and the keys of an order, as bytes.
-use Rattle.std.specs.Prelude.{◌⊎◌}
+use Rattle.std.specs.Prelude.{◌⊎◌, List}
 use Rattle.std.proofs.Common.{inl, inr}
 use Rattle.tree_words.specs.Codec.{Codec}
 use Rattle.tree_words.specs.Words.{both, byte, list, mapped, nothing, number16}
@@ -50,6 +50,10 @@ sort_key = mapped (λ p. record { column = p.0; down = p.1 }) (λ k. (k.column, 
 -- a column: its title and its kind
 unfoldable pub column : Codec Column
 column = mapped (λ p. record { name = p.0; kind = p.1 }) (λ a. (a.name, a.kind)) (both name kind)
+
+-- the columns of a table: a count of two bytes, and the columns
+unfoldable pub columns : Codec (List Column)
+columns = list number16 column
 
 -- what is known of a relation: its key, what it is, its attributes, and the places of its key attributes, both with a count of two bytes
 unfoldable pub rel_info : Codec RelInfo

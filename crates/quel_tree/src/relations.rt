@@ -1,8 +1,8 @@
 //! What is told of relations, and the keys of an order, as bytes.
 
 ghost use Rattle.std.specs.Prelude.{◌≡◌};
-ghost use Rattle.quel_tree.specs.Relations.{attr, column, rel_info, rel_key, sort_key, spec};
-ghost use Rattle.quel_tree.specs.RelationLaws.{attr_exact, column_exact, rel_info_exact, rel_key_exact, sort_key_exact, spec_exact};
+ghost use Rattle.quel_tree.specs.Relations.{attr, column, columns, rel_info, rel_key, sort_key, spec};
+ghost use Rattle.quel_tree.specs.RelationLaws.{attr_exact, column_exact, columns_exact, rel_info_exact, rel_key_exact, sort_key_exact, spec_exact};
 
 use crate::{KindTree, NameTree};
 use calculus::{Attr, Column, RelInfo, RelKey, SortKey, Spec};
@@ -139,6 +139,28 @@ impl Spelling for ColumnTree {
 
     fn write(value: &Column, out: &mut Vec<u8>) -> Result<(), OutOfMemory> {
         fields2::<NameTree, KindTree>(&value.name, &value.kind, out)
+    }
+}
+
+/// The spelling of the columns of a table: a count of two bytes, and the columns.
+pub struct ColumnsTree;
+
+impl Spelled for ColumnsTree {
+    type Value = List<Column>;
+
+    ghost codec = { λ _. columns };
+
+    ghost exact = { λ _ _. columns_exact };
+}
+
+#[tactic(auto, unfolding(crate::specs::Relations::columns))]
+impl Spelling for ColumnsTree {
+    fn read(alloc: Global, levels: u32, reader: &mut Reader) -> Result<List<Column>, Fault> {
+        <List<ColumnTree> as Spelling>::read(alloc, levels, reader)
+    }
+
+    fn write(value: &List<Column>, out: &mut Vec<u8>) -> Result<(), OutOfMemory> {
+        <List<ColumnTree> as Spelling>::write(value, out)
     }
 }
 
