@@ -7,3 +7,4 @@ pub mod Fed
 pub mod Written
 pub mod Spelled
 pub mod Examples
+pub mod Joined

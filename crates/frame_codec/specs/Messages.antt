@@ -1,6 +1,7 @@
 -- Messages: which frames one is cut into, and its bytes.
-use Rattle.std.specs.Prelude.{ℕ, zero, suc, ◌/◌, ◌&&◌, Bool, nat_le, List, [], ◌∷◌, length, take, drop}
+use Rattle.std.specs.Prelude.{ℕ, zero, suc, ◌/◌, ◌&&◌, ◌==◌, Bool, true, false, nat_le, List, [], ◌∷◌, ◌++◌, Option, Some, None, length, take, drop}
 use Rattle.frame_codec.specs.declared.frame.Frame.{Frame}
+use Rattle.frame_codec.specs.declared.message.Message.{Message}
 use Rattle.frame_codec.specs.Frames.{frames_bytes}
 
 -- a frame
@@ -23,3 +24,24 @@ message_frames kind bytes = cut_into (length bytes / 4096) kind bytes
 -- the bytes of a message: those of its frames
 abbrev pub message_bytes : ℕ → List ℕ → List ℕ
 message_bytes kind bytes = frames_bytes (message_frames kind bytes)
+
+-- a message
+abbrev pub message : ℕ → List ℕ → Message
+message kind bytes = record { kind = kind; bytes = bytes }
+
+-- messages, and the bytes of one that isn't whole yet
+abbrev pub Joined : Type 0
+Joined = List Message × List ℕ
+
+-- the messages of frames, behind the bytes of one that isn't whole yet: a More frame's bytes belong to the message of the next frame that is none
+abbrev pub joined : List ℕ → List Frame → Joined
+joined begun [] = ([], begun)
+joined begun (f ∷ frames) = elim (f.kind == 11) [
+  | true ↦ joined (begun ++ f.payload) frames
+  | false ↦ (let later = joined [] frames in (message f.kind (begun ++ f.payload) ∷ later.0, later.1))
+]
+
+-- a list of the message, or of none
+abbrev pub listed : Option Message → List Message
+listed None = []
+listed (Some m) = m ∷ []

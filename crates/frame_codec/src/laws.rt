@@ -1,10 +1,10 @@
 //! What streams of frames mean. Each function here is a law with no body: its clauses speak of the
 //! definitions alone.
 
-ghost use Rattle.std.specs.Prelude.{◌≡◌, ℕ, ◌+◌, ◌≤◌, ◌++◌, true, List, None, [], length};
+ghost use Rattle.std.specs.Prelude.{◌≡◌, ℕ, ◌+◌, ◌≤◌, ◌++◌, ◌∷◌, true, List, None, [], length};
 ghost use Rattle.std.specs.List.{flat_map, list_all};
 ghost use Rattle.frame_codec.specs.Frames.{frames_bytes, is_lawful};
-ghost use Rattle.frame_codec.specs.Messages.{is_message_kind, message_bytes, message_frames};
+ghost use Rattle.frame_codec.specs.Messages.{is_message_kind, joined, message, message_bytes, message_frames};
 ghost use Rattle.frame_codec.specs.Reading.{Reading, behind_frames, read, read_on};
 ghost use Rattle.frame_codec.specs.declared.frame.Frame.{Frame};
 
@@ -33,4 +33,14 @@ pub fn messages_are_spelled_apart()
     ensures joined { (kind : ℕ) (bytes : List ℕ) → flat_map (λ frame. frame.payload) (message_frames kind bytes) ≡ bytes }
     ensures apart { (kind other : ℕ) (bytes others more : List ℕ) → is_message_kind kind ≡ true → is_message_kind other ≡ true
         → message_bytes kind bytes ++ more ≡ message_bytes other others → (kind ≡ other) × (bytes ≡ others) }
+{}
+
+/// The frames of a message, whatever frames follow them, are joined to this message and those that
+/// follow. However frames come, they are joined the same: first some, and then the others behind what
+/// is left of a message.
+pub fn messages_are_joined()
+    ensures cut { (kind : ℕ) (bytes : List ℕ) (frames : List Frame) → is_message_kind kind ≡ true
+        → joined [] (message_frames kind bytes ++ frames) ≡ (message kind bytes ∷ (joined [] frames).0, (joined [] frames).1) }
+    ensures later { (begun : List ℕ) (first others : List Frame)
+        → joined begun (first ++ others) ≡ ((joined begun first).0 ++ (joined (joined begun first).1 others).0, (joined (joined begun first).1 others).1) }
 {}

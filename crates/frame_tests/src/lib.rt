@@ -6,4 +6,6 @@ mod faults;
 #[cfg(test)]
 mod hearing;
 #[cfg(test)]
+mod messages;
+#[cfg(test)]
 mod streams;
