@@ -1,1 +1,4 @@
+pub mod ChangeLevels
+pub mod Levelled
+pub mod TreeLevels
 pub mod Written

@@ -2,6 +2,7 @@ pub mod ChangeLaws
 pub mod Changes
 pub mod Copies
 pub mod CopyLaws
+pub mod Levels
 pub mod Message
 pub mod MessageLaws
 pub mod NameLaws

@@ -3,6 +3,7 @@
 
 mod changes;
 mod copies;
+mod laws;
 mod names;
 mod operators;
 mod permits;
@@ -14,6 +15,7 @@ mod values;
 
 pub use changes::DbChangeTree;
 pub use copies::{CopyColTree, CopyFormTree};
+pub use laws::levels_are_those_of_the_tree;
 pub use names::{CharsTree, NameTree, TextTree};
 pub use operators::{AggOpTree, ArithOpTree, CmpOpTree, UpdateOpTree};
 pub use permits::{PermitTree, RuleTree};
