@@ -1,0 +1,15 @@
+pub mod Due
+pub mod Ends
+pub mod First
+pub mod Frames
+pub mod Front
+pub mod Keeps
+pub mod Lowering
+pub mod LoweringFirst
+pub mod Printing
+pub mod Progress
+pub mod Refines
+pub mod Runs
+pub mod Second
+pub mod Third
+pub mod Whole

@@ -1,0 +1,98 @@
+-- The functions that the equation is about, and what it uses of them.
+use Rattle.std.specs.Prelude.{◌≡◌, ℕ, Bool, true, false, List, [], ◌∷◌, ◌++◌, Some, ⊤}
+use Rattle.std.specs.declared.option.Option.{Option}
+use Rattle.network_meaning.specs.Sorts.{Sorts, Message, Table, Outcome, Meaning, Next, Event, Read, After, Kind}
+use Rattle.network_meaning.specs.Sorts.{Outcome.tables, Outcome.made, Outcome.refuses, Meaning.names, Meaning.objects, Meaning.runs, Next.no_more, Next.bad, Next.found, Event.goes_on, Event.sends, Event.leaves}
+
+pub record Language (S : Sorts) : Type 0 where
+  pub meaning : S.Db → S.Shelf → S.Ranges → S.Statement → Meaning S
+  pub lined : ℕ → S.Refusal → S.Refusal
+  pub next : S.Batch → Next S
+  pub start : S.Text → S.Batch
+  pub read : S.Monitor → S.Script → S.Shelf → Read S
+  pub kind : S.Tree → Kind
+  pub outcome : S.Tree → S.Db → S.Shelf → Outcome S
+  pub fits : S.Tree → S.Db → Bool
+  pub laid : S.Change → S.Db → S.Db
+  pub lawful : S.Change → S.Db → Bool
+  pub head_bytes : S.Head → List ℕ
+  pub row_bytes : S.Head → S.Row → List ℕ
+  pub rule_bytes : S.Head → List ℕ
+  pub row_fits : S.Head → S.Row → Bool
+  pub done_bytes : List ℕ
+  pub refusal_bytes : S.Refusal → List ℕ
+  pub frames : Message S → List S.Frame
+  pub is_more : S.Frame → Bool
+  pub whole : List S.Frame → Option (Message S)
+  pub batch_runs : S.Db → S.Shelf → S.Ranges → S.Batch → After S
+  pub script_bytes : S.Db → S.Shelf → S.Ranges → S.Monitor → S.Script → List ℕ
+
+-- the rows of a table, a line for each
+abbrev pub lines_of : {S : Sorts} → Language S → S.Head → List S.Row → List ℕ
+lines_of L h [] = []
+lines_of L h (r ∷ rs) = L.row_bytes h r ++ lines_of L h rs
+
+-- head and rule, a line per row, and the closing rule
+abbrev pub tables_bytes : {S : Sorts} → Language S → List (Table S) → List ℕ
+tables_bytes L [] = []
+tables_bytes L (t ∷ ts) = L.head_bytes t.top ++ (lines_of L t.top t.rows ++ (L.rule_bytes t.top ++ tables_bytes L ts))
+
+abbrev pub reply_bytes : {S : Sorts} → Language S → ℕ → Outcome S → List ℕ
+reply_bytes L line (tables ts) = tables_bytes L ts
+reply_bytes L line (made db shelf) = L.done_bytes
+reply_bytes L line (refuses r) = L.refusal_bytes (L.lined line r)
+
+abbrev pub db_after : {S : Sorts} → S.Db → Outcome S → S.Db
+db_after db (tables ts) = db
+db_after db (made db' shelf') = db'
+db_after db (refuses r) = db
+
+abbrev pub shelf_after : {S : Sorts} → S.Shelf → Outcome S → S.Shelf
+shelf_after shelf (tables ts) = shelf
+shelf_after shelf (made db' shelf') = shelf'
+shelf_after shelf (refuses r) = shelf
+
+abbrev pub after_bytes : {S : Sorts} → List ℕ → After S → After S
+after_bytes bytes a = record { db = a.db; shelf = a.shelf; ranges = a.ranges; bytes = bytes ++ a.bytes }
+
+-- the rest of a batch, after the meaning of its first statement
+abbrev pub after_meaning : {S : Sorts} → Language S → S.Db → S.Shelf → S.Ranges → ℕ → S.Batch → Meaning S → After S
+after_meaning L db shelf ranges line b (names ranges') = L.batch_runs db shelf ranges' b
+after_meaning L db shelf ranges line b (objects r) = after_bytes (L.refusal_bytes (L.lined line r)) (L.batch_runs db shelf ranges b)
+after_meaning L db shelf ranges line b (runs outcome) = after_bytes (reply_bytes L line outcome) (L.batch_runs (db_after db outcome) (shelf_after shelf outcome) ranges b)
+
+abbrev pub after_next : {S : Sorts} → Language S → S.Db → S.Shelf → S.Ranges → Next S → After S
+after_next L db shelf ranges no_more = record { db = db; shelf = shelf; ranges = ranges; bytes = [] }
+after_next L db shelf ranges (bad r) = record { db = db; shelf = shelf; ranges = ranges; bytes = L.refusal_bytes r }
+after_next L db shelf ranges (found s line b) = after_meaning L db shelf ranges line b (L.meaning db shelf ranges s)
+
+-- the output from where the monitor stands, after an event
+abbrev pub after_event : {S : Sorts} → Language S → S.Db → S.Ranges → Read S → Event S → List ℕ
+after_event L db ranges got goes_on = got.bytes ++ L.script_bytes db got.shelf ranges got.monitor got.script
+after_event L db ranges got (sends t) =
+    let a = L.batch_runs db got.shelf ranges (L.start t) in
+    got.bytes ++ (a.bytes ++ L.script_bytes a.db a.shelf a.ranges got.monitor got.script)
+after_event L db ranges got leaves = got.bytes
+
+abbrev pub AllMore : {S : Sorts} → Language S → List S.Frame → Type 0
+AllMore L [] = ⊤
+AllMore L (f ∷ fs) = (L.is_more f ≡ true) × AllMore L fs
+
+abbrev pub spell : {S : Sorts} → Language S → List (Message S) → List S.Frame
+spell L [] = []
+spell L (m ∷ ms) = L.frames m ++ spell L ms
+
+-- a message is some More frames and a last one
+pub record IsCut {S : Sorts} (L : Language S) (m : Message S) : Type 0 where
+  pub mores : List S.Frame
+  pub last : S.Frame
+  pub cut : L.frames m ≡ mores ++ last ∷ []
+  pub more : AllMore L mores
+  pub ends : L.is_more last ≡ false
+
+-- all that the equation uses
+pub record Laws {S : Sorts} (L : Language S) : Type 0 where
+  pub batch : (db : S.Db) (shelf : S.Shelf) (ranges : S.Ranges) (b : S.Batch) → L.batch_runs db shelf ranges b ≡ after_next L db shelf ranges (L.next b)
+  pub script : (db : S.Db) (shelf : S.Shelf) (ranges : S.Ranges) (m : S.Monitor) (script : S.Script) → L.script_bytes db shelf ranges m script ≡ (let got = L.read m script shelf in after_event L db ranges got got.event)
+  pub whole : (m : Message S) → L.whole (L.frames m) ≡ Some m
+  pub cut : (m : Message S) → IsCut L m

@@ -1,0 +1,13 @@
+pub mod Calls
+pub mod Due
+pub mod Going
+pub mod Held
+pub mod Language
+pub mod LocalSteps
+pub mod MessageNetwork
+pub mod Network
+pub mod Orderly
+pub mod Sorts
+pub mod Tiny
+pub mod WorkLeft
+pub mod TinyLaws

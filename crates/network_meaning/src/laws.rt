@@ -1,0 +1,38 @@
+//! What holds of every network of four stages, whatever language they speak. Each function here is a
+//! law with no body: its clauses speak of the definitions alone.
+
+ghost use Rattle.std.specs.Prelude.{◌≡◌, ◌<◌, ◌≤◌, ◌⊎◌, ◌++◌, ℕ, false, List};
+ghost use Rattle.network_meaning.specs.Calls.{KeepsAll, RunsTurns, Seen};
+ghost use Rattle.network_meaning.specs.Going.{AllEnded, SomeGoes};
+ghost use Rattle.network_meaning.specs.LocalSteps.{Room};
+ghost use Rattle.network_meaning.specs.MessageNetwork.{StageNumber};
+ghost use Rattle.network_meaning.specs.Network.{Network, NetworkStep, Orderly, StepsUnlessBlocked, bytes_in_all, start};
+ghost use Rattle.network_meaning.specs.Sorts.{Sorts};
+ghost use Rattle.network_meaning.specs.WorkLeft.{Work, WorkLaws, work_left};
+
+use crate::Spoken;
+
+/// The equation: the bytes that were written, those of what is on its way to stage 1, and those of the
+/// rest of the session are the same before and after each step of an orderly network, which stays so;
+/// and so they are over any list of steps.
+pub fn each_step_keeps_the_bytes<T: Spoken>()
+    ensures step { (capacity : ℕ) (k : StageNumber) (n new : Network T.sorts) → Orderly T.language n → NetworkStep T.language capacity k n new
+        → Orderly T.language new × (bytes_in_all T.language new ≡ bytes_in_all T.language n) }
+    ensures turns { (capacity : ℕ) (turns : List ℕ) (old new : Seen T.sorts) → RunsTurns T.language capacity turns old new → KeepsAll T.language old new }
+{}
+
+/// In an orderly network some stage isn't blocked, unless all four have ended; and each step that isn't
+/// blocked lowers the work that is left.
+pub fn some_stage_goes_on<T: Spoken>()
+    ensures goes { (capacity : ℕ) (n : Network T.sorts) → 1 ≤ capacity → Orderly T.language n → SomeGoes capacity n ⊎ AllEnded n }
+    ensures lowers { (W : Work T.language) → WorkLaws T.language W → (k : StageNumber) (n new : Network T.sorts) → Orderly T.language n → StepsUnlessBlocked T.language k n new false
+        → work_left T.language W new < work_left T.language W n }
+{}
+
+/// At the start the network is orderly, and its bytes in all are what was written and the output of the
+/// session. Where all four stages have ended, the bytes that were written are all.
+pub fn bytes_are_whole_at_the_end<T: Spoken>()
+    ensures start { (m : T.sorts.Monitor) (ranges : T.sorts.Ranges) (room : Room T.sorts) → Orderly T.language (start m ranges room)
+        × (bytes_in_all T.language (start m ranges room) ≡ room.out ++ T.language.script_bytes room.db room.shelf ranges m room.script) }
+    ensures end { (n : Network T.sorts) → Orderly T.language n → AllEnded n → bytes_in_all T.language n ≡ n.room.out }
+{}
