@@ -13,3 +13,4 @@ pub mod Runs
 pub mod Second
 pub mod Third
 pub mod Whole
+pub mod Turn

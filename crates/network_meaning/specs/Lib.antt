@@ -11,3 +11,4 @@ pub mod Sorts
 pub mod Tiny
 pub mod WorkLeft
 pub mod TinyLaws
+pub mod Turn

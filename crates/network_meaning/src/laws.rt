@@ -1,13 +1,14 @@
 //! What holds of every network of four stages, whatever language they speak. Each function here is a
 //! law with no body: its clauses speak of the definitions alone.
 
-ghost use Rattle.std.specs.Prelude.{◌≡◌, ◌<◌, ◌≤◌, ◌⊎◌, ◌++◌, ℕ, false, List};
+ghost use Rattle.std.specs.Prelude.{◌≡◌, ◌<◌, ◌≤◌, ◌⊎◌, ◌++◌, ℕ, true, false, List};
 ghost use Rattle.network_meaning.specs.Calls.{KeepsAll, RunsTurns, Seen};
 ghost use Rattle.network_meaning.specs.Going.{AllEnded, SomeGoes};
-ghost use Rattle.network_meaning.specs.LocalSteps.{Room};
+ghost use Rattle.network_meaning.specs.LocalSteps.{Act, Mode, Room, Works};
 ghost use Rattle.network_meaning.specs.MessageNetwork.{StageNumber};
-ghost use Rattle.network_meaning.specs.Network.{Network, NetworkStep, Orderly, StepsUnlessBlocked, bytes_in_all, start};
+ghost use Rattle.network_meaning.specs.Network.{Network, NetworkStep, as_messages, Orderly, StepsUnlessBlocked, bytes_in_all, start};
 ghost use Rattle.network_meaning.specs.Sorts.{Sorts};
+ghost use Rattle.network_meaning.specs.Turn.{has_turn, turns};
 ghost use Rattle.network_meaning.specs.WorkLeft.{Work, WorkLaws, work_left};
 
 use crate::Spoken;
@@ -35,4 +36,12 @@ pub fn bytes_are_whole_at_the_end<T: Spoken>()
     ensures start { (m : T.sorts.Monitor) (ranges : T.sorts.Ranges) (room : Room T.sorts) → Orderly T.language (start m ranges room)
         × (bytes_in_all T.language (start m ranges room) ≡ room.out ++ T.language.script_bytes room.db room.shelf ranges m room.script) }
     ensures end { (n : Network T.sorts) → Orderly T.language n → AllEnded n → bytes_in_all T.language n ≡ n.room.out }
+{}
+
+/// In an orderly network the turn is in one place: at one stage, or in one message on its way. A stage
+/// that works without it leaves the database and the shelf as they are.
+pub fn the_turn_is_in_one_place<T: Spoken>()
+    ensures one { (n : Network T.sorts) → Orderly T.language n → turns (as_messages T.language n) ≡ 1 }
+    ensures holder { (k : StageNumber) (mode : Mode T.sorts) (room new : Room T.sorts) (act : Act T.sorts) → Works T.language mode room act new
+        → (has_turn k mode ≡ true) ⊎ ((new.db ≡ room.db) × (new.shelf ≡ room.shelf)) }
 {}

@@ -4,5 +4,8 @@
 mod laws;
 mod spoken;
 
-pub use laws::{bytes_are_whole_at_the_end, each_step_keeps_the_bytes, some_stage_goes_on};
+pub use laws::{
+    bytes_are_whole_at_the_end, each_step_keeps_the_bytes, some_stage_goes_on,
+    the_turn_is_in_one_place,
+};
 pub use spoken::{Spoken, Tiny};
