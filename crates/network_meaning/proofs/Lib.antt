@@ -11,5 +11,6 @@ pub mod Progress
 pub mod Refines
 pub mod Runs
 pub mod Second
+pub mod Statements
 pub mod Third
 pub mod Whole
