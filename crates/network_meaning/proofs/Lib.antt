@@ -12,5 +12,6 @@ pub mod Refines
 pub mod Runs
 pub mod Second
 pub mod Statements
+pub mod StatementsFirst
 pub mod Third
 pub mod Whole

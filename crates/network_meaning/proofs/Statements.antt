@@ -36,6 +36,10 @@ reply_more : {S : Sorts} (L : Language S) (w : Front S) (r : Reply S) (bytes : L
     printed L (begun (front_mode w.monitor w.open_head w.prints)) (kept (front_mode w.monitor w.open_head w.prints) ++ map said w.coming) ++ bytes
 reply_more L w r bytes e = held_more L (begun (front_mode w.monitor w.open_head w.prints)) (kept (front_mode w.monitor w.open_head w.prints)) (map said w.coming) (said (replied r) ∷ []) bytes (opens_reply L r []) e
 
+-- no statement is finished
+pub none : {S : Sorts} (L : Language S) (old new : MessageNetwork S) → statements_left L old ≡ statements_left L new → new.room.db ≡ old.room.db → Finishes L old new
+none L old new left database = inl (record { left = left; database = database })
+
 -- the statement with this reply is finished
 one : {S : Sorts} (L : Language S) (old new : MessageNetwork S) (reply : List ℕ) → statements_left L old ≡ record { reply = reply; db = new.room.db; later = rest L new } ∷ statements_left L new →
     printed L (begun new.one) (held L new) ≡ printed L (begun old.one) (held L old) ++ reply → new.room.out ≡ old.room.out → Finishes L old new
@@ -55,7 +59,7 @@ judges L w old b line room v' (objects r) act room' s' e es j e2 e3 e4 =
     ran_by L second _ (says (parsing w.ranges b) (said (replied (refused (L.lined line r))) ∷ [])) act [] [] room room' s' v' j e2 e3 e4
     (one L _ _ (L.refusal_bytes (L.lined line r)) (rw (e, es) refl) (simp append-nil (reply_more L w (refused (L.lined line r)) _ (append-nil _))) refl)
 judges L w old b line room v' (runs outcome) act room' s' e es (t, fits, e1, j) e2 e3 e4 =
-    ran_by L second _ (hands (passing2 w.ranges line b) (cargo (tree t))) act [] [] room room' s' v' j e2 e3 e4 (inl (record { left = rw (e, es, e1) refl; database = refl }))
+    ran_by L second _ (hands (passing2 w.ranges line b) (cargo (tree t))) act [] [] room room' s' v' j e2 e3 e4 (none L _ _ (rw (e, es, e1) refl) refl)
 
 parses : {S : Sorts} (L : Language S) (w : Front S) (old : S.Batch) (room : Room S) (v' : MessageNetwork S) (next : Next S) (act : Act S) (room' : Room S) (s' : Beside S) →
     L.batch_runs room.db room.shelf w.ranges old ≡ after_next L room.db room.shelf w.ranges next →
@@ -64,19 +68,19 @@ parses : {S : Sorts} (L : Language S) (w : Front S) (old : S.Batch) (room : Room
     s' ≡ acted (beside (spread (away w (at_two old)) room) second) act [] [] room' → v' ≡ put (spread (away w (at_two old)) room) second s' →
     Finishes L (spread (away w (at_two old)) room) v'
 parses L w old room v' no_more act room' s' e es j e2 e3 e4 =
-    ran_by L second _ (says (idle2 w.ranges) (end ∷ [])) act [] [] room room' s' v' j e2 e3 e4 (inl (record { left = rw (e, es) refl; database = refl }))
+    ran_by L second _ (says (idle2 w.ranges) (end ∷ [])) act [] [] room room' s' v' j e2 e3 e4 (none L _ _ (rw (e, es) refl) refl)
 parses L w old room v' (bad r) act room' s' e es j e2 e3 e4 =
-    ran_by L second _ (says (idle2 w.ranges) (said (replied (refused r)) ∷ end ∷ [])) act [] [] room room' s' v' j e2 e3 e4 (inl (record { left = rw (e, es) refl; database = refl }))
+    ran_by L second _ (says (idle2 w.ranges) (said (replied (refused r)) ∷ end ∷ [])) act [] [] room room' s' v' j e2 e3 e4 (none L _ _ (rw (e, es) refl) refl)
 parses L w old room v' (found s line b) act room' s' e es j e2 e3 e4 =
     judges L w old b line room v' (L.meaning room.db room.shelf w.ranges s) act room' s' e es j e2 e3 e4
 
 passes : {S : Sorts} (L : Language S) (w : Front S) (line : ℕ) (b : S.Batch) (ss : List (Shown S)) (room : Room S) (v' : MessageNetwork S) →
     MessageStep L second (spread (away w (in_e_tables line b ss)) room) v' → Finishes L (spread (away w (in_e_tables line b ss)) room) v'
 passes L w line b [] room v' (s', (act, e1, e2), e3) =
-    took L second _ (turns_to (parsing w.ranges b)) act [] [] room s' v' e1 e2 e3 (inl (record { left = refl; database = refl }))
+    took L second _ (turns_to (parsing w.ranges b)) act [] [] room s' v' e1 e2 e3 (none L _ _ refl refl)
 passes {S} L w line b (s ∷ ss) room v' (s', (act, e1, e2), e3) =
     took L second _ (says (passing2 w.ranges line b) (said (shown s) ∷ [])) act [] (map (λ (s : Shown S). said (shown s)) ss ++ end ∷ []) room s' v' e1 e2 e3
-    (inl (record { left = refl; database = refl }))
+    (none L _ _ refl refl)
 
 pub second_finishes : {S : Sorts} (L : Language S) (laws : Laws L) (w : Front S) (p : Place S) (room : Room S) (v' : MessageNetwork S) →
     MessageStep L second (spread (away w p) room) v' → Finishes L (spread (away w p) room) v'
@@ -89,7 +93,7 @@ second_finishes L laws w (at_four line b x) room v' (s', h, e3) = absurd h
 second_finishes L laws w (in_d line b r) room v' (s', h, e3) = absurd h
 second_finishes L laws w (in_e_tables line b ss) room v' h = passes L w line b ss room v' h
 second_finishes L laws w (in_e_reply line b r) room v' (s', (act, e1, e2), e3) =
-    took L second _ (says (parsing w.ranges b) (said (replied (set_line L line r)) ∷ [])) act [] [] room s' v' e1 e2 e3 (inl (record { left = refl; database = refl }))
+    took L second _ (says (parsing w.ranges b) (said (replied (set_line L line r)) ∷ [])) act [] [] room s' v' e1 e2 e3 (none L _ _ refl refl)
 second_finishes L laws w in_f room v' (s', h, e3) = absurd h
 
 processes : {S : Sorts} (L : Language S) (w : Front S) (line : ℕ) (b : S.Batch) (t : S.Tree) (room : Room S) (v' : MessageNetwork S) (kind : Kind) (outcome : Outcome S) (act : Act S) (room' : Room S) (s' : Beside S) →
@@ -112,21 +116,21 @@ processes L w line b t room v' update (refuses r) act room' s' e j e2 e3 e4 =
     ran_by L third _ (says idle3 (said (replied (refused r)) ∷ [])) act [] [] room room' s' v' j e2 e3 e4
     (one L _ _ (L.refusal_bytes (L.lined line r)) (rw e refl) (simp append-nil (reply_more L w (refused (L.lined line r)) _ (append-nil _))) refl)
 processes L w line b t room v' update (made db shelf) act room' s' e (c, lawful, laid, same_shelf, j) e2 e3 e4 =
-    ran_by L third _ (hands passing3 (cargo (change c))) act [] [] room room' s' v' j e2 e3 e4 (inl (record { left = rw (e, laid, same_shelf) refl; database = refl }))
+    ran_by L third _ (hands passing3 (cargo (change c))) act [] [] room room' s' v' j e2 e3 e4 (none L _ _ (rw (e, laid, same_shelf) refl) refl)
 processes L w line b t room v' utility outcome act room' s' e j e2 e3 e4 =
-    ran_by L third _ (hands passing3 (cargo (tree t))) act [] [] room room' s' v' j e2 e3 e4 (inl (record { left = refl; database = refl }))
+    ran_by L third _ (hands passing3 (cargo (tree t))) act [] [] room room' s' v' j e2 e3 e4 (none L _ _ refl refl)
 
 pub third_finishes : {S : Sorts} (L : Language S) (w : Front S) (p : Place S) (room : Room S) (v' : MessageNetwork S) →
     MessageStep L third (spread (away w p) room) v' → Finishes L (spread (away w p) room) v'
 third_finishes L w (at_two b) room v' (s', h, e3) = absurd h
 third_finishes L w (in_b line b t) room v' (s', (act, e1, e2), e3) =
-    took L third _ (turns_to (working3 t)) act [] [] room s' v' e1 e2 e3 (inl (record { left = refl; database = refl }))
+    took L third _ (turns_to (working3 t)) act [] [] room s' v' e1 e2 e3 (none L _ _ refl refl)
 third_finishes L w (at_three line b t) room v' (s', (act, room', (e1, e2), e3), e4) =
     processes L w line b t room v' (L.kind t) (L.outcome t room.db room.shelf) act room' s' refl e1 e2 e3 e4
 third_finishes L w (in_c line b x) room v' (s', h, e3) = absurd h
 third_finishes L w (at_four line b x) room v' (s', h, e3) = absurd h
 third_finishes L w (in_d line b r) room v' (s', (act, e1, e2), e3) =
-    took L third _ (says idle3 (said (replied r) ∷ [])) act [] [] room s' v' e1 e2 e3 (inl (record { left = refl; database = refl }))
+    took L third _ (says idle3 (said (replied r) ∷ [])) act [] [] room s' v' e1 e2 e3 (none L _ _ refl refl)
 third_finishes L w (in_e_tables line b ss) room v' (s', h, e3) = absurd h
 third_finishes L w (in_e_reply line b r) room v' (s', h, e3) = absurd h
 third_finishes L w in_f room v' (s', h, e3) = absurd h
@@ -149,7 +153,7 @@ fourth_finishes L w (at_two b) room v' (s', h, e3) = absurd h
 fourth_finishes L w (in_b line b t) room v' (s', h, e3) = absurd h
 fourth_finishes L w (at_three line b t) room v' (s', h, e3) = absurd h
 fourth_finishes L w (in_c line b x) room v' (s', (act, e1, e2), e3) =
-    took L fourth _ (turns_to (working4 x)) act [] [] room s' v' e1 e2 e3 (inl (record { left = refl; database = refl }))
+    took L fourth _ (turns_to (working4 x)) act [] [] room s' v' e1 e2 e3 (none L _ _ refl refl)
 fourth_finishes L w (at_four line b x) room v' (s', (act, room', e1, e3), e4) =
     carries_out L w line b x room v' (outcome_of L x room.db room.shelf) act room' s' refl e1 e3 e4
 fourth_finishes L w (in_d line b r) room v' (s', h, e3) = absurd h
