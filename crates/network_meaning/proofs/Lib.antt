@@ -13,5 +13,6 @@ pub mod Runs
 pub mod Second
 pub mod Statements
 pub mod StatementsFirst
+pub mod StatementsWhole
 pub mod Third
 pub mod Whole
