@@ -11,8 +11,10 @@ pub mod Progress
 pub mod Refines
 pub mod Runs
 pub mod Second
-pub mod Statements
+pub mod StatementsStages
 pub mod StatementsFirst
+pub mod StatementsPlaces
+pub mod StatementsRuns
 pub mod StatementsWhole
 pub mod Third
 pub mod Whole

@@ -10,7 +10,7 @@ use Rattle.network_meaning.specs.Orderly.{Phase, Place, spread, last_in_f, Phase
 use Rattle.network_meaning.specs.Orderly.{Place.at_two, Place.in_b, Place.at_three, Place.in_c, Place.at_four, Place.in_d, Place.in_e_tables, Place.in_e_reply, Place.in_f}
 use Rattle.network_meaning.proofs.Keeps.{due}
 use Rattle.network_meaning.proofs.Front.{at}
-use Rattle.network_meaning.proofs.Statements.{took, ran_by, none, second_finishes, third_finishes, fourth_finishes}
+use Rattle.network_meaning.proofs.StatementsStages.{took, ran_by, none, second_finishes, third_finishes, fourth_finishes}
 
 end_finishes : {S : Sorts} (L : Language S) (m : S.Monitor) (o : Option S.Head) (ranges : S.Ranges) (p : Place S) (room : Room S) (v' : MessageNetwork S) →
     MessageStep L first (spread (at m o None [] ranges p) room) v' → Finishes L (spread (at m o None [] ranges p) room) v'

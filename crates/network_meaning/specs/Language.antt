@@ -82,6 +82,11 @@ abbrev pub followed_by : {S : Sorts} → List ℕ → List (Finished S) → List
 followed_by bytes [] = []
 followed_by bytes (f ∷ fs) = record { reply = f.reply; db = f.db; later = f.later ++ bytes } ∷ followed_by bytes fs
 
+-- the replies of these statements stand in these bytes, one behind the other, and behind each stands what it says
+abbrev pub Stand : {S : Sorts} → List ℕ → List (Finished S) → Type 0
+Stand bytes [] = ⊤
+Stand bytes (f ∷ fs) = (ahead : List ℕ) × (bytes ≡ ahead ++ (f.reply ++ f.later)) × Stand f.later fs
+
 -- the statements of the rest of a batch, after the meaning of its first: this one has run, and then come the others.
 -- One that settles names has no reply, and leaves the database as it was, as a refused one does
 abbrev pub statements_after_meaning : {S : Sorts} → Language S → S.Db → S.Shelf → S.Ranges → ℕ → S.Batch → Meaning S → List (Finished S)
@@ -129,5 +134,7 @@ pub record Laws {S : Sorts} (L : Language S) : Type 0 where
   pub script : (db : S.Db) (shelf : S.Shelf) (ranges : S.Ranges) (m : S.Monitor) (script : S.Script) → L.script_bytes db shelf ranges m script ≡ (let got = L.read m script shelf in after_event L db ranges got got.event)
   pub batch_list : (db : S.Db) (shelf : S.Shelf) (ranges : S.Ranges) (b : S.Batch) → L.batch_statements db shelf ranges b ≡ statements_after_next L db shelf ranges (L.next b)
   pub script_list : (db : S.Db) (shelf : S.Shelf) (ranges : S.Ranges) (m : S.Monitor) (script : S.Script) → L.script_statements db shelf ranges m script ≡ (let got = L.read m script shelf in statements_after_event L db ranges got got.event)
+  pub batch_places : (db : S.Db) (shelf : S.Shelf) (ranges : S.Ranges) (b : S.Batch) → Stand (L.batch_runs db shelf ranges b).bytes (L.batch_statements db shelf ranges b)
+  pub script_places : (db : S.Db) (shelf : S.Shelf) (ranges : S.Ranges) (m : S.Monitor) (script : S.Script) → Stand (L.script_bytes db shelf ranges m script) (L.script_statements db shelf ranges m script)
   pub whole : (m : Message S) → L.whole (L.frames m) ≡ Some m
   pub cut : (m : Message S) → IsCut L m

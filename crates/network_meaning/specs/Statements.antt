@@ -4,8 +4,10 @@ use Rattle.std.specs.declared.option.Option.{Option}
 use Rattle.network_meaning.specs.Sorts.{Sorts, Message, Finished}
 use Rattle.network_meaning.specs.Sorts.{Message.text, Message.cargo, Message.said, Message.end, Message.quit}
 use Rattle.network_meaning.specs.Language.{Language, reply_bytes, db_after, shelf_after, followed_by}
-use Rattle.network_meaning.specs.LocalSteps.{outcome_of}
+use Rattle.network_meaning.specs.LocalSteps.{outcome_of, Room}
 use Rattle.network_meaning.specs.MessageNetwork.{MessageNetwork}
+use Rattle.network_meaning.specs.Network.{as_messages, Orderly}
+use Rattle.network_meaning.specs.Calls.{join, Seen}
 use Rattle.network_meaning.specs.Held.{printed, held, begun, line_at, travels, batches, ranges_at, monitor_at, batch_rest, cargo_rest, rest}
 
 abbrev pub script_left : {S : Sorts} → Language S → S.Db → S.Shelf → S.Ranges → Option S.Monitor → S.Script → List (Finished S)
@@ -53,5 +55,26 @@ pub record FinishesOne {S : Sorts} (L : Language S) (old new : MessageNetwork S)
   pub unwritten : new.room.out ≡ old.room.out
   pub later : rest L new ≡ finished.later
 
+-- a step finishes one statement at most
 abbrev pub Finishes : {S : Sorts} → Language S → MessageNetwork S → MessageNetwork S → Type 0
 Finishes L old new = FinishesNone L old new ⊎ FinishesOne L old new
+
+-- the database behind these statements, where it was this one before them
+abbrev pub db_behind : {S : Sorts} → S.Db → List (Finished S) → S.Db
+db_behind db [] = db
+db_behind db (f ∷ fs) = db_behind f.db fs
+
+-- steps that finish these statements, the first of those that are left, in order: the database behind them is the present one
+pub record FinishesFront {S : Sorts} (L : Language S) (old new : MessageNetwork S) : Type 0 where
+  pub finished : List (Finished S)
+  pub left : statements_left L old ≡ finished ++ statements_left L new
+  pub database : new.room.db ≡ db_behind old.room.db finished
+
+pub record FinishedNow {S : Sorts} (L : Language S) (r : Room S) (old new : Seen S) : Type 0 where
+  pub room : Room S
+  pub told : new.told ≡ Some room
+  pub front : FinishesFront L (as_messages L (join old.shape r)) (as_messages L (join new.shape room))
+
+-- from an orderly network with a room that is told: it is told again, and a front of the statements was finished
+abbrev pub FinishesInOrder : {S : Sorts} → Language S → Seen S → Seen S → Type 0
+FinishesInOrder {S} L old new = (r : Room S) → old.told ≡ Some r → Orderly L (join old.shape r) → FinishedNow L r old new

@@ -3,6 +3,8 @@
 
 mod laws;
 mod spoken;
+mod statements;
 
 pub use laws::{bytes_are_whole_at_the_end, each_step_keeps_the_bytes, some_stage_goes_on};
 pub use spoken::{Spoken, Tiny};
+pub use statements::statements_are_finished_in_order;
