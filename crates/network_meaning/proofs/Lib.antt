@@ -12,6 +12,7 @@ pub mod Refines
 pub mod Runs
 pub mod Second
 pub mod StatementsStages
+pub mod StatementsExample
 pub mod StatementsFirst
 pub mod StatementsPlaces
 pub mod StatementsRuns

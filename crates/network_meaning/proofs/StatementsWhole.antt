@@ -16,13 +16,10 @@ use Rattle.network_meaning.proofs.StatementsFirst.{step_finishes}
 -- a step of frames is one of messages or changes none
 finishes_by : {S : Sorts} (L : Language S) (laws : Laws L) (k : StageNumber) (n n' : Network S) (o : Orderly L n) → Next L k (spread o.phase n.room) n n' → Finishes L (as_messages L n) (as_messages L n')
 finishes_by {S} L laws k n n' o next =
-    rw (shown_view L laws n (spread o.phase n.room) o.shows, shown_view L laws n' next.now next.shows) (go next)
-  where
-    go : (next : Next L k (spread o.phase n.room) n n') → Finishes L (spread o.phase n.room) next.now
-    go next = elim next.step [
+    rw (shown_view L laws n (spread o.phase n.room) o.shows, shown_view L laws n' next.now next.shows) (elim next.step [
       | inl (e, fewer) ↦ rw e (none L _ _ refl refl)
       | inr (st, fewer) ↦ step_finishes L laws o.phase n.room k next.now st
-    ]
+    ])
 
 finishes_or : {S : Sorts} (L : Language S) (laws : Laws L) (k : StageNumber) (n n' : Network S) (blocked : Bool) → Orderly L n → StepsUnlessBlocked L k n n' blocked → Finishes L (as_messages L n) (as_messages L n')
 finishes_or L laws k n n' true o e = rw e (none L _ _ refl refl)
