@@ -1,7 +1,6 @@
 -- The statements of a script of the small language, worked out by hand.
-use Rattle.std.proofs.Common.{◌≡◌, List, [], ◌∷◌, refl}
-use Rattle.network_meaning.specs.Sorts.{Finished}
-use Rattle.network_meaning.specs.Tiny.{tiny_sorts, tiny_list, One.one}
+use Rattle.std.proofs.Common.{◌≡◌, [], ◌∷◌, refl}
+use Rattle.network_meaning.specs.Tiny.{tiny_list, One.one}
 
 -- 5 is added and acknowledged, 0 is refused, and 200 asks for all that is there
 three_statements : tiny_list [] one one one (5 ∷ 0 ∷ 200 ∷ []) ≡ (

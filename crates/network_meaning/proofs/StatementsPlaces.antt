@@ -1,5 +1,5 @@
 -- The replies of the statements that are left stand in the rest.
-use Rattle.std.proofs.Common.{◌≡◌, ℕ, List, [], ◌∷◌, ◌++◌, Some, None, refl, append_assoc}
+use Rattle.std.proofs.Common.{ℕ, List, [], ◌∷◌, ◌++◌, Some, None, refl, append_assoc}
 use Rattle.std.specs.declared.option.Option.{Option}
 use Rattle.network_meaning.specs.Sorts.{Sorts, Message, Finished}
 use Rattle.network_meaning.specs.Sorts.{Message.text, Message.cargo, Message.said, Message.end, Message.quit}

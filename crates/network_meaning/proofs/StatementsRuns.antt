@@ -5,9 +5,9 @@ use Rattle.network_meaning.specs.Sorts.{Sorts}
 use Rattle.network_meaning.specs.Language.{Language, Laws}
 use Rattle.network_meaning.specs.LocalSteps.{Room}
 use Rattle.network_meaning.specs.MessageNetwork.{StageNumber}
-use Rattle.network_meaning.specs.Network.{Orderly, NetworkStep, StepsUnlessBlocked, as_messages}
+use Rattle.network_meaning.specs.Network.{Orderly, NetworkStep, StepsUnlessBlocked}
 use Rattle.network_meaning.specs.Calls.{Tells, TellsAfter, join, Seen, Moves, stage_number, RunsTurns}
-use Rattle.network_meaning.specs.Statements.{FinishesFront, FinishedNow, FinishesInOrder}
+use Rattle.network_meaning.specs.Statements.{FinishedNow, FinishesInOrder}
 use Rattle.network_meaning.proofs.Whole.{Kept, equation}
 use Rattle.network_meaning.proofs.StatementsWhole.{finishes, front_of, fronts}
 

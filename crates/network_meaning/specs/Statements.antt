@@ -2,7 +2,7 @@
 use Rattle.std.specs.Prelude.{◌≡◌, ◌⊎◌, ℕ, List, [], ◌∷◌, ◌++◌, Some, None}
 use Rattle.std.specs.declared.option.Option.{Option}
 use Rattle.network_meaning.specs.Sorts.{Sorts, Message, Finished}
-use Rattle.network_meaning.specs.Sorts.{Message.text, Message.cargo, Message.said, Message.end, Message.quit}
+use Rattle.network_meaning.specs.Sorts.{Message.cargo}
 use Rattle.network_meaning.specs.Language.{Language, reply_bytes, db_after, shelf_after, followed_by}
 use Rattle.network_meaning.specs.LocalSteps.{outcome_of, Room}
 use Rattle.network_meaning.specs.MessageNetwork.{MessageNetwork}
