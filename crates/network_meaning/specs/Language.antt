@@ -26,7 +26,7 @@ pub record Language (S : Sorts) : Type 0 where
   pub whole : List S.Frame → Option (Message S)
   pub batch_runs : S.Db → S.Shelf → S.Ranges → S.Batch → After S
   pub script_bytes : S.Db → S.Shelf → S.Ranges → S.Monitor → S.Script → List ℕ
-  -- the statements that run, in order: each that `next` finds, also where stage 2 settles or refuses it. A syntax refusal finds none, so it is none
+  -- the statements that run, in order: each that `next` finds, also where stage 2 settles or refuses it, and no syntax refusal
   pub batch_statements : S.Db → S.Shelf → S.Ranges → S.Batch → List (Finished S)
   pub script_statements : S.Db → S.Shelf → S.Ranges → S.Monitor → S.Script → List (Finished S)
 

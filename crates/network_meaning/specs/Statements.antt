@@ -10,16 +10,19 @@ use Rattle.network_meaning.specs.Network.{as_messages, Orderly}
 use Rattle.network_meaning.specs.Calls.{join, Seen}
 use Rattle.network_meaning.specs.Held.{printed, held, begun, line_at, travels, batches, ranges_at, monitor_at, batch_rest, cargo_rest, rest}
 
+-- the statements of what is left of the script; none where stage 1 has ended
 abbrev pub script_left : {S : Sorts} → Language S → S.Db → S.Shelf → S.Ranges → Option S.Monitor → S.Script → List (Finished S)
 script_left L db shelf ranges None script = []
 script_left L db shelf ranges (Some m) script = L.script_statements db shelf ranges m script
 
+-- those of what is left of the batch that was sent, and then those of the script
 abbrev pub batch_left : {S : Sorts} → Language S → S.Db → S.Shelf → S.Ranges → List S.Batch → Option S.Monitor → S.Script → List (Finished S)
 batch_left L db shelf ranges [] m script = script_left L db shelf ranges m script
 batch_left L db shelf ranges (b ∷ bs) m script =
     let a = L.batch_runs db shelf ranges b in
     followed_by (batch_rest L a.db a.shelf a.ranges bs m script) (L.batch_statements db shelf ranges b) ++ batch_left L a.db a.shelf a.ranges bs m script
 
+-- the statement that travels as a tree or a change, and then those of the batch and the script
 abbrev pub cargo_left : {S : Sorts} → Language S → ℕ → S.Db → S.Shelf → S.Ranges → List (Message S) → List S.Batch → Option S.Monitor → S.Script → List (Finished S)
 cargo_left L line db shelf ranges [] bs m script = batch_left L db shelf ranges bs m script
 cargo_left L line db shelf ranges (cargo x ∷ xs) bs m script =
@@ -32,6 +35,7 @@ cargo_left L line db shelf ranges (cargo x ∷ xs) bs m script =
     ∷ cargo_left L line (db_after db outcome) (shelf_after shelf outcome) ranges xs bs m script
 cargo_left L line db shelf ranges (_ ∷ xs) bs m script = cargo_left L line db shelf ranges xs bs m script
 
+-- by the ranges of stage 2; none where it has ended
 abbrev pub left_from : {S : Sorts} → Language S → MessageNetwork S → Option S.Ranges → List (Finished S)
 left_from L v None = []
 left_from L v (Some ranges) = cargo_left L (line_at v.two) v.room.db v.room.shelf ranges (travels v) (batches L v) (monitor_at v.one) v.room.script
@@ -70,6 +74,7 @@ pub record FinishesFront {S : Sorts} (L : Language S) (old new : MessageNetwork 
   pub left : statements_left L old ≡ finished ++ statements_left L new
   pub database : new.room.db ≡ db_behind old.room.db finished
 
+-- a room is told, and from the network with room r to the one with this room a front of the statements is finished
 pub record FinishedNow {S : Sorts} (L : Language S) (r : Room S) (old new : Seen S) : Type 0 where
   pub room : Room S
   pub told : new.told ≡ Some room
