@@ -16,10 +16,10 @@ ended_mode mode [] [] e = e
 ended_mode mode [] (f ∷ fs) e = cc
 ended_mode mode (f ∷ fs) right e = cc
 
-known_end : {S : Sorts} (s : LocalState S) (mode : Mode S) → mode ≡ s.mode → want s ≡ none → want_of mode ≡ none
+pub known_end : {S : Sorts} (s : LocalState S) (mode : Mode S) → mode ≡ s.mode → want s ≡ none → want_of mode ≡ none
 known_end s mode e h = ap want_of e ∙ ended_mode s.mode s.out_left s.out_right h
 
-not_away : {S : Sorts} (m : S.Monitor) (o : Option S.Head) (prints : Option (Said S)) → want_of (front_mode m o prints) ≡ none → ⊥
+pub not_away : {S : Sorts} (m : S.Monitor) (o : Option S.Head) (prints : Option (Said S)) → want_of (front_mode m o prints) ≡ none → ⊥
 not_away m o None e = cc
 not_away m o (Some s) e = cc
 

@@ -11,7 +11,7 @@ use Rattle.network_meaning.specs.Orderly.{Phase, Place, Phase.away, Phase.closes
 use Rattle.network_meaning.specs.Orderly.{Place.at_two, Place.in_b, Place.at_three, Place.in_c, Place.at_four, Place.in_d, Place.in_e_tables, Place.in_e_reply, Place.in_f}
 use Rattle.network_meaning.proofs.Keeps.{Keeps, taken, worked, due}
 
-abbrev at : {S : Sorts} → S.Monitor → Option S.Head → Option (Said S) → List (Said S) → S.Ranges → Place S → Phase S
+abbrev pub at : {S : Sorts} → S.Monitor → Option S.Head → Option (Said S) → List (Said S) → S.Ranges → Place S → Phase S
 at m o prints coming ranges p = away (record { monitor = m; open_head = o; prints = prints; coming = coming; ranges = ranges }) p
 
 takes_end : {S : Sorts} (L : Language S) (m : S.Monitor) (o : Option S.Head) (ranges : S.Ranges) (p : Place S) (room : Room S) (v' : MessageNetwork S) →

@@ -11,6 +11,12 @@ pub mod Progress
 pub mod Refines
 pub mod Runs
 pub mod Second
+pub mod StatementsStages
+pub mod StatementsExample
+pub mod StatementsFirst
+pub mod StatementsPlaces
+pub mod StatementsRuns
+pub mod StatementsWhole
 pub mod Third
 pub mod Whole
 pub mod Turn

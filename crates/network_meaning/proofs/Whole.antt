@@ -82,7 +82,7 @@ right_by_mode L s s' give_right e1 e2 g = absurd (rw e2 at g)
 right_by_mode L s s' work e1 e2 (act, room', w, e) = record { pipe = ap (λ x. x.right_out) e; got = ap (λ x. x.stage.got_right) e }
 right_by_mode L s s' none e1 e2 g = absurd g
 
-record Next {S : Sorts} (L : Language S) (k : StageNumber) (v : MessageNetwork S) (n n' : Network S) : Type 0 where
+pub record Next {S : Sorts} (L : Language S) (k : StageNumber) (v : MessageNetwork S) (n n' : Network S) : Type 0 where
   pub now : MessageNetwork S
   pub shows : Shows L n' now
   pub step : ((now ≡ v) × (1 + frames_in n' ≤ frames_in n)) ⊎ (MessageStep L k v now × (1 + (frames_in n' + 2 * gifts L k v) ≤ frames_in n + (2 * gifts L k now + cost (want_of (beside v k).mode))))
@@ -257,7 +257,7 @@ room_spread quits_b room = refl
 room_spread quits_c room = refl
 room_spread over room = refl
 
-any_next : {S : Sorts} (L : Language S) (laws : Laws L) (k : StageNumber) (n : Network S) (p : Phase S) (s' : Between S) → Shows L n (spread p n.room) → Steps L (between n k) (want (between n k).stage) s' → Next L k (spread p n.room) n (put_between n k s')
+pub any_next : {S : Sorts} (L : Language S) (laws : Laws L) (k : StageNumber) (n : Network S) (p : Phase S) (s' : Between S) → Shows L n (spread p n.room) → Steps L (between n k) (want (between n k).stage) s' → Next L k (spread p n.room) n (put_between n k s')
 any_next L laws first n p s' h g = first_next L laws n (spread p n.room) s' h (no_first_left p n.room) g
 any_next L laws second n p s' h g = second_next L laws n (spread p n.room) s' h g
 any_next L laws third n p s' h g = third_next L laws n (spread p n.room) s' h g

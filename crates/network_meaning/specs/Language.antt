@@ -1,7 +1,7 @@
 -- The functions that the equation is about, and what it uses of them.
 use Rattle.std.specs.Prelude.{◌≡◌, ℕ, Bool, true, false, List, [], ◌∷◌, ◌++◌, Some, ⊤}
 use Rattle.std.specs.declared.option.Option.{Option}
-use Rattle.network_meaning.specs.Sorts.{Sorts, Message, Table, Outcome, Meaning, Next, Event, Read, After, Kind}
+use Rattle.network_meaning.specs.Sorts.{Sorts, Message, Table, Outcome, Meaning, Next, Event, Read, After, Finished, Kind}
 use Rattle.network_meaning.specs.Sorts.{Outcome.tables, Outcome.made, Outcome.refuses, Meaning.names, Meaning.objects, Meaning.runs, Next.no_more, Next.bad, Next.found, Event.goes_on, Event.sends, Event.leaves}
 
 pub record Language (S : Sorts) : Type 0 where
@@ -26,6 +26,9 @@ pub record Language (S : Sorts) : Type 0 where
   pub whole : List S.Frame → Option (Message S)
   pub batch_runs : S.Db → S.Shelf → S.Ranges → S.Batch → After S
   pub script_bytes : S.Db → S.Shelf → S.Ranges → S.Monitor → S.Script → List ℕ
+  -- the statements that run, in order: each that `next` finds, also where stage 2 settles or refuses it, and no syntax refusal
+  pub batch_statements : S.Db → S.Shelf → S.Ranges → S.Batch → List (Finished S)
+  pub script_statements : S.Db → S.Shelf → S.Ranges → S.Monitor → S.Script → List (Finished S)
 
 -- the rows of a table, a line for each
 abbrev pub lines_of : {S : Sorts} → Language S → S.Head → List S.Row → List ℕ
@@ -74,6 +77,41 @@ after_event L db ranges got (sends t) =
     got.bytes ++ (a.bytes ++ L.script_bytes a.db a.shelf a.ranges got.monitor got.script)
 after_event L db ranges got leaves = got.bytes
 
+-- these statements, where these bytes are printed behind them
+abbrev pub followed_by : {S : Sorts} → List ℕ → List (Finished S) → List (Finished S)
+followed_by bytes [] = []
+followed_by bytes (f ∷ fs) = record { reply = f.reply; db = f.db; later = f.later ++ bytes } ∷ followed_by bytes fs
+
+-- the replies of these statements stand in these bytes, one behind the other, and behind each stands what it says
+abbrev pub Stand : {S : Sorts} → List ℕ → List (Finished S) → Type 0
+Stand bytes [] = ⊤
+Stand bytes (f ∷ fs) = (ahead : List ℕ) × (bytes ≡ ahead ++ (f.reply ++ f.later)) × Stand f.later fs
+
+-- the statements of the rest of a batch, after the meaning of its first: this one has run, and then come the others.
+-- One that settles names has no reply, and leaves the database as it was, as a refused one does
+abbrev pub statements_after_meaning : {S : Sorts} → Language S → S.Db → S.Shelf → S.Ranges → ℕ → S.Batch → Meaning S → List (Finished S)
+statements_after_meaning L db shelf ranges line b (names ranges') =
+    record { reply = []; db = db; later = (L.batch_runs db shelf ranges' b).bytes } ∷ L.batch_statements db shelf ranges' b
+statements_after_meaning L db shelf ranges line b (objects r) =
+    record { reply = L.refusal_bytes (L.lined line r); db = db; later = (L.batch_runs db shelf ranges b).bytes } ∷ L.batch_statements db shelf ranges b
+statements_after_meaning L db shelf ranges line b (runs outcome) =
+    record { reply = reply_bytes L line outcome; db = db_after db outcome; later = (L.batch_runs (db_after db outcome) (shelf_after shelf outcome) ranges b).bytes }
+    ∷ L.batch_statements (db_after db outcome) (shelf_after shelf outcome) ranges b
+
+-- the end of a batch and a syntax refusal are no statements
+abbrev pub statements_after_next : {S : Sorts} → Language S → S.Db → S.Shelf → S.Ranges → Next S → List (Finished S)
+statements_after_next L db shelf ranges no_more = []
+statements_after_next L db shelf ranges (bad r) = []
+statements_after_next L db shelf ranges (found s line b) = statements_after_meaning L db shelf ranges line b (L.meaning db shelf ranges s)
+
+-- the statements from where the monitor stands, after an event
+abbrev pub statements_after_event : {S : Sorts} → Language S → S.Db → S.Ranges → Read S → Event S → List (Finished S)
+statements_after_event L db ranges got goes_on = L.script_statements db got.shelf ranges got.monitor got.script
+statements_after_event L db ranges got (sends t) =
+    let a = L.batch_runs db got.shelf ranges (L.start t) in
+    followed_by (L.script_bytes a.db a.shelf a.ranges got.monitor got.script) (L.batch_statements db got.shelf ranges (L.start t)) ++ L.script_statements a.db a.shelf a.ranges got.monitor got.script
+statements_after_event L db ranges got leaves = []
+
 abbrev pub AllMore : {S : Sorts} → Language S → List S.Frame → Type 0
 AllMore L [] = ⊤
 AllMore L (f ∷ fs) = (L.is_more f ≡ true) × AllMore L fs
@@ -94,5 +132,9 @@ pub record IsCut {S : Sorts} (L : Language S) (m : Message S) : Type 0 where
 pub record Laws {S : Sorts} (L : Language S) : Type 0 where
   pub batch : (db : S.Db) (shelf : S.Shelf) (ranges : S.Ranges) (b : S.Batch) → L.batch_runs db shelf ranges b ≡ after_next L db shelf ranges (L.next b)
   pub script : (db : S.Db) (shelf : S.Shelf) (ranges : S.Ranges) (m : S.Monitor) (script : S.Script) → L.script_bytes db shelf ranges m script ≡ (let got = L.read m script shelf in after_event L db ranges got got.event)
+  pub batch_list : (db : S.Db) (shelf : S.Shelf) (ranges : S.Ranges) (b : S.Batch) → L.batch_statements db shelf ranges b ≡ statements_after_next L db shelf ranges (L.next b)
+  pub script_list : (db : S.Db) (shelf : S.Shelf) (ranges : S.Ranges) (m : S.Monitor) (script : S.Script) → L.script_statements db shelf ranges m script ≡ (let got = L.read m script shelf in statements_after_event L db ranges got got.event)
+  pub batch_places : (db : S.Db) (shelf : S.Shelf) (ranges : S.Ranges) (b : S.Batch) → Stand (L.batch_runs db shelf ranges b).bytes (L.batch_statements db shelf ranges b)
+  pub script_places : (db : S.Db) (shelf : S.Shelf) (ranges : S.Ranges) (m : S.Monitor) (script : S.Script) → Stand (L.script_bytes db shelf ranges m script) (L.script_statements db shelf ranges m script)
   pub whole : (m : Message S) → L.whole (L.frames m) ≡ Some m
   pub cut : (m : Message S) → IsCut L m

@@ -8,6 +8,7 @@ pub mod MessageNetwork
 pub mod Network
 pub mod Orderly
 pub mod Sorts
+pub mod Statements
 pub mod Tiny
 pub mod WorkLeft
 pub mod TinyLaws

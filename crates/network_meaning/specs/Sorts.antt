@@ -83,6 +83,12 @@ pub record After (S : Sorts) : Type 0 where
   pub ranges : S.Ranges
   pub bytes : List ℕ
 
+-- a statement that ran: its reply, the database after it, and what is printed behind the reply
+pub record Finished (S : Sorts) : Type 0 where
+  pub reply : List ℕ
+  pub db : S.Db
+  pub later : List ℕ
+
 pub data Kind : Type 0 where
   answer : Kind
   update : Kind

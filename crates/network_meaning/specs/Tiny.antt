@@ -2,9 +2,9 @@
 -- A byte below 128 is added to the database, any other asks for all of it, and 0 is refused.
 use Rattle.std.specs.Prelude.{◌==◌, ℕ, true, List, [], ◌∷◌, ◌++◌, Some, None, nat_lt, if◌then◌else◌}
 use Rattle.std.specs.declared.option.Option.{Option}
-use Rattle.network_meaning.specs.Sorts.{Sorts, Message, Table, Outcome, Next, Read, After, Kind}
+use Rattle.network_meaning.specs.Sorts.{Sorts, Message, Table, Outcome, Next, Read, After, Finished, Kind}
 use Rattle.network_meaning.specs.Sorts.{Cargo.tree, Cargo.change, Shown.head, Shown.row, Reply.done, Reply.refused, Said.shown, Said.replied, Message.text, Message.cargo, Message.said, Message.end, Message.quit, Outcome.tables, Outcome.made, Outcome.refuses, Meaning.runs, Next.no_more, Next.found, Event.sends, Event.leaves, Kind.answer, Kind.update}
-use Rattle.network_meaning.specs.Language.{Language, db_after, shelf_after}
+use Rattle.network_meaning.specs.Language.{Language, db_after, shelf_after, followed_by}
 
 pub record FrameOf : Type 0 where
   pub kind : ℕ
@@ -103,6 +103,16 @@ tiny_script db shelf ranges m (x ∷ xs) =
     let a = tiny_batch db shelf ranges (Some x) in
     a.bytes ++ tiny_script a.db a.shelf a.ranges m xs
 
+abbrev pub tiny_statements : List ℕ → One → One → Option ℕ → List (Finished tiny_sorts)
+tiny_statements db shelf ranges None = []
+tiny_statements db shelf ranges (Some n) = record { reply = tiny_reply (tiny_ran n db shelf); db = db_after {S = tiny_sorts} db (tiny_ran n db shelf); later = [] } ∷ []
+
+abbrev pub tiny_list : List ℕ → One → One → One → List ℕ → List (Finished tiny_sorts)
+tiny_list db shelf ranges m [] = []
+tiny_list db shelf ranges m (x ∷ xs) =
+    let a = tiny_batch db shelf ranges (Some x) in
+    followed_by {S = tiny_sorts} (tiny_script a.db a.shelf a.ranges m xs) (tiny_statements db shelf ranges (Some x)) ++ tiny_list a.db a.shelf a.ranges m xs
+
 abbrev pub tiny : Language tiny_sorts
 tiny = record {
   meaning = λ db shelf ranges n. runs (tiny_ran n db shelf);
@@ -126,4 +136,6 @@ tiny = record {
   whole = tiny_whole;
   batch_runs = tiny_batch;
   script_bytes = tiny_script;
+  batch_statements = tiny_statements;
+  script_statements = tiny_list;
 }

@@ -1,9 +1,9 @@
 -- The small language meets the laws.
-use Rattle.std.proofs.Common.{◌≡◌, ℕ, List, [], ◌∷◌, ◌++◌, Some, None, refl, sym, ap, ◌∙◌}
+use Rattle.std.proofs.Common.{◌≡◌, ℕ, List, [], ◌∷◌, ◌++◌, Some, None, refl, sym, ap, ◌∙◌, append_assoc}
 use Rattle.std.specs.declared.option.Option.{Option}
-use Rattle.network_meaning.specs.Sorts.{Message, Cargo.tree, Cargo.change, Shown.head, Shown.row, Reply.done, Reply.refused, Said.shown, Said.replied, Message.text, Message.cargo, Message.said, Message.end, Message.quit, Table, After, Outcome, Outcome.tables, Outcome.made, Outcome.refuses}
-use Rattle.network_meaning.specs.Language.{db_after, shelf_after, Laws, IsCut, after_next, after_event, reply_bytes, lines_of, tables_bytes}
-use Rattle.network_meaning.specs.Tiny.{tiny, tiny_sorts, tiny_ran, tiny_batch, tiny_reply, tiny_tables, tiny_frames, tiny_whole, tiny_next, tiny_script, tiny_read, One, One.one}
+use Rattle.network_meaning.specs.Sorts.{Message, Cargo.tree, Cargo.change, Shown.head, Shown.row, Reply.done, Reply.refused, Said.shown, Said.replied, Message.text, Message.cargo, Message.said, Message.end, Message.quit, Table, After, Finished, Outcome, Outcome.tables, Outcome.made, Outcome.refuses}
+use Rattle.network_meaning.specs.Language.{db_after, shelf_after, Laws, IsCut, Stand, after_next, after_event, statements_after_next, statements_after_event, reply_bytes, lines_of, tables_bytes}
+use Rattle.network_meaning.specs.Tiny.{tiny, tiny_sorts, tiny_ran, tiny_batch, tiny_reply, tiny_statements, tiny_list, tiny_tables, tiny_frames, tiny_whole, tiny_next, tiny_script, tiny_read, One, One.one}
 
 lines : (rs : List ℕ) (xs : List ℕ) → lines_of tiny one rs ++ xs ≡ rs ++ xs
 lines [] xs = refl
@@ -44,6 +44,28 @@ script_law : (db : List ℕ) (shelf ranges m : One) (script : List ℕ) → tiny
 script_law db shelf ranges m [] = refl
 script_law db shelf ranges m (x ∷ xs) = refl
 
+statements_law : (db : List ℕ) (shelf ranges : One) (b : Option ℕ) → tiny_statements db shelf ranges b ≡ statements_after_next tiny db shelf ranges (tiny_next b)
+statements_law db shelf ranges None = refl
+statements_law db shelf ranges (Some n) =
+    ap (λ (x : List ℕ). listed x) (reply_law (tiny_ran n db shelf))
+  where
+    listed : List ℕ → List (Finished tiny_sorts)
+    listed reply = record { reply = reply; db = db_after {S = tiny_sorts} db (tiny_ran n db shelf); later = [] } ∷ []
+
+list_law : (db : List ℕ) (shelf ranges m : One) (script : List ℕ) → tiny_list db shelf ranges m script ≡ (let got = tiny_read m script shelf in statements_after_event tiny db ranges got got.event)
+list_law db shelf ranges m [] = refl
+list_law db shelf ranges m (x ∷ xs) = refl
+
+batch_places : (db : List ℕ) (shelf ranges : One) (b : Option ℕ) → Stand {S = tiny_sorts} (tiny_batch db shelf ranges b).bytes (tiny_statements db shelf ranges b)
+batch_places db shelf ranges None = tt
+batch_places db shelf ranges (Some n) = ([], refl, tt)
+
+script_places : (db : List ℕ) (shelf ranges m : One) (script : List ℕ) → Stand {S = tiny_sorts} (tiny_script db shelf ranges m script) (tiny_list db shelf ranges m script)
+script_places db shelf ranges m [] = tt
+script_places db shelf ranges m (x ∷ xs) =
+    let a = tiny_batch db shelf ranges (Some x) in
+    ([], append_assoc (tiny_reply (tiny_ran x db shelf)) [] _, script_places a.db a.shelf ranges m xs)
+
 cut_law : (m : Message tiny_sorts) → IsCut tiny m
 cut_law (text x) = record { mores = []; last = record { kind = 1; payload = x ∷ [] }; cut = refl; more = tt; ends = refl }
 cut_law (cargo (tree x)) = record { mores = []; last = record { kind = 2; payload = x ∷ [] }; cut = refl; more = tt; ends = refl }
@@ -56,4 +78,4 @@ cut_law end = record { mores = []; last = record { kind = 6; payload = [] }; cut
 cut_law quit = record { mores = []; last = record { kind = 10; payload = [] }; cut = refl; more = tt; ends = refl }
 
 pub tiny_laws : Laws tiny
-tiny_laws = record { batch = batch_law; script = script_law; whole = whole_law; cut = cut_law }
+tiny_laws = record { batch = batch_law; script = script_law; batch_list = statements_law; script_list = list_law; batch_places = batch_places; script_places = script_places; whole = whole_law; cut = cut_law }
