@@ -16,11 +16,11 @@ use Rattle.network_meaning.proofs.Printing.{opens_reply, opens_tables, say_more,
 
 -- stage 3 works on a tree
 processes : {S : Sorts} (L : Language S) (laws : Laws L) (w : Front S) (line : ℕ) (b : S.Batch) (t : S.Tree) (room : Room S) (v' : MessageNetwork S) (kind : Kind) (outcome : Outcome S) (act : Act S) (room' : Room S) (s' : Beside S) →
-    IsDue L (spread (away w (at_three line b t)) room) → L.outcome t room.db room.shelf ≡ outcome → L.fits t room.db ≡ true →
+    IsDue L (spread (away w (at_three line b t)) room) → L.kind t ≡ kind → L.outcome t room.db room.shelf ≡ outcome → L.fits t room.db ≡ true →
     Processes L room t kind outcome act → room' ≡ room →
     s' ≡ acted (beside (spread (away w (at_three line b t)) room) third) act [] [] room' → v' ≡ put (spread (away w (at_three line b t)) room) third s' →
     Keeps L (total L (spread (away w (at_three line b t)) room)) v'
-processes {S} L laws w line b t room v' answer (tables ts) act room' s' d e fits j e2 e3 e4 =
+processes {S} L laws w line b t room v' answer (tables ts) act room' s' d ek e fits j e2 e3 e4 =
     worked L _ (spread (away w (at_three line b t)) room) third (says idle3 (map (λ (s : Shown S). said (shown s)) (all_shown ts) ++ end ∷ [])) act room room' s' v' j e2 e3 e4
     (record {
       phase = away w (in_e_tables line b (all_shown ts));
@@ -30,20 +30,20 @@ processes {S} L laws w line b t room v' answer (tables ts) act room' s' d e fits
       due = simp append-nil (rw (lines_kept L line (all_shown ts) (end ∷ [])) (said_due L w (map (λ (s : Shown S). said (shown s)) (all_shown ts) ++ end ∷ []) d (tables_anywhere L ts (laws.rows t room.db room.shelf ts e))));
       same = rw e (simp append-nil (rw (lines_kept L line (all_shown ts) (end ∷ []), say_more L room.out (begun (front_mode w.monitor w.open_head w.prints)) (kept (front_mode w.monitor w.open_head w.prints)) (map said w.coming) (map (λ (s : Shown S). said (shown s)) (all_shown ts) ++ end ∷ []) _ (opens_tables L ts), tables_printed L ts) refl));
     })
-processes L laws w line b t room v' answer (refuses r) act room' s' d e fits j e2 e3 e4 =
+processes L laws w line b t room v' answer (refuses r) act room' s' d ek e fits j e2 e3 e4 =
     worked L _ (spread (away w (at_three line b t)) room) third (says idle3 (said (replied (refused r)) ∷ [])) act room room' s' v' j e2 e3 e4
     (record { phase = away w (in_e_reply line b (refused r)); room = room; is = refl; fits = tt; due = simp append-nil (said_due L w (said (replied (refused (L.lined line r))) ∷ []) d (reply_anywhere L (refused (L.lined line r)) [] tt)); same = rw e (simp append-nil (rw (say_more L room.out (begun (front_mode w.monitor w.open_head w.prints)) (kept (front_mode w.monitor w.open_head w.prints)) (map said w.coming) (said (replied (refused (L.lined line r))) ∷ []) _ (opens_reply L (refused (L.lined line r)) [])) (simp append-nil))) })
-processes L laws w line b t room v' answer (made db shelf) act room' s' d e fits j e2 e3 e4 = absurd j
-processes L laws w line b t room v' update (tables ts) act room' s' d e fits j e2 e3 e4 = absurd j
-processes L laws w line b t room v' update (refuses r) act room' s' d e fits j e2 e3 e4 =
+processes L laws w line b t room v' answer (made db shelf) act room' s' d ek e fits j e2 e3 e4 = absurd j
+processes L laws w line b t room v' update (tables ts) act room' s' d ek e fits j e2 e3 e4 = absurd j
+processes L laws w line b t room v' update (refuses r) act room' s' d ek e fits j e2 e3 e4 =
     worked L _ (spread (away w (at_three line b t)) room) third (says idle3 (said (replied (refused r)) ∷ [])) act room room' s' v' j e2 e3 e4
     (record { phase = away w (in_e_reply line b (refused r)); room = room; is = refl; fits = tt; due = simp append-nil (said_due L w (said (replied (refused (L.lined line r))) ∷ []) d (reply_anywhere L (refused (L.lined line r)) [] tt)); same = rw e (simp append-nil (rw (say_more L room.out (begun (front_mode w.monitor w.open_head w.prints)) (kept (front_mode w.monitor w.open_head w.prints)) (map said w.coming) (said (replied (refused (L.lined line r))) ∷ []) _ (opens_reply L (refused (L.lined line r)) [])) (simp append-nil))) })
-processes L laws w line b t room v' update (made db shelf) act room' s' d e fits (c, lawful, laid, same_shelf, j) e2 e3 e4 =
+processes L laws w line b t room v' update (made db shelf) act room' s' d ek e fits (c, lawful, laid, same_shelf, j) e2 e3 e4 =
     worked L _ (spread (away w (at_three line b t)) room) third (hands passing3 (cargo (change c))) act room room' s' v' j e2 e3 e4
-    (record { phase = away w (in_c line b (change c)); room = room; is = refl; fits = lawful; due = d; same = rw (e, laid, same_shelf) refl })
-processes L laws w line b t room v' utility outcome act room' s' d e fits j e2 e3 e4 =
+    (record { phase = away w (in_c line b (change c)); room = room; is = refl; fits = (lawful, tt); due = d; same = rw (e, laid, same_shelf) refl })
+processes L laws w line b t room v' utility outcome act room' s' d ek e fits j e2 e3 e4 =
     worked L _ (spread (away w (at_three line b t)) room) third (hands passing3 (cargo (tree t))) act room room' s' v' j e2 e3 e4
-    (record { phase = away w (in_c line b (tree t)); room = room; is = refl; fits = fits; due = d; same = refl })
+    (record { phase = away w (in_c line b (tree t)); room = room; is = refl; fits = (fits, ek); due = d; same = refl })
 
 pub third_step : {S : Sorts} (L : Language S) (laws : Laws L) (w : Front S) (p : Place S) (room : Room S) (v' : MessageNetwork S) → FitPlace L p room.db → IsDue L (spread (away w p) room) →
     MessageStep L third (spread (away w p) room) v' → Keeps L (total L (spread (away w p) room)) v'
@@ -52,7 +52,7 @@ third_step L laws w (in_b line b t) room v' fits d (s', (act, e1, e2), e3) =
     taken L _ (spread (away w (in_b line b t)) room) third [] [] room (turns_to (working3 t)) act s' v' e1 e2 e3
     (record { phase = away w (at_three line b t); room = room; is = refl; fits = fits; due = d; same = refl })
 third_step L laws w (at_three line b t) room v' fits d (s', (act, room', (e1, e2), e3), e4) =
-    processes L laws w line b t room v' (L.kind t) (L.outcome t room.db room.shelf) act room' s' d refl fits e1 e2 e3 e4
+    processes L laws w line b t room v' (L.kind t) (L.outcome t room.db room.shelf) act room' s' d refl refl fits e1 e2 e3 e4
 third_step L laws w (in_c line b x) room v' fits d (s', h, e3) = absurd h
 third_step L laws w (at_four line b x) room v' fits d (s', h, e3) = absurd h
 third_step L laws w (in_d line b r) room v' fits d (s', (act, e1, e2), e3) =
