@@ -1,8 +1,10 @@
 //! The network of four stages: what it means, whatever language they speak, and its laws.
 #![tactic(auto)]
 
+mod lawful;
 mod laws;
 mod spoken;
 
+pub use lawful::nothing_unlawful_comes;
 pub use laws::{bytes_are_whole_at_the_end, each_step_keeps_the_bytes, some_stage_goes_on};
 pub use spoken::{Spoken, Tiny};
