@@ -4,12 +4,12 @@ use Rattle.std.specs.Prelude.{⊤}
 use Rattle.std.specs.declared.option.Option.{Option}
 use Rattle.network_meaning.specs.Sorts.{Sorts, Said, Message, Said.shown, Said.replied, Message.said, Message.end, Message.quit}
 use Rattle.network_meaning.specs.Language.{Language, Laws, IsCut, spell, AllMore}
-use Rattle.network_meaning.specs.LocalSteps.{Mode, Want, Act, Room, takes, want_of, is_due, if_due, set_line, turns_to, says, hands}
+use Rattle.network_meaning.specs.LocalSteps.{Mode, Want, Act, Room, takes, want_of, is_due, if_due, goes_to_four, set_line, turns_to, says, hands}
 use Rattle.network_meaning.specs.LocalSteps.{Mode.printing, Mode.parsing, Mode.passing2, Mode.idle3, Mode.working3, Mode.working4, Mode.ended, Want.take_left, Want.take_right, Want.give_left, Want.give_right, Want.work, Want.none}
 use Rattle.network_meaning.specs.MessageNetwork.{Beside, beside, StageNumber, StageNumber.first, StageNumber.second, StageNumber.third, StageNumber.fourth}
 use Rattle.network_meaning.specs.Held.{kept, begun}
 use Rattle.network_meaning.specs.Due.{Due, IsDue}
-use Rattle.network_meaning.specs.Orderly.{Phase, Place, Front, Phase.reads, Phase.closes, Phase.sends, Phase.away, Phase.quits_a, Phase.quits_b, Phase.quits_c, Phase.over, spread, front_mode, FitPhase}
+use Rattle.network_meaning.specs.Orderly.{Phase, Place, Front, Phase.reads, Phase.closes, Phase.sends, Phase.away, Phase.quits_a, Phase.quits_b, Phase.quits_c, Phase.over, spread, front_mode, FitPhase, FitPlace}
 use Rattle.network_meaning.specs.Orderly.{Place.at_two, Place.in_b, Place.at_three, Place.in_c, Place.at_four, Place.in_d, Place.in_e_tables, Place.in_e_reply, Place.in_f}
 use Rattle.network_meaning.specs.Network.{Network, Between, between, want_with, Shows, Orderly}
 use Rattle.network_meaning.specs.Lawful.{front_of, in_front, comes, LawfulBehind, LawfulAs, Lawful, FitWork}
@@ -48,24 +48,24 @@ third_takes L w (in_b line b t) room = (turns_to (working3 t), refl)
 third_takes L w (in_d line b r) room = (says idle3 (said (replied r) ∷ []), refl)
 third_takes L w _ room = tt
 
-fourth_takes : {S : Sorts} (L : Language S) (w : Front S) (p : Place S) (room : Room S) → FirstAt L (beside (spread (away w p) room) fourth) (want_of (spread (away w p) room).four)
-fourth_takes L w (in_c line b x) room = (turns_to (working4 x), refl)
-fourth_takes L w _ room = tt
+fourth_takes : {S : Sorts} (L : Language S) (w : Front S) (p : Place S) (room : Room S) → FitPlace L p room.db → FirstAt L (beside (spread (away w p) room) fourth) (want_of (spread (away w p) room).four)
+fourth_takes L w (in_c line b x) room fits = due_taken (goes_to_four L x) (turns_to (working4 x)) fits.1
+fourth_takes L w _ room fits = tt
 
 -- the message that comes first is one that the stage takes
-first_taken : {S : Sorts} (L : Language S) (p : Phase S) (room : Room S) (k : StageNumber) → IsDue L (spread p room) → FirstAt L (beside (spread p room) k) (want_of (beside (spread p room) k).mode)
-first_taken L (sends m ranges t) room second d = (turns_to (parsing ranges (L.start t)), refl)
-first_taken L (away w p) room first d = front_takes L w.monitor w.open_head w.prints w.coming w.ranges p room d
-first_taken L (away w p) room second d = second_takes L w p room
-first_taken L (away w p) room third d = third_takes L w p room
-first_taken L (away w p) room fourth d = fourth_takes L w p room
-first_taken L (quits_a ranges) room second d = (hands ended quit, refl)
-first_taken L quits_b room third d = (hands ended quit, refl)
-first_taken L quits_c room fourth d = (turns_to ended, refl)
-first_taken L (reads m ranges) room first d = tt
-first_taken L (closes m o ranges) room first d = tt
-first_taken L over room first d = tt
-first_taken L _ room _ d = tt
+first_taken : {S : Sorts} (L : Language S) (p : Phase S) (room : Room S) (k : StageNumber) → FitPhase L p room.db → IsDue L (spread p room) → FirstAt L (beside (spread p room) k) (want_of (beside (spread p room) k).mode)
+first_taken L (sends m ranges t) room second fits d = (turns_to (parsing ranges (L.start t)), refl)
+first_taken L (away w p) room first fits d = front_takes L w.monitor w.open_head w.prints w.coming w.ranges p room d
+first_taken L (away w p) room second fits d = second_takes L w p room
+first_taken L (away w p) room third fits d = third_takes L w p room
+first_taken L (away w p) room fourth fits d = fourth_takes L w p room fits
+first_taken L (quits_a ranges) room second fits d = (hands ended quit, refl)
+first_taken L quits_b room third fits d = (hands ended quit, refl)
+first_taken L quits_c room fourth fits d = (turns_to ended, refl)
+first_taken L (reads m ranges) room first fits d = tt
+first_taken L (closes m o ranges) room first fits d = tt
+first_taken L over room first fits d = tt
+first_taken L _ room _ fits d = tt
 
 record Begins {F : Type 0} (frames begin : List F) : Type 0 where
   pub next : F
@@ -129,28 +129,28 @@ by_outs L s t [] [] em h left right f c = by_want L s t (want_of s.stage.mode) e
 no_pipe : {S : Sorts} (L : Language S) (mode : Mode S) (got : List S.Frame) (ms : List (Message S)) → FirstTaken L mode ms → (f : S.Frame) → front_of {F = S.Frame} [] ≡ Some f → LawfulBehind L mode got f (L.is_more f)
 no_pipe L mode got ms t f c = cc
 
-lawful_at : {S : Sorts} (L : Language S) (laws : Laws L) (n : Network S) (p : Phase S) (k : StageNumber) → Shows L n (spread p n.room) → IsDue L (spread p n.room) →
+lawful_at : {S : Sorts} (L : Language S) (laws : Laws L) (n : Network S) (p : Phase S) (k : StageNumber) → Shows L n (spread p n.room) → FitPhase L p n.room.db → IsDue L (spread p n.room) →
     (f : S.Frame) → comes (between n k) ≡ Some f → Lawful L (between n k).stage f
-lawful_at L laws n p first h d =
-    by_outs L (between n first) (beside (spread p n.room) first) n.one.out_left n.one.out_right h.one (first_taken L p n.room first d)
+lawful_at L laws n p first h fits d =
+    by_outs L (between n first) (beside (spread p n.room) first) n.one.out_left n.one.out_right h.one (first_taken L p n.room first fits d)
     (no_pipe L (spread p n.room).one n.one.got_left [])
     (from_pipe L laws (spread p n.room).one n.one.got_right n.f n.two.out_left (spread p n.room).f h.more_one h.f)
-lawful_at L laws n p second h d =
-    by_outs L (between n second) (beside (spread p n.room) second) n.two.out_left n.two.out_right h.two (first_taken L p n.room second d)
+lawful_at L laws n p second h fits d =
+    by_outs L (between n second) (beside (spread p n.room) second) n.two.out_left n.two.out_right h.two (first_taken L p n.room second fits d)
     (from_pipe L laws (spread p n.room).two n.two.got_left n.a n.one.out_right (spread p n.room).a h.more_two_left h.a)
     (from_pipe L laws (spread p n.room).two n.two.got_right n.e n.three.out_left (spread p n.room).e h.more_two_right h.e)
-lawful_at L laws n p third h d =
-    by_outs L (between n third) (beside (spread p n.room) third) n.three.out_left n.three.out_right h.three (first_taken L p n.room third d)
+lawful_at L laws n p third h fits d =
+    by_outs L (between n third) (beside (spread p n.room) third) n.three.out_left n.three.out_right h.three (first_taken L p n.room third fits d)
     (from_pipe L laws (spread p n.room).three n.three.got_left n.b n.two.out_right (spread p n.room).b h.more_three_left h.b)
     (from_pipe L laws (spread p n.room).three n.three.got_right n.d n.four.out_left (spread p n.room).d h.more_three_right h.d)
-lawful_at L laws n p fourth h d =
-    by_outs L (between n fourth) (beside (spread p n.room) fourth) n.four.out_left n.four.out_right h.four (first_taken L p n.room fourth d)
+lawful_at L laws n p fourth h fits d =
+    by_outs L (between n fourth) (beside (spread p n.room) fourth) n.four.out_left n.four.out_right h.four (first_taken L p n.room fourth fits d)
     (from_pipe L laws (spread p n.room).four n.four.got_left n.c n.three.out_right (spread p n.room).c h.more_four h.c)
     (no_pipe L (spread p n.room).four n.four.got_right [])
 
 -- what comes to a stage is lawful for it
 pub lawful : {S : Sorts} (L : Language S) (laws : Laws L) (k : StageNumber) (n : Network S) (f : S.Frame) → Orderly L n → comes (between n k) ≡ Some f → Lawful L (between n k).stage f
-lawful L laws k n f o c = lawful_at L laws n o.phase k o.shows o.due f c
+lawful L laws k n f o c = lawful_at L laws n o.phase k o.shows o.fits o.due f c
 
 front_works : {S : Sorts} (L : Language S) (m : S.Monitor) (o : Option S.Head) (prints : Option (Said S)) (xs : List (Message S)) (db : S.Db) → Due L (begun (front_mode m o prints)) (kept (front_mode m o prints) ++ xs) →
     FitWork L (front_mode m o prints) db

@@ -3,9 +3,8 @@ use Rattle.std.specs.Prelude.{◌≡◌, Bool, true, false, List, [], ◌∷◌,
 use Rattle.std.specs.declared.option.Option.{Option}
 use Rattle.network_meaning.specs.Sorts.{Sorts, Message, Message.said}
 use Rattle.network_meaning.specs.Language.{Language}
-use Rattle.network_meaning.specs.LocalSteps.{Mode, Want, Act, takes, is_due, fit}
+use Rattle.network_meaning.specs.LocalSteps.{Mode, Want, Act, takes, is_due, fit, goes_to_four}
 use Rattle.network_meaning.specs.LocalSteps.{Mode.printing, Mode.working3, Mode.working4, Want.take_left, Want.take_right}
-use Rattle.network_meaning.specs.Orderly.{GoesToFour}
 use Rattle.network_meaning.specs.Network.{LocalState, Between, want, act_on}
 
 -- the frame in front of this pipe, where it has one
@@ -51,5 +50,5 @@ Lawful L s f = LawfulAs L s f (want s)
 abbrev pub FitWork : {S : Sorts} → Language S → Mode S → S.Db → Type 0
 FitWork L (printing m o (said s)) db = is_due L o s ≡ true
 FitWork L (working3 t) db = L.fits t db ≡ true
-FitWork L (working4 x) db = (fit L x db ≡ true) × GoesToFour L x
+FitWork L (working4 x) db = (fit L x db ≡ true) × (goes_to_four L x ≡ true)
 FitWork L _ db = ⊤
