@@ -41,6 +41,7 @@ pub start_orderly : {S : Sorts} (L : Language S) (m : S.Monitor) (ranges : S.Ran
 start_orderly L m ranges room = record {
   phase = reads m ranges;
   fits = tt;
+  due = tt;
   shows = record {
     one = refl;
     two = refl;

@@ -6,6 +6,7 @@ pub mod Front
 pub mod Keeps
 pub mod Lowering
 pub mod LoweringFirst
+pub mod NothingUnlawful
 pub mod Printing
 pub mod Progress
 pub mod Refines

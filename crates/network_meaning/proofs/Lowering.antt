@@ -4,12 +4,13 @@ use Rattle.std.proofs.lemmas.List.{append-nil}
 use Rattle.network_meaning.specs.Sorts.{Sorts, Cargo, Cargo.tree, Cargo.change, Message, Shown, Next, Meaning, Outcome, Outcome.tables, Outcome.made, Outcome.refuses, Kind, Kind.answer, Kind.update, Kind.utility}
 use Rattle.network_meaning.specs.Sorts.{Reply.done, Reply.refused, Said.shown, Said.replied, Message.cargo, Message.said, Message.end, Next.no_more, Next.bad, Next.found, Meaning.names, Meaning.objects, Meaning.runs}
 use Rattle.network_meaning.specs.Language.{Language, Laws, after_next, after_meaning}
-use Rattle.network_meaning.specs.LocalSteps.{Mode.idle3, Mode.working3, Mode.working4, Mode.passing3, Mode.idle4, Mode.idle2, Mode.parsing, Mode.passing2, Act, Room, Processes, CarriesOut, Judges, Parses, turns_to, says, hands, outcome_of, all_shown}
+use Rattle.network_meaning.specs.LocalSteps.{Mode.idle3, Mode.working3, Mode.working4, Mode.passing3, Mode.idle4, Mode.idle2, Mode.parsing, Mode.passing2, Act, Room, Processes, CarriesOut, Judges, Parses, turns_to, says, hands, outcome_of, all_shown, goes_to_four}
 use Rattle.network_meaning.specs.MessageNetwork.{MessageNetwork, Beside, StageNumber, StageNumber.second, StageNumber.third, StageNumber.fourth, beside, put, acted, MessageStep}
 use Rattle.network_meaning.specs.Held.{with_line}
 use Rattle.network_meaning.specs.WorkLeft.{Work, WorkLaws, size, count, e_cost, d_cost, Lowers, next_work, meaning_work}
 use Rattle.network_meaning.specs.Orderly.{Place, Front, Phase.away, spread, FitPlace}
 use Rattle.network_meaning.specs.Orderly.{Place.at_two, Place.in_b, Place.at_three, Place.in_c, Place.at_four, Place.in_d, Place.in_e_tables, Place.in_e_reply, Place.in_f}
+use Rattle.network_meaning.proofs.Keeps.{due}
 
 pub size-append : {S : Sorts} (L : Language S) (xs ys : List (Message S)) → size L (xs ++ ys) ≡ size L xs + size L ys
 size-append L [] ys = omega arith
@@ -83,7 +84,7 @@ fourth_lowers L W w (at_two b) room v' (s', h, e3) = absurd h
 fourth_lowers L W w (in_b line b t) room v' (s', h, e3) = absurd h
 fourth_lowers L W w (at_three line b t) room v' (s', h, e3) = absurd h
 fourth_lowers L W w (in_c line b x) room v' (s', (act, e1, e2), e3) =
-    took L W fourth _ (turns_to (working4 x)) act [] [] room s' v' e1 e2 e3 (record { lower = omega arith })
+    took L W fourth _ (turns_to (working4 x)) act [] [] room s' v' (due (goes_to_four L x) (turns_to (working4 x)) act e1) e2 e3 (record { lower = omega arith })
 fourth_lowers L W w (at_four line b x) room v' (s', (act, room', e1, e3), e4) =
     carries_lower L W w line b x room v' (outcome_of L x room.db room.shelf) act room' s' refl e1 e3 e4
 fourth_lowers L W w (in_d line b r) room v' (s', h, e3) = absurd h

@@ -2,10 +2,11 @@
 use Rattle.std.proofs.Common.{◌≡◌, inl, inr, ℕ, List, [], ◌∷◌, ◌++◌, Some, None, map, refl, append_assoc}
 use Rattle.std.proofs.lemmas.List.{append-nil}
 use Rattle.std.specs.declared.option.Option.{Option}
+use Rattle.network_meaning.proofs.Keeps.{due}
 use Rattle.network_meaning.specs.Sorts.{Sorts, Cargo, Cargo.tree, Cargo.change, Message, Shown, Reply, Next, Meaning, Outcome, Outcome.tables, Outcome.made, Outcome.refuses, Kind, Kind.answer, Kind.update, Kind.utility}
 use Rattle.network_meaning.specs.Sorts.{Reply.done, Reply.refused, Said.shown, Said.replied, Message.cargo, Message.said, Message.end, Next.no_more, Next.bad, Next.found, Meaning.names, Meaning.objects, Meaning.runs}
 use Rattle.network_meaning.specs.Language.{Language, Laws, after_next, after_meaning, statements_after_next, statements_after_meaning, tables_bytes}
-use Rattle.network_meaning.specs.LocalSteps.{Mode.idle3, Mode.working3, Mode.working4, Mode.passing3, Mode.idle4, Mode.idle2, Mode.parsing, Mode.passing2, Act, Room, Processes, CarriesOut, Judges, Parses, turns_to, says, hands, outcome_of, all_shown, set_line}
+use Rattle.network_meaning.specs.LocalSteps.{Mode.idle3, Mode.working3, Mode.working4, Mode.passing3, Mode.idle4, Mode.idle2, Mode.parsing, Mode.passing2, Act, Room, Processes, CarriesOut, Judges, Parses, turns_to, says, hands, outcome_of, all_shown, set_line, goes_to_four}
 use Rattle.network_meaning.specs.MessageNetwork.{MessageNetwork, Beside, StageNumber, StageNumber.second, StageNumber.third, StageNumber.fourth, beside, put, acted, MessageStep}
 use Rattle.network_meaning.specs.Held.{printed, held, kept, begun, rest}
 use Rattle.network_meaning.specs.Statements.{statements_left, Finishes}
@@ -153,7 +154,7 @@ fourth_finishes L w (at_two b) room v' (s', h, e3) = absurd h
 fourth_finishes L w (in_b line b t) room v' (s', h, e3) = absurd h
 fourth_finishes L w (at_three line b t) room v' (s', h, e3) = absurd h
 fourth_finishes L w (in_c line b x) room v' (s', (act, e1, e2), e3) =
-    took L fourth _ (turns_to (working4 x)) act [] [] room s' v' e1 e2 e3 (none L _ _ refl refl)
+    took L fourth _ (turns_to (working4 x)) act [] [] room s' v' (due (goes_to_four L x) (turns_to (working4 x)) act e1) e2 e3 (none L _ _ refl refl)
 fourth_finishes L w (at_four line b x) room v' (s', (act, room', e1, e3), e4) =
     carries_out L w line b x room v' (outcome_of L x room.db room.shelf) act room' s' refl e1 e3 e4
 fourth_finishes L w (in_d line b r) room v' (s', h, e3) = absurd h

@@ -6,6 +6,7 @@ use Rattle.network_meaning.specs.LocalSteps.{Want, Room, want_of}
 use Rattle.network_meaning.specs.LocalSteps.{Want.take_left, Want.take_right, Want.give_left, Want.give_right, Want.work, Want.none}
 use Rattle.network_meaning.specs.MessageNetwork.{MessageNetwork, Beside, beside, put, MessageStep, StageNumber, StageNumber.first, StageNumber.second, StageNumber.third, StageNumber.fourth}
 use Rattle.network_meaning.specs.Held.{total}
+use Rattle.network_meaning.specs.Due.{IsDue}
 use Rattle.network_meaning.specs.Orderly.{Phase, spread, FitPhase, Phase.reads, Phase.closes, Phase.sends, Phase.away, Phase.quits_a, Phase.quits_b, Phase.quits_c, Phase.over}
 use Rattle.network_meaning.specs.Network.{LocalState, Network, Between, between, put_between, Steps, want, NetworkStep, StepsUnlessBlocked, Shows, gather, and_then, as_messages, Orderly, bytes_in_all, HasTakenLeft, HasTakenRight, FrameFromLeft, FrameFromRight, FrameToLeft, FrameToRight}
 use Rattle.network_meaning.specs.WorkLeft.{Work, WorkLaws, weight, gifts, cost, frames_in, work_left, Lowers}
@@ -275,15 +276,15 @@ kept_by L laws k n n' o now h (inl (e, fewer)) =
     let h' : Shows L n' (spread o.phase n.room) = subst (λ v. Shows L n' v) e h in
     let er : n.room ≡ n'.room = sym (room_spread o.phase n.room) ∙ h'.room in
     record {
-      orderly = record { phase = o.phase; fits = subst (λ r. FitPhase L o.phase r.db) er o.fits; shows = subst (λ r. Shows L n' (spread o.phase r)) er h' };
+      orderly = record { phase = o.phase; fits = subst (λ r. FitPhase L o.phase r.db) er o.fits; due = subst (λ r. IsDue L (spread o.phase r)) er o.due; shows = subst (λ r. Shows L n' (spread o.phase r)) er h' };
       same = total_of L laws n' _ h' ∙ sym (total_of L laws n _ o.shows);
     }
 kept_by {S} L laws k n n' o now h (inr (st, fewer)) =
-    let keeps : Keeps L (total L (spread o.phase n.room)) now = step_keeps L laws o.phase n.room k now o.fits st in
+    let keeps : Keeps L (total L (spread o.phase n.room)) now = step_keeps L laws o.phase n.room k now o.fits o.due st in
     let h' : Shows L n' (spread keeps.phase keeps.room) = subst (λ v. Shows L n' v) keeps.is h in
     let er : keeps.room ≡ n'.room = sym (room_spread keeps.phase keeps.room) ∙ h'.room in
     record {
-      orderly = record { phase = keeps.phase; fits = subst (λ r. FitPhase L keeps.phase r.db) er keeps.fits; shows = subst (λ r. Shows L n' (spread keeps.phase r)) er h' };
+      orderly = record { phase = keeps.phase; fits = subst (λ r. FitPhase L keeps.phase r.db) er keeps.fits; due = subst (λ r. IsDue L (spread keeps.phase r)) er keeps.due; shows = subst (λ r. Shows L n' (spread keeps.phase r)) er h' };
       same = total_of L laws n' now h ∙ (keeps.same ∙ sym (total_of L laws n _ o.shows));
     }
 

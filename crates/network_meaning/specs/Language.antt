@@ -128,6 +128,16 @@ pub record IsCut {S : Sorts} (L : Language S) (m : Message S) : Type 0 where
   pub more : AllMore L mores
   pub ends : L.is_more last ≡ false
 
+-- each of these rows fits this head
+abbrev pub RowsFit : {S : Sorts} → Language S → S.Head → List S.Row → Type 0
+RowsFit L h [] = ⊤
+RowsFit L h (r ∷ rs) = (L.row_fits h r ≡ true) × RowsFit L h rs
+
+-- the rows of each table fit its head
+abbrev pub TablesFit : {S : Sorts} → Language S → List (Table S) → Type 0
+TablesFit L [] = ⊤
+TablesFit L (t ∷ ts) = RowsFit L t.top t.rows × TablesFit L ts
+
 -- all that the equation uses
 pub record Laws {S : Sorts} (L : Language S) : Type 0 where
   pub batch : (db : S.Db) (shelf : S.Shelf) (ranges : S.Ranges) (b : S.Batch) → L.batch_runs db shelf ranges b ≡ after_next L db shelf ranges (L.next b)
@@ -138,3 +148,5 @@ pub record Laws {S : Sorts} (L : Language S) : Type 0 where
   pub script_places : (db : S.Db) (shelf : S.Shelf) (ranges : S.Ranges) (m : S.Monitor) (script : S.Script) → Stand (L.script_bytes db shelf ranges m script) (L.script_statements db shelf ranges m script)
   pub whole : (m : Message S) → L.whole (L.frames m) ≡ Some m
   pub cut : (m : Message S) → IsCut L m
+  -- the rows of an answer fit the head of their table
+  pub rows : (t : S.Tree) (db : S.Db) (shelf : S.Shelf) (ts : List (Table S)) → L.outcome t db shelf ≡ tables ts → TablesFit L ts

@@ -3,6 +3,7 @@ pub mod Due
 pub mod Going
 pub mod Held
 pub mod Language
+pub mod Lawful
 pub mod LocalSteps
 pub mod MessageNetwork
 pub mod Network

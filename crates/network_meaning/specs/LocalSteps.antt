@@ -75,6 +75,15 @@ abbrev pub set_line : {S : Sorts} → Language S → ℕ → Reply S → Reply S
 set_line L line done = done
 set_line L line (refused r) = refused (L.lined line r)
 
+abbrev pub is_utility : Kind → Bool
+is_utility utility = true
+is_utility _ = false
+
+-- what goes to stage 4 is a change, or a tree of a utility
+abbrev pub goes_to_four : {S : Sorts} → Language S → Cargo S → Bool
+goes_to_four L (tree t) = is_utility (L.kind t)
+goes_to_four L (change c) = true
+
 -- what a stage does with a message that it takes; nothing where the message is unlawful
 abbrev pub takes : {S : Sorts} → Language S → Mode S → Message S → Option (Act S)
 takes L (waiting m o) (said s) = if_due (is_due L o s) (turns_to (printing m o (said s)))
@@ -87,7 +96,7 @@ takes L (passing2 ranges line b) end = Some (turns_to (parsing ranges b))
 takes L idle3 (cargo (tree t)) = Some (turns_to (working3 t))
 takes L idle3 quit = Some (hands ended quit)
 takes L passing3 (said (replied r)) = Some (says idle3 (said (replied r) ∷ []))
-takes L idle4 (cargo x) = Some (turns_to (working4 x))
+takes L idle4 (cargo x) = if_due (goes_to_four L x) (turns_to (working4 x))
 takes L idle4 quit = Some (turns_to ended)
 takes L _ _ = None
 

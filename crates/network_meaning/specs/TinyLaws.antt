@@ -2,7 +2,7 @@
 use Rattle.std.proofs.Common.{◌≡◌, ℕ, List, [], ◌∷◌, ◌++◌, Some, None, refl, sym, ap, ◌∙◌, append_assoc}
 use Rattle.std.specs.declared.option.Option.{Option}
 use Rattle.network_meaning.specs.Sorts.{Message, Cargo.tree, Cargo.change, Shown.head, Shown.row, Reply.done, Reply.refused, Said.shown, Said.replied, Message.text, Message.cargo, Message.said, Message.end, Message.quit, Table, After, Finished, Outcome, Outcome.tables, Outcome.made, Outcome.refuses}
-use Rattle.network_meaning.specs.Language.{db_after, shelf_after, Laws, IsCut, Stand, after_next, after_event, statements_after_next, statements_after_event, reply_bytes, lines_of, tables_bytes}
+use Rattle.network_meaning.specs.Language.{db_after, shelf_after, Laws, IsCut, Stand, after_next, after_event, statements_after_next, statements_after_event, reply_bytes, lines_of, tables_bytes, RowsFit, TablesFit}
 use Rattle.network_meaning.specs.Tiny.{tiny, tiny_sorts, tiny_ran, tiny_batch, tiny_reply, tiny_statements, tiny_list, tiny_tables, tiny_frames, tiny_whole, tiny_next, tiny_script, tiny_read, One, One.one}
 
 lines : (rs : List ℕ) (xs : List ℕ) → lines_of tiny one rs ++ xs ≡ rs ++ xs
@@ -77,5 +77,13 @@ cut_law (said (replied (refused r))) = record { mores = []; last = record { kind
 cut_law end = record { mores = []; last = record { kind = 6; payload = [] }; cut = refl; more = tt; ends = refl }
 cut_law quit = record { mores = []; last = record { kind = 10; payload = [] }; cut = refl; more = tt; ends = refl }
 
+rows_fit : (h : One) (rs : List ℕ) → RowsFit tiny h rs
+rows_fit h [] = tt
+rows_fit h (r ∷ rs) = (refl, rows_fit h rs)
+
+tables_fit : (ts : List (Table tiny_sorts)) → TablesFit tiny ts
+tables_fit [] = tt
+tables_fit (t ∷ ts) = (rows_fit t.top t.rows, tables_fit ts)
+
 pub tiny_laws : Laws tiny
-tiny_laws = record { batch = batch_law; script = script_law; batch_list = statements_law; script_list = list_law; batch_places = batch_places; script_places = script_places; whole = whole_law; cut = cut_law }
+tiny_laws = record { batch = batch_law; script = script_law; batch_list = statements_law; script_list = list_law; batch_places = batch_places; script_places = script_places; whole = whole_law; cut = cut_law; rows = λ t db shelf ts e. tables_fit ts }
