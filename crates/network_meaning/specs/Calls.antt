@@ -18,6 +18,7 @@ abbrev pub TellsAfter : {S : Sorts} → Option (Room S) → Option (Room S) → 
 TellsAfter None after r = Tells after r
 TellsAfter (Some x) after r = after ≡ Some r
 
+-- a stage that wants to take from this side has taken a frame
 abbrev pub TakenAs : {S : Sorts} → Language S → LocalState S → S.Frame → Want → LocalState S → Type 0
 TakenAs L s f take_left s' = HasTakenLeft L s f (L.is_more f) s'
 TakenAs L s f take_right s' = HasTakenRight L s f (L.is_more f) s'
@@ -27,14 +28,17 @@ TakenAs L s f _ s' = ⊥
 abbrev pub Taken : {S : Sorts} → Language S → LocalState S → S.Frame → LocalState S → Type 0
 Taken L s f s' = TakenAs L s f (want s) s'
 
+-- a stage has given the first of these frames to the left
 abbrev pub GivenLeft : {S : Sorts} → LocalState S → List S.Frame → S.Frame → LocalState S → Type 0
 GivenLeft s [] f s' = ⊥
 GivenLeft s (g ∷ gs) f s' = (f ≡ g) × (s' ≡ record { mode = s.mode; got_left = s.got_left; got_right = s.got_right; out_left = gs; out_right = s.out_right })
 
+-- a stage has given the first of these frames to the right
 abbrev pub GivenRight : {S : Sorts} → LocalState S → List S.Frame → S.Frame → LocalState S → Type 0
 GivenRight s [] f s' = ⊥
 GivenRight s (g ∷ gs) f s' = (f ≡ g) × (s' ≡ record { mode = s.mode; got_left = s.got_left; got_right = s.got_right; out_left = s.out_left; out_right = gs })
 
+-- a stage that wants to give to this side has given a frame
 abbrev pub GivenAs : {S : Sorts} → LocalState S → S.Frame → Want → LocalState S → Type 0
 GivenAs s f give_left s' = GivenLeft s s.out_left f s'
 GivenAs s f give_right s' = GivenRight s s.out_right f s'
@@ -67,9 +71,11 @@ pub record Shape (S : Sorts) : Type 0 where
   pub e : List S.Frame
   pub f : List S.Frame
 
+-- the network with this room
 abbrev pub join : {S : Sorts} → Shape S → Room S → Network S
 join s room = record { one = s.one; two = s.two; three = s.three; four = s.four; a = s.a; b = s.b; c = s.c; d = s.d; e = s.e; f = s.f; room = room }
 
+-- the network but for the room, and the room where it is told
 pub record Seen (S : Sorts) : Type 0 where
   pub shape : Shape S
   pub told : Option (Room S)
@@ -83,6 +89,7 @@ pub record Moves {S : Sorts} (L : Language S) (capacity : ℕ) (k : StageNumber)
   pub is : is_stuck capacity k (join old.shape room) ≡ blocked
   pub step : StepsUnlessBlocked L k (join old.shape room) (join new.shape room') blocked
 
+-- the stage with this number, 1 to 4
 abbrev pub stage_number : ℕ → StageNumber
 stage_number k = if k == 1 then first else (if k == 2 then second else (if k == 3 then third else fourth))
 
@@ -98,5 +105,6 @@ pub record KeptNow {S : Sorts} (L : Language S) (r : Room S) (old new : Seen S) 
   pub orderly : Orderly L (join new.shape room)
   pub same : bytes_in_all L (join new.shape room) ≡ bytes_in_all L (join old.shape r)
 
+-- from each orderly network with a room that is told it is kept so
 abbrev pub KeepsAll : {S : Sorts} → Language S → Seen S → Seen S → Type 0
 KeepsAll {S} L old new = (r : Room S) → old.told ≡ Some r → Orderly L (join old.shape r) → KeptNow L r old new

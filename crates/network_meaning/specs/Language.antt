@@ -4,6 +4,7 @@ use Rattle.std.specs.declared.option.Option.{Option}
 use Rattle.network_meaning.specs.Sorts.{Sorts, Message, Table, Outcome, Meaning, Next, Event, Read, After, Finished, Kind}
 use Rattle.network_meaning.specs.Sorts.{Outcome.tables, Outcome.made, Outcome.refuses, Meaning.names, Meaning.objects, Meaning.runs, Next.no_more, Next.bad, Next.found, Event.goes_on, Event.sends, Event.leaves}
 
+-- what a language means and how it is spelled: statements, batches, scripts, trees, changes, printed bytes and frames
 pub record Language (S : Sorts) : Type 0 where
   pub meaning : S.Db → S.Shelf → S.Ranges → S.Statement → Meaning S
   pub lined : ℕ → S.Refusal → S.Refusal
@@ -40,21 +41,25 @@ abbrev pub tables_bytes : {S : Sorts} → Language S → List (Table S) → List
 tables_bytes L [] = []
 tables_bytes L (t ∷ ts) = L.head_bytes t.top ++ (lines_of L t.top t.rows ++ (L.rule_bytes t.top ++ tables_bytes L ts))
 
+-- the printed bytes of a reply: its tables, the line for done, or a refusal with its line
 abbrev pub reply_bytes : {S : Sorts} → Language S → ℕ → Outcome S → List ℕ
 reply_bytes L line (tables ts) = tables_bytes L ts
 reply_bytes L line (made db shelf) = L.done_bytes
 reply_bytes L line (refuses r) = L.refusal_bytes (L.lined line r)
 
+-- the database behind an outcome
 abbrev pub db_after : {S : Sorts} → S.Db → Outcome S → S.Db
 db_after db (tables ts) = db
 db_after db (made db' shelf') = db'
 db_after db (refuses r) = db
 
+-- the shelf behind an outcome
 abbrev pub shelf_after : {S : Sorts} → S.Shelf → Outcome S → S.Shelf
 shelf_after shelf (tables ts) = shelf
 shelf_after shelf (made db' shelf') = shelf'
 shelf_after shelf (refuses r) = shelf
 
+-- the same, with these bytes printed before
 abbrev pub after_bytes : {S : Sorts} → List ℕ → After S → After S
 after_bytes bytes a = record { db = a.db; shelf = a.shelf; ranges = a.ranges; bytes = bytes ++ a.bytes }
 
@@ -64,6 +69,7 @@ after_meaning L db shelf ranges line b (names ranges') = L.batch_runs db shelf r
 after_meaning L db shelf ranges line b (objects r) = after_bytes (L.refusal_bytes (L.lined line r)) (L.batch_runs db shelf ranges b)
 after_meaning L db shelf ranges line b (runs outcome) = after_bytes (reply_bytes L line outcome) (L.batch_runs (db_after db outcome) (shelf_after shelf outcome) ranges b)
 
+-- the rest of a batch, from its next statement on: none, a syntax refusal, or a statement and what follows it
 abbrev pub after_next : {S : Sorts} → Language S → S.Db → S.Shelf → S.Ranges → Next S → After S
 after_next L db shelf ranges no_more = record { db = db; shelf = shelf; ranges = ranges; bytes = [] }
 after_next L db shelf ranges (bad r) = record { db = db; shelf = shelf; ranges = ranges; bytes = L.refusal_bytes r }
@@ -112,10 +118,12 @@ statements_after_event L db ranges got (sends t) =
     followed_by (L.script_bytes a.db a.shelf a.ranges got.monitor got.script) (L.batch_statements db got.shelf ranges (L.start t)) ++ L.script_statements a.db a.shelf a.ranges got.monitor got.script
 statements_after_event L db ranges got leaves = []
 
+-- each of these is a More frame
 abbrev pub AllMore : {S : Sorts} → Language S → List S.Frame → Type 0
 AllMore L [] = ⊤
 AllMore L (f ∷ fs) = (L.is_more f ≡ true) × AllMore L fs
 
+-- the frames of messages, one behind the other
 abbrev pub spell : {S : Sorts} → Language S → List (Message S) → List S.Frame
 spell L [] = []
 spell L (m ∷ ms) = L.frames m ++ spell L ms

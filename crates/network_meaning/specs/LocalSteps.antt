@@ -20,6 +20,7 @@ pub data Mode (S : Sorts) : Type 0 where
   working4 : Cargo S → Mode S
   ended : Mode S
 
+-- what a stage does next: take from a side, give to one, work, or nothing any more
 pub data Want : Type 0 where
   take_left : Want
   take_right : Want
@@ -28,6 +29,7 @@ pub data Want : Type 0 where
   work : Want
   none : Want
 
+-- what a stage at this mode does, where it has nothing to give
 abbrev pub want_of : {S : Sorts} → Mode S → Want
 want_of (reading m) = work
 want_of (waiting m o) = take_right
@@ -48,15 +50,19 @@ pub record Act (S : Sorts) : Type 0 where
   pub left : List (Message S)
   pub right : List (Message S)
 
+-- it goes to this mode and gives nothing
 abbrev pub turns_to : {S : Sorts} → Mode S → Act S
 turns_to mode = record { mode = mode; left = []; right = [] }
 
+-- it goes to this mode and gives these messages to the left
 abbrev pub says : {S : Sorts} → Mode S → List (Message S) → Act S
 says mode ms = record { mode = mode; left = ms; right = [] }
 
+-- it goes to this mode and gives this message to the right
 abbrev pub hands : {S : Sorts} → Mode S → Message S → Act S
 hands mode m = record { mode = mode; left = []; right = m ∷ [] }
 
+-- a row may stand here: behind a head that it fits
 abbrev pub row_due : {S : Sorts} → Language S → Option S.Head → S.Row → Bool
 row_due L None r = false
 row_due L (Some h) r = L.row_fits h r
@@ -67,14 +73,17 @@ is_due L o (shown (head h)) = true
 is_due L o (shown (row r)) = row_due L o r
 is_due L o (replied r) = true
 
+-- the act, where the message is due
 abbrev pub if_due : {S : Sorts} → Bool → Act S → Option (Act S)
 if_due true act = Some act
 if_due false act = None
 
+-- a refusal with this line
 abbrev pub set_line : {S : Sorts} → Language S → ℕ → Reply S → Reply S
 set_line L line done = done
 set_line L line (refused r) = refused (L.lined line r)
 
+-- the tree asks for work of the utilities
 abbrev pub is_utility : Kind → Bool
 is_utility utility = true
 is_utility _ = false
@@ -105,27 +114,32 @@ abbrev pub closing : {S : Sorts} → Language S → Option S.Head → List ℕ
 closing L None = []
 closing L (Some h) = L.rule_bytes h
 
+-- the line of a row in its table
 abbrev pub row_line : {S : Sorts} → Language S → Option S.Head → S.Row → List ℕ
 row_line L None r = []
 row_line L (Some h) r = L.row_bytes h r
 
+-- the bytes of what is said, with the closing rule of the table before, unless a row follows
 abbrev pub said_bytes : {S : Sorts} → Language S → Option S.Head → Said S → List ℕ
 said_bytes L o (shown (head h)) = closing L o ++ L.head_bytes h
 said_bytes L o (shown (row r)) = row_line L o r
 said_bytes L o (replied done) = closing L o ++ L.done_bytes
 said_bytes L o (replied (refused r)) = closing L o ++ L.refusal_bytes r
 
+-- the table that is begun behind what is said
 abbrev pub open_after : {S : Sorts} → Option S.Head → Said S → Option S.Head
 open_after o (shown (head h)) = Some h
 open_after o (shown (row r)) = o
 open_after o (replied r) = None
 
+-- what the stages work on: the database, the shelf, the rest of the script and the bytes written
 pub record Room (S : Sorts) : Type 0 where
   pub db : S.Db
   pub shelf : S.Shelf
   pub script : S.Script
   pub out : List ℕ
 
+-- what stage 1 does when it has read: it reads on, sends a batch, or quits
 abbrev pub read_act : {S : Sorts} → S.Monitor → Event S → Act S
 read_act m goes_on = turns_to (reading m)
 read_act m (sends t) = hands (waiting m None) (text t)
@@ -136,10 +150,12 @@ abbrev pub all_shown : {S : Sorts} → List (Table S) → List (Shown S)
 all_shown [] = []
 all_shown (t ∷ ts) = head t.top ∷ (map row t.rows ++ all_shown ts)
 
+-- what a tree or a change comes to
 abbrev pub outcome_of : {S : Sorts} → Language S → Cargo S → S.Db → S.Shelf → Outcome S
 outcome_of L (tree t) db shelf = L.outcome t db shelf
 outcome_of L (change c) db shelf = made (L.laid c db) shelf
 
+-- a tree fits the database, or a change is lawful for it
 abbrev pub fit : {S : Sorts} → Language S → Cargo S → S.Db → Bool
 fit L (tree t) db = L.fits t db
 fit L (change c) db = L.lawful c db
@@ -150,6 +166,7 @@ Judges L room ranges line b (names ranges') act = act ≡ turns_to (parsing rang
 Judges L room ranges line b (objects r) act = act ≡ says (parsing ranges b) (said (replied (refused (L.lined line r))) ∷ [])
 Judges {S} L room ranges line b (runs outcome) act = (t : S.Tree) × (L.fits t room.db ≡ true) × (L.outcome t room.db room.shelf ≡ outcome) × (act ≡ hands (passing2 ranges line b) (cargo (tree t)))
 
+-- stage 2, at the next statement: the end of the batch, a syntax refusal, or a statement that is judged
 abbrev pub Parses : {S : Sorts} → Language S → Room S → S.Ranges → Next S → Act S → Type 0
 Parses L room ranges no_more act = act ≡ says (idle2 ranges) (end ∷ [])
 Parses L room ranges (bad r) act = act ≡ says (idle2 ranges) (said (replied (refused r)) ∷ end ∷ [])
@@ -170,6 +187,7 @@ CarriesOut room (made db shelf) act room' = (act ≡ says idle4 (said (replied d
 CarriesOut room (refuses r) act room' = (act ≡ says idle4 (said (replied (refused r)) ∷ [])) × (room' ≡ room)
 CarriesOut room (tables ts) act room' = ⊥
 
+-- the room with these bytes written
 abbrev pub written : {S : Sorts} → Room S → List ℕ → Room S
 written room bytes = record { db = room.db; shelf = room.shelf; script = room.script; out = room.out ++ bytes }
 

@@ -31,6 +31,7 @@ pub record Beside (S : Sorts) : Type 0 where
   pub right_in : List (Message S)
   pub room : Room S
 
+-- the stage and its queues behind an act
 abbrev pub acted : {S : Sorts} → Beside S → Act S → List (Message S) → List (Message S) → Room S → Beside S
 acted s act left_in right_in room =
     record {
@@ -42,26 +43,31 @@ acted s act left_in right_in room =
       room = room;
     }
 
+-- the stage takes the first message from the left
 abbrev pub TakesLeft : {S : Sorts} → Language S → Beside S → List (Message S) → Beside S → Type 0
 TakesLeft L s [] s' = ⊥
 TakesLeft {S} L s (m ∷ ms) s' = (act : Act S) × (takes L s.mode m ≡ Some act) × (s' ≡ acted s act ms s.right_in s.room)
 
+-- the stage takes the first message from the right
 abbrev pub TakesRight : {S : Sorts} → Language S → Beside S → List (Message S) → Beside S → Type 0
 TakesRight L s [] s' = ⊥
 TakesRight {S} L s (m ∷ ms) s' = (act : Act S) × (takes L s.mode m ≡ Some act) × (s' ≡ acted s act s.left_in ms s.room)
 
+-- the stage takes or works, as it wants
 abbrev pub Moves : {S : Sorts} → Language S → Beside S → Want → Beside S → Type 0
 Moves L s take_left s' = TakesLeft L s s.left_in s'
 Moves L s take_right s' = TakesRight L s s.right_in s'
 Moves {S} L s work s' = (act : Act S) × (room' : Room S) × Works L s.mode s.room act room' × (s' ≡ acted s act s.left_in s.right_in room')
 Moves L s _ s' = ⊥
 
+-- the four stages: monitor, parser, processor, utilities
 pub data StageNumber : Type 0 where
   first : StageNumber
   second : StageNumber
   third : StageNumber
   fourth : StageNumber
 
+-- a stage of the network with its queues
 abbrev pub beside : {S : Sorts} → MessageNetwork S → StageNumber → Beside S
 beside v first = record { mode = v.one; left_in = []; left_out = v.first_left; right_out = v.a; right_in = v.f; room = v.room }
 beside v second = record { mode = v.two; left_in = v.a; left_out = v.f; right_out = v.b; right_in = v.e; room = v.room }

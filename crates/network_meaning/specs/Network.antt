@@ -19,18 +19,22 @@ pub record LocalState (S : Sorts) : Type 0 where
   pub out_left : List S.Frame
   pub out_right : List S.Frame
 
+-- what a stage does that has these frames to give: it gives to the left first, then to the right, then as its mode is
 abbrev pub want_with : {S : Sorts} → List S.Frame → List S.Frame → Mode S → Want
 want_with (f ∷ fs) right mode = give_left
 want_with [] (f ∷ fs) mode = give_right
 want_with [] [] mode = want_of mode
 
+-- what a stage does next
 abbrev pub want : {S : Sorts} → LocalState S → Want
 want s = want_with s.out_left s.out_right s.mode
 
+-- a stage behind an act, with these frames half taken: what the act gives is spelled behind what is to be given
 abbrev pub done_act : {S : Sorts} → Language S → LocalState S → Act S → List S.Frame → List S.Frame → LocalState S
 done_act L s act got_left got_right =
     record { mode = act.mode; got_left = got_left; got_right = got_right; out_left = s.out_left ++ spell L act.left; out_right = s.out_right ++ spell L act.right }
 
+-- what a stage does with the message, where the frames are one
 abbrev pub act_on : {S : Sorts} → Language S → Mode S → Option (Message S) → Option (Act S)
 act_on L mode None = None
 act_on L mode (Some m) = takes L mode m
@@ -40,6 +44,7 @@ abbrev pub HasTakenLeft : {S : Sorts} → Language S → LocalState S → S.Fram
 HasTakenLeft L s f true s' = s' ≡ record { mode = s.mode; got_left = s.got_left ++ f ∷ []; got_right = s.got_right; out_left = s.out_left; out_right = s.out_right }
 HasTakenLeft {S} L s f false s' = (act : Act S) × (act_on L s.mode (L.whole (s.got_left ++ f ∷ [])) ≡ Some act) × (s' ≡ done_act L s act [] s.got_right)
 
+-- a frame of the right pipe comes: More is kept, the last one makes the message whole
 abbrev pub HasTakenRight : {S : Sorts} → Language S → LocalState S → S.Frame → Bool → LocalState S → Type 0
 HasTakenRight L s f true s' = s' ≡ record { mode = s.mode; got_left = s.got_left; got_right = s.got_right ++ f ∷ []; out_left = s.out_left; out_right = s.out_right }
 HasTakenRight {S} L s f false s' = (act : Act S) × (act_on L s.mode (L.whole (s.got_right ++ f ∷ [])) ≡ Some act) × (s' ≡ done_act L s act s.got_left [])
@@ -53,16 +58,19 @@ pub record Between (S : Sorts) : Type 0 where
   pub right_in : List S.Frame
   pub room : Room S
 
+-- the first frame of the left pipe was taken
 abbrev pub FrameFromLeft : {S : Sorts} → Language S → Between S → List S.Frame → Between S → Type 0
 FrameFromLeft L s [] s' = ⊥
 FrameFromLeft {S} L s (f ∷ fs) s' = (stage' : LocalState S) × HasTakenLeft L s.stage f (L.is_more f) stage' ×
     (s' ≡ record { stage = stage'; left_in = fs; left_out = s.left_out; right_out = s.right_out; right_in = s.right_in; room = s.room })
 
+-- the first frame of the right pipe was taken
 abbrev pub FrameFromRight : {S : Sorts} → Language S → Between S → List S.Frame → Between S → Type 0
 FrameFromRight L s [] s' = ⊥
 FrameFromRight {S} L s (f ∷ fs) s' = (stage' : LocalState S) × HasTakenRight L s.stage f (L.is_more f) stage' ×
     (s' ≡ record { stage = stage'; left_in = s.left_in; left_out = s.left_out; right_out = s.right_out; right_in = fs; room = s.room })
 
+-- the first frame to give was given to the left pipe
 abbrev pub FrameToLeft : {S : Sorts} → Between S → List S.Frame → Between S → Type 0
 FrameToLeft s [] s' = ⊥
 FrameToLeft s (f ∷ fs) s' =
@@ -75,6 +83,7 @@ FrameToLeft s (f ∷ fs) s' =
       room = s.room;
     }
 
+-- the first frame to give was given to the right pipe
 abbrev pub FrameToRight : {S : Sorts} → Between S → List S.Frame → Between S → Type 0
 FrameToRight s [] s' = ⊥
 FrameToRight s (f ∷ fs) s' =
@@ -97,6 +106,7 @@ Steps {S} L s work s' = (act : Act S) × (room' : Room S) × Works L s.stage.mod
     (s' ≡ record { stage = done_act L s.stage act s.stage.got_left s.stage.got_right; left_in = s.left_in; left_out = s.left_out; right_out = s.right_out; right_in = s.right_in; room = room' })
 Steps L s none s' = ⊥
 
+-- nothing is in the pipe
 abbrev pub is_empty : {F : Type 0} → List F → Bool
 is_empty [] = true
 is_empty (f ∷ fs) = false
@@ -110,14 +120,17 @@ is_blocked left right s give_right = not (nat_lt (length s.right_out) right)
 is_blocked left right s work = false
 is_blocked left right s none = true
 
+-- how many frames the pipe to the left of a stage holds: none left of stage 1
 abbrev pub left_room : ℕ → StageNumber → ℕ
 left_room capacity first = 0
 left_room capacity _ = capacity
 
+-- how many frames the pipe to the right of a stage holds: none right of stage 4
 abbrev pub right_room : ℕ → StageNumber → ℕ
 right_room capacity fourth = 0
 right_room capacity _ = capacity
 
+-- four stages; the pipes from 1 to 2, 2 to 3, 3 to 4, 4 to 3, 3 to 2 and 2 to 1; and the room
 pub record Network (S : Sorts) : Type 0 where
   pub one : LocalState S
   pub two : LocalState S
@@ -131,12 +144,14 @@ pub record Network (S : Sorts) : Type 0 where
   pub f : List S.Frame
   pub room : Room S
 
+-- a stage of the network between its pipes
 abbrev pub between : {S : Sorts} → Network S → StageNumber → Between S
 between n first = record { stage = n.one; left_in = []; left_out = []; right_out = n.a; right_in = n.f; room = n.room }
 between n second = record { stage = n.two; left_in = n.a; left_out = n.f; right_out = n.b; right_in = n.e; room = n.room }
 between n third = record { stage = n.three; left_in = n.b; left_out = n.e; right_out = n.c; right_in = n.d; room = n.room }
 between n fourth = record { stage = n.four; left_in = n.c; left_out = n.d; right_out = []; right_in = []; room = n.room }
 
+-- the network with this stage and its pipes as they are now
 abbrev pub put_between : {S : Sorts} → Network S → StageNumber → Between S → Network S
 put_between n first s = record { one = s.stage; two = n.two; three = n.three; four = n.four; a = s.right_out; b = n.b; c = n.c; d = n.d; e = n.e; f = s.right_in; room = s.room }
 put_between n second s = record { one = n.one; two = s.stage; three = n.three; four = n.four; a = s.left_in; b = s.right_out; c = n.c; d = n.d; e = s.right_in; f = s.left_out; room = s.room }
@@ -152,6 +167,7 @@ StepsUnlessBlocked {S} L k n n' false = (s' : Between S) × Steps L (between n k
 abbrev pub is_stuck : {S : Sorts} → ℕ → StageNumber → Network S → Bool
 is_stuck capacity k n = is_blocked (left_room capacity k) (right_room capacity k) (between n k) (want (between n k).stage)
 
+-- stage k steps; nothing changes where it is blocked
 abbrev pub NetworkStep : {S : Sorts} → Language S → ℕ → StageNumber → Network S → Network S → Type 0
 NetworkStep L capacity k n n' = StepsUnlessBlocked L k n n' (is_stuck capacity k n)
 
@@ -179,6 +195,7 @@ pub record Shows {S : Sorts} (L : Language S) (n : Network S) (v : MessageNetwor
   pub more_three_right : AllMore L n.three.got_right
   pub more_four : AllMore L n.four.got_left
 
+-- the message, where there is one, in front of others
 abbrev pub and_then : {S : Sorts} → Option (Message S) → List (Message S) → List (Message S)
 and_then None ms = ms
 and_then (Some m) ms = m ∷ ms

@@ -29,6 +29,7 @@ pub record Front (S : Sorts) : Type 0 where
   pub coming : List (Said S)
   pub ranges : S.Ranges
 
+-- where the network stands: stage 1 reads, closes a batch, sends one, waits while the turn is away, or the stages end one after the other
 pub data Phase (S : Sorts) : Type 0 where
   reads : S.Monitor → S.Ranges → Phase S
   -- stage 1 has the turn back, and is to print the end of a batch
@@ -41,10 +42,12 @@ pub data Phase (S : Sorts) : Type 0 where
   quits_c : Phase S
   over : Phase S
 
+-- stage 1 while it waits: it takes, or prints what it took
 abbrev pub front_mode : {S : Sorts} → S.Monitor → Option S.Head → Option (Said S) → Mode S
 front_mode m o None = waiting m o
 front_mode m o (Some s) = printing m o (said s)
 
+-- stage 2 while the turn is there
 abbrev pub mode_two : {S : Sorts} → S.Ranges → Place S → Mode S
 mode_two ranges (at_two b) = parsing ranges b
 mode_two ranges (in_b line b t) = passing2 ranges line b
@@ -56,6 +59,7 @@ mode_two ranges (in_e_tables line b ss) = passing2 ranges line b
 mode_two ranges (in_e_reply line b r) = passing2 ranges line b
 mode_two ranges in_f = idle2 ranges
 
+-- stage 3 while the turn is there
 abbrev pub mode_three : {S : Sorts} → Place S → Mode S
 mode_three (at_three line b t) = working3 t
 mode_three (in_c line b x) = passing3
@@ -63,31 +67,38 @@ mode_three (at_four line b x) = passing3
 mode_three (in_d line b r) = passing3
 mode_three _ = idle3
 
+-- stage 4 while the turn is there
 abbrev pub mode_four : {S : Sorts} → Place S → Mode S
 mode_four (at_four line b x) = working4 x
 mode_four _ = idle4
 
+-- what is on its way from 2 to 3
 abbrev pub in_pipe_b : {S : Sorts} → Place S → List (Message S)
 in_pipe_b (in_b line b t) = cargo (tree t) ∷ []
 in_pipe_b _ = []
 
+-- what is on its way from 3 to 4
 abbrev pub in_pipe_c : {S : Sorts} → Place S → List (Message S)
 in_pipe_c (in_c line b x) = cargo x ∷ []
 in_pipe_c _ = []
 
+-- what is on its way from 4 to 3
 abbrev pub in_pipe_d : {S : Sorts} → Place S → List (Message S)
 in_pipe_d (in_d line b r) = said (replied r) ∷ []
 in_pipe_d _ = []
 
+-- what is on its way from 3 to 2
 abbrev pub in_pipe_e : {S : Sorts} → Place S → List (Message S)
 in_pipe_e (in_e_tables line b ss) = map (λ s. said (shown s)) ss ++ end ∷ []
 in_pipe_e (in_e_reply line b r) = said (replied r) ∷ []
 in_pipe_e _ = []
 
+-- the end of the batch, where it is on its way to stage 1
 abbrev pub last_in_f : {S : Sorts} → Place S → List (Message S)
 last_in_f in_f = end ∷ []
 last_in_f _ = []
 
+-- a network in which nothing is on its way to the left
 abbrev pub quiet : {S : Sorts} → Mode S → Mode S → Mode S → Mode S → List (Message S) → List (Message S) → List (Message S) → Room S → MessageNetwork S
 quiet one two three four a b c room = record { one = one; two = two; three = three; four = four; a = a; b = b; c = c; d = []; e = []; f = []; first_left = []; last_right = []; room = room }
 
@@ -125,6 +136,7 @@ FitPlace L (in_c line b x) db = (fit L x db ≡ true) × (goes_to_four L x ≡ t
 FitPlace L (at_four line b x) db = (fit L x db ≡ true) × (goes_to_four L x ≡ true)
 FitPlace L _ db = ⊤
 
+-- what travels in this phase is fit for the database
 abbrev pub FitPhase : {S : Sorts} → Language S → Phase S → S.Db → Type 0
 FitPhase L (away w p) db = FitPlace L p db
 FitPhase L _ db = ⊤

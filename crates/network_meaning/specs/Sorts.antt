@@ -1,6 +1,7 @@
 -- What the four stages speak about, and the messages that they send one another.
 use Rattle.std.specs.Prelude.{ℕ, List}
 
+-- what a language speaks about; a monitor is where stage 1 stands in a script, ranges are what variables range over, a text is a batch as it is sent
 pub record Sorts : Type 1 where
   pub Db : Type 0
   pub Shelf : Type 0
@@ -22,10 +23,12 @@ pub data Cargo (S : Sorts) : Type 0 where
   tree : S.Tree → Cargo S
   change : S.Change → Cargo S
 
+-- what a table is made of: its head, and its rows
 pub data Shown (S : Sorts) : Type 0 where
   head : S.Head → Shown S
   row : S.Row → Shown S
 
+-- the reply of a statement that shows no table
 pub data Reply (S : Sorts) : Type 0 where
   done : Reply S
   refused : S.Refusal → Reply S
@@ -35,6 +38,7 @@ pub data Said (S : Sorts) : Type 0 where
   shown : Shown S → Said S
   replied : Reply S → Said S
 
+-- what goes through pipes: a batch, a tree or a change, what stage 1 prints, the end of what was asked, and the end of all
 pub data Message (S : Sorts) : Type 0 where
   text : S.Text → Message S
   cargo : Cargo S → Message S
@@ -42,6 +46,7 @@ pub data Message (S : Sorts) : Type 0 where
   end : Message S
   quit : Message S
 
+-- a table: its head and its rows
 pub record Table (S : Sorts) : Type 0 where
   pub top : S.Head
   pub rows : List S.Row
@@ -64,11 +69,13 @@ pub data Next (S : Sorts) : Type 0 where
   bad : S.Refusal → Next S
   found : S.Statement → ℕ → S.Batch → Next S
 
+-- what reading comes to: the monitor goes on, sends a batch, or leaves
 pub data Event (S : Sorts) : Type 0 where
   goes_on : Event S
   sends : S.Text → Event S
   leaves : Event S
 
+-- what the monitor reads at once: where it stands then, the rest of the script, the shelf, what it prints, and what it comes to
 pub record Read (S : Sorts) : Type 0 where
   pub monitor : S.Monitor
   pub script : S.Script
@@ -89,6 +96,7 @@ pub record Finished (S : Sorts) : Type 0 where
   pub db : S.Db
   pub later : List ℕ
 
+-- what a tree asks for
 pub data Kind : Type 0 where
   answer : Kind
   update : Kind

@@ -11,7 +11,7 @@ use crate::Spoken;
 /// In an orderly network each frame that comes to a stage is lawful for it, and what a stage works on is
 /// fit for the present database.
 pub fn nothing_unlawful_comes<T: Spoken>()
-    ensures takes { (k : StageNumber) (n : Network T.sorts) (frame : T.sorts.Frame) → Orderly T.language n → comes (between n k) ≡ Some frame
-        → Lawful T.language (between n k).stage frame }
-    ensures works { (k : StageNumber) (n : Network T.sorts) → Orderly T.language n → FitWork T.language (between n k).stage.mode n.room.db }
+    ensures takes { (user : T.User) (k : StageNumber) (n : Network T.sorts) (frame : T.sorts.Frame) → Orderly (T.language user) n → comes (between n k) ≡ Some frame
+        → Lawful (T.language user) (between n k).stage frame }
+    ensures works { (user : T.User) (k : StageNumber) (n : Network T.sorts) → Orderly (T.language user) n → FitWork (T.language user) (between n k).stage.mode n.room.db }
 {}

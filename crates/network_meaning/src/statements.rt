@@ -20,11 +20,11 @@ use crate::Spoken;
 /// output, one behind the other. At the start they are the statements of the script, and at the end none
 /// is left.
 pub fn statements_are_finished_in_order<T: Spoken>()
-    ensures step { (capacity : ℕ) (k : StageNumber) (n new : Network T.sorts) → Orderly T.language n → NetworkStep T.language capacity k n new
-        → Finishes T.language (as_messages T.language n) (as_messages T.language new) }
-    ensures turns { (capacity : ℕ) (turns : List ℕ) (old new : Seen T.sorts) → RunsTurns T.language capacity turns old new → FinishesInOrder T.language old new }
-    ensures places { (n : Network T.sorts) → Stand (rest T.language (as_messages T.language n)) (statements_left T.language (as_messages T.language n)) }
-    ensures start { (m : T.sorts.Monitor) (ranges : T.sorts.Ranges) (room : Room T.sorts)
-        → statements_left T.language (as_messages T.language (start m ranges room)) ≡ T.language.script_statements room.db room.shelf ranges m room.script }
-    ensures end { (n : Network T.sorts) → Orderly T.language n → AllEnded n → statements_left T.language (as_messages T.language n) ≡ [] }
+    ensures step { (user : T.User) (capacity : ℕ) (k : StageNumber) (n new : Network T.sorts) → Orderly (T.language user) n → NetworkStep (T.language user) capacity k n new
+        → Finishes (T.language user) (as_messages (T.language user) n) (as_messages (T.language user) new) }
+    ensures turns { (user : T.User) (capacity : ℕ) (turns : List ℕ) (old new : Seen T.sorts) → RunsTurns (T.language user) capacity turns old new → FinishesInOrder (T.language user) old new }
+    ensures places { (user : T.User) (n : Network T.sorts) → Stand (rest (T.language user) (as_messages (T.language user) n)) (statements_left (T.language user) (as_messages (T.language user) n)) }
+    ensures start { (user : T.User) (m : T.sorts.Monitor) (ranges : T.sorts.Ranges) (room : Room T.sorts)
+        → statements_left (T.language user) (as_messages (T.language user) (start m ranges room)) ≡ (T.language user).script_statements room.db room.shelf ranges m room.script }
+    ensures end { (user : T.User) (n : Network T.sorts) → Orderly (T.language user) n → AllEnded n → statements_left (T.language user) (as_messages (T.language user) n) ≡ [] }
 {}
