@@ -1,0 +1,40 @@
+-- The equation over the steps of a list.
+use Rattle.std.proofs.Common.{◌≡◌, ℕ, ◌+◌, ◌<◌, Bool, List, [], ◌∷◌, ◌++◌, length, take, get_or, Some, None, refl, sym, subst, ◌∙◌}
+use Rattle.std.proofs.lemmas.List.{take_more}
+use Rattle.std.specs.declared.option.Option.{Option}
+use Rattle.network_meaning.specs.Sorts.{Sorts}
+use Rattle.network_meaning.specs.Language.{Language, Laws}
+use Rattle.network_meaning.specs.LocalSteps.{Room}
+use Rattle.network_meaning.specs.MessageNetwork.{StageNumber}
+use Rattle.network_meaning.specs.Network.{Orderly, NetworkStep, StepsUnlessBlocked}
+use Rattle.network_meaning.specs.Calls.{Tells, TellsAfter, join, Seen, Moves, stage_number, RunsTurns, KeptNow, KeepsAll}
+use Rattle.network_meaning.proofs.Whole.{Kept, equation}
+
+one_step : {S : Sorts} (L : Language S) (laws : Laws L) (capacity : ℕ) (k : StageNumber) (blocked : Bool) (old new : Seen S) (told : Option (Room S)) (r room room' : Room S) →
+    told ≡ Some r → Tells told room → TellsAfter told new.told room' → Orderly L (join old.shape r) →
+    NetworkStep L capacity k (join old.shape room) (join new.shape room') → KeptNow L r old new
+one_step L laws capacity k blocked old new None r room room' e t ta o st = cc
+one_step {S} L laws capacity k blocked old new (Some x) r room room' e t ta o st =
+    let same : r ≡ room = (let f : x ≡ r = cc in sym f ∙ t) in
+    let kept : Kept L (join old.shape r) (join new.shape room') = equation L laws capacity k (join old.shape r) (join new.shape room') o (rw same st) in
+    record { room = room'; told = ta; orderly = kept.orderly; same = kept.same }
+
+pub moves_keeps : {S : Sorts} (L : Language S) (laws : Laws L) (capacity : ℕ) (k : StageNumber) (blocked : Bool) (old new : Seen S) → Moves L capacity k blocked old new → KeepsAll L old new
+moves_keeps {S} L laws capacity k blocked old new m r e o =
+    one_step L laws capacity k blocked old new old.told r m.room m.room' e m.tells m.tells_after o
+    (subst (λ b. StepsUnlessBlocked L k (join old.shape m.room) (join new.shape m.room') b) (sym m.is) m.step)
+
+pub runs_keeps : {S : Sorts} (L : Language S) (laws : Laws L) (capacity : ℕ) (ks : List ℕ) (old new : Seen S) → RunsTurns L capacity ks old new → KeepsAll L old new
+runs_keeps {S} L laws capacity [] old new e r t o = rw e (record { room = r; told = t; orderly = o; same = refl })
+runs_keeps {S} L laws capacity (k ∷ ks) old new (mid, blocked, m, rest) r t o =
+    let now : KeptNow L r old mid = moves_keeps L laws capacity (stage_number k) blocked old mid m r t o in
+    let later : KeptNow L now.room mid new = runs_keeps L laws capacity ks mid new rest now.room now.told now.orderly in
+    record { room = later.room; told = later.told; orderly = later.orderly; same = later.same ∙ now.same }
+
+Runs-more : {S : Sorts} (L : Language S) (capacity : ℕ) (ks : List ℕ) (k : ℕ) (blocked : Bool) (a b c : Seen S) → RunsTurns L capacity ks a b → Moves L capacity (stage_number k) blocked b c → RunsTurns L capacity (ks ++ k ∷ []) a c
+Runs-more {S} L capacity [] k blocked a b c e m = (c, blocked, subst (λ (x : Seen S). Moves L capacity (stage_number k) blocked x c) e m, refl)
+Runs-more L capacity (x ∷ ks) k blocked a b c (mid, bl, s, rest) m = (mid, bl, s, Runs-more L capacity ks k blocked mid b c rest m)
+
+pub one_more : {S : Sorts} (L : Language S) (capacity : ℕ) (turns : List ℕ) (i : ℕ) (blocked : Bool) (a b c : Seen S) → i < length turns → RunsTurns L capacity (take i turns) a b →
+    Moves L capacity (stage_number (get_or turns i 0)) blocked b c → RunsTurns L capacity (take (i + 1) turns) a c
+one_more L capacity turns i blocked a b c lt s m = rw (take_more turns i 0 lt) (Runs-more L capacity (take i turns) (get_or turns i 0) blocked a b c s m)

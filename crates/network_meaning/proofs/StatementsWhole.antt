@@ -1,0 +1,59 @@
+-- Each step of the network of frames finishes the first of the statements that are left, or none.
+use Rattle.std.proofs.Common.{◌≡◌, inl, inr, ℕ, Bool, true, false, List, [], ◌∷◌, ◌++◌, None, refl, sym, ap, ◌∙◌, append_assoc}
+use Rattle.network_meaning.specs.Sorts.{Sorts, Finished}
+use Rattle.network_meaning.specs.Language.{Language, Laws}
+use Rattle.network_meaning.specs.LocalSteps.{Mode.reading, Mode.waiting, Mode.printing, Mode.idle2}
+use Rattle.network_meaning.specs.MessageNetwork.{MessageNetwork, StageNumber}
+use Rattle.network_meaning.specs.Orderly.{Phase, spread, Phase.reads, Phase.closes, Phase.sends, Phase.away, Phase.quits_a, Phase.quits_b, Phase.quits_c, Phase.over}
+use Rattle.network_meaning.specs.Network.{Network, put_between, NetworkStep, StepsUnlessBlocked, Shows, as_messages, Orderly}
+use Rattle.network_meaning.specs.Going.{AllEnded}
+use Rattle.network_meaning.specs.Statements.{statements_left, Finishes, FinishesFront, db_behind}
+use Rattle.network_meaning.proofs.Whole.{Next, any_next, shown_view}
+use Rattle.network_meaning.proofs.Ends.{known_end, not_away}
+use Rattle.network_meaning.proofs.StatementsStages.{none}
+use Rattle.network_meaning.proofs.StatementsFirst.{step_finishes}
+
+-- a step of frames is one of messages or changes none
+finishes_by : {S : Sorts} (L : Language S) (laws : Laws L) (k : StageNumber) (n n' : Network S) (o : Orderly L n) → Next L k (spread o.phase n.room) n n' → Finishes L (as_messages L n) (as_messages L n')
+finishes_by {S} L laws k n n' o next =
+    rw (shown_view L laws n (spread o.phase n.room) o.shows, shown_view L laws n' next.now next.shows) (elim next.step [
+      | inl (e, fewer) ↦ rw e (none L _ _ refl refl)
+      | inr (st, fewer) ↦ step_finishes L laws o.phase n.room k next.now st
+    ])
+
+finishes_or : {S : Sorts} (L : Language S) (laws : Laws L) (k : StageNumber) (n n' : Network S) (blocked : Bool) → Orderly L n → StepsUnlessBlocked L k n n' blocked → Finishes L (as_messages L n) (as_messages L n')
+finishes_or L laws k n n' true o e = rw e (none L _ _ refl refl)
+finishes_or L laws k n n' false o (s', g, e) = rw e (finishes_by L laws k n (put_between n k s') o (any_next L laws k n o.phase s' o.shows g))
+
+pub finishes : {S : Sorts} (L : Language S) (laws : Laws L) (capacity : ℕ) (k : StageNumber) (n n' : Network S) → Orderly L n → NetworkStep L capacity k n n' → Finishes L (as_messages L n) (as_messages L n')
+finishes L laws capacity k n n' o h = finishes_or L laws k n n' _ o h
+
+-- what is left where all have ended, by the phase
+none_left : {S : Sorts} (L : Language S) (n : Network S) (p : Phase S) → Shows L n (spread p n.room) → AllEnded n → statements_left L (spread p n.room) ≡ []
+none_left L n (reads m ranges) h e = let x = known_end n.one (reading m) h.one e.one in cc
+none_left L n (closes m o ranges) h e = let x = known_end n.one (printing m o _) h.one e.one in cc
+none_left L n (sends m ranges t) h e = let x = known_end n.one (waiting m None) h.one e.one in cc
+none_left L n (away w p) h e = absurd (not_away w.monitor w.open_head w.prints (known_end n.one _ h.one e.one))
+none_left L n (quits_a ranges) h e = let x = known_end n.two (idle2 ranges) h.two e.two in cc
+none_left L n quits_b h e = refl
+none_left L n quits_c h e = refl
+none_left L n over h e = refl
+
+pub none_at_end : {S : Sorts} (L : Language S) (laws : Laws L) (n : Network S) → Orderly L n → AllEnded n → statements_left L (as_messages L n) ≡ []
+none_at_end L laws n o e = ap (statements_left L) (shown_view L laws n (spread o.phase n.room) o.shows) ∙ none_left L n o.phase o.shows e
+
+behind-append : {S : Sorts} (db : S.Db) (xs ys : List (Finished S)) → db_behind {S = S} db (xs ++ ys) ≡ db_behind {S = S} (db_behind {S = S} db xs) ys
+behind-append db [] ys = refl
+behind-append db (x ∷ xs) ys = behind-append x.db xs ys
+
+pub front_of : {S : Sorts} (L : Language S) (old new : MessageNetwork S) → Finishes L old new → FinishesFront L old new
+front_of L old new (inl h) = record { finished = []; left = h.left; database = h.database }
+front_of L old new (inr h) = record { finished = h.finished ∷ []; left = h.left; database = h.database }
+
+-- one front, and then another
+pub fronts : {S : Sorts} (L : Language S) (old mid new : MessageNetwork S) → FinishesFront L old mid → FinishesFront L mid new → FinishesFront L old new
+fronts L old mid new h k = record {
+  finished = h.finished ++ k.finished;
+  left = h.left ∙ ap (λ x. h.finished ++ x) k.left ∙ sym (append_assoc h.finished k.finished (statements_left L new));
+  database = k.database ∙ ap (λ x. db_behind x k.finished) h.database ∙ sym (behind-append old.room.db h.finished k.finished);
+}

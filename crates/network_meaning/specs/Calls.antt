@@ -1,0 +1,110 @@
+-- The words of the contracts of the stages and the network.
+use Rattle.std.specs.Prelude.{◌≡◌, ◌==◌, if◌then◌else◌, ℕ, Bool, List, [], ◌∷◌, Some, None, ⊤}
+use Rattle.std.specs.declared.option.Option.{Option}
+use Rattle.network_meaning.specs.Sorts.{Sorts}
+use Rattle.network_meaning.specs.Language.{Language}
+use Rattle.network_meaning.specs.LocalSteps.{Want, Act, Works, Room}
+use Rattle.network_meaning.specs.LocalSteps.{Want.take_left, Want.take_right, Want.give_left, Want.give_right}
+use Rattle.network_meaning.specs.MessageNetwork.{StageNumber, StageNumber.first, StageNumber.second, StageNumber.third, StageNumber.fourth}
+use Rattle.network_meaning.specs.Network.{LocalState, Network, want, done_act, HasTakenLeft, HasTakenRight, is_stuck, StepsUnlessBlocked, Orderly, bytes_in_all}
+
+-- a room that is told is this one
+abbrev pub Tells : {S : Sorts} → Option (Room S) → Room S → Type 0
+Tells None r = ⊤
+Tells (Some x) r = x ≡ r
+
+-- what was told is told again
+abbrev pub TellsAfter : {S : Sorts} → Option (Room S) → Option (Room S) → Room S → Type 0
+TellsAfter None after r = Tells after r
+TellsAfter (Some x) after r = after ≡ Some r
+
+-- a stage that wants to take from this side has taken a frame
+abbrev pub TakenAs : {S : Sorts} → Language S → LocalState S → S.Frame → Want → LocalState S → Type 0
+TakenAs L s f take_left s' = HasTakenLeft L s f (L.is_more f) s'
+TakenAs L s f take_right s' = HasTakenRight L s f (L.is_more f) s'
+TakenAs L s f _ s' = ⊥
+
+-- a stage has taken a frame
+abbrev pub Taken : {S : Sorts} → Language S → LocalState S → S.Frame → LocalState S → Type 0
+Taken L s f s' = TakenAs L s f (want s) s'
+
+-- a stage has given the first of these frames to the left
+abbrev pub GivenLeft : {S : Sorts} → LocalState S → List S.Frame → S.Frame → LocalState S → Type 0
+GivenLeft s [] f s' = ⊥
+GivenLeft s (g ∷ gs) f s' = (f ≡ g) × (s' ≡ record { mode = s.mode; got_left = s.got_left; got_right = s.got_right; out_left = gs; out_right = s.out_right })
+
+-- a stage has given the first of these frames to the right
+abbrev pub GivenRight : {S : Sorts} → LocalState S → List S.Frame → S.Frame → LocalState S → Type 0
+GivenRight s [] f s' = ⊥
+GivenRight s (g ∷ gs) f s' = (f ≡ g) × (s' ≡ record { mode = s.mode; got_left = s.got_left; got_right = s.got_right; out_left = s.out_left; out_right = gs })
+
+-- a stage that wants to give to this side has given a frame
+abbrev pub GivenAs : {S : Sorts} → LocalState S → S.Frame → Want → LocalState S → Type 0
+GivenAs s f give_left s' = GivenLeft s s.out_left f s'
+GivenAs s f give_right s' = GivenRight s s.out_right f s'
+GivenAs s f _ s' = ⊥
+
+-- a stage has given a frame
+abbrev pub Given : {S : Sorts} → LocalState S → S.Frame → LocalState S → Type 0
+Given s f s' = GivenAs s f (want s) s'
+
+-- a stage has worked, on some room that agrees with what is told
+pub record WorkDone {S : Sorts} (L : Language S) (s s' : LocalState S) (told told' : Option (Room S)) : Type 0 where
+  pub act : Act S
+  pub room : Room S
+  pub room' : Room S
+  pub tells : Tells told room
+  pub tells_after : TellsAfter told told' room'
+  pub works : Works L s.mode room act room'
+  pub is : s' ≡ done_act L s act s.got_left s.got_right
+
+-- the network but for the room
+pub record Shape (S : Sorts) : Type 0 where
+  pub one : LocalState S
+  pub two : LocalState S
+  pub three : LocalState S
+  pub four : LocalState S
+  pub a : List S.Frame
+  pub b : List S.Frame
+  pub c : List S.Frame
+  pub d : List S.Frame
+  pub e : List S.Frame
+  pub f : List S.Frame
+
+-- the network with this room
+abbrev pub join : {S : Sorts} → Shape S → Room S → Network S
+join s room = record { one = s.one; two = s.two; three = s.three; four = s.four; a = s.a; b = s.b; c = s.c; d = s.d; e = s.e; f = s.f; room = room }
+
+-- the network but for the room, and the room where it is told
+pub record Seen (S : Sorts) : Type 0 where
+  pub shape : Shape S
+  pub told : Option (Room S)
+
+-- step k was blocked or not, and did what D20 says
+pub record Moves {S : Sorts} (L : Language S) (capacity : ℕ) (k : StageNumber) (blocked : Bool) (old new : Seen S) : Type 0 where
+  pub room : Room S
+  pub room' : Room S
+  pub tells : Tells old.told room
+  pub tells_after : TellsAfter old.told new.told room'
+  pub is : is_stuck capacity k (join old.shape room) ≡ blocked
+  pub step : StepsUnlessBlocked L k (join old.shape room) (join new.shape room') blocked
+
+-- the stage with this number, 1 to 4
+abbrev pub stage_number : ℕ → StageNumber
+stage_number k = if k == 1 then first else (if k == 2 then second else (if k == 3 then third else fourth))
+
+-- the steps of a list, one after the other
+abbrev pub RunsTurns : {S : Sorts} → Language S → ℕ → List ℕ → Seen S → Seen S → Type 0
+RunsTurns L capacity [] old new = new ≡ old
+RunsTurns {S} L capacity (k ∷ ks) old new = (mid : Seen S) × (blocked : Bool) × Moves L capacity (stage_number k) blocked old mid × RunsTurns L capacity ks mid new
+
+-- from an orderly network with a room that is told: it is orderly and told again, and the bytes in all are the same
+pub record KeptNow {S : Sorts} (L : Language S) (r : Room S) (old new : Seen S) : Type 0 where
+  pub room : Room S
+  pub told : new.told ≡ Some room
+  pub orderly : Orderly L (join new.shape room)
+  pub same : bytes_in_all L (join new.shape room) ≡ bytes_in_all L (join old.shape r)
+
+-- from each orderly network with a room that is told it is kept so
+abbrev pub KeepsAll : {S : Sorts} → Language S → Seen S → Seen S → Type 0
+KeepsAll {S} L old new = (r : Room S) → old.told ≡ Some r → Orderly L (join old.shape r) → KeptNow L r old new

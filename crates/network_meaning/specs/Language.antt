@@ -1,0 +1,160 @@
+-- The functions that the equation is about, and what it uses of them.
+use Rattle.std.specs.Prelude.{◌≡◌, ℕ, Bool, true, false, List, [], ◌∷◌, ◌++◌, Some, ⊤}
+use Rattle.std.specs.declared.option.Option.{Option}
+use Rattle.network_meaning.specs.Sorts.{Sorts, Message, Table, Outcome, Meaning, Next, Event, Read, After, Finished, Kind}
+use Rattle.network_meaning.specs.Sorts.{Outcome.tables, Outcome.made, Outcome.refuses, Meaning.names, Meaning.objects, Meaning.runs, Next.no_more, Next.bad, Next.found, Event.goes_on, Event.sends, Event.leaves}
+
+-- what a language means and how it is spelled: statements, batches, scripts, trees, changes, printed bytes and frames
+pub record Language (S : Sorts) : Type 0 where
+  pub meaning : S.Db → S.Shelf → S.Ranges → S.Statement → Meaning S
+  pub lined : ℕ → S.Refusal → S.Refusal
+  pub next : S.Batch → Next S
+  pub start : S.Text → S.Batch
+  pub read : S.Monitor → S.Script → S.Shelf → Read S
+  pub kind : S.Tree → Kind
+  pub outcome : S.Tree → S.Db → S.Shelf → Outcome S
+  pub fits : S.Tree → S.Db → Bool
+  pub laid : S.Change → S.Db → S.Db
+  pub lawful : S.Change → S.Db → Bool
+  pub head_bytes : S.Head → List ℕ
+  pub row_bytes : S.Head → S.Row → List ℕ
+  pub rule_bytes : S.Head → List ℕ
+  pub row_fits : S.Head → S.Row → Bool
+  pub done_bytes : List ℕ
+  pub refusal_bytes : S.Refusal → List ℕ
+  pub frames : Message S → List S.Frame
+  pub is_more : S.Frame → Bool
+  pub whole : List S.Frame → Option (Message S)
+  pub batch_runs : S.Db → S.Shelf → S.Ranges → S.Batch → After S
+  pub script_bytes : S.Db → S.Shelf → S.Ranges → S.Monitor → S.Script → List ℕ
+  -- the statements that run, in order: each that `next` finds, also where stage 2 settles or refuses it, and no syntax refusal
+  pub batch_statements : S.Db → S.Shelf → S.Ranges → S.Batch → List (Finished S)
+  pub script_statements : S.Db → S.Shelf → S.Ranges → S.Monitor → S.Script → List (Finished S)
+
+-- the rows of a table, a line for each
+abbrev pub lines_of : {S : Sorts} → Language S → S.Head → List S.Row → List ℕ
+lines_of L h [] = []
+lines_of L h (r ∷ rs) = L.row_bytes h r ++ lines_of L h rs
+
+-- head and rule, a line per row, and the closing rule
+abbrev pub tables_bytes : {S : Sorts} → Language S → List (Table S) → List ℕ
+tables_bytes L [] = []
+tables_bytes L (t ∷ ts) = L.head_bytes t.top ++ (lines_of L t.top t.rows ++ (L.rule_bytes t.top ++ tables_bytes L ts))
+
+-- the printed bytes of a reply: its tables, the line for done, or a refusal with its line
+abbrev pub reply_bytes : {S : Sorts} → Language S → ℕ → Outcome S → List ℕ
+reply_bytes L line (tables ts) = tables_bytes L ts
+reply_bytes L line (made db shelf) = L.done_bytes
+reply_bytes L line (refuses r) = L.refusal_bytes (L.lined line r)
+
+-- the database behind an outcome
+abbrev pub db_after : {S : Sorts} → S.Db → Outcome S → S.Db
+db_after db (tables ts) = db
+db_after db (made db' shelf') = db'
+db_after db (refuses r) = db
+
+-- the shelf behind an outcome
+abbrev pub shelf_after : {S : Sorts} → S.Shelf → Outcome S → S.Shelf
+shelf_after shelf (tables ts) = shelf
+shelf_after shelf (made db' shelf') = shelf'
+shelf_after shelf (refuses r) = shelf
+
+-- the same, with these bytes printed before
+abbrev pub after_bytes : {S : Sorts} → List ℕ → After S → After S
+after_bytes bytes a = record { db = a.db; shelf = a.shelf; ranges = a.ranges; bytes = bytes ++ a.bytes }
+
+-- the rest of a batch, after the meaning of its first statement
+abbrev pub after_meaning : {S : Sorts} → Language S → S.Db → S.Shelf → S.Ranges → ℕ → S.Batch → Meaning S → After S
+after_meaning L db shelf ranges line b (names ranges') = L.batch_runs db shelf ranges' b
+after_meaning L db shelf ranges line b (objects r) = after_bytes (L.refusal_bytes (L.lined line r)) (L.batch_runs db shelf ranges b)
+after_meaning L db shelf ranges line b (runs outcome) = after_bytes (reply_bytes L line outcome) (L.batch_runs (db_after db outcome) (shelf_after shelf outcome) ranges b)
+
+-- the rest of a batch, from its next statement on: none, a syntax refusal, or a statement and what follows it
+abbrev pub after_next : {S : Sorts} → Language S → S.Db → S.Shelf → S.Ranges → Next S → After S
+after_next L db shelf ranges no_more = record { db = db; shelf = shelf; ranges = ranges; bytes = [] }
+after_next L db shelf ranges (bad r) = record { db = db; shelf = shelf; ranges = ranges; bytes = L.refusal_bytes r }
+after_next L db shelf ranges (found s line b) = after_meaning L db shelf ranges line b (L.meaning db shelf ranges s)
+
+-- the output from where the monitor stands, after an event
+abbrev pub after_event : {S : Sorts} → Language S → S.Db → S.Ranges → Read S → Event S → List ℕ
+after_event L db ranges got goes_on = got.bytes ++ L.script_bytes db got.shelf ranges got.monitor got.script
+after_event L db ranges got (sends t) =
+    let a = L.batch_runs db got.shelf ranges (L.start t) in
+    got.bytes ++ (a.bytes ++ L.script_bytes a.db a.shelf a.ranges got.monitor got.script)
+after_event L db ranges got leaves = got.bytes
+
+-- these statements, where these bytes are printed behind them
+abbrev pub followed_by : {S : Sorts} → List ℕ → List (Finished S) → List (Finished S)
+followed_by bytes [] = []
+followed_by bytes (f ∷ fs) = record { reply = f.reply; db = f.db; later = f.later ++ bytes } ∷ followed_by bytes fs
+
+-- the replies of these statements stand in these bytes, one behind the other, and behind each stands what it says
+abbrev pub Stand : {S : Sorts} → List ℕ → List (Finished S) → Type 0
+Stand bytes [] = ⊤
+Stand bytes (f ∷ fs) = (ahead : List ℕ) × (bytes ≡ ahead ++ (f.reply ++ f.later)) × Stand f.later fs
+
+-- the statements of the rest of a batch, after the meaning of its first: this one has run, and then come the others.
+-- One that settles names has no reply, and leaves the database as it was, as a refused one does
+abbrev pub statements_after_meaning : {S : Sorts} → Language S → S.Db → S.Shelf → S.Ranges → ℕ → S.Batch → Meaning S → List (Finished S)
+statements_after_meaning L db shelf ranges line b (names ranges') =
+    record { reply = []; db = db; later = (L.batch_runs db shelf ranges' b).bytes } ∷ L.batch_statements db shelf ranges' b
+statements_after_meaning L db shelf ranges line b (objects r) =
+    record { reply = L.refusal_bytes (L.lined line r); db = db; later = (L.batch_runs db shelf ranges b).bytes } ∷ L.batch_statements db shelf ranges b
+statements_after_meaning L db shelf ranges line b (runs outcome) =
+    record { reply = reply_bytes L line outcome; db = db_after db outcome; later = (L.batch_runs (db_after db outcome) (shelf_after shelf outcome) ranges b).bytes }
+    ∷ L.batch_statements (db_after db outcome) (shelf_after shelf outcome) ranges b
+
+-- the end of a batch and a syntax refusal are no statements
+abbrev pub statements_after_next : {S : Sorts} → Language S → S.Db → S.Shelf → S.Ranges → Next S → List (Finished S)
+statements_after_next L db shelf ranges no_more = []
+statements_after_next L db shelf ranges (bad r) = []
+statements_after_next L db shelf ranges (found s line b) = statements_after_meaning L db shelf ranges line b (L.meaning db shelf ranges s)
+
+-- the statements from where the monitor stands, after an event
+abbrev pub statements_after_event : {S : Sorts} → Language S → S.Db → S.Ranges → Read S → Event S → List (Finished S)
+statements_after_event L db ranges got goes_on = L.script_statements db got.shelf ranges got.monitor got.script
+statements_after_event L db ranges got (sends t) =
+    let a = L.batch_runs db got.shelf ranges (L.start t) in
+    followed_by (L.script_bytes a.db a.shelf a.ranges got.monitor got.script) (L.batch_statements db got.shelf ranges (L.start t)) ++ L.script_statements a.db a.shelf a.ranges got.monitor got.script
+statements_after_event L db ranges got leaves = []
+
+-- each of these is a More frame
+abbrev pub AllMore : {S : Sorts} → Language S → List S.Frame → Type 0
+AllMore L [] = ⊤
+AllMore L (f ∷ fs) = (L.is_more f ≡ true) × AllMore L fs
+
+-- the frames of messages, one behind the other
+abbrev pub spell : {S : Sorts} → Language S → List (Message S) → List S.Frame
+spell L [] = []
+spell L (m ∷ ms) = L.frames m ++ spell L ms
+
+-- a message is some More frames and a last one
+pub record IsCut {S : Sorts} (L : Language S) (m : Message S) : Type 0 where
+  pub mores : List S.Frame
+  pub last : S.Frame
+  pub cut : L.frames m ≡ mores ++ last ∷ []
+  pub more : AllMore L mores
+  pub ends : L.is_more last ≡ false
+
+-- each of these rows fits this head
+abbrev pub RowsFit : {S : Sorts} → Language S → S.Head → List S.Row → Type 0
+RowsFit L h [] = ⊤
+RowsFit L h (r ∷ rs) = (L.row_fits h r ≡ true) × RowsFit L h rs
+
+-- the rows of each table fit its head
+abbrev pub TablesFit : {S : Sorts} → Language S → List (Table S) → Type 0
+TablesFit L [] = ⊤
+TablesFit L (t ∷ ts) = RowsFit L t.top t.rows × TablesFit L ts
+
+-- all that the equation uses
+pub record Laws {S : Sorts} (L : Language S) : Type 0 where
+  pub batch : (db : S.Db) (shelf : S.Shelf) (ranges : S.Ranges) (b : S.Batch) → L.batch_runs db shelf ranges b ≡ after_next L db shelf ranges (L.next b)
+  pub script : (db : S.Db) (shelf : S.Shelf) (ranges : S.Ranges) (m : S.Monitor) (script : S.Script) → L.script_bytes db shelf ranges m script ≡ (let got = L.read m script shelf in after_event L db ranges got got.event)
+  pub batch_list : (db : S.Db) (shelf : S.Shelf) (ranges : S.Ranges) (b : S.Batch) → L.batch_statements db shelf ranges b ≡ statements_after_next L db shelf ranges (L.next b)
+  pub script_list : (db : S.Db) (shelf : S.Shelf) (ranges : S.Ranges) (m : S.Monitor) (script : S.Script) → L.script_statements db shelf ranges m script ≡ (let got = L.read m script shelf in statements_after_event L db ranges got got.event)
+  pub batch_places : (db : S.Db) (shelf : S.Shelf) (ranges : S.Ranges) (b : S.Batch) → Stand (L.batch_runs db shelf ranges b).bytes (L.batch_statements db shelf ranges b)
+  pub script_places : (db : S.Db) (shelf : S.Shelf) (ranges : S.Ranges) (m : S.Monitor) (script : S.Script) → Stand (L.script_bytes db shelf ranges m script) (L.script_statements db shelf ranges m script)
+  pub whole : (m : Message S) → L.whole (L.frames m) ≡ Some m
+  pub cut : (m : Message S) → IsCut L m
+  -- the rows of an answer fit the head of their table
+  pub rows : (t : S.Tree) (db : S.Db) (shelf : S.Shelf) (ts : List (Table S)) → L.outcome t db shelf ≡ tables ts → TablesFit L ts

@@ -1,0 +1,16 @@
+pub mod Calls
+pub mod Due
+pub mod Going
+pub mod Held
+pub mod Language
+pub mod Lawful
+pub mod LocalSteps
+pub mod MessageNetwork
+pub mod Network
+pub mod Orderly
+pub mod Sorts
+pub mod Statements
+pub mod Tiny
+pub mod WorkLeft
+pub mod TinyLaws
+pub mod Turn

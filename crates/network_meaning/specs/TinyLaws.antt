@@ -1,0 +1,89 @@
+-- The small language meets the laws.
+use Rattle.std.proofs.Common.{◌≡◌, ℕ, List, [], ◌∷◌, ◌++◌, Some, None, refl, sym, ap, ◌∙◌, append_assoc}
+use Rattle.std.specs.declared.option.Option.{Option}
+use Rattle.network_meaning.specs.Sorts.{Message, Cargo.tree, Cargo.change, Shown.head, Shown.row, Reply.done, Reply.refused, Said.shown, Said.replied, Message.text, Message.cargo, Message.said, Message.end, Message.quit, Table, After, Finished, Outcome, Outcome.tables, Outcome.made, Outcome.refuses}
+use Rattle.network_meaning.specs.Language.{db_after, shelf_after, Laws, IsCut, Stand, after_next, after_event, statements_after_next, statements_after_event, reply_bytes, lines_of, tables_bytes, RowsFit, TablesFit}
+use Rattle.network_meaning.specs.Tiny.{tiny, tiny_sorts, tiny_ran, tiny_batch, tiny_reply, tiny_statements, tiny_list, tiny_tables, tiny_frames, tiny_whole, tiny_next, tiny_script, tiny_read, One, One.one}
+
+lines : (rs : List ℕ) (xs : List ℕ) → lines_of tiny one rs ++ xs ≡ rs ++ xs
+lines [] xs = refl
+lines (r ∷ rs) xs = ap (λ (ys : List ℕ). r ∷ ys) (lines rs xs)
+
+tables_law : (ts : List (Table tiny_sorts)) → tiny_tables ts ≡ tables_bytes tiny ts
+tables_law [] = refl
+tables_law (t ∷ ts) = ap (λ (x : List ℕ). 1 ∷ x) (ap (λ (x : List ℕ). t.rows ++ (1 ∷ x)) (tables_law ts) ∙ by_top t.top (sym (lines t.rows (1 ∷ tables_bytes tiny ts))))
+  where
+    by_top : (h : One) → t.rows ++ (1 ∷ tables_bytes tiny ts) ≡ lines_of tiny one t.rows ++ (1 ∷ tables_bytes tiny ts) → t.rows ++ (1 ∷ tables_bytes tiny ts) ≡ lines_of tiny h t.rows ++ (1 ∷ tables_bytes tiny ts)
+    by_top one e = e
+
+reply_law : (outcome : Outcome tiny_sorts) → tiny_reply outcome ≡ reply_bytes tiny 1 outcome
+reply_law (tables ts) = tables_law ts
+reply_law (made db shelf) = refl
+reply_law (refuses r) = refl
+
+batch_law : (db : List ℕ) (shelf ranges : One) (b : Option ℕ) → tiny_batch db shelf ranges b ≡ after_next tiny db shelf ranges (tiny_next b)
+batch_law db shelf ranges None = refl
+batch_law db shelf ranges (Some n) =
+    ap (λ (x : List ℕ). record_of (x ++ [])) (reply_law (tiny_ran n db shelf))
+  where
+    record_of : List ℕ → After tiny_sorts
+    record_of bytes = record { db = db_after {S = tiny_sorts} db (tiny_ran n db shelf); shelf = shelf_after {S = tiny_sorts} shelf (tiny_ran n db shelf); ranges = ranges; bytes = bytes }
+
+whole_law : (m : Message tiny_sorts) → tiny_whole (tiny_frames m) ≡ Some m
+whole_law (text x) = refl
+whole_law (cargo (tree x)) = refl
+whole_law (cargo (change x)) = refl
+whole_law (said (shown (head one))) = refl
+whole_law (said (shown (row r))) = refl
+whole_law (said (replied done)) = refl
+whole_law (said (replied (refused r))) = refl
+whole_law end = refl
+whole_law quit = refl
+
+script_law : (db : List ℕ) (shelf ranges m : One) (script : List ℕ) → tiny_script db shelf ranges m script ≡ (let got = tiny_read m script shelf in after_event tiny db ranges got got.event)
+script_law db shelf ranges m [] = refl
+script_law db shelf ranges m (x ∷ xs) = refl
+
+statements_law : (db : List ℕ) (shelf ranges : One) (b : Option ℕ) → tiny_statements db shelf ranges b ≡ statements_after_next tiny db shelf ranges (tiny_next b)
+statements_law db shelf ranges None = refl
+statements_law db shelf ranges (Some n) =
+    ap (λ (x : List ℕ). listed x) (reply_law (tiny_ran n db shelf))
+  where
+    listed : List ℕ → List (Finished tiny_sorts)
+    listed reply = record { reply = reply; db = db_after {S = tiny_sorts} db (tiny_ran n db shelf); later = [] } ∷ []
+
+list_law : (db : List ℕ) (shelf ranges m : One) (script : List ℕ) → tiny_list db shelf ranges m script ≡ (let got = tiny_read m script shelf in statements_after_event tiny db ranges got got.event)
+list_law db shelf ranges m [] = refl
+list_law db shelf ranges m (x ∷ xs) = refl
+
+batch_places : (db : List ℕ) (shelf ranges : One) (b : Option ℕ) → Stand {S = tiny_sorts} (tiny_batch db shelf ranges b).bytes (tiny_statements db shelf ranges b)
+batch_places db shelf ranges None = tt
+batch_places db shelf ranges (Some n) = ([], refl, tt)
+
+script_places : (db : List ℕ) (shelf ranges m : One) (script : List ℕ) → Stand {S = tiny_sorts} (tiny_script db shelf ranges m script) (tiny_list db shelf ranges m script)
+script_places db shelf ranges m [] = tt
+script_places db shelf ranges m (x ∷ xs) =
+    let a = tiny_batch db shelf ranges (Some x) in
+    ([], append_assoc (tiny_reply (tiny_ran x db shelf)) [] _, script_places a.db a.shelf ranges m xs)
+
+cut_law : (m : Message tiny_sorts) → IsCut tiny m
+cut_law (text x) = record { mores = []; last = record { kind = 1; payload = x ∷ [] }; cut = refl; more = tt; ends = refl }
+cut_law (cargo (tree x)) = record { mores = []; last = record { kind = 2; payload = x ∷ [] }; cut = refl; more = tt; ends = refl }
+cut_law (cargo (change x)) = record { mores = []; last = record { kind = 5; payload = x ∷ [] }; cut = refl; more = tt; ends = refl }
+cut_law (said (shown (head h))) = record { mores = []; last = record { kind = 3; payload = [] }; cut = refl; more = tt; ends = refl }
+cut_law (said (shown (row r))) = record { mores = []; last = record { kind = 4; payload = r ∷ [] }; cut = refl; more = tt; ends = refl }
+cut_law (said (replied done)) = record { mores = []; last = record { kind = 8; payload = [] }; cut = refl; more = tt; ends = refl }
+cut_law (said (replied (refused r))) = record { mores = []; last = record { kind = 7; payload = r ∷ [] }; cut = refl; more = tt; ends = refl }
+cut_law end = record { mores = []; last = record { kind = 6; payload = [] }; cut = refl; more = tt; ends = refl }
+cut_law quit = record { mores = []; last = record { kind = 10; payload = [] }; cut = refl; more = tt; ends = refl }
+
+rows_fit : (h : One) (rs : List ℕ) → RowsFit tiny h rs
+rows_fit h [] = tt
+rows_fit h (r ∷ rs) = (refl, rows_fit h rs)
+
+tables_fit : (ts : List (Table tiny_sorts)) → TablesFit tiny ts
+tables_fit [] = tt
+tables_fit (t ∷ ts) = (rows_fit t.top t.rows, tables_fit ts)
+
+pub tiny_laws : Laws tiny
+tiny_laws = record { batch = batch_law; script = script_law; batch_list = statements_law; script_list = list_law; batch_places = batch_places; script_places = script_places; whole = whole_law; cut = cut_law; rows = λ t db shelf ts e. tables_fit ts }

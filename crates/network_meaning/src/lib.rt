@@ -1,0 +1,15 @@
+//! The network of four stages: what it means, whatever language they speak, and its laws.
+#![tactic(auto)]
+
+mod lawful;
+mod laws;
+mod spoken;
+mod statements;
+
+pub use lawful::nothing_unlawful_comes;
+pub use laws::{
+    bytes_are_whole_at_the_end, each_step_keeps_the_bytes, some_stage_goes_on,
+    the_turn_is_in_one_place,
+};
+pub use spoken::{Spoken, Tiny};
+pub use statements::statements_are_finished_in_order;
