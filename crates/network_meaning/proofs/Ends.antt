@@ -2,8 +2,10 @@
 use Rattle.std.proofs.Common.{◌≡◌, List, [], ◌∷◌, ◌++◌, Some, None, refl, ap, ◌∙◌}
 use Rattle.std.proofs.lemmas.List.{append-nil}
 use Rattle.std.specs.declared.option.Option.{Option}
+use Rattle.frame_codec.specs.declared.frame.Frame.{Frame}
 use Rattle.network_meaning.specs.Sorts.{Sorts, Said}
-use Rattle.network_meaning.specs.Language.{Language, Laws}
+use Rattle.network_meaning.specs.Language.{Language}
+use Rattle.network_meaning.specs.Laws.{Laws}
 use Rattle.network_meaning.specs.LocalSteps.{Mode, Mode.reading, Mode.idle2, Mode.idle3, Mode.idle4, Mode.waiting, Mode.printing, Want.none, want_of, Room}
 use Rattle.network_meaning.specs.Held.{total}
 use Rattle.network_meaning.specs.Orderly.{Phase, front_mode, spread, Phase.reads, Phase.closes, Phase.sends, Phase.away, Phase.quits_a, Phase.quits_b, Phase.quits_c, Phase.over}
@@ -11,7 +13,7 @@ use Rattle.network_meaning.specs.Network.{LocalState, Network, want, want_with, 
 use Rattle.network_meaning.specs.Going.{AllEnded}
 use Rattle.network_meaning.proofs.Whole.{total_of}
 
-ended_mode : {S : Sorts} (mode : Mode S) (left right : List S.Frame) → want_with left right mode ≡ none → want_of mode ≡ none
+ended_mode : {S : Sorts} (mode : Mode S) (left right : List Frame) → want_with left right mode ≡ none → want_of mode ≡ none
 ended_mode mode [] [] e = e
 ended_mode mode [] (f ∷ fs) e = cc
 ended_mode mode (f ∷ fs) right e = cc

@@ -2,7 +2,8 @@
 use Rattle.std.proofs.Common.{◌≡◌, [], ◌++◌, None, refl, append_assoc}
 use Rattle.std.proofs.lemmas.List.{append-nil}
 use Rattle.network_meaning.specs.Sorts.{Sorts, Event, Event.goes_on, Event.sends, Event.leaves, Message.text, Message.quit}
-use Rattle.network_meaning.specs.Language.{Language, Laws, after_event}
+use Rattle.network_meaning.specs.Language.{Language, after_event}
+use Rattle.network_meaning.specs.Laws.{Laws}
 use Rattle.network_meaning.specs.LocalSteps.{Mode.reading, Mode.waiting, Mode.ended, Mode.parsing, Act, Room, turns_to, hands, read_act, written, closing}
 use Rattle.network_meaning.specs.MessageNetwork.{MessageNetwork, Beside, StageNumber, StageNumber.first, StageNumber.second, StageNumber.third, StageNumber.fourth, beside, put, acted, MessageStep}
 use Rattle.network_meaning.specs.Held.{total}

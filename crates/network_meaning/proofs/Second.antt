@@ -4,7 +4,8 @@ use Rattle.std.proofs.lemmas.List.{append-nil, map-append}
 use Rattle.network_meaning.specs.Sorts.{Sorts, Cargo.tree, Said, Shown, Next, Meaning}
 use Rattle.network_meaning.specs.Sorts.{Reply.refused, Said.shown, Said.replied, Message.cargo, Message.said, Message.end}
 use Rattle.network_meaning.specs.Sorts.{Next.no_more, Next.bad, Next.found, Meaning.names, Meaning.objects, Meaning.runs}
-use Rattle.network_meaning.specs.Language.{Language, Laws, after_next, after_meaning}
+use Rattle.network_meaning.specs.Language.{Language, after_next, after_meaning}
+use Rattle.network_meaning.specs.Laws.{Laws}
 use Rattle.network_meaning.specs.LocalSteps.{Mode.parsing, Mode.passing2, Mode.idle2, Act, Room, Parses, Judges, turns_to, says, hands, set_line}
 use Rattle.network_meaning.specs.MessageNetwork.{MessageNetwork, Beside, StageNumber.second, beside, put, acted, MessageStep}
 use Rattle.network_meaning.specs.Held.{total, kept, begun, with_line}

@@ -1,7 +1,8 @@
 -- Each step of the network of frames finishes the first of the statements that are left, or none.
 use Rattle.std.proofs.Common.{◌≡◌, inl, inr, ℕ, Bool, true, false, List, [], ◌∷◌, ◌++◌, None, refl, sym, ap, ◌∙◌, append_assoc}
 use Rattle.network_meaning.specs.Sorts.{Sorts, Finished}
-use Rattle.network_meaning.specs.Language.{Language, Laws}
+use Rattle.network_meaning.specs.Language.{Language}
+use Rattle.network_meaning.specs.Laws.{Laws}
 use Rattle.network_meaning.specs.LocalSteps.{Mode.reading, Mode.waiting, Mode.printing, Mode.idle2}
 use Rattle.network_meaning.specs.MessageNetwork.{MessageNetwork, StageNumber}
 use Rattle.network_meaning.specs.Orderly.{Phase, spread, Phase.reads, Phase.closes, Phase.sends, Phase.away, Phase.quits_a, Phase.quits_b, Phase.quits_c, Phase.over}

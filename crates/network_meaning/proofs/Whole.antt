@@ -1,7 +1,10 @@
 -- The equation for the network of frames.
 use Rattle.std.proofs.Common.{◌≡◌, ◌⊎◌, inl, inr, ℕ, Bool, true, false, List, [], ◌∷◌, ◌++◌, refl, sym, ap, subst, ◌∙◌, append_assoc, ◌≤◌, ◌+◌, ◌*◌, ◌<◌, arith}
+use Rattle.frame_codec.specs.declared.frame.Frame.{Frame}
 use Rattle.network_meaning.specs.Sorts.{Sorts, Message}
-use Rattle.network_meaning.specs.Language.{Language, Laws, IsCut, spell, AllMore}
+use Rattle.network_meaning.specs.Language.{Language}
+use Rattle.network_meaning.specs.Frames.{spell, AllMore, whole, is_more}
+use Rattle.network_meaning.specs.Laws.{Laws}
 use Rattle.network_meaning.specs.LocalSteps.{Want, Room, want_of}
 use Rattle.network_meaning.specs.LocalSteps.{Want.take_left, Want.take_right, Want.give_left, Want.give_right, Want.work, Want.none}
 use Rattle.network_meaning.specs.MessageNetwork.{MessageNetwork, Beside, beside, put, MessageStep, StageNumber, StageNumber.first, StageNumber.second, StageNumber.third, StageNumber.fourth}
@@ -10,23 +13,24 @@ use Rattle.network_meaning.specs.Due.{IsDue}
 use Rattle.network_meaning.specs.Orderly.{Phase, spread, FitPhase, Phase.reads, Phase.closes, Phase.sends, Phase.away, Phase.quits_a, Phase.quits_b, Phase.quits_c, Phase.over}
 use Rattle.network_meaning.specs.Network.{LocalState, Network, Between, between, put_between, Steps, want, NetworkStep, StepsUnlessBlocked, Shows, gather, and_then, as_messages, Orderly, bytes_in_all, HasTakenLeft, HasTakenRight, FrameFromLeft, FrameFromRight, FrameToLeft, FrameToRight}
 use Rattle.network_meaning.specs.WorkLeft.{Work, WorkLaws, weight, gifts, cost, frames_in, work_left, Lowers}
+use Rattle.network_meaning.proofs.Frames.{IsCut, is_cut, whole_frames}
 use Rattle.network_meaning.proofs.LoweringFirst.{step_lowers}
 use Rattle.network_meaning.proofs.Refines.{Fits, Follows, stays, moves, refines}
 use Rattle.network_meaning.proofs.Keeps.{Keeps}
 use Rattle.network_meaning.proofs.First.{step_keeps}
 
-gather_more : {S : Sorts} (L : Language S) (begun mores : List S.Frame) (last : S.Frame) (rest : List S.Frame) → AllMore L mores → L.is_more last ≡ false →
-    gather L begun (mores ++ last ∷ rest) ≡ and_then (L.whole (begun ++ (mores ++ last ∷ []))) (gather L [] rest)
-gather_more L begun [] last rest h e = rw e refl
-gather_more L begun (f ∷ fs) last rest h e = rw h.0 (gather_more L (begun ++ f ∷ []) fs last rest h.1 e ∙ ap (λ x. and_then (L.whole x) (gather L [] rest)) (append_assoc begun (f ∷ []) (fs ++ last ∷ [])))
+gather_more : {S : Sorts} (L : Language S) (begun mores : List Frame) (last : Frame) (rest : List Frame) → AllMore mores → is_more last ≡ false →
+    gather L begun (mores ++ last ∷ rest) ≡ and_then (whole L (begun ++ (mores ++ last ∷ []))) (gather L [] rest)
+gather_more L begun [] last rest h e = rw (gather, e) refl
+gather_more L begun (f ∷ fs) last rest h e = rw (gather, h.0) (gather_more L (begun ++ f ∷ []) fs last rest h.1 e ∙ ap (λ x. and_then (whole L x) (gather L [] rest)) (append_assoc begun (f ∷ []) (fs ++ last ∷ [])))
 
 pub gather_spell : {S : Sorts} (L : Language S) (laws : Laws L) (ms : List (Message S)) → gather L [] (spell L ms) ≡ ms
 gather_spell L laws [] = refl
 gather_spell L laws (m ∷ ms) =
-    let c : IsCut L m = laws.cut m in
+    let c : IsCut L m = is_cut L m in
     ap (λ x. gather L [] (x ++ spell L ms)) c.cut ∙ ap (gather L []) (append_assoc c.mores (c.last ∷ []) (spell L ms))
     ∙ gather_more L [] c.mores c.last (spell L ms) c.more c.ends
-    ∙ rw (← c.cut, laws.whole m, gather_spell L laws ms) refl
+    ∙ rw (← c.cut, whole_frames L laws m, gather_spell L laws ms) refl
 
 -- what it shows is the view
 pub shown_view : {S : Sorts} (L : Language S) (laws : Laws L) (n : Network S) (v : MessageNetwork S) → Shows L n v → as_messages L n ≡ v
@@ -43,27 +47,27 @@ record RightEdge {S : Sorts} (s s' : Between S) : Type 0 where
   pub pipe : s'.right_out ≡ s.right_out
   pub got : s'.stage.got_right ≡ s.stage.got_right
 
-left_taken : {S : Sorts} (L : Language S) (s s' : LocalState S) (f : S.Frame) (more : Bool) → HasTakenRight L s f more s' → s'.got_left ≡ s.got_left
+left_taken : {S : Sorts} (L : Language S) (s s' : LocalState S) (f : Frame) (more : Bool) → HasTakenRight L s f more s' → s'.got_left ≡ s.got_left
 left_taken L s s' f true e = ap (λ x. x.got_left) e
 left_taken L s s' f false (act, e1, e) = ap (λ x. x.got_left) e
 
-right_taken : {S : Sorts} (L : Language S) (s s' : LocalState S) (f : S.Frame) (more : Bool) → HasTakenLeft L s f more s' → s'.got_right ≡ s.got_right
+right_taken : {S : Sorts} (L : Language S) (s s' : LocalState S) (f : Frame) (more : Bool) → HasTakenLeft L s f more s' → s'.got_right ≡ s.got_right
 right_taken L s s' f true e = ap (λ x. x.got_right) e
 right_taken L s s' f false (act, e1, e) = ap (λ x. x.got_right) e
 
-left_from_right : {S : Sorts} (L : Language S) (s s' : Between S) (pipe : List S.Frame) → FrameFromRight L s pipe s' → LeftEdge s s'
+left_from_right : {S : Sorts} (L : Language S) (s s' : Between S) (pipe : List Frame) → FrameFromRight L s pipe s' → LeftEdge s s'
 left_from_right L s s' [] g = absurd g
-left_from_right L s s' (f ∷ fs) (stage', e1, e2) = record { pipe = ap (λ x. x.left_out) e2; got = ap (λ x. x.stage.got_left) e2 ∙ left_taken L s.stage stage' f (L.is_more f) e1 }
+left_from_right L s s' (f ∷ fs) (stage', e1, e2) = record { pipe = ap (λ x. x.left_out) e2; got = ap (λ x. x.stage.got_left) e2 ∙ left_taken L s.stage stage' f (is_more f) e1 }
 
-right_from_left : {S : Sorts} (L : Language S) (s s' : Between S) (pipe : List S.Frame) → FrameFromLeft L s pipe s' → RightEdge s s'
+right_from_left : {S : Sorts} (L : Language S) (s s' : Between S) (pipe : List Frame) → FrameFromLeft L s pipe s' → RightEdge s s'
 right_from_left L s s' [] g = absurd g
-right_from_left L s s' (f ∷ fs) (stage', e1, e2) = record { pipe = ap (λ x. x.right_out) e2; got = ap (λ x. x.stage.got_right) e2 ∙ right_taken L s.stage stage' f (L.is_more f) e1 }
+right_from_left L s s' (f ∷ fs) (stage', e1, e2) = record { pipe = ap (λ x. x.right_out) e2; got = ap (λ x. x.stage.got_right) e2 ∙ right_taken L s.stage stage' f (is_more f) e1 }
 
-left_to_right : {S : Sorts} (s s' : Between S) (out : List S.Frame) → FrameToRight s out s' → LeftEdge s s'
+left_to_right : {S : Sorts} (s s' : Between S) (out : List Frame) → FrameToRight s out s' → LeftEdge s s'
 left_to_right s s' [] g = absurd g
 left_to_right s s' (f ∷ fs) e = record { pipe = ap (λ x. x.left_out) e; got = ap (λ x. x.stage.got_left) e }
 
-right_to_left : {S : Sorts} (s s' : Between S) (out : List S.Frame) → FrameToLeft s out s' → RightEdge s s'
+right_to_left : {S : Sorts} (s s' : Between S) (out : List Frame) → FrameToLeft s out s' → RightEdge s s'
 right_to_left s s' [] g = absurd g
 right_to_left s s' (f ∷ fs) e = record { pipe = ap (λ x. x.right_out) e; got = ap (λ x. x.stage.got_right) e }
 

@@ -1,8 +1,10 @@
 pub mod Calls
 pub mod Due
+pub mod Frames
 pub mod Going
 pub mod Held
 pub mod Language
+pub mod Laws
 pub mod Lawful
 pub mod LocalSteps
 pub mod MessageNetwork

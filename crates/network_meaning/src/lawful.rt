@@ -1,5 +1,6 @@
 //! That nothing unlawful comes in a network of four stages, whatever language they speak.
 
+ghost use Rattle.frame_codec.specs.declared.frame.Frame.{Frame};
 ghost use Rattle.std.specs.Prelude.{◌≡◌, Some};
 ghost use Rattle.network_meaning.specs.Lawful.{FitWork, Lawful, comes};
 ghost use Rattle.network_meaning.specs.MessageNetwork.{StageNumber};
@@ -11,7 +12,7 @@ use crate::Spoken;
 /// In an orderly network each frame that comes to a stage is lawful for it, and what a stage works on is
 /// fit for the present database.
 pub fn nothing_unlawful_comes<T: Spoken>()
-    ensures takes { (user : T.User) (k : StageNumber) (n : Network T.sorts) (frame : T.sorts.Frame) → Orderly (T.language user) n → comes (between n k) ≡ Some frame
+    ensures takes { (user : T.User) (k : StageNumber) (n : Network T.sorts) (frame : Frame) → Orderly (T.language user) n → comes (between n k) ≡ Some frame
         → Lawful (T.language user) (between n k).stage frame }
     ensures works { (user : T.User) (k : StageNumber) (n : Network T.sorts) → Orderly (T.language user) n → FitWork (T.language user) (between n k).stage.mode n.room.db }
 {}

@@ -1,4 +1,5 @@
-ghost use Rattle.network_meaning.specs.Language.{Language, Laws};
+ghost use Rattle.network_meaning.specs.Language.{Language};
+ghost use Rattle.network_meaning.specs.Laws.{Laws};
 ghost use Rattle.network_meaning.specs.Sorts.{Sorts};
 ghost use Rattle.network_meaning.specs.Tiny.{tiny, tiny_sorts};
 ghost use Rattle.network_meaning.specs.TinyLaws.{tiny_laws};
