@@ -1,14 +1,14 @@
 -- Frames and messages.
-use Rattle.std.proofs.Common.{◌≡◌, ℕ, zero, suc, ◌/◌, ◌==◌, true, false, List, [], ◌∷◌, ◌++◌, Some, take, drop, length, refl, sym, ap, subst, ◌∙◌, append_assoc}
+use Rattle.std.proofs.Common.{◌≡◌, ℕ, zero, suc, ◌/◌, ◌==◌, true, false, List, [], ◌∷◌, ◌++◌, Some, take, drop, length, map, refl, sym, ap, subst, ◌∙◌, append_assoc}
 use Rattle.std.specs.declared.option.Option.{Option}
 use Rattle.frame_codec.specs.declared.frame.Frame.{Frame}
 use Rattle.frame_codec.specs.Messages.{frame, cut_into, message_frames}
 use Rattle.frame_codec.proofs.Spelled.{cut_joined}
-use Rattle.network_meaning.specs.Sorts.{Sorts, Message}
+use Rattle.network_meaning.specs.Sorts.{Sorts, Message, Said}
 use Rattle.network_meaning.specs.Sorts.{Cargo.tree, Cargo.change, Shown.head, Shown.row, Reply.done, Reply.refused, Said.shown, Said.replied, Message.text, Message.cargo, Message.said, Message.end, Message.quit}
 use Rattle.network_meaning.specs.Language.{Language}
 use Rattle.network_meaning.specs.Frames.{spell, AllMore, frames, whole, is_more, kind_of, last_of, payloads, read_by}
-use Rattle.network_meaning.specs.Laws.{Laws}
+use Rattle.network_meaning.specs.Spelled.{Spelled, EachSpelled}
 
 -- frames that are some More frames and a last one of this kind
 pub record EndsAs (kind : ℕ) (fs : List Frame) : Type 0 where
@@ -68,8 +68,9 @@ read_again {S} L m =
     ∙ ap (λ (k : ℕ). L.message_of k (payloads (frames L m))) c.is
     ∙ ap (L.message_of (kind_of m)) (cut_joined (kind_of m) (L.payload m))
 
-pub whole_frames : {S : Sorts} (L : Language S) (laws : Laws L) (m : Message S) → whole L (frames L m) ≡ Some m
-whole_frames L laws m = read_again L m ∙ laws.read m
+-- a message that is spelled is what its frames are joined to
+pub whole_frames : {S : Sorts} (L : Language S) (m : Message S) → Spelled L m → whole L (frames L m) ≡ Some m
+whole_frames L m e = read_again L m ∙ e
 
 pub spell-append : {S : Sorts} (L : Language S) (xs ys : List (Message S)) → spell L (xs ++ ys) ≡ spell L xs ++ spell L ys
 spell-append L [] ys = refl
@@ -102,13 +103,14 @@ pub record First {S : Sorts} (L : Language S) (got : List Frame) (f : Frame) (re
   pub is : ms ≡ message ∷ later
   pub read : whole L (got ++ f ∷ []) ≡ Some message
   pub behind : rest ≡ spell L later
+  pub spelled : EachSpelled L later
 
 -- the last frame makes the first message whole
-pub first_whole : {S : Sorts} (L : Language S) (laws : Laws L) (got : List Frame) (f : Frame) (rest : List Frame) (ms : List (Message S)) → AllMore got → is_more f ≡ false →
+pub first_whole : {S : Sorts} (L : Language S) (got : List Frame) (f : Frame) (rest : List Frame) (ms : List (Message S)) → AllMore got → is_more f ≡ false → EachSpelled L ms →
     got ++ f ∷ rest ≡ spell L ms → First L got f rest ms
-first_whole L laws [] f rest [] h hf e = cc
-first_whole L laws (g ∷ got) f rest [] h hf e = cc
-first_whole {S} L laws got f rest (m ∷ ms) h hf e =
+first_whole L [] f rest [] h hf sp e = cc
+first_whole L (g ∷ got) f rest [] h hf sp e = cc
+first_whole {S} L got f rest (m ∷ ms) h hf sp e =
     let c : IsCut L m = is_cut L m in
     let e' : got ++ f ∷ rest ≡ c.mores ++ c.last ∷ spell L ms = e ∙ ap (λ (x : List Frame). x ++ spell L ms) c.cut ∙ append_assoc c.mores (c.last ∷ []) (spell L ms) in
     let s : Split got c.mores f c.last rest (spell L ms) = split got c.mores f c.last rest (spell L ms) h c.more hf c.ends e' in
@@ -117,6 +119,17 @@ first_whole {S} L laws got f rest (m ∷ ms) h hf e =
       message = m;
       later = ms;
       is = refl;
-      read = ap (whole L) same ∙ whole_frames L laws m;
+      read = ap (whole L) same ∙ whole_frames L m sp.0;
       behind = s.behind;
+      spelled = sp.1;
     }
+
+-- some messages and others
+pub each-append : {S : Sorts} (L : Language S) (xs ys : List (Message S)) → EachSpelled L xs → EachSpelled L ys → EachSpelled L (xs ++ ys)
+each-append L [] ys h k = k
+each-append L (x ∷ xs) ys h k = (h.0, each-append L xs ys h.1 k)
+
+-- what is said behind all that comes
+pub coming_more : {S : Sorts} (L : Language S) (coming more : List (Said S)) (xs : List (Message S)) → EachSpelled L (map said coming ++ []) → EachSpelled L (map said more ++ xs) → EachSpelled L (map said (coming ++ more) ++ xs)
+coming_more L [] more xs h k = k
+coming_more L (s ∷ ss) more xs h k = (h.0, coming_more L ss more xs h.1 k)

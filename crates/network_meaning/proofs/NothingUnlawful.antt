@@ -12,6 +12,7 @@ use Rattle.network_meaning.specs.LocalSteps.{Mode.printing, Mode.parsing, Mode.p
 use Rattle.network_meaning.specs.MessageNetwork.{Beside, beside, StageNumber, StageNumber.first, StageNumber.second, StageNumber.third, StageNumber.fourth}
 use Rattle.network_meaning.specs.Held.{kept, begun}
 use Rattle.network_meaning.specs.Due.{Due, IsDue}
+use Rattle.network_meaning.specs.Spelled.{EachSpelled, IsSpelled}
 use Rattle.network_meaning.specs.Orderly.{Phase, Place, Front, Phase.reads, Phase.closes, Phase.sends, Phase.away, Phase.quits_a, Phase.quits_b, Phase.quits_c, Phase.over, spread, front_mode, FitPhase, FitPlace}
 use Rattle.network_meaning.specs.Orderly.{Place.at_two, Place.in_b, Place.at_three, Place.in_c, Place.at_four, Place.in_d, Place.in_e_tables, Place.in_e_reply, Place.in_f}
 use Rattle.network_meaning.specs.Network.{Network, Between, between, want_with, Shows, Orderly}
@@ -89,25 +90,25 @@ begins (x ∷ xs) (y ∷ ys) f last behind rest h ef el e =
     record { next = b.next; later = b.later; is = rw (same, b.is) refl }
 
 lawful_behind : {S : Sorts} (L : Language S) (laws : Laws L) (mode : Mode S) (got : List Frame) (f : Frame) (behind : List Frame) (ms : List (Message S)) (more : Bool) → is_more f ≡ more → AllMore got →
-    got ++ f ∷ behind ≡ spell L ms → FirstTaken L mode ms → LawfulBehind L mode got f more
-lawful_behind {S} L laws mode got f behind ms false em h e t =
-    let w : First L got f behind ms = first_whole L laws got f behind ms h em e in
+    got ++ f ∷ behind ≡ spell L ms → EachSpelled L ms → FirstTaken L mode ms → LawfulBehind L mode got f more
+lawful_behind {S} L laws mode got f behind ms false em h e sp t =
+    let w : First L got f behind ms = first_whole L got f behind ms h em sp e in
     rw w.read (rw w.is at t)
-lawful_behind L laws mode [] f behind [] true em h e t = cc
-lawful_behind L laws mode (x ∷ xs) f behind [] true em h e t = cc
-lawful_behind {S} L laws mode got f behind (m ∷ ms) true em h e (act, taken) =
+lawful_behind L laws mode [] f behind [] true em h e sp t = cc
+lawful_behind L laws mode (x ∷ xs) f behind [] true em h e sp t = cc
+lawful_behind {S} L laws mode got f behind (m ∷ ms) true em h e sp (act, taken) =
     let c : IsCut L m = is_cut L m in
     let e' : got ++ f ∷ behind ≡ c.mores ++ c.last ∷ spell L ms = e ∙ ap (λ (x : List Frame). x ++ spell L ms) c.cut ∙ append_assoc c.mores (c.last ∷ []) (spell L ms) in
     let b : Begins (c.mores ++ c.last ∷ []) (got ++ f ∷ []) = begins got c.mores f c.last behind (spell L ms) h em c.ends e' in
     record { message = m; act = act; taken = taken; next = b.next; later = b.later; is = c.cut ∙ b.is }
 
 -- a pipe, between what was taken of it and what is still to be given to it
-from_pipe : {S : Sorts} (L : Language S) (laws : Laws L) (mode : Mode S) (got pipe out : List Frame) (ms : List (Message S)) → AllMore got → got ++ (pipe ++ out) ≡ spell L ms → FirstTaken L mode ms →
+from_pipe : {S : Sorts} (L : Language S) (laws : Laws L) (mode : Mode S) (got pipe out : List Frame) (ms : List (Message S)) → AllMore got → got ++ (pipe ++ out) ≡ spell L ms → EachSpelled L ms → FirstTaken L mode ms →
     (f : Frame) → front_of pipe ≡ Some f → LawfulBehind L mode got f (is_more f)
-from_pipe L laws mode got [] out ms h e t f c = cc
-from_pipe L laws mode got (g ∷ pipe) out ms h e t f c =
+from_pipe L laws mode got [] out ms h e sp t f c = cc
+from_pipe L laws mode got (g ∷ pipe) out ms h e sp t f c =
     let same : g ≡ f = cc in
-    rw (← same) (lawful_behind L laws mode got g (pipe ++ out) ms (is_more g) refl h e t)
+    rw (← same) (lawful_behind L laws mode got g (pipe ++ out) ms (is_more g) refl h e sp t)
 
 by_want : {S : Sorts} (L : Language S) (s : Between S) (t : Beside S) (w : Want) → t.mode ≡ s.stage.mode → want_of t.mode ≡ w → FirstAt L t (want_of t.mode) →
     (FirstTaken L t.mode t.left_in → (f : Frame) → front_of s.left_in ≡ Some f → LawfulBehind L t.mode s.stage.got_left f (is_more f)) →
@@ -132,28 +133,28 @@ by_outs L s t [] [] em h left right f c = by_want L s t (want_of s.stage.mode) e
 no_pipe : {S : Sorts} (L : Language S) (mode : Mode S) (got : List Frame) (ms : List (Message S)) → FirstTaken L mode ms → (f : Frame) → front_of {F = Frame} [] ≡ Some f → LawfulBehind L mode got f (is_more f)
 no_pipe L mode got ms t f c = cc
 
-lawful_at : {S : Sorts} (L : Language S) (laws : Laws L) (n : Network S) (p : Phase S) (k : StageNumber) → Shows L n (spread p n.room) → FitPhase L p n.room.db → IsDue L (spread p n.room) →
+lawful_at : {S : Sorts} (L : Language S) (laws : Laws L) (n : Network S) (p : Phase S) (k : StageNumber) → Shows L n (spread p n.room) → FitPhase L p n.room.db → IsDue L (spread p n.room) → IsSpelled L (spread p n.room) →
     (f : Frame) → comes (between n k) ≡ Some f → Lawful L (between n k).stage f
-lawful_at L laws n p first h fits d =
+lawful_at L laws n p first h fits d sp =
     by_outs L (between n first) (beside (spread p n.room) first) n.one.out_left n.one.out_right h.one (first_taken L p n.room first fits d)
     (no_pipe L (spread p n.room).one n.one.got_left [])
-    (from_pipe L laws (spread p n.room).one n.one.got_right n.f n.two.out_left (spread p n.room).f h.more_one h.f)
-lawful_at L laws n p second h fits d =
+    (from_pipe L laws (spread p n.room).one n.one.got_right n.f n.two.out_left (spread p n.room).f h.more_one h.f sp.f)
+lawful_at L laws n p second h fits d sp =
     by_outs L (between n second) (beside (spread p n.room) second) n.two.out_left n.two.out_right h.two (first_taken L p n.room second fits d)
-    (from_pipe L laws (spread p n.room).two n.two.got_left n.a n.one.out_right (spread p n.room).a h.more_two_left h.a)
-    (from_pipe L laws (spread p n.room).two n.two.got_right n.e n.three.out_left (spread p n.room).e h.more_two_right h.e)
-lawful_at L laws n p third h fits d =
+    (from_pipe L laws (spread p n.room).two n.two.got_left n.a n.one.out_right (spread p n.room).a h.more_two_left h.a sp.a)
+    (from_pipe L laws (spread p n.room).two n.two.got_right n.e n.three.out_left (spread p n.room).e h.more_two_right h.e sp.e)
+lawful_at L laws n p third h fits d sp =
     by_outs L (between n third) (beside (spread p n.room) third) n.three.out_left n.three.out_right h.three (first_taken L p n.room third fits d)
-    (from_pipe L laws (spread p n.room).three n.three.got_left n.b n.two.out_right (spread p n.room).b h.more_three_left h.b)
-    (from_pipe L laws (spread p n.room).three n.three.got_right n.d n.four.out_left (spread p n.room).d h.more_three_right h.d)
-lawful_at L laws n p fourth h fits d =
+    (from_pipe L laws (spread p n.room).three n.three.got_left n.b n.two.out_right (spread p n.room).b h.more_three_left h.b sp.b)
+    (from_pipe L laws (spread p n.room).three n.three.got_right n.d n.four.out_left (spread p n.room).d h.more_three_right h.d sp.d)
+lawful_at L laws n p fourth h fits d sp =
     by_outs L (between n fourth) (beside (spread p n.room) fourth) n.four.out_left n.four.out_right h.four (first_taken L p n.room fourth fits d)
-    (from_pipe L laws (spread p n.room).four n.four.got_left n.c n.three.out_right (spread p n.room).c h.more_four h.c)
+    (from_pipe L laws (spread p n.room).four n.four.got_left n.c n.three.out_right (spread p n.room).c h.more_four h.c sp.c)
     (no_pipe L (spread p n.room).four n.four.got_right [])
 
 -- what comes to a stage is lawful for it
 pub lawful : {S : Sorts} (L : Language S) (laws : Laws L) (k : StageNumber) (n : Network S) (f : Frame) → Orderly L n → comes (between n k) ≡ Some f → Lawful L (between n k).stage f
-lawful L laws k n f o c = lawful_at L laws n o.phase k o.shows o.fits o.due f c
+lawful L laws k n f o c = lawful_at L laws n o.phase k o.shows o.fits o.due o.spelled f c
 
 front_works : {S : Sorts} (L : Language S) (m : S.Monitor) (o : Option S.Head) (prints : Option (Said S)) (xs : List (Message S)) (db : S.Db) → Due L (begun (front_mode m o prints)) (kept (front_mode m o prints) ++ xs) →
     FitWork L (front_mode m o prints) db

@@ -7,7 +7,6 @@ use Rattle.frame_codec.specs.declared.frame.Frame.{Frame}
 use Rattle.network_meaning.specs.Sorts.{Sorts, Message, Said, Shown, Cargo.tree, Said.shown, Said.replied, Message.text, Message.cargo, Message.said, Message.end, Message.quit}
 use Rattle.network_meaning.specs.Language.{Language}
 use Rattle.network_meaning.specs.Frames.{spell, AllMore, is_more}
-use Rattle.network_meaning.specs.Laws.{Laws}
 use Rattle.network_meaning.specs.LocalSteps.{Mode, Mode.waiting, Mode.printing, Mode.idle3, Mode.idle4, Mode.idle2, Mode.parsing, Mode.reading, Mode.ended, Want, want_of}
 use Rattle.network_meaning.specs.LocalSteps.{Want.take_left, Want.take_right, Want.give_left, Want.give_right, Want.work, Want.none}
 use Rattle.network_meaning.specs.MessageNetwork.{StageNumber, StageNumber.first, StageNumber.second, StageNumber.third, StageNumber.fourth}
@@ -28,10 +27,10 @@ not_all_more [] (m ∷ ms) last rest h e eq = cc
 not_all_more (g ∷ gs) [] last rest h e eq = let a : g ≡ last = cc in let b : is_more g ≡ true = h.0 in let d : is_more last ≡ true = rw a at b in cc
 not_all_more (g ∷ gs) (m ∷ ms) last rest h e eq = let t : gs ≡ ms ++ last ∷ rest = cc in not_all_more gs ms last rest h.1 e t
 
-pub ready : {S : Sorts} (L : Language S) (laws : Laws L) (got pipe out : List Frame) (m : Message S) (ms : List (Message S)) → AllMore got → got ++ (pipe ++ out) ≡ spell L (m ∷ ms) → Ready pipe out
-ready L laws got (f ∷ fs) out m ms h e = in_pipe refl
-ready L laws got [] (f ∷ fs) m ms h e = to_give refl refl
-ready {S} L laws got [] [] m ms h e =
+pub ready : {S : Sorts} (L : Language S) (got pipe out : List Frame) (m : Message S) (ms : List (Message S)) → AllMore got → got ++ (pipe ++ out) ≡ spell L (m ∷ ms) → Ready pipe out
+ready L got (f ∷ fs) out m ms h e = in_pipe refl
+ready L got [] (f ∷ fs) m ms h e = to_give refl refl
+ready {S} L got [] [] m ms h e =
     let c : IsCut L m = is_cut L m in
     absurd (not_all_more got c.mores c.last (spell L ms) h c.ends (sym (nil got) ∙ e ∙ ap (λ (x : List Frame). x ++ spell L ms) c.cut ∙ append_assoc c.mores (c.last ∷ []) (spell L ms)))
   where
@@ -125,36 +124,36 @@ f_ready : {S : Sorts} (L : Language S) (capacity : ℕ) (n : Network S) (w : Fro
 f_ready L capacity n w p le h (in_pipe e) = one_goes capacity n w.monitor w.open_head w.prints h.first_left (nothing_left n.two.got_left n.a n.one.out_right h.a) h.one e
 f_ready L capacity n w p le h (to_give e1 e2) = left_goes capacity n w.monitor w.open_head w.prints le h.first_left (nothing_left n.two.got_left n.a n.one.out_right h.a) h.one e2
 
-a_row : {S : Sorts} (L : Language S) (laws : Laws L) (n : Network S) (coming : List (Said S)) → AllMore n.one.got_right → n.one.got_right ++ (n.f ++ n.two.out_left) ≡ spell L (map said coming ++ end ∷ []) → Ready n.f n.two.out_left
-a_row L laws n [] h e = ready L laws n.one.got_right n.f n.two.out_left end [] h e
-a_row L laws n (s ∷ ss) h e = ready L laws n.one.got_right n.f n.two.out_left (said s) (map said ss ++ end ∷ []) h e
+a_row : {S : Sorts} (L : Language S) (n : Network S) (coming : List (Said S)) → AllMore n.one.got_right → n.one.got_right ++ (n.f ++ n.two.out_left) ≡ spell L (map said coming ++ end ∷ []) → Ready n.f n.two.out_left
+a_row L n [] h e = ready L n.one.got_right n.f n.two.out_left end [] h e
+a_row L n (s ∷ ss) h e = ready L n.one.got_right n.f n.two.out_left (said s) (map said ss ++ end ∷ []) h e
 
-tables_row : {S : Sorts} (L : Language S) (laws : Laws L) (n : Network S) (ss : List (Shown S)) → AllMore n.two.got_right → n.two.got_right ++ (n.e ++ n.three.out_left) ≡ spell L (map (λ s. said (shown s)) ss ++ end ∷ []) → Ready n.e n.three.out_left
-tables_row L laws n [] h e = ready L laws n.two.got_right n.e n.three.out_left end [] h e
-tables_row {S} L laws n (s ∷ ss) h e = ready L laws n.two.got_right n.e n.three.out_left (said (shown s)) (map (λ (s : Shown S). said (shown s)) ss ++ end ∷ []) h e
+tables_row : {S : Sorts} (L : Language S) (n : Network S) (ss : List (Shown S)) → AllMore n.two.got_right → n.two.got_right ++ (n.e ++ n.three.out_left) ≡ spell L (map (λ s. said (shown s)) ss ++ end ∷ []) → Ready n.e n.three.out_left
+tables_row L n [] h e = ready L n.two.got_right n.e n.three.out_left end [] h e
+tables_row {S} L n (s ∷ ss) h e = ready L n.two.got_right n.e n.three.out_left (said (shown s)) (map (λ (s : Shown S). said (shown s)) ss ++ end ∷ []) h e
 
 -- stage 2 has nothing to say
-quiet_goes : {S : Sorts} (L : Language S) (laws : Laws L) (capacity : ℕ) (n : Network S) (w : Front S) (p : Place S) → 1 ≤ capacity → Shows L n (spread (away w p) n.room) → n.two.out_left ≡ [] → SomeGoes capacity n
-quiet_goes L laws capacity n w (at_two b) le h e = at_mode capacity n second work (parsing w.ranges b) e (nothing_left n.three.got_left n.b n.two.out_right h.b) h.two refl refl
-quiet_goes L laws capacity n w (in_b line b t) le h e =
-    b_ready L capacity n w (in_b line b t) le h refl e (nothing_left n.two.got_right n.e n.three.out_left h.e) (nothing_left n.four.got_left n.c n.three.out_right h.c) (ready L laws n.three.got_left n.b n.two.out_right (cargo (tree t)) [] h.more_three_left h.b)
-quiet_goes L laws capacity n w (at_three line b t) le h e =
+quiet_goes : {S : Sorts} (L : Language S) (capacity : ℕ) (n : Network S) (w : Front S) (p : Place S) → 1 ≤ capacity → Shows L n (spread (away w p) n.room) → n.two.out_left ≡ [] → SomeGoes capacity n
+quiet_goes L capacity n w (at_two b) le h e = at_mode capacity n second work (parsing w.ranges b) e (nothing_left n.three.got_left n.b n.two.out_right h.b) h.two refl refl
+quiet_goes L capacity n w (in_b line b t) le h e =
+    b_ready L capacity n w (in_b line b t) le h refl e (nothing_left n.two.got_right n.e n.three.out_left h.e) (nothing_left n.four.got_left n.c n.three.out_right h.c) (ready L n.three.got_left n.b n.two.out_right (cargo (tree t)) [] h.more_three_left h.b)
+quiet_goes L capacity n w (at_three line b t) le h e =
     at_mode capacity n third work (mode_three (at_three line b t)) (nothing_left n.two.got_right n.e n.three.out_left h.e) (nothing_left n.four.got_left n.c n.three.out_right h.c) h.three refl refl
-quiet_goes L laws capacity n w (in_c line b x) le h e =
-    c_ready L capacity n w (in_c line b x) le h refl (nothing_left n.two.got_right n.e n.three.out_left h.e) (nothing_left n.three.got_right n.d n.four.out_left h.d) (ready L laws n.four.got_left n.c n.three.out_right (cargo x) [] h.more_four h.c)
-quiet_goes L laws capacity n w (at_four line b x) le h e =
+quiet_goes L capacity n w (in_c line b x) le h e =
+    c_ready L capacity n w (in_c line b x) le h refl (nothing_left n.two.got_right n.e n.three.out_left h.e) (nothing_left n.three.got_right n.d n.four.out_left h.d) (ready L n.four.got_left n.c n.three.out_right (cargo x) [] h.more_four h.c)
+quiet_goes L capacity n w (at_four line b x) le h e =
     at_mode capacity n fourth work (mode_four (at_four line b x)) (nothing_left n.three.got_right n.d n.four.out_left h.d) h.last_right h.four refl refl
-quiet_goes L laws capacity n w (in_d line b r) le h e =
-    d_ready L capacity n w (in_d line b r) le h refl (nothing_left n.two.got_right n.e n.three.out_left h.e) (nothing_left n.four.got_left n.c n.three.out_right h.c) (ready L laws n.three.got_right n.d n.four.out_left (said (replied r)) [] h.more_three_right h.d)
-quiet_goes L laws capacity n w (in_e_tables line b ss) le h e =
-    e_ready L capacity n w (in_e_tables line b ss) le h refl e (nothing_left n.three.got_left n.b n.two.out_right h.b) (tables_row L laws n ss h.more_two_right h.e)
-quiet_goes L laws capacity n w (in_e_reply line b r) le h e =
-    e_ready L capacity n w (in_e_reply line b r) le h refl e (nothing_left n.three.got_left n.b n.two.out_right h.b) (ready L laws n.two.got_right n.e n.three.out_left (said (replied r)) [] h.more_two_right h.e)
-quiet_goes L laws capacity n w in_f le h e = f_ready L capacity n w in_f le h (a_row L laws n w.coming h.more_one h.f)
+quiet_goes L capacity n w (in_d line b r) le h e =
+    d_ready L capacity n w (in_d line b r) le h refl (nothing_left n.two.got_right n.e n.three.out_left h.e) (nothing_left n.four.got_left n.c n.three.out_right h.c) (ready L n.three.got_right n.d n.four.out_left (said (replied r)) [] h.more_three_right h.d)
+quiet_goes L capacity n w (in_e_tables line b ss) le h e =
+    e_ready L capacity n w (in_e_tables line b ss) le h refl e (nothing_left n.three.got_left n.b n.two.out_right h.b) (tables_row L n ss h.more_two_right h.e)
+quiet_goes L capacity n w (in_e_reply line b r) le h e =
+    e_ready L capacity n w (in_e_reply line b r) le h refl e (nothing_left n.three.got_left n.b n.two.out_right h.b) (ready L n.two.got_right n.e n.three.out_left (said (replied r)) [] h.more_two_right h.e)
+quiet_goes L capacity n w in_f le h e = f_ready L capacity n w in_f le h (a_row L n w.coming h.more_one h.f)
 
-away_goes : {S : Sorts} (L : Language S) (laws : Laws L) (capacity : ℕ) (n : Network S) (w : Front S) (p : Place S) → 1 ≤ capacity → Shows L n (spread (away w p) n.room) → ((n.two.out_left ≡ []) ⊎ (is_empty n.two.out_left ≡ false)) → SomeGoes capacity n
-away_goes L laws capacity n w p le h (inl e) = quiet_goes L laws capacity n w p le h e
-away_goes L laws capacity n w p le h (inr e) = left_goes capacity n w.monitor w.open_head w.prints le h.first_left (nothing_left n.two.got_left n.a n.one.out_right h.a) h.one e
+away_goes : {S : Sorts} (L : Language S) (capacity : ℕ) (n : Network S) (w : Front S) (p : Place S) → 1 ≤ capacity → Shows L n (spread (away w p) n.room) → ((n.two.out_left ≡ []) ⊎ (is_empty n.two.out_left ≡ false)) → SomeGoes capacity n
+away_goes L capacity n w p le h (inl e) = quiet_goes L capacity n w p le h e
+away_goes L capacity n w p le h (inr e) = left_goes capacity n w.monitor w.open_head w.prints le h.first_left (nothing_left n.two.got_left n.a n.one.out_right h.a) h.one e
 
 -- a message from 1 to 2, from 2 to 3 or from 3 to 4 while all else is quiet
 a_ready : {S : Sorts} (capacity : ℕ) (n : Network S) (two : Mode S) → 1 ≤ capacity → want_of two ≡ take_left → two ≡ n.two.mode → n.one.out_left ≡ [] → n.two.out_left ≡ [] → n.two.out_right ≡ [] → Ready n.a n.one.out_right → SomeGoes capacity n
@@ -172,19 +171,19 @@ r_ready capacity n four le m e0 e1 e2 e3 (to_give e4 e5) = gives_right capacity 
 ended_with : {S : Sorts} (s : LocalState S) → s.out_left ≡ [] → s.out_right ≡ [] → ended ≡ s.mode → want s ≡ none
 ended_with {S} s e1 e2 e3 = ap (λ (x : List Frame). want_with x s.out_right s.mode) e1 ∙ ap (λ (x : List Frame). want_with [] x s.mode) e2 ∙ ap want_of (sym e3)
 
-pub progress : {S : Sorts} (L : Language S) (laws : Laws L) (capacity : ℕ) (n : Network S) (p : Phase S) → 1 ≤ capacity → Shows L n (spread p n.room) → SomeGoes capacity n ⊎ AllEnded n
-progress L laws capacity n (reads m ranges) le h = inl (at_mode capacity n first work (reading m) h.first_left (nothing_left n.two.got_left n.a n.one.out_right h.a) h.one refl refl)
-progress L laws capacity n (closes m o ranges) le h = inl (at_mode capacity n first work (printing m o end) h.first_left (nothing_left n.two.got_left n.a n.one.out_right h.a) h.one refl refl)
-progress L laws capacity n (sends m ranges t) le h =
-    inl (a_ready capacity n (idle2 ranges) le refl h.two h.first_left (nothing_left n.one.got_right n.f n.two.out_left h.f) (nothing_left n.three.got_left n.b n.two.out_right h.b) (ready L laws n.two.got_left n.a n.one.out_right (text t) [] h.more_two_left h.a))
-progress L laws capacity n (away w p) le h = inl (away_goes L laws capacity n w p le h (by_empty n.two.out_left))
-progress L laws capacity n (quits_a ranges) le h =
-    inl (a_ready capacity n (idle2 ranges) le refl h.two h.first_left (nothing_left n.one.got_right n.f n.two.out_left h.f) (nothing_left n.three.got_left n.b n.two.out_right h.b) (ready L laws n.two.got_left n.a n.one.out_right quit [] h.more_two_left h.a))
-progress L laws capacity n quits_b le h =
-    inl (q_ready capacity n idle3 le refl h.three (nothing_left n.one.got_right n.f n.two.out_left h.f) (nothing_left n.two.got_right n.e n.three.out_left h.e) (nothing_left n.four.got_left n.c n.three.out_right h.c) (ready L laws n.three.got_left n.b n.two.out_right quit [] h.more_three_left h.b))
-progress L laws capacity n quits_c le h =
-    inl (r_ready capacity n idle4 le refl h.four (nothing_left n.two.got_right n.e n.three.out_left h.e) (nothing_left n.three.got_right n.d n.four.out_left h.d) h.last_right (ready L laws n.four.got_left n.c n.three.out_right quit [] h.more_four h.c))
-progress L laws capacity n over le h =
+pub progress : {S : Sorts} (L : Language S) (capacity : ℕ) (n : Network S) (p : Phase S) → 1 ≤ capacity → Shows L n (spread p n.room) → SomeGoes capacity n ⊎ AllEnded n
+progress L capacity n (reads m ranges) le h = inl (at_mode capacity n first work (reading m) h.first_left (nothing_left n.two.got_left n.a n.one.out_right h.a) h.one refl refl)
+progress L capacity n (closes m o ranges) le h = inl (at_mode capacity n first work (printing m o end) h.first_left (nothing_left n.two.got_left n.a n.one.out_right h.a) h.one refl refl)
+progress L capacity n (sends m ranges t) le h =
+    inl (a_ready capacity n (idle2 ranges) le refl h.two h.first_left (nothing_left n.one.got_right n.f n.two.out_left h.f) (nothing_left n.three.got_left n.b n.two.out_right h.b) (ready L n.two.got_left n.a n.one.out_right (text t) [] h.more_two_left h.a))
+progress L capacity n (away w p) le h = inl (away_goes L capacity n w p le h (by_empty n.two.out_left))
+progress L capacity n (quits_a ranges) le h =
+    inl (a_ready capacity n (idle2 ranges) le refl h.two h.first_left (nothing_left n.one.got_right n.f n.two.out_left h.f) (nothing_left n.three.got_left n.b n.two.out_right h.b) (ready L n.two.got_left n.a n.one.out_right quit [] h.more_two_left h.a))
+progress L capacity n quits_b le h =
+    inl (q_ready capacity n idle3 le refl h.three (nothing_left n.one.got_right n.f n.two.out_left h.f) (nothing_left n.two.got_right n.e n.three.out_left h.e) (nothing_left n.four.got_left n.c n.three.out_right h.c) (ready L n.three.got_left n.b n.two.out_right quit [] h.more_three_left h.b))
+progress L capacity n quits_c le h =
+    inl (r_ready capacity n idle4 le refl h.four (nothing_left n.two.got_right n.e n.three.out_left h.e) (nothing_left n.three.got_right n.d n.four.out_left h.d) h.last_right (ready L n.four.got_left n.c n.three.out_right quit [] h.more_four h.c))
+progress L capacity n over le h =
     inr (record {
       one = ended_with n.one h.first_left (nothing_left n.two.got_left n.a n.one.out_right h.a) h.one;
       two = ended_with n.two (nothing_left n.one.got_right n.f n.two.out_left h.f) (nothing_left n.three.got_left n.b n.two.out_right h.b) h.two;

@@ -4,7 +4,7 @@ use Rattle.frame_codec.specs.declared.frame.Frame.{Frame}
 use Rattle.network_meaning.specs.Sorts.{Sorts, Message}
 use Rattle.network_meaning.specs.Language.{Language}
 use Rattle.network_meaning.specs.Frames.{spell, AllMore, frames, is_more}
-use Rattle.network_meaning.specs.Laws.{Laws}
+use Rattle.network_meaning.specs.Spelled.{EachSpelled}
 use Rattle.network_meaning.specs.LocalSteps.{Want, Act, takes, Works, want_of, Room}
 use Rattle.network_meaning.specs.LocalSteps.{Want.take_left, Want.take_right, Want.give_left, Want.give_right, Want.work, Want.none}
 use Rattle.network_meaning.specs.MessageNetwork.{Beside, Moves, acted}
@@ -23,6 +23,8 @@ pub record Fits {S : Sorts} (L : Language S) (s : Between S) (t : Beside S) (bl 
   pub right_out : ar ++ (s.right_out ++ s.stage.out_right) ≡ spell L t.right_out
   pub more_left : AllMore s.stage.got_left
   pub more_right : AllMore s.stage.got_right
+  pub spelled_left : EachSpelled L t.left_in
+  pub spelled_right : EachSpelled L t.right_in
 
 -- the frames of a stage and its pipes: two for one that is still to be given
 abbrev pub frames_at : {S : Sorts} → Between S → ℕ
@@ -83,11 +85,11 @@ worked_frames : {S : Sorts} (L : Language S) (ol or lo ro li ri : List Frame) (q
 worked_frames L ol or lo ro li ri ql qr gl gr =
     rw (out_size L ol gl, out_size L or gr, size-append L ql gl, size-append L qr gr) (omega arith)
 
-from_left : {S : Sorts} (L : Language S) (laws : Laws L) (s : Between S) (s' : Between S) (t : Beside S) (bl al br ar : List Frame) (f : Frame) (fs : List Frame) (more : Bool) (stage' : LocalState S) →
+from_left : {S : Sorts} (L : Language S) (s : Between S) (s' : Between S) (t : Beside S) (bl al br ar : List Frame) (f : Frame) (fs : List Frame) (more : Bool) (stage' : LocalState S) →
     is_more f ≡ more → s.left_in ≡ f ∷ fs → want_of s.stage.mode ≡ take_left → Fits L s t bl al br ar →
     HasTakenLeft L s.stage f more stage' → s' ≡ record { stage = stage'; left_in = fs; left_out = s.left_out; right_out = s.right_out; right_in = s.right_in; room = s.room } →
     Follows L s s' t bl al br ar
-from_left L laws s s' t bl al br ar f fs true stage' em el ew h e e2 =
+from_left L s s' t bl al br ar f fs true stage' em el ew h e e2 =
     rw (e2, e) (stays (record {
       mode = h.mode;
       room = h.room;
@@ -95,12 +97,14 @@ from_left L laws s s' t bl al br ar f fs true stage' em el ew h e e2 =
       right_in = h.right_in;
       right_out = h.right_out;
       more_right = h.more_right;
+      spelled_left = h.spelled_left;
+      spelled_right = h.spelled_right;
       left_in = rw (append_assoc s.stage.got_left (f ∷ []) (fs ++ bl), ← h.left_in, el) refl;
       more_left = more-append s.stage.got_left f h.more_left em;
     }) (rw el (omega arith)))
-from_left {S} L laws s s' t bl al br ar f fs false stage' em el ew h (act, e1, e) e2 =
+from_left {S} L s s' t bl al br ar f fs false stage' em el ew h (act, e1, e) e2 =
     let e0 : s.stage.got_left ++ f ∷ (fs ++ bl) ≡ spell L t.left_in = rw el at h.left_in in
-    let w : First L s.stage.got_left f (fs ++ bl) t.left_in = first_whole L laws s.stage.got_left f (fs ++ bl) t.left_in h.more_left em e0 in
+    let w : First L s.stage.got_left f (fs ++ bl) t.left_in = first_whole L s.stage.got_left f (fs ++ bl) t.left_in h.more_left em h.spelled_left e0 in
     let e3 : takes L t.mode w.message ≡ Some act = rw h.mode (rw w.read at e1) in
     let wants : want_of t.mode ≡ take_left = rw h.mode ew in
     let m : Moves L t (want_of t.mode) (acted t act w.later t.right_in t.room) = moves_left L t w.message w.later act wants w.is e3 in
@@ -114,13 +118,15 @@ from_left {S} L laws s s' t bl al br ar f fs false stage' em el ew h (act, e1, e
       right_out = behind L ar s.right_out s.stage.out_right t.right_out act.right h.right_out;
       more_left = tt;
       more_right = h.more_right;
+      spelled_left = w.spelled;
+      spelled_right = h.spelled_right;
     }) (took_frames L s.stage.out_left s.stage.out_right s.left_out s.right_out s.right_in s.left_in f fs t.left_out t.right_out act.left act.right (cost (want_of t.mode)) el))
 
-from_right : {S : Sorts} (L : Language S) (laws : Laws L) (s : Between S) (s' : Between S) (t : Beside S) (bl al br ar : List Frame) (f : Frame) (fs : List Frame) (more : Bool) (stage' : LocalState S) →
+from_right : {S : Sorts} (L : Language S) (s : Between S) (s' : Between S) (t : Beside S) (bl al br ar : List Frame) (f : Frame) (fs : List Frame) (more : Bool) (stage' : LocalState S) →
     is_more f ≡ more → s.right_in ≡ f ∷ fs → want_of s.stage.mode ≡ take_right → Fits L s t bl al br ar →
     HasTakenRight L s.stage f more stage' → s' ≡ record { stage = stage'; left_in = s.left_in; left_out = s.left_out; right_out = s.right_out; right_in = fs; room = s.room } →
     Follows L s s' t bl al br ar
-from_right L laws s s' t bl al br ar f fs true stage' em el ew h e e2 =
+from_right L s s' t bl al br ar f fs true stage' em el ew h e e2 =
     rw (e2, e) (stays (record {
       mode = h.mode;
       room = h.room;
@@ -128,12 +134,14 @@ from_right L laws s s' t bl al br ar f fs true stage' em el ew h e e2 =
       left_in = h.left_in;
       right_out = h.right_out;
       more_left = h.more_left;
+      spelled_left = h.spelled_left;
+      spelled_right = h.spelled_right;
       right_in = rw (append_assoc s.stage.got_right (f ∷ []) (fs ++ br), ← h.right_in, el) refl;
       more_right = more-append s.stage.got_right f h.more_right em;
     }) (rw el (omega arith)))
-from_right {S} L laws s s' t bl al br ar f fs false stage' em el ew h (act, e1, e) e2 =
+from_right {S} L s s' t bl al br ar f fs false stage' em el ew h (act, e1, e) e2 =
     let e0 : s.stage.got_right ++ f ∷ (fs ++ br) ≡ spell L t.right_in = rw el at h.right_in in
-    let w : First L s.stage.got_right f (fs ++ br) t.right_in = first_whole L laws s.stage.got_right f (fs ++ br) t.right_in h.more_right em e0 in
+    let w : First L s.stage.got_right f (fs ++ br) t.right_in = first_whole L s.stage.got_right f (fs ++ br) t.right_in h.more_right em h.spelled_right e0 in
     let e3 : takes L t.mode w.message ≡ Some act = rw h.mode (rw w.read at e1) in
     let wants : want_of t.mode ≡ take_right = rw h.mode ew in
     let m : Moves L t (want_of t.mode) (acted t act t.left_in w.later t.room) = moves_right L t w.message w.later act wants w.is e3 in
@@ -147,6 +155,8 @@ from_right {S} L laws s s' t bl al br ar f fs false stage' em el ew h (act, e1, 
       right_out = behind L ar s.right_out s.stage.out_right t.right_out act.right h.right_out;
       more_left = h.more_left;
       more_right = tt;
+      spelled_left = h.spelled_left;
+      spelled_right = w.spelled;
     }) (took_frames' L s.stage.out_left s.stage.out_right s.left_out s.right_out s.left_in s.right_in f fs t.left_out t.right_out act.left act.right (cost (want_of t.mode)) el))
 
 to_left : {S : Sorts} (L : Language S) (s s' : Between S) (t : Beside S) (bl al br ar : List Frame) (out : List Frame) → s.stage.out_left ≡ out → Fits L s t bl al br ar → FrameToLeft s out s' → Follows L s s' t bl al br ar
@@ -160,6 +170,8 @@ to_left L s s' t bl al br ar (f ∷ fs) eo h e =
       right_out = h.right_out;
       more_left = h.more_left;
       more_right = h.more_right;
+      spelled_left = h.spelled_left;
+      spelled_right = h.spelled_right;
       left_out = one_on L al s.left_out fs f t.left_out (rw eo at h.left_out);
     }) (rw (eo, length-append) (omega arith)))
 
@@ -174,16 +186,18 @@ to_right L s s' t bl al br ar (f ∷ fs) eo h e =
       left_out = h.left_out;
       more_left = h.more_left;
       more_right = h.more_right;
+      spelled_left = h.spelled_left;
+      spelled_right = h.spelled_right;
       right_out = one_on L ar s.right_out fs f t.right_out (rw eo at h.right_out);
     }) (rw (eo, length-append) (omega arith)))
 
-taking_left : {S : Sorts} (L : Language S) (laws : Laws L) (s s' : Between S) (t : Beside S) (bl al br ar : List Frame) (pipe : List Frame) → s.left_in ≡ pipe → want_of s.stage.mode ≡ take_left → Fits L s t bl al br ar → FrameFromLeft L s pipe s' → Follows L s s' t bl al br ar
-taking_left L laws s s' t bl al br ar [] el ew h e = absurd e
-taking_left L laws s s' t bl al br ar (f ∷ fs) el ew h (stage', e1, e2) = from_left L laws s s' t bl al br ar f fs (is_more f) stage' refl el ew h e1 e2
+taking_left : {S : Sorts} (L : Language S) (s s' : Between S) (t : Beside S) (bl al br ar : List Frame) (pipe : List Frame) → s.left_in ≡ pipe → want_of s.stage.mode ≡ take_left → Fits L s t bl al br ar → FrameFromLeft L s pipe s' → Follows L s s' t bl al br ar
+taking_left L s s' t bl al br ar [] el ew h e = absurd e
+taking_left L s s' t bl al br ar (f ∷ fs) el ew h (stage', e1, e2) = from_left L s s' t bl al br ar f fs (is_more f) stage' refl el ew h e1 e2
 
-taking_right : {S : Sorts} (L : Language S) (laws : Laws L) (s s' : Between S) (t : Beside S) (bl al br ar : List Frame) (pipe : List Frame) → s.right_in ≡ pipe → want_of s.stage.mode ≡ take_right → Fits L s t bl al br ar → FrameFromRight L s pipe s' → Follows L s s' t bl al br ar
-taking_right L laws s s' t bl al br ar [] el ew h e = absurd e
-taking_right L laws s s' t bl al br ar (f ∷ fs) el ew h (stage', e1, e2) = from_right L laws s s' t bl al br ar f fs (is_more f) stage' refl el ew h e1 e2
+taking_right : {S : Sorts} (L : Language S) (s s' : Between S) (t : Beside S) (bl al br ar : List Frame) (pipe : List Frame) → s.right_in ≡ pipe → want_of s.stage.mode ≡ take_right → Fits L s t bl al br ar → FrameFromRight L s pipe s' → Follows L s s' t bl al br ar
+taking_right L s s' t bl al br ar [] el ew h e = absurd e
+taking_right L s s' t bl al br ar (f ∷ fs) el ew h (stage', e1, e2) = from_right L s s' t bl al br ar f fs (is_more f) stage' refl el ew h e1 e2
 
 working : {S : Sorts} (L : Language S) (s s' : Between S) (t : Beside S) (bl al br ar : List Frame) → want_of s.stage.mode ≡ work → Fits L s t bl al br ar → Steps L s work s' → Follows L s s' t bl al br ar
 working L s s' t bl al br ar ew h (act, room', w, e) =
@@ -197,21 +211,23 @@ working L s s' t bl al br ar ew h (act, room', w, e) =
       right_out = behind L ar s.right_out s.stage.out_right t.right_out act.right h.right_out;
       more_left = h.more_left;
       more_right = h.more_right;
+      spelled_left = h.spelled_left;
+      spelled_right = h.spelled_right;
     }) (rw (h.mode, ew) (worked_frames L s.stage.out_left s.stage.out_right s.left_out s.right_out s.left_in s.right_in t.left_out t.right_out act.left act.right)))
 
-by_mode : {S : Sorts} (L : Language S) (laws : Laws L) (s s' : Between S) (t : Beside S) (bl al br ar : List Frame) (w : Want) → want_of s.stage.mode ≡ w → Fits L s t bl al br ar → Steps L s w s' → Follows L s s' t bl al br ar
-by_mode L laws s s' t bl al br ar take_left e h g = taking_left L laws s s' t bl al br ar s.left_in refl e h g
-by_mode L laws s s' t bl al br ar take_right e h g = taking_right L laws s s' t bl al br ar s.right_in refl e h g
-by_mode L laws s s' t bl al br ar give_left e h g = to_left L s s' t bl al br ar s.stage.out_left refl h g
-by_mode L laws s s' t bl al br ar give_right e h g = to_right L s s' t bl al br ar s.stage.out_right refl h g
-by_mode L laws s s' t bl al br ar work e h g = working L s s' t bl al br ar e h g
-by_mode L laws s s' t bl al br ar none e h g = absurd g
+by_mode : {S : Sorts} (L : Language S) (s s' : Between S) (t : Beside S) (bl al br ar : List Frame) (w : Want) → want_of s.stage.mode ≡ w → Fits L s t bl al br ar → Steps L s w s' → Follows L s s' t bl al br ar
+by_mode L s s' t bl al br ar take_left e h g = taking_left L s s' t bl al br ar s.left_in refl e h g
+by_mode L s s' t bl al br ar take_right e h g = taking_right L s s' t bl al br ar s.right_in refl e h g
+by_mode L s s' t bl al br ar give_left e h g = to_left L s s' t bl al br ar s.stage.out_left refl h g
+by_mode L s s' t bl al br ar give_right e h g = to_right L s s' t bl al br ar s.stage.out_right refl h g
+by_mode L s s' t bl al br ar work e h g = working L s s' t bl al br ar e h g
+by_mode L s s' t bl al br ar none e h g = absurd g
 
-by_outs : {S : Sorts} (L : Language S) (laws : Laws L) (s s' : Between S) (t : Beside S) (bl al br ar : List Frame) (left right : List Frame) → s.stage.out_left ≡ left → s.stage.out_right ≡ right →
+by_outs : {S : Sorts} (L : Language S) (s s' : Between S) (t : Beside S) (bl al br ar : List Frame) (left right : List Frame) → s.stage.out_left ≡ left → s.stage.out_right ≡ right →
     Fits L s t bl al br ar → Steps L s (want_with left right s.stage.mode) s' → Follows L s s' t bl al br ar
-by_outs L laws s s' t bl al br ar (f ∷ fs) right el er h g = to_left L s s' t bl al br ar s.stage.out_left refl h g
-by_outs L laws s s' t bl al br ar [] (f ∷ fs) el er h g = to_right L s s' t bl al br ar s.stage.out_right refl h g
-by_outs L laws s s' t bl al br ar [] [] el er h g = by_mode L laws s s' t bl al br ar (want_of s.stage.mode) refl h g
+by_outs L s s' t bl al br ar (f ∷ fs) right el er h g = to_left L s s' t bl al br ar s.stage.out_left refl h g
+by_outs L s s' t bl al br ar [] (f ∷ fs) el er h g = to_right L s s' t bl al br ar s.stage.out_right refl h g
+by_outs L s s' t bl al br ar [] [] el er h g = by_mode L s s' t bl al br ar (want_of s.stage.mode) refl h g
 
-pub refines : {S : Sorts} (L : Language S) (laws : Laws L) (s s' : Between S) (t : Beside S) (bl al br ar : List Frame) → Fits L s t bl al br ar → Steps L s (want s.stage) s' → Follows L s s' t bl al br ar
-refines L laws s s' t bl al br ar h g = by_outs L laws s s' t bl al br ar s.stage.out_left s.stage.out_right refl refl h g
+pub refines : {S : Sorts} (L : Language S) (s s' : Between S) (t : Beside S) (bl al br ar : List Frame) → Fits L s t bl al br ar → Steps L s (want s.stage) s' → Follows L s s' t bl al br ar
+refines L s s' t bl al br ar h g = by_outs L s s' t bl al br ar s.stage.out_left s.stage.out_right refl refl h g

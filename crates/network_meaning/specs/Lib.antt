@@ -11,6 +11,7 @@ pub mod MessageNetwork
 pub mod Network
 pub mod Orderly
 pub mod Sorts
+pub mod Spelled
 pub mod Statements
 pub mod Tiny
 pub mod WorkLeft

@@ -9,6 +9,7 @@ use Rattle.network_meaning.specs.LocalSteps.{Mode, Mode.reading, Mode.idle2, Mod
 use Rattle.network_meaning.specs.LocalSteps.{Want.take_left, Want.take_right, Want.give_left, Want.give_right, Want.work, Want.none}
 use Rattle.network_meaning.specs.Held.{total}
 use Rattle.network_meaning.specs.Due.{IsDue}
+use Rattle.network_meaning.specs.Spelled.{IsSpelled}
 use Rattle.network_meaning.specs.Orderly.{Phase, spread, FitPhase}
 use Rattle.network_meaning.specs.MessageNetwork.{MessageNetwork, StageNumber, StageNumber.first, StageNumber.second, StageNumber.third, StageNumber.fourth}
 
@@ -231,6 +232,7 @@ pub record Orderly {S : Sorts} (L : Language S) (n : Network S) : Type 0 where
   pub phase : Phase S
   pub fits : FitPhase L phase n.room.db
   pub due : IsDue L (spread phase n.room)
+  pub spelled : IsSpelled L (spread phase n.room)
   pub shows : Shows L n (spread phase n.room)
 
 -- the bytes written, then those of what is held, then the rest

@@ -4,6 +4,7 @@ use Rattle.std.specs.declared.option.Option.{Option}
 use Rattle.network_meaning.specs.Sorts.{Message, Cargo.tree, Cargo.change, Shown.head, Shown.row, Reply.done, Reply.refused, Said.shown, Said.replied, Message.text, Message.cargo, Message.said, Message.end, Message.quit, Table, After, Finished, Outcome, Outcome.tables, Outcome.made, Outcome.refuses}
 use Rattle.network_meaning.specs.Language.{db_after, shelf_after, Stand, after_next, after_event, statements_after_next, statements_after_event, reply_bytes, lines_of, tables_bytes}
 use Rattle.network_meaning.specs.Frames.{kind_of}
+use Rattle.network_meaning.specs.Spelled.{EachSpelled}
 use Rattle.network_meaning.specs.Laws.{Laws, RowsFit, TablesFit}
 use Rattle.network_meaning.specs.Tiny.{tiny, tiny_sorts, tiny_ran, tiny_batch, tiny_reply, tiny_statements, tiny_list, tiny_tables, tiny_payload, tiny_message, tiny_next, tiny_script, tiny_read, One, One.one}
 
@@ -76,5 +77,28 @@ tables_fit : (ts : List (Table tiny_sorts)) → TablesFit tiny ts
 tables_fit [] = tt
 tables_fit (t ∷ ts) = (rows_fit t.top t.rows, tables_fit ts)
 
+each_spelled : (ms : List (Message tiny_sorts)) → EachSpelled tiny ms
+each_spelled [] = tt
+each_spelled (m ∷ ms) = (read_law m, each_spelled ms)
+
 pub tiny_laws : Laws tiny
-tiny_laws = record { batch = batch_law; script = script_law; batch_list = statements_law; script_list = list_law; batch_places = batch_places; script_places = script_places; read = read_law; rows = λ t db shelf ts e. tables_fit ts }
+tiny_laws = record {
+  batch = batch_law;
+  script = script_law;
+  batch_list = statements_law;
+  script_list = list_law;
+  batch_places = batch_places;
+  script_places = script_places;
+  rows = λ t db shelf ts e. tables_fit ts;
+  text_spelled = λ m script shelf t e. read_law (text t);
+  tree_spelled = λ t db e. read_law (cargo (tree t));
+  change_spelled = λ c db e. read_law (cargo (change c));
+  tables_spelled = λ t db shelf ts e f. each_spelled _;
+  outcome_spelled = λ t db shelf r e f. read_law (said (replied (refused r)));
+  objection_spelled = λ db shelf ranges s r e. read_law (said (replied (refused r)));
+  syntax_spelled = λ b r e. read_law (said (replied (refused r)));
+  line_spelled = λ line r e h. h;
+  done_spelled = read_law (said (replied done));
+  end_spelled = read_law end;
+  quit_spelled = read_law quit;
+}
