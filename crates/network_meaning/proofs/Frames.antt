@@ -1,5 +1,5 @@
 -- Frames and messages.
-use Rattle.std.proofs.Common.{◌≡◌, ℕ, zero, suc, ◌/◌, ◌==◌, true, false, List, [], ◌∷◌, ◌++◌, Some, take, drop, length, map, refl, sym, ap, subst, ◌∙◌, append_assoc}
+use Rattle.std.proofs.Common.{◌≡◌, ℕ, zero, suc, ◌/◌, ◌==◌, ◌<◌, ◌≤◌, Bool, true, false, List, [], ◌∷◌, ◌++◌, Some, None, take, drop, length, map, refl, sym, ap, subst, ◌∙◌, append_assoc, arith, length-append}
 use Rattle.std.specs.declared.option.Option.{Option}
 use Rattle.frame_codec.specs.declared.frame.Frame.{Frame}
 use Rattle.frame_codec.specs.Messages.{frame, cut_into, message_frames}
@@ -7,7 +7,8 @@ use Rattle.frame_codec.proofs.Spelled.{cut_joined}
 use Rattle.network_meaning.specs.Sorts.{Sorts, Message, Said}
 use Rattle.network_meaning.specs.Sorts.{Cargo.tree, Cargo.change, Shown.head, Shown.row, Reply.done, Reply.refused, Said.shown, Said.replied, Message.text, Message.cargo, Message.said, Message.end, Message.quit}
 use Rattle.network_meaning.specs.Language.{Language}
-use Rattle.network_meaning.specs.Frames.{spell, AllMore, frames, whole, is_more, kind_of, last_of, payloads, read_by}
+use Rattle.network_meaning.specs.Frames.{spell, AllMore, frames, whole, is_more, kind_of, may_be_cut, last_of, payloads, read_by}
+use Rattle.network_meaning.specs.Laws.{Laws}
 use Rattle.network_meaning.specs.Spelled.{Spelled, EachSpelled}
 
 -- frames that are some More frames and a last one of this kind
@@ -53,6 +54,35 @@ pub is_cut : {S : Sorts} (L : Language S) (m : Message S) → IsCut L m
 is_cut L m =
     let e : EndsAs (kind_of m) (frames L m) = ends_as (kind_of m) (L.payload m) in
     record { mores = e.mores; last = e.last; cut = e.cut; more = e.more; ends = ap (λ (k : ℕ). k == 11) e.is ∙ no_more_kind m; is = e.is }
+
+one_frame : (kind : ℕ) (bytes : List ℕ) → length bytes < 4096 → message_frames kind bytes ≡ frame kind bytes ∷ []
+unfolding message_frames
+one_frame kind bytes h = let z : length bytes / 4096 ≡ 0 = omega arith in ap (λ (n : ℕ). cut_into n kind bytes) z
+
+two_or_more : (fs : List Frame) (f g h : Frame) (gs : List Frame) → (fs ++ f ∷ []) ++ g ∷ gs ≡ h ∷ [] → ⊥
+two_or_more fs f g h gs e =
+    let n : length ((fs ++ f ∷ []) ++ g ∷ gs) ≡ 1 = ap length e in
+    omega (arith, length-append (fs ++ f ∷ []) (g ∷ gs), length-append fs (f ∷ []))
+
+cut_or_one : {S : Sorts} (L : Language S) (laws : Laws L) (m : Message S) (b : Bool) → may_be_cut m ≡ b → Spelled L m → (fs : List Frame) (f g : Frame) (gs : List Frame) → frames L m ≡ (fs ++ f ∷ []) ++ g ∷ gs → b ≡ true
+cut_or_one L laws m true eb sp fs f g gs e = refl
+cut_or_one L laws m false eb sp fs f g gs e =
+    absurd (two_or_more fs f g (frame (kind_of m) (L.payload m)) gs (sym e ∙ one_frame (kind_of m) (L.payload m) (laws.short (kind_of m) (L.payload m) m sp eb)))
+
+-- a message of more than one frame is one that may have them
+pub cut_has_more : {S : Sorts} (L : Language S) (laws : Laws L) (m : Message S) → Spelled L m → (fs : List Frame) (f g : Frame) (gs : List Frame) → frames L m ≡ (fs ++ f ∷ []) ++ g ∷ gs → may_be_cut m ≡ true
+cut_has_more L laws m sp fs f g gs e = cut_or_one L laws m (may_be_cut m) refl sp fs f g gs e
+
+-- what begins with as many bytes as a More frame has is no reply, end or quit
+long_read : {S : Sorts} (L : Language S) (laws : Laws L) (m : Message S) (b : Bool) (last : Option Frame) (bytes more : List ℕ) → may_be_cut m ≡ b → 4096 ≤ length bytes → read_by L last (bytes ++ more) ≡ Some m → b ≡ true
+long_read L laws m true last bytes more eb le e = refl
+long_read L laws m false None bytes more eb le e = cc
+long_read L laws m false (Some f) bytes more eb le e =
+    let short : length (bytes ++ more) < 4096 = laws.short f.kind (bytes ++ more) m e eb in
+    absurd (omega (arith, length-append bytes more))
+
+pub long_may_be_cut : {S : Sorts} (L : Language S) (laws : Laws L) (first : Frame) (later : List Frame) (m : Message S) → 4096 ≤ length first.payload → whole L (first ∷ later) ≡ Some m → may_be_cut m ≡ true
+long_may_be_cut L laws first later m le e = long_read L laws m (may_be_cut m) (last_of (first ∷ later)) first.payload (payloads later) refl le e
 
 last_behind : (fs : List Frame) (f : Frame) → last_of (fs ++ f ∷ []) ≡ Some f
 last_behind [] f = refl

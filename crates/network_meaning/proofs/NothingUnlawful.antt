@@ -3,12 +3,12 @@ use Rattle.std.proofs.Common.{◌≡◌, Bool, true, false, List, [], ◌∷◌,
 use Rattle.std.specs.Prelude.{⊤}
 use Rattle.std.specs.declared.option.Option.{Option}
 use Rattle.frame_codec.specs.declared.frame.Frame.{Frame}
-use Rattle.network_meaning.specs.Sorts.{Sorts, Said, Message, Said.shown, Said.replied, Message.said, Message.end, Message.quit}
+use Rattle.network_meaning.specs.Sorts.{Sorts, Said, Message, Said.shown, Said.replied, Message.text, Message.cargo, Message.said, Message.end, Message.quit}
 use Rattle.network_meaning.specs.Language.{Language}
-use Rattle.network_meaning.specs.Frames.{spell, AllMore, is_more}
+use Rattle.network_meaning.specs.Frames.{frames, may_be_cut, spell, AllMore, is_more}
 use Rattle.network_meaning.specs.Laws.{Laws}
-use Rattle.network_meaning.specs.LocalSteps.{Mode, Want, Act, Room, takes, want_of, is_due, if_due, goes_to_four, set_line, turns_to, says, hands}
-use Rattle.network_meaning.specs.LocalSteps.{Mode.printing, Mode.parsing, Mode.passing2, Mode.idle3, Mode.working3, Mode.working4, Mode.ended, Want.take_left, Want.take_right, Want.give_left, Want.give_right, Want.work, Want.none}
+use Rattle.network_meaning.specs.LocalSteps.{Mode, Want, Act, Room, takes, want_of, may_go_on, is_due, if_due, goes_to_four, set_line, turns_to, says, hands}
+use Rattle.network_meaning.specs.LocalSteps.{Mode.reading, Mode.waiting, Mode.printing, Mode.idle2, Mode.parsing, Mode.passing2, Mode.idle3, Mode.working3, Mode.passing3, Mode.idle4, Mode.working4, Mode.ended, Want.take_left, Want.take_right, Want.give_left, Want.give_right, Want.work, Want.none}
 use Rattle.network_meaning.specs.MessageNetwork.{Beside, beside, StageNumber, StageNumber.first, StageNumber.second, StageNumber.third, StageNumber.fourth}
 use Rattle.network_meaning.specs.Held.{kept, begun}
 use Rattle.network_meaning.specs.Due.{Due, IsDue}
@@ -17,7 +17,7 @@ use Rattle.network_meaning.specs.Orderly.{Phase, Place, Front, Phase.reads, Phas
 use Rattle.network_meaning.specs.Orderly.{Place.at_two, Place.in_b, Place.at_three, Place.in_c, Place.at_four, Place.in_d, Place.in_e_tables, Place.in_e_reply, Place.in_f}
 use Rattle.network_meaning.specs.Network.{Network, Between, between, want_with, Shows, Orderly}
 use Rattle.network_meaning.specs.Lawful.{front_of, in_front, comes, LawfulBehind, LawfulAs, Lawful, FitWork}
-use Rattle.network_meaning.proofs.Frames.{First, first_whole, IsCut, is_cut}
+use Rattle.network_meaning.proofs.Frames.{First, first_whole, IsCut, is_cut, cut_has_more}
 
 -- the first of these messages, where there is one, is one that this mode takes
 abbrev FirstTaken : {S : Sorts} → Language S → Mode S → List (Message S) → Type 0
@@ -89,6 +89,26 @@ begins (x ∷ xs) (y ∷ ys) f last behind rest h ef el e =
     let b : Begins (ys ++ last ∷ []) (xs ++ f ∷ []) = begins xs ys f last behind rest h.1 ef el tails in
     record { next = b.next; later = b.later; is = rw (same, b.is) refl }
 
+-- where a message is taken that may have More frames, these may be taken
+go_on : {S : Sorts} (L : Language S) (mode : Mode S) (m : Message S) (act : Act S) → may_be_cut m ≡ true → takes L mode m ≡ Some act → may_go_on mode ≡ true
+go_on L (waiting x o) m act cut e = refl
+go_on L (idle2 ranges) m act cut e = refl
+go_on L (passing2 ranges line b) m act cut e = refl
+go_on L idle3 m act cut e = refl
+go_on L idle4 m act cut e = refl
+go_on L passing3 (text t) act cut e = cc
+go_on L passing3 (cargo x) act cut e = cc
+go_on L passing3 (said (shown s)) act cut e = cc
+go_on L passing3 (said (replied r)) act cut e = cc
+go_on L passing3 end act cut e = cc
+go_on L passing3 quit act cut e = cc
+go_on L (reading x) m act cut e = cc
+go_on L (printing x o y) m act cut e = cc
+go_on L (parsing ranges b) m act cut e = cc
+go_on L (working3 t) m act cut e = cc
+go_on L (working4 x) m act cut e = cc
+go_on L ended m act cut e = cc
+
 lawful_behind : {S : Sorts} (L : Language S) (laws : Laws L) (mode : Mode S) (got : List Frame) (f : Frame) (behind : List Frame) (ms : List (Message S)) (more : Bool) → is_more f ≡ more → AllMore got →
     got ++ f ∷ behind ≡ spell L ms → EachSpelled L ms → FirstTaken L mode ms → LawfulBehind L mode got f more
 lawful_behind {S} L laws mode got f behind ms false em h e sp t =
@@ -100,7 +120,8 @@ lawful_behind {S} L laws mode got f behind (m ∷ ms) true em h e sp (act, taken
     let c : IsCut L m = is_cut L m in
     let e' : got ++ f ∷ behind ≡ c.mores ++ c.last ∷ spell L ms = e ∙ ap (λ (x : List Frame). x ++ spell L ms) c.cut ∙ append_assoc c.mores (c.last ∷ []) (spell L ms) in
     let b : Begins (c.mores ++ c.last ∷ []) (got ++ f ∷ []) = begins got c.mores f c.last behind (spell L ms) h em c.ends e' in
-    record { message = m; act = act; taken = taken; next = b.next; later = b.later; is = c.cut ∙ b.is }
+    let is : frames L m ≡ (got ++ f ∷ []) ++ b.next ∷ b.later = c.cut ∙ b.is in
+    (go_on L mode m act (cut_has_more L laws m sp.0 got f b.next b.later is) taken, record { message = m; act = act; taken = taken; next = b.next; later = b.later; is = is })
 
 -- a pipe, between what was taken of it and what is still to be given to it
 from_pipe : {S : Sorts} (L : Language S) (laws : Laws L) (mode : Mode S) (got pipe out : List Frame) (ms : List (Message S)) → AllMore got → got ++ (pipe ++ out) ≡ spell L ms → EachSpelled L ms → FirstTaken L mode ms →

@@ -89,7 +89,7 @@ from_left : {S : Sorts} (L : Language S) (s : Between S) (s' : Between S) (t : B
     is_more f ≡ more → s.left_in ≡ f ∷ fs → want_of s.stage.mode ≡ take_left → Fits L s t bl al br ar →
     HasTakenLeft L s.stage f more stage' → s' ≡ record { stage = stage'; left_in = fs; left_out = s.left_out; right_out = s.right_out; right_in = s.right_in; room = s.room } →
     Follows L s s' t bl al br ar
-from_left L s s' t bl al br ar f fs true stage' em el ew h e e2 =
+from_left L s s' t bl al br ar f fs true stage' em el ew h (go, e) e2 =
     rw (e2, e) (stays (record {
       mode = h.mode;
       room = h.room;
@@ -126,7 +126,7 @@ from_right : {S : Sorts} (L : Language S) (s : Between S) (s' : Between S) (t : 
     is_more f ≡ more → s.right_in ≡ f ∷ fs → want_of s.stage.mode ≡ take_right → Fits L s t bl al br ar →
     HasTakenRight L s.stage f more stage' → s' ≡ record { stage = stage'; left_in = s.left_in; left_out = s.left_out; right_out = s.right_out; right_in = fs; room = s.room } →
     Follows L s s' t bl al br ar
-from_right L s s' t bl al br ar f fs true stage' em el ew h e e2 =
+from_right L s s' t bl al br ar f fs true stage' em el ew h (go, e) e2 =
     rw (e2, e) (stays (record {
       mode = h.mode;
       room = h.room;

@@ -49,11 +49,11 @@ record RightEdge {S : Sorts} (s s' : Between S) : Type 0 where
   pub got : s'.stage.got_right ≡ s.stage.got_right
 
 left_taken : {S : Sorts} (L : Language S) (s s' : LocalState S) (f : Frame) (more : Bool) → HasTakenRight L s f more s' → s'.got_left ≡ s.got_left
-left_taken L s s' f true e = ap (λ x. x.got_left) e
+left_taken L s s' f true (go, e) = ap (λ x. x.got_left) e
 left_taken L s s' f false (act, e1, e) = ap (λ x. x.got_left) e
 
 right_taken : {S : Sorts} (L : Language S) (s s' : LocalState S) (f : Frame) (more : Bool) → HasTakenLeft L s f more s' → s'.got_right ≡ s.got_right
-right_taken L s s' f true e = ap (λ x. x.got_right) e
+right_taken L s s' f true (go, e) = ap (λ x. x.got_right) e
 right_taken L s s' f false (act, e1, e) = ap (λ x. x.got_right) e
 
 left_from_right : {S : Sorts} (L : Language S) (s s' : Between S) (pipe : List Frame) → FrameFromRight L s pipe s' → LeftEdge s s'

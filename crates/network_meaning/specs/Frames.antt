@@ -1,5 +1,5 @@
 -- Messages as frames: the kind of each, how it is cut, and what frames are read as.
-use Rattle.std.specs.Prelude.{◌≡◌, ℕ, ◌==◌, Bool, true, List, [], ◌∷◌, ◌++◌, Some, None, ⊤}
+use Rattle.std.specs.Prelude.{◌≡◌, ℕ, ◌==◌, Bool, true, false, List, [], ◌∷◌, ◌++◌, Some, None, ⊤}
 use Rattle.std.specs.declared.option.Option.{Option}
 use Rattle.std.specs.List.{flat_map}
 use Rattle.frame_codec.specs.declared.frame.Frame.{Frame}
@@ -27,6 +27,15 @@ frames L m = message_frames (kind_of m) (L.payload m)
 -- behind this frame its message goes on
 abbrev pub is_more : Frame → Bool
 is_more f = f.kind == 11
+
+-- the message may have More frames: a batch, a tree, a change, a head and a row may; a reply, an end and a quit are one frame each
+abbrev pub may_be_cut : {S : Sorts} → Message S → Bool
+may_be_cut (text t) = true
+may_be_cut (cargo x) = true
+may_be_cut (said (shown s)) = true
+may_be_cut (said (replied r)) = false
+may_be_cut end = false
+may_be_cut quit = false
 
 -- each of these is a More frame
 abbrev pub AllMore : List Frame → Type 0

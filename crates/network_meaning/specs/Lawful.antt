@@ -5,7 +5,7 @@ use Rattle.frame_codec.specs.declared.frame.Frame.{Frame}
 use Rattle.network_meaning.specs.Sorts.{Sorts, Message, Message.said}
 use Rattle.network_meaning.specs.Language.{Language}
 use Rattle.network_meaning.specs.Frames.{frames, whole, is_more}
-use Rattle.network_meaning.specs.LocalSteps.{Mode, Want, Act, takes, is_due, fit, goes_to_four}
+use Rattle.network_meaning.specs.LocalSteps.{Mode, Want, Act, takes, is_due, fit, goes_to_four, may_go_on}
 use Rattle.network_meaning.specs.LocalSteps.{Mode.printing, Mode.working3, Mode.working4, Want.take_left, Want.take_right}
 use Rattle.network_meaning.specs.Network.{LocalState, Between, want, act_on}
 
@@ -33,9 +33,9 @@ pub record GoesOn {S : Sorts} (L : Language S) (mode : Mode S) (begin : List Fra
   pub later : List Frame
   pub is : frames L message ≡ begin ++ next ∷ later
 
--- behind the frames that were taken before it: a More frame goes on with a message that this mode takes, any other makes such a message whole
+-- behind the frames that were taken before it: a More frame is one that this mode may take, and goes on with a message that it takes; any other makes such a message whole
 abbrev pub LawfulBehind : {S : Sorts} → Language S → Mode S → List Frame → Frame → Bool → Type 0
-LawfulBehind L mode got f true = GoesOn L mode (got ++ f ∷ [])
+LawfulBehind L mode got f true = (may_go_on mode ≡ true) × GoesOn L mode (got ++ f ∷ [])
 LawfulBehind {S} L mode got f false = (act : Act S) × (act_on L mode (whole L (got ++ f ∷ [])) ≡ Some act)
 
 -- a frame is lawful behind those that were taken on the side from which this wants to take

@@ -1,8 +1,9 @@
 -- What the equation uses of a language.
-use Rattle.std.specs.Prelude.{◌≡◌, ℕ, true, List, [], ◌∷◌, map, ⊤}
-use Rattle.network_meaning.specs.Sorts.{Sorts, Table, Outcome.tables, Outcome.refuses, Meaning.objects, Next.bad, Event.sends}
+use Rattle.std.specs.Prelude.{◌≡◌, ◌<◌, ℕ, true, false, List, [], ◌∷◌, map, length, Some, ⊤}
+use Rattle.network_meaning.specs.Sorts.{Sorts, Message, Table, Outcome.tables, Outcome.refuses, Meaning.objects, Next.bad, Event.sends}
 use Rattle.network_meaning.specs.Sorts.{Cargo.tree, Cargo.change, Reply.done, Reply.refused, Said.shown, Said.replied, Message.text, Message.cargo, Message.said, Message.end, Message.quit}
 use Rattle.network_meaning.specs.Language.{Language, Stand, after_next, after_event, statements_after_next, statements_after_event}
+use Rattle.network_meaning.specs.Frames.{may_be_cut}
 use Rattle.network_meaning.specs.LocalSteps.{all_shown}
 use Rattle.network_meaning.specs.Spelled.{Spelled, EachSpelled, IsLine}
 
@@ -43,3 +44,5 @@ pub record Laws {S : Sorts} (L : Language S) : Type 0 where
   pub done_spelled : Spelled L (said (replied done))
   pub end_spelled : Spelled L end
   pub quit_spelled : Spelled L quit
+  -- a reply, an end and a quit are read from fewer bytes than a More frame has
+  pub short : (kind : ℕ) (bytes : List ℕ) (m : Message S) → L.message_of kind bytes ≡ Some m → may_be_cut m ≡ false → length bytes < 4096

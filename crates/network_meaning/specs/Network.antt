@@ -5,7 +5,7 @@ use Rattle.frame_codec.specs.declared.frame.Frame.{Frame}
 use Rattle.network_meaning.specs.Sorts.{Sorts, Message}
 use Rattle.network_meaning.specs.Language.{Language}
 use Rattle.network_meaning.specs.Frames.{spell, AllMore, whole, is_more}
-use Rattle.network_meaning.specs.LocalSteps.{Mode, Mode.reading, Mode.idle2, Mode.idle3, Mode.idle4, Want, Act, takes, Works, want_of, Room}
+use Rattle.network_meaning.specs.LocalSteps.{Mode, may_go_on, Mode.reading, Mode.idle2, Mode.idle3, Mode.idle4, Want, Act, takes, Works, want_of, Room}
 use Rattle.network_meaning.specs.LocalSteps.{Want.take_left, Want.take_right, Want.give_left, Want.give_right, Want.work, Want.none}
 use Rattle.network_meaning.specs.Held.{total}
 use Rattle.network_meaning.specs.Due.{IsDue}
@@ -42,14 +42,14 @@ abbrev pub act_on : {S : Sorts} → Language S → Mode S → Option (Message S)
 act_on L mode None = None
 act_on L mode (Some m) = takes L mode m
 
--- a frame of the left pipe comes: More is kept, the last one makes the message whole
+-- a frame of the left pipe comes: More is kept where such a message may come, the last one makes the message whole
 abbrev pub HasTakenLeft : {S : Sorts} → Language S → LocalState S → Frame → Bool → LocalState S → Type 0
-HasTakenLeft L s f true s' = s' ≡ record { mode = s.mode; got_left = s.got_left ++ f ∷ []; got_right = s.got_right; out_left = s.out_left; out_right = s.out_right }
+HasTakenLeft L s f true s' = (may_go_on s.mode ≡ true) × (s' ≡ record { mode = s.mode; got_left = s.got_left ++ f ∷ []; got_right = s.got_right; out_left = s.out_left; out_right = s.out_right })
 HasTakenLeft {S} L s f false s' = (act : Act S) × (act_on L s.mode (whole L (s.got_left ++ f ∷ [])) ≡ Some act) × (s' ≡ done_act L s act [] s.got_right)
 
--- a frame of the right pipe comes: More is kept, the last one makes the message whole
+-- a frame of the right pipe comes: More is kept where such a message may come, the last one makes the message whole
 abbrev pub HasTakenRight : {S : Sorts} → Language S → LocalState S → Frame → Bool → LocalState S → Type 0
-HasTakenRight L s f true s' = s' ≡ record { mode = s.mode; got_left = s.got_left; got_right = s.got_right ++ f ∷ []; out_left = s.out_left; out_right = s.out_right }
+HasTakenRight L s f true s' = (may_go_on s.mode ≡ true) × (s' ≡ record { mode = s.mode; got_left = s.got_left; got_right = s.got_right ++ f ∷ []; out_left = s.out_left; out_right = s.out_right })
 HasTakenRight {S} L s f false s' = (act : Act S) × (act_on L s.mode (whole L (s.got_right ++ f ∷ [])) ≡ Some act) × (s' ≡ done_act L s act s.got_left [])
 
 -- a stage between its pipes

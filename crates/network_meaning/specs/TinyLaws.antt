@@ -1,9 +1,9 @@
 -- The small language meets the laws.
-use Rattle.std.proofs.Common.{◌≡◌, ℕ, List, [], ◌∷◌, ◌++◌, Some, None, refl, sym, ap, ◌∙◌, append_assoc}
+use Rattle.std.proofs.Common.{◌≡◌, ◌<◌, ℕ, false, List, [], ◌∷◌, ◌++◌, Some, None, refl, sym, ap, ◌∙◌, append_assoc, length, arith}
 use Rattle.std.specs.declared.option.Option.{Option}
 use Rattle.network_meaning.specs.Sorts.{Message, Cargo.tree, Cargo.change, Shown.head, Shown.row, Reply.done, Reply.refused, Said.shown, Said.replied, Message.text, Message.cargo, Message.said, Message.end, Message.quit, Table, After, Finished, Outcome, Outcome.tables, Outcome.made, Outcome.refuses}
 use Rattle.network_meaning.specs.Language.{db_after, shelf_after, Stand, after_next, after_event, statements_after_next, statements_after_event, reply_bytes, lines_of, tables_bytes}
-use Rattle.network_meaning.specs.Frames.{kind_of}
+use Rattle.network_meaning.specs.Frames.{kind_of, may_be_cut}
 use Rattle.network_meaning.specs.Spelled.{EachSpelled}
 use Rattle.network_meaning.specs.Laws.{Laws, RowsFit, TablesFit}
 use Rattle.network_meaning.specs.Tiny.{tiny, tiny_sorts, tiny_ran, tiny_batch, tiny_reply, tiny_statements, tiny_list, tiny_tables, tiny_payload, tiny_message, tiny_next, tiny_script, tiny_read, One, One.one}
@@ -81,6 +81,11 @@ each_spelled : (ms : List (Message tiny_sorts)) → EachSpelled tiny ms
 each_spelled [] = tt
 each_spelled (m ∷ ms) = (read_law m, each_spelled ms)
 
+short_law : (kind : ℕ) (bytes : List ℕ) (m : Message tiny_sorts) → tiny_message kind bytes ≡ Some m → may_be_cut m ≡ false → length bytes < 4096
+short_law kind [] m e f = omega arith
+short_law kind (x ∷ []) m e f = omega arith
+short_law kind (x ∷ y ∷ xs) m e f = cc
+
 pub tiny_laws : Laws tiny
 tiny_laws = record {
   batch = batch_law;
@@ -101,4 +106,5 @@ tiny_laws = record {
   done_spelled = read_law (said (replied done));
   end_spelled = read_law end;
   quit_spelled = read_law quit;
+  short = short_law;
 }
