@@ -1,5 +1,6 @@
 -- Frames and messages.
 use Rattle.std.proofs.Common.{◌≡◌, ℕ, zero, suc, ◌/◌, ◌==◌, ◌<◌, ◌≤◌, Bool, true, false, List, [], ◌∷◌, ◌++◌, Some, None, take, drop, length, map, refl, sym, ap, subst, ◌∙◌, append_assoc, arith, length-append}
+use Rattle.std.proofs.lemmas.List.{append-nil}
 use Rattle.std.specs.declared.option.Option.{Option}
 use Rattle.frame_codec.specs.declared.frame.Frame.{Frame}
 use Rattle.frame_codec.specs.Messages.{frame, cut_into, message_frames}
@@ -88,6 +89,14 @@ last_behind : (fs : List Frame) (f : Frame) → last_of (fs ++ f ∷ []) ≡ Som
 last_behind [] f = refl
 last_behind (g ∷ []) f = refl
 last_behind (g ∷ h ∷ fs) f = last_behind (h ∷ fs) f
+
+payloads_behind : (fs : List Frame) (f : Frame) → payloads (fs ++ f ∷ []) ≡ payloads fs ++ f.payload
+payloads_behind [] f = append-nil f.payload
+payloads_behind (g ∷ fs) f = ap (λ (bytes : List ℕ). g.payload ++ bytes) (payloads_behind fs f) ∙ sym (append_assoc g.payload (payloads fs) f.payload)
+
+-- what is read of a frame behind others: by its kind, their bytes and then its own
+pub whole_behind : {S : Sorts} (L : Language S) (fs : List Frame) (f : Frame) → whole L (fs ++ f ∷ []) ≡ L.message_of f.kind (payloads fs ++ f.payload)
+whole_behind {S} L fs f = ap (λ (o : Option Frame). read_by L o (payloads (fs ++ f ∷ []))) (last_behind fs f) ∙ ap (L.message_of f.kind) (payloads_behind fs f)
 
 -- what is cut into frames is read by its kind
 pub read_again : {S : Sorts} (L : Language S) (m : Message S) → whole L (frames L m) ≡ L.message_of (kind_of m) (L.payload m)

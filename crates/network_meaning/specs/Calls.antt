@@ -82,7 +82,7 @@ pub record Seen (S : Sorts) : Type 0 where
   pub shape : Shape S
   pub told : Option (Room S)
 
--- step k was blocked or not, and did what D20 says
+-- step k was blocked or not, and did what a step of the network does
 pub record Moves {S : Sorts} (L : Language S) (capacity : ℕ) (k : StageNumber) (blocked : Bool) (old new : Seen S) : Type 0 where
   pub room : Room S
   pub room' : Room S

@@ -118,7 +118,7 @@ may_go_on idle3 = true
 may_go_on idle4 = true
 may_go_on _ = false
 
--- D15: the bytes of a message, with the closing rule of a table before any message but a row
+-- the bytes of a message, with the closing rule of a table before any message but a row
 abbrev pub closing : {S : Sorts} → Language S → Option S.Head → List ℕ
 closing L None = []
 closing L (Some h) = L.rule_bytes h
