@@ -1,10 +1,10 @@
--- The functions that the equation is about, and what it uses of them.
+-- The functions that the equation is about.
 use Rattle.std.specs.Prelude.{◌≡◌, ℕ, Bool, List, [], ◌∷◌, ◌++◌, ⊤}
 use Rattle.std.specs.declared.option.Option.{Option}
 use Rattle.network_meaning.specs.Sorts.{Sorts, Message, Table, Outcome, Meaning, Next, Event, Read, After, Finished, Kind}
 use Rattle.network_meaning.specs.Sorts.{Outcome.tables, Outcome.made, Outcome.refuses, Meaning.names, Meaning.objects, Meaning.runs, Next.no_more, Next.bad, Next.found, Event.goes_on, Event.sends, Event.leaves}
 
--- what a language means and how it is spelled: statements, batches, scripts, trees, changes, printed bytes, and the payloads of messages, which are read by their kind
+-- what a language means and how it is spelled: statements, batches, scripts, trees, changes, printed bytes, the bytes of a message, and the message that bytes of a kind are read as
 pub record Language (S : Sorts) : Type 0 where
   pub meaning : S.Db → S.Shelf → S.Ranges → S.Statement → Meaning S
   pub lined : ℕ → S.Refusal → S.Refusal
