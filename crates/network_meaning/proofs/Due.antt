@@ -3,7 +3,8 @@ use Rattle.std.proofs.Common.{◌≡◌, List, [], ◌∷◌, ◌++◌, Some, No
 use Rattle.std.proofs.lemmas.List.{append-nil, map-append}
 use Rattle.std.specs.declared.option.Option.{Option}
 use Rattle.network_meaning.specs.Sorts.{Sorts, Said, Shown, Reply, Message, Table, Shown.row, Said.shown, Said.replied, Message.text, Message.cargo, Message.said, Message.end, Message.quit}
-use Rattle.network_meaning.specs.Language.{Language, RowsFit, TablesFit}
+use Rattle.network_meaning.specs.Language.{Language}
+use Rattle.network_meaning.specs.Laws.{RowsFit, TablesFit}
 use Rattle.network_meaning.specs.LocalSteps.{open_after, all_shown}
 use Rattle.network_meaning.specs.Held.{begun, kept}
 use Rattle.network_meaning.specs.Due.{Due}

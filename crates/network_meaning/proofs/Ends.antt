@@ -2,8 +2,9 @@
 use Rattle.std.proofs.Common.{◌≡◌, List, [], ◌∷◌, ◌++◌, Some, None, refl, ap, ◌∙◌}
 use Rattle.std.proofs.lemmas.List.{append-nil}
 use Rattle.std.specs.declared.option.Option.{Option}
+use Rattle.frame_codec.specs.declared.frame.Frame.{Frame}
 use Rattle.network_meaning.specs.Sorts.{Sorts, Said}
-use Rattle.network_meaning.specs.Language.{Language, Laws}
+use Rattle.network_meaning.specs.Language.{Language}
 use Rattle.network_meaning.specs.LocalSteps.{Mode, Mode.reading, Mode.idle2, Mode.idle3, Mode.idle4, Mode.waiting, Mode.printing, Want.none, want_of, Room}
 use Rattle.network_meaning.specs.Held.{total}
 use Rattle.network_meaning.specs.Orderly.{Phase, front_mode, spread, Phase.reads, Phase.closes, Phase.sends, Phase.away, Phase.quits_a, Phase.quits_b, Phase.quits_c, Phase.over}
@@ -11,7 +12,7 @@ use Rattle.network_meaning.specs.Network.{LocalState, Network, want, want_with, 
 use Rattle.network_meaning.specs.Going.{AllEnded}
 use Rattle.network_meaning.proofs.Whole.{total_of}
 
-ended_mode : {S : Sorts} (mode : Mode S) (left right : List S.Frame) → want_with left right mode ≡ none → want_of mode ≡ none
+ended_mode : {S : Sorts} (mode : Mode S) (left right : List Frame) → want_with left right mode ≡ none → want_of mode ≡ none
 ended_mode mode [] [] e = e
 ended_mode mode [] (f ∷ fs) e = cc
 ended_mode mode (f ∷ fs) right e = cc
@@ -34,14 +35,15 @@ whole_by L n quits_c h e = let x = known_end n.four idle4 h.four e.four in cc
 whole_by L n over h e = append-nil n.room.out
 
 -- where all have ended, the bytes written are all
-pub whole_at_end : {S : Sorts} (L : Language S) (laws : Laws L) (n : Network S) → Orderly L n → AllEnded n → bytes_in_all L n ≡ n.room.out
-whole_at_end L laws n o e = total_of L laws n (spread o.phase n.room) o.shows ∙ whole_by L n o.phase o.shows e
+pub whole_at_end : {S : Sorts} (L : Language S) (n : Network S) → Orderly L n → AllEnded n → bytes_in_all L n ≡ n.room.out
+whole_at_end L n o e = total_of L n (spread o.phase n.room) o.shows o.spelled ∙ whole_by L n o.phase o.shows e
 
 pub start_orderly : {S : Sorts} (L : Language S) (m : S.Monitor) (ranges : S.Ranges) (room : Room S) → Orderly L (start m ranges room)
 start_orderly L m ranges room = record {
   phase = reads m ranges;
   fits = tt;
   due = tt;
+  spelled = record { a = tt; b = tt; c = tt; d = tt; e = tt; f = tt; first_left = tt; last_right = tt; line = tt };
   shows = record {
     one = refl;
     two = refl;

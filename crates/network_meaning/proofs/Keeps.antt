@@ -6,6 +6,7 @@ use Rattle.network_meaning.specs.LocalSteps.{Act, Room, if_due}
 use Rattle.network_meaning.specs.MessageNetwork.{MessageNetwork, Beside, StageNumber, beside, put, acted}
 use Rattle.network_meaning.specs.Held.{total}
 use Rattle.network_meaning.specs.Due.{IsDue}
+use Rattle.network_meaning.specs.Spelled.{IsSpelled}
 use Rattle.network_meaning.specs.Orderly.{Phase, spread, FitPhase}
 
 pub record Keeps {S : Sorts} (L : Language S) (bytes : List ℕ) (v : MessageNetwork S) : Type 0 where
@@ -14,6 +15,7 @@ pub record Keeps {S : Sorts} (L : Language S) (bytes : List ℕ) (v : MessageNet
   pub is : v ≡ spread phase room
   pub fits : FitPhase L phase room.db
   pub due : IsDue L (spread phase room)
+  pub spelled : IsSpelled L (spread phase room)
   pub same : total L v ≡ bytes
 
 -- where a stage takes: the act is the one that is meant

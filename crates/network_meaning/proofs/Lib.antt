@@ -2,6 +2,7 @@ pub mod Due
 pub mod Ends
 pub mod First
 pub mod Frames
+pub mod FramesExample
 pub mod Front
 pub mod Keeps
 pub mod Lowering

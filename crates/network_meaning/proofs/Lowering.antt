@@ -3,7 +3,8 @@ use Rattle.std.proofs.Common.{◌≡◌, ◌≤◌, ◌+◌, ℕ, true, List, []
 use Rattle.std.proofs.lemmas.List.{append-nil}
 use Rattle.network_meaning.specs.Sorts.{Sorts, Cargo, Cargo.tree, Cargo.change, Message, Shown, Next, Meaning, Outcome, Outcome.tables, Outcome.made, Outcome.refuses, Kind, Kind.answer, Kind.update, Kind.utility}
 use Rattle.network_meaning.specs.Sorts.{Reply.done, Reply.refused, Said.shown, Said.replied, Message.cargo, Message.said, Message.end, Next.no_more, Next.bad, Next.found, Meaning.names, Meaning.objects, Meaning.runs}
-use Rattle.network_meaning.specs.Language.{Language, Laws, after_next, after_meaning}
+use Rattle.network_meaning.specs.Language.{Language, after_next, after_meaning}
+use Rattle.network_meaning.specs.Laws.{Laws}
 use Rattle.network_meaning.specs.LocalSteps.{Mode.idle3, Mode.working3, Mode.working4, Mode.passing3, Mode.idle4, Mode.idle2, Mode.parsing, Mode.passing2, Act, Room, Processes, CarriesOut, Judges, Parses, turns_to, says, hands, outcome_of, all_shown, goes_to_four}
 use Rattle.network_meaning.specs.MessageNetwork.{MessageNetwork, Beside, StageNumber, StageNumber.second, StageNumber.third, StageNumber.fourth, beside, put, acted, MessageStep}
 use Rattle.network_meaning.specs.Held.{with_line}

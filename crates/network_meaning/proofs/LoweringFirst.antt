@@ -2,7 +2,8 @@
 use Rattle.std.proofs.Common.{◌≡◌, ◌≤◌, ◌+◌, List, [], ◌∷◌, ◌++◌, Some, None, map, arith}
 use Rattle.std.specs.declared.option.Option.{Option}
 use Rattle.network_meaning.specs.Sorts.{Sorts, Said, Event, Event.goes_on, Event.sends, Event.leaves, Message.text, Message.said, Message.end, Message.quit}
-use Rattle.network_meaning.specs.Language.{Language, Laws}
+use Rattle.network_meaning.specs.Language.{Language}
+use Rattle.network_meaning.specs.Laws.{Laws}
 use Rattle.network_meaning.specs.LocalSteps.{Mode.reading, Mode.waiting, Mode.printing, Mode.ended, Mode.parsing, Act, Room, turns_to, hands, read_act, written, closing, is_due, open_after, said_bytes}
 use Rattle.network_meaning.specs.MessageNetwork.{MessageNetwork, Beside, StageNumber, StageNumber.first, StageNumber.second, StageNumber.third, StageNumber.fourth, beside, put, acted, MessageStep}
 use Rattle.network_meaning.specs.WorkLeft.{Work, WorkLaws, Lowers, event_work}

@@ -2,18 +2,22 @@
 use Rattle.std.proofs.Common.{◌≡◌, Bool, true, false, List, [], ◌∷◌, ◌++◌, Some, None, refl, ap, subst, ◌∙◌, append_assoc}
 use Rattle.std.specs.Prelude.{⊤}
 use Rattle.std.specs.declared.option.Option.{Option}
-use Rattle.network_meaning.specs.Sorts.{Sorts, Said, Message, Said.shown, Said.replied, Message.said, Message.end, Message.quit}
-use Rattle.network_meaning.specs.Language.{Language, Laws, IsCut, spell, AllMore}
-use Rattle.network_meaning.specs.LocalSteps.{Mode, Want, Act, Room, takes, want_of, is_due, if_due, goes_to_four, set_line, turns_to, says, hands}
-use Rattle.network_meaning.specs.LocalSteps.{Mode.printing, Mode.parsing, Mode.passing2, Mode.idle3, Mode.working3, Mode.working4, Mode.ended, Want.take_left, Want.take_right, Want.give_left, Want.give_right, Want.work, Want.none}
+use Rattle.frame_codec.specs.declared.frame.Frame.{Frame}
+use Rattle.network_meaning.specs.Sorts.{Sorts, Said, Message, Said.shown, Said.replied, Message.text, Message.cargo, Message.said, Message.end, Message.quit}
+use Rattle.network_meaning.specs.Language.{Language}
+use Rattle.network_meaning.specs.Frames.{frames, may_be_cut, spell, AllMore, is_more}
+use Rattle.network_meaning.specs.Laws.{Laws}
+use Rattle.network_meaning.specs.LocalSteps.{Mode, Want, Act, Room, takes, want_of, may_go_on, is_due, if_due, goes_to_four, set_line, turns_to, says, hands}
+use Rattle.network_meaning.specs.LocalSteps.{Mode.reading, Mode.waiting, Mode.printing, Mode.idle2, Mode.parsing, Mode.passing2, Mode.idle3, Mode.working3, Mode.passing3, Mode.idle4, Mode.working4, Mode.ended, Want.take_left, Want.take_right, Want.give_left, Want.give_right, Want.work, Want.none}
 use Rattle.network_meaning.specs.MessageNetwork.{Beside, beside, StageNumber, StageNumber.first, StageNumber.second, StageNumber.third, StageNumber.fourth}
 use Rattle.network_meaning.specs.Held.{kept, begun}
 use Rattle.network_meaning.specs.Due.{Due, IsDue}
+use Rattle.network_meaning.specs.Spelled.{EachSpelled, IsSpelled}
 use Rattle.network_meaning.specs.Orderly.{Phase, Place, Front, Phase.reads, Phase.closes, Phase.sends, Phase.away, Phase.quits_a, Phase.quits_b, Phase.quits_c, Phase.over, spread, front_mode, FitPhase, FitPlace}
 use Rattle.network_meaning.specs.Orderly.{Place.at_two, Place.in_b, Place.at_three, Place.in_c, Place.at_four, Place.in_d, Place.in_e_tables, Place.in_e_reply, Place.in_f}
 use Rattle.network_meaning.specs.Network.{Network, Between, between, want_with, Shows, Orderly}
 use Rattle.network_meaning.specs.Lawful.{front_of, in_front, comes, LawfulBehind, LawfulAs, Lawful, FitWork}
-use Rattle.network_meaning.proofs.Frames.{First, first_whole}
+use Rattle.network_meaning.proofs.Frames.{First, first_whole, IsCut, is_cut, cut_has_more}
 
 -- the first of these messages, where there is one, is one that this mode takes
 abbrev FirstTaken : {S : Sorts} → Language S → Mode S → List (Message S) → Type 0
@@ -73,43 +77,64 @@ record Begins {F : Type 0} (frames begin : List F) : Type 0 where
   pub is : frames ≡ begin ++ next ∷ later
 
 -- More frames that come first begin the first message, and it goes on
-begins : {S : Sorts} (L : Language S) (got mores : List S.Frame) (f last : S.Frame) (behind rest : List S.Frame) → AllMore L got → L.is_more f ≡ true → L.is_more last ≡ false →
+begins : (got mores : List Frame) (f last : Frame) (behind rest : List Frame) → AllMore got → is_more f ≡ true → is_more last ≡ false →
     got ++ f ∷ behind ≡ mores ++ last ∷ rest → Begins (mores ++ last ∷ []) (got ++ f ∷ [])
-begins L [] [] f last behind rest h ef el e = let same : f ≡ last = cc in let t : L.is_more last ≡ true = rw same at ef in cc
-begins L (x ∷ xs) [] f last behind rest h ef el e = let same : x ≡ last = cc in let t : L.is_more last ≡ true = rw same at h.0 in cc
-begins L [] (y ∷ []) f last behind rest h ef el e = record { next = last; later = []; is = (let same : f ≡ y = cc in rw same refl) }
-begins L [] (y ∷ z ∷ zs) f last behind rest h ef el e = record { next = z; later = zs ++ last ∷ []; is = (let same : f ≡ y = cc in rw same refl) }
-begins {S} L (x ∷ xs) (y ∷ ys) f last behind rest h ef el e =
+begins [] [] f last behind rest h ef el e = let same : f ≡ last = cc in let t : is_more last ≡ true = rw same at ef in cc
+begins (x ∷ xs) [] f last behind rest h ef el e = let same : x ≡ last = cc in let t : is_more last ≡ true = rw same at h.0 in cc
+begins [] (y ∷ []) f last behind rest h ef el e = record { next = last; later = []; is = (let same : f ≡ y = cc in rw same refl) }
+begins [] (y ∷ z ∷ zs) f last behind rest h ef el e = record { next = z; later = zs ++ last ∷ []; is = (let same : f ≡ y = cc in rw same refl) }
+begins (x ∷ xs) (y ∷ ys) f last behind rest h ef el e =
     let tails : xs ++ f ∷ behind ≡ ys ++ last ∷ rest = cc in
     let same : x ≡ y = cc in
-    let b : Begins (ys ++ last ∷ []) (xs ++ f ∷ []) = begins L xs ys f last behind rest h.1 ef el tails in
+    let b : Begins (ys ++ last ∷ []) (xs ++ f ∷ []) = begins xs ys f last behind rest h.1 ef el tails in
     record { next = b.next; later = b.later; is = rw (same, b.is) refl }
 
-lawful_behind : {S : Sorts} (L : Language S) (laws : Laws L) (mode : Mode S) (got : List S.Frame) (f : S.Frame) (behind : List S.Frame) (ms : List (Message S)) (more : Bool) → L.is_more f ≡ more → AllMore L got →
-    got ++ f ∷ behind ≡ spell L ms → FirstTaken L mode ms → LawfulBehind L mode got f more
-lawful_behind {S} L laws mode got f behind ms false em h e t =
-    let w : First L got f behind ms = first_whole L laws got f behind ms h em e in
-    rw w.whole (rw w.is at t)
-lawful_behind L laws mode [] f behind [] true em h e t = cc
-lawful_behind L laws mode (x ∷ xs) f behind [] true em h e t = cc
-lawful_behind {S} L laws mode got f behind (m ∷ ms) true em h e (act, taken) =
-    let c : IsCut L m = laws.cut m in
-    let e' : got ++ f ∷ behind ≡ c.mores ++ c.last ∷ spell L ms = e ∙ ap (λ (x : List S.Frame). x ++ spell L ms) c.cut ∙ append_assoc c.mores (c.last ∷ []) (spell L ms) in
-    let b : Begins (c.mores ++ c.last ∷ []) (got ++ f ∷ []) = begins L got c.mores f c.last behind (spell L ms) h em c.ends e' in
-    record { message = m; act = act; taken = taken; next = b.next; later = b.later; is = c.cut ∙ b.is }
+-- where a message is taken that may have More frames, these may be taken
+go_on : {S : Sorts} (L : Language S) (mode : Mode S) (m : Message S) (act : Act S) → may_be_cut m ≡ true → takes L mode m ≡ Some act → may_go_on mode ≡ true
+go_on L (waiting x o) m act cut e = refl
+go_on L (idle2 ranges) m act cut e = refl
+go_on L (passing2 ranges line b) m act cut e = refl
+go_on L idle3 m act cut e = refl
+go_on L idle4 m act cut e = refl
+go_on L passing3 (text t) act cut e = cc
+go_on L passing3 (cargo x) act cut e = cc
+go_on L passing3 (said (shown s)) act cut e = cc
+go_on L passing3 (said (replied r)) act cut e = cc
+go_on L passing3 end act cut e = cc
+go_on L passing3 quit act cut e = cc
+go_on L (reading x) m act cut e = cc
+go_on L (printing x o y) m act cut e = cc
+go_on L (parsing ranges b) m act cut e = cc
+go_on L (working3 t) m act cut e = cc
+go_on L (working4 x) m act cut e = cc
+go_on L ended m act cut e = cc
+
+lawful_behind : {S : Sorts} (L : Language S) (laws : Laws L) (mode : Mode S) (got : List Frame) (f : Frame) (behind : List Frame) (ms : List (Message S)) (more : Bool) → is_more f ≡ more → AllMore got →
+    got ++ f ∷ behind ≡ spell L ms → EachSpelled L ms → FirstTaken L mode ms → LawfulBehind L mode got f more
+lawful_behind {S} L laws mode got f behind ms false em h e sp t =
+    let w : First L got f behind ms = first_whole L got f behind ms h em sp e in
+    rw w.read (rw w.is at t)
+lawful_behind L laws mode [] f behind [] true em h e sp t = cc
+lawful_behind L laws mode (x ∷ xs) f behind [] true em h e sp t = cc
+lawful_behind {S} L laws mode got f behind (m ∷ ms) true em h e sp (act, taken) =
+    let c : IsCut L m = is_cut L m in
+    let e' : got ++ f ∷ behind ≡ c.mores ++ c.last ∷ spell L ms = e ∙ ap (λ (x : List Frame). x ++ spell L ms) c.cut ∙ append_assoc c.mores (c.last ∷ []) (spell L ms) in
+    let b : Begins (c.mores ++ c.last ∷ []) (got ++ f ∷ []) = begins got c.mores f c.last behind (spell L ms) h em c.ends e' in
+    let is : frames L m ≡ (got ++ f ∷ []) ++ b.next ∷ b.later = c.cut ∙ b.is in
+    (go_on L mode m act (cut_has_more L laws m sp.0 got f b.next b.later is) taken, record { message = m; act = act; taken = taken; next = b.next; later = b.later; is = is })
 
 -- a pipe, between what was taken of it and what is still to be given to it
-from_pipe : {S : Sorts} (L : Language S) (laws : Laws L) (mode : Mode S) (got pipe out : List S.Frame) (ms : List (Message S)) → AllMore L got → got ++ (pipe ++ out) ≡ spell L ms → FirstTaken L mode ms →
-    (f : S.Frame) → front_of pipe ≡ Some f → LawfulBehind L mode got f (L.is_more f)
-from_pipe L laws mode got [] out ms h e t f c = cc
-from_pipe L laws mode got (g ∷ pipe) out ms h e t f c =
+from_pipe : {S : Sorts} (L : Language S) (laws : Laws L) (mode : Mode S) (got pipe out : List Frame) (ms : List (Message S)) → AllMore got → got ++ (pipe ++ out) ≡ spell L ms → EachSpelled L ms → FirstTaken L mode ms →
+    (f : Frame) → front_of pipe ≡ Some f → LawfulBehind L mode got f (is_more f)
+from_pipe L laws mode got [] out ms h e sp t f c = cc
+from_pipe L laws mode got (g ∷ pipe) out ms h e sp t f c =
     let same : g ≡ f = cc in
-    rw (← same) (lawful_behind L laws mode got g (pipe ++ out) ms (L.is_more g) refl h e t)
+    rw (← same) (lawful_behind L laws mode got g (pipe ++ out) ms (is_more g) refl h e sp t)
 
 by_want : {S : Sorts} (L : Language S) (s : Between S) (t : Beside S) (w : Want) → t.mode ≡ s.stage.mode → want_of t.mode ≡ w → FirstAt L t (want_of t.mode) →
-    (FirstTaken L t.mode t.left_in → (f : S.Frame) → front_of s.left_in ≡ Some f → LawfulBehind L t.mode s.stage.got_left f (L.is_more f)) →
-    (FirstTaken L t.mode t.right_in → (f : S.Frame) → front_of s.right_in ≡ Some f → LawfulBehind L t.mode s.stage.got_right f (L.is_more f)) →
-    (f : S.Frame) → in_front s w ≡ Some f → LawfulAs L s.stage f w
+    (FirstTaken L t.mode t.left_in → (f : Frame) → front_of s.left_in ≡ Some f → LawfulBehind L t.mode s.stage.got_left f (is_more f)) →
+    (FirstTaken L t.mode t.right_in → (f : Frame) → front_of s.right_in ≡ Some f → LawfulBehind L t.mode s.stage.got_right f (is_more f)) →
+    (f : Frame) → in_front s w ≡ Some f → LawfulAs L s.stage f w
 by_want L s t take_left em ew h left right f c = rw (← em) (left (rw ew at h) f c)
 by_want L s t take_right em ew h left right f c = rw (← em) (right (rw ew at h) f c)
 by_want L s t give_left em ew h left right f c = cc
@@ -118,39 +143,39 @@ by_want L s t work em ew h left right f c = cc
 by_want L s t none em ew h left right f c = cc
 
 -- where a stage is to take, it has nothing to give
-by_outs : {S : Sorts} (L : Language S) (s : Between S) (t : Beside S) (out_left out_right : List S.Frame) → t.mode ≡ s.stage.mode → FirstAt L t (want_of t.mode) →
-    (FirstTaken L t.mode t.left_in → (f : S.Frame) → front_of s.left_in ≡ Some f → LawfulBehind L t.mode s.stage.got_left f (L.is_more f)) →
-    (FirstTaken L t.mode t.right_in → (f : S.Frame) → front_of s.right_in ≡ Some f → LawfulBehind L t.mode s.stage.got_right f (L.is_more f)) →
-    (f : S.Frame) → in_front s (want_with out_left out_right s.stage.mode) ≡ Some f → LawfulAs L s.stage f (want_with out_left out_right s.stage.mode)
+by_outs : {S : Sorts} (L : Language S) (s : Between S) (t : Beside S) (out_left out_right : List Frame) → t.mode ≡ s.stage.mode → FirstAt L t (want_of t.mode) →
+    (FirstTaken L t.mode t.left_in → (f : Frame) → front_of s.left_in ≡ Some f → LawfulBehind L t.mode s.stage.got_left f (is_more f)) →
+    (FirstTaken L t.mode t.right_in → (f : Frame) → front_of s.right_in ≡ Some f → LawfulBehind L t.mode s.stage.got_right f (is_more f)) →
+    (f : Frame) → in_front s (want_with out_left out_right s.stage.mode) ≡ Some f → LawfulAs L s.stage f (want_with out_left out_right s.stage.mode)
 by_outs L s t (g ∷ gs) out_right em h left right f c = cc
 by_outs L s t [] (g ∷ gs) em h left right f c = cc
 by_outs L s t [] [] em h left right f c = by_want L s t (want_of s.stage.mode) em (ap want_of em) h left right f c
 
-no_pipe : {S : Sorts} (L : Language S) (mode : Mode S) (got : List S.Frame) (ms : List (Message S)) → FirstTaken L mode ms → (f : S.Frame) → front_of {F = S.Frame} [] ≡ Some f → LawfulBehind L mode got f (L.is_more f)
+no_pipe : {S : Sorts} (L : Language S) (mode : Mode S) (got : List Frame) (ms : List (Message S)) → FirstTaken L mode ms → (f : Frame) → front_of {F = Frame} [] ≡ Some f → LawfulBehind L mode got f (is_more f)
 no_pipe L mode got ms t f c = cc
 
-lawful_at : {S : Sorts} (L : Language S) (laws : Laws L) (n : Network S) (p : Phase S) (k : StageNumber) → Shows L n (spread p n.room) → FitPhase L p n.room.db → IsDue L (spread p n.room) →
-    (f : S.Frame) → comes (between n k) ≡ Some f → Lawful L (between n k).stage f
-lawful_at L laws n p first h fits d =
+lawful_at : {S : Sorts} (L : Language S) (laws : Laws L) (n : Network S) (p : Phase S) (k : StageNumber) → Shows L n (spread p n.room) → FitPhase L p n.room.db → IsDue L (spread p n.room) → IsSpelled L (spread p n.room) →
+    (f : Frame) → comes (between n k) ≡ Some f → Lawful L (between n k).stage f
+lawful_at L laws n p first h fits d sp =
     by_outs L (between n first) (beside (spread p n.room) first) n.one.out_left n.one.out_right h.one (first_taken L p n.room first fits d)
     (no_pipe L (spread p n.room).one n.one.got_left [])
-    (from_pipe L laws (spread p n.room).one n.one.got_right n.f n.two.out_left (spread p n.room).f h.more_one h.f)
-lawful_at L laws n p second h fits d =
+    (from_pipe L laws (spread p n.room).one n.one.got_right n.f n.two.out_left (spread p n.room).f h.more_one h.f sp.f)
+lawful_at L laws n p second h fits d sp =
     by_outs L (between n second) (beside (spread p n.room) second) n.two.out_left n.two.out_right h.two (first_taken L p n.room second fits d)
-    (from_pipe L laws (spread p n.room).two n.two.got_left n.a n.one.out_right (spread p n.room).a h.more_two_left h.a)
-    (from_pipe L laws (spread p n.room).two n.two.got_right n.e n.three.out_left (spread p n.room).e h.more_two_right h.e)
-lawful_at L laws n p third h fits d =
+    (from_pipe L laws (spread p n.room).two n.two.got_left n.a n.one.out_right (spread p n.room).a h.more_two_left h.a sp.a)
+    (from_pipe L laws (spread p n.room).two n.two.got_right n.e n.three.out_left (spread p n.room).e h.more_two_right h.e sp.e)
+lawful_at L laws n p third h fits d sp =
     by_outs L (between n third) (beside (spread p n.room) third) n.three.out_left n.three.out_right h.three (first_taken L p n.room third fits d)
-    (from_pipe L laws (spread p n.room).three n.three.got_left n.b n.two.out_right (spread p n.room).b h.more_three_left h.b)
-    (from_pipe L laws (spread p n.room).three n.three.got_right n.d n.four.out_left (spread p n.room).d h.more_three_right h.d)
-lawful_at L laws n p fourth h fits d =
+    (from_pipe L laws (spread p n.room).three n.three.got_left n.b n.two.out_right (spread p n.room).b h.more_three_left h.b sp.b)
+    (from_pipe L laws (spread p n.room).three n.three.got_right n.d n.four.out_left (spread p n.room).d h.more_three_right h.d sp.d)
+lawful_at L laws n p fourth h fits d sp =
     by_outs L (between n fourth) (beside (spread p n.room) fourth) n.four.out_left n.four.out_right h.four (first_taken L p n.room fourth fits d)
-    (from_pipe L laws (spread p n.room).four n.four.got_left n.c n.three.out_right (spread p n.room).c h.more_four h.c)
+    (from_pipe L laws (spread p n.room).four n.four.got_left n.c n.three.out_right (spread p n.room).c h.more_four h.c sp.c)
     (no_pipe L (spread p n.room).four n.four.got_right [])
 
 -- what comes to a stage is lawful for it
-pub lawful : {S : Sorts} (L : Language S) (laws : Laws L) (k : StageNumber) (n : Network S) (f : S.Frame) → Orderly L n → comes (between n k) ≡ Some f → Lawful L (between n k).stage f
-lawful L laws k n f o c = lawful_at L laws n o.phase k o.shows o.fits o.due f c
+pub lawful : {S : Sorts} (L : Language S) (laws : Laws L) (k : StageNumber) (n : Network S) (f : Frame) → Orderly L n → comes (between n k) ≡ Some f → Lawful L (between n k).stage f
+lawful L laws k n f o c = lawful_at L laws n o.phase k o.shows o.fits o.due o.spelled f c
 
 front_works : {S : Sorts} (L : Language S) (m : S.Monitor) (o : Option S.Head) (prints : Option (Said S)) (xs : List (Message S)) (db : S.Db) → Due L (begun (front_mode m o prints)) (kept (front_mode m o prints) ++ xs) →
     FitWork L (front_mode m o prints) db

@@ -3,7 +3,8 @@ use Rattle.std.proofs.Common.{ℕ, List, [], ◌∷◌, ◌++◌, Some, None, re
 use Rattle.std.specs.declared.option.Option.{Option}
 use Rattle.network_meaning.specs.Sorts.{Sorts, Message, Finished}
 use Rattle.network_meaning.specs.Sorts.{Message.text, Message.cargo, Message.said, Message.end, Message.quit}
-use Rattle.network_meaning.specs.Language.{Language, Laws, Stand, followed_by, db_after, shelf_after}
+use Rattle.network_meaning.specs.Language.{Language, Stand, followed_by, db_after, shelf_after}
+use Rattle.network_meaning.specs.Laws.{Laws}
 use Rattle.network_meaning.specs.LocalSteps.{outcome_of}
 use Rattle.network_meaning.specs.MessageNetwork.{MessageNetwork}
 use Rattle.network_meaning.specs.Held.{batch_rest, cargo_rest, script_rest, rest, rest_from, ranges_at, travels, batches, monitor_at, line_at}

@@ -5,7 +5,8 @@ use Rattle.std.specs.declared.option.Option.{Option}
 use Rattle.network_meaning.proofs.Keeps.{due}
 use Rattle.network_meaning.specs.Sorts.{Sorts, Cargo, Cargo.tree, Cargo.change, Message, Shown, Reply, Next, Meaning, Outcome, Outcome.tables, Outcome.made, Outcome.refuses, Kind, Kind.answer, Kind.update, Kind.utility}
 use Rattle.network_meaning.specs.Sorts.{Reply.done, Reply.refused, Said.shown, Said.replied, Message.cargo, Message.said, Message.end, Next.no_more, Next.bad, Next.found, Meaning.names, Meaning.objects, Meaning.runs}
-use Rattle.network_meaning.specs.Language.{Language, Laws, after_next, after_meaning, statements_after_next, statements_after_meaning, tables_bytes}
+use Rattle.network_meaning.specs.Language.{Language, after_next, after_meaning, statements_after_next, statements_after_meaning, tables_bytes}
+use Rattle.network_meaning.specs.Laws.{Laws}
 use Rattle.network_meaning.specs.LocalSteps.{Mode.idle3, Mode.working3, Mode.working4, Mode.passing3, Mode.idle4, Mode.idle2, Mode.parsing, Mode.passing2, Act, Room, Processes, CarriesOut, Judges, Parses, turns_to, says, hands, outcome_of, all_shown, set_line, goes_to_four}
 use Rattle.network_meaning.specs.MessageNetwork.{MessageNetwork, Beside, StageNumber, StageNumber.second, StageNumber.third, StageNumber.fourth, beside, put, acted, MessageStep}
 use Rattle.network_meaning.specs.Held.{printed, held, kept, begun, rest}

@@ -1,14 +1,15 @@
 -- Each step of the network of frames finishes the first of the statements that are left, or none.
 use Rattle.std.proofs.Common.{◌≡◌, inl, inr, ℕ, Bool, true, false, List, [], ◌∷◌, ◌++◌, None, refl, sym, ap, ◌∙◌, append_assoc}
 use Rattle.network_meaning.specs.Sorts.{Sorts, Finished}
-use Rattle.network_meaning.specs.Language.{Language, Laws}
+use Rattle.network_meaning.specs.Language.{Language}
+use Rattle.network_meaning.specs.Laws.{Laws}
 use Rattle.network_meaning.specs.LocalSteps.{Mode.reading, Mode.waiting, Mode.printing, Mode.idle2}
 use Rattle.network_meaning.specs.MessageNetwork.{MessageNetwork, StageNumber}
 use Rattle.network_meaning.specs.Orderly.{Phase, spread, Phase.reads, Phase.closes, Phase.sends, Phase.away, Phase.quits_a, Phase.quits_b, Phase.quits_c, Phase.over}
 use Rattle.network_meaning.specs.Network.{Network, put_between, NetworkStep, StepsUnlessBlocked, Shows, as_messages, Orderly}
 use Rattle.network_meaning.specs.Going.{AllEnded}
 use Rattle.network_meaning.specs.Statements.{statements_left, Finishes, FinishesFront, db_behind}
-use Rattle.network_meaning.proofs.Whole.{Next, any_next, shown_view}
+use Rattle.network_meaning.proofs.Whole.{Next, any_next, next_spelled, shown_view}
 use Rattle.network_meaning.proofs.Ends.{known_end, not_away}
 use Rattle.network_meaning.proofs.StatementsStages.{none}
 use Rattle.network_meaning.proofs.StatementsFirst.{step_finishes}
@@ -16,14 +17,14 @@ use Rattle.network_meaning.proofs.StatementsFirst.{step_finishes}
 -- a step of frames is one of messages or changes none
 finishes_by : {S : Sorts} (L : Language S) (laws : Laws L) (k : StageNumber) (n n' : Network S) (o : Orderly L n) → Next L k (spread o.phase n.room) n n' → Finishes L (as_messages L n) (as_messages L n')
 finishes_by {S} L laws k n n' o next =
-    rw (shown_view L laws n (spread o.phase n.room) o.shows, shown_view L laws n' next.now next.shows) (elim next.step [
+    rw (shown_view L n (spread o.phase n.room) o.shows o.spelled, shown_view L n' next.now next.shows (next_spelled L laws k n n' o next)) (elim next.step [
       | inl (e, fewer) ↦ rw e (none L _ _ refl refl)
       | inr (st, fewer) ↦ step_finishes L laws o.phase n.room k next.now st
     ])
 
 finishes_or : {S : Sorts} (L : Language S) (laws : Laws L) (k : StageNumber) (n n' : Network S) (blocked : Bool) → Orderly L n → StepsUnlessBlocked L k n n' blocked → Finishes L (as_messages L n) (as_messages L n')
 finishes_or L laws k n n' true o e = rw e (none L _ _ refl refl)
-finishes_or L laws k n n' false o (s', g, e) = rw e (finishes_by L laws k n (put_between n k s') o (any_next L laws k n o.phase s' o.shows g))
+finishes_or L laws k n n' false o (s', g, e) = rw e (finishes_by L laws k n (put_between n k s') o (any_next L k n o.phase s' o.shows o.spelled g))
 
 pub finishes : {S : Sorts} (L : Language S) (laws : Laws L) (capacity : ℕ) (k : StageNumber) (n n' : Network S) → Orderly L n → NetworkStep L capacity k n n' → Finishes L (as_messages L n) (as_messages L n')
 finishes L laws capacity k n n' o h = finishes_or L laws k n n' _ o h
@@ -39,8 +40,8 @@ none_left L n quits_b h e = refl
 none_left L n quits_c h e = refl
 none_left L n over h e = refl
 
-pub none_at_end : {S : Sorts} (L : Language S) (laws : Laws L) (n : Network S) → Orderly L n → AllEnded n → statements_left L (as_messages L n) ≡ []
-none_at_end L laws n o e = ap (statements_left L) (shown_view L laws n (spread o.phase n.room) o.shows) ∙ none_left L n o.phase o.shows e
+pub none_at_end : {S : Sorts} (L : Language S) (n : Network S) → Orderly L n → AllEnded n → statements_left L (as_messages L n) ≡ []
+none_at_end L n o e = ap (statements_left L) (shown_view L n (spread o.phase n.room) o.shows o.spelled) ∙ none_left L n o.phase o.shows e
 
 behind-append : {S : Sorts} (db : S.Db) (xs ys : List (Finished S)) → db_behind {S = S} db (xs ++ ys) ≡ db_behind {S = S} (db_behind {S = S} db xs) ys
 behind-append db [] ys = refl

@@ -3,7 +3,7 @@ use Rattle.std.proofs.Common.{◌≡◌, ◌⊎◌, inl, inr, refl, ap, ◌∙�
 use Rattle.std.specs.declared.option.Option.{Option}
 use Rattle.network_meaning.specs.Sorts.{Sorts, Message, Said, Shown}
 use Rattle.network_meaning.specs.Sorts.{Said.shown, Message.text, Message.cargo, Message.said, Message.end, Message.quit}
-use Rattle.network_meaning.specs.Language.{Language, Laws}
+use Rattle.network_meaning.specs.Language.{Language}
 use Rattle.network_meaning.specs.LocalSteps.{Mode, Act, Room, Works}
 use Rattle.network_meaning.specs.LocalSteps.{Mode.reading, Mode.waiting, Mode.printing, Mode.idle2, Mode.parsing, Mode.passing2, Mode.idle3, Mode.working3, Mode.passing3, Mode.idle4, Mode.working4, Mode.ended}
 use Rattle.network_meaning.specs.MessageNetwork.{StageNumber, StageNumber.first}
@@ -49,8 +49,8 @@ phase_turns quits_c room = refl
 phase_turns over room = refl
 
 -- in an orderly network the turn is in one place
-pub one_turn : {S : Sorts} (L : Language S) → Laws L → (n : Network S) → Orderly L n → turns (as_messages L n) ≡ 1
-one_turn L laws n o = ap turns (shown_view L laws n (spread o.phase n.room) o.shows) ∙ phase_turns o.phase n.room
+pub one_turn : {S : Sorts} (L : Language S) (n : Network S) → Orderly L n → turns (as_messages L n) ≡ 1
+one_turn L n o = ap turns (shown_view L n (spread o.phase n.room) o.shows o.spelled) ∙ phase_turns o.phase n.room
 
 -- who works without the turn leaves the database and the shelf
 pub works_of_holder : {S : Sorts} (L : Language S) (k : StageNumber) (mode : Mode S) (room : Room S) (act : Act S) (new : Room S) → Works L mode room act new

@@ -1,8 +1,10 @@
 -- The words of the contracts of the stages and the network.
 use Rattle.std.specs.Prelude.{◌≡◌, ◌==◌, if◌then◌else◌, ℕ, Bool, List, [], ◌∷◌, Some, None, ⊤}
 use Rattle.std.specs.declared.option.Option.{Option}
+use Rattle.frame_codec.specs.declared.frame.Frame.{Frame}
 use Rattle.network_meaning.specs.Sorts.{Sorts}
 use Rattle.network_meaning.specs.Language.{Language}
+use Rattle.network_meaning.specs.Frames.{is_more}
 use Rattle.network_meaning.specs.LocalSteps.{Want, Act, Works, Room}
 use Rattle.network_meaning.specs.LocalSteps.{Want.take_left, Want.take_right, Want.give_left, Want.give_right}
 use Rattle.network_meaning.specs.MessageNetwork.{StageNumber, StageNumber.first, StageNumber.second, StageNumber.third, StageNumber.fourth}
@@ -19,33 +21,33 @@ TellsAfter None after r = Tells after r
 TellsAfter (Some x) after r = after ≡ Some r
 
 -- a stage that wants to take from this side has taken a frame
-abbrev pub TakenAs : {S : Sorts} → Language S → LocalState S → S.Frame → Want → LocalState S → Type 0
-TakenAs L s f take_left s' = HasTakenLeft L s f (L.is_more f) s'
-TakenAs L s f take_right s' = HasTakenRight L s f (L.is_more f) s'
+abbrev pub TakenAs : {S : Sorts} → Language S → LocalState S → Frame → Want → LocalState S → Type 0
+TakenAs L s f take_left s' = HasTakenLeft L s f (is_more f) s'
+TakenAs L s f take_right s' = HasTakenRight L s f (is_more f) s'
 TakenAs L s f _ s' = ⊥
 
 -- a stage has taken a frame
-abbrev pub Taken : {S : Sorts} → Language S → LocalState S → S.Frame → LocalState S → Type 0
+abbrev pub Taken : {S : Sorts} → Language S → LocalState S → Frame → LocalState S → Type 0
 Taken L s f s' = TakenAs L s f (want s) s'
 
 -- a stage has given the first of these frames to the left
-abbrev pub GivenLeft : {S : Sorts} → LocalState S → List S.Frame → S.Frame → LocalState S → Type 0
+abbrev pub GivenLeft : {S : Sorts} → LocalState S → List Frame → Frame → LocalState S → Type 0
 GivenLeft s [] f s' = ⊥
 GivenLeft s (g ∷ gs) f s' = (f ≡ g) × (s' ≡ record { mode = s.mode; got_left = s.got_left; got_right = s.got_right; out_left = gs; out_right = s.out_right })
 
 -- a stage has given the first of these frames to the right
-abbrev pub GivenRight : {S : Sorts} → LocalState S → List S.Frame → S.Frame → LocalState S → Type 0
+abbrev pub GivenRight : {S : Sorts} → LocalState S → List Frame → Frame → LocalState S → Type 0
 GivenRight s [] f s' = ⊥
 GivenRight s (g ∷ gs) f s' = (f ≡ g) × (s' ≡ record { mode = s.mode; got_left = s.got_left; got_right = s.got_right; out_left = s.out_left; out_right = gs })
 
 -- a stage that wants to give to this side has given a frame
-abbrev pub GivenAs : {S : Sorts} → LocalState S → S.Frame → Want → LocalState S → Type 0
+abbrev pub GivenAs : {S : Sorts} → LocalState S → Frame → Want → LocalState S → Type 0
 GivenAs s f give_left s' = GivenLeft s s.out_left f s'
 GivenAs s f give_right s' = GivenRight s s.out_right f s'
 GivenAs s f _ s' = ⊥
 
 -- a stage has given a frame
-abbrev pub Given : {S : Sorts} → LocalState S → S.Frame → LocalState S → Type 0
+abbrev pub Given : {S : Sorts} → LocalState S → Frame → LocalState S → Type 0
 Given s f s' = GivenAs s f (want s) s'
 
 -- a stage has worked, on some room that agrees with what is told
@@ -64,12 +66,12 @@ pub record Shape (S : Sorts) : Type 0 where
   pub two : LocalState S
   pub three : LocalState S
   pub four : LocalState S
-  pub a : List S.Frame
-  pub b : List S.Frame
-  pub c : List S.Frame
-  pub d : List S.Frame
-  pub e : List S.Frame
-  pub f : List S.Frame
+  pub a : List Frame
+  pub b : List Frame
+  pub c : List Frame
+  pub d : List Frame
+  pub e : List Frame
+  pub f : List Frame
 
 -- the network with this room
 abbrev pub join : {S : Sorts} → Shape S → Room S → Network S
@@ -80,7 +82,7 @@ pub record Seen (S : Sorts) : Type 0 where
   pub shape : Shape S
   pub told : Option (Room S)
 
--- step k was blocked or not, and did what D20 says
+-- step k was blocked or not, and did what a step of the network does
 pub record Moves {S : Sorts} (L : Language S) (capacity : ℕ) (k : StageNumber) (blocked : Bool) (old new : Seen S) : Type 0 where
   pub room : Room S
   pub room' : Room S

@@ -1,10 +1,10 @@
--- The functions that the equation is about, and what it uses of them.
-use Rattle.std.specs.Prelude.{◌≡◌, ℕ, Bool, true, false, List, [], ◌∷◌, ◌++◌, Some, ⊤}
+-- The functions that the equation is about.
+use Rattle.std.specs.Prelude.{◌≡◌, ℕ, Bool, List, [], ◌∷◌, ◌++◌, ⊤}
 use Rattle.std.specs.declared.option.Option.{Option}
 use Rattle.network_meaning.specs.Sorts.{Sorts, Message, Table, Outcome, Meaning, Next, Event, Read, After, Finished, Kind}
 use Rattle.network_meaning.specs.Sorts.{Outcome.tables, Outcome.made, Outcome.refuses, Meaning.names, Meaning.objects, Meaning.runs, Next.no_more, Next.bad, Next.found, Event.goes_on, Event.sends, Event.leaves}
 
--- what a language means and how it is spelled: statements, batches, scripts, trees, changes, printed bytes and frames
+-- what a language means and how it is spelled: statements, batches, scripts, trees, changes, printed bytes, the bytes of a message, and the message that bytes of a kind are read as
 pub record Language (S : Sorts) : Type 0 where
   pub meaning : S.Db → S.Shelf → S.Ranges → S.Statement → Meaning S
   pub lined : ℕ → S.Refusal → S.Refusal
@@ -22,9 +22,8 @@ pub record Language (S : Sorts) : Type 0 where
   pub row_fits : S.Head → S.Row → Bool
   pub done_bytes : List ℕ
   pub refusal_bytes : S.Refusal → List ℕ
-  pub frames : Message S → List S.Frame
-  pub is_more : S.Frame → Bool
-  pub whole : List S.Frame → Option (Message S)
+  pub payload : Message S → List ℕ
+  pub message_of : ℕ → List ℕ → Option (Message S)
   pub batch_runs : S.Db → S.Shelf → S.Ranges → S.Batch → After S
   pub script_bytes : S.Db → S.Shelf → S.Ranges → S.Monitor → S.Script → List ℕ
   -- the statements that run, in order: each that `next` finds, also where stage 2 settles or refuses it, and no syntax refusal
@@ -117,44 +116,3 @@ statements_after_event L db ranges got (sends t) =
     let a = L.batch_runs db got.shelf ranges (L.start t) in
     followed_by (L.script_bytes a.db a.shelf a.ranges got.monitor got.script) (L.batch_statements db got.shelf ranges (L.start t)) ++ L.script_statements a.db a.shelf a.ranges got.monitor got.script
 statements_after_event L db ranges got leaves = []
-
--- each of these is a More frame
-abbrev pub AllMore : {S : Sorts} → Language S → List S.Frame → Type 0
-AllMore L [] = ⊤
-AllMore L (f ∷ fs) = (L.is_more f ≡ true) × AllMore L fs
-
--- the frames of messages, one behind the other
-abbrev pub spell : {S : Sorts} → Language S → List (Message S) → List S.Frame
-spell L [] = []
-spell L (m ∷ ms) = L.frames m ++ spell L ms
-
--- a message is some More frames and a last one
-pub record IsCut {S : Sorts} (L : Language S) (m : Message S) : Type 0 where
-  pub mores : List S.Frame
-  pub last : S.Frame
-  pub cut : L.frames m ≡ mores ++ last ∷ []
-  pub more : AllMore L mores
-  pub ends : L.is_more last ≡ false
-
--- each of these rows fits this head
-abbrev pub RowsFit : {S : Sorts} → Language S → S.Head → List S.Row → Type 0
-RowsFit L h [] = ⊤
-RowsFit L h (r ∷ rs) = (L.row_fits h r ≡ true) × RowsFit L h rs
-
--- the rows of each table fit its head
-abbrev pub TablesFit : {S : Sorts} → Language S → List (Table S) → Type 0
-TablesFit L [] = ⊤
-TablesFit L (t ∷ ts) = RowsFit L t.top t.rows × TablesFit L ts
-
--- all that the equation uses
-pub record Laws {S : Sorts} (L : Language S) : Type 0 where
-  pub batch : (db : S.Db) (shelf : S.Shelf) (ranges : S.Ranges) (b : S.Batch) → L.batch_runs db shelf ranges b ≡ after_next L db shelf ranges (L.next b)
-  pub script : (db : S.Db) (shelf : S.Shelf) (ranges : S.Ranges) (m : S.Monitor) (script : S.Script) → L.script_bytes db shelf ranges m script ≡ (let got = L.read m script shelf in after_event L db ranges got got.event)
-  pub batch_list : (db : S.Db) (shelf : S.Shelf) (ranges : S.Ranges) (b : S.Batch) → L.batch_statements db shelf ranges b ≡ statements_after_next L db shelf ranges (L.next b)
-  pub script_list : (db : S.Db) (shelf : S.Shelf) (ranges : S.Ranges) (m : S.Monitor) (script : S.Script) → L.script_statements db shelf ranges m script ≡ (let got = L.read m script shelf in statements_after_event L db ranges got got.event)
-  pub batch_places : (db : S.Db) (shelf : S.Shelf) (ranges : S.Ranges) (b : S.Batch) → Stand (L.batch_runs db shelf ranges b).bytes (L.batch_statements db shelf ranges b)
-  pub script_places : (db : S.Db) (shelf : S.Shelf) (ranges : S.Ranges) (m : S.Monitor) (script : S.Script) → Stand (L.script_bytes db shelf ranges m script) (L.script_statements db shelf ranges m script)
-  pub whole : (m : Message S) → L.whole (L.frames m) ≡ Some m
-  pub cut : (m : Message S) → IsCut L m
-  -- the rows of an answer fit the head of their table
-  pub rows : (t : S.Tree) (db : S.Db) (shelf : S.Shelf) (ts : List (Table S)) → L.outcome t db shelf ≡ tables ts → TablesFit L ts

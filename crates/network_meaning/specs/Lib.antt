@@ -1,14 +1,17 @@
 pub mod Calls
 pub mod Due
+pub mod Frames
 pub mod Going
 pub mod Held
 pub mod Language
+pub mod Laws
 pub mod Lawful
 pub mod LocalSteps
 pub mod MessageNetwork
 pub mod Network
 pub mod Orderly
 pub mod Sorts
+pub mod Spelled
 pub mod Statements
 pub mod Tiny
 pub mod WorkLeft

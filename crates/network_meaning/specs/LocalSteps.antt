@@ -109,7 +109,16 @@ takes L idle4 (cargo x) = if_due (goes_to_four L x) (turns_to (working4 x))
 takes L idle4 quit = Some (turns_to ended)
 takes L _ _ = None
 
--- D15: the bytes of a message, with the closing rule of a table before any message but a row
+-- a stage at this mode takes messages that may have More frames: it waits for more than a reply
+abbrev pub may_go_on : {S : Sorts} → Mode S → Bool
+may_go_on (waiting m o) = true
+may_go_on (idle2 ranges) = true
+may_go_on (passing2 ranges line b) = true
+may_go_on idle3 = true
+may_go_on idle4 = true
+may_go_on _ = false
+
+-- the bytes of a message, with the closing rule of a table before any message but a row
 abbrev pub closing : {S : Sorts} → Language S → Option S.Head → List ℕ
 closing L None = []
 closing L (Some h) = L.rule_bytes h

@@ -1,12 +1,15 @@
--- The network of frames: D20.
+-- The network of frames.
 use Rattle.std.specs.Prelude.{◌≡◌, ℕ, Bool, true, false, List, [], ◌∷◌, ◌++◌, Some, None, length, nat_lt, not}
 use Rattle.std.specs.declared.option.Option.{Option}
+use Rattle.frame_codec.specs.declared.frame.Frame.{Frame}
 use Rattle.network_meaning.specs.Sorts.{Sorts, Message}
-use Rattle.network_meaning.specs.Language.{Language, spell, AllMore}
-use Rattle.network_meaning.specs.LocalSteps.{Mode, Mode.reading, Mode.idle2, Mode.idle3, Mode.idle4, Want, Act, takes, Works, want_of, Room}
+use Rattle.network_meaning.specs.Language.{Language}
+use Rattle.network_meaning.specs.Frames.{spell, AllMore, whole, is_more}
+use Rattle.network_meaning.specs.LocalSteps.{Mode, may_go_on, Mode.reading, Mode.idle2, Mode.idle3, Mode.idle4, Want, Act, takes, Works, want_of, Room}
 use Rattle.network_meaning.specs.LocalSteps.{Want.take_left, Want.take_right, Want.give_left, Want.give_right, Want.work, Want.none}
 use Rattle.network_meaning.specs.Held.{total}
 use Rattle.network_meaning.specs.Due.{IsDue}
+use Rattle.network_meaning.specs.Spelled.{IsSpelled}
 use Rattle.network_meaning.specs.Orderly.{Phase, spread, FitPhase}
 use Rattle.network_meaning.specs.MessageNetwork.{MessageNetwork, StageNumber, StageNumber.first, StageNumber.second, StageNumber.third, StageNumber.fourth}
 
@@ -14,13 +17,13 @@ use Rattle.network_meaning.specs.MessageNetwork.{MessageNetwork, StageNumber, St
 -- While there are frames to give, it gives, and is at `mode` only then
 pub record LocalState (S : Sorts) : Type 0 where
   pub mode : Mode S
-  pub got_left : List S.Frame
-  pub got_right : List S.Frame
-  pub out_left : List S.Frame
-  pub out_right : List S.Frame
+  pub got_left : List Frame
+  pub got_right : List Frame
+  pub out_left : List Frame
+  pub out_right : List Frame
 
 -- what a stage does that has these frames to give: it gives to the left first, then to the right, then as its mode is
-abbrev pub want_with : {S : Sorts} → List S.Frame → List S.Frame → Mode S → Want
+abbrev pub want_with : {S : Sorts} → List Frame → List Frame → Mode S → Want
 want_with (f ∷ fs) right mode = give_left
 want_with [] (f ∷ fs) mode = give_right
 want_with [] [] mode = want_of mode
@@ -30,7 +33,7 @@ abbrev pub want : {S : Sorts} → LocalState S → Want
 want s = want_with s.out_left s.out_right s.mode
 
 -- a stage behind an act, with these frames half taken: what the act gives is spelled behind what is to be given
-abbrev pub done_act : {S : Sorts} → Language S → LocalState S → Act S → List S.Frame → List S.Frame → LocalState S
+abbrev pub done_act : {S : Sorts} → Language S → LocalState S → Act S → List Frame → List Frame → LocalState S
 done_act L s act got_left got_right =
     record { mode = act.mode; got_left = got_left; got_right = got_right; out_left = s.out_left ++ spell L act.left; out_right = s.out_right ++ spell L act.right }
 
@@ -39,39 +42,39 @@ abbrev pub act_on : {S : Sorts} → Language S → Mode S → Option (Message S)
 act_on L mode None = None
 act_on L mode (Some m) = takes L mode m
 
--- a frame of the left pipe comes: More is kept, the last one makes the message whole
-abbrev pub HasTakenLeft : {S : Sorts} → Language S → LocalState S → S.Frame → Bool → LocalState S → Type 0
-HasTakenLeft L s f true s' = s' ≡ record { mode = s.mode; got_left = s.got_left ++ f ∷ []; got_right = s.got_right; out_left = s.out_left; out_right = s.out_right }
-HasTakenLeft {S} L s f false s' = (act : Act S) × (act_on L s.mode (L.whole (s.got_left ++ f ∷ [])) ≡ Some act) × (s' ≡ done_act L s act [] s.got_right)
+-- a frame of the left pipe comes: More is kept where such a message may come, the last one makes the message whole
+abbrev pub HasTakenLeft : {S : Sorts} → Language S → LocalState S → Frame → Bool → LocalState S → Type 0
+HasTakenLeft L s f true s' = (may_go_on s.mode ≡ true) × (s' ≡ record { mode = s.mode; got_left = s.got_left ++ f ∷ []; got_right = s.got_right; out_left = s.out_left; out_right = s.out_right })
+HasTakenLeft {S} L s f false s' = (act : Act S) × (act_on L s.mode (whole L (s.got_left ++ f ∷ [])) ≡ Some act) × (s' ≡ done_act L s act [] s.got_right)
 
--- a frame of the right pipe comes: More is kept, the last one makes the message whole
-abbrev pub HasTakenRight : {S : Sorts} → Language S → LocalState S → S.Frame → Bool → LocalState S → Type 0
-HasTakenRight L s f true s' = s' ≡ record { mode = s.mode; got_left = s.got_left; got_right = s.got_right ++ f ∷ []; out_left = s.out_left; out_right = s.out_right }
-HasTakenRight {S} L s f false s' = (act : Act S) × (act_on L s.mode (L.whole (s.got_right ++ f ∷ [])) ≡ Some act) × (s' ≡ done_act L s act s.got_left [])
+-- a frame of the right pipe comes: More is kept where such a message may come, the last one makes the message whole
+abbrev pub HasTakenRight : {S : Sorts} → Language S → LocalState S → Frame → Bool → LocalState S → Type 0
+HasTakenRight L s f true s' = (may_go_on s.mode ≡ true) × (s' ≡ record { mode = s.mode; got_left = s.got_left; got_right = s.got_right ++ f ∷ []; out_left = s.out_left; out_right = s.out_right })
+HasTakenRight {S} L s f false s' = (act : Act S) × (act_on L s.mode (whole L (s.got_right ++ f ∷ [])) ≡ Some act) × (s' ≡ done_act L s act s.got_left [])
 
 -- a stage between its pipes
 pub record Between (S : Sorts) : Type 0 where
   pub stage : LocalState S
-  pub left_in : List S.Frame
-  pub left_out : List S.Frame
-  pub right_out : List S.Frame
-  pub right_in : List S.Frame
+  pub left_in : List Frame
+  pub left_out : List Frame
+  pub right_out : List Frame
+  pub right_in : List Frame
   pub room : Room S
 
 -- the first frame of the left pipe was taken
-abbrev pub FrameFromLeft : {S : Sorts} → Language S → Between S → List S.Frame → Between S → Type 0
+abbrev pub FrameFromLeft : {S : Sorts} → Language S → Between S → List Frame → Between S → Type 0
 FrameFromLeft L s [] s' = ⊥
-FrameFromLeft {S} L s (f ∷ fs) s' = (stage' : LocalState S) × HasTakenLeft L s.stage f (L.is_more f) stage' ×
+FrameFromLeft {S} L s (f ∷ fs) s' = (stage' : LocalState S) × HasTakenLeft L s.stage f (is_more f) stage' ×
     (s' ≡ record { stage = stage'; left_in = fs; left_out = s.left_out; right_out = s.right_out; right_in = s.right_in; room = s.room })
 
 -- the first frame of the right pipe was taken
-abbrev pub FrameFromRight : {S : Sorts} → Language S → Between S → List S.Frame → Between S → Type 0
+abbrev pub FrameFromRight : {S : Sorts} → Language S → Between S → List Frame → Between S → Type 0
 FrameFromRight L s [] s' = ⊥
-FrameFromRight {S} L s (f ∷ fs) s' = (stage' : LocalState S) × HasTakenRight L s.stage f (L.is_more f) stage' ×
+FrameFromRight {S} L s (f ∷ fs) s' = (stage' : LocalState S) × HasTakenRight L s.stage f (is_more f) stage' ×
     (s' ≡ record { stage = stage'; left_in = s.left_in; left_out = s.left_out; right_out = s.right_out; right_in = fs; room = s.room })
 
 -- the first frame to give was given to the left pipe
-abbrev pub FrameToLeft : {S : Sorts} → Between S → List S.Frame → Between S → Type 0
+abbrev pub FrameToLeft : {S : Sorts} → Between S → List Frame → Between S → Type 0
 FrameToLeft s [] s' = ⊥
 FrameToLeft s (f ∷ fs) s' =
     s' ≡ record {
@@ -84,7 +87,7 @@ FrameToLeft s (f ∷ fs) s' =
     }
 
 -- the first frame to give was given to the right pipe
-abbrev pub FrameToRight : {S : Sorts} → Between S → List S.Frame → Between S → Type 0
+abbrev pub FrameToRight : {S : Sorts} → Between S → List Frame → Between S → Type 0
 FrameToRight s [] s' = ⊥
 FrameToRight s (f ∷ fs) s' =
     s' ≡ record {
@@ -136,12 +139,12 @@ pub record Network (S : Sorts) : Type 0 where
   pub two : LocalState S
   pub three : LocalState S
   pub four : LocalState S
-  pub a : List S.Frame
-  pub b : List S.Frame
-  pub c : List S.Frame
-  pub d : List S.Frame
-  pub e : List S.Frame
-  pub f : List S.Frame
+  pub a : List Frame
+  pub b : List Frame
+  pub c : List Frame
+  pub d : List Frame
+  pub e : List Frame
+  pub f : List Frame
   pub room : Room S
 
 -- a stage of the network between its pipes
@@ -188,12 +191,12 @@ pub record Shows {S : Sorts} (L : Language S) (n : Network S) (v : MessageNetwor
   pub last_right : n.four.out_right ≡ spell L v.last_right
   pub first_got : n.one.got_left ≡ []
   pub last_got : n.four.got_right ≡ []
-  pub more_one : AllMore L n.one.got_right
-  pub more_two_left : AllMore L n.two.got_left
-  pub more_two_right : AllMore L n.two.got_right
-  pub more_three_left : AllMore L n.three.got_left
-  pub more_three_right : AllMore L n.three.got_right
-  pub more_four : AllMore L n.four.got_left
+  pub more_one : AllMore n.one.got_right
+  pub more_two_left : AllMore n.two.got_left
+  pub more_two_right : AllMore n.two.got_right
+  pub more_three_left : AllMore n.three.got_left
+  pub more_three_right : AllMore n.three.got_right
+  pub more_four : AllMore n.four.got_left
 
 -- the message, where there is one, in front of others
 abbrev pub and_then : {S : Sorts} → Option (Message S) → List (Message S) → List (Message S)
@@ -201,9 +204,9 @@ and_then None ms = ms
 and_then (Some m) ms = m ∷ ms
 
 -- the messages that these frames spell, after those of a message that has begun
-abbrev pub gather : {S : Sorts} → Language S → List S.Frame → List S.Frame → List (Message S)
+abbrev pub gather : {S : Sorts} → Language S → List Frame → List Frame → List (Message S)
 gather L begun [] = []
-gather L begun (f ∷ fs) = elim (L.is_more f) [ true ↦ gather L (begun ++ f ∷ []) fs | false ↦ and_then (L.whole (begun ++ f ∷ [])) (gather L [] fs) ]
+gather L begun (f ∷ fs) = elim (is_more f) [ true ↦ gather L (begun ++ f ∷ []) fs | false ↦ and_then (whole L (begun ++ f ∷ [])) (gather L [] fs) ]
 
 -- the network as messages
 abbrev pub as_messages : {S : Sorts} → Language S → Network S → MessageNetwork S
@@ -229,6 +232,7 @@ pub record Orderly {S : Sorts} (L : Language S) (n : Network S) : Type 0 where
   pub phase : Phase S
   pub fits : FitPhase L phase n.room.db
   pub due : IsDue L (spread phase n.room)
+  pub spelled : IsSpelled L (spread phase n.room)
   pub shows : Shows L n (spread phase n.room)
 
 -- the bytes written, then those of what is held, then the rest

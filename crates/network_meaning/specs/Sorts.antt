@@ -16,7 +16,6 @@ pub record Sorts : Type 1 where
   pub Head : Type 0
   pub Row : Type 0
   pub Refusal : Type 0
-  pub Frame : Type 0
 
 -- what carries a statement to the right
 pub data Cargo (S : Sorts) : Type 0 where

@@ -6,11 +6,6 @@ use Rattle.network_meaning.specs.Sorts.{Sorts, Message, Table, Outcome, Next, Re
 use Rattle.network_meaning.specs.Sorts.{Cargo.tree, Cargo.change, Shown.head, Shown.row, Reply.done, Reply.refused, Said.shown, Said.replied, Message.text, Message.cargo, Message.said, Message.end, Message.quit, Outcome.tables, Outcome.made, Outcome.refuses, Meaning.runs, Next.no_more, Next.found, Event.sends, Event.leaves, Kind.answer, Kind.update}
 use Rattle.network_meaning.specs.Language.{Language, db_after, shelf_after, followed_by}
 
--- a frame: its kind and its bytes
-pub record FrameOf : Type 0 where
-  pub kind : ℕ
-  pub payload : List ℕ
-
 -- what says nothing
 pub data One : Type 0 where
   one : One
@@ -31,7 +26,6 @@ tiny_sorts = record {
   Head = One;
   Row = ℕ;
   Refusal = ℕ;
-  Frame = FrameOf;
 }
 
 -- the table of all numbers
@@ -57,44 +51,40 @@ abbrev pub tiny_read : One → List ℕ → One → Read tiny_sorts
 tiny_read m [] shelf = record { monitor = m; script = []; shelf = shelf; bytes = []; event = leaves }
 tiny_read m (x ∷ xs) shelf = record { monitor = m; script = xs; shelf = shelf; bytes = []; event = sends x }
 
--- one frame
-abbrev pub frame1 : ℕ → List ℕ → List FrameOf
-frame1 kind payload = record { kind = kind; payload = payload } ∷ []
+-- the bytes of a message: its number, where it has one
+abbrev pub tiny_payload : Message tiny_sorts → List ℕ
+tiny_payload (text x) = x ∷ []
+tiny_payload (cargo (tree x)) = x ∷ []
+tiny_payload (cargo (change x)) = x ∷ []
+tiny_payload (said (shown (head h))) = []
+tiny_payload (said (shown (row r))) = r ∷ []
+tiny_payload (said (replied (refused r))) = r ∷ []
+tiny_payload (said (replied done)) = []
+tiny_payload end = []
+tiny_payload quit = []
 
--- each message is one frame, by its kind
-abbrev pub tiny_frames : Message tiny_sorts → List FrameOf
-tiny_frames (text x) = frame1 1 (x ∷ [])
-tiny_frames (cargo (tree x)) = frame1 2 (x ∷ [])
-tiny_frames (said (shown (head h))) = frame1 3 []
-tiny_frames (said (shown (row r))) = frame1 4 (r ∷ [])
-tiny_frames (cargo (change x)) = frame1 5 (x ∷ [])
-tiny_frames end = frame1 6 []
-tiny_frames (said (replied (refused r))) = frame1 7 (r ∷ [])
-tiny_frames (said (replied done)) = frame1 8 []
-tiny_frames quit = frame1 10 []
+-- the message of this kind without a number
+abbrev pub tiny_bare : ℕ → Option (Message tiny_sorts)
+tiny_bare kind =
+    if kind == 3 then Some (said (shown (head one))) else
+    (if kind == 6 then Some end else
+    (if kind == 8 then Some (said (replied done)) else
+    (if kind == 10 then Some quit else None)))
 
--- the first number, or 0
-abbrev pub first_of : List ℕ → ℕ
-first_of [] = 0
-first_of (x ∷ xs) = x
-
--- the message of a frame of this kind
-abbrev pub tiny_message : ℕ → ℕ → Option (Message tiny_sorts)
-tiny_message kind x =
+-- the message of this kind with this number
+abbrev pub tiny_numbered : ℕ → ℕ → Option (Message tiny_sorts)
+tiny_numbered kind x =
     if kind == 1 then Some (text x) else
     (if kind == 2 then Some (cargo (tree x)) else
-    (if kind == 3 then Some (said (shown (head one))) else
     (if kind == 4 then Some (said (shown (row x))) else
     (if kind == 5 then Some (cargo (change x)) else
-    (if kind == 6 then Some end else
-    (if kind == 7 then Some (said (replied (refused x))) else
-    (if kind == 8 then Some (said (replied done)) else
-    (if kind == 10 then Some quit else None))))))))
+    (if kind == 7 then Some (said (replied (refused x))) else None))))
 
--- the message of frames
-abbrev pub tiny_whole : List FrameOf → Option (Message tiny_sorts)
-tiny_whole [] = None
-tiny_whole (f ∷ fs) = tiny_message f.kind (first_of f.payload)
+-- the message of this kind and these bytes: it has a number or none
+abbrev pub tiny_message : ℕ → List ℕ → Option (Message tiny_sorts)
+tiny_message kind [] = tiny_bare kind
+tiny_message kind (x ∷ []) = tiny_numbered kind x
+tiny_message kind (x ∷ y ∷ xs) = None
 
 -- a 1, the rows, and a 1
 abbrev pub tiny_tables : List (Table tiny_sorts) → List ℕ
@@ -151,9 +141,8 @@ tiny = record {
   row_fits = λ h r. true;
   done_bytes = 2 ∷ [];
   refusal_bytes = λ r. 3 ∷ [];
-  frames = tiny_frames;
-  is_more = λ f. f.kind == 11;
-  whole = tiny_whole;
+  payload = tiny_payload;
+  message_of = tiny_message;
   batch_runs = tiny_batch;
   script_bytes = tiny_script;
   batch_statements = tiny_statements;

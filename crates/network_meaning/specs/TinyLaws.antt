@@ -1,9 +1,12 @@
 -- The small language meets the laws.
-use Rattle.std.proofs.Common.{◌≡◌, ℕ, List, [], ◌∷◌, ◌++◌, Some, None, refl, sym, ap, ◌∙◌, append_assoc}
+use Rattle.std.proofs.Common.{◌≡◌, ◌<◌, ℕ, false, List, [], ◌∷◌, ◌++◌, Some, None, refl, sym, ap, ◌∙◌, append_assoc, length, arith}
 use Rattle.std.specs.declared.option.Option.{Option}
 use Rattle.network_meaning.specs.Sorts.{Message, Cargo.tree, Cargo.change, Shown.head, Shown.row, Reply.done, Reply.refused, Said.shown, Said.replied, Message.text, Message.cargo, Message.said, Message.end, Message.quit, Table, After, Finished, Outcome, Outcome.tables, Outcome.made, Outcome.refuses}
-use Rattle.network_meaning.specs.Language.{db_after, shelf_after, Laws, IsCut, Stand, after_next, after_event, statements_after_next, statements_after_event, reply_bytes, lines_of, tables_bytes, RowsFit, TablesFit}
-use Rattle.network_meaning.specs.Tiny.{tiny, tiny_sorts, tiny_ran, tiny_batch, tiny_reply, tiny_statements, tiny_list, tiny_tables, tiny_frames, tiny_whole, tiny_next, tiny_script, tiny_read, One, One.one}
+use Rattle.network_meaning.specs.Language.{db_after, shelf_after, Stand, after_next, after_event, statements_after_next, statements_after_event, reply_bytes, lines_of, tables_bytes}
+use Rattle.network_meaning.specs.Frames.{kind_of, may_be_cut}
+use Rattle.network_meaning.specs.Spelled.{EachSpelled}
+use Rattle.network_meaning.specs.Laws.{Laws, RowsFit, TablesFit}
+use Rattle.network_meaning.specs.Tiny.{tiny, tiny_sorts, tiny_ran, tiny_batch, tiny_reply, tiny_statements, tiny_list, tiny_tables, tiny_payload, tiny_message, tiny_next, tiny_script, tiny_read, One, One.one}
 
 lines : (rs : List ℕ) (xs : List ℕ) → lines_of tiny one rs ++ xs ≡ rs ++ xs
 lines [] xs = refl
@@ -29,16 +32,16 @@ batch_law db shelf ranges (Some n) =
     record_of : List ℕ → After tiny_sorts
     record_of bytes = record { db = db_after {S = tiny_sorts} db (tiny_ran n db shelf); shelf = shelf_after {S = tiny_sorts} shelf (tiny_ran n db shelf); ranges = ranges; bytes = bytes }
 
-whole_law : (m : Message tiny_sorts) → tiny_whole (tiny_frames m) ≡ Some m
-whole_law (text x) = refl
-whole_law (cargo (tree x)) = refl
-whole_law (cargo (change x)) = refl
-whole_law (said (shown (head one))) = refl
-whole_law (said (shown (row r))) = refl
-whole_law (said (replied done)) = refl
-whole_law (said (replied (refused r))) = refl
-whole_law end = refl
-whole_law quit = refl
+read_law : (m : Message tiny_sorts) → tiny_message (kind_of m) (tiny_payload m) ≡ Some m
+read_law (text x) = refl
+read_law (cargo (tree x)) = refl
+read_law (cargo (change x)) = refl
+read_law (said (shown (head one))) = refl
+read_law (said (shown (row r))) = refl
+read_law (said (replied done)) = refl
+read_law (said (replied (refused r))) = refl
+read_law end = refl
+read_law quit = refl
 
 script_law : (db : List ℕ) (shelf ranges m : One) (script : List ℕ) → tiny_script db shelf ranges m script ≡ (let got = tiny_read m script shelf in after_event tiny db ranges got got.event)
 script_law db shelf ranges m [] = refl
@@ -66,17 +69,6 @@ script_places db shelf ranges m (x ∷ xs) =
     let a = tiny_batch db shelf ranges (Some x) in
     ([], append_assoc (tiny_reply (tiny_ran x db shelf)) [] _, script_places a.db a.shelf ranges m xs)
 
-cut_law : (m : Message tiny_sorts) → IsCut tiny m
-cut_law (text x) = record { mores = []; last = record { kind = 1; payload = x ∷ [] }; cut = refl; more = tt; ends = refl }
-cut_law (cargo (tree x)) = record { mores = []; last = record { kind = 2; payload = x ∷ [] }; cut = refl; more = tt; ends = refl }
-cut_law (cargo (change x)) = record { mores = []; last = record { kind = 5; payload = x ∷ [] }; cut = refl; more = tt; ends = refl }
-cut_law (said (shown (head h))) = record { mores = []; last = record { kind = 3; payload = [] }; cut = refl; more = tt; ends = refl }
-cut_law (said (shown (row r))) = record { mores = []; last = record { kind = 4; payload = r ∷ [] }; cut = refl; more = tt; ends = refl }
-cut_law (said (replied done)) = record { mores = []; last = record { kind = 8; payload = [] }; cut = refl; more = tt; ends = refl }
-cut_law (said (replied (refused r))) = record { mores = []; last = record { kind = 7; payload = r ∷ [] }; cut = refl; more = tt; ends = refl }
-cut_law end = record { mores = []; last = record { kind = 6; payload = [] }; cut = refl; more = tt; ends = refl }
-cut_law quit = record { mores = []; last = record { kind = 10; payload = [] }; cut = refl; more = tt; ends = refl }
-
 rows_fit : (h : One) (rs : List ℕ) → RowsFit tiny h rs
 rows_fit h [] = tt
 rows_fit h (r ∷ rs) = (refl, rows_fit h rs)
@@ -85,5 +77,34 @@ tables_fit : (ts : List (Table tiny_sorts)) → TablesFit tiny ts
 tables_fit [] = tt
 tables_fit (t ∷ ts) = (rows_fit t.top t.rows, tables_fit ts)
 
+each_spelled : (ms : List (Message tiny_sorts)) → EachSpelled tiny ms
+each_spelled [] = tt
+each_spelled (m ∷ ms) = (read_law m, each_spelled ms)
+
+short_law : (kind : ℕ) (bytes : List ℕ) (m : Message tiny_sorts) → tiny_message kind bytes ≡ Some m → may_be_cut m ≡ false → length bytes < 4096
+short_law kind [] m e f = omega arith
+short_law kind (x ∷ []) m e f = omega arith
+short_law kind (x ∷ y ∷ xs) m e f = cc
+
 pub tiny_laws : Laws tiny
-tiny_laws = record { batch = batch_law; script = script_law; batch_list = statements_law; script_list = list_law; batch_places = batch_places; script_places = script_places; whole = whole_law; cut = cut_law; rows = λ t db shelf ts e. tables_fit ts }
+tiny_laws = record {
+  batch = batch_law;
+  script = script_law;
+  batch_list = statements_law;
+  script_list = list_law;
+  batch_places = batch_places;
+  script_places = script_places;
+  rows = λ t db shelf ts e. tables_fit ts;
+  text_spelled = λ m script shelf t e. read_law (text t);
+  tree_spelled = λ t db e. read_law (cargo (tree t));
+  change_spelled = λ c db e. read_law (cargo (change c));
+  tables_spelled = λ t db shelf ts e f. each_spelled _;
+  outcome_spelled = λ t db shelf r e f. read_law (said (replied (refused r)));
+  objection_spelled = λ db shelf ranges s r e. read_law (said (replied (refused r)));
+  syntax_spelled = λ b r e. read_law (said (replied (refused r)));
+  line_spelled = λ line r e h. h;
+  done_spelled = read_law (said (replied done));
+  end_spelled = read_law end;
+  quit_spelled = read_law quit;
+  short = short_law;
+}

@@ -4,6 +4,7 @@ use Rattle.std.specs.declared.option.Option.{Option}
 use Rattle.network_meaning.specs.Sorts.{Sorts, Message, Outcome, Meaning, Next, Event, Read}
 use Rattle.network_meaning.specs.Sorts.{Cargo.tree, Cargo.change, Reply.done, Reply.refused, Said.shown, Said.replied, Message.text, Message.cargo, Message.said, Message.end, Message.quit, Outcome.tables, Outcome.made, Outcome.refuses, Meaning.names, Meaning.objects, Meaning.runs, Next.no_more, Next.bad, Next.found, Event.goes_on, Event.sends, Event.leaves}
 use Rattle.network_meaning.specs.Language.{Language, db_after, shelf_after}
+use Rattle.network_meaning.specs.Frames.{frames}
 use Rattle.network_meaning.specs.LocalSteps.{Want, all_shown, outcome_of, Want.work, want_of}
 use Rattle.network_meaning.specs.MessageNetwork.{MessageNetwork, StageNumber, beside}
 use Rattle.network_meaning.specs.Network.{Network, as_messages}
@@ -18,7 +19,7 @@ pub record Work {S : Sorts} (L : Language S) : Type 0 where
 
 -- how many frames a message has
 abbrev pub count : {S : Sorts} → Language S → Message S → ℕ
-count L m = length (L.frames m)
+count L m = length (frames L m)
 
 -- how many frames messages have
 abbrev pub size : {S : Sorts} → Language S → List (Message S) → ℕ

@@ -1,10 +1,11 @@
-ghost use Rattle.network_meaning.specs.Language.{Language, Laws};
+ghost use Rattle.network_meaning.specs.Language.{Language};
+ghost use Rattle.network_meaning.specs.Laws.{Laws};
 ghost use Rattle.network_meaning.specs.Sorts.{Sorts};
 ghost use Rattle.network_meaning.specs.Tiny.{tiny, tiny_sorts};
 ghost use Rattle.network_meaning.specs.TinyLaws.{tiny_laws};
 
 /// A language that four stages may speak: what it speaks about, and for each user what scripts mean and
-/// how messages are cut into frames.
+/// how messages are spelled.
 pub trait Spoken {
     ghost sorts: { Sorts };
 

@@ -5,4 +5,4 @@ pub returns-clause-start : goal.returns-clause-start
 returns-clause-start g c user m ranges room = (start_orderly (g.T.Spoken.language user) m ranges room, start_bytes (g.T.Spoken.language user) m ranges room)
 
 pub returns-clause-end : goal.returns-clause-end
-returns-clause-end g c user n o e = whole_at_end (g.T.Spoken.language user) (g.T.Spoken.obeys user) n o e
+returns-clause-end g c user n o e = whole_at_end (g.T.Spoken.language user) n o e
