@@ -1,5 +1,5 @@
--- Sources, sinks and shelves in memory, as contracts see them.
-use Rattle.std.specs.Prelude.{ℕ, ◌-◌, List, [], ◌∷◌, min}
+-- Sources, sinks, shelves, links and spawners in memory, as contracts see them.
+use Rattle.std.specs.Prelude.{◌≡◌, ℕ, ℤ, ◌-◌, List, [], ◌∷◌, min}
 use Rattle.std.specs.declared.option.Option.{Option}
 use Rattle.std.specs.declared.option.Option.TheVariants.{Some, None}
 use Rattle.std.specs.Global.{Vec}
@@ -33,6 +33,27 @@ room_after (Some room) n = Some (room - n)
 -- A shelf: its files, the number of the next call, the numbers of the calls that are to fail, and how often a call has failed.
 pub record ShelfInMemory : Type 0 where
   pub files : Files
+  pub next_call : ℕ
+  pub failing : List ℕ
+  pub faults : ℕ
+
+-- A link: the bytes that are left to read, those that were written, the child's status, the number of the next call, the numbers of the calls that are to fail, and how often a call has failed.
+pub record LinkInMemory : Type 0 where
+  pub bytes : List ℕ
+  pub written : List ℕ
+  pub status : ℤ
+  pub next_call : ℕ
+  pub failing : List ℕ
+  pub faults : ℕ
+
+-- No call of it has failed.
+abbrev pub HasNoFault : LinkInMemory → Type 0
+HasNoFault link = link.faults ≡ 0
+
+-- A spawner: the links that are left, how many children were started, the number of the next call, the numbers of the calls that are to fail, and how often a call has failed.
+pub record SpawnerInMemory : Type 0 where
+  pub links : List LinkInMemory
+  pub started : ℕ
   pub next_call : ℕ
   pub failing : List ℕ
   pub faults : ℕ

@@ -61,7 +61,7 @@ impl MemSource {
 }
 
 /// Copies as many bytes as there are and as the buffer holds to its front.
-fn give(bytes: &[u8], buf: &mut [u8]) -> usize
+pub(crate) fn give(bytes: &[u8], buf: &mut [u8]) -> usize
     ensures count { result ≡ min (length bytes.now) (length buf.old) }
     ensures given { buf.new ≡ take result bytes.now ++ drop result buf.old }
     ensures taken { bytes.now ≡ take result buf.new ++ drop result bytes.now }
