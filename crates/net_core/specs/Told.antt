@@ -1,0 +1,61 @@
+-- What a room tells, and what failing work leaves of it.
+use Rattle.std.specs.Prelude.{◌≡◌, ◌++◌, ◌+◌, ◌≤◌, ℕ, List, Some, None, length}
+use Rattle.std.specs.declared.option.Option.{Option}
+use Rattle.calculus.specs.Database.{Db}
+use Rattle.fault_io.specs.Files.{Files}
+use Rattle.network_meaning.specs.Calls.{Begins, work_bytes}
+use Rattle.network_meaning.specs.Language.{Language}
+use Rattle.network_meaning.specs.LocalSteps.{Mode, Room as NetworkRoom}
+use Rattle.net_core.specs.declared.room.Room.{Room}
+use Rattle.quel_network.specs.Sorts.{quel_sorts}
+
+-- the outside as a room has it: the database, the files, what is left of the script and what was written, where they are told; how often calls of each failed, and how often the sink took nothing
+pub record Outside : Type 0 where
+  pub database : Option Db
+  pub base_faults : ℕ
+  pub files : Option Files
+  pub shelf_faults : ℕ
+  pub script : Option (List ℕ)
+  pub source_faults : ℕ
+  pub output : Option (List ℕ)
+  pub sink_faults : ℕ
+  pub sink_stalls : ℕ
+
+-- the outside of a room, by what its parts tell
+abbrev pub outside : {B H S K : Type 0} → (B → Option Db) → (B → ℕ) → (H → Option Files) → (H → ℕ) → (S → Option (List ℕ)) → (S → ℕ) → (K → Option (List ℕ)) → (K → ℕ) → (K → ℕ) → Room B H S K → Outside
+outside database base_faults files shelf_faults left source_faults written sink_faults stalls room = record {
+  database = database room.base;
+  base_faults = base_faults room.base;
+  files = files room.shelf;
+  shelf_faults = shelf_faults room.shelf;
+  script = left room.source;
+  source_faults = source_faults room.source;
+  output = written room.sink;
+  sink_faults = sink_faults room.sink;
+  sink_stalls = stalls room.sink;
+}
+
+-- the room as the network has it, where all four are told
+abbrev pub told_by : Option Db → Option Files → Option (List ℕ) → Option (List ℕ) → Option (NetworkRoom quel_sorts)
+told_by (Some db) (Some shelf) (Some script) (Some out) = Some (record { db = db; shelf = shelf; script = script; out = out })
+told_by _ _ _ _ = None
+
+-- the room that the outside tells
+abbrev pub told : Outside → Option (NetworkRoom quel_sorts)
+told o = told_by o.database o.files o.script o.output
+
+-- work that failed in a room that is told has written a front of what this work writes
+abbrev pub FailedWork : Language quel_sorts → Mode quel_sorts → Outside → Outside → Type 0
+FailedWork L mode before after = (room : NetworkRoom quel_sorts) → told before ≡ Some room → (front : List ℕ) × Begins front (work_bytes L mode room) × (after.output ≡ Some (room.out ++ front))
+
+-- a script that is told is told again, and what was read of it is what it has lost
+abbrev pub KeepsScript : ℕ → ℕ → Outside → Outside → Type 0
+KeepsScript heard heard' before after = (script : List ℕ) → before.script ≡ Some script → (rest : List ℕ) × (after.script ≡ Some rest) × (heard' + length rest ≡ heard + length script)
+
+-- no count of faults falls
+pub record Later (before after : Outside) : Type 0 where
+  pub base : before.base_faults ≤ after.base_faults
+  pub shelf : before.shelf_faults ≤ after.shelf_faults
+  pub source : before.source_faults ≤ after.source_faults
+  pub sink : before.sink_faults ≤ after.sink_faults
+  pub stalls : before.sink_stalls ≤ after.sink_stalls

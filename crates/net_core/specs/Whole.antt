@@ -1,0 +1,69 @@
+-- The network of the program, as the network of the definitions.
+use Rattle.std.specs.Prelude.{◌≡◌, ◌+◌, ◌++◌, ◌∷◌, ℕ, List, Some, true, false, ⊤}
+use Rattle.std.specs.declared.option.Option.{Option}
+use Rattle.frame_codec.specs.declared.frame.Frame.{Frame}
+use Rattle.net_core.specs.Causes.{MayNotTake, MayNotWork}
+use Rattle.net_core.specs.declared.net.Net.{Net}
+use Rattle.net_core.specs.Told.{Outside, told}
+use Rattle.network_meaning.specs.Calls.{Begins, Moves, RunsTurns, Seen, Shape, join, stage_number}
+use Rattle.network_meaning.specs.Language.{Language}
+use Rattle.network_meaning.specs.Lawful.{comes}
+use Rattle.network_meaning.specs.LocalSteps.{Mode, Want.work, Room as NetworkRoom}
+use Rattle.network_meaning.specs.MessageNetwork.{StageNumber, StageNumber.first, StageNumber.second, StageNumber.third, StageNumber.fourth}
+use Rattle.network_meaning.specs.Network.{LocalState, Orderly, between, bytes_in_all, want}
+use Rattle.quel_network.specs.Sorts.{User, quel_sorts}
+
+-- the stages and the pipes, by what the stages are at
+abbrev pub shape : {A1 A2 A3 A4 : Type 0} → (A1 → LocalState quel_sorts) → (A2 → LocalState quel_sorts) → (A3 → LocalState quel_sorts) → (A4 → LocalState quel_sorts) → Net A1 A2 A3 A4 → Shape quel_sorts
+shape one two three four n = record { one = one n.one; two = two n.two; three = three n.three; four = four n.four; a = n.a.items; b = n.b.items; c = n.c.items; d = n.d.items; e = n.e.items; f = n.f.items }
+
+-- the stages and the pipes, and the room where it is told
+abbrev pub seen : Shape quel_sorts → Outside → Seen quel_sorts
+seen s o = record { shape = s; told = told o }
+
+-- all four stages serve this user
+pub record AllServe {A1 A2 A3 A4 : Type 0} (one : A1 → User → Type 0) (two : A2 → User → Type 0) (three : A3 → User → Type 0) (four : A4 → User → Type 0) (n : Net A1 A2 A3 A4) (user : User) : Type 0 where
+  pub first : one n.one user
+  pub second : two n.two user
+  pub third : three n.three user
+  pub fourth : four n.four user
+
+-- the stages have the numbers 1 to 4
+pub record AreNumbered {A1 A2 A3 A4 : Type 0} (one : A1 → ℕ) (two : A2 → ℕ) (three : A3 → ℕ) (four : A4 → ℕ) (n : Net A1 A2 A3 A4) : Type 0 where
+  pub first : one n.one ≡ 1
+  pub second : two n.two ≡ 2
+  pub third : three n.three ≡ 3
+  pub fourth : four n.four ≡ 4
+
+-- how many bytes of the script the stages have read
+abbrev pub heard_by : {A1 A2 A3 A4 : Type 0} → (A1 → ℕ) → (A2 → ℕ) → (A3 → ℕ) → (A4 → ℕ) → Net A1 A2 A3 A4 → ℕ
+heard_by one two three four n = one n.one + (two n.two + (three n.three + four n.four))
+
+-- what a stage of this shape is at
+abbrev pub state_at : Shape quel_sorts → StageNumber → LocalState quel_sorts
+state_at s first = s.one
+state_at s second = s.two
+state_at s third = s.three
+state_at s fourth = s.four
+
+-- from each orderly network whose room is told, what is written is a front of the bytes in all
+abbrev pub WroteFront : Language quel_sorts → Seen quel_sorts → Outside → Type 0
+WroteFront L old after = (r : NetworkRoom quel_sorts) → old.told ≡ Some r → Orderly L (join old.shape r) → (out : List ℕ) × (after.output ≡ Some out) × Begins out (bytes_in_all L (join old.shape r))
+
+-- no network of this shape is orderly in the room that is told
+abbrev pub IsDisorderly : Language quel_sorts → Seen quel_sorts → Type 0
+IsDisorderly L s = (r : NetworkRoom quel_sorts) → s.told ≡ Some r → Orderly L (join s.shape r) → ⊥
+
+-- what comes to stage k may not be taken, or what it is to work on isn't fit
+abbrev pub MayNotStep : Language quel_sorts → StageNumber → Shape quel_sorts → Outside → Type 0
+MayNotStep L k s o = ((r : NetworkRoom quel_sorts) (frame : Frame) → comes (between (join s r) k) ≡ Some frame → MayNotTake L (state_at s k) frame) × (want (state_at s k) ≡ work → MayNotWork L (state_at s k).mode o)
+
+-- the steps of a list were made up to one that failed, in front of which the network was so
+pub record StopsAt (L : Language quel_sorts) (capacity : ℕ) (turns : List ℕ) (old : Seen quel_sorts) (after : Outside) : Type 0 where
+  pub made : List ℕ
+  pub failed : ℕ
+  pub later : List ℕ
+  pub is : turns ≡ made ++ failed ∷ later
+  pub before : Seen quel_sorts
+  pub runs : RunsTurns L capacity made old before
+  pub wrote : WroteFront L before after

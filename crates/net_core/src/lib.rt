@@ -1,0 +1,17 @@
+//! The network of the four stages: what a stage is, and the steps of four of them, one after the other.
+#![tactic(auto)]
+
+mod fault;
+mod moving;
+mod net;
+mod room;
+mod stage;
+mod steps;
+mod turns;
+
+pub use fault::{TakeFault, WorkFault};
+pub use net::{Net, net_ended};
+pub use room::Room;
+pub use stage::{Stage, Want};
+pub use steps::{Moved, net_step};
+pub use turns::net_turns;

@@ -1,0 +1,260 @@
+//! One step of the network.
+
+ghost use Rattle.std.specs.Prelude.{◌≡◌, ◌≤◌, IfOk, IsErrOf, OnErr, OnOk};
+ghost use Rattle.network_meaning.specs.Calls.{KeepsAll, Moves, join, stage_number};
+ghost use Rattle.network_meaning.specs.LocalSteps.{Room as NetworkRoom, Want.work};
+ghost use Rattle.network_meaning.specs.MessageNetwork.{StageNumber.first, StageNumber.second, StageNumber.third, StageNumber.fourth};
+ghost use Rattle.network_meaning.specs.Network.{is_stuck, want};
+ghost use Rattle.network_meaning.specs.Statements.{FinishesInOrder};
+ghost use Rattle.net_core.specs.Causes.{IsCaused};
+ghost use Rattle.net_core.specs.Told.{KeepsScript, Later, outside};
+ghost use Rattle.net_core.specs.Wants.{was_blocked};
+ghost use Rattle.net_core.specs.Whole.{AllServe, AreNumbered, IsDisorderly, MayNotStep, WroteFront, heard_by, seen, shape, state_at};
+ghost use Rattle.quel_network.specs.Quel.{quel};
+ghost use Rattle.quel_network.specs.Sorts.{User, quel_sorts};
+
+use crate::fault::WorkFault;
+use crate::moving::{give_to, take_from};
+use crate::net::Net;
+use crate::room::Room;
+use crate::stage::{Stage, Want};
+use am_traits::Base;
+use fault_io::{Shelf, Sink, Source};
+use std::alloc::Global;
+
+/// What a step came to.
+#[derive(Clone, Copy, Debug, PartialEq, Eq)]
+pub enum Moved {
+    /// The stage took a frame, gave one, or worked.
+    Stepped,
+    /// The stage has ended, the pipe that it wants to take from is empty, or the one that it wants to
+    /// give to is full.
+    Blocked,
+}
+
+/// Stage k does what it wants next: it takes a frame of a pipe, gives one to a pipe, or works on the room;
+/// or it is blocked, and nothing changes.
+///
+/// Where the room is told, an orderly network stays orderly, and the bytes in all, those that were written,
+/// those of what is on its way and those of the rest of the session, stay the same; after an error a front
+/// of them was written. From an orderly network nothing unlawful comes. After an error the network isn't
+/// used again.
+pub fn net_step<A1: Stage, A2: Stage, A3: Stage, A4: Stage, B: Base, H: Shelf, S: Source, K: Sink>(
+    alloc: Global,
+    net: &mut Net<A1, A2, A3, A4>,
+    room: &mut Room<B, H, S, K>,
+    k: u8,
+) -> Result<Moved, WorkFault>
+    requires low { 1 ≤ k }
+    requires high { k ≤ 4 }
+    ensures blocked { (r : NetworkRoom quel_sorts) → IfOk result (λ moved. is_stuck net.old.capacity (stage_number k) (join (shape A1.state A2.state A3.state A4.state net.old) r) ≡ was_blocked moved) }
+    ensures steps { (user : User) → AllServe A1.serves A2.serves A3.serves A4.serves net.old user → IfOk result (λ moved. Moves (quel user) net.old.capacity (stage_number k) (was_blocked moved)
+        (seen (shape A1.state A2.state A3.state A4.state net.old) (outside B.database B.faults H.files H.faults S.left S.faults K.written K.faults K.stalls room.old))
+        (seen (shape A1.state A2.state A3.state A4.state net.new) (outside B.database B.faults H.files H.faults S.left S.faults K.written K.faults K.stalls room.new))) }
+    ensures failed { (user : User) → AllServe A1.serves A2.serves A3.serves A4.serves net.old user → OnErr result (WroteFront (quel user)
+        (seen (shape A1.state A2.state A3.state A4.state net.old) (outside B.database B.faults H.files H.faults S.left S.faults K.written K.faults K.stalls room.old))
+        (outside B.database B.faults H.files H.faults S.left S.faults K.written K.faults K.stalls room.new)) }
+    ensures unlawful { (user : User) → AllServe A1.serves A2.serves A3.serves A4.serves net.old user → IsErrOf result WorkFault.Unlawful → MayNotStep (quel user) (stage_number k) (shape A1.state A2.state A3.state A4.state net.old)
+        (outside B.database B.faults H.files H.faults S.left S.faults K.written K.faults K.stalls room.old) }
+    ensures untouched { (want (state_at (shape A1.state A2.state A3.state A4.state net.old) (stage_number k)) ≡ work → ⊥) →
+        outside B.database B.faults H.files H.faults S.left S.faults K.written K.faults K.stalls room.new ≡ outside B.database B.faults H.files H.faults S.left S.faults K.written K.faults K.stalls room.old }
+    ensures cause { IsCaused (heard_by A1.heard A2.heard A3.heard A4.heard net.old)
+        (outside B.database B.faults H.files H.faults S.left S.faults K.written K.faults K.stalls room.old)
+        (outside B.database B.faults H.files H.faults S.left S.faults K.written K.faults K.stalls room.new) result }
+    ensures later { Later
+        (outside B.database B.faults H.files H.faults S.left S.faults K.written K.faults K.stalls room.old)
+        (outside B.database B.faults H.files H.faults S.left S.faults K.written K.faults K.stalls room.new) }
+    ensures heard { KeepsScript (heard_by A1.heard A2.heard A3.heard A4.heard net.old) (heard_by A1.heard A2.heard A3.heard A4.heard net.new)
+        (outside B.database B.faults H.files H.faults S.left S.faults K.written K.faults K.stalls room.old)
+        (outside B.database B.faults H.files H.faults S.left S.faults K.written K.faults K.stalls room.new) }
+    ensures serve { (user : User) → AllServe A1.serves A2.serves A3.serves A4.serves net.old user → AllServe A1.serves A2.serves A3.serves A4.serves net.new user }
+    ensures numbers { AreNumbered A1.place A2.place A3.place A4.place net.old → AreNumbered A1.place A2.place A3.place A4.place net.new }
+    ensures capacity { net.new.capacity ≡ net.old.capacity }
+    ensures equation { (user : User) → AllServe A1.serves A2.serves A3.serves A4.serves net.old user → OnOk result (KeepsAll (quel user)
+        (seen (shape A1.state A2.state A3.state A4.state net.old) (outside B.database B.faults H.files H.faults S.left S.faults K.written K.faults K.stalls room.old))
+        (seen (shape A1.state A2.state A3.state A4.state net.new) (outside B.database B.faults H.files H.faults S.left S.faults K.written K.faults K.stalls room.new))) }
+    ensures finishes { (user : User) → AllServe A1.serves A2.serves A3.serves A4.serves net.old user → OnOk result (FinishesInOrder (quel user)
+        (seen (shape A1.state A2.state A3.state A4.state net.old) (outside B.database B.faults H.files H.faults S.left S.faults K.written K.faults K.stalls room.old))
+        (seen (shape A1.state A2.state A3.state A4.state net.new) (outside B.database B.faults H.files H.faults S.left S.faults K.written K.faults K.stalls room.new))) }
+    ensures lawful { (user : User) → AllServe A1.serves A2.serves A3.serves A4.serves net.old user → IsErrOf result WorkFault.Unlawful → IsDisorderly (quel user)
+        (seen (shape A1.state A2.state A3.state A4.state net.old) (outside B.database B.faults H.files H.faults S.left S.faults K.written K.faults K.stalls room.old)) }
+{
+    match k {
+        1 => step_first(alloc, net, room),
+        2 => step_second(alloc, net, room),
+        3 => step_third(alloc, net, room),
+        _ => step_fourth(alloc, net, room),
+    }
+}
+
+/// The monitor does what it wants next.
+fn step_first<A1: Stage, A2: Stage, A3: Stage, A4: Stage, B: Base, H: Shelf, S: Source, K: Sink>(
+    alloc: Global,
+    net: &mut Net<A1, A2, A3, A4>,
+    room: &mut Room<B, H, S, K>,
+) -> Result<Moved, WorkFault>
+    ensures blocked { (r : NetworkRoom quel_sorts) → IfOk result (λ moved. is_stuck net.old.capacity first (join (shape A1.state A2.state A3.state A4.state net.old) r) ≡ was_blocked moved) }
+    ensures steps { (user : User) → AllServe A1.serves A2.serves A3.serves A4.serves net.old user → IfOk result (λ moved. Moves (quel user) net.old.capacity first (was_blocked moved)
+        (seen (shape A1.state A2.state A3.state A4.state net.old) (outside B.database B.faults H.files H.faults S.left S.faults K.written K.faults K.stalls room.old))
+        (seen (shape A1.state A2.state A3.state A4.state net.new) (outside B.database B.faults H.files H.faults S.left S.faults K.written K.faults K.stalls room.new))) }
+    ensures failed { (user : User) → AllServe A1.serves A2.serves A3.serves A4.serves net.old user → OnErr result (WroteFront (quel user)
+        (seen (shape A1.state A2.state A3.state A4.state net.old) (outside B.database B.faults H.files H.faults S.left S.faults K.written K.faults K.stalls room.old))
+        (outside B.database B.faults H.files H.faults S.left S.faults K.written K.faults K.stalls room.new)) }
+    ensures unlawful { (user : User) → AllServe A1.serves A2.serves A3.serves A4.serves net.old user → IsErrOf result WorkFault.Unlawful → MayNotStep (quel user) first (shape A1.state A2.state A3.state A4.state net.old)
+        (outside B.database B.faults H.files H.faults S.left S.faults K.written K.faults K.stalls room.old) }
+    ensures untouched { (want (state_at (shape A1.state A2.state A3.state A4.state net.old) first) ≡ work → ⊥) →
+        outside B.database B.faults H.files H.faults S.left S.faults K.written K.faults K.stalls room.new ≡ outside B.database B.faults H.files H.faults S.left S.faults K.written K.faults K.stalls room.old }
+    ensures cause { IsCaused (heard_by A1.heard A2.heard A3.heard A4.heard net.old)
+        (outside B.database B.faults H.files H.faults S.left S.faults K.written K.faults K.stalls room.old)
+        (outside B.database B.faults H.files H.faults S.left S.faults K.written K.faults K.stalls room.new) result }
+    ensures later { Later
+        (outside B.database B.faults H.files H.faults S.left S.faults K.written K.faults K.stalls room.old)
+        (outside B.database B.faults H.files H.faults S.left S.faults K.written K.faults K.stalls room.new) }
+    ensures heard { KeepsScript (heard_by A1.heard A2.heard A3.heard A4.heard net.old) (heard_by A1.heard A2.heard A3.heard A4.heard net.new)
+        (outside B.database B.faults H.files H.faults S.left S.faults K.written K.faults K.stalls room.old)
+        (outside B.database B.faults H.files H.faults S.left S.faults K.written K.faults K.stalls room.new) }
+    ensures serve { (user : User) → AllServe A1.serves A2.serves A3.serves A4.serves net.old user → AllServe A1.serves A2.serves A3.serves A4.serves net.new user }
+    ensures numbers { AreNumbered A1.place A2.place A3.place A4.place net.old → AreNumbered A1.place A2.place A3.place A4.place net.new }
+    ensures capacity { net.new.capacity ≡ net.old.capacity }
+{
+    match net.one.want() {
+        Want::TakeRight => take_from(alloc, &mut net.one, &mut net.f),
+        Want::GiveRight => give_to(alloc, &mut net.one, &mut net.a, net.capacity),
+        Want::Work => {
+            net.one.work(alloc, room)?;
+            Ok(Moved::Stepped)
+        }
+        Want::TakeLeft => Ok(Moved::Blocked),
+        Want::GiveLeft => Ok(Moved::Blocked),
+        Want::Ended => Ok(Moved::Blocked),
+    }
+}
+
+/// The parser does what it wants next.
+fn step_second<A1: Stage, A2: Stage, A3: Stage, A4: Stage, B: Base, H: Shelf, S: Source, K: Sink>(
+    alloc: Global,
+    net: &mut Net<A1, A2, A3, A4>,
+    room: &mut Room<B, H, S, K>,
+) -> Result<Moved, WorkFault>
+    ensures blocked { (r : NetworkRoom quel_sorts) → IfOk result (λ moved. is_stuck net.old.capacity second (join (shape A1.state A2.state A3.state A4.state net.old) r) ≡ was_blocked moved) }
+    ensures steps { (user : User) → AllServe A1.serves A2.serves A3.serves A4.serves net.old user → IfOk result (λ moved. Moves (quel user) net.old.capacity second (was_blocked moved)
+        (seen (shape A1.state A2.state A3.state A4.state net.old) (outside B.database B.faults H.files H.faults S.left S.faults K.written K.faults K.stalls room.old))
+        (seen (shape A1.state A2.state A3.state A4.state net.new) (outside B.database B.faults H.files H.faults S.left S.faults K.written K.faults K.stalls room.new))) }
+    ensures failed { (user : User) → AllServe A1.serves A2.serves A3.serves A4.serves net.old user → OnErr result (WroteFront (quel user)
+        (seen (shape A1.state A2.state A3.state A4.state net.old) (outside B.database B.faults H.files H.faults S.left S.faults K.written K.faults K.stalls room.old))
+        (outside B.database B.faults H.files H.faults S.left S.faults K.written K.faults K.stalls room.new)) }
+    ensures unlawful { (user : User) → AllServe A1.serves A2.serves A3.serves A4.serves net.old user → IsErrOf result WorkFault.Unlawful → MayNotStep (quel user) second (shape A1.state A2.state A3.state A4.state net.old)
+        (outside B.database B.faults H.files H.faults S.left S.faults K.written K.faults K.stalls room.old) }
+    ensures untouched { (want (state_at (shape A1.state A2.state A3.state A4.state net.old) second) ≡ work → ⊥) →
+        outside B.database B.faults H.files H.faults S.left S.faults K.written K.faults K.stalls room.new ≡ outside B.database B.faults H.files H.faults S.left S.faults K.written K.faults K.stalls room.old }
+    ensures cause { IsCaused (heard_by A1.heard A2.heard A3.heard A4.heard net.old)
+        (outside B.database B.faults H.files H.faults S.left S.faults K.written K.faults K.stalls room.old)
+        (outside B.database B.faults H.files H.faults S.left S.faults K.written K.faults K.stalls room.new) result }
+    ensures later { Later
+        (outside B.database B.faults H.files H.faults S.left S.faults K.written K.faults K.stalls room.old)
+        (outside B.database B.faults H.files H.faults S.left S.faults K.written K.faults K.stalls room.new) }
+    ensures heard { KeepsScript (heard_by A1.heard A2.heard A3.heard A4.heard net.old) (heard_by A1.heard A2.heard A3.heard A4.heard net.new)
+        (outside B.database B.faults H.files H.faults S.left S.faults K.written K.faults K.stalls room.old)
+        (outside B.database B.faults H.files H.faults S.left S.faults K.written K.faults K.stalls room.new) }
+    ensures serve { (user : User) → AllServe A1.serves A2.serves A3.serves A4.serves net.old user → AllServe A1.serves A2.serves A3.serves A4.serves net.new user }
+    ensures numbers { AreNumbered A1.place A2.place A3.place A4.place net.old → AreNumbered A1.place A2.place A3.place A4.place net.new }
+    ensures capacity { net.new.capacity ≡ net.old.capacity }
+{
+    match net.two.want() {
+        Want::TakeLeft => take_from(alloc, &mut net.two, &mut net.a),
+        Want::GiveLeft => give_to(alloc, &mut net.two, &mut net.f, net.capacity),
+        Want::TakeRight => take_from(alloc, &mut net.two, &mut net.e),
+        Want::GiveRight => give_to(alloc, &mut net.two, &mut net.b, net.capacity),
+        Want::Work => {
+            net.two.work(alloc, room)?;
+            Ok(Moved::Stepped)
+        }
+        Want::Ended => Ok(Moved::Blocked),
+    }
+}
+
+/// The query processor does what it wants next.
+fn step_third<A1: Stage, A2: Stage, A3: Stage, A4: Stage, B: Base, H: Shelf, S: Source, K: Sink>(
+    alloc: Global,
+    net: &mut Net<A1, A2, A3, A4>,
+    room: &mut Room<B, H, S, K>,
+) -> Result<Moved, WorkFault>
+    ensures blocked { (r : NetworkRoom quel_sorts) → IfOk result (λ moved. is_stuck net.old.capacity third (join (shape A1.state A2.state A3.state A4.state net.old) r) ≡ was_blocked moved) }
+    ensures steps { (user : User) → AllServe A1.serves A2.serves A3.serves A4.serves net.old user → IfOk result (λ moved. Moves (quel user) net.old.capacity third (was_blocked moved)
+        (seen (shape A1.state A2.state A3.state A4.state net.old) (outside B.database B.faults H.files H.faults S.left S.faults K.written K.faults K.stalls room.old))
+        (seen (shape A1.state A2.state A3.state A4.state net.new) (outside B.database B.faults H.files H.faults S.left S.faults K.written K.faults K.stalls room.new))) }
+    ensures failed { (user : User) → AllServe A1.serves A2.serves A3.serves A4.serves net.old user → OnErr result (WroteFront (quel user)
+        (seen (shape A1.state A2.state A3.state A4.state net.old) (outside B.database B.faults H.files H.faults S.left S.faults K.written K.faults K.stalls room.old))
+        (outside B.database B.faults H.files H.faults S.left S.faults K.written K.faults K.stalls room.new)) }
+    ensures unlawful { (user : User) → AllServe A1.serves A2.serves A3.serves A4.serves net.old user → IsErrOf result WorkFault.Unlawful → MayNotStep (quel user) third (shape A1.state A2.state A3.state A4.state net.old)
+        (outside B.database B.faults H.files H.faults S.left S.faults K.written K.faults K.stalls room.old) }
+    ensures untouched { (want (state_at (shape A1.state A2.state A3.state A4.state net.old) third) ≡ work → ⊥) →
+        outside B.database B.faults H.files H.faults S.left S.faults K.written K.faults K.stalls room.new ≡ outside B.database B.faults H.files H.faults S.left S.faults K.written K.faults K.stalls room.old }
+    ensures cause { IsCaused (heard_by A1.heard A2.heard A3.heard A4.heard net.old)
+        (outside B.database B.faults H.files H.faults S.left S.faults K.written K.faults K.stalls room.old)
+        (outside B.database B.faults H.files H.faults S.left S.faults K.written K.faults K.stalls room.new) result }
+    ensures later { Later
+        (outside B.database B.faults H.files H.faults S.left S.faults K.written K.faults K.stalls room.old)
+        (outside B.database B.faults H.files H.faults S.left S.faults K.written K.faults K.stalls room.new) }
+    ensures heard { KeepsScript (heard_by A1.heard A2.heard A3.heard A4.heard net.old) (heard_by A1.heard A2.heard A3.heard A4.heard net.new)
+        (outside B.database B.faults H.files H.faults S.left S.faults K.written K.faults K.stalls room.old)
+        (outside B.database B.faults H.files H.faults S.left S.faults K.written K.faults K.stalls room.new) }
+    ensures serve { (user : User) → AllServe A1.serves A2.serves A3.serves A4.serves net.old user → AllServe A1.serves A2.serves A3.serves A4.serves net.new user }
+    ensures numbers { AreNumbered A1.place A2.place A3.place A4.place net.old → AreNumbered A1.place A2.place A3.place A4.place net.new }
+    ensures capacity { net.new.capacity ≡ net.old.capacity }
+{
+    match net.three.want() {
+        Want::TakeLeft => take_from(alloc, &mut net.three, &mut net.b),
+        Want::GiveLeft => give_to(alloc, &mut net.three, &mut net.e, net.capacity),
+        Want::TakeRight => take_from(alloc, &mut net.three, &mut net.d),
+        Want::GiveRight => give_to(alloc, &mut net.three, &mut net.c, net.capacity),
+        Want::Work => {
+            net.three.work(alloc, room)?;
+            Ok(Moved::Stepped)
+        }
+        Want::Ended => Ok(Moved::Blocked),
+    }
+}
+
+/// The utilities does what it wants next.
+fn step_fourth<A1: Stage, A2: Stage, A3: Stage, A4: Stage, B: Base, H: Shelf, S: Source, K: Sink>(
+    alloc: Global,
+    net: &mut Net<A1, A2, A3, A4>,
+    room: &mut Room<B, H, S, K>,
+) -> Result<Moved, WorkFault>
+    ensures blocked { (r : NetworkRoom quel_sorts) → IfOk result (λ moved. is_stuck net.old.capacity fourth (join (shape A1.state A2.state A3.state A4.state net.old) r) ≡ was_blocked moved) }
+    ensures steps { (user : User) → AllServe A1.serves A2.serves A3.serves A4.serves net.old user → IfOk result (λ moved. Moves (quel user) net.old.capacity fourth (was_blocked moved)
+        (seen (shape A1.state A2.state A3.state A4.state net.old) (outside B.database B.faults H.files H.faults S.left S.faults K.written K.faults K.stalls room.old))
+        (seen (shape A1.state A2.state A3.state A4.state net.new) (outside B.database B.faults H.files H.faults S.left S.faults K.written K.faults K.stalls room.new))) }
+    ensures failed { (user : User) → AllServe A1.serves A2.serves A3.serves A4.serves net.old user → OnErr result (WroteFront (quel user)
+        (seen (shape A1.state A2.state A3.state A4.state net.old) (outside B.database B.faults H.files H.faults S.left S.faults K.written K.faults K.stalls room.old))
+        (outside B.database B.faults H.files H.faults S.left S.faults K.written K.faults K.stalls room.new)) }
+    ensures unlawful { (user : User) → AllServe A1.serves A2.serves A3.serves A4.serves net.old user → IsErrOf result WorkFault.Unlawful → MayNotStep (quel user) fourth (shape A1.state A2.state A3.state A4.state net.old)
+        (outside B.database B.faults H.files H.faults S.left S.faults K.written K.faults K.stalls room.old) }
+    ensures untouched { (want (state_at (shape A1.state A2.state A3.state A4.state net.old) fourth) ≡ work → ⊥) →
+        outside B.database B.faults H.files H.faults S.left S.faults K.written K.faults K.stalls room.new ≡ outside B.database B.faults H.files H.faults S.left S.faults K.written K.faults K.stalls room.old }
+    ensures cause { IsCaused (heard_by A1.heard A2.heard A3.heard A4.heard net.old)
+        (outside B.database B.faults H.files H.faults S.left S.faults K.written K.faults K.stalls room.old)
+        (outside B.database B.faults H.files H.faults S.left S.faults K.written K.faults K.stalls room.new) result }
+    ensures later { Later
+        (outside B.database B.faults H.files H.faults S.left S.faults K.written K.faults K.stalls room.old)
+        (outside B.database B.faults H.files H.faults S.left S.faults K.written K.faults K.stalls room.new) }
+    ensures heard { KeepsScript (heard_by A1.heard A2.heard A3.heard A4.heard net.old) (heard_by A1.heard A2.heard A3.heard A4.heard net.new)
+        (outside B.database B.faults H.files H.faults S.left S.faults K.written K.faults K.stalls room.old)
+        (outside B.database B.faults H.files H.faults S.left S.faults K.written K.faults K.stalls room.new) }
+    ensures serve { (user : User) → AllServe A1.serves A2.serves A3.serves A4.serves net.old user → AllServe A1.serves A2.serves A3.serves A4.serves net.new user }
+    ensures numbers { AreNumbered A1.place A2.place A3.place A4.place net.old → AreNumbered A1.place A2.place A3.place A4.place net.new }
+    ensures capacity { net.new.capacity ≡ net.old.capacity }
+{
+    match net.four.want() {
+        Want::TakeLeft => take_from(alloc, &mut net.four, &mut net.c),
+        Want::GiveLeft => give_to(alloc, &mut net.four, &mut net.d, net.capacity),
+        Want::Work => {
+            net.four.work(alloc, room)?;
+            Ok(Moved::Stepped)
+        }
+        Want::TakeRight => Ok(Moved::Blocked),
+        Want::GiveRight => Ok(Moved::Blocked),
+        Want::Ended => Ok(Moved::Blocked),
+    }
+}

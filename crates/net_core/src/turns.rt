@@ -1,0 +1,67 @@
+//! The steps of a list of turns.
+
+ghost use Rattle.std.specs.Prelude.{◌≡◌, ◌≤◌, All, IsErrOf, OnErr, OnOk};
+ghost use Rattle.network_meaning.specs.Calls.{KeepsAll, RunsTurns};
+ghost use Rattle.network_meaning.specs.Statements.{FinishesInOrder};
+ghost use Rattle.net_core.specs.Causes.{IsCaused};
+ghost use Rattle.net_core.specs.Told.{KeepsScript, Later, outside};
+ghost use Rattle.net_core.specs.Whole.{AllServe, AreNumbered, IsDisorderly, StopsAt, WroteFront, heard_by, seen, shape};
+ghost use Rattle.quel_network.specs.Quel.{quel};
+ghost use Rattle.quel_network.specs.Sorts.{User};
+
+use crate::fault::WorkFault;
+use crate::net::Net;
+use crate::room::Room;
+use crate::stage::Stage;
+use crate::steps::net_step;
+use am_traits::Base;
+use fault_io::{Shelf, Sink, Source};
+use std::alloc::Global;
+
+/// The steps of a list of stage numbers, one after the other.
+///
+/// Whatever the list is: where the room is told, an orderly network stays orderly, and the bytes in all,
+/// those that were written, those of what is on its way and those of the rest of the session, stay the
+/// same; after an error a front of them was written. After an error the network isn't used again.
+pub fn net_turns<A1: Stage, A2: Stage, A3: Stage, A4: Stage, B: Base, H: Shelf, S: Source, K: Sink>(
+    alloc: Global,
+    net: &mut Net<A1, A2, A3, A4>,
+    room: &mut Room<B, H, S, K>,
+    turns: &[u8],
+) -> Result<(), WorkFault>
+    requires { All (λ k. (1 ≤ k) × (k ≤ 4)) turns.now }
+    ensures steps { (user : User) → AllServe A1.serves A2.serves A3.serves A4.serves net.old user → OnOk result (RunsTurns (quel user) net.old.capacity turns.now
+        (seen (shape A1.state A2.state A3.state A4.state net.old) (outside B.database B.faults H.files H.faults S.left S.faults K.written K.faults K.stalls room.old))
+        (seen (shape A1.state A2.state A3.state A4.state net.new) (outside B.database B.faults H.files H.faults S.left S.faults K.written K.faults K.stalls room.new))) }
+    ensures equation { (user : User) → AllServe A1.serves A2.serves A3.serves A4.serves net.old user → OnOk result (KeepsAll (quel user)
+        (seen (shape A1.state A2.state A3.state A4.state net.old) (outside B.database B.faults H.files H.faults S.left S.faults K.written K.faults K.stalls room.old))
+        (seen (shape A1.state A2.state A3.state A4.state net.new) (outside B.database B.faults H.files H.faults S.left S.faults K.written K.faults K.stalls room.new))) }
+    ensures finishes { (user : User) → AllServe A1.serves A2.serves A3.serves A4.serves net.old user → OnOk result (FinishesInOrder (quel user)
+        (seen (shape A1.state A2.state A3.state A4.state net.old) (outside B.database B.faults H.files H.faults S.left S.faults K.written K.faults K.stalls room.old))
+        (seen (shape A1.state A2.state A3.state A4.state net.new) (outside B.database B.faults H.files H.faults S.left S.faults K.written K.faults K.stalls room.new))) }
+    ensures stopped { (user : User) → AllServe A1.serves A2.serves A3.serves A4.serves net.old user → OnErr result (StopsAt (quel user) net.old.capacity turns.now
+        (seen (shape A1.state A2.state A3.state A4.state net.old) (outside B.database B.faults H.files H.faults S.left S.faults K.written K.faults K.stalls room.old))
+        (outside B.database B.faults H.files H.faults S.left S.faults K.written K.faults K.stalls room.new)) }
+    ensures failed { (user : User) → AllServe A1.serves A2.serves A3.serves A4.serves net.old user → OnErr result (WroteFront (quel user)
+        (seen (shape A1.state A2.state A3.state A4.state net.old) (outside B.database B.faults H.files H.faults S.left S.faults K.written K.faults K.stalls room.old))
+        (outside B.database B.faults H.files H.faults S.left S.faults K.written K.faults K.stalls room.new)) }
+    ensures lawful { (user : User) → AllServe A1.serves A2.serves A3.serves A4.serves net.old user → IsErrOf result WorkFault.Unlawful → IsDisorderly (quel user)
+        (seen (shape A1.state A2.state A3.state A4.state net.old) (outside B.database B.faults H.files H.faults S.left S.faults K.written K.faults K.stalls room.old)) }
+    ensures cause { IsCaused (heard_by A1.heard A2.heard A3.heard A4.heard net.old)
+        (outside B.database B.faults H.files H.faults S.left S.faults K.written K.faults K.stalls room.old)
+        (outside B.database B.faults H.files H.faults S.left S.faults K.written K.faults K.stalls room.new) result }
+    ensures later { Later
+        (outside B.database B.faults H.files H.faults S.left S.faults K.written K.faults K.stalls room.old)
+        (outside B.database B.faults H.files H.faults S.left S.faults K.written K.faults K.stalls room.new) }
+    ensures heard { KeepsScript (heard_by A1.heard A2.heard A3.heard A4.heard net.old) (heard_by A1.heard A2.heard A3.heard A4.heard net.new)
+        (outside B.database B.faults H.files H.faults S.left S.faults K.written K.faults K.stalls room.old)
+        (outside B.database B.faults H.files H.faults S.left S.faults K.written K.faults K.stalls room.new) }
+    ensures serve { (user : User) → AllServe A1.serves A2.serves A3.serves A4.serves net.old user → AllServe A1.serves A2.serves A3.serves A4.serves net.new user }
+    ensures numbers { AreNumbered A1.place A2.place A3.place A4.place net.old → AreNumbered A1.place A2.place A3.place A4.place net.new }
+    ensures capacity { net.new.capacity ≡ net.old.capacity }
+{
+    for k in turns {
+        net_step(alloc, net, room, *k)?;
+    }
+    Ok(())
+}

@@ -1,0 +1,2 @@
+//! The language of this program as its four stages speak it.
+#![tactic(auto)]
