@@ -1,5 +1,6 @@
 pub mod Due
 pub mod Ends
+pub mod FailedWork
 pub mod First
 pub mod Frames
 pub mod FramesExample

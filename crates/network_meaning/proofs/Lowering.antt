@@ -1,5 +1,5 @@
 -- Each step of messages lowers what is left.
-use Rattle.std.proofs.Common.{◌≡◌, ◌≤◌, ◌+◌, ℕ, true, List, [], ◌∷◌, ◌++◌, Some, map, refl, arith, length-append}
+use Rattle.std.proofs.Common.{◌≡◌, ◌≤◌, ◌+◌, ℕ, List, [], ◌∷◌, ◌++◌, Some, map, refl, arith, length-append}
 use Rattle.std.proofs.lemmas.List.{append-nil}
 use Rattle.network_meaning.specs.Sorts.{Sorts, Cargo, Cargo.tree, Cargo.change, Message, Shown, Next, Meaning, Outcome, Outcome.tables, Outcome.made, Outcome.refuses, Kind, Kind.answer, Kind.update, Kind.utility}
 use Rattle.network_meaning.specs.Sorts.{Reply.done, Reply.refused, Said.shown, Said.replied, Message.cargo, Message.said, Message.end, Next.no_more, Next.bad, Next.found, Meaning.names, Meaning.objects, Meaning.runs}
@@ -27,7 +27,7 @@ pub done_by : {S : Sorts} (L : Language S) (W : Work L) (k : StageNumber) (v : M
 done_by L W k v known act left right new room' s' v' e1 e2 e3 e4 h = rw e4 (rw e3 (rw (e1, e2) h))
 
 processes : {S : Sorts} (L : Language S) (W : Work L) (laws : WorkLaws L W) (w : Front S) (line : ℕ) (b : S.Batch) (t : S.Tree) (room : Room S) (v' : MessageNetwork S) (kind : Kind) (outcome : Outcome S) (act : Act S) (room' : Room S) (s' : Beside S) →
-    L.outcome t room.db room.shelf ≡ outcome → L.fits t room.db ≡ true →
+    L.outcome t room.db room.shelf ≡ outcome → L.Fits t room.db →
     Processes L room t kind outcome act → room' ≡ room →
     s' ≡ acted (beside (spread (away w (at_three line b t)) room) third) act [] [] room' → v' ≡ put (spread (away w (at_three line b t)) room) third s' →
     Lowers L W third (spread (away w (at_three line b t)) room) v'

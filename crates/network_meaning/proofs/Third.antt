@@ -1,11 +1,11 @@
 -- The steps of stages 3 and 4.
-use Rattle.std.proofs.Common.{◌≡◌, ℕ, true, [], ◌∷◌, ◌++◌, map, refl}
+use Rattle.std.proofs.Common.{◌≡◌, ℕ, [], ◌∷◌, ◌++◌, map, refl}
 use Rattle.std.proofs.lemmas.List.{append-nil}
 use Rattle.network_meaning.specs.Sorts.{Sorts, Cargo, Cargo.tree, Cargo.change, Shown, Outcome, Outcome.tables, Outcome.made, Outcome.refuses, Kind, Kind.answer, Kind.update, Kind.utility}
 use Rattle.network_meaning.specs.Sorts.{Reply.done, Reply.refused, Said.shown, Said.replied, Message.cargo, Message.said, Message.end}
 use Rattle.network_meaning.specs.Language.{Language}
 use Rattle.network_meaning.specs.Laws.{Laws}
-use Rattle.network_meaning.specs.LocalSteps.{Mode.idle3, Mode.working3, Mode.passing3, Mode.idle4, Mode.working4, Act, Room, Processes, CarriesOut, turns_to, says, hands, outcome_of, all_shown, fit, goes_to_four}
+use Rattle.network_meaning.specs.LocalSteps.{Mode.idle3, Mode.working3, Mode.passing3, Mode.idle4, Mode.working4, Act, Room, Processes, CarriesOut, turns_to, says, hands, outcome_of, all_shown, IsFit, goes_to_four}
 use Rattle.network_meaning.specs.MessageNetwork.{MessageNetwork, Beside, StageNumber.third, StageNumber.fourth, beside, put, acted, MessageStep}
 use Rattle.network_meaning.specs.Held.{total, kept, begun}
 use Rattle.network_meaning.specs.Due.{IsDue}
@@ -19,7 +19,7 @@ use Rattle.network_meaning.proofs.Printing.{opens_reply, opens_tables, say_more,
 
 -- stage 3 works on a tree
 processes : {S : Sorts} (L : Language S) (laws : Laws L) (w : Front S) (line : ℕ) (b : S.Batch) (t : S.Tree) (room : Room S) (v' : MessageNetwork S) (kind : Kind) (outcome : Outcome S) (act : Act S) (room' : Room S) (s' : Beside S) →
-    IsDue L (spread (away w (at_three line b t)) room) → IsSpelled L (spread (away w (at_three line b t)) room) → L.kind t ≡ kind → L.outcome t room.db room.shelf ≡ outcome → L.fits t room.db ≡ true →
+    IsDue L (spread (away w (at_three line b t)) room) → IsSpelled L (spread (away w (at_three line b t)) room) → L.kind t ≡ kind → L.outcome t room.db room.shelf ≡ outcome → L.Fits t room.db →
     Processes L room t kind outcome act → room' ≡ room →
     s' ≡ acted (beside (spread (away w (at_three line b t)) room) third) act [] [] room' → v' ≡ put (spread (away w (at_three line b t)) room) third s' →
     Keeps L (total L (spread (away w (at_three line b t)) room)) v'
@@ -30,7 +30,7 @@ processes {S} L laws w line b t room v' answer (tables ts) act room' s' d sp ek 
       room = room;
       is = refl;
       fits = tt;
-      due = simp append-nil (rw (lines_kept L line (all_shown ts) (end ∷ [])) (said_due L w (map (λ (s : Shown S). said (shown s)) (all_shown ts) ++ end ∷ []) d (tables_anywhere L ts (laws.rows t room.db room.shelf ts e))));
+      due = simp append-nil (rw (lines_kept L line (all_shown ts) (end ∷ [])) (said_due L w (map (λ (s : Shown S). said (shown s)) (all_shown ts) ++ end ∷ []) d (tables_anywhere L ts (laws.rows t room.db room.shelf ts fits e))));
       spelled = record { a = tt; b = tt; c = tt; d = tt; e = each-append L (map (λ (s : Shown S). said (shown s)) (all_shown ts)) (end ∷ []) (laws.tables_spelled t room.db room.shelf ts fits e) (laws.end_spelled, tt); f = sp.f; first_left = tt; last_right = tt; line = sp.line };
       same = rw e (simp append-nil (rw (lines_kept L line (all_shown ts) (end ∷ []), say_more L room.out (begun (front_mode w.monitor w.open_head w.prints)) (kept (front_mode w.monitor w.open_head w.prints)) (map said w.coming) (map (λ (s : Shown S). said (shown s)) (all_shown ts) ++ end ∷ []) _ (opens_tables L ts), tables_printed L ts) refl));
     })
@@ -67,13 +67,13 @@ third_step L laws w (in_e_reply line b r) room v' fits d sp (s', h, e3) = absurd
 third_step L laws w in_f room v' fits d sp (s', h, e3) = absurd h
 
 -- what stage 4 refuses is spelled: a tree, since a change is never refused
-refusal_spelled : {S : Sorts} (L : Language S) (laws : Laws L) (x : Cargo S) (db : S.Db) (shelf : S.Shelf) (r : S.Refusal) → fit L x db ≡ true → outcome_of L x db shelf ≡ refuses r → Spelled L (said (replied (refused r)))
+refusal_spelled : {S : Sorts} (L : Language S) (laws : Laws L) (x : Cargo S) (db : S.Db) (shelf : S.Shelf) (r : S.Refusal) → IsFit L x db → outcome_of L x db shelf ≡ refuses r → Spelled L (said (replied (refused r)))
 refusal_spelled L laws (tree t) db shelf r fits e = laws.outcome_spelled t db shelf r fits e
 refusal_spelled L laws (change c) db shelf r fits e = cc
 
 -- stage 4 carries out
 carries_out : {S : Sorts} (L : Language S) (laws : Laws L) (w : Front S) (line : ℕ) (b : S.Batch) (x : Cargo S) (room : Room S) (v' : MessageNetwork S) (outcome : Outcome S) (act : Act S) (room' : Room S) (s' : Beside S) →
-    IsDue L (spread (away w (at_four line b x)) room) → IsSpelled L (spread (away w (at_four line b x)) room) → fit L x room.db ≡ true → outcome_of L x room.db room.shelf ≡ outcome → CarriesOut room outcome act room' →
+    IsDue L (spread (away w (at_four line b x)) room) → IsSpelled L (spread (away w (at_four line b x)) room) → IsFit L x room.db → outcome_of L x room.db room.shelf ≡ outcome → CarriesOut room outcome act room' →
     s' ≡ acted (beside (spread (away w (at_four line b x)) room) fourth) act [] [] room' → v' ≡ put (spread (away w (at_four line b x)) room) fourth s' →
     Keeps L (total L (spread (away w (at_four line b x)) room)) v'
 carries_out L laws w line b x room v' (tables ts) act room' s' d sp fits e j e3 e4 = absurd j

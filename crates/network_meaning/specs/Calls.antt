@@ -1,14 +1,15 @@
 -- The words of the contracts of the stages and the network.
-use Rattle.std.specs.Prelude.{◌≡◌, ◌==◌, if◌then◌else◌, ℕ, Bool, List, [], ◌∷◌, Some, None, ⊤}
+use Rattle.std.specs.Prelude.{◌≡◌, ◌==◌, if◌then◌else◌, ℕ, Bool, true, false, List, [], ◌∷◌, Some, None, ⊤}
 use Rattle.std.specs.declared.option.Option.{Option}
 use Rattle.frame_codec.specs.declared.frame.Frame.{Frame}
 use Rattle.network_meaning.specs.Sorts.{Sorts}
 use Rattle.network_meaning.specs.Language.{Language}
 use Rattle.network_meaning.specs.Frames.{is_more}
 use Rattle.network_meaning.specs.LocalSteps.{Want, Act, Works, Room}
-use Rattle.network_meaning.specs.LocalSteps.{Want.take_left, Want.take_right, Want.give_left, Want.give_right}
+use Rattle.network_meaning.specs.LocalSteps.{Want.take_left, Want.take_right, Want.give_left, Want.give_right, Want.work}
 use Rattle.network_meaning.specs.MessageNetwork.{StageNumber, StageNumber.first, StageNumber.second, StageNumber.third, StageNumber.fourth}
-use Rattle.network_meaning.specs.Network.{LocalState, Network, want, done_act, HasTakenLeft, HasTakenRight, is_stuck, StepsUnlessBlocked, Orderly, bytes_in_all}
+use Rattle.network_meaning.specs.Network.{LocalState, Between, Network, between, want, done_act, HasTakenLeft, HasTakenRight, is_stuck, StepsUnlessBlocked, Orderly, bytes_in_all}
+use Rattle.network_meaning.specs.Lawful.{FitWork}
 
 -- a room that is told is this one
 abbrev pub Tells : {S : Sorts} → Option (Room S) → Room S → Type 0
@@ -50,13 +51,14 @@ GivenAs s f _ s' = ⊥
 abbrev pub Given : {S : Sorts} → LocalState S → Frame → LocalState S → Type 0
 Given s f s' = GivenAs s f (want s) s'
 
--- a stage has worked, on some room that agrees with what is told
+-- a stage has worked, on some room that agrees with what is told, and for which what it worked on is fit
 pub record WorkDone {S : Sorts} (L : Language S) (s s' : LocalState S) (told told' : Option (Room S)) : Type 0 where
   pub act : Act S
   pub room : Room S
   pub room' : Room S
   pub tells : Tells told room
   pub tells_after : TellsAfter told told' room'
+  pub fit : FitWork L s.mode room.db
   pub works : Works L s.mode room act room'
   pub is : s' ≡ done_act L s act s.got_left s.got_right
 
@@ -82,13 +84,24 @@ pub record Seen (S : Sorts) : Type 0 where
   pub shape : Shape S
   pub told : Option (Room S)
 
--- step k was blocked or not, and did what a step of the network does
+-- where a stage wants to work, what it is to work on is fit
+abbrev pub FitWant : {S : Sorts} → Language S → Between S → Want → Type 0
+FitWant L s work = FitWork L s.stage.mode s.room.db
+FitWant L s _ = ⊤
+
+-- where stage k isn't blocked and works, what it is to work on is fit
+abbrev pub FitStep : {S : Sorts} → Language S → StageNumber → Network S → Bool → Type 0
+FitStep L k n true = ⊤
+FitStep L k n false = FitWant L (between n k) (want (between n k).stage)
+
+-- step k was blocked or not, and did what a step of the network does, on what is fit
 pub record Moves {S : Sorts} (L : Language S) (capacity : ℕ) (k : StageNumber) (blocked : Bool) (old new : Seen S) : Type 0 where
   pub room : Room S
   pub room' : Room S
   pub tells : Tells old.told room
   pub tells_after : TellsAfter old.told new.told room'
   pub is : is_stuck capacity k (join old.shape room) ≡ blocked
+  pub fit : FitStep L k (join old.shape room) blocked
   pub step : StepsUnlessBlocked L k (join old.shape room) (join new.shape room') blocked
 
 -- the stage with this number, 1 to 4

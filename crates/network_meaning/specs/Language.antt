@@ -5,7 +5,7 @@ use Rattle.network_meaning.specs.Sorts.{Sorts, Message, Table, Outcome, Meaning,
 use Rattle.network_meaning.specs.Sorts.{Outcome.tables, Outcome.made, Outcome.refuses, Meaning.names, Meaning.objects, Meaning.runs, Next.no_more, Next.bad, Next.found, Event.goes_on, Event.sends, Event.leaves}
 
 -- what a language means and how it is spelled: statements, batches, scripts, trees, changes, printed bytes, the bytes of a message, and the message that bytes of a kind are read as
-pub record Language (S : Sorts) : Type 0 where
+pub record Language (S : Sorts) : Type 1 where
   pub meaning : S.Db → S.Shelf → S.Ranges → S.Statement → Meaning S
   pub lined : ℕ → S.Refusal → S.Refusal
   pub next : S.Batch → Next S
@@ -13,9 +13,9 @@ pub record Language (S : Sorts) : Type 0 where
   pub read : S.Monitor → S.Script → S.Shelf → Read S
   pub kind : S.Tree → Kind
   pub outcome : S.Tree → S.Db → S.Shelf → Outcome S
-  pub fits : S.Tree → S.Db → Bool
+  pub Fits : S.Tree → S.Db → Type 0
   pub laid : S.Change → S.Db → S.Db
-  pub lawful : S.Change → S.Db → Bool
+  pub IsLawful : S.Change → S.Db → Type 0
   pub head_bytes : S.Head → List ℕ
   pub row_bytes : S.Head → S.Row → List ℕ
   pub rule_bytes : S.Head → List ℕ

@@ -5,7 +5,7 @@ use Rattle.frame_codec.specs.declared.frame.Frame.{Frame}
 use Rattle.network_meaning.specs.Sorts.{Sorts, Message, Message.said}
 use Rattle.network_meaning.specs.Language.{Language}
 use Rattle.network_meaning.specs.Frames.{frames, whole, is_more}
-use Rattle.network_meaning.specs.LocalSteps.{Mode, Want, Act, takes, is_due, fit, goes_to_four, may_go_on}
+use Rattle.network_meaning.specs.LocalSteps.{Mode, Want, Act, takes, is_due, IsFit, goes_to_four, may_go_on}
 use Rattle.network_meaning.specs.LocalSteps.{Mode.printing, Mode.working3, Mode.working4, Want.take_left, Want.take_right}
 use Rattle.network_meaning.specs.Network.{LocalState, Between, want, act_on}
 
@@ -51,6 +51,6 @@ Lawful L s f = LawfulAs L s f (want s)
 -- what is worked on is fit for this database: what is printed is due, a tree or a change is fit, and stage 4 works on a change or a utility
 abbrev pub FitWork : {S : Sorts} → Language S → Mode S → S.Db → Type 0
 FitWork L (printing m o (said s)) db = is_due L o s ≡ true
-FitWork L (working3 t) db = L.fits t db ≡ true
-FitWork L (working4 x) db = (fit L x db ≡ true) × (goes_to_four L x ≡ true)
+FitWork L (working3 t) db = L.Fits t db
+FitWork L (working4 x) db = IsFit L x db × (goes_to_four L x ≡ true)
 FitWork L _ db = ⊤

@@ -25,18 +25,18 @@ pub record Laws {S : Sorts} (L : Language S) : Type 0 where
   pub script_list : (db : S.Db) (shelf : S.Shelf) (ranges : S.Ranges) (m : S.Monitor) (script : S.Script) → L.script_statements db shelf ranges m script ≡ (let got = L.read m script shelf in statements_after_event L db ranges got got.event)
   pub batch_places : (db : S.Db) (shelf : S.Shelf) (ranges : S.Ranges) (b : S.Batch) → Stand (L.batch_runs db shelf ranges b).bytes (L.batch_statements db shelf ranges b)
   pub script_places : (db : S.Db) (shelf : S.Shelf) (ranges : S.Ranges) (m : S.Monitor) (script : S.Script) → Stand (L.script_bytes db shelf ranges m script) (L.script_statements db shelf ranges m script)
-  -- the rows of an answer fit the head of their table
-  pub rows : (t : S.Tree) (db : S.Db) (shelf : S.Shelf) (ts : List (Table S)) → L.outcome t db shelf ≡ tables ts → TablesFit L ts
+  -- the rows of what a fit tree asks for fit the head of their table
+  pub rows : (t : S.Tree) (db : S.Db) (shelf : S.Shelf) (ts : List (Table S)) → L.Fits t db → L.outcome t db shelf ≡ tables ts → TablesFit L ts
   -- what the stages give is spelled: a batch that the monitor sends
   pub text_spelled : (m : S.Monitor) (script : S.Script) (shelf : S.Shelf) (t : S.Text) → (L.read m script shelf).event ≡ sends t → Spelled L (text t)
   -- a tree that fits a database
-  pub tree_spelled : (t : S.Tree) (db : S.Db) → L.fits t db ≡ true → Spelled L (cargo (tree t))
+  pub tree_spelled : (t : S.Tree) (db : S.Db) → L.Fits t db → Spelled L (cargo (tree t))
   -- a change that is lawful for a database
-  pub change_spelled : (c : S.Change) (db : S.Db) → L.lawful c db ≡ true → Spelled L (cargo (change c))
+  pub change_spelled : (c : S.Change) (db : S.Db) → L.IsLawful c db → Spelled L (cargo (change c))
   -- heads and rows of what a fit tree asks for
-  pub tables_spelled : (t : S.Tree) (db : S.Db) (shelf : S.Shelf) (ts : List (Table S)) → L.fits t db ≡ true → L.outcome t db shelf ≡ tables ts → EachSpelled L (map (λ s. said (shown s)) (all_shown ts))
+  pub tables_spelled : (t : S.Tree) (db : S.Db) (shelf : S.Shelf) (ts : List (Table S)) → L.Fits t db → L.outcome t db shelf ≡ tables ts → EachSpelled L (map (λ s. said (shown s)) (all_shown ts))
   -- a refusal of a fit tree, one of a statement, and one of what is no statement
-  pub outcome_spelled : (t : S.Tree) (db : S.Db) (shelf : S.Shelf) (r : S.Refusal) → L.fits t db ≡ true → L.outcome t db shelf ≡ refuses r → Spelled L (said (replied (refused r)))
+  pub outcome_spelled : (t : S.Tree) (db : S.Db) (shelf : S.Shelf) (r : S.Refusal) → L.Fits t db → L.outcome t db shelf ≡ refuses r → Spelled L (said (replied (refused r)))
   pub objection_spelled : (db : S.Db) (shelf : S.Shelf) (ranges : S.Ranges) (s : S.Statement) (r : S.Refusal) → L.meaning db shelf ranges s ≡ objects r → Spelled L (said (replied (refused r)))
   pub syntax_spelled : (b : S.Batch) (r : S.Refusal) → L.next b ≡ bad r → Spelled L (said (replied (refused r)))
   -- a refusal that is spelled, with the line of a statement

@@ -165,15 +165,15 @@ outcome_of L (tree t) db shelf = L.outcome t db shelf
 outcome_of L (change c) db shelf = made (L.laid c db) shelf
 
 -- a tree fits the database, or a change is lawful for it
-abbrev pub fit : {S : Sorts} → Language S → Cargo S → S.Db → Bool
-fit L (tree t) db = L.fits t db
-fit L (change c) db = L.lawful c db
+abbrev pub IsFit : {S : Sorts} → Language S → Cargo S → S.Db → Type 0
+IsFit L (tree t) db = L.Fits t db
+IsFit L (change c) db = L.IsLawful c db
 
 -- stage 2, after the meaning of the next statement: the tree is any fit one with that meaning
 abbrev pub Judges : {S : Sorts} → Language S → Room S → S.Ranges → ℕ → S.Batch → Meaning S → Act S → Type 0
 Judges L room ranges line b (names ranges') act = act ≡ turns_to (parsing ranges' b)
 Judges L room ranges line b (objects r) act = act ≡ says (parsing ranges b) (said (replied (refused (L.lined line r))) ∷ [])
-Judges {S} L room ranges line b (runs outcome) act = (t : S.Tree) × (L.fits t room.db ≡ true) × (L.outcome t room.db room.shelf ≡ outcome) × (act ≡ hands (passing2 ranges line b) (cargo (tree t)))
+Judges {S} L room ranges line b (runs outcome) act = (t : S.Tree) × L.Fits t room.db × (L.outcome t room.db room.shelf ≡ outcome) × (act ≡ hands (passing2 ranges line b) (cargo (tree t)))
 
 -- stage 2, at the next statement: the end of the batch, a syntax refusal, or a statement that is judged
 abbrev pub Parses : {S : Sorts} → Language S → Room S → S.Ranges → Next S → Act S → Type 0
@@ -185,7 +185,7 @@ Parses L room ranges (found s line b) act = Judges L room ranges line b (L.meani
 abbrev pub Processes : {S : Sorts} → Language S → Room S → S.Tree → Kind → Outcome S → Act S → Type 0
 Processes L room t answer (tables ts) act = act ≡ says idle3 (map (λ s. said (shown s)) (all_shown ts) ++ end ∷ [])
 Processes L room t answer (refuses r) act = act ≡ says idle3 (said (replied (refused r)) ∷ [])
-Processes {S} L room t update (made db shelf) act = (c : S.Change) × (L.lawful c room.db ≡ true) × (L.laid c room.db ≡ db) × (room.shelf ≡ shelf) × (act ≡ hands passing3 (cargo (change c)))
+Processes {S} L room t update (made db shelf) act = (c : S.Change) × L.IsLawful c room.db × (L.laid c room.db ≡ db) × (room.shelf ≡ shelf) × (act ≡ hands passing3 (cargo (change c)))
 Processes L room t update (refuses r) act = act ≡ says idle3 (said (replied (refused r)) ∷ [])
 Processes L room t utility outcome act = act ≡ hands passing3 (cargo (tree t))
 Processes L room t _ _ act = ⊥

@@ -4,7 +4,7 @@ use Rattle.std.specs.declared.option.Option.{Option}
 use Rattle.network_meaning.specs.Sorts.{Sorts, Cargo, Shown, Reply, Said, Message}
 use Rattle.network_meaning.specs.Sorts.{Cargo.tree, Said.shown, Said.replied, Message.text, Message.cargo, Message.said, Message.end, Message.quit}
 use Rattle.network_meaning.specs.Language.{Language}
-use Rattle.network_meaning.specs.LocalSteps.{Mode, Room, fit, goes_to_four}
+use Rattle.network_meaning.specs.LocalSteps.{Mode, Room, IsFit, goes_to_four}
 use Rattle.network_meaning.specs.LocalSteps.{Mode.reading, Mode.waiting, Mode.printing, Mode.idle2, Mode.parsing, Mode.passing2, Mode.idle3, Mode.working3, Mode.passing3, Mode.idle4, Mode.working4, Mode.ended}
 use Rattle.network_meaning.specs.MessageNetwork.{MessageNetwork}
 
@@ -130,10 +130,10 @@ spread over room = quiet ended ended ended ended [] [] [] room
 
 -- what travels is fit for the present database
 abbrev pub FitPlace : {S : Sorts} → Language S → Place S → S.Db → Type 0
-FitPlace L (in_b line b t) db = L.fits t db ≡ true
-FitPlace L (at_three line b t) db = L.fits t db ≡ true
-FitPlace L (in_c line b x) db = (fit L x db ≡ true) × (goes_to_four L x ≡ true)
-FitPlace L (at_four line b x) db = (fit L x db ≡ true) × (goes_to_four L x ≡ true)
+FitPlace L (in_b line b t) db = L.Fits t db
+FitPlace L (at_three line b t) db = L.Fits t db
+FitPlace L (in_c line b x) db = IsFit L x db × (goes_to_four L x ≡ true)
+FitPlace L (at_four line b x) db = IsFit L x db × (goes_to_four L x ≡ true)
 FitPlace L _ db = ⊤
 
 -- what travels in this phase is fit for the database

@@ -1,6 +1,6 @@
 -- A small language: each byte of the script is a batch of one statement.
 -- A byte below 128 is added to the database, any other asks for all of it, and 0 is refused.
-use Rattle.std.specs.Prelude.{◌==◌, ℕ, true, List, [], ◌∷◌, ◌++◌, Some, None, nat_lt, if◌then◌else◌}
+use Rattle.std.specs.Prelude.{◌==◌, ℕ, true, List, [], ◌∷◌, ◌++◌, Some, None, nat_lt, if◌then◌else◌, ⊤}
 use Rattle.std.specs.declared.option.Option.{Option}
 use Rattle.network_meaning.specs.Sorts.{Sorts, Message, Table, Outcome, Next, Read, After, Finished, Kind}
 use Rattle.network_meaning.specs.Sorts.{Cargo.tree, Cargo.change, Shown.head, Shown.row, Reply.done, Reply.refused, Said.shown, Said.replied, Message.text, Message.cargo, Message.said, Message.end, Message.quit, Outcome.tables, Outcome.made, Outcome.refuses, Meaning.runs, Next.no_more, Next.found, Event.sends, Event.leaves, Kind.answer, Kind.update}
@@ -132,9 +132,9 @@ tiny = record {
   read = tiny_read;
   kind = tiny_kind;
   outcome = tiny_ran;
-  fits = λ t db. true;
+  Fits = λ t db. ⊤;
   laid = λ c db. db ++ c ∷ [];
-  lawful = λ c db. true;
+  IsLawful = λ c db. ⊤;
   head_bytes = λ h. 1 ∷ [];
   row_bytes = λ h r. r ∷ [];
   rule_bytes = λ h. 1 ∷ [];

@@ -1,5 +1,5 @@
 -- The work that is left: a number that each step lowers.
-use Rattle.std.specs.Prelude.{◌≡◌, ◌≤◌, ◌+◌, ◌*◌, ℕ, true, List, [], ◌∷◌, ◌++◌, length, Some, None, map}
+use Rattle.std.specs.Prelude.{◌≤◌, ◌+◌, ◌*◌, ℕ, List, [], ◌∷◌, ◌++◌, length, Some, None, map}
 use Rattle.std.specs.declared.option.Option.{Option}
 use Rattle.network_meaning.specs.Sorts.{Sorts, Message, Outcome, Meaning, Next, Event, Read}
 use Rattle.network_meaning.specs.Sorts.{Cargo.tree, Cargo.change, Reply.done, Reply.refused, Said.shown, Said.replied, Message.text, Message.cargo, Message.said, Message.end, Message.quit, Outcome.tables, Outcome.made, Outcome.refuses, Meaning.names, Meaning.objects, Meaning.runs, Next.no_more, Next.bad, Next.found, Event.goes_on, Event.sends, Event.leaves}
@@ -74,8 +74,8 @@ event_work L W db ranges got leaves = 6 * count L quit
 pub record WorkLaws {S : Sorts} (L : Language S) (W : Work L) : Type 0 where
   pub batch : (db : S.Db) (shelf : S.Shelf) (ranges : S.Ranges) (b : S.Batch) → 1 + next_work L W db shelf ranges (L.next b) ≤ W.batch_work db shelf ranges b
   pub script : (db : S.Db) (shelf : S.Shelf) (ranges : S.Ranges) (m : S.Monitor) (script : S.Script) → 1 + (let got = L.read m script shelf in event_work L W db ranges got got.event) ≤ W.script_work db shelf ranges m script
-  pub tree : (t : S.Tree) (db : S.Db) → L.fits t db ≡ true → count {S = S} L (cargo (tree t)) ≤ W.most
-  pub change : (c : S.Change) (db : S.Db) → L.lawful c db ≡ true → count {S = S} L (cargo (change c)) ≤ W.most
+  pub tree : (t : S.Tree) (db : S.Db) → L.Fits t db → count {S = S} L (cargo (tree t)) ≤ W.most
+  pub change : (c : S.Change) (db : S.Db) → L.IsLawful c db → count {S = S} L (cargo (change c)) ≤ W.most
 
 -- the work of what stage 4 has or is about to take
 abbrev pub near_of : {S : Sorts} → Language S → ℕ → S.Db → S.Shelf → List (Message S) → ℕ

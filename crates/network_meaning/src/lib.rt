@@ -1,11 +1,13 @@
 //! The network of four stages: what it means, whatever language they speak, and its laws.
 #![tactic(auto)]
 
+mod failing;
 mod lawful;
 mod laws;
 mod spoken;
 mod statements;
 
+pub use failing::a_failed_work_writes_a_front;
 pub use lawful::nothing_unlawful_comes;
 pub use laws::{
     bytes_are_whole_at_the_end, each_step_keeps_the_bytes, some_stage_goes_on,
