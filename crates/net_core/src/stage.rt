@@ -1,6 +1,7 @@
 //! What a stage is.
 
-ghost use Rattle.std.specs.Prelude.{◌≡◌, ◌≤◌, ℕ, OnOk, OnErr, IfOk, IsErrOf};
+ghost use Rattle.std.specs.Prelude.{◌≡◌, ◌≤◌, ℕ, OnOk, OnErr, IfOk, IsErrOf, IsTrue};
+ghost use Rattle.frame_codec.specs.Frames.{is_lawful};
 ghost use Rattle.network_meaning.specs.Calls.{Given, Taken, WorkDone};
 ghost use Rattle.network_meaning.specs.Network.{LocalState, want};
 ghost use Rattle.net_core.specs.Causes.{IsCaused, MayNotTake, MayNotWork};
@@ -75,6 +76,7 @@ pub trait Stage {
     fn give(&mut self, alloc: Global) -> Result<Frame, OutOfMemory>
         requires { IsToGive (state self.old) }
         ensures given { IfOk result (λ frame. Given (state self.old) frame (state self.new)) }
+        ensures form { IfOk result (λ frame. IsTrue (is_lawful frame)) }
         ensures kept { OnErr result (state self.new ≡ state self.old) }
         ensures serves { (user : User) → serves self.old user → serves self.new user }
         ensures place { place self.new ≡ place self.old }
