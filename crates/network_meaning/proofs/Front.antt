@@ -16,8 +16,7 @@ abbrev pub at : {S : Sorts} → S.Monitor → Option S.Head → Option (Said S) 
 at m o prints coming ranges p = away (record { monitor = m; open_head = o; prints = prints; coming = coming; ranges = ranges }) p
 
 takes_end : {S : Sorts} (L : Language S) (m : S.Monitor) (o : Option S.Head) (ranges : S.Ranges) (p : Place S) (room : Room S) (v' : MessageNetwork S) →
-    MessageStep L first (spread (at m o None [] ranges p) room) v' →
-    Keeps L (at m o None [] ranges p) room v'
+    MessageStep L first (spread (at m o None [] ranges p) room) v' → Keeps L (at m o None [] ranges p) room v'
 takes_end L m o ranges in_f room v' (s', (act, e1, e2), e3) =
     taken L (at m o None [] ranges in_f) room first [] [] (turns_to (printing m o end)) act s' v' e1 e2 e3
     (record { phase = closes m o ranges; room = room; is = refl; routed = λ h. tt; fits = λ h. tt; due = tt; spelled = record { a = tt; b = tt; c = tt; d = tt; e = tt; f = tt; first_left = tt; last_right = tt; line = tt }; same = refl })

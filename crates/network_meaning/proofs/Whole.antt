@@ -90,7 +90,7 @@ right_by_mode L s s' give_right e1 e2 g = absurd (rw e2 at g)
 right_by_mode L s s' work e1 e2 (act, room', w, e) = record { pipe = ap (λ x. x.right_out) e; got = ap (λ x. x.stage.got_right) e }
 right_by_mode L s s' none e1 e2 g = absurd g
 
--- a step of frames is a step of messages, and the stage has nothing to give before it is at its mode
+-- a step of frames is a step of messages, and the stage has done what it does at its mode, with nothing to give before
 abbrev pub Moved : {S : Sorts} → Language S → StageNumber → MessageNetwork S → Network S → Network S → MessageNetwork S → Type 0
 Moved L k v n n' now =
     MessageStep L k v now × (1 + (frames_in n' + 2 * gifts L k v) ≤ frames_in n + (2 * gifts L k now + cost (want_of (beside v k).mode))) × (want (between n k).stage ≡ want_of (beside v k).mode)
@@ -327,6 +327,7 @@ placed_by {S} L laws k n n' o now fit h (inr (st, fewer, wants)) =
 pub placed_next : {S : Sorts} (L : Language S) (laws : Laws L) (k : StageNumber) (n n' : Network S) (o : Placed L n) → FitAt L k n (spread o.phase n.room) → Next L k (spread o.phase n.room) n n' → PlacedNext L n n' o
 placed_next L laws k n n' o fit next = placed_by L laws k n n' o next.now fit next.shows next.step
 
+-- an orderly network stands by its phase
 abbrev pub placed_of : {S : Sorts} (L : Language S) (n : Network S) → Orderly L n → Placed L n
 placed_of L n o = record { phase = o.phase; routed = routed_of L o.phase n.room.db o.fits; due = o.due; spelled = o.spelled; shows = o.shows }
 
