@@ -22,4 +22,5 @@ pub mod StatementsRuns
 pub mod StatementsWhole
 pub mod Third
 pub mod Whole
+pub mod WithoutARoom
 pub mod Turn

@@ -13,7 +13,7 @@ use Rattle.network_meaning.specs.MessageNetwork.{Beside, beside, StageNumber, St
 use Rattle.network_meaning.specs.Held.{kept, begun}
 use Rattle.network_meaning.specs.Due.{Due, IsDue}
 use Rattle.network_meaning.specs.Spelled.{EachSpelled, IsSpelled}
-use Rattle.network_meaning.specs.Orderly.{Phase, Place, Front, Phase.reads, Phase.closes, Phase.sends, Phase.away, Phase.quits_a, Phase.quits_b, Phase.quits_c, Phase.over, spread, front_mode, FitPhase, FitPlace}
+use Rattle.network_meaning.specs.Orderly.{Phase, Place, Front, Phase.reads, Phase.closes, Phase.sends, Phase.away, Phase.quits_a, Phase.quits_b, Phase.quits_c, Phase.over, spread, front_mode, FitPhase, RoutedPlace, RoutedPhase}
 use Rattle.network_meaning.specs.Orderly.{Place.at_two, Place.in_b, Place.at_three, Place.in_c, Place.at_four, Place.in_d, Place.in_e_tables, Place.in_e_reply, Place.in_f}
 use Rattle.network_meaning.specs.Network.{Network, Between, between, want_with, Shows, Orderly}
 use Rattle.network_meaning.specs.Lawful.{front_of, in_front, comes, LawfulBehind, LawfulAs, Lawful, FitWork}
@@ -52,24 +52,24 @@ third_takes L w (in_b line b t) room = (turns_to (working3 t), refl)
 third_takes L w (in_d line b r) room = (says idle3 (said (replied r) ∷ []), refl)
 third_takes L w _ room = tt
 
-fourth_takes : {S : Sorts} (L : Language S) (w : Front S) (p : Place S) (room : Room S) → FitPlace L p room.db → FirstAt L (beside (spread (away w p) room) fourth) (want_of (spread (away w p) room).four)
-fourth_takes L w (in_c line b x) room fits = due_taken (goes_to_four L x) (turns_to (working4 x)) fits.1
-fourth_takes L w _ room fits = tt
+fourth_takes : {S : Sorts} (L : Language S) (w : Front S) (p : Place S) (room : Room S) → RoutedPlace L p → FirstAt L (beside (spread (away w p) room) fourth) (want_of (spread (away w p) room).four)
+fourth_takes L w (in_c line b x) room routed = due_taken (goes_to_four L x) (turns_to (working4 x)) routed
+fourth_takes L w _ room routed = tt
 
 -- the message that comes first is one that the stage takes
-first_taken : {S : Sorts} (L : Language S) (p : Phase S) (room : Room S) (k : StageNumber) → FitPhase L p room.db → IsDue L (spread p room) → FirstAt L (beside (spread p room) k) (want_of (beside (spread p room) k).mode)
-first_taken L (sends m ranges t) room second fits d = (turns_to (parsing ranges (L.start t)), refl)
-first_taken L (away w p) room first fits d = front_takes L w.monitor w.open_head w.prints w.coming w.ranges p room d
-first_taken L (away w p) room second fits d = second_takes L w p room
-first_taken L (away w p) room third fits d = third_takes L w p room
-first_taken L (away w p) room fourth fits d = fourth_takes L w p room fits
-first_taken L (quits_a ranges) room second fits d = (hands ended quit, refl)
-first_taken L quits_b room third fits d = (hands ended quit, refl)
-first_taken L quits_c room fourth fits d = (turns_to ended, refl)
-first_taken L (reads m ranges) room first fits d = tt
-first_taken L (closes m o ranges) room first fits d = tt
-first_taken L over room first fits d = tt
-first_taken L _ room _ fits d = tt
+first_taken : {S : Sorts} (L : Language S) (p : Phase S) (room : Room S) (k : StageNumber) → RoutedPhase L p → IsDue L (spread p room) → FirstAt L (beside (spread p room) k) (want_of (beside (spread p room) k).mode)
+first_taken L (sends m ranges t) room second routed d = (turns_to (parsing ranges (L.start t)), refl)
+first_taken L (away w p) room first routed d = front_takes L w.monitor w.open_head w.prints w.coming w.ranges p room d
+first_taken L (away w p) room second routed d = second_takes L w p room
+first_taken L (away w p) room third routed d = third_takes L w p room
+first_taken L (away w p) room fourth routed d = fourth_takes L w p room routed
+first_taken L (quits_a ranges) room second routed d = (hands ended quit, refl)
+first_taken L quits_b room third routed d = (hands ended quit, refl)
+first_taken L quits_c room fourth routed d = (turns_to ended, refl)
+first_taken L (reads m ranges) room first routed d = tt
+first_taken L (closes m o ranges) room first routed d = tt
+first_taken L over room first routed d = tt
+first_taken L _ room _ routed d = tt
 
 record Begins {F : Type 0} (frames begin : List F) : Type 0 where
   pub next : F
@@ -154,35 +154,43 @@ by_outs L s t [] [] em h left right f c = by_want L s t (want_of s.stage.mode) e
 no_pipe : {S : Sorts} (L : Language S) (mode : Mode S) (got : List Frame) (ms : List (Message S)) → FirstTaken L mode ms → (f : Frame) → front_of {F = Frame} [] ≡ Some f → LawfulBehind L mode got f (is_more f)
 no_pipe L mode got ms t f c = cc
 
-lawful_at : {S : Sorts} (L : Language S) (laws : Laws L) (n : Network S) (p : Phase S) (k : StageNumber) → Shows L n (spread p n.room) → FitPhase L p n.room.db → IsDue L (spread p n.room) → IsSpelled L (spread p n.room) →
+-- a frame that comes to a stage is lawful for it, whether or not what travels is fit
+pub lawful_at : {S : Sorts} (L : Language S) (laws : Laws L) (n : Network S) (p : Phase S) (k : StageNumber) → Shows L n (spread p n.room) → RoutedPhase L p → IsDue L (spread p n.room) → IsSpelled L (spread p n.room) →
     (f : Frame) → comes (between n k) ≡ Some f → Lawful L (between n k).stage f
-lawful_at L laws n p first h fits d sp =
-    by_outs L (between n first) (beside (spread p n.room) first) n.one.out_left n.one.out_right h.one (first_taken L p n.room first fits d)
+lawful_at L laws n p first h routed d sp =
+    by_outs L (between n first) (beside (spread p n.room) first) n.one.out_left n.one.out_right h.one (first_taken L p n.room first routed d)
     (no_pipe L (spread p n.room).one n.one.got_left [])
     (from_pipe L laws (spread p n.room).one n.one.got_right n.f n.two.out_left (spread p n.room).f h.more_one h.f sp.f)
-lawful_at L laws n p second h fits d sp =
-    by_outs L (between n second) (beside (spread p n.room) second) n.two.out_left n.two.out_right h.two (first_taken L p n.room second fits d)
+lawful_at L laws n p second h routed d sp =
+    by_outs L (between n second) (beside (spread p n.room) second) n.two.out_left n.two.out_right h.two (first_taken L p n.room second routed d)
     (from_pipe L laws (spread p n.room).two n.two.got_left n.a n.one.out_right (spread p n.room).a h.more_two_left h.a sp.a)
     (from_pipe L laws (spread p n.room).two n.two.got_right n.e n.three.out_left (spread p n.room).e h.more_two_right h.e sp.e)
-lawful_at L laws n p third h fits d sp =
-    by_outs L (between n third) (beside (spread p n.room) third) n.three.out_left n.three.out_right h.three (first_taken L p n.room third fits d)
+lawful_at L laws n p third h routed d sp =
+    by_outs L (between n third) (beside (spread p n.room) third) n.three.out_left n.three.out_right h.three (first_taken L p n.room third routed d)
     (from_pipe L laws (spread p n.room).three n.three.got_left n.b n.two.out_right (spread p n.room).b h.more_three_left h.b sp.b)
     (from_pipe L laws (spread p n.room).three n.three.got_right n.d n.four.out_left (spread p n.room).d h.more_three_right h.d sp.d)
-lawful_at L laws n p fourth h fits d sp =
-    by_outs L (between n fourth) (beside (spread p n.room) fourth) n.four.out_left n.four.out_right h.four (first_taken L p n.room fourth fits d)
+lawful_at L laws n p fourth h routed d sp =
+    by_outs L (between n fourth) (beside (spread p n.room) fourth) n.four.out_left n.four.out_right h.four (first_taken L p n.room fourth routed d)
     (from_pipe L laws (spread p n.room).four n.four.got_left n.c n.three.out_right (spread p n.room).c h.more_four h.c sp.c)
     (no_pipe L (spread p n.room).four n.four.got_right [])
 
+-- what travels and is fit goes to stage 4 only where it may
+pub routed_of : {S : Sorts} (L : Language S) (p : Phase S) (db : S.Db) → FitPhase L p db → RoutedPhase L p
+routed_of L (away w (in_c line b x)) db h = h.1
+routed_of L (away w (at_four line b x)) db h = h.1
+routed_of L _ db h = tt
+
 -- what comes to a stage is lawful for it
 pub lawful : {S : Sorts} (L : Language S) (laws : Laws L) (k : StageNumber) (n : Network S) (f : Frame) → Orderly L n → comes (between n k) ≡ Some f → Lawful L (between n k).stage f
-lawful L laws k n f o c = lawful_at L laws n o.phase k o.shows o.fits o.due o.spelled f c
+lawful L laws k n f o c = lawful_at L laws n o.phase k o.shows (routed_of L o.phase n.room.db o.fits) o.due o.spelled f c
 
 front_works : {S : Sorts} (L : Language S) (m : S.Monitor) (o : Option S.Head) (prints : Option (Said S)) (xs : List (Message S)) (db : S.Db) → Due L (begun (front_mode m o prints)) (kept (front_mode m o prints) ++ xs) →
     FitWork L (front_mode m o prints) db
 front_works L m o None xs db d = tt
 front_works L m o (Some s) xs db d = d.0
 
-works_at : {S : Sorts} (L : Language S) (p : Phase S) (room : Room S) (k : StageNumber) → FitPhase L p room.db → IsDue L (spread p room) → FitWork L (beside (spread p room) k).mode room.db
+-- what a stage works on in a phase is fit where what travels is fit, and what comes is due
+pub works_at : {S : Sorts} (L : Language S) (p : Phase S) (room : Room S) (k : StageNumber) → FitPhase L p room.db → IsDue L (spread p room) → FitWork L (beside (spread p room) k).mode room.db
 works_at L (away w p) room first fits d = front_works L w.monitor w.open_head w.prints _ room.db d
 works_at L (away w (at_two b)) room second fits d = tt
 works_at L (away w (at_three line b t)) room third fits d = fits

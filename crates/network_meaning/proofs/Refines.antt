@@ -1,5 +1,5 @@
 -- A step of frames changes nothing that the messages show, or is a step of messages.
-use Rattle.std.proofs.Common.{◌≡◌, ℕ, Bool, true, false, List, [], ◌∷◌, ◌++◌, Some, refl, ap, ◌∙◌, append_assoc, ◌≤◌, ◌+◌, ◌*◌, length, length-append, arith}
+use Rattle.std.proofs.Common.{◌≡◌, ℕ, Bool, true, false, List, [], ◌∷◌, ◌++◌, Some, refl, sym, ap, ◌∙◌, append_assoc, ◌≤◌, ◌+◌, ◌*◌, length, length-append, arith}
 use Rattle.frame_codec.specs.declared.frame.Frame.{Frame}
 use Rattle.network_meaning.specs.Sorts.{Sorts, Message}
 use Rattle.network_meaning.specs.Language.{Language}
@@ -35,7 +35,7 @@ given_at L t = size L t.left_out + size L t.right_out
 
 pub data Follows {S : Sorts} (L : Language S) (s s' : Between S) (t : Beside S) (bl al br ar : List Frame) : Type 0 where
   stays : Fits L s' t bl al br ar → 1 + frames_at s' ≤ frames_at s → Follows L s s' t bl al br ar
-  moves : (t' : Beside S) → Moves L t (want_of t.mode) t' → Fits L s' t' bl al br ar →
+  moves : (t' : Beside S) → want s.stage ≡ want_of t.mode → Moves L t (want_of t.mode) t' → Fits L s' t' bl al br ar →
       1 + (frames_at s' + 2 * given_at L t) ≤ frames_at s + (2 * given_at L t' + cost (want_of t.mode)) → Follows L s s' t bl al br ar
 
 -- what is given comes behind what is there
@@ -86,10 +86,10 @@ worked_frames L ol or lo ro li ri ql qr gl gr =
     rw (out_size L ol gl, out_size L or gr, size-append L ql gl, size-append L qr gr) (omega arith)
 
 from_left : {S : Sorts} (L : Language S) (s : Between S) (s' : Between S) (t : Beside S) (bl al br ar : List Frame) (f : Frame) (fs : List Frame) (more : Bool) (stage' : LocalState S) →
-    is_more f ≡ more → s.left_in ≡ f ∷ fs → want_of s.stage.mode ≡ take_left → Fits L s t bl al br ar →
+    is_more f ≡ more → s.left_in ≡ f ∷ fs → want s.stage ≡ want_of s.stage.mode → want_of s.stage.mode ≡ take_left → Fits L s t bl al br ar →
     HasTakenLeft L s.stage f more stage' → s' ≡ record { stage = stage'; left_in = fs; left_out = s.left_out; right_out = s.right_out; right_in = s.right_in; room = s.room } →
     Follows L s s' t bl al br ar
-from_left L s s' t bl al br ar f fs true stage' em el ew h (go, e) e2 =
+from_left L s s' t bl al br ar f fs true stage' em el eo ew h (go, e) e2 =
     rw (e2, e) (stays (record {
       mode = h.mode;
       room = h.room;
@@ -102,13 +102,13 @@ from_left L s s' t bl al br ar f fs true stage' em el ew h (go, e) e2 =
       left_in = rw (append_assoc s.stage.got_left (f ∷ []) (fs ++ bl), ← h.left_in, el) refl;
       more_left = more-append s.stage.got_left f h.more_left em;
     }) (rw el (omega arith)))
-from_left {S} L s s' t bl al br ar f fs false stage' em el ew h (act, e1, e) e2 =
+from_left {S} L s s' t bl al br ar f fs false stage' em el eo ew h (act, e1, e) e2 =
     let e0 : s.stage.got_left ++ f ∷ (fs ++ bl) ≡ spell L t.left_in = rw el at h.left_in in
     let w : First L s.stage.got_left f (fs ++ bl) t.left_in = first_whole L s.stage.got_left f (fs ++ bl) t.left_in h.more_left em h.spelled_left e0 in
     let e3 : takes L t.mode w.message ≡ Some act = rw h.mode (rw w.read at e1) in
     let wants : want_of t.mode ≡ take_left = rw h.mode ew in
     let m : Moves L t (want_of t.mode) (acted t act w.later t.right_in t.room) = moves_left L t w.message w.later act wants w.is e3 in
-    rw (e2, e) (moves (acted t act w.later t.right_in t.room) m
+    rw (e2, e) (moves (acted t act w.later t.right_in t.room) (eo ∙ ap want_of (sym h.mode)) m
     (record {
       mode = refl;
       room = h.room;
@@ -123,10 +123,10 @@ from_left {S} L s s' t bl al br ar f fs false stage' em el ew h (act, e1, e) e2 
     }) (took_frames L s.stage.out_left s.stage.out_right s.left_out s.right_out s.right_in s.left_in f fs t.left_out t.right_out act.left act.right (cost (want_of t.mode)) el))
 
 from_right : {S : Sorts} (L : Language S) (s : Between S) (s' : Between S) (t : Beside S) (bl al br ar : List Frame) (f : Frame) (fs : List Frame) (more : Bool) (stage' : LocalState S) →
-    is_more f ≡ more → s.right_in ≡ f ∷ fs → want_of s.stage.mode ≡ take_right → Fits L s t bl al br ar →
+    is_more f ≡ more → s.right_in ≡ f ∷ fs → want s.stage ≡ want_of s.stage.mode → want_of s.stage.mode ≡ take_right → Fits L s t bl al br ar →
     HasTakenRight L s.stage f more stage' → s' ≡ record { stage = stage'; left_in = s.left_in; left_out = s.left_out; right_out = s.right_out; right_in = fs; room = s.room } →
     Follows L s s' t bl al br ar
-from_right L s s' t bl al br ar f fs true stage' em el ew h (go, e) e2 =
+from_right L s s' t bl al br ar f fs true stage' em el eo ew h (go, e) e2 =
     rw (e2, e) (stays (record {
       mode = h.mode;
       room = h.room;
@@ -139,13 +139,13 @@ from_right L s s' t bl al br ar f fs true stage' em el ew h (go, e) e2 =
       right_in = rw (append_assoc s.stage.got_right (f ∷ []) (fs ++ br), ← h.right_in, el) refl;
       more_right = more-append s.stage.got_right f h.more_right em;
     }) (rw el (omega arith)))
-from_right {S} L s s' t bl al br ar f fs false stage' em el ew h (act, e1, e) e2 =
+from_right {S} L s s' t bl al br ar f fs false stage' em el eo ew h (act, e1, e) e2 =
     let e0 : s.stage.got_right ++ f ∷ (fs ++ br) ≡ spell L t.right_in = rw el at h.right_in in
     let w : First L s.stage.got_right f (fs ++ br) t.right_in = first_whole L s.stage.got_right f (fs ++ br) t.right_in h.more_right em h.spelled_right e0 in
     let e3 : takes L t.mode w.message ≡ Some act = rw h.mode (rw w.read at e1) in
     let wants : want_of t.mode ≡ take_right = rw h.mode ew in
     let m : Moves L t (want_of t.mode) (acted t act t.left_in w.later t.room) = moves_right L t w.message w.later act wants w.is e3 in
-    rw (e2, e) (moves (acted t act t.left_in w.later t.room) m
+    rw (e2, e) (moves (acted t act t.left_in w.later t.room) (eo ∙ ap want_of (sym h.mode)) m
     (record {
       mode = refl;
       room = h.room;
@@ -191,17 +191,17 @@ to_right L s s' t bl al br ar (f ∷ fs) eo h e =
       right_out = one_on L ar s.right_out fs f t.right_out (rw eo at h.right_out);
     }) (rw (eo, length-append) (omega arith)))
 
-taking_left : {S : Sorts} (L : Language S) (s s' : Between S) (t : Beside S) (bl al br ar : List Frame) (pipe : List Frame) → s.left_in ≡ pipe → want_of s.stage.mode ≡ take_left → Fits L s t bl al br ar → FrameFromLeft L s pipe s' → Follows L s s' t bl al br ar
-taking_left L s s' t bl al br ar [] el ew h e = absurd e
-taking_left L s s' t bl al br ar (f ∷ fs) el ew h (stage', e1, e2) = from_left L s s' t bl al br ar f fs (is_more f) stage' refl el ew h e1 e2
+taking_left : {S : Sorts} (L : Language S) (s s' : Between S) (t : Beside S) (bl al br ar : List Frame) (pipe : List Frame) → s.left_in ≡ pipe → want s.stage ≡ want_of s.stage.mode → want_of s.stage.mode ≡ take_left → Fits L s t bl al br ar → FrameFromLeft L s pipe s' → Follows L s s' t bl al br ar
+taking_left L s s' t bl al br ar [] el eo ew h e = absurd e
+taking_left L s s' t bl al br ar (f ∷ fs) el eo ew h (stage', e1, e2) = from_left L s s' t bl al br ar f fs (is_more f) stage' refl el eo ew h e1 e2
 
-taking_right : {S : Sorts} (L : Language S) (s s' : Between S) (t : Beside S) (bl al br ar : List Frame) (pipe : List Frame) → s.right_in ≡ pipe → want_of s.stage.mode ≡ take_right → Fits L s t bl al br ar → FrameFromRight L s pipe s' → Follows L s s' t bl al br ar
-taking_right L s s' t bl al br ar [] el ew h e = absurd e
-taking_right L s s' t bl al br ar (f ∷ fs) el ew h (stage', e1, e2) = from_right L s s' t bl al br ar f fs (is_more f) stage' refl el ew h e1 e2
+taking_right : {S : Sorts} (L : Language S) (s s' : Between S) (t : Beside S) (bl al br ar : List Frame) (pipe : List Frame) → s.right_in ≡ pipe → want s.stage ≡ want_of s.stage.mode → want_of s.stage.mode ≡ take_right → Fits L s t bl al br ar → FrameFromRight L s pipe s' → Follows L s s' t bl al br ar
+taking_right L s s' t bl al br ar [] el eo ew h e = absurd e
+taking_right L s s' t bl al br ar (f ∷ fs) el eo ew h (stage', e1, e2) = from_right L s s' t bl al br ar f fs (is_more f) stage' refl el eo ew h e1 e2
 
-working : {S : Sorts} (L : Language S) (s s' : Between S) (t : Beside S) (bl al br ar : List Frame) → want_of s.stage.mode ≡ work → Fits L s t bl al br ar → Steps L s work s' → Follows L s s' t bl al br ar
-working L s s' t bl al br ar ew h (act, room', w, e) =
-    rw e (moves (acted t act t.left_in t.right_in room') (moves_work L t act room' (rw h.mode ew) (rw (h.mode, h.room) w))
+working : {S : Sorts} (L : Language S) (s s' : Between S) (t : Beside S) (bl al br ar : List Frame) → want s.stage ≡ want_of s.stage.mode → want_of s.stage.mode ≡ work → Fits L s t bl al br ar → Steps L s work s' → Follows L s s' t bl al br ar
+working L s s' t bl al br ar eo ew h (act, room', w, e) =
+    rw e (moves (acted t act t.left_in t.right_in room') (eo ∙ ap want_of (sym h.mode)) (moves_work L t act room' (rw h.mode ew) (rw (h.mode, h.room) w))
     (record {
       mode = refl;
       room = refl;
@@ -215,19 +215,20 @@ working L s s' t bl al br ar ew h (act, room', w, e) =
       spelled_right = h.spelled_right;
     }) (rw (h.mode, ew) (worked_frames L s.stage.out_left s.stage.out_right s.left_out s.right_out s.left_in s.right_in t.left_out t.right_out act.left act.right)))
 
-by_mode : {S : Sorts} (L : Language S) (s s' : Between S) (t : Beside S) (bl al br ar : List Frame) (w : Want) → want_of s.stage.mode ≡ w → Fits L s t bl al br ar → Steps L s w s' → Follows L s s' t bl al br ar
-by_mode L s s' t bl al br ar take_left e h g = taking_left L s s' t bl al br ar s.left_in refl e h g
-by_mode L s s' t bl al br ar take_right e h g = taking_right L s s' t bl al br ar s.right_in refl e h g
-by_mode L s s' t bl al br ar give_left e h g = to_left L s s' t bl al br ar s.stage.out_left refl h g
-by_mode L s s' t bl al br ar give_right e h g = to_right L s s' t bl al br ar s.stage.out_right refl h g
-by_mode L s s' t bl al br ar work e h g = working L s s' t bl al br ar e h g
-by_mode L s s' t bl al br ar none e h g = absurd g
+by_mode : {S : Sorts} (L : Language S) (s s' : Between S) (t : Beside S) (bl al br ar : List Frame) (w : Want) → want s.stage ≡ want_of s.stage.mode → want_of s.stage.mode ≡ w → Fits L s t bl al br ar → Steps L s w s' → Follows L s s' t bl al br ar
+by_mode L s s' t bl al br ar take_left eo e h g = taking_left L s s' t bl al br ar s.left_in refl eo e h g
+by_mode L s s' t bl al br ar take_right eo e h g = taking_right L s s' t bl al br ar s.right_in refl eo e h g
+by_mode L s s' t bl al br ar give_left eo e h g = to_left L s s' t bl al br ar s.stage.out_left refl h g
+by_mode L s s' t bl al br ar give_right eo e h g = to_right L s s' t bl al br ar s.stage.out_right refl h g
+by_mode L s s' t bl al br ar work eo e h g = working L s s' t bl al br ar eo e h g
+by_mode L s s' t bl al br ar none eo e h g = absurd g
 
 by_outs : {S : Sorts} (L : Language S) (s s' : Between S) (t : Beside S) (bl al br ar : List Frame) (left right : List Frame) → s.stage.out_left ≡ left → s.stage.out_right ≡ right →
     Fits L s t bl al br ar → Steps L s (want_with left right s.stage.mode) s' → Follows L s s' t bl al br ar
 by_outs L s s' t bl al br ar (f ∷ fs) right el er h g = to_left L s s' t bl al br ar s.stage.out_left refl h g
 by_outs L s s' t bl al br ar [] (f ∷ fs) el er h g = to_right L s s' t bl al br ar s.stage.out_right refl h g
-by_outs L s s' t bl al br ar [] [] el er h g = by_mode L s s' t bl al br ar (want_of s.stage.mode) refl h g
+by_outs L s s' t bl al br ar [] [] el er h g =
+    by_mode L s s' t bl al br ar (want_of s.stage.mode) (ap (λ (x : List Frame). want_with x s.stage.out_right s.stage.mode) el ∙ ap (λ (x : List Frame). want_with [] x s.stage.mode) er) refl h g
 
 pub refines : {S : Sorts} (L : Language S) (s s' : Between S) (t : Beside S) (bl al br ar : List Frame) → Fits L s t bl al br ar → Steps L s (want s.stage) s' → Follows L s s' t bl al br ar
 refines L s s' t bl al br ar h g = by_outs L s s' t bl al br ar s.stage.out_left s.stage.out_right refl refl h g

@@ -19,7 +19,7 @@ finishes_by : {S : Sorts} (L : Language S) (laws : Laws L) (k : StageNumber) (n 
 finishes_by {S} L laws k n n' o next =
     rw (shown_view L n (spread o.phase n.room) o.shows o.spelled, shown_view L n' next.now next.shows (next_spelled L laws k n n' o next)) (elim next.step [
       | inl (e, fewer) ↦ rw e (none L _ _ refl refl)
-      | inr (st, fewer) ↦ step_finishes L laws o.phase n.room k next.now st
+      | inr (st, fewer, wants) ↦ step_finishes L laws o.phase n.room k next.now st
     ])
 
 finishes_or : {S : Sorts} (L : Language S) (laws : Laws L) (k : StageNumber) (n n' : Network S) (blocked : Bool) → Orderly L n → StepsUnlessBlocked L k n n' blocked → Finishes L (as_messages L n) (as_messages L n')

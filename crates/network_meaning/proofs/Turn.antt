@@ -38,7 +38,8 @@ away_turns w (in_e_tables line b ss) room = rw (waits w.monitor w.open_head w.pr
 away_turns w (in_e_reply line b r) room = rw (waits w.monitor w.open_head w.prints, said_back w.coming [] 0) refl
 away_turns w in_f room = rw (waits w.monitor w.open_head w.prints, said_back w.coming (end ∷ []) 0) refl
 
-phase_turns : {S : Sorts} (p : Phase S) (room : Room S) → turns (spread p room) ≡ 1
+-- in each phase the turn is in one place
+pub phase_turns : {S : Sorts} (p : Phase S) (room : Room S) → turns (spread p room) ≡ 1
 phase_turns (reads m ranges) room = refl
 phase_turns (closes m o ranges) room = refl
 phase_turns (sends m ranges t) room = refl

@@ -6,18 +6,20 @@ use Rattle.network_meaning.specs.Language.{Language}
 use Rattle.network_meaning.specs.Frames.{spell, AllMore, whole, is_more}
 use Rattle.network_meaning.specs.Laws.{Laws}
 use Rattle.network_meaning.specs.LocalSteps.{Want, Room, want_of}
+use Rattle.network_meaning.specs.Lawful.{FitWork}
 use Rattle.network_meaning.specs.LocalSteps.{Want.take_left, Want.take_right, Want.give_left, Want.give_right, Want.work, Want.none}
 use Rattle.network_meaning.specs.MessageNetwork.{MessageNetwork, Beside, beside, put, MessageStep, StageNumber, StageNumber.first, StageNumber.second, StageNumber.third, StageNumber.fourth}
 use Rattle.network_meaning.specs.Held.{total}
 use Rattle.network_meaning.specs.Due.{IsDue}
 use Rattle.network_meaning.specs.Spelled.{EachSpelled, IsSpelled}
-use Rattle.network_meaning.specs.Orderly.{Phase, spread, FitPhase, Phase.reads, Phase.closes, Phase.sends, Phase.away, Phase.quits_a, Phase.quits_b, Phase.quits_c, Phase.over}
+use Rattle.network_meaning.specs.Orderly.{Phase, spread, FitPhase, RoutedPhase, Phase.reads, Phase.closes, Phase.sends, Phase.away, Phase.quits_a, Phase.quits_b, Phase.quits_c, Phase.over}
 use Rattle.network_meaning.specs.Network.{LocalState, Network, Between, between, put_between, Steps, want, NetworkStep, StepsUnlessBlocked, Shows, gather, and_then, as_messages, Orderly, bytes_in_all, HasTakenLeft, HasTakenRight, FrameFromLeft, FrameFromRight, FrameToLeft, FrameToRight}
 use Rattle.network_meaning.specs.WorkLeft.{Work, WorkLaws, weight, gifts, cost, frames_in, work_left, Lowers}
 use Rattle.network_meaning.proofs.Frames.{IsCut, is_cut, whole_frames}
 use Rattle.network_meaning.proofs.LoweringFirst.{step_lowers}
 use Rattle.network_meaning.proofs.Refines.{Fits, Follows, stays, moves, refines}
 use Rattle.network_meaning.proofs.Keeps.{Keeps}
+use Rattle.network_meaning.proofs.NothingUnlawful.{works_at, routed_of}
 use Rattle.network_meaning.proofs.First.{step_keeps}
 
 gather_more : {S : Sorts} (L : Language S) (begun mores : List Frame) (last : Frame) (rest : List Frame) → AllMore mores → is_more last ≡ false →
@@ -88,10 +90,15 @@ right_by_mode L s s' give_right e1 e2 g = absurd (rw e2 at g)
 right_by_mode L s s' work e1 e2 (act, room', w, e) = record { pipe = ap (λ x. x.right_out) e; got = ap (λ x. x.stage.got_right) e }
 right_by_mode L s s' none e1 e2 g = absurd g
 
+-- a step of frames is a step of messages, and the stage has done what it does at its mode, with nothing to give before
+abbrev pub Moved : {S : Sorts} → Language S → StageNumber → MessageNetwork S → Network S → Network S → MessageNetwork S → Type 0
+Moved L k v n n' now =
+    MessageStep L k v now × (1 + (frames_in n' + 2 * gifts L k v) ≤ frames_in n + (2 * gifts L k now + cost (want_of (beside v k).mode))) × (want (between n k).stage ≡ want_of (beside v k).mode)
+
 pub record Next {S : Sorts} (L : Language S) (k : StageNumber) (v : MessageNetwork S) (n n' : Network S) : Type 0 where
   pub now : MessageNetwork S
   pub shows : Shows L n' now
-  pub step : ((now ≡ v) × (1 + frames_in n' ≤ frames_in n)) ⊎ (MessageStep L k v now × (1 + (frames_in n' + 2 * gifts L k v) ≤ frames_in n + (2 * gifts L k now + cost (want_of (beside v k).mode))))
+  pub step : ((now ≡ v) × (1 + frames_in n' ≤ frames_in n)) ⊎ Moved L k v n n' now
 
 first_fits : {S : Sorts} (L : Language S) (n : Network S) (v : MessageNetwork S) → Shows L n v → IsSpelled L v → v.first_left ≡ [] → Fits L (between n first) (beside v first) [] [] n.two.out_left n.two.got_left
 first_fits L n v h sp e = record { mode = h.one; room = h.room; left_in = rw h.first_got refl; left_out = h.first_left; right_in = h.f; right_out = h.a; more_left = rw h.first_got tt; more_right = h.more_one; spelled_left = tt; spelled_right = sp.f }
@@ -128,7 +135,7 @@ first_next {S} L n v s' h sp e g =
 
     go : Follows L (between n first) s' (beside v first) [] [] n.two.out_left n.two.got_left → LeftEdge (between n first) s' → Next L first v n (put_between n first s')
     go (stays f fewer) edge = record { now = v; shows = shown (beside v first) f edge; step = inl (refl, omega arith) }
-    go (moves t m f fewer) edge = record { now = put v first t; shows = shown t f edge; step = inr ((t, m, refl), omega arith) }
+    go (moves t wants m f fewer) edge = record { now = put v first t; shows = shown t f edge; step = inr ((t, m, refl), omega arith, wants) }
 
 second_next : {S : Sorts} (L : Language S) (n : Network S) (v : MessageNetwork S) (s' : Between S) → Shows L n v → IsSpelled L v → Steps L (between n second) (want (between n second).stage) s' → Next L second v n (put_between n second s')
 second_next {S} L n v s' h sp g =
@@ -162,7 +169,7 @@ second_next {S} L n v s' h sp g =
 
     go : Follows L (between n second) s' (beside v second) n.one.out_right n.one.got_right n.three.out_left n.three.got_left → Next L second v n (put_between n second s')
     go (stays f fewer) = record { now = v; shows = shown (beside v second) f; step = inl (refl, omega arith) }
-    go (moves t m f fewer) = record { now = put v second t; shows = shown t f; step = inr ((t, m, refl), omega arith) }
+    go (moves t wants m f fewer) = record { now = put v second t; shows = shown t f; step = inr ((t, m, refl), omega arith, wants) }
 
 third_next : {S : Sorts} (L : Language S) (n : Network S) (v : MessageNetwork S) (s' : Between S) → Shows L n v → IsSpelled L v → Steps L (between n third) (want (between n third).stage) s' → Next L third v n (put_between n third s')
 third_next {S} L n v s' h sp g =
@@ -196,7 +203,7 @@ third_next {S} L n v s' h sp g =
 
     go : Follows L (between n third) s' (beside v third) n.two.out_right n.two.got_right n.four.out_left n.four.got_left → Next L third v n (put_between n third s')
     go (stays f fewer) = record { now = v; shows = shown (beside v third) f; step = inl (refl, omega arith) }
-    go (moves t m f fewer) = record { now = put v third t; shows = shown t f; step = inr ((t, m, refl), omega arith) }
+    go (moves t wants m f fewer) = record { now = put v third t; shows = shown t f; step = inr ((t, m, refl), omega arith, wants) }
 
 fourth_next : {S : Sorts} (L : Language S) (n : Network S) (v : MessageNetwork S) (s' : Between S) → Shows L n v → IsSpelled L v → v.last_right ≡ [] → Steps L (between n fourth) (want (between n fourth).stage) s' → Next L fourth v n (put_between n fourth s')
 fourth_next {S} L n v s' h sp e g =
@@ -231,7 +238,7 @@ fourth_next {S} L n v s' h sp e g =
 
     go : Follows L (between n fourth) s' (beside v fourth) n.three.out_right n.three.got_right [] [] → RightEdge (between n fourth) s' → Next L fourth v n (put_between n fourth s')
     go (stays f fewer) edge = record { now = v; shows = shown (beside v fourth) f edge; step = inl (refl, omega arith) }
-    go (moves t m f fewer) edge = record { now = put v fourth t; shows = shown t f edge; step = inr ((t, m, refl), omega arith) }
+    go (moves t wants m f fewer) edge = record { now = put v fourth t; shows = shown t f edge; step = inr ((t, m, refl), omega arith, wants) }
 
 no_first_left : {S : Sorts} (p : Phase S) (room : Room S) → (spread p room).first_left ≡ []
 no_first_left (reads m ranges) room = refl
@@ -253,7 +260,7 @@ no_last_right quits_b room = refl
 no_last_right quits_c room = refl
 no_last_right over room = refl
 
-room_spread : {S : Sorts} (p : Phase S) (room : Room S) → (spread p room).room ≡ room
+pub room_spread : {S : Sorts} (p : Phase S) (room : Room S) → (spread p room).room ≡ room
 room_spread (reads m ranges) room = refl
 room_spread (closes m o ranges) room = refl
 room_spread (sends m ranges t) room = refl
@@ -276,29 +283,65 @@ pub record Kept {S : Sorts} (L : Language S) (n n' : Network S) : Type 0 where
 pub total_of : {S : Sorts} (L : Language S) (n : Network S) (v : MessageNetwork S) → Shows L n v → IsSpelled L v → bytes_in_all L n ≡ total L v
 total_of L n v h sp = ap (total L) (shown_view L n v h sp)
 
-kept_by : {S : Sorts} (L : Language S) (laws : Laws L) (k : StageNumber) (n n' : Network S) (o : Orderly L n) (now : MessageNetwork S) → Shows L n' now → (((now ≡ spread o.phase n.room) × (1 + frames_in n' ≤ frames_in n)) ⊎ (MessageStep L k (spread o.phase n.room) now × (1 + (frames_in n' + 2 * gifts L k (spread o.phase n.room)) ≤ frames_in n + (2 * gifts L k now + cost (want_of (beside (spread o.phase n.room) k).mode))))) → Kept L n n'
-kept_by L laws k n n' o now h (inl (e, fewer)) =
+-- where a network stands by its phase, whether or not what travels is fit
+pub record Placed {S : Sorts} (L : Language S) (n : Network S) : Type 0 where
+  pub phase : Phase S
+  pub routed : RoutedPhase L phase
+  pub due : IsDue L (spread phase n.room)
+  pub spelled : IsSpelled L (spread phase n.room)
+  pub shows : Shows L n (spread phase n.room)
+
+-- it stands so again, fit where it was fit, with the same bytes in all
+pub record PlacedNext {S : Sorts} (L : Language S) (n n' : Network S) (o : Placed L n) : Type 0 where
+  pub now : Placed L n'
+  pub fits : FitPhase L o.phase n.room.db → FitPhase L now.phase n'.room.db
+  pub same : bytes_in_all L n' ≡ bytes_in_all L n
+
+-- the stage at its mode works on what is fit
+abbrev pub FitAt : {S : Sorts} → Language S → StageNumber → Network S → MessageNetwork S → Type 0
+FitAt L k n v = want (between n k).stage ≡ want_of (beside v k).mode → FitWork L (beside v k).mode v.room.db
+
+placed_by : {S : Sorts} (L : Language S) (laws : Laws L) (k : StageNumber) (n n' : Network S) (o : Placed L n) (now : MessageNetwork S) → FitAt L k n (spread o.phase n.room) → Shows L n' now →
+    (((now ≡ spread o.phase n.room) × (1 + frames_in n' ≤ frames_in n)) ⊎ Moved L k (spread o.phase n.room) n n' now) → PlacedNext L n n' o
+placed_by L laws k n n' o now fit h (inl (e, fewer)) =
     let h' : Shows L n' (spread o.phase n.room) = subst (λ v. Shows L n' v) e h in
     let er : n.room ≡ n'.room = sym (room_spread o.phase n.room) ∙ h'.room in
     let spelled : IsSpelled L (spread o.phase n'.room) = subst (λ r. IsSpelled L (spread o.phase r)) er o.spelled in
     record {
-      orderly = record { phase = o.phase; fits = subst (λ r. FitPhase L o.phase r.db) er o.fits; due = subst (λ r. IsDue L (spread o.phase r)) er o.due; spelled = spelled; shows = subst (λ r. Shows L n' (spread o.phase r)) er h' };
+      now = record { phase = o.phase; routed = o.routed; due = subst (λ r. IsDue L (spread o.phase r)) er o.due; spelled = spelled; shows = subst (λ r. Shows L n' (spread o.phase r)) er h' };
+      fits = λ f. subst (λ r. FitPhase L o.phase r.db) er f;
       same = total_of L n' _ h' o.spelled ∙ sym (total_of L n _ o.shows o.spelled);
     }
-kept_by {S} L laws k n n' o now h (inr (st, fewer)) =
-    let keeps : Keeps L (total L (spread o.phase n.room)) now = step_keeps L laws o.phase n.room k now o.fits o.due o.spelled st in
+placed_by {S} L laws k n n' o now fit h (inr (st, fewer, wants)) =
+    let work : FitWork L (beside (spread o.phase n.room) k).mode n.room.db = subst (λ (r : Room S). FitWork L (beside (spread o.phase n.room) k).mode r.db) (room_spread o.phase n.room) (fit wants) in
+    let keeps : Keeps L o.phase n.room now = step_keeps L laws o.phase n.room k now work o.due o.spelled st in
     let h' : Shows L n' (spread keeps.phase keeps.room) = subst (λ v. Shows L n' v) keeps.is h in
     let er : keeps.room ≡ n'.room = sym (room_spread keeps.phase keeps.room) ∙ h'.room in
     record {
-      orderly = record { phase = keeps.phase; fits = subst (λ r. FitPhase L keeps.phase r.db) er keeps.fits; due = subst (λ r. IsDue L (spread keeps.phase r)) er keeps.due; spelled = subst (λ r. IsSpelled L (spread keeps.phase r)) er keeps.spelled; shows = subst (λ r. Shows L n' (spread keeps.phase r)) er h' };
+      now = record { phase = keeps.phase; routed = keeps.routed o.routed; due = subst (λ r. IsDue L (spread keeps.phase r)) er keeps.due; spelled = subst (λ r. IsSpelled L (spread keeps.phase r)) er keeps.spelled; shows = subst (λ r. Shows L n' (spread keeps.phase r)) er h' };
+      fits = λ f. subst (λ r. FitPhase L keeps.phase r.db) er (keeps.fits f);
       same = total_of L n' now h (subst (IsSpelled L) (sym keeps.is) keeps.spelled) ∙ (keeps.same ∙ sym (total_of L n _ o.shows o.spelled));
     }
+
+-- behind a step that works on what is fit it stands so again
+pub placed_next : {S : Sorts} (L : Language S) (laws : Laws L) (k : StageNumber) (n n' : Network S) (o : Placed L n) → FitAt L k n (spread o.phase n.room) → Next L k (spread o.phase n.room) n n' → PlacedNext L n n' o
+placed_next L laws k n n' o fit next = placed_by L laws k n n' o next.now fit next.shows next.step
+
+-- an orderly network stands by its phase
+abbrev pub placed_of : {S : Sorts} (L : Language S) (n : Network S) → Orderly L n → Placed L n
+placed_of L n o = record { phase = o.phase; routed = routed_of L o.phase n.room.db o.fits; due = o.due; spelled = o.spelled; shows = o.shows }
+
+kept_by : {S : Sorts} (L : Language S) (laws : Laws L) (k : StageNumber) (n n' : Network S) (o : Orderly L n) → Next L k (spread o.phase n.room) n n' → Kept L n n'
+kept_by {S} L laws k n n' o next =
+    let fit : FitAt L k n (spread o.phase n.room) = λ wants. subst (λ (r : Room S). FitWork L (beside (spread o.phase n.room) k).mode r.db) (sym (room_spread o.phase n.room)) (works_at L o.phase n.room k o.fits o.due) in
+    let p : PlacedNext L n n' (placed_of L n o) = placed_next L laws k n n' (placed_of L n o) fit next in
+    record { orderly = record { phase = p.now.phase; fits = p.fits o.fits; due = p.now.due; spelled = p.now.spelled; shows = p.now.shows }; same = p.same }
 
 kept_or : {S : Sorts} (L : Language S) (laws : Laws L) (k : StageNumber) (n n' : Network S) (blocked : Bool) → Orderly L n → StepsUnlessBlocked L k n n' blocked → Kept L n n'
 kept_or L laws k n n' true o e = rw e (record { orderly = o; same = refl })
 kept_or L laws k n n' false o (s', g, e) =
     let next : Next L k (spread o.phase n.room) n (put_between n k s') = any_next L k n o.phase s' o.shows o.spelled g in
-    rw e (kept_by L laws k n (put_between n k s') o next.now next.shows next.step)
+    rw e (kept_by L laws k n (put_between n k s') o next)
 
 -- the equation: each step of each stage leaves an orderly network orderly, and the bytes in all the same
 pub equation : {S : Sorts} (L : Language S) (laws : Laws L) (capacity : ℕ) (k : StageNumber) (n n' : Network S) → Orderly L n → NetworkStep L capacity k n n' → Kept L n n'
@@ -308,7 +351,7 @@ equation L laws capacity k n n' o h = kept_or L laws k n n' _ o h
 pub next_spelled : {S : Sorts} (L : Language S) (laws : Laws L) (k : StageNumber) (n n' : Network S) (o : Orderly L n) (next : Next L k (spread o.phase n.room) n n') → IsSpelled L next.now
 next_spelled {S} L laws k n n' o next = elim next.step [
   | inl (e, fewer) ↦ subst (IsSpelled L) (sym e) o.spelled
-  | inr (st, fewer) ↦ (let keeps : Keeps L (total L (spread o.phase n.room)) next.now = step_keeps L laws o.phase n.room k next.now o.fits o.due o.spelled st in subst (IsSpelled L) (sym keeps.is) keeps.spelled)
+  | inr (st, fewer, wants) ↦ (let keeps : Keeps L o.phase n.room next.now = step_keeps L laws o.phase n.room k next.now (works_at L o.phase n.room k o.fits o.due) o.due o.spelled st in subst (IsSpelled L) (sym keeps.is) keeps.spelled)
 ]
 
 below_along : (a b a' b' x y : ℕ) → a' ≡ a → b' ≡ b → a + x < b + y → a' + x < b' + y
@@ -318,10 +361,9 @@ lower_by : {S : Sorts} (L : Language S) (laws : Laws L) (W : Work L) (wl : WorkL
 lower_by L laws W wl k n n' o next =
     below_along _ _ _ _ (frames_in n') (frames_in n) (ap (weight L W) (shown_view L n' next.now next.shows (next_spelled L laws k n n' o next))) (ap (weight L W) (shown_view L n (spread o.phase n.room) o.shows o.spelled)) (go next.step)
   where
-    go : (((next.now ≡ spread o.phase n.room) × (1 + frames_in n' ≤ frames_in n)) ⊎ (MessageStep L k (spread o.phase n.room) next.now × (1 + (frames_in n' + 2 * gifts L k (spread o.phase n.room)) ≤ frames_in n + (2 * gifts L k next.now + cost (want_of (beside (spread o.phase n.room) k).mode))))) →
-        weight L W next.now + frames_in n' < weight L W (spread o.phase n.room) + frames_in n
+    go : (((next.now ≡ spread o.phase n.room) × (1 + frames_in n' ≤ frames_in n)) ⊎ Moved L k (spread o.phase n.room) n n' next.now) → weight L W next.now + frames_in n' < weight L W (spread o.phase n.room) + frames_in n
     go (inl (e, fewer)) = rw e (omega arith)
-    go (inr (st, fewer)) = let low : Lowers L W k (spread o.phase n.room) next.now = step_lowers L laws W wl o.phase n.room k next.now o.fits st in omega arith
+    go (inr (st, fewer, wants)) = let low : Lowers L W k (spread o.phase n.room) next.now = step_lowers L laws W wl o.phase n.room k next.now o.fits st in omega arith
 
 -- each step that isn't blocked lowers the work that is left
 pub lowers : {S : Sorts} (L : Language S) (laws : Laws L) (W : Work L) (wl : WorkLaws L W) (k : StageNumber) (n n' : Network S) (o : Orderly L n) → StepsUnlessBlocked L k n n' false → work_left L W n' < work_left L W n

@@ -11,6 +11,7 @@ pub mod LocalSteps
 pub mod MessageNetwork
 pub mod Network
 pub mod Orderly
+pub mod OrderlyShape
 pub mod Sorts
 pub mod Spelled
 pub mod Statements

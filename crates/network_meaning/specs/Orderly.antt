@@ -140,3 +140,14 @@ FitPlace L _ db = ⊤
 abbrev pub FitPhase : {S : Sorts} → Language S → Phase S → S.Db → Type 0
 FitPhase L (away w p) db = FitPlace L p db
 FitPhase L _ db = ⊤
+
+-- what goes to stage 4 is a change, or a tree of a utility
+abbrev pub RoutedPlace : {S : Sorts} → Language S → Place S → Type 0
+RoutedPlace L (in_c line b x) = goes_to_four L x ≡ true
+RoutedPlace L (at_four line b x) = goes_to_four L x ≡ true
+RoutedPlace L _ = ⊤
+
+-- what goes to stage 4 in this phase is a change, or a tree of a utility
+abbrev pub RoutedPhase : {S : Sorts} → Language S → Phase S → Type 0
+RoutedPhase L (away w p) = RoutedPlace L p
+RoutedPhase L _ = ⊤

@@ -6,6 +6,7 @@ mod lawful;
 mod laws;
 mod spoken;
 mod statements;
+mod without_a_room;
 
 pub use failing::a_failed_work_writes_a_front;
 pub use lawful::nothing_unlawful_comes;
@@ -15,3 +16,4 @@ pub use laws::{
 };
 pub use spoken::{Spoken, Tiny};
 pub use statements::statements_are_finished_in_order;
+pub use without_a_room::order_needs_no_room;
