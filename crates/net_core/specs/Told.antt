@@ -3,7 +3,7 @@ use Rattle.std.specs.Prelude.{◌≡◌, ◌++◌, ◌+◌, ◌≤◌, ℕ, List
 use Rattle.std.specs.declared.option.Option.{Option}
 use Rattle.calculus.specs.Database.{Db}
 use Rattle.fault_io.specs.Files.{Files}
-use Rattle.network_meaning.specs.Calls.{Begins, work_bytes}
+use Rattle.network_meaning.specs.Failing.{Begins, work_bytes}
 use Rattle.network_meaning.specs.Language.{Language}
 use Rattle.network_meaning.specs.LocalSteps.{Mode, Room as NetworkRoom}
 use Rattle.net_core.specs.declared.room.Room.{Room}

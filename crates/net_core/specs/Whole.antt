@@ -5,7 +5,8 @@ use Rattle.frame_codec.specs.declared.frame.Frame.{Frame}
 use Rattle.net_core.specs.Causes.{MayNotTake, MayNotWork}
 use Rattle.net_core.specs.declared.net.Net.{Net}
 use Rattle.net_core.specs.Told.{Outside, told}
-use Rattle.network_meaning.specs.Calls.{Begins, Moves, RunsTurns, Seen, Shape, join, stage_number}
+use Rattle.network_meaning.specs.Calls.{RunsTurns, Seen, Shape, join}
+use Rattle.network_meaning.specs.Failing.{Begins}
 use Rattle.network_meaning.specs.Language.{Language}
 use Rattle.network_meaning.specs.Lawful.{comes}
 use Rattle.network_meaning.specs.LocalSteps.{Mode, Want.work, Room as NetworkRoom}
