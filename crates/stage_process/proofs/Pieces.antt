@@ -1,0 +1,100 @@
+-- What was read for one frame, piece by piece.
+use Rattle.std.proofs.Common.{◌≡◌, refl, sym, ap, subst, ◌∙◌, ℕ, ◌+◌, ◌<◌, ◌≤◌, Some, None, List, [], ◌∷◌, ◌++◌, append-nil, append_assoc, Result, Ok, Err, length, arith, OnOk, IfErr}
+use Rattle.std.specs.declared.option.Option.{Option}
+use Rattle.std.specs.Io.KnownBytes.{IsAtEnd, Keeps}
+use Rattle.std.proofs.KnownBytes.{Consumes-kept, Consumes-nil, Consumes-trans}
+use Rattle.frame_codec.specs.declared.frame.Frame.{Frame}
+use Rattle.frame_codec.specs.Reading.{Reading, behind_frames, read, read_on}
+use Rattle.stage_process.specs.declared.fault.LoopFault.{LoopFault}
+use Rattle.stage_process.specs.declared.fault.LoopFault.TheVariants as fault
+use Rattle.stage_process.specs.declared.incoming.Incoming.{Incoming}
+use Rattle.stage_process.specs.Incoming.{Asked, GotPiece, Holds, IsFaultAt, IsHalted, Lacks, NoFrame, PieceDone, StandsAt, inlet, most_read}
+use Rattle.stage_process.specs.Sides.{HasRead, IsNeeded, most_piece}
+use Rattle.stage_process.proofs.Readers.{needed_later, needed_piece, read_more}
+
+-- ---- one piece
+
+-- nothing was read, and no frame came
+pub no_piece : (taken : List Frame) (bytes : List ℕ) (told told' : Option (List ℕ)) (failed f : LoopFault) (s s' : Incoming) → Holds taken bytes s → HasRead told [] told'
+    → NoFrame (inlet taken bytes told' s.reader) failed f → PieceDone taken bytes told told' failed s' (Err f)
+no_piece taken bytes told told' failed f s s' h heard why = record {
+  piece = [];
+  heard = heard;
+  short = omega arith;
+  got = subst (λ (all : List ℕ). GotPiece taken all told' failed s' (Err f)) (sym (append-nil bytes)) (s.reader, record { is = h.is; why = why });
+}
+
+stands : (taken : List Frame) (bytes : List ℕ) (told : Option (List ℕ)) (failed f : LoopFault) (s : Incoming) → Holds taken bytes s → s.reader.frames ≡ [] → IsHalted s f → NoFrame (inlet taken bytes told s.reader) failed f
+stands taken bytes told failed (fault.BadFrame at) s h none e = (none, subst (λ (x : Option ℕ). IsFaultAt s.reader.fault x) e h.fault)
+stands taken bytes told failed fault.Spent s h none e = let was = h.read in omega (arith, was, e)
+stands taken bytes told failed (fault.Work f) s h none e = absurd e
+stands taken bytes told failed fault.LeftRead s h none e = absurd e
+stands taken bytes told failed fault.LeftWrite s h none e = absurd e
+stands taken bytes told failed fault.Right s h none e = absurd e
+stands taken bytes told failed fault.EndedEarly s h none e = absurd e
+stands taken bytes told failed (fault.Told status) s h none e = absurd e
+stands taken bytes told failed fault.OutOfMemory s h none e = absurd e
+
+pub halts : (taken : List Frame) (bytes : List ℕ) (told : Option (List ℕ)) (failed f : LoopFault) (s s' : Incoming) → Holds taken bytes s → s.reader.frames ≡ [] → IsHalted s f → PieceDone taken bytes told told failed s' (Err f)
+halts taken bytes told failed f s s' h none e = no_piece taken bytes told told failed f s s' h (Consumes-nil told) (stands taken bytes told failed f s h none e)
+
+pub kept : (told told' : Option (List ℕ)) → Keeps told told' → HasRead told [] told'
+kept told told' k = Consumes-kept told told told' [] (Consumes-nil told) k
+
+-- a piece was read, and the reader holds it or wants memory
+pub read_piece : (taken : List Frame) (bytes piece : List ℕ) (told told' : Option (List ℕ)) (failed : LoopFault) (s s' : Incoming) (result : Result (Unit {0}) LoopFault) → Holds taken bytes s → HasRead told piece told' → length piece ≤ most_piece
+    → OnOk result (Holds taken (bytes ++ piece) s') → IfErr result (λ f. f ≡ fault.OutOfMemory) → PieceDone taken bytes told told' failed s' result
+read_piece taken bytes piece told told' failed s s' (Ok x) h heard short ok err = record { piece = piece; heard = heard; short = short; got = ok }
+read_piece taken bytes piece told told' failed s s' (Err f) h heard short ok err = record {
+  piece = piece;
+  heard = heard;
+  short = short;
+  got = (read_on s.reader piece, record { is = read_more taken bytes s piece h; why = subst (λ (x : LoopFault). NoFrame (inlet taken (bytes ++ piece) told' (read_on s.reader piece)) failed x) (sym err) tt });
+}
+
+-- ---- pieces, one after the other, for one frame
+
+-- what was read so far for one frame more
+pub record SoFar (taken : List Frame) (bytes : List ℕ) (told told' : Option (List ℕ)) (s : Incoming) : Type 0 where
+  pub more : List ℕ
+  pub heard : HasRead told more told'
+  pub holds : Holds taken (bytes ++ more) s
+  pub needed : IsNeeded (length taken) bytes → IsNeeded (length taken + 1) (bytes ++ more)
+
+pub begins : (taken : List Frame) (bytes : List ℕ) (told : Option (List ℕ)) (s : Incoming) → Holds taken bytes s → SoFar taken bytes told told s
+begins taken bytes told s h = record {
+  more = [];
+  heard = Consumes-nil told;
+  holds = subst (λ (all : List ℕ). Holds taken all s) (sym (append-nil bytes)) h;
+  needed = λ was. subst (IsNeeded (length taken + 1)) (sym (append-nil bytes)) (needed_later (length taken) (length taken + 1) bytes (omega arith) was);
+}
+
+-- the piece behind what was read before
+needed_on : (taken : List Frame) (bytes more piece : List ℕ) (s : Incoming) → Holds taken (bytes ++ more) s → s.reader.frames ≡ [] → length piece ≤ most_piece → IsNeeded (length taken + 1) (bytes ++ (more ++ piece))
+needed_on taken bytes more piece s h none short = subst (IsNeeded (length taken + 1)) (append_assoc bytes more piece) (needed_piece taken (bytes ++ more) s piece h none short)
+
+pub goes_on : (taken : List Frame) (bytes : List ℕ) (told told' told'' : Option (List ℕ)) (failed : LoopFault) (s s' : Incoming) (x : Unit {0}) → SoFar taken bytes told told' s → s.reader.frames ≡ []
+    → ((taken : List Frame) (bytes : List ℕ) → Holds taken bytes s → PieceDone taken bytes told' told'' failed s' (Ok x)) → SoFar taken bytes told told'' s'
+goes_on taken bytes told told' told'' failed s s' x was none done =
+    let p = done taken (bytes ++ was.more) was.holds in
+    record {
+      more = was.more ++ p.piece;
+      heard = Consumes-trans told told' told'' was.more p.piece was.heard p.heard;
+      holds = subst (λ (all : List ℕ). Holds taken all s') (append_assoc bytes was.more p.piece) p.got;
+      needed = λ _. needed_on taken bytes was.more p.piece s was.holds none p.short;
+    }
+
+pub got_frame : (taken : List Frame) (bytes : List ℕ) (told told' : Option (List ℕ)) (failed : LoopFault) (s s' : Incoming) (frame : Frame) → SoFar taken bytes told told' s
+    → ((taken : List Frame) (bytes : List ℕ) → Holds taken bytes s → Holds (taken ++ frame ∷ []) bytes s') → Asked taken bytes told told' failed s' (Ok frame)
+got_frame taken bytes told told' failed s s' frame was next = record { more = was.more; heard = was.heard; needed = was.needed; got = next taken (bytes ++ was.more) was.holds }
+
+pub got_none : (taken : List Frame) (bytes : List ℕ) (told told' told'' : Option (List ℕ)) (failed f : LoopFault) (s s' : Incoming) → SoFar taken bytes told told' s → s.reader.frames ≡ []
+    → ((taken : List Frame) (bytes : List ℕ) → Holds taken bytes s → PieceDone taken bytes told' told'' failed s' (Err f)) → Asked taken bytes told told'' failed s' (Err f)
+got_none taken bytes told told' told'' failed f s s' was none done =
+    let p = done taken (bytes ++ was.more) was.holds in
+    record {
+      more = was.more ++ p.piece;
+      heard = Consumes-trans told told' told'' was.more p.piece was.heard p.heard;
+      needed = λ _. needed_on taken bytes was.more p.piece s was.holds none p.short;
+      got = subst (λ (all : List ℕ). GotPiece taken all told'' failed s' (Err f)) (append_assoc bytes was.more p.piece) p.got;
+    }

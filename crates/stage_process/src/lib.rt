@@ -1,0 +1,7 @@
+//! A stage as a process of its own, between two streams of bytes.
+#![tactic(auto)]
+
+mod fault;
+mod incoming;
+
+pub use fault::LoopFault;
