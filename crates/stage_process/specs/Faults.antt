@@ -44,6 +44,6 @@ abbrev pub telling : ℕ → List ℕ
 telling status = if (status == 3) || (status == 4) then [] else frame_bytes (fault_frame status)
 
 -- what is told to the left behind all frames, by the stage's number and how it ended: nothing after an end without a fault, and nothing by the first stage
-abbrev pub fault_bytes : {T : Type 0} → ℕ → Result T LoopFault → List ℕ
+abbrev pub fault_bytes : ℕ → Result (Unit {0}) LoopFault → List ℕ
 fault_bytes place (Ok x) = []
 fault_bytes place (Err f) = if place == 1 then [] else telling (status_of f)

@@ -4,43 +4,69 @@ use Rattle.std.specs.declared.option.Option.{Option}
 use Rattle.std.specs.Io.KnownBytes.{Appends, Consumes}
 use Rattle.fault_io.specs.Causes.{Rose}
 use Rattle.fault_io.specs.Told.{GrewBy, IsFront}
-use Rattle.frame_codec.specs.declared.frame.Frame.{Frame}
-use Rattle.frame_codec.specs.Reading.{Reading, behind_frames, read}
+use Rattle.frame_codec.specs.Reading.{read}
 
--- one side: the bytes that are left to read of it and those that were written to it, where they are told; how often reading failed, how often writing failed, and how often it took nothing
+-- ---- what is told
+
+-- where bytes are written to: those that were, where they are told; how often writing failed, and how often it took nothing
+pub record Outlet : Type 0 where
+  pub written : Option (List ℕ)
+  pub faults : ℕ
+  pub stalls : ℕ
+
+-- one side: the bytes that are left to read, where they are told; how often reading failed; and where bytes are written to
 pub record Side : Type 0 where
   pub left : Option (List ℕ)
-  pub read_faults : ℕ
-  pub written : Option (List ℕ)
-  pub write_faults : ℕ
-  pub stalls : ℕ
+  pub faults : ℕ
+  pub out : Outlet
 
 -- both sides
 pub record Sides : Type 0 where
   pub left : Side
   pub right : Side
 
+-- an outlet, by what an object tells
+abbrev pub outlet : {O : Type 0} → (O → Option (List ℕ)) → (O → ℕ) → (O → ℕ) → O → Outlet
+outlet written faults stalls o = record { written = written o; faults = faults o; stalls = stalls o }
+
 -- both sides of a stage, by what a source and a sink on the left and a link on the right tell
 abbrev pub sides : {I O L : Type 0} → (I → Option (List ℕ)) → (I → ℕ) → (O → Option (List ℕ)) → (O → ℕ) → (O → ℕ) → (L → Option (List ℕ)) → (L → Option (List ℕ)) → (L → ℕ) → (L → ℕ) → I → O → L → Sides
-sides i_left i_faults o_written o_faults o_stalls l_left l_written l_faults l_stalls left_in left_out right = record {
-  left = record { left = i_left left_in; read_faults = i_faults left_in; written = o_written left_out; write_faults = o_faults left_out; stalls = o_stalls left_out };
-  right = record { left = l_left right; read_faults = l_faults right; written = l_written right; write_faults = l_faults right; stalls = l_stalls right };
+sides left_in in_faults left_out out_faults out_stalls right_in right_out right_faults right_stalls i o l = record {
+  left = record { left = left_in i; faults = in_faults i; out = outlet left_out out_faults out_stalls o };
+  right = record { left = right_in l; faults = right_faults l; out = outlet right_out right_faults right_stalls l };
 }
+
+-- ---- counts
+
+-- no count of an outlet fell
+pub record OutletLater (before after : Outlet) : Type 0 where
+  pub faults : before.faults ≤ after.faults
+  pub stalls : before.stalls ≤ after.stalls
 
 -- no count of a side fell
 pub record SideLater (before after : Side) : Type 0 where
-  pub read_faults : before.read_faults ≤ after.read_faults
-  pub write_faults : before.write_faults ≤ after.write_faults
-  pub stalls : before.stalls ≤ after.stalls
+  pub faults : before.faults ≤ after.faults
+  pub out : OutletLater before.out after.out
+
+-- no count of an outlet rose
+pub record SameCounts (before after : Outlet) : Type 0 where
+  pub faults : after.faults ≡ before.faults
+  pub stalls : after.stalls ≡ before.stalls
+
+-- writing failed, or took nothing
+abbrev pub Faltered : Outlet → Outlet → Type 0
+Faltered before after = Rose before.faults after.faults ⊎ Rose before.stalls after.stalls
+
+-- ---- what was read and written
 
 -- what is left, where it is told, was these bytes, and then what is left now
 abbrev pub HasRead : Option (List ℕ) → List ℕ → Option (List ℕ) → Type 0
 HasRead before bytes after = Consumes before after bytes
 
 -- a front of these bytes was written, and all of them unless writing failed or took nothing
-pub record Wrote (before after : Side) (bytes : List ℕ) : Type 0 where
+pub record Wrote (before after : Outlet) (bytes : List ℕ) : Type 0 where
   pub front : GrewBy before.written after.written (λ more. IsFront more bytes)
-  pub all : Appends before.written after.written bytes ⊎ (Rose before.write_faults after.write_faults ⊎ Rose before.stalls after.stalls)
+  pub all : Appends before.written after.written bytes ⊎ Faltered before after
 
 -- the bytes of one piece, at most
 abbrev pub most_piece : ℕ

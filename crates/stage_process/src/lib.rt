@@ -2,6 +2,13 @@
 #![tactic(auto)]
 
 mod fault;
+mod giving;
 mod incoming;
+mod run;
+mod stepping;
+mod taking;
+mod telling;
+mod working;
 
 pub use fault::LoopFault;
+pub use run::stage_loop;
