@@ -35,6 +35,7 @@ done_ok serves place heard s s' old new before after x r = record {
   runs = λ user y. subst (λ (ms : List Move). LocalRun (quel user) ms (record { state = s; room = told old }) r.end) (sym r.is) (r.runs user y);
   left = r.left;
   right = r.right;
+  plain = r.plain;
   left_wrote = subst (Wrote before.left.out after.left.out) (sym (append-nil (frames_bytes (given_left r.moves)))) r.left_wrote;
   right_wrote = r.right_wrote;
   left_later = r.left_later;
@@ -131,6 +132,7 @@ done_err serves place heard s s' old new before mid out f r t k = record {
   runs = λ user y. subst (λ (ms : List Move). LocalRun (quel user) ms (record { state = s; room = told old }) r.end) (sym r.is) (r.runs user y);
   left = record { heard = r.left.heard; frames = r.left.frames; needed = r.left.needed };
   right = r.right;
+  plain = r.plain;
   left_wrote = left_told place f before.left.out mid.left.out out (frames_bytes (given_left r.moves)) r.left_later.out k r.left_wrote (λ ne. r.left_all (λ e. ne cc)) t;
   right_wrote = r.right_wrote;
   left_later = record { faults = r.left_later.faults; out = later_both before.left.out mid.left.out out r.left_later.out k };

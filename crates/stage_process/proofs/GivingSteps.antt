@@ -2,6 +2,7 @@
 use Rattle.std.proofs.Common.{◌≡◌, refl, sym, ap, subst, ◌∙◌, ℕ, ◌+◌, ◌≤◌, List, [], ◌∷◌, ◌++◌, append-nil, length, arith, inl, inr, OnOk, Result, Ok, Err}
 use Rattle.std.specs.declared.option.Option.{Option}
 use Rattle.std.specs.Io.KnownBytes.{Appends}
+use Rattle.std.specs.Prelude.{All}
 use Rattle.frame_codec.specs.declared.frame.Frame.{Frame}
 use Rattle.frame_codec.specs.Frames.{frame_bytes, frames_bytes}
 use Rattle.frame_codec.specs.Reading.{Reading}
@@ -18,6 +19,7 @@ use Rattle.quel_network.specs.Sorts.{User, quel_sorts}
 use Rattle.stage_process.specs.declared.fault.LoopFault.{LoopFault}
 use Rattle.stage_process.specs.declared.fault.LoopFault.TheVariants as fault
 use Rattle.stage_process.specs.declared.incoming.Incoming.{Incoming}
+use Rattle.stage_process.specs.Faults.{IsPlain}
 use Rattle.stage_process.specs.Moves.{At, Move, Places, first_places, from_left, from_right, gave_left, gave_right, given_left, given_right, passed, places_from, taken_left, taken_right, to_left, to_right, worked}
 use Rattle.stage_process.specs.Sides.{Outlet, OutletLater, SameCounts, Side, SideLater, Sides, Wrote}
 use Rattle.stage_process.specs.Steps.{Goes, Hand, Past, Ran, RoomKept, SideGoes, StepDone, at_hand}
@@ -41,6 +43,9 @@ same_places : (past : Past) (p : Hand) (m : Move) → ((q : Places) → passed q
     record { left = p.talk.left.place; right = p.talk.right.place; last = p.talk.last } ≡ places_from first_places (past.moves ++ m ∷ [])
 same_places past p m same g = g.places ∙ sym (same (places_from first_places past.moves)) ∙ sym (places_more first_places past.moves m)
 
+same_plain : (past : Past) (p : Hand) (m : Move) → from_right m ≡ [] → Goes past p → All IsPlain (taken_right (past.moves ++ m ∷ []))
+same_plain past p m e g = subst (λ (fs : List Frame). All IsPlain fs) (sym (flat_same from_right past.moves m e)) g.plain
+
 -- nothing was done at all, by this fault
 pub nothing_more : (serves : User → Type 0) (past : Past) (p : Hand) (s' : LocalState quel_sorts) (o' : Outside) (f : LoopFault) → Goes past p →
     HowEnded serves p.heard s' p.outside o' past.before p.sides (ending past.moves (at_hand p) past.left p.talk.left.reader p.sides.left.left past.right p.talk.right.reader p.sides.right.left) (Err f) →
@@ -49,6 +54,7 @@ nothing_more serves past p s' o' f g how =
     still serves past p s' o' p.sides f past.left p.talk.left.reader past.right p.talk.right.reader
     (side_read past.before.left p.sides.left (taken_left past.moves) (given_left past.moves) past.left p.talk.left _ p.sides.left.faults p.sides.left.out g.left (omega arith))
     (side_read past.before.right p.sides.right (taken_right past.moves) (given_right past.moves) past.right p.talk.right _ p.sides.right.faults p.sides.right.out g.right (omega arith))
+    g.plain
     g.left.wrote
     g.right.wrote
     (stays_later past.before.left p.sides.left (taken_left past.moves) (given_left past.moves) past.left p.talk.left g.left)
@@ -89,6 +95,7 @@ left_part serves past p s' out' heard' w g part =
       runs = λ user x. (record { state = s'; room = told p.outside }, (w, part.given, refl), refl);
       left = side_read past.before.left p.sides.left (taken_left moves) (given_left past.moves) past.left p.talk.left _ p.sides.left.faults out' taken (omega arith);
       right = side_read past.before.right p.sides.right (taken_right moves) (given_right moves) past.right p.talk.right _ p.sides.right.faults p.sides.right.out right (omega arith);
+      plain = same_plain past p m refl g;
       left_wrote = subst (λ (fs : List Frame). Wrote past.before.left.out out' (frames_bytes fs)) (sym (flat_one to_left past.moves m)) (wrote_part past.before.left p.sides.left (taken_left past.moves) (given_left past.moves) past.left p.talk.left out' p.state s' g.left part);
       left_all = λ ne. absurd (ne refl);
       right_wrote = wrote_all past.before.right.out p.sides.right.out (frames_bytes (given_right moves)) right.wrote;
@@ -105,6 +112,7 @@ give_left_done serves past p s' out' heard' (Ok Stepped) w g (frame, given, wrot
       left = side_as past.before.left _ (taken_left past.moves) (taken_left (past.moves ++ m ∷ [])) (given_left past.moves ++ frame ∷ []) (given_left (past.moves ++ m ∷ [])) past.left p.talk.left (flat_same from_left past.moves m refl) (flat_one to_left past.moves m)
           (side_gave past.before.left p.sides.left (taken_left past.moves) (given_left past.moves) past.left p.talk.left frame p.sides.left.faults out' g.left wrote same refl);
       right = right_alone past p m refl refl g;
+      plain = same_plain past p m refl g;
       places = same_places past p m (λ q. refl) g;
     })
 give_left_done serves past p s' out' heard' (Ok Blocked) w g x = absurd x
@@ -148,6 +156,7 @@ right_part serves past p s' faults' out' heard' w g part le =
       runs = λ user x. (record { state = s'; room = told p.outside }, (w, part.given, refl), refl);
       left = side_read past.before.left p.sides.left (taken_left moves) (given_left moves) past.left p.talk.left _ p.sides.left.faults p.sides.left.out left (omega arith);
       right = side_read past.before.right p.sides.right (taken_right moves) (given_right past.moves) past.right p.talk.right _ faults' out' taken (omega arith);
+      plain = same_plain past p m refl g;
       left_wrote = wrote_all past.before.left.out p.sides.left.out (frames_bytes (given_left moves)) left.wrote;
       left_all = λ _. left.wrote;
       right_wrote = subst (λ (fs : List Frame). Wrote past.before.right.out out' (frames_bytes fs)) (sym (flat_one to_right past.moves m)) (wrote_part past.before.right p.sides.right (taken_right past.moves) (given_right past.moves) past.right p.talk.right out' p.state s' g.right part);
@@ -164,6 +173,7 @@ right_done serves past p s' out' heard' (Ok Stepped) w g both (frame, given, wro
       left = left_alone past p m refl refl g;
       right = side_as past.before.right _ (taken_right past.moves) (taken_right (past.moves ++ m ∷ [])) (given_right past.moves ++ frame ∷ []) (given_right (past.moves ++ m ∷ [])) past.right p.talk.right (flat_same from_right past.moves m refl) (flat_one to_right past.moves m)
           (side_gave past.before.right p.sides.right (taken_right past.moves) (given_right past.moves) past.right p.talk.right frame out'.faults out' g.right wrote same (same.faults ∙ both));
+      plain = same_plain past p m refl g;
       places = same_places past p m (λ q. refl) g;
     })
 right_done serves past p s' out' heard' (Ok Blocked) w g both x = absurd x
@@ -188,11 +198,12 @@ work_done serves past p s' o' heard' (Ok Stepped) w g done =
     (worked, past.left, past.right, (λ user x. (w, done user x)), record {
       left = left_alone past p worked refl refl g;
       right = right_alone past p worked refl refl g;
+      plain = same_plain past p worked refl g;
       places = same_places past p worked (λ q. refl) g;
     })
 work_done serves past p s' o' heard' (Ok Blocked) w g x = absurd x
 work_done serves past p s' o' heard' (Err (fault.Work f)) w g (ne, may, front) = nothing_more serves past p s' o' (fault.Work f) g (w, ne, may, front)
-work_done serves past p s' o' heard' (Err (fault.BadFrame at)) w g (e, unfit) = nothing_more serves past p s' o' (fault.BadFrame at) g (inr (w, e ∙ ap (λ (q : Places). q.last) g.places, unfit))
+work_done serves past p s' o' heard' (Err (fault.BadFrame at)) w g (e, unfit) = nothing_more serves past p s' o' (fault.BadFrame at) g (inr (w, e ∙ ap (λ (q : Places). q.last) g.places, unfit), λ v. absurd (let h : work ≡ take_right = sym w ∙ v in cc))
 work_done serves past p s' o' heard' (Err fault.LeftRead) w g x = absurd x
 work_done serves past p s' o' heard' (Err fault.LeftWrite) w g x = absurd x
 work_done serves past p s' o' heard' (Err fault.Right) w g x = absurd x

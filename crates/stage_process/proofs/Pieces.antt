@@ -14,33 +14,6 @@ use Rattle.stage_process.proofs.Readers.{needed_later, needed_piece, read_more}
 
 -- ---- one piece
 
--- nothing was read, and no frame came
-pub no_piece : (taken : List Frame) (bytes : List ℕ) (told told' : Option (List ℕ)) (failed f : LoopFault) (s s' : Incoming) → Holds taken bytes s → HasRead told [] told'
-    → NoFrame (inlet taken bytes told' s.reader) failed f → PieceDone taken bytes told told' failed s' (Err f)
-no_piece taken bytes told told' failed f s s' h heard why = record {
-  piece = [];
-  heard = heard;
-  short = omega arith;
-  got = subst (λ (all : List ℕ). GotPiece taken all told' failed s' (Err f)) (sym (append-nil bytes)) (s.reader, record { is = h.is; why = why });
-}
-
-stands : (taken : List Frame) (bytes : List ℕ) (told : Option (List ℕ)) (failed f : LoopFault) (s : Incoming) → Holds taken bytes s → s.reader.frames ≡ [] → IsHalted s f → NoFrame (inlet taken bytes told s.reader) failed f
-stands taken bytes told failed (fault.BadFrame at) s h none e = (none, subst (λ (x : Option ℕ). IsFaultAt s.reader.fault x) e h.fault)
-stands taken bytes told failed fault.Spent s h none e = let was = h.read in omega (arith, was, e)
-stands taken bytes told failed (fault.Work f) s h none e = absurd e
-stands taken bytes told failed fault.LeftRead s h none e = absurd e
-stands taken bytes told failed fault.LeftWrite s h none e = absurd e
-stands taken bytes told failed fault.Right s h none e = absurd e
-stands taken bytes told failed fault.EndedEarly s h none e = absurd e
-stands taken bytes told failed (fault.Told status) s h none e = absurd e
-stands taken bytes told failed fault.OutOfMemory s h none e = absurd e
-
-pub halts : (taken : List Frame) (bytes : List ℕ) (told : Option (List ℕ)) (failed f : LoopFault) (s s' : Incoming) → Holds taken bytes s → s.reader.frames ≡ [] → IsHalted s f → PieceDone taken bytes told told failed s' (Err f)
-halts taken bytes told failed f s s' h none e = no_piece taken bytes told told failed f s s' h (Consumes-nil told) (stands taken bytes told failed f s h none e)
-
-pub kept : (told told' : Option (List ℕ)) → Keeps told told' → HasRead told [] told'
-kept told told' k = Consumes-kept told told told' [] (Consumes-nil told) k
-
 -- a piece was read, and the reader holds it or wants memory
 pub read_piece : (taken : List Frame) (bytes piece : List ℕ) (told told' : Option (List ℕ)) (failed : LoopFault) (s s' : Incoming) (result : Result (Unit {0}) LoopFault) → Holds taken bytes s → HasRead told piece told' → length piece ≤ most_piece
     → OnOk result (Holds taken (bytes ++ piece) s') → IfErr result (λ f. f ≡ fault.OutOfMemory) → PieceDone taken bytes told told' failed s' result

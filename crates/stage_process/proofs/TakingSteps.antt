@@ -2,7 +2,9 @@
 use Rattle.std.proofs.Common.{◌≡◌, refl, sym, ap, subst, ◌∙◌, ℕ, ◌+◌, ◌≤◌, List, [], ◌∷◌, ◌++◌, append-nil, length, arith, inl, inr, OnOk, Result, Ok, Err}
 use Rattle.std.specs.declared.option.Option.{Option}
 use Rattle.std.specs.Io.KnownBytes.{Appends}
+use Rattle.std.proofs.lemmas.List.Elements.{All-push}
 use Rattle.std.proofs.lemmas.Result.{on_ok_weaker}
+use Rattle.std.specs.Prelude.{All}
 use Rattle.fault_io.specs.Causes.{Rose}
 use Rattle.frame_codec.specs.declared.frame.Frame.{Frame}
 use Rattle.frame_codec.specs.Frames.{frame_bytes, frames_bytes}
@@ -18,6 +20,7 @@ use Rattle.quel_network.specs.Sorts.{User, quel_sorts}
 use Rattle.stage_process.specs.declared.fault.LoopFault.{LoopFault}
 use Rattle.stage_process.specs.declared.fault.LoopFault.TheVariants as fault
 use Rattle.stage_process.specs.declared.incoming.Incoming.{Incoming}
+use Rattle.stage_process.specs.Faults.{IsPlain}
 use Rattle.stage_process.specs.Incoming.{Holds, Inlet, inlet}
 use Rattle.stage_process.specs.Moves.{At, Move, Places, first_places, from_left, from_right, gave_left, gave_right, given_left, given_right, passed, places_from, taken_left, taken_right, to_left, to_right, took_left, took_right, worked}
 use Rattle.stage_process.specs.Sides.{Faltered, HasRead, IsNeeded, Outlet, OutletLater, SameCounts, Side, SideLater, Sides}
@@ -34,7 +37,7 @@ ending moves end lb lu lt rb ru rt = record { moves = moves; end = end; left = i
 
 how_left : (serves : User → Type 0) (heard : ℕ) (s' : LocalState quel_sorts) (old new : Outside) (before after : Sides) (e : Ending) (f : LoopFault) → want e.end.state ≡ take_left → TakeFailed serves e.end.state e.left fault.LeftRead f →
     (f ≡ fault.LeftRead → Rose before.left.faults after.left.faults) → HowEnded serves heard s' old new before after e (Err f)
-how_left serves heard s' old new before after e (fault.BadFrame at) w t rose = inl (inl (w, t))
+how_left serves heard s' old new before after e (fault.BadFrame at) w t rose = (inl (inl (w, t.0)), λ v. absurd (let h : take_left ≡ take_right = sym w ∙ v in cc))
 how_left serves heard s' old new before after e fault.LeftRead w t rose = (w, rose refl)
 how_left serves heard s' old new before after e fault.Right w t rose = absurd (let h : fault.LeftRead ≡ fault.Right = t in cc)
 how_left serves heard s' old new before after e fault.EndedEarly w t rose = inl (w, t)
@@ -46,7 +49,7 @@ how_left serves heard s' old new before after e (fault.Work f) w t rose = absurd
 
 how_right : (serves : User → Type 0) (heard : ℕ) (s' : LocalState quel_sorts) (old new : Outside) (before after : Sides) (e : Ending) (f : LoopFault) → want e.end.state ≡ take_right → TakeFailed serves e.end.state e.right fault.Right f →
     (f ≡ fault.Right → Faltered before.right.out after.right.out) → HowEnded serves heard s' old new before after e (Err f)
-how_right serves heard s' old new before after e (fault.BadFrame at) w t rose = inl (inr (w, t))
+how_right serves heard s' old new before after e (fault.BadFrame at) w t rose = (inl (inr (w, t.0)), λ v. t.1 refl)
 how_right serves heard s' old new before after e fault.LeftRead w t rose = absurd (let h : fault.Right ≡ fault.LeftRead = t in cc)
 how_right serves heard s' old new before after e fault.Right w t rose = rose refl
 how_right serves heard s' old new before after e fault.EndedEarly w t rose = inr (w, t)
@@ -68,12 +71,13 @@ unmet_right w f e = rw e refl
 pub still : (serves : User → Type 0) (past : Past) (p : Hand) (s' : LocalState quel_sorts) (o' : Outside) (after : Sides) (f : LoopFault) (lb : List ℕ) (lu : Reading) (rb : List ℕ) (ru : Reading) →
     SideRead past.before.left after.left (taken_left past.moves) (length (taken_left past.moves) + unmet take_left (want p.state) (Err f)) lb lu →
     SideRead past.before.right after.right (taken_right past.moves) (length (taken_right past.moves) + unmet take_right (want p.state) (Err f)) rb ru →
+    All IsPlain (taken_right past.moves) →
     Appends past.before.left.out.written after.left.out.written (frames_bytes (given_left past.moves)) →
     Appends past.before.right.out.written after.right.out.written (frames_bytes (given_right past.moves)) →
     SideLater past.before.left after.left → SideLater past.before.right after.right →
     HowEnded serves p.heard s' p.outside o' past.before after (ending past.moves (at_hand p) lb lu after.left.left rb ru after.right.left) (Err f) →
     Ran serves (at_hand p) p.heard s' p.outside o' past.before after past.moves (Err f)
-still serves past p s' o' after f lb lu rb ru left right lw rwrote ll rl how = record {
+still serves past p s' o' after f lb lu rb ru left right plain lw rwrote ll rl how = record {
   moves = past.moves;
   later = [];
   is = sym (append-nil past.moves);
@@ -85,6 +89,7 @@ still serves past p s' o' after f lb lu rb ru left right lw rwrote ll rl how = r
   runs = λ user x. refl;
   left = left;
   right = right;
+  plain = plain;
   left_wrote = wrote_all past.before.left.out after.left.out (frames_bytes (given_left past.moves)) lw;
   left_all = λ _. lw;
   right_wrote = wrote_all past.before.right.out after.right.out (frames_bytes (given_right past.moves)) rwrote;
@@ -127,6 +132,7 @@ took_from_left serves past p s' told' faults' i' heard' frame more w g heard nee
       left = side_as past.before.left _ (taken_left past.moves ++ frame ∷ []) (taken_left (past.moves ++ m ∷ [])) (given_left past.moves) (given_left (past.moves ++ m ∷ [])) (past.left ++ more) i' (flat_one from_left past.moves m) (flat_same to_left past.moves m refl)
           (side_took past.before.left p.sides.left (taken_left past.moves) (given_left past.moves) past.left more p.talk.left i' frame told' faults' p.sides.left.out g.left heard needed holds same refl (same_counts p.sides.left.out));
       right = side_as past.before.right p.sides.right (taken_right past.moves) (taken_right (past.moves ++ m ∷ [])) (given_right past.moves) (given_right (past.moves ++ m ∷ [])) past.right p.talk.right (flat_same from_right past.moves m refl) (flat_same to_right past.moves m refl) g.right;
+      plain = subst (λ (fs : List Frame). All IsPlain fs) (sym (flat_same from_right past.moves m refl)) g.plain;
       places = ap (λ (x : ℕ). places_at x p.talk.right.place p.talk.left.place) (place_next (taken_left past.moves) past.left (past.left ++ more) p.talk.left i' frame g.left.holds holds) ∙ ap (λ (q : Places). passed q m) g.places ∙ sym (places_more first_places past.moves m);
     })
 
@@ -142,6 +148,7 @@ left_lacks serves past p s' told' faults' f more w g heard needed le rose (unrea
     (subst (λ (x : ℕ). SideRead past.before.left after (taken_left past.moves) (n + x) (past.left ++ more) unread) (sym (unmet_left (want p.state) f w))
         (side_lacks past.before.left p.sides.left (taken_left past.moves) (given_left past.moves) past.left more p.talk.left unread told' faults' p.sides.left.out g.left heard needed is))
     (side_read past.before.right p.sides.right (taken_right past.moves) (given_right past.moves) past.right p.talk.right _ p.sides.right.faults p.sides.right.out g.right (omega arith))
+    g.plain
     g.left.wrote
     g.right.wrote
     (read_later past.before.left p.sides.left (taken_left past.moves) (given_left past.moves) past.left p.talk.left told' faults' p.sides.left.out g.left le (later_counts p.sides.left.out))
@@ -170,14 +177,15 @@ at_right p s' right' i' heard' = record {
 
 took_from_right : (serves : User → Type 0) (past : Past) (p : Hand) (s' : LocalState quel_sorts) (right' : Side) (i' : Incoming) (heard' : ℕ) (frame : Frame) (more : List ℕ) → want p.state ≡ take_right → Goes past p →
     HasRead p.sides.right.left more right'.left → (IsNeeded (length (taken_right past.moves)) past.right → IsNeeded (length (taken_right past.moves) + 1) (past.right ++ more)) → Holds (taken_right past.moves ++ frame ∷ []) (past.right ++ more) i' →
-    ((user : User) → serves user → Taken (quel user) p.state frame s') → right'.faults ≡ p.sides.right.faults → right'.out.written ≡ p.sides.right.out.written → SameCounts p.sides.right.out right'.out →
+    ((user : User) → serves user → Taken (quel user) p.state frame s') → IsPlain frame → right'.faults ≡ p.sides.right.faults → right'.out.written ≡ p.sides.right.out.written → SameCounts p.sides.right.out right'.out →
     StepDone serves past p (at_right p s' right' i' heard') (Ok Stepped)
-took_from_right serves past p s' right' i' heard' frame more w g heard needed holds taken same written counts =
+took_from_right serves past p s' right' i' heard' frame more w g heard needed holds taken plain same written counts =
     let m = took_right frame in
     (m, past.left, past.right ++ more, (λ user x. (w, taken user x, refl)), record {
       left = side_as past.before.left p.sides.left (taken_left past.moves) (taken_left (past.moves ++ m ∷ [])) (given_left past.moves) (given_left (past.moves ++ m ∷ [])) past.left p.talk.left (flat_same from_left past.moves m refl) (flat_same to_left past.moves m refl) g.left;
       right = side_as past.before.right right' (taken_right past.moves ++ frame ∷ []) (taken_right (past.moves ++ m ∷ [])) (given_right past.moves) (given_right (past.moves ++ m ∷ [])) (past.right ++ more) i' (flat_one from_right past.moves m) (flat_same to_right past.moves m refl)
           (side_took past.before.right p.sides.right (taken_right past.moves) (given_right past.moves) past.right more p.talk.right i' frame right'.left right'.faults right'.out g.right heard needed holds same written counts);
+      plain = subst (λ (fs : List Frame). All IsPlain fs) (sym (flat_one from_right past.moves m)) (All-push IsPlain (taken_right past.moves) frame g.plain plain);
       places = ap (λ (x : ℕ). places_at p.talk.left.place x p.talk.right.place) (place_next (taken_right past.moves) past.right (past.right ++ more) p.talk.right i' frame g.right.holds holds) ∙ ap (λ (q : Places). passed q m) g.places ∙ sym (places_more first_places past.moves m);
     })
 
@@ -192,6 +200,7 @@ right_lacks serves past p s' right' f more w g heard needed le later written ros
     (side_read past.before.left p.sides.left (taken_left past.moves) (given_left past.moves) past.left p.talk.left _ p.sides.left.faults p.sides.left.out g.left (omega arith))
     (subst (λ (x : ℕ). SideRead past.before.right right' (taken_right past.moves) (n + x) (past.right ++ more) unread) (sym (unmet_right (want p.state) f w))
         (side_lacks past.before.right p.sides.right (taken_right past.moves) (given_right past.moves) past.right more p.talk.right unread right'.left right'.faults right'.out g.right heard needed is))
+    g.plain
     g.left.wrote
     (wrote_as past.before.right p.sides.right (taken_right past.moves) (given_right past.moves) past.right p.talk.right right'.out g.right written)
     (stays_later past.before.left p.sides.left (taken_left past.moves) (given_left past.moves) past.left p.talk.left g.left)
@@ -203,7 +212,7 @@ pub take_right_done : (serves : User → Type 0) (past : Past) (p : Hand) (s' : 
     TakeDone serves p.state s' (taken_right past.moves) past.right p.sides.right.left right'.left fault.Right i' result → p.sides.right.faults ≤ right'.faults → OutletLater p.sides.right.out right'.out → right'.out.written ≡ p.sides.right.out.written →
     (result ≡ Err fault.Right → Rose p.sides.right.out.faults right'.out.faults) → OnOk result (right'.faults ≡ p.sides.right.faults) → OnOk result (SameCounts p.sides.right.out right'.out) →
     StepDone serves past p (at_right p s' right' i' heard') result
-take_right_done serves past p s' right' i' heard' (Ok Stepped) w g d le later written rose same counts = took_from_right serves past p s' right' i' heard' d.took.0 d.more w g d.heard d.needed d.took.1 d.took.2 same written counts
+take_right_done serves past p s' right' i' heard' (Ok Stepped) w g d le later written rose same counts = took_from_right serves past p s' right' i' heard' d.took.0 d.more w g d.heard d.needed d.took.1 d.took.2 (d.took.3 refl) same written counts
 take_right_done serves past p s' right' i' heard' (Ok Blocked) w g d le later written rose same counts = absurd d.took
 take_right_done serves past p s' right' i' heard' (Err f) w g d le later written rose same counts = right_lacks serves past p s' right' f d.more w g d.heard d.needed le later written (λ e. rose (ap Err e)) d.took
 

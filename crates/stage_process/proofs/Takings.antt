@@ -12,12 +12,18 @@ use Rattle.quel_network.specs.Sorts.{User, quel_sorts}
 use Rattle.stage_process.specs.declared.fault.LoopFault.{LoopFault}
 use Rattle.stage_process.specs.declared.fault.LoopFault.TheVariants as fault
 use Rattle.stage_process.specs.declared.incoming.Incoming.{Incoming}
-use Rattle.stage_process.specs.Faults.{fault_frame, told_statuses}
-use Rattle.stage_process.specs.Incoming.{Asked, Holds, Inlet, NoFrame, inlet}
+use Rattle.stage_process.specs.Faults.{IsPlain, fault_frame, told_statuses}
+use Rattle.stage_process.specs.Incoming.{Asked, Holds, Inlet, IsUntold, NoFrame, inlet}
 use Rattle.stage_process.specs.Taking.{TakeDone, TakeFailed, TookFrame}
 
+none_told : (i : Inlet) → i.unread.frames ≡ [] → IsUntold i
+none_told i e status (later, is, c) = cc
+
+first_told : (i : Inlet) (frame : Frame) (rest : List Frame) → i.unread.frames ≡ frame ∷ rest → IsPlain frame → IsUntold i
+first_told i frame rest e plain status (later, is, c) = plain status c (let same : frame ∷ rest ≡ fault_frame status ∷ later = sym e ∙ is in cc)
+
 fails : (serves : User → Type 0) (s : LocalState quel_sorts) (i : Inlet) (failed f : LoopFault) → NoFrame i failed f → TakeFailed serves s i failed f
-fails serves s i failed (fault.BadFrame at) n = inl n
+fails serves s i failed (fault.BadFrame at) n = (inl n, λ e. none_told i n.0)
 fails serves s i failed fault.LeftRead n = n
 fails serves s i failed fault.Right n = n
 fails serves s i failed fault.EndedEarly n = n
@@ -43,28 +49,28 @@ unread taken all frame i' h = sym (behind_both taken (frame ∷ []) i'.reader) �
 
 -- a frame came, and the stage took it or not
 pub with_frame : (serves : User → Type 0) (s s' : LocalState quel_sorts) (taken : List Frame) (bytes : List ℕ) (told told' : Option (List ℕ)) (failed : LoopFault) (i i' : Incoming) (frame : Frame) (result : Result Moved LoopFault) →
-    Holds taken bytes i → Asked taken bytes told told' failed i' (Ok frame) → TookFrame serves s frame s' i.place result → TakeDone serves s s' taken bytes told told' failed i' result
-with_frame serves s s' taken bytes told told' failed i i' frame (Ok Stepped) h a t = record { more = a.more; heard = a.heard; needed = a.needed; took = (frame, a.got, t) }
-with_frame serves s s' taken bytes told told' failed i i' frame (Ok Blocked) h a t = absurd t
-with_frame serves s s' taken bytes told told' failed i i' frame (Err (fault.BadFrame at)) h a t = record {
+    Holds taken bytes i → Asked taken bytes told told' failed i' (Ok frame) → TookFrame serves s frame s' i.place result → (failed ≡ fault.Right → IsPlain frame) → TakeDone serves s s' taken bytes told told' failed i' result
+with_frame serves s s' taken bytes told told' failed i i' frame (Ok Stepped) h a t plain = record { more = a.more; heard = a.heard; needed = a.needed; took = (frame, a.got, t, plain) }
+with_frame serves s s' taken bytes told told' failed i i' frame (Ok Blocked) h a t plain = absurd t
+with_frame serves s s' taken bytes told told' failed i i' frame (Err (fault.BadFrame at)) h a t plain = record {
   more = a.more;
   heard = a.heard;
   needed = a.needed;
-  took = (behind_frames (frame ∷ []) i'.reader, unread taken _ frame i' a.got, inr (frame, i'.reader.frames, refl, t.0 ∙ h.place, t.1));
+  took = (behind_frames (frame ∷ []) i'.reader, unread taken _ frame i' a.got, (inr (frame, i'.reader.frames, refl, t.0 ∙ h.place, t.1), λ e. first_told (inlet taken (bytes ++ a.more) told' (behind_frames (frame ∷ []) i'.reader)) frame i'.reader.frames refl (plain e)));
 }
-with_frame serves s s' taken bytes told told' failed i i' frame (Err fault.OutOfMemory) h a t = record {
+with_frame serves s s' taken bytes told told' failed i i' frame (Err fault.OutOfMemory) h a t plain = record {
   more = a.more;
   heard = a.heard;
   needed = a.needed;
   took = (behind_frames (frame ∷ []) i'.reader, unread taken _ frame i' a.got, tt);
 }
-with_frame serves s s' taken bytes told told' failed i i' frame (Err fault.LeftRead) h a t = absurd t
-with_frame serves s s' taken bytes told told' failed i i' frame (Err fault.LeftWrite) h a t = absurd t
-with_frame serves s s' taken bytes told told' failed i i' frame (Err fault.Right) h a t = absurd t
-with_frame serves s s' taken bytes told told' failed i i' frame (Err fault.EndedEarly) h a t = absurd t
-with_frame serves s s' taken bytes told told' failed i i' frame (Err fault.Spent) h a t = absurd t
-with_frame serves s s' taken bytes told told' failed i i' frame (Err (fault.Told status)) h a t = absurd t
-with_frame serves s s' taken bytes told told' failed i i' frame (Err (fault.Work f)) h a t = absurd t
+with_frame serves s s' taken bytes told told' failed i i' frame (Err fault.LeftRead) h a t plain = absurd t
+with_frame serves s s' taken bytes told told' failed i i' frame (Err fault.LeftWrite) h a t plain = absurd t
+with_frame serves s s' taken bytes told told' failed i i' frame (Err fault.Right) h a t plain = absurd t
+with_frame serves s s' taken bytes told told' failed i i' frame (Err fault.EndedEarly) h a t plain = absurd t
+with_frame serves s s' taken bytes told told' failed i i' frame (Err fault.Spent) h a t plain = absurd t
+with_frame serves s s' taken bytes told told' failed i i' frame (Err (fault.Told status)) h a t plain = absurd t
+with_frame serves s s' taken bytes told told' failed i i' frame (Err (fault.Work f)) h a t plain = absurd t
 
 -- a Fault frame came
 pub told_frame : (serves : User → Type 0) (s s' : LocalState quel_sorts) (taken : List Frame) (bytes : List ℕ) (told told' : Option (List ℕ)) (i' : Incoming) (frame : Frame) (status : ℕ) →

@@ -1,6 +1,5 @@
 -- The status of a process that ended early, and how it is told to the left.
-use Rattle.std.specs.Prelude.{◌≡◌, ◌==◌, ◌||◌, ℕ, List, [], ◌∷◌, Result, Ok, Err, if◌then◌else◌}
-use Rattle.std.specs.List.{list_any}
+use Rattle.std.specs.Prelude.{◌≡◌, ◌==◌, ◌||◌, ℕ, List, [], ◌∷◌, Contains, Result, Ok, Err, if◌then◌else◌}
 use Rattle.frame_codec.specs.declared.frame.Frame.{Frame}
 use Rattle.frame_codec.specs.Frames.{frame_bytes}
 use Rattle.net_core.specs.declared.fault.WorkFault.{WorkFault}
@@ -38,6 +37,10 @@ told_statuses = 2 ∷ 5 ∷ 6 ∷ 8 ∷ 9 ∷ 10 ∷ 11 ∷ []
 -- the Fault frame that tells a status
 abbrev pub fault_frame : ℕ → Frame
 fault_frame status = record { kind = 9; payload = status ∷ [] }
+
+-- the frame is no Fault frame that tells a status
+abbrev pub IsPlain : Frame → Type 0
+IsPlain frame = (status : ℕ) → Contains told_statuses status → frame ≡ fault_frame status → ⊥
 
 -- the bytes that tell a status to the left: none where the left can't be read or written
 abbrev pub telling : ℕ → List ℕ

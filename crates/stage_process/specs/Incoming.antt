@@ -66,6 +66,10 @@ IsRefused serves state i at = (frame : Frame) × (later : List Frame) × (i.unre
 abbrev pub IsTold : Inlet → ℕ → Type 0
 IsTold i status = (later : List Frame) × (i.unread.frames ≡ fault_frame status ∷ later) × Contains told_statuses status
 
+-- the first unread frame is none that tells a status
+abbrev pub IsUntold : Inlet → Type 0
+IsUntold i = (status : ℕ) → IsTold i status → ⊥
+
 -- from so many bytes on no more are read
 abbrev pub most_read : ℕ
 most_read = 2 ^ 64 - 65536

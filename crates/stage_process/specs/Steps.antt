@@ -1,5 +1,5 @@
 -- A run step by step: what holds while it goes on, and what one step comes to.
-use Rattle.std.specs.Prelude.{◌≡◌, ℕ, ◌+◌, List, [], ◌∷◌, ◌++◌, length, OnOk, Result, Ok, Err}
+use Rattle.std.specs.Prelude.{◌≡◌, ℕ, ◌+◌, List, [], ◌∷◌, ◌++◌, length, All, OnOk, Result, Ok, Err}
 use Rattle.std.specs.Prelude.{IsErrOf}
 use Rattle.std.specs.Io.KnownBytes.{Appends}
 use Rattle.frame_codec.specs.declared.frame.Frame.{Frame}
@@ -17,6 +17,7 @@ use Rattle.stage_process.specs.declared.fault.LoopFault.{LoopFault}
 use Rattle.stage_process.specs.declared.fault.LoopFault.TheVariants as fault
 use Rattle.stage_process.specs.declared.incoming.Incoming.{Incoming}
 use Rattle.stage_process.specs.declared.stepping.Talk.{Talk}
+use Rattle.stage_process.specs.Faults.{IsPlain}
 use Rattle.stage_process.specs.Incoming.{Holds, inlet}
 use Rattle.stage_process.specs.Moves.{At, LocalRun, Move, StepsBy, first_places, given_left, given_right, places_from, taken_left, taken_right}
 use Rattle.stage_process.specs.Sides.{HasRead, IsNeeded, SameCounts, Side, SideLater, Sides, Wrote}
@@ -54,6 +55,7 @@ pub record SideGoes (before now : Side) (taken given : List Frame) (bytes : List
 pub record Goes (past : Past) (p : Hand) : Type 0 where
   pub left : SideGoes past.before.left p.sides.left (taken_left past.moves) (given_left past.moves) past.left p.talk.left
   pub right : SideGoes past.before.right p.sides.right (taken_right past.moves) (given_right past.moves) past.right p.talk.right
+  pub plain : All IsPlain (taken_right past.moves)
   pub places : record { left = p.talk.left.place; right = p.talk.right.place; last = p.talk.last } ≡ places_from first_places past.moves
 
 -- a run from here behind earlier steps has ended; nothing was told to the left yet
@@ -69,6 +71,7 @@ pub record Ran (serves : User → Type 0) (start : At) (heard : ℕ) (s' : Local
   pub runs : (user : User) → serves user → LocalRun (quel user) later start end
   pub left : SideRead before.left after.left (taken_left moves) (length (taken_left moves) + unmet take_left (want end.state) result) left_read left_unread
   pub right : SideRead before.right after.right (taken_right moves) (length (taken_right moves) + unmet take_right (want end.state) result) right_read right_unread
+  pub plain : All IsPlain (taken_right moves)
   pub left_wrote : Wrote before.left.out after.left.out (frames_bytes (given_left moves))
   pub left_all : (IsErrOf result fault.LeftWrite → ⊥) → Appends before.left.out.written after.left.out.written (frames_bytes (given_left moves))
   pub right_wrote : Wrote before.right.out after.right.out (frames_bytes (given_right moves))

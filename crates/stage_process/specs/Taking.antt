@@ -19,7 +19,8 @@ use Rattle.quel_network.specs.Sorts.{User, quel_sorts}
 use Rattle.stage_process.specs.declared.fault.LoopFault.{LoopFault}
 use Rattle.stage_process.specs.declared.fault.LoopFault.TheVariants as fault
 use Rattle.stage_process.specs.declared.incoming.Incoming.{Incoming}
-use Rattle.stage_process.specs.Incoming.{Holds, Inlet, IsBroken, IsRefused, IsTold, NoFrame, inlet}
+use Rattle.stage_process.specs.Faults.{IsPlain}
+use Rattle.stage_process.specs.Incoming.{Holds, Inlet, IsBroken, IsRefused, IsTold, IsUntold, NoFrame, inlet}
 use Rattle.stage_process.specs.Sides.{Faltered, HasRead, IsNeeded, Outlet, OutletLater, SameCounts}
 
 -- ---- to take
@@ -31,9 +32,9 @@ TookFrame serves s frame s' at (Err (fault.BadFrame place)) = (place ≡ at) × 
 TookFrame serves s frame s' at (Err fault.OutOfMemory) = ⊤
 TookFrame serves s frame s' at _ = ⊥
 
--- a stage at this state took no frame, by this fault, where a failed read answers that one
+-- a stage at this state took no frame, by this fault, where a failed read answers that one; from the right a frame that tells a status is answered by that status
 abbrev pub TakeFailed : (User → Type 0) → LocalState quel_sorts → Inlet → LoopFault → LoopFault → Type 0
-TakeFailed serves s i failed (fault.BadFrame at) = IsBroken i at ⊎ IsRefused serves s i at
+TakeFailed serves s i failed (fault.BadFrame at) = (IsBroken i at ⊎ IsRefused serves s i at) × (failed ≡ fault.Right → IsUntold i)
 TakeFailed serves s i failed (fault.Told status) = (failed ≡ fault.Right) × IsTold i status
 TakeFailed serves s i failed fault.LeftRead = failed ≡ fault.LeftRead
 TakeFailed serves s i failed fault.Right = failed ≡ fault.Right
@@ -42,9 +43,9 @@ TakeFailed serves s i failed fault.Spent = NoFrame i failed fault.Spent
 TakeFailed serves s i failed fault.OutOfMemory = ⊤
 TakeFailed serves s i failed _ = ⊥
 
--- the next frame was taken, or what is behind these frames is unread and none was
+-- the next frame was taken, from the right none that tells a status; or what is behind these frames is unread and none was
 abbrev pub Took : (User → Type 0) → LocalState quel_sorts → LocalState quel_sorts → List Frame → List ℕ → Option (List ℕ) → LoopFault → Incoming → Result Moved LoopFault → Type 0
-Took serves s s' taken all left failed i' (Ok Stepped) = (frame : Frame) × Holds (taken ++ frame ∷ []) all i' × ((user : User) → serves user → Taken (quel user) s frame s')
+Took serves s s' taken all left failed i' (Ok Stepped) = (frame : Frame) × Holds (taken ++ frame ∷ []) all i' × ((user : User) → serves user → Taken (quel user) s frame s') × (failed ≡ fault.Right → IsPlain frame)
 Took serves s s' taken all left failed i' (Ok Blocked) = ⊥
 Took serves s s' taken all left failed i' (Err f) = (unread : Reading) × (behind_frames taken unread ≡ read 0 all) × TakeFailed serves s (inlet taken all left unread) failed f
 

@@ -1,5 +1,5 @@
 -- What the process of a stage has done, and how it ended.
-use Rattle.std.specs.Prelude.{◌≡◌, ◌⊎◌, ℕ, ◌+◌, ◌-◌, ◌^◌, List, [], ◌++◌, length, Some, Result, Ok, Err, ⊤}
+use Rattle.std.specs.Prelude.{◌≡◌, ◌⊎◌, ℕ, ◌+◌, ◌-◌, ◌^◌, List, [], ◌++◌, length, All, Some, Result, Ok, Err, ⊤}
 use Rattle.std.specs.declared.option.Option.{Option}
 use Rattle.fault_io.specs.Causes.{Rose}
 use Rattle.frame_codec.specs.declared.frame.Frame.{Frame}
@@ -18,8 +18,8 @@ use Rattle.quel_network.specs.Quel.{quel}
 use Rattle.quel_network.specs.Sorts.{User, quel_sorts}
 use Rattle.stage_process.specs.declared.fault.LoopFault.{LoopFault}
 use Rattle.stage_process.specs.declared.fault.LoopFault.TheVariants as fault
-use Rattle.stage_process.specs.Faults.{fault_bytes}
-use Rattle.stage_process.specs.Incoming.{Inlet, IsBroken, IsOver, IsRefused, IsTold, IsTooMuch, inlet}
+use Rattle.stage_process.specs.Faults.{IsPlain, fault_bytes}
+use Rattle.stage_process.specs.Incoming.{Inlet, IsBroken, IsOver, IsRefused, IsTold, IsTooMuch, IsUntold, inlet}
 use Rattle.stage_process.specs.Moves.{At, LocalRun, Move, given_left, given_right, last_place, taken_left, taken_right}
 use Rattle.stage_process.specs.Sides.{Faltered, HasRead, IsNeeded, Side, SideLater, Sides, Wrote}
 
@@ -44,7 +44,7 @@ IsUnfit serves e at = (want e.end.state ≡ work) × (at ≡ last_place e.moves)
 abbrev pub WroteFrontOf : Language quel_sorts → At → Outside → Type 0
 WroteFrontOf L end after = (room : NetworkRoom quel_sorts) → end.room ≡ Some room → (front : List ℕ) × Begins front (work_bytes L end.state.mode room) × (after.output ≡ Some (room.out ++ front))
 
--- how it ended: the stage has ended; its work failed, by a fault that may come; a count of a side rose; a stream ended where a frame of it was wanted; no more steps or bytes are counted; what is wanted is no frame, or one that may not be taken, or what is to be worked on isn't fit; a Fault frame is wanted that tells a status; or no memory was left
+-- how it ended: the stage has ended; its work failed, by a fault that may come; a count of a side rose; a stream ended where a frame of it was wanted; no more steps or bytes are counted; what is wanted is no frame, or one that may not be taken, or what is to be worked on isn't fit, and no Fault frame that tells a status is wanted; a Fault frame is wanted that tells a status; or no memory was left
 abbrev pub HowEnded : (User → Type 0) → ℕ → LocalState quel_sorts → Outside → Outside → Sides → Sides → Ending → Result (Unit {0}) LoopFault → Type 0
 HowEnded serves heard s' old new before after e (Ok x) = HasEnded e.end.state × (s' ≡ e.end.state) × (told new ≡ e.end.room)
 HowEnded serves heard s' old new before after e (Err (fault.Work f)) = (want e.end.state ≡ work) × (f ≡ work_fault.Unlawful → ⊥) × MayCome heard old new f × ((user : User) → serves user → WroteFrontOf (quel user) e.end new)
@@ -53,7 +53,7 @@ HowEnded serves heard s' old new before after e (Err fault.LeftWrite) = Faltered
 HowEnded serves heard s' old new before after e (Err fault.Right) = Faltered before.right.out after.right.out
 HowEnded serves heard s' old new before after e (Err fault.EndedEarly) = IsWanted e IsOver
 HowEnded serves heard s' old new before after e (Err fault.Spent) = (length e.moves ≡ 2 ^ 64 - 1) ⊎ (IsTooMuch e.left ⊎ IsTooMuch e.right)
-HowEnded serves heard s' old new before after e (Err (fault.BadFrame at)) = IsWanted e (λ i. IsBroken i at ⊎ IsRefused serves e.end.state i at) ⊎ IsUnfit serves e at
+HowEnded serves heard s' old new before after e (Err (fault.BadFrame at)) = (IsWanted e (λ i. IsBroken i at ⊎ IsRefused serves e.end.state i at) ⊎ IsUnfit serves e at) × (want e.end.state ≡ take_right → IsUntold e.right)
 HowEnded serves heard s' old new before after e (Err (fault.Told status)) = (want e.end.state ≡ take_right) × IsTold e.right status
 HowEnded serves heard s' old new before after e (Err fault.OutOfMemory) = ⊤
 
@@ -73,7 +73,7 @@ pub record SideRead (before after : Side) (taken : List Frame) (asked : ℕ) (by
 
 -- ---- the whole
 
--- what a stage with this number has done that began here: steps, the frames of what was read in the order of the stream, the bytes of what was given and of a Fault frame, and how it ended
+-- what a stage with this number has done that began here: steps, the frames of what was read in the order of the stream, from the right none that tells a status, the bytes of what was given and of a Fault frame, and how it ended
 pub record LoopDone (serves : User → Type 0) (place heard : ℕ) (s s' : LocalState quel_sorts) (old new : Outside) (before after : Sides) (result : Result (Unit {0}) LoopFault) : Type 0 where
   pub moves : List Move
   pub end : At
@@ -84,6 +84,7 @@ pub record LoopDone (serves : User → Type 0) (place heard : ℕ) (s s' : Local
   pub runs : (user : User) → serves user → LocalRun (quel user) moves (record { state = s; room = told old }) end
   pub left : SideRead before.left after.left (taken_left moves) (length (taken_left moves) + unmet take_left (want end.state) result) left_read left_unread
   pub right : SideRead before.right after.right (taken_right moves) (length (taken_right moves) + unmet take_right (want end.state) result) right_read right_unread
+  pub plain : All IsPlain (taken_right moves)
   pub left_wrote : Wrote before.left.out after.left.out (frames_bytes (given_left moves) ++ fault_bytes place result)
   pub right_wrote : Wrote before.right.out after.right.out (frames_bytes (given_right moves))
   pub left_later : SideLater before.left after.left

@@ -1,11 +1,11 @@
 //! A stage takes a frame.
 
-ghost use Rattle.std.specs.Prelude.{◌≡◌, ◌≤◌, ◌↔◌, ℕ, Contains, IfErr, IfSome, IsErrOf, IsTrue, List, OnOk, length};
+ghost use Rattle.std.specs.Prelude.{◌≡◌, ◌≤◌, ◌↔◌, ℕ, Contains, IfNone, IfSome, IsErrOf, IsTrue, List, OnOk, length};
 ghost use Rattle.fault_io.specs.Causes.{Rose};
 ghost use Rattle.frame_codec.specs.declared.frame.Frame.{Frame as FrameOf};
 ghost use Rattle.net_core.specs.Wants.{IsToTake};
 ghost use Rattle.quel_network.specs.Sorts.{User};
-ghost use Rattle.stage_process.specs.Faults.{fault_frame, told_statuses};
+ghost use Rattle.stage_process.specs.Faults.{IsPlain, fault_frame, told_statuses};
 ghost use Rattle.stage_process.specs.Incoming.{Holds, IsHeld};
 ghost use Rattle.stage_process.specs.Taking.{TakeDone, TookFrame};
 ghost use Rattle.stage_process.specs.declared.fault.LoopFault.TheVariants.{LeftRead as left_failed, Right as right_failed};
@@ -34,12 +34,19 @@ fn is_told(status: u8) -> bool
 fn told_by(frame: &Frame) -> Option<u8>
     ensures told { IfSome result (λ status. frame.now ≡ fault_frame status) }
     ensures status { IfSome result (λ status. Contains told_statuses status) }
+    ensures plain { IfNone result (IsPlain frame.now) }
 {
     if frame.kind != FAULT {
         return None;
     }
     match frame.payload.items() {
-        [status] if is_told(*status) => Some(*status),
+        [status] => {
+            if is_told(*status) {
+                Some(*status)
+            } else {
+                None
+            }
+        }
         _ => None,
     }
 }
@@ -111,8 +118,8 @@ pub(crate) fn take_right<T: Stage, L: Link>(
 {
     let at = right.place;
     let frame = right.next_right(link, buf)?;
-    if let Some(status) = told_by(&frame) {
-        return Err(LoopFault::Told(status));
+    match told_by(&frame) {
+        Some(status) => Err(LoopFault::Told(status)),
+        None => take_frame(alloc, stage, frame, at),
     }
-    take_frame(alloc, stage, frame, at)
 }

@@ -1,4 +1,5 @@
 use Rattle.std.proofs.Common.{◌≡◌, Err, rules}
+use Rattle.stage_process.specs.declared.fault.LoopFault.TheVariants as fault
 use Rattle.stage_process.proofs.Takings.{no_frame, with_frame}
 use Rattle.stage_process.proofs.taking.take_left.Goals as goal
 
@@ -9,4 +10,4 @@ returns-in_err-frame-clause-taken g c = λ taken bytes h.
 
 pub returns-clause-taken : goal.returns-clause-taken
 returns-clause-taken g c = λ taken bytes h.
-    with_frame (g.T.Stage.serves c.args.stage.now) _ _ taken bytes _ _ _ c.args.left.now c.next_left.new.self c.in_ok-frame.frame c.take_frame.result h (c.in_ok-frame.ensures.asked taken bytes h) c.take_frame.ensures.took
+    with_frame (g.T.Stage.serves c.args.stage.now) _ _ taken bytes _ _ _ c.args.left.now c.next_left.new.self c.in_ok-frame.frame c.take_frame.result h (c.in_ok-frame.ensures.asked taken bytes h) c.take_frame.ensures.took (λ (e : fault.LeftRead ≡ fault.Right). absurd (cc))

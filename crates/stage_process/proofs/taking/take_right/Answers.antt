@@ -11,6 +11,6 @@ pub returns-in-Some-clause-taken : goal.returns-in-Some-clause-taken
 returns-in-Some-clause-taken g c = λ taken bytes h.
     told_frame (g.T.Stage.serves c.args.stage.now) _ _ taken bytes _ _ c.next_right.new.self c.in_ok-frame.frame c.in-Some.status (c.in_ok-frame.ensures.asked taken bytes h) c.in-Some.ensures.told c.in-Some.ensures.status
 
-pub returns-clause-taken : goal.returns-clause-taken
-returns-clause-taken g c = λ taken bytes h.
-    with_frame (g.T.Stage.serves c.args.stage.now) _ _ taken bytes _ _ _ c.args.right.now c.next_right.new.self c.in_ok-frame.frame c.take_frame.result h (c.in_ok-frame.ensures.asked taken bytes h) c.take_frame.ensures.took
+pub returns-in-None-clause-taken : goal.returns-in-None-clause-taken
+returns-in-None-clause-taken g c = λ taken bytes h.
+    with_frame (g.T.Stage.serves c.args.stage.now) _ _ taken bytes _ _ _ c.args.right.now c.next_right.new.self c.in_ok-frame.frame c.take_frame.result h (c.in_ok-frame.ensures.asked taken bytes h) c.take_frame.ensures.took (λ _. c.in-None.ensures.plain)
