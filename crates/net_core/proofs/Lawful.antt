@@ -71,12 +71,12 @@ not_taken : (L : Language quel_sorts) (s : Between quel_sorts) (f : Frame) → c
 not_taken L s f e h n = let taken = taken_as L s f (want s.stage) e h in n taken.0 taken.1
 
 pub disorderly : (L : Language quel_sorts) (laws : Laws L) (k : StageNumber) (n : Shape quel_sorts) (before : Outside) → MayNotStep L k n before → IsDisorderly L (seen n before)
-disorderly L laws k n before (inl (f, comes_here, no)) r t o =
-    not_taken L (between (join n r) k) f (comes_here r) (lawful L laws k (join n r) f o (comes_here r)) (subst (λ (s : LocalState quel_sorts). MayNotTake L s f) (sym (stage_is k n r)) no)
-disorderly L laws k n before (inr (w, no)) r t o = no r t (subst (λ (s : LocalState quel_sorts). FitWork L s.mode r.db) (stage_is k n r) (fit_work L k (join n r) o))
+disorderly L laws k n before (inl (f, comes_here, refused)) r t o =
+    not_taken L (between (join n r) k) f (comes_here r) (lawful L laws k (join n r) f o (comes_here r)) (subst (λ (s : LocalState quel_sorts). MayNotTake L s f) (sym (stage_is k n r)) refused)
+disorderly L laws k n before (inr (w, unfit)) r t o = unfit r t (subst (λ (s : LocalState quel_sorts). FitWork L s.mode r.db) (stage_is k n r) (fit_work L k (join n r) o))
 
 pub disorderly_behind : (L : Language quel_sorts) (old mid : Seen quel_sorts) → KeepsAll L old mid → IsDisorderly L mid → IsDisorderly L old
-disorderly_behind L old mid keeps no r t o = let kept = keeps r t o in no kept.room kept.told kept.orderly
+disorderly_behind L old mid keeps bad r t o = let kept = keeps r t o in bad kept.room kept.told kept.orderly
 
 -- ---- what a step keeps
 

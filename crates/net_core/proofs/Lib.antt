@@ -3,4 +3,6 @@ pub mod AtWork
 pub mod Faulty
 pub mod Placing
 pub mod Lawful
+pub mod Outcomes
 pub mod QuelLaws
+pub mod Turning

@@ -98,6 +98,9 @@ step_done capacity k n n' s o o' h h' p p' whole whole' rest serves serves' all 
 
 -- ---- what all stages have read, by the one that reads
 
+pub first_part : (a b c d : ℕ) → a + (b + (c + d)) ≡ a + (b + (c + d))
+first_part a b c d = refl
+
 pub second_part : (a b c d : ℕ) → a + (b + (c + d)) ≡ b + (a + (c + d))
 second_part a b c d = omega arith
 
