@@ -4,3 +4,6 @@ pub mod Session
 pub mod Trees
 pub mod Spelling
 pub mod Quel
+pub mod EventLaws
+pub mod BatchLaws
+pub mod MeaningLaws
