@@ -1,5 +1,4 @@
 -- The language of this program, as its four stages speak it.
-use Rattle.std.specs.Prelude.{ℕ, List}
 use Rattle.network_meaning.specs.Language.{Language}
 use Rattle.quel_meaning.specs.Happening.{Setting}
 use Rattle.quel_meaning.specs.Printed.{head_bytes, row_line, rule_bytes, done_bytes, refusal_bytes}
