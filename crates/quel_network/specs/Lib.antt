@@ -4,3 +4,9 @@ pub mod Session
 pub mod Trees
 pub mod Spelling
 pub mod Quel
+pub mod CodecLaws
+pub mod RefusalLaws
+pub mod CopyRefusals
+pub mod TreeRefusals
+pub mod SpellingLaws
+pub mod ShortLaws
