@@ -7,3 +7,9 @@ pub mod Quel
 pub mod EventLaws
 pub mod BatchLaws
 pub mod MeaningLaws
+pub mod CodecLaws
+pub mod RefusalLaws
+pub mod CopyRefusals
+pub mod TreeRefusals
+pub mod SpellingLaws
+pub mod ShortLaws
