@@ -7,6 +7,9 @@ pub mod Quel
 pub mod EventLaws
 pub mod BatchLaws
 pub mod MeaningLaws
+pub mod PartLaws
+pub mod ScriptLaws
+pub mod SessionLaws
 pub mod CodecLaws
 pub mod RefusalLaws
 pub mod CopyRefusals
