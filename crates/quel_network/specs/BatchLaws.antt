@@ -1,5 +1,5 @@
 -- What a batch does, whatever the monitor keeps beside what statements work on: the laws.
-use Rattle.std.proofs.Common.{◌≡◌, refl, ap, ◌∙◌, ℕ, List, [], ◌∷◌, ◌++◌, Option, Some, None}
+use Rattle.std.proofs.Common.{◌≡◌, refl, ap, ◌∙◌, ℕ, List, [], ◌∷◌, Option, Some, None}
 use Rattle.quel_meaning.specs.Batch.{StatementAt, Batch}
 use Rattle.quel_meaning.specs.Happening.{Setting, Ran, Kept, After, behind, and_then, over}
 use Rattle.quel_meaning.specs.Printed.{reply_bytes}

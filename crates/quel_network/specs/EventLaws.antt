@@ -21,27 +21,24 @@ told events = (printed events, finished events)
 abbrev pub finished_with : List ℕ → Db → List ℕ → Finished quel_sorts
 finished_with reply db later = record { reply = reply; db = db; later = later }
 
--- what is told of the one, and behind it of the other
+-- what is told of one part of a session, and then of the next
 abbrev pub told_both : Told → Told → Told
 told_both t u = (t.0 ++ u.0, followed_by {S = quel_sorts} u.0 t.1 ++ u.1)
 
-pub finished_append : (es fs : List Event) → finished (es ++ fs) ≡ followed_by {S = quel_sorts} (printed fs) (finished es) ++ finished fs
+finished_append : (es fs : List Event) → finished (es ++ fs) ≡ followed_by {S = quel_sorts} (printed fs) (finished es) ++ finished fs
 finished_append [] fs = refl
 finished_append (Wrote bytes ∷ es) fs = finished_append es fs
 finished_append (Ran reply db ∷ es) fs =
     ap (λ (x : List ℕ). finished_with reply db x ∷ finished (es ++ fs)) (printed_append es fs)
     ∙ ap (λ (x : List (Finished quel_sorts)). finished_with reply db (printed es ++ printed fs) ∷ x) (finished_append es fs)
 
+-- what two lists of events tell
 pub told_append : (es fs : List Event) → told (es ++ fs) ≡ told_both (told es) (told fs)
 told_append es fs = λ i. (printed_append es fs i, finished_append es fs i)
 
--- bytes before the others
+-- what is told where these bytes are printed before
 abbrev pub told_behind : List ℕ → Told → Told
 told_behind bytes t = (bytes ++ t.0, t.1)
-
-pub wrote_first : (bytes : List ℕ) (events : List Event) → told (Wrote bytes ∷ events) ≡ told_behind bytes (told events)
-unfolding printed
-wrote_first bytes events = refl
 
 -- bytes in two pieces, or in one
 pub wrote_twice : (a b : List ℕ) (t : Told) → told_behind a (told_behind b t) ≡ told_behind (a ++ b) t

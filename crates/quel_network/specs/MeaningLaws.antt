@@ -15,12 +15,10 @@ use Rattle.calculus.specs.declared.request.Utility.TheVariants.{Copy}
 use Rattle.calculus.specs.declared.schema.RelInfo.{RelInfo}
 use Rattle.calculus.specs.declared.statement.Statement.{Statement}
 use Rattle.calculus.specs.declared.statement.Statement.TheVariants.{Range}
-use Rattle.calculus.specs.Database.{Db}
 use Rattle.calculus.specs.Finding.{found}
 use Rattle.calculus.specs.Replacement.{updated}
 use Rattle.calculus.specs.Rows.{Row}
 use Rattle.calculus.specs.Who.{Who, Asks}
-use Rattle.fault_io.specs.Files.{Files}
 use Rattle.network_meaning.specs.Sorts.{Meaning, Meaning.names, Meaning.objects, Meaning.runs}
 use Rattle.network_meaning.specs.Language.{lines_of as row_lines, tables_bytes, reply_bytes as outcome_bytes, db_after, shelf_after}
 use Rattle.quel_meaning.specs.Copying.{copied_from, copied_into, file_of_constant, refusal}

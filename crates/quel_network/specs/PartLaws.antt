@@ -1,9 +1,9 @@
 -- The parts of a line up to a command that names a file, and the lines behind the first: the laws.
-use Rattle.std.proofs.Common.{◌≡◌, refl, ap, ◌∙◌, ℕ, Bool, true, false, List, [], ◌∷◌, take, drop, subst}
+use Rattle.std.proofs.Common.{◌≡◌, refl, ap, ℕ, Bool, true, false, List, [], ◌∷◌, take, drop, subst}
 use Rattle.std.specs.Prelude.{◌==◌, if◌then◌else◌}
 use Rattle.std.specs.List.{concat}
-use Rattle.quel_meaning.specs.Lines.{onto_first, before_lines, lines_of}
-use Rattle.quel_meaning.specs.Monitor.{Command, Part, Piece, Order, Quoting, quoting_after, begins_command, names_file, onto_piece, before_parts, without_front, order_before, command_of, word_length, parts_at, parts_from}
+use Rattle.quel_meaning.specs.Lines.{onto_first, lines_of}
+use Rattle.quel_meaning.specs.Monitor.{Command, Part, Piece, Order, Quoting, quoting_after, begins_command, names_file, onto_piece, before_parts, without_front, command_of, word_length, parts_at, parts_from}
 use Rattle.quel_meaning.proofs.LineLaws.{joined_again}
 use Rattle.quel_network.specs.Session.{up_to_file}
 

@@ -22,11 +22,11 @@ use Rattle.quel_network.specs.BatchLaws.{with_state, batch_rest}
 use Rattle.quel_network.specs.EventLaws.{Told, told, told_behind, told_append, wrote_twice}
 use Rattle.quel_network.specs.PartLaws.{lines_cut, other_lines}
 use Rattle.quel_network.specs.Quel.{quel, setting_for}
-use Rattle.quel_network.specs.Reading.{Standing, says, refuses, opens, includes, ordered, comes_to, standing, stands, read_parts, read_script, read_line, read_on, read}
+use Rattle.quel_network.specs.Reading.{Standing, says, refuses, opens, includes, ordered, comes_to, standing, read_parts, read_script, read_line, read_on, read}
 use Rattle.quel_network.specs.Session.{kept_at, up_to_file, open_files, after_batch_at, after_parts, after_script_at}
 use Rattle.quel_network.specs.Sorts.{User, Monitor, first_monitor, quel_sorts}
 
--- what is told from where the monitor comes to
+-- what is told of the rest of a script by what the monitor read
 abbrev pub told_by : User → Db → Ranges → Read quel_sorts → Told
 told_by user db ranges got = (after_event (quel user) db ranges got got.event, statements_after_event (quel user) db ranges got got.event)
 
@@ -38,11 +38,11 @@ kept_in db ranges s = record { state = record { db = db; shelf = s.shelf; ranges
 abbrev pub all_files : Standing → List ℕ → OpenFiles
 all_files s script = s.files ++ lines_of script ∷ []
 
--- what is told where these parts are left of the line
+-- what is told where the monitor stands so and these parts are left of the line
 abbrev pub told_from : User → Db → Ranges → List ℕ → Standing → List Part → Told
 told_from user db ranges script s parts = told_behind s.bytes (told (after_parts (setting_for user) (kept_in db ranges s) parts (all_files s script)).events)
 
--- what is told where this was done and nothing is left of the line
+-- what is told where the monitor stood so, then this was done, and nothing is left of the line
 abbrev pub told_after : User → List ℕ → Standing → After → Told
 told_after user script s a = told_behind s.bytes (told (and_then a (λ k. after_files (setting_for user) k (all_files s script))).events)
 
@@ -71,7 +71,7 @@ at_go user db ranges script s parts =
 
 -- ---- the session ends
 
--- the session was ended
+-- the same, where the session was ended
 abbrev ended : Kept → Kept
 ended kept = record kept { quit = true }
 
@@ -107,7 +107,7 @@ one_part setting kept part files =
     let done = after_part setting (included_in setting files) kept part in
     ap (λ (events : List Event). behind events (after_files setting done.kept files)) (append-nil done.events)
 
--- what was done is what makes the monitor stand there
+-- what is told from the one standing where this was done is what is told from the other
 abbrev ComesTo : User → Db → Ranges → List ℕ → Standing → After → Standing → Type 0
 ComesTo user db ranges script s a t = told_after user script s a ≡ told_after user script t (quiet (kept_in db ranges t))
 

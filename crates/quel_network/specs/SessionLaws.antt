@@ -5,7 +5,7 @@ use Rattle.fault_io.specs.Files.{Files}
 use Rattle.network_meaning.specs.Sorts.{Finished, Meaning, Meaning.names, Meaning.objects, Meaning.runs, Next, After as Left_off}
 use Rattle.network_meaning.specs.Language.{Stand, after_meaning, after_next, after_event, statements_after_meaning, statements_after_next, statements_after_event}
 use Rattle.quel_grammar.specs.Next.{Next as Read, Nothing, Read as WasRead, Syntax, line_at}
-use Rattle.quel_meaning.specs.Batch.{MovesOn, statement_at}
+use Rattle.quel_meaning.specs.Batch.{statement_at}
 use Rattle.quel_meaning.specs.Happening.{After}
 use Rattle.quel_meaning.specs.Printed.{refusal_bytes}
 use Rattle.quel_meaning.specs.Ranges.{Ranges}
@@ -15,7 +15,7 @@ use Rattle.quel_meaning.specs.State.{State}
 use Rattle.quel_meaning.proofs.Grammatical.{moves_on}
 use Rattle.quel_meaning.proofs.LeftOfBatch.{nothing_left, statement_next, refusal_next}
 use Rattle.quel_network.specs.EventLaws.{Told, finished_with, replies_stand}
-use Rattle.quel_network.specs.MeaningLaws.{Left, left_by, left_of, matches_statement}
+use Rattle.quel_network.specs.MeaningLaws.{Left, left_of, matches_statement}
 use Rattle.quel_network.specs.Quel.{quel, setting_for}
 use Rattle.quel_network.specs.ScriptLaws.{script_told}
 use Rattle.quel_network.specs.Session.{finished, kept_at, after_batch_at, after_script_at}
@@ -70,22 +70,25 @@ by_next user state b (Syntax place) e =
     ap batch_told (refusal_next (setting_for user) b.text b.from (kept_at first_monitor state.db state.shelf state.ranges) place (moves_on user.reading user.grammatical b.text) e)
     ∙ ap (λ (bytes : List ℕ). (left_off state bytes, [])) (append-nil (refusal_bytes (record { code = 1; line = line_at b.text place; row = 0 })))
 
--- a batch by what is read of it next
+-- both by what is read of the batch next
 both_of_batch : (user : User) (state : State) (b : Batch)
     → batch_told (after_batch_at (setting_for user) state.db state.shelf state.ranges b) ≡ next_told user state (next_in user.reading b)
 unfolding next_in
 both_of_batch user state b = by_next user state b (user.reading b.text b.from) refl
 
+-- a batch is its next statement, and what is left behind that
 pub batch_law : (user : User) (db : Db) (shelf : Files) (ranges : Ranges) (b : Batch)
     → (quel user).batch_runs db shelf ranges b ≡ after_next (quel user) db shelf ranges ((quel user).next b)
 unfolding quel
 batch_law user db shelf ranges b = ap (λ (t : BatchTold). t.0) (both_of_batch user (record { db = db; shelf = shelf; ranges = ranges }) b)
 
+-- so are the statements that run
 pub batch_list_law : (user : User) (db : Db) (shelf : Files) (ranges : Ranges) (b : Batch)
     → (quel user).batch_statements db shelf ranges b ≡ statements_after_next (quel user) db shelf ranges ((quel user).next b)
 unfolding quel
 batch_list_law user db shelf ranges b = ap (λ (t : BatchTold). t.1) (both_of_batch user (record { db = db; shelf = shelf; ranges = ranges }) b)
 
+-- their replies stand in what the batch prints
 pub batch_places_law : (user : User) (db : Db) (shelf : Files) (ranges : Ranges) (b : Batch)
     → Stand {S = quel_sorts} ((quel user).batch_runs db shelf ranges b).bytes ((quel user).batch_statements db shelf ranges b)
 unfolding quel
@@ -93,16 +96,19 @@ batch_places_law user db shelf ranges b = replies_stand (after_batch_at (setting
 
 -- ---- scripts
 
+-- a script is what the monitor reads next, and what is left behind that
 pub script_law : (user : User) (db : Db) (shelf : Files) (ranges : Ranges) (m : Monitor) (script : List ℕ)
     → (quel user).script_bytes db shelf ranges m script ≡ (let got = (quel user).read m script shelf in after_event (quel user) db ranges got got.event)
 unfolding quel
 script_law user db shelf ranges m script = ap (λ (t : Told). t.0) (script_told user db ranges m script shelf)
 
+-- so are the statements that run
 pub script_list_law : (user : User) (db : Db) (shelf : Files) (ranges : Ranges) (m : Monitor) (script : List ℕ)
     → (quel user).script_statements db shelf ranges m script ≡ (let got = (quel user).read m script shelf in statements_after_event (quel user) db ranges got got.event)
 unfolding quel
 script_list_law user db shelf ranges m script = ap (λ (t : Told). t.1) (script_told user db ranges m script shelf)
 
+-- their replies stand in what the script prints
 pub script_places_law : (user : User) (db : Db) (shelf : Files) (ranges : Ranges) (m : Monitor) (script : List ℕ)
     → Stand {S = quel_sorts} ((quel user).script_bytes db shelf ranges m script) ((quel user).script_statements db shelf ranges m script)
 unfolding quel
