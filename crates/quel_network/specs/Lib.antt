@@ -10,3 +10,7 @@ pub mod CopyRefusals
 pub mod TreeRefusals
 pub mod SpellingLaws
 pub mod ShortLaws
+pub mod Suiting
+pub mod NumberRange
+pub mod TextFacts
+pub mod Parts
