@@ -1,5 +1,5 @@
 -- Constants, joined texts, names and what catalogues say are texts in the language's sense.
-use Rattle.std.specs.Prelude.{◌≡◌, ℕ, ◌+◌, ◌≤◌, ◌<◌, ◌%◌, ◌^◌, ◌==◌, Bool, true, false, ◌&&◌, not, IsTrue, List, [], ◌∷◌, ◌++◌, length, nat_le, codes, decimal}
+use Rattle.std.specs.Prelude.{ℕ, ◌+◌, ◌≤◌, ◌<◌, ◌%◌, ◌^◌, ◌==◌, Bool, true, false, ◌&&◌, not, IsTrue, List, [], ◌∷◌, ◌++◌, length, nat_le, codes, decimal}
 use Rattle.std.specs.List.{list_all}
 use Rattle.std.proofs.Common.{refl, ◌∙◌, rules, arith}
 use Rattle.std.proofs.lemmas.Bool.{and_parts, and_from, leb-true, le-leb}
