@@ -16,3 +16,14 @@ pub mod CopyRefusals
 pub mod TreeRefusals
 pub mod SpellingLaws
 pub mod ShortLaws
+pub mod Suiting
+pub mod NumberRange
+pub mod TextFacts
+pub mod Parts
+pub mod TermValues
+pub mod CatalogueRows
+pub mod StoredRows
+pub mod QueryRows
+pub mod AggregateValues
+pub mod TableFits
+pub mod TableLaws
