@@ -27,3 +27,4 @@ pub mod QueryRows
 pub mod AggregateValues
 pub mod TableFits
 pub mod TableLaws
+pub mod Laws
