@@ -1,1 +1,1 @@
-
+mod AtTheStart

@@ -4,7 +4,7 @@ use Rattle.std.specs.List.{concat}
 use Rattle.fault_io.specs.Files.{Files, fetched, stored}
 use Rattle.quel_meaning.specs.Buffer.{Buffer, with_piece, buffer_after}
 use Rattle.quel_meaning.specs.Lines.{lines_of}
-use Rattle.quel_meaning.specs.Monitor.{Command, Go, Print, Reset, Append, Quit, Include, Write, Unknown, Part, Piece, Order, order_before, parts_of}
+use Rattle.quel_meaning.specs.Monitor.{Command, Go, Print, Reset, Append, Quit, Include, Write, Unknown, Part, Piece, Order, parts_of}
 use Rattle.quel_meaning.specs.OpenFiles.{OpenFiles}
 use Rattle.quel_meaning.specs.Printed.{refusal_bytes}
 use Rattle.quel_meaning.specs.Running.{most_included}

@@ -1,7 +1,6 @@
 -- What statements, trees and changes mean for the stages.
-use Rattle.std.specs.Prelude.{◌≡◌, ℕ, true, List, [], ◌∷◌, map, Option, Some, None, Result, Ok, Err}
+use Rattle.std.specs.Prelude.{◌≡◌, ℕ, true, List, map, Option, Some, None, Result, Ok, Err}
 use Rattle.calculus.specs.declared.change.DbChange.{DbChange}
-use Rattle.calculus.specs.declared.reply.Refusal.{Refusal}
 use Rattle.calculus.specs.declared.reply.Reply.{Reply}
 use Rattle.calculus.specs.declared.reply.Reply.TheVariants as reply
 use Rattle.calculus.specs.declared.reply.Table.{Table as Printed}
@@ -14,7 +13,7 @@ use Rattle.calculus.specs.Change.{IsLawful}
 use Rattle.calculus.specs.Database.{Db}
 use Rattle.calculus.specs.Finding.{found}
 use Rattle.calculus.specs.IsDatabase.{IsDatabase}
-use Rattle.calculus.specs.Who.{Who, Free, Asker, Asks}
+use Rattle.calculus.specs.Who.{Free, Asker, Asks}
 use Rattle.fault_io.specs.Files.{Files}
 use Rattle.network_meaning.specs.Sorts.{Table, Outcome, Meaning, Next, Kind}
 use Rattle.network_meaning.specs.Sorts.{Outcome.tables, Outcome.made, Outcome.refuses, Meaning.names, Meaning.objects, Meaning.runs, Next.no_more, Next.bad, Next.found as read_next, Kind.answer, Kind.update, Kind.utility}

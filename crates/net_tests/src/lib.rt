@@ -1,0 +1,11 @@
+//! Tests of the network: links and spawners, rounds of turns, and stages that play a written list.
+#![tactic(auto)]
+
+#[cfg(test)]
+mod links;
+#[cfg(test)]
+mod orders;
+#[cfg(test)]
+mod players;
+#[cfg(test)]
+mod rounds;
