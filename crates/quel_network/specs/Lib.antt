@@ -4,6 +4,12 @@ pub mod Session
 pub mod Trees
 pub mod Spelling
 pub mod Quel
+pub mod EventLaws
+pub mod BatchLaws
+pub mod MeaningLaws
+pub mod PartLaws
+pub mod ScriptLaws
+pub mod SessionLaws
 pub mod CodecLaws
 pub mod RefusalLaws
 pub mod CopyRefusals
@@ -21,3 +27,4 @@ pub mod QueryRows
 pub mod AggregateValues
 pub mod TableFits
 pub mod TableLaws
+pub mod Laws
