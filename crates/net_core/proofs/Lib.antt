@@ -1,1 +1,8 @@
-
+pub mod AtPipes
+pub mod AtWork
+pub mod Faulty
+pub mod Placing
+pub mod Lawful
+pub mod Outcomes
+pub mod QuelLaws
+pub mod Turning
