@@ -10,3 +10,10 @@ pub mod CopyRefusals
 pub mod TreeRefusals
 pub mod SpellingLaws
 pub mod ShortLaws
+pub mod Bounded
+pub mod TreeBounds
+pub mod Counting
+pub mod CountingLaws
+pub mod Work
+pub mod ReadingLaws
+pub mod WorkLaws
