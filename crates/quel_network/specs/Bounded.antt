@@ -5,6 +5,7 @@ use Rattle.std.proofs.lemmas.Nat.{mul-le}
 use Rattle.tree_words.specs.Codec.{Codec}
 use Rattle.tree_words.specs.Words.{letter_of, byte, byte_if, nothing, nowhere, both, mapped, lawful, items_write, ItemsFit, list, spelt, short, number16, number32, number64}
 use Rattle.tree_words.specs.Ways.{Ways, last, last_if, ◌or◌, gated, tagged, flag, option}
+use Rattle.quel_network.specs.Orders.{within_itself, within_same, within_through, suc_within, within_first, within_second, sum_within}
 
 -- no value that there is has more bytes
 pub record Bounded {A : Type 0} (c : Codec A) : Type 0 where
@@ -35,9 +36,6 @@ nowhere_bounded = record { most = 0; within = λ a f. absurd f }
 
 -- ---- one behind the other, and other forms
 
-sum_within : (k a b m n : ℕ) → k ≡ a + b → a ≤ m → b ≤ n → k ≤ m + n
-sum_within k a b m n e h g = omega (arith, e)
-
 pub both_bounded : {A B : Type 0} (c : Codec A) (d : Codec B) → Bounded c → Bounded d → Bounded (both c d)
 both_bounded c d cb db = record {
   most = cb.most + db.most;
@@ -61,9 +59,6 @@ length-number64 : (z : ℤ) → length (number64.write z) ≡ 8
 unfolding number64 number32 number16
 length-number64 z = refl
 
-within_same : (k n : ℕ) → k ≡ n → k ≤ n
-within_same k n e = omega (arith, e)
-
 pub number64_bounded : Bounded number64
 number64_bounded = record { most = 8; within = λ z f. within_same _ 8 (length-number64 z) }
 
@@ -78,12 +73,6 @@ items_within c cb zero (x ∷ xs) f = absurd f
 items_within c cb (suc n) [] f = absurd f
 items_within c cb (suc n) (x ∷ xs) f =
     one_more _ _ _ cb.most n (length-append (c.write x) (items_write c xs)) (cb.within x f.0) (items_within c cb n xs f.1)
-
-within_through : (k m n : ℕ) → k ≤ m → m ≤ n → k ≤ n
-within_through k m n h g = omega arith
-
-within_itself : (n : ℕ) → n ≤ n
-within_itself n = omega arith
 
 -- a list, whose count is a number up to a top one
 pub list_bounded : {A : Type 0} (count : Codec ℕ) (c : Codec A) (top : ℕ) → ((n : ℕ) → count.Fits n → n ≤ top) → Bounded count → Bounded c → Bounded (list count c)
@@ -129,15 +118,6 @@ pub short_bounded : (Fits : List ℕ → Type 0) (length_is : ℕ → Bool) (sta
 short_bounded Fits length_is stands top few = record { most = suc top; within = λ bs f. one_byte_more _ (length bs) top (short_length length_is stands bs) (few bs f) }
 
 -- ---- ways
-
-within_first : (k m n : ℕ) → k ≤ m → k ≤ m + n
-within_first k m n h = omega arith
-
-within_second : (k m n : ℕ) → k ≤ n → k ≤ m + n
-within_second k m n h = omega arith
-
-suc_within : (k n : ℕ) → k ≤ n → suc k ≤ suc n
-suc_within k n h = omega arith
 
 pub tagged_bounded : {A : Type 0} (w : Ways A) → BoundedWays w → Bounded (tagged w)
 tagged_bounded w wb = record { most = suc wb.most; within = λ a f. suc_within _ wb.most (wb.within a f) }

@@ -6,12 +6,7 @@ use Rattle.network_meaning.specs.Sorts.{Reply.refused, Said.replied, Message.tex
 use Rattle.network_meaning.specs.Language.{Language, db_after, shelf_after}
 use Rattle.network_meaning.specs.WorkLeft.{count, far, meaning_work, next_work, event_work}
 use Rattle.quel_network.specs.Counting.{BatchWork, ScriptWork, costs, no_script, batch_within, script_within, batch_of, script_of, counted, StatementsFall, ReadsFall}
-
-within_itself : (n : ℕ) → n ≤ n
-within_itself n = omega arith
-
-more_within : (a k n : ℕ) → k ≤ n → a + k ≤ a + n
-more_within a k n h = omega arith
+use Rattle.quel_network.specs.Orders.{within_itself, more_within}
 
 -- ---- batches
 

@@ -15,6 +15,7 @@ use Rattle.quel_meaning.specs.Session.{greatest_depth}
 use Rattle.quel_network.specs.Sorts.{Monitor, quel_sorts}
 use Rattle.quel_network.specs.Reading.{Standing, opens, includes, ordered, read_parts, standing, read_script, read_line, read_on, read}
 use Rattle.quel_network.specs.Work.{lines_size, files_size, still_included, reading_size, reads_left}
+use Rattle.quel_network.specs.Orders.{within_itself, suc_through}
 
 -- ---- a line has no more parts than bytes
 
@@ -35,9 +36,6 @@ onto_few : (b : ℕ) (parts : List Part) → length (onto_piece b parts) ≤ suc
 onto_few b [] = omega arith
 onto_few b (Piece bytes ∷ parts) = omega arith
 onto_few b (Order command ∷ parts) = omega arith
-
-suc_through : (k m n : ℕ) → k ≤ suc m → m ≤ n → k ≤ suc n
-suc_through k m n h g = omega arith
 
 at_few : (t : Bool) (b : ℕ) (bytes : List ℕ) (parts : List Part) → length (parts_at t b bytes parts) ≤ suc (length parts)
 at_few true b bytes parts =
@@ -100,30 +98,27 @@ files_left s = files_size s.files + 2 * still_included s.included
 opened_few : (k f n included most : ℕ) → k ≤ 2 * n → included + n ≤ most → (k + f) + 2 * (most - (included + n)) ≤ f + 2 * (most - included)
 opened_few k f n included most h g = omega arith
 
-itself : (n : ℕ) → n ≤ n
-itself n = omega arith
-
 opens_few : (s : Standing) (bytes : List ℕ) → files_left (opens s bytes) ≤ files_left s
 opens_few s bytes =
     elim (cases_Bool (nat_lt (length s.files) greatest_depth && nat_le (s.included + length bytes) most_included)) [
       | inl e ↦ (let room : s.included + length bytes ≤ most_included = leb-true _ _ (and_parts (nat_lt (length s.files) greatest_depth) (nat_le (s.included + length bytes) most_included) e).1 in
           rw (e, opens) (opened_few (lines_size (lines_of bytes)) (files_size s.files) (length bytes) s.included most_included (lines_few bytes) room))
-      | inr e ↦ rw (e, opens) (itself (files_left s))
+      | inr e ↦ rw (e, opens) (within_itself (files_left s))
     ]
 
 includes_few : (s : Standing) (bytes : Option (List ℕ)) → files_left (includes s bytes) ≤ files_left s
-includes_few s None = itself _
+includes_few s None = within_itself _
 includes_few s (Some bytes) = opens_few s bytes
 
 include_few : (s : Standing) (file : List ℕ) → files_left (ordered s (Include file)) ≤ files_left s
 unfolding ordered
-include_few s [] = itself _
+include_few s [] = within_itself _
 include_few s (b ∷ bs) = includes_few s (fetched s.shelf (b ∷ bs))
 
 write_few : (s : Standing) (file : List ℕ) → files_left (ordered s (Write file)) ≤ files_left s
 unfolding ordered
-write_few s [] = itself _
-write_few s (b ∷ bs) = itself _
+write_few s [] = within_itself _
+write_few s (b ∷ bs) = within_itself _
 
 -- ---- the parts of a line
 

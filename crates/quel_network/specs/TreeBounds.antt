@@ -145,6 +145,7 @@ query_over_bounded : (t : Codec QTerm) (q : Codec QQual) → Bounded t → Bound
 query_over_bounded t q tb qb = mapped_bounded _ _ _
     (both_bounded _ _ (list16_bounded rel_key rel_key_bounded) (both_bounded _ _ (list16_bounded (target_over t) (target_over_bounded t tb)) qb))
 
+-- terms, qualifications, aggregates and queries have so many bytes at most
 record BoundedTrees (t : Trees) : Type 0 where
   term : Bounded t.term
   qual : Bounded t.qual

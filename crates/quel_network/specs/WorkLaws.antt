@@ -1,5 +1,5 @@
 -- Each next statement and each next read leaves less work.
-use Rattle.std.specs.Prelude.{◌≡◌, ◌≤◌, ◌<◌, ◌+◌, ◌-◌, ◌/◌, ℕ, zero, suc, nat_le, List, length, drop}
+use Rattle.std.specs.Prelude.{◌≡◌, ◌≤◌, ◌<◌, ◌-◌, ◌/◌, ℕ, zero, suc, nat_le, List, length, drop}
 use Rattle.std.proofs.Common.{inl, inr, refl, sym, ap, ◌∙◌, arith}
 use Rattle.std.proofs.lemmas.Bool.{leb-true, leb-false, cases_Bool}
 use Rattle.calculus.specs.declared.change.DbChange.{DbChange}
@@ -24,6 +24,7 @@ use Rattle.quel_network.specs.Spelling.{payload_of}
 use Rattle.quel_network.specs.TreeBounds.{checked_bounded, change_bounded}
 use Rattle.quel_network.specs.Trees.{next_of, next_in, IsFitTree, IsFitChange}
 use Rattle.quel_network.specs.Work.{bytes_left, reads_left, most_frames, quel_work}
+use Rattle.quel_network.specs.Orders.{within_first, within_second}
 
 -- ---- statements
 
@@ -64,21 +65,15 @@ frames_few : (kind : ℕ) (bytes : List ℕ) (most : ℕ) → length bytes ≤ m
 unfolding message_frames
 frames_few kind bytes most h = frames_within _ (length bytes) most (cut_length (length bytes / 4096) kind bytes) h
 
-first_of_two : (k m n : ℕ) → k ≤ m → k ≤ m + n
-first_of_two k m n h = omega arith
-
-second_of_two : (k m n : ℕ) → k ≤ n → k ≤ m + n
-second_of_two k m n h = omega arith
-
 tree_few : (user : User) (t : Checked) (db : Db) → IsFitTree user.asker t db → count {S = quel_sorts} (quel user) (cargo (tree t)) ≤ most_frames
 unfolding quel payload_of most_frames
 tree_few user t db fit =
-    frames_few 2 ((checked_codec most_tree_levels).write t) _ (first_of_two _ (checked_bounded most_tree_levels).most (change_bounded most_tree_levels).most ((checked_bounded most_tree_levels).within t fit.spelled))
+    frames_few 2 ((checked_codec most_tree_levels).write t) _ (within_first _ (checked_bounded most_tree_levels).most (change_bounded most_tree_levels).most ((checked_bounded most_tree_levels).within t fit.spelled))
 
 change_few : (user : User) (c : DbChange) (db : Db) → IsFitChange c db → count {S = quel_sorts} (quel user) (cargo (change c)) ≤ most_frames
 unfolding quel payload_of most_frames
 change_few user c db fit =
-    frames_few 5 ((change_codec most_tree_levels).write c) _ (second_of_two _ (checked_bounded most_tree_levels).most (change_bounded most_tree_levels).most ((change_bounded most_tree_levels).within c fit.spelled))
+    frames_few 5 ((change_codec most_tree_levels).write c) _ (within_second _ (checked_bounded most_tree_levels).most (change_bounded most_tree_levels).most ((change_bounded most_tree_levels).within c fit.spelled))
 
 -- ---- the laws
 

@@ -2,5 +2,7 @@
 #![tactic(auto)]
 
 mod session;
+mod spoken;
 
 pub use session::a_script_is_its_session;
+pub use spoken::Quel;
