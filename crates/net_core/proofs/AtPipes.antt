@@ -1,9 +1,8 @@
 -- What a stage did at a pipe, or where it has ended, as a step of a stage between its pipes.
-use Rattle.std.proofs.Common.{IfOk, IfErr, OnOk, OnErr, IsErrOf, ◌≡◌, ◌⊎◌, ◌<◌, ◌≤◌, inl, inr, ℕ, Bool, true, false, List, [], ◌∷◌, ◌++◌, Some, None, Result, Ok, Err, length, not, nat_lt, refl, sym, ◌∙◌, arith}
+use Rattle.std.proofs.Common.{IfOk, IfErr, OnOk, OnErr, IsErrOf, ◌≡◌, ◌<◌, ◌≤◌, inl, inr, ℕ, Bool, true, false, List, [], ◌∷◌, ◌++◌, Some, None, Result, Ok, Err, length, not, nat_lt, refl, arith}
 use Rattle.std.proofs.lemmas.Grind.{common_steps}
 use Rattle.std.specs.declared.option.Option.{Option}
 use Rattle.frame_codec.specs.declared.frame.Frame.{Frame}
-use Rattle.calculus.specs.Database.{Db}
 use Rattle.net_core.specs.Causes.{IsCaused, MayNotTake}
 use Rattle.net_core.specs.declared.fault.WorkFault.{WorkFault}
 use Rattle.net_core.specs.declared.fault.WorkFault.TheVariants as faults

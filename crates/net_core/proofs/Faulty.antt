@@ -1,9 +1,9 @@
 -- Faults that come of one part or of one step, as those of the whole.
-use Rattle.std.proofs.Common.{◌≡◌, ◌⊎◌, ◌+◌, ◌<◌, ◌≤◌, inl, inr, ℕ, List, length, Some, None, Result, Ok, Err, refl, sym, ◌∙◌, arith}
+use Rattle.std.proofs.Common.{◌≡◌, ◌+◌, ◌≤◌, inl, inr, ℕ, Some, None, Result, Ok, Err, refl, ◌∙◌, arith}
 use Rattle.std.specs.declared.option.Option.{Option}
 use Rattle.calculus.specs.Database.{Db}
 use Rattle.fault_io.specs.Causes.{Rose}
-use Rattle.net_core.specs.Causes.{IsCaused, MayCome, most_script}
+use Rattle.net_core.specs.Causes.{IsCaused, MayCome}
 use Rattle.net_core.specs.declared.fault.WorkFault.{WorkFault}
 use Rattle.net_core.specs.declared.fault.WorkFault.TheVariants as faults
 use Rattle.net_core.specs.Told.{KeepsDatabase, KeepsScript, Later, Outside}

@@ -1,25 +1,24 @@
 -- What a step owes by the laws of the language: of what was written, and of what is unlawful.
-use Rattle.std.proofs.Common.{OnErr, OnOk, IfOk, IsErrOf, ◌≡◌, ◌⊎◌, inl, inr, ℕ, Bool, true, false, List, [], ◌∷◌, ◌++◌, Some, None, Result, refl, sym, ap, subst, ◌∙◌}
+use Rattle.std.proofs.Common.{◌≡◌, inl, inr, ℕ, Bool, true, false, List, [], ◌∷◌, ◌++◌, Some, refl, sym, ap, subst, ◌∙◌}
 use Rattle.std.specs.declared.option.Option.{Option}
 use Rattle.calculus.specs.Database.{Db}
 use Rattle.fault_io.specs.Files.{Files}
 use Rattle.frame_codec.specs.declared.frame.Frame.{Frame}
 use Rattle.net_core.specs.Causes.{MayNotTake}
 use Rattle.net_core.specs.Steps.{FailedStep}
-use Rattle.net_core.specs.Told.{Outside, told, told_by}
+use Rattle.net_core.specs.Told.{Outside, told_by}
 use Rattle.net_core.specs.Whole.{IsDisorderly, MayNotStep, WroteFront, seen, state_at}
-use Rattle.network_meaning.specs.Calls.{KeepsAll, KeptNow, Moves, RunsTurns, Seen, Shape, TakenAs, join, stage_number}
+use Rattle.network_meaning.specs.Calls.{KeepsAll, Moves, Seen, Shape, TakenAs, join, stage_number}
 use Rattle.network_meaning.specs.Failing.{Begins, work_bytes}
 use Rattle.network_meaning.specs.Language.{Language}
 use Rattle.network_meaning.specs.Laws.{Laws}
 use Rattle.network_meaning.specs.Lawful.{FitWork, Lawful, LawfulAs, LawfulBehind, comes, in_front}
-use Rattle.network_meaning.specs.LocalSteps.{Mode, Want, Want.take_left, Want.take_right, Want.give_left, Want.give_right, Want.work, Want.none, Room as NetworkRoom}
+use Rattle.network_meaning.specs.LocalSteps.{Want, Want.take_left, Want.take_right, Want.give_left, Want.give_right, Want.work, Want.none, Room as NetworkRoom}
 use Rattle.network_meaning.specs.MessageNetwork.{StageNumber, StageNumber.first, StageNumber.second, StageNumber.third, StageNumber.fourth}
-use Rattle.network_meaning.specs.Network.{Between, HasTakenLeft, HasTakenRight, LocalState, Orderly, between, bytes_in_all, done_act, want}
+use Rattle.network_meaning.specs.Network.{Between, HasTakenLeft, HasTakenRight, LocalState, between, done_act, want}
 use Rattle.network_meaning.specs.Statements.{FinishesInOrder}
 use Rattle.network_meaning.proofs.FailedWork.{failed_work}
 use Rattle.network_meaning.proofs.NothingUnlawful.{fit_work, lawful}
-use Rattle.network_meaning.proofs.Runs.{moves_keeps}
 use Rattle.network_meaning.proofs.StatementsRuns.{runs_finish}
 use Rattle.quel_network.specs.Sorts.{quel_sorts}
 

@@ -4,5 +4,4 @@ pub mod Faulty
 pub mod Placing
 pub mod Lawful
 pub mod Outcomes
-pub mod QuelLaws
 pub mod Turning

@@ -1,5 +1,5 @@
 -- A step of a stage between its pipes, as a step of the network.
-use Rattle.std.proofs.Common.{IfOk, OnErr, ◌≡◌, ◌+◌, ℕ, Bool, true, false, List, [], Result, refl, sym, ap, subst, arith}
+use Rattle.std.proofs.Common.{IfOk, OnErr, ◌≡◌, ◌+◌, ℕ, Bool, true, false, [], Result, refl, sym, ap, subst, arith}
 use Rattle.std.specs.declared.option.Option.{Option}
 use Rattle.net_core.specs.declared.fault.WorkFault.{WorkFault}
 use Rattle.net_core.specs.declared.steps.Moved.{Moved}

@@ -10,7 +10,7 @@ use Rattle.network_meaning.proofs.StatementsRuns.{runs_finish}
 use Rattle.quel_network.specs.Quel.{quel}
 use Rattle.quel_network.specs.Sorts.{User, quel_sorts}
 use Rattle.net_core.proofs.Lawful.{disorderly_behind, wrote_behind}
-use Rattle.net_core.proofs.QuelLaws.{laws_of_quel}
+use Rattle.quel_network.specs.Laws.{quel_laws}
 use Rattle.net_core.proofs.Faulty.{database_more, database_same, later_more, later_same, script_more, script_same}
 
 -- these turns were made, from the first network and room to the second
@@ -57,11 +57,11 @@ on_any (Err e) P h = h
 
 pub turns_keep : (capacity : ℕ) (turns : List ℕ) (a b : Shape quel_sorts) (o o' : Outside) (h h' : ℕ) (serves serves' : User → Type 0) (numbers numbers' : Type 0) → TurnsDone capacity turns a b o o' h h' serves serves' numbers numbers' →
     (user : User) → serves user → KeepsAll (quel user) (seen a o) (seen b o')
-turns_keep capacity turns a b o o' h h' serves serves' numbers numbers' d user x = runs_keeps (quel user) (laws_of_quel user) capacity turns (seen a o) (seen b o') (d.runs user x)
+turns_keep capacity turns a b o o' h h' serves serves' numbers numbers' d user x = runs_keeps (quel user) (quel_laws user) capacity turns (seen a o) (seen b o') (d.runs user x)
 
 pub turns_finish : (capacity : ℕ) (turns : List ℕ) (a b : Shape quel_sorts) (o o' : Outside) (h h' : ℕ) (serves serves' : User → Type 0) (numbers numbers' : Type 0) → TurnsDone capacity turns a b o o' h h' serves serves' numbers numbers' →
     (user : User) → serves user → FinishesInOrder (quel user) (seen a o) (seen b o')
-turns_finish capacity turns a b o o' h h' serves serves' numbers numbers' d user x = runs_finish (quel user) (laws_of_quel user) capacity turns (seen a o) (seen b o') (d.runs user x)
+turns_finish capacity turns a b o o' h h' serves serves' numbers numbers' d user x = runs_finish (quel user) (quel_laws user) capacity turns (seen a o) (seen b o') (d.runs user x)
 
 -- ---- where one of them failed
 

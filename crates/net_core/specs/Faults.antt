@@ -1,5 +1,5 @@
 -- How a fault of taking is one of a step.
-use Rattle.std.specs.Prelude.{◌≡◌, ◌⊎◌, Result, Ok, Err, ⊤}
+use Rattle.std.specs.Prelude.{◌≡◌, ◌⊎◌}
 use Rattle.net_core.specs.declared.fault.TakeFault.{TakeFault}
 use Rattle.net_core.specs.declared.fault.TakeFault.TheVariants as taking
 use Rattle.net_core.specs.declared.fault.WorkFault.{WorkFault}

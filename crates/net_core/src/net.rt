@@ -22,6 +22,7 @@ use std::collections::VecDeque;
 ///            <---         <---            <---
 ///             F            E              D
 /// ```
+#[derive(Drop)]
 pub struct Net<A1, A2, A3, A4> {
     /// The monitor.
     pub one: A1,
@@ -74,9 +75,29 @@ impl<A1: Stage + Drop, A2: Stage + Drop, A3: Stage + Drop, A4: Stage + Drop> Net
         ensures start { IfOk result (λ net. shape A1.state A2.state A3.state A4.state net ≡ start_shape) }
     {
         let (right, left) = both(three_pipes(alloc, capacity), three_pipes(alloc, capacity))?;
-        let Pipes { first: a, second: b, third: c } = right;
-        let Pipes { first: d, second: e, third: f } = left;
-        Ok(Net { one, two, three, four, a, b, c, d, e, f, capacity })
+        let Pipes {
+            first: a,
+            second: b,
+            third: c,
+        } = right;
+        let Pipes {
+            first: d,
+            second: e,
+            third: f,
+        } = left;
+        Ok(Net {
+            one,
+            two,
+            three,
+            four,
+            a,
+            b,
+            c,
+            d,
+            e,
+            f,
+            capacity,
+        })
     }
 }
 
@@ -95,7 +116,11 @@ fn three_pipes(alloc: Global, capacity: usize) -> Result<Pipes, OutOfMemory>
     let first = VecDeque::with_capacity(alloc, capacity)?;
     let second = VecDeque::with_capacity(alloc, capacity)?;
     let third = VecDeque::with_capacity(alloc, capacity)?;
-    Ok(Pipes { first, second, third })
+    Ok(Pipes {
+        first,
+        second,
+        third,
+    })
 }
 
 /// Whether a stage has ended, with nothing to give.

@@ -1,4 +1,4 @@
-use Rattle.std.proofs.Common.{◌≡◌, refl, ◌∙◌}
+use Rattle.std.proofs.Common.{refl, ◌∙◌}
 use Rattle.net_core.specs.Told.{outside}
 use Rattle.net_core.proofs.Turning.{none_done, one_more_done, turns_disorderly, turns_failed, turns_finish, turns_keep, turns_stopped}
 use Rattle.net_core.proofs.turns.net_turns.Goals as goal
@@ -9,8 +9,9 @@ loop-k-init g c = (none_done _ _ _ _ _ _, refl)
 pub loop-k-preserved : goal.loop-k-preserved
 loop-k-preserved g c = (
   one_more_done _ _ _ _ _ _ _ _ _ _ _ _ _ _ _ _ _ _ _ _ c.loop-k.invariant.1 c.loop-k-test.true c.loop-k.invariant.0 c.in_ok-net_step.ensures.steps
-    c.in_ok-net_step.ensures.serve c.in_ok-net_step.ensures.numbers c.in_ok-net_step.ensures.later c.in_ok-net_step.ensures.heard c.in_ok-net_step.ensures.database,
-  c.in_ok-net_step.ensures.capacity ∙ c.loop-k.invariant.1)
+      c.in_ok-net_step.ensures.serve c.in_ok-net_step.ensures.numbers c.in_ok-net_step.ensures.later c.in_ok-net_step.ensures.heard c.in_ok-net_step.ensures.database,
+  c.in_ok-net_step.ensures.capacity ∙ c.loop-k.invariant.1,
+)
 
 pub returns-in_err-net_step-clause-stopped : goal.returns-in_err-net_step-clause-stopped
 returns-in_err-net_step-clause-stopped g c = turns_stopped c.from_residual.result _ _ _ _ _ _ _ _ _ _ _ _ _ _ c.loop-k-test.true c.loop-k.invariant.0 c.in_err-net_step.ensures.failed
