@@ -13,41 +13,37 @@ type Four = Net<Player, Player, Player, Player>;
 
 type Memory = Room<DbPlain, MemShelf, MemSource, MemSink>;
 
-const fn then(act: Act, left: &'static [u8], right: &'static [u8]) -> Move {
-    Move { act, left, right }
-}
-
 const ONE: [Move; 6] = [
-    then(Act::Print, b"", b"abc"),
-    then(Act::TakeRight, b"", b""),
-    then(Act::TakeRight, b"", b""),
-    then(Act::TakeRight, b"", b"j"),
-    then(Act::TakeRight, b"", b""),
-    then(Act::Print, b"", b""),
+    Move { act: Act::Print, left: b"", right: b"abc" },
+    Move { act: Act::TakeRight, left: b"", right: b"" },
+    Move { act: Act::TakeRight, left: b"", right: b"" },
+    Move { act: Act::TakeRight, left: b"", right: b"j" },
+    Move { act: Act::TakeRight, left: b"", right: b"" },
+    Move { act: Act::Print, left: b"", right: b"" },
 ];
 
 const TWO: [Move; 7] = [
-    then(Act::TakeLeft, b"k", b""),
-    then(Act::TakeLeft, b"", b""),
-    then(Act::TakeLeft, b"", b""),
-    then(Act::Print, b"", b"de"),
-    then(Act::TakeRight, b"lm", b""),
-    then(Act::TakeRight, b"", b""),
-    then(Act::TakeLeft, b"n", b""),
+    Move { act: Act::TakeLeft, left: b"k", right: b"" },
+    Move { act: Act::TakeLeft, left: b"", right: b"" },
+    Move { act: Act::TakeLeft, left: b"", right: b"" },
+    Move { act: Act::Print, left: b"", right: b"de" },
+    Move { act: Act::TakeRight, left: b"lm", right: b"" },
+    Move { act: Act::TakeRight, left: b"", right: b"" },
+    Move { act: Act::TakeLeft, left: b"n", right: b"" },
 ];
 
 const THREE: [Move; 5] = [
-    then(Act::TakeLeft, b"", b""),
-    then(Act::TakeLeft, b"", b""),
-    then(Act::Print, b"", b"fg"),
-    then(Act::TakeRight, b"o", b""),
-    then(Act::TakeRight, b"p", b""),
+    Move { act: Act::TakeLeft, left: b"", right: b"" },
+    Move { act: Act::TakeLeft, left: b"", right: b"" },
+    Move { act: Act::Print, left: b"", right: b"fg" },
+    Move { act: Act::TakeRight, left: b"o", right: b"" },
+    Move { act: Act::TakeRight, left: b"p", right: b"" },
 ];
 
 const FOUR: [Move; 3] = [
-    then(Act::TakeLeft, b"", b""),
-    then(Act::TakeLeft, b"", b""),
-    then(Act::Print, b"hi", b""),
+    Move { act: Act::TakeLeft, left: b"", right: b"" },
+    Move { act: Act::TakeLeft, left: b"", right: b"" },
+    Move { act: Act::Print, left: b"hi", right: b"" },
 ];
 
 /// What they print: each what it took up to there.

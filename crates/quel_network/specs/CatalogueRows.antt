@@ -152,10 +152,11 @@ all_tell db is = (
 
 -- ---- rows
 
--- the kinds of the attributes of `relation`, and of those of `attribute`
+-- the kinds of the attributes of `relation`
 abbrev relation_kinds : List Kind
 relation_kinds = attr_kinds relation_attrs
 
+-- the kinds of the attributes of `attribute`
 abbrev attribute_kinds : List Kind
 attribute_kinds = attr_kinds attribute_attrs
 

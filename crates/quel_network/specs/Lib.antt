@@ -16,6 +16,14 @@ pub mod CopyRefusals
 pub mod TreeRefusals
 pub mod SpellingLaws
 pub mod ShortLaws
+pub mod Orders
+pub mod Bounded
+pub mod TreeBounds
+pub mod Counting
+pub mod CountingLaws
+pub mod Work
+pub mod ReadingLaws
+pub mod WorkLaws
 pub mod Suiting
 pub mod NumberRange
 pub mod TextFacts

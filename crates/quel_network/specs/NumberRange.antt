@@ -1,7 +1,10 @@
 -- Operations on numbers of 64 bits give such numbers or none.
-use Rattle.std.specs.Prelude.{◌≡◌, ℕ, zero, suc, ◌*◌, ◌≤◌, ◌/◌, ℤ, pos, negsuc, ◌+ℤ◌, ◌-ℤ◌, ◌*ℤ◌, ◌≤ℤ◌, neg_ℤ, nat_abs, int_div, int_rem, FitsSigned, Bool, true, false, IsTrue, cond, List, [], ◌∷◌, length, Option, Some, None}
+use Rattle.std.specs.Prelude.{nat_lt, ◌≡◌, ℕ, zero, suc, ◌*◌, ◌≤◌, ◌/◌, ℤ, pos, negsuc, ◌+ℤ◌, ◌-ℤ◌, ◌*ℤ◌, ◌≤ℤ◌, neg_ℤ, nat_abs, int_div, int_rem, FitsSigned, Bool, true, false, IsTrue, cond, List, [], ◌∷◌, length, Option, Some, None}
 use Rattle.std.proofs.Common.{refl, w64, arith}
 use Rattle.std.proofs.Math.Nat.{div-le_of_le-mul}
+use Rattle.std.proofs.lemmas.Bool.{and_parts, and_from, le-ltb, ltb-true, ltb-false}
+use Rattle.std.specs.Ordering.{is_le}
+use Rattle.std.specs.declared.cmp.Ordering.TheVariants.{Less, Equal, Greater}
 use Rattle.std.proofs.lemmas.Int.{ints}
 use Rattle.std.specs.Int.Signed.{mag}
 use Rattle.calculus.specs.declared.operator.ArithOp.{ArithOp}
@@ -17,37 +20,51 @@ use Rattle.quel_network.specs.Suiting.{Suits, GivesBy}
 
 -- ---- what has 64 bits
 
+-- the order of two numbers says that the first is not greater
+abbrev not_greater : ℕ → ℕ → Bool
+not_greater m n = is_le (cond (nat_lt m n) Less (cond (nat_lt n m) Greater Equal))
+
+in_order : (less more : Bool) → more ≡ false → is_le (cond less Less (cond more Greater Equal)) ≡ true
+in_order true more h = refl
+in_order false false h = refl
+in_order false true h = absurd (cc h)
+
+ordered : (m n : ℕ) → m ≤ n → IsTrue (not_greater m n)
+ordered m n h = in_order (nat_lt m n) (nat_lt n m) (le-ltb n m h)
+
+at_most : (m n : ℕ) → IsTrue (not_greater m n) → m ≤ n
+at_most m n h = go (nat_lt m n) refl (nat_lt n m) refl h
+  where
+    go : (a : Bool) → nat_lt m n ≡ a → (b : Bool) → nat_lt n m ≡ b → is_le (cond a Less (cond b Greater Equal)) ≡ true → m ≤ n
+    go true e b f h = let less = ltb-true m n e in omega (arith, less)
+    go false e true f h = absurd (cc h)
+    go false e false f h = ltb-false n m f
+
 pub small_bits : (n : ℕ) → n ≤ 9223372036854775807 → IsTrue (has_64_bits (pos n))
-small_bits n h = grind (arith, h)
+small_bits n h = ordered n 9223372036854775807 h
 
 negative_bits : (n : ℕ) → n ≤ 9223372036854775807 → IsTrue (has_64_bits (negsuc n))
-negative_bits n h = grind (arith, h)
+negative_bits n h = and_from (not_greater n 9223372036854775807) true (ordered n 9223372036854775807 h) refl
 
-at_most : (n : ℕ) → IsTrue (has_64_bits (pos n)) → n ≤ 9223372036854775807
-at_most n h = grind (arith, h)
+not_above : (low high n : ℕ) → IsTrue (is_within (negsuc low) (pos n) (pos high)) → n ≤ high
+not_above low high n h = at_most n high h
 
-at_least : (n : ℕ) → IsTrue (has_64_bits (negsuc n)) → n ≤ 9223372036854775807
-at_least n h = grind (arith, h)
+not_below : (low high n : ℕ) → IsTrue (is_within (negsuc low) (negsuc n) (pos high)) → n ≤ low
+not_below low high n h = at_most n low (and_parts (not_greater n low) true h).0
 
 -- a number of 64 bits is one that eight bytes can say
 pub bits_fit : (z : ℤ) → IsTrue (has_64_bits z) → FitsSigned w64 z
-bits_fit (pos n) h = let few = at_most n h in record { sfits = omega (arith, few) }
-bits_fit (negsuc n) h = let few = at_least n h in record { sfits = omega (arith, few) }
+bits_fit (pos n) h = let few = not_above 9223372036854775807 9223372036854775807 n h in record { sfits = omega (arith, few) }
+bits_fit (negsuc n) h = let few = not_below 9223372036854775807 9223372036854775807 n h in record { sfits = omega (arith, few) }
 
 fits_bits : (z : ℤ) → FitsSigned w64 z → IsTrue (has_64_bits z)
 fits_bits (pos n) f = small_bits n (omega (arith, f.sfits))
 fits_bits (negsuc n) f = negative_bits n (omega (arith, f.sfits))
 
-not_above : (low high n : ℕ) → high ≤ 9223372036854775807 → IsTrue (is_within (negsuc low) (pos n) (pos high)) → n ≤ 9223372036854775807
-not_above low high n most h = grind (arith, most, h)
-
-not_below : (low high n : ℕ) → low ≤ 9223372036854775807 → IsTrue (is_within (negsuc low) (negsuc n) (pos high)) → n ≤ 9223372036854775807
-not_below low high n most h = grind (arith, most, h)
-
 -- so is one between bounds that have them
 pub within_bits : (low high : ℕ) → low ≤ 9223372036854775807 → high ≤ 9223372036854775807 → (z : ℤ) → IsTrue (is_within (negsuc low) z (pos high)) → IsTrue (has_64_bits z)
-within_bits low high least most (pos n) h = small_bits n (not_above low high n most h)
-within_bits low high least most (negsuc n) h = negative_bits n (not_below low high n least h)
+within_bits low high least most (pos n) h = let few = not_above low high n h in small_bits n (omega (arith, few, most))
+within_bits low high least most (negsuc n) h = let few = not_below low high n h in negative_bits n (omega (arith, few, least))
 
 -- ---- operations
 

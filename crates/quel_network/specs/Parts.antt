@@ -73,6 +73,7 @@ insert_short {X} cmp x (y ∷ ys) =
 
 -- ---- sets
 
+-- the row put in front of others, by its order to the first of them, where `more` is the rest with the row put in
 abbrev put_as : Ordering → Row → Row → List Row → List Row → List Row
 put_as Less row first rest more = row ∷ first ∷ rest
 put_as Equal row first rest more = first ∷ rest

@@ -1,8 +1,8 @@
 -- Constants, joined texts, names and what catalogues say are texts in the language's sense.
-use Rattle.std.specs.Prelude.{ℕ, ◌+◌, ◌≤◌, ◌<◌, ◌%◌, ◌^◌, ◌==◌, Bool, true, false, ◌&&◌, not, IsTrue, List, [], ◌∷◌, ◌++◌, length, nat_le, codes, decimal}
+use Rattle.std.specs.Prelude.{◌≡◌, ℕ, ◌+◌, ◌≤◌, ◌<◌, ◌%◌, ◌^◌, ◌==◌, Bool, true, false, ◌&&◌, not, IsTrue, List, [], ◌∷◌, ◌++◌, length, nat_le, codes, decimal}
 use Rattle.std.specs.List.{list_all}
-use Rattle.std.proofs.Common.{refl, ◌∙◌, rules, arith}
-use Rattle.std.proofs.lemmas.Bool.{and_parts, and_from, leb-true, le-leb}
+use Rattle.std.proofs.Common.{refl, subst, ◌∙◌, arith}
+use Rattle.std.proofs.lemmas.Bool.{and_parts, and_from, leb-true, le-leb, eqb-true, ne_eqb}
 use Rattle.std.proofs.lemmas.Fmt.{decimal_by_steps, length-decimal-le}
 use Rattle.std.proofs.lemmas.List.Folds.{list_all-append}
 use Rattle.calculus.specs.declared.mark.Mark.{Mark}
@@ -18,8 +18,10 @@ use Rattle.calculus.specs.IsDatabase.{is_kind}
 use Rattle.calculus.specs.Name.{is_name, is_name_byte, starts_name}
 use Rattle.calculus.specs.Structures.{spec_text}
 use Rattle.calculus.specs.Text.{is_text, is_blank, ends_without_blank, trimmed}
+use Rattle.calculus.proofs.Constants.{chars_short}
 use Rattle.calculus.proofs.Texts.{trimmed_text}
 use Rattle.quel_meaning.proofs.ConstantLengths.{constant_short}
+use Rattle.quel_meaning.proofs.NameChars.{name_is_chars}
 
 -- printable bytes, at most 255, that don't end in a blank
 pub text_from : (bs : List ℕ) → length bs ≤ 255 → IsTrue (list_all is_printable bs) → IsTrue (ends_without_blank bs) → IsTrue (is_text bs)
@@ -87,33 +89,34 @@ joined_is_text s t h k few =
 
 -- ---- names
 
--- a byte of a name is printable and no blank
-solid : (b : ℕ) → IsTrue (is_name_byte b) → IsTrue (is_printable b) × IsTrue (not (is_blank b))
-solid b h = (search (rules, h), search (rules, h))
+-- the byte is no blank
+abbrev no_blank : ℕ → Bool
+no_blank b = not (is_blank b)
 
-all_printable : (bs : List ℕ) → IsTrue (list_all is_name_byte bs) → IsTrue (list_all is_printable bs)
-all_printable [] h = refl
-all_printable (b ∷ bs) h =
-    let p = and_parts (is_name_byte b) (list_all is_name_byte bs) h in
-    and_from (is_printable b) (list_all is_printable bs) (solid b p.0).0 (all_printable bs p.1)
-
-ends_solid : (bs : List ℕ) → IsTrue (list_all is_name_byte bs) → IsTrue (ends_without_blank bs)
+ends_solid : (bs : List ℕ) → IsTrue (list_all no_blank bs) → IsTrue (ends_without_blank bs)
 ends_solid [] h = refl
-ends_solid (b ∷ []) h = (solid b (and_parts (is_name_byte b) true h).0).1
-ends_solid (b ∷ c ∷ bs) h = ends_solid (c ∷ bs) (and_parts (is_name_byte b) (list_all is_name_byte (c ∷ bs)) h).1
+ends_solid (b ∷ []) h = (and_parts (no_blank b) true h).0
+ends_solid (b ∷ c ∷ bs) h = ends_solid (c ∷ bs) (and_parts (no_blank b) (list_all no_blank (c ∷ bs)) h).1
 
--- bytes of names are a text, where they are not too many
-solid_text : (bs : List ℕ) → IsTrue (list_all is_name_byte bs) → length bs ≤ 255 → IsTrue (is_text bs)
-solid_text bs h few = text_from bs few (all_printable bs h) (ends_solid bs h)
+name_byte_solid : (b : ℕ) → IsTrue (is_name_byte b) → IsTrue (no_blank b)
+name_byte_solid b h = go (b == 32) refl
+  where
+    go : (c : Bool) → (b == 32) ≡ c → not c ≡ true
+    go true e = let blank : is_name_byte 32 ≡ true = subst (λ b. is_name_byte b ≡ true) (eqb-true b 32 e) h in absurd (cc blank)
+    go false e = refl
 
-name_short : (n : ℕ) → IsTrue (nat_le n 12) → n ≤ 255
-name_short n h = let few = leb-true n 12 h in omega (arith, few)
+name_bytes_solid : (bs : List ℕ) → IsTrue (list_all is_name_byte bs) → IsTrue (list_all no_blank bs)
+name_bytes_solid [] h = refl
+name_bytes_solid (b ∷ bs) h =
+    let parts = and_parts (is_name_byte b) (list_all is_name_byte bs) h in
+    and_from (no_blank b) (list_all no_blank bs) (name_byte_solid b parts.0) (name_bytes_solid bs parts.1)
+
+name_ends : (bs : List ℕ) → IsTrue (is_name bs) → IsTrue (ends_without_blank bs)
+unfolding is_name
+name_ends bs h = ends_solid bs (name_bytes_solid bs (and_parts (starts_name bs && nat_le (length bs) 12) (list_all is_name_byte bs) h).1)
 
 pub name_is_text : (bs : List ℕ) → IsTrue (is_name bs) → IsTrue (is_text bs)
-unfolding is_name
-name_is_text bs h =
-    let front = and_parts (starts_name bs && nat_le (length bs) 12) (list_all is_name_byte bs) h in
-    solid_text bs front.1 (name_short (length bs) (and_parts (starts_name bs) (nat_le (length bs) 12) front.0).1)
+name_is_text bs h = let chars = name_is_chars bs h in text_from bs (chars_short bs chars) (chars_printable bs chars) (name_ends bs h)
 
 -- ---- what catalogues say
 
@@ -125,23 +128,28 @@ spec_is_text Isam = refl
 spec_is_text View = refl
 spec_is_text Index = refl
 
-digit : (d : ℕ) → d < 10 → IsTrue (is_name_byte (48 + d))
-digit d h = search (rules, h)
+-- a test that each digit passes
+digits_pass : (p : ℕ → Bool) → ((d : ℕ) → d < 10 → IsTrue (p (48 + d))) → (n : ℕ) → n < 2 ^ 64 → IsTrue (list_all p (decimal n))
+digits_pass p f =
+    decimal_by_steps (λ n ds. IsTrue (list_all p ds)) (λ n h. and_from (p (48 + n)) true (f n h) refl)
+    (λ n ds h k. list_all-append p ds ((48 + n % 10) ∷ [])
+    ∙ and_from (list_all p ds) (p (48 + n % 10) && true) k (and_from (p (48 + n % 10)) true (f (n % 10) (omega arith)) refl))
 
-digits_solid : (n : ℕ) → n < 2 ^ 64 → IsTrue (list_all is_name_byte (decimal n))
-digits_solid =
-    decimal_by_steps (λ n ds. IsTrue (list_all is_name_byte ds)) (λ n h. and_from (is_name_byte (48 + n)) true (digit n h) refl)
-    (λ n ds h k. list_all-append is_name_byte ds ((48 + n % 10) ∷ [])
-    ∙ and_from (list_all is_name_byte ds) (is_name_byte (48 + n % 10) && true) k (and_from (is_name_byte (48 + n % 10)) true (digit (n % 10) (omega arith)) refl))
+digit_printable : (d : ℕ) → d < 10 → IsTrue (is_printable (48 + d))
+digit_printable d h = and_from (nat_le 32 (48 + d)) (nat_le (48 + d) 126) (le-leb 32 (48 + d) (omega arith)) (le-leb (48 + d) 126 (omega (arith, h)))
 
-width_short : (n : ℕ) → n < 2 ^ 8 → length (codes "c" ++ decimal n) ≤ 255
-width_short n h = let few : length (decimal n) ≤ 3 = length-decimal-le 3 n (search rules) (search rules) (search rules) in search (rules, few)
+digit_solid : (d : ℕ) → d < 10 → IsTrue (no_blank (48 + d))
+digit_solid d h = rw (ne_eqb (48 + d) 32 (λ e. omega (arith, e))) refl
 
-width_is_text : (n : ℕ) → n < 2 ^ 8 → IsTrue (is_text (codes "c" ++ decimal n))
-width_is_text n h = solid_text (codes "c" ++ decimal n) (digits_solid n (search rules)) (width_short n h)
+width_is_text : (n : ℕ) → n < 256 → IsTrue (is_text (codes "c" ++ decimal n))
+width_is_text n h =
+    let big : n < 18446744073709551616 = omega (arith, h) in
+    let small : n < 1000 = omega (arith, h) in
+    let few : length (decimal n) ≤ 3 = length-decimal-le 3 n (omega arith) small big in
+    text_from (codes "c" ++ decimal n) (omega (arith, few)) (digits_pass is_printable digit_printable n big) (ends_solid (codes "c" ++ decimal n) (digits_pass no_blank digit_solid n big))
 
-in_a_byte : (n : ℕ) → IsTrue (nat_le n 255) → n < 2 ^ 8
-in_a_byte n h = search (rules, h)
+in_a_byte : (n : ℕ) → IsTrue (nat_le n 255) → n < 256
+in_a_byte n h = let few = leb-true n 255 h in omega (arith, few)
 
 wide_is_text : IsTrue (is_text (format_text Wide))
 unfolding is_text is_chars
