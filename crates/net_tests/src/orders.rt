@@ -1,4 +1,6 @@
 // Four players print the same, whatever the order of their turns and the room in the pipes.
+ghost use Rattle.std.specs.Prelude.{◌≤◌, All, IsTrue};
+
 use crate::players::{Act, Move, Player};
 use calculus::Name;
 use fault_io::{MemShelf, MemSink, MemSource};
@@ -14,36 +16,120 @@ type Four = Net<Player, Player, Player, Player>;
 type Memory = Room<DbPlain, MemShelf, MemSource, MemSink>;
 
 const ONE: [Move; 6] = [
-    Move { act: Act::Print, left: b"", right: b"abc" },
-    Move { act: Act::TakeRight, left: b"", right: b"" },
-    Move { act: Act::TakeRight, left: b"", right: b"" },
-    Move { act: Act::TakeRight, left: b"", right: b"j" },
-    Move { act: Act::TakeRight, left: b"", right: b"" },
-    Move { act: Act::Print, left: b"", right: b"" },
+    Move {
+        act: Act::Print,
+        left: b"",
+        right: b"abc",
+    },
+    Move {
+        act: Act::TakeRight,
+        left: b"",
+        right: b"",
+    },
+    Move {
+        act: Act::TakeRight,
+        left: b"",
+        right: b"",
+    },
+    Move {
+        act: Act::TakeRight,
+        left: b"",
+        right: b"j",
+    },
+    Move {
+        act: Act::TakeRight,
+        left: b"",
+        right: b"",
+    },
+    Move {
+        act: Act::Print,
+        left: b"",
+        right: b"",
+    },
 ];
 
 const TWO: [Move; 7] = [
-    Move { act: Act::TakeLeft, left: b"k", right: b"" },
-    Move { act: Act::TakeLeft, left: b"", right: b"" },
-    Move { act: Act::TakeLeft, left: b"", right: b"" },
-    Move { act: Act::Print, left: b"", right: b"de" },
-    Move { act: Act::TakeRight, left: b"lm", right: b"" },
-    Move { act: Act::TakeRight, left: b"", right: b"" },
-    Move { act: Act::TakeLeft, left: b"n", right: b"" },
+    Move {
+        act: Act::TakeLeft,
+        left: b"k",
+        right: b"",
+    },
+    Move {
+        act: Act::TakeLeft,
+        left: b"",
+        right: b"",
+    },
+    Move {
+        act: Act::TakeLeft,
+        left: b"",
+        right: b"",
+    },
+    Move {
+        act: Act::Print,
+        left: b"",
+        right: b"de",
+    },
+    Move {
+        act: Act::TakeRight,
+        left: b"lm",
+        right: b"",
+    },
+    Move {
+        act: Act::TakeRight,
+        left: b"",
+        right: b"",
+    },
+    Move {
+        act: Act::TakeLeft,
+        left: b"n",
+        right: b"",
+    },
 ];
 
 const THREE: [Move; 5] = [
-    Move { act: Act::TakeLeft, left: b"", right: b"" },
-    Move { act: Act::TakeLeft, left: b"", right: b"" },
-    Move { act: Act::Print, left: b"", right: b"fg" },
-    Move { act: Act::TakeRight, left: b"o", right: b"" },
-    Move { act: Act::TakeRight, left: b"p", right: b"" },
+    Move {
+        act: Act::TakeLeft,
+        left: b"",
+        right: b"",
+    },
+    Move {
+        act: Act::TakeLeft,
+        left: b"",
+        right: b"",
+    },
+    Move {
+        act: Act::Print,
+        left: b"",
+        right: b"fg",
+    },
+    Move {
+        act: Act::TakeRight,
+        left: b"o",
+        right: b"",
+    },
+    Move {
+        act: Act::TakeRight,
+        left: b"p",
+        right: b"",
+    },
 ];
 
 const FOUR: [Move; 3] = [
-    Move { act: Act::TakeLeft, left: b"", right: b"" },
-    Move { act: Act::TakeLeft, left: b"", right: b"" },
-    Move { act: Act::Print, left: b"hi", right: b"" },
+    Move {
+        act: Act::TakeLeft,
+        left: b"",
+        right: b"",
+    },
+    Move {
+        act: Act::TakeLeft,
+        left: b"",
+        right: b"",
+    },
+    Move {
+        act: Act::Print,
+        left: b"hi",
+        right: b"",
+    },
 ];
 
 /// What they print: each what it took up to there.
@@ -67,7 +153,9 @@ fn players<R: Abort>(rt: &R, alloc: Global, capacity: usize) -> Four {
 
 /// An empty database, no files, no script, and a sink whose calls with these numbers fail.
 fn room<R: Abort>(rt: &R, alloc: Global, failing: &[u64]) -> Memory {
-    let dba = Name::of(alloc, b"ingres").expect(rt, "memory").expect(rt, "a name");
+    let dba = Name::of(alloc, b"ingres")
+        .expect(rt, "memory")
+        .expect(rt, "a name");
     let shelf = MemShelf::new(alloc, Vec::new(alloc), Vec::new(alloc)).expect(rt, "memory");
     Room {
         base: DbPlain::new(alloc, dba),
@@ -88,9 +176,57 @@ fn round<R: Abort>(rt: &R, alloc: Global, order: [u8; 4], times: usize) -> Vec<u
     turns
 }
 
+/// The number is that of a stage.
+fn is_stage(k: u8) -> bool
+    ensures { IsTrue result → (1 ≤ k) × (k ≤ 4) }
+{
+    1 <= k && k <= 4
+}
+
+/// Each number of the list is that of a stage.
+fn are_stages(turns: &[u8]) -> bool
+    ensures { IsTrue result → All (λ k. (1 ≤ k) × (k ≤ 4)) turns.now }
+{
+    turns.iter().all(|k| is_stage(*k))
+}
+
+/// What the turns of a list come to; none where a number of the list is no stage's.
+fn turned(
+    alloc: Global,
+    net: &mut Four,
+    room: &mut Memory,
+    turns: &[u8],
+) -> Option<Result<(), WorkFault>> {
+    if are_stages(turns) {
+        Some(net_turns(alloc, net, room, turns))
+    } else {
+        None
+    }
+}
+
+/// What a step of stage k comes to; none where there is no such stage.
+fn stepped(
+    alloc: Global,
+    net: &mut Four,
+    room: &mut Memory,
+    k: u8,
+) -> Option<Result<Moved, WorkFault>> {
+    if is_stage(k) {
+        Some(net_step(alloc, net, room, k))
+    } else {
+        None
+    }
+}
+
 /// Steps the players round by round until they have ended, at most a hundred times; whether they have,
 /// and printed what they are to.
-fn plays_right<R: Abort>(rt: &R, alloc: Global, order: [u8; 4], times: usize, capacity: usize) -> bool {
+fn plays_right<R: Abort>(
+    rt: &R,
+    alloc: Global,
+    order: [u8; 4],
+    times: usize,
+    capacity: usize,
+) -> bool {
     let mut net = players(rt, alloc, capacity);
     let mut room = room(rt, alloc, &[]);
     let turns = round(rt, alloc, order, times);
@@ -98,7 +234,7 @@ fn plays_right<R: Abort>(rt: &R, alloc: Global, order: [u8; 4], times: usize, ca
         if net_ended(&net) {
             break;
         }
-        if net_turns(alloc, &mut net, &mut room, &turns).is_err() {
+        if turned(alloc, &mut net, &mut room, &turns) != Some(Ok(())) {
             return false;
         }
     }
@@ -162,7 +298,7 @@ fn a_step_is_blocked_by_an_empty_and_by_a_full_pipe(rt: HostRuntime) {
     let mut net = players(&rt, rt.alloc(), 1);
     let mut room = room(&rt, rt.alloc(), &[]);
     for (k, moved) in STEPS {
-        assert!(rt; net_step(rt.alloc(), &mut net, &mut room, k) == Ok(moved));
+        assert!(rt; stepped(rt.alloc(), &mut net, &mut room, k) == Some(Ok(moved)));
         assert!(rt; !net_ended(&net));
     }
     drop(net);
@@ -181,7 +317,7 @@ fn a_sink_that_fails_ends_the_turns(rt: HostRuntime) {
         for _ in 0..60 {
             turns.extend_from_slice(&[1, 2, 3, 4]).expect(&rt, "memory");
         }
-        assert!(rt; net_turns(rt.alloc(), &mut net, &mut room, &turns) == Err(WorkFault::Sink));
+        assert!(rt; turned(rt.alloc(), &mut net, &mut room, &turns) == Some(Err(WorkFault::Sink)));
         assert!(rt; room.sink.bytes() == printed);
         drop(turns);
         drop(net);

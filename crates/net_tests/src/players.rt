@@ -1,8 +1,10 @@
 // Stages that play a written list: they take frames, give frames, and print what they took.
-ghost use Rattle.std.specs.Prelude.{◌≡◌, ◌∷◌, [], ◌<◌, length, IfOk, OnErr, OnOk};
+ghost use Rattle.std.specs.Prelude.{◌≡◌, IfOk, IsTrue};
+ghost use Rattle.frame_codec.specs.Frames.{is_lawful};
+ghost use Rattle.net_tests.specs.Playing.{frame_of};
 
 use am_traits::Base;
-use fault_io::{Shelf, Sink, SinkFault, Source, write_all};
+use fault_io::{Shelf, Sink, Source, write_all};
 use frame_codec::Frame;
 use memory::{List, OutOfMemory};
 use net_core::{Room, Stage, TakeFault, Want, WorkFault};
@@ -64,7 +66,10 @@ impl Player {
     }
 
     /// The move is made, and what it gives is to be given.
-    fn go_on(&mut self) {
+    fn go_on(&mut self)
+        ensures got { self.new.got.items ≡ self.old.got.items }
+        ensures number { self.new.number ≡ self.old.number }
+    {
         if let Some((first, rest)) = self.moves.split_first() {
             self.left = first.left;
             self.right = first.right;
@@ -74,7 +79,10 @@ impl Player {
 }
 
 /// The frame of a letter.
-fn frame_with(alloc: Global, letter: u8) -> Result<Frame, OutOfMemory> {
+fn frame_with(alloc: Global, letter: u8) -> Result<Frame, OutOfMemory>
+    ensures is { IfOk result (λ frame. frame ≡ frame_of letter) }
+    ensures form { IfOk result (λ frame. IsTrue (is_lawful frame)) }
+{
     let payload = [letter].to_vec(alloc)?;
     Ok(Frame {
         kind: 1,
