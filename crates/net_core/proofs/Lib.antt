@@ -1,1 +1,7 @@
-
+pub mod AtPipes
+pub mod AtWork
+pub mod Faulty
+pub mod Placing
+pub mod Lawful
+pub mod Outcomes
+pub mod Turning

@@ -1,5 +1,7 @@
 pub mod Told
 pub mod Wants
+pub mod Faults
 pub mod Causes
 pub mod Whole
 pub mod Pipes
+pub mod Steps

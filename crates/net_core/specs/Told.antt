@@ -48,6 +48,10 @@ told o = told_by o.database o.files o.script o.output
 abbrev pub FailedWork : Language quel_sorts → Mode quel_sorts → Outside → Outside → Type 0
 FailedWork L mode before after = (room : NetworkRoom quel_sorts) → told before ≡ Some room → (front : List ℕ) × Begins front (work_bytes L mode room) × (after.output ≡ Some (room.out ++ front))
 
+-- a database that is told is told again
+abbrev pub KeepsDatabase : Outside → Outside → Type 0
+KeepsDatabase before after = (db : Db) → before.database ≡ Some db → (later : Db) × (after.database ≡ Some later)
+
 -- a script that is told is told again, and what was read of it is what it has lost
 abbrev pub KeepsScript : ℕ → ℕ → Outside → Outside → Type 0
 KeepsScript heard heard' before after = (script : List ℕ) → before.script ≡ Some script → (rest : List ℕ) × (after.script ≡ Some rest) × (heard' + length rest ≡ heard + length script)

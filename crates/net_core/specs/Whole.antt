@@ -1,22 +1,30 @@
 -- The network of the program, as the network of the definitions.
-use Rattle.std.specs.Prelude.{◌≡◌, ◌+◌, ◌++◌, ◌∷◌, ℕ, List, Some, true, false, ⊤}
-use Rattle.std.specs.declared.option.Option.{Option}
+use Rattle.std.specs.Prelude.{◌≡◌, ◌⊎◌, ◌+◌, ◌++◌, [], ◌∷◌, ℕ, List, Some}
 use Rattle.frame_codec.specs.declared.frame.Frame.{Frame}
 use Rattle.net_core.specs.Causes.{MayNotTake, MayNotWork}
 use Rattle.net_core.specs.declared.net.Net.{Net}
 use Rattle.net_core.specs.Told.{Outside, told}
+use Rattle.net_core.specs.Wants.{HasEnded}
 use Rattle.network_meaning.specs.Calls.{RunsTurns, Seen, Shape, join}
 use Rattle.network_meaning.specs.Failing.{Begins}
 use Rattle.network_meaning.specs.Language.{Language}
 use Rattle.network_meaning.specs.Lawful.{comes}
-use Rattle.network_meaning.specs.LocalSteps.{Mode, Want.work, Room as NetworkRoom}
+use Rattle.network_meaning.specs.LocalSteps.{Mode.reading, Mode.idle2, Mode.idle3, Mode.idle4, Want.work, Room as NetworkRoom}
 use Rattle.network_meaning.specs.MessageNetwork.{StageNumber, StageNumber.first, StageNumber.second, StageNumber.third, StageNumber.fourth}
-use Rattle.network_meaning.specs.Network.{LocalState, Orderly, between, bytes_in_all, want}
-use Rattle.quel_network.specs.Sorts.{User, quel_sorts}
+use Rattle.network_meaning.specs.Network.{LocalState, Orderly, between, bytes_in_all, quiet_at, want}
+use Rattle.quel_network.specs.Sorts.{User, first_monitor, quel_sorts}
 
 -- the stages and the pipes, by what the stages are at
 abbrev pub shape : {A1 A2 A3 A4 : Type 0} → (A1 → LocalState quel_sorts) → (A2 → LocalState quel_sorts) → (A3 → LocalState quel_sorts) → (A4 → LocalState quel_sorts) → Net A1 A2 A3 A4 → Shape quel_sorts
 shape one two three four n = record { one = one n.one; two = two n.two; three = three n.three; four = four n.four; a = n.a.items; b = n.b.items; c = n.c.items; d = n.d.items; e = n.e.items; f = n.f.items }
+
+-- the stages and the pipes at the start: the monitor reads, no variable ranges over anything, and nothing is on its way
+abbrev pub start_shape : Shape quel_sorts
+start_shape = record { one = quiet_at (reading first_monitor); two = quiet_at (idle2 []); three = quiet_at idle3; four = quiet_at idle4; a = []; b = []; c = []; d = []; e = []; f = [] }
+
+-- all four stages have ended
+abbrev pub HaveEnded : Shape quel_sorts → Type 0
+HaveEnded s = HasEnded s.one × HasEnded s.two × HasEnded s.three × HasEnded s.four
 
 -- the stages and the pipes, and the room where it is told
 abbrev pub seen : Shape quel_sorts → Outside → Seen quel_sorts
@@ -55,9 +63,11 @@ WroteFront L old after = (r : NetworkRoom quel_sorts) → old.told ≡ Some r �
 abbrev pub IsDisorderly : Language quel_sorts → Seen quel_sorts → Type 0
 IsDisorderly L s = (r : NetworkRoom quel_sorts) → s.told ≡ Some r → Orderly L (join s.shape r) → ⊥
 
--- what comes to stage k may not be taken, or what it is to work on isn't fit
+-- a frame comes to stage k that it may not take, or it is to work on what isn't fit
 abbrev pub MayNotStep : Language quel_sorts → StageNumber → Shape quel_sorts → Outside → Type 0
-MayNotStep L k s o = ((r : NetworkRoom quel_sorts) (frame : Frame) → comes (between (join s r) k) ≡ Some frame → MayNotTake L (state_at s k) frame) × (want (state_at s k) ≡ work → MayNotWork L (state_at s k).mode o)
+MayNotStep L k s o =
+    ((frame : Frame) × ((r : NetworkRoom quel_sorts) → comes (between (join s r) k) ≡ Some frame) × MayNotTake L (state_at s k) frame)
+    ⊎ ((want (state_at s k) ≡ work) × MayNotWork L (state_at s k).mode o)
 
 -- the steps of a list were made up to one that failed, in front of which the network was so
 pub record StopsAt (L : Language quel_sorts) (capacity : ℕ) (turns : List ℕ) (old : Seen quel_sorts) (after : Outside) : Type 0 where

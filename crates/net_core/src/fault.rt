@@ -1,6 +1,12 @@
 //! Why a stage couldn't take a frame, or work.
 
+ghost use Rattle.std.specs.Prelude.{◌≡◌};
+ghost use Rattle.net_core.specs.Faults.{of_taking};
+ghost use Rattle.net_core.specs.declared.fault.TakeFault.TheVariants.{OutOfMemory as no_memory_to_take};
+ghost use Rattle.net_core.specs.declared.fault.WorkFault.TheVariants.{OutOfMemory as no_memory_to_work};
+
 use memory::OutOfMemory;
+use std::alloc::AllocError;
 use thiserror::Error;
 
 /// Why a frame was not taken. The stage is as it was.
@@ -49,18 +55,32 @@ pub enum WorkFault {
 }
 
 impl From<OutOfMemory> for TakeFault {
+    ghost from_gives = { λ _ fault. fault ≡ no_memory_to_take };
+
     fn from(_: OutOfMemory) -> TakeFault {
         TakeFault::OutOfMemory
     }
 }
 
 impl From<OutOfMemory> for WorkFault {
+    ghost from_gives = { λ _ fault. fault ≡ no_memory_to_work };
+
     fn from(_: OutOfMemory) -> WorkFault {
         WorkFault::OutOfMemory
     }
 }
 
+impl From<AllocError> for WorkFault {
+    ghost from_gives = { λ _ fault. fault ≡ no_memory_to_work };
+
+    fn from(_: AllocError) -> WorkFault {
+        WorkFault::OutOfMemory
+    }
+}
+
 impl From<TakeFault> for WorkFault {
+    ghost from_gives = { λ taking fault. fault ≡ of_taking taking };
+
     fn from(fault: TakeFault) -> WorkFault {
         match fault {
             TakeFault::Unlawful => WorkFault::Unlawful,

@@ -4,12 +4,12 @@ ghost use Rattle.std.specs.Prelude.{◌≡◌, ◌≤◌, ◌↔◌, [], IfOk, I
 ghost use Rattle.network_meaning.specs.LocalSteps.{Mode.reading, Mode.idle2, Mode.idle3, Mode.idle4};
 ghost use Rattle.network_meaning.specs.Network.{quiet_at};
 ghost use Rattle.net_core.specs.Wants.{HasEnded};
-ghost use Rattle.net_core.specs.Whole.{shape};
+ghost use Rattle.net_core.specs.Whole.{HaveEnded, shape, start_shape};
 ghost use Rattle.quel_network.specs.Sorts.{User, first_monitor};
 
 use crate::stage::{Stage, Want};
 use frame_codec::Frame;
-use memory::OutOfMemory;
+use memory::{OutOfMemory, both};
 use std::alloc::Global;
 use std::collections::VecDeque;
 
@@ -22,6 +22,7 @@ use std::collections::VecDeque;
 ///            <---         <---            <---
 ///             F            E              D
 /// ```
+#[derive(Drop)]
 pub struct Net<A1, A2, A3, A4> {
     /// The monitor.
     pub one: A1,
@@ -47,7 +48,7 @@ pub struct Net<A1, A2, A3, A4> {
     pub capacity: usize,
 }
 
-impl<A1: Stage, A2: Stage, A3: Stage, A4: Stage> Net<A1, A2, A3, A4> {
+impl<A1: Stage + Drop, A2: Stage + Drop, A3: Stage + Drop, A4: Stage + Drop> Net<A1, A2, A3, A4> {
     /// The four stages at the start, with empty pipes. The room for the frames is taken at once.
     pub fn new(
         alloc: Global,
@@ -73,20 +74,53 @@ impl<A1: Stage, A2: Stage, A3: Stage, A4: Stage> Net<A1, A2, A3, A4> {
         ensures capacity { IfOk result (λ net. net.capacity ≡ capacity) }
         ensures start { IfOk result (λ net. shape A1.state A2.state A3.state A4.state net ≡ start_shape) }
     {
+        let (right, left) = both(three_pipes(alloc, capacity), three_pipes(alloc, capacity))?;
+        let Pipes {
+            first: a,
+            second: b,
+            third: c,
+        } = right;
+        let Pipes {
+            first: d,
+            second: e,
+            third: f,
+        } = left;
         Ok(Net {
             one,
             two,
             three,
             four,
-            a: VecDeque::with_capacity(alloc, capacity)?,
-            b: VecDeque::with_capacity(alloc, capacity)?,
-            c: VecDeque::with_capacity(alloc, capacity)?,
-            d: VecDeque::with_capacity(alloc, capacity)?,
-            e: VecDeque::with_capacity(alloc, capacity)?,
-            f: VecDeque::with_capacity(alloc, capacity)?,
+            a,
+            b,
+            c,
+            d,
+            e,
+            f,
             capacity,
         })
     }
+}
+
+/// Three pipes.
+#[derive(Drop)]
+struct Pipes {
+    first: VecDeque<Frame>,
+    second: VecDeque<Frame>,
+    third: VecDeque<Frame>,
+}
+
+/// Three empty pipes, with room for so many frames each.
+fn three_pipes(alloc: Global, capacity: usize) -> Result<Pipes, OutOfMemory>
+    ensures { IfOk result (λ pipes. (pipes.first.items ≡ []) × (pipes.second.items ≡ []) × (pipes.third.items ≡ [])) }
+{
+    let first = VecDeque::with_capacity(alloc, capacity)?;
+    let second = VecDeque::with_capacity(alloc, capacity)?;
+    let third = VecDeque::with_capacity(alloc, capacity)?;
+    Ok(Pipes {
+        first,
+        second,
+        third,
+    })
 }
 
 /// Whether a stage has ended, with nothing to give.

@@ -5,7 +5,7 @@ ghost use Rattle.frame_codec.specs.Frames.{is_lawful};
 ghost use Rattle.network_meaning.specs.Calls.{Given, Taken, WorkDone};
 ghost use Rattle.network_meaning.specs.Network.{LocalState, want};
 ghost use Rattle.net_core.specs.Causes.{IsCaused, MayNotTake, MayNotWork};
-ghost use Rattle.net_core.specs.Told.{FailedWork, KeepsScript, Later, outside, told};
+ghost use Rattle.net_core.specs.Told.{FailedWork, KeepsDatabase, KeepsScript, Later, outside, told};
 ghost use Rattle.net_core.specs.Wants.{IsToGive, IsToTake, IsToWork, wish};
 ghost use Rattle.quel_network.specs.Quel.{quel};
 ghost use Rattle.quel_network.specs.Sorts.{User, quel_sorts};
@@ -99,6 +99,9 @@ pub trait Stage {
             (outside B.database B.faults H.files H.faults S.left S.faults K.written K.faults K.stalls room.new)) }
         ensures unlawful { (user : User) → serves self.old user → IsErrOf result WorkFault.Unlawful → MayNotWork (quel user) (state self.old).mode
             (outside B.database B.faults H.files H.faults S.left S.faults K.written K.faults K.stalls room.old) }
+        ensures database { OnOk result (KeepsDatabase
+            (outside B.database B.faults H.files H.faults S.left S.faults K.written K.faults K.stalls room.old)
+            (outside B.database B.faults H.files H.faults S.left S.faults K.written K.faults K.stalls room.new)) }
         ensures later { Later
             (outside B.database B.faults H.files H.faults S.left S.faults K.written K.faults K.stalls room.old)
             (outside B.database B.faults H.files H.faults S.left S.faults K.written K.faults K.stalls room.new) }

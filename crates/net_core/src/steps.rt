@@ -7,20 +7,22 @@ ghost use Rattle.network_meaning.specs.MessageNetwork.{StageNumber.first, StageN
 ghost use Rattle.network_meaning.specs.Network.{is_stuck, want};
 ghost use Rattle.network_meaning.specs.Statements.{FinishesInOrder};
 ghost use Rattle.net_core.specs.Causes.{IsCaused};
-ghost use Rattle.net_core.specs.Told.{KeepsScript, Later, outside};
+ghost use Rattle.net_core.specs.Steps.{StepDone};
+ghost use Rattle.net_core.specs.Told.{KeepsDatabase, KeepsScript, Later, outside};
 ghost use Rattle.net_core.specs.Wants.{was_blocked};
 ghost use Rattle.net_core.specs.Whole.{AllServe, AreNumbered, IsDisorderly, MayNotStep, WroteFront, heard_by, seen, shape, state_at};
 ghost use Rattle.quel_network.specs.Quel.{quel};
 ghost use Rattle.quel_network.specs.Sorts.{User, quel_sorts};
 
 use crate::fault::WorkFault;
-use crate::moving::{give_to, take_from};
+use crate::moving::step_stage;
 use crate::net::Net;
 use crate::room::Room;
-use crate::stage::{Stage, Want};
+use crate::stage::Stage;
 use am_traits::Base;
 use fault_io::{Shelf, Sink, Source};
 use std::alloc::Global;
+use std::collections::VecDeque;
 
 /// What a step came to.
 #[derive(Clone, Copy, Debug, PartialEq, Eq)]
@@ -61,6 +63,9 @@ pub fn net_step<A1: Stage, A2: Stage, A3: Stage, A4: Stage, B: Base, H: Shelf, S
     ensures cause { IsCaused (heard_by A1.heard A2.heard A3.heard A4.heard net.old)
         (outside B.database B.faults H.files H.faults S.left S.faults K.written K.faults K.stalls room.old)
         (outside B.database B.faults H.files H.faults S.left S.faults K.written K.faults K.stalls room.new) result }
+    ensures database { OnOk result (KeepsDatabase
+        (outside B.database B.faults H.files H.faults S.left S.faults K.written K.faults K.stalls room.old)
+        (outside B.database B.faults H.files H.faults S.left S.faults K.written K.faults K.stalls room.new)) }
     ensures later { Later
         (outside B.database B.faults H.files H.faults S.left S.faults K.written K.faults K.stalls room.old)
         (outside B.database B.faults H.files H.faults S.left S.faults K.written K.faults K.stalls room.new) }
@@ -79,6 +84,26 @@ pub fn net_step<A1: Stage, A2: Stage, A3: Stage, A4: Stage, B: Base, H: Shelf, S
     ensures lawful { (user : User) → AllServe A1.serves A2.serves A3.serves A4.serves net.old user → IsErrOf result WorkFault.Unlawful → IsDisorderly (quel user)
         (seen (shape A1.state A2.state A3.state A4.state net.old) (outside B.database B.faults H.files H.faults S.left S.faults K.written K.faults K.stalls room.old)) }
 {
+    step_of(alloc, net, room, k)
+}
+
+/// Stage k does what it wants next.
+fn step_of<A1: Stage, A2: Stage, A3: Stage, A4: Stage, B: Base, H: Shelf, S: Source, K: Sink>(
+    alloc: Global,
+    net: &mut Net<A1, A2, A3, A4>,
+    room: &mut Room<B, H, S, K>,
+    k: u8,
+) -> Result<Moved, WorkFault>
+    requires low { 1 ≤ k }
+    requires high { k ≤ 4 }
+    ensures done { StepDone net.old.capacity (stage_number k) (shape A1.state A2.state A3.state A4.state net.old) (shape A1.state A2.state A3.state A4.state net.new)
+        (outside B.database B.faults H.files H.faults S.left S.faults K.written K.faults K.stalls room.old)
+        (outside B.database B.faults H.files H.faults S.left S.faults K.written K.faults K.stalls room.new)
+        (heard_by A1.heard A2.heard A3.heard A4.heard net.old) (heard_by A1.heard A2.heard A3.heard A4.heard net.new)
+        (AllServe A1.serves A2.serves A3.serves A4.serves net.old) (AllServe A1.serves A2.serves A3.serves A4.serves net.new)
+        (AreNumbered A1.place A2.place A3.place A4.place net.old) (AreNumbered A1.place A2.place A3.place A4.place net.new) result }
+    ensures capacity { net.new.capacity ≡ net.old.capacity }
+{
     match k {
         1 => step_first(alloc, net, room),
         2 => step_second(alloc, net, room),
@@ -87,47 +112,33 @@ pub fn net_step<A1: Stage, A2: Stage, A3: Stage, A4: Stage, B: Base, H: Shelf, S
     }
 }
 
-/// The monitor does what it wants next.
+/// The monitor does what it wants next. To its left it has pipes that are empty and hold nothing.
 fn step_first<A1: Stage, A2: Stage, A3: Stage, A4: Stage, B: Base, H: Shelf, S: Source, K: Sink>(
     alloc: Global,
     net: &mut Net<A1, A2, A3, A4>,
     room: &mut Room<B, H, S, K>,
 ) -> Result<Moved, WorkFault>
-    ensures blocked { (r : NetworkRoom quel_sorts) → IfOk result (λ moved. is_stuck net.old.capacity first (join (shape A1.state A2.state A3.state A4.state net.old) r) ≡ was_blocked moved) }
-    ensures steps { (user : User) → AllServe A1.serves A2.serves A3.serves A4.serves net.old user → IfOk result (λ moved. Moves (quel user) net.old.capacity first (was_blocked moved)
-        (seen (shape A1.state A2.state A3.state A4.state net.old) (outside B.database B.faults H.files H.faults S.left S.faults K.written K.faults K.stalls room.old))
-        (seen (shape A1.state A2.state A3.state A4.state net.new) (outside B.database B.faults H.files H.faults S.left S.faults K.written K.faults K.stalls room.new))) }
-    ensures failed { (user : User) → AllServe A1.serves A2.serves A3.serves A4.serves net.old user → OnErr result (WroteFront (quel user)
-        (seen (shape A1.state A2.state A3.state A4.state net.old) (outside B.database B.faults H.files H.faults S.left S.faults K.written K.faults K.stalls room.old))
-        (outside B.database B.faults H.files H.faults S.left S.faults K.written K.faults K.stalls room.new)) }
-    ensures unlawful { (user : User) → AllServe A1.serves A2.serves A3.serves A4.serves net.old user → IsErrOf result WorkFault.Unlawful → MayNotStep (quel user) first (shape A1.state A2.state A3.state A4.state net.old)
-        (outside B.database B.faults H.files H.faults S.left S.faults K.written K.faults K.stalls room.old) }
-    ensures untouched { (want (state_at (shape A1.state A2.state A3.state A4.state net.old) first) ≡ work → ⊥) →
-        outside B.database B.faults H.files H.faults S.left S.faults K.written K.faults K.stalls room.new ≡ outside B.database B.faults H.files H.faults S.left S.faults K.written K.faults K.stalls room.old }
-    ensures cause { IsCaused (heard_by A1.heard A2.heard A3.heard A4.heard net.old)
+    ensures done { StepDone net.old.capacity first (shape A1.state A2.state A3.state A4.state net.old) (shape A1.state A2.state A3.state A4.state net.new)
         (outside B.database B.faults H.files H.faults S.left S.faults K.written K.faults K.stalls room.old)
-        (outside B.database B.faults H.files H.faults S.left S.faults K.written K.faults K.stalls room.new) result }
-    ensures later { Later
-        (outside B.database B.faults H.files H.faults S.left S.faults K.written K.faults K.stalls room.old)
-        (outside B.database B.faults H.files H.faults S.left S.faults K.written K.faults K.stalls room.new) }
-    ensures heard { KeepsScript (heard_by A1.heard A2.heard A3.heard A4.heard net.old) (heard_by A1.heard A2.heard A3.heard A4.heard net.new)
-        (outside B.database B.faults H.files H.faults S.left S.faults K.written K.faults K.stalls room.old)
-        (outside B.database B.faults H.files H.faults S.left S.faults K.written K.faults K.stalls room.new) }
-    ensures serve { (user : User) → AllServe A1.serves A2.serves A3.serves A4.serves net.old user → AllServe A1.serves A2.serves A3.serves A4.serves net.new user }
-    ensures numbers { AreNumbered A1.place A2.place A3.place A4.place net.old → AreNumbered A1.place A2.place A3.place A4.place net.new }
+        (outside B.database B.faults H.files H.faults S.left S.faults K.written K.faults K.stalls room.new)
+        (heard_by A1.heard A2.heard A3.heard A4.heard net.old) (heard_by A1.heard A2.heard A3.heard A4.heard net.new)
+        (AllServe A1.serves A2.serves A3.serves A4.serves net.old) (AllServe A1.serves A2.serves A3.serves A4.serves net.new)
+        (AreNumbered A1.place A2.place A3.place A4.place net.old) (AreNumbered A1.place A2.place A3.place A4.place net.new) result }
     ensures capacity { net.new.capacity ≡ net.old.capacity }
 {
-    match net.one.want() {
-        Want::TakeRight => take_from(alloc, &mut net.one, &mut net.f),
-        Want::GiveRight => give_to(alloc, &mut net.one, &mut net.a, net.capacity),
-        Want::Work => {
-            net.one.work(alloc, room)?;
-            Ok(Moved::Stepped)
-        }
-        Want::TakeLeft => Ok(Moved::Blocked),
-        Want::GiveLeft => Ok(Moved::Blocked),
-        Want::Ended => Ok(Moved::Blocked),
-    }
+    let mut left_in = VecDeque::new(alloc);
+    let mut left_out = VecDeque::new(alloc);
+    step_stage(
+        alloc,
+        &mut net.one,
+        &mut left_in,
+        &mut left_out,
+        0,
+        &mut net.a,
+        &mut net.f,
+        net.capacity,
+        room,
+    )
 }
 
 /// The parser does what it wants next.
@@ -136,41 +147,25 @@ fn step_second<A1: Stage, A2: Stage, A3: Stage, A4: Stage, B: Base, H: Shelf, S:
     net: &mut Net<A1, A2, A3, A4>,
     room: &mut Room<B, H, S, K>,
 ) -> Result<Moved, WorkFault>
-    ensures blocked { (r : NetworkRoom quel_sorts) → IfOk result (λ moved. is_stuck net.old.capacity second (join (shape A1.state A2.state A3.state A4.state net.old) r) ≡ was_blocked moved) }
-    ensures steps { (user : User) → AllServe A1.serves A2.serves A3.serves A4.serves net.old user → IfOk result (λ moved. Moves (quel user) net.old.capacity second (was_blocked moved)
-        (seen (shape A1.state A2.state A3.state A4.state net.old) (outside B.database B.faults H.files H.faults S.left S.faults K.written K.faults K.stalls room.old))
-        (seen (shape A1.state A2.state A3.state A4.state net.new) (outside B.database B.faults H.files H.faults S.left S.faults K.written K.faults K.stalls room.new))) }
-    ensures failed { (user : User) → AllServe A1.serves A2.serves A3.serves A4.serves net.old user → OnErr result (WroteFront (quel user)
-        (seen (shape A1.state A2.state A3.state A4.state net.old) (outside B.database B.faults H.files H.faults S.left S.faults K.written K.faults K.stalls room.old))
-        (outside B.database B.faults H.files H.faults S.left S.faults K.written K.faults K.stalls room.new)) }
-    ensures unlawful { (user : User) → AllServe A1.serves A2.serves A3.serves A4.serves net.old user → IsErrOf result WorkFault.Unlawful → MayNotStep (quel user) second (shape A1.state A2.state A3.state A4.state net.old)
-        (outside B.database B.faults H.files H.faults S.left S.faults K.written K.faults K.stalls room.old) }
-    ensures untouched { (want (state_at (shape A1.state A2.state A3.state A4.state net.old) second) ≡ work → ⊥) →
-        outside B.database B.faults H.files H.faults S.left S.faults K.written K.faults K.stalls room.new ≡ outside B.database B.faults H.files H.faults S.left S.faults K.written K.faults K.stalls room.old }
-    ensures cause { IsCaused (heard_by A1.heard A2.heard A3.heard A4.heard net.old)
+    ensures done { StepDone net.old.capacity second (shape A1.state A2.state A3.state A4.state net.old) (shape A1.state A2.state A3.state A4.state net.new)
         (outside B.database B.faults H.files H.faults S.left S.faults K.written K.faults K.stalls room.old)
-        (outside B.database B.faults H.files H.faults S.left S.faults K.written K.faults K.stalls room.new) result }
-    ensures later { Later
-        (outside B.database B.faults H.files H.faults S.left S.faults K.written K.faults K.stalls room.old)
-        (outside B.database B.faults H.files H.faults S.left S.faults K.written K.faults K.stalls room.new) }
-    ensures heard { KeepsScript (heard_by A1.heard A2.heard A3.heard A4.heard net.old) (heard_by A1.heard A2.heard A3.heard A4.heard net.new)
-        (outside B.database B.faults H.files H.faults S.left S.faults K.written K.faults K.stalls room.old)
-        (outside B.database B.faults H.files H.faults S.left S.faults K.written K.faults K.stalls room.new) }
-    ensures serve { (user : User) → AllServe A1.serves A2.serves A3.serves A4.serves net.old user → AllServe A1.serves A2.serves A3.serves A4.serves net.new user }
-    ensures numbers { AreNumbered A1.place A2.place A3.place A4.place net.old → AreNumbered A1.place A2.place A3.place A4.place net.new }
+        (outside B.database B.faults H.files H.faults S.left S.faults K.written K.faults K.stalls room.new)
+        (heard_by A1.heard A2.heard A3.heard A4.heard net.old) (heard_by A1.heard A2.heard A3.heard A4.heard net.new)
+        (AllServe A1.serves A2.serves A3.serves A4.serves net.old) (AllServe A1.serves A2.serves A3.serves A4.serves net.new)
+        (AreNumbered A1.place A2.place A3.place A4.place net.old) (AreNumbered A1.place A2.place A3.place A4.place net.new) result }
     ensures capacity { net.new.capacity ≡ net.old.capacity }
 {
-    match net.two.want() {
-        Want::TakeLeft => take_from(alloc, &mut net.two, &mut net.a),
-        Want::GiveLeft => give_to(alloc, &mut net.two, &mut net.f, net.capacity),
-        Want::TakeRight => take_from(alloc, &mut net.two, &mut net.e),
-        Want::GiveRight => give_to(alloc, &mut net.two, &mut net.b, net.capacity),
-        Want::Work => {
-            net.two.work(alloc, room)?;
-            Ok(Moved::Stepped)
-        }
-        Want::Ended => Ok(Moved::Blocked),
-    }
+    step_stage(
+        alloc,
+        &mut net.two,
+        &mut net.a,
+        &mut net.f,
+        net.capacity,
+        &mut net.b,
+        &mut net.e,
+        net.capacity,
+        room,
+    )
 }
 
 /// The query processor does what it wants next.
@@ -179,82 +174,52 @@ fn step_third<A1: Stage, A2: Stage, A3: Stage, A4: Stage, B: Base, H: Shelf, S: 
     net: &mut Net<A1, A2, A3, A4>,
     room: &mut Room<B, H, S, K>,
 ) -> Result<Moved, WorkFault>
-    ensures blocked { (r : NetworkRoom quel_sorts) → IfOk result (λ moved. is_stuck net.old.capacity third (join (shape A1.state A2.state A3.state A4.state net.old) r) ≡ was_blocked moved) }
-    ensures steps { (user : User) → AllServe A1.serves A2.serves A3.serves A4.serves net.old user → IfOk result (λ moved. Moves (quel user) net.old.capacity third (was_blocked moved)
-        (seen (shape A1.state A2.state A3.state A4.state net.old) (outside B.database B.faults H.files H.faults S.left S.faults K.written K.faults K.stalls room.old))
-        (seen (shape A1.state A2.state A3.state A4.state net.new) (outside B.database B.faults H.files H.faults S.left S.faults K.written K.faults K.stalls room.new))) }
-    ensures failed { (user : User) → AllServe A1.serves A2.serves A3.serves A4.serves net.old user → OnErr result (WroteFront (quel user)
-        (seen (shape A1.state A2.state A3.state A4.state net.old) (outside B.database B.faults H.files H.faults S.left S.faults K.written K.faults K.stalls room.old))
-        (outside B.database B.faults H.files H.faults S.left S.faults K.written K.faults K.stalls room.new)) }
-    ensures unlawful { (user : User) → AllServe A1.serves A2.serves A3.serves A4.serves net.old user → IsErrOf result WorkFault.Unlawful → MayNotStep (quel user) third (shape A1.state A2.state A3.state A4.state net.old)
-        (outside B.database B.faults H.files H.faults S.left S.faults K.written K.faults K.stalls room.old) }
-    ensures untouched { (want (state_at (shape A1.state A2.state A3.state A4.state net.old) third) ≡ work → ⊥) →
-        outside B.database B.faults H.files H.faults S.left S.faults K.written K.faults K.stalls room.new ≡ outside B.database B.faults H.files H.faults S.left S.faults K.written K.faults K.stalls room.old }
-    ensures cause { IsCaused (heard_by A1.heard A2.heard A3.heard A4.heard net.old)
+    ensures done { StepDone net.old.capacity third (shape A1.state A2.state A3.state A4.state net.old) (shape A1.state A2.state A3.state A4.state net.new)
         (outside B.database B.faults H.files H.faults S.left S.faults K.written K.faults K.stalls room.old)
-        (outside B.database B.faults H.files H.faults S.left S.faults K.written K.faults K.stalls room.new) result }
-    ensures later { Later
-        (outside B.database B.faults H.files H.faults S.left S.faults K.written K.faults K.stalls room.old)
-        (outside B.database B.faults H.files H.faults S.left S.faults K.written K.faults K.stalls room.new) }
-    ensures heard { KeepsScript (heard_by A1.heard A2.heard A3.heard A4.heard net.old) (heard_by A1.heard A2.heard A3.heard A4.heard net.new)
-        (outside B.database B.faults H.files H.faults S.left S.faults K.written K.faults K.stalls room.old)
-        (outside B.database B.faults H.files H.faults S.left S.faults K.written K.faults K.stalls room.new) }
-    ensures serve { (user : User) → AllServe A1.serves A2.serves A3.serves A4.serves net.old user → AllServe A1.serves A2.serves A3.serves A4.serves net.new user }
-    ensures numbers { AreNumbered A1.place A2.place A3.place A4.place net.old → AreNumbered A1.place A2.place A3.place A4.place net.new }
+        (outside B.database B.faults H.files H.faults S.left S.faults K.written K.faults K.stalls room.new)
+        (heard_by A1.heard A2.heard A3.heard A4.heard net.old) (heard_by A1.heard A2.heard A3.heard A4.heard net.new)
+        (AllServe A1.serves A2.serves A3.serves A4.serves net.old) (AllServe A1.serves A2.serves A3.serves A4.serves net.new)
+        (AreNumbered A1.place A2.place A3.place A4.place net.old) (AreNumbered A1.place A2.place A3.place A4.place net.new) result }
     ensures capacity { net.new.capacity ≡ net.old.capacity }
 {
-    match net.three.want() {
-        Want::TakeLeft => take_from(alloc, &mut net.three, &mut net.b),
-        Want::GiveLeft => give_to(alloc, &mut net.three, &mut net.e, net.capacity),
-        Want::TakeRight => take_from(alloc, &mut net.three, &mut net.d),
-        Want::GiveRight => give_to(alloc, &mut net.three, &mut net.c, net.capacity),
-        Want::Work => {
-            net.three.work(alloc, room)?;
-            Ok(Moved::Stepped)
-        }
-        Want::Ended => Ok(Moved::Blocked),
-    }
+    step_stage(
+        alloc,
+        &mut net.three,
+        &mut net.b,
+        &mut net.e,
+        net.capacity,
+        &mut net.c,
+        &mut net.d,
+        net.capacity,
+        room,
+    )
 }
 
-/// The utilities does what it wants next.
+/// The utilities do what they want next. To their right they have pipes that are empty and hold nothing.
 fn step_fourth<A1: Stage, A2: Stage, A3: Stage, A4: Stage, B: Base, H: Shelf, S: Source, K: Sink>(
     alloc: Global,
     net: &mut Net<A1, A2, A3, A4>,
     room: &mut Room<B, H, S, K>,
 ) -> Result<Moved, WorkFault>
-    ensures blocked { (r : NetworkRoom quel_sorts) → IfOk result (λ moved. is_stuck net.old.capacity fourth (join (shape A1.state A2.state A3.state A4.state net.old) r) ≡ was_blocked moved) }
-    ensures steps { (user : User) → AllServe A1.serves A2.serves A3.serves A4.serves net.old user → IfOk result (λ moved. Moves (quel user) net.old.capacity fourth (was_blocked moved)
-        (seen (shape A1.state A2.state A3.state A4.state net.old) (outside B.database B.faults H.files H.faults S.left S.faults K.written K.faults K.stalls room.old))
-        (seen (shape A1.state A2.state A3.state A4.state net.new) (outside B.database B.faults H.files H.faults S.left S.faults K.written K.faults K.stalls room.new))) }
-    ensures failed { (user : User) → AllServe A1.serves A2.serves A3.serves A4.serves net.old user → OnErr result (WroteFront (quel user)
-        (seen (shape A1.state A2.state A3.state A4.state net.old) (outside B.database B.faults H.files H.faults S.left S.faults K.written K.faults K.stalls room.old))
-        (outside B.database B.faults H.files H.faults S.left S.faults K.written K.faults K.stalls room.new)) }
-    ensures unlawful { (user : User) → AllServe A1.serves A2.serves A3.serves A4.serves net.old user → IsErrOf result WorkFault.Unlawful → MayNotStep (quel user) fourth (shape A1.state A2.state A3.state A4.state net.old)
-        (outside B.database B.faults H.files H.faults S.left S.faults K.written K.faults K.stalls room.old) }
-    ensures untouched { (want (state_at (shape A1.state A2.state A3.state A4.state net.old) fourth) ≡ work → ⊥) →
-        outside B.database B.faults H.files H.faults S.left S.faults K.written K.faults K.stalls room.new ≡ outside B.database B.faults H.files H.faults S.left S.faults K.written K.faults K.stalls room.old }
-    ensures cause { IsCaused (heard_by A1.heard A2.heard A3.heard A4.heard net.old)
+    ensures done { StepDone net.old.capacity fourth (shape A1.state A2.state A3.state A4.state net.old) (shape A1.state A2.state A3.state A4.state net.new)
         (outside B.database B.faults H.files H.faults S.left S.faults K.written K.faults K.stalls room.old)
-        (outside B.database B.faults H.files H.faults S.left S.faults K.written K.faults K.stalls room.new) result }
-    ensures later { Later
-        (outside B.database B.faults H.files H.faults S.left S.faults K.written K.faults K.stalls room.old)
-        (outside B.database B.faults H.files H.faults S.left S.faults K.written K.faults K.stalls room.new) }
-    ensures heard { KeepsScript (heard_by A1.heard A2.heard A3.heard A4.heard net.old) (heard_by A1.heard A2.heard A3.heard A4.heard net.new)
-        (outside B.database B.faults H.files H.faults S.left S.faults K.written K.faults K.stalls room.old)
-        (outside B.database B.faults H.files H.faults S.left S.faults K.written K.faults K.stalls room.new) }
-    ensures serve { (user : User) → AllServe A1.serves A2.serves A3.serves A4.serves net.old user → AllServe A1.serves A2.serves A3.serves A4.serves net.new user }
-    ensures numbers { AreNumbered A1.place A2.place A3.place A4.place net.old → AreNumbered A1.place A2.place A3.place A4.place net.new }
+        (outside B.database B.faults H.files H.faults S.left S.faults K.written K.faults K.stalls room.new)
+        (heard_by A1.heard A2.heard A3.heard A4.heard net.old) (heard_by A1.heard A2.heard A3.heard A4.heard net.new)
+        (AllServe A1.serves A2.serves A3.serves A4.serves net.old) (AllServe A1.serves A2.serves A3.serves A4.serves net.new)
+        (AreNumbered A1.place A2.place A3.place A4.place net.old) (AreNumbered A1.place A2.place A3.place A4.place net.new) result }
     ensures capacity { net.new.capacity ≡ net.old.capacity }
 {
-    match net.four.want() {
-        Want::TakeLeft => take_from(alloc, &mut net.four, &mut net.c),
-        Want::GiveLeft => give_to(alloc, &mut net.four, &mut net.d, net.capacity),
-        Want::Work => {
-            net.four.work(alloc, room)?;
-            Ok(Moved::Stepped)
-        }
-        Want::TakeRight => Ok(Moved::Blocked),
-        Want::GiveRight => Ok(Moved::Blocked),
-        Want::Ended => Ok(Moved::Blocked),
-    }
+    let mut right_out = VecDeque::new(alloc);
+    let mut right_in = VecDeque::new(alloc);
+    step_stage(
+        alloc,
+        &mut net.four,
+        &mut net.c,
+        &mut net.d,
+        net.capacity,
+        &mut right_out,
+        &mut right_in,
+        0,
+        room,
+    )
 }

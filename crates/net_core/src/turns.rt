@@ -4,7 +4,7 @@ ghost use Rattle.std.specs.Prelude.{◌≡◌, ◌≤◌, All, IsErrOf, OnErr, O
 ghost use Rattle.network_meaning.specs.Calls.{KeepsAll, RunsTurns};
 ghost use Rattle.network_meaning.specs.Statements.{FinishesInOrder};
 ghost use Rattle.net_core.specs.Causes.{IsCaused};
-ghost use Rattle.net_core.specs.Told.{KeepsScript, Later, outside};
+ghost use Rattle.net_core.specs.Told.{KeepsDatabase, KeepsScript, Later, outside};
 ghost use Rattle.net_core.specs.Whole.{AllServe, AreNumbered, IsDisorderly, StopsAt, WroteFront, heard_by, seen, shape};
 ghost use Rattle.quel_network.specs.Quel.{quel};
 ghost use Rattle.quel_network.specs.Sorts.{User};
@@ -50,6 +50,9 @@ pub fn net_turns<A1: Stage, A2: Stage, A3: Stage, A4: Stage, B: Base, H: Shelf, 
     ensures cause { IsCaused (heard_by A1.heard A2.heard A3.heard A4.heard net.old)
         (outside B.database B.faults H.files H.faults S.left S.faults K.written K.faults K.stalls room.old)
         (outside B.database B.faults H.files H.faults S.left S.faults K.written K.faults K.stalls room.new) result }
+    ensures database { OnOk result (KeepsDatabase
+        (outside B.database B.faults H.files H.faults S.left S.faults K.written K.faults K.stalls room.old)
+        (outside B.database B.faults H.files H.faults S.left S.faults K.written K.faults K.stalls room.new)) }
     ensures later { Later
         (outside B.database B.faults H.files H.faults S.left S.faults K.written K.faults K.stalls room.old)
         (outside B.database B.faults H.files H.faults S.left S.faults K.written K.faults K.stalls room.new) }

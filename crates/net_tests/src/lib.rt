@@ -4,4 +4,8 @@
 #[cfg(test)]
 mod links;
 #[cfg(test)]
+mod orders;
+#[cfg(test)]
+mod players;
+#[cfg(test)]
 mod rounds;

@@ -36,8 +36,8 @@ quel user = record {
   payload = payload_of;
   message_of = message_by;
   batch_runs = λ db shelf ranges b.
-    let a = after_batch_at (setting_for user) db shelf ranges b in
-    record { db = a.kept.state.db; shelf = a.kept.state.shelf; ranges = a.kept.state.ranges; bytes = printed a.events };
+      let a = after_batch_at (setting_for user) db shelf ranges b in
+      record { db = a.kept.state.db; shelf = a.kept.state.shelf; ranges = a.kept.state.ranges; bytes = printed a.events };
   script_bytes = λ db shelf ranges m script. printed (after_script_at (setting_for user) db shelf ranges m script).events;
   batch_statements = λ db shelf ranges b. finished (after_batch_at (setting_for user) db shelf ranges b).events;
   script_statements = λ db shelf ranges m script. finished (after_script_at (setting_for user) db shelf ranges m script).events;

@@ -80,12 +80,36 @@ payload_of quit = []
 
 -- the message that these bytes are where its last frame is of this kind: 1 a batch, 2 a tree, 3 a head, 4 a row, 5 a change, 6 an end, 7 a refusal, 8 done, 10 a quit
 unfoldable pub message_by : ℕ → List ℕ → Option (Message quel_sorts)
-message_by kind bytes = elim (kind == 1) [ true ↦ Some (text bytes) | false ↦
-    elim (kind == 2) [ true ↦ option_map (λ t. cargo (tree t)) (spelled_by (checked_codec most_tree_levels) bytes) | false ↦
-    elim (kind == 3) [ true ↦ option_map (λ h. said (shown (head h))) (spelled_by columns_codec bytes) | false ↦
-    elim (kind == 4) [ true ↦ option_map (λ r. said (shown (row r))) (spelled_by row_codec bytes) | false ↦
-    elim (kind == 5) [ true ↦ option_map (λ c. cargo (change c)) (spelled_by (change_codec most_tree_levels) bytes) | false ↦
-    elim (kind == 6) [ true ↦ if_empty end bytes | false ↦
-    elim (kind == 7) [ true ↦ option_map (λ r. said (replied (refused r))) (option_and_then known_refusal (spelled_by refusal_codec bytes)) | false ↦
-    elim (kind == 8) [ true ↦ if_empty (said (replied done)) bytes | false ↦
-    elim (kind == 10) [ true ↦ if_empty quit bytes | false ↦ None ] ] ] ] ] ] ] ] ]
+message_by kind bytes = elim (kind == 1) [
+  | true ↦ Some (text bytes)
+  | false ↦
+      elim (kind == 2) [
+        | true ↦ option_map (λ t. cargo (tree t)) (spelled_by (checked_codec most_tree_levels) bytes)
+        | false ↦
+            elim (kind == 3) [
+              | true ↦ option_map (λ h. said (shown (head h))) (spelled_by columns_codec bytes)
+              | false ↦
+                  elim (kind == 4) [
+                    | true ↦ option_map (λ r. said (shown (row r))) (spelled_by row_codec bytes)
+                    | false ↦
+                        elim (kind == 5) [
+                          | true ↦ option_map (λ c. cargo (change c)) (spelled_by (change_codec most_tree_levels) bytes)
+                          | false ↦
+                              elim (kind == 6) [
+                                | true ↦ if_empty end bytes
+                                | false ↦
+                                    elim (kind == 7) [
+                                      | true ↦ option_map (λ r. said (replied (refused r))) (option_and_then known_refusal (spelled_by refusal_codec bytes))
+                                      | false ↦
+                                          elim (kind == 8) [
+                                            | true ↦ if_empty (said (replied done)) bytes
+                                            | false ↦
+                                                elim (kind == 10) [ true ↦ if_empty quit bytes | false ↦ None ]
+                                          ]
+                                    ]
+                              ]
+                        ]
+                  ]
+            ]
+      ]
+]

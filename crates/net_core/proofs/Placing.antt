@@ -1,0 +1,111 @@
+-- A step of a stage between its pipes, as a step of the network.
+use Rattle.std.proofs.Common.{IfOk, OnErr, ◌≡◌, ◌+◌, ℕ, Bool, true, false, [], Result, refl, sym, ap, subst, arith}
+use Rattle.std.specs.declared.option.Option.{Option}
+use Rattle.net_core.specs.declared.fault.WorkFault.{WorkFault}
+use Rattle.net_core.specs.declared.steps.Moved.{Moved}
+use Rattle.net_core.specs.Steps.{FailedStep, FitUnlessBlocked, Piped, PipedDone, PipedMayNot, PipedMoves, PipedSteps, StepDone, in_room}
+use Rattle.net_core.specs.Told.{Outside, told}
+use Rattle.net_core.specs.Wants.{was_blocked}
+use Rattle.net_core.specs.Whole.{MayNotStep, state_at}
+use Rattle.network_meaning.specs.Calls.{FitStep, Moves, Shape, join}
+use Rattle.network_meaning.specs.Language.{Language}
+use Rattle.network_meaning.specs.LocalSteps.{Room as NetworkRoom, Want.work}
+use Rattle.network_meaning.specs.MessageNetwork.{StageNumber, StageNumber.first, StageNumber.second, StageNumber.third, StageNumber.fourth}
+use Rattle.network_meaning.specs.Network.{Between, LocalState, StepsUnlessBlocked, between, is_blocked, left_room, put_between, right_room, want}
+use Rattle.quel_network.specs.Quel.{quel}
+use Rattle.quel_network.specs.Sorts.{User, quel_sorts}
+use Rattle.net_core.proofs.AtPipes.{if_ok}
+use Rattle.net_core.proofs.Faulty.{caused_more, keeps_more}
+
+-- stage k between its pipes
+abbrev pub piped_of : Shape quel_sorts → StageNumber → Piped
+piped_of n first = record { stage = n.one; left_in = []; left_out = []; right_out = n.a; right_in = n.f }
+piped_of n second = record { stage = n.two; left_in = n.a; left_out = n.f; right_out = n.b; right_in = n.e }
+piped_of n third = record { stage = n.three; left_in = n.b; left_out = n.e; right_out = n.c; right_in = n.d }
+piped_of n fourth = record { stage = n.four; left_in = n.c; left_out = n.d; right_out = []; right_in = [] }
+
+-- the network with stage k and its pipes as they are now
+abbrev pub with_piped : Shape quel_sorts → StageNumber → Piped → Shape quel_sorts
+with_piped n first s = record { one = s.stage; two = n.two; three = n.three; four = n.four; a = s.right_out; b = n.b; c = n.c; d = n.d; e = n.e; f = s.right_in }
+with_piped n second s = record { one = n.one; two = s.stage; three = n.three; four = n.four; a = s.left_in; b = s.right_out; c = n.c; d = n.d; e = s.right_in; f = s.left_out }
+with_piped n third s = record { one = n.one; two = n.two; three = s.stage; four = n.four; a = n.a; b = s.left_in; c = s.right_out; d = s.right_in; e = s.left_out; f = n.f }
+with_piped n fourth s = record { one = n.one; two = n.two; three = n.three; four = s.stage; a = n.a; b = n.b; c = s.left_in; d = s.left_out; e = n.e; f = n.f }
+
+between_is : (k : StageNumber) (n : Shape quel_sorts) (r : NetworkRoom quel_sorts) → in_room (piped_of n k) r ≡ between (join n r) k
+between_is first n r = refl
+between_is second n r = refl
+between_is third n r = refl
+between_is fourth n r = refl
+
+state_is : (k : StageNumber) (n : Shape quel_sorts) → (piped_of n k).stage ≡ state_at n k
+state_is first n = refl
+state_is second n = refl
+state_is third n = refl
+state_is fourth n = refl
+
+fit_as : (L : Language quel_sorts) (k : StageNumber) (blocked : Bool) (n : Shape quel_sorts) (r : NetworkRoom quel_sorts) → FitUnlessBlocked L (between (join n r) k) blocked → FitStep L k (join n r) blocked
+fit_as L k true n r h = tt
+fit_as L k false n r h = h
+
+step_as : (L : Language quel_sorts) (k : StageNumber) (blocked : Bool) (n : Shape quel_sorts) (s : Piped) (r r' : NetworkRoom quel_sorts) → PipedSteps L (in_room (piped_of n k) r) (in_room s r') blocked →
+    StepsUnlessBlocked L k (join n r) (join (with_piped n k s) r') blocked
+step_as L first true n s r r' e = ap (put_between (join n r) first) e
+step_as L second true n s r r' e = ap (put_between (join n r) second) e
+step_as L third true n s r r' e = ap (put_between (join n r) third) e
+step_as L fourth true n s r r' e = ap (put_between (join n r) fourth) e
+step_as L first false n s r r' st = (in_room s r', st, refl)
+step_as L second false n s r r' st = (in_room s r', st, refl)
+step_as L third false n s r r' st = (in_room s r', st, refl)
+step_as L fourth false n s r r' st = (in_room s r', st, refl)
+
+moves_as : (L : Language quel_sorts) (capacity : ℕ) (k : StageNumber) (blocked : Bool) (n : Shape quel_sorts) (s : Piped) (o o' : Option (NetworkRoom quel_sorts)) → PipedMoves L (left_room capacity k) (right_room capacity k) blocked (piped_of n k) s o o' →
+    Moves L capacity k blocked (record { shape = n; told = o }) (record { shape = with_piped n k s; told = o' })
+moves_as L capacity k blocked n s o o' m = record {
+  room = m.room;
+  room' = m.room';
+  tells = m.tells;
+  tells_after = m.tells_after;
+  is = subst (λ (b : Between quel_sorts). is_blocked (left_room capacity k) (right_room capacity k) b (want b.stage) ≡ blocked) (between_is k n m.room) m.is;
+  fit = fit_as L k blocked n m.room (subst (λ (b : Between quel_sorts). FitUnlessBlocked L b blocked) (between_is k n m.room) m.fit);
+  step = step_as L k blocked n s m.room m.room' m.step;
+}
+
+may_not_as : (L : Language quel_sorts) (k : StageNumber) (n : Shape quel_sorts) (o : Outside) → PipedMayNot L (piped_of n k) o → MayNotStep L k n o
+may_not_as L first n o h = h
+may_not_as L second n o h = h
+may_not_as L third n o h = h
+may_not_as L fourth n o h = h
+
+-- what stage k has done between its pipes, where nothing else of the network has changed, and these parts belong to the stage
+pub step_done : (capacity : ℕ) (k : StageNumber) (n n' : Shape quel_sorts) (s : Piped) (o o' : Outside) (h h' p p' whole whole' rest : ℕ) (serves serves' all all' : User → Type 0) (numbers numbers' : Type 0) (result : Result Moved WorkFault) →
+    PipedDone (left_room capacity k) (right_room capacity k) (piped_of n k) s o o' h h' p p' serves serves' result → n' ≡ with_piped n k s → whole ≡ h + rest → whole' ≡ h' + rest →
+    ((user : User) → all user → serves user) → ((user : User) → serves' user → all user → all' user) → (p' ≡ p → numbers → numbers') →
+    StepDone capacity k n n' o o' whole whole' all all' numbers numbers' result
+step_done capacity k n n' s o o' h h' p p' whole whole' rest serves serves' all all' numbers numbers' result d new sum sum' part join number = record {
+  blocked = λ r. subst (λ (b : Between quel_sorts). IfOk result (λ moved. is_blocked (left_room capacity k) (right_room capacity k) b (want b.stage) ≡ was_blocked moved)) (between_is k n r) (d.blocked r);
+  steps = λ user x. if_ok result _ _ (λ moved m. subst (λ (a : Shape quel_sorts). Moves (quel user) capacity k (was_blocked moved) (record { shape = n; told = told o }) (record { shape = a; told = told o' })) (sym new)
+      (moves_as (quel user) capacity k (was_blocked moved) n s (told o) (told o') m)) (d.steps user (part user x));
+  failed = λ user x. subst (λ (a : LocalState quel_sorts). OnErr result (FailedStep (quel user) a o o')) (state_is k n) (d.failed user (part user x));
+  unlawful = λ user x u. may_not_as (quel user) k n o (d.unlawful user (part user x) u);
+  untouched = λ no. d.untouched (λ e. no (subst (λ (a : LocalState quel_sorts). want a ≡ work) (state_is k n) e));
+  cause = caused_more h whole rest o o' result sum d.cause;
+  later = d.later;
+  script = keeps_more h h' whole whole' rest o o' sum sum' d.script;
+  database = d.database;
+  serve = λ user x. join user (d.serve user (part user x)) x;
+  numbered = number d.placed;
+}
+
+-- ---- what all stages have read, by the one that reads
+
+pub first_part : (a b c d : ℕ) → a + (b + (c + d)) ≡ a + (b + (c + d))
+first_part a b c d = refl
+
+pub second_part : (a b c d : ℕ) → a + (b + (c + d)) ≡ b + (a + (c + d))
+second_part a b c d = omega arith
+
+pub third_part : (a b c d : ℕ) → a + (b + (c + d)) ≡ c + (a + (b + d))
+third_part a b c d = omega arith
+
+pub fourth_part : (a b c d : ℕ) → a + (b + (c + d)) ≡ d + (a + (b + c))
+fourth_part a b c d = omega arith

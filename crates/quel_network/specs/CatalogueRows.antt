@@ -1,0 +1,248 @@
+-- The rows of the catalogues suit their attributes, and are few.
+use Rattle.std.specs.Prelude.{ℕ, ◌+◌, ◌≤◌, Bool, true, false, ◌&&◌, not, IsTrue, List, [], ◌∷◌, ◌++◌, length, map, flat_map, nat_eq, nat_le, nat_lt, codes, Option, Some, None}
+use Rattle.std.specs.List.{list_all, enumerate_from}
+use Rattle.std.proofs.Common.{refl, arith}
+use Rattle.std.proofs.lemmas.Bool.{and_parts, leb-true}
+use Rattle.std.proofs.lemmas.List.{length-map}
+use Rattle.std.proofs.lemmas.List.FromFn.{length-enumerate_from}
+use Rattle.calculus.specs.declared.query.RelKey.{RelKey}
+use Rattle.calculus.specs.declared.schema.Attr.{Attr}
+use Rattle.calculus.specs.declared.schema.RelInfo.{RelInfo}
+use Rattle.calculus.specs.declared.value.Kind.{Kind}
+use Rattle.calculus.specs.Catalogue.{is_catalogue_name, relation_key, attribute_key, relation_info, attribute_info, relation_attrs, attribute_attrs, all_entries, column_count, relation_row, format_text, attribute_row, attribute_rows, catalogue_at}
+use Rattle.calculus.specs.Database.{Db, Relation, Index, entries, is_relation}
+use Rattle.calculus.specs.IsDatabase.{IsDatabase, key_is_named, attrs_stand, keys_stand, is_kind, index_stands, structure_stands, view_info_stands}
+use Rattle.calculus.specs.Keys.{same_key}
+use Rattle.calculus.specs.Lists.{is_any, differ_by}
+use Rattle.calculus.specs.Name.{is_name}
+use Rattle.calculus.specs.Rows.{Row, set_of}
+use Rattle.calculus.specs.Structures.{is_index, is_keyed, is_view, is_structure}
+use Rattle.calculus.specs.Text.{is_text}
+use Rattle.quel_meaning.proofs.DatabaseFacts.{stood}
+use Rattle.quel_meaning.proofs.Each.{Each, both_of, in_map, in_flat_map, each_to, each_passes}
+use Rattle.quel_meaning.proofs.FitMade.{both_hold}
+use Rattle.quel_network.specs.NumberRange.{small_bits}
+use Rattle.quel_network.specs.Parts.{no_items, flat_map_short, in_set, set_short}
+use Rattle.quel_network.specs.Suiting.{RowSuits}
+use Rattle.quel_network.specs.TextFacts.{name_is_text, spec_is_text, format_is_text}
+
+-- the kinds of attributes
+abbrev pub attr_kinds : List Attr → List Kind
+attr_kinds attrs = map (λ a. a.kind) attrs
+
+-- the rows suit the kinds of the attributes, and are at most a million
+pub record RowsStand (r : Relation) : Type 0 where
+  pub suit : Each (RowSuits (attr_kinds r.info.attrs)) r.rows
+  pub few : length r.rows ≤ 1000000
+
+-- so it is where there is a relation
+abbrev pub RelationStands : Option Relation → Type 0
+RelationStands None = Unit {0}
+RelationStands (Some r) = RowsStand r
+
+-- ---- entries
+
+-- what is told of an attribute are texts
+record AttrTells (a : Attr) : Type 0 where
+  name : IsTrue (is_text a.name)
+  format : IsTrue (is_text (format_text a.kind))
+
+-- what is told of an entry's key are texts
+record KeyTells (i : RelInfo) : Type 0 where
+  name : IsTrue (is_text i.key.name)
+  owner : IsTrue (is_text i.key.owner)
+
+-- what is told of an entry's attributes are texts, and both they and key attributes are few
+record AttrsTell (i : RelInfo) : Type 0 where
+  attrs : Each AttrTells i.attrs
+  few : length i.attrs ≤ 49
+  few_keys : length i.keys ≤ 49
+
+-- both
+record Tells (i : RelInfo) : Type 0 where
+  key : KeyTells i
+  attrs : AttrsTell i
+
+key_tells : (i : RelInfo) → IsTrue (key_is_named i.key) → KeyTells i
+key_tells i h =
+    let parts = and_parts (is_name i.key.owner) (is_name i.key.name && not (is_catalogue_name i.key.name)) h in
+    record { name = name_is_text i.key.name (and_parts (is_name i.key.name) (not (is_catalogue_name i.key.name)) parts.1).0; owner = name_is_text i.key.owner parts.0 }
+
+attrs_tell : (attrs : List Attr) → IsTrue (attrs_stand attrs) → Each AttrTells attrs
+attrs_tell attrs h =
+    let facts = stood attrs h in
+    both_hold (λ a. IsTrue (is_name a.name)) (λ a. IsTrue (is_kind a.kind)) AttrTells (λ a n k. record { name = name_is_text a.name n; format = format_is_text a.kind k }) attrs
+    (each_passes (λ a. is_name a.name) attrs facts.named) (each_passes (λ a. is_kind a.kind) attrs facts.kinds)
+
+standing_tell : (i : RelInfo) → IsTrue (attrs_stand i.attrs) → length i.keys ≤ 49 → AttrsTell i
+standing_tell i h keys = record { attrs = attrs_tell i.attrs h; few = leb-true (length i.attrs) 49 (stood i.attrs h).few; few_keys = keys }
+
+few_keys : (attrs : List Attr) (keys : List ℕ) → IsTrue (keys_stand attrs keys) → length keys ≤ 49
+few_keys attrs keys h =
+    let behind = and_parts (list_all (λ k. nat_lt k (length attrs)) keys) (differ_by nat_eq keys && nat_le (length keys) 6) h in
+    let few = leb-true (length keys) 6 (and_parts (differ_by nat_eq keys) (nat_le (length keys) 6) behind.1).1 in
+    omega (arith, few)
+
+no_keys : (keys : List ℕ) → IsTrue (not (is_any keys)) → length keys ≤ 49
+no_keys keys h = let none = no_items keys h in omega (arith, none)
+
+structure_keys : (i : RelInfo) → IsTrue (structure_stands i) → length i.keys ≤ 49
+structure_keys i h = go (is_keyed i.spec) h
+  where
+    go : (b : Bool) → IsTrue (elim b as (λ b. Bool) [ true ↦ is_any i.keys && keys_stand i.attrs i.keys | false ↦ is_structure i.spec && not (is_any i.keys) ]) → length i.keys ≤ 49
+    go true h = few_keys i.attrs i.keys (and_parts (is_any i.keys) (keys_stand i.attrs i.keys) h).1
+    go false h = no_keys i.keys (and_parts (is_structure i.spec) (not (is_any i.keys)) h).1
+
+index_tells : (db : Db) (x : Index) → IsTrue (index_stands db x) → AttrsTell x.info
+index_tells db x h =
+    let w = and_parts (is_index x.info.spec) _ h in
+    let v = and_parts (is_relation db x.base) _ w.1 in
+    let u = and_parts (not (is_any x.info.attrs)) _ v.1 in
+    none x.info.attrs u.0 (few_keys _ x.info.keys (and_parts (is_any x.info.keys) _ u.1).1)
+  where
+    none : (attrs : List Attr) → IsTrue (not (is_any attrs)) → length x.info.keys ≤ 49 → AttrsTell (record x.info { attrs = attrs })
+    none [] h keys = record { attrs = tt; few = omega arith; few_keys = keys }
+    none (a ∷ attrs) h keys = absurd (cc h)
+
+entries_tell : (db : Db) → IsDatabase db → Each AttrsTell (entries db)
+entries_tell db is =
+    both_of AttrsTell (map (λ r. r.info) db.relations) (map (λ v. v.info) db.views ++ map (λ x. x.info) db.indexes) of_relations
+    (both_of AttrsTell (map (λ v. v.info) db.views) (map (λ x. x.info) db.indexes) of_views of_indexes)
+  where
+    of_relations : Each AttrsTell (map (λ r. r.info) db.relations)
+    of_relations = in_map AttrsTell (λ r. r.info) db.relations
+        (both_hold (λ r. IsTrue (attrs_stand r.info.attrs)) (λ r. IsTrue (structure_stands r.info)) (λ r. AttrsTell r.info) (λ r h k. standing_tell r.info h (structure_keys r.info k)) db.relations
+        (each_passes (λ r. attrs_stand r.info.attrs) db.relations is.relation_attrs_stand) (each_passes (λ r. structure_stands r.info) db.relations is.structures_stand))
+
+    of_views : Each AttrsTell (map (λ v. v.info) db.views)
+    of_views = in_map AttrsTell (λ v. v.info) db.views
+        (both_hold (λ v. IsTrue (attrs_stand v.info.attrs)) (λ v. IsTrue (view_info_stands v.info)) (λ v. AttrsTell v.info)
+        (λ v h k. standing_tell v.info h (no_keys v.info.keys (and_parts (is_view v.info.spec) (not (is_any v.info.keys)) k).1)) db.views
+        (each_passes (λ v. attrs_stand v.info.attrs) db.views is.view_attrs_stand) (each_passes (λ v. view_info_stands v.info) db.views is.view_infos_stand))
+
+    of_indexes : Each AttrsTell (map (λ x. x.info) db.indexes)
+    of_indexes = in_map AttrsTell (λ x. x.info) db.indexes
+        (each_to (λ x. IsTrue (index_stands db x)) (λ x. AttrsTell x.info) (index_tells db) db.indexes (each_passes (index_stands db) db.indexes is.indexes_stand))
+
+-- ---- the catalogues themselves
+
+relation_tells : (db : Db) → IsTrue (is_name db.dba) → Tells (relation_info db)
+unfolding is_name
+relation_tells db h = record {
+  key = record { name = name_is_text (codes "relation") refl; owner = name_is_text db.dba h };
+  attrs = standing_tell (relation_info db) refl (omega arith);
+}
+
+attribute_tells : (db : Db) → IsTrue (is_name db.dba) → Tells (attribute_info db)
+unfolding is_name
+attribute_tells db h = record {
+  key = record { name = name_is_text (codes "attribute") refl; owner = name_is_text db.dba h };
+  attrs = standing_tell (attribute_info db) refl (omega arith);
+}
+
+all_tell : (db : Db) → IsDatabase db → Each Tells (all_entries db)
+all_tell db is = (
+  relation_tells db is.dba_is_named,
+  (
+    attribute_tells db is.dba_is_named,
+    both_hold KeyTells AttrsTell Tells (λ i k a. record { key = k; attrs = a }) (entries db)
+        (each_to (λ i. IsTrue (key_is_named i.key)) KeyTells key_tells (entries db) (each_passes (λ i. key_is_named i.key) (entries db) is.keys_are_named)) (entries_tell db is),
+  ),
+)
+
+-- ---- rows
+
+-- the kinds of the attributes of `relation`
+abbrev relation_kinds : List Kind
+relation_kinds = attr_kinds relation_attrs
+
+-- the kinds of the attributes of `attribute`
+abbrev attribute_kinds : List Kind
+attribute_kinds = attr_kinds attribute_attrs
+
+columns_few : (i : RelInfo) → Tells i → column_count i ≤ 49
+columns_few i t = go (is_index i.spec)
+  where
+    go : (b : Bool) → elim b as (λ b. ℕ) [ true ↦ length i.keys | false ↦ length i.attrs ] ≤ 49
+    go true = t.attrs.few_keys
+    go false = t.attrs.few
+
+relation_row_suits : (i : RelInfo) → Tells i → RowSuits relation_kinds (relation_row i)
+relation_row_suits i t =
+    let few = columns_few i t in
+    (t.key.name, (t.key.owner, (spec_is_text i.spec, (small_bits (column_count i) (omega (arith, few)), tt))))
+
+attribute_row_suits : (i : RelInfo) (n : ℕ) (a : Attr) → KeyTells i → AttrTells a → n ≤ 1000 → RowSuits attribute_kinds (attribute_row i.key n a)
+attribute_row_suits i n a k t few = (k.name, (k.owner, (small_bits n (omega (arith, few)), (t.name, (t.format, tt)))))
+
+numbered_suit : (i : RelInfo) (n : ℕ) (attrs : List Attr) → KeyTells i → Each AttrTells attrs → n + length attrs ≤ 1000
+    → Each (RowSuits attribute_kinds) (map (λ p. attribute_row i.key p.0 p.1) (enumerate_from n attrs))
+numbered_suit i n [] k h few = tt
+numbered_suit i n (a ∷ attrs) k h few = (attribute_row_suits i n a k h.0 (omega (arith, few)), numbered_suit i (n + 1) attrs k h.1 (omega (arith, few)))
+
+-- the rows of `attribute` for an entry
+record EntryRows (rows : List Row) : Type 0 where
+  suit : Each (RowSuits attribute_kinds) rows
+  few : length rows ≤ 49
+
+attribute_rows_stand : (i : RelInfo) → Tells i → EntryRows (attribute_rows i)
+attribute_rows_stand i t = go (is_index i.spec)
+  where
+    rows : List Row
+    rows = map (λ p. attribute_row i.key p.0 p.1) (enumerate_from 1 i.attrs)
+
+    few_numbers : 1 + length i.attrs ≤ 1000
+    few_numbers = let few = t.attrs.few in omega (arith, few)
+
+    few_rows : length rows ≤ 49
+    few_rows =
+        let mapped = length-map (enumerate_from 1 i.attrs) (λ p. attribute_row i.key p.0 p.1) in
+        let numbered = length-enumerate_from 1 i.attrs in
+        let few = t.attrs.few in
+        omega (arith, mapped, numbered, few)
+
+    go : (b : Bool) → EntryRows (elim b as (λ b. List Row) [ true ↦ [] | false ↦ rows ])
+    go true = record { suit = tt; few = omega arith }
+    go false = record { suit = numbered_suit i 1 i.attrs t.key t.attrs.attrs few_numbers; few = few_rows }
+
+few_entries : (db : Db) → IsDatabase db → length (all_entries db) ≤ 10002
+few_entries db is = let few = leb-true (length (entries db)) 10000 is.few_entries in omega (arith, few)
+
+-- the rows of a catalogue
+pub catalogue_stands : (db : Db) (key : RelKey) → IsDatabase db → RelationStands (catalogue_at db key)
+unfolding catalogue_at
+catalogue_stands db key is = go (same_key key (relation_key db)) (same_key key (attribute_key db))
+  where
+    of_relation : RowsStand (record { info = relation_info db; rows = set_of (map relation_row (all_entries db)) })
+    of_relation = record {
+      suit = in_set (RowSuits relation_kinds) (map relation_row (all_entries db))
+          (in_map (RowSuits relation_kinds) relation_row (all_entries db) (each_to Tells (λ i. RowSuits relation_kinds (relation_row i)) relation_row_suits (all_entries db) (all_tell db is)));
+      few =
+          let shorter = set_short (map relation_row (all_entries db)) in
+          let mapped = length-map (all_entries db) relation_row in
+          let few = few_entries db is in
+          omega (arith, shorter, mapped, few);
+    }
+
+    of_entries : Each (λ i. EntryRows (attribute_rows i)) (all_entries db)
+    of_entries = each_to Tells (λ i. EntryRows (attribute_rows i)) attribute_rows_stand (all_entries db) (all_tell db is)
+
+    of_attribute : RowsStand (record { info = attribute_info db; rows = set_of (flat_map attribute_rows (all_entries db)) })
+    of_attribute = record {
+      suit = in_set (RowSuits attribute_kinds) (flat_map attribute_rows (all_entries db))
+          (in_flat_map (RowSuits attribute_kinds) attribute_rows (all_entries db)
+          (each_to (λ i. EntryRows (attribute_rows i)) (λ i. Each (RowSuits attribute_kinds) (attribute_rows i)) (λ i h. h.suit) (all_entries db) of_entries));
+      few =
+          let shorter = set_short (flat_map attribute_rows (all_entries db)) in
+          let each = flat_map_short attribute_rows (all_entries db) (each_to (λ i. EntryRows (attribute_rows i)) (λ i. length (attribute_rows i) ≤ 49) (λ i h. h.few) (all_entries db) of_entries) in
+          let few = few_entries db is in
+          omega (arith, shorter, each, few);
+    }
+
+    go : (a b : Bool) → RelationStands (elim a as (λ a. Option Relation) [
+      | true ↦ Some (record { info = relation_info db; rows = set_of (map relation_row (all_entries db)) })
+      | false ↦ elim b as (λ b. Option Relation) [ true ↦ Some (record { info = attribute_info db; rows = set_of (flat_map attribute_rows (all_entries db)) }) | false ↦ None ]
+    ])
+    go true b = of_relation
+    go false true = of_attribute
+    go false false = tt
