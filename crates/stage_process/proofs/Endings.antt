@@ -1,10 +1,9 @@
 -- A run that has ended, and what is told of it to the left.
-use Rattle.std.proofs.Common.{◌≡◌, ◌⊎◌, refl, sym, ap, subst, ◌∙◌, ℕ, ◌≤◌, Bool, true, false, List, [], ◌∷◌, ◌++◌, append-nil, append_assoc, arith, inl, inr, Result, Ok, Err, if◌then◌else◌}
+use Rattle.std.proofs.Common.{◌≡◌, ◌⊎◌, refl, sym, ap, subst, ◌∙◌, ℕ, Bool, true, false, List, [], ◌∷◌, ◌++◌, append-nil, arith, inl, inr, Ok, Err, if◌then◌else◌}
 use Rattle.std.specs.Prelude.{◌==◌}
 use Rattle.std.specs.declared.option.Option.{Option}
 use Rattle.std.specs.Io.KnownBytes.{Appends}
 use Rattle.std.proofs.KnownBytes.{Appends-trans}
-use Rattle.fault_io.specs.Causes.{Rose}
 use Rattle.fault_io.specs.Told.{GrewBy, IsFront}
 use Rattle.frame_codec.specs.Frames.{frames_bytes}
 use Rattle.net_core.specs.Told.{Outside, told}
@@ -14,8 +13,8 @@ use Rattle.quel_network.specs.Sorts.{User, quel_sorts}
 use Rattle.stage_process.specs.declared.fault.LoopFault.{LoopFault}
 use Rattle.stage_process.specs.declared.fault.LoopFault.TheVariants as fault
 use Rattle.stage_process.specs.Faults.{fault_bytes, telling}
-use Rattle.stage_process.specs.Moves.{At, LocalRun, Move, given_left}
-use Rattle.stage_process.specs.Sides.{Faltered, Outlet, OutletLater, Side, Sides, Wrote}
+use Rattle.stage_process.specs.Moves.{LocalRun, Move, given_left}
+use Rattle.stage_process.specs.Sides.{Faltered, Outlet, OutletLater, Sides, Wrote}
 use Rattle.stage_process.specs.Steps.{Ran}
 use Rattle.stage_process.specs.Whole.{Ending, HowEnded, LoopDone}
 use Rattle.stage_process.proofs.Going.{front_behind, rose_earlier}

@@ -1,30 +1,24 @@
 -- One step of a run that gives a frame, or works.
-use Rattle.std.proofs.Common.{◌≡◌, refl, sym, ap, subst, ◌∙◌, ℕ, ◌+◌, ◌≤◌, List, [], ◌∷◌, ◌++◌, append-nil, length, arith, inl, inr, OnOk, Result, Ok, Err}
+use Rattle.std.proofs.Common.{◌≡◌, refl, sym, ap, subst, ◌∙◌, ℕ, ◌≤◌, List, [], ◌∷◌, ◌++◌, arith, inl, inr, OnOk, Result, Ok, Err}
 use Rattle.std.specs.declared.option.Option.{Option}
-use Rattle.std.specs.Io.KnownBytes.{Appends}
 use Rattle.std.specs.Prelude.{All}
 use Rattle.frame_codec.specs.declared.frame.Frame.{Frame}
-use Rattle.frame_codec.specs.Frames.{frame_bytes, frames_bytes}
-use Rattle.frame_codec.specs.Reading.{Reading}
-use Rattle.net_core.specs.declared.fault.WorkFault.TheVariants as work_fault
+use Rattle.frame_codec.specs.Frames.{frames_bytes}
 use Rattle.net_core.specs.declared.steps.Moved.{Moved}
 use Rattle.net_core.specs.declared.steps.Moved.TheVariants.{Stepped, Blocked}
-use Rattle.net_core.specs.Told.{KeepsDatabase, KeepsScript, Later, Outside, told}
+use Rattle.net_core.specs.Told.{KeepsDatabase, Outside, told}
 use Rattle.net_core.proofs.Faulty.{database_same, later_same, script_same}
-use Rattle.network_meaning.specs.Calls.{Given}
-use Rattle.network_meaning.specs.LocalSteps.{Want.take_left, Want.take_right, Want.give_left, Want.give_right, Want.work}
+use Rattle.network_meaning.specs.LocalSteps.{Want.take_right, Want.give_left, Want.give_right, Want.work}
 use Rattle.network_meaning.specs.Network.{LocalState, want}
-use Rattle.quel_network.specs.Quel.{quel}
 use Rattle.quel_network.specs.Sorts.{User, quel_sorts}
 use Rattle.stage_process.specs.declared.fault.LoopFault.{LoopFault}
 use Rattle.stage_process.specs.declared.fault.LoopFault.TheVariants as fault
-use Rattle.stage_process.specs.declared.incoming.Incoming.{Incoming}
 use Rattle.stage_process.specs.Faults.{IsPlain}
-use Rattle.stage_process.specs.Moves.{At, Move, Places, first_places, from_left, from_right, gave_left, gave_right, given_left, given_right, passed, places_from, taken_left, taken_right, to_left, to_right, worked}
-use Rattle.stage_process.specs.Sides.{Outlet, OutletLater, SameCounts, Side, SideLater, Sides, Wrote}
+use Rattle.stage_process.specs.Moves.{Move, Places, first_places, from_left, from_right, gave_left, gave_right, given_left, given_right, passed, places_from, taken_left, taken_right, to_left, to_right, worked}
+use Rattle.stage_process.specs.Sides.{Outlet, Wrote}
 use Rattle.stage_process.specs.Steps.{Goes, Hand, Past, Ran, RoomKept, SideGoes, StepDone, at_hand}
 use Rattle.stage_process.specs.Taking.{Gave, GavePart, Worked}
-use Rattle.stage_process.specs.Whole.{HowEnded, SideRead, unmet}
+use Rattle.stage_process.specs.Whole.{HowEnded}
 use Rattle.stage_process.proofs.Going.{faltered_from, flat_one, flat_same, outlet_later, places_more, side_as, side_gave, side_read, stays_later, wrote_all, wrote_part}
 use Rattle.stage_process.proofs.TakingSteps.{ending, still}
 
@@ -107,14 +101,19 @@ left_part serves past p s' out' heard' w g part =
 pub give_left_done : (serves : User → Type 0) (past : Past) (p : Hand) (s' : LocalState quel_sorts) (out' : Outlet) (heard' : ℕ) (result : Result Moved LoopFault) → want p.state ≡ give_left → Goes past p →
     Gave p.state s' p.sides.left.out out' fault.LeftWrite result → StepDone serves past p (gave_at_left p s' out' heard') result
 give_left_done serves past p s' out' heard' (Ok Stepped) w g (frame, given, wrote, same) =
-    let m = gave_left frame in
-    (m, past.left, past.right, (λ user x. (w, given, refl)), record {
-      left = side_as past.before.left _ (taken_left past.moves) (taken_left (past.moves ++ m ∷ [])) (given_left past.moves ++ frame ∷ []) (given_left (past.moves ++ m ∷ [])) past.left p.talk.left (flat_same from_left past.moves m refl) (flat_one to_left past.moves m)
-          (side_gave past.before.left p.sides.left (taken_left past.moves) (given_left past.moves) past.left p.talk.left frame p.sides.left.faults out' g.left wrote same refl);
-      right = right_alone past p m refl refl g;
-      plain = same_plain past p m refl g;
-      places = same_places past p m (λ q. refl) g;
-    })
+    let m = gave_left frame in (
+      m,
+      past.left,
+      past.right,
+      (λ user x. (w, given, refl)),
+      record {
+        left = side_as past.before.left _ (taken_left past.moves) (taken_left (past.moves ++ m ∷ [])) (given_left past.moves ++ frame ∷ []) (given_left (past.moves ++ m ∷ [])) past.left p.talk.left (flat_same from_left past.moves m refl) (flat_one to_left past.moves m)
+            (side_gave past.before.left p.sides.left (taken_left past.moves) (given_left past.moves) past.left p.talk.left frame p.sides.left.faults out' g.left wrote same refl);
+        right = right_alone past p m refl refl g;
+        plain = same_plain past p m refl g;
+        places = same_places past p m (λ q. refl) g;
+      },
+    )
 give_left_done serves past p s' out' heard' (Ok Blocked) w g x = absurd x
 give_left_done serves past p s' out' heard' (Err f) w g (inl (e, k)) = left_memory serves past p s' out' heard' f g e k
 give_left_done serves past p s' out' heard' (Err f) w g (inr (e, part)) = subst (λ (x : LoopFault). StepDone serves past p (gave_at_left p s' out' heard') (Err x)) (sym e) (left_part serves past p s' out' heard' w g part)
@@ -168,14 +167,19 @@ right_part serves past p s' faults' out' heard' w g part le =
 right_done : (serves : User → Type 0) (past : Past) (p : Hand) (s' : LocalState quel_sorts) (out' : Outlet) (heard' : ℕ) (result : Result Moved LoopFault) → want p.state ≡ give_right → Goes past p → p.sides.right.out.faults ≡ p.sides.right.faults →
     Gave p.state s' p.sides.right.out out' fault.Right result → StepDone serves past p (gave_at_right p s' p.sides.right.left out'.faults out' heard') result
 right_done serves past p s' out' heard' (Ok Stepped) w g both (frame, given, wrote, same) =
-    let m = gave_right frame in
-    (m, past.left, past.right, (λ user x. (w, given, refl)), record {
-      left = left_alone past p m refl refl g;
-      right = side_as past.before.right _ (taken_right past.moves) (taken_right (past.moves ++ m ∷ [])) (given_right past.moves ++ frame ∷ []) (given_right (past.moves ++ m ∷ [])) past.right p.talk.right (flat_same from_right past.moves m refl) (flat_one to_right past.moves m)
-          (side_gave past.before.right p.sides.right (taken_right past.moves) (given_right past.moves) past.right p.talk.right frame out'.faults out' g.right wrote same (same.faults ∙ both));
-      plain = same_plain past p m refl g;
-      places = same_places past p m (λ q. refl) g;
-    })
+    let m = gave_right frame in (
+      m,
+      past.left,
+      past.right,
+      (λ user x. (w, given, refl)),
+      record {
+        left = left_alone past p m refl refl g;
+        right = side_as past.before.right _ (taken_right past.moves) (taken_right (past.moves ++ m ∷ [])) (given_right past.moves ++ frame ∷ []) (given_right (past.moves ++ m ∷ [])) past.right p.talk.right (flat_same from_right past.moves m refl) (flat_one to_right past.moves m)
+            (side_gave past.before.right p.sides.right (taken_right past.moves) (given_right past.moves) past.right p.talk.right frame out'.faults out' g.right wrote same (same.faults ∙ both));
+        plain = same_plain past p m refl g;
+        places = same_places past p m (λ q. refl) g;
+      },
+    )
 right_done serves past p s' out' heard' (Ok Blocked) w g both x = absurd x
 right_done serves past p s' out' heard' (Err f) w g both (inl (e, k)) =
     subst (λ (n : ℕ). StepDone serves past p (gave_at_right p s' p.sides.right.left n out' heard') (Err f)) (sym (ap (λ (o : Outlet). o.faults) k ∙ both)) (right_memory serves past p s' out' heard' f g e k)
@@ -194,13 +198,18 @@ worked_at p s' o' heard' = record { state = s'; outside = o'; sides = p.sides; t
 
 pub work_done : (serves : User → Type 0) (past : Past) (p : Hand) (s' : LocalState quel_sorts) (o' : Outside) (heard' : ℕ) (result : Result Moved LoopFault) → want p.state ≡ work → Goes past p →
     Worked serves p.heard p.state s' p.outside o' p.talk.last result → StepDone serves past p (worked_at p s' o' heard') result
-work_done serves past p s' o' heard' (Ok Stepped) w g done =
-    (worked, past.left, past.right, (λ user x. (w, done user x)), record {
-      left = left_alone past p worked refl refl g;
-      right = right_alone past p worked refl refl g;
-      plain = same_plain past p worked refl g;
-      places = same_places past p worked (λ q. refl) g;
-    })
+work_done serves past p s' o' heard' (Ok Stepped) w g done = (
+  worked,
+  past.left,
+  past.right,
+  (λ user x. (w, done user x)),
+  record {
+    left = left_alone past p worked refl refl g;
+    right = right_alone past p worked refl refl g;
+    plain = same_plain past p worked refl g;
+    places = same_places past p worked (λ q. refl) g;
+  },
+)
 work_done serves past p s' o' heard' (Ok Blocked) w g x = absurd x
 work_done serves past p s' o' heard' (Err (fault.Work f)) w g (ne, may, front) = nothing_more serves past p s' o' (fault.Work f) g (w, ne, may, front)
 work_done serves past p s' o' heard' (Err (fault.BadFrame at)) w g (e, unfit) = nothing_more serves past p s' o' (fault.BadFrame at) g (inr (w, e ∙ ap (λ (q : Places). q.last) g.places, unfit), λ v. absurd (let h : work ≡ take_right = sym w ∙ v in cc))

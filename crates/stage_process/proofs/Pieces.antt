@@ -1,14 +1,13 @@
 -- What was read for one frame, piece by piece.
-use Rattle.std.proofs.Common.{◌≡◌, refl, sym, ap, subst, ◌∙◌, ℕ, ◌+◌, ◌<◌, ◌≤◌, Some, None, List, [], ◌∷◌, ◌++◌, append-nil, append_assoc, Result, Ok, Err, length, arith, OnOk, IfErr}
+use Rattle.std.proofs.Common.{◌≡◌, sym, subst, ℕ, ◌+◌, ◌≤◌, List, [], ◌∷◌, ◌++◌, append-nil, append_assoc, Result, Ok, Err, length, arith, OnOk, IfErr}
 use Rattle.std.specs.declared.option.Option.{Option}
-use Rattle.std.specs.Io.KnownBytes.{IsAtEnd, Keeps}
-use Rattle.std.proofs.KnownBytes.{Consumes-kept, Consumes-nil, Consumes-trans}
+use Rattle.std.proofs.KnownBytes.{Consumes-nil, Consumes-trans}
 use Rattle.frame_codec.specs.declared.frame.Frame.{Frame}
-use Rattle.frame_codec.specs.Reading.{Reading, behind_frames, read, read_on}
+use Rattle.frame_codec.specs.Reading.{read_on}
 use Rattle.stage_process.specs.declared.fault.LoopFault.{LoopFault}
 use Rattle.stage_process.specs.declared.fault.LoopFault.TheVariants as fault
 use Rattle.stage_process.specs.declared.incoming.Incoming.{Incoming}
-use Rattle.stage_process.specs.Incoming.{Asked, GotPiece, Holds, IsFaultAt, IsHalted, Lacks, NoFrame, PieceDone, StandsAt, inlet, most_read}
+use Rattle.stage_process.specs.Incoming.{Asked, GotPiece, Holds, NoFrame, PieceDone, inlet}
 use Rattle.stage_process.specs.Sides.{HasRead, IsNeeded, most_piece}
 use Rattle.stage_process.proofs.Readers.{needed_later, needed_piece, read_more}
 

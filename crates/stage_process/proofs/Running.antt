@@ -1,24 +1,22 @@
 -- A run, from its start to its end.
-use Rattle.std.proofs.Common.{◌≡◌, refl, sym, ap, subst, ◌∙◌, ℕ, ◌+◌, ◌-◌, ◌^◌, ◌≤◌, List, [], ◌∷◌, ◌++◌, length, length-append, arith, inl, inr, OnOk, Result, Ok, Err}
+use Rattle.std.proofs.Common.{◌≡◌, refl, sym, ap, subst, ◌∙◌, ℕ, ◌+◌, ◌-◌, ◌^◌, ◌≤◌, List, [], ◌∷◌, ◌++◌, length, length-append, arith, inl, inr, Ok, Err}
 use Rattle.std.proofs.KnownBytes.{Appends-nil, Consumes-nil}
 use Rattle.net_core.proofs.Faulty.{database_more, database_same, later_more, later_same, may_come_from, script_more, script_same}
 use Rattle.net_core.specs.declared.steps.Moved.{Moved}
 use Rattle.net_core.specs.declared.steps.Moved.TheVariants.{Stepped, Blocked}
 use Rattle.net_core.specs.Told.{KeepsDatabase, KeepsScript, Later, Outside, told}
-use Rattle.net_core.specs.Wants.{HasEnded}
 use Rattle.network_meaning.specs.Language.{Language}
-use Rattle.network_meaning.specs.LocalSteps.{Want.take_left, Want.take_right}
-use Rattle.network_meaning.specs.Network.{LocalState, want}
+use Rattle.network_meaning.specs.Network.{LocalState}
 use Rattle.quel_network.specs.Quel.{quel}
 use Rattle.quel_network.specs.Sorts.{User, quel_sorts}
 use Rattle.stage_process.specs.declared.fault.LoopFault.{LoopFault}
 use Rattle.stage_process.specs.declared.fault.LoopFault.TheVariants as fault
 use Rattle.stage_process.specs.declared.incoming.Incoming.{Incoming}
-use Rattle.stage_process.specs.Incoming.{Holds, Inlet, IsBroken, IsRefused}
-use Rattle.stage_process.specs.Moves.{At, LocalRun, Move, Places, StepsBy, first_places, given_left, given_right, taken_left, taken_right}
-use Rattle.stage_process.specs.Sides.{SameCounts, Side, Sides}
+use Rattle.stage_process.specs.Incoming.{Holds}
+use Rattle.stage_process.specs.Moves.{At, LocalRun, Move, StepsBy, given_left, given_right, taken_left, taken_right}
+use Rattle.stage_process.specs.Sides.{Side, Sides}
 use Rattle.stage_process.specs.Steps.{Goes, Hand, Past, Ran, RoomKept, SideGoes, StepDone, at_hand}
-use Rattle.stage_process.specs.Whole.{Ending, HowEnded, unmet}
+use Rattle.stage_process.specs.Whole.{Ending, HowEnded}
 use Rattle.stage_process.proofs.Going.{side_read, stays_later, wrote_all}
 use Rattle.stage_process.proofs.GivingSteps.{nothing_more}
 use Rattle.stage_process.proofs.TakingSteps.{ending, places_at}

@@ -7,13 +7,13 @@ use Rattle.std.proofs.lemmas.Result.{on_ok_weaker}
 use Rattle.std.specs.Prelude.{All}
 use Rattle.fault_io.specs.Causes.{Rose}
 use Rattle.frame_codec.specs.declared.frame.Frame.{Frame}
-use Rattle.frame_codec.specs.Frames.{frame_bytes, frames_bytes}
+use Rattle.frame_codec.specs.Frames.{frames_bytes}
 use Rattle.frame_codec.specs.Reading.{Reading, behind_frames, read}
 use Rattle.net_core.specs.declared.steps.Moved.{Moved}
 use Rattle.net_core.specs.declared.steps.Moved.TheVariants.{Stepped, Blocked}
-use Rattle.net_core.specs.Told.{Outside, told}
-use Rattle.network_meaning.specs.Calls.{Given, Taken}
-use Rattle.network_meaning.specs.LocalSteps.{Want, Want.take_left, Want.take_right, Want.give_left, Want.give_right, Want.work}
+use Rattle.net_core.specs.Told.{Outside}
+use Rattle.network_meaning.specs.Calls.{Taken}
+use Rattle.network_meaning.specs.LocalSteps.{Want, Want.take_left, Want.take_right}
 use Rattle.network_meaning.specs.Network.{LocalState, want}
 use Rattle.quel_network.specs.Quel.{quel}
 use Rattle.quel_network.specs.Sorts.{User, quel_sorts}
@@ -21,13 +21,13 @@ use Rattle.stage_process.specs.declared.fault.LoopFault.{LoopFault}
 use Rattle.stage_process.specs.declared.fault.LoopFault.TheVariants as fault
 use Rattle.stage_process.specs.declared.incoming.Incoming.{Incoming}
 use Rattle.stage_process.specs.Faults.{IsPlain}
-use Rattle.stage_process.specs.Incoming.{Holds, Inlet, inlet}
-use Rattle.stage_process.specs.Moves.{At, Move, Places, first_places, from_left, from_right, gave_left, gave_right, given_left, given_right, passed, places_from, taken_left, taken_right, to_left, to_right, took_left, took_right, worked}
+use Rattle.stage_process.specs.Incoming.{Holds, inlet}
+use Rattle.stage_process.specs.Moves.{At, Move, Places, first_places, from_left, from_right, given_left, given_right, passed, taken_left, taken_right, to_left, to_right, took_left, took_right}
 use Rattle.stage_process.specs.Sides.{Faltered, HasRead, IsNeeded, Outlet, OutletLater, SameCounts, Side, SideLater, Sides}
-use Rattle.stage_process.specs.Steps.{Goes, Hand, Past, Ran, SideGoes, StepDone, at_hand}
-use Rattle.stage_process.specs.Taking.{Gave, GavePart, TakeDone, TakeFailed, Took, Worked}
+use Rattle.stage_process.specs.Steps.{Goes, Hand, Past, Ran, StepDone, at_hand}
+use Rattle.stage_process.specs.Taking.{TakeDone, TakeFailed}
 use Rattle.stage_process.specs.Whole.{Ending, HowEnded, SideRead, unmet}
-use Rattle.stage_process.proofs.Going.{faltered_from, flat_one, flat_same, outlet_later, place_next, places_more, read_later, rose_from, side_as, side_gave, side_lacks, side_read, side_took, stays_later, wrote_all, wrote_as, wrote_part}
+use Rattle.stage_process.proofs.Going.{flat_one, flat_same, place_next, places_more, read_later, rose_from, side_as, side_lacks, side_read, side_took, stays_later, wrote_all, wrote_as}
 
 -- ---- how a step that was to take has ended
 
@@ -127,14 +127,19 @@ took_from_left : (serves : User → Type 0) (past : Past) (p : Hand) (s' : Local
     HasRead p.sides.left.left more told' → (IsNeeded (length (taken_left past.moves)) past.left → IsNeeded (length (taken_left past.moves) + 1) (past.left ++ more)) → Holds (taken_left past.moves ++ frame ∷ []) (past.left ++ more) i' →
     ((user : User) → serves user → Taken (quel user) p.state frame s') → faults' ≡ p.sides.left.faults → StepDone serves past p (at_left p s' told' faults' i' heard') (Ok Stepped)
 took_from_left serves past p s' told' faults' i' heard' frame more w g heard needed holds taken same =
-    let m = took_left frame in
-    (m, past.left ++ more, past.right, (λ user x. (w, taken user x, refl)), record {
-      left = side_as past.before.left _ (taken_left past.moves ++ frame ∷ []) (taken_left (past.moves ++ m ∷ [])) (given_left past.moves) (given_left (past.moves ++ m ∷ [])) (past.left ++ more) i' (flat_one from_left past.moves m) (flat_same to_left past.moves m refl)
-          (side_took past.before.left p.sides.left (taken_left past.moves) (given_left past.moves) past.left more p.talk.left i' frame told' faults' p.sides.left.out g.left heard needed holds same refl (same_counts p.sides.left.out));
-      right = side_as past.before.right p.sides.right (taken_right past.moves) (taken_right (past.moves ++ m ∷ [])) (given_right past.moves) (given_right (past.moves ++ m ∷ [])) past.right p.talk.right (flat_same from_right past.moves m refl) (flat_same to_right past.moves m refl) g.right;
-      plain = subst (λ (fs : List Frame). All IsPlain fs) (sym (flat_same from_right past.moves m refl)) g.plain;
-      places = ap (λ (x : ℕ). places_at x p.talk.right.place p.talk.left.place) (place_next (taken_left past.moves) past.left (past.left ++ more) p.talk.left i' frame g.left.holds holds) ∙ ap (λ (q : Places). passed q m) g.places ∙ sym (places_more first_places past.moves m);
-    })
+    let m = took_left frame in (
+      m,
+      past.left ++ more,
+      past.right,
+      (λ user x. (w, taken user x, refl)),
+      record {
+        left = side_as past.before.left _ (taken_left past.moves ++ frame ∷ []) (taken_left (past.moves ++ m ∷ [])) (given_left past.moves) (given_left (past.moves ++ m ∷ [])) (past.left ++ more) i' (flat_one from_left past.moves m) (flat_same to_left past.moves m refl)
+            (side_took past.before.left p.sides.left (taken_left past.moves) (given_left past.moves) past.left more p.talk.left i' frame told' faults' p.sides.left.out g.left heard needed holds same refl (same_counts p.sides.left.out));
+        right = side_as past.before.right p.sides.right (taken_right past.moves) (taken_right (past.moves ++ m ∷ [])) (given_right past.moves) (given_right (past.moves ++ m ∷ [])) past.right p.talk.right (flat_same from_right past.moves m refl) (flat_same to_right past.moves m refl) g.right;
+        plain = subst (λ (fs : List Frame). All IsPlain fs) (sym (flat_same from_right past.moves m refl)) g.plain;
+        places = ap (λ (x : ℕ). places_at x p.talk.right.place p.talk.left.place) (place_next (taken_left past.moves) past.left (past.left ++ more) p.talk.left i' frame g.left.holds holds) ∙ ap (λ (q : Places). passed q m) g.places ∙ sym (places_more first_places past.moves m);
+      },
+    )
 
 left_lacks : (serves : User → Type 0) (past : Past) (p : Hand) (s' : LocalState quel_sorts) (told' : Option (List ℕ)) (faults' : ℕ) (f : LoopFault) (more : List ℕ) → want p.state ≡ take_left → Goes past p →
     HasRead p.sides.left.left more told' → (IsNeeded (length (taken_left past.moves)) past.left → IsNeeded (length (taken_left past.moves) + 1) (past.left ++ more)) → p.sides.left.faults ≤ faults' →
@@ -146,7 +151,7 @@ left_lacks serves past p s' told' faults' f more w g heard needed le rose (unrea
     let after : Side = record { left = told'; faults = faults'; out = p.sides.left.out } in
     still serves past p s' p.outside (record { left = after; right = p.sides.right }) f (past.left ++ more) unread past.right p.talk.right.reader
     (subst (λ (x : ℕ). SideRead past.before.left after (taken_left past.moves) (n + x) (past.left ++ more) unread) (sym (unmet_left (want p.state) f w))
-        (side_lacks past.before.left p.sides.left (taken_left past.moves) (given_left past.moves) past.left more p.talk.left unread told' faults' p.sides.left.out g.left heard needed is))
+    (side_lacks past.before.left p.sides.left (taken_left past.moves) (given_left past.moves) past.left more p.talk.left unread told' faults' p.sides.left.out g.left heard needed is))
     (side_read past.before.right p.sides.right (taken_right past.moves) (given_right past.moves) past.right p.talk.right _ p.sides.right.faults p.sides.right.out g.right (omega arith))
     g.plain
     g.left.wrote
@@ -154,7 +159,7 @@ left_lacks serves past p s' told' faults' f more w g heard needed le rose (unrea
     (read_later past.before.left p.sides.left (taken_left past.moves) (given_left past.moves) past.left p.talk.left told' faults' p.sides.left.out g.left le (later_counts p.sides.left.out))
     (stays_later past.before.right p.sides.right (taken_right past.moves) (given_right past.moves) past.right p.talk.right g.right)
     (how_left serves p.heard s' p.outside p.outside past.before (record { left = after; right = p.sides.right }) (ending past.moves (at_hand p) (past.left ++ more) unread told' past.right p.talk.right.reader p.sides.right.left) f w why
-        (λ e. rose_from past.before.left.faults p.sides.left.faults faults' g.left.faults (rose e)))
+    (λ e. rose_from past.before.left.faults p.sides.left.faults faults' g.left.faults (rose e)))
 
 pub take_left_done : (serves : User → Type 0) (past : Past) (p : Hand) (s' : LocalState quel_sorts) (told' : Option (List ℕ)) (faults' : ℕ) (i' : Incoming) (heard' : ℕ) (result : Result Moved LoopFault) → want p.state ≡ take_left → Goes past p →
     TakeDone serves p.state s' (taken_left past.moves) past.left p.sides.left.left told' fault.LeftRead i' result → p.sides.left.faults ≤ faults' → (result ≡ Err fault.LeftRead → Rose p.sides.left.faults faults') → OnOk result (faults' ≡ p.sides.left.faults) →
@@ -180,14 +185,19 @@ took_from_right : (serves : User → Type 0) (past : Past) (p : Hand) (s' : Loca
     ((user : User) → serves user → Taken (quel user) p.state frame s') → IsPlain frame → right'.faults ≡ p.sides.right.faults → right'.out.written ≡ p.sides.right.out.written → SameCounts p.sides.right.out right'.out →
     StepDone serves past p (at_right p s' right' i' heard') (Ok Stepped)
 took_from_right serves past p s' right' i' heard' frame more w g heard needed holds taken plain same written counts =
-    let m = took_right frame in
-    (m, past.left, past.right ++ more, (λ user x. (w, taken user x, refl)), record {
-      left = side_as past.before.left p.sides.left (taken_left past.moves) (taken_left (past.moves ++ m ∷ [])) (given_left past.moves) (given_left (past.moves ++ m ∷ [])) past.left p.talk.left (flat_same from_left past.moves m refl) (flat_same to_left past.moves m refl) g.left;
-      right = side_as past.before.right right' (taken_right past.moves ++ frame ∷ []) (taken_right (past.moves ++ m ∷ [])) (given_right past.moves) (given_right (past.moves ++ m ∷ [])) (past.right ++ more) i' (flat_one from_right past.moves m) (flat_same to_right past.moves m refl)
-          (side_took past.before.right p.sides.right (taken_right past.moves) (given_right past.moves) past.right more p.talk.right i' frame right'.left right'.faults right'.out g.right heard needed holds same written counts);
-      plain = subst (λ (fs : List Frame). All IsPlain fs) (sym (flat_one from_right past.moves m)) (All-push IsPlain (taken_right past.moves) frame g.plain plain);
-      places = ap (λ (x : ℕ). places_at p.talk.left.place x p.talk.right.place) (place_next (taken_right past.moves) past.right (past.right ++ more) p.talk.right i' frame g.right.holds holds) ∙ ap (λ (q : Places). passed q m) g.places ∙ sym (places_more first_places past.moves m);
-    })
+    let m = took_right frame in (
+      m,
+      past.left,
+      past.right ++ more,
+      (λ user x. (w, taken user x, refl)),
+      record {
+        left = side_as past.before.left p.sides.left (taken_left past.moves) (taken_left (past.moves ++ m ∷ [])) (given_left past.moves) (given_left (past.moves ++ m ∷ [])) past.left p.talk.left (flat_same from_left past.moves m refl) (flat_same to_left past.moves m refl) g.left;
+        right = side_as past.before.right right' (taken_right past.moves ++ frame ∷ []) (taken_right (past.moves ++ m ∷ [])) (given_right past.moves) (given_right (past.moves ++ m ∷ [])) (past.right ++ more) i' (flat_one from_right past.moves m) (flat_same to_right past.moves m refl)
+            (side_took past.before.right p.sides.right (taken_right past.moves) (given_right past.moves) past.right more p.talk.right i' frame right'.left right'.faults right'.out g.right heard needed holds same written counts);
+        plain = subst (λ (fs : List Frame). All IsPlain fs) (sym (flat_one from_right past.moves m)) (All-push IsPlain (taken_right past.moves) frame g.plain plain);
+        places = ap (λ (x : ℕ). places_at p.talk.left.place x p.talk.right.place) (place_next (taken_right past.moves) past.right (past.right ++ more) p.talk.right i' frame g.right.holds holds) ∙ ap (λ (q : Places). passed q m) g.places ∙ sym (places_more first_places past.moves m);
+      },
+    )
 
 right_lacks : (serves : User → Type 0) (past : Past) (p : Hand) (s' : LocalState quel_sorts) (right' : Side) (f : LoopFault) (more : List ℕ) → want p.state ≡ take_right → Goes past p →
     HasRead p.sides.right.left more right'.left → (IsNeeded (length (taken_right past.moves)) past.right → IsNeeded (length (taken_right past.moves) + 1) (past.right ++ more)) → p.sides.right.faults ≤ right'.faults → OutletLater p.sides.right.out right'.out →
@@ -199,14 +209,14 @@ right_lacks serves past p s' right' f more w g heard needed le later written ros
     still serves past p s' p.outside (record { left = p.sides.left; right = right' }) f past.left p.talk.left.reader (past.right ++ more) unread
     (side_read past.before.left p.sides.left (taken_left past.moves) (given_left past.moves) past.left p.talk.left _ p.sides.left.faults p.sides.left.out g.left (omega arith))
     (subst (λ (x : ℕ). SideRead past.before.right right' (taken_right past.moves) (n + x) (past.right ++ more) unread) (sym (unmet_right (want p.state) f w))
-        (side_lacks past.before.right p.sides.right (taken_right past.moves) (given_right past.moves) past.right more p.talk.right unread right'.left right'.faults right'.out g.right heard needed is))
+    (side_lacks past.before.right p.sides.right (taken_right past.moves) (given_right past.moves) past.right more p.talk.right unread right'.left right'.faults right'.out g.right heard needed is))
     g.plain
     g.left.wrote
     (wrote_as past.before.right p.sides.right (taken_right past.moves) (given_right past.moves) past.right p.talk.right right'.out g.right written)
     (stays_later past.before.left p.sides.left (taken_left past.moves) (given_left past.moves) past.left p.talk.left g.left)
     (read_later past.before.right p.sides.right (taken_right past.moves) (given_right past.moves) past.right p.talk.right right'.left right'.faults right'.out g.right le later)
     (how_right serves p.heard s' p.outside p.outside past.before (record { left = p.sides.left; right = right' }) (ending past.moves (at_hand p) past.left p.talk.left.reader p.sides.left.left (past.right ++ more) unread right'.left) f w why
-        (λ e. inl (rose_from past.before.right.out.faults p.sides.right.out.faults right'.out.faults g.right.counts.faults (rose e))))
+    (λ e. inl (rose_from past.before.right.out.faults p.sides.right.out.faults right'.out.faults g.right.counts.faults (rose e))))
 
 pub take_right_done : (serves : User → Type 0) (past : Past) (p : Hand) (s' : LocalState quel_sorts) (right' : Side) (i' : Incoming) (heard' : ℕ) (result : Result Moved LoopFault) → want p.state ≡ take_right → Goes past p →
     TakeDone serves p.state s' (taken_right past.moves) past.right p.sides.right.left right'.left fault.Right i' result → p.sides.right.faults ≤ right'.faults → OutletLater p.sides.right.out right'.out → right'.out.written ≡ p.sides.right.out.written →

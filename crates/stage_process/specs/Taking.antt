@@ -1,5 +1,5 @@
 -- What a step comes to that takes a frame, gives one, or works.
-use Rattle.std.specs.Prelude.{◌≡◌, ◌⊎◌, ℕ, ◌+◌, ◌≤◌, List, [], ◌∷◌, ◌++◌, length, Result, Ok, Err, ⊤}
+use Rattle.std.specs.Prelude.{◌≡◌, ◌⊎◌, ℕ, ◌+◌, List, [], ◌∷◌, ◌++◌, length, Result, Ok, Err, ⊤}
 use Rattle.std.specs.declared.option.Option.{Option}
 use Rattle.std.specs.Io.KnownBytes.{Appends}
 use Rattle.fault_io.specs.Told.{GrewBy, IsFront}
@@ -7,7 +7,6 @@ use Rattle.frame_codec.specs.declared.frame.Frame.{Frame}
 use Rattle.frame_codec.specs.Frames.{frame_bytes}
 use Rattle.frame_codec.specs.Reading.{Reading, behind_frames, read}
 use Rattle.net_core.specs.Causes.{MayCome, MayNotTake, MayNotWork}
-use Rattle.net_core.specs.declared.fault.WorkFault.{WorkFault}
 use Rattle.net_core.specs.declared.fault.WorkFault.TheVariants as work
 use Rattle.net_core.specs.declared.steps.Moved.{Moved}
 use Rattle.net_core.specs.declared.steps.Moved.TheVariants.{Stepped, Blocked}

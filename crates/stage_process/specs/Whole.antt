@@ -1,6 +1,5 @@
 -- What the process of a stage has done, and how it ended.
-use Rattle.std.specs.Prelude.{◌≡◌, ◌⊎◌, ℕ, ◌+◌, ◌-◌, ◌^◌, List, [], ◌++◌, length, All, Some, Result, Ok, Err, ⊤}
-use Rattle.std.specs.declared.option.Option.{Option}
+use Rattle.std.specs.Prelude.{◌≡◌, ◌⊎◌, ℕ, ◌+◌, ◌-◌, ◌^◌, List, ◌++◌, length, All, Some, Result, Ok, Err, ⊤}
 use Rattle.fault_io.specs.Causes.{Rose}
 use Rattle.frame_codec.specs.declared.frame.Frame.{Frame}
 use Rattle.frame_codec.specs.Frames.{frames_bytes}

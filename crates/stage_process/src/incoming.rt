@@ -142,7 +142,11 @@ impl Incoming {
     }
 
     /// The next frame from the left. Pieces are read only while none is whole.
-    pub(crate) fn next_left<I: Source>(&mut self, source: &mut I, buf: &mut [u8]) -> Result<Frame, LoopFault>
+    pub(crate) fn next_left<I: Source>(
+        &mut self,
+        source: &mut I,
+        buf: &mut [u8],
+    ) -> Result<Frame, LoopFault>
         requires held { IsHeld self.old }
         requires size { length buf.old ≡ 4096 }
         ensures asked { (taken : List FrameOf) (bytes : List ℕ) → Holds taken bytes self.old → Asked taken bytes (I.left source.old) (I.left source.new) left_failed self.new result }
@@ -159,7 +163,11 @@ impl Incoming {
     }
 
     /// The next frame from the right. Pieces are read only while none is whole.
-    pub(crate) fn next_right<L: Link>(&mut self, link: &mut L, buf: &mut [u8]) -> Result<Frame, LoopFault>
+    pub(crate) fn next_right<L: Link>(
+        &mut self,
+        link: &mut L,
+        buf: &mut [u8],
+    ) -> Result<Frame, LoopFault>
         requires held { IsHeld self.old }
         requires size { length buf.old ≡ 4096 }
         ensures asked { (taken : List FrameOf) (bytes : List ℕ) → Holds taken bytes self.old → Asked taken bytes (L.left link.old) (L.left link.new) right_failed self.new result }

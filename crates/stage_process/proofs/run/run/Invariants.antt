@@ -1,4 +1,4 @@
-use Rattle.std.proofs.Common.{◌≡◌, ℕ, ◌-◌, ◌^◌, ◌≤◌, length, Ok}
+use Rattle.std.proofs.Common.{◌≡◌, ◌-◌, ◌^◌, ◌≤◌, length, Ok}
 use Rattle.net_core.specs.declared.steps.Moved.TheVariants.{Stepped}
 use Rattle.net_core.specs.Told.{outside, told}
 use Rattle.quel_network.specs.Sorts.{User}

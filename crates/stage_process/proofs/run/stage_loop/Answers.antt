@@ -1,4 +1,4 @@
-use Rattle.std.proofs.Common.{◌≡◌, ℕ, Err, subst, sym, ◌∙◌}
+use Rattle.std.proofs.Common.{ℕ, Err, subst, ◌∙◌}
 use Rattle.stage_process.specs.Faults.{fault_bytes}
 use Rattle.stage_process.specs.Sides.{Outlet, Wrote, outlet, sides}
 use Rattle.stage_process.proofs.Endings.{done_err, done_ok}

@@ -1,4 +1,4 @@
-use Rattle.std.proofs.Common.{◌≡◌, Some, None, ℕ, refl, sym, subst, arith, length}
+use Rattle.std.proofs.Common.{◌≡◌, ℕ, refl, sym, subst, arith}
 use Rattle.std.specs.declared.option.Option.{Option}
 use Rattle.frame_codec.specs.declared.fault.FrameFault.TheVariants.{OutOfMemory as no_memory}
 use Rattle.stage_process.specs.Incoming.{IsFaultAt}

@@ -1,7 +1,6 @@
-use Rattle.std.proofs.Common.{◌≡◌, ◌∙◌, refl, sym, subst, ℕ, List, [], ◌++◌, Ok, Err, length, arith, rules}
-use Rattle.frame_codec.specs.declared.frame.Frame.{Frame}
+use Rattle.std.proofs.Common.{◌≡◌, ◌∙◌, refl, sym, subst, [], ◌++◌, Err, arith, rules}
 use Rattle.stage_process.specs.declared.incoming.Incoming.{Incoming}
-use Rattle.stage_process.specs.Incoming.{Asked, Holds}
+use Rattle.stage_process.specs.Incoming.{Holds}
 use Rattle.stage_process.proofs.Pieces.{SoFar, begins, got_frame, got_none, goes_on}
 use Rattle.stage_process.proofs.incoming.Incoming.next_left.Goals as goal
 

@@ -1,4 +1,4 @@
-use Rattle.std.proofs.Common.{arith, length, length-take}
+use Rattle.std.proofs.Common.{arith, length-take}
 use Rattle.stage_process.proofs.Pieces.{read_piece}
 use Rattle.stage_process.proofs.incoming.Incoming.read_right.Goals as goal
 

@@ -1,4 +1,4 @@
-use Rattle.std.proofs.Common.{◌≡◌, arith, length, ap}
+use Rattle.std.proofs.Common.{arith}
 use Rattle.std.proofs.lemmas.Grind.{common_steps}
 use Rattle.stage_process.proofs.Readers.{next_lies}
 use Rattle.stage_process.proofs.incoming.Incoming.take_ready.Goals as goal
