@@ -1,4 +1,4 @@
-//! Tests of the network: links and spawners, rounds of turns, and stages that play a written list.
+//! Tests of the network: links and spawners, rounds of turns, and stages that play a written list, in a line and as processes.
 #![tactic(auto)]
 
 #[cfg(test)]
@@ -7,5 +7,7 @@ mod links;
 mod orders;
 #[cfg(test)]
 mod players;
+#[cfg(test)]
+mod processes;
 #[cfg(test)]
 mod rounds;

@@ -13,9 +13,9 @@ use std::test::*;
 
 type Four = Net<Player, Player, Player, Player>;
 
-type Memory = Room<DbPlain, MemShelf, MemSource, MemSink>;
+pub(crate) type Memory = Room<DbPlain, MemShelf, MemSource, MemSink>;
 
-const ONE: [Move; 6] = [
+pub(crate) const ONE: [Move; 6] = [
     Move {
         act: Act::Print,
         left: b"",
@@ -86,7 +86,7 @@ const TWO: [Move; 7] = [
     },
 ];
 
-const THREE: [Move; 5] = [
+pub(crate) const THREE: [Move; 5] = [
     Move {
         act: Act::TakeLeft,
         left: b"",
@@ -152,7 +152,7 @@ fn players<R: Abort>(rt: &R, alloc: Global, capacity: usize) -> Four {
 }
 
 /// An empty database, no files, no script, and a sink whose calls with these numbers fail.
-fn room<R: Abort>(rt: &R, alloc: Global, failing: &[u64]) -> Memory {
+pub(crate) fn room<R: Abort>(rt: &R, alloc: Global, failing: &[u64]) -> Memory {
     let dba = Name::of(alloc, b"ingres")
         .expect(rt, "memory")
         .expect(rt, "a name");
