@@ -10,8 +10,8 @@ use Rattle.net_core.specs.declared.steps.Moved.{Moved}
 use Rattle.net_core.specs.declared.steps.Moved.TheVariants.{Stepped, Blocked}
 use Rattle.net_core.specs.Faults.{IsOfTaking}
 use Rattle.net_core.specs.Pipes.{GaveTo, TookFrom, WasEmpty}
-use Rattle.net_core.specs.Steps.{FailedStep, FitUnlessBlocked, Piped, PipedDone, PipedMayNot, PipedMoves, PipedSteps, in_room}
-use Rattle.net_core.specs.Told.{KeepsDatabase, Outside, told}
+use Rattle.net_core.specs.Steps.{FitUnlessBlocked, Piped, PipedDone, PipedMayNot, PipedMoves, PipedSteps, in_room}
+use Rattle.net_core.specs.Told.{FailedStep, KeepsDatabase, Outside, told}
 use Rattle.net_core.specs.Wants.{was_blocked}
 use Rattle.network_meaning.specs.Calls.{GivenLeft, GivenRight, Tells, TellsAfter}
 use Rattle.network_meaning.specs.Language.{Language}

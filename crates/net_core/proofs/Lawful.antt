@@ -5,8 +5,7 @@ use Rattle.calculus.specs.Database.{Db}
 use Rattle.fault_io.specs.Files.{Files}
 use Rattle.frame_codec.specs.declared.frame.Frame.{Frame}
 use Rattle.net_core.specs.Causes.{MayNotTake}
-use Rattle.net_core.specs.Steps.{FailedStep}
-use Rattle.net_core.specs.Told.{Outside, told_by}
+use Rattle.net_core.specs.Told.{FailedStep, Outside, told_by}
 use Rattle.net_core.specs.Whole.{IsDisorderly, MayNotStep, WroteFront, seen, state_at}
 use Rattle.network_meaning.specs.Calls.{KeepsAll, Moves, Seen, Shape, TakenAs, join, stage_number}
 use Rattle.network_meaning.specs.Failing.{Begins, work_bytes}

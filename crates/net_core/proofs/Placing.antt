@@ -3,8 +3,8 @@ use Rattle.std.proofs.Common.{IfOk, OnErr, ◌≡◌, ◌+◌, ℕ, Bool, true, 
 use Rattle.std.specs.declared.option.Option.{Option}
 use Rattle.net_core.specs.declared.fault.WorkFault.{WorkFault}
 use Rattle.net_core.specs.declared.steps.Moved.{Moved}
-use Rattle.net_core.specs.Steps.{FailedStep, FitUnlessBlocked, Piped, PipedDone, PipedMayNot, PipedMoves, PipedSteps, StepDone, in_room}
-use Rattle.net_core.specs.Told.{Outside, told}
+use Rattle.net_core.specs.Steps.{FitUnlessBlocked, Piped, PipedDone, PipedMayNot, PipedMoves, PipedSteps, StepDone, in_room}
+use Rattle.net_core.specs.Told.{FailedStep, Outside, told}
 use Rattle.net_core.specs.Wants.{was_blocked}
 use Rattle.net_core.specs.Whole.{MayNotStep, state_at}
 use Rattle.network_meaning.specs.Calls.{FitStep, Moves, Shape, join}

@@ -1,8 +1,8 @@
 -- The steps of a list so far, and where they stop.
 use Rattle.std.proofs.Common.{OnErr, ◌≡◌, ℕ, ◌+◌, ◌<◌, Bool, List, [], ◌∷◌, ◌++◌, length, take, drop, get_or, Result, Ok, Err, refl, sym, ap, subst, ◌∙◌, add-one, take-append-drop, drop-cons}
 use Rattle.net_core.specs.declared.fault.WorkFault.{WorkFault}
-use Rattle.net_core.specs.Told.{KeepsDatabase, KeepsScript, Later, Outside}
-use Rattle.net_core.specs.Whole.{IsDisorderly, StopsAt, WroteFront, seen}
+use Rattle.net_core.specs.Told.{FailedStep, KeepsDatabase, KeepsScript, Later, Outside}
+use Rattle.net_core.specs.Whole.{IsDisorderly, StopsAt, WroteFront, seen, state_at}
 use Rattle.network_meaning.specs.Calls.{KeepsAll, Moves, RunsTurns, Shape, stage_number}
 use Rattle.network_meaning.specs.Statements.{FinishesInOrder}
 use Rattle.network_meaning.proofs.Runs.{one_more, runs_keeps}
@@ -67,15 +67,19 @@ turns_finish capacity turns a b o o' h h' serves serves' numbers numbers' d user
 
 pub turns_stopped : {T : Type 0} (result : Result T WorkFault) (capacity : ℕ) (turns : List ℕ) (i : ℕ) (a b : Shape quel_sorts) (o o' after : Outside) (h h' : ℕ) (serves serves' : User → Type 0) (numbers numbers' : Type 0) →
     i < length turns → TurnsDone capacity (take i turns) a b o o' h h' serves serves' numbers numbers' → ((user : User) → serves' user → WroteFront (quel user) (seen b o') after) →
+    ((user : User) → serves' user → FailedStep (quel user) (state_at b (stage_number (get_or turns i 0))) o' after) →
     (user : User) → serves user → OnErr result (StopsAt (quel user) capacity turns (seen a o) after)
-turns_stopped result capacity turns i a b o o' after h h' serves serves' numbers numbers' lt d wrote user x =
+turns_stopped result capacity turns i a b o o' after h h' serves serves' numbers numbers' lt d wrote part user x =
     on_any result _ (record {
       made = take i turns;
       failed = get_or turns i 0;
       later = drop (i + 1) turns;
       is = cut_at turns i lt;
       before = seen b o';
+      outside = o';
+      tells = refl;
       runs = d.runs user x;
+      part = part user (d.serve user x);
       wrote = wrote user (d.serve user x);
     })
 

@@ -6,7 +6,7 @@ use Rattle.net_core.specs.Causes.{IsCaused, MayNotTake, MayNotWork}
 use Rattle.net_core.specs.declared.fault.WorkFault.{WorkFault}
 use Rattle.net_core.specs.declared.fault.WorkFault.TheVariants as faults
 use Rattle.net_core.specs.declared.steps.Moved.{Moved}
-use Rattle.net_core.specs.Told.{FailedWork, KeepsDatabase, KeepsScript, Later, Outside, told}
+use Rattle.net_core.specs.Told.{FailedStep, KeepsDatabase, KeepsScript, Later, Outside, told}
 use Rattle.net_core.specs.Wants.{was_blocked}
 use Rattle.net_core.specs.Whole.{MayNotStep, seen, state_at}
 use Rattle.network_meaning.specs.Calls.{FitWant, Moves, Shape, Tells, TellsAfter, join}
@@ -49,10 +49,6 @@ pub record PipedMoves (L : Language quel_sorts) (left right : ℕ) (blocked : Bo
   pub is : is_blocked left right (in_room old room) (want old.stage) ≡ blocked
   pub fit : FitUnlessBlocked L (in_room old room) blocked
   pub step : PipedSteps L (in_room old room) (in_room new room') blocked
-
--- a stage that failed has worked and written a front of what this work writes, or all outside it is as it was
-abbrev pub FailedStep : Language quel_sorts → LocalState quel_sorts → Outside → Outside → Type 0
-FailedStep L s before after = ((want s ≡ work) × FailedWork L s.mode before after) ⊎ (after ≡ before)
 
 -- a frame comes to a stage that it may not take, or it is to work on what isn't fit
 abbrev pub PipedMayNot : Language quel_sorts → Piped → Outside → Type 0

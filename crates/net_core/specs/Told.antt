@@ -1,11 +1,13 @@
 -- What a room tells, and what failing work leaves of it.
-use Rattle.std.specs.Prelude.{◌≡◌, ◌++◌, ◌+◌, ◌≤◌, ℕ, List, Some, None, length}
+use Rattle.std.specs.Prelude.{◌≡◌, ◌⊎◌, ◌++◌, ◌+◌, ◌≤◌, ℕ, List, Some, None, length}
 use Rattle.std.specs.declared.option.Option.{Option}
 use Rattle.calculus.specs.Database.{Db}
 use Rattle.fault_io.specs.Files.{Files}
+use Rattle.fault_io.specs.Shelves.{KeepsOthers}
 use Rattle.network_meaning.specs.Failing.{Begins, work_bytes}
 use Rattle.network_meaning.specs.Language.{Language}
-use Rattle.network_meaning.specs.LocalSteps.{Mode, Room as NetworkRoom}
+use Rattle.network_meaning.specs.LocalSteps.{Act, Mode, Works, Want.work, Room as NetworkRoom}
+use Rattle.network_meaning.specs.Network.{LocalState, want}
 use Rattle.net_core.specs.declared.room.Room.{Room}
 use Rattle.quel_network.specs.Sorts.{quel_sorts}
 
@@ -44,9 +46,24 @@ told_by _ _ _ _ = None
 abbrev pub told : Outside → Option (NetworkRoom quel_sorts)
 told o = told_by o.database o.files o.script o.output
 
--- work that failed in a room that is told has written a front of what this work writes
+-- the database is the one before a piece of work, or the one that this work leaves
+abbrev pub IsBeforeOrAfter : Language quel_sorts → Mode quel_sorts → NetworkRoom quel_sorts → Db → Type 0
+IsBeforeOrAfter L mode room db = (db ≡ room.db) ⊎ ((act : Act quel_sorts) × (room' : NetworkRoom quel_sorts) × Works L mode room act room' × (db ≡ room'.db))
+
+-- what work leaves of a room that came to no end: a front of what this work writes was written, every file but one is as it was, and a database that is told is the one before or the one that the work leaves
+abbrev pub LeavesPart : Language quel_sorts → Mode quel_sorts → NetworkRoom quel_sorts → Outside → Type 0
+LeavesPart L mode room after =
+    (front : List ℕ) × Begins front (work_bytes L mode room) × (after.output ≡ Some (room.out ++ front))
+    × ((name : List ℕ) × KeepsOthers name room.shelf after.files)
+    × ((db : Db) → after.database ≡ Some db → IsBeforeOrAfter L mode room db)
+
+-- work that failed in a room that is told has left a part of what it does
 abbrev pub FailedWork : Language quel_sorts → Mode quel_sorts → Outside → Outside → Type 0
-FailedWork L mode before after = (room : NetworkRoom quel_sorts) → told before ≡ Some room → (front : List ℕ) × Begins front (work_bytes L mode room) × (after.output ≡ Some (room.out ++ front))
+FailedWork L mode before after = (room : NetworkRoom quel_sorts) → told before ≡ Some room → LeavesPart L mode room after
+
+-- a stage that failed has worked and left a part of what it does, or all outside it is as it was
+abbrev pub FailedStep : Language quel_sorts → LocalState quel_sorts → Outside → Outside → Type 0
+FailedStep L s before after = ((want s ≡ work) × FailedWork L s.mode before after) ⊎ (after ≡ before)
 
 -- a database that is told is told again
 abbrev pub KeepsDatabase : Outside → Outside → Type 0

@@ -3,9 +3,9 @@ use Rattle.std.specs.Prelude.{◌≡◌, ◌⊎◌, ◌+◌, ◌++◌, [], ◌�
 use Rattle.frame_codec.specs.declared.frame.Frame.{Frame}
 use Rattle.net_core.specs.Causes.{MayNotTake, MayNotWork}
 use Rattle.net_core.specs.declared.net.Net.{Net}
-use Rattle.net_core.specs.Told.{Outside, told}
+use Rattle.net_core.specs.Told.{FailedStep, Outside, told}
 use Rattle.net_core.specs.Wants.{HasEnded}
-use Rattle.network_meaning.specs.Calls.{RunsTurns, Seen, Shape, join}
+use Rattle.network_meaning.specs.Calls.{join, RunsTurns, Seen, Shape, stage_number}
 use Rattle.network_meaning.specs.Failing.{Begins}
 use Rattle.network_meaning.specs.Language.{Language}
 use Rattle.network_meaning.specs.Lawful.{comes}
@@ -69,12 +69,15 @@ MayNotStep L k s o =
     ((frame : Frame) × ((r : NetworkRoom quel_sorts) → comes (between (join s r) k) ≡ Some frame) × MayNotTake L (state_at s k) frame)
     ⊎ ((want (state_at s k) ≡ work) × MayNotWork L (state_at s k).mode o)
 
--- the steps of a list were made up to one that failed, in front of which the network was so
+-- the steps of a list were made up to one that failed, in front of which the network and all outside it were so; it has left a part of what its stage does, or nothing
 pub record StopsAt (L : Language quel_sorts) (capacity : ℕ) (turns : List ℕ) (old : Seen quel_sorts) (after : Outside) : Type 0 where
   pub made : List ℕ
   pub failed : ℕ
   pub later : List ℕ
   pub is : turns ≡ made ++ failed ∷ later
   pub before : Seen quel_sorts
+  pub outside : Outside
+  pub tells : before.told ≡ told outside
   pub runs : RunsTurns L capacity made old before
+  pub part : FailedStep L (state_at before.shape (stage_number failed)) outside after
   pub wrote : WroteFront L before after

@@ -8,7 +8,7 @@ ghost use Rattle.network_meaning.specs.Network.{is_stuck, want};
 ghost use Rattle.network_meaning.specs.Statements.{FinishesInOrder};
 ghost use Rattle.net_core.specs.Causes.{IsCaused};
 ghost use Rattle.net_core.specs.Steps.{StepDone};
-ghost use Rattle.net_core.specs.Told.{KeepsDatabase, KeepsScript, Later, outside};
+ghost use Rattle.net_core.specs.Told.{FailedStep, KeepsDatabase, KeepsScript, Later, outside};
 ghost use Rattle.net_core.specs.Wants.{was_blocked};
 ghost use Rattle.net_core.specs.Whole.{AllServe, AreNumbered, IsDisorderly, MayNotStep, WroteFront, heard_by, seen, shape, state_at};
 ghost use Rattle.quel_network.specs.Quel.{quel};
@@ -55,6 +55,9 @@ pub fn net_step<A1: Stage, A2: Stage, A3: Stage, A4: Stage, B: Base, H: Shelf, S
         (seen (shape A1.state A2.state A3.state A4.state net.new) (outside B.database B.faults H.files H.faults S.left S.faults K.written K.faults K.stalls room.new))) }
     ensures failed { (user : User) → AllServe A1.serves A2.serves A3.serves A4.serves net.old user → OnErr result (WroteFront (quel user)
         (seen (shape A1.state A2.state A3.state A4.state net.old) (outside B.database B.faults H.files H.faults S.left S.faults K.written K.faults K.stalls room.old))
+        (outside B.database B.faults H.files H.faults S.left S.faults K.written K.faults K.stalls room.new)) }
+    ensures part { (user : User) → AllServe A1.serves A2.serves A3.serves A4.serves net.old user → OnErr result (FailedStep (quel user) (state_at (shape A1.state A2.state A3.state A4.state net.old) (stage_number k))
+        (outside B.database B.faults H.files H.faults S.left S.faults K.written K.faults K.stalls room.old)
         (outside B.database B.faults H.files H.faults S.left S.faults K.written K.faults K.stalls room.new)) }
     ensures unlawful { (user : User) → AllServe A1.serves A2.serves A3.serves A4.serves net.old user → IsErrOf result WorkFault.Unlawful → MayNotStep (quel user) (stage_number k) (shape A1.state A2.state A3.state A4.state net.old)
         (outside B.database B.faults H.files H.faults S.left S.faults K.written K.faults K.stalls room.old) }

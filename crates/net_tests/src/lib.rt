@@ -5,7 +5,6 @@
 mod links;
 #[cfg(test)]
 mod orders;
-#[cfg(test)]
 mod players;
 #[cfg(test)]
 mod processes;

@@ -6,9 +6,8 @@ use Rattle.frame_codec.specs.Frames.{frames_bytes}
 use Rattle.frame_codec.specs.Reading.{Reading, behind_frames, read}
 use Rattle.net_core.specs.Causes.{MayCome}
 use Rattle.net_core.specs.declared.fault.WorkFault.TheVariants as work_fault
-use Rattle.net_core.specs.Told.{Outside, told}
+use Rattle.net_core.specs.Told.{LeavesPart, Outside, told}
 use Rattle.net_core.specs.Wants.{HasEnded}
-use Rattle.network_meaning.specs.Failing.{Begins, work_bytes}
 use Rattle.network_meaning.specs.Language.{Language}
 use Rattle.network_meaning.specs.Lawful.{FitWork}
 use Rattle.network_meaning.specs.LocalSteps.{Want, Want.take_left, Want.take_right, Want.work, Room as NetworkRoom}
@@ -39,14 +38,14 @@ IsWanted e P = ((want e.end.state ≡ take_left) × P e.left) ⊎ ((want e.end.s
 abbrev pub IsUnfit : (User → Type 0) → Ending → ℕ → Type 0
 IsUnfit serves e at = (want e.end.state ≡ work) × (at ≡ last_place e.moves) × ((user : User) → serves user → (room : NetworkRoom quel_sorts) → e.end.room ≡ Some room → FitWork (quel user) e.end.state.mode room.db → ⊥)
 
--- the work that was to follow has written a front of what it writes, where the room is told
-abbrev pub WroteFrontOf : Language quel_sorts → At → Outside → Type 0
-WroteFrontOf L end after = (room : NetworkRoom quel_sorts) → end.room ≡ Some room → (front : List ℕ) × Begins front (work_bytes L end.state.mode room) × (after.output ≡ Some (room.out ++ front))
+-- the work that was to follow has left a part of what it does, where the room is told
+abbrev pub LeftPart : Language quel_sorts → At → Outside → Type 0
+LeftPart L end after = (room : NetworkRoom quel_sorts) → end.room ≡ Some room → LeavesPart L end.state.mode room after
 
 -- how it ended: the stage has ended; its work failed, by a fault that may come; a count of a side rose; a stream ended where a frame of it was wanted; no more steps or bytes are counted; what is wanted is no frame, or one that may not be taken, or what is to be worked on isn't fit, and no Fault frame that tells a status is wanted; a Fault frame is wanted that tells a status; or no memory was left
 abbrev pub HowEnded : (User → Type 0) → ℕ → LocalState quel_sorts → Outside → Outside → Sides → Sides → Ending → Result (Unit {0}) LoopFault → Type 0
 HowEnded serves heard s' old new before after e (Ok x) = HasEnded e.end.state × (s' ≡ e.end.state) × (told new ≡ e.end.room)
-HowEnded serves heard s' old new before after e (Err (fault.Work f)) = (want e.end.state ≡ work) × (f ≡ work_fault.Unlawful → ⊥) × MayCome heard old new f × ((user : User) → serves user → WroteFrontOf (quel user) e.end new)
+HowEnded serves heard s' old new before after e (Err (fault.Work f)) = (want e.end.state ≡ work) × (f ≡ work_fault.Unlawful → ⊥) × MayCome heard old new f × ((user : User) → serves user → LeftPart (quel user) e.end new)
 HowEnded serves heard s' old new before after e (Err fault.LeftRead) = (want e.end.state ≡ take_left) × Rose before.left.faults after.left.faults
 HowEnded serves heard s' old new before after e (Err fault.LeftWrite) = Faltered before.left.out after.left.out
 HowEnded serves heard s' old new before after e (Err fault.Right) = Faltered before.right.out after.right.out

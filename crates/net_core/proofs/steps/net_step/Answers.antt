@@ -42,3 +42,6 @@ returns-clause-finishes g c = done_finishes _ c.args.k _ _ _ _ _ _ _ _ _ _ _ c.s
 
 pub returns-clause-lawful : goal.returns-clause-lawful
 returns-clause-lawful g c = done_disorderly _ _ _ _ _ _ _ _ _ _ _ _ _ c.step_of.ensures.done
+
+pub returns-clause-part : goal.returns-clause-part
+returns-clause-part g c = c.step_of.ensures.done.failed

@@ -14,7 +14,7 @@ loop-k-preserved g c = (
 )
 
 pub returns-in_err-net_step-clause-stopped : goal.returns-in_err-net_step-clause-stopped
-returns-in_err-net_step-clause-stopped g c = turns_stopped c.from_residual.result _ _ _ _ _ _ _ _ _ _ _ _ _ _ c.loop-k-test.true c.loop-k.invariant.0 c.in_err-net_step.ensures.failed
+returns-in_err-net_step-clause-stopped g c = turns_stopped c.from_residual.result _ _ _ _ _ _ _ _ _ _ _ _ _ _ c.loop-k-test.true c.loop-k.invariant.0 c.in_err-net_step.ensures.failed c.in_err-net_step.ensures.part
 
 pub returns-in_err-net_step-clause-failed : goal.returns-in_err-net_step-clause-failed
 returns-in_err-net_step-clause-failed g c = turns_failed c.from_residual.result _ _ _ _ _ _
