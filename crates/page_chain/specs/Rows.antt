@@ -1,0 +1,32 @@
+-- The rows of a relation on the pages of its file.
+use Rattle.std.specs.Prelude.{ℕ, List, Option, Some, None, option_map}
+use Rattle.calculus.specs.declared.probe.Place.{Place}
+use Rattle.calculus.specs.declared.value.Domain.{Domain}
+use Rattle.calculus.specs.Rows.{Row}
+use Rattle.calculus.specs.Value.{row_cmp}
+use Rattle.access_traits.specs.Placed.{Placed, rows_of}
+use Rattle.page_cells.specs.RowBytes.{row_in}
+use Rattle.page_chain.specs.Chains.{whole_chain}
+use Rattle.page_chain.specs.Lists.{◌>>=◌, each, once}
+use Rattle.page_chain.specs.Lying.{Lying, lying}
+use Rattle.page_chain.specs.Pages.{Pages}
+
+-- a row that lies on a page, as it is read
+abbrev pub read_with : (List ℕ → Option Row) → Place × List ℕ → Option (Place × Row)
+read_with read r = option_map (λ row. (r.0, row)) (read r.1)
+
+-- the rows on the pages below `used`, all of them on one chain, each with its place
+unfoldable pub placed_on : (List ℕ → Option Row) → ℕ → Pages → Option Placed
+placed_on read used pages = do
+  numbers ← whole_chain used pages
+  each (read_with read) (lying pages numbers)
+
+-- the set of these rows, where none comes twice
+unfoldable pub set_on : (List ℕ → Option Row) → ℕ → Pages → Option (List Row)
+set_on read used pages = do
+  placed ← placed_on read used pages
+  once row_cmp (rows_of placed)
+
+-- how the bytes of a row of these domains are read
+abbrev pub reader : List Domain → List ℕ → Option Row
+reader domains bytes = row_in bytes domains

@@ -1,0 +1,10 @@
+//! Chains of pages of rows, the rows as bytes.
+#![tactic(auto)]
+
+mod chains;
+mod growing;
+mod replacing;
+
+pub use chains::{ChainRows, chain_page, chain_rows};
+pub use growing::{build, extend, put_one};
+pub use replacing::{Chain, Replacement, replace, take_one};
