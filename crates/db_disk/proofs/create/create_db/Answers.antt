@@ -1,0 +1,13 @@
+use Rattle.db_disk.proofs.create.create_db.Goals as goal
+
+pub returns-in_err-is_born_still-clause-crash : goal.returns-in_err-is_born_still-clause-crash
+returns-in_err-is_born_still-clause-crash g c = λ told. c.is_born_still.ensures.crash told c.args.dba.now
+
+pub returns-then-branch-clause-crash : goal.returns-then-branch-clause-crash
+returns-then-branch-clause-crash g c = λ told. c.is_born_still.ensures.crash told c.args.dba.now
+
+pub returns-in_err-make-clause-crash : goal.returns-in_err-make-clause-crash
+returns-in_err-make-clause-crash g c = λ told. c.make.ensures.crash told c.args.disk.now (c.is_born_still.ensures.crash told c.args.dba.now)
+
+pub returns-clause-crash : goal.returns-clause-crash
+returns-clause-crash g c = λ told. c.make.ensures.crash told c.args.disk.now (c.is_born_still.ensures.crash told c.args.dba.now)

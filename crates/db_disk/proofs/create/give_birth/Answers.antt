@@ -1,0 +1,23 @@
+use Rattle.std.proofs.Common.{refl}
+use Rattle.db_disk.proofs.Making.{born_written, born_synced, new_there}
+use Rattle.db_disk.proofs.create.give_birth.Goals as goal
+
+pub returns-in_err-write-clause-crash : goal.returns-in_err-write-clause-crash
+returns-in_err-write-clause-crash g c = λ told s so_far.
+    born_written g.D.Disk.seen g.D.Disk.touched g.D.Disk.clock g.D.Disk.left_since c.args.dba.now s c.args.disk.now c.write.new.self (c.requires.ready told) (c.requires.settled told) (c.write.ensures.change told)
+    (c.write.ensures.time told) so_far
+
+pub returns-in_err-sync-clause-crash : goal.returns-in_err-sync-clause-crash
+returns-in_err-sync-clause-crash g c = λ told s so_far.
+    born_synced g.D.Disk.seen g.D.Disk.touched g.D.Disk.clock g.D.Disk.left_since c.args.dba.now s c.args.disk.now c.write.new.self (c.requires.ready told) (c.requires.settled told) (c.write.ensures.change told)
+    c.sync.new.self (c.write.ensures.time told) (c.sync.ensures.seen told) (c.sync.ensures.touched told) (c.sync.ensures.time told) so_far
+
+pub returns-clause-crash : goal.returns-clause-crash
+returns-clause-crash g c = λ told s so_far.
+    born_synced g.D.Disk.seen g.D.Disk.touched g.D.Disk.clock g.D.Disk.left_since c.args.dba.now s c.args.disk.now c.write.new.self (c.requires.ready told) (c.requires.settled told) (c.write.ensures.change told)
+    c.sync.new.self (c.write.ensures.time told) (c.sync.ensures.seen told) (c.sync.ensures.touched told) (c.sync.ensures.time told) so_far
+
+pub returns-clause-new : goal.returns-clause-new
+returns-clause-new g c = λ told.
+    new_there g.D.Disk.seen g.D.Disk.touched g.D.Disk.clock g.D.Disk.left_since c.args.dba.now c.args.disk.now c.args.disk.now c.write.new.self (c.requires.ready told) (c.requires.settled told) (c.write.ensures.change told)
+    c.sync.new.self _ (c.in_ok-write.ensures.written told) refl (c.sync.ensures.seen told)

@@ -1,0 +1,7 @@
+use Rattle.db_disk.proofs.create.write_heads.Goals as goal
+
+pub returns-in_err-write_beside-2-clause-crash : goal.returns-in_err-write_beside-2-clause-crash
+returns-in_err-write_beside-2-clause-crash g c = λ told s dba h. c.write_beside-2.ensures.crash told s dba (c.write_beside.ensures.crash told s dba h)
+
+pub returns-clause-crash : goal.returns-clause-crash
+returns-clause-crash g c = λ told s dba h. c.write_beside-2.ensures.crash told s dba (c.write_beside.ensures.crash told s dba h)
