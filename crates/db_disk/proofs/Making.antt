@@ -20,6 +20,24 @@ ready_still dba m n same is = record {
   parts = subst IsFresh (sym (same (addr 7 0) (other_page (addr 7 0) birth_page (λ e f. absurd (omega (arith, e)))))) is.parts;
 }
 
+-- pages of two files are two
+other_file : (f g : ℕ) (p q : ℕ) → (f ≡ g → ⊥) → addr f p ≢ addr g q
+other_file f g p q off = other_page (addr f p) (addr g q) (λ e e'. off e)
+
+-- all but the birth byte is there, once the catalogues were written behind the header
+pub ready_after : (dba : List ℕ) (m1 m2 m3 m4 m5 : Image) → gate m1 ≢ 1 → IsHeader dba (m1 (addr 0 0))
+    → ((b : Addr) → b ≢ addr 5 0 → m2 b ≡ m1 b) → IsFresh (m2 (addr 5 0))
+    → ((b : Addr) → b ≢ addr 6 0 → m3 b ≡ m2 b) → IsFresh (m3 (addr 6 0))
+    → ((b : Addr) → b ≢ addr 7 0 → m4 b ≡ m3 b) → IsFresh (m4 (addr 7 0))
+    → m5 ≡ m4 → IsReady dba m5
+ready_after dba m1 m2 m3 m4 m5 shut header five entries six columns seven parts same = subst (IsReady dba) (sym same) record {
+  shut = subst (λ (p : Option (List ℕ)). first_byte p ≢ 1) (sym (seven (addr 1 0) (other_file 1 7 0 0 (λ e. absurd (omega (arith, e)))) ∙ six (addr 1 0) (other_file 1 6 0 0 (λ e. absurd (omega (arith, e)))) ∙ five (addr 1 0) (other_file 1 5 0 0 (λ e. absurd (omega (arith, e)))))) shut;
+  header = subst (IsHeader dba) (sym (seven (addr 0 0) (other_file 0 7 0 0 (λ e. absurd (omega (arith, e)))) ∙ six (addr 0 0) (other_file 0 6 0 0 (λ e. absurd (omega (arith, e)))) ∙ five (addr 0 0) (other_file 0 5 0 0 (λ e. absurd (omega (arith, e)))))) header;
+  entries = subst IsFresh (sym (seven (addr 5 0) (other_file 5 7 0 0 (λ e. absurd (omega (arith, e)))) ∙ six (addr 5 0) (other_file 5 6 0 0 (λ e. absurd (omega (arith, e)))))) entries;
+  columns = subst IsFresh (sym (seven (addr 6 0) (other_file 6 7 0 0 (λ e. absurd (omega (arith, e)))))) columns;
+  parts = parts;
+}
+
 -- it is 1, or it isn't
 is_one : (n : ℕ) → (n ≢ 1) ⊎ (n ≡ 1)
 is_one zero = inl (λ e. absurd (omega (arith, e)))

@@ -1,2 +1,3 @@
 pub mod Created
 pub mod Faults
+pub mod Making

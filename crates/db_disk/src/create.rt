@@ -1,11 +1,14 @@
 //! A database is made on a disk.
 
-ghost use Rattle.std.specs.Prelude.{◌≡◌, ◌≢◌, ◌⊎◌, ◌↔◌, ◌≤◌, ℕ, List, Some, None, Err, IsTrue, IfOk, OnOk, IsErrOf, if◌then◌else◌};
+ghost use Rattle.std.specs.Prelude.{◌≡◌, ◌≢◌, ◌⊎◌, ◌↔◌, ◌≤◌, ℕ, List, [], ◌∷◌, Some, None, Err, IsTrue, IfOk, OnOk, IsErrOf, if◌then◌else◌};
 ghost use Rattle.fault_io.specs.Causes.{HasCause};
 ghost use Rattle.disk_model.specs.Disk.{IsSettled, OnlyReads};
 ghost use Rattle.disk_model.specs.declared.disk.Addr.{Addr as At};
+ghost use Rattle.disk_model.specs.History.{Came, CameSo};
+ghost use Rattle.disk_model.specs.declared.calls.Call.TheVariants.{Write as AWrite, Sync as ASync};
 ghost use Rattle.batch_file.specs.Layout.{addr, first_byte, gate};
 ghost use Rattle.db_disk.specs.Created.{IsFresh, IsHeader, IsMaking, IsReady, IsNewDatabase, IsUnborn, birth, birth_page};
+ghost use Rattle.db_disk.specs.Making.{Bears, BothCame, Clears, Creates, Heads, Prepares};
 ghost use Rattle.db_disk.specs.Faults.{FailsBy};
 
 use crate::fault::CreateFault;
@@ -33,6 +36,7 @@ fn write_beside<D: Disk>(disk: &mut D, a: Addr, page: &Page) -> Result<(), DiskF
         → IsMaking D.seen D.touched D.clock D.left_since dba s disk.new }
     ensures written { IsTrue D.tells → OnOk result (D.seen disk.new a ≡ Some page.now) }
     ensures elsewhere { IsTrue D.tells → (b : At) → b ≢ a → D.seen disk.new b ≡ D.seen disk.old b }
+    ensures noted { OnOk result (Came (D.history disk.old) (D.history disk.new) (AWrite a page.now ∷ [])) }
     ensures cause { HasCause (D.faults disk.old) (D.faults disk.new) result }
 {
     disk.write(a, page)?;
@@ -47,6 +51,7 @@ fn write_heads<D: Disk>(disk: &mut D, dba: &Name) -> Result<(), DiskFailed>
         → IsMaking D.seen D.touched D.clock D.left_since dba s disk.new }
     ensures shut { IsTrue D.tells → OnOk result (gate (D.seen disk.new) ≢ 1) }
     ensures header { IsTrue D.tells → OnOk result (IsHeader dba.now (D.seen disk.new (addr 0 0))) }
+    ensures made { OnOk result (CameSo (D.history disk.old) (D.history disk.new) (Heads dba.now)) }
     ensures cause { HasCause (D.faults disk.old) (D.faults disk.new) result }
 {
     let mut page: Page = [0; 1024];
@@ -65,6 +70,7 @@ fn write_catalogue<D: Disk>(disk: &mut D, file: u32) -> Result<(), DiskFailed>
         → IsMaking D.seen D.touched D.clock D.left_since dba s disk.new }
     ensures elsewhere { IsTrue D.tells → (b : At) → b ≢ addr file 0 → D.seen disk.new b ≡ D.seen disk.old b }
     ensures fresh { IsTrue D.tells → OnOk result (IsFresh (D.seen disk.new (addr file 0))) }
+    ensures made { OnOk result (CameSo (D.history disk.old) (D.history disk.new) (Clears file)) }
     ensures cause { HasCause (D.faults disk.old) (D.faults disk.new) result }
 {
     let mut page: Page = [0; 1024];
@@ -82,6 +88,7 @@ fn settle<D: Disk>(disk: &mut D) -> Result<(), DiskFailed>
         → IsMaking D.seen D.touched D.clock D.left_since dba s disk.new }
     ensures same { IsTrue D.tells → D.seen disk.new ≡ D.seen disk.old }
     ensures settled { IsTrue D.tells → OnOk result (IsSettled (D.touched disk.new)) }
+    ensures noted { OnOk result (Came (D.history disk.old) (D.history disk.new) (ASync ∷ [])) }
     ensures cause { HasCause (D.faults disk.old) (D.faults disk.new) result }
 {
     disk.sync()?;
@@ -96,13 +103,15 @@ fn prepare<D: Disk>(disk: &mut D, dba: &Name) -> Result<(), DiskFailed>
         → IsMaking D.seen D.touched D.clock D.left_since dba s disk.new }
     ensures ready { IsTrue D.tells → OnOk result (IsReady dba.now (D.seen disk.new)) }
     ensures settled { IsTrue D.tells → OnOk result (IsSettled (D.touched disk.new)) }
+    ensures made { OnOk result (CameSo (D.history disk.old) (D.history disk.new) (Prepares dba.now)) }
     ensures cause { HasCause (D.faults disk.old) (D.faults disk.new) result }
 {
     write_heads(disk, dba)?;
     write_catalogue(disk, 5)?;
     write_catalogue(disk, 6)?;
     write_catalogue(disk, 7)?;
-    settle(disk)
+    settle(disk)?;
+    Ok(())
 }
 
 /// Writes the birth byte.
@@ -113,6 +122,7 @@ fn give_birth<D: Disk>(disk: &mut D, dba: &Name) -> Result<(), DiskFailed>
         → IsMaking D.seen D.touched D.clock D.left_since dba.now s disk.new }
     ensures new { IsTrue D.tells → OnOk result (IsNewDatabase dba.now (D.seen disk.new)) }
     ensures settled { IsTrue D.tells → OnOk result (IsSettled (D.touched disk.new)) }
+    ensures made { OnOk result (CameSo (D.history disk.old) (D.history disk.new) Bears) }
     ensures cause { HasCause (D.faults disk.old) (D.faults disk.new) result }
 {
     let mut page: Page = [0; 1024];
@@ -147,6 +157,7 @@ fn is_born_still<D: Disk>(disk: &mut D) -> Result<bool, DiskFailed>
     ensures same { IsTrue D.tells → D.seen disk.new ≡ D.seen disk.old }
     ensures settled { IsTrue D.tells → OnOk result (IsSettled (D.touched disk.new)) }
     ensures crash { IsTrue D.tells → (dba : List ℕ) → IsMaking D.seen D.touched D.clock D.left_since dba disk.old disk.new }
+    ensures noted { OnOk result (Came (D.history disk.old) (D.history disk.new) (ASync ∷ [])) }
     ensures cause { HasCause (D.faults disk.old) (D.faults disk.new) result }
 {
     disk.sync()?;
@@ -161,10 +172,12 @@ fn make<D: Disk>(disk: &mut D, dba: &Name) -> Result<(), DiskFailed>
         → IsMaking D.seen D.touched D.clock D.left_since dba.now s disk.new }
     ensures new { IsTrue D.tells → OnOk result (IsNewDatabase dba.now (D.seen disk.new)) }
     ensures settled { IsTrue D.tells → OnOk result (IsSettled (D.touched disk.new)) }
+    ensures made { OnOk result (BothCame (D.history disk.old) (D.history disk.new) dba.now) }
     ensures cause { HasCause (D.faults disk.old) (D.faults disk.new) result }
 {
     prepare(disk, dba)?;
-    give_birth(disk, dba)
+    give_birth(disk, dba)?;
+    Ok(())
 }
 
 /// Makes the disk hold a database of this administrator without anything in it. Takes no memory.
@@ -174,6 +187,9 @@ pub fn create_db<D: Disk>(disk: &mut D, dba: &Name) -> Result<(), CreateFault>
     ensures crash { IsTrue D.tells → IsMaking D.seen D.touched D.clock D.left_since dba.now disk.old disk.new }
     ensures new { IsTrue D.tells → OnOk result (IsNewDatabase dba.now (D.seen disk.new)) }
     ensures settled { IsTrue D.tells → OnOk result (IsSettled (D.touched disk.new)) }
+    // Whatever the disk tells of what it holds, these calls were made and answered Ok.
+    ensures made { OnOk result (CameSo (D.history disk.old) (D.history disk.new) (Creates dba.now)) }
+    ensures unwritten { IsErrOf result CreateFault.Exists → Came (D.history disk.old) (D.history disk.new) (ASync ∷ []) }
     ensures cause { FailsBy (D.faults disk.old) (D.faults disk.new) result }
 {
     if is_born_still(disk)? {

@@ -1,3 +1,4 @@
+use Rattle.db_disk.proofs.Calls.{creates}
 use Rattle.db_disk.proofs.create.create_db.Goals as goal
 
 pub returns-in_err-is_born_still-clause-crash : goal.returns-in_err-is_born_still-clause-crash
@@ -11,3 +12,6 @@ returns-in_err-make-clause-crash g c = λ told. c.make.ensures.crash told c.args
 
 pub returns-clause-crash : goal.returns-clause-crash
 returns-clause-crash g c = λ told. c.make.ensures.crash told c.args.disk.now (c.is_born_still.ensures.crash told c.args.dba.now)
+
+pub returns-clause-made : goal.returns-clause-made
+returns-clause-made g c = creates _ _ _ _ c.in_ok-is_born_still.ensures.noted c.in_ok-make.ensures.made

@@ -1,3 +1,4 @@
+use Rattle.db_disk.proofs.Calls.{bears}
 use Rattle.std.proofs.Common.{refl}
 use Rattle.db_disk.proofs.Making.{born_written, born_synced, new_there}
 use Rattle.db_disk.proofs.create.give_birth.Goals as goal
@@ -21,3 +22,6 @@ pub returns-clause-new : goal.returns-clause-new
 returns-clause-new g c = λ told.
     new_there g.D.Disk.seen g.D.Disk.touched g.D.Disk.clock g.D.Disk.left_since c.args.dba.now c.args.disk.now c.args.disk.now c.write.new.self (c.requires.ready told) (c.requires.settled told) (c.write.ensures.change told)
     c.sync.new.self _ (c.in_ok-write.ensures.written told) refl (c.sync.ensures.seen told)
+
+pub returns-clause-made : goal.returns-clause-made
+returns-clause-made g c = bears _ _ _ _ c.in_ok-write.ensures.noted c.in_ok-sync.ensures.noted refl
