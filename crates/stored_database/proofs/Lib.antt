@@ -1,0 +1,11 @@
+pub mod ColumnBytes
+pub mod EntryBytes
+pub mod Members
+pub mod Orders
+pub mod PartBytes
+pub mod PartsAgain
+pub mod ReadSets
+pub mod Reading
+pub mod Sets
+pub mod SpelledParts
+pub mod TreeBytes

@@ -1,0 +1,32 @@
+-- What is to be known of catalogues and databases on disk.
+use Rattle.std.specs.Prelude.{◌≡◌, ◌↔◌, ℕ, true, List, Option, Some}
+use Rattle.calculus.specs.declared.query.Query.{Query}
+use Rattle.calculus.specs.declared.schema.Permit.{Permit}
+use Rattle.calculus.specs.declared.schema.Rule.{Rule}
+use Rattle.quel_tree.specs.Message.{IsSpelled}
+use Rattle.quel_tree.specs.Permits as spellings
+use Rattle.quel_tree.specs.Queries as queries
+use Rattle.stored_database.specs.Columns.{Column, column_of, column_bytes, is_column}
+use Rattle.stored_database.specs.Entries.{Entry, entry_of, entry_bytes, is_entry}
+use Rattle.stored_database.specs.Parts.{Part, part_of, part_bytes, is_part}
+use Rattle.stored_database.specs.Trees.{query_of, rule_of, permit_of}
+
+-- ---- bytes
+
+-- bytes are read as an entry exactly where they are its bytes
+abbrev pub EntriesAreTheirBytes : Type 0
+EntriesAreTheirBytes = (bytes : List ℕ) (e : Entry) → (entry_of bytes ≡ Some e) ↔ ((is_entry e ≡ true) × (bytes ≡ entry_bytes e))
+
+-- so it is with attributes
+abbrev pub ColumnsAreTheirBytes : Type 0
+ColumnsAreTheirBytes = (bytes : List ℕ) (c : Column) → (column_of bytes ≡ Some c) ↔ ((is_column c ≡ true) × (bytes ≡ column_bytes c))
+
+-- and with parts of trees
+abbrev pub PartsAreTheirBytes : Type 0
+PartsAreTheirBytes = (bytes : List ℕ) (p : Part) → (part_of bytes ≡ Some p) ↔ ((is_part p ≡ true) × (bytes ≡ part_bytes p))
+
+-- bytes are read as a query, a rule or a permit exactly where they are its spelling
+pub record TreesAreTheirBytes : Type 0 where
+  pub queries : (bytes : List ℕ) (q : Query) → (query_of bytes ≡ Some q) ↔ IsSpelled queries.query q bytes
+  pub rules : (bytes : List ℕ) (r : Rule) → (rule_of bytes ≡ Some r) ↔ IsSpelled spellings.rule r bytes
+  pub permits : (bytes : List ℕ) (p : Permit) → (permit_of bytes ≡ Some p) ↔ IsSpelled spellings.permit p bytes

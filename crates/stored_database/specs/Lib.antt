@@ -1,0 +1,9 @@
+pub mod Catalogue
+pub mod Columns
+pub mod Entries
+pub mod Names
+pub mod Parts
+pub mod Printed
+pub mod Spelled
+pub mod Trees
+pub mod Laws
