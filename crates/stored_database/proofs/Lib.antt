@@ -1,5 +1,6 @@
 pub mod ColumnBytes
 pub mod EntryBytes
+pub mod IsOne
 pub mod Members
 pub mod Orders
 pub mod PartBytes

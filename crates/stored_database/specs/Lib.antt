@@ -1,9 +1,11 @@
 pub mod Catalogue
 pub mod Columns
 pub mod Entries
+pub mod IsOne
+pub mod Laws
 pub mod Names
 pub mod Parts
 pub mod Printed
 pub mod Spelled
+pub mod Standing
 pub mod Trees
-pub mod Laws
