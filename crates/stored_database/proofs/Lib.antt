@@ -1,5 +1,10 @@
+pub mod CatalogueRead
 pub mod ColumnBytes
+pub mod ColumnsAgain
+pub mod EntriesAgain
 pub mod EntryBytes
+pub mod FilesAgain
+pub mod Infos
 pub mod IsOne
 pub mod Members
 pub mod Orders
@@ -10,3 +15,4 @@ pub mod Reading
 pub mod Sets
 pub mod SpelledParts
 pub mod TreeBytes
+pub mod TreesAgain

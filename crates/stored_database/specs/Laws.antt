@@ -3,12 +3,18 @@ use Rattle.std.specs.Prelude.{◌≡◌, ◌↔◌, ℕ, true, List, Option, Som
 use Rattle.calculus.specs.declared.query.Query.{Query}
 use Rattle.calculus.specs.declared.schema.Permit.{Permit}
 use Rattle.calculus.specs.declared.schema.Rule.{Rule}
+use Rattle.calculus.specs.Database.{Db}
+use Rattle.calculus.specs.IsDatabase.{IsDatabase}
 use Rattle.quel_tree.specs.Message.{IsSpelled}
 use Rattle.quel_tree.specs.Permits as spellings
 use Rattle.quel_tree.specs.Queries as queries
+use Rattle.page_chain.specs.Pages.{Pages}
+use Rattle.stored_database.specs.Catalogue.{Catalogue, IsCatalogue, catalogue_in}
 use Rattle.stored_database.specs.Columns.{Column, column_of, column_bytes, is_column}
 use Rattle.stored_database.specs.Entries.{Entry, entry_of, entry_bytes, is_entry}
 use Rattle.stored_database.specs.Parts.{Part, part_of, part_bytes, is_part}
+use Rattle.stored_database.specs.Printed.{Files, HasFiles, files_in, printed}
+use Rattle.stored_database.specs.Spelled.{spelled}
 use Rattle.stored_database.specs.Trees.{query_of, rule_of, permit_of}
 
 -- ---- bytes
@@ -30,3 +36,18 @@ pub record TreesAreTheirBytes : Type 0 where
   pub queries : (bytes : List ℕ) (q : Query) → (query_of bytes ≡ Some q) ↔ IsSpelled queries.query q bytes
   pub rules : (bytes : List ℕ) (r : Rule) → (rule_of bytes ≡ Some r) ↔ IsSpelled spellings.rule r bytes
   pub permits : (bytes : List ℕ) (p : Permit) → (permit_of bytes ≡ Some p) ↔ IsSpelled spellings.permit p bytes
+
+-- ---- catalogues and databases
+
+-- What is read is printed: a catalogue that spells a database is the one that the database has, by the files that its entries say.
+abbrev pub WhatIsReadIsPrinted : Type 0
+WhatIsReadIsPrinted = (dba : List ℕ) (files : ℕ → Pages) (cat : Catalogue) (db : Db)
+    → IsCatalogue cat → spelled dba files cat ≡ Some db → IsDatabase db → (cat ≡ printed db (files_in cat)) × HasFiles db files (files_in cat)
+
+-- What is printed is read: the catalogue that a database has by files that it may have spells that database.
+abbrev pub WhatIsPrintedIsRead : Type 0
+WhatIsPrintedIsRead = (files : ℕ → Pages) (f : Files) (db : Db) → IsDatabase db → HasFiles db files f → spelled db.dba files (printed db f) ≡ Some db
+
+-- what is read of files 5, 6 and 7 is a catalogue
+abbrev pub CataloguesAreRead : Type 0
+CataloguesAreRead = (files : ℕ → Pages) (cat : Catalogue) → catalogue_in files ≡ Some cat → IsCatalogue cat
