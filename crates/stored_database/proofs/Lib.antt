@@ -4,6 +4,7 @@ pub mod ColumnsAgain
 pub mod EntriesAgain
 pub mod EntryBytes
 pub mod FilesAgain
+pub mod Fresh
 pub mod Infos
 pub mod IsOne
 pub mod Members
@@ -14,5 +15,6 @@ pub mod ReadSets
 pub mod Reading
 pub mod Sets
 pub mod SpelledParts
+pub mod Standing
 pub mod TreeBytes
 pub mod TreesAgain
