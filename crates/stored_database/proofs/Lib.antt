@@ -15,6 +15,6 @@ pub mod ReadSets
 pub mod Reading
 pub mod Sets
 pub mod SpelledParts
-pub mod Standing
 pub mod TreeBytes
 pub mod TreesAgain
+pub mod WhatStands
