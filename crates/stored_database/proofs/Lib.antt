@@ -17,4 +17,5 @@ pub mod Sets
 pub mod SpelledParts
 pub mod TreeBytes
 pub mod TreesAgain
+pub mod Tried
 pub mod WhatStands
