@@ -1,10 +1,17 @@
 pub mod ColumnBytes
 pub mod EntryBytes
+pub mod Groups
+pub mod InOrder
 pub mod IsOne
 pub mod Members
 pub mod Orders
+pub mod Pairs
 pub mod PartBytes
 pub mod PartsAgain
+pub mod Pieces
+pub mod PrintedColumns
+pub mod PrintedEntries
+pub mod PrintedTrees
 pub mod ReadSets
 pub mod Reading
 pub mod Sets
