@@ -53,14 +53,14 @@ not_true : (b : Bool) → not b ≡ true → b ≡ false
 not_true true h = cc
 not_true false h = refl
 
-pub module _ (files : ℕ → Pages) (cat : Catalogue) (db : database.Db) (s : Spells files cat db) (is_cat : IsCatalogue cat)
+module _ (files : ℕ → Pages) (cat : Catalogue) (db : database.Db) (s : Spells files cat db) (is_cat : IsCatalogue cat)
     (differ : differ_by same_key (map (λ i. i.key) (database.entries db)) ≡ true) where
 
   -- the columns of what is known of an entry
   known_columns : (e : Entry) (i : RelInfo) → IsIn e cat.entries → IsKnown cat e i → is_index e.spec ≡ false
       → columns_from ((files_in cat).file i.key) 0 i.attrs ≡ filter (λ c. c.file == e.file) cat.columns
-  known_columns e i at k no =
-      ap (λ n. columns_from n 0 i.attrs) (ap (files_in cat).file k.key ∙ file_is files cat db s differ e at) ∙ attrs_again cat e.file i.attrs (k.attrs no)
+  known_columns e i at k apart =
+      ap (λ n. columns_from n 0 i.attrs) (ap (files_in cat).file k.key ∙ file_is files cat db s differ e at) ∙ attrs_again cat e.file i.attrs (k.attrs apart)
 
   no_columns : (e : Entry) (i : RelInfo) → IsKnown cat e i → is_index e.spec ≡ true → columns_from ((files_in cat).file i.key) 0 i.attrs ≡ []
   unfolding columns_from
@@ -84,7 +84,7 @@ pub module _ (files : ℕ → Pages) (cat : Catalogue) (db : database.Db) (s : S
     where
       go : {i : RelInfo} (e : Entry) → IsIn e cat.entries → IsKnown cat e i → IsIn c (columns_from ((files_in cat).file i.key) 0 i.attrs) → (t : Bool) → is_index e.spec ≡ t → IsIn c cat.columns
       go {i} e et k at true is = absurd (subst (IsIn c) (no_columns e i k is) at)
-      go {i} e et k at false no = (filter_in (λ c. c.file == e.file) cat.columns c (subst (IsIn c) (known_columns e i et k no) at)).0
+      go {i} e et k at false apart = (filter_in (λ c. c.file == e.file) cat.columns c (subst (IsIn c) (known_columns e i et k apart) at)).0
 
   pub all_columns_again : cat.columns ≡ in_order column_cmp (columns_for (files_in cat) db)
   all_columns_again = set_is column_total cat.columns (columns_for (files_in cat) db) is_cat.columns_ascend to_list of_list

@@ -26,10 +26,10 @@ use Rattle.stored_database.proofs.SpelledParts.{Spells, entry_found, relation_pa
 -- ---- what entries have by what they are
 
 -- An entry with these numbers.
-record Has (e : Entry) (base primary directory : ℕ) : Type 0 where
-  base : e.base ≡ base
-  primary : e.primary ≡ primary
-  directory : e.directory ≡ directory
+record Has (e : Entry) (b p d : ℕ) : Type 0 where
+  base : e.base ≡ b
+  primary : e.primary ≡ p
+  directory : e.directory ≡ d
 
 one_chain : (e : Entry) → ((e.base == 0) && is_one_chain e) ≡ true → Has e 0 1 0 × (nat_le 1 e.used ≡ true)
 one_chain e h =
@@ -87,10 +87,10 @@ index_has Index e is h = no_pages e h
 
 -- ---- one entry again
 
-pub module _ (files : ℕ → Pages) (cat : Catalogue) (db : database.Db) (s : Spells files cat db) (is_cat : IsCatalogue cat)
+module _ (files : ℕ → Pages) (cat : Catalogue) (db : database.Db) (s : Spells files cat db) (is_cat : IsCatalogue cat)
     (differ : differ_by same_key (map (λ i. i.key) (database.entries db)) ≡ true) where
 
-  entry_stands : (e : Entry) → IsIn e cat.entries → is_entry e ≡ true
+  pub entry_stands : (e : Entry) → IsIn e cat.entries → is_entry e ≡ true
   entry_stands e at = of_all (λ e. is_entry e ≡ true) cat.entries e is_cat.are_entries at
 
   pub some_pages : (e : Entry) → IsIn e cat.entries → is_structure e.spec ≡ true → nat_le 1 e.used ≡ true

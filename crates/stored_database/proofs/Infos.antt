@@ -1,5 +1,5 @@
 -- The entries of a catalogue and what a database knows of its relations, views and indexes.
-use Rattle.std.proofs.Common.{◌≡◌, refl, sym, ap, subst, ◌∙◌, inl, inr, ℕ, ◌==◌, ◌&&◌, not, Bool, true, false, List, [], ◌∷◌, ◌++◌, map, filter, find, Option, Some, None}
+use Rattle.std.proofs.Common.{◌≡◌, refl, sym, ap, subst, ◌∙◌, inl, inr, ℕ, ◌==◌, ◌&&◌, ◌||◌, not, Bool, true, false, List, [], ◌∷◌, ◌++◌, map, filter, find, Option, Some, None}
 use Rattle.std.specs.Prelude.{◌⊎◌}
 use Rattle.std.specs.List.{AllByRecursion, list_any}
 use Rattle.std.specs.Ordering.{is_eq}
@@ -62,13 +62,14 @@ differ_apart {A} {K} same k (x ∷ xs) h =
   where
     none : (ys : List A) → not (list_any (same (k x)) (map k ys)) ≡ true → AllByRecursion (λ y. same (k x) (k y) ≡ false) ys
     none [] h = tt
-    none (y ∷ ys) h = go (same (k x) (k y)) refl h
+    none (y ∷ ys) h = go (same (k x) (k y)) refl h (none ys)
       where
-        go : (t : Bool) → same (k x) (k y) ≡ t → not (same (k x) (k y) || list_any (same (k x)) (map k ys)) ≡ true → AllByRecursion (λ y. same (k x) (k y) ≡ false) (y ∷ ys)
-        go true e h = cc (ap (λ t. not (t || list_any (same (k x)) (map k ys))) e, h)
-        go false e h = (e, none ys (sym (ap (λ t. not (t || list_any (same (k x)) (map k ys))) e) ∙ h))
+        go : (t : Bool) → same (k x) (k y) ≡ t → not (same (k x) (k y) || list_any (same (k x)) (map k ys)) ≡ true
+            → (not (list_any (same (k x)) (map k ys)) ≡ true → AllByRecursion (λ y. same (k x) (k y) ≡ false) ys) → AllByRecursion (λ y. same (k x) (k y) ≡ false) (y ∷ ys)
+        go true e h later = cc h
+        go false e h later = (e, later (sym (ap (λ t. not (t || list_any (same (k x)) (map k ys))) e) ∙ h))
 
-pub module _ (files : ℕ → Pages) (cat : Catalogue) (db : database.Db) (s : Spells files cat db) where
+module _ (files : ℕ → Pages) (cat : Catalogue) (db : database.Db) (s : Spells files cat db) where
   of_relation : (e : Entry) (r : database.Relation) → is_structure e.spec ≡ true → relation_of files cat e ≡ Some r → IsKnown cat e r.info
   of_relation e r is h =
       let p = relation_parts files cat e r h in
@@ -98,7 +99,7 @@ pub module _ (files : ℕ → Pages) (cat : Catalogue) (db : database.Db) (s : S
         key = ap (λ (i : RelInfo). i.key) p.info;
         spec = ap (λ (i : RelInfo). i.spec) p.info;
         keys = ap (λ (i : RelInfo). i.keys) p.info;
-        attrs = λ no. cc (no, is);
+        attrs = λ apart. cc (apart, is);
         none = λ _. ap (λ (i : RelInfo). i.attrs) p.info;
       }
 
@@ -161,7 +162,7 @@ pub module _ (files : ℕ → Pages) (cat : Catalogue) (db : database.Db) (s : S
   indexes_apart = s.indexes.apart (λ a b. same_key a.key b.key) (λ a b x y h k. keeps_key a b x.info y.info
       (ap (λ (i : RelInfo). i.key) (index_parts cat a x h).info) (ap (λ (i : RelInfo). i.key) (index_parts cat b y k).info))
 
-  pub module _ (differ : differ_by same_key (map (λ i. i.key) (database.entries db)) ≡ true) where
+  module _ (differ : differ_by same_key (map (λ i. i.key) (database.entries db)) ≡ true) where
     same_spec : (a b : Entry) → IsIn a cat.entries → IsIn b cat.entries → same_key a.key b.key ≡ true → a.spec ≡ b.spec
     same_spec a b at bt h =
         let i = to_info a at in

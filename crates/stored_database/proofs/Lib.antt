@@ -1,7 +1,13 @@
+pub mod CatalogueRead
 pub mod ColumnBytes
+pub mod ColumnsAgain
+pub mod EntriesAgain
 pub mod EntryBytes
+pub mod FilesAgain
+pub mod Fresh
 pub mod Groups
 pub mod InOrder
+pub mod Infos
 pub mod IsOne
 pub mod Members
 pub mod Orders
@@ -11,9 +17,13 @@ pub mod PartsAgain
 pub mod Pieces
 pub mod PrintedColumns
 pub mod PrintedEntries
+pub mod PrintedParts
 pub mod PrintedTrees
 pub mod ReadSets
 pub mod Reading
 pub mod Sets
 pub mod SpelledParts
+pub mod SpelledTrees
 pub mod TreeBytes
+pub mod TreesAgain
+pub mod WhatStands

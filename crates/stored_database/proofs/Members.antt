@@ -105,12 +105,12 @@ found_in {A} test (y ∷ ys) x h = go (test y) refl h (found_in test ys x)
 -- what passes, where nothing else does, is found
 pub in_found : {A : Type 0} (test : A → Bool) (xs : List A) (x : A) → IsIn x xs → test x ≡ true → ((y : A) → IsIn y xs → test y ≡ true → y ≡ x) → find test xs ≡ Some x
 in_found test [] x at h alone = absurd at
-in_found {A} test (y ∷ ys) x at h alone = go (test y) refl at
+in_found {A} test (y ∷ ys) x at h alone = go (test y) refl at (λ at. in_found test ys x at h (λ z k. alone z (inr k)))
   where
-    go : (t : Bool) → test y ≡ t → IsIn x (y ∷ ys) → cond t (Some y) (find test ys) ≡ Some x
-    go true e at = ap Some (alone y (inl refl) e)
-    go false e (inl k) = cc (ap test k, e, h)
-    go false e (inr at) = in_found test ys x at h (λ z k. alone z (inr k))
+    go : (t : Bool) → test y ≡ t → IsIn x (y ∷ ys) → (IsIn x ys → find test ys ≡ Some x) → cond t (Some y) (find test ys) ≡ Some x
+    go true e at later = ap Some (alone y (inl refl) e)
+    go false e (inl k) later = cc (ap test k, e, h)
+    go false e (inr at) later = later at
 
 -- ---- items that are read
 

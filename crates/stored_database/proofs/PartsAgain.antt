@@ -89,10 +89,10 @@ parts_again file sort number place (p ∷ ps) are h =
     ap₂ (λ (p : Part) (ps : List Part). p ∷ ps) first (parts_again file sort number (suc place) ps (λ q at. are q (inr at)) t.1)
 
 -- What a tree's parts are, where they are whole.
-record IsWhole (ps : List Part) (bytes : List ℕ) : Type 0 where
+record IsWhole (ps : List Part) (whole : List ℕ) : Type 0 where
   placed : are_from (λ p. p.place) 0 ps ≡ true
   are_cut : are_cut (map (λ p. p.bytes) ps) ≡ true
-  bytes : concat (map (λ p. p.bytes) ps) ≡ bytes
+  bytes : concat (map (λ p. p.bytes) ps) ≡ whole
 
 whole_parts : (ps : List Part) (bytes : List ℕ) → joined ps ≡ Some bytes → IsWhole ps bytes
 unfolding joined
@@ -114,6 +114,7 @@ tree_parts parts file sort number bytes h =
 -- one of them is the first
 pub first_part : (parts : List Part) (file sort number : ℕ) (bytes : List ℕ) → tree_at parts file sort number ≡ Some bytes
     → (q : Part) × IsIn q parts × (is_part_of file sort number q ≡ true) × ((q.place == 0) ≡ true)
+unfolding are_cut
 first_part parts file sort number bytes h =
     let ps = filter (is_part_of file sort number) parts in
     let w = whole_parts ps bytes h in
@@ -122,6 +123,5 @@ first_part parts file sort number bytes h =
     (f.0, s.0, s.1, f.2)
   where
     first : (ps : List Part) → are_from (λ p. p.place) 0 ps ≡ true → are_cut (map (λ p. p.bytes) ps) ≡ true → (q : Part) × IsIn q ps × ((q.place == 0) ≡ true)
-    unfolding are_cut
     first [] placed some = cc
     first (q ∷ qs) placed some = (q, inl refl, (both (q.place == 0) _ placed).0)

@@ -74,7 +74,7 @@ in_in_order {A} cmp (x ∷ xs) z exact at =
 
 -- ---- sets ascend
 
-pub module _ {A : Type 0} {cmp : A → A → Ordering} (order : IsTotalOrder cmp) where
+module _ {A : Type 0} {cmp : A → A → Ordering} (order : IsTotalOrder cmp) where
   sorted_insert : (x : A) (ys : List A) → IsStrictlySortedBy cmp ys → IsStrictlySortedBy cmp (insert_by cmp x ys)
   unfolding IsStrictlySortedBy
   sorted_insert x [] up = (tt, tt)

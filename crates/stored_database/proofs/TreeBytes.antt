@@ -1,5 +1,5 @@
 -- Trees and their bytes.
-use Rattle.std.proofs.Common.{◌≡◌, refl, sym, ap, ◌∙◌, ℕ, List, [], ◌++◌, Option, Some, None}
+use Rattle.std.proofs.Common.{◌≡◌, refl, sym, ap, ◌∙◌, ℕ, List, [], ◌∷◌, ◌++◌, Option, Some, None}
 use Rattle.std.specs.Prelude.{◌↔◌, Result, Ok, Err}
 use Rattle.std.proofs.lemmas.Option.{same_Some}
 use Rattle.quel_tree.specs.Message.{IsSpelled, most_tree_levels}
@@ -19,13 +19,17 @@ append_none : (xs : List ℕ) → xs ++ [] ≡ xs
 append_none [] = refl
 append_none (x ∷ xs) = ap (λ l. x ∷ l) (append_none xs)
 
+-- a value and the bytes behind it
+abbrev reading : {A : Type 0} → A → List ℕ → Reading A
+reading a rest = Ok (a, rest)
+
 -- what was read to the end
-all_read : {A : Type 0} (r : Reading A) (a : A) → given (whole r) ≡ Some a → r ≡ Ok (a, [])
+all_read : {A : Type 0} (r : Reading A) (a : A) → given (whole r) ≡ Some a → r ≡ reading a []
 all_read (Err left) a h = cc
-all_read (Ok x) a h = go x.0 x.1 h
+all_read {A} (Ok x) a h = go x.0 x.1 h
   where
-    go : (b : A) (rest : List ℕ) → given (ended b rest) ≡ Some a → Ok (b, rest) ≡ Ok (a, [])
-    go b [] h = ap (λ b. Ok (b, [])) (same_Some b a h)
+    go : (b : A) (rest : List ℕ) → given (ended b rest) ≡ Some a → reading b rest ≡ reading a []
+    go b [] h = ap (λ b. reading b []) (same_Some b a h)
     go b (c ∷ rest) h = cc
 
 -- bytes are read as a tree exactly where they are its spelling

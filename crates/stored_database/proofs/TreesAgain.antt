@@ -46,7 +46,7 @@ own_tree p file sort number e f g =
     together (p.file == file) ((p.sort == sort) && (p.number == number)) (ap (λ n. n == file) e ∙ number_itself file)
     (together (p.sort == sort) (p.number == number) (ap (λ n. n == sort) f ∙ number_itself sort) (ap (λ n. n == number) g ∙ number_itself number))
 
-pub module _ (files : ℕ → Pages) (cat : Catalogue) (db : database.Db) (s : Spells files cat db) (is_cat : IsCatalogue cat)
+module _ (files : ℕ → Pages) (cat : Catalogue) (db : database.Db) (s : Spells files cat db) (is_cat : IsCatalogue cat)
     (differ : differ_by same_key (map (λ i. i.key) (database.entries db)) ≡ true) where
 
   f : Files
@@ -54,6 +54,7 @@ pub module _ (files : ℕ → Pages) (cat : Catalogue) (db : database.Db) (s : S
 
   -- the parts of the tree of a view are those of its file
   view_again : (e : Entry) (v : database.View) → IsIn e cat.entries → view_of cat e ≡ Some v → view_parts (files_in cat) v ≡ filter (is_part_of e.file of_view 0) cat.parts
+  unfolding tree_bytes
   view_again e v at h =
       let o = parts.view_parts cat e v h in
       let bytes : o.bytes ≡ tree_bytes queries.query v.query = spelling_of o.bytes v.query o.query in
@@ -61,7 +62,6 @@ pub module _ (files : ℕ → Pages) (cat : Catalogue) (db : database.Db) (s : S
       (λ i. parts_from (file i) of_view 0 0 (cut (sym bytes i))) ∙ tree_parts cat.parts e.file of_view 0 o.bytes o.tree
     where
       spelling_of : (bytes : List ℕ) (q : _) → query_of bytes ≡ Some q → bytes ≡ tree_bytes queries.query q
-      unfolding tree_bytes
       spelling_of bytes q h = ((trees_are_their_bytes.queries bytes q).0 h).1
 
   -- ---- rules and permits
@@ -96,3 +96,76 @@ pub module _ (files : ℕ → Pages) (cat : Catalogue) (db : database.Db) (s : S
         let r = read q.0 (in_filter (λ p. (p.sort == sort) && (p.place == 0)) cat.parts q.0 q.1 (together (q.0.sort == sort) (q.0.place == 0) (ap (λ n. n == sort) qs ∙ number_itself sort) q.3)) in
         in_flat_map (numbered_parts codec number sort (files_in cat)) ys r.0 p r.1
         (subst (IsIn p) (sym (one_again q.0 r.0 qs r.2)) (in_filter (is_part_of q.0.file q.0.sort q.0.number) cat.parts p at (own_tree p q.0.file q.0.sort q.0.number (sym same.0) (sym same.1) (sym same.2))))
+
+  -- ---- all parts
+
+  rule_spelling : (bytes : List ℕ) (r : Rule) → tree_of spellings.rule bytes ≡ Some r → bytes ≡ tree_bytes spellings.rule r
+  unfolding tree_bytes
+  rule_spelling bytes r h = ((trees_are_their_bytes.rules bytes r).0 h).1
+
+  permit_spelling : (bytes : List ℕ) (p : Permit) → tree_of spellings.permit bytes ≡ Some p → bytes ≡ tree_bytes spellings.permit p
+  unfolding tree_bytes
+  permit_spelling bytes p h = ((trees_are_their_bytes.permits bytes p).0 h).1
+
+  to_rules : (p : Part) (bytes : List ℕ) → IsIn p cat.parts → p.sort ≡ of_rule → tree_at cat.parts p.file p.sort p.number ≡ Some bytes
+      → IsIn p (flat_map (numbered_parts spellings.rule (λ r. r.number) of_rule (files_in cat)) db.rules)
+  to_rules p bytes at of whole = to_numbered spellings.rule (λ r. r.number) of_rule rule_spelling db.rules s.rules.to s.rules.from p bytes at of whole
+
+  to_permits : (p : Part) (bytes : List ℕ) → IsIn p cat.parts → p.sort ≡ of_permit → tree_at cat.parts p.file p.sort p.number ≡ Some bytes
+      → IsIn p (flat_map (numbered_parts spellings.permit (λ p. p.number) of_permit (files_in cat)) db.permits)
+  to_permits p bytes at of whole = to_numbered spellings.permit (λ p. p.number) of_permit permit_spelling db.permits s.permits.to s.permits.from p bytes at of whole
+
+  to_views : (p : Part) → IsIn p cat.parts → p.sort ≡ of_view → ((p.number == 0) && entry_is is_view cat p.file) ≡ true → IsIn p (flat_map (view_parts (files_in cat)) db.views)
+  to_views p at of h =
+      let t = both (p.number == 0) (entry_is is_view cat p.file) h in
+      let e = entry_passes is_view cat p.file t.1 in
+      let v = s.views.to e.0 (in_filter (λ e. is_view e.spec) cat.entries e.0 e.1 e.3) in
+      in_flat_map (view_parts (files_in cat)) db.views v.0 p v.1
+      (subst (IsIn p) (sym (view_again e.0 v.0 e.1 v.2)) (in_filter (is_part_of e.0.file of_view 0) cat.parts p at (own_tree p e.0.file of_view 0 (sym e.2) of (same_number p.number 0 t.0))))
+
+  -- a sort that is no view's is a rule's or a permit's
+  which_sort : (n : ℕ) → (n == of_view) ≡ false → nat_le n of_permit ≡ true → (n ≡ of_rule) ⊎ (n ≡ of_permit)
+  which_sort n h k = go (n == 1) refl
+    where
+      go : (t : Bool) → (n == 1) ≡ t → (n ≡ of_rule) ⊎ (n ≡ of_permit)
+      go true e = inl (grind (arith, nat_tests))
+      go false e = inr (grind (arith, nat_tests))
+
+  part_sort : (p : Part) → is_part p ≡ true → nat_le p.sort of_permit ≡ true
+  unfolding is_part
+  part_sort p h = (both (nat_le p.sort of_permit) _ (both (is_number32 p.file) _ h).1).0
+
+  to_list : (p : Part) → IsIn p cat.parts → IsIn p (parts_for (files_in cat) db)
+  unfolding parts_for parts_stand part_stands
+  to_list p at =
+      let t = both (list_all (part_stands cat) cat.parts) (parts_are_whole cat.parts) s.parts in
+      let whole = there (tree_at cat.parts p.file p.sort p.number) (of_tests (λ p. is_some (tree_at cat.parts p.file p.sort p.number)) cat.parts p t.1 at) in
+      go (p.sort == of_view) refl (of_tests (part_stands cat) cat.parts p t.0 at) whole.0 whole.1
+    where
+      go : (v : Bool) → (p.sort == of_view) ≡ v → elim v [ true ↦ (p.number == 0) && entry_is is_view cat p.file | false ↦ entry_is is_structure cat p.file ] ≡ true
+          → (bytes : List ℕ) → tree_at cat.parts p.file p.sort p.number ≡ Some bytes → IsIn p (parts_for (files_in cat) db)
+      go true e h bytes whole = in_first (flat_map (view_parts (files_in cat)) db.views) _ p (to_views p at (same_number p.sort of_view e) h)
+      go false e h bytes whole = in_second (flat_map (view_parts (files_in cat)) db.views) _ p (elim (which_sort p.sort e (part_sort p (of_all (λ p. is_part p ≡ true) cat.parts p is_cat.are_parts at))) [
+        | inl rule ↦ in_first (flat_map (numbered_parts spellings.rule (λ r. r.number) of_rule (files_in cat)) db.rules) _ p (to_rules p bytes at rule whole)
+        | inr permit ↦ in_second (flat_map (numbered_parts spellings.rule (λ r. r.number) of_rule (files_in cat)) db.rules) _ p (to_permits p bytes at permit whole)
+      ])
+
+  of_views : (p : Part) → IsIn p (flat_map (view_parts (files_in cat)) db.views) → IsIn p cat.parts
+  of_views p at =
+      let m = flat_map_in (view_parts (files_in cat)) db.views p at in
+      let v = s.views.from m.0 m.1 in
+      let e = filter_in (λ e. is_view e.spec) cat.entries v.0 v.1 in
+      (filter_in (is_part_of v.0.file of_view 0) cat.parts p (subst (IsIn p) (view_again v.0 m.0 e.0 v.2) m.2)).0
+
+  of_list : (p : Part) → IsIn p (parts_for (files_in cat) db) → IsIn p cat.parts
+  unfolding parts_for
+  of_list p at = elim (in_either (flat_map (view_parts (files_in cat)) db.views) _ p at) [
+    | inl a ↦ of_views p a
+    | inr b ↦ elim (in_either (flat_map (numbered_parts spellings.rule (λ r. r.number) of_rule (files_in cat)) db.rules) _ p b) [
+      | inl c ↦ of_numbered spellings.rule (λ r. r.number) of_rule rule_spelling db.rules s.rules.to s.rules.from p c
+      | inr d ↦ of_numbered spellings.permit (λ p. p.number) of_permit permit_spelling db.permits s.permits.to s.permits.from p d
+    ]
+  ]
+
+  pub parts_again : cat.parts ≡ in_order part_cmp (parts_for (files_in cat) db)
+  parts_again = set_is part_total cat.parts (parts_for (files_in cat) db) is_cat.parts_ascend to_list of_list

@@ -1,12 +1,14 @@
 -- The database that the pages of a disk stand for.
-use Rattle.std.specs.Prelude.{◌≡◌, ℕ, ◌==◌, ◌&&◌, bytes_eq, List, ◌++◌, codes, take, drop, Option, Some}
+use Rattle.std.specs.Prelude.{◌≡◌, ℕ, ◌==◌, true, bytes_eq, List, [], ◌++◌, codes, take, drop, Option, Some}
 use Rattle.byteorder.specs.Endian.{little_bytes}
 use Rattle.calculus.specs.Database.{Db}
 use Rattle.disk_model.specs.Disk.{Image}
 use Rattle.batch_file.specs.Layout.{addr, first_byte}
 use Rattle.batch_file.specs.Redone.{redone}
 use Rattle.page_chain.specs.Lists.{◌>>=◌, when, check}
-use Rattle.page_chain.specs.Pages.{pages_of}
+use Rattle.page_cells.specs.Page.{next_page}
+use Rattle.page_chain.specs.Lying.{lying_on}
+use Rattle.page_chain.specs.Pages.{pages_of, is_page}
 use Rattle.stored_database.specs.Catalogue.{catalogue_in}
 use Rattle.stored_database.specs.IsOne.{is_database}
 use Rattle.stored_database.specs.Names.{name_of, name_bytes}
@@ -50,3 +52,27 @@ unfoldable pub stored : Image → Option Db
 stored m = do
   pages ← redone m
   standing pages
+
+-- ---- an empty database
+
+-- The page is one of rows, no row lies on it, and none follows.
+pub record IsEmptyPage (page : Option (List ℕ)) : Type 0 where
+  pub bytes : List ℕ
+  pub there : page ≡ Some bytes
+  pub of_rows : is_page bytes ≡ true
+  pub last : next_page bytes ≡ 0
+  pub no_rows : lying_on 0 page ≡ []
+
+-- The pages of an empty database: the administrator's header, the birth byte, and an empty page in each file of the catalogue.
+pub record IsFresh (m : Image) (dba : List ℕ) : Type 0 where
+  pub head : List ℕ
+  pub there : m (addr 0 0) ≡ Some head
+  pub header : take 22 head ≡ header_bytes dba
+  pub born : birth m ≡ 1
+  pub entries : IsEmptyPage (m (addr 5 0))
+  pub columns : IsEmptyPage (m (addr 6 0))
+  pub parts : IsEmptyPage (m (addr 7 0))
+
+-- the database of an administrator in which nothing is
+abbrev pub empty_database : List ℕ → Db
+empty_database dba = record { dba = dba; relations = []; indexes = []; views = []; rules = []; permits = [] }
