@@ -1,0 +1,16 @@
+//! What catalogues and databases say of each other.
+
+ghost use Rattle.stored_database.specs.Laws.{CataloguesAreRead, WhatIsReadIsPrinted};
+
+/// What is read of files 5, 6 and 7 is a catalogue: three sets in their order, of items that have bytes.
+#[tactic(auto, using(crate::proofs::CatalogueRead::catalogues_are_read))]
+pub fn catalogues_are_read()
+    ensures { CataloguesAreRead }
+{}
+
+/// A catalogue that spells a database is the one that the database has, by the files that its entries
+/// say; and these are files that the database may have.
+#[tactic(auto, using(crate::proofs::FilesAgain::what_is_read_is_printed))]
+pub fn what_is_read_is_printed()
+    ensures { WhatIsReadIsPrinted }
+{}

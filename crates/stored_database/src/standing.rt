@@ -1,0 +1,45 @@
+//! What the pages of a disk stand for.
+
+ghost use Rattle.stored_database.specs.Laws.{FreshPagesStand, OneDatabase, OnlyKeptPagesCount, SameRedone, SameWhereKept, ShutDisksHold, WhatStandsIsADatabase};
+
+/// What pages stand for is a database.
+#[tactic(auto, using(crate::proofs::WhatStands::what_stands_is_a_database))]
+pub fn what_stands_is_a_database()
+    ensures { WhatStandsIsADatabase }
+{}
+
+/// Pages stand for at most one database.
+#[tactic(auto, using(crate::proofs::WhatStands::one_database))]
+pub fn one_database()
+    ensures { OneDatabase }
+{}
+
+/// Disks with the same pages once their batches are laid hold the same database.
+#[tactic(auto, using(crate::proofs::WhatStands::same_redone))]
+pub fn same_redone()
+    ensures { SameRedone }
+{}
+
+/// Only the pages of file 0 and of the files from 5 up count.
+#[tactic(auto, using(crate::proofs::WhatStands::only_kept_pages_count))]
+pub fn only_kept_pages_count()
+    ensures { OnlyKeptPagesCount }
+{}
+
+/// Images with the same such pages stand for the same database.
+#[tactic(auto, using(crate::proofs::WhatStands::same_where_kept))]
+pub fn same_where_kept()
+    ensures { SameWhereKept }
+{}
+
+/// A disk whose gate isn't open holds what its pages stand for.
+#[tactic(auto, using(crate::proofs::WhatStands::shut_disks_hold))]
+pub fn shut_disks_hold()
+    ensures { ShutDisksHold }
+{}
+
+/// Fresh pages, with a header, the birth byte and three empty files, stand for an empty database.
+#[tactic(auto, using(crate::proofs::Fresh::fresh_pages_stand))]
+pub fn fresh_pages_stand()
+    ensures { FreshPagesStand }
+{}
