@@ -1,0 +1,2 @@
+pub mod PageTest
+pub mod Slots
