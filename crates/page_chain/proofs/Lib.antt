@@ -1,2 +1,4 @@
+pub mod Coming
+pub mod Linking
 pub mod PageTest
 pub mod Slots

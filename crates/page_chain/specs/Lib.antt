@@ -1,4 +1,5 @@
 pub mod Chains
+pub mod Filled
 pub mod Found
 pub mod Grown
 pub mod Lists

@@ -2,6 +2,7 @@
 #![tactic(auto)]
 
 mod chains;
+mod filling;
 mod growing;
 mod replacing;
 
