@@ -1,5 +1,15 @@
+pub mod Beside
+pub mod Causes
+pub mod Clearing
 pub mod Coming
+pub mod Counting
 pub mod Laying
 pub mod Linking
+pub mod LookUp
+pub mod Missing
 pub mod PageTest
+pub mod Reaching
+pub mod Replaced
 pub mod Slots
+pub mod Stepping
+pub mod Walking

@@ -3,7 +3,10 @@
 
 mod chains;
 mod filling;
+mod going;
 mod growing;
+mod passing;
+mod renewing;
 mod replacing;
 
 pub use chains::{ChainRows, chain_page, chain_rows};
