@@ -1,5 +1,6 @@
 -- Why a call failed that makes others.
 use Rattle.std.proofs.Common.{◌≡◌, refl, sym, ap, subst, ◌∙◌, ℕ, ◌+◌, ◌≤◌, Option, Some, Result, Ok, Err, arith}
+use Rattle.std.specs.Result.{IsErrAnd}
 use Rattle.fault_io.specs.Causes.{Rose}
 use Rattle.disk_model.specs.Disk.{Image}
 use Rattle.disk_model.specs.declared.disk.Addr.{Addr}
@@ -27,6 +28,14 @@ cause_earlier old mid P Q before between now fault le turn its = record {
   later = omega (arith, le, its.later);
   caused = may_earlier old mid P Q before between now fault le turn its.caused;
 }
+
+-- the same of an answer that carries the fault on
+pub cause_carried : {T U : Type 0} (old mid : Option Image) (P Q : Image → Addr → Type 0) (before between now : ℕ) (fault : BaseFault) → before ≤ between
+    → ((a : Addr) → IsAtFault mid P a → IsAtFault old Q a) → HasFileCause {T = T} mid P between now (Err fault)
+    → (result : Result U BaseFault) → IsErrAnd result (λ e. e ≡ fault) → HasFileCause {T = U} old Q before now result
+cause_carried old mid P Q before between now fault le turn its (Ok x) is = absurd is
+cause_carried {T} {U} old mid P Q before between now fault le turn its (Err e) is =
+    subst (λ f. HasFileCause {T = U} old Q before now (Err f)) (sym is) (cause_earlier {T = T} {U = U} old mid P Q before between now fault le turn its)
 
 -- a call that failed as a call of the store did
 pub cause_store : {T U : Type 0} (old : Option Image) (Q : Image → Addr → Type 0) (before between now : ℕ) (fault : StoreFault) (error : BaseFault) → before ≤ between

@@ -12,4 +12,5 @@ pub mod Reaching
 pub mod Replaced
 pub mod Slots
 pub mod Stepping
+pub mod Took
 pub mod Walking

@@ -37,6 +37,17 @@ changed_beside going first later gone more before now before' now' one two = rec
     stay : staying going (before ++ before') ≡ staying going before ++ staying going before'
     stay = filter-append (λ r. not (is_among going r.1)) before before'
 
+-- the first items, and the first of the others
+pub first_both : (m n : ℕ) (xs back : List (List ℕ)) → back ≡ drop m xs → take m xs ++ take n back ≡ take (m + n) xs
+first_both m n xs back is = ap (λ rest. take m xs ++ take n rest) is ∙ go m n (m + n) xs refl
+  where
+    go : (m n k : ℕ) (xs : List (List ℕ)) → k ≡ m + n → take m xs ++ take n (drop m xs) ≡ take k xs
+    go zero n k xs e = ap (λ j. take j xs) (let same : n ≡ k = omega arith in same)
+    go (suc m) n zero xs e = absurd (omega (arith, e))
+    go (suc m) zero (suc k) [] e = refl
+    go (suc m) (suc n) (suc k) [] e = refl
+    go (suc m) n (suc k) (x ∷ xs) e = ap (λ rest. x ∷ rest) (go m n k xs (omega arith))
+
 -- ---- a chain as far as it was gone along
 
 -- The first numbers of a chain are done, and this one comes next.
@@ -77,7 +88,7 @@ reached_start file bound going before told is = record {
       changed = changed_nothing going [] refl;
     }
 
-one_or_other : (k n : ℕ) → (k ≡ n) ⊎ (k ≡ n → ⊥)
+pub one_or_other : (k n : ℕ) → (k ≡ n) ⊎ (k ≡ n → ⊥)
 one_or_other k n = go (k == n) refl
   where
     go : (t : Bool) → (k == n) ≡ t → (k ≡ n) ⊎ (k ≡ n → ⊥)

@@ -90,12 +90,12 @@ holds_last P done n rest earlier last same all =
 -- ---- damage
 
 -- what `is_on` says, by what follows the page
-on_by : ℕ → ℕ → Option ℕ → Bool
+unfoldable pub on_by : ℕ → ℕ → Option ℕ → Bool
 on_by last page None = false
 on_by last page (Some zero) = page == last
 on_by last page (Some (suc next)) = not (page == last)
 
-is_on_by : (bound last page : ℕ) (p : Option (List ℕ)) (o : Option ℕ) → next_of bound page p ≡ o → is_on bound last page p ≡ on_by last page o
+pub is_on_by : (bound last page : ℕ) (p : Option (List ℕ)) (o : Option ℕ) → next_of bound page p ≡ o → is_on bound last page p ≡ on_by last page o
 unfolding on_by
 is_on_by bound last page p None e = ap (λ o. elim o as (λ (o : Option ℕ). Bool) [ None ↦ false | Some zero ↦ page == last | Some (suc next) ↦ not (page == last) ]) e
 is_on_by bound last page p (Some zero) e = ap (λ o. elim o as (λ (o : Option ℕ). Bool) [ None ↦ false | Some zero ↦ page == last | Some (suc next) ↦ not (page == last) ]) e

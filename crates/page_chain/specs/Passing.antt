@@ -1,12 +1,12 @@
 -- A pass over the pages of a chain in which rows go and others come.
-use Rattle.std.specs.Prelude.{◌≡◌, ℕ, ◌+◌, true, false, List, length, Option, Some}
+use Rattle.std.specs.Prelude.{◌≡◌, ℕ, ◌+◌, true, false, List, length, Option, Some, option_map}
 use Rattle.disk_model.specs.Disk.{Image}
 use Rattle.disk_model.specs.declared.disk.Addr.{Addr}
 use Rattle.access_traits.specs.Pages.{SameElsewhere}
 use Rattle.page_chain.specs.Chains.{IsChain, is_on, starts}
-use Rattle.page_chain.specs.Lying.{Lying, Came, lying, lying_on, staying}
+use Rattle.page_chain.specs.Lying.{Lying, Came, lying, lying_on, place_of, staying}
 use Rattle.page_chain.specs.Pages.{page_at, pages_of, next_of}
-use Rattle.page_chain.specs.Renewed.{AllLie}
+use Rattle.page_chain.specs.Renewed.{AllLie, WentFrom}
 
 -- The page at this address is that page of the file, and isn't one of a chain that ends at page `last`.
 pub record OffChain (file page bound last : ℕ) (m : Image) (a : Addr) : Type 0 where
@@ -38,3 +38,12 @@ pub record Passed (file bound : ℕ) (going coming : List (List ℕ)) (gone : �
       → gone ≡ length going
   pub came : (numbers : List ℕ) → starts numbers ≡ true → IsChain bound (pages_of before file) numbers → AllLie (pages_of before file) numbers going
       → Came (staying going (lying (pages_of before file) numbers)) coming (lying (pages_of image file) numbers)
+
+-- Such a row went from a line of one page of a file, or there is none such. The chain goes on from the page as before, and every other page is the same.
+pub record PageTook (file bound page : ℕ) (row : List ℕ) (line : Option ℕ) (next : ℕ) (before : Image) (told : Option Image) : Type 0 where
+  pub image : Image
+  pub told_still : told ≡ Some image
+  pub elsewhere : (b : Addr) → (b ≡ page_at file page → ⊥) → image b ≡ before b
+  pub goes_on : next_of bound page (before (page_at file page)) ≡ Some next
+  pub goes_on_still : next_of bound page (image (page_at file page)) ≡ Some next
+  pub took : WentFrom (option_map (place_of page) line) row (lying_on page (before (page_at file page))) (lying_on page (image (page_at file page)))

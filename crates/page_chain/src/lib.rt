@@ -8,6 +8,7 @@ mod growing;
 mod passing;
 mod renewing;
 mod replacing;
+mod taking;
 
 pub use chains::{ChainRows, chain_page, chain_rows};
 pub use growing::{build, extend, put_one};

@@ -13,7 +13,7 @@ use memory::List;
 use page_cells::{clear_row, slot};
 
 /// No page has more lines.
-const LINES: u16 = 254;
+pub const LINES: u16 = 254;
 
 /// Whether the row of a line is to go.
 fn is_going(page: &Page, line: u16, going: &GoingRows<'_>) -> bool
