@@ -18,7 +18,7 @@ same_bytes a b e = (bytes_eq-Decides a b).0 e
 pub bytes_same : (a b : List ℕ) → a ≡ b → bytes_eq a b ≡ true
 bytes_same a b e = (bytes_eq-Decides a b).1 e
 
-not_true : (t : Bool) → (t ≡ true → ⊥) → t ≡ false
+pub not_true : (t : Bool) → (t ≡ true → ⊥) → t ≡ false
 not_true true n = absurd (n refl)
 not_true false n = refl
 

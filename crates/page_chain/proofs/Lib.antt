@@ -1,5 +1,6 @@
+pub mod Along
 pub mod Beside
-pub mod Causes
+pub mod Carried
 pub mod Clearing
 pub mod Coming
 pub mod Counting
@@ -13,4 +14,3 @@ pub mod Replaced
 pub mod Slots
 pub mod Stepping
 pub mod Took
-pub mod Walking

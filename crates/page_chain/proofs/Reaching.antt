@@ -17,7 +17,7 @@ use Rattle.page_chain.proofs.Coming.{came_none}
 use Rattle.page_chain.proofs.Counting.{NoneLeft, none_left, all_go, all_stay, gone_count}
 use Rattle.page_chain.proofs.Slots.{lying_join, lying_one, lying_same}
 use Rattle.page_chain.proofs.Linking.{follows_up}
-use Rattle.page_chain.proofs.Walking.{chain_rest, chain_ends, chain_goes, chain_rises, chain_before, none_off}
+use Rattle.page_chain.proofs.Along.{chain_rest, chain_ends, chain_goes, chain_rises, chain_before, none_off}
 
 -- ---- what was done
 

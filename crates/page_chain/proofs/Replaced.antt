@@ -18,7 +18,7 @@ use Rattle.page_chain.proofs.Coming.{came_none}
 use Rattle.page_chain.proofs.Counting.{all_stay}
 use Rattle.page_chain.proofs.Linking.{follows_as, to_follow, to_first}
 use Rattle.page_chain.proofs.Reaching.{at_page}
-use Rattle.page_chain.proofs.Walking.{chain_rest, chain_wider, chain_kept, none_off, off_none, on_by, is_on_by, on_alike}
+use Rattle.page_chain.proofs.Along.{chain_rest, chain_wider, chain_kept, none_off, off_none, on_by, is_on_by, on_alike}
 
 -- without rows that are to go nothing is done
 pub passed_nothing : (file bound : ℕ) (going : List (List ℕ)) (before : Image) (told : Option Image) → going ≡ [] → told ≡ Some before → Passed file bound going [] 0 before told

@@ -11,7 +11,7 @@ use Rattle.page_chain.specs.Lying.{Lying, Came, lying_on, staying}
 use Rattle.page_chain.specs.Pages.{page_at, next_of}
 use Rattle.page_chain.specs.Passing.{OffChain, Changed, PageRenewed}
 use Rattle.page_chain.proofs.Linking.{follows_as, to_follow}
-use Rattle.page_chain.proofs.Walking.{off_none}
+use Rattle.page_chain.proofs.Along.{off_none}
 
 -- the page at an address is the one that was put there
 pub put_here : (a : Addr) (p : List ℕ) (m : Image) → with_page a p m a ≡ Some p

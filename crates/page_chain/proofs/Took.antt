@@ -1,5 +1,5 @@
 -- One row goes from a chain.
-use Rattle.std.proofs.Common.{◌≡◌, refl, sym, ap, ap₂, subst, ◌∙◌, ℕ, zero, suc, ◌+◌, ◌<◌, ◌≤◌, ◌==◌, ◌||◌, ◌⊎◌, inl, inr, Bool, true, false, bytes_eq, List, [], ◌∷◌, ◌++◌, map, length, get_or, Option, Some, None, option_map, arith, append_assoc}
+use Rattle.std.proofs.Common.{◌≡◌, refl, sym, ap, ap₂, subst, ◌∙◌, ℕ, zero, suc, ◌+◌, ◌<◌, ◌≤◌, ◌==◌, ◌||◌, ◌⊎◌, inl, inr, Bool, true, false, bytes_eq, List, [], ◌∷◌, ◌++◌, map, length, get_or, Option, Some, None, IfSome, IfNone, is_some, option_map, arith, append_assoc}
 use Rattle.std.proofs.Math.ListN.{set}
 use Rattle.std.proofs.lemmas.Bool.{eqb-true}
 use Rattle.std.proofs.lemmas.List.{append-nil, map-append}
@@ -26,7 +26,7 @@ use Rattle.page_chain.proofs.Missing.{chain_missing}
 use Rattle.page_chain.proofs.Reaching.{at_page, one_or_other}
 use Rattle.page_chain.proofs.Slots.{row_is_cleared, lying_join, lying_one, lying_same}
 use Rattle.page_chain.proofs.Stepping.{put_here, put_elsewhere, goes_alike}
-use Rattle.page_chain.proofs.Walking.{chain_rest, chain_ends, chain_goes, chain_rises, chain_before, chain_kept}
+use Rattle.page_chain.proofs.Along.{chain_rest, chain_ends, chain_goes, chain_rises, chain_before, chain_kept}
 
 -- ---- one page
 
@@ -75,6 +75,26 @@ page_stayed file bound page row next p m told there is follows none = record {
   goes_on = ap (next_of bound page) there ∙ follows;
   goes_on_still = ap (next_of bound page) there ∙ follows;
   took = (ap (λ o. is_among (bytes_of (lying_on page o)) row) there ∙ none page, refl);
+}
+
+-- the same of the line that was answered
+pub page_took_line : (file bound page : ℕ) (row : List ℕ) (line : Option ℕ) (next : ℕ) (p q : List ℕ) (m : Image) (told : Option Image) → is_some line ≡ true
+    → m (page_at file page) ≡ Some p → told ≡ Some (with_page (page_at file page) q m) → next_of bound page (Some p) ≡ Some next → IsPage q → next_page q ≡ next_page p
+    → IfSome line (λ l. (n : ℕ) → IsPermutation (lying_on n (Some p)) ((place_of n l, row) ∷ lying_on n (Some q))) → PageTook file bound page row line next m told
+page_took_line file bound page row None next p q m told some there is follows q_is same went = absurd (cc some)
+page_took_line file bound page row (Some line) next p q m told some there is follows q_is same went = page_took file bound page row line next p q m told there is follows q_is same went
+
+pub page_stayed_line : (file bound page : ℕ) (row : List ℕ) (line : Option ℕ) (next : ℕ) (p : List ℕ) (m : Image) (told : Option Image) → is_some line ≡ false
+    → m (page_at file page) ≡ Some p → told ≡ Some m → next_of bound page (Some p) ≡ Some next → IfNone line ((n : ℕ) → is_among (bytes_of (lying_on n (Some p))) row ≡ false)
+    → PageTook file bound page row line next m told
+page_stayed_line file bound page row (Some line) next p m told none there is follows stays = absurd (cc none)
+page_stayed_line file bound page row None next p m told none there is follows stays = page_stayed file bound page row next p m told there is follows stays
+
+-- no page of another file is changed
+pub others_took : (file bound page : ℕ) (row : List ℕ) (line : Option ℕ) (next : ℕ) (old told : Option Image) → ((m : Image) → old ≡ Some m → PageTook file bound page row line next m told)
+    → KeepsOthers file old told
+others_took file bound page row line next old told here = record {
+  each = λ m is. let its = here m is in (its.image, its.told_still, λ b other. its.elsewhere b (λ same. other (ap (λ (b : Addr). b.file) same)));
 }
 
 -- ---- a chain

@@ -1,7 +1,7 @@
 use Rattle.std.proofs.Common.{arith}
 use Rattle.page_chain.specs.Chains.{OffPage}
 use Rattle.page_chain.specs.Passing.{OffChain}
-use Rattle.page_chain.proofs.Causes.{cause_carried}
+use Rattle.page_chain.proofs.Carried.{cause_carried}
 use Rattle.page_chain.proofs.Stepping.{off_any}
 use Rattle.page_chain.proofs.passing.page_on.Goals as goal
 

@@ -1,7 +1,7 @@
 use Rattle.std.proofs.Common.{◌≡◌, ◌+◌, ◌*◌, ◌<◌, ◌≤◌, ◌⊎◌, inl, inr, subst, length, take, arith}
 use Rattle.page_chain.specs.Chains.{NoChainTo}
 use Rattle.page_chain.specs.Passing.{OffChain, Passed}
-use Rattle.page_chain.proofs.Causes.{cause_carried}
+use Rattle.page_chain.proofs.Carried.{cause_carried}
 use Rattle.page_chain.proofs.Reaching.{Reached, reached_start, reached_next, passed, off_reached, first_both}
 use Rattle.page_chain.proofs.passing.pass.Goals as goal
 use Rattle.page_chain.proofs.passing.pass.Goals.{then-step-eq0-via-then-step-eq0, then-step-eq0-via-else-step-eq0+then-gone-wanted}
