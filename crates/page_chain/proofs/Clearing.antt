@@ -1,11 +1,11 @@
 -- The lines of a page of which some are made empty.
-use Rattle.std.proofs.Common.{◌≡◌, ◌≢◌, refl, sym, ap, subst, ◌∙◌, cond, ℕ, zero, suc, ◌+◌, ◌*◌, ◌<◌, ◌≤◌, Bool, true, false, not, List, [], ◌∷◌, map, length, get_or, Some, None, arith, if◌then◌else◌}
+use Rattle.std.proofs.Common.{◌≡◌, refl, sym, ap, subst, ◌∙◌, cond, ℕ, zero, suc, ◌+◌, ◌<◌, ◌≤◌, Bool, true, false, not, List, [], ◌∷◌, map, length, get_or, Some, None, arith, if◌then◌else◌}
 use Rattle.std.proofs.Math.ListN.{set}
 use Rattle.std.proofs.lemmas.List.Sorted.{length_permutation}
-use Rattle.page_cells.specs.Page.{Slot, IsPage, lines, slots}
+use Rattle.page_cells.specs.Page.{Slot, IsPage, slots}
 use Rattle.page_cells.proofs.Lists.{length_slots}
 use Rattle.page_chain.specs.Going.{has_going, unless_going}
-use Rattle.page_chain.specs.Lying.{Lying, Came, place_of, is_among, lying_in, lying_on, staying}
+use Rattle.page_chain.specs.Lying.{Came, place_of, is_among, lying_in, lying_on, staying}
 use Rattle.page_chain.specs.Filled.{IsFilled}
 use Rattle.page_chain.proofs.Slots.{row_is_cleared}
 

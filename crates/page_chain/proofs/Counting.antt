@@ -1,8 +1,8 @@
 -- How many rows go, where no two are the same and each that is to go is there.
-use Rattle.std.proofs.Common.{◌≡◌, refl, sym, ap, ap₂, subst, ◌∙◌, cond, ℕ, zero, suc, ◌+◌, ◌≤◌, Bool, true, false, not, ◌&&◌, ◌||◌, bytes_eq, List, [], ◌∷◌, ◌++◌, map, filter, length, arith}
+use Rattle.std.proofs.Common.{◌≡◌, refl, sym, ap, ap₂, subst, ◌∙◌, cond, ℕ, ◌+◌, ◌≤◌, Bool, true, false, not, ◌||◌, bytes_eq, List, [], ◌∷◌, ◌++◌, filter, length, arith}
 use Rattle.std.proofs.lemmas.Bool.{and_parts, true≢false}
-use Rattle.std.proofs.lemmas.List.{length-append, map-append}
-use Rattle.std.proofs.lemmas.List.Elements.{filter-append, filter_agree}
+use Rattle.std.proofs.lemmas.List.{length-append}
+use Rattle.std.proofs.lemmas.List.Elements.{filter-append}
 use Rattle.std.proofs.lemmas.List.Filters.{length-filter_both}
 use Rattle.std.proofs.lemmas.Slice.Eq.{bytes_eq-Decides}
 use Rattle.std.specs.List.{list_any, list_all}
@@ -105,6 +105,7 @@ as_many (row ∷ going) rows differ once there =
     let are = and_parts (is_among rows row) (list_all (is_among rows) going) there in
     let split = count_either (λ r. bytes_eq r row) (is_among going) rows (λ r e. subst (λ x. is_among going x ≡ false) (sym (same_bytes r row e)) (not_false (is_among going row) first.0)) in
     omega (arith, split, one_is row rows differ are.0, as_many going rows differ first.1 are.1)
+
 -- ---- of rows that lie on pages
 
 -- the rows that go are as many as their bytes

@@ -1,5 +1,5 @@
--- Rows that are to go, in an order by which they are looked up.
-use Rattle.std.proofs.Common.{◌≡◌, refl, sym, ap, ap₂, ◌∙◌, ℕ, Bool, ◌||◌, List, [], ◌∷◌, map, Bor, bytes_eq}
+-- Rows that are to go, as a set in which they are looked up.
+use Rattle.std.proofs.Common.{◌≡◌, refl, ap, ap₂, ◌∙◌, ℕ, ◌||◌, List, [], ◌∷◌, map, Bor}
 use Rattle.std.proofs.lemmas.Map.Text.{is_eq-slice_cmp}
 use Rattle.std.specs.BTreeSet.{BTreeSet, contains}
 use Rattle.std.specs.Cmp.Lexicographic.{slice_cmp}
@@ -7,7 +7,7 @@ use Rattle.std.specs.List.{list_any}
 use Rattle.std.specs.Ordering.{is_eq, nat_cmp, eq_by_cmp}
 use Rattle.std.specs.Set.{is_member}
 use Rattle.std.specs.declared.cmp.Ordering.{Ordering}
-use Rattle.page_chain.specs.Going.{AreSorted}
+use Rattle.page_chain.specs.Going.{IsSetOf}
 use Rattle.page_chain.specs.Lying.{is_among}
 
 -- the order of references to bytes
@@ -21,7 +21,7 @@ looked_up row (k ∷ rows) = ap₂ (λ a b. a || b) (is_eq-slice_cmp row k.now) 
 
 -- what a set that was collected from them holds
 pub collected : (listed : List (List ℕ)) (rows : List (Bor (List ℕ))) (set : BTreeSet (Bor (List ℕ))) → map (λ k. k.now) rows ≡ listed
-    → ((q : Bor (List ℕ)) → contains by_bytes set q ≡ is_member (eq_by_cmp by_bytes) rows q) → AreSorted listed set.keys
+    → ((q : Bor (List ℕ)) → contains by_bytes set q ≡ is_member (eq_by_cmp by_bytes) rows q) → IsSetOf listed set.keys
 collected listed rows set are has = record {
   same = λ row. has (record { ref_ptr = (0, 0); now = row }) ∙ looked_up row rows ∙ ap (λ l. is_among l row) are;
 }

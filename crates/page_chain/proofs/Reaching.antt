@@ -1,12 +1,12 @@
 -- A pass over the pages of a chain, as far as it has come.
-use Rattle.std.proofs.Common.{◌≡◌, refl, sym, ap, ap₂, subst, ◌∙◌, ℕ, zero, suc, ◌+◌, ◌<◌, ◌≤◌, ◌==◌, ◌⊎◌, inl, inr, not, Bool, true, false, List, [], ◌∷◌, ◌++◌, filter, length, take, drop, Option, Some, arith, append_assoc}
-use Rattle.std.proofs.lemmas.Bool.{eqb-true, eq-eqb, and_parts}
+use Rattle.std.proofs.Common.{◌≡◌, refl, sym, ap, subst, ◌∙◌, ℕ, zero, suc, ◌+◌, ◌<◌, ◌≤◌, ◌==◌, ◌⊎◌, inl, inr, not, Bool, true, false, List, [], ◌∷◌, ◌++◌, filter, length, take, drop, Option, Some, arith, append_assoc}
+use Rattle.std.proofs.lemmas.Bool.{eqb-true, eq-eqb}
 use Rattle.std.proofs.lemmas.List.{append-nil, length-append}
 use Rattle.std.proofs.lemmas.List.Elements.{filter-append}
 use Rattle.std.specs.List.{AllByRecursion}
-use Rattle.disk_model.specs.Disk.{Image, is_at}
+use Rattle.disk_model.specs.Disk.{Image}
 use Rattle.disk_model.specs.declared.disk.Addr.{Addr}
-use Rattle.access_traits.specs.Pages.{SameElsewhere, with_page}
+use Rattle.access_traits.specs.Pages.{SameElsewhere}
 use Rattle.page_chain.specs.Chains.{IsChain, starts, is_on, NoChainTo}
 use Rattle.page_chain.specs.Lying.{Lying, Came, lying, lying_on, staying, is_among}
 use Rattle.page_chain.specs.Pages.{Pages, page_at, pages_of, next_of}
@@ -14,7 +14,7 @@ use Rattle.page_chain.specs.Passing.{OffChain, Changed, PageRenewed, Passed}
 use Rattle.page_chain.specs.Renewed.{AllLie}
 use Rattle.page_chain.proofs.Beside.{came_beside}
 use Rattle.page_chain.proofs.Coming.{came_none}
-use Rattle.page_chain.proofs.Counting.{NoneLeft, none_left, all_go, all_stay, gone_count}
+use Rattle.page_chain.proofs.Counting.{NoneLeft, none_left, all_go, gone_count}
 use Rattle.page_chain.proofs.Slots.{lying_join, lying_one, lying_same}
 use Rattle.page_chain.proofs.Linking.{follows_up}
 use Rattle.page_chain.proofs.Along.{chain_rest, chain_ends, chain_goes, chain_rises, chain_before, none_off}
@@ -215,7 +215,7 @@ module _ (file bound number : ℕ) (going first later : List (List ℕ)) (gone m
           let here = gone_count (gone + more) going (lying (pages_of before file) (its.done ++ number ∷ [])) its.changed.went in
           let none_behind : length (filter (λ r. is_among going r.1) (lying (pages_of before file) its.rest)) ≡ 0 = ap (λ rest. length (filter (λ r. is_among going r.1) (lying (pages_of before file) rest))) ends ∙ nothing in
           let sum = ap length (filter-append (λ r. is_among going r.1) (lying (pages_of before file) (its.done ++ number ∷ [])) (lying (pages_of before file) its.rest))
-              ∙ length-append (filter (λ r. is_among going r.1) (lying (pages_of before file) (its.done ++ number ∷ []))) (filter (λ r. is_among going r.1) (lying (pages_of before file) its.rest)) in
+          ∙ length-append (filter (λ r. is_among going r.1) (lying (pages_of before file) (its.done ++ number ∷ []))) (filter (λ r. is_among going r.1) (lying (pages_of before file) its.rest)) in
           omega (arith, here, none_behind, sum, all)
 
   -- what stands on the chain, where nothing follows or as many went as are to go
@@ -233,14 +233,14 @@ module _ (file bound number : ℕ) (going first later : List (List ℕ)) (gone m
           → Came (staying going (lying (pages_of before file) numbers)) (first ++ later) (lying (pages_of here.image file) numbers)
       all_came numbers its stay =
           let changed = changed_beside going (first ++ later) [] (gone + more) 0 (lying (pages_of before file) (its.done ++ number ∷ [])) (lying (pages_of here.image file) (its.done ++ number ∷ []))
-              (lying (pages_of before file) its.rest) (lying (pages_of before file) its.rest) its.changed (changed_nothing going (lying (pages_of before file) its.rest) stay) in
+          (lying (pages_of before file) its.rest) (lying (pages_of before file) its.rest) its.changed (changed_nothing going (lying (pages_of before file) its.rest) stay) in
           let rest = rest_same its.rest (chain_rises bound (pages_of before file) number its.rest its.chain) in
           let are : numbers ≡ (its.done ++ number ∷ []) ++ its.rest = its.are ∙ joined its.done number its.rest in
           let before_all : lying (pages_of before file) (its.done ++ number ∷ []) ++ lying (pages_of before file) its.rest ≡ lying (pages_of before file) numbers =
-              sym (lying_join (pages_of before file) (its.done ++ number ∷ []) its.rest) ∙ ap (lying (pages_of before file)) (sym are) in
+          sym (lying_join (pages_of before file) (its.done ++ number ∷ []) its.rest) ∙ ap (lying (pages_of before file)) (sym are) in
           let now_all : lying (pages_of here.image file) (its.done ++ number ∷ []) ++ lying (pages_of before file) its.rest ≡ lying (pages_of here.image file) numbers =
-              ap (λ rows. lying (pages_of here.image file) (its.done ++ number ∷ []) ++ rows) (sym rest)
-              ∙ sym (lying_join (pages_of here.image file) (its.done ++ number ∷ []) its.rest) ∙ ap (lying (pages_of here.image file)) (sym are) in
+          ap (λ rows. lying (pages_of here.image file) (its.done ++ number ∷ []) ++ rows) (sym rest)
+          ∙ sym (lying_join (pages_of here.image file) (its.done ++ number ∷ []) its.rest) ∙ ap (lying (pages_of here.image file)) (sym are) in
           subst (λ rows. Came (staying going rows) (first ++ later) (lying (pages_of here.image file) numbers)) before_all
           (subst (λ rows. Came (staying going (lying (pages_of before file) (its.done ++ number ∷ []) ++ lying (pages_of before file) its.rest)) (first ++ later) rows) now_all
           (subst (λ rows. Came (staying going (lying (pages_of before file) (its.done ++ number ∷ []) ++ lying (pages_of before file) its.rest)) rows (lying (pages_of here.image file) (its.done ++ number ∷ []) ++ lying (pages_of before file) its.rest)) (append-nil (first ++ later))

@@ -1,6 +1,6 @@
 -- What stands on a chain when rows went from it and others came.
-use Rattle.std.proofs.Common.{◌≡◌, refl, sym, ap, subst, ◌∙◌, ℕ, zero, suc, ◌+◌, ◌<◌, ◌≤◌, ◌==◌, not, Bool, true, false, List, [], ◌∷◌, ◌++◌, length, take, drop, Option, Some, None, arith}
-use Rattle.std.proofs.lemmas.Bool.{true≢false, eq-eqb}
+use Rattle.std.proofs.Common.{◌≡◌, refl, sym, ap, subst, ◌∙◌, ℕ, zero, suc, not, true, false, List, [], ◌∷◌, ◌++◌, length, take, drop, Option, Some, None}
+use Rattle.std.proofs.lemmas.Bool.{eq-eqb}
 use Rattle.std.proofs.lemmas.List.{take-append-drop}
 use Rattle.std.proofs.lemmas.Option.{none-some}
 use Rattle.disk_model.specs.Disk.{Image}
@@ -9,8 +9,8 @@ use Rattle.access_traits.specs.Causes.{IsAtFault}
 use Rattle.access_traits.specs.Pages.{SameElsewhere, KeepsOthers}
 use Rattle.page_chain.specs.Chains.{IsChain, starts, is_on, OffPage, NoChainTo}
 use Rattle.page_chain.specs.Grown.{IsGrown, numbers_to}
-use Rattle.page_chain.specs.Lying.{Lying, Came, lying, staying}
-use Rattle.page_chain.specs.Pages.{Pages, page_at, pages_of, next_of}
+use Rattle.page_chain.specs.Lying.{Came, lying, staying}
+use Rattle.page_chain.specs.Pages.{page_at, pages_of, next_of}
 use Rattle.page_chain.specs.Passing.{Passed}
 use Rattle.page_chain.specs.Renewed.{AllLie, IsRenewed}
 use Rattle.page_chain.proofs.Beside.{came_then}
@@ -41,9 +41,9 @@ grown_nothing file bound earlier last rows before told none is chain = record {
   told_still = is;
   chain = λ more le lt. subst (λ numbers. IsChain more (pages_of before file) (earlier ++ numbers)) (sym (to_first last)) (chain_wider bound (pages_of before file) more (earlier ++ last ∷ []) le chain);
   came =
-    subst (λ rows. Came (lying (pages_of before file) (earlier ++ last ∷ [])) rows (lying (pages_of before file) (earlier ++ numbers_to last last))) (sym none)
-    (subst (λ numbers. Came (lying (pages_of before file) (earlier ++ last ∷ [])) [] (lying (pages_of before file) (earlier ++ numbers))) (sym (to_first last))
-    (came_none (lying (pages_of before file) (earlier ++ last ∷ []))));
+      subst (λ rows. Came (lying (pages_of before file) (earlier ++ last ∷ [])) rows (lying (pages_of before file) (earlier ++ numbers_to last last))) (sym none)
+      (subst (λ numbers. Came (lying (pages_of before file) (earlier ++ last ∷ [])) [] (lying (pages_of before file) (earlier ++ numbers))) (sym (to_first last))
+      (came_none (lying (pages_of before file) (earlier ++ last ∷ []))));
 }
 
 -- pages of other files that stayed twice stayed
@@ -59,16 +59,18 @@ pub renewed : (file bound : ℕ) (earlier : List ℕ) (last now : ℕ) (going co
     → (IsChain bound (pages_of its.image file) (earlier ++ last ∷ []) → IsGrown file bound earlier last now (drop put coming) its.image told)
     → (gone ≡ length going) × IsRenewed file bound earlier last now going coming before told
 renewed file bound earlier last now going coming put gone before between told its first chain lie grows =
-    let grown = grows (chain_kept bound (pages_of before file) (pages_of its.image file) (earlier ++ last ∷ []) its.links chain) in
-    (its.number (earlier ++ last ∷ []) first chain lie, record {
-      image = grown.image;
-      told_still = grown.told_still;
-      chain = grown.chain;
-      came =
-        subst (λ rows. Came (staying going (lying (pages_of before file) (earlier ++ last ∷ []))) rows (lying (pages_of grown.image file) (earlier ++ numbers_to last now))) (take-append-drop put coming)
-        (came_then (staying going (lying (pages_of before file) (earlier ++ last ∷ []))) (lying (pages_of its.image file) (earlier ++ last ∷ [])) (lying (pages_of grown.image file) (earlier ++ numbers_to last now))
-        (take put coming) (drop put coming) (its.came (earlier ++ last ∷ []) first chain lie) grown.came);
-    })
+    let grown = grows (chain_kept bound (pages_of before file) (pages_of its.image file) (earlier ++ last ∷ []) its.links chain) in (
+      its.number (earlier ++ last ∷ []) first chain lie,
+      record {
+        image = grown.image;
+        told_still = grown.told_still;
+        chain = grown.chain;
+        came =
+            subst (λ rows. Came (staying going (lying (pages_of before file) (earlier ++ last ∷ []))) rows (lying (pages_of grown.image file) (earlier ++ numbers_to last now))) (take-append-drop put coming)
+            (came_then (staying going (lying (pages_of before file) (earlier ++ last ∷ []))) (lying (pages_of its.image file) (earlier ++ last ∷ [])) (lying (pages_of grown.image file) (earlier ++ numbers_to last now))
+            (take put coming) (drop put coming) (its.came (earlier ++ last ∷ []) first chain lie) grown.came);
+      },
+    )
 
 -- a page at which a chain ends by one bound ends it by each
 ends_by : (bound more page : ℕ) (p : Option (List ℕ)) → next_of bound page p ≡ Some 0 → next_of more page p ≡ Some 0
@@ -90,7 +92,7 @@ off_behind file bound last other going coming gone old mid passed a fault m is =
     let off = fault its.image its.told_still in
     let at = at_page file last a off.of_file off.of_page in
     let later : is_on bound last last (its.image (page_at file last)) ≡ false =
-        off_last bound other last (its.image (page_at file last)) (next_of bound last (its.image (page_at file last))) refl (subst (λ b. next_of other last (its.image b) ≡ None) at off.off) in
+    off_last bound other last (its.image (page_at file last)) (next_of bound last (its.image (page_at file last))) refl (subst (λ b. next_of other last (its.image b) ≡ None) at off.off) in
     let here : is_on bound last last (m (page_at file last)) ≡ false = sym (on_alike bound last last (its.image (page_at file last)) (m (page_at file last)) (its.links last)) ∙ later in
     record {
       of_file = off.of_file;

@@ -1,13 +1,13 @@
 -- A page of a chain that changed and was put in its place.
-use Rattle.std.proofs.Common.{◌≡◌, refl, sym, ap, subst, ◌∙◌, ℕ, ◌+◌, ◌==◌, ◌&&◌, Bool, true, false, List, length, Option, Some, None, if◌then◌else◌}
+use Rattle.std.proofs.Common.{◌≡◌, refl, sym, ap, subst, ◌∙◌, ℕ, ◌+◌, ◌==◌, Bool, true, false, List, length, Option, Some, if◌then◌else◌}
 use Rattle.std.proofs.lemmas.Bool.{and_from, and_parts, eqb-true, eq-eqb}
 use Rattle.disk_model.specs.Disk.{Image, is_at}
 use Rattle.disk_model.specs.declared.disk.Addr.{Addr}
 use Rattle.access_traits.specs.Causes.{IsAtFault}
 use Rattle.access_traits.specs.Pages.{with_page}
 use Rattle.page_cells.specs.Page.{IsPage, next_page}
-use Rattle.page_chain.specs.Chains.{OffPage, is_on}
-use Rattle.page_chain.specs.Lying.{Lying, Came, lying_on, staying}
+use Rattle.page_chain.specs.Chains.{OffPage}
+use Rattle.page_chain.specs.Lying.{Came, lying_on, staying}
 use Rattle.page_chain.specs.Pages.{page_at, next_of}
 use Rattle.page_chain.specs.Passing.{OffChain, Changed, PageRenewed}
 use Rattle.page_chain.proofs.Linking.{follows_as, to_follow}
@@ -43,9 +43,9 @@ page_renewed file bound page going coming gone next p q m told there is follows 
   goes_on = ap (next_of bound page) there ∙ follows;
   goes_on_still = ap (next_of bound page) (put_here (page_at file page) q m) ∙ goes_alike bound page next p q follows q_is same;
   changed =
-    subst (λ o. Changed going coming gone (lying_on page o) (lying_on page (with_page (page_at file page) q m (page_at file page)))) (sym there)
-    (subst (λ o. Changed going coming gone (lying_on page (Some p)) (lying_on page o)) (sym (put_here (page_at file page) q m))
-    (record { came = came page; went = went page }));
+      subst (λ o. Changed going coming gone (lying_on page o) (lying_on page (with_page (page_at file page) q m (page_at file page)))) (sym there)
+      (subst (λ o. Changed going coming gone (lying_on page (Some p)) (lying_on page o)) (sym (put_here (page_at file page) q m))
+      (record { came = came page; went = went page }));
 }
 
 -- a page that isn't one of a chain isn't one of a chain that ends as it must

@@ -1,14 +1,13 @@
 -- One row goes from a chain.
-use Rattle.std.proofs.Common.{◌≡◌, refl, sym, ap, ap₂, subst, ◌∙◌, ℕ, zero, suc, ◌+◌, ◌<◌, ◌≤◌, ◌==◌, ◌||◌, ◌⊎◌, inl, inr, Bool, true, false, bytes_eq, List, [], ◌∷◌, ◌++◌, map, length, get_or, Option, Some, None, IfSome, IfNone, is_some, option_map, arith, append_assoc}
+use Rattle.std.proofs.Common.{◌≡◌, refl, sym, ap, ap₂, subst, ◌∙◌, ℕ, zero, suc, ◌<◌, ◌≤◌, ◌||◌, inl, inr, true, false, bytes_eq, List, [], ◌∷◌, ◌++◌, length, get_or, Option, Some, None, IfSome, IfNone, is_some, arith, append_assoc}
 use Rattle.std.proofs.Math.ListN.{set}
 use Rattle.std.proofs.lemmas.Bool.{eqb-true}
 use Rattle.std.proofs.lemmas.List.{append-nil, map-append}
 use Rattle.std.proofs.lemmas.List.Folds.{list_any-append}
 use Rattle.std.proofs.lemmas.List.Sorted.{IsPermutation-refl, IsPermutation-trans, IsPermutation-append, IsPermutation-middle}
 use Rattle.std.proofs.lemmas.Option.{none-some}
-use Rattle.std.specs.List.{AllByRecursion, list_any}
+use Rattle.std.specs.List.{AllByRecursion}
 use Rattle.std.specs.List.Sorted.{IsPermutation}
-use Rattle.calculus.specs.declared.probe.Place.{Place}
 use Rattle.disk_model.specs.Disk.{Image}
 use Rattle.disk_model.specs.declared.disk.Addr.{Addr}
 use Rattle.access_traits.specs.Causes.{IsAtFault}
@@ -21,7 +20,6 @@ use Rattle.page_chain.specs.Passing.{PageTook}
 use Rattle.page_chain.specs.Renewed.{TookOne, WentFrom}
 use Rattle.page_chain.proofs.Clearing.{few_lines}
 use Rattle.page_chain.proofs.Counting.{same_bytes, not_true}
-use Rattle.page_chain.proofs.Linking.{follows_up}
 use Rattle.page_chain.proofs.Missing.{chain_missing}
 use Rattle.page_chain.proofs.Reaching.{at_page, one_or_other}
 use Rattle.page_chain.proofs.Slots.{row_is_cleared, lying_join, lying_one, lying_same}
@@ -61,8 +59,8 @@ page_took file bound page row line next p q m told there is follows q_is same we
   goes_on = ap (next_of bound page) there ∙ follows;
   goes_on_still = ap (next_of bound page) (put_here (page_at file page) q m) ∙ goes_alike bound page next p q follows q_is same;
   took =
-    subst (λ o. WentFrom (Some (place_of page line)) row (lying_on page o) (lying_on page (with_page (page_at file page) q m (page_at file page)))) (sym there)
-    (subst (λ o. WentFrom (Some (place_of page line)) row (lying_on page (Some p)) (lying_on page o)) (sym (put_here (page_at file page) q m)) (went page));
+      subst (λ o. WentFrom (Some (place_of page line)) row (lying_on page o) (lying_on page (with_page (page_at file page) q m (page_at file page)))) (sym there)
+      (subst (λ o. WentFrom (Some (place_of page line)) row (lying_on page (Some p)) (lying_on page o)) (sym (put_here (page_at file page) q m)) (went page));
 }
 
 -- a page without such a row stayed
@@ -195,17 +193,17 @@ module _ (file bound number : ℕ) (row : List ℕ) (line next : ℕ) (m : Image
       let whole = subst (IsChain bound (pages_of m file)) its.are chain in
       let done = lying_same (pages_of m file) (pages_of here.image file) its.done (all_others its.done (lower its.done (chain_before bound (pages_of m file) its.done number its.rest whole))) in
       let rest = lying_same (pages_of m file) (pages_of here.image file) its.rest
-          (all_others its.rest (higher its.rest (chain_rises bound (pages_of m file) number its.rest (chain_rest bound (pages_of m file) its.done number its.rest whole)))) in
+      (all_others its.rest (higher its.rest (chain_rises bound (pages_of m file) number its.rest (chain_rest bound (pages_of m file) its.done number its.rest whole)))) in
       record {
         image = here.image;
         told_still = here.told_still;
         chain = chain_kept bound (pages_of m file) (pages_of here.image file) numbers links chain;
         took =
-          subst (λ rows. IsPermutation (lying (pages_of m file) numbers) ((place_of number line, row) ∷ rows))
-          (sym (ap (lying (pages_of here.image file)) its.are ∙ three (pages_of here.image file) its.done its.rest ∙ ap₂ (λ a b. (a ++ lying_on number (here.image (page_at file number))) ++ b) done rest))
-          (subst (λ rows. IsPermutation rows ((place_of number line, row) ∷ ((lying (pages_of m file) its.done ++ lying_on number (here.image (page_at file number))) ++ lying (pages_of m file) its.rest)))
-          (sym (ap (lying (pages_of m file)) its.are ∙ three (pages_of m file) its.done its.rest))
-          (goes_from (place_of number line, row) (lying (pages_of m file) its.done) (lying_on number (m (page_at file number))) (lying_on number (here.image (page_at file number))) (lying (pages_of m file) its.rest) here.took));
+            subst (λ rows. IsPermutation (lying (pages_of m file) numbers) ((place_of number line, row) ∷ rows))
+            (sym (ap (lying (pages_of here.image file)) its.are ∙ three (pages_of here.image file) its.done its.rest ∙ ap₂ (λ a b. (a ++ lying_on number (here.image (page_at file number))) ++ b) done rest))
+            (subst (λ rows. IsPermutation rows ((place_of number line, row) ∷ ((lying (pages_of m file) its.done ++ lying_on number (here.image (page_at file number))) ++ lying (pages_of m file) its.rest)))
+            (sym (ap (lying (pages_of m file)) its.are ∙ three (pages_of m file) its.done its.rest))
+            (goes_from (place_of number line, row) (lying (pages_of m file) its.done) (lying_on number (m (page_at file number))) (lying_on number (here.image (page_at file number))) (lying (pages_of m file) its.rest) here.took));
       }
     where
       three : (pages : Pages) (done rest : List ℕ) → lying pages (done ++ number ∷ rest) ≡ (lying pages done ++ lying_on number (pages number)) ++ lying pages rest

@@ -17,13 +17,13 @@ pub struct GoingRows<'a> {
 
 impl<'a> Model for GoingRows<'a> {
     ghost use Rattle.std.specs.Prelude.{ℕ, List};
-    ghost use Rattle.page_chain.specs.Going.{AreSorted};
+    ghost use Rattle.page_chain.specs.Going.{IsSetOf};
 
     ghost Value = { List (List ℕ) };
 
     ghost view = { λ rows. rows.listed.now };
 
-    ghost invariant = { λ rows. AreSorted rows.listed.now rows.sorted.keys };
+    ghost invariant = { λ rows. IsSetOf rows.listed.now rows.sorted.keys };
 }
 
 impl<'a> GoingRows<'a> {

@@ -93,6 +93,7 @@ fn put_behind<S: PageStore>(
 /// Takes rows away from the chain of a file, and puts others, in one pass from page 0 on that ends where
 /// all that are to go were found. Where a row goes others come as far as its page has room; what is
 /// left of them comes behind the last page. Without rows that are to go no page is read but the last.
+/// More rows that went than a u32 counts are want of memory.
 pub fn replace<S: PageStore>(
     alloc: Global,
     store: &mut S,

@@ -1,4 +1,4 @@
-use Rattle.std.proofs.Common.{◌≡◌, ◌+◌, ◌*◌, ◌<◌, ◌≤◌, ◌⊎◌, inl, inr, subst, length, take, arith}
+use Rattle.std.proofs.Common.{◌+◌, ◌<◌, inl, inr, subst, take, arith}
 use Rattle.page_chain.specs.Chains.{NoChainTo}
 use Rattle.page_chain.specs.Passing.{OffChain, Passed}
 use Rattle.page_chain.proofs.Carried.{cause_carried}
@@ -22,7 +22,7 @@ returns-in_err-step-clause-cause g c =
     (OffChain c.args.chain.file c.pages.number c.args.chain.bound c.args.chain.last) (NoChainTo c.args.chain.file c.args.chain.bound c.args.chain.last)
     (g.S.PageStore.faults c.args.store.now) (g.S.PageStore.faults c.pages.store) (g.S.PageStore.faults c.renew_at.new.store) c.in_err-step.field-0.0 c.pages.invariant.faults
     (λ a fault m is. let so_far = c.pages.invariant.reached m is in
-        off_reached c.args.chain.file c.args.chain.bound c.pages.number c.args.chain.last c.args.going.now (take c.pages.put c.args.coming.now) c.pages.gone m (g.S.PageStore.pages c.pages.store) so_far a (fault so_far.image so_far.told_still))
+    off_reached c.args.chain.file c.args.chain.bound c.pages.number c.args.chain.last c.args.going.now (take c.pages.put c.args.coming.now) c.pages.gone m (g.S.PageStore.pages c.pages.store) so_far a (fault so_far.image so_far.told_still))
     c.in_err-step.ensures.cause c.from_residual.result c.from_residual.ensures.1
 
 pub returns-then-step-eq0-clause-passed : goal.returns-then-step-eq0-clause-passed

@@ -1,4 +1,4 @@
-use Rattle.std.proofs.Common.{◌≡◌, ◌+◌, ◌-◌, ◌*◌, ◌<◌, ◌≤◌, Some, length, take}
+use Rattle.std.proofs.Common.{◌≡◌, ◌-◌, ◌*◌, ◌<◌, ◌≤◌, Some, length, take}
 use Rattle.disk_model.specs.Disk.{Image}
 use Rattle.page_chain.proofs.Reaching.{Reached}
 use Rattle.page_chain.proofs.passing.pass.Given as goal

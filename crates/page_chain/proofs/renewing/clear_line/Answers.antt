@@ -1,4 +1,4 @@
-use Rattle.std.proofs.Common.{◌≡◌, ◌+◌, sym, ap, ◌∙◌, subst, length, map, Some, if◌then◌else◌}
+use Rattle.std.proofs.Common.{◌+◌, sym, ap, ◌∙◌, length, map, Some, if◌then◌else◌}
 use Rattle.page_cells.specs.Page.{slots}
 use Rattle.page_chain.specs.Going.{unless_going}
 use Rattle.page_chain.specs.Lying.{lying_on}

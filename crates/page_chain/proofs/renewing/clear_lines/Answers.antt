@@ -1,4 +1,4 @@
-use Rattle.std.proofs.Common.{◌<◌, ℕ, arith}
+use Rattle.std.proofs.Common.{arith}
 use Rattle.page_chain.proofs.Clearing.{page_left}
 use Rattle.page_chain.proofs.renewing.clear_lines.Goals as goal
 

@@ -1,4 +1,4 @@
-use Rattle.std.proofs.Common.{◌≡◌, ◌<◌, ℕ, List, [], ◌∷◌, ◌++◌, length, sym, ◌∙◌}
+use Rattle.std.proofs.Common.{◌<◌, ℕ, List, [], ◌∷◌, ◌++◌, length, sym, ◌∙◌}
 use Rattle.std.proofs.lemmas.Bool.{eqb-true}
 use Rattle.std.proofs.lemmas.List.{nil_from_length}
 use Rattle.std.proofs.lemmas.Result.{IfOk-weaker}
@@ -17,7 +17,7 @@ pub returns-clause-grown : goal.returns-clause-grown
 returns-clause-grown g c m is =
     IfOk-weaker c.extend.result
     (λ now. (bound : ℕ) (earlier : List ℕ) → c.args.chain.last < bound → IsChain bound (pages_of m c.args.chain.file) (earlier ++ c.args.chain.last ∷ [])
-        → IsGrown c.args.chain.file bound earlier c.args.chain.last now c.args.rows.now m (g.S.PageStore.pages c.extend.new.store))
+    → IsGrown c.args.chain.file bound earlier c.args.chain.last now c.args.rows.now m (g.S.PageStore.pages c.extend.new.store))
     (λ now. (earlier : List ℕ) → c.args.chain.last < c.args.chain.bound → IsChain c.args.chain.bound (pages_of m c.args.chain.file) (earlier ++ c.args.chain.last ∷ [])
-        → IsGrown c.args.chain.file c.args.chain.bound earlier c.args.chain.last now c.args.rows.now m (g.S.PageStore.pages c.extend.new.store))
+    → IsGrown c.args.chain.file c.args.chain.bound earlier c.args.chain.last now c.args.rows.now m (g.S.PageStore.pages c.extend.new.store))
     (λ now grown earlier. grown c.args.chain.bound earlier) (c.extend.ensures.grown m is)

@@ -1,4 +1,4 @@
-use Rattle.std.proofs.Common.{◌≡◌, ◌+◌, subst, sym, ◌∙◌, take, arith}
+use Rattle.std.proofs.Common.{◌+◌, subst, take, arith}
 use Rattle.page_chain.specs.Chains.{OffPage, NoChainTo}
 use Rattle.page_chain.specs.Grown.{IsGrown}
 use Rattle.page_chain.proofs.Carried.{cause_carried}
@@ -18,9 +18,9 @@ pub returns-in-Ok-clause-renewed : goal.returns-in-Ok-clause-renewed
 returns-in-Ok-clause-renewed g c m is earlier first chain lie =
     let its = c.in_ok-done.ensures.passed m is in
     let all = renewed c.args.chain.file c.args.chain.bound earlier c.args.chain.last c.in_ok-last.last c.args.going.now c.args.coming.now c.in_ok-done.done.put c.in_ok-done.done.gone
-        m (g.S.PageStore.pages c.pass_over.new.store) (g.S.PageStore.pages c.put_behind.new.store) its first chain lie
-        (λ kept. subst (λ rows. IsGrown c.args.chain.file c.args.chain.bound earlier c.args.chain.last c.in_ok-last.last rows its.image (g.S.PageStore.pages c.put_behind.new.store)) c.split_at.ensures.back
-        (c.in_ok-last.ensures.grown its.image its.told_still earlier c.requires.last kept)) in
+    m (g.S.PageStore.pages c.pass_over.new.store) (g.S.PageStore.pages c.put_behind.new.store) its first chain lie
+    (λ kept. subst (λ rows. IsGrown c.args.chain.file c.args.chain.bound earlier c.args.chain.last c.in_ok-last.last rows its.image (g.S.PageStore.pages c.put_behind.new.store)) c.split_at.ensures.back
+    (c.in_ok-last.ensures.grown its.image its.told_still earlier c.requires.last kept)) in
     (let number = c.in-Ok.ensures in omega (arith, all.0, number), all.1)
 
 pub returns-in-Ok-clause-others : goal.returns-in-Ok-clause-others
