@@ -4,6 +4,8 @@ pub mod Carried
 pub mod Clearing
 pub mod Coming
 pub mod Counting
+pub mod Grown
+pub mod Hands
 pub mod Laying
 pub mod Linking
 pub mod LookUp
