@@ -1,8 +1,11 @@
 pub mod Chains
+pub mod Filled
 pub mod Found
+pub mod Going
 pub mod Grown
 pub mod Lists
 pub mod Lying
 pub mod Pages
+pub mod Passing
 pub mod Renewed
 pub mod Rows

@@ -2,8 +2,13 @@
 #![tactic(auto)]
 
 mod chains;
+mod filling;
+mod going;
 mod growing;
+mod passing;
+mod renewing;
 mod replacing;
+mod taking;
 
 pub use chains::{ChainRows, chain_page, chain_rows};
 pub use growing::{build, extend, put_one};

@@ -1,14 +1,20 @@
 //! Rows of a chain go, and others come, in one pass.
 
-ghost use Rattle.std.specs.Prelude.{◌≡◌, ◌+◌, ◌-◌, ◌^◌, ◌<◌, ◌≤◌, ℕ, List, [], ◌∷◌, ◌++◌, Some, true, All, IfOk, OnOk, length};
+ghost use Rattle.std.specs.Prelude.{◌≡◌, ◌+◌, ◌-◌, ◌^◌, ◌<◌, ◌≤◌, ℕ, List, [], ◌∷◌, ◌++◌, Some, true, All, IfOk, OnOk, length, take};
 ghost use Rattle.disk_model.specs.Disk.{Image};
 ghost use Rattle.access_traits.specs.Causes.{HasFileCause};
 ghost use Rattle.access_traits.specs.Pages.{KeepsOthers};
-ghost use Rattle.page_chain.specs.Chains.{IsChain, NoChain, NoChainTo, starts};
+ghost use Rattle.page_chain.specs.Chains.{IsChain, NoChain, NoChainTo, OffPage, starts};
+ghost use Rattle.page_chain.specs.Grown.{IsGrown};
 ghost use Rattle.page_chain.specs.Lying.{IsShort, all_differ, bytes_of, lying};
 ghost use Rattle.page_chain.specs.Pages.{pages_of};
+ghost use Rattle.page_chain.specs.Passing.{Passed};
 ghost use Rattle.page_chain.specs.Renewed.{AllLie, IsRenewed, TookOne};
 
+use crate::going::GoingRows;
+use crate::growing::extend;
+use crate::passing::{Progress, pass};
+use crate::taking::take_at;
 use access_traits::PageStore;
 use am_traits::BaseFault;
 use calculus::Place;
@@ -35,9 +41,59 @@ pub struct Replacement {
     pub last: u32,
 }
 
+/// Takes rows away from a chain, and puts others where one went; without rows that are to go no page
+/// is read.
+fn pass_over<S: PageStore>(
+    alloc: Global,
+    store: &mut S,
+    chain: Chain,
+    going: &[List<u8>],
+    coming: &[List<u8>],
+) -> Result<Progress, BaseFault>
+    requires file { 5 ≤ chain.file }
+    requires some { 1 ≤ chain.bound }
+    requires most { chain.bound ≤ 2 ^ 32 }
+    requires short { All (λ row. IsShort row) coming.now }
+    ensures passed { (m : Image) → S.pages store.old ≡ Some m → IfOk result (λ done.
+        Passed chain.file chain.bound going.now (take done.put coming.now) done.gone m (S.pages store.new)) }
+    ensures put { IfOk result (λ done. done.put ≤ length coming.now) }
+    ensures came { (s : S) → S.came s store.old → S.came s store.new }
+    ensures cause { HasFileCause (S.pages store.old) (NoChainTo chain.file chain.bound chain.last) (S.faults store.old) (S.faults store.new) result }
+{
+    if going.is_empty() {
+        return Ok(Progress { gone: 0, put: 0 });
+    }
+    let rows = GoingRows::of(alloc, going)?;
+    pass(store, chain, &rows, coming)
+}
+
+/// Puts rows behind those of a chain, and answers the number of its last page. Without rows no page is
+/// read.
+fn put_behind<S: PageStore>(
+    store: &mut S,
+    chain: Chain,
+    rows: &[List<u8>],
+) -> Result<u32, BaseFault>
+    requires file { 5 ≤ chain.file }
+    requires short { All (λ row. IsShort row) rows.now }
+    requires room { chain.last + length rows.now < 2 ^ 32 }
+    ensures behind { IfOk result (λ now. (chain.last ≤ now) × (now ≤ chain.last + length rows.now)) }
+    ensures grown { (m : Image) → S.pages store.old ≡ Some m → IfOk result (λ now. (earlier : List ℕ) → chain.last < chain.bound
+        → IsChain chain.bound (pages_of m chain.file) (earlier ++ chain.last ∷ []) → IsGrown chain.file chain.bound earlier chain.last now rows.now m (S.pages store.new)) }
+    ensures others { OnOk result (KeepsOthers chain.file (S.pages store.old) (S.pages store.new)) }
+    ensures came { (s : S) → S.came s store.old → S.came s store.new }
+    ensures cause { HasFileCause (S.pages store.old) (OffPage chain.file chain.last (chain.last + 1)) (S.faults store.old) (S.faults store.new) result }
+{
+    if rows.is_empty() {
+        return Ok(chain.last);
+    }
+    extend(store, chain.file, chain.last, rows)
+}
+
 /// Takes rows away from the chain of a file, and puts others, in one pass from page 0 on that ends where
 /// all that are to go were found. Where a row goes others come as far as its page has room; what is
 /// left of them comes behind the last page. Without rows that are to go no page is read but the last.
+/// More rows that went than a u32 counts are want of memory.
 pub fn replace<S: PageStore>(
     alloc: Global,
     store: &mut S,
@@ -58,7 +114,12 @@ pub fn replace<S: PageStore>(
     ensures came { (s : S) → S.came s store.old → S.came s store.new }
     ensures cause { HasFileCause (S.pages store.old) (NoChainTo chain.file chain.bound chain.last) (S.faults store.old) (S.faults store.new) result }
 {
-    Err(BaseFault::OutOfMemory)
+    let done = pass_over(alloc, store, chain, going, coming)?;
+    let last = put_behind(store, chain, coming.split_at(done.put).1)?;
+    match u32::try_from(done.gone) {
+        Ok(gone) => Ok(Replacement { gone, last }),
+        Err(_) => Err(BaseFault::OutOfMemory),
+    }
 }
 
 /// Takes the first row of the chain of a file that has these bytes away, and answers the place that it
@@ -78,5 +139,15 @@ pub fn take_one<S: PageStore>(
     ensures came { (s : S) → S.came s store.old → S.came s store.new }
     ensures cause { HasFileCause (S.pages store.old) (NoChain file bound) (S.faults store.old) (S.faults store.new) result }
 {
-    Err(BaseFault::OutOfMemory)
+    let mut number = 0;
+    'pages: loop {
+        let taken = take_at(store, file, number, bound, row)?;
+        if let Some(line) = taken.line {
+            return Ok(Some(Place { page: number, line }));
+        }
+        if taken.next == 0 {
+            return Ok(None);
+        }
+        number = taken.next;
+    }
 }

@@ -1,0 +1,91 @@
+-- What was laid on pages behind those of a chain, and in a file that was made anew.
+use Rattle.std.proofs.Common.{◌≡◌, refl, sym, ap, ap₂, subst, ◌∙◌, ℕ, zero, suc, ◌+◌, ◌-◌, ◌<◌, ◌≤◌, List, [], ◌∷◌, ◌++◌, map, Option, Some, None, arith, append_assoc}
+use Rattle.std.specs.List.{AllByRecursion}
+use Rattle.std.specs.List.Sorted.{IsPermutation}
+use Rattle.std.proofs.lemmas.List.Sorted.{IsPermutation-append_right, IsPermutation-append_comm, IsPermutation-trans, IsPermutation-to_front}
+use Rattle.calculus.specs.declared.probe.Place.{Place}
+use Rattle.disk_model.specs.Disk.{Image}
+use Rattle.disk_model.specs.declared.disk.Addr.{Addr}
+use Rattle.access_traits.specs.Pages.{SameElsewhere, KeepsOthers, with_page}
+use Rattle.page_cells.specs.Page.{IsPage, next_page, slots, line_for, with_row}
+use Rattle.page_chain.specs.Chains.{IsChain, numbers_from}
+use Rattle.page_chain.specs.Filled.{HasOnly, IsFilled, IsLaid, ToldLaid, IsLinked}
+use Rattle.page_chain.specs.Grown.{numbers_to, IsGrown, IsOneMore, IsBuilt}
+use Rattle.page_chain.specs.Lying.{Lying, place_of, lying_in, lying, bytes_of, Came}
+use Rattle.page_chain.specs.Pages.{Pages, page_at, pages_of}
+use Rattle.page_chain.proofs.Slots.{lying_join, lying_same}
+use Rattle.page_chain.proofs.Linking.{chain_glued, chain_below, all_of_below, to_from, to_from_zero, to_first}
+use Rattle.page_chain.proofs.Laying.{put_there, put_same, other_file}
+
+-- ---- behind a chain
+
+module _ (file bound : ℕ) (earlier : List ℕ) (last now : ℕ) (new : Lying) (m image : Image) (laid : IsLaid file last now new m image)
+    (is : IsChain bound (pages_of m file) (earlier ++ last ∷ [])) where
+  earlier_same : AllByRecursion (λ k. pages_of image file k ≡ pages_of m file k) earlier
+  earlier_same = all_of_below (λ k. pages_of image file k ≡ pages_of m file k) last earlier laid.earlier (chain_below bound last (pages_of m file) earlier is)
+
+  -- the chain goes on so far
+  pub laid_chain : (more : ℕ) → bound ≤ more → now < more → IsChain more (pages_of image file) (earlier ++ numbers_to last now)
+  laid_chain more le lt =
+      let from = to_from last now laid.forth in
+      subst (λ l. IsChain more (pages_of image file) (earlier ++ l)) (sym from)
+      (chain_glued bound more last (pages_of m file) (pages_of image file) earlier (numbers_from (now - last) (suc last)) le earlier_same is (subst (IsChain more (pages_of image file)) from (laid.chain more lt)))
+
+  -- these rows came
+  pub laid_came : IsPermutation (lying (pages_of image file) (earlier ++ numbers_to last now)) (lying (pages_of m file) (earlier ++ last ∷ []) ++ new)
+  laid_came =
+      subst (λ l. IsPermutation l (lying (pages_of m file) (earlier ++ last ∷ []) ++ new))
+      (sym (lying_join (pages_of image file) earlier (numbers_to last now) ∙ ap (λ l. l ++ lying (pages_of image file) (numbers_to last now)) (lying_same (pages_of m file) (pages_of image file) earlier earlier_same)))
+      (subst (IsPermutation (lying (pages_of m file) earlier ++ lying (pages_of image file) (numbers_to last now)))
+      (sym (ap (λ l. l ++ new) (lying_join (pages_of m file) earlier (last ∷ [])) ∙ append_assoc (lying (pages_of m file) earlier) (lying (pages_of m file) (last ∷ [])) new))
+      (IsPermutation-append_right (lying (pages_of m file) earlier) (lying (pages_of image file) (numbers_to last now)) (lying (pages_of m file) (last ∷ []) ++ new) laid.came))
+
+-- a chain of which the last page was in hand has grown
+pub has_grown : (file bound : ℕ) (earlier : List ℕ) (last now : ℕ) (rows : List (List ℕ)) (m : Image) (told : Option Image) → ToldLaid file last now rows m told
+    → IsChain bound (pages_of m file) (earlier ++ last ∷ []) → IsGrown file bound earlier last now rows m told
+has_grown file bound earlier last now rows m told laid is = record {
+  image = laid.image;
+  told_still = laid.told_still;
+  chain = laid_chain file bound earlier last now laid.new m laid.image laid.laid is;
+  came = record { new = laid.new; bytes = laid.bytes; all = laid_came file bound earlier last now laid.new m laid.image laid.laid is };
+}
+
+-- where the page in hand is the one that stands there, it may be laid there
+pub laid_there : (file last now : ℕ) (rows : List (List ℕ)) (p : List ℕ) (m : Image) (told : Option Image) → m (page_at file last) ≡ Some p
+    → ToldLaid file last now rows (with_page (page_at file last) p m) told → ToldLaid file last now rows m told
+laid_there file last now rows p m told there laid = subst (λ n. ToldLaid file last now rows n told) (put_same (page_at file last) p m there) laid
+
+-- ---- other files
+
+pub others_kept : (file first now : ℕ) (rows : List (List ℕ)) (p : List ℕ) (before told : Option Image)
+    → ((m : Image) → before ≡ Some m → ToldLaid file first now rows (with_page (page_at file first) p m) told) → KeepsOthers file before told
+others_kept file first now rows p before told laid = record {
+  each = λ m is. let its = laid m is in (its.image, its.told_still, λ b other. its.laid.elsewhere b other ∙ other_file file first p m b other)
+}
+
+-- ---- one row
+
+-- the row that came has this place
+pub one_more : (file bound : ℕ) (earlier : List ℕ) (last : ℕ) (place : Place) (row : List ℕ) (m image : Image) (told : Option Image) → told ≡ Some image
+    → IsLaid file last place.page ((place, row) ∷ []) m image → IsChain bound (pages_of m file) (earlier ++ last ∷ []) → IsOneMore file earlier last place row m told
+one_more file bound earlier last place row m image told is laid chain = record {
+  image = image;
+  told_still = is;
+  all =
+      IsPermutation-trans (lying (pages_of image file) (earlier ++ numbers_to last place.page)) (lying (pages_of m file) (earlier ++ last ∷ []) ++ (place, row) ∷ []) ((place, row) ∷ lying (pages_of m file) (earlier ++ last ∷ []))
+      (laid_came file bound earlier last place.page ((place, row) ∷ []) m image laid chain)
+      (IsPermutation-to_front (lying (pages_of m file) (earlier ++ last ∷ [])) (place, row));
+}
+
+-- ---- a file made anew
+
+pub is_built : (file now : ℕ) (rows : List (List ℕ)) (fresh : List ℕ) (m : Image) (told : Option Image) → slots fresh ≡ []
+    → ToldLaid file 0 now rows (with_page (page_at file 0) fresh m) told → IsBuilt file (now + 1) rows told
+is_built file now rows fresh m told none laid = subst (λ n. IsBuilt file n rows told) (let e : suc now ≡ now + 1 = omega arith in e) (record {
+  image = laid.image;
+  told_still = laid.told_still;
+  chain = subst (IsChain (suc now) (pages_of laid.image file)) (to_from_zero now) (laid.laid.chain (suc now) (omega arith));
+  bytes =
+      ap (λ ns. bytes_of (lying (pages_of laid.image file) ns)) (sym (to_from_zero now))
+      ∙ laid.laid.behind fresh [] (put_there (page_at file 0) fresh m) none ∙ laid.bytes;
+})

@@ -1,0 +1,15 @@
+use Rattle.std.proofs.Common.{◌∙◌, subst, sym, []}
+use Rattle.access_traits.specs.Pages.{with_page}
+use Rattle.page_chain.specs.Filled.{InHand}
+use Rattle.page_chain.specs.Pages.{page_at}
+use Rattle.page_chain.proofs.Hands.{hand_first, hand_put}
+use Rattle.page_chain.proofs.filling.lay.Goals as goal
+
+pub returns-clause-laid : goal.returns-clause-laid
+returns-clause-laid g c m told =
+    let before = with_page (page_at c.args.file c.args.first) c.args.page.now m in
+    hand_put c.args.file c.args.first c.in_ok-at.at c.lay_pages.new.page c.args.rows.now before (g.S.PageStore.pages c.lay_pages.new.store) (g.S.PageStore.pages c.put.new.self)
+    (c.in_ok-at.ensures.hand c.args.first c.args.rows.now before
+    (subst (λ l. InHand c.args.file c.args.first c.args.first c.fill.new.page l c.args.rows.now before (g.S.PageStore.pages c.args.store.now)) (sym c.split_at.ensures.back)
+    (hand_first c.args.file c.args.first c.args.page.now c.fill.new.page c.fill.result c.args.rows.now m (g.S.PageStore.pages c.args.store.now) told c.fill.ensures.filled c.fill.ensures.page (c.fill.ensures.next ∙ c.requires.ends))))
+    c.in_ok-put.ensures.page

@@ -1,0 +1,14 @@
+use Rattle.std.proofs.Common.{arith}
+use Rattle.page_chain.specs.Chains.{OffPage}
+use Rattle.page_chain.specs.Passing.{OffChain}
+use Rattle.page_chain.proofs.Carried.{cause_carried}
+use Rattle.page_chain.proofs.Stepping.{off_any}
+use Rattle.page_chain.proofs.passing.page_on.Goals as goal
+
+pub returns-in_err-next-clause-cause : goal.returns-in_err-next-clause-cause
+returns-in_err-next-clause-cause g c =
+    cause_carried (g.S.PageStore.pages c.args.store.now) (g.S.PageStore.pages c.args.store.now)
+    (OffPage c.args.chain.file c.args.number c.args.chain.bound) (OffChain c.args.chain.file c.args.number c.args.chain.bound c.args.chain.last)
+    (g.S.PageStore.faults c.args.store.now) (g.S.PageStore.faults c.args.store.now) (g.S.PageStore.faults c.chain_page.new.store) c.in_err-next.field-0.0 (omega arith)
+    (off_any c.args.chain.file c.args.number c.args.chain.bound c.args.chain.last (g.S.PageStore.pages c.args.store.now))
+    c.in_err-next.ensures.cause c.from_residual.result c.from_residual.ensures.1
