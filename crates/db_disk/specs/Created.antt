@@ -5,6 +5,7 @@ use Rattle.disk_model.specs.declared.disk.Addr.{Addr}
 use Rattle.batch_file.specs.Layout.{addr, first_byte, gate}
 use Rattle.page_cells.specs.Page.{IsPage, slots, next_page}
 use Rattle.page_cells.specs.RowBytes.{filled}
+use Rattle.stored_database.specs.Standing.{stored, empty_database}
 
 -- what each header begins with: `INGRES7` and a blank, and the form 1 in two bytes
 abbrev pub mark : List ℕ
@@ -52,6 +53,10 @@ pub record IsNewDatabase (dba : List ℕ) (m : Image) : Type 0 where
 -- no database is born, or it is one with nothing in it
 abbrev pub UnbornOrNew : List ℕ → Image → Type 0
 UnbornOrNew dba m = (birth m ≢ 1) ⊎ IsNewDatabase dba m
+
+-- no database is born, or the disk holds the one with nothing in it
+abbrev pub UnbornOrHolds : List ℕ → Image → Type 0
+UnbornOrHolds dba m = (birth m ≢ 1) ⊎ (stored m ≡ Some (empty_database dba))
 
 -- since a moment a crash leaves an image of then, or one of no database or of the new one
 abbrev pub IsMaking : {S : Type 0} → (S → Image) → (S → Addr → Type 0) → (S → ℕ) → (S → ℕ → Image → Type 0) → List ℕ → S → S → Type 0

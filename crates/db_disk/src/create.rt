@@ -2,12 +2,13 @@
 
 ghost use Rattle.std.specs.Prelude.{◌≡◌, ◌≢◌, ◌⊎◌, ◌↔◌, ◌≤◌, ℕ, List, [], ◌∷◌, Some, None, Err, IsTrue, IfOk, OnOk, IsErrOf, if◌then◌else◌};
 ghost use Rattle.fault_io.specs.Causes.{HasCause};
-ghost use Rattle.disk_model.specs.Disk.{IsSettled, OnlyReads};
+ghost use Rattle.disk_model.specs.Disk.{IsImage, IsSettled, LeavesOnly, OnlyReads};
 ghost use Rattle.disk_model.specs.declared.disk.Addr.{Addr as At};
 ghost use Rattle.disk_model.specs.History.{Came, CameSo};
 ghost use Rattle.disk_model.specs.declared.calls.Call.TheVariants.{Write as AWrite, Sync as ASync};
 ghost use Rattle.batch_file.specs.Layout.{addr, first_byte, gate};
-ghost use Rattle.db_disk.specs.Created.{IsFresh, IsHeader, IsMaking, IsReady, IsNewDatabase, IsUnborn, birth, birth_page};
+ghost use Rattle.stored_database.specs.Standing.{stored, empty_database};
+ghost use Rattle.db_disk.specs.Created.{IsFresh, IsHeader, IsMaking, IsReady, IsNewDatabase, IsUnborn, UnbornOrHolds, birth, birth_page};
 ghost use Rattle.db_disk.specs.Making.{Bears, BothCame, Clears, Creates, Heads, Prepares};
 ghost use Rattle.db_disk.specs.Faults.{FailsBy};
 
@@ -180,18 +181,23 @@ fn make<D: Disk>(disk: &mut D, dba: &Name) -> Result<(), DiskFailed>
     Ok(())
 }
 
-/// Makes the disk hold a database of this administrator without anything in it. Takes no memory.
+/// Makes the disk hold a database of this administrator without anything in it. It begins with a sync,
+/// and then looks whether a database was born there: `Exists` exactly where one was. A crash at any
+/// moment leaves an image of before, one on which no database is born, or one that holds the new
+/// database. Takes no memory.
 pub fn create_db<D: Disk>(disk: &mut D, dba: &Name) -> Result<(), CreateFault>
     ensures exists { IsTrue D.tells → (IsErrOf result CreateFault.Exists → birth (D.seen disk.old) ≡ 1) }
     ensures born { IsTrue D.tells → birth (D.seen disk.old) ≡ 1 → (result ≡ Err CreateFault.Exists) ⊎ (result ≡ Err CreateFault.Disk) }
-    ensures crash { IsTrue D.tells → IsMaking D.seen D.touched D.clock D.left_since dba.now disk.old disk.new }
-    ensures new { IsTrue D.tells → OnOk result (IsNewDatabase dba.now (D.seen disk.new)) }
+    ensures crash { IsTrue D.tells → LeavesOnly D.clock D.left_since disk.old disk.new
+        (λ m. IsImage (D.seen disk.old) (D.touched disk.old) m ⊎ UnbornOrHolds dba.now m) }
+    ensures new { IsTrue D.tells → OnOk result (stored (D.seen disk.new) ≡ Some (empty_database dba.now)) }
     ensures settled { IsTrue D.tells → OnOk result (IsSettled (D.touched disk.new)) }
     // Whatever the disk tells of what it holds, these calls were made and answered Ok.
     ensures made { OnOk result (CameSo (D.history disk.old) (D.history disk.new) (Creates dba.now)) }
     ensures unwritten { IsErrOf result CreateFault.Exists → Came (D.history disk.old) (D.history disk.new) (ASync ∷ []) }
     ensures cause { FailsBy (D.faults disk.old) (D.faults disk.new) result }
 {
+    let _name = dba.bytes();
     if is_born_still(disk)? {
         return Err(CreateFault::Exists);
     }
