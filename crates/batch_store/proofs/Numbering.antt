@@ -29,17 +29,17 @@ pub latest_image : (cs : Entries) (a : Addr) (i : ℕ) (page : List ℕ) (x : Op
 latest_image [] a i page x some image = let e : None ≡ Some i = some in cc e
 latest_image (c ∷ cs) a i page x some image = elim (option_cases (last_for cs a)) [
   | inl behind ↦
-    let e : Some (suc behind.0) ≡ Some i = sym (ap (from_first (is_at a c.0)) behind.1) ∙ some in
-    let at : suc behind.0 ≡ i = cc e in
-    latest_image cs a behind.0 page _ behind.1 (subst (λ n. image_in (c ∷ cs) n ≡ Some page) (sym at) image)
+      let e : Some (suc behind.0) ≡ Some i = sym (ap (from_first (is_at a c.0)) behind.1) ∙ some in
+      let at : suc behind.0 ≡ i = cc e in
+      latest_image cs a behind.0 page _ behind.1 (subst (λ n. image_in (c ∷ cs) n ≡ Some page) (sym at) image)
   | inr absent ↦ elim (at_cases a c.0) [
     | inl same ↦
-      let e : Some 0 ≡ Some i = sym (ap (from_first (is_at a c.0)) absent ∙ ap (λ t. from_first t None) same.1) ∙ some in
-      let at : 0 ≡ i = cc e in
-      latest_none cs a _ absent ∙ ap (λ t. if t then Some c.1 else x) same.1 ∙ subst (λ n. image_in (c ∷ cs) n ≡ Some page) (sym at) image
+        let e : Some 0 ≡ Some i = sym (ap (from_first (is_at a c.0)) absent ∙ ap (λ t. from_first t None) same.1) ∙ some in
+        let at : 0 ≡ i = cc e in
+        latest_none cs a _ absent ∙ ap (λ t. if t then Some c.1 else x) same.1 ∙ subst (λ n. image_in (c ∷ cs) n ≡ Some page) (sym at) image
     | inr off ↦
-      let e : None ≡ Some i = sym (ap (from_first (is_at a c.0)) absent ∙ ap (λ t. from_first t None) off.1) ∙ some in
-      cc e
+        let e : None ≡ Some i = sym (ap (from_first (is_at a c.0)) absent ∙ ap (λ t. from_first t None) off.1) ∙ some in
+        cc e
   ]
 ]
 
@@ -66,12 +66,12 @@ last_for-renewed (c ∷ cs) (suc i) page b = ap (from_first (is_at b c.0)) (last
 renewed_first : (c : Addr × List ℕ) (cs : Entries) (a : Addr) (page : List ℕ) (b : Addr) (x : Option (List ℕ)) → a ≡ c.0 → last_for cs a ≡ None → latest ((c.0, page) ∷ cs) b x ≡ (if is_at b a then Some page else latest (c ∷ cs) b x)
 renewed_first c cs a page b x same absent = elim (at_cases b a) [
   | inl is ↦
-    let here : is_at b c.0 ≡ true = subst (λ (d : Addr). is_at b d ≡ true) same is.1 in
-    let none : last_for cs b ≡ None = subst (λ (d : Addr). last_for cs d ≡ None) (sym is.0) absent in
-    ap (λ t. latest cs b (if t then Some page else x)) here ∙ latest_none cs b (Some page) none ∙ sym (ap (λ t. if t then Some page else latest (c ∷ cs) b x) is.1)
+      let here : is_at b c.0 ≡ true = subst (λ (d : Addr). is_at b d ≡ true) same is.1 in
+      let none : last_for cs b ≡ None = subst (λ (d : Addr). last_for cs d ≡ None) (sym is.0) absent in
+      ap (λ t. latest cs b (if t then Some page else x)) here ∙ latest_none cs b (Some page) none ∙ sym (ap (λ t. if t then Some page else latest (c ∷ cs) b x) is.1)
   | inr off ↦
-    let there : is_at b c.0 ≡ false = subst (λ (d : Addr). is_at b d ≡ false) same off.1 in
-    ap (λ t. latest cs b (if t then Some page else x)) there ∙ sym (ap (λ t. latest cs b (if t then Some c.1 else x)) there) ∙ sym (ap (λ t. if t then Some page else latest (c ∷ cs) b x) off.1)
+      let there : is_at b c.0 ≡ false = subst (λ (d : Addr). is_at b d ≡ false) same off.1 in
+      ap (λ t. latest cs b (if t then Some page else x)) there ∙ sym (ap (λ t. latest cs b (if t then Some c.1 else x)) there) ∙ sym (ap (λ t. if t then Some page else latest (c ∷ cs) b x) off.1)
 ]
 
 -- once the last image of an address is another, that one stands there, and at each other address what stood there
@@ -79,16 +79,16 @@ pub latest-renewed : (cs : Entries) (i : ℕ) (a : Addr) (page : List ℕ) (b : 
 latest-renewed [] i a page b x some = let e : None ≡ Some i = some in cc e
 latest-renewed (c ∷ cs) i a page b x some = elim (option_cases (last_for cs a)) [
   | inl behind ↦
-    let e : Some (suc behind.0) ≡ Some i = sym (ap (from_first (is_at a c.0)) behind.1) ∙ some in
-    let at : suc behind.0 ≡ i = cc e in
-    subst (λ n. latest (renewed (c ∷ cs) n page) b x ≡ (if is_at b a then Some page else latest (c ∷ cs) b x)) at (latest-renewed cs behind.0 a page b _ behind.1)
+      let e : Some (suc behind.0) ≡ Some i = sym (ap (from_first (is_at a c.0)) behind.1) ∙ some in
+      let at : suc behind.0 ≡ i = cc e in
+      subst (λ n. latest (renewed (c ∷ cs) n page) b x ≡ (if is_at b a then Some page else latest (c ∷ cs) b x)) at (latest-renewed cs behind.0 a page b _ behind.1)
   | inr absent ↦ elim (at_cases a c.0) [
     | inl same ↦
-      let e : Some 0 ≡ Some i = sym (ap (from_first (is_at a c.0)) absent ∙ ap (λ t. from_first t None) same.1) ∙ some in
-      let at : 0 ≡ i = cc e in
-      subst (λ n. latest (renewed (c ∷ cs) n page) b x ≡ (if is_at b a then Some page else latest (c ∷ cs) b x)) at (renewed_first c cs a page b x same.0 absent)
+        let e : Some 0 ≡ Some i = sym (ap (from_first (is_at a c.0)) absent ∙ ap (λ t. from_first t None) same.1) ∙ some in
+        let at : 0 ≡ i = cc e in
+        subst (λ n. latest (renewed (c ∷ cs) n page) b x ≡ (if is_at b a then Some page else latest (c ∷ cs) b x)) at (renewed_first c cs a page b x same.0 absent)
     | inr off ↦
-      let e : None ≡ Some i = sym (ap (from_first (is_at a c.0)) absent ∙ ap (λ t. from_first t None) off.1) ∙ some in
-      cc e
+        let e : None ≡ Some i = sym (ap (from_first (is_at a c.0)) absent ∙ ap (λ t. from_first t None) off.1) ∙ some in
+        cc e
   ]
 ]

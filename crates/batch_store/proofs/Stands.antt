@@ -1,22 +1,27 @@
 -- What stands at an address once the batch is laid.
-use Rattle.std.proofs.Common.{◌≡◌, ◌⊎◌, inl, inr, ⊎_elim, ℕ, ◌+◌, ◌<◌, ◌≤◌, Bool, true, false, IsTrue, nat_eq, ◌&&◌, List, [], ◌∷◌, ◌++◌, length, Option, Some, None, Result, Ok, Err, IfOk, OnOk, is_err, refl, sym, ◌∙◌, ap, subst, arith, if◌then◌else◌, cond}
+use Rattle.std.proofs.Common.{◌≡◌, ◌⊎◌, inl, inr, ℕ, ◌+◌, ◌<◌, ◌≤◌, Bool, true, false, IsTrue, nat_eq, ◌&&◌, List, [], ◌∷◌, ◌++◌, length, Option, Some, None, Result, Ok, Err, IfOk, OnOk, is_err, refl, sym, ◌∙◌, ap, subst, arith, if◌then◌else◌, cond}
 use Rattle.std.proofs.lemmas.Bool.Decides.{nat_tests}
 use Rattle.std.specs.HashMap as hash
+use Rattle.std.specs.List.{All}
 use Rattle.std.specs.HashMap.{HashMap}
 use Rattle.disk_model.specs.declared.disk.Addr.{Addr}
 use Rattle.disk_model.specs.Disk.{Image, is_at}
 use Rattle.disk_model.proofs.Addresses.{at_cases}
 use Rattle.batch_file.specs.declared.stage.Batch.{Batch}
-use Rattle.batch_file.specs.Layout.{Entries, entry, entries_of}
+use Rattle.batch_file.specs.Layout.{Entries, entry, entries_of, is_place}
 use Rattle.batch_file.specs.OnDisk.{InBatch, renewed, image_in}
 use Rattle.batch_file.specs.Redone.{latest, laid, kept, is_kept}
 use Rattle.batch_file.specs.Staged.{size_of, staged, completed}
-use Rattle.batch_file.proofs.Lays.{kept_by, kept_not_batch, latest-append}
+use Rattle.batch_file.proofs.Lays.{kept_by, kept_not_batch, latest-append, latest_off}
+use Rattle.batch_file.proofs.Collecting.{all_places}
 use Rattle.batch_file.proofs.Listing.{length-entries}
 use Rattle.access_traits.specs.Pages.{with_page}
 use Rattle.batch_store.specs.Numbers.{number_of, last_for, AreBelow, AreNumbered}
 use Rattle.batch_store.specs.Standing.{standing, told}
 use Rattle.batch_store.proofs.Numbering.{latest_none, latest_image, last_for-append, last_for-renewed, latest-renewed}
+
+place_kept : (b : Addr) → is_place b ≡ true → is_kept b.file ≡ true
+place_kept b place = grind (arith, nat_tests)
 
 -- the same changes over the same pages that count
 pub laid_alike : (cs : Entries) (m n : Image) → kept m ≡ kept n → kept (laid cs m) ≡ kept (laid cs n)
@@ -24,6 +29,14 @@ laid_alike cs m n same = kept_by (laid cs m) (laid cs n) (λ b is. ap (latest cs
   where
     at : (b : Addr) → is_kept b.file ≡ true → m b ≡ n b
     at b is = sym (ap (λ t. if t then m b else None) is) ∙ ap (λ (f : Image). f b) same ∙ ap (λ t. if t then n b else None) is
+
+-- changes at places that a batch may name lie over the pages that count
+pub laid_kept : (cs : Entries) (m : Image) → All (λ c. IsTrue (is_place c.0)) cs → kept (laid cs m) ≡ laid cs (kept m)
+laid_kept cs m all = λ i b. at b (is_kept b.file) refl i
+  where
+    at : (b : Addr) (k : Bool) → is_kept b.file ≡ k → (if k then latest cs b (m b) else None) ≡ latest cs b (if k then m b else None)
+    at b true is = refl
+    at b false is = sym (latest_off cs b None (λ h. let e = place_kept b (all_places cs all b h) in let t : true ≡ false = sym e ∙ is in cc t))
 
 pub told_is : (tells : Bool) (m : Image) (batch : Batch) → IsTrue tells → told tells m batch ≡ Some (standing m batch)
 told_is true m batch is = refl
@@ -66,8 +79,8 @@ module _ (m next : Image) (batch more : Batch) (a : Addr) (page : List ℕ) (fro
   kept_with b true is = ap (latest (staged next more) b) (same b (kept_not_batch b is)) ∙ lays b (m b)
   kept_with b false is = elim (at_cases b a) [
     | inl here ↦
-      let t : is_kept b.file ≡ true = subst (λ (d : Addr). is_kept d.file ≡ true) (sym here.0) (kept_from_five a.file from) in
-      let e : true ≡ false = sym t ∙ is in cc e
+        let t : is_kept b.file ≡ true = subst (λ (d : Addr). is_kept d.file ≡ true) (sym here.0) (kept_from_five a.file from) in
+        let e : true ≡ false = sym t ∙ is in cc e
     | inr off ↦ sym (ap (λ t. if t then Some page else None) off.1)
   ]
 

@@ -1,6 +1,6 @@
 -- A store comes of itself.
 use Rattle.std.specs.Prelude.{Bool, refl}
-use Rattle.disk_model.specs.Disk.{Image, OnlyReads}
+use Rattle.disk_model.specs.Disk.{OnlyReads}
 use Rattle.disk_model.specs.declared.disk.Disk.{Ghosts}
 use Rattle.batch_file.proofs.Outside.{apart_starts}
 use Rattle.batch_store.specs.Run.{Ran}

@@ -106,8 +106,13 @@ impl<D: Disk> BatchStore<D> {
         self.due
     }
 
-    /// Forgets the pages that were put and not laid.
+    /// Forgets the pages that were put and not laid: a change is given up.
     pub fn begin(&mut self)
+        // A crash at any moment since a store of which it came leaves the pages of then.
+        ensures crash { (s : _) → CameOf s self.old → IsTrue D.tells
+            → LeavesOnly D.clock D.left_since (disk_of s) (disk_of self.new)
+            (SameRedone (D.seen (disk_of s)) (D.touched (disk_of s))) }
+        ensures came { (s : _) → CameOf s self.old → CameOf s self.new }
         ensures disk { disk_of self.new ≡ disk_of self.old }
         ensures empty { waiting self.new ≡ 0 }
         ensures due { is_due self.new ≡ is_due self.old }

@@ -32,7 +32,13 @@ impl<D: Disk> PageStore for BatchStore<D> {
             return Ok(self.there);
         }
         self.given = None;
-        match read_page(&mut self.disk, &self.batch, &self.numbers, a, &mut self.page) {
+        match read_page(
+            &mut self.disk,
+            &self.batch,
+            &self.numbers,
+            a,
+            &mut self.page,
+        ) {
             Ok(found) => {
                 self.given = Some(a);
                 self.there = found;

@@ -1,5 +1,4 @@
-use Rattle.std.proofs.Common.{◌≡◌, Bool, List, ℕ, Some, None, Result, Ok, Err, IfOk, if◌then◌else◌, sym, ◌∙◌}
-use Rattle.disk_model.specs.Disk.{Image}
+use Rattle.std.proofs.Common.{sym, ◌∙◌}
 use Rattle.batch_store.proofs.Stands.{standing_off, standing_image, standing_disk, read_so}
 use Rattle.batch_store.proofs.reading.read_page.Goals as goal
 
