@@ -26,7 +26,7 @@ latest_none (c ∷ cs) a x none = elim (option_cases (last_for cs a)) [
 
 -- at an address the image of that number stands
 pub latest_image : (cs : Entries) (a : Addr) (i : ℕ) (page : List ℕ) (x : Option (List ℕ)) → last_for cs a ≡ Some i → image_in cs i ≡ Some page → latest cs a x ≡ Some page
-latest_image [] a i page x some image = let e : None ≡ Some i = some in cc e
+latest_image [] a i page x some image = let e : None ≡ Some i = some in cc
 latest_image (c ∷ cs) a i page x some image = elim (option_cases (last_for cs a)) [
   | inl behind ↦
       let e : Some (suc behind.0) ≡ Some i = sym (ap (from_first (is_at a c.0)) behind.1) ∙ some in

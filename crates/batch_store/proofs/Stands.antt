@@ -149,6 +149,9 @@ fresh_pages tells m batch is none = told_is tells m batch is ∙ ap Some (standi
 pub staged_none : (m : Image) (batch : Batch) → size_of batch ≡ 0 → staged m batch ≡ []
 staged_none m batch none = ap (entries_of (entry (completed m batch))) none
 
+pub staged_fresh : (m : Image) (batch fresh : Batch) → batch ≡ fresh → size_of fresh ≡ 0 → staged m batch ≡ []
+staged_fresh m batch fresh same none = staged_none m batch (ap size_of same ∙ none)
+
 -- what is told is told by a disk that tells, and is what stands
 pub told_so : (tells : Bool) (m pages : Image) (batch : Batch) → told tells m batch ≡ Some pages → IsTrue tells × (standing m batch ≡ pages)
 told_so true m pages batch is = (refl, cc is)

@@ -9,6 +9,8 @@ ghost use Rattle.batch_file.specs.Redone.{kept, laid};
 /// over both. And where the changes are at places that a batch may name, the pages that count are then
 /// those of before with the changes laid over them.
 pub fn changes_lie_over_the_pages_that_count()
-    ensures alike { (cs : Entries) (m n : Image) → kept m ≡ kept n → kept (laid cs m) ≡ kept (laid cs n) }
-    ensures over { (cs : Entries) (m : Image) → All (λ c. IsTrue (is_place c.0)) cs → kept (laid cs m) ≡ laid cs (kept m) }
+    ensures alike { (cs : Entries) (m n : Image) → kept m ≡ kept n
+        → kept (laid cs m) ≡ kept (laid cs n) }
+    ensures over { (cs : Entries) (m : Image) → All (λ c. IsTrue (is_place c.0)) cs
+        → kept (laid cs m) ≡ laid cs (kept m) }
 {}

@@ -16,11 +16,15 @@ use std::alloc::Global;
 use std::collections::HashMap;
 use std::mem::replace;
 
-/// A store of pages over a disk, whose gate is shut unless a restore is due.
+/// A store of pages over a disk.
 ///
 /// What is put goes into a batch on the disk as it comes, and only the addresses stay in memory.
-/// `finish` then lays all of it, or nothing. Once `finish` has failed a restore is due: until `restore`
-/// has answered Ok, `put` answers want of memory, since the batch's files may still be needed.
+/// `finish` then lays all of it, or nothing. A `put` that fails begins the batch anew: the change is
+/// given up.
+///
+/// Once `finish` has failed a restore is due, since the batch may be half laid and its files are
+/// needed. Until `restore` has answered Ok nothing can be put: `put` answers want of memory, as it does
+/// where the batch has 2^32 - 1 images, the most that its numbers tell apart.
 #[derive(Drop)]
 pub struct BatchStore<D: Disk> {
     pub(crate) disk: D,
@@ -35,7 +39,8 @@ pub struct BatchStore<D: Disk> {
     ghost shut: { IsTrue D.tells → due ≡ false → IsShut (D.seen disk) (D.touched disk) },
     ghost held: { IsTrue D.tells → Holds (D.seen disk) batch } by { Prim.hlevel props },
     ghost numbered: { IsTrue D.tells → AreNumbered numbers (staged (D.seen disk) batch) } by { Prim.hlevel props },
-    ghost last: { IsTrue D.tells → (a : At) → given ≡ Some a → standing (D.seen disk) batch a ≡ (if there then Some page else None) } by { Prim.hlevel props },
+    ghost last: { IsTrue D.tells → (a : At) → given ≡ Some a
+        → standing (D.seen disk) batch a ≡ (if there then Some page else None) } by { Prim.hlevel props },
 }
 
 impl<D: Disk> BatchStore<D> {
@@ -70,7 +75,8 @@ impl<D: Disk> BatchStore<D> {
     /// The disk.
     pub fn disk(&self) -> &D
         ensures disk { result.now ≡ disk_of self.now }
-        ensures shut { IsTrue D.tells → is_due self.now ≡ false → IsShut (D.seen result.now) (D.touched result.now) }
+        ensures shut { IsTrue D.tells → is_due self.now ≡ false
+            → IsShut (D.seen result.now) (D.touched result.now) }
     {
         &self.disk
     }
@@ -133,10 +139,12 @@ impl<D: Disk> BatchStore<D> {
         ensures crash { (s : _) → CameOf s self.old → IsTrue D.tells
             → LeavesOnly D.clock D.left_since (disk_of s) (disk_of self.new)
             (BeforeOrAfter (D.seen (disk_of s)) (D.touched (disk_of s)) (changes_of self.old)) }
-        ensures laid { (m : Image) → pages_of self.old ≡ Some m → OnOk result (kept (D.seen (disk_of self.new)) ≡ m) }
+        ensures laid { (m : Image) → pages_of self.old ≡ Some m →
+            OnOk result (kept (D.seen (disk_of self.new)) ≡ m) }
         ensures pages { (m : Image) → pages_of self.old ≡ Some m → OnOk result (pages_of self.new ≡ Some m) }
         ensures closed { IsTrue D.tells →
-            OnOk result (0 < waiting self.old → IsClosed (D.seen (disk_of self.new)) (D.touched (disk_of self.new))) }
+            OnOk result (0 < waiting self.old
+            → IsClosed (D.seen (disk_of self.new)) (D.touched (disk_of self.new))) }
         ensures empty { waiting self.old ≡ 0 → (disk_of self.new ≡ disk_of self.old) × IsOk result }
         ensures begun { waiting self.new ≡ 0 }
         ensures calm { OnOk result (is_due self.new ≡ is_due self.old) }
@@ -144,7 +152,8 @@ impl<D: Disk> BatchStore<D> {
         ensures whole { IsTrue D.tells → (result ≡ Err RestoreFault.Disk) ⊎ (result ≡ Ok record {}) }
         // Whatever the disk tells of what it holds, these calls were made and answered Ok.
         ensures made { OnOk result (0 < waiting self.old
-            → CameSo (D.history (disk_of self.old)) (D.history (disk_of self.new)) (Lays (Completes (batch_of self.old)) (waiting self.old))) }
+            → CameSo (D.history (disk_of self.old)) (D.history (disk_of self.new))
+            (Lays (Completes (batch_of self.old)) (waiting self.old))) }
         ensures cause { FailsBy (D.faults (disk_of self.old)) (D.faults (disk_of self.new)) result }
     {
         if self.batch.count() == 0 {
@@ -174,7 +183,8 @@ impl<D: Disk> BatchStore<D> {
         ensures begun { waiting self.new ≡ 0 }
         ensures calm { OnOk result (is_due self.new ≡ false) }
         ensures due { OnErr result (is_due self.new ≡ true) }
-        ensures made { IfOk result (λ done. CameSo (D.history (disk_of self.old)) (D.history (disk_of self.new)) (Restores done)) }
+        ensures made { IfOk result (λ done.
+            CameSo (D.history (disk_of self.old)) (D.history (disk_of self.new)) (Restores done)) }
         ensures cause { FailsBy (D.faults (disk_of self.old)) (D.faults (disk_of self.new)) result }
     {
         forget(&mut self.batch, &mut self.numbers);

@@ -5,7 +5,7 @@ use Rattle.batch_file.specs.OnDisk.{BeforeOrAfter}
 use Rattle.batch_file.specs.Staged.{size_of, staged, completed}
 use Rattle.batch_file.proofs.Form.{named}
 use Rattle.batch_store.proofs.Runs.{nothing_laid, then_finished, calm_of}
-use Rattle.batch_store.proofs.Stands.{staged_none, told_so, empty_so, laid_so, begun_so}
+use Rattle.batch_store.proofs.Stands.{staged_fresh, told_so, empty_so, laid_so, begun_so}
 use Rattle.batch_store.proofs.store.BatchStore.finish.Goals as goal
 
 pub returns-then-count-eq0-clause-crash : goal.returns-then-count-eq0-clause-crash
@@ -32,5 +32,5 @@ returns-clause-laid g c = λ m is.
 pub returns-clause-pages : goal.returns-clause-pages
 returns-clause-pages g c = λ m is.
     let so = told_so g.D.Disk.tells (g.D.Disk.seen c.args.self.now.disk) m c.args.self.now.batch is in
-    begun_so c.finish-laid.result g.D.Disk.tells (g.D.Disk.seen c.finish-laid.new.disk) m c.replace-batch.new.dest so.0 (staged_none (g.D.Disk.seen c.finish-laid.new.disk) c.replace-batch.new.dest (ap size_of c.replace-batch.ensures.after ∙ c.begin.ensures.count))
+    begun_so c.finish-laid.result g.D.Disk.tells (g.D.Disk.seen c.finish-laid.new.disk) m c.replace-batch.new.dest so.0 (staged_fresh (g.D.Disk.seen c.finish-laid.new.disk) c.replace-batch.new.dest c.begin.result c.replace-batch.ensures.after c.begin.ensures.count)
     (laid_so c.finish-laid.result g.D.Disk.tells (g.D.Disk.seen c.args.self.now.disk) (g.D.Disk.seen c.finish-laid.new.disk) m c.args.self.now.batch c.replace-batch.result c.replace-batch.ensures.value is c.finish-laid.ensures.laid)
