@@ -5,10 +5,10 @@ use Rattle.disk_model.specs.declared.disk.Addr.{Addr}
 use Rattle.disk_model.specs.Disk.{Image, IsImage, Changes, LeavesOnly}
 use Rattle.batch_file.specs.declared.stage.Batch.{Batch}
 use Rattle.batch_file.specs.Layout.{Entries, is_place}
-use Rattle.batch_file.specs.OnDisk.{InBatch, SameOutside}
+use Rattle.batch_file.specs.OnDisk.{InBatch, Apart, SameOutside}
 use Rattle.batch_file.specs.Staged.{staged, Holds}
 use Rattle.batch_file.proofs.Lays.{Among}
-use Rattle.batch_file.proofs.Outside.{Apart, apart_starts, apart_joins}
+use Rattle.batch_file.proofs.Outside.{apart_starts, apart_joins}
 
 -- changes at places that a batch may name
 pub all_places : (cs : Entries) → All (λ c. IsTrue (is_place c.0)) cs → (b : Addr) → Among cs b → is_place b ≡ true

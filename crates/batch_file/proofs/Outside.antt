@@ -5,7 +5,7 @@ use Rattle.disk_model.specs.Disk.{Image, IsImage, Changes, OnlyReads, Elapses, L
 use Rattle.disk_model.proofs.Moments.{started, goes_on, reads_on, joins, weaker, changes_more, changes_reads, unchanged, image_back}
 use Rattle.batch_file.specs.Layout.{Entries, addr, gate, is_place}
 use Rattle.batch_file.specs.Redone.{IsShut, laid, latest, kept, redone}
-use Rattle.batch_file.specs.OnDisk.{InBatch, BeforeOrAfter, SameOutside}
+use Rattle.batch_file.specs.OnDisk.{InBatch, Apart, BeforeOrAfter, SameOutside}
 use Rattle.batch_file.proofs.Lays.{Among, kept_by, kept_not_batch}
 use Rattle.batch_file.proofs.Finishing.{gate_stays}
 use Rattle.batch_file.proofs.Opening.{in_batch_or_off, redone_outside, gate_outside}
@@ -15,31 +15,26 @@ module _ {S : Type 0} (seen : S → Image) (touched : S → Addr → Type 0) (cl
   pub outside_back : (old now : S) → Changes InBatch seen touched old now → (m : Image) → IsImage (seen now) (touched now) m → SameOutside (seen old) (touched old) m
   outside_back old now change m image = image_back seen touched clock left_since InBatch in_batch_or_off old now change m image
 
-  -- Nothing was done but in the batch's own files.
-  pub record Apart (old now : S) : Type 0 where
-    pub change : Changes InBatch seen touched old now
-    pub run : LeavesOnly clock left_since old now (SameOutside (seen old) (touched old))
-
-  pub apart_starts : (old : S) → ((m : Image) → left_since old (clock old) m → IsImage (seen old) (touched old) m) → Apart old old
+  pub apart_starts : (old : S) → ((m : Image) → left_since old (clock old) m → IsImage (seen old) (touched old) m) → Apart seen touched clock left_since old old
   apart_starts old only_now = record {
     change = unchanged seen touched clock left_since InBatch old;
     run = started seen touched clock left_since old _ (λ m left. (m, only_now m left, λ b off. refl));
   }
 
   -- one write more
-  apart_writes : (old now next : S) (hit : Addr) → InBatch hit → Apart old now → Changes (λ b. b ≡ hit) seen touched now next → Elapses seen touched clock left_since now next → Apart old next
+  apart_writes : (old now next : S) (hit : Addr) → InBatch hit → Apart seen touched clock left_since old now → Changes (λ b. b ≡ hit) seen touched now next → Elapses seen touched clock left_since now next → Apart seen touched clock left_since old next
   apart_writes old now next hit inside so_far change time =
       let more = changes_more seen touched clock left_since InBatch (λ b. b ≡ hit) old now next so_far.change change (λ b e. subst InBatch (sym e) inside) in
       record { change = more; run = goes_on seen touched clock left_since old now next _ so_far.run time (outside_back old next more) }
 
-  pub image_written : (old now next : S) (k : ℕ) → Apart old now → Changes (λ b. b ≡ addr 4 k) seen touched now next → Elapses seen touched clock left_since now next → Apart old next
+  pub image_written : (old now next : S) (k : ℕ) → Apart seen touched clock left_since old now → Changes (λ b. b ≡ addr 4 k) seen touched now next → Elapses seen touched clock left_since now next → Apart seen touched clock left_since old next
   image_written old now next k = apart_writes old now next (addr 4 k) record { from = omega arith; to = omega arith }
 
-  pub addresses_written : (old now next : S) (p : ℕ) → Apart old now → Changes (λ b. b ≡ addr 3 p) seen touched now next → Elapses seen touched clock left_since now next → Apart old next
+  pub addresses_written : (old now next : S) (p : ℕ) → Apart seen touched clock left_since old now → Changes (λ b. b ≡ addr 3 p) seen touched now next → Elapses seen touched clock left_since now next → Apart seen touched clock left_since old next
   addresses_written old now next p = apart_writes old now next (addr 3 p) record { from = omega arith; to = omega arith }
 
   -- reads between them
-  pub apart_reads : (old now next : S) → Apart old now → OnlyReads seen touched clock left_since now next → Apart old next
+  pub apart_reads : (old now next : S) → Apart seen touched clock left_since old now → OnlyReads seen touched clock left_since now next → Apart seen touched clock left_since old next
   apart_reads old now next so_far same = record {
     change = changes_reads seen touched clock left_since InBatch old now next so_far.change same;
     run = reads_on seen touched clock left_since old now next _ so_far.run same;
@@ -51,7 +46,7 @@ module _ {S : Type 0} (seen : S → Image) (touched : S → Addr → Type 0) (cl
       (back.0, back.1, λ b off. from.2 b off ∙ back.2 b off)
 
   -- a run of such writes after another
-  pub apart_joins : (old now next : S) → Apart old now → Changes InBatch seen touched now next → LeavesOnly clock left_since now next (SameOutside (seen now) (touched now)) → Apart old next
+  pub apart_joins : (old now next : S) → Apart seen touched clock left_since old now → Changes InBatch seen touched now next → LeavesOnly clock left_since now next (SameOutside (seen now) (touched now)) → Apart seen touched clock left_since old next
   apart_joins old now next so_far change run = record {
     change = changes_more seen touched clock left_since InBatch InBatch old now next so_far.change change (λ b h. h);
     run = joins seen touched clock left_since old now next _ _ so_far.run run (outside_twice old now so_far.change);
@@ -67,10 +62,10 @@ module _ {S : Type 0} (seen : S → Image) (touched : S → Addr → Type 0) (cl
     outside_before : (m : Image) → SameOutside (seen old) (touched old) m → BeforeOrAfter (seen old) (touched old) cs m
     outside_before m from = (from.0, from.1, inl (redone_outside m from.0 (shut from.0 from.1) from.2))
 
-    pub gives_up : Apart old now → LeavesOnly clock left_since old now (BeforeOrAfter (seen old) (touched old) cs)
+    pub gives_up : Apart seen touched clock left_since old now → LeavesOnly clock left_since old now (BeforeOrAfter (seen old) (touched old) cs)
     gives_up so_far = weaker seen touched clock left_since old now _ _ so_far.run outside_before
 
-    module _ (places : (b : Addr) → Among cs b → is_place b ≡ true) (so_far : Apart old now) where
+    module _ (places : (b : Addr) → Among cs b → is_place b ≡ true) (so_far : Apart seen touched clock left_since old now) where
       laid_outside : (m m0 : Image) → (gate m0 ≢ 1) → ((b : Addr) → (InBatch b → ⊥) → m b ≡ m0 b) → redone (laid cs m) ≡ redone (laid cs m0)
       laid_outside m m0 shut0 same = redone_outside (laid cs m) (laid cs m0) (λ e. shut0 (sym (gate_stays cs m0 places) ∙ e)) (λ b off. ap (latest cs b) (same b off))
 

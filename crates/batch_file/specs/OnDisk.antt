@@ -1,6 +1,6 @@
 -- What the calls of a batch leave on a disk.
 use Rattle.std.specs.Prelude.{◌≡◌, ◌≢◌, ◌⊎◌, ℕ, zero, suc, ◌<◌, ◌≤◌, true, List, [], ◌∷◌, Option, Some, None}
-use Rattle.disk_model.specs.Disk.{Image, IsImage, IsSettled}
+use Rattle.disk_model.specs.Disk.{Image, IsImage, IsSettled, Changes, LeavesOnly}
 use Rattle.disk_model.specs.declared.disk.Addr.{Addr}
 use Rattle.batch_file.specs.Layout.{Entries, gate, count, is_lawful, has_image}
 use Rattle.batch_file.specs.Redone.{redone, laid, damage}
@@ -13,6 +13,11 @@ pub record InBatch (b : Addr) : Type 0 where
 -- it is an image of the disk as it was, but in the batch's own files
 abbrev pub SameOutside : Image → (Addr → Type 0) → Image → Type 0
 SameOutside seen touched m = (m0 : Image) × IsImage seen touched m0 × ((b : Addr) → (InBatch b → ⊥) → m b ≡ m0 b)
+
+-- Nothing was done but in the batch's own files.
+pub record Apart {S : Type 0} (seen : S → Image) (touched : S → Addr → Type 0) (clock : S → ℕ) (left_since : S → ℕ → Image → Type 0) (old now : S) : Type 0 where
+  pub change : Changes InBatch seen touched old now
+  pub run : LeavesOnly clock left_since old now (SameOutside (seen old) (touched old))
 
 -- it has the redone of an image of the disk as it was, or of one with all changes laid over it
 abbrev pub BeforeOrAfter : Image → (Addr → Type 0) → Entries → Image → Type 0

@@ -1,7 +1,7 @@
 // Writing a batch to its own files.
 ghost use Rattle.std.specs.Prelude.{◌≡◌, ◌≢◌, ◌⊎◌, ◌+◌, ◌-◌, ◌<◌, ◌≤◌, ◌^◌, ◌++◌, ◌∷◌, [], ℕ, Some, true, Ok, Err, IsTrue, IsOk, OnOk, if◌then◌else◌};
 ghost use Rattle.fault_io.specs.Causes.{HasCause};
-ghost use Rattle.disk_model.specs.Disk.{Image, Changes, Elapses, OnlyReads, LeavesOnly};
+ghost use Rattle.disk_model.specs.Disk.{Image, Changes, Elapses, OnlyReads, LeavesOnly, RisesUpTo};
 ghost use Rattle.disk_model.specs.History.{Came, CameSo};
 ghost use Rattle.disk_model.specs.declared.calls.Call.TheVariants.{Write as AWrite};
 ghost use Rattle.batch_file.specs.Faults.{FailsBy};
@@ -122,6 +122,7 @@ impl Batch {
         ensures same { IsTrue D.tells →
             OnlyReads D.seen D.touched D.clock D.left_since disk.old disk.new }
         ensures unwritten { D.history disk.new ≡ D.history disk.old }
+        ensures reads { RisesUpTo 1 (D.reads disk.old) (D.reads disk.new) }
         ensures cause { HasCause (D.faults disk.old) (D.faults disk.new) result }
     {
         // A disk that tells what it holds has the page.

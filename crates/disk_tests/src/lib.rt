@@ -14,4 +14,6 @@ mod shelves;
 #[cfg(test)]
 mod stopping;
 #[cfg(test)]
+mod stores;
+#[cfg(test)]
 mod streams;

@@ -1,0 +1,36 @@
+use Rattle.std.proofs.Common.{subst, sym, ◌∙◌}
+use Rattle.disk_model.specs.Disk.{LeavesOnly}
+use Rattle.batch_file.specs.declared.stage.Batch.{Batch}
+use Rattle.batch_file.specs.OnDisk.{BeforeOrAfter}
+use Rattle.batch_file.specs.Staged.{size_of, staged, completed}
+use Rattle.batch_file.proofs.Form.{named}
+use Rattle.batch_store.proofs.Runs.{nothing_laid, then_finished, calm_of}
+use Rattle.batch_store.proofs.Stands.{staged_fresh, told_so, empty_so, laid_so, begun_so}
+use Rattle.batch_store.proofs.store.BatchStore.finish.Goals as goal
+
+pub returns-then-count-eq0-clause-crash : goal.returns-then-count-eq0-clause-crash
+returns-then-count-eq0-clause-crash g c = λ s came told.
+    nothing_laid g.D.Disk s.due c.args.self.now.due s.disk c.args.self.now.disk came told (λ m left. g.met.D.Disk.only_now s.disk m told left) (s.shut told) (staged (g.D.Disk.seen c.args.self.now.disk) c.args.self.now.batch)
+
+pub returns-then-count-eq0-clause-laid : goal.returns-then-count-eq0-clause-laid
+returns-then-count-eq0-clause-laid g c = λ m is.
+    empty_so g.D.Disk.tells (g.D.Disk.seen c.args.self.now.disk) m c.args.self.now.batch (sym c.count.ensures ∙ c.if-count-eq0.true) is
+
+pub returns-clause-crash : goal.returns-clause-crash
+returns-clause-crash g c = λ s came told.
+    let now = c.args.self.now.disk in
+    let batch = c.args.self.now.batch in
+    then_finished g.D.Disk s.due c.args.self.now.due s.disk now came told (λ m left. g.met.D.Disk.only_now s.disk m told left) (s.shut told) (staged (g.D.Disk.seen now) batch)
+    (calm_of c.args.self.now.due (size_of batch) c.args.self.now.empty (λ none. c.if-count-eq0.false (c.count.ensures ∙ none)))
+    (named (completed (g.D.Disk.seen now) batch) batch.count (c.args.self.now.held told).addresses) c.finish-laid.new.disk
+    (subst (λ (b : Batch). LeavesOnly g.D.Disk.clock g.D.Disk.left_since now c.finish-laid.new.disk (BeforeOrAfter (g.D.Disk.seen now) (g.D.Disk.touched now) (staged (g.D.Disk.seen now) b))) c.replace-batch.ensures.value (c.finish-laid.ensures.crash told))
+
+pub returns-clause-laid : goal.returns-clause-laid
+returns-clause-laid g c = λ m is.
+    laid_so c.finish-laid.result g.D.Disk.tells (g.D.Disk.seen c.args.self.now.disk) (g.D.Disk.seen c.finish-laid.new.disk) m c.args.self.now.batch c.replace-batch.result c.replace-batch.ensures.value is c.finish-laid.ensures.laid
+
+pub returns-clause-pages : goal.returns-clause-pages
+returns-clause-pages g c = λ m is.
+    let so = told_so g.D.Disk.tells (g.D.Disk.seen c.args.self.now.disk) m c.args.self.now.batch is in
+    begun_so c.finish-laid.result g.D.Disk.tells (g.D.Disk.seen c.finish-laid.new.disk) m c.replace-batch.new.dest so.0 (staged_fresh (g.D.Disk.seen c.finish-laid.new.disk) c.replace-batch.new.dest c.begin.result c.replace-batch.ensures.after c.begin.ensures.count)
+    (laid_so c.finish-laid.result g.D.Disk.tells (g.D.Disk.seen c.args.self.now.disk) (g.D.Disk.seen c.finish-laid.new.disk) m c.args.self.now.batch c.replace-batch.result c.replace-batch.ensures.value is c.finish-laid.ensures.laid)

@@ -1,0 +1,5 @@
+pub mod Numbers
+pub mod Run
+pub mod Running
+pub mod Standing
+pub mod Store
