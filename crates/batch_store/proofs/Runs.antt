@@ -1,15 +1,17 @@
 -- How the calls of a store go on from what was done before.
-use Rattle.std.proofs.Common.{◌≡◌, ◌⊎◌, inl, inr, Bool, true, false, IsTrue, ℕ, refl, sym, ◌∙◌}
-use Rattle.disk_model.specs.Disk.{Changes, LeavesOnly}
+use Rattle.std.proofs.Common.{◌≡◌, ◌≢◌, ◌⊎◌, inl, inr, ⊎_elim, Some, Bool, true, false, IsTrue, ℕ, refl, sym, ◌∙◌, ap}
+use Rattle.disk_model.specs.Disk.{Image, Changes, LeavesOnly}
 use Rattle.disk_model.specs.declared.disk.Addr.{Addr}
 use Rattle.disk_model.specs.declared.disk.Disk.{Ghosts}
-use Rattle.disk_model.proofs.Moments.{started, reads_on, weaker}
-use Rattle.batch_file.specs.Layout.{Entries, is_place}
-use Rattle.batch_file.specs.OnDisk.{InBatch, SameOutside, BeforeOrAfter, SameRedone}
-use Rattle.batch_file.specs.Redone.{IsShut}
-use Rattle.batch_file.proofs.Lays.{Among}
+use Rattle.disk_model.proofs.Moments.{started, reads_on, weaker, image_settled}
+use Rattle.batch_file.specs.Layout.{Entries, gate, is_place}
+use Rattle.batch_file.specs.OnDisk.{InBatch, SameOutside, BeforeOrAfter, SameRedone, IsClosed}
+use Rattle.batch_file.specs.Redone.{IsShut, kept, laid, latest, redone}
+use Rattle.batch_file.proofs.Lays.{Among, kept_by, kept_not_batch, redone_shut}
+use Rattle.batch_file.proofs.Finishing.{gate_stays}
 use Rattle.batch_file.proofs.Opening.{redone_outside}
 use Rattle.batch_file.proofs.Outside.{apart_joins, gives_up, then_run}
+use Rattle.batch_store.specs.Standing.{IsOneOf}
 use Rattle.batch_store.specs.Run.{Ran, HasOnlyNow}
 
 module _ {D : Type 0} (g : Ghosts D) where
@@ -48,6 +50,18 @@ module _ {D : Type 0} (g : Ghosts D) where
         → LeavesOnly g.clock g.left_since old new (BeforeOrAfter (g.seen old) (g.touched old) cs)
     then_finished cs calm places new run =
         then_run g.seen g.touched g.clock g.left_since old between cs (shut (sym so_far.still ∙ calm)) places (so_far.apart told only) new run
+
+    -- and where nothing was touched then, each image left has the pages of then, or those that were told
+    pub one_of_two : (cs : Entries) → ((b : Addr) → Among cs b → is_place b ≡ true) → IsClosed (g.seen old) (g.touched old) → (pages : Image) → kept (laid cs (g.seen between)) ≡ pages
+        → (new : D) → LeavesOnly g.clock g.left_since old new (BeforeOrAfter (g.seen old) (g.touched old) cs) → LeavesOnly g.clock g.left_since old new (IsOneOf (kept (g.seen old)) pages)
+    one_of_two cs places closed pages are new run =
+        let apart = so_far.apart told only in
+        let gate_shut : gate (laid cs (g.seen old)) ≢ 1 = λ e. closed.shut (sym (gate_stays cs (g.seen old) places) ∙ e) in
+        let laid_same : kept (laid cs (g.seen old)) ≡ kept (laid cs (g.seen between)) = kept_by _ _ (λ b k. ap (latest cs b) (sym (apart.change.elsewhere b (kept_not_batch b k)))) in
+        weaker g.seen g.touched g.clock g.left_since old new _ _ run (λ m from.
+        let same = image_settled g.seen g.touched g.clock g.left_since old closed.settled from.0 from.1 in
+        ⊎_elim (λ e. inl (e ∙ ap redone same ∙ redone_shut (g.seen old) closed.shut))
+        (λ e. inr (e ∙ ap (λ (x : Image). redone (laid cs x)) same ∙ redone_shut (laid cs (g.seen old)) gate_shut ∙ ap Some (laid_same ∙ are))) from.2)
 
 -- where a restore is due, nothing was put
 pub calm_of : (due : Bool) (size : ℕ) → (due ≡ true → size ≡ 0) → (size ≡ 0 → ⊥) → due ≡ false

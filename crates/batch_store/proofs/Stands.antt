@@ -174,3 +174,8 @@ laid_so (Err e) tells m next pages batch taken same is laid_ = tt
 pub begun_so : {T E : Type 0} (result : Result T E) (tells : Bool) (next pages : Image) (fresh : Batch) → IsTrue tells → staged next fresh ≡ [] → OnOk result (kept next ≡ pages) → OnOk result (told tells next fresh ≡ Some pages)
 begun_so (Ok done) tells next pages fresh is none are = fresh_pages tells next fresh is none ∙ ap Some are
 begun_so (Err e) tells next pages fresh is none are = tt
+
+-- the pages that are told are those of the disk with the changes laid over them
+pub told_laid : (tells : Bool) (m pages : Image) (batch : Batch) → told tells m batch ≡ Some pages → kept (laid (staged m batch) m) ≡ pages
+unfolding standing
+told_laid tells m pages batch is = let so = told_so tells m pages batch is in so.1

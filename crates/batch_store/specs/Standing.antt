@@ -1,8 +1,8 @@
 -- The pages that a disk and the batch on it make.
-use Rattle.std.specs.Prelude.{Bool, Option, Some, None, if◌then◌else◌}
+use Rattle.std.specs.Prelude.{◌≡◌, ◌⊎◌, Bool, Option, Some, None, if◌then◌else◌}
 use Rattle.disk_model.specs.Disk.{Image}
 use Rattle.batch_file.specs.declared.stage.Batch.{Batch}
-use Rattle.batch_file.specs.Redone.{kept, laid}
+use Rattle.batch_file.specs.Redone.{kept, laid, redone}
 use Rattle.batch_file.specs.Staged.{staged}
 
 -- the pages that count of a disk that reads so, with the batch laid over them
@@ -12,3 +12,7 @@ standing m batch = kept (laid (staged m batch) m)
 -- these pages, where the disk tells what it holds
 abbrev pub told : Bool → Image → Batch → Option Image
 told tells m batch = if tells then Some (standing m batch) else None
+
+-- an image has, redone, these pages or those
+abbrev pub IsOneOf : Image → Image → Image → Type 0
+IsOneOf before after m = (redone m ≡ Some before) ⊎ (redone m ≡ Some after)

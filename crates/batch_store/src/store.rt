@@ -51,6 +51,7 @@ impl<D: Disk> BatchStore<D> {
     ghost use Rattle.batch_file.specs.OnDisk.{BeforeOrAfter, SameRedone, IsClosed};
     ghost use Rattle.batch_file.specs.Order.{Completes, Lays, Restores};
     ghost use Rattle.batch_file.specs.Redone.{answer, kept, redone};
+    ghost use Rattle.batch_store.specs.Standing.{IsOneOf};
     ghost use Rattle.batch_store.specs.Store.{disk_of, batch_of, waiting, changes_of, is_due, pages_of, CameOf};
 
     /// A store over a disk whose gate is shut: its pages are those that the disk has.
@@ -139,6 +140,12 @@ impl<D: Disk> BatchStore<D> {
         ensures crash { (s : _) → CameOf s self.old → IsTrue D.tells
             → LeavesOnly D.clock D.left_since (disk_of s) (disk_of self.new)
             (BeforeOrAfter (D.seen (disk_of s)) (D.touched (disk_of s)) (changes_of self.old)) }
+        // Where nothing was touched then and the gate was shut, it leaves the pages of then, or those
+        // that were told before this call.
+        ensures stands { (s : _) (m : Image) → CameOf s self.old → IsTrue D.tells
+            → IsClosed (D.seen (disk_of s)) (D.touched (disk_of s)) → pages_of self.old ≡ Some m
+            → LeavesOnly D.clock D.left_since (disk_of s) (disk_of self.new)
+            (IsOneOf (kept (D.seen (disk_of s))) m) }
         ensures laid { (m : Image) → pages_of self.old ≡ Some m →
             OnOk result (kept (D.seen (disk_of self.new)) ≡ m) }
         ensures pages { (m : Image) → pages_of self.old ≡ Some m → OnOk result (pages_of self.new ≡ Some m) }

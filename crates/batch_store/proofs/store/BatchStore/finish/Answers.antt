@@ -1,16 +1,24 @@
 use Rattle.std.proofs.Common.{subst, sym, ◌∙◌}
-use Rattle.disk_model.specs.Disk.{LeavesOnly}
+use Rattle.disk_model.specs.Disk.{Image, LeavesOnly}
 use Rattle.batch_file.specs.declared.stage.Batch.{Batch}
 use Rattle.batch_file.specs.OnDisk.{BeforeOrAfter}
 use Rattle.batch_file.specs.Staged.{size_of, staged, completed}
 use Rattle.batch_file.proofs.Form.{named}
-use Rattle.batch_store.proofs.Runs.{nothing_laid, then_finished, calm_of}
-use Rattle.batch_store.proofs.Stands.{staged_fresh, told_so, empty_so, laid_so, begun_so}
+use Rattle.batch_store.proofs.Runs.{nothing_laid, then_finished, one_of_two, calm_of}
+use Rattle.batch_store.proofs.Stands.{staged_fresh, told_laid, told_so, empty_so, laid_so, begun_so}
 use Rattle.batch_store.proofs.store.BatchStore.finish.Goals as goal
 
 pub returns-then-count-eq0-clause-crash : goal.returns-then-count-eq0-clause-crash
 returns-then-count-eq0-clause-crash g c = λ s came told.
     nothing_laid g.D.Disk s.due c.args.self.now.due s.disk c.args.self.now.disk came told (λ m left. g.met.D.Disk.only_now s.disk m told left) (s.shut told) (staged (g.D.Disk.seen c.args.self.now.disk) c.args.self.now.batch)
+
+pub returns-then-count-eq0-clause-stands : goal.returns-then-count-eq0-clause-stands
+returns-then-count-eq0-clause-stands g c = λ s m came told closed is.
+    let old = c.args.self.now in
+    let only = λ (m : Image) (left : g.D.Disk.left_since s.disk (g.D.Disk.clock s.disk) m). g.met.D.Disk.only_now s.disk m told left in
+    let cs = staged (g.D.Disk.seen old.disk) old.batch in
+    one_of_two g.D.Disk s.due old.due s.disk old.disk came told only (s.shut told) cs (named (completed (g.D.Disk.seen old.disk) old.batch) old.batch.count (old.held told).addresses) closed m
+    (told_laid g.D.Disk.tells (g.D.Disk.seen old.disk) m old.batch is) old.disk (nothing_laid g.D.Disk s.due old.due s.disk old.disk came told only (s.shut told) cs)
 
 pub returns-then-count-eq0-clause-laid : goal.returns-then-count-eq0-clause-laid
 returns-then-count-eq0-clause-laid g c = λ m is.
@@ -24,6 +32,14 @@ returns-clause-crash g c = λ s came told.
     (calm_of c.args.self.now.due (size_of batch) c.args.self.now.empty (λ none. c.if-count-eq0.false (c.count.ensures ∙ none)))
     (named (completed (g.D.Disk.seen now) batch) batch.count (c.args.self.now.held told).addresses) c.finish-laid.new.disk
     (subst (λ (b : Batch). LeavesOnly g.D.Disk.clock g.D.Disk.left_since now c.finish-laid.new.disk (BeforeOrAfter (g.D.Disk.seen now) (g.D.Disk.touched now) (staged (g.D.Disk.seen now) b))) c.replace-batch.ensures.value (c.finish-laid.ensures.crash told))
+
+pub returns-clause-stands : goal.returns-clause-stands
+returns-clause-stands g c = λ s m came told closed is.
+    let old = c.args.self.now in
+    let only = λ (m : Image) (left : g.D.Disk.left_since s.disk (g.D.Disk.clock s.disk) m). g.met.D.Disk.only_now s.disk m told left in
+    let cs = staged (g.D.Disk.seen old.disk) old.batch in
+    one_of_two g.D.Disk s.due old.due s.disk old.disk came told only (s.shut told) cs (named (completed (g.D.Disk.seen old.disk) old.batch) old.batch.count (old.held told).addresses) closed m
+    (told_laid g.D.Disk.tells (g.D.Disk.seen old.disk) m old.batch is) c.finish-laid.new.disk (returns-clause-crash g c s came told)
 
 pub returns-clause-laid : goal.returns-clause-laid
 returns-clause-laid g c = λ m is.
