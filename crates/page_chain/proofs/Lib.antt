@@ -1,3 +1,4 @@
+pub mod Causes
 pub mod Coming
 pub mod Grown
 pub mod Hands
@@ -5,3 +6,4 @@ pub mod Laying
 pub mod Linking
 pub mod PageTest
 pub mod Slots
+pub mod Walking
