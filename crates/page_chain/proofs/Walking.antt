@@ -4,10 +4,12 @@ use Rattle.std.specs.Prelude.{option_map}
 use Rattle.std.proofs.lemmas.Bool.{leb-true, leb-false}
 use Rattle.std.proofs.lemmas.List.{take_more, take_all}
 use Rattle.page_cells.specs.Page.{Slot, slots}
-use Rattle.page_chain.specs.Chains.{chain, chain_from}
+use Rattle.disk_model.specs.Disk.{Image}
+use Rattle.disk_model.specs.declared.disk.Addr.{Addr}
+use Rattle.page_chain.specs.Chains.{chain, chain_from, OffPage, NoChain}
 use Rattle.page_chain.specs.Found.{Found, in_slot}
 use Rattle.page_chain.specs.Lying.{Lying, lying_in, lying_on, lying, bytes_of}
-use Rattle.page_chain.specs.Pages.{Pages, next_of}
+use Rattle.page_chain.specs.Pages.{Pages, page_at, pages_of, next_of}
 use Rattle.page_chain.proofs.Slots.{lying_append, lying_join, lying_one}
 use Rattle.page_chain.proofs.Linking.{follows_up}
 use Rattle.page_chain.proofs.Laying.{bytes_join}
@@ -120,3 +122,13 @@ module _ (bound : ℕ) (pages : Pages) (at : ℕ) (rows : List (List ℕ)) (belo
   pub walk_stops : IsWalked bound pages at rows → next_of bound at (pages at) ≡ None → chain bound pages ≡ None
   unfolding on
   walk_stops walked e = let step = walked_on walked None e in step.2
+
+  -- so page 0 begins no chain
+  pub no_chain : (file : ℕ) (m : Image) (a : Addr) → pages ≡ pages_of m file → IsWalked bound pages at rows → OffPage file at bound m a → NoChain file bound m a
+  no_chain file m a are walked off =
+      let here : pages_of m file at ≡ m a = sym (ap₂ (λ (f n : ℕ). m (page_at f n)) off.of_file off.of_page) in
+      record {
+        of_file = off.of_file;
+        off = subst (λ n. next_of bound n (m a) ≡ None) (sym off.of_page) off.off;
+        none = ap (chain bound) (sym are) ∙ walk_stops walked (ap (λ (p : Pages). next_of bound at (p at)) are ∙ ap (next_of bound at) here ∙ off.off);
+      }

@@ -65,13 +65,10 @@ fn put_behind<S: PageStore>(
     ensures cause { HasStoreCause (S.faults store.old) (S.faults store.new) result }
 {
     turn_page(store, file, last, page)?;
-    let line = put_row(page, row).unwrap_or(0);
-    let page_number = last + 1;
-    store.put(Addr { file, page: page_number }, page)?;
-    Ok(Place {
-        page: page_number,
-        line,
-    })
+    put_row(page, row);
+    let next = last + 1;
+    store.put(Addr { file, page: next }, page)?;
+    Ok(Place { page: next, line: 0 })
 }
 
 /// Puts a row on the page in hand, where it has room, and else on a fresh one behind it. Answers the
