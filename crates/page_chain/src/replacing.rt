@@ -6,7 +6,7 @@ ghost use Rattle.access_traits.specs.Causes.{HasFileCause};
 ghost use Rattle.access_traits.specs.Pages.{KeepsOthers};
 ghost use Rattle.page_chain.specs.Chains.{IsChain, NoChain, NoChainTo, OffPage, starts};
 ghost use Rattle.page_chain.specs.Grown.{IsGrown};
-ghost use Rattle.page_chain.specs.Lying.{IsShort, all_differ, bytes_of, lying};
+ghost use Rattle.page_chain.specs.Lying.{IsShort};
 ghost use Rattle.page_chain.specs.Pages.{pages_of};
 ghost use Rattle.page_chain.specs.Passing.{Passed};
 ghost use Rattle.page_chain.specs.Renewed.{AllLie, IsRenewed, TookOne};
@@ -93,7 +93,7 @@ fn put_behind<S: PageStore>(
 /// Takes rows away from the chain of a file, and puts others, in one pass from page 0 on that ends where
 /// all that are to go were found. Where a row goes others come as far as its page has room; what is
 /// left of them comes behind the last page. Without rows that are to go no page is read but the last.
-/// More rows that went than a u32 counts are want of memory.
+/// Where more rows went than a u32 counts it answers want of memory.
 pub fn replace<S: PageStore>(
     alloc: Global,
     store: &mut S,
