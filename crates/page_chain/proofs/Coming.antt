@@ -13,8 +13,11 @@ use Rattle.page_chain.specs.Lying.{Lying, place_of, lying_in, bytes_of, Came}
 use Rattle.page_chain.proofs.Slots.{free_line, row_is_placed}
 
 -- none came
+pub none_new : (before : Lying) → IsPermutation before (before ++ [])
+none_new before = subst (IsPermutation before) (sym (append-nil before)) (IsPermutation-refl before)
+
 pub came_none : (before : Lying) → Came before [] before
-came_none before = record { new = []; bytes = refl; all = subst (IsPermutation before) (sym (append-nil before)) (IsPermutation-refl before) }
+came_none before = record { new = []; bytes = refl; all = none_new before }
 
 -- one more came
 pub came_more : (before now later : Lying) (rows : List (List ℕ)) (at : Place) (row : List ℕ) → Came before rows now → IsPermutation later ((at, row) ∷ now) → Came before (rows ++ row ∷ []) later

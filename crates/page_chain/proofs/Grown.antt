@@ -1,21 +1,22 @@
 -- What was laid on pages behind those of a chain, and in a file that was made anew.
-use Rattle.std.proofs.Common.{◌≡◌, refl, sym, ap, ap₂, subst, ◌∙◌, ℕ, zero, suc, ◌+◌, ◌-◌, ◌<◌, ◌≤◌, List, [], ◌∷◌, ◌++◌, map, Option, Some, None, arith, append_assoc}
+use Rattle.std.proofs.Common.{◌≡◌, refl, sym, ap, ap₂, subst, ◌∙◌, ℕ, zero, suc, ◌+◌, ◌-◌, ◌<◌, ◌≤◌, List, [], ◌∷◌, ◌++◌, map, length, Option, Some, None, arith, append_assoc}
 use Rattle.std.specs.List.{AllByRecursion}
 use Rattle.std.specs.List.Sorted.{IsPermutation}
-use Rattle.std.proofs.lemmas.List.Sorted.{IsPermutation-append_right, IsPermutation-append_comm, IsPermutation-trans, IsPermutation-to_front}
+use Rattle.std.proofs.lemmas.List.Sorted.{IsPermutation-append_right, IsPermutation-append_comm, IsPermutation-trans, IsPermutation-to_front, IsPermutation-sym}
 use Rattle.calculus.specs.declared.probe.Place.{Place}
 use Rattle.disk_model.specs.Disk.{Image}
 use Rattle.disk_model.specs.declared.disk.Addr.{Addr}
 use Rattle.access_traits.specs.Pages.{SameElsewhere, KeepsOthers, with_page}
-use Rattle.page_cells.specs.Page.{IsPage, next_page, slots, line_for, with_row}
+use Rattle.page_cells.specs.Page.{Slot, IsPage, next_page, slots, line_for, with_row}
 use Rattle.page_chain.specs.Chains.{IsChain, numbers_from}
-use Rattle.page_chain.specs.Filled.{HasOnly, IsFilled, IsLaid, ToldLaid, IsLinked}
+use Rattle.page_chain.specs.Filled.{HasOnly, IsFilled, IsLaid, ToldLaid, OneLaid, IsLinked}
 use Rattle.page_chain.specs.Grown.{numbers_to, IsGrown, IsOneMore, IsBuilt}
 use Rattle.page_chain.specs.Lying.{Lying, place_of, lying_in, lying, bytes_of, Came}
 use Rattle.page_chain.specs.Pages.{Pages, page_at, pages_of}
-use Rattle.page_chain.proofs.Slots.{lying_join, lying_same}
+use Rattle.page_chain.proofs.Slots.{lying_join, lying_same, row_is_placed}
+use Rattle.page_chain.proofs.Coming.{none_new, filled_none, filled_more, fresh_has_room}
 use Rattle.page_chain.proofs.Linking.{chain_glued, chain_below, all_of_below, to_from, to_from_zero, to_first}
-use Rattle.page_chain.proofs.Laying.{put_there, put_same, other_file}
+use Rattle.page_chain.proofs.Laying.{put_there, put_same, other_file, laid_first, laid_more}
 
 -- ---- behind a chain
 
@@ -76,6 +77,50 @@ one_more file bound earlier last place row m image told is laid chain = record {
       (laid_came file bound earlier last place.page ((place, row) ∷ []) m image laid chain)
       (IsPermutation-to_front (lying (pages_of m file) (earlier ++ last ∷ [])) (place, row));
 }
+
+-- the row is on the page in hand
+pub one_here : (file last : ℕ) (p q : List ℕ) (long line : ℕ) (row : List ℕ) (m : Image) (told : Option Image) → IsPage q → next_page q ≡ 0 → line_for (slots p) long ≡ Some line
+    → slots q ≡ with_row (slots p) (Some line) row → told ≡ Some (with_page (page_at file last) q m) → OneLaid file last (place_of last line) row (with_page (page_at file last) p m) told
+one_here file last p q long line row m told page ends found is put = record {
+  image = with_page (page_at file last) q m;
+  told_still = put;
+  laid = laid_first file last m p q (row ∷ []) ((place_of last line, row) ∷ []) page ends refl
+      (IsPermutation-trans (lying_in last 0 (slots q)) ((place_of last line, row) ∷ lying_in last 0 (slots p)) (lying_in last 0 (slots p) ++ (place_of last line, row) ∷ [])
+      (subst (λ s. IsPermutation (lying_in last 0 s) ((place_of last line, row) ∷ lying_in last 0 (slots p))) (sym is) (row_is_placed last (slots p) long line row found))
+      (IsPermutation-sym (lying_in last 0 (slots p) ++ (place_of last line, row) ∷ []) ((place_of last line, row) ∷ lying_in last 0 (slots p)) (IsPermutation-to_front (lying_in last 0 (slots p)) (place_of last line, row))))
+      (filled_more p p q [] long line row (filled_none p) found is).behind;
+}
+
+-- it is on a fresh page behind it
+pub one_behind : (file last : ℕ) (p fresh q : List ℕ) (o : Option ℕ) (row : List ℕ) (m : Image) (mid told : Option Image) → IsPage p → next_page p ≡ 0 → IsLinked file last p m mid
+    → slots fresh ≡ [] → length row ≤ 1012 → o ≡ line_for (slots fresh) (length row) → slots q ≡ with_row (slots fresh) o row → IsPage q → next_page q ≡ 0
+    → ((n : Image) → mid ≡ Some n → told ≡ Some (with_page (page_at file (last + 1)) q n)) → OneLaid file last (place_of (last + 1) 0) row (with_page (page_at file last) p m) told
+one_behind file last p fresh q o row m mid told page_p ends_p link none short found is page_q ends_q put =
+    let next : suc last ≡ last + 1 = omega arith in
+    record {
+      image = with_page (page_at file (last + 1)) q (with_page (page_at file last) link.linked m);
+      told_still = put (with_page (page_at file last) link.linked m) link.told_still;
+      laid = subst (λ k. IsLaid file last k ((place_of k 0, row) ∷ []) (with_page (page_at file last) p m) (with_page (page_at file k) q (with_page (page_at file last) link.linked m))) next
+          (subst (λ s. IsLaid file last (suc last) (lying_in (suc last) 0 s) (with_page (page_at file last) p m) (with_page (page_at file (suc last)) q (with_page (page_at file last) link.linked m))) only
+          (laid_more file last last (with_page (page_at file last) p m) m p link.linked q [] nothing link.is_page link.same_slots (link.goes_on ∙ sym next) page_q ends_q (row ∷ []) only));
+    }
+  where
+    zeroth : o ≡ Some 0
+    zeroth = found ∙ ap (λ s. line_for s (length row)) none ∙ fresh_has_room (length row) short
+
+    only : slots q ≡ Some row ∷ []
+    only = is ∙ ap₂ (λ (s : List Slot) (l : Option ℕ). with_row s l row) none zeroth
+
+    nothing : IsLaid file last last [] (with_page (page_at file last) p m) (with_page (page_at file last) p m)
+    nothing = laid_first file last m p p [] [] page_p ends_p refl (none_new (lying_in last 0 (slots p))) (filled_none p).behind
+
+-- it is among the rows that were laid
+pub one_told : (file last : ℕ) (place : Place) (row : List ℕ) (m : Image) (told : Option Image) → OneLaid file last place row m told → ToldLaid file last place.page (row ∷ []) m told
+one_told file last place row m told laid = record { image = laid.image; told_still = laid.told_still; new = (place, row) ∷ []; bytes = refl; laid = laid.laid }
+
+pub one_there : (file last : ℕ) (place : Place) (row p : List ℕ) (m : Image) (told : Option Image) → m (page_at file last) ≡ Some p
+    → OneLaid file last place row (with_page (page_at file last) p m) told → OneLaid file last place row m told
+one_there file last place row p m told there laid = subst (λ n. OneLaid file last place row n told) (put_same (page_at file last) p m there) laid
 
 -- ---- a file made anew
 

@@ -1,6 +1,7 @@
 pub mod Along
 pub mod Beside
 pub mod Carried
+pub mod Causes
 pub mod Clearing
 pub mod Coming
 pub mod Counting
@@ -16,3 +17,4 @@ pub mod Replaced
 pub mod Slots
 pub mod Stepping
 pub mod Took
+pub mod Walking

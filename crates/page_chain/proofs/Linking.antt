@@ -1,5 +1,5 @@
 -- Chains that go on at their ends, and the numbers of their pages.
-use Rattle.std.proofs.Common.{◌≡◌, ◌≢◌, ◌⊎◌, inl, inr, refl, sym, ap, ap₂, subst, ◌∙◌, ℕ, zero, suc, ◌+◌, ◌-◌, ◌<◌, ◌≤◌, ◌==◌, ◌&&◌, ◌||◌, nat_lt, Bool, true, false, List, [], ◌∷◌, ◌++◌, Option, Some, None, arith, append_assoc}
+use Rattle.std.proofs.Common.{◌≡◌, ◌≢◌, ◌⊎◌, inl, inr, refl, sym, ap, ap₂, subst, ◌∙◌, ℕ, zero, suc, ◌+◌, ◌-◌, ◌<◌, ◌≤◌, ◌==◌, ◌&&◌, ◌||◌, nat_lt, Bool, true, false, List, [], ◌∷◌, ◌++◌, Option, Some, None, arith, append_assoc, if◌then◌else◌}
 use Rattle.std.specs.List.{AllByRecursion}
 use Rattle.std.proofs.lemmas.Option.{same_Some, none-some}
 use Rattle.std.proofs.lemmas.Bool.{and_parts, and_from, ltb-true}
@@ -40,16 +40,37 @@ unfolding next_of
 to_follow bound page next p is e may =
     ap (λ b. when b (next_page p)) (and_from (is_page p) (may_follow bound page (next_page p)) (page_passes p is) (subst (λ n. may_follow bound page n ≡ true) (sym e) may)) ∙ ap Some e
 
+-- nothing follows where these are the bytes of no page, or where it may not
+pub follows_none : (bound page : ℕ) (p : List ℕ) → (IsPage p → ⊥) ⊎ (may_follow bound page (next_page p) ≡ false) → next_of bound page (Some p) ≡ None
+unfolding next_of
+follows_none bound page p off = go (is_page p && may_follow bound page (next_page p)) refl off
+  where
+    go : (b : Bool) → (is_page p && may_follow bound page (next_page p)) ≡ b → (IsPage p → ⊥) ⊎ (may_follow bound page (next_page p) ≡ false) → when (is_page p && may_follow bound page (next_page p)) (next_page p) ≡ None
+    go false e off = ap (λ b. when b (next_page p)) e
+    go true e (inl isnt) = absurd (isnt (passes_is_page p (and_parts (is_page p) (may_follow bound page (next_page p)) e).0))
+    go true e (inr mustnt) = absurd (let yes = (and_parts (is_page p) (may_follow bound page (next_page p)) e).1 in cc)
+
 -- nothing follows where there is no page
 pub none_follows : (bound page : ℕ) → next_of bound page None ≡ None
 unfolding next_of
 none_follows bound page = refl
+
+-- where a page may be there, and one follows, it is there
+pub there_follows : (bound page next : ℕ) (there : Bool) (p : List ℕ) → next_of bound page (if there then Some p else None) ≡ Some next
+    → (there ≡ true) × IsPage p × (next_page p ≡ next) × (may_follow bound page next ≡ true)
+there_follows bound page next false p e = absurd (none-some next (sym (none_follows bound page) ∙ e))
+there_follows bound page next true p e = let its = follows_as bound page next p e in (refl, its.0, its.1, its.2)
 
 -- a page that follows lies behind
 pub follows_up : (bound page next : ℕ) (p : Option (List ℕ)) → 0 < next → next_of bound page p ≡ Some next → (page < next) × (next < bound)
 follows_up bound page next None some e = absurd (none-some next (sym (none_follows bound page) ∙ e))
 follows_up bound page zero (Some p) some e = absurd (omega arith)
 follows_up bound page (suc next) (Some p) some e = goes_up bound page next (follows_as bound page (suc next) p e).2
+
+-- one that may follow lies below the bound
+pub may_below : (bound page next : ℕ) → 0 < next → may_follow bound page next ≡ true → (page < next) × (next < bound)
+may_below bound page zero some e = absurd (omega arith)
+may_below bound page (suc next) some e = goes_up bound page next e
 
 -- where a chain may go on, it may below a greater bound
 may_wider : (bound more page next : ℕ) → bound ≤ more → may_follow bound page next ≡ true → may_follow more page next ≡ true

@@ -1,6 +1,7 @@
 -- Rows laid on pages one behind the other, from a page of a file on.
 use Rattle.std.specs.Prelude.{◌≡◌, ℕ, ◌+◌, ◌<◌, ◌≤◌, List, [], ◌∷◌, ◌++◌, map, Option, Some}
 use Rattle.std.specs.List.Sorted.{IsPermutation}
+use Rattle.calculus.specs.declared.probe.Place.{Place}
 use Rattle.disk_model.specs.Disk.{Image}
 use Rattle.access_traits.specs.Pages.{SameElsewhere, with_page}
 use Rattle.page_cells.specs.Page.{IsPage, next_page, slots}
@@ -51,3 +52,9 @@ pub record IsLinked (file at : ℕ) (page : List ℕ) (before : Image) (told : O
   pub same_slots : slots linked ≡ slots page
   pub goes_on : next_page linked ≡ at + 1
   pub told_still : told ≡ Some (with_page (page_at file at) linked before)
+
+-- The pages are told still, and this row is laid at this place.
+pub record OneLaid (file last : ℕ) (place : Place) (row : List ℕ) (before : Image) (told : Option Image) : Type 0 where
+  pub image : Image
+  pub told_still : told ≡ Some image
+  pub laid : IsLaid file last place.page ((place, row) ∷ []) before image

@@ -1,6 +1,7 @@
 -- What is found on a chain.
 use Rattle.std.specs.Prelude.{◌≡◌, ℕ, List, [], ◌∷◌, ◌++◌, Option, Some, None, ◌+◌}
 use Rattle.disk_model.specs.Disk.{Image}
+use Rattle.page_cells.specs.Page.{Slot}
 use Rattle.page_chain.specs.Chains.{IsChain, chain, numbers_from}
 use Rattle.page_chain.specs.Lying.{Lying, lying, bytes_of, Came}
 use Rattle.page_chain.specs.Pages.{Pages, pages_of}
@@ -10,3 +11,8 @@ pub record Found (bound : ℕ) (pages : Pages) (rows : List (List ℕ)) (last : 
   pub earlier : List ℕ
   pub chain : chain bound pages ≡ Some (earlier ++ last ∷ [])
   pub bytes : rows ≡ bytes_of (lying pages (earlier ++ last ∷ []))
+
+-- the row in a slot, where there is one
+abbrev pub in_slot : Slot → List (List ℕ)
+in_slot None = []
+in_slot (Some row) = row ∷ []

@@ -1,0 +1,24 @@
+-- Faults that come of a call below.
+use Rattle.std.proofs.Common.{◌≡◌, refl, sym, subst, ◌∙◌, ℕ, ◌+◌, ◌≤◌, min, Option, Some, None, arith}
+use Rattle.std.specs.Prelude.{Result, Ok, Err}
+use Rattle.fault_io.specs.Causes.{Rose}
+use Rattle.disk_model.specs.Disk.{Image}
+use Rattle.disk_model.specs.declared.disk.Addr.{Addr}
+use Rattle.am_traits.specs.declared.fault.BaseFault.{BaseFault}
+use Rattle.am_traits.specs.declared.fault.BaseFault.TheVariants as faults
+use Rattle.access_traits.specs.Causes.{HasFileCause, MayFail}
+
+-- what rose later rose
+rose_later : (before mid now : ℕ) → before ≤ mid → Rose mid now → Rose before now
+rose_later before mid now le rose = omega arith
+
+-- a fault may come for a weaker cause, after other calls
+pub may_fail_later : (told : Option Image) (P Q : Image → Addr → Type 0) (before mid now : ℕ) (fault : BaseFault) → before ≤ mid → ((m : Image) (a : Addr) → told ≡ Some m → P m a → Q m a)
+    → MayFail told P mid now fault → MayFail told Q before now fault
+may_fail_later told P Q before mid now faults.Disk le weaker may = rose_later before mid now le may
+may_fail_later told P Q before mid now (faults.Damaged file page) le weaker may = λ m is. weaker m (record { file = file; page = page }) is (may m is)
+may_fail_later told P Q before mid now faults.OutOfMemory le weaker may = tt
+
+pub fault_later : {T U : Type 0} (told : Option Image) (P Q : Image → Addr → Type 0) (before mid now : ℕ) (fault : BaseFault) → before ≤ mid → ((m : Image) (a : Addr) → told ≡ Some m → P m a → Q m a)
+    → HasFileCause {T = T} told P mid now (Err fault) → HasFileCause {T = U} told Q before now (Err fault)
+fault_later told P Q before mid now fault le weaker cause = record { later = let lt = cause.later in omega arith; caused = may_fail_later told P Q before mid now fault le weaker cause.caused }

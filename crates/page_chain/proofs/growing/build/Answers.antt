@@ -1,0 +1,10 @@
+use Rattle.page_chain.proofs.Grown.{is_built, others_kept}
+use Rattle.page_chain.proofs.growing.build.Goals as goal
+
+pub returns-clause-built : goal.returns-clause-built
+returns-clause-built g c m told =
+    is_built c.args.file c.in_ok-last.last c.args.rows.now c.fresh_page.new.out m (g.S.PageStore.pages c.lay.new.store) c.fresh_page.ensures.slots (c.in_ok-last.ensures.laid m told)
+
+pub returns-clause-others : goal.returns-clause-others
+returns-clause-others g c =
+    others_kept c.args.file 0 c.in_ok-last.last c.args.rows.now c.fresh_page.new.out (g.S.PageStore.pages c.args.store.now) (g.S.PageStore.pages c.lay.new.store) c.in_ok-last.ensures.laid
