@@ -69,7 +69,7 @@ fn pass_over<S: PageStore>(
 
 /// Puts rows behind those of a chain, and answers the number of its last page. Without rows no page is
 /// read.
-fn put_behind<S: PageStore>(
+fn put_rest<S: PageStore>(
     store: &mut S,
     chain: Chain,
     rows: &[List<u8>],
@@ -115,7 +115,7 @@ pub fn replace<S: PageStore>(
     ensures cause { HasFileCause (S.pages store.old) (NoChainTo chain.file chain.bound chain.last) (S.faults store.old) (S.faults store.new) result }
 {
     let done = pass_over(alloc, store, chain, going, coming)?;
-    let last = put_behind(store, chain, coming.split_at(done.put).1)?;
+    let last = put_rest(store, chain, coming.split_at(done.put).1)?;
     match u32::try_from(done.gone) {
         Ok(gone) => Ok(Replacement { gone, last }),
         Err(_) => Err(BaseFault::OutOfMemory),
