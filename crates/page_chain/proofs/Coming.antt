@@ -1,15 +1,15 @@
 -- Rows that came, one by one.
-use Rattle.std.proofs.Common.{◌≡◌, ◌⊎◌, inl, inr, refl, sym, ap, ap₂, subst, ◌∙◌, ℕ, zero, suc, ◌+◌, ◌<◌, ◌≤◌, Bool, true, false, List, [], ◌∷◌, ◌++◌, map, length, take, get_or, nat_lt, nat_le, Option, Some, None, arith, append_assoc, append-nil, if◌then◌else◌}
+use Rattle.std.proofs.Common.{◌≡◌, ◌⊎◌, inl, inr, refl, sym, ap, subst, ◌∙◌, ℕ, zero, suc, ◌+◌, ◌<◌, ◌≤◌, Bool, true, false, List, [], ◌∷◌, ◌++◌, map, length, get_or, nat_lt, nat_le, Option, Some, None, arith, append_assoc, append-nil, if◌then◌else◌}
 use Rattle.std.specs.List.Sorted.{IsPermutation}
 use Rattle.std.specs.Prelude.{slice_set}
 use Rattle.std.proofs.lemmas.List.{map-append}
 use Rattle.std.specs.Option.{is_some}
-use Rattle.std.proofs.lemmas.Option.{same_Some, none-some}
+use Rattle.std.proofs.lemmas.Option.{none-some}
 use Rattle.std.proofs.lemmas.List.Sorted.{IsPermutation-refl, IsPermutation-trans, IsPermutation-cons, IsPermutation-to_front, IsPermutation-sym}
 use Rattle.calculus.specs.declared.probe.Place.{Place}
 use Rattle.page_cells.specs.Page.{Slot, line_for, with_row, slots}
-use Rattle.page_chain.specs.Filled.{HasOnly, IsFilled}
-use Rattle.page_chain.specs.Lying.{Lying, place_of, lying_in, bytes_of, Came}
+use Rattle.page_chain.specs.Filled.{IsFilled}
+use Rattle.page_chain.specs.Lying.{Lying, place_of, lying_in, Came}
 use Rattle.page_chain.proofs.Slots.{free_line, row_is_placed}
 
 -- none came
@@ -28,7 +28,7 @@ came_more before now later rows at row were one = record {
       IsPermutation-trans later ((at, row) ∷ now) (before ++ (were.new ++ (at, row) ∷ [])) one
       (IsPermutation-trans ((at, row) ∷ now) ((at, row) ∷ before ++ were.new) (before ++ (were.new ++ (at, row) ∷ [])) (IsPermutation-cons (at, row) now (before ++ were.new) were.all)
       (subst (IsPermutation ((at, row) ∷ before ++ were.new)) (append_assoc before were.new ((at, row) ∷ []))
-      (IsPermutation-sym ((before ++ were.new) ++ (at, row) ∷ []) ((at, row) ∷ before ++ were.new) (IsPermutation-to_front (before ++ were.new) (at, row)))))
+      (IsPermutation-sym ((before ++ were.new) ++ (at, row) ∷ []) ((at, row) ∷ before ++ were.new) (IsPermutation-to_front (before ++ were.new) (at, row)))));
 }
 
 -- ---- one page

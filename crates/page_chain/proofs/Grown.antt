@@ -1,21 +1,20 @@
 -- What was laid on pages behind those of a chain, and in a file that was made anew.
-use Rattle.std.proofs.Common.{◌≡◌, refl, sym, ap, ap₂, subst, ◌∙◌, ℕ, zero, suc, ◌+◌, ◌-◌, ◌<◌, ◌≤◌, List, [], ◌∷◌, ◌++◌, map, length, Option, Some, None, arith, append_assoc}
+use Rattle.std.proofs.Common.{◌≡◌, refl, sym, ap, ap₂, subst, ◌∙◌, ℕ, suc, ◌+◌, ◌-◌, ◌<◌, ◌≤◌, List, [], ◌∷◌, ◌++◌, length, Option, Some, arith, append_assoc}
 use Rattle.std.specs.List.{AllByRecursion}
 use Rattle.std.specs.List.Sorted.{IsPermutation}
-use Rattle.std.proofs.lemmas.List.Sorted.{IsPermutation-append_right, IsPermutation-append_comm, IsPermutation-trans, IsPermutation-to_front, IsPermutation-sym}
+use Rattle.std.proofs.lemmas.List.Sorted.{IsPermutation-append_right, IsPermutation-trans, IsPermutation-to_front, IsPermutation-sym}
 use Rattle.calculus.specs.declared.probe.Place.{Place}
 use Rattle.disk_model.specs.Disk.{Image}
-use Rattle.disk_model.specs.declared.disk.Addr.{Addr}
-use Rattle.access_traits.specs.Pages.{SameElsewhere, KeepsOthers, with_page}
+use Rattle.access_traits.specs.Pages.{KeepsOthers, with_page}
 use Rattle.page_cells.specs.Page.{Slot, IsPage, next_page, slots, line_for, with_row}
 use Rattle.page_chain.specs.Chains.{IsChain, numbers_from}
-use Rattle.page_chain.specs.Filled.{HasOnly, IsFilled, IsLaid, ToldLaid, OneLaid, IsLinked}
+use Rattle.page_chain.specs.Filled.{IsLaid, ToldLaid, OneLaid, IsLinked}
 use Rattle.page_chain.specs.Grown.{numbers_to, IsGrown, IsOneMore, IsBuilt}
-use Rattle.page_chain.specs.Lying.{Lying, place_of, lying_in, lying, bytes_of, Came}
-use Rattle.page_chain.specs.Pages.{Pages, page_at, pages_of}
+use Rattle.page_chain.specs.Lying.{Lying, place_of, lying_in, lying, bytes_of}
+use Rattle.page_chain.specs.Pages.{page_at, pages_of}
 use Rattle.page_chain.proofs.Slots.{lying_join, lying_same, row_is_placed}
 use Rattle.page_chain.proofs.Coming.{none_new, filled_none, filled_more, fresh_has_room}
-use Rattle.page_chain.proofs.Linking.{chain_glued, chain_below, all_of_below, to_from, to_from_zero, to_first}
+use Rattle.page_chain.proofs.Linking.{chain_glued, chain_below, all_of_below, to_from, to_from_zero}
 use Rattle.page_chain.proofs.Laying.{put_there, put_same, other_file, laid_first, laid_more}
 
 -- ---- behind a chain
@@ -61,7 +60,7 @@ laid_there file last now rows p m told there laid = subst (λ n. ToldLaid file l
 pub others_kept : (file first now : ℕ) (rows : List (List ℕ)) (p : List ℕ) (before told : Option Image)
     → ((m : Image) → before ≡ Some m → ToldLaid file first now rows (with_page (page_at file first) p m) told) → KeepsOthers file before told
 others_kept file first now rows p before told laid = record {
-  each = λ m is. let its = laid m is in (its.image, its.told_still, λ b other. its.laid.elsewhere b other ∙ other_file file first p m b other)
+  each = λ m is. let its = laid m is in (its.image, its.told_still, λ b other. its.laid.elsewhere b other ∙ other_file file first p m b other);
 }
 
 -- ---- one row

@@ -1,11 +1,11 @@
 -- The page in hand, as rows are laid.
-use Rattle.std.proofs.Common.{◌≡◌, refl, sym, ap, subst, ◌∙◌, ℕ, zero, suc, ◌+◌, ◌<◌, ◌≤◌, List, [], ◌∷◌, ◌++◌, map, take, drop, Option, Some, None, arith, append_assoc, append-nil}
+use Rattle.std.proofs.Common.{◌≡◌, sym, ap, subst, ◌∙◌, ℕ, suc, ◌+◌, List, [], ◌++◌, take, drop, Option, Some, arith, append_assoc, append-nil}
 use Rattle.std.proofs.lemmas.List.{take-append-drop}
 use Rattle.disk_model.specs.Disk.{Image}
 use Rattle.access_traits.specs.Pages.{with_page}
 use Rattle.page_cells.specs.Page.{IsPage, next_page, slots}
-use Rattle.page_chain.specs.Filled.{HasOnly, IsFilled, IsLaid, InHand, ToldLaid, IsLinked}
-use Rattle.page_chain.specs.Lying.{Lying, lying_in, bytes_of}
+use Rattle.page_chain.specs.Filled.{HasOnly, IsFilled, InHand, ToldLaid, IsLinked}
+use Rattle.page_chain.specs.Lying.{lying_in, bytes_of}
 use Rattle.page_chain.specs.Pages.{page_at}
 use Rattle.page_chain.proofs.Laying.{laid_first, laid_more, bytes_of_only, bytes_join}
 

@@ -1,20 +1,20 @@
 -- Rows laid on pages, page by page.
-use Rattle.std.proofs.Common.{◌≡◌, ◌≢◌, ◌⊎◌, inl, inr, refl, sym, ap, ap₂, subst, ◌∙◌, ℕ, zero, suc, ◌+◌, ◌-◌, ◌<◌, ◌≤◌, ◌==◌, ◌&&◌, Bool, true, false, List, [], ◌∷◌, ◌++◌, map, Option, Some, None, arith, append_assoc, append-nil, if◌then◌else◌}
+use Rattle.std.proofs.Common.{◌≡◌, refl, sym, ap, ap₂, subst, ◌∙◌, ℕ, suc, ◌<◌, ◌≤◌, ◌==◌, Bool, true, false, List, [], ◌∷◌, ◌++◌, map, Some, arith, append_assoc, append-nil, if◌then◌else◌}
 use Rattle.std.specs.List.Sorted.{IsPermutation}
 use Rattle.std.specs.List.{AllByRecursion}
 use Rattle.std.proofs.lemmas.List.{map-append}
 use Rattle.std.proofs.lemmas.Bool.{and_parts, and_from, eqb-true, eq-eqb}
-use Rattle.std.proofs.lemmas.Option.{same_Some, none-some}
-use Rattle.std.proofs.lemmas.List.Sorted.{IsPermutation-refl, IsPermutation-trans, IsPermutation-append_left}
+use Rattle.std.proofs.lemmas.Option.{same_Some}
+use Rattle.std.proofs.lemmas.List.Sorted.{IsPermutation-append_left}
 use Rattle.calculus.specs.declared.probe.Place.{Place}
 use Rattle.disk_model.specs.Disk.{Image, is_at}
 use Rattle.disk_model.specs.declared.disk.Addr.{Addr}
 use Rattle.access_traits.specs.Pages.{SameElsewhere, with_page}
-use Rattle.page_cells.specs.Page.{Slot, IsPage, next_page, slots}
+use Rattle.page_cells.specs.Page.{IsPage, next_page, slots}
 use Rattle.page_chain.specs.Chains.{IsChain}
-use Rattle.page_chain.specs.Filled.{HasOnly, IsFilled, IsLaid}
+use Rattle.page_chain.specs.Filled.{HasOnly, IsLaid}
 use Rattle.page_chain.specs.Grown.{numbers_to}
-use Rattle.page_chain.specs.Lying.{Lying, place_of, lying_in, lying_on, lying, bytes_of, Came}
+use Rattle.page_chain.specs.Lying.{Lying, lying_in, lying_on, lying, bytes_of}
 use Rattle.page_chain.specs.Pages.{Pages, page_at, pages_of}
 use Rattle.page_chain.proofs.Slots.{lying_join, lying_one, lying_same}
 use Rattle.page_chain.proofs.Linking.{chain_glued, chain_ends, chain_goes_on, all_of_below, numbers_until, until_below, to_first, to_last, to_next}

@@ -1,16 +1,14 @@
 -- The rows in the slots of a page, as one is put into a line or goes from it; and those on pages of a file.
-use Rattle.std.proofs.Common.{◌≡◌, ◌⊎◌, inl, inr, refl, sym, ap, ap₂, subst, ◌∙◌, ℕ, zero, suc, ◌+◌, ◌<◌, ◌≤◌, Bool, true, false, List, [], ◌∷◌, ◌++◌, map, length, get_or, nat_lt, nat_le, position, is_none, Option, Some, None, arith, append_assoc, if◌then◌else◌}
+use Rattle.std.proofs.Common.{◌≡◌, ◌⊎◌, inl, inr, refl, sym, ap, ap₂, subst, ◌∙◌, ℕ, zero, suc, ◌+◌, ◌<◌, Bool, true, false, List, [], ◌∷◌, ◌++◌, length, get_or, nat_lt, nat_le, position, is_none, Option, Some, None, arith, if◌then◌else◌}
 use Rattle.std.specs.List.Sorted.{IsPermutation}
-use Rattle.std.specs.List.{AllByRecursion, flat_map}
+use Rattle.std.specs.List.{AllByRecursion}
 use Rattle.std.proofs.Math.ListN.{set}
-use Rattle.std.proofs.lemmas.Bool.{lt-ltb}
 use Rattle.std.proofs.lemmas.Grind.{flat_map-append}
 use Rattle.std.proofs.lemmas.Option.{same_Some, none-some}
 use Rattle.std.proofs.lemmas.List.Quantifiers.{position-Some}
-use Rattle.std.proofs.lemmas.List.Sorted.{IsPermutation-refl, IsPermutation-trans, IsPermutation-cons, IsPermutation-middle, IsPermutation-to_front, IsPermutation-sym}
-use Rattle.calculus.specs.declared.probe.Place.{Place}
+use Rattle.std.proofs.lemmas.List.Sorted.{IsPermutation-refl, IsPermutation-trans, IsPermutation-cons, IsPermutation-middle, IsPermutation-to_front}
 use Rattle.page_cells.specs.Page.{Slot, line_in, line_for, with_row, room_beside}
-use Rattle.page_chain.specs.Lying.{Lying, place_of, lying_in, lying_on, lying, bytes_of}
+use Rattle.page_chain.specs.Lying.{Lying, place_of, lying_in, lying_on, lying}
 use Rattle.page_chain.specs.Pages.{Pages}
 
 -- ---- the slots of one page

@@ -1,5 +1,5 @@
 -- A chain that is walked from page 0 on.
-use Rattle.std.proofs.Common.{◌≡◌, refl, sym, ap, ap₂, subst, ◌∙◌, ℕ, zero, suc, ◌+◌, ◌<◌, ◌≤◌, Bool, true, false, nat_le, List, [], ◌∷◌, ◌++◌, map, length, take, get_or, Option, Some, None, arith, append_assoc, append-nil}
+use Rattle.std.proofs.Common.{◌≡◌, refl, sym, ap, ap₂, subst, ◌∙◌, ℕ, zero, suc, ◌+◌, ◌<◌, ◌≤◌, Bool, true, false, nat_le, List, [], ◌∷◌, ◌++◌, length, take, get_or, Option, Some, None, arith, append_assoc, append-nil}
 use Rattle.std.specs.Prelude.{option_map}
 use Rattle.std.proofs.lemmas.Bool.{leb-true, leb-false}
 use Rattle.std.proofs.lemmas.List.{take_more, take_all}
@@ -8,7 +8,7 @@ use Rattle.disk_model.specs.Disk.{Image}
 use Rattle.disk_model.specs.declared.disk.Addr.{Addr}
 use Rattle.page_chain.specs.Chains.{chain, chain_from, OffPage, NoChain}
 use Rattle.page_chain.specs.Found.{Found, in_slot}
-use Rattle.page_chain.specs.Lying.{Lying, lying_in, lying_on, lying, bytes_of}
+use Rattle.page_chain.specs.Lying.{lying_in, lying_on, lying, bytes_of}
 use Rattle.page_chain.specs.Pages.{Pages, page_at, pages_of, next_of}
 use Rattle.page_chain.proofs.Slots.{lying_append, lying_join, lying_one}
 use Rattle.page_chain.proofs.Linking.{follows_up}

@@ -1,10 +1,9 @@
 -- What is found on a chain.
-use Rattle.std.specs.Prelude.{◌≡◌, ℕ, List, [], ◌∷◌, ◌++◌, Option, Some, None, ◌+◌}
-use Rattle.disk_model.specs.Disk.{Image}
+use Rattle.std.specs.Prelude.{◌≡◌, ℕ, List, [], ◌∷◌, ◌++◌, Some, None}
 use Rattle.page_cells.specs.Page.{Slot}
-use Rattle.page_chain.specs.Chains.{IsChain, chain, numbers_from}
-use Rattle.page_chain.specs.Lying.{Lying, lying, bytes_of, Came}
-use Rattle.page_chain.specs.Pages.{Pages, pages_of}
+use Rattle.page_chain.specs.Chains.{chain}
+use Rattle.page_chain.specs.Lying.{lying, bytes_of}
+use Rattle.page_chain.specs.Pages.{Pages}
 
 -- The chain from page 0 on, its last page, and the rows on it, in the order of their places.
 pub record Found (bound : ℕ) (pages : Pages) (rows : List (List ℕ)) (last : ℕ) : Type 0 where

@@ -1,11 +1,11 @@
 -- What stands on a chain that grew, and in a file that was made anew.
-use Rattle.std.specs.Prelude.{◌≡◌, ℕ, suc, ◌+◌, ◌-◌, ◌<◌, ◌≤◌, List, [], ◌∷◌, ◌++◌, Option, Some}
+use Rattle.std.specs.Prelude.{◌≡◌, ℕ, suc, ◌-◌, ◌<◌, ◌≤◌, List, [], ◌∷◌, ◌++◌, Option, Some}
 use Rattle.std.specs.List.Sorted.{IsPermutation}
 use Rattle.calculus.specs.declared.probe.Place.{Place}
 use Rattle.disk_model.specs.Disk.{Image}
 use Rattle.disk_model.specs.declared.disk.Addr.{Addr}
 use Rattle.page_chain.specs.Chains.{IsChain, numbers_from}
-use Rattle.page_chain.specs.Lying.{Lying, lying, bytes_of, Came}
+use Rattle.page_chain.specs.Lying.{lying, bytes_of, Came}
 use Rattle.page_chain.specs.Pages.{pages_of}
 
 -- the numbers from one to another

@@ -1,13 +1,11 @@
 -- The rows that lie on pages, as bytes, each with its place.
-use Rattle.std.specs.Prelude.{◌≡◌, ℕ, zero, suc, ◌<◌, ◌≤◌, bytes_eq, not, Bool, List, [], ◌∷◌, ◌++◌, map, filter, length, Option, Some, None}
-use Rattle.std.specs.List.{flat_map, list_any, All}
+use Rattle.std.specs.Prelude.{◌≡◌, ℕ, suc, ◌<◌, ◌≤◌, bytes_eq, not, Bool, List, [], ◌∷◌, ◌++◌, map, filter, length, Option, Some, None}
+use Rattle.std.specs.List.{flat_map, list_any}
 use Rattle.std.specs.List.Sorted.{IsPermutation}
 use Rattle.calculus.specs.declared.probe.Place.{Place}
 use Rattle.calculus.specs.Lists.{differ_by}
-use Rattle.disk_model.specs.Disk.{Image}
 use Rattle.page_cells.specs.Page.{Slot, slots}
-use Rattle.access_traits.specs.Pages.{SameElsewhere}
-use Rattle.page_chain.specs.Pages.{Pages, pages_of}
+use Rattle.page_chain.specs.Pages.{Pages}
 
 -- rows as bytes, each with its place
 abbrev pub Lying : Type 0

@@ -32,14 +32,22 @@ fn next_in(bound: u64, page: u32, bytes: &Page) -> Option<u32>
         return None;
     }
     let next = next_of(bytes);
-    if may_go_on(bound, page, next) { Some(next) } else { None }
+    if may_go_on(bound, page, next) {
+        Some(next)
+    } else {
+        None
+    }
 }
 
 /// The number of the page that follows, where there is such a page.
 fn next_there(bound: u64, page: u32, is_there: bool, bytes: &Page) -> Option<u32>
     ensures { result ≡ next_of bound page (if is_there then Some bytes.now else None) }
 {
-    if is_there { next_in(bound, page, bytes) } else { None }
+    if is_there {
+        next_in(bound, page, bytes)
+    } else {
+        None
+    }
 }
 
 /// Gives a page of a chain, and answers the number of the page that follows, 0 where none does. A page
@@ -83,7 +91,11 @@ fn copy_row(alloc: Global, row: &[u8], rows: &mut Vec<List<u8>>) -> Result<(), O
 }
 
 /// Puts a copy of the row in a slot behind the others, where there is one.
-fn copy_slot(alloc: Global, slot: Option<&[u8]>, rows: &mut Vec<List<u8>>) -> Result<(), OutOfMemory>
+fn copy_slot(
+    alloc: Global,
+    slot: Option<&[u8]>,
+    rows: &mut Vec<List<u8>>,
+) -> Result<(), OutOfMemory>
     ensures { OnOk result (rows.new.items ≡ rows.old.items ++ in_slot (option_copied slot.entry)) }
 {
     match slot {

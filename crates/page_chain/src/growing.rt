@@ -68,7 +68,10 @@ fn put_behind<S: PageStore>(
     put_row(page, row);
     let next = last + 1;
     store.put(Addr { file, page: next }, page)?;
-    Ok(Place { page: next, line: 0 })
+    Ok(Place {
+        page: next,
+        line: 0,
+    })
 }
 
 /// Puts a row on the page in hand, where it has room, and else on a fresh one behind it. Answers the

@@ -1,5 +1,5 @@
-use Rattle.std.proofs.Common.{◌≡◌, refl, sym, ap, ◌∙◌, Some, None, if◌then◌else◌}
-use Rattle.page_chain.specs.Pages.{may_follow, next_of, page_at}
+use Rattle.std.proofs.Common.{refl, sym, ap, ◌∙◌, Some, None, if◌then◌else◌}
+use Rattle.page_chain.specs.Pages.{next_of}
 use Rattle.page_chain.proofs.Linking.{there_follows, to_follow}
 use Rattle.page_chain.proofs.chains.chain_page.Goals as goal
 

@@ -1,4 +1,4 @@
-use Rattle.std.proofs.Common.{◌≡◌, ◌++◌, sym, ap, ◌∙◌}
+use Rattle.std.proofs.Common.{◌++◌, ap, ◌∙◌}
 use Rattle.page_chain.specs.Pages.{pages_of}
 use Rattle.page_chain.proofs.Walking.{bytes_on_page}
 use Rattle.page_chain.proofs.chains.copy_page.Goals as goal

@@ -1,4 +1,4 @@
-use Rattle.std.proofs.Common.{◌≡◌, ◌⊎◌, inl, inr, sym, ap, ◌∙◌, true, false}
+use Rattle.std.proofs.Common.{◌≡◌, inl, inr, sym, ap, ◌∙◌, true, false}
 use Rattle.page_chain.specs.Pages.{may_follow}
 use Rattle.page_chain.proofs.Linking.{follows_none, to_follow}
 use Rattle.page_chain.proofs.chains.next_in.Goals as goal

@@ -1,6 +1,5 @@
-use Rattle.std.proofs.Common.{◌≡◌, ◌<◌, ℕ, List, refl, sym, ap, subst, ◌∙◌, Some, arith}
+use Rattle.std.proofs.Common.{◌≡◌, ◌<◌, ℕ, List, refl, sym, subst, ◌∙◌, Some, arith}
 use Rattle.std.specs.Prelude.{Err}
-use Rattle.disk_model.specs.Disk.{Image}
 use Rattle.access_traits.specs.Causes.{HasFileCause}
 use Rattle.page_chain.specs.Chains.{NoChain, OffPage}
 use Rattle.page_chain.specs.Found.{Found}

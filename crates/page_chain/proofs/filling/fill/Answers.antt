@@ -1,8 +1,6 @@
-use Rattle.std.proofs.Common.{◌≡◌, ◌+◌, ◌++◌, [], ◌∷◌, length, take, List, ℕ, arith, sym, ap, subst, ◌∙◌, not, is_some}
+use Rattle.std.proofs.Common.{◌++◌, [], ◌∷◌, length, take, arith, sym, ap, subst, ◌∙◌, not}
 use Rattle.std.proofs.lemmas.List.{take_more}
-use Rattle.page_cells.specs.Page.{IsPage, next_page, slots}
 use Rattle.page_chain.specs.Filled.{IsFilled}
-use Rattle.page_chain.specs.Lying.{IsShort}
 use Rattle.page_chain.proofs.Coming.{filled_step}
 use Rattle.page_chain.proofs.filling.fill.Goals as goal
 

@@ -1,4 +1,4 @@
-use Rattle.std.proofs.Common.{◌∙◌, subst, sym, []}
+use Rattle.std.proofs.Common.{◌∙◌, subst, sym}
 use Rattle.access_traits.specs.Pages.{with_page}
 use Rattle.page_chain.specs.Filled.{InHand}
 use Rattle.page_chain.specs.Pages.{page_at}

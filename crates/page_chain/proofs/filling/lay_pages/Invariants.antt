@@ -1,4 +1,4 @@
-use Rattle.std.proofs.Common.{◌≡◌, ◌+◌, ◌≤◌, All, List, ℕ, length}
+use Rattle.std.proofs.Common.{◌+◌, ◌≤◌, All, List, ℕ, length}
 use Rattle.disk_model.specs.Disk.{Image}
 use Rattle.page_cells.specs.Page.{IsPage}
 use Rattle.page_chain.specs.Filled.{InHand}

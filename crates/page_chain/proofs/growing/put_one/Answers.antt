@@ -12,7 +12,7 @@ returns-clause-grown g c m told bound earlier lt is =
 pub returns-clause-place : goal.returns-clause-place
 returns-clause-place g c m told bound earlier lt is =
     let laid = one_there c.args.file c.args.last c.in_ok-place.place c.args.row.now c.chain_page.new.out m (g.S.PageStore.pages c.put_at.new.store) (c.in_ok-chain_page.ensures.there m told)
-        (c.in_ok-place.ensures.laid m (c.in_ok-chain_page.ensures.same ∙ told)) in
+    (c.in_ok-place.ensures.laid m (c.in_ok-chain_page.ensures.same ∙ told)) in
     one_more c.args.file bound earlier c.args.last c.in_ok-place.place c.args.row.now m laid.image (g.S.PageStore.pages c.put_at.new.store) laid.told_still laid.laid is
 
 pub returns-clause-others : goal.returns-clause-others
