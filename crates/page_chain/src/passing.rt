@@ -1,9 +1,8 @@
 //! A pass over the pages of a chain in which rows go and others come.
 
-ghost use Rattle.std.specs.Prelude.{◌≡◌, ◌+◌, ◌<◌, ◌≤◌, ◌^◌, ℕ, Some, All, IfOk, OnOk, length, take};
+ghost use Rattle.std.specs.Prelude.{◌≡◌, ◌+◌, ◌<◌, ◌≤◌, ◌^◌, Some, All, IfOk, OnOk, length, take};
 ghost use Rattle.disk_model.specs.Disk.{Image};
 ghost use Rattle.access_traits.specs.Causes.{HasFileCause};
-ghost use Rattle.access_traits.specs.Pages.{KeepsOthers};
 ghost use Rattle.page_cells.specs.Page.{IsPage, next_page};
 ghost use Rattle.page_chain.specs.Chains.{NoChainTo};
 ghost use Rattle.page_chain.specs.Lying.{IsShort};

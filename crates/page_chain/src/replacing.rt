@@ -6,7 +6,7 @@ ghost use Rattle.access_traits.specs.Causes.{HasFileCause};
 ghost use Rattle.access_traits.specs.Pages.{KeepsOthers};
 ghost use Rattle.page_chain.specs.Chains.{IsChain, NoChain, NoChainTo, OffPage, starts};
 ghost use Rattle.page_chain.specs.Grown.{IsGrown};
-ghost use Rattle.page_chain.specs.Lying.{IsShort, all_differ, bytes_of, lying};
+ghost use Rattle.page_chain.specs.Lying.{IsShort};
 ghost use Rattle.page_chain.specs.Pages.{pages_of};
 ghost use Rattle.page_chain.specs.Passing.{Passed};
 ghost use Rattle.page_chain.specs.Renewed.{AllLie, IsRenewed, TookOne};
@@ -69,7 +69,7 @@ fn pass_over<S: PageStore>(
 
 /// Puts rows behind those of a chain, and answers the number of its last page. Without rows no page is
 /// read.
-fn put_behind<S: PageStore>(
+fn put_rest<S: PageStore>(
     store: &mut S,
     chain: Chain,
     rows: &[List<u8>],
@@ -93,7 +93,7 @@ fn put_behind<S: PageStore>(
 /// Takes rows away from the chain of a file, and puts others, in one pass from page 0 on that ends where
 /// all that are to go were found. Where a row goes others come as far as its page has room; what is
 /// left of them comes behind the last page. Without rows that are to go no page is read but the last.
-/// More rows that went than a u32 counts are want of memory.
+/// Where more rows went than a u32 counts it answers want of memory.
 pub fn replace<S: PageStore>(
     alloc: Global,
     store: &mut S,
@@ -115,7 +115,7 @@ pub fn replace<S: PageStore>(
     ensures cause { HasFileCause (S.pages store.old) (NoChainTo chain.file chain.bound chain.last) (S.faults store.old) (S.faults store.new) result }
 {
     let done = pass_over(alloc, store, chain, going, coming)?;
-    let last = put_behind(store, chain, coming.split_at(done.put).1)?;
+    let last = put_rest(store, chain, coming.split_at(done.put).1)?;
     match u32::try_from(done.gone) {
         Ok(gone) => Ok(Replacement { gone, last }),
         Err(_) => Err(BaseFault::OutOfMemory),

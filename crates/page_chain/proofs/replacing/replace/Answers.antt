@@ -9,7 +9,7 @@ pub returns-in_err-last-clause-cause : goal.returns-in_err-last-clause-cause
 returns-in_err-last-clause-cause g c =
     cause_carried (g.S.PageStore.pages c.args.store.now) (g.S.PageStore.pages c.pass_over.new.store)
     (OffPage c.args.chain.file c.args.chain.last (c.args.chain.last + 1)) (NoChainTo c.args.chain.file c.args.chain.bound c.args.chain.last)
-    (g.S.PageStore.faults c.args.store.now) (g.S.PageStore.faults c.pass_over.new.store) (g.S.PageStore.faults c.put_behind.new.store) c.in_err-last.field-0.0 c.pass_over.ensures.cause.later
+    (g.S.PageStore.faults c.args.store.now) (g.S.PageStore.faults c.pass_over.new.store) (g.S.PageStore.faults c.put_rest.new.store) c.in_err-last.field-0.0 c.pass_over.ensures.cause.later
     (off_behind c.args.chain.file c.args.chain.bound c.args.chain.last (c.args.chain.last + 1) c.args.going.now (take c.in_ok-done.done.put c.args.coming.now) c.in_ok-done.done.gone
     (g.S.PageStore.pages c.args.store.now) (g.S.PageStore.pages c.pass_over.new.store) (λ m is. c.in_ok-done.ensures.passed m is))
     c.in_err-last.ensures.cause c.from_residual-in_err-last.result c.from_residual-in_err-last.ensures.1
@@ -18,12 +18,12 @@ pub returns-in-Ok-clause-renewed : goal.returns-in-Ok-clause-renewed
 returns-in-Ok-clause-renewed g c m is earlier first chain lie =
     let its = c.in_ok-done.ensures.passed m is in
     let all = renewed c.args.chain.file c.args.chain.bound earlier c.args.chain.last c.in_ok-last.last c.args.going.now c.args.coming.now c.in_ok-done.done.put c.in_ok-done.done.gone
-    m (g.S.PageStore.pages c.pass_over.new.store) (g.S.PageStore.pages c.put_behind.new.store) its first chain lie
-    (λ kept. subst (λ rows. IsGrown c.args.chain.file c.args.chain.bound earlier c.args.chain.last c.in_ok-last.last rows its.image (g.S.PageStore.pages c.put_behind.new.store)) c.split_at.ensures.back
+    m (g.S.PageStore.pages c.pass_over.new.store) (g.S.PageStore.pages c.put_rest.new.store) its first chain lie
+    (λ kept. subst (λ rows. IsGrown c.args.chain.file c.args.chain.bound earlier c.args.chain.last c.in_ok-last.last rows its.image (g.S.PageStore.pages c.put_rest.new.store)) c.split_at.ensures.back
     (c.in_ok-last.ensures.grown its.image its.told_still earlier c.requires.last kept)) in
     (let number = c.in-Ok.ensures in omega (arith, all.0, number), all.1)
 
 pub returns-in-Ok-clause-others : goal.returns-in-Ok-clause-others
 returns-in-Ok-clause-others g c =
-    others_twice c.args.chain.file (g.S.PageStore.pages c.args.store.now) (g.S.PageStore.pages c.pass_over.new.store) (g.S.PageStore.pages c.put_behind.new.store)
+    others_twice c.args.chain.file (g.S.PageStore.pages c.args.store.now) (g.S.PageStore.pages c.pass_over.new.store) (g.S.PageStore.pages c.put_rest.new.store)
     (λ m is. let its = c.in_ok-done.ensures.passed m is in (its.image, its.told_still, its.elsewhere)) c.in_ok-last.ensures.others

@@ -6,7 +6,7 @@ use Rattle.page_chain.specs.Chains.{IsChain}
 use Rattle.page_chain.specs.Grown.{IsGrown}
 use Rattle.page_chain.specs.Pages.{pages_of}
 use Rattle.page_chain.proofs.Replaced.{grown_nothing}
-use Rattle.page_chain.proofs.replacing.put_behind.Goals as goal
+use Rattle.page_chain.proofs.replacing.put_rest.Goals as goal
 
 pub returns-then-is_empty-clause-grown : goal.returns-then-is_empty-clause-grown
 returns-then-is_empty-clause-grown g c m is earlier below chain =
