@@ -45,7 +45,7 @@ no_pages e h =
     (record { base = refl; primary = same_number e.primary 0 b.0; directory = same_number e.directory 0 c.0 }, same_number e.used 0 c.1)
 
 -- the case of what an entry is
-suits : Spec → Entry → Bool
+unfoldable pub suits : Spec → Entry → Bool
 suits s e = elim s [
   | Heap ↦ (e.base == 0) && is_one_chain e
   | Hash ↦ (e.base == 0) && is_one_chain e

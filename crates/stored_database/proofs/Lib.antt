@@ -18,6 +18,7 @@ pub mod Pieces
 pub mod PrintedColumns
 pub mod PrintedEntries
 pub mod PrintedParts
+pub mod PrintedStands
 pub mod PrintedTrees
 pub mod ReadSets
 pub mod Reading
