@@ -72,6 +72,11 @@ unfolding columns_from
 columns_of_file P file place [] it = tt
 columns_of_file P file place (a ∷ attrs) it = (it, columns_of_file P file (suc place) attrs it)
 
+-- where there are no attributes there is no column
+pub no_columns : (P : Column → Type 0) (file place : ℕ) → AllByRecursion P (columns_from file place [])
+unfolding columns_from
+no_columns P file place = tt
+
 -- ---- all columns
 
 module _ (f : Files) where
