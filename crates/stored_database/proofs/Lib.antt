@@ -18,8 +18,10 @@ pub mod Pieces
 pub mod PrintedColumns
 pub mod PrintedEntries
 pub mod PrintedParts
+pub mod PrintedRead
 pub mod PrintedStands
 pub mod PrintedTrees
+pub mod PrintedWhole
 pub mod ReadSets
 pub mod Reading
 pub mod Sets
