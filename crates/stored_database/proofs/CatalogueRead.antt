@@ -31,7 +31,7 @@ listed_set {A} read {cmp} order P holds pages xs h =
     let b = bind_some (each read (bytes_of (lying pages a.0))) (once cmp) xs a.2 in
     let o : IsOnce order b.0 xs = is_once order b.0 xs b.2 in (
       subst (IsStrictlySortedBy cmp) (sym o.set) (sorted_in_order order b.0),
-      all_of P xs (λ x at. (let r = read_of read (bytes_of (lying pages a.0)) b.0 x b.1 (o.from x at) in holds r.0 x r.2))
+      all_of P xs (λ x at. (let r = read_of read (bytes_of (lying pages a.0)) b.0 x b.1 (o.from x at) in holds r.0 x r.2)),
     )
 
 pub catalogues_are_read : CataloguesAreRead

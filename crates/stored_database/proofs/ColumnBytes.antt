@@ -39,6 +39,6 @@ column_again c h =
 pub columns_are_their_bytes : ColumnsAreTheirBytes
 unfolding column_of
 columns_are_their_bytes bytes c = (
-    strictly (column_in bytes) is_column column_bytes bytes c,
-    λ h. read_again (column_in bytes) is_column column_bytes bytes c (ap column_in h.1 ∙ column_again c h.0) h.0 h.1
+  strictly (column_in bytes) is_column column_bytes bytes c,
+  λ h. read_again (column_in bytes) is_column column_bytes bytes c (ap column_in h.1 ∙ column_again c h.0) h.0 h.1,
 )

@@ -55,7 +55,6 @@ not_true false h = refl
 
 module _ (files : ℕ → Pages) (cat : Catalogue) (db : database.Db) (s : Spells files cat db) (is_cat : IsCatalogue cat)
     (differ : differ_by same_key (map (λ i. i.key) (database.entries db)) ≡ true) where
-
   -- the columns of what is known of an entry
   known_columns : (e : Entry) (i : RelInfo) → IsIn e cat.entries → IsKnown cat e i → is_index e.spec ≡ false
       → columns_from ((files_in cat).file i.key) 0 i.attrs ≡ filter (λ c. c.file == e.file) cat.columns

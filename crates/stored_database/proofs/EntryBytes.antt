@@ -90,6 +90,6 @@ entry_again e h =
 pub entries_are_their_bytes : EntriesAreTheirBytes
 unfolding entry_of
 entries_are_their_bytes bytes e = (
-    strictly (entry_in bytes) is_entry entry_bytes bytes e,
-    λ h. read_again (entry_in bytes) is_entry entry_bytes bytes e (ap entry_in h.1 ∙ entry_again e h.0) h.0 h.1
+  strictly (entry_in bytes) is_entry entry_bytes bytes e,
+  λ h. read_again (entry_in bytes) is_entry entry_bytes bytes e (ap entry_in h.1 ∙ entry_again e h.0) h.0 h.1,
 )

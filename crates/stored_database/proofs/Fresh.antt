@@ -44,10 +44,10 @@ ends bound p is last = λ i. when (is i && may_follow bound 0 (last i)) (last i)
 
 one_page : (most bound : ℕ) (pages : Pages) → next_of bound 0 (pages 0) ≡ Some 0 → chain_from (suc most) bound pages 0 ≡ Some (0 ∷ [])
 one_page most bound pages h = ap (λ (o : Option ℕ). elim o [
-    | None ↦ None
-    | Some zero ↦ Some (0 ∷ [])
-    | Some (suc next) ↦ option_map (λ rest. 0 ∷ rest) (chain_from most bound pages (suc next))
-  ]) h
+  | None ↦ None
+  | Some zero ↦ Some (0 ∷ [])
+  | Some (suc next) ↦ option_map (λ rest. 0 ∷ rest) (chain_from most bound pages (suc next))
+]) h
 
 empty_chain : (pages : Pages) → next_of most_pages 0 (pages 0) ≡ Some 0 → chain most_pages pages ≡ Some (0 ∷ [])
 unfolding chain

@@ -18,6 +18,7 @@ pub mod Pieces
 pub mod PrintedColumns
 pub mod PrintedEntries
 pub mod PrintedParts
+pub mod PrintedStands
 pub mod PrintedTrees
 pub mod ReadSets
 pub mod Reading
@@ -26,4 +27,5 @@ pub mod SpelledParts
 pub mod SpelledTrees
 pub mod TreeBytes
 pub mod TreesAgain
+pub mod Tried
 pub mod WhatStands

@@ -167,6 +167,7 @@ pub read_apart : {A B : Type 0} (same : A → A → Bool) (alike : B → B → B
 read_apart same alike f keeps [] ys h apart = tt
 read_apart {A} {B} same alike f keeps (x ∷ xs) ys h apart =
     let p = each_parts f x xs ys h in
-    let a = subst (Apart alike) p.4 apart in
-    (all_of (λ z. same x z ≡ false) xs (λ z at. (let s = each_read f xs p.1 z p.3 at in sym (keeps x z p.0 s.0 p.2 s.2) ∙ of_all (λ y. alike p.0 y ≡ false) p.1 s.0 a.0 s.1)),
-      read_apart same alike f keeps xs p.1 p.3 a.1)
+    let a = subst (Apart alike) p.4 apart in (
+      all_of (λ z. same x z ≡ false) xs (λ z at. (let s = each_read f xs p.1 z p.3 at in sym (keeps x z p.0 s.0 p.2 s.2) ∙ of_all (λ y. alike p.0 y ≡ false) p.1 s.0 a.0 s.1)),
+      read_apart same alike f keeps xs p.1 p.3 a.1,
+    )

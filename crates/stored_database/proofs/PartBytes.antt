@@ -24,6 +24,6 @@ part_again p h =
 pub parts_are_their_bytes : PartsAreTheirBytes
 unfolding part_of
 parts_are_their_bytes bytes p = (
-    strictly (Some (part_in bytes)) is_part part_bytes bytes p,
-    λ h. read_again (Some (part_in bytes)) is_part part_bytes bytes p (ap Some (ap part_in h.1 ∙ part_again p h.0)) h.0 h.1
+  strictly (Some (part_in bytes)) is_part part_bytes bytes p,
+  λ h. read_again (Some (part_in bytes)) is_part part_bytes bytes p (ap Some (ap part_in h.1 ∙ part_again p h.0)) h.0 h.1,
 )

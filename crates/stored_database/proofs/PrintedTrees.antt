@@ -120,7 +120,7 @@ module _ (f : Files) (db : Db) (differ : differ_by nat_eq (map (λ i. f.file i.k
       let r = relation_under db k here in
       let s = relation_under db l there in
       let one : r.relation ≡ s.relation = apart_same (λ (r s : Relation). f.file s.info.key == f.file r.info.key) (λ r s e. equal_turned (f.file r.info.key) (f.file s.info.key) ∙ e) db.relations r.relation s.relation
-        (pairs_apart (λ (r s : Relation). f.file s.info.key == f.file r.info.key) db.relations by_relation) r.there s.there ((λ i. f.file (s.its i) == f.file (r.its i)) ∙ same) in
+      (pairs_apart (λ (r s : Relation). f.file s.info.key == f.file r.info.key) db.relations by_relation) r.there s.there ((λ i. f.file (s.its i) == f.file (r.its i)) ∙ same) in
       sym r.its ∙ ap (λ (r : Relation). r.info.key) one ∙ s.its
     where
       by_relation : Pairs (λ (r s : Relation). (f.file s.info.key == f.file r.info.key) ≡ false) db.relations
@@ -168,8 +168,8 @@ module _ (f : Files) (db : Db) (differ : differ_by nat_eq (map (λ i. f.file i.k
         (pairs_map R (permit_tree f) db.permits (numbered_differ of_permit (λ p. p.number) (tree_bytes spellings.permit) db.permits permits_ascend permits_there))
         (all_map (λ t. AllByRecursion (R t) (map (permit_tree f) db.permits)) (rule_tree f) db.rules (all_of _ db.rules (λ r. all_map (R (rule_tree f r)) (permit_tree f) db.permits (all_of _ db.permits (λ p. off _))))))
         (all_map (λ t. AllByRecursion (R t) (map (rule_tree f) db.rules ++ map (permit_tree f) db.permits)) (view_tree f) db.views (all_of _ db.views (λ v.
-          all_append (R (view_tree f v)) (map (rule_tree f) db.rules) (map (permit_tree f) db.permits)
-          (all_map (R (view_tree f v)) (rule_tree f) db.rules (all_of _ db.rules (λ p. off _))) (all_map (R (view_tree f v)) (permit_tree f) db.permits (all_of _ db.permits (λ p. off _))))))
+        all_append (R (view_tree f v)) (map (rule_tree f) db.rules) (map (permit_tree f) db.permits)
+        (all_map (R (view_tree f v)) (rule_tree f) db.rules (all_of _ db.rules (λ p. off _))) (all_map (R (view_tree f v)) (permit_tree f) db.permits (all_of _ db.permits (λ p. off _))))))
       where
         R : Tree → Tree → Type 0
         R t u = same_tree t u ≡ false

@@ -82,6 +82,7 @@ module _ {A : Type 0} {cmp : A → A → Ordering} (order : IsTotalOrder cmp) wh
     where
       below : cmp x y ≡ Less → AllByRecursion (λ z. cmp x z ≡ Less) ys
       below e = all_of (λ z. cmp x z ≡ Less) ys (λ z at. order.trans x y z e (of_all (λ z. cmp y z ≡ Less) ys z up.0 at))
+
       go : (o : Ordering) → cmp x y ≡ o → IsStrictlySortedBy cmp (insert_by cmp x ys) → IsStrictlySortedBy cmp (insert_as o x y ys (insert_by cmp x ys))
       go Less e later = ((e, below e), up)
       go Equal e later = (all_of (λ z. cmp x z ≡ Less) ys (λ z at. order.congr x y z e ∙ of_all (λ z. cmp y z ≡ Less) ys z up.0 at), up.1)
@@ -125,9 +126,11 @@ module _ {A : Type 0} {cmp : A → A → Ordering} (order : IsTotalOrder cmp) wh
       heads (inl e) k = e
       heads (inr at) (inl e) = sym e
       heads (inr at) (inr bt) = absurd (not_both x y (of_all (λ z. cmp x z ≡ Less) xs y up.0 bt) (of_all (λ z. cmp y z ≡ Less) ys x vp.0 at))
+
       there : x ≡ y → (z : A) → IsIn z xs → IsIn z (y ∷ ys) → IsIn z ys
       there first z at (inl e) = absurd (not_itself x z (of_all (λ z. cmp x z ≡ Less) xs z up.0 at) (first ∙ sym e))
       there first z at (inr k) = k
+
       back : x ≡ y → (z : A) → IsIn z ys → IsIn z (x ∷ xs) → IsIn z xs
       back first z at (inl e) = absurd (not_itself y z (of_all (λ z. cmp y z ≡ Less) ys z vp.0 at) (sym first ∙ sym e))
       back first z at (inr k) = k

@@ -38,7 +38,7 @@ unfolding tree_of reads_whole
 spelled_alone {A} codec exact bytes a =
     let c = codec most_tree_levels in (
       λ h. (let o = exact.only bytes a [] (all_read (c.read bytes) a h) in (o.0, o.1 ∙ append_none (c.write a))),
-      λ s. ap (λ r. given (whole r)) (ap c.read (s.1 ∙ sym (append_none (c.write a))) ∙ exact.again a [] s.0)
+      λ s. ap (λ r. given (whole r)) (ap c.read (s.1 ∙ sym (append_none (c.write a))) ∙ exact.again a [] s.0),
     )
 
 pub trees_are_their_bytes : TreesAreTheirBytes

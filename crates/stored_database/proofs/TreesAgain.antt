@@ -48,7 +48,6 @@ own_tree p file sort number e f g =
 
 module _ (files : ℕ → Pages) (cat : Catalogue) (db : database.Db) (s : Spells files cat db) (is_cat : IsCatalogue cat)
     (differ : differ_by same_key (map (λ i. i.key) (database.entries db)) ≡ true) where
-
   f : Files
   f = files_in cat
 
@@ -70,7 +69,6 @@ module _ (files : ℕ → Pages) (cat : Catalogue) (db : database.Db) (s : Spell
       (spelling : (bytes : List ℕ) (x : X) → tree_of codec bytes ≡ Some x → bytes ≡ tree_bytes codec x)
       (ys : List (RelKey × X)) (read : (q : Part) → IsIn q (firsts sort cat.parts) → (y : RelKey × X) × IsIn y ys × (numbered_of (tree_of codec) number cat q ≡ Some y))
       (read_of : (y : RelKey × X) → IsIn y ys → (q : Part) × IsIn q (firsts sort cat.parts) × (numbered_of (tree_of codec) number cat q ≡ Some y)) where
-
     -- the parts of the tree of a rule or a permit are those of its file and number
     one_again : (q : Part) (y : RelKey × X) → q.sort ≡ sort → numbered_of (tree_of codec) number cat q ≡ Some y → numbered_parts codec number sort (files_in cat) y ≡ filter (is_part_of q.file q.sort q.number) cat.parts
     one_again q y of h =

@@ -18,7 +18,7 @@ use Rattle.stored_database.specs.Catalogue.{Catalogue, IsCatalogue, catalogue_in
 use Rattle.stored_database.specs.Columns.{Column, column_of, column_bytes, is_column}
 use Rattle.stored_database.specs.Entries.{Entry, entry_of, entry_bytes, is_entry}
 use Rattle.stored_database.specs.Parts.{Part, part_of, part_bytes, is_part}
-use Rattle.stored_database.specs.Printed.{Files, HasFiles, files_in, printed}
+use Rattle.stored_database.specs.Printed.{Files, HasFiles, files_in, printed, trees_are_short}
 use Rattle.stored_database.specs.Spelled.{spelled}
 use Rattle.stored_database.specs.Standing.{StandsFor, standing, stored, IsFresh, empty_database}
 use Rattle.stored_database.specs.Trees.{query_of, rule_of, permit_of}
@@ -53,6 +53,10 @@ WhatIsReadIsPrinted = (dba : List ℕ) (files : ℕ → Pages) (cat : Catalogue)
 -- What is printed is read: the catalogue that a database has by files that it may have spells that database.
 abbrev pub WhatIsPrintedIsRead : Type 0
 WhatIsPrintedIsRead = (files : ℕ → Pages) (f : Files) (db : Db) → IsDatabase db → HasFiles db files f → spelled db.dba files (printed db f) ≡ Some db
+
+-- What is printed is a catalogue: each of its items has bytes, where no tree has too many parts.
+abbrev pub WhatIsPrintedIsACatalogue : Type 0
+WhatIsPrintedIsACatalogue = (files : ℕ → Pages) (f : Files) (db : Db) → IsDatabase db → HasFiles db files f → trees_are_short db f ≡ true → IsCatalogue (printed db f)
 
 -- what is read of files 5, 6 and 7 is a catalogue
 abbrev pub CataloguesAreRead : Type 0

@@ -1,11 +1,17 @@
 pub mod Catalogue
 pub mod Columns
+pub mod Damage
 pub mod Entries
 pub mod IsOne
 pub mod Laws
+pub mod LongView
 pub mod Names
 pub mod Parts
+pub mod Permits
 pub mod Printed
 pub mod Spelled
 pub mod Standing
 pub mod Trees
+pub mod Tried
+pub mod Turned
+pub mod TwoHeaps
