@@ -6,6 +6,7 @@ mod bytes;
 mod catalogues;
 mod deciding;
 mod examples;
+mod printing;
 mod standing;
 
 pub use bytes::{
@@ -18,6 +19,7 @@ pub use deciding::the_test_tells_a_database;
 pub use examples::{
     pages_stand_for_a_long_view, pages_stand_for_permits, pages_stand_for_two_heaps,
 };
+pub use printing::a_printed_catalogue_is_read;
 pub use standing::{
     fresh_pages_stand, one_database, only_kept_pages_count, same_redone, same_where_kept,
     shut_disks_hold, what_stands_is_a_database,
