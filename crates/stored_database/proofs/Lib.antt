@@ -3,6 +3,7 @@ pub mod ColumnBytes
 pub mod ColumnsAgain
 pub mod EntriesAgain
 pub mod EntryBytes
+pub mod Exactly
 pub mod FilesAgain
 pub mod Fresh
 pub mod Groups

@@ -21,6 +21,6 @@ pub use examples::{
 };
 pub use printing::a_printed_catalogue_is_read;
 pub use standing::{
-    fresh_pages_stand, one_database, only_kept_pages_count, same_redone, same_where_kept,
-    shut_disks_hold, what_stands_is_a_database,
+    fresh_pages_stand, headers_are_their_bytes, one_database, only_kept_pages_count,
+    pages_stand_exactly, same_redone, same_where_kept, shut_disks_hold, what_stands_is_a_database,
 };
