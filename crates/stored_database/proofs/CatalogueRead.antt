@@ -1,19 +1,19 @@
 -- What is read of files 5, 6 and 7 is a catalogue.
-use Rattle.std.proofs.Common.{◌≡◌, refl, sym, ap, subst, ◌∙◌, ℕ, true, List, Option, Some}
+use Rattle.std.proofs.Common.{◌≡◌, sym, subst, ℕ, true, List, Option, Some}
 use Rattle.std.proofs.lemmas.Option.{same_Some}
 use Rattle.std.specs.Cmp.{IsTotalOrder}
 use Rattle.std.specs.List.{AllByRecursion}
 use Rattle.std.specs.List.Sorted.{IsStrictlySortedBy}
 use Rattle.std.specs.declared.cmp.Ordering.{Ordering}
 use Rattle.page_chain.specs.Chains.{chain}
-use Rattle.page_chain.specs.Lists.{◌>>=◌, each, once}
+use Rattle.page_chain.specs.Lists.{each, once}
 use Rattle.page_chain.specs.Lying.{lying, bytes_of}
 use Rattle.page_chain.specs.Pages.{Pages}
-use Rattle.stored_database.specs.Catalogue.{Catalogue, IsCatalogue, listed, catalogue_in, most_pages}
-use Rattle.stored_database.specs.Columns.{Column, column_of, column_cmp, is_column}
-use Rattle.stored_database.specs.Entries.{Entry, entry_of, entry_cmp, is_entry}
+use Rattle.stored_database.specs.Catalogue.{IsCatalogue, listed, catalogue_in, most_pages}
+use Rattle.stored_database.specs.Columns.{column_of, column_cmp, is_column}
+use Rattle.stored_database.specs.Entries.{entry_of, entry_cmp, is_entry}
 use Rattle.stored_database.specs.Laws.{CataloguesAreRead}
-use Rattle.stored_database.specs.Parts.{Part, part_of, part_cmp, is_part}
+use Rattle.stored_database.specs.Parts.{part_of, part_cmp, is_part}
 use Rattle.stored_database.proofs.ColumnBytes.{columns_are_their_bytes}
 use Rattle.stored_database.proofs.EntryBytes.{entries_are_their_bytes}
 use Rattle.stored_database.proofs.Members.{all_of, read_of}

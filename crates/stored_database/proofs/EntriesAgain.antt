@@ -1,7 +1,5 @@
 -- The entries of a catalogue are those that its database has.
-use Rattle.std.proofs.Common.{◌≡◌, refl, sym, ap, subst, ◌∙◌, inl, inr, ℕ, ◌==◌, ◌&&◌, not, nat_le, Bool, true, false, List, [], ◌∷◌, ◌++◌, map, filter, find, Option, Some, None}
-use Rattle.std.specs.Prelude.{◌⊎◌}
-use Rattle.std.specs.List.{AllByRecursion}
+use Rattle.std.proofs.Common.{◌≡◌, refl, sym, ap, subst, ◌∙◌, inl, inr, ℕ, ◌==◌, ◌&&◌, not, nat_le, Bool, true, map, Some}
 use Rattle.calculus.specs.declared.schema.RelInfo.{RelInfo}
 use Rattle.calculus.specs.declared.schema.Spec.{Spec}
 use Rattle.calculus.specs.declared.schema.Spec.TheVariants.{Heap, Hash, Isam, View, Index}
@@ -13,9 +11,9 @@ use Rattle.page_chain.specs.Lists.{in_order}
 use Rattle.page_chain.specs.Pages.{Pages}
 use Rattle.stored_database.specs.Catalogue.{Catalogue, IsCatalogue}
 use Rattle.stored_database.specs.Entries.{Entry, entry_cmp, is_entry, suits_spec, has_no_pages, is_one_chain}
-use Rattle.stored_database.specs.Printed.{Files, files_in, relation_entry, view_entry, index_entry, entries_for}
-use Rattle.stored_database.specs.Spelled.{relation_of, view_of, index_of, entry_at}
-use Rattle.stored_database.proofs.EntryBytes.{Stands, stands}
+use Rattle.stored_database.specs.Printed.{files_in, relation_entry, view_entry, index_entry, entries_for}
+use Rattle.stored_database.specs.Spelled.{relation_of, view_of, index_of}
+use Rattle.stored_database.proofs.EntryBytes.{stands}
 use Rattle.stored_database.proofs.Infos.{which, file_is, used_is}
 use Rattle.stored_database.proofs.Members.{IsIn, of_all, in_filter, filter_in, in_map, map_in, in_first, in_second, in_either}
 use Rattle.stored_database.proofs.Orders.{entry_total}

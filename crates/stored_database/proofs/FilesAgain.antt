@@ -1,29 +1,28 @@
 -- The files that a catalogue says are files that its database may have.
-use Rattle.std.proofs.Common.{◌≡◌, refl, sym, ap, subst, ◌∙◌, inl, inr, ℕ, ◌&&◌, ◌||◌, not, nat_eq, nat_le, Bool, true, false, List, [], ◌∷◌, map, Option, Some}
+use Rattle.std.proofs.Common.{◌≡◌, refl, sym, ap, ◌∙◌, inl, inr, ℕ, ◌&&◌, ◌||◌, not, nat_eq, nat_le, Bool, true, false, List, [], ◌∷◌, map, Some}
 use Rattle.std.proofs.lemmas.Bool.Decides.{nat_tests}
 use Rattle.std.proofs.Common.{arith}
 use Rattle.std.specs.List.{AllByRecursion, list_all, list_any}
 use Rattle.std.specs.Ordering.{nat_cmp}
-use Rattle.std.specs.declared.cmp.Ordering.TheVariants.{Equal}
 use Rattle.std.proofs.lemmas.Cmp.{nat_cmp_total, tied_itself}
 use Rattle.calculus.specs.declared.schema.RelInfo.{RelInfo}
 use Rattle.calculus.specs.Database as database
 use Rattle.calculus.specs.Keys.{same_key}
 use Rattle.calculus.specs.Lists.{differ_by}
 use Rattle.calculus.specs.Structures.{is_structure}
-use Rattle.page_chain.specs.Lists.{◌>>=◌, each}
+use Rattle.page_chain.specs.Lists.{◌>>=◌}
 use Rattle.page_chain.specs.Pages.{Pages}
 use Rattle.page_chain.specs.Rows.{set_on, reader}
 use Rattle.stored_database.specs.Catalogue.{Catalogue, IsCatalogue}
-use Rattle.stored_database.specs.Entries.{Entry, entry_cmp, is_entry}
+use Rattle.stored_database.specs.Entries.{Entry}
 use Rattle.stored_database.specs.Laws.{WhatIsReadIsPrinted}
 use Rattle.stored_database.specs.Names.{is_number32}
-use Rattle.stored_database.specs.Printed.{Files, HasFiles, files_in, is_file, rows_in, printed}
-use Rattle.stored_database.specs.Spelled.{domain_of, relation_of}
+use Rattle.stored_database.specs.Printed.{HasFiles, files_in, is_file, rows_in, printed}
+use Rattle.stored_database.specs.Spelled.{relation_of}
 use Rattle.stored_database.proofs.ColumnsAgain.{all_columns_again}
 use Rattle.stored_database.proofs.EntriesAgain.{entries_again, entry_stands, some_pages}
 use Rattle.stored_database.proofs.EntryBytes.{stands}
-use Rattle.stored_database.proofs.Infos.{IsKnown, of_info, file_is, used_is}
+use Rattle.stored_database.proofs.Infos.{of_info, file_is, used_is}
 use Rattle.stored_database.proofs.Members.{IsIn, tests_of, all_of, filter_in}
 use Rattle.stored_database.proofs.Orders.{entry_total, same_key_itself}
 use Rattle.stored_database.proofs.Reading.{both, together}

@@ -1,18 +1,16 @@
 -- Fresh pages stand for an empty database.
-use Rattle.std.proofs.Common.{◌≡◌, refl, sym, ap, ◌∙◌, ℕ, suc, ◌==◌, ◌&&◌, Bool, true, List, [], ◌∷◌, ◌++◌, take, drop, Option, Some, None, option_map}
-use Rattle.std.specs.Prelude.{bytes_eq, zero, codes}
+use Rattle.std.proofs.Common.{◌≡◌, refl, sym, ap, ◌∙◌, ℕ, suc, ◌==◌, ◌&&◌, true, List, [], ◌∷◌, ◌++◌, take, drop, Option, Some, None, option_map}
+use Rattle.std.specs.Prelude.{bytes_eq, zero}
 use Rattle.std.specs.declared.cmp.Ordering.{Ordering}
 use Rattle.std.proofs.lemmas.List.{take-append-drop}
 use Rattle.std.proofs.lemmas.Slice.Eq.{bytes_eq-Decides}
-use Rattle.byteorder.specs.Endian.{little_bytes}
 use Rattle.calculus.specs.Name.{is_name}
 use Rattle.disk_model.specs.Disk.{Image}
-use Rattle.batch_file.specs.Layout.{addr}
 use Rattle.page_cells.specs.Page.{next_page}
 use Rattle.page_chain.specs.Chains.{chain, chain_from}
 use Rattle.page_chain.specs.Lists.{◌>>=◌, when, check, each, once}
 use Rattle.page_chain.specs.Lying.{Lying, lying, lying_on, bytes_of}
-use Rattle.page_chain.specs.Pages.{Pages, pages_of, page_at, is_page, may_follow, next_of}
+use Rattle.page_chain.specs.Pages.{Pages, pages_of, is_page, may_follow, next_of}
 use Rattle.stored_database.specs.Catalogue.{Catalogue, listed, catalogue_in, most_pages}
 use Rattle.stored_database.specs.Columns.{column_of, column_cmp}
 use Rattle.stored_database.specs.Entries.{entry_of, entry_cmp}

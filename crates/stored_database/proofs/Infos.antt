@@ -1,10 +1,8 @@
 -- The entries of a catalogue and what a database knows of its relations, views and indexes.
-use Rattle.std.proofs.Common.{◌≡◌, refl, sym, ap, subst, ◌∙◌, inl, inr, ℕ, ◌==◌, ◌&&◌, ◌||◌, not, Bool, true, false, List, [], ◌∷◌, ◌++◌, map, filter, find, Option, Some, None}
+use Rattle.std.proofs.Common.{◌≡◌, refl, sym, ap, subst, ◌∙◌, inl, inr, ℕ, ◌||◌, not, Bool, true, false, List, [], ◌∷◌, map, Option, Some, None}
 use Rattle.std.specs.Prelude.{◌⊎◌}
 use Rattle.std.specs.List.{AllByRecursion, list_any}
 use Rattle.std.specs.Ordering.{is_eq}
-use Rattle.calculus.specs.declared.query.RelKey.{RelKey}
-use Rattle.calculus.specs.declared.schema.Attr.{Attr}
 use Rattle.calculus.specs.declared.schema.RelInfo.{RelInfo}
 use Rattle.calculus.specs.declared.schema.Spec.{Spec}
 use Rattle.calculus.specs.declared.schema.Spec.TheVariants.{Heap, Hash, Isam, View, Index}
@@ -15,13 +13,12 @@ use Rattle.calculus.specs.Structures.{is_structure, is_view, is_index}
 use Rattle.page_chain.specs.Pages.{Pages}
 use Rattle.stored_database.specs.Catalogue.{Catalogue}
 use Rattle.stored_database.specs.Entries.{Entry}
-use Rattle.stored_database.specs.Printed.{Files, entry_under, files_in}
-use Rattle.stored_database.specs.Spelled.{attrs_of, info_of, entries_that, relation_of, view_of, index_of}
-use Rattle.stored_database.proofs.Members.{IsIn, Apart, of_all, all_of, apart_same, in_filter, filter_in, in_map, map_in, in_first, in_second, in_either, in_found, found_in}
-use Rattle.stored_database.proofs.Orders.{key_exact, same_key_is, same_key_itself, same_key_turned}
-use Rattle.stored_database.proofs.ReadSets.{IsRead}
+use Rattle.stored_database.specs.Printed.{entry_under, files_in}
+use Rattle.stored_database.specs.Spelled.{attrs_of, entries_that, relation_of, view_of, index_of}
+use Rattle.stored_database.proofs.Members.{IsIn, Apart, apart_same, in_filter, filter_in, in_map, map_in, in_first, in_second, in_either, in_found}
+use Rattle.stored_database.proofs.Orders.{key_exact, same_key_itself, same_key_turned}
 use Rattle.stored_database.proofs.Reading.{both}
-use Rattle.stored_database.proofs.SpelledParts.{Spells, OfRelation, OfView, OfIndex, relation_parts, view_parts, index_parts}
+use Rattle.stored_database.proofs.SpelledParts.{Spells, relation_parts, view_parts, index_parts}
 
 -- This is known of the entry: it has the entry's key, structure and keys; where it is no index its attributes are those of the file, and else there are none.
 pub record IsKnown (cat : Catalogue) (e : Entry) (i : RelInfo) : Type 0 where

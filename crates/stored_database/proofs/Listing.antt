@@ -1,5 +1,5 @@
 -- A file lists items exactly where its rows are their bytes, in any order.
-use Rattle.std.proofs.Common.{◌≡◌, refl, sym, ap, ap₂, subst, ◌∙◌, inl, inr, ℕ, suc, ◌==◌, Bool, true, false, List, [], ◌∷◌, map, length, Option, Some, option_map, arith}
+use Rattle.std.proofs.Common.{◌≡◌, refl, sym, ap, ap₂, subst, ◌∙◌, inl, inr, ℕ, suc, ◌==◌, Bool, true, false, List, [], ◌∷◌, map, length, Option, Some, option_map}
 use Rattle.std.specs.Prelude.{◌↔◌}
 use Rattle.std.proofs.lemmas.Option.{same_Some}
 use Rattle.std.proofs.lemmas.List.Elements.{All-from_recursion, recursion_from_All}
@@ -15,17 +15,17 @@ use Rattle.page_chain.specs.Chains.{chain}
 use Rattle.page_chain.specs.Lists.{◌>>=◌, when, each, in_order, once}
 use Rattle.page_chain.specs.Lying.{lying, bytes_of}
 use Rattle.page_chain.specs.Pages.{Pages}
-use Rattle.stored_database.specs.Catalogue.{Lists, HasRows, listed, most_pages}
-use Rattle.stored_database.specs.Columns.{column_cmp, column_of, column_bytes, is_column}
-use Rattle.stored_database.specs.Entries.{entry_cmp, entry_of, entry_bytes, is_entry}
+use Rattle.stored_database.specs.Catalogue.{Lists, listed, most_pages}
+use Rattle.stored_database.specs.Columns.{column_of, column_bytes, is_column}
+use Rattle.stored_database.specs.Entries.{entry_of, entry_bytes, is_entry}
 use Rattle.stored_database.specs.Laws.{WhatIsListed}
-use Rattle.stored_database.specs.Parts.{part_cmp, part_of, part_bytes, is_part}
+use Rattle.stored_database.specs.Parts.{part_of, part_bytes, is_part}
 use Rattle.stored_database.proofs.ColumnBytes.{columns_are_their_bytes}
 use Rattle.stored_database.proofs.EntryBytes.{entries_are_their_bytes}
 use Rattle.stored_database.proofs.Members.{IsIn, all_of, of_all, in_map, map_in, read_of, Apart, each_parts}
 use Rattle.stored_database.proofs.Orders.{entry_total, column_total, part_total}
 use Rattle.stored_database.proofs.PartBytes.{parts_are_their_bytes}
-use Rattle.stored_database.proofs.Reading.{bind_some, same_number, number_itself, together}
+use Rattle.stored_database.proofs.Reading.{bind_some, number_itself}
 use Rattle.stored_database.proofs.Sets.{IsOnce, is_once, sorted_in_order, insert_as, insert_cons, set_is, in_order_in}
 
 -- ---- items in another order
@@ -59,7 +59,6 @@ in_order_moved {A} cmp (x ∷ xs) apart =
 
 module _ {A : Type 0} {cmp : A → A → Ordering} (order : IsTotalOrder cmp) (test : A → Bool) (spell : A → List ℕ) (read : List ℕ → Option A)
     (one : (bytes : List ℕ) (a : A) → (read bytes ≡ Some a) ↔ ((test a ≡ true) × (bytes ≡ spell a))) where
-
   -- rows that are read are the bytes of what is read
   bytes_again : (rows : List (List ℕ)) (xs : List A) → each read rows ≡ Some xs → map spell xs ≡ rows
   bytes_again [] xs h = ap (map spell) (sym (same_Some [] xs h))
@@ -80,7 +79,7 @@ module _ {A : Type 0} {cmp : A → A → Ordering} (order : IsTotalOrder cmp) (t
           numbers = a.0;
           chain = a.1;
           rows = subst (λ rows. IsPermutation rows (map spell xs)) (bytes_again (bytes_of (lying pages a.0)) b.0 b.1)
-            (IsPermutation-map spell b.0 xs (subst (IsPermutation b.0) (sym o.set) (in_order_moved cmp b.0 o.apart)));
+              (IsPermutation-map spell b.0 xs (subst (IsPermutation b.0) (sym o.set) (in_order_moved cmp b.0 o.apart)));
         };
       }
 
@@ -103,7 +102,7 @@ module _ {A : Type 0} {cmp : A → A → Ordering} (order : IsTotalOrder cmp) (t
       let es = e.0 in
       let again = bytes_again rows es e.1 in
       let is : xs ≡ in_order cmp es = set_is order xs es l.ascends (λ z at. to es again (λ x k. (read_of read rows es x e.1 k)) z at) (λ z at. (let r = read_of read rows es z e.1 at in
-        let x = item r.0 r.1 in subst (λ z. IsIn z xs) (same_Some x.0 z (sym x.2 ∙ r.2)) x.1)) in
+      let x = item r.0 r.1 in subst (λ z. IsIn z xs) (same_Some x.0 z (sym x.2 ∙ r.2)) x.1)) in
       let long : length (in_order cmp es) ≡ length es = ap length (sym is) ∙ sym (length_map spell xs) ∙ length_permutation rows (map spell xs) l.has.rows ∙ sym (ap length again) ∙ length_map spell es in
       let passes : (length (in_order cmp es) == length es) ≡ true = ap (λ n. n == length es) long ∙ number_itself (length es) in
       ap (λ o. o >>= (λ numbers. each read (bytes_of (lying pages numbers)) >>= once cmp)) l.has.chain
@@ -112,10 +111,12 @@ module _ {A : Type 0} {cmp : A → A → Ordering} (order : IsTotalOrder cmp) (t
     where
       rows : List (List ℕ)
       rows = bytes_of (lying pages l.has.numbers)
+
       item : (row : List ℕ) → IsIn row rows → (x : A) × IsIn x xs × (read row ≡ Some x)
       item row at =
           let m = map_in spell xs row (in_moved rows (map spell xs) row l.has.rows at) in
           (m.0, m.1, (one row m.0).1 (of_all (λ x. test x ≡ true) xs m.0 l.stand m.1, m.2))
+
       to : (es : List A) → map spell es ≡ rows → ((x : A) → IsIn x es → (row : List ℕ) × IsIn row rows × (read row ≡ Some x)) → (z : A) → IsIn z xs → IsIn z es
       to es again back z at =
           let there = in_moved (map spell xs) rows (spell z) (IsPermutation-sym rows (map spell xs) l.has.rows) (in_map spell xs z at) in

@@ -1,10 +1,10 @@
 -- What is in lists that are joined, mapped, filtered and read.
-use Rattle.std.proofs.Common.{◌≡◌, refl, sym, ap, subst, ◌∙◌, inl, inr, Bool, true, false, cond, ◌&&◌, ◌||◌, not, List, [], ◌∷◌, ◌++◌, map, filter, find, Option, Some, None, option_map}
+use Rattle.std.proofs.Common.{◌≡◌, refl, sym, ap, subst, ◌∙◌, inl, inr, Bool, true, false, cond, List, [], ◌∷◌, ◌++◌, map, filter, find, Option, Some, None, option_map}
 use Rattle.std.specs.Prelude.{◌⊎◌}
-use Rattle.std.specs.List.{AllByRecursion, list_all, list_any, flat_map}
+use Rattle.std.specs.List.{AllByRecursion, list_all, flat_map}
 use Rattle.std.proofs.lemmas.Option.{same_Some}
 use Rattle.page_chain.specs.Lists.{◌>>=◌, each}
-use Rattle.stored_database.proofs.Reading.{both, together, bind_some}
+use Rattle.stored_database.proofs.Reading.{both, together}
 
 -- the item is one of these
 abbrev pub IsIn : {A : Type 0} → A → List A → Type 0

@@ -1,9 +1,7 @@
 -- Parts of trees and their bytes.
-use Rattle.std.proofs.Common.{◌≡◌, refl, ap, ◌∙◌, ℕ, ◌&&◌, nat_le, nat_lt, Bool, true, List, [], ◌∷◌, ◌++◌, drop, slice_index, Option, Some}
-use Rattle.byteorder.specs.Endian.{little_bytes, little_from}
-use Rattle.page_chain.specs.Lists.{◌>>=◌, when}
+use Rattle.std.proofs.Common.{◌≡◌, ap, ◌∙◌, nat_le, true, [], Some}
 use Rattle.stored_database.specs.Laws.{PartsAreTheirBytes}
-use Rattle.stored_database.specs.Names.{is_number32, bytes32}
+use Rattle.stored_database.specs.Names.{is_number32}
 use Rattle.stored_database.specs.Parts.{Part, of_permit, is_part, part_bytes, part_in, part_of}
 use Rattle.stored_database.proofs.Reading.{both, strictly, read_again, number_again, number16_again}
 

@@ -1,8 +1,8 @@
 -- What is printed is a catalogue.
-use Rattle.std.proofs.Common.{◌≡◌, refl, sym, ap, subst, ◌∙◌, inl, inr, ℕ, suc, ◌+◌, ◌<◌, ◌≤◌, ◌&&◌, not, nat_le, nat_lt, Bool, true, false, List, [], ◌∷◌, ◌++◌, map, length, find, Option, Some, None, is_some, option_map, arith}
+use Rattle.std.proofs.Common.{◌≡◌, refl, sym, ap, subst, ◌∙◌, inl, inr, ℕ, suc, ◌+◌, ◌<◌, ◌&&◌, not, nat_le, nat_lt, true, false, List, [], ◌∷◌, map, length, Option, Some, None, is_some, option_map, arith}
 use Rattle.std.specs.Prelude.{◌⊎◌}
 use Rattle.std.proofs.lemmas.Bool.Decides.{nat_tests}
-use Rattle.std.specs.List.{AllByRecursion, list_all, flat_map}
+use Rattle.std.specs.List.{list_all, flat_map}
 use Rattle.calculus.specs.declared.query.RelKey.{RelKey}
 use Rattle.calculus.specs.declared.schema.Attr.{Attr}
 use Rattle.calculus.specs.declared.schema.Permit.{Permit}
@@ -17,14 +17,13 @@ use Rattle.calculus.specs.Keys.{same_key}
 use Rattle.calculus.specs.Limits.{greatest_number, most_attributes, most_keys}
 use Rattle.calculus.specs.Lists.{is_any, differ_by}
 use Rattle.calculus.specs.Name.{is_name}
-use Rattle.calculus.specs.Stored.{attrs_at, attrs_in, range_at, info_at, range_info, Range, Kept, Viewed}
+use Rattle.calculus.specs.Stored.{attrs_at, attrs_in, range_at, info_at, range_info, Kept, Viewed}
 use Rattle.calculus.specs.Structures.{is_structure, is_view, is_index, is_keyed}
 use Rattle.page_chain.specs.Lists.{in_order}
 use Rattle.page_chain.specs.Pages.{Pages}
 use Rattle.quel_tree.specs.Permits as spellings
 use Rattle.quel_tree.specs.Queries as queries
-use Rattle.tree_words.specs.Codec.{Codec}
-use Rattle.stored_database.specs.Catalogue.{Catalogue, IsCatalogue}
+use Rattle.stored_database.specs.Catalogue.{IsCatalogue}
 use Rattle.stored_database.specs.Columns.{Column, column_cmp, is_column}
 use Rattle.stored_database.specs.Entries.{Entry, entry_cmp, is_entry, are_keys, suits_spec}
 use Rattle.stored_database.specs.Laws.{WhatIsPrintedIsACatalogue}
@@ -173,9 +172,9 @@ there db key h = go (database.relation_at db key) refl h
 attrs_there : (db : database.Db) (key : RelKey) (r : database.Relation) → database.relation_at db key ≡ Some r → attrs_at db key ≡ r.info.attrs
 unfolding range_at info_at
 attrs_there db key r h = ap (λ (o : Option database.Relation). attrs_in (option_map range_info (elim o [
-    | Some relation ↦ Some (Kept relation)
-    | None ↦ elim (database.view_at db key) [ Some view ↦ Some (Viewed view) | None ↦ option_map Kept (catalogue_at db key) ]
-  ]))) h
+  | Some relation ↦ Some (Kept relation)
+  | None ↦ elim (database.view_at db key) [ Some view ↦ Some (Viewed view) | None ↦ option_map Kept (catalogue_at db key) ]
+]))) h
 
 module _ (files : ℕ → Pages) (f : Files) (db : database.Db) (is_one : IsDatabase db) (has : HasFiles db files f) where
   in_relations : (r : database.Relation) → IsIn r db.relations → IsIn r.info (database.entries db)
@@ -272,17 +271,17 @@ module _ (files : ℕ → Pages) (f : Files) (db : database.Db) (is_one : IsData
   unfolding parts_for
   parts_stand p at place = elim (in_either (flat_map (view_parts f) db.views) _ p at) [
     | inl a ↦ (
-      let m = flat_map_in (view_parts f) db.views p a in
-      part_stands (f.file m.0.info.key) of_view 0 p (part_in (f.file m.0.info.key) of_view 0 0 (cut (tree_bytes queries.query m.0.query)) p m.2) (number_of m.0.info (in_views m.0 m.1)) refl refl place)
+        let m = flat_map_in (view_parts f) db.views p a in
+        part_stands (f.file m.0.info.key) of_view 0 p (part_in (f.file m.0.info.key) of_view 0 0 (cut (tree_bytes queries.query m.0.query)) p m.2) (number_of m.0.info (in_views m.0 m.1)) refl refl place)
     | inr b ↦ elim (in_either (flat_map (numbered_parts spellings.rule (λ r. r.number) of_rule f) db.rules) _ p b) [
       | inl a ↦ (
-        let m = flat_map_in (numbered_parts spellings.rule (λ r. r.number) of_rule f) db.rules p a in
-        part_stands (f.file m.0.0) of_rule m.0.1.number p (part_in (f.file m.0.0) of_rule m.0.1.number 0 (cut (tree_bytes spellings.rule m.0.1)) p m.2) (rule_file m.0 m.1) refl
-        (at_most_greatest m.0.1.number (of_tests (λ p. nat_le p.1.number greatest_number) db.rules m.0 is_one.small_rule_numbers m.1)) place)
+          let m = flat_map_in (numbered_parts spellings.rule (λ r. r.number) of_rule f) db.rules p a in
+          part_stands (f.file m.0.0) of_rule m.0.1.number p (part_in (f.file m.0.0) of_rule m.0.1.number 0 (cut (tree_bytes spellings.rule m.0.1)) p m.2) (rule_file m.0 m.1) refl
+          (at_most_greatest m.0.1.number (of_tests (λ p. nat_le p.1.number greatest_number) db.rules m.0 is_one.small_rule_numbers m.1)) place)
       | inr c ↦ (
-        let m = flat_map_in (numbered_parts spellings.permit (λ p. p.number) of_permit f) db.permits p c in
-        part_stands (f.file m.0.0) of_permit m.0.1.number p (part_in (f.file m.0.0) of_permit m.0.1.number 0 (cut (tree_bytes spellings.permit m.0.1)) p m.2) (permit_file m.0 m.1) refl
-        (at_most_greatest m.0.1.number (of_tests (λ p. nat_le p.1.number greatest_number) db.permits m.0 is_one.small_permit_numbers m.1)) place)
+          let m = flat_map_in (numbered_parts spellings.permit (λ p. p.number) of_permit f) db.permits p c in
+          part_stands (f.file m.0.0) of_permit m.0.1.number p (part_in (f.file m.0.0) of_permit m.0.1.number 0 (cut (tree_bytes spellings.permit m.0.1)) p m.2) (permit_file m.0 m.1) refl
+          (at_most_greatest m.0.1.number (of_tests (λ p. nat_le p.1.number greatest_number) db.permits m.0 is_one.small_permit_numbers m.1)) place)
     ]
   ]
 

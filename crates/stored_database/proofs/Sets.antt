@@ -1,16 +1,14 @@
 -- Sets as lists in their order.
-use Rattle.std.proofs.Common.{◌≡◌, refl, sym, ap, ap₂, subst, ◌∙◌, inl, inr, ℕ, suc, ◌≤◌, ◌==◌, Bool, true, false, List, [], ◌∷◌, length, Option, Some, None, arith}
-use Rattle.std.specs.Prelude.{◌⊎◌}
+use Rattle.std.proofs.Common.{◌≡◌, refl, sym, ap, ap₂, subst, ◌∙◌, inl, inr, suc, ◌≤◌, ◌==◌, false, List, [], ◌∷◌, length, Some, arith}
 use Rattle.std.specs.Cmp.{IsTotalOrder}
-use Rattle.std.proofs.lemmas.Cmp.{tied_back, tied_itself, alike_right}
-use Rattle.std.proofs.lemmas.Option.{same_Some}
+use Rattle.std.proofs.lemmas.Cmp.{tied_back, tied_itself}
 use Rattle.std.specs.List.{AllByRecursion}
 use Rattle.std.specs.List.Sorted.{IsStrictlySortedBy}
 use Rattle.std.specs.Ordering.{is_eq, ordering_reverse}
 use Rattle.std.specs.declared.cmp.Ordering.{Ordering}
 use Rattle.std.specs.declared.cmp.Ordering.TheVariants.{Less, Equal, Greater}
 use Rattle.calculus.specs.Lists.{insert_by}
-use Rattle.page_chain.specs.Lists.{when, in_order, once}
+use Rattle.page_chain.specs.Lists.{in_order, once}
 use Rattle.stored_database.proofs.Members.{IsIn, of_all, all_of, Apart}
 use Rattle.stored_database.proofs.Reading.{when_some, same_number}
 

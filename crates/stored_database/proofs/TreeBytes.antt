@@ -1,6 +1,6 @@
 -- Trees and their bytes.
-use Rattle.std.proofs.Common.{◌≡◌, refl, sym, ap, ◌∙◌, ℕ, List, [], ◌∷◌, ◌++◌, Option, Some, None}
-use Rattle.std.specs.Prelude.{◌↔◌, Result, Ok, Err}
+use Rattle.std.proofs.Common.{◌≡◌, refl, sym, ap, ◌∙◌, ℕ, List, [], ◌∷◌, ◌++◌, Some}
+use Rattle.std.specs.Prelude.{◌↔◌, Ok, Err}
 use Rattle.std.proofs.lemmas.Option.{same_Some}
 use Rattle.quel_tree.specs.Message.{IsSpelled, most_tree_levels}
 use Rattle.quel_tree.specs.MessageLaws.{one_of_them, two_of_them}
@@ -10,7 +10,6 @@ use Rattle.quel_tree.specs.Permits as spellings
 use Rattle.quel_tree.specs.Queries as queries
 use Rattle.tree_words.specs.Codec.{Codec, Reading}
 use Rattle.tree_words.specs.Exact.{Exact}
-use Rattle.tree_words.specs.Steps.{ok_value}
 use Rattle.tree_words.specs.Whole.{ended, whole, reads_whole}
 use Rattle.stored_database.specs.Laws.{TreesAreTheirBytes}
 use Rattle.stored_database.specs.Trees.{given, tree_of}

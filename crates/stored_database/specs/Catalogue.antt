@@ -3,11 +3,10 @@ use Rattle.std.specs.Prelude.{◌≡◌, Bool, true, ℕ, ◌^◌, List, map, Op
 use Rattle.std.specs.List.{AllByRecursion}
 use Rattle.std.specs.List.Sorted.{IsStrictlySortedBy, IsPermutation}
 use Rattle.std.specs.declared.cmp.Ordering.{Ordering}
-use Rattle.disk_model.specs.Disk.{Image}
 use Rattle.page_chain.specs.Chains.{chain}
 use Rattle.page_chain.specs.Lists.{◌>>=◌, each, once}
 use Rattle.page_chain.specs.Lying.{lying, bytes_of}
-use Rattle.page_chain.specs.Pages.{Pages, pages_of}
+use Rattle.page_chain.specs.Pages.{Pages}
 use Rattle.stored_database.specs.Entries.{Entry, entry_of, entry_cmp, is_entry}
 use Rattle.stored_database.specs.Columns.{Column, column_of, column_cmp, is_column}
 use Rattle.stored_database.specs.Parts.{Part, part_of, part_cmp, is_part}

@@ -1,7 +1,6 @@
 -- The catalogue that a database has, where its relations, views and indexes have these files.
-use Rattle.std.specs.Prelude.{◌≡◌, ℕ, zero, suc, ◌+◌, ◌==◌, ◌&&◌, nat_le, nat_lt, nat_eq, Bool, true, List, [], ◌∷◌, ◌++◌, map, find, Option, Some, None}
+use Rattle.std.specs.Prelude.{◌≡◌, ℕ, suc, ◌&&◌, nat_le, nat_lt, nat_eq, Bool, true, List, [], ◌∷◌, ◌++◌, map, find, Option, Some, None}
 use Rattle.std.specs.List.{AllByRecursion, list_all, flat_map}
-use Rattle.calculus.specs.declared.value.Domain.{Domain}
 use Rattle.calculus.specs.declared.query.RelKey.{RelKey}
 use Rattle.calculus.specs.declared.schema.Attr.{Attr}
 use Rattle.calculus.specs.declared.schema.RelInfo.{RelInfo}
