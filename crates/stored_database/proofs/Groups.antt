@@ -1,5 +1,5 @@
 -- Groups of items, told by a test of each group: all of them put in order, each group is found again by its test.
-use Rattle.std.proofs.Common.{◌≡◌, refl, sym, ap, ap₂, subst, ◌∙◌, true≢false, Bool, true, false, cond, List, [], ◌∷◌, ◌++◌, filter, find, Option, Some, None}
+use Rattle.std.proofs.Common.{◌≡◌, refl, sym, ap, ap₂, ◌∙◌, true≢false, Bool, true, false, cond, List, [], ◌∷◌, ◌++◌, filter, find, Some}
 use Rattle.std.specs.Cmp.{IsTotalOrder}
 use Rattle.std.specs.List.{AllByRecursion, flat_map}
 use Rattle.std.specs.List.Sorted.{IsStrictlySortedBy}

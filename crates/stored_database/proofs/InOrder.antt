@@ -1,5 +1,5 @@
 -- Lists that are put in their order: what of them stays the same.
-use Rattle.std.proofs.Common.{◌≡◌, refl, sym, ap, ap₂, subst, ◌∙◌, true≢false, ℕ, suc, ◌==◌, Bool, true, false, cond, List, [], ◌∷◌, ◌++◌, map, filter, length, Option, Some, None, option_map}
+use Rattle.std.proofs.Common.{◌≡◌, refl, sym, ap, ap₂, subst, ◌∙◌, true≢false, suc, ◌==◌, Bool, true, false, cond, List, [], ◌∷◌, map, filter, length, Option, Some, option_map}
 use Rattle.std.proofs.lemmas.Bool.{eq-eqb}
 use Rattle.std.proofs.lemmas.Cmp.{alike_right}
 use Rattle.std.specs.Cmp.{IsTotalOrder}
@@ -11,7 +11,7 @@ use Rattle.std.specs.declared.cmp.Ordering.{Ordering}
 use Rattle.std.specs.declared.cmp.Ordering.TheVariants.{Less, Equal, Greater}
 use Rattle.calculus.specs.Lists.{insert_by}
 use Rattle.page_chain.specs.Lists.{◌>>=◌, when, each, in_order, once}
-use Rattle.stored_database.proofs.Pairs.{Pairs, pairs_filter, all_filter, pairs_unmap}
+use Rattle.stored_database.proofs.Pairs.{Pairs, pairs_filter, pairs_unmap}
 
 -- ---- one item is put in its place
 

@@ -1,8 +1,7 @@
 -- Bytes that are cut into pieces, and the parts of a tree.
-use Rattle.std.proofs.Common.{◌≡◌, refl, sym, ap, ap₂, ◌∙◌, ℕ, zero, suc, ◌+◌, ◌-◌, ◌<◌, ◌≤◌, min, ◌==◌, ◌&&◌, Bool, true, false, cond, List, [], ◌∷◌, ◌++◌, map, filter, take, drop, length, Option, Some, None, arith, length-drop, length-take}
+use Rattle.std.proofs.Common.{◌≡◌, refl, ap, ap₂, ◌∙◌, ℕ, zero, suc, ◌<◌, ◌≤◌, ◌==◌, ◌&&◌, Bool, true, false, cond, List, [], ◌∷◌, ◌++◌, map, filter, take, drop, length, Some, arith, length-drop, length-take}
 use Rattle.std.specs.Prelude.{nat_le}
 use Rattle.std.proofs.lemmas.Bool.{and_from, le-leb, eq-eqb, ne_eqb}
-use Rattle.std.proofs.lemmas.Cmp.{nat_cmp_total, tied_itself}
 use Rattle.std.specs.List.{AllByRecursion, concat}
 use Rattle.std.specs.List.Sorted.{IsStrictlySortedBy}
 use Rattle.std.specs.Ordering.{nat_cmp}
@@ -10,7 +9,7 @@ use Rattle.std.specs.declared.cmp.Ordering.TheVariants.{Less}
 use Rattle.page_chain.specs.Lists.{when, are_from}
 use Rattle.stored_database.specs.Parts.{Part, part_cmp}
 use Rattle.stored_database.specs.Trees.{most_part_bytes, are_cut, is_part_of, joined, pieces, cut, parts_from}
-use Rattle.stored_database.proofs.Groups.{append_nil, filter_fail}
+use Rattle.stored_database.proofs.Groups.{filter_fail}
 use Rattle.stored_database.proofs.PrintedColumns.{then_less}
 use Rattle.stored_database.proofs.PrintedEntries.{nat_less}
 use Rattle.stored_database.proofs.Reading.{number_itself}

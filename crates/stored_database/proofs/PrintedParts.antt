@@ -1,15 +1,11 @@
 -- The parts of a printed catalogue: which of them are the first of rules and of permits.
-use Rattle.std.proofs.Common.{◌≡◌, refl, sym, ap, ap₂, ◌∙◌, ℕ, ◌<◌, ◌==◌, ◌&&◌, Bool, true, false, List, [], ◌∷◌, ◌++◌, map, filter, length}
+use Rattle.std.proofs.Common.{◌≡◌, refl, ap, ap₂, ◌∙◌, ℕ, ◌<◌, ◌==◌, ◌&&◌, Bool, false, List, [], ◌∷◌, ◌++◌, map, filter, length}
 use Rattle.std.specs.List.{AllByRecursion, flat_map}
-use Rattle.calculus.specs.declared.query.RelKey.{RelKey}
-use Rattle.calculus.specs.declared.schema.Permit.{Permit}
-use Rattle.calculus.specs.declared.schema.Rule.{Rule}
-use Rattle.calculus.specs.Database.{Db, View}
+use Rattle.calculus.specs.Database.{Db}
 use Rattle.quel_tree.specs.Permits as spellings
-use Rattle.quel_tree.specs.Queries as queries
 use Rattle.stored_database.specs.Parts.{Part, of_view, of_rule, of_permit}
 use Rattle.stored_database.specs.Printed.{Files, parts_for}
-use Rattle.stored_database.specs.Trees.{tree_bytes, firsts}
+use Rattle.stored_database.specs.Trees.{tree_bytes}
 use Rattle.stored_database.proofs.Pairs.{all_of}
 use Rattle.stored_database.proofs.Groups.{append_nil, filter_append, filter_flat}
 use Rattle.stored_database.proofs.Pieces.{first_of, its_first, no_first}

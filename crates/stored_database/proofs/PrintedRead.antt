@@ -1,35 +1,29 @@
 -- What is printed is read again: each relation, index, view, rule and permit, and so the database.
-use Rattle.std.proofs.Common.{◌≡◌, refl, sym, ap, ap₂, subst, ◌∙◌, true≢false, ℕ, ◌<◌, ◌==◌, ◌&&◌, not, Bool, true, false, List, [], ◌∷◌, ◌++◌, map, filter, length, Option, Some, None}
-use Rattle.std.specs.Prelude.{is_some}
-use Rattle.std.proofs.lemmas.Bool.{and_parts, and_from}
+use Rattle.std.proofs.Common.{◌≡◌, refl, sym, ap, ap₂, ◌∙◌, true≢false, ℕ, ◌&&◌, not, Bool, true, false, List, [], ◌∷◌, ◌++◌, map, filter, Option, Some, None}
+use Rattle.std.proofs.lemmas.Bool.{and_parts}
 use Rattle.std.proofs.lemmas.Cmp.{on_total}
-use Rattle.std.specs.Cmp.{IsTotalOrder}
-use Rattle.std.specs.List.{AllByRecursion, list_all}
+use Rattle.std.specs.List.{AllByRecursion}
 use Rattle.std.specs.List.Sorted.{IsStrictlySortedBy}
 use Rattle.std.specs.declared.cmp.Ordering.{Ordering}
 use Rattle.std.specs.declared.cmp.Ordering.TheVariants.{Less}
-use Rattle.calculus.specs.declared.query.RelKey.{RelKey}
 use Rattle.calculus.specs.declared.schema.Attr.{Attr}
-use Rattle.calculus.specs.declared.schema.Permit.{Permit}
 use Rattle.calculus.specs.declared.schema.RelInfo.{RelInfo}
-use Rattle.calculus.specs.declared.schema.Rule.{Rule}
 use Rattle.calculus.specs.declared.schema.Spec.{Spec}
 use Rattle.calculus.specs.declared.schema.Spec.TheVariants.{Heap, Hash, Isam, View, Index}
 use Rattle.calculus.specs.Database as database
-use Rattle.calculus.specs.IsDatabase.{IsDatabase, structure_stands, view_info_stands, index_stands, keys_stand, row_qual_stands, permit_stands}
-use Rattle.calculus.specs.Keys.{key_cmp, numbered_cmp}
+use Rattle.calculus.specs.IsDatabase.{IsDatabase, structure_stands, view_info_stands, index_stands, keys_stand}
+use Rattle.calculus.specs.Keys.{key_cmp}
 use Rattle.calculus.specs.Lists.{is_any}
 use Rattle.calculus.specs.Stored.{attrs_at}
 use Rattle.calculus.specs.Structures.{is_structure, is_keyed, is_view, is_index}
-use Rattle.page_chain.specs.Lists.{◌>>=◌, when, each}
+use Rattle.page_chain.specs.Lists.{◌>>=◌, each}
 use Rattle.page_chain.specs.Pages.{Pages}
 use Rattle.page_chain.specs.Rows.{set_on, reader}
-use Rattle.stored_database.specs.Catalogue.{Catalogue}
-use Rattle.stored_database.specs.Entries.{Entry, entry_cmp}
+use Rattle.stored_database.specs.Entries.{Entry}
 use Rattle.stored_database.specs.Printed.{Files, HasFiles, relation_entry, view_entry, index_entry, entries_for, printed, rows_in}
 use Rattle.stored_database.specs.Spelled.{attrs_of, domain_of, entry_at, info_of, relation_of, relations_of, index_of, indexes_of}
 use Rattle.stored_database.proofs.Members.{of_all}
-use Rattle.stored_database.proofs.Pairs.{all_front, all_behind, all_map, all_unmap, pass_all}
+use Rattle.stored_database.proofs.Pairs.{all_front, all_map, all_unmap, pass_all}
 use Rattle.stored_database.proofs.InOrder.{read_again}
 use Rattle.stored_database.proofs.Groups.{append_nil, filter_append, filter_pass, filter_fail}
 use Rattle.stored_database.proofs.Orders.{entry_total, key_total}

@@ -1,9 +1,9 @@
 -- What is printed is read again: views, rules and permits, and with them the whole database.
-use Rattle.std.proofs.Common.{◌≡◌, refl, sym, ap, ap₂, subst, ◌∙◌, true≢false, ℕ, ◌<◌, ◌==◌, ◌&&◌, not, Bool, true, false, List, [], ◌∷◌, ◌++◌, map, filter, length, Option, Some, None}
+use Rattle.std.proofs.Common.{◌≡◌, sym, ap, ap₂, subst, ◌∙◌, ℕ, ◌<◌, ◌==◌, ◌&&◌, not, Bool, true, false, List, [], ◌∷◌, ◌++◌, map, filter, length, Option, Some, None}
 use Rattle.std.specs.Prelude.{is_some}
 use Rattle.std.proofs.lemmas.Bool.{and_parts, and_from}
 use Rattle.std.proofs.lemmas.Cmp.{on_total}
-use Rattle.std.specs.List.{AllByRecursion, list_all, flat_map}
+use Rattle.std.specs.List.{AllByRecursion, list_all}
 use Rattle.calculus.specs.declared.query.RelKey.{RelKey}
 use Rattle.calculus.specs.declared.schema.Permit.{Permit}
 use Rattle.calculus.specs.declared.schema.RelInfo.{RelInfo}
@@ -11,7 +11,7 @@ use Rattle.calculus.specs.declared.schema.Rule.{Rule}
 use Rattle.calculus.specs.declared.schema.Spec.{Spec}
 use Rattle.calculus.specs.Database as database
 use Rattle.calculus.specs.IsDatabase.{IsDatabase, row_qual_stands, permit_stands}
-use Rattle.calculus.specs.Keys.{key_cmp, numbered_cmp}
+use Rattle.calculus.specs.Keys.{key_cmp}
 use Rattle.calculus.specs.Structures.{is_structure, is_view, is_index}
 use Rattle.page_chain.specs.Lists.{◌>>=◌, when, check, in_order}
 use Rattle.page_chain.specs.Pages.{Pages}
@@ -26,7 +26,7 @@ use Rattle.stored_database.specs.Printed.{Files, HasFiles, relation_entry, view_
 use Rattle.stored_database.specs.Spelled.{attrs_of, entry_at, entry_is, info_of, view_of, views_of, numbered_of, rules_of, permits_of, columns_stand, part_stands, parts_stand, spelled}
 use Rattle.stored_database.specs.Trees.{tree_bytes, query_of, rule_of, permit_of, tree_at, parts_are_whole, cut}
 use Rattle.stored_database.proofs.Members.{of_all}
-use Rattle.stored_database.proofs.Pairs.{all_front, all_behind, all_map, all_unmap, all_append, all_flat, all_both, all_then, all_of, all_pass, pass_all}
+use Rattle.stored_database.proofs.Pairs.{all_front, all_behind, all_map, all_unmap, all_append, all_flat, all_then, all_of, all_pass, pass_all}
 use Rattle.stored_database.proofs.InOrder.{all_in_order, read_again}
 use Rattle.stored_database.proofs.Groups.{append_nil}
 use Rattle.stored_database.proofs.Orders.{entry_total, key_total, part_total, numbered_total}
@@ -35,7 +35,7 @@ use Rattle.stored_database.proofs.PrintedColumns.{attrs_at, columns_of_file, col
 use Rattle.stored_database.proofs.PrintedEntries.{entries_apart, relations_at, views_at}
 use Rattle.stored_database.proofs.PrintedParts.{first_part, is_first, rule_firsts, permit_firsts}
 use Rattle.stored_database.proofs.PrintedRead.{Kinds, relation_kinds, viewed_kinds, indexed_kinds, three_sorts, mapped_pass, mapped_fail, unmap_sorted, relations_read, indexes_read}
-use Rattle.stored_database.proofs.PrintedTrees.{Tree, parts_of, view_tree, rule_tree, permit_tree, numbered_tree, trees_for, parts_are, parts_apart, trees_at, relation_under}
+use Rattle.stored_database.proofs.PrintedTrees.{parts_of, view_tree, rule_tree, permit_tree, numbered_tree, trees_for, parts_are, parts_apart, trees_at, relation_under}
 use Rattle.stored_database.proofs.Reading.{number_itself}
 use Rattle.stored_database.proofs.SpelledTrees.{AreSpelled, query_again, rule_again, permit_again, query_has_bytes, rule_has_bytes, permit_has_bytes}
 

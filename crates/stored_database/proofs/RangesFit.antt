@@ -1,10 +1,10 @@
 -- What variables of stored trees range over: it has a name, and few attributes.
-use Rattle.std.proofs.Common.{◌≡◌, refl, sym, ap, subst, ◌∙◌, true≢false, ℕ, ◌≤◌, ◌&&◌, not, Bool, true, false, List, [], ◌∷◌, ◌++◌, map, find, length, Option, Some, None, option_map, IsTrue, arith}
-use Rattle.std.specs.Prelude.{is_some, slice_get, codes, nat_le}
+use Rattle.std.proofs.Common.{◌≡◌, refl, sym, subst, ◌∙◌, true≢false, ◌≤◌, ◌&&◌, not, Bool, true, false, List, map, length, Option, Some, None, option_map, arith}
+use Rattle.std.specs.Prelude.{is_some, slice_get, nat_le}
 use Rattle.std.proofs.lemmas.Bool.{and_parts, leb-true}
 use Rattle.std.proofs.lemmas.List.{length-map}
 use Rattle.std.proofs.lemmas.Option.{slice_get-map, same_Some}
-use Rattle.std.specs.List.{AllByRecursion, list_all, flat_map}
+use Rattle.std.specs.List.{AllByRecursion, flat_map}
 use Rattle.calculus.specs.declared.query.RelKey.{RelKey}
 use Rattle.calculus.specs.declared.schema.Attr.{Attr}
 use Rattle.calculus.specs.declared.schema.RelInfo.{RelInfo}
@@ -13,12 +13,12 @@ use Rattle.calculus.specs.Catalogue.{relation_key, attribute_key, relation_info,
 use Rattle.calculus.specs.Rows.{set_of}
 use Rattle.calculus.specs.Database.{Db, Relation, Index, View, entries, relation_at, view_at}
 use Rattle.calculus.specs.IsDatabase.{IsDatabase, attrs_stand, key_is_named}
-use Rattle.calculus.specs.Keys.{key_of, same_key}
+use Rattle.calculus.specs.Keys.{same_key}
 use Rattle.calculus.specs.Lists.{is_any}
 use Rattle.calculus.specs.Limits.{most_attributes}
 use Rattle.calculus.specs.Name.{is_name}
 use Rattle.calculus.specs.Stored.{Range, Kept, Viewed, range_at, range_info, info_at, attrs_in, attrs_at, kinds_at}
-use Rattle.stored_database.proofs.Members.{IsIn, of_all, found_in}
+use Rattle.stored_database.proofs.Members.{of_all, found_in}
 use Rattle.stored_database.proofs.Orders.{same_key_is}
 use Rattle.stored_database.proofs.Pairs.{all_front, all_behind, all_unmap, pass_all}
 use Rattle.stored_database.proofs.TermsFit.{Few}

@@ -1,5 +1,5 @@
 -- Terms and qualifications whose kinds fit, so without aggregates, have spellings.
-use Rattle.std.proofs.Common.{◌≡◌, refl, sym, ap, subst, ◌∙◌, true≢false, ℕ, zero, suc, ◌+◌, ◌<◌, ◌≤◌, ◌/◌, ◌%◌, max, ℤ, pos, negsuc, w64, IsTrue, ◌&&◌, not, Bool, true, false, cond, List, [], ◌∷◌, length, Option, Some, None, arith}
+use Rattle.std.proofs.Common.{◌≡◌, refl, sym, true≢false, ℕ, zero, suc, ◌+◌, ◌<◌, ◌≤◌, max, ℤ, pos, negsuc, w64, IsTrue, Bool, true, false, cond, List, length, Option, Some, None, arith}
 use Rattle.std.specs.Prelude.{nat_lt, FitsSigned, is_some, slice_get}
 use Rattle.std.specs.Ordering.{is_le}
 use Rattle.std.specs.declared.cmp.Ordering.TheVariants.{Less, Equal, Greater}

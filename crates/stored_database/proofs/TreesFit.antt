@@ -1,10 +1,9 @@
 -- Each view, rule and permit of a database has a spelling.
-use Rattle.std.proofs.Common.{◌≡◌, refl, sym, ap, subst, ◌∙◌, true≢false, ℕ, zero, suc, ◌+◌, ◌<◌, ◌≤◌, ◌/◌, ◌%◌, max, ◌&&◌, not, Bool, true, false, List, [], ◌∷◌, map, length, Option, Some, None, arith}
-use Rattle.std.specs.Prelude.{is_some, nat_eq, nat_le, nat_lt, bytes_eq, IsTrue}
+use Rattle.std.proofs.Common.{◌≡◌, refl, sym, ap, ◌∙◌, true≢false, ℕ, suc, ◌<◌, ◌≤◌, ◌/◌, ◌%◌, ◌&&◌, true, List, [], ◌∷◌, map, length, Option, Some, None, arith}
+use Rattle.std.specs.Prelude.{is_some, nat_le, nat_lt, bytes_eq}
 use Rattle.std.proofs.lemmas.Bool.{and_parts, leb-true, ltb-true, lt-ltb, eqb-true}
 use Rattle.std.specs.List.{AllByRecursion, list_all}
 use Rattle.calculus.specs.declared.query.QQual.{QQual}
-use Rattle.calculus.specs.declared.query.QTerm.{QTerm}
 use Rattle.calculus.specs.declared.query.Query.{Query, Query', Row_of-Target, end_of-Target, more_of-Target, items-the_row-Target}
 use Rattle.calculus.specs.declared.query.RelKey.{RelKey}
 use Rattle.calculus.specs.declared.query.Target.{Target}
@@ -32,7 +31,7 @@ use Rattle.calculus.specs.TreeLevels.{term_levels, greatest_target_levels, qual_
 use Rattle.quel_tree.specs.Message.{most_tree_levels}
 use Rattle.quel_tree.specs.Names.{name}
 use Rattle.quel_tree.specs.Permits.{permit, rule}
-use Rattle.quel_tree.specs.Queries.{trees, term, qual, query, target}
+use Rattle.quel_tree.specs.Queries.{trees, qual, query, target}
 use Rattle.quel_tree.specs.Relations.{rel_key}
 use Rattle.quel_tree.specs.Values.{domain, kind}
 use Rattle.tree_words.specs.Codec.{Codec}
