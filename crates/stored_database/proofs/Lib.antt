@@ -9,6 +9,7 @@ pub mod Groups
 pub mod InOrder
 pub mod Infos
 pub mod IsOne
+pub mod Listing
 pub mod Members
 pub mod Orders
 pub mod Pairs

@@ -115,7 +115,7 @@ in_found {A} test (y ∷ ys) x at h alone = go (test y) refl at (λ at. in_found
 -- ---- items that are read
 
 -- the first and the others were read
-each_parts : {A B : Type 0} (f : A → Option B) (x : A) (xs : List A) (ys : List B) → each f (x ∷ xs) ≡ Some ys
+pub each_parts : {A B : Type 0} (f : A → Option B) (x : A) (xs : List A) (ys : List B) → each f (x ∷ xs) ≡ Some ys
     → (y : B) × (rest : List B) × (f x ≡ Some y) × (each f xs ≡ Some rest) × (ys ≡ y ∷ rest)
 each_parts {A} {B} f x xs ys h = go (f x) (each f xs) refl refl h
   where

@@ -14,10 +14,10 @@ use Rattle.quel_tree.specs.Message.{IsSpelled}
 use Rattle.quel_tree.specs.Permits as spellings
 use Rattle.quel_tree.specs.Queries as queries
 use Rattle.page_chain.specs.Pages.{Pages}
-use Rattle.stored_database.specs.Catalogue.{Catalogue, IsCatalogue, catalogue_in}
-use Rattle.stored_database.specs.Columns.{Column, column_of, column_bytes, is_column}
-use Rattle.stored_database.specs.Entries.{Entry, entry_of, entry_bytes, is_entry}
-use Rattle.stored_database.specs.Parts.{Part, part_of, part_bytes, is_part}
+use Rattle.stored_database.specs.Catalogue.{Catalogue, IsCatalogue, Lists, catalogue_in, listed}
+use Rattle.stored_database.specs.Columns.{Column, column_cmp, column_of, column_bytes, is_column}
+use Rattle.stored_database.specs.Entries.{Entry, entry_cmp, entry_of, entry_bytes, is_entry}
+use Rattle.stored_database.specs.Parts.{Part, part_cmp, part_of, part_bytes, is_part}
 use Rattle.stored_database.specs.Printed.{Files, HasFiles, files_in, printed, trees_are_short}
 use Rattle.stored_database.specs.Spelled.{spelled}
 use Rattle.stored_database.specs.Standing.{StandsFor, standing, stored, IsFresh, empty_database}
@@ -61,6 +61,12 @@ WhatIsPrintedIsACatalogue = (files : ℕ → Pages) (f : Files) (db : Db) → Is
 -- what is read of files 5, 6 and 7 is a catalogue
 abbrev pub CataloguesAreRead : Type 0
 CataloguesAreRead = (files : ℕ → Pages) (cat : Catalogue) → catalogue_in files ≡ Some cat → IsCatalogue cat
+
+-- a file lists items exactly where its rows are their bytes, in any order
+pub record WhatIsListed : Type 0 where
+  pub entries : (pages : Pages) (es : List Entry) → (listed entry_of entry_cmp pages ≡ Some es) ↔ Lists entry_cmp is_entry entry_bytes pages es
+  pub columns : (pages : Pages) (cs : List Column) → (listed column_of column_cmp pages ≡ Some cs) ↔ Lists column_cmp is_column column_bytes pages cs
+  pub parts : (pages : Pages) (ps : List Part) → (listed part_of part_cmp pages ≡ Some ps) ↔ Lists part_cmp is_part part_bytes pages ps
 
 -- ---- pages
 

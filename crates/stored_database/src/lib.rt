@@ -13,7 +13,7 @@ pub use bytes::{
     columns_are_their_bytes, entries_are_their_bytes, parts_are_their_bytes, trees_are_their_bytes,
 };
 pub use catalogues::{
-    catalogues_are_read, what_is_printed_is_a_catalogue, what_is_read_is_printed,
+    catalogues_are_read, what_is_listed, what_is_printed_is_a_catalogue, what_is_read_is_printed,
 };
 pub use deciding::the_test_tells_a_database;
 pub use examples::{
