@@ -147,10 +147,13 @@ query_fits : (n : ℕ) (vars : List (List Kind)) → Few vars → (q : Query) �
     → kinds_fit (qual_of q) vars ≡ true → (query (suc n)).Fits q
 unfolding trees
 query_fits n vars few (Query' keys marks targets q) h spelled few_keys named few_targets kinds has fit =
-    let both = and_parts (targets_are_spelled targets) (qual_is_spelled q) spelled in
-    (list_fits rel_key keys few_keys (all_then IsNamed rel_key.Fits keys key_fits named),
-      (list_fits (target n) (items-the_row-Target _ targets) few_targets (targets_fit vars few n (items-the_row-Target _ targets) (targets_spelled targets n both.0 (omega (arith, h))) kinds has),
-        qual_fits vars few n q (omega (arith, h)) fit both.1))
+    let both = and_parts (targets_are_spelled targets) (qual_is_spelled q) spelled in (
+      list_fits rel_key keys few_keys (all_then IsNamed rel_key.Fits keys key_fits named),
+      (
+        list_fits (target n) (items-the_row-Target _ targets) few_targets (targets_fit vars few n (items-the_row-Target _ targets) (targets_spelled targets n both.0 (omega (arith, h))) kinds has),
+        qual_fits vars few n q (omega (arith, h)) fit both.1,
+      ),
+    )
 
 module _ (db : Db) (d : IsDatabase db) where
   view_fits : (v : View) → query_is_storable v.query ≡ true → nat_le (length (vars_of v.query)) most_expanded_variables ≡ true → vars_are_there db v.query ≡ true → query_stands db v.query ≡ true
