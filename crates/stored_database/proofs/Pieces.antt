@@ -2,6 +2,7 @@
 use Rattle.std.proofs.Common.{◌≡◌, refl, ap, ap₂, ◌∙◌, ℕ, zero, suc, ◌<◌, ◌≤◌, ◌==◌, ◌&&◌, Bool, true, false, cond, List, [], ◌∷◌, ◌++◌, map, filter, take, drop, length, Some, arith, length-drop, length-take}
 use Rattle.std.specs.Prelude.{nat_le}
 use Rattle.std.proofs.lemmas.Bool.{and_from, le-leb, eq-eqb, ne_eqb}
+use Rattle.std.proofs.lemmas.List.{take-append-drop}
 use Rattle.std.specs.List.{AllByRecursion, concat}
 use Rattle.std.specs.List.Sorted.{IsStrictlySortedBy}
 use Rattle.std.specs.Ordering.{nat_cmp}
@@ -15,11 +16,6 @@ use Rattle.stored_database.proofs.PrintedEntries.{nat_less}
 use Rattle.stored_database.proofs.Reading.{number_itself}
 
 -- ---- pieces
-
-take_drop : {A : Type 0} (n : ℕ) (xs : List A) → take n xs ++ drop n xs ≡ xs
-take_drop zero xs = refl
-take_drop (suc n) [] = refl
-take_drop (suc n) (x ∷ xs) = ap (λ l. x ∷ l) (take_drop n xs)
 
 -- what is left is shorter
 left_over : (most b : ℕ) (bytes : List ℕ) → length (b ∷ bytes) ≤ suc most → length (drop 900 (b ∷ bytes)) ≤ most
@@ -36,7 +32,7 @@ unfolding pieces
 pieces_join zero [] h = refl
 pieces_join zero (b ∷ bytes) h = absurd (omega arith)
 pieces_join (suc most) [] h = refl
-pieces_join (suc most) (b ∷ bytes) h = ap (λ l. take 900 (b ∷ bytes) ++ l) (pieces_join most (drop 900 (b ∷ bytes)) (left_over most b bytes h)) ∙ take_drop 900 (b ∷ bytes)
+pieces_join (suc most) (b ∷ bytes) h = ap (λ l. take 900 (b ∷ bytes) ++ l) (pieces_join most (drop 900 (b ∷ bytes)) (left_over most b bytes h)) ∙ take-append-drop 900 (b ∷ bytes)
 
 -- there are 900 bytes in each piece but the last
 pub pieces_cut : (most : ℕ) (bytes : List ℕ) → length bytes ≤ most → 0 < length bytes → are_cut (pieces most bytes) ≡ true

@@ -2,6 +2,7 @@
 use Rattle.std.proofs.Common.{◌≡◌, refl, sym, ap, ap₂, ◌∙◌, true≢false, ℕ, ◌&&◌, not, Bool, true, false, List, [], ◌∷◌, ◌++◌, map, filter, Option, Some, None}
 use Rattle.std.proofs.lemmas.Bool.{and_parts}
 use Rattle.std.proofs.lemmas.Cmp.{on_total}
+use Rattle.std.proofs.lemmas.List.{append-nil}
 use Rattle.std.specs.List.{AllByRecursion}
 use Rattle.std.specs.List.Sorted.{IsStrictlySortedBy}
 use Rattle.std.specs.declared.cmp.Ordering.{Ordering}
@@ -25,7 +26,7 @@ use Rattle.stored_database.specs.Spelled.{attrs_of, domain_of, entry_at, info_of
 use Rattle.stored_database.proofs.Members.{of_all}
 use Rattle.stored_database.proofs.Pairs.{all_front, all_map, all_unmap, pass_all}
 use Rattle.stored_database.proofs.InOrder.{read_again}
-use Rattle.stored_database.proofs.Groups.{append_nil, filter_append, filter_pass, filter_fail}
+use Rattle.stored_database.proofs.Groups.{filter_append, filter_pass, filter_fail}
 use Rattle.stored_database.proofs.Orders.{entry_total, key_total}
 use Rattle.stored_database.proofs.PrintedColumns.{attrs_at as printed_attrs}
 use Rattle.stored_database.proofs.PrintedEntries.{entries_apart, relations_at}
@@ -137,7 +138,7 @@ module _ (files : ℕ → Pages) (f : Files) (db : database.Db) (d : IsDatabase 
       ∙ ap₂ (λ (k l : List Entry). k ++ l) (mapped_pass (λ e. is_structure e.spec) (relation_entry f) db.relations (pick_relations db.relations (relation_kinds db d)))
       (ap₂ (λ (k l : List Entry). k ++ l) (mapped_fail (λ e. is_structure e.spec) (view_entry f) db.views (pick_views db.views (viewed_kinds db d)))
       (mapped_fail (λ e. is_structure e.spec) (index_entry f) db.indexes (pick_indexes db.indexes (indexed_kinds db d))))
-      ∙ append_nil (map (relation_entry f) db.relations)
+      ∙ append-nil (map (relation_entry f) db.relations)
     where
       pick_relations : (rs : List database.Relation) → AllByRecursion (λ r. Kinds r.info.spec true false false) rs → AllByRecursion (λ (r : database.Relation). is_structure r.info.spec ≡ true) rs
       pick_relations [] all = tt

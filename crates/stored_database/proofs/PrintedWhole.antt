@@ -3,6 +3,7 @@ use Rattle.std.proofs.Common.{◌≡◌, sym, ap, ap₂, subst, ◌∙◌, ℕ, 
 use Rattle.std.specs.Prelude.{is_some}
 use Rattle.std.proofs.lemmas.Bool.{and_parts, and_from}
 use Rattle.std.proofs.lemmas.Cmp.{on_total}
+use Rattle.std.proofs.lemmas.List.{append-nil}
 use Rattle.std.specs.List.{AllByRecursion, list_all}
 use Rattle.calculus.specs.declared.query.RelKey.{RelKey}
 use Rattle.calculus.specs.declared.schema.Permit.{Permit}
@@ -26,9 +27,8 @@ use Rattle.stored_database.specs.Printed.{Files, HasFiles, relation_entry, view_
 use Rattle.stored_database.specs.Spelled.{attrs_of, entry_at, entry_is, info_of, view_of, views_of, numbered_of, rules_of, permits_of, columns_stand, part_stands, parts_stand, spelled}
 use Rattle.stored_database.specs.Trees.{tree_bytes, query_of, rule_of, permit_of, tree_at, parts_are_whole, cut}
 use Rattle.stored_database.proofs.Members.{of_all}
-use Rattle.stored_database.proofs.Pairs.{all_front, all_behind, all_map, all_unmap, all_append, all_flat, all_then, all_of, all_pass, pass_all}
+use Rattle.stored_database.proofs.Pairs.{all_front, all_behind, all_map, all_unmap, all_append, all_flat, all_then, all_each, all_pass, pass_all}
 use Rattle.stored_database.proofs.InOrder.{all_in_order, read_again}
-use Rattle.stored_database.proofs.Groups.{append_nil}
 use Rattle.stored_database.proofs.Orders.{entry_total, key_total, part_total, numbered_total}
 use Rattle.stored_database.proofs.Pieces.{parts_of_tree}
 use Rattle.stored_database.proofs.PrintedColumns.{attrs_at, columns_of_file, columns_do_stand, no_columns}
@@ -86,8 +86,8 @@ module _ (files : ℕ → Pages) (f : Files) (db : database.Db) (d : IsDatabase 
       (all_map (λ t. 0 < length t.bytes) (view_tree f) db.views
       (all_then (λ v. (queries.query most_tree_levels).Fits v.query) (λ v. 0 < length (tree_bytes queries.query v.query)) db.views (λ v fits. query_has_bytes v.query fits) spells.views))
       (all_append (λ t. 0 < length t.bytes) (map (rule_tree f) db.rules) (map (permit_tree f) db.permits)
-      (all_map (λ t. 0 < length t.bytes) (rule_tree f) db.rules (all_of (λ p. 0 < length (tree_bytes spellings.rule p.1)) db.rules (λ p. rule_has_bytes p.1)))
-      (all_map (λ t. 0 < length t.bytes) (permit_tree f) db.permits (all_of (λ p. 0 < length (tree_bytes spellings.permit p.1)) db.permits (λ p. permit_has_bytes p.1))))
+      (all_map (λ t. 0 < length t.bytes) (rule_tree f) db.rules (all_each (λ p. 0 < length (tree_bytes spellings.rule p.1)) db.rules (λ p. rule_has_bytes p.1)))
+      (all_map (λ t. 0 < length t.bytes) (permit_tree f) db.permits (all_each (λ p. 0 < length (tree_bytes spellings.permit p.1)) db.permits (λ p. permit_has_bytes p.1))))
 
   found : AllByRecursion (λ t. tree_at (printed db f).parts t.file t.sort t.number ≡ Some t.bytes) (trees_for f db)
   found = trees_at f db has.files_differ d.rules_ascend d.permits_ascend rules_there permits_there have_bytes
@@ -112,7 +112,7 @@ module _ (files : ℕ → Pages) (f : Files) (db : database.Db) (d : IsDatabase 
       ∙ ap₂ (λ (k l : List Entry). k ++ l) (mapped_fail (λ e. is_view e.spec) (relation_entry f) db.relations (pick_relations db.relations (relation_kinds db d)))
       (ap₂ (λ (k l : List Entry). k ++ l) (mapped_pass (λ e. is_view e.spec) (view_entry f) db.views (pick_views db.views (viewed_kinds db d)))
       (mapped_fail (λ e. is_view e.spec) (index_entry f) db.indexes (pick_indexes db.indexes (indexed_kinds db d))))
-      ∙ append_nil (map (view_entry f) db.views)
+      ∙ append-nil (map (view_entry f) db.views)
     where
       pick_relations : (rs : List database.Relation) → AllByRecursion (λ r. Kinds r.info.spec true false false) rs → AllByRecursion (λ (r : database.Relation). is_view r.info.spec ≡ false) rs
       pick_relations [] all = tt
