@@ -1,19 +1,19 @@
 -- What is read of files 5, 6 and 7 is a catalogue.
-use Rattle.std.proofs.Common.{◌≡◌, refl, sym, ap, subst, ◌∙◌, ℕ, true, List, Option, Some}
+use Rattle.std.proofs.Common.{◌≡◌, sym, subst, ℕ, true, List, Option, Some}
 use Rattle.std.proofs.lemmas.Option.{same_Some}
 use Rattle.std.specs.Cmp.{IsTotalOrder}
 use Rattle.std.specs.List.{AllByRecursion}
 use Rattle.std.specs.List.Sorted.{IsStrictlySortedBy}
 use Rattle.std.specs.declared.cmp.Ordering.{Ordering}
 use Rattle.page_chain.specs.Chains.{chain}
-use Rattle.page_chain.specs.Lists.{◌>>=◌, each, once}
+use Rattle.page_chain.specs.Lists.{each, once}
 use Rattle.page_chain.specs.Lying.{lying, bytes_of}
 use Rattle.page_chain.specs.Pages.{Pages}
-use Rattle.stored_database.specs.Catalogue.{Catalogue, IsCatalogue, listed, catalogue_in, most_pages}
-use Rattle.stored_database.specs.Columns.{Column, column_of, column_cmp, is_column}
-use Rattle.stored_database.specs.Entries.{Entry, entry_of, entry_cmp, is_entry}
+use Rattle.stored_database.specs.Catalogue.{IsCatalogue, listed, catalogue_in, most_pages}
+use Rattle.stored_database.specs.Columns.{column_of, column_cmp, is_column}
+use Rattle.stored_database.specs.Entries.{entry_of, entry_cmp, is_entry}
 use Rattle.stored_database.specs.Laws.{CataloguesAreRead}
-use Rattle.stored_database.specs.Parts.{Part, part_of, part_cmp, is_part}
+use Rattle.stored_database.specs.Parts.{part_of, part_cmp, is_part}
 use Rattle.stored_database.proofs.ColumnBytes.{columns_are_their_bytes}
 use Rattle.stored_database.proofs.EntryBytes.{entries_are_their_bytes}
 use Rattle.stored_database.proofs.Members.{all_of, read_of}
@@ -31,7 +31,7 @@ listed_set {A} read {cmp} order P holds pages xs h =
     let b = bind_some (each read (bytes_of (lying pages a.0))) (once cmp) xs a.2 in
     let o : IsOnce order b.0 xs = is_once order b.0 xs b.2 in (
       subst (IsStrictlySortedBy cmp) (sym o.set) (sorted_in_order order b.0),
-      all_of P xs (λ x at. (let r = read_of read (bytes_of (lying pages a.0)) b.0 x b.1 (o.from x at) in holds r.0 x r.2))
+      all_of P xs (λ x at. (let r = read_of read (bytes_of (lying pages a.0)) b.0 x b.1 (o.from x at) in holds r.0 x r.2)),
     )
 
 pub catalogues_are_read : CataloguesAreRead

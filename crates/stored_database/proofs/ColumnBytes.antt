@@ -1,15 +1,14 @@
 -- Attributes and their bytes.
-use Rattle.std.proofs.Common.{◌≡◌, refl, ap, ◌∙◌, ℕ, ◌&&◌, nat_lt, Bool, true, List, [], ◌∷◌, ◌++◌, take, drop, slice_index, Option, Some, None}
-use Rattle.byteorder.specs.Endian.{little_from}
+use Rattle.std.proofs.Common.{◌≡◌, refl, ap, ◌∙◌, ℕ, nat_lt, true, List, [], ◌∷◌, ◌++◌, take, drop, slice_index, Option, Some}
 use Rattle.calculus.specs.declared.value.Domain.TheVariants.{I1, I2, I4, C}
 use Rattle.calculus.specs.declared.value.Kind.{Kind}
 use Rattle.calculus.specs.declared.value.Kind.TheVariants.{Of, Wide}
-use Rattle.calculus.specs.IsDatabase.{is_kind, kind_bytes}
+use Rattle.calculus.specs.IsDatabase.{kind_bytes}
 use Rattle.calculus.specs.Name.{is_name}
-use Rattle.page_chain.specs.Lists.{◌>>=◌, when}
+use Rattle.page_chain.specs.Lists.{◌>>=◌}
 use Rattle.stored_database.specs.Columns.{Column, kind_number, kind_in, is_column, column_bytes, column_in, column_of}
 use Rattle.stored_database.specs.Laws.{ColumnsAreTheirBytes}
-use Rattle.stored_database.specs.Names.{name_of, name_bytes, is_number32, bytes32}
+use Rattle.stored_database.specs.Names.{name_of, name_bytes, is_number32}
 use Rattle.stored_database.proofs.Reading.{both, strictly, read_again, take_front, drop_front, number_again, name_again, length_name}
 
 kind_again : (k : Kind) → kind_in (kind_number k) (kind_bytes k) ≡ Some k
@@ -39,6 +38,6 @@ column_again c h =
 pub columns_are_their_bytes : ColumnsAreTheirBytes
 unfolding column_of
 columns_are_their_bytes bytes c = (
-    strictly (column_in bytes) is_column column_bytes bytes c,
-    λ h. read_again (column_in bytes) is_column column_bytes bytes c (ap column_in h.1 ∙ column_again c h.0) h.0 h.1
+  strictly (column_in bytes) is_column column_bytes bytes c,
+  λ h. read_again (column_in bytes) is_column column_bytes bytes c (ap column_in h.1 ∙ column_again c h.0) h.0 h.1,
 )

@@ -1,7 +1,5 @@
 -- The columns of a catalogue are those that its database has.
-use Rattle.std.proofs.Common.{◌≡◌, refl, sym, ap, ap₂, subst, ◌∙◌, inl, inr, ℕ, suc, ◌==◌, ◌&&◌, not, Bool, true, false, List, [], ◌∷◌, map, filter, Option, Some, None}
-use Rattle.std.specs.Prelude.{◌⊎◌}
-use Rattle.std.specs.List.{flat_map}
+use Rattle.std.proofs.Common.{◌≡◌, refl, sym, ap, ap₂, subst, ◌∙◌, inl, inr, ℕ, suc, ◌==◌, not, Bool, true, false, List, [], ◌∷◌, map, filter, Option, Some, None}
 use Rattle.calculus.specs.declared.schema.Attr.{Attr}
 use Rattle.calculus.specs.declared.schema.RelInfo.{RelInfo}
 use Rattle.calculus.specs.declared.schema.Spec.{Spec}
@@ -9,12 +7,12 @@ use Rattle.calculus.specs.Database as database
 use Rattle.calculus.specs.Keys.{same_key}
 use Rattle.calculus.specs.Lists.{differ_by}
 use Rattle.calculus.specs.Structures.{is_index}
-use Rattle.page_chain.specs.Lists.{when, in_order, are_from}
+use Rattle.page_chain.specs.Lists.{in_order, are_from}
 use Rattle.page_chain.specs.Pages.{Pages}
 use Rattle.stored_database.specs.Catalogue.{Catalogue, IsCatalogue}
 use Rattle.stored_database.specs.Columns.{Column, column_cmp}
 use Rattle.stored_database.specs.Entries.{Entry}
-use Rattle.stored_database.specs.Printed.{Files, files_in, columns_from, columns_for}
+use Rattle.stored_database.specs.Printed.{files_in, columns_from, columns_for}
 use Rattle.stored_database.specs.Spelled.{attrs_of, entry_at, entry_is, columns_stand}
 use Rattle.stored_database.proofs.Infos.{IsKnown, to_info, of_info, file_is}
 use Rattle.stored_database.proofs.Members.{IsIn, of_tests, in_filter, filter_in, in_flat_map, flat_map_in}
@@ -55,7 +53,6 @@ not_true false h = refl
 
 module _ (files : ℕ → Pages) (cat : Catalogue) (db : database.Db) (s : Spells files cat db) (is_cat : IsCatalogue cat)
     (differ : differ_by same_key (map (λ i. i.key) (database.entries db)) ≡ true) where
-
   -- the columns of what is known of an entry
   known_columns : (e : Entry) (i : RelInfo) → IsIn e cat.entries → IsKnown cat e i → is_index e.spec ≡ false
       → columns_from ((files_in cat).file i.key) 0 i.attrs ≡ filter (λ c. c.file == e.file) cat.columns

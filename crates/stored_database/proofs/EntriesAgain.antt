@@ -1,7 +1,5 @@
 -- The entries of a catalogue are those that its database has.
-use Rattle.std.proofs.Common.{◌≡◌, refl, sym, ap, subst, ◌∙◌, inl, inr, ℕ, ◌==◌, ◌&&◌, not, nat_le, Bool, true, false, List, [], ◌∷◌, ◌++◌, map, filter, find, Option, Some, None}
-use Rattle.std.specs.Prelude.{◌⊎◌}
-use Rattle.std.specs.List.{AllByRecursion}
+use Rattle.std.proofs.Common.{◌≡◌, refl, sym, ap, subst, ◌∙◌, inl, inr, ℕ, ◌==◌, ◌&&◌, not, nat_le, Bool, true, map, Some}
 use Rattle.calculus.specs.declared.schema.RelInfo.{RelInfo}
 use Rattle.calculus.specs.declared.schema.Spec.{Spec}
 use Rattle.calculus.specs.declared.schema.Spec.TheVariants.{Heap, Hash, Isam, View, Index}
@@ -13,9 +11,9 @@ use Rattle.page_chain.specs.Lists.{in_order}
 use Rattle.page_chain.specs.Pages.{Pages}
 use Rattle.stored_database.specs.Catalogue.{Catalogue, IsCatalogue}
 use Rattle.stored_database.specs.Entries.{Entry, entry_cmp, is_entry, suits_spec, has_no_pages, is_one_chain}
-use Rattle.stored_database.specs.Printed.{Files, files_in, relation_entry, view_entry, index_entry, entries_for}
-use Rattle.stored_database.specs.Spelled.{relation_of, view_of, index_of, entry_at}
-use Rattle.stored_database.proofs.EntryBytes.{Stands, stands}
+use Rattle.stored_database.specs.Printed.{files_in, relation_entry, view_entry, index_entry, entries_for}
+use Rattle.stored_database.specs.Spelled.{relation_of, view_of, index_of}
+use Rattle.stored_database.proofs.EntryBytes.{stands}
 use Rattle.stored_database.proofs.Infos.{which, file_is, used_is}
 use Rattle.stored_database.proofs.Members.{IsIn, of_all, in_filter, filter_in, in_map, map_in, in_first, in_second, in_either}
 use Rattle.stored_database.proofs.Orders.{entry_total}
@@ -45,7 +43,7 @@ no_pages e h =
     (record { base = refl; primary = same_number e.primary 0 b.0; directory = same_number e.directory 0 c.0 }, same_number e.used 0 c.1)
 
 -- the case of what an entry is
-suits : Spec → Entry → Bool
+unfoldable pub suits : Spec → Entry → Bool
 suits s e = elim s [
   | Heap ↦ (e.base == 0) && is_one_chain e
   | Hash ↦ (e.base == 0) && is_one_chain e
@@ -89,7 +87,6 @@ index_has Index e is h = no_pages e h
 
 module _ (files : ℕ → Pages) (cat : Catalogue) (db : database.Db) (s : Spells files cat db) (is_cat : IsCatalogue cat)
     (differ : differ_by same_key (map (λ i. i.key) (database.entries db)) ≡ true) where
-
   pub entry_stands : (e : Entry) → IsIn e cat.entries → is_entry e ≡ true
   entry_stands e at = of_all (λ e. is_entry e ≡ true) cat.entries e is_cat.are_entries at
 
@@ -153,38 +150,38 @@ module _ (files : ℕ → Pages) (cat : Catalogue) (db : database.Db) (s : Spell
   unfolding entries_for
   to_list e at = elim (which e.spec) [
     | inl is ↦ (
-      let r = s.relations.to e (in_filter (λ e. is_structure e.spec) cat.entries e at is) in
-      in_first (map (relation_entry (files_in cat)) db.relations) _ e
-      (subst (λ e. IsIn e (map (relation_entry (files_in cat)) db.relations)) (relation_again e r.0 at is r.2) (in_map (relation_entry (files_in cat)) db.relations r.0 r.1)))
+        let r = s.relations.to e (in_filter (λ e. is_structure e.spec) cat.entries e at is) in
+        in_first (map (relation_entry (files_in cat)) db.relations) _ e
+        (subst (λ e. IsIn e (map (relation_entry (files_in cat)) db.relations)) (relation_again e r.0 at is r.2) (in_map (relation_entry (files_in cat)) db.relations r.0 r.1)))
     | inr (inl is) ↦ (
-      let v = s.views.to e (in_filter (λ e. is_view e.spec) cat.entries e at is) in
-      in_second (map (relation_entry (files_in cat)) db.relations) _ e (in_first (map (view_entry (files_in cat)) db.views) _ e
-      (subst (λ e. IsIn e (map (view_entry (files_in cat)) db.views)) (view_again e v.0 at is v.2) (in_map (view_entry (files_in cat)) db.views v.0 v.1))))
+        let v = s.views.to e (in_filter (λ e. is_view e.spec) cat.entries e at is) in
+        in_second (map (relation_entry (files_in cat)) db.relations) _ e (in_first (map (view_entry (files_in cat)) db.views) _ e
+        (subst (λ e. IsIn e (map (view_entry (files_in cat)) db.views)) (view_again e v.0 at is v.2) (in_map (view_entry (files_in cat)) db.views v.0 v.1))))
     | inr (inr is) ↦ (
-      let x = s.indexes.to e (in_filter (λ e. is_index e.spec) cat.entries e at is) in
-      in_second (map (relation_entry (files_in cat)) db.relations) _ e (in_second (map (view_entry (files_in cat)) db.views) _ e
-      (subst (λ e. IsIn e (map (index_entry (files_in cat)) db.indexes)) (index_again e x.0 at is x.2) (in_map (index_entry (files_in cat)) db.indexes x.0 x.1))))
+        let x = s.indexes.to e (in_filter (λ e. is_index e.spec) cat.entries e at is) in
+        in_second (map (relation_entry (files_in cat)) db.relations) _ e (in_second (map (view_entry (files_in cat)) db.views) _ e
+        (subst (λ e. IsIn e (map (index_entry (files_in cat)) db.indexes)) (index_again e x.0 at is x.2) (in_map (index_entry (files_in cat)) db.indexes x.0 x.1))))
   ]
 
   of_list : (e : Entry) → IsIn e (entries_for (files_in cat) db) → IsIn e cat.entries
   unfolding entries_for
   of_list e at = elim (in_either (map (relation_entry (files_in cat)) db.relations) _ e at) [
     | inl a ↦ (
-      let m = map_in (relation_entry (files_in cat)) db.relations e a in
-      let r = s.relations.from m.0 m.1 in
-      let f = filter_in (λ e. is_structure e.spec) cat.entries r.0 r.1 in
-      subst (λ e. IsIn e cat.entries) (sym (relation_again r.0 m.0 f.0 f.1 r.2) ∙ sym m.2) f.0)
+        let m = map_in (relation_entry (files_in cat)) db.relations e a in
+        let r = s.relations.from m.0 m.1 in
+        let f = filter_in (λ e. is_structure e.spec) cat.entries r.0 r.1 in
+        subst (λ e. IsIn e cat.entries) (sym (relation_again r.0 m.0 f.0 f.1 r.2) ∙ sym m.2) f.0)
     | inr b ↦ elim (in_either (map (view_entry (files_in cat)) db.views) _ e b) [
       | inl a ↦ (
-        let m = map_in (view_entry (files_in cat)) db.views e a in
-        let v = s.views.from m.0 m.1 in
-        let f = filter_in (λ e. is_view e.spec) cat.entries v.0 v.1 in
-        subst (λ e. IsIn e cat.entries) (sym (view_again v.0 m.0 f.0 f.1 v.2) ∙ sym m.2) f.0)
+          let m = map_in (view_entry (files_in cat)) db.views e a in
+          let v = s.views.from m.0 m.1 in
+          let f = filter_in (λ e. is_view e.spec) cat.entries v.0 v.1 in
+          subst (λ e. IsIn e cat.entries) (sym (view_again v.0 m.0 f.0 f.1 v.2) ∙ sym m.2) f.0)
       | inr c ↦ (
-        let m = map_in (index_entry (files_in cat)) db.indexes e c in
-        let x = s.indexes.from m.0 m.1 in
-        let f = filter_in (λ e. is_index e.spec) cat.entries x.0 x.1 in
-        subst (λ e. IsIn e cat.entries) (sym (index_again x.0 m.0 f.0 f.1 x.2) ∙ sym m.2) f.0)
+          let m = map_in (index_entry (files_in cat)) db.indexes e c in
+          let x = s.indexes.from m.0 m.1 in
+          let f = filter_in (λ e. is_index e.spec) cat.entries x.0 x.1 in
+          subst (λ e. IsIn e cat.entries) (sym (index_again x.0 m.0 f.0 f.1 x.2) ∙ sym m.2) f.0)
     ]
   ]
 

@@ -1,12 +1,11 @@
 -- Entries and their bytes.
-use Rattle.std.proofs.Common.{◌≡◌, refl, sym, ap, ◌∙◌, ℕ, ◌-◌, ◌&&◌, nat_le, nat_lt, Bool, true, false, List, [], ◌∷◌, ◌++◌, length, take, drop, replicate, slice_index, Option, Some, None, arith, append_assoc, length-append}
+use Rattle.std.proofs.Common.{◌≡◌, refl, sym, ap, ◌∙◌, ℕ, ◌-◌, nat_le, true, List, [], ◌∷◌, ◌++◌, length, take, drop, replicate, slice_index, Option, Some, arith, append_assoc, length-append}
 use Rattle.byteorder.specs.Endian.{little_from}
-use Rattle.calculus.specs.declared.query.RelKey.{RelKey}
 use Rattle.calculus.specs.declared.schema.Spec.{Spec}
 use Rattle.calculus.specs.declared.schema.Spec.TheVariants.{Heap, Hash, Isam, View, Index}
 use Rattle.calculus.specs.Keys.{key_of}
 use Rattle.calculus.specs.Name.{is_name}
-use Rattle.page_chain.specs.Lists.{◌>>=◌, when}
+use Rattle.page_chain.specs.Lists.{◌>>=◌}
 use Rattle.stored_database.specs.Entries.{Entry, spec_number, spec_of, are_keys, suits_spec, is_entry, keys_bytes, entry_bytes, fields_in, entry_in, entry_of}
 use Rattle.stored_database.specs.Laws.{EntriesAreTheirBytes}
 use Rattle.stored_database.specs.Names.{name_of, name_bytes, is_number32, bytes32}
@@ -90,6 +89,6 @@ entry_again e h =
 pub entries_are_their_bytes : EntriesAreTheirBytes
 unfolding entry_of
 entries_are_their_bytes bytes e = (
-    strictly (entry_in bytes) is_entry entry_bytes bytes e,
-    λ h. read_again (entry_in bytes) is_entry entry_bytes bytes e (ap entry_in h.1 ∙ entry_again e h.0) h.0 h.1
+  strictly (entry_in bytes) is_entry entry_bytes bytes e,
+  λ h. read_again (entry_in bytes) is_entry entry_bytes bytes e (ap entry_in h.1 ∙ entry_again e h.0) h.0 h.1,
 )

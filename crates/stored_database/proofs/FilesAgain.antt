@@ -1,29 +1,28 @@
 -- The files that a catalogue says are files that its database may have.
-use Rattle.std.proofs.Common.{◌≡◌, refl, sym, ap, subst, ◌∙◌, inl, inr, ℕ, ◌&&◌, ◌||◌, not, nat_eq, nat_le, Bool, true, false, List, [], ◌∷◌, map, Option, Some}
+use Rattle.std.proofs.Common.{◌≡◌, refl, sym, ap, ◌∙◌, inl, inr, ℕ, ◌&&◌, ◌||◌, not, nat_eq, nat_le, Bool, true, false, List, [], ◌∷◌, map, Some}
 use Rattle.std.proofs.lemmas.Bool.Decides.{nat_tests}
 use Rattle.std.proofs.Common.{arith}
 use Rattle.std.specs.List.{AllByRecursion, list_all, list_any}
 use Rattle.std.specs.Ordering.{nat_cmp}
-use Rattle.std.specs.declared.cmp.Ordering.TheVariants.{Equal}
 use Rattle.std.proofs.lemmas.Cmp.{nat_cmp_total, tied_itself}
 use Rattle.calculus.specs.declared.schema.RelInfo.{RelInfo}
 use Rattle.calculus.specs.Database as database
 use Rattle.calculus.specs.Keys.{same_key}
 use Rattle.calculus.specs.Lists.{differ_by}
 use Rattle.calculus.specs.Structures.{is_structure}
-use Rattle.page_chain.specs.Lists.{◌>>=◌, each}
+use Rattle.page_chain.specs.Lists.{◌>>=◌}
 use Rattle.page_chain.specs.Pages.{Pages}
 use Rattle.page_chain.specs.Rows.{set_on, reader}
 use Rattle.stored_database.specs.Catalogue.{Catalogue, IsCatalogue}
-use Rattle.stored_database.specs.Entries.{Entry, entry_cmp, is_entry}
+use Rattle.stored_database.specs.Entries.{Entry}
 use Rattle.stored_database.specs.Laws.{WhatIsReadIsPrinted}
 use Rattle.stored_database.specs.Names.{is_number32}
-use Rattle.stored_database.specs.Printed.{Files, HasFiles, files_in, is_file, rows_in, printed}
-use Rattle.stored_database.specs.Spelled.{domain_of, relation_of}
+use Rattle.stored_database.specs.Printed.{HasFiles, files_in, is_file, rows_in, printed}
+use Rattle.stored_database.specs.Spelled.{relation_of}
 use Rattle.stored_database.proofs.ColumnsAgain.{all_columns_again}
 use Rattle.stored_database.proofs.EntriesAgain.{entries_again, entry_stands, some_pages}
 use Rattle.stored_database.proofs.EntryBytes.{stands}
-use Rattle.stored_database.proofs.Infos.{IsKnown, of_info, file_is, used_is}
+use Rattle.stored_database.proofs.Infos.{of_info, file_is, used_is}
 use Rattle.stored_database.proofs.Members.{IsIn, tests_of, all_of, filter_in}
 use Rattle.stored_database.proofs.Orders.{entry_total, same_key_itself}
 use Rattle.stored_database.proofs.Reading.{both, together}
@@ -52,7 +51,6 @@ differ_too {A} {K} {L} same alike k l (x ∷ xs) h differ =
 
 module _ (files : ℕ → Pages) (cat : Catalogue) (db : database.Db) (s : Spells files cat db) (is_cat : IsCatalogue cat)
     (differ : differ_by same_key (map (λ i. i.key) (database.entries db)) ≡ true) where
-
   -- what is known is known of an entry with that file
   file_of : (i : RelInfo) → IsIn i (database.entries db) → (e : Entry) × IsIn e cat.entries × (i.key ≡ e.key) × ((files_in cat).file i.key ≡ e.file)
   file_of i at =
@@ -89,16 +87,16 @@ module _ (files : ℕ → Pages) (cat : Catalogue) (db : database.Db) (s : Spell
   have_pages : list_all (λ r. nat_le 1 ((files_in cat).used r.info.key) && is_number32 ((files_in cat).used r.info.key)) db.relations ≡ true
   have_pages = tests_of (λ r. nat_le 1 ((files_in cat).used r.info.key) && is_number32 ((files_in cat).used r.info.key)) db.relations
       (λ r at. (let o = relation_of_file r at in
-        let t = stands o.0 (entry_stands files cat db s is_cat differ o.0 o.1) in
-        ap (λ n. nat_le 1 n && is_number32 n) o.5 ∙ together (nat_le 1 o.0.used) (is_number32 o.0.used) (some_pages files cat db s is_cat differ o.0 o.1 o.2) t.used))
+      let t = stands o.0 (entry_stands files cat db s is_cat differ o.0 o.1) in
+      ap (λ n. nat_le 1 n && is_number32 n) o.5 ∙ together (nat_le 1 o.0.used) (is_number32 o.0.used) (some_pages files cat db s is_cat differ o.0 o.1 o.2) t.used))
 
   have_rows : AllByRecursion (λ r. rows_in files (files_in cat) r ≡ Some r.rows) db.relations
   unfolding rows_in
   have_rows = all_of (λ r. rows_in files (files_in cat) r ≡ Some r.rows) db.relations
       (λ r at. (let o = relation_of_file r at in
-        let p = relation_parts files cat o.0 r o.3 in
-        ap (λ ds. ds >>= (λ domains. set_on (reader domains) ((files_in cat).used r.info.key) (files ((files_in cat).file r.info.key)))) p.domains_are
-        ∙ (λ i. set_on (reader p.domains) (o.5 i) (files (o.4 i))) ∙ p.rows))
+      let p = relation_parts files cat o.0 r o.3 in
+      ap (λ ds. ds >>= (λ domains. set_on (reader domains) ((files_in cat).used r.info.key) (files ((files_in cat).file r.info.key)))) p.domains_are
+      ∙ (λ i. set_on (reader p.domains) (o.5 i) (files (o.4 i))) ∙ p.rows))
 
   pub has_files : HasFiles db files (files_in cat)
   has_files = record { are_files = are_files; files_differ = files_differ; some_pages = have_pages; rows = have_rows }

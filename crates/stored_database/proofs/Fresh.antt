@@ -1,18 +1,16 @@
 -- Fresh pages stand for an empty database.
-use Rattle.std.proofs.Common.{◌≡◌, refl, sym, ap, ◌∙◌, ℕ, suc, ◌==◌, ◌&&◌, Bool, true, List, [], ◌∷◌, ◌++◌, take, drop, Option, Some, None, option_map}
-use Rattle.std.specs.Prelude.{bytes_eq, zero, codes}
+use Rattle.std.proofs.Common.{◌≡◌, refl, sym, ap, ◌∙◌, ℕ, suc, ◌==◌, ◌&&◌, true, List, [], ◌∷◌, ◌++◌, take, drop, Option, Some, None, option_map}
+use Rattle.std.specs.Prelude.{bytes_eq, zero}
 use Rattle.std.specs.declared.cmp.Ordering.{Ordering}
 use Rattle.std.proofs.lemmas.List.{take-append-drop}
 use Rattle.std.proofs.lemmas.Slice.Eq.{bytes_eq-Decides}
-use Rattle.byteorder.specs.Endian.{little_bytes}
 use Rattle.calculus.specs.Name.{is_name}
 use Rattle.disk_model.specs.Disk.{Image}
-use Rattle.batch_file.specs.Layout.{addr}
 use Rattle.page_cells.specs.Page.{next_page}
 use Rattle.page_chain.specs.Chains.{chain, chain_from}
 use Rattle.page_chain.specs.Lists.{◌>>=◌, when, check, each, once}
 use Rattle.page_chain.specs.Lying.{Lying, lying, lying_on, bytes_of}
-use Rattle.page_chain.specs.Pages.{Pages, pages_of, page_at, is_page, may_follow, next_of}
+use Rattle.page_chain.specs.Pages.{Pages, pages_of, is_page, may_follow, next_of}
 use Rattle.stored_database.specs.Catalogue.{Catalogue, listed, catalogue_in, most_pages}
 use Rattle.stored_database.specs.Columns.{column_of, column_cmp}
 use Rattle.stored_database.specs.Entries.{entry_of, entry_cmp}
@@ -44,10 +42,10 @@ ends bound p is last = λ i. when (is i && may_follow bound 0 (last i)) (last i)
 
 one_page : (most bound : ℕ) (pages : Pages) → next_of bound 0 (pages 0) ≡ Some 0 → chain_from (suc most) bound pages 0 ≡ Some (0 ∷ [])
 one_page most bound pages h = ap (λ (o : Option ℕ). elim o [
-    | None ↦ None
-    | Some zero ↦ Some (0 ∷ [])
-    | Some (suc next) ↦ option_map (λ rest. 0 ∷ rest) (chain_from most bound pages (suc next))
-  ]) h
+  | None ↦ None
+  | Some zero ↦ Some (0 ∷ [])
+  | Some (suc next) ↦ option_map (λ rest. 0 ∷ rest) (chain_from most bound pages (suc next))
+]) h
 
 empty_chain : (pages : Pages) → next_of most_pages 0 (pages 0) ≡ Some 0 → chain most_pages pages ≡ Some (0 ∷ [])
 unfolding chain

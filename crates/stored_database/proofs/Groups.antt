@@ -1,5 +1,6 @@
 -- Groups of items, told by a test of each group: all of them put in order, each group is found again by its test.
-use Rattle.std.proofs.Common.{◌≡◌, refl, sym, ap, ap₂, subst, ◌∙◌, true≢false, Bool, true, false, cond, List, [], ◌∷◌, ◌++◌, filter, find, Option, Some, None}
+use Rattle.std.proofs.Common.{◌≡◌, refl, sym, ap, ap₂, ◌∙◌, true≢false, Bool, true, false, cond, List, [], ◌∷◌, ◌++◌, filter, find, Some}
+use Rattle.std.proofs.lemmas.List.{append-nil}
 use Rattle.std.specs.Cmp.{IsTotalOrder}
 use Rattle.std.specs.List.{AllByRecursion, flat_map}
 use Rattle.std.specs.List.Sorted.{IsStrictlySortedBy}
@@ -7,13 +8,9 @@ use Rattle.std.specs.Ordering.{is_eq}
 use Rattle.std.specs.declared.cmp.Ordering.{Ordering}
 use Rattle.page_chain.specs.Lists.{in_order}
 use Rattle.stored_database.proofs.Pairs.{Pairs, all_then, all_flat, pairs_append}
-use Rattle.stored_database.proofs.InOrder.{Apart, sorted_apart, sorted_in_order, filter_in_order}
+use Rattle.stored_database.proofs.InOrder.{NoneEqual, sorted_apart, in_order_already, filter_in_order}
 
 -- ---- lists
-
-pub append_nil : {A : Type 0} (xs : List A) → xs ++ [] ≡ xs
-append_nil [] = refl
-append_nil (x ∷ xs) = ap (λ l. x ∷ l) (append_nil xs)
 
 -- those of two lists that pass
 pub filter_append : {A : Type 0} (test : A → Bool) (xs ys : List A) → filter test (xs ++ ys) ≡ filter test xs ++ filter test ys
@@ -77,7 +74,7 @@ module _ {X A : Type 0} {cmp : A → A → Ordering} {g : X → List A} {p : X �
   found_among (x ∷ xs) apart = (first, all_both_then xs apart.0 (found_among xs apart.1))
     where
       first : filter (p x) (g x ++ flat_map g xs) ≡ g x
-      first = filter_append (p x) (g x) (flat_map g xs) ∙ ap₂ (λ k l. k ++ l) (in_itself x) (filter_fail (p x) (flat_map g xs) (none_of_all x xs apart.0)) ∙ append_nil (g x)
+      first = filter_append (p x) (g x) (flat_map g xs) ∙ ap₂ (λ k l. k ++ l) (in_itself x) (filter_fail (p x) (flat_map g xs) (none_of_all x xs apart.0)) ∙ append-nil (g x)
 
       one : (y : X) → same x y ≡ false → filter (p y) (flat_map g xs) ≡ g y → filter (p y) (g x ++ flat_map g xs) ≡ g y
       one y other e = filter_append (p y) (g x) (flat_map g xs) ∙ ap₂ (λ k l. k ++ l) (filter_fail (p y) (g x) (none_pass y x (told.turned y x ∙ other))) e
@@ -99,7 +96,7 @@ module _ {X A : Type 0} {cmp : A → A → Ordering} {g : X → List A} {p : X �
       all_then (λ a. p x a ≡ true) (λ a. AllByRecursion (λ b. is_eq (cmp a b) ≡ false) bs) xs (λ a it. all_then (λ b. p x b ≡ false) (λ b. is_eq (cmp a b) ≡ false) bs (λ b that. not_equal x a b it that) fails) passes
 
   -- the items of all groups are apart
-  pub groups_apart : (xs : List X) → Pairs (λ x y. same x y ≡ false) xs → Apart cmp (flat_map g xs)
+  pub groups_apart : (xs : List X) → Pairs (λ x y. same x y ≡ false) xs → NoneEqual cmp (flat_map g xs)
   groups_apart [] apart = tt
   groups_apart (x ∷ xs) apart =
       pairs_append (λ a b. is_eq (cmp a b) ≡ false) (g x) (flat_map g xs) (sorted_apart cmp (g x) (told.ascends x)) (groups_apart xs apart.1)
@@ -109,5 +106,5 @@ module _ {X A : Type 0} {cmp : A → A → Ordering} {g : X → List A} {p : X �
   pub groups_found : (xs : List X) → Pairs (λ x y. same x y ≡ false) xs → AllByRecursion (λ x. filter (p x) (in_order cmp (flat_map g xs)) ≡ g x) xs
   groups_found xs apart =
       all_then (λ x. filter (p x) (flat_map g xs) ≡ g x) (λ x. filter (p x) (in_order cmp (flat_map g xs)) ≡ g x) xs
-      (λ x e. filter_in_order told.order (p x) (flat_map g xs) (groups_apart xs apart) ∙ ap (in_order cmp) e ∙ sorted_in_order cmp (g x) (told.ascends x))
+      (λ x e. filter_in_order told.order (p x) (flat_map g xs) (groups_apart xs apart) ∙ ap (in_order cmp) e ∙ in_order_already cmp (g x) (told.ascends x))
       (found_among xs apart)

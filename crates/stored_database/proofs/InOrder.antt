@@ -1,5 +1,5 @@
 -- Lists that are put in their order: what of them stays the same.
-use Rattle.std.proofs.Common.{◌≡◌, refl, sym, ap, ap₂, subst, ◌∙◌, true≢false, ℕ, suc, ◌==◌, Bool, true, false, cond, List, [], ◌∷◌, ◌++◌, map, filter, length, Option, Some, None, option_map}
+use Rattle.std.proofs.Common.{◌≡◌, refl, sym, ap, ap₂, subst, ◌∙◌, true≢false, suc, ◌==◌, Bool, true, false, cond, List, [], ◌∷◌, map, filter, length, Option, Some, option_map}
 use Rattle.std.proofs.lemmas.Bool.{eq-eqb}
 use Rattle.std.proofs.lemmas.Cmp.{alike_right}
 use Rattle.std.specs.Cmp.{IsTotalOrder}
@@ -11,24 +11,15 @@ use Rattle.std.specs.declared.cmp.Ordering.{Ordering}
 use Rattle.std.specs.declared.cmp.Ordering.TheVariants.{Less, Equal, Greater}
 use Rattle.calculus.specs.Lists.{insert_by}
 use Rattle.page_chain.specs.Lists.{◌>>=◌, when, each, in_order, once}
-use Rattle.stored_database.proofs.Pairs.{Pairs, pairs_filter, all_filter, pairs_unmap}
+use Rattle.stored_database.proofs.Members.{of_all, all_of}
+use Rattle.stored_database.proofs.Sets.{insert_as, insert_cons, in_order_in, sorted_in_order}
+use Rattle.stored_database.proofs.Pairs.{Pairs, pairs_filter, pairs_unmap}
 
 -- ---- one item is put in its place
 
--- where an item is put, by how it compares with the first
-abbrev pub insert_as : {A : Type 0} → Ordering → A → A → List A → List A → List A
-insert_as Less x y ys later = x ∷ y ∷ ys
-insert_as Equal x y ys later = x ∷ ys
-insert_as Greater x y ys later = y ∷ later
-
 -- it is put so, where this is how it compares
 pub put_as : {A : Type 0} (cmp : A → A → Ordering) (x y : A) (ys : List A) (o : Ordering) → cmp x y ≡ o → insert_by cmp x (y ∷ ys) ≡ insert_as o x y ys (insert_by cmp x ys)
-put_as {A} cmp x y ys o e = go (cmp x y) ∙ ap (λ o. insert_as o x y ys (insert_by cmp x ys)) e
-  where
-    go : (o : Ordering) → elim o [ Less ↦ x ∷ y ∷ ys | Equal ↦ x ∷ ys | Greater ↦ y ∷ insert_by cmp x ys ] ≡ insert_as o x y ys (insert_by cmp x ys)
-    go Less = refl
-    go Equal = refl
-    go Greater = refl
+put_as cmp x y ys o e = insert_cons cmp x y ys ∙ ap (λ o. insert_as o x y ys (insert_by cmp x ys)) e
 
 -- of two items of which the first is smaller, either may be put first
 less_swap : {A : Type 0} {cmp : A → A → Ordering} (order : IsTotalOrder cmp) (x y : A) (l : List A) → cmp x y ≡ Less → insert_by cmp x (insert_by cmp y l) ≡ insert_by cmp y (insert_by cmp x l)
@@ -69,53 +60,11 @@ swapped {A} {cmp} order x y l apart = go (cmp x y) refl
     go Equal e = cc (apart, ap is_eq e)
     go Greater e = sym (less_swap order y x l (order.antisymm y x ∙ ap ordering_reverse e))
 
--- the two are apart the other way round, too
-back : {A : Type 0} {cmp : A → A → Ordering} (order : IsTotalOrder cmp) (x y : A) (o : Ordering) → cmp x y ≡ o → cmp y x ≡ ordering_reverse o
-back order x y o e = order.antisymm y x ∙ ap ordering_reverse e
-
--- what holds of an item and of all others holds of all once it is put among them
-pub all_insert : {A : Type 0} (cmp : A → A → Ordering) (P : A → Type 0) (x : A) (ys : List A) → P x → AllByRecursion P ys → AllByRecursion P (insert_by cmp x ys)
-all_insert cmp P x [] its all = (its, tt)
-all_insert {A} cmp P x (y ∷ ys) its all = go (cmp x y) (all_insert cmp P x ys its all.1)
-  where
-    go : (o : Ordering) → AllByRecursion P (insert_by cmp x ys) → AllByRecursion P (elim o as (λ o. List A) [ Less ↦ x ∷ y ∷ ys | Equal ↦ x ∷ ys | Greater ↦ y ∷ insert_by cmp x ys ])
-    go Less later = (its, all)
-    go Equal later = (its, all.1)
-    go Greater later = (all.0, later)
-
--- so it holds of all in their order
+-- what holds of all holds of all in their order
 pub all_in_order : {A : Type 0} (cmp : A → A → Ordering) (P : A → Type 0) (xs : List A) → AllByRecursion P xs → AllByRecursion P (in_order cmp xs)
-all_in_order cmp P [] all = tt
-all_in_order cmp P (x ∷ xs) all = all_insert cmp P x (in_order cmp xs) all.0 (all_in_order cmp P xs all.1)
+all_in_order cmp P xs all = all_of P (in_order cmp xs) (λ x at. of_all P xs x all (in_order_in cmp xs x at))
 
 -- ---- order
-
--- all are behind the item, where they are behind one that it is smaller than
-all_behind : {A : Type 0} {cmp : A → A → Ordering} (order : IsTotalOrder cmp) (x y : A) (zs : List A) → cmp x y ≡ Less → AllByRecursion (λ z. cmp y z ≡ Less) zs → AllByRecursion (λ z. cmp x z ≡ Less) zs
-all_behind order x y [] less all = tt
-all_behind order x y (z ∷ zs) less all = (order.trans x y z less all.0, all_behind order x y zs less all.1)
-
--- or that it is equal to
-all_beside : {A : Type 0} {cmp : A → A → Ordering} (order : IsTotalOrder cmp) (x y : A) (zs : List A) → cmp x y ≡ Equal → AllByRecursion (λ z. cmp y z ≡ Less) zs → AllByRecursion (λ z. cmp x z ≡ Less) zs
-all_beside order x y [] same all = tt
-all_beside order x y (z ∷ zs) same all = (order.congr x y z same ∙ all.0, all_beside order x y zs same all.1)
-
--- an item put among ascending ones leaves them ascending
-pub insert_sorted : {A : Type 0} {cmp : A → A → Ordering} (order : IsTotalOrder cmp) (x : A) (ys : List A) → IsStrictlySortedBy cmp ys → IsStrictlySortedBy cmp (insert_by cmp x ys)
-unfolding IsStrictlySortedBy
-insert_sorted order x [] sorted = (tt, tt)
-insert_sorted {A} {cmp} order x (y ∷ ys) sorted = go (cmp x y) refl (insert_sorted order x ys sorted.1)
-  where
-    go : (o : Ordering) → cmp x y ≡ o → IsStrictlySortedBy cmp (insert_by cmp x ys) → IsStrictlySortedBy cmp (elim o as (λ o. List A) [ Less ↦ x ∷ y ∷ ys | Equal ↦ x ∷ ys | Greater ↦ y ∷ insert_by cmp x ys ])
-    go Less e later = ((e, all_behind order x y ys e sorted.0), sorted)
-    go Equal e later = (all_beside order x y ys e sorted.0, sorted.1)
-    go Greater e later = (all_insert cmp (λ z. cmp y z ≡ Less) x ys (back order x y Greater e) sorted.0, later)
-
--- items in their order ascend
-pub in_order_sorted : {A : Type 0} {cmp : A → A → Ordering} (order : IsTotalOrder cmp) (xs : List A) → IsStrictlySortedBy cmp (in_order cmp xs)
-unfolding IsStrictlySortedBy
-in_order_sorted order [] = tt
-in_order_sorted {A} {cmp} order (x ∷ xs) = insert_sorted order x (in_order cmp xs) (in_order_sorted order xs)
 
 -- an item that is smaller than all is put first
 first_insert : {A : Type 0} (cmp : A → A → Ordering) (x : A) (ys : List A) → AllByRecursion (λ y. cmp x y ≡ Less) ys → insert_by cmp x ys ≡ x ∷ ys
@@ -123,23 +72,23 @@ first_insert cmp x [] all = refl
 first_insert cmp x (y ∷ ys) all = put_as cmp x y ys Less all.0
 
 -- items that ascend are in their order
-pub sorted_in_order : {A : Type 0} (cmp : A → A → Ordering) (xs : List A) → IsStrictlySortedBy cmp xs → in_order cmp xs ≡ xs
+pub in_order_already : {A : Type 0} (cmp : A → A → Ordering) (xs : List A) → IsStrictlySortedBy cmp xs → in_order cmp xs ≡ xs
 unfolding IsStrictlySortedBy
-sorted_in_order cmp [] sorted = refl
-sorted_in_order cmp (x ∷ xs) sorted = ap (insert_by cmp x) (sorted_in_order cmp xs sorted.1) ∙ first_insert cmp x xs sorted.0
+in_order_already cmp [] sorted = refl
+in_order_already cmp (x ∷ xs) sorted = ap (insert_by cmp x) (in_order_already cmp xs sorted.1) ∙ first_insert cmp x xs sorted.0
 
 -- ---- items that are apart
 
 -- no two of these items are equal
-abbrev pub Apart : {A : Type 0} → (A → A → Ordering) → List A → Type 0
-Apart cmp = Pairs (λ x y. is_eq (cmp x y) ≡ false)
+abbrev pub NoneEqual : {A : Type 0} → (A → A → Ordering) → List A → Type 0
+NoneEqual cmp = Pairs (λ x y. is_eq (cmp x y) ≡ false)
 
 less_apart : {A : Type 0} (cmp : A → A → Ordering) (x : A) (ys : List A) → AllByRecursion (λ y. cmp x y ≡ Less) ys → AllByRecursion (λ y. is_eq (cmp x y) ≡ false) ys
 less_apart cmp x [] all = tt
 less_apart cmp x (y ∷ ys) all = (ap is_eq all.0, less_apart cmp x ys all.1)
 
 -- items that ascend are apart
-pub sorted_apart : {A : Type 0} (cmp : A → A → Ordering) (xs : List A) → IsStrictlySortedBy cmp xs → Apart cmp xs
+pub sorted_apart : {A : Type 0} (cmp : A → A → Ordering) (xs : List A) → IsStrictlySortedBy cmp xs → NoneEqual cmp xs
 unfolding IsStrictlySortedBy
 sorted_apart cmp [] sorted = tt
 sorted_apart cmp (x ∷ xs) sorted = (less_apart cmp x xs sorted.0, sorted_apart cmp xs sorted.1)
@@ -156,7 +105,7 @@ length_insert {A} cmp x (y ∷ ys) new = go (cmp x y) refl (length_insert cmp x 
     go Greater e later = ap suc later
 
 -- so many are in order as there are
-pub length_in_order : {A : Type 0} (cmp : A → A → Ordering) (xs : List A) → Apart cmp xs → length (in_order cmp xs) ≡ length xs
+pub length_in_order : {A : Type 0} (cmp : A → A → Ordering) (xs : List A) → NoneEqual cmp xs → length (in_order cmp xs) ≡ length xs
 length_in_order cmp [] apart = refl
 length_in_order cmp (x ∷ xs) apart =
     length_insert cmp x (in_order cmp xs) (all_in_order cmp (λ y. is_eq (cmp x y) ≡ false) xs apart.0) ∙ ap suc (length_in_order cmp xs apart.1)
@@ -199,7 +148,7 @@ filter_insert {A} {cmp} order other p x (y ∷ ys) new apart = go (other x y) re
 
 -- those that pass, of items that are in another order, are the same in order
 pub filter_reordered : {A : Type 0} {cmp : A → A → Ordering} (order : IsTotalOrder cmp) (other : A → A → Ordering) (p : A → Bool) (xs : List A)
-    → Apart other xs → Apart cmp xs → in_order cmp (filter p (in_order other xs)) ≡ in_order cmp (filter p xs)
+    → NoneEqual other xs → NoneEqual cmp xs → in_order cmp (filter p (in_order other xs)) ≡ in_order cmp (filter p xs)
 filter_reordered order other p [] new apart = refl
 filter_reordered {A} {cmp} order other p (x ∷ xs) new apart =
     filter_insert order other p x (in_order other xs) (all_in_order other (λ y. is_eq (other x y) ≡ false) xs new.0) (all_in_order other (λ y. is_eq (cmp x y) ≡ false) xs apart.0)
@@ -207,9 +156,9 @@ filter_reordered {A} {cmp} order other p (x ∷ xs) new apart =
     ∙ sym (kept cmp x (filter p xs) (p x))
 
 -- those that pass, of items in their order, are in their order
-pub filter_in_order : {A : Type 0} {cmp : A → A → Ordering} (order : IsTotalOrder cmp) (p : A → Bool) (xs : List A) → Apart cmp xs → filter p (in_order cmp xs) ≡ in_order cmp (filter p xs)
+pub filter_in_order : {A : Type 0} {cmp : A → A → Ordering} (order : IsTotalOrder cmp) (p : A → Bool) (xs : List A) → NoneEqual cmp xs → filter p (in_order cmp xs) ≡ in_order cmp (filter p xs)
 filter_in_order {A} {cmp} order p xs apart =
-    sym (sorted_in_order cmp (filter p (in_order cmp xs)) (IsStrictlySortedBy-filter cmp p (in_order cmp xs) (in_order_sorted order xs)))
+    sym (in_order_already cmp (filter p (in_order cmp xs)) (IsStrictlySortedBy-filter cmp p (in_order cmp xs) (sorted_in_order order xs)))
     ∙ filter_reordered order cmp p xs apart apart
 
 filter_all : {A : Type 0} (xs : List A) → filter (λ x. true) xs ≡ xs
@@ -217,12 +166,12 @@ filter_all [] = refl
 filter_all (x ∷ xs) = ap (λ l. x ∷ l) (filter_all xs)
 
 -- items that ascend are found again by the order, in whatever other order they are put
-pub again : {A : Type 0} {cmp : A → A → Ordering} (order : IsTotalOrder cmp) (other : A → A → Ordering) (xs : List A) → Apart other xs → IsStrictlySortedBy cmp xs → in_order cmp (in_order other xs) ≡ xs
+pub again : {A : Type 0} {cmp : A → A → Ordering} (order : IsTotalOrder cmp) (other : A → A → Ordering) (xs : List A) → NoneEqual other xs → IsStrictlySortedBy cmp xs → in_order cmp (in_order other xs) ≡ xs
 again {A} {cmp} order other xs new sorted =
     ap (in_order cmp) (sym (filter_all (in_order other xs)))
     ∙ filter_reordered order other (λ x. true) xs new (sorted_apart cmp xs sorted)
     ∙ ap (in_order cmp) (filter_all xs)
-    ∙ sorted_in_order cmp xs sorted
+    ∙ in_order_already cmp xs sorted
 
 -- ---- items that are read
 
@@ -230,7 +179,7 @@ when_true : {A : Type 0} (b : Bool) (a : A) → b ≡ true → when b a ≡ Some
 when_true b a e = ap (λ b. when b a) e
 
 -- they are there once
-pub once_again : {A : Type 0} {cmp : A → A → Ordering} (order : IsTotalOrder cmp) (other : A → A → Ordering) (xs : List A) → Apart other xs → IsStrictlySortedBy cmp xs → once cmp (in_order other xs) ≡ Some xs
+pub once_again : {A : Type 0} {cmp : A → A → Ordering} (order : IsTotalOrder cmp) (other : A → A → Ordering) (xs : List A) → NoneEqual other xs → IsStrictlySortedBy cmp xs → once cmp (in_order other xs) ≡ Some xs
 once_again {A} {cmp} order other xs new sorted =
     ap (λ (l : List A). when (length l == length (in_order other xs)) l) (again order other xs new sorted)
     ∙ when_true (length xs == length (in_order other xs)) xs (eq-eqb (length xs) (length (in_order other xs)) (sym (length_in_order other xs new)))
@@ -259,11 +208,11 @@ each_map {A} f h (x ∷ xs) all = ap₂ (λ (o : Option A) (l : Option (List A))
 -- Items that ascend are read again from what was made of them, which stands among others in an order of its own.
 pub read_again : {A B : Type 0} {cmp : A → A → Ordering} {other : B → B → Ordering} (order : IsTotalOrder cmp) (its : IsTotalOrder other)
     (f : B → Option A) (h : A → B) (p : B → Bool) (xs : List A) (all : List B)
-    → Apart other all → filter p all ≡ map h xs → IsStrictlySortedBy cmp xs → AllByRecursion (λ x. f (h x) ≡ Some x) xs
+    → NoneEqual other all → filter p all ≡ map h xs → IsStrictlySortedBy cmp xs → AllByRecursion (λ x. f (h x) ≡ Some x) xs
     → each f (filter p (in_order other all)) >>= once cmp ≡ Some xs
 read_again {A} {B} {cmp} {other} order its f h p xs all apart are sorted read =
     let on = λ (a b : A). other (h a) (h b) in
-    let new : Apart on xs = pairs_unmap (λ (a b : B). is_eq (other a b) ≡ false) h xs (subst (Apart other) are (pairs_filter (λ (a b : B). is_eq (other a b) ≡ false) p all apart)) in
+    let new : NoneEqual on xs = pairs_unmap (λ (a b : B). is_eq (other a b) ≡ false) h xs (subst (NoneEqual other) are (pairs_filter (λ (a b : B). is_eq (other a b) ≡ false) p all apart)) in
     let lies : filter p (in_order other all) ≡ map h (in_order on xs) = filter_in_order its p all apart ∙ ap (in_order other) are ∙ in_order_map other h xs in
     ap (λ l. each f l >>= once cmp) lies
     ∙ ap (λ o. o >>= once cmp) (each_map f h (in_order on xs) (all_in_order on (λ x. f (h x) ≡ Some x) xs read))

@@ -1,10 +1,8 @@
 -- The entries of a catalogue and what a database knows of its relations, views and indexes.
-use Rattle.std.proofs.Common.{◌≡◌, refl, sym, ap, subst, ◌∙◌, inl, inr, ℕ, ◌==◌, ◌&&◌, ◌||◌, not, Bool, true, false, List, [], ◌∷◌, ◌++◌, map, filter, find, Option, Some, None}
+use Rattle.std.proofs.Common.{◌≡◌, refl, sym, ap, subst, ◌∙◌, inl, inr, ℕ, ◌||◌, not, Bool, true, false, List, [], ◌∷◌, map, Option, Some, None}
 use Rattle.std.specs.Prelude.{◌⊎◌}
 use Rattle.std.specs.List.{AllByRecursion, list_any}
 use Rattle.std.specs.Ordering.{is_eq}
-use Rattle.calculus.specs.declared.query.RelKey.{RelKey}
-use Rattle.calculus.specs.declared.schema.Attr.{Attr}
 use Rattle.calculus.specs.declared.schema.RelInfo.{RelInfo}
 use Rattle.calculus.specs.declared.schema.Spec.{Spec}
 use Rattle.calculus.specs.declared.schema.Spec.TheVariants.{Heap, Hash, Isam, View, Index}
@@ -15,13 +13,12 @@ use Rattle.calculus.specs.Structures.{is_structure, is_view, is_index}
 use Rattle.page_chain.specs.Pages.{Pages}
 use Rattle.stored_database.specs.Catalogue.{Catalogue}
 use Rattle.stored_database.specs.Entries.{Entry}
-use Rattle.stored_database.specs.Printed.{Files, entry_under, files_in}
-use Rattle.stored_database.specs.Spelled.{attrs_of, info_of, entries_that, relation_of, view_of, index_of}
-use Rattle.stored_database.proofs.Members.{IsIn, Apart, of_all, all_of, apart_same, in_filter, filter_in, in_map, map_in, in_first, in_second, in_either, in_found, found_in}
-use Rattle.stored_database.proofs.Orders.{key_exact, same_key_is, same_key_itself, same_key_turned}
-use Rattle.stored_database.proofs.ReadSets.{IsRead}
+use Rattle.stored_database.specs.Printed.{entry_under, files_in}
+use Rattle.stored_database.specs.Spelled.{attrs_of, entries_that, relation_of, view_of, index_of}
+use Rattle.stored_database.proofs.Members.{IsIn, Apart, apart_same, in_filter, filter_in, in_map, map_in, in_first, in_second, in_either, in_found}
+use Rattle.stored_database.proofs.Orders.{key_exact, same_key_itself, same_key_turned}
 use Rattle.stored_database.proofs.Reading.{both}
-use Rattle.stored_database.proofs.SpelledParts.{Spells, OfRelation, OfView, OfIndex, relation_parts, view_parts, index_parts}
+use Rattle.stored_database.proofs.SpelledParts.{Spells, relation_parts, view_parts, index_parts}
 
 -- This is known of the entry: it has the entry's key, structure and keys; where it is no index its attributes are those of the file, and else there are none.
 pub record IsKnown (cat : Catalogue) (e : Entry) (i : RelInfo) : Type 0 where
@@ -107,35 +104,35 @@ module _ (files : ℕ → Pages) (cat : Catalogue) (db : database.Db) (s : Spell
   pub to_info : (e : Entry) → IsIn e cat.entries → (i : RelInfo) × IsIn i (database.entries db) × IsKnown cat e i
   to_info e at = elim (which e.spec) [
     | inl is ↦ (
-      let r = s.relations.to e (in_filter (λ e. is_structure e.spec) cat.entries e at is) in
-      (r.0.info, in_first (map (λ r. r.info) db.relations) _ r.0.info (in_map (λ r. r.info) db.relations r.0 r.1), of_relation e r.0 is r.2))
+        let r = s.relations.to e (in_filter (λ e. is_structure e.spec) cat.entries e at is) in
+        (r.0.info, in_first (map (λ r. r.info) db.relations) _ r.0.info (in_map (λ r. r.info) db.relations r.0 r.1), of_relation e r.0 is r.2))
     | inr (inl is) ↦ (
-      let v = s.views.to e (in_filter (λ e. is_view e.spec) cat.entries e at is) in
-      (v.0.info, in_second (map (λ r. r.info) db.relations) _ v.0.info (in_first (map (λ v. v.info) db.views) _ v.0.info (in_map (λ v. v.info) db.views v.0 v.1)), of_view e v.0 is v.2))
+        let v = s.views.to e (in_filter (λ e. is_view e.spec) cat.entries e at is) in
+        (v.0.info, in_second (map (λ r. r.info) db.relations) _ v.0.info (in_first (map (λ v. v.info) db.views) _ v.0.info (in_map (λ v. v.info) db.views v.0 v.1)), of_view e v.0 is v.2))
     | inr (inr is) ↦ (
-      let x = s.indexes.to e (in_filter (λ e. is_index e.spec) cat.entries e at is) in
-      (x.0.info, in_second (map (λ r. r.info) db.relations) _ x.0.info (in_second (map (λ v. v.info) db.views) _ x.0.info (in_map (λ x. x.info) db.indexes x.0 x.1)), of_index e x.0 is x.2))
+        let x = s.indexes.to e (in_filter (λ e. is_index e.spec) cat.entries e at is) in
+        (x.0.info, in_second (map (λ r. r.info) db.relations) _ x.0.info (in_second (map (λ v. v.info) db.views) _ x.0.info (in_map (λ x. x.info) db.indexes x.0 x.1)), of_index e x.0 is x.2))
   ]
 
   -- and what is known is known of an entry
   pub of_info : (i : RelInfo) → IsIn i (database.entries db) → (e : Entry) × IsIn e cat.entries × IsKnown cat e i
   of_info i at = elim (in_either (map (λ r. r.info) db.relations) _ i at) [
     | inl a ↦ (
-      let m = map_in (λ r. r.info) db.relations i a in
-      let r = s.relations.from m.0 m.1 in
-      let f = filter_in (λ e. is_structure e.spec) cat.entries r.0 r.1 in
-      (r.0, f.0, subst (IsKnown cat r.0) (sym m.2) (of_relation r.0 m.0 f.1 r.2)))
+        let m = map_in (λ r. r.info) db.relations i a in
+        let r = s.relations.from m.0 m.1 in
+        let f = filter_in (λ e. is_structure e.spec) cat.entries r.0 r.1 in
+        (r.0, f.0, subst (IsKnown cat r.0) (sym m.2) (of_relation r.0 m.0 f.1 r.2)))
     | inr b ↦ elim (in_either (map (λ v. v.info) db.views) _ i b) [
       | inl a ↦ (
-        let m = map_in (λ v. v.info) db.views i a in
-        let v = s.views.from m.0 m.1 in
-        let f = filter_in (λ e. is_view e.spec) cat.entries v.0 v.1 in
-        (v.0, f.0, subst (IsKnown cat v.0) (sym m.2) (of_view v.0 m.0 f.1 v.2)))
+          let m = map_in (λ v. v.info) db.views i a in
+          let v = s.views.from m.0 m.1 in
+          let f = filter_in (λ e. is_view e.spec) cat.entries v.0 v.1 in
+          (v.0, f.0, subst (IsKnown cat v.0) (sym m.2) (of_view v.0 m.0 f.1 v.2)))
       | inr c ↦ (
-        let m = map_in (λ x. x.info) db.indexes i c in
-        let x = s.indexes.from m.0 m.1 in
-        let f = filter_in (λ e. is_index e.spec) cat.entries x.0 x.1 in
-        (x.0, f.0, subst (IsKnown cat x.0) (sym m.2) (of_index x.0 m.0 f.1 x.2)))
+          let m = map_in (λ x. x.info) db.indexes i c in
+          let x = s.indexes.from m.0 m.1 in
+          let f = filter_in (λ e. is_index e.spec) cat.entries x.0 x.1 in
+          (x.0, f.0, subst (IsKnown cat x.0) (sym m.2) (of_index x.0 m.0 f.1 x.2)))
     ]
   ]
 
@@ -168,7 +165,7 @@ module _ (files : ℕ → Pages) (cat : Catalogue) (db : database.Db) (s : Spell
         let i = to_info a at in
         let j = to_info b bt in
         let one : i.0 ≡ j.0 = apart_same (λ (i j : RelInfo). same_key i.key j.key) (λ i j e. same_key_turned i.key j.key e) (database.entries db) i.0 j.0
-          (differ_apart same_key (λ i. i.key) (database.entries db) differ) i.1 j.1 ((λ k. same_key (i.2.key k) (j.2.key k)) ∙ h) in
+        (differ_apart same_key (λ i. i.key) (database.entries db) differ) i.1 j.1 ((λ k. same_key (i.2.key k) (j.2.key k)) ∙ h) in
         sym i.2.spec ∙ ap (λ (i : RelInfo). i.spec) one ∙ j.2.spec
 
     -- entries with one key are one
@@ -177,11 +174,11 @@ module _ (files : ℕ → Pages) (cat : Catalogue) (db : database.Db) (s : Spell
         let same = same_spec a b at bt h in
         elim (which a.spec) [
           | inl is ↦ apart_same (λ a b. same_key a.key b.key) turned (entries_that is_structure cat) a b relations_apart
-            (in_filter (λ e. is_structure e.spec) cat.entries a at is) (in_filter (λ e. is_structure e.spec) cat.entries b bt (ap is_structure (sym same) ∙ is)) h
+              (in_filter (λ e. is_structure e.spec) cat.entries a at is) (in_filter (λ e. is_structure e.spec) cat.entries b bt (ap is_structure (sym same) ∙ is)) h
           | inr (inl is) ↦ apart_same (λ a b. same_key a.key b.key) turned (entries_that is_view cat) a b views_apart
-            (in_filter (λ e. is_view e.spec) cat.entries a at is) (in_filter (λ e. is_view e.spec) cat.entries b bt (ap is_view (sym same) ∙ is)) h
+              (in_filter (λ e. is_view e.spec) cat.entries a at is) (in_filter (λ e. is_view e.spec) cat.entries b bt (ap is_view (sym same) ∙ is)) h
           | inr (inr is) ↦ apart_same (λ a b. same_key a.key b.key) turned (entries_that is_index cat) a b indexes_apart
-            (in_filter (λ e. is_index e.spec) cat.entries a at is) (in_filter (λ e. is_index e.spec) cat.entries b bt (ap is_index (sym same) ∙ is)) h
+              (in_filter (λ e. is_index e.spec) cat.entries a at is) (in_filter (λ e. is_index e.spec) cat.entries b bt (ap is_index (sym same) ∙ is)) h
         ]
 
     pub under_its_key : (e : Entry) → IsIn e cat.entries → entry_under cat e.key ≡ Some e

@@ -1,10 +1,10 @@
 -- What is in lists that are joined, mapped, filtered and read.
-use Rattle.std.proofs.Common.{◌≡◌, refl, sym, ap, subst, ◌∙◌, inl, inr, Bool, true, false, cond, ◌&&◌, ◌||◌, not, List, [], ◌∷◌, ◌++◌, map, filter, find, Option, Some, None, option_map}
+use Rattle.std.proofs.Common.{◌≡◌, refl, sym, ap, subst, ◌∙◌, inl, inr, Bool, true, false, cond, List, [], ◌∷◌, ◌++◌, map, filter, find, Option, Some, None, option_map}
 use Rattle.std.specs.Prelude.{◌⊎◌}
-use Rattle.std.specs.List.{AllByRecursion, list_all, list_any, flat_map}
+use Rattle.std.specs.List.{AllByRecursion, list_all, flat_map}
 use Rattle.std.proofs.lemmas.Option.{same_Some}
 use Rattle.page_chain.specs.Lists.{◌>>=◌, each}
-use Rattle.stored_database.proofs.Reading.{both, together, bind_some}
+use Rattle.stored_database.proofs.Reading.{both, together}
 
 -- the item is one of these
 abbrev pub IsIn : {A : Type 0} → A → List A → Type 0
@@ -115,7 +115,7 @@ in_found {A} test (y ∷ ys) x at h alone = go (test y) refl at (λ at. in_found
 -- ---- items that are read
 
 -- the first and the others were read
-each_parts : {A B : Type 0} (f : A → Option B) (x : A) (xs : List A) (ys : List B) → each f (x ∷ xs) ≡ Some ys
+pub each_parts : {A B : Type 0} (f : A → Option B) (x : A) (xs : List A) (ys : List B) → each f (x ∷ xs) ≡ Some ys
     → (y : B) × (rest : List B) × (f x ≡ Some y) × (each f xs ≡ Some rest) × (ys ≡ y ∷ rest)
 each_parts {A} {B} f x xs ys h = go (f x) (each f xs) refl refl h
   where
@@ -167,6 +167,7 @@ pub read_apart : {A B : Type 0} (same : A → A → Bool) (alike : B → B → B
 read_apart same alike f keeps [] ys h apart = tt
 read_apart {A} {B} same alike f keeps (x ∷ xs) ys h apart =
     let p = each_parts f x xs ys h in
-    let a = subst (Apart alike) p.4 apart in
-    (all_of (λ z. same x z ≡ false) xs (λ z at. (let s = each_read f xs p.1 z p.3 at in sym (keeps x z p.0 s.0 p.2 s.2) ∙ of_all (λ y. alike p.0 y ≡ false) p.1 s.0 a.0 s.1)),
-      read_apart same alike f keeps xs p.1 p.3 a.1)
+    let a = subst (Apart alike) p.4 apart in (
+      all_of (λ z. same x z ≡ false) xs (λ z at. (let s = each_read f xs p.1 z p.3 at in sym (keeps x z p.0 s.0 p.2 s.2) ∙ of_all (λ y. alike p.0 y ≡ false) p.1 s.0 a.0 s.1)),
+      read_apart same alike f keeps xs p.1 p.3 a.1,
+    )

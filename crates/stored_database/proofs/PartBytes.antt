@@ -1,9 +1,7 @@
 -- Parts of trees and their bytes.
-use Rattle.std.proofs.Common.{◌≡◌, refl, ap, ◌∙◌, ℕ, ◌&&◌, nat_le, nat_lt, Bool, true, List, [], ◌∷◌, ◌++◌, drop, slice_index, Option, Some}
-use Rattle.byteorder.specs.Endian.{little_bytes, little_from}
-use Rattle.page_chain.specs.Lists.{◌>>=◌, when}
+use Rattle.std.proofs.Common.{◌≡◌, ap, ◌∙◌, nat_le, true, [], Some}
 use Rattle.stored_database.specs.Laws.{PartsAreTheirBytes}
-use Rattle.stored_database.specs.Names.{is_number32, bytes32}
+use Rattle.stored_database.specs.Names.{is_number32}
 use Rattle.stored_database.specs.Parts.{Part, of_permit, is_part, part_bytes, part_in, part_of}
 use Rattle.stored_database.proofs.Reading.{both, strictly, read_again, number_again, number16_again}
 
@@ -24,6 +22,6 @@ part_again p h =
 pub parts_are_their_bytes : PartsAreTheirBytes
 unfolding part_of
 parts_are_their_bytes bytes p = (
-    strictly (Some (part_in bytes)) is_part part_bytes bytes p,
-    λ h. read_again (Some (part_in bytes)) is_part part_bytes bytes p (ap Some (ap part_in h.1 ∙ part_again p h.0)) h.0 h.1
+  strictly (Some (part_in bytes)) is_part part_bytes bytes p,
+  λ h. read_again (Some (part_in bytes)) is_part part_bytes bytes p (ap Some (ap part_in h.1 ∙ part_again p h.0)) h.0 h.1,
 )

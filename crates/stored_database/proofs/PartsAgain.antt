@@ -1,11 +1,11 @@
 -- The parts of a tree are those into which its bytes are cut.
-use Rattle.std.proofs.Common.{◌≡◌, refl, sym, ap, ap₂, ◌∙◌, inl, inr, ℕ, zero, suc, ◌≤◌, ◌==◌, ◌&&◌, nat_le, Bool, true, false, List, [], ◌∷◌, ◌++◌, map, filter, length, take, drop, Option, Some, arith, length-append}
+use Rattle.std.proofs.Common.{◌≡◌, refl, sym, ap, ap₂, ◌∙◌, inl, inr, ℕ, zero, suc, ◌≤◌, ◌==◌, ◌&&◌, nat_le, true, List, [], ◌∷◌, ◌++◌, map, filter, length, take, drop, Some, arith, length-append}
 use Rattle.std.specs.List.{concat}
 use Rattle.std.proofs.lemmas.Bool.Decides.{nat_tests}
-use Rattle.page_chain.specs.Lists.{when, are_from}
+use Rattle.page_chain.specs.Lists.{are_from}
 use Rattle.stored_database.specs.Parts.{Part}
 use Rattle.stored_database.specs.Trees.{most_part_bytes, are_cut, is_part_of, joined, tree_at, pieces, cut, parts_from}
-use Rattle.stored_database.proofs.Members.{IsIn, of_all, all_of, filter_in}
+use Rattle.stored_database.proofs.Members.{IsIn, filter_in}
 use Rattle.stored_database.proofs.Reading.{both, when_some, same_number, take_front, drop_front}
 
 -- ---- pieces

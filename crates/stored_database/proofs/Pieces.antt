@@ -1,8 +1,8 @@
 -- Bytes that are cut into pieces, and the parts of a tree.
-use Rattle.std.proofs.Common.{◌≡◌, refl, sym, ap, ap₂, ◌∙◌, ℕ, zero, suc, ◌+◌, ◌-◌, ◌<◌, ◌≤◌, min, ◌==◌, ◌&&◌, Bool, true, false, cond, List, [], ◌∷◌, ◌++◌, map, filter, take, drop, length, Option, Some, None, arith, length-drop, length-take}
+use Rattle.std.proofs.Common.{◌≡◌, refl, ap, ap₂, ◌∙◌, ℕ, zero, suc, ◌<◌, ◌≤◌, ◌==◌, ◌&&◌, Bool, true, false, cond, List, [], ◌∷◌, ◌++◌, map, filter, take, drop, length, Some, arith, length-drop, length-take}
 use Rattle.std.specs.Prelude.{nat_le}
 use Rattle.std.proofs.lemmas.Bool.{and_from, le-leb, eq-eqb, ne_eqb}
-use Rattle.std.proofs.lemmas.Cmp.{nat_cmp_total, tied_itself}
+use Rattle.std.proofs.lemmas.List.{take-append-drop}
 use Rattle.std.specs.List.{AllByRecursion, concat}
 use Rattle.std.specs.List.Sorted.{IsStrictlySortedBy}
 use Rattle.std.specs.Ordering.{nat_cmp}
@@ -10,17 +10,12 @@ use Rattle.std.specs.declared.cmp.Ordering.TheVariants.{Less}
 use Rattle.page_chain.specs.Lists.{when, are_from}
 use Rattle.stored_database.specs.Parts.{Part, part_cmp}
 use Rattle.stored_database.specs.Trees.{most_part_bytes, are_cut, is_part_of, joined, pieces, cut, parts_from}
-use Rattle.stored_database.proofs.Groups.{append_nil, filter_fail}
+use Rattle.stored_database.proofs.Groups.{filter_fail}
 use Rattle.stored_database.proofs.PrintedColumns.{then_less}
 use Rattle.stored_database.proofs.PrintedEntries.{nat_less}
 use Rattle.stored_database.proofs.Reading.{number_itself}
 
 -- ---- pieces
-
-take_drop : {A : Type 0} (n : ℕ) (xs : List A) → take n xs ++ drop n xs ≡ xs
-take_drop zero xs = refl
-take_drop (suc n) [] = refl
-take_drop (suc n) (x ∷ xs) = ap (λ l. x ∷ l) (take_drop n xs)
 
 -- what is left is shorter
 left_over : (most b : ℕ) (bytes : List ℕ) → length (b ∷ bytes) ≤ suc most → length (drop 900 (b ∷ bytes)) ≤ most
@@ -37,7 +32,7 @@ unfolding pieces
 pieces_join zero [] h = refl
 pieces_join zero (b ∷ bytes) h = absurd (omega arith)
 pieces_join (suc most) [] h = refl
-pieces_join (suc most) (b ∷ bytes) h = ap (λ l. take 900 (b ∷ bytes) ++ l) (pieces_join most (drop 900 (b ∷ bytes)) (left_over most b bytes h)) ∙ take_drop 900 (b ∷ bytes)
+pieces_join (suc most) (b ∷ bytes) h = ap (λ l. take 900 (b ∷ bytes) ++ l) (pieces_join most (drop 900 (b ∷ bytes)) (left_over most b bytes h)) ∙ take-append-drop 900 (b ∷ bytes)
 
 -- there are 900 bytes in each piece but the last
 pub pieces_cut : (most : ℕ) (bytes : List ℕ) → length bytes ≤ most → 0 < length bytes → are_cut (pieces most bytes) ≡ true

@@ -1,25 +1,23 @@
 -- The attributes of a printed catalogue: those of a file are those of what has the file.
-use Rattle.std.proofs.Common.{◌≡◌, refl, sym, ap, ap₂, ◌∙◌, true≢false, ℕ, suc, ◌+◌, ◌<◌, ◌==◌, ◌&&◌, not, Bool, true, false, List, [], ◌∷◌, ◌++◌, map, filter, Option, Some, None, arith}
+use Rattle.std.proofs.Common.{◌≡◌, refl, sym, ap, ap₂, ◌∙◌, true≢false, ℕ, suc, ◌<◌, ◌==◌, not, true, List, [], ◌∷◌, map, filter, Some, arith}
 use Rattle.std.specs.Prelude.{nat_eq}
-use Rattle.std.proofs.lemmas.Bool.{and_parts, and_from}
+use Rattle.std.proofs.lemmas.Bool.{and_from}
 use Rattle.std.proofs.lemmas.Cmp.{nat_cmp_total, tied_itself}
-use Rattle.std.specs.List.{AllByRecursion, flat_map, list_all}
+use Rattle.std.specs.List.{AllByRecursion, flat_map}
 use Rattle.std.specs.List.Sorted.{IsStrictlySortedBy}
 use Rattle.std.specs.Ordering.{is_eq, nat_cmp, ordering_then}
 use Rattle.std.specs.declared.cmp.Ordering.{Ordering}
 use Rattle.std.specs.declared.cmp.Ordering.TheVariants.{Less, Equal, Greater}
 use Rattle.calculus.specs.declared.schema.Attr.{Attr}
 use Rattle.calculus.specs.declared.schema.RelInfo.{RelInfo}
-use Rattle.calculus.specs.declared.schema.Spec.{Spec}
-use Rattle.calculus.specs.Database.{Db, Relation, Index, View, entries}
+use Rattle.calculus.specs.Database.{Db, entries}
 use Rattle.calculus.specs.Lists.{differ_by}
 use Rattle.calculus.specs.Structures.{is_index}
 use Rattle.page_chain.specs.Lists.{when, are_from, in_order}
 use Rattle.stored_database.specs.Columns.{Column, column_cmp}
-use Rattle.stored_database.specs.Entries.{Entry}
 use Rattle.stored_database.specs.Printed.{Files, columns_from, columns_for, printed}
-use Rattle.stored_database.specs.Spelled.{entry_at, entry_is, attrs_of, columns_stand}
-use Rattle.stored_database.proofs.Pairs.{Pairs, all_then, all_flat, all_pass}
+use Rattle.stored_database.specs.Spelled.{entry_is, attrs_of, columns_stand}
+use Rattle.stored_database.proofs.Pairs.{all_then, all_flat, all_pass}
 use Rattle.stored_database.proofs.InOrder.{all_in_order}
 use Rattle.stored_database.proofs.Groups.{Told, groups_found}
 use Rattle.stored_database.proofs.Orders.{column_total}
@@ -71,6 +69,11 @@ pub columns_of_file : (P : ℕ → Type 0) (file place : ℕ) (attrs : List Attr
 unfolding columns_from
 columns_of_file P file place [] it = tt
 columns_of_file P file place (a ∷ attrs) it = (it, columns_of_file P file (suc place) attrs it)
+
+-- where there are no attributes there is no column
+pub no_columns : (P : Column → Type 0) (file place : ℕ) → AllByRecursion P (columns_from file place [])
+unfolding columns_from
+no_columns P file place = tt
 
 -- ---- all columns
 

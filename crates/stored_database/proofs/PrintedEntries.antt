@@ -1,22 +1,21 @@
 -- The entries of a printed catalogue: each is found by its file.
-use Rattle.std.proofs.Common.{◌≡◌, refl, sym, ap, subst, ◌∙◌, true≢false, ℕ, ◌<◌, ◌==◌, Bool, true, false, cond, List, [], ◌∷◌, ◌++◌, map, filter, find, Option, Some, None}
+use Rattle.std.proofs.Common.{◌≡◌, refl, sym, ap, subst, ◌∙◌, true≢false, ℕ, ◌<◌, ◌==◌, Bool, true, false, cond, List, [], ◌∷◌, ◌++◌, map, filter, find, Some}
 use Rattle.std.specs.Prelude.{nat_eq, nat_lt}
 use Rattle.std.proofs.lemmas.Bool.{lt-ltb, eqb-true}
 use Rattle.std.proofs.lemmas.Cmp.{nat_eq_equiv}
 use Rattle.std.specs.List.{AllByRecursion, flat_map}
 use Rattle.std.specs.List.Sorted.{IsStrictlySortedBy}
 use Rattle.std.specs.Ordering.{is_eq, nat_cmp}
-use Rattle.std.specs.declared.cmp.Ordering.{Ordering}
 use Rattle.std.specs.declared.cmp.Ordering.TheVariants.{Less, Equal, Greater}
 use Rattle.calculus.specs.declared.schema.RelInfo.{RelInfo}
-use Rattle.calculus.specs.Database.{Db, Relation, Index, View, entries}
+use Rattle.calculus.specs.Database.{Db, Index, entries}
 use Rattle.calculus.specs.Lists.{differ_by}
 use Rattle.page_chain.specs.Lists.{in_order}
 use Rattle.stored_database.specs.Entries.{Entry, entry_cmp}
 use Rattle.stored_database.specs.Printed.{Files, relation_entry, view_entry, index_entry, entries_for, printed}
 use Rattle.stored_database.specs.Spelled.{entry_at}
 use Rattle.stored_database.proofs.Pairs.{Pairs, all_then, all_front, all_behind, all_unmap, pairs_then, pairs_unmap, differ_pairs}
-use Rattle.stored_database.proofs.InOrder.{Apart}
+use Rattle.stored_database.proofs.InOrder.{NoneEqual}
 use Rattle.stored_database.proofs.Groups.{Told, groups_apart, groups_found, find_one}
 use Rattle.stored_database.proofs.Orders.{entry_total}
 use Rattle.stored_database.proofs.Reading.{number_itself}
@@ -84,8 +83,8 @@ module _ (f : Files) where
         (pairs_then (λ (m n : ℕ). (m == n) ≡ false) (λ (m n : ℕ). (n == m) ≡ false) _ (λ m n e. equal_turned n m ∙ e)
         (differ_pairs nat_eq _ (ap (differ_by nat_eq) (file_numbers db) ∙ differ)))
 
-    pub entries_apart : Apart entry_cmp (entries_for f db)
-    entries_apart = subst (Apart entry_cmp) (singles (entries_for f db)) (groups_apart told_entries (entries_for f db) entries_differ)
+    pub entries_apart : NoneEqual entry_cmp (entries_for f db)
+    entries_apart = subst (NoneEqual entry_cmp) (singles (entries_for f db)) (groups_apart told_entries (entries_for f db) entries_differ)
 
     -- each entry is found by its file
     pub entries_at : AllByRecursion (λ e. entry_at (printed db f) e.file ≡ Some e) (entries_for f db)

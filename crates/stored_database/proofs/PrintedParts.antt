@@ -1,17 +1,14 @@
 -- The parts of a printed catalogue: which of them are the first of rules and of permits.
-use Rattle.std.proofs.Common.{◌≡◌, refl, sym, ap, ap₂, ◌∙◌, ℕ, ◌<◌, ◌==◌, ◌&&◌, Bool, true, false, List, [], ◌∷◌, ◌++◌, map, filter, length}
+use Rattle.std.proofs.Common.{◌≡◌, refl, ap, ap₂, ◌∙◌, ℕ, ◌<◌, ◌==◌, ◌&&◌, Bool, false, List, [], ◌∷◌, ◌++◌, map, filter, length}
+use Rattle.std.proofs.lemmas.List.{append-nil}
 use Rattle.std.specs.List.{AllByRecursion, flat_map}
-use Rattle.calculus.specs.declared.query.RelKey.{RelKey}
-use Rattle.calculus.specs.declared.schema.Permit.{Permit}
-use Rattle.calculus.specs.declared.schema.Rule.{Rule}
-use Rattle.calculus.specs.Database.{Db, View}
+use Rattle.calculus.specs.Database.{Db}
 use Rattle.quel_tree.specs.Permits as spellings
-use Rattle.quel_tree.specs.Queries as queries
 use Rattle.stored_database.specs.Parts.{Part, of_view, of_rule, of_permit}
 use Rattle.stored_database.specs.Printed.{Files, parts_for}
-use Rattle.stored_database.specs.Trees.{tree_bytes, firsts}
-use Rattle.stored_database.proofs.Pairs.{all_of}
-use Rattle.stored_database.proofs.Groups.{append_nil, filter_append, filter_flat}
+use Rattle.stored_database.specs.Trees.{tree_bytes}
+use Rattle.stored_database.proofs.Pairs.{all_each}
+use Rattle.stored_database.proofs.Groups.{filter_append, filter_flat}
 use Rattle.stored_database.proofs.Pieces.{first_of, its_first, no_first}
 use Rattle.stored_database.proofs.PrintedTrees.{Tree, parts_of, view_tree, rule_tree, permit_tree}
 use Rattle.stored_database.proofs.SpelledTrees.{rule_has_bytes, permit_has_bytes}
@@ -66,15 +63,15 @@ module _ (f : Files) (db : Db) where
   pub rule_firsts : filter (is_first of_rule) (parts_for f db) ≡ map (λ p. first_part (rule_tree f p)) db.rules
   rule_firsts =
       three of_rule
-      ∙ ap₂ (λ (k l : List Part). k ++ l) (none_of of_rule (view_tree f) db.views (all_of (λ v. (of_view == of_rule) ≡ false) db.views (λ v. refl)))
-      (ap₂ (λ (k l : List Part). k ++ l) (one_of of_rule (λ p. f.file p.0) (λ p. p.1.number) (λ p. tree_bytes spellings.rule p.1) db.rules (all_of (λ p. 0 < length (tree_bytes spellings.rule p.1)) db.rules (λ p. rule_has_bytes p.1)))
-      (none_of of_rule (permit_tree f) db.permits (all_of (λ p. (of_permit == of_rule) ≡ false) db.permits (λ p. refl))))
-      ∙ append_nil (map (λ p. first_part (rule_tree f p)) db.rules)
+      ∙ ap₂ (λ (k l : List Part). k ++ l) (none_of of_rule (view_tree f) db.views (all_each (λ v. (of_view == of_rule) ≡ false) db.views (λ v. refl)))
+      (ap₂ (λ (k l : List Part). k ++ l) (one_of of_rule (λ p. f.file p.0) (λ p. p.1.number) (λ p. tree_bytes spellings.rule p.1) db.rules (all_each (λ p. 0 < length (tree_bytes spellings.rule p.1)) db.rules (λ p. rule_has_bytes p.1)))
+      (none_of of_rule (permit_tree f) db.permits (all_each (λ p. (of_permit == of_rule) ≡ false) db.permits (λ p. refl))))
+      ∙ append-nil (map (λ p. first_part (rule_tree f p)) db.rules)
 
   -- and of the permits
   pub permit_firsts : filter (is_first of_permit) (parts_for f db) ≡ map (λ p. first_part (permit_tree f p)) db.permits
   permit_firsts =
       three of_permit
-      ∙ ap₂ (λ (k l : List Part). k ++ l) (none_of of_permit (view_tree f) db.views (all_of (λ v. (of_view == of_permit) ≡ false) db.views (λ v. refl)))
-      (ap₂ (λ (k l : List Part). k ++ l) (none_of of_permit (rule_tree f) db.rules (all_of (λ p. (of_rule == of_permit) ≡ false) db.rules (λ p. refl)))
-      (one_of of_permit (λ p. f.file p.0) (λ p. p.1.number) (λ p. tree_bytes spellings.permit p.1) db.permits (all_of (λ p. 0 < length (tree_bytes spellings.permit p.1)) db.permits (λ p. permit_has_bytes p.1))))
+      ∙ ap₂ (λ (k l : List Part). k ++ l) (none_of of_permit (view_tree f) db.views (all_each (λ v. (of_view == of_permit) ≡ false) db.views (λ v. refl)))
+      (ap₂ (λ (k l : List Part). k ++ l) (none_of of_permit (rule_tree f) db.rules (all_each (λ p. (of_rule == of_permit) ≡ false) db.rules (λ p. refl)))
+      (one_of of_permit (λ p. f.file p.0) (λ p. p.1.number) (λ p. tree_bytes spellings.permit p.1) db.permits (all_each (λ p. 0 < length (tree_bytes spellings.permit p.1)) db.permits (λ p. permit_has_bytes p.1))))

@@ -8,13 +8,12 @@ use Rattle.std.proofs.lemmas.List.Folds.{flat_map-map}
 use Rattle.std.specs.List.{AllByRecursion, flat_map}
 use Rattle.std.specs.List.Sorted.{IsStrictlySortedBy}
 use Rattle.std.specs.Ordering.{is_eq, nat_cmp, ordering_then}
-use Rattle.std.specs.declared.cmp.Ordering.{Ordering}
 use Rattle.std.specs.declared.cmp.Ordering.TheVariants.{Less, Equal}
 use Rattle.calculus.specs.declared.query.RelKey.{RelKey}
 use Rattle.calculus.specs.declared.schema.RelInfo.{RelInfo}
 use Rattle.calculus.specs.declared.schema.Permit.{Permit}
 use Rattle.calculus.specs.declared.schema.Rule.{Rule}
-use Rattle.calculus.specs.Database.{Db, Relation, Index, View, entries, is_relation}
+use Rattle.calculus.specs.Database.{Db, Relation, View, entries, is_relation}
 use Rattle.calculus.specs.Keys.{key_cmp, numbered_cmp, same_key}
 use Rattle.calculus.specs.Lists.{differ_by}
 use Rattle.page_chain.specs.Lists.{in_order}
@@ -24,8 +23,8 @@ use Rattle.stored_database.specs.Parts.{Part, part_cmp, of_view, of_rule, of_per
 use Rattle.stored_database.specs.Printed.{Files, parts_for, printed}
 use Rattle.stored_database.specs.Trees.{tree_bytes, is_part_of, joined, tree_at, cut, parts_from}
 use Rattle.stored_database.proofs.Members.{IsIn, found_in, apart_same}
-use Rattle.stored_database.proofs.Pairs.{Pairs, all_then, all_of, all_map, all_append, all_both, pairs_then, pairs_map, pairs_unmap, pairs_append, pairs_front, pairs_behind, pairs_apart}
-use Rattle.stored_database.proofs.InOrder.{Apart}
+use Rattle.stored_database.proofs.Pairs.{Pairs, all_then, all_each, all_map, all_append, all_both, pairs_then, pairs_map, pairs_unmap, pairs_append, pairs_front, pairs_behind, pairs_apart}
+use Rattle.stored_database.proofs.InOrder.{NoneEqual}
 use Rattle.stored_database.proofs.Groups.{Told, groups_found, groups_apart}
 use Rattle.stored_database.proofs.Orders.{part_total, key_total, same_key_is}
 use Rattle.stored_database.proofs.Pieces.{parts_tell, parts_ascend, parts_join}
@@ -120,7 +119,7 @@ module _ (f : Files) (db : Db) (differ : differ_by nat_eq (map (λ i. f.file i.k
       let r = relation_under db k here in
       let s = relation_under db l there in
       let one : r.relation ≡ s.relation = apart_same (λ (r s : Relation). f.file s.info.key == f.file r.info.key) (λ r s e. equal_turned (f.file r.info.key) (f.file s.info.key) ∙ e) db.relations r.relation s.relation
-        (pairs_apart (λ (r s : Relation). f.file s.info.key == f.file r.info.key) db.relations by_relation) r.there s.there ((λ i. f.file (s.its i) == f.file (r.its i)) ∙ same) in
+      (pairs_apart (λ (r s : Relation). f.file s.info.key == f.file r.info.key) db.relations by_relation) r.there s.there ((λ i. f.file (s.its i) == f.file (r.its i)) ∙ same) in
       sym r.its ∙ ap (λ (r : Relation). r.info.key) one ∙ s.its
     where
       by_relation : Pairs (λ (r s : Relation). (f.file s.info.key == f.file r.info.key) ≡ false) db.relations
@@ -166,16 +165,16 @@ module _ (f : Files) (db : Db) (differ : differ_by nat_eq (map (λ i. f.file i.k
         (pairs_append R (map (rule_tree f) db.rules) (map (permit_tree f) db.permits)
         (pairs_map R (rule_tree f) db.rules (numbered_differ of_rule (λ r. r.number) (tree_bytes spellings.rule) db.rules rules_ascend rules_there))
         (pairs_map R (permit_tree f) db.permits (numbered_differ of_permit (λ p. p.number) (tree_bytes spellings.permit) db.permits permits_ascend permits_there))
-        (all_map (λ t. AllByRecursion (R t) (map (permit_tree f) db.permits)) (rule_tree f) db.rules (all_of _ db.rules (λ r. all_map (R (rule_tree f r)) (permit_tree f) db.permits (all_of _ db.permits (λ p. off _))))))
-        (all_map (λ t. AllByRecursion (R t) (map (rule_tree f) db.rules ++ map (permit_tree f) db.permits)) (view_tree f) db.views (all_of _ db.views (λ v.
-          all_append (R (view_tree f v)) (map (rule_tree f) db.rules) (map (permit_tree f) db.permits)
-          (all_map (R (view_tree f v)) (rule_tree f) db.rules (all_of _ db.rules (λ p. off _))) (all_map (R (view_tree f v)) (permit_tree f) db.permits (all_of _ db.permits (λ p. off _))))))
+        (all_map (λ t. AllByRecursion (R t) (map (permit_tree f) db.permits)) (rule_tree f) db.rules (all_each _ db.rules (λ r. all_map (R (rule_tree f r)) (permit_tree f) db.permits (all_each _ db.permits (λ p. off _))))))
+        (all_map (λ t. AllByRecursion (R t) (map (rule_tree f) db.rules ++ map (permit_tree f) db.permits)) (view_tree f) db.views (all_each _ db.views (λ v.
+        all_append (R (view_tree f v)) (map (rule_tree f) db.rules) (map (permit_tree f) db.permits)
+        (all_map (R (view_tree f v)) (rule_tree f) db.rules (all_each _ db.rules (λ p. off _))) (all_map (R (view_tree f v)) (permit_tree f) db.permits (all_each _ db.permits (λ p. off _))))))
       where
         R : Tree → Tree → Type 0
         R t u = same_tree t u ≡ false
 
-    pub parts_apart : Apart part_cmp (parts_for f db)
-    parts_apart = subst (Apart part_cmp) (sym (parts_are f db)) (groups_apart told_trees (trees_for f db) trees_differ)
+    pub parts_apart : NoneEqual part_cmp (parts_for f db)
+    parts_apart = subst (NoneEqual part_cmp) (sym (parts_are f db)) (groups_apart told_trees (trees_for f db) trees_differ)
 
     -- each tree is found again
     pub trees_at : AllByRecursion (λ t. 0 < length t.bytes) (trees_for f db) → AllByRecursion (λ t. tree_at (printed db f).parts t.file t.sort t.number ≡ Some t.bytes) (trees_for f db)

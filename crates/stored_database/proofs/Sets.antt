@@ -1,16 +1,14 @@
 -- Sets as lists in their order.
-use Rattle.std.proofs.Common.{◌≡◌, refl, sym, ap, ap₂, subst, ◌∙◌, inl, inr, ℕ, suc, ◌≤◌, ◌==◌, Bool, true, false, List, [], ◌∷◌, length, Option, Some, None, arith}
-use Rattle.std.specs.Prelude.{◌⊎◌}
+use Rattle.std.proofs.Common.{◌≡◌, refl, sym, ap, ap₂, subst, ◌∙◌, inl, inr, suc, ◌≤◌, ◌==◌, false, List, [], ◌∷◌, length, Some, arith}
 use Rattle.std.specs.Cmp.{IsTotalOrder}
-use Rattle.std.proofs.lemmas.Cmp.{tied_back, tied_itself, alike_right}
-use Rattle.std.proofs.lemmas.Option.{same_Some}
+use Rattle.std.proofs.lemmas.Cmp.{tied_back, tied_itself}
 use Rattle.std.specs.List.{AllByRecursion}
 use Rattle.std.specs.List.Sorted.{IsStrictlySortedBy}
 use Rattle.std.specs.Ordering.{is_eq, ordering_reverse}
 use Rattle.std.specs.declared.cmp.Ordering.{Ordering}
 use Rattle.std.specs.declared.cmp.Ordering.TheVariants.{Less, Equal, Greater}
 use Rattle.calculus.specs.Lists.{insert_by}
-use Rattle.page_chain.specs.Lists.{when, in_order, once}
+use Rattle.page_chain.specs.Lists.{in_order, once}
 use Rattle.stored_database.proofs.Members.{IsIn, of_all, all_of, Apart}
 use Rattle.stored_database.proofs.Reading.{when_some, same_number}
 
@@ -82,6 +80,7 @@ module _ {A : Type 0} {cmp : A → A → Ordering} (order : IsTotalOrder cmp) wh
     where
       below : cmp x y ≡ Less → AllByRecursion (λ z. cmp x z ≡ Less) ys
       below e = all_of (λ z. cmp x z ≡ Less) ys (λ z at. order.trans x y z e (of_all (λ z. cmp y z ≡ Less) ys z up.0 at))
+
       go : (o : Ordering) → cmp x y ≡ o → IsStrictlySortedBy cmp (insert_by cmp x ys) → IsStrictlySortedBy cmp (insert_as o x y ys (insert_by cmp x ys))
       go Less e later = ((e, below e), up)
       go Equal e later = (all_of (λ z. cmp x z ≡ Less) ys (λ z at. order.congr x y z e ∙ of_all (λ z. cmp y z ≡ Less) ys z up.0 at), up.1)
@@ -125,9 +124,11 @@ module _ {A : Type 0} {cmp : A → A → Ordering} (order : IsTotalOrder cmp) wh
       heads (inl e) k = e
       heads (inr at) (inl e) = sym e
       heads (inr at) (inr bt) = absurd (not_both x y (of_all (λ z. cmp x z ≡ Less) xs y up.0 bt) (of_all (λ z. cmp y z ≡ Less) ys x vp.0 at))
+
       there : x ≡ y → (z : A) → IsIn z xs → IsIn z (y ∷ ys) → IsIn z ys
       there first z at (inl e) = absurd (not_itself x z (of_all (λ z. cmp x z ≡ Less) xs z up.0 at) (first ∙ sym e))
       there first z at (inr k) = k
+
       back : x ≡ y → (z : A) → IsIn z ys → IsIn z (x ∷ xs) → IsIn z xs
       back first z at (inl e) = absurd (not_itself y z (of_all (λ z. cmp y z ≡ Less) ys z vp.0 at) (sym first ∙ sym e))
       back first z at (inr k) = k

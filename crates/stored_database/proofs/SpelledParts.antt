@@ -1,17 +1,15 @@
 -- What is known of a catalogue that spells a database.
-use Rattle.std.proofs.Common.{◌≡◌, refl, sym, ap, ◌∙◌, ℕ, ◌==◌, ◌&&◌, Bool, true, false, List, [], filter, find, Option, Some, None}
+use Rattle.std.proofs.Common.{◌≡◌, sym, ap, ◌∙◌, ℕ, ◌==◌, ◌&&◌, Bool, true, List, [], Option, Some}
 use Rattle.std.proofs.lemmas.Option.{same_Some}
 use Rattle.std.proofs.lemmas.Cmp.{on_total}
 use Rattle.calculus.specs.declared.value.Domain.{Domain}
 use Rattle.calculus.specs.declared.query.RelKey.{RelKey}
-use Rattle.calculus.specs.declared.schema.Attr.{Attr}
-use Rattle.calculus.specs.declared.schema.RelInfo.{RelInfo}
 use Rattle.calculus.specs.declared.schema.Permit.{Permit}
 use Rattle.calculus.specs.declared.schema.Rule.{Rule}
 use Rattle.calculus.specs.Database.{Db, Relation, Index, View}
 use Rattle.calculus.specs.Keys.{key_cmp, numbered_cmp}
 use Rattle.calculus.specs.Structures.{is_structure, is_view, is_index}
-use Rattle.page_chain.specs.Lists.{◌>>=◌, when, check, each, once}
+use Rattle.page_chain.specs.Lists.{check, each}
 use Rattle.page_chain.specs.Pages.{Pages}
 use Rattle.page_chain.specs.Rows.{set_on, reader}
 use Rattle.stored_database.specs.Catalogue.{Catalogue}

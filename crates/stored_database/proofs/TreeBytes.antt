@@ -1,6 +1,6 @@
 -- Trees and their bytes.
-use Rattle.std.proofs.Common.{◌≡◌, refl, sym, ap, ◌∙◌, ℕ, List, [], ◌∷◌, ◌++◌, Option, Some, None}
-use Rattle.std.specs.Prelude.{◌↔◌, Result, Ok, Err}
+use Rattle.std.proofs.Common.{◌≡◌, refl, sym, ap, ◌∙◌, ℕ, List, [], ◌∷◌, ◌++◌, Some}
+use Rattle.std.specs.Prelude.{◌↔◌, Ok, Err}
 use Rattle.std.proofs.lemmas.Option.{same_Some}
 use Rattle.quel_tree.specs.Message.{IsSpelled, most_tree_levels}
 use Rattle.quel_tree.specs.MessageLaws.{one_of_them, two_of_them}
@@ -10,7 +10,6 @@ use Rattle.quel_tree.specs.Permits as spellings
 use Rattle.quel_tree.specs.Queries as queries
 use Rattle.tree_words.specs.Codec.{Codec, Reading}
 use Rattle.tree_words.specs.Exact.{Exact}
-use Rattle.tree_words.specs.Steps.{ok_value}
 use Rattle.tree_words.specs.Whole.{ended, whole, reads_whole}
 use Rattle.stored_database.specs.Laws.{TreesAreTheirBytes}
 use Rattle.stored_database.specs.Trees.{given, tree_of}
@@ -38,7 +37,7 @@ unfolding tree_of reads_whole
 spelled_alone {A} codec exact bytes a =
     let c = codec most_tree_levels in (
       λ h. (let o = exact.only bytes a [] (all_read (c.read bytes) a h) in (o.0, o.1 ∙ append_none (c.write a))),
-      λ s. ap (λ r. given (whole r)) (ap c.read (s.1 ∙ sym (append_none (c.write a))) ∙ exact.again a [] s.0)
+      λ s. ap (λ r. given (whole r)) (ap c.read (s.1 ∙ sym (append_none (c.write a))) ∙ exact.again a [] s.0),
     )
 
 pub trees_are_their_bytes : TreesAreTheirBytes

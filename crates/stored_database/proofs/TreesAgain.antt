@@ -1,5 +1,5 @@
 -- The parts of a catalogue are those that its database has.
-use Rattle.std.proofs.Common.{◌≡◌, refl, sym, ap, subst, ◌∙◌, inl, inr, ℕ, ◌==◌, ◌&&◌, nat_le, Bool, true, false, List, [], ◌++◌, map, filter, Option, Some, None, is_some, arith}
+use Rattle.std.proofs.Common.{◌≡◌, refl, sym, ap, subst, ◌∙◌, inl, inr, ℕ, ◌==◌, ◌&&◌, nat_le, Bool, true, false, List, map, filter, Option, Some, None, is_some, arith}
 use Rattle.std.specs.Prelude.{◌⊎◌}
 use Rattle.std.proofs.lemmas.Bool.Decides.{nat_tests}
 use Rattle.std.specs.List.{flat_map, list_all}
@@ -22,13 +22,12 @@ use Rattle.stored_database.specs.Parts.{Part, part_cmp, is_part, of_view, of_rul
 use Rattle.stored_database.specs.Names.{is_number32}
 use Rattle.stored_database.specs.Printed.{Files, files_in, view_parts, numbered_parts, parts_for}
 use Rattle.stored_database.specs.Spelled.{view_of, numbered_of, part_stands, parts_stand, entry_is}
-use Rattle.stored_database.specs.Trees.{tree_of, tree_bytes, query_of, rule_of, permit_of, tree_at, firsts, is_part_of, cut, parts_from, parts_are_whole}
+use Rattle.stored_database.specs.Trees.{tree_of, tree_bytes, query_of, tree_at, firsts, is_part_of, cut, parts_from, parts_are_whole}
 use Rattle.stored_database.proofs.ColumnsAgain.{entry_passes}
 use Rattle.stored_database.proofs.Infos.{file_is}
 use Rattle.stored_database.proofs.Members.{IsIn, of_all, of_tests, in_filter, filter_in, in_flat_map, flat_map_in, in_first, in_second, in_either}
 use Rattle.stored_database.proofs.Orders.{part_total}
 use Rattle.stored_database.proofs.PartsAgain.{tree_parts, first_part, is_that_part}
-use Rattle.stored_database.proofs.ReadSets.{IsRead}
 use Rattle.stored_database.proofs.Reading.{both, together, same_number, number_itself}
 use Rattle.stored_database.proofs.Sets.{set_is}
 use Rattle.stored_database.proofs.SpelledParts as parts
@@ -48,7 +47,6 @@ own_tree p file sort number e f g =
 
 module _ (files : ℕ → Pages) (cat : Catalogue) (db : database.Db) (s : Spells files cat db) (is_cat : IsCatalogue cat)
     (differ : differ_by same_key (map (λ i. i.key) (database.entries db)) ≡ true) where
-
   f : Files
   f = files_in cat
 
@@ -70,7 +68,6 @@ module _ (files : ℕ → Pages) (cat : Catalogue) (db : database.Db) (s : Spell
       (spelling : (bytes : List ℕ) (x : X) → tree_of codec bytes ≡ Some x → bytes ≡ tree_bytes codec x)
       (ys : List (RelKey × X)) (read : (q : Part) → IsIn q (firsts sort cat.parts) → (y : RelKey × X) × IsIn y ys × (numbered_of (tree_of codec) number cat q ≡ Some y))
       (read_of : (y : RelKey × X) → IsIn y ys → (q : Part) × IsIn q (firsts sort cat.parts) × (numbered_of (tree_of codec) number cat q ≡ Some y)) where
-
     -- the parts of the tree of a rule or a permit are those of its file and number
     one_again : (q : Part) (y : RelKey × X) → q.sort ≡ sort → numbered_of (tree_of codec) number cat q ≡ Some y → numbered_parts codec number sort (files_in cat) y ≡ filter (is_part_of q.file q.sort q.number) cat.parts
     one_again q y of h =

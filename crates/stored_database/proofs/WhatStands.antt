@@ -1,5 +1,5 @@
 -- What pages stand for.
-use Rattle.std.proofs.Common.{◌≡◌, refl, sym, ap, ◌∙◌, inl, inr, ℕ, ◌==◌, ◌&&◌, nat_le, Bool, true, false, List, [], ◌∷◌, filter, Option, Some, None, option_map, arith}
+use Rattle.std.proofs.Common.{◌≡◌, refl, sym, ap, ◌∙◌, inl, inr, ℕ, ◌==◌, ◌&&◌, nat_le, Bool, true, false, List, [], ◌∷◌, Option, Some, None, option_map, arith}
 use Rattle.std.specs.Prelude.{if◌then◌else◌}
 use Rattle.std.proofs.lemmas.Bool.Decides.{nat_tests}
 use Rattle.std.proofs.lemmas.Option.{same_Some}
@@ -8,12 +8,12 @@ use Rattle.calculus.specs.Keys.{key_cmp}
 use Rattle.calculus.specs.Structures.{is_structure}
 use Rattle.disk_model.specs.Disk.{Image}
 use Rattle.disk_model.specs.declared.disk.Addr.{Addr}
-use Rattle.batch_file.specs.Layout.{addr, gate, count, entries}
+use Rattle.batch_file.specs.Layout.{addr, count, entries}
 use Rattle.batch_file.specs.Redone.{redone, redone_of, damage, kept, is_kept, laid}
 use Rattle.page_chain.specs.Lists.{◌>>=◌, when, check, each, once}
 use Rattle.page_chain.specs.Pages.{Pages, pages_of, page_at}
 use Rattle.page_chain.specs.Rows.{set_on, reader}
-use Rattle.stored_database.specs.Catalogue.{Catalogue, IsCatalogue, catalogue_in}
+use Rattle.stored_database.specs.Catalogue.{Catalogue, catalogue_in}
 use Rattle.stored_database.specs.Entries.{Entry, is_entry}
 use Rattle.stored_database.specs.IsOne.{is_database}
 use Rattle.stored_database.specs.Laws.{WhatStandsIsADatabase, OneDatabase, SameRedone, OnlyKeptPagesCount, SameWhereKept, ShutDisksHold}

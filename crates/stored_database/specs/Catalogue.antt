@@ -1,13 +1,12 @@
 -- What files 5, 6 and 7 hold.
-use Rattle.std.specs.Prelude.{◌≡◌, true, ℕ, ◌^◌, List, Option, Some}
+use Rattle.std.specs.Prelude.{◌≡◌, Bool, true, ℕ, ◌^◌, List, map, Option, Some}
 use Rattle.std.specs.List.{AllByRecursion}
-use Rattle.std.specs.List.Sorted.{IsStrictlySortedBy}
+use Rattle.std.specs.List.Sorted.{IsStrictlySortedBy, IsPermutation}
 use Rattle.std.specs.declared.cmp.Ordering.{Ordering}
-use Rattle.disk_model.specs.Disk.{Image}
 use Rattle.page_chain.specs.Chains.{chain}
 use Rattle.page_chain.specs.Lists.{◌>>=◌, each, once}
 use Rattle.page_chain.specs.Lying.{lying, bytes_of}
-use Rattle.page_chain.specs.Pages.{Pages, pages_of}
+use Rattle.page_chain.specs.Pages.{Pages}
 use Rattle.stored_database.specs.Entries.{Entry, entry_of, entry_cmp, is_entry}
 use Rattle.stored_database.specs.Columns.{Column, column_of, column_cmp, is_column}
 use Rattle.stored_database.specs.Parts.{Part, part_of, part_cmp, is_part}
@@ -45,3 +44,15 @@ pub record IsCatalogue (cat : Catalogue) : Type 0 where
   pub are_entries : AllByRecursion (λ e. is_entry e ≡ true) cat.entries
   pub are_columns : AllByRecursion (λ c. is_column c ≡ true) cat.columns
   pub are_parts : AllByRecursion (λ p. is_part p ≡ true) cat.parts
+
+-- The rows on the chain of a file are the bytes of these items, each once and in any order.
+pub record HasRows {A : Type 0} (spell : A → List ℕ) (pages : Pages) (items : List A) : Type 0 where
+  pub numbers : List ℕ
+  pub chain : chain most_pages pages ≡ Some numbers
+  pub rows : IsPermutation (bytes_of (lying pages numbers)) (map spell items)
+
+-- A file lists these items: they ascend, each has bytes, and these are its rows.
+pub record Lists {A : Type 0} (cmp : A → A → Ordering) (test : A → Bool) (spell : A → List ℕ) (pages : Pages) (items : List A) : Type 0 where
+  pub ascends : IsStrictlySortedBy cmp items
+  pub stand : AllByRecursion (λ x. test x ≡ true) items
+  pub has : HasRows spell pages items

@@ -1,5 +1,5 @@
 -- The rows of file 7: the parts of trees.
-use Rattle.std.specs.Prelude.{Bool, ℕ, ◌&&◌, ◌==◌, nat_le, nat_lt, bytes_eq, List, [], ◌∷◌, ◌++◌, drop, Option, Some, slice_index}
+use Rattle.std.specs.Prelude.{Bool, ℕ, ◌&&◌, nat_le, nat_lt, bytes_eq, List, ◌∷◌, ◌++◌, drop, Option, slice_index}
 use Rattle.std.specs.Ordering.{nat_cmp, ordering_then}
 use Rattle.std.specs.declared.cmp.Ordering.{Ordering}
 use Rattle.byteorder.specs.Endian.{little_bytes, little_from}

@@ -1,7 +1,6 @@
 -- The catalogue that a database has, where its relations, views and indexes have these files.
-use Rattle.std.specs.Prelude.{◌≡◌, ℕ, zero, suc, ◌+◌, ◌==◌, ◌&&◌, nat_le, nat_eq, Bool, true, List, [], ◌∷◌, ◌++◌, map, find, Option, Some, None}
+use Rattle.std.specs.Prelude.{◌≡◌, ℕ, suc, ◌&&◌, nat_le, nat_lt, nat_eq, Bool, true, List, [], ◌∷◌, ◌++◌, map, find, Option, Some, None}
 use Rattle.std.specs.List.{AllByRecursion, list_all, flat_map}
-use Rattle.calculus.specs.declared.value.Domain.{Domain}
 use Rattle.calculus.specs.declared.query.RelKey.{RelKey}
 use Rattle.calculus.specs.declared.schema.Attr.{Attr}
 use Rattle.calculus.specs.declared.schema.RelInfo.{RelInfo}
@@ -137,3 +136,7 @@ pub record HasFiles (db : Db) (files : ℕ → Pages) (f : Files) : Type 0 where
   pub files_differ : differ_by nat_eq (map (λ i. f.file i.key) (entries db)) ≡ true
   pub some_pages : list_all (λ r. nat_le 1 (f.used r.info.key) && is_number32 (f.used r.info.key)) db.relations ≡ true
   pub rows : AllByRecursion (λ r. rows_in files f r ≡ Some r.rows) db.relations
+
+-- the places of the parts of its trees are numbers of two bytes
+unfoldable pub trees_are_short : Db → Files → Bool
+trees_are_short db f = list_all (λ p. nat_lt p.place 65536) (parts_for f db)

@@ -1,8 +1,7 @@
 -- The database that a catalogue and the files of its relations spell.
-use Rattle.std.specs.Prelude.{ℕ, ◌==◌, ◌&&◌, not, Bool, true, false, List, [], map, filter, find, length, Option, Some, None}
+use Rattle.std.specs.Prelude.{ℕ, ◌==◌, ◌&&◌, not, Bool, true, false, List, [], map, filter, find, Option, Some, None}
 use Rattle.std.specs.List.{list_all}
 use Rattle.calculus.specs.declared.value.Domain.{Domain}
-use Rattle.calculus.specs.declared.value.Kind.{Kind}
 use Rattle.calculus.specs.declared.value.Kind.TheVariants.{Of, Wide}
 use Rattle.calculus.specs.declared.query.RelKey.{RelKey}
 use Rattle.calculus.specs.declared.schema.Spec.{Spec}

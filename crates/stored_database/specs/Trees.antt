@@ -1,5 +1,5 @@
 -- Trees from their parts, and the queries, rules and permits whose bytes they are.
-use Rattle.std.specs.Prelude.{ℕ, zero, suc, ◌-◌, ◌==◌, ◌&&◌, nat_le, Bool, false, List, [], ◌∷◌, map, filter, take, drop, length, Result, Ok, Err, Option, Some, None, is_some}
+use Rattle.std.specs.Prelude.{ℕ, zero, suc, ◌==◌, ◌&&◌, nat_le, Bool, false, List, [], ◌∷◌, map, filter, take, drop, length, Result, Ok, Err, Option, Some, None, is_some}
 use Rattle.std.specs.List.{list_all, concat}
 use Rattle.calculus.specs.declared.query.Query.{Query}
 use Rattle.calculus.specs.declared.schema.Permit.{Permit}

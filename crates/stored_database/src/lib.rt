@@ -6,15 +6,21 @@ mod bytes;
 mod catalogues;
 mod deciding;
 mod examples;
+mod printing;
 mod standing;
 
 pub use bytes::{
     columns_are_their_bytes, entries_are_their_bytes, parts_are_their_bytes, trees_are_their_bytes,
 };
-pub use catalogues::{catalogues_are_read, what_is_read_is_printed};
+pub use catalogues::{
+    catalogues_are_read, what_is_listed, what_is_printed_is_a_catalogue, what_is_read_is_printed,
+};
 pub use deciding::the_test_tells_a_database;
-pub use examples::{pages_stand_for_a_long_view, pages_stand_for_permits, pages_stand_for_two_heaps};
+pub use examples::{
+    pages_stand_for_a_long_view, pages_stand_for_permits, pages_stand_for_two_heaps,
+};
+pub use printing::a_printed_catalogue_is_read;
 pub use standing::{
-    fresh_pages_stand, one_database, only_kept_pages_count, same_redone, same_where_kept,
-    shut_disks_hold, what_stands_is_a_database,
+    fresh_pages_stand, headers_are_their_bytes, one_database, only_kept_pages_count,
+    pages_stand_exactly, same_redone, same_where_kept, shut_disks_hold, what_stands_is_a_database,
 };

@@ -1,6 +1,6 @@
 //! What the pages of a disk stand for.
 
-ghost use Rattle.stored_database.specs.Laws.{FreshPagesStand, OneDatabase, OnlyKeptPagesCount, SameRedone, SameWhereKept, ShutDisksHold, WhatStandsIsADatabase};
+ghost use Rattle.stored_database.specs.Laws.{FreshPagesStand, HeadersAreTheirBytes, OneDatabase, OnlyKeptPagesCount, PagesStandExactly, SameRedone, SameWhereKept, ShutDisksHold, WhatStandsIsADatabase};
 
 /// What pages stand for is a database.
 #[tactic(auto, using(crate::proofs::WhatStands::what_stands_is_a_database))]
@@ -42,4 +42,17 @@ pub fn shut_disks_hold()
 #[tactic(auto, using(crate::proofs::Fresh::fresh_pages_stand))]
 pub fn fresh_pages_stand()
     ensures { FreshPagesStand }
+{}
+
+/// The first bytes of a page are a header exactly of a name.
+#[tactic(auto, using(crate::proofs::Exactly::headers_are_their_bytes))]
+pub fn headers_are_their_bytes()
+    ensures { HeadersAreTheirBytes }
+{}
+
+/// Pages stand for a database exactly where they are the pages that it has: the header, the birth byte,
+/// its catalogue by files that it may have, and on them its rows.
+#[tactic(auto, using(crate::proofs::Exactly::pages_stand_exactly))]
+pub fn pages_stand_exactly()
+    ensures { PagesStandExactly }
 {}
