@@ -4,3 +4,8 @@ pub mod Counting
 pub mod RowLaws
 pub mod Lying
 pub mod Heaps
+pub mod Faults
+pub mod Outcomes
+pub mod Meeting
+pub mod RowTests
+pub mod Changed

@@ -2,6 +2,8 @@
 use Rattle.std.specs.Prelude.{◌≡◌, ℕ, suc, ◌-◌, ◌==◌, ◌&&◌, nat_lt, Bool, true, false, List, Option, Some, None, is_some, if◌then◌else◌}
 use Rattle.calculus.specs.declared.probe.Place.{Place}
 use Rattle.calculus.specs.Rows.{Row}
+use Rattle.am_traits.specs.declared.fault.BaseFault.{BaseFault}
+use Rattle.am_traits.specs.declared.fault.BaseFault.TheVariants.{Disk, Damaged, OutOfMemory}
 use Rattle.disk_model.specs.Disk.{Image, is_at}
 use Rattle.disk_model.specs.declared.disk.Addr.{Addr}
 use Rattle.access_traits.specs.Placed.{Placed}
@@ -50,3 +52,15 @@ is_last (Some b) a = is_at b a
 -- how many pages are read from a place on, each once, where the store gave this page last
 abbrev pub pages_ahead : RelFile → Option Addr → Place → ℕ
 pages_ahead file last at = (file.used - at.page) - (if is_last last (page_at file.file at.page) then 1 else 0)
+
+-- this fault comes of a page of a heap with these bytes: of damage where a page that has them is at fault, and want of memory
+abbrev pub IsOfPage : RelFile → ℕ → List ℕ → BaseFault → Type 0
+IsOfPage file number page Disk = ⊥
+IsOfPage file number page (Damaged f p) = (m : Image) → m (page_at file.file number) ≡ Some page → HeapFault file m (record { file = f; page = p })
+IsOfPage file number page OutOfMemory = Unit {0}
+
+-- this fault comes of a row on a page of a heap: of damage there where these bytes are those of no row, and want of memory
+abbrev pub IsOfRow : RelFile → ℕ → List ℕ → BaseFault → Type 0
+IsOfRow file number bytes Disk = ⊥
+IsOfRow file number bytes (Damaged f p) = (f ≡ file.file) × (p ≡ number) × (reader file.domains bytes ≡ None)
+IsOfRow file number bytes OutOfMemory = Unit {0}
