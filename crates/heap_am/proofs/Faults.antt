@@ -114,10 +114,6 @@ bad_next file m k next p lt is goes other =
     not_standing file m k lt (not_both (nat_lt k file.used) (goes_on file.used k (m (page_at file.file k))) (has_rows (reader file.domains) k (m (page_at file.file k)))
       (ap (goes_on file.used k) is ∙ ap (is_number (behind file.used k)) goes ∙ (let t : (next == behind file.used k) ≡ false = grind (arith, nat_tests) in t)))
 
--- where pages of a heap are at fault there are no rows
-pub no_rows_at_fault : (file : RelFile) (m : Image) (rows : Placed) (a : Addr) → heap_rows file m ≡ Some rows → HeapFault file m a → ⊥
-no_rows_at_fault file m rows a e h = let n = h.none in cc
-
 -- the fault of a row is one of its page
 pub of_page : (file : RelFile) (k l : ℕ) (p bytes : List ℕ) (fault : BaseFault) → k < file.used → get_or (slots p) l None ≡ Some bytes → IsOfRow file k bytes fault → IsOfPage file k p fault
 of_page file k l p bytes Disk lt at h = h

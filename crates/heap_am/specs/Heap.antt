@@ -64,3 +64,12 @@ abbrev pub IsOfRow : RelFile → ℕ → List ℕ → BaseFault → Type 0
 IsOfRow file number bytes Disk = ⊥
 IsOfRow file number bytes (Damaged f p) = (f ≡ file.file) × (p ≡ number) × (reader file.domains bytes ≡ None)
 IsOfRow file number bytes OutOfMemory = Unit {0}
+
+-- The file is the same, but made anew as a heap: its first page is the one primary page, and it has no directory.
+pub record IsMade (before now : RelFile) : Type 0 where
+  pub file : now.file ≡ before.file
+  pub spec : now.spec ≡ before.spec
+  pub keys : now.keys ≡ before.keys
+  pub domains : now.domains ≡ before.domains
+  pub primary : now.primary ≡ 1
+  pub directory : now.directory ≡ 0
