@@ -1,8 +1,10 @@
 -- The rows of a heap of which the pages were changed.
-use Rattle.std.proofs.Common.{◌≡◌, refl, sym, ap, ap₂, subst, ◌∙◌, ℕ, suc, ◌+◌, ◌-◌, ◌<◌, ◌≤◌, ◌||◌, not, Bool, true, false, IsTrue, List, [], ◌∷◌, ◌++◌, map, filter, length, Option, Some, None, option_map, if◌then◌else◌, arith}
+use Rattle.std.proofs.Common.{◌≡◌, refl, sym, ap, ap₂, subst, ◌∙◌, ℕ, suc, ◌+◌, ◌-◌, ◌<◌, ◌≤◌, ◌==◌, ◌||◌, not, Bool, true, false, IsTrue, List, [], ◌∷◌, ◌++◌, map, filter, length, Option, Some, None, option_map, if◌then◌else◌, arith}
 use Rattle.std.specs.List.{All, list_all}
 use Rattle.std.specs.Ordering.{eq_by_cmp}
 use Rattle.std.specs.List.Sorted.{IsPermutation}
+use Rattle.std.proofs.lemmas.Bool.Decides.{nat_tests}
+use Rattle.std.proofs.lemmas.List.Elements.{All-cons}
 use Rattle.std.proofs.lemmas.List.Sorted.{IsPermutation-refl, IsPermutation-sym}
 use Rattle.calculus.specs.declared.probe.Place.{Place}
 use Rattle.calculus.specs.declared.value.Domain.{Domain}
@@ -12,11 +14,11 @@ use Rattle.calculus.proofs.Sets.{same_exact}
 use Rattle.disk_model.specs.Disk.{Image}
 use Rattle.access_traits.specs.Placed.{Placed, rows_of, rows_differ, NowHolds, Added, Removed, Replaced}
 use Rattle.access_traits.specs.declared.file.RelFile.{RelFile}
-use Rattle.page_cells.specs.RowBytes.{is_row, row_bytes}
-use Rattle.page_chain.specs.Chains.{IsChain, numbers_from}
+use Rattle.page_cells.specs.RowBytes.{is_row, row_bytes, widths}
+use Rattle.page_chain.specs.Chains.{IsChain, numbers_from, starts}
 use Rattle.page_chain.specs.Grown.{IsGrown, IsOneMore, IsBuilt, numbers_to}
 use Rattle.page_chain.specs.Lists.{each}
-use Rattle.page_chain.specs.Lying.{Lying, Came, lying, bytes_of, is_among, staying, all_differ}
+use Rattle.page_chain.specs.Lying.{Lying, Came, lying, bytes_of, is_among, staying, all_differ, IsShort}
 use Rattle.page_chain.specs.Pages.{Pages, pages_of}
 use Rattle.page_chain.specs.Renewed.{AllLie, IsRenewed, TookOne, WentFrom}
 use Rattle.page_chain.specs.Rows.{read_with, reader}
@@ -25,7 +27,7 @@ use Rattle.heap_am.proofs.Counting.{EachGoes, chain_of_goes, goes_of_chain, last
 use Rattle.heap_am.proofs.Each.{each_first, each_cons, each_append, each_filtered, each_reordered, Reordered}
 use Rattle.heap_am.proofs.Heaps.{heap_parts, heap_is}
 use Rattle.heap_am.proofs.Lying.{read_keeps}
-use Rattle.heap_am.proofs.RowLaws.{reader_row, reader_spelled}
+use Rattle.heap_am.proofs.RowLaws.{reader_row, reader_spelled, row_is_short}
 use Rattle.heap_am.proofs.RowTests.{bytes, AreRows, among_rows, differ_rows, all_among, Lain, lain, ReadAs, read_as}
 
 none_placed : Place × Row
@@ -224,3 +226,43 @@ rows_built file rows told some all built =
         (ap (λ n. each (read_with (reader file.domains)) (lying (pages_of built.image file.file) (numbers_from n 0))) last ∙ r.read);
       so = r.are;
     }
+
+pub starts_at_0 : (last : ℕ) → starts (numbers_from last 0 ++ last ∷ []) ≡ true
+starts_at_0 last = ap starts (last_number last)
+
+-- rows were put behind the others
+pub rows_extended : (file now : RelFile) (m : Image) (rows : Placed) (to : ℕ) (coming : List Row) (as_bytes : List (List ℕ)) (told : Option Image)
+    → now.file ≡ file.file → now.domains ≡ file.domains → 0 < file.used → to + 1 ≡ now.used → file.used - 1 ≤ to → heap_rows file m ≡ Some rows → AreRows file.domains coming → as_bytes ≡ map (bytes file.domains) coming
+    → IsGrown file.file file.used (numbers_from (file.used - 1) 0) (file.used - 1) to as_bytes m told → NowHolds (heap_rows now) told (Replaced rows [] coming)
+rows_extended file now m rows to coming as_bytes told same ds some used le e co are grown =
+    rows_came file now m rows (file.used - 1) to [] coming grown.image same ds (omega arith) used le e (λ k d lt. absurd (omega arith)) co grown.chain
+      (record { new = grown.came.new; bytes = grown.came.bytes ∙ are; all = subst (λ l. IsPermutation (lying (pages_of grown.image file.file) (numbers_from (file.used - 1) 0 ++ numbers_to (file.used - 1) to)) (l ++ grown.came.new)) (sym (all_stay (lying (pages_of m file.file) (numbers_from (file.used - 1) 0 ++ (file.used - 1) ∷ [])))) grown.came.all })
+      told grown.told_still
+
+-- rows were taken, and others put
+pub rows_renewed : (file now : RelFile) (m : Image) (rows : Placed) (to : ℕ) (going coming : List Row) (old_bytes new_bytes : List (List ℕ)) (told : Option Image)
+    → now.file ≡ file.file → now.domains ≡ file.domains → 0 < file.used → to + 1 ≡ now.used → file.used - 1 ≤ to → heap_rows file m ≡ Some rows
+    → AreRows file.domains going → old_bytes ≡ map (bytes file.domains) going → AreRows file.domains coming → new_bytes ≡ map (bytes file.domains) coming
+    → IsRenewed file.file file.used (numbers_from (file.used - 1) 0) (file.used - 1) to old_bytes new_bytes m told → NowHolds (heap_rows now) told (Replaced rows going coming)
+rows_renewed file now m rows to going coming old_bytes new_bytes told same ds some used le e go old co new renewed =
+    rows_came file now m rows (file.used - 1) to going coming renewed.image same ds (omega arith) used le e go co renewed.chain
+      (subst (λ a. Came (staying a (lying (pages_of m file.file) (numbers_from (file.used - 1) 0 ++ (file.used - 1) ∷ []))) (map (bytes file.domains) coming) (lying (pages_of renewed.image file.file) (numbers_from (file.used - 1) 0 ++ numbers_to (file.used - 1) to))) old
+        (subst (λ b. Came (staying old_bytes (lying (pages_of m file.file) (numbers_from (file.used - 1) 0 ++ (file.used - 1) ∷ []))) b (lying (pages_of renewed.image file.file) (numbers_from (file.used - 1) 0 ++ numbers_to (file.used - 1) to))) new renewed.came))
+      told renewed.told_still
+
+-- ---- the bytes of rows
+
+pub all_short : (ds : List Domain) (rows : List Row) → 0 < widths ds → widths ds ≤ 1012 → AreRows ds rows → All (λ row. IsShort row) (map (bytes ds) rows)
+all_short ds [] some most all = λ k d lt. absurd (omega arith)
+all_short ds (r ∷ rows) some most all = All-cons (λ row. IsShort row) (bytes ds r) (map (bytes ds) rows) (row_is_short r ds (all 0 r (omega arith)) some most) (all_short ds rows some most (λ k d lt. all (suc k) d (omega arith)))
+
+-- the bytes that were written are those of the rows
+pub bytes_are : (items made : List (List ℕ)) (ds own : List Domain) (rows : List Row) → items ≡ made → ds ≡ own → made ≡ map (λ row. row_bytes row ds) rows → items ≡ map (λ row. row_bytes row own) rows
+bytes_are items made ds own rows e f h = e ∙ h ∙ ap (λ d. map (λ row. row_bytes row d) rows) f
+
+pub are_short : (items made : List (List ℕ)) (ds own : List Domain) (rows : List Row) → items ≡ made → ds ≡ own → made ≡ map (λ row. row_bytes row ds) rows → 0 < widths own → widths own ≤ 1012 → AreRows own rows → All (λ row. IsShort row) items
+are_short items made ds own rows e f h some most all = subst (All (λ row. IsShort row)) (sym (bytes_are items made ds own rows e f h)) (all_short own rows some most all)
+
+pub none_of_them : {T : Type 0} (xs : List T) (b : Bool) → b ≡ (length xs == 0) → b ≡ true → xs ≡ []
+none_of_them [] b e f = refl
+none_of_them (x ∷ xs) b e f = let t : (length (x ∷ xs) == 0) ≡ false = grind (arith, nat_tests) in cc

@@ -16,11 +16,12 @@ use Rattle.page_cells.specs.Page.{Slot, slots}
 use Rattle.page_cells.specs.RowBytes.{is_row, row_bytes}
 use Rattle.page_chain.specs.Chains.{OffPage, NoChain, NoChainTo, is_on, whole_chain, chain, starts, IsChain, numbers_from}
 use Rattle.page_chain.specs.Lists.{each, ◌>>=◌, when}
-use Rattle.page_chain.specs.Lying.{Lying, place_of, lying_on}
+use Rattle.page_chain.specs.Lying.{Lying, place_of, lying_on, lying}
 use Rattle.page_chain.specs.Pages.{page_at, pages_of, next_of}
 use Rattle.page_chain.specs.Rows.{read_with, reader, placed_on}
 use Rattle.heap_am.specs.Heap.{heap_rows, stands, goes_on, has_rows, is_number, behind, HeapFault, IsOfPage, IsOfRow}
-use Rattle.heap_am.proofs.Counting.{chain_of_goes, last_number}
+use Rattle.heap_am.proofs.Counting.{chain_of_goes, last_number, goes_where}
+use Rattle.heap_am.proofs.Changed.{heap_chain_to, starts_at_0}
 use Rattle.heap_am.proofs.Each.{First, each_first}
 use Rattle.heap_am.proofs.Heaps.{heap_parts, page_stands, at_line, slot_row}
 use Rattle.heap_am.proofs.Lying.{page_has, slot_with, read_keeps}
@@ -163,3 +164,58 @@ cause_later told since P before later now s e same le h is =
     by_fault Disk h = rose_before before later now le h
     by_fault (Damaged file page) h = λ m e. h m (same ∙ e)
     by_fault OutOfMemory h = h
+
+-- the last page, where no chain ends at it, is at fault
+pub off_last : (file : RelFile) (m : Image) (a : Addr) → 0 < file.used → OffPage file.file (file.used - 1) (file.used - 1 + 1) m a → HeapFault file m a
+off_last file m a some off =
+    let e : file.used - 1 + 1 ≡ file.used = omega arith in
+    off_page file m a (file.used - 1) (omega arith) (subst (λ b. OffPage file.file (file.used - 1) b m a) e off)
+
+no_rows : (file : RelFile) (m : Image) → ((rows : Placed) → heap_rows file m ≡ Some rows → ⊥) → heap_rows file m ≡ None
+no_rows file m never = by_rows (heap_rows file m) refl
+  where
+    by_rows : (o : Option Placed) → heap_rows file m ≡ o → heap_rows file m ≡ None
+    by_rows None e = e
+    by_rows (Some rows) e = absurd (never rows e)
+
+-- a page at which a chain breaks off is at fault
+pub no_chain : (file : RelFile) (m : Image) (a : Addr) → NoChain file.file file.used m a → HeapFault file m a
+unfolding stands heap_rows placed_on whole_chain
+no_chain file m a h = record {
+  of_file = h.of_file;
+  off = not_both (nat_lt a.page file.used) (goes_on file.used a.page (m a)) (has_rows (reader file.domains) a.page (m a)) (ap (is_number (behind file.used a.page)) h.off);
+  none = ap (λ o. (o >>= (λ numbers. when (length numbers == file.used) numbers)) >>= (λ numbers. each (read_with (reader file.domains)) (lying (pages_of m file.file) numbers))) h.none;
+}
+
+all_three : (a b c : Bool) → (a && (b && c)) ≡ true → (a ≡ true) × (b ≡ true)
+all_three true true c e = (refl, refl)
+all_three true false c e = cc
+all_three false b c e = cc
+
+on_chain : (used page : ℕ) (p : Option (List ℕ)) → nat_lt page used ≡ true → goes_on used page p ≡ true → is_on used (used - 1) page p ≡ true
+on_chain used page p below goes = ap (λ o. elim o [ None ↦ false | Some zero ↦ page == used - 1 | Some (suc next) ↦ not (page == used - 1) ]) (goes_where used page p goes) ∙ by_last (nat_lt (suc page) used) refl
+  where
+    by_last : (b : Bool) → nat_lt (suc page) used ≡ b → (elim (Some (if nat_lt (suc page) used then suc page else 0)) [ None ↦ false | Some zero ↦ page == used - 1 | Some (suc next) ↦ not (page == used - 1) ]) ≡ true
+    by_last true e =
+        ap (λ b. elim (Some (if b then suc page else 0)) [ None ↦ false | Some zero ↦ page == used - 1 | Some (suc next) ↦ not (page == used - 1) ]) e
+        ∙ (let t : (page == used - 1) ≡ false = grind (arith, nat_tests) in ap not t)
+    by_last false e =
+        ap (λ b. elim (Some (if b then suc page else 0)) [ None ↦ false | Some zero ↦ page == used - 1 | Some (suc next) ↦ not (page == used - 1) ]) e
+        ∙ (let t : (page == used - 1) ≡ true = grind (arith, nat_tests) in t)
+
+-- a page at which a chain that ends at the last page breaks off is at fault
+pub no_chain_to : (file : RelFile) (m : Image) (a : Addr) → 0 < file.used → NoChainTo file.file file.used (file.used - 1) m a → HeapFault file m a
+unfolding stands
+no_chain_to file m a some h = record {
+  of_file = h.of_file;
+  off = by_stands (stands (reader file.domains) file.used a.page (m a)) refl;
+  none = no_rows file m (λ rows e. h.none (numbers_from (file.used - 1) 0) (starts_at_0 (file.used - 1)) (heap_chain_to file m rows (file.used - 1) (omega arith) e));
+}
+  where
+    by_stands : (b : Bool) → stands (reader file.domains) file.used a.page (m a) ≡ b → b ≡ false
+    by_stands false e = refl
+    by_stands true e =
+        let t = all_three (nat_lt a.page file.used) (goes_on file.used a.page (m a)) (has_rows (reader file.domains) a.page (m a)) e in
+        let on = on_chain file.used a.page (m a) t.0 t.1 in
+        let off = h.off in
+        cc
