@@ -266,3 +266,6 @@ are_short items made ds own rows e f h some most all = subst (All (λ row. IsSho
 pub none_of_them : {T : Type 0} (xs : List T) (b : Bool) → b ≡ (length xs == 0) → b ≡ true → xs ≡ []
 none_of_them [] b e f = refl
 none_of_them (x ∷ xs) b e f = let t : (length (x ∷ xs) == 0) ≡ false = grind (arith, nat_tests) in cc
+
+pub row_bytes_are : (items made : List ℕ) (ds own : List Domain) (row : Row) → items ≡ made → ds ≡ own → made ≡ row_bytes row ds → items ≡ row_bytes row own
+row_bytes_are items made ds own row e f h = e ∙ h ∙ ap (row_bytes row) f

@@ -219,3 +219,9 @@ no_chain_to file m a some h = record {
         let on = on_chain file.used a.page (m a) t.0 t.1 in
         let off = h.off in
         cc
+
+-- the same answer, where what is at fault for one call is at fault for the other
+pub cause_any : {T : Type 0} {told : Option Image} {P : Image → Addr → Type 0} (Q : Image → Addr → Type 0) {before now : ℕ} (r : Result T BaseFault)
+    → ((m : Image) (a : Addr) → P m a → Q m a) → HasFileCause told P before now r → HasFileCause told Q before now r
+cause_any Q (Ok x) f h = record { later = h.later; caused = tt }
+cause_any Q (Err e) f h = cause_by Q (Err e) e f h refl

@@ -9,3 +9,4 @@ pub mod Outcomes
 pub mod Meeting
 pub mod RowTests
 pub mod Changed
+pub mod Whole

@@ -9,5 +9,6 @@ mod lines;
 mod method;
 mod pages;
 mod scanning;
+mod whole_pages;
 
 pub use heap::Heap;
