@@ -1,7 +1,10 @@
 -- Rows with their places.
 use Rattle.std.specs.Prelude.{◌≡◌, ℕ, ◌+◌, ◌==◌, ◌&&◌, ◌||◌, nat_lt, nat_le, not, Bool, false, List, [], ◌∷◌, ◌++◌, map, filter, find, Option, Some, None, option_map, Result, Ok, Err}
 use Rattle.std.specs.List.Sorted.{IsPermutation}
+use Rattle.std.specs.Ordering.{eq_by_cmp}
+use Rattle.calculus.specs.Lists.{differ_by}
 use Rattle.calculus.specs.Rows.{Row, has}
+use Rattle.calculus.specs.Value.{row_cmp}
 use Rattle.calculus.specs.declared.probe.Place.{Place}
 use Rattle.calculus.specs.declared.probe.Probe.{Probe}
 use Rattle.disk_model.specs.Disk.{Image}
@@ -16,6 +19,10 @@ Placed = List (Place × Row)
 -- the rows alone
 abbrev pub rows_of : Placed → List Row
 rows_of placed = map (λ p. p.1) placed
+
+-- no two of these rows are the same
+abbrev pub rows_differ : List Row → Bool
+rows_differ = differ_by (eq_by_cmp row_cmp)
 
 -- the same place
 abbrev pub is_place : Place → Place → Bool

@@ -1,6 +1,6 @@
 //! What a file of rows offers, whatever its structure.
 
-ghost use Rattle.std.specs.Prelude.{◌≡◌, ◌+◌, ◌-◌, ◌^◌, ◌<◌, ◌≤◌, ℕ, Bool, false, List, Option, Some, IfOk, OnOk, IsTrue, All, length};
+ghost use Rattle.std.specs.Prelude.{◌≡◌, ◌+◌, ◌-◌, ◌^◌, ◌<◌, ◌≤◌, ℕ, Bool, true, false, List, Option, Some, IfOk, OnOk, IsTrue, All, length};
 ghost use Rattle.std.specs.List.{list_any};
 ghost use Rattle.calculus.specs.Rows.{Row as Values, has};
 ghost use Rattle.calculus.specs.declared.probe.Place.{Place as At};
@@ -9,7 +9,7 @@ ghost use Rattle.am_traits.specs.Scans.{Gives, IsOver, first_place};
 ghost use Rattle.page_cells.specs.RowBytes.{is_row};
 ghost use Rattle.access_traits.specs.Causes.{HasFileCause};
 ghost use Rattle.access_traits.specs.Pages.{KeepsOthers};
-ghost use Rattle.access_traits.specs.Placed.{Placed, Added, Removed, Replaced, GivesBefore, NowHolds, SameButUsed, row_with, rows_of, rows_from};
+ghost use Rattle.access_traits.specs.Placed.{Placed, Added, Removed, Replaced, GivesBefore, NowHolds, SameButUsed, row_with, rows_differ, rows_of, rows_from};
 ghost use Rattle.access_traits.specs.declared.file.RelFile.{RelFile as File};
 
 use crate::PageStore;
@@ -144,7 +144,9 @@ pub trait AccessMethod {
 
     /// Takes rows away and puts others in one pass over the pages; without rows that are to go it reads
     /// no page but those on which the others come to stand. `Ok(false)` where a row that is to go
-    /// isn't there: nothing is known of the pages then. Our own: so a change of many rows is one pass.
+    /// isn't there: nothing is known of the pages then. Our own: so a change of many rows is one pass,
+    /// which ends where all that are to go were found, so no row may stand twice, in the file or among
+    /// those that are to go.
     fn replace<S: PageStore>(
         &mut self,
         alloc: Global,
@@ -156,7 +158,7 @@ pub trait AccessMethod {
         requires coming { All (λ row. IsTrue (is_row row (file self.old).domains)) coming.now }
         requires room { (file self.old).used + length coming.now < 2 ^ 32 }
         ensures told { (m : Image) (rows : Placed) → S.pages store.old ≡ Some m → placed self.old m ≡ Some rows
-            → All (λ row. IsTrue (has (rows_of rows) row)) going.now
+            → rows_differ (rows_of rows) ≡ true → rows_differ going.now ≡ true → All (λ row. IsTrue (has (rows_of rows) row)) going.now
             → IfOk result (λ all. IsTrue all × NowHolds (placed self.new) (S.pages store.new) (Replaced rows going.now coming.now)) }
         ensures others { OnOk result (KeepsOthers (file self.old).file (S.pages store.old) (S.pages store.new)) }
         ensures file { OnOk result (SameButUsed (file self.old) (file self.new)) }

@@ -1,5 +1,6 @@
 -- The rows of a relation on the pages of its file.
-use Rattle.std.specs.Prelude.{ℕ, List, Option, Some, None, option_map}
+use Rattle.std.specs.Prelude.{ℕ, nat_lt, Bool, true, false, List, Option, Some, None, option_map}
+use Rattle.std.specs.List.{list_all}
 use Rattle.calculus.specs.declared.probe.Place.{Place}
 use Rattle.calculus.specs.declared.value.Domain.{Domain}
 use Rattle.calculus.specs.Rows.{Row}
@@ -27,6 +28,10 @@ set_on read used pages = do
   placed ← placed_on read used pages
   once row_cmp (rows_of placed)
 
+-- the number is a byte
+abbrev pub is_byte : ℕ → Bool
+is_byte n = nat_lt n 256
+
 -- how the bytes of a row of these domains are read
-abbrev pub reader : List Domain → List ℕ → Option Row
-reader domains bytes = row_in bytes domains
+unfoldable pub reader : List Domain → List ℕ → Option Row
+reader domains bytes = elim (list_all is_byte bytes) [ true ↦ row_in bytes domains | false ↦ None ]

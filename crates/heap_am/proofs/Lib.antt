@@ -1,0 +1,12 @@
+pub mod Places
+pub mod Each
+pub mod Counting
+pub mod RowLaws
+pub mod Lying
+pub mod Heaps
+pub mod Faults
+pub mod Outcomes
+pub mod Meeting
+pub mod RowTests
+pub mod Changed
+pub mod Whole

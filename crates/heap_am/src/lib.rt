@@ -1,0 +1,14 @@
+//! A heap: a file of rows that lie on one chain of pages, in no order.
+#![tactic(auto)]
+
+mod changing;
+mod encoding;
+mod fitting;
+mod heap;
+mod lines;
+mod method;
+mod pages;
+mod scanning;
+mod whole_pages;
+
+pub use heap::Heap;
