@@ -69,11 +69,7 @@ fn pass_over<S: PageStore>(
 
 /// Puts rows behind those of a chain, and answers the number of its last page. Without rows no page is
 /// read.
-fn put_rest<S: PageStore>(
-    store: &mut S,
-    chain: Chain,
-    rows: &[List<u8>],
-) -> Result<u32, BaseFault>
+fn put_rest<S: PageStore>(store: &mut S, chain: Chain, rows: &[List<u8>]) -> Result<u32, BaseFault>
     requires file { 5 ≤ chain.file }
     requires short { All (λ row. IsShort row) rows.now }
     requires room { chain.last + length rows.now < 2 ^ 32 }
