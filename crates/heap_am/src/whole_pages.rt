@@ -43,8 +43,9 @@ impl Heap {
     {
         let mut found = Vec::new(alloc);
         'lines: for line in 0..line_count(page) {
-            if let Some(row) = self.line(alloc, page, number, line)? {
-                add(&mut found, line, row)?;
+            match self.line(alloc, page, number, line)? {
+                Some(row) => add(&mut found, line, row)?,
+                None => {}
             }
         }
         Ok(List::of(found))
