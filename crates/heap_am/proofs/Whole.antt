@@ -54,4 +54,4 @@ pub lines_over : (file : RelFile) (m : Image) (rows : Placed) (k l : ℕ) (p : L
     → placed_from rows (place_of k 0) ≡ on_page k found ++ placed_from rows (place_of k l) → placed_from rows (place_of k 0) ≡ on_page k found ++ placed_from rows (place_of (k + 1) 0)
 lines_over file m rows k l p found lt e is le h =
     h ∙ ap (λ r. on_page k found ++ r)
-      (next_page_from file m rows k l p lt e is (let c = slots_count p in omega arith) ∙ ap (λ j. placed_from rows (place_of j 0)) (let a : suc k ≡ k + 1 = omega arith in a))
+    (next_page_from file m rows k l p lt e is (let c = slots_count p in omega arith) ∙ ap (λ j. placed_from rows (place_of j 0)) (let a : suc k ≡ k + 1 = omega arith in a))

@@ -19,4 +19,4 @@ lines-preserved c m rows e is =
 pub returns-clause-told : goal.returns-clause-told
 returns-clause-told c m rows e is =
     subst (λ found. placed_from rows (place_of c.args.number 0) ≡ on_page c.args.number found ++ placed_from rows (place_of (c.args.number + 1) 0)) (sym c.of.ensures)
-      (lines_over c.args.self.now.file m rows c.args.number c.lines.line c.args.page.now c.lines.found.items c.requires.below e is (omega arith) (c.lines.invariant m rows e is))
+    (lines_over c.args.self.now.file m rows c.args.number c.lines.line c.args.page.now c.lines.found.items c.requires.below e is (omega arith) (c.lines.invariant m rows e is))
