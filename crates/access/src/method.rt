@@ -1,20 +1,27 @@
 //! A file of rows, whatever its structure.
 
-ghost use Rattle.std.specs.Prelude.{◌≡◌, ◌<◌, ◌≤◌};
+ghost use Rattle.std.specs.Prelude.{◌≡◌, ◌+◌, ◌++◌, ◌<◌, ◌≤◌, Some, IfOk, OnOk};
+ghost use Rattle.disk_model.specs.Disk.{Image, RisesUpTo};
+ghost use Rattle.access_traits.specs.Causes.{HasFileCause};
+ghost use Rattle.access_traits.specs.Placed.{Placed};
 ghost use Rattle.page_cells.specs.RowBytes.{widths};
-ghost use Rattle.access.specs.Method.{file_of, method_rows, method_ahead, MethodFault, no_rows_at_fault, own_pages, whole_scan};
+ghost use Rattle.page_chain.specs.Lying.{place_of};
+ghost use Rattle.page_chain.specs.Pages.{page_at};
+ghost use Rattle.heap_am.specs.Heap.{heap_rows, pages_ahead, HeapFault};
+ghost use Rattle.heap_am.specs.Laws.{no_rows_at_fault, own_pages, whole_scan};
+ghost use Rattle.heap_am.specs.Met.{placed_from, on_page};
 
 use access_traits::{AccessMethod, PageStore, RelFile};
 use am_traits::BaseFault;
 use calculus::{Place, Probe, Row};
 use heap_am::Heap;
+use memory::List;
 use std::alloc::Global;
 
-/// A file of rows, by the structure that it has.
+/// A file of rows, whatever its structure. Today each is a heap.
 #[derive(Drop)]
-pub enum Method {
-    /// Its rows lie on one chain, in no order.
-    Heap(Heap),
+pub struct Method {
+    pub(crate) heap: Heap,
 }
 
 /// The file of a relation. Today each lies on one chain, whatever its spec says. It has at least one
@@ -24,36 +31,58 @@ pub fn open_method(file: RelFile) -> Method
     requires some { 0 < widths file.domains }
     requires most { widths file.domains ≤ 1012 }
     requires pages { 0 < file.used }
-    ensures { file_of result ≡ file }
+    ensures { result.heap.file ≡ file }
 {
-    Method::Heap(Heap::at(file))
+    Method {
+        heap: Heap::at(file),
+    }
 }
 
 impl Method {
     /// What is known of its file.
     pub fn info(&self) -> &RelFile
-        ensures { result.now ≡ file_of self.now }
+        ensures { result.now ≡ self.now.heap.file }
     {
-        match self {
-            Method::Heap(heap) => heap.info(),
-        }
+        self.heap.info()
+    }
+
+    /// The rows on a page, each with its line, in the order of their lines. The page is read and checked
+    /// once.
+    pub fn page_rows<S: PageStore>(
+        &self,
+        alloc: Global,
+        store: &mut S,
+        number: u32,
+    ) -> Result<List<(u16, Row)>, BaseFault>
+        requires below { number < self.now.heap.file.used }
+        ensures told { (m : Image) (rows : Placed) → S.pages store.old ≡ Some m → heap_rows self.now.heap.file m ≡ Some rows
+            → IfOk result (λ found. placed_from rows (place_of number 0) ≡ on_page number found ++ placed_from rows (place_of (number + 1) 0)) }
+        ensures same { S.pages store.new ≡ S.pages store.old }
+        ensures reads { RisesUpTo 1 (S.reads store.old) (S.reads store.new) }
+        ensures kept { S.last store.old ≡ Some (page_at self.now.heap.file.file number) → S.reads store.new ≡ S.reads store.old }
+        ensures last { OnOk result (S.last store.new ≡ Some (page_at self.now.heap.file.file number)) }
+        ensures came { (s : S) → S.came s store.old → S.came s store.new }
+        ensures only_read { (s : S) → S.only_read s store.old → S.only_read s store.new }
+        ensures cause { HasFileCause (S.pages store.old) (HeapFault self.now.heap.file) (S.faults store.old) (S.faults store.new) result }
+    {
+        self.heap.page_rows(alloc, store, number)
     }
 }
 
 impl AccessMethod for Method {
-    ghost file = { file_of };
+    ghost file = { λ a. a.heap.file };
 
-    ghost placed = { method_rows };
+    ghost placed = { λ a. heap_rows a.heap.file };
 
-    ghost at_fault = { MethodFault };
+    ghost at_fault = { λ a. HeapFault a.heap.file };
 
-    ghost ahead = { method_ahead };
+    ghost ahead = { λ a. pages_ahead a.heap.file };
 
-    ghost sound = { no_rows_at_fault };
+    ghost sound = { λ a. no_rows_at_fault a.heap.file };
 
-    ghost own = { own_pages };
+    ghost own = { λ a. own_pages a.heap.file };
 
-    ghost whole = { whole_scan };
+    ghost whole = { λ a. whole_scan a.heap.file };
 
     fn row_at<S: PageStore>(
         &self,
@@ -61,9 +90,7 @@ impl AccessMethod for Method {
         store: &mut S,
         place: &Place,
     ) -> Result<Option<Row>, BaseFault> {
-        match self {
-            Method::Heap(heap) => heap.row_at(alloc, store, place),
-        }
+        self.heap.row_at(alloc, store, place)
     }
 
     fn scan<S: PageStore>(
@@ -73,9 +100,7 @@ impl AccessMethod for Method {
         probe: &Probe,
         at: &mut Place,
     ) -> Result<Option<Row>, BaseFault> {
-        match self {
-            Method::Heap(heap) => heap.scan(alloc, store, probe, at),
-        }
+        self.heap.scan(alloc, store, probe, at)
     }
 
     fn scan_on<S: PageStore>(
@@ -86,9 +111,7 @@ impl AccessMethod for Method {
         chains: &mut Option<(u32, u32)>,
         at: &mut Place,
     ) -> Result<Option<Row>, BaseFault> {
-        match self {
-            Method::Heap(heap) => heap.scan_on(alloc, store, probe, chains, at),
-        }
+        self.heap.scan_on(alloc, store, probe, chains, at)
     }
 
     fn add<S: PageStore>(
@@ -97,9 +120,7 @@ impl AccessMethod for Method {
         store: &mut S,
         row: &Row,
     ) -> Result<Place, BaseFault> {
-        match self {
-            Method::Heap(heap) => heap.add(alloc, store, row),
-        }
+        self.heap.add(alloc, store, row)
     }
 
     fn remove<S: PageStore>(
@@ -108,9 +129,7 @@ impl AccessMethod for Method {
         store: &mut S,
         row: &Row,
     ) -> Result<Option<Place>, BaseFault> {
-        match self {
-            Method::Heap(heap) => heap.remove(alloc, store, row),
-        }
+        self.heap.remove(alloc, store, row)
     }
 
     fn replace<S: PageStore>(
@@ -120,8 +139,6 @@ impl AccessMethod for Method {
         going: &[Row],
         coming: &[Row],
     ) -> Result<bool, BaseFault> {
-        match self {
-            Method::Heap(heap) => heap.replace(alloc, store, going, coming),
-        }
+        self.heap.replace(alloc, store, going, coming)
     }
 }

@@ -60,7 +60,7 @@ pub heap_of_chain : (file : RelFile) (m : Image) (rows : Placed) (last : ℕ) �
 heap_of_chain file m rows last is chain e =
     let used : suc last ≡ file.used = omega arith in
     heap_is file m rows (omega arith) (subst (λ n. EachGoes file.used (pages_of m file.file) 0 n) used (goes_of_chain file.used (pages_of m file.file) last 0 (omega arith) chain))
-      (ap (λ n. each (read_with (reader file.domains)) (lying (pages_of m file.file) (numbers_from n 0))) (sym used) ∙ e)
+    (ap (λ n. each (read_with (reader file.domains)) (lying (pages_of m file.file) (numbers_from n 0))) (sym used) ∙ e)
 
 -- a row was put
 pub one_added : (file now : RelFile) (m : Image) (rows : Placed) (last : ℕ) (place : Place) (row : Row) (told : Option Image)
@@ -73,7 +73,7 @@ one_added file now m rows last place row told same ds is used le e fits grown mo
       rows = after.vs;
       told_still = more.told_still;
       are = heap_of_chain now more.image after.vs place.page used chain
-        (ap₂ (λ d f. each (read_with (reader d)) (lying (pages_of more.image f) (numbers_from (suc place.page) 0))) ds same
+          (ap₂ (λ d f. each (read_with (reader d)) (lying (pages_of more.image f) (numbers_from (suc place.page) 0))) ds same
           ∙ ap (λ n. each (read_with (reader file.domains)) (lying (pages_of more.image file.file) n)) (sym (grown_numbers last place.page le)) ∙ after.read);
       so = IsPermutation-sym ((place, row) ∷ rows) after.vs after.order;
     }
@@ -96,9 +96,9 @@ one_added file now m rows last place row told same ds is used le e fits grown mo
     chain : IsChain now.used (pages_of more.image now.file) (numbers_from (suc place.page) 0)
     chain =
         subst (λ n. IsChain now.used (pages_of more.image now.file) n) (grown_numbers last place.page le)
-          (subst (λ g. IsChain now.used (pages_of more.image g) (numbers_from last 0 ++ numbers_to last place.page)) (sym same)
-            (subst (λ i. IsChain now.used (pages_of i file.file) (numbers_from last 0 ++ numbers_to last place.page)) (same_image told grown.told_still more.told_still)
-              (grown.chain now.used (omega arith) (omega arith))))
+        (subst (λ g. IsChain now.used (pages_of more.image g) (numbers_from last 0 ++ numbers_to last place.page)) (sym same)
+        (subst (λ i. IsChain now.used (pages_of i file.file) (numbers_from last 0 ++ numbers_to last place.page)) (same_image told grown.told_still more.told_still)
+        (grown.chain now.used (omega arith) (omega arith))))
 
 -- rows were taken, and others put
 pub rows_came : (file now : RelFile) (m : Image) (rows : Placed) (last to : ℕ) (going coming : List Row) (image : Image)
@@ -112,7 +112,7 @@ rows_came file now m rows last to going coming image same ds is used le e go co 
       rows = after.vs;
       told_still = there;
       are = heap_of_chain now image after.vs to used chain
-        (ap₂ (λ d f. each (read_with (reader d)) (lying (pages_of image f) (numbers_from (suc to) 0))) ds same
+          (ap₂ (λ d f. each (read_with (reader d)) (lying (pages_of image f) (numbers_from (suc to) 0))) ds same
           ∙ ap (λ n. each (read_with (reader file.domains)) (lying (pages_of image file.file) n)) (sym (grown_numbers last to le)) ∙ after.read);
       so = record {
         new = new.placed;
@@ -145,13 +145,13 @@ rows_came file now m rows last to going coming image same ds is used le e go co 
     after : Reordered f later (filter (λ p. not (has going p.1)) rows ++ new.placed)
     after =
         each_reordered f none_placed (staying (map (bytes file.domains) going) before ++ came.new) later (filter (λ p. not (has going p.1)) rows ++ new.placed)
-          (IsPermutation-sym later (staying (map (bytes file.domains) going) before ++ came.new) came.all)
-          (each_append f (staying (map (bytes file.domains) going) before) came.new (filter (λ p. not (has going p.1)) rows) new.placed kept new.read)
+        (IsPermutation-sym later (staying (map (bytes file.domains) going) before ++ came.new) came.all)
+        (each_append f (staying (map (bytes file.domains) going) before) came.new (filter (λ p. not (has going p.1)) rows) new.placed kept new.read)
 
     chain : IsChain now.used (pages_of image now.file) (numbers_from (suc to) 0)
     chain =
         subst (λ n. IsChain now.used (pages_of image now.file) n) (grown_numbers last to le)
-          (subst (λ g. IsChain now.used (pages_of image g) (numbers_from last 0 ++ numbers_to last to)) (sym same) (chains now.used (omega arith) (omega arith)))
+        (subst (λ g. IsChain now.used (pages_of image g) (numbers_from last 0 ++ numbers_to last to)) (sym same) (chains now.used (omega arith) (omega arith)))
 
 -- no row was to go
 pub all_stay : (rows : Lying) → staying [] rows ≡ rows
@@ -192,7 +192,7 @@ one_removed file m rows last place row told is e fits took = by_place place took
     by_place None h =
         let l = lain file.domains before rows (heap_read file m rows last is e) in
         holds None rows (ap (each f) h.1 ∙ heap_read file m rows last is e)
-          (sym (among_rows file.domains row (rows_of rows) fits l.all) ∙ ap (λ b. is_among b (row_bytes row file.domains)) (sym l.same) ∙ h.0, refl)
+        (sym (among_rows file.domains row (rows_of rows) fits l.all) ∙ ap (λ b. is_among b (row_bytes row file.domains)) (sym l.same) ∙ h.0, refl)
     by_place (Some at) h =
         let r = each_reordered f none_placed before ((at, row_bytes row file.domains) ∷ later) rows h (heap_read file m rows last is e) in
         let p = each_first f (at, row_bytes row file.domains) later r.vs r.read in
@@ -223,7 +223,7 @@ rows_built file rows told some all built =
       rows = r.placed;
       told_still = built.told_still;
       are = heap_of_chain file built.image r.placed (file.used - 1) (omega arith) (subst (λ n. IsChain file.used (pages_of built.image file.file) (numbers_from n 0)) (sym last) built.chain)
-        (ap (λ n. each (read_with (reader file.domains)) (lying (pages_of built.image file.file) (numbers_from n 0))) last ∙ r.read);
+          (ap (λ n. each (read_with (reader file.domains)) (lying (pages_of built.image file.file) (numbers_from n 0))) last ∙ r.read);
       so = r.are;
     }
 
@@ -236,8 +236,8 @@ pub rows_extended : (file now : RelFile) (m : Image) (rows : Placed) (to : ℕ) 
     → IsGrown file.file file.used (numbers_from (file.used - 1) 0) (file.used - 1) to as_bytes m told → NowHolds (heap_rows now) told (Replaced rows [] coming)
 rows_extended file now m rows to coming as_bytes told same ds some used le e co are grown =
     rows_came file now m rows (file.used - 1) to [] coming grown.image same ds (omega arith) used le e (λ k d lt. absurd (omega arith)) co grown.chain
-      (record { new = grown.came.new; bytes = grown.came.bytes ∙ are; all = subst (λ l. IsPermutation (lying (pages_of grown.image file.file) (numbers_from (file.used - 1) 0 ++ numbers_to (file.used - 1) to)) (l ++ grown.came.new)) (sym (all_stay (lying (pages_of m file.file) (numbers_from (file.used - 1) 0 ++ (file.used - 1) ∷ [])))) grown.came.all })
-      told grown.told_still
+    (record { new = grown.came.new; bytes = grown.came.bytes ∙ are; all = subst (λ l. IsPermutation (lying (pages_of grown.image file.file) (numbers_from (file.used - 1) 0 ++ numbers_to (file.used - 1) to)) (l ++ grown.came.new)) (sym (all_stay (lying (pages_of m file.file) (numbers_from (file.used - 1) 0 ++ (file.used - 1) ∷ [])))) grown.came.all })
+    told grown.told_still
 
 -- rows were taken, and others put
 pub rows_renewed : (file now : RelFile) (m : Image) (rows : Placed) (to : ℕ) (going coming : List Row) (old_bytes new_bytes : List (List ℕ)) (told : Option Image)
@@ -246,9 +246,9 @@ pub rows_renewed : (file now : RelFile) (m : Image) (rows : Placed) (to : ℕ) (
     → IsRenewed file.file file.used (numbers_from (file.used - 1) 0) (file.used - 1) to old_bytes new_bytes m told → NowHolds (heap_rows now) told (Replaced rows going coming)
 rows_renewed file now m rows to going coming old_bytes new_bytes told same ds some used le e go old co new renewed =
     rows_came file now m rows (file.used - 1) to going coming renewed.image same ds (omega arith) used le e go co renewed.chain
-      (subst (λ a. Came (staying a (lying (pages_of m file.file) (numbers_from (file.used - 1) 0 ++ (file.used - 1) ∷ []))) (map (bytes file.domains) coming) (lying (pages_of renewed.image file.file) (numbers_from (file.used - 1) 0 ++ numbers_to (file.used - 1) to))) old
-        (subst (λ b. Came (staying old_bytes (lying (pages_of m file.file) (numbers_from (file.used - 1) 0 ++ (file.used - 1) ∷ []))) b (lying (pages_of renewed.image file.file) (numbers_from (file.used - 1) 0 ++ numbers_to (file.used - 1) to))) new renewed.came))
-      told renewed.told_still
+    (subst (λ a. Came (staying a (lying (pages_of m file.file) (numbers_from (file.used - 1) 0 ++ (file.used - 1) ∷ []))) (map (bytes file.domains) coming) (lying (pages_of renewed.image file.file) (numbers_from (file.used - 1) 0 ++ numbers_to (file.used - 1) to))) old
+    (subst (λ b. Came (staying old_bytes (lying (pages_of m file.file) (numbers_from (file.used - 1) 0 ++ (file.used - 1) ∷ []))) b (lying (pages_of renewed.image file.file) (numbers_from (file.used - 1) 0 ++ numbers_to (file.used - 1) to))) new renewed.came))
+    told renewed.told_still
 
 -- ---- the bytes of rows
 

@@ -73,9 +73,10 @@ walk (suc most) bound pages page n numbers to some e = by_next (next_of bound pa
     last is same = record {
       short = omega (arith, ap length same);
       whole = λ long.
-          let one : n ≡ 1 = omega (arith, ap length same, long) in
-          (sym same ∙ ap (λ m. numbers_from m page) (sym one),
-           λ k le lt. let here : page ≡ k = omega arith in subst (λ k. goes_on bound k (pages k) ≡ true) here (goes_to bound page (pages page) 0 is (sym (behind_last bound page (omega arith)))));
+          let one : n ≡ 1 = omega (arith, ap length same, long) in (
+            sym same ∙ ap (λ m. numbers_from m page) (sym one),
+            λ k le lt. let here : page ≡ k = omega arith in subst (λ k. goes_on bound k (pages k) ≡ true) here (goes_to bound page (pages page) 0 is (sym (behind_last bound page (omega arith)))),
+          );
     }
 
     further : (next : ℕ) (rest : List ℕ) → next_of bound page (pages page) ≡ Some (suc next) → Walked bound pages (suc next) (bound - suc next) rest → page < suc next → suc next < bound → page ∷ rest ≡ numbers → Walked bound pages page n numbers
@@ -86,10 +87,11 @@ walk (suc most) bound pages page n numbers to some e = by_next (next_of bound pa
           let e : suc next ≡ suc page = omega (arith, walked.short) in
           let m : bound - suc next ≡ length rest = omega (arith, walked.short) in
           let w = walked.whole (sym m) in
-          let one : n ≡ suc (bound - suc next) = omega arith in
-          (sym same ∙ ap (λ l. page ∷ l) (w.0 ∙ ap (λ k. numbers_from (bound - suc next) k) e) ∙ ap (λ m. numbers_from m page) (sym one),
-           subst (λ m. EachGoes bound pages page m) (sym one)
-             (one_more bound pages page (bound - suc next) (goes_to bound page (pages page) (suc next) is (e ∙ sym (behind_more bound page (omega arith)))) (subst (λ k. EachGoes bound pages k (bound - suc next)) e w.1)));
+          let one : n ≡ suc (bound - suc next) = omega arith in (
+            sym same ∙ ap (λ l. page ∷ l) (w.0 ∙ ap (λ k. numbers_from (bound - suc next) k) e) ∙ ap (λ m. numbers_from m page) (sym one),
+            subst (λ m. EachGoes bound pages page m) (sym one)
+                (one_more bound pages page (bound - suc next) (goes_to bound page (pages page) (suc next) is (e ∙ sym (behind_more bound page (omega arith)))) (subst (λ k. EachGoes bound pages k (bound - suc next)) e w.1)),
+          );
     }
 
     by_follows : (next : ℕ) (ns : List ℕ) → next_of bound page (pages page) ≡ Some (suc next) → chain_from most bound pages (suc next) ≡ Some ns → Rest → page ∷ ns ≡ numbers → (suc next ≡ 0) ⊎ ((page < suc next) × (suc next < bound)) → Walked bound pages page n numbers
@@ -153,10 +155,11 @@ whole_of (suc n) pages some goes =
 pub chain_of_goes : (bound : ℕ) (pages : Pages) (n page : ℕ) → page + suc n ≡ bound → EachGoes bound pages page (suc n) → IsChain bound pages (numbers_from (suc n) page)
 unfolding IsChain
 chain_of_goes bound pages zero page to goes = goes_where bound page (pages page) (goes page (omega arith) (omega arith)) ∙ ap Some (behind_last bound page (omega arith))
-chain_of_goes bound pages (suc n) page to goes =
-    (omega arith,
-     goes_where bound page (pages page) (goes page (omega arith) (omega arith)) ∙ ap Some (behind_more bound page (omega arith)),
-     chain_of_goes bound pages n (suc page) (omega arith) (λ k le lt. goes k (omega arith) (omega arith)))
+chain_of_goes bound pages (suc n) page to goes = (
+  omega arith,
+  goes_where bound page (pages page) (goes page (omega arith) (omega arith)) ∙ ap Some (behind_more bound page (omega arith)),
+  chain_of_goes bound pages n (suc page) (omega arith) (λ k le lt. goes k (omega arith) (omega arith)),
+)
 
 -- a chain of all pages goes on so
 pub goes_of_chain : (bound : ℕ) (pages : Pages) (n page : ℕ) → page + suc n ≡ bound → IsChain bound pages (numbers_from (suc n) page) → EachGoes bound pages page (suc n)

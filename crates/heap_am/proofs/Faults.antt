@@ -106,14 +106,14 @@ bad_row file m k l p bytes lt is at none = not_standing file m k lt (off_at (ap 
     by_rows None e = ap is_some e
     by_rows (Some rows) e =
         absurd (found_read (read_with (reader file.domains)) (λ r. is_place r.0 (place_of k l)) (lying_on k (Some p)) rows (place_of k l, bytes) e
-          (page_has k l p ∙ ap (slot_with (place_of k l)) at) (ap (option_map (λ row. (place_of k l, row))) none))
+        (page_has k l p ∙ ap (slot_with (place_of k l)) at) (ap (option_map (λ row. (place_of k l, row))) none))
 
 -- a page that goes on to another than the one right behind it is at fault
 pub bad_next : (file : RelFile) (m : Image) (k next : ℕ) (p : List ℕ) → k < file.used → m (page_at file.file k) ≡ Some p → next_of file.used k (Some p) ≡ Some next → (next ≡ behind file.used k → ⊥) → HeapFault file m (page_at file.file k)
 unfolding stands
 bad_next file m k next p lt is goes other =
     not_standing file m k lt (not_both (nat_lt k file.used) (goes_on file.used k (m (page_at file.file k))) (has_rows (reader file.domains) k (m (page_at file.file k)))
-      (ap (goes_on file.used k) is ∙ ap (is_number (behind file.used k)) goes ∙ (let t : (next == behind file.used k) ≡ false = grind (arith, nat_tests) in t)))
+    (ap (goes_on file.used k) is ∙ ap (is_number (behind file.used k)) goes ∙ (let t : (next == behind file.used k) ≡ false = grind (arith, nat_tests) in t)))
 
 -- the fault of a row is one of its page
 pub of_page : (file : RelFile) (k l : ℕ) (p bytes : List ℕ) (fault : BaseFault) → k < file.used → get_or (slots p) l None ≡ Some bytes → IsOfRow file k bytes fault → IsOfPage file k p fault

@@ -53,7 +53,7 @@ heap_lies file m rows some e =
     let p = heap_parts file m rows some e in
     let e : 0 + file.used ≡ file.used = omega arith in
     each_lie (reader file.domains) (place_of 0 0) (place_of file.used 0) (lying (pages_of m file.file) (numbers_from file.used 0)) rows p.read
-      (subst (λ j. LieTo (place_of 0 0) (place_of j 0) (lying (pages_of m file.file) (numbers_from file.used 0))) e (pages_lie (pages_of m file.file) file.used 0))
+    (subst (λ j. LieTo (place_of 0 0) (place_of j 0) (lying (pages_of m file.file) (numbers_from file.used 0))) e (pages_lie (pages_of m file.file) file.used 0))
 
 on_page_lies : (k : ℕ) (p : List ℕ) → LieTo (place_of k 0) (place_of k (0 + length (slots p))) (lying_on k (Some p))
 unfolding lying_on
@@ -82,7 +82,7 @@ at_line file m rows k l p lt e is =
     let at = place_of k l in
     let here : at_place at (lying_on k (pages_of m file.file k)) ≡ slot_with at (get_or (slots p) l None) = ap (λ o. at_place at (lying_on k o)) is ∙ page_has k l p in
     let on : at_place at c.on ≡ slot_row read at (get_or (slots p) l None) =
-        each_place read at (lying_on k (pages_of m file.file k)) c.on c.on_read ∙ ap (λ o. o >>= read_with read) here ∙ with_slot read at (get_or (slots p) l None) in
+    each_place read at (lying_on k (pages_of m file.file k)) c.on c.on_read ∙ ap (λ o. o >>= read_with read) here ∙ with_slot read at (get_or (slots p) l None) in
     let none : at_place at c.before ≡ None = none_behind at (place_of 0 0) (place_of k 0) c.before (grind arith) c.before_lie in
     let after : at_place at c.after ≡ None = none_before at (place_of (suc k) 0) (place_of file.used 0) c.after (grind arith) c.after_lie in
     ap (at_place at) c.are
@@ -109,14 +109,14 @@ pub next_page_from : (file : RelFile) (m : Image) (rows : Placed) (k l : ℕ) (p
 next_page_from file m rows k l p lt e is le =
     let c = heap_cut file m rows k lt e in
     let lie : LieTo (place_of k 0) (place_of k (0 + length (slots p))) c.on =
-        each_lie (reader file.domains) (place_of k 0) (place_of k (0 + length (slots p))) (lying_on k (Some p)) c.on
-          (ap (λ o. each (read_with (reader file.domains)) (lying_on k o)) (sym is) ∙ c.on_read) (on_page_lies k p) in
+    each_lie (reader file.domains) (place_of k 0) (place_of k (0 + length (slots p))) (lying_on k (Some p)) c.on
+    (ap (λ o. each (read_with (reader file.domains)) (lying_on k o)) (sym is) ∙ c.on_read) (on_page_lies k p) in
     only_after c (place_of k l) (grind arith)
-      (none_from (place_of k l) (place_of k 0) (place_of k (0 + length (slots p))) c.on (grind arith) lie)
-      (all_from (place_of k l) (place_of (suc k) 0) (place_of file.used 0) c.after (grind arith) c.after_lie)
+    (none_from (place_of k l) (place_of k 0) (place_of k (0 + length (slots p))) c.on (grind arith) lie)
+    (all_from (place_of k l) (place_of (suc k) 0) (place_of file.used 0) c.after (grind arith) c.after_lie)
     ∙ sym (only_after c (place_of (suc k) 0) (grind arith)
-      (none_from (place_of (suc k) 0) (place_of k 0) (place_of k (0 + length (slots p))) c.on (grind arith) lie)
-      (all_from (place_of (suc k) 0) (place_of (suc k) 0) (place_of file.used 0) c.after (grind arith) c.after_lie))
+    (none_from (place_of (suc k) 0) (place_of k 0) (place_of k (0 + length (slots p))) c.on (grind arith) lie)
+    (all_from (place_of (suc k) 0) (place_of (suc k) 0) (place_of file.used 0) c.after (grind arith) c.after_lie))
   where
     only_after : (c : Cut (reader file.domains) (pages_of m file.file) file.used k rows) (at : Place) → From (place_of k 0) at → from_place at c.on ≡ [] → from_place at c.after ≡ c.after → from_place at rows ≡ c.after
     only_after c at h none all =

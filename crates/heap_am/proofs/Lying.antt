@@ -20,7 +20,7 @@ lines_lie n l [] = grind arith
 lines_lie n l (None ∷ s) =
     let e : suc l + length s ≡ l + suc (length s) = omega arith in
     lie_sooner (place_of n l) (place_of n (suc l)) (place_of n (l + suc (length s))) (lying_in n (suc l) s) (grind arith)
-      (subst (λ k. LieTo (place_of n (suc l)) (place_of n k) (lying_in n (suc l) s)) e (lines_lie n (suc l) s))
+    (subst (λ k. LieTo (place_of n (suc l)) (place_of n k) (lying_in n (suc l) s)) e (lines_lie n (suc l) s))
 lines_lie n l (Some row ∷ s) =
     let e : suc l + length s ≡ l + suc (length s) = omega arith in
     let f : suc l ≡ l + 1 = omega arith in
@@ -37,7 +37,7 @@ pages_lie pages zero k = grind arith
 pages_lie pages (suc n) k =
     let e : suc k + n ≡ k + suc n = omega arith in
     lie_append (place_of k 0) (place_of (suc k) 0) (place_of (k + suc n) 0) (lying_on k (pages k)) (lying pages (numbers_from n (suc k))) (page_lies k (pages k))
-      (subst (λ j. LieTo (place_of (suc k) 0) (place_of j 0) (lying pages (numbers_from n (suc k)))) e (pages_lie pages n (suc k)))
+    (subst (λ j. LieTo (place_of (suc k) 0) (place_of j 0) (lying pages (numbers_from n (suc k)))) e (pages_lie pages n (suc k)))
 
 -- what stands in a line, with its place
 abbrev pub slot_with : Place → Slot → Option (Place × List ℕ)
@@ -82,7 +82,7 @@ module _ (read : List ℕ → Option Row) where
       let h = each_first (read_with read) x xs rows e in
       let k = read_keeps x h.y h.first in
       subst (LieTo a b) (sym h.are)
-        (subst (λ p. From a p × LieTo (next_line p) b h.ys) (sym k.place) (l.0, each_lie (next_line x.0) b xs h.ys h.rest l.1))
+      (subst (λ p. From a p × LieTo (next_line p) b h.ys) (sym k.place) (l.0, each_lie (next_line x.0) b xs h.ys h.rest l.1))
 
   pub each_place : (at : Place) (xs : Lying) (rows : Placed) → each (read_with read) xs ≡ Some rows → at_place at rows ≡ (at_place at xs >>= read_with read)
   each_place at [] rows e = let same : [] ≡ rows = cc in ap (at_place at) (sym same)
@@ -120,13 +120,15 @@ module _ (read : List ℕ → Option Row) where
   cut_at pages used k rows lt e =
       let m : ℕ = used - suc k in
       let n : numbers_from used 0 ≡ numbers_from k 0 ++ k ∷ numbers_from m (suc k) =
-          ap (λ j. numbers_from j 0) (let a : used ≡ k + suc (used - suc k) = omega arith in a) ∙ sym (numbers_append k (suc m) 0) ∙ ap (λ j. numbers_from k 0 ++ numbers_from (suc m) j) (let a : 0 + k ≡ k = omega arith in a) in
+      ap (λ j. numbers_from j 0) (let a : used ≡ k + suc (used - suc k) = omega arith in a) ∙ sym (numbers_append k (suc m) 0) ∙ ap (λ j. numbers_from k 0 ++ numbers_from (suc m) j) (let a : 0 + k ≡ k = omega arith in a) in
       let all : each (read_with read) (lying pages (numbers_from k 0) ++ (lying_on k (pages k) ++ lying pages (numbers_from m (suc k)))) ≡ Some rows =
-          ap (each (read_with read)) (ap (λ l. lying pages (numbers_from k 0) ++ l) (sym (lying_first pages k (numbers_from m (suc k)))) ∙ sym (lying_append pages (numbers_from k 0) (k ∷ numbers_from m (suc k))) ∙ ap (lying pages) (sym n)) ∙ e in
+      ap (each (read_with read)) (ap (λ l. lying pages (numbers_from k 0) ++ l) (sym (lying_first pages k (numbers_from m (suc k)))) ∙ sym (lying_append pages (numbers_from k 0) (k ∷ numbers_from m (suc k))) ∙ ap (lying pages) (sym n)) ∙ e in
       let p = each_parts (read_with read) (lying pages (numbers_from k 0)) (lying_on k (pages k) ++ lying pages (numbers_from m (suc k))) rows all in
       let q = each_parts (read_with read) (lying_on k (pages k)) (lying pages (numbers_from m (suc k))) p.back p.back_read in
       record {
-        before = p.front; on = q.front; after = q.back;
+        before = p.front;
+        on = q.front;
+        after = q.back;
         are = p.are ∙ ap (λ l. p.front ++ l) q.are;
         before_lie = each_lie (place_of 0 0) (place_of k 0) (lying pages (numbers_from k 0)) p.front p.front_read (subst (λ j. LieTo (place_of 0 0) (place_of j 0) (lying pages (numbers_from k 0))) (let a : 0 + k ≡ k = omega arith in a) (pages_lie pages k 0));
         on_read = q.front_read;

@@ -132,7 +132,7 @@ module _ {T : Type 0} where
       before rest h =
           left_out (λ r. is_from at r.0) r rs (not_from at r.0 h) ∙ rest
           ∙ ap₂ (λ o xs. as_list o ++ xs) (sym (passed_over (λ r. is_place r.0 at) r rs (place_not_before r.0 at h)))
-              (sym (left_out (λ r. is_from (next_line at) r.0) r rs (not_from (next_line at) r.0 (from_trans (next_line r.0) at (next_line at) h (from_step at (next_line at) (from_same (next_line at)))))))
+          (sym (left_out (λ r. is_from (next_line at) r.0) r rs (not_from (next_line at) r.0 (from_trans (next_line r.0) at (next_line at) h (from_step at (next_line at) (from_same (next_line at)))))))
 
       same : r.0.page ≡ at.page → r.0.line ≡ at.line → Split (r ∷ rs)
       same e f =
@@ -140,8 +140,8 @@ module _ {T : Type 0} where
           let here : From at r.0 = grind arith in
           passed (λ r. is_from at r.0) r rs (from_holds at r.0 here)
           ∙ ap (λ xs. r ∷ xs) (all_from at (next_line r.0) b rs (from_step at (next_line r.0) next) l.1
-              ∙ sym (all_from (next_line at) (next_line r.0) b rs next l.1)
-              ∙ sym (left_out (λ r. is_from (next_line at) r.0) r rs (not_from (next_line at) r.0 (grind arith))))
+          ∙ sym (all_from (next_line at) (next_line r.0) b rs next l.1)
+          ∙ sym (left_out (λ r. is_from (next_line at) r.0) r rs (not_from (next_line at) r.0 (grind arith))))
           ∙ ap (λ o. as_list o ++ from_place (next_line at) (r ∷ rs)) (sym (found (λ r. is_place r.0 at) r rs (place_is r.0 at e f)))
 
       after : From (next_line at) r.0 → Split (r ∷ rs)

@@ -33,8 +33,8 @@ module _ (ds : List Domain) where
   pub same_test : (r s : Row) → IsTrue (is_row r ds) → IsTrue (is_row s ds) → bytes_eq (bytes r) (bytes s) ≡ eq_by_cmp row_cmp r s
   same_test r s t u =
       both_ways (bytes_eq (bytes r) (bytes s)) (eq_by_cmp row_cmp r s)
-        (λ h. let e = same_bytes r s ds t u ((bytes_eq-Decides (bytes r) (bytes s)).0 h) in ap (eq_by_cmp row_cmp r) (sym e) ∙ (eq_by_cmp_equiv row_total).refl r)
-        (λ h. (bytes_eq-Decides (bytes r) (bytes s)).1 (ap bytes (same_exact r s h)))
+      (λ h. let e = same_bytes r s ds t u ((bytes_eq-Decides (bytes r) (bytes s)).0 h) in ap (eq_by_cmp row_cmp r) (sym e) ∙ (eq_by_cmp_equiv row_total).refl r)
+      (λ h. (bytes_eq-Decides (bytes r) (bytes s)).1 (ap bytes (same_exact r s h)))
 
   -- among rows of the domains
   pub among_rows : (row : Row) (rows : List Row) → IsTrue (is_row row ds) → AreRows rows → is_among (map bytes rows) (bytes row) ≡ has rows row

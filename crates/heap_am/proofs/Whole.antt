@@ -33,9 +33,9 @@ from_here file m rows k l p o lt e is row =
     ∙ ap (λ r. as_list r ++ placed_from rows (place_of k (l + 1))) (placed_line file m rows k l p lt e is ∙ ap (option_map (λ row. (place_of k l, row))) (sym row))
 
 -- a line without a row
-pub line_skipped : (file : RelFile) (m : Image) (rows : Placed) (k l : ℕ) (p : List ℕ) (found : List (ℕ × Row)) (o : Option Row) → o ≡ None → k < file.used → heap_rows file m ≡ Some rows → m (page_at file.file k) ≡ Some p → o ≡ row_with rows (place_of k l)
-    → placed_from rows (place_of k 0) ≡ on_page k found ++ placed_from rows (place_of k l) → placed_from rows (place_of k 0) ≡ on_page k found ++ placed_from rows (place_of k (l + 1))
-line_skipped file m rows k l p found o none lt e is row h = h ∙ ap (λ r. on_page k found ++ r) (from_here file m rows k l p None lt e is (sym none ∙ row))
+pub line_skipped : (file : RelFile) (m : Image) (rows : Placed) (k l : ℕ) (p : List ℕ) (found now : List (ℕ × Row)) (o : Option Row) → o ≡ None → now ≡ found → k < file.used → heap_rows file m ≡ Some rows → m (page_at file.file k) ≡ Some p → o ≡ row_with rows (place_of k l)
+    → placed_from rows (place_of k 0) ≡ on_page k found ++ placed_from rows (place_of k l) → placed_from rows (place_of k 0) ≡ on_page k now ++ placed_from rows (place_of k (l + 1))
+line_skipped file m rows k l p found now o none same lt e is row h = h ∙ ap₂ (λ f r. on_page k f ++ r) (sym same) (from_here file m rows k l p None lt e is (sym none ∙ row))
 
 on_page_append : (k : ℕ) (xs ys : List (ℕ × Row)) → on_page k (xs ++ ys) ≡ on_page k xs ++ on_page k ys
 on_page_append k [] ys = refl
@@ -54,4 +54,4 @@ pub lines_over : (file : RelFile) (m : Image) (rows : Placed) (k l : ℕ) (p : L
     → placed_from rows (place_of k 0) ≡ on_page k found ++ placed_from rows (place_of k l) → placed_from rows (place_of k 0) ≡ on_page k found ++ placed_from rows (place_of (k + 1) 0)
 lines_over file m rows k l p found lt e is le h =
     h ∙ ap (λ r. on_page k found ++ r)
-      (next_page_from file m rows k l p lt e is (let c = slots_count p in omega arith) ∙ ap (λ j. placed_from rows (place_of j 0)) (let a : suc k ≡ k + 1 = omega arith in a))
+    (next_page_from file m rows k l p lt e is (let c = slots_count p in omega arith) ∙ ap (λ j. placed_from rows (place_of j 0)) (let a : suc k ≡ k + 1 = omega arith in a))

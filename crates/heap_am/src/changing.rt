@@ -82,11 +82,7 @@ impl Heap {
     }
 
     /// Puts the rows with these bytes behind the others.
-    fn extend<S: PageStore>(
-        &mut self,
-        store: &mut S,
-        coming: &[List<u8>],
-    ) -> Result<(), BaseFault>
+    fn extend<S: PageStore>(&mut self, store: &mut S, coming: &[List<u8>]) -> Result<(), BaseFault>
         requires short { All (λ row. IsShort row) coming.now }
         requires room { self.old.file.used + length coming.now < 2 ^ 32 }
         ensures told { (m : Image) (rows : Placed) (new : List Values) → S.pages store.old ≡ Some m → heap_rows self.old.file m ≡ Some rows

@@ -9,11 +9,7 @@ use page_cells::row_bytes;
 use std::alloc::Global;
 
 /// The bytes of a row.
-pub(crate) fn encoded(
-    alloc: Global,
-    row: &Row,
-    domains: &[Domain],
-) -> Result<List<u8>, OutOfMemory>
+pub(crate) fn encoded(alloc: Global, row: &Row, domains: &[Domain]) -> Result<List<u8>, OutOfMemory>
     requires fits { IsTrue (is_row row.now domains.now) }
     requires most { widths domains.now ≤ 1012 }
     ensures { IfOk result (λ bytes. bytes ≡ row_bytes row.now domains.now) }

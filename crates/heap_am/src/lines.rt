@@ -44,12 +44,7 @@ impl Heap {
     }
 
     /// The row whose bytes these are. Where they are those of none the page is damaged.
-    fn row_on(
-        &self,
-        alloc: Global,
-        number: u32,
-        bytes: &[u8],
-    ) -> Result<Option<Row>, BaseFault>
+    fn row_on(&self, alloc: Global, number: u32, bytes: &[u8]) -> Result<Option<Row>, BaseFault>
         ensures row { IfOk result (λ row. row ≡ reader self.now.file.domains bytes.now) }
         ensures fault { IfErr result (IsOfRow self.now.file number bytes.now) }
     {

@@ -29,12 +29,7 @@ fn add(found: &mut Vec<(u16, Row)>, line: u16, row: Row) -> Result<(), OutOfMemo
 
 impl Heap {
     /// The rows on a page, each with its line.
-    fn lines(
-        &self,
-        alloc: Global,
-        page: &Page,
-        number: u32,
-    ) -> Result<List<(u16, Row)>, BaseFault>
+    fn lines(&self, alloc: Global, page: &Page, number: u32) -> Result<List<(u16, Row)>, BaseFault>
         requires page { IsPage page.now }
         requires below { number < self.now.file.used }
         ensures told { (m : Image) (rows : Placed) → heap_rows self.now.file m ≡ Some rows → m (page_at self.now.file.file number) ≡ Some page.now
@@ -43,8 +38,9 @@ impl Heap {
     {
         let mut found = Vec::new(alloc);
         'lines: for line in 0..line_count(page) {
-            if let Some(row) = self.line(alloc, page, number, line)? {
-                add(&mut found, line, row)?;
+            match self.line(alloc, page, number, line)? {
+                Some(row) => add(&mut found, line, row)?,
+                None => {}
             }
         }
         Ok(List::of(found))

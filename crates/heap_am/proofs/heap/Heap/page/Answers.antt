@@ -8,9 +8,9 @@ use Rattle.heap_am.proofs.heap.Heap.page.Goals as goal
 pub returns-in_err-next-clause-cause : goal.returns-in_err-next-clause-cause
 returns-in_err-next-clause-cause g c =
     cause_by (HeapFault c.args.self.now.file) c.from_residual.result c.in_err-next.field-0.0
-      (λ m a off. off_page c.args.self.now.file m a c.args.number c.requires.below off) c.in_err-next.ensures.cause (handed_on c.from_residual.result c.in_err-next.field-0.0 c.from_residual.ensures.1)
+    (λ m a off. off_page c.args.self.now.file m a c.args.number c.requires.below off) c.in_err-next.ensures.cause (handed_on c.from_residual.result c.in_err-next.field-0.0 c.from_residual.ensures.1)
 
 pub returns-then-next-behind-clause-cause : goal.returns-then-next-behind-clause-cause
 returns-then-next-behind-clause-cause g c =
     cause_damaged (g.S.PageStore.pages c.args.store.now) c.args.self.now.file c.args.number (g.S.PageStore.faults c.args.store.now) (g.S.PageStore.faults c.chain_page.new.store) c.damaged.result c.damaged.ensures c.in_ok-next.ensures.cause.later
-      (λ m e. bad_next c.args.self.now.file m c.args.number c.in_ok-next.next c.chain_page.new.out c.requires.below (c.in_ok-next.ensures.there m e) c.in_ok-next.ensures.follows (λ same. c.if-next-behind.true (same ∙ sym c.behind.ensures)))
+    (λ m e. bad_next c.args.self.now.file m c.args.number c.in_ok-next.next c.chain_page.new.out c.requires.below (c.in_ok-next.ensures.there m e) c.in_ok-next.ensures.follows (λ same. c.if-next-behind.true (same ∙ sym c.behind.ensures)))

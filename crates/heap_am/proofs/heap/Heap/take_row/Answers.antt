@@ -13,9 +13,9 @@ returns-clause-told g c m rows t e =
     let some = c.args.self.now.pages in
     let b = row_bytes_are c.items-2.result.now c.in_ok-bytes.bytes c.items.result.now c.args.self.now.file.domains c.args.row.now c.items-2.ensures c.items.ensures c.in_ok-bytes.ensures in
     if_ok c.take_one.result (c.take_one.ensures.took m t) (λ place took.
-      one_removed file m rows (file.used - 1) place c.args.row.now (g.S.PageStore.pages c.take_one.new.store) (omega arith) e c.requires.fits
-        (subst (λ r. TookOne file.file file.used (numbers_from (suc (file.used - 1)) 0) r place m (g.S.PageStore.pages c.take_one.new.store)) b
-          (took (numbers_from (file.used - 1) 1) (heap_chain file m rows (file.used - 1) (omega arith) e))))
+    one_removed file m rows (file.used - 1) place c.args.row.now (g.S.PageStore.pages c.take_one.new.store) (omega arith) e c.requires.fits
+    (subst (λ r. TookOne file.file file.used (numbers_from (suc (file.used - 1)) 0) r place m (g.S.PageStore.pages c.take_one.new.store)) b
+    (took (numbers_from (file.used - 1) 1) (heap_chain file m rows (file.used - 1) (omega arith) e))))
 
 pub returns-clause-cause : goal.returns-clause-cause
 returns-clause-cause g c = cause_any (HeapFault c.args.self.now.file) c.take_one.result (λ m a off. no_chain c.args.self.now.file m a off) c.take_one.ensures.cause
