@@ -10,3 +10,4 @@ pub mod Meeting
 pub mod RowTests
 pub mod Changed
 pub mod Whole
+pub mod Standing
