@@ -20,9 +20,11 @@ pub clears : (a b : Told) (file : ℕ) (page : List ℕ) → Came a b (Write (ad
 clears a b file page one fresh = (_, one, record { page = page; order = refl; is_fresh = fresh })
 
 pub prepares : (a b c d e f : Told) (dba : List ℕ) → CameSo a b (Heads dba) → CameSo b c (Clears 5) → CameSo c d (Clears 6) → CameSo d e (Clears 7) → Came e f (Sync ∷ []) → CameSo a f (Prepares dba)
-prepares a b c d e f dba one two three four sync =
-    (_, came_then a b f _ _ one.1 (came_then b c f _ _ two.1 (came_then c d f _ _ three.1 (came_then d e f _ _ four.1 sync))),
-    record { heads = one.0; entries = two.0; columns = three.0; parts = four.0; order = refl; headed = one.2; no_entries = two.2; no_columns = three.2; no_parts = four.2 })
+prepares a b c d e f dba one two three four sync = (
+  _,
+  came_then a b f _ _ one.1 (came_then b c f _ _ two.1 (came_then c d f _ _ three.1 (came_then d e f _ _ four.1 sync))),
+  record { heads = one.0; entries = two.0; columns = three.0; parts = four.0; order = refl; headed = one.2; no_entries = two.2; no_columns = three.2; no_parts = four.2 },
+)
 
 pub bears : (a b c : Told) (page : List ℕ) → Came a b (Write birth_page page ∷ []) → Came b c (Sync ∷ []) → first_byte (Some page) ≡ 1 → CameSo a c Bears
 bears a b c page one two is = (_, came_then a b c _ _ one two, record { page = page; order = refl; is_born = is })

@@ -29,9 +29,12 @@ fn ann(alloc: Global, rt: &impl Abort) -> Name {
 /// A disk with some pages of something else, whose gate is open, and which stops after so many calls.
 fn begun(alloc: Global, rt: &impl Abort, stop: Option<u64>) -> MemDisk {
     let mut disk = MemDisk::new(alloc, Vec::new(alloc), stop.map(|n| n + 4));
-    disk.write(Addr { file: 0, page: 1 }, &[7; 1024]).expect(rt, "write");
-    disk.write(Addr { file: 1, page: 0 }, &[1; 1024]).expect(rt, "write");
-    disk.write(Addr { file: 5, page: 0 }, &[9; 1024]).expect(rt, "write");
+    disk.write(Addr { file: 0, page: 1 }, &[7; 1024])
+        .expect(rt, "write");
+    disk.write(Addr { file: 1, page: 0 }, &[1; 1024])
+        .expect(rt, "write");
+    disk.write(Addr { file: 5, page: 0 }, &[9; 1024])
+        .expect(rt, "write");
     disk.sync().expect(rt, "sync");
     disk
 }
@@ -39,14 +42,19 @@ fn begun(alloc: Global, rt: &impl Abort, stop: Option<u64>) -> MemDisk {
 /// The page at an address.
 fn page_at(rt: &impl Abort, disk: &mut MemDisk, file: u32, page: u32) -> Page {
     let mut bytes = [0; 1024];
-    assert!(rt; disk.read(Addr { file, page }, &mut bytes).expect(rt, "read"));
+    assert!(rt;
+        disk.read(Addr { file, page }, &mut bytes)
+            .expect(rt, "read")
+    );
     bytes
 }
 
 /// Whether a database was born on the disk.
 fn is_born(rt: &impl Abort, disk: &mut MemDisk) -> bool {
     let mut bytes = [0; 1024];
-    disk.read(Addr { file: 0, page: 1 }, &mut bytes).expect(rt, "read") && bytes[0] == 1
+    disk.read(Addr { file: 0, page: 1 }, &mut bytes)
+        .expect(rt, "read")
+        && bytes[0] == 1
 }
 
 /// Whether page 0 of a file has no row and no page behind it.

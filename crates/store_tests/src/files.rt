@@ -90,11 +90,15 @@ fn what_is_built_is_scanned_each_row_once(rt: HostRuntime) {
     let alloc = rt.alloc();
     let mut store = Counting::new(alloc);
     let all = rows(alloc, &rt, 0, 3 * A_PAGE);
-    let heap = Heap::build(alloc, &mut store, file(alloc, &rt), all.as_slice()).expect(&rt, "build");
+    let heap = Heap::build(alloc, &mut store, file(alloc, &rt), all.as_slice()).expect(
+        &rt, "build",
+    );
     drop(all);
     assert!(rt; heap.info().used == 3);
     assert!(rt; store.puts == 3);
-    let every = Probe { equal: List::of(Vec::new(alloc)) };
+    let every = Probe {
+        equal: List::of(Vec::new(alloc)),
+    };
     assert!(rt; scanned(alloc, &rt, &heap, &mut store, &every) == (507, 128271));
     drop(every);
     drop(heap);
@@ -127,7 +131,9 @@ fn a_row_that_is_added_has_its_place_until_it_is_removed(rt: HostRuntime) {
     let alloc = rt.alloc();
     let mut store = Counting::new(alloc);
     let some = rows(alloc, &rt, 0, A_PAGE - 1);
-    let mut heap = Heap::build(alloc, &mut store, file(alloc, &rt), some.as_slice()).expect(&rt, "build");
+    let mut heap = Heap::build(alloc, &mut store, file(alloc, &rt), some.as_slice()).expect(
+        &rt, "build",
+    );
     drop(some);
     let (first, gets, puts) = changed(alloc, &rt, &mut heap, &mut store, 1000);
     assert!(rt; first.page == 0 && first.line == 168 && gets == 1 && puts == 1);
@@ -139,11 +145,21 @@ fn a_row_that_is_added_has_its_place_until_it_is_removed(rt: HostRuntime) {
     assert!(rt; found.is_some_and(|row| number(&row) == 1000));
     let from = heap.remove(alloc, &mut store, &gone).expect(&rt, "remove");
     assert!(rt; from.is_some_and(|at| at.page == 0 && at.line == 168));
-    assert!(rt; heap.row_at(alloc, &mut store, &first).expect(&rt, "row").is_none());
+    assert!(rt;
+        heap.row_at(alloc, &mut store, &first)
+            .expect(&rt, "row")
+            .is_none()
+    );
     let found = heap.row_at(alloc, &mut store, &second).expect(&rt, "row");
     assert!(rt; found.is_some_and(|row| number(&row) == 1001));
-    assert!(rt; heap.remove(alloc, &mut store, &gone).expect(&rt, "remove").is_none());
-    let every = Probe { equal: List::of(Vec::new(alloc)) };
+    assert!(rt;
+        heap.remove(alloc, &mut store, &gone)
+            .expect(&rt, "remove")
+            .is_none()
+    );
+    let every = Probe {
+        equal: List::of(Vec::new(alloc)),
+    };
     assert!(rt; scanned(alloc, &rt, &heap, &mut store, &every) == (169, 14028 + 1001));
     drop(every);
     drop(gone);
@@ -161,7 +177,9 @@ fn replaced(
 ) -> (bool, (u32, u32), (u32, i64)) {
     let mut store = Counting::new(alloc);
     let all = rows(alloc, rt, 0, 3 * A_PAGE);
-    let mut heap = Heap::build(alloc, &mut store, file(alloc, rt), all.as_slice()).expect(rt, "build");
+    let mut heap = Heap::build(alloc, &mut store, file(alloc, rt), all.as_slice()).expect(
+        rt, "build",
+    );
     drop(all);
     let going = rows(alloc, rt, going.0, going.1);
     let coming = rows(alloc, rt, coming.0, coming.1);
@@ -169,9 +187,13 @@ fn replaced(
         rt.panic("so many");
     }
     store.restart();
-    let done = heap.replace(alloc, &mut store, going.as_slice(), coming.as_slice()).expect(rt, "replace");
+    let done = heap
+        .replace(alloc, &mut store, going.as_slice(), coming.as_slice())
+        .expect(rt, "replace");
     let calls = (store.gets, store.puts);
-    let every = Probe { equal: List::of(Vec::new(alloc)) };
+    let every = Probe {
+        equal: List::of(Vec::new(alloc)),
+    };
     let stands = scanned(alloc, rt, &heap, &mut store, &every);
     drop(every);
     drop(going);
@@ -185,7 +207,9 @@ fn replaced(
 fn many_rows_are_replaced_in_one_pass(rt: HostRuntime) {
     let alloc = rt.alloc();
     // Each row goes, and each page is read and put once.
-    assert!(rt; replaced(alloc, &rt, (0, 507), (1000, 1507)) == (true, (3, 3), (507, 128271 + 507000)));
+    assert!(rt;
+        replaced(alloc, &rt, (0, 507), (1000, 1507)) == (true, (3, 3), (507, 128271 + 507000))
+    );
     // The pass ends on the page of the last row that goes.
     assert!(rt; replaced(alloc, &rt, (3, 5), (0, 0)) == (true, (1, 1), (505, 128264)));
     // What comes takes the room of what went.
@@ -233,7 +257,9 @@ fn damaged(alloc: Global, rt: &impl Abort, page: u32, wrong: Wrong) -> Option<(u
     let heap = Heap::build(alloc, &mut store, file(alloc, rt), all.as_slice()).expect(rt, "build");
     drop(all);
     spoil(&mut store, page, wrong);
-    let none = Probe { equal: no_such(alloc, rt) };
+    let none = Probe {
+        equal: no_such(alloc, rt),
+    };
     let mut at = Place { page: 0, line: 0 };
     let found = match heap.scan(alloc, &mut store, &none, &mut at) {
         Err(BaseFault::Damaged { file, page }) => Some((file, page)),
@@ -272,7 +298,9 @@ fn a_method_is_the_structure_that_it_has(rt: HostRuntime) {
     let alloc = rt.alloc();
     let mut store = Counting::new(alloc);
     let some = rows(alloc, &rt, 5, 8);
-    let heap = Heap::build(alloc, &mut store, file(alloc, &rt), some.as_slice()).expect(&rt, "build");
+    let heap = Heap::build(alloc, &mut store, file(alloc, &rt), some.as_slice()).expect(
+        &rt, "build",
+    );
     drop(some);
     drop(heap);
     let method = open_method(file(alloc, &rt));
