@@ -1,16 +1,14 @@
 -- Rows with their places.
-use Rattle.std.specs.Prelude.{◌≡◌, ℕ, ◌+◌, ◌==◌, ◌&&◌, ◌||◌, nat_lt, nat_le, not, Bool, false, List, [], ◌∷◌, ◌++◌, map, filter, find, Option, Some, None, option_map, Result, Ok, Err}
+use Rattle.std.specs.Prelude.{◌≡◌, ℕ, ◌+◌, ◌==◌, ◌&&◌, ◌||◌, nat_lt, nat_le, not, Bool, false, List, ◌∷◌, ◌++◌, map, filter, find, Option, Some, None, option_map, Result, Ok, Err}
 use Rattle.std.specs.List.Sorted.{IsPermutation}
 use Rattle.std.specs.Ordering.{eq_by_cmp}
 use Rattle.calculus.specs.Lists.{differ_by}
 use Rattle.calculus.specs.Rows.{Row, has}
 use Rattle.calculus.specs.Value.{row_cmp}
 use Rattle.calculus.specs.declared.probe.Place.{Place}
-use Rattle.calculus.specs.declared.probe.Probe.{Probe}
 use Rattle.disk_model.specs.Disk.{Image}
 use Rattle.am_traits.specs.declared.fault.BaseFault.{BaseFault}
 use Rattle.access_traits.specs.declared.file.RelFile.{RelFile}
-use Rattle.access_traits.specs.Pages.{SameElsewhere}
 
 -- rows, each with its place
 abbrev pub Placed : Type 0

@@ -1,10 +1,10 @@
 -- Calls behind calls, while a database is made.
-use Rattle.std.proofs.Common.{◌≡◌, ◌≢◌, ℕ, List, [], ◌∷◌, ◌++◌, Option, Some, refl, ap, take}
+use Rattle.std.proofs.Common.{◌≡◌, ◌≢◌, ℕ, List, [], ◌∷◌, Option, Some, refl, ap, take}
 use Rattle.disk_model.specs.History.{Came, CameSo}
 use Rattle.disk_model.specs.declared.calls.Call.{Call}
 use Rattle.disk_model.specs.declared.calls.Call.TheVariants.{Write, Sync}
 use Rattle.batch_file.specs.Layout.{addr, first_byte}
-use Rattle.batch_file.proofs.Calling.{came_then, came_reads}
+use Rattle.batch_file.proofs.Calling.{came_then}
 use Rattle.db_disk.specs.Created.{IsFresh, birth_page, header_bytes}
 use Rattle.db_disk.specs.Making.{Bears, BothCame, Clears, Creates, Heads, Prepares}
 

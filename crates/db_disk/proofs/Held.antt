@@ -1,5 +1,5 @@
 -- A new database on a disk is one that the disk holds.
-use Rattle.std.proofs.Common.{◌≡◌, ◌≢◌, ◌⊎◌, inl, inr, ⊎_elim, ℕ, true, List, [], Option, Some, refl, sym, ap, ◌∙◌, subst}
+use Rattle.std.proofs.Common.{◌≡◌, ◌⊎◌, inl, inr, ⊎_elim, ℕ, true, List, [], Option, Some, refl, ap, ◌∙◌}
 use Rattle.std.proofs.lemmas.Bool.{ne_eqb}
 use Rattle.disk_model.specs.declared.disk.Addr.{Addr}
 use Rattle.disk_model.specs.Disk.{Image, IsImage, LeavesOnly}
@@ -14,7 +14,7 @@ use Rattle.stored_database.specs.Standing as standing
 use Rattle.stored_database.specs.Standing.{stored, empty_database, IsEmptyPage}
 use Rattle.stored_database.proofs.Fresh.{fresh_pages_stand}
 use Rattle.stored_database.proofs.WhatStands.{shut_disks_hold}
-use Rattle.db_disk.specs.Created.{IsFresh, IsMaking, IsNewDatabase, IsReady, UnbornOrHolds, UnbornOrNew, birth, header_bytes}
+use Rattle.db_disk.specs.Created.{IsFresh, IsMaking, IsNewDatabase, UnbornOrHolds, header_bytes}
 
 -- a page without lines is empty
 empty_page : (page : Option (List ℕ)) → IsFresh page → IsEmptyPage page

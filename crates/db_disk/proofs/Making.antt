@@ -1,7 +1,7 @@
 -- How a database comes to be on a disk, call by call.
 use Rattle.std.proofs.Common.{◌≡◌, ◌≢◌, ◌⊎◌, inl, inr, ⊎_elim, ℕ, zero, suc, List, Option, Some, arith, refl, sym, ap, ◌∙◌, subst}
 use Rattle.disk_model.specs.declared.disk.Addr.{Addr}
-use Rattle.disk_model.specs.Disk.{Image, IsImage, IsSettled, Changes, Elapses, LeavesOnly, OnlyReads}
+use Rattle.disk_model.specs.Disk.{Image, IsImage, IsSettled, Changes, Elapses, OnlyReads}
 use Rattle.disk_model.proofs.Moments.{started, goes_on, syncs_on, reads_on, image_near}
 use Rattle.batch_file.specs.Layout.{addr, first_byte, gate}
 use Rattle.db_disk.specs.Created.{IsFresh, IsHeader, IsMaking, IsNewDatabase, IsReady, IsUnborn, UnbornOrNew, birth, birth_page}

@@ -1,5 +1,5 @@
 -- What a new database is on a disk, and what a crash leaves while it is made.
-use Rattle.std.specs.Prelude.{◌≡◌, ◌≢◌, ◌⊎◌, ℕ, ◌≤◌, codes, List, [], ◌∷◌, ◌++◌, Option, Some, take}
+use Rattle.std.specs.Prelude.{◌≡◌, ◌≢◌, ◌⊎◌, ℕ, codes, List, [], ◌∷◌, ◌++◌, Option, Some, take}
 use Rattle.disk_model.specs.Disk.{Image, IsImage, LeavesOnly}
 use Rattle.disk_model.specs.declared.disk.Addr.{Addr}
 use Rattle.batch_file.specs.Layout.{addr, first_byte, gate}

@@ -1,5 +1,5 @@
 -- The rows of a heap of which the pages were changed.
-use Rattle.std.proofs.Common.{◌≡◌, refl, sym, ap, ap₂, subst, ◌∙◌, ℕ, suc, ◌+◌, ◌-◌, ◌<◌, ◌≤◌, ◌==◌, ◌||◌, not, Bool, true, false, IsTrue, List, [], ◌∷◌, ◌++◌, map, filter, length, Option, Some, None, option_map, if◌then◌else◌, arith}
+use Rattle.std.proofs.Common.{◌≡◌, refl, sym, ap, ap₂, subst, ◌∙◌, ℕ, suc, ◌+◌, ◌-◌, ◌<◌, ◌≤◌, ◌==◌, ◌||◌, not, Bool, true, false, IsTrue, List, [], ◌∷◌, ◌++◌, map, filter, length, Option, Some, None, option_map, arith}
 use Rattle.std.specs.List.{All, list_all}
 use Rattle.std.specs.Ordering.{eq_by_cmp}
 use Rattle.std.specs.List.Sorted.{IsPermutation}
@@ -18,8 +18,8 @@ use Rattle.page_cells.specs.RowBytes.{is_row, row_bytes, widths}
 use Rattle.page_chain.specs.Chains.{IsChain, numbers_from, starts}
 use Rattle.page_chain.specs.Grown.{IsGrown, IsOneMore, IsBuilt, numbers_to}
 use Rattle.page_chain.specs.Lists.{each}
-use Rattle.page_chain.specs.Lying.{Lying, Came, lying, bytes_of, is_among, staying, all_differ, IsShort}
-use Rattle.page_chain.specs.Pages.{Pages, pages_of}
+use Rattle.page_chain.specs.Lying.{Lying, Came, lying, is_among, staying, all_differ, IsShort}
+use Rattle.page_chain.specs.Pages.{pages_of}
 use Rattle.page_chain.specs.Renewed.{AllLie, IsRenewed, TookOne, WentFrom}
 use Rattle.page_chain.specs.Rows.{read_with, reader}
 use Rattle.heap_am.specs.Heap.{heap_rows}
@@ -28,7 +28,7 @@ use Rattle.heap_am.proofs.Each.{each_first, each_cons, each_append, each_filtere
 use Rattle.heap_am.proofs.Heaps.{heap_parts, heap_is}
 use Rattle.heap_am.proofs.Lying.{read_keeps}
 use Rattle.heap_am.proofs.RowLaws.{reader_row, reader_spelled, row_is_short}
-use Rattle.heap_am.proofs.RowTests.{bytes, AreRows, among_rows, differ_rows, all_among, Lain, lain, ReadAs, read_as}
+use Rattle.heap_am.proofs.RowTests.{bytes, AreRows, among_rows, differ_rows, all_among, lain, ReadAs, read_as}
 
 none_placed : Place × Row
 none_placed = (record { page = 0; line = 0 }, [])

@@ -1,5 +1,5 @@
 -- When a page of a heap is at fault.
-use Rattle.std.proofs.Common.{◌≡◌, refl, sym, ap, ap₂, subst, ◌∙◌, ℕ, zero, suc, ◌+◌, ◌-◌, ◌<◌, ◌≤◌, ◌==◌, ◌&&◌, nat_lt, not, Bool, true, false, List, [], ◌∷◌, ◌++◌, find, length, get_or, Option, Some, None, is_some, option_map, Result, Ok, Err, IfOk, IfErr, IfSome, if◌then◌else◌, arith, IsTrue}
+use Rattle.std.proofs.Common.{◌≡◌, refl, sym, ap, subst, ◌∙◌, ℕ, zero, suc, ◌+◌, ◌-◌, ◌<◌, ◌≤◌, ◌==◌, ◌&&◌, nat_lt, not, Bool, true, false, List, [], ◌∷◌, find, length, get_or, Option, Some, None, is_some, option_map, Result, Ok, Err, IfErr, IfSome, if◌then◌else◌, arith, IsTrue}
 use Rattle.std.proofs.lemmas.Bool.Decides.{nat_tests}
 use Rattle.fault_io.specs.Causes.{Rose}
 use Rattle.calculus.specs.declared.probe.Place.{Place}
@@ -9,23 +9,22 @@ use Rattle.disk_model.specs.Disk.{Image}
 use Rattle.disk_model.specs.declared.disk.Addr.{Addr}
 use Rattle.am_traits.specs.declared.fault.BaseFault.{BaseFault}
 use Rattle.am_traits.specs.declared.fault.BaseFault.TheVariants.{Disk, Damaged, OutOfMemory}
-use Rattle.access_traits.specs.Causes.{MayFail, IsAtFault, HasFileCause, IsFileCaused}
+use Rattle.access_traits.specs.Causes.{MayFail, HasFileCause}
 use Rattle.access_traits.specs.Placed.{Placed, row_with, is_place}
 use Rattle.access_traits.specs.declared.file.RelFile.{RelFile}
 use Rattle.page_cells.specs.Page.{Slot, slots}
 use Rattle.page_cells.specs.RowBytes.{is_row, row_bytes}
-use Rattle.page_chain.specs.Chains.{OffPage, NoChain, NoChainTo, is_on, whole_chain, chain, starts, IsChain, numbers_from}
+use Rattle.page_chain.specs.Chains.{OffPage, NoChain, NoChainTo, is_on, whole_chain, numbers_from}
 use Rattle.page_chain.specs.Lists.{each, ◌>>=◌, when}
-use Rattle.page_chain.specs.Lying.{Lying, place_of, lying_on, lying}
+use Rattle.page_chain.specs.Lying.{place_of, lying_on, lying}
 use Rattle.page_chain.specs.Pages.{page_at, pages_of, next_of}
 use Rattle.page_chain.specs.Rows.{read_with, reader, placed_on}
 use Rattle.heap_am.specs.Heap.{heap_rows, stands, goes_on, has_rows, is_number, behind, HeapFault, IsOfPage, IsOfRow}
-use Rattle.heap_am.proofs.Counting.{chain_of_goes, last_number, goes_where}
+use Rattle.heap_am.proofs.Counting.{goes_where}
 use Rattle.heap_am.proofs.Changed.{heap_chain_to, starts_at_0}
 use Rattle.heap_am.proofs.Each.{First, each_first}
-use Rattle.heap_am.proofs.Heaps.{heap_parts, page_stands, at_line, slot_row}
-use Rattle.heap_am.proofs.Lying.{page_has, slot_with, read_keeps}
-use Rattle.heap_am.proofs.Places.{at_place}
+use Rattle.heap_am.proofs.Heaps.{page_stands, at_line, slot_row}
+use Rattle.heap_am.proofs.Lying.{page_has, slot_with}
 use Rattle.heap_am.proofs.RowLaws.{reader_row, reader_spelled}
 
 -- ---- rows read

@@ -1,6 +1,5 @@
 -- What the rows of a heap are, page by page and line by line.
-use Rattle.std.proofs.Common.{◌≡◌, refl, sym, ap, ap₂, subst, ◌∙◌, ℕ, zero, suc, ◌+◌, ◌-◌, ◌<◌, ◌≤◌, ◌==◌, ◌&&◌, nat_lt, Bool, true, false, List, [], ◌∷◌, ◌++◌, map, filter, find, length, get_or, Option, Some, None, is_some, option_map, if◌then◌else◌, arith}
-use Rattle.std.proofs.lemmas.Grind.{flat_map-append}
+use Rattle.std.proofs.Common.{◌≡◌, refl, sym, ap, ap₂, subst, ◌∙◌, ℕ, suc, ◌+◌, ◌<◌, ◌≤◌, ◌&&◌, nat_lt, true, List, [], ◌++◌, length, get_or, Option, Some, None, is_some, option_map, arith}
 use Rattle.std.proofs.lemmas.List.Elements.{filter-append}
 use Rattle.std.proofs.lemmas.List.Folds.{find-append}
 use Rattle.std.proofs.lemmas.Bool.Decides.{nat_tests}
@@ -13,12 +12,11 @@ use Rattle.access_traits.specs.declared.file.RelFile.{RelFile}
 use Rattle.page_cells.specs.Page.{Slot, slots}
 use Rattle.page_chain.specs.Chains.{whole_chain, numbers_from}
 use Rattle.page_chain.specs.Lists.{each, ◌>>=◌}
-use Rattle.page_chain.specs.Lying.{Lying, place_of, lying_in, lying_on, lying}
+use Rattle.page_chain.specs.Lying.{place_of, lying_on, lying}
 use Rattle.page_chain.specs.Pages.{Pages, pages_of, page_at}
 use Rattle.page_chain.specs.Rows.{placed_on, read_with, reader}
-use Rattle.heap_am.specs.Heap.{heap_rows, stands, goes_on, has_rows}
-use Rattle.heap_am.proofs.Counting.{EachGoes, Counted, counted, whole_of}
-use Rattle.heap_am.proofs.Each.{each_append}
+use Rattle.heap_am.specs.Heap.{heap_rows, stands, has_rows}
+use Rattle.heap_am.proofs.Counting.{EachGoes, counted, whole_of}
 use Rattle.heap_am.proofs.Lying.{Cut, cut_at, each_lie, each_place, pages_lie, lines_lie, page_has, slot_with}
 use Rattle.heap_am.proofs.Places.{From, LieTo, from_place, at_place, as_list, one_line, all_from, none_from, none_before, none_behind, next_line}
 

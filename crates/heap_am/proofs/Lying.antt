@@ -1,10 +1,9 @@
 -- The rows on the pages of a heap lie in the order of their places, and each line of a page has its row.
-use Rattle.std.proofs.Common.{◌≡◌, ◌⊎◌, inl, inr, refl, sym, ap, ap₂, subst, ◌∙◌, ℕ, zero, suc, ◌+◌, ◌-◌, ◌<◌, ◌≤◌, ◌==◌, Bool, true, false, List, [], ◌∷◌, ◌++◌, find, length, get_or, Option, Some, None, option_map, if◌then◌else◌, arith}
+use Rattle.std.proofs.Common.{◌≡◌, refl, sym, ap, subst, ◌∙◌, ℕ, zero, suc, ◌+◌, ◌-◌, ◌<◌, Bool, true, false, List, [], ◌∷◌, ◌++◌, length, get_or, Option, Some, None, option_map, if◌then◌else◌, arith}
 use Rattle.std.proofs.lemmas.Grind.{flat_map-append}
-use Rattle.std.proofs.lemmas.Bool.Decides.{nat_tests}
 use Rattle.calculus.specs.declared.probe.Place.{Place}
 use Rattle.calculus.specs.Rows.{Row}
-use Rattle.access_traits.specs.Placed.{Placed, is_place, is_from}
+use Rattle.access_traits.specs.Placed.{Placed, is_place}
 use Rattle.page_cells.specs.Page.{Slot, slots}
 use Rattle.page_chain.specs.Chains.{numbers_from}
 use Rattle.page_chain.specs.Lists.{each, ◌>>=◌}
@@ -12,7 +11,7 @@ use Rattle.page_chain.specs.Lying.{Lying, place_of, lying_in, lying_on, lying}
 use Rattle.page_chain.specs.Pages.{Pages}
 use Rattle.page_chain.specs.Rows.{read_with}
 use Rattle.heap_am.proofs.Counting.{numbers_append}
-use Rattle.heap_am.proofs.Each.{First, each_first, Parts, each_parts}
+use Rattle.heap_am.proofs.Each.{First, each_first, each_parts}
 use Rattle.heap_am.proofs.Places.{From, LieTo, lie_sooner, lie_later, lie_append, at_place, none_before, place_is, place_not_before, next_line}
 
 pub lines_lie : (n l : ℕ) (slots : List Slot) → LieTo (place_of n l) (place_of n (l + length slots)) (lying_in n l slots)

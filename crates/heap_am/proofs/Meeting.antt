@@ -1,5 +1,5 @@
 -- A scan of a heap, line by line.
-use Rattle.std.proofs.Common.{◌≡◌, refl, sym, ap, ap₂, subst, ◌∙◌, ℕ, zero, suc, ◌+◌, ◌<◌, ◌≤◌, ◌*◌, Bool, true, false, List, [], ◌∷◌, ◌++◌, map, length, Option, Some, None, option_map, arith, length-append}
+use Rattle.std.proofs.Common.{◌≡◌, refl, sym, ap, ◌∙◌, ℕ, zero, suc, ◌+◌, ◌<◌, ◌≤◌, Bool, true, false, List, [], ◌∷◌, ◌++◌, length, Option, Some, None, option_map, arith, length-append}
 use Rattle.calculus.specs.declared.probe.Place.{Place}
 use Rattle.calculus.specs.declared.probe.Probe.{Probe}
 use Rattle.calculus.specs.Rows.{Row}
@@ -7,7 +7,7 @@ use Rattle.disk_model.specs.Disk.{Image}
 use Rattle.am_traits.specs.Scans.{meets, next_meeting}
 use Rattle.access_traits.specs.Placed.{Placed, rows_of, row_with, rows_from}
 use Rattle.access_traits.specs.declared.file.RelFile.{RelFile}
-use Rattle.page_cells.specs.Page.{Slot, slots, slots_before, lines, row_at}
+use Rattle.page_cells.specs.Page.{slots, slots_before, lines, row_at}
 use Rattle.page_chain.specs.Lying.{place_of}
 use Rattle.page_chain.specs.Pages.{page_at}
 use Rattle.heap_am.specs.Heap.{heap_rows}

@@ -1,5 +1,5 @@
 -- The rows of a heap, the pages of which are read by counting; and when a page isn't as it must be.
-use Rattle.std.specs.Prelude.{◌≡◌, ℕ, suc, ◌-◌, ◌==◌, ◌&&◌, nat_lt, Bool, true, false, List, Option, Some, None, is_some, if◌then◌else◌}
+use Rattle.std.specs.Prelude.{◌≡◌, ℕ, suc, ◌-◌, ◌==◌, ◌&&◌, nat_lt, Bool, false, List, Option, Some, None, is_some, if◌then◌else◌}
 use Rattle.calculus.specs.declared.probe.Place.{Place}
 use Rattle.calculus.specs.Rows.{Row}
 use Rattle.am_traits.specs.declared.fault.BaseFault.{BaseFault}

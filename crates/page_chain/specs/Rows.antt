@@ -1,5 +1,5 @@
 -- The rows of a relation on the pages of its file.
-use Rattle.std.specs.Prelude.{ℕ, nat_lt, Bool, true, false, List, Option, Some, None, option_map}
+use Rattle.std.specs.Prelude.{ℕ, nat_lt, Bool, true, false, List, Option, None, option_map}
 use Rattle.std.specs.List.{list_all}
 use Rattle.calculus.specs.declared.probe.Place.{Place}
 use Rattle.calculus.specs.declared.value.Domain.{Domain}
@@ -9,7 +9,7 @@ use Rattle.access_traits.specs.Placed.{Placed, rows_of}
 use Rattle.page_cells.specs.RowBytes.{row_in}
 use Rattle.page_chain.specs.Chains.{whole_chain}
 use Rattle.page_chain.specs.Lists.{◌>>=◌, each, once}
-use Rattle.page_chain.specs.Lying.{Lying, lying}
+use Rattle.page_chain.specs.Lying.{lying}
 use Rattle.page_chain.specs.Pages.{Pages}
 
 -- a row that lies on a page, as it is read

@@ -19,6 +19,7 @@ impl Drop for Entry {
 /// Pages in memory, of which nothing is told, and how often they were asked for and put.
 pub struct Counting {
     entries: Vec<Entry>,
+    last: Option<Addr>,
     pub gets: u32,
     pub puts: u32,
 }
@@ -27,6 +28,7 @@ impl Drop for Counting {
     fn drop(self) {
         let Self {
             entries: _,
+            last: _,
             gets: _,
             puts: _,
         } = self;
@@ -37,6 +39,7 @@ impl Counting {
     pub fn new(alloc: Global) -> Counting {
         Counting {
             entries: Vec::new(alloc),
+            last: None,
             gets: 0,
             puts: 0,
         }
@@ -61,7 +64,7 @@ impl PageStore for Counting {
 
     ghost reads = { λ _. 0 };
 
-    ghost last = { λ _. None };
+    ghost last = { λ s. s.last };
 
     ghost came = { λ _ _. Unit {0} };
 
@@ -73,23 +76,19 @@ impl PageStore for Counting {
 
     fn get(&mut self, a: Addr, out: &mut Page) -> Result<bool, StoreFault> {
         self.gets = self.gets.saturating_add(1);
-        for entry in self.entries.iter() {
-            if entry.at == a {
+        self.last = Some(a);
+        match self.entries.iter().find(|entry| entry.at == a) {
+            Some(entry) => {
                 *out = entry.page;
-                return Ok(true);
+                Ok(true)
             }
+            None => Ok(false),
         }
-        Ok(false)
     }
 
     fn put(&mut self, a: Addr, page: &Page) -> Result<(), StoreFault> {
         self.puts = self.puts.saturating_add(1);
-        for entry in self.entries.iter_mut() {
-            if entry.at == a {
-                entry.page = *page;
-                return Ok(());
-            }
-        }
+        self.lose(a);
         match self.entries.push(Entry { at: a, page: *page }) {
             Ok(()) => Ok(()),
             Err(_) => Err(StoreFault::OutOfMemory),

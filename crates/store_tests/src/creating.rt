@@ -28,7 +28,7 @@ fn ann(alloc: Global, rt: &impl Abort) -> Name {
 
 /// A disk with some pages of something else, whose gate is open, and which stops after so many calls.
 fn begun(alloc: Global, rt: &impl Abort, stop: Option<u64>) -> MemDisk {
-    let mut disk = MemDisk::new(alloc, Vec::new(alloc), stop.map(|n| n + 4));
+    let mut disk = MemDisk::new(alloc, Vec::new(alloc), stop.map(|n| n.saturating_add(4)));
     disk.write(Addr { file: 0, page: 1 }, &[7; 1024])
         .expect(rt, "write");
     disk.write(Addr { file: 1, page: 0 }, &[1; 1024])

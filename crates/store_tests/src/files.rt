@@ -42,6 +42,7 @@ fn rows(alloc: Global, rt: &impl Abort, from: i16, to: i16) -> Vec<Row>
 fn file(alloc: Global, rt: &impl Abort) -> RelFile
     ensures number { result.file ≡ 16 }
     ensures domains { result.domains ≡ TwoBytes ∷ [] }
+    ensures used { result.used ≡ 1 }
 {
     let mut domains = Vec::new(alloc);
     domains.push(Domain::I2).expect(rt, "memory");
@@ -54,6 +55,19 @@ fn file(alloc: Global, rt: &impl Abort) -> RelFile
         directory: 0,
         used: 1,
     }
+}
+
+/// A heap of the rows from a number up to another.
+fn built(alloc: Global, rt: &impl Abort, store: &mut Counting, from: i16, to: i16) -> Heap
+    ensures file { result.file.domains ≡ TwoBytes ∷ [] }
+{
+    let rows = rows(alloc, rt, from, to);
+    if rows.len() > 1000 {
+        rt.panic("so many rows");
+    }
+    let heap = Heap::build(alloc, store, file(alloc, rt), rows.as_slice()).expect(rt, "build");
+    drop(rows);
+    heap
 }
 
 /// The number in a row.
@@ -75,11 +89,13 @@ fn scanned(
     let mut at = Place { page: 0, line: 0 };
     let mut count: u32 = 0;
     let mut sum: i64 = 0;
-    while let Some(row) = heap.scan(alloc, store, probe, &mut at).expect(rt, "scan") {
-        count = count.saturating_add(1);
-        sum = sum.wrapping_add(number(&row));
-        if count > 2000 {
-            return (count, sum);
+    for _ in 0..2000 {
+        match heap.scan(alloc, store, probe, &mut at).expect(rt, "scan") {
+            Some(row) => {
+                count = count.saturating_add(1);
+                sum = sum.wrapping_add(number(&row));
+            }
+            None => return (count, sum),
         }
     }
     (count, sum)
@@ -89,11 +105,7 @@ fn scanned(
 fn what_is_built_is_scanned_each_row_once(rt: HostRuntime) {
     let alloc = rt.alloc();
     let mut store = Counting::new(alloc);
-    let all = rows(alloc, &rt, 0, 3 * A_PAGE);
-    let heap = Heap::build(alloc, &mut store, file(alloc, &rt), all.as_slice()).expect(
-        &rt, "build",
-    );
-    drop(all);
+    let heap = built(alloc, &rt, &mut store, 0, 3 * A_PAGE);
     assert!(rt; heap.info().used == 3);
     assert!(rt; store.puts == 3);
     let every = Probe {
@@ -130,11 +142,7 @@ fn changed(
 fn a_row_that_is_added_has_its_place_until_it_is_removed(rt: HostRuntime) {
     let alloc = rt.alloc();
     let mut store = Counting::new(alloc);
-    let some = rows(alloc, &rt, 0, A_PAGE - 1);
-    let mut heap = Heap::build(alloc, &mut store, file(alloc, &rt), some.as_slice()).expect(
-        &rt, "build",
-    );
-    drop(some);
+    let mut heap = built(alloc, &rt, &mut store, 0, A_PAGE - 1);
     let (first, gets, puts) = changed(alloc, &rt, &mut heap, &mut store, 1000);
     assert!(rt; first.page == 0 && first.line == 168 && gets == 1 && puts == 1);
     let (second, gets, puts) = changed(alloc, &rt, &mut heap, &mut store, 1001);
@@ -176,11 +184,7 @@ fn replaced(
     coming: (i16, i16),
 ) -> (bool, (u32, u32), (u32, i64)) {
     let mut store = Counting::new(alloc);
-    let all = rows(alloc, rt, 0, 3 * A_PAGE);
-    let mut heap = Heap::build(alloc, &mut store, file(alloc, rt), all.as_slice()).expect(
-        rt, "build",
-    );
-    drop(all);
+    let mut heap = built(alloc, rt, &mut store, 0, 3 * A_PAGE);
     let going = rows(alloc, rt, going.0, going.1);
     let coming = rows(alloc, rt, coming.0, coming.1);
     if heap.info().used > 1000 || coming.len() > 1000 {
@@ -253,9 +257,7 @@ fn spoil(store: &mut Counting, page: u32, wrong: Wrong) {
 /// The page that a scan of three pages finds damaged, where one of them is spoilt.
 fn damaged(alloc: Global, rt: &impl Abort, page: u32, wrong: Wrong) -> Option<(u32, u32)> {
     let mut store = Counting::new(alloc);
-    let all = rows(alloc, rt, 0, 3 * A_PAGE);
-    let heap = Heap::build(alloc, &mut store, file(alloc, rt), all.as_slice()).expect(rt, "build");
-    drop(all);
+    let heap = built(alloc, rt, &mut store, 0, 3 * A_PAGE);
     spoil(&mut store, page, wrong);
     let none = Probe {
         equal: no_such(alloc, rt),
@@ -297,11 +299,7 @@ fn a_page_that_is_not_of_its_form_is_named(rt: HostRuntime) {
 fn a_method_is_the_structure_that_it_has(rt: HostRuntime) {
     let alloc = rt.alloc();
     let mut store = Counting::new(alloc);
-    let some = rows(alloc, &rt, 5, 8);
-    let heap = Heap::build(alloc, &mut store, file(alloc, &rt), some.as_slice()).expect(
-        &rt, "build",
-    );
-    drop(some);
+    let heap = built(alloc, &rt, &mut store, 5, 8);
     drop(heap);
     let method = open_method(file(alloc, &rt));
     let at = Place { page: 0, line: 1 };

@@ -1,6 +1,5 @@
-use Rattle.std.proofs.Common.{◌≡◌, sym, ap, refl, subst, ◌∙◌, ℕ, ◌+◌, ◌-◌, ◌<◌, ◌≤◌, List, [], map, Some, None, arith}
-use Rattle.heap_am.specs.Heap.{HeapFault, heap_rows}
-use Rattle.heap_am.proofs.Outcomes.{handed_on, if_ok}
+use Rattle.std.proofs.Common.{sym, refl, subst}
+use Rattle.heap_am.specs.Heap.{heap_rows}
 use Rattle.access_traits.specs.Placed.{NowHolds, Replaced}
 use Rattle.heap_am.proofs.Changed.{are_short, bytes_are, none_of_them}
 use Rattle.heap_am.proofs.heap.Heap.change.Goals as goal

@@ -1,6 +1,6 @@
-use Rattle.std.proofs.Common.{◌≡◌, sym, ap, refl, subst, ◌∙◌, ℕ, ◌+◌, ◌-◌, ◌<◌, ◌≤◌, List, [], map, Some, None, arith}
-use Rattle.heap_am.specs.Heap.{HeapFault, heap_rows}
-use Rattle.heap_am.proofs.Outcomes.{handed_on, if_ok}
+use Rattle.std.proofs.Common.{refl, ◌-◌, arith}
+use Rattle.heap_am.specs.Heap.{HeapFault}
+use Rattle.heap_am.proofs.Outcomes.{handed_on}
 use Rattle.page_chain.specs.Chains.{numbers_from}
 use Rattle.heap_am.proofs.Faults.{cause_by, off_last}
 use Rattle.heap_am.proofs.Changed.{rows_extended, heap_chain_to}

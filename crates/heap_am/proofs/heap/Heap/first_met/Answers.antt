@@ -1,4 +1,4 @@
-use Rattle.std.proofs.Common.{◌≡◌, subst, ◌∙◌, ◌+◌, ◌<◌, ◌≤◌, Some, None, IfSome, arith}
+use Rattle.std.proofs.Common.{◌≡◌, subst, ◌∙◌, ◌+◌, Some, IfSome, arith}
 use Rattle.access_traits.specs.Placed.{row_with}
 use Rattle.page_chain.specs.Lying.{place_of}
 use Rattle.heap_am.specs.Met.{MetBefore}

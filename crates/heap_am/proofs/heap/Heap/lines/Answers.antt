@@ -1,4 +1,4 @@
-use Rattle.std.proofs.Common.{◌≡◌, sym, subst, ◌∙◌, ◌+◌, ◌<◌, ◌≤◌, [], ◌∷◌, ◌++◌, Some, None, arith}
+use Rattle.std.proofs.Common.{◌≡◌, sym, subst, ◌+◌, [], ◌∷◌, ◌++◌, arith}
 use Rattle.page_chain.specs.Lying.{place_of}
 use Rattle.heap_am.specs.Met.{placed_from, on_page}
 use Rattle.heap_am.proofs.Whole.{line_skipped, line_found, lines_over}

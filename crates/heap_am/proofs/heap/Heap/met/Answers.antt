@@ -1,6 +1,4 @@
-use Rattle.std.proofs.Common.{◌≡◌, sym, ap, ◌∙◌, ◌<◌, Some, None, arith}
-use Rattle.access_traits.specs.Placed.{row_with}
-use Rattle.page_chain.specs.Lying.{place_of}
+use Rattle.std.proofs.Common.{sym, ◌∙◌, arith}
 use Rattle.heap_am.proofs.Meeting.{line_met, line_unmet, line_empty}
 use Rattle.heap_am.proofs.heap.Heap.met.Goals as goal
 

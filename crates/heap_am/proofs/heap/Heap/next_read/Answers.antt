@@ -1,4 +1,3 @@
-use Rattle.std.proofs.Common.{◌≡◌, sym, ap, ◌∙◌, ◌<◌, ◌≤◌, Some, None, arith}
 use Rattle.heap_am.proofs.Faults.{cause_of_page}
 use Rattle.heap_am.proofs.heap.Heap.next_read.Goals as goal
 

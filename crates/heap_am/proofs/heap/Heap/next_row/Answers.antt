@@ -1,4 +1,4 @@
-use Rattle.std.proofs.Common.{◌≡◌, sym, ap, ◌∙◌, ◌<◌, ◌≤◌, Some, None, arith}
+use Rattle.std.proofs.Common.{◌∙◌}
 use Rattle.heap_am.specs.Heap.{HeapFault}
 use Rattle.heap_am.proofs.Faults.{cause_later}
 use Rattle.heap_am.proofs.Meeting.{heap_over}

@@ -1,5 +1,4 @@
-use Rattle.std.proofs.Common.{◌≡◌, sym, ◌∙◌, arith}
-use Rattle.page_chain.specs.Pages.{page_at}
+use Rattle.std.proofs.Common.{sym, ◌∙◌}
 use Rattle.heap_am.specs.Heap.{HeapFault}
 use Rattle.heap_am.proofs.Faults.{cause_by, cause_damaged, off_page, bad_next}
 use Rattle.heap_am.proofs.Outcomes.{handed_on}

@@ -1,6 +1,6 @@
-use Rattle.std.proofs.Common.{◌≡◌, sym, ap, refl, subst, ◌∙◌, ℕ, ◌+◌, ◌-◌, ◌<◌, ◌≤◌, List, [], map, Some, None, arith, ◌∷◌, ◌++◌, length, eq-eqb}
-use Rattle.heap_am.specs.Heap.{HeapFault, heap_rows}
-use Rattle.heap_am.proofs.Outcomes.{handed_on, if_ok}
+use Rattle.std.proofs.Common.{sym, refl, subst, ◌-◌, [], arith, ◌∷◌, ◌++◌, length, eq-eqb}
+use Rattle.heap_am.specs.Heap.{HeapFault}
+use Rattle.heap_am.proofs.Outcomes.{handed_on}
 use Rattle.page_chain.specs.Chains.{numbers_from}
 use Rattle.page_chain.specs.Pages.{pages_of}
 use Rattle.page_chain.specs.Renewed.{AllLie}

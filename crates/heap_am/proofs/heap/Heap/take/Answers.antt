@@ -1,4 +1,4 @@
-use Rattle.std.proofs.Common.{◌≡◌, sym, ap, refl, subst, ◌∙◌, ℕ, ◌+◌, ◌-◌, ◌<◌, ◌≤◌, List, [], ◌∷◌, map, Some, None, arith}
+use Rattle.std.proofs.Common.{sym, ap, refl, ◌∙◌, ◌-◌, arith}
 use Rattle.page_cells.specs.RowBytes.{is_row}
 use Rattle.heap_am.proofs.Changed.{no_such_row}
 use Rattle.heap_am.proofs.heap.Heap.take.Goals as goal

@@ -1,6 +1,6 @@
-use Rattle.std.proofs.Common.{◌≡◌, sym, ap, refl, subst, ◌∙◌, ℕ, suc, ◌+◌, ◌-◌, ◌<◌, ◌≤◌, List, [], ◌∷◌, map, Some, None, arith}
-use Rattle.heap_am.specs.Heap.{HeapFault, heap_rows}
-use Rattle.heap_am.proofs.Outcomes.{handed_on, if_ok}
+use Rattle.std.proofs.Common.{subst, suc, ◌-◌, arith}
+use Rattle.heap_am.specs.Heap.{HeapFault}
+use Rattle.heap_am.proofs.Outcomes.{if_ok}
 use Rattle.page_chain.specs.Chains.{numbers_from}
 use Rattle.page_chain.specs.Renewed.{TookOne}
 use Rattle.heap_am.proofs.Faults.{cause_any, no_chain}
