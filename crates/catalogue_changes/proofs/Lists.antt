@@ -1,0 +1,149 @@
+-- Which items of a list go and which come, where each item of another list gives one.
+use Rattle.std.proofs.Common.{◌≡◌, refl, sym, ap, subst, ◌∙◌, true≢false, inl, inr, Bool, true, false, not, List, [], ◌∷◌, ◌++◌, map, filter}
+use Rattle.std.specs.Prelude.{◌⊎◌}
+use Rattle.std.specs.Ordering.{is_eq}
+use Rattle.std.specs.declared.cmp.Ordering.{Ordering}
+use Rattle.std.specs.declared.cmp.Ordering.TheVariants.{Equal}
+use Rattle.calculus.specs.Lists.{insert_by}
+use Rattle.stored_database.proofs.Members.{IsIn, of_all, in_first, in_second, in_either, in_filter, filter_in, in_map, map_in, apart_same}
+use Rattle.stored_database.proofs.Pairs.{Pairs, pairs_apart, pairs_unmap}
+use Rattle.stored_database.proofs.Sets.{insert_in, in_insert}
+use Rattle.catalogue_changes.proofs.Moved.{Moved}
+
+-- tests that fail
+failed : (b : Bool) → not b ≡ true → b ≡ false
+failed true e = sym e
+failed false e = refl
+
+fails : (b : Bool) → b ≡ false → not b ≡ true
+fails b e = ap not e
+
+-- it doesn't pass
+abbrev besides : {Y : Type 0} → (Y → Bool) → Y → Bool
+besides at y = not (at y)
+
+module _ {X : Type 0} (same : X → X → Bool) (itself : (x : X) → same x x ≡ true) (turned : (x y : X) → same x y ≡ same y x) where
+  abbrev Differ : List X → Type 0
+  Differ = Pairs (λ x y. same x y ≡ false)
+
+  -- items that give the same are one, where what they give differs
+  one : {Y : Type 0} (h : Y → X) (ys : List Y) → Differ (map h ys) → (y z : Y) → IsIn y ys → IsIn z ys → h y ≡ h z → y ≡ z
+  one h ys differ y z at bt e =
+      apart_same (λ y z. same (h y) (h z)) (λ y z e. turned (h z) (h y) ∙ e) ys y z
+      (pairs_apart (λ y z. same (h y) (h z)) ys (pairs_unmap (λ x y. same x y ≡ false) h ys differ)) at bt (ap (same (h y)) (sym e) ∙ itself (h y))
+
+  -- of lists behind each other that differ, no item is in both
+  in_one : (xs ys : List X) → Differ (xs ++ ys) → (x : X) → IsIn x xs → IsIn x ys → ⊥
+  in_one [] ys differ x at bt = at
+  in_one (y ∷ xs) ys differ x (inl e) bt =
+      true≢false (sym (itself x) ∙ ap (λ z. same z x) e ∙ of_all (λ z. same y z ≡ false) (xs ++ ys) x differ.0 (in_second xs ys x bt))
+  in_one (y ∷ xs) ys differ x (inr at) bt = in_one xs ys differ.1 x at bt
+
+  -- ---- two lists
+
+  -- what goes and comes in each of two lists goes and comes in both
+  pub moved_both : {o g c n p h d m : List X} → Differ (o ++ p) → Moved o g c n → Moved p h d m → Moved (o ++ p) (g ++ h) (c ++ d) (n ++ m)
+  moved_both {o} {g} {c} {n} {p} {h} {d} {m} differ first second = record {
+    kept_or_come = λ x at. elim (in_either n m x at) [
+      | inl k ↦ elim (first.kept_or_come x k) [
+        | inl is ↦ inl (in_first o p x is.0, λ gone. elim (in_either g h x gone) [ inl q ↦ is.1 q | inr q ↦ in_one o p differ x is.0 (second.goes x q) ])
+        | inr is ↦ inr (in_first c d x is)
+      ]
+      | inr k ↦ elim (second.kept_or_come x k) [
+        | inl is ↦ inl (in_second o p x is.0, λ gone. elim (in_either g h x gone) [ inl q ↦ in_one o p differ x (first.goes x q) is.0 | inr q ↦ is.1 q ])
+        | inr is ↦ inr (in_second c d x is)
+      ]
+    ];
+    stay_or_go = λ x at. elim (in_either o p x at) [
+      | inl k ↦ elim (first.stay_or_go x k) [ inl is ↦ inl (in_first g h x is) | inr is ↦ inr (in_first n m x is) ]
+      | inr k ↦ elim (second.stay_or_go x k) [ inl is ↦ inl (in_second g h x is) | inr is ↦ inr (in_second n m x is) ]
+    ];
+    comes = λ x at. elim (in_either c d x at) [ inl k ↦ in_first n m x (first.comes x k) | inr k ↦ in_second n m x (second.comes x k) ];
+    goes = λ x at. elim (in_either g h x at) [ inl k ↦ in_first o p x (first.goes x k) | inr k ↦ in_second o p x (second.goes x k) ];
+  }
+
+  -- ---- one list
+
+  module _ {Y : Type 0} (h after : Y → X) (ys : List Y) where
+    -- Items that pass a test go, and others come for them.
+    pub moved_at : (its : Y → Y) (new : Y → X) (at : Y → Bool) → Differ (map h ys)
+        → ((y : Y) → IsIn y ys → at y ≡ false → after (its y) ≡ h y) → ((y : Y) → IsIn y ys → at y ≡ true → after (its y) ≡ new y)
+        → Moved (map h ys) (map h (filter at ys)) (map new (filter at ys)) (map after (map its ys))
+    moved_at its new at differ stays comes = record {
+      kept_or_come = λ x i. (
+        let s = map_in after (map its ys) x i in
+        let t = map_in its ys s.0 s.1 in
+        kept x t.0 t.1 (s.2 ∙ ap after t.2) (at t.0) refl);
+      stay_or_go = λ x i. (let s = map_in h ys x i in was x s.0 s.1 s.2 (at s.0) refl);
+      comes = λ x i. (
+        let s = map_in new (filter at ys) x i in
+        let t = filter_in at ys s.0 s.1 in
+        subst (λ x. IsIn x (map after (map its ys))) (comes s.0 t.0 t.1 ∙ sym s.2) (in_map after (map its ys) (its s.0) (in_map its ys s.0 t.0)));
+      goes = λ x i. (
+        let s = map_in h (filter at ys) x i in
+        subst (λ x. IsIn x (map h ys)) (sym s.2) (in_map h ys s.0 (filter_in at ys s.0 s.1).0));
+    }
+      where
+        kept : (x : X) (y : Y) → IsIn y ys → x ≡ after (its y) → (b : Bool) → at y ≡ b → (IsIn x (map h ys) × (IsIn x (map h (filter at ys)) → ⊥)) ⊎ IsIn x (map new (filter at ys))
+        kept x y i e true is = inr (subst (λ x. IsIn x (map new (filter at ys))) (sym (e ∙ comes y i is)) (in_map new (filter at ys) y (in_filter at ys y i is)))
+        kept x y i e false is = inl (subst (λ x. IsIn x (map h ys)) (sym (e ∙ stays y i is)) (in_map h ys y i), λ k. (
+          let s = map_in h (filter at ys) x k in
+          let t = filter_in at ys s.0 s.1 in
+          true≢false (sym t.1 ∙ ap at (one h ys differ s.0 y t.0 i (sym s.2 ∙ e ∙ stays y i is)) ∙ is)))
+
+        was : (x : X) (y : Y) → IsIn y ys → x ≡ h y → (b : Bool) → at y ≡ b → IsIn x (map h (filter at ys)) ⊎ IsIn x (map after (map its ys))
+        was x y i e true is = inl (subst (λ x. IsIn x (map h (filter at ys))) (sym e) (in_map h (filter at ys) y (in_filter at ys y i is)))
+        was x y i e false is = inr (subst (λ x. IsIn x (map after (map its ys))) (stays y i is ∙ sym e) (in_map after (map its ys) (its y) (in_map its ys y i)))
+
+    -- Items that pass a test go.
+    pub moved_out : (at : Y → Bool) → Differ (map h ys) → ((y : Y) → IsIn y ys → at y ≡ false → after y ≡ h y)
+        → Moved (map h ys) (map h (filter at ys)) [] (map after (filter (λ y. not (at y)) ys))
+    moved_out at differ stays = record {
+      kept_or_come = λ x i. (
+        let s = map_in after (filter (besides at) ys) x i in
+        let t = filter_in (besides at) ys s.0 s.1 in
+        let off = failed (at s.0) t.1 in
+        inl (subst (λ x. IsIn x (map h ys)) (sym (s.2 ∙ stays s.0 t.0 off)) (in_map h ys s.0 t.0), λ k. (
+          let u = map_in h (filter at ys) x k in
+          let v = filter_in at ys u.0 u.1 in
+          true≢false (sym v.1 ∙ ap at (one h ys differ u.0 s.0 v.0 t.0 (sym u.2 ∙ s.2 ∙ stays s.0 t.0 off)) ∙ off))));
+      stay_or_go = λ x i. (let s = map_in h ys x i in was x s.0 s.1 s.2 (at s.0) refl);
+      comes = λ x i. absurd i;
+      goes = λ x i. (
+        let s = map_in h (filter at ys) x i in
+        subst (λ x. IsIn x (map h ys)) (sym s.2) (in_map h ys s.0 (filter_in at ys s.0 s.1).0));
+    }
+      where
+        was : (x : X) (y : Y) → IsIn y ys → x ≡ h y → (b : Bool) → at y ≡ b → IsIn x (map h (filter at ys)) ⊎ IsIn x (map after (filter (besides at) ys))
+        was x y i e true is = inl (subst (λ x. IsIn x (map h (filter at ys))) (sym e) (in_map h (filter at ys) y (in_filter at ys y i is)))
+        was x y i e false is = inr (subst (λ x. IsIn x (map after (filter (besides at) ys))) (stays y i is ∙ sym e) (in_map after (filter (besides at) ys) y (in_filter (besides at) ys y i (fails (at y) is))))
+
+    -- Nothing goes or comes.
+    pub moved_none : ((y : Y) → IsIn y ys → after y ≡ h y) → Moved (map h ys) [] [] (map after ys)
+    moved_none stays = record {
+      kept_or_come = λ x i. (let s = map_in after ys x i in inl (subst (λ x. IsIn x (map h ys)) (sym (s.2 ∙ stays s.0 s.1)) (in_map h ys s.0 s.1), λ k. k));
+      stay_or_go = λ x i. (let s = map_in h ys x i in inr (subst (λ x. IsIn x (map after ys)) (stays s.0 s.1 ∙ sym s.2) (in_map after ys s.0 s.1)));
+      comes = λ x i. absurd i;
+      goes = λ x i. absurd i;
+    }
+
+    -- One item comes.
+    pub moved_in : (cmp : Y → Y → Ordering) (new : Y) → ((y : Y) → IsIn y ys → cmp new y ≡ Equal → ⊥) → ((y : Y) → IsIn y ys → after y ≡ h y)
+        → Moved (map h ys) [] (after new ∷ []) (map after (insert_by cmp new ys))
+    moved_in cmp new fresh stays = record {
+      kept_or_come = λ x i. (let s = map_in after (insert_by cmp new ys) x i in kept x s.0 s.2 (insert_in cmp new ys s.0 s.1));
+      stay_or_go = λ x i. (let s = map_in h ys x i in inr (subst (λ x. IsIn x (map after (insert_by cmp new ys))) (stays s.0 s.1 ∙ sym s.2) (there s.0 (inr s.1))));
+      comes = λ x i. arrived x i;
+      goes = λ x i. absurd i;
+    }
+      where
+        there : (y : Y) → IsIn y (new ∷ ys) → IsIn (after y) (map after (insert_by cmp new ys))
+        there y i = in_map after (insert_by cmp new ys) y (in_insert cmp new ys y (λ y k e. absurd (fresh y k e)) i)
+
+        kept : (x : X) (y : Y) → x ≡ after y → IsIn y (new ∷ ys) → (IsIn x (map h ys) × (IsIn x [] → ⊥)) ⊎ IsIn x (after new ∷ [])
+        kept x y e (inl f) = inr (inl (e ∙ ap after f))
+        kept x y e (inr k) = inl (subst (λ x. IsIn x (map h ys)) (sym (e ∙ stays y k)) (in_map h ys y k), λ k. k)
+
+        arrived : (x : X) → IsIn x (after new ∷ []) → IsIn x (map after (insert_by cmp new ys))
+        arrived x (inl e) = subst (λ x. IsIn x (map after (insert_by cmp new ys))) (sym e) (there new (inl refl))
+        arrived x (inr k) = absurd k
