@@ -6,7 +6,7 @@ use Rattle.std.specs.declared.cmp.Ordering.{Ordering}
 use Rattle.std.specs.declared.cmp.Ordering.TheVariants.{Equal}
 use Rattle.calculus.specs.Lists.{insert_by}
 use Rattle.stored_database.proofs.Members.{IsIn, of_all, in_first, in_second, in_either, in_filter, filter_in, in_map, map_in, apart_same}
-use Rattle.stored_database.proofs.Pairs.{Pairs, pairs_apart, pairs_unmap}
+use Rattle.stored_database.proofs.Pairs.{Pairs, pairs_apart, pairs_unmap, pairs_behind}
 use Rattle.stored_database.proofs.Sets.{insert_in, in_insert}
 use Rattle.catalogue_changes.proofs.Moved.{Moved}
 
@@ -42,8 +42,8 @@ module _ {X : Type 0} (same : X → X → Bool) (itself : (x : X) → same x x �
   -- ---- two lists
 
   -- what goes and comes in each of two lists goes and comes in both
-  pub moved_both : {o g c n p h d m : List X} → Differ (o ++ p) → Moved o g c n → Moved p h d m → Moved (o ++ p) (g ++ h) (c ++ d) (n ++ m)
-  moved_both {o} {g} {c} {n} {p} {h} {d} {m} differ first second = record {
+  pub moved_both : {o g c n p h d m : List X} → Moved o g c n → Moved p h d m → Differ (o ++ p) → Moved (o ++ p) (g ++ h) (c ++ d) (n ++ m)
+  moved_both {o} {g} {c} {n} {p} {h} {d} {m} first second differ = record {
     kept_or_come = λ x at. elim (in_either n m x at) [
       | inl k ↦ elim (first.kept_or_come x k) [
         | inl is ↦ inl (in_first o p x is.0, λ gone. elim (in_either g h x gone) [ inl q ↦ is.1 q | inr q ↦ in_one o p differ x is.0 (second.goes x q) ])
@@ -61,6 +61,12 @@ module _ {X : Type 0} (same : X → X → Bool) (itself : (x : X) → same x x �
     comes = λ x at. elim (in_either c d x at) [ inl k ↦ in_first n m x (first.comes x k) | inr k ↦ in_second n m x (second.comes x k) ];
     goes = λ x at. elim (in_either g h x at) [ inl k ↦ in_first o p x (first.goes x k) | inr k ↦ in_second o p x (second.goes x k) ];
   }
+
+  -- and in three
+  pub moved_three : {o g c n p h d m q i e l : List X} → Moved o g c n → Moved p h d m → Moved q i e l → Differ (o ++ (p ++ q))
+      → Moved (o ++ (p ++ q)) (g ++ (h ++ i)) (c ++ (d ++ e)) (n ++ (m ++ l))
+  moved_three {o} {g} {c} {n} {p} {h} {d} {m} {q} first second third differ =
+      moved_both first (moved_both second third (pairs_behind (λ x y. same x y ≡ false) o (p ++ q) differ)) differ
 
   -- ---- one list
 

@@ -15,13 +15,13 @@ use Rattle.stored_database.specs.Catalogue.{Catalogue}
 use Rattle.stored_database.specs.Columns.{Column, column_cmp}
 use Rattle.stored_database.specs.Entries.{Entry, entry_cmp}
 use Rattle.stored_database.specs.Parts.{part_cmp}
-use Rattle.stored_database.specs.Printed.{Files, entries_for, columns_from, columns_for, parts_for, printed}
+use Rattle.stored_database.specs.Printed.{Files, relation_entry, view_entry, index_entry, entries_for, columns_from, columns_for, parts_for, printed}
 use Rattle.stored_database.proofs.Groups.{Told}
 use Rattle.stored_database.proofs.Orders.{column_total}
-use Rattle.stored_database.proofs.Pairs.{Pairs, all_then, pairs_map, pairs_unmap, pass_all}
+use Rattle.stored_database.proofs.Pairs.{Pairs, all_then, pairs_map, pairs_front, pairs_behind, pass_all}
 use Rattle.stored_database.proofs.PrintedColumns.{columns_tell, columns_ascend, then_equal}
 use Rattle.stored_database.proofs.PrintedEntries.{told_entries, singles, entries_differ, infos_differ, nat_equal, equal_turned}
-use Rattle.stored_database.proofs.PrintedTrees.{Tree, parts_of, same_tree, told_trees, trees_for, parts_are, trees_differ}
+use Rattle.stored_database.proofs.PrintedTrees.{Tree, parts_of, same_tree, told_trees, view_tree, rule_tree, permit_tree, trees_for, parts_are, trees_differ}
 use Rattle.stored_database.proofs.Reading.{both, number_itself}
 use Rattle.catalogue_changes.specs.After.{after_change, changed}
 use Rattle.catalogue_changes.proofs.Moved.{Moved, set_after}
@@ -117,6 +117,44 @@ module _ (f : Files) (db : Db) (s : Stands f db) where
 
   pub trees_are_apart : Pairs (λ t u. same_tree t u ≡ false) (trees_for f db)
   trees_are_apart = trees_differ f db s.files_differ s.is.rules_ascend s.is.permits_ascend rules_there permits_there
+
+  -- ---- each list
+
+  pub relation_entries : Pairs (λ a b. same_file a b ≡ false) (map (relation_entry f) db.relations)
+  unfolding entries_for
+  relation_entries = pairs_front (λ a b. same_file a b ≡ false) _ _ entries_are_apart
+
+  pub view_entries : Pairs (λ a b. same_file a b ≡ false) (map (view_entry f) db.views)
+  unfolding entries_for
+  view_entries = pairs_front (λ a b. same_file a b ≡ false) _ (map (index_entry f) db.indexes) (pairs_behind (λ a b. same_file a b ≡ false) (map (relation_entry f) db.relations) _ entries_are_apart)
+
+  pub index_entries : Pairs (λ a b. same_file a b ≡ false) (map (index_entry f) db.indexes)
+  unfolding entries_for
+  index_entries = pairs_behind (λ a b. same_file a b ≡ false) (map (view_entry f) db.views) _ (pairs_behind (λ a b. same_file a b ≡ false) (map (relation_entry f) db.relations) _ entries_are_apart)
+
+  pub relation_attributes : Pairs (λ a b. same_owner a b ≡ false) (map (λ (r : Relation). attributes f r.info) db.relations)
+  relation_attributes = pairs_front (λ a b. same_owner a b ≡ false) _ _ attributes_are_apart
+
+  behind : Pairs (λ a b. same_owner a b ≡ false) (map (λ (v : View). attributes f v.info) db.views ++ map (λ (x : Index). attributes f x.info) db.indexes)
+  behind = pairs_behind (λ a b. same_owner a b ≡ false) (map (λ (r : Relation). attributes f r.info) db.relations) _ attributes_are_apart
+
+  pub view_attributes : Pairs (λ a b. same_owner a b ≡ false) (map (λ (v : View). attributes f v.info) db.views)
+  view_attributes = pairs_front (λ a b. same_owner a b ≡ false) _ (map (λ (x : Index). attributes f x.info) db.indexes) behind
+
+  pub index_attributes : Pairs (λ a b. same_owner a b ≡ false) (map (λ (x : Index). attributes f x.info) db.indexes)
+  index_attributes = pairs_behind (λ a b. same_owner a b ≡ false) (map (λ (v : View). attributes f v.info) db.views) _ behind
+
+  pub view_trees : Pairs (λ t u. same_tree t u ≡ false) (map (view_tree f) db.views)
+  view_trees = pairs_front (λ t u. same_tree t u ≡ false) _ _ trees_are_apart
+
+  numbered : Pairs (λ t u. same_tree t u ≡ false) (map (rule_tree f) db.rules ++ map (permit_tree f) db.permits)
+  numbered = pairs_behind (λ t u. same_tree t u ≡ false) (map (view_tree f) db.views) _ trees_are_apart
+
+  pub rule_trees : Pairs (λ t u. same_tree t u ≡ false) (map (rule_tree f) db.rules)
+  rule_trees = pairs_front (λ t u. same_tree t u ≡ false) _ (map (permit_tree f) db.permits) numbered
+
+  pub permit_trees : Pairs (λ t u. same_tree t u ≡ false) (map (permit_tree f) db.permits)
+  permit_trees = pairs_behind (λ t u. same_tree t u ≡ false) (map (rule_tree f) db.rules) _ numbered
 
 -- ---- the three sets
 
