@@ -2,3 +2,5 @@ pub mod Lists
 pub mod Moved
 pub mod Three
 pub mod Staying
+pub mod Unmoved
+pub mod Create

@@ -133,6 +133,20 @@ module _ {X : Type 0} (same : X → X → Bool) (itself : (x : X) → same x x �
       goes = λ x i. absurd i;
     }
 
+    -- Nor do they where each is changed and gives the same.
+    pub moved_still : (its : Y → Y) → ((y : Y) → IsIn y ys → after (its y) ≡ h y) → Moved (map h ys) [] [] (map after (map its ys))
+    moved_still its stays = record {
+      kept_or_come = λ x i. (
+        let s = map_in after (map its ys) x i in
+        let t = map_in its ys s.0 s.1 in
+        inl (subst (λ x. IsIn x (map h ys)) (sym (s.2 ∙ ap after t.2 ∙ stays t.0 t.1)) (in_map h ys t.0 t.1), λ k. k));
+      stay_or_go = λ x i. (
+        let s = map_in h ys x i in
+        inr (subst (λ x. IsIn x (map after (map its ys))) (stays s.0 s.1 ∙ sym s.2) (in_map after (map its ys) (its s.0) (in_map its ys s.0 s.1))));
+      comes = λ x i. absurd i;
+      goes = λ x i. absurd i;
+    }
+
     -- One item comes.
     pub moved_in : (cmp : Y → Y → Ordering) (new : Y) → ((y : Y) → IsIn y ys → cmp new y ≡ Equal → ⊥) → ((y : Y) → IsIn y ys → after y ≡ h y)
         → Moved (map h ys) [] (after new ∷ []) (map after (insert_by cmp new ys))

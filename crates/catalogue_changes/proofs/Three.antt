@@ -48,7 +48,7 @@ abbrev pub attributes_for : Files → Db → List Attributes
 attributes_for f db =
     map (λ (r : Relation). attributes f r.info) db.relations ++ (map (λ (v : View). attributes f v.info) db.views ++ map (λ (x : Index). attributes f x.info) db.indexes)
 
-told_attributes : Told column_cmp columns_of (λ a c. c.file == a.file) same_owner
+pub told_attributes : Told column_cmp columns_of (λ a c. c.file == a.file) same_owner
 told_attributes = record {
   order = column_total;
   tests = λ a b. columns_tell a.file b.file 0 b.attrs;
