@@ -4,3 +4,6 @@ pub mod Three
 pub mod Staying
 pub mod Unmoved
 pub mod Create
+pub mod MakeIndex
+pub mod MakeView
+pub mod Destroy

@@ -5,6 +5,7 @@ use Rattle.std.specs.Ordering.{is_eq}
 use Rattle.std.specs.declared.cmp.Ordering.{Ordering}
 use Rattle.std.specs.declared.cmp.Ordering.TheVariants.{Equal}
 use Rattle.calculus.specs.Lists.{insert_by}
+use Rattle.stored_database.proofs.Groups.{append_nil}
 use Rattle.stored_database.proofs.Members.{IsIn, of_all, in_first, in_second, in_either, in_filter, filter_in, in_map, map_in, apart_same}
 use Rattle.stored_database.proofs.Pairs.{Pairs, pairs_apart, pairs_unmap, pairs_behind}
 use Rattle.stored_database.proofs.Sets.{insert_in, in_insert}
@@ -21,6 +22,17 @@ fails b e = ap not e
 -- it doesn't pass
 abbrev besides : {Y : Type 0} → (Y → Bool) → Y → Bool
 besides at y = not (at y)
+
+-- what doesn't pass is among the rest
+pub among_rest : {Y : Type 0} (at : Y → Bool) (ys : List Y) (y : Y) → IsIn y ys → at y ≡ false → IsIn y (filter (λ y. not (at y)) ys)
+among_rest at ys y i off = in_filter (besides at) ys y i (fails (at y) off)
+
+-- nothing more goes, or comes
+pub no_more_go : {X : Type 0} {o g c n : List X} → Moved o (g ++ []) c n → Moved o g c n
+no_more_go {X} {o} {g} {c} {n} = subst (λ l. Moved o l c n) (append_nil g)
+
+pub no_more_come : {X : Type 0} {o g c n : List X} → Moved o g (c ++ []) n → Moved o g c n
+no_more_come {X} {o} {g} {c} {n} = subst (λ l. Moved o g l n) (append_nil c)
 
 module _ {X : Type 0} (same : X → X → Bool) (itself : (x : X) → same x x ≡ true) (turned : (x y : X) → same x y ≡ same y x) where
   abbrev Differ : List X → Type 0

@@ -41,7 +41,7 @@ none_any test [] none = refl
 none_any test (x ∷ xs) none = ap₂ (λ (a b : Bool). not (a || b)) (none x (inl refl)) refl ∙ none_any test xs (λ y at. none y (inr at))
 
 -- one passes
-some_any : {A : Type 0} (test : A → Bool) (xs : List A) (x : A) → IsIn x xs → test x ≡ true → not (list_any test xs) ≡ false
+pub some_any : {A : Type 0} (test : A → Bool) (xs : List A) (x : A) → IsIn x xs → test x ≡ true → not (list_any test xs) ≡ false
 some_any test [] x at e = absurd at
 some_any {A} test (y ∷ ys) x at e = go (test y) refl at (some_any test ys x)
   where

@@ -73,11 +73,15 @@ is_fresh db key other new there e = true≢false (sym new ∙ ap not (ap (is_the
 -- ---- what stays
 
 module _ (f after : Files) (db : Db) (made : DbChange) (stands : Stands f db) (new_stands : Stands after (laid db made)) (agree : Agree db made f after) where
+  -- a relation keeps its entry where it keeps the number of its pages
+  pub relation_keeps : (r s : Relation) → IsIn r db.relations → IsIn s (laid db made).relations → s.info.key ≡ r.info.key → after.used r.info.key ≡ f.used r.info.key → relation_entry after r ≡ relation_entry f r
+  relation_keeps r s at bt same used =
+      let file = agree.file_stays r.info.key (relation_there db r at) (ap (is_there (laid db made)) (sym same) ∙ relation_there (laid db made) s bt) in
+      λ i. record { file = file i; key = r.info.key; spec = r.info.spec; base = 0; primary = 1; directory = 0; used = used i; keys = r.info.keys }
+
   pub relation_stays : (r s : Relation) → IsIn r db.relations → IsIn s (laid db made).relations → s.info.key ≡ r.info.key → resizes made r.info.key ≡ false → relation_entry after r ≡ relation_entry f r
   relation_stays r s at bt same sized =
-      let file = agree.file_stays r.info.key (relation_there db r at) (ap (is_there (laid db made)) (sym same) ∙ relation_there (laid db made) s bt) in
-      let used = agree.used_stays r.info.key (relation_is db r at) (ap (is_relation (laid db made)) (sym same) ∙ relation_is (laid db made) s bt) sized in
-      λ i. record { file = file i; key = r.info.key; spec = r.info.spec; base = 0; primary = 1; directory = 0; used = used i; keys = r.info.keys }
+      relation_keeps r s at bt same (agree.used_stays r.info.key (relation_is db r at) (ap (is_relation (laid db made)) (sym same) ∙ relation_is (laid db made) s bt) sized)
 
   pub view_stays : (v : View) → IsIn v db.views → IsIn v (laid db made).views → view_entry after v ≡ view_entry f v
   view_stays v at bt =
