@@ -7,3 +7,8 @@ pub mod Create
 pub mod MakeIndex
 pub mod MakeView
 pub mod Destroy
+pub mod Numbered
+pub mod Rules
+pub mod Permits
+pub mod ChangeRows
+pub mod Modify
