@@ -1,23 +1,21 @@
 -- Rows of a relation go and come.
-use Rattle.std.proofs.Common.{◌≡◌, refl, sym, ap, ◌∙◌, true≢false, ℕ, ◌==◌, ◌&&◌, not, Bool, true, false, List, [], ◌∷◌, ◌++◌, map}
+use Rattle.std.proofs.Common.{◌≡◌, refl, sym, ap, ◌∙◌, true≢false, ◌==◌, ◌&&◌, not, Bool, true, false, List, []}
 use Rattle.calculus.specs.declared.query.RelKey.{RelKey}
 use Rattle.calculus.specs.declared.change.DbChange.TheVariants as change
 use Rattle.calculus.specs.declared.schema.RelInfo.{RelInfo}
-use Rattle.calculus.specs.Change.{laid, IsLawful}
+use Rattle.calculus.specs.Change.{laid}
 use Rattle.calculus.specs.Database.{Db, Relation}
 use Rattle.calculus.specs.Keys.{same_key}
 use Rattle.calculus.specs.Replacement.{with_rows, without_rows}
 use Rattle.calculus.specs.Rows.{Row}
-use Rattle.stored_database.specs.Entries.{Entry}
 use Rattle.stored_database.specs.Printed.{Files, relation_entry, entries_for}
 use Rattle.stored_database.proofs.Members.{IsIn, in_map}
 use Rattle.stored_database.proofs.PrintedEntries.{told_entries}
 use Rattle.stored_database.proofs.Reading.{same_number}
 use Rattle.catalogue_changes.specs.Laws.{Agree, resizes, ChangesTheCatalogue}
-use Rattle.catalogue_changes.specs.Moves.{going, coming, resized}
+use Rattle.catalogue_changes.specs.Moves.{going, coming}
 use Rattle.catalogue_changes.proofs.Lists.{no_more_go, no_more_come, moved_three, moved_at, moved_still}
-use Rattle.catalogue_changes.proofs.Moved.{Moved}
-use Rattle.catalogue_changes.proofs.Three.{attributes, same_file, same_owner, told_attributes, Stands, entries_are_apart, attributes_are_apart, relation_entries, MovedAll}
+use Rattle.catalogue_changes.proofs.Three.{attributes, same_file, same_owner, told_attributes, Stands, entries_are_apart, attributes_are_apart, relation_entries}
 use Rattle.catalogue_changes.proofs.Staying.{relation_keeps, relation_stays, relation_attributes_stay}
 use Rattle.catalogue_changes.proofs.Unmoved.{Moves, law_of, views_same, indexes_same, view_attributes_same, index_attributes_same, trees_same}
 
@@ -72,15 +70,15 @@ module _ (rel : RelKey) (remove add : List Row) where
     gone_parts_are = refl;
     come_parts_are = refl;
     entries = no_more_come (no_more_go (moved_three same_file told_entries.itself told_entries.turned
-      (moved_at same_file told_entries.itself told_entries.turned (relation_entry f) (relation_entry after) db.relations its (relation_entry after) (at db f after stands new_stands agree) (relation_entries f db stands)
+        (moved_at same_file told_entries.itself told_entries.turned (relation_entry f) (relation_entry after) db.relations its (relation_entry after) (at db f after stands new_stands agree) (relation_entries f db stands)
         (stays db f after stands new_stands agree) (λ r i is. ap (λ i. relation_entry after (record { info = i; rows = [] })) (same_info r)))
-      (views_same f after db (change.Rows rel remove add) stands new_stands agree (λ v at. at))
-      (indexes_same f after db (change.Rows rel remove add) stands new_stands agree (λ x at. at)) (entries_are_apart f db stands)));
+        (views_same f after db (change.Rows rel remove add) stands new_stands agree (λ v at. at))
+        (indexes_same f after db (change.Rows rel remove add) stands new_stands agree (λ x at. at)) (entries_are_apart f db stands)));
     columns = moved_three same_owner told_attributes.itself told_attributes.turned
-      (moved_still same_owner told_attributes.itself told_attributes.turned (λ (r : Relation). attributes f r.info) (λ (r : Relation). attributes after r.info) db.relations its
+        (moved_still same_owner told_attributes.itself told_attributes.turned (λ (r : Relation). attributes f r.info) (λ (r : Relation). attributes after r.info) db.relations its
         (attributes_stay db f after stands new_stands agree))
-      (view_attributes_same f after db (change.Rows rel remove add) stands new_stands agree (λ v at. at))
-      (index_attributes_same f after db (change.Rows rel remove add) stands new_stands agree (λ x at. at)) (attributes_are_apart f db stands);
+        (view_attributes_same f after db (change.Rows rel remove add) stands new_stands agree (λ v at. at))
+        (index_attributes_same f after db (change.Rows rel remove add) stands new_stands agree (λ x at. at)) (attributes_are_apart f db stands);
     trees = trees_same f after db (change.Rows rel remove add) stands new_stands agree (λ v at. at) (λ p at. at) (λ p at. at);
   }
 

@@ -12,3 +12,4 @@ pub mod Rules
 pub mod Permits
 pub mod ChangeRows
 pub mod Modify
+pub mod Every

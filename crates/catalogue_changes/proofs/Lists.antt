@@ -1,7 +1,6 @@
 -- Which items of a list go and which come, where each item of another list gives one.
 use Rattle.std.proofs.Common.{◌≡◌, refl, sym, ap, subst, ◌∙◌, true≢false, inl, inr, Bool, true, false, not, List, [], ◌∷◌, ◌++◌, map, filter}
 use Rattle.std.specs.Prelude.{◌⊎◌}
-use Rattle.std.specs.Ordering.{is_eq}
 use Rattle.std.specs.declared.cmp.Ordering.{Ordering}
 use Rattle.std.specs.declared.cmp.Ordering.TheVariants.{Equal}
 use Rattle.calculus.specs.Lists.{insert_by}
@@ -89,25 +88,28 @@ module _ {X : Type 0} (same : X → X → Bool) (itself : (x : X) → same x x �
         → Moved (map h ys) (map h (filter at ys)) (map new (filter at ys)) (map after (map its ys))
     moved_at its new at differ stays comes = record {
       kept_or_come = λ x i. (
-        let s = map_in after (map its ys) x i in
-        let t = map_in its ys s.0 s.1 in
-        kept x t.0 t.1 (s.2 ∙ ap after t.2) (at t.0) refl);
+          let s = map_in after (map its ys) x i in
+          let t = map_in its ys s.0 s.1 in
+          kept x t.0 t.1 (s.2 ∙ ap after t.2) (at t.0) refl);
       stay_or_go = λ x i. (let s = map_in h ys x i in was x s.0 s.1 s.2 (at s.0) refl);
       comes = λ x i. (
-        let s = map_in new (filter at ys) x i in
-        let t = filter_in at ys s.0 s.1 in
-        subst (λ x. IsIn x (map after (map its ys))) (comes s.0 t.0 t.1 ∙ sym s.2) (in_map after (map its ys) (its s.0) (in_map its ys s.0 t.0)));
+          let s = map_in new (filter at ys) x i in
+          let t = filter_in at ys s.0 s.1 in
+          subst (λ x. IsIn x (map after (map its ys))) (comes s.0 t.0 t.1 ∙ sym s.2) (in_map after (map its ys) (its s.0) (in_map its ys s.0 t.0)));
       goes = λ x i. (
-        let s = map_in h (filter at ys) x i in
-        subst (λ x. IsIn x (map h ys)) (sym s.2) (in_map h ys s.0 (filter_in at ys s.0 s.1).0));
+          let s = map_in h (filter at ys) x i in
+          subst (λ x. IsIn x (map h ys)) (sym s.2) (in_map h ys s.0 (filter_in at ys s.0 s.1).0));
     }
       where
         kept : (x : X) (y : Y) → IsIn y ys → x ≡ after (its y) → (b : Bool) → at y ≡ b → (IsIn x (map h ys) × (IsIn x (map h (filter at ys)) → ⊥)) ⊎ IsIn x (map new (filter at ys))
         kept x y i e true is = inr (subst (λ x. IsIn x (map new (filter at ys))) (sym (e ∙ comes y i is)) (in_map new (filter at ys) y (in_filter at ys y i is)))
-        kept x y i e false is = inl (subst (λ x. IsIn x (map h ys)) (sym (e ∙ stays y i is)) (in_map h ys y i), λ k. (
-          let s = map_in h (filter at ys) x k in
-          let t = filter_in at ys s.0 s.1 in
-          true≢false (sym t.1 ∙ ap at (one h ys differ s.0 y t.0 i (sym s.2 ∙ e ∙ stays y i is)) ∙ is)))
+        kept x y i e false is = inl (
+          subst (λ x. IsIn x (map h ys)) (sym (e ∙ stays y i is)) (in_map h ys y i),
+          λ k. (
+              let s = map_in h (filter at ys) x k in
+              let t = filter_in at ys s.0 s.1 in
+              true≢false (sym t.1 ∙ ap at (one h ys differ s.0 y t.0 i (sym s.2 ∙ e ∙ stays y i is)) ∙ is)),
+        )
 
         was : (x : X) (y : Y) → IsIn y ys → x ≡ h y → (b : Bool) → at y ≡ b → IsIn x (map h (filter at ys)) ⊎ IsIn x (map after (map its ys))
         was x y i e true is = inl (subst (λ x. IsIn x (map h (filter at ys))) (sym e) (in_map h (filter at ys) y (in_filter at ys y i is)))
@@ -118,18 +120,21 @@ module _ {X : Type 0} (same : X → X → Bool) (itself : (x : X) → same x x �
         → Moved (map h ys) (map h (filter at ys)) [] (map after (filter (λ y. not (at y)) ys))
     moved_out at differ stays = record {
       kept_or_come = λ x i. (
-        let s = map_in after (filter (besides at) ys) x i in
-        let t = filter_in (besides at) ys s.0 s.1 in
-        let off = failed (at s.0) t.1 in
-        inl (subst (λ x. IsIn x (map h ys)) (sym (s.2 ∙ stays s.0 t.0 off)) (in_map h ys s.0 t.0), λ k. (
-          let u = map_in h (filter at ys) x k in
-          let v = filter_in at ys u.0 u.1 in
-          true≢false (sym v.1 ∙ ap at (one h ys differ u.0 s.0 v.0 t.0 (sym u.2 ∙ s.2 ∙ stays s.0 t.0 off)) ∙ off))));
+          let s = map_in after (filter (besides at) ys) x i in
+          let t = filter_in (besides at) ys s.0 s.1 in
+          let off = failed (at s.0) t.1 in
+          inl (
+            subst (λ x. IsIn x (map h ys)) (sym (s.2 ∙ stays s.0 t.0 off)) (in_map h ys s.0 t.0),
+            λ k. (
+                let u = map_in h (filter at ys) x k in
+                let v = filter_in at ys u.0 u.1 in
+                true≢false (sym v.1 ∙ ap at (one h ys differ u.0 s.0 v.0 t.0 (sym u.2 ∙ s.2 ∙ stays s.0 t.0 off)) ∙ off)),
+          ));
       stay_or_go = λ x i. (let s = map_in h ys x i in was x s.0 s.1 s.2 (at s.0) refl);
       comes = λ x i. absurd i;
       goes = λ x i. (
-        let s = map_in h (filter at ys) x i in
-        subst (λ x. IsIn x (map h ys)) (sym s.2) (in_map h ys s.0 (filter_in at ys s.0 s.1).0));
+          let s = map_in h (filter at ys) x i in
+          subst (λ x. IsIn x (map h ys)) (sym s.2) (in_map h ys s.0 (filter_in at ys s.0 s.1).0));
     }
       where
         was : (x : X) (y : Y) → IsIn y ys → x ≡ h y → (b : Bool) → at y ≡ b → IsIn x (map h (filter at ys)) ⊎ IsIn x (map after (filter (besides at) ys))
@@ -149,12 +154,12 @@ module _ {X : Type 0} (same : X → X → Bool) (itself : (x : X) → same x x �
     pub moved_still : (its : Y → Y) → ((y : Y) → IsIn y ys → after (its y) ≡ h y) → Moved (map h ys) [] [] (map after (map its ys))
     moved_still its stays = record {
       kept_or_come = λ x i. (
-        let s = map_in after (map its ys) x i in
-        let t = map_in its ys s.0 s.1 in
-        inl (subst (λ x. IsIn x (map h ys)) (sym (s.2 ∙ ap after t.2 ∙ stays t.0 t.1)) (in_map h ys t.0 t.1), λ k. k));
+          let s = map_in after (map its ys) x i in
+          let t = map_in its ys s.0 s.1 in
+          inl (subst (λ x. IsIn x (map h ys)) (sym (s.2 ∙ ap after t.2 ∙ stays t.0 t.1)) (in_map h ys t.0 t.1), λ k. k));
       stay_or_go = λ x i. (
-        let s = map_in h ys x i in
-        inr (subst (λ x. IsIn x (map after (map its ys))) (stays s.0 s.1 ∙ sym s.2) (in_map after (map its ys) (its s.0) (in_map its ys s.0 s.1))));
+          let s = map_in h ys x i in
+          inr (subst (λ x. IsIn x (map after (map its ys))) (stays s.0 s.1 ∙ sym s.2) (in_map after (map its ys) (its s.0) (in_map its ys s.0 s.1))));
       comes = λ x i. absurd i;
       goes = λ x i. absurd i;
     }

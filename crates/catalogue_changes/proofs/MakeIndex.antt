@@ -1,23 +1,21 @@
 -- An index is made.
-use Rattle.std.proofs.Common.{◌≡◌, ℕ, refl, sym, inl, inr, List, [], ◌∷◌, ◌++◌}
+use Rattle.std.proofs.Common.{◌≡◌, ℕ, refl, inr, List, [], ◌∷◌}
 use Rattle.calculus.specs.declared.change.DbChange.TheVariants as change
 use Rattle.calculus.specs.declared.query.RelKey.{RelKey}
-use Rattle.calculus.specs.Change.{laid, IsLawful, adds_what_is_new, index_info}
-use Rattle.calculus.specs.Database.{Db, Index}
+use Rattle.calculus.specs.Change.{laid, adds_what_is_new, index_info}
+use Rattle.calculus.specs.Database.{Index}
 use Rattle.calculus.specs.Keys.{key_cmp, key_of}
 use Rattle.calculus.specs.Lists.{insert_by}
 use Rattle.std.specs.declared.cmp.Ordering.{Ordering}
 use Rattle.std.specs.declared.cmp.Ordering.TheVariants.{Equal}
-use Rattle.stored_database.specs.Printed.{Files, index_entry, entries_for, columns_from}
+use Rattle.stored_database.specs.Printed.{index_entry, entries_for, columns_from}
 use Rattle.stored_database.proofs.Members.{IsIn}
 use Rattle.stored_database.proofs.PrintedEntries.{told_entries}
-use Rattle.stored_database.proofs.PrintedTrees.{trees_for}
 use Rattle.stored_database.proofs.Sets.{in_insert}
-use Rattle.catalogue_changes.specs.Laws.{Agree, resizes, ChangesTheCatalogue}
-use Rattle.catalogue_changes.specs.Moves.{going, coming, nothing}
+use Rattle.catalogue_changes.specs.Laws.{resizes, ChangesTheCatalogue}
+use Rattle.catalogue_changes.specs.Moves.{going, coming}
 use Rattle.catalogue_changes.proofs.Lists.{moved_three, moved_in}
-use Rattle.catalogue_changes.proofs.Moved.{Moved}
-use Rattle.catalogue_changes.proofs.Three.{Attributes, attributes, attributes_for, same_file, same_owner, told_attributes, columns_are, Stands, entries_are_apart, attributes_are_apart, MovedAll}
+use Rattle.catalogue_changes.proofs.Three.{attributes, same_file, same_owner, told_attributes, entries_are_apart, attributes_are_apart}
 use Rattle.catalogue_changes.proofs.Staying.{is_fresh, index_there, index_stays, index_attributes_stay}
 use Rattle.catalogue_changes.proofs.Unmoved.{Moves, law_of, relations_same, views_same, relation_attributes_same, view_attributes_same, trees_same}
 
@@ -40,17 +38,17 @@ module _ (base : RelKey) (name keys : List ℕ) where
     gone_parts_are = refl;
     come_parts_are = refl;
     entries = moved_three same_file told_entries.itself told_entries.turned
-      (relations_same f after db (change.Index base name keys) stands new_stands agree (λ r at. at) (λ r. refl))
-      (views_same f after db (change.Index base name keys) stands new_stands agree (λ v at. at))
-      (moved_in same_file told_entries.itself told_entries.turned (index_entry f) (index_entry after) db.indexes by_key made fresh
+        (relations_same f after db (change.Index base name keys) stands new_stands agree (λ r at. at) (λ r. refl))
+        (views_same f after db (change.Index base name keys) stands new_stands agree (λ v at. at))
+        (moved_in same_file told_entries.itself told_entries.turned (index_entry f) (index_entry after) db.indexes by_key made fresh
         (λ x at. index_stays f after db (change.Index base name keys) stands new_stands agree x at (kept x at)))
-      (entries_are_apart f db stands);
+        (entries_are_apart f db stands);
     columns = moved_three same_owner told_attributes.itself told_attributes.turned
-      (relation_attributes_same f after db (change.Index base name keys) stands new_stands agree (λ r at. at))
-      (view_attributes_same f after db (change.Index base name keys) stands new_stands agree (λ v at. at))
-      (moved_in same_owner told_attributes.itself told_attributes.turned (λ (x : Index). attributes f x.info) (λ (x : Index). attributes after x.info) db.indexes by_key made fresh
+        (relation_attributes_same f after db (change.Index base name keys) stands new_stands agree (λ r at. at))
+        (view_attributes_same f after db (change.Index base name keys) stands new_stands agree (λ v at. at))
+        (moved_in same_owner told_attributes.itself told_attributes.turned (λ (x : Index). attributes f x.info) (λ (x : Index). attributes after x.info) db.indexes by_key made fresh
         (λ x at. index_attributes_stay f after db (change.Index base name keys) stands new_stands agree x at (kept x at)))
-      (attributes_are_apart f db stands);
+        (attributes_are_apart f db stands);
     trees = trees_same f after db (change.Index base name keys) stands new_stands agree (λ v at. at) (λ p at. at) (λ p at. at);
   }
     where

@@ -1,8 +1,8 @@
 -- Lists of which some items go and others come, and the sets of what each item gives.
-use Rattle.std.proofs.Common.{◌≡◌, refl, sym, ap, ap₂, subst, ◌∙◌, true≢false, inl, inr, Bool, true, false, not, ◌||◌, List, [], ◌∷◌, ◌++◌, map, filter}
+use Rattle.std.proofs.Common.{◌≡◌, refl, sym, ap, ap₂, subst, ◌∙◌, true≢false, inl, inr, Bool, true, false, not, ◌||◌, List, [], ◌∷◌, ◌++◌, filter}
 use Rattle.std.specs.Prelude.{◌⊎◌}
 use Rattle.std.specs.Cmp.{IsTotalOrder}
-use Rattle.std.specs.List.{AllByRecursion, list_any, flat_map}
+use Rattle.std.specs.List.{list_any, flat_map}
 use Rattle.std.specs.Ordering.{is_eq}
 use Rattle.std.specs.declared.cmp.Ordering.{Ordering}
 use Rattle.std.specs.declared.cmp.Ordering.TheVariants.{Less, Equal, Greater}
@@ -86,7 +86,7 @@ module _ {X A : Type 0} {cmp : A → A → Ordering} {g : X → List A} {p : X �
       let s = flat_map_in g news a (in_order_in cmp (flat_map g news) a at) in
       elim (moved.kept_or_come s.0 s.1) [
         | inl k ↦ in_first (filter kept (in_order cmp (flat_map g olds))) (flat_map g come) a
-          (in_filter kept (in_order cmp (flat_map g olds)) a (in_in_order cmp (flat_map g olds) a exact_olds (in_flat_map g olds s.0 a k.0 s.2)) (stays_there s.0 a k.0 k.1 s.2))
+            (in_filter kept (in_order cmp (flat_map g olds)) a (in_in_order cmp (flat_map g olds) a exact_olds (in_flat_map g olds s.0 a k.0 s.2)) (stays_there s.0 a k.0 k.1 s.2))
         | inr k ↦ in_second (filter kept (in_order cmp (flat_map g olds))) (flat_map g come) a (in_flat_map g come s.0 a k s.2)
       ]
 

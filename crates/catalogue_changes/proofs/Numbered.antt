@@ -1,5 +1,5 @@
 -- Rules and permits that are new have a number of their own.
-use Rattle.std.proofs.Common.{◌≡◌, sym, ap, ◌∙◌, true≢false, ℕ, Bool, true, false, not, List, map, filter}
+use Rattle.std.proofs.Common.{◌≡◌, sym, ap, ◌∙◌, true≢false, ℕ, true, not, List, map, filter}
 use Rattle.std.specs.Ordering.{is_eq, nat_cmp}
 use Rattle.std.specs.declared.cmp.Ordering.TheVariants.{Equal}
 use Rattle.std.specs.Prelude.{nat_eq}
@@ -21,6 +21,6 @@ number_is_fresh {X} number ps rel x new p at e =
     let parts = then_equal (key_cmp rel p.0) (nat_cmp (number x) (number p.1)) (ap is_eq e) in
     let key : same_key p.0 rel ≡ true = same_key_turned rel p.0 (sym (key_exact rel p.0) ∙ parts.0) in
     let there = in_map number (map (λ p. p.1) (filter (λ p. same_key p.0 rel) ps)) p.1
-          (in_map (λ (p : RelKey × X). p.1) (filter (λ p. same_key p.0 rel) ps) p (in_filter (λ p. same_key p.0 rel) ps p at key)) in
+    (in_map (λ (p : RelKey × X). p.1) (filter (λ p. same_key p.0 rel) ps) p (in_filter (λ p. same_key p.0 rel) ps p at key)) in
     true≢false (sym new ∙ some_any (λ m. nat_eq m (number x)) (map number (map (λ p. p.1) (filter (λ p. same_key p.0 rel) ps))) (number p.1) there
-      (ap (nat_eq (number p.1)) (nat_equal (number x) (number p.1) parts.1) ∙ number_itself (number p.1)))
+    (ap (nat_eq (number p.1)) (nat_equal (number x) (number p.1) parts.1) ∙ number_itself (number p.1)))

@@ -1,23 +1,22 @@
 -- A permit is made, or permits are dropped.
-use Rattle.std.proofs.Common.{◌≡◌, refl, inr, ℕ, ◌&&◌, false, List, [], ◌∷◌, ◌++◌}
+use Rattle.std.proofs.Common.{◌≡◌, refl, inr, ℕ, ◌&&◌, List, [], ◌∷◌}
 use Rattle.std.specs.declared.cmp.Ordering.{Ordering}
 use Rattle.std.specs.declared.cmp.Ordering.TheVariants.{Equal}
 use Rattle.calculus.specs.declared.query.RelKey.{RelKey}
 use Rattle.calculus.specs.declared.change.DbChange.TheVariants as change
 use Rattle.calculus.specs.declared.schema.Permit.{Permit}
-use Rattle.calculus.specs.Change.{laid, IsLawful, adds_what_is_new}
-use Rattle.calculus.specs.Database.{Db}
+use Rattle.calculus.specs.Change.{laid, adds_what_is_new}
 use Rattle.calculus.specs.Keys.{same_key, numbered_cmp}
 use Rattle.calculus.specs.Lists.{has_number, insert_by}
-use Rattle.stored_database.specs.Printed.{Files, entries_for}
+use Rattle.stored_database.specs.Printed.{entries_for}
 use Rattle.stored_database.proofs.Members.{IsIn}
 use Rattle.stored_database.proofs.PrintedTrees.{parts_are, trees_for, same_tree, told_trees, permit_tree}
 use Rattle.stored_database.proofs.Sets.{in_insert}
-use Rattle.catalogue_changes.specs.Laws.{Agree, resizes, ChangesTheCatalogue}
+use Rattle.catalogue_changes.specs.Laws.{resizes, ChangesTheCatalogue}
 use Rattle.catalogue_changes.specs.Moves.{going, coming, nothing, dropped_permits}
 use Rattle.catalogue_changes.proofs.Lists.{among_rest, moved_three, moved_out, moved_in}
 use Rattle.catalogue_changes.proofs.Numbered.{number_is_fresh}
-use Rattle.catalogue_changes.proofs.Three.{attributes_for, columns_are, Stands, trees_are_apart, permit_trees, MovedAll}
+use Rattle.catalogue_changes.proofs.Three.{attributes_for, columns_are, trees_are_apart, permit_trees}
 use Rattle.catalogue_changes.proofs.Staying.{permit_tree_stays}
 use Rattle.catalogue_changes.proofs.Unmoved.{Moves, law_of, entries_same, attributes_same, view_trees_same, rule_trees_same}
 
@@ -39,11 +38,11 @@ module _ (rel : RelKey) (made : Permit) where
     entries = entries_same f after db (change.Permit rel made) stands new_stands agree (λ r at. at) (λ r. refl) (λ v at. at) (λ x at. at);
     columns = attributes_same f after db (change.Permit rel made) stands new_stands agree (λ r at. at) (λ v at. at) (λ x at. at);
     trees = moved_three same_tree told_trees.itself told_trees.turned
-      (view_trees_same f after db (change.Permit rel made) stands new_stands agree (λ v at. at))
-      (rule_trees_same f after db (change.Permit rel made) stands new_stands agree (λ p at. at))
-      (moved_in same_tree told_trees.itself told_trees.turned (permit_tree f) (permit_tree after) db.permits by_number (rel, made) fresh
+        (view_trees_same f after db (change.Permit rel made) stands new_stands agree (λ v at. at))
+        (rule_trees_same f after db (change.Permit rel made) stands new_stands agree (λ p at. at))
+        (moved_in same_tree told_trees.itself told_trees.turned (permit_tree f) (permit_tree after) db.permits by_number (rel, made) fresh
         (λ p at. permit_tree_stays f after db (change.Permit rel made) stands new_stands agree p at (kept p at)))
-      (trees_are_apart f db stands);
+        (trees_are_apart f db stands);
   }
     where
       fresh : (p : RelKey × Permit) → IsIn p db.permits → by_number (rel, made) p ≡ Equal → ⊥
@@ -70,11 +69,11 @@ module _ (rel : RelKey) (numbers : List ℕ) where
     entries = entries_same f after db (change.DropPermits rel numbers) stands new_stands agree (λ r at. at) (λ r. refl) (λ v at. at) (λ x at. at);
     columns = attributes_same f after db (change.DropPermits rel numbers) stands new_stands agree (λ r at. at) (λ v at. at) (λ x at. at);
     trees = moved_three same_tree told_trees.itself told_trees.turned
-      (view_trees_same f after db (change.DropPermits rel numbers) stands new_stands agree (λ v at. at))
-      (rule_trees_same f after db (change.DropPermits rel numbers) stands new_stands agree (λ p at. at))
-      (moved_out same_tree told_trees.itself told_trees.turned (permit_tree f) (permit_tree after) db.permits (λ p. same_key p.0 rel && has_number numbers p.1.number) (permit_trees f db stands)
+        (view_trees_same f after db (change.DropPermits rel numbers) stands new_stands agree (λ v at. at))
+        (rule_trees_same f after db (change.DropPermits rel numbers) stands new_stands agree (λ p at. at))
+        (moved_out same_tree told_trees.itself told_trees.turned (permit_tree f) (permit_tree after) db.permits (λ p. same_key p.0 rel && has_number numbers p.1.number) (permit_trees f db stands)
         (λ p at off. permit_tree_stays f after db (change.DropPermits rel numbers) stands new_stands agree p at (among_rest (λ p. same_key p.0 rel && has_number numbers p.1.number) db.permits p at off)))
-      (trees_are_apart f db stands);
+        (trees_are_apart f db stands);
   }
 
   pub permits_dropped : ChangesTheCatalogue (change.DropPermits rel numbers)

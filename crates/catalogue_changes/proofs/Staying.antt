@@ -1,5 +1,5 @@
 -- What stays with a change has the rows that it had.
-use Rattle.std.proofs.Common.{◌≡◌, refl, sym, ap, ◌∙◌, inl, inr, true≢false, Bool, true, false, not, ◌&&◌, cond, List, [], ◌∷◌, ◌++◌, map, find, Some}
+use Rattle.std.proofs.Common.{◌≡◌, refl, sym, ap, ◌∙◌, inl, inr, true≢false, Bool, true, false, not, cond, List, [], ◌∷◌, map, find, Some}
 use Rattle.std.specs.Prelude.{is_some}
 use Rattle.std.specs.Ordering.{is_eq}
 use Rattle.std.specs.declared.cmp.Ordering.TheVariants.{Equal}
@@ -114,11 +114,11 @@ module _ (f after : Files) (db : Db) (made : DbChange) (stands : Stands f db) (n
   pub rule_tree_stays : (p : RelKey × Rule) → IsIn p db.rules → IsIn p (laid db made).rules → rule_tree after p ≡ rule_tree f p
   rule_tree_stays p at bt =
       let file = agree.file_stays p.0 (relation_is_there db p.0 (of_all (λ p. is_relation db p.0 ≡ true) db.rules p (rules_there f db stands) at))
-            (relation_is_there (laid db made) p.0 (of_all (λ p. is_relation (laid db made) p.0 ≡ true) (laid db made).rules p (rules_there after (laid db made) new_stands) bt)) in
+      (relation_is_there (laid db made) p.0 (of_all (λ p. is_relation (laid db made) p.0 ≡ true) (laid db made).rules p (rules_there after (laid db made) new_stands) bt)) in
       λ i. record { file = file i; sort = 1; number = p.1.number; bytes = tree_bytes spellings.rule p.1 }
 
   pub permit_tree_stays : (p : RelKey × Permit) → IsIn p db.permits → IsIn p (laid db made).permits → permit_tree after p ≡ permit_tree f p
   permit_tree_stays p at bt =
       let file = agree.file_stays p.0 (relation_is_there db p.0 (of_all (λ p. is_relation db p.0 ≡ true) db.permits p (permits_there f db stands) at))
-            (relation_is_there (laid db made) p.0 (of_all (λ p. is_relation (laid db made) p.0 ≡ true) (laid db made).permits p (permits_there after (laid db made) new_stands) bt)) in
+      (relation_is_there (laid db made) p.0 (of_all (λ p. is_relation (laid db made) p.0 ≡ true) (laid db made).permits p (permits_there after (laid db made) new_stands) bt)) in
       λ i. record { file = file i; sort = 2; number = p.1.number; bytes = tree_bytes spellings.permit p.1 }

@@ -1,23 +1,20 @@
 -- Lists of a database that a change leaves alone, and the law from what goes and comes.
-use Rattle.std.proofs.Common.{◌≡◌, refl, ℕ, false, List, [], ◌∷◌, ◌++◌, map}
+use Rattle.std.proofs.Common.{◌≡◌, refl, false, [], ◌++◌, map}
 use Rattle.calculus.specs.declared.query.RelKey.{RelKey}
 use Rattle.calculus.specs.declared.change.DbChange.{DbChange}
 use Rattle.calculus.specs.declared.schema.Permit.{Permit}
 use Rattle.calculus.specs.declared.schema.Rule.{Rule}
 use Rattle.calculus.specs.Change.{laid, IsLawful}
 use Rattle.calculus.specs.Database.{Db, Relation, View, Index}
-use Rattle.calculus.specs.IsDatabase.{IsDatabase}
-use Rattle.page_chain.specs.Pages.{Pages}
-use Rattle.stored_database.specs.Entries.{Entry}
-use Rattle.stored_database.specs.Printed.{Files, HasFiles, relation_entry, view_entry, index_entry, entries_for, printed}
+use Rattle.stored_database.specs.Printed.{Files, relation_entry, view_entry, index_entry, entries_for}
 use Rattle.stored_database.proofs.Members.{IsIn}
 use Rattle.stored_database.proofs.PrintedEntries.{told_entries}
-use Rattle.stored_database.proofs.PrintedTrees.{Tree, told_trees, same_tree, view_tree, rule_tree, permit_tree, trees_for}
+use Rattle.stored_database.proofs.PrintedTrees.{told_trees, same_tree, view_tree, rule_tree, permit_tree, trees_for}
 use Rattle.catalogue_changes.specs.Laws.{Agree, resizes, ChangesTheCatalogue}
 use Rattle.catalogue_changes.specs.Moves.{going, coming}
-use Rattle.catalogue_changes.proofs.Lists.{moved_both, moved_three, moved_none, moved_at, moved_out, moved_in, moved_still}
+use Rattle.catalogue_changes.proofs.Lists.{moved_three, moved_none}
 use Rattle.catalogue_changes.proofs.Moved.{Moved}
-use Rattle.catalogue_changes.proofs.Three.{Attributes, attributes, attributes_for, same_file, same_owner, told_attributes, Stands, entries_are_apart, attributes_are_apart, trees_are_apart, MovedAll, catalogue_after}
+use Rattle.catalogue_changes.proofs.Three.{attributes, attributes_for, same_file, same_owner, told_attributes, Stands, entries_are_apart, attributes_are_apart, trees_are_apart, MovedAll, catalogue_after}
 use Rattle.catalogue_changes.proofs.Staying.{relation_stays, view_stays, index_stays, relation_attributes_stay, view_attributes_stay, index_attributes_stay, view_tree_stays, rule_tree_stays, permit_tree_stays}
 
 module _ (f after : Files) (db : Db) (made : DbChange) (stands : Stands f db) (new_stands : Stands after (laid db made)) (agree : Agree db made f after) where
@@ -90,7 +87,7 @@ module _ (f after : Files) (db : Db) (made : DbChange) (stands : Stands f db) (n
   pub attributes_same : ((r : Relation) → IsIn r db.relations → IsIn r (laid db made).relations)
       → ((v : View) → IsIn v db.views → IsIn v (laid db made).views) → ((x : Index) → IsIn x db.indexes → IsIn x (laid db made).indexes)
       → Moved (attributes_for f db) [] [] (map (λ (r : Relation). attributes after r.info) db.relations
-        ++ (map (λ (v : View). attributes after v.info) db.views ++ map (λ (x : Index). attributes after x.info) db.indexes))
+      ++ (map (λ (v : View). attributes after v.info) db.views ++ map (λ (x : Index). attributes after x.info) db.indexes))
   attributes_same relations views indexes =
       moved_three same_owner told_attributes.itself told_attributes.turned (relation_attributes_same relations) (view_attributes_same views) (index_attributes_same indexes) (attributes_are_apart f db stands)
 
