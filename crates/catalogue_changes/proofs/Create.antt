@@ -1,4 +1,6 @@
 -- A relation is made.
+use Rattle.std.proofs.lemmas.Cmp.{tied_itself}
+use Rattle.stored_database.proofs.Orders.{key_total}
 use Rattle.std.proofs.Common.{◌≡◌, refl, inr, List, [], ◌∷◌}
 use Rattle.calculus.specs.declared.change.DbChange.TheVariants as change
 use Rattle.calculus.specs.declared.schema.RelInfo.{RelInfo}
@@ -17,7 +19,7 @@ use Rattle.stored_database.proofs.Sets.{in_insert}
 use Rattle.catalogue_changes.specs.Laws.{resizes, ChangesTheCatalogue}
 use Rattle.catalogue_changes.specs.Moves.{going, coming, nothing}
 use Rattle.catalogue_changes.proofs.Lists.{moved_three, moved_in}
-use Rattle.catalogue_changes.proofs.Three.{attributes, attributes_for, same_file, same_owner, told_attributes, columns_are, entries_are_apart, attributes_are_apart}
+use Rattle.catalogue_changes.proofs.Three.{relation_entries, relation_attributes, attributes, attributes_for, same_file, same_owner, told_attributes, columns_are, entries_are_apart, attributes_are_apart, trees_are_apart}
 use Rattle.catalogue_changes.proofs.Staying.{is_fresh, relation_there, relation_stays, relation_attributes_stay}
 use Rattle.catalogue_changes.proofs.Unmoved.{Moves, law_of, views_same, indexes_same, view_attributes_same, index_attributes_same, trees_same}
 
@@ -40,16 +42,16 @@ module _ (info : RelInfo) (rows : List Row) where
     gone_parts_are = refl;
     come_parts_are = parts_are after (record nothing { relations = made ∷ [] });
     entries = moved_three same_file told_entries.itself told_entries.turned
-        (moved_in same_file told_entries.itself told_entries.turned (relation_entry f) (relation_entry after) db.relations by_key made fresh
+        (moved_in same_file told_entries.itself told_entries.turned (relation_entry f) (relation_entry after) db.relations by_key made (tied_itself key_total made.info.key) (relation_entries after (laid db (change.Create info rows)) new_stands) fresh
         (λ r at. relation_stays f after db (change.Create info rows) stands new_stands agree r r at (kept r at) refl refl))
         (views_same f after db (change.Create info rows) stands new_stands agree (λ v at. at))
-        (indexes_same f after db (change.Create info rows) stands new_stands agree (λ x at. at)) (entries_are_apart f db stands);
+        (indexes_same f after db (change.Create info rows) stands new_stands agree (λ x at. at)) (entries_are_apart f db stands) (entries_are_apart after (laid db (change.Create info rows)) new_stands);
     columns = moved_three same_owner told_attributes.itself told_attributes.turned
-        (moved_in same_owner told_attributes.itself told_attributes.turned (λ (r : Relation). attributes f r.info) (λ (r : Relation). attributes after r.info) db.relations by_key made fresh
+        (moved_in same_owner told_attributes.itself told_attributes.turned (λ (r : Relation). attributes f r.info) (λ (r : Relation). attributes after r.info) db.relations by_key made (tied_itself key_total made.info.key) (relation_attributes after (laid db (change.Create info rows)) new_stands) fresh
         (λ r at. relation_attributes_stay f after db (change.Create info rows) stands new_stands agree r r at (kept r at) refl))
         (view_attributes_same f after db (change.Create info rows) stands new_stands agree (λ v at. at))
-        (index_attributes_same f after db (change.Create info rows) stands new_stands agree (λ x at. at)) (attributes_are_apart f db stands);
-    trees = trees_same f after db (change.Create info rows) stands new_stands agree (λ v at. at) (λ p at. at) (λ p at. at);
+        (index_attributes_same f after db (change.Create info rows) stands new_stands agree (λ x at. at)) (attributes_are_apart f db stands) (attributes_are_apart after (laid db (change.Create info rows)) new_stands);
+    trees = trees_same f after db (change.Create info rows) stands new_stands agree (λ v at. at) (λ p at. at) (λ p at. at) (trees_are_apart after (laid db (change.Create info rows)) new_stands);
   }
     where
       fresh : (r : Relation) → IsIn r db.relations → by_key made r ≡ Equal → ⊥

@@ -34,7 +34,7 @@ module _ (rels : List RelKey) where
         (λ v at off. view_stays f after db (change.Destroy rels) stands new_stands agree v at (among_rest (λ v. has_key rels v.info.key) db.views v at off)))
         (moved_out same_file told_entries.itself told_entries.turned (index_entry f) (index_entry after) db.indexes (λ x. has_key rels x.info.key || has_key rels x.base) (index_entries f db stands)
         (λ x at off. index_stays f after db (change.Destroy rels) stands new_stands agree x at (among_rest (λ x. has_key rels x.info.key || has_key rels x.base) db.indexes x at off)))
-        (entries_are_apart f db stands);
+        (entries_are_apart f db stands) (entries_are_apart after (laid db (change.Destroy rels)) new_stands);
     columns = moved_three same_owner told_attributes.itself told_attributes.turned
         (moved_out same_owner told_attributes.itself told_attributes.turned (λ (r : Relation). attributes f r.info) (λ (r : Relation). attributes after r.info) db.relations (λ r. has_key rels r.info.key) (relation_attributes f db stands)
         (λ r at off. relation_attributes_stay f after db (change.Destroy rels) stands new_stands agree r r at (among_rest (λ r. has_key rels r.info.key) db.relations r at off) refl))
@@ -42,7 +42,7 @@ module _ (rels : List RelKey) where
         (λ v at off. view_attributes_stay f after db (change.Destroy rels) stands new_stands agree v at (among_rest (λ v. has_key rels v.info.key) db.views v at off)))
         (moved_out same_owner told_attributes.itself told_attributes.turned (λ (x : Index). attributes f x.info) (λ (x : Index). attributes after x.info) db.indexes (λ x. has_key rels x.info.key || has_key rels x.base) (index_attributes f db stands)
         (λ x at off. index_attributes_stay f after db (change.Destroy rels) stands new_stands agree x at (among_rest (λ x. has_key rels x.info.key || has_key rels x.base) db.indexes x at off)))
-        (attributes_are_apart f db stands);
+        (attributes_are_apart f db stands) (attributes_are_apart after (laid db (change.Destroy rels)) new_stands);
     trees = moved_three same_tree told_trees.itself told_trees.turned
         (moved_out same_tree told_trees.itself told_trees.turned (view_tree f) (view_tree after) db.views (λ v. has_key rels v.info.key) (view_trees f db stands)
         (λ v at off. view_tree_stays f after db (change.Destroy rels) stands new_stands agree v at (among_rest (λ v. has_key rels v.info.key) db.views v at off)))
@@ -50,7 +50,7 @@ module _ (rels : List RelKey) where
         (λ p at off. rule_tree_stays f after db (change.Destroy rels) stands new_stands agree p at (among_rest (λ p. has_key rels p.0) db.rules p at off)))
         (moved_out same_tree told_trees.itself told_trees.turned (permit_tree f) (permit_tree after) db.permits (λ p. has_key rels p.0) (permit_trees f db stands)
         (λ p at off. permit_tree_stays f after db (change.Destroy rels) stands new_stands agree p at (among_rest (λ p. has_key rels p.0) db.permits p at off)))
-        (trees_are_apart f db stands);
+        (trees_are_apart f db stands) (trees_are_apart after (laid db (change.Destroy rels)) new_stands);
   }
 
   pub destroy : ChangesTheCatalogue (change.Destroy rels)

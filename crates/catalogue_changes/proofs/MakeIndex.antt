@@ -1,4 +1,6 @@
 -- An index is made.
+use Rattle.std.proofs.lemmas.Cmp.{tied_itself}
+use Rattle.stored_database.proofs.Orders.{key_total}
 use Rattle.std.proofs.Common.{◌≡◌, ℕ, refl, inr, List, [], ◌∷◌}
 use Rattle.calculus.specs.declared.change.DbChange.TheVariants as change
 use Rattle.calculus.specs.declared.query.RelKey.{RelKey}
@@ -15,7 +17,7 @@ use Rattle.stored_database.proofs.Sets.{in_insert}
 use Rattle.catalogue_changes.specs.Laws.{resizes, ChangesTheCatalogue}
 use Rattle.catalogue_changes.specs.Moves.{going, coming}
 use Rattle.catalogue_changes.proofs.Lists.{moved_three, moved_in}
-use Rattle.catalogue_changes.proofs.Three.{attributes, same_file, same_owner, told_attributes, entries_are_apart, attributes_are_apart}
+use Rattle.catalogue_changes.proofs.Three.{index_entries, index_attributes, attributes, same_file, same_owner, told_attributes, entries_are_apart, attributes_are_apart, trees_are_apart}
 use Rattle.catalogue_changes.proofs.Staying.{is_fresh, index_there, index_stays, index_attributes_stay}
 use Rattle.catalogue_changes.proofs.Unmoved.{Moves, law_of, relations_same, views_same, relation_attributes_same, view_attributes_same, trees_same}
 
@@ -40,16 +42,16 @@ module _ (base : RelKey) (name keys : List ℕ) where
     entries = moved_three same_file told_entries.itself told_entries.turned
         (relations_same f after db (change.Index base name keys) stands new_stands agree (λ r at. at) (λ r. refl))
         (views_same f after db (change.Index base name keys) stands new_stands agree (λ v at. at))
-        (moved_in same_file told_entries.itself told_entries.turned (index_entry f) (index_entry after) db.indexes by_key made fresh
+        (moved_in same_file told_entries.itself told_entries.turned (index_entry f) (index_entry after) db.indexes by_key made (tied_itself key_total made.info.key) (index_entries after (laid db (change.Index base name keys)) new_stands) fresh
         (λ x at. index_stays f after db (change.Index base name keys) stands new_stands agree x at (kept x at)))
-        (entries_are_apart f db stands);
+        (entries_are_apart f db stands) (entries_are_apart after (laid db (change.Index base name keys)) new_stands);
     columns = moved_three same_owner told_attributes.itself told_attributes.turned
         (relation_attributes_same f after db (change.Index base name keys) stands new_stands agree (λ r at. at))
         (view_attributes_same f after db (change.Index base name keys) stands new_stands agree (λ v at. at))
-        (moved_in same_owner told_attributes.itself told_attributes.turned (λ (x : Index). attributes f x.info) (λ (x : Index). attributes after x.info) db.indexes by_key made fresh
+        (moved_in same_owner told_attributes.itself told_attributes.turned (λ (x : Index). attributes f x.info) (λ (x : Index). attributes after x.info) db.indexes by_key made (tied_itself key_total made.info.key) (index_attributes after (laid db (change.Index base name keys)) new_stands) fresh
         (λ x at. index_attributes_stay f after db (change.Index base name keys) stands new_stands agree x at (kept x at)))
-        (attributes_are_apart f db stands);
-    trees = trees_same f after db (change.Index base name keys) stands new_stands agree (λ v at. at) (λ p at. at) (λ p at. at);
+        (attributes_are_apart f db stands) (attributes_are_apart after (laid db (change.Index base name keys)) new_stands);
+    trees = trees_same f after db (change.Index base name keys) stands new_stands agree (λ v at. at) (λ p at. at) (λ p at. at) (trees_are_apart after (laid db (change.Index base name keys)) new_stands);
   }
     where
       fresh : (x : Index) → IsIn x db.indexes → by_key made x ≡ Equal → ⊥

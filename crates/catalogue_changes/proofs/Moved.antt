@@ -15,12 +15,15 @@ use Rattle.stored_database.proofs.Pairs.{Pairs, pairs_apart}
 use Rattle.stored_database.proofs.Sets.{IsExact, in_in_order, in_order_in, set_is, sorted_in_order}
 use Rattle.catalogue_changes.specs.After.{stays, after_change}
 
--- Some items of a list go, others come; the rest stays.
-pub record Moved {X : Type 0} (olds gone come news : List X) : Type 0 where
+-- Some items of a list go, each of them once, and others come, each once; the rest stays, and what comes isn't among it.
+pub record Moved {X : Type 0} (same : X → X → Bool) (olds gone come news : List X) : Type 0 where
   pub kept_or_come : (x : X) → IsIn x news → (IsIn x olds × (IsIn x gone → ⊥)) ⊎ IsIn x come
   pub stay_or_go : (x : X) → IsIn x olds → IsIn x gone ⊎ IsIn x news
   pub comes : (x : X) → IsIn x come → IsIn x news
   pub goes : (x : X) → IsIn x gone → IsIn x olds
+  pub comes_new : (x : X) → IsIn x come → IsIn x olds → IsIn x gone
+  pub gone_differ : Pairs (λ x y. same x y ≡ false) gone
+  pub come_differ : Pairs (λ x y. same x y ≡ false) come
 
 -- items that are apart are exact
 pub exact_of : {A : Type 0} {cmp : A → A → Ordering} (order : IsTotalOrder cmp) (xs : List A) → orders.Apart cmp xs → IsExact cmp xs
@@ -51,7 +54,7 @@ some_any {A} test (y ∷ ys) x at e = go (test y) refl at (some_any test ys x)
     go false is (inr at) later = later at e
 
 module _ {X A : Type 0} {cmp : A → A → Ordering} {g : X → List A} {p : X → A → Bool} {same : X → X → Bool} (told : Told cmp g p same)
-    (olds gone come news : List X) (moved : Moved olds gone come news)
+    (olds gone come news : List X) (moved : Moved same olds gone come news)
     (olds_differ : Pairs (λ x y. same x y ≡ false) olds) (news_differ : Pairs (λ x y. same x y ≡ false) news) where
   exact_olds : IsExact cmp (flat_map g olds)
   exact_olds = exact_of told.order (flat_map g olds) (groups_apart told olds olds_differ)

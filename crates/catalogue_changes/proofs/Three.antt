@@ -168,9 +168,9 @@ pub record MovedAll (f : Files) (db : Db) (after : Files) (new : Db) (going comi
   pub come_columns_are : coming.columns ≡ flat_map columns_of come_attributes
   pub gone_parts_are : going.parts ≡ flat_map parts_of gone_trees
   pub come_parts_are : coming.parts ≡ flat_map parts_of come_trees
-  pub entries : Moved (entries_for f db) going.entries coming.entries (entries_for after new)
-  pub columns : Moved (attributes_for f db) gone_attributes come_attributes (attributes_for after new)
-  pub trees : Moved (trees_for f db) gone_trees come_trees (trees_for after new)
+  pub entries : Moved same_file (entries_for f db) going.entries coming.entries (entries_for after new)
+  pub columns : Moved same_owner (attributes_for f db) gone_attributes come_attributes (attributes_for after new)
+  pub trees : Moved same_tree (trees_for f db) gone_trees come_trees (trees_for after new)
 
 module _ (f : Files) (db : Db) (after : Files) (new : Db) (going coming : Catalogue) (stands : Stands f db) (new_stands : Stands after new) (all : MovedAll f db after new going coming) where
   entries_after : in_order entry_cmp (entries_for after new) ≡ after_change entry_cmp going.entries coming.entries (in_order entry_cmp (entries_for f db))
