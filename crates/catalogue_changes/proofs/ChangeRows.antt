@@ -12,12 +12,12 @@ use Rattle.stored_database.specs.Printed.{Files, relation_entry, entries_for}
 use Rattle.stored_database.proofs.Members.{IsIn, in_map}
 use Rattle.stored_database.proofs.PrintedEntries.{told_entries}
 use Rattle.stored_database.proofs.Reading.{same_number}
-use Rattle.catalogue_changes.specs.Laws.{Agree, resizes, ChangesTheCatalogue}
+use Rattle.catalogue_changes.specs.Laws.{Agree, resizes}
 use Rattle.catalogue_changes.specs.Moves.{going, coming}
 use Rattle.catalogue_changes.proofs.Lists.{no_more_go, no_more_come, moved_three, moved_at, moved_still}
 use Rattle.catalogue_changes.proofs.Three.{attributes, same_file, same_owner, told_attributes, Stands, entries_are_apart, attributes_are_apart, trees_are_apart, relation_entries}
 use Rattle.catalogue_changes.proofs.Staying.{relation_keeps, relation_stays, relation_attributes_stay}
-use Rattle.catalogue_changes.proofs.Unmoved.{Moves, law_of, views_same, indexes_same, view_attributes_same, index_attributes_same, trees_same}
+use Rattle.catalogue_changes.proofs.Unmoved.{Moves, views_same, indexes_same, view_attributes_same, index_attributes_same, trees_same}
 
 module _ (rel : RelKey) (remove add : List Row) where
   -- a relation with its rows afterwards
@@ -58,9 +58,9 @@ module _ (rel : RelKey) (remove add : List Row) where
         ap (attributes after) (same_info r)
         ∙ relation_attributes_stay f after db (change.Rows rel remove add) stands new_stands agree r (its r) i (there r i) (ap (λ (i : RelInfo). i.key) (same_info r))
 
-  moves : Moves (change.Rows rel remove add)
+  pub rows : Moves (change.Rows rel remove add)
   unfolding laid going coming entries_for
-  moves db f after stands new_stands lawful agree = record {
+  rows db f after stands new_stands lawful agree = record {
     gone_attributes = [];
     come_attributes = [];
     gone_trees = [];
@@ -81,6 +81,3 @@ module _ (rel : RelKey) (remove add : List Row) where
         (index_attributes_same f after db (change.Rows rel remove add) stands new_stands agree (λ x at. at)) (attributes_are_apart f db stands) (attributes_are_apart after (laid db (change.Rows rel remove add)) new_stands);
     trees = trees_same f after db (change.Rows rel remove add) stands new_stands agree (λ v at. at) (λ p at. at) (λ p at. at) (trees_are_apart after (laid db (change.Rows rel remove add)) new_stands);
   }
-
-  pub rows : ChangesTheCatalogue (change.Rows rel remove add)
-  rows = law_of (change.Rows rel remove add) moves

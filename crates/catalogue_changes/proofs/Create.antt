@@ -16,12 +16,12 @@ use Rattle.stored_database.proofs.Members.{IsIn}
 use Rattle.stored_database.proofs.PrintedEntries.{told_entries}
 use Rattle.stored_database.proofs.PrintedTrees.{parts_are, trees_for}
 use Rattle.stored_database.proofs.Sets.{in_insert}
-use Rattle.catalogue_changes.specs.Laws.{resizes, ChangesTheCatalogue}
+use Rattle.catalogue_changes.specs.Laws.{resizes}
 use Rattle.catalogue_changes.specs.Moves.{going, coming, nothing}
 use Rattle.catalogue_changes.proofs.Lists.{moved_three, moved_in}
 use Rattle.catalogue_changes.proofs.Three.{relation_entries, relation_attributes, attributes, attributes_for, same_file, same_owner, told_attributes, columns_are, entries_are_apart, attributes_are_apart, trees_are_apart}
 use Rattle.catalogue_changes.proofs.Staying.{is_fresh, relation_there, relation_stays, relation_attributes_stay}
-use Rattle.catalogue_changes.proofs.Unmoved.{Moves, law_of, views_same, indexes_same, view_attributes_same, index_attributes_same, trees_same}
+use Rattle.catalogue_changes.proofs.Unmoved.{Moves, views_same, indexes_same, view_attributes_same, index_attributes_same, trees_same}
 
 module _ (info : RelInfo) (rows : List Row) where
   made : Relation
@@ -30,9 +30,9 @@ module _ (info : RelInfo) (rows : List Row) where
   abbrev by_key : Relation → Relation → Ordering
   by_key a b = key_cmp a.info.key b.info.key
 
-  moves : Moves (change.Create info rows)
+  pub create : Moves (change.Create info rows)
   unfolding made laid going coming entries_for adds_what_is_new resizes
-  moves db f after stands new_stands lawful agree = record {
+  create db f after stands new_stands lawful agree = record {
     gone_attributes = [];
     come_attributes = attributes_for after (record nothing { relations = made ∷ [] });
     gone_trees = [];
@@ -59,6 +59,3 @@ module _ (info : RelInfo) (rows : List Row) where
 
       kept : (r : Relation) → IsIn r db.relations → IsIn r (insert_by by_key made db.relations)
       kept r at = in_insert by_key made db.relations r (λ s k e. absurd (fresh s k e)) (inr at)
-
-  pub create : ChangesTheCatalogue (change.Create info rows)
-  create = law_of (change.Create info rows) moves

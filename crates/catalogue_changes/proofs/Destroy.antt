@@ -8,17 +8,17 @@ use Rattle.calculus.specs.Keys.{has_key}
 use Rattle.stored_database.specs.Printed.{relation_entry, view_entry, index_entry, entries_for}
 use Rattle.stored_database.proofs.PrintedEntries.{told_entries}
 use Rattle.stored_database.proofs.PrintedTrees.{parts_are, trees_for, same_tree, told_trees, view_tree, rule_tree, permit_tree}
-use Rattle.catalogue_changes.specs.Laws.{resizes, ChangesTheCatalogue}
+use Rattle.catalogue_changes.specs.Laws.{resizes}
 use Rattle.catalogue_changes.specs.Moves.{going, coming, destroyed}
 use Rattle.catalogue_changes.proofs.Lists.{among_rest, moved_three, moved_out}
 use Rattle.catalogue_changes.proofs.Three.{attributes, attributes_for, same_file, same_owner, told_attributes, columns_are, entries_are_apart, attributes_are_apart, trees_are_apart, relation_entries, view_entries, index_entries, relation_attributes, view_attributes, index_attributes, view_trees, rule_trees, permit_trees}
 use Rattle.catalogue_changes.proofs.Staying.{relation_stays, view_stays, index_stays, relation_attributes_stay, view_attributes_stay, index_attributes_stay, view_tree_stays, rule_tree_stays, permit_tree_stays}
-use Rattle.catalogue_changes.proofs.Unmoved.{Moves, law_of}
+use Rattle.catalogue_changes.proofs.Unmoved.{Moves}
 
 module _ (rels : List RelKey) where
-  moves : Moves (change.Destroy rels)
+  pub destroy : Moves (change.Destroy rels)
   unfolding laid going coming entries_for resizes
-  moves db f after stands new_stands lawful agree = record {
+  destroy db f after stands new_stands lawful agree = record {
     gone_attributes = attributes_for f (destroyed rels db);
     come_attributes = [];
     gone_trees = trees_for f (destroyed rels db);
@@ -52,6 +52,3 @@ module _ (rels : List RelKey) where
         (λ p at off. permit_tree_stays f after db (change.Destroy rels) stands new_stands agree p at (among_rest (λ p. has_key rels p.0) db.permits p at off)))
         (trees_are_apart f db stands) (trees_are_apart after (laid db (change.Destroy rels)) new_stands);
   }
-
-  pub destroy : ChangesTheCatalogue (change.Destroy rels)
-  destroy = law_of (change.Destroy rels) moves

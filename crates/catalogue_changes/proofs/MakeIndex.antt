@@ -14,12 +14,12 @@ use Rattle.stored_database.specs.Printed.{index_entry, entries_for, columns_from
 use Rattle.stored_database.proofs.Members.{IsIn}
 use Rattle.stored_database.proofs.PrintedEntries.{told_entries}
 use Rattle.stored_database.proofs.Sets.{in_insert}
-use Rattle.catalogue_changes.specs.Laws.{resizes, ChangesTheCatalogue}
+use Rattle.catalogue_changes.specs.Laws.{resizes}
 use Rattle.catalogue_changes.specs.Moves.{going, coming}
 use Rattle.catalogue_changes.proofs.Lists.{moved_three, moved_in}
 use Rattle.catalogue_changes.proofs.Three.{index_entries, index_attributes, attributes, same_file, same_owner, told_attributes, entries_are_apart, attributes_are_apart, trees_are_apart}
 use Rattle.catalogue_changes.proofs.Staying.{is_fresh, index_there, index_stays, index_attributes_stay}
-use Rattle.catalogue_changes.proofs.Unmoved.{Moves, law_of, relations_same, views_same, relation_attributes_same, view_attributes_same, trees_same}
+use Rattle.catalogue_changes.proofs.Unmoved.{Moves, relations_same, views_same, relation_attributes_same, view_attributes_same, trees_same}
 
 module _ (base : RelKey) (name keys : List ℕ) where
   made : Index
@@ -28,9 +28,9 @@ module _ (base : RelKey) (name keys : List ℕ) where
   abbrev by_key : Index → Index → Ordering
   by_key a b = key_cmp a.info.key b.info.key
 
-  moves : Moves (change.Index base name keys)
+  pub index : Moves (change.Index base name keys)
   unfolding made laid going coming entries_for columns_from adds_what_is_new resizes
-  moves db f after stands new_stands lawful agree = record {
+  index db f after stands new_stands lawful agree = record {
     gone_attributes = [];
     come_attributes = attributes after made.info ∷ [];
     gone_trees = [];
@@ -59,6 +59,3 @@ module _ (base : RelKey) (name keys : List ℕ) where
 
       kept : (x : Index) → IsIn x db.indexes → IsIn x (insert_by by_key made db.indexes)
       kept x at = in_insert by_key made db.indexes x (λ s k e. absurd (fresh s k e)) (inr at)
-
-  pub index : ChangesTheCatalogue (change.Index base name keys)
-  index = law_of (change.Index base name keys) moves

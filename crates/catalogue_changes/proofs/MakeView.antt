@@ -16,12 +16,12 @@ use Rattle.stored_database.proofs.Members.{IsIn}
 use Rattle.stored_database.proofs.PrintedEntries.{told_entries}
 use Rattle.stored_database.proofs.PrintedTrees.{parts_are, trees_for, same_tree, told_trees, view_tree}
 use Rattle.stored_database.proofs.Sets.{in_insert}
-use Rattle.catalogue_changes.specs.Laws.{resizes, ChangesTheCatalogue}
+use Rattle.catalogue_changes.specs.Laws.{resizes}
 use Rattle.catalogue_changes.specs.Moves.{going, coming, nothing}
 use Rattle.catalogue_changes.proofs.Lists.{moved_three, moved_in}
 use Rattle.catalogue_changes.proofs.Three.{view_entries, view_attributes, view_trees, attributes, attributes_for, same_file, same_owner, told_attributes, columns_are, entries_are_apart, attributes_are_apart, trees_are_apart}
 use Rattle.catalogue_changes.proofs.Staying.{is_fresh, view_there, view_stays, view_attributes_stay, view_tree_stays}
-use Rattle.catalogue_changes.proofs.Unmoved.{Moves, law_of, relations_same, indexes_same, relation_attributes_same, index_attributes_same, rule_trees_same, permit_trees_same}
+use Rattle.catalogue_changes.proofs.Unmoved.{Moves, relations_same, indexes_same, relation_attributes_same, index_attributes_same, rule_trees_same, permit_trees_same}
 
 module _ (info : RelInfo) (query : Query) where
   made : View
@@ -30,9 +30,9 @@ module _ (info : RelInfo) (query : Query) where
   abbrev by_key : View → View → Ordering
   by_key a b = key_cmp a.info.key b.info.key
 
-  moves : Moves (change.View info query)
+  pub view : Moves (change.View info query)
   unfolding made laid going coming entries_for adds_what_is_new resizes
-  moves db f after stands new_stands lawful agree = record {
+  view db f after stands new_stands lawful agree = record {
     gone_attributes = [];
     come_attributes = attributes_for after (record nothing { views = made ∷ [] });
     gone_trees = [];
@@ -63,6 +63,3 @@ module _ (info : RelInfo) (query : Query) where
 
       kept : (v : View) → IsIn v db.views → IsIn v (insert_by by_key made db.views)
       kept v at = in_insert by_key made db.views v (λ s k e. absurd (fresh s k e)) (inr at)
-
-  pub view : ChangesTheCatalogue (change.View info query)
-  view = law_of (change.View info query) moves

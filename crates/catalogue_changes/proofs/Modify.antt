@@ -14,12 +14,12 @@ use Rattle.stored_database.specs.Printed.{Files, relation_entry, index_entry, en
 use Rattle.stored_database.proofs.Members.{IsIn, in_map, filter_in, of_tests}
 use Rattle.stored_database.proofs.PrintedEntries.{told_entries}
 use Rattle.stored_database.proofs.Reading.{both}
-use Rattle.catalogue_changes.specs.Laws.{Agree, resizes, ChangesTheCatalogue}
+use Rattle.catalogue_changes.specs.Laws.{Agree, resizes}
 use Rattle.catalogue_changes.specs.Moves.{going, coming}
 use Rattle.catalogue_changes.proofs.Lists.{among_rest, no_more_come, moved_three, moved_at, moved_out, moved_still}
 use Rattle.catalogue_changes.proofs.Three.{attributes, columns_of, same_file, same_owner, told_attributes, Stands, entries_are_apart, attributes_are_apart, trees_are_apart, relation_entries, index_entries, index_attributes}
 use Rattle.catalogue_changes.proofs.Staying.{relation_stays, relation_attributes_stay, index_stays, index_attributes_stay}
-use Rattle.catalogue_changes.proofs.Unmoved.{Moves, law_of, views_same, view_attributes_same, trees_same}
+use Rattle.catalogue_changes.proofs.Unmoved.{Moves, views_same, view_attributes_same, trees_same}
 
 -- ---- indexes have no attributes
 
@@ -88,9 +88,9 @@ module _ (rel : RelKey) (to : Spec) (keys : List ℕ) where
     its_columns : [] ≡ flat_map columns_of (map (λ (x : Index). attributes f x.info) (filter (λ x. same_key x.base rel) db.indexes))
     its_columns = no_columns f (filter (λ x. same_key x.base rel) db.indexes) (λ x i. no_attributes db stands.is x (filter_in (λ x. same_key x.base rel) db.indexes x i).0)
 
-  moves : Moves (change.Modify rel to keys)
+  pub modify : Moves (change.Modify rel to keys)
   unfolding laid going coming entries_for
-  moves db f after stands new_stands lawful agree = record {
+  modify db f after stands new_stands lawful agree = record {
     gone_attributes = map (λ (x : Index). attributes f x.info) (filter (λ x. same_key x.base rel) db.indexes);
     come_attributes = [];
     gone_trees = [];
@@ -115,6 +115,3 @@ module _ (rel : RelKey) (to : Spec) (keys : List ℕ) where
         (attributes_are_apart f db stands) (attributes_are_apart after (laid db (change.Modify rel to keys)) new_stands);
     trees = trees_same f after db (change.Modify rel to keys) stands new_stands agree (λ v at. at) (λ p at. at) (λ p at. at) (trees_are_apart after (laid db (change.Modify rel to keys)) new_stands);
   }
-
-  pub modify : ChangesTheCatalogue (change.Modify rel to keys)
-  modify = law_of (change.Modify rel to keys) moves

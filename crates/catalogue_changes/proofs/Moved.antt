@@ -1,19 +1,23 @@
 -- Lists of which some items go and others come, and the sets of what each item gives.
-use Rattle.std.proofs.Common.{◌≡◌, refl, sym, ap, ap₂, subst, ◌∙◌, true≢false, inl, inr, Bool, true, false, not, ◌||◌, List, [], ◌∷◌, ◌++◌, filter}
+use Rattle.std.proofs.Common.{◌≡◌, refl, sym, ap, ap₂, subst, ◌∙◌, true≢false, inl, inr, Bool, true, false, not, ◌||◌, List, [], ◌∷◌, ◌++◌, filter, ℕ, suc, ◌==◌, length, Some, arith}
 use Rattle.std.specs.Prelude.{◌⊎◌}
 use Rattle.std.specs.Cmp.{IsTotalOrder}
-use Rattle.std.specs.List.{list_any, flat_map}
+use Rattle.std.specs.List.{AllByRecursion, Contains, list_any, flat_map}
 use Rattle.std.specs.Ordering.{is_eq}
 use Rattle.std.specs.declared.cmp.Ordering.{Ordering}
 use Rattle.std.specs.declared.cmp.Ordering.TheVariants.{Less, Equal, Greater}
 use Rattle.std.proofs.lemmas.Cmp.{tied_itself, tied_back}
-use Rattle.page_chain.specs.Lists.{in_order}
+use Rattle.page_chain.specs.Lists.{when, in_order, once}
 use Rattle.stored_database.proofs.Groups.{Told, groups_apart}
 use Rattle.stored_database.proofs.InOrder as orders
-use Rattle.stored_database.proofs.Members.{IsIn, of_all, in_first, in_second, in_either, in_filter, filter_in, in_flat_map, flat_map_in, apart_same}
-use Rattle.stored_database.proofs.Pairs.{Pairs, pairs_apart}
-use Rattle.stored_database.proofs.Sets.{IsExact, in_in_order, in_order_in, set_is, sorted_in_order}
-use Rattle.catalogue_changes.specs.After.{stays, after_change}
+use Rattle.stored_database.proofs.Members.{IsIn, Apart, of_all, all_of, in_first, in_second, in_either, in_filter, filter_in, in_flat_map, flat_map_in, apart_same}
+use Rattle.stored_database.proofs.Pairs.{Pairs, pairs_apart, pairs_append, pairs_filter}
+use Rattle.stored_database.proofs.Reading.{together}
+use Rattle.calculus.specs.Lists.{differ_by}
+use Rattle.std.proofs.lemmas.Bool.{eq-eqb}
+use Rattle.stored_database.proofs.InOrder.{length_in_order}
+use Rattle.stored_database.proofs.Sets.{IsExact, IsOnce, is_once, in_in_order, in_order_in, set_is, sorted_in_order}
+use Rattle.catalogue_changes.specs.After.{stays, after_change, IsChange}
 
 -- Some items of a list go, each of them once, and others come, each once; the rest stays, and what comes isn't among it.
 pub record Moved {X : Type 0} (same : X → X → Bool) (olds gone come news : List X) : Type 0 where
@@ -52,6 +56,57 @@ some_any {A} test (y ∷ ys) x at e = go (test y) refl at (some_any test ys x)
     go true is at later = refl
     go false is (inl f) later = cc (ap test f, is, e)
     go false is (inr at) later = later at e
+
+-- what is in a list is one of its items
+contained : {A : Type 0} (xs : List A) (x : A) → IsIn x xs → Contains xs x
+contained [] x at = absurd at
+contained (y ∷ ys) x (inl e) = (0, omega arith, sym e)
+contained (y ∷ ys) x (inr at) = let c = contained ys x at in (suc c.0, omega (arith, c.1), c.2)
+
+-- items of which no two pass differ
+differ_of : {A : Type 0} (same : A → A → Bool) (xs : List A) → Pairs (λ x y. same x y ≡ false) xs → differ_by same xs ≡ true
+differ_of same [] apart = refl
+differ_of same (x ∷ xs) apart =
+    together (not (list_any (same x) xs)) (differ_by same xs) (none_any (same x) xs (λ y at. of_all (λ y. same x y ≡ false) xs y apart.0 at)) (differ_of same xs apart.1)
+
+pairs_of : {A : Type 0} (same : A → A → Bool) (xs : List A) → Apart same xs → Pairs (λ x y. same x y ≡ false) xs
+pairs_of same [] apart = tt
+pairs_of same (x ∷ xs) apart = (apart.0, pairs_of same xs apart.1)
+
+when_true : {B : Type 0} (b : Bool) (x : B) → b ≡ true → when b x ≡ Some x
+when_true b x e = ap (λ b. when b x) e
+
+-- those of a list that pass and others that differ from them, wherever the list has the items of a set, each once
+once_lying : {A : Type 0} {cmp : A → A → Ordering} (order : IsTotalOrder cmp) (test : A → Bool) (set come : List A) → orders.Apart cmp come
+    → ((a b : A) → IsIn a set → test a ≡ true → IsIn b come → is_eq (cmp a b) ≡ false)
+    → (lying : List A) → once cmp lying ≡ Some set → once cmp (filter test lying ++ come) ≡ Some (in_order cmp (filter test set ++ come))
+once_lying {A} {cmp} order test set come come_apart differ lying is =
+    when_true (length (in_order cmp all) == length all) (in_order cmp all) (eq-eqb (length (in_order cmp all)) (length all) (length_in_order cmp all apart))
+    ∙ ap Some (set_is order (in_order cmp all) (filter test set ++ come) (sorted_in_order order all) to from)
+  where
+    were : IsOnce order lying set
+    were = is_once order lying set is
+
+    all : List A
+    all = filter test lying ++ come
+
+    apart : orders.Apart cmp all
+    apart = pairs_append (λ a b. is_eq (cmp a b) ≡ false) (filter test lying) come (pairs_filter (λ a b. is_eq (cmp a b) ≡ false) test lying (pairs_of (λ a b. is_eq (cmp a b)) lying were.apart)) come_apart
+        (all_of (λ a. AllByRecursion (λ b. is_eq (cmp a b) ≡ false) come) (filter test lying) (λ a at. all_of (λ b. is_eq (cmp a b) ≡ false) come (λ b bt. (
+          let f = filter_in test lying a at in
+          differ a b (were.to a f.0) f.1 bt))))
+
+    to : (a : A) → IsIn a (in_order cmp all) → IsIn a (filter test set ++ come)
+    to a at = elim (in_either (filter test lying) come a (in_order_in cmp all a at)) [
+      | inl k ↦ (let f = filter_in test lying a k in in_first (filter test set) come a (in_filter test set a (were.to a f.0) f.1))
+      | inr k ↦ in_second (filter test set) come a k
+    ]
+
+    from : (a : A) → IsIn a (filter test set ++ come) → IsIn a (in_order cmp all)
+    from a at = in_in_order cmp all a (exact_of order all apart) (elim (in_either (filter test set) come a at) [
+      | inl k ↦ (let f = filter_in test set a k in in_first (filter test lying) come a (in_filter test lying a (were.from a f.0) f.1))
+      | inr k ↦ in_second (filter test lying) come a k
+    ])
 
 module _ {X A : Type 0} {cmp : A → A → Ordering} {g : X → List A} {p : X → A → Bool} {same : X → X → Bool} (told : Told cmp g p same)
     (olds gone come news : List X) (moved : Moved same olds gone come news)
@@ -114,3 +169,38 @@ module _ {X A : Type 0} {cmp : A → A → Ordering} {g : X → List A} {p : X �
   unfolding kept
   set_after =
       set_is told.order (in_order cmp (flat_map g news)) (filter kept (in_order cmp (flat_map g olds)) ++ flat_map g come) (sorted_in_order told.order (flat_map g news)) to from
+
+  -- ---- the rows that lie somewhere
+
+  -- what stays and what comes is not equal
+  across : (a b : A) → IsIn a (in_order cmp (flat_map g olds)) → kept a ≡ true → IsIn b (flat_map g come) → is_eq (cmp a b) ≡ false
+  unfolding kept
+  across a b at stays bt = go (flat_map_in g olds a (in_order_in cmp (flat_map g olds) a at)) (flat_map_in g come b bt) (is_eq (cmp a b)) refl
+    where
+      not_gone : (x : X) → IsIn a (g x) → IsIn x gone → ⊥
+      not_gone x it k = true≢false (sym stays ∙ some_any (λ b. is_eq (cmp b a)) (flat_map g gone) a (in_flat_map g gone x a k it) (ap is_eq (tied_itself told.order a)))
+
+      apart : (x y : X) → IsIn x olds → IsIn y come → IsIn a (g x) → same x y ≡ true → IsIn x gone ⊎ IsIn x news → ⊥
+      apart x y i k it e (inl gone) = not_gone x it gone
+      apart x y i k it e (inr new) =
+          let is_one : x ≡ y = apart_same same (λ a b e. told.turned b a ∙ e) news x y (pairs_apart same news news_differ) new (moved.comes y k) e in
+          not_gone x it (moved.comes_new x (subst (λ z. IsIn z come) (sym is_one) k) i)
+
+      go : (x : X) × IsIn x olds × IsIn a (g x) → (y : X) × IsIn y come × IsIn b (g y) → (t : Bool) → is_eq (cmp a b) ≡ t → t ≡ false
+      go s u false e = refl
+      go s u true e =
+          let x = s.0 in
+          let y = u.0 in
+          let same_xy : same x y ≡ true = sym (tells x y b u.2) ∙ sym (told.equals x a b e) ∙ tells x x a s.2 ∙ told.itself x in
+          absurd (apart x y s.1 u.1 s.2 same_xy (moved.stay_or_go x s.1))
+
+  -- what goes is there, and what comes is new
+  pub set_changes : IsChange cmp (flat_map g gone) (flat_map g come) (in_order cmp (flat_map g olds))
+  unfolding kept
+  set_changes = record {
+    are_there = all_of (Contains (in_order cmp (flat_map g olds))) (flat_map g gone) (λ a at. (
+      let s = flat_map_in g gone a at in
+      contained (in_order cmp (flat_map g olds)) a (in_in_order cmp (flat_map g olds) a exact_olds (in_flat_map g olds s.0 a (moved.goes s.0 s.1) s.2))));
+    listed_once = differ_of (λ a b. is_eq (cmp a b)) (flat_map g gone) (groups_apart told gone moved.gone_differ);
+    in_any_order = once_lying told.order kept (in_order cmp (flat_map g olds)) (flat_map g come) (groups_apart told come moved.come_differ) across;
+  }

@@ -14,21 +14,21 @@ use Rattle.stored_database.specs.Printed.{entries_for}
 use Rattle.stored_database.proofs.Members.{IsIn}
 use Rattle.stored_database.proofs.PrintedTrees.{parts_are, trees_for, same_tree, told_trees, permit_tree}
 use Rattle.stored_database.proofs.Sets.{in_insert}
-use Rattle.catalogue_changes.specs.Laws.{resizes, ChangesTheCatalogue}
+use Rattle.catalogue_changes.specs.Laws.{resizes}
 use Rattle.catalogue_changes.specs.Moves.{going, coming, nothing, dropped_permits}
 use Rattle.catalogue_changes.proofs.Lists.{among_rest, moved_three, moved_out, moved_in}
 use Rattle.catalogue_changes.proofs.Numbered.{number_is_fresh}
 use Rattle.catalogue_changes.proofs.Three.{entries_are_apart, attributes_are_apart, attributes_for, columns_are, trees_are_apart, permit_trees}
 use Rattle.catalogue_changes.proofs.Staying.{permit_tree_stays}
-use Rattle.catalogue_changes.proofs.Unmoved.{Moves, law_of, entries_same, attributes_same, view_trees_same, rule_trees_same}
+use Rattle.catalogue_changes.proofs.Unmoved.{Moves, entries_same, attributes_same, view_trees_same, rule_trees_same}
 
 module _ (rel : RelKey) (made : Permit) where
   abbrev by_number : RelKey × Permit → RelKey × Permit → Ordering
   by_number = numbered_cmp (λ (p : Permit). p.number)
 
-  moves : Moves (change.Permit rel made)
+  pub permit : Moves (change.Permit rel made)
   unfolding laid going coming entries_for adds_what_is_new resizes
-  moves db f after stands new_stands lawful agree = record {
+  permit db f after stands new_stands lawful agree = record {
     gone_attributes = [];
     come_attributes = attributes_for after (record nothing { permits = (rel, made) ∷ [] });
     gone_trees = [];
@@ -53,13 +53,10 @@ module _ (rel : RelKey) (made : Permit) where
       kept : (p : RelKey × Permit) → IsIn p db.permits → IsIn p (insert_by by_number (rel, made) db.permits)
       kept p at = in_insert by_number (rel, made) db.permits p (λ s k e. absurd (fresh s k e)) (inr at)
 
-  pub permit : ChangesTheCatalogue (change.Permit rel made)
-  permit = law_of (change.Permit rel made) moves
-
 module _ (rel : RelKey) (numbers : List ℕ) where
-  drops : Moves (change.DropPermits rel numbers)
+  pub permits_dropped : Moves (change.DropPermits rel numbers)
   unfolding laid going coming entries_for resizes
-  drops db f after stands new_stands lawful agree = record {
+  permits_dropped db f after stands new_stands lawful agree = record {
     gone_attributes = attributes_for f (dropped_permits rel numbers db);
     come_attributes = [];
     gone_trees = trees_for f (dropped_permits rel numbers db);
@@ -77,6 +74,3 @@ module _ (rel : RelKey) (numbers : List ℕ) where
         (λ p at off. permit_tree_stays f after db (change.DropPermits rel numbers) stands new_stands agree p at (among_rest (λ p. same_key p.0 rel && has_number numbers p.1.number) db.permits p at off)))
         (trees_are_apart f db stands) (trees_are_apart after (laid db (change.DropPermits rel numbers)) new_stands);
   }
-
-  pub permits_dropped : ChangesTheCatalogue (change.DropPermits rel numbers)
-  permits_dropped = law_of (change.DropPermits rel numbers) drops

@@ -14,21 +14,21 @@ use Rattle.stored_database.specs.Printed.{entries_for}
 use Rattle.stored_database.proofs.Members.{IsIn}
 use Rattle.stored_database.proofs.PrintedTrees.{parts_are, trees_for, same_tree, told_trees, rule_tree}
 use Rattle.stored_database.proofs.Sets.{in_insert}
-use Rattle.catalogue_changes.specs.Laws.{resizes, ChangesTheCatalogue}
+use Rattle.catalogue_changes.specs.Laws.{resizes}
 use Rattle.catalogue_changes.specs.Moves.{going, coming, nothing, dropped_rules}
 use Rattle.catalogue_changes.proofs.Lists.{among_rest, moved_three, moved_out, moved_in}
 use Rattle.catalogue_changes.proofs.Numbered.{number_is_fresh}
 use Rattle.catalogue_changes.proofs.Three.{entries_are_apart, attributes_are_apart, attributes_for, columns_are, trees_are_apart, rule_trees}
 use Rattle.catalogue_changes.proofs.Staying.{rule_tree_stays}
-use Rattle.catalogue_changes.proofs.Unmoved.{Moves, law_of, entries_same, attributes_same, view_trees_same, permit_trees_same}
+use Rattle.catalogue_changes.proofs.Unmoved.{Moves, entries_same, attributes_same, view_trees_same, permit_trees_same}
 
 module _ (rel : RelKey) (made : Rule) where
   abbrev by_number : RelKey × Rule → RelKey × Rule → Ordering
   by_number = numbered_cmp (λ (p : Rule). p.number)
 
-  moves : Moves (change.Rule rel made)
+  pub rule : Moves (change.Rule rel made)
   unfolding laid going coming entries_for adds_what_is_new resizes
-  moves db f after stands new_stands lawful agree = record {
+  rule db f after stands new_stands lawful agree = record {
     gone_attributes = [];
     come_attributes = attributes_for after (record nothing { rules = (rel, made) ∷ [] });
     gone_trees = [];
@@ -53,13 +53,10 @@ module _ (rel : RelKey) (made : Rule) where
       kept : (p : RelKey × Rule) → IsIn p db.rules → IsIn p (insert_by by_number (rel, made) db.rules)
       kept p at = in_insert by_number (rel, made) db.rules p (λ s k e. absurd (fresh s k e)) (inr at)
 
-  pub rule : ChangesTheCatalogue (change.Rule rel made)
-  rule = law_of (change.Rule rel made) moves
-
 module _ (rel : RelKey) (numbers : List ℕ) where
-  drops : Moves (change.DropRules rel numbers)
+  pub rules_dropped : Moves (change.DropRules rel numbers)
   unfolding laid going coming entries_for resizes
-  drops db f after stands new_stands lawful agree = record {
+  rules_dropped db f after stands new_stands lawful agree = record {
     gone_attributes = attributes_for f (dropped_rules rel numbers db);
     come_attributes = [];
     gone_trees = trees_for f (dropped_rules rel numbers db);
@@ -77,6 +74,3 @@ module _ (rel : RelKey) (numbers : List ℕ) where
         (permit_trees_same f after db (change.DropRules rel numbers) stands new_stands agree (λ p at. at))
         (trees_are_apart f db stands) (trees_are_apart after (laid db (change.DropRules rel numbers)) new_stands);
   }
-
-  pub rules_dropped : ChangesTheCatalogue (change.DropRules rel numbers)
-  rules_dropped = law_of (change.DropRules rel numbers) drops

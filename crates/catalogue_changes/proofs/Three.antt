@@ -5,6 +5,7 @@ use Rattle.std.proofs.lemmas.List.Concat.{flat_map-append}
 use Rattle.std.proofs.lemmas.List.Folds.{flat_map-map}
 use Rattle.std.specs.List.{AllByRecursion, flat_map}
 use Rattle.std.specs.Ordering.{nat_cmp}
+use Rattle.std.specs.declared.cmp.Ordering.{Ordering}
 use Rattle.calculus.specs.declared.schema.Attr.{Attr}
 use Rattle.calculus.specs.declared.schema.RelInfo.{RelInfo}
 use Rattle.calculus.specs.Database.{Db, Relation, Index, View, entries, is_relation}
@@ -23,8 +24,8 @@ use Rattle.stored_database.proofs.PrintedColumns.{columns_tell, columns_ascend, 
 use Rattle.stored_database.proofs.PrintedEntries.{told_entries, singles, entries_differ, infos_differ, nat_equal, equal_turned}
 use Rattle.stored_database.proofs.PrintedTrees.{Tree, parts_of, same_tree, told_trees, view_tree, rule_tree, permit_tree, trees_for, parts_are, trees_differ}
 use Rattle.stored_database.proofs.Reading.{both, number_itself}
-use Rattle.catalogue_changes.specs.After.{after_change, changed}
-use Rattle.catalogue_changes.proofs.Moved.{Moved, set_after}
+use Rattle.catalogue_changes.specs.After.{after_change, changed, IsChange, AreChanges}
+use Rattle.catalogue_changes.proofs.Moved.{Moved, set_after, set_changes}
 
 -- ---- attributes
 
@@ -158,6 +159,10 @@ module _ (f : Files) (db : Db) (s : Stands f db) where
 
 -- ---- the three sets
 
+-- a change of a set, where the rows are the same
+carried : {A : Type 0} {cmp : A → A → Ordering} {g k c d s t : List A} → g ≡ k → c ≡ d → s ≡ t → IsChange cmp g c s → IsChange cmp k d t
+carried {A} {cmp} p q r = subst (λ (l : List A × List A × List A). IsChange cmp l.0 l.1 l.2) (λ i. (p i, q i, r i))
+
 -- What a catalogue is made of goes and comes.
 pub record MovedAll (f : Files) (db : Db) (after : Files) (new : Db) (going coming : Catalogue) : Type 0 where
   pub gone_attributes : List Attributes
@@ -194,3 +199,22 @@ module _ (f : Files) (db : Db) (after : Files) (new : Db) (going coming : Catalo
   pub catalogue_after : printed new after ≡ changed going coming (printed db f)
   unfolding printed changed
   catalogue_after = λ i. record { entries = entries_after i; columns = columns_after i; parts = parts_after i }
+
+  entries_change : IsChange entry_cmp going.entries coming.entries (in_order entry_cmp (entries_for f db))
+  entries_change =
+      carried (singles going.entries) (singles coming.entries) (ap (in_order entry_cmp) (singles (entries_for f db)))
+      (set_changes told_entries (entries_for f db) going.entries coming.entries (entries_for after new) all.entries (entries_are_apart f db stands) (entries_are_apart after new new_stands))
+
+  columns_change : IsChange column_cmp going.columns coming.columns (in_order column_cmp (columns_for f db))
+  columns_change =
+      carried (sym all.gone_columns_are) (sym all.come_columns_are) (ap (in_order column_cmp) (sym (columns_are f db)))
+      (set_changes told_attributes (attributes_for f db) all.gone_attributes all.come_attributes (attributes_for after new) all.columns (attributes_are_apart f db stands) (attributes_are_apart after new new_stands))
+
+  parts_change : IsChange part_cmp going.parts coming.parts (in_order part_cmp (parts_for f db))
+  parts_change =
+      carried (sym all.gone_parts_are) (sym all.come_parts_are) (ap (in_order part_cmp) (sym (parts_are f db)))
+      (set_changes told_trees (trees_for f db) all.gone_trees all.come_trees (trees_for after new) all.trees (trees_are_apart f db stands) (trees_are_apart after new new_stands))
+
+  pub rows_change : AreChanges going coming (printed db f)
+  unfolding printed
+  rows_change = record { entries = entries_change; columns = columns_change; parts = parts_change }

@@ -1,21 +1,24 @@
 -- Lists of a database that a change leaves alone, and the law from what goes and comes.
-use Rattle.std.proofs.Common.{◌≡◌, refl, false, [], ◌++◌, map}
+use Rattle.std.proofs.Common.{ℕ, ◌≡◌, refl, false, [], ◌++◌, map}
 use Rattle.calculus.specs.declared.query.RelKey.{RelKey}
 use Rattle.calculus.specs.declared.change.DbChange.{DbChange}
 use Rattle.calculus.specs.declared.schema.Permit.{Permit}
 use Rattle.calculus.specs.declared.schema.Rule.{Rule}
 use Rattle.calculus.specs.Change.{laid, IsLawful}
 use Rattle.calculus.specs.Database.{Db, Relation, View, Index}
-use Rattle.stored_database.specs.Printed.{Files, relation_entry, view_entry, index_entry, entries_for}
+use Rattle.page_chain.specs.Pages.{Pages}
+use Rattle.calculus.specs.IsDatabase.{IsDatabase}
+use Rattle.stored_database.specs.Printed.{Files, relation_entry, view_entry, index_entry, entries_for, printed, HasFiles}
 use Rattle.stored_database.proofs.Members.{IsIn}
 use Rattle.stored_database.proofs.Pairs.{Pairs}
 use Rattle.stored_database.proofs.PrintedEntries.{told_entries}
 use Rattle.stored_database.proofs.PrintedTrees.{told_trees, same_tree, view_tree, rule_tree, permit_tree, trees_for}
-use Rattle.catalogue_changes.specs.Laws.{Agree, resizes, ChangesTheCatalogue}
+use Rattle.catalogue_changes.specs.After.{changed, AreChanges}
+use Rattle.catalogue_changes.specs.Laws.{Agree, resizes}
 use Rattle.catalogue_changes.specs.Moves.{going, coming}
 use Rattle.catalogue_changes.proofs.Lists.{moved_three, moved_none}
 use Rattle.catalogue_changes.proofs.Moved.{Moved}
-use Rattle.catalogue_changes.proofs.Three.{attributes, attributes_for, same_file, same_owner, told_attributes, Stands, entries_are_apart, attributes_are_apart, trees_are_apart, MovedAll, catalogue_after}
+use Rattle.catalogue_changes.proofs.Three.{attributes, attributes_for, same_file, same_owner, told_attributes, Stands, entries_are_apart, attributes_are_apart, trees_are_apart, MovedAll, catalogue_after, rows_change}
 use Rattle.catalogue_changes.proofs.Staying.{relation_stays, view_stays, index_stays, relation_attributes_stay, view_attributes_stay, index_attributes_stay, view_tree_stays, rule_tree_stays, permit_tree_stays}
 
 module _ (f after : Files) (db : Db) (made : DbChange) (stands : Stands f db) (new_stands : Stands after (laid db made)) (agree : Agree db made f after) where
@@ -102,15 +105,23 @@ module _ (f after : Files) (db : Db) (made : DbChange) (stands : Stands f db) (n
   trees_same views rules permits new =
       moved_three same_tree told_trees.itself told_trees.turned (view_trees_same views) (rule_trees_same rules) (permit_trees_same permits) (trees_are_apart f db stands) new
 
--- ---- the law
+-- ---- the laws
 
 -- What goes and comes with a change, as its law has it.
 abbrev pub Moves : DbChange → Type 0
 Moves made = (db : Db) (f after : Files) → Stands f db → Stands after (laid db made) → IsLawful db made → Agree db made f after
     → MovedAll f db after (laid db made) (going f after db made) (coming f after db made)
 
-pub law_of : (made : DbChange) → Moves made → ChangesTheCatalogue made
-law_of made moves db pages pages_after f after is lawful has has_after agree =
-    let stands : Stands f db = record { files_differ = has.files_differ; is = is } in
-    let new_stands : Stands after (laid db made) = record { files_differ = has_after.files_differ; is = lawful.leaves_a_database } in
-    catalogue_after f db after (laid db made) (going f after db made) (coming f after db made) stands new_stands (moves db f after stands new_stands lawful agree)
+module _ (made : DbChange) (moves : Moves made) (db : Db) (pages pages_after : ℕ → Pages) (f after : Files) (is : IsDatabase db) (lawful : IsLawful db made)
+    (has : HasFiles db pages f) (has_after : HasFiles (laid db made) pages_after after) (agree : Agree db made f after) where
+  before : Stands f db
+  before = record { files_differ = has.files_differ; is = is }
+
+  later : Stands after (laid db made)
+  later = record { files_differ = has_after.files_differ; is = lawful.leaves_a_database }
+
+  pub its_catalogue : printed (laid db made) after ≡ changed (going f after db made) (coming f after db made) (printed db f)
+  its_catalogue = catalogue_after f db after (laid db made) (going f after db made) (coming f after db made) before later (moves db f after before later lawful agree)
+
+  pub its_rows : AreChanges (going f after db made) (coming f after db made) (printed db f)
+  its_rows = rows_change f db after (laid db made) (going f after db made) (coming f after db made) before later (moves db f after before later lawful agree)

@@ -9,7 +9,7 @@ use Rattle.calculus.specs.IsDatabase.{IsDatabase}
 use Rattle.calculus.specs.Keys.{same_key}
 use Rattle.page_chain.specs.Pages.{Pages}
 use Rattle.stored_database.specs.Printed.{Files, HasFiles, printed}
-use Rattle.catalogue_changes.specs.After.{changed}
+use Rattle.catalogue_changes.specs.After.{changed, AreChanges}
 use Rattle.catalogue_changes.specs.Moves.{going, coming}
 
 -- the change may give this relation more or fewer pages
@@ -35,3 +35,9 @@ abbrev pub ChangesTheCatalogue : DbChange → Type 0
 ChangesTheCatalogue made = (db : Db) (pages pages_after : ℕ → Pages) (f after : Files)
     → IsDatabase db → IsLawful db made → HasFiles db pages f → HasFiles (laid db made) pages_after after → Agree db made f after
     → printed (laid db made) after ≡ changed (going f after db made) (coming f after db made) (printed db f)
+
+-- And what goes is there, and what comes is new.
+abbrev pub ChangesRows : DbChange → Type 0
+ChangesRows made = (db : Db) (pages pages_after : ℕ → Pages) (f after : Files)
+    → IsDatabase db → IsLawful db made → HasFiles db pages f → HasFiles (laid db made) pages_after after → Agree db made f after
+    → AreChanges (going f after db made) (coming f after db made) (printed db f)
