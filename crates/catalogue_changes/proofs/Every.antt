@@ -26,7 +26,7 @@ every_move (change.DropPermits rel numbers) = permits_dropped rel numbers
 every_move (change.DropRules rel numbers) = rules_dropped rel numbers
 
 pub every_change : (made : DbChange) → ChangesTheCatalogue made
-every_change made db pages pages_after f after is lawful has has_after agree = its_catalogue made (every_move made) db pages pages_after f after is lawful has has_after agree
+every_change made db f after is lawful differ differ_after agree = its_catalogue made (every_move made) db f after is lawful differ differ_after agree
 
 pub every_row : (made : DbChange) → ChangesRows made
-every_row made db pages pages_after f after is lawful has has_after agree = its_rows made (every_move made) db pages pages_after f after is lawful has has_after agree
+every_row made db f after is lawful differ differ_after agree = its_rows made (every_move made) db f after is lawful differ differ_after agree

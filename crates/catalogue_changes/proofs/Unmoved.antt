@@ -1,20 +1,19 @@
 -- Lists of a database that a change leaves alone, and the law from what goes and comes.
-use Rattle.std.proofs.Common.{ℕ, ◌≡◌, refl, false, [], ◌++◌, map}
+use Rattle.std.proofs.Common.{◌≡◌, refl, false, [], ◌++◌, map}
 use Rattle.calculus.specs.declared.query.RelKey.{RelKey}
 use Rattle.calculus.specs.declared.change.DbChange.{DbChange}
 use Rattle.calculus.specs.declared.schema.Permit.{Permit}
 use Rattle.calculus.specs.declared.schema.Rule.{Rule}
 use Rattle.calculus.specs.Change.{laid, IsLawful}
 use Rattle.calculus.specs.Database.{Db, Relation, View, Index}
-use Rattle.page_chain.specs.Pages.{Pages}
 use Rattle.calculus.specs.IsDatabase.{IsDatabase}
-use Rattle.stored_database.specs.Printed.{Files, relation_entry, view_entry, index_entry, entries_for, printed, HasFiles}
+use Rattle.stored_database.specs.Printed.{Files, relation_entry, view_entry, index_entry, entries_for, printed}
 use Rattle.stored_database.proofs.Members.{IsIn}
 use Rattle.stored_database.proofs.Pairs.{Pairs}
 use Rattle.stored_database.proofs.PrintedEntries.{told_entries}
 use Rattle.stored_database.proofs.PrintedTrees.{told_trees, same_tree, view_tree, rule_tree, permit_tree, trees_for}
 use Rattle.catalogue_changes.specs.After.{changed, AreChanges}
-use Rattle.catalogue_changes.specs.Laws.{Agree, resizes}
+use Rattle.catalogue_changes.specs.Laws.{Agree, FilesDiffer, resizes}
 use Rattle.catalogue_changes.specs.Moves.{going, coming}
 use Rattle.catalogue_changes.proofs.Lists.{moved_three, moved_none}
 use Rattle.catalogue_changes.proofs.Moved.{Moved}
@@ -112,13 +111,13 @@ abbrev pub Moves : DbChange → Type 0
 Moves made = (db : Db) (f after : Files) → Stands f db → Stands after (laid db made) → IsLawful db made → Agree db made f after
     → MovedAll f db after (laid db made) (going f after db made) (coming f after db made)
 
-module _ (made : DbChange) (moves : Moves made) (db : Db) (pages pages_after : ℕ → Pages) (f after : Files) (is : IsDatabase db) (lawful : IsLawful db made)
-    (has : HasFiles db pages f) (has_after : HasFiles (laid db made) pages_after after) (agree : Agree db made f after) where
+module _ (made : DbChange) (moves : Moves made) (db : Db) (f after : Files) (is : IsDatabase db) (lawful : IsLawful db made)
+    (differ : FilesDiffer db f) (differ_after : FilesDiffer (laid db made) after) (agree : Agree db made f after) where
   before : Stands f db
-  before = record { files_differ = has.files_differ; is = is }
+  before = record { files_differ = differ; is = is }
 
   later : Stands after (laid db made)
-  later = record { files_differ = has_after.files_differ; is = lawful.leaves_a_database }
+  later = record { files_differ = differ_after; is = lawful.leaves_a_database }
 
   pub its_catalogue : printed (laid db made) after ≡ changed (going f after db made) (coming f after db made) (printed db f)
   its_catalogue = catalogue_after f db after (laid db made) (going f after db made) (coming f after db made) before later (moves db f after before later lawful agree)

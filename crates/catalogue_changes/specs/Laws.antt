@@ -1,14 +1,14 @@
 -- What a change of a database does to its catalogue.
-use Rattle.std.specs.Prelude.{◌≡◌, ℕ, Bool, true, false}
+use Rattle.std.specs.Prelude.{◌≡◌, nat_eq, Bool, true, false, map}
 use Rattle.calculus.specs.declared.query.RelKey.{RelKey}
 use Rattle.calculus.specs.declared.change.DbChange.{DbChange}
 use Rattle.calculus.specs.declared.change.DbChange.TheVariants as change
 use Rattle.calculus.specs.Change.{laid, IsLawful}
-use Rattle.calculus.specs.Database.{Db, is_there, is_relation}
+use Rattle.calculus.specs.Database.{Db, entries, is_there, is_relation}
 use Rattle.calculus.specs.IsDatabase.{IsDatabase}
 use Rattle.calculus.specs.Keys.{same_key}
-use Rattle.page_chain.specs.Pages.{Pages}
-use Rattle.stored_database.specs.Printed.{Files, HasFiles, printed}
+use Rattle.calculus.specs.Lists.{differ_by}
+use Rattle.stored_database.specs.Printed.{Files, printed}
 use Rattle.catalogue_changes.specs.After.{changed, AreChanges}
 use Rattle.catalogue_changes.specs.Moves.{going, coming}
 
@@ -30,14 +30,18 @@ pub record Agree (db : Db) (made : DbChange) (f after : Files) : Type 0 where
   pub file_stays : (key : RelKey) → is_there db key ≡ true → is_there (laid db made) key ≡ true → after.file key ≡ f.file key
   pub used_stays : (key : RelKey) → is_relation db key ≡ true → is_relation (laid db made) key ≡ true → resizes made key ≡ false → after.used key ≡ f.used key
 
+-- relations, views and indexes have files that differ
+abbrev pub FilesDiffer : Db → Files → Type 0
+FilesDiffer db f = differ_by nat_eq (map (λ i. f.file i.key) (entries db)) ≡ true
+
 -- The catalogue after a lawful change is the one before without the rows that go and with those that come.
 abbrev pub ChangesTheCatalogue : DbChange → Type 0
-ChangesTheCatalogue made = (db : Db) (pages pages_after : ℕ → Pages) (f after : Files)
-    → IsDatabase db → IsLawful db made → HasFiles db pages f → HasFiles (laid db made) pages_after after → Agree db made f after
+ChangesTheCatalogue made = (db : Db) (f after : Files)
+    → IsDatabase db → IsLawful db made → FilesDiffer db f → FilesDiffer (laid db made) after → Agree db made f after
     → printed (laid db made) after ≡ changed (going f after db made) (coming f after db made) (printed db f)
 
 -- And what goes is there, and what comes is new.
 abbrev pub ChangesRows : DbChange → Type 0
-ChangesRows made = (db : Db) (pages pages_after : ℕ → Pages) (f after : Files)
-    → IsDatabase db → IsLawful db made → HasFiles db pages f → HasFiles (laid db made) pages_after after → Agree db made f after
+ChangesRows made = (db : Db) (f after : Files)
+    → IsDatabase db → IsLawful db made → FilesDiffer db f → FilesDiffer (laid db made) after → Agree db made f after
     → AreChanges (going f after db made) (coming f after db made) (printed db f)
