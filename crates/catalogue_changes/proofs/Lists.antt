@@ -106,9 +106,9 @@ module _ {X : Type 0} (same : X → X → Bool) (itself : (x : X) → same x x �
       ]
     ];
     gone_differ = pairs_append (λ x y. same x y ≡ false) g h first.gone_differ second.gone_differ
-      (all_of (λ x. AllByRecursion (λ y. same x y ≡ false) h) g (λ x at. all_of (λ y. same x y ≡ false) h (λ y bt. crossing o p differ x y (first.goes x at) (second.goes y bt))));
+        (all_of (λ x. AllByRecursion (λ y. same x y ≡ false) h) g (λ x at. all_of (λ y. same x y ≡ false) h (λ y bt. crossing o p differ x y (first.goes x at) (second.goes y bt))));
     come_differ = pairs_append (λ x y. same x y ≡ false) c d first.come_differ second.come_differ
-      (all_of (λ x. AllByRecursion (λ y. same x y ≡ false) d) c (λ x at. all_of (λ y. same x y ≡ false) d (λ y bt. crossing n m new x y (first.comes x at) (second.comes y bt))));
+        (all_of (λ x. AllByRecursion (λ y. same x y ≡ false) d) c (λ x at. all_of (λ y. same x y ≡ false) d (λ y bt. crossing n m new x y (first.comes x at) (second.comes y bt))));
   }
 
   -- and in three
@@ -138,10 +138,10 @@ module _ {X : Type 0} (same : X → X → Bool) (itself : (x : X) → same x x �
           let s = map_in h (filter at ys) x i in
           subst (λ x. IsIn x (map h ys)) (sym s.2) (in_map h ys s.0 (filter_in at ys s.0 s.1).0));
       comes_new = λ x i old. (
-        let s = map_in new (filter at ys) x i in
-        let t = filter_in at ys s.0 s.1 in
-        let u = map_in h ys x old in
-        back x s.0 t.0 t.1 s.2 u.0 u.1 u.2 (at u.0) refl);
+          let s = map_in new (filter at ys) x i in
+          let t = filter_in at ys s.0 s.1 in
+          let u = map_in h ys x old in
+          back x s.0 t.0 t.1 s.2 u.0 u.1 u.2 (at u.0) refl);
       gone_differ = some_differ h at ys differ;
       come_differ = differ_too (λ y. after (its y)) new (filter at ys) (λ y i. (let t = filter_in at ys y i in comes y t.0 t.1)) (some_differ (λ y. after (its y)) at ys changed_differ);
     }

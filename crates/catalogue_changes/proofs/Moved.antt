@@ -93,8 +93,8 @@ once_lying {A} {cmp} order test set come come_apart differ lying is =
     apart : orders.Apart cmp all
     apart = pairs_append (λ a b. is_eq (cmp a b) ≡ false) (filter test lying) come (pairs_filter (λ a b. is_eq (cmp a b) ≡ false) test lying (pairs_of (λ a b. is_eq (cmp a b)) lying were.apart)) come_apart
         (all_of (λ a. AllByRecursion (λ b. is_eq (cmp a b) ≡ false) come) (filter test lying) (λ a at. all_of (λ b. is_eq (cmp a b) ≡ false) come (λ b bt. (
-          let f = filter_in test lying a at in
-          differ a b (were.to a f.0) f.1 bt))))
+        let f = filter_in test lying a at in
+        differ a b (were.to a f.0) f.1 bt))))
 
     to : (a : A) → IsIn a (in_order cmp all) → IsIn a (filter test set ++ come)
     to a at = elim (in_either (filter test lying) come a (in_order_in cmp all a at)) [
@@ -199,8 +199,8 @@ module _ {X A : Type 0} {cmp : A → A → Ordering} {g : X → List A} {p : X �
   unfolding kept
   set_changes = record {
     are_there = all_of (Contains (in_order cmp (flat_map g olds))) (flat_map g gone) (λ a at. (
-      let s = flat_map_in g gone a at in
-      contained (in_order cmp (flat_map g olds)) a (in_in_order cmp (flat_map g olds) a exact_olds (in_flat_map g olds s.0 a (moved.goes s.0 s.1) s.2))));
+        let s = flat_map_in g gone a at in
+        contained (in_order cmp (flat_map g olds)) a (in_in_order cmp (flat_map g olds) a exact_olds (in_flat_map g olds s.0 a (moved.goes s.0 s.1) s.2))));
     listed_once = differ_of (λ a b. is_eq (cmp a b)) (flat_map g gone) (groups_apart told gone moved.gone_differ);
     in_any_order = once_lying told.order kept (in_order cmp (flat_map g olds)) (flat_map g come) (groups_apart told come moved.come_differ) across;
   }
