@@ -13,3 +13,4 @@ pub mod Permits
 pub mod ChangeRows
 pub mod Modify
 pub mod Every
+pub mod FilesDiffer

@@ -64,7 +64,7 @@ contained (y ∷ ys) x (inl e) = (0, omega arith, sym e)
 contained (y ∷ ys) x (inr at) = let c = contained ys x at in (suc c.0, omega (arith, c.1), c.2)
 
 -- items of which no two pass differ
-differ_of : {A : Type 0} (same : A → A → Bool) (xs : List A) → Pairs (λ x y. same x y ≡ false) xs → differ_by same xs ≡ true
+pub differ_of : {A : Type 0} (same : A → A → Bool) (xs : List A) → Pairs (λ x y. same x y ≡ false) xs → differ_by same xs ≡ true
 differ_of same [] apart = refl
 differ_of same (x ∷ xs) apart =
     together (not (list_any (same x) xs)) (differ_by same xs) (none_any (same x) xs (λ y at. of_all (λ y. same x y ≡ false) xs y apart.0 at)) (differ_of same xs apart.1)

@@ -38,7 +38,7 @@ some_found {A} test (y ∷ ys) x at e = go (test y) refl at (some_found test ys 
 pub relation_is : (db : Db) (r : Relation) → IsIn r db.relations → is_relation db r.info.key ≡ true
 relation_is db r at = some_found (λ (s : Relation). same_key s.info.key r.info.key) db.relations r at (same_key_itself r.info.key)
 
-info_there : (db : Db) (i : RelInfo) → IsIn i (entries db) → is_there db i.key ≡ true
+pub info_there : (db : Db) (i : RelInfo) → IsIn i (entries db) → is_there db i.key ≡ true
 info_there db i at = some_found (λ (j : RelInfo). same_key j.key i.key) (entries db) i at (same_key_itself i.key)
 
 pub relation_there : (db : Db) (r : Relation) → IsIn r db.relations → is_there db r.info.key ≡ true

@@ -1,5 +1,5 @@
 -- What a change of a database does to its catalogue.
-use Rattle.std.specs.Prelude.{◌≡◌, nat_eq, Bool, true, false, map}
+use Rattle.std.specs.Prelude.{◌≡◌, ◌==◌, nat_eq, Bool, true, false, map}
 use Rattle.calculus.specs.declared.query.RelKey.{RelKey}
 use Rattle.calculus.specs.declared.change.DbChange.{DbChange}
 use Rattle.calculus.specs.declared.change.DbChange.TheVariants as change
@@ -45,3 +45,13 @@ abbrev pub ChangesRows : DbChange → Type 0
 ChangesRows made = (db : Db) (f after : Files)
     → IsDatabase db → IsLawful db made → FilesDiffer db f → FilesDiffer (laid db made) after → Agree db made f after
     → AreChanges (going f after db made) (coming f after db made) (printed db f)
+
+-- What a change makes has a file that nothing else has afterwards.
+abbrev pub NewFilesDiffer : Db → DbChange → Files → Type 0
+NewFilesDiffer db made after = (key other : RelKey)
+    → is_there db key ≡ false → is_there (laid db made) key ≡ true → is_there (laid db made) other ≡ true → same_key key other ≡ false → (after.file key == after.file other) ≡ false
+
+-- Where what is new has a file of its own and the files agree on what stays, they differ afterwards as they did before.
+abbrev pub FilesDifferAgain : DbChange → Type 0
+FilesDifferAgain made = (db : Db) (f after : Files)
+    → IsDatabase (laid db made) → FilesDiffer db f → Agree db made f after → NewFilesDiffer db made after → FilesDiffer (laid db made) after

@@ -4,4 +4,6 @@
 
 mod laws;
 
-pub use laws::{each_change_changes_the_catalogue, what_goes_is_there_and_what_comes_is_new};
+pub use laws::{
+    each_change_changes_the_catalogue, files_differ_again, what_goes_is_there_and_what_comes_is_new,
+};
