@@ -1,8 +1,10 @@
 -- Lists of which some items go and others come, and the sets of what each item gives.
-use Rattle.std.proofs.Common.{◌≡◌, refl, sym, ap, ap₂, subst, ◌∙◌, true≢false, inl, inr, Bool, true, false, not, ◌||◌, List, [], ◌∷◌, ◌++◌, filter, suc, ◌==◌, length, Some, arith}
-use Rattle.std.specs.Prelude.{◌⊎◌}
+use Rattle.std.proofs.Common.{◌≡◌, refl, sym, ap, ap₂, subst, ◌∙◌, true≢false, inl, inr, Bool, true, false, not, ◌||◌, List, [], ◌∷◌, ◌++◌, filter, suc, ◌==◌, length, Some, arith, zero, ◌<◌, ℕ}
+use Rattle.std.specs.Prelude.{◌⊎◌, slice_index_or}
 use Rattle.std.specs.Cmp.{IsTotalOrder}
 use Rattle.std.specs.List.{AllByRecursion, Contains, list_any, flat_map}
+use Rattle.std.specs.List.Sorted.{IsPermutation}
+use Rattle.std.proofs.lemmas.List.Sorted.{IsPermutation-sym, Contains-permutation, length_permutation}
 use Rattle.std.specs.Ordering.{is_eq}
 use Rattle.std.specs.declared.cmp.Ordering.{Ordering}
 use Rattle.std.specs.declared.cmp.Ordering.TheVariants.{Less, Equal, Greater}
@@ -16,7 +18,7 @@ use Rattle.stored_database.proofs.Reading.{together}
 use Rattle.calculus.specs.Lists.{differ_by}
 use Rattle.std.proofs.lemmas.Bool.{eq-eqb}
 use Rattle.stored_database.proofs.InOrder.{length_in_order}
-use Rattle.stored_database.proofs.Sets.{IsExact, IsOnce, is_once, in_in_order, in_order_in, set_is, sorted_in_order}
+use Rattle.stored_database.proofs.Sets.{IsExact, IsOnce, is_once, same_sets, in_in_order, in_order_in, set_is, sorted_in_order}
 use Rattle.catalogue_changes.specs.After.{stays, after_change, IsChange}
 
 -- Some items of a list go, each of them once, and others come, each once; the rest stays, and what comes isn't among it.
@@ -63,15 +65,48 @@ contained [] x at = absurd at
 contained (y ∷ ys) x (inl e) = (0, omega arith, sym e)
 contained (y ∷ ys) x (inr at) = let c = contained ys x at in (suc c.0, omega (arith, c.1), c.2)
 
+-- items that are apart, as pairs
+pairs_of : {A : Type 0} (same : A → A → Bool) (xs : List A) → Apart same xs → Pairs (λ x y. same x y ≡ false) xs
+pairs_of same [] apart = tt
+pairs_of same (x ∷ xs) apart = (apart.0, pairs_of same xs apart.1)
+
+-- and back
+within : {A : Type 0} (xs : List A) (x : A) → Contains xs x → IsIn x xs
+within {A} xs x c = go xs c.0 c.1 c.2
+  where
+    go : (xs : List A) (k : ℕ) → k < length xs → slice_index_or xs k x ≡ x → IsIn x xs
+    go [] k less e = absurd (omega (arith, less))
+    go (y ∷ ys) zero less e = inl (sym e)
+    go (y ∷ ys) (suc k) less e = inr (go ys k (omega (arith, less)) e)
+
+-- items that are there once are so in any order
+pub once_moved : {A : Type 0} {cmp : A → A → Ordering} (order : IsTotalOrder cmp) (xs ys set : List A) → IsPermutation ys xs → once cmp xs ≡ Some set → once cmp ys ≡ Some set
+once_moved {A} {cmp} order xs ys set moved is = (λ i. when (length (same i) == length_permutation xs ys back i) (same i)) ∙ is
+  where
+    back : IsPermutation xs ys
+    back = IsPermutation-sym ys xs moved
+
+    to : (a : A) → IsIn a xs → IsIn a ys
+    to a at = within ys a (Contains-permutation xs ys a back (contained xs a at))
+
+    from : (a : A) → IsIn a ys → IsIn a xs
+    from a at = within xs a (Contains-permutation ys xs a moved (contained ys a at))
+
+    exact_xs : IsExact cmp xs
+    exact_xs = exact_of order xs (pairs_of (λ a b. is_eq (cmp a b)) xs (is_once order xs set is).apart)
+
+    exact_ys : IsExact cmp ys
+    exact_ys a b at bt e = exact_xs a b (from a at) (from b bt) e
+
+    same : in_order cmp ys ≡ in_order cmp xs
+    same = same_sets order (in_order cmp ys) (in_order cmp xs) (sorted_in_order order ys) (sorted_in_order order xs)
+        (λ a at. in_in_order cmp xs a exact_xs (from a (in_order_in cmp ys a at))) (λ a at. in_in_order cmp ys a exact_ys (to a (in_order_in cmp xs a at)))
+
 -- items of which no two pass differ
 pub differ_of : {A : Type 0} (same : A → A → Bool) (xs : List A) → Pairs (λ x y. same x y ≡ false) xs → differ_by same xs ≡ true
 differ_of same [] apart = refl
 differ_of same (x ∷ xs) apart =
     together (not (list_any (same x) xs)) (differ_by same xs) (none_any (same x) xs (λ y at. of_all (λ y. same x y ≡ false) xs y apart.0 at)) (differ_of same xs apart.1)
-
-pairs_of : {A : Type 0} (same : A → A → Bool) (xs : List A) → Apart same xs → Pairs (λ x y. same x y ≡ false) xs
-pairs_of same [] apart = tt
-pairs_of same (x ∷ xs) apart = (apart.0, pairs_of same xs apart.1)
 
 when_true : {B : Type 0} (b : Bool) (x : B) → b ≡ true → when b x ≡ Some x
 when_true b x e = ap (λ b. when b x) e
@@ -202,5 +237,6 @@ module _ {X A : Type 0} {cmp : A → A → Ordering} {g : X → List A} {p : X �
         let s = flat_map_in g gone a at in
         contained (in_order cmp (flat_map g olds)) a (in_in_order cmp (flat_map g olds) a exact_olds (in_flat_map g olds s.0 a (moved.goes s.0 s.1) s.2))));
     listed_once = differ_of (λ a b. is_eq (cmp a b)) (flat_map g gone) (groups_apart told gone moved.gone_differ);
-    in_any_order = once_lying told.order kept (in_order cmp (flat_map g olds)) (flat_map g come) (groups_apart told come moved.come_differ) across;
+    in_any_order = λ lying now is turned. once_moved told.order (filter kept lying ++ flat_map g come) now (in_order cmp (filter kept (in_order cmp (flat_map g olds)) ++ flat_map g come)) turned
+        (once_lying told.order kept (in_order cmp (flat_map g olds)) (flat_map g come) (groups_apart told come moved.come_differ) across lying is);
   }

@@ -1,6 +1,7 @@
 -- A catalogue after rows of it went and others came.
 use Rattle.std.specs.Prelude.{◌≡◌, Bool, true, not, List, ◌++◌, filter, Some}
 use Rattle.std.specs.List.{AllByRecursion, Contains, list_any}
+use Rattle.std.specs.List.Sorted.{IsPermutation}
 use Rattle.std.specs.Ordering.{is_eq, eq_by_cmp}
 use Rattle.std.specs.declared.cmp.Ordering.{Ordering}
 use Rattle.calculus.specs.Lists.{differ_by}
@@ -18,11 +19,11 @@ stays cmp going x = not (list_any (λ y. is_eq (cmp y x)) going)
 abbrev pub after_change : {A : Type 0} → (A → A → Ordering) → List A → List A → List A → List A
 after_change cmp going coming set = in_order cmp (filter (stays cmp going) set ++ coming)
 
--- Rows that go from a set and rows that come to it: those that go are in the set, each listed once; and wherever the rows of the set lie in another order, of those that stay and those that come no two are equal, and they are the set afterwards.
+-- Rows that go from a set and rows that come to it: those that go are in the set, each listed once; and wherever the rows of the set lie, in whatever order, those that stay with those that come, again in whatever order, are no two equal, and they are the set afterwards.
 pub record IsChange {A : Type 0} (cmp : A → A → Ordering) (going coming set : List A) : Type 0 where
   pub are_there : AllByRecursion (Contains set) going
   pub listed_once : differ_by (eq_by_cmp cmp) going ≡ true
-  pub in_any_order : (lying : List A) → once cmp lying ≡ Some set → once cmp (filter (stays cmp going) lying ++ coming) ≡ Some (after_change cmp going coming set)
+  pub in_any_order : (lying now : List A) → once cmp lying ≡ Some set → IsPermutation now (filter (stays cmp going) lying ++ coming) → once cmp now ≡ Some (after_change cmp going coming set)
 
 -- So it is in each of the three sets of a catalogue.
 pub record AreChanges (going coming cat : Catalogue) : Type 0 where
