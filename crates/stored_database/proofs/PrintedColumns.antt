@@ -38,7 +38,7 @@ then_equal Greater p e = absurd (true≢false (sym e))
 
 -- ---- the columns of a file
 
-columns_tell : (n file place : ℕ) (attrs : List Attr) → AllByRecursion (λ (c : Column). (c.file == n) ≡ (file == n)) (columns_from file place attrs)
+pub columns_tell : (n file place : ℕ) (attrs : List Attr) → AllByRecursion (λ (c : Column). (c.file == n) ≡ (file == n)) (columns_from file place attrs)
 unfolding columns_from
 columns_tell n file place [] = tt
 columns_tell n file place (a ∷ attrs) = (refl, columns_tell n file (suc place) attrs)
@@ -49,7 +49,7 @@ unfolding columns_from
 columns_behind file place later a [] less = tt
 columns_behind file place later a (b ∷ attrs) less = (then_less file (nat_cmp place later) (nat_less place later less), columns_behind file place (suc later) a attrs (omega arith))
 
-columns_ascend : (file place : ℕ) (attrs : List Attr) → IsStrictlySortedBy column_cmp (columns_from file place attrs)
+pub columns_ascend : (file place : ℕ) (attrs : List Attr) → IsStrictlySortedBy column_cmp (columns_from file place attrs)
 unfolding columns_from IsStrictlySortedBy
 columns_ascend file place [] = tt
 columns_ascend file place (a ∷ attrs) = (columns_behind file place (suc place) a attrs (omega arith), columns_ascend file (suc place) attrs)

@@ -40,7 +40,7 @@ equal_turned m n = nat_eq_equiv.symm m n
 -- ---- entries
 
 -- each entry alone, by its file
-told_entries : Told entry_cmp (λ e. e ∷ []) (λ (e a : Entry). a.file == e.file) (λ (e a : Entry). a.file == e.file)
+pub told_entries : Told entry_cmp (λ e. e ∷ []) (λ (e a : Entry). a.file == e.file) (λ (e a : Entry). a.file == e.file)
 unfolding IsStrictlySortedBy
 told_entries = record {
   order = entry_total;
@@ -51,7 +51,7 @@ told_entries = record {
   ascends = λ x. (tt, tt);
 }
 
-singles : {A : Type 0} (xs : List A) → flat_map (λ x. x ∷ []) xs ≡ xs
+pub singles : {A : Type 0} (xs : List A) → flat_map (λ x. x ∷ []) xs ≡ xs
 singles [] = refl
 singles (x ∷ xs) = ap (λ l. x ∷ l) (singles xs)
 
@@ -78,7 +78,7 @@ module _ (f : Files) where
     infos_differ = pairs_unmap (λ (m n : ℕ). (n == m) ≡ false) (λ (i : RelInfo). f.file i.key) (entries db)
         (pairs_then (λ (m n : ℕ). (m == n) ≡ false) (λ (m n : ℕ). (n == m) ≡ false) _ (λ m n e. equal_turned n m ∙ e) (differ_pairs nat_eq _ differ))
 
-    entries_differ : Pairs (λ (a b : Entry). (b.file == a.file) ≡ false) (entries_for f db)
+    pub entries_differ : Pairs (λ (a b : Entry). (b.file == a.file) ≡ false) (entries_for f db)
     entries_differ = pairs_unmap (λ (m n : ℕ). (n == m) ≡ false) (λ (e : Entry). e.file) (entries_for f db)
         (pairs_then (λ (m n : ℕ). (m == n) ≡ false) (λ (m n : ℕ). (n == m) ≡ false) _ (λ m n e. equal_turned n m ∙ e)
         (differ_pairs nat_eq _ (ap (differ_by nat_eq) (file_numbers db) ∙ differ)))

@@ -1,0 +1,16 @@
+pub mod Lists
+pub mod Moved
+pub mod Three
+pub mod Staying
+pub mod Unmoved
+pub mod Create
+pub mod MakeIndex
+pub mod MakeView
+pub mod Destroy
+pub mod Numbered
+pub mod Rules
+pub mod Permits
+pub mod ChangeRows
+pub mod Modify
+pub mod Every
+pub mod FilesDiffer
