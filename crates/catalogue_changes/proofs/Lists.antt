@@ -5,7 +5,7 @@ use Rattle.std.specs.List.{AllByRecursion}
 use Rattle.std.specs.declared.cmp.Ordering.{Ordering}
 use Rattle.std.specs.declared.cmp.Ordering.TheVariants.{Equal}
 use Rattle.calculus.specs.Lists.{insert_by}
-use Rattle.stored_database.proofs.Groups.{append_nil}
+use Rattle.std.proofs.lemmas.List.{append-nil}
 use Rattle.stored_database.proofs.Members.{IsIn, of_all, all_of, in_first, in_second, in_either, in_filter, filter_in, in_map, map_in, apart_same}
 use Rattle.stored_database.proofs.Pairs.{Pairs, pairs_apart, pairs_unmap, pairs_behind, pairs_append, pairs_map, pairs_filter}
 use Rattle.stored_database.proofs.Sets.{insert_in, in_insert}
@@ -29,10 +29,10 @@ among_rest at ys y i off = in_filter (besides at) ys y i (fails (at y) off)
 
 -- nothing more goes, or comes
 pub no_more_go : {X : Type 0} {same : X → X → Bool} {o g c n : List X} → Moved same o (g ++ []) c n → Moved same o g c n
-no_more_go {X} {same} {o} {g} {c} {n} = subst (λ l. Moved same o l c n) (append_nil g)
+no_more_go {X} {same} {o} {g} {c} {n} = subst (λ l. Moved same o l c n) (append-nil g)
 
 pub no_more_come : {X : Type 0} {same : X → X → Bool} {o g c n : List X} → Moved same o g (c ++ []) n → Moved same o g c n
-no_more_come {X} {same} {o} {g} {c} {n} = subst (λ l. Moved same o g l n) (append_nil c)
+no_more_come {X} {same} {o} {g} {c} {n} = subst (λ l. Moved same o g l n) (append-nil c)
 
 module _ {X : Type 0} (same : X → X → Bool) (itself : (x : X) → same x x ≡ true) (turned : (x y : X) → same x y ≡ same y x) where
   abbrev Differ : List X → Type 0

@@ -11,7 +11,6 @@ use Rattle.std.specs.declared.cmp.Ordering.TheVariants.{Less, Equal, Greater}
 use Rattle.std.proofs.lemmas.Cmp.{tied_itself, tied_back}
 use Rattle.page_chain.specs.Lists.{when, in_order, once}
 use Rattle.stored_database.proofs.Groups.{Told, groups_apart}
-use Rattle.stored_database.proofs.InOrder as orders
 use Rattle.stored_database.proofs.Members.{IsIn, Apart, of_all, all_of, in_first, in_second, in_either, in_filter, filter_in, in_flat_map, flat_map_in, apart_same}
 use Rattle.stored_database.proofs.Pairs.{Pairs, pairs_apart, pairs_append, pairs_filter}
 use Rattle.stored_database.proofs.Reading.{together}
@@ -31,8 +30,12 @@ pub record Moved {X : Type 0} (same : X → X → Bool) (olds gone come news : L
   pub gone_differ : Pairs (λ x y. same x y ≡ false) gone
   pub come_differ : Pairs (λ x y. same x y ≡ false) come
 
+-- no two of these items are equal
+abbrev pub IsApart : {A : Type 0} → (A → A → Ordering) → List A → Type 0
+IsApart cmp = Pairs (λ x y. is_eq (cmp x y) ≡ false)
+
 -- items that are apart are exact
-pub exact_of : {A : Type 0} {cmp : A → A → Ordering} (order : IsTotalOrder cmp) (xs : List A) → orders.Apart cmp xs → IsExact cmp xs
+pub exact_of : {A : Type 0} {cmp : A → A → Ordering} (order : IsTotalOrder cmp) (xs : List A) → IsApart cmp xs → IsExact cmp xs
 exact_of {A} {cmp} order xs apart a b at bt e =
     apart_same (λ x y. is_eq (cmp x y)) (turn order) xs a b (pairs_apart (λ x y. is_eq (cmp x y)) xs apart) at bt (ap is_eq e)
   where
@@ -112,7 +115,7 @@ when_true : {B : Type 0} (b : Bool) (x : B) → b ≡ true → when b x ≡ Some
 when_true b x e = ap (λ b. when b x) e
 
 -- those of a list that pass and others that differ from them, wherever the list has the items of a set, each once
-once_lying : {A : Type 0} {cmp : A → A → Ordering} (order : IsTotalOrder cmp) (test : A → Bool) (set come : List A) → orders.Apart cmp come
+once_lying : {A : Type 0} {cmp : A → A → Ordering} (order : IsTotalOrder cmp) (test : A → Bool) (set come : List A) → IsApart cmp come
     → ((a b : A) → IsIn a set → test a ≡ true → IsIn b come → is_eq (cmp a b) ≡ false)
     → (lying : List A) → once cmp lying ≡ Some set → once cmp (filter test lying ++ come) ≡ Some (in_order cmp (filter test set ++ come))
 once_lying {A} {cmp} order test set come come_apart differ lying is =
@@ -125,7 +128,7 @@ once_lying {A} {cmp} order test set come come_apart differ lying is =
     all : List A
     all = filter test lying ++ come
 
-    apart : orders.Apart cmp all
+    apart : IsApart cmp all
     apart = pairs_append (λ a b. is_eq (cmp a b) ≡ false) (filter test lying) come (pairs_filter (λ a b. is_eq (cmp a b) ≡ false) test lying (pairs_of (λ a b. is_eq (cmp a b)) lying were.apart)) come_apart
         (all_of (λ a. AllByRecursion (λ b. is_eq (cmp a b) ≡ false) come) (filter test lying) (λ a at. all_of (λ b. is_eq (cmp a b) ≡ false) come (λ b bt. (
         let f = filter_in test lying a at in
