@@ -4,13 +4,14 @@ ghost use Rattle.calculus.specs.declared.value.Domain.TheVariants.{I2 as TwoByte
 ghost use Rattle.page_cells.specs.RowBytes.{is_row};
 
 use crate::counting::Counting;
-use access::open_method;
+use access::{Method, open_method};
 use access_traits::{AccessMethod, PageStore, RelFile};
 use am_traits::BaseFault;
 use calculus::{Domain, List, Place, Probe, Row, Spec, Value};
 use disk_model::{Addr, Page};
 use heap_am::Heap;
 use page_cells::{fresh_page, put_row, set_next};
+use page_chain::chain_rows;
 use std::alloc::Global;
 use std::process::Abort;
 use std::test::*;
@@ -295,16 +296,76 @@ fn a_page_that_is_not_of_its_form_is_named(rt: HostRuntime) {
     }
 }
 
+/// A file of the rows 5, 6 and 7.
+fn opened(alloc: Global, rt: &impl Abort, store: &mut Counting) -> Method
+    ensures file { result.heap.file.domains ≡ TwoBytes ∷ [] }
+    ensures used { result.heap.file.used ≡ 1 }
+{
+    let heap = built(alloc, rt, store, 5, 8);
+    drop(heap);
+    open_method(file(alloc, rt))
+}
+
 #[test]
-fn a_method_is_the_structure_that_it_has(rt: HostRuntime) {
+fn a_method_gives_and_takes_single_rows(rt: HostRuntime) {
     let alloc = rt.alloc();
     let mut store = Counting::new(alloc);
-    let heap = built(alloc, &rt, &mut store, 5, 8);
-    drop(heap);
-    let method = open_method(file(alloc, &rt));
-    let at = Place { page: 0, line: 1 };
-    let found = method.row_at(alloc, &mut store, &at).expect(&rt, "row");
-    assert!(rt; found.is_some_and(|row| number(&row) == 6));
+    let mut method = opened(alloc, &rt, &mut store);
+    let new = row(alloc, &rt, 9);
+    let place = method.add(alloc, &mut store, &new).expect(&rt, "add");
+    assert!(rt; place.page == 0 && place.line == 3);
+    let found = method.row_at(alloc, &mut store, &place).expect(&rt, "row");
+    assert!(rt; found.is_some_and(|row| number(&row) == 9));
+    let from = method.remove(alloc, &mut store, &new).expect(&rt, "remove");
+    assert!(rt; from.is_some_and(|at| at.page == 0 && at.line == 3));
+    drop(new);
     drop(method);
+    drop(store);
+}
+
+#[test]
+fn a_method_gives_its_rows(rt: HostRuntime) {
+    let alloc = rt.alloc();
+    let mut store = Counting::new(alloc);
+    let method = opened(alloc, &rt, &mut store);
+    let every = Probe {
+        equal: List::of(Vec::new(alloc)),
+    };
+    let mut at = Place { page: 0, line: 0 };
+    let mut chains = None;
+    let found = method
+        .scan_on(alloc, &mut store, &every, &mut chains, &mut at)
+        .expect(&rt, "scan");
+    assert!(rt; found.is_some_and(|row| number(&row) == 5));
+    let found = method
+        .scan(alloc, &mut store, &every, &mut at)
+        .expect(&rt, "scan");
+    assert!(rt; found.is_some_and(|row| number(&row) == 6));
+    let lines = method.page_rows(alloc, &mut store, 0).expect(&rt, "rows");
+    assert!(rt; lines.items().len() == 3);
+    drop(lines);
+    drop(every);
+    drop(method);
+    drop(store);
+}
+
+#[test]
+fn a_method_replaces_rows(rt: HostRuntime) {
+    let alloc = rt.alloc();
+    let mut store = Counting::new(alloc);
+    let mut method = opened(alloc, &rt, &mut store);
+    let going = rows(alloc, &rt, 5, 6);
+    let coming = rows(alloc, &rt, 20, 22);
+    if coming.len() > 1000 {
+        rt.panic("so many");
+    }
+    let done = method.replace(alloc, &mut store, going.as_slice(), coming.as_slice());
+    assert!(rt; done.expect(&rt, "replace"));
+    drop(going);
+    drop(coming);
+    drop(method);
+    let found = chain_rows(alloc, &mut store, 16, 100).expect(&rt, "rows");
+    assert!(rt; found.rows.items().len() == 4 && found.last == 0);
+    drop(found);
     drop(store);
 }
