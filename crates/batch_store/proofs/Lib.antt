@@ -1,3 +1,4 @@
 pub mod Numbering
+pub mod Reopened
 pub mod Runs
 pub mod Stands

@@ -1,0 +1,74 @@
+//! A store over a disk of which nothing is known yet.
+
+use crate::BatchStore;
+use crate::staging::forget;
+use batch_file::{Batch, RestoreFault, Restored};
+use disk_model::{Disk, DiskFailed};
+use std::alloc::Global;
+use std::collections::HashMap;
+
+impl<D: Disk> BatchStore<D> {
+    ghost use Rattle.std.specs.Prelude.{◌≡◌, ℕ, IsTrue, OnOk, OnErr, Err, Some, None, true, false};
+    ghost use Rattle.fault_io.specs.Causes.{HasCause};
+    ghost use Rattle.disk_model.specs.Disk.{Elapses, IsSettled, LeavesOnly};
+    ghost use Rattle.disk_model.specs.declared.disk.Addr.{Addr as At};
+    ghost use Rattle.batch_file.specs.Faults.{FailsBy};
+    ghost use Rattle.batch_file.specs.OnDisk.{SameRedone, IsClosed};
+    ghost use Rattle.batch_file.specs.Redone.{kept, redone};
+    ghost use Rattle.batch_store.specs.Store.{disk_of, waiting, is_due, pages_of};
+
+    /// A store over a disk of which nothing is known yet: a restore is due.
+    pub fn unopened(alloc: Global, disk: D) -> BatchStore<D>
+        ensures disk { disk_of result ≡ disk }
+        ensures empty { waiting result ≡ 0 }
+        ensures due { is_due result ≡ true }
+    {
+        BatchStore {
+            disk,
+            batch: Batch::begin(),
+            numbers: HashMap::new(alloc),
+            given: None,
+            there: false,
+            page: [0; 1024],
+            due: true,
+        }
+    }
+
+    /// Waits until all that was written is durable. A restore is due then.
+    fn settle(&mut self) -> Result<(), DiskFailed>
+        ensures settled { IsTrue D.tells → OnOk result (IsSettled (D.touched (disk_of self.new))) }
+        ensures seen { IsTrue D.tells → D.seen (disk_of self.new) ≡ D.seen (disk_of self.old) }
+        ensures touched { IsTrue D.tells → (b : At) → D.touched (disk_of self.new) b → D.touched (disk_of self.old) b }
+        ensures time { IsTrue D.tells → Elapses D.seen D.touched D.clock D.left_since (disk_of self.old) (disk_of self.new) }
+        ensures begun { waiting self.new ≡ 0 }
+        ensures due { is_due self.new ≡ true }
+        ensures cause { HasCause (D.faults (disk_of self.old)) (D.faults (disk_of self.new)) result }
+    {
+        forget(&mut self.batch, &mut self.numbers);
+        self.given = None;
+        self.due = true;
+        self.disk.sync()
+    }
+
+    /// Restores as `restore` does, once all that was written before is durable. So what the disk stands
+    /// for once its batch is laid is the same afterwards, also after an error.
+    pub fn reopen(&mut self) -> Result<Restored, RestoreFault>
+        ensures same { IsTrue D.tells → redone (D.seen (disk_of self.new)) ≡ redone (D.seen (disk_of self.old)) }
+        ensures done { IsTrue D.tells →
+            OnOk result (redone (D.seen (disk_of self.old)) ≡ Some (kept (D.seen (disk_of self.new)))) }
+        ensures damaged { IsTrue D.tells → (file page : ℕ) → result ≡ Err (RestoreFault.Damaged file page)
+            → redone (D.seen (disk_of self.old)) ≡ None }
+        ensures closed { IsTrue D.tells →
+            OnOk result (IsClosed (D.seen (disk_of self.new)) (D.touched (disk_of self.new))) }
+        ensures crash { IsTrue D.tells →
+            LeavesOnly D.clock D.left_since (disk_of self.old) (disk_of self.new)
+            (SameRedone (D.seen (disk_of self.old)) (D.touched (disk_of self.old))) }
+        ensures begun { waiting self.new ≡ 0 }
+        ensures calm { OnOk result (is_due self.new ≡ false) }
+        ensures due { OnErr result (is_due self.new ≡ true) }
+        ensures cause { FailsBy (D.faults (disk_of self.old)) (D.faults (disk_of self.new)) result }
+    {
+        self.settle()?;
+        self.restore()
+    }
+}
