@@ -1,0 +1,5 @@
+pub mod Behind
+pub mod Cuts
+pub mod Fields
+pub mod Lengths
+pub mod Tests
