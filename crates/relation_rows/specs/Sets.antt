@@ -1,0 +1,21 @@
+-- The set of rows on the pages of a file.
+use Rattle.std.specs.Prelude.{◌≡◌, ℕ, true, IsTrue, List, All, Option, Some}
+use Rattle.calculus.specs.declared.value.Domain.{Domain}
+use Rattle.calculus.specs.Rows.{Row, has}
+use Rattle.disk_model.specs.Disk.{Image}
+use Rattle.disk_model.specs.declared.disk.Addr.{Addr}
+use Rattle.access_traits.specs.Placed.{rows_differ}
+use Rattle.access_traits.specs.declared.file.RelFile.{RelFile}
+use Rattle.page_chain.specs.Pages.{pages_of}
+use Rattle.page_chain.specs.Rows.{reader, set_on}
+
+-- The pages are told, and on those of this file, so many, are these rows.
+pub record HasSet (domains : List Domain) (file used : ℕ) (rows : List Row) (told : Option Image) : Type 0 where
+  pub image : Image
+  pub told_still : told ≡ Some image
+  pub are : set_on (reader domains) used (pages_of image file) ≡ Some rows
+
+-- The pages of the file hold no set in which these rows are, each listed once.
+abbrev pub HasNoneOf : RelFile → List Row → Image → Addr → Type 0
+HasNoneOf file remove m a = (rows : List Row) → set_on (reader file.domains) file.used (pages_of m file.file) ≡ Some rows
+    → rows_differ remove ≡ true → All (λ row. IsTrue (has rows row)) remove → ⊥

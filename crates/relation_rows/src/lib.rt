@@ -1,0 +1,8 @@
+//! The rows of a relation's file as a set: all of them read, some changed, and a file made with them.
+#![tactic(auto)]
+
+mod changing;
+mod reading;
+
+pub use changing::{build_rows, change_rows};
+pub use reading::relation_rows;
