@@ -1,0 +1,13 @@
+pub mod Shuffles
+pub mod Members
+pub mod Once
+pub mod Steps
+pub mod Rounds
+pub mod Ranged
+pub mod Waiting
+pub mod Fits
+pub mod FitViews
+pub mod Whole
+pub mod Stuck
+pub mod Starts
+pub mod Told
