@@ -1,0 +1,11 @@
+pub mod Both
+pub mod Catalogues
+pub mod Each
+pub mod Makes
+pub mod Places
+pub mod Sides
+pub mod Sorted
+pub mod Spellings
+pub mod SpellsSchema
+pub mod Tried
+pub mod WholeTrees

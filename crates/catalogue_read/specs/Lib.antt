@@ -1,0 +1,5 @@
+pub mod Laws
+pub mod PartsMade
+pub mod Read
+pub mod Rows
+pub mod Splitting
