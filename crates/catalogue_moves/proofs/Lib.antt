@@ -1,0 +1,16 @@
+pub mod ByPlaces
+pub mod Coming
+pub mod GoneEntries
+pub mod GoneParts
+pub mod KeptBases
+pub mod Known
+pub mod Lawful
+pub mod LeftBases
+pub mod MadeBases
+pub mod OfChanges
+pub mod OnBase
+pub mod Placing
+pub mod ReadBases
+pub mod ReadTables
+pub mod Spelled
+pub mod Tables

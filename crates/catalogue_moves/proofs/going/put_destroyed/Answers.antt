@@ -1,0 +1,49 @@
+use Rattle.std.proofs.Common.{◌∙◌, subst, map}
+use Rattle.std.specs.List.{flat_map}
+use Rattle.calculus.specs.Database.{Db}
+use Rattle.plain_base.specs.Shown.{database_of}
+use Rattle.stored_database.specs.Columns.{column_bytes}
+use Rattle.stored_database.specs.Entries.{entry_bytes}
+use Rattle.catalogue_moves.specs.declared.files.FilePlace.{FilePlace}
+use Rattle.catalogue_moves.specs.declared.gone.Sort.TheVariants as sort
+use Rattle.catalogue_moves.specs.Files.{places_of, files_of}
+use Rattle.catalogue_moves.specs.Gone.{gone_entries, gone_columns}
+use Rattle.catalogue_moves.specs.Moves.{Came}
+use Rattle.catalogue_moves.proofs.Coming.{came_then}
+use Rattle.catalogue_moves.proofs.GoneEntries.{entries_gone, columns_gone}
+use Rattle.catalogue_moves.proofs.GoneParts.{on_ok}
+use Rattle.catalogue_moves.proofs.going.put_destroyed.Goals as goal
+
+pub returns-clause-entries : goal.returns-clause-entries
+returns-clause-entries c bases =
+    let db = database_of c.args.plain.now in
+    let second = c.in_ok-put_all_gone.ensures.same in
+    let third = c.in_ok-put_all_gone-2.ensures.same ∙ second in
+    let old = c.args.rows.now.entries.items in
+    let one = c.put_all_gone.new.rows.entries.items in
+    let two = c.put_all_gone-2.new.rows.entries.items in
+    let three = c.put_all_gone-3.new.rows.entries.items in
+    on_ok c.put_all_gone-3.result
+    (λ h. subst (Came old three) (entries_gone db c.requires.base c.args.files.now bases c.args.rels.now)
+    (came_then old one three _ _ c.in_ok-put_all_gone.ensures.entries
+    (came_then one two three _ _
+    (subst (λ (db : Db). Came one two (flat_map (λ (p : FilePlace). map entry_bytes (gone_entries sort.View c.args.rels.now (files_of c.args.files.now) db p)) (places_of c.args.files.now))) second c.in_ok-put_all_gone-2.ensures.entries)
+    (subst (λ (db : Db). Came two three (flat_map (λ (p : FilePlace). map entry_bytes (gone_entries sort.Index c.args.rels.now (files_of c.args.files.now) db p)) (places_of c.args.files.now))) third h))))
+    c.put_all_gone-3.ensures.entries
+
+pub returns-clause-columns : goal.returns-clause-columns
+returns-clause-columns c bases =
+    let db = database_of c.args.plain.now in
+    let second = c.in_ok-put_all_gone.ensures.same in
+    let third = c.in_ok-put_all_gone-2.ensures.same ∙ second in
+    let old = c.args.rows.now.columns.items in
+    let one = c.put_all_gone.new.rows.columns.items in
+    let two = c.put_all_gone-2.new.rows.columns.items in
+    let three = c.put_all_gone-3.new.rows.columns.items in
+    on_ok c.put_all_gone-3.result
+    (λ h. subst (Came old three) (columns_gone db c.requires.base c.args.files.now bases c.args.rels.now)
+    (came_then old one three _ _ c.in_ok-put_all_gone.ensures.columns
+    (came_then one two three _ _
+    (subst (λ (db : Db). Came one two (flat_map (λ (p : FilePlace). map column_bytes (gone_columns sort.View c.args.rels.now (files_of c.args.files.now) db p)) (places_of c.args.files.now))) second c.in_ok-put_all_gone-2.ensures.columns)
+    (subst (λ (db : Db). Came two three (flat_map (λ (p : FilePlace). map column_bytes (gone_columns sort.Index c.args.rels.now (files_of c.args.files.now) db p)) (places_of c.args.files.now))) third h))))
+    c.put_all_gone-3.ensures.columns

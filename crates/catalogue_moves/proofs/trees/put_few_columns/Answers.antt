@@ -1,0 +1,13 @@
+use Rattle.std.proofs.Common.{refl}
+use Rattle.stored_database.specs.Printed.{columns_from}
+use Rattle.catalogue_moves.proofs.Coming.{came_none, columns_more}
+use Rattle.catalogue_moves.proofs.trees.put_few_columns.Goals as goal
+
+pub loop-i-init : goal.loop-i-init
+unfolding columns_from
+loop-i-init c = came_none c.args.rows.now.items c.args.rows.now.items refl
+
+pub loop-i-preserved : goal.loop-i-preserved
+loop-i-preserved c =
+    columns_more c.args.file c.args.attrs.now c.loop-i.i c.index-attrs-i.result c.loop-i-test.true c.index-attrs-i.is c.args.rows.now.items c.loop-i.rows.items c.put_column.new.rows.items
+    c.loop-i.invariant c.in_ok-put_column.ensures

@@ -1,0 +1,4 @@
+pub mod Bases
+pub mod Files
+pub mod Gone
+pub mod Moves

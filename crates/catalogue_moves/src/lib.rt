@@ -1,0 +1,23 @@
+//! Which file each relation, view and index has; and the rows of the catalogues that go and come with a
+//! change.
+#![tactic(auto)]
+
+mod asked;
+mod changing;
+mod dropping;
+mod files;
+mod going;
+mod gone;
+mod gone_trees;
+mod key_set;
+mod keys;
+mod making;
+mod moving;
+mod rows;
+mod trees;
+mod writing;
+
+pub use files::{FilePlace, FileTable};
+pub use key_set::KeySet;
+pub use moving::moves;
+pub use rows::{FileMoves, Moves};
