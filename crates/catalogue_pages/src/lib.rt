@@ -1,0 +1,6 @@
+//! Rows of the three catalogues go and come on their pages.
+#![tactic(auto)]
+
+mod writing;
+
+pub use writing::{Ends, write_moves};
