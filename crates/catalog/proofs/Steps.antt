@@ -1,0 +1,112 @@
+-- The steps by which a change is laid.
+use Rattle.std.proofs.Common.{◌≡◌, refl, sym, ap, subst, ◌∙◌, ℕ, Bool, true, false, List, [], ◌∷◌, map, Option, Some}
+use Rattle.std.specs.Prelude.{OnOk, Result, Ok, Err}
+use Rattle.access_traits.specs.Causes.{IsAtFault}
+use Rattle.calculus.specs.declared.query.RelKey.{RelKey}
+use Rattle.calculus.specs.declared.change.DbChange.{DbChange}
+use Rattle.calculus.specs.declared.change.DbChange.TheVariants as change
+use Rattle.calculus.specs.Change.{IsLawful, laid}
+use Rattle.calculus.specs.Database.{Db, Relation}
+use Rattle.calculus.specs.IsDatabase.{IsDatabase}
+use Rattle.calculus.specs.Keys.{same_key}
+use Rattle.calculus.specs.Replacement.{with_rows, without_rows}
+use Rattle.calculus.specs.Rows.{Row}
+use Rattle.calculus.specs.Schema.{bare, schema_of}
+use Rattle.disk_model.specs.Disk.{Image}
+use Rattle.disk_model.specs.declared.disk.Addr.{Addr}
+use Rattle.page_chain.specs.Pages.{pages_of}
+use Rattle.plain_base.specs.Shown.{database_of}
+use Rattle.plain_base.specs.declared.db_plain.DbPlain.{DbPlain}
+use Rattle.stored_database.specs.Catalogue.{Catalogue, catalogue_in}
+use Rattle.stored_database.specs.Printed.{printed}
+use Rattle.catalogue_changes.specs.After.{changed}
+use Rattle.catalogue_moves.specs.Bases.{IndexBases}
+use Rattle.catalogue_moves.specs.Files.{files_of, is_in}
+use Rattle.catalogue_moves.specs.Moves.{HavePlaces}
+use Rattle.catalogue_pages.specs.declared.writing.Ends.{Ends}
+use Rattle.catalogue_pages.specs.Ends.{AreEnds, NoCatalogue, Written}
+use Rattle.loaded_laws.specs.Loaded.{knows_rows}
+use Rattle.catalog.specs.Knows.{Knows, KnowsAfter, KnowsNoneFor}
+use Rattle.catalog.specs.Laid.{MayTake, NoneMayTake, HasMade, IsPrepared, IsKept, going_of, coming_of}
+use Rattle.catalog.specs.declared.catalog.Catalog.{Catalog}
+use Rattle.catalog.proofs.Known.{may_take, part_lawful, ends_there, catalogue_there, part_bases, prepared, known_then}
+
+-- the same is known where the database in memory is the same
+pub knows_same : (c : Catalog) (p : DbPlain) (m : Image) (db : Db) → database_of p ≡ database_of c.plain → Knows c m db → Knows (record c { plain = p }) m db
+knows_same c p m db e knows = record { plain = e ∙ knows.plain; catalogue = knows.catalogue; has = knows.has; ends = knows.ends; owners = knows.owners; bases = knows.bases }
+
+-- what is known when all steps are done
+pub write_knows : (c : Catalog) (p q : DbPlain) (now : Catalog) (m : Image) (db : Db) (made : DbChange) (file used : ℕ) (ends : Ends) (mid told : Option Image)
+    → database_of p ≡ database_of c.plain → database_of q ≡ database_of p → IsDatabase db → Knows c m db → IsLawful db made → knows_rows made (is_in c.loaded) ≡ true
+    → (MayTake (database_of c.plain) db (files_of c.files) made m → HasMade made db (files_of c.files) file used m mid)
+    → HavePlaces (coming_of made (files_of c.files) file used (database_of p))
+    → ((n : Image) (cat : Catalogue) → mid ≡ Some n → AreEnds n c.ends → catalogue_in (pages_of n) ≡ Some cat → IndexBases c.files (database_of p) → IsPrepared made (files_of c.files) file used (database_of p) cat
+    → Written n told ends (changed (going_of made (files_of c.files) file used (database_of p)) (coming_of made (files_of c.files) file used (database_of p)) cat))
+    → IsKept (record c { plain = q }) now made file used → KnowsAfter (record now { ends = ends }) m told db made
+write_knows c p q now m db made file used ends mid told same again is knows lawful read makes places writes kept =
+    let its = makes (may_take c m db made is knows lawful) in
+    let cat = printed db (files_of c.files) in
+    let written = writes its.image cat its.told_still (ends_there c m db made is knows lawful file used mid its) (catalogue_there c m db made is knows lawful file used mid its)
+    (subst (IndexBases c.files) (sym same) (part_bases c m db knows)) (subst (λ d. IsPrepared made (files_of c.files) file used d cat) (sym same) (prepared c m db made is knows lawful read file used mid its)) in
+    known_then c m db made is knows lawful read file used mid its now told
+    (record {
+      plain = kept.plain ∙ ap (λ (d : Db). laid d made) (again ∙ same);
+      loaded = kept.loaded;
+      places = kept.places;
+      ends_stay = kept.ends_stay;
+    })
+    (subst (λ d. HavePlaces (coming_of made (files_of c.files) file used d)) same places) ends
+    (subst (λ d. Written its.image told ends (changed (going_of made (files_of c.files) file used d) (coming_of made (files_of c.files) file used d) cat)) same written)
+
+-- damage to the pages of a relation
+pub pages_fault : (c : Catalog) (made : DbChange) (old : Option Image) (a : Addr) → IsAtFault old (NoneMayTake (database_of c.plain) (files_of c.files) made) a → IsAtFault old (KnowsNoneFor c made) a
+pages_fault c made old a fault m is db base knows lawful = fault m is db (may_take c m db made base knows lawful)
+
+-- and to those of the catalogues
+pub catalogue_fault : (c : Catalog) (made : DbChange) (file used : ℕ) (old mid : Option Image)
+    → ((m : Image) (db : Db) → old ≡ Some m → MayTake (database_of c.plain) db (files_of c.files) made m → HasMade made db (files_of c.files) file used m mid)
+    → (a : Addr) → IsAtFault mid (NoCatalogue c.ends) a → IsAtFault old (KnowsNoneFor c made) a
+catalogue_fault c made file used old mid makes a fault m is db base knows lawful =
+    let its = makes m db is (may_take c m db made base knows lawful) in
+    fault its.image its.told_still (printed db (files_of c.files)) (catalogue_there c m db made base knows lawful file used mid its) (ends_there c m db made base knows lawful file used mid its)
+
+-- ---- schemas
+
+-- rows that go and come leave the schema
+bare_changed : (rel : RelKey) (remove add : List Row) (rs : List Relation)
+    → map bare (map (λ r. elim (same_key r.info.key rel) as (λ b. Relation) [ true ↦ record r { rows = with_rows add (without_rows remove r.rows) } | false ↦ r ]) rs) ≡ map bare rs
+bare_changed rel remove add [] = refl
+bare_changed rel remove add (r ∷ rs) = (λ i. go (same_key r.info.key rel) i ∷ bare_changed rel remove add rs i)
+  where
+    go : (b : Bool) → bare (elim b as (λ b. Relation) [ true ↦ record r { rows = with_rows add (without_rows remove r.rows) } | false ↦ r ]) ≡ bare r
+    go true = refl
+    go false = refl
+
+rows_leave_schema : (rel : RelKey) (remove add : List Row) (db : Db) → schema_of (laid db (change.Rows rel remove add)) ≡ schema_of db
+unfolding schema_of laid
+rows_leave_schema rel remove add db = λ i. record db { relations = bare_changed rel remove add db.relations i }
+
+-- a change makes the same schema of databases that are the same but for rows that are read
+pub schema_laid : (made : DbChange) (a b : Db) → schema_of a ≡ schema_of b → (knows_rows made (λ key. false) ≡ true → a ≡ b) → schema_of (laid a made) ≡ schema_of (laid b made)
+unfolding knows_rows
+schema_laid (change.Rows rel remove add) a b same exact = rows_leave_schema rel remove add a ∙ same ∙ sym (rows_leave_schema rel remove add b)
+schema_laid (change.Create info rows) a b same exact = ap (λ (d : Db). schema_of (laid d (change.Create info rows))) (exact refl)
+schema_laid (change.Destroy rels) a b same exact = ap (λ (d : Db). schema_of (laid d (change.Destroy rels))) (exact refl)
+schema_laid (change.Modify rel to keys) a b same exact = ap (λ (d : Db). schema_of (laid d (change.Modify rel to keys))) (exact refl)
+schema_laid (change.Index base name keys) a b same exact = ap (λ (d : Db). schema_of (laid d (change.Index base name keys))) (exact refl)
+schema_laid (change.View info query) a b same exact = ap (λ (d : Db). schema_of (laid d (change.View info query))) (exact refl)
+schema_laid (change.Permit rel permit) a b same exact = ap (λ (d : Db). schema_of (laid d (change.Permit rel permit))) (exact refl)
+schema_laid (change.Rule rel rule) a b same exact = ap (λ (d : Db). schema_of (laid d (change.Rule rel rule))) (exact refl)
+schema_laid (change.DropPermits rel numbers) a b same exact = ap (λ (d : Db). schema_of (laid d (change.DropPermits rel numbers))) (exact refl)
+schema_laid (change.DropRules rel numbers) a b same exact = ap (λ (d : Db). schema_of (laid d (change.DropRules rel numbers))) (exact refl)
+
+-- ---- a change that isn't lawful
+
+-- where what is in memory isn't one of which the change is lawful, it is none of a database of which it is
+pub unlawful : (c : Catalog) (made : DbChange) (m : Image) (db : Db) → knows_rows made (is_in c.loaded) ≡ true → (IsLawful (database_of c.plain) made → ⊥) → IsDatabase db → Knows c m db → IsLawful db made → ⊥
+unlawful c made m db read off is knows lawful = off (part_lawful c m db made is knows lawful read)
+
+-- what follows of what holds where a call succeeded
+pub on_ok : {T E : Type 0} (r : Result T E) (P Q : Type 0) → (P → Q) → OnOk r P → OnOk r Q
+on_ok (Ok x) P Q then h = then h
+on_ok (Err e) P Q then h = h

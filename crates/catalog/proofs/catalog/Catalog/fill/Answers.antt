@@ -1,0 +1,30 @@
+use Rattle.std.proofs.Common.{◌∙◌, refl, sym, ap, subst, arith}
+use Rattle.calculus.specs.Stored.{rows_at}
+use Rattle.catalogue_moves.specs.Files.{files_of}
+use Rattle.catalog.specs.Filling.{IsFileOf}
+use Rattle.catalog.proofs.Filled.{knows_same, no_file_none, other_rows_are, rows_are}
+use Rattle.catalog.proofs.catalog.Catalog.fill.Goals as goal
+
+pub returns-then-has-clause-rows : goal.returns-then-has-clause-rows
+returns-then-has-clause-rows g c m db told is k = rows_are c.args.self.now m db c.args.key.now k (sym c.has.ensures ∙ c.if-has.true)
+
+pub returns-then-not-branch-clause-rows : goal.returns-then-not-branch-clause-rows
+returns-then-not-branch-clause-rows g c m db told is k =
+    ap (λ d. rows_at d c.args.key.now) c.in_ok-is_stored.ensures.same ∙ other_rows_are c.args.self.now m db c.args.key.now k (sym c.in_ok-is_stored.ensures.there ∙ c.if-not-branch.true)
+
+pub read-requires-clause-file : goal.read-requires-clause-file
+read-requires-clause-file g c =
+    subst (λ d. IsFileOf d (files_of c.args.self.now.files) c.args.key.now c.in-Some.file) (sym c.in_ok-file.ensures.same) (c.in_ok-file.ensures.there c.in-Some.file c.in-Some.is)
+
+pub returns-in-Some-clause-knows : goal.returns-in-Some-clause-knows
+returns-in-Some-clause-knows g c m db told is k =
+    c.read.ensures.knows m db told is
+    (knows_same c.args.self.now (record c.args.self.now { plain = c.relation_file.new.plain }) m db
+    (record { plain = c.in_ok-file.ensures.same ∙ c.in_ok-is_stored.ensures.same; loaded = λ key. refl; files = refl; ends_stay = refl }) k)
+
+pub returns-in-None-clause-cause : goal.returns-in-None-clause-cause
+returns-in-None-clause-cause g c = record {
+  later = omega arith;
+  caused = λ m told. no_file_none c.args.self.now m c.args.key.now (record { file = 5; page = 0 })
+      (sym c.in_ok-is_stored.ensures.there ∙ c.if-not-branch.false) (c.in_ok-file.ensures.none c.in-None.is);
+}

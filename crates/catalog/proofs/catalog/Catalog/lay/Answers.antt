@@ -1,0 +1,23 @@
+use Rattle.std.proofs.Common.{◌≡◌, ◌∙◌, sym, ap, true≢false}
+use Rattle.calculus.specs.Change.{laid}
+use Rattle.calculus.specs.Schema.{schema_of}
+use Rattle.plain_base.specs.Shown.{database_of}
+use Rattle.catalog.proofs.Steps.{on_ok, schema_laid, unlawful}
+use Rattle.catalog.proofs.catalog.Catalog.lay.Goals as goal
+
+pub returns-then-not-branch-clause-cause : goal.returns-then-not-branch-clause-cause
+returns-then-not-branch-clause-cause g c = record {
+  later = c.read_for.ensures.cause.later;
+  caused = λ m is db base knows lawful.
+      unlawful c.read_for.new.self c.args.change.now m db (sym c.rows_are_known.ensures ∙ c.if-not-rows_are_known.false)
+      (λ l. true≢false (sym (c.in_ok-is_lawful.ensures.lawful.1 l) ∙ c.if-not-branch.true)) base (c.read_for.ensures.knows m db is base knows) lawful;
+}
+
+pub returns-clause-schema : goal.returns-clause-schema
+returns-clause-schema g c =
+    on_ok c.write.result (database_of c.write.new.self.plain ≡ laid (database_of c.is_lawful.new.plain) c.args.change.now)
+    (schema_of (database_of c.write.new.self.plain) ≡ schema_of (laid (database_of c.args.self.now.plain) c.args.change.now))
+    (λ e. ap schema_of e
+    ∙ schema_laid c.args.change.now (database_of c.is_lawful.new.plain) (database_of c.args.self.now.plain)
+    (ap schema_of c.is_lawful.ensures.same ∙ c.read_for.ensures.schema) (λ known. c.is_lawful.ensures.same ∙ c.read_for.ensures.exact known))
+    c.write.ensures.plain

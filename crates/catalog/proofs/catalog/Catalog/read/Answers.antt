@@ -1,0 +1,37 @@
+use Rattle.std.proofs.Common.{◌∙◌, arith}
+use Rattle.heap_am.specs.Heap.{HeapFault}
+use Rattle.plain_base.specs.Shown.{database_of}
+use Rattle.calculus.specs.Schema.{schema_of}
+use Rattle.page_chain.proofs.Carried.{cause_carried}
+use Rattle.catalog.specs.Knows.{KnowsNone}
+use Rattle.catalog.proofs.Filled.{at_fault_none, knows_with, may_come, rows_are, rows_keep_schema, taken_is_in}
+use Rattle.catalog.proofs.catalog.Catalog.read.Goals as goal
+
+pub returns-in_err-rows-clause-cause : goal.returns-in_err-rows-clause-cause
+returns-in_err-rows-clause-cause g c =
+    cause_carried (g.S.PageStore.pages c.args.store.now) (g.S.PageStore.pages c.args.store.now) (HeapFault c.args.file) (KnowsNone c.args.self.now)
+    (g.S.PageStore.faults c.args.store.now) (g.S.PageStore.faults c.args.store.now) (g.S.PageStore.faults c.relation_rows.new.store) c.in_err-rows.field-0.0 (omega arith)
+    (λ a at m told. at_fault_none c.args.self.now m c.args.key.now c.args.file a c.requires.stored c.requires.file (at m told))
+    c.in_err-rows.ensures.cause c.from_residual.result c.from_residual.ensures.1
+
+pub returns-then-branch-clause-knows : goal.returns-then-branch-clause-knows
+returns-then-branch-clause-knows g c m db told is k =
+    knows_with c.args.self.now c.take.new.self m db c.args.key.now c.in_ok-rows.rows (c.in_ok-take.ensures.taken c.if-branch.true)
+    (may_come c.args.self.now m db c.args.key.now c.args.file c.in_ok-rows.rows is k c.requires.unread c.requires.stored c.requires.file (λ placed are. c.in_ok-rows.ensures.told m placed told are)) k
+
+pub returns-then-branch-clause-rows : goal.returns-then-branch-clause-rows
+returns-then-branch-clause-rows g c m db told is k =
+    rows_are c.take.new.self m db c.args.key.now (returns-then-branch-clause-knows g c m db told is k)
+    (taken_is_in c.args.self.now c.take.new.self c.args.key.now c.in_ok-rows.rows (c.in_ok-take.ensures.taken c.if-branch.true))
+
+pub returns-then-branch-clause-schema : goal.returns-then-branch-clause-schema
+returns-then-branch-clause-schema g c =
+    (λ i. schema_of ((c.in_ok-take.ensures.taken c.if-branch.true).plain i)) ∙ rows_keep_schema (database_of c.args.self.now.plain) c.args.key.now c.in_ok-rows.rows
+
+pub returns-else-branch-clause-cause : goal.returns-else-branch-clause-cause
+returns-else-branch-clause-cause g c = record {
+  later = c.in_ok-rows.ensures.cause.later;
+  caused = λ m told db is k.
+      (c.in_ok-take.ensures.refused c.if-branch.false
+      (may_come c.args.self.now m db c.args.key.now c.args.file c.in_ok-rows.rows is k c.requires.unread c.requires.stored c.requires.file (λ placed are. c.in_ok-rows.ensures.told m placed told are)).lawful);
+}

@@ -1,0 +1,31 @@
+use Rattle.std.proofs.Common.{arith}
+use Rattle.page_chain.proofs.Carried.{cause_carried}
+use Rattle.plain_base.specs.Shown.{database_of}
+use Rattle.catalogue_pages.specs.Ends.{NoCatalogue}
+use Rattle.catalogue_moves.specs.Files.{files_of}
+use Rattle.catalog.specs.Knows.{KnowsNoneFor}
+use Rattle.catalog.specs.Laid.{NoneMayTake}
+use Rattle.catalog.proofs.Steps.{catalogue_fault, pages_fault, write_knows}
+use Rattle.catalog.proofs.catalog.Catalog.write.Goals as goal
+
+pub returns-in_err-given-clause-cause : goal.returns-in_err-given-clause-cause
+returns-in_err-given-clause-cause g c =
+    let old = g.S.PageStore.pages c.args.store.now in
+    let start = g.S.PageStore.faults c.args.store.now in
+    cause_carried old old (NoneMayTake (database_of c.args.self.now.plain) (files_of c.args.self.now.files) c.args.change.now) (KnowsNoneFor c.args.self.now c.args.change.now) start start
+    (g.S.PageStore.faults c.make_pages.new.store) c.in_err-given.field-0.0 (omega arith) (pages_fault c.args.self.now c.args.change.now old) c.in_err-given.ensures.cause c.from_residual.result c.from_residual.ensures.1
+
+pub returns-in_err-ends-clause-cause : goal.returns-in_err-ends-clause-cause
+returns-in_err-ends-clause-cause g c =
+    let old = g.S.PageStore.pages c.args.store.now in
+    let mid = g.S.PageStore.pages c.make_pages.new.store in
+    cause_carried old mid (NoCatalogue c.args.self.now.ends) (KnowsNoneFor c.args.self.now c.args.change.now) (g.S.PageStore.faults c.args.store.now) (g.S.PageStore.faults c.make_pages.new.store)
+    (g.S.PageStore.faults c.write_catalogue.new.store) c.in_err-ends.field-0.0 c.make_pages.ensures.cause.later
+    (catalogue_fault c.args.self.now c.args.change.now c.in_ok-given.given.file c.in_ok-given.given.used old mid (λ m db. c.in_ok-given.ensures.made m db)) c.in_err-ends.ensures.cause
+    c.from_residual-in_err-ends.result c.from_residual-in_err-ends.ensures.1
+
+pub returns-clause-knows : goal.returns-clause-knows
+returns-clause-knows g c m db is base knows lawful read =
+    write_knows c.args.self.now c.make_pages.new.plain c.write_catalogue.new.plain c.keep.new.self m db c.args.change.now c.in_ok-given.given.file c.in_ok-given.given.used c.in_ok-ends.ends
+    (g.S.PageStore.pages c.make_pages.new.store) (g.S.PageStore.pages c.write_catalogue.new.store) c.make_pages.ensures.same c.write_catalogue.ensures.same base knows lawful read
+    (c.in_ok-given.ensures.made m db is) c.in_ok-ends.ensures.places c.in_ok-ends.ensures.written c.in_ok-keep.ensures

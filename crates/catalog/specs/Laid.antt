@@ -1,0 +1,73 @@
+-- What of a change is laid already.
+use Rattle.std.specs.Prelude.{◌≡◌, ℕ, Option, Some}
+use Rattle.calculus.specs.declared.query.RelKey.{RelKey}
+use Rattle.calculus.specs.declared.change.DbChange.{DbChange}
+use Rattle.calculus.specs.declared.change.DbChange.TheVariants as change
+use Rattle.calculus.specs.Change.{IsLawful, laid}
+use Rattle.calculus.specs.Database.{Db}
+use Rattle.calculus.specs.IsDatabase.{IsDatabase}
+use Rattle.calculus.specs.Schema.{schema_of}
+use Rattle.disk_model.specs.Disk.{Image}
+use Rattle.disk_model.specs.declared.disk.Addr.{Addr}
+use Rattle.page_chain.specs.Pages.{pages_of}
+use Rattle.plain_base.specs.Shown.{database_of}
+use Rattle.stored_database.specs.Catalogue.{Catalogue, IsCatalogue}
+use Rattle.stored_database.specs.Printed.{Files, HasFiles}
+use Rattle.catalogue_changes.specs.After.{AreChanges, changed}
+use Rattle.catalogue_changes.specs.Moves.{going, coming}
+use Rattle.catalogue_moves.specs.Files.{files_after, is_in, places_of}
+use Rattle.catalogue_moves.specs.Moves.{HavePlaces}
+use Rattle.laying_laws.specs.Placed.{Suits, MakesPages}
+use Rattle.loaded_laws.specs.Loaded.{known_after}
+use Rattle.catalog.specs.Places.{places_after}
+use Rattle.catalog.specs.declared.catalog.Catalog.{Catalog}
+
+-- A database that has these files, differs from what is known in rows of relations alone, and may take the change.
+pub record MayTake (part db : Db) (f : Files) (made : DbChange) (m : Image) : Type 0 where
+  pub is : IsDatabase db
+  pub has : HasFiles db (pages_of m) f
+  pub schema : schema_of part ≡ schema_of db
+  pub lawful : IsLawful db made
+
+-- There is none such.
+abbrev pub NoneMayTake : Db → Files → DbChange → Image → Addr → Type 0
+NoneMayTake part f made m a = (db : Db) → MayTake part db f made m → ⊥
+
+-- The pages are told still, and those of relations are as the change asks of the database.
+pub record HasMade (made : DbChange) (db : Db) (f : Files) (file used : ℕ) (before : Image) (told : Option Image) : Type 0 where
+  pub image : Image
+  pub told_still : told ≡ Some image
+  pub suits : Suits made f file used
+  pub makes : MakesPages made db file used before image
+
+-- the rows of a catalogue that go and those that come, where what is made has this file and so many pages
+abbrev pub going_of : DbChange → Files → ℕ → ℕ → Db → Catalogue
+going_of made f file used db = going f (files_after made file used f) db made
+
+abbrev pub coming_of : DbChange → Files → ℕ → ℕ → Db → Catalogue
+coming_of made f file used db = coming f (files_after made file used f) db made
+
+-- the change puts no page of a relation
+unfoldable pub PutsNoRows : DbChange → Type 0
+PutsNoRows (change.Rows rel remove add) = ⊥
+PutsNoRows (change.Create info rows) = ⊥
+PutsNoRows (change.Destroy rels) = Unit {0}
+PutsNoRows (change.Modify rel to keys) = Unit {0}
+PutsNoRows (change.Index base name keys) = Unit {0}
+PutsNoRows (change.View info query) = Unit {0}
+PutsNoRows (change.Permit rel permit) = Unit {0}
+PutsNoRows (change.Rule rel rule) = Unit {0}
+PutsNoRows (change.DropPermits rel numbers) = Unit {0}
+PutsNoRows (change.DropRules rel numbers) = Unit {0}
+
+-- Where the parts that come have places, the rows are a change of this catalogue that leaves one.
+pub record IsPrepared (made : DbChange) (f : Files) (file used : ℕ) (db : Db) (cat : Catalogue) : Type 0 where
+  pub changes : HavePlaces (coming_of made f file used db) → AreChanges (going_of made f file used db) (coming_of made f file used db) cat
+  pub stands : HavePlaces (coming_of made f file used db) → IsCatalogue (changed (going_of made f file used db) (coming_of made f file used db) cat)
+
+-- A change is laid in memory.
+pub record IsKept (before now : Catalog) (made : DbChange) (file used : ℕ) : Type 0 where
+  pub plain : database_of now.plain ≡ laid (database_of before.plain) made
+  pub loaded : (key : RelKey) → is_in now.loaded key ≡ known_after made (is_in before.loaded) key
+  pub places : places_of now.files ≡ places_after made file used (places_of before.files)
+  pub ends_stay : now.ends ≡ before.ends

@@ -1,0 +1,5 @@
+pub mod Knows
+pub mod Filling
+pub mod Loading
+pub mod Places
+pub mod Laid

@@ -1,0 +1,175 @@
+//! The catalogues of a disk are read.
+
+ghost use Rattle.std.specs.Prelude.{◌≡◌, ℕ, true, None, Some, IfOk};
+ghost use Rattle.std.specs.Option.{ForSome};
+ghost use Rattle.access_traits.specs.Causes.{HasFileCause};
+ghost use Rattle.calculus.specs.Database.{Db};
+ghost use Rattle.calculus.specs.Schema.{schema_of};
+ghost use Rattle.disk_model.specs.Disk.{Image};
+ghost use Rattle.page_chain.specs.Found.{Found};
+ghost use Rattle.page_chain.specs.Pages.{Pages, pages_of};
+ghost use Rattle.plain_base.specs.Shown.{database_of};
+ghost use Rattle.schema_build.specs.Parts.{index_owners_agree};
+ghost use Rattle.stored_database.specs.Standing.{standing};
+ghost use Rattle.catalog.specs.Knows.{Knows, NoDatabase};
+ghost use Rattle.stored_database.specs.Catalogue.{IsCatalogue, most_pages};
+ghost use Rattle.stored_database.specs.Spelled.{spelled};
+ghost use Rattle.catalogue_read.specs.Read.{catalogue_of, catalogue_shown};
+ghost use Rattle.catalog.specs.Loading.{AreFound, HoldsFor, IfKnown, IsMadeOf, NoneIn, NoCatalogueIn, SpellsNone};
+
+use crate::catalog::Catalog;
+use access_traits::PageStore;
+use am_traits::BaseFault;
+use calculus::{Name, OutOfMemory};
+use catalogue_moves::{FileTable, KeySet};
+use catalogue_pages::Ends;
+use catalogue_read::{CatalogueRows, read_catalogue, schema_parts};
+use memory::both;
+use page_chain::{ChainRows, chain_rows};
+use plain_base::DbPlain;
+use schema_build::build_schema;
+use std::alloc::Global;
+
+/// The page numbers are below this.
+const MOST_PAGES: u64 = 4_294_967_296;
+
+/// The rows of the three catalogues as bytes, and the last pages of their chains.
+#[derive(Drop)]
+pub(crate) struct Chains {
+    /// Of file 5.
+    pub(crate) entries: ChainRows,
+    /// Of file 6.
+    pub(crate) columns: ChainRows,
+    /// Of file 7.
+    pub(crate) parts: ChainRows,
+}
+
+/// The rows of the catalogue in a file.
+fn rows_in<S: PageStore>(alloc: Global, store: &mut S, file: u32) -> Result<ChainRows, BaseFault>
+    ensures found { (m : Image) → S.pages store.old ≡ Some m → IfOk result (λ found. Found most_pages (pages_of m file) found.rows found.last) }
+    ensures same { S.pages store.new ≡ S.pages store.old }
+    ensures came { (s : S) → S.came s store.old → S.came s store.new }
+    ensures only_read { (s : S) → S.only_read s store.old → S.only_read s store.new }
+    ensures cause { HasFileCause (S.pages store.old) (NoneIn file) (S.faults store.old) (S.faults store.new) result }
+{
+    chain_rows(alloc, store, file, MOST_PAGES)
+}
+
+/// The rows of attributes and of parts of trees.
+fn behind_entries<S: PageStore>(
+    alloc: Global,
+    store: &mut S,
+    entries: ChainRows,
+) -> Result<Chains, BaseFault>
+    ensures found { (m : Image) → S.pages store.old ≡ Some m → Found most_pages (pages_of m 5) entries.rows entries.last → IfOk result (λ chains. AreFound m chains) }
+    ensures same { S.pages store.new ≡ S.pages store.old }
+    ensures came { (s : S) → S.came s store.old → S.came s store.new }
+    ensures only_read { (s : S) → S.only_read s store.old → S.only_read s store.new }
+    ensures cause { HasFileCause (S.pages store.old) NoCatalogueIn (S.faults store.old) (S.faults store.new) result }
+{
+    let columns = rows_in(alloc, store, 6)?;
+    let parts = rows_in(alloc, store, 7)?;
+    Ok(Chains {
+        entries,
+        columns,
+        parts,
+    })
+}
+
+/// The rows of the three catalogues.
+pub(crate) fn read_chains<S: PageStore>(alloc: Global, store: &mut S) -> Result<Chains, BaseFault>
+    ensures found { (m : Image) → S.pages store.old ≡ Some m → IfOk result (λ chains. AreFound m chains) }
+    ensures same { S.pages store.new ≡ S.pages store.old }
+    ensures came { (s : S) → S.came s store.old → S.came s store.new }
+    ensures only_read { (s : S) → S.only_read s store.old → S.only_read s store.new }
+    ensures cause { HasFileCause (S.pages store.old) NoCatalogueIn (S.faults store.old) (S.faults store.new) result }
+{
+    let entries = rows_in(alloc, store, 5)?;
+    behind_entries(alloc, store, entries)
+}
+
+/// The database without rows that a catalogue spells.
+fn schema_in(alloc: Global, dba: Name, rows: &CatalogueRows) -> Result<Option<DbPlain>, OutOfMemory>
+    requires { IsCatalogue (catalogue_shown rows.now) }
+    ensures built { IfOk result (λ found. ForSome found (λ plain. (files : ℕ → Pages) (db : Db) → spelled dba files (catalogue_shown rows.now) ≡ Some db
+        → database_of plain ≡ schema_of db)) }
+    ensures refused { IfOk result (λ found. found ≡ None → SpellsNone dba (catalogue_shown rows.now)) }
+{
+    match schema_parts(alloc, rows)? {
+        Some(parts) => build_schema(alloc, dba, parts),
+        None => Ok(None),
+    }
+}
+
+/// What is known in memory of a catalogue whose chains end at these pages.
+fn catalog_of(
+    alloc: Global,
+    dba: Name,
+    rows: &CatalogueRows,
+    ends: Ends,
+) -> Result<Option<Catalog>, OutOfMemory>
+    requires { IsCatalogue (catalogue_shown rows.now) }
+    ensures made { IfOk result (λ found. ForSome found (λ c. IsMadeOf dba (catalogue_shown rows.now) ends c)) }
+    ensures refused { IfOk result (λ found. found ≡ None → SpellsNone dba (catalogue_shown rows.now)) }
+{
+    let parts = both(
+        schema_in(alloc, dba, rows),
+        FileTable::of_entries(alloc, rows.entries.items()),
+    );
+    let (plain, files) = parts?;
+    let Some(plain) = plain else {
+        return Ok(None);
+    };
+    match files {
+        Some(files) => Ok(Some(Catalog {
+            plain,
+            loaded: KeySet::new(alloc),
+            files,
+            ends,
+        })),
+        None => Ok(None),
+    }
+}
+
+/// What is known in memory of the rows of the three catalogues.
+pub(crate) fn made(
+    alloc: Global,
+    dba: Name,
+    chains: &Chains,
+) -> Result<Option<Catalog>, OutOfMemory>
+    ensures { (m : Image) (db : Db) → AreFound m chains.now → HoldsFor dba m db → IfOk result (λ found. IfKnown m db found) }
+{
+    let rows = read_catalogue(
+        alloc,
+        chains.entries.rows.items(),
+        chains.columns.rows.items(),
+        chains.parts.rows.items(),
+    )?;
+    let ends = Ends {
+        entries: chains.entries.last,
+        columns: chains.columns.last,
+        parts: chains.parts.last,
+    };
+    match rows {
+        Some(rows) => catalog_of(alloc, dba, &rows, ends),
+        None => Ok(None),
+    }
+}
+
+impl Catalog {
+    /// Reads the catalogues, each page once.
+    pub fn load<S: PageStore>(alloc: Global, store: &mut S, dba: Name) -> Result<Catalog, BaseFault>
+        ensures knows { (m : Image) (db : Db) → S.pages store.old ≡ Some m → standing m ≡ Some db → db.dba ≡ dba
+            → index_owners_agree db ≡ true → IfOk result (λ c. Knows c m db) }
+        ensures same { S.pages store.new ≡ S.pages store.old }
+        ensures came { (s : S) → S.came s store.old → S.came s store.new }
+        ensures only_read { (s : S) → S.only_read s store.old → S.only_read s store.new }
+        ensures cause { HasFileCause (S.pages store.old) (NoDatabase dba) (S.faults store.old) (S.faults store.new) result }
+    {
+        let chains = read_chains(alloc, store)?;
+        match made(alloc, dba, &chains)? {
+            Some(catalog) => Ok(catalog),
+            None => Err(BaseFault::Damaged { file: 5, page: 0 }),
+        }
+    }
+}
