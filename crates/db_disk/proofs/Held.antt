@@ -30,7 +30,7 @@ empty_page page fresh = record {
     none : (p : List ℕ) → slots p ≡ [] → lying_on 0 (Some p) ≡ []
     none p e = ap (lying_in 0 0) e
 
-same_header : (dba : List ℕ) → header_bytes dba ≡ standing.header_bytes dba
+pub same_header : (dba : List ℕ) → header_bytes dba ≡ standing.header_bytes dba
 unfolding standing.header_bytes name_bytes
 same_header dba = refl
 

@@ -1,4 +1,15 @@
+pub mod Asking
 pub mod Calls
+pub mod Causes
+pub mod Fills
+pub mod Changes
+pub mod Headed
 pub mod Headers
 pub mod Held
+pub mod Holding
+pub mod Knowing
+pub mod KnowsProp
+pub mod Loading
 pub mod Making
+pub mod Opens
+pub mod Ready

@@ -1,3 +1,11 @@
+pub mod Answered
 pub mod Created
 pub mod Faults
+pub mod Head
+pub mod Held
+pub mod Known
+pub mod Load
+pub mod Laws
 pub mod Making
+pub mod Opened
+pub mod Shown

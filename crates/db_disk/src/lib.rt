@@ -1,9 +1,26 @@
 //! A database on a disk.
 #![tactic(auto)]
 
+mod answering;
+mod applying;
+mod asked;
+mod asked_rows;
+mod at_once;
+mod base;
+mod changing;
 mod create;
 mod fault;
+mod filling;
+mod head;
 mod header;
+mod load;
+mod opening;
+mod questions;
+mod reopened;
+mod row_questions;
 
+pub use at_once::{OpenFault, Unopened, open_db};
+pub use base::DbDisk;
 pub use create::create_db;
 pub use fault::CreateFault;
+pub use head::header_name;

@@ -1,0 +1,55 @@
+-- What disks hold.
+use Rattle.std.proofs.Common.{◌≡◌, refl, sym, ap, ◌∙◌, ℕ, Bool, true, false, IsTrue, Some, None}
+use Rattle.calculus.specs.Database.{Db}
+use Rattle.disk_model.specs.declared.disk.Addr.{Addr}
+use Rattle.disk_model.specs.Disk.{Image, LeavesOnly}
+use Rattle.disk_model.proofs.Moments.{weaker}
+use Rattle.batch_file.specs.OnDisk.{SameRedone}
+use Rattle.batch_file.specs.Redone.{redone}
+use Rattle.page_chain.specs.Lists.{◌>>=◌, when}
+use Rattle.schema_build.specs.Parts.{index_owners_agree}
+use Rattle.stored_database.specs.Standing.{standing, stored}
+use Rattle.stored_database.proofs.Reading.{bind_some, when_some}
+use Rattle.db_disk.specs.Held.{held, told_by, SameHeld}
+
+-- what is held is held by the pages once a batch is laid
+pub same_held : (m n : Image) → redone m ≡ redone n → held m ≡ held n
+unfolding held stored
+same_held m n same = ap (λ o. (o >>= standing) >>= (λ db. when (index_owners_agree db) db)) same
+
+-- the pages that are held
+pub held_as : (m pages : Image) (db : Db) → redone m ≡ Some pages → standing pages ≡ Some db → index_owners_agree db ≡ true → held m ≡ Some db
+unfolding held stored
+held_as m pages db is stands agree =
+    ap (λ o. (o >>= standing) >>= (λ db. when (index_owners_agree db) db)) is
+    ∙ ap (λ o. o >>= (λ db. when (index_owners_agree db) db)) stands
+    ∙ ap (λ t. when t db) agree
+
+-- and back
+pub held_so : (m pages : Image) (db : Db) → redone m ≡ Some pages → held m ≡ Some db → (standing pages ≡ Some db) × (index_owners_agree db ≡ true)
+unfolding held stored
+held_so m pages db is holds =
+    let s = bind_some (standing pages) (λ db. when (index_owners_agree db) db) db (sym (ap (λ o. (o >>= standing) >>= (λ db. when (index_owners_agree db) db)) is) ∙ holds) in
+    let w = when_some (index_owners_agree s.0) s.0 db s.2 in
+    (s.1 ∙ ap Some w.1, ap index_owners_agree (sym w.1) ∙ w.0)
+
+pub none_redone : (m : Image) → redone m ≡ None → held m ≡ None
+unfolding held stored
+none_redone m none = ap (λ o. (o >>= standing) >>= (λ db. when (index_owners_agree db) db)) none
+
+-- what is told of disks that hold the same
+pub told_same : (tells : Bool) (m n : Image) → (IsTrue tells → redone m ≡ redone n) → told_by tells m ≡ told_by tells n
+told_same true m n same = same_held m n (same refl)
+told_same false m n same = refl
+
+pub told_none : (tells : Bool) (m : Image) → (IsTrue tells → redone m ≡ None) → told_by tells m ≡ None
+told_none true m none = none_redone m (none refl)
+told_none false m none = refl
+
+pub told_some : (tells : Bool) (m : Image) (db : Db) → told_by tells m ≡ Some db → IsTrue tells × (held m ≡ Some db)
+told_some true m db is = (refl, is)
+told_some false m db is = absurd (cc is)
+
+module _ {S : Type 0} (seen : S → Image) (touched : S → Addr → Type 0) (clock : S → ℕ) (left_since : S → ℕ → Image → Type 0) where
+  pub holds_run : (a b : S) → LeavesOnly clock left_since a b (SameRedone (seen a) (touched a)) → LeavesOnly clock left_since a b (SameHeld (seen a) (touched a))
+  holds_run a b run = weaker seen touched clock left_since a b _ _ run (λ m from. (from.0, from.1, same_held m from.0 from.2))

@@ -1,0 +1,43 @@
+-- A catalogue is read for whom the header names.
+use Rattle.std.proofs.Common.{◌≡◌, sym, ap, ◌∙◌, ℕ, ◌≤◌, ◌==◌, true, false, List, Option, Some, None, Result, Ok, Err, arith}
+use Rattle.std.proofs.lemmas.Option.{same_Some}
+use Rattle.calculus.specs.Database.{Db}
+use Rattle.disk_model.specs.Disk.{Image}
+use Rattle.disk_model.specs.declared.disk.Addr.{Addr}
+use Rattle.am_traits.specs.declared.fault.BaseFault.{BaseFault}
+use Rattle.am_traits.specs.declared.fault.BaseFault.TheVariants as faults
+use Rattle.access_traits.specs.Causes.{HasFileCause}
+use Rattle.page_chain.specs.Lists.{◌>>=◌}
+use Rattle.schema_build.specs.Parts.{index_owners_agree}
+use Rattle.stored_database.specs.Standing.{birth, header_of, standing}
+use Rattle.stored_database.proofs.Exactly.{pages_stand_exactly}
+use Rattle.stored_database.proofs.WhatStands.{what_stands_is_a_database}
+use Rattle.db_disk.specs.Held.{administrator}
+use Rattle.db_disk.specs.Load.{NoneStands}
+
+-- what pages that stand for a database begin with
+pub stands_headed : (m : Image) (db : Db) → standing m ≡ Some db → (administrator m ≡ Some db.dba) × ((birth m == 1) ≡ true)
+unfolding administrator
+stands_headed m db stands =
+    let h = (pages_stand_exactly m db (what_stands_is_a_database m db stands)).0 stands in
+    (ap (λ o. o >>= header_of) h.there ∙ h.header, ap (λ n. n == 1) h.born)
+
+pub own_name : (m : Image) (db : Db) (dba : List ℕ) → standing m ≡ Some db → administrator m ≡ Some dba → db.dba ≡ dba
+own_name m db dba stands named = same_Some db.dba dba (sym (stands_headed m db stands).0 ∙ named)
+
+pub no_header_none : (m : Image) (a : Addr) → administrator m ≡ None → NoneStands m a
+no_header_none m a none = λ db stands agree. let e : Some db.dba ≡ None = sym (stands_headed m db stands).0 ∙ none in absurd (cc e)
+
+pub unborn_none : (m : Image) (a : Addr) → (birth m == 1) ≡ false → NoneStands m a
+unborn_none m a off = λ db stands agree. let e : true ≡ false = sym (stands_headed m db stands).1 ∙ off in absurd (cc e)
+
+-- the same cause, of fewer databases
+pub for_whom : {T : Type 0} (told pages : Option Image) (dba : List ℕ) (before mid now : ℕ) (result : Result T BaseFault) → before ≤ mid → pages ≡ told → ((m : Image) → told ≡ Some m → administrator m ≡ Some dba)
+    → HasFileCause pages (λ m a. (db : Db) → standing m ≡ Some db → db.dba ≡ dba → index_owners_agree db ≡ true → ⊥) mid now result → HasFileCause told NoneStands before now result
+for_whom told pages dba before mid now (Ok x) le same named has = record { later = omega (arith, le, has.later); caused = tt }
+for_whom told pages dba before mid now (Err faults.Disk) le same named has = record { later = omega (arith, le, has.later); caused = omega (arith, le, has.caused) }
+for_whom told pages dba before mid now (Err (faults.Damaged file page)) le same named has = record {
+  later = omega (arith, le, has.later);
+  caused = λ m is db stands agree. has.caused m (same ∙ is) db stands (own_name m db dba stands (named m is)) agree;
+}
+for_whom told pages dba before mid now (Err faults.OutOfMemory) le same named has = record { later = omega (arith, le, has.later); caused = tt }

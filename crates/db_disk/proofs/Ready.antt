@@ -1,0 +1,94 @@
+-- A store that is ready, and reads of it.
+use Rattle.std.proofs.Common.{◌≡◌, ◌≢◌, refl, sym, ap, subst, ◌∙◌, ℕ, Bool, true, false, IsTrue, Option, Some, None, Result, Ok, Err}
+use Rattle.am_traits.specs.Causes.{HasCause}
+use Rattle.am_traits.specs.declared.fault.BaseFault.{BaseFault}
+use Rattle.am_traits.specs.declared.fault.BaseFault.TheVariants as faults
+use Rattle.access_traits.specs.Causes.{HasFileCause}
+use Rattle.calculus.specs.Database.{Db}
+use Rattle.calculus.specs.IsDatabase.{IsDatabase}
+use Rattle.disk_model.specs.Disk.{Image, IsImage, OnlyReads, LeavesOnly}
+use Rattle.disk_model.specs.declared.disk.Addr.{Addr}
+use Rattle.disk_model.specs.declared.disk.Disk.{Ghosts}
+use Rattle.disk_model.proofs.Moments.{started, reads_on}
+use Rattle.batch_file.specs.Layout.{gate}
+use Rattle.batch_file.specs.Redone.{kept, redone}
+use Rattle.batch_file.specs.Staged.{size_of}
+use Rattle.batch_file.proofs.Lays.{redone_shut}
+use Rattle.batch_store.specs.Store.{batch_of, disk_of, pages_of, CameOf, OnlyReadOf}
+use Rattle.batch_store.specs.declared.store.BatchStore.{BatchStore}
+use Rattle.batch_store.proofs.Stands.{fresh_pages, staged_none}
+use Rattle.schema_build.specs.Parts.{index_owners_agree}
+use Rattle.stored_database.specs.Standing.{standing}
+use Rattle.stored_database.proofs.WhatStands.{what_stands_is_a_database}
+use Rattle.db_disk.specs.Held.{database_in, held, told_by, IsReady, SameHeld}
+use Rattle.db_disk.proofs.Holding.{held_so, told_some}
+
+-- the same is told after reads
+told_read : (tells : Bool) (m n : Image) → (IsTrue tells → n ≡ m) → told_by tells n ≡ told_by tells m
+told_read true m n same = ap held (same refl)
+told_read false m n same = refl
+
+-- nothing is told where it would be of none
+pub none_of : (o : Option Db) → ((db : Db) → o ≡ Some db → ⊥) → o ≡ None
+none_of None none = refl
+none_of (Some db) none = absurd (none db refl)
+
+pub file_caused : {T : Type 0} (told : Option Db) (pages : Option Image) (at_fault : Image → Addr → Type 0) (before now : ℕ) (result : Result T BaseFault)
+    → ((db : Db) → told ≡ Some db → (m : Image) × (pages ≡ Some m) × ((a : Addr) → at_fault m a → ⊥)) → HasFileCause pages at_fault before now result → HasCause told before now result
+file_caused told pages at_fault before now (Ok x) none has = record { later = has.later; caused = tt }
+file_caused told pages at_fault before now (Err faults.Disk) none has = record { later = has.later; caused = has.caused }
+file_caused told pages at_fault before now (Err (faults.Damaged file page)) none has = record {
+  later = has.later;
+  caused = none_of told (λ db is. let m = none db is in m.2 _ (has.caused m.0 m.1));
+}
+file_caused told pages at_fault before now (Err faults.OutOfMemory) none has = record { later = has.later; caused = tt }
+
+-- What a store that is ready says of the database that it holds.
+pub record Holds {D : Type 0} {g : Ghosts D} (s : BatchStore D g) (db : Db) : Type 0 where
+  pub told : IsTrue g.tells
+  pub pages : pages_of s ≡ Some (kept (g.seen (disk_of s)))
+  pub holds : held (g.seen (disk_of s)) ≡ Some db
+  pub stands : standing (kept (g.seen (disk_of s))) ≡ Some db
+  pub agree : index_owners_agree db ≡ true
+  pub is_one : IsDatabase db
+
+module _ {D : Type 0} {g : Ghosts D} where
+  pub ready_pages : (s : BatchStore D g) → IsReady s → IsTrue g.tells → pages_of s ≡ Some (kept (g.seen (disk_of s)))
+  ready_pages s ready told = fresh_pages g.tells (g.seen (disk_of s)) (batch_of s) told (staged_none (g.seen (disk_of s)) (batch_of s) ready.empty)
+
+  pub ready_redone : (s : BatchStore D g) → IsReady s → IsTrue g.tells → redone (g.seen (disk_of s)) ≡ Some (kept (g.seen (disk_of s)))
+  ready_redone s ready told = redone_shut (g.seen (disk_of s)) (ready.closed told).shut
+
+  pub ready_holds : (s : BatchStore D g) (db : Db) → IsReady s → database_in s ≡ Some db → Holds s db
+  ready_holds s db ready is =
+      let told = told_some g.tells (g.seen (disk_of s)) db is in
+      let so = held_so (g.seen (disk_of s)) (kept (g.seen (disk_of s))) db (ready_redone s ready told.0) told.1 in
+      record {
+        told = told.0;
+        pages = ready_pages s ready told.0;
+        holds = told.1;
+        stands = so.0;
+        agree = so.1;
+        is_one = what_stands_is_a_database (kept (g.seen (disk_of s))) db so.0;
+      }
+
+  pub same_read : (s t : BatchStore D g) → OnlyReadOf s t → database_in t ≡ database_in s
+  same_read s t only = told_read g.tells (g.seen (disk_of s)) (g.seen (disk_of t)) (λ told. (only.reads told).seen_same)
+
+  pub still_ready : (s t : BatchStore D g) → IsReady s → CameOf s t → OnlyReadOf s t → IsReady t
+  still_ready s t ready came only = record {
+    calm = came.still ∙ ready.calm;
+    empty = ap size_of only.batch_same ∙ ready.empty;
+    closed = λ told. record {
+      settled = λ b t. (ready.closed told).settled b ((only.reads told).touches b t);
+      shut = subst (λ (m : Image). gate m ≢ 1) (sym (only.reads told).seen_same) (ready.closed told).shut;
+    };
+  }
+
+module _ {S : Type 0} (seen : S → Image) (touched : S → Addr → Type 0) (clock : S → ℕ) (left_since : S → ℕ → Image → Type 0) where
+  -- before any call an image is one of then
+  pub holds_started : (a : S) → ((m : Image) → left_since a (clock a) m → IsImage (seen a) (touched a) m) → LeavesOnly clock left_since a a (SameHeld (seen a) (touched a))
+  holds_started a only = started seen touched clock left_since a _ (λ m left. (m, only m left, refl))
+
+  pub holds_read : (a b c : S) → LeavesOnly clock left_since a b (SameHeld (seen a) (touched a)) → OnlyReads seen touched clock left_since b c → LeavesOnly clock left_since a c (SameHeld (seen a) (touched a))
+  holds_read a b c run same = reads_on seen touched clock left_since a b c _ run same

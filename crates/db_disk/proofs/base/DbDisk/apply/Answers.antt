@@ -1,0 +1,28 @@
+use Rattle.std.proofs.Common.{◌∙◌, refl, sym}
+use Rattle.batch_store.specs.Store.{disk_of}
+use Rattle.db_disk.proofs.Changes.{on_ok_into, only_opened, then_changed, told_now}
+use Rattle.db_disk.proofs.Holding.{told_some}
+use Rattle.db_disk.proofs.base.DbDisk.apply.Goals as goal
+
+pub lay_open-requires : goal.lay_open-requires
+lay_open-requires g c = record { there = c.in_ok-open.ensures.there; lawful = λ db is. c.requires db (sym c.open.ensures.kept ∙ is) }
+
+pub returns-in_err-open-clause-crash : goal.returns-in_err-open-clause-crash
+returns-in_err-open-clause-crash g c = λ told db all.
+    let d = g.D.Disk in
+    only_opened d.seen d.touched d.clock d.left_since _ _ db _ all (c.open.ensures.crash told)
+
+pub returns-clause-crash : goal.returns-clause-crash
+returns-clause-crash g c = λ told db all.
+    let d = g.D.Disk in
+    then_changed d.seen d.touched d.clock d.left_since _ _ _ db _ all (c.open.ensures.crash told)
+    (c.lay_open.ensures.crash db (c.open.ensures.kept ∙ told_now d.tells (d.seen (disk_of c.args.self.now.store)) db told (all _ (λ b calm. refl))))
+
+pub returns-clause-durable : goal.returns-clause-durable
+returns-clause-durable g c = λ db is. c.lay_open.ensures.durable db (c.open.ensures.kept ∙ is)
+
+pub returns-clause-told : goal.returns-clause-told
+returns-clause-told g c = λ db is.
+    on_ok_into c.lay_open.result _ _
+    (λ each. told_now g.D.Disk.tells _ _ (told_some g.D.Disk.tells _ db is).0 (each _ (λ b calm. refl)))
+    (c.lay_open.ensures.durable db (c.open.ensures.kept ∙ is))

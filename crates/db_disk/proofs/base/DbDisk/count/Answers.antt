@@ -1,0 +1,19 @@
+use Rattle.std.proofs.Common.{ap, refl, ◌∙◌, length}
+use Rattle.calculus.specs.Database.{entries}
+use Rattle.calculus.specs.Schema.{schema_of}
+use Rattle.schema_laws.proofs.Alike.{entries_alike}
+use Rattle.db_disk.proofs.Asking.{schema_answer}
+use Rattle.db_disk.proofs.Knowing.{same_schema, still_known, there_open}
+use Rattle.db_disk.proofs.base.DbDisk.count.Goals as goal
+
+pub invariant_of-self : goal.invariant_of-self
+invariant_of-self g c = record {
+  ready = c.open.new.self.ready;
+  opened = λ x is. there_open c.open.new.self.catalog _ c.in_ok-open.ensures.there c.open.new.self.opened;
+  known = λ told. still_known _ _ c.open.new.self.catalog c.count.new.catalog refl (c.open.new.self.known told) c.count.ensures.same;
+}
+
+pub returns-clause-told : goal.returns-clause-told
+returns-clause-told g c = λ db is.
+    schema_answer (λ n. n) (λ db. length (entries db)) db (λ db. ap length (entries_alike db)) c.count.result
+    (c.count.ensures.told (schema_of db) (same_schema c.open.new.self.catalog c.count.new.catalog c.count.ensures.same ∙ c.in_ok-open.ensures.schema db is))

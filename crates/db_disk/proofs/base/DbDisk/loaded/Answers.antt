@@ -1,0 +1,38 @@
+use Rattle.std.proofs.Common.{sym, subst, ◌∙◌}
+use Rattle.batch_store.specs.Running.{comes_of_itself, reads_of_itself}
+use Rattle.catalog.specs.declared.catalog.Catalog.{Catalog}
+use Rattle.db_disk.specs.Known.{IsKnown}
+use Rattle.db_disk.proofs.Causes.{as_unit, same_fault}
+use Rattle.db_disk.proofs.Fills.{loaded_known}
+use Rattle.db_disk.proofs.Ready.{file_caused, ready_holds, ready_pages, still_ready}
+use Rattle.db_disk.proofs.base.DbDisk.loaded.Goals as goal
+
+pub invariant_of-self : goal.invariant_of-self
+invariant_of-self g c = record {
+  ready = λ is. still_ready _ _ (c.args.self.now.ready c.requires) (c.load.ensures.came c.args.self.now.store (comes_of_itself c.args.self.now.store)) (c.load.ensures.only_read c.args.self.now.store (reads_of_itself c.args.self.now.store));
+  opened = λ x is. c.requires;
+  known = λ told. loaded_known _ _ (c.args.self.now.ready c.requires) (c.load.ensures.only_read c.args.self.now.store (reads_of_itself c.args.self.now.store)) _ told c.in-Ok.ensures.knows;
+}
+
+pub invariant_of-self-in-Err-1 : goal.invariant_of-self-in-Err-1
+invariant_of-self-in-Err-1 g c =
+    let only = c.load.ensures.only_read c.args.self.now.store (reads_of_itself c.args.self.now.store) in
+    record {
+      ready = λ is. still_ready c.args.self.now.store c.load.new.store (c.args.self.now.ready is) (c.load.ensures.came c.args.self.now.store (comes_of_itself c.args.self.now.store)) only;
+      opened = c.args.self.now.opened;
+      known = λ told. subst (λ m. IsKnown m c.args.self.now.catalog) (sym (only.reads told).seen_same) (c.args.self.now.known told);
+    }
+
+pub returns-in-Ok-clause-headless : goal.returns-in-Ok-clause-headless
+returns-in-Ok-clause-headless g c = λ told none off. c.in-Ok.ensures.headless _ (ready_pages c.args.self.now.store (c.args.self.now.ready c.requires) told) off
+
+pub returns-in-Err-clause-no_head : goal.returns-in-Err-clause-no_head
+returns-in-Err-clause-no_head g c = λ told page is.
+    c.load.ensures.no_head _ page (ready_pages c.args.self.now.store (c.args.self.now.ready c.requires) told) (c.in-Err.is ∙ same_fault _ _ is)
+
+pub returns-in-Err-clause-headless : goal.returns-in-Err-clause-headless
+returns-in-Err-clause-headless g c = λ told none off. c.in-Err.ensures.headless _ (ready_pages c.args.self.now.store (c.args.self.now.ready c.requires) told) off
+
+pub returns-in-Err-clause-cause : goal.returns-in-Err-clause-cause
+returns-in-Err-clause-cause g c = as_unit _ _ _ _ (file_caused {T = Catalog} _ _ _ _ _ _
+    (λ db is. let h = ready_holds c.args.self.now.store db (c.args.self.now.ready c.requires) is in (_, h.pages, λ a none. none db h.stands h.agree)) c.in-Err.ensures.cause)

@@ -1,0 +1,18 @@
+use Rattle.std.proofs.Common.{◌≡◌, subst, sym, ◌∙◌, false}
+use Rattle.std.proofs.lemmas.Option.{same_Some}
+use Rattle.disk_model.specs.Disk.{Image}
+use Rattle.db_disk.specs.Held.{has_head}
+use Rattle.db_disk.proofs.Opens.{refused_first}
+use Rattle.db_disk.proofs.base.DbDisk.start.Goals as goal
+
+pub returns-in-Ok-clause-no_head : goal.returns-in-Ok-clause-no_head
+returns-in-Ok-clause-no_head g c = λ told m page is e.
+    subst (λ (x : Image). has_head x ≡ false) (same_Some _ m (sym (c.in-Ok.ensures.pages told) ∙ is)) (c.loaded.ensures.no_head told page e)
+
+pub returns-in-Ok-clause-headless : goal.returns-in-Ok-clause-headless
+returns-in-Ok-clause-headless g c = λ told m is none off.
+    c.loaded.ensures.headless told (c.restored.ensures.schema ∙ none)
+    (subst (λ (x : Image). has_head x ≡ false) (same_Some m _ (sym is ∙ c.in-Ok.ensures.pages told)) off)
+
+pub returns-in-Err-clause-headless : goal.returns-in-Err-clause-headless
+returns-in-Err-clause-headless g c = λ told m is none off. refused_first _ m c.in-Err.fault is (λ file page e. c.restored.ensures.damaged told file page (c.in-Err.is ∙ e))

@@ -1,0 +1,27 @@
+use Rattle.std.proofs.Common.{◌≡◌, ◌∙◌}
+use Rattle.am_traits.specs.declared.fault.BaseFault.TheVariants as faults
+use Rattle.batch_store.specs.Store.{batch_of, disk_of}
+use Rattle.batch_store.proofs.Stands.{told_so}
+use Rattle.db_disk.proofs.Changes.{finished, finish_caused, finish_whole, never_wanted, were_some}
+use Rattle.db_disk.proofs.changing.finish.Goals as goal
+
+pub returns-in-Ok-clause-durable : goal.returns-in-Ok-clause-durable
+returns-in-Ok-clause-durable g c = λ s m came told closed pages.
+    finished s c.args.store.now c.finish.new.self m told (λ x left. g.met.D.Disk.only_now _ x told left) came closed pages
+    (λ none. (c.finish.ensures.empty none).0) (c.in-Ok.ensures.closed told) (c.in-Ok.ensures.laid m pages)
+
+pub returns-in-Ok-clause-ready : goal.returns-in-Ok-clause-ready
+returns-in-Ok-clause-ready g c = λ some. record {
+  calm = c.in-Ok.ensures.calm ∙ c.requires;
+  empty = c.finish.ensures.begun;
+  closed = λ told. c.in-Ok.ensures.closed told (were_some _ _ c.is_empty-were_put.ensures some);
+}
+
+pub returns-in-Err-clause-wanted : goal.returns-in-Err-clause-wanted
+returns-in-Err-clause-wanted g c = λ want.
+    let e : c.fault_of.result ≡ faults.OutOfMemory = cc want in
+    never_wanted c.in-Err.fault c.fault_of.result c.fault_of.ensures e
+
+pub returns-in-Err-clause-cause : goal.returns-in-Err-clause-cause
+returns-in-Err-clause-cause g c = finish_caused _ _ _ c.in-Err.fault c.finish.result c.fault_of.result c.in-Err.is c.fault_of.ensures c.finish.ensures.cause
+    (λ m pages. finish_whole c.in-Err.fault c.finish.result c.in-Err.is (c.finish.ensures.whole (told_so g.D.Disk.tells (g.D.Disk.seen (disk_of c.args.store.now)) m (batch_of c.args.store.now) pages).0))

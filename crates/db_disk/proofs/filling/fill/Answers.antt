@@ -1,0 +1,33 @@
+use Rattle.std.proofs.Common.{subst}
+use Rattle.batch_store.specs.Running.{comes_of_itself, reads_of_itself}
+use Rattle.batch_store.specs.Store.{disk_of}
+use Rattle.db_disk.specs.Known.{IsKnown}
+use Rattle.db_disk.proofs.Fills.{filled_known, knows_now}
+use Rattle.db_disk.proofs.Knowing.{on_some}
+use Rattle.db_disk.proofs.Ready.{file_caused, ready_holds, still_ready}
+use Rattle.plain_base.specs.Shown.{database_of}
+use Rattle.calculus.specs.Stored.{rows_at}
+use Rattle.std.proofs.Common.{◌≡◌}
+use Rattle.catalog.specs.declared.catalog.Catalog.{Catalog}
+use Rattle.db_disk.proofs.filling.fill.Goals as goal
+
+pub returns-clause-ready : goal.returns-clause-ready
+returns-clause-ready g c = still_ready _ _ c.requires.ready (c.fill.ensures.came c.args.store.now (comes_of_itself c.args.store.now)) (c.fill.ensures.only_read c.args.store.now (reads_of_itself c.args.store.now))
+
+pub returns-clause-known : goal.returns-clause-known
+returns-clause-known g c = λ told.
+    filled_known _ _ c.requires.ready (c.fill.ensures.only_read c.args.store.now (reads_of_itself c.args.store.now)) c.in-Some.known _ told
+    (subst (IsKnown (g.D.Disk.seen (disk_of c.args.store.now))) c.in-Some.is (c.requires.known told)) c.fill.ensures.knows
+
+pub returns-clause-rows : goal.returns-clause-rows
+returns-clause-rows g c = λ db is.
+    let h = ready_holds c.args.store.now db c.requires.ready is in
+    let k = knows_now c.args.store.now c.requires.ready c.in-Some.known db (subst (IsKnown (g.D.Disk.seen (disk_of c.args.store.now))) c.in-Some.is (c.requires.known h.told)) is in
+    on_some c.fill.result _ (λ (x : Catalog). rows_at (database_of x.plain) c.args.key.now ≡ rows_at db c.args.key.now) (c.fill.ensures.rows _ db h.pages h.is_one k)
+
+pub returns-clause-cause : goal.returns-clause-cause
+returns-clause-cause g c = file_caused _ _ _ _ _ c.fill.result
+    (λ db is.
+    let h = ready_holds c.args.store.now db c.requires.ready is in
+    let k = knows_now c.args.store.now c.requires.ready c.in-Some.known db (subst (IsKnown (g.D.Disk.seen (disk_of c.args.store.now))) c.in-Some.is (c.requires.known h.told)) is in
+    (_, h.pages, λ a none. none db h.is_one k)) c.fill.ensures.cause

@@ -1,0 +1,11 @@
+use Rattle.std.proofs.Common.{sym, ◌∙◌}
+use Rattle.calculus.proofs.Texts.{trimmed_front, trimmed_whole}
+use Rattle.db_disk.proofs.head.trimmed.Goals as goal
+
+pub loop-last-preserved : goal.loop-last-preserved
+loop-last-preserved c =
+    sym (trimmed_front _ _ _ c.in-Some.ensures.cases.0 c.if-last-ne32.false) ∙ c.loop-last.invariant
+
+pub returns-then-last-ne32 : goal.returns-then-last-ne32
+returns-then-last-ne32 c =
+    trimmed_whole _ _ _ c.in-Some.ensures.cases.0 c.if-last-ne32.true ∙ c.loop-last.invariant

@@ -1,0 +1,26 @@
+use Rattle.std.proofs.Common.{subst, ◌∙◌}
+use Rattle.db_disk.specs.Head.{IsHead}
+use Rattle.db_disk.proofs.Loading.{for_whom, no_header_none, own_name, unborn_none}
+use Rattle.db_disk.proofs.load.load.Goals as goal
+
+pub returns-in-Of-clause-knows : goal.returns-in-Of-clause-knows
+returns-in-Of-clause-knows g c = λ m db is stands agree.
+    let named = subst (IsHead m) c.in-Of.is (c.in_ok-dba.ensures.head m is) in
+    c.load_for.ensures.knows m db (c.read_head.ensures.same ∙ is) stands (own_name m db c.in-Of.dba stands named.1) agree
+
+pub returns-in-Of-clause-cause : goal.returns-in-Of-clause-cause
+returns-in-Of-clause-cause g c =
+    for_whom _ _ c.in-Of.dba _ _ _ _ c.read_head.ensures.cause.later c.read_head.ensures.same
+    (λ m is. (subst (IsHead m) c.in-Of.is (c.in_ok-dba.ensures.head m is)).1) c.load_for.ensures.cause
+
+pub returns-in-NoHeader-clause-cause : goal.returns-in-NoHeader-clause-cause
+returns-in-NoHeader-clause-cause g c = record {
+  later = c.read_head.ensures.cause.later;
+  caused = λ m is. no_header_none m record { file = 0; page = 0 } (subst (IsHead m) c.in-NoHeader.is (c.in_ok-dba.ensures.head m is));
+}
+
+pub returns-in-Unborn-clause-cause : goal.returns-in-Unborn-clause-cause
+returns-in-Unborn-clause-cause g c = record {
+  later = c.read_head.ensures.cause.later;
+  caused = λ m is. unborn_none m record { file = 0; page = 1 } (subst (IsHead m) c.in-Unborn.is (c.in_ok-dba.ensures.head m is));
+}

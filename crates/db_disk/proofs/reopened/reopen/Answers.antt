@@ -1,0 +1,27 @@
+use Rattle.std.proofs.Common.{◌≡◌}
+use Rattle.am_traits.specs.declared.fault.BaseFault.TheVariants as faults
+use Rattle.db_disk.proofs.Causes.{damage_of_batch, restore_caused}
+use Rattle.db_disk.proofs.Holding.{holds_run, told_none, told_same}
+use Rattle.db_disk.proofs.reopened.reopen.Goals as goal
+
+pub returns-in-Ok-clause-same : goal.returns-in-Ok-clause-same
+returns-in-Ok-clause-same g c = told_same g.D.Disk.tells _ _ c.reopen.ensures.same
+
+pub returns-in-Ok-clause-crash : goal.returns-in-Ok-clause-crash
+returns-in-Ok-clause-crash g c = λ told. holds_run g.D.Disk.seen g.D.Disk.touched g.D.Disk.clock g.D.Disk.left_since _ _ (c.reopen.ensures.crash told)
+
+pub returns-in-Err-clause-same : goal.returns-in-Err-clause-same
+returns-in-Err-clause-same g c = told_same g.D.Disk.tells _ _ c.reopen.ensures.same
+
+pub returns-in-Err-clause-crash : goal.returns-in-Err-clause-crash
+returns-in-Err-clause-crash g c = λ told. holds_run g.D.Disk.seen g.D.Disk.touched g.D.Disk.clock g.D.Disk.left_since _ _ (c.reopen.ensures.crash told)
+
+pub returns-in-Err-clause-cause : goal.returns-in-Err-clause-cause
+returns-in-Err-clause-cause g c =
+    restore_caused _ _ _ c.in-Err.fault c.reopen.result c.fault_of.result c.in-Err.is c.fault_of.ensures c.reopen.ensures.cause
+    (λ file page is. told_none g.D.Disk.tells _ (λ told. c.reopen.ensures.damaged told file page is))
+
+pub returns-in-Err-clause-damaged : goal.returns-in-Err-clause-damaged
+returns-in-Err-clause-damaged g c = λ told file page is.
+    let e : c.fault_of.result ≡ faults.Damaged file page = cc is in
+    c.reopen.ensures.damaged told file page (damage_of_batch c.in-Err.fault c.reopen.result c.fault_of.result file page c.in-Err.is c.fault_of.ensures e)

@@ -1,0 +1,56 @@
+-- When a database isn't opened.
+use Rattle.std.specs.Prelude.{◌≡◌, ℕ, ◌≤◌, Option, None, Result, Ok, Err}
+use Rattle.calculus.specs.Database.{Db}
+use Rattle.am_traits.specs.Causes.{MayCome}
+use Rattle.am_traits.specs.declared.fault.BaseFault.TheVariants as faults
+use Rattle.disk_model.specs.declared.disk.Disk.{Ghosts}
+use Rattle.db_disk.specs.Shown.{disk_in}
+use Rattle.db_disk.specs.declared.base.DbDisk.{DbDisk}
+use Rattle.db_disk.specs.declared.load.LoadFault.{LoadFault}
+use Rattle.db_disk.specs.declared.load.LoadFault.TheVariants as load
+use Rattle.db_disk.specs.declared.at_once.OpenFault.{OpenFault}
+use Rattle.db_disk.specs.declared.at_once.OpenFault.TheVariants.{NotADatabase, Base}
+use Rattle.db_disk.specs.declared.at_once.Unopened.{Unopened}
+
+-- the fault with which a database isn't opened
+abbrev pub open_fault : LoadFault → OpenFault
+open_fault (load.NoHead page) = NotADatabase
+open_fault (load.Base fault) = Base fault
+
+-- this fault of an opening may come: of no database where none is told, and of a base as ever
+abbrev pub MayRefuse : Option Db → ℕ → ℕ → OpenFault → Type 0
+MayRefuse told before now NotADatabase = told ≡ None
+MayRefuse told before now (Base fault) = MayCome told before now fault
+
+-- no database, or a fault of the disk or want of memory that came first
+abbrev pub RefusedBy : OpenFault → Type 0
+RefusedBy NotADatabase = Unit {0}
+RefusedBy (Base faults.Disk) = Unit {0}
+RefusedBy (Base (faults.Damaged file page)) = ⊥
+RefusedBy (Base faults.OutOfMemory) = Unit {0}
+
+module _ {D : Type 0} {g : Ghosts D} where
+  -- the disk that is handed back, or lies below the database
+  abbrev pub disk_after : Result (DbDisk D g) (Unopened D) → D
+  disk_after (Ok d) = disk_in d
+  disk_after (Err u) = u.disk
+
+  -- a fault that may come
+  abbrev pub IsOpenCaused : Option Db → ℕ → ℕ → Result (DbDisk D g) (Unopened D) → Type 0
+  IsOpenCaused told before now (Ok d) = Unit {0}
+  IsOpenCaused told before now (Err u) = MayRefuse told before now u.fault
+
+  -- The count of faults never falls, and a fault comes only where it may.
+  pub record HasOpenCause (told : Option Db) (before now : ℕ) (result : Result (DbDisk D g) (Unopened D)) : Type 0 where
+    pub later : before ≤ now
+    pub caused : IsOpenCaused told before now result
+
+  -- it is no database
+  abbrev pub IsNot : Result (DbDisk D g) (Unopened D) → Type 0
+  IsNot (Ok d) = ⊥
+  IsNot (Err u) = u.fault ≡ NotADatabase
+
+  -- it was refused as no database, or a fault of the disk or want of memory came first
+  abbrev pub IsRefused : Result (DbDisk D g) (Unopened D) → Type 0
+  IsRefused (Ok d) = ⊥
+  IsRefused (Err u) = RefusedBy u.fault

@@ -1,0 +1,91 @@
+//! A database on a disk answers as any base does.
+
+ghost use Rattle.calculus.specs.IsDatabase.{IsDatabase};
+ghost use Rattle.db_disk.specs.Laws.{lawful_told, scanned_told};
+ghost use Rattle.db_disk.specs.Shown.{db_of, disk_in, left_of};
+
+use crate::DbDisk;
+use am_traits::{Base, BaseFault};
+use calculus::{DbChange, Name, Permit, Place, Probe, Query, RelInfo, RelKey, Row, Rule};
+use disk_model::Disk;
+use std::alloc::Global;
+
+impl<D: Disk> Base for DbDisk<D> {
+    ghost database = { db_of };
+
+    ghost faults = { λ d. D.faults (disk_in d) };
+
+    ghost left = { left_of };
+
+    ghost lawful = { λ d db is. lawful_told D.tells (D.seen (disk_in d)) db is };
+
+    ghost scanned = { λ d db key is. scanned_told D.tells (D.seen (disk_in d)) db key is };
+
+    fn dba(&mut self, alloc: Global) -> Result<Name, BaseFault> {
+        DbDisk::dba(self, alloc)
+    }
+
+    fn count(&mut self) -> Result<u32, BaseFault> {
+        DbDisk::count(self)
+    }
+
+    fn find(
+        &mut self,
+        alloc: Global,
+        name: &Name,
+        user: &Name,
+    ) -> Result<Option<RelInfo>, BaseFault> {
+        DbDisk::find(self, alloc, name, user)
+    }
+
+    fn info(&mut self, alloc: Global, key: &RelKey) -> Result<Option<RelInfo>, BaseFault> {
+        DbDisk::info(self, alloc, key)
+    }
+
+    fn size(&mut self, alloc: Global, key: &RelKey) -> Result<u32, BaseFault> {
+        DbDisk::size(self, alloc, key)
+    }
+
+    fn has_row(&mut self, alloc: Global, key: &RelKey, row: &Row) -> Result<bool, BaseFault> {
+        DbDisk::has_row(self, alloc, key, row)
+    }
+
+    fn scan(
+        &mut self,
+        alloc: Global,
+        key: &RelKey,
+        probe: &Probe,
+        at: &mut Place,
+    ) -> Result<Option<Row>, BaseFault> {
+        DbDisk::scan(self, alloc, key, probe, at)
+    }
+
+    fn view(&mut self, alloc: Global, key: &RelKey) -> Result<Option<Query>, BaseFault> {
+        DbDisk::view(self, alloc, key)
+    }
+
+    fn rules(&mut self, alloc: Global, key: &RelKey) -> Result<Vec<Rule>, BaseFault> {
+        DbDisk::rules(self, alloc, key)
+    }
+
+    fn permits(&mut self, alloc: Global, key: &RelKey) -> Result<Vec<Permit>, BaseFault> {
+        DbDisk::permits(self, alloc, key)
+    }
+
+    fn named_by_view(
+        &mut self,
+        alloc: Global,
+        key: &RelKey,
+        but: &[RelKey],
+    ) -> Result<bool, BaseFault> {
+        DbDisk::named_by_view(self, alloc, key, but)
+    }
+
+    fn apply(&mut self, alloc: Global, change: &DbChange) -> Result<(), BaseFault> {
+        DbDisk::apply(self, alloc, change)
+    }
+
+    fn hand_over(&mut self) {
+        DbDisk::hand_over(self)
+    }
+}

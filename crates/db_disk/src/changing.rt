@@ -1,0 +1,95 @@
+//! A change is laid on the pages of a database on a disk.
+
+ghost use Rattle.std.specs.Prelude.{◌≡◌, IsTrue, Some, Err, OnOk, IfOk, IsErrOf, is_some, true, false};
+ghost use Rattle.calculus.specs.Change.{IsLawful, laid};
+ghost use Rattle.calculus.specs.Database.{Db};
+ghost use Rattle.am_traits.specs.Causes.{HasCause};
+ghost use Rattle.access_traits.specs.Causes.{HasFileCause};
+ghost use Rattle.disk_model.specs.Disk.{Image, IsImage, LeavesOnly};
+ghost use Rattle.batch_file.specs.OnDisk.{IsClosed};
+ghost use Rattle.batch_file.specs.Redone.{kept, redone};
+ghost use Rattle.batch_store.specs.Standing.{IsOneOf};
+ghost use Rattle.batch_store.specs.Store.{disk_of, is_due, pages_of, waiting, CameOf};
+ghost use Rattle.db_disk.specs.Held.{database_in, held, IsEither, IsReady};
+ghost use Rattle.db_disk.specs.Known.{IsKnown};
+
+use crate::reopened::fault_of;
+use am_traits::BaseFault;
+use batch_store::BatchStore;
+use calculus::DbChange;
+use catalog::Catalog;
+use disk_model::Disk;
+use std::alloc::Global;
+
+/// Lays all pages that were put. Answers whether there were any: then the store is ready again.
+fn finish<D: Disk>(store: &mut BatchStore<D>) -> Result<bool, BaseFault>
+    requires { is_due store.old ≡ false }
+    ensures stands { (s : _) (m : Image) → CameOf s store.old → IsTrue D.tells
+        → IsClosed (D.seen (disk_of s)) (D.touched (disk_of s)) → pages_of store.old ≡ Some m
+        → LeavesOnly D.clock D.left_since (disk_of s) (disk_of store.new) (IsOneOf (kept (D.seen (disk_of s))) m) }
+    ensures durable { (s : _) (m : Image) → CameOf s store.old → IsTrue D.tells
+        → IsClosed (D.seen (disk_of s)) (D.touched (disk_of s)) → pages_of store.old ≡ Some m
+        → OnOk result ((x : Image) → IsImage (D.seen (disk_of store.new)) (D.touched (disk_of store.new)) x → redone x ≡ Some m) }
+    ensures ready { IfOk result (λ laid. laid ≡ true → IsReady store.new) }
+    ensures wanted { IsErrOf result BaseFault.OutOfMemory → ⊥ }
+    ensures cause { HasFileCause (pages_of store.old) (λ m a. ⊥) (D.faults (disk_of store.old)) (D.faults (disk_of store.new)) result }
+{
+    let were_put = !store.is_empty();
+    match store.finish() {
+        Ok(()) => Ok(were_put),
+        Err(fault) => Err(fault_of(fault)),
+    }
+}
+
+/// Lays a change on pages that are ready, or gives it up. Answers whether a page was put: then the
+/// store is ready again.
+pub(crate) fn lay<D: Disk>(
+    alloc: Global,
+    store: &mut BatchStore<D>,
+    catalog: &mut Catalog,
+    change: &DbChange,
+) -> Result<bool, BaseFault>
+    requires ready { IsReady store.old }
+    requires known { IsTrue D.tells → IsKnown (D.seen (disk_of store.old)) (Some catalog.old) }
+    requires lawful { (db : Db) → database_in store.old ≡ Some db → IsLawful db change.now }
+    ensures crash { (db : Db) → database_in store.old ≡ Some db
+        → LeavesOnly D.clock D.left_since (disk_of store.old) (disk_of store.new) (IsEither db (laid db change.now)) }
+    ensures durable { (db : Db) → database_in store.old ≡ Some db
+        → OnOk result ((m : Image) → IsImage (D.seen (disk_of store.new)) (D.touched (disk_of store.new)) m → held m ≡ Some (laid db change.now)) }
+    ensures ready { IfOk result (λ laid. laid ≡ true → IsReady store.new) }
+    ensures no_memory { IsErrOf result BaseFault.OutOfMemory → database_in store.new ≡ database_in store.old }
+    ensures cause { HasCause (database_in store.old) (D.faults (disk_of store.old)) (D.faults (disk_of store.new)) result }
+{
+    match catalog.lay(alloc, store, change) {
+        Ok(()) => finish(store),
+        Err(fault) => {
+            store.begin();
+            Err(fault)
+        }
+    }
+}
+
+/// Lays a change where the catalogue is there.
+pub(crate) fn lay_known<D: Disk>(
+    alloc: Global,
+    store: &mut BatchStore<D>,
+    catalog: &mut Option<Catalog>,
+    change: &DbChange,
+) -> Result<bool, BaseFault>
+    requires ready { IsReady store.old }
+    requires there { IsTrue (is_some catalog.old) }
+    requires known { IsTrue D.tells → IsKnown (D.seen (disk_of store.old)) catalog.old }
+    requires lawful { (db : Db) → database_in store.old ≡ Some db → IsLawful db change.now }
+    ensures crash { (db : Db) → database_in store.old ≡ Some db
+        → LeavesOnly D.clock D.left_since (disk_of store.old) (disk_of store.new) (IsEither db (laid db change.now)) }
+    ensures durable { (db : Db) → database_in store.old ≡ Some db
+        → OnOk result ((m : Image) → IsImage (D.seen (disk_of store.new)) (D.touched (disk_of store.new)) m → held m ≡ Some (laid db change.now)) }
+    ensures ready { IfOk result (λ laid. laid ≡ true → IsReady store.new) }
+    ensures no_memory { IsErrOf result BaseFault.OutOfMemory → database_in store.new ≡ database_in store.old }
+    ensures cause { HasCause (database_in store.old) (D.faults (disk_of store.old)) (D.faults (disk_of store.new)) result }
+{
+    match catalog {
+        Some(known) => lay(alloc, store, known, change),
+        None => unreachable!(),
+    }
+}

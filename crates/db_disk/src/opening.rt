@@ -1,0 +1,98 @@
+//! A database on a disk is opened.
+
+use crate::DbDisk;
+use crate::load::{LoadFault, base_fault, load};
+use crate::reopened::reopen;
+use am_traits::BaseFault;
+use disk_model::Disk;
+use std::alloc::Global;
+
+impl<D: Disk> DbDisk<D> {
+    ghost use Rattle.std.specs.Prelude.{◌≡◌, ℕ, IsTrue, None, Some, Err, OnOk, is_some, true, false};
+    ghost use Rattle.calculus.specs.Database.{Db};
+    ghost use Rattle.calculus.specs.Schema.{schema_of};
+    ghost use Rattle.am_traits.specs.Causes.{HasCause};
+    ghost use Rattle.disk_model.specs.Disk.{Image, LeavesOnly, OnlyReads};
+    ghost use Rattle.batch_file.specs.Redone.{kept, redone};
+    ghost use Rattle.db_disk.specs.Held.{has_head, SameHeld};
+    ghost use Rattle.db_disk.specs.Load.{as_base, IsNoHead};
+    ghost use Rattle.db_disk.specs.Shown.{db_of, disk_in, schema_in};
+    ghost use Rattle.db_disk.specs.declared.load.LoadFault.TheVariants.{NoHead as WithoutHead};
+
+    /// Restores the disk, where that wasn't done yet.
+    pub(crate) fn restored(&mut self) -> Result<(), BaseFault>
+        ensures opened { OnOk result (self.new.is_open ≡ true) }
+        ensures kept { db_of self.new ≡ db_of self.old }
+        ensures schema { schema_in self.new ≡ schema_in self.old }
+        ensures pages { IsTrue D.tells → OnOk result (redone (D.seen (disk_in self.old)) ≡ Some (kept (D.seen (disk_in self.new)))) }
+        ensures damaged { IsTrue D.tells → (file page : ℕ) → result ≡ Err (BaseFault.Damaged file page) → redone (D.seen (disk_in self.old)) ≡ None }
+        ensures crash { IsTrue D.tells → LeavesOnly D.clock D.left_since (disk_in self.old) (disk_in self.new)
+            (SameHeld (D.seen (disk_in self.old)) (D.touched (disk_in self.old))) }
+        ensures cause { HasCause (db_of self.old) (D.faults (disk_in self.old)) (D.faults (disk_in self.new)) result }
+    {
+        if self.is_open {
+            return Ok(());
+        }
+        let done = reopen(&mut self.store);
+        self.is_open = done.is_ok();
+        done
+    }
+
+    /// Reads the catalogue, where that wasn't done yet.
+    pub(crate) fn loaded(&mut self, alloc: Global) -> Result<(), LoadFault>
+        requires { self.old.is_open ≡ true }
+        ensures opened { self.new.is_open ≡ true }
+        ensures there { OnOk result (IsTrue (is_some (schema_in self.new))) }
+        ensures kept { db_of self.new ≡ db_of self.old }
+        ensures keeps { (s : Db) → schema_in self.old ≡ Some s → schema_in self.new ≡ Some s }
+        ensures only_reads { IsTrue D.tells → OnlyReads D.seen D.touched D.clock D.left_since (disk_in self.old) (disk_in self.new) }
+        ensures no_head { IsTrue D.tells → (page : ℕ) → result ≡ Err (WithoutHead page) → has_head (kept (D.seen (disk_in self.old))) ≡ false }
+        ensures headless { IsTrue D.tells → schema_in self.old ≡ None → has_head (kept (D.seen (disk_in self.old))) ≡ false → IsNoHead result }
+        ensures cause { HasCause (db_of self.old) (D.faults (disk_in self.old)) (D.faults (disk_in self.new)) (as_base result) }
+    {
+        if self.catalog.is_some() {
+            return Ok(());
+        }
+        match load(alloc, &mut self.store) {
+            Ok(catalog) => {
+                self.catalog = Some(catalog);
+                Ok(())
+            }
+            Err(fault) => Err(fault),
+        }
+    }
+
+    /// Restores the disk and reads the catalogue, where that wasn't done yet.
+    pub(crate) fn start(&mut self, alloc: Global) -> Result<(), LoadFault>
+        ensures there { OnOk result (IsTrue (is_some (schema_in self.new))) }
+        ensures kept { db_of self.new ≡ db_of self.old }
+        ensures keeps { (s : Db) → schema_in self.old ≡ Some s → schema_in self.new ≡ Some s }
+        ensures no_head { IsTrue D.tells → (m : Image) (page : ℕ) → redone (D.seen (disk_in self.old)) ≡ Some m → result ≡ Err (WithoutHead page) → has_head m ≡ false }
+        ensures headless { IsTrue D.tells → (m : Image) → redone (D.seen (disk_in self.old)) ≡ Some m → schema_in self.old ≡ None → has_head m ≡ false → IsNoHead result }
+        ensures crash { IsTrue D.tells → LeavesOnly D.clock D.left_since (disk_in self.old) (disk_in self.new)
+            (SameHeld (D.seen (disk_in self.old)) (D.touched (disk_in self.old))) }
+        ensures cause { HasCause (db_of self.old) (D.faults (disk_in self.old)) (D.faults (disk_in self.new)) (as_base result) }
+    {
+        match self.restored() {
+            Ok(()) => self.loaded(alloc),
+            Err(fault) => Err(LoadFault::Base(fault)),
+        }
+    }
+
+    /// Opens the database, where that wasn't done yet: restores the disk, which begins with a sync and
+    /// lays a batch that was begun, and reads the catalogues, each page once.
+    pub fn open(&mut self, alloc: Global) -> Result<(), BaseFault>
+        ensures there { OnOk result (IsTrue (is_some (schema_in self.new))) }
+        ensures kept { db_of self.new ≡ db_of self.old }
+        ensures keeps { (s : Db) → schema_in self.old ≡ Some s → schema_in self.new ≡ Some s }
+        ensures schema { (db : Db) → db_of self.old ≡ Some db → OnOk result (schema_in self.new ≡ Some (schema_of db)) }
+        ensures crash { IsTrue D.tells → LeavesOnly D.clock D.left_since (disk_in self.old) (disk_in self.new)
+            (SameHeld (D.seen (disk_in self.old)) (D.touched (disk_in self.old))) }
+        ensures cause { HasCause (db_of self.old) (D.faults (disk_in self.old)) (D.faults (disk_in self.new)) result }
+    {
+        match self.start(alloc) {
+            Ok(()) => Ok(()),
+            Err(fault) => Err(base_fault(fault)),
+        }
+    }
+}

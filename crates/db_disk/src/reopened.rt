@@ -1,0 +1,40 @@
+//! A disk is restored before it is read, and a batch is laid.
+
+ghost use Rattle.std.specs.Prelude.{◌≡◌, ℕ, IsTrue, Some, None, Err, OnOk};
+ghost use Rattle.am_traits.specs.Causes.{HasCause};
+ghost use Rattle.disk_model.specs.Disk.{LeavesOnly};
+ghost use Rattle.batch_file.specs.Redone.{kept, redone};
+ghost use Rattle.batch_store.specs.Store.{disk_of};
+ghost use Rattle.db_disk.specs.Answered.{of_restore};
+ghost use Rattle.db_disk.specs.Held.{database_in, IsReady, SameHeld};
+
+use am_traits::BaseFault;
+use batch_file::RestoreFault;
+use batch_store::BatchStore;
+use disk_model::Disk;
+
+/// The fault of a base where a batch isn't laid.
+pub(crate) fn fault_of(fault: RestoreFault) -> BaseFault
+    ensures { result ≡ of_restore fault }
+{
+    match fault {
+        RestoreFault::Disk => BaseFault::Disk,
+        RestoreFault::Damaged { file, page } => BaseFault::Damaged { file, page },
+    }
+}
+
+/// Lays a batch that was begun, once all that was written is durable. What the disk holds stays.
+pub(crate) fn reopen<D: Disk>(store: &mut BatchStore<D>) -> Result<(), BaseFault>
+    ensures same { database_in store.new ≡ database_in store.old }
+    ensures ready { OnOk result (IsReady store.new) }
+    ensures restored { IsTrue D.tells → OnOk result (redone (D.seen (disk_of store.old)) ≡ Some (kept (D.seen (disk_of store.new)))) }
+    ensures damaged { IsTrue D.tells → (file page : ℕ) → result ≡ Err (BaseFault.Damaged file page) → redone (D.seen (disk_of store.old)) ≡ None }
+    ensures crash { IsTrue D.tells → LeavesOnly D.clock D.left_since (disk_of store.old) (disk_of store.new)
+        (SameHeld (D.seen (disk_of store.old)) (D.touched (disk_of store.old))) }
+    ensures cause { HasCause (database_in store.old) (D.faults (disk_of store.old)) (D.faults (disk_of store.new)) result }
+{
+    match store.reopen() {
+        Ok(_) => Ok(()),
+        Err(fault) => Err(fault_of(fault)),
+    }
+}

@@ -1,0 +1,101 @@
+//! What is asked of the rows of a database on a disk.
+
+use crate::filling::fill;
+use crate::{DbDisk, asked_rows};
+use am_traits::BaseFault;
+use calculus::{Place, Probe, RelKey, Row};
+use disk_model::Disk;
+use std::alloc::Global;
+
+impl<D: Disk> DbDisk<D> {
+    ghost use Rattle.std.specs.Prelude.{◌≡◌, IsTrue, Some, IfOk, OnOk, is_some, length, true};
+    ghost use Rattle.calculus.specs.Database.{Db};
+    ghost use Rattle.calculus.specs.Rows.{has};
+    ghost use Rattle.calculus.specs.Stored.{rows_at};
+    ghost use Rattle.am_traits.specs.Causes.{HasCause};
+    ghost use Rattle.am_traits.specs.Scans.{Gives, IsOver};
+    ghost use Rattle.disk_model.specs.Disk.{LeavesOnly, OnlyReads};
+    ghost use Rattle.plain_base.specs.Shown.{database_of};
+    ghost use Rattle.catalog.specs.declared.catalog.Catalog.{Catalog as KnownCatalog};
+    ghost use Rattle.db_disk.specs.Held.{SameHeld};
+    ghost use Rattle.db_disk.specs.Shown.{db_of, disk_in, left_of, schema_in};
+
+    /// Opens the database and reads the rows of a relation.
+    fn filled(&mut self, alloc: Global, key: &RelKey) -> Result<(), BaseFault>
+        ensures there { OnOk result (IsTrue (is_some self.new.catalog)) }
+        ensures rows { (db : Db) → db_of self.old ≡ Some db
+            → OnOk result ((c : KnownCatalog) → self.new.catalog ≡ Some c → rows_at (database_of c.plain) key.now ≡ rows_at db key.now) }
+        ensures kept { db_of self.new ≡ db_of self.old }
+        ensures keeps { (s : Db) → schema_in self.old ≡ Some s → schema_in self.new ≡ Some s }
+        ensures crash { IsTrue D.tells → LeavesOnly D.clock D.left_since (disk_in self.old) (disk_in self.new)
+            (SameHeld (D.seen (disk_in self.old)) (D.touched (disk_in self.old))) }
+        ensures cause { HasCause (db_of self.old) (D.faults (disk_in self.old)) (D.faults (disk_in self.new)) result }
+    {
+        self.open(alloc)?;
+        self.fill_open(alloc, key)
+    }
+
+    /// Reads the rows of a relation of a database that is open.
+    fn fill_open(&mut self, alloc: Global, key: &RelKey) -> Result<(), BaseFault>
+        requires { IsTrue (is_some (schema_in self.old)) }
+        ensures there { IsTrue (is_some self.new.catalog) }
+        ensures rows { (db : Db) → db_of self.old ≡ Some db
+            → OnOk result ((c : KnownCatalog) → self.new.catalog ≡ Some c → rows_at (database_of c.plain) key.now ≡ rows_at db key.now) }
+        ensures kept { db_of self.new ≡ db_of self.old }
+        ensures schema { schema_in self.new ≡ schema_in self.old }
+        ensures only_reads { IsTrue D.tells → OnlyReads D.seen D.touched D.clock D.left_since (disk_in self.old) (disk_in self.new) }
+        ensures cause { HasCause (db_of self.old) (D.faults (disk_in self.old)) (D.faults (disk_in self.new)) result }
+    {
+        fill(alloc, &mut self.store, &mut self.catalog, key)
+    }
+
+    /// How many rows the relation or catalogue under a key has.
+    pub fn size(&mut self, alloc: Global, key: &RelKey) -> Result<u32, BaseFault>
+        ensures told { (db : Db) → db_of self.old ≡ Some db → IfOk result (λ n. n ≡ length (rows_at db key.now)) }
+        ensures kept { db_of self.new ≡ db_of self.old }
+        ensures same { left_of self.new ≡ left_of self.old }
+        ensures keeps { (s : Db) → schema_in self.old ≡ Some s → schema_in self.new ≡ Some s }
+        ensures crash { IsTrue D.tells → LeavesOnly D.clock D.left_since (disk_in self.old) (disk_in self.new)
+            (SameHeld (D.seen (disk_in self.old)) (D.touched (disk_in self.old))) }
+        ensures cause { HasCause (db_of self.old) (D.faults (disk_in self.old)) (D.faults (disk_in self.new)) result }
+    {
+        self.filled(alloc, key)?;
+        asked_rows::size(&mut self.catalog, alloc, key)
+    }
+
+    /// Whether the relation or catalogue under a key has the row.
+    pub fn has_row(&mut self, alloc: Global, key: &RelKey, row: &Row) -> Result<bool, BaseFault>
+        ensures told { (db : Db) → db_of self.old ≡ Some db → IfOk result (λ b. b ≡ has (rows_at db key.now) row.now) }
+        ensures kept { db_of self.new ≡ db_of self.old }
+        ensures same { left_of self.new ≡ left_of self.old }
+        ensures keeps { (s : Db) → schema_in self.old ≡ Some s → schema_in self.new ≡ Some s }
+        ensures crash { IsTrue D.tells → LeavesOnly D.clock D.left_since (disk_in self.old) (disk_in self.new)
+            (SameHeld (D.seen (disk_in self.old)) (D.touched (disk_in self.old))) }
+        ensures cause { HasCause (db_of self.old) (D.faults (disk_in self.old)) (D.faults (disk_in self.new)) result }
+    {
+        self.filled(alloc, key)?;
+        asked_rows::has_row(&mut self.catalog, alloc, key, row)
+    }
+
+    /// The next row of the relation or catalogue under a key that meets the probe, from a place on,
+    /// which moves behind it.
+    pub fn scan(
+        &mut self,
+        alloc: Global,
+        key: &RelKey,
+        probe: &Probe,
+        at: &mut Place,
+    ) -> Result<Option<Row>, BaseFault>
+        ensures told { (db : Db) → db_of self.old ≡ Some db → Gives probe.now (left_of self.old key.now) at.old at.new result }
+        ensures over { (db : Db) → db_of self.old ≡ Some db → IsOver probe.now (left_of self.old key.now) at.new result }
+        ensures kept { db_of self.new ≡ db_of self.old }
+        ensures same { left_of self.new ≡ left_of self.old }
+        ensures keeps { (s : Db) → schema_in self.old ≡ Some s → schema_in self.new ≡ Some s }
+        ensures crash { IsTrue D.tells → LeavesOnly D.clock D.left_since (disk_in self.old) (disk_in self.new)
+            (SameHeld (D.seen (disk_in self.old)) (D.touched (disk_in self.old))) }
+        ensures cause { HasCause (db_of self.old) (D.faults (disk_in self.old)) (D.faults (disk_in self.new)) result }
+    {
+        self.filled(alloc, key)?;
+        asked_rows::scan(&mut self.catalog, alloc, key, probe, at)
+    }
+}
