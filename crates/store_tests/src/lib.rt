@@ -1,4 +1,5 @@
-//! Tests of what stands on pages: a database that is made, and files of rows.
+//! Tests of what stands on pages: a database that is made, files of rows, and databases that are changed,
+//! stopped and damaged.
 #![tactic(auto)]
 
 #[cfg(test)]
@@ -6,4 +7,8 @@ mod counting;
 #[cfg(test)]
 mod creating;
 #[cfg(test)]
+mod databases;
+#[cfg(test)]
 mod files;
+#[cfg(test)]
+mod made;
