@@ -36,7 +36,7 @@ behind_more bound page lt = let t : nat_lt (suc page) bound ≡ true = grind (ar
 behind_last : (bound page : ℕ) → bound ≤ suc page → behind bound page ≡ 0
 behind_last bound page le = let t : nat_lt (suc page) bound ≡ false = grind (arith, nat_tests) in ap (λ b. if b then suc page else 0) t
 
-goes_to : (bound page : ℕ) (p : Option (List ℕ)) (next : ℕ) → next_of bound page p ≡ Some next → next ≡ behind bound page → goes_on bound page p ≡ true
+pub goes_to : (bound page : ℕ) (p : Option (List ℕ)) (next : ℕ) → next_of bound page p ≡ Some next → next ≡ behind bound page → goes_on bound page p ≡ true
 goes_to bound page p next e is =
     ap (λ o. is_number (behind bound page) o) e ∙ (let t : (next == behind bound page) ≡ true = grind (arith, nat_tests) in t)
 

@@ -11,3 +11,5 @@ pub mod RowTests
 pub mod Changed
 pub mod Whole
 pub mod Standing
+pub mod Rising
+pub mod DoneNear

@@ -1,5 +1,5 @@
 -- The rows of a heap, the pages of which are read by counting; and when a page isn't as it must be.
-use Rattle.std.specs.Prelude.{◌≡◌, ℕ, suc, ◌-◌, ◌==◌, ◌&&◌, nat_lt, Bool, false, List, Option, Some, None, is_some, if◌then◌else◌}
+use Rattle.std.specs.Prelude.{◌≡◌, ℕ, suc, ◌-◌, ◌==◌, ◌&&◌, nat_lt, Bool, true, false, List, Option, Some, None, is_some, if◌then◌else◌}
 use Rattle.calculus.specs.declared.probe.Place.{Place}
 use Rattle.calculus.specs.Rows.{Row}
 use Rattle.am_traits.specs.declared.fault.BaseFault.{BaseFault}
@@ -8,6 +8,7 @@ use Rattle.disk_model.specs.Disk.{Image, is_at}
 use Rattle.disk_model.specs.declared.disk.Addr.{Addr}
 use Rattle.access_traits.specs.Placed.{Placed}
 use Rattle.access_traits.specs.declared.file.RelFile.{RelFile}
+use Rattle.page_cells.specs.Page.{Slot}
 use Rattle.page_chain.specs.Lists.{each}
 use Rattle.page_chain.specs.Lying.{lying_on}
 use Rattle.page_chain.specs.Pages.{pages_of, page_at, next_of}
@@ -25,6 +26,11 @@ is_number n (Some m) = m == n
 -- the page goes on to the one right behind it, or to none where it is the last of so many
 abbrev pub goes_on : ℕ → ℕ → Option (List ℕ) → Bool
 goes_on used page p = is_number (behind used page) (next_of used page p)
+
+-- what stands in the slot, if anything, is a row that can be read
+abbrev pub is_readable : (List ℕ → Option Row) → Slot → Bool
+is_readable read None = true
+is_readable read (Some bytes) = is_some (read bytes)
 
 -- each row on the page is one that can be read
 abbrev pub has_rows : (List ℕ → Option Row) → ℕ → Option (List ℕ) → Bool

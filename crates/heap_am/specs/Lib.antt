@@ -1,3 +1,4 @@
 pub mod Heap
 pub mod Met
 pub mod Laws
+pub mod Near

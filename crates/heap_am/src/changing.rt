@@ -99,7 +99,7 @@ impl Heap {
     }
 
     /// Takes the rows with these bytes away, and puts those with others. `false` where fewer went.
-    fn renew<S: PageStore>(
+    pub(crate) fn renew<S: PageStore>(
         &mut self,
         alloc: Global,
         store: &mut S,

@@ -7,6 +7,7 @@ mod fitting;
 mod heap;
 mod lines;
 mod method;
+mod near;
 mod pages;
 mod scanning;
 mod whole_pages;

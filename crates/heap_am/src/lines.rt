@@ -1,6 +1,6 @@
 //! The rows in the lines of a page.
 
-ghost use Rattle.std.specs.Prelude.{◌≡◌, ◌<◌, Some, None, slice_index_or, IfOk, IfErr};
+ghost use Rattle.std.specs.Prelude.{◌≡◌, ◌<◌, Some, None, is_some, slice_index_or, IsTrue, IfOk, IfErr, OnOk};
 ghost use Rattle.am_traits.specs.declared.fault.BaseFault.TheVariants.{Damaged};
 ghost use Rattle.disk_model.specs.Disk.{Image};
 ghost use Rattle.access_traits.specs.Placed.{Placed, row_with};
@@ -8,7 +8,7 @@ ghost use Rattle.page_cells.specs.Page.{IsPage, lines, slots};
 ghost use Rattle.page_chain.specs.Lying.{place_of};
 ghost use Rattle.page_chain.specs.Pages.{page_at};
 ghost use Rattle.page_chain.specs.Rows.{reader};
-ghost use Rattle.heap_am.specs.Heap.{heap_rows, IsOfPage, IsOfRow};
+ghost use Rattle.heap_am.specs.Heap.{heap_rows, is_readable, IsOfPage, IsOfRow};
 
 use crate::Heap;
 use am_traits::BaseFault;
@@ -46,6 +46,7 @@ impl Heap {
     /// The row whose bytes these are. Where they are those of none the page is damaged.
     fn row_on(&self, alloc: Global, number: u32, bytes: &[u8]) -> Result<Option<Row>, BaseFault>
         ensures row { IfOk result (λ row. row ≡ reader self.now.file.domains bytes.now) }
+        ensures read { OnOk result (IsTrue (is_some (reader self.now.file.domains bytes.now))) }
         ensures fault { IfErr result (IsOfRow self.now.file number bytes.now) }
     {
         match row_read(alloc, bytes, self.file.domains.items())? {
@@ -66,6 +67,7 @@ impl Heap {
         requires below { number < self.now.file.used }
         ensures told { (m : Image) (rows : Placed) → heap_rows self.now.file m ≡ Some rows → m (page_at self.now.file.file number) ≡ Some page.now
             → IfOk result (λ row. row ≡ row_with rows (place_of number line)) }
+        ensures read { OnOk result (IsTrue (is_readable (reader self.now.file.domains) (slice_index_or (slots page.now) line None))) }
         ensures fault { IfErr result (IsOfPage self.now.file number page.now) }
     {
         match slot(page, line) {

@@ -1,11 +1,11 @@
 //! A page of a heap is read.
 
-ghost use Rattle.std.specs.Prelude.{◌≡◌, ◌<◌, Some, OnOk};
+ghost use Rattle.std.specs.Prelude.{◌≡◌, ◌<◌, Some, IsTrue, OnOk};
 ghost use Rattle.disk_model.specs.Disk.{Image, RisesUpTo};
 ghost use Rattle.access_traits.specs.Causes.{HasFileCause};
 ghost use Rattle.page_cells.specs.Page.{IsPage};
 ghost use Rattle.page_chain.specs.Pages.{page_at};
-ghost use Rattle.heap_am.specs.Heap.{behind, HeapFault};
+ghost use Rattle.heap_am.specs.Heap.{behind, goes_on, HeapFault};
 
 use crate::Heap;
 use access_traits::PageStore;
@@ -33,6 +33,7 @@ impl Heap {
         requires below { number < self.now.file.used }
         ensures there { (m : Image) → S.pages store.old ≡ Some m → OnOk result (m (page_at self.now.file.file number) ≡ Some out.new) }
         ensures page { OnOk result (IsPage out.new) }
+        ensures goes { OnOk result (IsTrue (goes_on self.now.file.used number (Some out.new))) }
         ensures same { S.pages store.new ≡ S.pages store.old }
         ensures reads { RisesUpTo 1 (S.reads store.old) (S.reads store.new) }
         ensures kept { S.last store.old ≡ Some (page_at self.now.file.file number) → S.reads store.new ≡ S.reads store.old }

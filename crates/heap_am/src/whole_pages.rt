@@ -1,13 +1,14 @@
 //! The rows of a page, all at once.
 
-ghost use Rattle.std.specs.Prelude.{◌≡◌, ◌+◌, ◌++◌, ◌<◌, [], ◌∷◌, Some, IfOk, IfErr, OnOk};
+ghost use Rattle.std.specs.Prelude.{◌≡◌, ◌+◌, ◌++◌, ◌<◌, [], ◌∷◌, Some, IsTrue, IfOk, IfErr, OnOk};
 ghost use Rattle.disk_model.specs.Disk.{Image, RisesUpTo};
 ghost use Rattle.access_traits.specs.Causes.{HasFileCause};
 ghost use Rattle.access_traits.specs.Placed.{Placed};
 ghost use Rattle.page_cells.specs.Page.{IsPage};
 ghost use Rattle.page_chain.specs.Lying.{place_of};
 ghost use Rattle.page_chain.specs.Pages.{page_at};
-ghost use Rattle.heap_am.specs.Heap.{heap_rows, HeapFault, IsOfPage};
+ghost use Rattle.page_chain.specs.Rows.{reader};
+ghost use Rattle.heap_am.specs.Heap.{heap_rows, has_rows, stands, HeapFault, IsOfPage};
 ghost use Rattle.heap_am.specs.Met.{placed_from, on_page};
 
 use crate::Heap;
@@ -34,6 +35,7 @@ impl Heap {
         requires below { number < self.now.file.used }
         ensures told { (m : Image) (rows : Placed) → heap_rows self.now.file m ≡ Some rows → m (page_at self.now.file.file number) ≡ Some page.now
             → IfOk result (λ found. placed_from rows (place_of number 0) ≡ on_page number found ++ placed_from rows (place_of (number + 1) 0)) }
+        ensures read { OnOk result (IsTrue (has_rows (reader self.now.file.domains) number (Some page.now))) }
         ensures fault { IfErr result (IsOfPage self.now.file number page.now) }
     {
         let mut found = Vec::new(alloc);
@@ -57,6 +59,7 @@ impl Heap {
         requires below { number < self.now.file.used }
         ensures told { (m : Image) (rows : Placed) → S.pages store.old ≡ Some m → heap_rows self.now.file m ≡ Some rows
             → IfOk result (λ found. placed_from rows (place_of number 0) ≡ on_page number found ++ placed_from rows (place_of (number + 1) 0)) }
+        ensures stands { (m : Image) → S.pages store.old ≡ Some m → OnOk result (IsTrue (stands (reader self.now.file.domains) self.now.file.used number (m (page_at self.now.file.file number)))) }
         ensures same { S.pages store.new ≡ S.pages store.old }
         ensures reads { RisesUpTo 1 (S.reads store.old) (S.reads store.new) }
         ensures kept { S.last store.old ≡ Some (page_at self.now.file.file number) → S.reads store.new ≡ S.reads store.old }

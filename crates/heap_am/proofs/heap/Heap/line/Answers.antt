@@ -1,7 +1,8 @@
-use Rattle.std.proofs.Common.{◌≡◌, sym, ap, ◌∙◌, Some, None, get_or}
+use Rattle.std.proofs.Common.{◌≡◌, sym, ap, subst, ◌∙◌, Some, None, IsTrue, OnOk, get_or}
 use Rattle.std.specs.Option.{option_copied}
 use Rattle.page_cells.specs.Page.{slots}
 use Rattle.page_chain.specs.Rows.{reader}
+use Rattle.heap_am.specs.Heap.{is_readable}
 use Rattle.heap_am.proofs.Faults.{row_at_line, slot_read, of_page}
 use Rattle.heap_am.proofs.Outcomes.{if_ok, if_err}
 use Rattle.heap_am.proofs.heap.Heap.line.Goals as goal
@@ -10,6 +11,11 @@ pub returns-in-Some-clause-told : goal.returns-in-Some-clause-told
 returns-in-Some-clause-told c m rows e is =
     let at : get_or (slots c.args.page.now) c.args.line None ≡ Some c.in-Some.bytes.now = sym c.slot.ensures.row ∙ ap option_copied c.in-Some.is in
     if_ok c.row_on.result c.row_on.ensures.row (λ row r. r ∙ sym (row_at_line c.args.self.now.file m rows c.args.number c.args.line c.args.page.now c.requires.below e is ∙ ap (slot_read (reader c.args.self.now.file.domains)) at))
+
+pub returns-in-Some-clause-read : goal.returns-in-Some-clause-read
+returns-in-Some-clause-read c =
+    let at : get_or (slots c.args.page.now) c.args.line None ≡ Some c.in-Some.bytes.now = sym c.slot.ensures.row ∙ ap option_copied c.in-Some.is in
+    subst (λ s. OnOk c.row_on.result (IsTrue (is_readable (reader c.args.self.now.file.domains) s))) (sym at) c.row_on.ensures.read
 
 pub returns-in-Some-clause-fault : goal.returns-in-Some-clause-fault
 returns-in-Some-clause-fault c =
@@ -20,3 +26,8 @@ pub returns-in-None-clause-told : goal.returns-in-None-clause-told
 returns-in-None-clause-told c m rows e is =
     let at : get_or (slots c.args.page.now) c.args.line None ≡ None = sym c.slot.ensures.row ∙ ap option_copied c.in-None.is in
     sym (row_at_line c.args.self.now.file m rows c.args.number c.args.line c.args.page.now c.requires.below e is ∙ ap (slot_read (reader c.args.self.now.file.domains)) at)
+
+pub returns-in-None-clause-read : goal.returns-in-None-clause-read
+returns-in-None-clause-read c =
+    let at : get_or (slots c.args.page.now) c.args.line None ≡ None = sym c.slot.ensures.row ∙ ap option_copied c.in-None.is in
+    ap (is_readable (reader c.args.self.now.file.domains)) at

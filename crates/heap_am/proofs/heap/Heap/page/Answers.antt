@@ -1,5 +1,6 @@
-use Rattle.std.proofs.Common.{sym, ◌∙◌}
+use Rattle.std.proofs.Common.{sym, ◌∙◌, Some}
 use Rattle.heap_am.specs.Heap.{HeapFault}
+use Rattle.heap_am.proofs.Counting.{goes_to}
 use Rattle.heap_am.proofs.Faults.{cause_by, cause_damaged, off_page, bad_next}
 use Rattle.heap_am.proofs.Outcomes.{handed_on}
 use Rattle.heap_am.proofs.heap.Heap.page.Goals as goal
@@ -13,3 +14,6 @@ pub returns-then-next-behind-clause-cause : goal.returns-then-next-behind-clause
 returns-then-next-behind-clause-cause g c =
     cause_damaged (g.S.PageStore.pages c.args.store.now) c.args.self.now.file c.args.number (g.S.PageStore.faults c.args.store.now) (g.S.PageStore.faults c.chain_page.new.store) c.damaged.result c.damaged.ensures c.in_ok-next.ensures.cause.later
     (λ m e. bad_next c.args.self.now.file m c.args.number c.in_ok-next.next c.chain_page.new.out c.requires.below (c.in_ok-next.ensures.there m e) c.in_ok-next.ensures.follows (λ same. c.if-next-behind.true (same ∙ sym c.behind.ensures)))
+
+pub returns-clause-goes : goal.returns-clause-goes
+returns-clause-goes g c = goes_to c.args.self.now.file.used c.args.number (Some c.chain_page.new.out) c.in_ok-next.next c.in_ok-next.ensures.follows (c.if-next-behind.false ∙ c.behind.ensures)

@@ -1,0 +1,14 @@
+use Rattle.heap_am.proofs.Changed.{are_short, bytes_are}
+use Rattle.heap_am.proofs.heap.Heap.replace_near.Goals as goal
+
+pub renew_first-requires-clause-short : goal.renew_first-requires-clause-short
+renew_first-requires-clause-short g c =
+    are_short c.items-4.result.now c.in_ok-new.new c.items.result.now c.args.self.now.file.domains c.args.coming.now c.items-4.ensures c.items.ensures c.in_ok-new.ensures c.args.self.now.some c.args.self.now.most c.requires.coming
+
+pub returns-clause-told : goal.returns-clause-told
+returns-clause-told g c m rows t e differ once there =
+    c.renew_first.ensures.told m rows c.args.going.now c.args.coming.now t e c.requires.going
+    (bytes_are c.items-3.result.now c.in_ok-gone.gone c.items-2.result.now c.args.self.now.file.domains c.args.going.now c.items-3.ensures c.items-2.ensures c.in_ok-gone.ensures)
+    c.requires.coming
+    (bytes_are c.items-4.result.now c.in_ok-new.new c.items.result.now c.args.self.now.file.domains c.args.coming.now c.items-4.ensures c.items.ensures c.in_ok-new.ensures)
+    differ once there
