@@ -1,13 +1,16 @@
 //! A file of rows, whatever its structure.
 
-ghost use Rattle.std.specs.Prelude.{◌≡◌, ◌+◌, ◌++◌, ◌<◌, ◌≤◌, Some, IfOk, OnOk};
+ghost use Rattle.std.specs.Prelude.{◌≡◌, ◌+◌, ◌++◌, ◌^◌, ◌<◌, ◌≤◌, Some, true, All, IsTrue, IfOk, OnOk, length};
 ghost use Rattle.disk_model.specs.Disk.{Image, RisesUpTo};
+ghost use Rattle.calculus.specs.Rows.{has};
 ghost use Rattle.access_traits.specs.Causes.{HasFileCause};
-ghost use Rattle.access_traits.specs.Placed.{Placed};
-ghost use Rattle.page_cells.specs.RowBytes.{widths};
+ghost use Rattle.access_traits.specs.Pages.{KeepsOthers};
+ghost use Rattle.access_traits.specs.Placed.{Placed, Replaced, NowHolds, SameButUsed, rows_differ, rows_of};
+ghost use Rattle.page_cells.specs.RowBytes.{is_row, widths};
 ghost use Rattle.page_chain.specs.Lying.{place_of};
 ghost use Rattle.page_chain.specs.Pages.{page_at};
-ghost use Rattle.heap_am.specs.Heap.{heap_rows, pages_ahead, HeapFault};
+ghost use Rattle.page_chain.specs.Rows.{reader};
+ghost use Rattle.heap_am.specs.Heap.{heap_rows, stands, pages_ahead, HeapFault};
 ghost use Rattle.heap_am.specs.Laws.{no_rows_at_fault, own_pages, whole_scan};
 ghost use Rattle.heap_am.specs.Met.{placed_from, on_page};
 
@@ -57,6 +60,7 @@ impl Method {
         requires below { number < self.now.heap.file.used }
         ensures told { (m : Image) (rows : Placed) → S.pages store.old ≡ Some m → heap_rows self.now.heap.file m ≡ Some rows
             → IfOk result (λ found. placed_from rows (place_of number 0) ≡ on_page number found ++ placed_from rows (place_of (number + 1) 0)) }
+        ensures stands { (m : Image) → S.pages store.old ≡ Some m → OnOk result (IsTrue (stands (reader self.now.heap.file.domains) self.now.heap.file.used number (m (page_at self.now.heap.file.file number)))) }
         ensures same { S.pages store.new ≡ S.pages store.old }
         ensures reads { RisesUpTo 1 (S.reads store.old) (S.reads store.new) }
         ensures kept { S.last store.old ≡ Some (page_at self.now.heap.file.file number) → S.reads store.new ≡ S.reads store.old }
@@ -66,6 +70,30 @@ impl Method {
         ensures cause { HasFileCause (S.pages store.old) (HeapFault self.now.heap.file) (S.faults store.old) (S.faults store.new) result }
     {
         self.heap.page_rows(alloc, store, number)
+    }
+
+    /// As `replace`, but it looks for the rows that go on these pages first; where all lie there, no other
+    /// page is read but the last. Which pages they are makes no difference to what is done.
+    pub fn replace_near<S: PageStore>(
+        &mut self,
+        alloc: Global,
+        store: &mut S,
+        near: &[u32],
+        going: &[Row],
+        coming: &[Row],
+    ) -> Result<bool, BaseFault>
+        requires going { All (λ row. IsTrue (is_row row self.old.heap.file.domains)) going.now }
+        requires coming { All (λ row. IsTrue (is_row row self.old.heap.file.domains)) coming.now }
+        requires room { self.old.heap.file.used + length coming.now < 2 ^ 32 }
+        ensures told { (m : Image) (rows : Placed) → S.pages store.old ≡ Some m → heap_rows self.old.heap.file m ≡ Some rows
+            → rows_differ (rows_of rows) ≡ true → rows_differ going.now ≡ true → All (λ row. IsTrue (has (rows_of rows) row)) going.now
+            → IfOk result (λ all. IsTrue all × NowHolds (heap_rows self.new.heap.file) (S.pages store.new) (Replaced rows going.now coming.now)) }
+        ensures others { OnOk result (KeepsOthers self.old.heap.file.file (S.pages store.old) (S.pages store.new)) }
+        ensures file { OnOk result (SameButUsed self.old.heap.file self.new.heap.file) }
+        ensures came { (s : S) → S.came s store.old → S.came s store.new }
+        ensures cause { HasFileCause (S.pages store.old) (HeapFault self.old.heap.file) (S.faults store.old) (S.faults store.new) result }
+    {
+        self.heap.replace_near(alloc, store, near, going, coming)
     }
 }
 
