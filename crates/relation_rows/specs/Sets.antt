@@ -1,13 +1,14 @@
--- The set of rows on the pages of a file.
+-- The rows on the pages of a file, and the set of them.
 use Rattle.std.specs.Prelude.{◌≡◌, ℕ, true, IsTrue, List, All, Option, Some}
 use Rattle.calculus.specs.declared.value.Domain.{Domain}
 use Rattle.calculus.specs.Rows.{Row, has}
 use Rattle.disk_model.specs.Disk.{Image}
 use Rattle.disk_model.specs.declared.disk.Addr.{Addr}
-use Rattle.access_traits.specs.Placed.{rows_differ}
+use Rattle.access_traits.specs.Placed.{Placed, rows_of, rows_differ}
 use Rattle.access_traits.specs.declared.file.RelFile.{RelFile}
 use Rattle.page_chain.specs.Pages.{pages_of}
 use Rattle.page_chain.specs.Rows.{reader, set_on}
+use Rattle.heap_am.specs.Heap.{heap_rows}
 
 -- The pages are told, and on those of this file, so many, are these rows.
 pub record HasSet (domains : List Domain) (file used : ℕ) (rows : List Row) (told : Option Image) : Type 0 where
@@ -19,3 +20,9 @@ pub record HasSet (domains : List Domain) (file used : ℕ) (rows : List Row) (t
 abbrev pub HasNoneOf : RelFile → List Row → Image → Addr → Type 0
 HasNoneOf file remove m a = (rows : List Row) → set_on (reader file.domains) file.used (pages_of m file.file) ≡ Some rows
     → rows_differ remove ≡ true → All (λ row. IsTrue (has rows row)) remove → ⊥
+
+-- The pages are those of a heap, and these are its rows, in the order of their places.
+pub record IsRead (file : RelFile) (m : Image) (found : List Row) : Type 0 where
+  pub placed : Placed
+  pub on_pages : heap_rows file m ≡ Some placed
+  pub rows : found ≡ rows_of placed

@@ -14,6 +14,8 @@ ghost use Rattle.page_chain.specs.Pages.{pages_of};
 ghost use Rattle.page_chain.specs.Rows.{reader, set_on};
 ghost use Rattle.relation_rows.specs.Sets.{HasNoneOf, HasSet};
 
+use crate::spots::RowSpots;
+use crate::unseen::pages_near;
 use access::open_method;
 use access_traits::{AccessMethod, PageStore, RelFile};
 use am_traits::BaseFault;
@@ -21,13 +23,16 @@ use calculus::Row;
 use heap_am::Heap;
 use std::alloc::Global;
 
-/// Takes rows of a relation's file away and puts others, in one pass that ends where all that are to go
-/// were found; without rows that are to go, only the last page is read. Answers how many pages the file
-/// has then. A file that could grow to 2^32 pages answers want of memory.
+/// Takes rows of a relation's file away and puts others. Where few rows are to go, the pages on which they
+/// were seen are read alone, and the last; else it is one pass, which ends where all that are to go were
+/// found. Without rows that are to go only the last page is read. What is done is the same wherever rows
+/// were seen. Answers how many pages the file has then. A file that could grow to 2^32 pages answers
+/// want of memory.
 pub fn change_rows<S: PageStore>(
     alloc: Global,
     store: &mut S,
     file: RelFile,
+    spots: &mut RowSpots,
     remove: &[Row],
     add: &[Row],
 ) -> Result<u32, BaseFault>
@@ -52,14 +57,16 @@ pub fn change_rows<S: PageStore>(
         return Err(BaseFault::OutOfMemory);
     }
     let mut method = open_method(file);
-    if method.replace(alloc, store, remove, add)? {
-        Ok(method.info().used)
-    } else {
-        Err(BaseFault::Damaged {
+    let near = pages_near(alloc, store, &method, spots, remove)?;
+    if !method.replace_near(alloc, store, near.items(), remove, add)? {
+        return Err(BaseFault::Damaged {
             file: number,
             page: 0,
-        })
+        });
     }
+    let now = method.info().used;
+    spots.note(near.items(), remove, add, used, now)?;
+    Ok(now)
 }
 
 /// Makes a relation's file anew with these rows, and answers how many pages it has.

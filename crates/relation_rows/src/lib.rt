@@ -3,6 +3,9 @@
 
 mod changing;
 mod reading;
+mod spots;
+mod unseen;
 
 pub use changing::{build_rows, change_rows};
 pub use reading::relation_rows;
+pub use spots::RowSpots;

@@ -1,28 +1,46 @@
-use Rattle.std.proofs.Common.{◌∙◌, sym, ap, subst, true≢false}
+use Rattle.std.proofs.Common.{◌∙◌, sym, ap, subst, true≢false, arith}
+use Rattle.access_traits.specs.Pages.{KeepsOthers}
 use Rattle.access_traits.specs.Placed.{SameButUsed}
 use Rattle.calculus.specs.Replacement.{with_rows, without_rows}
-use Rattle.heap_am.specs.Heap.{heap_rows}
-use Rattle.heap_am.proofs.Outcomes.{handed_on}
-use Rattle.relation_rows.specs.Sets.{HasSet}
-use Rattle.relation_rows.proofs.Holding.{all_went, fault_told, set_after}
+use Rattle.heap_am.specs.Heap.{heap_rows, HeapFault}
+use Rattle.page_chain.proofs.Carried.{cause_carried}
+use Rattle.relation_rows.specs.Sets.{HasNoneOf, HasSet}
+use Rattle.relation_rows.proofs.Holding.{all_went, holds_none, set_after}
 use Rattle.relation_rows.proofs.changing.change_rows.Goals as goal
 
-pub returns-in_err-replace-clause-cause : goal.returns-in_err-replace-clause-cause
-returns-in_err-replace-clause-cause g c =
-    fault_told c.args.file c.open_method-method.result.heap.file c.args.remove.now (g.S.PageStore.pages c.args.store.now) (g.S.PageStore.faults c.args.store.now) (g.S.PageStore.faults c.replace.new.store)
-    c.from_residual.result c.in_err-replace.field-0.0 c.open_method-method.ensures c.in_err-replace.ensures.cause (handed_on c.from_residual.result c.in_err-replace.field-0.0 c.from_residual.ensures.1)
+pub returns-in_err-near-clause-cause : goal.returns-in_err-near-clause-cause
+returns-in_err-near-clause-cause g c =
+    let old = g.S.PageStore.pages c.args.store.now in
+    let start = g.S.PageStore.faults c.args.store.now in
+    cause_carried old old (HeapFault c.open_method-method.result.heap.file) (HasNoneOf c.args.file c.args.remove.now) start start (g.S.PageStore.faults c.pages_near.new.store) c.in_err-near.field-0.0 (omega arith)
+    (λ a at m told. holds_none c.args.file c.args.remove.now m a (subst (λ file. HeapFault file m a) c.open_method-method.ensures (at m told)))
+    c.in_err-near.ensures.cause c.from_residual.result c.from_residual.ensures.1
 
-pub returns-then-branch-clause-changed : goal.returns-then-branch-clause-changed
-returns-then-branch-clause-changed g c m rows t set differ there once new =
-    subst (λ used. HasSet c.args.file.domains c.args.file.file used (with_rows c.args.add.now (without_rows c.args.remove.now rows)) (g.S.PageStore.pages c.replace.new.store)) (ap (λ file. file.used) (sym c.info.ensures))
-    (set_after c.args.file c.replace.new.self.heap.file m rows c.args.remove.now c.args.add.now (g.S.PageStore.pages c.replace.new.store) c.in_ok-replace.field-0 set differ there
-    (λ placed are. c.in_ok-replace.ensures.told m placed t (ap (λ file. heap_rows file m) c.open_method-method.ensures ∙ are))
-    (subst (λ file. SameButUsed file c.replace.new.self.heap.file) c.open_method-method.ensures c.in_ok-replace.ensures.file) once new)
+pub returns-in_err-replace_near-clause-cause : goal.returns-in_err-replace_near-clause-cause
+returns-in_err-replace_near-clause-cause g c =
+    let old = g.S.PageStore.pages c.args.store.now in
+    let mid = g.S.PageStore.pages c.pages_near.new.store in
+    cause_carried old mid (HeapFault c.open_method-method.result.heap.file) (HasNoneOf c.args.file c.args.remove.now) (g.S.PageStore.faults c.args.store.now) (g.S.PageStore.faults c.pages_near.new.store)
+    (g.S.PageStore.faults c.replace_near.new.store) c.in_err-replace_near.field-0.0 c.in_ok-near.ensures.cause.later
+    (λ a at m told. holds_none c.args.file c.args.remove.now m a (subst (λ file. HeapFault file m a) c.open_method-method.ensures (at m (c.in_ok-near.ensures.same ∙ told))))
+    c.in_err-replace_near.ensures.cause c.from_residual-in_err-replace_near.result c.from_residual-in_err-replace_near.ensures.1
 
-pub returns-clause-cause : goal.returns-clause-cause
-returns-clause-cause g c = record {
-  later = c.in_ok-replace.ensures.cause.later;
+pub returns-then-not-branch-clause-cause : goal.returns-then-not-branch-clause-cause
+returns-then-not-branch-clause-cause g c = record {
+  later = (let a = c.in_ok-near.ensures.cause.later in let b = c.in_ok-replace_near.ensures.cause.later in omega (arith, a, b));
   caused = λ m t rows set differ there.
-      true≢false (sym (all_went c.args.file c.replace.new.self.heap.file m rows c.args.remove.now c.args.add.now (g.S.PageStore.pages c.replace.new.store) c.in_ok-replace.field-0 set differ there
-      (λ placed are. c.in_ok-replace.ensures.told m placed t (ap (λ file. heap_rows file m) c.open_method-method.ensures ∙ are))) ∙ c.if-branch.false);
+      true≢false (sym (all_went c.args.file c.replace_near.new.self.heap.file m rows c.args.remove.now c.args.add.now (g.S.PageStore.pages c.replace_near.new.store) c.in_ok-replace_near.field-0 set differ there
+      (λ placed are. c.in_ok-replace_near.ensures.told m placed (c.in_ok-near.ensures.same ∙ t) (ap (λ file. heap_rows file m) c.open_method-method.ensures ∙ are))) ∙ c.if-not-branch.true);
 }
+
+pub returns-clause-changed : goal.returns-clause-changed
+returns-clause-changed g c m rows t set differ there once new =
+    subst (λ used. HasSet c.args.file.domains c.args.file.file used (with_rows c.args.add.now (without_rows c.args.remove.now rows)) (g.S.PageStore.pages c.replace_near.new.store)) (ap (λ file. file.used) (sym c.info.ensures))
+    (set_after c.args.file c.replace_near.new.self.heap.file m rows c.args.remove.now c.args.add.now (g.S.PageStore.pages c.replace_near.new.store) c.in_ok-replace_near.field-0 set differ there
+    (λ placed are. c.in_ok-replace_near.ensures.told m placed (c.in_ok-near.ensures.same ∙ t) (ap (λ file. heap_rows file m) c.open_method-method.ensures ∙ are))
+    (subst (λ file. SameButUsed file c.replace_near.new.self.heap.file) c.open_method-method.ensures c.in_ok-replace_near.ensures.file) once new)
+
+pub returns-clause-others : goal.returns-clause-others
+returns-clause-others g c =
+    subst (λ file. KeepsOthers file (g.S.PageStore.pages c.args.store.now) (g.S.PageStore.pages c.replace_near.new.store)) (ap (λ file. file.file) c.open_method-method.ensures)
+    (subst (λ told. KeepsOthers c.open_method-method.result.heap.file.file told (g.S.PageStore.pages c.replace_near.new.store)) c.in_ok-near.ensures.same c.in_ok-replace_near.ensures.others)
