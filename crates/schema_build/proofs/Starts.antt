@@ -25,7 +25,7 @@ use Rattle.schema_build.specs.declared.parts.SchemaParts.{SchemaParts}
 use Rattle.schema_build.specs.Parts.{parts_in, index_in, view_in, whole, index_owners_agree}
 use Rattle.schema_build.specs.Laying.{Shuffled, changes_of, made_index, made_relation, made_view, made_rule, made_permit, is_of_its_base, relation_of, index_of, view_of, rule_of, permit_of, makes_a_part, IsLeft, nothing_in, round, behind, stepped}
 use Rattle.schema_build.proofs.Shuffles.{same, back, all_shuffled}
-use Rattle.schema_build.proofs.Members.{all_unmapped, all_of, in_test, as_test}
+use Rattle.schema_build.proofs.Members.{all_mapped, all_unmapped, all_of, in_test, as_test}
 use Rattle.schema_build.proofs.Whole.{whole_is}
 
 -- ---- what each change makes
@@ -102,6 +102,18 @@ of_their_bases dba p db e is agree =
     let base = both _ _ kind.1 in
     let attrs = both (not (is_any x.info.attrs)) _ base.1 in
     each _ _ kind.0 (each _ _ attrs.0 (in_test (λ x. bytes_eq x.info.key.owner x.base.owner) db.indexes x agree at)))))))
+
+-- and so they do where all are of their bases
+pub owners_of_bases : (dba : List ℕ) (p : SchemaParts) (db : Db) → list_all (λ x. is_of_its_base (index_in x)) p.indexes ≡ true → whole dba (parts_in p) ≡ Some db → index_owners_agree db ≡ true
+unfolding parts_in index_owners_agree
+owners_of_bases dba p db own e =
+    as_test (λ x. bytes_eq x.info.key.owner x.base.owner) db.indexes
+    (all_shuffled (λ x. IsTrue (bytes_eq x.info.key.owner x.base.owner)) (map index_in p.indexes) db.indexes (whole_is dba (parts_in p) db e).indexes
+    (all_mapped (λ x. IsTrue (bytes_eq x.info.key.owner x.base.owner)) index_in p.indexes
+    (all_of (λ x. IsTrue (bytes_eq (index_in x).info.key.owner (index_in x).base.owner)) p.indexes (λ x at. (
+    let t = in_test (λ x. is_of_its_base (index_in x)) p.indexes x own at in
+    let kind = both (is_index x.info.spec) (not (is_any x.info.attrs) && bytes_eq x.info.key.owner x.base.owner) t in
+    (both (not (is_any x.info.attrs)) (bytes_eq x.info.key.owner x.base.owner) kind.1).1)))))
 
 -- ---- before anything is laid
 

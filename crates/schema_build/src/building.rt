@@ -58,6 +58,7 @@ pub fn build_schema(
     parts: SchemaParts,
 ) -> Result<Option<DbPlain>, OutOfMemory>
     ensures built { IfOk result (λ found. ForSome found (λ plain. whole dba (parts_in parts) ≡ Some (database_of plain))) }
+    ensures owners { IfOk result (λ found. ForSome found (λ plain. index_owners_agree (database_of plain) ≡ true)) }
     ensures refused { IfOk result (λ found. found ≡ None → (db : Db) → whole dba (parts_in parts) ≡ Some db → IsDatabase db → index_owners_agree db ≡ true → ⊥) }
 {
     if !are_of_their_bases(parts.indexes.items()) {

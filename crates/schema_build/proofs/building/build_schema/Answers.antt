@@ -5,6 +5,7 @@ use Rattle.calculus.specs.IsDatabase.{IsDatabase}
 use Rattle.plain_base.specs.Shown.{database_of}
 use Rattle.schema_build.specs.Parts.{Parts, index_in, whole}
 use Rattle.schema_build.specs.Laying.{IsLeft, nothing_in, is_of_its_base}
+use Rattle.schema_build.proofs.Starts.{owners_of_bases}
 use Rattle.schema_build.proofs.Told.{built, refused, not_agreed, if_answered}
 use Rattle.schema_build.proofs.building.build_schema.Goals as goal
 
@@ -26,3 +27,10 @@ returns-in-Ok-clause-refused c =
     if_answered c.laid_on_nothing.result (λ found told none db made is agree. refused c.args.dba c.args.parts (nothing_in c.args.dba) own refl
     (subst (λ changes. (owner : List ℕ) (parts : Parts) (db : Db) → IsLeft owner changes (nothing_in c.args.dba) parts → whole owner parts ≡ Some db → IsDatabase db → ⊥) c.in-Ok.ensures (told none))
     db made is agree) c.laid_on_nothing.ensures.refused
+
+pub returns-in-Ok-clause-owners : goal.returns-in-Ok-clause-owners
+returns-in-Ok-clause-owners c =
+    let own : list_all (λ x. is_of_its_base (index_in x)) c.args.parts.indexes ≡ true = search rules in
+    if_answered c.laid_on_nothing.result (λ found told plain is. owners_of_bases c.args.dba c.args.parts (database_of plain) own (built c.args.dba c.args.parts (database_of plain) (nothing_in c.args.dba) own plain.is refl
+    (subst (λ changes. (owner : List ℕ) (parts : Parts) → IsLeft owner changes (nothing_in c.args.dba) parts → IsLeft owner [] (database_of plain) parts) c.in-Ok.ensures (told plain is))))
+    c.laid_on_nothing.ensures.built
