@@ -1,0 +1,3 @@
+pub mod EmptyPages
+pub mod Images
+pub mod Spelling
