@@ -45,7 +45,7 @@ use Rattle.loaded_laws.proofs.Changes.{takes_changes}
 use Rattle.loaded_laws.proofs.Part.{has_schema, part, part_info}
 use Rattle.loaded_laws.proofs.Stands.{part_is_database}
 use Rattle.catalog.specs.Knows.{Knows, KnowsAfter}
-use Rattle.catalog.specs.Laid.{MayTake, HasMade, IsPrepared, IsKept, going_of, coming_of}
+use Rattle.catalog.specs.Laid.{MayTake, HasMade, IsPrepared, IsKept, SeesTheSame, going_of, coming_of}
 use Rattle.catalog.specs.declared.catalog.Catalog.{Catalog}
 use Rattle.catalog.proofs.Places.{bases_after, kept_after}
 
@@ -138,9 +138,22 @@ itself (change.Rule rel rule) db after = refl
 itself (change.DropPermits rel numbers) db after = refl
 itself (change.DropRules rel numbers) db after = refl
 
+pub sees_itself : (made : DbChange) (f : Files) (m : Image) → SeesTheSame made f m m
+unfolding SeesTheSame
+sees_itself (change.Rows rel remove add) f m = refl
+sees_itself (change.Create info rows) f m = tt
+sees_itself (change.Destroy rels) f m = tt
+sees_itself (change.Modify rel to keys) f m = tt
+sees_itself (change.Index base name keys) f m = tt
+sees_itself (change.View info query) f m = tt
+sees_itself (change.Permit rel permit) f m = tt
+sees_itself (change.Rule rel rule) f m = tt
+sees_itself (change.DropPermits rel numbers) f m = tt
+sees_itself (change.DropRules rel numbers) f m = tt
+
 module _ (c : Catalog) (m : Image) (db : Db) (made : DbChange) (is : IsDatabase db) (knows : Knows c m db) (lawful : IsLawful db made) where
   pub may_take : MayTake (database_of c.plain) db (files_of c.files) made m
-  may_take = record { is = is; has = knows.has; schema = ap schema_of knows.plain ∙ has_schema (is_in c.loaded) db; lawful = lawful }
+  may_take = record { is = is; over = m; has = knows.has; sees = sees_itself made (files_of c.files) m; schema = ap schema_of knows.plain ∙ has_schema (is_in c.loaded) db; lawful = lawful }
 
   module _ (file used : ℕ) (told : Option Image) (its : HasMade made db (files_of c.files) file used m told) where
     first_stay : (b : Addr) → b.file < 16 → its.image b ≡ m b

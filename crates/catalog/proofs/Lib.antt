@@ -4,5 +4,10 @@ pub mod Filled
 pub mod Forgotten
 pub mod Known
 pub mod Relations
+pub mod Overlay
+pub mod LiesLaid
+pub mod LiesKnown
+pub mod LiesRead
+pub mod LiesLoaded
 pub mod Steps
 pub mod Places

@@ -60,7 +60,7 @@ use Rattle.catalogue_rows.specs.declared.entries.EntryRow.{EntryRow}
 use Rattle.catalog.specs.declared.catalog.Catalog.{Catalog}
 use Rattle.catalog.specs.declared.loading.Chains.{Chains}
 use Rattle.catalog.specs.Knows.{Knows, NoDatabase}
-use Rattle.catalog.specs.Loading.{AreFound, HoldsFor, IfKnown, IsMadeOf, NoCatalogueIn, NoneIn, SpellsNone}
+use Rattle.catalog.specs.Loading.{AreFound, HoldsFor, IfKnown, IsMadeOf, IsOfParts, NoCatalogueIn, NoneIn, SpellsNone}
 
 -- ---- what the rows of chains list
 
@@ -121,7 +121,7 @@ spelled_on dba m db h =
     }
 
 -- no rows are known at first
-no_rows : (c : Catalog) (db : Db) → ((key : RelKey) → is_in c.loaded key ≡ false) → schema_of db ≡ loaded_part (is_in c.loaded) db
+pub no_rows : (c : Catalog) (db : Db) → ((key : RelKey) → is_in c.loaded key ≡ false) → schema_of db ≡ loaded_part (is_in c.loaded) db
 unfolding loaded_part schema_of
 no_rows c db none = sym (ap (λ (has : RelKey → Bool). record db { relations = map (λ r. elim (has r.info.key) [ true ↦ r | false ↦ bare r ]) db.relations }) (λ i key. none key i))
 
@@ -131,6 +131,13 @@ ends_of pages rows last f = record { earlier = f.earlier; chain = f.chain }
 -- the last pages of the chains
 abbrev pub ends_in : Chains → Ends
 ends_in c = record { entries = c.entries.last; columns = c.columns.last; parts = c.parts.last }
+
+pub chains_end : (m : Image) (chains : Chains) → AreFound m chains → AreEnds m (ends_in chains)
+chains_end m chains found = record {
+  entries = ends_of (pages_of m 5) chains.entries.rows chains.entries.last found.entries;
+  columns = ends_of (pages_of m 6) chains.columns.rows chains.columns.last found.columns;
+  parts = ends_of (pages_of m 7) chains.parts.rows chains.parts.last found.parts;
+}
 
 -- what was made of the rows knows the database that the pages stand for
 pub made_knows : (dba : List ℕ) (m : Image) (db : Db) (chains : Chains) (cat : Catalogue) (c : Catalog)
@@ -146,7 +153,7 @@ made_knows dba m db chains cat c found h read made =
       bases = made.bases db (pages_of m) s.is_one (subst (HasFiles db (pages_of m)) (sym made.files) p.1) (ap (λ (c : Catalogue). c.entries) (p.0 ∙ ap (λ f. printed db f) (sym made.files)));
       catalogue = there ∙ ap Some p.0 ∙ ap (λ f. Some (printed db f)) (sym made.files);
       has = subst (HasFiles db (pages_of m)) (sym made.files) p.1;
-      ends = subst (AreEnds m) (sym made.ends_there) (record { entries = ends_of (pages_of m 5) chains.entries.rows chains.entries.last found.entries; columns = ends_of (pages_of m 6) chains.columns.rows chains.columns.last found.columns; parts = ends_of (pages_of m 7) chains.parts.rows chains.parts.last found.parts });
+      ends = subst (AreEnds m) (sym made.ends_there) (chains_end m chains found);
       owners = h.owners;
     }
 
@@ -268,10 +275,10 @@ files_shown rows = refl
 
 pub is_made : (dba : List ℕ) (rows : CatalogueRows) (ends : Ends) (c x : Catalog) → Some c ≡ Some x → ((files : ℕ → Pages) (db : Db) → spelled dba files (catalogue_shown rows) ≡ Some db → database_of c.plain ≡ schema_of db)
     → files_of c.files ≡ files_in (record { entries = map entry_in rows.entries; columns = []; parts = [] }) → ((key : RelKey) → is_in c.loaded key ≡ false) → c.ends ≡ ends
-    → ((db : Db) (files : ℕ → Pages) → IsDatabase db → HasFiles db files (files_of c.files) → map entry_in rows.entries ≡ (printed db (files_of c.files)).entries → IndexBases c.files db) → IsMadeOf dba (catalogue_shown rows) ends x
+    → ((db : Db) (files : ℕ → Pages) → IsDatabase db → HasFiles db files (files_of c.files) → map entry_in rows.entries ≡ (printed db (files_of c.files)).entries → IndexBases c.files db) → IsOfParts dba (catalogue_shown rows) (database_of c.plain) → IsMadeOf dba (catalogue_shown rows) ends x
 unfolding catalogue_shown
-is_made dba rows ends c x same schema files none ends_there bases =
-    subst (IsMadeOf dba (catalogue_shown rows) ends) (same_Some c x same) (record { schema = schema; files = files ∙ files_shown rows; none = none; ends_there = ends_there; bases = bases })
+is_made dba rows ends c x same schema files none ends_there bases of_parts =
+    subst (IsMadeOf dba (catalogue_shown rows) ends) (same_Some c x same) (record { schema = schema; files = files ∙ files_shown rows; none = none; of_parts = of_parts; ends_there = ends_there; bases = bases })
 
 pub known_made : (dba : List ℕ) (m : Image) (db : Db) (chains : Chains) (cat : Catalogue) (r : Result (Option Catalog) OutOfMemory)
     → catalogue_of chains.entries.rows chains.columns.rows chains.parts.rows ≡ Some cat → AreFound m chains → HoldsFor dba m db

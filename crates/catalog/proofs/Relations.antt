@@ -51,7 +51,7 @@ use Rattle.stored_database.proofs.Reading.{both, together}
 use Rattle.stored_database.specs.Names.{is_number32}
 use Rattle.laying_laws.specs.Placed.{Suits, MakesPages, IsMade, IsFree, is_used}
 use Rattle.catalog.specs.Filling.{IsFileOf, IsFileWith}
-use Rattle.catalog.specs.Laid.{MayTake, HasMade, PutsNoRows}
+use Rattle.catalog.specs.Laid.{MayTake, HasMade, PutsNoRows, SeesTheSame}
 
 -- ---- rows that fit
 
@@ -184,20 +184,22 @@ pub record Standing (db : Db) (rel : RelKey) (remove add : List Row) (file : Rel
 
 pub standing : (part db : Db) (f : Files) (rel : RelKey) (remove add : List Row) (file : RelFile) (m : Image) → is_relation part rel ≡ true → IsFileOf part f rel file
     → MayTake part db f (change.Rows rel remove add) m → Standing db rel remove add file m
-unfolding rows_in
+unfolding rows_in SeesTheSame
 standing part db f rel remove add file m here its may =
     let u = under db rel (named_relation db rel remove add may.lawful) in
     let p = under part rel here in
     let attrs : p.r.info.attrs ≡ u.r.info.attrs =
     sym (its_attrs part rel p.r p.found) ∙ sym (attrs_alike part rel) ∙ ap (λ (s : Db). attrs_at s rel) may.schema ∙ attrs_alike db rel ∙ its_attrs db rel u.r u.found in
     let read : each domain_of u.r.info.attrs ≡ Some file.domains = ap (each domain_of) (sym attrs) ∙ its.domains p.r (sym p.found) in
-    let rows = of_all (λ (r : Relation). rows_in (pages_of m) f r ≡ Some r.rows) db.relations u.r may.has.rows u.there in
+    let rows = of_all (λ (r : Relation). rows_in (pages_of may.over) f r ≡ Some r.rows) db.relations u.r may.has.rows u.there in
+    let sees : pages_of may.over (f.file u.r.info.key) ≡ pages_of m (f.file u.r.info.key) = subst (λ (key : RelKey). pages_of may.over (f.file key) ≡ pages_of m (f.file key)) (sym u.named) may.sees in
     record {
       at = u;
       read = read;
       set =
           ap₂ (λ (n : ℕ) (k : ℕ). set_on (reader file.domains) n (pages_of m k)) (its.pages ∙ ap f.used (sym u.named)) (its.number ∙ ap f.file (sym u.named))
-          ∙ sym (ap (λ o. o >>= (λ domains. set_on (reader domains) (f.used u.r.info.key) (pages_of m (f.file u.r.info.key)))) read) ∙ rows;
+          ∙ sym (λ i. set_on (reader file.domains) (f.used u.r.info.key) (sees i))
+          ∙ sym (ap (λ o. o >>= (λ domains. set_on (reader domains) (f.used u.r.info.key) (pages_of may.over (f.file u.r.info.key)))) read) ∙ rows;
       go = subst (λ rows. RowsGo rows remove add) (its_rows db rel u.r u.found) (rows_go db rel remove add may.lawful);
       alone = λ s at e. one_of db.relations may.is.relations_ascend s u.r at u.there (same_key_is s.info.key rel e ∙ sym u.named);
     }

@@ -6,7 +6,7 @@ use Rattle.calculus.specs.declared.query.RelKey.{RelKey}
 use Rattle.calculus.specs.declared.change.DbChange.{DbChange}
 use Rattle.calculus.specs.declared.change.DbChange.TheVariants as change
 use Rattle.calculus.specs.Change.{IsLawful, laid}
-use Rattle.calculus.specs.Database.{Db, Relation}
+use Rattle.calculus.specs.Database.{Db, Relation, is_relation}
 use Rattle.calculus.specs.IsDatabase.{IsDatabase}
 use Rattle.calculus.specs.Keys.{same_key}
 use Rattle.calculus.specs.Replacement.{with_rows, without_rows}
@@ -25,11 +25,15 @@ use Rattle.catalogue_moves.specs.Files.{files_of, is_in}
 use Rattle.catalogue_moves.specs.Moves.{HavePlaces}
 use Rattle.catalogue_pages.specs.declared.writing.Ends.{Ends}
 use Rattle.catalogue_pages.specs.Ends.{AreEnds, NoCatalogue, Written}
-use Rattle.loaded_laws.specs.Loaded.{knows_rows}
+use Rattle.loaded_laws.specs.Loaded.{known_after, knows_rows}
+use Rattle.loaded_laws.proofs.Changes.{takes_changes}
+use Rattle.loaded_laws.proofs.Part.{has_schema, starts_bare}
 use Rattle.catalog.specs.Knows.{Knows, KnowsAfter, KnowsNoneFor}
 use Rattle.catalog.specs.Laid.{MayTake, NoneMayTake, HasMade, IsPrepared, IsKept, going_of, coming_of}
 use Rattle.catalog.specs.declared.catalog.Catalog.{Catalog}
+use Rattle.catalog.specs.Lies.{LiesAfter, LiesOn}
 use Rattle.catalog.proofs.Known.{may_take, part_lawful, ends_there, catalogue_there, part_bases, prepared, known_then}
+use Rattle.catalog.proofs.LiesLaid.{catalogue_in_place, ends_in_place, lies_then, part_may_take, part_prepared}
 
 -- the same is known where the database in memory is the same
 pub knows_same : (c : Catalog) (p : DbPlain) (m : Image) (db : Db) → database_of p ≡ database_of c.plain → Knows c m db → Knows (record c { plain = p }) m db
@@ -86,19 +90,30 @@ rows_leave_schema : (rel : RelKey) (remove add : List Row) (db : Db) → schema_
 unfolding schema_of laid
 rows_leave_schema rel remove add db = λ i. record db { relations = bare_changed rel remove add db.relations i }
 
--- a change makes the same schema of databases that are the same but for rows that are read
-pub schema_laid : (made : DbChange) (a b : Db) → schema_of a ≡ schema_of b → (knows_rows made (λ key. false) ≡ true → a ≡ b) → schema_of (laid a made) ≡ schema_of (laid b made)
+-- a schema has itself as its schema
+schema_again : (db : Db) → schema_of (schema_of db) ≡ schema_of db
+schema_again db = ap schema_of (sym (starts_bare db)) ∙ has_schema (λ key. false) db
+
+-- a change that names no rows makes of a schema that of what it makes
+no_rows_laid : (made : DbChange) (p old : Db) → IsDatabase p → IsLawful p made → schema_of p ≡ schema_of old → knows_rows made (λ key. false) ≡ true → schema_of (laid p made) ≡ schema_of (laid (schema_of old) made)
+no_rows_laid made p old is lawful same none =
+    sym (has_schema (known_after made (λ key. false)) (laid p made))
+    ∙ ap schema_of (sym (takes_changes.after (λ key. false) p made is lawful none))
+    ∙ ap (λ (d : Db). schema_of (laid d made)) (starts_bare p ∙ same)
+
+-- a change makes the same schema of a database and of its schema
+pub schema_laid : (made : DbChange) (p old : Db) → IsDatabase p → IsLawful p made → schema_of p ≡ schema_of old → schema_of (laid p made) ≡ schema_of (laid (schema_of old) made)
 unfolding knows_rows
-schema_laid (change.Rows rel remove add) a b same exact = rows_leave_schema rel remove add a ∙ same ∙ sym (rows_leave_schema rel remove add b)
-schema_laid (change.Create info rows) a b same exact = ap (λ (d : Db). schema_of (laid d (change.Create info rows))) (exact refl)
-schema_laid (change.Destroy rels) a b same exact = ap (λ (d : Db). schema_of (laid d (change.Destroy rels))) (exact refl)
-schema_laid (change.Modify rel to keys) a b same exact = ap (λ (d : Db). schema_of (laid d (change.Modify rel to keys))) (exact refl)
-schema_laid (change.Index base name keys) a b same exact = ap (λ (d : Db). schema_of (laid d (change.Index base name keys))) (exact refl)
-schema_laid (change.View info query) a b same exact = ap (λ (d : Db). schema_of (laid d (change.View info query))) (exact refl)
-schema_laid (change.Permit rel permit) a b same exact = ap (λ (d : Db). schema_of (laid d (change.Permit rel permit))) (exact refl)
-schema_laid (change.Rule rel rule) a b same exact = ap (λ (d : Db). schema_of (laid d (change.Rule rel rule))) (exact refl)
-schema_laid (change.DropPermits rel numbers) a b same exact = ap (λ (d : Db). schema_of (laid d (change.DropPermits rel numbers))) (exact refl)
-schema_laid (change.DropRules rel numbers) a b same exact = ap (λ (d : Db). schema_of (laid d (change.DropRules rel numbers))) (exact refl)
+schema_laid (change.Rows rel remove add) p old is lawful same = rows_leave_schema rel remove add p ∙ same ∙ sym (schema_again old) ∙ sym (rows_leave_schema rel remove add (schema_of old))
+schema_laid (change.Create info rows) p old is lawful same = no_rows_laid (change.Create info rows) p old is lawful same refl
+schema_laid (change.Destroy rels) p old is lawful same = no_rows_laid (change.Destroy rels) p old is lawful same refl
+schema_laid (change.Modify rel to keys) p old is lawful same = no_rows_laid (change.Modify rel to keys) p old is lawful same refl
+schema_laid (change.Index base name keys) p old is lawful same = no_rows_laid (change.Index base name keys) p old is lawful same refl
+schema_laid (change.View info query) p old is lawful same = no_rows_laid (change.View info query) p old is lawful same refl
+schema_laid (change.Permit rel permit) p old is lawful same = no_rows_laid (change.Permit rel permit) p old is lawful same refl
+schema_laid (change.Rule rel rule) p old is lawful same = no_rows_laid (change.Rule rel rule) p old is lawful same refl
+schema_laid (change.DropPermits rel numbers) p old is lawful same = no_rows_laid (change.DropPermits rel numbers) p old is lawful same refl
+schema_laid (change.DropRules rel numbers) p old is lawful same = no_rows_laid (change.DropRules rel numbers) p old is lawful same refl
 
 -- ---- a change that isn't lawful
 
@@ -110,3 +125,37 @@ unlawful c made m db read off is knows lawful = off (part_lawful c m db made is 
 pub on_ok : {T E : Type 0} (r : Result T E) (P Q : Type 0) → (P → Q) → OnOk r P → OnOk r Q
 on_ok (Ok x) P Q then h = then h
 on_ok (Err e) P Q then h = h
+
+-- ---- what lies on the pages
+
+-- the same lies on them where the database in memory is the same
+pub lies_still : (c : Catalog) (p : DbPlain) (m : Image) → database_of p ≡ database_of c.plain → LiesOn c m → LiesOn (record c { plain = p }) m
+lies_still c p m e lies = record {
+  over = lies.over;
+  first = lies.first;
+  read = λ key here known. lies.read key (ap (λ (d : Db). is_relation d key) (sym e) ∙ here) known;
+  knows = subst (Knows (record c { plain = p }) lies.over) (sym e) (knows_same c p lies.over (database_of c.plain) e lies.knows);
+}
+
+-- what lies on them when all steps are done
+pub write_lies : (c : Catalog) (p q : DbPlain) (now : Catalog) (m : Image) (made : DbChange) (file used : ℕ) (ends : Ends) (mid told : Option Image)
+    → database_of p ≡ database_of c.plain → database_of q ≡ database_of p → LiesOn c m → IsLawful (database_of c.plain) made → knows_rows made (is_in c.loaded) ≡ true
+    → (MayTake (database_of c.plain) (database_of c.plain) (files_of c.files) made m → HasMade made (database_of c.plain) (files_of c.files) file used m mid)
+    → HavePlaces (coming_of made (files_of c.files) file used (database_of p))
+    → ((n : Image) (cat : Catalogue) → mid ≡ Some n → AreEnds n c.ends → catalogue_in (pages_of n) ≡ Some cat → IndexBases c.files (database_of p) → IsPrepared made (files_of c.files) file used (database_of p) cat
+    → Written n told ends (changed (going_of made (files_of c.files) file used (database_of p)) (coming_of made (files_of c.files) file used (database_of p)) cat))
+    → IsKept (record c { plain = q }) now made file used → LiesAfter (record now { ends = ends }) m told
+write_lies c p q now m made file used ends mid told same again lies lawful read makes places writes kept =
+    let its = makes (part_may_take c m made lies lawful read) in
+    let cat = printed (database_of c.plain) (files_of c.files) in
+    let written = writes its.image cat its.told_still (ends_in_place c m made lies lawful file used mid its) (catalogue_in_place c m made lies lawful file used mid its)
+    (subst (IndexBases c.files) (sym same) lies.knows.bases) (subst (λ d. IsPrepared made (files_of c.files) file used d cat) (sym same) (part_prepared c m made lies lawful file used mid its read)) in
+    lies_then c m made lies lawful file used mid its read now told
+    (record {
+      plain = kept.plain ∙ ap (λ (d : Db). laid d made) (again ∙ same);
+      loaded = kept.loaded;
+      places = kept.places;
+      ends_stay = kept.ends_stay;
+    })
+    (subst (λ d. HavePlaces (coming_of made (files_of c.files) file used d)) same places) ends
+    (subst (λ d. Written its.image told ends (changed (going_of made (files_of c.files) file used d) (coming_of made (files_of c.files) file used d) cat)) same written)

@@ -22,10 +22,25 @@ use Rattle.loaded_laws.specs.Loaded.{known_after}
 use Rattle.catalog.specs.Places.{places_after}
 use Rattle.catalog.specs.declared.catalog.Catalog.{Catalog}
 
--- A database that has these files, differs from what is known in rows of relations alone, and may take the change.
+-- Of a relation whose rows change the pages are the same.
+unfoldable pub SeesTheSame : DbChange → Files → Image → Image → Type 0
+SeesTheSame (change.Rows rel remove add) f over m = pages_of over (f.file rel) ≡ pages_of m (f.file rel)
+SeesTheSame (change.Create info rows) f over m = Unit {0}
+SeesTheSame (change.Destroy rels) f over m = Unit {0}
+SeesTheSame (change.Modify rel to keys) f over m = Unit {0}
+SeesTheSame (change.Index base name keys) f over m = Unit {0}
+SeesTheSame (change.View info query) f over m = Unit {0}
+SeesTheSame (change.Permit rel permit) f over m = Unit {0}
+SeesTheSame (change.Rule rel rule) f over m = Unit {0}
+SeesTheSame (change.DropPermits rel numbers) f over m = Unit {0}
+SeesTheSame (change.DropRules rel numbers) f over m = Unit {0}
+
+-- A database that has these files on pages that are the same where the change reads them, differs from what is known in rows of relations alone, and may take the change.
 pub record MayTake (part db : Db) (f : Files) (made : DbChange) (m : Image) : Type 0 where
   pub is : IsDatabase db
-  pub has : HasFiles db (pages_of m) f
+  pub over : Image
+  pub has : HasFiles db (pages_of over) f
+  pub sees : SeesTheSame made f over m
   pub schema : schema_of part ≡ schema_of db
   pub lawful : IsLawful db made
 

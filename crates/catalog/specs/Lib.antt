@@ -1,4 +1,5 @@
 pub mod Knows
+pub mod Lies
 pub mod Filling
 pub mod Loading
 pub mod Places

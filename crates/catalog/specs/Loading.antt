@@ -10,7 +10,8 @@ use Rattle.page_chain.specs.Chains.{chain}
 use Rattle.page_chain.specs.Found.{Found}
 use Rattle.page_chain.specs.Pages.{Pages, pages_of}
 use Rattle.plain_base.specs.Shown.{database_of}
-use Rattle.schema_build.specs.Parts.{index_owners_agree}
+use Rattle.catalogue_read.specs.Read.{parts_of}
+use Rattle.schema_build.specs.Parts.{Parts, index_owners_agree, whole}
 use Rattle.stored_database.specs.Catalogue.{Catalogue, catalogue_in, most_pages}
 use Rattle.stored_database.specs.Printed.{HasFiles, files_in, printed}
 use Rattle.stored_database.specs.Spelled.{spelled}
@@ -40,11 +41,19 @@ NoCatalogueIn m a = catalogue_in (pages_of m) ≡ None
 abbrev pub SpellsNone : List ℕ → Catalogue → Type 0
 SpellsNone dba cat = (files : ℕ → Pages) (db : Db) → spelled dba files cat ≡ Some db → IsDatabase db → index_owners_agree db ≡ true → ⊥
 
--- What is known in memory is the schema of each database that the catalogue spells, its files, and where the chains end; the table of files is that of a database that has these entries; no rows were read.
+-- The catalogue spells parts, the database without rows is the one that they make, and each of its indexes has the owner of its relation.
+pub record IsOfParts (dba : List ℕ) (cat : Catalogue) (db : Db) : Type 0 where
+  pub parts : Parts
+  pub are : parts_of cat ≡ Some parts
+  pub make : whole dba parts ≡ Some db
+  pub owners : index_owners_agree db ≡ true
+
+-- What is known in memory is the schema of each database that the catalogue spells, its files, and where the chains end; the table of files is that of a database that has these entries; no rows were read; and it is what the catalogue's parts make.
 pub record IsMadeOf (dba : List ℕ) (cat : Catalogue) (ends : Ends) (c : Catalog) : Type 0 where
   pub schema : (files : ℕ → Pages) (db : Db) → spelled dba files cat ≡ Some db → database_of c.plain ≡ schema_of db
   pub files : files_of c.files ≡ files_in cat
   pub none : (key : RelKey) → is_in c.loaded key ≡ false
+  pub of_parts : IsOfParts dba cat (database_of c.plain)
   pub ends_there : c.ends ≡ ends
   pub bases : (db : Db) (files : ℕ → Pages) → IsDatabase db → HasFiles db files (files_of c.files) → cat.entries ≡ (printed db (files_of c.files)).entries → IndexBases c.files db
 

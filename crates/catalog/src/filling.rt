@@ -12,16 +12,18 @@ ghost use Rattle.disk_model.specs.Disk.{Image};
 ghost use Rattle.plain_base.specs.Shown.{database_of};
 ghost use Rattle.catalogue_moves.specs.Files.{files_of, is_in};
 ghost use Rattle.catalog.specs.Knows.{Knows, KnowsNone};
+ghost use Rattle.catalog.specs.Lies.{LiesOn};
 ghost use Rattle.catalog.specs.Filling.{IsFileOf, IsSame, IsTaken};
 
 use crate::catalog::Catalog;
 use crate::files::relation_file;
+use crate::spots::SpotTable;
 use access_traits::{PageStore, RelFile};
 use am_traits::BaseFault;
 use calculus::{DbChange, List, OutOfMemory, RelKey, Row, TryCopy};
 use change_check::{fit_change, is_relation};
 use plain_base::DbPlain;
-use relation_rows::relation_rows;
+use relation_rows::{RowSpots, relation_rows};
 use std::alloc::Global;
 
 /// The change by which rows come to a relation.
@@ -119,6 +121,7 @@ impl Catalog {
         &mut self,
         alloc: Global,
         store: &mut S,
+        spots: &mut SpotTable,
         key: &RelKey,
         file: RelFile,
     ) -> Result<(), BaseFault>
@@ -126,6 +129,7 @@ impl Catalog {
         requires stored { is_relation (database_of self.old.plain) key.now ≡ true }
         requires file { IsFileOf (database_of self.old.plain) (files_of self.old.files) key.now file }
         ensures knows { (m : Image) (db : Db) → S.pages store.old ≡ Some m → IsDatabase db → Knows self.old m db → Knows self.new m db }
+        ensures lies { (m : Image) → S.pages store.old ≡ Some m → LiesOn self.old m → LiesOn self.new m }
         ensures rows { (m : Image) (db : Db) → S.pages store.old ≡ Some m → IsDatabase db → Knows self.old m db
             → OnOk result (rows_at (database_of self.new.plain) key.now ≡ rows_at db key.now) }
         ensures schema { schema_of (database_of self.new.plain) ≡ schema_of (database_of self.old.plain) }
@@ -135,7 +139,9 @@ impl Catalog {
         ensures cause { HasFileCause (S.pages store.old) (KnowsNone self.old) (S.faults store.old) (S.faults store.new) result }
     {
         let number = file.file;
-        let rows = relation_rows(alloc, store, file)?;
+        let mut seen = RowSpots::new(alloc);
+        let rows = relation_rows(alloc, store, file, &mut seen)?;
+        spots.put(number, seen)?;
         if self.take(alloc, key, rows)? {
             Ok(())
         } else {
@@ -146,14 +152,17 @@ impl Catalog {
         }
     }
 
-    /// Reads the rows of a relation, where they weren't read yet, each page once.
+    /// Reads the rows of a relation, where they weren't read yet, each page once. Where it sees them is
+    /// noted.
     pub fn fill<S: PageStore>(
         &mut self,
         alloc: Global,
         store: &mut S,
+        spots: &mut SpotTable,
         key: &RelKey,
     ) -> Result<(), BaseFault>
         ensures knows { (m : Image) (db : Db) → S.pages store.old ≡ Some m → IsDatabase db → Knows self.old m db → Knows self.new m db }
+        ensures lies { (m : Image) → S.pages store.old ≡ Some m → LiesOn self.old m → LiesOn self.new m }
         ensures rows { (m : Image) (db : Db) → S.pages store.old ≡ Some m → IsDatabase db → Knows self.old m db
             → OnOk result (rows_at (database_of self.new.plain) key.now ≡ rows_at db key.now) }
         ensures schema { schema_of (database_of self.new.plain) ≡ schema_of (database_of self.old.plain) }
@@ -169,7 +178,7 @@ impl Catalog {
             return Ok(());
         }
         match relation_file(alloc, &mut self.plain, &self.files, key)? {
-            Some(file) => self.read(alloc, store, key, file),
+            Some(file) => self.read(alloc, store, spots, key, file),
             None => Err(BaseFault::Damaged { file: 5, page: 0 }),
         }
     }

@@ -18,10 +18,12 @@ ghost use Rattle.catalogue_pages.specs.Ends.{AreEnds, NoCatalogue, Written};
 ghost use Rattle.loaded_laws.specs.Loaded.{knows_rows};
 ghost use Rattle.catalog.specs.Knows.{Knows, KnowsAfter, KnowsNone, KnowsNoneFor};
 ghost use Rattle.catalog.specs.Laid.{IsPrepared, coming_of, going_of};
+ghost use Rattle.catalog.specs.Lies.{LiesAfter, LiesOn};
 
 use crate::catalog::Catalog;
 use crate::filling::is_lawful;
 use crate::placing::{Given, make_pages};
+use crate::spots::SpotTable;
 use access_traits::PageStore;
 use am_traits::BaseFault;
 use calculus::DbChange;
@@ -92,11 +94,12 @@ impl Catalog {
         &mut self,
         alloc: Global,
         store: &mut S,
+        spots: &mut SpotTable,
         change: &DbChange,
     ) -> Result<(), BaseFault>
         ensures knows { (m : Image) (db : Db) → S.pages store.old ≡ Some m → IsDatabase db → Knows self.old m db → Knows self.new m db }
+        ensures lies { (m : Image) → S.pages store.old ≡ Some m → LiesOn self.old m → LiesOn self.new m }
         ensures schema { schema_of (database_of self.new.plain) ≡ schema_of (database_of self.old.plain) }
-        ensures exact { knows_rows change.now (λ key. false) ≡ true → database_of self.new.plain ≡ database_of self.old.plain }
         ensures same { S.pages store.new ≡ S.pages store.old }
         ensures came { (s : S) → S.came s store.old → S.came s store.new }
         ensures cause { HasFileCause (S.pages store.old) (KnowsNone self.old) (S.faults store.old) (S.faults store.new) result }
@@ -106,7 +109,7 @@ impl Catalog {
                 rel,
                 remove: _,
                 add: _,
-            } => self.fill(alloc, store, rel),
+            } => self.fill(alloc, store, spots, rel),
             _ => Ok(()),
         }
     }
@@ -116,16 +119,19 @@ impl Catalog {
         &mut self,
         alloc: Global,
         store: &mut S,
+        spots: &mut SpotTable,
         change: &DbChange,
     ) -> Result<(), BaseFault>
         requires { IsLawful (database_of self.old.plain) change.now }
         ensures knows { (m : Image) (db : Db) → S.pages store.old ≡ Some m → IsDatabase db → Knows self.old m db → IsLawful db change.now
             → knows_rows change.now (is_in self.old.loaded) ≡ true → OnOk result (KnowsAfter self.new m (S.pages store.new) db change.now) }
+        ensures lies { (m : Image) → S.pages store.old ≡ Some m → LiesOn self.old m → knows_rows change.now (is_in self.old.loaded) ≡ true
+            → OnOk result (LiesAfter self.new m (S.pages store.new)) }
         ensures plain { OnOk result (database_of self.new.plain ≡ laid (database_of self.old.plain) change.now) }
         ensures came { (s : S) → S.came s store.old → S.came s store.new }
         ensures cause { HasFileCause (S.pages store.old) (KnowsNoneFor self.old change.now) (S.faults store.old) (S.faults store.new) result }
     {
-        let given = make_pages(alloc, store, &mut self.plain, &self.files, change)?;
+        let given = make_pages(alloc, store, spots, &mut self.plain, &self.files, change)?;
         let ends = write_catalogue(
             alloc,
             store,
@@ -149,21 +155,23 @@ impl Catalog {
         &mut self,
         alloc: Global,
         store: &mut S,
+        spots: &mut SpotTable,
         change: &DbChange,
     ) -> Result<(), BaseFault>
         ensures knows { (m : Image) (db : Db) → S.pages store.old ≡ Some m → IsDatabase db → Knows self.old m db → IsLawful db change.now
             → OnOk result (KnowsAfter self.new m (S.pages store.new) db change.now) }
-        ensures schema { OnOk result (schema_of (database_of self.new.plain) ≡ schema_of (laid (database_of self.old.plain) change.now)) }
+        ensures lies { (m : Image) → S.pages store.old ≡ Some m → LiesOn self.old m → OnOk result (LiesAfter self.new m (S.pages store.new)) }
+        ensures schema { OnOk result (schema_of (database_of self.new.plain) ≡ schema_of (laid (schema_of (database_of self.old.plain)) change.now)) }
         ensures came { (s : S) → S.came s store.old → S.came s store.new }
         ensures cause { HasFileCause (S.pages store.old) (KnowsNoneFor self.old change.now) (S.faults store.old) (S.faults store.new) result }
     {
-        self.read_for(alloc, store, change)?;
+        self.read_for(alloc, store, spots, change)?;
         if !rows_are_known(&self.loaded, change) {
             return Err(BaseFault::OutOfMemory);
         }
         if !is_lawful(alloc, &mut self.plain, change)? {
             return Err(BaseFault::Damaged { file: 5, page: 0 });
         }
-        self.write(alloc, store, change)
+        self.write(alloc, store, spots, change)
     }
 }

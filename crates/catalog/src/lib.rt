@@ -7,6 +7,10 @@ mod filling;
 mod keeping;
 mod laying;
 mod loading;
+mod lying;
 mod placing;
+mod spots;
 
 pub use catalog::Catalog;
+pub use lying::what_lies_is_known;
+pub use spots::SpotTable;

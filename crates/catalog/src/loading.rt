@@ -12,10 +12,11 @@ ghost use Rattle.plain_base.specs.Shown.{database_of};
 ghost use Rattle.schema_build.specs.Parts.{index_owners_agree};
 ghost use Rattle.stored_database.specs.Standing.{standing};
 ghost use Rattle.catalog.specs.Knows.{Knows, NoDatabase};
+ghost use Rattle.catalog.specs.Lies.{LiesOn};
 ghost use Rattle.stored_database.specs.Catalogue.{IsCatalogue, most_pages};
 ghost use Rattle.stored_database.specs.Spelled.{spelled};
 ghost use Rattle.catalogue_read.specs.Read.{catalogue_of, catalogue_shown};
-ghost use Rattle.catalog.specs.Loading.{AreFound, HoldsFor, IfKnown, IsMadeOf, NoneIn, NoCatalogueIn, SpellsNone};
+ghost use Rattle.catalog.specs.Loading.{AreFound, HoldsFor, IfKnown, IsMadeOf, IsOfParts, NoneIn, NoCatalogueIn, SpellsNone};
 
 use crate::catalog::Catalog;
 use access_traits::PageStore;
@@ -93,6 +94,7 @@ fn schema_in(alloc: Global, dba: Name, rows: &CatalogueRows) -> Result<Option<Db
     requires { IsCatalogue (catalogue_shown rows.now) }
     ensures built { IfOk result (λ found. ForSome found (λ plain. (files : ℕ → Pages) (db : Db) → spelled dba files (catalogue_shown rows.now) ≡ Some db
         → database_of plain ≡ schema_of db)) }
+    ensures of_parts { IfOk result (λ found. ForSome found (λ plain. IsOfParts dba (catalogue_shown rows.now) (database_of plain))) }
     ensures refused { IfOk result (λ found. found ≡ None → SpellsNone dba (catalogue_shown rows.now)) }
 {
     match schema_parts(alloc, rows)? {
@@ -137,7 +139,9 @@ pub(crate) fn made(
     dba: Name,
     chains: &Chains,
 ) -> Result<Option<Catalog>, OutOfMemory>
-    ensures { (m : Image) (db : Db) → AreFound m chains.now → HoldsFor dba m db → IfOk result (λ found. IfKnown m db found) }
+    ensures known { (m : Image) (db : Db) → AreFound m chains.now → HoldsFor dba m db → IfOk result (λ found. IfKnown m db found) }
+    ensures lies { (m : Image) → AreFound m chains.now → IfOk result (λ found. ForSome found (λ c. LiesOn c m)) }
+    ensures dba { IfOk result (λ found. ForSome found (λ c. (database_of c.plain).dba ≡ dba)) }
 {
     let rows = read_catalogue(
         alloc,
@@ -161,6 +165,8 @@ impl Catalog {
     pub fn load<S: PageStore>(alloc: Global, store: &mut S, dba: Name) -> Result<Catalog, BaseFault>
         ensures knows { (m : Image) (db : Db) → S.pages store.old ≡ Some m → standing m ≡ Some db → db.dba ≡ dba
             → index_owners_agree db ≡ true → IfOk result (λ c. Knows c m db) }
+        ensures lies { (m : Image) → S.pages store.old ≡ Some m → IfOk result (λ c. LiesOn c m) }
+        ensures dba { IfOk result (λ c. (database_of c.plain).dba ≡ dba) }
         ensures same { S.pages store.new ≡ S.pages store.old }
         ensures came { (s : S) → S.came s store.old → S.came s store.new }
         ensures only_read { (s : S) → S.only_read s store.old → S.only_read s store.new }

@@ -12,6 +12,7 @@ ghost use Rattle.catalog.specs.Laid.{HasMade, MayTake, NoneMayTake, PutsNoRows};
 ghost use Rattle.laying_laws.specs.Placed.{IsFree, Suits};
 
 use crate::files::{file_with, relation_file};
+use crate::spots::SpotTable;
 use access_traits::PageStore;
 use am_traits::BaseFault;
 use calculus::{DbChange, OutOfMemory, RelInfo, RelKey, Row};
@@ -43,6 +44,7 @@ fn place_with(file: u32, used: u32) -> Given
 fn change_relation<S: PageStore>(
     alloc: Global,
     store: &mut S,
+    spots: &mut SpotTable,
     plain: &mut DbPlain,
     files: &FileTable,
     rel: &RelKey,
@@ -60,7 +62,9 @@ fn change_relation<S: PageStore>(
         return Err(BaseFault::Damaged { file: 5, page: 0 });
     };
     let number = file.file;
-    let used = change_rows(alloc, store, file, remove, add)?;
+    let mut seen = spots.take(alloc, number);
+    let used = change_rows(alloc, store, file, &mut seen, remove, add)?;
+    spots.put(number, seen)?;
     Ok(place_with(number, used))
 }
 
@@ -150,6 +154,7 @@ fn place_of(files: &FileTable, change: &DbChange) -> Result<Given, OutOfMemory>
 pub(crate) fn make_pages<S: PageStore>(
     alloc: Global,
     store: &mut S,
+    spots: &mut SpotTable,
     plain: &mut DbPlain,
     files: &FileTable,
     change: &DbChange,
@@ -163,7 +168,16 @@ pub(crate) fn make_pages<S: PageStore>(
 {
     match change {
         DbChange::Rows { rel, remove, add } => {
-            change_relation(alloc, store, plain, files, rel, remove.items(), add.items())
+            change_relation(
+                alloc,
+                store,
+                spots,
+                plain,
+                files,
+                rel,
+                remove.items(),
+                add.items(),
+            )
         }
         DbChange::Create { info, rows } => {
             make_relation(alloc, store, plain, files, info, rows.items())

@@ -15,6 +15,7 @@ use Rattle.stored_database.specs.Printed.{HasFiles, files_in, printed}
 use Rattle.stored_database.specs.Spelled.{spelled}
 use Rattle.catalogue_moves.specs.Bases.{IndexBases}
 use Rattle.catalogue_moves.specs.Files.{files_of}
+use Rattle.catalog.specs.Loading.{IsOfParts}
 use Rattle.catalog.proofs.ReadRows.{is_made, no_table}
 use Rattle.catalog.proofs.loading.catalog_of.Goals as goal
 
@@ -29,6 +30,8 @@ returns-in-Some-files-clause-made c x same =
     c.new.ensures refl
     (λ db files is has are. subst (λ r. IfOk r (λ found. ForSome found (λ table. (db : Db) (files : ℕ → Pages) → IsDatabase db → HasFiles db files (files_of table) → map entry_in c.items.result.now ≡ (printed db (files_of table)).entries → IndexBases table db)))
     c.in_ok-plain.ensures.second c.of_entries.ensures.bases c.in-Some-files.files c.in-Some-files.is db files is has (ap (map entry_in) c.items.ensures ∙ are))
+    (subst (λ r. IfOk r (λ found. ForSome found (λ plain. IsOfParts c.args.dba (catalogue_shown c.args.rows.now) (database_of plain))))
+    c.in_ok-plain.ensures.first c.schema_in.ensures.of_parts c.in-Some.plain c.in-Some.is)
 
 pub returns-in-None-clause-refused : goal.returns-in-None-clause-refused
 returns-in-None-clause-refused c = λ n.

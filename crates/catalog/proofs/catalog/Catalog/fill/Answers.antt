@@ -2,6 +2,7 @@ use Rattle.std.proofs.Common.{◌∙◌, refl, sym, ap, subst, arith}
 use Rattle.calculus.specs.Stored.{rows_at}
 use Rattle.catalogue_moves.specs.Files.{files_of}
 use Rattle.catalog.specs.Filling.{IsFileOf}
+use Rattle.catalog.proofs.LiesRead.{lies_same}
 use Rattle.catalog.proofs.Filled.{knows_same, no_file_none, other_rows_are, rows_are}
 use Rattle.catalog.proofs.catalog.Catalog.fill.Goals as goal
 
@@ -28,3 +29,9 @@ returns-in-None-clause-cause g c = record {
   caused = λ m told. no_file_none c.args.self.now m c.args.key.now (record { file = 5; page = 0 })
       (sym c.in_ok-is_stored.ensures.there ∙ c.if-not-branch.false) (c.in_ok-file.ensures.none c.in-None.is);
 }
+
+pub returns-in-Some-clause-lies : goal.returns-in-Some-clause-lies
+returns-in-Some-clause-lies g c m told lies =
+    c.read.ensures.lies m told
+    (lies_same c.args.self.now (record c.args.self.now { plain = c.relation_file.new.plain }) m
+    (record { plain = c.in_ok-file.ensures.same ∙ c.in_ok-is_stored.ensures.same; loaded = λ key. refl; files = refl; ends_stay = refl }) lies)

@@ -1,8 +1,9 @@
-use Rattle.std.proofs.Common.{◌≡◌, ◌∙◌, sym, ap, true≢false}
-use Rattle.calculus.specs.Change.{laid}
+use Rattle.std.proofs.Common.{◌≡◌, ◌∙◌, sym, ap, subst, true≢false}
+use Rattle.calculus.specs.Change.{IsLawful, laid}
+use Rattle.calculus.specs.Database.{Db}
 use Rattle.calculus.specs.Schema.{schema_of}
 use Rattle.plain_base.specs.Shown.{database_of}
-use Rattle.catalog.proofs.Steps.{on_ok, schema_laid, unlawful}
+use Rattle.catalog.proofs.Steps.{lies_still, on_ok, schema_laid, unlawful}
 use Rattle.catalog.proofs.catalog.Catalog.lay.Goals as goal
 
 pub returns-then-not-branch-clause-cause : goal.returns-then-not-branch-clause-cause
@@ -16,8 +17,14 @@ returns-then-not-branch-clause-cause g c = record {
 pub returns-clause-schema : goal.returns-clause-schema
 returns-clause-schema g c =
     on_ok c.write.result (database_of c.write.new.self.plain ≡ laid (database_of c.is_lawful.new.plain) c.args.change.now)
-    (schema_of (database_of c.write.new.self.plain) ≡ schema_of (laid (database_of c.args.self.now.plain) c.args.change.now))
+    (schema_of (database_of c.write.new.self.plain) ≡ schema_of (laid (schema_of (database_of c.args.self.now.plain)) c.args.change.now))
     (λ e. ap schema_of e
-    ∙ schema_laid c.args.change.now (database_of c.is_lawful.new.plain) (database_of c.args.self.now.plain)
-    (ap schema_of c.is_lawful.ensures.same ∙ c.read_for.ensures.schema) (λ known. c.is_lawful.ensures.same ∙ c.read_for.ensures.exact known))
+    ∙ schema_laid c.args.change.now (database_of c.is_lawful.new.plain) (database_of c.args.self.now.plain) c.is_lawful.new.plain.is
+    (subst (λ (d : Db). IsLawful d c.args.change.now) (sym c.is_lawful.ensures.same) (c.in_ok-is_lawful.ensures.lawful.0 c.if-not-branch.false))
+    (ap schema_of c.is_lawful.ensures.same ∙ c.read_for.ensures.schema))
     c.write.ensures.plain
+
+pub returns-clause-lies : goal.returns-clause-lies
+returns-clause-lies g c m is lies =
+    c.write.ensures.lies m (c.read_for.ensures.same ∙ is) (lies_still c.read_for.new.self c.is_lawful.new.plain m c.is_lawful.ensures.same (c.read_for.ensures.lies m is lies))
+    (sym c.rows_are_known.ensures ∙ c.if-not-rows_are_known.false)

@@ -13,11 +13,11 @@ returns-in_err-chains-clause-cause g c =
 
 pub returns-in-Some-clause-knows : goal.returns-in-Some-clause-knows
 returns-in-Some-clause-knows g c m db told stands named owners =
-    subst (IfKnown m db) c.in-Some.is (c.in_ok-catalog.ensures m db (c.in_ok-chains.ensures.found m told) (record { stands = stands; dba_is = named; owners = owners }))
+    subst (IfKnown m db) c.in-Some.is (c.in_ok-catalog.ensures.known m db (c.in_ok-chains.ensures.found m told) (record { stands = stands; dba_is = named; owners = owners }))
 
 pub returns-clause-cause : goal.returns-clause-cause
 returns-clause-cause g c = record {
   later = c.in_ok-chains.ensures.cause.later;
   caused = λ m told db stands named owners.
-      subst (IfKnown m db) c.in-None.is (c.in_ok-catalog.ensures m db (c.in_ok-chains.ensures.found m told) (record { stands = stands; dba_is = named; owners = owners }));
+      subst (IfKnown m db) c.in-None.is (c.in_ok-catalog.ensures.known m db (c.in_ok-chains.ensures.found m told) (record { stands = stands; dba_is = named; owners = owners }));
 }

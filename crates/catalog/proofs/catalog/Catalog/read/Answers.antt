@@ -5,6 +5,7 @@ use Rattle.calculus.specs.Schema.{schema_of}
 use Rattle.page_chain.proofs.Carried.{cause_carried}
 use Rattle.catalog.specs.Knows.{KnowsNone}
 use Rattle.catalog.proofs.Filled.{at_fault_none, knows_with, may_come, rows_are, rows_keep_schema, taken_is_in}
+use Rattle.catalog.proofs.LiesRead.{lies_with}
 use Rattle.catalog.proofs.catalog.Catalog.read.Goals as goal
 
 pub returns-in_err-rows-clause-cause : goal.returns-in_err-rows-clause-cause
@@ -35,3 +36,8 @@ returns-else-branch-clause-cause g c = record {
       (c.in_ok-take.ensures.refused c.if-branch.false
       (may_come c.args.self.now m db c.args.key.now c.args.file c.in_ok-rows.rows is k c.requires.unread c.requires.stored c.requires.file (λ placed are. c.in_ok-rows.ensures.told m placed told are)).lawful);
 }
+
+pub returns-then-branch-clause-lies : goal.returns-then-branch-clause-lies
+returns-then-branch-clause-lies g c m told lies =
+    lies_with c.args.self.now c.take.new.self m c.args.key.now c.args.file c.in_ok-rows.rows lies c.requires.unread c.requires.stored c.requires.file
+    (c.in_ok-rows.ensures.exact m told) (c.in_ok-take.ensures.taken c.if-branch.true)

@@ -5,7 +5,7 @@ use Rattle.catalogue_pages.specs.Ends.{NoCatalogue}
 use Rattle.catalogue_moves.specs.Files.{files_of}
 use Rattle.catalog.specs.Knows.{KnowsNoneFor}
 use Rattle.catalog.specs.Laid.{NoneMayTake}
-use Rattle.catalog.proofs.Steps.{catalogue_fault, pages_fault, write_knows}
+use Rattle.catalog.proofs.Steps.{catalogue_fault, pages_fault, write_knows, write_lies}
 use Rattle.catalog.proofs.catalog.Catalog.write.Goals as goal
 
 pub returns-in_err-given-clause-cause : goal.returns-in_err-given-clause-cause
@@ -29,3 +29,9 @@ returns-clause-knows g c m db is base knows lawful read =
     write_knows c.args.self.now c.make_pages.new.plain c.write_catalogue.new.plain c.keep.new.self m db c.args.change.now c.in_ok-given.given.file c.in_ok-given.given.used c.in_ok-ends.ends
     (g.S.PageStore.pages c.make_pages.new.store) (g.S.PageStore.pages c.write_catalogue.new.store) c.make_pages.ensures.same c.write_catalogue.ensures.same base knows lawful read
     (c.in_ok-given.ensures.made m db is) c.in_ok-ends.ensures.places c.in_ok-ends.ensures.written c.in_ok-keep.ensures
+
+pub returns-clause-lies : goal.returns-clause-lies
+returns-clause-lies g c m is lies read =
+    write_lies c.args.self.now c.make_pages.new.plain c.write_catalogue.new.plain c.keep.new.self m c.args.change.now c.in_ok-given.given.file c.in_ok-given.given.used c.in_ok-ends.ends
+    (g.S.PageStore.pages c.make_pages.new.store) (g.S.PageStore.pages c.write_catalogue.new.store) c.make_pages.ensures.same c.write_catalogue.ensures.same lies c.requires read
+    (c.in_ok-given.ensures.made m (database_of c.args.self.now.plain) is) c.in_ok-ends.ensures.places c.in_ok-ends.ensures.written c.in_ok-keep.ensures
