@@ -1,13 +1,17 @@
 -- What a change leaves on a disk.
-use Rattle.std.proofs.Common.{◌≡◌, ◌≢◌, ◌⊎◌, ◌↔◌, inl, inr, ⊎_elim, not, refl, sym, ap, subst, ◌∙◌, arith, ℕ, zero, suc, ◌≤◌, ◌<◌, IsTrue, Bool, true, false, Option, Some, Result, Ok, Err, OnOk}
+use Rattle.std.proofs.Common.{◌≡◌, ◌≢◌, ◌⊎◌, ◌↔◌, inl, inr, ⊎_elim, not, refl, sym, ap, subst, ◌∙◌, arith, ℕ, zero, suc, ◌≤◌, ◌<◌, IsTrue, Bool, true, false, List, [], ◌∷◌, length, ◌==◌, Option, Some, Result, Ok, Err, OnOk}
 use Rattle.am_traits.specs.Causes.{HasCause}
 use Rattle.am_traits.specs.declared.fault.BaseFault.{BaseFault}
 use Rattle.am_traits.specs.declared.fault.BaseFault.TheVariants as faults
 use Rattle.access_traits.specs.Causes.{HasFileCause}
 use Rattle.calculus.specs.declared.change.DbChange.{DbChange}
 use Rattle.calculus.specs.declared.change.DbChange.TheVariants as change
-use Rattle.calculus.specs.Change.{laid}
-use Rattle.calculus.specs.Database.{Db}
+use Rattle.calculus.specs.declared.query.RelKey.{RelKey}
+use Rattle.calculus.specs.Change.{change_at, laid}
+use Rattle.calculus.specs.Database.{Db, Relation}
+use Rattle.calculus.specs.Keys.{same_key}
+use Rattle.calculus.specs.Replacement.{with_rows, without_rows}
+use Rattle.calculus.specs.Rows.{Row}
 use Rattle.calculus.specs.IsDatabase.{IsDatabase}
 use Rattle.disk_model.specs.declared.disk.Addr.{Addr}
 use Rattle.disk_model.specs.declared.disk.Disk.{Ghosts}
@@ -28,17 +32,43 @@ use Rattle.batch_store.specs.Store.{batch_of, disk_of, pages_of, waiting, CameOf
 use Rattle.batch_store.specs.declared.store.BatchStore.{BatchStore}
 use Rattle.batch_store.proofs.Stands.{empty_so}
 use Rattle.catalogue_moves.specs.Files.{files_of}
-use Rattle.catalog.specs.Knows.{KnowsAfter}
+use Rattle.catalog.specs.Knows.{KnowsAfter, SameHead}
 use Rattle.catalog.specs.declared.catalog.Catalog.{Catalog}
 use Rattle.schema_build.specs.Parts.{index_owners_agree}
-use Rattle.stored_database.specs.Standing.{standing}
+use Rattle.page_chain.specs.Lists.{◌>>=◌}
+use Rattle.stored_database.specs.Standing.{header_of, standing}
 use Rattle.stored_database.proofs.Exactly.{pages_stand_exactly}
+use Rattle.stored_database.proofs.Reading.{same_number}
 use Rattle.db_disk.specs.Answered.{of_restore}
-use Rattle.db_disk.specs.Held.{held, told_by, IsEither, SameHeld}
+use Rattle.db_disk.specs.Held.{administrator, held, told_by, IsEither, SameHeld}
 use Rattle.db_disk.proofs.Holding.{held_as}
 
+-- ---- a change that names no rows
+
+none_goes : (rows : List Row) → without_rows [] rows ≡ rows
+none_goes [] = refl
+none_goes (row ∷ rows) = ap (λ l. row ∷ l) (none_goes rows)
+
+relations_stay : (rel : RelKey) (rs : List Relation) → change_at rel (λ r. record r { rows = with_rows [] (without_rows [] r.rows) }) rs ≡ rs
+relations_stay rel [] = refl
+relations_stay rel (r ∷ rs) = λ i. go (same_key r.info.key rel) i ∷ relations_stay rel rs i
+  where
+    go : (b : Bool) → elim b as (λ b. Relation) [ true ↦ record r { rows = with_rows [] (without_rows [] r.rows) } | false ↦ r ] ≡ r
+    go true = λ i. record r { rows = none_goes r.rows i }
+    go false = refl
+
+pub no_items : {A : Type 0} (xs : List A) → (length xs == 0) ≡ true → xs ≡ []
+no_items [] e = refl
+no_items (x ∷ xs) e = let none = same_number (length (x ∷ xs)) 0 e in absurd (omega (arith, none))
+
+-- it leaves the database
+pub nothing_laid : (rel : RelKey) (remove add : List Row) (db : Db) → remove ≡ [] → add ≡ [] → laid db (change.Rows rel remove add) ≡ db
+unfolding laid
+nothing_laid rel remove add db none no_more =
+    (λ i. laid db (change.Rows rel (none i) (no_more i))) ∙ (λ i. record db { relations = relations_stay rel db.relations i })
+
 -- a change leaves the administrator
-dba_laid : (db : Db) (made : DbChange) → (laid db made).dba ≡ db.dba
+pub dba_laid : (db : Db) (made : DbChange) → (laid db made).dba ≡ db.dba
 unfolding laid
 dba_laid db (change.Rows rel remove add) = refl
 dba_laid db (change.Create info rows) = refl
@@ -50,6 +80,11 @@ dba_laid db (change.Permit rel permit) = refl
 dba_laid db (change.Rule rel rule) = refl
 dba_laid db (change.DropPermits rel numbers) = refl
 dba_laid db (change.DropRules rel numbers) = refl
+
+-- so do pages of which those of file 0 are the same
+pub same_administrator : (m n : Image) → SameHead m n → administrator n ≡ administrator m
+unfolding administrator
+same_administrator m n same = ap (λ (o : Option (List ℕ)). o >>= header_of) (same (addr 0 0) refl)
 
 -- the pages stand for the database after the change
 pub after_stands : (c : Catalog) (m : Image) (told : Option Image) (db : Db) (made : DbChange) → standing m ≡ Some db → IsDatabase db → IsDatabase (laid db made) → (after : KnowsAfter c m told db made)
@@ -159,3 +194,16 @@ pub were_some : (empty : Bool) (n : ℕ) → IsTrue empty ↔ (n ≡ 0) → not 
 were_some true n is some = absurd (cc some)
 were_some false zero is some = let e : IsTrue false = is.1 refl in absurd (cc e)
 were_some false (suc n) is some = omega arith
+
+-- where nothing is touched, the disk has what it holds after a crash
+pub held_settled : {D : Type 0} {g : Ghosts D} (s : BatchStore D g) (db : Db) → IsClosed (g.seen (disk_of s)) (g.touched (disk_of s)) → held (g.seen (disk_of s)) ≡ Some db
+    → (m : Image) → IsImage (g.seen (disk_of s)) (g.touched (disk_of s)) m → held m ≡ Some db
+held_settled {D} {g} s db closed holds m image = ap held (image_settled g.seen g.touched g.clock g.left_since (disk_of s) closed.settled m image) ∙ holds
+
+-- a sync that fails behind a finish fails by the disk
+pub synced_caused : {T : Type 0} (pages : Option Image) (told : Option Db) (before mid now : ℕ) (result : Result T BaseFault) → before ≤ mid → HasCause told mid now result
+    → ((m : Image) → pages ≡ Some m → (file page : ℕ) → result ≡ Err (faults.Damaged file page) → ⊥) → HasFileCause pages (λ m a. ⊥) before now result
+synced_caused pages told before mid now (Ok x) le has none = record { later = omega (arith, le, has.later); caused = tt }
+synced_caused pages told before mid now (Err faults.Disk) le has none = record { later = omega (arith, le, has.later); caused = omega (arith, le, has.caused) }
+synced_caused pages told before mid now (Err (faults.Damaged file page)) le has none = record { later = omega (arith, le, has.later); caused = λ m is. none m is file page refl }
+synced_caused pages told before mid now (Err faults.OutOfMemory) le has none = record { later = omega (arith, le, has.later); caused = tt }

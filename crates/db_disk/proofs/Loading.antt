@@ -12,7 +12,12 @@ use Rattle.schema_build.specs.Parts.{index_owners_agree}
 use Rattle.stored_database.specs.Standing.{birth, header_of, standing}
 use Rattle.stored_database.proofs.Exactly.{pages_stand_exactly}
 use Rattle.stored_database.proofs.WhatStands.{what_stands_is_a_database}
+use Rattle.plain_base.specs.Shown.{database_of}
+use Rattle.catalog.specs.Lies.{LiesOn}
+use Rattle.catalog.specs.declared.catalog.Catalog.{Catalog}
+use Rattle.std.specs.Prelude.{IfOk}
 use Rattle.db_disk.specs.Held.{administrator}
+use Rattle.db_disk.specs.Known.{LiesFor}
 use Rattle.db_disk.specs.Load.{NoneStands}
 
 -- what pages that stand for a database begin with
@@ -41,3 +46,8 @@ for_whom told pages dba before mid now (Err (faults.Damaged file page)) le same 
   caused = λ m is db stands agree. has.caused m (same ∙ is) db stands (own_name m db dba stands (named m is)) agree;
 }
 for_whom told pages dba before mid now (Err faults.OutOfMemory) le same named has = record { later = omega (arith, le, has.later); caused = tt }
+
+-- what was read is of the administrator whose header is there
+pub lies_for : {E : Type 0} (result : Result Catalog E) (m : Image) (dba : List ℕ) → administrator m ≡ Some dba → IfOk result (λ c. LiesOn c m) → IfOk result (λ c. (database_of c.plain).dba ≡ dba) → IfOk result (λ c. LiesFor c m)
+lies_for (Ok c) m dba named lies is = record { lies = lies; named = named ∙ ap Some (sym is) }
+lies_for (Err e) m dba named lies is = tt

@@ -9,12 +9,19 @@ use Rattle.catalogue_moves.specs.declared.files.FileTable.{FileTable}
 use Rattle.catalogue_moves.specs.declared.key_set.KeySet.{KeySet}
 use Rattle.catalogue_pages.specs.declared.writing.Ends.{Ends}
 use Rattle.catalog.specs.Knows.{Knows}
+use Rattle.catalog.specs.Lies.{LiesOn}
 use Rattle.catalog.specs.declared.catalog.Catalog.{Catalog}
-use Rattle.db_disk.specs.Held.{held}
+use Rattle.db_disk.specs.Held.{administrator, held}
 
--- A catalogue that is there knows the database that the disk holds.
+-- What a catalogue knows lies on the pages, and is of the administrator whose header is there.
+pub record LiesFor (c : Catalog) (m : Image) : Type 0 where
+  pub lies : LiesOn c m
+  pub named : administrator m ≡ Some (database_of c.plain).dba
+
+-- What a catalogue that is there knows lies on the disk, and where the disk holds a database, it knows that.
 pub record IsKnown (m : Image) (catalog : Option Catalog) : Type 0 where
   pub each : (c : Catalog) (db : Db) → catalog ≡ Some c → held m ≡ Some db → ∥ Knows c (kept m) db ∥₁
+  pub lies : (c : Catalog) → catalog ≡ Some c → ∥ LiesFor c (kept m) ∥₁
 
 -- what a catalogue knows: a database in memory, whose rows were read, the files, and the last pages
 abbrev pub known_part : Catalog → Db × KeySet × FileTable × Ends

@@ -1,16 +1,35 @@
 //! A database on a disk is changed.
 
+ghost use Rattle.std.specs.Prelude.{◌≡◌, true};
+ghost use Rattle.calculus.specs.Change.{laid};
+ghost use Rattle.calculus.specs.Database.{Db};
+
 use crate::DbDisk;
 use crate::changing::lay_known;
 use am_traits::BaseFault;
 use calculus::DbChange;
+use catalog::SpotTable;
 use disk_model::Disk;
 use std::alloc::Global;
 
+/// Whether a change is one of rows and names none: then it changes nothing.
+fn names_nothing(change: &DbChange) -> bool
+    ensures { result ≡ true → (db : Db) → laid db change.now ≡ db }
+{
+    match change {
+        DbChange::Rows {
+            rel: _,
+            remove,
+            add,
+        } => remove.items().is_empty() && add.items().is_empty(),
+        _ => false,
+    }
+}
+
 impl<D: Disk> DbDisk<D> {
-    ghost use Rattle.std.specs.Prelude.{◌≡◌, IsTrue, Some, None, OnOk, IsErrOf, is_some};
-    ghost use Rattle.calculus.specs.Change.{IsLawful, laid};
-    ghost use Rattle.calculus.specs.Database.{Db};
+    ghost use Rattle.std.specs.Prelude.{IsTrue, Some, None, OnOk, IsErrOf, is_some};
+    ghost use Rattle.calculus.specs.Change.{IsLawful};
+    ghost use Rattle.calculus.specs.Schema.{schema_of};
     ghost use Rattle.am_traits.specs.Causes.{HasCause};
     ghost use Rattle.disk_model.specs.Disk.{Image, IsImage, LeavesOnly};
     ghost use Rattle.db_disk.specs.Held.{held, IsEither};
@@ -24,17 +43,22 @@ impl<D: Disk> DbDisk<D> {
             → LeavesOnly D.clock D.left_since (disk_in self.old) (disk_in self.new) (IsEither db (laid db change.now)) }
         ensures durable { (db : Db) → db_of self.old ≡ Some db
             → OnOk result ((m : Image) → IsImage (D.seen (disk_in self.new)) (D.touched (disk_in self.new)) m → held m ≡ Some (laid db change.now)) }
+        ensures schema { (s : Db) → schema_in self.old ≡ Some s → OnOk result (schema_in self.new ≡ Some (schema_of (laid s change.now))) }
         ensures no_memory { IsErrOf result BaseFault.OutOfMemory → db_of self.new ≡ db_of self.old }
         ensures cause { HasCause (db_of self.old) (D.faults (disk_in self.old)) (D.faults (disk_in self.new)) result }
     {
-        let done = lay_known(alloc, &mut self.store, &mut self.catalog, change);
-        self.catalog = None;
+        let done = lay_known(
+            alloc,
+            &mut self.store,
+            &mut self.catalog,
+            &mut self.spots,
+            change,
+        );
         match done {
-            Ok(is_ready) => {
-                self.is_open = is_ready;
-                Ok(())
-            }
+            Ok(()) => Ok(()),
             Err(fault) => {
+                self.catalog = None;
+                self.spots = SpotTable::new(self.alloc);
                 self.is_open = false;
                 Err(fault)
             }
@@ -43,7 +67,8 @@ impl<D: Disk> DbDisk<D> {
 
     /// Lays a lawful change: all of it or nothing. Once it has answered Ok the change is durable. After
     /// want of memory the database is as before. Where a crash or a fault of the disk comes in between,
-    /// the disk holds the database of before or of after. The catalogue is read anew at the next call.
+    /// the disk holds the database of before or of after. What is known in memory is kept; after an error
+    /// it is read anew at the next call.
     pub fn apply(&mut self, alloc: Global, change: &DbChange) -> Result<(), BaseFault>
         requires { (db : Db) → db_of self.old ≡ Some db → IsLawful db change.now }
         ensures told { (db : Db) → db_of self.old ≡ Some db → OnOk result (db_of self.new ≡ Some (laid db change.now)) }
@@ -54,10 +79,14 @@ impl<D: Disk> DbDisk<D> {
         // And after Ok a crash leaves that of after.
         ensures durable { (db : Db) → db_of self.old ≡ Some db
             → OnOk result ((m : Image) → IsImage (D.seen (disk_in self.new)) (D.touched (disk_in self.new)) m → held m ≡ Some (laid db change.now)) }
+        ensures schema { (s : Db) → schema_in self.old ≡ Some s → OnOk result (schema_in self.new ≡ Some (schema_of (laid s change.now))) }
         ensures no_memory { IsErrOf result BaseFault.OutOfMemory → db_of self.new ≡ db_of self.old }
         ensures cause { HasCause (db_of self.old) (D.faults (disk_in self.old)) (D.faults (disk_in self.new)) result }
     {
         self.open(alloc)?;
+        if names_nothing(change) {
+            return Ok(());
+        }
         self.lay_open(alloc, change)
     }
 
@@ -68,6 +97,7 @@ impl<D: Disk> DbDisk<D> {
         ensures schema { schema_in self.new ≡ None }
     {
         self.catalog = None;
+        self.spots = SpotTable::new(self.alloc);
         self.is_open = false;
     }
 }

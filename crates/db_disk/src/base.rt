@@ -8,7 +8,7 @@ ghost use Rattle.db_disk.specs.Held.{IsReady};
 ghost use Rattle.db_disk.specs.Known.{IsKnown};
 
 use batch_store::BatchStore;
-use catalog::Catalog;
+use catalog::{Catalog, SpotTable};
 use disk_model::Disk;
 use std::alloc::Global;
 
@@ -21,6 +21,7 @@ use std::alloc::Global;
 pub struct DbDisk<D: Disk> {
     pub(crate) store: BatchStore<D>,
     pub(crate) catalog: Option<Catalog>,
+    pub(crate) spots: SpotTable,
     pub(crate) is_open: bool,
     pub(crate) alloc: Global,
     ghost ready: { is_open ≡ true → IsReady store } by { Prim.hlevel props },
@@ -40,6 +41,7 @@ impl<D: Disk> DbDisk<D> {
         DbDisk {
             store: BatchStore::unopened(alloc, disk),
             catalog: None,
+            spots: SpotTable::new(alloc),
             is_open: false,
             alloc,
         }
@@ -59,6 +61,7 @@ impl<D: Disk> DbDisk<D> {
         let Self {
             store,
             catalog: _,
+            spots: _,
             is_open: _,
             alloc: _,
         } = self;

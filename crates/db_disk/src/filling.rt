@@ -14,7 +14,7 @@ ghost use Rattle.db_disk.specs.Known.{IsKnown, schema_known};
 use am_traits::BaseFault;
 use batch_store::BatchStore;
 use calculus::RelKey;
-use catalog::Catalog;
+use catalog::{Catalog, SpotTable};
 use disk_model::Disk;
 use std::alloc::Global;
 
@@ -23,6 +23,7 @@ pub(crate) fn fill<D: Disk>(
     alloc: Global,
     store: &mut BatchStore<D>,
     catalog: &mut Option<Catalog>,
+    spots: &mut SpotTable,
     key: &RelKey,
 ) -> Result<(), BaseFault>
     requires ready { IsReady store.old }
@@ -39,7 +40,7 @@ pub(crate) fn fill<D: Disk>(
     ensures cause { HasCause (database_in store.old) (D.faults (disk_of store.old)) (D.faults (disk_of store.new)) result }
 {
     match catalog {
-        Some(known) => known.fill(alloc, store, key),
+        Some(known) => known.fill(alloc, store, spots, key),
         None => unreachable!(),
     }
 }

@@ -5,9 +5,12 @@ ghost use Rattle.calculus.specs.Database.{Db};
 ghost use Rattle.disk_model.specs.Disk.{Image};
 ghost use Rattle.access_traits.specs.Causes.{HasFileCause, of_store};
 ghost use Rattle.catalog.specs.Knows.{Knows};
+ghost use Rattle.catalog.specs.Lies.{LiesOn};
+ghost use Rattle.plain_base.specs.Shown.{database_of};
 ghost use Rattle.schema_build.specs.Parts.{index_owners_agree};
 ghost use Rattle.stored_database.specs.Standing.{standing};
 ghost use Rattle.db_disk.specs.Held.{has_head};
+ghost use Rattle.db_disk.specs.Known.{LiesFor};
 ghost use Rattle.db_disk.specs.Load.{as_base, base_fault, IsNoHead, NoneStands};
 ghost use Rattle.db_disk.specs.declared.load.LoadFault.TheVariants.{NoHead as WithoutHead, Base as OfBase};
 
@@ -49,6 +52,8 @@ pub(crate) fn base_fault(fault: LoadFault) -> BaseFault
 fn load_for<S: PageStore>(alloc: Global, store: &mut S, dba: Name) -> Result<Catalog, LoadFault>
     ensures knows { (m : Image) (db : Db) → S.pages store.old ≡ Some m → standing m ≡ Some db → db.dba ≡ dba
         → index_owners_agree db ≡ true → IfOk result (λ c. Knows c m db) }
+    ensures lies { (m : Image) → S.pages store.old ≡ Some m → IfOk result (λ c. LiesOn c m) }
+    ensures dba { IfOk result (λ c. (database_of c.plain).dba ≡ dba) }
     ensures headed { (page : ℕ) → result ≡ Err (WithoutHead page) → ⊥ }
     ensures same { S.pages store.new ≡ S.pages store.old }
     ensures came { (s : S) → S.came s store.old → S.came s store.new }
@@ -66,6 +71,7 @@ fn load_for<S: PageStore>(alloc: Global, store: &mut S, dba: Name) -> Result<Cat
 pub(crate) fn load<S: PageStore>(alloc: Global, store: &mut S) -> Result<Catalog, LoadFault>
     ensures knows { (m : Image) (db : Db) → S.pages store.old ≡ Some m → standing m ≡ Some db
         → index_owners_agree db ≡ true → IfOk result (λ c. Knows c m db) }
+    ensures lies { (m : Image) → S.pages store.old ≡ Some m → IfOk result (λ c. LiesFor c m) }
     ensures no_head { (m : Image) (page : ℕ) → S.pages store.old ≡ Some m → result ≡ Err (WithoutHead page) → has_head m ≡ false }
     ensures headless { (m : Image) → S.pages store.old ≡ Some m → has_head m ≡ false → IsNoHead result }
     ensures same { S.pages store.new ≡ S.pages store.old }

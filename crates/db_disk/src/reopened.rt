@@ -1,8 +1,9 @@
 //! A disk is restored before it is read, and a batch is laid.
 
-ghost use Rattle.std.specs.Prelude.{◌≡◌, ℕ, IsTrue, Some, None, Err, OnOk};
+ghost use Rattle.std.specs.Prelude.{◌≡◌, ℕ, IsErrOf, IsTrue, Some, None, Err, OnOk};
 ghost use Rattle.am_traits.specs.Causes.{HasCause};
 ghost use Rattle.disk_model.specs.Disk.{LeavesOnly};
+ghost use Rattle.batch_file.specs.OnDisk.{SameRedone};
 ghost use Rattle.batch_file.specs.Redone.{kept, redone};
 ghost use Rattle.batch_store.specs.Store.{disk_of};
 ghost use Rattle.db_disk.specs.Answered.{of_restore};
@@ -29,8 +30,11 @@ pub(crate) fn reopen<D: Disk>(store: &mut BatchStore<D>) -> Result<(), BaseFault
     ensures ready { OnOk result (IsReady store.new) }
     ensures restored { IsTrue D.tells → OnOk result (redone (D.seen (disk_of store.old)) ≡ Some (kept (D.seen (disk_of store.new)))) }
     ensures damaged { IsTrue D.tells → (file page : ℕ) → result ≡ Err (BaseFault.Damaged file page) → redone (D.seen (disk_of store.old)) ≡ None }
+    ensures run { IsTrue D.tells → LeavesOnly D.clock D.left_since (disk_of store.old) (disk_of store.new)
+        (SameRedone (D.seen (disk_of store.old)) (D.touched (disk_of store.old))) }
     ensures crash { IsTrue D.tells → LeavesOnly D.clock D.left_since (disk_of store.old) (disk_of store.new)
         (SameHeld (D.seen (disk_of store.old)) (D.touched (disk_of store.old))) }
+    ensures wanted { IsErrOf result BaseFault.OutOfMemory → ⊥ }
     ensures cause { HasCause (database_in store.old) (D.faults (disk_of store.old)) (D.faults (disk_of store.new)) result }
 {
     match store.reopen() {

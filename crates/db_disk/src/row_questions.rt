@@ -46,7 +46,13 @@ impl<D: Disk> DbDisk<D> {
         ensures only_reads { IsTrue D.tells → OnlyReads D.seen D.touched D.clock D.left_since (disk_in self.old) (disk_in self.new) }
         ensures cause { HasCause (db_of self.old) (D.faults (disk_in self.old)) (D.faults (disk_in self.new)) result }
     {
-        fill(alloc, &mut self.store, &mut self.catalog, key)
+        fill(
+            alloc,
+            &mut self.store,
+            &mut self.catalog,
+            &mut self.spots,
+            key,
+        )
     }
 
     /// How many rows the relation or catalogue under a key has.

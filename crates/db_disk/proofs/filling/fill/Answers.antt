@@ -17,7 +17,7 @@ returns-clause-ready g c = still_ready _ _ c.requires.ready (c.fill.ensures.came
 pub returns-clause-known : goal.returns-clause-known
 returns-clause-known g c = λ told.
     filled_known _ _ c.requires.ready (c.fill.ensures.only_read c.args.store.now (reads_of_itself c.args.store.now)) c.in-Some.known _ told
-    (subst (IsKnown (g.D.Disk.seen (disk_of c.args.store.now))) c.in-Some.is (c.requires.known told)) c.fill.ensures.knows
+    (subst (IsKnown (g.D.Disk.seen (disk_of c.args.store.now))) c.in-Some.is (c.requires.known told)) c.fill.ensures.knows c.fill.ensures.lies c.fill.ensures.schema
 
 pub returns-clause-rows : goal.returns-clause-rows
 returns-clause-rows g c = λ db is.

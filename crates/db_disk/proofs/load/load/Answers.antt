@@ -1,6 +1,6 @@
 use Rattle.std.proofs.Common.{subst, ◌∙◌}
 use Rattle.db_disk.specs.Head.{IsHead}
-use Rattle.db_disk.proofs.Loading.{for_whom, no_header_none, own_name, unborn_none}
+use Rattle.db_disk.proofs.Loading.{for_whom, lies_for, no_header_none, own_name, unborn_none}
 use Rattle.db_disk.proofs.load.load.Goals as goal
 
 pub returns-in-Of-clause-knows : goal.returns-in-Of-clause-knows
@@ -24,3 +24,8 @@ returns-in-Unborn-clause-cause g c = record {
   later = c.read_head.ensures.cause.later;
   caused = λ m is. unborn_none m record { file = 0; page = 1 } (subst (IsHead m) c.in-Unborn.is (c.in_ok-dba.ensures.head m is));
 }
+
+pub returns-in-Of-clause-lies : goal.returns-in-Of-clause-lies
+returns-in-Of-clause-lies g c = λ m is.
+    let named = subst (IsHead m) c.in-Of.is (c.in_ok-dba.ensures.head m is) in
+    lies_for c.load_for.result m c.in-Of.dba named.1 (c.load_for.ensures.lies m (c.read_head.ensures.same ∙ is)) c.load_for.ensures.dba

@@ -1,6 +1,7 @@
 use Rattle.std.proofs.Common.{◌≡◌}
 use Rattle.am_traits.specs.declared.fault.BaseFault.TheVariants as faults
 use Rattle.db_disk.proofs.Causes.{damage_of_batch, restore_caused}
+use Rattle.db_disk.proofs.Changes.{never_wanted}
 use Rattle.db_disk.proofs.Holding.{holds_run, told_none, told_same}
 use Rattle.db_disk.proofs.reopened.reopen.Goals as goal
 
@@ -25,3 +26,8 @@ pub returns-in-Err-clause-damaged : goal.returns-in-Err-clause-damaged
 returns-in-Err-clause-damaged g c = λ told file page is.
     let e : c.fault_of.result ≡ faults.Damaged file page = cc is in
     c.reopen.ensures.damaged told file page (damage_of_batch c.in-Err.fault c.reopen.result c.fault_of.result file page c.in-Err.is c.fault_of.ensures e)
+
+pub returns-in-Err-clause-wanted : goal.returns-in-Err-clause-wanted
+returns-in-Err-clause-wanted g c = λ want.
+    let e : c.fault_of.result ≡ faults.OutOfMemory = cc want in
+    never_wanted c.in-Err.fault c.fault_of.result c.fault_of.ensures e

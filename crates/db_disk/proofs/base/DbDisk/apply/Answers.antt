@@ -1,6 +1,9 @@
-use Rattle.std.proofs.Common.{◌∙◌, refl, sym}
+use Rattle.std.proofs.Common.{◌∙◌, refl, sym, ap, Some}
 use Rattle.batch_store.specs.Store.{disk_of}
-use Rattle.db_disk.proofs.Changes.{on_ok_into, only_opened, then_changed, told_now}
+use Rattle.calculus.specs.Schema.{schema_of}
+use Rattle.db_disk.proofs.Knowing.{known_is_schema, there_open}
+use Rattle.db_disk.proofs.Ready.{ready_holds}
+use Rattle.db_disk.proofs.Changes.{held_settled, on_ok_into, only_opened, then_changed, told_now}
 use Rattle.db_disk.proofs.Holding.{told_some}
 use Rattle.db_disk.proofs.base.DbDisk.apply.Goals as goal
 
@@ -26,3 +29,22 @@ returns-clause-told g c = λ db is.
     on_ok_into c.lay_open.result _ _
     (λ each. told_now g.D.Disk.tells _ _ (told_some g.D.Disk.tells _ db is).0 (each _ (λ b calm. refl)))
     (c.lay_open.ensures.durable db (c.open.ensures.kept ∙ is))
+
+pub returns-then-names_nothing-clause-told : goal.returns-then-names_nothing-clause-told
+returns-then-names_nothing-clause-told g c = λ db is. c.open.ensures.kept ∙ is ∙ ap Some (sym (c.names_nothing.ensures c.if-names_nothing.true db))
+
+pub returns-then-names_nothing-clause-crash : goal.returns-then-names_nothing-clause-crash
+returns-then-names_nothing-clause-crash g c = λ told db all.
+    let d = g.D.Disk in
+    only_opened d.seen d.touched d.clock d.left_since _ _ db _ all (c.open.ensures.crash told)
+
+pub returns-then-names_nothing-clause-durable : goal.returns-then-names_nothing-clause-durable
+returns-then-names_nothing-clause-durable g c = λ db is m image.
+    let now = c.open.new.self in
+    let ready = now.ready (there_open now.catalog _ c.in_ok-open.ensures.there now.opened) in
+    let h = ready_holds now.store db ready (c.open.ensures.kept ∙ is) in
+    held_settled now.store db (ready.closed h.told) h.holds m image ∙ ap Some (sym (c.names_nothing.ensures c.if-names_nothing.true db))
+
+pub returns-then-names_nothing-clause-schema : goal.returns-then-names_nothing-clause-schema
+returns-then-names_nothing-clause-schema g c = λ s is.
+    c.open.ensures.keeps s is ∙ ap Some (sym (known_is_schema c.args.self.now.catalog s is) ∙ ap schema_of (sym (c.names_nothing.ensures c.if-names_nothing.true s)))

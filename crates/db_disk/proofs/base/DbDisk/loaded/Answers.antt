@@ -11,7 +11,7 @@ pub invariant_of-self : goal.invariant_of-self
 invariant_of-self g c = record {
   ready = λ is. still_ready _ _ (c.args.self.now.ready c.requires) (c.load.ensures.came c.args.self.now.store (comes_of_itself c.args.self.now.store)) (c.load.ensures.only_read c.args.self.now.store (reads_of_itself c.args.self.now.store));
   opened = λ x is. c.requires;
-  known = λ told. loaded_known _ _ (c.args.self.now.ready c.requires) (c.load.ensures.only_read c.args.self.now.store (reads_of_itself c.args.self.now.store)) _ told c.in-Ok.ensures.knows;
+  known = λ told. loaded_known _ _ (c.args.self.now.ready c.requires) (c.load.ensures.only_read c.args.self.now.store (reads_of_itself c.args.self.now.store)) _ told c.in-Ok.ensures.knows c.in-Ok.ensures.lies;
 }
 
 pub invariant_of-self-in-Err-1 : goal.invariant_of-self-in-Err-1
