@@ -193,6 +193,35 @@ fn a_database_is_that_of_before_or_of_after_wherever_a_change_stops(rt: HostRunt
     assert_eq!(rt; calls, CALLS);
 }
 
+/// What a database says.
+fn says(alloc: Global, rt: &impl Abort, base: &mut DbDisk<MemDisk>) -> List<i64> {
+    match told(alloc, rt, base) {
+        Ok(said) => said,
+        Err(_) => rt.panic("an answer"),
+    }
+}
+
+/// A step is taken, and what is kept in memory then is what the disk holds.
+fn is_kept(alloc: Global, rt: &impl Abort, base: &mut DbDisk<MemDisk>, step: Step) {
+    assert!(rt; take(alloc, rt, base, step) == Ok(true));
+    let kept = says(alloc, rt, base);
+    base.hand_over();
+    let held = says(alloc, rt, base);
+    assert!(rt; kept.items() == held.items());
+}
+
+#[test]
+fn what_is_kept_over_changes_is_what_the_disk_holds(rt: HostRuntime) {
+    let alloc = rt.alloc();
+    let mut disk = MemDisk::new(alloc, Vec::new(alloc), None);
+    let dba = named(alloc, &rt, b"ann");
+    assert!(rt; create_db(&mut disk, &dba) == Ok(()));
+    let mut base = DbDisk::later(alloc, disk);
+    for done in 0..STEPS.len() {
+        is_kept(alloc, &rt, &mut base, STEPS[done]);
+    }
+}
+
 #[test]
 fn what_is_no_database_is_not_opened(rt: HostRuntime) {
     let empty = MemDisk::new(rt.alloc(), Vec::new(rt.alloc()), None);

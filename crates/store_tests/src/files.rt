@@ -225,6 +225,54 @@ fn many_rows_are_replaced_in_one_pass(rt: HostRuntime) {
     assert!(rt; !replaced(alloc, &rt, (506, 508), (0, 0)).0);
 }
 
+/// The same, where the rows that go are looked for on these pages first.
+fn replaced_near(
+    alloc: Global,
+    rt: &impl Abort,
+    near: &[u32],
+    going: (i16, i16),
+    coming: (i16, i16),
+) -> (bool, (u32, u32), (u32, i64)) {
+    let mut store = Counting::new(alloc);
+    let mut heap = built(alloc, rt, &mut store, 0, 3 * A_PAGE);
+    let going = rows(alloc, rt, going.0, going.1);
+    let coming = rows(alloc, rt, coming.0, coming.1);
+    if heap.info().used > 1000 || coming.len() > 1000 {
+        rt.panic("so many");
+    }
+    store.restart();
+    let done = heap
+        .replace_near(alloc, &mut store, near, going.as_slice(), coming.as_slice())
+        .expect(rt, "replace");
+    let calls = (store.gets, store.puts);
+    let every = Probe {
+        equal: List::of(Vec::new(alloc)),
+    };
+    let stands = scanned(alloc, rt, &heap, &mut store, &every);
+    drop(every);
+    drop(going);
+    drop(coming);
+    drop(heap);
+    drop(store);
+    (done, calls, stands)
+}
+
+#[test]
+fn rows_that_go_are_looked_for_on_given_pages_first(rt: HostRuntime) {
+    let alloc = rt.alloc();
+    // Where all lie there, no other page is asked for: it is counted, and then it is put.
+    assert!(rt;
+        replaced_near(alloc, &rt, &[2], (400, 402), (1000, 1002))
+            == (true, (2, 1), (507, 127470 + 2001))
+    );
+    // Where they lie elsewhere, the pass is made.
+    assert!(rt;
+        replaced_near(alloc, &rt, &[0], (400, 402), (0, 0)) == (true, (4, 1), (505, 127470))
+    );
+    // What is no page of the file isn't asked for.
+    assert!(rt; replaced_near(alloc, &rt, &[9], (3, 5), (0, 0)) == (true, (1, 1), (505, 128264)));
+}
+
 /// What is wrong with a page.
 #[derive(Clone, Copy)]
 enum Wrong {
