@@ -1,0 +1,12 @@
+//! A disk in a folder of the file system.
+#![tactic(auto)]
+
+mod counts;
+mod disk;
+mod folder;
+mod pages;
+#[cfg(test)]
+mod tests;
+
+pub use counts::Counts;
+pub use disk::FolderDisk;
