@@ -13,6 +13,7 @@ pub mod LookUp
 pub mod Missing
 pub mod PageTest
 pub mod Reaching
+pub mod Reading
 pub mod Replaced
 pub mod Slots
 pub mod Stepping

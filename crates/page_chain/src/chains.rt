@@ -1,11 +1,11 @@
 //! The pages of a chain are read.
 
-ghost use Rattle.std.specs.Prelude.{◌≡◌, ◌≤◌, ◌<◌, ◌++◌, ◌^◌, ℕ, List as Items, [], ◌∷◌, Some, None, true, IfOk, OnOk, if◌then◌else◌};
+ghost use Rattle.std.specs.Prelude.{◌≡◌, ◌≤◌, ◌<◌, ◌++◌, ◌^◌, ℕ, List as Items, [], ◌∷◌, length, Some, None, true, IfOk, OnOk, if◌then◌else◌};
 ghost use Rattle.std.specs.Option.{option_copied};
 ghost use Rattle.disk_model.specs.Disk.{Image, RisesUpTo};
 ghost use Rattle.access_traits.specs.Causes.{HasFileCause};
 ghost use Rattle.page_cells.specs.Page.{IsPage, next_page, slots};
-ghost use Rattle.page_chain.specs.Chains.{NoChain, OffPage};
+ghost use Rattle.page_chain.specs.Chains.{NoChain, OffPage, chain};
 ghost use Rattle.page_chain.specs.Found.{Found, in_slot};
 ghost use Rattle.page_chain.specs.Lying.{bytes_of, lying_in, lying_on};
 ghost use Rattle.page_chain.specs.Pages.{page_at, pages_of, next_of, may_follow};
@@ -130,6 +130,7 @@ fn copy_page<S: PageStore>(
     ensures rows { (m : Image) → S.pages store.old ≡ Some m → OnOk result (rows.new.items ≡ rows.old.items ++ bytes_of (lying_on page (pages_of m file page))) }
     ensures may { IfOk result (λ next. may_follow bound page next ≡ true) }
     ensures same { S.pages store.new ≡ S.pages store.old }
+    ensures reads { RisesUpTo 1 (S.reads store.old) (S.reads store.new) }
     ensures came { (s : S) → S.came s store.old → S.came s store.new }
     ensures only_read { (s : S) → S.only_read s store.old → S.only_read s store.new }
     ensures cause { HasFileCause (S.pages store.old) (OffPage file page bound) (S.faults store.old) (S.faults store.new) result }
@@ -139,8 +140,8 @@ fn copy_page<S: PageStore>(
     Ok(next)
 }
 
-/// Puts copies of all rows of the chain from page 0 on into an empty list. Answers the number of its
-/// last page.
+/// Puts copies of all rows of the chain from page 0 on into an empty list, each page read once. Answers
+/// the number of its last page.
 fn walk<S: PageStore>(
     alloc: Global,
     store: &mut S,
@@ -153,6 +154,8 @@ fn walk<S: PageStore>(
     requires none { rows.old.items ≡ [] }
     ensures found { (m : Image) → S.pages store.old ≡ Some m → IfOk result (λ last. Found bound (pages_of m file) rows.new.items last) }
     ensures same { S.pages store.new ≡ S.pages store.old }
+    ensures reads { (m : Image) (numbers : Items ℕ) → S.pages store.old ≡ Some m → chain bound (pages_of m file) ≡ Some numbers
+        → RisesUpTo (length numbers) (S.reads store.old) (S.reads store.new) }
     ensures came { (s : S) → S.came s store.old → S.came s store.new }
     ensures only_read { (s : S) → S.only_read s store.old → S.only_read s store.new }
     ensures cause { HasFileCause (S.pages store.old) (NoChain file bound) (S.faults store.old) (S.faults store.new) result }
@@ -177,7 +180,7 @@ pub struct ChainRows {
     pub last: u32,
 }
 
-/// All rows of the chain from page 0 on.
+/// All rows of the chain from page 0 on, each page read once.
 pub fn chain_rows<S: PageStore>(
     alloc: Global,
     store: &mut S,
@@ -188,6 +191,8 @@ pub fn chain_rows<S: PageStore>(
     requires most { bound ≤ 2 ^ 32 }
     ensures found { (m : Image) → S.pages store.old ≡ Some m → IfOk result (λ found. Found bound (pages_of m file) found.rows found.last) }
     ensures same { S.pages store.new ≡ S.pages store.old }
+    ensures reads { (m : Image) (numbers : Items ℕ) → S.pages store.old ≡ Some m → chain bound (pages_of m file) ≡ Some numbers
+        → RisesUpTo (length numbers) (S.reads store.old) (S.reads store.new) }
     ensures came { (s : S) → S.came s store.old → S.came s store.new }
     ensures only_read { (s : S) → S.only_read s store.old → S.only_read s store.new }
     ensures cause { HasFileCause (S.pages store.old) (NoChain file bound) (S.faults store.old) (S.faults store.new) result }
