@@ -1,7 +1,7 @@
 // Laying the batch that a crash left behind an open gate.
-ghost use Rattle.std.specs.Prelude.{◌≡◌, ◌⊎◌, ◌↔◌, Some, None, Err, IsTrue, IfOk, OnOk, if◌then◌else◌};
+ghost use Rattle.std.specs.Prelude.{◌≡◌, ◌≢◌, ◌⊎◌, ◌↔◌, Some, None, Err, IsTrue, IfOk, OnOk, if◌then◌else◌};
 ghost use Rattle.fault_io.specs.Causes.{HasCause};
-ghost use Rattle.disk_model.specs.Disk.{OnlyReads, LeavesOnly};
+ghost use Rattle.disk_model.specs.Disk.{OnlyReads, LeavesOnly, RisesUpTo};
 ghost use Rattle.disk_model.specs.History.{CameSo};
 ghost use Rattle.batch_file.specs.Layout.{first_byte, gate};
 ghost use Rattle.batch_file.specs.Redone.{redone, kept, answer};
@@ -22,6 +22,7 @@ fn is_open<D: Disk>(disk: &mut D) -> Result<bool, DiskFailed>
     ensures same { IsTrue D.tells →
         OnlyReads D.seen D.touched D.clock D.left_since disk.old disk.new }
     ensures unwritten { D.history disk.new ≡ D.history disk.old }
+    ensures reads { RisesUpTo 1 (D.reads disk.old) (D.reads disk.new) }
     ensures cause { HasCause (D.faults disk.old) (D.faults disk.new) result }
 {
     let mut bytes = [0; 1024];
@@ -52,6 +53,9 @@ pub fn restore<D: Disk>(disk: &mut D) -> Result<Restored, RestoreFault>
     ensures crash { IsTrue D.tells →
         LeavesOnly D.clock D.left_since disk.old disk.new
         (SameRedone (D.seen disk.old) (D.touched disk.old)) }
+    // Where the gate is shut, its page is read and no other.
+    ensures reads { IsTrue D.tells → gate (D.seen disk.old) ≢ 1
+        → RisesUpTo 1 (D.reads disk.old) (D.reads disk.new) }
     // Whatever the disk tells of what it holds, these calls were made and answered Ok.
     ensures made { IfOk result (λ done. CameSo (D.history disk.old) (D.history disk.new) (Restores done)) }
     ensures cause { FailsBy (D.faults disk.old) (D.faults disk.new) result }
