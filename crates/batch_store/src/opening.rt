@@ -8,11 +8,12 @@ use std::alloc::Global;
 use std::collections::HashMap;
 
 impl<D: Disk> BatchStore<D> {
-    ghost use Rattle.std.specs.Prelude.{◌≡◌, ℕ, IsTrue, OnOk, OnErr, Err, Some, None, true, false};
+    ghost use Rattle.std.specs.Prelude.{◌≡◌, ◌≢◌, ℕ, IsTrue, OnOk, OnErr, Err, Some, None, true, false};
     ghost use Rattle.fault_io.specs.Causes.{HasCause};
-    ghost use Rattle.disk_model.specs.Disk.{Elapses, IsSettled, LeavesOnly};
+    ghost use Rattle.disk_model.specs.Disk.{Elapses, IsSettled, LeavesOnly, RisesUpTo};
     ghost use Rattle.disk_model.specs.declared.disk.Addr.{Addr as At};
     ghost use Rattle.batch_file.specs.Faults.{FailsBy};
+    ghost use Rattle.batch_file.specs.Layout.{gate};
     ghost use Rattle.batch_file.specs.OnDisk.{SameRedone, IsClosed};
     ghost use Rattle.batch_file.specs.Redone.{kept, redone};
     ghost use Rattle.batch_store.specs.Store.{disk_of, waiting, is_due, pages_of};
@@ -40,6 +41,7 @@ impl<D: Disk> BatchStore<D> {
         ensures seen { IsTrue D.tells → D.seen (disk_of self.new) ≡ D.seen (disk_of self.old) }
         ensures touched { IsTrue D.tells → (b : At) → D.touched (disk_of self.new) b → D.touched (disk_of self.old) b }
         ensures time { IsTrue D.tells → Elapses D.seen D.touched D.clock D.left_since (disk_of self.old) (disk_of self.new) }
+        ensures reads { D.reads (disk_of self.new) ≡ D.reads (disk_of self.old) }
         ensures begun { waiting self.new ≡ 0 }
         ensures due { is_due self.new ≡ true }
         ensures cause { HasCause (D.faults (disk_of self.old)) (D.faults (disk_of self.new)) result }
@@ -63,6 +65,9 @@ impl<D: Disk> BatchStore<D> {
         ensures crash { IsTrue D.tells →
             LeavesOnly D.clock D.left_since (disk_of self.old) (disk_of self.new)
             (SameRedone (D.seen (disk_of self.old)) (D.touched (disk_of self.old))) }
+        // Where the gate is shut, its page is read and no other.
+        ensures reads { IsTrue D.tells → gate (D.seen (disk_of self.old)) ≢ 1
+            → RisesUpTo 1 (D.reads (disk_of self.old)) (D.reads (disk_of self.new)) }
         ensures begun { waiting self.new ≡ 0 }
         ensures calm { OnOk result (is_due self.new ≡ false) }
         ensures due { OnErr result (is_due self.new ≡ true) }

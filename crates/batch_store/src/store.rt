@@ -44,10 +44,11 @@ pub struct BatchStore<D: Disk> {
 }
 
 impl<D: Disk> BatchStore<D> {
-    ghost use Rattle.std.specs.Prelude.{◌⊎◌, ◌<◌, ◌↔◌, ℕ, IsOk, IsErr, OnOk, OnErr, IfOk, Ok, Err, not};
-    ghost use Rattle.disk_model.specs.Disk.{Image, IsSettled, LeavesOnly};
+    ghost use Rattle.std.specs.Prelude.{◌≢◌, ◌⊎◌, ◌<◌, ◌↔◌, ℕ, IsOk, IsErr, OnOk, OnErr, IfOk, Ok, Err, not};
+    ghost use Rattle.disk_model.specs.Disk.{Image, IsSettled, LeavesOnly, RisesUpTo};
     ghost use Rattle.disk_model.specs.History.{CameSo};
     ghost use Rattle.batch_file.specs.Faults.{FailsBy};
+    ghost use Rattle.batch_file.specs.Layout.{gate};
     ghost use Rattle.batch_file.specs.OnDisk.{BeforeOrAfter, SameRedone, IsClosed};
     ghost use Rattle.batch_file.specs.Order.{Completes, Lays, Restores};
     ghost use Rattle.batch_file.specs.Redone.{answer, kept, redone};
@@ -190,6 +191,9 @@ impl<D: Disk> BatchStore<D> {
         ensures begun { waiting self.new ≡ 0 }
         ensures calm { OnOk result (is_due self.new ≡ false) }
         ensures due { OnErr result (is_due self.new ≡ true) }
+        // Where the gate is shut, its page is read and no other.
+        ensures reads { IsTrue D.tells → gate (D.seen (disk_of self.old)) ≢ 1
+            → RisesUpTo 1 (D.reads (disk_of self.old)) (D.reads (disk_of self.new)) }
         ensures made { IfOk result (λ done.
             CameSo (D.history (disk_of self.old)) (D.history (disk_of self.new)) (Restores done)) }
         ensures cause { FailsBy (D.faults (disk_of self.old)) (D.faults (disk_of self.new)) result }
