@@ -9,5 +9,7 @@ pub mod LiesLaid
 pub mod LiesKnown
 pub mod LiesRead
 pub mod LiesLoaded
+pub mod InMemory
+pub mod Rises
 pub mod Steps
 pub mod Places

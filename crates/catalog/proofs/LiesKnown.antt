@@ -1,32 +1,30 @@
 -- What lies on pages that stand for a database is known of it.
-use Rattle.std.proofs.Common.{◌≡◌, refl, sym, ap, subst, ◌∙◌, inl, inr, ℕ, ◌<◌, ◌&&◌, nat_le, Bool, true, false, List, [], ◌∷◌, ◌++◌, map, Option, Some, None}
+use Rattle.std.proofs.Common.{◌≡◌, refl, sym, ap, subst, ◌∙◌, inl, inr, ℕ, ◌&&◌, nat_le, Bool, true, false, List, [], ◌∷◌, ◌++◌, map, Option, Some}
 use Rattle.std.specs.Prelude.{nat_eq}
 use Rattle.std.specs.List.{AllByRecursion, list_all}
 use Rattle.std.proofs.lemmas.Option.{same_Some, none-some}
 use Rattle.calculus.specs.declared.query.RelKey.{RelKey}
 use Rattle.calculus.specs.declared.schema.RelInfo.{RelInfo}
 use Rattle.calculus.specs.declared.value.Domain.{Domain}
-use Rattle.calculus.specs.Database.{Db, Relation, View, Index, entries}
+use Rattle.calculus.specs.Database.{Db, Relation, entries}
 use Rattle.calculus.specs.IsDatabase.{IsDatabase}
 use Rattle.calculus.specs.Lists.{differ_by}
 use Rattle.calculus.specs.Rows.{Row}
 use Rattle.calculus.specs.Schema.{bare, schema_of}
 use Rattle.disk_model.specs.Disk.{Image}
-use Rattle.disk_model.specs.declared.disk.Addr.{Addr}
 use Rattle.page_chain.specs.Lists.{◌>>=◌, each}
 use Rattle.page_chain.specs.Pages.{Pages, pages_of}
 use Rattle.page_chain.specs.Rows.{placed_on, reader, set_on}
 use Rattle.page_chain.specs.Chains.{whole_chain, chain}
 use Rattle.plain_base.specs.Shown.{database_of}
 use Rattle.schema_build.specs.Parts.{index_owners_agree, whole}
-use Rattle.stored_database.specs.Catalogue.{Catalogue, IsCatalogue, catalogue_in}
+use Rattle.stored_database.specs.Catalogue.{Catalogue, catalogue_in}
 use Rattle.stored_database.specs.Entries.{Entry, entry_cmp}
 use Rattle.stored_database.specs.Names.{is_number32}
 use Rattle.stored_database.specs.Printed.{Files, HasFiles, entries_for, index_entry, is_file, printed, relation_entry, rows_in, view_entry}
 use Rattle.stored_database.specs.Spelled.{domain_of, spelled}
 use Rattle.stored_database.specs.Standing.{standing}
 use Rattle.calculus.specs.Structures.{is_structure}
-use Rattle.stored_database.proofs.CatalogueRead.{catalogues_are_read}
 use Rattle.stored_database.proofs.Exactly.{pages_stand_exactly}
 use Rattle.stored_database.proofs.Members.{IsIn, all_of, filter_in, in_either, map_in, of_all, of_tests, tests_of}
 use Rattle.stored_database.proofs.PrintedLaw.{what_is_printed_is_read}
@@ -39,7 +37,7 @@ use Rattle.catalogue_moves.specs.Files.{files_of, is_in}
 use Rattle.catalogue_read.proofs.SpellsSchema.{spells_its_schema}
 use Rattle.laying_laws.proofs.Schemas.{same_entries, same_printed}
 use Rattle.loaded_laws.specs.Loaded.{loaded_part}
-use Rattle.loaded_laws.proofs.Part.{part, part_known, part_unknown, relations_are}
+use Rattle.loaded_laws.proofs.Part.{part, part_known, part_unknown}
 use Rattle.catalog.specs.Knows.{Knows}
 use Rattle.catalog.specs.Lies.{LiesOn}
 use Rattle.catalog.specs.declared.catalog.Catalog.{Catalog}

@@ -1,7 +1,6 @@
 -- What is known in memory lies on the pages when a change was laid.
 use Rattle.std.proofs.Common.{◌≡◌, refl, sym, ap, subst, ◌∙◌, inl, inr, true≢false, ℕ, ◌<◌, ◌≤◌, ◌==◌, ◌||◌, nat_le, nat_lt, Bool, true, false, List, Option, Some, arith}
 use Rattle.std.specs.Prelude.{◌⊎◌}
-use Rattle.std.specs.List.{AllByRecursion}
 use Rattle.std.proofs.lemmas.Bool.Decides.{nat_tests}
 use Rattle.std.proofs.lemmas.Option.{same_Some}
 use Rattle.access_traits.specs.Pages.{SameElsewhere}
@@ -10,9 +9,8 @@ use Rattle.calculus.specs.declared.change.DbChange.TheVariants as change
 use Rattle.calculus.specs.declared.query.RelKey.{RelKey}
 use Rattle.calculus.specs.declared.schema.Attr.{Attr}
 use Rattle.calculus.specs.declared.schema.RelInfo.{RelInfo}
-use Rattle.calculus.specs.Change.{IsLawful, laid, names_what_is_there}
+use Rattle.calculus.specs.Change.{IsLawful, laid}
 use Rattle.calculus.specs.Database.{Db, Relation, entries, is_relation, is_there}
-use Rattle.calculus.specs.IsDatabase.{IsDatabase}
 use Rattle.calculus.specs.Keys.{same_key}
 use Rattle.calculus.specs.Replacement.{with_rows, without_rows}
 use Rattle.calculus.specs.Rows.{Row, set_of}
@@ -21,10 +19,10 @@ use Rattle.disk_model.specs.declared.disk.Addr.{Addr}
 use Rattle.page_chain.specs.Pages.{page_at, pages_of}
 use Rattle.page_chain.specs.Rows.{set_on, reader}
 use Rattle.plain_base.specs.Shown.{database_of}
-use Rattle.stored_database.specs.Catalogue.{Catalogue, catalogue_in}
+use Rattle.stored_database.specs.Catalogue.{catalogue_in}
 use Rattle.stored_database.specs.Names.{is_number32}
-use Rattle.stored_database.specs.Printed.{Files, HasFiles, is_file, printed}
-use Rattle.stored_database.proofs.Members.{IsIn, all_of, of_all, of_tests, in_first, in_map}
+use Rattle.stored_database.specs.Printed.{Files, is_file, printed}
+use Rattle.stored_database.proofs.Members.{all_of, of_all, of_tests, in_first, in_map}
 use Rattle.stored_database.proofs.Orders.{same_key_is, same_key_itself}
 use Rattle.stored_database.proofs.Reading.{both, number_itself, same_number}
 use Rattle.catalogue_changes.specs.After.{changed}
@@ -33,11 +31,11 @@ use Rattle.catalogue_moves.specs.Files.{files_after, files_of, is_in, placed_key
 use Rattle.catalogue_moves.specs.Moves.{HavePlaces}
 use Rattle.catalogue_pages.specs.Ends.{AreEnds, SameBesides, Written}
 use Rattle.catalogue_pages.specs.declared.writing.Ends.{Ends}
-use Rattle.laying_laws.specs.Followed.{AreKept, SayTheSame}
+use Rattle.laying_laws.specs.Followed.{AreKept}
 use Rattle.laying_laws.specs.Placed.{IsMade, MakesPages, Suits}
 use Rattle.laying_laws.proofs.Agreeing.{file_same, files_agree}
 use Rattle.laying_laws.proofs.From.{IsChanged, new_is_new, new_key, relation_from}
-use Rattle.loaded_laws.specs.Loaded.{known_after, knows_rows, with_key}
+use Rattle.loaded_laws.specs.Loaded.{known_after, knows_rows}
 use Rattle.catalog.specs.Knows.{Knows, KnowsAfter}
 use Rattle.catalog.specs.Lies.{LiesAfter, LiesOn}
 use Rattle.catalog.specs.Laid.{HasMade, IsKept, IsPrepared, MayTake, SeesTheSame, coming_of, going_of}
@@ -45,7 +43,7 @@ use Rattle.catalog.specs.declared.catalog.Catalog.{Catalog}
 use Rattle.catalog.proofs.Known.{catalogue_stays, ends_stay, known_then, part_bases, prepared}
 use Rattle.catalog.proofs.Overlay.{file_elsewhere, file_there, first_there, high_file, later_file, later_there, not_first, other_file, with_file_of, with_first_of}
 use Rattle.catalog.proofs.Places.{kept_after}
-use Rattle.catalog.proofs.Relations.{Under, named_relation, under}
+use Rattle.catalog.proofs.Relations.{named_relation, under}
 
 -- ---- the pages that a change reads
 

@@ -1,5 +1,5 @@
 -- What was made of the catalogues lies on the pages.
-use Rattle.std.proofs.Common.{◌≡◌, refl, sym, ap, subst, ◌∙◌, true≢false, ℕ, ◌<◌, Bool, true, false, List, map, Option, Some, None, Result, Ok, Err}
+use Rattle.std.proofs.Common.{◌≡◌, sym, ap, subst, ◌∙◌, true≢false, ℕ, true, false, List, map, Option, Some, None, Result, Ok, Err}
 use Rattle.std.specs.Prelude.{IfOk}
 use Rattle.std.specs.Option.{ForSome, option_map}
 use Rattle.std.proofs.lemmas.Option.{same_Some, none-some}
@@ -8,8 +8,7 @@ use Rattle.calculus.specs.Keys.{key_cmp, numbered_cmp}
 use Rattle.calculus.specs.Schema.{schema_of}
 use Rattle.memory.specs.declared.out_of_memory.OutOfMemory.{OutOfMemory}
 use Rattle.disk_model.specs.Disk.{Image}
-use Rattle.disk_model.specs.declared.disk.Addr.{Addr}
-use Rattle.page_chain.specs.Lists.{◌>>=◌, once}
+use Rattle.page_chain.specs.Lists.{once}
 use Rattle.page_chain.specs.Pages.{pages_of}
 use Rattle.plain_base.specs.Shown.{database_of}
 use Rattle.plain_base.specs.declared.db_plain.DbPlain.{DbPlain}

@@ -1,13 +1,12 @@
 -- What is known in memory lies on the pages when rows of a relation were read.
-use Rattle.std.proofs.Common.{◌≡◌, refl, sym, ap, subst, ◌∙◌, inl, inr, true≢false, ℕ, ◌<◌, ◌≤◌, ◌==◌, ◌&&◌, ◌||◌, nat_le, Bool, true, false, List, [], ◌∷◌, map, Option, Some, arith, if◌then◌else◌}
+use Rattle.std.proofs.Common.{◌≡◌, refl, sym, ap, subst, ◌∙◌, inl, inr, true≢false, ℕ, ◌<◌, ◌==◌, ◌&&◌, ◌||◌, nat_le, Bool, true, false, List, [], ◌∷◌, map, Option, Some, if◌then◌else◌}
 use Rattle.std.specs.Prelude.{◌⊎◌}
 use Rattle.std.specs.List.{AllByRecursion}
 use Rattle.access_traits.specs.Placed.{Placed, rows_of}
 use Rattle.access_traits.specs.declared.file.RelFile.{RelFile}
-use Rattle.calculus.specs.declared.change.DbChange.{DbChange}
 use Rattle.calculus.specs.declared.change.DbChange.TheVariants.{Rows}
 use Rattle.calculus.specs.declared.query.RelKey.{RelKey}
-use Rattle.calculus.specs.Change.{IsLawful, change_at, laid, rows_differ}
+use Rattle.calculus.specs.Change.{change_at, laid}
 use Rattle.calculus.specs.Database.{Db, Relation, is_relation}
 use Rattle.calculus.specs.Keys.{same_key}
 use Rattle.calculus.specs.Replacement.{with_rows, without_rows}
@@ -24,10 +23,9 @@ use Rattle.plan_laws.proofs.NewIndexes.{other_way}
 use Rattle.relation_rows.specs.Sets.{IsRead}
 use Rattle.relation_rows.proofs.Once.{once_is}
 use Rattle.schema_build.specs.Parts.{index_owners_agree}
-use Rattle.stored_database.specs.Catalogue.{Catalogue, catalogue_in}
 use Rattle.stored_database.specs.Names.{is_number32}
 use Rattle.stored_database.specs.Printed.{Files, HasFiles, printed}
-use Rattle.stored_database.proofs.Members.{IsIn, all_of, of_all, of_tests}
+use Rattle.stored_database.proofs.Members.{all_of, of_all, of_tests}
 use Rattle.stored_database.proofs.Orders.{same_key_is, same_key_itself}
 use Rattle.stored_database.proofs.Reading.{number_itself, same_number}
 use Rattle.catalogue_changes.proofs.Staying.{relation_is}
@@ -44,14 +42,13 @@ use Rattle.loaded_laws.proofs.Changes.{other_part}
 use Rattle.loaded_laws.proofs.Part.{part, part_if, part_unknown}
 use Rattle.catalog.specs.Filling.{IsFileOf, IsSame, IsTaken}
 use Rattle.catalog.specs.Knows.{Knows}
-use Rattle.catalog.specs.Laid.{MayTake, SeesTheSame}
 use Rattle.catalog.specs.Lies.{LiesOn}
 use Rattle.catalog.specs.declared.catalog.Catalog.{Catalog}
 use Rattle.catalog.proofs.Filled.{knows_same, rows_keep_schema}
 use Rattle.catalog.proofs.Known.{catalogue_stays, ends_stay, owners_after, sees_itself}
 use Rattle.catalog.proofs.LiesKnown.{left_each}
 use Rattle.catalog.proofs.Overlay.{file_elsewhere, file_there, not_first, other_file, with_file_of}
-use Rattle.catalog.proofs.Relations.{RowsGo, Standing, Under, standing, under}
+use Rattle.catalog.proofs.Relations.{Standing, standing, under}
 
 -- ---- nothing changed
 

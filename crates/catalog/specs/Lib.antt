@@ -4,3 +4,4 @@ pub mod Filling
 pub mod Loading
 pub mod Places
 pub mod Laid
+pub mod Reads

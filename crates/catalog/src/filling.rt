@@ -8,11 +8,12 @@ ghost use Rattle.calculus.specs.IsDatabase.{IsDatabase};
 ghost use Rattle.calculus.specs.Schema.{schema_of};
 ghost use Rattle.calculus.specs.declared.change.DbChange.TheVariants.{Rows};
 ghost use Rattle.calculus.specs.Stored.{rows_at};
-ghost use Rattle.disk_model.specs.Disk.{Image};
+ghost use Rattle.disk_model.specs.Disk.{Image, RisesUpTo};
 ghost use Rattle.plain_base.specs.Shown.{database_of};
 ghost use Rattle.catalogue_moves.specs.Files.{files_of, is_in};
 ghost use Rattle.catalog.specs.Knows.{Knows, KnowsNone};
 ghost use Rattle.catalog.specs.Lies.{LiesOn};
+ghost use Rattle.catalog.specs.Reads.{rows_known};
 ghost use Rattle.catalog.specs.Filling.{IsFileOf, IsSame, IsTaken};
 
 use crate::catalog::Catalog;
@@ -133,6 +134,9 @@ impl Catalog {
         ensures rows { (m : Image) (db : Db) → S.pages store.old ≡ Some m → IsDatabase db → Knows self.old m db
             → OnOk result (rows_at (database_of self.new.plain) key.now ≡ rows_at db key.now) }
         ensures schema { schema_of (database_of self.new.plain) ≡ schema_of (database_of self.old.plain) }
+        ensures files { self.new.files ≡ self.old.files }
+        ensures reads { RisesUpTo file.used (S.reads store.old) (S.reads store.new) }
+        ensures loaded { OnOk result (is_in self.new.loaded key.now ≡ true) }
         ensures same { S.pages store.new ≡ S.pages store.old }
         ensures came { (s : S) → S.came s store.old → S.came s store.new }
         ensures only_read { (s : S) → S.only_read s store.old → S.only_read s store.new }
@@ -166,6 +170,11 @@ impl Catalog {
         ensures rows { (m : Image) (db : Db) → S.pages store.old ≡ Some m → IsDatabase db → Knows self.old m db
             → OnOk result (rows_at (database_of self.new.plain) key.now ≡ rows_at db key.now) }
         ensures schema { schema_of (database_of self.new.plain) ≡ schema_of (database_of self.old.plain) }
+        ensures files { files_of self.new.files ≡ files_of self.old.files }
+        // No page of another file is read, and none where the rows are in memory.
+        ensures reads { RisesUpTo ((files_of self.old.files).used key.now) (S.reads store.old) (S.reads store.new) }
+        ensures again { rows_known self.old key.now ≡ true → S.reads store.new ≡ S.reads store.old }
+        ensures known { OnOk result (rows_known self.new key.now ≡ true) }
         ensures same { S.pages store.new ≡ S.pages store.old }
         ensures came { (s : S) → S.came s store.old → S.came s store.new }
         ensures only_read { (s : S) → S.only_read s store.old → S.only_read s store.new }

@@ -1,11 +1,12 @@
 //! The catalogues of a disk are read.
 
-ghost use Rattle.std.specs.Prelude.{◌≡◌, ℕ, true, None, Some, IfOk};
+ghost use Rattle.std.specs.Prelude.{◌≡◌, ◌+◌, ℕ, List as Items, length, true, None, Some, IfOk};
 ghost use Rattle.std.specs.Option.{ForSome};
 ghost use Rattle.access_traits.specs.Causes.{HasFileCause};
 ghost use Rattle.calculus.specs.Database.{Db};
 ghost use Rattle.calculus.specs.Schema.{schema_of};
-ghost use Rattle.disk_model.specs.Disk.{Image};
+ghost use Rattle.disk_model.specs.Disk.{Image, RisesUpTo};
+ghost use Rattle.page_chain.specs.Chains.{chain};
 ghost use Rattle.page_chain.specs.Found.{Found};
 ghost use Rattle.page_chain.specs.Pages.{Pages, pages_of};
 ghost use Rattle.plain_base.specs.Shown.{database_of};
@@ -16,6 +17,7 @@ ghost use Rattle.catalog.specs.Lies.{LiesOn};
 ghost use Rattle.stored_database.specs.Catalogue.{IsCatalogue, most_pages};
 ghost use Rattle.stored_database.specs.Spelled.{spelled};
 ghost use Rattle.catalogue_read.specs.Read.{catalogue_of, catalogue_shown};
+ghost use Rattle.catalog.specs.Reads.{HasChains};
 ghost use Rattle.catalog.specs.Loading.{AreFound, HoldsFor, IfKnown, IsMadeOf, IsOfParts, NoneIn, NoCatalogueIn, SpellsNone};
 
 use crate::catalog::Catalog;
@@ -45,9 +47,11 @@ pub(crate) struct Chains {
     pub(crate) parts: ChainRows,
 }
 
-/// The rows of the catalogue in a file.
+/// The rows of the catalogue in a file, each page read once.
 fn rows_in<S: PageStore>(alloc: Global, store: &mut S, file: u32) -> Result<ChainRows, BaseFault>
     ensures found { (m : Image) → S.pages store.old ≡ Some m → IfOk result (λ found. Found most_pages (pages_of m file) found.rows found.last) }
+    ensures reads { (m : Image) (numbers : Items ℕ) → S.pages store.old ≡ Some m → chain most_pages (pages_of m file) ≡ Some numbers
+        → RisesUpTo (length numbers) (S.reads store.old) (S.reads store.new) }
     ensures same { S.pages store.new ≡ S.pages store.old }
     ensures came { (s : S) → S.came s store.old → S.came s store.new }
     ensures only_read { (s : S) → S.only_read s store.old → S.only_read s store.new }
@@ -63,6 +67,8 @@ fn behind_entries<S: PageStore>(
     entries: ChainRows,
 ) -> Result<Chains, BaseFault>
     ensures found { (m : Image) → S.pages store.old ≡ Some m → Found most_pages (pages_of m 5) entries.rows entries.last → IfOk result (λ chains. AreFound m chains) }
+    ensures reads { (m : Image) (columns parts : Items ℕ) → S.pages store.old ≡ Some m → chain most_pages (pages_of m 6) ≡ Some columns
+        → chain most_pages (pages_of m 7) ≡ Some parts → RisesUpTo (length columns + length parts) (S.reads store.old) (S.reads store.new) }
     ensures same { S.pages store.new ≡ S.pages store.old }
     ensures came { (s : S) → S.came s store.old → S.came s store.new }
     ensures only_read { (s : S) → S.only_read s store.old → S.only_read s store.new }
@@ -77,9 +83,10 @@ fn behind_entries<S: PageStore>(
     })
 }
 
-/// The rows of the three catalogues.
+/// The rows of the three catalogues, each page read once.
 pub(crate) fn read_chains<S: PageStore>(alloc: Global, store: &mut S) -> Result<Chains, BaseFault>
     ensures found { (m : Image) → S.pages store.old ≡ Some m → IfOk result (λ chains. AreFound m chains) }
+    ensures reads { (m : Image) (all : ℕ) → S.pages store.old ≡ Some m → HasChains m all → RisesUpTo all (S.reads store.old) (S.reads store.new) }
     ensures same { S.pages store.new ≡ S.pages store.old }
     ensures came { (s : S) → S.came s store.old → S.came s store.new }
     ensures only_read { (s : S) → S.only_read s store.old → S.only_read s store.new }
@@ -167,6 +174,7 @@ impl Catalog {
             → index_owners_agree db ≡ true → IfOk result (λ c. Knows c m db) }
         ensures lies { (m : Image) → S.pages store.old ≡ Some m → IfOk result (λ c. LiesOn c m) }
         ensures dba { IfOk result (λ c. (database_of c.plain).dba ≡ dba) }
+        ensures reads { (m : Image) (all : ℕ) → S.pages store.old ≡ Some m → HasChains m all → RisesUpTo all (S.reads store.old) (S.reads store.new) }
         ensures same { S.pages store.new ≡ S.pages store.old }
         ensures came { (s : S) → S.came s store.old → S.came s store.new }
         ensures only_read { (s : S) → S.only_read s store.old → S.only_read s store.new }

@@ -1,7 +1,8 @@
-use Rattle.std.proofs.Common.{arith, ◌∙◌}
+use Rattle.std.proofs.Common.{arith, ◌∙◌, ◌+◌, length}
 use Rattle.page_chain.proofs.Carried.{cause_carried}
 use Rattle.catalog.specs.Loading.{NoCatalogueIn, NoneIn}
 use Rattle.catalog.proofs.ReadRows.{no_columns, no_parts}
+use Rattle.catalog.proofs.Rises.{rises_less, then_rises}
 use Rattle.catalog.proofs.loading.behind_entries.Goals as goal
 
 pub returns-in_err-columns-clause-cause : goal.returns-in_err-columns-clause-cause
@@ -15,3 +16,15 @@ returns-in_err-parts-clause-cause g c =
     cause_carried (g.S.PageStore.pages c.args.store.now) (g.S.PageStore.pages c.rows_in.new.store) (NoneIn 7) NoCatalogueIn
     (g.S.PageStore.faults c.args.store.now) (g.S.PageStore.faults c.rows_in.new.store) (g.S.PageStore.faults c.rows_in-2.new.store) c.in_err-parts.field-0.0 c.in_ok-columns.ensures.cause.later
     (λ a at m told. no_parts m a (at m (c.in_ok-columns.ensures.same ∙ told))) c.in_err-parts.ensures.cause c.from_residual-in_err-parts.result c.from_residual-in_err-parts.ensures.1
+
+pub returns-in_err-columns-clause-reads : goal.returns-in_err-columns-clause-reads
+returns-in_err-columns-clause-reads g c m columns parts told has_columns has_parts =
+    rises_less (length columns) (length columns + length parts) _ _ (omega arith) (c.rows_in.ensures.reads m columns told has_columns)
+
+pub returns-in_err-parts-clause-reads : goal.returns-in_err-parts-clause-reads
+returns-in_err-parts-clause-reads g c m columns parts told has_columns has_parts =
+    then_rises (length columns) (length parts) _ _ _ (c.rows_in.ensures.reads m columns told has_columns) (c.rows_in-2.ensures.reads m parts (c.in_ok-columns.ensures.same ∙ told) has_parts)
+
+pub returns-clause-reads : goal.returns-clause-reads
+returns-clause-reads g c m columns parts told has_columns has_parts =
+    then_rises (length columns) (length parts) _ _ _ (c.rows_in.ensures.reads m columns told has_columns) (c.rows_in-2.ensures.reads m parts (c.in_ok-columns.ensures.same ∙ told) has_parts)

@@ -1,7 +1,8 @@
-use Rattle.std.proofs.Common.{arith}
+use Rattle.std.proofs.Common.{arith, ◌∙◌, ◌+◌, length}
 use Rattle.page_chain.proofs.Carried.{cause_carried}
 use Rattle.catalog.specs.Loading.{NoCatalogueIn, NoneIn}
 use Rattle.catalog.proofs.ReadRows.{no_entries}
+use Rattle.catalog.proofs.Rises.{rises_as, rises_less, then_rises}
 use Rattle.catalog.proofs.loading.read_chains.Goals as goal
 
 pub returns-in_err-entries-clause-cause : goal.returns-in_err-entries-clause-cause
@@ -9,3 +10,13 @@ returns-in_err-entries-clause-cause g c =
     cause_carried (g.S.PageStore.pages c.args.store.now) (g.S.PageStore.pages c.args.store.now) (NoneIn 5) NoCatalogueIn
     (g.S.PageStore.faults c.args.store.now) (g.S.PageStore.faults c.args.store.now) (g.S.PageStore.faults c.rows_in.new.store) c.in_err-entries.field-0.0 (omega arith)
     (λ a at m told. no_entries m a (at m told)) c.in_err-entries.ensures.cause c.from_residual.result c.from_residual.ensures.1
+
+pub returns-in_err-entries-clause-reads : goal.returns-in_err-entries-clause-reads
+returns-in_err-entries-clause-reads g c m all told has =
+    rises_less (length has.entries) all _ _ (let e = has.in_all in omega (arith, e)) (c.rows_in.ensures.reads m has.entries told has.has_entries)
+
+pub returns-clause-reads : goal.returns-clause-reads
+returns-clause-reads g c m all told has =
+    rises_as _ all _ _ has.in_all
+    (then_rises (length has.entries) (length has.columns + length has.parts) _ _ _ (c.rows_in.ensures.reads m has.entries told has.has_entries)
+    (c.behind_entries.ensures.reads m has.columns has.parts (c.in_ok-entries.ensures.same ∙ told) has.has_columns has.has_parts))

@@ -1,9 +1,12 @@
 use Rattle.std.proofs.Common.{◌∙◌, refl, sym, ap, subst, arith}
+use Rattle.calculus.specs.Database.{is_relation}
 use Rattle.calculus.specs.Stored.{rows_at}
 use Rattle.catalogue_moves.specs.Files.{files_of}
 use Rattle.catalog.specs.Filling.{IsFileOf}
 use Rattle.catalog.proofs.LiesRead.{lies_same}
 use Rattle.catalog.proofs.Filled.{knows_same, no_file_none, other_rows_are, rows_are}
+use Rattle.catalog.proofs.InMemory.{known_loaded, known_none, known_read, not_known}
+use Rattle.catalog.proofs.Rises.{rises_as}
 use Rattle.catalog.proofs.catalog.Catalog.fill.Goals as goal
 
 pub returns-then-has-clause-rows : goal.returns-then-has-clause-rows
@@ -35,3 +38,24 @@ returns-in-Some-clause-lies g c m told lies =
     c.read.ensures.lies m told
     (lies_same c.args.self.now (record c.args.self.now { plain = c.relation_file.new.plain }) m
     (record { plain = c.in_ok-file.ensures.same ∙ c.in_ok-is_stored.ensures.same; loaded = λ key. refl; files = refl; ends_stay = refl }) lies)
+
+pub returns-then-has-clause-known : goal.returns-then-has-clause-known
+returns-then-has-clause-known g c = known_loaded c.args.self.now c.args.key.now (sym c.has.ensures ∙ c.if-has.true)
+
+pub returns-then-not-branch-clause-known : goal.returns-then-not-branch-clause-known
+returns-then-not-branch-clause-known g c =
+    known_none (record c.args.self.now { plain = c.is_stored.new.plain }) c.args.key.now
+    (ap (λ d. is_relation d c.args.key.now) c.in_ok-is_stored.ensures.same ∙ sym c.in_ok-is_stored.ensures.there ∙ c.if-not-branch.true)
+
+pub returns-in-Some-clause-files : goal.returns-in-Some-clause-files
+returns-in-Some-clause-files g c = ap files_of c.read.ensures.files
+
+pub returns-in-Some-clause-reads : goal.returns-in-Some-clause-reads
+returns-in-Some-clause-reads g c = rises_as _ _ _ _ (c.in_ok-file.ensures.there c.in-Some.file c.in-Some.is).pages c.read.ensures.reads
+
+pub returns-in-Some-clause-again : goal.returns-in-Some-clause-again
+returns-in-Some-clause-again g c = λ is.
+    not_known c.args.self.now c.args.key.now _ (sym c.has.ensures ∙ c.if-has.false) (sym c.in_ok-is_stored.ensures.there ∙ c.if-not-branch.false) is
+
+pub returns-in-Some-clause-known : goal.returns-in-Some-clause-known
+returns-in-Some-clause-known g c = known_read c.read.result c.read.new.self c.args.key.now c.read.ensures.loaded

@@ -41,3 +41,9 @@ pub returns-then-branch-clause-lies : goal.returns-then-branch-clause-lies
 returns-then-branch-clause-lies g c m told lies =
     lies_with c.args.self.now c.take.new.self m c.args.key.now c.args.file c.in_ok-rows.rows lies c.requires.unread c.requires.stored c.requires.file
     (c.in_ok-rows.ensures.exact m told) (c.in_ok-take.ensures.taken c.if-branch.true)
+
+pub returns-then-branch-clause-files : goal.returns-then-branch-clause-files
+returns-then-branch-clause-files g c = (c.in_ok-take.ensures.taken c.if-branch.true).files
+
+pub returns-then-branch-clause-loaded : goal.returns-then-branch-clause-loaded
+returns-then-branch-clause-loaded g c = taken_is_in c.args.self.now c.take.new.self c.args.key.now c.in_ok-rows.rows (c.in_ok-take.ensures.taken c.if-branch.true)
