@@ -12,4 +12,6 @@ pub mod KnowsProp
 pub mod Loading
 pub mod Making
 pub mod Opens
+pub mod Reading
 pub mod Ready
+pub mod Scanned

@@ -8,4 +8,5 @@ pub mod Load
 pub mod Laws
 pub mod Making
 pub mod Opened
+pub mod Reads
 pub mod Shown

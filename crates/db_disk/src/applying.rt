@@ -44,6 +44,7 @@ impl<D: Disk> DbDisk<D> {
         ensures durable { (db : Db) → db_of self.old ≡ Some db
             → OnOk result ((m : Image) → IsImage (D.seen (disk_in self.new)) (D.touched (disk_in self.new)) m → held m ≡ Some (laid db change.now)) }
         ensures schema { (s : Db) → schema_in self.old ≡ Some s → OnOk result (schema_in self.new ≡ Some (schema_of (laid s change.now))) }
+        ensures fixed { OnOk result (IsTrue (is_some (schema_in self.new))) }
         ensures no_memory { IsErrOf result BaseFault.OutOfMemory → db_of self.new ≡ db_of self.old }
         ensures cause { HasCause (db_of self.old) (D.faults (disk_in self.old)) (D.faults (disk_in self.new)) result }
     {
@@ -80,6 +81,7 @@ impl<D: Disk> DbDisk<D> {
         ensures durable { (db : Db) → db_of self.old ≡ Some db
             → OnOk result ((m : Image) → IsImage (D.seen (disk_in self.new)) (D.touched (disk_in self.new)) m → held m ≡ Some (laid db change.now)) }
         ensures schema { (s : Db) → schema_in self.old ≡ Some s → OnOk result (schema_in self.new ≡ Some (schema_of (laid s change.now))) }
+        ensures fixed { OnOk result (IsTrue (is_some (schema_in self.new))) }
         ensures no_memory { IsErrOf result BaseFault.OutOfMemory → db_of self.new ≡ db_of self.old }
         ensures cause { HasCause (db_of self.old) (D.faults (disk_in self.old)) (D.faults (disk_in self.new)) result }
     {

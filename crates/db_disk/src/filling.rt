@@ -1,15 +1,16 @@
 //! The rows of a relation on a disk are read.
 
-ghost use Rattle.std.specs.Prelude.{◌≡◌, IsTrue, Some, OnOk, is_some};
+ghost use Rattle.std.specs.Prelude.{◌≡◌, IsTrue, Some, OnOk, is_some, true};
 ghost use Rattle.calculus.specs.Database.{Db};
 ghost use Rattle.calculus.specs.Stored.{rows_at};
 ghost use Rattle.am_traits.specs.Causes.{HasCause};
-ghost use Rattle.disk_model.specs.Disk.{OnlyReads};
+ghost use Rattle.disk_model.specs.Disk.{OnlyReads, RisesUpTo};
 ghost use Rattle.plain_base.specs.Shown.{database_of};
 ghost use Rattle.catalog.specs.declared.catalog.Catalog.{Catalog as KnownCatalog};
 ghost use Rattle.batch_store.specs.Store.{disk_of};
 ghost use Rattle.db_disk.specs.Held.{database_in, IsReady};
 ghost use Rattle.db_disk.specs.Known.{IsKnown, schema_known};
+ghost use Rattle.db_disk.specs.Reads.{files_in, rows_in};
 
 use am_traits::BaseFault;
 use batch_store::BatchStore;
@@ -35,6 +36,10 @@ pub(crate) fn fill<D: Disk>(
     ensures kept { database_in store.new ≡ database_in store.old }
     ensures schema { schema_known catalog.new ≡ schema_known catalog.old }
     ensures only_reads { IsTrue D.tells → OnlyReads D.seen D.touched D.clock D.left_since (disk_of store.old) (disk_of store.new) }
+    ensures files { files_in catalog.new ≡ files_in catalog.old }
+    ensures reads { RisesUpTo ((files_in catalog.old).used key.now) (D.reads (disk_of store.old)) (D.reads (disk_of store.new)) }
+    ensures again { rows_in catalog.old key.now ≡ true → D.reads (disk_of store.new) ≡ D.reads (disk_of store.old) }
+    ensures in_memory { OnOk result (rows_in catalog.new key.now ≡ true) }
     ensures rows { (db : Db) → database_in store.old ≡ Some db
         → OnOk result ((c : KnownCatalog) → catalog.new ≡ Some c → rows_at (database_of c.plain) key.now ≡ rows_at db key.now) }
     ensures cause { HasCause (database_in store.old) (D.faults (disk_of store.old)) (D.faults (disk_of store.new)) result }

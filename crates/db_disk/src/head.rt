@@ -1,7 +1,7 @@
 //! What says that a disk holds a database, and whose it is.
 
 ghost use Rattle.std.specs.Prelude.{◌≡◌, ◌↔◌, ◌==◌, Some, IfOk, IsTrue, take, true, false, bytes_eq, if◌then◌else◌};
-ghost use Rattle.disk_model.specs.Disk.{Image};
+ghost use Rattle.disk_model.specs.Disk.{Image, RisesUpTo};
 ghost use Rattle.access_traits.specs.Causes.{HasStoreCause};
 ghost use Rattle.batch_file.specs.Layout.{first_byte};
 ghost use Rattle.calculus.specs.Text.{trimmed};
@@ -75,6 +75,7 @@ pub fn header_name(alloc: Global, page: &Page) -> Result<Option<Name>, OutOfMemo
 /// Reads whose database the pages hold.
 fn read_header<S: PageStore>(alloc: Global, store: &mut S) -> Result<Option<Name>, StoreFault>
     ensures named { (m : Image) → S.pages store.old ≡ Some m → IfOk result (λ name. name ≡ administrator m) }
+    ensures reads { RisesUpTo 1 (S.reads store.old) (S.reads store.new) }
     ensures same { S.pages store.new ≡ S.pages store.old }
     ensures came { (s : S) → S.came s store.old → S.came s store.new }
     ensures only_read { (s : S) → S.only_read s store.old → S.only_read s store.new }
@@ -97,6 +98,7 @@ fn begins(found: bool, page: &Page) -> bool
 /// Reads whether a database was born.
 fn read_birth<S: PageStore>(store: &mut S) -> Result<bool, StoreFault>
     ensures born { (m : Image) → S.pages store.old ≡ Some m → IfOk result (λ yes. yes ≡ (birth m == 1)) }
+    ensures reads { RisesUpTo 1 (S.reads store.old) (S.reads store.new) }
     ensures same { S.pages store.new ≡ S.pages store.old }
     ensures came { (s : S) → S.came s store.old → S.came s store.new }
     ensures only_read { (s : S) → S.only_read s store.old → S.only_read s store.new }
@@ -110,6 +112,7 @@ fn read_birth<S: PageStore>(store: &mut S) -> Result<bool, StoreFault>
 /// Reads whether the pages hold a database, and whose.
 pub(crate) fn read_head<S: PageStore>(alloc: Global, store: &mut S) -> Result<Head, StoreFault>
     ensures head { (m : Image) → S.pages store.old ≡ Some m → IfOk result (λ head. IsHead m head) }
+    ensures reads { RisesUpTo 2 (S.reads store.old) (S.reads store.new) }
     ensures same { S.pages store.new ≡ S.pages store.old }
     ensures came { (s : S) → S.came s store.old → S.came s store.new }
     ensures only_read { (s : S) → S.only_read s store.old → S.only_read s store.new }

@@ -1,11 +1,12 @@
 //! The catalogue of a disk is read.
 
-ghost use Rattle.std.specs.Prelude.{◌≡◌, ℕ, Some, Err, IfOk, true, false};
+ghost use Rattle.std.specs.Prelude.{◌≡◌, ◌+◌, ℕ, Some, Err, IfOk, true, false};
 ghost use Rattle.calculus.specs.Database.{Db};
-ghost use Rattle.disk_model.specs.Disk.{Image};
+ghost use Rattle.disk_model.specs.Disk.{Image, RisesUpTo};
 ghost use Rattle.access_traits.specs.Causes.{HasFileCause, of_store};
 ghost use Rattle.catalog.specs.Knows.{Knows};
 ghost use Rattle.catalog.specs.Lies.{LiesOn};
+ghost use Rattle.catalog.specs.Reads.{HasChains};
 ghost use Rattle.plain_base.specs.Shown.{database_of};
 ghost use Rattle.schema_build.specs.Parts.{index_owners_agree};
 ghost use Rattle.stored_database.specs.Standing.{standing};
@@ -55,6 +56,7 @@ fn load_for<S: PageStore>(alloc: Global, store: &mut S, dba: Name) -> Result<Cat
     ensures lies { (m : Image) → S.pages store.old ≡ Some m → IfOk result (λ c. LiesOn c m) }
     ensures dba { IfOk result (λ c. (database_of c.plain).dba ≡ dba) }
     ensures headed { (page : ℕ) → result ≡ Err (WithoutHead page) → ⊥ }
+    ensures reads { (m : Image) (all : ℕ) → S.pages store.old ≡ Some m → HasChains m all → RisesUpTo all (S.reads store.old) (S.reads store.new) }
     ensures same { S.pages store.new ≡ S.pages store.old }
     ensures came { (s : S) → S.came s store.old → S.came s store.new }
     ensures only_read { (s : S) → S.only_read s store.old → S.only_read s store.new }
@@ -74,6 +76,7 @@ pub(crate) fn load<S: PageStore>(alloc: Global, store: &mut S) -> Result<Catalog
     ensures lies { (m : Image) → S.pages store.old ≡ Some m → IfOk result (λ c. LiesFor c m) }
     ensures no_head { (m : Image) (page : ℕ) → S.pages store.old ≡ Some m → result ≡ Err (WithoutHead page) → has_head m ≡ false }
     ensures headless { (m : Image) → S.pages store.old ≡ Some m → has_head m ≡ false → IsNoHead result }
+    ensures reads { (m : Image) (all : ℕ) → S.pages store.old ≡ Some m → HasChains m all → RisesUpTo (all + 2) (S.reads store.old) (S.reads store.new) }
     ensures same { S.pages store.new ≡ S.pages store.old }
     ensures came { (s : S) → S.came s store.old → S.came s store.new }
     ensures only_read { (s : S) → S.only_read s store.old → S.only_read s store.new }

@@ -8,14 +8,21 @@ use disk_model::Disk;
 use std::alloc::Global;
 
 impl<D: Disk> DbDisk<D> {
-    ghost use Rattle.std.specs.Prelude.{◌≡◌, ℕ, IsTrue, None, Some, Err, OnOk, is_some, true, false};
+    ghost use Rattle.std.specs.Prelude.{◌≡◌, ◌≢◌, ◌+◌, ℕ, IsTrue, None, Some, Err, OnOk, is_some, true, false};
     ghost use Rattle.calculus.specs.Database.{Db};
     ghost use Rattle.calculus.specs.Schema.{schema_of};
     ghost use Rattle.am_traits.specs.Causes.{HasCause};
-    ghost use Rattle.disk_model.specs.Disk.{Image, LeavesOnly, OnlyReads};
+    ghost use Rattle.disk_model.specs.Disk.{Image, LeavesOnly, OnlyReads, RisesUpTo};
+    ghost use Rattle.calculus.specs.declared.query.RelKey.{RelKey as Key};
+    ghost use Rattle.batch_file.specs.Layout.{gate};
     ghost use Rattle.batch_file.specs.Redone.{kept, redone};
+    ghost use Rattle.catalog.specs.Reads.{HasChains};
+    ghost use Rattle.page_chain.specs.Pages.{pages_of};
+    ghost use Rattle.stored_database.specs.Catalogue.{catalogue_in};
+    ghost use Rattle.stored_database.specs.Printed.{printed};
     ghost use Rattle.db_disk.specs.Held.{has_head, SameHeld};
     ghost use Rattle.db_disk.specs.Load.{as_base, IsNoHead};
+    ghost use Rattle.db_disk.specs.Reads.{OpensBy, files_known, rows_in_memory};
     ghost use Rattle.db_disk.specs.Shown.{db_of, disk_in, schema_in};
     ghost use Rattle.db_disk.specs.declared.load.LoadFault.TheVariants.{NoHead as WithoutHead};
 
@@ -28,6 +35,9 @@ impl<D: Disk> DbDisk<D> {
         ensures damaged { IsTrue D.tells → (file page : ℕ) → result ≡ Err (BaseFault.Damaged file page) → redone (D.seen (disk_in self.old)) ≡ None }
         ensures crash { IsTrue D.tells → LeavesOnly D.clock D.left_since (disk_in self.old) (disk_in self.new)
             (SameHeld (D.seen (disk_in self.old)) (D.touched (disk_in self.old))) }
+        ensures catalog { self.new.catalog ≡ self.old.catalog }
+        ensures still { self.old.is_open ≡ true → D.reads (disk_in self.new) ≡ D.reads (disk_in self.old) }
+        ensures reads { IsTrue D.tells → gate (D.seen (disk_in self.old)) ≢ 1 → RisesUpTo 1 (D.reads (disk_in self.old)) (D.reads (disk_in self.new)) }
         ensures cause { HasCause (db_of self.old) (D.faults (disk_in self.old)) (D.faults (disk_in self.new)) result }
     {
         if self.is_open {
@@ -48,6 +58,9 @@ impl<D: Disk> DbDisk<D> {
         ensures only_reads { IsTrue D.tells → OnlyReads D.seen D.touched D.clock D.left_since (disk_in self.old) (disk_in self.new) }
         ensures no_head { IsTrue D.tells → (page : ℕ) → result ≡ Err (WithoutHead page) → has_head (kept (D.seen (disk_in self.old))) ≡ false }
         ensures headless { IsTrue D.tells → schema_in self.old ≡ None → has_head (kept (D.seen (disk_in self.old))) ≡ false → IsNoHead result }
+        ensures catalog { (s : Db) → schema_in self.old ≡ Some s → self.new.catalog ≡ self.old.catalog }
+        ensures still { (s : Db) → schema_in self.old ≡ Some s → D.reads (disk_in self.new) ≡ D.reads (disk_in self.old) }
+        ensures reads { IsTrue D.tells → (all : ℕ) → HasChains (kept (D.seen (disk_in self.old))) all → RisesUpTo (all + 2) (D.reads (disk_in self.old)) (D.reads (disk_in self.new)) }
         ensures cause { HasCause (db_of self.old) (D.faults (disk_in self.old)) (D.faults (disk_in self.new)) (as_base result) }
     {
         if self.catalog.is_some() {
@@ -71,6 +84,11 @@ impl<D: Disk> DbDisk<D> {
         ensures headless { IsTrue D.tells → (m : Image) → redone (D.seen (disk_in self.old)) ≡ Some m → schema_in self.old ≡ None → has_head m ≡ false → IsNoHead result }
         ensures crash { IsTrue D.tells → LeavesOnly D.clock D.left_since (disk_in self.old) (disk_in self.new)
             (SameHeld (D.seen (disk_in self.old)) (D.touched (disk_in self.old))) }
+        // Where the catalogue is in memory no page is read, and the rows that were read stay there.
+        ensures still { (s : Db) → schema_in self.old ≡ Some s → D.reads (disk_in self.new) ≡ D.reads (disk_in self.old) }
+        ensures stay { (key : Key) → rows_in_memory self.old key ≡ true → rows_in_memory self.new key ≡ true }
+        // Else at most the gate, the header, the birth byte and each page of the catalogues once.
+        ensures reads { IsTrue D.tells → (all : ℕ) → OpensBy (D.seen (disk_in self.old)) all → RisesUpTo all (D.reads (disk_in self.old)) (D.reads (disk_in self.new)) }
         ensures cause { HasCause (db_of self.old) (D.faults (disk_in self.old)) (D.faults (disk_in self.new)) (as_base result) }
     {
         match self.restored() {
@@ -88,6 +106,14 @@ impl<D: Disk> DbDisk<D> {
         ensures schema { (db : Db) → db_of self.old ≡ Some db → OnOk result (schema_in self.new ≡ Some (schema_of db)) }
         ensures crash { IsTrue D.tells → LeavesOnly D.clock D.left_since (disk_in self.old) (disk_in self.new)
             (SameHeld (D.seen (disk_in self.old)) (D.touched (disk_in self.old))) }
+        // The files that are known are those of the catalogue on the disk.
+        ensures files { (db : Db) → db_of self.old ≡ Some db
+            → OnOk result (catalogue_in (pages_of (kept (D.seen (disk_in self.new)))) ≡ Some (printed db (files_known self.new))) }
+        // Where the catalogue is in memory no page is read, and the rows that were read stay there.
+        ensures still { (s : Db) → schema_in self.old ≡ Some s → D.reads (disk_in self.new) ≡ D.reads (disk_in self.old) }
+        ensures stay { (key : Key) → rows_in_memory self.old key ≡ true → rows_in_memory self.new key ≡ true }
+        // Else at most the gate, the header, the birth byte and each page of the catalogues once.
+        ensures reads { IsTrue D.tells → (all : ℕ) → OpensBy (D.seen (disk_in self.old)) all → RisesUpTo all (D.reads (disk_in self.old)) (D.reads (disk_in self.new)) }
         ensures cause { HasCause (db_of self.old) (D.faults (disk_in self.old)) (D.faults (disk_in self.new)) result }
     {
         match self.start(alloc) {

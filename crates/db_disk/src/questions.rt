@@ -7,13 +7,14 @@ use disk_model::Disk;
 use std::alloc::Global;
 
 impl<D: Disk> DbDisk<D> {
-    ghost use Rattle.std.specs.Prelude.{◌≡◌, IsTrue, Some, IfOk, length};
+    ghost use Rattle.std.specs.Prelude.{◌≡◌, ℕ, IsTrue, Some, IfOk, OnOk, is_some, length};
     ghost use Rattle.calculus.specs.Database.{Db, entries, permits_on, rules_on};
     ghost use Rattle.calculus.specs.Finding.{found};
     ghost use Rattle.am_traits.specs.Causes.{HasCause};
     ghost use Rattle.am_traits.specs.Told.{is_named_by_view, known_at, query_at};
-    ghost use Rattle.disk_model.specs.Disk.{LeavesOnly};
+    ghost use Rattle.disk_model.specs.Disk.{LeavesOnly, RisesUpTo};
     ghost use Rattle.db_disk.specs.Held.{SameHeld};
+    ghost use Rattle.db_disk.specs.Reads.{OpensBy};
     ghost use Rattle.db_disk.specs.Shown.{db_of, disk_in, left_of, schema_in};
 
     /// The name of the administrator.
@@ -23,6 +24,9 @@ impl<D: Disk> DbDisk<D> {
         ensures kept { db_of self.new ≡ db_of self.old }
         ensures same { left_of self.new ≡ left_of self.old }
         ensures keeps { (s : Db) → schema_in self.old ≡ Some s → schema_in self.new ≡ Some s }
+        ensures fixed { OnOk result (IsTrue (is_some (schema_in self.new))) }
+        ensures still { (s : Db) → schema_in self.old ≡ Some s → D.reads (disk_in self.new) ≡ D.reads (disk_in self.old) }
+        ensures reads { IsTrue D.tells → (all : ℕ) → OpensBy (D.seen (disk_in self.old)) all → RisesUpTo all (D.reads (disk_in self.old)) (D.reads (disk_in self.new)) }
         ensures crash { IsTrue D.tells → LeavesOnly D.clock D.left_since (disk_in self.old) (disk_in self.new)
             (SameHeld (D.seen (disk_in self.old)) (D.touched (disk_in self.old))) }
         ensures cause { HasCause (db_of self.old) (D.faults (disk_in self.old)) (D.faults (disk_in self.new)) result }
@@ -38,6 +42,9 @@ impl<D: Disk> DbDisk<D> {
         ensures kept { db_of self.new ≡ db_of self.old }
         ensures same { left_of self.new ≡ left_of self.old }
         ensures keeps { (s : Db) → schema_in self.old ≡ Some s → schema_in self.new ≡ Some s }
+        ensures fixed { OnOk result (IsTrue (is_some (schema_in self.new))) }
+        ensures still { (s : Db) → schema_in self.old ≡ Some s → D.reads (disk_in self.new) ≡ D.reads (disk_in self.old) }
+        ensures reads { IsTrue D.tells → (all : ℕ) → OpensBy (D.seen (disk_in self.old)) all → RisesUpTo all (D.reads (disk_in self.old)) (D.reads (disk_in self.new)) }
         ensures crash { IsTrue D.tells → LeavesOnly D.clock D.left_since (disk_in self.old) (disk_in self.new)
             (SameHeld (D.seen (disk_in self.old)) (D.touched (disk_in self.old))) }
         ensures cause { HasCause (db_of self.old) (D.faults (disk_in self.old)) (D.faults (disk_in self.new)) result }
@@ -59,6 +66,9 @@ impl<D: Disk> DbDisk<D> {
         ensures kept { db_of self.new ≡ db_of self.old }
         ensures same { left_of self.new ≡ left_of self.old }
         ensures keeps { (s : Db) → schema_in self.old ≡ Some s → schema_in self.new ≡ Some s }
+        ensures fixed { OnOk result (IsTrue (is_some (schema_in self.new))) }
+        ensures still { (s : Db) → schema_in self.old ≡ Some s → D.reads (disk_in self.new) ≡ D.reads (disk_in self.old) }
+        ensures reads { IsTrue D.tells → (all : ℕ) → OpensBy (D.seen (disk_in self.old)) all → RisesUpTo all (D.reads (disk_in self.old)) (D.reads (disk_in self.new)) }
         ensures crash { IsTrue D.tells → LeavesOnly D.clock D.left_since (disk_in self.old) (disk_in self.new)
             (SameHeld (D.seen (disk_in self.old)) (D.touched (disk_in self.old))) }
         ensures cause { HasCause (db_of self.old) (D.faults (disk_in self.old)) (D.faults (disk_in self.new)) result }
@@ -74,6 +84,9 @@ impl<D: Disk> DbDisk<D> {
         ensures kept { db_of self.new ≡ db_of self.old }
         ensures same { left_of self.new ≡ left_of self.old }
         ensures keeps { (s : Db) → schema_in self.old ≡ Some s → schema_in self.new ≡ Some s }
+        ensures fixed { OnOk result (IsTrue (is_some (schema_in self.new))) }
+        ensures still { (s : Db) → schema_in self.old ≡ Some s → D.reads (disk_in self.new) ≡ D.reads (disk_in self.old) }
+        ensures reads { IsTrue D.tells → (all : ℕ) → OpensBy (D.seen (disk_in self.old)) all → RisesUpTo all (D.reads (disk_in self.old)) (D.reads (disk_in self.new)) }
         ensures crash { IsTrue D.tells → LeavesOnly D.clock D.left_since (disk_in self.old) (disk_in self.new)
             (SameHeld (D.seen (disk_in self.old)) (D.touched (disk_in self.old))) }
         ensures cause { HasCause (db_of self.old) (D.faults (disk_in self.old)) (D.faults (disk_in self.new)) result }
@@ -89,6 +102,9 @@ impl<D: Disk> DbDisk<D> {
         ensures kept { db_of self.new ≡ db_of self.old }
         ensures same { left_of self.new ≡ left_of self.old }
         ensures keeps { (s : Db) → schema_in self.old ≡ Some s → schema_in self.new ≡ Some s }
+        ensures fixed { OnOk result (IsTrue (is_some (schema_in self.new))) }
+        ensures still { (s : Db) → schema_in self.old ≡ Some s → D.reads (disk_in self.new) ≡ D.reads (disk_in self.old) }
+        ensures reads { IsTrue D.tells → (all : ℕ) → OpensBy (D.seen (disk_in self.old)) all → RisesUpTo all (D.reads (disk_in self.old)) (D.reads (disk_in self.new)) }
         ensures crash { IsTrue D.tells → LeavesOnly D.clock D.left_since (disk_in self.old) (disk_in self.new)
             (SameHeld (D.seen (disk_in self.old)) (D.touched (disk_in self.old))) }
         ensures cause { HasCause (db_of self.old) (D.faults (disk_in self.old)) (D.faults (disk_in self.new)) result }
@@ -104,6 +120,9 @@ impl<D: Disk> DbDisk<D> {
         ensures kept { db_of self.new ≡ db_of self.old }
         ensures same { left_of self.new ≡ left_of self.old }
         ensures keeps { (s : Db) → schema_in self.old ≡ Some s → schema_in self.new ≡ Some s }
+        ensures fixed { OnOk result (IsTrue (is_some (schema_in self.new))) }
+        ensures still { (s : Db) → schema_in self.old ≡ Some s → D.reads (disk_in self.new) ≡ D.reads (disk_in self.old) }
+        ensures reads { IsTrue D.tells → (all : ℕ) → OpensBy (D.seen (disk_in self.old)) all → RisesUpTo all (D.reads (disk_in self.old)) (D.reads (disk_in self.new)) }
         ensures crash { IsTrue D.tells → LeavesOnly D.clock D.left_since (disk_in self.old) (disk_in self.new)
             (SameHeld (D.seen (disk_in self.old)) (D.touched (disk_in self.old))) }
         ensures cause { HasCause (db_of self.old) (D.faults (disk_in self.old)) (D.faults (disk_in self.new)) result }
@@ -119,6 +138,9 @@ impl<D: Disk> DbDisk<D> {
         ensures kept { db_of self.new ≡ db_of self.old }
         ensures same { left_of self.new ≡ left_of self.old }
         ensures keeps { (s : Db) → schema_in self.old ≡ Some s → schema_in self.new ≡ Some s }
+        ensures fixed { OnOk result (IsTrue (is_some (schema_in self.new))) }
+        ensures still { (s : Db) → schema_in self.old ≡ Some s → D.reads (disk_in self.new) ≡ D.reads (disk_in self.old) }
+        ensures reads { IsTrue D.tells → (all : ℕ) → OpensBy (D.seen (disk_in self.old)) all → RisesUpTo all (D.reads (disk_in self.old)) (D.reads (disk_in self.new)) }
         ensures crash { IsTrue D.tells → LeavesOnly D.clock D.left_since (disk_in self.old) (disk_in self.new)
             (SameHeld (D.seen (disk_in self.old)) (D.touched (disk_in self.old))) }
         ensures cause { HasCause (db_of self.old) (D.faults (disk_in self.old)) (D.faults (disk_in self.new)) result }
@@ -139,6 +161,9 @@ impl<D: Disk> DbDisk<D> {
         ensures kept { db_of self.new ≡ db_of self.old }
         ensures same { left_of self.new ≡ left_of self.old }
         ensures keeps { (s : Db) → schema_in self.old ≡ Some s → schema_in self.new ≡ Some s }
+        ensures fixed { OnOk result (IsTrue (is_some (schema_in self.new))) }
+        ensures still { (s : Db) → schema_in self.old ≡ Some s → D.reads (disk_in self.new) ≡ D.reads (disk_in self.old) }
+        ensures reads { IsTrue D.tells → (all : ℕ) → OpensBy (D.seen (disk_in self.old)) all → RisesUpTo all (D.reads (disk_in self.old)) (D.reads (disk_in self.new)) }
         ensures crash { IsTrue D.tells → LeavesOnly D.clock D.left_since (disk_in self.old) (disk_in self.new)
             (SameHeld (D.seen (disk_in self.old)) (D.touched (disk_in self.old))) }
         ensures cause { HasCause (db_of self.old) (D.faults (disk_in self.old)) (D.faults (disk_in self.new)) result }

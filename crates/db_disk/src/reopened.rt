@@ -1,8 +1,9 @@
 //! A disk is restored before it is read, and a batch is laid.
 
-ghost use Rattle.std.specs.Prelude.{◌≡◌, ℕ, IsErrOf, IsTrue, Some, None, Err, OnOk};
+ghost use Rattle.std.specs.Prelude.{◌≡◌, ◌≢◌, ℕ, IsErrOf, IsTrue, Some, None, Err, OnOk};
 ghost use Rattle.am_traits.specs.Causes.{HasCause};
-ghost use Rattle.disk_model.specs.Disk.{LeavesOnly};
+ghost use Rattle.disk_model.specs.Disk.{LeavesOnly, RisesUpTo};
+ghost use Rattle.batch_file.specs.Layout.{gate};
 ghost use Rattle.batch_file.specs.OnDisk.{SameRedone};
 ghost use Rattle.batch_file.specs.Redone.{kept, redone};
 ghost use Rattle.batch_store.specs.Store.{disk_of};
@@ -34,6 +35,7 @@ pub(crate) fn reopen<D: Disk>(store: &mut BatchStore<D>) -> Result<(), BaseFault
         (SameRedone (D.seen (disk_of store.old)) (D.touched (disk_of store.old))) }
     ensures crash { IsTrue D.tells → LeavesOnly D.clock D.left_since (disk_of store.old) (disk_of store.new)
         (SameHeld (D.seen (disk_of store.old)) (D.touched (disk_of store.old))) }
+    ensures reads { IsTrue D.tells → gate (D.seen (disk_of store.old)) ≢ 1 → RisesUpTo 1 (D.reads (disk_of store.old)) (D.reads (disk_of store.new)) }
     ensures wanted { IsErrOf result BaseFault.OutOfMemory → ⊥ }
     ensures cause { HasCause (database_in store.old) (D.faults (disk_of store.old)) (D.faults (disk_of store.new)) result }
 {

@@ -8,16 +8,19 @@ use disk_model::Disk;
 use std::alloc::Global;
 
 impl<D: Disk> DbDisk<D> {
-    ghost use Rattle.std.specs.Prelude.{◌≡◌, IsTrue, Some, IfOk, OnOk, is_some, length, true};
-    ghost use Rattle.calculus.specs.Database.{Db};
+    ghost use Rattle.std.specs.Prelude.{◌≡◌, ◌+◌, ℕ, IsTrue, Some, IfOk, OnOk, is_some, length, true};
+    ghost use Rattle.std.specs.Option.{ForSome};
+    ghost use Rattle.calculus.specs.Database.{Db, is_relation};
+    ghost use Rattle.calculus.specs.IsDatabase.{row_fits};
     ghost use Rattle.calculus.specs.Rows.{has};
-    ghost use Rattle.calculus.specs.Stored.{rows_at};
+    ghost use Rattle.calculus.specs.Stored.{attrs_at, rows_at};
     ghost use Rattle.am_traits.specs.Causes.{HasCause};
     ghost use Rattle.am_traits.specs.Scans.{Gives, IsOver};
-    ghost use Rattle.disk_model.specs.Disk.{LeavesOnly, OnlyReads};
+    ghost use Rattle.disk_model.specs.Disk.{LeavesOnly, OnlyReads, RisesUpTo};
     ghost use Rattle.plain_base.specs.Shown.{database_of};
     ghost use Rattle.catalog.specs.declared.catalog.Catalog.{Catalog as KnownCatalog};
     ghost use Rattle.db_disk.specs.Held.{SameHeld};
+    ghost use Rattle.db_disk.specs.Reads.{OpensBy, files_known, pages_known, rows_in_memory};
     ghost use Rattle.db_disk.specs.Shown.{db_of, disk_in, left_of, schema_in};
 
     /// Opens the database and reads the rows of a relation.
@@ -27,6 +30,13 @@ impl<D: Disk> DbDisk<D> {
             → OnOk result ((c : KnownCatalog) → self.new.catalog ≡ Some c → rows_at (database_of c.plain) key.now ≡ rows_at db key.now) }
         ensures kept { db_of self.new ≡ db_of self.old }
         ensures keeps { (s : Db) → schema_in self.old ≡ Some s → schema_in self.new ≡ Some s }
+        // Where the rows are in memory no page is read; else at most those of the relation's file, once
+        // the catalogue is known, and those of an opening before.
+        ensures again { rows_in_memory self.old key.now ≡ true → D.reads (disk_in self.new) ≡ D.reads (disk_in self.old) }
+        ensures in_memory { OnOk result (rows_in_memory self.new key.now ≡ true) }
+        ensures reads { (s : Db) → schema_in self.old ≡ Some s → RisesUpTo (pages_known self.new key.now) (D.reads (disk_in self.old)) (D.reads (disk_in self.new)) }
+        ensures opening_reads { IsTrue D.tells → (all : ℕ) → OpensBy (D.seen (disk_in self.old)) all
+            → RisesUpTo (all + pages_known self.new key.now) (D.reads (disk_in self.old)) (D.reads (disk_in self.new)) }
         ensures crash { IsTrue D.tells → LeavesOnly D.clock D.left_since (disk_in self.old) (disk_in self.new)
             (SameHeld (D.seen (disk_in self.old)) (D.touched (disk_in self.old))) }
         ensures cause { HasCause (db_of self.old) (D.faults (disk_in self.old)) (D.faults (disk_in self.new)) result }
@@ -43,6 +53,10 @@ impl<D: Disk> DbDisk<D> {
             → OnOk result ((c : KnownCatalog) → self.new.catalog ≡ Some c → rows_at (database_of c.plain) key.now ≡ rows_at db key.now) }
         ensures kept { db_of self.new ≡ db_of self.old }
         ensures schema { schema_in self.new ≡ schema_in self.old }
+        ensures files { files_known self.new ≡ files_known self.old }
+        ensures reads { RisesUpTo (pages_known self.old key.now) (D.reads (disk_in self.old)) (D.reads (disk_in self.new)) }
+        ensures again { rows_in_memory self.old key.now ≡ true → D.reads (disk_in self.new) ≡ D.reads (disk_in self.old) }
+        ensures in_memory { OnOk result (rows_in_memory self.new key.now ≡ true) }
         ensures only_reads { IsTrue D.tells → OnlyReads D.seen D.touched D.clock D.left_since (disk_in self.old) (disk_in self.new) }
         ensures cause { HasCause (db_of self.old) (D.faults (disk_in self.old)) (D.faults (disk_in self.new)) result }
     {
@@ -61,6 +75,14 @@ impl<D: Disk> DbDisk<D> {
         ensures kept { db_of self.new ≡ db_of self.old }
         ensures same { left_of self.new ≡ left_of self.old }
         ensures keeps { (s : Db) → schema_in self.old ≡ Some s → schema_in self.new ≡ Some s }
+        ensures fixed { OnOk result (IsTrue (is_some (schema_in self.new))) }
+        // Where the rows are in memory no page is read; else at most those of the relation's file, once
+        // the catalogue is known, and those of an opening before.
+        ensures again { rows_in_memory self.old key.now ≡ true → D.reads (disk_in self.new) ≡ D.reads (disk_in self.old) }
+        ensures in_memory { OnOk result (rows_in_memory self.new key.now ≡ true) }
+        ensures reads { (s : Db) → schema_in self.old ≡ Some s → RisesUpTo (pages_known self.new key.now) (D.reads (disk_in self.old)) (D.reads (disk_in self.new)) }
+        ensures opening_reads { IsTrue D.tells → (all : ℕ) → OpensBy (D.seen (disk_in self.old)) all
+            → RisesUpTo (all + pages_known self.new key.now) (D.reads (disk_in self.old)) (D.reads (disk_in self.new)) }
         ensures crash { IsTrue D.tells → LeavesOnly D.clock D.left_since (disk_in self.old) (disk_in self.new)
             (SameHeld (D.seen (disk_in self.old)) (D.touched (disk_in self.old))) }
         ensures cause { HasCause (db_of self.old) (D.faults (disk_in self.old)) (D.faults (disk_in self.new)) result }
@@ -75,6 +97,14 @@ impl<D: Disk> DbDisk<D> {
         ensures kept { db_of self.new ≡ db_of self.old }
         ensures same { left_of self.new ≡ left_of self.old }
         ensures keeps { (s : Db) → schema_in self.old ≡ Some s → schema_in self.new ≡ Some s }
+        ensures fixed { OnOk result (IsTrue (is_some (schema_in self.new))) }
+        // Where the rows are in memory no page is read; else at most those of the relation's file, once
+        // the catalogue is known, and those of an opening before.
+        ensures again { rows_in_memory self.old key.now ≡ true → D.reads (disk_in self.new) ≡ D.reads (disk_in self.old) }
+        ensures in_memory { OnOk result (rows_in_memory self.new key.now ≡ true) }
+        ensures reads { (s : Db) → schema_in self.old ≡ Some s → RisesUpTo (pages_known self.new key.now) (D.reads (disk_in self.old)) (D.reads (disk_in self.new)) }
+        ensures opening_reads { IsTrue D.tells → (all : ℕ) → OpensBy (D.seen (disk_in self.old)) all
+            → RisesUpTo (all + pages_known self.new key.now) (D.reads (disk_in self.old)) (D.reads (disk_in self.new)) }
         ensures crash { IsTrue D.tells → LeavesOnly D.clock D.left_since (disk_in self.old) (disk_in self.new)
             (SameHeld (D.seen (disk_in self.old)) (D.touched (disk_in self.old))) }
         ensures cause { HasCause (db_of self.old) (D.faults (disk_in self.old)) (D.faults (disk_in self.new)) result }
@@ -94,9 +124,20 @@ impl<D: Disk> DbDisk<D> {
     ) -> Result<Option<Row>, BaseFault>
         ensures told { (db : Db) → db_of self.old ≡ Some db → Gives probe.now (left_of self.old key.now) at.old at.new result }
         ensures over { (db : Db) → db_of self.old ≡ Some db → IsOver probe.now (left_of self.old key.now) at.new result }
+        // Whatever the disk tells, a row of a base relation fits the attributes that the schema gives it.
+        ensures fits { (s : Db) → schema_in self.new ≡ Some s → is_relation s key.now ≡ true
+            → IfOk result (λ row. ForSome row (λ r. row_fits (attrs_at s key.now) r ≡ true)) }
         ensures kept { db_of self.new ≡ db_of self.old }
         ensures same { left_of self.new ≡ left_of self.old }
         ensures keeps { (s : Db) → schema_in self.old ≡ Some s → schema_in self.new ≡ Some s }
+        ensures fixed { OnOk result (IsTrue (is_some (schema_in self.new))) }
+        // Where the rows are in memory no page is read; else at most those of the relation's file, once
+        // the catalogue is known, and those of an opening before.
+        ensures again { rows_in_memory self.old key.now ≡ true → D.reads (disk_in self.new) ≡ D.reads (disk_in self.old) }
+        ensures in_memory { OnOk result (rows_in_memory self.new key.now ≡ true) }
+        ensures reads { (s : Db) → schema_in self.old ≡ Some s → RisesUpTo (pages_known self.new key.now) (D.reads (disk_in self.old)) (D.reads (disk_in self.new)) }
+        ensures opening_reads { IsTrue D.tells → (all : ℕ) → OpensBy (D.seen (disk_in self.old)) all
+            → RisesUpTo (all + pages_known self.new key.now) (D.reads (disk_in self.old)) (D.reads (disk_in self.new)) }
         ensures crash { IsTrue D.tells → LeavesOnly D.clock D.left_since (disk_in self.old) (disk_in self.new)
             (SameHeld (D.seen (disk_in self.old)) (D.touched (disk_in self.old))) }
         ensures cause { HasCause (db_of self.old) (D.faults (disk_in self.old)) (D.faults (disk_in self.new)) result }

@@ -1,4 +1,4 @@
-use Rattle.std.proofs.Common.{◌≡◌, ◌∙◌, refl, sym, inr}
+use Rattle.std.proofs.Common.{◌∙◌, refl, sym, inr}
 use Rattle.std.proofs.lemmas.Option.{same_Some, none-some}
 use Rattle.disk_model.proofs.Moments.{joins}
 use Rattle.batch_store.specs.Store.{batch_of, disk_of, pages_of}

@@ -1,4 +1,4 @@
-use Rattle.std.proofs.Common.{subst}
+use Rattle.std.proofs.Common.{subst, sym, ap, ◌∙◌, Option}
 use Rattle.batch_store.specs.Running.{comes_of_itself, reads_of_itself}
 use Rattle.batch_store.specs.Store.{disk_of}
 use Rattle.db_disk.specs.Known.{IsKnown}
@@ -9,6 +9,8 @@ use Rattle.plain_base.specs.Shown.{database_of}
 use Rattle.calculus.specs.Stored.{rows_at}
 use Rattle.std.proofs.Common.{◌≡◌}
 use Rattle.catalog.specs.declared.catalog.Catalog.{Catalog}
+use Rattle.db_disk.specs.Reads.{files_in, rows_in}
+use Rattle.catalog.proofs.Rises.{rises_as}
 use Rattle.db_disk.proofs.filling.fill.Goals as goal
 
 pub returns-clause-ready : goal.returns-clause-ready
@@ -31,3 +33,12 @@ returns-clause-cause g c = file_caused _ _ _ _ _ c.fill.result
     let h = ready_holds c.args.store.now db c.requires.ready is in
     let k = knows_now c.args.store.now c.requires.ready c.in-Some.known db (subst (IsKnown (g.D.Disk.seen (disk_of c.args.store.now))) c.in-Some.is (c.requires.known h.told)) is in
     (_, h.pages, λ a none. none db h.is_one k)) c.fill.ensures.cause
+
+pub returns-clause-files : goal.returns-clause-files
+returns-clause-files g c = c.fill.ensures.files ∙ sym (ap files_in c.in-Some.is)
+
+pub returns-clause-reads : goal.returns-clause-reads
+returns-clause-reads g c = rises_as _ _ _ _ (ap (λ (o : Option Catalog). (files_in o).used c.args.key.now) (sym c.in-Some.is)) c.fill.ensures.reads
+
+pub returns-clause-again : goal.returns-clause-again
+returns-clause-again g c = λ is. c.fill.ensures.again (sym (ap (λ (o : Option Catalog). rows_in o c.args.key.now) c.in-Some.is) ∙ is)

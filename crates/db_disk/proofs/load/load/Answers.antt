@@ -1,4 +1,5 @@
-use Rattle.std.proofs.Common.{subst, ◌∙◌}
+use Rattle.std.proofs.Common.{subst, arith, ◌∙◌, ◌+◌}
+use Rattle.catalog.proofs.Rises.{rises_less, then_rises}
 use Rattle.db_disk.specs.Head.{IsHead}
 use Rattle.db_disk.proofs.Loading.{for_whom, lies_for, no_header_none, own_name, unborn_none}
 use Rattle.db_disk.proofs.load.load.Goals as goal
@@ -29,3 +30,7 @@ pub returns-in-Of-clause-lies : goal.returns-in-Of-clause-lies
 returns-in-Of-clause-lies g c = λ m is.
     let named = subst (IsHead m) c.in-Of.is (c.in_ok-dba.ensures.head m is) in
     lies_for c.load_for.result m c.in-Of.dba named.1 (c.load_for.ensures.lies m (c.read_head.ensures.same ∙ is)) c.load_for.ensures.dba
+
+pub returns-in-Of-clause-reads : goal.returns-in-Of-clause-reads
+returns-in-Of-clause-reads g c = λ m all is has.
+    rises_less (2 + all) (all + 2) _ _ (omega arith) (then_rises 2 all _ _ _ c.read_head.ensures.reads (c.load_for.ensures.reads m all (c.read_head.ensures.same ∙ is) has))

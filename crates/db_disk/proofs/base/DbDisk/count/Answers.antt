@@ -4,6 +4,7 @@ use Rattle.calculus.specs.Schema.{schema_of}
 use Rattle.schema_laws.proofs.Alike.{entries_alike}
 use Rattle.db_disk.proofs.Asking.{schema_answer}
 use Rattle.db_disk.proofs.Knowing.{same_schema, still_known, there_open}
+use Rattle.db_disk.proofs.Reading.{still_there}
 use Rattle.db_disk.proofs.base.DbDisk.count.Goals as goal
 
 pub invariant_of-self : goal.invariant_of-self
@@ -17,3 +18,6 @@ pub returns-clause-told : goal.returns-clause-told
 returns-clause-told g c = λ db is.
     schema_answer (λ n. n) (λ db. length (entries db)) db (λ db. ap length (entries_alike db)) c.count.result
     (c.count.ensures.told (schema_of db) (same_schema c.open.new.self.catalog c.count.new.catalog c.count.ensures.same ∙ c.in_ok-open.ensures.schema db is))
+
+pub returns-clause-fixed : goal.returns-clause-fixed
+returns-clause-fixed g c = still_there c.open.new.self.catalog c.count.new.catalog c.count.result (same_schema c.open.new.self.catalog c.count.new.catalog c.count.ensures.same) c.in_ok-open.ensures.there

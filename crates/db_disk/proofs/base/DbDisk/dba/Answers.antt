@@ -2,6 +2,7 @@ use Rattle.std.proofs.Common.{refl, ◌∙◌}
 use Rattle.calculus.specs.Schema.{schema_of}
 use Rattle.db_disk.proofs.Asking.{schema_answer, dba_alike}
 use Rattle.db_disk.proofs.Knowing.{same_schema, still_known, there_open}
+use Rattle.db_disk.proofs.Reading.{still_there}
 use Rattle.db_disk.proofs.base.DbDisk.dba.Goals as goal
 
 pub invariant_of-self : goal.invariant_of-self
@@ -15,3 +16,6 @@ pub returns-clause-told : goal.returns-clause-told
 returns-clause-told g c = λ db is.
     schema_answer (λ name. name) (λ db. db.dba) db (dba_alike) c.dba.result
     (c.dba.ensures.told (schema_of db) (same_schema c.open.new.self.catalog c.dba.new.catalog c.dba.ensures.same ∙ c.in_ok-open.ensures.schema db is))
+
+pub returns-clause-fixed : goal.returns-clause-fixed
+returns-clause-fixed g c = still_there c.open.new.self.catalog c.dba.new.catalog c.dba.result (same_schema c.open.new.self.catalog c.dba.new.catalog c.dba.ensures.same) c.in_ok-open.ensures.there

@@ -1,5 +1,29 @@
-use Rattle.std.proofs.Common.{◌∙◌}
+use Rattle.std.proofs.Common.{◌∙◌, sym, arith, ◌+◌, ap}
+use Rattle.db_disk.proofs.Reading.{rows_of_schema, then_reads}
+use Rattle.catalog.proofs.Rises.{rises_as, rises_less, rises_not, then_rises}
+use Rattle.stored_database.specs.Printed.{Files}
 use Rattle.db_disk.proofs.base.DbDisk.filled.Goals as goal
 
 pub returns-clause-rows : goal.returns-clause-rows
 returns-clause-rows g c = λ db is. c.fill_open.ensures.rows db (c.open.ensures.kept ∙ is)
+
+pub returns-in_err-open-clause-again : goal.returns-in_err-open-clause-again
+returns-in_err-open-clause-again g c = λ is. rows_of_schema c.args.self.now.catalog c.args.key.now _ is (λ s known. c.open.ensures.still s known)
+
+pub returns-clause-again : goal.returns-clause-again
+returns-clause-again g c = λ is.
+    rows_of_schema c.args.self.now.catalog c.args.key.now _ is (λ s known. c.fill_open.ensures.again (c.open.ensures.stay c.args.key.now is) ∙ c.open.ensures.still s known)
+
+pub returns-in_err-open-clause-reads : goal.returns-in_err-open-clause-reads
+returns-in_err-open-clause-reads g c = λ s known. rises_not _ _ _ (c.open.ensures.still s known)
+
+pub returns-clause-reads : goal.returns-clause-reads
+returns-clause-reads g c = λ s known.
+    rises_as _ _ _ _ (ap (λ (f : Files). f.used c.args.key.now) (sym c.fill_open.ensures.files)) (then_reads _ _ _ _ (c.open.ensures.still s known) c.fill_open.ensures.reads)
+
+pub returns-in_err-open-clause-opening_reads : goal.returns-in_err-open-clause-opening_reads
+returns-in_err-open-clause-opening_reads g c = λ told all by. rises_less all _ _ _ (omega arith) (c.open.ensures.reads told all by)
+
+pub returns-clause-opening_reads : goal.returns-clause-opening_reads
+returns-clause-opening_reads g c = λ told all by.
+    rises_as _ _ _ _ (ap (λ (f : Files). all + f.used c.args.key.now) (sym c.fill_open.ensures.files)) (then_rises all _ _ _ _ (c.open.ensures.reads told all by) c.fill_open.ensures.reads)

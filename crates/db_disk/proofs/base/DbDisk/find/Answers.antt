@@ -4,6 +4,7 @@ use Rattle.calculus.specs.Schema.{schema_of}
 use Rattle.schema_laws.proofs.Alike.{found_alike}
 use Rattle.db_disk.proofs.Asking.{schema_answer}
 use Rattle.db_disk.proofs.Knowing.{same_schema, still_known, there_open}
+use Rattle.db_disk.proofs.Reading.{still_there}
 use Rattle.db_disk.proofs.base.DbDisk.find.Goals as goal
 
 pub invariant_of-self : goal.invariant_of-self
@@ -17,3 +18,6 @@ pub returns-clause-told : goal.returns-clause-told
 returns-clause-told g c = λ db is.
     schema_answer (λ info. info) (λ db. found db c.args.user.now c.args.name.now) db (λ db. found_alike db c.args.user.now c.args.name.now) c.find.result
     (c.find.ensures.told (schema_of db) (same_schema c.open.new.self.catalog c.find.new.catalog c.find.ensures.same ∙ c.in_ok-open.ensures.schema db is))
+
+pub returns-clause-fixed : goal.returns-clause-fixed
+returns-clause-fixed g c = still_there c.open.new.self.catalog c.find.new.catalog c.find.result (same_schema c.open.new.self.catalog c.find.new.catalog c.find.ensures.same) c.in_ok-open.ensures.there

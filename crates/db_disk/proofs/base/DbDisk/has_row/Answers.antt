@@ -1,6 +1,9 @@
-use Rattle.std.proofs.Common.{◌≡◌, refl, IfOk}
+use Rattle.std.proofs.Common.{◌≡◌, refl, IfOk, sym, ◌∙◌, ◌+◌, ap}
 use Rattle.calculus.specs.Rows.{has}
-use Rattle.db_disk.proofs.Knowing.{from_rows, still_known, there_is_open}
+use Rattle.db_disk.proofs.Knowing.{from_rows, still_known, there_is_open, same_schema}
+use Rattle.db_disk.proofs.Reading.{given_ok, same_files, same_rows, some_schema, still_there}
+use Rattle.catalog.proofs.Rises.{rises_as}
+use Rattle.stored_database.specs.Printed.{Files}
 use Rattle.db_disk.proofs.base.DbDisk.has_row.Goals as goal
 
 pub invariant_of-self : goal.invariant_of-self
@@ -12,3 +15,18 @@ invariant_of-self g c = record {
 
 pub returns-clause-told : goal.returns-clause-told
 returns-clause-told g c = λ db is. from_rows c.filled.new.self.catalog c.args.key.now db (λ rows. IfOk c.has_row.result (λ b. b ≡ has rows c.args.row.now)) c.in_ok-filled.ensures.there (c.in_ok-filled.ensures.rows db is) c.has_row.ensures.told
+
+pub returns-clause-fixed : goal.returns-clause-fixed
+returns-clause-fixed g c =
+    still_there c.filled.new.self.catalog c.has_row.new.catalog c.has_row.result (same_schema c.filled.new.self.catalog c.has_row.new.catalog c.has_row.ensures.same) (some_schema c.filled.new.self.catalog c.in_ok-filled.ensures.there)
+
+pub returns-clause-in_memory : goal.returns-clause-in_memory
+returns-clause-in_memory g c = given_ok c.has_row.result _ (same_rows c.filled.new.self.catalog c.has_row.new.catalog c.args.key.now c.has_row.ensures.same ∙ c.in_ok-filled.ensures.in_memory)
+
+pub returns-clause-reads : goal.returns-clause-reads
+returns-clause-reads g c = λ s known.
+    rises_as _ _ _ _ (ap (λ (f : Files). f.used c.args.key.now) (sym (same_files c.filled.new.self.catalog c.has_row.new.catalog c.has_row.ensures.same))) (c.filled.ensures.reads s known)
+
+pub returns-clause-opening_reads : goal.returns-clause-opening_reads
+returns-clause-opening_reads g c = λ told all by.
+    rises_as _ _ _ _ (ap (λ (f : Files). all + f.used c.args.key.now) (sym (same_files c.filled.new.self.catalog c.has_row.new.catalog c.has_row.ensures.same))) (c.filled.ensures.opening_reads told all by)

@@ -3,6 +3,7 @@ use Rattle.calculus.specs.Schema.{schema_of}
 use Rattle.am_traits.specs.Told.{known_at}
 use Rattle.db_disk.proofs.Asking.{schema_answer, known_alike}
 use Rattle.db_disk.proofs.Knowing.{same_schema, still_known, there_open}
+use Rattle.db_disk.proofs.Reading.{still_there}
 use Rattle.db_disk.proofs.base.DbDisk.info.Goals as goal
 
 pub invariant_of-self : goal.invariant_of-self
@@ -16,3 +17,6 @@ pub returns-clause-told : goal.returns-clause-told
 returns-clause-told g c = λ db is.
     schema_answer (λ info. info) (λ db. known_at db c.args.key.now) db (λ db. known_alike db c.args.key.now) c.info.result
     (c.info.ensures.told (schema_of db) (same_schema c.open.new.self.catalog c.info.new.catalog c.info.ensures.same ∙ c.in_ok-open.ensures.schema db is))
+
+pub returns-clause-fixed : goal.returns-clause-fixed
+returns-clause-fixed g c = still_there c.open.new.self.catalog c.info.new.catalog c.info.result (same_schema c.open.new.self.catalog c.info.new.catalog c.info.ensures.same) c.in_ok-open.ensures.there

@@ -1,10 +1,12 @@
-use Rattle.std.proofs.Common.{sym, subst, ◌∙◌}
+use Rattle.std.proofs.Common.{refl, sym, subst, ◌∙◌, ◌+◌}
 use Rattle.batch_store.specs.Running.{comes_of_itself, reads_of_itself}
 use Rattle.catalog.specs.declared.catalog.Catalog.{Catalog}
 use Rattle.db_disk.specs.Known.{IsKnown}
 use Rattle.db_disk.proofs.Causes.{as_unit, same_fault}
 use Rattle.db_disk.proofs.Fills.{loaded_known}
 use Rattle.db_disk.proofs.Ready.{file_caused, ready_holds, ready_pages, still_ready}
+use Rattle.db_disk.proofs.Reading.{none_there}
+use Rattle.catalog.proofs.Rises.{rises_not}
 use Rattle.db_disk.proofs.base.DbDisk.loaded.Goals as goal
 
 pub invariant_of-self : goal.invariant_of-self
@@ -36,3 +38,21 @@ returns-in-Err-clause-headless g c = λ told none off. c.in-Err.ensures.headless
 pub returns-in-Err-clause-cause : goal.returns-in-Err-clause-cause
 returns-in-Err-clause-cause g c = as_unit _ _ _ _ (file_caused {T = Catalog} _ _ _ _ _ _
     (λ db is. let h = ready_holds c.args.self.now.store db (c.args.self.now.ready c.requires) is in (_, h.pages, λ a none. none db h.stands h.agree)) c.in-Err.ensures.cause)
+
+pub returns-in-Ok-clause-catalog : goal.returns-in-Ok-clause-catalog
+returns-in-Ok-clause-catalog g c = λ s is. none_there c.args.self.now.catalog c.is_some.result s _ c.is_some.ensures c.if-is_some.false is
+
+pub returns-in-Ok-clause-still : goal.returns-in-Ok-clause-still
+returns-in-Ok-clause-still g c = λ s is. none_there c.args.self.now.catalog c.is_some.result s _ c.is_some.ensures c.if-is_some.false is
+
+pub returns-in-Err-clause-still : goal.returns-in-Err-clause-still
+returns-in-Err-clause-still g c = λ s is. none_there c.args.self.now.catalog c.is_some.result s _ c.is_some.ensures c.if-is_some.false is
+
+pub returns-in-Ok-clause-reads : goal.returns-in-Ok-clause-reads
+returns-in-Ok-clause-reads g c = λ told all has. c.load.ensures.reads _ all (ready_pages c.args.self.now.store (c.args.self.now.ready c.requires) told) has
+
+pub returns-in-Err-clause-reads : goal.returns-in-Err-clause-reads
+returns-in-Err-clause-reads g c = λ told all has. c.load.ensures.reads _ all (ready_pages c.args.self.now.store (c.args.self.now.ready c.requires) told) has
+
+pub returns-then-is_some-clause-reads : goal.returns-then-is_some-clause-reads
+returns-then-is_some-clause-reads g c = λ told all has. rises_not (all + 2) _ _ refl

@@ -3,6 +3,7 @@ use Rattle.calculus.specs.Schema.{schema_of}
 use Rattle.am_traits.specs.Told.{is_named_by_view}
 use Rattle.db_disk.proofs.Asking.{schema_answer, named_alike}
 use Rattle.db_disk.proofs.Knowing.{same_schema, still_known, there_open}
+use Rattle.db_disk.proofs.Reading.{still_there}
 use Rattle.db_disk.proofs.base.DbDisk.named_by_view.Goals as goal
 
 pub invariant_of-self : goal.invariant_of-self
@@ -16,3 +17,6 @@ pub returns-clause-told : goal.returns-clause-told
 returns-clause-told g c = λ db is.
     schema_answer (λ b. b) (λ db. is_named_by_view db c.args.but.now c.args.key.now) db (λ db. named_alike db c.args.but.now c.args.key.now) c.named_by_view.result
     (c.named_by_view.ensures.told (schema_of db) (same_schema c.open.new.self.catalog c.named_by_view.new.catalog c.named_by_view.ensures.same ∙ c.in_ok-open.ensures.schema db is))
+
+pub returns-clause-fixed : goal.returns-clause-fixed
+returns-clause-fixed g c = still_there c.open.new.self.catalog c.named_by_view.new.catalog c.named_by_view.result (same_schema c.open.new.self.catalog c.named_by_view.new.catalog c.named_by_view.ensures.same) c.in_ok-open.ensures.there

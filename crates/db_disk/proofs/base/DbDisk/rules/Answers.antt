@@ -3,6 +3,7 @@ use Rattle.calculus.specs.Database.{rules_on}
 use Rattle.calculus.specs.Schema.{schema_of}
 use Rattle.db_disk.proofs.Asking.{schema_answer, rules_alike}
 use Rattle.db_disk.proofs.Knowing.{same_schema, still_known, there_open}
+use Rattle.db_disk.proofs.Reading.{still_there}
 use Rattle.db_disk.proofs.base.DbDisk.rules.Goals as goal
 
 pub invariant_of-self : goal.invariant_of-self
@@ -16,3 +17,6 @@ pub returns-clause-told : goal.returns-clause-told
 returns-clause-told g c = λ db is.
     schema_answer (λ rs. rs.items) (λ db. rules_on db c.args.key.now) db (λ db. rules_alike db c.args.key.now) c.rules.result
     (c.rules.ensures.told (schema_of db) (same_schema c.open.new.self.catalog c.rules.new.catalog c.rules.ensures.same ∙ c.in_ok-open.ensures.schema db is))
+
+pub returns-clause-fixed : goal.returns-clause-fixed
+returns-clause-fixed g c = still_there c.open.new.self.catalog c.rules.new.catalog c.rules.result (same_schema c.open.new.self.catalog c.rules.new.catalog c.rules.ensures.same) c.in_ok-open.ensures.there

@@ -1,9 +1,13 @@
-use Rattle.std.proofs.Common.{refl, sym, subst, drop, Option}
+use Rattle.std.proofs.Common.{refl, sym, subst, drop, Option, ◌∙◌, ◌+◌, ap}
 use Rattle.calculus.specs.Database.{Db}
 use Rattle.am_traits.specs.Scans.{Gives, IsOver}
 use Rattle.plain_base.specs.Places.{rows_before}
 use Rattle.db_disk.specs.Shown.{rows_left}
-use Rattle.db_disk.proofs.Knowing.{from_rows, still_known, there_is_open}
+use Rattle.db_disk.proofs.Knowing.{from_rows, still_known, there_is_open, same_schema}
+use Rattle.db_disk.proofs.Reading.{given_ok, same_files, same_rows, some_schema, still_there}
+use Rattle.catalog.proofs.Rises.{rises_as}
+use Rattle.stored_database.specs.Printed.{Files}
+use Rattle.db_disk.proofs.Scanned.{scan_fits}
 use Rattle.db_disk.proofs.base.DbDisk.scan.Goals as goal
 
 pub invariant_of-self : goal.invariant_of-self
@@ -24,3 +28,23 @@ returns-clause-over g c = λ db is.
     subst (λ (o : Option Db). IsOver c.args.probe.now (rows_left o c.args.key.now) c.scan.new.at c.scan.result) (sym is)
     (from_rows c.filled.new.self.catalog c.args.key.now db (λ rows. IsOver c.args.probe.now (λ at. drop (rows_before at) rows) c.scan.new.at c.scan.result) c.in_ok-filled.ensures.there
     (c.in_ok-filled.ensures.rows db is) c.scan.ensures.over)
+
+pub returns-clause-fixed : goal.returns-clause-fixed
+returns-clause-fixed g c =
+    still_there c.filled.new.self.catalog c.scan.new.catalog c.scan.result (same_schema c.filled.new.self.catalog c.scan.new.catalog c.scan.ensures.same) (some_schema c.filled.new.self.catalog c.in_ok-filled.ensures.there)
+
+pub returns-clause-in_memory : goal.returns-clause-in_memory
+returns-clause-in_memory g c = given_ok c.scan.result _ (same_rows c.filled.new.self.catalog c.scan.new.catalog c.args.key.now c.scan.ensures.same ∙ c.in_ok-filled.ensures.in_memory)
+
+pub returns-clause-reads : goal.returns-clause-reads
+returns-clause-reads g c = λ s known.
+    rises_as _ _ _ _ (ap (λ (f : Files). f.used c.args.key.now) (sym (same_files c.filled.new.self.catalog c.scan.new.catalog c.scan.ensures.same))) (c.filled.ensures.reads s known)
+
+pub returns-clause-opening_reads : goal.returns-clause-opening_reads
+returns-clause-opening_reads g c = λ told all by.
+    rises_as _ _ _ _ (ap (λ (f : Files). all + f.used c.args.key.now) (sym (same_files c.filled.new.self.catalog c.scan.new.catalog c.scan.ensures.same))) (c.filled.ensures.opening_reads told all by)
+
+pub returns-clause-fits : goal.returns-clause-fits
+returns-clause-fits g c = λ s known there.
+    scan_fits c.filled.new.self.catalog s c.args.key.now c.args.probe.now c.args.at.now c.scan.new.at c.scan.result
+    (sym (same_schema c.filled.new.self.catalog c.scan.new.catalog c.scan.ensures.same) ∙ known) c.scan.ensures.told there

@@ -3,6 +3,7 @@ use Rattle.std.proofs.lemmas.Option.{same_Some}
 use Rattle.disk_model.specs.Disk.{Image}
 use Rattle.db_disk.specs.Held.{has_head}
 use Rattle.db_disk.proofs.Opens.{refused_first}
+use Rattle.db_disk.proofs.Reading.{opens_not, opens_then}
 use Rattle.db_disk.proofs.base.DbDisk.start.Goals as goal
 
 pub returns-in-Ok-clause-no_head : goal.returns-in-Ok-clause-no_head
@@ -16,3 +17,10 @@ returns-in-Ok-clause-headless g c = λ told m is none off.
 
 pub returns-in-Err-clause-headless : goal.returns-in-Err-clause-headless
 returns-in-Err-clause-headless g c = λ told m is none off. refused_first _ m c.in-Err.fault is (λ file page e. c.restored.ensures.damaged told file page (c.in-Err.is ∙ e))
+
+pub returns-in-Ok-clause-reads : goal.returns-in-Ok-clause-reads
+returns-in-Ok-clause-reads g c = λ told all by.
+    opens_then _ _ all _ _ _ by (c.in-Ok.ensures.pages told) (c.restored.ensures.reads told by.shut) (λ k has. c.loaded.ensures.reads told k has)
+
+pub returns-in-Err-clause-reads : goal.returns-in-Err-clause-reads
+returns-in-Err-clause-reads g c = λ told all by. opens_not _ all _ _ by (c.restored.ensures.reads told by.shut)

@@ -3,6 +3,7 @@ use Rattle.calculus.specs.Schema.{schema_of}
 use Rattle.am_traits.specs.Told.{query_at}
 use Rattle.db_disk.proofs.Asking.{schema_answer, view_alike}
 use Rattle.db_disk.proofs.Knowing.{same_schema, still_known, there_open}
+use Rattle.db_disk.proofs.Reading.{still_there}
 use Rattle.db_disk.proofs.base.DbDisk.view.Goals as goal
 
 pub invariant_of-self : goal.invariant_of-self
@@ -16,3 +17,6 @@ pub returns-clause-told : goal.returns-clause-told
 returns-clause-told g c = λ db is.
     schema_answer (λ q. q) (λ db. query_at db c.args.key.now) db (λ db. view_alike db c.args.key.now) c.view.result
     (c.view.ensures.told (schema_of db) (same_schema c.open.new.self.catalog c.view.new.catalog c.view.ensures.same ∙ c.in_ok-open.ensures.schema db is))
+
+pub returns-clause-fixed : goal.returns-clause-fixed
+returns-clause-fixed g c = still_there c.open.new.self.catalog c.view.new.catalog c.view.result (same_schema c.open.new.self.catalog c.view.new.catalog c.view.ensures.same) c.in_ok-open.ensures.there
