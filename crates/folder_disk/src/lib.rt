@@ -5,8 +5,6 @@ mod counts;
 mod disk;
 mod folder;
 mod pages;
-#[cfg(test)]
-mod tests;
 
 pub use counts::Counts;
 pub use disk::FolderDisk;

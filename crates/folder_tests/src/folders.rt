@@ -1,5 +1,7 @@
-use crate::{Counts, FolderDisk};
+//! Pages in the files of a real folder.
+
 use disk_model::{Addr, Disk, DiskFailed, Page};
+use folder_disk::{Counts, FolderDisk};
 use std::fs;
 use std::test::*;
 

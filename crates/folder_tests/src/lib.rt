@@ -1,0 +1,5 @@
+//! Tests of a folder as a disk.
+#![tactic(auto)]
+
+#[cfg(test)]
+mod folders;
