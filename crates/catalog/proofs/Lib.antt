@@ -12,4 +12,5 @@ pub mod LiesLoaded
 pub mod InMemory
 pub mod Rises
 pub mod Steps
+pub mod Outcomes
 pub mod Places

@@ -1,5 +1,5 @@
 -- What is known in memory lies on pages, whether these stand for a database or not.
-use Rattle.std.specs.Prelude.{◌≡◌, true, ℕ, ◌<◌, Option, Some}
+use Rattle.std.specs.Prelude.{◌≡◌, true, ◌<◌, Option, Some}
 use Rattle.calculus.specs.declared.query.RelKey.{RelKey}
 use Rattle.calculus.specs.Database.{Db, is_relation}
 use Rattle.disk_model.specs.Disk.{Image}

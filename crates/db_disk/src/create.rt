@@ -28,7 +28,6 @@ const HEADER: Addr = Addr { file: 0, page: 0 };
 const BIRTH: Addr = Addr { file: 0, page: 1 };
 
 /// Writes another page than that of the birth byte.
-#[tactic(auto, using(crate::proofs::Making::still_unborn, crate::proofs::Making::one_write))]
 fn write_beside<D: Disk>(disk: &mut D, a: Addr, page: &Page) -> Result<(), DiskFailed>
     requires beside { a ≢ birth_page }
     requires unborn { IsTrue D.tells → IsUnborn (D.seen disk.old) (D.touched disk.old) }
@@ -81,7 +80,6 @@ fn write_catalogue<D: Disk>(disk: &mut D, file: u32) -> Result<(), DiskFailed>
 }
 
 /// Waits until all that was written is durable, none being born.
-#[tactic(auto, using(crate::proofs::Making::still_unborn_synced, crate::proofs::Making::one_sync))]
 fn settle<D: Disk>(disk: &mut D) -> Result<(), DiskFailed>
     requires unborn { IsTrue D.tells → IsUnborn (D.seen disk.old) (D.touched disk.old) }
     ensures unborn { IsTrue D.tells → IsUnborn (D.seen disk.new) (D.touched disk.new) }

@@ -36,7 +36,7 @@ impl<D: Disk> DbDisk<D> {
         ensures crash { IsTrue D.tells → LeavesOnly D.clock D.left_since (disk_in self.old) (disk_in self.new)
             (SameHeld (D.seen (disk_in self.old)) (D.touched (disk_in self.old))) }
         ensures catalog { self.new.catalog ≡ self.old.catalog }
-        ensures still { self.old.is_open ≡ true → D.reads (disk_in self.new) ≡ D.reads (disk_in self.old) }
+        ensures still { self.old.is_open ≡ true → disk_in self.new ≡ disk_in self.old }
         ensures reads { IsTrue D.tells → gate (D.seen (disk_in self.old)) ≢ 1 → RisesUpTo 1 (D.reads (disk_in self.old)) (D.reads (disk_in self.new)) }
         ensures cause { HasCause (db_of self.old) (D.faults (disk_in self.old)) (D.faults (disk_in self.new)) result }
     {
@@ -59,7 +59,7 @@ impl<D: Disk> DbDisk<D> {
         ensures no_head { IsTrue D.tells → (page : ℕ) → result ≡ Err (WithoutHead page) → has_head (kept (D.seen (disk_in self.old))) ≡ false }
         ensures headless { IsTrue D.tells → schema_in self.old ≡ None → has_head (kept (D.seen (disk_in self.old))) ≡ false → IsNoHead result }
         ensures catalog { (s : Db) → schema_in self.old ≡ Some s → self.new.catalog ≡ self.old.catalog }
-        ensures still { (s : Db) → schema_in self.old ≡ Some s → D.reads (disk_in self.new) ≡ D.reads (disk_in self.old) }
+        ensures still { (s : Db) → schema_in self.old ≡ Some s → disk_in self.new ≡ disk_in self.old }
         ensures reads { IsTrue D.tells → (all : ℕ) → HasChains (kept (D.seen (disk_in self.old))) all → RisesUpTo (all + 2) (D.reads (disk_in self.old)) (D.reads (disk_in self.new)) }
         ensures cause { HasCause (db_of self.old) (D.faults (disk_in self.old)) (D.faults (disk_in self.new)) (as_base result) }
     {
@@ -84,8 +84,8 @@ impl<D: Disk> DbDisk<D> {
         ensures headless { IsTrue D.tells → (m : Image) → redone (D.seen (disk_in self.old)) ≡ Some m → schema_in self.old ≡ None → has_head m ≡ false → IsNoHead result }
         ensures crash { IsTrue D.tells → LeavesOnly D.clock D.left_since (disk_in self.old) (disk_in self.new)
             (SameHeld (D.seen (disk_in self.old)) (D.touched (disk_in self.old))) }
-        // Where the catalogue is in memory no page is read, and the rows that were read stay there.
-        ensures still { (s : Db) → schema_in self.old ≡ Some s → D.reads (disk_in self.new) ≡ D.reads (disk_in self.old) }
+        // Where the catalogue is in memory no call of the disk is made, and the rows that were read stay there.
+        ensures still { (s : Db) → schema_in self.old ≡ Some s → disk_in self.new ≡ disk_in self.old }
         ensures stay { (key : Key) → rows_in_memory self.old key ≡ true → rows_in_memory self.new key ≡ true }
         // Else at most the gate, the header, the birth byte and each page of the catalogues once.
         ensures reads { IsTrue D.tells → (all : ℕ) → OpensBy (D.seen (disk_in self.old)) all → RisesUpTo all (D.reads (disk_in self.old)) (D.reads (disk_in self.new)) }
@@ -109,8 +109,8 @@ impl<D: Disk> DbDisk<D> {
         // The files that are known are those of the catalogue on the disk.
         ensures files { (db : Db) → db_of self.old ≡ Some db
             → OnOk result (catalogue_in (pages_of (kept (D.seen (disk_in self.new)))) ≡ Some (printed db (files_known self.new))) }
-        // Where the catalogue is in memory no page is read, and the rows that were read stay there.
-        ensures still { (s : Db) → schema_in self.old ≡ Some s → D.reads (disk_in self.new) ≡ D.reads (disk_in self.old) }
+        // Where the catalogue is in memory no call of the disk is made, and the rows that were read stay there.
+        ensures still { (s : Db) → schema_in self.old ≡ Some s → disk_in self.new ≡ disk_in self.old }
         ensures stay { (key : Key) → rows_in_memory self.old key ≡ true → rows_in_memory self.new key ≡ true }
         // Else at most the gate, the header, the birth byte and each page of the catalogues once.
         ensures reads { IsTrue D.tells → (all : ℕ) → OpensBy (D.seen (disk_in self.old)) all → RisesUpTo all (D.reads (disk_in self.old)) (D.reads (disk_in self.new)) }

@@ -25,7 +25,7 @@ impl<D: Disk> DbDisk<D> {
         ensures same { left_of self.new ≡ left_of self.old }
         ensures keeps { (s : Db) → schema_in self.old ≡ Some s → schema_in self.new ≡ Some s }
         ensures fixed { OnOk result (IsTrue (is_some (schema_in self.new))) }
-        ensures still { (s : Db) → schema_in self.old ≡ Some s → D.reads (disk_in self.new) ≡ D.reads (disk_in self.old) }
+        ensures still { (s : Db) → schema_in self.old ≡ Some s → disk_in self.new ≡ disk_in self.old }
         ensures reads { IsTrue D.tells → (all : ℕ) → OpensBy (D.seen (disk_in self.old)) all → RisesUpTo all (D.reads (disk_in self.old)) (D.reads (disk_in self.new)) }
         ensures crash { IsTrue D.tells → LeavesOnly D.clock D.left_since (disk_in self.old) (disk_in self.new)
             (SameHeld (D.seen (disk_in self.old)) (D.touched (disk_in self.old))) }
@@ -43,7 +43,7 @@ impl<D: Disk> DbDisk<D> {
         ensures same { left_of self.new ≡ left_of self.old }
         ensures keeps { (s : Db) → schema_in self.old ≡ Some s → schema_in self.new ≡ Some s }
         ensures fixed { OnOk result (IsTrue (is_some (schema_in self.new))) }
-        ensures still { (s : Db) → schema_in self.old ≡ Some s → D.reads (disk_in self.new) ≡ D.reads (disk_in self.old) }
+        ensures still { (s : Db) → schema_in self.old ≡ Some s → disk_in self.new ≡ disk_in self.old }
         ensures reads { IsTrue D.tells → (all : ℕ) → OpensBy (D.seen (disk_in self.old)) all → RisesUpTo all (D.reads (disk_in self.old)) (D.reads (disk_in self.new)) }
         ensures crash { IsTrue D.tells → LeavesOnly D.clock D.left_since (disk_in self.old) (disk_in self.new)
             (SameHeld (D.seen (disk_in self.old)) (D.touched (disk_in self.old))) }
@@ -67,7 +67,7 @@ impl<D: Disk> DbDisk<D> {
         ensures same { left_of self.new ≡ left_of self.old }
         ensures keeps { (s : Db) → schema_in self.old ≡ Some s → schema_in self.new ≡ Some s }
         ensures fixed { OnOk result (IsTrue (is_some (schema_in self.new))) }
-        ensures still { (s : Db) → schema_in self.old ≡ Some s → D.reads (disk_in self.new) ≡ D.reads (disk_in self.old) }
+        ensures still { (s : Db) → schema_in self.old ≡ Some s → disk_in self.new ≡ disk_in self.old }
         ensures reads { IsTrue D.tells → (all : ℕ) → OpensBy (D.seen (disk_in self.old)) all → RisesUpTo all (D.reads (disk_in self.old)) (D.reads (disk_in self.new)) }
         ensures crash { IsTrue D.tells → LeavesOnly D.clock D.left_since (disk_in self.old) (disk_in self.new)
             (SameHeld (D.seen (disk_in self.old)) (D.touched (disk_in self.old))) }
@@ -85,7 +85,7 @@ impl<D: Disk> DbDisk<D> {
         ensures same { left_of self.new ≡ left_of self.old }
         ensures keeps { (s : Db) → schema_in self.old ≡ Some s → schema_in self.new ≡ Some s }
         ensures fixed { OnOk result (IsTrue (is_some (schema_in self.new))) }
-        ensures still { (s : Db) → schema_in self.old ≡ Some s → D.reads (disk_in self.new) ≡ D.reads (disk_in self.old) }
+        ensures still { (s : Db) → schema_in self.old ≡ Some s → disk_in self.new ≡ disk_in self.old }
         ensures reads { IsTrue D.tells → (all : ℕ) → OpensBy (D.seen (disk_in self.old)) all → RisesUpTo all (D.reads (disk_in self.old)) (D.reads (disk_in self.new)) }
         ensures crash { IsTrue D.tells → LeavesOnly D.clock D.left_since (disk_in self.old) (disk_in self.new)
             (SameHeld (D.seen (disk_in self.old)) (D.touched (disk_in self.old))) }
@@ -103,7 +103,7 @@ impl<D: Disk> DbDisk<D> {
         ensures same { left_of self.new ≡ left_of self.old }
         ensures keeps { (s : Db) → schema_in self.old ≡ Some s → schema_in self.new ≡ Some s }
         ensures fixed { OnOk result (IsTrue (is_some (schema_in self.new))) }
-        ensures still { (s : Db) → schema_in self.old ≡ Some s → D.reads (disk_in self.new) ≡ D.reads (disk_in self.old) }
+        ensures still { (s : Db) → schema_in self.old ≡ Some s → disk_in self.new ≡ disk_in self.old }
         ensures reads { IsTrue D.tells → (all : ℕ) → OpensBy (D.seen (disk_in self.old)) all → RisesUpTo all (D.reads (disk_in self.old)) (D.reads (disk_in self.new)) }
         ensures crash { IsTrue D.tells → LeavesOnly D.clock D.left_since (disk_in self.old) (disk_in self.new)
             (SameHeld (D.seen (disk_in self.old)) (D.touched (disk_in self.old))) }
@@ -121,7 +121,7 @@ impl<D: Disk> DbDisk<D> {
         ensures same { left_of self.new ≡ left_of self.old }
         ensures keeps { (s : Db) → schema_in self.old ≡ Some s → schema_in self.new ≡ Some s }
         ensures fixed { OnOk result (IsTrue (is_some (schema_in self.new))) }
-        ensures still { (s : Db) → schema_in self.old ≡ Some s → D.reads (disk_in self.new) ≡ D.reads (disk_in self.old) }
+        ensures still { (s : Db) → schema_in self.old ≡ Some s → disk_in self.new ≡ disk_in self.old }
         ensures reads { IsTrue D.tells → (all : ℕ) → OpensBy (D.seen (disk_in self.old)) all → RisesUpTo all (D.reads (disk_in self.old)) (D.reads (disk_in self.new)) }
         ensures crash { IsTrue D.tells → LeavesOnly D.clock D.left_since (disk_in self.old) (disk_in self.new)
             (SameHeld (D.seen (disk_in self.old)) (D.touched (disk_in self.old))) }
@@ -139,7 +139,7 @@ impl<D: Disk> DbDisk<D> {
         ensures same { left_of self.new ≡ left_of self.old }
         ensures keeps { (s : Db) → schema_in self.old ≡ Some s → schema_in self.new ≡ Some s }
         ensures fixed { OnOk result (IsTrue (is_some (schema_in self.new))) }
-        ensures still { (s : Db) → schema_in self.old ≡ Some s → D.reads (disk_in self.new) ≡ D.reads (disk_in self.old) }
+        ensures still { (s : Db) → schema_in self.old ≡ Some s → disk_in self.new ≡ disk_in self.old }
         ensures reads { IsTrue D.tells → (all : ℕ) → OpensBy (D.seen (disk_in self.old)) all → RisesUpTo all (D.reads (disk_in self.old)) (D.reads (disk_in self.new)) }
         ensures crash { IsTrue D.tells → LeavesOnly D.clock D.left_since (disk_in self.old) (disk_in self.new)
             (SameHeld (D.seen (disk_in self.old)) (D.touched (disk_in self.old))) }
@@ -162,7 +162,7 @@ impl<D: Disk> DbDisk<D> {
         ensures same { left_of self.new ≡ left_of self.old }
         ensures keeps { (s : Db) → schema_in self.old ≡ Some s → schema_in self.new ≡ Some s }
         ensures fixed { OnOk result (IsTrue (is_some (schema_in self.new))) }
-        ensures still { (s : Db) → schema_in self.old ≡ Some s → D.reads (disk_in self.new) ≡ D.reads (disk_in self.old) }
+        ensures still { (s : Db) → schema_in self.old ≡ Some s → disk_in self.new ≡ disk_in self.old }
         ensures reads { IsTrue D.tells → (all : ℕ) → OpensBy (D.seen (disk_in self.old)) all → RisesUpTo all (D.reads (disk_in self.old)) (D.reads (disk_in self.new)) }
         ensures crash { IsTrue D.tells → LeavesOnly D.clock D.left_since (disk_in self.old) (disk_in self.new)
             (SameHeld (D.seen (disk_in self.old)) (D.touched (disk_in self.old))) }

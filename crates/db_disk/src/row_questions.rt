@@ -37,6 +37,8 @@ impl<D: Disk> DbDisk<D> {
         ensures reads { (s : Db) → schema_in self.old ≡ Some s → RisesUpTo (pages_known self.new key.now) (D.reads (disk_in self.old)) (D.reads (disk_in self.new)) }
         ensures opening_reads { IsTrue D.tells → (all : ℕ) → OpensBy (D.seen (disk_in self.old)) all
             → RisesUpTo (all + pages_known self.new key.now) (D.reads (disk_in self.old)) (D.reads (disk_in self.new)) }
+        // Once the catalogue is known the disk is read and nothing else.
+        ensures quiet { IsTrue D.tells → (s : Db) → schema_in self.old ≡ Some s → D.clock (disk_in self.new) ≡ D.clock (disk_in self.old) }
         ensures crash { IsTrue D.tells → LeavesOnly D.clock D.left_since (disk_in self.old) (disk_in self.new)
             (SameHeld (D.seen (disk_in self.old)) (D.touched (disk_in self.old))) }
         ensures cause { HasCause (db_of self.old) (D.faults (disk_in self.old)) (D.faults (disk_in self.new)) result }
@@ -83,6 +85,8 @@ impl<D: Disk> DbDisk<D> {
         ensures reads { (s : Db) → schema_in self.old ≡ Some s → RisesUpTo (pages_known self.new key.now) (D.reads (disk_in self.old)) (D.reads (disk_in self.new)) }
         ensures opening_reads { IsTrue D.tells → (all : ℕ) → OpensBy (D.seen (disk_in self.old)) all
             → RisesUpTo (all + pages_known self.new key.now) (D.reads (disk_in self.old)) (D.reads (disk_in self.new)) }
+        // Once the catalogue is known the disk is read and nothing else.
+        ensures quiet { IsTrue D.tells → (s : Db) → schema_in self.old ≡ Some s → D.clock (disk_in self.new) ≡ D.clock (disk_in self.old) }
         ensures crash { IsTrue D.tells → LeavesOnly D.clock D.left_since (disk_in self.old) (disk_in self.new)
             (SameHeld (D.seen (disk_in self.old)) (D.touched (disk_in self.old))) }
         ensures cause { HasCause (db_of self.old) (D.faults (disk_in self.old)) (D.faults (disk_in self.new)) result }
@@ -105,6 +109,8 @@ impl<D: Disk> DbDisk<D> {
         ensures reads { (s : Db) → schema_in self.old ≡ Some s → RisesUpTo (pages_known self.new key.now) (D.reads (disk_in self.old)) (D.reads (disk_in self.new)) }
         ensures opening_reads { IsTrue D.tells → (all : ℕ) → OpensBy (D.seen (disk_in self.old)) all
             → RisesUpTo (all + pages_known self.new key.now) (D.reads (disk_in self.old)) (D.reads (disk_in self.new)) }
+        // Once the catalogue is known the disk is read and nothing else.
+        ensures quiet { IsTrue D.tells → (s : Db) → schema_in self.old ≡ Some s → D.clock (disk_in self.new) ≡ D.clock (disk_in self.old) }
         ensures crash { IsTrue D.tells → LeavesOnly D.clock D.left_since (disk_in self.old) (disk_in self.new)
             (SameHeld (D.seen (disk_in self.old)) (D.touched (disk_in self.old))) }
         ensures cause { HasCause (db_of self.old) (D.faults (disk_in self.old)) (D.faults (disk_in self.new)) result }
@@ -138,6 +144,8 @@ impl<D: Disk> DbDisk<D> {
         ensures reads { (s : Db) → schema_in self.old ≡ Some s → RisesUpTo (pages_known self.new key.now) (D.reads (disk_in self.old)) (D.reads (disk_in self.new)) }
         ensures opening_reads { IsTrue D.tells → (all : ℕ) → OpensBy (D.seen (disk_in self.old)) all
             → RisesUpTo (all + pages_known self.new key.now) (D.reads (disk_in self.old)) (D.reads (disk_in self.new)) }
+        // Once the catalogue is known the disk is read and nothing else.
+        ensures quiet { IsTrue D.tells → (s : Db) → schema_in self.old ≡ Some s → D.clock (disk_in self.new) ≡ D.clock (disk_in self.old) }
         ensures crash { IsTrue D.tells → LeavesOnly D.clock D.left_since (disk_in self.old) (disk_in self.new)
             (SameHeld (D.seen (disk_in self.old)) (D.touched (disk_in self.old))) }
         ensures cause { HasCause (db_of self.old) (D.faults (disk_in self.old)) (D.faults (disk_in self.new)) result }

@@ -176,11 +176,13 @@ fn a_row_that_is_added_has_its_place_until_it_is_removed(rt: HostRuntime) {
     drop(store);
 }
 
-/// Rows of a heap of three pages go and others come in one pass: whether all that were to go were there,
-/// how many pages were asked for and put, and what stands then.
+/// Rows of a heap of three pages go and others come in one pass, where pages are given after those that go
+/// were looked for there: whether all that were to go were there, how many pages were asked for and put,
+/// and what stands then.
 fn replaced(
     alloc: Global,
     rt: &impl Abort,
+    near: Option<&[u32]>,
     going: (i16, i16),
     coming: (i16, i16),
 ) -> (bool, (u32, u32), (u32, i64)) {
@@ -192,9 +194,12 @@ fn replaced(
         rt.panic("so many");
     }
     store.restart();
-    let done = heap
-        .replace(alloc, &mut store, going.as_slice(), coming.as_slice())
-        .expect(rt, "replace");
+    let (old, new) = (going.as_slice(), coming.as_slice());
+    let done = match near {
+        Some(pages) => heap.replace_near(alloc, &mut store, pages, old, new),
+        None => heap.replace(alloc, &mut store, old, new),
+    };
+    let done = done.expect(rt, "replace");
     let calls = (store.gets, store.puts);
     let every = Probe {
         equal: List::of(Vec::new(alloc)),
@@ -213,48 +218,20 @@ fn many_rows_are_replaced_in_one_pass(rt: HostRuntime) {
     let alloc = rt.alloc();
     // Each row goes, and each page is read and put once.
     assert!(rt;
-        replaced(alloc, &rt, (0, 507), (1000, 1507)) == (true, (3, 3), (507, 128271 + 507000))
+        replaced(alloc, &rt, None, (0, 507), (1000, 1507)) == (true, (3, 3), (507, 128271 + 507000))
     );
     // The pass ends on the page of the last row that goes.
-    assert!(rt; replaced(alloc, &rt, (3, 5), (0, 0)) == (true, (1, 1), (505, 128264)));
+    assert!(rt; replaced(alloc, &rt, None, (3, 5), (0, 0)) == (true, (1, 1), (505, 128264)));
     // What comes takes the room of what went.
-    assert!(rt; replaced(alloc, &rt, (3, 5), (1000, 1002)) == (true, (1, 1), (507, 128264 + 2001)));
+    assert!(rt;
+        replaced(alloc, &rt, None, (3, 5), (1000, 1002)) == (true, (1, 1), (507, 128264 + 2001))
+    );
     // Without rows that go the last page alone is read.
-    assert!(rt; replaced(alloc, &rt, (0, 0), (1000, 1002)) == (true, (1, 2), (509, 128271 + 2001)));
+    assert!(rt;
+        replaced(alloc, &rt, None, (0, 0), (1000, 1002)) == (true, (1, 2), (509, 128271 + 2001))
+    );
     // A row that isn't there.
-    assert!(rt; !replaced(alloc, &rt, (506, 508), (0, 0)).0);
-}
-
-/// The same, where the rows that go are looked for on these pages first.
-fn replaced_near(
-    alloc: Global,
-    rt: &impl Abort,
-    near: &[u32],
-    going: (i16, i16),
-    coming: (i16, i16),
-) -> (bool, (u32, u32), (u32, i64)) {
-    let mut store = Counting::new(alloc);
-    let mut heap = built(alloc, rt, &mut store, 0, 3 * A_PAGE);
-    let going = rows(alloc, rt, going.0, going.1);
-    let coming = rows(alloc, rt, coming.0, coming.1);
-    if heap.info().used > 1000 || coming.len() > 1000 {
-        rt.panic("so many");
-    }
-    store.restart();
-    let done = heap
-        .replace_near(alloc, &mut store, near, going.as_slice(), coming.as_slice())
-        .expect(rt, "replace");
-    let calls = (store.gets, store.puts);
-    let every = Probe {
-        equal: List::of(Vec::new(alloc)),
-    };
-    let stands = scanned(alloc, rt, &heap, &mut store, &every);
-    drop(every);
-    drop(going);
-    drop(coming);
-    drop(heap);
-    drop(store);
-    (done, calls, stands)
+    assert!(rt; !replaced(alloc, &rt, None, (506, 508), (0, 0)).0);
 }
 
 #[test]
@@ -262,15 +239,15 @@ fn rows_that_go_are_looked_for_on_given_pages_first(rt: HostRuntime) {
     let alloc = rt.alloc();
     // Where all lie there, no other page is asked for: it is counted, and then it is put.
     assert!(rt;
-        replaced_near(alloc, &rt, &[2], (400, 402), (1000, 1002))
+        replaced(alloc, &rt, Some(&[2]), (400, 402), (1000, 1002))
             == (true, (2, 1), (507, 127470 + 2001))
     );
     // Where they lie elsewhere, the pass is made.
     assert!(rt;
-        replaced_near(alloc, &rt, &[0], (400, 402), (0, 0)) == (true, (4, 1), (505, 127470))
+        replaced(alloc, &rt, Some(&[0]), (400, 402), (0, 0)) == (true, (4, 1), (505, 127470))
     );
     // What is no page of the file isn't asked for.
-    assert!(rt; replaced_near(alloc, &rt, &[9], (3, 5), (0, 0)) == (true, (1, 1), (505, 128264)));
+    assert!(rt; replaced(alloc, &rt, Some(&[9]), (3, 5), (0, 0)) == (true, (1, 1), (505, 128264)));
 }
 
 /// What is wrong with a page.

@@ -1,8 +1,10 @@
 use Rattle.std.proofs.Common.{subst, sym, ap, ◌∙◌, Option}
 use Rattle.batch_store.specs.Running.{comes_of_itself, reads_of_itself}
+use Rattle.batch_file.specs.Redone.{redone}
 use Rattle.batch_store.specs.Store.{disk_of}
 use Rattle.db_disk.specs.Known.{IsKnown}
 use Rattle.db_disk.proofs.Fills.{filled_known, knows_now}
+use Rattle.db_disk.proofs.Holding.{told_same}
 use Rattle.db_disk.proofs.Knowing.{on_some}
 use Rattle.db_disk.proofs.Ready.{file_caused, ready_holds, still_ready}
 use Rattle.plain_base.specs.Shown.{database_of}
@@ -42,3 +44,9 @@ returns-clause-reads g c = rises_as _ _ _ _ (ap (λ (o : Option Catalog). (files
 
 pub returns-clause-again : goal.returns-clause-again
 returns-clause-again g c = λ is. c.fill.ensures.again (sym (ap (λ (o : Option Catalog). rows_in o c.args.key.now) c.in-Some.is) ∙ is)
+
+pub returns-clause-only_reads : goal.returns-clause-only_reads
+returns-clause-only_reads g c = λ told. (c.fill.ensures.only_read c.args.store.now (reads_of_itself c.args.store.now)).reads told
+
+pub returns-clause-kept : goal.returns-clause-kept
+returns-clause-kept g c = told_same g.D.Disk.tells _ _ (λ told. ap redone ((c.fill.ensures.only_read c.args.store.now (reads_of_itself c.args.store.now)).reads told).seen_same)

@@ -7,6 +7,10 @@ use Rattle.catalog.proofs.LiesRead.{lies_same}
 use Rattle.catalog.proofs.Filled.{knows_same, no_file_none, other_rows_are, rows_are}
 use Rattle.catalog.proofs.InMemory.{known_loaded, known_none, known_read, not_known}
 use Rattle.catalog.proofs.Rises.{rises_as}
+use Rattle.catalog.proofs.Outcomes.{cause_on}
+use Rattle.catalog.proofs.Steps.{knows_same as knows_still, lies_still}
+use Rattle.catalog.specs.Knows.{KnowsNone}
+use Rattle.calculus.specs.Schema.{schema_of}
 use Rattle.catalog.proofs.catalog.Catalog.fill.Goals as goal
 
 pub returns-then-has-clause-rows : goal.returns-then-has-clause-rows
@@ -59,3 +63,53 @@ returns-in-Some-clause-again g c = λ is.
 
 pub returns-in-Some-clause-known : goal.returns-in-Some-clause-known
 returns-in-Some-clause-known g c = known_read c.read.result c.read.new.self c.args.key.now c.read.ensures.loaded
+
+pub returns-in_err-is_stored-clause-knows : goal.returns-in_err-is_stored-clause-knows
+returns-in_err-is_stored-clause-knows g c m db told is k = knows_still c.args.self.now c.is_stored.new.plain m db c.is_stored.ensures.same k
+
+pub returns-in_err-is_stored-clause-lies : goal.returns-in_err-is_stored-clause-lies
+returns-in_err-is_stored-clause-lies g c m told lies = lies_still c.args.self.now c.is_stored.new.plain m c.is_stored.ensures.same lies
+
+pub returns-in_err-is_stored-clause-schema : goal.returns-in_err-is_stored-clause-schema
+returns-in_err-is_stored-clause-schema g c = ap schema_of c.is_stored.ensures.same
+
+pub returns-then-not-branch-clause-knows : goal.returns-then-not-branch-clause-knows
+returns-then-not-branch-clause-knows g c m db told is k = knows_still c.args.self.now c.is_stored.new.plain m db c.is_stored.ensures.same k
+
+pub returns-then-not-branch-clause-lies : goal.returns-then-not-branch-clause-lies
+returns-then-not-branch-clause-lies g c m told lies = lies_still c.args.self.now c.is_stored.new.plain m c.is_stored.ensures.same lies
+
+pub returns-then-not-branch-clause-schema : goal.returns-then-not-branch-clause-schema
+returns-then-not-branch-clause-schema g c = ap schema_of c.is_stored.ensures.same
+
+pub returns-in_err-file-clause-knows : goal.returns-in_err-file-clause-knows
+returns-in_err-file-clause-knows g c m db told is k = knows_still c.args.self.now c.relation_file.new.plain m db (c.relation_file.ensures.same ∙ c.is_stored.ensures.same) k
+
+pub returns-in_err-file-clause-lies : goal.returns-in_err-file-clause-lies
+returns-in_err-file-clause-lies g c m told lies = lies_still c.args.self.now c.relation_file.new.plain m (c.relation_file.ensures.same ∙ c.is_stored.ensures.same) lies
+
+pub returns-in_err-file-clause-schema : goal.returns-in_err-file-clause-schema
+returns-in_err-file-clause-schema g c = ap schema_of (c.relation_file.ensures.same ∙ c.is_stored.ensures.same)
+
+pub returns-in-None-clause-knows : goal.returns-in-None-clause-knows
+returns-in-None-clause-knows g c m db told is k = knows_still c.args.self.now c.relation_file.new.plain m db (c.relation_file.ensures.same ∙ c.is_stored.ensures.same) k
+
+pub returns-in-None-clause-lies : goal.returns-in-None-clause-lies
+returns-in-None-clause-lies g c m told lies = lies_still c.args.self.now c.relation_file.new.plain m (c.relation_file.ensures.same ∙ c.is_stored.ensures.same) lies
+
+pub returns-in-None-clause-schema : goal.returns-in-None-clause-schema
+returns-in-None-clause-schema g c = ap schema_of (c.relation_file.ensures.same ∙ c.is_stored.ensures.same)
+
+pub returns-in-Some-clause-schema : goal.returns-in-Some-clause-schema
+returns-in-Some-clause-schema g c = c.read.ensures.schema ∙ ap schema_of (c.relation_file.ensures.same ∙ c.is_stored.ensures.same)
+
+pub returns-in-Some-clause-rows : goal.returns-in-Some-clause-rows
+returns-in-Some-clause-rows g c m db told is k =
+    c.read.ensures.rows m db told is (knows_still c.args.self.now c.relation_file.new.plain m db (c.relation_file.ensures.same ∙ c.is_stored.ensures.same) k)
+
+pub returns-in-Some-clause-cause : goal.returns-in-Some-clause-cause
+returns-in-Some-clause-cause g c =
+    let told = g.S.PageStore.pages c.args.store.now in
+    let start = g.S.PageStore.faults c.args.store.now in
+    cause_on told told (KnowsNone (record c.args.self.now { plain = c.relation_file.new.plain })) (KnowsNone c.args.self.now) start start (g.S.PageStore.faults c.read.new.store) c.read.result (omega arith)
+    (λ a none m is db base k. none m is db base (knows_still c.args.self.now c.relation_file.new.plain m db (c.relation_file.ensures.same ∙ c.is_stored.ensures.same) k)) c.read.ensures.cause

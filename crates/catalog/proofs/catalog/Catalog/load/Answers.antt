@@ -21,3 +21,9 @@ returns-clause-cause g c = record {
   caused = λ m told db stands named owners.
       subst (IfKnown m db) c.in-None.is (c.in_ok-catalog.ensures.known m db (c.in_ok-chains.ensures.found m told) (record { stands = stands; dba_is = named; owners = owners }));
 }
+
+pub returns-in-Some-clause-lies : goal.returns-in-Some-clause-lies
+returns-in-Some-clause-lies g c m told = c.in_ok-catalog.ensures.lies m (c.in_ok-chains.ensures.found m told) c.in-Some.catalog c.in-Some.is
+
+pub returns-in-Some-clause-dba : goal.returns-in-Some-clause-dba
+returns-in-Some-clause-dba g c = c.in_ok-catalog.ensures.dba c.in-Some.catalog c.in-Some.is

@@ -1,11 +1,11 @@
-use Rattle.std.proofs.Common.{◌∙◌, arith}
+use Rattle.std.proofs.Common.{◌∙◌, ap, arith}
 use Rattle.heap_am.specs.Heap.{HeapFault}
 use Rattle.plain_base.specs.Shown.{database_of}
 use Rattle.calculus.specs.Schema.{schema_of}
 use Rattle.page_chain.proofs.Carried.{cause_carried}
 use Rattle.catalog.specs.Knows.{KnowsNone}
-use Rattle.catalog.proofs.Filled.{at_fault_none, knows_with, may_come, rows_are, rows_keep_schema, taken_is_in}
-use Rattle.catalog.proofs.LiesRead.{lies_with}
+use Rattle.catalog.proofs.Filled.{at_fault_none, knows_same, knows_with, may_come, rows_are, rows_keep_schema, taken_is_in}
+use Rattle.catalog.proofs.LiesRead.{lies_same, lies_with}
 use Rattle.catalog.proofs.catalog.Catalog.read.Goals as goal
 
 pub returns-in_err-rows-clause-cause : goal.returns-in_err-rows-clause-cause
@@ -47,3 +47,27 @@ returns-then-branch-clause-files g c = (c.in_ok-take.ensures.taken c.if-branch.t
 
 pub returns-then-branch-clause-loaded : goal.returns-then-branch-clause-loaded
 returns-then-branch-clause-loaded g c = taken_is_in c.args.self.now c.take.new.self c.args.key.now c.in_ok-rows.rows (c.in_ok-take.ensures.taken c.if-branch.true)
+
+pub returns-in_err-take-clause-knows : goal.returns-in_err-take-clause-knows
+returns-in_err-take-clause-knows g c m db told is k = knows_same c.args.self.now c.take.new.self m db c.in_err-take.ensures.err k
+
+pub returns-in_err-take-clause-lies : goal.returns-in_err-take-clause-lies
+returns-in_err-take-clause-lies g c m told lies = lies_same c.args.self.now c.take.new.self m c.in_err-take.ensures.err lies
+
+pub returns-in_err-take-clause-schema : goal.returns-in_err-take-clause-schema
+returns-in_err-take-clause-schema g c = ap schema_of c.in_err-take.ensures.err.plain
+
+pub returns-in_err-take-clause-files : goal.returns-in_err-take-clause-files
+returns-in_err-take-clause-files g c = c.in_err-take.ensures.err.files
+
+pub returns-else-branch-clause-knows : goal.returns-else-branch-clause-knows
+returns-else-branch-clause-knows g c m db told is k = knows_same c.args.self.now c.take.new.self m db (c.in_ok-take.ensures.kept c.if-branch.false) k
+
+pub returns-else-branch-clause-lies : goal.returns-else-branch-clause-lies
+returns-else-branch-clause-lies g c m told lies = lies_same c.args.self.now c.take.new.self m (c.in_ok-take.ensures.kept c.if-branch.false) lies
+
+pub returns-else-branch-clause-schema : goal.returns-else-branch-clause-schema
+returns-else-branch-clause-schema g c = ap schema_of (c.in_ok-take.ensures.kept c.if-branch.false).plain
+
+pub returns-else-branch-clause-files : goal.returns-else-branch-clause-files
+returns-else-branch-clause-files g c = (c.in_ok-take.ensures.kept c.if-branch.false).files

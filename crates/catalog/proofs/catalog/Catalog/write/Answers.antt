@@ -1,4 +1,6 @@
-use Rattle.std.proofs.Common.{arith}
+use Rattle.std.proofs.Common.{◌∙◌, ap, arith, subst, sym}
+use Rattle.calculus.specs.Change.{IsLawful, laid}
+use Rattle.calculus.specs.Database.{Db}
 use Rattle.page_chain.proofs.Carried.{cause_carried}
 use Rattle.plain_base.specs.Shown.{database_of}
 use Rattle.catalogue_pages.specs.Ends.{NoCatalogue}
@@ -35,3 +37,24 @@ returns-clause-lies g c m is lies read =
     write_lies c.args.self.now c.make_pages.new.plain c.write_catalogue.new.plain c.keep.new.self m c.args.change.now c.in_ok-given.given.file c.in_ok-given.given.used c.in_ok-ends.ends
     (g.S.PageStore.pages c.make_pages.new.store) (g.S.PageStore.pages c.write_catalogue.new.store) c.make_pages.ensures.same c.write_catalogue.ensures.same lies c.requires read
     (c.in_ok-given.ensures.made m (database_of c.args.self.now.plain) is) c.in_ok-ends.ensures.places c.in_ok-ends.ensures.written c.in_ok-keep.ensures
+
+pub write_catalogue-requires : goal.write_catalogue-requires
+write_catalogue-requires g c = subst (λ (d : Db). IsLawful d c.args.change.now) (sym c.make_pages.ensures.same) c.requires
+
+pub keep-requires : goal.keep-requires
+keep-requires g c = subst (λ (d : Db). IsLawful d c.args.change.now) (sym (c.write_catalogue.ensures.same ∙ c.make_pages.ensures.same)) c.requires
+
+pub returns-clause-plain : goal.returns-clause-plain
+returns-clause-plain g c = c.in_ok-keep.ensures.plain ∙ ap (λ (d : Db). laid d c.args.change.now) (c.write_catalogue.ensures.same ∙ c.make_pages.ensures.same)
+
+pub returns-clause-came : goal.returns-clause-came
+returns-clause-came g c = λ s h. c.write_catalogue.ensures.came s (c.make_pages.ensures.came s h)
+
+pub returns-clause-cause : goal.returns-clause-cause
+returns-clause-cause g c = record { later = omega (arith, c.make_pages.ensures.cause.later, c.write_catalogue.ensures.cause.later); caused = tt }
+
+pub returns-in_err-ends-clause-came : goal.returns-in_err-ends-clause-came
+returns-in_err-ends-clause-came g c = λ s h. c.write_catalogue.ensures.came s (c.make_pages.ensures.came s h)
+
+pub returns-in_err-keep-clause-came : goal.returns-in_err-keep-clause-came
+returns-in_err-keep-clause-came g c = λ s h. c.write_catalogue.ensures.came s (c.make_pages.ensures.came s h)

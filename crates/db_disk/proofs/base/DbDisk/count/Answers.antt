@@ -3,6 +3,7 @@ use Rattle.calculus.specs.Database.{entries}
 use Rattle.calculus.specs.Schema.{schema_of}
 use Rattle.schema_laws.proofs.Alike.{entries_alike}
 use Rattle.db_disk.proofs.Asking.{schema_answer}
+use Rattle.db_disk.proofs.Causes.{want_caused}
 use Rattle.db_disk.proofs.Knowing.{same_schema, still_known, there_open}
 use Rattle.db_disk.proofs.Reading.{still_there}
 use Rattle.db_disk.proofs.base.DbDisk.count.Goals as goal
@@ -21,3 +22,6 @@ returns-clause-told g c = λ db is.
 
 pub returns-clause-fixed : goal.returns-clause-fixed
 returns-clause-fixed g c = still_there c.open.new.self.catalog c.count.new.catalog c.count.result (same_schema c.open.new.self.catalog c.count.new.catalog c.count.ensures.same) c.in_ok-open.ensures.there
+
+pub returns-clause-cause : goal.returns-clause-cause
+returns-clause-cause g c = want_caused _ _ _ c.count.result c.open.ensures.cause.later c.count.ensures.want

@@ -1,6 +1,7 @@
 use Rattle.std.proofs.Common.{refl, ◌∙◌}
 use Rattle.calculus.specs.Schema.{schema_of}
 use Rattle.db_disk.proofs.Asking.{schema_answer, dba_alike}
+use Rattle.db_disk.proofs.Causes.{want_caused}
 use Rattle.db_disk.proofs.Knowing.{same_schema, still_known, there_open}
 use Rattle.db_disk.proofs.Reading.{still_there}
 use Rattle.db_disk.proofs.base.DbDisk.dba.Goals as goal
@@ -19,3 +20,6 @@ returns-clause-told g c = λ db is.
 
 pub returns-clause-fixed : goal.returns-clause-fixed
 returns-clause-fixed g c = still_there c.open.new.self.catalog c.dba.new.catalog c.dba.result (same_schema c.open.new.self.catalog c.dba.new.catalog c.dba.ensures.same) c.in_ok-open.ensures.there
+
+pub returns-clause-cause : goal.returns-clause-cause
+returns-clause-cause g c = want_caused _ _ _ c.dba.result c.open.ensures.cause.later c.dba.ensures.want

@@ -8,18 +8,18 @@ pub returns-clause-rows : goal.returns-clause-rows
 returns-clause-rows g c = λ db is. c.fill_open.ensures.rows db (c.open.ensures.kept ∙ is)
 
 pub returns-in_err-open-clause-again : goal.returns-in_err-open-clause-again
-returns-in_err-open-clause-again g c = λ is. rows_of_schema c.args.self.now.catalog c.args.key.now _ is (λ s known. c.open.ensures.still s known)
+returns-in_err-open-clause-again g c = λ is. rows_of_schema c.args.self.now.catalog c.args.key.now _ is (λ s known. ap g.D.Disk.reads (c.open.ensures.still s known))
 
 pub returns-clause-again : goal.returns-clause-again
 returns-clause-again g c = λ is.
-    rows_of_schema c.args.self.now.catalog c.args.key.now _ is (λ s known. c.fill_open.ensures.again (c.open.ensures.stay c.args.key.now is) ∙ c.open.ensures.still s known)
+    rows_of_schema c.args.self.now.catalog c.args.key.now _ is (λ s known. c.fill_open.ensures.again (c.open.ensures.stay c.args.key.now is) ∙ ap g.D.Disk.reads (c.open.ensures.still s known))
 
 pub returns-in_err-open-clause-reads : goal.returns-in_err-open-clause-reads
-returns-in_err-open-clause-reads g c = λ s known. rises_not _ _ _ (c.open.ensures.still s known)
+returns-in_err-open-clause-reads g c = λ s known. rises_not _ _ _ (ap g.D.Disk.reads (c.open.ensures.still s known))
 
 pub returns-clause-reads : goal.returns-clause-reads
 returns-clause-reads g c = λ s known.
-    rises_as _ _ _ _ (ap (λ (f : Files). f.used c.args.key.now) (sym c.fill_open.ensures.files)) (then_reads _ _ _ _ (c.open.ensures.still s known) c.fill_open.ensures.reads)
+    rises_as _ _ _ _ (ap (λ (f : Files). f.used c.args.key.now) (sym c.fill_open.ensures.files)) (then_reads _ _ _ _ (ap g.D.Disk.reads (c.open.ensures.still s known)) c.fill_open.ensures.reads)
 
 pub returns-in_err-open-clause-opening_reads : goal.returns-in_err-open-clause-opening_reads
 returns-in_err-open-clause-opening_reads g c = λ told all by. rises_less all _ _ _ (omega arith) (c.open.ensures.reads told all by)
@@ -27,3 +27,9 @@ returns-in_err-open-clause-opening_reads g c = λ told all by. rises_less all _ 
 pub returns-clause-opening_reads : goal.returns-clause-opening_reads
 returns-clause-opening_reads g c = λ told all by.
     rises_as _ _ _ _ (ap (λ (f : Files). all + f.used c.args.key.now) (sym c.fill_open.ensures.files)) (then_rises all _ _ _ _ (c.open.ensures.reads told all by) c.fill_open.ensures.reads)
+
+pub returns-in_err-open-clause-quiet : goal.returns-in_err-open-clause-quiet
+returns-in_err-open-clause-quiet g c = λ told s known. ap g.D.Disk.clock (c.open.ensures.still s known)
+
+pub returns-clause-quiet : goal.returns-clause-quiet
+returns-clause-quiet g c = λ told s known. (c.fill_open.ensures.only_reads told).clock_same ∙ ap g.D.Disk.clock (c.open.ensures.still s known)

@@ -1,5 +1,6 @@
 use Rattle.std.proofs.Common.{◌≡◌, refl, IfOk, sym, ◌∙◌, ◌+◌, ap}
 use Rattle.calculus.specs.Rows.{has}
+use Rattle.db_disk.proofs.Causes.{want_caused}
 use Rattle.db_disk.proofs.Knowing.{from_rows, still_known, there_is_open, same_schema}
 use Rattle.db_disk.proofs.Reading.{given_ok, same_files, same_rows, some_schema, still_there}
 use Rattle.catalog.proofs.Rises.{rises_as}
@@ -30,3 +31,6 @@ returns-clause-reads g c = λ s known.
 pub returns-clause-opening_reads : goal.returns-clause-opening_reads
 returns-clause-opening_reads g c = λ told all by.
     rises_as _ _ _ _ (ap (λ (f : Files). all + f.used c.args.key.now) (sym (same_files c.filled.new.self.catalog c.has_row.new.catalog c.has_row.ensures.same))) (c.filled.ensures.opening_reads told all by)
+
+pub returns-clause-cause : goal.returns-clause-cause
+returns-clause-cause g c = want_caused _ _ _ c.has_row.result c.filled.ensures.cause.later c.has_row.ensures.want

@@ -1,9 +1,11 @@
-use Rattle.std.proofs.Common.{refl, sym, subst, ◌∙◌, ◌+◌}
+use Rattle.std.proofs.Common.{refl, sym, subst, ap, ◌∙◌, ◌+◌}
 use Rattle.batch_store.specs.Running.{comes_of_itself, reads_of_itself}
 use Rattle.catalog.specs.declared.catalog.Catalog.{Catalog}
 use Rattle.db_disk.specs.Known.{IsKnown}
 use Rattle.db_disk.proofs.Causes.{as_unit, same_fault}
+use Rattle.batch_file.specs.Redone.{redone}
 use Rattle.db_disk.proofs.Fills.{loaded_known}
+use Rattle.db_disk.proofs.Holding.{told_same}
 use Rattle.db_disk.proofs.Ready.{file_caused, ready_holds, ready_pages, still_ready}
 use Rattle.db_disk.proofs.Reading.{none_there}
 use Rattle.catalog.proofs.Rises.{rises_not}
@@ -56,3 +58,15 @@ returns-in-Err-clause-reads g c = λ told all has. c.load.ensures.reads _ all (r
 
 pub returns-then-is_some-clause-reads : goal.returns-then-is_some-clause-reads
 returns-then-is_some-clause-reads g c = λ told all has. rises_not (all + 2) _ _ refl
+
+pub returns-in-Ok-clause-only_reads : goal.returns-in-Ok-clause-only_reads
+returns-in-Ok-clause-only_reads g c = λ told. (c.load.ensures.only_read c.args.self.now.store (reads_of_itself c.args.self.now.store)).reads told
+
+pub returns-in-Ok-clause-kept : goal.returns-in-Ok-clause-kept
+returns-in-Ok-clause-kept g c = told_same g.D.Disk.tells _ _ (λ told. ap redone ((c.load.ensures.only_read c.args.self.now.store (reads_of_itself c.args.self.now.store)).reads told).seen_same)
+
+pub returns-in-Err-clause-only_reads : goal.returns-in-Err-clause-only_reads
+returns-in-Err-clause-only_reads g c = λ told. (c.load.ensures.only_read c.args.self.now.store (reads_of_itself c.args.self.now.store)).reads told
+
+pub returns-in-Err-clause-kept : goal.returns-in-Err-clause-kept
+returns-in-Err-clause-kept g c = told_same g.D.Disk.tells _ _ (λ told. ap redone ((c.load.ensures.only_read c.args.self.now.store (reads_of_itself c.args.self.now.store)).reads told).seen_same)

@@ -2,6 +2,7 @@ use Rattle.std.proofs.Common.{refl, ◌∙◌}
 use Rattle.calculus.specs.Database.{rules_on}
 use Rattle.calculus.specs.Schema.{schema_of}
 use Rattle.db_disk.proofs.Asking.{schema_answer, rules_alike}
+use Rattle.db_disk.proofs.Causes.{want_caused}
 use Rattle.db_disk.proofs.Knowing.{same_schema, still_known, there_open}
 use Rattle.db_disk.proofs.Reading.{still_there}
 use Rattle.db_disk.proofs.base.DbDisk.rules.Goals as goal
@@ -20,3 +21,6 @@ returns-clause-told g c = λ db is.
 
 pub returns-clause-fixed : goal.returns-clause-fixed
 returns-clause-fixed g c = still_there c.open.new.self.catalog c.rules.new.catalog c.rules.result (same_schema c.open.new.self.catalog c.rules.new.catalog c.rules.ensures.same) c.in_ok-open.ensures.there
+
+pub returns-clause-cause : goal.returns-clause-cause
+returns-clause-cause g c = want_caused _ _ _ c.rules.result c.open.ensures.cause.later c.rules.ensures.want

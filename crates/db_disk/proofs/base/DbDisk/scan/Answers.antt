@@ -3,6 +3,7 @@ use Rattle.calculus.specs.Database.{Db}
 use Rattle.am_traits.specs.Scans.{Gives, IsOver}
 use Rattle.plain_base.specs.Places.{rows_before}
 use Rattle.db_disk.specs.Shown.{rows_left}
+use Rattle.db_disk.proofs.Causes.{want_caused}
 use Rattle.db_disk.proofs.Knowing.{from_rows, still_known, there_is_open, same_schema}
 use Rattle.db_disk.proofs.Reading.{given_ok, same_files, same_rows, some_schema, still_there}
 use Rattle.catalog.proofs.Rises.{rises_as}
@@ -48,3 +49,6 @@ pub returns-clause-fits : goal.returns-clause-fits
 returns-clause-fits g c = λ s known there.
     scan_fits c.filled.new.self.catalog s c.args.key.now c.args.probe.now c.args.at.now c.scan.new.at c.scan.result
     (sym (same_schema c.filled.new.self.catalog c.scan.new.catalog c.scan.ensures.same) ∙ known) c.scan.ensures.told there
+
+pub returns-clause-cause : goal.returns-clause-cause
+returns-clause-cause g c = want_caused _ _ _ c.scan.result c.filled.ensures.cause.later c.scan.ensures.want

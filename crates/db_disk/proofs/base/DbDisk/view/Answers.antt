@@ -2,6 +2,7 @@ use Rattle.std.proofs.Common.{refl, ◌∙◌}
 use Rattle.calculus.specs.Schema.{schema_of}
 use Rattle.am_traits.specs.Told.{query_at}
 use Rattle.db_disk.proofs.Asking.{schema_answer, view_alike}
+use Rattle.db_disk.proofs.Causes.{want_caused}
 use Rattle.db_disk.proofs.Knowing.{same_schema, still_known, there_open}
 use Rattle.db_disk.proofs.Reading.{still_there}
 use Rattle.db_disk.proofs.base.DbDisk.view.Goals as goal
@@ -20,3 +21,6 @@ returns-clause-told g c = λ db is.
 
 pub returns-clause-fixed : goal.returns-clause-fixed
 returns-clause-fixed g c = still_there c.open.new.self.catalog c.view.new.catalog c.view.result (same_schema c.open.new.self.catalog c.view.new.catalog c.view.ensures.same) c.in_ok-open.ensures.there
+
+pub returns-clause-cause : goal.returns-clause-cause
+returns-clause-cause g c = want_caused _ _ _ c.view.result c.open.ensures.cause.later c.view.ensures.want

@@ -1,0 +1,14 @@
+-- Why a call may answer a fault that comes of a call in it.
+use Rattle.std.proofs.Common.{◌≤◌, arith, ℕ, Option}
+use Rattle.std.specs.Prelude.{Result, Ok, Err}
+use Rattle.access_traits.specs.Causes.{HasFileCause, IsAtFault}
+use Rattle.am_traits.specs.declared.fault.BaseFault.{BaseFault}
+use Rattle.disk_model.specs.Disk.{Image}
+use Rattle.disk_model.specs.declared.disk.Addr.{Addr}
+use Rattle.page_chain.proofs.Carried.{cause_earlier}
+
+-- the answer is that of the last call, which has its cause
+pub cause_on : {T : Type 0} (old mid : Option Image) (P Q : Image → Addr → Type 0) (before between now : ℕ) (result : Result T BaseFault) → before ≤ between
+    → ((a : Addr) → IsAtFault mid P a → IsAtFault old Q a) → HasFileCause mid P between now result → HasFileCause old Q before now result
+cause_on old mid P Q before between now (Ok x) le turn its = record { later = omega (arith, le, its.later); caused = tt }
+cause_on {T} old mid P Q before between now (Err fault) le turn its = cause_earlier {T = T} {U = T} old mid P Q before between now fault le turn its
