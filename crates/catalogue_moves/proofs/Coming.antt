@@ -145,3 +145,9 @@ pub more_of : {X D : Type 0} (g : D → X → List (List ℕ)) (xs ds : List X) 
     → Came a b (flat_map (g s) (take i xs)) → Came b c (g t x) → Came a c (flat_map (g s) (take (i + 1) xs))
 more_of g xs ds e i x within is a b c s t same before one =
     rows_more (g s) xs i x (subst (λ l. i < length l) e within) (subst (λ l. x ≡ get_or l i x) e is) a b c before (subst (λ s. Came b c (g s x)) same one)
+
+-- one more of those whose parts come
+pub parts_of : {X D : Type 0} (g : D → X → List Part) (xs ds : List X) → ds ≡ xs → (i : ℕ) (x : X) → i < length ds → x ≡ get_or ds i x → (a b c : List (List ℕ)) (s t : D) → t ≡ s
+    → CameParts a b (flat_map (g s) (take i xs)) → CameParts b c (g t x) → CameParts a c (flat_map (g s) (take (i + 1) xs))
+parts_of g xs ds e i x within is a b c s t same before one =
+    flat_more (g s) xs i x (subst (λ l. i < length l) e within) (subst (λ l. x ≡ get_or l i x) e is) a b c before (subst (λ s. CameParts b c (g s x)) same one)

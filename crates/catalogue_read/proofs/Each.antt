@@ -1,5 +1,5 @@
 -- Lists of which each item is read, one by one.
-use Rattle.std.proofs.Common.{◌≡◌, refl, sym, ap, ◌∙◌, ℕ, ◌+◌, ◌<◌, ◌≤◌, List, [], ◌∷◌, ◌++◌, length, drop, get_or, Option, Some, None, option_map, append_assoc, add-one}
+use Rattle.std.proofs.Common.{◌≡◌, refl, sym, ap, ◌∙◌, ℕ, ◌+◌, ◌<◌, ◌≤◌, Bool, true, false, cond, List, [], ◌∷◌, ◌++◌, length, drop, filter, get_or, Option, Some, None, option_map, append_assoc, add-one}
 use Rattle.std.proofs.Math.Seq.{drop-cons}
 use Rattle.std.proofs.lemmas.List.{append-nil, drop_all}
 use Rattle.page_chain.specs.Lists.{◌>>=◌, each}
@@ -41,3 +41,23 @@ module _ {X A : Type 0} (f : X → Option A) where
   -- all were read
   pub each_done : (done : List A) (xs : List X) (i : ℕ) (all : Option (List A)) → length xs ≤ i → in_front done (each f (drop i xs)) ≡ all → Some done ≡ all
   each_done done xs i all end inv = ap Some (sym (append-nil done)) ∙ ap (λ l. in_front done (each f l)) (sym (drop_all i xs end)) ∙ inv
+
+  -- the item at a place is picked and read
+  pub pick_next : (p : X → Bool) (done : List A) (xs : List X) (i : ℕ) (x : X) (a : A) (all : Option (List A)) → i < length xs → x ≡ get_or xs i x → p x ≡ true → Some a ≡ f x
+      → in_front done (each f (filter p (drop i xs))) ≡ all → in_front (done ++ a ∷ []) (each f (filter p (drop (i + 1) xs))) ≡ all
+  pick_next p done xs i x a all low is picked read inv =
+      let rest = filter p (drop (i + 1) xs) in
+      sym (one_more done a (each f rest))
+      ∙ ap (λ (o : Option A). in_front done (o >>= (λ y. option_map (λ ys. y ∷ ys) (each f rest)))) read
+      ∙ ap (λ (b : Bool). in_front done (each f (cond b (x ∷ rest) rest))) (sym picked)
+      ∙ ap (λ l. in_front done (each f (filter p l))) (sym (dropped xs i x low is))
+      ∙ inv
+
+  -- the item at a place isn't picked
+  pub pick_not : (p : X → Bool) (done : List A) (xs : List X) (i : ℕ) (x : X) (all : Option (List A)) → i < length xs → x ≡ get_or xs i x → p x ≡ false
+      → in_front done (each f (filter p (drop i xs))) ≡ all → in_front done (each f (filter p (drop (i + 1) xs))) ≡ all
+  pick_not p done xs i x all low is passed inv =
+      let rest = filter p (drop (i + 1) xs) in
+      ap (λ (b : Bool). in_front done (each f (cond b (x ∷ rest) rest))) (sym passed)
+      ∙ ap (λ l. in_front done (each f (filter p l))) (sym (dropped xs i x low is))
+      ∙ inv

@@ -1,7 +1,9 @@
-use Rattle.std.proofs.Common.{◌∙◌, sym, ap, subst, true≢false, arith}
+use Rattle.std.proofs.Common.{All, IsTrue, ◌∙◌, sym, ap, subst, true≢false, arith}
 use Rattle.access_traits.specs.Pages.{KeepsOthers}
 use Rattle.access_traits.specs.Placed.{SameButUsed}
 use Rattle.calculus.specs.Replacement.{with_rows, without_rows}
+use Rattle.access_traits.specs.declared.file.RelFile.{RelFile}
+use Rattle.page_cells.specs.RowBytes.{is_row}
 use Rattle.heap_am.specs.Heap.{heap_rows, HeapFault}
 use Rattle.page_chain.proofs.Carried.{cause_carried}
 use Rattle.relation_rows.specs.Sets.{HasNoneOf, HasSet}
@@ -44,3 +46,21 @@ pub returns-clause-others : goal.returns-clause-others
 returns-clause-others g c =
     subst (λ file. KeepsOthers file (g.S.PageStore.pages c.args.store.now) (g.S.PageStore.pages c.replace_near.new.store)) (ap (λ file. file.file) c.open_method-method.ensures)
     (subst (λ told. KeepsOthers c.open_method-method.result.heap.file.file told (g.S.PageStore.pages c.replace_near.new.store)) c.in_ok-near.ensures.same c.in_ok-replace_near.ensures.others)
+
+pub replace_near-requires-clause-going : goal.replace_near-requires-clause-going
+replace_near-requires-clause-going g c = subst (λ (file : RelFile). All (λ row. IsTrue (is_row row file.domains)) c.args.remove.now) (sym c.open_method-method.ensures) c.requires.going
+
+pub replace_near-requires-clause-coming : goal.replace_near-requires-clause-coming
+replace_near-requires-clause-coming g c = subst (λ (file : RelFile). All (λ row. IsTrue (is_row row file.domains)) c.args.add.now) (sym c.open_method-method.ensures) c.requires.coming
+
+pub returns-in_err-replace_near-clause-came : goal.returns-in_err-replace_near-clause-came
+returns-in_err-replace_near-clause-came g c = λ s h. c.replace_near.ensures.came s (c.pages_near.ensures.came s h)
+
+pub returns-then-not-branch-clause-came : goal.returns-then-not-branch-clause-came
+returns-then-not-branch-clause-came g c = λ s h. c.replace_near.ensures.came s (c.pages_near.ensures.came s h)
+
+pub returns-in_err-note-clause-came : goal.returns-in_err-note-clause-came
+returns-in_err-note-clause-came g c = λ s h. c.replace_near.ensures.came s (c.pages_near.ensures.came s h)
+
+pub returns-clause-came : goal.returns-clause-came
+returns-clause-came g c = λ s h. c.replace_near.ensures.came s (c.pages_near.ensures.came s h)

@@ -1,9 +1,9 @@
-use Rattle.std.proofs.Common.{subst, arith}
+use Rattle.std.proofs.Common.{ap, subst, arith, ◌∙◌}
 use Rattle.access_traits.specs.Causes.{HasFileCause}
-use Rattle.heap_am.specs.Heap.{HeapFault}
+use Rattle.heap_am.specs.Heap.{HeapFault, heap_rows}
 use Rattle.heap_am.proofs.Faults.{cause_later}
 use Rattle.heap_am.proofs.Outcomes.{handed_on}
-use Rattle.relation_rows.proofs.Pages.{is_read}
+use Rattle.relation_rows.proofs.Pages.{is_read, one_stands}
 use Rattle.relation_rows.proofs.reading.relation_rows.Goals as goal
 
 pub returns-in_err-read_page-clause-cause : goal.returns-in_err-read_page-clause-cause
@@ -15,3 +15,17 @@ returns-in_err-read_page-clause-cause g c =
 pub returns-clause-exact : goal.returns-clause-exact
 returns-clause-exact g c m t =
     is_read c.args.file m c.pages.number c.pages.rows.items c.of.result c.requires.pages (omega arith) c.of.ensures (λ placed e. c.pages.invariant.told m placed t e) (c.pages.invariant.stand m t)
+
+pub pages-preserved : goal.pages-preserved
+pages-preserved g c =
+    let so_far = c.pages.invariant in
+    let opened = c.open_method-method.ensures in
+    record {
+      told = λ m placed t e. so_far.told m placed t e ∙ c.in_ok-read_page.ensures.told m placed (so_far.same ∙ t) (ap (λ file. heap_rows file m) opened ∙ e);
+      stand = λ m t. one_stands c.args.file c.open_method-method.result.heap.file m c.pages.number opened (so_far.stand m t) (c.in_ok-read_page.ensures.stands m (so_far.same ∙ t));
+      same = c.read_page.ensures.same ∙ so_far.same;
+      reads = (let one = c.read_page.ensures.reads in record { later = omega (arith, so_far.reads.later, one.later); at_most = omega (arith, so_far.reads.at_most, one.at_most) });
+      came = λ s h. c.read_page.ensures.came s (so_far.came s h);
+      only_read = λ s h. c.read_page.ensures.only_read s (so_far.only_read s h);
+      faults = omega (arith, so_far.faults, c.read_page.ensures.cause.later);
+    }

@@ -2,7 +2,6 @@ use Rattle.std.proofs.Common.{◌∙◌, not, sym, ap, subst}
 use Rattle.std.specs.List.Sorted.{IsStrictlySortedBy}
 use Rattle.std.proofs.lemmas.List.Kept.{IsStrictlySortedBy-filter}
 use Rattle.std.proofs.lemmas.Map.Views.{any-filter_same}
-use Rattle.calculus.specs.declared.query.RelKey.{RelKey}
 use Rattle.calculus.specs.Keys.{has_key, key_cmp, same_key}
 use Rattle.stored_database.proofs.Orders.{same_key_is}
 use Rattle.catalogue_moves.specs.Files.{is_in}
