@@ -61,3 +61,13 @@ module _ {X A : Type 0} (f : X → Option A) where
       ap (λ (b : Bool). in_front done (each f (cond b (x ∷ rest) rest))) (sym passed)
       ∙ ap (λ l. in_front done (each f (filter p l))) (sym (dropped xs i x low is))
       ∙ inv
+
+  -- the item at a place is picked and can't be read
+  pub pick_fails : (p : X → Bool) (done : List A) (xs : List X) (i : ℕ) (x : X) (all : Option (List A)) → i < length xs → x ≡ get_or xs i x → p x ≡ true → None ≡ f x
+      → in_front done (each f (filter p (drop i xs))) ≡ all → None ≡ all
+  pick_fails p done xs i x all low is picked read inv =
+      let rest = filter p (drop (i + 1) xs) in
+      ap (λ (o : Option A). in_front done (o >>= (λ y. option_map (λ ys. y ∷ ys) (each f rest)))) read
+      ∙ ap (λ (b : Bool). in_front done (each f (cond b (x ∷ rest) rest))) (sym picked)
+      ∙ ap (λ l. in_front done (each f (filter p l))) (sym (dropped xs i x low is))
+      ∙ inv

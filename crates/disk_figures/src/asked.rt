@@ -4,7 +4,7 @@
 const MOST: u32 = 40_000_000;
 
 /// What one change does.
-#[derive(Clone, Copy, Debug, PartialEq, Eq)]
+#[derive(Clone, Copy)]
 pub enum Work {
     /// One row comes.
     Append,
@@ -17,7 +17,7 @@ pub enum Work {
 }
 
 /// What is asked for.
-#[derive(Clone, Copy, Debug, PartialEq, Eq)]
+#[derive(Clone, Copy)]
 pub struct Asked<'a> {
     /// The folder of the database.
     pub folder: &'a str,
@@ -53,7 +53,7 @@ fn asked_in<'a>(folder: &'a str, rows: &str, work: &str, times: &str) -> Option<
     let rows = number_of(rows)?;
     let work = work_of(work)?;
     let times = number_of(times)?;
-    if rows == 0 || folder.is_empty() || (work == Work::Delete && times > rows) {
+    if rows == 0 || folder.is_empty() || (matches!(work, Work::Delete) && times > rows) {
         return None;
     }
     Some(Asked {

@@ -3,6 +3,7 @@
 use crate::asked::{Asked, Work};
 use crate::fault::Fault;
 use calculus::{Attr, DbChange, Domain, Kind, List, Name, RelInfo, RelKey, Row, Spec, Text, Value};
+use memory::both;
 use std::alloc::Global;
 
 /// How far the rows lie apart that are changed one behind the other: a prime number.
@@ -23,32 +24,41 @@ pub fn administrator(alloc: Global) -> Result<Name, Fault> {
 
 /// The key of the relation.
 pub fn key(alloc: Global) -> Result<RelKey, Fault> {
-    let owner = administrator(alloc)?;
-    let name = named(alloc, b"big")?;
+    let (owner, name) = both(administrator(alloc), named(alloc, b"big"))?;
     Ok(RelKey { owner, name })
 }
 
-/// An attribute.
-fn attr(alloc: Global, name: &[u8], domain: Domain) -> Result<Attr, Fault> {
-    Ok(Attr {
+/// Puts an attribute behind the others.
+fn put_attr(
+    attrs: &mut Vec<Attr>,
+    alloc: Global,
+    name: &[u8],
+    domain: Domain,
+) -> Result<(), Fault> {
+    attrs.push(Attr {
         name: named(alloc, name)?,
         kind: Kind::Of(domain),
-    })
+    })?;
+    Ok(())
 }
 
-/// The attributes: a key, a number and a text.
+/// Puts the attributes: a key, a number and a text.
+fn put_attrs(attrs: &mut Vec<Attr>, alloc: Global) -> Result<(), Fault> {
+    put_attr(attrs, alloc, b"k", Domain::I4)?;
+    put_attr(attrs, alloc, b"n", Domain::I4)?;
+    put_attr(attrs, alloc, b"t", Domain::C(20))
+}
+
+/// The attributes.
 fn attrs(alloc: Global) -> Result<List<Attr>, Fault> {
     let mut attrs = Vec::new(alloc);
-    attrs.push(attr(alloc, b"k", Domain::I4)?)?;
-    attrs.push(attr(alloc, b"n", Domain::I4)?)?;
-    attrs.push(attr(alloc, b"t", Domain::C(20))?)?;
+    put_attrs(&mut attrs, alloc)?;
     Ok(List::of(attrs))
 }
 
 /// What the relation is.
 fn info(alloc: Global) -> Result<RelInfo, Fault> {
-    let key = key(alloc)?;
-    let attrs = attrs(alloc)?;
+    let (key, attrs) = both(key(alloc), attrs(alloc))?;
     Ok(RelInfo {
         key,
         spec: Spec::Heap,
@@ -66,12 +76,18 @@ fn text(alloc: Global, key: u32) -> Result<Text, Fault> {
     }
 }
 
-/// The row with this key and this number.
-fn row(alloc: Global, key: u32, number: u32) -> Result<Row, Fault> {
-    let mut values = Vec::with_capacity(alloc, 3)?;
+/// Puts the values of the row with this key and this number.
+fn put_values(values: &mut Vec<Value>, alloc: Global, key: u32, number: u32) -> Result<(), Fault> {
     values.push(Value::Int(i64::from(key)))?;
     values.push(Value::Int(i64::from(number)))?;
     values.push(Value::Text(text(alloc, key)?))?;
+    Ok(())
+}
+
+/// The row with this key and this number.
+fn row(alloc: Global, key: u32, number: u32) -> Result<Row, Fault> {
+    let mut values = Vec::with_capacity(alloc, 3)?;
+    put_values(&mut values, alloc, key, number)?;
     Ok(Row::of(values))
 }
 
@@ -80,26 +96,37 @@ fn none(alloc: Global) -> List<Row> {
     List::of(Vec::new(alloc))
 }
 
+/// Puts a row behind the others.
+fn put_row(rows: &mut Vec<Row>, alloc: Global, key: u32, number: u32) -> Result<(), Fault> {
+    rows.push(row(alloc, key, number)?)?;
+    Ok(())
+}
+
 /// The list of this row.
 fn one(alloc: Global, key: u32, number: u32) -> Result<List<Row>, Fault> {
     let mut rows = Vec::new(alloc);
-    rows.push(row(alloc, key, number)?)?;
+    put_row(&mut rows, alloc, key, number)?;
     Ok(List::of(rows))
+}
+
+/// Puts the rows with the keys below a count, all with this number.
+fn put_rows(rows: &mut Vec<Row>, alloc: Global, count: u32, number: u32) -> Result<(), Fault> {
+    for key in 0..count {
+        put_row(rows, alloc, key, number)?;
+    }
+    Ok(())
 }
 
 /// The rows with the keys below a count, all with this number.
 fn all(alloc: Global, count: u32, number: u32) -> Result<List<Row>, Fault> {
     let mut rows = Vec::with_capacity(alloc, count as usize)?;
-    for key in 0..count {
-        rows.push(row(alloc, key, number)?)?;
-    }
+    put_rows(&mut rows, alloc, count, number)?;
     Ok(List::of(rows))
 }
 
 /// The relation is made, with so many rows.
 pub fn creation(alloc: Global, count: u32) -> Result<DbChange, Fault> {
-    let info = info(alloc)?;
-    let rows = all(alloc, count, 0)?;
+    let (info, rows) = both(info(alloc), all(alloc, count, 0))?;
     Ok(DbChange::Create { info, rows })
 }
 
@@ -140,8 +167,7 @@ fn added(alloc: Global, asked: Asked<'_>, turn: u32) -> Result<List<Row>, Fault>
 
 /// The change of this turn, counted from 0.
 pub fn change(alloc: Global, asked: Asked<'_>, turn: u32) -> Result<DbChange, Fault> {
-    let rel = key(alloc)?;
-    let remove = removed(alloc, asked, turn)?;
-    let add = added(alloc, asked, turn)?;
+    let rows = both(removed(alloc, asked, turn), added(alloc, asked, turn));
+    let (rel, (remove, add)) = both(key(alloc), rows)?;
     Ok(DbChange::Rows { rel, remove, add })
 }

@@ -26,14 +26,27 @@ fn lay(alloc: Global, base: &mut InFolder<'_>, change: &DbChange) -> Result<(), 
     Ok(())
 }
 
+/// Makes the database on a disk.
+fn born(alloc: Global, disk: &mut FolderDisk<'_, HostRuntime>) -> Result<(), Fault> {
+    let dba = administrator(alloc)?;
+    create_db(disk, &dba)?;
+    Ok(())
+}
+
+/// Makes the relation; what was counted then.
+fn filled(alloc: Global, base: &mut InFolder<'_>, rows: u32) -> Result<Counts, Fault> {
+    let change = creation(alloc, rows)?;
+    lay(alloc, base, &change)?;
+    Ok(base.disk().counts())
+}
+
 /// Makes the database with its relation; what that took.
 fn made(rt: &HostRuntime, asked: Asked<'_>) -> Result<Counts, Fault> {
-    let alloc = rt.alloc();
-    let mut disk = FolderDisk::new(rt, alloc, asked.folder)?;
-    create_db(&mut disk, &administrator(alloc)?)?;
-    let mut base = DbDisk::later(alloc, disk);
-    lay(alloc, &mut base, &creation(alloc, asked.rows)?)?;
-    Ok(base.disk().counts())
+    let mut disk = FolderDisk::new(rt, rt.alloc(), asked.folder)?;
+    match born(rt.alloc(), &mut disk) {
+        Ok(()) => filled(rt.alloc(), &mut DbDisk::later(rt.alloc(), disk), asked.rows),
+        Err(fault) => Err(fault),
+    }
 }
 
 /// Opens the database.
@@ -70,21 +83,35 @@ fn changed(alloc: Global, base: &mut InFolder<'_>, asked: Asked<'_>) -> Result<T
     Ok(Taken { all, first })
 }
 
-/// Opens the database, and changes it; what that took is printed.
-fn print_work(rt: &HostRuntime, asked: Asked<'_>) -> Result<(), Fault> {
-    let mut base = opened(rt, asked.folder)?;
+/// Changes the database; what opening and changing it took is printed.
+fn print_changed(rt: &HostRuntime, base: &mut InFolder<'_>, asked: Asked<'_>) -> Result<(), Fault> {
     print_counts(rt, "opening", base.disk().counts())?;
-    let taken = changed(rt.alloc(), &mut base, asked)?;
+    let taken = changed(rt.alloc(), base, asked)?;
     print_changes(rt, taken.all, taken.first, asked.times)?;
     Ok(())
 }
 
+/// Opens the database, and changes it; what that took is printed.
+fn print_work(rt: &HostRuntime, asked: Asked<'_>) -> Result<(), Fault> {
+    match opened(rt, asked.folder) {
+        Ok(mut base) => print_changed(rt, &mut base, asked),
+        Err(fault) => Err(fault),
+    }
+}
+
+/// How many rows the relation has.
+fn size_of(alloc: Global, base: &mut InFolder<'_>) -> Result<u32, Fault> {
+    let key = key(alloc)?;
+    let count = base.size(alloc, &key)?;
+    Ok(count)
+}
+
 /// How many rows there are in the end.
 fn rows_left(rt: &HostRuntime, asked: Asked<'_>) -> Result<u32, Fault> {
-    let key = key(rt.alloc())?;
-    let mut base = opened(rt, asked.folder)?;
-    let count = base.size(rt.alloc(), &key)?;
-    Ok(count)
+    match opened(rt, asked.folder) {
+        Ok(mut base) => size_of(rt.alloc(), &mut base),
+        Err(fault) => Err(fault),
+    }
 }
 
 /// Makes the database, opens and changes it, and prints what each takes.

@@ -100,10 +100,7 @@ where
 
     /// Writes a page. Makes the file, and the folder, where they aren't there.
     pub(crate) fn write(&mut self, a: Addr, page: &Page) -> io::Result<()> {
-        self.unsynced.insert(a.file)?;
-        if !self.find(a.file)? {
-            self.make(a.file)?;
-        }
+        self.ready(a.file)?;
         match self.open.get(&a.file) {
             Some(file) => write_page(file, a.page, page),
             None => Err(ErrorKind::NotFound.into()),
@@ -163,8 +160,7 @@ where
         if self.open.contains_key(&number) {
             return Ok(true);
         }
-        let path = self.path_of(number)?;
-        match open_file(self.files, path.as_path()) {
+        match self.opened(number) {
             Ok(file) => {
                 self.keep(number, file)?;
                 Ok(true)
@@ -177,12 +173,32 @@ where
     /// Makes a file, and the folder where it isn't there.
     fn make(&mut self, number: u32) -> io::Result<()> {
         self.has_new_names = true;
-        let path = self.path_of(number)?;
         if !fs::exists(self.files, self.path.as_path())? {
             make_folder(self.files, self.path.as_path())?;
         }
-        let file = make_file(self.files, path.as_path())?;
+        let file = self.made(number)?;
         self.keep(number, file)
+    }
+
+    /// Opens a file that is to be written. Makes it, and the folder, where they aren't there.
+    fn ready(&mut self, number: u32) -> io::Result<()> {
+        self.unsynced.insert(number)?;
+        if self.find(number)? {
+            return Ok(());
+        }
+        self.make(number)
+    }
+
+    /// A file that is there, opened.
+    fn opened(&self, number: u32) -> io::Result<R::File> {
+        let path = self.path_of(number)?;
+        open_file(self.files, path.as_path())
+    }
+
+    /// A file that isn't there, made.
+    fn made(&self, number: u32) -> io::Result<R::File> {
+        let path = self.path_of(number)?;
+        make_file(self.files, path.as_path())
     }
 
     /// Keeps an open file. Where as many are open as may be, they are closed before.

@@ -11,3 +11,6 @@ returns-clause-written g c m cat is ends there bases prepared =
     let places = c.in_ok-rows.ensures.places in
     c.write_moves.ensures.written m cat (going_of c.args.change.now files given.file given.used db) (coming_of c.args.change.now files given.file given.used db) is ends there (prepared.changes places) (prepared.stands places)
     (c.in_ok-rows.ensures.moves bases)
+
+pub returns-clause-came : goal.returns-clause-came
+returns-clause-came g c = c.write_moves.ensures.came

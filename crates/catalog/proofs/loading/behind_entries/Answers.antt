@@ -28,3 +28,30 @@ returns-in_err-parts-clause-reads g c m columns parts told has_columns has_parts
 pub returns-clause-reads : goal.returns-clause-reads
 returns-clause-reads g c m columns parts told has_columns has_parts =
     then_rises (length columns) (length parts) _ _ _ (c.rows_in.ensures.reads m columns told has_columns) (c.rows_in-2.ensures.reads m parts (c.in_ok-columns.ensures.same ∙ told) has_parts)
+
+pub returns-clause-came : goal.returns-clause-came
+returns-clause-came g c = λ s came. c.rows_in-2.ensures.came s (c.rows_in.ensures.came s came)
+
+pub returns-in_err-columns-clause-came : goal.returns-in_err-columns-clause-came
+returns-in_err-columns-clause-came g c = c.rows_in.ensures.came
+
+pub returns-in_err-parts-clause-came : goal.returns-in_err-parts-clause-came
+returns-in_err-parts-clause-came g c = λ s came. c.rows_in-2.ensures.came s (c.rows_in.ensures.came s came)
+
+pub returns-clause-only_read : goal.returns-clause-only_read
+returns-clause-only_read g c = λ s read. c.rows_in-2.ensures.only_read s (c.rows_in.ensures.only_read s read)
+
+pub returns-in_err-columns-clause-only_read : goal.returns-in_err-columns-clause-only_read
+returns-in_err-columns-clause-only_read g c = c.rows_in.ensures.only_read
+
+pub returns-in_err-parts-clause-only_read : goal.returns-in_err-parts-clause-only_read
+returns-in_err-parts-clause-only_read g c = λ s read. c.rows_in-2.ensures.only_read s (c.rows_in.ensures.only_read s read)
+
+pub returns-clause-same : goal.returns-clause-same
+returns-clause-same g c = c.rows_in-2.ensures.same ∙ c.rows_in.ensures.same
+
+pub returns-in_err-columns-clause-same : goal.returns-in_err-columns-clause-same
+returns-in_err-columns-clause-same g c = c.rows_in.ensures.same
+
+pub returns-in_err-parts-clause-same : goal.returns-in_err-parts-clause-same
+returns-in_err-parts-clause-same g c = c.rows_in-2.ensures.same ∙ c.rows_in.ensures.same

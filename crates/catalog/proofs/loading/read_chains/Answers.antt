@@ -20,3 +20,21 @@ returns-clause-reads g c m all told has =
     rises_as _ all _ _ has.in_all
     (then_rises (length has.entries) (length has.columns + length has.parts) _ _ _ (c.rows_in.ensures.reads m has.entries told has.has_entries)
     (c.behind_entries.ensures.reads m has.columns has.parts (c.in_ok-entries.ensures.same ∙ told) has.has_columns has.has_parts))
+
+pub returns-clause-came : goal.returns-clause-came
+returns-clause-came g c = λ s came. c.behind_entries.ensures.came s (c.rows_in.ensures.came s came)
+
+pub returns-in_err-entries-clause-came : goal.returns-in_err-entries-clause-came
+returns-in_err-entries-clause-came g c = c.rows_in.ensures.came
+
+pub returns-clause-only_read : goal.returns-clause-only_read
+returns-clause-only_read g c = λ s read. c.behind_entries.ensures.only_read s (c.rows_in.ensures.only_read s read)
+
+pub returns-in_err-entries-clause-only_read : goal.returns-in_err-entries-clause-only_read
+returns-in_err-entries-clause-only_read g c = c.rows_in.ensures.only_read
+
+pub returns-clause-same : goal.returns-clause-same
+returns-clause-same g c = c.behind_entries.ensures.same ∙ c.rows_in.ensures.same
+
+pub returns-in_err-entries-clause-same : goal.returns-in_err-entries-clause-same
+returns-in_err-entries-clause-same g c = c.rows_in.ensures.same

@@ -57,3 +57,9 @@ returns-clause-made g c m db is may =
     c.in_ok-used.ensures.others (λ rows. c.in_ok-used.ensures.changed m rows is) in
     subst (λ n. HasMade made db f n c.place_with.result.used m new) (sym c.place_with.ensures.file)
     (subst (λ n. HasMade made db f c.in-Some.file.file n m new) (sym c.place_with.ensures.used) done)
+
+pub returns-clause-came : goal.returns-clause-came
+returns-clause-came g c = c.change_rows.ensures.came
+
+pub returns-in_err-used-clause-came : goal.returns-in_err-used-clause-came
+returns-in_err-used-clause-came g c = c.change_rows.ensures.came

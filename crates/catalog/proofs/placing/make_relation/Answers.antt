@@ -35,3 +35,9 @@ returns-clause-made g c m db is may =
     (c.in_ok-file.ensures.there c.in-Some.file c.in-Some.is) is c.in_ok-used.ensures.some c.place_with.ensures.few c.in_ok-used.ensures.others (c.in_ok-used.ensures.built m is its.differ) in
     subst (λ n. HasMade made db f n c.place_with.result.used m new) (sym c.place_with.ensures.file)
     (subst (λ n. HasMade made db f c.in_ok-number.number n m new) (sym c.place_with.ensures.used) done)
+
+pub returns-clause-came : goal.returns-clause-came
+returns-clause-came g c = c.build_rows.ensures.came
+
+pub returns-in_err-used-clause-came : goal.returns-in_err-used-clause-came
+returns-in_err-used-clause-came g c = c.build_rows.ensures.came

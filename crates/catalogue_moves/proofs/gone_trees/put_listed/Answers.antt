@@ -8,3 +8,6 @@ pub returns-clause-came : goal.returns-clause-came
 returns-clause-came c =
     subst (λ (b : Bool). OnOk c.put_trees.result (CameParts c.args.rows.now.items c.put_trees.new.rows.items (cond b (tree_parts c.args.sort (database_of c.args.plain.now) c.args.place.now) [])))
     (sym (sym (c.requires.listed c.args.place.now.key) ∙ sym c.has.ensures ∙ c.if-not-has.false)) c.put_trees.ensures.came
+
+pub returns-clause-same : goal.returns-clause-same
+returns-clause-same c = c.put_trees.ensures.same

@@ -55,3 +55,15 @@ returns-clause-written g c m cat going coming is ends holds changes stands are =
       columns_behind = c.in_ok-columns.ensures.behind;
       parts_behind = c.in_ok-parts.ensures.behind;
     }) ends holds changes stands are
+
+pub returns-in_err-columns-clause-came : goal.returns-in_err-columns-clause-came
+returns-in_err-columns-clause-came g c = λ s came. c.write_file-2.ensures.came s (c.write_file.ensures.came s came)
+
+pub returns-in_err-parts-clause-came : goal.returns-in_err-parts-clause-came
+returns-in_err-parts-clause-came g c = λ s came. c.write_file-3.ensures.came s (c.write_file-2.ensures.came s (c.write_file.ensures.came s came))
+
+pub returns-clause-came : goal.returns-clause-came
+returns-clause-came g c = λ s came. c.write_file-3.ensures.came s (c.write_file-2.ensures.came s (c.write_file.ensures.came s came))
+
+pub returns-in_err-entries-clause-came : goal.returns-in_err-entries-clause-came
+returns-in_err-entries-clause-came g c = c.write_file.ensures.came

@@ -2,7 +2,7 @@ use Rattle.std.proofs.Common.{◌≡◌, ap, drop, filter, map, option_map, subs
 use Rattle.std.proofs.lemmas.List.{map-append}
 use Rattle.page_chain.specs.Lists.{each}
 use Rattle.catalogue_read.specs.Read.{catalogue_shown}
-use Rattle.catalogue_read.proofs.Each.{in_front, pick_next, pick_not}
+use Rattle.catalogue_read.proofs.Each.{in_front, pick_fails, pick_next, pick_not}
 use Rattle.catalogue_read.proofs.made.all_made.Goals as goal
 use Rattle.catalogue_read.proofs.made.all_made.Goals.{then-picks+in-Ok-Some+in_ok-push-in-Ok-Some, else-picks}
 
@@ -25,3 +25,9 @@ loop-item-preserved g c =
           (pick_not make picks (map shown c.loop-item.made.items) c.args.items.now c.loop-item.item-index c.item-item.result _ c.loop-item-test.true c.item-item.is
           (sym c.picks.ensures ∙ w.if-picks.false) c.loop-item.invariant)
     ]
+
+pub returns-in-Ok-None : goal.returns-in-Ok-None
+returns-in-Ok-None g c =
+    let shown = g.T.Made.shown in
+    pick_fails (g.T.Made.make (catalogue_shown c.args.rows.now)) g.T.Made.picks (map shown c.loop-item.made.items) c.args.items.now c.loop-item.item-index c.item-item.result _ c.loop-item-test.true c.item-item.is
+    (sym c.picks.ensures ∙ c.if-picks.true) (ap (option_map shown) (sym c.in-Ok-None.field-0-is) ∙ c.in-Ok-None.ensures) c.loop-item.invariant

@@ -34,3 +34,30 @@ returns-in-Of-clause-lies g c = λ m is.
 pub returns-in-Of-clause-reads : goal.returns-in-Of-clause-reads
 returns-in-Of-clause-reads g c = λ m all is has.
     rises_less (2 + all) (all + 2) _ _ (omega arith) (then_rises 2 all _ _ _ c.read_head.ensures.reads (c.load_for.ensures.reads m all (c.read_head.ensures.same ∙ is) has))
+
+pub returns-in-Of-clause-came : goal.returns-in-Of-clause-came
+returns-in-Of-clause-came g c = λ s came. c.load_for.ensures.came s (c.read_head.ensures.came s came)
+
+pub returns-in-Of-clause-only_read : goal.returns-in-Of-clause-only_read
+returns-in-Of-clause-only_read g c = λ s read. c.load_for.ensures.only_read s (c.read_head.ensures.only_read s read)
+
+pub returns-in-Of-clause-same : goal.returns-in-Of-clause-same
+returns-in-Of-clause-same g c = c.load_for.ensures.same ∙ c.read_head.ensures.same
+
+pub returns-in-NoHeader-clause-came : goal.returns-in-NoHeader-clause-came
+returns-in-NoHeader-clause-came g c = c.read_head.ensures.came
+
+pub returns-in-NoHeader-clause-only_read : goal.returns-in-NoHeader-clause-only_read
+returns-in-NoHeader-clause-only_read g c = c.read_head.ensures.only_read
+
+pub returns-in-NoHeader-clause-same : goal.returns-in-NoHeader-clause-same
+returns-in-NoHeader-clause-same g c = c.read_head.ensures.same
+
+pub returns-in-Unborn-clause-came : goal.returns-in-Unborn-clause-came
+returns-in-Unborn-clause-came g c = c.read_head.ensures.came
+
+pub returns-in-Unborn-clause-only_read : goal.returns-in-Unborn-clause-only_read
+returns-in-Unborn-clause-only_read g c = c.read_head.ensures.only_read
+
+pub returns-in-Unborn-clause-same : goal.returns-in-Unborn-clause-same
+returns-in-Unborn-clause-same g c = c.read_head.ensures.same

@@ -27,3 +27,33 @@ returns-in-None-clause-cause g c = record {
   later = c.in_ok-is_there.ensures.cause.later;
   caused = λ m told. record { of_file = refl; of_page = refl; off = ap (next_of c.args.bound c.args.page) (c.in_ok-is_there.ensures.page m told) ∙ sym c.next_there.ensures ∙ c.in-None.is };
 }
+
+pub returns-in-Some-clause-came : goal.returns-in-Some-clause-came
+returns-in-Some-clause-came g c = c.get.ensures.came
+
+pub returns-in-None-clause-came : goal.returns-in-None-clause-came
+returns-in-None-clause-came g c = c.get.ensures.came
+
+pub returns-in-Some-clause-only_read : goal.returns-in-Some-clause-only_read
+returns-in-Some-clause-only_read g c = c.get.ensures.only_read
+
+pub returns-in-None-clause-only_read : goal.returns-in-None-clause-only_read
+returns-in-None-clause-only_read g c = c.get.ensures.only_read
+
+pub returns-in-Some-clause-same : goal.returns-in-Some-clause-same
+returns-in-Some-clause-same g c = c.get.ensures.same
+
+pub returns-in-None-clause-same : goal.returns-in-None-clause-same
+returns-in-None-clause-same g c = c.get.ensures.same
+
+pub returns-in-Some-clause-reads : goal.returns-in-Some-clause-reads
+returns-in-Some-clause-reads g c = c.get.ensures.reads
+
+pub returns-in-None-clause-reads : goal.returns-in-None-clause-reads
+returns-in-None-clause-reads g c = c.get.ensures.reads
+
+pub returns-in-Some-clause-kept : goal.returns-in-Some-clause-kept
+returns-in-Some-clause-kept g c = c.get.ensures.kept
+
+pub returns-in-None-clause-kept : goal.returns-in-None-clause-kept
+returns-in-None-clause-kept g c = c.get.ensures.kept

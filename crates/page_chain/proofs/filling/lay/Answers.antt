@@ -13,3 +13,12 @@ returns-clause-laid g c m told =
     (subst (λ l. InHand c.args.file c.args.first c.args.first c.fill.new.page l c.args.rows.now before (g.S.PageStore.pages c.args.store.now)) (sym c.split_at.ensures.back)
     (hand_first c.args.file c.args.first c.args.page.now c.fill.new.page c.fill.result c.args.rows.now m (g.S.PageStore.pages c.args.store.now) told c.fill.ensures.filled c.fill.ensures.page (c.fill.ensures.next ∙ c.requires.ends))))
     c.in_ok-put.ensures.page
+
+pub returns-clause-came : goal.returns-clause-came
+returns-clause-came g c = λ s came. c.put.ensures.came s (c.lay_pages.ensures.came s came)
+
+pub returns-in_err-put-clause-came : goal.returns-in_err-put-clause-came
+returns-in_err-put-clause-came g c = λ s came. c.put.ensures.came s (c.lay_pages.ensures.came s came)
+
+pub returns-in_err-at-clause-came : goal.returns-in_err-at-clause-came
+returns-in_err-at-clause-came g c = c.lay_pages.ensures.came

@@ -8,3 +8,9 @@ returns-clause-built g c m told =
 pub returns-clause-others : goal.returns-clause-others
 returns-clause-others g c =
     others_kept c.args.file 0 c.in_ok-last.last c.args.rows.now c.fresh_page.new.out (g.S.PageStore.pages c.args.store.now) (g.S.PageStore.pages c.lay.new.store) c.in_ok-last.ensures.laid
+
+pub returns-clause-came : goal.returns-clause-came
+returns-clause-came g c = c.lay.ensures.came
+
+pub returns-in_err-last-clause-came : goal.returns-in_err-last-clause-came
+returns-in_err-last-clause-came g c = c.lay.ensures.came

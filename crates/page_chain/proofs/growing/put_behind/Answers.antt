@@ -7,3 +7,12 @@ returns-clause-laid g c m told =
     one_behind c.args.file c.args.last c.args.page.now c.turn_page.new.page c.put_row.new.p c.put_row.result c.args.row.now m (g.S.PageStore.pages c.turn_page.new.store) (g.S.PageStore.pages c.put.new.self)
     c.requires.page c.requires.ends (c.in_ok-turn_page.ensures.linked m told) c.in_ok-turn_page.ensures.fresh c.requires.short.most c.put_row.ensures.line c.put_row.ensures.slots c.put_row.ensures.page
     (c.put_row.ensures.next ∙ c.in_ok-turn_page.ensures.next) c.in_ok-put.ensures.page
+
+pub returns-clause-came : goal.returns-clause-came
+returns-clause-came g c = λ s came. c.put.ensures.came s (c.turn_page.ensures.came s came)
+
+pub returns-in_err-put-clause-came : goal.returns-in_err-put-clause-came
+returns-in_err-put-clause-came g c = λ s came. c.put.ensures.came s (c.turn_page.ensures.came s came)
+
+pub returns-in_err-turn_page-clause-came : goal.returns-in_err-turn_page-clause-came
+returns-in_err-turn_page-clause-came g c = c.turn_page.ensures.came

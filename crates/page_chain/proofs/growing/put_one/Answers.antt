@@ -19,3 +19,12 @@ pub returns-clause-others : goal.returns-clause-others
 returns-clause-others g c =
     others_kept c.args.file c.args.last c.in_ok-place.place.page (c.args.row.now ∷ []) c.chain_page.new.out (g.S.PageStore.pages c.args.store.now) (g.S.PageStore.pages c.put_at.new.store)
     (λ m told. one_told c.args.file c.args.last c.in_ok-place.place c.args.row.now _ (g.S.PageStore.pages c.put_at.new.store) (c.in_ok-place.ensures.laid m (c.in_ok-chain_page.ensures.same ∙ told)))
+
+pub returns-clause-came : goal.returns-clause-came
+returns-clause-came g c = λ s came. c.put_at.ensures.came s (c.chain_page.ensures.came s came)
+
+pub returns-in_err-place-clause-came : goal.returns-in_err-place-clause-came
+returns-in_err-place-clause-came g c = λ s came. c.put_at.ensures.came s (c.chain_page.ensures.came s came)
+
+pub returns-in_err-chain_page-clause-came : goal.returns-in_err-chain_page-clause-came
+returns-in_err-chain_page-clause-came g c = c.chain_page.ensures.came

@@ -12,3 +12,15 @@ returns-in_err-next-clause-cause g c =
     (g.S.PageStore.faults c.args.store.now) (g.S.PageStore.faults c.args.store.now) (g.S.PageStore.faults c.chain_page.new.store) c.in_err-next.field-0.0 (omega arith)
     (off_any c.args.chain.file c.args.number c.args.chain.bound c.args.chain.last (g.S.PageStore.pages c.args.store.now))
     c.in_err-next.ensures.cause c.from_residual.result c.from_residual.ensures.1
+
+pub returns-clause-came : goal.returns-clause-came
+returns-clause-came g c = c.chain_page.ensures.came
+
+pub returns-in_err-next-clause-came : goal.returns-in_err-next-clause-came
+returns-in_err-next-clause-came g c = c.chain_page.ensures.came
+
+pub returns-clause-same : goal.returns-clause-same
+returns-clause-same g c = c.chain_page.ensures.same
+
+pub returns-in_err-next-clause-same : goal.returns-in_err-next-clause-same
+returns-in_err-next-clause-same g c = c.chain_page.ensures.same

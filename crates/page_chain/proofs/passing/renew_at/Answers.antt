@@ -14,3 +14,12 @@ returns-in_ok-put-clause-next g c some = follows_up c.args.chain.bound c.args.nu
 
 pub returns-else-done-gt0-clause-next : goal.returns-else-done-gt0-clause-next
 returns-else-done-gt0-clause-next g c some = follows_up c.args.chain.bound c.args.number c.in_ok-next.next (Some c.page_on.new.out) some c.in_ok-next.ensures.follows
+
+pub returns-in_ok-put-clause-came : goal.returns-in_ok-put-clause-came
+returns-in_ok-put-clause-came g c = λ s came. c.put.ensures.came s (c.page_on.ensures.came s came)
+
+pub returns-in_err-put-clause-came : goal.returns-in_err-put-clause-came
+returns-in_err-put-clause-came g c = λ s came. c.put.ensures.came s (c.page_on.ensures.came s came)
+
+pub returns-in_err-next-clause-came : goal.returns-in_err-next-clause-came
+returns-in_err-next-clause-came g c = c.page_on.ensures.came

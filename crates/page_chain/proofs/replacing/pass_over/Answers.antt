@@ -8,3 +8,6 @@ pub returns-then-is_empty-clause-passed : goal.returns-then-is_empty-clause-pass
 returns-then-is_empty-clause-passed g c m is =
     passed_nothing c.args.chain.file c.args.chain.bound c.args.going.now m (g.S.PageStore.pages c.args.store.now)
     (nil_from_length c.args.going.now (eqb-true (length c.args.going.now) 0 (sym c.is_empty.ensures ∙ c.if-is_empty.true))) is
+
+pub returns-clause-came : goal.returns-clause-came
+returns-clause-came g c = c.pass.ensures.came

@@ -21,3 +21,6 @@ returns-clause-grown g c m is =
     (λ now. (earlier : List ℕ) → c.args.chain.last < c.args.chain.bound → IsChain c.args.chain.bound (pages_of m c.args.chain.file) (earlier ++ c.args.chain.last ∷ [])
     → IsGrown c.args.chain.file c.args.chain.bound earlier c.args.chain.last now c.args.rows.now m (g.S.PageStore.pages c.extend.new.store))
     (λ now grown earlier. grown c.args.chain.bound earlier) (c.extend.ensures.grown m is)
+
+pub returns-clause-came : goal.returns-clause-came
+returns-clause-came g c = c.extend.ensures.came

@@ -27,3 +27,15 @@ pub returns-in-Ok-clause-others : goal.returns-in-Ok-clause-others
 returns-in-Ok-clause-others g c =
     others_twice c.args.chain.file (g.S.PageStore.pages c.args.store.now) (g.S.PageStore.pages c.pass_over.new.store) (g.S.PageStore.pages c.put_rest.new.store)
     (λ m is. let its = c.in_ok-done.ensures.passed m is in (its.image, its.told_still, its.elsewhere)) c.in_ok-last.ensures.others
+
+pub returns-in-Ok-clause-came : goal.returns-in-Ok-clause-came
+returns-in-Ok-clause-came g c = λ s came. c.put_rest.ensures.came s (c.pass_over.ensures.came s came)
+
+pub returns-in-Err-clause-came : goal.returns-in-Err-clause-came
+returns-in-Err-clause-came g c = λ s came. c.put_rest.ensures.came s (c.pass_over.ensures.came s came)
+
+pub returns-in_err-last-clause-came : goal.returns-in_err-last-clause-came
+returns-in_err-last-clause-came g c = λ s came. c.put_rest.ensures.came s (c.pass_over.ensures.came s came)
+
+pub returns-in_err-done-clause-came : goal.returns-in_err-done-clause-came
+returns-in_err-done-clause-came g c = c.pass_over.ensures.came

@@ -64,3 +64,6 @@ returns-in_err-note-clause-came g c = λ s h. c.replace_near.ensures.came s (c.p
 
 pub returns-clause-came : goal.returns-clause-came
 returns-clause-came g c = λ s h. c.replace_near.ensures.came s (c.pages_near.ensures.came s h)
+
+pub returns-in_err-near-clause-came : goal.returns-in_err-near-clause-came
+returns-in_err-near-clause-came g c = c.pages_near.ensures.came

@@ -50,3 +50,9 @@ returns-clause-pages g c = λ m is.
     let so = told_so g.D.Disk.tells (g.D.Disk.seen c.args.self.now.disk) m c.args.self.now.batch is in
     begun_so c.finish-laid.result g.D.Disk.tells (g.D.Disk.seen c.finish-laid.new.disk) m c.replace-batch.new.dest so.0 (staged_fresh (g.D.Disk.seen c.finish-laid.new.disk) c.replace-batch.new.dest c.begin.result c.replace-batch.ensures.after c.begin.ensures.count)
     (laid_so c.finish-laid.result g.D.Disk.tells (g.D.Disk.seen c.args.self.now.disk) (g.D.Disk.seen c.finish-laid.new.disk) m c.args.self.now.batch c.replace-batch.result c.replace-batch.ensures.value is c.finish-laid.ensures.laid)
+
+pub returns-clause-cause : goal.returns-clause-cause
+returns-clause-cause g c = c.finish-laid.ensures.cause
+
+pub returns-clause-whole : goal.returns-clause-whole
+returns-clause-whole g c = c.finish-laid.ensures.whole

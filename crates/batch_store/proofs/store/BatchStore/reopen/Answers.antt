@@ -26,3 +26,18 @@ returns-clause-done g c = λ told. done_so _ _ _ _ (c.settle.ensures.seen told) 
 
 pub returns-clause-damaged : goal.returns-clause-damaged
 returns-clause-damaged g c = λ told file page is. damaged_so _ _ _ file page (c.settle.ensures.seen told) (c.restore.ensures.answer told) is
+
+pub returns-clause-closed : goal.returns-clause-closed
+returns-clause-closed g c = c.restore.ensures.closed
+
+pub returns-clause-begun : goal.returns-clause-begun
+returns-clause-begun g c = c.restore.ensures.begun
+
+pub returns-clause-calm : goal.returns-clause-calm
+returns-clause-calm g c = c.restore.ensures.calm
+
+pub returns-clause-due : goal.returns-clause-due
+returns-clause-due g c = c.restore.ensures.due
+
+pub returns-in_err-settle-clause-begun : goal.returns-in_err-settle-clause-begun
+returns-in_err-settle-clause-begun g c = c.settle.ensures.begun

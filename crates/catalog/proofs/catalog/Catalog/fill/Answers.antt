@@ -113,3 +113,12 @@ returns-in-Some-clause-cause g c =
     let start = g.S.PageStore.faults c.args.store.now in
     cause_on told told (KnowsNone (record c.args.self.now { plain = c.relation_file.new.plain })) (KnowsNone c.args.self.now) start start (g.S.PageStore.faults c.read.new.store) c.read.result (omega arith)
     (λ a none m is db base k. none m is db base (knows_still c.args.self.now c.relation_file.new.plain m db (c.relation_file.ensures.same ∙ c.is_stored.ensures.same) k)) c.read.ensures.cause
+
+pub returns-in-Some-clause-came : goal.returns-in-Some-clause-came
+returns-in-Some-clause-came g c = c.read.ensures.came
+
+pub returns-in-Some-clause-only_read : goal.returns-in-Some-clause-only_read
+returns-in-Some-clause-only_read g c = c.read.ensures.only_read
+
+pub returns-in-Some-clause-same : goal.returns-in-Some-clause-same
+returns-in-Some-clause-same g c = c.read.ensures.same

@@ -57,3 +57,6 @@ returns-in_err-read_for-clause-cause g c =
     let start = g.S.PageStore.faults c.args.store.now in
     cause_carried old old (KnowsNone c.args.self.now) (KnowsNoneFor c.args.self.now c.args.change.now) start start (g.S.PageStore.faults c.read_for.new.store) c.in_err-read_for.field-0.0 (omega arith)
     (λ a none m is db base knows lawful. none m is db base knows) c.in_err-read_for.ensures.cause c.from_residual.result c.from_residual.ensures.1
+
+pub returns-in_err-read_for-clause-came : goal.returns-in_err-read_for-clause-came
+returns-in_err-read_for-clause-came g c = c.read_for.ensures.came

@@ -27,3 +27,39 @@ returns-in-Some-clause-lies g c m told = c.in_ok-catalog.ensures.lies m (c.in_ok
 
 pub returns-in-Some-clause-dba : goal.returns-in-Some-clause-dba
 returns-in-Some-clause-dba g c = c.in_ok-catalog.ensures.dba c.in-Some.catalog c.in-Some.is
+
+pub returns-clause-came : goal.returns-clause-came
+returns-clause-came g c = c.read_chains.ensures.came
+
+pub returns-in-Some-clause-came : goal.returns-in-Some-clause-came
+returns-in-Some-clause-came g c = c.read_chains.ensures.came
+
+pub returns-in_err-chains-clause-came : goal.returns-in_err-chains-clause-came
+returns-in_err-chains-clause-came g c = c.read_chains.ensures.came
+
+pub returns-clause-only_read : goal.returns-clause-only_read
+returns-clause-only_read g c = c.read_chains.ensures.only_read
+
+pub returns-in-Some-clause-only_read : goal.returns-in-Some-clause-only_read
+returns-in-Some-clause-only_read g c = c.read_chains.ensures.only_read
+
+pub returns-in_err-chains-clause-only_read : goal.returns-in_err-chains-clause-only_read
+returns-in_err-chains-clause-only_read g c = c.read_chains.ensures.only_read
+
+pub returns-clause-same : goal.returns-clause-same
+returns-clause-same g c = c.read_chains.ensures.same
+
+pub returns-in-Some-clause-same : goal.returns-in-Some-clause-same
+returns-in-Some-clause-same g c = c.read_chains.ensures.same
+
+pub returns-in_err-chains-clause-same : goal.returns-in_err-chains-clause-same
+returns-in_err-chains-clause-same g c = c.read_chains.ensures.same
+
+pub returns-clause-reads : goal.returns-clause-reads
+returns-clause-reads g c = c.read_chains.ensures.reads
+
+pub returns-in-Some-clause-reads : goal.returns-in-Some-clause-reads
+returns-in-Some-clause-reads g c = c.read_chains.ensures.reads
+
+pub returns-in_err-chains-clause-reads : goal.returns-in_err-chains-clause-reads
+returns-in_err-chains-clause-reads g c = c.read_chains.ensures.reads

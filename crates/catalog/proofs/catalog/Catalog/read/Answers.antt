@@ -71,3 +71,15 @@ returns-else-branch-clause-schema g c = ap schema_of (c.in_ok-take.ensures.kept 
 
 pub returns-else-branch-clause-files : goal.returns-else-branch-clause-files
 returns-else-branch-clause-files g c = (c.in_ok-take.ensures.kept c.if-branch.false).files
+
+pub returns-in_err-rows-clause-came : goal.returns-in_err-rows-clause-came
+returns-in_err-rows-clause-came g c = c.relation_rows.ensures.came
+
+pub returns-in_err-rows-clause-only_read : goal.returns-in_err-rows-clause-only_read
+returns-in_err-rows-clause-only_read g c = c.relation_rows.ensures.only_read
+
+pub returns-in_err-rows-clause-same : goal.returns-in_err-rows-clause-same
+returns-in_err-rows-clause-same g c = c.relation_rows.ensures.same
+
+pub returns-in_err-rows-clause-reads : goal.returns-in_err-rows-clause-reads
+returns-in_err-rows-clause-reads g c = c.relation_rows.ensures.reads

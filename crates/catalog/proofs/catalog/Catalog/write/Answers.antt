@@ -58,3 +58,6 @@ returns-in_err-ends-clause-came g c = λ s h. c.write_catalogue.ensures.came s (
 
 pub returns-in_err-keep-clause-came : goal.returns-in_err-keep-clause-came
 returns-in_err-keep-clause-came g c = λ s h. c.write_catalogue.ensures.came s (c.make_pages.ensures.came s h)
+
+pub returns-in_err-given-clause-came : goal.returns-in_err-given-clause-came
+returns-in_err-given-clause-came g c = c.make_pages.ensures.came

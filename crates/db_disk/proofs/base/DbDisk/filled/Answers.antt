@@ -33,3 +33,12 @@ returns-in_err-open-clause-quiet g c = λ told s known. ap g.D.Disk.clock (c.ope
 
 pub returns-clause-quiet : goal.returns-clause-quiet
 returns-clause-quiet g c = λ told s known. (c.fill_open.ensures.only_reads told).clock_same ∙ ap g.D.Disk.clock (c.open.ensures.still s known)
+
+pub returns-in_err-open-clause-kept : goal.returns-in_err-open-clause-kept
+returns-in_err-open-clause-kept g c = c.open.ensures.kept
+
+pub returns-in_err-open-clause-keeps : goal.returns-in_err-open-clause-keeps
+returns-in_err-open-clause-keeps g c = c.open.ensures.keeps
+
+pub returns-in_err-open-clause-crash : goal.returns-in_err-open-clause-crash
+returns-in_err-open-clause-crash g c = c.open.ensures.crash

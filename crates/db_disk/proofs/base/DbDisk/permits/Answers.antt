@@ -24,3 +24,30 @@ returns-clause-fixed g c = still_there c.open.new.self.catalog c.permits.new.cat
 
 pub returns-clause-cause : goal.returns-clause-cause
 returns-clause-cause g c = want_caused _ _ _ c.permits.result c.open.ensures.cause.later c.permits.ensures.want
+
+pub returns-clause-kept : goal.returns-clause-kept
+returns-clause-kept g c = c.open.ensures.kept
+
+pub returns-in_err-open-clause-kept : goal.returns-in_err-open-clause-kept
+returns-in_err-open-clause-kept g c = c.open.ensures.kept
+
+pub returns-in_err-open-clause-keeps : goal.returns-in_err-open-clause-keeps
+returns-in_err-open-clause-keeps g c = c.open.ensures.keeps
+
+pub returns-clause-still : goal.returns-clause-still
+returns-clause-still g c = c.open.ensures.still
+
+pub returns-in_err-open-clause-still : goal.returns-in_err-open-clause-still
+returns-in_err-open-clause-still g c = c.open.ensures.still
+
+pub returns-clause-reads : goal.returns-clause-reads
+returns-clause-reads g c = c.open.ensures.reads
+
+pub returns-in_err-open-clause-reads : goal.returns-in_err-open-clause-reads
+returns-in_err-open-clause-reads g c = c.open.ensures.reads
+
+pub returns-clause-crash : goal.returns-clause-crash
+returns-clause-crash g c = c.open.ensures.crash
+
+pub returns-in_err-open-clause-crash : goal.returns-in_err-open-clause-crash
+returns-in_err-open-clause-crash g c = c.open.ensures.crash

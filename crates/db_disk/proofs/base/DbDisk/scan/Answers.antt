@@ -52,3 +52,36 @@ returns-clause-fits g c = λ s known there.
 
 pub returns-clause-cause : goal.returns-clause-cause
 returns-clause-cause g c = want_caused _ _ _ c.scan.result c.filled.ensures.cause.later c.scan.ensures.want
+
+pub returns-clause-kept : goal.returns-clause-kept
+returns-clause-kept g c = c.filled.ensures.kept
+
+pub returns-in_err-filled-clause-kept : goal.returns-in_err-filled-clause-kept
+returns-in_err-filled-clause-kept g c = c.filled.ensures.kept
+
+pub returns-in_err-filled-clause-keeps : goal.returns-in_err-filled-clause-keeps
+returns-in_err-filled-clause-keeps g c = c.filled.ensures.keeps
+
+pub returns-clause-again : goal.returns-clause-again
+returns-clause-again g c = c.filled.ensures.again
+
+pub returns-in_err-filled-clause-again : goal.returns-in_err-filled-clause-again
+returns-in_err-filled-clause-again g c = c.filled.ensures.again
+
+pub returns-in_err-filled-clause-reads : goal.returns-in_err-filled-clause-reads
+returns-in_err-filled-clause-reads g c = c.filled.ensures.reads
+
+pub returns-in_err-filled-clause-opening_reads : goal.returns-in_err-filled-clause-opening_reads
+returns-in_err-filled-clause-opening_reads g c = c.filled.ensures.opening_reads
+
+pub returns-clause-quiet : goal.returns-clause-quiet
+returns-clause-quiet g c = c.filled.ensures.quiet
+
+pub returns-in_err-filled-clause-quiet : goal.returns-in_err-filled-clause-quiet
+returns-in_err-filled-clause-quiet g c = c.filled.ensures.quiet
+
+pub returns-clause-crash : goal.returns-clause-crash
+returns-clause-crash g c = c.filled.ensures.crash
+
+pub returns-in_err-filled-clause-crash : goal.returns-in_err-filled-clause-crash
+returns-in_err-filled-clause-crash g c = c.filled.ensures.crash

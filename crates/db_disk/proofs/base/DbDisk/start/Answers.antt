@@ -24,3 +24,21 @@ returns-in-Ok-clause-reads g c = λ told all by.
 
 pub returns-in-Err-clause-reads : goal.returns-in-Err-clause-reads
 returns-in-Err-clause-reads g c = λ told all by. opens_not _ all _ _ by (c.restored.ensures.reads told by.shut)
+
+pub returns-in-Ok-clause-there : goal.returns-in-Ok-clause-there
+returns-in-Ok-clause-there g c = c.loaded.ensures.there
+
+pub returns-in-Ok-clause-kept : goal.returns-in-Ok-clause-kept
+returns-in-Ok-clause-kept g c = c.loaded.ensures.kept ∙ c.restored.ensures.kept
+
+pub returns-in-Ok-clause-keeps : goal.returns-in-Ok-clause-keeps
+returns-in-Ok-clause-keeps g c = λ s is. c.loaded.ensures.keeps s (c.restored.ensures.schema ∙ is)
+
+pub returns-in-Err-clause-kept : goal.returns-in-Err-clause-kept
+returns-in-Err-clause-kept g c = c.restored.ensures.kept
+
+pub returns-in-Err-clause-keeps : goal.returns-in-Err-clause-keeps
+returns-in-Err-clause-keeps g c = λ s is. c.restored.ensures.schema ∙ is
+
+pub returns-in-Err-clause-crash : goal.returns-in-Err-clause-crash
+returns-in-Err-clause-crash g c = c.restored.ensures.crash

@@ -17,3 +17,9 @@ returns-clause-told g c m rows new t e all is =
     let some = c.args.self.now.pages in
     rows_extended file _ m rows c.in_ok-last.last new c.args.coming.now (g.S.PageStore.pages c.extend.new.store) refl refl some refl c.in_ok-last.ensures.behind.0 e all is
     (c.in_ok-last.ensures.grown m t file.used (numbers_from (file.used - 1) 0) (omega arith) (heap_chain_to file m rows (file.used - 1) (omega arith) e))
+
+pub returns-clause-came : goal.returns-clause-came
+returns-clause-came g c = c.extend.ensures.came
+
+pub returns-in_err-last-clause-came : goal.returns-in_err-last-clause-came
+returns-in_err-last-clause-came g c = c.extend.ensures.came

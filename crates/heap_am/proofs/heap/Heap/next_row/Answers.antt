@@ -1,4 +1,4 @@
-use Rattle.std.proofs.Common.{◌∙◌}
+use Rattle.std.proofs.Common.{◌∙◌, rules}
 use Rattle.heap_am.specs.Heap.{HeapFault}
 use Rattle.heap_am.proofs.Faults.{cause_later}
 use Rattle.heap_am.proofs.Meeting.{heap_over}
@@ -16,3 +16,13 @@ returns-clause-told g c m rows t e =
 
 pub returns-clause-over : goal.returns-clause-over
 returns-clause-over g c m rows t e = heap_over c.args.self.now.file m rows c.args.probe.now c.pages.at c.args.self.now.pages e c.pages-test.false
+
+pub pages-preserved : goal.pages-preserved
+pages-preserved g c = record {
+  told = search rules;
+  same = c.next_read.ensures.same ∙ c.pages.invariant.same;
+  came = λ s came. c.next_read.ensures.came s (c.pages.invariant.came s came);
+  only_read = λ s read. c.next_read.ensures.only_read s (c.pages.invariant.only_read s read);
+  reads = search rules;
+  faults = search rules;
+}

@@ -17,3 +17,33 @@ returns-then-next-behind-clause-cause g c =
 
 pub returns-clause-goes : goal.returns-clause-goes
 returns-clause-goes g c = goes_to c.args.self.now.file.used c.args.number (Some c.chain_page.new.out) c.in_ok-next.next c.in_ok-next.ensures.follows (c.if-next-behind.false ∙ c.behind.ensures)
+
+pub returns-clause-came : goal.returns-clause-came
+returns-clause-came g c = c.chain_page.ensures.came
+
+pub returns-clause-only_read : goal.returns-clause-only_read
+returns-clause-only_read g c = c.chain_page.ensures.only_read
+
+pub returns-clause-same : goal.returns-clause-same
+returns-clause-same g c = c.chain_page.ensures.same
+
+pub returns-clause-reads : goal.returns-clause-reads
+returns-clause-reads g c = c.chain_page.ensures.reads
+
+pub returns-in_err-next-clause-came : goal.returns-in_err-next-clause-came
+returns-in_err-next-clause-came g c = c.chain_page.ensures.came
+
+pub returns-in_err-next-clause-only_read : goal.returns-in_err-next-clause-only_read
+returns-in_err-next-clause-only_read g c = c.chain_page.ensures.only_read
+
+pub returns-in_err-next-clause-same : goal.returns-in_err-next-clause-same
+returns-in_err-next-clause-same g c = c.chain_page.ensures.same
+
+pub returns-in_err-next-clause-reads : goal.returns-in_err-next-clause-reads
+returns-in_err-next-clause-reads g c = c.chain_page.ensures.reads
+
+pub returns-clause-kept : goal.returns-clause-kept
+returns-clause-kept g c = c.chain_page.ensures.kept
+
+pub returns-in_err-next-clause-kept : goal.returns-in_err-next-clause-kept
+returns-in_err-next-clause-kept g c = c.chain_page.ensures.kept

@@ -30,3 +30,9 @@ returns-clause-told g c m rows t e =
     (c.in_ok-place.ensures.grown m t file.used (numbers_from (file.used - 1) 0) (omega arith) chain))
     (subst (λ r. IsOneMore file.file (numbers_from (file.used - 1) 0) (file.used - 1) c.in_ok-place.place r m (g.S.PageStore.pages c.put_one.new.store)) b
     (c.in_ok-place.ensures.place m t file.used (numbers_from (file.used - 1) 0) (omega arith) chain))
+
+pub returns-clause-came : goal.returns-clause-came
+returns-clause-came g c = c.put_one.ensures.came
+
+pub returns-in_err-place-clause-came : goal.returns-in_err-place-clause-came
+returns-in_err-place-clause-came g c = c.put_one.ensures.came

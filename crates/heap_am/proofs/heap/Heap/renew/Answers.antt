@@ -22,3 +22,9 @@ returns-clause-told g c m rows gone new t e go old co fresh differ once there =
       eq-eqb c.in_ok-done.done.gone (length c.args.going.now) h.0,
       rows_renewed file _ m rows c.in_ok-done.done.last gone new c.args.going.now c.args.coming.now (g.S.PageStore.pages c.replace.new.store) refl refl some refl c.in_ok-done.ensures.behind.0 e go old co fresh h.1,
     )
+
+pub returns-clause-came : goal.returns-clause-came
+returns-clause-came g c = c.replace.ensures.came
+
+pub returns-in_err-done-clause-came : goal.returns-in_err-done-clause-came
+returns-in_err-done-clause-came g c = c.replace.ensures.came

@@ -66,3 +66,12 @@ pub returns-in-None-clause-cause : goal.returns-in-None-clause-cause
 returns-in-None-clause-cause g c =
     cause_since (g.S.PageStore.pages c.args.store.now) (g.S.PageStore.pages c.renew_near.new.store) (HeapFault c.args.self.now.file) (g.S.PageStore.faults c.args.store.now) (g.S.PageStore.faults c.renew_near.new.store) (g.S.PageStore.faults c.renew.new.store)
     c.renew.result (c.in_ok-put.ensures.none c.in-None.is) c.renew_near.ensures.cause.later c.renew.ensures.cause
+
+pub returns-in_ok-put_rest-in-Some-clause-came : goal.returns-in_ok-put_rest-in-Some-clause-came
+returns-in_ok-put_rest-in-Some-clause-came g c = λ s came. c.put_rest.ensures.came s (c.renew_near.ensures.came s came)
+
+pub returns-in_err-put_rest-in-Some-clause-came : goal.returns-in_err-put_rest-in-Some-clause-came
+returns-in_err-put_rest-in-Some-clause-came g c = λ s came. c.put_rest.ensures.came s (c.renew_near.ensures.came s came)
+
+pub returns-in-None-clause-came : goal.returns-in-None-clause-came
+returns-in-None-clause-came g c = λ s came. c.renew.ensures.came s (c.renew_near.ensures.came s came)

@@ -16,3 +16,9 @@ returns-else-done-gt0-clause-done g c m is =
     let none : c.renew_page-done.result.gone ≡ 0 = omega (arith, c.if-done-gt0.false) in
     done_not c.args.self.now.file.file c.args.self.now.file.used c.args.number c.args.going.now (take c.renew_page-done.result.put c.args.coming.now) c.chain_page.new.out c.renew_page-done.new.page
     m (g.S.PageStore.pages c.chain_page.new.store) (c.chain_page.ensures.same ∙ is) (c.in_ok-chain_page.ensures.there m is) (c.renew_page-done.ensures.none none) c.renew_page-done.ensures.came
+
+pub returns-in_ok-put-clause-came : goal.returns-in_ok-put-clause-came
+returns-in_ok-put-clause-came g c = λ s came. c.put.ensures.came s (c.chain_page.ensures.came s came)
+
+pub returns-in_err-put-clause-came : goal.returns-in_err-put-clause-came
+returns-in_err-put-clause-came g c = λ s came. c.put.ensures.came s (c.chain_page.ensures.came s came)

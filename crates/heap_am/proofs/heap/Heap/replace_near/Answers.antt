@@ -12,3 +12,15 @@ returns-clause-told g c m rows t e differ once there =
     c.requires.coming
     (bytes_are c.items-4.result.now c.in_ok-new.new c.items.result.now c.args.self.now.file.domains c.args.coming.now c.items-4.ensures c.items.ensures c.in_ok-new.ensures)
     differ once there
+
+pub returns-clause-others : goal.returns-clause-others
+returns-clause-others g c = c.renew_first.ensures.others
+
+pub returns-clause-file : goal.returns-clause-file
+returns-clause-file g c = c.renew_first.ensures.file
+
+pub returns-clause-came : goal.returns-clause-came
+returns-clause-came g c = c.renew_first.ensures.came
+
+pub returns-clause-cause : goal.returns-clause-cause
+returns-clause-cause g c = c.renew_first.ensures.cause

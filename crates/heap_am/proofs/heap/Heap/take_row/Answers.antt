@@ -19,3 +19,6 @@ returns-clause-told g c m rows t e =
 
 pub returns-clause-cause : goal.returns-clause-cause
 returns-clause-cause g c = cause_any (HeapFault c.args.self.now.file) c.take_one.result (λ m a off. no_chain c.args.self.now.file m a off) c.take_one.ensures.cause
+
+pub returns-clause-came : goal.returns-clause-came
+returns-clause-came g c = c.take_one.ensures.came
