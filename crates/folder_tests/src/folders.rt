@@ -9,6 +9,8 @@ const FOLDER: &str = "folder_disk_test";
 
 const ANEW: &str = "folder_disk_test_anew";
 
+const WRITTEN_ON: &str = "folder_disk_test_written_on";
+
 const NO_FILES: &str = "folder_disk_test_of_faults";
 
 /// Where the pages of the tests lie.
@@ -78,6 +80,22 @@ fn pages_are_there_when_the_folder_is_opened_anew(rt: HostRuntime) {
     assert!(rt; byte_at(&mut disk, THIRD_OF_5) == Ok(None));
     assert!(rt; byte_at(&mut disk, FIRST_OF_16) == Ok(None));
     let _ = fs::remove_dir_all(&rt, ANEW);
+}
+
+#[test]
+fn a_file_that_is_there_is_written_on(rt: HostRuntime) {
+    let _ = fs::remove_dir_all(&rt, WRITTEN_ON);
+    let mut disk = FolderDisk::new(&rt, rt.alloc(), WRITTEN_ON).expect(&rt, "memory");
+    assert!(rt; is_written(&mut disk, SECOND_OF_5, 7));
+    assert!(rt; is_written(&mut disk, THIRD_OF_5, 8));
+    assert!(rt; is_written(&mut disk, SECOND_OF_5, 9));
+    assert!(rt; byte_at(&mut disk, THIRD_OF_5) == Ok(Some(8)));
+    drop(disk);
+    let mut disk = FolderDisk::new(&rt, rt.alloc(), WRITTEN_ON).expect(&rt, "memory");
+    assert!(rt; is_written(&mut disk, THIRD_OF_5, 6));
+    assert!(rt; byte_at(&mut disk, SECOND_OF_5) == Ok(Some(9)));
+    assert!(rt; byte_at(&mut disk, THIRD_OF_5) == Ok(Some(6)));
+    let _ = fs::remove_dir_all(&rt, WRITTEN_ON);
 }
 
 #[test]
