@@ -25,7 +25,6 @@ use std::mem::replace;
 /// Once `finish` has failed a restore is due, since the batch may be half laid and its files are
 /// needed. Until `restore` has answered Ok nothing can be put: `put` answers want of memory, as it does
 /// where the batch has 2^32 - 1 images, the most that its numbers tell apart.
-#[derive(Drop)]
 pub struct BatchStore<D: Disk> {
     pub(crate) disk: D,
     pub(crate) batch: Batch,
@@ -41,6 +40,20 @@ pub struct BatchStore<D: Disk> {
     ghost numbered: { IsTrue D.tells → AreNumbered numbers (staged (D.seen disk) batch) } by { Prim.hlevel props },
     ghost last: { IsTrue D.tells → (a : At) → given ≡ Some a
         → standing (D.seen disk) batch a ≡ (if there then Some page else None) } by { Prim.hlevel props },
+}
+
+impl<D: Disk + Drop> Drop for BatchStore<D> {
+    fn drop(self) {
+        let Self {
+            disk: _,
+            batch: _,
+            numbers: _,
+            given: _,
+            there: _,
+            page: _,
+            due: _,
+        } = self;
+    }
 }
 
 impl<D: Disk> BatchStore<D> {

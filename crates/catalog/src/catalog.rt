@@ -6,7 +6,6 @@ use plain_base::DbPlain;
 
 /// What is known in memory of a database on disk: its schema, the rows of the relations that were read,
 /// the file of each relation, and the last pages of the catalogues.
-#[derive(Drop)]
 pub struct Catalog {
     /// The database, without the rows of relations that weren't read.
     pub plain: DbPlain,
@@ -16,4 +15,15 @@ pub struct Catalog {
     pub files: FileTable,
     /// The last pages of the catalogues.
     pub ends: Ends,
+}
+
+impl Drop for Catalog {
+    fn drop(self) {
+        let Self {
+            plain: _,
+            loaded: _,
+            files: _,
+            ends: _,
+        } = self;
+    }
 }

@@ -6,9 +6,14 @@ use std::alloc::Global;
 
 /// Where the rows of the relations that were read were seen last, by the numbers of their files. What a
 /// call does doesn't rest on it: it says where to look first.
-#[derive(Drop)]
 pub struct SpotTable {
     tables: Vec<(u32, RowSpots)>,
+}
+
+impl Drop for SpotTable {
+    fn drop(self) {
+        let Self { tables: _ } = self;
+    }
 }
 
 impl SpotTable {

@@ -17,7 +17,6 @@ use std::alloc::Global;
 /// It opens the disk when it is first asked: it restores what was begun there, and reads the catalogues.
 /// The rows of a relation are read when they are first asked for. After a call that failed it may forget
 /// all that it knows, and opens the disk again at the next call.
-#[derive(Drop)]
 pub struct DbDisk<D: Disk> {
     pub(crate) store: BatchStore<D>,
     pub(crate) catalog: Option<Catalog>,
@@ -27,6 +26,18 @@ pub struct DbDisk<D: Disk> {
     ghost ready: { is_open ≡ true → IsReady store } by { Prim.hlevel props },
     ghost opened: { (c : KnownCatalog) → catalog ≡ Some c → is_open ≡ true },
     ghost known: { IsTrue D.tells → IsKnown (D.seen (disk_of store)) catalog } by { Prim.hlevel props },
+}
+
+impl<D: Disk + Drop> Drop for DbDisk<D> {
+    fn drop(self) {
+        let Self {
+            store: _,
+            catalog: _,
+            spots: _,
+            is_open: _,
+            alloc: _,
+        } = self;
+    }
 }
 
 impl<D: Disk> DbDisk<D> {

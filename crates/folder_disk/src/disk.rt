@@ -16,11 +16,20 @@ use std::rt::Files;
 /// A disk in a folder, which tells nothing of what it holds. File n lies in the folder under the name n, in
 /// decimal, with page p at its bytes 1024 p to 1024 p + 1023. Contracts see how often each call was made,
 /// and how often one has failed.
-#[derive(Drop)]
 pub struct FolderDisk<'r, R: Files> {
     folder: Folder<'r, R>,
     counts: Counts,
     faults: u64,
+}
+
+impl<'r, R: Files> Drop for FolderDisk<'r, R> {
+    fn drop(self) {
+        let Self {
+            folder: _,
+            counts: _,
+            faults: _,
+        } = self;
+    }
 }
 
 impl<'r, R: Files> Model for FolderDisk<'r, R> {

@@ -20,7 +20,6 @@ const MOST_OPEN: usize = 256;
 /// What an earlier process left in a file is synced when the file is opened, and the folder at the first
 /// sync, so that nothing is read that a crash would take back. Once a sync has failed each further one
 /// fails, as the system may have forgotten what it hadn't written.
-#[derive(Drop)]
 pub(crate) struct Folder<'r, R: Files> {
     files: &'r R,
     alloc: Global,
@@ -29,6 +28,20 @@ pub(crate) struct Folder<'r, R: Files> {
     unsynced: HashSet<u32>,
     has_new_names: bool,
     is_lost: bool,
+}
+
+impl<'r, R: Files> Drop for Folder<'r, R> {
+    fn drop(self) {
+        let Self {
+            files: _,
+            alloc: _,
+            path: _,
+            open: _,
+            unsynced: _,
+            has_new_names: _,
+            is_lost: _,
+        } = self;
+    }
 }
 
 /// Syncs a folder, where it is there.

@@ -3,6 +3,7 @@
 use disk_model::{Addr, Disk, DiskFailed, Page};
 use folder_disk::{Counts, FolderDisk};
 use std::fs;
+use std::process::Abort;
 use std::test::*;
 
 const FOLDER: &str = "folder_disk_test";
@@ -40,21 +41,99 @@ fn length_of(rt: &HostRuntime, path: &str) -> Option<u64> {
     }
 }
 
+/// What is tried on the disk in a folder.
+#[derive(Clone, Copy)]
+enum Trial {
+    TwoFiles,
+    WrittenAndCut,
+    ReadAnew,
+    WrittenAgain,
+    WrittenOn,
+    NoFile,
+}
+
+/// Reads, cuts and syncs where there is no folder: none is made.
+fn try_no_folder<D: Disk>(rt: &impl Abort, files: &HostRuntime, disk: &mut D) {
+    assert!(rt; byte_at(disk, FIRST_OF_16) == Ok(None));
+    assert!(rt; disk.cut(5).is_ok() && disk.sync().is_ok());
+    assert!(rt; length_of(files, FOLDER).is_none());
+}
+
+/// Writes pages of the files 5 and 16, and cuts the latter.
+fn try_two_files<D: Disk>(rt: &impl Abort, files: &HostRuntime, disk: &mut D) {
+    assert!(rt; is_written(disk, SECOND_OF_5, 7));
+    assert!(rt; is_written(disk, FIRST_OF_16, 8));
+    assert!(rt; disk.sync().is_ok());
+    assert!(rt; length_of(files, "folder_disk_test/5") == Some(2048));
+    assert!(rt; length_of(files, "folder_disk_test/16") == Some(1024));
+    assert!(rt; disk.cut(16).is_ok());
+}
+
+/// Writes a page of file 5 and one of file 16, which is cut.
+fn write_and_cut<D: Disk>(rt: &impl Abort, disk: &mut D) {
+    assert!(rt; is_written(disk, SECOND_OF_5, 7));
+    assert!(rt; is_written(disk, FIRST_OF_16, 8));
+    assert!(rt; disk.cut(16).is_ok());
+}
+
+/// Reads what was written so.
+fn read_anew<D: Disk>(rt: &impl Abort, disk: &mut D) {
+    assert!(rt; byte_at(disk, SECOND_OF_5) == Ok(Some(7)));
+    assert!(rt; byte_at(disk, THIRD_OF_5) == Ok(None));
+    assert!(rt; byte_at(disk, FIRST_OF_16) == Ok(None));
+}
+
+/// Writes on a file that this disk has made.
+fn write_again<D: Disk>(rt: &impl Abort, disk: &mut D) {
+    assert!(rt; is_written(disk, SECOND_OF_5, 7));
+    assert!(rt; is_written(disk, THIRD_OF_5, 8));
+    assert!(rt; is_written(disk, SECOND_OF_5, 9));
+    assert!(rt; byte_at(disk, THIRD_OF_5) == Ok(Some(8)));
+}
+
+/// Writes on that file once it was opened anew.
+fn write_on<D: Disk>(rt: &impl Abort, disk: &mut D) {
+    assert!(rt; is_written(disk, THIRD_OF_5, 6));
+    assert!(rt; byte_at(disk, SECOND_OF_5) == Ok(Some(9)));
+    assert!(rt; byte_at(disk, THIRD_OF_5) == Ok(Some(6)));
+}
+
+/// Asks for pages of what is no file, and syncs twice: all fail.
+fn try_no_file<D: Disk>(rt: &impl Abort, disk: &mut D) {
+    assert!(rt; byte_at(disk, SECOND_OF_5).is_err());
+    assert!(rt; !is_written(disk, SECOND_OF_5, 7));
+    assert!(rt; disk.sync().is_err());
+    assert!(rt; disk.sync().is_err());
+}
+
+/// Tries this on a disk.
+fn try_on<D: Disk>(rt: &impl Abort, files: &HostRuntime, disk: &mut D, trial: Trial) {
+    match trial {
+        Trial::TwoFiles => {
+            try_no_folder(rt, files, disk);
+            try_two_files(rt, files, disk);
+        }
+        Trial::WrittenAndCut => write_and_cut(rt, disk),
+        Trial::ReadAnew => read_anew(rt, disk),
+        Trial::WrittenAgain => write_again(rt, disk),
+        Trial::WrittenOn => write_on(rt, disk),
+        Trial::NoFile => try_no_file(rt, disk),
+    }
+}
+
+/// Tries this on the disk in a folder, opened anew; what was counted then.
+fn tried(rt: &impl Abort, files: &HostRuntime, folder: &str, trial: Trial) -> Counts {
+    let mut disk = FolderDisk::new(files, files.alloc(), folder).expect(rt, "memory");
+    try_on(rt, files, &mut disk, trial);
+    let counts = disk.counts();
+    drop(disk);
+    counts
+}
+
 #[test]
 fn pages_lie_in_files_that_are_named_by_numbers(rt: HostRuntime) {
     let _ = fs::remove_dir_all(&rt, FOLDER);
-    let mut disk = FolderDisk::new(&rt, rt.alloc(), FOLDER).expect(&rt, "memory");
-    assert!(rt; byte_at(&mut disk, FIRST_OF_16) == Ok(None));
-    assert!(rt; disk.cut(5).is_ok() && disk.sync().is_ok());
-    assert!(rt; length_of(&rt, FOLDER).is_none());
-    assert!(rt; is_written(&mut disk, SECOND_OF_5, 7));
-    assert!(rt; is_written(&mut disk, FIRST_OF_16, 8));
-    assert!(rt; disk.sync().is_ok());
-    assert!(rt; length_of(&rt, "folder_disk_test/5") == Some(2048));
-    assert!(rt; length_of(&rt, "folder_disk_test/16") == Some(1024));
-    assert!(rt; disk.cut(16).is_ok());
-    let counts = disk.counts();
-    drop(disk);
+    let counts = tried(&rt, &rt, FOLDER, Trial::TwoFiles);
     assert!(rt;
         counts
             == Counts {
@@ -70,31 +149,16 @@ fn pages_lie_in_files_that_are_named_by_numbers(rt: HostRuntime) {
 #[test]
 fn pages_are_there_when_the_folder_is_opened_anew(rt: HostRuntime) {
     let _ = fs::remove_dir_all(&rt, ANEW);
-    let mut disk = FolderDisk::new(&rt, rt.alloc(), ANEW).expect(&rt, "memory");
-    assert!(rt; is_written(&mut disk, SECOND_OF_5, 7));
-    assert!(rt; is_written(&mut disk, FIRST_OF_16, 8));
-    assert!(rt; disk.cut(16).is_ok());
-    drop(disk);
-    let mut disk = FolderDisk::new(&rt, rt.alloc(), ANEW).expect(&rt, "memory");
-    assert!(rt; byte_at(&mut disk, SECOND_OF_5) == Ok(Some(7)));
-    assert!(rt; byte_at(&mut disk, THIRD_OF_5) == Ok(None));
-    assert!(rt; byte_at(&mut disk, FIRST_OF_16) == Ok(None));
+    let _ = tried(&rt, &rt, ANEW, Trial::WrittenAndCut);
+    let _ = tried(&rt, &rt, ANEW, Trial::ReadAnew);
     let _ = fs::remove_dir_all(&rt, ANEW);
 }
 
 #[test]
 fn a_file_that_is_there_is_written_on(rt: HostRuntime) {
     let _ = fs::remove_dir_all(&rt, WRITTEN_ON);
-    let mut disk = FolderDisk::new(&rt, rt.alloc(), WRITTEN_ON).expect(&rt, "memory");
-    assert!(rt; is_written(&mut disk, SECOND_OF_5, 7));
-    assert!(rt; is_written(&mut disk, THIRD_OF_5, 8));
-    assert!(rt; is_written(&mut disk, SECOND_OF_5, 9));
-    assert!(rt; byte_at(&mut disk, THIRD_OF_5) == Ok(Some(8)));
-    drop(disk);
-    let mut disk = FolderDisk::new(&rt, rt.alloc(), WRITTEN_ON).expect(&rt, "memory");
-    assert!(rt; is_written(&mut disk, THIRD_OF_5, 6));
-    assert!(rt; byte_at(&mut disk, SECOND_OF_5) == Ok(Some(9)));
-    assert!(rt; byte_at(&mut disk, THIRD_OF_5) == Ok(Some(6)));
+    let _ = tried(&rt, &rt, WRITTEN_ON, Trial::WrittenAgain);
+    let _ = tried(&rt, &rt, WRITTEN_ON, Trial::WrittenOn);
     let _ = fs::remove_dir_all(&rt, WRITTEN_ON);
 }
 
@@ -103,10 +167,6 @@ fn what_is_no_file_is_a_fault(rt: HostRuntime) {
     let _ = fs::remove_dir_all(&rt, NO_FILES);
     assert!(rt; fs::create_dir(&rt, NO_FILES).is_ok());
     assert!(rt; fs::create_dir(&rt, "folder_disk_test_of_faults/5").is_ok());
-    let mut disk = FolderDisk::new(&rt, rt.alloc(), NO_FILES).expect(&rt, "memory");
-    assert!(rt; byte_at(&mut disk, SECOND_OF_5).is_err());
-    assert!(rt; !is_written(&mut disk, SECOND_OF_5, 7));
-    assert!(rt; disk.sync().is_err());
-    assert!(rt; disk.sync().is_err());
+    let _ = tried(&rt, &rt, NO_FILES, Trial::NoFile);
     let _ = fs::remove_dir_all(&rt, NO_FILES);
 }

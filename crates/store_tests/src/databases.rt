@@ -1,6 +1,6 @@
 // Databases on disks that stop and crash, and that are damaged.
 use crate::made::{Step, named, take, take_all, told};
-use am_traits::BaseFault;
+use am_traits::{Base, BaseFault};
 use batch_file::{Restored, restore};
 use calculus::List;
 use db_disk::{CreateFault, DbDisk, OpenFault, create_db, open_db};
@@ -56,14 +56,25 @@ fn pages_of(alloc: Global, rt: &impl Abort, mut disk: MemDisk) -> Pages {
     Pages { pages }
 }
 
-/// The pages of a database on which these steps were taken.
-fn begun(alloc: Global, rt: &impl Abort, steps: &[Step]) -> Pages {
+/// A new disk with an empty database.
+fn new_disk(alloc: Global, rt: &impl Abort) -> MemDisk {
     let mut disk = MemDisk::new(alloc, Vec::new(alloc), None);
     let dba = named(alloc, rt, b"ann");
     assert!(rt; create_db(&mut disk, &dba) == Ok(()));
+    disk
+}
+
+/// The disk of a database on which these steps were taken.
+fn with_all_taken<D: Disk>(alloc: Global, rt: &impl Abort, disk: D, steps: &[Step]) -> D {
     let mut base = DbDisk::later(alloc, disk);
     assert!(rt; take_all(alloc, rt, &mut base, steps) == Ok(()));
-    pages_of(alloc, rt, base.into_disk())
+    base.into_disk()
+}
+
+/// The pages of a database on which these steps were taken.
+fn begun(alloc: Global, rt: &impl Abort, steps: &[Step]) -> Pages {
+    let disk = with_all_taken(alloc, rt, new_disk(alloc, rt), steps);
+    pages_of(alloc, rt, disk)
 }
 
 /// How many calls write these pages.
@@ -81,20 +92,37 @@ fn disk_with(alloc: Global, rt: &impl Abort, pages: &Pages, stop: Option<u64>) -
     disk
 }
 
-/// What the database on a disk says; a restore behind its opening finds nothing to do.
-fn told_by(alloc: Global, rt: &impl Abort, disk: MemDisk) -> List<i64> {
-    let mut base = match open_db(alloc, disk) {
-        Ok(base) => base,
-        Err(_) => rt.panic("a database"),
-    };
-    let said = match told(alloc, rt, &mut base) {
+/// What a database says.
+fn says<B: Base>(alloc: Global, rt: &impl Abort, base: &mut B) -> List<i64> {
+    match told(alloc, rt, base) {
         Ok(said) => said,
         Err(_) => rt.panic("an answer"),
-    };
+    }
+}
+
+/// The database on a disk.
+fn opened<D: Disk + Drop>(alloc: Global, rt: &impl Abort, disk: D) -> DbDisk<D> {
+    match open_db(alloc, disk) {
+        Ok(base) => base,
+        Err(_) => rt.panic("a database"),
+    }
+}
+
+/// What the database on a disk says; a restore behind its opening finds nothing to do.
+fn told_by<D: Disk + Drop>(alloc: Global, rt: &impl Abort, disk: D) -> List<i64> {
+    let mut base = opened(alloc, rt, disk);
+    let said = says(alloc, rt, &mut base);
     let mut disk = base.into_disk();
     assert!(rt; restore(&mut disk) == Ok(Restored::Nothing));
     drop(disk);
     said
+}
+
+/// Whether a step is done on the database of a disk, and the disk then.
+fn with_taken<D: Disk>(alloc: Global, rt: &impl Abort, disk: D, step: Step) -> (bool, D) {
+    let mut base = DbDisk::later(alloc, disk);
+    let done = take(alloc, rt, &mut base, step) == Ok(true);
+    (done, base.into_disk())
 }
 
 /// A step is taken on a disk that stops after so many calls more, and crashes. Whether it was done, and
@@ -108,17 +136,16 @@ fn stopped(
     left: Left,
 ) -> (bool, List<i64>) {
     let stop = calls_for(pages).saturating_add(calls);
-    let mut base = DbDisk::later(alloc, disk_with(alloc, rt, pages, Some(stop)));
-    let done = take(alloc, rt, &mut base, step) == Ok(true);
-    let disk = base.into_disk().crash(alloc, left).expect(rt, "memory");
+    let (done, disk) = with_taken(alloc, rt, disk_with(alloc, rt, pages, Some(stop)), step);
+    let disk = disk.crash(alloc, left).expect(rt, "memory");
     (done, told_by(alloc, rt, disk))
 }
 
 /// What is said after a step.
 fn said_after(alloc: Global, rt: &impl Abort, pages: &Pages, step: Step) -> List<i64> {
-    let mut base = DbDisk::later(alloc, disk_with(alloc, rt, pages, None));
-    assert!(rt; take(alloc, rt, &mut base, step) == Ok(true));
-    told_by(alloc, rt, base.into_disk())
+    let (done, disk) = with_taken(alloc, rt, disk_with(alloc, rt, pages, None), step);
+    assert!(rt; done);
+    told_by(alloc, rt, disk)
 }
 
 /// Whether a step that stops after so many calls, with each kind of crash, leaves what was said before it
@@ -193,16 +220,8 @@ fn a_database_is_that_of_before_or_of_after_wherever_a_change_stops(rt: HostRunt
     assert_eq!(rt; calls, CALLS);
 }
 
-/// What a database says.
-fn says(alloc: Global, rt: &impl Abort, base: &mut DbDisk<MemDisk>) -> List<i64> {
-    match told(alloc, rt, base) {
-        Ok(said) => said,
-        Err(_) => rt.panic("an answer"),
-    }
-}
-
 /// A step is taken, and what is kept in memory then is what the disk holds.
-fn is_kept(alloc: Global, rt: &impl Abort, base: &mut DbDisk<MemDisk>, step: Step) {
+fn is_kept<B: Base>(alloc: Global, rt: &impl Abort, base: &mut B, step: Step) {
     assert!(rt; take(alloc, rt, base, step) == Ok(true));
     let kept = says(alloc, rt, base);
     base.hand_over();
@@ -210,16 +229,18 @@ fn is_kept(alloc: Global, rt: &impl Abort, base: &mut DbDisk<MemDisk>, step: Ste
     assert!(rt; kept.items() == held.items());
 }
 
+/// All steps are taken on the database of a disk, and what is kept is asked behind each.
+fn keep_all<D: Disk + Drop>(alloc: Global, rt: &impl Abort, disk: D) {
+    let mut base = DbDisk::later(alloc, disk);
+    for step in STEPS {
+        is_kept(alloc, rt, &mut base, step);
+    }
+    drop(base);
+}
+
 #[test]
 fn what_is_kept_over_changes_is_what_the_disk_holds(rt: HostRuntime) {
-    let alloc = rt.alloc();
-    let mut disk = MemDisk::new(alloc, Vec::new(alloc), None);
-    let dba = named(alloc, &rt, b"ann");
-    assert!(rt; create_db(&mut disk, &dba) == Ok(()));
-    let mut base = DbDisk::later(alloc, disk);
-    for done in 0..STEPS.len() {
-        is_kept(alloc, &rt, &mut base, STEPS[done]);
-    }
+    keep_all(rt.alloc(), &rt, new_disk(rt.alloc(), &rt));
 }
 
 #[test]
@@ -260,7 +281,7 @@ fn forged(
 
 /// What a forged disk is: 0 the same database, 1 another, 2 refused at a page of these files, 3 no
 /// database.
-fn judged(alloc: Global, rt: &impl Abort, disk: MemDisk, same: &[i64]) -> usize {
+fn judged<D: Disk + Drop>(alloc: Global, rt: &impl Abort, disk: D, same: &[i64]) -> usize {
     let mut base = match open_db(alloc, disk) {
         Ok(base) => base,
         Err(unopened) => return judged_fault(rt, unopened.fault),

@@ -109,11 +109,7 @@ fn what_is_built_is_scanned_each_row_once(rt: HostRuntime) {
     let heap = built(alloc, &rt, &mut store, 0, 3 * A_PAGE);
     assert!(rt; heap.info().used == 3);
     assert!(rt; store.puts == 3);
-    let every = Probe {
-        equal: List::of(Vec::new(alloc)),
-    };
-    assert!(rt; scanned(alloc, &rt, &heap, &mut store, &every) == (507, 128271));
-    drop(every);
+    assert!(rt; stands(alloc, &rt, &heap, &mut store) == (507, 128271));
     drop(heap);
     drop(store);
 }
@@ -139,39 +135,70 @@ fn changed(
     (place, store.gets, store.puts)
 }
 
+/// The number of the row with a place.
+fn number_at(
+    alloc: Global,
+    rt: &impl Abort,
+    heap: &Heap,
+    store: &mut Counting,
+    place: &Place,
+) -> Option<i64> {
+    match heap.row_at(alloc, store, place).expect(rt, "row") {
+        Some(row) => Some(number(&row)),
+        None => None,
+    }
+}
+
+/// The row of a number goes: the page and the line that it had.
+fn gone(
+    alloc: Global,
+    rt: &impl Abort,
+    heap: &mut Heap,
+    store: &mut Counting,
+    n: i16,
+) -> Option<(u32, u16)> {
+    let row = row(alloc, rt, n);
+    let from = heap.remove(alloc, store, &row).expect(rt, "remove");
+    drop(row);
+    match from {
+        Some(at) => Some((at.page, at.line)),
+        None => None,
+    }
+}
+
+/// What a scan of all rows gives.
+fn stands(alloc: Global, rt: &impl Abort, heap: &Heap, store: &mut Counting) -> (u32, i64) {
+    let every = Probe {
+        equal: List::of(Vec::new(alloc)),
+    };
+    let found = scanned(alloc, rt, heap, store, &every);
+    drop(every);
+    found
+}
+
+/// Rows come to a heap of one page that has room for one, and one of them goes.
+fn try_places(alloc: Global, rt: &impl Abort, heap: &mut Heap, store: &mut Counting)
+    requires file { heap.old.file.domains ≡ TwoBytes ∷ [] }
+{
+    let (first, gets, puts) = changed(alloc, rt, heap, store, 1000);
+    assert!(rt; first.page == 0 && first.line == 168 && gets == 1 && puts == 1);
+    let (second, gets, puts) = changed(alloc, rt, heap, store, 1001);
+    assert!(rt; second.page == 1 && second.line == 0 && gets == 1 && puts == 2);
+    assert!(rt; heap.info().used == 2);
+    assert!(rt; number_at(alloc, rt, heap, store, &first) == Some(1000));
+    assert!(rt; gone(alloc, rt, heap, store, 1000) == Some((0, 168)));
+    assert!(rt; number_at(alloc, rt, heap, store, &first) == None);
+    assert!(rt; number_at(alloc, rt, heap, store, &second) == Some(1001));
+    assert!(rt; gone(alloc, rt, heap, store, 1000) == None);
+}
+
 #[test]
 fn a_row_that_is_added_has_its_place_until_it_is_removed(rt: HostRuntime) {
     let alloc = rt.alloc();
     let mut store = Counting::new(alloc);
     let mut heap = built(alloc, &rt, &mut store, 0, A_PAGE - 1);
-    let (first, gets, puts) = changed(alloc, &rt, &mut heap, &mut store, 1000);
-    assert!(rt; first.page == 0 && first.line == 168 && gets == 1 && puts == 1);
-    let (second, gets, puts) = changed(alloc, &rt, &mut heap, &mut store, 1001);
-    assert!(rt; second.page == 1 && second.line == 0 && gets == 1 && puts == 2);
-    assert!(rt; heap.info().used == 2);
-    let gone = row(alloc, &rt, 1000);
-    let found = heap.row_at(alloc, &mut store, &first).expect(&rt, "row");
-    assert!(rt; found.is_some_and(|row| number(&row) == 1000));
-    let from = heap.remove(alloc, &mut store, &gone).expect(&rt, "remove");
-    assert!(rt; from.is_some_and(|at| at.page == 0 && at.line == 168));
-    assert!(rt;
-        heap.row_at(alloc, &mut store, &first)
-            .expect(&rt, "row")
-            .is_none()
-    );
-    let found = heap.row_at(alloc, &mut store, &second).expect(&rt, "row");
-    assert!(rt; found.is_some_and(|row| number(&row) == 1001));
-    assert!(rt;
-        heap.remove(alloc, &mut store, &gone)
-            .expect(&rt, "remove")
-            .is_none()
-    );
-    let every = Probe {
-        equal: List::of(Vec::new(alloc)),
-    };
-    assert!(rt; scanned(alloc, &rt, &heap, &mut store, &every) == (169, 14028 + 1001));
-    drop(every);
-    drop(gone);
+    try_places(alloc, &rt, &mut heap, &mut store);
+    assert!(rt; stands(alloc, &rt, &heap, &mut store) == (169, 14028 + 1001));
     drop(heap);
     drop(store);
 }
@@ -201,11 +228,7 @@ fn replaced(
     };
     let done = done.expect(rt, "replace");
     let calls = (store.gets, store.puts);
-    let every = Probe {
-        equal: List::of(Vec::new(alloc)),
-    };
-    let stands = scanned(alloc, rt, &heap, &mut store, &every);
-    drop(every);
+    let stands = stands(alloc, rt, &heap, &mut store);
     drop(going);
     drop(coming);
     drop(heap);

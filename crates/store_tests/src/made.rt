@@ -225,6 +225,11 @@ fn number_in(row: &Row) -> i64 {
     }
 }
 
+/// Puts a number behind the others.
+fn say(rt: &impl Abort, said: &mut Vec<i64>, number: i64) {
+    said.push(number).expect(rt, "memory");
+}
+
 /// Puts the numbers of the rows under a key behind others, and -1 behind them.
 fn put_rows<B: Base>(
     alloc: Global,
@@ -239,16 +244,67 @@ fn put_rows<B: Base>(
     let mut at = Place { page: 0, line: 0 };
     for _ in 0..MOST_ROWS {
         match base.scan(alloc, key, &any, &mut at)? {
-            Some(row) => said.push(number_in(&row)).expect(rt, "memory"),
+            Some(row) => say(rt, said, number_in(&row)),
             None => break,
         }
     }
-    said.push(-1).expect(rt, "memory");
+    say(rt, said, -1);
     Ok(())
 }
 
-/// What a base says of a relation: -3 where it isn't there, else its structure, its size, its rows,
-/// and how many rules and permits it has.
+/// The number of a structure.
+fn number_of(spec: Spec) -> i64 {
+    match spec {
+        Spec::Heap => 0,
+        Spec::Hash => 1,
+        Spec::Isam => 2,
+        Spec::View => 3,
+        Spec::Index => 4,
+    }
+}
+
+/// The number of the structure of a relation; -3 where it isn't there.
+fn structure_of<B: Base>(alloc: Global, base: &mut B, key: &RelKey) -> Result<i64, BaseFault> {
+    match base.info(alloc, key)? {
+        Some(info) => Ok(number_of(info.spec)),
+        None => Ok(-3),
+    }
+}
+
+/// How many rules a relation has.
+fn rule_count<B: Base>(alloc: Global, base: &mut B, key: &RelKey) -> Result<i64, BaseFault> {
+    let rules = base.rules(alloc, key)?;
+    Ok(rules.len() as i64)
+}
+
+/// How many permits a relation has.
+fn permit_count<B: Base>(alloc: Global, base: &mut B, key: &RelKey) -> Result<i64, BaseFault> {
+    let permits = base.permits(alloc, key)?;
+    Ok(permits.len() as i64)
+}
+
+/// 1 for a view, else 0.
+fn view_count<B: Base>(alloc: Global, base: &mut B, key: &RelKey) -> Result<i64, BaseFault> {
+    let view = base.view(alloc, key)?;
+    Ok(i64::from(view.is_some()))
+}
+
+/// Puts how many rules and permits a relation has, and whether it is a view.
+fn put_counts<B: Base>(
+    alloc: Global,
+    rt: &impl Abort,
+    base: &mut B,
+    key: &RelKey,
+    said: &mut Vec<i64>,
+) -> Result<(), BaseFault> {
+    say(rt, said, rule_count(alloc, base, key)?);
+    say(rt, said, permit_count(alloc, base, key)?);
+    say(rt, said, view_count(alloc, base, key)?);
+    Ok(())
+}
+
+/// What a base says of a relation: its structure, its size, its rows, how many rules and permits it has,
+/// and whether it is a view.
 fn put_relation<B: Base>(
     alloc: Global,
     rt: &impl Abort,
@@ -256,33 +312,16 @@ fn put_relation<B: Base>(
     key: &RelKey,
     said: &mut Vec<i64>,
 ) -> Result<(), BaseFault> {
-    let spec = match base.info(alloc, key)? {
-        None => -3,
-        Some(info) => match info.spec {
-            Spec::Heap => 0,
-            Spec::Hash => 1,
-            Spec::Isam => 2,
-            Spec::View => 3,
-            Spec::Index => 4,
-        },
-    };
-    said.push(spec).expect(rt, "memory");
-    said.push(base.size(alloc, key)? as i64)
-        .expect(rt, "memory");
+    say(rt, said, structure_of(alloc, base, key)?);
+    say(rt, said, base.size(alloc, key)? as i64);
     put_rows(alloc, rt, base, key, said)?;
-    said.push(base.rules(alloc, key)?.len() as i64)
-        .expect(rt, "memory");
-    said.push(base.permits(alloc, key)?.len() as i64)
-        .expect(rt, "memory");
-    said.push(i64::from(base.view(alloc, key)?.is_some()))
-        .expect(rt, "memory");
-    Ok(())
+    put_counts(alloc, rt, base, key, said)
 }
 
 /// What a base says of `p`, `q`, `v` and `x`, and how many entries it has.
 pub fn told<B: Base>(alloc: Global, rt: &impl Abort, base: &mut B) -> Result<List<i64>, BaseFault> {
     let mut said = Vec::new(alloc);
-    said.push(base.count()? as i64).expect(rt, "memory");
+    say(rt, &mut said, base.count()? as i64);
     for name in [b"p", b"q", b"v", b"x"] {
         let key = key(alloc, rt, name);
         put_relation(alloc, rt, base, &key, &mut said)?;
