@@ -30,10 +30,10 @@ use Rattle.stored_database.specs.Spelled.{domain_of}
 use Rattle.stored_database.proofs.Members.{IsIn, found_in, in_first, in_map, of_all, of_tests}
 use Rattle.stored_database.proofs.Orders.{same_key_is, same_key_itself}
 use Rattle.stored_database.proofs.Reading.{both}
-use Rattle.loaded_laws.specs.Loaded.{loaded_part, with_key}
-use Rattle.loaded_laws.proofs.Part.{part, part_info, relation_part}
-use Rattle.loaded_laws.proofs.PartRows.{rows_known, rows_of_others}
-use Rattle.loaded_laws.proofs.RowsCome.{takes_rows}
+use Rattle.catalog_laws.specs.Loaded.{loaded_part, with_key}
+use Rattle.catalog_laws.proofs.Part.{part, part_info, relation_part}
+use Rattle.catalog_laws.proofs.PartRows.{rows_known, rows_of_others}
+use Rattle.catalog_laws.proofs.RowsCome.{takes_rows}
 use Rattle.relation_rows.proofs.Holding.{Holds, holds}
 use Rattle.catalogue_moves.specs.Bases.{IndexBases}
 use Rattle.catalogue_moves.specs.Files.{files_of, is_in}

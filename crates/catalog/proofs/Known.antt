@@ -36,14 +36,14 @@ use Rattle.catalogue_moves.specs.Moves.{HavePlaces}
 use Rattle.catalogue_moves.proofs.KeptBases.{same_bases}
 use Rattle.catalogue_pages.specs.Ends.{AreEnds, EndsAt, SameBesides, Written}
 use Rattle.catalogue_pages.specs.declared.writing.Ends.{Ends}
-use Rattle.laying_laws.specs.Followed.{AreKept, SameSchemas, Follows}
-use Rattle.laying_laws.proofs.Agreeing.{files_agree}
-use Rattle.laying_laws.proofs.Following.{catalogue_follows}
-use Rattle.laying_laws.proofs.Standing.{files_stand, first_files_stay}
-use Rattle.loaded_laws.specs.Loaded.{loaded_part, knows_rows, known_after}
-use Rattle.loaded_laws.proofs.Changes.{takes_changes}
-use Rattle.loaded_laws.proofs.Part.{has_schema, part, part_info}
-use Rattle.loaded_laws.proofs.Stands.{part_is_database}
+use Rattle.catalog_laws.specs.Followed.{AreKept, SameSchemas, Follows}
+use Rattle.catalog_laws.proofs.Agreeing.{files_agree}
+use Rattle.catalog_laws.proofs.Following.{catalogue_follows}
+use Rattle.catalog_laws.proofs.Standing.{files_stand, first_files_stay}
+use Rattle.catalog_laws.specs.Loaded.{loaded_part, knows_rows, known_after}
+use Rattle.catalog_laws.proofs.Changes.{takes_changes}
+use Rattle.catalog_laws.proofs.Part.{has_schema, part, part_info}
+use Rattle.catalog_laws.proofs.Stands.{part_is_database}
 use Rattle.catalog.specs.Knows.{Knows, KnowsAfter}
 use Rattle.catalog.specs.Laid.{MayTake, HasMade, IsPrepared, IsKept, SeesTheSame, going_of, coming_of}
 use Rattle.catalog.specs.declared.catalog.Catalog.{Catalog}

@@ -35,9 +35,9 @@ use Rattle.catalogue_changes.proofs.Staying.{relation_is}
 use Rattle.catalogue_moves.proofs.KeptBases.{same_bases}
 use Rattle.catalogue_moves.specs.Files.{files_of, is_in}
 use Rattle.catalogue_read.proofs.SpellsSchema.{spells_its_schema}
-use Rattle.laying_laws.proofs.Schemas.{same_entries, same_printed}
-use Rattle.loaded_laws.specs.Loaded.{loaded_part}
-use Rattle.loaded_laws.proofs.Part.{part, part_known, part_unknown}
+use Rattle.catalog_laws.proofs.Schemas.{same_entries, same_printed}
+use Rattle.catalog_laws.specs.Loaded.{loaded_part}
+use Rattle.catalog_laws.proofs.Part.{part, part_known, part_unknown}
 use Rattle.catalog.specs.Knows.{Knows}
 use Rattle.catalog.specs.Lies.{LiesOn}
 use Rattle.catalog.specs.declared.catalog.Catalog.{Catalog}

@@ -31,11 +31,11 @@ use Rattle.catalogue_moves.specs.Files.{files_after, files_of, is_in, placed_key
 use Rattle.catalogue_moves.specs.Moves.{HavePlaces}
 use Rattle.catalogue_pages.specs.Ends.{AreEnds, SameBesides, Written}
 use Rattle.catalogue_pages.specs.declared.writing.Ends.{Ends}
-use Rattle.laying_laws.specs.Followed.{AreKept}
-use Rattle.laying_laws.specs.Placed.{IsMade, MakesPages, Suits}
-use Rattle.laying_laws.proofs.Agreeing.{file_same, files_agree}
-use Rattle.laying_laws.proofs.From.{IsChanged, new_is_new, new_key, relation_from}
-use Rattle.loaded_laws.specs.Loaded.{known_after, knows_rows}
+use Rattle.catalog_laws.specs.Followed.{AreKept}
+use Rattle.catalog_laws.specs.Placed.{IsMade, MakesPages, Suits}
+use Rattle.catalog_laws.proofs.Agreeing.{file_same, files_agree}
+use Rattle.catalog_laws.proofs.From.{IsChanged, new_is_new, new_key, relation_from}
+use Rattle.catalog_laws.specs.Loaded.{known_after, knows_rows}
 use Rattle.catalog.specs.Knows.{Knows, KnowsAfter}
 use Rattle.catalog.specs.Lies.{LiesAfter, LiesOn}
 use Rattle.catalog.specs.Laid.{HasMade, IsKept, IsPrepared, MayTake, SeesTheSame, coming_of, going_of}

@@ -22,8 +22,8 @@ use Rattle.catalogue_moves.specs.Files.{files_of}
 use Rattle.catalogue_pages.specs.Ends.{AreEnds}
 use Rattle.catalogue_read.proofs.SpellsSchema.{spells_its_schema}
 use Rattle.catalogue_read.specs.Read.{catalogue_of, parts_of}
-use Rattle.unread_laws.specs.Unread.{SpellsWithout}
-use Rattle.unread_laws.proofs.Spelling.{parts_are_spelled}
+use Rattle.catalog_laws.specs.Unread.{SpellsWithout}
+use Rattle.catalog_laws.proofs.Spelling.{parts_are_spelled}
 use Rattle.catalog.specs.Lies.{LiesOn}
 use Rattle.catalog.specs.Loading.{AreFound, IsMadeOf, IsOfParts}
 use Rattle.catalog.specs.declared.catalog.Catalog.{Catalog}

@@ -33,13 +33,13 @@ use Rattle.catalogue_moves.specs.Bases.{IndexBases}
 use Rattle.catalogue_moves.specs.Files.{files_after, files_of, is_in, placed_key, with_file}
 use Rattle.catalogue_moves.proofs.KeptBases.{rows_bases}
 use Rattle.catalogue_pages.specs.Ends.{AreEnds}
-use Rattle.laying_laws.specs.Placed.{IsMade, MakesPages, Suits}
-use Rattle.laying_laws.proofs.From.{IsChanged, relation_from}
-use Rattle.laying_laws.proofs.Schemas.{same_printed}
-use Rattle.laying_laws.proofs.Standing.{files_stand}
-use Rattle.loaded_laws.specs.Loaded.{loaded_part, with_key}
-use Rattle.loaded_laws.proofs.Changes.{other_part}
-use Rattle.loaded_laws.proofs.Part.{part, part_if, part_unknown}
+use Rattle.catalog_laws.specs.Placed.{IsMade, MakesPages, Suits}
+use Rattle.catalog_laws.proofs.From.{IsChanged, relation_from}
+use Rattle.catalog_laws.proofs.Schemas.{same_printed}
+use Rattle.catalog_laws.proofs.Standing.{files_stand}
+use Rattle.catalog_laws.specs.Loaded.{loaded_part, with_key}
+use Rattle.catalog_laws.proofs.Changes.{other_part}
+use Rattle.catalog_laws.proofs.Part.{part, part_if, part_unknown}
 use Rattle.catalog.specs.Filling.{IsFileOf, IsSame, IsTaken}
 use Rattle.catalog.specs.Knows.{Knows}
 use Rattle.catalog.specs.Lies.{LiesOn}

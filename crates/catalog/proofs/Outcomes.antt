@@ -1,6 +1,6 @@
 -- Why a call may answer a fault that comes of a call in it.
 use Rattle.std.proofs.Common.{◌≤◌, arith, ℕ, Option}
-use Rattle.std.specs.Prelude.{Result, Ok, Err}
+use Rattle.std.specs.Prelude.{OnErr, Result, Ok, Err}
 use Rattle.access_traits.specs.Causes.{HasFileCause, IsAtFault}
 use Rattle.am_traits.specs.declared.fault.BaseFault.{BaseFault}
 use Rattle.disk_model.specs.Disk.{Image}
@@ -12,3 +12,8 @@ pub cause_on : {T : Type 0} (old mid : Option Image) (P Q : Image → Addr → T
     → ((a : Addr) → IsAtFault mid P a → IsAtFault old Q a) → HasFileCause mid P between now result → HasFileCause old Q before now result
 cause_on old mid P Q before between now (Ok x) le turn its = record { later = omega (arith, le, its.later); caused = tt }
 cause_on {T} old mid P Q before between now (Err fault) le turn its = cause_earlier {T = T} {U = T} old mid P Q before between now fault le turn its
+
+-- what holds in any case holds where the answer is an error
+pub on_err : {A E P : Type 0} (r : Result A E) → P → OnErr r P
+on_err (Ok x) h = tt
+on_err (Err e) h = h

@@ -32,9 +32,9 @@ use Rattle.catalogue_moves.proofs.KeptBases.{permit_bases, permits_dropped_bases
 use Rattle.catalogue_moves.proofs.MadeBases.{created_bases, indexed_bases, viewed_bases}
 use Rattle.catalogue_moves.proofs.OnBase.{found_self, of_index, up_by}
 use Rattle.catalogue_moves.proofs.Tables.{file_none, file_same, file_some, files_put, place_is, place_kept, place_put, used_same}
-use Rattle.laying_laws.specs.Followed.{AreKept, SayTheSame}
-use Rattle.laying_laws.specs.Placed.{Suits}
-use Rattle.laying_laws.proofs.From.{found_under, new_is_new, new_key}
+use Rattle.catalog_laws.specs.Followed.{AreKept, SayTheSame}
+use Rattle.catalog_laws.specs.Placed.{Suits}
+use Rattle.catalog_laws.proofs.From.{found_under, new_is_new, new_key}
 use Rattle.catalog.specs.Places.{left_all, left_base, left_below, places_after, with_place}
 use Rattle.catalog.proofs.Forgotten.{all_kept, all_left, bases_gone}
 

@@ -47,7 +47,7 @@ use Rattle.stored_database.proofs.PrintedLaw.{what_is_printed_is_read}
 use Rattle.stored_database.proofs.Reading.{bind_some, together}
 use Rattle.stored_database.proofs.Sets.{IsOnce, in_order_in, is_once, sorted_in_order}
 use Rattle.stored_database.proofs.WhatStands.{what_stands_is_a_database}
-use Rattle.loaded_laws.specs.Loaded.{loaded_part}
+use Rattle.catalog_laws.specs.Loaded.{loaded_part}
 use Rattle.catalogue_moves.specs.Files.{files_of, is_in}
 use Rattle.catalogue_pages.specs.declared.writing.Ends.{Ends}
 use Rattle.catalogue_pages.specs.Ends.{AreEnds, EndsAt}

@@ -49,7 +49,7 @@ use Rattle.stored_database.proofs.Orders.{key_total, same_key_is}
 use Rattle.stored_database.proofs.Pairs.{pass_all}
 use Rattle.stored_database.proofs.Reading.{both, together}
 use Rattle.stored_database.specs.Names.{is_number32}
-use Rattle.laying_laws.specs.Placed.{Suits, MakesPages, IsMade, IsFree, is_used}
+use Rattle.catalog_laws.specs.Placed.{Suits, MakesPages, IsMade, IsFree, is_used}
 use Rattle.catalog.specs.Filling.{IsFileOf, IsFileWith}
 use Rattle.catalog.specs.Laid.{MayTake, HasMade, PutsNoRows, SeesTheSame}
 

@@ -25,9 +25,9 @@ use Rattle.catalogue_moves.specs.Files.{files_of, is_in}
 use Rattle.catalogue_moves.specs.Moves.{HavePlaces}
 use Rattle.catalogue_pages.specs.declared.writing.Ends.{Ends}
 use Rattle.catalogue_pages.specs.Ends.{AreEnds, NoCatalogue, Written}
-use Rattle.loaded_laws.specs.Loaded.{known_after, knows_rows}
-use Rattle.loaded_laws.proofs.Changes.{takes_changes}
-use Rattle.loaded_laws.proofs.Part.{has_schema, starts_bare}
+use Rattle.catalog_laws.specs.Loaded.{known_after, knows_rows}
+use Rattle.catalog_laws.proofs.Changes.{takes_changes}
+use Rattle.catalog_laws.proofs.Part.{has_schema, starts_bare}
 use Rattle.catalog.specs.Knows.{Knows, KnowsAfter, KnowsNoneFor}
 use Rattle.catalog.specs.Laid.{MayTake, NoneMayTake, HasMade, IsPrepared, IsKept, going_of, coming_of}
 use Rattle.catalog.specs.declared.catalog.Catalog.{Catalog}

@@ -12,7 +12,7 @@ use Rattle.stored_database.specs.Catalogue.{catalogue_in}
 use Rattle.stored_database.specs.Printed.{HasFiles, printed}
 use Rattle.stored_database.specs.Standing.{standing}
 use Rattle.schema_build.specs.Parts.{index_owners_agree}
-use Rattle.loaded_laws.specs.Loaded.{loaded_part}
+use Rattle.catalog_laws.specs.Loaded.{loaded_part}
 use Rattle.catalogue_moves.specs.Bases.{IndexBases}
 use Rattle.catalogue_moves.specs.Files.{files_of, is_in}
 use Rattle.catalogue_pages.specs.Ends.{AreEnds}

@@ -17,8 +17,8 @@ use Rattle.catalogue_changes.specs.After.{AreChanges, changed}
 use Rattle.catalogue_changes.specs.Moves.{going, coming}
 use Rattle.catalogue_moves.specs.Files.{files_after, is_in, places_of}
 use Rattle.catalogue_moves.specs.Moves.{HavePlaces}
-use Rattle.laying_laws.specs.Placed.{Suits, MakesPages}
-use Rattle.loaded_laws.specs.Loaded.{known_after}
+use Rattle.catalog_laws.specs.Placed.{Suits, MakesPages}
+use Rattle.catalog_laws.specs.Loaded.{known_after}
 use Rattle.catalog.specs.Places.{places_after}
 use Rattle.catalog.specs.declared.catalog.Catalog.{Catalog}
 

@@ -7,7 +7,7 @@ ghost use Rattle.calculus.specs.Keys.{key_of};
 ghost use Rattle.calculus.specs.Lists.{insert_by};
 ghost use Rattle.plain_base.specs.Shown.{database_of};
 ghost use Rattle.catalogue_moves.specs.Files.{by_place, files_of, is_in, places_of};
-ghost use Rattle.loaded_laws.specs.Loaded.{known_after};
+ghost use Rattle.catalog_laws.specs.Loaded.{known_after};
 ghost use Rattle.catalog.specs.Laid.{IsKept};
 ghost use Rattle.catalog.specs.Places.{left_all, left_below, left_one, places_after};
 
@@ -18,7 +18,7 @@ use catalogue_moves::{FileTable, KeySet};
 use std::alloc::Global;
 
 /// The relations whose rows are known after a change.
-#[tactic(auto, unfolding(loaded_laws::specs::Loaded::known_after))]
+#[tactic(auto, unfolding(catalog_laws::specs::Loaded::known_after))]
 fn keep_loaded(alloc: Global, loaded: &mut KeySet, change: &DbChange) -> Result<(), OutOfMemory>
     ensures { (key : Key) → OnOk result (is_in loaded.new key ≡ known_after change.now (is_in loaded.old) key) }
 {

@@ -15,7 +15,7 @@ ghost use Rattle.catalogue_moves.specs.Bases.{IndexBases};
 ghost use Rattle.catalogue_moves.specs.Files.{files_of, is_in};
 ghost use Rattle.catalogue_moves.specs.Moves.{HavePlaces};
 ghost use Rattle.catalogue_pages.specs.Ends.{AreEnds, NoCatalogue, Written};
-ghost use Rattle.loaded_laws.specs.Loaded.{knows_rows};
+ghost use Rattle.catalog_laws.specs.Loaded.{knows_rows};
 ghost use Rattle.catalog.specs.Knows.{Knows, KnowsAfter, KnowsNone, KnowsNoneFor};
 ghost use Rattle.catalog.specs.Laid.{IsPrepared, coming_of, going_of};
 ghost use Rattle.catalog.specs.Lies.{LiesAfter, LiesOn};
@@ -33,7 +33,7 @@ use plain_base::DbPlain;
 use std::alloc::Global;
 
 /// Whether the rows that a change names are known.
-#[tactic(auto, unfolding(loaded_laws::specs::Loaded::knows_rows))]
+#[tactic(auto, unfolding(catalog_laws::specs::Loaded::knows_rows))]
 fn rows_are_known(loaded: &KeySet, change: &DbChange) -> bool
     ensures { result ≡ knows_rows change.now (is_in loaded.now) }
 {

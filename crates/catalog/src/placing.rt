@@ -9,7 +9,7 @@ ghost use Rattle.disk_model.specs.Disk.{Image};
 ghost use Rattle.plain_base.specs.Shown.{database_of};
 ghost use Rattle.catalogue_moves.specs.Files.{files_of};
 ghost use Rattle.catalog.specs.Laid.{HasMade, MayTake, NoneMayTake, PutsNoRows};
-ghost use Rattle.laying_laws.specs.Placed.{IsFree, Suits};
+ghost use Rattle.catalog_laws.specs.Placed.{IsFree, Suits};
 
 use crate::files::{file_with, relation_file};
 use crate::spots::SpotTable;
@@ -113,7 +113,7 @@ pub(crate) fn same_place(files: &FileTable, rel: &RelKey) -> Given
 }
 
 /// Where what a change makes lies, or what it changes, where no page of a relation is put.
-#[tactic(auto, unfolding(crate::specs::Laid::PutsNoRows, laying_laws::specs::Placed::Suits))]
+#[tactic(auto, unfolding(crate::specs::Laid::PutsNoRows, catalog_laws::specs::Placed::Suits))]
 fn place_of(files: &FileTable, change: &DbChange) -> Result<Given, OutOfMemory>
     ensures { IfOk result (λ given. PutsNoRows change.now → Suits change.now (files_of files.now) given.file given.used) }
 {

@@ -13,7 +13,7 @@ use Rattle.disk_model.specs.declared.disk.Addr.{Addr}
 use Rattle.batch_file.specs.Redone.{kept}
 use Rattle.plain_base.specs.Shown.{database_of}
 use Rattle.schema_build.specs.Parts.{index_owners_agree}
-use Rattle.loaded_laws.specs.Loaded.{loaded_part}
+use Rattle.catalog_laws.specs.Loaded.{loaded_part}
 use Rattle.page_chain.specs.Pages.{pages_of}
 use Rattle.stored_database.specs.Catalogue.{catalogue_in}
 use Rattle.stored_database.specs.Printed.{HasFiles, printed}

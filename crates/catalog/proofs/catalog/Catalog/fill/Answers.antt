@@ -122,3 +122,10 @@ returns-in-Some-clause-only_read g c = c.read.ensures.only_read
 
 pub returns-in-Some-clause-same : goal.returns-in-Some-clause-same
 returns-in-Some-clause-same g c = c.read.ensures.same
+
+pub read-requires-clause-stored : goal.read-requires-clause-stored
+read-requires-clause-stored g c =
+    ap (λ d. is_relation d c.args.key.now) (c.relation_file.ensures.same ∙ c.is_stored.ensures.same) ∙ sym c.in_ok-is_stored.ensures.there ∙ c.if-not-branch.false
+
+pub read-requires-clause-unread : goal.read-requires-clause-unread
+read-requires-clause-unread g c = sym c.has.ensures ∙ c.if-has.false

@@ -83,3 +83,54 @@ returns-in_err-rows-clause-same g c = c.relation_rows.ensures.same
 
 pub returns-in_err-rows-clause-reads : goal.returns-in_err-rows-clause-reads
 returns-in_err-rows-clause-reads g c = c.relation_rows.ensures.reads
+
+pub returns-in_err-put-clause-came : goal.returns-in_err-put-clause-came
+returns-in_err-put-clause-came g c = c.relation_rows.ensures.came
+
+pub returns-in_err-put-clause-only_read : goal.returns-in_err-put-clause-only_read
+returns-in_err-put-clause-only_read g c = c.relation_rows.ensures.only_read
+
+pub returns-in_err-put-clause-same : goal.returns-in_err-put-clause-same
+returns-in_err-put-clause-same g c = c.relation_rows.ensures.same
+
+pub returns-in_err-put-clause-reads : goal.returns-in_err-put-clause-reads
+returns-in_err-put-clause-reads g c = c.relation_rows.ensures.reads
+
+pub returns-in_err-take-clause-came : goal.returns-in_err-take-clause-came
+returns-in_err-take-clause-came g c = c.relation_rows.ensures.came
+
+pub returns-in_err-take-clause-only_read : goal.returns-in_err-take-clause-only_read
+returns-in_err-take-clause-only_read g c = c.relation_rows.ensures.only_read
+
+pub returns-in_err-take-clause-same : goal.returns-in_err-take-clause-same
+returns-in_err-take-clause-same g c = c.relation_rows.ensures.same
+
+pub returns-in_err-take-clause-reads : goal.returns-in_err-take-clause-reads
+returns-in_err-take-clause-reads g c = c.relation_rows.ensures.reads
+
+pub returns-then-branch-clause-came : goal.returns-then-branch-clause-came
+returns-then-branch-clause-came g c = c.relation_rows.ensures.came
+
+pub returns-then-branch-clause-only_read : goal.returns-then-branch-clause-only_read
+returns-then-branch-clause-only_read g c = c.relation_rows.ensures.only_read
+
+pub returns-then-branch-clause-same : goal.returns-then-branch-clause-same
+returns-then-branch-clause-same g c = c.relation_rows.ensures.same
+
+pub returns-then-branch-clause-reads : goal.returns-then-branch-clause-reads
+returns-then-branch-clause-reads g c = c.relation_rows.ensures.reads
+
+pub returns-else-branch-clause-came : goal.returns-else-branch-clause-came
+returns-else-branch-clause-came g c = c.relation_rows.ensures.came
+
+pub returns-else-branch-clause-only_read : goal.returns-else-branch-clause-only_read
+returns-else-branch-clause-only_read g c = c.relation_rows.ensures.only_read
+
+pub returns-else-branch-clause-same : goal.returns-else-branch-clause-same
+returns-else-branch-clause-same g c = c.relation_rows.ensures.same
+
+pub returns-else-branch-clause-reads : goal.returns-else-branch-clause-reads
+returns-else-branch-clause-reads g c = c.relation_rows.ensures.reads
+
+pub returns-then-branch-clause-cause : goal.returns-then-branch-clause-cause
+returns-then-branch-clause-cause g c = record { later = c.in_ok-rows.ensures.cause.later; caused = tt }

@@ -1,0 +1,14 @@
+pub mod Part
+pub mod Stands
+pub mod PartRows
+pub mod Changes
+pub mod RowsCome
+pub mod EmptyPages
+pub mod Images
+pub mod Spelling
+pub mod From
+pub mod Agreeing
+pub mod Standing
+pub mod Schemas
+pub mod Kept
+pub mod Following

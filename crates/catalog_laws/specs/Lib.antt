@@ -1,0 +1,5 @@
+pub mod Loaded
+pub mod Made
+pub mod Unread
+pub mod Placed
+pub mod Followed

@@ -1,0 +1,14 @@
+//! Laws that a catalog in memory rests on: what a database is of which some rows were read, what a catalogue
+//! says where none were, and what a lawful change leaves on the pages. Each function here is a law with no
+//! body: its clause speaks of the definitions alone.
+#![tactic(auto)]
+
+mod changing;
+mod laying;
+mod parts;
+mod unread;
+
+pub use changing::{a_part_takes_changes, a_part_takes_rows};
+pub use laying::{the_catalogue_follows, what_a_change_leaves};
+pub use parts::{a_part_has_the_rows, a_part_is_a_database};
+pub use unread::{empty_pages_are_there, parts_are_spelled, what_is_spelled_has_one_schema};

@@ -1,5 +1,0 @@
-pub mod Part
-pub mod Stands
-pub mod PartRows
-pub mod Changes
-pub mod RowsCome

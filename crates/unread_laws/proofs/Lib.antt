@@ -1,3 +1,0 @@
-pub mod EmptyPages
-pub mod Images
-pub mod Spelling
