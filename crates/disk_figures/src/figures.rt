@@ -1,130 +1,117 @@
 //! The database is made, opened and changed, and what that takes is printed.
 
-ghost use Rattle.std.specs.Prelude.{◌≡◌, false};
-
 use crate::asked::Asked;
 use crate::changes::{administrator, change, creation, key};
 use crate::fault::Fault;
 use crate::printing::{print_changes, print_counts};
 use calculus::DbChange;
 use db_disk::{DbDisk, create_db, open_db};
-use disk_model::Disk;
 use folder_disk::{Counts, FolderDisk};
 use std::alloc::Global;
 use std::fs;
 
-/// What was counted once the database was opened, behind the first change, and behind the last.
+/// A database in a folder.
+type InFolder<'r> = DbDisk<FolderDisk<'r, HostRuntime>>;
+
+/// What changes took.
 #[derive(Clone, Copy)]
 struct Taken {
-    opening: Counts,
-    first: Counts,
     all: Counts,
+    first: Counts,
+}
+
+/// Lays a change.
+fn lay(alloc: Global, base: &mut InFolder<'_>, change: &DbChange) -> Result<(), Fault> {
+    base.apply(alloc, change)?;
+    Ok(())
 }
 
 /// Makes the database on a disk.
-fn born<D: Disk>(alloc: Global, disk: &mut D) -> Result<(), Fault> {
+fn born(alloc: Global, disk: &mut FolderDisk<'_, HostRuntime>) -> Result<(), Fault> {
     let dba = administrator(alloc)?;
     create_db(disk, &dba)?;
     Ok(())
 }
 
-/// Lays a change. Of a disk that tells nothing no database is known, so each change is lawful.
-fn lay<D: Disk>(alloc: Global, base: &mut DbDisk<D>, change: &DbChange) -> Result<(), Fault>
-    requires { D.tells ≡ false }
-{
-    base.apply(alloc, change)?;
-    Ok(())
-}
-
-/// Makes the relation.
-fn filled<D: Disk>(alloc: Global, base: &mut DbDisk<D>, rows: u32) -> Result<(), Fault>
-    requires { D.tells ≡ false }
-{
+/// Makes the relation; what was counted then.
+fn filled(alloc: Global, base: &mut InFolder<'_>, rows: u32) -> Result<Counts, Fault> {
     let change = creation(alloc, rows)?;
-    lay(alloc, base, &change)
-}
-
-/// Makes the change of a turn.
-fn changed_once<D: Disk>(
-    alloc: Global,
-    base: &mut DbDisk<D>,
-    asked: Asked<'_>,
-    turn: u32,
-) -> Result<(), Fault>
-    requires { D.tells ≡ false }
-{
-    let change = change(alloc, asked, turn)?;
-    lay(alloc, base, &change)
-}
-
-/// Makes the changes of the turns from one up to another.
-fn changed<D: Disk>(
-    alloc: Global,
-    base: &mut DbDisk<D>,
-    asked: Asked<'_>,
-    from: u32,
-    to: u32,
-) -> Result<(), Fault>
-    requires { D.tells ≡ false }
-{
-    for turn in from..to {
-        changed_once(alloc, base, asked, turn)?;
-    }
-    Ok(())
-}
-
-/// How many rows the relation has.
-fn size_of<D: Disk>(alloc: Global, base: &mut DbDisk<D>) -> Result<u32, Fault> {
-    let key = key(alloc)?;
-    let count = base.size(alloc, &key)?;
-    Ok(count)
+    lay(alloc, base, &change)?;
+    Ok(base.disk().counts())
 }
 
 /// Makes the database with its relation; what that took.
 fn made(rt: &HostRuntime, asked: Asked<'_>) -> Result<Counts, Fault> {
     let mut disk = FolderDisk::new(rt, rt.alloc(), asked.folder)?;
-    born(rt.alloc(), &mut disk)?;
-    let mut base = DbDisk::later(rt.alloc(), disk);
-    filled(rt.alloc(), &mut base, asked.rows)?;
-    Ok(base.disk().counts())
+    match born(rt.alloc(), &mut disk) {
+        Ok(()) => filled(rt.alloc(), &mut DbDisk::later(rt.alloc(), disk), asked.rows),
+        Err(fault) => Err(fault),
+    }
 }
 
-/// Opens the database on a disk.
-fn opened<D: Disk + Drop>(alloc: Global, disk: D) -> Result<DbDisk<D>, Fault> {
-    match open_db(alloc, disk) {
+/// Opens the database.
+fn opened<'r>(rt: &'r HostRuntime, folder: &str) -> Result<InFolder<'r>, Fault> {
+    let disk = FolderDisk::new(rt, rt.alloc(), folder)?;
+    match open_db(rt.alloc(), disk) {
         Ok(base) => Ok(base),
         Err(unopened) => Err(unopened.fault.into()),
     }
 }
 
-/// Opens the database, and changes it; what that took.
-fn worked(rt: &HostRuntime, asked: Asked<'_>) -> Result<Taken, Fault> {
-    let disk = FolderDisk::new(rt, rt.alloc(), asked.folder)?;
-    let mut base = opened(rt.alloc(), disk)?;
-    let opening = base.disk().counts();
-    changed(rt.alloc(), &mut base, asked, 0, asked.times.min(1))?;
-    let first = base.disk().counts().since(opening);
-    changed(rt.alloc(), &mut base, asked, 1, asked.times)?;
-    let all = base.disk().counts().since(opening);
-    Ok(Taken {
-        opening,
-        first,
-        all,
-    })
+/// Makes the change of a turn, and lays it.
+fn changed_once(
+    alloc: Global,
+    base: &mut InFolder<'_>,
+    asked: Asked<'_>,
+    turn: u32,
+) -> Result<(), Fault> {
+    let change = change(alloc, asked, turn)?;
+    lay(alloc, base, &change)
 }
 
-/// Opens the database anew: how many rows there are in the end.
-fn rows_left(rt: &HostRuntime, asked: Asked<'_>) -> Result<u32, Fault> {
-    let disk = FolderDisk::new(rt, rt.alloc(), asked.folder)?;
-    let mut base = opened(rt.alloc(), disk)?;
-    size_of(rt.alloc(), &mut base)
+/// Makes all changes; what they took.
+fn changed(alloc: Global, base: &mut InFolder<'_>, asked: Asked<'_>) -> Result<Taken, Fault> {
+    let before = base.disk().counts();
+    let mut first = Counts::NONE;
+    for turn in 0..asked.times {
+        changed_once(alloc, base, asked, turn)?;
+        if turn == 0 {
+            first = base.disk().counts().since(before);
+        }
+    }
+    let all = base.disk().counts().since(before);
+    Ok(Taken { all, first })
 }
 
-/// Prints what opening and changing took.
-fn print_taken(rt: &HostRuntime, taken: Taken, times: u32) -> Result<(), Fault> {
-    print_counts(rt, "opening", taken.opening)?;
-    print_changes(rt, taken.all, taken.first, times)?;
+/// Changes the database; what opening and changing it took is printed.
+fn print_changed(rt: &HostRuntime, base: &mut InFolder<'_>, asked: Asked<'_>) -> Result<(), Fault> {
+    print_counts(rt, "opening", base.disk().counts())?;
+    let taken = changed(rt.alloc(), base, asked)?;
+    print_changes(rt, taken.all, taken.first, asked.times)?;
     Ok(())
+}
+
+/// Opens the database, and changes it; what that took is printed.
+fn print_work(rt: &HostRuntime, asked: Asked<'_>) -> Result<(), Fault> {
+    match opened(rt, asked.folder) {
+        Ok(mut base) => print_changed(rt, &mut base, asked),
+        Err(fault) => Err(fault),
+    }
+}
+
+/// How many rows the relation has.
+fn size_of(alloc: Global, base: &mut InFolder<'_>) -> Result<u32, Fault> {
+    let key = key(alloc)?;
+    let count = base.size(alloc, &key)?;
+    Ok(count)
+}
+
+/// How many rows there are in the end.
+fn rows_left(rt: &HostRuntime, asked: Asked<'_>) -> Result<u32, Fault> {
+    match opened(rt, asked.folder) {
+        Ok(mut base) => size_of(rt.alloc(), &mut base),
+        Err(fault) => Err(fault),
+    }
 }
 
 /// Makes the database, opens and changes it, and prints what each takes.
@@ -133,7 +120,7 @@ pub fn print_figures(rt: &HostRuntime, asked: Asked<'_>) -> Result<(), Fault> {
         return Err(Fault::FolderIsThere);
     }
     print_counts(rt, "making", made(rt, asked)?)?;
-    print_taken(rt, worked(rt, asked)?, asked.times)?;
+    print_work(rt, asked)?;
     let rows = rows_left(rt, asked)?;
     println!(rt; "rows: {rows}")?;
     Ok(())
