@@ -1,5 +1,6 @@
 pub mod Numbering
 pub mod AfterReads
+pub mod Putting
 pub mod Reopened
 pub mod Runs
 pub mod Stands

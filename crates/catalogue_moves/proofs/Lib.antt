@@ -1,5 +1,6 @@
 pub mod ByPlaces
 pub mod Coming
+pub mod FromNone
 pub mod GoneEntries
 pub mod GoneParts
 pub mod KeptBases
@@ -14,3 +15,4 @@ pub mod ReadBases
 pub mod ReadTables
 pub mod Spelled
 pub mod Tables
+pub mod Whole

@@ -1,6 +1,6 @@
 //! The rows of permits and rules that are dropped.
 
-ghost use Rattle.std.specs.Prelude.{◌≡◌, [], filter, IfOk};
+ghost use Rattle.std.specs.Prelude.{◌≡◌, [], filter, OnOk};
 ghost use Rattle.std.specs.List.{flat_map};
 ghost use Rattle.calculus.specs.Database.{rules_on, permits_on};
 ghost use Rattle.calculus.specs.IsDatabase.{IsDatabase};
@@ -43,50 +43,48 @@ fn rules_of(all: Vec<Rule>, numbers: &[u32]) -> Vec<Rule>
     all
 }
 
-/// The rows of permits of a relation with these numbers.
-pub(crate) fn dropped_permits(
+/// Writes the rows of permits of a relation with these numbers, where there are no rows.
+pub(crate) fn put_dropped_permits(
     alloc: Global,
     plain: &mut DbPlain,
+    rows: &mut SomeRows,
     rel: &RelKey,
     numbers: &[u32],
     file: u32,
-) -> Result<SomeRows, OutOfMemory>
+) -> Result<(), OutOfMemory>
     requires { IsDatabase (database_of plain.old) }
     ensures same { database_of plain.new ≡ database_of plain.old }
-    ensures rows { IfOk result (λ rows. AreRows (record {
+    ensures rows { AreRows (record { entries = []; columns = []; parts = [] }) rows.old → OnOk result (AreRows (record {
       entries = [];
       columns = [];
       parts =
           flat_map (λ p. parts_from file of_permit p.number 0 (cut (tree_bytes permit_codec p))) (filter (λ p. has_number numbers.now p.number) (permits_on (database_of plain.old) rel.now));
-    }) rows) }
+    }) rows.new) }
 {
     let all = permits(alloc, plain, rel)?;
     let gone = permits_of(all, numbers);
-    let mut rows = SomeRows::new(alloc);
-    put_permits(alloc, &mut rows.parts, file, gone.as_slice())?;
-    Ok(rows)
+    put_permits(alloc, &mut rows.parts, file, gone.as_slice())
 }
 
-/// The rows of rules of a relation with these numbers.
-pub(crate) fn dropped_rules(
+/// Writes the rows of rules of a relation with these numbers, where there are no rows.
+pub(crate) fn put_dropped_rules(
     alloc: Global,
     plain: &mut DbPlain,
+    rows: &mut SomeRows,
     rel: &RelKey,
     numbers: &[u32],
     file: u32,
-) -> Result<SomeRows, OutOfMemory>
+) -> Result<(), OutOfMemory>
     requires { IsDatabase (database_of plain.old) }
     ensures same { database_of plain.new ≡ database_of plain.old }
-    ensures rows { IfOk result (λ rows. AreRows (record {
+    ensures rows { AreRows (record { entries = []; columns = []; parts = [] }) rows.old → OnOk result (AreRows (record {
       entries = [];
       columns = [];
       parts =
           flat_map (λ r. parts_from file of_rule r.number 0 (cut (tree_bytes rule_codec r))) (filter (λ r. has_number numbers.now r.number) (rules_on (database_of plain.old) rel.now));
-    }) rows) }
+    }) rows.new) }
 {
     let all = rules(alloc, plain, rel)?;
     let gone = rules_of(all, numbers);
-    let mut rows = SomeRows::new(alloc);
-    put_rules(alloc, &mut rows.parts, file, gone.as_slice())?;
-    Ok(rows)
+    put_rules(alloc, &mut rows.parts, file, gone.as_slice())
 }

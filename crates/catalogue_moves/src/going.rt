@@ -15,7 +15,8 @@ ghost use Rattle.catalogue_moves.specs.Bases.{IndexBases, index_entries, rows_on
 ghost use Rattle.catalogue_moves.specs.Files.{files_of, is_in};
 ghost use Rattle.catalogue_moves.specs.Moves.{AreRows, Came, CameParts, entry_with};
 
-use crate::asked::{known, place, relation};
+use crate::asked::{known, place};
+use crate::changing::put_relation;
 use crate::files::{FilePlace, FileTable};
 use crate::gone::{Sort, put_all_gone};
 use crate::gone_trees::{TreeSort, put_all_trees};
@@ -76,28 +77,26 @@ fn put_indexes(
     Ok(())
 }
 
-/// The rows of a relation and its indexes.
-pub(crate) fn unmodified(
+/// Writes the rows of a relation and its indexes, where there are no rows.
+pub(crate) fn put_unmodified(
     alloc: Global,
     plain: &mut DbPlain,
+    rows: &mut SomeRows,
     files: &FileTable,
     rel: &RelKey,
-) -> Result<SomeRows, OutOfMemory>
+) -> Result<(), OutOfMemory>
     requires { IsDatabase (database_of plain.old) }
     ensures same { database_of plain.new ≡ database_of plain.old }
-    ensures rows { (r : Relation) → relation_at (database_of plain.old) rel.now ≡ Some r → IndexBases files.now (database_of plain.old) → IfOk result (λ rows. AreRows (record {
+    ensures rows { AreRows (record { entries = []; columns = []; parts = [] }) rows.old → (r : Relation) → relation_at (database_of plain.old) rel.now ≡ Some r → IndexBases files.now (database_of plain.old) → OnOk result (AreRows (record {
       entries = entry_with ((files_of files.now).file rel.now) 0 1 ((files_of files.now).used rel.now) r.info
           ∷ map (index_entry (files_of files.now)) (filter (λ x. same_key x.base rel.now) (database_of plain.old).indexes);
       columns = [];
       parts = [];
-    }) rows) }
+    }) rows.new) }
 {
     let lies = place(files, rel);
-    let info = relation(alloc, plain, rel)?;
-    let mut rows = SomeRows::new(alloc);
-    put_entry(alloc, &mut rows.entries, &info, lies.0, 0, 1, lies.1)?;
-    put_indexes(alloc, plain, &mut rows.entries, &files.places, lies.0)?;
-    Ok(rows)
+    put_relation(alloc, plain, rows, rel, lies.0, lies.1)?;
+    put_indexes(alloc, plain, &mut rows.entries, &files.places, lies.0)
 }
 
 /// Writes the entries and the attributes of what is destroyed: of relations, views and indexes.
@@ -154,20 +153,19 @@ fn set_of(alloc: Global, rels: &[RelKey]) -> Result<KeySet, OutOfMemory>
     Ok(set)
 }
 
-/// The rows of what is destroyed.
-pub(crate) fn destroyed(
+/// Writes the rows of what is destroyed, where there are no rows.
+pub(crate) fn put_all_destroyed(
     alloc: Global,
     plain: &mut DbPlain,
+    rows: &mut SomeRows,
     files: &FileTable,
     rels: &[RelKey],
-) -> Result<SomeRows, OutOfMemory>
+) -> Result<(), OutOfMemory>
     requires { IsDatabase (database_of plain.old) }
     ensures same { database_of plain.new ≡ database_of plain.old }
-    ensures rows { IndexBases files.now (database_of plain.old) → IfOk result (λ rows. AreRows (rows_of (files_of files.now) (what_is_destroyed rels.now (database_of plain.old))) rows) }
+    ensures rows { AreRows (record { entries = []; columns = []; parts = [] }) rows.old → IndexBases files.now (database_of plain.old) → OnOk result (AreRows (rows_of (files_of files.now) (what_is_destroyed rels.now (database_of plain.old))) rows.new) }
 {
     let listed = set_of(alloc, rels)?;
-    let mut rows = SomeRows::new(alloc);
-    put_destroyed(alloc, plain, &mut rows, files, &listed, rels)?;
-    put_destroyed_trees(alloc, plain, &mut rows.parts, files, &listed, rels)?;
-    Ok(rows)
+    put_destroyed(alloc, plain, rows, files, &listed, rels)?;
+    put_destroyed_trees(alloc, plain, &mut rows.parts, files, &listed, rels)
 }

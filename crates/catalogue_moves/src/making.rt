@@ -1,6 +1,6 @@
 //! The rows of what is made.
 
-ghost use Rattle.std.specs.Prelude.{◌≡◌, ◌∷◌, [], IfOk};
+ghost use Rattle.std.specs.Prelude.{◌≡◌, ◌∷◌, [], IfOk, OnOk};
 ghost use Rattle.calculus.specs.Change.{index_info};
 ghost use Rattle.quel_tree.specs.Message.{most_tree_levels};
 ghost use Rattle.quel_tree.specs.Permits.{rule as rule_codec, permit as permit_codec};
@@ -18,50 +18,50 @@ use memory::both;
 use quel_tree::{PermitTree, QueryTree, RuleTree};
 use std::alloc::Global;
 
-/// The row of one entry, which has these files and numbers of pages.
-pub(crate) fn one_entry(
+/// Writes the row of one entry, which has these files and numbers of pages, where there are no rows.
+pub(crate) fn put_only(
     alloc: Global,
+    rows: &mut SomeRows,
     info: &RelInfo,
     file: u32,
     base: u32,
     primary: u32,
     used: u32,
-) -> Result<SomeRows, OutOfMemory>
-    ensures { IfOk result (λ rows. AreRows (record { entries = entry_with file base primary used info.now ∷ []; columns = []; parts = [] }) rows) }
+) -> Result<(), OutOfMemory>
+    ensures { AreRows (record { entries = []; columns = []; parts = [] }) rows.old → OnOk result (AreRows (record { entries = entry_with file base primary used info.now ∷ []; columns = []; parts = [] }) rows.new) }
 {
-    let mut rows = SomeRows::new(alloc);
-    put_entry(alloc, &mut rows.entries, info, file, base, primary, used)?;
-    Ok(rows)
+    put_entry(alloc, &mut rows.entries, info, file, base, primary, used)
 }
 
-/// The rows of a relation.
-pub(crate) fn created(
+/// Writes the rows of a relation, where there are no rows.
+pub(crate) fn put_created(
     alloc: Global,
+    rows: &mut SomeRows,
     info: &RelInfo,
     file: u32,
     used: u32,
-) -> Result<SomeRows, OutOfMemory>
-    ensures { IfOk result (λ rows. AreRows (record { entries = entry_with file 0 1 used info.now ∷ []; columns = columns_from file 0 info.now.attrs; parts = [] }) rows) }
+) -> Result<(), OutOfMemory>
+    ensures { AreRows (record { entries = []; columns = []; parts = [] }) rows.old → OnOk result (AreRows (record { entries = entry_with file 0 1 used info.now ∷ []; columns = columns_from file 0 info.now.attrs; parts = [] }) rows.new) }
 {
-    let mut rows = SomeRows::new(alloc);
-    put_known(alloc, &mut rows, info, file, 1, used)?;
-    Ok(rows)
+    put_known(alloc, rows, info, file, 1, used)
 }
 
-/// The rows of a view.
-pub(crate) fn viewed(
+/// Writes the rows of a view, where there are no rows.
+pub(crate) fn put_viewed(
     alloc: Global,
+    rows: &mut SomeRows,
     info: &RelInfo,
     query: &Query,
     file: u32,
-) -> Result<SomeRows, OutOfMemory>
-    ensures { (query_codec most_tree_levels).Fits query.now → IfOk result (λ rows.
-        AreRows (record { entries = entry_with file 0 0 0 info.now ∷ []; columns = columns_from file 0 info.now.attrs; parts = parts_from file of_view 0 0 (cut (tree_bytes query_codec query.now)) }) rows) }
+) -> Result<(), OutOfMemory>
+    ensures { AreRows (record { entries = []; columns = []; parts = [] }) rows.old → (query_codec most_tree_levels).Fits query.now → OnOk result (AreRows (record {
+      entries = entry_with file 0 0 0 info.now ∷ [];
+      columns = columns_from file 0 info.now.attrs;
+      parts = parts_from file of_view 0 0 (cut (tree_bytes query_codec query.now));
+    }) rows.new) }
 {
-    let mut rows = SomeRows::new(alloc);
-    put_known(alloc, &mut rows, info, file, 0, 0)?;
-    put_tree::<QueryTree>(alloc, &mut rows.parts, file, 0, 0, query)?;
-    Ok(rows)
+    put_known(alloc, rows, info, file, 0, 0)?;
+    put_tree::<QueryTree>(alloc, &mut rows.parts, file, 0, 0, query)
 }
 
 /// What is known of an index, which has the owner of the relation below it.
@@ -83,37 +83,50 @@ fn index_info(
     })
 }
 
-/// The row of an index, where the relation below it has that file.
-pub(crate) fn indexed(
+/// Writes the row of an index, where the relation below it has that file and there are no rows.
+pub(crate) fn put_indexed(
     alloc: Global,
+    rows: &mut SomeRows,
     base: &RelKey,
     name: &Name,
     keys: &List<u8>,
     file: u32,
     below: u32,
-) -> Result<SomeRows, OutOfMemory>
-    ensures { IfOk result (λ rows. AreRows (record { entries = entry_with file below 0 0 (index_info base.now name.now keys.now) ∷ []; columns = []; parts = [] }) rows) }
+) -> Result<(), OutOfMemory>
+    ensures { AreRows (record { entries = []; columns = []; parts = [] }) rows.old → OnOk result (AreRows (record { entries = entry_with file below 0 0 (index_info base.now name.now keys.now) ∷ []; columns = []; parts = [] }) rows.new) }
 {
     let info = index_info(alloc, base, name, keys)?;
-    one_entry(alloc, &info, file, below, 0, 0)
+    put_only(alloc, rows, &info, file, below, 0, 0)
 }
 
-/// The rows of a permit on the relation with this file.
-pub(crate) fn permitted(alloc: Global, permit: &Permit, file: u32) -> Result<SomeRows, OutOfMemory>
-    ensures { (permit_codec most_tree_levels).Fits permit.now → IfOk result (λ rows.
-        AreRows (record { entries = []; columns = []; parts = parts_from file of_permit permit.now.number 0 (cut (tree_bytes permit_codec permit.now)) }) rows) }
+/// Writes the rows of a permit on the relation with this file, where there are no rows.
+pub(crate) fn put_permitted(
+    alloc: Global,
+    rows: &mut SomeRows,
+    permit: &Permit,
+    file: u32,
+) -> Result<(), OutOfMemory>
+    ensures { AreRows (record { entries = []; columns = []; parts = [] }) rows.old → (permit_codec most_tree_levels).Fits permit.now → OnOk result (AreRows (record {
+      entries = [];
+      columns = [];
+      parts = parts_from file of_permit permit.now.number 0 (cut (tree_bytes permit_codec permit.now));
+    }) rows.new) }
 {
-    let mut rows = SomeRows::new(alloc);
-    put_tree::<PermitTree>(alloc, &mut rows.parts, file, 2, permit.number, permit)?;
-    Ok(rows)
+    put_tree::<PermitTree>(alloc, &mut rows.parts, file, 2, permit.number, permit)
 }
 
-/// The rows of a rule on the relation with this file.
-pub(crate) fn ruled(alloc: Global, rule: &Rule, file: u32) -> Result<SomeRows, OutOfMemory>
-    ensures { (rule_codec most_tree_levels).Fits rule.now → IfOk result (λ rows.
-        AreRows (record { entries = []; columns = []; parts = parts_from file of_rule rule.now.number 0 (cut (tree_bytes rule_codec rule.now)) }) rows) }
+/// Writes the rows of a rule on the relation with this file, where there are no rows.
+pub(crate) fn put_ruled(
+    alloc: Global,
+    rows: &mut SomeRows,
+    rule: &Rule,
+    file: u32,
+) -> Result<(), OutOfMemory>
+    ensures { AreRows (record { entries = []; columns = []; parts = [] }) rows.old → (rule_codec most_tree_levels).Fits rule.now → OnOk result (AreRows (record {
+      entries = [];
+      columns = [];
+      parts = parts_from file of_rule rule.now.number 0 (cut (tree_bytes rule_codec rule.now));
+    }) rows.new) }
 {
-    let mut rows = SomeRows::new(alloc);
-    put_tree::<RuleTree>(alloc, &mut rows.parts, file, 1, rule.number, rule)?;
-    Ok(rows)
+    put_tree::<RuleTree>(alloc, &mut rows.parts, file, 1, rule.number, rule)
 }

@@ -43,6 +43,12 @@ front n xs h small =
     ∙ ap (λ l. l ++ drop n xs) (bytes_back n (take n xs) (omega (arith, length-take n xs)) (bytes_taken n xs small))
     ∙ take-append-drop n xs
 
+-- a number in bytes that are taken from a place on
+pub number_there : (n at : ℕ) (xs : List ℕ) → at + n ≤ length xs → little_from 0 n (take (at + n - at) (drop at xs)) ≡ little_from at n xs
+number_there n at xs h =
+    let e : at + n - at ≡ n = omega arith in
+    ap (λ k. little_from 0 n (take k (drop at xs))) e ∙ little_from-take 0 n n (drop at xs) (omega arith) ∙ sym (moved at n xs (omega (arith, h)))
+
 -- a number from a place on and what is behind it
 from : (k n : ℕ) (xs : List ℕ) → k + n ≤ length xs → AreBytes xs → little_bytes n (little_from k n xs) ++ drop (k + n) xs ≡ drop k xs
 from k n xs h small =

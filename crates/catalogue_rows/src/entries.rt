@@ -84,13 +84,20 @@ fn add_key(row: &mut Vec<u8>, key: &RelKey) -> Result<(), OutOfMemory>
     add_name(row, &key.name)
 }
 
+/// Adds the file of an index's relation, and how many primary pages and pages of the directory there are.
+fn add_first_pages(row: &mut Vec<u8>, entry: &EntryRow) -> Result<(), OutOfMemory>
+    ensures { OnOk result (row.new.items ≡ row.old.items ++ (bytes32 entry.now.base ++ (bytes32 entry.now.primary ++ bytes32 entry.now.directory))) }
+{
+    add_number(row, entry.base)?;
+    add_number(row, entry.primary)?;
+    add_number(row, entry.directory)
+}
+
 /// Adds the file of an index's relation, and how many pages there are.
 fn add_pages(row: &mut Vec<u8>, entry: &EntryRow) -> Result<(), OutOfMemory>
     ensures { OnOk result (row.new.items ≡ row.old.items ++ (bytes32 entry.now.base ++ (bytes32 entry.now.primary ++ (bytes32 entry.now.directory ++ bytes32 entry.now.used)))) }
 {
-    add_number(row, entry.base)?;
-    add_number(row, entry.primary)?;
-    add_number(row, entry.directory)?;
+    add_first_pages(row, entry)?;
     add_number(row, entry.used)
 }
 

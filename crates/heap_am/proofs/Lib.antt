@@ -13,3 +13,4 @@ pub mod Whole
 pub mod Standing
 pub mod Rising
 pub mod DoneNear
+pub mod Rooms

@@ -83,3 +83,8 @@ pub came_on : (n : ℕ) (going rows : List (List ℕ)) (p q r : List ℕ) → ly
     → Came (staying going (lying_on n (Some p))) rows (lying_on n (Some r))
 unfolding lying_on
 came_on n going rows p q r left filled = subst (λ before. Came before rows (lying_in n 0 (slots r))) left (filled.came n)
+
+-- no row less
+pub none_less : (went : Bool) (left : ℕ) → went ≡ false → (if went then 1 else 0) + left ≡ left
+none_less true left e = cc
+none_less false left e = omega arith

@@ -6,6 +6,7 @@ pub mod Clearing
 pub mod Coming
 pub mod Counting
 pub mod Grown
+pub mod Handed
 pub mod Hands
 pub mod Laying
 pub mod Linking
@@ -15,6 +16,7 @@ pub mod PageTest
 pub mod Reaching
 pub mod Reading
 pub mod Replaced
+pub mod Room
 pub mod Slots
 pub mod Stepping
 pub mod Took

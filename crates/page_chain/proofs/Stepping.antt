@@ -48,6 +48,22 @@ page_renewed file bound page going coming gone next p q m told there is follows 
       (record { came = came page; went = went page }));
 }
 
+-- a page that stayed as it was wasn't put
+pub page_kept : (file bound page : ℕ) (going coming : List (List ℕ)) (gone next : ℕ) (p q : List ℕ) (m : Image) (told : Option Image)
+    → m (page_at file page) ≡ Some p → told ≡ Some m → next_of bound page (Some p) ≡ Some next → q ≡ p
+    → ((n : ℕ) → Came (staying going (lying_on n (Some p))) coming (lying_on n (Some q))) → ((n : ℕ) → gone + length (staying going (lying_on n (Some p))) ≡ length (lying_on n (Some p)))
+    → PageRenewed file bound page going coming gone next m told
+page_kept file bound page going coming gone next p q m told there is follows same came went = record {
+  image = m;
+  told_still = is;
+  elsewhere = λ b other. refl;
+  goes_on = ap (next_of bound page) there ∙ follows;
+  goes_on_still = ap (next_of bound page) there ∙ follows;
+  changed =
+      subst (λ o. Changed going coming gone (lying_on page o) (lying_on page o)) (sym there)
+      (record { came = subst (λ r. Came (staying going (lying_on page (Some p))) coming (lying_on page (Some r))) same (came page); went = went page });
+}
+
 -- a page that isn't one of a chain isn't one of a chain that ends as it must
 pub off_any : (file page bound last : ℕ) (told : Option Image) (a : Addr) → IsAtFault told (OffPage file page bound) a → IsAtFault told (OffChain file page bound last) a
 off_any file page bound last told a fault m is = let off = fault m is in record {

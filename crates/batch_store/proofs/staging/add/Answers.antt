@@ -1,4 +1,4 @@
-use Rattle.std.proofs.Common.{sym, ◌∙◌}
+use Rattle.std.proofs.Common.{sym, ◌∙◌, refl, inl, arith}
 use Rattle.batch_file.specs.Staged.{size_of, staged}
 use Rattle.batch_file.proofs.Outside.{apart_starts}
 use Rattle.batch_store.proofs.Stands.{standing_added, numbered_added, below_added, noted_so, staged_length, kept_promise}
@@ -26,3 +26,39 @@ returns-in-Ok-clause-numbered g c = λ told.
     let size = c.count-k.ensures ∙ sym (staged_length m c.args.batch.now) in
     numbered_added c.args.numbers.now c.insert.new.self (staged m c.args.batch.now) (staged (g.D.Disk.seen c.add.new.disk) c.add.new.self) c.args.a c.args.page.now
     (noted_so c.args.numbers.now c.insert.new.self c.args.a c.count-k.result _ size updates.0) (c.requires.numbered told) (c.in-Ok.ensures.added told)
+
+pub returns-then-k-clause-shut : goal.returns-then-k-clause-shut
+returns-then-k-clause-shut g c = c.requires.shut
+
+pub returns-then-k-clause-change : goal.returns-then-k-clause-change
+returns-then-k-clause-change g c = λ told. record { elsewhere = λ b other. refl; touches = λ b touched. inl touched }
+
+pub returns-then-k-clause-cause : goal.returns-then-k-clause-cause
+returns-then-k-clause-cause g c = record { later = omega arith; caused = tt }
+
+pub returns-in-Ok-clause-shut : goal.returns-in-Ok-clause-shut
+returns-in-Ok-clause-shut g c = c.add.ensures.shut
+
+pub returns-in-Ok-clause-change : goal.returns-in-Ok-clause-change
+returns-in-Ok-clause-change g c = c.add.ensures.change
+
+pub returns-in-Ok-clause-crash : goal.returns-in-Ok-clause-crash
+returns-in-Ok-clause-crash g c = c.add.ensures.crash
+
+pub returns-in-Err-clause-shut : goal.returns-in-Err-clause-shut
+returns-in-Err-clause-shut g c = c.add.ensures.shut
+
+pub returns-in-Err-clause-change : goal.returns-in-Err-clause-change
+returns-in-Err-clause-change g c = c.add.ensures.change
+
+pub returns-in-Err-clause-crash : goal.returns-in-Err-clause-crash
+returns-in-Err-clause-crash g c = c.add.ensures.crash
+
+pub returns-in-Ok-clause-held : goal.returns-in-Ok-clause-held
+returns-in-Ok-clause-held g c = c.in-Ok.ensures.held
+
+pub returns-in-Ok-clause-cause : goal.returns-in-Ok-clause-cause
+returns-in-Ok-clause-cause g c = record { later = c.add.ensures.cause.later; caused = tt }
+
+pub returns-in-Err-clause-cause : goal.returns-in-Err-clause-cause
+returns-in-Err-clause-cause g c = record { later = c.add.ensures.cause.later; caused = c.in-Err.ensures.cause.failed }

@@ -47,3 +47,18 @@ returns-clause-columns c bases =
     (subst (λ (db : Db). Came one two (flat_map (λ (p : FilePlace). map column_bytes (gone_columns sort.View c.args.rels.now (files_of c.args.files.now) db p)) (places_of c.args.files.now))) second c.in_ok-put_all_gone-2.ensures.columns)
     (subst (λ (db : Db). Came two three (flat_map (λ (p : FilePlace). map column_bytes (gone_columns sort.Index c.args.rels.now (files_of c.args.files.now) db p)) (places_of c.args.files.now))) third h))))
     c.put_all_gone-3.ensures.columns
+
+pub put_all_gone-requires : goal.put_all_gone-requires
+put_all_gone-requires c = record { listed = c.requires.listed }
+
+pub put_all_gone-requires-2 : goal.put_all_gone-requires-2
+put_all_gone-requires-2 c = record { listed = c.requires.listed }
+
+pub put_all_gone-requires-3 : goal.put_all_gone-requires-3
+put_all_gone-requires-3 c = record { listed = c.requires.listed }
+
+pub returns-clause-same : goal.returns-clause-same
+returns-clause-same c = c.put_all_gone-3.ensures.same ∙ c.in_ok-put_all_gone-2.ensures.same ∙ c.in_ok-put_all_gone.ensures.same
+
+pub returns-clause-parts : goal.returns-clause-parts
+returns-clause-parts c = c.put_all_gone-3.ensures.parts ∙ c.in_ok-put_all_gone-2.ensures.parts ∙ c.in_ok-put_all_gone.ensures.parts

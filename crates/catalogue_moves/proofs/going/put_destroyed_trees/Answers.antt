@@ -1,4 +1,4 @@
-use Rattle.std.proofs.Common.{◌∙◌, subst}
+use Rattle.std.proofs.Common.{sym, ◌∙◌, subst}
 use Rattle.std.specs.List.{flat_map}
 use Rattle.calculus.specs.Database.{Db}
 use Rattle.plain_base.specs.Shown.{database_of}
@@ -8,6 +8,7 @@ use Rattle.catalogue_moves.specs.Gone.{gone_parts}
 use Rattle.catalogue_moves.specs.Moves.{CameParts}
 use Rattle.catalogue_moves.proofs.Coming.{parts_then}
 use Rattle.catalogue_moves.proofs.GoneParts.{on_ok, parts_gone}
+use Rattle.calculus.specs.IsDatabase.{IsDatabase}
 use Rattle.catalogue_moves.proofs.going.put_destroyed_trees.Goals as goal
 
 pub returns-clause-came : goal.returns-clause-came
@@ -25,3 +26,24 @@ returns-clause-came c bases =
     (parts_then one two three _ _ (subst (λ (db : Db). CameParts one two (flat_map (gone_parts trees.Rule c.args.rels.now db) (places_of c.args.files.now))) second c.in_ok-put_all_trees-2.ensures.came)
     (subst (λ (db : Db). CameParts two three (flat_map (gone_parts trees.Permit c.args.rels.now db) (places_of c.args.files.now))) third h))))
     c.put_all_trees-3.ensures.came
+
+pub put_all_trees-requires-clause-base : goal.put_all_trees-requires-clause-base
+put_all_trees-requires-clause-base c = c.requires.base
+
+pub put_all_trees-requires-clause-listed : goal.put_all_trees-requires-clause-listed
+put_all_trees-requires-clause-listed c = c.requires.listed
+
+pub put_all_trees-requires-2-clause-base : goal.put_all_trees-requires-2-clause-base
+put_all_trees-requires-2-clause-base c = subst IsDatabase (sym c.in_ok-put_all_trees.ensures.same) c.requires.base
+
+pub put_all_trees-requires-2-clause-listed : goal.put_all_trees-requires-2-clause-listed
+put_all_trees-requires-2-clause-listed c = c.requires.listed
+
+pub put_all_trees-requires-3-clause-base : goal.put_all_trees-requires-3-clause-base
+put_all_trees-requires-3-clause-base c = subst IsDatabase (sym (c.in_ok-put_all_trees-2.ensures.same ∙ c.in_ok-put_all_trees.ensures.same)) c.requires.base
+
+pub put_all_trees-requires-3-clause-listed : goal.put_all_trees-requires-3-clause-listed
+put_all_trees-requires-3-clause-listed c = c.requires.listed
+
+pub returns-clause-same : goal.returns-clause-same
+returns-clause-same c = c.put_all_trees-3.ensures.same ∙ c.in_ok-put_all_trees-2.ensures.same ∙ c.in_ok-put_all_trees.ensures.same

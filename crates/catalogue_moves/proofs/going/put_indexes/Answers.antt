@@ -4,6 +4,8 @@ use Rattle.plain_base.specs.Shown.{database_of}
 use Rattle.catalogue_moves.specs.Bases.{rows_on}
 use Rattle.catalogue_moves.specs.Moves.{Came}
 use Rattle.catalogue_moves.proofs.Coming.{came_none, rows_more}
+use Rattle.std.specs.List.{flat_map}
+use Rattle.catalogue_moves.proofs.Whole.{whole}
 use Rattle.catalogue_moves.proofs.going.put_indexes.Goals as goal
 
 pub loop-place-init : goal.loop-place-init
@@ -17,3 +19,10 @@ loop-place-preserved c = record {
       c.loop-place.invariant.came
       (subst (λ (db : Db). Came c.loop-place.rows.items c.put_on.new.rows.items (rows_on c.args.base db c.place-item.result)) c.loop-place.invariant.same c.in_ok-put_on.ensures.came);
 }
+
+pub returns-clause-same : goal.returns-clause-same
+returns-clause-same c = c.loop-place.invariant.same
+
+pub returns-clause-came : goal.returns-clause-came
+returns-clause-came c =
+    whole (λ ps. Came c.args.rows.now.items c.loop-place.rows.items (flat_map (rows_on c.args.base (database_of c.args.plain.now)) ps)) c.args.places.now c.loop-place.place-index c.loop-place-test.false c.loop-place.invariant.came

@@ -7,6 +7,9 @@ use Rattle.catalogue_moves.specs.declared.files.FilePlace.{FilePlace}
 use Rattle.catalogue_moves.specs.Files.{files_of, places_of}
 use Rattle.catalogue_moves.specs.Gone.{gone_entries, gone_columns}
 use Rattle.catalogue_moves.proofs.Coming.{came_none, more_of}
+use Rattle.std.specs.List.{flat_map}
+use Rattle.catalogue_moves.specs.Moves.{Came}
+use Rattle.catalogue_moves.proofs.Whole.{whole_of}
 use Rattle.catalogue_moves.proofs.gone.put_all_gone.Goals as goal
 
 pub loop-place-init : goal.loop-place-init
@@ -30,3 +33,22 @@ loop-place-preserved c = record {
       (database_of c.args.plain.now) (database_of c.loop-place.plain) c.loop-place.invariant.same c.loop-place.invariant.columns c.in_ok-put_gone.ensures.columns;
   parts = c.put_gone.ensures.parts ∙ c.loop-place.invariant.parts;
 }
+
+pub put_gone-requires : goal.put_gone-requires
+put_gone-requires c = c.requires
+
+pub returns-clause-same : goal.returns-clause-same
+returns-clause-same c = c.loop-place.invariant.same
+
+pub returns-clause-entries : goal.returns-clause-entries
+returns-clause-entries c =
+    whole_of (λ ps. Came c.args.rows.now.entries.items c.loop-place.rows.entries.items (flat_map (λ (p : FilePlace). map entry_bytes (gone_entries c.args.sort c.args.rels.now (files_of c.args.files.now) (database_of c.args.plain.now) p)) ps))
+    (places_of c.args.files.now) c.deref-place-items.result.now c.deref-place-items.ensures.value c.loop-place.place-index c.loop-place-test.false c.loop-place.invariant.entries
+
+pub returns-clause-columns : goal.returns-clause-columns
+returns-clause-columns c =
+    whole_of (λ ps. Came c.args.rows.now.columns.items c.loop-place.rows.columns.items (flat_map (λ (p : FilePlace). map column_bytes (gone_columns c.args.sort c.args.rels.now (files_of c.args.files.now) (database_of c.args.plain.now) p)) ps))
+    (places_of c.args.files.now) c.deref-place-items.result.now c.deref-place-items.ensures.value c.loop-place.place-index c.loop-place-test.false c.loop-place.invariant.columns
+
+pub returns-clause-parts : goal.returns-clause-parts
+returns-clause-parts c = c.loop-place.invariant.parts

@@ -6,6 +6,9 @@ use Rattle.catalogue_moves.specs.declared.files.FilePlace.{FilePlace}
 use Rattle.catalogue_moves.specs.Files.{places_of}
 use Rattle.catalogue_moves.specs.Gone.{gone_parts}
 use Rattle.catalogue_moves.proofs.Coming.{parts_none, parts_of}
+use Rattle.std.specs.List.{flat_map}
+use Rattle.catalogue_moves.specs.Moves.{CameParts}
+use Rattle.catalogue_moves.proofs.Whole.{whole_of}
 use Rattle.catalogue_moves.proofs.gone_trees.put_all_trees.Goals as goal
 
 pub loop-place-init : goal.loop-place-init
@@ -22,3 +25,14 @@ loop-place-preserved c = record {
 
 pub put_listed-requires-clause-base : goal.put_listed-requires-clause-base
 put_listed-requires-clause-base c = subst (λ (d : Db). IsDatabase d) (sym c.loop-place.invariant.same) c.requires.base
+
+pub put_listed-requires-clause-listed : goal.put_listed-requires-clause-listed
+put_listed-requires-clause-listed c = c.requires.listed
+
+pub returns-clause-same : goal.returns-clause-same
+returns-clause-same c = c.loop-place.invariant.same
+
+pub returns-clause-came : goal.returns-clause-came
+returns-clause-came c =
+    whole_of (λ ps. CameParts c.args.rows.now.items c.loop-place.rows.items (flat_map (gone_parts c.args.sort c.args.rels.now (database_of c.args.plain.now)) ps)) (places_of c.args.files.now) c.deref-place-items.result.now c.deref-place-items.ensures.value
+    c.loop-place.place-index c.loop-place-test.false c.loop-place.invariant.came

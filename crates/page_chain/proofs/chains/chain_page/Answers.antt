@@ -1,6 +1,8 @@
-use Rattle.std.proofs.Common.{refl, sym, ap, ◌∙◌, Some, None, if◌then◌else◌}
+use Rattle.std.proofs.Common.{refl, sym, ap, ◌∙◌, Some, None, if◌then◌else◌, arith}
 use Rattle.page_chain.specs.Pages.{next_of}
 use Rattle.page_chain.proofs.Linking.{there_follows, to_follow}
+use Rattle.page_chain.specs.Chains.{OffPage}
+use Rattle.page_chain.proofs.Handed.{store_carried}
 use Rattle.page_chain.proofs.chains.chain_page.Goals as goal
 
 pub returns-in-Some-clause-there : goal.returns-in-Some-clause-there
@@ -57,3 +59,28 @@ returns-in-Some-clause-kept g c = c.get.ensures.kept
 
 pub returns-in-None-clause-kept : goal.returns-in-None-clause-kept
 returns-in-None-clause-kept g c = c.get.ensures.kept
+
+pub returns-in-Some-clause-last : goal.returns-in-Some-clause-last
+returns-in-Some-clause-last g c = c.in_ok-is_there.ensures.last
+
+pub returns-in-Some-clause-cause : goal.returns-in-Some-clause-cause
+returns-in-Some-clause-cause g c = record { later = c.in_ok-is_there.ensures.cause.later; caused = tt }
+
+pub returns-in_err-is_there-clause-came : goal.returns-in_err-is_there-clause-came
+returns-in_err-is_there-clause-came g c = c.get.ensures.came
+
+pub returns-in_err-is_there-clause-only_read : goal.returns-in_err-is_there-clause-only_read
+returns-in_err-is_there-clause-only_read g c = c.get.ensures.only_read
+
+pub returns-in_err-is_there-clause-same : goal.returns-in_err-is_there-clause-same
+returns-in_err-is_there-clause-same g c = c.get.ensures.same
+
+pub returns-in_err-is_there-clause-reads : goal.returns-in_err-is_there-clause-reads
+returns-in_err-is_there-clause-reads g c = c.get.ensures.reads
+
+pub returns-in_err-is_there-clause-kept : goal.returns-in_err-is_there-clause-kept
+returns-in_err-is_there-clause-kept g c = c.get.ensures.kept
+
+pub returns-in_err-is_there-clause-cause : goal.returns-in_err-is_there-clause-cause
+returns-in_err-is_there-clause-cause g c =
+    store_carried (g.S.PageStore.pages c.args.store.now) (OffPage c.args.file c.args.page c.args.bound) (g.S.PageStore.faults c.args.store.now) (g.S.PageStore.faults c.args.store.now) (g.S.PageStore.faults c.get.new.self) c.in_err-is_there.field-0.0 (omega arith) c.in_err-is_there.ensures.cause c.from_residual.result c.from_residual.ensures.1

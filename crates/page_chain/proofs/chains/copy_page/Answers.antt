@@ -1,6 +1,8 @@
-use Rattle.std.proofs.Common.{◌++◌, ap, ◌∙◌}
+use Rattle.std.proofs.Common.{◌++◌, ap, ◌∙◌, arith}
 use Rattle.page_chain.specs.Pages.{pages_of}
 use Rattle.page_chain.proofs.Walking.{bytes_on_page}
+use Rattle.page_chain.specs.Chains.{OffPage}
+use Rattle.page_chain.proofs.Carried.{cause_carried}
 use Rattle.page_chain.proofs.chains.copy_page.Goals as goal
 
 pub returns-clause-rows : goal.returns-clause-rows
@@ -30,3 +32,14 @@ returns-clause-reads g c = c.chain_page.ensures.reads
 
 pub returns-in_err-next-clause-reads : goal.returns-in_err-next-clause-reads
 returns-in_err-next-clause-reads g c = c.chain_page.ensures.reads
+
+pub returns-clause-cause : goal.returns-clause-cause
+returns-clause-cause g c = record { later = c.chain_page.ensures.cause.later; caused = tt }
+
+pub returns-clause-may : goal.returns-clause-may
+returns-clause-may g c = c.in_ok-next.ensures.may
+
+pub returns-in_err-next-clause-cause : goal.returns-in_err-next-clause-cause
+returns-in_err-next-clause-cause g c =
+    cause_carried (g.S.PageStore.pages c.args.store.now) (g.S.PageStore.pages c.args.store.now) (OffPage c.args.file c.args.page c.args.bound) (OffPage c.args.file c.args.page c.args.bound) (g.S.PageStore.faults c.args.store.now) (g.S.PageStore.faults c.args.store.now) (g.S.PageStore.faults c.chain_page.new.store) c.in_err-next.field-0.0 (omega arith) (λ a fault. fault)
+    c.in_err-next.ensures.cause c.from_residual.result c.from_residual.ensures.1

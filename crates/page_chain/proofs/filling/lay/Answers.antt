@@ -1,8 +1,9 @@
-use Rattle.std.proofs.Common.{◌∙◌, subst, sym}
+use Rattle.std.proofs.Common.{◌∙◌, subst, sym, arith}
 use Rattle.access_traits.specs.Pages.{with_page}
 use Rattle.page_chain.specs.Filled.{InHand}
 use Rattle.page_chain.specs.Pages.{page_at}
 use Rattle.page_chain.proofs.Hands.{hand_first, hand_put}
+use Rattle.page_chain.proofs.Handed.{store_on}
 use Rattle.page_chain.proofs.filling.lay.Goals as goal
 
 pub returns-clause-laid : goal.returns-clause-laid
@@ -22,3 +23,19 @@ returns-in_err-put-clause-came g c = λ s came. c.put.ensures.came s (c.lay_page
 
 pub returns-in_err-at-clause-came : goal.returns-in_err-at-clause-came
 returns-in_err-at-clause-came g c = c.lay_pages.ensures.came
+
+pub returns-clause-behind : goal.returns-clause-behind
+returns-clause-behind g c =
+    let up = c.in_ok-at.ensures.behind in
+    (up.0, omega (arith, up.1, c.split_at.ensures.back_len))
+
+pub returns-clause-cause : goal.returns-clause-cause
+returns-clause-cause g c = record { later = omega (arith, c.lay_pages.ensures.cause.later, c.put.ensures.cause.later); caused = tt }
+
+pub returns-in_err-put-clause-cause : goal.returns-in_err-put-clause-cause
+returns-in_err-put-clause-cause g c =
+    store_on (g.S.PageStore.faults c.args.store.now) (g.S.PageStore.faults c.lay_pages.new.store) (g.S.PageStore.faults c.put.new.self) c.in_err-put.field-0.0 (c.lay_pages.ensures.cause.later) c.in_err-put.ensures.cause c.from_residual-in_err-put.result c.from_residual-in_err-put.ensures.1
+
+pub returns-in_err-at-clause-cause : goal.returns-in_err-at-clause-cause
+returns-in_err-at-clause-cause g c =
+    store_on (g.S.PageStore.faults c.args.store.now) (g.S.PageStore.faults c.args.store.now) (g.S.PageStore.faults c.lay_pages.new.store) c.in_err-at.field-0.0 (omega arith) c.in_err-at.ensures.cause c.from_residual.result c.from_residual.ensures.1

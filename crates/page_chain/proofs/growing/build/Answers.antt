@@ -1,4 +1,7 @@
+use Rattle.page_chain.specs.Grown.{IsNever}
 use Rattle.page_chain.proofs.Grown.{is_built, others_kept}
+use Rattle.std.proofs.Common.{arith}
+use Rattle.page_chain.proofs.Handed.{store_carried}
 use Rattle.page_chain.proofs.growing.build.Goals as goal
 
 pub returns-clause-built : goal.returns-clause-built
@@ -14,3 +17,10 @@ returns-clause-came g c = c.lay.ensures.came
 
 pub returns-in_err-last-clause-came : goal.returns-in_err-last-clause-came
 returns-in_err-last-clause-came g c = c.lay.ensures.came
+
+pub returns-clause-cause : goal.returns-clause-cause
+returns-clause-cause g c = record { later = c.lay.ensures.cause.later; caused = tt }
+
+pub returns-in_err-last-clause-cause : goal.returns-in_err-last-clause-cause
+returns-in_err-last-clause-cause g c =
+    store_carried (g.S.PageStore.pages c.args.store.now) IsNever (g.S.PageStore.faults c.args.store.now) (g.S.PageStore.faults c.args.store.now) (g.S.PageStore.faults c.lay.new.store) c.in_err-last.field-0.0 (omega arith) c.in_err-last.ensures.cause c.from_residual.result c.from_residual.ensures.1

@@ -1,5 +1,8 @@
-use Rattle.std.proofs.Common.{◌∙◌, ◌∷◌, []}
+use Rattle.std.proofs.Common.{◌∙◌, ◌∷◌, [], arith, ◌+◌}
 use Rattle.page_chain.proofs.Grown.{has_grown, one_more, one_told, one_there, others_kept}
+use Rattle.page_chain.specs.Chains.{OffPage}
+use Rattle.page_chain.proofs.Carried.{cause_carried}
+use Rattle.page_chain.proofs.Handed.{store_carried}
 use Rattle.page_chain.proofs.growing.put_one.Goals as goal
 
 pub returns-clause-grown : goal.returns-clause-grown
@@ -28,3 +31,18 @@ returns-in_err-place-clause-came g c = λ s came. c.put_at.ensures.came s (c.cha
 
 pub returns-in_err-chain_page-clause-came : goal.returns-in_err-chain_page-clause-came
 returns-in_err-chain_page-clause-came g c = c.chain_page.ensures.came
+
+pub returns-clause-behind : goal.returns-clause-behind
+returns-clause-behind g c = c.in_ok-place.ensures.behind
+
+pub returns-clause-cause : goal.returns-clause-cause
+returns-clause-cause g c = record { later = omega (arith, c.chain_page.ensures.cause.later, c.put_at.ensures.cause.later); caused = tt }
+
+pub returns-in_err-place-clause-cause : goal.returns-in_err-place-clause-cause
+returns-in_err-place-clause-cause g c =
+    store_carried (g.S.PageStore.pages c.args.store.now) (OffPage c.args.file c.args.last (c.args.last + 1)) (g.S.PageStore.faults c.args.store.now) (g.S.PageStore.faults c.chain_page.new.store) (g.S.PageStore.faults c.put_at.new.store) c.in_err-place.field-0.0 (c.chain_page.ensures.cause.later) c.in_err-place.ensures.cause c.from_residual-in_err-place.result c.from_residual-in_err-place.ensures.1
+
+pub returns-in_err-chain_page-clause-cause : goal.returns-in_err-chain_page-clause-cause
+returns-in_err-chain_page-clause-cause g c =
+    cause_carried (g.S.PageStore.pages c.args.store.now) (g.S.PageStore.pages c.args.store.now) (OffPage c.args.file c.args.last (c.args.last + 1)) (OffPage c.args.file c.args.last (c.args.last + 1)) (g.S.PageStore.faults c.args.store.now) (g.S.PageStore.faults c.args.store.now) (g.S.PageStore.faults c.chain_page.new.store) c.in_err-chain_page.field-0.0 (omega arith) (λ a fault. fault)
+    c.in_err-chain_page.ensures.cause c.from_residual.result c.from_residual.ensures.1

@@ -24,3 +24,18 @@ returns-clause-same g c = c.chain_page.ensures.same
 
 pub returns-in_err-next-clause-same : goal.returns-in_err-next-clause-same
 returns-in_err-next-clause-same g c = c.chain_page.ensures.same
+
+pub returns-clause-there : goal.returns-clause-there
+returns-clause-there g c = c.in_ok-next.ensures.there
+
+pub returns-clause-follows : goal.returns-clause-follows
+returns-clause-follows g c = c.in_ok-next.ensures.follows
+
+pub returns-clause-page : goal.returns-clause-page
+returns-clause-page g c = c.in_ok-next.ensures.page
+
+pub returns-clause-next : goal.returns-clause-next
+returns-clause-next g c = c.in_ok-next.ensures.next
+
+pub returns-clause-cause : goal.returns-clause-cause
+returns-clause-cause g c = record { later = c.chain_page.ensures.cause.later; caused = tt }

@@ -55,3 +55,15 @@ pages-preserved g c =
       came = λ s h. c.renew_at.ensures.came s (c.pages.invariant.came s h);
       faults = omega (arith, c.pages.invariant.faults, c.renew_at.ensures.cause.later);
     }
+
+pub returns-then-step-eq0-clause-put : goal.returns-then-step-eq0-clause-put
+returns-then-step-eq0-clause-put g c = omega (arith, c.pages.invariant.put, c.in_ok-step.ensures.put, c.split_at.ensures.back_len)
+
+pub returns-then-step-eq0-clause-came : goal.returns-then-step-eq0-clause-came
+returns-then-step-eq0-clause-came g c = λ s h. c.renew_at.ensures.came s (c.pages.invariant.came s h)
+
+pub returns-then-step-eq0-clause-cause : goal.returns-then-step-eq0-clause-cause
+returns-then-step-eq0-clause-cause g c = record { later = omega (arith, c.pages.invariant.faults, c.renew_at.ensures.cause.later); caused = tt }
+
+pub returns-in_err-step-clause-came : goal.returns-in_err-step-clause-came
+returns-in_err-step-clause-came g c = λ s h. c.renew_at.ensures.came s (c.pages.invariant.came s h)

@@ -39,3 +39,19 @@ returns-in_err-last-clause-came g c = λ s came. c.put_rest.ensures.came s (c.pa
 
 pub returns-in_err-done-clause-came : goal.returns-in_err-done-clause-came
 returns-in_err-done-clause-came g c = c.pass_over.ensures.came
+
+pub returns-in-Ok-clause-behind : goal.returns-in-Ok-clause-behind
+returns-in-Ok-clause-behind g c =
+    let up = c.in_ok-last.ensures.behind in
+    (up.0, omega (arith, up.1, c.split_at.ensures.back_len))
+
+pub returns-in-Ok-clause-cause : goal.returns-in-Ok-clause-cause
+returns-in-Ok-clause-cause g c = record { later = omega (arith, c.pass_over.ensures.cause.later, c.put_rest.ensures.cause.later); caused = tt }
+
+pub returns-in-Err-clause-cause : goal.returns-in-Err-clause-cause
+returns-in-Err-clause-cause g c = record { later = omega (arith, c.pass_over.ensures.cause.later, c.put_rest.ensures.cause.later); caused = tt }
+
+pub returns-in_err-done-clause-cause : goal.returns-in_err-done-clause-cause
+returns-in_err-done-clause-cause g c =
+    cause_carried (g.S.PageStore.pages c.args.store.now) (g.S.PageStore.pages c.args.store.now) (NoChainTo c.args.chain.file c.args.chain.bound c.args.chain.last) (NoChainTo c.args.chain.file c.args.chain.bound c.args.chain.last) (g.S.PageStore.faults c.args.store.now) (g.S.PageStore.faults c.args.store.now) (g.S.PageStore.faults c.pass_over.new.store) c.in_err-done.field-0.0 (omega arith) (λ a fault. fault)
+    c.in_err-done.ensures.cause c.from_residual.result c.from_residual.ensures.1

@@ -55,3 +55,23 @@ pages-preserved g c =
       came = λ s h. c.take_at.ensures.came s (c.pages.invariant.came s h);
       faults = omega (arith, c.pages.invariant.faults, c.take_at.ensures.cause.later);
     }
+
+pub returns-in-Some-clause-came : goal.returns-in-Some-clause-came
+returns-in-Some-clause-came g c = λ s h. c.take_at.ensures.came s (c.pages.invariant.came s h)
+
+pub returns-in-Some-clause-cause : goal.returns-in-Some-clause-cause
+returns-in-Some-clause-cause g c = record { later = omega (arith, c.pages.invariant.faults, c.take_at.ensures.cause.later); caused = tt }
+
+pub returns-then-taken-eq0-clause-came : goal.returns-then-taken-eq0-clause-came
+returns-then-taken-eq0-clause-came g c = λ s h. c.take_at.ensures.came s (c.pages.invariant.came s h)
+
+pub returns-then-taken-eq0-clause-cause : goal.returns-then-taken-eq0-clause-cause
+returns-then-taken-eq0-clause-cause g c = record { later = omega (arith, c.pages.invariant.faults, c.take_at.ensures.cause.later); caused = tt }
+
+pub returns-in_err-taken-clause-came : goal.returns-in_err-taken-clause-came
+returns-in_err-taken-clause-came g c = λ s h. c.take_at.ensures.came s (c.pages.invariant.came s h)
+
+pub returns-then-taken-eq0-clause-others : goal.returns-then-taken-eq0-clause-others
+returns-then-taken-eq0-clause-others g c =
+    others_took c.args.file c.args.bound c.pages.number c.args.row.now c.in_ok-taken.taken.line c.in_ok-taken.taken.next (g.S.PageStore.pages c.args.store.now) (g.S.PageStore.pages c.take_at.new.store)
+    (λ m is. c.in_ok-taken.ensures.took m (c.pages.invariant.same ∙ is))

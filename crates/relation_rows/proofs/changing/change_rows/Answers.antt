@@ -1,4 +1,4 @@
-use Rattle.std.proofs.Common.{All, IsTrue, ◌∙◌, sym, ap, subst, true≢false, arith}
+use Rattle.std.proofs.Common.{All, IsTrue, ◌∙◌, sym, ap, subst, true≢false, arith, ◌≤◌, ◌<◌, ◌+◌, ◌^◌, length}
 use Rattle.access_traits.specs.Pages.{KeepsOthers}
 use Rattle.access_traits.specs.Placed.{SameButUsed}
 use Rattle.calculus.specs.Replacement.{with_rows, without_rows}
@@ -67,3 +67,12 @@ returns-clause-came g c = λ s h. c.replace_near.ensures.came s (c.pages_near.en
 
 pub returns-in_err-near-clause-came : goal.returns-in_err-near-clause-came
 returns-in_err-near-clause-came g c = c.pages_near.ensures.came
+
+pub returns-clause-some : goal.returns-clause-some
+returns-clause-some g c = subst (λ (file : RelFile). 1 ≤ file.used) (sym c.info.ensures) c.replace_near.new.self.heap.pages
+
+pub returns-clause-cause : goal.returns-clause-cause
+returns-clause-cause g c = record { later = (let a = c.in_ok-near.ensures.cause.later in let b = c.in_ok-replace_near.ensures.cause.later in omega (arith, a, b)); caused = tt }
+
+pub replace_near-requires-clause-room : goal.replace_near-requires-clause-room
+replace_near-requires-clause-room g c = subst (λ (file : RelFile). file.used + length c.args.add.now < 2 ^ 32) (sym c.open_method-method.ensures) (omega (arith, c.if-used-add.false))

@@ -1,3 +1,7 @@
+use Rattle.relation_rows.proofs.Pages.{page_read}
+use Rattle.heap_am.specs.Heap.{HeapFault}
+use Rattle.heap_am.proofs.Faults.{cause_by}
+use Rattle.heap_am.proofs.Outcomes.{handed_on}
 use Rattle.relation_rows.proofs.reading.read_page.Goals as goal
 
 pub returns-clause-came : goal.returns-clause-came
@@ -23,3 +27,18 @@ returns-clause-reads g c = c.page_rows.ensures.reads
 
 pub returns-in_err-found-clause-reads : goal.returns-in_err-found-clause-reads
 returns-in_err-found-clause-reads g c = c.page_rows.ensures.reads
+
+pub returns-clause-told : goal.returns-clause-told
+returns-clause-told g c m placed t e =
+    page_read placed c.args.number c.in_ok-found.found c.args.rows.now.items c.put_behind.new.rows.items (c.in_ok-found.ensures.told m placed t e) c.in_ok-put_behind.ensures
+
+pub returns-clause-stands : goal.returns-clause-stands
+returns-clause-stands g c m t = c.in_ok-found.ensures.stands m t
+
+pub returns-clause-cause : goal.returns-clause-cause
+returns-clause-cause g c = record { later = c.page_rows.ensures.cause.later; caused = tt }
+
+pub returns-in_err-found-clause-cause : goal.returns-in_err-found-clause-cause
+returns-in_err-found-clause-cause g c =
+    cause_by (HeapFault c.args.method.now.heap.file) c.from_residual.result c.in_err-found.field-0.0 (λ m a off. off)
+    c.in_err-found.ensures.cause (handed_on c.from_residual.result c.in_err-found.field-0.0 c.from_residual.ensures.1)

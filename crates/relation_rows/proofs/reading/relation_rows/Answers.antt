@@ -1,9 +1,11 @@
-use Rattle.std.proofs.Common.{ap, subst, arith, ◌∙◌}
+use Rattle.std.proofs.Common.{rules, ap, sym, subst, arith, ◌∙◌, ◌++◌}
 use Rattle.access_traits.specs.Causes.{HasFileCause}
+use Rattle.access_traits.specs.Placed.{rows_from}
+use Rattle.page_chain.specs.Lying.{place_of}
 use Rattle.heap_am.specs.Heap.{HeapFault, heap_rows}
 use Rattle.heap_am.proofs.Faults.{cause_later}
 use Rattle.heap_am.proofs.Outcomes.{handed_on}
-use Rattle.relation_rows.proofs.Pages.{is_read, one_stands}
+use Rattle.relation_rows.proofs.Pages.{is_read, none_read, one_stands}
 use Rattle.relation_rows.proofs.reading.relation_rows.Goals as goal
 
 pub returns-in_err-read_page-clause-cause : goal.returns-in_err-read_page-clause-cause
@@ -29,3 +31,35 @@ pages-preserved g c =
       only_read = λ s h. c.read_page.ensures.only_read s (so_far.only_read s h);
       faults = omega (arith, so_far.faults, c.read_page.ensures.cause.later);
     }
+
+pub pages-init : goal.pages-init
+pages-init g c = record {
+  told = λ m placed t e. sym (none_read c.args.file m placed c.requires.pages e) ∙ ap (λ rows. rows ++ rows_from placed (place_of 0 0)) (sym c.new-rows.ensures.items);
+  stand = search rules;
+  same = search rules;
+  reads = search rules;
+  came = λ s h. h;
+  only_read = λ s h. h;
+  faults = omega arith;
+}
+
+pub returns-clause-same : goal.returns-clause-same
+returns-clause-same g c = c.pages.invariant.same
+
+pub returns-clause-came : goal.returns-clause-came
+returns-clause-came g c = c.pages.invariant.came
+
+pub returns-clause-only_read : goal.returns-clause-only_read
+returns-clause-only_read g c = c.pages.invariant.only_read
+
+pub returns-clause-cause : goal.returns-clause-cause
+returns-clause-cause g c = record { later = c.pages.invariant.faults; caused = tt }
+
+pub returns-in_err-read_page-clause-same : goal.returns-in_err-read_page-clause-same
+returns-in_err-read_page-clause-same g c = c.read_page.ensures.same ∙ c.pages.invariant.same
+
+pub returns-in_err-read_page-clause-came : goal.returns-in_err-read_page-clause-came
+returns-in_err-read_page-clause-came g c = λ s h. c.read_page.ensures.came s (c.pages.invariant.came s h)
+
+pub returns-in_err-read_page-clause-only_read : goal.returns-in_err-read_page-clause-only_read
+returns-in_err-read_page-clause-only_read g c = λ s h. c.read_page.ensures.only_read s (c.pages.invariant.only_read s h)

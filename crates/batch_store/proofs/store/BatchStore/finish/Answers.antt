@@ -1,11 +1,15 @@
-use Rattle.std.proofs.Common.{subst, sym, ◌∙◌}
+use Rattle.std.proofs.Common.{subst, sym, ◌∙◌, refl, ap, arith}
 use Rattle.disk_model.specs.Disk.{Image, LeavesOnly}
 use Rattle.batch_file.specs.declared.stage.Batch.{Batch}
-use Rattle.batch_file.specs.OnDisk.{BeforeOrAfter}
+use Rattle.batch_file.specs.OnDisk.{BeforeOrAfter, IsClosed}
 use Rattle.batch_file.specs.Staged.{size_of, staged, completed}
 use Rattle.batch_file.proofs.Form.{named}
 use Rattle.batch_store.proofs.Runs.{nothing_laid, then_finished, one_of_two, calm_of}
 use Rattle.batch_store.proofs.Stands.{staged_fresh, told_laid, told_so, empty_so, laid_so, begun_so}
+use Rattle.std.specs.Prelude.{OnOk, ◌<◌}
+use Rattle.batch_store.proofs.Putting.{calm_so, due_so}
+use Rattle.disk_model.specs.History.{CameSo}
+use Rattle.batch_file.specs.Order.{Completes, Lays}
 use Rattle.batch_store.proofs.store.BatchStore.finish.Goals as goal
 
 pub returns-then-count-eq0-clause-crash : goal.returns-then-count-eq0-clause-crash
@@ -56,3 +60,39 @@ returns-clause-cause g c = c.finish-laid.ensures.cause
 
 pub returns-clause-whole : goal.returns-clause-whole
 returns-clause-whole g c = c.finish-laid.ensures.whole
+
+pub returns-then-count-eq0-clause-closed : goal.returns-then-count-eq0-clause-closed
+returns-then-count-eq0-clause-closed g c = λ told some. absurd (omega (arith, some, sym c.count.ensures ∙ c.if-count-eq0.true))
+
+pub returns-then-count-eq0-clause-made : goal.returns-then-count-eq0-clause-made
+returns-then-count-eq0-clause-made g c = λ some. absurd (omega (arith, some, sym c.count.ensures ∙ c.if-count-eq0.true))
+
+pub returns-then-count-eq0-clause-empty : goal.returns-then-count-eq0-clause-empty
+returns-then-count-eq0-clause-empty g c = λ none. (refl, refl)
+
+pub returns-then-count-eq0-clause-begun : goal.returns-then-count-eq0-clause-begun
+returns-then-count-eq0-clause-begun g c = sym c.count.ensures ∙ c.if-count-eq0.true
+
+pub returns-clause-empty : goal.returns-clause-empty
+returns-clause-empty g c = λ none. absurd (c.if-count-eq0.false (c.count.ensures ∙ none))
+
+pub returns-clause-begun : goal.returns-clause-begun
+returns-clause-begun g c = ap size_of c.replace-batch.ensures.after ∙ c.begin.ensures.count
+
+pub returns-clause-calm : goal.returns-clause-calm
+returns-clause-calm g c =
+    calm_so c.finish-laid.result c.is_err-self.result c.args.self.now.due c.is_err-self.ensures.value
+    (calm_of c.args.self.now.due (size_of c.args.self.now.batch) c.args.self.now.empty (λ none. c.if-count-eq0.false (c.count.ensures ∙ none)))
+
+pub returns-clause-due : goal.returns-clause-due
+returns-clause-due g c = due_so c.finish-laid.result c.is_err-self.result c.is_err-self.ensures.value
+
+pub returns-clause-closed : goal.returns-clause-closed
+returns-clause-closed g c = λ told.
+    subst (λ (b : Batch). OnOk c.finish-laid.result (0 < size_of b → IsClosed (g.D.Disk.seen c.finish-laid.new.disk) (g.D.Disk.touched c.finish-laid.new.disk)))
+    c.replace-batch.ensures.value (c.finish-laid.ensures.closed told)
+
+pub returns-clause-made : goal.returns-clause-made
+returns-clause-made g c =
+    subst (λ (b : Batch). OnOk c.finish-laid.result (0 < size_of b → CameSo (g.D.Disk.history c.args.self.now.disk) (g.D.Disk.history c.finish-laid.new.disk) (Lays (Completes b) (size_of b))))
+    c.replace-batch.ensures.value c.finish-laid.ensures.made

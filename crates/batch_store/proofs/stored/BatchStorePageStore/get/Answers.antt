@@ -1,4 +1,4 @@
-use Rattle.std.proofs.Common.{rules, ◌≡◌, Some, sym, ◌∙◌, ap}
+use Rattle.std.proofs.Common.{rules, ◌≡◌, Some, sym, ◌∙◌, ap, refl, arith}
 use Rattle.disk_model.specs.Disk.{Image}
 use Rattle.batch_store.proofs.AfterReads.{ran_reads, reads_join, told_reads}
 use Rattle.batch_store.proofs.Stands.{told_so}
@@ -33,3 +33,34 @@ returns-in-Err-clause-only_read g c = λ s read. record {
   batch_same = read.batch_same;
   reads = λ told. reads_join g.D.Disk s.disk c.args.self.now.disk c.read_page.new.disk (read.reads told) (c.read_page.ensures.same told);
 }
+
+pub returns-then-eq-clause-reads : goal.returns-then-eq-clause-reads
+returns-then-eq-clause-reads g c = record { later = omega arith; at_most = omega arith }
+
+pub returns-then-eq-clause-last : goal.returns-then-eq-clause-last
+returns-then-eq-clause-last g c =
+    let given : c.args.self.now.given ≡ Some c.args.a = search rules in
+    given
+
+pub returns-then-eq-clause-cause : goal.returns-then-eq-clause-cause
+returns-then-eq-clause-cause g c = record { later = omega arith; caused = tt }
+
+pub returns-in-Ok-clause-page : goal.returns-in-Ok-clause-page
+returns-in-Ok-clause-page g c = λ m is.
+    let so = told_so g.D.Disk.tells (g.D.Disk.seen c.args.self.now.disk) m c.args.self.now.batch is in
+    sym (ap (λ (f : Image). f c.args.a) so.1) ∙ c.in-Ok.ensures.page so.0
+
+pub returns-in-Ok-clause-last : goal.returns-in-Ok-clause-last
+returns-in-Ok-clause-last g c = refl
+
+pub returns-in-Ok-clause-reads : goal.returns-in-Ok-clause-reads
+returns-in-Ok-clause-reads g c = c.read_page.ensures.reads
+
+pub returns-in-Err-clause-reads : goal.returns-in-Err-clause-reads
+returns-in-Err-clause-reads g c = c.read_page.ensures.reads
+
+pub returns-in-Ok-clause-cause : goal.returns-in-Ok-clause-cause
+returns-in-Ok-clause-cause g c = record { later = c.read_page.ensures.cause.later; caused = tt }
+
+pub returns-in-Err-clause-cause : goal.returns-in-Err-clause-cause
+returns-in-Err-clause-cause g c = record { later = c.read_page.ensures.cause.later; caused = c.in-Err.ensures.cause.failed }

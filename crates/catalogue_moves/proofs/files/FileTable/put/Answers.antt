@@ -2,6 +2,7 @@ use Rattle.std.proofs.Common.{◌≤◌, sym, ap, ◌∙◌, subst}
 use Rattle.std.specs.List.{AllByRecursion}
 use Rattle.std.specs.List.Sorted.{IsStrictlySortedBy}
 use Rattle.calculus.specs.declared.query.RelKey.{RelKey}
+use Rattle.calculus.specs.Lists.{insert_by}
 use Rattle.catalogue_moves.specs.declared.files.FilePlace.{FilePlace}
 use Rattle.catalogue_moves.specs.Files.{by_place, files_at, with_file}
 use Rattle.catalogue_moves.proofs.Placing.{up_put}
@@ -20,3 +21,8 @@ pub returns-clause-put : goal.returns-clause-put
 returns-clause-put c =
     files_put c.args.self.now.places.items _ _ c.in_ok-put_place.ensures.put
     ∙ ap (λ (k : RelKey). with_file k c.args.file c.args.used (files_at c.args.self.now.places.items)) c.in_ok-key.ensures
+
+pub returns-clause-places : goal.returns-clause-places
+returns-clause-places c =
+    c.in_ok-put_place.ensures.put
+    ∙ ap (λ (k : RelKey). insert_by by_place (record { key = k; file = c.args.file; used = c.args.used; base = c.args.base }) c.args.self.now.places.items) c.in_ok-key.ensures

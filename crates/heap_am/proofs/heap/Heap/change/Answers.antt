@@ -2,6 +2,8 @@ use Rattle.std.proofs.Common.{sym, refl, subst}
 use Rattle.heap_am.specs.Heap.{heap_rows}
 use Rattle.access_traits.specs.Placed.{NowHolds, Replaced}
 use Rattle.heap_am.proofs.Changed.{are_short, bytes_are, none_of_them}
+use Rattle.heap_am.specs.Heap.{HeapFault}
+use Rattle.heap_am.proofs.Rooms.{room_left, cause_same}
 use Rattle.heap_am.proofs.heap.Heap.change.Goals as goal
 
 pub extend-requires-clause-short : goal.extend-requires-clause-short
@@ -39,3 +41,29 @@ returns-clause-came g c = c.renew.ensures.came
 
 pub returns-clause-cause : goal.returns-clause-cause
 returns-clause-cause g c = c.renew.ensures.cause
+
+pub extend-requires-clause-room : goal.extend-requires-clause-room
+extend-requires-clause-room g c = room_left c.args.self.now.file.used c.items-then-is_empty.result.now c.in_ok-new.new c.items.result.now c.args.coming.now c.items-then-is_empty.ensures c.in_ok-new.ensures c.requires.room
+
+pub renew-requires-clause-room : goal.renew-requires-clause-room
+renew-requires-clause-room g c = room_left c.args.self.now.file.used c.items-4.result.now c.in_ok-new.new c.items.result.now c.args.coming.now c.items-4.ensures c.in_ok-new.ensures c.requires.room
+
+pub returns-then-is_empty-clause-others : goal.returns-then-is_empty-clause-others
+returns-then-is_empty-clause-others g c = c.in_ok-extend.ensures.others
+
+pub returns-then-is_empty-clause-file : goal.returns-then-is_empty-clause-file
+returns-then-is_empty-clause-file g c = c.in_ok-extend.ensures.file
+
+pub returns-then-is_empty-clause-came : goal.returns-then-is_empty-clause-came
+returns-then-is_empty-clause-came g c = c.extend.ensures.came
+
+pub returns-then-is_empty-clause-cause : goal.returns-then-is_empty-clause-cause
+returns-then-is_empty-clause-cause g c = record { later = c.extend.ensures.cause.later; caused = tt }
+
+pub returns-in_err-extend-clause-came : goal.returns-in_err-extend-clause-came
+returns-in_err-extend-clause-came g c = c.extend.ensures.came
+
+pub returns-in_err-extend-clause-cause : goal.returns-in_err-extend-clause-cause
+returns-in_err-extend-clause-cause g c =
+    cause_same (g.S.PageStore.pages c.args.store.now) (HeapFault c.args.self.now.file) (g.S.PageStore.faults c.args.store.now) (g.S.PageStore.faults c.extend.new.store)
+    c.from_residual-in_err-extend.result c.in_err-extend.field-0.0 c.in_err-extend.ensures.cause c.from_residual-in_err-extend.ensures.1

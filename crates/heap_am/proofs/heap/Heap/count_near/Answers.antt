@@ -46,3 +46,18 @@ numbers-preserved g c =
       came = λ s h. c.count_on.ensures.came s (c.numbers.invariant.came s h);
       faults = omega (arith, c.numbers.invariant.faults, c.count_on.ensures.cause.later);
     }
+
+pub returns-clause-came : goal.returns-clause-came
+returns-clause-came g c = c.numbers.invariant.came
+
+pub returns-clause-cause : goal.returns-clause-cause
+returns-clause-cause g c = record { later = c.numbers.invariant.faults; caused = tt }
+
+pub returns-in_err-count-clause-came : goal.returns-in_err-count-clause-came
+returns-in_err-count-clause-came g c = λ s h. c.count_on.ensures.came s (c.numbers.invariant.came s h)
+
+pub returns-clause-same : goal.returns-clause-same
+returns-clause-same g c = c.numbers.invariant.same
+
+pub returns-in_err-count-clause-same : goal.returns-in_err-count-clause-same
+returns-in_err-count-clause-same g c = c.count_on.ensures.same ∙ c.numbers.invariant.same

@@ -23,3 +23,9 @@ returns-clause-came g c = c.extend.ensures.came
 
 pub returns-in_err-last-clause-came : goal.returns-in_err-last-clause-came
 returns-in_err-last-clause-came g c = c.extend.ensures.came
+
+pub returns-clause-others : goal.returns-clause-others
+returns-clause-others g c = c.in_ok-last.ensures.others
+
+pub returns-clause-cause : goal.returns-clause-cause
+returns-clause-cause g c = record { later = c.extend.ensures.cause.later; caused = tt }

@@ -11,3 +11,15 @@ returns-clause-told g c m rows t e = c.next_on_page.ensures.told m rows e (c.in_
 
 pub returns-clause-place : goal.returns-clause-place
 returns-clause-place g c m rows t e = c.next_on_page.ensures.place m rows e (c.in_ok-page.ensures.there m t)
+
+pub returns-clause-page : goal.returns-clause-page
+returns-clause-page g c = c.next_on_page.ensures.page
+
+pub returns-clause-same : goal.returns-clause-same
+returns-clause-same g c = c.page.ensures.same
+
+pub returns-clause-came : goal.returns-clause-came
+returns-clause-came g c = c.page.ensures.came
+
+pub returns-clause-only_read : goal.returns-clause-only_read
+returns-clause-only_read g c = c.page.ensures.only_read

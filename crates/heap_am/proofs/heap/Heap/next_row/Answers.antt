@@ -1,5 +1,8 @@
-use Rattle.std.proofs.Common.{◌∙◌, rules}
+use Rattle.std.proofs.Common.{◌∙◌, refl, subst, Ok, arith}
+use Rattle.std.proofs.Math.Nat.{le_trans}
+use Rattle.access_traits.specs.Placed.{GivesBefore}
 use Rattle.heap_am.specs.Heap.{HeapFault}
+use Rattle.heap_am.specs.Met.{MetBefore}
 use Rattle.heap_am.proofs.Faults.{cause_later}
 use Rattle.heap_am.proofs.Meeting.{heap_over}
 use Rattle.heap_am.proofs.Outcomes.{handed_on}
@@ -19,10 +22,67 @@ returns-clause-over g c m rows t e = heap_over c.args.self.now.file m rows c.arg
 
 pub pages-preserved : goal.pages-preserved
 pages-preserved g c = record {
-  told = search rules;
+  told = λ m rows t e. c.pages.invariant.told m rows t e ∙ subst (MetBefore rows c.args.probe.now c.pages.at c.next_read.new.at) c.in_default.is (c.in_ok-row.ensures.told m rows (c.pages.invariant.same ∙ t) e);
   same = c.next_read.ensures.same ∙ c.pages.invariant.same;
   came = λ s came. c.next_read.ensures.came s (c.pages.invariant.came s came);
   only_read = λ s read. c.next_read.ensures.only_read s (c.pages.invariant.only_read s read);
-  reads = search rules;
-  faults = search rules;
+  reads = le_trans c.in_ok-row.ensures.reads c.pages.invariant.reads;
+  faults = le_trans c.pages.invariant.faults c.next_read.ensures.cause.later;
 }
+
+pub pages-init : goal.pages-init
+pages-init g c = record {
+  told = λ m rows t e. refl;
+  same = refl;
+  came = λ s came. came;
+  only_read = λ s read. read;
+  reads = omega arith;
+  faults = omega arith;
+}
+
+pub returns-clause-same : goal.returns-clause-same
+returns-clause-same g c = c.pages.invariant.same
+
+pub returns-clause-came : goal.returns-clause-came
+returns-clause-came g c = c.pages.invariant.came
+
+pub returns-clause-only_read : goal.returns-clause-only_read
+returns-clause-only_read g c = c.pages.invariant.only_read
+
+pub returns-clause-reads : goal.returns-clause-reads
+returns-clause-reads g c = c.pages.invariant.reads
+
+pub returns-clause-cause : goal.returns-clause-cause
+returns-clause-cause g c = record { later = c.pages.invariant.faults; caused = tt }
+
+pub returns-in_err-row-clause-same : goal.returns-in_err-row-clause-same
+returns-in_err-row-clause-same g c = c.next_read.ensures.same ∙ c.pages.invariant.same
+
+pub returns-in_err-row-clause-came : goal.returns-in_err-row-clause-came
+returns-in_err-row-clause-came g c = λ s came. c.next_read.ensures.came s (c.pages.invariant.came s came)
+
+pub returns-in_err-row-clause-only_read : goal.returns-in_err-row-clause-only_read
+returns-in_err-row-clause-only_read g c = λ s read. c.next_read.ensures.only_read s (c.pages.invariant.only_read s read)
+
+pub returns-in-Some-clause-same : goal.returns-in-Some-clause-same
+returns-in-Some-clause-same g c = c.next_read.ensures.same ∙ c.pages.invariant.same
+
+pub returns-in-Some-clause-came : goal.returns-in-Some-clause-came
+returns-in-Some-clause-came g c = λ s came. c.next_read.ensures.came s (c.pages.invariant.came s came)
+
+pub returns-in-Some-clause-only_read : goal.returns-in-Some-clause-only_read
+returns-in-Some-clause-only_read g c = λ s read. c.next_read.ensures.only_read s (c.pages.invariant.only_read s read)
+
+pub returns-in-Some-clause-reads : goal.returns-in-Some-clause-reads
+returns-in-Some-clause-reads g c = le_trans c.in_ok-row.ensures.reads c.pages.invariant.reads
+
+pub returns-in-Some-clause-cause : goal.returns-in-Some-clause-cause
+returns-in-Some-clause-cause g c = record { later = le_trans c.pages.invariant.faults c.next_read.ensures.cause.later; caused = tt }
+
+pub returns-in-Some-clause-told : goal.returns-in-Some-clause-told
+returns-in-Some-clause-told g c m rows t e =
+    c.pages.invariant.told m rows t e ∙ subst (MetBefore rows c.args.probe.now c.pages.at c.next_read.new.at) c.in-Some.is (c.in_ok-row.ensures.told m rows (c.pages.invariant.same ∙ t) e)
+
+pub returns-in-Some-clause-place : goal.returns-in-Some-clause-place
+returns-in-Some-clause-place g c m rows t e =
+    subst (λ row. GivesBefore rows c.next_read.new.at (Ok row)) c.in-Some.is (c.in_ok-row.ensures.place m rows (c.pages.invariant.same ∙ t) e)

@@ -47,3 +47,30 @@ returns-clause-kept g c = c.chain_page.ensures.kept
 
 pub returns-in_err-next-clause-kept : goal.returns-in_err-next-clause-kept
 returns-in_err-next-clause-kept g c = c.chain_page.ensures.kept
+
+pub returns-clause-there : goal.returns-clause-there
+returns-clause-there g c = c.in_ok-next.ensures.there
+
+pub returns-clause-page : goal.returns-clause-page
+returns-clause-page g c = c.in_ok-next.ensures.page
+
+pub returns-clause-last : goal.returns-clause-last
+returns-clause-last g c = c.in_ok-next.ensures.last
+
+pub returns-clause-cause : goal.returns-clause-cause
+returns-clause-cause g c = record { later = c.chain_page.ensures.cause.later; caused = tt }
+
+pub returns-then-next-behind-clause-same : goal.returns-then-next-behind-clause-same
+returns-then-next-behind-clause-same g c = c.chain_page.ensures.same
+
+pub returns-then-next-behind-clause-reads : goal.returns-then-next-behind-clause-reads
+returns-then-next-behind-clause-reads g c = c.chain_page.ensures.reads
+
+pub returns-then-next-behind-clause-kept : goal.returns-then-next-behind-clause-kept
+returns-then-next-behind-clause-kept g c = c.chain_page.ensures.kept
+
+pub returns-then-next-behind-clause-came : goal.returns-then-next-behind-clause-came
+returns-then-next-behind-clause-came g c = c.chain_page.ensures.came
+
+pub returns-then-next-behind-clause-only_read : goal.returns-then-next-behind-clause-only_read
+returns-then-next-behind-clause-only_read g c = c.chain_page.ensures.only_read

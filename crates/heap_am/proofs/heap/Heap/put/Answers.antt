@@ -36,3 +36,9 @@ returns-clause-came g c = c.put_one.ensures.came
 
 pub returns-in_err-place-clause-came : goal.returns-in_err-place-clause-came
 returns-in_err-place-clause-came g c = c.put_one.ensures.came
+
+pub returns-clause-others : goal.returns-clause-others
+returns-clause-others g c = c.in_ok-place.ensures.others
+
+pub returns-clause-cause : goal.returns-clause-cause
+returns-clause-cause g c = record { later = c.put_one.ensures.cause.later; caused = tt }

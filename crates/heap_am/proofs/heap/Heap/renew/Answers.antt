@@ -28,3 +28,9 @@ returns-clause-came g c = c.replace.ensures.came
 
 pub returns-in_err-done-clause-came : goal.returns-in_err-done-clause-came
 returns-in_err-done-clause-came g c = c.replace.ensures.came
+
+pub returns-clause-others : goal.returns-clause-others
+returns-clause-others g c = c.in_ok-done.ensures.others
+
+pub returns-clause-cause : goal.returns-clause-cause
+returns-clause-cause g c = record { later = c.replace.ensures.cause.later; caused = tt }

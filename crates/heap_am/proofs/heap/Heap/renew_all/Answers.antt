@@ -49,3 +49,12 @@ pub returns-clause-done : goal.returns-clause-done
 returns-clause-done g c m is =
     subst (λ ns. IsDoneOn c.args.self.now.file.file c.args.self.now.file.used ns c.args.going.now (take c.numbers.put c.args.coming.now) m (g.S.PageStore.pages c.numbers.store))
     (take_all c.numbers.number-index c.args.numbers.now (omega (arith, c.numbers-test.false))) (c.numbers.invariant.done m is)
+
+pub returns-clause-came : goal.returns-clause-came
+returns-clause-came g c = c.numbers.invariant.came
+
+pub returns-clause-cause : goal.returns-clause-cause
+returns-clause-cause g c = record { later = c.numbers.invariant.faults; caused = tt }
+
+pub returns-in_err-put-clause-came : goal.returns-in_err-put-clause-came
+returns-in_err-put-clause-came g c = λ s h. c.renew_on.ensures.came s (c.numbers.invariant.came s h)

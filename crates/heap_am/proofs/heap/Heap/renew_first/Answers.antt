@@ -14,6 +14,9 @@ use Rattle.heap_am.specs.Near.{IsDoneNear}
 use Rattle.heap_am.proofs.Changed.{rows_renewed, heap_chain_to, all_lie}
 use Rattle.heap_am.proofs.DoneNear.{renewed_near, off_rest}
 use Rattle.heap_am.proofs.Faults.{cause_later}
+use Rattle.std.specs.Result.{OnOk}
+use Rattle.access_traits.specs.Pages.{KeepsOthers}
+use Rattle.heap_am.proofs.Rooms.{cause_same}
 use Rattle.heap_am.proofs.heap.Heap.renew_first.Goals as goal
 
 -- the answer of a later call
@@ -75,3 +78,24 @@ returns-in_err-put_rest-in-Some-clause-came g c = λ s came. c.put_rest.ensures.
 
 pub returns-in-None-clause-came : goal.returns-in-None-clause-came
 returns-in-None-clause-came g c = λ s came. c.renew.ensures.came s (c.renew_near.ensures.came s came)
+
+pub returns-in_err-put-clause-came : goal.returns-in_err-put-clause-came
+returns-in_err-put-clause-came g c = c.renew_near.ensures.came
+
+pub returns-in_err-put-clause-cause : goal.returns-in_err-put-clause-cause
+returns-in_err-put-clause-cause g c =
+    cause_same (g.S.PageStore.pages c.args.store.now) (HeapFault c.args.self.now.file) (g.S.PageStore.faults c.args.store.now) (g.S.PageStore.faults c.renew_near.new.store)
+    c.from_residual.result c.in_err-put.field-0.0 c.in_err-put.ensures.cause c.from_residual.ensures.1
+
+pub returns-in_ok-put_rest-in-Some-clause-file : goal.returns-in_ok-put_rest-in-Some-clause-file
+returns-in_ok-put_rest-in-Some-clause-file g c = c.in_ok-put_rest-in-Some.ensures.file
+
+pub returns-in_ok-put_rest-in-Some-clause-cause : goal.returns-in_ok-put_rest-in-Some-clause-cause
+returns-in_ok-put_rest-in-Some-clause-cause g c = let first = c.renew_near.ensures.cause.later in let second = c.put_rest.ensures.cause.later in record { later = omega (arith, first, second); caused = tt }
+
+pub returns-in-None-clause-file : goal.returns-in-None-clause-file
+returns-in-None-clause-file g c = c.renew.ensures.file
+
+pub returns-in-None-clause-others : goal.returns-in-None-clause-others
+returns-in-None-clause-others g c =
+    subst (λ told. OnOk c.renew.result (KeepsOthers c.args.self.now.file.file told (g.S.PageStore.pages c.renew.new.store))) (c.in_ok-put.ensures.none c.in-None.is) c.renew.ensures.others

@@ -1,4 +1,5 @@
 use Rattle.heap_am.proofs.Changed.{are_short, bytes_are}
+use Rattle.heap_am.proofs.Rooms.{room_left}
 use Rattle.heap_am.proofs.heap.Heap.replace_near.Goals as goal
 
 pub renew_first-requires-clause-short : goal.renew_first-requires-clause-short
@@ -24,3 +25,21 @@ returns-clause-came g c = c.renew_first.ensures.came
 
 pub returns-clause-cause : goal.returns-clause-cause
 returns-clause-cause g c = c.renew_first.ensures.cause
+
+pub renew_first-requires-clause-room : goal.renew_first-requires-clause-room
+renew_first-requires-clause-room g c = room_left c.args.self.now.file.used c.items-4.result.now c.in_ok-new.new c.items.result.now c.args.coming.now c.items-4.ensures c.in_ok-new.ensures c.requires.room
+
+pub returns-then-is_empty-clause-told : goal.returns-then-is_empty-clause-told
+returns-then-is_empty-clause-told g c = c.change.ensures.told
+
+pub returns-then-is_empty-clause-others : goal.returns-then-is_empty-clause-others
+returns-then-is_empty-clause-others g c = c.change.ensures.others
+
+pub returns-then-is_empty-clause-file : goal.returns-then-is_empty-clause-file
+returns-then-is_empty-clause-file g c = c.change.ensures.file
+
+pub returns-then-is_empty-clause-came : goal.returns-then-is_empty-clause-came
+returns-then-is_empty-clause-came g c = c.change.ensures.came
+
+pub returns-then-is_empty-clause-cause : goal.returns-then-is_empty-clause-cause
+returns-then-is_empty-clause-cause g c = c.change.ensures.cause
