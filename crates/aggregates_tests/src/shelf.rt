@@ -1,6 +1,6 @@
 //! A base that tells no database, of three rows.
 
-ghost use Rattle.std.specs.Prelude.{None, []};
+ghost use Rattle.std.specs.Prelude.{None, [], false};
 ghost use Rattle.std.proofs.lemmas.Option.{none-some};
 
 use am_traits::{Base, BaseFault};
@@ -35,11 +35,17 @@ fn row_at(alloc: Global, place: u32) -> Result<Option<Row>, OutOfMemory> {
 impl Base for Shelf {
     ghost database = { λ _. None };
 
+    ghost schema = { λ _. None };
+
+    ghost fixes = { false };
+
     ghost faults = { λ _. 0 };
 
     ghost left = { λ _ _ _. [] };
 
     ghost lawful = { λ _ db told. absurd (none-some db told) };
+
+    ghost own = { λ _ db _ told _. absurd (none-some db told) };
 
     ghost scanned = { λ _ db _ told. absurd (none-some db told) };
 

@@ -1,3 +1,4 @@
 pub mod Causes
 pub mod Scans
+pub mod Schemas
 pub mod Told

@@ -1,13 +1,16 @@
-ghost use Rattle.std.specs.Prelude.{◌≡◌, ℕ, Bool, List, Option, Some, IfOk, OnOk, IsErrOf, length, is_some, map};
+ghost use Rattle.std.specs.Prelude.{◌≡◌, ℕ, Bool, List, Option, Some, IfOk, OnOk, IsErrOf, IsTrue, is_some, length, true};
+ghost use Rattle.std.specs.Option.{ForSome};
 ghost use Rattle.calculus.specs.Change.{IsLawful, laid};
-ghost use Rattle.calculus.specs.Database.{Db, rules_on, permits_on, entries};
+ghost use Rattle.calculus.specs.Database.{Db, is_relation, rules_on, permits_on, entries};
 ghost use Rattle.calculus.specs.Finding.{found};
-ghost use Rattle.calculus.specs.IsDatabase.{IsDatabase};
+ghost use Rattle.calculus.specs.IsDatabase.{IsDatabase, row_fits};
 ghost use Rattle.calculus.specs.Rows.{Row as Values, has};
-ghost use Rattle.calculus.specs.Stored.{rows_at};
+ghost use Rattle.calculus.specs.Schema.{schema_of};
+ghost use Rattle.calculus.specs.Stored.{attrs_at, rows_at};
 ghost use Rattle.calculus.specs.declared.probe.Place.{Place as At};
 ghost use Rattle.calculus.specs.declared.query.RelKey.{RelKey as Key};
 ghost use Rattle.am_traits.specs.Causes.{HasCause};
+ghost use Rattle.am_traits.specs.Schemas.{KeepsSchema};
 ghost use Rattle.am_traits.specs.Scans.{Gives, IsOver, IsScan, first_place};
 ghost use Rattle.am_traits.specs.Told.{known_at, query_at, is_named_by_view};
 
@@ -18,10 +21,18 @@ use std::alloc::Global;
 /// A database that can be asked and changed.
 ///
 /// What it is may be told or not: one in memory tells it; one over pages of a disk tells it where
-/// its pages stand for a database. Where it isn't told, the clauses on what it is say nothing.
+/// its pages stand for a database. Where it isn't told, the clauses on what it is say nothing. Its
+/// schema, which is all of it but the rows, is known all the same: the first answer fixes it, and
+/// what doesn't ask for rows is answered by it.
 pub trait Base {
     /// The database, where it is told.
     ghost database: { Self → Option Db };
+
+    /// The schema that is known, where one is, as a database that has it: of its rows nothing is said.
+    ghost schema: { Self → Option Db };
+
+    /// Whether the first answer fixes the schema. A base that answers by no schema says no here.
+    ghost fixes: { Bool };
 
     /// How often a call to the disk below has failed. The count stands still at 2^64 - 1.
     ghost faults: { Self → ℕ };
@@ -32,6 +43,9 @@ pub trait Base {
     /// What is told is a database.
     ghost lawful: { (b : Self) (db : Db) → database b ≡ Some db → IsDatabase db };
 
+    /// Where the database is told, the schema is its own.
+    ghost own: { (b : Self) (db s : Db) → database b ≡ Some db → schema b ≡ Some s → schema_of s ≡ schema_of db };
+
     /// From the first place on a scan gives each row once.
     ghost scanned: { (b : Self) (db : Db) (key : Key) → database b ≡ Some db
         → IsScan (rows_at db key) (left b key first_place) };
@@ -39,14 +53,18 @@ pub trait Base {
     /// The name of the administrator.
     fn dba(&mut self, alloc: Global) -> Result<Name, BaseFault>
         ensures told { (db : Db) → database self.old ≡ Some db → IfOk result (λ name. name ≡ db.dba) }
+        ensures by_schema { (s : Db) → schema self.new ≡ Some s → IfOk result (λ name. name ≡ s.dba) }
         ensures kept { database self.new ≡ database self.old }
+        ensures schema { KeepsSchema fixes (schema self.old) (schema self.new) result }
         ensures same { left self.new ≡ left self.old }
         ensures cause { HasCause (database self.old) (faults self.old) (faults self.new) result };
 
     /// The number of relations, views and indexes, without the catalogues.
     fn count(&mut self) -> Result<u32, BaseFault>
         ensures told { (db : Db) → database self.old ≡ Some db → IfOk result (λ n. n ≡ length (entries db)) }
+        ensures by_schema { (s : Db) → schema self.new ≡ Some s → IfOk result (λ n. n ≡ length (entries s)) }
         ensures kept { database self.new ≡ database self.old }
+        ensures schema { KeepsSchema fixes (schema self.old) (schema self.new) result }
         ensures same { left self.new ≡ left self.old }
         ensures cause { HasCause (database self.old) (faults self.old) (faults self.new) result };
 
@@ -59,14 +77,18 @@ pub trait Base {
         user: &Name,
     ) -> Result<Option<RelInfo>, BaseFault>
         ensures told { (db : Db) → database self.old ≡ Some db → IfOk result (λ info. info ≡ found db user.now name.now) }
+        ensures by_schema { (s : Db) → schema self.new ≡ Some s → IfOk result (λ info. info ≡ found s user.now name.now) }
         ensures kept { database self.new ≡ database self.old }
+        ensures schema { KeepsSchema fixes (schema self.old) (schema self.new) result }
         ensures same { left self.new ≡ left self.old }
         ensures cause { HasCause (database self.old) (faults self.old) (faults self.new) result };
 
     /// What stands under a key: a relation, a view, an index or a catalogue.
     fn info(&mut self, alloc: Global, key: &RelKey) -> Result<Option<RelInfo>, BaseFault>
         ensures told { (db : Db) → database self.old ≡ Some db → IfOk result (λ info. info ≡ known_at db key.now) }
+        ensures by_schema { (s : Db) → schema self.new ≡ Some s → IfOk result (λ info. info ≡ known_at s key.now) }
         ensures kept { database self.new ≡ database self.old }
+        ensures schema { KeepsSchema fixes (schema self.old) (schema self.new) result }
         ensures same { left self.new ≡ left self.old }
         ensures cause { HasCause (database self.old) (faults self.old) (faults self.new) result };
 
@@ -75,6 +97,7 @@ pub trait Base {
     fn size(&mut self, alloc: Global, key: &RelKey) -> Result<u32, BaseFault>
         ensures told { (db : Db) → database self.old ≡ Some db → IfOk result (λ n. n ≡ length (rows_at db key.now)) }
         ensures kept { database self.new ≡ database self.old }
+        ensures schema { KeepsSchema fixes (schema self.old) (schema self.new) result }
         ensures same { left self.new ≡ left self.old }
         ensures cause { HasCause (database self.old) (faults self.old) (faults self.new) result };
 
@@ -82,6 +105,7 @@ pub trait Base {
     fn has_row(&mut self, alloc: Global, key: &RelKey, row: &Row) -> Result<bool, BaseFault>
         ensures told { (db : Db) → database self.old ≡ Some db → IfOk result (λ b. b ≡ has (rows_at db key.now) row.now) }
         ensures kept { database self.new ≡ database self.old }
+        ensures schema { KeepsSchema fixes (schema self.old) (schema self.new) result }
         ensures same { left self.new ≡ left self.old }
         ensures cause { HasCause (database self.old) (faults self.old) (faults self.new) result };
 
@@ -99,28 +123,38 @@ pub trait Base {
         ensures told { (db : Db) → database self.old ≡ Some db
             → Gives probe.now (left self.old key.now) at.old at.new result }
         ensures over { (db : Db) → database self.old ≡ Some db → IsOver probe.now (left self.old key.now) at.new result }
+        // Whatever is told, a row of a base relation fits the attributes that the schema gives it.
+        ensures fits { (s : Db) → schema self.new ≡ Some s → is_relation s key.now ≡ true
+            → IfOk result (λ row. ForSome row (λ r. row_fits (attrs_at s key.now) r ≡ true)) }
         ensures same { left self.new ≡ left self.old }
         ensures kept { database self.new ≡ database self.old }
+        ensures schema { KeepsSchema fixes (schema self.old) (schema self.new) result }
         ensures cause { HasCause (database self.old) (faults self.old) (faults self.new) result };
 
     /// The query of a view; `None` exactly where no view stands under the key.
     fn view(&mut self, alloc: Global, key: &RelKey) -> Result<Option<Query>, BaseFault>
         ensures told { (db : Db) → database self.old ≡ Some db → IfOk result (λ q. q ≡ query_at db key.now) }
+        ensures by_schema { (s : Db) → schema self.new ≡ Some s → IfOk result (λ q. q ≡ query_at s key.now) }
         ensures kept { database self.new ≡ database self.old }
+        ensures schema { KeepsSchema fixes (schema self.old) (schema self.new) result }
         ensures same { left self.new ≡ left self.old }
         ensures cause { HasCause (database self.old) (faults self.old) (faults self.new) result };
 
     /// The rules of a relation, by number.
     fn rules(&mut self, alloc: Global, key: &RelKey) -> Result<Vec<Rule>, BaseFault>
         ensures told { (db : Db) → database self.old ≡ Some db → IfOk result (λ rs. rs.items ≡ rules_on db key.now) }
+        ensures by_schema { (s : Db) → schema self.new ≡ Some s → IfOk result (λ rs. rs.items ≡ rules_on s key.now) }
         ensures kept { database self.new ≡ database self.old }
+        ensures schema { KeepsSchema fixes (schema self.old) (schema self.new) result }
         ensures same { left self.new ≡ left self.old }
         ensures cause { HasCause (database self.old) (faults self.old) (faults self.new) result };
 
     /// The permits of a relation, by number.
     fn permits(&mut self, alloc: Global, key: &RelKey) -> Result<Vec<Permit>, BaseFault>
         ensures told { (db : Db) → database self.old ≡ Some db → IfOk result (λ ps. ps.items ≡ permits_on db key.now) }
+        ensures by_schema { (s : Db) → schema self.new ≡ Some s → IfOk result (λ ps. ps.items ≡ permits_on s key.now) }
         ensures kept { database self.new ≡ database self.old }
+        ensures schema { KeepsSchema fixes (schema self.old) (schema self.new) result }
         ensures same { left self.new ≡ left self.old }
         ensures cause { HasCause (database self.old) (faults self.old) (faults self.new) result };
 
@@ -132,15 +166,19 @@ pub trait Base {
         but: &[RelKey],
     ) -> Result<bool, BaseFault>
         ensures told { (db : Db) → database self.old ≡ Some db → IfOk result (λ b. b ≡ is_named_by_view db but.now key.now) }
+        ensures by_schema { (s : Db) → schema self.new ≡ Some s → IfOk result (λ b. b ≡ is_named_by_view s but.now key.now) }
         ensures kept { database self.new ≡ database self.old }
+        ensures schema { KeepsSchema fixes (schema self.old) (schema self.new) result }
         ensures same { left self.new ≡ left self.old }
         ensures cause { HasCause (database self.old) (faults self.old) (faults self.new) result };
 
-    /// Lays a change that is lawful. After want of memory the database is as before; what stands after
+    /// Lays a change that is lawful, on the schema as well. After want of memory the database is as before; what stands after
     /// a fault of the disk isn't said here: a base says it of itself.
     fn apply(&mut self, alloc: Global, change: &DbChange) -> Result<(), BaseFault>
         requires { (db : Db) → database self.old ≡ Some db → IsLawful db change.now }
         ensures told { (db : Db) → database self.old ≡ Some db → OnOk result (database self.new ≡ Some (laid db change.now)) }
+        ensures schema { (s now : Db) → schema self.old ≡ Some s → schema self.new ≡ Some now → OnOk result (schema_of now ≡ schema_of (laid s change.now)) }
+        ensures fixed { IsTrue fixes → OnOk result (IsTrue (is_some (schema self.new))) }
         ensures no_memory { IsErrOf result BaseFault.OutOfMemory → database self.new ≡ database self.old }
         ensures cause { HasCause (database self.old) (faults self.old) (faults self.new) result };
 

@@ -1,6 +1,6 @@
 //! A base of views, each over the one below it ten times.
 
-ghost use Rattle.std.specs.Prelude.{MatchOption, None, []};
+ghost use Rattle.std.specs.Prelude.{MatchOption, None, [], false};
 ghost use Rattle.std.proofs.Common.{subst};
 
 use am_traits::{Base, BaseFault};
@@ -125,11 +125,17 @@ fn for_everybody(alloc: Global) -> Permit {
 impl Base for Tower {
     ghost database = { λ _. None };
 
+    ghost schema = { λ _. None };
+
+    ghost fixes = { false };
+
     ghost faults = { λ _. 0 };
 
     ghost left = { λ _ _ _. [] };
 
     ghost lawful = { λ _ _ h. absurd (subst (λ o. MatchOption o (Unit {0}) (λ _. ⊥)) h tt) };
+
+    ghost own = { λ _ _ _ h _. absurd (subst (λ o. MatchOption o (Unit {0}) (λ _. ⊥)) h tt) };
 
     ghost scanned = { λ _ _ _ h. absurd (subst (λ o. MatchOption o (Unit {0}) (λ _. ⊥)) h tt) };
 

@@ -194,9 +194,9 @@ module _ (c : Catalog) (m : Image) (db : Db) (made : DbChange) (is : IsDatabase 
       }
 
       pub known_then : (now : Catalog) (told_now : Option Image) → IsKept c now made file used → HavePlaces (coming_of made (files_of c.files) file used (database_of c.plain))
-          → (ends : Ends) → Written its.image told_now ends (changed (going_of made (files_of c.files) file used (database_of c.plain)) (coming_of made (files_of c.files) file used (database_of c.plain)) (printed db (files_of c.files)))
-          → KnowsAfter (record now { ends = ends }) m told_now db made
-      known_then now told_now kept places ends written =
+          → Written its.image told_now now.ends (changed (going_of made (files_of c.files) file used (database_of c.plain)) (coming_of made (files_of c.files) file used (database_of c.plain)) (printed db (files_of c.files)))
+          → KnowsAfter now m told_now db made
+      known_then now told_now kept places written =
           let part = database_of c.plain in
           let its_catalogue = follows (files_of now.files) (kept_after part c.files now.files file used same.is (part_bases c m db knows) made same.lawful its.suits kept.places) places in
           record {

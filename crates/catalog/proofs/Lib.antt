@@ -11,6 +11,8 @@ pub mod LiesRead
 pub mod LiesLoaded
 pub mod InMemory
 pub mod Rises
+pub mod Spelled
 pub mod Steps
 pub mod Outcomes
 pub mod Places
+pub mod FileOf

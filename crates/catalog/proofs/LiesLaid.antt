@@ -30,7 +30,6 @@ use Rattle.catalogue_changes.proofs.Staying.{relation_is, relation_there}
 use Rattle.catalogue_moves.specs.Files.{files_after, files_of, is_in, placed_key}
 use Rattle.catalogue_moves.specs.Moves.{HavePlaces}
 use Rattle.catalogue_pages.specs.Ends.{AreEnds, SameBesides, Written}
-use Rattle.catalogue_pages.specs.declared.writing.Ends.{Ends}
 use Rattle.catalog_laws.specs.Followed.{AreKept}
 use Rattle.catalog_laws.specs.Placed.{IsMade, MakesPages, Suits}
 use Rattle.catalog_laws.proofs.Agreeing.{file_same, files_agree}
@@ -301,9 +300,9 @@ module _ (c : Catalog) (m : Image) (made : DbChange) (lies : LiesOn c m) (lawful
     part_prepared = prepared c lies.over (database_of c.plain) made c.plain.is lies.knows lawful read file used (Some over) over_made
 
     pub lies_then : (now : Catalog) (told_now : Option Image) → IsKept c now made file used → HavePlaces (coming_of made (files_of c.files) file used (database_of c.plain))
-        → (ends : Ends) → Written its.image told_now ends (changed (going_of made (files_of c.files) file used (database_of c.plain)) (coming_of made (files_of c.files) file used (database_of c.plain)) (printed (database_of c.plain) (files_of c.files)))
-        → LiesAfter (record now { ends = ends }) m told_now
-    lies_then now told_now kept places ends written =
+        → Written its.image told_now now.ends (changed (going_of made (files_of c.files) file used (database_of c.plain)) (coming_of made (files_of c.files) file used (database_of c.plain)) (printed (database_of c.plain) (files_of c.files)))
+        → LiesAfter now m told_now
+    lies_then now told_now kept places written =
         record { image = written.image; told_still = written.told_still; lies = there; head = λ b e. later_first b (omega (arith, e)) (λ k. omega (arith, e, k)) (λ k. omega (arith, e, k)) (λ k. omega (arith, e, k)) }
       where
         part : Db
@@ -331,26 +330,26 @@ module _ (c : Catalog) (m : Image) (made : DbChange) (lies : LiesOn c m) (lawful
         same_first : (b : Addr) → b.file < 16 → with_first_of written.image over b ≡ written.image b
         same_first b low = first_there written.image over b low
 
-        over_written : Written over (Some (with_first_of written.image over)) ends
+        over_written : Written over (Some (with_first_of written.image over)) now.ends
             (changed (going_of made (files_of c.files) file used (database_of c.plain)) (coming_of made (files_of c.files) file used (database_of c.plain)) (printed (database_of c.plain) (files_of c.files)))
         over_written = record {
           image = with_first_of written.image over;
           told_still = refl;
           holds = catalogue_stays written.image (with_first_of written.image over) same_first
               (changed (going_of made (files_of c.files) file used (database_of c.plain)) (coming_of made (files_of c.files) file used (database_of c.plain)) (printed (database_of c.plain) (files_of c.files))) written.holds;
-          ends_there = ends_stay written.image (with_first_of written.image over) same_first ends written.ends_there;
+          ends_there = ends_stay written.image (with_first_of written.image over) same_first now.ends written.ends_there;
           others = others;
         }
 
-        after : KnowsAfter (record now { ends = ends }) lies.over (Some (with_first_of written.image over)) (database_of c.plain) made
-        after = known_then c lies.over (database_of c.plain) made c.plain.is lies.knows lawful read file used (Some over) over_made now (Some (with_first_of written.image over)) kept places ends over_written
+        after : KnowsAfter now lies.over (Some (with_first_of written.image over)) (database_of c.plain) made
+        after = known_then c lies.over (database_of c.plain) made c.plain.is lies.knows lawful read file used (Some over) over_made now (Some (with_first_of written.image over)) kept places over_written
 
-        knows : Knows (record now { ends = ends }) (with_first_of written.image over) (database_of now.plain)
+        knows : Knows now (with_first_of written.image over) (database_of now.plain)
         knows =
-            subst (Knows (record now { ends = ends }) (with_first_of written.image over)) (sym kept.plain)
-            (subst (λ (n : Image). Knows (record now { ends = ends }) n (laid (database_of c.plain) made)) (same_Some after.image (with_first_of written.image over) (sym after.told_still)) after.knows)
+            subst (Knows now (with_first_of written.image over)) (sym kept.plain)
+            (subst (λ (n : Image). Knows now n (laid (database_of c.plain) made)) (same_Some after.image (with_first_of written.image over) (sym after.told_still)) after.knows)
 
-        there : LiesOn (record now { ends = ends }) written.image
+        there : LiesOn now written.image
         there = record {
           over = with_first_of written.image over;
           first = same_first;
@@ -368,7 +367,7 @@ module _ (c : Catalog) (m : Image) (made : DbChange) (lies : LiesOn c m) (lawful
                 (kept_after (database_of c.plain) c.files now.files file used c.plain.is (part_bases c lies.over (database_of c.plain) lies.knows) made lawful its.suits kept.places)
                 (relation_is_there (laid (database_of c.plain) made) key here_then) in
                 let high : 16 ≤ (files_of now.files).file key =
-                relation_file (record now { ends = ends }) (with_first_of written.image over) key knows here in
+                relation_file now (with_first_of written.image over) key knows here in
                 later_file ((files_of now.files).file key) written.image over high
                 ∙ subst (λ (n : ℕ). pages_of over n ≡ pages_of its.image n) (sym number)
                 (same_after (database_of c.plain) (files_of c.files) (is_in c.loaded) file used m lies.over its.image lies.read made lawful its.suits its.makes key here_then (sym (kept.loaded key) ∙ known))

@@ -23,7 +23,6 @@ use Rattle.catalogue_changes.specs.After.{changed}
 use Rattle.catalogue_moves.specs.Bases.{IndexBases}
 use Rattle.catalogue_moves.specs.Files.{files_of, is_in}
 use Rattle.catalogue_moves.specs.Moves.{HavePlaces}
-use Rattle.catalogue_pages.specs.declared.writing.Ends.{Ends}
 use Rattle.catalogue_pages.specs.Ends.{AreEnds, NoCatalogue, Written}
 use Rattle.catalog_laws.specs.Loaded.{known_after, knows_rows}
 use Rattle.catalog_laws.proofs.Changes.{takes_changes}
@@ -40,27 +39,23 @@ pub knows_same : (c : Catalog) (p : DbPlain) (m : Image) (db : Db) → database_
 knows_same c p m db e knows = record { plain = e ∙ knows.plain; catalogue = knows.catalogue; has = knows.has; ends = knows.ends; owners = knows.owners; bases = knows.bases }
 
 -- what is known when all steps are done
-pub write_knows : (c : Catalog) (p q : DbPlain) (now : Catalog) (m : Image) (db : Db) (made : DbChange) (file used : ℕ) (ends : Ends) (mid told : Option Image)
-    → database_of p ≡ database_of c.plain → database_of q ≡ database_of p → IsDatabase db → Knows c m db → IsLawful db made → knows_rows made (is_in c.loaded) ≡ true
+pub write_knows : {T E : Type 0} (r : Result T E) (c : Catalog) (p : DbPlain) (now : Catalog) (m : Image) (db : Db) (made : DbChange) (file used : ℕ) (mid told : Option Image)
+    → database_of p ≡ database_of c.plain → IsDatabase db → Knows c m db → IsLawful db made → knows_rows made (is_in c.loaded) ≡ true
     → (MayTake (database_of c.plain) db (files_of c.files) made m → HasMade made db (files_of c.files) file used m mid)
-    → HavePlaces (coming_of made (files_of c.files) file used (database_of p))
-    → ((n : Image) (cat : Catalogue) → mid ≡ Some n → AreEnds n c.ends → catalogue_in (pages_of n) ≡ Some cat → IndexBases c.files (database_of p) → IsPrepared made (files_of c.files) file used (database_of p) cat
-    → Written n told ends (changed (going_of made (files_of c.files) file used (database_of p)) (coming_of made (files_of c.files) file used (database_of p)) cat))
-    → IsKept (record c { plain = q }) now made file used → KnowsAfter (record now { ends = ends }) m told db made
-write_knows c p q now m db made file used ends mid told same again is knows lawful read makes places writes kept =
+    → OnOk r (HavePlaces (coming_of made (files_of c.files) file used (database_of p)))
+    → OnOk r ((n : Image) (cat : Catalogue) → mid ≡ Some n → AreEnds n c.ends → catalogue_in (pages_of n) ≡ Some cat → IndexBases c.files (database_of p) → IsPrepared made (files_of c.files) file used (database_of p) cat
+    → Written n told now.ends (changed (going_of made (files_of c.files) file used (database_of p)) (coming_of made (files_of c.files) file used (database_of p)) cat))
+    → OnOk r (IsKept (record c { plain = p }) now made file used) → OnOk r (KnowsAfter now m told db made)
+write_knows (Err e) c p now m db made file used mid told same is knows lawful read makes places writes kept = tt
+write_knows (Ok x) c p now m db made file used mid told same is knows lawful read makes places writes kept =
     let its = makes (may_take c m db made is knows lawful) in
     let cat = printed db (files_of c.files) in
     let written = writes its.image cat its.told_still (ends_there c m db made is knows lawful file used mid its) (catalogue_there c m db made is knows lawful file used mid its)
     (subst (IndexBases c.files) (sym same) (part_bases c m db knows)) (subst (λ d. IsPrepared made (files_of c.files) file used d cat) (sym same) (prepared c m db made is knows lawful read file used mid its)) in
     known_then c m db made is knows lawful read file used mid its now told
-    (record {
-      plain = kept.plain ∙ ap (λ (d : Db). laid d made) (again ∙ same);
-      loaded = kept.loaded;
-      places = kept.places;
-      ends_stay = kept.ends_stay;
-    })
-    (subst (λ d. HavePlaces (coming_of made (files_of c.files) file used d)) same places) ends
-    (subst (λ d. Written its.image told ends (changed (going_of made (files_of c.files) file used d) (coming_of made (files_of c.files) file used d) cat)) same written)
+    (record { plain = kept.plain ∙ ap (λ (d : Db). laid d made) same; loaded = kept.loaded; places = kept.places })
+    (subst (λ d. HavePlaces (coming_of made (files_of c.files) file used d)) same places)
+    (subst (λ d. Written its.image told now.ends (changed (going_of made (files_of c.files) file used d) (coming_of made (files_of c.files) file used d) cat)) same written)
 
 -- damage to the pages of a relation
 pub pages_fault : (c : Catalog) (made : DbChange) (old : Option Image) (a : Addr) → IsAtFault old (NoneMayTake (database_of c.plain) (files_of c.files) made) a → IsAtFault old (KnowsNoneFor c made) a
@@ -91,7 +86,7 @@ unfolding schema_of laid
 rows_leave_schema rel remove add db = λ i. record db { relations = bare_changed rel remove add db.relations i }
 
 -- a schema has itself as its schema
-schema_again : (db : Db) → schema_of (schema_of db) ≡ schema_of db
+pub schema_again : (db : Db) → schema_of (schema_of db) ≡ schema_of db
 schema_again db = ap schema_of (sym (starts_bare db)) ∙ has_schema (λ key. false) db
 
 -- a change that names no rows makes of a schema that of what it makes
@@ -138,24 +133,20 @@ lies_still c p m e lies = record {
 }
 
 -- what lies on them when all steps are done
-pub write_lies : (c : Catalog) (p q : DbPlain) (now : Catalog) (m : Image) (made : DbChange) (file used : ℕ) (ends : Ends) (mid told : Option Image)
-    → database_of p ≡ database_of c.plain → database_of q ≡ database_of p → LiesOn c m → IsLawful (database_of c.plain) made → knows_rows made (is_in c.loaded) ≡ true
+pub write_lies : {T E : Type 0} (r : Result T E) (c : Catalog) (p : DbPlain) (now : Catalog) (m : Image) (made : DbChange) (file used : ℕ) (mid told : Option Image)
+    → database_of p ≡ database_of c.plain → LiesOn c m → IsLawful (database_of c.plain) made → knows_rows made (is_in c.loaded) ≡ true
     → (MayTake (database_of c.plain) (database_of c.plain) (files_of c.files) made m → HasMade made (database_of c.plain) (files_of c.files) file used m mid)
-    → HavePlaces (coming_of made (files_of c.files) file used (database_of p))
-    → ((n : Image) (cat : Catalogue) → mid ≡ Some n → AreEnds n c.ends → catalogue_in (pages_of n) ≡ Some cat → IndexBases c.files (database_of p) → IsPrepared made (files_of c.files) file used (database_of p) cat
-    → Written n told ends (changed (going_of made (files_of c.files) file used (database_of p)) (coming_of made (files_of c.files) file used (database_of p)) cat))
-    → IsKept (record c { plain = q }) now made file used → LiesAfter (record now { ends = ends }) m told
-write_lies c p q now m made file used ends mid told same again lies lawful read makes places writes kept =
+    → OnOk r (HavePlaces (coming_of made (files_of c.files) file used (database_of p)))
+    → OnOk r ((n : Image) (cat : Catalogue) → mid ≡ Some n → AreEnds n c.ends → catalogue_in (pages_of n) ≡ Some cat → IndexBases c.files (database_of p) → IsPrepared made (files_of c.files) file used (database_of p) cat
+    → Written n told now.ends (changed (going_of made (files_of c.files) file used (database_of p)) (coming_of made (files_of c.files) file used (database_of p)) cat))
+    → OnOk r (IsKept (record c { plain = p }) now made file used) → OnOk r (LiesAfter now m told)
+write_lies (Err e) c p now m made file used mid told same lies lawful read makes places writes kept = tt
+write_lies (Ok x) c p now m made file used mid told same lies lawful read makes places writes kept =
     let its = makes (part_may_take c m made lies lawful read) in
     let cat = printed (database_of c.plain) (files_of c.files) in
     let written = writes its.image cat its.told_still (ends_in_place c m made lies lawful file used mid its) (catalogue_in_place c m made lies lawful file used mid its)
     (subst (IndexBases c.files) (sym same) lies.knows.bases) (subst (λ d. IsPrepared made (files_of c.files) file used d cat) (sym same) (part_prepared c m made lies lawful file used mid its read)) in
     lies_then c m made lies lawful file used mid its read now told
-    (record {
-      plain = kept.plain ∙ ap (λ (d : Db). laid d made) (again ∙ same);
-      loaded = kept.loaded;
-      places = kept.places;
-      ends_stay = kept.ends_stay;
-    })
-    (subst (λ d. HavePlaces (coming_of made (files_of c.files) file used d)) same places) ends
-    (subst (λ d. Written its.image told ends (changed (going_of made (files_of c.files) file used d) (coming_of made (files_of c.files) file used d) cat)) same written)
+    (record { plain = kept.plain ∙ ap (λ (d : Db). laid d made) same; loaded = kept.loaded; places = kept.places })
+    (subst (λ d. HavePlaces (coming_of made (files_of c.files) file used d)) same places)
+    (subst (λ d. Written its.image told now.ends (changed (going_of made (files_of c.files) file used d) (coming_of made (files_of c.files) file used d) cat)) same written)

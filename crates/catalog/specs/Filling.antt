@@ -16,11 +16,15 @@ use Rattle.stored_database.specs.Spelled.{domain_of}
 use Rattle.catalogue_moves.specs.Files.{is_in}
 use Rattle.catalog.specs.declared.catalog.Catalog.{Catalog}
 
--- The file with this number and so many pages, whose domains are those of these attributes.
+-- The file with this number and so many pages on one chain, of this structure and these keys, whose domains are those of these attributes.
 pub record IsFileWith (info : RelInfo) (file used : ℕ) (its : RelFile) : Type 0 where
   pub number : its.file ≡ file
   pub pages : its.used ≡ used
   pub domains : each domain_of info.attrs ≡ Some its.domains
+  pub spec : its.spec ≡ info.spec
+  pub keys : its.keys ≡ info.keys
+  pub primary : its.primary ≡ 1
+  pub directory : its.directory ≡ 0
 
 -- The file of a relation that stands under a key.
 pub record IsFileOf (db : Db) (f : Files) (key : RelKey) (its : RelFile) : Type 0 where

@@ -17,7 +17,7 @@ use Rattle.catalogue_changes.specs.After.{AreChanges, changed}
 use Rattle.catalogue_changes.specs.Moves.{going, coming}
 use Rattle.catalogue_moves.specs.Files.{files_after, is_in, places_of}
 use Rattle.catalogue_moves.specs.Moves.{HavePlaces}
-use Rattle.catalog_laws.specs.Placed.{Suits, MakesPages}
+use Rattle.catalog_laws.specs.Placed.{IsFree, Suits, MakesPages}
 use Rattle.catalog_laws.specs.Loaded.{known_after}
 use Rattle.catalog.specs.Places.{places_after}
 use Rattle.catalog.specs.declared.catalog.Catalog.{Catalog}
@@ -75,6 +75,19 @@ PutsNoRows (change.Rule rel rule) = Unit {0}
 PutsNoRows (change.DropPermits rel numbers) = Unit {0}
 PutsNoRows (change.DropRules rel numbers) = Unit {0}
 
+-- Where what a change makes or changes lies by the catalogue alone: what is there keeps its file and its pages, and what is made has a file that nothing has, a relation one page of it.
+unfoldable pub IsPlaced : DbChange → Files → ℕ → ℕ → Type 0
+IsPlaced (change.Rows rel remove add) f file used = (file ≡ f.file rel) × (used ≡ f.used rel)
+IsPlaced (change.Create info rows) f file used = IsFree f file × (used ≡ 1)
+IsPlaced (change.Destroy rels) f file used = Unit {0}
+IsPlaced (change.Modify rel to keys) f file used = (file ≡ f.file rel) × (used ≡ f.used rel)
+IsPlaced (change.Index base name keys) f file used = IsFree f file
+IsPlaced (change.View info query) f file used = IsFree f file
+IsPlaced (change.Permit rel permit) f file used = Unit {0}
+IsPlaced (change.Rule rel rule) f file used = Unit {0}
+IsPlaced (change.DropPermits rel numbers) f file used = Unit {0}
+IsPlaced (change.DropRules rel numbers) f file used = Unit {0}
+
 -- Where the parts that come have places, the rows are a change of this catalogue that leaves one.
 pub record IsPrepared (made : DbChange) (f : Files) (file used : ℕ) (db : Db) (cat : Catalogue) : Type 0 where
   pub changes : HavePlaces (coming_of made f file used db) → AreChanges (going_of made f file used db) (coming_of made f file used db) cat
@@ -85,4 +98,3 @@ pub record IsKept (before now : Catalog) (made : DbChange) (file used : ℕ) : T
   pub plain : database_of now.plain ≡ laid (database_of before.plain) made
   pub loaded : (key : RelKey) → is_in now.loaded key ≡ known_after made (is_in before.loaded) key
   pub places : places_of now.files ≡ places_after made file used (places_of before.files)
-  pub ends_stay : now.ends ≡ before.ends

@@ -5,3 +5,5 @@ pub mod Loading
 pub mod Places
 pub mod Laid
 pub mod Reads
+pub mod Spelling
+pub mod Asked

@@ -3,16 +3,19 @@
 ghost use Rattle.std.specs.Prelude.{◌≡◌, ◌<◌, ◌⊎◌, true, None, IfOk};
 ghost use Rattle.std.specs.Option.{ForSome};
 ghost use Rattle.am_traits.specs.Told.{known_at};
+ghost use Rattle.calculus.specs.declared.schema.Spec.TheVariants.{Index};
 ghost use Rattle.calculus.specs.Database.{is_relation};
+ghost use Rattle.calculus.specs.Structures.{is_view};
 ghost use Rattle.page_chain.specs.Lists.{each};
 ghost use Rattle.plain_base.specs.Shown.{database_of};
 ghost use Rattle.stored_database.specs.Spelled.{domain_of};
 ghost use Rattle.catalogue_moves.specs.Files.{files_of};
+ghost use Rattle.catalog.specs.Asked.{HasKind, IsFileBy};
 ghost use Rattle.catalog.specs.Filling.{IsFileOf, IsFileWith};
 
 use access_traits::RelFile;
 use am_traits::Base;
-use calculus::{Attr, Domain, Kind, List, OutOfMemory, RelInfo, RelKey};
+use calculus::{Attr, Domain, Kind, List, OutOfMemory, RelInfo, RelKey, Spec};
 use catalogue_moves::FileTable;
 use plain_base::DbPlain;
 use std::alloc::Global;
@@ -93,5 +96,38 @@ pub(crate) fn relation_file(
     match known(alloc, plain, key)? {
         Some(info) => file_with(alloc, &info, file, used),
         None => Ok(None),
+    }
+}
+
+/// The file of an index, which has no pages yet.
+fn index_file(alloc: Global, info: &RelInfo, file: u32) -> Result<Option<RelFile>, OutOfMemory>
+    requires { info.now.spec ≡ Index }
+    ensures there { IfOk result (λ found. ForSome found (λ its. HasKind info.now its × (its.file ≡ file))) }
+    ensures none { IfOk result (λ found. found ≡ None → each domain_of info.now.attrs ≡ None) }
+{
+    match file_with(alloc, info, file, 0)? {
+        Some(mut its) => {
+            its.primary = 0;
+            Ok(Some(its))
+        }
+        None => Ok(None),
+    }
+}
+
+/// The file of a relation that has this one with so many pages, or of an index that has it; `None` of a
+/// view, and where an attribute has no domain.
+pub(crate) fn file_by(
+    alloc: Global,
+    info: &RelInfo,
+    file: u32,
+    used: u32,
+) -> Result<Option<RelFile>, OutOfMemory>
+    ensures there { IfOk result (λ found. ForSome found (λ its. IsFileBy info.now file used its)) }
+    ensures none { IfOk result (λ found. found ≡ None → (is_view info.now.spec ≡ true) ⊎ (each domain_of info.now.attrs ≡ None)) }
+{
+    match info.spec {
+        Spec::View => Ok(None),
+        Spec::Index => index_file(alloc, info, file),
+        _ => file_with(alloc, info, file, used),
     }
 }

@@ -1,6 +1,6 @@
 //! A change is laid, in memory and on pages.
 
-ghost use Rattle.std.specs.Prelude.{◌≡◌, false, true, Some, IfOk, OnOk};
+ghost use Rattle.std.specs.Prelude.{◌≡◌, true, Some, IfOk, OnOk};
 ghost use Rattle.access_traits.specs.Causes.{HasFileCause};
 ghost use Rattle.calculus.specs.Change.{IsLawful, laid};
 ghost use Rattle.calculus.specs.Database.{Db};
@@ -17,7 +17,7 @@ ghost use Rattle.catalogue_moves.specs.Moves.{HavePlaces};
 ghost use Rattle.catalogue_pages.specs.Ends.{AreEnds, NoCatalogue, Written};
 ghost use Rattle.catalog_laws.specs.Loaded.{knows_rows};
 ghost use Rattle.catalog.specs.Knows.{Knows, KnowsAfter, KnowsNone, KnowsNoneFor};
-ghost use Rattle.catalog.specs.Laid.{IsPrepared, coming_of, going_of};
+ghost use Rattle.catalog.specs.Laid.{IsKept, IsPrepared, coming_of, going_of};
 ghost use Rattle.catalog.specs.Lies.{LiesAfter, LiesOn};
 
 use crate::catalog::Catalog;
@@ -114,6 +114,39 @@ impl Catalog {
         }
     }
 
+    /// Lays a lawful change in memory and on the pages of the catalogues, where what it makes or changes
+    /// lies there.
+    pub(crate) fn write_given<S: PageStore>(
+        &mut self,
+        alloc: Global,
+        store: &mut S,
+        change: &DbChange,
+        given: Given,
+    ) -> Result<(), BaseFault>
+        requires { IsLawful (database_of self.old.plain) change.now }
+        ensures places { OnOk result (HavePlaces (coming_of change.now (files_of self.old.files) given.file given.used (database_of self.old.plain))) }
+        ensures written { OnOk result ((m : Image) (cat : Catalogue) → S.pages store.old ≡ Some m → AreEnds m self.old.ends → catalogue_in (pages_of m) ≡ Some cat
+            → IndexBases self.old.files (database_of self.old.plain) → IsPrepared change.now (files_of self.old.files) given.file given.used (database_of self.old.plain) cat
+            → Written m (S.pages store.new) self.new.ends
+            (changed (going_of change.now (files_of self.old.files) given.file given.used (database_of self.old.plain)) (coming_of change.now (files_of self.old.files) given.file given.used (database_of self.old.plain)) cat)) }
+        ensures kept { OnOk result (IsKept self.old self.new change.now given.file given.used) }
+        ensures came { (s : S) → S.came s store.old → S.came s store.new }
+        ensures cause { HasFileCause (S.pages store.old) (NoCatalogue self.old.ends) (S.faults store.old) (S.faults store.new) result }
+    {
+        let ends = write_catalogue(
+            alloc,
+            store,
+            &mut self.plain,
+            &self.files,
+            self.ends,
+            change,
+            given,
+        )?;
+        self.keep(alloc, change, given)?;
+        self.ends = ends;
+        Ok(())
+    }
+
     /// Lays a lawful change, on pages and in memory.
     fn write<S: PageStore>(
         &mut self,
@@ -132,18 +165,7 @@ impl Catalog {
         ensures cause { HasFileCause (S.pages store.old) (KnowsNoneFor self.old change.now) (S.faults store.old) (S.faults store.new) result }
     {
         let given = make_pages(alloc, store, spots, &mut self.plain, &self.files, change)?;
-        let ends = write_catalogue(
-            alloc,
-            store,
-            &mut self.plain,
-            &self.files,
-            self.ends,
-            change,
-            given,
-        )?;
-        self.keep(alloc, change, given)?;
-        self.ends = ends;
-        Ok(())
+        self.write_given(alloc, store, change, given)
     }
 }
 

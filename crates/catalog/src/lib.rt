@@ -1,6 +1,7 @@
 //! The catalogue of a database on disk, in memory.
 #![tactic(auto)]
 
+mod asking;
 mod catalog;
 mod files;
 mod filling;
@@ -9,6 +10,7 @@ mod laying;
 mod loading;
 mod lying;
 mod placing;
+mod spelling;
 mod spots;
 
 pub use catalog::Catalog;

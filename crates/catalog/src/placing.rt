@@ -8,7 +8,7 @@ ghost use Rattle.calculus.specs.declared.change.DbChange.TheVariants.{Rows, Crea
 ghost use Rattle.disk_model.specs.Disk.{Image};
 ghost use Rattle.plain_base.specs.Shown.{database_of};
 ghost use Rattle.catalogue_moves.specs.Files.{files_of};
-ghost use Rattle.catalog.specs.Laid.{HasMade, MayTake, NoneMayTake, PutsNoRows};
+ghost use Rattle.catalog.specs.Laid.{HasMade, IsPlaced, MayTake, NoneMayTake, PutsNoRows};
 ghost use Rattle.catalog_laws.specs.Placed.{IsFree, Suits};
 
 use crate::files::{file_with, relation_file};
@@ -112,18 +112,22 @@ pub(crate) fn same_place(files: &FileTable, rel: &RelKey) -> Given
     }
 }
 
-/// Where what a change makes lies, or what it changes, where no page of a relation is put.
-#[tactic(auto, unfolding(crate::specs::Laid::PutsNoRows, catalog_laws::specs::Placed::Suits))]
-fn place_of(files: &FileTable, change: &DbChange) -> Result<Given, OutOfMemory>
-    ensures { IfOk result (λ given. PutsNoRows change.now → Suits change.now (files_of files.now) given.file given.used) }
+/// Where what a change makes lies, or what it changes, by the catalogue alone.
+#[tactic(auto, unfolding(crate::specs::Laid::IsPlaced, crate::specs::Laid::PutsNoRows, catalog_laws::specs::Placed::Suits))]
+pub(crate) fn place_of(files: &FileTable, change: &DbChange) -> Result<Given, OutOfMemory>
+    ensures suits { IfOk result (λ given. PutsNoRows change.now → Suits change.now (files_of files.now) given.file given.used) }
+    ensures placed { IfOk result (λ given. IsPlaced change.now (files_of files.now) given.file given.used) }
 {
     match change {
         DbChange::Rows {
-            rel: _,
+            rel,
             remove: _,
             add: _,
-        } => Ok(NOTHING),
-        DbChange::Create { info: _, rows: _ } => Ok(NOTHING),
+        } => Ok(same_place(files, rel)),
+        DbChange::Create { info: _, rows: _ } => {
+            let file = new_file(files)?;
+            Ok(Given { file, used: 1 })
+        }
         DbChange::Destroy { rels: _ } => Ok(NOTHING),
         DbChange::Modify {
             rel,

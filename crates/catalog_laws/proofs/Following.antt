@@ -12,23 +12,23 @@ use Rattle.page_chain.specs.Lists.{in_order}
 use Rattle.stored_database.specs.Catalogue.{Catalogue, IsCatalogue}
 use Rattle.stored_database.specs.Names.{is_number32}
 use Rattle.stored_database.specs.Parts.{Part, part_cmp, is_part, of_permit}
-use Rattle.stored_database.specs.Printed.{Files, printed, parts_for, trees_are_short}
+use Rattle.stored_database.specs.Printed.{Files, MayHave, printed, parts_for, trees_are_short}
 use Rattle.stored_database.proofs.Members.{IsIn, of_all, tests_of, filter_in, in_either}
 use Rattle.stored_database.proofs.Orders.{part_total}
-use Rattle.stored_database.proofs.PrintedStands.{what_is_printed_is_a_catalogue}
+use Rattle.stored_database.proofs.PrintedStands.{is_a_catalogue, may_have}
 use Rattle.stored_database.proofs.PrintedTrees.{told_trees, trees_for, parts_are}
 use Rattle.stored_database.proofs.Groups.{groups_apart}
 use Rattle.stored_database.proofs.Reading.{both}
 use Rattle.stored_database.proofs.Sets.{in_in_order, in_order_in}
 use Rattle.catalogue_changes.specs.After.{AreChanges, changed, stays, after_change}
-use Rattle.catalogue_changes.specs.Laws.{FilesDiffer}
+use Rattle.catalogue_changes.specs.Laws.{Agree, FilesDiffer}
 use Rattle.catalogue_changes.specs.Moves.{going, coming}
 use Rattle.catalogue_changes.proofs.Every.{every_change, every_row}
 use Rattle.catalogue_changes.proofs.Moved.{IsApart, exact_of}
 use Rattle.catalogue_changes.proofs.Three.{Stands, trees_are_apart}
 use Rattle.catalogue_moves.specs.Moves.{HavePlaces}
-use Rattle.catalog_laws.specs.Followed.{SayTheSame, CatalogueFollows}
-use Rattle.catalog_laws.proofs.Kept.{kept_say, kept_agree, kept_has, kept_going, kept_coming}
+use Rattle.catalog_laws.specs.Followed.{SayTheSame, AreKept, SameSchemas, Prints, CatalogueFollows}
+use Rattle.catalog_laws.proofs.Kept.{kept_say, kept_agree, kept_has, kept_may, kept_going, kept_coming}
 use Rattle.catalog_laws.proofs.Schemas.{same_printed, same_entries}
 
 -- the place of a part is a number of two bytes
@@ -46,7 +46,7 @@ part_in_set f db p stands at =
     (exact_of part_total (parts_for f db) (subst (IsApart part_cmp) (sym (parts_are f db)) (groups_apart told_trees (trees_for f db) (trees_are_apart f db stands)))) at
 
 -- where what came has short places and what was there had, all have
-short_after : (going coming cat : Catalogue) (f : Files) (db : Db) → Stands f db → printed db f ≡ changed going coming cat → AllByRecursion (λ p. is_part p ≡ true) cat.parts → HavePlaces coming
+pub short_after : (going coming cat : Catalogue) (f : Files) (db : Db) → Stands f db → printed db f ≡ changed going coming cat → AllByRecursion (λ p. is_part p ≡ true) cat.parts → HavePlaces coming
     → trees_are_short db f ≡ true
 unfolding trees_are_short printed changed
 short_after going coming cat f db stands is were come = tests_of (λ p. nat_lt p.place 65536) (parts_for f db) (λ p at. (
@@ -67,13 +67,15 @@ say_by_entries a b f g same say = record {
   used = λ key there. say.used key (ap (λ (l : List RelInfo). is_some (find (λ i. same_key i.key key) l)) same ∙ there);
 }
 
-pub catalogue_follows : (made : DbChange) → CatalogueFollows made
-catalogue_follows made db part f after kept pages same differ agree are was places has =
+-- what is printed follows a change by the files alone
+pub catalogue_prints : (made : DbChange) (db part : Db) (f after kept : Files) → SameSchemas db part made → FilesDiffer db f → Agree part made f after → AreKept made part after kept
+    → IsCatalogue (printed db f) → HavePlaces (coming f after part made) → MayHave (laid db made) after → Prints db part made f after kept
+catalogue_prints made db part f after kept same differ agree are was places may =
     let say = kept_say made part after kept are in
     let later : entries (laid part made) ≡ entries (laid db made) = same_entries (laid part made) (laid db made) same.after in
-    let has_kept = kept_has (laid db made) after kept pages (say_by_entries (laid part made) (laid db made) after kept later say) has in
+    let may_kept = kept_may (laid db made) after kept (say_by_entries (laid part made) (laid db made) after kept later say) may in
     let differ_part = differ_by_entries part db f (same_entries part db same.before) differ in
-    let differ_after = differ_by_entries (laid part made) (laid db made) kept later has_kept.files_differ in
+    let differ_after = differ_by_entries (laid part made) (laid db made) kept later may_kept.files_differ in
     let its = kept_agree made part f after kept say agree in
     let g : going f kept part made ≡ going f after part made = kept_going made part f after kept are in
     let c : coming f kept part made ≡ coming f after part made = kept_coming made part f after kept are in
@@ -82,10 +84,16 @@ catalogue_follows made db part f after kept pages same differ agree are was plac
     (λ i. changed (sym g i) (sym c i) (sym p i)) ∙ sym (every_change made part f kept same.is same.lawful differ_part differ_after its) ∙ same_printed (laid part made) (laid db made) kept same.after in
     let changes : AreChanges (going f after part made) (coming f after part made) (printed db f) =
     subst (λ (l : Catalogue × Catalogue × Catalogue). AreChanges l.0 l.1 l.2) (λ i. (g i, c i, p i)) (every_row made part f kept same.is same.lawful differ_part differ_after its) in
-    let short = short_after (going f after part made) (coming f after part made) (printed db f) kept (laid db made) (record { files_differ = has_kept.files_differ; is = same.leaves }) (sym is) was.are_parts places in
+    let short = short_after (going f after part made) (coming f after part made) (printed db f) kept (laid db made) (record { files_differ = may_kept.files_differ; is = same.leaves }) (sym is) was.are_parts places in
+    record { changes = changes; stands = subst IsCatalogue (sym is) (is_a_catalogue kept (laid db made) same.leaves may_kept short); is = is; may = may_kept }
+
+pub catalogue_follows : (made : DbChange) → CatalogueFollows made
+catalogue_follows made db part f after kept pages same differ agree are was places has =
+    let its = catalogue_prints made db part f after kept same differ agree are was places (may_have (laid db made) pages after has) in
+    let later : entries (laid part made) ≡ entries (laid db made) = same_entries (laid part made) (laid db made) same.after in
     record {
-      changes = changes;
-      stands = subst IsCatalogue (sym is) (what_is_printed_is_a_catalogue pages kept (laid db made) same.leaves has_kept short);
-      is = is;
-      has = has_kept;
+      changes = its.changes;
+      stands = its.stands;
+      is = its.is;
+      has = kept_has (laid db made) after kept pages (say_by_entries (laid part made) (laid db made) after kept later (kept_say made part after kept are)) has;
     }

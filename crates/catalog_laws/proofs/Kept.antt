@@ -14,9 +14,10 @@ use Rattle.page_chain.specs.Lists.{◌>>=◌, each}
 use Rattle.page_chain.specs.Pages.{Pages}
 use Rattle.page_chain.specs.Rows.{set_on, reader}
 use Rattle.stored_database.specs.Names.{is_number32}
-use Rattle.stored_database.specs.Printed.{Files, HasFiles, is_file, relation_entry, rows_in}
+use Rattle.stored_database.specs.Printed.{Files, HasFiles, MayHave, is_file, relation_entry, rows_in}
 use Rattle.stored_database.specs.Spelled.{domain_of}
 use Rattle.stored_database.proofs.Members.{IsIn, of_all, all_of, of_tests, tests_of, in_map, filter_in}
+use Rattle.stored_database.proofs.PrintedStands.{may_have}
 use Rattle.catalogue_changes.specs.Laws.{Agree}
 use Rattle.catalogue_changes.specs.Moves.{going, coming, only_entries, under}
 use Rattle.catalogue_changes.proofs.Staying.{info_there, relation_there, relation_is_there}
@@ -51,20 +52,30 @@ kept_agree made db f after kept say agree = record {
   used_stays = λ key here there off. say.used key (relation_is_there (laid db made) key there) ∙ agree.used_stays key here there off;
 }
 
--- and a database has them where it has the others
-pub kept_has : (db : Db) (f g : Files) (pages : ℕ → Pages) → SayTheSame db f g → HasFiles db pages f → HasFiles db pages g
-unfolding rows_in
-kept_has db f g pages say has = record {
-  are_files = tests_of (λ (i : RelInfo). is_file (g.file i.key)) (entries db) (λ i at. ap is_file (say.file i.key (info_there db i at)) ∙ of_tests (λ (i : RelInfo). is_file (f.file i.key)) (entries db) i has.are_files at);
+-- and a database may have them where it may have the others
+pub kept_may : (db : Db) (f g : Files) → SayTheSame db f g → MayHave db f → MayHave db g
+kept_may db f g say may = record {
+  are_files = tests_of (λ (i : RelInfo). is_file (g.file i.key)) (entries db) (λ i at. ap is_file (say.file i.key (info_there db i at)) ∙ of_tests (λ (i : RelInfo). is_file (f.file i.key)) (entries db) i may.are_files at);
   files_differ =
-      ap (differ_by nat_eq) (map_same (λ (i : RelInfo). g.file i.key) (λ (i : RelInfo). f.file i.key) (entries db) (λ i at. say.file i.key (info_there db i at))) ∙ has.files_differ;
+      ap (differ_by nat_eq) (map_same (λ (i : RelInfo). g.file i.key) (λ (i : RelInfo). f.file i.key) (entries db) (λ i at. say.file i.key (info_there db i at))) ∙ may.files_differ;
   some_pages = tests_of (λ (r : Relation). nat_le 1 (g.used r.info.key) && is_number32 (g.used r.info.key)) db.relations (λ r at.
       ap (λ (n : ℕ). nat_le 1 n && is_number32 n) (say.used r.info.key (relation_there db r at))
-      ∙ of_tests (λ (r : Relation). nat_le 1 (f.used r.info.key) && is_number32 (f.used r.info.key)) db.relations r has.some_pages at);
-  rows = all_of (λ (r : Relation). rows_in pages g r ≡ Some r.rows) db.relations (λ r at.
-      (λ i. each domain_of r.info.attrs >>= (λ domains. set_on (reader domains) (say.used r.info.key (relation_there db r at) i) (pages (say.file r.info.key (relation_there db r at) i))))
-      ∙ of_all (λ (r : Relation). rows_in pages f r ≡ Some r.rows) db.relations r has.rows at);
+      ∙ of_tests (λ (r : Relation). nat_le 1 (f.used r.info.key) && is_number32 (f.used r.info.key)) db.relations r may.some_pages at);
 }
+
+-- and has them where it has the others
+pub kept_has : (db : Db) (f g : Files) (pages : ℕ → Pages) → SayTheSame db f g → HasFiles db pages f → HasFiles db pages g
+unfolding rows_in
+kept_has db f g pages say has =
+    let may = kept_may db f g say (may_have db pages f has) in
+    record {
+      are_files = may.are_files;
+      files_differ = may.files_differ;
+      some_pages = may.some_pages;
+      rows = all_of (λ (r : Relation). rows_in pages g r ≡ Some r.rows) db.relations (λ r at.
+          (λ i. each domain_of r.info.attrs >>= (λ domains. set_on (reader domains) (say.used r.info.key (relation_there db r at) i) (pages (say.file r.info.key (relation_there db r at) i))))
+          ∙ of_all (λ (r : Relation). rows_in pages f r ≡ Some r.rows) db.relations r has.rows at);
+    }
 
 -- the same rows go with them
 pub kept_going : (made : DbChange) (db : Db) (f after kept : Files) → AreKept made db after kept → going f kept db made ≡ going f after db made

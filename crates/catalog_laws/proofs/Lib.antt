@@ -8,6 +8,7 @@ pub mod Images
 pub mod Spelling
 pub mod From
 pub mod Agreeing
+pub mod FilesAfter
 pub mod Standing
 pub mod Schemas
 pub mod Kept

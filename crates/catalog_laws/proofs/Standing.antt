@@ -1,5 +1,5 @@
 -- Each relation has its rows on its pages after a change.
-use Rattle.std.proofs.Common.{◌≡◌, refl, sym, ap, ap₂, subst, ◌∙◌, inl, inr, true≢false, ℕ, ◌<◌, ◌≤◌, ◌==◌, ◌&&◌, nat_le, true, false, List, Some, arith}
+use Rattle.std.proofs.Common.{◌≡◌, refl, sym, ap, ap₂, subst, ◌∙◌, inl, inr, true≢false, ℕ, ◌<◌, ◌≤◌, ◌==◌, nat_le, true, false, List, Some, arith}
 use Rattle.access_traits.specs.Pages.{SameElsewhere}
 use Rattle.calculus.specs.declared.query.RelKey.{RelKey}
 use Rattle.calculus.specs.declared.change.DbChange.{DbChange}
@@ -8,7 +8,6 @@ use Rattle.calculus.specs.declared.schema.Attr.{Attr}
 use Rattle.calculus.specs.declared.schema.RelInfo.{RelInfo}
 use Rattle.calculus.specs.Change.{laid, IsLawful, restructured, names_what_is_there}
 use Rattle.calculus.specs.Database.{Db, Relation, entries, is_there, is_relation}
-use Rattle.calculus.specs.IsDatabase.{IsDatabase}
 use Rattle.calculus.specs.Keys.{same_key}
 use Rattle.calculus.specs.Replacement.{with_rows, without_rows}
 use Rattle.calculus.specs.Rows.{Row, set_of}
@@ -21,18 +20,20 @@ use Rattle.page_chain.specs.Rows.{set_on, reader}
 use Rattle.stored_database.specs.Names.{is_number32}
 use Rattle.stored_database.specs.Printed.{Files, HasFiles, is_file, rows_in}
 use Rattle.stored_database.specs.Spelled.{domain_of}
-use Rattle.stored_database.proofs.Members.{IsIn, of_all, all_of, of_tests, tests_of, apart_same}
+use Rattle.stored_database.proofs.Members.{IsIn, of_all, all_of, of_tests, apart_same}
 use Rattle.stored_database.proofs.Orders.{same_key_is, same_key_itself}
 use Rattle.stored_database.proofs.Pairs.{pairs_apart}
 use Rattle.stored_database.proofs.PrintedEntries.{equal_turned, infos_differ}
+use Rattle.stored_database.proofs.PrintedStands.{may_have}
 use Rattle.stored_database.proofs.Reading.{number_itself, both}
 use Rattle.catalogue_changes.specs.Laws.{resizes, Agree, FilesDiffer}
-use Rattle.catalogue_changes.proofs.Staying.{info_there, relation_is, relation_there, relation_is_there}
+use Rattle.catalogue_changes.proofs.Staying.{relation_is, relation_there, relation_is_there}
 use Rattle.stored_database.proofs.PrintedTrees.{relation_under}
 use Rattle.catalogue_moves.specs.Files.{files_after, placed_key, with_file}
-use Rattle.catalog_laws.specs.Placed.{Suits, IsMade, MakesPages, FilesStand, FirstFilesStay, is_used}
-use Rattle.catalog_laws.proofs.From.{IsChanged, relation_from, info_from, found_under}
-use Rattle.catalog_laws.proofs.Agreeing.{files_agree, files_differ_after, new_file, file_same, used_same}
+use Rattle.catalog_laws.specs.Placed.{Suits, IsMade, MakesPages, FilesStand, FirstFilesStay}
+use Rattle.catalog_laws.proofs.FilesAfter.{may_have_after}
+use Rattle.catalog_laws.proofs.From.{IsChanged, relation_from, found_under}
+use Rattle.catalog_laws.proofs.Agreeing.{files_agree, file_same, used_same}
 
 -- what has one file has one key
 pub one_key : (db : Db) (f : Files) → FilesDiffer db f → (k l : RelKey) → is_there db k ≡ true → is_there db l ≡ true → f.file k ≡ f.file l → k ≡ l
@@ -104,41 +105,34 @@ module _ (db : Db) (f : Files) (file used : ℕ) (before later : Image) (has : H
   rows_made : (attrs : List Attr) (rows : List Row) → IsMade file used attrs rows before later → (each domain_of attrs >>= (λ domains. set_on (reader domains) used (pages_of later file))) ≡ Some rows
   rows_made attrs rows made = ap (λ o. o >>= (λ domains. set_on (reader domains) used (pages_of later file))) made.read ∙ made.are
 
-  -- What is to be known of a relation afterwards.
-  record Stands (after : Files) (s : Relation) : Type 0 where
-    pages : is_used (after.used s.info.key)
-    rows : rows_in (pages_of later) after s ≡ Some s.rows
+  -- a relation has its rows on its pages afterwards
+  abbrev Stands : Files → Relation → Type 0
+  Stands after s = rows_in (pages_of later) after s ≡ Some s.rows
 
   -- a relation with these rows on the pages that were made
-  made_stands : (after : Files) (s : Relation) → is_used used → after.file s.info.key ≡ file → after.used s.info.key ≡ used → IsMade file used s.info.attrs s.rows before later → Stands after s
+  made_stands : (after : Files) (s : Relation) → after.file s.info.key ≡ file → after.used s.info.key ≡ used → IsMade file used s.info.attrs s.rows before later → Stands after s
   unfolding rows_in
-  made_stands after s pages at many made = record {
-    pages = ap (λ (n : ℕ). nat_le 1 n && is_number32 n) many ∙ pages;
-    rows = rows_same s.info.attrs s.rows (after.used s.info.key) used (pages_of later (after.file s.info.key)) (pages_of later file) many (ap (pages_of later) at) (rows_made s.info.attrs s.rows made);
-  }
+  made_stands after s at many made = rows_same s.info.attrs s.rows (after.used s.info.key) used (pages_of later (after.file s.info.key)) (pages_of later file) many (ap (pages_of later) at) (rows_made s.info.attrs s.rows made)
 
   -- a relation that was there with these attributes and rows, on the same pages
   kept_stands : (after : Files) (r s : Relation) → IsIn r db.relations → s.info.attrs ≡ r.info.attrs → s.rows ≡ r.rows → after.used s.info.key ≡ f.used r.info.key
       → pages_of later (after.file s.info.key) ≡ pages_of before (f.file r.info.key) → Stands after s
   unfolding rows_in
-  kept_stands after r s there attrs rows many pages = record {
-    pages = ap (λ (n : ℕ). nat_le 1 n && is_number32 n) many ∙ of_tests (λ (r : Relation). nat_le 1 (f.used r.info.key) && is_number32 (f.used r.info.key)) db.relations r has.some_pages there;
-    rows =
-        ap (λ (l : List Attr). each domain_of l >>= (λ domains. set_on (reader domains) (after.used s.info.key) (pages_of later (after.file s.info.key)))) attrs
-        ∙ rows_same r.info.attrs r.rows (after.used s.info.key) (f.used r.info.key) (pages_of later (after.file s.info.key)) (pages_of before (f.file r.info.key)) many pages
-        (of_all (λ (r : Relation). rows_in (pages_of before) f r ≡ Some r.rows) db.relations r has.rows there)
-        ∙ ap Some (sym rows);
-  }
+  kept_stands after r s there attrs rows many pages =
+      ap (λ (l : List Attr). each domain_of l >>= (λ domains. set_on (reader domains) (after.used s.info.key) (pages_of later (after.file s.info.key)))) attrs
+      ∙ rows_same r.info.attrs r.rows (after.used s.info.key) (f.used r.info.key) (pages_of later (after.file s.info.key)) (pages_of before (f.file r.info.key)) many pages
+      (of_all (λ (r : Relation). rows_in (pages_of before) f r ≡ Some r.rows) db.relations r has.rows there)
+      ∙ ap Some (sym rows)
 
   changed_stands : (made : DbChange) → Suits made f file used → MakesPages made db file used before later → (s : Relation) → IsChanged made db s → Stands (files_after made file used f) s
   unfolding Suits MakesPages IsChanged files_after placed_key
   changed_stands (change.Rows rel remove add) suits makes s c =
       subst (Stands (with_file rel file used f)) (sym c.3)
-      (made_stands (with_file rel file used f) (record c.0 { rows = with_rows add (without_rows remove c.0.rows) }) suits.1 (file_same c.0.info.key rel file used f c.2) (used_same c.0.info.key rel file used f c.2)
+      (made_stands (with_file rel file used f) (record c.0 { rows = with_rows add (without_rows remove c.0.rows) }) (file_same c.0.info.key rel file used f c.2) (used_same c.0.info.key rel file used f c.2)
       (of_all (λ (r : Relation). same_key r.info.key rel ≡ true → IsMade file used r.info.attrs (with_rows add (without_rows remove r.rows)) before later) db.relations c.0 makes c.1 c.2))
   changed_stands (change.Create info rows) suits makes s c =
       subst (Stands (with_file info.key file used f)) (sym c)
-      (made_stands (with_file info.key file used f) (record { info = info; rows = set_of rows }) suits.1 (file_same info.key info.key file used f (same_key_itself info.key)) (used_same info.key info.key file used f (same_key_itself info.key)) makes)
+      (made_stands (with_file info.key file used f) (record { info = info; rows = set_of rows }) (file_same info.key info.key file used f (same_key_itself info.key)) (used_same info.key info.key file used f (same_key_itself info.key)) makes)
   changed_stands (change.Destroy rels) suits makes s c = absurd c
   changed_stands (change.Modify rel to keys) suits makes s c =
       let same : c.0.info.key ≡ rel = same_key_is c.0.info.key rel c.2 in
@@ -168,25 +162,17 @@ module _ (db : Db) (f : Files) (file used : ℕ) (before later : Image) (has : H
       | inr c ↦ changed_stands made suits makes s c
     ]
 
-    each_file : (i : RelInfo) → IsIn i (entries (laid db made)) → is_file (after.file i.key) ≡ true
-    unfolding after
-    each_file i at = elim (info_from made db i at) [
-      | inl there ↦ (
-          let j = found_under db i.key there in
-          ap is_file (agree.file_stays i.key there (info_there (laid db made) i at) ∙ ap f.file (sym j.2)) ∙ of_tests (λ (i : RelInfo). is_file (f.file i.key)) (entries db) j.0 has.are_files j.1)
-      | inr e ↦ (
-          let n = new_file made f file used i.key suits e in
-          ap (λ (g : Files). is_file (g.file i.key)) n.1 ∙ ap is_file (file_same i.key i.key file used f (same_key_itself i.key)) ∙ n.0.number)
-    ]
-
+    -- the files are some that it may have, and each relation has its rows
     pub has_files : HasFiles (laid db made) (pages_of later) (files_after made file used f)
     unfolding after
-    has_files = record {
-      are_files = tests_of (λ (i : RelInfo). is_file (after.file i.key)) (entries (laid db made)) each_file;
-      files_differ = files_differ_after made db f file used lawful has.files_differ suits;
-      some_pages = tests_of (λ (r : Relation). nat_le 1 (after.used r.info.key) && is_number32 (after.used r.info.key)) (laid db made).relations (λ r at. (each_stands r at).pages);
-      rows = all_of (λ (r : Relation). rows_in (pages_of later) after r ≡ Some r.rows) (laid db made).relations (λ r at. (each_stands r at).rows);
-    }
+    has_files =
+        let may = may_have_after db f file used (may_have db (pages_of before) f has) made lawful suits in
+        record {
+          are_files = may.are_files;
+          files_differ = may.files_differ;
+          some_pages = may.some_pages;
+          rows = all_of (λ (r : Relation). rows_in (pages_of later) after r ≡ Some r.rows) (laid db made).relations each_stands;
+        }
 
 pub files_stand : (made : DbChange) → FilesStand made
 files_stand made db f file used before later is lawful has suits makes = has_files db f file used before later has made lawful suits makes

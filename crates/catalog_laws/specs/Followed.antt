@@ -9,7 +9,7 @@ use Rattle.calculus.specs.IsDatabase.{IsDatabase}
 use Rattle.calculus.specs.Schema.{schema_of}
 use Rattle.page_chain.specs.Pages.{Pages}
 use Rattle.stored_database.specs.Catalogue.{IsCatalogue}
-use Rattle.stored_database.specs.Printed.{Files, HasFiles, printed}
+use Rattle.stored_database.specs.Printed.{Files, HasFiles, MayHave, printed}
 use Rattle.catalogue_changes.specs.After.{AreChanges, changed}
 use Rattle.catalogue_changes.specs.Laws.{Agree, FilesDiffer}
 use Rattle.catalogue_changes.specs.Moves.{going, coming}
@@ -47,6 +47,13 @@ pub record Follows (db part : Db) (made : DbChange) (f after kept : Files) (page
   pub stands : IsCatalogue (changed (going f after part made) (coming f after part made) (printed db f))
   pub is : changed (going f after part made) (coming f after part made) (printed db f) ≡ printed (laid db made) kept
   pub has : HasFiles (laid db made) pages kept
+
+-- Whatever lies on the pages of relations, the rows that go and come change the catalogue of a database to that of the database after the change.
+pub record Prints (db part : Db) (made : DbChange) (f after kept : Files) : Type 0 where
+  pub changes : AreChanges (going f after part made) (coming f after part made) (printed db f)
+  pub stands : IsCatalogue (changed (going f after part made) (coming f after part made) (printed db f))
+  pub is : changed (going f after part made) (coming f after part made) (printed db f) ≡ printed (laid db made) kept
+  pub may : MayHave (laid db made) kept
 
 -- So it is with each change.
 abbrev pub CatalogueFollows : DbChange → Type 0

@@ -17,13 +17,13 @@ use Rattle.catalogue_changes.proofs.Moved.{differ_of}
 use Rattle.catalogue_changes.proofs.Staying.{info_there}
 
 -- what follows for two items of a list follows for all pairs of it
-pairs_in : {A : Type 0} (R S : A → A → Type 0) (xs : List A) → ((x y : A) → IsIn x xs → IsIn y xs → R x y → S x y) → Pairs R xs → Pairs S xs
+pub pairs_in : {A : Type 0} (R S : A → A → Type 0) (xs : List A) → ((x y : A) → IsIn x xs → IsIn y xs → R x y → S x y) → Pairs R xs → Pairs S xs
 pairs_in R S [] then all = tt
 pairs_in R S (x ∷ xs) then all =
     (all_of (S x) xs (λ y at. then x y (inl refl) (inr at) (of_all (R x) xs y all.0 at)), pairs_in R S xs (λ x y at bt. then x y (inr at) (inr bt)) all.1)
 
 -- what is there under a key
-found : (db : Db) (key : RelKey) → is_there db key ≡ true → (i : RelInfo) × IsIn i (entries db) × (i.key ≡ key)
+pub found : (db : Db) (key : RelKey) → is_there db key ≡ true → (i : RelInfo) × IsIn i (entries db) × (i.key ≡ key)
 found db key e = go (find (λ i. same_key i.key key) (entries db)) refl e
   where
     go : (o : Option RelInfo) → find (λ i. same_key i.key key) (entries db) ≡ o → is_some o ≡ true → (i : RelInfo) × IsIn i (entries db) × (i.key ≡ key)
@@ -31,7 +31,7 @@ found db key e = go (find (λ i. same_key i.key key) (entries db)) refl e
     go (Some i) is e = let at = found_in (λ (i : RelInfo). same_key i.key key) (entries db) i is in (i, at.0, same_key_is i.key key at.1)
 
 -- what has one file has one key
-one_key : (db : Db) (f : Files) → FilesDiffer db f → (k l : RelKey) → is_there db k ≡ true → is_there db l ≡ true → (f.file k == f.file l) ≡ true → k ≡ l
+pub one_key : (db : Db) (f : Files) → FilesDiffer db f → (k l : RelKey) → is_there db k ≡ true → is_there db l ≡ true → (f.file k == f.file l) ≡ true → k ≡ l
 one_key db f differ k l here there e =
     let i = found db k here in
     let j = found db l there in

@@ -14,3 +14,4 @@ pub mod ChangeRows
 pub mod Modify
 pub mod Every
 pub mod FilesDiffer
+pub mod Renumbered

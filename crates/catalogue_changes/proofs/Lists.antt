@@ -34,6 +34,11 @@ no_more_go {X} {same} {o} {g} {c} {n} = subst (λ l. Moved same o l c n) (append
 pub no_more_come : {X : Type 0} {same : X → X → Bool} {o g c n : List X} → Moved same o g (c ++ []) n → Moved same o g c n
 no_more_come {X} {same} {o} {g} {c} {n} = subst (λ l. Moved same o g l n) (append-nil c)
 
+-- a list of which nothing is changed
+as_it_is : {Y : Type 0} (ys : List Y) → map (λ (y : Y). y) ys ≡ ys
+as_it_is [] = refl
+as_it_is (y ∷ ys) = ap (λ l. y ∷ l) (as_it_is ys)
+
 module _ {X : Type 0} (same : X → X → Bool) (itself : (x : X) → same x x ≡ true) (turned : (x y : X) → same x y ≡ same y x) where
   abbrev Differ : List X → Type 0
   Differ = Pairs (λ x y. same x y ≡ false)
@@ -167,6 +172,13 @@ module _ {X : Type 0} (same : X → X → Bool) (itself : (x : X) → same x x �
         was : (x : X) (y : Y) → IsIn y ys → x ≡ h y → (b : Bool) → at y ≡ b → IsIn x (map h (filter at ys)) ⊎ IsIn x (map after (map its ys))
         was x y i e true is = inl (subst (λ x. IsIn x (map h (filter at ys))) (sym e) (in_map h (filter at ys) y (in_filter at ys y i is)))
         was x y i e false is = inr (subst (λ x. IsIn x (map after (map its ys))) (stays y i is ∙ sym e) (in_map after (map its ys) (its y) (in_map its ys y i)))
+
+    -- Items that pass a test go, and come again with what they give afterwards.
+    pub moved_again : (at : Y → Bool) → Differ (map h ys) → Differ (map after ys) → ((y : Y) → IsIn y ys → at y ≡ false → after y ≡ h y)
+        → Moved same (map h ys) (map h (filter at ys)) (map after (filter at ys)) (map after ys)
+    moved_again at differ later stays =
+        subst (λ l. Moved same (map h ys) (map h (filter at ys)) (map after (filter at ys)) (map after l)) (as_it_is ys)
+        (moved_at (λ y. y) after at differ (subst (λ l. Differ (map after l)) (sym (as_it_is ys)) later) stays (λ y i is. refl))
 
     -- Items that pass a test go.
     pub moved_out : (at : Y → Bool) → Differ (map h ys) → ((y : Y) → IsIn y ys → at y ≡ false → after y ≡ h y)

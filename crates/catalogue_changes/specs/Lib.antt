@@ -1,3 +1,4 @@
 pub mod After
 pub mod Laws
 pub mod Moves
+pub mod Renumbered

@@ -5,5 +5,6 @@
 mod laws;
 
 pub use laws::{
-    each_change_changes_the_catalogue, files_differ_again, what_goes_is_there_and_what_comes_is_new,
+    another_file_renumbers_the_catalogue, each_change_changes_the_catalogue, files_differ_again,
+    what_goes_is_there_and_what_comes_is_new, what_is_renumbered_is_there_and_comes_anew,
 };

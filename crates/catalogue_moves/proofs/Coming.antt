@@ -17,7 +17,7 @@ use Rattle.stored_database.specs.Printed.{columns_from}
 use Rattle.stored_database.specs.Trees.{parts_from}
 use Rattle.stored_database.proofs.Pairs.{all_append}
 use Rattle.catalogue_moves.specs.declared.rows.SomeRows.{SomeRows}
-use Rattle.catalogue_moves.specs.Moves.{Came, CameParts, AreRows}
+use Rattle.catalogue_moves.specs.Moves.{Came, CameParts, AreRows, FitOnPages}
 
 pub came_none : (old new : List (List ℕ)) → new ≡ old → Came old new []
 came_none old new e = record { rows = e ∙ sym (append-nil old); short = tt }
@@ -119,6 +119,16 @@ only_parts rows ps old e f g parts = are_rows rows (record { entries = []; colum
 
 pub none_rows : (rows : SomeRows) → rows.entries.items ≡ [] → rows.columns.items ≡ [] → rows.parts.items ≡ [] → AreRows (record { entries = []; columns = []; parts = [] }) rows
 none_rows rows e f g = only_parts rows [] [] e f refl (parts_none [] rows.parts.items g)
+
+-- ---- rows that fit on pages
+
+-- with what came they fit as they did
+pub came_fit : (old new came : List (List ℕ)) → AllByRecursion (λ row. IsShort row) old → Came old new came → AllByRecursion (λ row. IsShort row) new
+came_fit old new came fit c = subst (λ rows. AllByRecursion (λ row. IsShort row) rows) (sym c.rows) (all_append (λ row. IsShort row) old came fit c.short)
+
+-- no rows do
+pub none_fit : (rows : SomeRows) → rows.entries.items ≡ [] → rows.columns.items ≡ [] → rows.parts.items ≡ [] → FitOnPages rows
+none_fit rows e f g = let none = none_rows rows e f g in record { entries = none.short_entries; columns = none.short_columns; parts = none.short_parts }
 
 -- ---- rows that go and come
 

@@ -13,7 +13,7 @@ use Rattle.catalogue_moves.proofs.Coming.{are_rows, only_entries, only_parts, pa
 use Rattle.catalogue_moves.proofs.GoneParts.{on_ok}
 
 -- what follows from two where it went well
-both_ok : {A E : Type 0} {P Q R : Type 0} (r : Result A E) → (P → Q → R) → OnOk r P → OnOk r Q → OnOk r R
+pub both_ok : {A E : Type 0} {P Q R : Type 0} (r : Result A E) → (P → Q → R) → OnOk r P → OnOk r Q → OnOk r R
 both_ok (Ok x) f h k = f h k
 both_ok (Err e) f h k = tt
 

@@ -13,6 +13,8 @@ pub mod OnBase
 pub mod Placing
 pub mod ReadBases
 pub mod ReadTables
+pub mod Renumbered
+pub mod RenumberedBases
 pub mod Spelled
 pub mod Tables
 pub mod Whole

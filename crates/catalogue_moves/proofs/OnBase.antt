@@ -114,12 +114,16 @@ unfolding base_at
 base_some places k p e = ap (λ (o : Option FilePlace). elim o [ None ↦ 0 | Some p ↦ p.base ]) e
 
 module _ (db : Db) (is : IsDatabase db) where
-  -- what is known under its key
-  pub known_info : (i : RelInfo) → IsIn i (entries db) → known_at db i.key ≡ Some i
-  known_info i at =
-      known_entry db i.key i (in_found (λ (j : RelInfo). same_key j.key i.key) (entries db) i at (same_key_itself i.key)
+  -- what stands under its key
+  pub entry_itself : (i : RelInfo) → IsIn i (entries db) → entry_at db i.key ≡ Some i
+  entry_itself i at =
+      in_found (λ (j : RelInfo). same_key j.key i.key) (entries db) i at (same_key_itself i.key)
       (λ j bt same. apart_same (λ (a b : RelInfo). same_key a.key b.key) (λ a b e. same_key_turned a.key b.key e) (entries db) j i
-      (pairs_apart (λ (a b : RelInfo). same_key a.key b.key) (entries db) (pairs_unmap (λ (k l : RelKey). same_key k l ≡ false) (λ (i : RelInfo). i.key) (entries db) (differ_pairs same_key (map (λ (i : RelInfo). i.key) (entries db)) is.keys_differ))) bt at same))
+      (pairs_apart (λ (a b : RelInfo). same_key a.key b.key) (entries db) (pairs_unmap (λ (k l : RelKey). same_key k l ≡ false) (λ (i : RelInfo). i.key) (entries db) (differ_pairs same_key (map (λ (i : RelInfo). i.key) (entries db)) is.keys_differ))) bt at same)
+
+  -- and is known under it
+  pub known_info : (i : RelInfo) → IsIn i (entries db) → known_at db i.key ≡ Some i
+  known_info i at = known_entry db i.key i (entry_itself i at)
 
   pub index_in : (x : Index) → IsIn x db.indexes → IsIn x.info (entries db)
   index_in x at = in_second (map (λ (r : Relation). r.info) db.relations) _ x.info (in_second (map (λ (v : View). v.info) db.views) _ x.info (in_map (λ (x : Index). x.info) db.indexes x at))

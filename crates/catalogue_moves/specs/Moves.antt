@@ -55,3 +55,9 @@ pub record AreRows (cat : Catalogue) (rows : SomeRows) : Type 0 where
   pub short_columns : AllByRecursion (λ row. IsShort row) rows.columns.items
   pub short_parts : AllByRecursion (λ row. IsShort row) rows.parts.items
   pub placed : HavePlaces cat
+
+-- Each of these rows has room on a page.
+pub record FitOnPages (rows : SomeRows) : Type 0 where
+  pub entries : AllByRecursion (λ row. IsShort row) rows.entries.items
+  pub columns : AllByRecursion (λ row. IsShort row) rows.columns.items
+  pub parts : AllByRecursion (λ row. IsShort row) rows.parts.items

@@ -10,6 +10,7 @@ mod asking;
 mod places;
 mod putting;
 mod reading;
+mod renumbering;
 
 use calculus::RelKey;
 

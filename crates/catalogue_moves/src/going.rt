@@ -1,19 +1,20 @@
 //! The rows of what goes.
 
 ghost use Rattle.std.specs.Prelude.{◌≡◌, ◌∷◌, [], Some, filter, map, IfOk, OnOk};
-ghost use Rattle.std.specs.List.{flat_map};
+ghost use Rattle.std.specs.List.{AllByRecursion, flat_map};
 ghost use Rattle.calculus.specs.Database.{Relation, relation_at};
 ghost use Rattle.calculus.specs.IsDatabase.{IsDatabase};
 ghost use Rattle.calculus.specs.Keys.{has_key, same_key};
 ghost use Rattle.calculus.specs.declared.query.RelKey.{RelKey as Key};
 ghost use Rattle.catalogue_changes.specs.Moves.{destroyed as what_is_destroyed, rows_of};
+ghost use Rattle.page_chain.specs.Lying.{IsShort};
 ghost use Rattle.plain_base.specs.Shown.{database_of};
 ghost use Rattle.stored_database.specs.Columns.{column_bytes};
 ghost use Rattle.stored_database.specs.Entries.{entry_bytes};
 ghost use Rattle.stored_database.specs.Printed.{entries_for, columns_for, parts_for, index_entry};
 ghost use Rattle.catalogue_moves.specs.Bases.{IndexBases, index_entries, rows_on};
 ghost use Rattle.catalogue_moves.specs.Files.{files_of, is_in};
-ghost use Rattle.catalogue_moves.specs.Moves.{AreRows, Came, CameParts, entry_with};
+ghost use Rattle.catalogue_moves.specs.Moves.{AreRows, Came, CameParts, FitOnPages, entry_with};
 
 use crate::asked::{known, place};
 use crate::changing::put_relation;
@@ -116,6 +117,7 @@ fn put_destroyed(
     ensures columns { IndexBases files.now (database_of plain.old) → OnOk result (Came rows.old.columns.items rows.new.columns.items
         (map column_bytes (columns_for (files_of files.now) (what_is_destroyed rels.now (database_of plain.old))))) }
     ensures parts { rows.new.parts.items ≡ rows.old.parts.items }
+    ensures short { FitOnPages rows.old → OnOk result (FitOnPages rows.new) }
 {
     put_all_gone(alloc, plain, rows, files, listed, rels, Sort::Relation)?;
     put_all_gone(alloc, plain, rows, files, listed, rels, Sort::View)?;
@@ -136,6 +138,7 @@ fn put_destroyed_trees(
     ensures same { database_of plain.new ≡ database_of plain.old }
     ensures came { IndexBases files.now (database_of plain.old) → OnOk result (CameParts rows.old.items rows.new.items
         (parts_for (files_of files.now) (what_is_destroyed rels.now (database_of plain.old)))) }
+    ensures short { AllByRecursion (λ row. IsShort row) rows.old.items → OnOk result (AllByRecursion (λ row. IsShort row) rows.new.items) }
 {
     put_all_trees(alloc, plain, rows, files, listed, rels, TreeSort::View)?;
     put_all_trees(alloc, plain, rows, files, listed, rels, TreeSort::Rule)?;
@@ -164,6 +167,7 @@ pub(crate) fn put_all_destroyed(
     requires { IsDatabase (database_of plain.old) }
     ensures same { database_of plain.new ≡ database_of plain.old }
     ensures rows { AreRows (record { entries = []; columns = []; parts = [] }) rows.old → IndexBases files.now (database_of plain.old) → OnOk result (AreRows (rows_of (files_of files.now) (what_is_destroyed rels.now (database_of plain.old))) rows.new) }
+    ensures short { FitOnPages rows.old → OnOk result (FitOnPages rows.new) }
 {
     let listed = set_of(alloc, rels)?;
     put_destroyed(alloc, plain, rows, files, &listed, rels)?;

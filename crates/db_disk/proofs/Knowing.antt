@@ -2,8 +2,10 @@
 use Rattle.std.proofs.Common.{◌≡◌, refl, sym, ap, subst, ◌∙◌, ◌<◌, Bool, true, false, IsTrue, List, [], ◌∷◌, map, Option, Some, None, Result, Ok, Err, OnOk}
 use Rattle.std.specs.Prelude.{option_map, is_some}
 use Rattle.std.proofs.lemmas.Option.{same_Some}
+use Rattle.calculus.specs.declared.change.DbChange.{DbChange}
 use Rattle.calculus.specs.declared.query.RelKey.{RelKey}
 use mathlib.Core.Logic.{∥∥₁_map}
+use Rattle.calculus.specs.Change.{laid}
 use Rattle.calculus.specs.Database.{Db, Relation, is_relation}
 use Rattle.calculus.specs.Rows.{Row}
 use Rattle.calculus.specs.Schema.{bare, schema_of}
@@ -24,6 +26,7 @@ use Rattle.catalogue_moves.specs.declared.key_set.KeySet.{KeySet}
 use Rattle.catalogue_pages.specs.Ends.{AreEnds}
 use Rattle.catalogue_pages.specs.declared.writing.Ends.{Ends}
 use Rattle.catalog.specs.Knows.{Knows}
+use Rattle.catalog.proofs.Steps.{schema_again}
 use Rattle.catalog.specs.declared.catalog.Catalog.{Catalog}
 use Rattle.db_disk.specs.Held.{administrator, held}
 use Rattle.db_disk.specs.Known.{IsKnown, LiesFor, SameKnown, known_part, schema_known}
@@ -44,6 +47,12 @@ part_schema has db = λ i. record db { relations = bare_part has db.relations i 
 
 pub knows_schema : (c : Catalog) (m : Image) (db : Db) → Knows c m db → schema_of (database_of c.plain) ≡ schema_of db
 knows_schema c m db knows = ap schema_of knows.plain ∙ part_schema (is_in c.loaded) db
+
+-- a change that was laid on the schema that was known is laid on it whatever database has it
+pub schema_laid_on : {T E : Type 0} (made : DbChange) (before now : Option Db) (s n : Db) (result : Result T E) → before ≡ Some s → now ≡ Some n
+    → ((s : Db) → before ≡ Some s → OnOk result (now ≡ Some (schema_of (laid s made)))) → OnOk result (schema_of n ≡ schema_of (laid s made))
+schema_laid_on made before now s n (Ok x) known then laid_on = ap schema_of (same_Some n (schema_of (laid s made)) (sym then ∙ laid_on s known)) ∙ schema_again (laid s made)
+schema_laid_on made before now s n (Err e) known then laid_on = tt
 
 -- the schema that is known is that of the database that is held
 pub schema_held : (m : Image) (catalog : Option Catalog) (db : Db) → IsKnown m catalog → held m ≡ Some db → IsTrue (is_some (schema_known catalog)) → schema_known catalog ≡ Some (schema_of db)
@@ -115,14 +124,6 @@ same_schema None None same = refl
 same_schema None (Some c) same = absurd (cc same)
 same_schema (Some c) None same = absurd (cc same)
 same_schema (Some a) (Some b) same = ap (λ (p : Part). Some (schema_of p.0)) (same_Some (known_part b) (known_part a) same)
-
-bare_again : (rs : List Relation) → map bare (map bare rs) ≡ map bare rs
-bare_again [] = refl
-bare_again (r ∷ rs) = ap (λ l. bare r ∷ l) (bare_again rs)
-
-schema_again : (db : Db) → schema_of (schema_of db) ≡ schema_of db
-unfolding schema_of
-schema_again db = λ i. record db { relations = bare_again db.relations i }
 
 -- what is known as a schema is one
 pub known_is_schema : (catalog : Option Catalog) (s : Db) → schema_known catalog ≡ Some s → schema_of s ≡ s

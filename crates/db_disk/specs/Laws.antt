@@ -1,20 +1,32 @@
 -- What a disk holds is a database, and a scan of it is one.
-use Rattle.std.proofs.Common.{◌≡◌, Bool, true, false, Option, Some, None, subst}
-use Rattle.std.proofs.lemmas.Option.{none-some}
+use Rattle.std.proofs.Common.{◌≡◌, refl, sym, ap, subst, ◌∙◌, Bool, true, false, IsTrue, Option, Some, None}
+use Rattle.std.specs.Coded.{Coded, Coded-set, codes}
+use Rattle.std.proofs.lemmas.Option.{none-some, same_Some}
+use mathlib.Core.Logic.{∥∥₁_elim}
+use Rattle.calculus.specs.contracts.query.QQual as quals
+use Rattle.calculus.specs.contracts.query.Query as queries
 use Rattle.calculus.specs.declared.query.RelKey.{RelKey}
 use Rattle.calculus.specs.Database.{Db}
 use Rattle.calculus.specs.IsDatabase.{IsDatabase}
+use Rattle.calculus.specs.Schema.{schema_of}
 use Rattle.calculus.specs.Stored.{rows_at}
 use Rattle.disk_model.specs.Disk.{Image}
-use Rattle.batch_file.specs.Redone.{redone}
+use Rattle.batch_file.specs.Redone.{kept, redone}
 use Rattle.page_chain.specs.Lists.{when}
 use Rattle.am_traits.specs.Scans.{IsScan, first_place}
 use Rattle.plain_base.specs.Laws.{of_told, whole_scan}
 use Rattle.schema_build.specs.Parts.{index_owners_agree}
+use Rattle.plain_base.specs.Shown.{database_of}
+use Rattle.catalog_laws.proofs.Part.{has_schema}
+use Rattle.catalogue_moves.specs.Files.{is_in}
+use Rattle.catalog.specs.Knows.{Knows}
+use Rattle.catalog.specs.declared.catalog.Catalog.{Catalog}
+use Rattle.catalog.proofs.Steps.{schema_again}
 use Rattle.stored_database.specs.Standing.{standing, stored}
 use Rattle.stored_database.proofs.Reading.{bind_some, when_some}
 use Rattle.stored_database.proofs.WhatStands.{what_stands_is_a_database}
 use Rattle.db_disk.specs.Held.{held, told_by}
+use Rattle.db_disk.specs.Known.{IsKnown, schema_known}
 use Rattle.db_disk.specs.Shown.{rows_left}
 
 is_held : (m : Image) (db : Db) → held m ≡ Some db → IsDatabase db
@@ -34,3 +46,16 @@ scanned_of (Some a) db key is is_one = of_told (λ x. IsDatabase x → IsScan (r
 
 pub scanned_told : (tells : Bool) (m : Image) (db : Db) (key : RelKey) → told_by tells m ≡ Some db → IsScan (rows_at db key) (rows_left (told_by tells m) key first_place)
 scanned_told tells m db key is = scanned_of (told_by tells m) db key is (lawful_told tells m db is)
+
+-- what a catalogue knows of a database has its schema
+knows_its_schema : (c : Catalog) (m : Image) (db : Db) → ∥ Knows c m db ∥₁ → schema_of (database_of c.plain) ≡ schema_of db
+knows_its_schema c m db known =
+    let coded : Coded Db = hlevel (codes, quals.the_row.coded, queries.the_row.coded) in
+    ∥∥₁_elim known (Coded-set coded (schema_of (database_of c.plain)) (schema_of db)) (λ (knows : Knows c m db). ap schema_of knows.plain ∙ has_schema (is_in c.loaded) db)
+
+-- the schema that is known is that of the database that is told
+pub own_told : (tells : Bool) (m : Image) (catalog : Option Catalog) → (IsTrue tells → IsKnown m catalog) → (db s : Db) → told_by tells m ≡ Some db → schema_known catalog ≡ Some s → schema_of s ≡ schema_of db
+own_told true m None known db s is schema = absurd (none-some s schema)
+own_told true m (Some c) known db s is schema =
+    ap schema_of (sym (same_Some (schema_of (database_of c.plain)) s schema) ∙ knows_its_schema c (kept m) db ((known refl).each c db refl is)) ∙ schema_again db
+own_told false m catalog known db s is schema = absurd (none-some db is)

@@ -1,8 +1,8 @@
 //! A database on a disk answers as any base does.
 
-ghost use Rattle.calculus.specs.IsDatabase.{IsDatabase};
-ghost use Rattle.db_disk.specs.Laws.{lawful_told, scanned_told};
-ghost use Rattle.db_disk.specs.Shown.{db_of, disk_in, left_of};
+ghost use Rattle.std.specs.Prelude.{true};
+ghost use Rattle.db_disk.specs.Laws.{lawful_told, own_told, scanned_told};
+ghost use Rattle.db_disk.specs.Shown.{db_of, disk_in, left_of, schema_in};
 
 use crate::DbDisk;
 use am_traits::{Base, BaseFault};
@@ -13,11 +13,17 @@ use std::alloc::Global;
 impl<D: Disk> Base for DbDisk<D> {
     ghost database = { db_of };
 
+    ghost schema = { schema_in };
+
+    ghost fixes = { true };
+
     ghost faults = { λ d. D.faults (disk_in d) };
 
     ghost left = { left_of };
 
     ghost lawful = { λ d db is. lawful_told D.tells (D.seen (disk_in d)) db is };
+
+    ghost own = { λ d db s is known. own_told D.tells (D.seen (disk_in d)) d.catalog d.known db s is known };
 
     ghost scanned = { λ d db key is. scanned_told D.tells (D.seen (disk_in d)) db key is };
 

@@ -13,3 +13,4 @@ pub mod SearchByKey
 pub mod Picked
 pub mod Between
 pub mod Told
+pub mod Fitting

@@ -1,5 +1,5 @@
 -- What a database in memory tells is a database, and a scan of it is one.
-use Rattle.std.proofs.Common.{◌≡◌, refl, subst, List, map, Some}
+use Rattle.std.proofs.Common.{◌≡◌, refl, sym, ap, subst, ◌∙◌, List, map, Some}
 use Rattle.std.proofs.lemmas.Option.{same_Some}
 use Rattle.std.specs.List.{flat_map}
 use Rattle.calculus.specs.declared.query.RelKey.{RelKey}
@@ -7,6 +7,7 @@ use Rattle.calculus.specs.Catalogue.{all_entries, relation_row, attribute_rows}
 use Rattle.calculus.specs.Database.{Db}
 use Rattle.calculus.specs.IsDatabase.{IsDatabase}
 use Rattle.calculus.specs.Rows.{Row, Ascends, set_of}
+use Rattle.calculus.specs.Schema.{schema_of}
 use Rattle.calculus.specs.Stored.{rows_at}
 use Rattle.calculus.proofs.Sets.{same_set, has-set_of, Ascends-nil, Ascends-set_of}
 use Rattle.am_traits.specs.Scans.{IsScan, first_place}
@@ -29,3 +30,7 @@ of_told P a b e h = subst P (same_Some a b e) h
 -- from the first place on all rows are left
 pub whole_scan : (db : Db) (key : RelKey) → IsDatabase db → IsScan (rows_at db key) (rows_from db key first_place)
 whole_scan db key is = record { all = set_of_ascending (rows_at db key) (ascending db key is); once = refl }
+
+-- what has the schema of the one database is the schema of the one that is told
+pub own_schema : (a db s : Db) → Some a ≡ Some db → Some a ≡ Some s → schema_of s ≡ schema_of db
+own_schema a db s is known = ap schema_of (sym (same_Some a s known) ∙ same_Some a db is)

@@ -9,6 +9,7 @@ ghost use Rattle.std.proofs.Props.{props};
 
 mod base;
 mod changed;
+mod entries;
 mod rows_asked;
 
 use crate::DbLists;

@@ -6,7 +6,7 @@ ghost use Rattle.std.specs.List.Sorted.{IsStrictlySortedBy};
 ghost use Rattle.calculus.specs.Keys.{same_key, has_key, key_cmp};
 ghost use Rattle.calculus.specs.QueryParts.{vars_of};
 
-use crate::kept::{Known, Viewed};
+use crate::kept::{Indexed, Known, Viewed};
 use crate::ordered::key_order;
 use calculus::{OutOfMemory, RelInfo, RelKey, TryCopy};
 use std::alloc::Global;
@@ -89,6 +89,50 @@ pub(crate) fn on<T: TryCopy + Drop>(
     let mut copies = Vec::new(alloc);
     push_all_on(alloc, &mut copies, items, key)?;
     Ok(copies)
+}
+
+/// Puts a copy of the key of an index behind others, where it is one on the relation.
+fn push_index_key(
+    alloc: Global,
+    keys: &mut Vec<RelKey>,
+    index: &Indexed,
+    rel: &RelKey,
+) -> Result<(), OutOfMemory>
+    ensures { OnOk result (keys.new.items ≡ keys.old.items ++ cond (same_key index.now.base rel.now) (index.now.info.key ∷ []) []) }
+{
+    if is_same(&index.base, rel) {
+        let key = index.info.key.copy(alloc)?;
+        keys.push(key)?;
+    }
+    Ok(())
+}
+
+/// Puts copies of the keys of the indexes on a relation behind others.
+fn push_index_keys(
+    alloc: Global,
+    keys: &mut Vec<RelKey>,
+    indexes: &[Indexed],
+    rel: &RelKey,
+) -> Result<(), OutOfMemory>
+    ensures { OnOk result (keys.new.items ≡ keys.old.items ++ map (λ x. x.info.key) (filter (λ x. same_key x.base rel.now) indexes.now)) }
+{
+    for index in indexes {
+        push_index_key(alloc, keys, index, rel)?;
+    }
+    Ok(())
+}
+
+/// Copies of the keys of the indexes on a relation.
+pub(crate) fn index_keys(
+    alloc: Global,
+    indexes: &[Indexed],
+    rel: &RelKey,
+) -> Result<Vec<RelKey>, OutOfMemory>
+    ensures { IfOk result (λ keys. keys.items ≡ map (λ x. x.info.key) (filter (λ x. same_key x.base rel.now) indexes.now)) }
+{
+    let mut keys = Vec::new(alloc);
+    push_index_keys(alloc, &mut keys, indexes, rel)?;
+    Ok(keys)
 }
 
 /// Whether the view is none of these, and names what stands under the key.

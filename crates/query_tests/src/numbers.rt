@@ -1,6 +1,6 @@
 //! A base that tells no database.
 
-ghost use Rattle.std.specs.Prelude.{None, []};
+ghost use Rattle.std.specs.Prelude.{None, [], false};
 ghost use Rattle.std.proofs.lemmas.Option.{none-some};
 
 use am_traits::{Base, BaseFault};
@@ -34,11 +34,17 @@ fn is_among(row: &Row, rows: u32) -> bool {
 impl Base for Numbers {
     ghost database = { λ _. None };
 
+    ghost schema = { λ _. None };
+
+    ghost fixes = { false };
+
     ghost faults = { λ _. 0 };
 
     ghost left = { λ _ _ _. [] };
 
     ghost lawful = { λ _ db told. absurd (none-some db told) };
+
+    ghost own = { λ _ db _ told _. absurd (none-some db told) };
 
     ghost scanned = { λ _ db _ told. absurd (none-some db told) };
 

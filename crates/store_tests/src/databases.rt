@@ -57,7 +57,7 @@ fn pages_of(alloc: Global, rt: &impl Abort, mut disk: MemDisk) -> Pages {
 }
 
 /// A new disk with an empty database.
-fn new_disk(alloc: Global, rt: &impl Abort) -> MemDisk {
+pub fn new_disk(alloc: Global, rt: &impl Abort) -> MemDisk {
     let mut disk = MemDisk::new(alloc, Vec::new(alloc), None);
     let dba = named(alloc, rt, b"ann");
     assert!(rt; create_db(&mut disk, &dba) == Ok(()));

@@ -131,7 +131,7 @@ fn keys(alloc: Global, rt: &impl Abort, names: &[&[u8]]) -> List<RelKey> {
 }
 
 /// The change that a step is.
-fn change_of(alloc: Global, rt: &impl Abort, step: Step) -> DbChange {
+pub fn change_of(alloc: Global, rt: &impl Abort, step: Step) -> DbChange {
     let rel = key(alloc, rt, b"p");
     match step {
         Step::Made(name, made) => DbChange::Create {

@@ -29,7 +29,7 @@ use Rattle.stored_database.specs.Entries.{Entry, entry_cmp, is_entry, are_keys, 
 use Rattle.stored_database.specs.Laws.{WhatIsPrintedIsACatalogue}
 use Rattle.stored_database.specs.Names.{is_number32}
 use Rattle.stored_database.specs.Parts.{Part, part_cmp, is_part, of_view, of_rule, of_permit}
-use Rattle.stored_database.specs.Printed.{Files, HasFiles, is_file, relation_entry, view_entry, index_entry, entries_for, columns_from, columns_for, view_parts, numbered_parts, parts_for, printed, trees_are_short}
+use Rattle.stored_database.specs.Printed.{Files, HasFiles, MayHave, is_file, relation_entry, view_entry, index_entry, entries_for, columns_from, columns_for, view_parts, numbered_parts, parts_for, printed, trees_are_short}
 use Rattle.stored_database.specs.Trees.{parts_from, cut, tree_bytes}
 use Rattle.stored_database.proofs.EntriesAgain.{suits}
 use Rattle.stored_database.proofs.Members.{IsIn, all_of, of_tests, tests_of, in_map, map_in, in_first, in_second, in_either, flat_map_in, found_in}
@@ -176,7 +176,11 @@ attrs_there db key r h = ap (λ (o : Option database.Relation). attrs_in (option
   | None ↦ elim (database.view_at db key) [ Some view ↦ Some (Viewed view) | None ↦ option_map Kept (catalogue_at db key) ]
 ]))) h
 
-module _ (files : ℕ → Pages) (f : Files) (db : database.Db) (is_one : IsDatabase db) (has : HasFiles db files f) where
+-- a database that has files may have them
+pub may_have : (db : database.Db) (files : ℕ → Pages) (f : Files) → HasFiles db files f → MayHave db f
+may_have db files f has = record { are_files = has.are_files; files_differ = has.files_differ; some_pages = has.some_pages }
+
+module _ (f : Files) (db : database.Db) (is_one : IsDatabase db) (may : MayHave db f) where
   in_relations : (r : database.Relation) → IsIn r db.relations → IsIn r.info (database.entries db)
   in_relations r at = in_first (map (λ r. r.info) db.relations) _ r.info (in_map (λ r. r.info) db.relations r at)
 
@@ -187,7 +191,7 @@ module _ (files : ℕ → Pages) (f : Files) (db : database.Db) (is_one : IsData
   in_indexes x at = in_second (map (λ r. r.info) db.relations) _ x.info (in_second (map (λ v. v.info) db.views) _ x.info (in_map (λ x. x.info) db.indexes x at))
 
   file_of : (i : RelInfo) → IsIn i (database.entries db) → is_file (f.file i.key) ≡ true
-  file_of i at = of_tests (λ i. is_file (f.file i.key)) (database.entries db) i has.are_files at
+  file_of i at = of_tests (λ i. is_file (f.file i.key)) (database.entries db) i may.are_files at
 
   named : (i : RelInfo) → IsIn i (database.entries db) → key_is_named i.key ≡ true
   named i at = of_tests (λ i. key_is_named i.key) (database.entries db) i is_one.keys_are_named at
@@ -204,7 +208,7 @@ module _ (files : ℕ → Pages) (f : Files) (db : database.Db) (is_one : IsData
   relation_stands : (r : database.Relation) → IsIn r db.relations → is_entry (relation_entry f r) ≡ true
   relation_stands r at =
       let k = relation_keys r.info.spec r.info.attrs r.info.keys (few_attrs r.info.attrs (relation_attrs r at)) (of_tests (λ r. structure_stands r.info) db.relations r is_one.structures_stand at) in
-      let u = both (nat_le 1 (f.used r.info.key)) (is_number32 (f.used r.info.key)) (of_tests (λ r. nat_le 1 (f.used r.info.key) && is_number32 (f.used r.info.key)) db.relations r has.some_pages at) in
+      let u = both (nat_le 1 (f.used r.info.key)) (is_number32 (f.used r.info.key)) (of_tests (λ r. nat_le 1 (f.used r.info.key) && is_number32 (f.used r.info.key)) db.relations r may.some_pages at) in
       entry_of_parts (relation_entry f r) (file_of r.info (in_relations r at)) (named r.info (in_relations r at)) refl refl refl u.1 k.1 (relation_suits r.info.spec (relation_entry f r) k.0 refl refl refl u.0)
 
   view_stands : (v : database.View) → IsIn v db.views → is_entry (view_entry f v) ≡ true
@@ -297,4 +301,4 @@ module _ (files : ℕ → Pages) (f : Files) (db : database.Db) (is_one : IsData
   }
 
 pub what_is_printed_is_a_catalogue : WhatIsPrintedIsACatalogue
-what_is_printed_is_a_catalogue files f db is_one has short = is_a_catalogue files f db is_one has short
+what_is_printed_is_a_catalogue files f db is_one has short = is_a_catalogue f db is_one (may_have db files f has) short

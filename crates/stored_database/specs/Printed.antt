@@ -130,6 +130,12 @@ rows_in files f r = do
   domains ← each domain_of r.info.attrs
   set_on (reader domains) (f.used r.info.key) (files (f.file r.info.key))
 
+-- The relations, views and indexes of a database have files that differ; each relation has at least one page, whatever lies on it.
+pub record MayHave (db : Db) (f : Files) : Type 0 where
+  pub are_files : list_all (λ i. is_file (f.file i.key)) (entries db) ≡ true
+  pub files_differ : differ_by nat_eq (map (λ i. f.file i.key) (entries db)) ≡ true
+  pub some_pages : list_all (λ r. nat_le 1 (f.used r.info.key) && is_number32 (f.used r.info.key)) db.relations ≡ true
+
 -- The relations, views and indexes of a database have files that differ; each relation has at least one page, and on its pages its rows.
 pub record HasFiles (db : Db) (files : ℕ → Pages) (f : Files) : Type 0 where
   pub are_files : list_all (λ i. is_file (f.file i.key)) (entries db) ≡ true

@@ -12,7 +12,7 @@ use calculus::{OutOfMemory, RelKey, TryCopy};
 use std::alloc::Global;
 
 /// The greater one of two numbers.
-fn greater(one: u32, other: u32) -> u32
+pub(super) fn greater(one: u32, other: u32) -> u32
     ensures first { one ≤ result }
     ensures second { other ≤ result }
 {

@@ -1,11 +1,12 @@
 //! What a database in memory answers of what stands in it.
 
-ghost use Rattle.std.specs.Prelude.{◌≡◌, length, option_map, IfOk};
+ghost use Rattle.std.specs.Prelude.{◌≡◌, filter, length, map, option_map, IfOk};
 ghost use Rattle.calculus.specs.Database.{entries, entry_at, is_relation, rules_on, permits_on};
+ghost use Rattle.calculus.specs.Keys.{same_key};
 ghost use Rattle.am_traits.specs.Told.{query_at, is_named_by_view};
 
 use super::DbLists;
-use crate::look_up::{about, on, some_view_names, under};
+use crate::look_up::{about, index_keys, on, some_view_names, under};
 use calculus::{Name, OutOfMemory, Permit, Query, RelInfo, RelKey, Rule, TryCopy};
 use std::alloc::Global;
 
@@ -35,6 +36,13 @@ impl DbLists {
             return Some(info);
         }
         about(&self.indexes, key)
+    }
+
+    /// The keys of the indexes on a relation, ascending.
+    pub fn indexes_on(&self, alloc: Global, key: &RelKey) -> Result<Vec<RelKey>, OutOfMemory>
+        ensures { IfOk result (λ keys. keys.items ≡ map (λ x. x.info.key) (filter (λ x. same_key x.base key.now) self.now.indexes)) }
+    {
+        index_keys(alloc, &self.indexes, key)
     }
 
     /// The query of the view under a key.

@@ -1,12 +1,12 @@
 //! A database in memory answers as any base does.
 
-ghost use Rattle.std.specs.Prelude.{Some};
+ghost use Rattle.std.specs.Prelude.{Some, true};
 ghost use Rattle.calculus.specs.IsDatabase.{IsDatabase};
 ghost use Rattle.calculus.specs.Stored.{rows_at};
 ghost use Rattle.am_traits.specs.Scans.{IsScan, first_place};
 ghost use Rattle.plain_base.specs.Places.{rows_from};
 ghost use Rattle.plain_base.specs.Shown.{database_of};
-ghost use Rattle.plain_base.specs.Laws.{of_told, whole_scan};
+ghost use Rattle.plain_base.specs.Laws.{of_told, own_schema, whole_scan};
 
 use super::DbPlain;
 use am_traits::{Base, BaseFault};
@@ -16,11 +16,17 @@ use std::alloc::Global;
 impl Base for DbPlain {
     ghost database = { λ b. Some (database_of b) };
 
+    ghost schema = { λ b. Some (database_of b) };
+
+    ghost fixes = { true };
+
     ghost faults = { λ _. 0 };
 
     ghost left = { λ b. rows_from (database_of b) };
 
     ghost lawful = { λ b db e. of_told IsDatabase (database_of b) db e b.is };
+
+    ghost own = { λ b db s is known. own_schema (database_of b) db s is known };
 
     ghost scanned = { λ b db key e. of_told (λ db. IsScan (rows_at db key) (rows_from (database_of b) key first_place)) (database_of b) db e (whole_scan (database_of b) key b.is) };
 

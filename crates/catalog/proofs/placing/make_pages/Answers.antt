@@ -13,7 +13,7 @@ pub returns-in_ok-place_of-in_default-clause-made : goal.returns-in_ok-place_of-
 returns-in_ok-place_of-in_default-clause-made g c m db is may =
     let puts = puts_none c.args.change.now c.in_default.not-Rows c.in_default.not-Create in
     let its = c.in_ok-place_of-in_default.field-0 in
-    nothing_made c.args.change.now db (files_of c.args.files.now) its.file its.used m (g.S.PageStore.pages c.args.store.now) puts (c.in_ok-place_of-in_default.ensures puts) is
+    nothing_made c.args.change.now db (files_of c.args.files.now) its.file its.used m (g.S.PageStore.pages c.args.store.now) puts (c.in_ok-place_of-in_default.ensures.suits puts) is
 
 pub change_relation-requires : goal.change_relation-requires
 change_relation-requires g c =

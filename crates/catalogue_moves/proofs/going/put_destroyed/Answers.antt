@@ -1,6 +1,7 @@
-use Rattle.std.proofs.Common.{◌∙◌, subst, map}
-use Rattle.std.specs.List.{flat_map}
+use Rattle.std.proofs.Common.{◌∙◌, sym, subst, List, ℕ, map}
+use Rattle.std.specs.List.{AllByRecursion, flat_map}
 use Rattle.calculus.specs.Database.{Db}
+use Rattle.page_chain.specs.Lying.{IsShort}
 use Rattle.plain_base.specs.Shown.{database_of}
 use Rattle.stored_database.specs.Columns.{column_bytes}
 use Rattle.stored_database.specs.Entries.{entry_bytes}
@@ -9,7 +10,8 @@ use Rattle.catalogue_moves.specs.declared.gone.Sort.TheVariants as sort
 use Rattle.catalogue_moves.specs.Files.{places_of, files_of}
 use Rattle.catalogue_moves.specs.Gone.{gone_entries, gone_columns}
 use Rattle.catalogue_moves.specs.Moves.{Came}
-use Rattle.catalogue_moves.proofs.Coming.{came_then}
+use Rattle.catalogue_moves.proofs.Coming.{came_then, came_fit}
+use Rattle.catalogue_moves.proofs.FromNone.{both_ok}
 use Rattle.catalogue_moves.proofs.GoneEntries.{entries_gone, columns_gone}
 use Rattle.catalogue_moves.proofs.GoneParts.{on_ok}
 use Rattle.catalogue_moves.proofs.going.put_destroyed.Goals as goal
@@ -62,3 +64,13 @@ returns-clause-same c = c.put_all_gone-3.ensures.same ∙ c.in_ok-put_all_gone-2
 
 pub returns-clause-parts : goal.returns-clause-parts
 returns-clause-parts c = c.put_all_gone-3.ensures.parts ∙ c.in_ok-put_all_gone-2.ensures.parts ∙ c.in_ok-put_all_gone.ensures.parts
+
+pub returns-clause-short : goal.returns-clause-short
+returns-clause-short c fit =
+    both_ok c.put_all_gone-3.result
+    (λ entries columns. record {
+      entries = came_fit _ _ _ (came_fit _ _ _ (came_fit _ _ _ fit.entries c.in_ok-put_all_gone.ensures.entries) c.in_ok-put_all_gone-2.ensures.entries) entries;
+      columns = came_fit _ _ _ (came_fit _ _ _ (came_fit _ _ _ fit.columns c.in_ok-put_all_gone.ensures.columns) c.in_ok-put_all_gone-2.ensures.columns) columns;
+      parts = subst (λ (rows : List (List ℕ)). AllByRecursion (λ row. IsShort row) rows) (sym (c.put_all_gone-3.ensures.parts ∙ c.in_ok-put_all_gone-2.ensures.parts ∙ c.in_ok-put_all_gone.ensures.parts)) fit.parts;
+    })
+    c.put_all_gone-3.ensures.entries c.put_all_gone-3.ensures.columns

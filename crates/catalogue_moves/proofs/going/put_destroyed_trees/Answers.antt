@@ -6,7 +6,7 @@ use Rattle.catalogue_moves.specs.declared.gone_trees.TreeSort.TheVariants as tre
 use Rattle.catalogue_moves.specs.Files.{places_of}
 use Rattle.catalogue_moves.specs.Gone.{gone_parts}
 use Rattle.catalogue_moves.specs.Moves.{CameParts}
-use Rattle.catalogue_moves.proofs.Coming.{parts_then}
+use Rattle.catalogue_moves.proofs.Coming.{came_fit, parts_then}
 use Rattle.catalogue_moves.proofs.GoneParts.{on_ok, parts_gone}
 use Rattle.calculus.specs.IsDatabase.{IsDatabase}
 use Rattle.catalogue_moves.proofs.going.put_destroyed_trees.Goals as goal
@@ -47,3 +47,9 @@ put_all_trees-requires-3-clause-listed c = c.requires.listed
 
 pub returns-clause-same : goal.returns-clause-same
 returns-clause-same c = c.put_all_trees-3.ensures.same ∙ c.in_ok-put_all_trees-2.ensures.same ∙ c.in_ok-put_all_trees.ensures.same
+
+pub returns-clause-short : goal.returns-clause-short
+returns-clause-short c fit =
+    on_ok c.put_all_trees-3.result
+    (λ last. came_fit _ _ _ (came_fit _ _ _ (came_fit _ _ _ fit c.in_ok-put_all_trees.ensures.came.came) c.in_ok-put_all_trees-2.ensures.came.came) last.came)
+    c.put_all_trees-3.ensures.came

@@ -1,0 +1,71 @@
+//! A change is laid in memory and on the pages of the catalogues alone, and another file is said.
+
+ghost use Rattle.std.specs.Prelude.{◌≡◌, Some, OnOk};
+ghost use Rattle.access_traits.specs.Causes.{HasFileCause};
+ghost use Rattle.calculus.specs.Change.{IsLawful};
+ghost use Rattle.disk_model.specs.Disk.{Image};
+ghost use Rattle.plain_base.specs.Shown.{database_of};
+ghost use Rattle.catalogue_moves.specs.Bases.{IndexBases};
+ghost use Rattle.catalogue_moves.specs.Files.{files_of};
+ghost use Rattle.catalog.specs.Asked.{MayBeFile};
+ghost use Rattle.catalog.specs.Spelling.{IsSet, IsWritten, Spells, SpellsAfter, SpellsNone};
+
+use crate::catalog::Catalog;
+use crate::placing::place_of;
+use access_traits::{PageStore, RelFile};
+use am_traits::BaseFault;
+use calculus::{DbChange, RelKey};
+use catalogue_moves::renumber;
+use catalogue_pages::write_moves;
+use std::alloc::Global;
+
+impl Catalog {
+    /// Lays a lawful change in memory and on the pages of the catalogues; those of relations are the
+    /// caller's. What is there keeps its file and the number of its pages; a relation that is made has one
+    /// page of a file that nothing had, until `set_file` says others. After an error nothing is known of
+    /// the pages, and the catalogue is to be forgotten.
+    pub fn write_change<S: PageStore>(
+        &mut self,
+        alloc: Global,
+        store: &mut S,
+        change: &DbChange,
+    ) -> Result<(), BaseFault>
+        requires { IsLawful (database_of self.old.plain) change.now }
+        ensures spells { (m : Image) → S.pages store.old ≡ Some m → Spells self.old m → OnOk result (SpellsAfter self.new m (S.pages store.new)) }
+        ensures written { OnOk result (IsWritten self.old self.new change.now) }
+        ensures came { (s : S) → S.came s store.old → S.came s store.new }
+        ensures cause { HasFileCause (S.pages store.old) (SpellsNone self.old) (S.faults store.old) (S.faults store.new) result }
+    {
+        let given = place_of(&self.files, change)?;
+        self.write_given(alloc, store, change, given)
+    }
+
+    /// Says another file of a relation or an index, or another number of its pages; all else that is known
+    /// stays. The indexes on it, its rules and its permits follow it. After an error nothing is known of
+    /// the pages, and the catalogue is to be forgotten.
+    pub fn set_file<S: PageStore>(
+        &mut self,
+        alloc: Global,
+        store: &mut S,
+        key: &RelKey,
+        file: &RelFile,
+    ) -> Result<(), BaseFault>
+        requires { MayBeFile (database_of self.old.plain) (files_of self.old.files) key.now file.now }
+        ensures spells { (m : Image) → S.pages store.old ≡ Some m → Spells self.old m → OnOk result (SpellsAfter self.new m (S.pages store.new)) }
+        ensures set { IndexBases self.old.files (database_of self.old.plain) → OnOk result (IsSet self.old self.new key.now file.now.file file.now.used) }
+        ensures came { (s : S) → S.came s store.old → S.came s store.new }
+        ensures cause { HasFileCause (S.pages store.old) (SpellsNone self.old) (S.faults store.old) (S.faults store.new) result }
+    {
+        let rows = renumber(
+            alloc,
+            &mut self.plain,
+            &mut self.files,
+            key,
+            file.file,
+            file.used,
+        )?;
+        let ends = write_moves(alloc, store, self.ends, &rows)?;
+        self.ends = ends;
+        Ok(())
+    }
+}
