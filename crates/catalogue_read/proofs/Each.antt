@@ -71,3 +71,7 @@ module _ {X A : Type 0} (f : X → Option A) where
       ∙ ap (λ (b : Bool). in_front done (each f (cond b (x ∷ rest) rest))) (sym picked)
       ∙ ap (λ l. in_front done (each f (filter p l))) (sym (dropped xs i x low is))
       ∙ inv
+
+  -- all that are picked were read
+  pub pick_done : (p : X → Bool) (done : List A) (xs : List X) (i : ℕ) (all : Option (List A)) → length xs ≤ i → in_front done (each f (filter p (drop i xs))) ≡ all → Some done ≡ all
+  pick_done p done xs i all end inv = ap Some (sym (append-nil done)) ∙ ap (λ l. in_front done (each f (filter p l))) (sym (drop_all i xs end)) ∙ inv

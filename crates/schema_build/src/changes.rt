@@ -1,6 +1,6 @@
 //! The parts of a database as the changes that make them.
 
-ghost use Rattle.std.specs.Prelude.{◌≡◌, map, ◌++◌, IfOk, OnOk};
+ghost use Rattle.std.specs.Prelude.{◌≡◌, [], ◌∷◌, map, ◌++◌, IfOk, OnOk};
 ghost use Rattle.calculus.specs.declared.change.DbChange.{DbChange as Change};
 ghost use Rattle.schema_build.specs.Parts.{index_in, view_in};
 ghost use Rattle.schema_build.specs.Laying.{made_relation, made_index, made_view, made_rule, made_permit, changes_of};
@@ -70,6 +70,27 @@ impl Made for (RelKey, Permit) {
     }
 }
 
+/// Puts this behind others.
+pub(crate) fn push_one<T: Drop>(items: &mut Vec<T>, item: T) -> Result<(), OutOfMemory>
+    ensures { OnOk result (items.new.items ≡ items.old.items ++ item ∷ []) }
+{
+    Ok(items.push(item)?)
+}
+
+/// Puts the change that makes this behind others.
+fn push_made<T: Made + Drop>(
+    alloc: Global,
+    changes: &mut Vec<DbChange>,
+    item: T,
+) -> Result<(), OutOfMemory>
+    ensures { OnOk result (changes.new.items ≡ changes.old.items ++ T.made item ∷ []) }
+{
+    match item.into_change(alloc) {
+        Ok(change) => push_one(changes, change),
+        Err(error) => Err(error),
+    }
+}
+
 /// Puts the changes that make these behind others.
 fn push_all<T: Made + Drop>(
     alloc: Global,
@@ -79,7 +100,7 @@ fn push_all<T: Made + Drop>(
     ensures { OnOk result (changes.new.items ≡ changes.old.items ++ map (λ x. T.made x) items) }
 {
     'items: for item in items.into_items() {
-        changes.push(item.into_change(alloc)?)?;
+        push_made(alloc, changes, item)?;
     }
     Ok(())
 }
@@ -96,10 +117,13 @@ pub(crate) fn changes_of(alloc: Global, parts: SchemaParts) -> Result<Vec<DbChan
         permits,
     } = parts;
     let mut changes = Vec::new(alloc);
-    push_all(alloc, &mut changes, relations)?;
-    push_all(alloc, &mut changes, indexes)?;
-    push_all(alloc, &mut changes, views)?;
-    push_all(alloc, &mut changes, rules)?;
-    push_all(alloc, &mut changes, permits)?;
-    Ok(changes)
+    let relations = push_all(alloc, &mut changes, relations);
+    let indexes = push_all(alloc, &mut changes, indexes);
+    let views = push_all(alloc, &mut changes, views);
+    let rules = push_all(alloc, &mut changes, rules);
+    let permits = push_all(alloc, &mut changes, permits);
+    match both(relations, both(indexes, both(views, both(rules, permits)))) {
+        Ok(_) => Ok(changes),
+        Err(error) => Err(error),
+    }
 }

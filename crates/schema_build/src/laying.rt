@@ -9,6 +9,7 @@ ghost use Rattle.plain_base.specs.Shown.{database_of};
 ghost use Rattle.schema_build.specs.Parts.{Parts, whole};
 ghost use Rattle.schema_build.specs.Laying.{IsLeft, round, stepped};
 
+use crate::changes::push_one;
 use calculus::{DbChange, OutOfMemory};
 use change_check::fit_change;
 use plain_base::DbPlain;
@@ -31,15 +32,17 @@ fn fit_or_lay(alloc: Global, plain: &mut DbPlain, change: &DbChange) -> Result<b
     ensures laid { IfOk result (λ done. done ≡ true → database_of plain.new ≡ laid (database_of plain.old) change.now) }
     ensures kept { IfOk result (λ done. done ≡ false → database_of plain.new ≡ database_of plain.old) }
 {
-    let fit = is_fit(alloc, plain, change)?;
-    if fit {
-        plain.lay(alloc, change)?;
+    match is_fit(alloc, plain, change) {
+        Ok(true) => match plain.lay(alloc, change) {
+            Ok(()) => Ok(true),
+            Err(error) => Err(error),
+        },
+        Ok(false) => Ok(false),
+        Err(error) => Err(error),
     }
-    Ok(fit)
 }
 
 /// Lays the change where it may be laid; else it is left.
-#[tactic(auto, using(crate::proofs::Starts::stepped_laid, crate::proofs::Starts::stepped_left))]
 fn lay_or_leave(
     alloc: Global,
     plain: &mut DbPlain,
@@ -50,13 +53,12 @@ fn lay_or_leave(
 {
     match fit_or_lay(alloc, plain, &change) {
         Ok(true) => Ok(()),
-        Ok(false) => Ok(left.push(change)?),
+        Ok(false) => push_one(left, change),
         Err(error) => Err(error),
     }
 }
 
 /// A round: lays each change that may be laid, one by one, and answers those that are left.
-#[tactic(auto, using(crate::proofs::Starts::round_goes_on, crate::proofs::Starts::round_over))]
 fn lay_some(
     alloc: Global,
     plain: &mut DbPlain,

@@ -1,8 +1,8 @@
-use Rattle.std.proofs.Common.{◌≡◌, ap, drop, filter, map, option_map, subst, sym, ◌+◌, ◌++◌, ◌∙◌, [], ◌∷◌}
+use Rattle.std.proofs.Common.{◌≡◌, ap, drop, filter, map, option_map, subst, sym, ◌+◌, ◌++◌, ◌∙◌, [], ◌∷◌, Some}
 use Rattle.std.proofs.lemmas.List.{map-append}
 use Rattle.page_chain.specs.Lists.{each}
 use Rattle.catalogue_read.specs.Read.{catalogue_shown}
-use Rattle.catalogue_read.proofs.Each.{in_front, pick_fails, pick_next, pick_not}
+use Rattle.catalogue_read.proofs.Each.{front_none, in_front, pick_done, pick_fails, pick_next, pick_not}
 use Rattle.catalogue_read.proofs.made.all_made.Goals as goal
 use Rattle.catalogue_read.proofs.made.all_made.Goals.{then-picks+in-Ok-Some+in_ok-push-in-Ok-Some, else-picks}
 
@@ -31,3 +31,17 @@ returns-in-Ok-None g c =
     let shown = g.T.Made.shown in
     pick_fails (g.T.Made.make (catalogue_shown c.args.rows.now)) g.T.Made.picks (map shown c.loop-item.made.items) c.args.items.now c.loop-item.item-index c.item-item.result _ c.loop-item-test.true c.item-item.is
     (sym c.picks.ensures ∙ c.if-picks.true) (ap (option_map shown) (sym c.in-Ok-None.field-0-is) ∙ c.in-Ok-None.ensures) c.loop-item.invariant
+
+pub make-requires : goal.make-requires
+make-requires g c = c.requires
+
+pub loop-item-init : goal.loop-item-init
+loop-item-init g c =
+    let all = each (g.T.Made.make (catalogue_shown c.args.rows.now)) (filter g.T.Made.picks c.args.items.now) in
+    ap (λ l. in_front (map g.T.Made.shown l) all) c.new-made.ensures.items ∙ front_none all
+
+pub returns : goal.returns
+returns g c =
+    let shown = g.T.Made.shown in
+    ap (λ l. Some (map shown l)) c.of.ensures
+    ∙ pick_done (g.T.Made.make (catalogue_shown c.args.rows.now)) g.T.Made.picks (map shown c.loop-item.made.items) c.args.items.now c.loop-item.item-index _ c.loop-item-test.false c.loop-item.invariant
