@@ -34,7 +34,7 @@ use std::alloc::Global;
 
 /// Whether the rows that a change names are known.
 #[tactic(auto, unfolding(catalog_laws::specs::Loaded::knows_rows))]
-fn rows_are_known(loaded: &KeySet, change: &DbChange) -> bool
+pub(crate) fn rows_are_known(loaded: &KeySet, change: &DbChange) -> bool
     ensures { result ≡ knows_rows change.now (is_in loaded.now) }
 {
     match change {

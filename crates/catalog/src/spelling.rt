@@ -1,16 +1,18 @@
 //! A change is laid in memory and on the pages of the catalogues alone, and another file is said.
 
-ghost use Rattle.std.specs.Prelude.{◌≡◌, Some, OnOk};
+ghost use Rattle.std.specs.Prelude.{◌≡◌, Some, OnOk, IsOk, true, false};
 ghost use Rattle.access_traits.specs.Causes.{HasFileCause};
 ghost use Rattle.calculus.specs.Change.{IsLawful};
 ghost use Rattle.disk_model.specs.Disk.{Image};
 ghost use Rattle.plain_base.specs.Shown.{database_of};
 ghost use Rattle.catalogue_moves.specs.Bases.{IndexBases};
-ghost use Rattle.catalogue_moves.specs.Files.{files_of};
+ghost use Rattle.catalogue_moves.specs.Files.{files_of, is_in};
+ghost use Rattle.catalog_laws.specs.Loaded.{knows_rows};
 ghost use Rattle.catalog.specs.Asked.{MayBeFile};
 ghost use Rattle.catalog.specs.Spelling.{IsSet, IsWritten, Spells, SpellsAfter, SpellsNone};
 
 use crate::catalog::Catalog;
+use crate::laying::rows_are_known;
 use crate::placing::place_of;
 use access_traits::{PageStore, RelFile};
 use am_traits::BaseFault;
@@ -20,22 +22,28 @@ use catalogue_pages::write_moves;
 use std::alloc::Global;
 
 impl Catalog {
-    /// Lays a lawful change in memory and on the pages of the catalogues; those of relations are the
-    /// caller's. What is there keeps its file and the number of its pages; a relation that is made has one
-    /// page of a file that nothing had, until `set_file` says others. After an error nothing is known of
-    /// the pages, and the catalogue is to be forgotten.
+    /// Lays a change in memory and on the pages of the catalogues; those of relations are the caller's.
+    /// It has to be lawful for what is known in memory; of rows that weren't read nothing is asked, and a
+    /// change of these alone changes nothing here, since no page of a catalogue tells rows. What is there
+    /// keeps its file and the number of its pages; a relation that is made has one page of a file that
+    /// nothing had, until `set_file` says others. After an error nothing is known of the pages, and the
+    /// catalogue is to be forgotten.
     pub fn write_change<S: PageStore>(
         &mut self,
         alloc: Global,
         store: &mut S,
         change: &DbChange,
     ) -> Result<(), BaseFault>
-        requires { IsLawful (database_of self.old.plain) change.now }
+        requires { knows_rows change.now (is_in self.old.loaded) ≡ true → IsLawful (database_of self.old.plain) change.now }
         ensures spells { (m : Image) → S.pages store.old ≡ Some m → Spells self.old m → OnOk result (SpellsAfter self.new m (S.pages store.new)) }
-        ensures written { OnOk result (IsWritten self.old self.new change.now) }
+        ensures written { knows_rows change.now (is_in self.old.loaded) ≡ true → OnOk result (IsWritten self.old self.new change.now) }
+        ensures unread { knows_rows change.now (is_in self.old.loaded) ≡ false → IsOk result × (self.new ≡ self.old) × (store.new ≡ store.old) }
         ensures came { (s : S) → S.came s store.old → S.came s store.new }
         ensures cause { HasFileCause (S.pages store.old) (SpellsNone self.old) (S.faults store.old) (S.faults store.new) result }
     {
+        if !rows_are_known(&self.loaded, change) {
+            return Ok(());
+        }
         let given = place_of(&self.files, change)?;
         self.write_given(alloc, store, change, given)
     }
