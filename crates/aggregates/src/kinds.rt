@@ -41,6 +41,7 @@ fn kinds_at<B: Base>(alloc: Global, base: &mut B, key: &RelKey) -> Result<Vec<Ki
     ensures told { (db : Db) → B.database base.old ≡ Some db → IfOk result (λ kinds. kinds.items ≡ kinds_at db key.now) }
     ensures kept { B.database base.new ≡ B.database base.old }
     ensures same { B.left base.new ≡ B.left base.old }
+    ensures asked { (b : B) → B.asked b base.old → B.asked b base.new }
     ensures cause { HasCause (B.database base.old) (B.faults base.old) (B.faults base.new) result }
 {
     let info = base.info(alloc, key)?;
@@ -77,6 +78,7 @@ fn source_kinds<B: Base>(
     ensures told { (db : Db) → B.database base.old ≡ Some db → IfOk result (λ kinds. kinds.items ≡ source_kinds db source.now) }
     ensures kept { B.database base.new ≡ B.database base.old }
     ensures same { B.left base.new ≡ B.left base.old }
+    ensures asked { (b : B) → B.asked b base.old → B.asked b base.new }
     ensures cause { HasCause (B.database base.old) (B.faults base.old) (B.faults base.new) result }
 {
     match source {
@@ -137,6 +139,7 @@ pub(crate) fn none_value<B: Base>(
     ensures told { (db : Db) → B.database base.old ≡ Some db → IfOk result (λ v. v ≡ none_value db agg.now) }
     ensures kept { B.database base.new ≡ B.database base.old }
     ensures same { B.left base.new ≡ B.left base.old }
+    ensures asked { (b : B) → B.asked b base.old → B.asked b base.new }
     ensures cause { HasCause (B.database base.old) (B.faults base.old) (B.faults base.new) result }
 {
     let kinds = source_kinds(alloc, base, &agg.source)?;

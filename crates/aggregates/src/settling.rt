@@ -97,6 +97,7 @@ fn table<B: Base>(alloc: Global, base: &mut B, agg: &QAgg) -> Result<AggTable, B
     ensures told { (db : Db) → B.database base.old ≡ Some db → IfOk result (λ table. StandsFor table agg.now (aggregates db Free)) }
     ensures kept { B.database base.new ≡ B.database base.old }
     ensures same { B.left base.new ≡ B.left base.old }
+    ensures asked { (b : B) → B.asked b base.old → B.asked b base.new }
     ensures cause { HasCause (B.database base.old) (B.faults base.old) (B.faults base.new) result }
 {
     let rows = source_rows(alloc, base, agg)?;
@@ -126,6 +127,7 @@ fn tables_of<B: Base>(
     ensures told { (db : Db) → B.database base.old ≡ Some db → IfOk result (λ tables. AllStand db tables.items (map (λ g. g.now) aggs.now)) }
     ensures kept { B.database base.new ≡ B.database base.old }
     ensures same { B.left base.new ≡ B.left base.old }
+    ensures asked { (b : B) → B.asked b base.old → B.asked b base.new }
     ensures cause { HasCause (B.database base.old) (B.faults base.old) (B.faults base.new) result }
 {
     let mut tables = Vec::new(alloc);
@@ -157,6 +159,7 @@ pub fn settle<B: Base>(alloc: Global, base: &mut B, q: &Query) -> Result<Vec<Agg
         → IfOk result (λ tables. (es : List Env) → some_lacks (tabled tables.items) q.now es ≡ some_lacks (aggregates db Free) q.now es) }
     ensures kept { B.database base.new ≡ B.database base.old }
     ensures same { B.left base.new ≡ B.left base.old }
+    ensures asked { (b : B) → B.asked b base.old → B.asked b base.new }
     ensures cause { HasCause (B.database base.old) (B.faults base.old) (B.faults base.new) result }
 {
     let aggs = aggregates_of(alloc, q)?;

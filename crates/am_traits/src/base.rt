@@ -1,4 +1,4 @@
-ghost use Rattle.std.specs.Prelude.{◌≡◌, ℕ, Bool, List, Option, Some, IfOk, OnOk, IsErrOf, IsTrue, is_some, length, true};
+ghost use Rattle.std.specs.Prelude.{◌≡◌, ◌⊎◌, ◌≤◌, ℕ, Bool, List, Option, Some, IfOk, OnOk, OnErr, IsErrOf, IsTrue, is_some, length, true};
 ghost use Rattle.std.specs.Option.{ForSome};
 ghost use Rattle.calculus.specs.Change.{IsLawful, laid};
 ghost use Rattle.calculus.specs.Database.{Db, is_relation, rules_on, permits_on, entries};
@@ -10,6 +10,7 @@ ghost use Rattle.calculus.specs.Stored.{attrs_at, rows_at};
 ghost use Rattle.calculus.specs.declared.probe.Place.{Place as At};
 ghost use Rattle.calculus.specs.declared.query.RelKey.{RelKey as Key};
 ghost use Rattle.am_traits.specs.Causes.{HasCause};
+ghost use Rattle.am_traits.specs.Crashes.{LeavesBut, OnlyAsked, Stands};
 ghost use Rattle.am_traits.specs.Schemas.{KeepsSchema};
 ghost use Rattle.am_traits.specs.Scans.{Gives, IsOver, IsScan, first_place};
 ghost use Rattle.am_traits.specs.Told.{known_at, query_at, is_named_by_view};
@@ -37,6 +38,22 @@ pub trait Base {
     /// How often a call to the disk below has failed. The count stands still at 2^64 - 1.
     ghost faults: { Self → ℕ };
 
+    /// The clock of the disk below, which doesn't fall. Without a disk it stands at 0, as the next one does.
+    ghost clock: { Self → ℕ };
+
+    /// How often a page was read from the disk below.
+    ghost reads: { Self → ℕ };
+
+    /// What a crash at some moment from that one on may have left: an image that stands, redone, for
+    /// this database, or for none. Without a disk there is no such image.
+    ghost left_since: { Self → ℕ → Option Db → Type 0 };
+
+    /// The disk below was restored, and no change has failed since.
+    ghost ready: { Self → Bool };
+
+    /// It came of that base by questions, and by handing over.
+    ghost asked: { Self → Self → Type 0 };
+
     /// The rows that a scan of what stands under a key still gives from a place on, in its order.
     ghost left: { Self → Key → At → List Values };
 
@@ -50,6 +67,19 @@ pub trait Base {
     ghost scanned: { (b : Self) (db : Db) (key : Key) → database b ≡ Some db
         → IsScan (rows_at db key) (left b key first_place) };
 
+    /// This moment is one of those since an earlier one.
+    ghost counts_now: { (b : Self) (t : ℕ) (o : Option Db) → t ≤ clock b → left_since b (clock b) o → left_since b t o };
+
+    /// Where a schema is known the base is ready.
+    ghost is_ready: { (b : Self) (s : Db) → schema b ≡ Some s → IsTrue (ready b) };
+
+    /// Before any question it comes of itself.
+    ghost starts: { (b : Self) → asked b b };
+
+    /// Questions leave nothing else on the disk, and only an opening raises its clock.
+    ghost asks: { (before now : Self) → asked before now
+        → OnlyAsked (clock before) (clock now) (ready before) (ready now) (left_since before) (left_since now) };
+
     /// The name of the administrator.
     fn dba(&mut self, alloc: Global) -> Result<Name, BaseFault>
         ensures told { (db : Db) → database self.old ≡ Some db → IfOk result (λ name. name ≡ db.dba) }
@@ -57,6 +87,7 @@ pub trait Base {
         ensures kept { database self.new ≡ database self.old }
         ensures schema { KeepsSchema fixes (schema self.old) (schema self.new) result }
         ensures same { left self.new ≡ left self.old }
+        ensures asked { (b : Self) → asked b self.old → asked b self.new }
         ensures cause { HasCause (database self.old) (faults self.old) (faults self.new) result };
 
     /// The number of relations, views and indexes, without the catalogues.
@@ -66,6 +97,7 @@ pub trait Base {
         ensures kept { database self.new ≡ database self.old }
         ensures schema { KeepsSchema fixes (schema self.old) (schema self.new) result }
         ensures same { left self.new ≡ left self.old }
+        ensures asked { (b : Self) → asked b self.old → asked b self.new }
         ensures cause { HasCause (database self.old) (faults self.old) (faults self.new) result };
 
     /// What the user means by a name: the user's own relation or view, else the administrator's or
@@ -81,6 +113,7 @@ pub trait Base {
         ensures kept { database self.new ≡ database self.old }
         ensures schema { KeepsSchema fixes (schema self.old) (schema self.new) result }
         ensures same { left self.new ≡ left self.old }
+        ensures asked { (b : Self) → asked b self.old → asked b self.new }
         ensures cause { HasCause (database self.old) (faults self.old) (faults self.new) result };
 
     /// What stands under a key: a relation, a view, an index or a catalogue.
@@ -90,6 +123,7 @@ pub trait Base {
         ensures kept { database self.new ≡ database self.old }
         ensures schema { KeepsSchema fixes (schema self.old) (schema self.new) result }
         ensures same { left self.new ≡ left self.old }
+        ensures asked { (b : Self) → asked b self.old → asked b self.new }
         ensures cause { HasCause (database self.old) (faults self.old) (faults self.new) result };
 
     /// How many rows the relation or catalogue under a key has. Our own: so a change of one row
@@ -99,6 +133,7 @@ pub trait Base {
         ensures kept { database self.new ≡ database self.old }
         ensures schema { KeepsSchema fixes (schema self.old) (schema self.new) result }
         ensures same { left self.new ≡ left self.old }
+        ensures asked { (b : Self) → asked b self.old → asked b self.new }
         ensures cause { HasCause (database self.old) (faults self.old) (faults self.new) result };
 
     /// Whether the relation or catalogue under a key has the row. Our own, as `size`.
@@ -107,6 +142,7 @@ pub trait Base {
         ensures kept { database self.new ≡ database self.old }
         ensures schema { KeepsSchema fixes (schema self.old) (schema self.new) result }
         ensures same { left self.new ≡ left self.old }
+        ensures asked { (b : Self) → asked b self.old → asked b self.new }
         ensures cause { HasCause (database self.old) (faults self.old) (faults self.new) result };
 
     /// The next row of the relation or catalogue under a key that meets the probe, from a place on,
@@ -129,6 +165,7 @@ pub trait Base {
         ensures same { left self.new ≡ left self.old }
         ensures kept { database self.new ≡ database self.old }
         ensures schema { KeepsSchema fixes (schema self.old) (schema self.new) result }
+        ensures asked { (b : Self) → asked b self.old → asked b self.new }
         ensures cause { HasCause (database self.old) (faults self.old) (faults self.new) result };
 
     /// The query of a view; `None` exactly where no view stands under the key.
@@ -138,6 +175,7 @@ pub trait Base {
         ensures kept { database self.new ≡ database self.old }
         ensures schema { KeepsSchema fixes (schema self.old) (schema self.new) result }
         ensures same { left self.new ≡ left self.old }
+        ensures asked { (b : Self) → asked b self.old → asked b self.new }
         ensures cause { HasCause (database self.old) (faults self.old) (faults self.new) result };
 
     /// The rules of a relation, by number.
@@ -147,6 +185,7 @@ pub trait Base {
         ensures kept { database self.new ≡ database self.old }
         ensures schema { KeepsSchema fixes (schema self.old) (schema self.new) result }
         ensures same { left self.new ≡ left self.old }
+        ensures asked { (b : Self) → asked b self.old → asked b self.new }
         ensures cause { HasCause (database self.old) (faults self.old) (faults self.new) result };
 
     /// The permits of a relation, by number.
@@ -156,6 +195,7 @@ pub trait Base {
         ensures kept { database self.new ≡ database self.old }
         ensures schema { KeepsSchema fixes (schema self.old) (schema self.new) result }
         ensures same { left self.new ≡ left self.old }
+        ensures asked { (b : Self) → asked b self.old → asked b self.new }
         ensures cause { HasCause (database self.old) (faults self.old) (faults self.new) result };
 
     /// Whether some view names the relation under a key, where these views don't count.
@@ -170,20 +210,32 @@ pub trait Base {
         ensures kept { database self.new ≡ database self.old }
         ensures schema { KeepsSchema fixes (schema self.old) (schema self.new) result }
         ensures same { left self.new ≡ left self.old }
+        ensures asked { (b : Self) → asked b self.old → asked b self.new }
         ensures cause { HasCause (database self.old) (faults self.old) (faults self.new) result };
 
-    /// Lays a change that is lawful, on the schema as well. After want of memory the database is as before; what stands after
-    /// a fault of the disk isn't said here: a base says it of itself.
+    /// Lays a change that is lawful, on the schema as well. After want of memory the database is as before, after
+    /// any other fault it is that of before or of after.
     fn apply(&mut self, alloc: Global, change: &DbChange) -> Result<(), BaseFault>
         requires { (db : Db) → database self.old ≡ Some db → IsLawful db change.now }
         ensures told { (db : Db) → database self.old ≡ Some db → OnOk result (database self.new ≡ Some (laid db change.now)) }
         ensures schema { (s now : Db) → schema self.old ≡ Some s → schema self.new ≡ Some now → OnOk result (schema_of now ≡ schema_of (laid s change.now)) }
         ensures fixed { IsTrue fixes → OnOk result (IsTrue (is_some (schema self.new))) }
         ensures no_memory { IsErrOf result BaseFault.OutOfMemory → database self.new ≡ database self.old }
+        // After any fault a database that is known is the one of before or of after.
+        ensures failed { (db now : Db) → database self.old ≡ Some db → database self.new ≡ Some now → OnErr result ((now ≡ db) ⊎ (now ≡ laid db change.now)) }
+        // A crash leaves what it might leave before, or the database of after.
+        ensures crash { (db : Db) → database self.old ≡ Some db
+            → LeavesBut (λ o. o ≡ Some (laid db change.now)) (clock self.old) (clock self.new) (left_since self.old) (left_since self.new) }
+        // And after Ok it leaves nothing but the latter.
+        ensures durable { (db : Db) → database self.old ≡ Some db → OnOk result (Stands (clock self.new) (left_since self.new) (laid db change.now)) }
         ensures cause { HasCause (database self.old) (faults self.old) (faults self.new) result };
 
     /// Forgets all that was kept of the disk. Takes no memory.
     fn hand_over(&mut self)
         ensures kept { database self.new ≡ database self.old }
-        ensures faults { faults self.new ≡ faults self.old };
+        ensures faults { faults self.new ≡ faults self.old }
+        // No schema is known any more but that of a database that is known.
+        ensures forgotten { (s : Db) → schema self.new ≡ Some s → database self.new ≡ Some s }
+        ensures still { (clock self.new ≡ clock self.old) × (reads self.new ≡ reads self.old) }
+        ensures asked { (b : Self) → asked b self.old → asked b self.new };
 }

@@ -1,7 +1,8 @@
 //! A base of views, each over the one below it ten times.
 
-ghost use Rattle.std.specs.Prelude.{MatchOption, None, [], false};
+ghost use Rattle.std.specs.Prelude.{MatchOption, None, [], false, true, refl};
 ghost use Rattle.std.proofs.Common.{subst};
+ghost use Rattle.am_traits.specs.InMemory.{asked_in_memory};
 
 use am_traits::{Base, BaseFault};
 use calculus::{
@@ -131,6 +132,16 @@ impl Base for Tower {
 
     ghost faults = { λ _. 0 };
 
+    ghost clock = { λ _. 0 };
+
+    ghost reads = { λ _. 0 };
+
+    ghost left_since = { λ _ _ _. ⊥ };
+
+    ghost ready = { λ _. true };
+
+    ghost asked = { λ _ _. Unit {0} };
+
     ghost left = { λ _ _ _. [] };
 
     ghost lawful = { λ _ _ h. absurd (subst (λ o. MatchOption o (Unit {0}) (λ _. ⊥)) h tt) };
@@ -138,6 +149,14 @@ impl Base for Tower {
     ghost own = { λ _ _ _ h _. absurd (subst (λ o. MatchOption o (Unit {0}) (λ _. ⊥)) h tt) };
 
     ghost scanned = { λ _ _ _ h. absurd (subst (λ o. MatchOption o (Unit {0}) (λ _. ⊥)) h tt) };
+
+    ghost counts_now = { λ _ _ _ _ left. left };
+
+    ghost is_ready = { λ _ _ _. refl };
+
+    ghost starts = { λ _. tt };
+
+    ghost asks = { λ _ _ _. asked_in_memory };
 
     fn dba(&mut self, alloc: Global) -> Result<Name, BaseFault> {
         match named(alloc, b"ann") {

@@ -5,9 +5,10 @@ use Rattle.std.specs.declared.option.Option.TheVariants.{Some, None}
 use Rattle.std.specs.Global.{Vec}
 use Rattle.fault_io.specs.Files.{File, Files, stored}
 
--- A source: the bytes that are left, the number of the next call, the numbers of the calls that are to fail, and how often a call has failed.
+-- A source: the bytes that are left, how many it has given, the number of the next call, the numbers of the calls that are to fail, and how often a call has failed.
 pub record SourceInMemory : Type 0 where
   pub bytes : List ℕ
+  pub given : ℕ
   pub next_call : ℕ
   pub failing : List ℕ
   pub faults : ℕ

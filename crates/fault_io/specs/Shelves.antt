@@ -1,8 +1,8 @@
 -- What a call of a shelf does to its count of faults, and what is known of its files after a fault.
-use Rattle.std.specs.Prelude.{◌≡◌, ℕ, ◌≤◌, false, List, Option, Some, Result, IsErrOf}
+use Rattle.std.specs.Prelude.{◌≡◌, ◌⊎◌, ℕ, ◌≤◌, false, List, Option, Some, Result, IsErrOf}
 use Rattle.std.specs.Str.{bytes_eq}
 use Rattle.fault_io.specs.Causes.{Rose}
-use Rattle.fault_io.specs.Files.{Files, fetched}
+use Rattle.fault_io.specs.Files.{Files, fetched, stored}
 use Rattle.fault_io.specs.declared.shelf.ShelfFault.{ShelfFault}
 use Rattle.fault_io.specs.declared.shelf.ShelfFault.TheVariants as fault
 
@@ -19,3 +19,7 @@ AreOthersKept name old new = (other : List ℕ) → bytes_eq other name ≡ fals
 -- The files are told still, and every one but that of this name is as it was.
 abbrev pub KeepsOthers : List ℕ → Files → Option Files → Type 0
 KeepsOthers name old told = (new : Files) × (told ≡ Some new) × AreOthersKept name old new
+
+-- The files are told still: as they were, or with these bytes under this name.
+abbrev pub MayHaveStored : List ℕ → List ℕ → Files → Option Files → Type 0
+MayHaveStored name bytes old told = (told ≡ Some old) ⊎ (told ≡ Some (stored old name bytes))

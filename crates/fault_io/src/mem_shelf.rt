@@ -2,11 +2,12 @@ ghost use Rattle.std.specs.Prelude.{◌≡◌, ◌↔◌, [], map, Contains, IfO
 ghost use Rattle.fault_io.specs.Causes.{HasCause, one_more};
 ghost use Rattle.fault_io.specs.Files.{Files, fetched, stored};
 ghost use Rattle.fault_io.specs.InMemory.{all_stored, seen_file};
-ghost use Rattle.fault_io.specs.Shelves.{HasShelfCause, KeepsOthers};
+ghost use Rattle.fault_io.specs.Shelves.{HasShelfCause, KeepsOthers, MayHaveStored};
 
 use crate::calls::Calls;
 use crate::shelf::{Shelf, ShelfFault};
 use crate::traits::Failed;
+use memory::OutOfMemory;
 use std::alloc::{AllocError, Global};
 use std::collections::BTreeMap;
 use std::marker::Model;
@@ -88,13 +89,13 @@ fn got(
 
 impl MemShelf {
     /// A shelf with these files, whose calls with the numbers in `failing` fail. Of two files with one
-    /// name the later stands. Answers an error for want of memory.
+    /// name the later stands.
     #[tactic(auto, unfolding(crate::specs::InMemory::all_stored), using(crate::proofs::FilesInMemory::stored_last))]
     pub fn new(
         alloc: Global,
         files: Vec<(Vec<u8>, Vec<u8>)>,
         failing: Vec<u64>,
-    ) -> Result<MemShelf, AllocError>
+    ) -> Result<MemShelf, OutOfMemory>
         ensures { IfOk result (λ shelf. shelf ≡ record {
           files = all_stored [] (map seen_file files.items);
           next_call = 0;
@@ -150,6 +151,7 @@ impl Shelf for MemShelf {
         // As every shelf.
         ensures file { (known : Files) → Some self.old.files ≡ Some known → OnOk result (Some self.new.files ≡ Some (stored known name.now bytes.now)) }
         ensures others { (known : Files) → Some self.old.files ≡ Some known → OnErr result (KeepsOthers name.now known (Some self.new.files)) }
+        ensures failed { (known : Files) → Some self.old.files ≡ Some known → OnErr result (MayHaveStored name.now bytes.now known (Some self.new.files)) }
         ensures cause { HasCause self.old.faults self.new.faults result }
 
         // The listed calls fail. Any other fails for want of memory alone.

@@ -1,14 +1,14 @@
-ghost use Rattle.std.specs.Prelude.{◌≡◌, ◌↔◌, ◌++◌, ◌<◌, [], Contains, IfOk, IsErr, OnErr, Some, drop, length, min, take};
+ghost use Rattle.std.specs.Prelude.{◌≡◌, ◌↔◌, ◌++◌, ◌<◌, ◌+◌, [], Contains, IfOk, IsErr, OnErr, Some, drop, length, min, take};
 ghost use Rattle.std.specs.Io.{ReadsAtMost};
 ghost use Rattle.std.specs.Io.KnownBytes.{ReadConsumes};
-ghost use Rattle.fault_io.specs.Causes.{HasCause, one_more};
+ghost use Rattle.fault_io.specs.Causes.{CountsGiven, HasCause, one_more};
 
 use crate::calls::Calls;
 use crate::traits::{Failed, Source};
 use std::marker::Model;
 
-/// A source in memory. Contracts see the bytes that are left, the number of the next call, the
-/// numbers of the calls that are to fail, and the count of faults. Calls are numbered from 0; that
+/// A source in memory. Contracts see the bytes that are left, how many it has given, the number of
+/// the next call, the numbers of the calls that are to fail, and the count of faults. Calls are numbered from 0; that
 /// number and the count of faults stand still at 2^64 - 1.
 pub struct MemSource {
     bytes: Vec<u8>,
@@ -34,6 +34,7 @@ impl Model for MemSource {
 
     ghost view = { λ s. record {
       bytes = drop s.at s.bytes.items;
+      given = s.at;
       next_call = s.calls.next;
       failing = s.calls.failing.items;
       faults = s.calls.faults;
@@ -47,6 +48,7 @@ impl MemSource {
     pub fn new(bytes: Vec<u8>, failing: Vec<u64>) -> MemSource
         ensures { result ≡ record {
           bytes = bytes.items;
+          given = 0;
           next_call = 0;
           failing = failing.items;
           faults = 0;
@@ -75,6 +77,8 @@ pub(crate) fn give(bytes: &[u8], buf: &mut [u8]) -> usize
 impl Source for MemSource {
     ghost left = { λ s. Some s.bytes };
 
+    ghost given = { λ s. s.given };
+
     ghost faults = { λ s. s.faults };
 
     /// Gives the next bytes, as many as are left and fit into the buffer. Takes no memory.
@@ -82,6 +86,7 @@ impl Source for MemSource {
         // As every source.
         ensures bound { ReadsAtMost result buf.new }
         ensures bytes { ReadConsumes (Some self.old.bytes) (Some self.new.bytes) result buf.new }
+        ensures given { CountsGiven self.old.given self.new.given result }
         ensures cause { HasCause self.old.faults self.new.faults result }
 
         // The listed calls fail, and no other.
@@ -94,9 +99,10 @@ impl Source for MemSource {
 
         // Any other call gives as many bytes as are left and fit, and leaves the rest.
         ensures count { IfOk result (λ n. n ≡ min (length self.old.bytes) (length buf.old)) }
-        ensures given { IfOk result (λ n. buf.new ≡ take n self.old.bytes ++ drop n buf.old) }
+        ensures put { IfOk result (λ n. buf.new ≡ take n self.old.bytes ++ drop n buf.old) }
         ensures rest { IfOk result (λ n. self.new ≡ record self.old {
           bytes = drop n self.old.bytes;
+          given = self.old.given + n;
           next_call = one_more self.old.next_call;
         }) }
     {

@@ -1,7 +1,7 @@
 ghost use Rattle.std.specs.Prelude.{◌≡◌, ℕ, Option, Some, IfOk, OnOk, OnErr, option_map};
 ghost use Rattle.fault_io.specs.Causes.{HasCause};
 ghost use Rattle.fault_io.specs.Files.{Files, fetched, stored};
-ghost use Rattle.fault_io.specs.Shelves.{HasShelfCause, KeepsOthers};
+ghost use Rattle.fault_io.specs.Shelves.{HasShelfCause, KeepsOthers, MayHaveStored};
 
 use crate::traits::Failed;
 use std::alloc::Global;
@@ -33,10 +33,12 @@ pub trait Shelf {
         ensures kept { files self.new ≡ files self.old }
         ensures cause { HasShelfCause (faults self.old) (faults self.new) result };
 
-    /// Stores these bytes as the file of this name, whatever stood there. After `Failed` nothing is
-    /// known of that file, every other one is as it was, and the count of faults rose; else it stayed.
+    /// Stores these bytes as the file of this name, whatever stood there. After `Failed` all files
+    /// are as they were, or that one has these bytes and every other one is as it was, and the count of
+    /// faults rose; else it stayed.
     fn store(&mut self, name: &[u8], bytes: &[u8]) -> Result<(), Failed>
         ensures file { (known : Files) → files self.old ≡ Some known → OnOk result (files self.new ≡ Some (stored known name.now bytes.now)) }
         ensures others { (known : Files) → files self.old ≡ Some known → OnErr result (KeepsOthers name.now known (files self.new)) }
+        ensures failed { (known : Files) → files self.old ≡ Some known → OnErr result (MayHaveStored name.now bytes.now known (files self.new)) }
         ensures cause { HasCause (faults self.old) (faults self.new) result };
 }

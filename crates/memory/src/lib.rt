@@ -3,12 +3,14 @@
 
 mod boxed;
 mod list;
+mod lists;
 mod out_of_memory;
 mod pairs;
 mod try_copy;
 
 pub use boxed::Boxed;
 pub use list::List;
+pub use lists::{alone, push};
 pub use out_of_memory::OutOfMemory;
 pub use pairs::both;
 pub use try_copy::{TryCopy, copies};

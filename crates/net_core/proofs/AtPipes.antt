@@ -1,5 +1,5 @@
 -- What a stage did at a pipe, or where it has ended, as a step of a stage between its pipes.
-use Rattle.std.proofs.Common.{IfOk, IfErr, OnOk, OnErr, IsErrOf, ◌≡◌, ◌<◌, ◌≤◌, inl, inr, ℕ, Bool, true, false, List, [], ◌∷◌, ◌++◌, Some, None, Result, Ok, Err, length, not, nat_lt, refl, arith}
+use Rattle.std.proofs.Common.{IfOk, IfErr, OnOk, OnErr, IsErrOf, ◌≡◌, ◌<◌, ◌≤◌, inl, inr, ℕ, Bool, true, false, List, [], ◌∷◌, ◌++◌, Result, Ok, Err, length, not, nat_lt, refl, arith}
 use Rattle.std.proofs.lemmas.Grind.{common_steps}
 use Rattle.std.specs.declared.option.Option.{Option}
 use Rattle.frame_codec.specs.declared.frame.Frame.{Frame}
@@ -10,31 +10,17 @@ use Rattle.net_core.specs.declared.steps.Moved.{Moved}
 use Rattle.net_core.specs.declared.steps.Moved.TheVariants.{Stepped, Blocked}
 use Rattle.net_core.specs.Faults.{IsOfTaking}
 use Rattle.net_core.specs.Pipes.{GaveTo, TookFrom, WasEmpty}
-use Rattle.net_core.specs.Steps.{FitUnlessBlocked, Piped, PipedDone, PipedMayNot, PipedMoves, PipedSteps, in_room}
+use Rattle.net_core.specs.Steps.{FitUnlessBlocked, Piped, PipedDone, PipedMayNot, PipedMoves, PipedStepsBy, in_room}
 use Rattle.net_core.specs.Told.{FailedStep, KeepsDatabase, Outside, told}
 use Rattle.net_core.specs.Wants.{was_blocked}
-use Rattle.network_meaning.specs.Calls.{GivenLeft, GivenRight, Tells, TellsAfter}
+use Rattle.network_meaning.specs.Calls.{GivenLeft, GivenRight}
 use Rattle.network_meaning.specs.Language.{Language}
-use Rattle.network_meaning.specs.LocalSteps.{Room as NetworkRoom, Want.take_left, Want.take_right, Want.give_left, Want.give_right, Want.none}
-use Rattle.network_meaning.specs.Network.{LocalState, Steps, is_blocked, is_empty, want}
+use Rattle.network_meaning.specs.LocalSteps.{Act, Mode, Works, Room as NetworkRoom, Want.take_left, Want.take_right, Want.give_left, Want.give_right, Want.none}
+use Rattle.network_meaning.specs.Network.{LocalState, StepsBy, is_blocked, is_empty, want}
+use Rattle.network_meaning.specs.WorkShape.{WorksInShape}
 use Rattle.quel_network.specs.Quel.{quel}
 use Rattle.quel_network.specs.Sorts.{User, quel_sorts}
 use Rattle.net_core.proofs.Faulty.{later_same, script_same}
-
--- ---- rooms
-
--- an untold room may be any
-abbrev pub some_room : Option (NetworkRoom quel_sorts) → NetworkRoom quel_sorts
-some_room None = record { db = record { dba = []; relations = []; indexes = []; views = []; rules = []; permits = [] }; shelf = []; script = []; out = [] }
-some_room (Some r) = r
-
-tells_some : (o : Option (NetworkRoom quel_sorts)) → Tells o (some_room o)
-tells_some None = tt
-tells_some (Some r) = refl
-
-tells_same : (o : Option (NetworkRoom quel_sorts)) → TellsAfter o o (some_room o)
-tells_same None = tt
-tells_same (Some r) = refl
 
 -- ---- results
 
@@ -93,16 +79,12 @@ alone l r old new o h h' p p' serves serves' result blocked steps unlawful cause
 stays : (L : Language quel_sorts) (l r : ℕ) (blocked : Bool) (old new : Piped) (o : Option (NetworkRoom quel_sorts)) →
     ((room : NetworkRoom quel_sorts) → is_blocked l r (in_room old room) (want old.stage) ≡ blocked) →
     ((room : NetworkRoom quel_sorts) → FitUnlessBlocked L (in_room old room) blocked) →
-    ((room : NetworkRoom quel_sorts) → PipedSteps L (in_room old room) (in_room new room) blocked) →
+    ((W : Mode quel_sorts → NetworkRoom quel_sorts → Act quel_sorts → NetworkRoom quel_sorts → Type 0) (room : NetworkRoom quel_sorts) → PipedStepsBy W L (in_room old room) (in_room new room) blocked) →
     PipedMoves L l r blocked old new o o
 stays L l r blocked old new o is fit step = record {
-  room = some_room o;
-  room' = some_room o;
-  tells = tells_some o;
-  tells_after = tells_same o;
-  is = is (some_room o);
-  fit = fit (some_room o);
-  step = step (some_room o);
+  is = is;
+  shape = step (WorksInShape L);
+  exact = λ room e. record { room' = room; told = e; fit = fit room; step = step (Works L) room };
 }
 
 -- ---- it took a frame
@@ -115,16 +97,16 @@ empty_blocked Blocked pipe h = rw h refl
 took_left_moves : (L : Language quel_sorts) (moved : Moved) (l r : ℕ) (s s' : LocalState quel_sorts) (li li' lo ro ri : List Frame) (o : Option (NetworkRoom quel_sorts)) → want s ≡ take_left → TookFrom L moved s li s' li' →
     PipedMoves L l r (was_blocked moved) (at_pipes s li lo ro ri) (at_pipes s' li' lo ro ri) o o
 took_left_moves L Stepped l r s s' li li' lo ro ri o e (f, e1, t) =
-    stays L l r false _ _ o (λ room. rw (e, e1) refl) (λ room. rw e tt) (λ room. rw (e, e1) (s', (rw e at t), refl))
+    stays L l r false _ _ o (λ room. rw (e, e1) refl) (λ room. rw e tt) (λ W room. rw (e, e1) (s', (rw e at t), refl))
 took_left_moves L Blocked l r s s' li li' lo ro ri o e (e1, e2, e3) =
-    stays L l r true _ _ o (λ room. rw (e, e1) refl) (λ room. tt) (λ room. rw (e2, e3) refl)
+    stays L l r true _ _ o (λ room. rw (e, e1) refl) (λ room. tt) (λ W room. rw (e2, e3) refl)
 
 took_right_moves : (L : Language quel_sorts) (moved : Moved) (l r : ℕ) (s s' : LocalState quel_sorts) (li lo ro ri ri' : List Frame) (o : Option (NetworkRoom quel_sorts)) → want s ≡ take_right → TookFrom L moved s ri s' ri' →
     PipedMoves L l r (was_blocked moved) (at_pipes s li lo ro ri) (at_pipes s' li lo ro ri') o o
 took_right_moves L Stepped l r s s' li lo ro ri ri' o e (f, e1, t) =
-    stays L l r false _ _ o (λ room. rw (e, e1) refl) (λ room. rw e tt) (λ room. rw (e, e1) (s', (rw e at t), refl))
+    stays L l r false _ _ o (λ room. rw (e, e1) refl) (λ room. rw e tt) (λ W room. rw (e, e1) (s', (rw e at t), refl))
 took_right_moves L Blocked l r s s' li lo ro ri ri' o e (e1, e2, e3) =
-    stays L l r true _ _ o (λ room. rw (e, e1) refl) (λ room. tt) (λ room. rw (e2, e3) refl)
+    stays L l r true _ _ o (λ room. rw (e, e1) refl) (λ room. tt) (λ W room. rw (e2, e3) refl)
 
 -- a frame comes that the stage may not take
 abbrev pub Refuses : Language quel_sorts → LocalState quel_sorts → List Frame → Type 0
@@ -168,29 +150,29 @@ full_blocked : (moved : Moved) (capacity : ℕ) (s s' : LocalState quel_sorts) (
 full_blocked Stepped capacity s s' pipe pipe' (f, lt, e, g) = not_full (length pipe) capacity lt
 full_blocked Blocked capacity s s' pipe pipe' (le, e, e2) = full (length pipe) capacity le
 
-given_left : (L : Language quel_sorts) (s s' : LocalState quel_sorts) (out : List Frame) (f : Frame) (li lo ro ri : List Frame) (room : NetworkRoom quel_sorts) → s.out_left ≡ out → GivenLeft s out f s' →
-    Steps L (in_room (at_pipes s li lo ro ri) room) give_left (in_room (at_pipes s' li (lo ++ f ∷ []) ro ri) room)
-given_left L s s' [] f li lo ro ri room e g = absurd g
-given_left L s s' (x ∷ xs) f li lo ro ri room e (e1, e2) = rw (e, e2, e1) refl
+given_left : (W : Mode quel_sorts → NetworkRoom quel_sorts → Act quel_sorts → NetworkRoom quel_sorts → Type 0) (L : Language quel_sorts) (s s' : LocalState quel_sorts) (out : List Frame) (f : Frame) (li lo ro ri : List Frame) (room : NetworkRoom quel_sorts) → s.out_left ≡ out → GivenLeft s out f s' →
+    StepsBy W L (in_room (at_pipes s li lo ro ri) room) give_left (in_room (at_pipes s' li (lo ++ f ∷ []) ro ri) room)
+given_left W L s s' [] f li lo ro ri room e g = absurd g
+given_left W L s s' (x ∷ xs) f li lo ro ri room e (e1, e2) = rw (e, e2, e1) refl
 
-given_right : (L : Language quel_sorts) (s s' : LocalState quel_sorts) (out : List Frame) (f : Frame) (li lo ro ri : List Frame) (room : NetworkRoom quel_sorts) → s.out_right ≡ out → GivenRight s out f s' →
-    Steps L (in_room (at_pipes s li lo ro ri) room) give_right (in_room (at_pipes s' li lo (ro ++ f ∷ []) ri) room)
-given_right L s s' [] f li lo ro ri room e g = absurd g
-given_right L s s' (x ∷ xs) f li lo ro ri room e (e1, e2) = rw (e, e2, e1) refl
+given_right : (W : Mode quel_sorts → NetworkRoom quel_sorts → Act quel_sorts → NetworkRoom quel_sorts → Type 0) (L : Language quel_sorts) (s s' : LocalState quel_sorts) (out : List Frame) (f : Frame) (li lo ro ri : List Frame) (room : NetworkRoom quel_sorts) → s.out_right ≡ out → GivenRight s out f s' →
+    StepsBy W L (in_room (at_pipes s li lo ro ri) room) give_right (in_room (at_pipes s' li lo (ro ++ f ∷ []) ri) room)
+given_right W L s s' [] f li lo ro ri room e g = absurd g
+given_right W L s s' (x ∷ xs) f li lo ro ri room e (e1, e2) = rw (e, e2, e1) refl
 
 gave_left_moves : (L : Language quel_sorts) (moved : Moved) (l r : ℕ) (s s' : LocalState quel_sorts) (li lo lo' ro ri : List Frame) (o : Option (NetworkRoom quel_sorts)) → want s ≡ give_left → GaveTo moved l s lo s' lo' →
     PipedMoves L l r (was_blocked moved) (at_pipes s li lo ro ri) (at_pipes s' li lo' ro ri) o o
 gave_left_moves L Stepped l r s s' li lo lo' ro ri o e (f, lt, e1, g) =
-    stays L l r false _ _ o (λ room. rw e (not_full (length lo) l lt)) (λ room. rw e tt) (λ room. rw (e, e1) (given_left L s s' s.out_left f li lo ro ri room refl (rw e at g)))
+    stays L l r false _ _ o (λ room. rw e (not_full (length lo) l lt)) (λ room. rw e tt) (λ W room. rw (e, e1) (given_left W L s s' s.out_left f li lo ro ri room refl (rw e at g)))
 gave_left_moves L Blocked l r s s' li lo lo' ro ri o e (le, e2, e3) =
-    stays L l r true _ _ o (λ room. rw e (full (length lo) l le)) (λ room. tt) (λ room. rw (e2, e3) refl)
+    stays L l r true _ _ o (λ room. rw e (full (length lo) l le)) (λ room. tt) (λ W room. rw (e2, e3) refl)
 
 gave_right_moves : (L : Language quel_sorts) (moved : Moved) (l r : ℕ) (s s' : LocalState quel_sorts) (li lo ro ro' ri : List Frame) (o : Option (NetworkRoom quel_sorts)) → want s ≡ give_right → GaveTo moved r s ro s' ro' →
     PipedMoves L l r (was_blocked moved) (at_pipes s li lo ro ri) (at_pipes s' li lo ro' ri) o o
 gave_right_moves L Stepped l r s s' li lo ro ro' ri o e (f, lt, e1, g) =
-    stays L l r false _ _ o (λ room. rw e (not_full (length ro) r lt)) (λ room. rw e tt) (λ room. rw (e, e1) (given_right L s s' s.out_right f li lo ro ri room refl (rw e at g)))
+    stays L l r false _ _ o (λ room. rw e (not_full (length ro) r lt)) (λ room. rw e tt) (λ W room. rw (e, e1) (given_right W L s s' s.out_right f li lo ro ri room refl (rw e at g)))
 gave_right_moves L Blocked l r s s' li lo ro ro' ri o e (le, e2, e3) =
-    stays L l r true _ _ o (λ room. rw e (full (length ro) r le)) (λ room. tt) (λ room. rw (e2, e3) refl)
+    stays L l r true _ _ o (λ room. rw e (full (length ro) r le)) (λ room. tt) (λ W room. rw (e2, e3) refl)
 
 of_memory : (result : Result Moved WorkFault) → OnErr result (IsErrOf result faults.OutOfMemory) → IfErr result (λ fault. IsOfTaking fault)
 of_memory (Ok m) c = tt
@@ -222,4 +204,4 @@ pub stopped : (l r : ℕ) (s : LocalState quel_sorts) (li lo ro ri : List Frame)
     PipedDone l r (at_pipes s li lo ro ri) (at_pipes s li lo ro ri) o o h h p p serves serves (Ok Blocked)
 stopped l r s li lo ro ri o h p serves e =
     alone l r _ _ o h h p p serves serves (Ok Blocked) (λ room. rw e refl)
-    (λ user x. stays (quel user) l r true _ _ (told o) (λ room. rw e refl) (λ room. tt) (λ room. refl)) (λ user x u. cc) tt (λ user x. x) refl refl
+    (λ user x. stays (quel user) l r true _ _ (told o) (λ room. rw e refl) (λ room. tt) (λ W room. refl)) (λ user x u. cc) tt (λ user x. x) refl refl

@@ -23,13 +23,9 @@ worked_moves : (L : Language quel_sorts) (l r : ℕ) (s s' : LocalState quel_sor
 worked_moves L l r s s' li lo ro ri o o' (Err fault) e m w = tt
 worked_moves L l r s s' li lo ro ri o o' (Ok moved) e m w =
     rw m (record {
-      room = w.room;
-      room' = w.room';
-      tells = w.tells;
-      tells_after = w.tells_after;
-      is = rw e refl;
-      fit = rw e w.fit;
-      step = rw e (w.act, w.room', w.works, rw w.is refl);
+      is = λ room. rw e refl;
+      shape = λ room. rw e (w.act, room, (w.shape, refl), rw w.is refl);
+      exact = λ room t. let x = w.exact room t in record { room' = x.room'; told = x.told; fit = rw e x.fit; step = rw e (w.act, x.room', x.works, rw w.is refl) };
     })
 
 goes : (moved : Moved) (b : Bool) → moved ≡ Stepped → b ≡ false → b ≡ was_blocked moved

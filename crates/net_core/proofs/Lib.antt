@@ -5,3 +5,4 @@ pub mod Placing
 pub mod Lawful
 pub mod Outcomes
 pub mod Turning
+pub mod Crashing

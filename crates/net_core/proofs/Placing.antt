@@ -3,15 +3,16 @@ use Rattle.std.proofs.Common.{IfOk, OnErr, ◌≡◌, ◌+◌, ℕ, Bool, true, 
 use Rattle.std.specs.declared.option.Option.{Option}
 use Rattle.net_core.specs.declared.fault.WorkFault.{WorkFault}
 use Rattle.net_core.specs.declared.steps.Moved.{Moved}
-use Rattle.net_core.specs.Steps.{FitUnlessBlocked, Piped, PipedDone, PipedMayNot, PipedMoves, PipedSteps, StepDone, in_room}
+use Rattle.net_core.specs.Steps.{FitUnlessBlocked, Piped, PipedDone, PipedMayNot, PipedMoves, PipedStepsBy, StepDone, in_room}
 use Rattle.net_core.specs.Told.{FailedStep, Outside, told}
 use Rattle.net_core.specs.Wants.{was_blocked}
 use Rattle.net_core.specs.Whole.{MayNotStep, state_at}
 use Rattle.network_meaning.specs.Calls.{FitStep, Moves, Shape, join}
 use Rattle.network_meaning.specs.Language.{Language}
-use Rattle.network_meaning.specs.LocalSteps.{Room as NetworkRoom, Want.work}
+use Rattle.network_meaning.specs.LocalSteps.{Act, Mode, Works, Room as NetworkRoom, Want.work}
 use Rattle.network_meaning.specs.MessageNetwork.{StageNumber, StageNumber.first, StageNumber.second, StageNumber.third, StageNumber.fourth}
-use Rattle.network_meaning.specs.Network.{Between, LocalState, StepsUnlessBlocked, between, is_blocked, left_room, put_between, right_room, want}
+use Rattle.network_meaning.specs.Network.{Between, LocalState, StepsUnlessBlockedBy, between, is_blocked, left_room, put_between, right_room, want}
+use Rattle.network_meaning.specs.WorkShape.{WorksInShape}
 use Rattle.quel_network.specs.Quel.{quel}
 use Rattle.quel_network.specs.Sorts.{User, quel_sorts}
 use Rattle.net_core.proofs.AtPipes.{if_ok}
@@ -47,27 +48,28 @@ fit_as : (L : Language quel_sorts) (k : StageNumber) (blocked : Bool) (n : Shape
 fit_as L k true n r h = tt
 fit_as L k false n r h = h
 
-step_as : (L : Language quel_sorts) (k : StageNumber) (blocked : Bool) (n : Shape quel_sorts) (s : Piped) (r r' : NetworkRoom quel_sorts) → PipedSteps L (in_room (piped_of n k) r) (in_room s r') blocked →
-    StepsUnlessBlocked L k (join n r) (join (with_piped n k s) r') blocked
-step_as L first true n s r r' e = ap (put_between (join n r) first) e
-step_as L second true n s r r' e = ap (put_between (join n r) second) e
-step_as L third true n s r r' e = ap (put_between (join n r) third) e
-step_as L fourth true n s r r' e = ap (put_between (join n r) fourth) e
-step_as L first false n s r r' st = (in_room s r', st, refl)
-step_as L second false n s r r' st = (in_room s r', st, refl)
-step_as L third false n s r r' st = (in_room s r', st, refl)
-step_as L fourth false n s r r' st = (in_room s r', st, refl)
+step_as : (W : Mode quel_sorts → NetworkRoom quel_sorts → Act quel_sorts → NetworkRoom quel_sorts → Type 0) (L : Language quel_sorts) (k : StageNumber) (blocked : Bool) (n : Shape quel_sorts) (s : Piped) (r r' : NetworkRoom quel_sorts) →
+    PipedStepsBy W L (in_room (piped_of n k) r) (in_room s r') blocked → StepsUnlessBlockedBy W L k (join n r) (join (with_piped n k s) r') blocked
+step_as W L first true n s r r' e = ap (put_between (join n r) first) e
+step_as W L second true n s r r' e = ap (put_between (join n r) second) e
+step_as W L third true n s r r' e = ap (put_between (join n r) third) e
+step_as W L fourth true n s r r' e = ap (put_between (join n r) fourth) e
+step_as W L first false n s r r' st = (in_room s r', st, refl)
+step_as W L second false n s r r' st = (in_room s r', st, refl)
+step_as W L third false n s r r' st = (in_room s r', st, refl)
+step_as W L fourth false n s r r' st = (in_room s r', st, refl)
 
 moves_as : (L : Language quel_sorts) (capacity : ℕ) (k : StageNumber) (blocked : Bool) (n : Shape quel_sorts) (s : Piped) (o o' : Option (NetworkRoom quel_sorts)) → PipedMoves L (left_room capacity k) (right_room capacity k) blocked (piped_of n k) s o o' →
     Moves L capacity k blocked (record { shape = n; told = o }) (record { shape = with_piped n k s; told = o' })
 moves_as L capacity k blocked n s o o' m = record {
-  room = m.room;
-  room' = m.room';
-  tells = m.tells;
-  tells_after = m.tells_after;
-  is = subst (λ (b : Between quel_sorts). is_blocked (left_room capacity k) (right_room capacity k) b (want b.stage) ≡ blocked) (between_is k n m.room) m.is;
-  fit = fit_as L k blocked n m.room (subst (λ (b : Between quel_sorts). FitUnlessBlocked L b blocked) (between_is k n m.room) m.fit);
-  step = step_as L k blocked n s m.room m.room' m.step;
+  is = λ r. subst (λ (b : Between quel_sorts). is_blocked (left_room capacity k) (right_room capacity k) b (want b.stage) ≡ blocked) (between_is k n r) (m.is r);
+  shape = λ r. step_as (WorksInShape L) L k blocked n s r r (m.shape r);
+  exact = λ r t. let x = m.exact r t in record {
+    room' = x.room';
+    told = x.told;
+    fit = fit_as L k blocked n r (subst (λ (b : Between quel_sorts). FitUnlessBlocked L b blocked) (between_is k n r) x.fit);
+    step = step_as (Works L) L k blocked n s r x.room' x.step;
+  };
 }
 
 may_not_as : (L : Language quel_sorts) (k : StageNumber) (n : Shape quel_sorts) (o : Outside) → PipedMayNot L (piped_of n k) o → MayNotStep L k n o

@@ -5,3 +5,4 @@ pub mod Causes
 pub mod Whole
 pub mod Pipes
 pub mod Steps
+pub mod Crashes

@@ -9,12 +9,13 @@ use Rattle.net_core.specs.declared.steps.Moved.{Moved}
 use Rattle.net_core.specs.Told.{FailedStep, KeepsDatabase, KeepsScript, Later, Outside, told}
 use Rattle.net_core.specs.Wants.{was_blocked}
 use Rattle.net_core.specs.Whole.{MayNotStep, seen, state_at}
-use Rattle.network_meaning.specs.Calls.{FitWant, Moves, Shape, Tells, TellsAfter, join}
+use Rattle.network_meaning.specs.Calls.{FitWant, Moves, Shape, join}
 use Rattle.network_meaning.specs.Language.{Language}
 use Rattle.network_meaning.specs.Lawful.{comes}
-use Rattle.network_meaning.specs.LocalSteps.{Want.work, Room as NetworkRoom}
+use Rattle.network_meaning.specs.LocalSteps.{Act, Mode, Works, Want.work, Room as NetworkRoom}
 use Rattle.network_meaning.specs.MessageNetwork.{StageNumber}
-use Rattle.network_meaning.specs.Network.{Between, LocalState, Steps, is_blocked, is_stuck, want}
+use Rattle.network_meaning.specs.Network.{Between, LocalState, StepsBy, is_blocked, is_stuck, want}
+use Rattle.network_meaning.specs.WorkShape.{WorksInShape}
 use Rattle.quel_network.specs.Quel.{quel}
 use Rattle.quel_network.specs.Sorts.{User, quel_sorts}
 
@@ -35,20 +36,23 @@ abbrev pub FitUnlessBlocked : Language quel_sorts → Between quel_sorts → Boo
 FitUnlessBlocked L s true = ⊤
 FitUnlessBlocked L s false = FitWant L s (want s.stage)
 
--- one step of a stage; nothing changes where it is blocked
-abbrev pub PipedSteps : Language quel_sorts → Between quel_sorts → Between quel_sorts → Bool → Type 0
-PipedSteps L s s' true = s' ≡ s
-PipedSteps L s s' false = Steps L s (want s.stage) s'
+-- one step of a stage, where this is what a piece of work does; nothing changes where it is blocked
+abbrev pub PipedStepsBy : (Mode quel_sorts → NetworkRoom quel_sorts → Act quel_sorts → NetworkRoom quel_sorts → Type 0) → Language quel_sorts → Between quel_sorts → Between quel_sorts → Bool → Type 0
+PipedStepsBy W L s s' true = s' ≡ s
+PipedStepsBy W L s s' false = StepsBy W L s (want s.stage) s'
 
--- a stage was blocked or not, and did what a step does, on what is fit, in some rooms that agree with what is told
-pub record PipedMoves (L : Language quel_sorts) (left right : ℕ) (blocked : Bool) (old new : Piped) (before after : Option (NetworkRoom quel_sorts)) : Type 0 where
-  pub room : NetworkRoom quel_sorts
+-- a step was one of the network in this room, on what is fit, and the room is told again, as the step leaves it
+pub record PipedIn (L : Language quel_sorts) (blocked : Bool) (old new : Piped) (room : NetworkRoom quel_sorts) (after : Option (NetworkRoom quel_sorts)) : Type 0 where
   pub room' : NetworkRoom quel_sorts
-  pub tells : Tells before room
-  pub tells_after : TellsAfter before after room'
-  pub is : is_blocked left right (in_room old room) (want old.stage) ≡ blocked
+  pub told : after ≡ Some room'
   pub fit : FitUnlessBlocked L (in_room old room) blocked
-  pub step : PipedSteps L (in_room old room) (in_room new room') blocked
+  pub step : PipedStepsBy (Works L) L (in_room old room) (in_room new room') blocked
+
+-- a stage was blocked or not. Whatever the room is, it took, gave, or did work of its shape; and where the room is told, this was a step of the network there
+pub record PipedMoves (L : Language quel_sorts) (left right : ℕ) (blocked : Bool) (old new : Piped) (before after : Option (NetworkRoom quel_sorts)) : Type 0 where
+  pub is : (room : NetworkRoom quel_sorts) → is_blocked left right (in_room old room) (want old.stage) ≡ blocked
+  pub shape : (room : NetworkRoom quel_sorts) → PipedStepsBy (WorksInShape L) L (in_room old room) (in_room new room) blocked
+  pub exact : (room : NetworkRoom quel_sorts) → before ≡ Some room → PipedIn L blocked old new room after
 
 -- a frame comes to a stage that it may not take, or it is to work on what isn't fit
 abbrev pub PipedMayNot : Language quel_sorts → Piped → Outside → Type 0

@@ -11,10 +11,12 @@ use Rattle.network_meaning.specs.Network.{LocalState, want}
 use Rattle.net_core.specs.declared.room.Room.{Room}
 use Rattle.quel_network.specs.Sorts.{quel_sorts}
 
--- the outside as a room has it: the database, the files, what is left of the script and what was written, where they are told; how often calls of each failed, and how often the sink took nothing
+-- the outside as a room has it: the database, the files, what is left of the script and what was written, where they are told; how often calls of each failed, how often the sink took nothing, and the clock and the count of reads of the disk below the database
 pub record Outside : Type 0 where
   pub database : Option Db
   pub base_faults : ℕ
+  pub clock : ℕ
+  pub reads : ℕ
   pub files : Option Files
   pub shelf_faults : ℕ
   pub script : Option (List ℕ)
@@ -24,10 +26,12 @@ pub record Outside : Type 0 where
   pub sink_stalls : ℕ
 
 -- the outside of a room, by what its parts tell
-abbrev pub outside : {B H S K : Type 0} → (B → Option Db) → (B → ℕ) → (H → Option Files) → (H → ℕ) → (S → Option (List ℕ)) → (S → ℕ) → (K → Option (List ℕ)) → (K → ℕ) → (K → ℕ) → Room B H S K → Outside
-outside database base_faults files shelf_faults left source_faults written sink_faults stalls room = record {
+abbrev pub outside : {B H S K : Type 0} → (B → Option Db) → (B → ℕ) → (B → ℕ) → (B → ℕ) → (H → Option Files) → (H → ℕ) → (S → Option (List ℕ)) → (S → ℕ) → (K → Option (List ℕ)) → (K → ℕ) → (K → ℕ) → Room B H S K → Outside
+outside database base_faults clock reads files shelf_faults left source_faults written sink_faults stalls room = record {
   database = database room.base;
   base_faults = base_faults room.base;
+  clock = clock room.base;
+  reads = reads room.base;
   files = files room.shelf;
   shelf_faults = shelf_faults room.shelf;
   script = left room.source;

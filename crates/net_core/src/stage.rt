@@ -5,6 +5,7 @@ ghost use Rattle.frame_codec.specs.Frames.{is_lawful};
 ghost use Rattle.network_meaning.specs.Calls.{Given, Taken, WorkDone};
 ghost use Rattle.network_meaning.specs.Network.{LocalState, want};
 ghost use Rattle.net_core.specs.Causes.{IsCaused, MayNotTake, MayNotWork};
+ghost use Rattle.net_core.specs.Crashes.{QuietWithout, StaysDurable, WorkLeaves};
 ghost use Rattle.net_core.specs.Told.{FailedWork, KeepsDatabase, KeepsScript, Later, outside, told};
 ghost use Rattle.net_core.specs.Wants.{IsToGive, IsToTake, IsToWork, wish};
 ghost use Rattle.quel_network.specs.Quel.{quel};
@@ -82,9 +83,10 @@ pub trait Stage {
         ensures place { place self.new ≡ place self.old }
         ensures heard { heard self.new ≡ heard self.old };
 
-    /// Works on the room. Where the room is told, what it leaves is what the network's work leaves; after
-    /// an error a front of what this work writes was written. A tree or a change that isn't fit for the
-    /// present database is refused as unlawful.
+    /// Works on the room. Whatever the room tells, what it goes to and what it gives has the shape of such
+    /// a piece of work. Where the room is told, this is the network's work, and what it leaves is what that
+    /// leaves; after an error a front of what this work writes was written. A tree or a change that isn't
+    /// fit for the present database is refused as unlawful.
     fn work<B: Base, H: Shelf, S: Source, K: Sink>(
         &mut self,
         alloc: Global,
@@ -92,25 +94,37 @@ pub trait Stage {
     ) -> Result<(), WorkFault>
         requires { IsToWork (state self.old) }
         ensures works { (user : User) → serves self.old user → OnOk result (WorkDone (quel user) (state self.old) (state self.new)
-            (told (outside B.database B.faults H.files H.faults S.left S.faults K.written K.faults K.stalls room.old))
-            (told (outside B.database B.faults H.files H.faults S.left S.faults K.written K.faults K.stalls room.new))) }
+            (told (outside B.database B.faults B.clock B.reads H.files H.faults S.left S.faults K.written K.faults K.stalls room.old))
+            (told (outside B.database B.faults B.clock B.reads H.files H.faults S.left S.faults K.written K.faults K.stalls room.new))) }
         ensures failed { (user : User) → serves self.old user → OnErr result (FailedWork (quel user) (state self.old).mode
-            (outside B.database B.faults H.files H.faults S.left S.faults K.written K.faults K.stalls room.old)
-            (outside B.database B.faults H.files H.faults S.left S.faults K.written K.faults K.stalls room.new)) }
+            (outside B.database B.faults B.clock B.reads H.files H.faults S.left S.faults K.written K.faults K.stalls room.old)
+            (outside B.database B.faults B.clock B.reads H.files H.faults S.left S.faults K.written K.faults K.stalls room.new)) }
         ensures unlawful { (user : User) → serves self.old user → IsErrOf result WorkFault.Unlawful → MayNotWork (quel user) (state self.old).mode
-            (outside B.database B.faults H.files H.faults S.left S.faults K.written K.faults K.stalls room.old) }
+            (outside B.database B.faults B.clock B.reads H.files H.faults S.left S.faults K.written K.faults K.stalls room.old) }
         ensures database { OnOk result (KeepsDatabase
-            (outside B.database B.faults H.files H.faults S.left S.faults K.written K.faults K.stalls room.old)
-            (outside B.database B.faults H.files H.faults S.left S.faults K.written K.faults K.stalls room.new)) }
+            (outside B.database B.faults B.clock B.reads H.files H.faults S.left S.faults K.written K.faults K.stalls room.old)
+            (outside B.database B.faults B.clock B.reads H.files H.faults S.left S.faults K.written K.faults K.stalls room.new)) }
         ensures later { Later
-            (outside B.database B.faults H.files H.faults S.left S.faults K.written K.faults K.stalls room.old)
-            (outside B.database B.faults H.files H.faults S.left S.faults K.written K.faults K.stalls room.new) }
+            (outside B.database B.faults B.clock B.reads H.files H.faults S.left S.faults K.written K.faults K.stalls room.old)
+            (outside B.database B.faults B.clock B.reads H.files H.faults S.left S.faults K.written K.faults K.stalls room.new) }
         ensures cause { IsCaused (heard self.old)
-            (outside B.database B.faults H.files H.faults S.left S.faults K.written K.faults K.stalls room.old)
-            (outside B.database B.faults H.files H.faults S.left S.faults K.written K.faults K.stalls room.new) result }
+            (outside B.database B.faults B.clock B.reads H.files H.faults S.left S.faults K.written K.faults K.stalls room.old)
+            (outside B.database B.faults B.clock B.reads H.files H.faults S.left S.faults K.written K.faults K.stalls room.new) result }
         ensures heard { KeepsScript (heard self.old) (heard self.new)
-            (outside B.database B.faults H.files H.faults S.left S.faults K.written K.faults K.stalls room.old)
-            (outside B.database B.faults H.files H.faults S.left S.faults K.written K.faults K.stalls room.new) }
+            (outside B.database B.faults B.clock B.reads H.files H.faults S.left S.faults K.written K.faults K.stalls room.old)
+            (outside B.database B.faults B.clock B.reads H.files H.faults S.left S.faults K.written K.faults K.stalls room.new) }
+        // A crash leaves what it might leave before, or the database that this work leaves.
+        ensures crash { (user : User) → serves self.old user → WorkLeaves (quel user) (state self.old).mode
+            (outside B.database B.faults B.clock B.reads H.files H.faults S.left S.faults K.written K.faults K.stalls room.old)
+            (outside B.database B.faults B.clock B.reads H.files H.faults S.left S.faults K.written K.faults K.stalls room.new) (B.left_since room.old.base) (B.left_since room.new.base) }
+        // Where each image stood for the database, each one stands for that of after, once this work is done.
+        ensures durable { OnOk result (StaysDurable
+            (outside B.database B.faults B.clock B.reads H.files H.faults S.left S.faults K.written K.faults K.stalls room.old)
+            (outside B.database B.faults B.clock B.reads H.files H.faults S.left S.faults K.written K.faults K.stalls room.new) (B.left_since room.old.base) (B.left_since room.new.base)) }
+        // Without the turn the disk is neither read nor written.
+        ensures quiet { QuietWithout (state self.old)
+            (outside B.database B.faults B.clock B.reads H.files H.faults S.left S.faults K.written K.faults K.stalls room.old)
+            (outside B.database B.faults B.clock B.reads H.files H.faults S.left S.faults K.written K.faults K.stalls room.new) }
         ensures serves { (user : User) → serves self.old user → serves self.new user }
         ensures place { place self.new ≡ place self.old };
 }

@@ -7,6 +7,7 @@ ghost use Rattle.network_meaning.specs.MessageNetwork.{StageNumber.first, StageN
 ghost use Rattle.network_meaning.specs.Network.{is_stuck, want};
 ghost use Rattle.network_meaning.specs.Statements.{FinishesInOrder};
 ghost use Rattle.net_core.specs.Causes.{IsCaused};
+ghost use Rattle.net_core.specs.Crashes.{QuietWithout, StaysDurable, StepCrash, StepLeaves};
 ghost use Rattle.net_core.specs.Steps.{StepDone};
 ghost use Rattle.net_core.specs.Told.{FailedStep, KeepsDatabase, KeepsScript, Later, outside};
 ghost use Rattle.net_core.specs.Wants.{was_blocked};
@@ -37,10 +38,10 @@ pub enum Moved {
 /// Stage k does what it wants next: it takes a frame of a pipe, gives one to a pipe, or works on the room;
 /// or it is blocked, and nothing changes.
 ///
-/// Where the room is told, an orderly network stays orderly, and the bytes in all, those that were written,
-/// those of what is on its way and those of the rest of the session, stay the same; after an error a front
-/// of them was written. From an orderly network nothing unlawful comes. After an error the network isn't
-/// used again.
+/// Whatever the room tells, a piece of work has its shape. Where the room is told, it is the network's,
+/// an orderly network stays orderly, and the bytes in all, those that were written, those of what is on
+/// its way and those of the rest of the session, stay the same; after an error a front of them was
+/// written. From an orderly network nothing unlawful comes. After an error the network isn't used again.
 pub fn net_step<A1: Stage, A2: Stage, A3: Stage, A4: Stage, B: Base, H: Shelf, S: Source, K: Sink>(
     alloc: Global,
     net: &mut Net<A1, A2, A3, A4>,
@@ -51,41 +52,53 @@ pub fn net_step<A1: Stage, A2: Stage, A3: Stage, A4: Stage, B: Base, H: Shelf, S
     requires high { k ≤ 4 }
     ensures blocked { (r : NetworkRoom quel_sorts) → IfOk result (λ moved. is_stuck net.old.capacity (stage_number k) (join (shape A1.state A2.state A3.state A4.state net.old) r) ≡ was_blocked moved) }
     ensures steps { (user : User) → AllServe A1.serves A2.serves A3.serves A4.serves net.old user → IfOk result (λ moved. Moves (quel user) net.old.capacity (stage_number k) (was_blocked moved)
-        (seen (shape A1.state A2.state A3.state A4.state net.old) (outside B.database B.faults H.files H.faults S.left S.faults K.written K.faults K.stalls room.old))
-        (seen (shape A1.state A2.state A3.state A4.state net.new) (outside B.database B.faults H.files H.faults S.left S.faults K.written K.faults K.stalls room.new))) }
+        (seen (shape A1.state A2.state A3.state A4.state net.old) (outside B.database B.faults B.clock B.reads H.files H.faults S.left S.faults K.written K.faults K.stalls room.old))
+        (seen (shape A1.state A2.state A3.state A4.state net.new) (outside B.database B.faults B.clock B.reads H.files H.faults S.left S.faults K.written K.faults K.stalls room.new))) }
     ensures failed { (user : User) → AllServe A1.serves A2.serves A3.serves A4.serves net.old user → OnErr result (WroteFront (quel user)
-        (seen (shape A1.state A2.state A3.state A4.state net.old) (outside B.database B.faults H.files H.faults S.left S.faults K.written K.faults K.stalls room.old))
-        (outside B.database B.faults H.files H.faults S.left S.faults K.written K.faults K.stalls room.new)) }
+        (seen (shape A1.state A2.state A3.state A4.state net.old) (outside B.database B.faults B.clock B.reads H.files H.faults S.left S.faults K.written K.faults K.stalls room.old))
+        (outside B.database B.faults B.clock B.reads H.files H.faults S.left S.faults K.written K.faults K.stalls room.new)) }
     ensures part { (user : User) → AllServe A1.serves A2.serves A3.serves A4.serves net.old user → OnErr result (FailedStep (quel user) (state_at (shape A1.state A2.state A3.state A4.state net.old) (stage_number k))
-        (outside B.database B.faults H.files H.faults S.left S.faults K.written K.faults K.stalls room.old)
-        (outside B.database B.faults H.files H.faults S.left S.faults K.written K.faults K.stalls room.new)) }
+        (outside B.database B.faults B.clock B.reads H.files H.faults S.left S.faults K.written K.faults K.stalls room.old)
+        (outside B.database B.faults B.clock B.reads H.files H.faults S.left S.faults K.written K.faults K.stalls room.new)) }
     ensures unlawful { (user : User) → AllServe A1.serves A2.serves A3.serves A4.serves net.old user → IsErrOf result WorkFault.Unlawful → MayNotStep (quel user) (stage_number k) (shape A1.state A2.state A3.state A4.state net.old)
-        (outside B.database B.faults H.files H.faults S.left S.faults K.written K.faults K.stalls room.old) }
+        (outside B.database B.faults B.clock B.reads H.files H.faults S.left S.faults K.written K.faults K.stalls room.old) }
     ensures untouched { (want (state_at (shape A1.state A2.state A3.state A4.state net.old) (stage_number k)) ≡ work → ⊥) →
-        outside B.database B.faults H.files H.faults S.left S.faults K.written K.faults K.stalls room.new ≡ outside B.database B.faults H.files H.faults S.left S.faults K.written K.faults K.stalls room.old }
+        outside B.database B.faults B.clock B.reads H.files H.faults S.left S.faults K.written K.faults K.stalls room.new ≡ outside B.database B.faults B.clock B.reads H.files H.faults S.left S.faults K.written K.faults K.stalls room.old }
     ensures cause { IsCaused (heard_by A1.heard A2.heard A3.heard A4.heard net.old)
-        (outside B.database B.faults H.files H.faults S.left S.faults K.written K.faults K.stalls room.old)
-        (outside B.database B.faults H.files H.faults S.left S.faults K.written K.faults K.stalls room.new) result }
+        (outside B.database B.faults B.clock B.reads H.files H.faults S.left S.faults K.written K.faults K.stalls room.old)
+        (outside B.database B.faults B.clock B.reads H.files H.faults S.left S.faults K.written K.faults K.stalls room.new) result }
     ensures database { OnOk result (KeepsDatabase
-        (outside B.database B.faults H.files H.faults S.left S.faults K.written K.faults K.stalls room.old)
-        (outside B.database B.faults H.files H.faults S.left S.faults K.written K.faults K.stalls room.new)) }
+        (outside B.database B.faults B.clock B.reads H.files H.faults S.left S.faults K.written K.faults K.stalls room.old)
+        (outside B.database B.faults B.clock B.reads H.files H.faults S.left S.faults K.written K.faults K.stalls room.new)) }
     ensures later { Later
-        (outside B.database B.faults H.files H.faults S.left S.faults K.written K.faults K.stalls room.old)
-        (outside B.database B.faults H.files H.faults S.left S.faults K.written K.faults K.stalls room.new) }
+        (outside B.database B.faults B.clock B.reads H.files H.faults S.left S.faults K.written K.faults K.stalls room.old)
+        (outside B.database B.faults B.clock B.reads H.files H.faults S.left S.faults K.written K.faults K.stalls room.new) }
     ensures heard { KeepsScript (heard_by A1.heard A2.heard A3.heard A4.heard net.old) (heard_by A1.heard A2.heard A3.heard A4.heard net.new)
-        (outside B.database B.faults H.files H.faults S.left S.faults K.written K.faults K.stalls room.old)
-        (outside B.database B.faults H.files H.faults S.left S.faults K.written K.faults K.stalls room.new) }
+        (outside B.database B.faults B.clock B.reads H.files H.faults S.left S.faults K.written K.faults K.stalls room.old)
+        (outside B.database B.faults B.clock B.reads H.files H.faults S.left S.faults K.written K.faults K.stalls room.new) }
     ensures serve { (user : User) → AllServe A1.serves A2.serves A3.serves A4.serves net.old user → AllServe A1.serves A2.serves A3.serves A4.serves net.new user }
     ensures numbers { AreNumbered A1.place A2.place A3.place A4.place net.old → AreNumbered A1.place A2.place A3.place A4.place net.new }
     ensures capacity { net.new.capacity ≡ net.old.capacity }
     ensures equation { (user : User) → AllServe A1.serves A2.serves A3.serves A4.serves net.old user → OnOk result (KeepsAll (quel user)
-        (seen (shape A1.state A2.state A3.state A4.state net.old) (outside B.database B.faults H.files H.faults S.left S.faults K.written K.faults K.stalls room.old))
-        (seen (shape A1.state A2.state A3.state A4.state net.new) (outside B.database B.faults H.files H.faults S.left S.faults K.written K.faults K.stalls room.new))) }
+        (seen (shape A1.state A2.state A3.state A4.state net.old) (outside B.database B.faults B.clock B.reads H.files H.faults S.left S.faults K.written K.faults K.stalls room.old))
+        (seen (shape A1.state A2.state A3.state A4.state net.new) (outside B.database B.faults B.clock B.reads H.files H.faults S.left S.faults K.written K.faults K.stalls room.new))) }
     ensures finishes { (user : User) → AllServe A1.serves A2.serves A3.serves A4.serves net.old user → OnOk result (FinishesInOrder (quel user)
-        (seen (shape A1.state A2.state A3.state A4.state net.old) (outside B.database B.faults H.files H.faults S.left S.faults K.written K.faults K.stalls room.old))
-        (seen (shape A1.state A2.state A3.state A4.state net.new) (outside B.database B.faults H.files H.faults S.left S.faults K.written K.faults K.stalls room.new))) }
+        (seen (shape A1.state A2.state A3.state A4.state net.old) (outside B.database B.faults B.clock B.reads H.files H.faults S.left S.faults K.written K.faults K.stalls room.old))
+        (seen (shape A1.state A2.state A3.state A4.state net.new) (outside B.database B.faults B.clock B.reads H.files H.faults S.left S.faults K.written K.faults K.stalls room.new))) }
     ensures lawful { (user : User) → AllServe A1.serves A2.serves A3.serves A4.serves net.old user → IsErrOf result WorkFault.Unlawful → IsDisorderly (quel user)
-        (seen (shape A1.state A2.state A3.state A4.state net.old) (outside B.database B.faults H.files H.faults S.left S.faults K.written K.faults K.stalls room.old)) }
+        (seen (shape A1.state A2.state A3.state A4.state net.old) (outside B.database B.faults B.clock B.reads H.files H.faults S.left S.faults K.written K.faults K.stalls room.old)) }
+    // Where the room is told, a crash leaves what it might leave before, or the database that this step leaves.
+    ensures crash { (user : User) → AllServe A1.serves A2.serves A3.serves A4.serves net.old user → StepLeaves (quel user) (state_at (shape A1.state A2.state A3.state A4.state net.old) (stage_number k))
+        (outside B.database B.faults B.clock B.reads H.files H.faults S.left S.faults K.written K.faults K.stalls room.old)
+        (outside B.database B.faults B.clock B.reads H.files H.faults S.left S.faults K.written K.faults K.stalls room.new) (B.left_since room.old.base) (B.left_since room.new.base) }
+    // Where each image stood for the database, after Ok each one stands for that of after.
+    ensures durable { OnOk result (StaysDurable
+        (outside B.database B.faults B.clock B.reads H.files H.faults S.left S.faults K.written K.faults K.stalls room.old)
+        (outside B.database B.faults B.clock B.reads H.files H.faults S.left S.faults K.written K.faults K.stalls room.new) (B.left_since room.old.base) (B.left_since room.new.base)) }
+    // A stage without the turn neither reads the disk nor writes it.
+    ensures quiet { QuietWithout (state_at (shape A1.state A2.state A3.state A4.state net.old) (stage_number k))
+        (outside B.database B.faults B.clock B.reads H.files H.faults S.left S.faults K.written K.faults K.stalls room.old)
+        (outside B.database B.faults B.clock B.reads H.files H.faults S.left S.faults K.written K.faults K.stalls room.new) }
 {
     step_of(alloc, net, room, k)
 }
@@ -100,11 +113,14 @@ fn step_of<A1: Stage, A2: Stage, A3: Stage, A4: Stage, B: Base, H: Shelf, S: Sou
     requires low { 1 ≤ k }
     requires high { k ≤ 4 }
     ensures done { StepDone net.old.capacity (stage_number k) (shape A1.state A2.state A3.state A4.state net.old) (shape A1.state A2.state A3.state A4.state net.new)
-        (outside B.database B.faults H.files H.faults S.left S.faults K.written K.faults K.stalls room.old)
-        (outside B.database B.faults H.files H.faults S.left S.faults K.written K.faults K.stalls room.new)
+        (outside B.database B.faults B.clock B.reads H.files H.faults S.left S.faults K.written K.faults K.stalls room.old)
+        (outside B.database B.faults B.clock B.reads H.files H.faults S.left S.faults K.written K.faults K.stalls room.new)
         (heard_by A1.heard A2.heard A3.heard A4.heard net.old) (heard_by A1.heard A2.heard A3.heard A4.heard net.new)
         (AllServe A1.serves A2.serves A3.serves A4.serves net.old) (AllServe A1.serves A2.serves A3.serves A4.serves net.new)
         (AreNumbered A1.place A2.place A3.place A4.place net.old) (AreNumbered A1.place A2.place A3.place A4.place net.new) result }
+    ensures crash { StepCrash (AllServe A1.serves A2.serves A3.serves A4.serves net.old) (state_at (shape A1.state A2.state A3.state A4.state net.old) (stage_number k))
+        (outside B.database B.faults B.clock B.reads H.files H.faults S.left S.faults K.written K.faults K.stalls room.old)
+        (outside B.database B.faults B.clock B.reads H.files H.faults S.left S.faults K.written K.faults K.stalls room.new) (B.left_since room.old.base) (B.left_since room.new.base) result }
     ensures capacity { net.new.capacity ≡ net.old.capacity }
 {
     match k {
@@ -122,11 +138,14 @@ fn step_first<A1: Stage, A2: Stage, A3: Stage, A4: Stage, B: Base, H: Shelf, S: 
     room: &mut Room<B, H, S, K>,
 ) -> Result<Moved, WorkFault>
     ensures done { StepDone net.old.capacity first (shape A1.state A2.state A3.state A4.state net.old) (shape A1.state A2.state A3.state A4.state net.new)
-        (outside B.database B.faults H.files H.faults S.left S.faults K.written K.faults K.stalls room.old)
-        (outside B.database B.faults H.files H.faults S.left S.faults K.written K.faults K.stalls room.new)
+        (outside B.database B.faults B.clock B.reads H.files H.faults S.left S.faults K.written K.faults K.stalls room.old)
+        (outside B.database B.faults B.clock B.reads H.files H.faults S.left S.faults K.written K.faults K.stalls room.new)
         (heard_by A1.heard A2.heard A3.heard A4.heard net.old) (heard_by A1.heard A2.heard A3.heard A4.heard net.new)
         (AllServe A1.serves A2.serves A3.serves A4.serves net.old) (AllServe A1.serves A2.serves A3.serves A4.serves net.new)
         (AreNumbered A1.place A2.place A3.place A4.place net.old) (AreNumbered A1.place A2.place A3.place A4.place net.new) result }
+    ensures crash { StepCrash (AllServe A1.serves A2.serves A3.serves A4.serves net.old) (state_at (shape A1.state A2.state A3.state A4.state net.old) first)
+        (outside B.database B.faults B.clock B.reads H.files H.faults S.left S.faults K.written K.faults K.stalls room.old)
+        (outside B.database B.faults B.clock B.reads H.files H.faults S.left S.faults K.written K.faults K.stalls room.new) (B.left_since room.old.base) (B.left_since room.new.base) result }
     ensures capacity { net.new.capacity ≡ net.old.capacity }
 {
     let mut left_in = VecDeque::new(alloc);
@@ -151,11 +170,14 @@ fn step_second<A1: Stage, A2: Stage, A3: Stage, A4: Stage, B: Base, H: Shelf, S:
     room: &mut Room<B, H, S, K>,
 ) -> Result<Moved, WorkFault>
     ensures done { StepDone net.old.capacity second (shape A1.state A2.state A3.state A4.state net.old) (shape A1.state A2.state A3.state A4.state net.new)
-        (outside B.database B.faults H.files H.faults S.left S.faults K.written K.faults K.stalls room.old)
-        (outside B.database B.faults H.files H.faults S.left S.faults K.written K.faults K.stalls room.new)
+        (outside B.database B.faults B.clock B.reads H.files H.faults S.left S.faults K.written K.faults K.stalls room.old)
+        (outside B.database B.faults B.clock B.reads H.files H.faults S.left S.faults K.written K.faults K.stalls room.new)
         (heard_by A1.heard A2.heard A3.heard A4.heard net.old) (heard_by A1.heard A2.heard A3.heard A4.heard net.new)
         (AllServe A1.serves A2.serves A3.serves A4.serves net.old) (AllServe A1.serves A2.serves A3.serves A4.serves net.new)
         (AreNumbered A1.place A2.place A3.place A4.place net.old) (AreNumbered A1.place A2.place A3.place A4.place net.new) result }
+    ensures crash { StepCrash (AllServe A1.serves A2.serves A3.serves A4.serves net.old) (state_at (shape A1.state A2.state A3.state A4.state net.old) second)
+        (outside B.database B.faults B.clock B.reads H.files H.faults S.left S.faults K.written K.faults K.stalls room.old)
+        (outside B.database B.faults B.clock B.reads H.files H.faults S.left S.faults K.written K.faults K.stalls room.new) (B.left_since room.old.base) (B.left_since room.new.base) result }
     ensures capacity { net.new.capacity ≡ net.old.capacity }
 {
     step_stage(
@@ -178,11 +200,14 @@ fn step_third<A1: Stage, A2: Stage, A3: Stage, A4: Stage, B: Base, H: Shelf, S: 
     room: &mut Room<B, H, S, K>,
 ) -> Result<Moved, WorkFault>
     ensures done { StepDone net.old.capacity third (shape A1.state A2.state A3.state A4.state net.old) (shape A1.state A2.state A3.state A4.state net.new)
-        (outside B.database B.faults H.files H.faults S.left S.faults K.written K.faults K.stalls room.old)
-        (outside B.database B.faults H.files H.faults S.left S.faults K.written K.faults K.stalls room.new)
+        (outside B.database B.faults B.clock B.reads H.files H.faults S.left S.faults K.written K.faults K.stalls room.old)
+        (outside B.database B.faults B.clock B.reads H.files H.faults S.left S.faults K.written K.faults K.stalls room.new)
         (heard_by A1.heard A2.heard A3.heard A4.heard net.old) (heard_by A1.heard A2.heard A3.heard A4.heard net.new)
         (AllServe A1.serves A2.serves A3.serves A4.serves net.old) (AllServe A1.serves A2.serves A3.serves A4.serves net.new)
         (AreNumbered A1.place A2.place A3.place A4.place net.old) (AreNumbered A1.place A2.place A3.place A4.place net.new) result }
+    ensures crash { StepCrash (AllServe A1.serves A2.serves A3.serves A4.serves net.old) (state_at (shape A1.state A2.state A3.state A4.state net.old) third)
+        (outside B.database B.faults B.clock B.reads H.files H.faults S.left S.faults K.written K.faults K.stalls room.old)
+        (outside B.database B.faults B.clock B.reads H.files H.faults S.left S.faults K.written K.faults K.stalls room.new) (B.left_since room.old.base) (B.left_since room.new.base) result }
     ensures capacity { net.new.capacity ≡ net.old.capacity }
 {
     step_stage(
@@ -205,11 +230,14 @@ fn step_fourth<A1: Stage, A2: Stage, A3: Stage, A4: Stage, B: Base, H: Shelf, S:
     room: &mut Room<B, H, S, K>,
 ) -> Result<Moved, WorkFault>
     ensures done { StepDone net.old.capacity fourth (shape A1.state A2.state A3.state A4.state net.old) (shape A1.state A2.state A3.state A4.state net.new)
-        (outside B.database B.faults H.files H.faults S.left S.faults K.written K.faults K.stalls room.old)
-        (outside B.database B.faults H.files H.faults S.left S.faults K.written K.faults K.stalls room.new)
+        (outside B.database B.faults B.clock B.reads H.files H.faults S.left S.faults K.written K.faults K.stalls room.old)
+        (outside B.database B.faults B.clock B.reads H.files H.faults S.left S.faults K.written K.faults K.stalls room.new)
         (heard_by A1.heard A2.heard A3.heard A4.heard net.old) (heard_by A1.heard A2.heard A3.heard A4.heard net.new)
         (AllServe A1.serves A2.serves A3.serves A4.serves net.old) (AllServe A1.serves A2.serves A3.serves A4.serves net.new)
         (AreNumbered A1.place A2.place A3.place A4.place net.old) (AreNumbered A1.place A2.place A3.place A4.place net.new) result }
+    ensures crash { StepCrash (AllServe A1.serves A2.serves A3.serves A4.serves net.old) (state_at (shape A1.state A2.state A3.state A4.state net.old) fourth)
+        (outside B.database B.faults B.clock B.reads H.files H.faults S.left S.faults K.written K.faults K.stalls room.old)
+        (outside B.database B.faults B.clock B.reads H.files H.faults S.left S.faults K.written K.faults K.stalls room.new) (B.left_since room.old.base) (B.left_since room.new.base) result }
     ensures capacity { net.new.capacity ≡ net.old.capacity }
 {
     let mut right_out = VecDeque::new(alloc);

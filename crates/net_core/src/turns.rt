@@ -3,6 +3,7 @@
 ghost use Rattle.std.specs.Prelude.{◌≡◌, ◌≤◌, All, IsErrOf, OnErr, OnOk};
 ghost use Rattle.network_meaning.specs.Calls.{KeepsAll, RunsTurns};
 ghost use Rattle.network_meaning.specs.Statements.{FinishesInOrder};
+ghost use Rattle.net_core.specs.Crashes.{StaysDurable, TurnsLeave};
 ghost use Rattle.net_core.specs.Causes.{IsCaused};
 ghost use Rattle.net_core.specs.Told.{KeepsDatabase, KeepsScript, Later, outside};
 ghost use Rattle.net_core.specs.Whole.{AllServe, AreNumbered, IsDisorderly, StopsAt, WroteFront, heard_by, seen, shape};
@@ -31,37 +32,45 @@ pub fn net_turns<A1: Stage, A2: Stage, A3: Stage, A4: Stage, B: Base, H: Shelf, 
 ) -> Result<(), WorkFault>
     requires { All (λ k. (1 ≤ k) × (k ≤ 4)) turns.now }
     ensures steps { (user : User) → AllServe A1.serves A2.serves A3.serves A4.serves net.old user → OnOk result (RunsTurns (quel user) net.old.capacity turns.now
-        (seen (shape A1.state A2.state A3.state A4.state net.old) (outside B.database B.faults H.files H.faults S.left S.faults K.written K.faults K.stalls room.old))
-        (seen (shape A1.state A2.state A3.state A4.state net.new) (outside B.database B.faults H.files H.faults S.left S.faults K.written K.faults K.stalls room.new))) }
+        (seen (shape A1.state A2.state A3.state A4.state net.old) (outside B.database B.faults B.clock B.reads H.files H.faults S.left S.faults K.written K.faults K.stalls room.old))
+        (seen (shape A1.state A2.state A3.state A4.state net.new) (outside B.database B.faults B.clock B.reads H.files H.faults S.left S.faults K.written K.faults K.stalls room.new))) }
     ensures equation { (user : User) → AllServe A1.serves A2.serves A3.serves A4.serves net.old user → OnOk result (KeepsAll (quel user)
-        (seen (shape A1.state A2.state A3.state A4.state net.old) (outside B.database B.faults H.files H.faults S.left S.faults K.written K.faults K.stalls room.old))
-        (seen (shape A1.state A2.state A3.state A4.state net.new) (outside B.database B.faults H.files H.faults S.left S.faults K.written K.faults K.stalls room.new))) }
+        (seen (shape A1.state A2.state A3.state A4.state net.old) (outside B.database B.faults B.clock B.reads H.files H.faults S.left S.faults K.written K.faults K.stalls room.old))
+        (seen (shape A1.state A2.state A3.state A4.state net.new) (outside B.database B.faults B.clock B.reads H.files H.faults S.left S.faults K.written K.faults K.stalls room.new))) }
     ensures finishes { (user : User) → AllServe A1.serves A2.serves A3.serves A4.serves net.old user → OnOk result (FinishesInOrder (quel user)
-        (seen (shape A1.state A2.state A3.state A4.state net.old) (outside B.database B.faults H.files H.faults S.left S.faults K.written K.faults K.stalls room.old))
-        (seen (shape A1.state A2.state A3.state A4.state net.new) (outside B.database B.faults H.files H.faults S.left S.faults K.written K.faults K.stalls room.new))) }
+        (seen (shape A1.state A2.state A3.state A4.state net.old) (outside B.database B.faults B.clock B.reads H.files H.faults S.left S.faults K.written K.faults K.stalls room.old))
+        (seen (shape A1.state A2.state A3.state A4.state net.new) (outside B.database B.faults B.clock B.reads H.files H.faults S.left S.faults K.written K.faults K.stalls room.new))) }
     ensures stopped { (user : User) → AllServe A1.serves A2.serves A3.serves A4.serves net.old user → OnErr result (StopsAt (quel user) net.old.capacity turns.now
-        (seen (shape A1.state A2.state A3.state A4.state net.old) (outside B.database B.faults H.files H.faults S.left S.faults K.written K.faults K.stalls room.old))
-        (outside B.database B.faults H.files H.faults S.left S.faults K.written K.faults K.stalls room.new)) }
+        (seen (shape A1.state A2.state A3.state A4.state net.old) (outside B.database B.faults B.clock B.reads H.files H.faults S.left S.faults K.written K.faults K.stalls room.old))
+        (outside B.database B.faults B.clock B.reads H.files H.faults S.left S.faults K.written K.faults K.stalls room.new)) }
     ensures failed { (user : User) → AllServe A1.serves A2.serves A3.serves A4.serves net.old user → OnErr result (WroteFront (quel user)
-        (seen (shape A1.state A2.state A3.state A4.state net.old) (outside B.database B.faults H.files H.faults S.left S.faults K.written K.faults K.stalls room.old))
-        (outside B.database B.faults H.files H.faults S.left S.faults K.written K.faults K.stalls room.new)) }
+        (seen (shape A1.state A2.state A3.state A4.state net.old) (outside B.database B.faults B.clock B.reads H.files H.faults S.left S.faults K.written K.faults K.stalls room.old))
+        (outside B.database B.faults B.clock B.reads H.files H.faults S.left S.faults K.written K.faults K.stalls room.new)) }
     ensures lawful { (user : User) → AllServe A1.serves A2.serves A3.serves A4.serves net.old user → IsErrOf result WorkFault.Unlawful → IsDisorderly (quel user)
-        (seen (shape A1.state A2.state A3.state A4.state net.old) (outside B.database B.faults H.files H.faults S.left S.faults K.written K.faults K.stalls room.old)) }
+        (seen (shape A1.state A2.state A3.state A4.state net.old) (outside B.database B.faults B.clock B.reads H.files H.faults S.left S.faults K.written K.faults K.stalls room.old)) }
     ensures cause { IsCaused (heard_by A1.heard A2.heard A3.heard A4.heard net.old)
-        (outside B.database B.faults H.files H.faults S.left S.faults K.written K.faults K.stalls room.old)
-        (outside B.database B.faults H.files H.faults S.left S.faults K.written K.faults K.stalls room.new) result }
+        (outside B.database B.faults B.clock B.reads H.files H.faults S.left S.faults K.written K.faults K.stalls room.old)
+        (outside B.database B.faults B.clock B.reads H.files H.faults S.left S.faults K.written K.faults K.stalls room.new) result }
     ensures database { OnOk result (KeepsDatabase
-        (outside B.database B.faults H.files H.faults S.left S.faults K.written K.faults K.stalls room.old)
-        (outside B.database B.faults H.files H.faults S.left S.faults K.written K.faults K.stalls room.new)) }
+        (outside B.database B.faults B.clock B.reads H.files H.faults S.left S.faults K.written K.faults K.stalls room.old)
+        (outside B.database B.faults B.clock B.reads H.files H.faults S.left S.faults K.written K.faults K.stalls room.new)) }
     ensures later { Later
-        (outside B.database B.faults H.files H.faults S.left S.faults K.written K.faults K.stalls room.old)
-        (outside B.database B.faults H.files H.faults S.left S.faults K.written K.faults K.stalls room.new) }
+        (outside B.database B.faults B.clock B.reads H.files H.faults S.left S.faults K.written K.faults K.stalls room.old)
+        (outside B.database B.faults B.clock B.reads H.files H.faults S.left S.faults K.written K.faults K.stalls room.new) }
     ensures heard { KeepsScript (heard_by A1.heard A2.heard A3.heard A4.heard net.old) (heard_by A1.heard A2.heard A3.heard A4.heard net.new)
-        (outside B.database B.faults H.files H.faults S.left S.faults K.written K.faults K.stalls room.old)
-        (outside B.database B.faults H.files H.faults S.left S.faults K.written K.faults K.stalls room.new) }
+        (outside B.database B.faults B.clock B.reads H.files H.faults S.left S.faults K.written K.faults K.stalls room.old)
+        (outside B.database B.faults B.clock B.reads H.files H.faults S.left S.faults K.written K.faults K.stalls room.new) }
     ensures serve { (user : User) → AllServe A1.serves A2.serves A3.serves A4.serves net.old user → AllServe A1.serves A2.serves A3.serves A4.serves net.new user }
     ensures numbers { AreNumbered A1.place A2.place A3.place A4.place net.old → AreNumbered A1.place A2.place A3.place A4.place net.new }
     ensures capacity { net.new.capacity ≡ net.old.capacity }
+    // Where the room is told, a crash leaves what it might leave before, or a database that these steps leave.
+    ensures crash { (user : User) → AllServe A1.serves A2.serves A3.serves A4.serves net.old user → TurnsLeave (quel user) net.old.capacity turns.now
+        (seen (shape A1.state A2.state A3.state A4.state net.old) (outside B.database B.faults B.clock B.reads H.files H.faults S.left S.faults K.written K.faults K.stalls room.old))
+        (B.clock room.old.base) (B.clock room.new.base) (B.left_since room.old.base) (B.left_since room.new.base) }
+    // Where each image stood for the database, after Ok each one stands for that of after.
+    ensures durable { OnOk result (StaysDurable
+        (outside B.database B.faults B.clock B.reads H.files H.faults S.left S.faults K.written K.faults K.stalls room.old)
+        (outside B.database B.faults B.clock B.reads H.files H.faults S.left S.faults K.written K.faults K.stalls room.new) (B.left_since room.old.base) (B.left_since room.new.base)) }
 {
     for k in turns {
         net_step(alloc, net, room, *k)?;

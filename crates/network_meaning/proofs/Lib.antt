@@ -5,6 +5,7 @@ pub mod First
 pub mod Frames
 pub mod FramesExample
 pub mod Front
+pub mod HasShape
 pub mod Keeps
 pub mod Lowering
 pub mod LoweringFirst
@@ -14,6 +15,7 @@ pub mod Progress
 pub mod Refines
 pub mod Runs
 pub mod Second
+pub mod ShapeKeeps
 pub mod StatementsStages
 pub mod StatementsExample
 pub mod StatementsFirst

@@ -1,29 +1,20 @@
 -- The equation over the steps of a list.
-use Rattle.std.proofs.Common.{◌≡◌, ℕ, ◌+◌, ◌<◌, Bool, List, [], ◌∷◌, ◌++◌, length, take, get_or, Some, None, refl, sym, subst, ◌∙◌}
+use Rattle.std.proofs.Common.{ℕ, ◌+◌, ◌<◌, Bool, List, [], ◌∷◌, ◌++◌, length, take, get_or, refl, sym, subst, ◌∙◌}
 use Rattle.std.proofs.lemmas.List.{take_more}
-use Rattle.std.specs.declared.option.Option.{Option}
 use Rattle.network_meaning.specs.Sorts.{Sorts}
 use Rattle.network_meaning.specs.Language.{Language}
 use Rattle.network_meaning.specs.Laws.{Laws}
-use Rattle.network_meaning.specs.LocalSteps.{Room}
 use Rattle.network_meaning.specs.MessageNetwork.{StageNumber}
-use Rattle.network_meaning.specs.Network.{Orderly, NetworkStep, StepsUnlessBlocked}
-use Rattle.network_meaning.specs.Calls.{Tells, TellsAfter, join, Seen, Moves, stage_number, RunsTurns, KeptNow, KeepsAll}
+use Rattle.network_meaning.specs.Network.{StepsUnlessBlocked}
+use Rattle.network_meaning.specs.Calls.{join, Seen, Moves, MovesIn, stage_number, RunsTurns, KeptNow, KeepsAll}
 use Rattle.network_meaning.proofs.Whole.{Kept, equation}
-
-one_step : {S : Sorts} (L : Language S) (laws : Laws L) (capacity : ℕ) (k : StageNumber) (blocked : Bool) (old new : Seen S) (told : Option (Room S)) (r room room' : Room S) →
-    told ≡ Some r → Tells told room → TellsAfter told new.told room' → Orderly L (join old.shape r) →
-    NetworkStep L capacity k (join old.shape room) (join new.shape room') → KeptNow L r old new
-one_step L laws capacity k blocked old new None r room room' e t ta o st = cc
-one_step {S} L laws capacity k blocked old new (Some x) r room room' e t ta o st =
-    let same : r ≡ room = (let f : x ≡ r = cc in sym f ∙ t) in
-    let kept : Kept L (join old.shape r) (join new.shape room') = equation L laws capacity k (join old.shape r) (join new.shape room') o (rw same st) in
-    record { room = room'; told = ta; orderly = kept.orderly; same = kept.same }
 
 pub moves_keeps : {S : Sorts} (L : Language S) (laws : Laws L) (capacity : ℕ) (k : StageNumber) (blocked : Bool) (old new : Seen S) → Moves L capacity k blocked old new → KeepsAll L old new
 moves_keeps {S} L laws capacity k blocked old new m r e o =
-    one_step L laws capacity k blocked old new old.told r m.room m.room' e m.tells m.tells_after o
-    (subst (λ b. StepsUnlessBlocked L k (join old.shape m.room) (join new.shape m.room') b) (sym m.is) m.step)
+    let x : MovesIn L k blocked old new r = m.exact r e in
+    let kept : Kept L (join old.shape r) (join new.shape x.room') =
+    equation L laws capacity k (join old.shape r) (join new.shape x.room') o (subst (λ b. StepsUnlessBlocked L k (join old.shape r) (join new.shape x.room') b) (sym (m.is r)) x.step) in
+    record { room = x.room'; told = x.told; orderly = kept.orderly; same = kept.same }
 
 pub runs_keeps : {S : Sorts} (L : Language S) (laws : Laws L) (capacity : ℕ) (ks : List ℕ) (old new : Seen S) → RunsTurns L capacity ks old new → KeepsAll L old new
 runs_keeps {S} L laws capacity [] old new e r t o = rw e (record { room = r; told = t; orderly = o; same = refl })

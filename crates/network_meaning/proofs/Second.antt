@@ -18,7 +18,7 @@ use Rattle.network_meaning.proofs.Keeps.{Keeps, taken, worked}
 use Rattle.network_meaning.proofs.Due.{reply_anywhere, end_anywhere, said_due, passed_due, due_before}
 use Rattle.network_meaning.proofs.Printing.{opens_end, opens_reply, say_more}
 
-abbrev with : {S : Sorts} → Front S → List (Said S) → S.Ranges → Front S
+abbrev pub with : {S : Sorts} → Front S → List (Said S) → S.Ranges → Front S
 with w more ranges = record { monitor = w.monitor; open_head = w.open_head; prints = w.prints; coming = w.coming ++ more; ranges = ranges }
 
 -- a reply that is spelled, with the line that stage 2 sets

@@ -1,13 +1,12 @@
 -- The statements that are finished over the steps of a list.
-use Rattle.std.proofs.Common.{◌≡◌, ℕ, Bool, List, [], ◌∷◌, Some, None, refl, sym, subst, ◌∙◌}
-use Rattle.std.specs.declared.option.Option.{Option}
+use Rattle.std.proofs.Common.{◌≡◌, ℕ, Bool, List, [], ◌∷◌, Some, refl, sym, subst}
 use Rattle.network_meaning.specs.Sorts.{Sorts}
 use Rattle.network_meaning.specs.Language.{Language}
 use Rattle.network_meaning.specs.Laws.{Laws}
 use Rattle.network_meaning.specs.LocalSteps.{Room}
 use Rattle.network_meaning.specs.MessageNetwork.{StageNumber}
 use Rattle.network_meaning.specs.Network.{Orderly, NetworkStep, StepsUnlessBlocked}
-use Rattle.network_meaning.specs.Calls.{Tells, TellsAfter, join, Seen, Moves, stage_number, RunsTurns}
+use Rattle.network_meaning.specs.Calls.{join, Seen, Moves, MovesIn, stage_number, RunsTurns}
 use Rattle.network_meaning.specs.Statements.{FinishedNow, FinishesInOrder}
 use Rattle.network_meaning.proofs.Whole.{Kept, equation}
 use Rattle.network_meaning.proofs.StatementsWhole.{finishes, front_of, fronts}
@@ -17,23 +16,15 @@ record Stepped {S : Sorts} (L : Language S) (r : Room S) (old new : Seen S) : Ty
   pub now : FinishedNow L r old new
   pub orderly : Orderly L (join new.shape now.room)
 
-one_step : {S : Sorts} (L : Language S) (laws : Laws L) (capacity : ℕ) (k : StageNumber) (old new : Seen S) (told : Option (Room S)) (r room room' : Room S) →
-    told ≡ Some r → Tells told room → TellsAfter told new.told room' → Orderly L (join old.shape r) →
-    NetworkStep L capacity k (join old.shape room) (join new.shape room') → Stepped L r old new
-one_step L laws capacity k old new None r room room' e t ta o st = cc
-one_step {S} L laws capacity k old new (Some x) r room room' e t ta o st =
-    let same : r ≡ room = (let f : x ≡ r = cc in sym f ∙ t) in
-    let st' : NetworkStep L capacity k (join old.shape r) (join new.shape room') = rw same st in
-    let kept : Kept L (join old.shape r) (join new.shape room') = equation L laws capacity k (join old.shape r) (join new.shape room') o st' in
-    record {
-      now = record { room = room'; told = ta; front = front_of L _ _ (finishes L laws capacity k (join old.shape r) (join new.shape room') o st') };
-      orderly = kept.orderly;
-    }
-
 moves_finish : {S : Sorts} (L : Language S) (laws : Laws L) (capacity : ℕ) (k : StageNumber) (blocked : Bool) (old new : Seen S) (r : Room S) → Moves L capacity k blocked old new → old.told ≡ Some r → Orderly L (join old.shape r) → Stepped L r old new
 moves_finish L laws capacity k blocked old new r m e o =
-    one_step L laws capacity k old new old.told r m.room m.room' e m.tells m.tells_after o
-    (subst (λ b. StepsUnlessBlocked L k (join old.shape m.room) (join new.shape m.room') b) (sym m.is) m.step)
+    let x : MovesIn L k blocked old new r = m.exact r e in
+    let st : NetworkStep L capacity k (join old.shape r) (join new.shape x.room') = subst (λ b. StepsUnlessBlocked L k (join old.shape r) (join new.shape x.room') b) (sym (m.is r)) x.step in
+    let kept : Kept L (join old.shape r) (join new.shape x.room') = equation L laws capacity k (join old.shape r) (join new.shape x.room') o st in
+    record {
+      now = record { room = x.room'; told = x.told; front = front_of L _ _ (finishes L laws capacity k (join old.shape r) (join new.shape x.room') o st) };
+      orderly = kept.orderly;
+    }
 
 pub runs_finish : {S : Sorts} (L : Language S) (laws : Laws L) (capacity : ℕ) (ks : List ℕ) (old new : Seen S) → RunsTurns L capacity ks old new → FinishesInOrder L old new
 runs_finish {S} L laws capacity [] old new e r t o = rw e (record { room = r; told = t; front = record { finished = []; left = refl; database = refl } })

@@ -3,7 +3,7 @@ use Rattle.std.proofs.Common.{◌≡◌, inl, inr, ℕ, Bool, true, false, List,
 use Rattle.network_meaning.specs.Sorts.{Sorts, Finished}
 use Rattle.network_meaning.specs.Language.{Language}
 use Rattle.network_meaning.specs.Laws.{Laws}
-use Rattle.network_meaning.specs.LocalSteps.{Mode.reading, Mode.waiting, Mode.printing, Mode.idle2}
+use Rattle.network_meaning.specs.LocalSteps.{Works, Mode.reading, Mode.waiting, Mode.printing, Mode.idle2}
 use Rattle.network_meaning.specs.MessageNetwork.{MessageNetwork, StageNumber}
 use Rattle.network_meaning.specs.Orderly.{Phase, spread, Phase.reads, Phase.closes, Phase.sends, Phase.away, Phase.quits_a, Phase.quits_b, Phase.quits_c, Phase.over}
 use Rattle.network_meaning.specs.Network.{Network, put_between, NetworkStep, StepsUnlessBlocked, Shows, as_messages, Orderly}
@@ -24,7 +24,7 @@ finishes_by {S} L laws k n n' o next =
 
 finishes_or : {S : Sorts} (L : Language S) (laws : Laws L) (k : StageNumber) (n n' : Network S) (blocked : Bool) → Orderly L n → StepsUnlessBlocked L k n n' blocked → Finishes L (as_messages L n) (as_messages L n')
 finishes_or L laws k n n' true o e = rw e (none L _ _ refl refl)
-finishes_or L laws k n n' false o (s', g, e) = rw e (finishes_by L laws k n (put_between n k s') o (any_next L k n o.phase s' o.shows o.spelled g))
+finishes_or L laws k n n' false o (s', g, e) = rw e (finishes_by L laws k n (put_between n k s') o (any_next (Works L) L k n o.phase s' o.shows o.spelled g))
 
 pub finishes : {S : Sorts} (L : Language S) (laws : Laws L) (capacity : ℕ) (k : StageNumber) (n n' : Network S) → Orderly L n → NetworkStep L capacity k n n' → Finishes L (as_messages L n) (as_messages L n')
 finishes L laws capacity k n n' o h = finishes_or L laws k n n' _ o h

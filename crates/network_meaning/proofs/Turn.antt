@@ -19,7 +19,7 @@ said_back : {S : Sorts} (ss : List (Said S)) (ms : List (Message S)) (n : ℕ) �
 said_back [] ms n = refl
 said_back (s ∷ ss) ms n = said_back ss ms n
 
-shown_left : {S : Sorts} (ss : List (Shown S)) (ms : List (Message S)) (n : ℕ) → carriers carries_left (map (λ s. said (shown s)) ss ++ ms) n ≡ carriers carries_left ms n
+pub shown_left : {S : Sorts} (ss : List (Shown S)) (ms : List (Message S)) (n : ℕ) → carriers carries_left (map (λ s. said (shown s)) ss ++ ms) n ≡ carriers carries_left ms n
 shown_left [] ms n = refl
 shown_left (s ∷ ss) ms n = shown_left ss ms n
 

@@ -5,15 +5,15 @@ use Rattle.network_meaning.specs.Sorts.{Sorts, Message}
 use Rattle.network_meaning.specs.Language.{Language}
 use Rattle.network_meaning.specs.Frames.{spell, AllMore, whole, is_more}
 use Rattle.network_meaning.specs.Laws.{Laws}
-use Rattle.network_meaning.specs.LocalSteps.{Want, Room, want_of}
+use Rattle.network_meaning.specs.LocalSteps.{Mode, Act, Want, Works, Room, want_of}
 use Rattle.network_meaning.specs.Lawful.{FitWork}
 use Rattle.network_meaning.specs.LocalSteps.{Want.take_left, Want.take_right, Want.give_left, Want.give_right, Want.work, Want.none}
-use Rattle.network_meaning.specs.MessageNetwork.{MessageNetwork, Beside, beside, put, MessageStep, StageNumber, StageNumber.first, StageNumber.second, StageNumber.third, StageNumber.fourth}
+use Rattle.network_meaning.specs.MessageNetwork.{MessageNetwork, Beside, beside, put, MessageStepBy, StageNumber, StageNumber.first, StageNumber.second, StageNumber.third, StageNumber.fourth}
 use Rattle.network_meaning.specs.Held.{total}
 use Rattle.network_meaning.specs.Due.{IsDue}
 use Rattle.network_meaning.specs.Spelled.{EachSpelled, IsSpelled}
 use Rattle.network_meaning.specs.Orderly.{Phase, spread, FitPhase, RoutedPhase, Phase.reads, Phase.closes, Phase.sends, Phase.away, Phase.quits_a, Phase.quits_b, Phase.quits_c, Phase.over}
-use Rattle.network_meaning.specs.Network.{LocalState, Network, Between, between, put_between, Steps, want, NetworkStep, StepsUnlessBlocked, Shows, gather, and_then, as_messages, Orderly, bytes_in_all, HasTakenLeft, HasTakenRight, FrameFromLeft, FrameFromRight, FrameToLeft, FrameToRight}
+use Rattle.network_meaning.specs.Network.{LocalState, Network, Between, between, put_between, StepsBy, want, NetworkStep, StepsUnlessBlocked, Shows, gather, and_then, as_messages, Orderly, bytes_in_all, HasTakenLeft, HasTakenRight, FrameFromLeft, FrameFromRight, FrameToLeft, FrameToRight}
 use Rattle.network_meaning.specs.WorkLeft.{Work, WorkLaws, weight, gifts, cost, frames_in, work_left, Lowers}
 use Rattle.network_meaning.proofs.Frames.{IsCut, is_cut, whole_frames}
 use Rattle.network_meaning.proofs.LoweringFirst.{step_lowers}
@@ -74,39 +74,42 @@ right_to_left : {S : Sorts} (s s' : Between S) (out : List Frame) → FrameToLef
 right_to_left s s' [] g = absurd g
 right_to_left s s' (f ∷ fs) e = record { pipe = ap (λ x. x.right_out) e; got = ap (λ x. x.stage.got_right) e }
 
-left_by_mode : {S : Sorts} (L : Language S) (s s' : Between S) (w : Want) → s.left_in ≡ [] → s.stage.out_left ≡ [] → Steps L s w s' → LeftEdge s s'
-left_by_mode L s s' take_left e1 e2 g = absurd (rw e1 at g)
-left_by_mode L s s' take_right e1 e2 g = left_from_right L s s' s.right_in g
-left_by_mode L s s' give_left e1 e2 g = absurd (rw e2 at g)
-left_by_mode L s s' give_right e1 e2 g = left_to_right s s' s.stage.out_right g
-left_by_mode L s s' work e1 e2 (act, room', w, e) = record { pipe = ap (λ x. x.left_out) e; got = ap (λ x. x.stage.got_left) e }
-left_by_mode L s s' none e1 e2 g = absurd g
+left_by_mode : {S : Sorts} (W : Mode S → Room S → Act S → Room S → Type 0) (L : Language S) (s s' : Between S) (w : Want) → s.left_in ≡ [] → s.stage.out_left ≡ [] → StepsBy W L s w s' → LeftEdge s s'
+left_by_mode W L s s' take_left e1 e2 g = absurd (rw e1 at g)
+left_by_mode W L s s' take_right e1 e2 g = left_from_right L s s' s.right_in g
+left_by_mode W L s s' give_left e1 e2 g = absurd (rw e2 at g)
+left_by_mode W L s s' give_right e1 e2 g = left_to_right s s' s.stage.out_right g
+left_by_mode W L s s' work e1 e2 (act, room', w, e) = record { pipe = ap (λ x. x.left_out) e; got = ap (λ x. x.stage.got_left) e }
+left_by_mode W L s s' none e1 e2 g = absurd g
 
-right_by_mode : {S : Sorts} (L : Language S) (s s' : Between S) (w : Want) → s.right_in ≡ [] → s.stage.out_right ≡ [] → Steps L s w s' → RightEdge s s'
-right_by_mode L s s' take_left e1 e2 g = right_from_left L s s' s.left_in g
-right_by_mode L s s' take_right e1 e2 g = absurd (rw e1 at g)
-right_by_mode L s s' give_left e1 e2 g = right_to_left s s' s.stage.out_left g
-right_by_mode L s s' give_right e1 e2 g = absurd (rw e2 at g)
-right_by_mode L s s' work e1 e2 (act, room', w, e) = record { pipe = ap (λ x. x.right_out) e; got = ap (λ x. x.stage.got_right) e }
-right_by_mode L s s' none e1 e2 g = absurd g
+right_by_mode : {S : Sorts} (W : Mode S → Room S → Act S → Room S → Type 0) (L : Language S) (s s' : Between S) (w : Want) → s.right_in ≡ [] → s.stage.out_right ≡ [] → StepsBy W L s w s' → RightEdge s s'
+right_by_mode W L s s' take_left e1 e2 g = right_from_left L s s' s.left_in g
+right_by_mode W L s s' take_right e1 e2 g = absurd (rw e1 at g)
+right_by_mode W L s s' give_left e1 e2 g = right_to_left s s' s.stage.out_left g
+right_by_mode W L s s' give_right e1 e2 g = absurd (rw e2 at g)
+right_by_mode W L s s' work e1 e2 (act, room', w, e) = record { pipe = ap (λ x. x.right_out) e; got = ap (λ x. x.stage.got_right) e }
+right_by_mode W L s s' none e1 e2 g = absurd g
 
 -- a step of frames is a step of messages, and the stage has done what it does at its mode, with nothing to give before
-abbrev pub Moved : {S : Sorts} → Language S → StageNumber → MessageNetwork S → Network S → Network S → MessageNetwork S → Type 0
-Moved L k v n n' now =
-    MessageStep L k v now × (1 + (frames_in n' + 2 * gifts L k v) ≤ frames_in n + (2 * gifts L k now + cost (want_of (beside v k).mode))) × (want (between n k).stage ≡ want_of (beside v k).mode)
+abbrev pub Moved : {S : Sorts} → (Mode S → Room S → Act S → Room S → Type 0) → Language S → StageNumber → MessageNetwork S → Network S → Network S → MessageNetwork S → Type 0
+Moved W L k v n n' now =
+    MessageStepBy W L k v now × (1 + (frames_in n' + 2 * gifts L k v) ≤ frames_in n + (2 * gifts L k now + cost (want_of (beside v k).mode))) × (want (between n k).stage ≡ want_of (beside v k).mode)
 
-pub record Next {S : Sorts} (L : Language S) (k : StageNumber) (v : MessageNetwork S) (n n' : Network S) : Type 0 where
+pub record NextBy {S : Sorts} (W : Mode S → Room S → Act S → Room S → Type 0) (L : Language S) (k : StageNumber) (v : MessageNetwork S) (n n' : Network S) : Type 0 where
   pub now : MessageNetwork S
   pub shows : Shows L n' now
-  pub step : ((now ≡ v) × (1 + frames_in n' ≤ frames_in n)) ⊎ Moved L k v n n' now
+  pub step : ((now ≡ v) × (1 + frames_in n' ≤ frames_in n)) ⊎ Moved W L k v n n' now
+
+abbrev pub Next : {S : Sorts} → Language S → StageNumber → MessageNetwork S → Network S → Network S → Type 0
+Next L k v n n' = NextBy (Works L) L k v n n'
 
 first_fits : {S : Sorts} (L : Language S) (n : Network S) (v : MessageNetwork S) → Shows L n v → IsSpelled L v → v.first_left ≡ [] → Fits L (between n first) (beside v first) [] [] n.two.out_left n.two.got_left
 first_fits L n v h sp e = record { mode = h.one; room = h.room; left_in = rw h.first_got refl; left_out = h.first_left; right_in = h.f; right_out = h.a; more_left = rw h.first_got tt; more_right = h.more_one; spelled_left = tt; spelled_right = sp.f }
 
-first_next : {S : Sorts} (L : Language S) (n : Network S) (v : MessageNetwork S) (s' : Between S) → Shows L n v → IsSpelled L v → v.first_left ≡ [] → Steps L (between n first) (want (between n first).stage) s' → Next L first v n (put_between n first s')
-first_next {S} L n v s' h sp e g =
-    let edge : LeftEdge (between n first) s' = left_by_mode L (between n first) s' (want (between n first).stage) refl (rw e at h.first_left) g in
-    go (refines L (between n first) s' (beside v first) [] [] n.two.out_left n.two.got_left (first_fits L n v h sp e) g) edge
+first_next : {S : Sorts} (W : Mode S → Room S → Act S → Room S → Type 0) (L : Language S) (n : Network S) (v : MessageNetwork S) (s' : Between S) → Shows L n v → IsSpelled L v → v.first_left ≡ [] → StepsBy W L (between n first) (want (between n first).stage) s' → NextBy W L first v n (put_between n first s')
+first_next {S} W L n v s' h sp e g =
+    let edge : LeftEdge (between n first) s' = left_by_mode W L (between n first) s' (want (between n first).stage) refl (rw e at h.first_left) g in
+    go (refines W L (between n first) s' (beside v first) [] [] n.two.out_left n.two.got_left (first_fits L n v h sp e) g) edge
   where
     shown : (t : Beside S) → Fits L s' t [] [] n.two.out_left n.two.got_left → LeftEdge (between n first) s' → Shows L (put_between n first s') (put v first t)
     shown t f edge = record {
@@ -133,13 +136,13 @@ first_next {S} L n v s' h sp e g =
       more_four = h.more_four;
     }
 
-    go : Follows L (between n first) s' (beside v first) [] [] n.two.out_left n.two.got_left → LeftEdge (between n first) s' → Next L first v n (put_between n first s')
+    go : Follows W L (between n first) s' (beside v first) [] [] n.two.out_left n.two.got_left → LeftEdge (between n first) s' → NextBy W L first v n (put_between n first s')
     go (stays f fewer) edge = record { now = v; shows = shown (beside v first) f edge; step = inl (refl, omega arith) }
     go (moves t wants m f fewer) edge = record { now = put v first t; shows = shown t f edge; step = inr ((t, m, refl), omega arith, wants) }
 
-second_next : {S : Sorts} (L : Language S) (n : Network S) (v : MessageNetwork S) (s' : Between S) → Shows L n v → IsSpelled L v → Steps L (between n second) (want (between n second).stage) s' → Next L second v n (put_between n second s')
-second_next {S} L n v s' h sp g =
-    go (refines L (between n second) s' (beside v second) n.one.out_right n.one.got_right n.three.out_left n.three.got_left
+second_next : {S : Sorts} (W : Mode S → Room S → Act S → Room S → Type 0) (L : Language S) (n : Network S) (v : MessageNetwork S) (s' : Between S) → Shows L n v → IsSpelled L v → StepsBy W L (between n second) (want (between n second).stage) s' → NextBy W L second v n (put_between n second s')
+second_next {S} W L n v s' h sp g =
+    go (refines W L (between n second) s' (beside v second) n.one.out_right n.one.got_right n.three.out_left n.three.got_left
     (record { mode = h.two; room = h.room; left_in = h.a; left_out = h.f; right_in = h.e; right_out = h.b; more_left = h.more_two_left; more_right = h.more_two_right; spelled_left = sp.a; spelled_right = sp.e }) g)
   where
     shown : (t : Beside S) → Fits L s' t n.one.out_right n.one.got_right n.three.out_left n.three.got_left → Shows L (put_between n second s') (put v second t)
@@ -167,13 +170,13 @@ second_next {S} L n v s' h sp g =
       more_four = h.more_four;
     }
 
-    go : Follows L (between n second) s' (beside v second) n.one.out_right n.one.got_right n.three.out_left n.three.got_left → Next L second v n (put_between n second s')
+    go : Follows W L (between n second) s' (beside v second) n.one.out_right n.one.got_right n.three.out_left n.three.got_left → NextBy W L second v n (put_between n second s')
     go (stays f fewer) = record { now = v; shows = shown (beside v second) f; step = inl (refl, omega arith) }
     go (moves t wants m f fewer) = record { now = put v second t; shows = shown t f; step = inr ((t, m, refl), omega arith, wants) }
 
-third_next : {S : Sorts} (L : Language S) (n : Network S) (v : MessageNetwork S) (s' : Between S) → Shows L n v → IsSpelled L v → Steps L (between n third) (want (between n third).stage) s' → Next L third v n (put_between n third s')
-third_next {S} L n v s' h sp g =
-    go (refines L (between n third) s' (beside v third) n.two.out_right n.two.got_right n.four.out_left n.four.got_left
+third_next : {S : Sorts} (W : Mode S → Room S → Act S → Room S → Type 0) (L : Language S) (n : Network S) (v : MessageNetwork S) (s' : Between S) → Shows L n v → IsSpelled L v → StepsBy W L (between n third) (want (between n third).stage) s' → NextBy W L third v n (put_between n third s')
+third_next {S} W L n v s' h sp g =
+    go (refines W L (between n third) s' (beside v third) n.two.out_right n.two.got_right n.four.out_left n.four.got_left
     (record { mode = h.three; room = h.room; left_in = h.b; left_out = h.e; right_in = h.d; right_out = h.c; more_left = h.more_three_left; more_right = h.more_three_right; spelled_left = sp.b; spelled_right = sp.d }) g)
   where
     shown : (t : Beside S) → Fits L s' t n.two.out_right n.two.got_right n.four.out_left n.four.got_left → Shows L (put_between n third s') (put v third t)
@@ -201,14 +204,14 @@ third_next {S} L n v s' h sp g =
       more_four = h.more_four;
     }
 
-    go : Follows L (between n third) s' (beside v third) n.two.out_right n.two.got_right n.four.out_left n.four.got_left → Next L third v n (put_between n third s')
+    go : Follows W L (between n third) s' (beside v third) n.two.out_right n.two.got_right n.four.out_left n.four.got_left → NextBy W L third v n (put_between n third s')
     go (stays f fewer) = record { now = v; shows = shown (beside v third) f; step = inl (refl, omega arith) }
     go (moves t wants m f fewer) = record { now = put v third t; shows = shown t f; step = inr ((t, m, refl), omega arith, wants) }
 
-fourth_next : {S : Sorts} (L : Language S) (n : Network S) (v : MessageNetwork S) (s' : Between S) → Shows L n v → IsSpelled L v → v.last_right ≡ [] → Steps L (between n fourth) (want (between n fourth).stage) s' → Next L fourth v n (put_between n fourth s')
-fourth_next {S} L n v s' h sp e g =
-    let edge : RightEdge (between n fourth) s' = right_by_mode L (between n fourth) s' (want (between n fourth).stage) refl (rw e at h.last_right) g in
-    go (refines L (between n fourth) s' (beside v fourth) n.three.out_right n.three.got_right [] []
+fourth_next : {S : Sorts} (W : Mode S → Room S → Act S → Room S → Type 0) (L : Language S) (n : Network S) (v : MessageNetwork S) (s' : Between S) → Shows L n v → IsSpelled L v → v.last_right ≡ [] → StepsBy W L (between n fourth) (want (between n fourth).stage) s' → NextBy W L fourth v n (put_between n fourth s')
+fourth_next {S} W L n v s' h sp e g =
+    let edge : RightEdge (between n fourth) s' = right_by_mode W L (between n fourth) s' (want (between n fourth).stage) refl (rw e at h.last_right) g in
+    go (refines W L (between n fourth) s' (beside v fourth) n.three.out_right n.three.got_right [] []
     (record { mode = h.four; room = h.room; left_in = h.c; left_out = h.d; right_in = rw h.last_got refl; right_out = h.last_right; more_left = h.more_four; more_right = rw h.last_got tt; spelled_left = sp.c; spelled_right = tt }) g) edge
   where
     shown : (t : Beside S) → Fits L s' t n.three.out_right n.three.got_right [] [] → RightEdge (between n fourth) s' → Shows L (put_between n fourth s') (put v fourth t)
@@ -236,7 +239,7 @@ fourth_next {S} L n v s' h sp e g =
       more_four = f.more_left;
     }
 
-    go : Follows L (between n fourth) s' (beside v fourth) n.three.out_right n.three.got_right [] [] → RightEdge (between n fourth) s' → Next L fourth v n (put_between n fourth s')
+    go : Follows W L (between n fourth) s' (beside v fourth) n.three.out_right n.three.got_right [] [] → RightEdge (between n fourth) s' → NextBy W L fourth v n (put_between n fourth s')
     go (stays f fewer) edge = record { now = v; shows = shown (beside v fourth) f edge; step = inl (refl, omega arith) }
     go (moves t wants m f fewer) edge = record { now = put v fourth t; shows = shown t f edge; step = inr ((t, m, refl), omega arith, wants) }
 
@@ -270,11 +273,11 @@ room_spread quits_b room = refl
 room_spread quits_c room = refl
 room_spread over room = refl
 
-pub any_next : {S : Sorts} (L : Language S) (k : StageNumber) (n : Network S) (p : Phase S) (s' : Between S) → Shows L n (spread p n.room) → IsSpelled L (spread p n.room) → Steps L (between n k) (want (between n k).stage) s' → Next L k (spread p n.room) n (put_between n k s')
-any_next L first n p s' h sp g = first_next L n (spread p n.room) s' h sp (no_first_left p n.room) g
-any_next L second n p s' h sp g = second_next L n (spread p n.room) s' h sp g
-any_next L third n p s' h sp g = third_next L n (spread p n.room) s' h sp g
-any_next L fourth n p s' h sp g = fourth_next L n (spread p n.room) s' h sp (no_last_right p n.room) g
+pub any_next : {S : Sorts} (W : Mode S → Room S → Act S → Room S → Type 0) (L : Language S) (k : StageNumber) (n : Network S) (p : Phase S) (s' : Between S) → Shows L n (spread p n.room) → IsSpelled L (spread p n.room) → StepsBy W L (between n k) (want (between n k).stage) s' → NextBy W L k (spread p n.room) n (put_between n k s')
+any_next W L first n p s' h sp g = first_next W L n (spread p n.room) s' h sp (no_first_left p n.room) g
+any_next W L second n p s' h sp g = second_next W L n (spread p n.room) s' h sp g
+any_next W L third n p s' h sp g = third_next W L n (spread p n.room) s' h sp g
+any_next W L fourth n p s' h sp g = fourth_next W L n (spread p n.room) s' h sp (no_last_right p n.room) g
 
 pub record Kept {S : Sorts} (L : Language S) (n n' : Network S) : Type 0 where
   pub orderly : Orderly L n'
@@ -302,7 +305,7 @@ abbrev pub FitAt : {S : Sorts} → Language S → StageNumber → Network S → 
 FitAt L k n v = want (between n k).stage ≡ want_of (beside v k).mode → FitWork L (beside v k).mode v.room.db
 
 placed_by : {S : Sorts} (L : Language S) (laws : Laws L) (k : StageNumber) (n n' : Network S) (o : Placed L n) (now : MessageNetwork S) → FitAt L k n (spread o.phase n.room) → Shows L n' now →
-    (((now ≡ spread o.phase n.room) × (1 + frames_in n' ≤ frames_in n)) ⊎ Moved L k (spread o.phase n.room) n n' now) → PlacedNext L n n' o
+    (((now ≡ spread o.phase n.room) × (1 + frames_in n' ≤ frames_in n)) ⊎ Moved (Works L) L k (spread o.phase n.room) n n' now) → PlacedNext L n n' o
 placed_by L laws k n n' o now fit h (inl (e, fewer)) =
     let h' : Shows L n' (spread o.phase n.room) = subst (λ v. Shows L n' v) e h in
     let er : n.room ≡ n'.room = sym (room_spread o.phase n.room) ∙ h'.room in
@@ -340,7 +343,7 @@ kept_by {S} L laws k n n' o next =
 kept_or : {S : Sorts} (L : Language S) (laws : Laws L) (k : StageNumber) (n n' : Network S) (blocked : Bool) → Orderly L n → StepsUnlessBlocked L k n n' blocked → Kept L n n'
 kept_or L laws k n n' true o e = rw e (record { orderly = o; same = refl })
 kept_or L laws k n n' false o (s', g, e) =
-    let next : Next L k (spread o.phase n.room) n (put_between n k s') = any_next L k n o.phase s' o.shows o.spelled g in
+    let next : Next L k (spread o.phase n.room) n (put_between n k s') = any_next (Works L) L k n o.phase s' o.shows o.spelled g in
     rw e (kept_by L laws k n (put_between n k s') o next)
 
 -- the equation: each step of each stage leaves an orderly network orderly, and the bytes in all the same
@@ -361,12 +364,12 @@ lower_by : {S : Sorts} (L : Language S) (laws : Laws L) (W : Work L) (wl : WorkL
 lower_by L laws W wl k n n' o next =
     below_along _ _ _ _ (frames_in n') (frames_in n) (ap (weight L W) (shown_view L n' next.now next.shows (next_spelled L laws k n n' o next))) (ap (weight L W) (shown_view L n (spread o.phase n.room) o.shows o.spelled)) (go next.step)
   where
-    go : (((next.now ≡ spread o.phase n.room) × (1 + frames_in n' ≤ frames_in n)) ⊎ Moved L k (spread o.phase n.room) n n' next.now) → weight L W next.now + frames_in n' < weight L W (spread o.phase n.room) + frames_in n
+    go : (((next.now ≡ spread o.phase n.room) × (1 + frames_in n' ≤ frames_in n)) ⊎ Moved (Works L) L k (spread o.phase n.room) n n' next.now) → weight L W next.now + frames_in n' < weight L W (spread o.phase n.room) + frames_in n
     go (inl (e, fewer)) = rw e (omega arith)
     go (inr (st, fewer, wants)) = let low : Lowers L W k (spread o.phase n.room) next.now = step_lowers L laws W wl o.phase n.room k next.now o.fits st in omega arith
 
 -- each step that isn't blocked lowers the work that is left
 pub lowers : {S : Sorts} (L : Language S) (laws : Laws L) (W : Work L) (wl : WorkLaws L W) (k : StageNumber) (n n' : Network S) (o : Orderly L n) → StepsUnlessBlocked L k n n' false → work_left L W n' < work_left L W n
 lowers {S} L laws W wl k n n' o (s', g, e) =
-    let next : Next L k (spread o.phase n.room) n (put_between n k s') = any_next L k n o.phase s' o.shows o.spelled g in
+    let next : Next L k (spread o.phase n.room) n (put_between n k s') = any_next (Works L) L k n o.phase s' o.shows o.spelled g in
     rw e (lower_by L laws W wl k n (put_between n k s') o next)

@@ -4,22 +4,23 @@ use Rattle.frame_codec.specs.declared.frame.Frame.{Frame}
 use Rattle.network_meaning.specs.Sorts.{Sorts}
 use Rattle.network_meaning.specs.Language.{Language}
 use Rattle.network_meaning.specs.Laws.{Laws}
-use Rattle.network_meaning.specs.LocalSteps.{Mode, Room, want_of}
-use Rattle.network_meaning.specs.LocalSteps.{Mode.printing, Mode.working3, Mode.working4}
-use Rattle.network_meaning.specs.MessageNetwork.{MessageNetwork, beside, StageNumber, StageNumber.first, StageNumber.second, StageNumber.third, StageNumber.fourth}
+use Rattle.network_meaning.specs.LocalSteps.{Room}
+use Rattle.network_meaning.specs.MessageNetwork.{MessageNetwork, StageNumber}
 use Rattle.network_meaning.specs.Due.{IsDue}
 use Rattle.network_meaning.specs.Spelled.{IsSpelled}
 use Rattle.network_meaning.specs.Orderly.{Phase, spread, Phase.reads, Phase.closes, Phase.sends, Phase.away, Phase.quits_a, Phase.quits_b, Phase.quits_c, Phase.over}
-use Rattle.network_meaning.specs.Network.{Network, Between, between, put_between, want, StepsUnlessBlocked, Shows, Orderly, as_messages}
-use Rattle.network_meaning.specs.Lawful.{FitWork, Lawful, comes}
+use Rattle.network_meaning.specs.Network.{Network, between, put_between, StepsUnlessBlockedBy, Shows, Orderly, as_messages}
+use Rattle.network_meaning.specs.Lawful.{Lawful, comes}
 use Rattle.network_meaning.specs.Going.{SomeGoes, AllEnded}
 use Rattle.network_meaning.specs.Turn.{turns}
-use Rattle.network_meaning.specs.Calls.{Shape, join, Seen, FitWant, FitStep, Moves, stage_number, RunsTurns}
+use Rattle.network_meaning.specs.Calls.{Shape, join, Seen, Moves, stage_number, RunsTurns}
 use Rattle.network_meaning.specs.OrderlyShape.{shape_of, OrderlyShape}
+use Rattle.network_meaning.specs.WorkShape.{WorksInShape}
 use Rattle.network_meaning.proofs.NothingUnlawful.{lawful_at}
 use Rattle.network_meaning.proofs.Progress.{progress}
 use Rattle.network_meaning.proofs.Turn.{phase_turns}
-use Rattle.network_meaning.proofs.Whole.{Placed, PlacedNext, FitAt, placed_of, placed_next, any_next, Next, room_spread, shown_view}
+use Rattle.network_meaning.proofs.ShapeKeeps.{shape_placed}
+use Rattle.network_meaning.proofs.Whole.{Placed, NextBy, placed_of, any_next, shown_view}
 
 -- the messages with another room
 abbrev with_room : {S : Sorts} → MessageNetwork S → Room S → MessageNetwork S
@@ -100,51 +101,24 @@ in_room {S} L shape room o =
       shows = subst (λ (v : MessageNetwork S). Shows L (join shape room) v) e (shows_with L shape o.room room (spread o.phase o.room) o.shows);
     }
 
-shape_placed : {S : Sorts} (L : Language S) (n : Network S) → Placed L n → OrderlyShape L (shape_of n)
-shape_placed L n p = record { phase = p.phase; room = n.room; routed = p.routed; due = p.due; spelled = p.spelled; shows = p.shows }
+shape_of_placed : {S : Sorts} (L : Language S) (n : Network S) → Placed L n → OrderlyShape L (shape_of n)
+shape_of_placed L n p = record { phase = p.phase; room = n.room; routed = p.routed; due = p.due; spelled = p.spelled; shows = p.shows }
 
 -- the shape of an orderly network is orderly
 pub orderly_shape : {S : Sorts} (L : Language S) (n : Network S) → Orderly L n → OrderlyShape L (shape_of n)
-orderly_shape L n o = shape_placed L n (placed_of L n o)
+orderly_shape L n o = shape_of_placed L n (placed_of L n o)
 
--- the mode that is shown is that of the stage
-mode_shown : {S : Sorts} (L : Language S) (n : Network S) (v : MessageNetwork S) (k : StageNumber) → Shows L n v → (beside v k).mode ≡ (between n k).stage.mode
-mode_shown L n v first h = h.one
-mode_shown L n v second h = h.two
-mode_shown L n v third h = h.three
-mode_shown L n v fourth h = h.four
+-- a step in which work has its shape leads from a network that stands by its phase to one that does
+placed_step : {S : Sorts} (L : Language S) (laws : Laws L) (k : StageNumber) (blocked : Bool) (n n' : Network S) → Placed L n → StepsUnlessBlockedBy (WorksInShape L) L k n n' blocked → Placed L n'
+placed_step {S} L laws k true n n' p e = subst (λ (x : Network S). Placed L x) (sym e) p
+placed_step {S} L laws k false n n' p (s', g, e) =
+    let next : NextBy (WorksInShape L) L k (spread p.phase n.room) n (put_between n k s') = any_next (WorksInShape L) L k n p.phase s' p.shows p.spelled g in
+    subst (λ (x : Network S). Placed L x) (sym e) (shape_placed L laws k n (put_between n k s') p next)
 
--- at a mode that is no work nothing has to be fit
-fit_at_mode : {S : Sorts} (L : Language S) (s : Between S) (mode : Mode S) → mode ≡ s.stage.mode → FitWant L s (want_of mode) → FitWork L mode s.room.db
-fit_at_mode {S} L s (printing m o x) e h = subst (λ (mode : Mode S). FitWork L mode s.room.db) (sym e) h
-fit_at_mode {S} L s (working3 t) e h = subst (λ (mode : Mode S). FitWork L mode s.room.db) (sym e) h
-fit_at_mode {S} L s (working4 x) e h = subst (λ (mode : Mode S). FitWork L mode s.room.db) (sym e) h
-fit_at_mode L s _ e h = tt
-
-between_room : {S : Sorts} (n : Network S) (k : StageNumber) → (between n k).room ≡ n.room
-between_room n first = refl
-between_room n second = refl
-between_room n third = refl
-between_room n fourth = refl
-
-fit_at : {S : Sorts} (L : Language S) (n : Network S) (k : StageNumber) (p : Placed L n) → FitWant L (between n k) (want (between n k).stage) → FitAt L k n (spread p.phase n.room)
-fit_at {S} L n k p fit wants =
-    let v : MessageNetwork S = spread p.phase n.room in
-    let h : FitWork L (beside v k).mode (between n k).room.db = fit_at_mode L (between n k) (beside v k).mode (mode_shown L n v k p.shows) (subst (FitWant L (between n k)) wants fit) in
-    subst (λ (room : Room S). FitWork L (beside v k).mode room.db) (between_room n k ∙ sym (room_spread p.phase n.room)) h
-
--- a step that works on what is fit leads from a network that stands by its phase to one that does
-placed_step : {S : Sorts} (L : Language S) (laws : Laws L) (k : StageNumber) (blocked : Bool) (n n' : Network S) → Placed L n → FitStep L k n blocked → StepsUnlessBlocked L k n n' blocked → Placed L n'
-placed_step {S} L laws k true n n' p fit e = subst (λ (x : Network S). Placed L x) (sym e) p
-placed_step {S} L laws k false n n' p fit (s', g, e) =
-    let next : Next L k (spread p.phase n.room) n (put_between n k s') = any_next L k n p.phase s' p.shows p.spelled g in
-    let kept : PlacedNext L n (put_between n k s') p = placed_next L laws k n (put_between n k s') p (fit_at L n k p fit) next in
-    subst (λ (x : Network S). Placed L x) (sym e) kept.now
-
--- a step keeps the shape orderly, whatever the rooms are
+-- a step keeps the shape orderly, whatever the room is
 pub moves_shape : {S : Sorts} (L : Language S) (laws : Laws L) (capacity : ℕ) (k : StageNumber) (blocked : Bool) (old new : Seen S) → OrderlyShape L old.shape → Moves L capacity k blocked old new → OrderlyShape L new.shape
 moves_shape L laws capacity k blocked old new o m =
-    shape_placed L (join new.shape m.room') (placed_step L laws k blocked (join old.shape m.room) (join new.shape m.room') (in_room L old.shape m.room o) m.fit m.step)
+    shape_of_placed L (join new.shape o.room) (placed_step L laws k blocked (join old.shape o.room) (join new.shape o.room) (in_room L old.shape o.room o) (m.shape o.room))
 
 pub runs_shape : {S : Sorts} (L : Language S) (laws : Laws L) (capacity : ℕ) (ks : List ℕ) (old new : Seen S) → OrderlyShape L old.shape → RunsTurns L capacity ks old new → OrderlyShape L new.shape
 runs_shape L laws capacity [] old new o e = rw e o

@@ -1,25 +1,16 @@
 -- The words of the contracts of the stages and the network.
-use Rattle.std.specs.Prelude.{◌≡◌, ◌==◌, if◌then◌else◌, ℕ, Bool, true, false, List, [], ◌∷◌, Some, None, ⊤}
+use Rattle.std.specs.Prelude.{◌≡◌, ◌==◌, if◌then◌else◌, ℕ, Bool, true, false, List, [], ◌∷◌, Some, ⊤}
 use Rattle.std.specs.declared.option.Option.{Option}
 use Rattle.frame_codec.specs.declared.frame.Frame.{Frame}
 use Rattle.network_meaning.specs.Sorts.{Sorts}
 use Rattle.network_meaning.specs.Language.{Language}
 use Rattle.network_meaning.specs.Frames.{is_more}
-use Rattle.network_meaning.specs.LocalSteps.{Want, Act, Works, Room}
+use Rattle.network_meaning.specs.LocalSteps.{Mode, Want, Act, Works, Room}
 use Rattle.network_meaning.specs.LocalSteps.{Want.take_left, Want.take_right, Want.give_left, Want.give_right, Want.work}
 use Rattle.network_meaning.specs.MessageNetwork.{StageNumber, StageNumber.first, StageNumber.second, StageNumber.third, StageNumber.fourth}
-use Rattle.network_meaning.specs.Network.{LocalState, Between, Network, between, want, done_act, HasTakenLeft, HasTakenRight, is_stuck, StepsUnlessBlocked, Orderly, bytes_in_all}
+use Rattle.network_meaning.specs.Network.{LocalState, Between, Network, between, want, done_act, HasTakenLeft, HasTakenRight, is_stuck, StepsUnlessBlocked, StepsUnlessBlockedBy, Orderly, bytes_in_all}
 use Rattle.network_meaning.specs.Lawful.{FitWork}
-
--- a room that is told is this one
-abbrev pub Tells : {S : Sorts} → Option (Room S) → Room S → Type 0
-Tells None r = ⊤
-Tells (Some x) r = x ≡ r
-
--- what was told is told again
-abbrev pub TellsAfter : {S : Sorts} → Option (Room S) → Option (Room S) → Room S → Type 0
-TellsAfter None after r = Tells after r
-TellsAfter (Some x) after r = after ≡ Some r
+use Rattle.network_meaning.specs.WorkShape.{WorkShape, WorksInShape}
 
 -- a stage that wants to take from this side has taken a frame
 abbrev pub TakenAs : {S : Sorts} → Language S → LocalState S → Frame → Want → LocalState S → Type 0
@@ -51,16 +42,19 @@ GivenAs s f _ s' = ⊥
 abbrev pub Given : {S : Sorts} → LocalState S → Frame → LocalState S → Type 0
 Given s f s' = GivenAs s f (want s) s'
 
--- a stage has worked, on some room that agrees with what is told, and for which what it worked on is fit
+-- the act is the network's in this room: what was worked on is fit, and the room is told again, as the work leaves it
+pub record WorkedIn {S : Sorts} (L : Language S) (mode : Mode S) (act : Act S) (room : Room S) (told' : Option (Room S)) : Type 0 where
+  pub room' : Room S
+  pub told : told' ≡ Some room'
+  pub fit : FitWork L mode room.db
+  pub works : Works L mode room act room'
+
+-- a stage has worked: whatever is told, its act has the shape of such a piece of work, and where the room is told, it is the network's act there
 pub record WorkDone {S : Sorts} (L : Language S) (s s' : LocalState S) (told told' : Option (Room S)) : Type 0 where
   pub act : Act S
-  pub room : Room S
-  pub room' : Room S
-  pub tells : Tells told room
-  pub tells_after : TellsAfter told told' room'
-  pub fit : FitWork L s.mode room.db
-  pub works : Works L s.mode room act room'
   pub is : s' ≡ done_act L s act s.got_left s.got_right
+  pub shape : WorkShape L s.mode act
+  pub exact : (room : Room S) → told ≡ Some room → WorkedIn L s.mode act room told'
 
 -- the network but for the room
 pub record Shape (S : Sorts) : Type 0 where
@@ -94,15 +88,18 @@ abbrev pub FitStep : {S : Sorts} → Language S → StageNumber → Network S �
 FitStep L k n true = ⊤
 FitStep L k n false = FitWant L (between n k) (want (between n k).stage)
 
--- step k was blocked or not, and did what a step of the network does, on what is fit
-pub record Moves {S : Sorts} (L : Language S) (capacity : ℕ) (k : StageNumber) (blocked : Bool) (old new : Seen S) : Type 0 where
-  pub room : Room S
+-- step k was one of the network in this room, on what is fit, and the room is told again, as the step leaves it
+pub record MovesIn {S : Sorts} (L : Language S) (k : StageNumber) (blocked : Bool) (old new : Seen S) (room : Room S) : Type 0 where
   pub room' : Room S
-  pub tells : Tells old.told room
-  pub tells_after : TellsAfter old.told new.told room'
-  pub is : is_stuck capacity k (join old.shape room) ≡ blocked
+  pub told : new.told ≡ Some room'
   pub fit : FitStep L k (join old.shape room) blocked
   pub step : StepsUnlessBlocked L k (join old.shape room) (join new.shape room') blocked
+
+-- step k was blocked or not. Whatever the room is, the stage took, gave, or did work of its shape; and where the room is told, this was a step of the network there
+pub record Moves {S : Sorts} (L : Language S) (capacity : ℕ) (k : StageNumber) (blocked : Bool) (old new : Seen S) : Type 0 where
+  pub is : (room : Room S) → is_stuck capacity k (join old.shape room) ≡ blocked
+  pub shape : (room : Room S) → StepsUnlessBlockedBy (WorksInShape L) L k (join old.shape room) (join new.shape room) blocked
+  pub exact : (room : Room S) → old.told ≡ Some room → MovesIn L k blocked old new room
 
 -- the stage with this number, 1 to 4
 abbrev pub stage_number : ℕ → StageNumber

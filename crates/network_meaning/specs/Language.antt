@@ -4,7 +4,7 @@ use Rattle.std.specs.declared.option.Option.{Option}
 use Rattle.network_meaning.specs.Sorts.{Sorts, Message, Table, Outcome, Meaning, Next, Event, Read, After, Finished, Kind}
 use Rattle.network_meaning.specs.Sorts.{Outcome.tables, Outcome.made, Outcome.refuses, Meaning.names, Meaning.objects, Meaning.runs, Next.no_more, Next.bad, Next.found, Event.goes_on, Event.sends, Event.leaves}
 
--- what a language means and how it is spelled: statements, batches, scripts, trees, changes, printed bytes, the bytes of a message, and the message that bytes of a kind are read as
+-- what a language means and how it is spelled: statements, batches, scripts, trees and the heads of what they ask for, changes, printed bytes, the bytes of a message, and the message that bytes of a kind are read as
 pub record Language (S : Sorts) : Type 1 where
   pub meaning : S.Db → S.Shelf → S.Ranges → S.Statement → Meaning S
   pub lined : ℕ → S.Refusal → S.Refusal
@@ -12,6 +12,7 @@ pub record Language (S : Sorts) : Type 1 where
   pub start : S.Text → S.Batch
   pub read : S.Monitor → S.Script → S.Shelf → Read S
   pub kind : S.Tree → Kind
+  pub heads : S.Tree → List S.Head
   pub outcome : S.Tree → S.Db → S.Shelf → Outcome S
   pub Fits : S.Tree → S.Db → Type 0
   pub laid : S.Change → S.Db → S.Db
@@ -45,6 +46,11 @@ abbrev pub reply_bytes : {S : Sorts} → Language S → ℕ → Outcome S → Li
 reply_bytes L line (tables ts) = tables_bytes L ts
 reply_bytes L line (made db shelf) = L.done_bytes
 reply_bytes L line (refuses r) = L.refusal_bytes (L.lined line r)
+
+-- the heads of these tables
+abbrev pub tops : {S : Sorts} → List (Table S) → List S.Head
+tops [] = []
+tops (t ∷ ts) = t.top ∷ tops ts
 
 -- the database behind an outcome
 abbrev pub db_after : {S : Sorts} → S.Db → Outcome S → S.Db

@@ -2,7 +2,7 @@
 use Rattle.std.specs.Prelude.{◌≡◌, ◌<◌, ℕ, true, false, List, [], ◌∷◌, map, length, Some, ⊤}
 use Rattle.network_meaning.specs.Sorts.{Sorts, Message, Table, Outcome.tables, Outcome.refuses, Meaning.objects, Next.bad, Event.sends}
 use Rattle.network_meaning.specs.Sorts.{Cargo.tree, Cargo.change, Reply.done, Reply.refused, Said.shown, Said.replied, Message.text, Message.cargo, Message.said, Message.end, Message.quit}
-use Rattle.network_meaning.specs.Language.{Language, Stand, after_next, after_event, statements_after_next, statements_after_event}
+use Rattle.network_meaning.specs.Language.{Language, Stand, tops, after_next, after_event, statements_after_next, statements_after_event}
 use Rattle.network_meaning.specs.Frames.{may_be_cut}
 use Rattle.network_meaning.specs.LocalSteps.{all_shown}
 use Rattle.network_meaning.specs.Spelled.{Spelled, EachSpelled, IsLine}
@@ -25,6 +25,8 @@ pub record Laws {S : Sorts} (L : Language S) : Type 0 where
   pub script_list : (db : S.Db) (shelf : S.Shelf) (ranges : S.Ranges) (m : S.Monitor) (script : S.Script) → L.script_statements db shelf ranges m script ≡ (let got = L.read m script shelf in statements_after_event L db ranges got got.event)
   pub batch_places : (db : S.Db) (shelf : S.Shelf) (ranges : S.Ranges) (b : S.Batch) → Stand (L.batch_runs db shelf ranges b).bytes (L.batch_statements db shelf ranges b)
   pub script_places : (db : S.Db) (shelf : S.Shelf) (ranges : S.Ranges) (m : S.Monitor) (script : S.Script) → Stand (L.script_bytes db shelf ranges m script) (L.script_statements db shelf ranges m script)
+  -- the tables of a tree have the heads that it asks for, whatever the database is
+  pub heads : (t : S.Tree) (db : S.Db) (shelf : S.Shelf) (ts : List (Table S)) → L.outcome t db shelf ≡ tables ts → tops ts ≡ L.heads t
   -- the rows of what a fit tree asks for fit the head of their table
   pub rows : (t : S.Tree) (db : S.Db) (shelf : S.Shelf) (ts : List (Table S)) → L.Fits t db → L.outcome t db shelf ≡ tables ts → TablesFit L ts
   -- what the stages give is spelled: a batch that the monitor sends

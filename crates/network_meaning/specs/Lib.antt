@@ -17,5 +17,6 @@ pub mod Spelled
 pub mod Statements
 pub mod Tiny
 pub mod WorkLeft
+pub mod WorkShape
 pub mod TinyLaws
 pub mod Turn

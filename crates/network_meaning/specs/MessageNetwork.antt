@@ -53,12 +53,16 @@ abbrev pub TakesRight : {S : Sorts} → Language S → Beside S → List (Messag
 TakesRight L s [] s' = ⊥
 TakesRight {S} L s (m ∷ ms) s' = (act : Act S) × (takes L s.mode m ≡ Some act) × (s' ≡ acted s act s.left_in ms s.room)
 
+-- the stage takes or works, as it wants, where this is what a piece of work does
+abbrev pub MovesBy : {S : Sorts} → (Mode S → Room S → Act S → Room S → Type 0) → Language S → Beside S → Want → Beside S → Type 0
+MovesBy W L s take_left s' = TakesLeft L s s.left_in s'
+MovesBy W L s take_right s' = TakesRight L s s.right_in s'
+MovesBy {S} W L s work s' = (act : Act S) × (room' : Room S) × W s.mode s.room act room' × (s' ≡ acted s act s.left_in s.right_in room')
+MovesBy W L s _ s' = ⊥
+
 -- the stage takes or works, as it wants
 abbrev pub Moves : {S : Sorts} → Language S → Beside S → Want → Beside S → Type 0
-Moves L s take_left s' = TakesLeft L s s.left_in s'
-Moves L s take_right s' = TakesRight L s s.right_in s'
-Moves {S} L s work s' = (act : Act S) × (room' : Room S) × Works L s.mode s.room act room' × (s' ≡ acted s act s.left_in s.right_in room')
-Moves L s _ s' = ⊥
+Moves L s w s' = MovesBy (Works L) L s w s'
 
 -- the four stages: monitor, parser, processor, utilities
 pub data StageNumber : Type 0 where
@@ -81,6 +85,10 @@ put v second s = record { one = v.one; two = s.mode; three = v.three; four = v.f
 put v third s = record { one = v.one; two = v.two; three = s.mode; four = v.four; a = v.a; b = s.left_in; c = s.right_out; d = s.right_in; e = s.left_out; f = v.f; first_left = v.first_left; last_right = v.last_right; room = s.room }
 put v fourth s = record { one = v.one; two = v.two; three = v.three; four = s.mode; a = v.a; b = v.b; c = s.left_in; d = s.left_out; e = v.e; f = v.f; first_left = v.first_left; last_right = s.right_out; room = s.room }
 
--- stage k takes a whole message or works. To give changes nothing here
+-- stage k takes a whole message or works, where this is what a piece of work does. To give changes nothing here
+abbrev pub MessageStepBy : {S : Sorts} → (Mode S → Room S → Act S → Room S → Type 0) → Language S → StageNumber → MessageNetwork S → MessageNetwork S → Type 0
+MessageStepBy {S} W L k v v' = (s' : Beside S) × MovesBy W L (beside v k) (want_of (beside v k).mode) s' × (v' ≡ put v k s')
+
+-- stage k takes a whole message or works
 abbrev pub MessageStep : {S : Sorts} → Language S → StageNumber → MessageNetwork S → MessageNetwork S → Type 0
-MessageStep {S} L k v v' = (s' : Beside S) × Moves L (beside v k) (want_of (beside v k).mode) s' × (v' ≡ put v k s')
+MessageStep L k v v' = MessageStepBy (Works L) L k v v'

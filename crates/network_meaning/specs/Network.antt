@@ -99,15 +99,19 @@ FrameToRight s (f ∷ fs) s' =
       room = s.room;
     }
 
+-- one step of a stage that isn't blocked, by what it wants, where this is what a piece of work does
+abbrev pub StepsBy : {S : Sorts} → (Mode S → Room S → Act S → Room S → Type 0) → Language S → Between S → Want → Between S → Type 0
+StepsBy W L s take_left s' = FrameFromLeft L s s.left_in s'
+StepsBy W L s take_right s' = FrameFromRight L s s.right_in s'
+StepsBy W L s give_left s' = FrameToLeft s s.stage.out_left s'
+StepsBy W L s give_right s' = FrameToRight s s.stage.out_right s'
+StepsBy {S} W L s work s' = (act : Act S) × (room' : Room S) × W s.stage.mode s.room act room' ×
+    (s' ≡ record { stage = done_act L s.stage act s.stage.got_left s.stage.got_right; left_in = s.left_in; left_out = s.left_out; right_out = s.right_out; right_in = s.right_in; room = room' })
+StepsBy W L s none s' = ⊥
+
 -- one step of a stage that isn't blocked, by what it wants
 abbrev pub Steps : {S : Sorts} → Language S → Between S → Want → Between S → Type 0
-Steps L s take_left s' = FrameFromLeft L s s.left_in s'
-Steps L s take_right s' = FrameFromRight L s s.right_in s'
-Steps L s give_left s' = FrameToLeft s s.stage.out_left s'
-Steps L s give_right s' = FrameToRight s s.stage.out_right s'
-Steps {S} L s work s' = (act : Act S) × (room' : Room S) × Works L s.stage.mode s.room act room' ×
-    (s' ≡ record { stage = done_act L s.stage act s.stage.got_left s.stage.got_right; left_in = s.left_in; left_out = s.left_out; right_out = s.right_out; right_in = s.right_in; room = room' })
-Steps L s none s' = ⊥
+Steps L s w s' = StepsBy (Works L) L s w s'
 
 -- nothing is in the pipe
 abbrev pub is_empty : {F : Type 0} → List F → Bool
@@ -161,10 +165,14 @@ put_between n second s = record { one = n.one; two = s.stage; three = n.three; f
 put_between n third s = record { one = n.one; two = n.two; three = s.stage; four = n.four; a = n.a; b = s.left_in; c = s.right_out; d = s.right_in; e = s.left_out; f = n.f; room = s.room }
 put_between n fourth s = record { one = n.one; two = n.two; three = n.three; four = s.stage; a = n.a; b = n.b; c = s.left_in; d = s.left_out; e = n.e; f = n.f; room = s.room }
 
+-- step(k), where this is what a piece of work does: nothing changes where stage k is blocked
+abbrev pub StepsUnlessBlockedBy : {S : Sorts} → (Mode S → Room S → Act S → Room S → Type 0) → Language S → StageNumber → Network S → Network S → Bool → Type 0
+StepsUnlessBlockedBy W L k n n' true = n' ≡ n
+StepsUnlessBlockedBy {S} W L k n n' false = (s' : Between S) × StepsBy W L (between n k) (want (between n k).stage) s' × (n' ≡ put_between n k s')
+
 -- step(k): nothing changes where stage k is blocked
 abbrev pub StepsUnlessBlocked : {S : Sorts} → Language S → StageNumber → Network S → Network S → Bool → Type 0
-StepsUnlessBlocked L k n n' true = n' ≡ n
-StepsUnlessBlocked {S} L k n n' false = (s' : Between S) × Steps L (between n k) (want (between n k).stage) s' × (n' ≡ put_between n k s')
+StepsUnlessBlocked L k n n' blocked = StepsUnlessBlockedBy (Works L) L k n n' blocked
 
 -- stage k is blocked
 abbrev pub is_stuck : {S : Sorts} → ℕ → StageNumber → Network S → Bool

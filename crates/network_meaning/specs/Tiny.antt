@@ -41,6 +41,10 @@ tiny_ran n db shelf =
 abbrev pub tiny_kind : ℕ → Kind
 tiny_kind n = if nat_lt n 128 then update else answer
 
+-- what asks for the numbers asks for one table
+abbrev pub tiny_heads : ℕ → List One
+tiny_heads n = if n == 0 then [] else (if nat_lt n 128 then [] else one ∷ [])
+
 -- the statement of the batch, if it has one
 abbrev pub tiny_next : Option ℕ → Next tiny_sorts
 tiny_next None = no_more
@@ -131,6 +135,7 @@ tiny = record {
   start = λ x. Some x;
   read = tiny_read;
   kind = tiny_kind;
+  heads = tiny_heads;
   outcome = tiny_ran;
   Fits = λ t db. ⊤;
   laid = λ c db. db ++ c ∷ [];

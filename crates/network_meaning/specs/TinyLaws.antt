@@ -1,12 +1,12 @@
 -- The small language meets the laws.
-use Rattle.std.proofs.Common.{◌≡◌, ◌<◌, ℕ, false, List, [], ◌∷◌, ◌++◌, Some, None, refl, sym, ap, ◌∙◌, append_assoc, length, arith}
+use Rattle.std.proofs.Common.{◌≡◌, ◌<◌, ◌==◌, if◌then◌else◌, nat_lt, ℕ, Bool, true, false, List, [], ◌∷◌, ◌++◌, Some, None, refl, sym, ap, ◌∙◌, append_assoc, length, arith}
 use Rattle.std.specs.declared.option.Option.{Option}
 use Rattle.network_meaning.specs.Sorts.{Message, Cargo.tree, Cargo.change, Shown.head, Shown.row, Reply.done, Reply.refused, Said.shown, Said.replied, Message.text, Message.cargo, Message.said, Message.end, Message.quit, Table, After, Finished, Outcome, Outcome.tables, Outcome.made, Outcome.refuses}
-use Rattle.network_meaning.specs.Language.{db_after, shelf_after, Stand, after_next, after_event, statements_after_next, statements_after_event, reply_bytes, lines_of, tables_bytes}
+use Rattle.network_meaning.specs.Language.{tops, db_after, shelf_after, Stand, after_next, after_event, statements_after_next, statements_after_event, reply_bytes, lines_of, tables_bytes}
 use Rattle.network_meaning.specs.Frames.{kind_of, may_be_cut}
 use Rattle.network_meaning.specs.Spelled.{EachSpelled}
 use Rattle.network_meaning.specs.Laws.{Laws, RowsFit, TablesFit}
-use Rattle.network_meaning.specs.Tiny.{tiny, tiny_sorts, tiny_ran, tiny_batch, tiny_reply, tiny_statements, tiny_list, tiny_tables, tiny_payload, tiny_message, tiny_next, tiny_script, tiny_read, One, One.one}
+use Rattle.network_meaning.specs.Tiny.{tiny, tiny_sorts, tiny_ran, tiny_table, tiny_heads, tiny_batch, tiny_reply, tiny_statements, tiny_list, tiny_tables, tiny_payload, tiny_message, tiny_next, tiny_script, tiny_read, One, One.one}
 
 lines : (rs : List ℕ) (xs : List ℕ) → lines_of tiny one rs ++ xs ≡ rs ++ xs
 lines [] xs = refl
@@ -69,6 +69,14 @@ script_places db shelf ranges m (x ∷ xs) =
     let a = tiny_batch db shelf ranges (Some x) in
     ([], append_assoc (tiny_reply (tiny_ran x db shelf)) [] _, script_places a.db a.shelf ranges m xs)
 
+heads_law : (n : ℕ) (db : List ℕ) (shelf : One) (ts : List (Table tiny_sorts)) → tiny_ran n db shelf ≡ tables ts → tops ts ≡ tiny_heads n
+heads_law n db shelf ts e = go (n == 0) (nat_lt n 128) e
+  where
+    go : (none few : Bool) → (if none then refuses 0 else (if few then made (db ++ n ∷ []) shelf else tables (tiny_table db ∷ []))) ≡ tables ts → tops ts ≡ (if none then [] else (if few then [] else one ∷ []))
+    go true few e = cc
+    go false true e = cc
+    go false false e = let same : tiny_table db ∷ [] ≡ ts = cc in rw (← same) refl
+
 rows_fit : (h : One) (rs : List ℕ) → RowsFit tiny h rs
 rows_fit h [] = tt
 rows_fit h (r ∷ rs) = (refl, rows_fit h rs)
@@ -94,6 +102,7 @@ tiny_laws = record {
   script_list = list_law;
   batch_places = batch_places;
   script_places = script_places;
+  heads = heads_law;
   rows = λ t db shelf ts f e. tables_fit ts;
   text_spelled = λ m script shelf t e. read_law (text t);
   tree_spelled = λ t db e. read_law (cargo (tree t));

@@ -2,7 +2,7 @@
 use Rattle.std.specs.Prelude.{ℕ, suc, Bool, true, false, List, [], ◌∷◌, if◌then◌else◌}
 use Rattle.network_meaning.specs.Sorts.{Sorts, Message}
 use Rattle.network_meaning.specs.Sorts.{Said.shown, Said.replied, Message.text, Message.cargo, Message.said, Message.end, Message.quit}
-use Rattle.network_meaning.specs.LocalSteps.{Mode}
+use Rattle.network_meaning.specs.LocalSteps.{Act, Mode}
 use Rattle.network_meaning.specs.LocalSteps.{Mode.reading, Mode.waiting, Mode.printing, Mode.idle2, Mode.parsing, Mode.passing2, Mode.idle3, Mode.working3, Mode.passing3, Mode.idle4, Mode.working4, Mode.ended}
 use Rattle.network_meaning.specs.MessageNetwork.{MessageNetwork, StageNumber, StageNumber.first, StageNumber.second, StageNumber.third, StageNumber.fourth}
 
@@ -71,3 +71,19 @@ abbrev pub turns : {S : Sorts} → MessageNetwork S → ℕ
 turns v =
     also (has_turn first v.one) (also (has_turn second v.two) (also (has_turn third v.three) (also (has_turn fourth v.four)
     (carriers carries_right v.a (carriers carries_right v.b (carriers carries_right v.c (carriers carries_left v.d (carriers carries_left v.e (carriers carries_back v.f 0)))))))))
+
+-- what stage k gives to its left and carries the turn
+abbrev pub carries_from : {S : Sorts} → StageNumber → Message S → Bool
+carries_from second m = carries_back m
+carries_from _ m = carries_left m
+
+-- at how many places the turn is behind an act of stage k: at the stage, and in the messages that it gives
+abbrev pub turns_behind : {S : Sorts} → StageNumber → Act S → ℕ
+turns_behind k act = also (has_turn k act.mode) (carriers (carries_from k) act.left (carriers carries_right act.right 0))
+
+-- the stage that works at this mode
+abbrev pub worker : {S : Sorts} → Mode S → StageNumber
+worker (parsing ranges b) = second
+worker (working3 t) = third
+worker (working4 x) = fourth
+worker _ = first

@@ -16,4 +16,4 @@ pub use laws::{
 };
 pub use spoken::{Spoken, Tiny};
 pub use statements::statements_are_finished_in_order;
-pub use without_a_room::order_needs_no_room;
+pub use without_a_room::{acts_have_their_shape, order_needs_no_room};

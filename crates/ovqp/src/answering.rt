@@ -58,6 +58,7 @@ pub fn one_variable<B: Base>(
         → OnOk result (IsFalse (lacks db Free q)) }
     ensures kept { B.database base.new ≡ B.database base.old }
     ensures same { B.left base.new ≡ B.left base.old }
+    ensures asked { (b : B) → B.asked b base.old → B.asked b base.new }
     ensures cause { (q : Query) → IsQueryOf q rel.now qual.now targets.now → HasCause no_aggs q (B.database base.old) (B.faults base.old) (B.faults base.new) result }
 {
     if is_used(qual, targets, 0) {

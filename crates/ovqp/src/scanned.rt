@@ -31,6 +31,7 @@ fn put_scanned<B: Base>(
     ensures told { (db : Db) → B.database base.old ≡ Some db → OnOk result (set_of rows.new.items ≡ rows_at db key.now) }
     ensures kept { B.database base.new ≡ B.database base.old }
     ensures same { B.left base.new ≡ B.left base.old }
+    ensures asked { (b : B) → B.asked b base.old → B.asked b base.new }
     ensures cause { HasCause (B.database base.old) (B.faults base.old) (B.faults base.new) result }
 {
     let mut at = Place { page: 0, line: 0 };
@@ -49,6 +50,7 @@ pub fn rows_of<B: Base>(alloc: Global, base: &mut B, key: &RelKey) -> Result<Row
     ensures told { (db : Db) → B.database base.old ≡ Some db → IfOk result (λ set. set ≡ rows_at db key.now) }
     ensures kept { B.database base.new ≡ B.database base.old }
     ensures same { B.left base.new ≡ B.left base.old }
+    ensures asked { (b : B) → B.asked b base.old → B.asked b base.new }
     ensures cause { HasCause (B.database base.old) (B.faults base.old) (B.faults base.new) result }
 {
     let probe = Probe {

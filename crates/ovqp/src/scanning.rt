@@ -33,6 +33,7 @@ fn put_scanned<B: Base>(
         → OnOk result (Gives no_aggs q (map alone (B.left base.old rel.now first_place)) [] given.new.items) }
     ensures kept { B.database base.new ≡ B.database base.old }
     ensures same { B.left base.new ≡ B.left base.old }
+    ensures asked { (b : B) → B.asked b base.old → B.asked b base.new }
     ensures cause { (q : Query) → IsQueryOf q rel.now qual.now targets.now → HasCause q rel.now (B.database base.old) (B.faults base.old) (B.faults base.new) result }
 {
     let mut at = Place { page: 0, line: 0 };
@@ -59,6 +60,7 @@ pub(crate) fn given_by_scan<B: Base>(
         → OnOk result (IsFalse (some_lacks no_aggs q (map alone (rows_at db rel.now)))) }
     ensures kept { B.database base.new ≡ B.database base.old }
     ensures same { B.left base.new ≡ B.left base.old }
+    ensures asked { (b : B) → B.asked b base.old → B.asked b base.new }
     ensures cause { (q : Query) → IsQueryOf q rel.now qual.now targets.now → HasCause q rel.now (B.database base.old) (B.faults base.old) (B.faults base.new) result }
 {
     let probe = Probe {

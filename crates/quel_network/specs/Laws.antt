@@ -5,7 +5,7 @@ use Rattle.quel_network.specs.Sorts.{User}
 use Rattle.quel_network.specs.SessionLaws.{batch_law, batch_list_law, batch_places_law, script_law, script_list_law, script_places_law}
 use Rattle.quel_network.specs.ShortLaws.{short_law}
 use Rattle.quel_network.specs.SpellingLaws.{text_spelled_law, tree_spelled_law, change_spelled_law, outcome_spelled_law, objection_spelled_law, syntax_spelled_law, line_spelled_law, done_spelled_law, end_spelled_law, quit_spelled_law}
-use Rattle.quel_network.specs.TableLaws.{rows_law, tables_spelled_law}
+use Rattle.quel_network.specs.TableLaws.{heads_law, rows_law, tables_spelled_law}
 
 -- all that the network asks of a language, of that of each user
 pub quel_laws : (user : User) → Laws (quel user)
@@ -17,6 +17,7 @@ quel_laws user = record {
   script_list = script_list_law user;
   batch_places = batch_places_law user;
   script_places = script_places_law user;
+  heads = heads_law user;
   rows = rows_law user;
   text_spelled = λ m script shelf t e. text_spelled_law user t;
   tree_spelled = tree_spelled_law user;

@@ -8,7 +8,7 @@ use Rattle.quel_network.specs.Reading.{read}
 use Rattle.quel_network.specs.Session.{finished, after_batch_at, after_script_at}
 use Rattle.quel_network.specs.Sorts.{User, quel_sorts}
 use Rattle.quel_network.specs.Spelling.{payload_of, message_by, row_suits}
-use Rattle.quel_network.specs.Trees.{meaning_of, next_in, kind_of_tree, outcome_of_tree, IsFitTree, IsFitChange}
+use Rattle.quel_network.specs.Trees.{meaning_of, next_in, kind_of_tree, heads_of_tree, outcome_of_tree, IsFitTree, IsFitChange}
 
 -- what sessions of the user rest on
 abbrev pub setting_for : User → Setting
@@ -23,6 +23,7 @@ quel user = record {
   start = λ t. record { text = t; from = 0 };
   read = read;
   kind = kind_of_tree;
+  heads = heads_of_tree;
   outcome = outcome_of_tree user.asker;
   Fits = IsFitTree user.asker;
   laid = λ c db. laid db c;

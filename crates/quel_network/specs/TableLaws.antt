@@ -1,7 +1,7 @@
 -- The tables of a fit tree are as the network needs them: rows suit their heads, and all of it is spelled.
 use Rattle.std.specs.Prelude.{◌≡◌, ℕ, zero, suc, Bool, true, false, List, [], ◌∷◌, ◌++◌, length, map, Result, Ok, Err}
 use Rattle.std.specs.List.{list_all}
-use Rattle.std.proofs.Common.{subst}
+use Rattle.std.proofs.Common.{ap, refl, subst}
 use Rattle.std.proofs.lemmas.Bool.{and_parts}
 use Rattle.calculus.specs.declared.change.DbChange.{DbChange}
 use Rattle.calculus.specs.declared.query.RelKey.{RelKey}
@@ -16,6 +16,7 @@ use Rattle.calculus.specs.declared.request.CopyCol.{CopyCol}
 use Rattle.calculus.specs.declared.request.Utility.{Utility}
 use Rattle.calculus.specs.declared.request.Utility.TheVariants as utility
 use Rattle.calculus.specs.Database.{Db}
+use Rattle.calculus.specs.QueryParts.{targets_of}
 use Rattle.calculus.specs.Replacement.{updated}
 use Rattle.calculus.specs.Rows.{Row}
 use Rattle.calculus.specs.Spelled.{query_is_spelled}
@@ -27,13 +28,14 @@ use Rattle.quel_meaning.specs.FitQueries.{kept_alone, asked_fits}
 use Rattle.quel_meaning.specs.Meaning.{change_effect, numbered_effect, file_effect, copy_effect, utility_effect, tree_meaning}
 use Rattle.quel_meaning.specs.Planned.{planned}
 use Rattle.quel_meaning.specs.SpelledTree.{tree_is_spelled}
-use Rattle.quel_meaning.specs.Tables.{table_of, some_query_lacks}
+use Rattle.quel_meaning.specs.Tables.{column_of, table_of, some_query_lacks}
 use Rattle.quel_meaning.proofs.Each.{Each, in_map, each_passes}
 use Rattle.quel_meaning.proofs.FitMade.{both_hold}
 use Rattle.quel_tree.specs.Message.{most_tree_levels}
 use Rattle.quel_tree.specs.Requests.{asked as asked_codec, checked as checked_codec}
 use Rattle.tree_words.specs.Codec.{Codec}
 use Rattle.tree_words.specs.Words.{ItemsFit, list}
+use Rattle.network_meaning.specs.Language.{tops}
 use Rattle.network_meaning.specs.Laws.{RowsFit, TablesFit}
 use Rattle.network_meaning.specs.LocalSteps.{all_shown}
 use Rattle.network_meaning.specs.Sorts.{Table, Outcome.tables, Shown, Said.shown, Message, Message.said}
@@ -42,7 +44,7 @@ use Rattle.quel_network.specs.Quel.{quel}
 use Rattle.quel_network.specs.Sorts.{User, quel_sorts}
 use Rattle.quel_network.specs.SpellingLaws.{head_spelled_law, row_spelled_law}
 use Rattle.quel_network.specs.TableFits.{RowStands, TableStands, asked_stands}
-use Rattle.quel_network.specs.Trees.{sent_table, outcome_by, outcome_of_tree, IsFitTree}
+use Rattle.quel_network.specs.Trees.{sent_table, heads_of_tree, outcome_by, outcome_of_tree, IsFitTree}
 
 -- ---- only queries show tables
 
@@ -130,6 +132,31 @@ tables_stand asker (checked.Update u) db shelf ts fit e =
 tables_stand asker (checked.Utility work) db shelf ts fit e =
     let effect = utility_effect db shelf asker.user work in
     absurd (no_tables effect.db effect.shelf effect.reply ts (utility_shows_none db shelf asker.user work) e)
+
+-- ---- the heads are those of the tree
+
+heads_are : (db : Db) (asked : List Asked) → tops {S = quel_sorts} (map sent_table (map (table_of db Free) asked)) ≡ map (λ a. map column_of (targets_of a.query)) asked
+unfolding table_of
+heads_are db [] = refl
+heads_are db (a ∷ asked) = ap (λ (hs : List (List Column)). map column_of (targets_of a.query) ∷ hs) (heads_are db asked)
+
+tree_heads : (asker : Asker) (t : Checked) (db : Db) (shelf : Files) (ts : List (Table quel_sorts)) → outcome_of_tree asker t db shelf ≡ tables ts → tops ts ≡ heads_of_tree t
+unfolding outcome_of_tree tree_meaning
+tree_heads asker (checked.Answer asked) db shelf ts e = go (some_query_lacks db Free asked) e
+  where
+    go : (b : Bool) → outcome_by db shelf (elim b as (λ b. Reply) [ true ↦ reply.Refused (refusal 20) | false ↦ reply.Tables (map (table_of db Free) asked) ]) ≡ tables ts → tops ts ≡ map (λ a. map column_of (targets_of a.query)) asked
+    go true e = absurd (cc e)
+    go false e = let same : map sent_table (map (table_of db Free) asked) ≡ ts = cc e in subst (λ (x : List (Table quel_sorts)). tops x ≡ map (λ a. map column_of (targets_of a.query)) asked) same (heads_are db asked)
+tree_heads asker (checked.Update u) db shelf ts e =
+    let effect = numbered_effect db shelf (updated db Free u) in
+    absurd (no_tables effect.db effect.shelf effect.reply ts (numbered_shows_none db shelf (updated db Free u)) e)
+tree_heads asker (checked.Utility work) db shelf ts e =
+    let effect = utility_effect db shelf asker.user work in
+    absurd (no_tables effect.db effect.shelf effect.reply ts (utility_shows_none db shelf asker.user work) e)
+
+pub heads_law : (user : User) (t : Checked) (db : Db) (shelf : Files) (ts : List (Table quel_sorts)) → (quel user).outcome t db shelf ≡ tables ts → tops ts ≡ (quel user).heads t
+unfolding quel
+heads_law user t db shelf ts e = tree_heads user.asker t db shelf ts e
 
 -- ---- the rows suit their heads
 

@@ -1,6 +1,7 @@
 -- What statements, trees and changes mean for the stages.
-use Rattle.std.specs.Prelude.{◌≡◌, ℕ, true, List, map, Option, Some, None, Result, Ok, Err}
+use Rattle.std.specs.Prelude.{◌≡◌, ℕ, true, List, [], map, Option, Some, None, Result, Ok, Err}
 use Rattle.calculus.specs.declared.change.DbChange.{DbChange}
+use Rattle.calculus.specs.declared.reply.Column.{Column}
 use Rattle.calculus.specs.declared.reply.Reply.{Reply}
 use Rattle.calculus.specs.declared.reply.Reply.TheVariants as reply
 use Rattle.calculus.specs.declared.reply.Table.{Table as Printed}
@@ -13,6 +14,7 @@ use Rattle.calculus.specs.Change.{IsLawful}
 use Rattle.calculus.specs.Database.{Db}
 use Rattle.calculus.specs.Finding.{found}
 use Rattle.calculus.specs.IsDatabase.{IsDatabase}
+use Rattle.calculus.specs.QueryParts.{targets_of}
 use Rattle.calculus.specs.Who.{Free, Asker, Asks}
 use Rattle.fault_io.specs.Files.{Files}
 use Rattle.network_meaning.specs.Sorts.{Table, Outcome, Meaning, Next, Kind}
@@ -23,6 +25,7 @@ use Rattle.quel_meaning.specs.Copying.{refusal}
 use Rattle.quel_meaning.specs.Fit.{is_fit}
 use Rattle.quel_meaning.specs.Meaning.{Effect, tree_meaning, ruled_tree, judged}
 use Rattle.quel_meaning.specs.Ranges.{Ranges, declared}
+use Rattle.quel_meaning.specs.Tables.{column_of}
 use Rattle.quel_tree.specs.Changes.{change}
 use Rattle.quel_tree.specs.Message.{most_tree_levels}
 use Rattle.quel_tree.specs.Requests.{checked as checked_codec}
@@ -54,6 +57,12 @@ abbrev pub kind_of_tree : Checked → Kind
 kind_of_tree (checked.Answer asked) = answer
 kind_of_tree (checked.Update u) = update
 kind_of_tree (checked.Utility work) = utility
+
+-- the heads of what a tree asks for: the columns of each query's targets
+abbrev pub heads_of_tree : Checked → List (List Column)
+heads_of_tree (checked.Answer asked) = map (λ a. map column_of (targets_of a.query)) asked
+heads_of_tree (checked.Update u) = []
+heads_of_tree (checked.Utility work) = []
 
 -- ---- what a statement means
 

@@ -54,6 +54,7 @@ fn answer_by<B: Base>(
         → OnOk result (IsFalse (some_lacks (tabled tables.items) q.now (assigned (rows_of db Free) q.now))) }
     ensures kept { B.database base.new ≡ B.database base.old }
     ensures same { B.left base.new ≡ B.left base.old }
+    ensures asked { (b : B) → B.asked b base.old → B.asked b base.new }
     ensures cause { HasAnswerCause (tabled tables.items) q.now (B.database base.old) (B.faults base.old) (B.faults base.new) result }
 {
     let set = answer(alloc, base, q, &tables);
@@ -70,6 +71,7 @@ fn settled_answer<B: Base>(alloc: Global, base: &mut B, q: &Query) -> Result<Row
     ensures none_lacks { (db : Db) → B.database base.old ≡ Some db → OnOk result (IsFalse (lacks db Free q.now)) }
     ensures kept { B.database base.new ≡ B.database base.old }
     ensures same { B.left base.new ≡ B.left base.old }
+    ensures asked { (b : B) → B.asked b base.old → B.asked b base.new }
     ensures cause { HasOneCause q.now (B.database base.old) (B.faults base.old) (B.faults base.new) result }
 {
     let tables = settle(alloc, base, q)?;
@@ -88,6 +90,7 @@ pub fn table_of<B: Base>(alloc: Global, base: &mut B, asked: &Asked) -> Result<T
     ensures none_lacks { (db : Db) → B.database base.old ≡ Some db → OnOk result (IsFalse (lacks db Free asked.now.query)) }
     ensures kept { B.database base.new ≡ B.database base.old }
     ensures same { B.left base.new ≡ B.left base.old }
+    ensures asked { (b : B) → B.asked b base.old → B.asked b base.new }
     ensures cause { HasOneCause asked.now.query (B.database base.old) (B.faults base.old) (B.faults base.new) result }
 {
     let set = settled_answer(alloc, base, &asked.query)?;
@@ -114,6 +117,7 @@ pub fn tables_of<B: Base>(
     ensures none_lacks { (db : Db) → B.database base.old ≡ Some db → OnOk result (IsFalse (some_query_lacks db Free asked.now)) }
     ensures kept { B.database base.new ≡ B.database base.old }
     ensures same { B.left base.new ≡ B.left base.old }
+    ensures asked { (b : B) → B.asked b base.old → B.asked b base.new }
     ensures cause { HasCause asked.now (B.database base.old) (B.faults base.old) (B.faults base.new) result }
 {
     let mut tables = Vec::new(alloc);

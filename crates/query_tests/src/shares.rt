@@ -1,7 +1,8 @@
 //! A base that tells no database, of three rows of two numbers.
 
-ghost use Rattle.std.specs.Prelude.{None, [], false};
+ghost use Rattle.std.specs.Prelude.{None, [], false, true, refl};
 ghost use Rattle.std.proofs.lemmas.Option.{none-some};
+ghost use Rattle.am_traits.specs.InMemory.{asked_in_memory};
 
 use am_traits::{Base, BaseFault};
 use calculus::{
@@ -63,6 +64,16 @@ impl Base for Shares {
 
     ghost faults = { λ _. 0 };
 
+    ghost clock = { λ _. 0 };
+
+    ghost reads = { λ _. 0 };
+
+    ghost left_since = { λ _ _ _. ⊥ };
+
+    ghost ready = { λ _. true };
+
+    ghost asked = { λ _ _. Unit {0} };
+
     ghost left = { λ _ _ _. [] };
 
     ghost lawful = { λ _ db told. absurd (none-some db told) };
@@ -70,6 +81,14 @@ impl Base for Shares {
     ghost own = { λ _ db _ told _. absurd (none-some db told) };
 
     ghost scanned = { λ _ db _ told. absurd (none-some db told) };
+
+    ghost counts_now = { λ _ _ _ _ left. left };
+
+    ghost is_ready = { λ _ _ _. refl };
+
+    ghost starts = { λ _. tt };
+
+    ghost asks = { λ _ _ _. asked_in_memory };
 
     fn dba(&mut self, _alloc: Global) -> Result<Name, BaseFault> {
         Err(BaseFault::OutOfMemory)

@@ -1,8 +1,9 @@
 //! A database in memory answers as any base does.
 
-ghost use Rattle.std.specs.Prelude.{Some, true};
+ghost use Rattle.std.specs.Prelude.{Some, true, refl};
 ghost use Rattle.calculus.specs.IsDatabase.{IsDatabase};
 ghost use Rattle.calculus.specs.Stored.{rows_at};
+ghost use Rattle.am_traits.specs.InMemory.{asked_in_memory};
 ghost use Rattle.am_traits.specs.Scans.{IsScan, first_place};
 ghost use Rattle.plain_base.specs.Places.{rows_from};
 ghost use Rattle.plain_base.specs.Shown.{database_of};
@@ -22,6 +23,16 @@ impl Base for DbPlain {
 
     ghost faults = { λ _. 0 };
 
+    ghost clock = { λ _. 0 };
+
+    ghost reads = { λ _. 0 };
+
+    ghost left_since = { λ _ _ _. ⊥ };
+
+    ghost ready = { λ _. true };
+
+    ghost asked = { λ _ _. Unit {0} };
+
     ghost left = { λ b. rows_from (database_of b) };
 
     ghost lawful = { λ b db e. of_told IsDatabase (database_of b) db e b.is };
@@ -29,6 +40,14 @@ impl Base for DbPlain {
     ghost own = { λ b db s is known. own_schema (database_of b) db s is known };
 
     ghost scanned = { λ b db key e. of_told (λ db. IsScan (rows_at db key) (rows_from (database_of b) key first_place)) (database_of b) db e (whole_scan (database_of b) key b.is) };
+
+    ghost counts_now = { λ _ _ _ _ left. left };
+
+    ghost is_ready = { λ _ _ _. refl };
+
+    ghost starts = { λ _. tt };
+
+    ghost asks = { λ _ _ _. asked_in_memory };
 
     fn dba(&mut self, alloc: Global) -> Result<Name, BaseFault> {
         Ok(self.lists.administrator().copy(alloc)?)

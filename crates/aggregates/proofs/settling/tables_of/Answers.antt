@@ -22,6 +22,7 @@ loop-agg-preserved g c = record {
       c.loop-agg-test.true c.agg-item.is (c.loop-agg.invariant.told db h) (c.in_ok-table.ensures.told db (c.loop-agg.invariant.kept ∙ h)) c.in_ok-put_behind.ensures;
   kept = c.in_ok-table.ensures.kept ∙ c.loop-agg.invariant.kept;
   same = c.in_ok-table.ensures.same ∙ c.loop-agg.invariant.same;
+  asked = λ b was. c.in_ok-table.ensures.asked b (c.loop-agg.invariant.asked b was);
   later = omega (arith, c.in_ok-table.ensures.cause.later, c.loop-agg.invariant.later);
 }
 

@@ -10,5 +10,6 @@ invariant-loop-agg g l = record {
   told : (db : Db) → g.B.Base.database l.initial.base ≡ Some db → AllStand db l.tables.items (map (λ g. g.now) (take l.agg-index l.aggs));
   kept : g.B.Base.database l.base ≡ g.B.Base.database l.initial.base;
   same : g.B.Base.left l.base ≡ g.B.Base.left l.initial.base;
+  asked : (b : _) → g.B.Base.asked b l.initial.base → g.B.Base.asked b l.base;
   later : g.B.Base.faults l.initial.base ≤ g.B.Base.faults l.base;
 }

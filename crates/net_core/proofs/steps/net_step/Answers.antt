@@ -45,3 +45,12 @@ returns-clause-lawful g c = done_disorderly _ _ _ _ _ _ _ _ _ _ _ _ _ c.step_of.
 
 pub returns-clause-part : goal.returns-clause-part
 returns-clause-part g c = c.step_of.ensures.done.failed
+
+pub returns-clause-crash : goal.returns-clause-crash
+returns-clause-crash g c = c.step_of.ensures.crash.crash
+
+pub returns-clause-durable : goal.returns-clause-durable
+returns-clause-durable g c = c.step_of.ensures.crash.durable
+
+pub returns-clause-quiet : goal.returns-clause-quiet
+returns-clause-quiet g c = c.step_of.ensures.crash.quiet

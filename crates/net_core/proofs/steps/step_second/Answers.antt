@@ -1,10 +1,14 @@
 use Rattle.std.proofs.Common.{refl, ◌∙◌}
 use Rattle.network_meaning.specs.MessageNetwork.{StageNumber.second}
+use Rattle.net_core.proofs.Crashing.{left_by_stage}
 use Rattle.net_core.proofs.Placing.{step_done, second_part}
 use Rattle.net_core.proofs.steps.step_second.Goals as goal
 
 pub returns-clause-done : goal.returns-clause-done
 returns-clause-done g c =
-    step_done c.args.net.now.capacity second _ _ _ _ _ _ _ _ _ _ _ _ _ _ _ _ _ _ c.step_stage.result c.step_stage.ensures refl (second_part _ _ _ _) (second_part _ _ _ _)
+    step_done c.args.net.now.capacity second _ _ _ _ _ _ _ _ _ _ _ _ _ _ _ _ _ _ c.step_stage.result c.step_stage.ensures.done refl (second_part _ _ _ _) (second_part _ _ _ _)
     (λ user h. h.second) (λ user x h. record { first = h.first; second = x; third = h.third; fourth = h.fourth })
     (λ e h. record { first = h.first; second = e ∙ h.second; third = h.third; fourth = h.fourth })
+
+pub returns-clause-crash : goal.returns-clause-crash
+returns-clause-crash g c = left_by_stage _ _ _ _ _ _ _ _ c.step_stage.result refl (λ user h. h.second) c.step_stage.ensures.crash

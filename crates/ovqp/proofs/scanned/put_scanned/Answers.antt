@@ -20,6 +20,7 @@ pub loop-call-preserved : goal.loop-call-preserved
 loop-call-preserved g c = record {
   kept = c.in_ok-row.ensures.kept ∙ c.loop-call.invariant.kept;
   same = c.in_ok-row.ensures.same ∙ c.loop-call.invariant.same;
+  asked = λ b was. c.in_ok-row.ensures.asked b (c.loop-call.invariant.asked b was);
   later = omega (arith, c.loop-call.invariant.later, c.in_ok-row.ensures.cause.later);
   counted = omega (arith, ap length c.in_ok-put_behind-in-Some.ensures, length-append c.loop-call.rows.items (c.in-Some.row ∷ []), c.loop-call.invariant.counted);
   so_far = λ db e.

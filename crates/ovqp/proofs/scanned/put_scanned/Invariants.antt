@@ -7,6 +7,7 @@ abbrev pub invariant-loop-call : goal.invariant-loop-call
 invariant-loop-call g l = record {
   kept : g.B.Base.database l.base ≡ g.B.Base.database l.fn.base;
   same : g.B.Base.left l.base ≡ g.B.Base.left l.fn.base;
+  asked : (b : _) → g.B.Base.asked b l.fn.base → g.B.Base.asked b l.base;
   later : g.B.Base.faults l.fn.base ≤ g.B.Base.faults l.base;
   counted : length l.rows.items ≡ l.call;
   so_far : (db : Db) → g.B.Base.database l.fn.base ≡ Some db → l.rows.items ++ g.B.Base.left l.fn.base l.key l.at ≡ g.B.Base.left l.fn.base l.key first_place;

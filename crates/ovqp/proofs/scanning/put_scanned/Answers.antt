@@ -9,6 +9,7 @@ pub loop-call-init : goal.loop-call-init
 loop-call-init g c = record {
   kept = refl;
   same = refl;
+  asked = λ b was. was;
   later = omega arith;
   so_far = λ db e q is. read_none q (g.B.Base.left c.args.base.now c.args.rel.now first_place) c.args.given.now.items c.requires.empty;
 }
@@ -26,6 +27,7 @@ pub loop-call-preserved : goal.loop-call-preserved
 loop-call-preserved g c = record {
   kept = c.in_ok-row.ensures.kept ∙ c.loop-call.invariant.kept;
   same = c.in_ok-row.ensures.same ∙ c.loop-call.invariant.same;
+  asked = λ b was. c.in_ok-row.ensures.asked b (c.loop-call.invariant.asked b was);
   later = omega (arith, c.loop-call.invariant.later, c.in_ok-row.ensures.cause.later);
   so_far = λ db e q is.
       let probe : Probe = c.args.probe.now in

@@ -9,6 +9,7 @@ abbrev pub invariant-loop-call : goal.invariant-loop-call
 invariant-loop-call g l = record {
   kept : g.B.Base.database l.base ≡ g.B.Base.database l.fn.base;
   same : g.B.Base.left l.base ≡ g.B.Base.left l.fn.base;
+  asked : (b : _) → g.B.Base.asked b l.fn.base → g.B.Base.asked b l.base;
   later : g.B.Base.faults l.fn.base ≤ g.B.Base.faults l.base;
   so_far : (db : Db) → g.B.Base.database l.fn.base ≡ Some db → (q : Query) → IsQueryOf q l.rel l.qual l.targets
       → HasRead q (g.B.Base.left l.fn.base l.rel first_place) (g.B.Base.left l.fn.base l.rel l.at) l.call l.given.items;

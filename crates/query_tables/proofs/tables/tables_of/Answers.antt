@@ -10,6 +10,7 @@ pub loop-one-init : goal.loop-one-init
 loop-one-init g c = record {
   kept = refl;
   same = refl;
+  asked = λ b was. was;
   later = omega arith;
   told = λ db e. c.new-tables.ensures.items;
   none_lacks = λ db e. none_yet db;
@@ -42,6 +43,7 @@ pub loop-one-preserved : goal.loop-one-preserved
 loop-one-preserved g c = record {
   kept = c.in_ok-table.ensures.kept ∙ c.loop-one.invariant.kept;
   same = c.in_ok-table.ensures.same ∙ c.loop-one.invariant.same;
+  asked = λ b was. c.in_ok-table.ensures.asked b (c.loop-one.invariant.asked b was);
   later = omega (arith, c.loop-one.invariant.later, c.in_ok-table.ensures.cause.later);
   told = λ db e.
       next_made (table_of db Free) c.args.asked.now c.loop-one.one-index c.one-item.result c.loop-one.tables.items c.put_behind.new.tables.items c.in_ok-table.table c.loop-one-test.true c.one-item.is
