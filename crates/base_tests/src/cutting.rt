@@ -1,36 +1,39 @@
 //! Trees cut down to what a user may see and change.
 
-use crate::made::{lay, named};
-use crate::said::{
-    Asking, OF_NUMBER, OF_PRICE, OF_ROWS, OF_VIEW, PARTS, PRICES, RELATIONS, Said, Tree, tree_of,
-};
+use crate::made::{named, tree, untold};
 use crate::shown::{digit, put, put_qual, put_query};
-use crate::untold::Untold;
-use crate::view_texts::{new_base, permit_of};
-use calculus::{Checked, Update, UpdateOp};
+use crate::view_texts::LAID;
+use calculus::{Checked, Update};
 use cut_rules::{CutFault, cut_permits};
 use std::alloc::Global;
 use std::process::Abort;
 use std::test::*;
+use test_bases::TestBase;
+
+/// What bob may do besides: delete the parts that have the number 8 and give them new values of the second
+/// attribute, and append parts that have the number 9.
+const MORE: [&[u8]; 2] = [
+    b"\x06\x03ann\x05parts\x00\x00\x00\x02\x0c\x00\x01\x01\x01\x03bob\x01\x00\x02\x00\x00\x00\x00\x00\x00\x00\x00\x00\x00\x08",
+    b"\x06\x03ann\x05parts\x00\x00\x00\x03\x02\x00\x01\x00\x01\x03bob\x01\x00\x02\x00\x00\x00\x00\x00\x00\x00\x00\x00\x00\x09",
+];
 
 /// A base that tells no database and knows `parts` and its views. ann owns all. bob may read the first two
-/// attributes of the parts that have the number 7, delete the parts that have the number 8 and give them
-/// new values of the second attribute, and append parts that have the number 9.
-fn untold<R: Abort>(rt: &R, alloc: Global) -> Untold {
-    let mut plain = new_base(rt, alloc);
-    lay(rt, alloc, &mut plain, permit_of(rt, alloc, 2, 12, &[1], 8));
-    lay(rt, alloc, &mut plain, permit_of(rt, alloc, 3, 2, &[0], 9));
-    Untold { plain }
+/// attributes of the parts that have the number 7, and what is said above.
+fn untold_parts<R: Abort>(rt: &R, alloc: Global) -> TestBase {
+    let mut base = untold(rt, alloc, &LAID);
+    let given = base.give_all(alloc, &MORE);
+    assert!(rt; given.is_ok());
+    base
 }
 
 fn cut<R: Abort>(
     rt: &R,
     alloc: Global,
-    base: &mut Untold,
+    base: &mut TestBase,
     user: &[u8],
-    tree: &Tree,
+    bytes: &[u8],
 ) -> Result<Checked, CutFault> {
-    let tree = tree_of(rt, alloc, tree);
+    let tree = tree(rt, alloc, bytes);
     let user = named(rt, alloc, user);
     let made = cut_permits(alloc, base, &user, &tree);
     drop(tree);
@@ -62,31 +65,31 @@ fn put_tree<R: Abort>(rt: &R, written: &mut Vec<u8>, tree: &Checked) {
     }
 }
 
-/// One who asks, what for, and the tree as bytes.
-type Case<'a> = (&'a [u8], Tree<'a>, &'a [u8]);
+/// One who asks, what for, and what that becomes.
+type Case<'a> = (&'a [u8], &'a [u8], &'a [u8]);
 
 /// Whether the tree becomes what is said.
-fn is_as_said<R: Abort>(rt: &R, alloc: Global, base: &mut Untold, case: &Case) -> bool {
-    let (user, tree, said) = case;
-    let made = cut(rt, alloc, base, *user, tree);
+fn is_as_said<R: Abort>(rt: &R, alloc: Global, base: &mut TestBase, case: &Case) -> bool {
+    let (user, bytes, said) = *case;
+    let made = cut(rt, alloc, base, user, bytes);
     let mut written = Vec::new(alloc);
     match &made {
         Ok(tree) => put_tree(rt, &mut written, tree),
         Err(_) => put(rt, &mut written, b"a fault"),
     }
     drop(made);
-    written.as_slice() == *said
+    written.as_slice() == said
 }
 
 /// The variable that is refused.
 fn refused<R: Abort>(
     rt: &R,
     alloc: Global,
-    base: &mut Untold,
+    base: &mut TestBase,
     user: &[u8],
-    tree: &Tree,
+    bytes: &[u8],
 ) -> Option<u8> {
-    match cut(rt, alloc, base, user, tree) {
+    match cut(rt, alloc, base, user, bytes) {
         Err(CutFault::NoPermit { var }) => Some(var),
         _ => None,
     }
@@ -94,93 +97,81 @@ fn refused<R: Abort>(
 
 /// What is asked, and what it becomes.
 const ASKED: [Case; 8] = [
+    // A number of the parts.
     (
         b"bob",
-        Tree::Asked(Asking(&[b"parts"], &[Said::Attr(0, 0)], None)),
+        b"\x00\x00\x01\x00\x01\x03ann\x05parts\x00\x01\x04pnum\x00\x01\x02\x00\x00\x00\x00\x00",
         b"parts | 0.0 | true and 0.0=7",
     ),
+    // The same, by ann.
     (
         b"ann",
-        Tree::Asked(Asking(&[b"parts"], &[Said::Attr(0, 0)], None)),
+        b"\x00\x00\x01\x00\x01\x03ann\x05parts\x00\x01\x04pnum\x00\x01\x02\x00\x00\x00\x00\x00",
         b"parts | 0.0 | true",
     ),
+    // The number of the parts.
     (
         b"bob",
-        Tree::Asked(Asking(&[b"parts"], &[Said::Agg(0, &PARTS)], None)),
+        b"\x00\x00\x01\x00\x01\x03ann\x05parts\x00\x01\x04pnum\x01\x07\x00\x00\x00\x00\x03ann\x05parts\x02\x00\x00\x00\x00\x00\x00\x00\x00\x00\x00",
         b"| count0(0.0 of parts by for where true and 0.0=7) | true",
     ),
+    // The number of the relations.
     (
         b"eve",
-        Tree::Asked(Asking(&[], &[Said::Agg(0, &RELATIONS)], None)),
+        b"\x00\x00\x01\x00\x00\x00\x01\x04pnum\x01\x07\x00\x00\x00\x00\x03ann\x08relation\x02\x00\x00\x00\x00\x00\x00\x00\x00\x00\x00",
         b"| count0(0.0 of relation by for where true) | true",
     ),
+    // The number of the rows of a query over a view.
     (
         b"bob",
-        Tree::Asked(Asking(&[], &[Said::Agg(0, &OF_ROWS)], None)),
+        b"\x00\x00\x01\x00\x00\x00\x01\x04pnum\x01\x07\x00\x00\x00\x01\x00\x01\x03ann\x07numbers\x00\x01\x04pnum\x00\x01\x02\x00\x00\x00\x02\x00\x00\x00\x00\x00\x00\x00\x00\x00\x00",
         b"| count0(0.0 of [parts | 0.0 | true and 0.1=5 and 0.0=0.0 and 0.0=7] by for where true) | true",
     ),
+    // The greatest of a view's numbers, of each number.
     (
         b"bob",
-        Tree::Asked(Asking(&[b"numbers"], &[Said::Agg(0, &OF_VIEW)], None)),
+        b"\x00\x00\x01\x00\x01\x03ann\x07numbers\x00\x01\x04pnum\x01\x07\x00\x00\x07\x00\x03ann\x07numbers\x02\x00\x00\x00\x01\x02\x00\x00\x00\x01\x02\x00\x00\x00\x00\x00\x00",
         b"parts | max0(0.0 of [parts | 0.0 | 0.1=5 and 0.0=7] by 0.0 for 0.0 where true) | true and 0.1=5 and 0.0=0.0 and 0.0=7",
     ),
+    // A number of a view of two variables, and how many parts of its number have the second attribute 5.
     (
         b"bob",
-        Tree::Asked(Asking(
-            &[b"pairs", b"parts"],
-            &[Said::Attr(0, 0), Said::Agg(0, &OF_NUMBER)],
-            None,
-        )),
+        b"\x00\x00\x01\x00\x02\x03ann\x05pairs\x03ann\x05parts\x00\x02\x04pnum\x00\x01\x02\x00\x00\x04pnum\x01\x07\x00\x00\x00\x00\x03ann\x05parts\x02\x00\x01\x00\x01\x02\x00\x00\x00\x01\x02\x01\x00\x01\x00\x02\x00\x01\x00\x00\x00\x00\x00\x00\x00\x00\x05\x00\x00\x00",
         b"parts parts parts | 1.0 count0(0.1 of parts by 0.0 for 2.0 where 0.1=5 and 0.0=7) | true and 0.0=1.0 and 1.0=1.0 and 0.1=5 and 0.0=0.0 and 0.0=7 and 1.1=5 and 1.0=1.0 and 1.0=7 and 2.0=7",
     ),
+    // Two aggregates, over a view and over a relation, where two attributes are equal.
     (
         b"bob",
-        Tree::Asked(Asking(
-            &[b"numbers", b"parts"],
-            &[Said::Agg(0, &OF_VIEW), Said::Agg(1, &OF_NUMBER)],
-            Some(((1, 1), (1, 0))),
-        )),
+        b"\x00\x00\x01\x00\x02\x03ann\x07numbers\x03ann\x05parts\x00\x02\x04pnum\x01\x07\x00\x00\x07\x00\x03ann\x07numbers\x02\x00\x00\x00\x01\x02\x00\x00\x00\x01\x02\x00\x00\x00\x04pnum\x01\x07\x00\x01\x00\x00\x03ann\x05parts\x02\x00\x01\x00\x01\x02\x00\x00\x00\x01\x02\x01\x00\x01\x00\x02\x00\x01\x00\x00\x00\x00\x00\x00\x00\x00\x05\x01\x00\x02\x01\x01\x02\x01\x00\x00\x00",
         b"parts parts | max0(0.0 of [parts | 0.0 | 0.1=5 and 0.0=7] by 0.0 for 0.0 where true) count1(0.1 of parts by 0.0 for 1.0 where 0.1=5 and 0.0=7) | 1.1=1.0 and 0.1=5 and 0.0=0.0 and 0.0=7 and 1.0=7",
     ),
 ];
 
 /// Updates of `parts`, and what they become.
 const CHANGED: [Case; 3] = [
+    // A delete.
     (
         b"bob",
-        Tree::Changed(
-            UpdateOp::Delete,
-            1,
-            &[],
-            Asking(&[b"pairs", b"parts"], &[], Some(((0, 0), (1, 0)))),
-        ),
+        b"\x01\x02\x03ann\x05parts\x01\x00\x00\x00\x02\x03ann\x05pairs\x03ann\x05parts\x00\x00\x01\x00\x02\x00\x00\x02\x01\x00\x00\x00\x00",
         b"2: parts parts parts | | 1.0=2.0 and 0.0=1.0 and 1.0=1.0 and 0.1=5 and 0.0=0.0 and 0.0=7 and 1.1=5 and 1.0=1.0 and 1.0=7 and 2.0=8 and 2.0=7; true",
     ),
+    // A replace with an aggregate over a view.
     (
         b"bob",
-        Tree::Changed(
-            UpdateOp::Replace,
-            0,
-            &[1],
-            Asking(&[b"parts"], &[Said::Agg(0, &OF_VIEW)], None),
-        ),
+        b"\x01\x01\x03ann\x05parts\x00\x00\x01\x01\x00\x01\x03ann\x05parts\x00\x01\x04pnum\x01\x07\x00\x00\x07\x00\x03ann\x07numbers\x02\x00\x00\x00\x01\x02\x00\x00\x00\x01\x02\x00\x00\x00\x00\x00\x00\x00",
         b"0: parts | max0(0.0 of [parts | 0.0 | 0.1=5 and 0.0=7] by 0.0 for 0.0 where true) | true and 0.0=8 and 0.0=7; true",
     ),
+    // An append of an aggregate.
     (
         b"bob",
-        Tree::Changed(
-            UpdateOp::Append,
-            255,
-            &[0],
-            Asking(&[], &[Said::Agg(0, &PARTS)], None),
-        ),
+        b"\x01\x00\x03ann\x05parts\xff\x00\x01\x00\x00\x00\x00\x01\x04pnum\x01\x07\x00\x00\x00\x00\x03ann\x05parts\x02\x00\x00\x00\x00\x00\x00\x00\x00\x00\x00\x00",
         b"none: | count0(0.0 of parts by for where true and 0.0=7) | true; true and 0.0=9",
     ),
 ];
 
 #[test]
 fn a_tree_is_cut_with_its_aggregates(rt: HostRuntime) {
-    let mut base = untold(&rt, rt.alloc());
+    let mut base = untold_parts(&rt, rt.alloc());
     for case in &ASKED {
         assert!(rt; is_as_said(&rt, rt.alloc(), &mut base, case));
     }
@@ -190,114 +181,89 @@ fn a_tree_is_cut_with_its_aggregates(rt: HostRuntime) {
 }
 
 /// One who asks, what for, and the variable that is refused.
-type Refusal<'a> = (&'a [u8], Tree<'a>, u8);
+type Refusal<'a> = (&'a [u8], &'a [u8], u8);
 
 /// What is refused because of a variable, or of an aggregate.
 const UNREAD: [Refusal; 6] = [
+    // A number of the parts.
     (
         b"eve",
-        Tree::Asked(Asking(&[b"parts"], &[Said::Attr(0, 0)], None)),
+        b"\x00\x00\x01\x00\x01\x03ann\x05parts\x00\x01\x04pnum\x00\x01\x02\x00\x00\x00\x00\x00",
         0,
     ),
+    // The price of the second variable.
     (
         b"bob",
-        Tree::Asked(Asking(
-            &[b"numbers", b"parts"],
-            &[Said::Attr(0, 0), Said::Attr(1, 2)],
-            None,
-        )),
+        b"\x00\x00\x01\x00\x02\x03ann\x07numbers\x03ann\x05parts\x00\x02\x04pnum\x00\x01\x02\x00\x00\x04pnum\x00\x01\x02\x01\x02\x00\x00\x00",
         1,
     ),
+    // The same, where it chooses a group.
     (
         b"bob",
-        Tree::Asked(Asking(
-            &[b"numbers", b"parts"],
-            &[Said::Attr(0, 0), Said::Agg(0, &OF_PRICE)],
-            None,
-        )),
+        b"\x00\x00\x01\x00\x02\x03ann\x07numbers\x03ann\x05parts\x00\x02\x04pnum\x00\x01\x02\x00\x00\x04pnum\x01\x07\x00\x00\x00\x00\x03ann\x05parts\x02\x00\x00\x00\x01\x02\x00\x00\x00\x01\x02\x01\x02\x00\x00\x00\x00",
         1,
     ),
+    // The greatest price.
     (
         b"bob",
-        Tree::Asked(Asking(
-            &[b"parts"],
-            &[Said::Attr(0, 0), Said::Agg(0, &PRICES)],
-            None,
-        )),
+        b"\x00\x00\x01\x00\x01\x03ann\x05parts\x00\x02\x04pnum\x00\x01\x02\x00\x00\x04pnum\x01\x07\x00\x00\x07\x00\x03ann\x05parts\x02\x00\x02\x00\x00\x00\x00\x00\x00\x00\x00",
         255,
     ),
+    // The number of the parts.
     (
         b"eve",
-        Tree::Asked(Asking(&[], &[Said::Agg(0, &PARTS)], None)),
+        b"\x00\x00\x01\x00\x00\x00\x01\x04pnum\x01\x07\x00\x00\x00\x00\x03ann\x05parts\x02\x00\x00\x00\x00\x00\x00\x00\x00\x00\x00",
         255,
     ),
+    // The number of the rows of a query over a view.
     (
         b"eve",
-        Tree::Asked(Asking(&[], &[Said::Agg(0, &OF_ROWS)], None)),
+        b"\x00\x00\x01\x00\x00\x00\x01\x04pnum\x01\x07\x00\x00\x00\x01\x00\x01\x03ann\x07numbers\x00\x01\x04pnum\x00\x01\x02\x00\x00\x00\x02\x00\x00\x00\x00\x00\x00\x00\x00\x00\x00",
         255,
     ),
 ];
 
 /// What is refused because of what is changed, or of what is read of it.
 const UNCHANGED: [Refusal; 5] = [
+    // An append of a number.
     (
         b"eve",
-        Tree::Changed(
-            UpdateOp::Append,
-            255,
-            &[0],
-            Asking(&[], &[Said::Number(9)], None),
-        ),
+        b"\x01\x00\x03ann\x05parts\xff\x00\x01\x00\x00\x00\x00\x01\x04pnum\x01\x00\x00\x00\x00\x00\x00\x00\x00\x09\x00\x00\x00\x00",
         255,
     ),
+    // An append of the second attribute.
     (
         b"bob",
-        Tree::Changed(
-            UpdateOp::Append,
-            255,
-            &[1],
-            Asking(&[], &[Said::Number(9)], None),
-        ),
+        b"\x01\x00\x03ann\x05parts\xff\x00\x01\x01\x00\x00\x00\x01\x04pnum\x01\x00\x00\x00\x00\x00\x00\x00\x00\x09\x00\x00\x00\x00",
         255,
     ),
+    // A delete.
     (
         b"eve",
-        Tree::Changed(UpdateOp::Delete, 0, &[], Asking(&[b"parts"], &[], None)),
+        b"\x01\x02\x03ann\x05parts\x00\x00\x00\x00\x01\x03ann\x05parts\x00\x00\x00\x00\x00\x00",
         0,
     ),
+    // A delete that reads the price.
     (
         b"bob",
-        Tree::Changed(
-            UpdateOp::Delete,
-            1,
-            &[],
-            Asking(&[b"numbers", b"parts"], &[], Some(((0, 0), (1, 2)))),
-        ),
+        b"\x01\x02\x03ann\x05parts\x01\x00\x00\x00\x02\x03ann\x07numbers\x03ann\x05parts\x00\x00\x01\x00\x02\x00\x00\x02\x01\x02\x00\x00\x00",
         1,
     ),
+    // A replace of the first attribute.
     (
         b"bob",
-        Tree::Changed(
-            UpdateOp::Replace,
-            1,
-            &[0],
-            Asking(
-                &[b"numbers", b"parts"],
-                &[Said::Number(9)],
-                Some(((0, 0), (1, 0))),
-            ),
-        ),
+        b"\x01\x01\x03ann\x05parts\x01\x00\x01\x00\x00\x02\x03ann\x07numbers\x03ann\x05parts\x00\x01\x04pnum\x01\x00\x00\x00\x00\x00\x00\x00\x00\x09\x01\x00\x02\x00\x00\x02\x01\x00\x00\x00\x00",
         1,
     ),
 ];
 
 #[test]
 fn what_is_not_permitted_has_its_variable(rt: HostRuntime) {
-    let mut base = untold(&rt, rt.alloc());
-    for (user, tree, var) in &UNREAD {
-        assert!(rt; refused(&rt, rt.alloc(), &mut base, *user, tree) == Some(*var));
+    let mut base = untold_parts(&rt, rt.alloc());
+    for (user, bytes, var) in &UNREAD {
+        assert!(rt; refused(&rt, rt.alloc(), &mut base, *user, *bytes) == Some(*var));
     }
-    for (user, tree, var) in &UNCHANGED {
-        assert!(rt; refused(&rt, rt.alloc(), &mut base, *user, tree) == Some(*var));
+    for (user, bytes, var) in &UNCHANGED {
+        assert!(rt; refused(&rt, rt.alloc(), &mut base, *user, *bytes) == Some(*var));
     }
 }

@@ -1,65 +1,42 @@
 //! Queries with the views in them put in, for nobody in particular.
 
-use crate::made::{attr, info, key, keys, lay, target};
-use crate::said::{Asking, OF_NUMBER, OF_VIEW, Said, query_of};
+use crate::made::{query, untold};
 use crate::shown::{put, put_query};
-use crate::untold::Untold;
-use crate::view_texts::new_base;
-use calculus::{ArithOp, Boxed, DbChange, Kind, QQual, QTerm, Query, Spec};
+use crate::view_texts::LAID;
 use cut_rules::{ExpandFault, expand};
 use std::alloc::Global;
 use std::process::Abort;
 use std::test::*;
+use test_bases::TestBase;
 
-/// This term and the first attribute of a variable.
-fn plus<R: Abort>(rt: &R, alloc: Global, term: QTerm, var: u8) -> QTerm {
-    let more = QTerm::Attr { var, attr: 0 };
-    QTerm::Arith {
-        op: ArithOp::Add,
-        left: Boxed::new(alloc, term).expect(rt, "memory"),
-        right: Boxed::new(alloc, more).expect(rt, "memory"),
-    }
-}
+/// The view `sums` of the sum of the first attributes of ten variables over `parts`.
+const SUMS: &[u8] =
+    b"\x05\x03ann\x04sums\x03\x00\x01\x04pnum\x01\x00\x00\x00\x0a\x03ann\x05parts\x03ann\x05parts\x03ann\x05parts\x03ann\x05parts\x03ann\x05parts\x03ann\x05parts\x03ann\x05parts\x03ann\x05parts\x03ann\x05parts\x03ann\x05parts\x00\x01\x04pnum\x01\x05\x00\x05\x00\x05\x00\x05\x00\x05\x00\x05\x00\x05\x00\x05\x00\x05\x00\x05\x00\x00\x00\x00\x00\x00\x00\x00\x00\x00\x02\x00\x00\x02\x01\x00\x02\x02\x00\x02\x03\x00\x02\x04\x00\x02\x05\x00\x02\x06\x00\x02\x07\x00\x02\x08\x00\x02\x09\x00\x00";
 
-/// The sum of the first attributes of so many variables.
-fn sum<R: Abort>(rt: &R, alloc: Global, vars: u8) -> QTerm {
-    let mut sum = QTerm::Int(0);
-    for var in 0..vars {
-        sum = plus(rt, alloc, sum, var);
-    }
-    sum
-}
+/// The sum of the first attributes of five variables over `sums`, where `parts` is listed behind them.
+const OF_FIVE: &[u8] =
+    b"\x00\x06\x03ann\x04sums\x03ann\x04sums\x03ann\x04sums\x03ann\x04sums\x03ann\x04sums\x03ann\x05parts\x00\x01\x04pnum\x01\x05\x00\x05\x00\x05\x00\x05\x00\x05\x00\x00\x00\x00\x00\x00\x00\x00\x00\x00\x02\x00\x00\x02\x01\x00\x02\x02\x00\x02\x03\x00\x02\x04\x00\x00";
 
-/// The query of the sum over so many variables, where these are listed.
-fn summed<R: Abort>(rt: &R, alloc: Global, names: &[&[u8]], vars: u8) -> Query {
-    Query {
-        vars: keys(rt, alloc, names),
-        targets: target(rt, alloc, Kind::Wide, sum(rt, alloc, vars)),
-        qual: QQual::True,
-    }
-}
-
-/// The view `sums` of the sum over ten variables.
-fn sums<R: Abort>(rt: &R, alloc: Global) -> DbChange {
-    let parts: &[u8] = b"parts";
-    let key = key(rt, alloc, b"sums");
-    DbChange::View {
-        info: info(alloc, key, Spec::View, attr(rt, alloc, Kind::Wide)),
-        query: summed(rt, alloc, &[parts; 10], 10),
-    }
-}
+/// And that of `parts`.
+const OF_SIX: &[u8] =
+    b"\x00\x06\x03ann\x04sums\x03ann\x04sums\x03ann\x04sums\x03ann\x04sums\x03ann\x04sums\x03ann\x05parts\x00\x01\x04pnum\x01\x05\x00\x05\x00\x05\x00\x05\x00\x05\x00\x05\x00\x00\x00\x00\x00\x00\x00\x00\x00\x00\x02\x00\x00\x02\x01\x00\x02\x02\x00\x02\x03\x00\x02\x04\x00\x02\x05\x00\x00";
 
 /// A base that tells no database and knows `parts` and its views, and `sums`.
-fn untold<R: Abort>(rt: &R, alloc: Global) -> Untold {
-    let mut plain = new_base(rt, alloc);
-    lay(rt, alloc, &mut plain, sums(rt, alloc));
-    Untold { plain }
+fn untold_sums<R: Abort>(rt: &R, alloc: Global) -> TestBase {
+    let mut base = untold(rt, alloc, &LAID);
+    let given = base.give(alloc, SUMS);
+    assert!(rt; given.is_ok());
+    base
 }
 
 /// How many variables a query has once its views are put in, or would have, where they are too many.
-fn expanded<R: Abort>(rt: &R, alloc: Global, base: &mut Untold, vars: u8) -> Result<usize, u32> {
-    let listed: [&[u8]; 6] = [b"sums", b"sums", b"sums", b"sums", b"sums", b"parts"];
-    let query = summed(rt, alloc, &listed, vars);
+fn expanded<R: Abort>(
+    rt: &R,
+    alloc: Global,
+    base: &mut TestBase,
+    bytes: &[u8],
+) -> Result<usize, u32> {
+    let query = query(rt, alloc, bytes);
     let made = expand(alloc, base, &query);
     drop(query);
     let told = match &made {
@@ -73,15 +50,15 @@ fn expanded<R: Abort>(rt: &R, alloc: Global, base: &mut Untold, vars: u8) -> Res
 
 #[test]
 fn more_than_fifty_variables_are_too_many(rt: HostRuntime) {
-    let mut base = untold(&rt, rt.alloc());
-    assert!(rt; expanded(&rt, rt.alloc(), &mut base, 5) == Ok(50));
-    assert!(rt; expanded(&rt, rt.alloc(), &mut base, 6) == Err(51));
+    let mut base = untold_sums(&rt, rt.alloc());
+    assert!(rt; expanded(&rt, rt.alloc(), &mut base, OF_FIVE) == Ok(50));
+    assert!(rt; expanded(&rt, rt.alloc(), &mut base, OF_SIX) == Err(51));
 }
 
 /// A query with its views put in, as bytes.
-fn shown<R: Abort>(rt: &R, alloc: Global, said: &Asking) -> Vec<u8> {
-    let mut base = untold(rt, alloc);
-    let query = query_of(rt, alloc, said);
+fn shown<R: Abort>(rt: &R, alloc: Global, bytes: &[u8]) -> Vec<u8> {
+    let mut base = untold_sums(rt, alloc);
+    let query = query(rt, alloc, bytes);
     let made = expand(alloc, &mut base, &query);
     drop(query);
     drop(base);
@@ -95,19 +72,12 @@ fn shown<R: Abort>(rt: &R, alloc: Global, said: &Asking) -> Vec<u8> {
 }
 
 /// A query over a view of two variables and a relation, with aggregates over a relation and a view.
-const COUNTED: Asking = Asking(
-    &[b"pairs", b"parts"],
-    &[
-        Said::Attr(0, 0),
-        Said::Agg(0, &OF_NUMBER),
-        Said::Agg(1, &OF_VIEW),
-    ],
-    None,
-);
+const COUNTED: &[u8] =
+    b"\x00\x02\x03ann\x05pairs\x03ann\x05parts\x00\x03\x04pnum\x00\x01\x02\x00\x00\x04pnum\x01\x07\x00\x00\x00\x00\x03ann\x05parts\x02\x00\x01\x00\x01\x02\x00\x00\x00\x01\x02\x01\x00\x01\x00\x02\x00\x01\x00\x00\x00\x00\x00\x00\x00\x00\x05\x04pnum\x01\x07\x00\x01\x07\x00\x03ann\x07numbers\x02\x00\x00\x00\x01\x02\x00\x00\x00\x01\x02\x00\x00\x00\x00";
 
 #[test]
 fn views_are_put_in_without_permits(rt: HostRuntime) {
     let said: &[u8] =
         b"parts parts parts | 1.0 count0(0.1 of parts by 0.0 for 2.0 where 0.1=5) max1(0.0 of [parts | 0.0 | 0.1=5] by 0.0 for 1.0 where true) | true and 0.0=1.0 and 1.0=1.0 and 0.1=5 and 0.0=0.0 and 1.1=5 and 1.0=1.0";
-    assert!(rt; shown(&rt, rt.alloc(), &COUNTED).as_slice() == said);
+    assert!(rt; shown(&rt, rt.alloc(), COUNTED).as_slice() == said);
 }

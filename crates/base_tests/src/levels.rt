@@ -1,42 +1,59 @@
 //! Views that stand on views, each of which names the one below ten times.
 
-use crate::made::{SMALL, attr, compared, created, empty, first, info, is_laid, key, keys, target};
-use calculus::{CmpOp, DbChange, Kind, QQual, QTerm, Query, Spec};
+use crate::made::{is_laid, laid, query};
+use crate::shown::put;
 use plain_base::DbPlain;
 use std::alloc::Global;
 use std::process::Abort;
 use std::test::*;
 use view_sizes::{expanded_variables, has_high_level, listed_expanded_variables, query_size};
 
-/// The names of views, the lowest first: one more than there are levels.
-const NAMES: [&[u8]; 17] = [
-    b"first",
-    b"second",
-    b"third",
-    b"fourth",
-    b"fifth",
-    b"sixth",
-    b"seventh",
-    b"eighth",
-    b"ninth",
-    b"tenth",
-    b"eleventh",
-    b"twelfth",
-    b"thirteenth",
-    b"fourteenth",
-    b"fifteenth",
-    b"sixteenth",
-    b"seventeenth",
+/// The keys of views, the lowest first: one more than there are levels.
+const KEYS: [&[u8]; 17] = [
+    b"\x03ann\x05first",
+    b"\x03ann\x06second",
+    b"\x03ann\x05third",
+    b"\x03ann\x06fourth",
+    b"\x03ann\x05fifth",
+    b"\x03ann\x05sixth",
+    b"\x03ann\x07seventh",
+    b"\x03ann\x06eighth",
+    b"\x03ann\x05ninth",
+    b"\x03ann\x05tenth",
+    b"\x03ann\x08eleventh",
+    b"\x03ann\x07twelfth",
+    b"\x03ann\x0athirteenth",
+    b"\x03ann\x0afourteenth",
+    b"\x03ann\x09fifteenth",
+    b"\x03ann\x09sixteenth",
+    b"\x03ann\x0bseventeenth",
 ];
 
-/// What the lowest view is of.
+const FIFTEENTH: &[u8] = b"\x03ann\x09fifteenth";
+
+const SIXTEENTH: &[u8] = b"\x03ann\x09sixteenth";
+
+/// `parts` is made, with one number `pnum` of two bytes.
+const PARTS: &[u8] = b"\x01\x03ann\x05parts\x00\x00\x01\x04pnum\x00\x01\x00\x00\x00\x00\x00\x00";
+
+/// What the lowest view is of: the kind of the number of each view, and the lowest query.
 #[derive(Clone, Copy)]
-enum Lowest {
-    /// A number, without variables.
-    Number,
-    /// The numbers of `parts`.
-    Parts,
+struct Lowest<'a> {
+    kind: &'a [u8],
+    query: &'a [u8],
 }
+
+/// The number 1, without variables.
+const NUMBER: Lowest = Lowest {
+    kind: b"\x01",
+    query: b"\x00\x00\x00\x01\x04pnum\x01\x00\x00\x00\x00\x00\x00\x00\x00\x01\x00",
+};
+
+/// The numbers of `parts`.
+const OF_PARTS: Lowest = Lowest {
+    kind: b"\x00\x01",
+    query: b"\x00\x01\x03ann\x05parts\x00\x01\x04pnum\x00\x01\x02\x00\x00\x00",
+};
 
 /// What is said of a tower of such views.
 #[derive(Clone, Copy, PartialEq, Eq)]
@@ -53,106 +70,87 @@ struct Tower {
     size: u64,
 }
 
-/// The kind of the number of each view.
-fn kind_of(lowest: Lowest) -> Kind {
-    match lowest {
-        Lowest::Number => Kind::Wide,
-        Lowest::Parts => SMALL,
+/// Puts the query of the number of the last of ten variables over what has this key, where it is 1.
+fn put_query<R: Abort>(rt: &R, bytes: &mut Vec<u8>, key: &[u8], kind: &[u8]) {
+    put(rt, bytes, b"\x00\x0a");
+    for _ in 0..10u8 {
+        put(rt, bytes, key);
     }
+    put(rt, bytes, b"\x00\x01\x04pnum");
+    put(rt, bytes, kind);
+    put(rt, bytes, b"\x02\x09\x00");
+    put(
+        rt,
+        bytes,
+        b"\x01\x00\x02\x09\x00\x00\x00\x00\x00\x00\x00\x00\x00\x01",
+    );
 }
 
-/// The query of the lowest view.
-fn lowest_query<R: Abort>(rt: &R, alloc: Global, lowest: Lowest) -> Query {
-    let kind = kind_of(lowest);
-    match lowest {
-        Lowest::Number => Query {
-            vars: keys(rt, alloc, &[]),
-            targets: target(rt, alloc, kind, QTerm::Int(1)),
-            qual: QQual::True,
-        },
-        Lowest::Parts => Query {
-            vars: keys(rt, alloc, &[b"parts"]),
-            targets: target(rt, alloc, kind, first()),
-            qual: QQual::True,
-        },
-    }
-}
-
-/// The first attribute of the last of ten variables.
-fn of_the_last() -> QTerm {
-    QTerm::Attr { var: 9, attr: 0 }
-}
-
-/// The query of the number of the last of ten variables over what has this name, where it is 1.
-fn query_over<R: Abort>(rt: &R, alloc: Global, name: &[u8], kind: Kind) -> Query {
-    Query {
-        vars: keys(rt, alloc, &[name; 10]),
-        targets: target(rt, alloc, kind, of_the_last()),
-        qual: compared(of_the_last(), CmpOp::Eq, QTerm::Int(1)),
-    }
-}
-
-/// The view of this name over the one below it; the lowest has none.
-fn viewed<R: Abort>(
+/// The bytes of the view with this key over the one below it; the lowest has none.
+fn view<R: Abort>(
     rt: &R,
     alloc: Global,
     lowest: Lowest,
-    name: &[u8],
+    key: &[u8],
     below: Option<&[u8]>,
-) -> DbChange {
-    let kind = kind_of(lowest);
-    let key = key(rt, alloc, name);
-    DbChange::View {
-        info: info(alloc, key, Spec::View, attr(rt, alloc, kind)),
-        query: match below {
-            Some(below) => query_over(rt, alloc, below, kind),
-            None => lowest_query(rt, alloc, lowest),
-        },
+) -> Vec<u8> {
+    let mut bytes = Vec::new(alloc);
+    put(rt, &mut bytes, b"\x05");
+    put(rt, &mut bytes, key);
+    put(rt, &mut bytes, b"\x03\x00\x01\x04pnum");
+    put(rt, &mut bytes, lowest.kind);
+    put(rt, &mut bytes, b"\x00\x00");
+    match below {
+        Some(below) => put_query(rt, &mut bytes, below, lowest.kind),
+        None => put(rt, &mut bytes, lowest.query),
     }
+    bytes
 }
 
 /// Lays the views; says how many are laid, up to the first that isn't.
 fn lay_views<R: Abort>(rt: &R, alloc: Global, base: &mut DbPlain, lowest: Lowest) -> usize {
-    let mut laid = 0usize;
+    let mut count = 0usize;
     let mut below = None;
-    for name in NAMES {
-        if !is_laid(rt, alloc, base, viewed(rt, alloc, lowest, name, below)) {
+    for key in KEYS {
+        let bytes = view(rt, alloc, lowest, key, below);
+        let is_laid = is_laid(rt, alloc, base, &bytes);
+        drop(bytes);
+        if !is_laid {
             break;
         }
-        laid = laid.saturating_add(1);
-        below = Some(name);
+        count = count.saturating_add(1);
+        below = Some(key);
     }
-    laid
+    count
 }
 
-/// Whether a view over what has this name would have a level that is too high.
-fn is_high<R: Abort>(rt: &R, alloc: Global, base: &mut DbPlain, name: &[u8], kind: Kind) -> bool {
-    let query = query_over(rt, alloc, name, kind);
-    let high = has_high_level(alloc, base, &query);
-    drop(query);
-    high.expect(rt, "an answer")
-}
-
-/// The variables that a query over the sixteenth view uses, those that it lists, and its size.
-fn counted<R: Abort>(rt: &R, alloc: Global, base: &mut DbPlain, kind: Kind) -> (u64, u64, u64) {
-    let query = query_over(rt, alloc, b"sixteenth", kind);
+/// Whether a view over what has this key would have a level that is too high; the variables that a query
+/// over it uses, those that it lists, and its size.
+fn counted<R: Abort>(
+    rt: &R,
+    alloc: Global,
+    base: &mut DbPlain,
+    key: &[u8],
+    kind: &[u8],
+) -> (bool, u64, u64, u64) {
+    let mut bytes = Vec::new(alloc);
+    put_query(rt, &mut bytes, key, kind);
+    let query = query(rt, alloc, &bytes);
+    drop(bytes);
+    let high = has_high_level(alloc, base, &query).expect(rt, "an answer");
     let used = expanded_variables(alloc, base, &query).expect(rt, "an answer");
     let listed = listed_expanded_variables(alloc, base, &query).expect(rt, "an answer");
     let size = query_size(alloc, base, &query).expect(rt, "an answer");
     drop(query);
-    (used, listed, size)
+    (high, used, listed, size)
 }
 
 /// Lays the views in a new database, and asks for what is said of them.
 fn measured<R: Abort>(rt: &R, alloc: Global, lowest: Lowest) -> Tower {
-    let mut base = empty(rt, alloc);
-    let parts = created(rt, alloc, b"parts", &[b"pnum"]);
-    is_laid(rt, alloc, &mut base, parts);
+    let mut base = laid(rt, alloc, &[PARTS]);
     let laid = lay_views(rt, alloc, &mut base, lowest);
-    let kind = kind_of(lowest);
-    let (used, listed, size) = counted(rt, alloc, &mut base, kind);
-    let low = is_high(rt, alloc, &mut base, b"fifteenth", kind);
-    let high = is_high(rt, alloc, &mut base, b"sixteenth", kind);
+    let (low, _, _, _) = counted(rt, alloc, &mut base, FIFTEENTH, lowest.kind);
+    let (high, used, listed, size) = counted(rt, alloc, &mut base, SIXTEENTH, lowest.kind);
     drop(base);
     Tower {
         laid,
@@ -179,6 +177,6 @@ fn what_is_named_by_many_ways_is_looked_through_once(rt: HostRuntime) {
         variables: (1, 10),
         size: 49,
     };
-    assert!(rt; measured(&rt, alloc, Lowest::Number) == of_number);
-    assert!(rt; measured(&rt, alloc, Lowest::Parts) == of_parts);
+    assert!(rt; measured(&rt, alloc, NUMBER) == of_number);
+    assert!(rt; measured(&rt, alloc, OF_PARTS) == of_parts);
 }

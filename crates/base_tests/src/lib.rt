@@ -13,8 +13,6 @@ mod levels;
 #[cfg(test)]
 mod made;
 #[cfg(test)]
-mod making;
-#[cfg(test)]
 mod new_database;
 #[cfg(test)]
 mod plans;
@@ -23,14 +21,10 @@ mod remembered;
 #[cfg(test)]
 mod ruled;
 #[cfg(test)]
-mod said;
-#[cfg(test)]
 mod shown;
 #[cfg(test)]
 mod tower;
 #[cfg(test)]
 mod trees;
-#[cfg(test)]
-mod untold;
 #[cfg(test)]
 mod view_texts;

@@ -1,17 +1,14 @@
-//! What the tests make of names and numbers: keys, lists, and the first changes of a database.
+//! What the tests share: names, trees that are read of their bytes, and the one way in which a change is laid.
 
 use am_traits::{Base, BaseFault};
-use calculus::{
-    Attr, CmpOp, DbChange, Domain, Kind, List, Name, QQual, QTerm, RelInfo, RelKey, Spec, Target,
-};
+use calculus::{Checked, DbChange, Name, Query, RelKey};
 use change_check::fit_change;
 use plain_base::DbPlain;
+use quel_tree::{CheckedTree, DbChangeTree, QueryTree, tree_of};
 use std::alloc::Global;
 use std::process::Abort;
 use std::test::*;
-
-/// Numbers of two bytes.
-pub(crate) const SMALL: Kind = Kind::Of(Domain::I2);
+use test_bases::TestBase;
 
 pub(crate) fn named<R: Abort>(rt: &R, alloc: Global, bytes: &[u8]) -> Name {
     let name = Name::of(alloc, bytes).expect(rt, "memory");
@@ -25,93 +22,18 @@ pub(crate) fn key_of<R: Abort>(rt: &R, alloc: Global, owner: &[u8], name: &[u8])
     }
 }
 
-/// The key of what ann has by this name.
-pub(crate) fn key<R: Abort>(rt: &R, alloc: Global, name: &[u8]) -> RelKey {
-    key_of(rt, alloc, b"ann", name)
+/// The tree that these bytes spell.
+pub(crate) fn tree<R: Abort>(rt: &R, alloc: Global, bytes: &[u8]) -> Checked {
+    tree_of::<CheckedTree>(alloc, bytes)
+        .ok()
+        .expect(rt, "a tree")
 }
 
-/// The keys of what ann has by these names.
-pub(crate) fn keys<R: Abort>(rt: &R, alloc: Global, names: &[&[u8]]) -> List<RelKey> {
-    let mut keys = Vec::new(alloc);
-    for name in names {
-        keys.push(key(rt, alloc, name)).expect(rt, "memory");
-    }
-    List::of(keys)
-}
-
-/// The list of this alone.
-pub(crate) fn alone<R: Abort, T: Drop>(rt: &R, alloc: Global, item: T) -> List<T> {
-    let mut items = Vec::new(alloc);
-    items.push(item).expect(rt, "memory");
-    List::of(items)
-}
-
-pub(crate) fn places<R: Abort>(rt: &R, alloc: Global, places: &[u8]) -> List<u8> {
-    List::of(Vec::from_slice(alloc, places).expect(rt, "memory"))
-}
-
-pub(crate) fn numbers_of<R: Abort>(rt: &R, alloc: Global, numbers: &[u32]) -> List<u32> {
-    List::of(Vec::from_slice(alloc, numbers).expect(rt, "memory"))
-}
-
-/// Texts where this is `pname`, else numbers of two bytes.
-fn kind_of(name: &[u8]) -> Kind {
-    if name == b"pname".as_slice() {
-        Kind::Of(Domain::C(10))
-    } else {
-        SMALL
-    }
-}
-
-/// Attributes of these names.
-pub(crate) fn attrs<R: Abort>(rt: &R, alloc: Global, names: &[&[u8]]) -> List<Attr> {
-    let mut attrs = Vec::new(alloc);
-    for name in names {
-        let kind = kind_of(name);
-        let name = named(rt, alloc, name);
-        attrs.push(Attr { name, kind }).expect(rt, "memory");
-    }
-    List::of(attrs)
-}
-
-/// One attribute of this kind.
-pub(crate) fn attr<R: Abort>(rt: &R, alloc: Global, kind: Kind) -> List<Attr> {
-    let name = named(rt, alloc, b"pnum");
-    alone(rt, alloc, Attr { name, kind })
-}
-
-/// One target of this kind.
-pub(crate) fn target<R: Abort>(rt: &R, alloc: Global, kind: Kind, term: QTerm) -> List<Target> {
-    let name = named(rt, alloc, b"pnum");
-    alone(rt, alloc, Target { name, kind, term })
-}
-
-/// The first attribute of the first variable.
-pub(crate) fn first() -> QTerm {
-    QTerm::Attr { var: 0, attr: 0 }
-}
-
-pub(crate) fn compared(left: QTerm, op: CmpOp, right: QTerm) -> QQual {
-    QQual::Cmp { op, left, right }
-}
-
-/// What is said of what has this key, kept so, with these attributes.
-pub(crate) fn info(alloc: Global, key: RelKey, spec: Spec, attrs: List<Attr>) -> RelInfo {
-    RelInfo {
-        key,
-        spec,
-        attrs,
-        keys: List::of(Vec::new(alloc)),
-    }
-}
-
-/// The change that makes a relation of ann's, with attributes of these names and without rows.
-pub(crate) fn created<R: Abort>(rt: &R, alloc: Global, name: &[u8], names: &[&[u8]]) -> DbChange {
-    let key = key(rt, alloc, name);
-    DbChange::Create {
-        info: info(alloc, key, Spec::Heap, attrs(rt, alloc, names)),
-        rows: List::of(Vec::new(alloc)),
-    }
+/// The query that these bytes spell.
+pub(crate) fn query<R: Abort>(rt: &R, alloc: Global, bytes: &[u8]) -> Query {
+    tree_of::<QueryTree>(alloc, bytes)
+        .ok()
+        .expect(rt, "a query")
 }
 
 /// Says whether the change may be laid, and lays it where it may.
@@ -127,24 +49,33 @@ pub(crate) fn try_lay<B: Base>(
     Ok(fit)
 }
 
-/// Whether the base takes the change.
-pub(crate) fn is_laid<R: Abort>(
-    rt: &R,
-    alloc: Global,
-    base: &mut DbPlain,
-    change: DbChange,
-) -> bool {
+/// Whether the base takes the change that these bytes spell.
+pub(crate) fn is_laid<R: Abort>(rt: &R, alloc: Global, base: &mut DbPlain, bytes: &[u8]) -> bool {
+    let change = tree_of::<DbChangeTree>(alloc, bytes);
+    let change = change.ok().expect(rt, "a change");
     let laid = try_lay(alloc, base, &change);
     drop(change);
     laid.expect(rt, "an answer")
 }
 
-/// Lays a change that may be laid.
-pub(crate) fn lay<R: Abort>(rt: &R, alloc: Global, base: &mut DbPlain, change: DbChange) {
-    assert!(rt; is_laid(rt, alloc, base, change));
-}
-
 /// The database of ann, without anything in it.
 pub(crate) fn empty<R: Abort>(rt: &R, alloc: Global) -> DbPlain {
     DbPlain::new(alloc, named(rt, alloc, b"ann"))
+}
+
+/// The database of ann on which these changes were laid.
+pub(crate) fn laid<R: Abort>(rt: &R, alloc: Global, changes: &[&[u8]]) -> DbPlain {
+    let mut base = empty(rt, alloc);
+    for change in changes {
+        assert!(rt; is_laid(rt, alloc, &mut base, change));
+    }
+    base
+}
+
+/// A base that tells no database, and knows what these changes make.
+pub(crate) fn untold<R: Abort>(rt: &R, alloc: Global, changes: &[&[u8]]) -> TestBase {
+    let mut base = TestBase::of_entries(alloc, 0);
+    let given = base.give_all(alloc, changes);
+    assert!(rt; given.is_ok());
+    base
 }

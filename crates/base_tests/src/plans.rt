@@ -3,280 +3,87 @@
 ghost use Rattle.std.specs.Prelude.{◌≡◌, false};
 ghost use Rattle.plan_laws.specs.Fitting.{is_copy};
 
-use crate::changes::row_of;
-use crate::made::{
-    SMALL, attrs, compared, empty, first, info, key_of, keys, lay, named, numbers_of, places,
-    target, try_lay,
-};
-use calculus::{
-    Attr, CmpOp, DbChange, List, Permit, QQual, QTerm, Query, RelKey, Row, Rule, Spec, Utility,
-};
+use crate::made::{laid, named, tree, try_lay};
+use crate::shown::put;
+use calculus::{Checked, DbChange, Utility};
 use plain_base::DbPlain;
+use quel_tree::{DbChangeTree, tree_bytes};
 use std::alloc::Global;
 use std::process::Abort;
 use std::test::*;
 use utilities::{UtilFault, plan};
 
-/// What a utility is asked for, said in short.
-#[derive(Clone, Copy)]
-enum Work<'a> {
-    /// A view of the numbers in the administrator's `parts`.
-    View,
-    /// A permit to retrieve and replace the second attribute.
-    Permit,
-    /// A rule that the first attribute is this number or a greater one.
-    Rule(i64),
-    /// Permits go.
-    DropPermits(&'a [u32]),
-    /// Rules go.
-    DropRules(&'a [u32]),
-    /// What has the key goes, and before it what ann has by these names.
-    Destroy(&'a [&'a [u8]]),
-    /// What has the key is stored so, with these keys.
-    Modify(Spec, &'a [u8]),
-    /// An index is made, with these keys.
-    Index(&'a [u8]),
-}
+/// `parts` of ann, who is the administrator, and `own` of bob are made, each with two numbers, `pnum` and
+/// `qoh`, and the rows 3, 5 and 4, 5.
+const LAID: [&[u8]; 2] = [
+    b"\x01\x03ann\x05parts\x00\x00\x02\x04pnum\x00\x01\x03qoh\x00\x01\x00\x00\x00\x00\x00\x02\x00\x02\x00\x00\x00\x00\x00\x00\x00\x00\x03\x00\x00\x00\x00\x00\x00\x00\x00\x05\x00\x02\x00\x00\x00\x00\x00\x00\x00\x00\x04\x00\x00\x00\x00\x00\x00\x00\x00\x05",
+    b"\x01\x03bob\x03own\x00\x00\x02\x04pnum\x00\x01\x03qoh\x00\x01\x00\x00\x00\x00\x00\x02\x00\x02\x00\x00\x00\x00\x00\x00\x00\x00\x03\x00\x00\x00\x00\x00\x00\x00\x00\x05\x00\x02\x00\x00\x00\x00\x00\x00\x00\x00\x04\x00\x00\x00\x00\x00\x00\x00\x00\x05",
+];
 
-/// What is said of the utility.
-#[derive(Clone, Copy)]
-enum Said<'a> {
-    /// A view is made, with one attribute `pnum`, a number of two bytes.
-    Viewed,
-    /// The permit is made, with this number.
-    Permitted(u32),
-    /// The rule is made, with this number.
-    Ruled(u32),
-    /// Permits with these numbers go.
-    Unpermitted(&'a [u32]),
-    /// Rules with these numbers go.
-    Unruled(&'a [u32]),
-    /// What has these names goes.
-    Destroyed(&'a [&'a [u8]]),
-    /// It is stored so, with these keys.
-    Modified(Spec, &'a [u8]),
-    /// The index is made, with these keys.
-    Indexed(&'a [u8]),
-    /// The cause of this number refuses it.
-    No(u8),
-}
+/// A user, what a utility is asked for, and the change that is planned, or the number that refuses it.
+type Case<'a> = (&'a [u8], &'a [u8], Result<&'a [u8], u8>);
 
-/// The user, the owner and the name of what the utility is for, and what it is asked for.
-type Asked<'a> = (&'a [u8], &'a [u8], &'a [u8], Work<'a>);
-
-/// Rows with these first values, and 5 behind them.
-fn rows_of<R: Abort>(rt: &R, alloc: Global, numbers: &[i64]) -> List<Row> {
-    let mut rows = Vec::new(alloc);
-    for number in numbers {
-        let row = row_of(rt, alloc, *number, 5);
-        rows.push(row).expect(rt, "memory");
-    }
-    List::of(rows)
-}
-
-/// The change that makes a relation of these rows.
-fn made<R: Abort>(rt: &R, alloc: Global, owner: &[u8], name: &[u8], numbers: &[i64]) -> DbChange {
-    let key = key_of(rt, alloc, owner, name);
-    DbChange::Create {
-        info: info(alloc, key, Spec::Heap, attrs(rt, alloc, &[b"pnum", b"qoh"])),
-        rows: rows_of(rt, alloc, numbers),
-    }
-}
-
-/// The query of the numbers in the administrator's `parts`.
-fn numbers_in_parts<R: Abort>(rt: &R, alloc: Global) -> Query {
-    Query {
-        vars: keys(rt, alloc, &[b"parts"]),
-        targets: target(rt, alloc, SMALL, first()),
-        qual: QQual::True,
-    }
-}
-
-/// A permit to retrieve and replace the second attribute, without a number.
-fn permit<R: Abort>(rt: &R, alloc: Global) -> Permit {
-    Permit {
-        number: 0,
-        ops: 5,
-        attrs: places(rt, alloc, &[1]),
-        user: None,
-        qual: QQual::True,
-    }
-}
-
-/// A rule that the first attribute is this number or a greater one, without a number.
-fn rule(least: i64) -> Rule {
-    Rule {
-        number: 0,
-        qual: compared(first(), CmpOp::Ge, QTerm::Int(least)),
-    }
-}
-
-/// The keys of what ann has by these names, and this one behind them.
-fn keys_and<R: Abort>(rt: &R, alloc: Global, names: &[&[u8]], key: RelKey) -> List<RelKey> {
-    let mut all = keys(rt, alloc, names).into_items();
-    all.push(key).expect(rt, "memory");
-    List::of(all)
-}
-
-/// What the utility is asked for, which is no copy.
-fn work_of<R: Abort>(rt: &R, alloc: Global, rel: RelKey, work: Work) -> Utility
-    ensures { is_copy result ≡ false }
+/// Whether work is a copy, which isn't planned.
+fn is_copy(work: &Utility) -> bool
+    ensures { result ≡ false → is_copy work.now ≡ false }
 {
     match work {
-        Work::View => Utility::View {
-            rel,
-            query: numbers_in_parts(rt, alloc),
-        },
-        Work::Permit => Utility::Permit {
-            rel,
-            permit: permit(rt, alloc),
-        },
-        Work::Rule(least) => Utility::Rule {
-            rel,
-            rule: rule(least),
-        },
-        Work::DropPermits(numbers) => Utility::DropPermits {
-            rel,
-            numbers: numbers_of(rt, alloc, numbers),
-        },
-        Work::DropRules(numbers) => Utility::DropRules {
-            rel,
-            numbers: numbers_of(rt, alloc, numbers),
-        },
-        Work::Destroy(names) => Utility::Destroy {
-            rels: keys_and(rt, alloc, names, rel),
-        },
-        Work::Modify(to, keys) => Utility::Modify {
-            rel,
-            to,
-            keys: places(rt, alloc, keys),
-        },
-        Work::Index(keys) => Utility::Index {
-            base: rel,
-            name: named(rt, alloc, b"sorted"),
-            keys: places(rt, alloc, keys),
-        },
-    }
-}
-
-/// Whether these are the attributes of the view of numbers.
-fn are_numbers(attrs: &[Attr]) -> bool {
-    attrs.len() == 1
-        && attrs.first().map(|attr| attr.kind) == Some(SMALL)
-        && attrs
-            .iter()
-            .all(|attr| attr.name.bytes() == b"pnum".as_slice())
-}
-
-/// Whether the qualification is that of a rule.
-fn is_least(qual: &QQual) -> bool {
-    match qual {
-        QQual::Cmp {
-            op: CmpOp::Ge,
-            left: QTerm::Attr { var: 0, attr: 0 },
-            right: QTerm::Int(_),
-        } => true,
+        Utility::Copy { .. } => true,
         _ => false,
     }
 }
 
-/// Whether the keys have these names, in order.
-fn have_names(keys: &[RelKey], names: &[&[u8]]) -> bool {
-    keys.len() == names.len()
-        && keys
-            .iter()
-            .zip(names)
-            .all(|(key, name)| key.name.bytes() == *name)
+/// Whether this is the change that these bytes spell.
+fn is_said<R: Abort>(rt: &R, alloc: Global, change: &DbChange, said: &[u8]) -> bool {
+    let bytes = tree_bytes::<DbChangeTree>(alloc, change).expect(rt, "memory");
+    let is_said = bytes.as_slice() == said;
+    drop(bytes);
+    is_said
 }
 
-/// Whether the change is as said, apart from what has the key.
-fn is_said(change: &DbChange, said: Said) -> bool {
-    match (change, said) {
-        (DbChange::View { info, query }, Said::Viewed) => {
-            info.spec == Spec::View
-                && are_numbers(info.attrs.items())
-                && query.vars.items().len() == 1
-        }
-        (DbChange::Permit { rel: _, permit }, Said::Permitted(number)) => {
-            permit.number == number
-                && permit.ops == 5
-                && permit.attrs.items() == [1u8].as_slice()
-                && permit.user.is_none()
-        }
-        (DbChange::Rule { rel: _, rule }, Said::Ruled(number)) => {
-            rule.number == number && is_least(&rule.qual)
-        }
-        (DbChange::DropPermits { rel: _, numbers }, Said::Unpermitted(wanted)) => {
-            numbers.items() == wanted
-        }
-        (DbChange::DropRules { rel: _, numbers }, Said::Unruled(wanted)) => {
-            numbers.items() == wanted
-        }
-        (DbChange::Destroy { rels }, Said::Destroyed(names)) => have_names(rels.items(), names),
-        (DbChange::Modify { rel: _, to, keys }, Said::Modified(spec, wanted)) => {
-            *to == spec && keys.items() == wanted
-        }
-        (
-            DbChange::Index {
-                base: _,
-                name,
-                keys,
-            },
-            Said::Indexed(wanted),
-        ) => name.bytes() == b"sorted".as_slice() && keys.items() == wanted,
-        _ => false,
-    }
-}
-
-/// Whether the fault is as said.
-fn is_refused(fault: UtilFault, said: Said) -> bool {
-    match said {
-        Said::No(number) => fault == UtilFault::No(number),
-        _ => false,
-    }
-}
-
-/// Whether what is planned of the utility is as said, and may be laid where it is a change.
-fn is_planned<R: Abort>(
+/// Whether what is planned of this work is as said, and may be laid where it is a change.
+fn is_work_planned<R: Abort>(
     rt: &R,
     alloc: Global,
     base: &mut DbPlain,
-    asked: &Asked,
-    said: Said,
+    user: &[u8],
+    work: &Utility,
+    said: Result<&[u8], u8>,
 ) -> bool {
-    let (user, owner, name, work) = *asked;
+    if is_copy(work) {
+        return false;
+    }
     let user = named(rt, alloc, user);
-    let work = work_of(rt, alloc, key_of(rt, alloc, owner, name), work);
-    let planned = plan(alloc, base, &user, &work);
-    drop(work);
+    let planned = plan(alloc, base, &user, work);
     drop(user);
-    match planned {
-        Ok(change) => {
-            let right = is_said(&change, said)
-                && try_lay(alloc, base, &change).expect(rt, "an answer");
-            drop(change);
-            right
+    match (&planned, said) {
+        (Ok(change), Ok(said)) => {
+            let laid = try_lay(alloc, base, change);
+            is_said(rt, alloc, change, said) && laid.expect(rt, "an answer")
         }
-        Err(fault) => is_refused(fault, said),
+        (Err(fault), Err(number)) => *fault == UtilFault::No(number),
+        _ => false,
     }
 }
 
-/// A database whose administrator is ann, who has `parts` with the numbers 3 and 4; bob has `own`.
-fn two_relations<R: Abort>(rt: &R, alloc: Global) -> DbPlain {
-    let mut base = empty(rt, alloc);
-    let parts = made(rt, alloc, b"ann", b"parts", &[3, 4]);
-    lay(rt, alloc, &mut base, parts);
-    let own = made(rt, alloc, b"bob", b"own", &[3, 4]);
-    lay(rt, alloc, &mut base, own);
-    base
+/// Whether what is planned of what these bytes spell is as said, and may be laid where it is a change.
+fn is_planned<R: Abort>(rt: &R, alloc: Global, base: &mut DbPlain, case: &Case) -> bool {
+    let (user, work, said) = *case;
+    let tree = tree(rt, alloc, work);
+    let is_planned = match &tree {
+        Checked::Utility(work) => is_work_planned(rt, alloc, base, user, work, said),
+        _ => false,
+    };
+    drop(tree);
+    is_planned
 }
 
 /// How many of these utilities are planned in turn as is said beside each, up to the first that isn't.
-fn as_said<R: Abort>(rt: &R, alloc: Global, all: &[(Asked, Said)]) -> usize {
-    let mut base = two_relations(rt, alloc);
+fn as_said<R: Abort>(rt: &R, alloc: Global, all: &[Case]) -> usize {
+    let mut base = laid(rt, alloc, &LAID);
     let mut right = 0usize;
-    for (asked, said) in all {
-        if !is_planned(rt, alloc, &mut base, asked, *said) {
+    for case in all {
+        if !is_planned(rt, alloc, &mut base, case) {
             break;
         }
         right = right.saturating_add(1);
@@ -285,169 +92,404 @@ fn as_said<R: Abort>(rt: &R, alloc: Global, all: &[(Asked, Said)]) -> usize {
     right
 }
 
-/// ann asks for `parts`.
-fn parts(work: Work<'_>) -> Asked<'_> {
-    (b"ann", b"ann", b"parts", work)
-}
-
-/// bob asks for `own`.
-fn own(work: Work<'_>) -> Asked<'_> {
-    (b"bob", b"bob", b"own", work)
-}
-
-/// bob asks for `parts`, which is ann's.
-fn anothers(work: Work<'_>) -> Asked<'_> {
-    (b"bob", b"ann", b"parts", work)
-}
-
-/// ann asks for the catalogue.
-fn catalogue(work: Work<'_>) -> Asked<'_> {
-    (b"ann", b"ann", b"relation", work)
-}
-
-/// ann asks for the view.
-fn view(work: Work<'_>) -> Asked<'_> {
-    (b"ann", b"ann", b"numbers", work)
-}
+const VIEWED: [Case; 1] = [
+    // A view `numbers` of the numbers in `parts`.
+    (
+        b"ann",
+        b"\x02\x05\x03ann\x07numbers\x00\x01\x03ann\x05parts\x00\x01\x04pnum\x00\x01\x02\x00\x00\x00",
+        Ok(
+            b"\x05\x03ann\x07numbers\x03\x00\x01\x04pnum\x00\x01\x00\x00\x00\x01\x03ann\x05parts\x00\x01\x04pnum\x00\x01\x02\x00\x00\x00",
+        ),
+    ),
+];
 
 #[test]
 fn a_view_has_the_attributes_of_its_targets(rt: HostRuntime) {
-    let all = [(view(Work::View), Said::Viewed)];
-    assert!(rt; as_said(&rt, rt.alloc(), &all) == all.len());
+    assert!(rt; as_said(&rt, rt.alloc(), &VIEWED) == VIEWED.len());
 }
+
+const PERMITTED: [Case; 9] = [
+    // A permit to retrieve and replace the second attribute.
+    (
+        b"ann",
+        b"\x02\x06\x03ann\x05parts\x00\x00\x00\x00\x05\x00\x01\x01\x00\x00",
+        Ok(b"\x06\x03ann\x05parts\x00\x00\x00\x01\x05\x00\x01\x01\x00\x00"),
+    ),
+    // A second one.
+    (
+        b"ann",
+        b"\x02\x06\x03ann\x05parts\x00\x00\x00\x00\x05\x00\x01\x01\x00\x00",
+        Ok(b"\x06\x03ann\x05parts\x00\x00\x00\x02\x05\x00\x01\x01\x00\x00"),
+    ),
+    // A third one.
+    (
+        b"ann",
+        b"\x02\x06\x03ann\x05parts\x00\x00\x00\x00\x05\x00\x01\x01\x00\x00",
+        Ok(b"\x06\x03ann\x05parts\x00\x00\x00\x03\x05\x00\x01\x01\x00\x00"),
+    ),
+    // 2 and 9 go, of which 9 isn't there.
+    (
+        b"ann",
+        b"\x02\x08\x03ann\x05parts\x00\x02\x00\x00\x00\x02\x00\x00\x00\x09",
+        Err(19),
+    ),
+    // 2, 1 and 2 go.
+    (
+        b"ann",
+        b"\x02\x08\x03ann\x05parts\x00\x03\x00\x00\x00\x02\x00\x00\x00\x01\x00\x00\x00\x02",
+        Ok(b"\x08\x03ann\x05parts\x00\x02\x00\x00\x00\x01\x00\x00\x00\x02"),
+    ),
+    // Another one comes.
+    (
+        b"ann",
+        b"\x02\x06\x03ann\x05parts\x00\x00\x00\x00\x05\x00\x01\x01\x00\x00",
+        Ok(b"\x06\x03ann\x05parts\x00\x00\x00\x04\x05\x00\x01\x01\x00\x00"),
+    ),
+    // All go.
+    (
+        b"ann",
+        b"\x02\x08\x03ann\x05parts\x00\x00",
+        Ok(b"\x08\x03ann\x05parts\x00\x02\x00\x00\x00\x03\x00\x00\x00\x04"),
+    ),
+    // All go, of none.
+    (
+        b"ann",
+        b"\x02\x08\x03ann\x05parts\x00\x00",
+        Ok(b"\x08\x03ann\x05parts\x00\x00"),
+    ),
+    // Another one comes.
+    (
+        b"ann",
+        b"\x02\x06\x03ann\x05parts\x00\x00\x00\x00\x05\x00\x01\x01\x00\x00",
+        Ok(b"\x06\x03ann\x05parts\x00\x00\x00\x01\x05\x00\x01\x01\x00\x00"),
+    ),
+];
 
 #[test]
 fn permits_are_numbered_behind_the_greatest(rt: HostRuntime) {
-    let all = [
-        (parts(Work::Permit), Said::Permitted(1)),
-        (parts(Work::Permit), Said::Permitted(2)),
-        (parts(Work::Permit), Said::Permitted(3)),
-        (parts(Work::DropPermits(&[2, 9])), Said::No(19)),
-        (
-            parts(Work::DropPermits(&[2, 1, 2])),
-            Said::Unpermitted(&[1, 2]),
-        ),
-        (parts(Work::Permit), Said::Permitted(4)),
-        (parts(Work::DropPermits(&[])), Said::Unpermitted(&[3, 4])),
-        (parts(Work::DropPermits(&[])), Said::Unpermitted(&[])),
-        (parts(Work::Permit), Said::Permitted(1)),
-    ];
-    assert!(rt; as_said(&rt, rt.alloc(), &all) == all.len());
+    assert!(rt; as_said(&rt, rt.alloc(), &PERMITTED) == PERMITTED.len());
 }
+
+const RULED: [Case; 7] = [
+    // The number is at least 4, and a row has 3.
+    (
+        b"ann",
+        b"\x02\x07\x03ann\x05parts\x00\x00\x00\x00\x01\x05\x02\x00\x00\x00\x00\x00\x00\x00\x00\x00\x00\x04",
+        Err(27),
+    ),
+    // At least 3.
+    (
+        b"ann",
+        b"\x02\x07\x03ann\x05parts\x00\x00\x00\x00\x01\x05\x02\x00\x00\x00\x00\x00\x00\x00\x00\x00\x00\x03",
+        Ok(
+            b"\x07\x03ann\x05parts\x00\x00\x00\x01\x01\x05\x02\x00\x00\x00\x00\x00\x00\x00\x00\x00\x00\x03",
+        ),
+    ),
+    // Of `own`, at least 3.
+    (
+        b"bob",
+        b"\x02\x07\x03bob\x03own\x00\x00\x00\x00\x01\x05\x02\x00\x00\x00\x00\x00\x00\x00\x00\x00\x00\x03",
+        Ok(
+            b"\x07\x03bob\x03own\x00\x00\x00\x01\x01\x05\x02\x00\x00\x00\x00\x00\x00\x00\x00\x00\x00\x03",
+        ),
+    ),
+    // At least 2.
+    (
+        b"bob",
+        b"\x02\x07\x03bob\x03own\x00\x00\x00\x00\x01\x05\x02\x00\x00\x00\x00\x00\x00\x00\x00\x00\x00\x02",
+        Ok(
+            b"\x07\x03bob\x03own\x00\x00\x00\x02\x01\x05\x02\x00\x00\x00\x00\x00\x00\x00\x00\x00\x00\x02",
+        ),
+    ),
+    // 1 and 3 go, of which 3 isn't there.
+    (
+        b"bob",
+        b"\x02\x09\x03bob\x03own\x00\x02\x00\x00\x00\x01\x00\x00\x00\x03",
+        Err(19),
+    ),
+    // 2 and 1 go.
+    (
+        b"bob",
+        b"\x02\x09\x03bob\x03own\x00\x02\x00\x00\x00\x02\x00\x00\x00\x01",
+        Ok(b"\x09\x03bob\x03own\x00\x02\x00\x00\x00\x01\x00\x00\x00\x02"),
+    ),
+    // All of `parts` go.
+    (
+        b"ann",
+        b"\x02\x09\x03ann\x05parts\x00\x00",
+        Ok(b"\x09\x03ann\x05parts\x00\x01\x00\x00\x00\x01"),
+    ),
+];
 
 #[test]
 fn a_rule_is_one_that_each_row_meets(rt: HostRuntime) {
-    let all = [
-        (parts(Work::Rule(4)), Said::No(27)),
-        (parts(Work::Rule(3)), Said::Ruled(1)),
-        (own(Work::Rule(3)), Said::Ruled(1)),
-        (own(Work::Rule(2)), Said::Ruled(2)),
-        (own(Work::DropRules(&[1, 3])), Said::No(19)),
-        (own(Work::DropRules(&[2, 1])), Said::Unruled(&[1, 2])),
-        (parts(Work::DropRules(&[])), Said::Unruled(&[1])),
-    ];
-    assert!(rt; as_said(&rt, rt.alloc(), &all) == all.len());
+    assert!(rt; as_said(&rt, rt.alloc(), &RULED) == RULED.len());
 }
+
+const OF_OTHERS: [Case; 8] = [
+    // bob permits `own`.
+    (
+        b"bob",
+        b"\x02\x06\x03bob\x03own\x00\x00\x00\x00\x05\x00\x01\x01\x00\x00",
+        Err(24),
+    ),
+    // Permits of it go.
+    (b"bob", b"\x02\x08\x03bob\x03own\x00\x00", Err(24)),
+    // bob permits ann's `parts`.
+    (
+        b"bob",
+        b"\x02\x06\x03ann\x05parts\x00\x00\x00\x00\x05\x00\x01\x01\x00\x00",
+        Err(24),
+    ),
+    // A rule.
+    (
+        b"bob",
+        b"\x02\x07\x03ann\x05parts\x00\x00\x00\x00\x01\x05\x02\x00\x00\x00\x00\x00\x00\x00\x00\x00\x00\x04",
+        Err(24),
+    ),
+    // Permit 7 goes.
+    (
+        b"bob",
+        b"\x02\x08\x03ann\x05parts\x00\x01\x00\x00\x00\x07",
+        Err(24),
+    ),
+    // Rule 7 goes.
+    (
+        b"bob",
+        b"\x02\x09\x03ann\x05parts\x00\x01\x00\x00\x00\x07",
+        Err(24),
+    ),
+    // A hash.
+    (b"bob", b"\x02\x02\x03ann\x05parts\x01\x00\x00", Err(24)),
+    // An index.
+    (
+        b"bob",
+        b"\x02\x03\x03ann\x05parts\x06sorted\x00\x01\x00",
+        Err(24),
+    ),
+];
 
 #[test]
 fn only_the_owner_changes_a_relation_and_the_administrator_permits(rt: HostRuntime) {
-    let all = [
-        (own(Work::Permit), Said::No(24)),
-        (own(Work::DropPermits(&[])), Said::No(24)),
-        (anothers(Work::Permit), Said::No(24)),
-        (anothers(Work::Rule(4)), Said::No(24)),
-        (anothers(Work::DropPermits(&[7])), Said::No(24)),
-        (anothers(Work::DropRules(&[7])), Said::No(24)),
-        (anothers(Work::Modify(Spec::Hash, &[])), Said::No(24)),
-        (anothers(Work::Index(&[0])), Said::No(24)),
-    ];
-    assert!(rt; as_said(&rt, rt.alloc(), &all) == all.len());
+    assert!(rt; as_said(&rt, rt.alloc(), &OF_OTHERS) == OF_OTHERS.len());
 }
+
+const KEPT: [Case; 13] = [
+    // The view `numbers`.
+    (
+        b"ann",
+        b"\x02\x05\x03ann\x07numbers\x00\x01\x03ann\x05parts\x00\x01\x04pnum\x00\x01\x02\x00\x00\x00",
+        Ok(
+            b"\x05\x03ann\x07numbers\x03\x00\x01\x04pnum\x00\x01\x00\x00\x00\x01\x03ann\x05parts\x00\x01\x04pnum\x00\x01\x02\x00\x00\x00",
+        ),
+    ),
+    // A permit of it.
+    (
+        b"ann",
+        b"\x02\x06\x03ann\x07numbers\x00\x00\x00\x00\x05\x00\x01\x01\x00\x00",
+        Err(26),
+    ),
+    // A rule.
+    (
+        b"ann",
+        b"\x02\x07\x03ann\x07numbers\x00\x00\x00\x00\x01\x05\x02\x00\x00\x00\x00\x00\x00\x00\x00\x00\x00\x04",
+        Err(26),
+    ),
+    // Permit 7 goes.
+    (
+        b"ann",
+        b"\x02\x08\x03ann\x07numbers\x00\x01\x00\x00\x00\x07",
+        Err(26),
+    ),
+    // Rule 7 goes.
+    (
+        b"ann",
+        b"\x02\x09\x03ann\x07numbers\x00\x01\x00\x00\x00\x07",
+        Err(26),
+    ),
+    // A hash.
+    (b"ann", b"\x02\x02\x03ann\x07numbers\x01\x00\x00", Err(26)),
+    // An index.
+    (
+        b"ann",
+        b"\x02\x03\x03ann\x07numbers\x06sorted\x00\x01\x00",
+        Err(26),
+    ),
+    // A permit of the catalogue `relation`.
+    (
+        b"ann",
+        b"\x02\x06\x03ann\x08relation\x00\x00\x00\x00\x05\x00\x01\x01\x00\x00",
+        Err(28),
+    ),
+    // A rule.
+    (
+        b"ann",
+        b"\x02\x07\x03ann\x08relation\x00\x00\x00\x00\x01\x05\x02\x00\x00\x00\x00\x00\x00\x00\x00\x00\x00\x04",
+        Err(28),
+    ),
+    // Permit 7 goes.
+    (
+        b"ann",
+        b"\x02\x08\x03ann\x08relation\x00\x01\x00\x00\x00\x07",
+        Err(28),
+    ),
+    // Rule 7 goes.
+    (
+        b"ann",
+        b"\x02\x09\x03ann\x08relation\x00\x01\x00\x00\x00\x07",
+        Err(28),
+    ),
+    // A hash.
+    (b"ann", b"\x02\x02\x03ann\x08relation\x01\x00\x00", Err(28)),
+    // An index.
+    (
+        b"ann",
+        b"\x02\x03\x03ann\x08relation\x06sorted\x00\x01\x00",
+        Err(28),
+    ),
+];
 
 #[test]
 fn a_catalogue_and_a_view_are_refused(rt: HostRuntime) {
-    let all = [
-        (view(Work::View), Said::Viewed),
-        (view(Work::Permit), Said::No(26)),
-        (view(Work::Rule(4)), Said::No(26)),
-        (view(Work::DropPermits(&[7])), Said::No(26)),
-        (view(Work::DropRules(&[7])), Said::No(26)),
-        (view(Work::Modify(Spec::Hash, &[])), Said::No(26)),
-        (view(Work::Index(&[0])), Said::No(26)),
-        (catalogue(Work::Permit), Said::No(28)),
-        (catalogue(Work::Rule(4)), Said::No(28)),
-        (catalogue(Work::DropPermits(&[7])), Said::No(28)),
-        (catalogue(Work::DropRules(&[7])), Said::No(28)),
-        (catalogue(Work::Modify(Spec::Hash, &[])), Said::No(28)),
-        (catalogue(Work::Index(&[0])), Said::No(28)),
-    ];
-    assert!(rt; as_said(&rt, rt.alloc(), &all) == all.len());
+    assert!(rt; as_said(&rt, rt.alloc(), &KEPT) == KEPT.len());
 }
+
+const STORED: [Case; 4] = [
+    // A hash.
+    (
+        b"ann",
+        b"\x02\x02\x03ann\x05parts\x01\x00\x00",
+        Ok(b"\x03\x03ann\x05parts\x01\x00\x01\x00"),
+    ),
+    // An ISAM structure by the second attribute and the first.
+    (
+        b"ann",
+        b"\x02\x02\x03ann\x05parts\x02\x00\x02\x01\x00",
+        Ok(b"\x03\x03ann\x05parts\x02\x00\x02\x01\x00"),
+    ),
+    // A heap by the second.
+    (
+        b"ann",
+        b"\x02\x02\x03ann\x05parts\x00\x00\x01\x01",
+        Ok(b"\x03\x03ann\x05parts\x00\x00\x00"),
+    ),
+    // An index by both.
+    (
+        b"ann",
+        b"\x02\x03\x03ann\x05parts\x06sorted\x00\x02\x01\x00",
+        Ok(b"\x04\x03ann\x05parts\x06sorted\x00\x02\x01\x00"),
+    ),
+];
 
 #[test]
 fn a_structure_has_the_keys_that_are_named_or_the_first_attribute(rt: HostRuntime) {
-    let all = [
-        (
-            parts(Work::Modify(Spec::Hash, &[])),
-            Said::Modified(Spec::Hash, &[0]),
-        ),
-        (
-            parts(Work::Modify(Spec::Isam, &[1, 0])),
-            Said::Modified(Spec::Isam, &[1, 0]),
-        ),
-        (
-            parts(Work::Modify(Spec::Heap, &[1])),
-            Said::Modified(Spec::Heap, &[]),
-        ),
-        (parts(Work::Index(&[1, 0])), Said::Indexed(&[1, 0])),
-    ];
-    assert!(rt; as_said(&rt, rt.alloc(), &all) == all.len());
+    assert!(rt; as_said(&rt, rt.alloc(), &STORED) == STORED.len());
 }
+
+const DESTROYED: [Case; 7] = [
+    // The view `numbers`.
+    (
+        b"ann",
+        b"\x02\x05\x03ann\x07numbers\x00\x01\x03ann\x05parts\x00\x01\x04pnum\x00\x01\x02\x00\x00\x00",
+        Ok(
+            b"\x05\x03ann\x07numbers\x03\x00\x01\x04pnum\x00\x01\x00\x00\x00\x01\x03ann\x05parts\x00\x01\x04pnum\x00\x01\x02\x00\x00\x00",
+        ),
+    ),
+    // bob destroys the catalogue, and his `own`.
+    (
+        b"bob",
+        b"\x02\x01\x00\x02\x03ann\x08relation\x03bob\x03own",
+        Err(28),
+    ),
+    // ann's `parts`.
+    (b"bob", b"\x02\x01\x00\x01\x03ann\x05parts", Err(24)),
+    // ann's `parts`, and his `own`.
+    (
+        b"bob",
+        b"\x02\x01\x00\x02\x03ann\x05parts\x03bob\x03own",
+        Err(24),
+    ),
+    // ann destroys `parts`, which the view names.
+    (b"ann", b"\x02\x01\x00\x01\x03ann\x05parts", Err(25)),
+    // The view, and `parts`.
+    (
+        b"ann",
+        b"\x02\x01\x00\x02\x03ann\x07numbers\x03ann\x05parts",
+        Ok(b"\x02\x00\x02\x03ann\x07numbers\x03ann\x05parts"),
+    ),
+    // bob destroys his `own`.
+    (
+        b"bob",
+        b"\x02\x01\x00\x01\x03bob\x03own",
+        Ok(b"\x02\x00\x01\x03bob\x03own"),
+    ),
+];
 
 /// A catalogue counts before what is another's, and that before a view that stays.
 #[test]
 fn what_goes_is_the_users_own_and_no_view_that_stays_names_it(rt: HostRuntime) {
-    let all = [
-        (view(Work::View), Said::Viewed),
-        (own(Work::Destroy(&[b"relation"])), Said::No(28)),
-        (anothers(Work::Destroy(&[])), Said::No(24)),
-        (own(Work::Destroy(&[b"parts"])), Said::No(24)),
-        (parts(Work::Destroy(&[])), Said::No(25)),
-        (
-            parts(Work::Destroy(&[b"numbers"])),
-            Said::Destroyed(&[b"numbers", b"parts"]),
-        ),
-        (own(Work::Destroy(&[])), Said::Destroyed(&[b"own"])),
-    ];
-    assert!(rt; as_said(&rt, rt.alloc(), &all) == all.len());
+    assert!(rt; as_said(&rt, rt.alloc(), &DESTROYED) == DESTROYED.len());
 }
 
-/// How many of so many utilities are planned in turn with the numbers from 1 on.
-fn numbered<R: Abort>(rt: &R, alloc: Global, base: &mut DbPlain, work: Work, most: u32) -> u32 {
-    let mut right = 0u32;
-    for number in 1..=most {
-        let said = match work {
-            Work::Rule(_) => Said::Ruled(number),
-            _ => Said::Permitted(number),
-        };
-        if !is_planned(rt, alloc, base, &parts(work), said) {
-            break;
+/// A permit of `parts` to retrieve and replace the second attribute; what is planned of it, up to its number and
+/// behind it.
+const PERMIT: (&[u8], &[u8], &[u8]) = (
+    b"\x02\x06\x03ann\x05parts\x00\x00\x00\x00\x05\x00\x01\x01\x00\x00",
+    b"\x06\x03ann\x05parts",
+    b"\x05\x00\x01\x01\x00\x00",
+);
+
+/// A rule of `parts` that the first attribute is at least 3; what is planned of it, up to its number and behind it.
+const RULE: (&[u8], &[u8], &[u8]) = (
+    b"\x02\x07\x03ann\x05parts\x00\x00\x00\x00\x01\x05\x02\x00\x00\x00\x00\x00\x00\x00\x00\x00\x00\x03",
+    b"\x07\x03ann\x05parts",
+    b"\x01\x05\x02\x00\x00\x00\x00\x00\x00\x00\x00\x00\x00\x03",
+);
+
+/// A rule that it is at least 4.
+const LATE_RULE: &[u8] =
+    b"\x02\x07\x03ann\x05parts\x00\x00\x00\x00\x01\x05\x02\x00\x00\x00\x00\x00\x00\x00\x00\x00\x00\x04";
+
+/// Whether ann's utility is planned with this number.
+fn is_numbered<R: Abort>(
+    rt: &R,
+    alloc: Global,
+    base: &mut DbPlain,
+    (work, front, behind): (&[u8], &[u8], &[u8]),
+    number: u8,
+) -> bool {
+    let mut said = Vec::new(alloc);
+    put(rt, &mut said, front);
+    put(rt, &mut said, &[0, 0, 0, number]);
+    put(rt, &mut said, behind);
+    let is_planned = is_planned(rt, alloc, base, &(b"ann", work, Ok(&said)));
+    drop(said);
+    is_planned
+}
+
+/// How many of 100 utilities are planned in turn with the numbers from 1 on.
+fn numbered<R: Abort>(
+    rt: &R,
+    alloc: Global,
+    base: &mut DbPlain,
+    utility: (&[u8], &[u8], &[u8]),
+) -> u8 {
+    for number in 1..=100u8 {
+        if !is_numbered(rt, alloc, base, utility, number) {
+            return number.saturating_sub(1);
         }
-        right = number;
     }
-    right
+    100
 }
 
 /// 100 permits and 100 rules stand on a relation, and no more.
 #[test]
 fn a_hundred_stand_and_no_more(rt: HostRuntime) {
     let alloc = rt.alloc();
-    let mut base = two_relations(&rt, alloc);
-    let permits = numbered(&rt, alloc, &mut base, Work::Permit, 100);
-    let permit = is_planned(&rt, alloc, &mut base, &parts(Work::Permit), Said::No(14));
-    let rules = numbered(&rt, alloc, &mut base, Work::Rule(3), 100);
-    let rule = is_planned(&rt, alloc, &mut base, &parts(Work::Rule(4)), Said::No(14));
+    let mut base = laid(&rt, alloc, &LAID);
+    assert!(rt; numbered(&rt, alloc, &mut base, PERMIT) == 100);
+    assert!(rt; is_planned(&rt, alloc, &mut base, &(b"ann", PERMIT.0, Err(14))));
+    assert!(rt; numbered(&rt, alloc, &mut base, RULE) == 100);
+    assert!(rt; is_planned(&rt, alloc, &mut base, &(b"ann", LATE_RULE, Err(14))));
     drop(base);
-    assert!(rt; permits == 100 && permit);
-    assert!(rt; rules == 100 && rule);
 }

@@ -1,15 +1,9 @@
-use crate::made::{alone, compared, created, empty, first, key, keys, lay, places};
-use calculus::{CmpOp, DbChange, List, QQual, QTerm, Query, Rule, Update, UpdateOp};
+use crate::made::{laid, tree};
+use calculus::{Checked, CmpOp, QQual, QTerm, TryCopy, Update};
 use cut_rules::add_rules;
-use plain_base::DbPlain;
 use std::alloc::Global;
 use std::process::Abort;
 use std::test::*;
-
-/// That the first attribute is this number.
-fn is_number(number: i64) -> QQual {
-    compared(first(), CmpOp::Eq, QTerm::Int(number))
-}
 
 /// Whether the qualification is that the first attribute is this number.
 fn asks_for(q: &QQual, number: i64) -> bool {
@@ -36,49 +30,38 @@ fn ask_for(quals: &[QQual], numbers: &[i64]) -> bool {
     true
 }
 
-/// The rule of `parts` with this number, that its first attribute is this number.
-fn rule<R: Abort>(rt: &R, alloc: Global, number: u8) -> DbChange {
-    DbChange::Rule {
-        rel: key(rt, alloc, b"parts"),
-        rule: Rule {
-            number: number.into(),
-            qual: is_number(number.into()),
-        },
-    }
-}
+/// `parts` is made, with one number `pnum` of two bytes; its first rule is that this is 1, its second that it
+/// is 2.
+const RULED: [&[u8]; 3] = [
+    b"\x01\x03ann\x05parts\x00\x00\x01\x04pnum\x00\x01\x00\x00\x00\x00\x00\x00",
+    b"\x07\x03ann\x05parts\x00\x00\x00\x01\x01\x00\x02\x00\x00\x00\x00\x00\x00\x00\x00\x00\x00\x01",
+    b"\x07\x03ann\x05parts\x00\x00\x00\x02\x01\x00\x02\x00\x00\x00\x00\x00\x00\x00\x00\x00\x00\x02",
+];
 
-/// A database of ann's with the relation `parts`, which has two rules: that its first attribute is 1, and
-/// that it is 2.
-fn ruled_base<R: Abort>(rt: &R, alloc: Global) -> DbPlain {
-    let mut base = empty(rt, alloc);
-    let parts = created(rt, alloc, b"parts", &[b"pnum"]);
-    lay(rt, alloc, &mut base, parts);
-    lay(rt, alloc, &mut base, rule(rt, alloc, 1));
-    lay(rt, alloc, &mut base, rule(rt, alloc, 2));
-    base
-}
+/// An append, a replace, a delete and an into of `parts`, each with a check of its own: that the first
+/// attribute is 3.
+const UPDATES: [&[u8]; 4] = [
+    b"\x01\x00\x03ann\x05parts\xff\x00\x00\x00\x00\x00\x00\x00\x00\x01\x01\x00\x02\x00\x00\x00\x00\x00\x00\x00\x00\x00\x00\x03\x00",
+    b"\x01\x01\x03ann\x05parts\xff\x00\x00\x00\x00\x00\x00\x00\x00\x01\x01\x00\x02\x00\x00\x00\x00\x00\x00\x00\x00\x00\x00\x03\x00",
+    b"\x01\x02\x03ann\x05parts\xff\x00\x00\x00\x00\x00\x00\x00\x00\x01\x01\x00\x02\x00\x00\x00\x00\x00\x00\x00\x00\x00\x00\x03\x00",
+    b"\x01\x03\x03ann\x05parts\xff\x00\x00\x00\x00\x00\x00\x00\x00\x01\x01\x00\x02\x00\x00\x00\x00\x00\x00\x00\x00\x00\x00\x03\x00",
+];
 
-/// An update of `parts` with a check of its own: that the first attribute is 3.
-fn update<R: Abort>(rt: &R, alloc: Global, op: UpdateOp) -> Update {
-    Update {
-        op,
-        rel: key(rt, alloc, b"parts"),
-        old: 255,
-        places: places(rt, alloc, &[]),
-        query: Query {
-            vars: keys(rt, alloc, &[]),
-            targets: List::of(Vec::new(alloc)),
-            qual: QQual::True,
-        },
-        checks: alone(rt, alloc, is_number(3)),
-        new_cut: QQual::True,
-    }
+/// The update that these bytes spell.
+fn update<R: Abort>(rt: &R, alloc: Global, bytes: &[u8]) -> Update {
+    let tree = tree(rt, alloc, bytes);
+    let update = match &tree {
+        Checked::Update(update) => update.copy(alloc).expect(rt, "memory"),
+        _ => rt.abort(),
+    };
+    drop(tree);
+    update
 }
 
 /// Whether the checks of such an update are these once the rules are among them.
-fn has_checks<R: Abort>(rt: &R, alloc: Global, op: UpdateOp, numbers: &[i64]) -> bool {
-    let mut base = ruled_base(rt, alloc);
-    let made = add_rules(alloc, &mut base, update(rt, alloc, op));
+fn has_checks<R: Abort>(rt: &R, alloc: Global, bytes: &[u8], numbers: &[i64]) -> bool {
+    let mut base = laid(rt, alloc, &RULED);
+    let made = add_rules(alloc, &mut base, update(rt, alloc, bytes));
     drop(base);
     let ruled = made.expect(rt, "an answer");
     ask_for(ruled.checks.items(), numbers)
@@ -86,12 +69,14 @@ fn has_checks<R: Abort>(rt: &R, alloc: Global, op: UpdateOp, numbers: &[i64]) ->
 
 #[test]
 fn the_rules_of_a_relation_stand_before_the_checks_of_its_update(rt: HostRuntime) {
-    assert!(rt; has_checks(&rt, rt.alloc(), UpdateOp::Append, &[1, 2, 3]));
-    assert!(rt; has_checks(&rt, rt.alloc(), UpdateOp::Replace, &[1, 2, 3]));
-    assert!(rt; has_checks(&rt, rt.alloc(), UpdateOp::Delete, &[1, 2, 3]));
+    let [append, replace, delete, _] = UPDATES;
+    assert!(rt; has_checks(&rt, rt.alloc(), append, &[1, 2, 3]));
+    assert!(rt; has_checks(&rt, rt.alloc(), replace, &[1, 2, 3]));
+    assert!(rt; has_checks(&rt, rt.alloc(), delete, &[1, 2, 3]));
 }
 
 #[test]
 fn what_makes_a_relation_gets_no_rules(rt: HostRuntime) {
-    assert!(rt; has_checks(&rt, rt.alloc(), UpdateOp::Into, &[3]));
+    let [_, _, _, into] = UPDATES;
+    assert!(rt; has_checks(&rt, rt.alloc(), into, &[3]));
 }

@@ -1,230 +1,382 @@
-use crate::made::{SMALL, attr, created, empty, info, key, lay, named};
-use crate::making::{Tree, Value, rows, tree_of};
-use calculus::{CopyForm, DbChange, Kind, Spec, UpdateOp};
+use crate::made::{laid, named, tree};
+use calculus::{Chars, Checked, CopyCol, CopyForm, List, RelKey, Utility};
 use plain_base::DbPlain;
 use std::alloc::Global;
 use std::process::Abort;
 use std::test::*;
 use tree_check::fit_tree;
 
-/// The view `numbers` of the numbers of `parts`.
-fn viewed<R: Abort>(rt: &R, alloc: Global) -> DbChange {
-    let key = key(rt, alloc, b"numbers");
-    DbChange::View {
-        info: info(alloc, key, Spec::View, attr(rt, alloc, SMALL)),
-        query: rows(rt, alloc, &[b"parts"]),
-    }
-}
+/// `parts` is made with two numbers of two bytes, `pnum` and `qoh`, and a text of ten, `pname`; and `numbers`,
+/// a view of its numbers.
+const LAID: [&[u8]; 2] = [
+    b"\x01\x03ann\x05parts\x00\x00\x03\x04pnum\x00\x01\x03qoh\x00\x01\x05pname\x00\x03\x0a\x00\x00\x00\x00\x00\x00",
+    b"\x05\x03ann\x07numbers\x03\x00\x01\x04pnum\x00\x01\x00\x00\x00\x01\x03ann\x05parts\x00\x01\x04pnum\x00\x01\x02\x00\x00\x00",
+];
 
-/// A database of ann's with the relation `parts` and the view `numbers` of its numbers.
-fn new_base<R: Abort>(rt: &R, alloc: Global) -> DbPlain {
-    let mut base = empty(rt, alloc);
-    let parts = created(rt, alloc, b"parts", &[b"pnum", b"qoh", b"pname"]);
-    lay(rt, alloc, &mut base, parts);
-    lay(rt, alloc, &mut base, viewed(rt, alloc));
-    base
-}
+/// A tree, and whether it is fit for ann.
+type Case<'a> = (&'a [u8], bool);
 
 /// Whether the tree is fit for ann.
-fn is_fit<R: Abort>(rt: &R, alloc: Global, base: &mut DbPlain, tree: Tree) -> bool {
-    let tree = tree_of(rt, alloc, tree);
+fn is_fit<R: Abort>(rt: &R, alloc: Global, base: &mut DbPlain, tree: Checked) -> bool {
     let user = named(rt, alloc, b"ann");
     let fit = fit_tree(alloc, &tree, &user, base);
+    drop(user);
     drop(tree);
     fit.expect(rt, "an answer")
 }
 
 /// How many of these trees are fit as is said beside each, up to the first that isn't.
-fn as_said<R: Abort>(rt: &R, alloc: Global, trees: &[(Tree, bool)]) -> usize {
-    let mut base = new_base(rt, alloc);
+fn as_said<R: Abort>(rt: &R, alloc: Global, trees: &[Case]) -> usize {
+    let mut base = laid(rt, alloc, &LAID);
     let mut right = 0usize;
-    for (tree, fit) in trees {
-        if is_fit(rt, alloc, &mut base, *tree) != *fit {
+    for (bytes, fit) in trees {
+        if is_fit(rt, alloc, &mut base, tree(rt, alloc, *bytes)) != *fit {
             break;
         }
         right = right.saturating_add(1);
     }
+    drop(base);
     right
 }
 
+/// Queries of one target, sorted by a column.
+const ASKED: [Case; 8] = [
+    // Of an attribute of `parts`.
+    (
+        b"\x00\x00\x01\x00\x01\x03ann\x05parts\x00\x01\x04pnum\x00\x01\x02\x00\x01\x00\x00\x01\x00\x00\x00",
+        true,
+    ),
+    // The number of the parts, over a catalogue.
+    (
+        b"\x00\x00\x01\x00\x01\x03ann\x08relation\x00\x01\x04pnum\x01\x07\x00\x00\x00\x00\x03ann\x05parts\x02\x00\x00\x00\x00\x00\x00\x00\x00\x00\x01\x00\x00\x00",
+        true,
+    ),
+    // Over what isn't there.
+    (
+        b"\x00\x00\x01\x00\x01\x03ann\x09suppliers\x00\x01\x04pnum\x01\x07\x00\x00\x00\x00\x03ann\x05parts\x02\x00\x00\x00\x00\x00\x00\x00\x00\x00\x01\x00\x00\x00",
+        false,
+    ),
+    // Over a view.
+    (
+        b"\x00\x00\x01\x00\x01\x03ann\x07numbers\x00\x01\x04pnum\x00\x01\x02\x00\x00\x00\x00\x01\x00\x00\x00",
+        false,
+    ),
+    // Of a fourth attribute.
+    (
+        b"\x00\x00\x01\x00\x01\x03ann\x05parts\x00\x01\x04pnum\x00\x01\x02\x00\x03\x00\x00\x01\x00\x00\x00",
+        false,
+    ),
+    // Of a number of two bytes as one of 64 bits.
+    (
+        b"\x00\x00\x01\x00\x01\x03ann\x05parts\x00\x01\x04pnum\x01\x02\x00\x01\x00\x00\x01\x00\x00\x00",
+        false,
+    ),
+    // Sorted by a second column.
+    (
+        b"\x00\x00\x01\x00\x01\x03ann\x05parts\x00\x01\x04pnum\x00\x01\x02\x00\x01\x00\x00\x01\x00\x01\x00",
+        false,
+    ),
+    // Of 51 variables.
+    (
+        b"\x00\x00\x01\x003\
+        \x03ann\x05parts\x03ann\x05parts\x03ann\x05parts\x03ann\x05parts\x03ann\x05parts\
+        \x03ann\x05parts\x03ann\x05parts\x03ann\x05parts\x03ann\x05parts\x03ann\x05parts\
+        \x03ann\x05parts\x03ann\x05parts\x03ann\x05parts\x03ann\x05parts\x03ann\x05parts\
+        \x03ann\x05parts\x03ann\x05parts\x03ann\x05parts\x03ann\x05parts\x03ann\x05parts\
+        \x03ann\x05parts\x03ann\x05parts\x03ann\x05parts\x03ann\x05parts\x03ann\x05parts\
+        \x03ann\x05parts\x03ann\x05parts\x03ann\x05parts\x03ann\x05parts\x03ann\x05parts\
+        \x03ann\x05parts\x03ann\x05parts\x03ann\x05parts\x03ann\x05parts\x03ann\x05parts\
+        \x03ann\x05parts\x03ann\x05parts\x03ann\x05parts\x03ann\x05parts\x03ann\x05parts\
+        \x03ann\x05parts\x03ann\x05parts\x03ann\x05parts\x03ann\x05parts\x03ann\x05parts\
+        \x03ann\x05parts\x03ann\x05parts\x03ann\x05parts\x03ann\x05parts\x03ann\x05parts\
+        \x03ann\x05parts\
+        \x00\x01\x04pnum\x00\x01\x02\x00\x00\x00\x00\x01\x00\x00\x00",
+        false,
+    ),
+];
+
 #[test]
 fn a_query_reads_what_is_kept(rt: HostRuntime) {
-    let trees = [
-        (Tree::Asked(b"parts", SMALL, Value::Attr(1), 0), true),
-        (
-            Tree::Asked(b"relation", Kind::Wide, Value::Count(0, b"parts"), 0),
-            true,
-        ),
-        (
-            Tree::Asked(b"suppliers", Kind::Wide, Value::Count(0, b"parts"), 0),
-            false,
-        ),
-        (Tree::Asked(b"numbers", SMALL, Value::Attr(0), 0), false),
-        (Tree::Asked(b"parts", SMALL, Value::Attr(3), 0), false),
-        (Tree::Asked(b"parts", Kind::Wide, Value::Attr(1), 0), false),
-        (Tree::Asked(b"parts", SMALL, Value::Attr(1), 1), false),
-        (Tree::Long, false),
-    ];
-    assert!(rt; as_said(&rt, rt.alloc(), &trees) == trees.len());
+    assert!(rt; as_said(&rt, rt.alloc(), &ASKED) == ASKED.len());
 }
+
+/// Queries of an aggregate.
+const FOLDED: [Case; 7] = [
+    // The number of the parts.
+    (
+        b"\x00\x00\x01\x00\x01\x03ann\x05parts\x00\x01\x04pnum\x01\x07\x00\x00\x00\x00\x03ann\x05parts\x02\x00\x00\x00\x00\x00\x00\x00\x00\x00\x01\x00\x00\x00",
+        true,
+    ),
+    // In the second slot.
+    (
+        b"\x00\x00\x01\x00\x01\x03ann\x05parts\x00\x01\x04pnum\x01\x07\x00\x01\x00\x00\x03ann\x05parts\x02\x00\x00\x00\x00\x00\x00\x00\x00\x00\x01\x00\x00\x00",
+        false,
+    ),
+    // Of a view.
+    (
+        b"\x00\x00\x01\x00\x01\x03ann\x05parts\x00\x01\x04pnum\x01\x07\x00\x00\x00\x00\x03ann\x07numbers\x02\x00\x00\x00\x00\x00\x00\x00\x00\x00\x01\x00\x00\x00",
+        false,
+    ),
+    // The sum of a text.
+    (
+        b"\x00\x00\x01\x00\x01\x03ann\x05parts\x00\x01\x04pnum\x01\x07\x00\x00\x02\x00\x03ann\x05parts\x01\x04bolt\x00\x00\x00\x00\x00\x00\x00\x01\x00\x00\x00",
+        false,
+    ),
+    // By numbers, which no term around chooses.
+    (
+        b"\x00\x00\x01\x00\x01\x03ann\x05parts\x00\x01\x04pnum\x01\x07\x00\x00\x00\x00\x03ann\x05parts\x02\x00\x00\x00\x01\x02\x00\x00\x00\x00\x00\x00\x00\x01\x00\x00\x00",
+        false,
+    ),
+    // Of the rows of a query.
+    (
+        b"\x00\x00\x01\x00\x01\x03ann\x05parts\x00\x01\x04pnum\x01\x07\x00\x00\x00\x01\x00\x01\x03ann\x05parts\x00\x01\x04pnum\x00\x01\x02\x00\x00\x00\x02\x00\x00\x00\x00\x00\x00\x00\x00\x00\x01\x00\x00\x00",
+        true,
+    ),
+    // Of a query of two variables.
+    (
+        b"\x00\x00\x01\x00\x01\x03ann\x05parts\x00\x01\x04pnum\x01\x07\x00\x00\x00\x01\x00\x02\x03ann\x05parts\x03ann\x05parts\x00\x01\x04pnum\x00\x01\x02\x00\x00\x00\x02\x00\x00\x00\x00\x00\x00\x00\x00\x00\x01\x00\x00\x00",
+        false,
+    ),
+];
 
 #[test]
 fn an_aggregate_has_a_source_a_slot_and_links(rt: HostRuntime) {
-    let trees = [
-        (
-            Tree::Asked(b"parts", Kind::Wide, Value::Count(0, b"parts"), 0),
-            true,
-        ),
-        (
-            Tree::Asked(b"parts", Kind::Wide, Value::Count(1, b"parts"), 0),
-            false,
-        ),
-        (
-            Tree::Asked(b"parts", Kind::Wide, Value::Count(0, b"numbers"), 0),
-            false,
-        ),
-        (
-            Tree::Asked(b"parts", Kind::Wide, Value::SumOfText(b"parts"), 0),
-            false,
-        ),
-        (Tree::Asked(b"parts", Kind::Wide, Value::Unlinked, 0), false),
-        (
-            Tree::Asked(b"parts", Kind::Wide, Value::CountOfRows(&[b"parts"]), 0),
-            true,
-        ),
-        (
-            Tree::Asked(
-                b"parts",
-                Kind::Wide,
-                Value::CountOfRows(&[b"parts", b"parts"]),
-                0,
-            ),
-            false,
-        ),
-    ];
-    assert!(rt; as_said(&rt, rt.alloc(), &trees) == trees.len());
+    assert!(rt; as_said(&rt, rt.alloc(), &FOLDED) == FOLDED.len());
 }
+
+/// Updates whose new rows must meet that a value is 1, and whose targets are the numbers of the parts.
+const CHANGED: [Case; 11] = [
+    // An append of the second attribute.
+    (
+        b"\x01\x00\x03ann\x05parts\xff\x00\x01\x01\x00\x01\x03ann\x05parts\x00\x01\x04pnum\x00\x01\x02\x00\x00\x00\x00\x00\x01\x00\x02\x00\x00\x00\x00\x00\x00\x00\x00\x00\x00\x01",
+        true,
+    ),
+    // With a variable of old rows.
+    (
+        b"\x01\x00\x03ann\x05parts\x00\x00\x01\x01\x00\x01\x03ann\x05parts\x00\x01\x04pnum\x00\x01\x02\x00\x00\x00\x00\x00\x01\x00\x02\x00\x00\x00\x00\x00\x00\x00\x00\x00\x00\x01",
+        false,
+    ),
+    // Of the third attribute, which is a text.
+    (
+        b"\x01\x00\x03ann\x05parts\xff\x00\x01\x02\x00\x01\x03ann\x05parts\x00\x01\x04pnum\x00\x01\x02\x00\x00\x00\x00\x00\x01\x00\x02\x00\x00\x00\x00\x00\x00\x00\x00\x00\x00\x01",
+        false,
+    ),
+    // Of a fourth attribute.
+    (
+        b"\x01\x00\x03ann\x05parts\xff\x00\x01\x03\x00\x01\x03ann\x05parts\x00\x01\x04pnum\x00\x01\x02\x00\x00\x00\x00\x00\x01\x00\x02\x00\x00\x00\x00\x00\x00\x00\x00\x00\x00\x01",
+        false,
+    ),
+    // Of two attributes.
+    (
+        b"\x01\x00\x03ann\x05parts\xff\x00\x02\x00\x01\x00\x01\x03ann\x05parts\x00\x01\x04pnum\x00\x01\x02\x00\x00\x00\x00\x00\x01\x00\x02\x00\x00\x00\x00\x00\x00\x00\x00\x00\x00\x01",
+        false,
+    ),
+    // Where a text must be 1.
+    (
+        b"\x01\x00\x03ann\x05parts\xff\x00\x01\x01\x00\x01\x03ann\x05parts\x00\x01\x04pnum\x00\x01\x02\x00\x00\x00\x00\x00\x01\x00\x01\x04bolt\x00\x00\x00\x00\x00\x00\x00\x00\x01",
+        false,
+    ),
+    // Of a view.
+    (
+        b"\x01\x00\x03ann\x07numbers\xff\x00\x01\x00\x00\x01\x03ann\x05parts\x00\x01\x04pnum\x00\x01\x02\x00\x00\x00\x00\x00\x01\x00\x02\x00\x00\x00\x00\x00\x00\x00\x00\x00\x00\x01",
+        false,
+    ),
+    // A replace of the second attribute.
+    (
+        b"\x01\x01\x03ann\x05parts\x00\x00\x01\x01\x00\x01\x03ann\x05parts\x00\x01\x04pnum\x00\x01\x02\x00\x00\x00\x00\x00\x01\x00\x02\x00\x00\x00\x00\x00\x00\x00\x00\x00\x00\x01",
+        true,
+    ),
+    // A delete of a second variable.
+    (
+        b"\x01\x02\x03ann\x05parts\x01\x00\x01\x01\x00\x01\x03ann\x05parts\x00\x01\x04pnum\x00\x01\x02\x00\x00\x00\x00\x00\x01\x00\x02\x00\x00\x00\x00\x00\x00\x00\x00\x00\x00\x01",
+        false,
+    ),
+    // An into of `copies`.
+    (
+        b"\x01\x03\x03ann\x06copies\xff\x00\x01\x00\x00\x01\x03ann\x05parts\x00\x01\x04pnum\x00\x01\x02\x00\x00\x00\x00\x00\x01\x00\x02\x00\x00\x00\x00\x00\x00\x00\x00\x00\x00\x01",
+        true,
+    ),
+    // Of `parts`, which is there.
+    (
+        b"\x01\x03\x03ann\x05parts\xff\x00\x01\x00\x00\x01\x03ann\x05parts\x00\x01\x04pnum\x00\x01\x02\x00\x00\x00\x00\x00\x01\x00\x02\x00\x00\x00\x00\x00\x00\x00\x00\x00\x00\x01",
+        false,
+    ),
+];
 
 #[test]
 fn an_update_has_a_relation_places_and_checks(rt: HostRuntime) {
-    let one = Value::Attr(0);
-    let trees = [
-        (
-            Tree::Changed(UpdateOp::Append, b"parts", 255, &[1], one),
-            true,
-        ),
-        (
-            Tree::Changed(UpdateOp::Append, b"parts", 0, &[1], one),
-            false,
-        ),
-        (
-            Tree::Changed(UpdateOp::Append, b"parts", 255, &[2], one),
-            false,
-        ),
-        (
-            Tree::Changed(UpdateOp::Append, b"parts", 255, &[3], one),
-            false,
-        ),
-        (
-            Tree::Changed(UpdateOp::Append, b"parts", 255, &[0, 1], one),
-            false,
-        ),
-        (
-            Tree::Changed(UpdateOp::Append, b"parts", 255, &[1], Value::Text),
-            false,
-        ),
-        (
-            Tree::Changed(UpdateOp::Append, b"numbers", 255, &[0], one),
-            false,
-        ),
-        (
-            Tree::Changed(UpdateOp::Replace, b"parts", 0, &[1], one),
-            true,
-        ),
-        (
-            Tree::Changed(UpdateOp::Delete, b"parts", 1, &[1], one),
-            false,
-        ),
-        (
-            Tree::Changed(UpdateOp::Into, b"copies", 255, &[0], one),
-            true,
-        ),
-        (
-            Tree::Changed(UpdateOp::Into, b"parts", 255, &[0], one),
-            false,
-        ),
-    ];
-    assert!(rt; as_said(&rt, rt.alloc(), &trees) == trees.len());
+    assert!(rt; as_said(&rt, rt.alloc(), &CHANGED) == CHANGED.len());
 }
+
+/// What is made, and what goes.
+const MADE: [Case; 10] = [
+    // A relation `suppliers`.
+    (
+        b"\x02\x00\x03ann\x09suppliers\x00\x01\x04snum\x00\x01",
+        true,
+    ),
+    // A relation `parts`.
+    (b"\x02\x00\x03ann\x05parts\x00\x01\x04snum\x00\x01", false),
+    // One whose attributes have one name.
+    (
+        b"\x02\x00\x03ann\x09suppliers\x00\x02\x04snum\x00\x01\x04snum\x00\x01",
+        false,
+    ),
+    // `parts` goes, and `numbers`.
+    (b"\x02\x01\x00\x02\x03ann\x05parts\x03ann\x07numbers", true),
+    // `parts` goes twice.
+    (b"\x02\x01\x00\x02\x03ann\x05parts\x03ann\x05parts", false),
+    // `suppliers` goes, which isn't there.
+    (b"\x02\x01\x00\x01\x03ann\x09suppliers", false),
+    // A view `quantities` of a view.
+    (
+        b"\x02\x05\x03ann\x0aquantities\x00\x01\x03ann\x07numbers\x00\x01\x04pnum\x00\x01\x02\x00\x00\x00",
+        true,
+    ),
+    // A view `parts`.
+    (
+        b"\x02\x05\x03ann\x05parts\x00\x01\x03ann\x07numbers\x00\x01\x04pnum\x00\x01\x02\x00\x00\x00",
+        false,
+    ),
+    // A view of what isn't there.
+    (
+        b"\x02\x05\x03ann\x0aquantities\x00\x01\x03ann\x09suppliers\x00\x01\x04pnum\x00\x01\x02\x00\x00\x00",
+        false,
+    ),
+    // A view of an aggregate.
+    (
+        b"\x02\x05\x03ann\x0aquantities\x00\x01\x03ann\x05parts\x00\x01\x04pnum\x00\x01\x07\x00\x00\x00\x00\x03ann\x05parts\x02\x00\x00\x00\x00\x00\x00\x00\x00",
+        false,
+    ),
+];
 
 #[test]
 fn what_is_made_is_new_and_what_goes_is_there(rt: HostRuntime) {
-    let trees = [
-        (Tree::Made(b"suppliers", &[b"snum"]), true),
-        (Tree::Made(b"parts", &[b"snum"]), false),
-        (Tree::Made(b"suppliers", &[b"snum", b"snum"]), false),
-        (Tree::Destroyed(&[b"parts", b"numbers"]), true),
-        (Tree::Destroyed(&[b"parts", b"parts"]), false),
-        (Tree::Destroyed(&[b"suppliers"]), false),
-        (
-            Tree::Viewed(b"quantities", b"numbers", Value::Attr(0)),
-            true,
-        ),
-        (Tree::Viewed(b"parts", b"numbers", Value::Attr(0)), false),
-        (
-            Tree::Viewed(b"quantities", b"suppliers", Value::Attr(0)),
-            false,
-        ),
-        (
-            Tree::Viewed(b"quantities", b"parts", Value::Count(0, b"parts")),
-            false,
-        ),
-    ];
-    assert!(rt; as_said(&rt, rt.alloc(), &trees) == trees.len());
+    assert!(rt; as_said(&rt, rt.alloc(), &MADE) == MADE.len());
+}
+
+/// Structures, indexes and copies.
+const KEYED: [Case; 13] = [
+    // `parts` as a hash by two attributes.
+    (b"\x02\x02\x03ann\x05parts\x01\x00\x02\x00\x01", true),
+    // As a view.
+    (b"\x02\x02\x03ann\x05parts\x03\x00\x01\x00", false),
+    // As a hash by a fourth attribute.
+    (b"\x02\x02\x03ann\x05parts\x01\x00\x01\x03", false),
+    // As a hash by one attribute twice.
+    (b"\x02\x02\x03ann\x05parts\x01\x00\x02\x00\x00", false),
+    // What isn't there as a heap.
+    (b"\x02\x02\x03ann\x09suppliers\x00\x00\x00", false),
+    // An index `by_number`.
+    (b"\x02\x03\x03ann\x05parts\x09by_number\x00\x01\x00", true),
+    // Without keys.
+    (b"\x02\x03\x03ann\x05parts\x09by_number\x00\x00", false),
+    // An index `parts`.
+    (b"\x02\x03\x03ann\x05parts\x05parts\x00\x01\x00", false),
+    // A copy of a number of two bytes, and of one up to a newline.
+    (
+        b"\x02\x04\x03ann\x05parts\x00\x02\x01\x00\x02\x00\x02\x0a\x01\x09parts.txt",
+        true,
+    ),
+    // Without columns.
+    (b"\x02\x04\x03ann\x05parts\x00\x00\x01\x09parts.txt", false),
+    // Of a text as a number.
+    (
+        b"\x02\x04\x03ann\x05parts\x00\x01\x02\x00\x02\x01\x09parts.txt",
+        false,
+    ),
+    // Of a fourth attribute.
+    (
+        b"\x02\x04\x03ann\x05parts\x00\x01\x03\x01\x03\x01\x09parts.txt",
+        false,
+    ),
+    // Of one attribute twice.
+    (
+        b"\x02\x04\x03ann\x05parts\x00\x02\x01\x00\x02\x01\x00\x02\x01\x09parts.txt",
+        false,
+    ),
+];
+
+/// A copy of the second attribute of `parts` as a number of three bytes, which no bytes spell.
+fn copy_of_three_bytes<R: Abort>(rt: &R, alloc: Global) -> Checked {
+    let column = CopyCol {
+        attr: 1,
+        form: CopyForm::Bin(3),
+    };
+    let file = Chars::of(alloc, b"parts.txt").expect(rt, "memory");
+    Checked::Utility(Utility::Copy {
+        rel: RelKey {
+            owner: named(rt, alloc, b"ann"),
+            name: named(rt, alloc, b"parts"),
+        },
+        columns: List::of(Vec::from_slice(alloc, &[column]).expect(rt, "memory")),
+        from: true,
+        file: file.expect(rt, "a name of a file"),
+    })
+}
+
+/// Whether that is fit.
+fn three_bytes_fit<R: Abort>(rt: &R, alloc: Global) -> bool {
+    let mut base = laid(rt, alloc, &LAID);
+    let fit = is_fit(rt, alloc, &mut base, copy_of_three_bytes(rt, alloc));
+    drop(base);
+    fit
 }
 
 #[test]
 fn keys_and_columns_are_places(rt: HostRuntime) {
-    let trees = [
-        (Tree::Stored(b"parts", Spec::Hash, &[0, 1]), true),
-        (Tree::Stored(b"parts", Spec::View, &[0]), false),
-        (Tree::Stored(b"parts", Spec::Hash, &[3]), false),
-        (Tree::Stored(b"parts", Spec::Hash, &[0, 0]), false),
-        (Tree::Stored(b"suppliers", Spec::Heap, &[]), false),
-        (Tree::Indexed(b"by_number", &[0]), true),
-        (Tree::Indexed(b"by_number", &[]), false),
-        (Tree::Indexed(b"parts", &[0]), false),
-        (
-            Tree::Copied(&[(1, CopyForm::Bin(2)), (0, CopyForm::Until(10))]),
-            true,
-        ),
-        (Tree::Copied(&[]), false),
-        (Tree::Copied(&[(1, CopyForm::Bin(3))]), false),
-        (Tree::Copied(&[(2, CopyForm::Bin(2))]), false),
-        (Tree::Copied(&[(3, CopyForm::Fixed(3))]), false),
-        (
-            Tree::Copied(&[(1, CopyForm::Bin(2)), (1, CopyForm::Bin(2))]),
-            false,
-        ),
-    ];
-    assert!(rt; as_said(&rt, rt.alloc(), &trees) == trees.len());
+    assert!(rt; as_said(&rt, rt.alloc(), &KEYED) == KEYED.len());
+    assert!(rt; !three_bytes_fit(&rt, rt.alloc()));
 }
+
+/// Permits and rules, where a value is 1.
+const GRANTED: [Case; 11] = [
+    // All rights to the second attribute.
+    (
+        b"\x02\x06\x03ann\x05parts\x00\x00\x00\x00\x0f\x00\x01\x01\x00\x01\x00\x02\x00\x00\x00\x00\x00\x00\x00\x00\x00\x00\x01",
+        true,
+    ),
+    // Rights that there are none of.
+    (
+        b"\x02\x06\x03ann\x05parts\x00\x00\x00\x00\x10\x00\x01\x01\x00\x01\x00\x02\x00\x00\x00\x00\x00\x00\x00\x00\x00\x00\x01",
+        false,
+    ),
+    // To a fourth attribute.
+    (
+        b"\x02\x06\x03ann\x05parts\x00\x00\x00\x00\x0f\x00\x01\x03\x00\x01\x00\x02\x00\x00\x00\x00\x00\x00\x00\x00\x00\x00\x01",
+        false,
+    ),
+    // Where a text is 1.
+    (
+        b"\x02\x06\x03ann\x05parts\x00\x00\x00\x00\x0f\x00\x01\x01\x00\x01\x00\x01\x04bolt\x00\x00\x00\x00\x00\x00\x00\x00\x01",
+        false,
+    ),
+    // A rule of `parts`.
+    (
+        b"\x02\x07\x03ann\x05parts\x00\x00\x00\x00\x01\x00\x02\x00\x00\x00\x00\x00\x00\x00\x00\x00\x00\x01",
+        true,
+    ),
+    // Of what isn't there.
+    (
+        b"\x02\x07\x03ann\x09suppliers\x00\x00\x00\x00\x01\x00\x02\x00\x00\x00\x00\x00\x00\x00\x00\x00\x00\x01",
+        false,
+    ),
+    // Of an aggregate.
+    (
+        b"\x02\x07\x03ann\x05parts\x00\x00\x00\x00\x01\x00\x07\x00\x00\x00\x00\x03ann\x05parts\x02\x00\x00\x00\x00\x00\x00\x00\x00\x00\x00\x00\x00\x00\x00\x00\x01",
+        false,
+    ),
+    // Permits of `parts` go.
+    (b"\x02\x08\x03ann\x05parts\x00\x00", true),
+    // Of what isn't there.
+    (b"\x02\x08\x03ann\x09suppliers\x00\x00", false),
+    // Rules of `numbers` go.
+    (b"\x02\x09\x03ann\x07numbers\x00\x00", true),
+    // Of what isn't there.
+    (b"\x02\x09\x03ann\x09suppliers\x00\x00", false),
+];
 
 #[test]
 fn permits_and_rules_speak_of_what_is_there(rt: HostRuntime) {
-    let one = Value::Attr(0);
-    let trees = [
-        (Tree::Permitted(15, &[1], one), true),
-        (Tree::Permitted(16, &[1], one), false),
-        (Tree::Permitted(15, &[3], one), false),
-        (Tree::Permitted(15, &[1], Value::Text), false),
-        (Tree::Ruled(b"parts", one), true),
-        (Tree::Ruled(b"suppliers", one), false),
-        (Tree::Ruled(b"parts", Value::Count(0, b"parts")), false),
-        (Tree::Unpermitted(b"parts"), true),
-        (Tree::Unpermitted(b"suppliers"), false),
-        (Tree::Unruled(b"numbers"), true),
-        (Tree::Unruled(b"suppliers"), false),
-    ];
-    assert!(rt; as_said(&rt, rt.alloc(), &trees) == trees.len());
+    assert!(rt; as_said(&rt, rt.alloc(), &GRANTED) == GRANTED.len());
 }

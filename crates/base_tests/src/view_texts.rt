@@ -1,8 +1,8 @@
-use crate::made::{attr, compared, created, empty, info, key, keys, lay, named, places, target};
+use crate::made::{key_of, laid, named};
 use crate::shown::{put, put_qual, put_terms, put_vars};
-use crate::tower::Tower;
+use crate::tower::tower;
 use am_traits::Base;
-use calculus::{CmpOp, DbChange, Domain, Kind, Name, Permit, QQual, QTerm, Query, RelKey, Spec};
+use calculus::{Name, QQual, RelKey};
 use plain_base::DbPlain;
 use std::alloc::Global;
 use std::process::Abort;
@@ -11,140 +11,25 @@ use view_expand::{TextFault, text_within};
 use view_sizes::variables_within;
 use view_text::Text;
 
-/// A term, said in short.
-#[derive(Clone, Copy)]
-enum Term {
-    Number(i64),
-    /// The attribute at a place, of the variable at a place before it.
-    Attr(u8, u8),
-}
-
-/// A view: what it ranges over, the kind of its attribute, its target, and two terms that it compares.
-#[derive(Clone, Copy)]
-struct Said<'a> {
-    over: &'a [&'a [u8]],
-    kind: Kind,
-    target: Term,
-    compared: (Term, CmpOp, Term),
-}
-
-fn made(said: Term) -> QTerm {
-    match said {
-        Term::Number(number) => QTerm::Int(number),
-        Term::Attr(var, attr) => QTerm::Attr { var, attr },
-    }
-}
-
-fn condition(said: (Term, CmpOp, Term)) -> QQual {
-    let (left, op, right) = said;
-    compared(made(left), op, made(right))
-}
-
-/// The view of this name.
-fn viewed<R: Abort>(rt: &R, alloc: Global, name: &[u8], said: &Said) -> DbChange {
-    let key = key(rt, alloc, name);
-    DbChange::View {
-        info: info(alloc, key, Spec::View, attr(rt, alloc, said.kind)),
-        query: Query {
-            vars: keys(rt, alloc, said.over),
-            targets: target(rt, alloc, said.kind, made(said.target)),
-            qual: condition(said.compared),
-        },
-    }
-}
-
-/// A permit of bob's with this number, of the sum of rights `ops`, for attributes at these places, and for
-/// the parts that have this number.
-pub(crate) fn permit_of<R: Abort>(
-    rt: &R,
-    alloc: Global,
-    number: u32,
-    ops: u8,
-    attrs: &[u8],
-    part: i64,
-) -> DbChange {
-    DbChange::Permit {
-        rel: key(rt, alloc, b"parts"),
-        permit: Permit {
-            number,
-            ops,
-            attrs: places(rt, alloc, attrs),
-            user: Some(named(rt, alloc, b"bob")),
-            qual: condition((Term::Attr(0, 0), CmpOp::Eq, Term::Number(part))),
-        },
-    }
-}
-
-/// The views of the database, each over those before it.
-const VIEWS: [(&[u8], Said); 6] = [
-    (
-        b"numbers",
-        Said {
-            over: &[b"parts"],
-            kind: Kind::Of(Domain::I2),
-            target: Term::Attr(0, 0),
-            compared: (Term::Attr(0, 1), CmpOp::Eq, Term::Number(5)),
-        },
-    ),
-    (
-        b"few",
-        Said {
-            over: &[b"numbers"],
-            kind: Kind::Of(Domain::I2),
-            target: Term::Attr(0, 0),
-            compared: (Term::Attr(0, 0), CmpOp::Gt, Term::Number(3)),
-        },
-    ),
-    (
-        b"pairs",
-        Said {
-            over: &[b"numbers", b"numbers"],
-            kind: Kind::Of(Domain::I2),
-            target: Term::Attr(1, 0),
-            compared: (Term::Attr(0, 0), CmpOp::Eq, Term::Attr(1, 0)),
-        },
-    ),
-    (
-        b"three",
-        Said {
-            over: &[],
-            kind: Kind::Wide,
-            target: Term::Number(3),
-            compared: (Term::Number(1), CmpOp::Eq, Term::Number(1)),
-        },
-    ),
-    (
-        b"never",
-        Said {
-            over: &[],
-            kind: Kind::Wide,
-            target: Term::Number(3),
-            compared: (Term::Number(1), CmpOp::Eq, Term::Number(2)),
-        },
-    ),
-    (
-        b"threes",
-        Said {
-            over: &[b"three", b"three"],
-            kind: Kind::Wide,
-            target: Term::Attr(1, 0),
-            compared: (Term::Attr(0, 0), CmpOp::Eq, Term::Attr(1, 0)),
-        },
-    ),
+/// A database of ann's: `parts`, bob's permit, and the views, each over those before it.
+pub(crate) const LAID: [&[u8]; 8] = [
+    // `parts` is made with three numbers of two bytes, `pnum`, `qoh` and `price`.
+    b"\x01\x03ann\x05parts\x00\x00\x03\x04pnum\x00\x01\x03qoh\x00\x01\x05price\x00\x01\x00\x00\x00\x00\x00\x00",
+    // bob may read the first two attributes of the parts that have the number 7.
+    b"\x06\x03ann\x05parts\x00\x00\x00\x01\x01\x00\x02\x00\x01\x01\x03bob\x01\x00\x02\x00\x00\x00\x00\x00\x00\x00\x00\x00\x00\x07",
+    // `numbers`: the numbers of the parts whose second attribute is 5.
+    b"\x05\x03ann\x07numbers\x03\x00\x01\x04pnum\x00\x01\x00\x00\x00\x01\x03ann\x05parts\x00\x01\x04pnum\x00\x01\x02\x00\x00\x01\x00\x02\x00\x01\x00\x00\x00\x00\x00\x00\x00\x00\x05",
+    // `few`: those of them that are above 3.
+    b"\x05\x03ann\x03few\x03\x00\x01\x04pnum\x00\x01\x00\x00\x00\x01\x03ann\x07numbers\x00\x01\x04pnum\x00\x01\x02\x00\x00\x01\x04\x02\x00\x00\x00\x00\x00\x00\x00\x00\x00\x00\x03",
+    // `pairs`: the second of two equal ones.
+    b"\x05\x03ann\x05pairs\x03\x00\x01\x04pnum\x00\x01\x00\x00\x00\x02\x03ann\x07numbers\x03ann\x07numbers\x00\x01\x04pnum\x00\x01\x02\x01\x00\x01\x00\x02\x00\x00\x02\x01\x00",
+    // `three`: the number 3.
+    b"\x05\x03ann\x05three\x03\x00\x01\x04pnum\x01\x00\x00\x00\x00\x00\x01\x04pnum\x01\x00\x00\x00\x00\x00\x00\x00\x00\x03\x01\x00\x00\x00\x00\x00\x00\x00\x00\x00\x01\x00\x00\x00\x00\x00\x00\x00\x00\x01",
+    // `never`: the number 3, where 1 is 2.
+    b"\x05\x03ann\x05never\x03\x00\x01\x04pnum\x01\x00\x00\x00\x00\x00\x01\x04pnum\x01\x00\x00\x00\x00\x00\x00\x00\x00\x03\x01\x00\x00\x00\x00\x00\x00\x00\x00\x00\x01\x00\x00\x00\x00\x00\x00\x00\x00\x02",
+    // `threes`: the second of two equal ones.
+    b"\x05\x03ann\x06threes\x03\x00\x01\x04pnum\x01\x00\x00\x00\x02\x03ann\x05three\x03ann\x05three\x00\x01\x04pnum\x01\x02\x01\x00\x01\x00\x02\x00\x00\x02\x01\x00",
 ];
-
-/// A database of ann's: `parts`, bob's permit to read the first two attributes of the parts that have the
-/// number 7, and the views.
-pub(crate) fn new_base<R: Abort>(rt: &R, alloc: Global) -> DbPlain {
-    let mut base = empty(rt, alloc);
-    let parts = created(rt, alloc, b"parts", &[b"pnum", b"qoh", b"price"]);
-    lay(rt, alloc, &mut base, parts);
-    lay(rt, alloc, &mut base, permit_of(rt, alloc, 1, 1, &[0, 1], 7));
-    for (name, said) in &VIEWS {
-        lay(rt, alloc, &mut base, viewed(rt, alloc, name, said));
-    }
-    base
-}
 
 fn put_conditions<R: Abort>(rt: &R, written: &mut Vec<u8>, conditions: &[QQual]) {
     for condition in conditions {
@@ -196,7 +81,7 @@ type Case<'a> = (Option<&'a [u8]>, &'a [u8], &'a [u8], u8, &'a [u8]);
 /// Whether the answer is as said.
 fn is_as_said<R: Abort>(rt: &R, alloc: Global, base: &mut DbPlain, case: &Case) -> bool {
     let (user, name, attrs, levels, said) = *case;
-    let key = key(rt, alloc, name);
+    let key = key_of(rt, alloc, b"ann", name);
     let answer = match user {
         Some(user) => {
             let user = named(rt, alloc, user);
@@ -239,7 +124,7 @@ fn a_text_is_over_relations_with_what_is_permitted(rt: HostRuntime) {
         (None, b"never", &[0], 16, b"| 3 | not true"),
         (Some(b"eve"), b"threes", &[0], 2, b"| 3 |"),
     ];
-    let mut base = new_base(&rt, rt.alloc());
+    let mut base = laid(&rt, rt.alloc(), &LAID);
     for case in &cases {
         assert!(rt; is_as_said(&rt, rt.alloc(), &mut base, case));
     }
@@ -247,8 +132,11 @@ fn a_text_is_over_relations_with_what_is_permitted(rt: HostRuntime) {
 
 /// The text of the view of this letter, through so many levels.
 fn in_tower<R: Abort>(rt: &R, alloc: Global, letter: &[u8], levels: u8) -> Vec<u8> {
-    let key = key(rt, alloc, letter);
-    let answer = text_within(alloc, &mut Tower::new(), None, &key, &[0], levels);
+    let key = key_of(rt, alloc, b"ann", letter);
+    let mut tower = tower(rt, alloc);
+    let answer = text_within(alloc, &mut tower, None, &key, &[0], levels);
+    drop(tower);
+    drop(key);
     let mut written = Vec::new(alloc);
     put_answer(rt, &mut written, &answer);
     written
