@@ -1,48 +1,31 @@
-use crate::numbers::Numbers;
-use crate::trees::{query_where, rows};
-use calculus::{Boxed, CmpOp, QQual, QTerm, RowSet};
+use crate::trees::{query, rows};
+use calculus::RowSet;
 use decompose::{QueryFault, answer};
 use std::alloc::Global;
 use std::process::Abort;
+use test_bases::TestBase;
 
-/// The first attribute of a variable.
-fn first_of(var: u8) -> QTerm {
-    QTerm::Attr { var, attr: 0 }
-}
+/// The number of the third of three variables, where the first is at least 2, the third less than the first,
+/// and the second, which nothing else names, at least 1; and where that is at least 4.
+const SOME: &[u8] =
+    b"\x00\x03\x03ann\x01p\x03ann\x01p\x03ann\x01p\x00\x01\x01x\x01\x02\x02\x00\x03\x03\x01\x05\x02\x00\x00\x00\x00\x00\x00\x00\x00\x00\x00\x02\x01\x05\x02\x01\x00\x00\x00\x00\x00\x00\x00\x00\x00\x01\x01\x02\x02\x02\x00\x02\x00\x00";
 
-/// The first attribute of a variable is at least so great.
-fn at_least(var: u8, number: i64) -> QQual {
-    QQual::Cmp {
-        op: CmpOp::Ge,
-        left: first_of(var),
-        right: QTerm::Int(number),
-    }
-}
+const NONE: &[u8] =
+    b"\x00\x03\x03ann\x01p\x03ann\x01p\x03ann\x01p\x00\x01\x01x\x01\x02\x02\x00\x03\x03\x01\x05\x02\x00\x00\x00\x00\x00\x00\x00\x00\x00\x00\x02\x01\x05\x02\x01\x00\x00\x00\x00\x00\x00\x00\x00\x00\x04\x01\x02\x02\x02\x00\x02\x00\x00";
 
-/// The first attribute of a variable is less than that of another.
-fn less(var: u8, other: u8) -> QQual {
-    QQual::Cmp {
-        op: CmpOp::Lt,
-        left: first_of(var),
-        right: first_of(other),
-    }
-}
+/// The same for an attribute that isn't there.
+const SECOND_OF_SOME: &[u8] =
+    b"\x00\x03\x03ann\x01p\x03ann\x01p\x03ann\x01p\x00\x01\x01x\x01\x02\x02\x01\x03\x03\x01\x05\x02\x00\x00\x00\x00\x00\x00\x00\x00\x00\x00\x02\x01\x05\x02\x01\x00\x00\x00\x00\x00\x00\x00\x00\x00\x01\x01\x02\x02\x02\x00\x02\x00\x00";
 
-/// Both hold.
-fn and(rt: &impl Abort, alloc: Global, left: QQual, right: QQual) -> QQual {
-    let left = Boxed::new(alloc, left).expect(rt, "memory");
-    let right = Boxed::new(alloc, right).expect(rt, "memory");
-    QQual::And(left, right)
-}
+const SECOND_OF_NONE: &[u8] =
+    b"\x00\x03\x03ann\x01p\x03ann\x01p\x03ann\x01p\x00\x01\x01x\x01\x02\x02\x01\x03\x03\x01\x05\x02\x00\x00\x00\x00\x00\x00\x00\x00\x00\x00\x02\x01\x05\x02\x01\x00\x00\x00\x00\x00\x00\x00\x00\x00\x04\x01\x02\x02\x02\x00\x02\x00\x00";
 
-/// What is answered of an attribute of the third of three variables over the numbers 0 to 3: the first
-/// is at least 2, the third less than the first, and the second, which nothing else names, at least
-/// `least`.
-fn answered(rt: &impl Abort, alloc: Global, attr: u8, least: i64) -> Result<RowSet, QueryFault> {
-    let alone = and(rt, alloc, at_least(0, 2), at_least(1, least));
-    let qual = and(rt, alloc, alone, less(2, 0));
-    let q = query_where(rt, alloc, 3, b"x", QTerm::Attr { var: 2, attr }, qual);
-    let found = answer(alloc, &mut Numbers { rows: 4 }, &q, &[]);
+/// What is answered of a query over the numbers 0 to 3.
+fn answered(rt: &impl Abort, alloc: Global, bytes: &[u8]) -> Result<RowSet, QueryFault> {
+    let q = query(rt, alloc, bytes);
+    let mut base = TestBase::of_numbers(alloc, 4);
+    let found = answer(alloc, &mut base, &q, &[]);
+    drop(base);
     drop(q);
     found
 }
@@ -63,17 +46,17 @@ fn is_set(
     same
 }
 
-/// Whether these numbers are answered where the second variable is at least `least`.
-fn gives(rt: &impl Abort, alloc: Global, least: i64, numbers: &[&[i64]]) -> bool {
-    let found = answered(rt, alloc, 0, least);
+/// Whether these numbers are answered.
+fn gives(rt: &impl Abort, alloc: Global, bytes: &[u8], numbers: &[&[i64]]) -> bool {
+    let found = answered(rt, alloc, bytes);
     let same = is_set(rt, alloc, &found, numbers);
     drop(found);
     same
 }
 
-/// Whether a target lacks a value there, where it is for an attribute that isn't there.
-fn lacks(rt: &impl Abort, alloc: Global, least: i64) -> bool {
-    let found = answered(rt, alloc, 1, least);
+/// Whether a target lacks a value.
+fn lacks(rt: &impl Abort, alloc: Global, bytes: &[u8]) -> bool {
+    let found = answered(rt, alloc, bytes);
     let lacks = match &found {
         Err(QueryFault::NoValue { at }) => at.items().len() == 3,
         _ => false,
@@ -82,27 +65,45 @@ fn lacks(rt: &impl Abort, alloc: Global, least: i64) -> bool {
     lacks
 }
 
-/// Whether the numbers 1 to 3 are answered of the first of 20 variables, each of which is at least 1.
-fn many_end(rt: &impl Abort, alloc: Global) -> bool {
-    let mut qual = QQual::True;
-    for v in 0..20u8 {
-        qual = and(rt, alloc, qual, at_least(v, 1));
+/// The bytes of the query of the number of the first of 20 variables, each of which is at least 1.
+fn many(rt: &impl Abort, alloc: Global) -> Vec<u8> {
+    let mut bytes = Vec::new(alloc);
+    put(rt, &mut bytes, b"\x00\x14");
+    for _ in 0..20u8 {
+        put(rt, &mut bytes, b"\x03ann\x01p");
     }
-    let q = query_where(rt, alloc, 20, b"x", first_of(0), qual);
-    let found = answer(alloc, &mut Numbers { rows: 4 }, &q, &[]);
-    drop(q);
-    let same = is_set(rt, alloc, &found, &[&[1], &[2], &[3]]);
-    drop(found);
+    put(rt, &mut bytes, b"\x00\x01\x01x\x01\x02\x00\x00");
+    put(rt, &mut bytes, &[3; 20]);
+    put(rt, &mut bytes, b"\x00");
+    for var in 0..20u8 {
+        put(
+            rt,
+            &mut bytes,
+            &[1, 5, 2, var, 0, 0, 0, 0, 0, 0, 0, 0, 0, 1],
+        );
+    }
+    bytes
+}
+
+fn put(rt: &impl Abort, written: &mut Vec<u8>, bytes: &[u8]) {
+    written.extend_from_slice(bytes).expect(rt, "memory");
+}
+
+/// Whether the numbers 1 to 3 are answered of it.
+fn many_end(rt: &impl Abort, alloc: Global) -> bool {
+    let bytes = many(rt, alloc);
+    let same = gives(rt, alloc, &bytes, &[&[1], &[2], &[3]]);
+    drop(bytes);
     same
 }
 
 #[test]
 fn a_condition_on_one_variable_is_applied_to_its_rows(rt: HostRuntime) {
     // The first is 2 or 3, so the third is 0, 1 or 2.
-    assert!(rt; gives(&rt, rt.alloc(), 1, &[&[0], &[1], &[2]]));
+    assert!(rt; gives(&rt, rt.alloc(), SOME, &[&[0], &[1], &[2]]));
     // No row of the second is left.
-    assert!(rt; gives(&rt, rt.alloc(), 4, &[]));
-    assert!(rt; lacks(&rt, rt.alloc(), 1));
-    assert!(rt; !lacks(&rt, rt.alloc(), 4));
+    assert!(rt; gives(&rt, rt.alloc(), NONE, &[]));
+    assert!(rt; lacks(&rt, rt.alloc(), SECOND_OF_SOME));
+    assert!(rt; !lacks(&rt, rt.alloc(), SECOND_OF_NONE));
     assert!(rt; many_end(&rt, rt.alloc()));
 }

@@ -1,176 +1,121 @@
-use crate::cases::{ALWAYS, Case, Fold, Said, found, gives};
+use crate::cases::{found, gives};
 use crate::trees::{alone, row};
-use calculus::{AggOp, CmpOp, Row, UpdateOp};
+use calculus::Row;
 use decompose::QueryFault;
 use stage_proc::PairFault;
 use std::alloc::Global;
 use std::process::Abort;
 
-/// The replacement of shares.
-fn replace<'a>(puts: &'a [(u8, Fold, Said)], qual: (Said, CmpOp, Fold, Said)) -> Case<'a> {
-    Case {
-        op: UpdateOp::Replace,
-        puts,
-        qual,
+/// An update, and the pairs of old and new rows that it gives.
+type Case<'a> = (&'a [u8], &'a [(&'a [i64], &'a [i64])]);
+
+/// Whether each update gives its pairs.
+fn all_give(rt: &impl Abort, alloc: Global, cases: &[Case]) -> bool {
+    for (update, wanted) in cases {
+        if !gives(rt, alloc, *update, *wanted) {
+            return false;
+        }
     }
+    true
 }
 
-/// The deletion of rows.
-fn delete(qual: (Said, CmpOp, Fold, Said)) -> Case<'static> {
-    Case {
-        op: UpdateOp::Delete,
-        puts: &[],
-        qual,
-    }
-}
-
-/// Whether the shares of rows are replaced so.
-fn replaces(
-    rt: &impl Abort,
-    alloc: Global,
-    fold: Fold,
-    said: Said,
-    qual: (Said, CmpOp, Fold, Said),
-    numbers: &[(&[i64], &[i64])],
-) -> bool {
-    let puts = [(1, fold, said)];
-    gives(rt, alloc, &replace(&puts, qual), numbers)
-}
+/// Replaces of the share.
+const REPLACED: [Case; 6] = [
+    // By the sum of the shares of the group.
+    (
+        b"\x01\x01\x03ann\x01p\x00\x00\x01\x01\x00\x01\x03ann\x01p\x00\x01\x01x\x01\x07\x00\x00\x02\x00\x03ann\x01p\x02\x00\x01\x00\x01\x02\x00\x00\x00\x01\x02\x00\x00\x01\x04\x02\x00\x01\x00\x00\x00\x00\x00\x00\x00\x00\x00\x01\x00\x00\x00\x00\x00\x00\x00\x00\x00\x00\x00\x00\x00\x00\x00\x00\x00\x00\x00\x00\x00\x00",
+        &[
+            (&[1, 10], &[1, 30]),
+            (&[1, 20], &[1, 30]),
+            (&[2, 5], &[2, 5]),
+        ],
+    ),
+    // By the sum of all shares.
+    (
+        b"\x01\x01\x03ann\x01p\x00\x00\x01\x01\x00\x01\x03ann\x01p\x00\x01\x01x\x01\x07\x00\x00\x02\x00\x03ann\x01p\x02\x00\x01\x00\x00\x00\x00\x01\x04\x02\x00\x01\x00\x00\x00\x00\x00\x00\x00\x00\x00\x01\x00\x00\x00\x00\x00\x00\x00\x00\x00\x00\x00\x00\x00\x00\x00\x00\x00\x00\x00\x00\x00\x00",
+        &[
+            (&[1, 10], &[1, 35]),
+            (&[1, 20], &[1, 35]),
+            (&[2, 5], &[2, 35]),
+        ],
+    ),
+    // By the sum of those above 5, of which the second group has none.
+    (
+        b"\x01\x01\x03ann\x01p\x00\x00\x01\x01\x00\x01\x03ann\x01p\x00\x01\x01x\x01\x07\x00\x00\x02\x00\x03ann\x01p\x02\x00\x01\x00\x01\x02\x00\x00\x00\x01\x02\x00\x00\x01\x04\x02\x00\x01\x00\x00\x00\x00\x00\x00\x00\x00\x05\x01\x00\x00\x00\x00\x00\x00\x00\x00\x00\x00\x00\x00\x00\x00\x00\x00\x00\x00\x00\x00\x00\x00",
+        &[
+            (&[1, 10], &[1, 30]),
+            (&[1, 20], &[1, 30]),
+            (&[2, 5], &[2, 0]),
+        ],
+    ),
+    // By 0 where the share is the greatest of the group: only the qualification has an aggregate.
+    (
+        b"\x01\x01\x03ann\x01p\x00\x00\x01\x01\x00\x01\x03ann\x01p\x00\x01\x01x\x01\x00\x00\x00\x00\x00\x00\x00\x00\x00\x01\x00\x02\x00\x01\x07\x00\x00\x07\x00\x03ann\x01p\x02\x00\x01\x00\x01\x02\x00\x00\x00\x01\x02\x00\x00\x01\x04\x02\x00\x01\x00\x00\x00\x00\x00\x00\x00\x00\x00\x00\x00\x00",
+        &[(&[1, 20], &[1, 0]), (&[2, 5], &[2, 0])],
+    ),
+    // By the number of the shares of the group, where it is the greatest: both have an aggregate.
+    (
+        b"\x01\x01\x03ann\x01p\x00\x00\x01\x01\x00\x01\x03ann\x01p\x00\x01\x01x\x01\x07\x00\x00\x00\x00\x03ann\x01p\x02\x00\x01\x00\x01\x02\x00\x00\x00\x01\x02\x00\x00\x01\x04\x02\x00\x01\x00\x00\x00\x00\x00\x00\x00\x00\x00\x01\x00\x02\x00\x01\x07\x00\x01\x07\x00\x03ann\x01p\x02\x00\x01\x00\x01\x02\x00\x00\x00\x01\x02\x00\x00\x01\x04\x02\x00\x01\x00\x00\x00\x00\x00\x00\x00\x00\x00\x00\x00\x00",
+        &[(&[1, 20], &[1, 2]), (&[2, 5], &[2, 1])],
+    ),
+    // By the sum of the quotients of each share and itself less 5, in the first group; the second has no sum, and isn't asked for it.
+    (
+        b"\x01\x01\x03ann\x01p\x00\x00\x01\x01\x00\x01\x03ann\x01p\x00\x01\x01x\x01\x07\x00\x00\x02\x00\x03ann\x01p\x05\x03\x02\x00\x01\x05\x01\x02\x00\x01\x00\x00\x00\x00\x00\x00\x00\x00\x05\x00\x01\x02\x00\x00\x00\x01\x02\x00\x00\x01\x04\x02\x00\x01\x00\x00\x00\x00\x00\x00\x00\x00\x00\x01\x00\x02\x00\x00\x00\x00\x00\x00\x00\x00\x00\x00\x01\x00\x00\x00",
+        &[(&[1, 10], &[1, 3]), (&[1, 20], &[1, 3])],
+    ),
+];
 
 #[test]
 fn replaced_values_are_folded(rt: HostRuntime) {
-    let greatest = (
-        Said::Share,
-        CmpOp::Eq,
-        Fold::Within(AggOp::Max),
-        Said::Share,
-    );
-    let first = (Said::Group, CmpOp::Eq, Fold::Not, Said::Number(1));
-    let cases: [(Fold, Said, (Said, CmpOp, Fold, Said), &[(&[i64], &[i64])]); 6] = [
-        (
-            Fold::Within(AggOp::Sum),
-            Said::Share,
-            ALWAYS,
-            &[
-                (&[1, 10], &[1, 30]),
-                (&[1, 20], &[1, 30]),
-                (&[2, 5], &[2, 5]),
-            ],
-        ),
-        (
-            Fold::All(AggOp::Sum),
-            Said::Share,
-            ALWAYS,
-            &[
-                (&[1, 10], &[1, 35]),
-                (&[1, 20], &[1, 35]),
-                (&[2, 5], &[2, 35]),
-            ],
-        ),
-        // No row of the second group is above 5.
-        (
-            Fold::Above(AggOp::Sum, 5),
-            Said::Share,
-            ALWAYS,
-            &[
-                (&[1, 10], &[1, 30]),
-                (&[1, 20], &[1, 30]),
-                (&[2, 5], &[2, 0]),
-            ],
-        ),
-        // Only the qualification has an aggregate.
-        (
-            Fold::Not,
-            Said::Number(0),
-            greatest,
-            &[(&[1, 20], &[1, 0]), (&[2, 5], &[2, 0])],
-        ),
-        // Both have one.
-        (
-            Fold::Within(AggOp::Count),
-            Said::Share,
-            greatest,
-            &[(&[1, 20], &[1, 2]), (&[2, 5], &[2, 1])],
-        ),
-        // The second group has no sum, and isn't asked for it.
-        (
-            Fold::Within(AggOp::Sum),
-            Said::Quotient,
-            first,
-            &[(&[1, 10], &[1, 3]), (&[1, 20], &[1, 3])],
-        ),
-    ];
-    for (fold, said, qual, wanted) in &cases {
-        assert!(rt; replaces(&rt, rt.alloc(), *fold, *said, *qual, wanted));
-    }
+    assert!(rt; all_give(&rt, rt.alloc(), &REPLACED));
 }
+
+/// Deletes.
+const DELETED: [Case; 3] = [
+    // Where the share is less than the mean of all, which is 11.
+    (
+        b"\x01\x02\x03ann\x01p\x00\x00\x00\x00\x01\x03ann\x01p\x00\x00\x01\x02\x02\x00\x01\x07\x00\x00\x04\x00\x03ann\x01p\x02\x00\x01\x00\x00\x00\x00\x01\x04\x02\x00\x01\x00\x00\x00\x00\x00\x00\x00\x00\x00\x00\x00\x00",
+        &[(&[1, 10], &[]), (&[2, 5], &[])],
+    ),
+    // Where it is the greatest of the group.
+    (
+        b"\x01\x02\x03ann\x01p\x00\x00\x00\x00\x01\x03ann\x01p\x00\x00\x01\x00\x02\x00\x01\x07\x00\x00\x07\x00\x03ann\x01p\x02\x00\x01\x00\x01\x02\x00\x00\x00\x01\x02\x00\x00\x01\x04\x02\x00\x01\x00\x00\x00\x00\x00\x00\x00\x00\x00\x00\x00\x00",
+        &[(&[1, 20], &[]), (&[2, 5], &[])],
+    ),
+    // Where it is above the greatest of the group.
+    (
+        b"\x01\x02\x03ann\x01p\x00\x00\x00\x00\x01\x03ann\x01p\x00\x00\x01\x04\x02\x00\x01\x07\x00\x00\x07\x00\x03ann\x01p\x02\x00\x01\x00\x01\x02\x00\x00\x00\x01\x02\x00\x00\x01\x04\x02\x00\x01\x00\x00\x00\x00\x00\x00\x00\x00\x00\x00\x00\x00",
+        &[],
+    ),
+];
 
 #[test]
 fn deleted_rows_are_those_of_before(rt: HostRuntime) {
-    let cases: [((Said, CmpOp, Fold, Said), &[(&[i64], &[i64])]); 3] = [
-        // The mean of all shares is 11.
-        (
-            (Said::Share, CmpOp::Lt, Fold::All(AggOp::Avg), Said::Share),
-            &[(&[1, 10], &[]), (&[2, 5], &[])],
-        ),
-        (
-            (
-                Said::Share,
-                CmpOp::Eq,
-                Fold::Within(AggOp::Max),
-                Said::Share,
-            ),
-            &[(&[1, 20], &[]), (&[2, 5], &[])],
-        ),
-        (
-            (
-                Said::Share,
-                CmpOp::Gt,
-                Fold::Within(AggOp::Max),
-                Said::Share,
-            ),
-            &[],
-        ),
-    ];
-    for (qual, wanted) in &cases {
-        assert!(rt; gives(&rt, rt.alloc(), &delete(*qual), wanted));
-    }
+    assert!(rt; all_give(&rt, rt.alloc(), &DELETED));
 }
+
+/// Appends and an into.
+const NEW: [Case; 3] = [
+    // The sum and the number of all shares are appended: nothing names a row, so there is one.
+    (
+        b"\x01\x00\x03ann\x01p\x00\x00\x02\x01\x00\x00\x01\x03ann\x01p\x00\x02\x01x\x01\x07\x00\x00\x02\x00\x03ann\x01p\x02\x00\x01\x00\x00\x00\x00\x01\x04\x02\x00\x01\x00\x00\x00\x00\x00\x00\x00\x00\x00\x01x\x01\x07\x00\x01\x00\x00\x03ann\x01p\x02\x00\x01\x00\x00\x00\x00\x01\x04\x02\x00\x01\x00\x00\x00\x00\x00\x00\x00\x00\x00\x01\x00\x00\x00\x00\x00\x00\x00\x00\x00\x00\x00\x00\x00\x00\x00\x00\x00\x00\x00\x00\x00\x00",
+        &[(&[], &[3, 35])],
+    ),
+    // The greatest share of the group is appended.
+    (
+        b"\x01\x00\x03ann\x01p\x00\x00\x01\x01\x00\x01\x03ann\x01p\x00\x01\x01x\x01\x07\x00\x00\x07\x00\x03ann\x01p\x02\x00\x01\x00\x01\x02\x00\x00\x00\x01\x02\x00\x00\x01\x04\x02\x00\x01\x00\x00\x00\x00\x00\x00\x00\x00\x00\x01\x00\x00\x00\x00\x00\x00\x00\x00\x00\x00\x00\x00\x00\x00\x00\x00\x00\x00\x00\x00\x00\x00",
+        &[(&[], &[0, 20]), (&[], &[0, 20]), (&[], &[0, 5])],
+    ),
+    // The group and the mean of its shares are retrieved into a relation.
+    (
+        b"\x01\x03\x03ann\x01p\x00\x00\x02\x00\x01\x00\x01\x03ann\x01p\x00\x02\x01x\x01\x02\x00\x00\x01x\x01\x07\x00\x00\x04\x00\x03ann\x01p\x02\x00\x01\x00\x01\x02\x00\x00\x00\x01\x02\x00\x00\x01\x04\x02\x00\x01\x00\x00\x00\x00\x00\x00\x00\x00\x00\x01\x00\x00\x00\x00\x00\x00\x00\x00\x00\x00\x00\x00\x00\x00\x00\x00\x00\x00\x00\x00\x00\x00",
+        &[(&[], &[1, 15]), (&[], &[1, 15]), (&[], &[2, 5])],
+    ),
+];
 
 #[test]
 fn new_rows_are_folded(rt: HostRuntime) {
-    let cases: [(UpdateOp, &[(u8, Fold, Said)], &[(&[i64], &[i64])]); 3] = [
-        // Nothing names a row, so there is one.
-        (
-            UpdateOp::Append,
-            &[
-                (1, Fold::All(AggOp::Sum), Said::Share),
-                (0, Fold::All(AggOp::Count), Said::Share),
-            ],
-            &[(&[], &[3, 35])],
-        ),
-        (
-            UpdateOp::Append,
-            &[(1, Fold::Within(AggOp::Max), Said::Share)],
-            &[(&[], &[0, 20]), (&[], &[0, 20]), (&[], &[0, 5])],
-        ),
-        (
-            UpdateOp::Into,
-            &[
-                (0, Fold::Not, Said::Group),
-                (1, Fold::Within(AggOp::Avg), Said::Share),
-            ],
-            &[(&[], &[1, 15]), (&[], &[1, 15]), (&[], &[2, 5])],
-        ),
-    ];
-    for (op, puts, wanted) in &cases {
-        let case = Case {
-            op: *op,
-            puts,
-            qual: ALWAYS,
-        };
-        assert!(rt; gives(&rt, rt.alloc(), &case, wanted));
-    }
+    assert!(rt; all_give(&rt, rt.alloc(), &NEW));
 }
 
 /// Whether the assignment has this row alone.
@@ -182,8 +127,8 @@ fn is_row(rt: &impl Abort, alloc: Global, rows: &[Row], numbers: &[i64]) -> bool
 }
 
 /// Whether a value lacks where the row of these numbers is replaced.
-fn lacks(rt: &impl Abort, alloc: Global, case: &Case, numbers: &[i64]) -> bool {
-    let found = found(rt, alloc, case);
+fn lacks(rt: &impl Abort, alloc: Global, update: &[u8], numbers: &[i64]) -> bool {
+    let found = found(rt, alloc, update);
     let same = match &found {
         Err(PairFault::Query(QueryFault::NoValue { at })) => {
             is_row(rt, alloc, at.items(), numbers)
@@ -195,9 +140,9 @@ fn lacks(rt: &impl Abort, alloc: Global, case: &Case, numbers: &[i64]) -> bool {
 }
 
 /// Whether the new row of these numbers doesn't fit.
-fn is_unfit(rt: &impl Abort, alloc: Global, case: &Case, numbers: &[i64]) -> bool {
+fn is_unfit(rt: &impl Abort, alloc: Global, update: &[u8], numbers: &[i64]) -> bool {
     let wanted = row(rt, alloc, numbers);
-    let found = found(rt, alloc, case);
+    let found = found(rt, alloc, update);
     let same = match &found {
         Err(PairFault::NotFit { row }) => *row == wanted,
         _ => false,
@@ -207,18 +152,30 @@ fn is_unfit(rt: &impl Abort, alloc: Global, case: &Case, numbers: &[i64]) -> boo
     same
 }
 
+/// A replace of the share by the sum of the quotients of each share and itself less 5, in the group.
+const QUOTIENTS: &[u8] =
+    b"\x01\x01\x03ann\x01p\x00\x00\x01\x01\x00\x01\x03ann\x01p\x00\x01\x01x\x01\x07\x00\x00\x02\x00\x03ann\x01p\x05\x03\x02\x00\x01\x05\x01\x02\x00\x01\x00\x00\x00\x00\x00\x00\x00\x00\x05\x00\x01\x02\x00\x00\x00\x01\x02\x00\x00\x01\x04\x02\x00\x01\x00\x00\x00\x00\x00\x00\x00\x00\x00\x01\x00\x00\x00\x00\x00\x00\x00\x00\x00\x00\x00\x00\x00\x00\x00\x00\x00\x00\x00\x00\x00\x00";
+
+/// And by that of all rows.
+const ALL_QUOTIENTS: &[u8] =
+    b"\x01\x01\x03ann\x01p\x00\x00\x01\x01\x00\x01\x03ann\x01p\x00\x01\x01x\x01\x07\x00\x00\x02\x00\x03ann\x01p\x05\x03\x02\x00\x01\x05\x01\x02\x00\x01\x00\x00\x00\x00\x00\x00\x00\x00\x05\x00\x00\x00\x00\x01\x04\x02\x00\x01\x00\x00\x00\x00\x00\x00\x00\x00\x00\x01\x00\x00\x00\x00\x00\x00\x00\x00\x00\x00\x00\x00\x00\x00\x00\x00\x00\x00\x00\x00\x00\x00";
+
+/// A replace by the sum of 2000 times each share, in the group.
+const TWO_THOUSAND: &[u8] =
+    b"\x01\x01\x03ann\x01p\x00\x00\x01\x01\x00\x01\x03ann\x01p\x00\x01\x01x\x01\x07\x00\x00\x02\x00\x03ann\x01p\x05\x02\x02\x00\x01\x00\x00\x00\x00\x00\x00\x00\x07\xd0\x00\x01\x02\x00\x00\x00\x01\x02\x00\x00\x01\x04\x02\x00\x01\x00\x00\x00\x00\x00\x00\x00\x00\x00\x01\x00\x00\x00\x00\x00\x00\x00\x00\x00\x00\x00\x00\x00\x00\x00\x00\x00\x00\x00\x00\x00\x00";
+
+/// And by the least of -7000 times each share.
+const LEAST: &[u8] =
+    b"\x01\x01\x03ann\x01p\x00\x00\x01\x01\x00\x01\x03ann\x01p\x00\x01\x01x\x01\x07\x00\x00\x06\x00\x03ann\x01p\x05\x02\x02\x00\x01\x00\xff\xff\xff\xff\xff\xff\xe4\xa8\x00\x01\x02\x00\x00\x00\x01\x02\x00\x00\x01\x04\x02\x00\x01\x00\x00\x00\x00\x00\x00\x00\x00\x00\x01\x00\x00\x00\x00\x00\x00\x00\x00\x00\x00\x00\x00\x00\x00\x00\x00\x00\x00\x00\x00\x00\x00";
+
 #[test]
 fn a_folded_value_may_lack_or_not_fit(rt: HostRuntime) {
     // The share of 5 has no quotient, so the second group has no sum of them.
-    let puts = [(1, Fold::Within(AggOp::Sum), Said::Quotient)];
-    assert!(rt; lacks(&rt, rt.alloc(), &replace(&puts, ALWAYS), &[2, 5]));
+    assert!(rt; lacks(&rt, rt.alloc(), QUOTIENTS, &[2, 5]));
     // Of all rows there is none either, which the first row asks for.
-    let puts = [(1, Fold::All(AggOp::Sum), Said::Quotient)];
-    assert!(rt; lacks(&rt, rt.alloc(), &replace(&puts, ALWAYS), &[1, 10]));
+    assert!(rt; lacks(&rt, rt.alloc(), ALL_QUOTIENTS, &[1, 10]));
     // 30 times 2000 is above 32767, 5 times 2000 isn't.
-    let puts = [(1, Fold::Within(AggOp::Sum), Said::Times(2000))];
-    assert!(rt; is_unfit(&rt, rt.alloc(), &replace(&puts, ALWAYS), &[1, 60000]));
+    assert!(rt; is_unfit(&rt, rt.alloc(), TWO_THOUSAND, &[1, 60000]));
     // The least of the second group alone is too small.
-    let puts = [(1, Fold::Within(AggOp::Min), Said::Times(-7000))];
-    assert!(rt; is_unfit(&rt, rt.alloc(), &replace(&puts, ALWAYS), &[1, -140000]));
+    assert!(rt; is_unfit(&rt, rt.alloc(), LEAST, &[1, -140000]));
 }

@@ -8,11 +8,7 @@ mod conditions;
 #[cfg(test)]
 mod folded;
 #[cfg(test)]
-mod numbers;
-#[cfg(test)]
 mod queries;
-#[cfg(test)]
-mod shares;
 #[cfg(test)]
 mod trees;
 #[cfg(test)]

@@ -1,10 +1,19 @@
-use crate::numbers::Numbers;
-use crate::trees::{alone, query, rows};
-use calculus::{Asked, List, QTerm, RowSet, SortKey, Table};
+use crate::trees::{query, rows, tree};
+use calculus::{Checked, List, RowSet, SortKey, Table};
 use decompose::{QueryFault, answer};
 use query_tables::{sorted, tables_of};
 use std::alloc::Global;
 use std::process::Abort;
+use test_bases::TestBase;
+
+/// The number of the second of two variables, and an attribute of it that isn't there.
+const NUMBER: &[u8] = b"\x00\x02\x03ann\x01p\x03ann\x01p\x00\x01\x01x\x01\x02\x01\x00\x00";
+
+const NO_NUMBER: &[u8] = b"\x00\x02\x03ann\x01p\x03ann\x01p\x00\x01\x01x\x01\x02\x01\x01\x00";
+
+/// The queries for the number, one under the title x and sorted up, one under y and sorted down.
+const UP_AND_DOWN: &[u8] =
+    b"\x00\x00\x02\x00\x01\x03ann\x01p\x00\x01\x01x\x01\x02\x00\x00\x00\x00\x01\x00\x00\x00\x00\x01\x03ann\x01p\x00\x01\x01y\x01\x02\x00\x00\x00\x00\x01\x00\x00\x01";
 
 /// How many rows there are; `None` where a target has no value.
 fn row_count(answer: &Result<RowSet, QueryFault>) -> Option<usize> {
@@ -15,11 +24,12 @@ fn row_count(answer: &Result<RowSet, QueryFault>) -> Option<usize> {
     }
 }
 
-/// How many rows there are of an attribute of the second of two variables; `None` where it has no
-/// value.
-fn answered(rt: &impl Abort, alloc: Global, attr: u8) -> Option<usize> {
-    let q = query(rt, alloc, 2, b"x", QTerm::Attr { var: 1, attr });
-    let answer = answer(alloc, &mut Numbers { rows: 3 }, &q, &[]);
+/// How many rows there are of a query over the numbers 0 to 2; `None` where a target has no value.
+fn answered(rt: &impl Abort, alloc: Global, bytes: &[u8]) -> Option<usize> {
+    let q = query(rt, alloc, bytes);
+    let mut base = TestBase::of_numbers(alloc, 3);
+    let answer = answer(alloc, &mut base, &q, &[]);
+    drop(base);
     drop(q);
     let count = row_count(&answer);
     drop(answer);
@@ -45,26 +55,16 @@ fn stand_so(rt: &impl Abort, alloc: Global, given: &[&[i64]], wanted: &[&[i64]])
     same
 }
 
-/// The query for the first attribute, under a title, sorted by it.
-fn asked(rt: &impl Abort, alloc: Global, title: &[u8], down: bool) -> Asked {
-    let key = SortKey { column: 0, down };
-    Asked {
-        query: query(rt, alloc, 1, title, QTerm::Attr { var: 0, attr: 0 }),
-        sort: List::of(alone(rt, alloc, key)),
-    }
-}
-
 /// The tables of two queries, one up and one down.
 fn two_tables(rt: &impl Abort, alloc: Global) -> List<Table> {
-    let mut queries = Vec::new(alloc);
-    queries
-        .push(asked(rt, alloc, b"x", false))
-        .expect(rt, "memory");
-    queries
-        .push(asked(rt, alloc, b"y", true))
-        .expect(rt, "memory");
-    let tables = tables_of(alloc, &mut Numbers { rows: 3 }, &queries);
-    drop(queries);
+    let tree = tree(rt, alloc, UP_AND_DOWN);
+    let mut base = TestBase::of_numbers(alloc, 3);
+    let tables = match &tree {
+        Checked::Answer(all) => tables_of(alloc, &mut base, all.items()),
+        _ => rt.abort(),
+    };
+    drop(base);
+    drop(tree);
     tables.ok().expect(rt, "tables")
 }
 
@@ -101,9 +101,9 @@ fn both_show(rt: &impl Abort, alloc: Global) -> bool {
 
 #[test]
 fn an_answer_reads_what_is_used_and_each_query_has_its_table(rt: HostRuntime) {
-    assert!(rt; answered(&rt, rt.alloc(), 0) == Some(3));
+    assert!(rt; answered(&rt, rt.alloc(), NUMBER) == Some(3));
     // An attribute that isn't there has no value.
-    assert!(rt; answered(&rt, rt.alloc(), 1) == None);
+    assert!(rt; answered(&rt, rt.alloc(), NO_NUMBER) == None);
     // The first column is the weightiest.
     let given: [&[i64]; 3] = [&[1, 3], &[2, 1], &[1, 2]];
     let wanted: [&[i64]; 3] = [&[2, 1], &[1, 2], &[1, 3]];

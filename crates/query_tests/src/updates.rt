@@ -1,32 +1,37 @@
-use crate::numbers::Numbers;
-use crate::trees::{alone, bare_query, key, query, rows};
+use crate::trees::{alone, rows, tree};
 use am_traits::BaseFault;
-use calculus::{
-    DbChange, Domain, Kind, List, OutOfMemory, Pair, QQual, QTerm, Query, RowSet, Update, UpdateOp,
-};
+use calculus::{Checked, DbChange, Domain, Kind, OutOfMemory, Pair, RowSet, Update};
 use decompose::QueryFault;
 use stage_proc::{NewKinds, PairFault, pairs_of, pairs_over};
 use std::alloc::Global;
 use std::process::Abort;
+use test_bases::TestBase;
 use update_change::{UpdateFault, change_of};
 
-/// An update of the first variable of the query, whose targets are for these places.
-fn update(rt: &impl Abort, alloc: Global, op: UpdateOp, places: Vec<u8>, query: Query) -> Update {
-    Update {
-        op,
-        rel: key(rt, alloc).expect(rt, "memory"),
-        old: 0,
-        places: List::of(places),
-        query,
-        checks: List::of(Vec::new(alloc)),
-        new_cut: QQual::True,
-    }
-}
+/// Replaces of the number by 7, and by 70000.
+const SEVEN: &[u8] =
+    b"\x01\x01\x03ann\x01p\x00\x00\x01\x00\x00\x01\x03ann\x01p\x00\x01\x01x\x01\x00\x00\x00\x00\x00\x00\x00\x00\x07\x00\x00\x00\x00";
 
-/// Puts the number into the first attribute.
-fn puts(rt: &impl Abort, alloc: Global, op: UpdateOp, number: i64) -> Update {
-    let query = query(rt, alloc, 1, b"x", QTerm::Int(number));
-    update(rt, alloc, op, alone(rt, alloc, 0), query)
+const LARGE: &[u8] =
+    b"\x01\x01\x03ann\x01p\x00\x00\x01\x00\x00\x01\x03ann\x01p\x00\x01\x01x\x01\x00\x00\x00\x00\x00\x00\x01\x11p\x00\x00\x00\x00";
+
+/// A delete of all rows.
+const DELETE: &[u8] =
+    b"\x01\x02\x03ann\x01p\x00\x00\x00\x00\x01\x03ann\x01p\x00\x00\x00\x00\x00\x00";
+
+/// An append of the number 7, and an into.
+const APPEND: &[u8] =
+    b"\x01\x00\x03ann\x01p\x00\x00\x01\x00\x00\x01\x03ann\x01p\x00\x01\x01x\x01\x00\x00\x00\x00\x00\x00\x00\x00\x07\x00\x00\x00\x00";
+
+const INTO: &[u8] =
+    b"\x01\x03\x03ann\x01p\x00\x00\x01\x00\x00\x01\x03ann\x01p\x00\x01\x01x\x01\x00\x00\x00\x00\x00\x00\x00\x00\x07\x00\x00\x00\x00";
+
+/// The update that the tree is.
+fn updated<'a>(rt: &impl Abort, tree: &'a Checked) -> &'a Update {
+    match tree {
+        Checked::Update(update) => update,
+        _ => rt.abort(),
+    }
 }
 
 /// The kinds of one attribute of 16 bits.
@@ -37,13 +42,13 @@ fn small(rt: &impl Abort, alloc: Global) -> NewKinds {
     }
 }
 
-/// How many pairs there are where the number is put into two rows; `None` where it doesn't fit.
-fn replaced(rt: &impl Abort, alloc: Global, number: i64) -> Option<usize> {
-    let u = puts(rt, alloc, UpdateOp::Replace, number);
+/// How many pairs there are where these bytes spell a replace of two rows; `None` where a row doesn't fit.
+fn replaced(rt: &impl Abort, alloc: Global, update: &[u8]) -> Option<usize> {
+    let tree = tree(rt, alloc, update);
     let sets = alone(rt, alloc, RowSet::of_rows(rows(rt, alloc, &[&[1], &[2]])));
     let kinds = small(rt, alloc);
-    let pairs = pairs_over(alloc, &u, &[], &kinds, &sets);
-    drop((u, sets, kinds));
+    let pairs = pairs_over(alloc, updated(rt, &tree), &[], &kinds, &sets);
+    drop((tree, sets, kinds));
     match pairs {
         Ok(pairs) => Some(pairs.len()),
         Err(PairFault::NotFit { row: _ }) => None,
@@ -53,12 +58,12 @@ fn replaced(rt: &impl Abort, alloc: Global, number: i64) -> Option<usize> {
 
 #[test]
 fn each_row_is_replaced(rt: HostRuntime) {
-    assert!(rt; replaced(&rt, rt.alloc(), 7) == Some(2));
+    assert!(rt; replaced(&rt, rt.alloc(), SEVEN) == Some(2));
 }
 
 #[test]
 fn a_number_that_is_too_large_does_not_fit(rt: HostRuntime) {
-    assert!(rt; replaced(&rt, rt.alloc(), 70_000) == None);
+    assert!(rt; replaced(&rt, rt.alloc(), LARGE) == None);
 }
 
 /// Whether no memory was left.
@@ -73,10 +78,11 @@ fn is_want_of_memory(fault: &PairFault) -> bool {
 
 /// How many of three rows go where all are deleted.
 fn deleted(rt: &impl Abort, alloc: Global) -> Result<usize, OutOfMemory> {
-    let query = bare_query(alloc, alone(rt, alloc, key(rt, alloc)?));
-    let u = update(rt, alloc, UpdateOp::Delete, Vec::new(alloc), query);
-    let pairs = pairs_of(alloc, &mut Numbers { rows: 3 }, &u);
-    drop(u);
+    let tree = tree(rt, alloc, DELETE);
+    let mut base = TestBase::of_numbers(alloc, 3);
+    let pairs = pairs_of(alloc, &mut base, updated(rt, &tree));
+    drop(tree);
+    drop(base);
     match pairs {
         Ok(pairs) => Ok(pairs.len()),
         Err(fault) if is_want_of_memory(&fault) => Err(OutOfMemory),
@@ -107,14 +113,16 @@ fn appends(rt: &impl Abort, alloc: Global, numbers: &[&[i64]]) -> Vec<Pair> {
 fn moved(
     rt: &impl Abort,
     alloc: Global,
-    op: UpdateOp,
+    update: &[u8],
     rows: u32,
     numbers: &[&[i64]],
 ) -> Option<(usize, usize)> {
-    let u = puts(rt, alloc, op, 7);
+    let tree = tree(rt, alloc, update);
+    let mut base = TestBase::of_numbers(alloc, rows);
     let pairs = appends(rt, alloc, numbers);
-    let change = change_of(alloc, &mut Numbers { rows }, &u, pairs);
-    drop(u);
+    let change = change_of(alloc, &mut base, updated(rt, &tree), pairs);
+    drop(tree);
+    drop(base);
     match &change {
         Ok(DbChange::Rows { remove, add, .. }) => Some((remove.items().len(), add.items().len())),
         Ok(DbChange::Create { rows, .. }) => Some((0, rows.items().len())),
@@ -126,17 +134,17 @@ fn moved(
 #[test]
 fn rows_that_are_there_do_not_come(rt: HostRuntime) {
     let numbers: [&[i64]; 4] = [&[1], &[4], &[3], &[4]];
-    assert!(rt; moved(&rt, rt.alloc(), UpdateOp::Append, 3, &numbers) == Some((0, 2)));
+    assert!(rt; moved(&rt, rt.alloc(), APPEND, 3, &numbers) == Some((0, 2)));
 }
 
 #[test]
 fn a_new_relation_has_all_new_rows(rt: HostRuntime) {
     let numbers: [&[i64]; 4] = [&[1], &[4], &[3], &[4]];
-    assert!(rt; moved(&rt, rt.alloc(), UpdateOp::Into, 3, &numbers) == Some((0, 3)));
+    assert!(rt; moved(&rt, rt.alloc(), INTO, 3, &numbers) == Some((0, 3)));
 }
 
 #[test]
 fn a_full_relation_takes_no_more(rt: HostRuntime) {
-    assert!(rt; moved(&rt, rt.alloc(), UpdateOp::Append, 100_000, &[&[100_000]]) == None);
-    assert!(rt; moved(&rt, rt.alloc(), UpdateOp::Append, 100_000, &[&[1]]) == Some((0, 0)));
+    assert!(rt; moved(&rt, rt.alloc(), APPEND, 100_000, &[&[100_000]]) == None);
+    assert!(rt; moved(&rt, rt.alloc(), APPEND, 100_000, &[&[1]]) == Some((0, 0)));
 }
