@@ -1,144 +1,122 @@
-use crate::shelf::Shelf;
 use aggregates::settle;
-use calculus::{
-    AggOp, AggSource, AggTable, ArithOp, Boxed, CmpOp, Kind, List, Name, QAgg, QQual, QTerm, Query,
-    RelKey, Target, Value,
-};
+use calculus::{AggOp, AggTable, Query, Value};
+use quel_tree::{QueryTree, tree_of};
 use std::alloc::Global;
 use std::process::Abort;
 use std::test::*;
+use test_bases::TestBase;
 
-pub(crate) fn named(rt: &impl Abort, alloc: Global, bytes: &[u8]) -> Name {
-    let name = Name::of(alloc, bytes).expect(rt, "memory");
-    name.expect(rt, "a name")
+/// The number of a row, and its text.
+pub(crate) const NUMBER: &[u8] = b"\x02\x00\x00";
+
+pub(crate) const TEXT: &[u8] = b"\x02\x00\x01";
+
+/// The number and the text added up, which is nothing.
+pub(crate) const SUM: &[u8] = b"\x05\x00\x02\x00\x00\x02\x00\x01";
+
+/// The number divided by itself less 1, which is nothing where it is 1.
+pub(crate) const SHARE: &[u8] =
+    b"\x05\x03\x02\x00\x00\x05\x01\x02\x00\x00\x00\x00\x00\x00\x00\x00\x00\x00\x01";
+
+/// The relation, and the texts of its rows, as texts of one byte and as numbers.
+pub(crate) const RELATION: &[u8] = b"\x00\x03ann\x01p";
+
+pub(crate) const TEXTS: &[u8] =
+    b"\x01\x00\x01\x03ann\x01p\x00\x01\x01t\x00\x03\x01\x02\x00\x01\x00";
+
+pub(crate) const WIDE_TEXTS: &[u8] = b"\x01\x00\x01\x03ann\x01p\x00\x01\x01t\x01\x02\x00\x01\x00";
+
+/// Three rows: 1 and `b`, 1 and `a`, 2 and `c`.
+const ROWS: &[u8] =
+    b"\x00\x03ann\x01p\x00\x00\x00\x00\x00\x00\x00\x03\x00\x02\x00\x00\x00\x00\x00\x00\x00\x00\x01\x01\x01b\x00\x02\x00\x00\x00\x00\x00\x00\x00\x00\x01\x01\x01a\x00\x02\x00\x00\x00\x00\x00\x00\x00\x00\x02\x01\x01c";
+
+/// The base of these rows, which tells no database.
+pub(crate) fn shelf(rt: &impl Abort, alloc: Global) -> TestBase {
+    let mut base = TestBase::of_entries(alloc, 1);
+    assert!(rt; base.give(alloc, ROWS).is_ok());
+    base
 }
 
-pub(crate) fn key(rt: &impl Abort, alloc: Global) -> RelKey {
-    let owner = named(rt, alloc, b"ann");
-    let name = named(rt, alloc, b"p");
-    RelKey { owner, name }
-}
-
-fn one<T: Drop>(rt: &impl Abort, alloc: Global, item: T) -> List<T> {
-    let mut items = Vec::new(alloc);
-    items.push(item).expect(rt, "memory");
-    List::of(items)
-}
-
-pub(crate) fn boxed<T: Drop>(rt: &impl Abort, alloc: Global, value: T) -> Boxed<T> {
-    Boxed::new(alloc, value).expect(rt, "memory")
-}
-
-/// An operation on the attributes at two places.
-fn both(rt: &impl Abort, alloc: Global, op: ArithOp, left: u8, right: QTerm) -> QTerm {
-    QTerm::Arith {
-        op,
-        left: boxed(rt, alloc, QTerm::Attr { var: 0, attr: left }),
-        right: boxed(rt, alloc, right),
-    }
-}
-
-/// A term over a row, said in short.
+/// The aggregate of an operation on a term over the rows of a source whose number is at most this, by these
+/// terms.
 #[derive(Clone, Copy)]
-pub(crate) enum Said {
-    /// The number.
-    Number,
-    /// The text.
-    Text,
-    /// The number and the text added up, which is nothing.
-    Sum,
-    /// The number divided by itself less 1, which is nothing where it is 1.
-    Share,
+pub(crate) struct Folded<'a> {
+    pub(crate) op: AggOp,
+    pub(crate) source: &'a [u8],
+    pub(crate) arg: &'a [u8],
+    pub(crate) by: &'a [&'a [u8]],
+    pub(crate) most: u8,
 }
 
-pub(crate) fn term(rt: &impl Abort, alloc: Global, said: Said) -> QTerm {
-    match said {
-        Said::Number => QTerm::Attr { var: 0, attr: 0 },
-        Said::Text => QTerm::Attr { var: 0, attr: 1 },
-        Said::Sum => {
-            let text = QTerm::Attr { var: 0, attr: 1 };
-            both(rt, alloc, ArithOp::Add, 0, text)
-        }
-        Said::Share => {
-            let less = both(rt, alloc, ArithOp::Sub, 0, QTerm::Int(1));
-            both(rt, alloc, ArithOp::Div, 0, less)
-        }
+/// The byte of an operation.
+fn byte_of(op: AggOp) -> u8 {
+    match op {
+        AggOp::Count => 0,
+        AggOp::Countu => 1,
+        AggOp::Sum => 2,
+        AggOp::Sumu => 3,
+        AggOp::Avg => 4,
+        AggOp::Avgu => 5,
+        AggOp::Min => 6,
+        AggOp::Max => 7,
+        AggOp::Any => 8,
     }
 }
 
-/// The query for the text of each row, as a target of this kind.
-pub(crate) fn texts(rt: &impl Abort, alloc: Global, kind: Kind) -> Query {
-    let target = Target {
-        name: named(rt, alloc, b"t"),
-        kind,
-        term: term(rt, alloc, Said::Text),
-    };
-    Query {
-        vars: one(rt, alloc, key(rt, alloc)),
-        targets: one(rt, alloc, target),
-        qual: QQual::True,
-    }
+fn put(rt: &impl Abort, written: &mut Vec<u8>, bytes: &[u8]) {
+    written.extend_from_slice(bytes).expect(rt, "memory");
 }
 
-/// The terms of a by-list.
-fn by_list(rt: &impl Abort, alloc: Global, by: &[Said]) -> List<QTerm> {
-    let mut terms = Vec::new(alloc);
-    for said in by {
-        terms.push(term(rt, alloc, *said)).expect(rt, "memory");
+/// Puts the terms of the by-list, and a 1 as a link for each of them.
+fn put_lists(rt: &impl Abort, written: &mut Vec<u8>, by: &[&[u8]]) {
+    let count = u8::try_from(by.len()).unwrap_or(255);
+    put(rt, written, &[0, count]);
+    for term in by {
+        put(rt, written, *term);
     }
-    List::of(terms)
-}
-
-/// A link for each of them.
-fn links(rt: &impl Abort, alloc: Global, by: &[Said]) -> List<QTerm> {
-    let mut terms = Vec::new(alloc);
+    put(rt, written, &[0, count]);
     for _ in by {
-        terms.push(QTerm::Int(1)).expect(rt, "memory");
+        put(rt, written, &[0, 0, 0, 0, 0, 0, 0, 0, 1]);
     }
-    List::of(terms)
 }
 
-/// The aggregate of an operation on a term over rows whose number is at most this, by these terms.
-pub(crate) fn aggregate(
-    rt: &impl Abort,
-    alloc: Global,
-    op: AggOp,
-    arg: Said,
-    by: &[Said],
-    most: i64,
-    source: AggSource,
-) -> QTerm {
-    let qual = QQual::Cmp {
-        op: CmpOp::Le,
-        left: QTerm::Attr { var: 0, attr: 0 },
-        right: QTerm::Int(most),
-    };
-    let aggregate = QAgg {
-        slot: 0,
-        op,
-        source,
-        arg: term(rt, alloc, arg),
-        by: by_list(rt, alloc, by),
-        link: links(rt, alloc, by),
-        qual,
-    };
-    QTerm::Agg(boxed(rt, alloc, aggregate))
+/// The bytes of the query of the relation for the aggregate.
+fn spelled(rt: &impl Abort, alloc: Global, folded: Folded) -> Vec<u8> {
+    let mut bytes = Vec::new(alloc);
+    put(
+        rt,
+        &mut bytes,
+        b"\x00\x01\x03ann\x01p\x00\x01\x01x\x01\x07\x00\x00",
+    );
+    put(rt, &mut bytes, &[byte_of(folded.op)]);
+    put(rt, &mut bytes, folded.source);
+    put(rt, &mut bytes, folded.arg);
+    put_lists(rt, &mut bytes, folded.by);
+    put(
+        rt,
+        &mut bytes,
+        &[1, 3, 2, 0, 0, 0, 0, 0, 0, 0, 0, 0, 0, folded.most, 0],
+    );
+    bytes
 }
 
-/// The one table of a query for this term.
-pub(crate) fn table_of(rt: &impl Abort, alloc: Global, term: QTerm) -> AggTable {
-    let target = Target {
-        name: named(rt, alloc, b"x"),
-        kind: Kind::Wide,
-        term,
-    };
-    let q = Query {
-        vars: one(rt, alloc, key(rt, alloc)),
-        targets: one(rt, alloc, target),
-        qual: QQual::True,
-    };
-    let mut tables = settle(alloc, &mut Shelf {}, &q).ok().expect(rt, "tables");
+/// The query that these bytes spell.
+pub(crate) fn query(rt: &impl Abort, alloc: Global, bytes: &[u8]) -> Query {
+    tree_of::<QueryTree>(alloc, bytes)
+        .ok()
+        .expect(rt, "a query")
+}
+
+/// The one table of a query for the aggregate.
+pub(crate) fn table_of(rt: &impl Abort, alloc: Global, folded: Folded) -> AggTable {
+    let bytes = spelled(rt, alloc, folded);
+    let q = query(rt, alloc, &bytes);
+    drop(bytes);
+    let mut base = shelf(rt, alloc);
+    let tables = settle(alloc, &mut base, &q);
+    drop(base);
     drop(q);
+    let mut tables = tables.ok().expect(rt, "tables");
     let table = tables.pop();
     drop(tables);
     table.expect(rt, "a table")
@@ -174,69 +152,64 @@ fn gives(
     rt: &impl Abort,
     alloc: Global,
     op: AggOp,
-    terms: (Said, Said),
-    most: i64,
+    (arg, by): (&[u8], &[u8]),
+    most: u8,
     wanted: &[i64],
 ) -> bool {
-    let source = AggSource::Named(key(rt, alloc));
-    let term = aggregate(rt, alloc, op, terms.0, &[terms.1], most, source);
-    let table = table_of(rt, alloc, term);
+    let folded = Folded {
+        op,
+        source: RELATION,
+        arg,
+        by: &[by],
+        most,
+    };
+    let table = table_of(rt, alloc, folded);
     let found = numbers(rt, alloc, &table);
+    drop(table);
     let same = found.as_slice() == wanted;
     drop(found);
-    drop(table);
     same
 }
 
 /// An operation, its term and its by-term, the greatest number of a row, and the groups.
-type Case = (AggOp, (Said, Said), i64, &'static [i64]);
+type Case = (AggOp, (&'static [u8], &'static [u8]), u8, &'static [i64]);
 
 /// Groups of the rows whose number is at most 9, or 1.
 const GROUPS: [Case; 5] = [
-    (AggOp::Count, (Said::Number, Said::Number), 9, &[1, 2, 2, 1]),
-    (
-        AggOp::Countu,
-        (Said::Number, Said::Number),
-        9,
-        &[1, 1, 2, 1],
-    ),
-    (AggOp::Sum, (Said::Number, Said::Number), 9, &[1, 2, 2, 2]),
+    (AggOp::Count, (NUMBER, NUMBER), 9, &[1, 2, 2, 1]),
+    (AggOp::Countu, (NUMBER, NUMBER), 9, &[1, 1, 2, 1]),
+    (AggOp::Sum, (NUMBER, NUMBER), 9, &[1, 2, 2, 2]),
     // The inner qualification leaves out the row of 2.
-    (AggOp::Count, (Said::Number, Said::Number), 1, &[1, 2]),
-    (AggOp::Count, (Said::Number, Said::Number), 0, &[]),
+    (AggOp::Count, (NUMBER, NUMBER), 1, &[1, 2]),
+    (AggOp::Count, (NUMBER, NUMBER), 0, &[]),
 ];
 
 /// An argument without value leaves its whole group without one.
 const NO_ARGUMENT: [Case; 10] = [
-    (AggOp::Count, (Said::Share, Said::Number), 9, &[1, 99, 2, 1]),
-    (
-        AggOp::Countu,
-        (Said::Share, Said::Number),
-        9,
-        &[1, 99, 2, 1],
-    ),
-    (AggOp::Sum, (Said::Share, Said::Number), 9, &[1, 99, 2, 2]),
-    (AggOp::Sumu, (Said::Share, Said::Number), 9, &[1, 99, 2, 2]),
-    (AggOp::Avg, (Said::Share, Said::Number), 9, &[1, 99, 2, 2]),
-    (AggOp::Avgu, (Said::Share, Said::Number), 9, &[1, 99, 2, 2]),
-    (AggOp::Min, (Said::Share, Said::Number), 9, &[1, 99, 2, 2]),
-    (AggOp::Max, (Said::Share, Said::Number), 9, &[1, 99, 2, 2]),
-    (AggOp::Any, (Said::Share, Said::Number), 9, &[1, 99, 2, 1]),
-    (AggOp::Any, (Said::Sum, Said::Number), 9, &[1, 99, 2, 99]),
+    (AggOp::Count, (SHARE, NUMBER), 9, &[1, 99, 2, 1]),
+    (AggOp::Countu, (SHARE, NUMBER), 9, &[1, 99, 2, 1]),
+    (AggOp::Sum, (SHARE, NUMBER), 9, &[1, 99, 2, 2]),
+    (AggOp::Sumu, (SHARE, NUMBER), 9, &[1, 99, 2, 2]),
+    (AggOp::Avg, (SHARE, NUMBER), 9, &[1, 99, 2, 2]),
+    (AggOp::Avgu, (SHARE, NUMBER), 9, &[1, 99, 2, 2]),
+    (AggOp::Min, (SHARE, NUMBER), 9, &[1, 99, 2, 2]),
+    (AggOp::Max, (SHARE, NUMBER), 9, &[1, 99, 2, 2]),
+    (AggOp::Any, (SHARE, NUMBER), 9, &[1, 99, 2, 1]),
+    (AggOp::Any, (SUM, NUMBER), 9, &[1, 99, 2, 99]),
 ];
 
 /// A row with a by-value without value is in no group.
 const NO_BY_VALUE: [Case; 10] = [
-    (AggOp::Count, (Said::Number, Said::Share), 9, &[2, 1]),
-    (AggOp::Countu, (Said::Number, Said::Share), 9, &[2, 1]),
-    (AggOp::Sum, (Said::Number, Said::Share), 9, &[2, 2]),
-    (AggOp::Sumu, (Said::Number, Said::Share), 9, &[2, 2]),
-    (AggOp::Avg, (Said::Number, Said::Share), 9, &[2, 2]),
-    (AggOp::Avgu, (Said::Number, Said::Share), 9, &[2, 2]),
-    (AggOp::Min, (Said::Number, Said::Share), 9, &[2, 2]),
-    (AggOp::Max, (Said::Number, Said::Share), 9, &[2, 2]),
-    (AggOp::Any, (Said::Number, Said::Share), 9, &[2, 1]),
-    (AggOp::Count, (Said::Number, Said::Sum), 9, &[]),
+    (AggOp::Count, (NUMBER, SHARE), 9, &[2, 1]),
+    (AggOp::Countu, (NUMBER, SHARE), 9, &[2, 1]),
+    (AggOp::Sum, (NUMBER, SHARE), 9, &[2, 2]),
+    (AggOp::Sumu, (NUMBER, SHARE), 9, &[2, 2]),
+    (AggOp::Avg, (NUMBER, SHARE), 9, &[2, 2]),
+    (AggOp::Avgu, (NUMBER, SHARE), 9, &[2, 2]),
+    (AggOp::Min, (NUMBER, SHARE), 9, &[2, 2]),
+    (AggOp::Max, (NUMBER, SHARE), 9, &[2, 2]),
+    (AggOp::Any, (NUMBER, SHARE), 9, &[2, 1]),
+    (AggOp::Count, (NUMBER, SUM), 9, &[]),
 ];
 
 /// Whether the groups of each of these are those.
@@ -256,12 +229,18 @@ fn groups_are_those_of_the_rows_that_are_folded(rt: HostRuntime) {
     assert!(rt; all_give(&rt, rt.alloc(), &NO_BY_VALUE));
 }
 
-/// How many groups the rows of a query make, whose number is its text and so above every number.
-fn groups_of_a_query(rt: &impl Abort, alloc: Global, most: i64) -> usize {
-    let source = AggSource::Rows(boxed(rt, alloc, texts(rt, alloc, Kind::Wide)));
-    let (arg, by) = (Said::Number, Said::Number);
-    let term = aggregate(rt, alloc, AggOp::Count, arg, &[by], most, source);
-    let table = table_of(rt, alloc, term);
+/// The number of the rows of a query of each number, which is its text and so above every number.
+const OF_TEXTS: Folded = Folded {
+    op: AggOp::Count,
+    source: WIDE_TEXTS,
+    arg: NUMBER,
+    by: &[NUMBER],
+    most: 9,
+};
+
+/// How many groups there are.
+fn count_of_groups(rt: &impl Abort, alloc: Global, folded: Folded) -> usize {
+    let table = table_of(rt, alloc, folded);
     let count = table.groups.items().len();
     drop(table);
     count
@@ -270,5 +249,5 @@ fn groups_of_a_query(rt: &impl Abort, alloc: Global, most: i64) -> usize {
 #[test]
 fn the_rows_of_a_query_are_its_targets(rt: HostRuntime) {
     // A text is above every number, so the inner qualification leaves all out.
-    assert!(rt; groups_of_a_query(&rt, rt.alloc(), 9) == 0);
+    assert!(rt; count_of_groups(&rt, rt.alloc(), OF_TEXTS) == 0);
 }

@@ -9,5 +9,3 @@ mod groups;
 mod looked_up;
 #[cfg(test)]
 mod one_variable;
-#[cfg(test)]
-mod shelf;

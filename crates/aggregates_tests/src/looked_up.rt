@@ -1,7 +1,7 @@
 //! What is looked up in the tables of aggregates: by the numbers and the texts of rows, or by nothing.
 
-use crate::groups::{Said, aggregate, boxed, key, table_of, texts};
-use calculus::{AggOp, AggSource, AggTable, Domain, Kind, Text, Value};
+use crate::groups::{Folded, NUMBER, RELATION, SHARE, TEXT, TEXTS, WIDE_TEXTS, table_of};
+use calculus::{AggOp, Text, Value};
 use std::alloc::Global;
 use std::process::Abort;
 use std::test::*;
@@ -16,32 +16,32 @@ fn said(found: Option<&Option<Value>>) -> i64 {
     }
 }
 
-/// The table of an operation on a term over rows whose number is at most this, by these terms.
-fn table(rt: &impl Abort, alloc: Global, op: AggOp, arg: Said, by: &[Said], most: i64) -> AggTable {
-    let source = AggSource::Named(key(rt, alloc));
-    let term = aggregate(rt, alloc, op, arg, by, most, source);
-    table_of(rt, alloc, term)
-}
-
 /// What an operation gives for all rows together whose number is at most this.
-fn whole(rt: &impl Abort, alloc: Global, op: AggOp, arg: Said, most: i64) -> i64 {
-    let table = table(rt, alloc, op, arg, &[], most);
+fn whole(rt: &impl Abort, alloc: Global, op: AggOp, arg: &[u8], most: u8) -> i64 {
+    let folded = Folded {
+        op,
+        source: RELATION,
+        arg,
+        by: &[],
+        most,
+    };
+    let table = table_of(rt, alloc, folded);
     let said = said(table.groups.get(&[]));
     drop(table);
     said
 }
 
 /// An operation, its term, the greatest number of a row, and what it gives.
-const WHOLE: [(AggOp, Said, i64, i64); 9] = [
-    (AggOp::Count, Said::Number, 9, 3),
-    (AggOp::Countu, Said::Number, 9, 2),
-    (AggOp::Sum, Said::Number, 9, 4),
-    (AggOp::Sumu, Said::Number, 9, 3),
-    (AggOp::Avg, Said::Number, 9, 1),
-    (AggOp::Max, Said::Number, 1, 1),
-    (AggOp::Max, Said::Text, 9, 97),
-    (AggOp::Count, Said::Share, 9, 98),
-    (AggOp::Count, Said::Share, 0, 99),
+const WHOLE: [(AggOp, &[u8], u8, i64); 9] = [
+    (AggOp::Count, NUMBER, 9, 3),
+    (AggOp::Countu, NUMBER, 9, 2),
+    (AggOp::Sum, NUMBER, 9, 4),
+    (AggOp::Sumu, NUMBER, 9, 3),
+    (AggOp::Avg, NUMBER, 9, 1),
+    (AggOp::Max, NUMBER, 1, 1),
+    (AggOp::Max, TEXT, 9, 97),
+    (AggOp::Count, SHARE, 9, 98),
+    (AggOp::Count, SHARE, 0, 99),
 ];
 
 /// The values of a row of a number and a text.
@@ -55,10 +55,18 @@ fn values(rt: &impl Abort, alloc: Global, number: i64, bytes: &[u8]) -> Vec<Valu
     values
 }
 
+/// The number of the rows of each number and text.
+const OF_BOTH: Folded = Folded {
+    op: AggOp::Count,
+    source: RELATION,
+    arg: NUMBER,
+    by: &[NUMBER, TEXT],
+    most: 9,
+};
+
 /// How many rows have this number and this text.
 fn counted(rt: &impl Abort, alloc: Global, number: i64, bytes: &[u8]) -> i64 {
-    let by = [Said::Number, Said::Text];
-    let table = table(rt, alloc, AggOp::Count, Said::Number, &by, 9);
+    let table = table_of(rt, alloc, OF_BOTH);
     let values = values(rt, alloc, number, bytes);
     let said = said(table.groups.get(&values));
     drop(values);
@@ -89,11 +97,16 @@ fn groups_are_found_by_all_their_values_in_common(rt: HostRuntime) {
 }
 
 /// What an operation on the rows of a query gives where there are none: 97 the empty text, 96 another one;
-/// else a number. The target of the query has this kind.
-fn empty(rt: &impl Abort, alloc: Global, op: AggOp, kind: Kind) -> i64 {
-    let source = AggSource::Rows(boxed(rt, alloc, texts(rt, alloc, kind)));
-    let term = aggregate(rt, alloc, op, Said::Number, &[], 9, source);
-    let table = table_of(rt, alloc, term);
+/// else a number.
+fn empty(rt: &impl Abort, alloc: Global, op: AggOp, source: &[u8]) -> i64 {
+    let folded = Folded {
+        op,
+        source,
+        arg: NUMBER,
+        by: &[],
+        most: 9,
+    };
+    let table = table_of(rt, alloc, folded);
     let said = match &table.empty {
         Value::Int(number) => *number,
         Value::Text(text) => { if text.bytes().is_empty() { 97 } else { 96 } }
@@ -120,11 +133,7 @@ const EMPTY: [(AggOp, bool, i64); 11] = [
 #[test]
 fn the_least_and_the_greatest_of_no_texts_is_the_empty_text(rt: HostRuntime) {
     for (op, is_text, wanted) in &EMPTY {
-        let kind = if *is_text {
-            Kind::Of(Domain::C(1))
-        } else {
-            Kind::Wide
-        };
-        assert!(rt; empty(&rt, rt.alloc(), *op, kind) == *wanted);
+        let source = if *is_text { TEXTS } else { WIDE_TEXTS };
+        assert!(rt; empty(&rt, rt.alloc(), *op, source) == *wanted);
     }
 }

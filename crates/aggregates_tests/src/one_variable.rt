@@ -1,6 +1,5 @@
-use crate::groups::{Said, key, named, term};
-use crate::shelf::Shelf;
-use calculus::{CmpOp, Kind, QQual, QTerm, RowSet, Target, Value};
+use crate::groups::{NUMBER, SHARE, TEXT, query, shelf};
+use calculus::{Query, RowSet, Value};
 use decompose::QueryFault;
 use std::alloc::Global;
 use std::process::Abort;
@@ -19,25 +18,28 @@ fn first_numbers(rt: &impl Abort, alloc: Global, rows: &RowSet) -> Vec<i64> {
     numbers
 }
 
-/// The rows whose number is above this.
-fn above(least: i64) -> QQual {
-    QQual::Cmp {
-        op: CmpOp::Gt,
-        left: QTerm::Attr { var: 0, attr: 0 },
-        right: QTerm::Int(least),
+/// The bytes of the query for a term of each row whose number is above this.
+fn spelled(rt: &impl Abort, alloc: Global, term: &[u8], least: u8) -> Vec<u8> {
+    let mut bytes = Vec::new(alloc);
+    for piece in [
+        b"\x00\x01\x03ann\x01p\x00\x01\x01x\x01".as_slice(),
+        term,
+        &[1, 4, 2, 0, 0, 0, 0, 0, 0, 0, 0, 0, 0, least],
+    ] {
+        bytes.extend_from_slice(piece).expect(rt, "memory");
     }
+    bytes
 }
 
-/// The target of a term.
-fn target(rt: &impl Abort, alloc: Global, said: Said) -> Vec<Target> {
-    let mut targets = Vec::new(alloc);
-    let target = Target {
-        name: named(rt, alloc, b"x"),
-        kind: Kind::Wide,
-        term: term(rt, alloc, said),
+/// What a query of one variable answers.
+fn found(rt: &impl Abort, alloc: Global, q: &Query) -> Result<RowSet, QueryFault> {
+    let mut base = shelf(rt, alloc);
+    let found = match q.vars.items() {
+        [rel] => ovqp::one_variable(alloc, &mut base, rel, &q.qual, q.targets.items()),
+        _ => rt.abort(),
     };
-    targets.push(target).expect(rt, "memory");
-    targets
+    drop(base);
+    found
 }
 
 /// What a fault is: 99 that a target has no value, 97 any other.
@@ -52,12 +54,12 @@ fn alone(rt: &impl Abort, alloc: Global, fault: &QueryFault) -> Vec<i64> {
 }
 
 /// Whether the query for a term of each row whose number is above this answers these numbers.
-fn answers(rt: &impl Abort, alloc: Global, said: Said, least: i64, wanted: &[i64]) -> bool {
-    let rel = key(rt, alloc);
-    let targets = target(rt, alloc, said);
-    let found = ovqp::one_variable(alloc, &mut Shelf {}, &rel, &above(least), &targets);
-    drop(targets);
-    drop(rel);
+fn answers(rt: &impl Abort, alloc: Global, term: &[u8], least: u8, wanted: &[i64]) -> bool {
+    let bytes = spelled(rt, alloc, term, least);
+    let q = query(rt, alloc, &bytes);
+    drop(bytes);
+    let found = found(rt, alloc, &q);
+    drop(q);
     let numbers = match &found {
         Ok(rows) => first_numbers(rt, alloc, rows),
         Err(fault) => alone(rt, alloc, fault),
@@ -68,19 +70,21 @@ fn answers(rt: &impl Abort, alloc: Global, said: Said, least: i64, wanted: &[i64
     same
 }
 
+/// A term, a number, and what the query answers.
+const CASES: [(&[u8], u8, &[i64]); 6] = [
+    // Two rows have the number 1, which is one row of the answer.
+    (NUMBER, 0, &[1, 2]),
+    (NUMBER, 1, &[2]),
+    (NUMBER, 2, &[]),
+    (TEXT, 1, &[98]),
+    // The rows of 1 have no value, and that of 2 has 2.
+    (SHARE, 0, &[99]),
+    (SHARE, 1, &[2]),
+];
+
 #[test]
 fn a_query_of_one_variable_answers_its_rows(rt: HostRuntime) {
-    let cases: [(Said, i64, &[i64]); 6] = [
-        // Two rows have the number 1, which is one row of the answer.
-        (Said::Number, 0, &[1, 2]),
-        (Said::Number, 1, &[2]),
-        (Said::Number, 2, &[]),
-        (Said::Text, 1, &[98]),
-        // The rows of 1 have no value, and that of 2 has 2.
-        (Said::Share, 0, &[99]),
-        (Said::Share, 1, &[2]),
-    ];
-    for (said, least, wanted) in &cases {
-        assert!(rt; answers(&rt, rt.alloc(), *said, *least, wanted));
+    for (term, least, wanted) in &CASES {
+        assert!(rt; answers(&rt, rt.alloc(), *term, *least, *wanted));
     }
 }

@@ -1,5 +1,0 @@
-//! Tests of a folder as a disk.
-#![tactic(auto)]
-
-#[cfg(test)]
-mod folders;
