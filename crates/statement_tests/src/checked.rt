@@ -2,8 +2,8 @@
 
 use crate::given::{name, statement};
 use crate::shown::{put, put_asked, put_digit, put_key, put_number, put_qual, put_query};
-use crate::stored::{Standing, base, ranges};
-use calculus::{Checked, Domain, Kind, Update};
+use crate::stored::{SMALL, Standing, base, ranges};
+use calculus::{Checked, Update};
 use quel_resolve::CheckFault;
 use stage_parse::checked;
 use std::alloc::Global;
@@ -36,8 +36,7 @@ fn put_answer(rt: &impl Abort, shown: &mut Vec<u8>, answer: &Result<Checked, Che
 /// What the user's statement becomes where so much stands.
 fn shown(rt: &impl Abort, alloc: Global, user: &[u8], text: &[u8], standing: Standing) -> Vec<u8> {
     let mut shown = Vec::new(alloc);
-    let small = Kind::Of(Domain::I2);
-    let mut base = base(rt, alloc, standing, [small, small]);
+    let mut base = base(rt, alloc, standing, SMALL);
     let ranges = ranges(rt, alloc);
     let user = name(rt, alloc, user);
     let s = statement(rt, alloc, text);

@@ -3,10 +3,12 @@
 ghost use Rattle.std.specs.Prelude.{◌≡◌, true};
 ghost use Rattle.quel_meaning.specs.IsWritten.{is_written};
 
-use calculus::{Attr, Domain, Kind, List, Name, RelInfo, RelKey, Spec, Statement};
+use calculus::{Name, RelInfo, Statement};
 use quel_parse::next_statement;
+use quel_tree::RelInfoTree;
 use std::alloc::Global;
 use std::process::Abort;
+use tree_words::read_whole;
 
 pub(crate) fn name(rt: &impl Abort, alloc: Global, bytes: &[u8]) -> Name {
     let name = Name::of(alloc, bytes).expect(rt, "memory");
@@ -23,44 +25,17 @@ pub(crate) fn statement(rt: &impl Abort, alloc: Global, text: &[u8]) -> Statemen
     statement
 }
 
-/// ann's relation of this name with these two attributes, numbers of two bytes.
-pub(crate) fn relation(
-    rt: &impl Abort,
-    alloc: Global,
-    rel: &[u8],
-    first: &[u8],
-    second: &[u8],
-) -> RelInfo {
-    let small = Kind::Of(Domain::I2);
-    relation_of(rt, alloc, rel, [(first, small), (second, small)])
+/// What is known of the relation that these bytes spell.
+pub(crate) fn relation(rt: &impl Abort, alloc: Global, bytes: &[u8]) -> RelInfo {
+    read_whole::<RelInfoTree>(alloc, 0, bytes)
+        .ok()
+        .expect(rt, "a relation")
 }
 
-/// ann's relation of this name with these two attributes.
-pub(crate) fn relation_of(
-    rt: &impl Abort,
-    alloc: Global,
-    rel: &[u8],
-    both: [(&[u8], Kind); 2],
-) -> RelInfo {
-    let mut attrs = Vec::new(alloc);
-    for (attr, kind) in both {
-        let attr = Attr {
-            name: name(rt, alloc, attr),
-            kind,
-        };
-        attrs.push(attr).expect(rt, "memory");
-    }
-    let key = RelKey {
-        owner: name(rt, alloc, b"ann"),
-        name: name(rt, alloc, rel),
-    };
-    RelInfo {
-        key,
-        spec: Spec::Heap,
-        attrs: List::of(attrs),
-        keys: List::of(Vec::new(alloc)),
-    }
-}
+/// ann's `p` with `a` and `c`, and her `q` with `b` and `d`, numbers of two bytes.
+pub(crate) const P: &[u8] = b"\x03ann\x01p\x00\x00\x02\x01a\x00\x01\x01c\x00\x01\x00\x00";
+
+pub(crate) const Q: &[u8] = b"\x03ann\x01q\x00\x00\x02\x01b\x00\x01\x01d\x00\x01\x00\x00";
 
 /// `x` and `y`.
 pub(crate) fn two_vars(rt: &impl Abort, alloc: Global) -> Vec<Name> {
@@ -71,12 +46,11 @@ pub(crate) fn two_vars(rt: &impl Abort, alloc: Global) -> Vec<Name> {
     vars
 }
 
-/// `p` with `a` and `c`, and `q` with `b` and `d`, over which `x` and `y` range.
+/// `p` and `q`, over which `x` and `y` range.
 pub(crate) fn two_relations(rt: &impl Abort, alloc: Global) -> Vec<RelInfo> {
     let mut infos = Vec::new(alloc);
-    let first = relation(rt, alloc, b"p", b"a", b"c");
-    infos.push(first).expect(rt, "memory");
-    let second = relation(rt, alloc, b"q", b"b", b"d");
-    infos.push(second).expect(rt, "memory");
+    for bytes in [P, Q] {
+        infos.push(relation(rt, alloc, bytes)).expect(rt, "memory");
+    }
     infos
 }

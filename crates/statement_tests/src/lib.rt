@@ -13,8 +13,6 @@ mod checked;
 #[cfg(test)]
 mod checks;
 #[cfg(test)]
-mod few;
-#[cfg(test)]
 mod given;
 #[cfg(test)]
 mod queries;
@@ -24,5 +22,3 @@ mod shown;
 mod slots;
 #[cfg(test)]
 mod stored;
-#[cfg(test)]
-mod tall;

@@ -1,6 +1,5 @@
 //! The queries, the updates and the trees of statements.
 
-use crate::few::Few;
 use crate::given::{name, relation, statement, two_relations, two_vars};
 use crate::shown::{put, put_digit, put_query};
 use calculus::{Asked, Checked, Query, Statement};
@@ -9,9 +8,10 @@ use quel_query::{query_of, tree_by};
 use std::alloc::Global;
 use std::process::Abort;
 use std::test::*;
+use test_bases::TestBase;
 
 /// The query of a statement without aggregates whose variables are `x` over `p` and `y` over `q`.
-pub(crate) fn query(rt: &impl Abort, alloc: Global, s: &Statement) -> Query {
+fn query(rt: &impl Abort, alloc: Global, s: &Statement) -> Query {
     let vars = two_vars(rt, alloc);
     let infos = two_relations(rt, alloc);
     let known = Known {
@@ -20,7 +20,9 @@ pub(crate) fn query(rt: &impl Abort, alloc: Global, s: &Statement) -> Query {
         inner_vars: &[],
         inner_infos: &[],
     };
-    let query = query_of(alloc, &mut Few { entries: 0 }, s, known).expect(rt, "a query");
+    let mut base = TestBase::of_entries(alloc, 0);
+    let query = query_of(alloc, &mut base, s, known).expect(rt, "a query");
+    drop(base);
     drop(vars);
     drop(infos);
     query
@@ -70,7 +72,11 @@ fn put_tree_of(
     is_there: bool,
 ) {
     let user = name(rt, alloc, b"ann");
-    let info = relation(rt, alloc, b"r", b"a", b"b");
+    let info = relation(
+        rt,
+        alloc,
+        b"\x03ann\x01r\x00\x00\x02\x01a\x00\x01\x01b\x00\x01\x00\x00",
+    );
     let tree = tree_by(alloc, &user, s, query, is_there.then_some(&info)).expect(rt, "memory");
     drop(info);
     drop(user);

@@ -1,11 +1,10 @@
 //! The trees of aggregates: their slots, their by-lists and their links; and which aggregates may stand.
 
-use crate::given::{relation, statement};
+use crate::given::{P, Q, relation, statement};
 use crate::shown::{put, put_digit, put_key, put_qual, put_term, put_title};
-use crate::stored::{base, ranges};
+use crate::stored::{SMALL, base, ranges};
 use calculus::{
-    AggOp, AggSource, ArithOp, CmpOp, Domain, Kind, Name, QAgg, QQual, QTerm, Query, RelInfo,
-    Statement,
+    AggOp, AggSource, ArithOp, CmpOp, Name, QAgg, QQual, QTerm, Query, RelInfo, Statement,
 };
 use quel_causes::aggregates_stand;
 use quel_check::{Known, inner_vars, vars_in};
@@ -14,18 +13,12 @@ use std::alloc::Global;
 use std::process::Abort;
 use std::test::*;
 
-const SMALL: Kind = Kind::Of(Domain::I2);
-
 /// What these variables range over: `x` over `p` with `a` and `c`, each other one over `q` with `b` and `d`.
 fn over(rt: &impl Abort, alloc: Global, vars: &[Name]) -> Vec<RelInfo> {
     let mut infos = Vec::new(alloc);
     for var in vars {
-        let info = if var.bytes() == b"x".as_slice() {
-            relation(rt, alloc, b"p", b"a", b"c")
-        } else {
-            relation(rt, alloc, b"q", b"b", b"d")
-        };
-        infos.push(info).expect(rt, "memory");
+        let bytes = if var.bytes() == b"x".as_slice() { P } else { Q };
+        infos.push(relation(rt, alloc, bytes)).expect(rt, "memory");
     }
     infos
 }
@@ -36,7 +29,7 @@ fn query(rt: &impl Abort, alloc: Global, s: &Statement) -> Query {
     let inner = inner_vars(alloc, s).expect(rt, "memory");
     let infos = over(rt, alloc, vars.items());
     let inner_infos = over(rt, alloc, inner.items());
-    let mut base = base(rt, alloc, (0, 0, 1), [SMALL, SMALL]);
+    let mut base = base(rt, alloc, (0, 0, 1), SMALL);
     let known = Known {
         vars: vars.items(),
         infos: &infos,
@@ -197,7 +190,7 @@ fn aggregates_have_slots_in_the_order_of_the_text_and_links_beside_by_lists(rt: 
 
 /// Whether the aggregates of what a text begins with may stand.
 fn stand(rt: &impl Abort, alloc: Global, text: &[u8]) -> bool {
-    let mut base = base(rt, alloc, (0, 0, 1), [SMALL, SMALL]);
+    let mut base = base(rt, alloc, (0, 0, 1), SMALL);
     let ranges = ranges(rt, alloc);
     let s = statement(rt, alloc, text);
     let stand = aggregates_stand(alloc, &mut base, &ranges, &s).expect(rt, "an answer");

@@ -1,36 +1,131 @@
 //! Views, permits and rules that are defined, and permits and rules that go.
 
 use crate::carried::put_utility;
-use crate::given::{name, relation_of, statement};
-use crate::queries::query;
+use crate::given::{name, statement};
 use crate::shown::{put, put_asked, put_digit, put_key, put_number, put_qual, put_query};
-use crate::tall::Tall;
-use calculus::{Checked, Domain, Kind, Permit, RelKey, Rule, Utility};
+use calculus::{Checked, Permit, RelKey, Rule, Utility};
 use quel_check::RangeTable;
 use quel_resolve::{CheckFault, resolve};
 use std::alloc::Global;
 use std::process::Abort;
 use std::test::*;
+use test_bases::TestBase;
 
 /// How many rules and permits a relation has, and how many relations, views and indexes there are.
 pub(crate) type Standing = (u32, u32, u32);
 
-/// A base with so many of each, of relations with two attributes, the first of this kind and the second of
-/// that, whose views have one target, on each level larger by 10: 151 on level 15.
-pub(crate) fn base(rt: &impl Abort, alloc: Global, standing: Standing, kinds: [Kind; 2]) -> Tall {
-    let s = statement(rt, alloc, b"retrieve (a = x.a+1+1+1+1+1)");
-    let query = query(rt, alloc, &s);
-    drop(s);
-    let [first, second] = kinds;
-    let info = relation_of(rt, alloc, b"p", [(b"a", first), (b"b", second)]);
-    let (rules, permits, entries) = standing;
-    Tall {
-        info,
-        query,
-        rules,
-        permits,
-        entries,
+/// The bytes of the kinds of two attributes: two numbers of two bytes, and a text of 250 bytes and a wide number.
+pub(crate) const SMALL: (&[u8], &[u8]) = (b"\x00\x01", b"\x00\x01");
+
+const WIDE_KINDS: (&[u8], &[u8]) = (b"\x00\x03\xfa", b"\x01");
+
+/// The one target of each view, the first attribute and 1 five times, and the qualification: so a view is on
+/// each level larger by 10, 151 on level 15.
+const TARGET: &[u8] = b"\x00\x01\x01a\x01\x05\x00\x05\x00\x05\x00\x05\x00\x05\x00\x02\x00\x00\
+    \x00\x00\x00\x00\x00\x00\x00\x00\x01\x00\x00\x00\x00\x00\x00\x00\x00\x01\
+    \x00\x00\x00\x00\x00\x00\x00\x00\x01\x00\x00\x00\x00\x00\x00\x00\x00\x01\
+    \x00\x00\x00\x00\x00\x00\x00\x00\x01\x00";
+
+/// The bytes of what these are behind each other.
+fn joined(rt: &impl Abort, alloc: Global, pieces: &[&[u8]]) -> Vec<u8> {
+    let mut bytes = Vec::new(alloc);
+    for piece in pieces {
+        put(rt, &mut bytes, *piece);
     }
+    bytes
+}
+
+/// Gives the base what these pieces spell behind each other.
+fn give(rt: &impl Abort, alloc: Global, base: &mut TestBase, pieces: &[&[u8]]) {
+    let bytes = joined(rt, alloc, pieces);
+    let given = base.give(alloc, &bytes);
+    drop(bytes);
+    assert!(rt; given.is_ok());
+}
+
+/// Gives the base `p`, `q` and `pp` with attributes of these kinds.
+fn give_relations(
+    rt: &impl Abort,
+    alloc: Global,
+    base: &mut TestBase,
+    (first, second): (&[u8], &[u8]),
+) {
+    for name in [b"\x01p".as_slice(), b"\x01q", b"\x02pp"] {
+        let pieces = [
+            b"\x01\x03ann".as_slice(),
+            name,
+            b"\x00\x00\x02\x01a",
+            first,
+            b"\x01b",
+            second,
+            b"\x00\x00\x00\x00\x00\x00",
+        ];
+        give(rt, alloc, base, &pieces);
+    }
+}
+
+/// Gives the base the views `va` to `vp` with attributes of these kinds, the first over `pp`, each other one over
+/// the one before it.
+fn give_views(
+    rt: &impl Abort,
+    alloc: Global,
+    base: &mut TestBase,
+    (first, second): (&[u8], &[u8]),
+) {
+    let mut below = [b'p', b'p'];
+    for letter in b'a'..=b'p' {
+        let view = [b'v', letter];
+        let pieces = [
+            b"\x05\x03ann\x02".as_slice(),
+            &view,
+            b"\x00\x00\x02\x01a",
+            first,
+            b"\x01b",
+            second,
+            b"\x00\x00\x00\x01\x03ann\x02",
+            &below,
+            TARGET,
+        ];
+        give(rt, alloc, base, &pieces);
+        below = view;
+    }
+}
+
+/// Gives the base so many rules or permits on `p` and on `q`: what is spelled in front of the name, and behind the
+/// number.
+fn give_each(
+    rt: &impl Abort,
+    alloc: Global,
+    base: &mut TestBase,
+    count: u32,
+    (front, behind): (&[u8], &[u8]),
+) {
+    for number in 0..count {
+        let number = number.to_be_bytes();
+        give(rt, alloc, base, &[front, b"\x01p", &number, behind]);
+        give(rt, alloc, base, &[front, b"\x01q", &number, behind]);
+    }
+}
+
+/// A rule that every row meets, and a permit of all users to retrieve all.
+const RULE: (&[u8], &[u8]) = (b"\x07\x03ann", b"\x00");
+
+const PERMIT: (&[u8], &[u8]) = (b"\x06\x03ann", b"\x01\x00\x00\x00\x00");
+
+/// A base with so many of each, of relations with two attributes of these kinds, and of views one over the
+/// other.
+pub(crate) fn base(
+    rt: &impl Abort,
+    alloc: Global,
+    (rules, permits, entries): Standing,
+    kinds: (&[u8], &[u8]),
+) -> TestBase {
+    let mut base = TestBase::of_entries(alloc, entries);
+    give_relations(rt, alloc, &mut base, kinds);
+    give_views(rt, alloc, &mut base, kinds);
+    give_each(rt, alloc, &mut base, rules, RULE);
+    give_each(rt, alloc, &mut base, permits, PERMIT);
+    base
 }
 
 fn key(rt: &impl Abort, alloc: Global, rel: &[u8]) -> RelKey {
@@ -123,7 +218,7 @@ fn put_answer(rt: &impl Abort, shown: &mut Vec<u8>, answer: &Result<Checked, Che
 }
 
 /// What ann's statement asks this base for.
-fn shown_in(rt: &impl Abort, alloc: Global, text: &[u8], base: &mut Tall) -> Vec<u8> {
+fn shown_in(rt: &impl Abort, alloc: Global, text: &[u8], base: &mut TestBase) -> Vec<u8> {
     let mut shown = Vec::new(alloc);
     let ranges = ranges(rt, alloc);
     let user = name(rt, alloc, b"ann");
@@ -139,12 +234,7 @@ fn shown_in(rt: &impl Abort, alloc: Global, text: &[u8], base: &mut Tall) -> Vec
 
 /// What ann's statement asks a base for where so much stands.
 pub(crate) fn shown(rt: &impl Abort, alloc: Global, text: &[u8], standing: Standing) -> Vec<u8> {
-    let mut base = base(
-        rt,
-        alloc,
-        standing,
-        [Kind::Of(Domain::I2), Kind::Of(Domain::I2)],
-    );
+    let mut base = base(rt, alloc, standing, SMALL);
     let shown = shown_in(rt, alloc, text, &mut base);
     drop(base);
     shown
@@ -152,7 +242,7 @@ pub(crate) fn shown(rt: &impl Abort, alloc: Global, text: &[u8], standing: Stand
 
 /// What ann's statement asks a base for whose attributes are a text of 250 bytes and a wide number.
 fn shown_wide(rt: &impl Abort, alloc: Global, text: &[u8]) -> Vec<u8> {
-    let mut base = base(rt, alloc, (0, 0, 1), [Kind::Of(Domain::C(250)), Kind::Wide]);
+    let mut base = base(rt, alloc, (0, 0, 1), WIDE_KINDS);
     let shown = shown_in(rt, alloc, text, &mut base);
     drop(base);
     shown
