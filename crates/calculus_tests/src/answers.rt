@@ -1,7 +1,8 @@
 //! The answers of queries over given rows.
 
-use crate::made::{key, named, one};
-use calculus::{CmpOp, Kind, List, QQual, QTerm, Query, RelKey, Row, RowSet, Target, Value};
+use crate::made::one;
+use crate::spelled::query;
+use calculus::{Row, RowSet, Value};
 use plain_product::{ProductFault, answer_over, is_used, uses};
 use std::alloc::Global;
 use std::process::Abort;
@@ -17,33 +18,9 @@ fn set_of(rt: &impl Abort, alloc: Global, numbers: &[i64]) -> RowSet {
     RowSet::of_rows(rows)
 }
 
-fn attribute(var: u8) -> QTerm {
-    QTerm::Attr { var, attr: 0 }
-}
-
-/// Two variables over one relation.
-fn vars(rt: &impl Abort, alloc: Global) -> List<RelKey> {
-    let mut vars = Vec::new(alloc);
-    vars.push(key(rt, alloc)).expect(rt, "no memory");
-    vars.push(key(rt, alloc)).expect(rt, "no memory");
-    List::of(vars)
-}
-
-/// The second variable's attribute.
-fn second(rt: &impl Abort, alloc: Global) -> List<Target> {
-    let (name, kind, term) = (named(rt, alloc, b"x"), Kind::Wide, attribute(1));
-    one(rt, alloc, Target { name, kind, term })
-}
-
-/// The second variable's attribute, where the first one's is less.
-fn greater(rt: &impl Abort, alloc: Global) -> Query {
-    let (op, left, right) = (CmpOp::Lt, attribute(0), attribute(1));
-    Query {
-        vars: vars(rt, alloc),
-        targets: second(rt, alloc),
-        qual: QQual::Cmp { op, left, right },
-    }
-}
+/// The second variable's attribute, where the first one's is less, of two variables over one relation.
+const GREATER: &[u8] =
+    b"\x00\x02\x03ann\x01p\x03ann\x01p\x00\x01\x01x\x01\x02\x01\x00\x01\x02\x02\x00\x00\x02\x01\x00";
 
 /// How many rows there are; `None` where a target lacks a value.
 fn counted(rt: &impl Abort, answer: Result<RowSet, ProductFault>) -> Option<usize> {
@@ -60,7 +37,7 @@ fn counted(rt: &impl Abort, answer: Result<RowSet, ProductFault>) -> Option<usiz
 
 /// How many rows the answer has over these numbers; `None` where a target lacks a value.
 fn count(rt: &impl Abort, alloc: Global, first: &[i64], second: &[i64]) -> Option<usize> {
-    let query = greater(rt, alloc);
+    let query = query(rt, alloc, GREATER);
     let mut sets = Vec::new(alloc);
     sets.push(set_of(rt, alloc, first)).expect(rt, "no memory");
     sets.push(set_of(rt, alloc, second)).expect(rt, "no memory");
@@ -73,7 +50,7 @@ fn count(rt: &impl Abort, alloc: Global, first: &[i64], second: &[i64]) -> Optio
 /// How many attributes of the second variable the query uses, and whether it uses the first
 /// variable and a third one.
 fn used(rt: &impl Abort, alloc: Global) -> (usize, bool, bool) {
-    let query = greater(rt, alloc);
+    let query = query(rt, alloc, GREATER);
     let of_second = uses(alloc, &query, 1).expect(rt, "no memory");
     let used = (of_second.len(), is_used(&query, 0), is_used(&query, 2));
     drop(of_second);

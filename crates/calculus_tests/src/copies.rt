@@ -1,8 +1,9 @@
 //! Copies of replies, of changes of rows, of what they are made of, and of trees.
 
 use crate::made::{boxed, has_copy, is_copied, named, one, set, table, text};
-use crate::queries::{asked, update};
-use crate::requests::{change_of_base, creation, file, import, permission, ruling};
+use crate::requests::{
+    ASKED, CREATION, IMPORT, PERMISSION, RULING, UPDATE, asked_for, change_of_base, file,
+};
 use crate::statements::{copying, retrieval};
 use calculus::{Change, Column, Kind, Pair, Probe, Reply, Row, Table, Value};
 use std::alloc::Global;
@@ -60,11 +61,7 @@ fn statements_and_changes_of_a_database_are_copied(rt: HostRuntime) {
 
 #[test]
 fn what_is_asked_for_is_copied(rt: HostRuntime) {
-    let alloc = rt.alloc();
-    assert!(rt; has_copy(alloc, asked(&rt, alloc)));
-    assert!(rt; has_copy(alloc, update(&rt, alloc)));
-    assert!(rt; has_copy(alloc, creation(&rt, alloc)));
-    assert!(rt; has_copy(alloc, import(&rt, alloc)));
-    assert!(rt; has_copy(alloc, permission(&rt, alloc)));
-    assert!(rt; has_copy(alloc, ruling(&rt, alloc)));
+    for bytes in [ASKED, UPDATE, CREATION, IMPORT, PERMISSION, RULING] {
+        assert!(rt; has_copy(rt.alloc(), asked_for(&rt, rt.alloc(), bytes)));
+    }
 }

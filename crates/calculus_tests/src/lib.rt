@@ -14,13 +14,13 @@ mod made;
 #[cfg(test)]
 mod patterns;
 #[cfg(test)]
-mod queries;
-#[cfg(test)]
 mod refused;
 #[cfg(test)]
 mod requests;
 #[cfg(test)]
 mod rows;
+#[cfg(test)]
+mod spelled;
 #[cfg(test)]
 mod statements;
 #[cfg(test)]

@@ -1,8 +1,6 @@
 //! What the tests make their values of.
 
-use calculus::{
-    AggTable, Boxed, Chars, Groups, List, Name, RelKey, Row, RowSet, Text, TryCopy, Value,
-};
+use calculus::{AggTable, Boxed, Chars, Groups, List, Name, Row, RowSet, Text, TryCopy, Value};
 use std::alloc::Global;
 use std::process::Abort;
 use std::test::*;
@@ -45,13 +43,6 @@ pub fn chars(rt: &impl Abort, alloc: Global, bytes: &[u8]) -> Chars {
 pub fn text(rt: &impl Abort, alloc: Global, bytes: &[u8]) -> Value {
     let text = Text::of(alloc, bytes).expect(rt, "no memory");
     Value::Text(text.expect(rt, "no text"))
-}
-
-/// What names a relation of ann's.
-pub fn key(rt: &impl Abort, alloc: Global) -> RelKey {
-    let owner = named(rt, alloc, b"ann");
-    let name = named(rt, alloc, b"p");
-    RelKey { owner, name }
 }
 
 /// The row of these numbers.

@@ -1,61 +1,47 @@
-//! Requests for the utilities, and a change of a database.
+//! What is asked for, a change of a database, and a file of rows.
 
-use crate::made::{chars, key, named, one, row};
-use calculus::{
-    Attr, Checked, CopyCol, CopyForm, DbChange, Domain, Kind, List, Permit, QQual, RelFile,
-    RelInfo, Rule, Spec, Utility,
-};
+use crate::made::one;
+use calculus::{Checked, DbChange, Domain, RelFile, Spec};
+use quel_tree::{CheckedTree, DbChangeTree, tree_of};
 use std::alloc::Global;
 use std::process::Abort;
 
-fn attrs(rt: &impl Abort, alloc: Global) -> List<Attr> {
-    let (name, kind) = (named(rt, alloc, b"a"), Kind::Of(Domain::C(5)));
-    one(rt, alloc, Attr { name, kind })
-}
+/// A query with an aggregate over the rows of another, which has one over the rows of a relation; each has every
+/// kind of term and of qualification, and the first one an order.
+pub const ASKED: &[u8] =
+    b"\x00\x00\x01\x00\x01\x03ann\x01p\x00\x01\x01k\x01\x00\x00\x00\x00\x00\x00\x00\x00\x03\x04\x03\x01\x03\x06\x05\x05\x03\x00\x00\x00\x00\x00\x00\x00\x00\x05\x04\x07\x00\x00\x07\x01\x00\x01\x03ann\x01p\x00\x01\x01k\x01\x00\x00\x00\x00\x00\x00\x00\x00\x03\x04\x03\x01\x03\x06\x05\x05\x03\x00\x00\x00\x00\x00\x00\x00\x00\x05\x04\x07\x00\x00\x07\x00\x03ann\x01p\x02\x00\x02\x00\x01\x02\x00\x01\x00\x01\x01\x02\\*\x00\x00\x80\x00\x00\x00\x00\x00\x00\x00\x00\x00\x00\x00\x00\x00\x00\x00\x00\x02\x00\x00\x00\x00\x00\x00\x00\x00\x01\x02a*\x00\x05\x00\x02\x00\x02\x00\x01\x02\x00\x01\x00\x01\x01\x02\\*\x00\x00\x80\x00\x00\x00\x00\x00\x00\x00\x00\x00\x00\x00\x00\x00\x00\x00\x00\x02\x00\x00\x00\x00\x00\x00\x00\x00\x01\x02a*\x00\x05\x00\x00\x01\x00\x00\x01";
 
-pub fn creation(rt: &impl Abort, alloc: Global) -> Checked {
-    let (rel, attrs) = (key(rt, alloc), attrs(rt, alloc));
-    Checked::Utility(Utility::Create { rel, attrs })
-}
+/// A replace with such a query, with a rule to check.
+pub const UPDATE: &[u8] =
+    b"\x01\x01\x03ann\x01p\x00\x00\x01\x01\x00\x01\x03ann\x01p\x00\x01\x01k\x01\x00\x00\x00\x00\x00\x00\x00\x00\x03\x04\x03\x01\x03\x06\x05\x05\x03\x00\x00\x00\x00\x00\x00\x00\x00\x05\x04\x07\x00\x00\x07\x00\x03ann\x01p\x02\x00\x02\x00\x01\x02\x00\x01\x00\x01\x01\x02\\*\x00\x00\x80\x00\x00\x00\x00\x00\x00\x00\x00\x00\x00\x00\x00\x00\x00\x00\x00\x02\x00\x00\x00\x00\x00\x00\x00\x00\x01\x02a*\x00\x05\x00\x00\x01\x00\x00";
 
-/// The copying of a file into a relation.
-pub fn import(rt: &impl Abort, alloc: Global) -> Checked {
-    let (attr, form) = (0, CopyForm::Until(44));
-    Checked::Utility(Utility::Copy {
-        rel: key(rt, alloc),
-        columns: one(rt, alloc, CopyCol { attr, form }),
-        from: true,
-        file: chars(rt, alloc, b"f"),
-    })
-}
+/// A relation with a text is made.
+pub const CREATION: &[u8] = b"\x02\x00\x03ann\x01p\x00\x01\x01a\x00\x03\x05";
 
-pub fn permission(rt: &impl Abort, alloc: Global) -> Checked {
-    let permit = Permit {
-        number: 2,
-        ops: 5,
-        attrs: one(rt, alloc, 1),
-        user: Some(named(rt, alloc, b"bob")),
-        qual: QQual::True,
-    };
-    let rel = key(rt, alloc);
-    Checked::Utility(Utility::Permit { rel, permit })
-}
+/// A file is copied into a relation, up to a comma.
+pub const IMPORT: &[u8] = b"\x02\x04\x03ann\x01p\x00\x01\x00\x02,\x01\x01f";
 
-pub fn ruling(rt: &impl Abort, alloc: Global) -> Checked {
-    let (number, qual) = (3, QQual::True);
-    let (rel, rule) = (key(rt, alloc), Rule { number, qual });
-    Checked::Utility(Utility::Rule { rel, rule })
+/// A permit of bob's, and a rule.
+pub const PERMISSION: &[u8] =
+    b"\x02\x06\x03ann\x01p\x00\x00\x00\x02\x05\x00\x01\x01\x01\x03bob\x00";
+
+pub const RULING: &[u8] = b"\x02\x07\x03ann\x01p\x00\x00\x00\x03\x00";
+
+/// An ISAM structure of a text is made, with a row of the number 7.
+const CHANGE: &[u8] =
+    b"\x01\x03ann\x01p\x02\x00\x01\x01a\x00\x03\x05\x00\x01\x00\x00\x00\x00\x01\x00\x01\x00\x00\x00\x00\x00\x00\x00\x00\x07";
+
+/// What these bytes ask for.
+pub fn asked_for(rt: &impl Abort, alloc: Global, bytes: &[u8]) -> Checked {
+    tree_of::<CheckedTree>(alloc, bytes)
+        .ok()
+        .expect(rt, "a tree")
 }
 
 pub fn change_of_base(rt: &impl Abort, alloc: Global) -> DbChange {
-    let info = RelInfo {
-        key: key(rt, alloc),
-        spec: Spec::Isam,
-        attrs: attrs(rt, alloc),
-        keys: one(rt, alloc, 0),
-    };
-    let rows = one(rt, alloc, row(rt, alloc, &[7]));
-    DbChange::Create { info, rows }
+    tree_of::<DbChangeTree>(alloc, CHANGE)
+        .ok()
+        .expect(rt, "a change")
 }
 
 pub fn file(rt: &impl Abort, alloc: Global) -> RelFile {

@@ -1,47 +1,55 @@
 //! The truth of qualifications.
 
-use crate::made::boxed;
-use crate::values::operation;
-use calculus::{ArithOp, Boxed, CmpOp, QQual, QTerm};
+use crate::spelled::{put, put_comparison, query_where};
+use calculus::CmpOp;
 use scalar_eval::{Assigned, holds};
 use std::alloc::Global;
 use std::process::Abort;
 use std::test::*;
 
-/// Whether the qualification holds over no rows.
-fn held(rt: &impl Abort, alloc: Global, qual: Boxed<QQual>) -> bool {
+/// Whether the qualification that these bytes spell holds over no rows.
+fn held(rt: &impl Abort, alloc: Global, qual: &[u8]) -> bool {
+    let query = query_where(rt, alloc, qual);
     let rows = Assigned::new(alloc);
-    let held = holds(alloc, qual.get(), &rows, &[]).expect(rt, "no memory");
+    let held = holds(alloc, &query.qual, &rows, &[]).expect(rt, "no memory");
     drop(rows);
+    drop(query);
+    held
+}
+
+/// Whether 6 divided by a number compares so with another, behind these negations.
+fn compared_behind(
+    rt: &impl Abort,
+    alloc: Global,
+    negations: &[u8],
+    op: CmpOp,
+    (divisor, right): (i64, i64),
+) -> bool {
+    let mut qual = Vec::new(alloc);
+    put(rt, &mut qual, negations);
+    put_comparison(rt, &mut qual, op, divisor, right);
+    let held = held(rt, alloc, &qual);
     drop(qual);
     held
 }
 
-/// That 6 divided by a number compares so with another.
-fn divided(rt: &impl Abort, alloc: Global, op: CmpOp, divisor: i64, right: i64) -> Boxed<QQual> {
-    let left = operation(rt, alloc, ArithOp::Div, 6, divisor).into_inner();
-    let right = QTerm::Int(right);
-    boxed(rt, alloc, QQual::Cmp { op, left, right })
-}
-
-fn negation(rt: &impl Abort, alloc: Global, qual: Boxed<QQual>) -> Boxed<QQual> {
-    boxed(rt, alloc, QQual::Not(qual))
-}
-
 /// Whether 6 divided by a number compares so with another, and whether it is denied that it does.
 fn compared(rt: &impl Abort, alloc: Global, op: CmpOp, divisor: i64, right: i64) -> (bool, bool) {
-    let plain = held(rt, alloc, divided(rt, alloc, op, divisor, right));
-    let negated = negation(rt, alloc, divided(rt, alloc, op, divisor, right));
-    (plain, held(rt, alloc, negated))
+    let plain = compared_behind(rt, alloc, b"", op, (divisor, right));
+    (
+        plain,
+        compared_behind(rt, alloc, b"\x05", op, (divisor, right)),
+    )
 }
 
-/// The true qualification behind so many negations.
-fn deep_qual(rt: &impl Abort, alloc: Global, levels: u32) -> Boxed<QQual> {
-    let mut qual = boxed(rt, alloc, QQual::True);
-    for _ in 0..levels {
-        qual = negation(rt, alloc, qual);
-    }
-    qual
+/// Whether the true qualification behind 500 negations holds.
+fn deep_holds(rt: &impl Abort, alloc: Global) -> bool {
+    let mut qual = Vec::new(alloc);
+    put(rt, &mut qual, &[5; 500]);
+    put(rt, &mut qual, b"\x00");
+    let held = held(rt, alloc, &qual);
+    drop(qual);
+    held
 }
 
 /// A comparison, the divisor of 6, the number to the right, and whether it holds.
@@ -61,5 +69,5 @@ fn comparisons_without_a_value_are_false_and_500_levels_hold(rt: HostRuntime) {
     for (op, divisor, right, holding) in &COMPARED {
         assert!(rt; compared(&rt, rt.alloc(), *op, *divisor, *right) == (*holding, !*holding));
     }
-    assert!(rt; held(&rt, rt.alloc(), deep_qual(&rt, rt.alloc(), 500)));
+    assert!(rt; deep_holds(&rt, rt.alloc()));
 }

@@ -1,7 +1,8 @@
 //! The values of terms.
 
-use crate::made::{boxed, chars, key, one, row, table};
-use calculus::{AggOp, AggSource, AggTable, ArithOp, Boxed, QAgg, QQual, QTerm, Value};
+use crate::made::{one, row, table};
+use crate::spelled::{put, put_number, put_operation, query_for};
+use calculus::{AggTable, ArithOp, Value};
 use scalar_eval::{Assigned, value_of};
 use std::alloc::Global;
 use std::process::Abort;
@@ -20,44 +21,40 @@ fn number_in(rt: &impl Abort, value: &Option<Value>) -> Option<i64> {
     }
 }
 
-/// The value of a term, which must be a number, over these rows.
+/// The value of the term that these bytes spell, which must be a number, over these rows.
 fn number_over(
     rt: &impl Abort,
     alloc: Global,
-    term: Boxed<QTerm>,
+    term: &[u8],
     rows: &Assigned,
     tables: &[AggTable],
 ) -> Option<i64> {
-    let value = value_of(alloc, term.get(), rows, tables).expect(rt, "no memory");
+    let query = query_for(rt, alloc, term);
+    let value = match query.targets.items() {
+        [target] => value_of(alloc, &target.term, rows, tables).expect(rt, "no memory"),
+        _ => rt.abort(),
+    };
+    drop(query);
     let number = number_in(rt, &value);
     drop(value);
-    drop(term);
     number
 }
 
 /// The value of a term, which must be a number, over no rows.
-fn number(rt: &impl Abort, alloc: Global, term: Boxed<QTerm>) -> Option<i64> {
+fn number(rt: &impl Abort, alloc: Global, term: &[u8]) -> Option<i64> {
     let rows = Assigned::new(alloc);
     let number = number_over(rt, alloc, term, &rows, &[]);
     drop(rows);
     number
 }
 
-pub fn operation(
-    rt: &impl Abort,
-    alloc: Global,
-    op: ArithOp,
-    left: i64,
-    right: i64,
-) -> Boxed<QTerm> {
-    let left = boxed(rt, alloc, QTerm::Int(left));
-    let right = boxed(rt, alloc, QTerm::Int(right));
-    boxed(rt, alloc, QTerm::Arith { op, left, right })
-}
-
 /// The value of an operation on two numbers.
 fn computed(rt: &impl Abort, alloc: Global, op: ArithOp, left: i64, right: i64) -> Option<i64> {
-    number(rt, alloc, operation(rt, alloc, op, left, right))
+    let mut term = Vec::new(alloc);
+    put_operation(rt, &mut term, op, left, right);
+    let number = number(rt, alloc, &term);
+    drop(term);
+    number
 }
 
 /// An operation, its numbers, and its value.
@@ -89,15 +86,23 @@ fn numbers_have_64_bits(rt: HostRuntime) {
     assert!(rt; unsigned(&rt, rt.alloc(), 7) == (Some(-7), Some(7)));
     assert!(rt; unsigned(&rt, rt.alloc(), LEAST) == (None, None));
     // A term of 500 levels has a value.
-    assert!(rt; number(&rt, rt.alloc(), deep_term(&rt, rt.alloc(), 500)) == Some(5));
+    assert!(rt; signed(&rt, rt.alloc(), &[3; 500], 5) == Some(5));
+}
+
+/// The value of a number behind so many signs.
+fn signed(rt: &impl Abort, alloc: Global, signs: &[u8], value: i64) -> Option<i64> {
+    let mut term = Vec::new(alloc);
+    put(rt, &mut term, signs);
+    put_number(rt, &mut term, value);
+    let number = number(rt, alloc, &term);
+    drop(term);
+    number
 }
 
 /// The negation of a number and its absolute value.
 fn unsigned(rt: &impl Abort, alloc: Global, value: i64) -> (Option<i64>, Option<i64>) {
-    let negated = QTerm::Neg(boxed(rt, alloc, QTerm::Int(value)));
-    let absolute = QTerm::Abs(boxed(rt, alloc, QTerm::Int(value)));
-    let negated = number(rt, alloc, boxed(rt, alloc, negated));
-    (negated, number(rt, alloc, boxed(rt, alloc, absolute)))
+    let negated = signed(rt, alloc, b"\x03", value);
+    (negated, signed(rt, alloc, b"\x04", value))
 }
 
 /// Whether a value is the text of these bytes, or there is none of either.
@@ -109,8 +114,15 @@ fn is_text(value: &Option<Value>, bytes: Option<&[u8]>) -> bool {
     }
 }
 
-fn constant(rt: &impl Abort, alloc: Global, written: &[u8]) -> Boxed<QTerm> {
-    boxed(rt, alloc, QTerm::Chars(chars(rt, alloc, written)))
+/// The bytes of two text constants put together.
+fn concatenation(rt: &impl Abort, alloc: Global, left: &[u8], right: &[u8]) -> Vec<u8> {
+    let mut term = Vec::new(alloc);
+    put(rt, &mut term, b"\x06");
+    for bytes in [left, right] {
+        put(rt, &mut term, &[1, u8::try_from(bytes.len()).unwrap_or(0)]);
+        put(rt, &mut term, bytes);
+    }
+    term
 }
 
 /// Whether two text constants put together have these bytes, or no value where there are none.
@@ -121,15 +133,18 @@ fn is_joined(
     right: &[u8],
     bytes: Option<&[u8]>,
 ) -> bool {
-    let left = constant(rt, alloc, left);
-    let right = constant(rt, alloc, right);
-    let term = boxed(rt, alloc, QTerm::Concat { left, right });
+    let term = concatenation(rt, alloc, left, right);
+    let query = query_for(rt, alloc, &term);
+    drop(term);
     let rows = Assigned::new(alloc);
-    let value = value_of(alloc, term.get(), &rows, &[]).expect(rt, "no memory");
+    let value = match query.targets.items() {
+        [target] => value_of(alloc, &target.term, &rows, &[]).expect(rt, "no memory"),
+        _ => rt.abort(),
+    };
+    drop(rows);
+    drop(query);
     let same = is_text(&value, bytes);
     drop(value);
-    drop(rows);
-    drop(term);
     same
 }
 
@@ -160,76 +175,58 @@ fn push(rt: &impl Abort, alloc: Global, rows: &mut Assigned, number: i64) {
     rows.push(row(rt, alloc, &[number])).expect(rt, "no memory");
 }
 
-/// The first attribute of this variable.
-fn attribute(rt: &impl Abort, alloc: Global, var: u8) -> Boxed<QTerm> {
-    boxed(rt, alloc, QTerm::Attr { var, attr: 0 })
-}
+/// The first attribute of the second variable.
+const SECOND: &[u8] = b"\x02\x01\x00";
 
 /// The second row's value where two rows are put, and where the second one is taken off again.
 fn second(rt: &impl Abort, alloc: Global, first: i64, second: i64) -> (Option<i64>, Option<i64>) {
     let mut rows = Assigned::new(alloc);
     push(rt, alloc, &mut rows, first);
     push(rt, alloc, &mut rows, second);
-    let there = number_over(rt, alloc, attribute(rt, alloc, 1), &rows, &[]);
+    let there = number_over(rt, alloc, SECOND, &rows, &[]);
     rows.pop();
-    let gone = number_over(rt, alloc, attribute(rt, alloc, 1), &rows, &[]);
+    let gone = number_over(rt, alloc, SECOND, &rows, &[]);
     drop(rows);
     (there, gone)
 }
 
-/// The count of a relation's rows with the first variable's first attribute.
-fn counted(rt: &impl Abort, alloc: Global, slot: u16) -> Boxed<QTerm> {
-    let agg = QAgg {
-        slot,
-        op: AggOp::Count,
-        source: AggSource::Named(key(rt, alloc)),
-        arg: QTerm::Attr { var: 0, attr: 0 },
-        by: one(rt, alloc, QTerm::Attr { var: 0, attr: 0 }),
-        link: one(rt, alloc, QTerm::Attr { var: 0, attr: 0 }),
-        qual: QQual::True,
-    };
-    boxed(rt, alloc, QTerm::Agg(boxed(rt, alloc, agg)))
-}
+/// The count of a relation's rows with the first variable's first attribute, at the first slot and at the second.
+const COUNT: &[u8] =
+    b"\x07\x00\x00\x00\x00\x03ann\x01p\x02\x00\x00\x00\x01\x02\x00\x00\x00\x01\x02\x00\x00\x00";
 
-/// What the count at a slot is for a row of this number, where the only table has this value at 1.
+const SECOND_COUNT: &[u8] =
+    b"\x07\x00\x01\x00\x00\x03ann\x01p\x02\x00\x00\x00\x01\x02\x00\x00\x00\x01\x02\x00\x00\x00";
+
+/// What a count is for a row of this number, where the only table has this value at 1.
 fn counted_at(
     rt: &impl Abort,
     alloc: Global,
-    slot: u16,
+    count: &[u8],
     value: Option<i64>,
     linked: i64,
 ) -> Option<i64> {
     let tables = one(rt, alloc, table(rt, alloc, 1, value));
     let mut rows = Assigned::new(alloc);
     push(rt, alloc, &mut rows, linked);
-    let number = number_over(rt, alloc, counted(rt, alloc, slot), &rows, tables.items());
+    let number = number_over(rt, alloc, count, &rows, tables.items());
     drop(rows);
     drop(tables);
     number
 }
 
-/// A slot, the table's value at 1, the number of the row, and the count.
-const COUNTS: [(u16, Option<i64>, i64, Option<i64>); 5] = [
-    (0, Some(5), 1, Some(5)),
-    (0, Some(5), 2, Some(9)),
-    (0, None, 1, None),
-    (0, None, 2, Some(9)),
-    (1, Some(5), 1, None),
+/// A count, the table's value at 1, the number of the row, and the count.
+const COUNTS: [(&[u8], Option<i64>, i64, Option<i64>); 5] = [
+    (COUNT, Some(5), 1, Some(5)),
+    (COUNT, Some(5), 2, Some(9)),
+    (COUNT, None, 1, None),
+    (COUNT, None, 2, Some(9)),
+    (SECOND_COUNT, Some(5), 1, None),
 ];
 
 #[test]
 fn rows_are_put_on_top_and_aggregates_have_the_values_of_their_tables(rt: HostRuntime) {
     assert!(rt; second(&rt, rt.alloc(), 3, 4) == (Some(4), None));
-    for (slot, value, linked, number) in &COUNTS {
-        assert!(rt; counted_at(&rt, rt.alloc(), *slot, *value, *linked) == *number);
+    for (count, value, linked, number) in &COUNTS {
+        assert!(rt; counted_at(&rt, rt.alloc(), *count, *value, *linked) == *number);
     }
-}
-
-/// The number behind so many signs.
-fn deep_term(rt: &impl Abort, alloc: Global, levels: u32) -> Boxed<QTerm> {
-    let mut term = boxed(rt, alloc, QTerm::Int(5));
-    for _ in 0..levels {
-        term = boxed(rt, alloc, QTerm::Neg(term));
-    }
-    term
 }
