@@ -1,7 +1,7 @@
 // Streams with faults.
 ghost use Rattle.std.specs.Prelude.{◌≡◌};
 
-use crate::hearing::heard;
+use crate::hearing::hears;
 use frame_codec::{FrameFault, FrameReader};
 use std::test::*;
 
@@ -39,12 +39,7 @@ const STREAMS: [(&[u8], &[u8], Result<(), FrameFault>); 12] = [
 #[test]
 fn faults_stand_at_their_places(rt: HostRuntime) {
     for (stream, frames, answer) in STREAMS {
-        for size in [1, 2, 3, 4096] {
-            let (bytes, answered) = heard(rt.alloc(), &rt, stream, size);
-            assert!(rt; answered == answer);
-            assert!(rt; bytes.as_slice() == frames);
-            drop(bytes);
-        }
+        assert!(rt; hears(rt.alloc(), &rt, stream, &[1, 2, 3, 4096], (frames, answer)));
     }
 }
 

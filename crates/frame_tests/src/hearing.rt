@@ -35,7 +35,7 @@ pub fn given(alloc: Global, rt: &impl Abort, reader: &mut FrameReader) -> Vec<u8
 }
 
 /// What a stream in pieces of so many bytes gives, and what the last feed answers.
-pub fn heard(
+fn heard(
     alloc: Global,
     rt: &impl Abort,
     stream: &[u8],
@@ -48,4 +48,37 @@ pub fn heard(
     let bytes = given(alloc, rt, &mut reader);
     drop(reader);
     (bytes, answer)
+}
+
+/// Whether a stream gives these frames and that answer, in pieces of each of these sizes.
+pub fn hears(
+    alloc: Global,
+    rt: &impl Abort,
+    stream: &[u8],
+    sizes: &[usize],
+    (frames, answer): (&[u8], Result<(), FrameFault>),
+) -> bool {
+    for size in sizes {
+        if !hears_so(alloc, rt, stream, *size, (frames, answer)) {
+            return false;
+        }
+    }
+    true
+}
+
+/// Whether it does in pieces of this size, which isn't 0.
+fn hears_so(
+    alloc: Global,
+    rt: &impl Abort,
+    stream: &[u8],
+    size: usize,
+    (frames, answer): (&[u8], Result<(), FrameFault>),
+) -> bool {
+    if size == 0 {
+        return false;
+    }
+    let (bytes, answered) = heard(alloc, rt, stream, size);
+    let same = answered == answer && bytes.as_slice() == frames;
+    drop(bytes);
+    same
 }

@@ -34,6 +34,14 @@ fn cut(alloc: Global, rt: &impl Abort, kind: u8, size: usize) -> Vec<(u8, usize)
     cut
 }
 
+/// Whether a message of kind 2 and so many bytes is cut so.
+fn is_cut(alloc: Global, rt: &impl Abort, size: usize, frames: &[(u8, usize)]) -> bool {
+    let found = cut(alloc, rt, 2, size);
+    let same = found.as_slice() == frames;
+    drop(found);
+    same
+}
+
 const CUT: [(usize, &[(u8, usize)]); 8] = [
     (0, &[(2, 0)]),
     (1, &[(2, 1)]),
@@ -48,9 +56,7 @@ const CUT: [(usize, &[(u8, usize)]); 8] = [
 #[test]
 fn a_message_is_cut_into_full_frames_and_one_of_its_kind(rt: HostRuntime) {
     for (size, frames) in CUT {
-        let found = cut(rt.alloc(), &rt, 2, size);
-        assert!(rt; found.as_slice() == frames);
-        drop(found);
+        assert!(rt; is_cut(rt.alloc(), &rt, size, frames));
     }
 }
 

@@ -1,7 +1,7 @@
 // Streams of lawful frames.
 ghost use Rattle.std.specs.Prelude.{◌≡◌, ◌<◌, ◌≤◌, length};
 
-use crate::hearing::{given, heard};
+use crate::hearing::{given, hears};
 use frame_codec::{Frame, FrameReader, frame_bytes};
 use memory::List;
 use std::alloc::Global;
@@ -20,6 +20,14 @@ fn spelled(alloc: Global, rt: &impl Abort, kind: u8, payload: &[u8]) -> Vec<u8> 
     let bytes = frame_bytes(alloc, &frame).expect(rt, "memory");
     drop(frame);
     bytes
+}
+
+/// Whether a frame has these bytes.
+fn is_spelled(alloc: Global, rt: &impl Abort, kind: u8, payload: &[u8], expected: &[u8]) -> bool {
+    let bytes = spelled(alloc, rt, kind, payload);
+    let same = bytes.as_slice() == expected;
+    drop(bytes);
+    same
 }
 
 /// The bytes of a frame behind which its message goes on, of so many x.
@@ -66,9 +74,7 @@ const SPELLED: [(u8, &[u8], &[u8]); 11] = [
 #[test]
 fn each_kind_is_spelled(rt: HostRuntime) {
     for (kind, payload, expected) in SPELLED {
-        let bytes = spelled(rt.alloc(), &rt, kind, payload);
-        assert!(rt; bytes.as_slice() == expected);
-        drop(bytes);
+        assert!(rt; is_spelled(rt.alloc(), &rt, kind, payload, expected));
     }
     let long = spelled(rt.alloc(), &rt, 9, &[b'l'; 4095]);
     assert!(rt; long.len() == 4098 && long.starts_with(b"\x09\x0f\xffl"));
@@ -78,19 +84,17 @@ fn each_kind_is_spelled(rt: HostRuntime) {
     drop(full);
 }
 
+/// A stream, and the frames that it has.
+const STREAM: &[u8] =
+    b"\x01\x00\x02ab\x02\x00\x00\x03\x00\x01c\x04\x00\x03def\x05\x00\x01;\x06\x00\x00\
+        \x07\x00\x01g\x08\x00\x00\x09\x00\x01h\x0a\x00\x00\x01\x00\x05part";
+
+const FRAMES: &[u8] = b"\x01ab;\x02;\x03c;\x04def;\x05;;\x06;\x07g;\x08;\x09h;\x0a;";
+
 #[test]
 fn a_stream_is_read_however_it_is_cut(rt: HostRuntime) {
-    let stream = b"\x01\x00\x02ab\x02\x00\x00\x03\x00\x01c\x04\x00\x03def\x05\x00\x01;\x06\x00\x00\
-        \x07\x00\x01g\x08\x00\x00\x09\x00\x01h\x0a\x00\x00\x01\x00\x05part";
-    for size in [1, 2, 3, 4, 5, 7, 11, 4096] {
-        let (bytes, answer) = heard(rt.alloc(), &rt, stream, size);
-        assert!(rt; answer == Ok(()));
-        assert!(rt;
-            bytes.as_slice()
-                == b"\x01ab;\x02;\x03c;\x04def;\x05;;\x06;\x07g;\x08;\x09h;\x0a;".as_slice()
-        );
-        drop(bytes);
-    }
+    let sizes = [1, 2, 3, 4, 5, 7, 11, 4096];
+    assert!(rt; hears(rt.alloc(), &rt, STREAM, &sizes, (FRAMES, Ok(()))));
 }
 
 /// The bytes of a message of kind 1 and 4,096 bytes, and what a reader is to give of it.
@@ -105,15 +109,17 @@ fn full_message(alloc: Global, rt: &impl Abort) -> (Vec<u8>, Vec<u8>) {
     (stream, frames)
 }
 
-#[test]
-fn a_message_of_4096_bytes_has_two_frames(rt: HostRuntime) {
-    let (stream, frames) = full_message(rt.alloc(), &rt);
-    for size in [1, 2, 3, 4095, 4096, 4099, 8192] {
-        let (bytes, answer) = heard(rt.alloc(), &rt, &stream, size);
-        assert!(rt; answer == Ok(()));
-        assert!(rt; bytes.as_slice() == frames.as_slice());
-        drop(bytes);
-    }
+/// Whether the reader gives that, in pieces of each of these sizes.
+fn hears_message(alloc: Global, rt: &impl Abort, sizes: &[usize]) -> bool {
+    let (stream, frames) = full_message(alloc, rt);
+    let same = hears(alloc, rt, &stream, sizes, (&frames, Ok(())));
     drop(stream);
     drop(frames);
+    same
+}
+
+#[test]
+fn a_message_of_4096_bytes_has_two_frames(rt: HostRuntime) {
+    let sizes = [1, 2, 3, 4095, 4096, 4099, 8192];
+    assert!(rt; hears_message(rt.alloc(), &rt, &sizes));
 }

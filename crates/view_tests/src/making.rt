@@ -3,10 +3,8 @@
 ghost use Rattle.std.specs.Prelude.{◌≡◌, true, length};
 ghost use Rattle.view_text.specs.Scoped.{is_qual_within, is_scoped};
 
-use calculus::{
-    AggOp, AggSource, ArithOp, Boxed, CmpOp, Kind, List, Name, QAgg, QQual, QTerm, Query, RelKey,
-    Target,
-};
+use calculus::{AggOp, AggSource, CmpOp, List, Name, QAgg, QQual, QTerm, Query, RelKey};
+use quel_tree::{QueryTree, tree_of};
 use std::alloc::Global;
 use std::process::Abort;
 use view_text::Text;
@@ -20,19 +18,6 @@ fn key(rt: &impl Abort, alloc: Global, name: &[u8]) -> RelKey {
     RelKey {
         owner: named(rt, alloc, b"ann"),
         name: named(rt, alloc, name),
-    }
-}
-
-pub(crate) fn attribute(var: u8, attr: u8) -> QTerm {
-    QTerm::Attr { var, attr }
-}
-
-/// A number divided by another.
-pub(crate) fn quotient(rt: &impl Abort, alloc: Global, number: i64, divisor: i64) -> QTerm {
-    QTerm::Arith {
-        op: ArithOp::Div,
-        left: Boxed::new(alloc, QTerm::Int(number)).expect(rt, "memory"),
-        right: Boxed::new(alloc, QTerm::Int(divisor)).expect(rt, "memory"),
     }
 }
 
@@ -54,31 +39,11 @@ pub(crate) fn aggregate(rt: &impl Abort, alloc: Global, slot: u16, number: i64) 
     }
 }
 
-/// The term that is such an aggregate.
-pub(crate) fn aggregated(rt: &impl Abort, alloc: Global, slot: u16, number: i64) -> QTerm {
-    let aggregate = aggregate(rt, alloc, slot, number);
-    QTerm::Agg(Boxed::new(alloc, aggregate).expect(rt, "memory"))
-}
-
-/// The target `x` that is this term.
-pub(crate) fn target(rt: &impl Abort, alloc: Global, term: QTerm) -> Target {
-    Target {
-        name: named(rt, alloc, b"x"),
-        kind: Kind::Wide,
-        term,
-    }
-}
-
-/// The query of this target and this qualification; which texts stand for its variables is said apart.
-pub(crate) fn query(rt: &impl Abort, alloc: Global, term: QTerm, qual: QQual) -> Query {
-    let mut targets = Vec::new(alloc);
-    let made = target(rt, alloc, term);
-    targets.push(made).expect(rt, "memory");
-    Query {
-        vars: List::of(Vec::new(alloc)),
-        targets: List::of(targets),
-        qual,
-    }
+/// The query that these bytes spell; which texts stand for its variables is said apart.
+pub(crate) fn query(rt: &impl Abort, alloc: Global, bytes: &[u8]) -> Query {
+    tree_of::<QueryTree>(alloc, bytes)
+        .ok()
+        .expect(rt, "a query")
 }
 
 /// That the first attribute of the only variable is 1.

@@ -5,9 +5,9 @@ ghost use Rattle.std.specs.List.{list_all};
 ghost use Rattle.view_text.specs.Scoped.{is_scoped};
 ghost use Rattle.view_text.specs.Texts.{texts_vars};
 
-use crate::making::{aggregate, aggregated, attribute, equal, kept, query, quotient};
+use crate::making::{aggregate, kept, query};
 use crate::written::{put_qual, put_query, put_text};
-use calculus::{CmpOp, OutOfMemory, QAgg, QQual, QTerm, Query};
+use calculus::{OutOfMemory, QAgg, QQual, QTerm};
 use std::alloc::Global;
 use std::process::Abort;
 use std::test::*;
@@ -30,57 +30,87 @@ fn is_filled(alloc: Global) -> bool {
 #[test]
 fn answers_come_where_there_is_memory(rt: HostRuntime) {
     let alloc = rt.alloc();
-    assert!(rt; comes(put_term(alloc, &[], &attribute(1, 2))));
+    assert!(rt; comes(put_term(alloc, &[], &QTerm::Attr { var: 1, attr: 2 })));
     assert!(rt; comes(put_in_qual(alloc, &[], &QQual::True)));
     assert!(rt; is_filled(alloc));
 }
 
-/// What becomes of a permit's qualification that a term is equal to 1.
-fn permitted(rt: &impl Abort, alloc: Global, term: QTerm) -> Vec<u8> {
-    let qual = equal(term, QTerm::Int(1));
-    let condition = permit_condition(alloc, &qual).expect(rt, "memory");
+/// What becomes of a permit's qualification, which is that of this query.
+fn permitted(rt: &impl Abort, alloc: Global, bytes: &[u8]) -> Vec<u8> {
+    let query = query(rt, alloc, bytes);
+    let condition = permit_condition(alloc, &query.qual).expect(rt, "memory");
+    drop(query);
     let mut written = Vec::new(alloc);
     put_qual(rt, &mut written, &condition);
+    drop(condition);
     written
 }
+
+/// Qualifications, and what becomes of them.
+const PERMITTED: [(&[u8], &[u8]); 4] = [
+    // The first attribute of the variable is 1.
+    (
+        b"\x00\x00\x00\x00\x01\x00\x02\x00\x00\x00\x00\x00\x00\x00\x00\x00\x00\x01",
+        b"0.0=1",
+    ),
+    // Its third attribute is.
+    (
+        b"\x00\x00\x00\x00\x01\x00\x02\x00\x02\x00\x00\x00\x00\x00\x00\x00\x00\x01",
+        b"0.2=1",
+    ),
+    // That of a second variable is.
+    (
+        b"\x00\x00\x00\x00\x01\x00\x02\x01\x00\x00\x00\x00\x00\x00\x00\x00\x00\x01",
+        b"1/0=1",
+    ),
+    // An aggregate is.
+    (
+        b"\x00\x00\x00\x00\x01\x00\x07\x00\x00\x00\x00\x03ann\x05parts\x00\x00\x00\x00\x00\x00\x00\x00\x09\x00\x00\x00\x00\x00\x00\x00\x00\x00\x00\x00\x00\x00\x01",
+        b"1/0=1",
+    ),
+];
 
 #[test]
 fn permits_are_about_the_only_variable(rt: HostRuntime) {
-    let alloc = rt.alloc();
-    let cases: [(u8, u8, &[u8]); 3] = [(0, 0, b"0.0=1"), (0, 2, b"0.2=1"), (1, 0, b"1/0=1")];
-    for (var, attr, expected) in &cases {
-        let term = attribute(*var, *attr);
-        assert!(rt; permitted(&rt, alloc, term).as_slice() == *expected);
+    for (bytes, expected) in &PERMITTED {
+        assert!(rt; permitted(&rt, rt.alloc(), *bytes).as_slice() == *expected);
     }
-    let term = aggregated(&rt, alloc, 0, 9);
-    assert!(rt; permitted(&rt, alloc, term).as_slice() == b"1/0=1".as_slice());
 }
 
-/// The text of the rows of a query without variables, whose target is the quotient of 3 and a number,
-/// where one number is less than another.
-fn settled(rt: &impl Abort, alloc: Global, divisor: i64, left: i64, right: i64) -> Vec<u8> {
-    let qual = QQual::Cmp {
-        op: CmpOp::Lt,
-        left: QTerm::Int(left),
-        right: QTerm::Int(right),
-    };
-    let query = query(rt, alloc, quotient(rt, alloc, 3, divisor), qual);
+/// The text of the rows of a query without variables.
+fn settled(rt: &impl Abort, alloc: Global, bytes: &[u8]) -> Vec<u8> {
+    let query = query(rt, alloc, bytes);
     let text = rows_text(alloc, &[], &query).expect(rt, "memory");
+    drop(query);
     let mut written = Vec::new(alloc);
     put_text(rt, &mut written, &text);
+    drop(text);
     written
 }
 
+/// Queries of a quotient where one number is less than another, and their texts.
+const SETTLED: [(&[u8], &[u8]); 3] = [
+    // 3 divided by 1, where 1 is less than 2.
+    (
+        b"\x00\x00\x00\x01\x01x\x01\x05\x03\x00\x00\x00\x00\x00\x00\x00\x00\x03\x00\x00\x00\x00\x00\x00\x00\x00\x01\x01\x02\x00\x00\x00\x00\x00\x00\x00\x00\x01\x00\x00\x00\x00\x00\x00\x00\x00\x02",
+        b"; 3/1 ; ",
+    ),
+    // Where 2 is less than 1.
+    (
+        b"\x00\x00\x00\x01\x01x\x01\x05\x03\x00\x00\x00\x00\x00\x00\x00\x00\x03\x00\x00\x00\x00\x00\x00\x00\x00\x01\x01\x02\x00\x00\x00\x00\x00\x00\x00\x00\x02\x00\x00\x00\x00\x00\x00\x00\x00\x01",
+        b"; 3/1 ; !true ",
+    ),
+    // 3 divided by 0.
+    (
+        b"\x00\x00\x00\x01\x01x\x01\x05\x03\x00\x00\x00\x00\x00\x00\x00\x00\x03\x00\x00\x00\x00\x00\x00\x00\x00\x00\x01\x02\x00\x00\x00\x00\x00\x00\x00\x00\x01\x00\x00\x00\x00\x00\x00\x00\x00\x02",
+        b"; 3/0 ; !true ",
+    ),
+];
+
 #[test]
 fn conditions_without_variables_are_settled(rt: HostRuntime) {
-    let cases: [(i64, i64, i64, &[u8]); 3] = [
-        (1, 1, 2, b"; 3/1 ; "),
-        (1, 2, 1, b"; 3/1 ; !true "),
-        (0, 1, 2, b"; 3/0 ; !true "),
-    ];
-    for (divisor, left, right, expected) in &cases {
-        let written = settled(&rt, rt.alloc(), *divisor, *left, *right);
-        assert!(rt; written.as_slice() == *expected);
+    for (bytes, expected) in &SETTLED {
+        assert!(rt; settled(&rt, rt.alloc(), *bytes).as_slice() == *expected);
     }
 }
 
@@ -95,37 +125,43 @@ fn texts(rt: &impl Abort, alloc: Global) -> Vec<Text>
     texts
 }
 
-/// The text of the rows of a query over them, whose target is an attribute.
-fn rows(rt: &impl Abort, alloc: Global, var: u8, attr: u8) -> Vec<u8> {
-    let query = query(
-        rt,
-        alloc,
-        attribute(var, attr),
-        equal(attribute(0, 0), attribute(1, 1)),
-    );
+/// The text of the rows of a query over them.
+fn rows(rt: &impl Abort, alloc: Global, bytes: &[u8]) -> Vec<u8> {
+    let query = query(rt, alloc, bytes);
     let texts = texts(rt, alloc);
     let text = rows_text(alloc, &texts, &query).expect(rt, "memory");
+    drop(texts);
+    drop(query);
     let mut written = Vec::new(alloc);
     put_text(rt, &mut written, &text);
+    drop(text);
     written
 }
 
+/// Queries of an attribute where two others are equal, and their texts.
+const ROWS: [(&[u8], &[u8]); 3] = [
+    // The third attribute of the first variable.
+    (
+        b"\x00\x00\x00\x01\x01x\x01\x02\x00\x02\x01\x00\x02\x00\x00\x02\x01\x01",
+        b"p q ; 0.2 ; 0.0=1.1 0.2=0.2 0.0=1 1.0=1 ",
+    ),
+    // The first attribute of the second.
+    (
+        b"\x00\x00\x00\x01\x01x\x01\x02\x01\x00\x01\x00\x02\x00\x00\x02\x01\x01",
+        b"p q ; 1.0 ; 0.0=1.1 1.0=1.0 0.0=1 1.0=1 ",
+    ),
+    // That of a third, which isn't there.
+    (
+        b"\x00\x00\x00\x01\x01x\x01\x02\x02\x00\x01\x00\x02\x00\x00\x02\x01\x01",
+        b"p q ; 1/0 ; 0.0=1.1 1/0=1/0 0.0=1 1.0=1 ",
+    ),
+];
+
 #[test]
 fn texts_stand_one_behind_the_other(rt: HostRuntime) {
-    let cases: [(u8, u8, &[u8]); 3] = [
-        (0, 2, b"p q ; 0.2 ; 0.0=1.1 0.2=0.2 0.0=1 1.0=1 "),
-        (1, 0, b"p q ; 1.0 ; 0.0=1.1 1.0=1.0 0.0=1 1.0=1 "),
-        (2, 0, b"p q ; 1/0 ; 0.0=1.1 1/0=1/0 0.0=1 1.0=1 "),
-    ];
-    for (var, attr, expected) in &cases {
-        assert!(rt; rows(&rt, rt.alloc(), *var, *attr).as_slice() == *expected);
+    for (bytes, expected) in &ROWS {
+        assert!(rt; rows(&rt, rt.alloc(), *bytes).as_slice() == *expected);
     }
-}
-
-/// The query whose target is an aggregate at this slot, where it is equal to an attribute.
-fn folded(rt: &impl Abort, alloc: Global, slot: u16) -> Query {
-    let qual = equal(aggregated(rt, alloc, slot, 9), attribute(0, 2));
-    query(rt, alloc, aggregated(rt, alloc, slot, 9), qual)
 }
 
 /// Aggregates at the slots 0 and 1.
@@ -150,37 +186,59 @@ fn only(rt: &impl Abort, alloc: Global) -> Vec<Text>
     texts
 }
 
-/// That query over it, with the aggregates put in.
-fn whole(rt: &impl Abort, alloc: Global, slot: u16) -> Vec<u8> {
-    let query = folded(rt, alloc, slot);
+/// A query over it, with the aggregates put in.
+fn whole(rt: &impl Abort, alloc: Global, bytes: &[u8]) -> Vec<u8> {
+    let query = query(rt, alloc, bytes);
     let aggregates = aggregates(rt, alloc);
     let texts = only(rt, alloc);
     let made = put_whole(alloc, &texts, &aggregates, &query).expect(rt, "memory");
+    drop(texts);
+    drop(aggregates);
+    drop(query);
     let mut written = Vec::new(alloc);
     put_query(rt, &mut written, &made);
+    drop(made);
     written
 }
 
-/// That query over it, without aggregates.
-fn plain(rt: &impl Abort, alloc: Global, slot: u16) -> Vec<u8> {
-    let query = folded(rt, alloc, slot);
+/// The query over it, without aggregates.
+fn plain(rt: &impl Abort, alloc: Global, bytes: &[u8]) -> Vec<u8> {
+    let query = query(rt, alloc, bytes);
     let texts = only(rt, alloc);
     let made = put_rows(alloc, &texts, &query).expect(rt, "memory");
+    drop(texts);
+    drop(query);
     let mut written = Vec::new(alloc);
     put_query(rt, &mut written, &made);
+    drop(made);
     written
 }
+
+/// The query whose target is an aggregate at the first slot, where it is equal to an attribute; and the same at
+/// the second slot and at the third.
+const FIRST: &[u8] =
+    b"\x00\x00\x00\x01\x01x\x01\x07\x00\x00\x00\x00\x03ann\x05parts\x00\x00\x00\x00\x00\x00\x00\x00\x09\x00\x00\x00\x00\x00\x01\x00\x07\x00\x00\x00\x00\x03ann\x05parts\x00\x00\x00\x00\x00\x00\x00\x00\x09\x00\x00\x00\x00\x00\x02\x00\x02";
+
+const SECOND: &[u8] =
+    b"\x00\x00\x00\x01\x01x\x01\x07\x00\x01\x00\x00\x03ann\x05parts\x00\x00\x00\x00\x00\x00\x00\x00\x09\x00\x00\x00\x00\x00\x01\x00\x07\x00\x01\x00\x00\x03ann\x05parts\x00\x00\x00\x00\x00\x00\x00\x00\x09\x00\x00\x00\x00\x00\x02\x00\x02";
+
+const THIRD: &[u8] =
+    b"\x00\x00\x00\x01\x01x\x01\x07\x00\x02\x00\x00\x03ann\x05parts\x00\x00\x00\x00\x00\x00\x00\x00\x09\x00\x00\x00\x00\x00\x01\x00\x07\x00\x02\x00\x00\x03ann\x05parts\x00\x00\x00\x00\x00\x00\x00\x00\x09\x00\x00\x00\x00\x00\x02\x00\x02";
+
+/// Without an aggregate that is put in.
+const NONE: &[u8] = b"p ; x=1/0 ; (1/0=0.2 & 0.0=1)";
+
+/// Such a query, and what it becomes.
+const FOLDED: [(&[u8], &[u8]); 3] = [
+    (FIRST, b"p ; x={0:4} ; ({0:4}=0.2 & 0.0=1)"),
+    (SECOND, b"p ; x={1:5} ; ({1:5}=0.2 & 0.0=1)"),
+    (THIRD, NONE),
+];
 
 #[test]
 fn aggregates_are_put_in_by_their_slots(rt: HostRuntime) {
-    let none = b"p ; x=1/0 ; (1/0=0.2 & 0.0=1)".as_slice();
-    let cases: [(u16, &[u8]); 3] = [
-        (0, b"p ; x={0:4} ; ({0:4}=0.2 & 0.0=1)"),
-        (1, b"p ; x={1:5} ; ({1:5}=0.2 & 0.0=1)"),
-        (2, none),
-    ];
-    for (slot, expected) in &cases {
-        assert!(rt; whole(&rt, rt.alloc(), *slot).as_slice() == *expected);
+    for (bytes, expected) in &FOLDED {
+        assert!(rt; whole(&rt, rt.alloc(), *bytes).as_slice() == *expected);
     }
-    assert!(rt; plain(&rt, rt.alloc(), 0).as_slice() == none);
+    assert!(rt; plain(&rt, rt.alloc(), FIRST).as_slice() == NONE);
 }
