@@ -6,7 +6,9 @@ ghost use Rattle.stored_database.specs.Printed.{is_file};
 ghost use Rattle.catalogue_moves.specs.Files.{files_of};
 
 use crate::databases::new_disk;
-use crate::made::{Step, change_of, key, named};
+use crate::made::{
+    GONE, INDEXED, MADE_BARE_P, PERMITTED, RULED, STORED, Step, change_of, key, named,
+};
 use access_traits::PageStore;
 use am_traits::{Base, BaseFault};
 use batch_store::BatchStore;
@@ -141,11 +143,11 @@ fn make<S: PageStore>(
     p: &RelKey,
 ) {
     lie(alloc, rt, catalog, store, (0, 0), (0, 0));
-    write(alloc, rt, catalog, store, Step::Made(b"p", &[]));
+    write(alloc, rt, catalog, store, MADE_BARE_P);
     lie(alloc, rt, catalog, store, (16, 1), (0, 0));
     assert!(rt; set_three(alloc, catalog, store, p, false) == Ok(true));
     lie(alloc, rt, catalog, store, (16, 3), (0, 0));
-    for step in [Step::Indexed, Step::Permitted(1), Step::Ruled(1)] {
+    for step in [INDEXED, PERMITTED, RULED] {
         write(alloc, rt, catalog, store, step);
     }
     lie(alloc, rt, catalog, store, (16, 3), (17, 0));
@@ -164,9 +166,9 @@ fn unmake<S: PageStore>(
     lie(alloc, rt, catalog, store, (18, 3), (17, 0));
     assert!(rt; indexes(alloc, rt, catalog) == (1, true));
     assert!(rt; counts(alloc, rt, store) == (1, 1));
-    write(alloc, rt, catalog, store, Step::Stored);
+    write(alloc, rt, catalog, store, STORED);
     lie(alloc, rt, catalog, store, (18, 3), (0, 0));
-    write(alloc, rt, catalog, store, Step::Destroyed(&[b"p"]));
+    write(alloc, rt, catalog, store, GONE);
     lie(alloc, rt, catalog, store, (0, 0), (0, 0));
 }
 

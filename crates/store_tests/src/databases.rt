@@ -1,5 +1,8 @@
 // Databases on disks that stop and crash, and that are damaged.
-use crate::made::{Step, named, take, take_all, told};
+use crate::made::{
+    COME, GONE_WITH_VIEW, INDEXED, MADE_BARE_Q, MADE_P, MADE_Q, MOVED, PERMITTED, RULED, STORED,
+    Step, UNPERMITTED, UNRULED, VIEWED, named, take, take_all, told,
+};
 use am_traits::{Base, BaseFault};
 use batch_file::{Restored, restore};
 use calculus::List;
@@ -194,18 +197,18 @@ fn holds_wherever(alloc: Global, rt: &impl Abort, steps: &[Step], step: Step) ->
 
 /// The steps behind each other: after each, the next is tried on a disk that stops.
 const STEPS: [Step; 12] = [
-    Step::Made(b"p", &[1, 2, 3]),
-    Step::Moved(&[1], &[4]),
-    Step::Moved(&[], &[7]),
-    Step::Made(b"q", &[]),
-    Step::Viewed,
-    Step::Permitted(1),
-    Step::Ruled(1),
-    Step::Indexed,
-    Step::Stored,
-    Step::Unpermitted(&[1]),
-    Step::Unruled(&[1]),
-    Step::Destroyed(&[b"v", b"p"]),
+    MADE_P,
+    MOVED,
+    COME,
+    MADE_BARE_Q,
+    VIEWED,
+    PERMITTED,
+    RULED,
+    INDEXED,
+    STORED,
+    UNPERMITTED,
+    UNRULED,
+    GONE_WITH_VIEW,
 ];
 
 /// How many writes, cuts and syncs each of the steps takes, two syncs of the opening among them.
@@ -217,7 +220,7 @@ fn a_database_is_that_of_before_or_of_after_wherever_a_change_stops(rt: HostRunt
     for done in 0..STEPS.len() {
         calls[done] = holds_wherever(rt.alloc(), &rt, &STEPS[..done], STEPS[done]);
     }
-    assert_eq!(rt; calls, CALLS);
+    assert!(rt; calls == CALLS);
 }
 
 /// A step is taken, and what is kept in memory then is what the disk holds.
@@ -325,14 +328,7 @@ fn turned(
 }
 
 /// A small database, with something in each catalogue.
-const SMALL: [Step; 6] = [
-    Step::Made(b"p", &[1, 2, 3]),
-    Step::Made(b"q", &[5]),
-    Step::Viewed,
-    Step::Permitted(1),
-    Step::Ruled(1),
-    Step::Indexed,
-];
+const SMALL: [Step; 6] = [MADE_P, MADE_Q, VIEWED, PERMITTED, RULED, INDEXED];
 
 #[test]
 fn a_forged_page_is_refused_or_is_another_database(rt: HostRuntime) {

@@ -1,11 +1,9 @@
 //! What the tests lay on databases on disks: names, small changes, and what a database answers.
 
 use am_traits::{Base, BaseFault};
-use calculus::{
-    Attr, DbChange, Domain, Kind, List, Name, Permit, Place, Probe, QQual, QTerm, Query, RelInfo,
-    RelKey, Row, Rule, Spec, Target, Value,
-};
+use calculus::{DbChange, List, Name, Place, Probe, RelKey, Row, Spec, Value};
 use change_check::fit_change;
+use quel_tree::{DbChangeTree, tree_of};
 use std::alloc::Global;
 use std::process::Abort;
 use std::test::*;
@@ -13,30 +11,60 @@ use std::test::*;
 /// More rows than a relation of the tests has.
 const MOST_ROWS: u32 = 1000;
 
-/// A change, said in short. Relations have one attribute `a`, a number of two bytes.
-#[derive(Clone, Copy)]
-pub enum Step<'a> {
-    /// A relation of this name is made, with these rows.
-    Made(&'a [u8], &'a [i64]),
-    /// The first rows of `p` go, and the others come.
-    Moved(&'a [i64], &'a [i64]),
-    /// `p` is stored as a hash by its attribute.
-    Stored,
-    /// An index of `p` by its attribute is made.
-    Indexed,
-    /// All users may read `p`, by a permit with this number.
-    Permitted(u32),
-    /// A rule of `p` with this number, that each row meets.
-    Ruled(u32),
-    /// Permits of `p` go.
-    Unpermitted(&'a [u32]),
-    /// Rules of `p` go.
-    Unruled(&'a [u32]),
-    /// A view `v` of `p` is made.
-    Viewed,
-    /// What has these names goes.
-    Destroyed(&'a [&'a [u8]]),
-}
+/// A change, as the bytes that spell it. Relations have one attribute `a`, a number of two bytes.
+pub type Step<'a> = &'a [u8];
+
+/// `p` is made with the rows 1, 2 and 3.
+pub const MADE_P: Step<'static> =
+    b"\x01\x03ann\x01p\x00\x00\x01\x01a\x00\x01\x00\x00\x00\x00\x00\x03\x00\x01\x00\x00\x00\x00\x00\x00\x00\x00\x01\x00\x01\x00\x00\x00\x00\x00\x00\x00\x00\x02\x00\x01\x00\x00\x00\x00\x00\x00\x00\x00\x03";
+
+/// `p` is made without rows.
+pub const MADE_BARE_P: Step<'static> =
+    b"\x01\x03ann\x01p\x00\x00\x01\x01a\x00\x01\x00\x00\x00\x00\x00\x00";
+
+/// `q` is made with the row 5.
+pub const MADE_Q: Step<'static> =
+    b"\x01\x03ann\x01q\x00\x00\x01\x01a\x00\x01\x00\x00\x00\x00\x00\x01\x00\x01\x00\x00\x00\x00\x00\x00\x00\x00\x05";
+
+/// `q` is made without rows.
+pub const MADE_BARE_Q: Step<'static> =
+    b"\x01\x03ann\x01q\x00\x00\x01\x01a\x00\x01\x00\x00\x00\x00\x00\x00";
+
+/// The row 1 of `p` goes, and 4 comes.
+pub const MOVED: Step<'static> =
+    b"\x00\x03ann\x01p\x00\x00\x00\x01\x00\x01\x00\x00\x00\x00\x00\x00\x00\x00\x01\x00\x00\x00\x01\x00\x01\x00\x00\x00\x00\x00\x00\x00\x00\x04";
+
+/// The row 7 of `p` comes.
+pub const COME: Step<'static> =
+    b"\x00\x03ann\x01p\x00\x00\x00\x00\x00\x00\x00\x01\x00\x01\x00\x00\x00\x00\x00\x00\x00\x00\x07";
+
+/// `p` is stored as a hash by its attribute.
+pub const STORED: Step<'static> = b"\x03\x03ann\x01p\x01\x00\x01\x00";
+
+/// An index `x` of `p` by its attribute is made.
+pub const INDEXED: Step<'static> = b"\x04\x03ann\x01p\x01x\x00\x01\x00";
+
+/// All users may read `p`, by a permit with the number 1.
+pub const PERMITTED: Step<'static> = b"\x06\x03ann\x01p\x00\x00\x00\x01\x01\x00\x00\x00\x00";
+
+/// A rule of `p` with the number 1, that each row meets.
+pub const RULED: Step<'static> = b"\x07\x03ann\x01p\x00\x00\x00\x01\x00";
+
+/// Permit 1 of `p` goes.
+pub const UNPERMITTED: Step<'static> = b"\x08\x03ann\x01p\x00\x01\x00\x00\x00\x01";
+
+/// Rule 1 of `p` goes.
+pub const UNRULED: Step<'static> = b"\x09\x03ann\x01p\x00\x01\x00\x00\x00\x01";
+
+/// A view `v` of the numbers in `p` is made.
+pub const VIEWED: Step<'static> =
+    b"\x05\x03ann\x01v\x03\x00\x01\x01a\x00\x01\x00\x00\x00\x01\x03ann\x01p\x00\x01\x01a\x00\x01\x02\x00\x00\x00";
+
+/// `p` goes.
+pub const GONE: Step<'static> = b"\x02\x00\x01\x03ann\x01p";
+
+/// `v` and `p` go.
+pub const GONE_WITH_VIEW: Step<'static> = b"\x02\x00\x02\x03ann\x01v\x03ann\x01p";
 
 /// A name.
 pub fn named(alloc: Global, rt: &impl Abort, bytes: &[u8]) -> Name {
@@ -54,132 +82,11 @@ pub fn key(alloc: Global, rt: &impl Abort, name: &[u8]) -> RelKey {
     }
 }
 
-/// The list of this alone.
-fn alone<T: Drop>(alloc: Global, rt: &impl Abort, item: T) -> List<T> {
-    let mut items = Vec::new(alloc);
-    items.push(item).expect(rt, "memory");
-    List::of(items)
-}
-
-/// What is said of what has this name, kept so.
-fn known(alloc: Global, rt: &impl Abort, name: &[u8], spec: Spec) -> RelInfo {
-    let attr = Attr {
-        name: named(alloc, rt, b"a"),
-        kind: Kind::Of(Domain::I2),
-    };
-    RelInfo {
-        key: key(alloc, rt, name),
-        spec,
-        attrs: alone(alloc, rt, attr),
-        keys: List::of(Vec::new(alloc)),
-    }
-}
-
-/// Rows of one number each.
-fn rows(alloc: Global, rt: &impl Abort, numbers: &[i64]) -> List<Row> {
-    let mut rows = Vec::new(alloc);
-    for number in numbers {
-        let mut values = Vec::new(alloc);
-        values.push(Value::Int(*number)).expect(rt, "memory");
-        rows.push(Row::of(values)).expect(rt, "memory");
-    }
-    List::of(rows)
-}
-
-/// The query of the numbers in `p`.
-fn all_of_p(alloc: Global, rt: &impl Abort) -> Query {
-    let target = Target {
-        name: named(alloc, rt, b"a"),
-        kind: Kind::Of(Domain::I2),
-        term: QTerm::Attr { var: 0, attr: 0 },
-    };
-    Query {
-        vars: alone(alloc, rt, key(alloc, rt, b"p")),
-        targets: alone(alloc, rt, target),
-        qual: QQual::True,
-    }
-}
-
-/// The permit of all users to read all, with this number.
-fn permit(alloc: Global, number: u32) -> Permit {
-    Permit {
-        number,
-        ops: 1,
-        attrs: List::of(Vec::new(alloc)),
-        user: None,
-        qual: QQual::True,
-    }
-}
-
-/// Numbers.
-fn numbers(alloc: Global, rt: &impl Abort, numbers: &[u32]) -> List<u32> {
-    List::of(Vec::from_slice(alloc, numbers).expect(rt, "memory"))
-}
-
-/// The place of the only attribute.
-fn first(alloc: Global, rt: &impl Abort) -> List<u8> {
-    alone(alloc, rt, 0)
-}
-
-/// The keys of what has these names.
-fn keys(alloc: Global, rt: &impl Abort, names: &[&[u8]]) -> List<RelKey> {
-    let mut keys = Vec::new(alloc);
-    for name in names {
-        keys.push(key(alloc, rt, name)).expect(rt, "memory");
-    }
-    List::of(keys)
-}
-
 /// The change that a step is.
 pub fn change_of(alloc: Global, rt: &impl Abort, step: Step) -> DbChange {
-    let rel = key(alloc, rt, b"p");
-    match step {
-        Step::Made(name, made) => DbChange::Create {
-            info: known(alloc, rt, name, Spec::Heap),
-            rows: rows(alloc, rt, made),
-        },
-        Step::Moved(remove, add) => DbChange::Rows {
-            rel,
-            remove: rows(alloc, rt, remove),
-            add: rows(alloc, rt, add),
-        },
-        Step::Stored => DbChange::Modify {
-            rel,
-            to: Spec::Hash,
-            keys: first(alloc, rt),
-        },
-        Step::Indexed => DbChange::Index {
-            base: rel,
-            name: named(alloc, rt, b"x"),
-            keys: first(alloc, rt),
-        },
-        Step::Permitted(number) => DbChange::Permit {
-            rel,
-            permit: permit(alloc, number),
-        },
-        Step::Ruled(number) => DbChange::Rule {
-            rel,
-            rule: Rule {
-                number,
-                qual: QQual::True,
-            },
-        },
-        Step::Unpermitted(gone) => DbChange::DropPermits {
-            rel,
-            numbers: numbers(alloc, rt, gone),
-        },
-        Step::Unruled(gone) => DbChange::DropRules {
-            rel,
-            numbers: numbers(alloc, rt, gone),
-        },
-        Step::Viewed => DbChange::View {
-            info: known(alloc, rt, b"v", Spec::View),
-            query: all_of_p(alloc, rt),
-        },
-        Step::Destroyed(names) => DbChange::Destroy {
-            rels: keys(alloc, rt, names),
-        },
-    }
+    tree_of::<DbChangeTree>(alloc, step)
+        .ok()
+        .expect(rt, "a change")
 }
 
 /// Lays a change where it is lawful; whether it is.
