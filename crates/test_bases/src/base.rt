@@ -15,7 +15,6 @@ use std::alloc::Global;
 /// A base that tells no database, of ann as the administrator. What it knows is given by changes that make
 /// relations, views, rules and permits, each spelled as bytes. It answers with the first that has the name or
 /// the key, and looks neither at the user nor at a probe. Nothing changes it.
-#[derive(Drop)]
 pub struct TestBase {
     changes: Vec<DbChange>,
     /// How many relations, views and indexes there are said to be.
@@ -26,6 +25,18 @@ pub struct TestBase {
     pub views: u32,
     /// How often it was asked for permits.
     pub permits: u32,
+}
+
+impl Drop for TestBase {
+    fn drop(self) {
+        let Self {
+            changes: _,
+            entries: _,
+            numbers: _,
+            views: _,
+            permits: _,
+        } = self;
+    }
 }
 
 impl TestBase {
