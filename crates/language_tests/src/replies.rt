@@ -1,24 +1,29 @@
 //! The bytes of replies.
 
-use calculus::{
-    Column, Domain, Kind, List, Name, OutOfMemory, Refusal, Reply, Row, Table, Text, Value,
-};
+use calculus::{Column, List, OutOfMemory, Refusal, Reply, Row, Table};
 use memory::both;
 use monitor::{
     done_bytes, head_bytes, push_head, push_reply, push_row_line, push_rule, refusal_bytes,
     reply_bytes, row_line, rule_bytes,
 };
+use quel_tree::{ColumnsTree, RowTree, tree_of};
 use std::alloc::Global;
 use std::test::*;
 
-/// The titles and kinds of the columns: of two-byte integers, of texts of three bytes, with a long
-/// title, and of wide numbers.
-const TITLES: [(&[u8], Kind); 4] = [
-    (b"a", Kind::Of(Domain::I2)),
-    (b"b", Kind::Of(Domain::C(3))),
-    (b"departments", Kind::Of(Domain::I1)),
-    (b"w", Kind::Wide),
-];
+/// Columns: of two-byte integers, of texts of three bytes, with a long title, and of wide numbers.
+const COLUMNS: &[u8] = b"\x00\x04\x01a\x00\x01\x01b\x00\x03\x03\x0bdepartments\x00\x00\x01w\x01";
+
+/// The rows of the table: -32768, `ab`, -5 and the least number; 7, the empty text, 127 and 0.
+const FIRST: &[u8] =
+    b"\x00\x04\x00\xff\xff\xff\xff\xff\xff\x80\x00\x01\x02ab\x00\xff\xff\xff\xff\xff\xff\xff\xfb\x00\x80\x00\x00\x00\x00\x00\x00\x00";
+
+const SECOND: &[u8] =
+    b"\x00\x04\x00\x00\x00\x00\x00\x00\x00\x00\x07\x01\x00\x00\x00\x00\x00\x00\x00\x00\x00\x7f\x00\x00\x00\x00\x00\x00\x00\x00\x00";
+
+/// A column of four-byte integers, and the row of the least of them.
+const ONE_COLUMN: &[u8] = b"\x00\x01\x01n\x00\x02";
+
+const LEAST_ROW: &[u8] = b"\x00\x01\x00\xff\xff\xff\xff\x80\x00\x00\x00";
 
 const HEAD: &[u8] =
     b"|a     |b  |departments|w                   |\n|------|---|-----------|--------------------|\n";
@@ -46,76 +51,26 @@ fn are(made: Result<Vec<u8>, OutOfMemory>, bytes: &[u8]) -> bool {
     }
 }
 
-/// Puts a column, where the title is a name.
-fn push_column(
-    alloc: Global,
-    columns: &mut Vec<Column>,
-    title: &[u8],
-    kind: Kind,
-) -> Result<(), OutOfMemory> {
-    if let Some(name) = Name::of(alloc, title)? {
-        columns.push(Column { name, kind })?;
+/// The columns that these bytes spell.
+fn columns(alloc: Global, bytes: &[u8]) -> Result<List<Column>, OutOfMemory> {
+    match tree_of::<ColumnsTree>(alloc, bytes) {
+        Ok(columns) => Ok(columns),
+        Err(_) => Err(OutOfMemory),
     }
-    Ok(())
 }
 
-/// Puts the columns of these titles.
-fn push_columns(
-    alloc: Global,
-    columns: &mut Vec<Column>,
-    titles: &[(&[u8], Kind)],
-) -> Result<(), OutOfMemory> {
-    for (title, kind) in titles {
-        push_column(alloc, columns, *title, *kind)?;
+/// The row that these bytes spell.
+fn row(alloc: Global, bytes: &[u8]) -> Result<Row, OutOfMemory> {
+    match tree_of::<RowTree>(alloc, bytes) {
+        Ok(row) => Ok(row),
+        Err(_) => Err(OutOfMemory),
     }
-    Ok(())
-}
-
-/// The columns of these titles.
-fn columns(alloc: Global, titles: &[(&[u8], Kind)]) -> Result<List<Column>, OutOfMemory> {
-    let mut columns = Vec::new(alloc);
-    push_columns(alloc, &mut columns, titles)?;
-    Ok(List::of(columns))
-}
-
-/// A text, or a number where it can't be one.
-fn text(alloc: Global, bytes: &[u8]) -> Result<Value, OutOfMemory> {
-    let text = Text::of(alloc, bytes)?;
-    Ok(text.map_or(Value::Int(0), Value::Text))
-}
-
-/// Puts these four values.
-fn push_values(
-    alloc: Global,
-    values: &mut Vec<Value>,
-    a: i64,
-    b: &[u8],
-    department: i64,
-    wide: i64,
-) -> Result<(), OutOfMemory> {
-    values.push(Value::Int(a))?;
-    values.push(text(alloc, b)?)?;
-    values.push(Value::Int(department))?;
-    values.push(Value::Int(wide))?;
-    Ok(())
-}
-
-/// A row of these four values.
-fn row(alloc: Global, a: i64, b: &[u8], department: i64, wide: i64) -> Result<Row, OutOfMemory> {
-    let mut values = Vec::new(alloc);
-    push_values(alloc, &mut values, a, b, department, wide)?;
-    Ok(Row::of(values))
-}
-
-/// The first row of the table.
-fn first_row(alloc: Global) -> Result<Row, OutOfMemory> {
-    row(alloc, -32_768, b"ab", -5, i64::MIN)
 }
 
 /// Puts the rows of the table.
 fn push_rows(alloc: Global, rows: &mut Vec<Row>) -> Result<(), OutOfMemory> {
-    rows.push(first_row(alloc)?)?;
-    rows.push(row(alloc, 7, b"", 127, 0)?)?;
+    rows.push(row(alloc, FIRST)?)?;
+    rows.push(row(alloc, SECOND)?)?;
     Ok(())
 }
 
@@ -128,7 +83,7 @@ fn rows(alloc: Global) -> Result<List<Row>, OutOfMemory> {
 
 /// A table of two rows.
 fn table(alloc: Global) -> Result<Table, OutOfMemory> {
-    let (columns, rows) = both(columns(alloc, TITLES.as_slice()), rows(alloc))?;
+    let (columns, rows) = both(columns(alloc, COLUMNS), rows(alloc))?;
     Ok(Table { columns, rows })
 }
 
@@ -156,7 +111,7 @@ fn parts_are(alloc: Global, columns: &[Column], row: &Row) -> (bool, bool, bool)
 
 /// The same of its own columns and its first row.
 fn has_parts(alloc: Global) -> (bool, bool, bool) {
-    match both(columns(alloc, TITLES.as_slice()), first_row(alloc)) {
+    match both(columns(alloc, COLUMNS), row(alloc, FIRST)) {
         Ok((columns, row)) => {
             let parts = parts_are(alloc, columns.items(), &row);
             drop(row);
@@ -174,17 +129,9 @@ fn push_small(out: &mut Vec<u8>, columns: &[Column], row: &Row) -> Result<(), Ou
     push_rule(out, columns)
 }
 
-/// The row of the least number of four bytes.
-fn least_row(alloc: Global) -> Result<Row, OutOfMemory> {
-    let mut values = Vec::new(alloc);
-    values.push(Value::Int(-2_147_483_648))?;
-    Ok(Row::of(values))
-}
-
-/// Adds the parts of a table with that row.
+/// Adds the parts of a table with the row of the least number of four bytes.
 fn push_least(alloc: Global, out: &mut Vec<u8>) -> Result<(), OutOfMemory> {
-    let titles = [(b"n".as_slice(), Kind::Of(Domain::I4))];
-    let (columns, row) = both(columns(alloc, titles.as_slice()), least_row(alloc))?;
+    let (columns, row) = both(columns(alloc, ONE_COLUMN), row(alloc, LEAST_ROW))?;
     let pushed = push_small(out, columns.items(), &row);
     drop(row);
     drop(columns);
