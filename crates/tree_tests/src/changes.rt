@@ -1,7 +1,7 @@
 // Changes of a database: every variant.
 ghost use Rattle.std.specs.Prelude.{◌≡◌};
 
-use crate::trees::is_tree;
+use crate::trees::are_trees;
 use quel_tree::DbChangeTree;
 use std::test::*;
 
@@ -37,7 +37,5 @@ const CHANGES: [&[u8]; 17] = [
 
 #[test]
 fn each_change_is_spelled(rt: HostRuntime) {
-    for bytes in CHANGES {
-        assert!(rt; is_tree::<DbChangeTree>(rt.alloc(), &rt, bytes));
-    }
+    assert!(rt; are_trees::<DbChangeTree>(rt.alloc(), &rt, &CHANGES));
 }

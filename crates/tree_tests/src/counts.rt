@@ -1,7 +1,7 @@
 // Lists of as many items as a count can say, and of fewer and more than they say.
 ghost use Rattle.std.specs.Prelude.{◌≡◌};
 
-use crate::pieces::{Answer, Pieces, TREE, TRUE, is_answered};
+use crate::pieces::{Answer, Pieces, TREE, TRUE, are_answered};
 use quel_tree::{DbChangeTree, QueryTree, RowTree};
 use std::test::*;
 
@@ -49,13 +49,7 @@ const CHANGES: [(Pieces, Answer); 3] = [
 
 #[test]
 fn lists_have_as_many_items_as_they_say(rt: HostRuntime) {
-    for (pieces, answer) in ROWS {
-        assert!(rt; is_answered::<RowTree>(rt.alloc(), &rt, pieces, answer));
-    }
-    for (pieces, answer) in QUERIES {
-        assert!(rt; is_answered::<QueryTree>(rt.alloc(), &rt, pieces, answer));
-    }
-    for (pieces, answer) in CHANGES {
-        assert!(rt; is_answered::<DbChangeTree>(rt.alloc(), &rt, pieces, answer));
-    }
+    assert!(rt; are_answered::<RowTree>(rt.alloc(), &rt, &ROWS));
+    assert!(rt; are_answered::<QueryTree>(rt.alloc(), &rt, &QUERIES));
+    assert!(rt; are_answered::<DbChangeTree>(rt.alloc(), &rt, &CHANGES));
 }

@@ -1,7 +1,9 @@
 // Aggregates inside aggregates, of as many levels as a tree may have, and of one more.
 ghost use Rattle.std.specs.Prelude.{◌≡◌};
 
-use crate::pieces::{Answer, CHARS, INT, NEG, NOT, Pieces, QUERY, TARGET, TREE, TRUE, is_answered};
+use crate::pieces::{
+    Answer, CHARS, INT, NEG, NOT, Pieces, QUERY, TARGET, TREE, TRUE, are_answered,
+};
 use quel_tree::QueryTree;
 use std::test::*;
 
@@ -181,13 +183,7 @@ const SOURCES: [(Pieces, Answer); 6] = [
 
 #[test]
 fn aggregates_have_as_many_levels_as_a_tree_may_have(rt: HostRuntime) {
-    for (pieces, answer) in ARGUMENTS {
-        assert!(rt; is_answered::<QueryTree>(rt.alloc(), &rt, pieces, answer));
-    }
-    for (pieces, answer) in GROUPS {
-        assert!(rt; is_answered::<QueryTree>(rt.alloc(), &rt, pieces, answer));
-    }
-    for (pieces, answer) in SOURCES {
-        assert!(rt; is_answered::<QueryTree>(rt.alloc(), &rt, pieces, answer));
-    }
+    assert!(rt; are_answered::<QueryTree>(rt.alloc(), &rt, &ARGUMENTS));
+    assert!(rt; are_answered::<QueryTree>(rt.alloc(), &rt, &GROUPS));
+    assert!(rt; are_answered::<QueryTree>(rt.alloc(), &rt, &SOURCES));
 }

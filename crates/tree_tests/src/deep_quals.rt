@@ -1,7 +1,7 @@
 // Qualifications of as many levels as a tree may have, and of one more.
 ghost use Rattle.std.specs.Prelude.{◌≡◌};
 
-use crate::pieces::{Answer, CHARS, INT, NEG, NOT, Pieces, TREE, TRUE, is_answered};
+use crate::pieces::{Answer, CHARS, INT, NEG, NOT, Pieces, TREE, TRUE, are_answered};
 use quel_tree::RuleTree;
 use std::test::*;
 
@@ -68,10 +68,6 @@ const COMPARED: [(Pieces, Answer); 10] = [
 
 #[test]
 fn qualifications_have_as_many_levels_as_a_tree_may_have(rt: HostRuntime) {
-    for (pieces, answer) in NESTED {
-        assert!(rt; is_answered::<RuleTree>(rt.alloc(), &rt, pieces, answer));
-    }
-    for (pieces, answer) in COMPARED {
-        assert!(rt; is_answered::<RuleTree>(rt.alloc(), &rt, pieces, answer));
-    }
+    assert!(rt; are_answered::<RuleTree>(rt.alloc(), &rt, &NESTED));
+    assert!(rt; are_answered::<RuleTree>(rt.alloc(), &rt, &COMPARED));
 }

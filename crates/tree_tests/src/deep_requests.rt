@@ -1,7 +1,7 @@
 // Trees of several qualifications: each of them has as many levels as a tree may have, or one more.
 ghost use Rattle.std.specs.Prelude.{◌≡◌};
 
-use crate::pieces::{Answer, NOT, Pieces, TREE, TRUE, is_answered};
+use crate::pieces::{Answer, NOT, Pieces, TREE, TRUE, are_answered};
 use quel_tree::{CheckedTree, DbChangeTree, PermitTree};
 use std::test::*;
 
@@ -67,13 +67,7 @@ const PERMITS: [(Pieces, Answer); 2] = [
 
 #[test]
 fn each_qualification_of_a_tree_has_levels_of_its_own(rt: HostRuntime) {
-    for (pieces, answer) in REQUESTS {
-        assert!(rt; is_answered::<CheckedTree>(rt.alloc(), &rt, pieces, answer));
-    }
-    for (pieces, answer) in CHANGES {
-        assert!(rt; is_answered::<DbChangeTree>(rt.alloc(), &rt, pieces, answer));
-    }
-    for (pieces, answer) in PERMITS {
-        assert!(rt; is_answered::<PermitTree>(rt.alloc(), &rt, pieces, answer));
-    }
+    assert!(rt; are_answered::<CheckedTree>(rt.alloc(), &rt, &REQUESTS));
+    assert!(rt; are_answered::<DbChangeTree>(rt.alloc(), &rt, &CHANGES));
+    assert!(rt; are_answered::<PermitTree>(rt.alloc(), &rt, &PERMITS));
 }

@@ -1,7 +1,7 @@
 // Terms of as many levels as a tree may have, and of one more.
 ghost use Rattle.std.specs.Prelude.{◌≡◌};
 
-use crate::pieces::{Answer, CHARS, INT, NEG, Pieces, TARGET, TREE, TRUE, is_answered};
+use crate::pieces::{Answer, CHARS, INT, NEG, Pieces, TARGET, TREE, TRUE, are_answered};
 use quel_tree::QueryTree;
 use std::test::*;
 
@@ -53,7 +53,5 @@ const TERMS: [(Pieces, Answer); 12] = [
 
 #[test]
 fn terms_have_as_many_levels_as_a_tree_may_have(rt: HostRuntime) {
-    for (pieces, answer) in TERMS {
-        assert!(rt; is_answered::<QueryTree>(rt.alloc(), &rt, pieces, answer));
-    }
+    assert!(rt; are_answered::<QueryTree>(rt.alloc(), &rt, &TERMS));
 }

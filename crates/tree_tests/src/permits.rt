@@ -1,7 +1,7 @@
 // Permits and rules.
 ghost use Rattle.std.specs.Prelude.{◌≡◌};
 
-use crate::trees::is_tree;
+use crate::trees::are_trees;
 use quel_tree::{PermitTree, RuleTree};
 use std::test::*;
 
@@ -19,10 +19,6 @@ const RULES: [&[u8]; 3] = [
 
 #[test]
 fn permits_and_rules_are_spelled(rt: HostRuntime) {
-    for bytes in PERMITS {
-        assert!(rt; is_tree::<PermitTree>(rt.alloc(), &rt, bytes));
-    }
-    for bytes in RULES {
-        assert!(rt; is_tree::<RuleTree>(rt.alloc(), &rt, bytes));
-    }
+    assert!(rt; are_trees::<PermitTree>(rt.alloc(), &rt, &PERMITS));
+    assert!(rt; are_trees::<RuleTree>(rt.alloc(), &rt, &RULES));
 }

@@ -79,3 +79,16 @@ where
     drop(bytes);
     holds
 }
+
+/// Whether all these pieces are answered as is said beside each.
+pub fn are_answered<T: Tree>(alloc: Global, rt: &impl Abort, all: &[(Pieces, Answer)]) -> bool
+where
+    T::Value: TryCopy,
+{
+    for (pieces, answer) in all {
+        if !is_answered::<T>(alloc, rt, *pieces, *answer) {
+            return false;
+        }
+    }
+    true
+}

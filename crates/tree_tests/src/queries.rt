@@ -1,7 +1,7 @@
 // Queries: every variant of terms, qualifications and aggregates.
 ghost use Rattle.std.specs.Prelude.{◌≡◌};
 
-use crate::trees::is_tree;
+use crate::trees::are_trees;
 use quel_tree::QueryTree;
 use std::test::*;
 
@@ -89,21 +89,15 @@ const AGGREGATES: [&[u8]; 3] = [
 
 #[test]
 fn each_term_is_spelled(rt: HostRuntime) {
-    for bytes in TERMS {
-        assert!(rt; is_tree::<QueryTree>(rt.alloc(), &rt, bytes));
-    }
+    assert!(rt; are_trees::<QueryTree>(rt.alloc(), &rt, &TERMS));
 }
 
 #[test]
 fn each_qualification_is_spelled(rt: HostRuntime) {
-    for bytes in QUALIFICATIONS {
-        assert!(rt; is_tree::<QueryTree>(rt.alloc(), &rt, bytes));
-    }
+    assert!(rt; are_trees::<QueryTree>(rt.alloc(), &rt, &QUALIFICATIONS));
 }
 
 #[test]
 fn each_aggregate_is_spelled(rt: HostRuntime) {
-    for bytes in AGGREGATES {
-        assert!(rt; is_tree::<QueryTree>(rt.alloc(), &rt, bytes));
-    }
+    assert!(rt; are_trees::<QueryTree>(rt.alloc(), &rt, &AGGREGATES));
 }

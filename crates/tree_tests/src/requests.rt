@@ -1,7 +1,7 @@
 // What the query processor and the utilities are asked for: every variant.
 ghost use Rattle.std.specs.Prelude.{◌≡◌};
 
-use crate::trees::is_tree;
+use crate::trees::are_trees;
 use quel_tree::CheckedTree;
 use std::test::*;
 
@@ -82,19 +82,14 @@ const DROPS: [&[u8]; 4] = [
 
 #[test]
 fn each_answer_and_update_is_spelled(rt: HostRuntime) {
-    for bytes in ANSWERS {
-        assert!(rt; is_tree::<CheckedTree>(rt.alloc(), &rt, bytes));
-    }
-    for bytes in UPDATES {
-        assert!(rt; is_tree::<CheckedTree>(rt.alloc(), &rt, bytes));
-    }
+    assert!(rt; are_trees::<CheckedTree>(rt.alloc(), &rt, &ANSWERS));
+    assert!(rt; are_trees::<CheckedTree>(rt.alloc(), &rt, &UPDATES));
 }
 
 #[test]
 fn each_utility_is_spelled(rt: HostRuntime) {
-    for table in [UTILITIES.as_slice(), &STRUCTURES, &COPIES, &DROPS] {
-        for bytes in table {
-            assert!(rt; is_tree::<CheckedTree>(rt.alloc(), &rt, bytes));
-        }
-    }
+    assert!(rt; are_trees::<CheckedTree>(rt.alloc(), &rt, &UTILITIES));
+    assert!(rt; are_trees::<CheckedTree>(rt.alloc(), &rt, &STRUCTURES));
+    assert!(rt; are_trees::<CheckedTree>(rt.alloc(), &rt, &COPIES));
+    assert!(rt; are_trees::<CheckedTree>(rt.alloc(), &rt, &DROPS));
 }

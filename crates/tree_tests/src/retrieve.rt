@@ -1,7 +1,7 @@
 // The tree of `retrieve (x = 3)`: built and written, and what is wrong near it.
 ghost use Rattle.std.specs.Prelude.{◌≡◌};
 
-use crate::pieces::{Answer, NEG, Pieces, TREE, is_answered};
+use crate::pieces::{Answer, NEG, Pieces, TREE, are_answered};
 use calculus::{Asked, Checked, Kind, Name, QQual, QTerm, Query, Target};
 use memory::List;
 use quel_tree::{CheckedTree, tree_bytes};
@@ -75,7 +75,5 @@ const NEAR: [(Pieces, Answer); 9] = [
 
 #[test]
 fn what_is_near_a_tree_is_refused(rt: HostRuntime) {
-    for (pieces, answer) in NEAR {
-        assert!(rt; is_answered::<CheckedTree>(rt.alloc(), &rt, pieces, answer));
-    }
+    assert!(rt; are_answered::<CheckedTree>(rt.alloc(), &rt, &NEAR));
 }

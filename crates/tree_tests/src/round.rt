@@ -66,3 +66,30 @@ pub fn is_spelling<S: Spelling>(alloc: Global, rt: &impl Abort, bytes: &[u8]) ->
         && fronts_end_early::<S>(alloc, bytes)
         && is_ended::<S>(alloc, rt, bytes)
 }
+
+/// Whether all these bytes are spellings.
+pub fn are_spellings<S: Spelling>(alloc: Global, rt: &impl Abort, all: &[&[u8]]) -> bool
+    requires { S.Enough 0 }
+{
+    for bytes in all {
+        if !is_spelling::<S>(alloc, rt, *bytes) {
+            return false;
+        }
+    }
+    true
+}
+
+/// Bytes that are no spelling, and how many there are from the first wrong one on.
+pub type Wrong<'a> = (&'a [u8], usize);
+
+/// Whether all these bytes are wrong from that byte on.
+pub fn are_wrong<S: Spelling>(alloc: Global, all: &[Wrong]) -> bool
+    requires { S.Enough 0 }
+{
+    for (bytes, left) in all {
+        if fault_of::<S>(alloc, *bytes) != Some(Fault::Wrong(*left)) {
+            return false;
+        }
+    }
+    true
+}

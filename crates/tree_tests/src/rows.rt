@@ -1,7 +1,7 @@
 // Rows, and the columns of tables.
 ghost use Rattle.std.specs.Prelude.{◌≡◌};
 
-use crate::trees::is_tree;
+use crate::trees::are_trees;
 use quel_tree::{ColumnsTree, RowTree};
 use std::test::*;
 
@@ -25,10 +25,6 @@ const COLUMNS: [&[u8]; 3] = [
 
 #[test]
 fn rows_and_columns_are_spelled(rt: HostRuntime) {
-    for bytes in ROWS {
-        assert!(rt; is_tree::<RowTree>(rt.alloc(), &rt, bytes));
-    }
-    for bytes in COLUMNS {
-        assert!(rt; is_tree::<ColumnsTree>(rt.alloc(), &rt, bytes));
-    }
+    assert!(rt; are_trees::<RowTree>(rt.alloc(), &rt, &ROWS));
+    assert!(rt; are_trees::<ColumnsTree>(rt.alloc(), &rt, &COLUMNS));
 }

@@ -108,3 +108,23 @@ pub fn is_tree<T: Tree>(alloc: Global, rt: &impl Abort, bytes: &[u8]) -> bool {
         && is_ended::<T>(alloc, rt, bytes)
         && changes_are_judged::<T>(alloc, rt, bytes)
 }
+
+/// Whether all these bytes are such trees.
+pub fn are_trees<T: Tree>(alloc: Global, rt: &impl Abort, all: &[&[u8]]) -> bool {
+    for bytes in all {
+        if !is_tree::<T>(alloc, rt, *bytes) {
+            return false;
+        }
+    }
+    true
+}
+
+/// Whether each of these bytes is refused at the place beside it.
+pub fn are_refused<T: Tree>(alloc: Global, rt: &impl Abort, all: &[(&[u8], u64)]) -> bool {
+    for (bytes, place) in all {
+        if judged::<T>(alloc, rt, *bytes) != Err(*place) {
+            return false;
+        }
+    }
+    true
+}

@@ -1,7 +1,7 @@
 // Bytes of trees in which one is wrong, and its place.
 ghost use Rattle.std.specs.Prelude.{◌≡◌};
 
-use crate::trees::judged;
+use crate::trees::are_refused;
 use quel_tree::{CheckedTree, DbChangeTree, RuleTree};
 use std::test::*;
 
@@ -61,13 +61,7 @@ const CHANGES: [(&[u8], u64); 5] = [
 
 #[test]
 fn the_first_wrong_byte_of_a_tree_is_named(rt: HostRuntime) {
-    for (bytes, place) in RULES {
-        assert!(rt; judged::<RuleTree>(rt.alloc(), &rt, bytes) == Err(place));
-    }
-    for (bytes, place) in REQUESTS {
-        assert!(rt; judged::<CheckedTree>(rt.alloc(), &rt, bytes) == Err(place));
-    }
-    for (bytes, place) in CHANGES {
-        assert!(rt; judged::<DbChangeTree>(rt.alloc(), &rt, bytes) == Err(place));
-    }
+    assert!(rt; are_refused::<RuleTree>(rt.alloc(), &rt, &RULES));
+    assert!(rt; are_refused::<CheckedTree>(rt.alloc(), &rt, &REQUESTS));
+    assert!(rt; are_refused::<DbChangeTree>(rt.alloc(), &rt, &CHANGES));
 }
