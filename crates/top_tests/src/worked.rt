@@ -4,6 +4,7 @@ use crate::trials::{Case, first_wrong};
 use crate::worked_catalogue::DEFINED;
 use std::test::*;
 
+/// Scripts that ask and change, each with what it prints and leaves.
 const ASKED: [Case; 18] = [
     // A script without a line.
     Case {

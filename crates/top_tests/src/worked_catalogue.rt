@@ -2,6 +2,7 @@
 
 use crate::trials::Case;
 
+/// Scripts that define and use files, each with what it prints and leaves.
 pub(crate) const DEFINED: [Case; 7] = [
     // A command that there isn't, and a file.
     Case {
