@@ -1,102 +1,9 @@
-//! Scripts of as many rows or relations as there may be.
+//! Scripts and files of as many relations, rows or bytes as there may be.
 
-use crate::trials::{Case, gives, has, run_over, shelf};
+use crate::trials::{gives, has, joined, run_over, shelf};
 use std::alloc::AllocGlobal;
 use std::process::Abort;
 use std::test::*;
-
-/// Makes a relation of 100,000 rows by one append, and then one row more; then one goes, and one
-/// more comes.
-const MANY_ROWS: Case = (
-    b"create dig (x = i1)\n\
-    append to dig (x = 0) append to dig (x = 1) append to dig (x = 2) append to dig (x = 3)\n\
-    append to dig (x = 4) append to dig (x = 5) append to dig (x = 6) append to dig (x = 7)\n\
-    append to dig (x = 8) append to dig (x = 9)\n\
-    create big (k = i4)\n\
-    range of a is dig range of b is dig range of c is dig range of d is dig range of e is dig\n\
-    append to big (k = 10 * (10 * (10 * (10 * a.x + b.x) + c.x) + d.x) + e.x)\n\
-    append to big (k = -1)\n\
-    range of u is big\n\
-    retrieve (u.k) where u.k < 1 or u.k = 99999\n\
-    delete u where u.k > 0\n\
-    append to big (k = -1)\n\
-    retrieve (u.k)\n\
-    \\g\n",
-    b"done\n\
-    done\n\
-    done\n\
-    done\n\
-    done\n\
-    done\n\
-    done\n\
-    done\n\
-    done\n\
-    done\n\
-    done\n\
-    done\n\
-    done\n\
-    refused 29 line 8: too many rows\n\
-    |k          |\n\
-    |-----------|\n\
-    |          0|\n\
-    |      99999|\n\
-    |-----------|\n\
-    done\n\
-    done\n\
-    |k          |\n\
-    |-----------|\n\
-    |         -1|\n\
-    |          0|\n\
-    |-----------|\n",
-);
-
-/// Makes a relation of 100,000 rows by one append, refuses one more, and asks for aggregates over all.
-const COUNTED: Case = (
-    b"create dig (x = i1)\n\
-    append to dig (x = 0) append to dig (x = 1) append to dig (x = 2) append to dig (x = 3)\n\
-    append to dig (x = 4) append to dig (x = 5) append to dig (x = 6) append to dig (x = 7)\n\
-    append to dig (x = 8) append to dig (x = 9)\n\
-    create big (k = i4)\n\
-    \\g\n\
-    range of a is dig range of b is dig range of c is dig range of d is dig range of e is dig\n\
-    range of u is big\n\
-    append to big (k = 10000 * a.x + 1000 * b.x + 100 * c.x + 10 * d.x + e.x)\n\
-    \\g\n\
-    append to big (k = 100000)\n\
-    \\g\n\
-    retrieve (n = count(u.k), total = sum(u.k), most = max(u.k), odd = sum(mod(u.k, 2)))\n\
-    \\g\n",
-    b"done\n\
-    done\n\
-    done\n\
-    done\n\
-    done\n\
-    done\n\
-    done\n\
-    done\n\
-    done\n\
-    done\n\
-    done\n\
-    done\n\
-    done\n\
-    refused 29 line 1: too many rows\n\
-    |n                   |total               |most                |odd                 |\n\
-    |--------------------|--------------------|--------------------|--------------------|\n\
-    |              100000|          4999950000|               99999|               50000|\n\
-    |--------------------|--------------------|--------------------|--------------------|\n",
-);
-
-#[test]
-fn a_relation_has_at_most_100_000_rows(rt: HostRuntime) {
-    let (script, output) = MANY_ROWS;
-    assert!(rt; gives(&rt, script, output));
-}
-
-#[test]
-fn aggregates_are_over_100_000_rows(rt: HostRuntime) {
-    let (script, output) = COUNTED;
-    assert!(rt; gives(&rt, script, output));
-}
 
 /// The script that makes so many relations, a line each.
 fn relations(rt: &(impl Abort + AllocGlobal), count: u32) -> Vec<u8> {
@@ -158,4 +65,79 @@ fn files_of_100_000_rows_are_copied_in_and_out(rt: HostRuntime) {
     assert_eq!(rt; status, 0);
     assert!(rt; sink.bytes() == COPIES);
     assert!(rt; has(&rt, &mut shelf, b"out", Some(&lines)));
+}
+
+/// A file of so many blanks and a newline, as the buffer drops them.
+fn blanks(rt: &(impl Abort + AllocGlobal), count: usize) -> Vec<u8> {
+    let blanks = b" ".repeat(rt.alloc(), count.saturating_sub(1));
+    let blanks = blanks.expect(rt, "memory");
+    joined(rt, &[&blanks, b"\n"])
+}
+
+/// Whether a script prints this where `q` is a quarter of the bytes that may be included, `m` that and
+/// another byte, `one` a byte and `none` empty.
+fn quarters_give(rt: &(impl Abort + AllocGlobal), script: &[u8], output: &[u8]) -> bool {
+    let (quarter, more) = (blanks(rt, 4_194_304), blanks(rt, 4_194_305));
+    let files = [
+        (b"q".as_slice(), quarter.as_slice()),
+        (b"m", more.as_slice()),
+        (b"one", b"\n"),
+        (b"none", b""),
+    ];
+    let (status, sink, shelf) = run_over(rt, script, shelf(rt, &files, &[]));
+    drop(shelf);
+    status == 0 && sink.bytes() == output
+}
+
+/// A script that includes quarters, and what it prints.
+type Quarters = (&'static [u8], &'static [u8]);
+
+/// The bytes of all includes are counted together, those of a refused one not.
+const QUARTERS: [Quarters; 2] = [
+    (
+        b"\\i q\n\
+        \\i q\n\
+        \\i q\n\
+        \\i q\n\
+        \\p\n\
+        \\i none\n\
+        \\i one\n\
+        \\i none\n\
+        \\i q\n\
+        \\i zz\n\
+        retrieve (x = 1)\n\
+        \\g\n",
+        b"refused 3 line 0: include limit\n\
+        refused 3 line 0: include limit\n\
+        refused 32 line 0: no such file\n\
+        |x                   |\n\
+        |--------------------|\n\
+        |                   1|\n\
+        |--------------------|\n",
+    ),
+    (
+        b"\\i q\n\
+        \\i q\n\
+        \\i q\n\
+        \\i m\n\
+        \\i m\n\
+        \\i q\n\
+        retrieve (x = 1)\n\
+        \\i one\n\
+        \\g\n",
+        b"refused 3 line 0: include limit\n\
+        refused 3 line 0: include limit\n\
+        refused 3 line 0: include limit\n\
+        |x                   |\n\
+        |--------------------|\n\
+        |                   1|\n\
+        |--------------------|\n",
+    ),
+];
+
+#[test]
+fn includes_have_a_size(rt: HostRuntime) {
+    for (script, output) in QUARTERS {
+        assert!(rt; quarters_give(&rt, script, output));
+    }
 }

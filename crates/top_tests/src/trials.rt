@@ -5,9 +5,6 @@ use ingres_top::{World, ingres_top};
 use std::alloc::AllocGlobal;
 use std::process::Abort;
 
-/// A script, and what it prints.
-pub(crate) type Case = (&'static [u8], &'static [u8]);
-
 /// Makes a relation with one row, and asks for it.
 pub(crate) const FIRST: &[u8] = b"create p (a = i2)\n\
     append to p (a = 7)\n\
@@ -101,21 +98,11 @@ pub(crate) fn gives(rt: &(impl Abort + AllocGlobal), script: &[u8], output: &[u8
     ends(rt, source(rt, script, &[]), sink(rt, &[]), 0, output)
 }
 
-/// The number of the first of these scripts that prints something else.
-pub(crate) fn first_wrong(rt: &(impl Abort + AllocGlobal), cases: &[Case]) -> Option<usize> {
-    for (number, (script, output)) in cases.iter().enumerate() {
-        if !gives(rt, script, output) {
-            return Some(number);
-        }
-    }
-    None
-}
-
 /// A file's name and its bytes.
 pub(crate) type File = (&'static [u8], &'static [u8]);
 
 /// A script over files.
-pub(crate) struct FileCase {
+pub(crate) struct Case {
     /// The files that stand before it.
     pub(crate) files: &'static [File],
     /// The script.
@@ -163,7 +150,7 @@ pub(crate) fn has(
 }
 
 /// Whether a script over files ends with 0, prints what it should and leaves the files that it should.
-fn keeps(rt: &(impl Abort + AllocGlobal), case: &FileCase) -> bool {
+fn keeps(rt: &(impl Abort + AllocGlobal), case: &Case) -> bool {
     let (status, sink, mut shelf) = run_over(rt, case.script, shelf(rt, case.files, &[]));
     let mut is_right = status == 0 && sink.bytes() == case.output;
     for (name, wanted) in case.left {
@@ -174,10 +161,7 @@ fn keeps(rt: &(impl Abort + AllocGlobal), case: &FileCase) -> bool {
 }
 
 /// The number of the first of these scripts that prints or leaves something else.
-pub(crate) fn first_wrong_over(
-    rt: &(impl Abort + AllocGlobal),
-    cases: &[FileCase],
-) -> Option<usize> {
+pub(crate) fn first_wrong(rt: &(impl Abort + AllocGlobal), cases: &[Case]) -> Option<usize> {
     for (number, case) in cases.iter().enumerate() {
         if !keeps(rt, case) {
             return Some(number);
