@@ -9,6 +9,7 @@ pub mod Held
 pub mod Holding
 pub mod Knowing
 pub mod KnowsProp
+pub mod Leaving
 pub mod Loading
 pub mod Making
 pub mod Opens

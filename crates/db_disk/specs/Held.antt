@@ -26,6 +26,10 @@ told_by tells m = if tells then held m else None
 abbrev pub SameHeld : Image → (Addr → Type 0) → Image → Type 0
 SameHeld seen touched m = (m0 : Image) × IsImage seen touched m0 × (held m ≡ held m0)
 
+-- an image holds what some image of the disk held then, or this database
+abbrev pub HeldOr : Image → (Addr → Type 0) → Db → Image → Type 0
+HeldOr seen touched db m = SameHeld seen touched m ⊎ (held m ≡ Some db)
+
 -- an image holds the one database or the other
 abbrev pub IsEither : Db → Db → Image → Type 0
 IsEither before after m = (held m ≡ Some before) ⊎ (held m ≡ Some after)

@@ -23,7 +23,7 @@ impl<D: Disk> DbDisk<D> {
     ghost use Rattle.db_disk.specs.Held.{has_head, SameHeld};
     ghost use Rattle.db_disk.specs.Load.{as_base, IsNoHead};
     ghost use Rattle.db_disk.specs.Reads.{OpensBy, files_known, rows_in_memory};
-    ghost use Rattle.db_disk.specs.Shown.{db_of, disk_in, schema_in};
+    ghost use Rattle.db_disk.specs.Shown.{db_of, disk_in, is_restored, schema_in, StaysRestored};
     ghost use Rattle.db_disk.specs.declared.load.LoadFault.TheVariants.{NoHead as WithoutHead};
 
     /// Restores the disk, where that wasn't done yet.
@@ -37,6 +37,7 @@ impl<D: Disk> DbDisk<D> {
             (SameHeld (D.seen (disk_in self.old)) (D.touched (disk_in self.old))) }
         ensures catalog { self.new.catalog ≡ self.old.catalog }
         ensures still { self.old.is_open ≡ true → disk_in self.new ≡ disk_in self.old }
+        ensures stays { IsTrue (is_restored self.old) → IsTrue (is_restored self.new) }
         ensures reads { IsTrue D.tells → gate (D.seen (disk_in self.old)) ≢ 1 → RisesUpTo 1 (D.reads (disk_in self.old)) (D.reads (disk_in self.new)) }
         ensures cause { HasCause (db_of self.old) (D.faults (disk_in self.old)) (D.faults (disk_in self.new)) result }
     {
@@ -87,6 +88,8 @@ impl<D: Disk> DbDisk<D> {
         // Where the catalogue is in memory no call of the disk is made, and the rows that were read stay there.
         ensures still { (s : Db) → schema_in self.old ≡ Some s → disk_in self.new ≡ disk_in self.old }
         ensures stay { (key : Key) → rows_in_memory self.old key ≡ true → rows_in_memory self.new key ≡ true }
+        // Where the disk was restored, nothing but reads is done.
+        ensures stays { StaysRestored self.old self.new }
         // Else at most the gate, the header, the birth byte and each page of the catalogues once.
         ensures reads { IsTrue D.tells → (all : ℕ) → OpensBy (D.seen (disk_in self.old)) all → RisesUpTo all (D.reads (disk_in self.old)) (D.reads (disk_in self.new)) }
         ensures cause { HasCause (db_of self.old) (D.faults (disk_in self.old)) (D.faults (disk_in self.new)) (as_base result) }
@@ -112,6 +115,8 @@ impl<D: Disk> DbDisk<D> {
         // Where the catalogue is in memory no call of the disk is made, and the rows that were read stay there.
         ensures still { (s : Db) → schema_in self.old ≡ Some s → disk_in self.new ≡ disk_in self.old }
         ensures stay { (key : Key) → rows_in_memory self.old key ≡ true → rows_in_memory self.new key ≡ true }
+        // Where the disk was restored, nothing but reads is done.
+        ensures stays { StaysRestored self.old self.new }
         // Else at most the gate, the header, the birth byte and each page of the catalogues once.
         ensures reads { IsTrue D.tells → (all : ℕ) → OpensBy (D.seen (disk_in self.old)) all → RisesUpTo all (D.reads (disk_in self.old)) (D.reads (disk_in self.new)) }
         ensures cause { HasCause (db_of self.old) (D.faults (disk_in self.old)) (D.faults (disk_in self.new)) result }

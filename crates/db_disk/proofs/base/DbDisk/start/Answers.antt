@@ -1,4 +1,4 @@
-use Rattle.std.proofs.Common.{◌≡◌, subst, sym, ◌∙◌, false}
+use Rattle.std.proofs.Common.{◌≡◌, ap, subst, sym, ◌∙◌, false}
 use Rattle.std.proofs.lemmas.Option.{same_Some}
 use Rattle.disk_model.specs.Disk.{Image}
 use Rattle.db_disk.specs.Held.{has_head}
@@ -42,3 +42,9 @@ returns-in-Err-clause-keeps g c = λ s is. c.restored.ensures.schema ∙ is
 
 pub returns-in-Err-clause-crash : goal.returns-in-Err-clause-crash
 returns-in-Err-clause-crash g c = c.restored.ensures.crash
+
+pub returns-in-Ok-clause-stays : goal.returns-in-Ok-clause-stays
+returns-in-Ok-clause-stays g c = λ is. ((λ told. (c.loaded.ensures.only_reads told).clock_same ∙ ap g.D.Disk.clock (c.restored.ensures.still is)), c.loaded.ensures.opened)
+
+pub returns-in-Err-clause-stays : goal.returns-in-Err-clause-stays
+returns-in-Err-clause-stays g c = λ is. ((λ told. ap g.D.Disk.clock (c.restored.ensures.still is)), c.restored.ensures.stays is)
