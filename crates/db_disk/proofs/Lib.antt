@@ -5,6 +5,7 @@ pub mod Fills
 pub mod Changes
 pub mod Headed
 pub mod Headers
+pub mod Headless
 pub mod Held
 pub mod Holding
 pub mod Knowing

@@ -44,6 +44,10 @@ administrator m = do
 abbrev pub has_head : Image → Bool
 has_head m = is_some (administrator m) && (birth m == 1)
 
+-- the page of file 0 that shows that none is there: that of the header where one is born, else that of the birth byte
+abbrev pub headless_page : Image → ℕ
+headless_page m = if birth m == 1 then 0 else 1
+
 module _ {D : Type 0} {g : Ghosts D} where
   -- the database on the disk below a store, where it is told
   abbrev pub database_in : BatchStore D g → Option Db
