@@ -1,7 +1,10 @@
 -- A restore behind a sync.
-use Rattle.std.proofs.Common.{◌≡◌, ◌⊎◌, inl, inr, ℕ, ◌==◌, Bool, true, false, Option, Some, None, Result, Ok, Err, OnOk, refl, sym, ◌∙◌, ap}
+use Rattle.std.proofs.Common.{◌≡◌, ◌⊎◌, inl, inr, ℕ, ◌==◌, Bool, true, false, List, [], ◌∷◌, Option, Some, None, Result, Ok, Err, IfOk, OnOk, refl, sym, ◌∙◌, ap}
 use Rattle.disk_model.specs.declared.disk.Addr.{Addr}
 use Rattle.disk_model.specs.Disk.{Image, IsImage, IsSettled, Elapses, LeavesOnly}
+use Rattle.disk_model.specs.History.{Came, CameSo}
+use Rattle.disk_model.specs.declared.calls.Call.{Call}
+use Rattle.disk_model.specs.declared.calls.Call.TheVariants.{Sync}
 use Rattle.disk_model.proofs.Moments.{joins, image_settled}
 use Rattle.batch_file.specs.declared.fault.Restored.{Restored}
 use Rattle.batch_file.specs.declared.fault.RestoreFault.{RestoreFault}
@@ -9,7 +12,10 @@ use Rattle.batch_file.specs.declared.fault.RestoreFault.TheVariants.{Disk, Damag
 use Rattle.batch_file.specs.Layout.{gate, count, entries}
 use Rattle.batch_file.specs.Redone.{redone, redone_of, answer, answer_of, damage, kept, laid}
 use Rattle.batch_file.specs.OnDisk.{SameRedone}
+use Rattle.batch_file.specs.Order.{Restores}
+use Rattle.batch_file.proofs.Calling.{came_then}
 use Rattle.batch_file.proofs.Reopening.{synced_run}
+use Rattle.batch_store.specs.Opening.{Reopens}
 
 -- where the answer is damage, nothing stands there
 damaged_of : (opened : Bool) (at : Option Addr) (n : ℕ) (plain over : Image) (file page : ℕ) → answer_of opened at n ≡ Err (Damaged file page) → redone_of opened at plain over ≡ None
@@ -24,6 +30,16 @@ damaged_none m file page e = damaged_of (gate m == 1) (damage m) (count m) (kept
 pub damaged_so : (result : Result Restored RestoreFault) (m old : Image) (file page : ℕ) → m ≡ old → (result ≡ Err Disk) ⊎ (result ≡ answer m) → result ≡ Err (Damaged file page) → redone old ≡ None
 damaged_so result m old file page same (inl fault) is = let e : Err Disk ≡ Err (Damaged file page) = sym fault ∙ is in absurd (cc e)
 damaged_so result m old file page same (inr said) is = ap redone (sym same) ∙ damaged_none m file page (sym said ∙ is)
+
+-- the answer of what was read behind the sync is that of what was read before
+pub answered_so : (result : Result Restored RestoreFault) (m old : Image) → m ≡ old → (result ≡ Err Disk) ⊎ (result ≡ answer m) → (result ≡ Err Disk) ⊎ (result ≡ answer old)
+answered_so result m old same (inl fault) = inl fault
+answered_so result m old same (inr said) = inr (said ∙ ap answer same)
+
+-- a sync, and behind it what the restore did
+pub made_so : {E : Type 0} (result : Result Restored E) (a b c : Option (List Call)) → Came a b (Sync ∷ []) → IfOk result (λ done. CameSo b c (Restores done)) → IfOk result (λ done. CameSo a c (Reopens done))
+made_so (Ok done) a b c first (rest, came, does) = (Sync ∷ rest, came_then a b c (Sync ∷ []) rest first came, (rest, refl, does))
+made_so (Err e) a b c first behind = tt
 
 pub done_so : {T E : Type 0} (result : Result T E) (m old next : Image) → m ≡ old → OnOk result (redone m ≡ Some (kept next)) → OnOk result (redone old ≡ Some (kept next))
 done_so (Ok x) m old next same is = ap redone (sym same) ∙ is

@@ -1,4 +1,5 @@
 pub mod Numbers
+pub mod Opening
 pub mod Run
 pub mod Running
 pub mod Standing

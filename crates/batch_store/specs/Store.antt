@@ -1,6 +1,7 @@
 -- What a store of pages over a disk is made of.
 use Rattle.std.specs.Prelude.{◌≡◌, ℕ, Bool, Option, IsTrue}
 use Rattle.disk_model.specs.Disk.{Image, OnlyReads}
+use Rattle.disk_model.specs.declared.disk.Addr.{Addr}
 use Rattle.disk_model.specs.declared.disk.Disk.{Ghosts}
 use Rattle.batch_file.specs.declared.stage.Batch.{Batch}
 use Rattle.batch_file.specs.Layout.{Entries}
@@ -33,6 +34,10 @@ module _ {D : Type 0} {g : Ghosts D} where
   -- the page at each address, where the disk tells what it holds
   abbrev pub pages_of : BatchStore D g → Option Image
   pages_of s = told g.tells (g.seen s.disk) s.batch
+
+  -- the address of the page that it keeps, where it keeps one
+  abbrev pub last_of : BatchStore D g → Option Addr
+  last_of s = s.given
 
   -- it came of that store by calls of a store of pages
   abbrev pub CameOf : BatchStore D g → BatchStore D g → Type 0

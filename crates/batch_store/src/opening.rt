@@ -8,15 +8,18 @@ use std::alloc::Global;
 use std::collections::HashMap;
 
 impl<D: Disk> BatchStore<D> {
-    ghost use Rattle.std.specs.Prelude.{◌≡◌, ◌≢◌, ℕ, IsTrue, OnOk, OnErr, Err, Some, None, true, false};
+    ghost use Rattle.std.specs.Prelude.{◌≡◌, ◌≢◌, ◌⊎◌, ℕ, List, [], ◌∷◌, IsTrue, IfOk, OnOk, OnErr, Err, Some, None, true, false};
     ghost use Rattle.fault_io.specs.Causes.{HasCause};
     ghost use Rattle.disk_model.specs.Disk.{Elapses, IsSettled, LeavesOnly, RisesUpTo};
+    ghost use Rattle.disk_model.specs.History.{Came, CameSo};
+    ghost use Rattle.disk_model.specs.declared.calls.Call.TheVariants.{Sync as ASync};
     ghost use Rattle.disk_model.specs.declared.disk.Addr.{Addr as At};
     ghost use Rattle.batch_file.specs.Faults.{FailsBy};
     ghost use Rattle.batch_file.specs.Layout.{gate};
     ghost use Rattle.batch_file.specs.OnDisk.{SameRedone, IsClosed};
-    ghost use Rattle.batch_file.specs.Redone.{kept, redone};
+    ghost use Rattle.batch_file.specs.Redone.{answer, kept, redone};
     ghost use Rattle.batch_store.specs.Store.{disk_of, waiting, is_due, pages_of};
+    ghost use Rattle.batch_store.specs.Opening.{Reopens};
 
     /// A store over a disk of which nothing is known yet: a restore is due.
     pub fn unopened(alloc: Global, disk: D) -> BatchStore<D>
@@ -44,6 +47,7 @@ impl<D: Disk> BatchStore<D> {
         ensures reads { D.reads (disk_of self.new) ≡ D.reads (disk_of self.old) }
         ensures begun { waiting self.new ≡ 0 }
         ensures due { is_due self.new ≡ true }
+        ensures made { OnOk result (Came (D.history (disk_of self.old)) (D.history (disk_of self.new)) (ASync ∷ [])) }
         ensures cause { HasCause (D.faults (disk_of self.old)) (D.faults (disk_of self.new)) result }
     {
         forget(&mut self.batch, &mut self.numbers);
@@ -55,6 +59,9 @@ impl<D: Disk> BatchStore<D> {
     /// Restores as `restore` does, once all that was written before is durable. So what the disk stands
     /// for once its batch is laid is the same afterwards, also after an error.
     pub fn reopen(&mut self) -> Result<Restored, RestoreFault>
+        // The answer is that of what a read gives, so damage is the first page at fault; only a fault of the disk goes before.
+        ensures answer { IsTrue D.tells →
+            (result ≡ Err RestoreFault.Disk) ⊎ (result ≡ answer (D.seen (disk_of self.old))) }
         ensures same { IsTrue D.tells → redone (D.seen (disk_of self.new)) ≡ redone (D.seen (disk_of self.old)) }
         ensures done { IsTrue D.tells →
             OnOk result (redone (D.seen (disk_of self.old)) ≡ Some (kept (D.seen (disk_of self.new)))) }
@@ -71,6 +78,9 @@ impl<D: Disk> BatchStore<D> {
         ensures begun { waiting self.new ≡ 0 }
         ensures calm { OnOk result (is_due self.new ≡ false) }
         ensures due { OnErr result (is_due self.new ≡ true) }
+        // Whatever the disk tells of what it holds, these calls were made and answered Ok.
+        ensures made { IfOk result (λ done.
+            CameSo (D.history (disk_of self.old)) (D.history (disk_of self.new)) (Reopens done)) }
         ensures cause { FailsBy (D.faults (disk_of self.old)) (D.faults (disk_of self.new)) result }
     {
         self.settle()?;

@@ -66,7 +66,7 @@ impl<D: Disk> BatchStore<D> {
     ghost use Rattle.batch_file.specs.Order.{Completes, Lays, Restores};
     ghost use Rattle.batch_file.specs.Redone.{answer, kept, redone};
     ghost use Rattle.batch_store.specs.Standing.{IsOneOf};
-    ghost use Rattle.batch_store.specs.Store.{disk_of, batch_of, waiting, changes_of, is_due, pages_of, CameOf};
+    ghost use Rattle.batch_store.specs.Store.{disk_of, batch_of, waiting, changes_of, is_due, last_of, pages_of, CameOf};
 
     /// A store over a disk whose gate is shut: its pages are those that the disk has.
     pub fn over(alloc: Global, disk: D) -> BatchStore<D>
@@ -127,7 +127,7 @@ impl<D: Disk> BatchStore<D> {
         self.due
     }
 
-    /// Forgets the pages that were put and not laid: a change is given up.
+    /// Forgets the pages that were put and not laid, and the page that is kept: a change is given up.
     pub fn begin(&mut self)
         // A crash at any moment since a store of which it came leaves the pages of then.
         ensures crash { (s : _) → CameOf s self.old → IsTrue D.tells
@@ -136,6 +136,7 @@ impl<D: Disk> BatchStore<D> {
         ensures came { (s : _) → CameOf s self.old → CameOf s self.new }
         ensures disk { disk_of self.new ≡ disk_of self.old }
         ensures empty { waiting self.new ≡ 0 }
+        ensures last { last_of self.new ≡ None }
         ensures due { is_due self.new ≡ is_due self.old }
         ensures pages { IsTrue D.tells → pages_of self.new ≡ Some (kept (D.seen (disk_of self.old))) }
     {

@@ -1,5 +1,5 @@
 -- When a call answers a fault.
-use Rattle.std.proofs.Common.{◌≡◌, refl, sym, ap, subst, ◌∙◌, arith, ℕ, ◌≤◌, Option, Some, None, Result, Ok, Err}
+use Rattle.std.proofs.Common.{◌≡◌, ◌⊎◌, inl, inr, refl, sym, ap, subst, ◌∙◌, arith, ℕ, ◌≤◌, Option, Some, None, Result, Ok, Err}
 use Rattle.calculus.specs.Database.{Db}
 use Rattle.am_traits.specs.Causes.{HasCause}
 use Rattle.am_traits.specs.declared.fault.BaseFault.{BaseFault}
@@ -51,3 +51,8 @@ damage_of_batch (Damaged f p) result of file page is same e =
     let files : f ≡ file = cc both in
     let pages : p ≡ page = cc both in
     is ∙ (λ i. Err (Damaged (files i) (pages i)))
+
+-- damage is what the pages answer where the disk doesn't fail
+pub answered_so : {T : Type 0} (result said : Result T RestoreFault) (file page : ℕ) → (result ≡ Err Disk) ⊎ (result ≡ said) → result ≡ Err (Damaged file page) → said ≡ Err (Damaged file page)
+answered_so result said file page (inl fault) is = let bad : Err Disk ≡ Err (Damaged file page) = sym fault ∙ is in absurd (cc bad)
+answered_so result said file page (inr e) is = sym e ∙ is

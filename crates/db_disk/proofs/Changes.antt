@@ -16,7 +16,7 @@ use Rattle.calculus.specs.IsDatabase.{IsDatabase}
 use Rattle.disk_model.specs.declared.disk.Addr.{Addr}
 use Rattle.disk_model.specs.declared.disk.Disk.{Ghosts}
 use Rattle.disk_model.specs.Disk.{Image, IsImage, LeavesOnly}
-use Rattle.disk_model.proofs.Moments.{image_settled, weaker, joins}
+use Rattle.disk_model.proofs.Moments.{image_settled, weaker}
 use Rattle.batch_file.specs.declared.fault.RestoreFault.{RestoreFault}
 use Rattle.batch_file.specs.declared.fault.RestoreFault.TheVariants as restore
 use Rattle.batch_file.specs.Faults.{FailsBy}
@@ -40,7 +40,7 @@ use Rattle.stored_database.specs.Standing.{header_of, standing}
 use Rattle.stored_database.proofs.Exactly.{pages_stand_exactly}
 use Rattle.stored_database.proofs.Reading.{same_number}
 use Rattle.db_disk.specs.Answered.{of_restore}
-use Rattle.db_disk.specs.Held.{administrator, held, told_by, IsEither, SameHeld}
+use Rattle.db_disk.specs.Held.{administrator, held, told_by, IsEither}
 use Rattle.db_disk.proofs.Holding.{held_as}
 
 -- ---- a change that names no rows
@@ -169,15 +169,6 @@ module _ {S : Type 0} (seen : S → Image) (touched : S → Addr → Type 0) (cl
   same_given_up a b closed run left =
       let from = run.each (seen b) left in
       from.2 ∙ ap redone (image_settled seen touched clock left_since a closed.settled from.0 from.1)
-
-  -- behind what held the same, where all that was held is one database
-  pub then_changed : (a b c : S) (db later : Db) → ((m : Image) → IsImage (seen a) (touched a) m → held m ≡ Some db) → LeavesOnly clock left_since a b (SameHeld (seen a) (touched a)) → LeavesOnly clock left_since b c (IsEither db later)
-      → LeavesOnly clock left_since a c (IsEither db later)
-  then_changed a b c db later all first then_ =
-      joins seen touched clock left_since a b c _ _ (weaker seen touched clock left_since a b _ _ first (λ m from. inl (from.2 ∙ all from.0 from.1))) then_ (λ m is. is)
-
-  pub only_opened : (a b : S) (db later : Db) → ((m : Image) → IsImage (seen a) (touched a) m → held m ≡ Some db) → LeavesOnly clock left_since a b (SameHeld (seen a) (touched a)) → LeavesOnly clock left_since a b (IsEither db later)
-  only_opened a b db later all first = weaker seen touched clock left_since a b _ _ first (λ m from. inl (from.2 ∙ all from.0 from.1))
 
 -- what each image holds is told
 pub told_now : (tells : Bool) (m : Image) (db : Db) → IsTrue tells → held m ≡ Some db → told_by tells m ≡ Some db

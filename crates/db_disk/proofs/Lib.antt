@@ -5,10 +5,12 @@ pub mod Fills
 pub mod Changes
 pub mod Headed
 pub mod Headers
+pub mod Headless
 pub mod Held
 pub mod Holding
 pub mod Knowing
 pub mod KnowsProp
+pub mod Leaving
 pub mod Loading
 pub mod Making
 pub mod Opens

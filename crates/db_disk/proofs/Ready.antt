@@ -11,10 +11,11 @@ use Rattle.disk_model.specs.declared.disk.Addr.{Addr}
 use Rattle.disk_model.specs.declared.disk.Disk.{Ghosts}
 use Rattle.disk_model.proofs.Moments.{started, reads_on}
 use Rattle.batch_file.specs.Layout.{gate}
+use Rattle.batch_file.specs.OnDisk.{IsClosed}
 use Rattle.batch_file.specs.Redone.{kept, redone}
 use Rattle.batch_file.specs.Staged.{size_of}
 use Rattle.batch_file.proofs.Lays.{redone_shut}
-use Rattle.batch_store.specs.Store.{batch_of, disk_of, pages_of, CameOf, OnlyReadOf}
+use Rattle.batch_store.specs.Store.{batch_of, disk_of, is_due, pages_of, waiting, CameOf, OnlyReadOf}
 use Rattle.batch_store.specs.declared.store.BatchStore.{BatchStore}
 use Rattle.batch_store.proofs.Stands.{fresh_pages, staged_none}
 use Rattle.schema_build.specs.Parts.{index_owners_agree}
@@ -74,6 +75,14 @@ module _ {D : Type 0} {g : Ghosts D} where
 
   pub same_read : (s t : BatchStore D g) → OnlyReadOf s t → database_in t ≡ database_in s
   same_read s t only = told_read g.tells (g.seen (disk_of s)) (g.seen (disk_of t)) (λ told. (only.reads told).seen_same)
+
+  -- a store that is ready stays so where it is begun anew
+  pub begun_ready : (s t : BatchStore D g) → IsReady s → disk_of t ≡ disk_of s → is_due t ≡ is_due s → waiting t ≡ 0 → IsReady t
+  begun_ready s t ready same due empty = record {
+    calm = due ∙ ready.calm;
+    empty = empty;
+    closed = λ told. subst (λ (d : D). IsClosed (g.seen d) (g.touched d)) (sym same) (ready.closed told);
+  }
 
   pub still_ready : (s t : BatchStore D g) → IsReady s → CameOf s t → OnlyReadOf s t → IsReady t
   still_ready s t ready came only = record {

@@ -26,6 +26,10 @@ told_by tells m = if tells then held m else None
 abbrev pub SameHeld : Image → (Addr → Type 0) → Image → Type 0
 SameHeld seen touched m = (m0 : Image) × IsImage seen touched m0 × (held m ≡ held m0)
 
+-- an image holds what some image of the disk held then, or this database
+abbrev pub HeldOr : Image → (Addr → Type 0) → Db → Image → Type 0
+HeldOr seen touched db m = SameHeld seen touched m ⊎ (held m ≡ Some db)
+
 -- an image holds the one database or the other
 abbrev pub IsEither : Db → Db → Image → Type 0
 IsEither before after m = (held m ≡ Some before) ⊎ (held m ≡ Some after)
@@ -39,6 +43,10 @@ administrator m = do
 -- there is a header, and a database is born
 abbrev pub has_head : Image → Bool
 has_head m = is_some (administrator m) && (birth m == 1)
+
+-- the page of file 0 that shows that none is there: that of the header where one is born, else that of the birth byte
+abbrev pub headless_page : Image → ℕ
+headless_page m = if birth m == 1 then 0 else 1
 
 module _ {D : Type 0} {g : Ghosts D} where
   -- the database on the disk below a store, where it is told

@@ -1,5 +1,5 @@
 -- What a disk holds is a database, and a scan of it is one.
-use Rattle.std.proofs.Common.{◌≡◌, refl, sym, ap, subst, ◌∙◌, Bool, true, false, IsTrue, Option, Some, None}
+use Rattle.std.proofs.Common.{◌≡◌, inl, inr, refl, sym, ap, subst, ◌∙◌, arith, ℕ, Bool, true, false, IsTrue, Option, Some, None}
 use Rattle.std.specs.Coded.{Coded, Coded-set, codes}
 use Rattle.std.proofs.lemmas.Option.{none-some, same_Some}
 use mathlib.Core.Logic.{∥∥₁_elim}
@@ -11,6 +11,7 @@ use Rattle.calculus.specs.IsDatabase.{IsDatabase}
 use Rattle.calculus.specs.Schema.{schema_of}
 use Rattle.calculus.specs.Stored.{rows_at}
 use Rattle.disk_model.specs.Disk.{Image}
+use Rattle.disk_model.specs.declared.disk.Addr.{Addr}
 use Rattle.batch_file.specs.Redone.{kept, redone}
 use Rattle.page_chain.specs.Lists.{when}
 use Rattle.am_traits.specs.Scans.{IsScan, first_place}
@@ -27,6 +28,7 @@ use Rattle.stored_database.proofs.Reading.{bind_some, when_some}
 use Rattle.stored_database.proofs.WhatStands.{what_stands_is_a_database}
 use Rattle.db_disk.specs.Held.{held, told_by}
 use Rattle.db_disk.specs.Known.{IsKnown, schema_known}
+use Rattle.db_disk.specs.Left.{clock_by, left_by, IsLeft}
 use Rattle.db_disk.specs.Shown.{rows_left}
 
 is_held : (m : Image) (db : Db) → held m ≡ Some db → IsDatabase db
@@ -59,3 +61,19 @@ own_told true m None known db s is schema = absurd (none-some s schema)
 own_told true m (Some c) known db s is schema =
     ap schema_of (sym (same_Some (schema_of (database_of c.plain)) s schema) ∙ knows_its_schema c (kept m) db ((known refl).each c db refl is)) ∙ schema_again db
 own_told false m catalog known db s is schema = absurd (none-some db is)
+
+-- where a schema is known the disk was restored
+pub known_is_restored : (catalog : Option Catalog) (restored : Bool) → ((c : Catalog) → catalog ≡ Some c → restored ≡ true) → (s : Db) → schema_known catalog ≡ Some s → IsTrue restored
+known_is_restored None restored opened s is = absurd (none-some s is)
+known_is_restored (Some c) restored opened s is = opened c refl
+
+still_left : {D : Type 0} (seen : D → Image) (touched : D → Addr → Type 0) (clock : D → ℕ) (left_since : D → ℕ → Image → Type 0) (d : D) (t : ℕ) (m : Image) →
+    IsLeft seen touched clock left_since d (clock d) m → IsLeft seen touched clock left_since d t m
+still_left seen touched clock left_since d t m (inl image) = inl image
+still_left seen touched clock left_since d t m (inr (later, left)) = absurd (omega (arith, later))
+
+-- what a crash leaves now is among what it leaves since an earlier moment
+pub left_counts : {D : Type 0} (tells : Bool) (seen : D → Image) (touched : D → Addr → Type 0) (clock : D → ℕ) (left_since : D → ℕ → Image → Type 0) (d : D) (t : ℕ) (o : Option Db) →
+    left_by tells seen touched clock left_since d (clock_by tells clock d) o → left_by tells seen touched clock left_since d t o
+left_counts true seen touched clock left_since d t o (m, is, left, h) = (m, is, still_left seen touched clock left_since d t m left, h)
+left_counts false seen touched clock left_since d t o (m, is, left, h) = cc

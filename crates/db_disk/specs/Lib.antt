@@ -4,6 +4,7 @@ pub mod Faults
 pub mod Head
 pub mod Held
 pub mod Known
+pub mod Left
 pub mod Load
 pub mod Laws
 pub mod Making

@@ -1,14 +1,17 @@
 -- What a database on a disk shows.
-use Rattle.std.specs.Prelude.{List, [], Option, Some, None}
+use Rattle.std.specs.Prelude.{◌≡◌, ℕ, Bool, IsTrue, List, [], Option, Some, None}
+use Rattle.am_traits.specs.Crashes.{OnlyAsked}
 use Rattle.calculus.specs.declared.probe.Place.{Place}
 use Rattle.calculus.specs.declared.query.RelKey.{RelKey}
 use Rattle.calculus.specs.Database.{Db}
 use Rattle.calculus.specs.Rows.{Row}
+use Rattle.disk_model.specs.declared.disk.Addr.{Addr}
 use Rattle.disk_model.specs.declared.disk.Disk.{Ghosts}
-use Rattle.batch_store.specs.Store.{disk_of}
+use Rattle.batch_store.specs.Store.{disk_of, last_of}
 use Rattle.plain_base.specs.Places.{rows_from}
 use Rattle.db_disk.specs.Held.{database_in}
 use Rattle.db_disk.specs.Known.{schema_known}
+use Rattle.db_disk.specs.Left.{clock_by, left_by}
 use Rattle.db_disk.specs.declared.base.DbDisk.{DbDisk}
 
 -- the rows that a scan still gives from a place on, where a database is told
@@ -32,3 +35,27 @@ module _ {D : Type 0} {g : Ghosts D} where
   -- the schema that is known in memory, where one is, whatever the disk tells
   abbrev pub schema_in : DbDisk D g → Option Db
   schema_in d = schema_known d.catalog
+
+  -- the disk was restored, and no change has failed since
+  abbrev pub is_restored : DbDisk D g → Bool
+  is_restored d = d.is_open
+
+  -- the address of the page that is kept of the disk, where one is
+  abbrev pub page_kept : DbDisk D g → Option Addr
+  page_kept d = last_of d.store
+
+  -- the clock of the disk, where it tells what it holds
+  abbrev pub clock_in : DbDisk D g → ℕ
+  clock_in d = clock_by g.tells g.clock (disk_in d)
+
+  -- what a crash since a moment may have left
+  abbrev pub left_in : DbDisk D g → ℕ → Option Db → Type 0
+  left_in d = left_by g.tells g.seen g.touched g.clock g.left_since (disk_in d)
+
+  -- it came of that one by questions
+  abbrev pub AskedOf : DbDisk D g → DbDisk D g → Type 0
+  AskedOf before now = OnlyAsked (clock_in before) (clock_in now) (is_restored before) (is_restored now) (left_in before) (left_in now)
+
+  -- where the disk was restored it stays so, and its clock stands
+  abbrev pub StaysRestored : DbDisk D g → DbDisk D g → Type 0
+  StaysRestored before now = IsTrue (is_restored before) → (IsTrue g.tells → g.clock (disk_in now) ≡ g.clock (disk_in before)) × IsTrue (is_restored now)

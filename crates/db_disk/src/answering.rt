@@ -1,8 +1,9 @@
 //! A database on a disk answers as any base does.
 
 ghost use Rattle.std.specs.Prelude.{true};
-ghost use Rattle.db_disk.specs.Laws.{lawful_told, own_told, scanned_told};
-ghost use Rattle.db_disk.specs.Shown.{db_of, disk_in, left_of, schema_in};
+ghost use Rattle.am_traits.proofs.Crashes.{asked_itself};
+ghost use Rattle.db_disk.specs.Laws.{known_is_restored, lawful_told, left_counts, own_told, scanned_told};
+ghost use Rattle.db_disk.specs.Shown.{clock_in, db_of, disk_in, is_restored, left_in, left_of, schema_in, AskedOf};
 
 use crate::DbDisk;
 use am_traits::{Base, BaseFault};
@@ -19,6 +20,16 @@ impl<D: Disk> Base for DbDisk<D> {
 
     ghost faults = { λ d. D.faults (disk_in d) };
 
+    ghost clock = { clock_in };
+
+    ghost reads = { λ d. D.reads (disk_in d) };
+
+    ghost left_since = { left_in };
+
+    ghost ready = { is_restored };
+
+    ghost asked = { AskedOf };
+
     ghost left = { left_of };
 
     ghost lawful = { λ d db is. lawful_told D.tells (D.seen (disk_in d)) db is };
@@ -26,6 +37,14 @@ impl<D: Disk> Base for DbDisk<D> {
     ghost own = { λ d db s is known. own_told D.tells (D.seen (disk_in d)) d.catalog d.known db s is known };
 
     ghost scanned = { λ d db key is. scanned_told D.tells (D.seen (disk_in d)) db key is };
+
+    ghost counts_now = { λ d t o le left. left_counts D.tells D.seen D.touched D.clock D.left_since (disk_in d) t o left };
+
+    ghost is_ready = { λ d s known. known_is_restored d.catalog d.is_open d.opened s known };
+
+    ghost starts = { λ d. asked_itself (clock_in d) (is_restored d) (left_in d) };
+
+    ghost asks = { λ _ _ is. is };
 
     fn dba(&mut self, alloc: Global) -> Result<Name, BaseFault> {
         DbDisk::dba(self, alloc)

@@ -27,13 +27,13 @@ fn names_nothing(change: &DbChange) -> bool
 }
 
 impl<D: Disk> DbDisk<D> {
-    ghost use Rattle.std.specs.Prelude.{IsTrue, Some, None, OnOk, IsErrOf, is_some};
+    ghost use Rattle.std.specs.Prelude.{◌⊎◌, IsTrue, Some, None, OnOk, OnErr, IsErrOf, is_some};
     ghost use Rattle.calculus.specs.Change.{IsLawful};
     ghost use Rattle.calculus.specs.Schema.{schema_of};
     ghost use Rattle.am_traits.specs.Causes.{HasCause};
     ghost use Rattle.disk_model.specs.Disk.{Image, IsImage, LeavesOnly};
-    ghost use Rattle.db_disk.specs.Held.{held, IsEither};
-    ghost use Rattle.db_disk.specs.Shown.{db_of, disk_in, schema_in};
+    ghost use Rattle.db_disk.specs.Held.{held, HeldOr, IsEither};
+    ghost use Rattle.db_disk.specs.Shown.{db_of, disk_in, is_restored, page_kept, schema_in};
 
     /// Lays a lawful change on a database that is open.
     fn lay_open(&mut self, alloc: Global, change: &DbChange) -> Result<(), BaseFault>
@@ -73,10 +73,12 @@ impl<D: Disk> DbDisk<D> {
     pub fn apply(&mut self, alloc: Global, change: &DbChange) -> Result<(), BaseFault>
         requires { (db : Db) → db_of self.old ≡ Some db → IsLawful db change.now }
         ensures told { (db : Db) → db_of self.old ≡ Some db → OnOk result (db_of self.new ≡ Some (laid db change.now)) }
-        // A crash at any moment leaves the database of before or of after, where each image of the start holds the former.
-        ensures crash { IsTrue D.tells → (db : Db)
-            → ((m : Image) → IsImage (D.seen (disk_in self.old)) (D.touched (disk_in self.old)) m → held m ≡ Some db)
-            → LeavesOnly D.clock D.left_since (disk_in self.old) (disk_in self.new) (IsEither db (laid db change.now)) }
+        // A crash at any moment leaves what it might leave at the start, by what the image holds, or the database of after.
+        ensures crash { (db : Db) → db_of self.old ≡ Some db
+            → LeavesOnly D.clock D.left_since (disk_in self.old) (disk_in self.new)
+            (HeldOr (D.seen (disk_in self.old)) (D.touched (disk_in self.old)) (laid db change.now)) }
+        // After any fault a database that is known is the one of before or of after.
+        ensures failed { (db now : Db) → db_of self.old ≡ Some db → db_of self.new ≡ Some now → OnErr result ((now ≡ db) ⊎ (now ≡ laid db change.now)) }
         // And after Ok a crash leaves that of after.
         ensures durable { (db : Db) → db_of self.old ≡ Some db
             → OnOk result ((m : Image) → IsImage (D.seen (disk_in self.new)) (D.touched (disk_in self.new)) m → held m ≡ Some (laid db change.now)) }
@@ -92,14 +94,18 @@ impl<D: Disk> DbDisk<D> {
         self.lay_open(alloc, change)
     }
 
-    /// Forgets all that was kept of the disk. Takes no memory.
+    /// Forgets what was read of the disk: the catalogue, where rows lay, and the page that was read last. So
+    /// the next call reads the catalogues again. A disk that was restored isn't restored once more, since only
+    /// calls of this database change it. Makes no call of the disk, and takes no memory.
     pub fn hand_over(&mut self)
         ensures disk { disk_in self.new ≡ disk_in self.old }
         ensures kept { db_of self.new ≡ db_of self.old }
         ensures schema { schema_in self.new ≡ None }
+        ensures page { page_kept self.new ≡ None }
+        ensures stays { is_restored self.new ≡ is_restored self.old }
     {
         self.catalog = None;
         self.spots = SpotTable::new(self.alloc);
-        self.is_open = false;
+        self.store.begin();
     }
 }

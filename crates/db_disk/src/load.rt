@@ -10,7 +10,7 @@ ghost use Rattle.catalog.specs.Reads.{HasChains};
 ghost use Rattle.plain_base.specs.Shown.{database_of};
 ghost use Rattle.schema_build.specs.Parts.{index_owners_agree};
 ghost use Rattle.stored_database.specs.Standing.{standing};
-ghost use Rattle.db_disk.specs.Held.{has_head};
+ghost use Rattle.db_disk.specs.Held.{has_head, headless_page};
 ghost use Rattle.db_disk.specs.Known.{LiesFor};
 ghost use Rattle.db_disk.specs.Load.{as_base, base_fault, IsNoHead, NoneStands};
 ghost use Rattle.db_disk.specs.declared.load.LoadFault.TheVariants.{NoHead as WithoutHead, Base as OfBase};
@@ -75,6 +75,8 @@ pub(crate) fn load<S: PageStore>(alloc: Global, store: &mut S) -> Result<Catalog
         → index_owners_agree db ≡ true → IfOk result (λ c. Knows c m db) }
     ensures lies { (m : Image) → S.pages store.old ≡ Some m → IfOk result (λ c. LiesFor c m) }
     ensures no_head { (m : Image) (page : ℕ) → S.pages store.old ≡ Some m → result ≡ Err (WithoutHead page) → has_head m ≡ false }
+    // The page that it names is the one that shows it.
+    ensures at_head { (m : Image) (page : ℕ) → S.pages store.old ≡ Some m → result ≡ Err (WithoutHead page) → page ≡ headless_page m }
     ensures headless { (m : Image) → S.pages store.old ≡ Some m → has_head m ≡ false → IsNoHead result }
     ensures reads { (m : Image) (all : ℕ) → S.pages store.old ≡ Some m → HasChains m all → RisesUpTo (all + 2) (S.reads store.old) (S.reads store.new) }
     ensures same { S.pages store.new ≡ S.pages store.old }

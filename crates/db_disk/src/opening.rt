@@ -15,16 +15,18 @@ impl<D: Disk> DbDisk<D> {
     ghost use Rattle.disk_model.specs.Disk.{Image, LeavesOnly, OnlyReads, RisesUpTo};
     ghost use Rattle.calculus.specs.declared.query.RelKey.{RelKey as Key};
     ghost use Rattle.batch_file.specs.Layout.{gate};
-    ghost use Rattle.batch_file.specs.Redone.{kept, redone};
+    ghost use Rattle.batch_file.specs.Redone.{answer, kept, redone};
+    ghost use Rattle.batch_file.specs.declared.fault.RestoreFault.TheVariants.{Damaged as DamagedBatch};
+    ghost use Rattle.am_traits.specs.declared.fault.BaseFault.TheVariants.{Damaged as DamagedBase};
     ghost use Rattle.catalog.specs.Reads.{HasChains};
     ghost use Rattle.page_chain.specs.Pages.{pages_of};
     ghost use Rattle.stored_database.specs.Catalogue.{catalogue_in};
     ghost use Rattle.stored_database.specs.Printed.{printed};
-    ghost use Rattle.db_disk.specs.Held.{has_head, SameHeld};
+    ghost use Rattle.db_disk.specs.Held.{has_head, headless_page, SameHeld};
     ghost use Rattle.db_disk.specs.Load.{as_base, IsNoHead};
     ghost use Rattle.db_disk.specs.Reads.{OpensBy, files_known, rows_in_memory};
-    ghost use Rattle.db_disk.specs.Shown.{db_of, disk_in, schema_in};
-    ghost use Rattle.db_disk.specs.declared.load.LoadFault.TheVariants.{NoHead as WithoutHead};
+    ghost use Rattle.db_disk.specs.Shown.{db_of, disk_in, is_restored, schema_in, StaysRestored};
+    ghost use Rattle.db_disk.specs.declared.load.LoadFault.TheVariants.{Base as OfBase, NoHead as WithoutHead};
 
     /// Restores the disk, where that wasn't done yet.
     pub(crate) fn restored(&mut self) -> Result<(), BaseFault>
@@ -33,10 +35,12 @@ impl<D: Disk> DbDisk<D> {
         ensures schema { schema_in self.new ≡ schema_in self.old }
         ensures pages { IsTrue D.tells → OnOk result (redone (D.seen (disk_in self.old)) ≡ Some (kept (D.seen (disk_in self.new)))) }
         ensures damaged { IsTrue D.tells → (file page : ℕ) → result ≡ Err (BaseFault.Damaged file page) → redone (D.seen (disk_in self.old)) ≡ None }
+        ensures at_batch { IsTrue D.tells → (file page : ℕ) → result ≡ Err (BaseFault.Damaged file page) → answer (D.seen (disk_in self.old)) ≡ Err (DamagedBatch file page) }
         ensures crash { IsTrue D.tells → LeavesOnly D.clock D.left_since (disk_in self.old) (disk_in self.new)
             (SameHeld (D.seen (disk_in self.old)) (D.touched (disk_in self.old))) }
         ensures catalog { self.new.catalog ≡ self.old.catalog }
         ensures still { self.old.is_open ≡ true → disk_in self.new ≡ disk_in self.old }
+        ensures stays { IsTrue (is_restored self.old) → IsTrue (is_restored self.new) }
         ensures reads { IsTrue D.tells → gate (D.seen (disk_in self.old)) ≢ 1 → RisesUpTo 1 (D.reads (disk_in self.old)) (D.reads (disk_in self.new)) }
         ensures cause { HasCause (db_of self.old) (D.faults (disk_in self.old)) (D.faults (disk_in self.new)) result }
     {
@@ -57,6 +61,7 @@ impl<D: Disk> DbDisk<D> {
         ensures keeps { (s : Db) → schema_in self.old ≡ Some s → schema_in self.new ≡ Some s }
         ensures only_reads { IsTrue D.tells → OnlyReads D.seen D.touched D.clock D.left_since (disk_in self.old) (disk_in self.new) }
         ensures no_head { IsTrue D.tells → (page : ℕ) → result ≡ Err (WithoutHead page) → has_head (kept (D.seen (disk_in self.old))) ≡ false }
+        ensures at_head { IsTrue D.tells → (page : ℕ) → result ≡ Err (WithoutHead page) → page ≡ headless_page (kept (D.seen (disk_in self.old))) }
         ensures headless { IsTrue D.tells → schema_in self.old ≡ None → has_head (kept (D.seen (disk_in self.old))) ≡ false → IsNoHead result }
         ensures catalog { (s : Db) → schema_in self.old ≡ Some s → self.new.catalog ≡ self.old.catalog }
         ensures still { (s : Db) → schema_in self.old ≡ Some s → disk_in self.new ≡ disk_in self.old }
@@ -81,12 +86,18 @@ impl<D: Disk> DbDisk<D> {
         ensures kept { db_of self.new ≡ db_of self.old }
         ensures keeps { (s : Db) → schema_in self.old ≡ Some s → schema_in self.new ≡ Some s }
         ensures no_head { IsTrue D.tells → (m : Image) (page : ℕ) → redone (D.seen (disk_in self.old)) ≡ Some m → result ≡ Err (WithoutHead page) → has_head m ≡ false }
+        // Where no database is there, the page that is named shows it; where the batch isn't of its form, its first page at fault.
+        ensures at_head { IsTrue D.tells → (m : Image) (page : ℕ) → redone (D.seen (disk_in self.old)) ≡ Some m → result ≡ Err (WithoutHead page) → page ≡ headless_page m }
+        ensures at_batch { IsTrue D.tells → redone (D.seen (disk_in self.old)) ≡ None → (file page : ℕ) → as_base result ≡ Err (DamagedBase file page)
+            → answer (D.seen (disk_in self.old)) ≡ Err (DamagedBatch file page) }
         ensures headless { IsTrue D.tells → (m : Image) → redone (D.seen (disk_in self.old)) ≡ Some m → schema_in self.old ≡ None → has_head m ≡ false → IsNoHead result }
         ensures crash { IsTrue D.tells → LeavesOnly D.clock D.left_since (disk_in self.old) (disk_in self.new)
             (SameHeld (D.seen (disk_in self.old)) (D.touched (disk_in self.old))) }
         // Where the catalogue is in memory no call of the disk is made, and the rows that were read stay there.
         ensures still { (s : Db) → schema_in self.old ≡ Some s → disk_in self.new ≡ disk_in self.old }
         ensures stay { (key : Key) → rows_in_memory self.old key ≡ true → rows_in_memory self.new key ≡ true }
+        // Where the disk was restored, nothing but reads is done.
+        ensures stays { StaysRestored self.old self.new }
         // Else at most the gate, the header, the birth byte and each page of the catalogues once.
         ensures reads { IsTrue D.tells → (all : ℕ) → OpensBy (D.seen (disk_in self.old)) all → RisesUpTo all (D.reads (disk_in self.old)) (D.reads (disk_in self.new)) }
         ensures cause { HasCause (db_of self.old) (D.faults (disk_in self.old)) (D.faults (disk_in self.new)) (as_base result) }
@@ -112,8 +123,15 @@ impl<D: Disk> DbDisk<D> {
         // Where the catalogue is in memory no call of the disk is made, and the rows that were read stay there.
         ensures still { (s : Db) → schema_in self.old ≡ Some s → disk_in self.new ≡ disk_in self.old }
         ensures stay { (key : Key) → rows_in_memory self.old key ≡ true → rows_in_memory self.new key ≡ true }
+        // Where the disk was restored, nothing but reads is done.
+        ensures stays { StaysRestored self.old self.new }
         // Else at most the gate, the header, the birth byte and each page of the catalogues once.
         ensures reads { IsTrue D.tells → (all : ℕ) → OpensBy (D.seen (disk_in self.old)) all → RisesUpTo all (D.reads (disk_in self.old)) (D.reads (disk_in self.new)) }
+        // Damage is the first page at fault of a batch that isn't of its form, or the page that shows that no database is there.
+        ensures at_batch { IsTrue D.tells → redone (D.seen (disk_in self.old)) ≡ None → (file page : ℕ) → result ≡ Err (BaseFault.Damaged file page)
+            → answer (D.seen (disk_in self.old)) ≡ Err (DamagedBatch file page) }
+        ensures at_head { IsTrue D.tells → (m : Image) → redone (D.seen (disk_in self.old)) ≡ Some m → schema_in self.old ≡ None → has_head m ≡ false
+            → (file page : ℕ) → result ≡ Err (BaseFault.Damaged file page) → (file ≡ 0) × (page ≡ headless_page m) }
         ensures cause { HasCause (db_of self.old) (D.faults (disk_in self.old)) (D.faults (disk_in self.new)) result }
     {
         match self.start(alloc) {

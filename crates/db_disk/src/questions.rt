@@ -15,7 +15,7 @@ impl<D: Disk> DbDisk<D> {
     ghost use Rattle.disk_model.specs.Disk.{LeavesOnly, RisesUpTo};
     ghost use Rattle.db_disk.specs.Held.{SameHeld};
     ghost use Rattle.db_disk.specs.Reads.{OpensBy};
-    ghost use Rattle.db_disk.specs.Shown.{db_of, disk_in, left_of, schema_in};
+    ghost use Rattle.db_disk.specs.Shown.{db_of, disk_in, left_of, schema_in, StaysRestored};
 
     /// The name of the administrator.
     pub fn dba(&mut self, alloc: Global) -> Result<Name, BaseFault>
@@ -26,6 +26,7 @@ impl<D: Disk> DbDisk<D> {
         ensures keeps { (s : Db) → schema_in self.old ≡ Some s → schema_in self.new ≡ Some s }
         ensures fixed { OnOk result (IsTrue (is_some (schema_in self.new))) }
         ensures still { (s : Db) → schema_in self.old ≡ Some s → disk_in self.new ≡ disk_in self.old }
+        ensures stays { StaysRestored self.old self.new }
         ensures reads { IsTrue D.tells → (all : ℕ) → OpensBy (D.seen (disk_in self.old)) all → RisesUpTo all (D.reads (disk_in self.old)) (D.reads (disk_in self.new)) }
         ensures crash { IsTrue D.tells → LeavesOnly D.clock D.left_since (disk_in self.old) (disk_in self.new)
             (SameHeld (D.seen (disk_in self.old)) (D.touched (disk_in self.old))) }
@@ -44,6 +45,7 @@ impl<D: Disk> DbDisk<D> {
         ensures keeps { (s : Db) → schema_in self.old ≡ Some s → schema_in self.new ≡ Some s }
         ensures fixed { OnOk result (IsTrue (is_some (schema_in self.new))) }
         ensures still { (s : Db) → schema_in self.old ≡ Some s → disk_in self.new ≡ disk_in self.old }
+        ensures stays { StaysRestored self.old self.new }
         ensures reads { IsTrue D.tells → (all : ℕ) → OpensBy (D.seen (disk_in self.old)) all → RisesUpTo all (D.reads (disk_in self.old)) (D.reads (disk_in self.new)) }
         ensures crash { IsTrue D.tells → LeavesOnly D.clock D.left_since (disk_in self.old) (disk_in self.new)
             (SameHeld (D.seen (disk_in self.old)) (D.touched (disk_in self.old))) }
@@ -68,6 +70,7 @@ impl<D: Disk> DbDisk<D> {
         ensures keeps { (s : Db) → schema_in self.old ≡ Some s → schema_in self.new ≡ Some s }
         ensures fixed { OnOk result (IsTrue (is_some (schema_in self.new))) }
         ensures still { (s : Db) → schema_in self.old ≡ Some s → disk_in self.new ≡ disk_in self.old }
+        ensures stays { StaysRestored self.old self.new }
         ensures reads { IsTrue D.tells → (all : ℕ) → OpensBy (D.seen (disk_in self.old)) all → RisesUpTo all (D.reads (disk_in self.old)) (D.reads (disk_in self.new)) }
         ensures crash { IsTrue D.tells → LeavesOnly D.clock D.left_since (disk_in self.old) (disk_in self.new)
             (SameHeld (D.seen (disk_in self.old)) (D.touched (disk_in self.old))) }
@@ -86,6 +89,7 @@ impl<D: Disk> DbDisk<D> {
         ensures keeps { (s : Db) → schema_in self.old ≡ Some s → schema_in self.new ≡ Some s }
         ensures fixed { OnOk result (IsTrue (is_some (schema_in self.new))) }
         ensures still { (s : Db) → schema_in self.old ≡ Some s → disk_in self.new ≡ disk_in self.old }
+        ensures stays { StaysRestored self.old self.new }
         ensures reads { IsTrue D.tells → (all : ℕ) → OpensBy (D.seen (disk_in self.old)) all → RisesUpTo all (D.reads (disk_in self.old)) (D.reads (disk_in self.new)) }
         ensures crash { IsTrue D.tells → LeavesOnly D.clock D.left_since (disk_in self.old) (disk_in self.new)
             (SameHeld (D.seen (disk_in self.old)) (D.touched (disk_in self.old))) }
@@ -104,6 +108,7 @@ impl<D: Disk> DbDisk<D> {
         ensures keeps { (s : Db) → schema_in self.old ≡ Some s → schema_in self.new ≡ Some s }
         ensures fixed { OnOk result (IsTrue (is_some (schema_in self.new))) }
         ensures still { (s : Db) → schema_in self.old ≡ Some s → disk_in self.new ≡ disk_in self.old }
+        ensures stays { StaysRestored self.old self.new }
         ensures reads { IsTrue D.tells → (all : ℕ) → OpensBy (D.seen (disk_in self.old)) all → RisesUpTo all (D.reads (disk_in self.old)) (D.reads (disk_in self.new)) }
         ensures crash { IsTrue D.tells → LeavesOnly D.clock D.left_since (disk_in self.old) (disk_in self.new)
             (SameHeld (D.seen (disk_in self.old)) (D.touched (disk_in self.old))) }
@@ -122,6 +127,7 @@ impl<D: Disk> DbDisk<D> {
         ensures keeps { (s : Db) → schema_in self.old ≡ Some s → schema_in self.new ≡ Some s }
         ensures fixed { OnOk result (IsTrue (is_some (schema_in self.new))) }
         ensures still { (s : Db) → schema_in self.old ≡ Some s → disk_in self.new ≡ disk_in self.old }
+        ensures stays { StaysRestored self.old self.new }
         ensures reads { IsTrue D.tells → (all : ℕ) → OpensBy (D.seen (disk_in self.old)) all → RisesUpTo all (D.reads (disk_in self.old)) (D.reads (disk_in self.new)) }
         ensures crash { IsTrue D.tells → LeavesOnly D.clock D.left_since (disk_in self.old) (disk_in self.new)
             (SameHeld (D.seen (disk_in self.old)) (D.touched (disk_in self.old))) }
@@ -140,6 +146,7 @@ impl<D: Disk> DbDisk<D> {
         ensures keeps { (s : Db) → schema_in self.old ≡ Some s → schema_in self.new ≡ Some s }
         ensures fixed { OnOk result (IsTrue (is_some (schema_in self.new))) }
         ensures still { (s : Db) → schema_in self.old ≡ Some s → disk_in self.new ≡ disk_in self.old }
+        ensures stays { StaysRestored self.old self.new }
         ensures reads { IsTrue D.tells → (all : ℕ) → OpensBy (D.seen (disk_in self.old)) all → RisesUpTo all (D.reads (disk_in self.old)) (D.reads (disk_in self.new)) }
         ensures crash { IsTrue D.tells → LeavesOnly D.clock D.left_since (disk_in self.old) (disk_in self.new)
             (SameHeld (D.seen (disk_in self.old)) (D.touched (disk_in self.old))) }
@@ -163,6 +170,7 @@ impl<D: Disk> DbDisk<D> {
         ensures keeps { (s : Db) → schema_in self.old ≡ Some s → schema_in self.new ≡ Some s }
         ensures fixed { OnOk result (IsTrue (is_some (schema_in self.new))) }
         ensures still { (s : Db) → schema_in self.old ≡ Some s → disk_in self.new ≡ disk_in self.old }
+        ensures stays { StaysRestored self.old self.new }
         ensures reads { IsTrue D.tells → (all : ℕ) → OpensBy (D.seen (disk_in self.old)) all → RisesUpTo all (D.reads (disk_in self.old)) (D.reads (disk_in self.new)) }
         ensures crash { IsTrue D.tells → LeavesOnly D.clock D.left_since (disk_in self.old) (disk_in self.new)
             (SameHeld (D.seen (disk_in self.old)) (D.touched (disk_in self.old))) }

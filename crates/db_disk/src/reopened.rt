@@ -5,7 +5,8 @@ ghost use Rattle.am_traits.specs.Causes.{HasCause};
 ghost use Rattle.disk_model.specs.Disk.{LeavesOnly, RisesUpTo};
 ghost use Rattle.batch_file.specs.Layout.{gate};
 ghost use Rattle.batch_file.specs.OnDisk.{SameRedone};
-ghost use Rattle.batch_file.specs.Redone.{kept, redone};
+ghost use Rattle.batch_file.specs.Redone.{answer, kept, redone};
+ghost use Rattle.batch_file.specs.declared.fault.RestoreFault.TheVariants.{Damaged as DamagedBatch};
 ghost use Rattle.batch_store.specs.Store.{disk_of};
 ghost use Rattle.db_disk.specs.Answered.{of_restore};
 ghost use Rattle.db_disk.specs.Held.{database_in, IsReady, SameHeld};
@@ -31,6 +32,8 @@ pub(crate) fn reopen<D: Disk>(store: &mut BatchStore<D>) -> Result<(), BaseFault
     ensures ready { OnOk result (IsReady store.new) }
     ensures restored { IsTrue D.tells → OnOk result (redone (D.seen (disk_of store.old)) ≡ Some (kept (D.seen (disk_of store.new)))) }
     ensures damaged { IsTrue D.tells → (file page : ℕ) → result ≡ Err (BaseFault.Damaged file page) → redone (D.seen (disk_of store.old)) ≡ None }
+    // Damage is the first page of the batch at fault.
+    ensures at_batch { IsTrue D.tells → (file page : ℕ) → result ≡ Err (BaseFault.Damaged file page) → answer (D.seen (disk_of store.old)) ≡ Err (DamagedBatch file page) }
     ensures run { IsTrue D.tells → LeavesOnly D.clock D.left_since (disk_of store.old) (disk_of store.new)
         (SameRedone (D.seen (disk_of store.old)) (D.touched (disk_of store.old))) }
     ensures crash { IsTrue D.tells → LeavesOnly D.clock D.left_since (disk_of store.old) (disk_of store.new)

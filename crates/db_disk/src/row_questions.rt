@@ -21,7 +21,7 @@ impl<D: Disk> DbDisk<D> {
     ghost use Rattle.catalog.specs.declared.catalog.Catalog.{Catalog as KnownCatalog};
     ghost use Rattle.db_disk.specs.Held.{SameHeld};
     ghost use Rattle.db_disk.specs.Reads.{OpensBy, files_known, pages_known, rows_in_memory};
-    ghost use Rattle.db_disk.specs.Shown.{db_of, disk_in, left_of, schema_in};
+    ghost use Rattle.db_disk.specs.Shown.{db_of, disk_in, is_restored, left_of, schema_in, StaysRestored};
 
     /// Opens the database and reads the rows of a relation.
     fn filled(&mut self, alloc: Global, key: &RelKey) -> Result<(), BaseFault>
@@ -39,6 +39,7 @@ impl<D: Disk> DbDisk<D> {
             → RisesUpTo (all + pages_known self.new key.now) (D.reads (disk_in self.old)) (D.reads (disk_in self.new)) }
         // Once the catalogue is known the disk is read and nothing else.
         ensures quiet { IsTrue D.tells → (s : Db) → schema_in self.old ≡ Some s → D.clock (disk_in self.new) ≡ D.clock (disk_in self.old) }
+        ensures stays { StaysRestored self.old self.new }
         ensures crash { IsTrue D.tells → LeavesOnly D.clock D.left_since (disk_in self.old) (disk_in self.new)
             (SameHeld (D.seen (disk_in self.old)) (D.touched (disk_in self.old))) }
         ensures cause { HasCause (db_of self.old) (D.faults (disk_in self.old)) (D.faults (disk_in self.new)) result }
@@ -56,6 +57,7 @@ impl<D: Disk> DbDisk<D> {
         ensures kept { db_of self.new ≡ db_of self.old }
         ensures schema { schema_in self.new ≡ schema_in self.old }
         ensures files { files_known self.new ≡ files_known self.old }
+        ensures stays { is_restored self.new ≡ is_restored self.old }
         ensures reads { RisesUpTo (pages_known self.old key.now) (D.reads (disk_in self.old)) (D.reads (disk_in self.new)) }
         ensures again { rows_in_memory self.old key.now ≡ true → D.reads (disk_in self.new) ≡ D.reads (disk_in self.old) }
         ensures in_memory { OnOk result (rows_in_memory self.new key.now ≡ true) }
@@ -87,6 +89,7 @@ impl<D: Disk> DbDisk<D> {
             → RisesUpTo (all + pages_known self.new key.now) (D.reads (disk_in self.old)) (D.reads (disk_in self.new)) }
         // Once the catalogue is known the disk is read and nothing else.
         ensures quiet { IsTrue D.tells → (s : Db) → schema_in self.old ≡ Some s → D.clock (disk_in self.new) ≡ D.clock (disk_in self.old) }
+        ensures stays { StaysRestored self.old self.new }
         ensures crash { IsTrue D.tells → LeavesOnly D.clock D.left_since (disk_in self.old) (disk_in self.new)
             (SameHeld (D.seen (disk_in self.old)) (D.touched (disk_in self.old))) }
         ensures cause { HasCause (db_of self.old) (D.faults (disk_in self.old)) (D.faults (disk_in self.new)) result }
@@ -111,6 +114,7 @@ impl<D: Disk> DbDisk<D> {
             → RisesUpTo (all + pages_known self.new key.now) (D.reads (disk_in self.old)) (D.reads (disk_in self.new)) }
         // Once the catalogue is known the disk is read and nothing else.
         ensures quiet { IsTrue D.tells → (s : Db) → schema_in self.old ≡ Some s → D.clock (disk_in self.new) ≡ D.clock (disk_in self.old) }
+        ensures stays { StaysRestored self.old self.new }
         ensures crash { IsTrue D.tells → LeavesOnly D.clock D.left_since (disk_in self.old) (disk_in self.new)
             (SameHeld (D.seen (disk_in self.old)) (D.touched (disk_in self.old))) }
         ensures cause { HasCause (db_of self.old) (D.faults (disk_in self.old)) (D.faults (disk_in self.new)) result }
@@ -146,6 +150,7 @@ impl<D: Disk> DbDisk<D> {
             → RisesUpTo (all + pages_known self.new key.now) (D.reads (disk_in self.old)) (D.reads (disk_in self.new)) }
         // Once the catalogue is known the disk is read and nothing else.
         ensures quiet { IsTrue D.tells → (s : Db) → schema_in self.old ≡ Some s → D.clock (disk_in self.new) ≡ D.clock (disk_in self.old) }
+        ensures stays { StaysRestored self.old self.new }
         ensures crash { IsTrue D.tells → LeavesOnly D.clock D.left_since (disk_in self.old) (disk_in self.new)
             (SameHeld (D.seen (disk_in self.old)) (D.touched (disk_in self.old))) }
         ensures cause { HasCause (db_of self.old) (D.faults (disk_in self.old)) (D.faults (disk_in self.new)) result }

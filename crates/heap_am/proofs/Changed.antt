@@ -18,7 +18,7 @@ use Rattle.page_cells.specs.RowBytes.{is_row, row_bytes, widths}
 use Rattle.page_chain.specs.Chains.{IsChain, numbers_from, starts}
 use Rattle.page_chain.specs.Grown.{IsGrown, IsOneMore, IsBuilt, numbers_to}
 use Rattle.page_chain.specs.Lists.{each}
-use Rattle.page_chain.specs.Lying.{Lying, Came, lying, is_among, staying, all_differ, IsShort}
+use Rattle.page_chain.specs.Lying.{Lying, Came, bytes_of, lying, is_among, staying, all_differ, IsShort}
 use Rattle.page_chain.specs.Pages.{pages_of}
 use Rattle.page_chain.specs.Renewed.{AllLie, IsRenewed, TookOne, WentFrom}
 use Rattle.page_chain.specs.Rows.{read_with, reader}
@@ -28,7 +28,7 @@ use Rattle.heap_am.proofs.Each.{each_first, each_cons, each_append, each_filtere
 use Rattle.heap_am.proofs.Heaps.{heap_parts, heap_is}
 use Rattle.heap_am.proofs.Lying.{read_keeps}
 use Rattle.heap_am.proofs.RowLaws.{reader_row, reader_spelled, row_is_short}
-use Rattle.heap_am.proofs.RowTests.{bytes, AreRows, among_rows, differ_rows, all_among, lain, ReadAs, read_as}
+use Rattle.heap_am.proofs.RowTests.{bytes, AreRows, among_all, among_rows, differ_rows, all_among, lain, ReadAs, read_as}
 
 none_placed : Place × Row
 none_placed = (record { page = 0; line = 0 }, [])
@@ -170,6 +170,19 @@ all_lie file m rows last going is e go d once there =
       listed_once = differ_rows file.domains going go ∙ once;
       are_there = ap (λ b. list_all (is_among b) (map (bytes file.domains) going)) l.same ∙ all_among file.domains (rows_of rows) going l.all go there;
     }
+
+-- rows that are to go are there where their bytes lie on the chain
+pub are_there : (file : RelFile) (m : Image) (rows : Placed) (last : ℕ) (going : List Row) (as_bytes : List (List ℕ)) → last + 1 ≡ file.used → heap_rows file m ≡ Some rows → AreRows file.domains going → as_bytes ≡ map (bytes file.domains) going
+    → rows_differ (rows_of rows) ≡ true → rows_differ going ≡ true
+    → (all_differ (bytes_of (lying (pages_of m file.file) (numbers_from last 0 ++ last ∷ []))) ≡ true → all_differ as_bytes ≡ true
+    → list_all (is_among (bytes_of (lying (pages_of m file.file) (numbers_from last 0 ++ last ∷ [])))) as_bytes ≡ true)
+    → All (λ row. IsTrue (has (rows_of rows) row)) going
+are_there file m rows last going as_bytes is e go old d once lie =
+    let xs = lying (pages_of m file.file) (numbers_from last 0 ++ last ∷ []) in
+    let l = lain file.domains xs rows (heap_read_to file m rows last is e) in
+    let there = lie (ap all_differ l.same ∙ differ_rows file.domains (rows_of rows) l.all ∙ d) (ap all_differ old ∙ differ_rows file.domains going go ∙ once) in
+    among_all file.domains (rows_of rows) going l.all go
+    (ap (λ b. list_all (is_among b) (map (bytes file.domains) going)) (sym l.same) ∙ subst (λ b. list_all (is_among (bytes_of xs)) b ≡ true) old there)
 
 -- a row was taken, or isn't there
 pub one_removed : (file : RelFile) (m : Image) (rows : Placed) (last : ℕ) (place : Option Place) (row : Row) (told : Option Image) → last + 1 ≡ file.used → heap_rows file m ≡ Some rows → IsTrue (is_row row file.domains)

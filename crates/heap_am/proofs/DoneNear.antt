@@ -1,9 +1,9 @@
 -- What was done on the pages on which rows that go were looked for first.
-use Rattle.std.proofs.Common.{◌≡◌, refl, sym, ap, subst, ◌∙◌, inl, inr, ℕ, suc, ◌+◌, ◌-◌, ◌<◌, not, List, [], ◌∷◌, ◌++◌, filter, length, take, drop, Option, Some, None, arith}
+use Rattle.std.proofs.Common.{◌≡◌, refl, sym, ap, subst, ◌∙◌, inl, inr, ℕ, suc, ◌+◌, ◌-◌, ◌<◌, not, true, List, [], ◌∷◌, ◌++◌, filter, length, take, drop, Option, Some, None, arith}
 use Rattle.std.proofs.lemmas.List.{append-nil, length-append, take-append-drop}
 use Rattle.std.proofs.lemmas.List.Elements.{filter-append}
 use Rattle.std.proofs.lemmas.List.Sorted.{IsPermutation-trans, IsPermutation-sym, IsPermutation-append_left, length_permutation}
-use Rattle.std.specs.List.{AllByRecursion}
+use Rattle.std.specs.List.{AllByRecursion, list_all}
 use Rattle.std.specs.List.Sorted.{IsPermutation}
 use Rattle.disk_model.specs.Disk.{Image}
 use Rattle.disk_model.specs.declared.disk.Addr.{Addr}
@@ -11,14 +11,14 @@ use Rattle.access_traits.specs.Causes.{IsAtFault}
 use Rattle.access_traits.specs.declared.file.RelFile.{RelFile}
 use Rattle.page_chain.specs.Chains.{IsChain, OffPage, numbers_from}
 use Rattle.page_chain.specs.Grown.{IsGrown, numbers_to}
-use Rattle.page_chain.specs.Lying.{Lying, Came, lying, lying_on, is_among, staying}
+use Rattle.page_chain.specs.Lying.{Lying, Came, all_differ, bytes_of, lying, lying_on, is_among, staying}
 use Rattle.page_chain.specs.Pages.{Pages, page_at, pages_of, next_of}
 use Rattle.page_chain.specs.Passing.{PageRenewed}
 use Rattle.page_chain.specs.Renewed.{AllLie, IsRenewed}
 use Rattle.page_chain.proofs.Along.{chain_kept}
 use Rattle.page_chain.proofs.Beside.{came_beside, came_then}
 use Rattle.page_chain.proofs.Coming.{came_none}
-use Rattle.page_chain.proofs.Counting.{all_go, none_left}
+use Rattle.page_chain.proofs.Counting.{all_counted, all_go, gone_count, none_left}
 use Rattle.page_chain.proofs.Reaching.{at_page, one_or_other}
 use Rattle.page_chain.proofs.Slots.{lying_join, lying_one, lying_same}
 use Rattle.heap_am.specs.Heap.{HeapFault}
@@ -171,6 +171,21 @@ came_on_all file bound first numbers done going coming before told its split all
 
     rest_stays : staying going (lying old split.rest) ≡ lying old split.rest
     rest_stays = (none_left (length going) going (lying old done) (lying old split.rest) all (omega arith) counted).stay
+
+-- where as many went from some pages as are to go, all that are to go lie on the chain
+pub near_all : (file bound last : ℕ) (going coming : List (List ℕ)) (before : Image) (told : Option Image) → IsDoneNear file bound going coming before told → last + 1 ≡ bound
+    → all_differ (bytes_of (lying (pages_of before file) (numbers_from last 0 ++ last ∷ []))) ≡ true → all_differ going ≡ true
+    → list_all (is_among (bytes_of (lying (pages_of before file) (numbers_from last 0 ++ last ∷ [])))) going ≡ true
+unfolding lying
+near_all file bound last going coming before told its is differ once =
+    let old = pages_of before file in
+    let all = numbers_from last 0 ++ last ∷ [] in
+    let split = subst (λ numbers. Apart 0 numbers its.numbers) (sym (last_number last)) (apart (suc last) 0 bound its.numbers (omega (arith, is)) its.rising) in
+    let here = gone_count (length going) going (lying old its.numbers) its.all in
+    let sum = length_permutation (filter (λ r. is_among going r.1) (lying old all)) (filter (λ r. is_among going r.1) (lying old its.numbers) ++ filter (λ r. is_among going r.1) (lying old split.rest))
+    (filtered_apart (λ r. is_among going r.1) (λ n. lying_on n (old n)) 0 all its.numbers split) in
+    let parts = length-append (filter (λ r. is_among going r.1) (lying old its.numbers)) (filter (λ r. is_among going r.1) (lying old split.rest)) in
+    all_counted going (lying old all) differ once (omega (arith, here, sum, parts))
 
 -- rows went and others came there, and then the rest came behind
 pub renewed_near : (file bound last now : ℕ) (going coming : List (List ℕ)) (put : ℕ) (before : Image) (between told : Option Image)

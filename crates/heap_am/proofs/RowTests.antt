@@ -3,6 +3,7 @@ use Rattle.std.proofs.Common.{◌≡◌, refl, sym, ap, ap₂, subst, ◌∙◌,
 use Rattle.std.specs.List.{list_all, All}
 use Rattle.std.specs.Cmp.{both_ways}
 use Rattle.std.specs.Ordering.{eq_by_cmp}
+use Rattle.std.proofs.lemmas.Bool.{and_parts}
 use Rattle.std.proofs.lemmas.Cmp.{eq_by_cmp_equiv}
 use Rattle.std.proofs.lemmas.List.Elements.{All-cons}
 use Rattle.std.proofs.lemmas.Slice.Eq.{bytes_eq-Decides}
@@ -84,3 +85,10 @@ module _ (ds : List Domain) where
   all_among rows (g ∷ going) all go there =
       let here : is_among (map bytes rows) (bytes g) ≡ true = among_rows g rows (go 0 g (omega arith)) all ∙ there 0 g (omega arith) in
       (λ i. here i && all_among rows going all (λ k d lt. go (suc k) d (omega arith)) (λ k d lt. there (suc k) d (omega arith)) i)
+
+  -- and back
+  pub among_all : (rows going : List Row) → AreRows rows → AreRows going → list_all (is_among (map bytes rows)) (map bytes going) ≡ true → All (λ row. IsTrue (has rows row)) going
+  among_all rows [] all go there = λ k d lt. absurd (omega arith)
+  among_all rows (g ∷ going) all go there =
+      let both = and_parts (is_among (map bytes rows) (bytes g)) (list_all (is_among (map bytes rows)) (map bytes going)) there in
+      All-cons (λ row. IsTrue (has rows row)) g going (sym (among_rows g rows (go 0 g (omega arith)) all) ∙ both.0) (among_all rows going all (λ k d lt. go (suc k) d (omega arith)) both.1)

@@ -113,6 +113,11 @@ impl Heap {
             → All (λ row. IsTrue (is_row row self.old.file.domains)) new → coming.now ≡ map (λ row. row_bytes row self.old.file.domains) new
             → rows_differ (rows_of rows) ≡ true → rows_differ gone ≡ true → All (λ row. IsTrue (has (rows_of rows) row)) gone
             → IfOk result (λ all. IsTrue all × NowHolds (heap_rows self.new.file) (S.pages store.new) (Replaced rows gone new)) }
+        // True only where all that were to go were there.
+        ensures only { (m : Image) (rows : Placed) (gone : List Values) → S.pages store.old ≡ Some m → heap_rows self.old.file m ≡ Some rows
+            → All (λ row. IsTrue (is_row row self.old.file.domains)) gone → going.now ≡ map (λ row. row_bytes row self.old.file.domains) gone
+            → rows_differ (rows_of rows) ≡ true → rows_differ gone ≡ true
+            → IfOk result (λ all. IsTrue all → All (λ row. IsTrue (has (rows_of rows) row)) gone) }
         ensures others { OnOk result (KeepsOthers self.old.file.file (S.pages store.old) (S.pages store.new)) }
         ensures file { OnOk result (SameButUsed self.old.file self.new.file) }
         ensures came { (s : S) → S.came s store.old → S.came s store.new }
@@ -142,6 +147,10 @@ impl Heap {
         ensures told { (m : Image) (rows : Placed) → S.pages store.old ≡ Some m → heap_rows self.old.file m ≡ Some rows
             → rows_differ (rows_of rows) ≡ true → rows_differ going.now ≡ true → All (λ row. IsTrue (has (rows_of rows) row)) going.now
             → IfOk result (λ all. IsTrue all × NowHolds (heap_rows self.new.file) (S.pages store.new) (Replaced rows going.now coming.now)) }
+        // True only where all that were to go were there.
+        ensures only { (m : Image) (rows : Placed) → S.pages store.old ≡ Some m → heap_rows self.old.file m ≡ Some rows
+            → rows_differ (rows_of rows) ≡ true → rows_differ going.now ≡ true
+            → IfOk result (λ all. IsTrue all → All (λ row. IsTrue (has (rows_of rows) row)) going.now) }
         ensures others { OnOk result (KeepsOthers self.old.file.file (S.pages store.old) (S.pages store.new)) }
         ensures file { OnOk result (SameButUsed self.old.file self.new.file) }
         ensures came { (s : S) → S.came s store.old → S.came s store.new }

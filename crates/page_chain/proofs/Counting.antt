@@ -1,5 +1,5 @@
 -- How many rows go, where no two are the same and each that is to go is there.
-use Rattle.std.proofs.Common.{◌≡◌, refl, sym, ap, ap₂, subst, ◌∙◌, cond, ℕ, ◌+◌, ◌≤◌, Bool, true, false, not, ◌||◌, bytes_eq, List, [], ◌∷◌, ◌++◌, filter, length, arith}
+use Rattle.std.proofs.Common.{◌≡◌, refl, sym, ap, ap₂, subst, ◌∙◌, cond, ℕ, ◌+◌, ◌<◌, ◌≤◌, Bool, true, false, not, ◌&&◌, ◌||◌, bytes_eq, List, [], ◌∷◌, ◌++◌, filter, length, arith}
 use Rattle.std.proofs.lemmas.Bool.{and_parts, true≢false}
 use Rattle.std.proofs.lemmas.List.{length-append}
 use Rattle.std.proofs.lemmas.List.Elements.{filter-append}
@@ -106,6 +106,50 @@ as_many (row ∷ going) rows differ once there =
     let split = count_either (λ r. bytes_eq r row) (is_among going) rows (λ r e. subst (λ x. is_among going x ≡ false) (sym (same_bytes r row e)) (not_false (is_among going row) first.0)) in
     omega (arith, split, one_is row rows differ are.0, as_many going rows differ first.1 are.1)
 
+-- none is among none
+none_among : (rows : List (List ℕ)) → count (λ r. false) rows ≡ 0
+none_among [] = refl
+none_among (x ∷ rows) = none_among rows
+
+-- at most one is this row, where no two are the same
+one_at_most : (row : List ℕ) (rows : List (List ℕ)) → all_differ rows ≡ true → count (λ r. bytes_eq r row) rows ≤ 1
+one_at_most row rows differ = go (is_among rows row) refl
+  where
+    go : (t : Bool) → is_among rows row ≡ t → count (λ r. bytes_eq r row) rows ≤ 1
+    go true is = let one = one_is row rows differ is in omega (arith, one)
+    go false is = let none = none_is row rows is in omega (arith, none)
+
+-- where one is this row, it is among them
+one_there : (row : List ℕ) (rows : List (List ℕ)) → 0 < count (λ r. bytes_eq r row) rows → is_among rows row ≡ true
+one_there row rows some = go (is_among rows row) refl
+  where
+    go : (t : Bool) → is_among rows row ≡ t → is_among rows row ≡ true
+    go true is = is
+    go false is = let none = none_is row rows is in absurd (omega (arith, none, some))
+
+-- those that are this row or among the others
+either_among : (row : List ℕ) (going rows : List (List ℕ)) → not (list_any (bytes_eq row) going) ≡ true → count (is_among (row ∷ going)) rows ≡ count (λ r. bytes_eq r row) rows + count (is_among going) rows
+either_among row going rows once =
+    count_either (λ r. bytes_eq r row) (is_among going) rows (λ r e. subst (λ x. is_among going x ≡ false) (sym (same_bytes r row e)) (not_false (list_any (bytes_eq row) going) once))
+
+-- of rows of which no two are the same at most as many are among these as these are
+at_most_as_many : (going rows : List (List ℕ)) → all_differ rows ≡ true → all_differ going ≡ true → count (is_among going) rows ≤ length going
+at_most_as_many [] rows differ once = let none : count (is_among []) rows ≡ 0 = none_among rows in omega (arith, none)
+at_most_as_many (row ∷ going) rows differ once =
+    let first = and_parts (not (list_any (bytes_eq row) going)) (all_differ going) once in
+    let split = either_among row going rows first.0 in
+    omega (arith, split, one_at_most row rows differ, at_most_as_many going rows differ first.1)
+
+-- where as many are among these as these are, each of these is there
+pub each_there : (going rows : List (List ℕ)) → all_differ rows ≡ true → all_differ going ≡ true → length going ≤ count (is_among going) rows → list_all (is_among rows) going ≡ true
+each_there [] rows differ once enough = refl
+each_there (row ∷ going) rows differ once enough =
+    let first = and_parts (not (list_any (bytes_eq row) going)) (all_differ going) once in
+    let split = either_among row going rows first.0 in
+    let here = one_there row rows (omega (arith, enough, split, at_most_as_many going rows differ first.1)) in
+    let rest = each_there going rows differ first.1 (omega (arith, enough, split, one_at_most row rows differ)) in
+    (λ i. here i && rest i)
+
 -- ---- of rows that lie on pages
 
 -- the rows that go are as many as their bytes
@@ -150,6 +194,18 @@ none_left gone going first rest went enough all =
       number = omega (arith, here, sum, all, enough);
       stay = none_goes going rest (omega (arith, here, sum, all, enough));
     }
+
+-- where as many rows that lie on pages are among those that are to go as these are, each of these lies there
+pub all_counted : (going : List (List ℕ)) (rows : Lying) → all_differ (bytes_of rows) ≡ true → all_differ going ≡ true → length going ≤ count (λ r. is_among going r.1) rows → list_all (is_among (bytes_of rows)) going ≡ true
+all_counted going rows differ once enough = let bytes = count_bytes (is_among going) rows in each_there going (bytes_of rows) differ once (omega (arith, bytes, enough))
+
+-- where as many went from the first rows as are to go, all that are to go were there
+pub all_there : (gone : ℕ) (going : List (List ℕ)) (first rest : Lying) → gone + length (staying going first) ≡ length first → length going ≤ gone → all_differ (bytes_of (first ++ rest)) ≡ true → all_differ going ≡ true
+    → list_all (is_among (bytes_of (first ++ rest))) going ≡ true
+all_there gone going first rest went enough differ once =
+    let here = gone_count gone going first went in
+    let sum = ap length (filter-append (λ r. is_among going r.1) first rest) ∙ length-append (filter (λ r. is_among going r.1) first) (filter (λ r. is_among going r.1) rest) in
+    all_counted going (first ++ rest) differ once (omega (arith, here, sum, enough))
 
 -- where nothing is to go all stay
 pub all_stay : (rows : Lying) → staying [] rows ≡ rows

@@ -3,18 +3,18 @@ use Rattle.std.proofs.Common.{◌≡◌, refl, sym, ap, subst, ◌∙◌, ℕ, z
 use Rattle.std.proofs.lemmas.Bool.{eqb-true, eq-eqb}
 use Rattle.std.proofs.lemmas.List.{append-nil, length-append}
 use Rattle.std.proofs.lemmas.List.Elements.{filter-append}
-use Rattle.std.specs.List.{AllByRecursion}
+use Rattle.std.specs.List.{AllByRecursion, list_all}
 use Rattle.disk_model.specs.Disk.{Image}
 use Rattle.disk_model.specs.declared.disk.Addr.{Addr}
 use Rattle.access_traits.specs.Pages.{SameElsewhere}
 use Rattle.page_chain.specs.Chains.{IsChain, starts, is_on, NoChainTo}
-use Rattle.page_chain.specs.Lying.{Lying, Came, lying, lying_on, staying, is_among}
+use Rattle.page_chain.specs.Lying.{Lying, Came, all_differ, bytes_of, lying, lying_on, staying, is_among}
 use Rattle.page_chain.specs.Pages.{Pages, page_at, pages_of, next_of}
 use Rattle.page_chain.specs.Passing.{OffChain, Changed, PageRenewed, Passed}
 use Rattle.page_chain.specs.Renewed.{AllLie}
 use Rattle.page_chain.proofs.Beside.{came_beside}
 use Rattle.page_chain.proofs.Coming.{came_none}
-use Rattle.page_chain.proofs.Counting.{NoneLeft, none_left, all_go, gone_count}
+use Rattle.page_chain.proofs.Counting.{NoneLeft, none_left, all_go, all_there, gone_count}
 use Rattle.page_chain.proofs.Slots.{lying_join, lying_one, lying_same}
 use Rattle.page_chain.proofs.Linking.{follows_up}
 use Rattle.page_chain.proofs.Along.{chain_rest, chain_ends, chain_goes, chain_rises, chain_before, none_off}
@@ -226,9 +226,24 @@ module _ (file bound number : ℕ) (going first later : List (List ℕ)) (gone m
     elsewhere = still_elsewhere;
     links = still_links;
     number = λ numbers first_is is lie. (left_behind numbers (walk numbers first_is is) lie stops).number;
+    all = λ numbers first_is is enough differ once. were_all numbers (walk numbers first_is is) enough differ once;
     came = λ numbers first_is is lie. let its = walk numbers first_is is in all_came numbers its (left_behind numbers its lie stops).stay;
   }
     where
+      were_all : (numbers : List ℕ) (its : WalkedOn numbers) → gone + more ≡ length going → all_differ (bytes_of (lying (pages_of before file) numbers)) ≡ true → all_differ going ≡ true → AllLie (pages_of before file) numbers going
+      were_all numbers its enough differ once =
+          let are : numbers ≡ (its.done ++ number ∷ []) ++ its.rest = its.are ∙ joined its.done number its.rest in
+          let both : lying (pages_of before file) (its.done ++ number ∷ []) ++ lying (pages_of before file) its.rest ≡ lying (pages_of before file) numbers =
+          sym (lying_join (pages_of before file) (its.done ++ number ∷ []) its.rest) ∙ ap (lying (pages_of before file)) (sym are) in
+          record {
+            rows_differ = differ;
+            listed_once = once;
+            are_there =
+                subst (λ rows. list_all (is_among (bytes_of rows)) going ≡ true) both
+                (all_there (gone + more) going (lying (pages_of before file) (its.done ++ number ∷ [])) (lying (pages_of before file) its.rest) its.changed.went (omega (arith, enough))
+                (subst (λ rows. all_differ (bytes_of rows) ≡ true) (sym both) differ) once);
+          }
+
       all_came : (numbers : List ℕ) (its : WalkedOn numbers) → staying going (lying (pages_of before file) its.rest) ≡ lying (pages_of before file) its.rest
           → Came (staying going (lying (pages_of before file) numbers)) (first ++ later) (lying (pages_of here.image file) numbers)
       all_came numbers its stay =

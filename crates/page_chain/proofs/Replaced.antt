@@ -3,13 +3,14 @@ use Rattle.std.proofs.Common.{◌≡◌, refl, sym, ap, subst, ◌∙◌, ℕ, z
 use Rattle.std.proofs.lemmas.Bool.{eq-eqb}
 use Rattle.std.proofs.lemmas.List.{take-append-drop}
 use Rattle.std.proofs.lemmas.Option.{none-some}
+use Rattle.std.specs.List.{list_all}
 use Rattle.disk_model.specs.Disk.{Image}
 use Rattle.disk_model.specs.declared.disk.Addr.{Addr}
 use Rattle.access_traits.specs.Causes.{IsAtFault}
 use Rattle.access_traits.specs.Pages.{SameElsewhere, KeepsOthers}
 use Rattle.page_chain.specs.Chains.{IsChain, starts, is_on, OffPage, NoChainTo}
 use Rattle.page_chain.specs.Grown.{IsGrown, numbers_to}
-use Rattle.page_chain.specs.Lying.{Came, lying, staying}
+use Rattle.page_chain.specs.Lying.{Came, bytes_of, is_among, lying, staying}
 use Rattle.page_chain.specs.Pages.{page_at, pages_of, next_of}
 use Rattle.page_chain.specs.Passing.{Passed}
 use Rattle.page_chain.specs.Renewed.{AllLie, IsRenewed}
@@ -28,6 +29,11 @@ passed_nothing file bound going before told none is = record {
   elsewhere = λ b other. refl;
   links = λ k. refl;
   number = λ numbers first chain lie. sym (ap length none);
+  all = λ numbers first chain enough differ once. record {
+    rows_differ = differ;
+    listed_once = once;
+    are_there = subst (λ rows. list_all (is_among (bytes_of (lying (pages_of before file) numbers))) rows ≡ true) (sym none) refl;
+  };
   came = λ numbers first chain lie.
       subst (λ rows. Came (staying rows (lying (pages_of before file) numbers)) [] (lying (pages_of before file) numbers)) (sym none)
       (subst (λ rows. Came rows [] (lying (pages_of before file) numbers)) (sym (all_stay (lying (pages_of before file) numbers))) (came_none (lying (pages_of before file) numbers)));

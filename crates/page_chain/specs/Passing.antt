@@ -4,7 +4,7 @@ use Rattle.disk_model.specs.Disk.{Image}
 use Rattle.disk_model.specs.declared.disk.Addr.{Addr}
 use Rattle.access_traits.specs.Pages.{SameElsewhere}
 use Rattle.page_chain.specs.Chains.{IsChain, is_on, starts}
-use Rattle.page_chain.specs.Lying.{Lying, Came, lying, lying_on, place_of, staying}
+use Rattle.page_chain.specs.Lying.{Lying, Came, all_differ, bytes_of, lying, lying_on, place_of, staying}
 use Rattle.page_chain.specs.Pages.{page_at, pages_of, next_of}
 use Rattle.page_chain.specs.Renewed.{AllLie, WentFrom}
 
@@ -28,7 +28,7 @@ pub record PageRenewed (file bound page : ℕ) (going coming : List (List ℕ)) 
   pub goes_on_still : next_of bound page (image (page_at file page)) ≡ Some next
   pub changed : Changed going coming gone (lying_on page (before (page_at file page))) (lying_on page (image (page_at file page)))
 
--- From each chain of a file on which the rows that are to go are once, they went, so many, and these came to it. The chain is the same, and so are the pages of all other files.
+-- From each chain of a file on which the rows that are to go are once, they went, so many, and these came to it; where so many went, no two rows of the chain being the same, all that were to go were on it. The chain is the same, and so are the pages of all other files.
 pub record Passed (file bound : ℕ) (going coming : List (List ℕ)) (gone : ℕ) (before : Image) (told : Option Image) : Type 0 where
   pub image : Image
   pub told_still : told ≡ Some image
@@ -36,6 +36,8 @@ pub record Passed (file bound : ℕ) (going coming : List (List ℕ)) (gone : �
   pub links : (k : ℕ) → next_of bound k (image (page_at file k)) ≡ next_of bound k (before (page_at file k))
   pub number : (numbers : List ℕ) → starts numbers ≡ true → IsChain bound (pages_of before file) numbers → AllLie (pages_of before file) numbers going
       → gone ≡ length going
+  pub all : (numbers : List ℕ) → starts numbers ≡ true → IsChain bound (pages_of before file) numbers → gone ≡ length going → all_differ (bytes_of (lying (pages_of before file) numbers)) ≡ true → all_differ going ≡ true
+      → AllLie (pages_of before file) numbers going
   pub came : (numbers : List ℕ) → starts numbers ≡ true → IsChain bound (pages_of before file) numbers → AllLie (pages_of before file) numbers going
       → Came (staying going (lying (pages_of before file) numbers)) coming (lying (pages_of image file) numbers)
 

@@ -6,7 +6,7 @@ ghost use Rattle.access_traits.specs.Causes.{HasFileCause};
 ghost use Rattle.access_traits.specs.Pages.{KeepsOthers};
 ghost use Rattle.page_chain.specs.Chains.{IsChain, NoChain, NoChainTo, OffPage, starts};
 ghost use Rattle.page_chain.specs.Grown.{IsGrown};
-ghost use Rattle.page_chain.specs.Lying.{IsShort};
+ghost use Rattle.page_chain.specs.Lying.{IsShort, all_differ, bytes_of, lying};
 ghost use Rattle.page_chain.specs.Pages.{pages_of};
 ghost use Rattle.page_chain.specs.Passing.{Passed};
 ghost use Rattle.page_chain.specs.Renewed.{AllLie, IsRenewed, TookOne};
@@ -106,6 +106,11 @@ pub fn replace<S: PageStore>(
     ensures renewed { (m : Image) → S.pages store.old ≡ Some m → IfOk result (λ done. (earlier : List ℕ) → starts (earlier ++ chain.last ∷ []) ≡ true
         → IsChain chain.bound (pages_of m chain.file) (earlier ++ chain.last ∷ []) → AllLie (pages_of m chain.file) (earlier ++ chain.last ∷ []) going.now
         → (done.gone ≡ length going.now) × IsRenewed chain.file chain.bound earlier chain.last done.last going.now coming.now m (S.pages store.new)) }
+    // So many went only where all that were to go were there.
+    ensures all { (m : Image) → S.pages store.old ≡ Some m → IfOk result (λ done. (earlier : List ℕ) → starts (earlier ++ chain.last ∷ []) ≡ true
+        → IsChain chain.bound (pages_of m chain.file) (earlier ++ chain.last ∷ []) → done.gone ≡ length going.now
+        → all_differ (bytes_of (lying (pages_of m chain.file) (earlier ++ chain.last ∷ []))) ≡ true → all_differ going.now ≡ true
+        → AllLie (pages_of m chain.file) (earlier ++ chain.last ∷ []) going.now) }
     ensures others { OnOk result (KeepsOthers chain.file (S.pages store.old) (S.pages store.new)) }
     ensures came { (s : S) → S.came s store.old → S.came s store.new }
     ensures cause { HasFileCause (S.pages store.old) (NoChainTo chain.file chain.bound chain.last) (S.faults store.old) (S.faults store.new) result }

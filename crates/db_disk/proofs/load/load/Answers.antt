@@ -2,6 +2,7 @@ use Rattle.std.proofs.Common.{subst, arith, ◌∙◌, ◌+◌}
 use Rattle.catalog.proofs.Rises.{rises_less, then_rises}
 use Rattle.db_disk.specs.Head.{IsHead}
 use Rattle.db_disk.proofs.Loading.{for_whom, lies_for, no_header_none, own_name, unborn_none}
+use Rattle.db_disk.proofs.Headless.{at_birth, at_header, same_page, without_header}
 use Rattle.db_disk.proofs.load.load.Goals as goal
 
 pub returns-in-Of-clause-knows : goal.returns-in-Of-clause-knows
@@ -17,7 +18,7 @@ returns-in-Of-clause-cause g c =
 pub returns-in-NoHeader-clause-cause : goal.returns-in-NoHeader-clause-cause
 returns-in-NoHeader-clause-cause g c = record {
   later = c.read_head.ensures.cause.later;
-  caused = λ m is. no_header_none m record { file = 0; page = 0 } (subst (IsHead m) c.in-NoHeader.is (c.in_ok-dba.ensures.head m is));
+  caused = λ m is. no_header_none m record { file = 0; page = 0 } (subst (IsHead m) c.in-NoHeader.is (c.in_ok-dba.ensures.head m is)).1;
 }
 
 pub returns-in-Unborn-clause-cause : goal.returns-in-Unborn-clause-cause
@@ -61,3 +62,15 @@ returns-in-Unborn-clause-only_read g c = c.read_head.ensures.only_read
 
 pub returns-in-Unborn-clause-same : goal.returns-in-Unborn-clause-same
 returns-in-Unborn-clause-same g c = c.read_head.ensures.same
+
+pub returns-in-Of-clause-at_head : goal.returns-in-Of-clause-at_head
+returns-in-Of-clause-at_head g c = λ m page is e. absurd (c.load_for.ensures.headed page e)
+
+pub returns-in-NoHeader-clause-at_head : goal.returns-in-NoHeader-clause-at_head
+returns-in-NoHeader-clause-at_head g c = λ m page is e. at_header m page (subst (IsHead m) c.in-NoHeader.is (c.in_ok-dba.ensures.head m is)).0 (same_page 0 page e)
+
+pub returns-in-Unborn-clause-at_head : goal.returns-in-Unborn-clause-at_head
+returns-in-Unborn-clause-at_head g c = λ m page is e. at_birth m page (subst (IsHead m) c.in-Unborn.is (c.in_ok-dba.ensures.head m is)) (same_page 1 page e)
+
+pub returns-in-NoHeader-clause-no_head : goal.returns-in-NoHeader-clause-no_head
+returns-in-NoHeader-clause-no_head g c = λ m page is e. without_header m (subst (IsHead m) c.in-NoHeader.is (c.in_ok-dba.ensures.head m is)).1

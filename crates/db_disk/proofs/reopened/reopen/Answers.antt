@@ -1,6 +1,6 @@
 use Rattle.std.proofs.Common.{◌≡◌}
 use Rattle.am_traits.specs.declared.fault.BaseFault.TheVariants as faults
-use Rattle.db_disk.proofs.Causes.{damage_of_batch, restore_caused}
+use Rattle.db_disk.proofs.Causes.{answered_so, damage_of_batch, restore_caused}
 use Rattle.db_disk.proofs.Changes.{never_wanted}
 use Rattle.db_disk.proofs.Holding.{holds_run, told_none, told_same}
 use Rattle.db_disk.proofs.reopened.reopen.Goals as goal
@@ -31,3 +31,8 @@ pub returns-in-Err-clause-wanted : goal.returns-in-Err-clause-wanted
 returns-in-Err-clause-wanted g c = λ want.
     let e : c.fault_of.result ≡ faults.OutOfMemory = cc want in
     never_wanted c.in-Err.fault c.fault_of.result c.fault_of.ensures e
+
+pub returns-in-Err-clause-at_batch : goal.returns-in-Err-clause-at_batch
+returns-in-Err-clause-at_batch g c = λ told file page is.
+    let e : c.fault_of.result ≡ faults.Damaged file page = cc is in
+    answered_so c.reopen.result _ file page (c.reopen.ensures.answer told) (damage_of_batch c.in-Err.fault c.reopen.result c.fault_of.result file page c.in-Err.is c.fault_of.ensures e)

@@ -1,4 +1,4 @@
-use Rattle.std.proofs.Common.{◌+◌, subst, take, arith}
+use Rattle.std.proofs.Common.{◌+◌, ◌++◌, ◌∷◌, [], subst, take, arith}
 use Rattle.page_chain.specs.Chains.{OffPage, NoChainTo}
 use Rattle.page_chain.specs.Grown.{IsGrown}
 use Rattle.page_chain.proofs.Carried.{cause_carried}
@@ -55,3 +55,8 @@ pub returns-in_err-done-clause-cause : goal.returns-in_err-done-clause-cause
 returns-in_err-done-clause-cause g c =
     cause_carried (g.S.PageStore.pages c.args.store.now) (g.S.PageStore.pages c.args.store.now) (NoChainTo c.args.chain.file c.args.chain.bound c.args.chain.last) (NoChainTo c.args.chain.file c.args.chain.bound c.args.chain.last) (g.S.PageStore.faults c.args.store.now) (g.S.PageStore.faults c.args.store.now) (g.S.PageStore.faults c.pass_over.new.store) c.in_err-done.field-0.0 (omega arith) (λ a fault. fault)
     c.in_err-done.ensures.cause c.from_residual.result c.from_residual.ensures.1
+
+pub returns-in-Ok-clause-all : goal.returns-in-Ok-clause-all
+returns-in-Ok-clause-all g c m is earlier first chain enough differ once =
+    let number = c.in-Ok.ensures in
+    (c.in_ok-done.ensures.passed m is).all (earlier ++ c.args.chain.last ∷ []) first chain (omega (arith, number, enough)) differ once

@@ -1,5 +1,5 @@
 use Rattle.std.proofs.Common.{refl}
-use Rattle.batch_store.proofs.Reopened.{damaged_so, done_so, settled_run, restored_run, restored_same}
+use Rattle.batch_store.proofs.Reopened.{answered_so, damaged_so, done_so, made_so, settled_run, restored_run, restored_same}
 use Rattle.batch_store.proofs.store.BatchStore.reopen.Goals as goal
 
 pub returns-in_err-settle-clause-crash : goal.returns-in_err-settle-clause-crash
@@ -41,3 +41,9 @@ returns-clause-due g c = c.restore.ensures.due
 
 pub returns-in_err-settle-clause-begun : goal.returns-in_err-settle-clause-begun
 returns-in_err-settle-clause-begun g c = c.settle.ensures.begun
+
+pub returns-clause-answer : goal.returns-clause-answer
+returns-clause-answer g c = λ told. answered_so c.restore.result _ _ (c.settle.ensures.seen told) (c.restore.ensures.answer told)
+
+pub returns-clause-made : goal.returns-clause-made
+returns-clause-made g c = made_so c.restore.result _ _ _ c.in_ok-settle.ensures.made c.restore.ensures.made

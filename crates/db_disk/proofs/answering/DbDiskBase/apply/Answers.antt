@@ -1,6 +1,22 @@
+use Rattle.calculus.specs.Change.{laid}
+use Rattle.db_disk.specs.Shown.{disk_in, schema_in}
+use Rattle.db_disk.proofs.Changes.{on_ok_into}
 use Rattle.db_disk.proofs.Knowing.{schema_laid_on}
-use Rattle.db_disk.specs.Shown.{schema_in}
+use Rattle.db_disk.proofs.Leaving.{changed_by, durable_by}
 use Rattle.db_disk.proofs.answering.DbDiskBase.apply.Goals as goal
 
 pub returns-clause-schema : goal.returns-clause-schema
 returns-clause-schema g c = λ s now known then. schema_laid_on c.args.change.now (schema_in c.args.self.now) (schema_in c.apply.new.self) s now c.apply.result known then c.apply.ensures.schema
+
+pub returns-clause-failed : goal.returns-clause-failed
+returns-clause-failed g c = c.apply.ensures.failed
+
+pub returns-clause-crash : goal.returns-clause-crash
+returns-clause-crash g c = λ db is.
+    let d = g.D.Disk in
+    changed_by d.seen d.touched d.clock d.left_since d.tells g.met.D.Disk.counts_now g.met.D.Disk.only_now (disk_in c.args.self.now) (disk_in c.apply.new.self) db (laid db c.args.change.now) is (c.apply.ensures.crash db is)
+
+pub returns-clause-durable : goal.returns-clause-durable
+returns-clause-durable g c = λ db is.
+    let d = g.D.Disk in
+    on_ok_into c.apply.result _ _ (λ each. durable_by d.seen d.touched d.clock d.left_since d.tells (disk_in c.apply.new.self) (laid db c.args.change.now) each) (c.apply.ensures.durable db is)

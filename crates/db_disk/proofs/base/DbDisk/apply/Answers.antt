@@ -1,25 +1,38 @@
-use Rattle.std.proofs.Common.{◌∙◌, refl, sym, ap, Some}
+use Rattle.std.proofs.Common.{◌∙◌, inl, refl, sym, ap, Some}
+use Rattle.std.proofs.lemmas.Option.{same_Some}
 use Rattle.batch_store.specs.Store.{disk_of}
 use Rattle.calculus.specs.Schema.{schema_of}
 use Rattle.db_disk.proofs.Knowing.{known_is_schema, there_open}
 use Rattle.db_disk.proofs.Ready.{ready_holds}
-use Rattle.db_disk.proofs.Changes.{held_settled, on_ok_into, only_opened, then_changed, told_now}
+use Rattle.db_disk.proofs.Changes.{held_settled, on_ok_into, told_now}
 use Rattle.db_disk.proofs.Holding.{told_some}
+use Rattle.db_disk.proofs.Leaving.{failed_by, given_err, only_opened, opened_changed}
 use Rattle.db_disk.proofs.base.DbDisk.apply.Goals as goal
 
 pub lay_open-requires : goal.lay_open-requires
 lay_open-requires g c = record { there = c.in_ok-open.ensures.there; lawful = λ db is. c.requires db (sym c.open.ensures.kept ∙ is) }
 
 pub returns-in_err-open-clause-crash : goal.returns-in_err-open-clause-crash
-returns-in_err-open-clause-crash g c = λ told db all.
+returns-in_err-open-clause-crash g c = λ db is.
     let d = g.D.Disk in
-    only_opened d.seen d.touched d.clock d.left_since _ _ db _ all (c.open.ensures.crash told)
+    only_opened d.seen d.touched d.clock d.left_since _ _ _ (c.open.ensures.crash (told_some d.tells (d.seen (disk_of c.args.self.now.store)) db is).0)
+
+pub returns-in_err-open-clause-failed : goal.returns-in_err-open-clause-failed
+returns-in_err-open-clause-failed g c = λ db now is later. given_err c.from_residual.result _ (inl (same_Some now db (sym later ∙ c.open.ensures.kept ∙ is)))
 
 pub returns-clause-crash : goal.returns-clause-crash
-returns-clause-crash g c = λ told db all.
+returns-clause-crash g c = λ db is.
     let d = g.D.Disk in
-    then_changed d.seen d.touched d.clock d.left_since _ _ _ db _ all (c.open.ensures.crash told)
-    (c.lay_open.ensures.crash db (c.open.ensures.kept ∙ told_now d.tells (d.seen (disk_of c.args.self.now.store)) db told (all _ (λ b calm. refl))))
+    let mid = told_some d.tells (d.seen (disk_of c.open.new.self.store)) db (c.open.ensures.kept ∙ is) in
+    opened_changed d.seen d.touched d.clock d.left_since d.tells mid.0 g.met.D.Disk.counts_now _ _ _ db _ mid.1 (c.open.ensures.crash mid.0) (c.lay_open.ensures.crash db (c.open.ensures.kept ∙ is))
+
+pub returns-clause-failed : goal.returns-clause-failed
+returns-clause-failed g c = λ db now is later.
+    let d = g.D.Disk in
+    let new = disk_of c.lay_open.new.self.store in
+    let run = c.lay_open.ensures.crash db (c.open.ensures.kept ∙ is) in
+    let told = told_some d.tells (d.seen new) now later in
+    given_err c.lay_open.result _ (failed_by db _ now _ told.1 (run.each (d.seen new) (g.met.D.Disk.counts_now new (d.clock (disk_of c.open.new.self.store)) (d.seen new) told.0 run.later (λ b calm. refl))))
 
 pub returns-clause-durable : goal.returns-clause-durable
 returns-clause-durable g c = λ db is. c.lay_open.ensures.durable db (c.open.ensures.kept ∙ is)
@@ -34,9 +47,12 @@ pub returns-then-names_nothing-clause-told : goal.returns-then-names_nothing-cla
 returns-then-names_nothing-clause-told g c = λ db is. c.open.ensures.kept ∙ is ∙ ap Some (sym (c.names_nothing.ensures c.if-names_nothing.true db))
 
 pub returns-then-names_nothing-clause-crash : goal.returns-then-names_nothing-clause-crash
-returns-then-names_nothing-clause-crash g c = λ told db all.
+returns-then-names_nothing-clause-crash g c = λ db is.
     let d = g.D.Disk in
-    only_opened d.seen d.touched d.clock d.left_since _ _ db _ all (c.open.ensures.crash told)
+    only_opened d.seen d.touched d.clock d.left_since _ _ _ (c.open.ensures.crash (told_some d.tells (d.seen (disk_of c.args.self.now.store)) db is).0)
+
+pub returns-then-names_nothing-clause-failed : goal.returns-then-names_nothing-clause-failed
+returns-then-names_nothing-clause-failed g c = λ db now is later. tt
 
 pub returns-then-names_nothing-clause-durable : goal.returns-then-names_nothing-clause-durable
 returns-then-names_nothing-clause-durable g c = λ db is m image.

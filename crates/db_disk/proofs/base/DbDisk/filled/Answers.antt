@@ -42,3 +42,9 @@ returns-in_err-open-clause-keeps g c = c.open.ensures.keeps
 
 pub returns-in_err-open-clause-crash : goal.returns-in_err-open-clause-crash
 returns-in_err-open-clause-crash g c = c.open.ensures.crash
+
+pub returns-clause-stays : goal.returns-clause-stays
+returns-clause-stays g c = λ is. let first = c.open.ensures.stays is in ((λ told. (c.fill_open.ensures.only_reads told).clock_same ∙ first.0 told), c.fill_open.ensures.stays ∙ first.1)
+
+pub returns-in_err-open-clause-stays : goal.returns-in_err-open-clause-stays
+returns-in_err-open-clause-stays g c = c.open.ensures.stays

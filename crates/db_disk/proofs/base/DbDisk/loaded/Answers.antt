@@ -70,3 +70,7 @@ returns-in-Err-clause-only_reads g c = λ told. (c.load.ensures.only_read c.args
 
 pub returns-in-Err-clause-kept : goal.returns-in-Err-clause-kept
 returns-in-Err-clause-kept g c = told_same g.D.Disk.tells _ _ (λ told. ap redone ((c.load.ensures.only_read c.args.self.now.store (reads_of_itself c.args.self.now.store)).reads told).seen_same)
+
+pub returns-in-Err-clause-at_head : goal.returns-in-Err-clause-at_head
+returns-in-Err-clause-at_head g c = λ told page is.
+    c.load.ensures.at_head _ page (ready_pages c.args.self.now.store (c.args.self.now.ready c.requires) told) (c.in-Err.is ∙ same_fault _ _ is)

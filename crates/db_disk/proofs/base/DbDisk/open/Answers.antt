@@ -3,6 +3,7 @@ use Rattle.batch_store.specs.Store.{disk_of}
 use Rattle.db_disk.proofs.Holding.{told_some}
 use Rattle.db_disk.proofs.Knowing.{schema_held}
 use Rattle.db_disk.proofs.Reading.{files_held}
+use Rattle.db_disk.proofs.Headless.{at_head_by, of_base}
 use Rattle.db_disk.proofs.base.DbDisk.open.Goals as goal
 
 pub returns-in-Ok-clause-schema : goal.returns-in-Ok-clause-schema
@@ -52,3 +53,22 @@ returns-in-Err-clause-stay g c = c.start.ensures.stay
 
 pub returns-in-Err-clause-reads : goal.returns-in-Err-clause-reads
 returns-in-Err-clause-reads g c = c.start.ensures.reads
+
+pub returns-in-Ok-clause-stays : goal.returns-in-Ok-clause-stays
+returns-in-Ok-clause-stays g c = c.start.ensures.stays
+
+pub returns-in-Err-clause-stays : goal.returns-in-Err-clause-stays
+returns-in-Err-clause-stays g c = c.start.ensures.stays
+
+pub returns-in-Err-clause-at_batch : goal.returns-in-Err-clause-at_batch
+returns-in-Err-clause-at_batch g c = λ told none file page is. c.start.ensures.at_batch told none file page (of_base c.in-Err.fault c.start.result c.base_fault.result file page c.in-Err.is c.base_fault.ensures is)
+
+pub returns-in-Err-clause-at_head : goal.returns-in-Err-clause-at_head
+returns-in-Err-clause-at_head g c = λ told m is none off file page e.
+    at_head_by m c.in-Err.fault c.start.result c.base_fault.result file page c.in-Err.is c.base_fault.ensures (c.start.ensures.headless told m is none off) (λ p same. c.start.ensures.at_head told m p is same) e
+
+pub returns-in-Ok-clause-at_batch : goal.returns-in-Ok-clause-at_batch
+returns-in-Ok-clause-at_batch g c = λ told none file page e. absurd (cc e)
+
+pub returns-in-Ok-clause-at_head : goal.returns-in-Ok-clause-at_head
+returns-in-Ok-clause-at_head g c = λ told m is none off file page e. absurd (cc e)

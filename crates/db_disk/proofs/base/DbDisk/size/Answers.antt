@@ -66,3 +66,9 @@ returns-clause-crash g c = c.filled.ensures.crash
 
 pub returns-in_err-filled-clause-crash : goal.returns-in_err-filled-clause-crash
 returns-in_err-filled-clause-crash g c = c.filled.ensures.crash
+
+pub returns-clause-stays : goal.returns-clause-stays
+returns-clause-stays g c = c.filled.ensures.stays
+
+pub returns-in_err-filled-clause-stays : goal.returns-in_err-filled-clause-stays
+returns-in_err-filled-clause-stays g c = c.filled.ensures.stays

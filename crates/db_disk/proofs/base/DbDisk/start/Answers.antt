@@ -1,7 +1,7 @@
-use Rattle.std.proofs.Common.{◌≡◌, subst, sym, ◌∙◌, false}
-use Rattle.std.proofs.lemmas.Option.{same_Some}
+use Rattle.std.proofs.Common.{◌≡◌, ap, subst, sym, ◌∙◌, false}
+use Rattle.std.proofs.lemmas.Option.{none-some, same_Some}
 use Rattle.disk_model.specs.Disk.{Image}
-use Rattle.db_disk.specs.Held.{has_head}
+use Rattle.db_disk.specs.Held.{has_head, headless_page}
 use Rattle.db_disk.proofs.Opens.{refused_first}
 use Rattle.db_disk.proofs.Reading.{opens_not, opens_then}
 use Rattle.db_disk.proofs.base.DbDisk.start.Goals as goal
@@ -42,3 +42,19 @@ returns-in-Err-clause-keeps g c = λ s is. c.restored.ensures.schema ∙ is
 
 pub returns-in-Err-clause-crash : goal.returns-in-Err-clause-crash
 returns-in-Err-clause-crash g c = c.restored.ensures.crash
+
+pub returns-in-Ok-clause-stays : goal.returns-in-Ok-clause-stays
+returns-in-Ok-clause-stays g c = λ is. ((λ told. (c.loaded.ensures.only_reads told).clock_same ∙ ap g.D.Disk.clock (c.restored.ensures.still is)), c.loaded.ensures.opened)
+
+pub returns-in-Err-clause-stays : goal.returns-in-Err-clause-stays
+returns-in-Err-clause-stays g c = λ is. ((λ told. ap g.D.Disk.clock (c.restored.ensures.still is)), c.restored.ensures.stays is)
+
+pub returns-in-Ok-clause-at_head : goal.returns-in-Ok-clause-at_head
+returns-in-Ok-clause-at_head g c = λ told m page is e.
+    subst (λ (x : Image). page ≡ headless_page x) (same_Some _ m (sym (c.in-Ok.ensures.pages told) ∙ is)) (c.loaded.ensures.at_head told page e)
+
+pub returns-in-Ok-clause-at_batch : goal.returns-in-Ok-clause-at_batch
+returns-in-Ok-clause-at_batch g c = λ told none file page is. absurd (none-some _ (sym none ∙ c.in-Ok.ensures.pages told))
+
+pub returns-in-Err-clause-at_batch : goal.returns-in-Err-clause-at_batch
+returns-in-Err-clause-at_batch g c = λ told none file page is. c.restored.ensures.at_batch told file page (c.in-Err.is ∙ is)

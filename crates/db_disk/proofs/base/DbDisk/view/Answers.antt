@@ -51,3 +51,9 @@ returns-clause-crash g c = c.open.ensures.crash
 
 pub returns-in_err-open-clause-crash : goal.returns-in_err-open-clause-crash
 returns-in_err-open-clause-crash g c = c.open.ensures.crash
+
+pub returns-clause-stays : goal.returns-clause-stays
+returns-clause-stays g c = c.open.ensures.stays
+
+pub returns-in_err-open-clause-stays : goal.returns-in_err-open-clause-stays
+returns-in_err-open-clause-stays g c = c.open.ensures.stays

@@ -1,9 +1,11 @@
-use Rattle.std.proofs.Common.{sym, refl, subst}
+use Rattle.std.proofs.Common.{sym, refl, subst, IsTrue, arith}
 use Rattle.heap_am.specs.Heap.{heap_rows}
-use Rattle.access_traits.specs.Placed.{NowHolds, Replaced}
+use Rattle.access_traits.specs.Placed.{NowHolds, Replaced, rows_of}
 use Rattle.heap_am.proofs.Changed.{are_short, bytes_are, none_of_them}
 use Rattle.heap_am.specs.Heap.{HeapFault}
 use Rattle.heap_am.proofs.Rooms.{room_left, cause_same}
+use Rattle.std.specs.List.{All}
+use Rattle.calculus.specs.Rows.{has}
 use Rattle.heap_am.proofs.heap.Heap.change.Goals as goal
 
 pub extend-requires-clause-short : goal.extend-requires-clause-short
@@ -67,3 +69,13 @@ pub returns-in_err-extend-clause-cause : goal.returns-in_err-extend-clause-cause
 returns-in_err-extend-clause-cause g c =
     cause_same (g.S.PageStore.pages c.args.store.now) (HeapFault c.args.self.now.file) (g.S.PageStore.faults c.args.store.now) (g.S.PageStore.faults c.extend.new.store)
     c.from_residual-in_err-extend.result c.in_err-extend.field-0.0 c.in_err-extend.ensures.cause c.from_residual-in_err-extend.ensures.1
+
+pub returns-then-is_empty-clause-only : goal.returns-then-is_empty-clause-only
+returns-then-is_empty-clause-only g c m rows t e differ once all =
+    subst (All (λ row. IsTrue (has (rows_of rows) row))) (sym (none_of_them c.args.going.now c.is_empty.result c.is_empty.ensures c.if-is_empty.true)) (λ k d lt. absurd (omega arith))
+
+pub returns-clause-only : goal.returns-clause-only
+returns-clause-only g c m rows t e differ once =
+    c.renew.ensures.only m rows c.args.going.now t e c.requires.going
+    (bytes_are c.items-3.result.now c.in_ok-gone.gone c.items-2.result.now c.args.self.now.file.domains c.args.going.now c.items-3.ensures c.items-2.ensures c.in_ok-gone.ensures)
+    differ once

@@ -5,7 +5,8 @@ use Rattle.page_chain.specs.Chains.{numbers_from}
 use Rattle.page_chain.specs.Pages.{pages_of}
 use Rattle.page_chain.specs.Renewed.{AllLie}
 use Rattle.heap_am.proofs.Faults.{cause_by, no_chain_to}
-use Rattle.heap_am.proofs.Changed.{rows_renewed, heap_chain_to, starts_at_0, all_lie}
+use Rattle.heap_am.proofs.Changed.{are_there, rows_renewed, heap_chain_to, starts_at_0, all_lie}
+use Rattle.std.proofs.lemmas.Bool.{eqb-true}
 use Rattle.heap_am.proofs.heap.Heap.renew.Goals as goal
 
 pub returns-in_err-done-clause-cause : goal.returns-in_err-done-clause-cause
@@ -34,3 +35,10 @@ returns-clause-others g c = c.in_ok-done.ensures.others
 
 pub returns-clause-cause : goal.returns-clause-cause
 returns-clause-cause g c = record { later = c.replace.ensures.cause.later; caused = tt }
+
+pub returns-clause-only : goal.returns-clause-only
+returns-clause-only g c m rows gone t e go old differ once all =
+    let file = c.args.self.now.file in
+    let some = c.args.self.now.pages in
+    are_there file m rows (file.used - 1) gone c.args.going.now (omega arith) e go old differ once
+    (λ d o. (c.in_ok-done.ensures.all m t (numbers_from (file.used - 1) 0) (starts_at_0 (file.used - 1)) (heap_chain_to file m rows (file.used - 1) (omega arith) e) (eqb-true c.in_ok-done.done.gone (length c.args.going.now) all) d o).are_there)

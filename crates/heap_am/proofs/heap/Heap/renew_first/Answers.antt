@@ -11,8 +11,8 @@ use Rattle.page_chain.proofs.Carried.{cause_carried}
 use Rattle.page_chain.proofs.Replaced.{others_twice}
 use Rattle.heap_am.specs.Heap.{HeapFault}
 use Rattle.heap_am.specs.Near.{IsDoneNear}
-use Rattle.heap_am.proofs.Changed.{rows_renewed, heap_chain_to, all_lie}
-use Rattle.heap_am.proofs.DoneNear.{renewed_near, off_rest}
+use Rattle.heap_am.proofs.Changed.{are_there, rows_renewed, heap_chain_to, all_lie}
+use Rattle.heap_am.proofs.DoneNear.{near_all, renewed_near, off_rest}
 use Rattle.heap_am.proofs.Faults.{cause_later}
 use Rattle.std.specs.Result.{OnOk}
 use Rattle.access_traits.specs.Pages.{KeepsOthers}
@@ -99,3 +99,15 @@ returns-in-None-clause-file g c = c.renew.ensures.file
 pub returns-in-None-clause-others : goal.returns-in-None-clause-others
 returns-in-None-clause-others g c =
     subst (λ told. OnOk c.renew.result (KeepsOthers c.args.self.now.file.file told (g.S.PageStore.pages c.renew.new.store))) (c.in_ok-put.ensures.none c.in-None.is) c.renew.ensures.others
+
+pub returns-in_ok-put_rest-in-Some-clause-only : goal.returns-in_ok-put_rest-in-Some-clause-only
+returns-in_ok-put_rest-in-Some-clause-only g c m rows gone t e go old differ once all =
+    let file = c.args.self.now.file in
+    let between = g.S.PageStore.pages c.renew_near.new.store in
+    let some = c.args.self.now.pages in
+    let its = subst (λ done. IfSome done (λ put. IsDoneNear file.file file.used c.args.going.now (take put c.args.coming.now) m between)) c.in-Some.is (c.in_ok-put.ensures.done m t) in
+    are_there file m rows (file.used - 1) gone c.args.going.now (omega arith) e go old differ once (λ d o. near_all file.file file.used (file.used - 1) c.args.going.now (take c.in-Some.put c.args.coming.now) m between its (omega arith) d o)
+
+pub returns-in-None-clause-only : goal.returns-in-None-clause-only
+returns-in-None-clause-only g c m rows gone t e go old differ once =
+    c.renew.ensures.only m rows gone (c.in_ok-put.ensures.none c.in-None.is ∙ t) e go old differ once

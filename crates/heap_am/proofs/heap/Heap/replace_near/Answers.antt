@@ -43,3 +43,12 @@ returns-then-is_empty-clause-came g c = c.change.ensures.came
 
 pub returns-then-is_empty-clause-cause : goal.returns-then-is_empty-clause-cause
 returns-then-is_empty-clause-cause g c = c.change.ensures.cause
+
+pub returns-clause-only : goal.returns-clause-only
+returns-clause-only g c m rows t e differ once =
+    c.renew_first.ensures.only m rows c.args.going.now t e c.requires.going
+    (bytes_are c.items-3.result.now c.in_ok-gone.gone c.items-2.result.now c.args.self.now.file.domains c.args.going.now c.items-3.ensures c.items-2.ensures c.in_ok-gone.ensures)
+    differ once
+
+pub returns-then-is_empty-clause-only : goal.returns-then-is_empty-clause-only
+returns-then-is_empty-clause-only g c = c.change.ensures.only
