@@ -1,7 +1,6 @@
 -- What a stage did at a pipe, or where it has ended, as a step of a stage between its pipes.
 use Rattle.std.proofs.Common.{IfOk, IfErr, OnOk, OnErr, IsErrOf, ◌≡◌, ◌<◌, ◌≤◌, inl, inr, ℕ, Bool, true, false, List, [], ◌∷◌, ◌++◌, Result, Ok, Err, length, not, nat_lt, refl, arith}
 use Rattle.std.proofs.lemmas.Grind.{common_steps}
-use Rattle.std.specs.declared.option.Option.{Option}
 use Rattle.frame_codec.specs.declared.frame.Frame.{Frame}
 use Rattle.net_core.specs.Causes.{IsCaused, MayNotTake}
 use Rattle.net_core.specs.declared.fault.WorkFault.{WorkFault}
@@ -13,14 +12,16 @@ use Rattle.net_core.specs.Pipes.{GaveTo, TookFrom, WasEmpty}
 use Rattle.net_core.specs.Steps.{FitUnlessBlocked, Piped, PipedDone, PipedMayNot, PipedMoves, PipedStepsBy, in_room}
 use Rattle.net_core.specs.Told.{FailedStep, KeepsDatabase, Outside, told}
 use Rattle.net_core.specs.Wants.{was_blocked}
-use Rattle.network_meaning.specs.Calls.{GivenLeft, GivenRight}
+use Rattle.net_core.specs.Spares.{CountsOnly, IsInside, Spares}
+use Rattle.network_meaning.specs.Calls.{GivenLeft, GivenRight, Told}
+use Rattle.network_meaning.proofs.Runs.{wrote_nothing}
 use Rattle.network_meaning.specs.Language.{Language}
 use Rattle.network_meaning.specs.LocalSteps.{Act, Mode, Works, Room as NetworkRoom, Want.take_left, Want.take_right, Want.give_left, Want.give_right, Want.none}
 use Rattle.network_meaning.specs.Network.{LocalState, StepsBy, is_blocked, is_empty, want}
 use Rattle.network_meaning.specs.WorkShape.{WorksInShape}
 use Rattle.quel_network.specs.Quel.{quel}
 use Rattle.quel_network.specs.Sorts.{User, quel_sorts}
-use Rattle.net_core.proofs.Faulty.{later_same, script_same}
+use Rattle.net_core.proofs.Faulty.{later_same, reads_same, within_apart}
 
 -- ---- results
 
@@ -46,6 +47,21 @@ caused_taking heard o o' (Ok m) c = tt
 caused_taking heard o o' (Err fault) (inl e) = rw e tt
 caused_taking heard o o' (Err fault) (inr e) = rw e tt
 
+counts_alone : (o : Outside) (result : Result Moved WorkFault) → IfErr result (λ fault. IsOfTaking fault) → CountsOnly o o result
+counts_alone o (Ok m) c = refl
+counts_alone o (Err fault) (inl e) = rw e refl
+counts_alone o (Err fault) (inr e) = rw e refl
+
+spares_alone : (o : Outside) (result : Result Moved WorkFault) → IfErr result (λ fault. IsOfTaking fault) → Spares o o result
+spares_alone o (Ok m) c = tt
+spares_alone o (Err fault) (inl e) = rw e refl
+spares_alone o (Err fault) (inr e) = rw e refl
+
+inside_taking : (result : Result Moved WorkFault) → IfErr result (λ fault. IsOfTaking fault) → IsInside result
+inside_taking (Ok m) c = tt
+inside_taking (Err fault) (inl e) = rw e tt
+inside_taking (Err fault) (inr e) = rw e tt
+
 database_kept : (o : Outside) (result : Result Moved WorkFault) → OnOk result (KeepsDatabase o o)
 database_kept o (Ok m) = λ db e. (db, e)
 database_kept o (Err fault) = tt
@@ -69,14 +85,18 @@ alone l r old new o h h' p p' serves serves' result blocked steps unlawful cause
   untouched = λ n. refl;
   cause = caused_taking h o o result cause;
   later = later_same o;
-  script = script_same h h' o heard;
+  counts = counts_alone o result cause;
+  spares = spares_alone o result cause;
+  reads = reads_same h h' o (IsErrOf result faults.Source) heard;
+  within = rw heard (within_apart h result (inside_taking result cause));
+  ends = λ apart. record { same = refl; unread = heard; inside = inside_taking result cause };
   database = database_kept o result;
   serve = serve;
   placed = place;
 }
 
 -- a step in a room that stays
-stays : (L : Language quel_sorts) (l r : ℕ) (blocked : Bool) (old new : Piped) (o : Option (NetworkRoom quel_sorts)) →
+stays : (L : Language quel_sorts) (l r : ℕ) (blocked : Bool) (old new : Piped) (o : Told quel_sorts) →
     ((room : NetworkRoom quel_sorts) → is_blocked l r (in_room old room) (want old.stage) ≡ blocked) →
     ((room : NetworkRoom quel_sorts) → FitUnlessBlocked L (in_room old room) blocked) →
     ((W : Mode quel_sorts → NetworkRoom quel_sorts → Act quel_sorts → NetworkRoom quel_sorts → Type 0) (room : NetworkRoom quel_sorts) → PipedStepsBy W L (in_room old room) (in_room new room) blocked) →
@@ -84,7 +104,8 @@ stays : (L : Language quel_sorts) (l r : ℕ) (blocked : Bool) (old new : Piped)
 stays L l r blocked old new o is fit step = record {
   is = is;
   shape = step (WorksInShape L);
-  exact = λ room e. record { room' = room; told = e; fit = fit room; step = step (Works L) room };
+  fit = λ room d s. fit room;
+  exact = λ room e. record { room' = room; told = e; wrote = wrote_nothing o room; step = step (Works L) room };
 }
 
 -- ---- it took a frame
@@ -94,17 +115,17 @@ empty_blocked Stepped [] h = absurd (h refl)
 empty_blocked Stepped (f ∷ fs) h = refl
 empty_blocked Blocked pipe h = rw h refl
 
-took_left_moves : (L : Language quel_sorts) (moved : Moved) (l r : ℕ) (s s' : LocalState quel_sorts) (li li' lo ro ri : List Frame) (o : Option (NetworkRoom quel_sorts)) → want s ≡ take_left → TookFrom L moved s li s' li' →
+took_left_moves : (L : Language quel_sorts) (moved : Moved) (l r : ℕ) (s s' : LocalState quel_sorts) (li li' lo ro ri : List Frame) (o : Told quel_sorts) → want s ≡ take_left → TookFrom L moved s li s' li' →
     PipedMoves L l r (was_blocked moved) (at_pipes s li lo ro ri) (at_pipes s' li' lo ro ri) o o
 took_left_moves L Stepped l r s s' li li' lo ro ri o e (f, e1, t) =
-    stays L l r false _ _ o (λ room. rw (e, e1) refl) (λ room. rw e tt) (λ W room. rw (e, e1) (s', (rw e at t), refl))
+    stays L l r false _ _ o (λ room. rw (e, e1) refl) (λ room. rw e tt) (λ W room. rw (e, e1) (s', (rw e at t.1), refl))
 took_left_moves L Blocked l r s s' li li' lo ro ri o e (e1, e2, e3) =
     stays L l r true _ _ o (λ room. rw (e, e1) refl) (λ room. tt) (λ W room. rw (e2, e3) refl)
 
-took_right_moves : (L : Language quel_sorts) (moved : Moved) (l r : ℕ) (s s' : LocalState quel_sorts) (li lo ro ri ri' : List Frame) (o : Option (NetworkRoom quel_sorts)) → want s ≡ take_right → TookFrom L moved s ri s' ri' →
+took_right_moves : (L : Language quel_sorts) (moved : Moved) (l r : ℕ) (s s' : LocalState quel_sorts) (li lo ro ri ri' : List Frame) (o : Told quel_sorts) → want s ≡ take_right → TookFrom L moved s ri s' ri' →
     PipedMoves L l r (was_blocked moved) (at_pipes s li lo ro ri) (at_pipes s' li lo ro ri') o o
 took_right_moves L Stepped l r s s' li lo ro ri ri' o e (f, e1, t) =
-    stays L l r false _ _ o (λ room. rw (e, e1) refl) (λ room. rw e tt) (λ W room. rw (e, e1) (s', (rw e at t), refl))
+    stays L l r false _ _ o (λ room. rw (e, e1) refl) (λ room. rw e tt) (λ W room. rw (e, e1) (s', (rw e at t.1), refl))
 took_right_moves L Blocked l r s s' li lo ro ri ri' o e (e1, e2, e3) =
     stays L l r true _ _ o (λ room. rw (e, e1) refl) (λ room. tt) (λ W room. rw (e2, e3) refl)
 
@@ -160,14 +181,14 @@ given_right : (W : Mode quel_sorts → NetworkRoom quel_sorts → Act quel_sorts
 given_right W L s s' [] f li lo ro ri room e g = absurd g
 given_right W L s s' (x ∷ xs) f li lo ro ri room e (e1, e2) = rw (e, e2, e1) refl
 
-gave_left_moves : (L : Language quel_sorts) (moved : Moved) (l r : ℕ) (s s' : LocalState quel_sorts) (li lo lo' ro ri : List Frame) (o : Option (NetworkRoom quel_sorts)) → want s ≡ give_left → GaveTo moved l s lo s' lo' →
+gave_left_moves : (L : Language quel_sorts) (moved : Moved) (l r : ℕ) (s s' : LocalState quel_sorts) (li lo lo' ro ri : List Frame) (o : Told quel_sorts) → want s ≡ give_left → GaveTo moved l s lo s' lo' →
     PipedMoves L l r (was_blocked moved) (at_pipes s li lo ro ri) (at_pipes s' li lo' ro ri) o o
 gave_left_moves L Stepped l r s s' li lo lo' ro ri o e (f, lt, e1, g) =
     stays L l r false _ _ o (λ room. rw e (not_full (length lo) l lt)) (λ room. rw e tt) (λ W room. rw (e, e1) (given_left W L s s' s.out_left f li lo ro ri room refl (rw e at g)))
 gave_left_moves L Blocked l r s s' li lo lo' ro ri o e (le, e2, e3) =
     stays L l r true _ _ o (λ room. rw e (full (length lo) l le)) (λ room. tt) (λ W room. rw (e2, e3) refl)
 
-gave_right_moves : (L : Language quel_sorts) (moved : Moved) (l r : ℕ) (s s' : LocalState quel_sorts) (li lo ro ro' ri : List Frame) (o : Option (NetworkRoom quel_sorts)) → want s ≡ give_right → GaveTo moved r s ro s' ro' →
+gave_right_moves : (L : Language quel_sorts) (moved : Moved) (l r : ℕ) (s s' : LocalState quel_sorts) (li lo ro ro' ri : List Frame) (o : Told quel_sorts) → want s ≡ give_right → GaveTo moved r s ro s' ro' →
     PipedMoves L l r (was_blocked moved) (at_pipes s li lo ro ri) (at_pipes s' li lo ro' ri) o o
 gave_right_moves L Stepped l r s s' li lo ro ro' ri o e (f, lt, e1, g) =
     stays L l r false _ _ o (λ room. rw e (not_full (length ro) r lt)) (λ room. rw e tt) (λ W room. rw (e, e1) (given_right W L s s' s.out_right f li lo ro ri room refl (rw e at g)))

@@ -1,17 +1,17 @@
 -- What a crash leaves while stages work: of one stage between its pipes, of a step, and of a list of turns.
-use Rattle.std.proofs.Common.{OnOk, ◌≡◌, ◌<◌, ◌≤◌, ℕ, Bool, List, length, take, get_or, Some, Result, Ok, Err, refl, sym, subst, ◌∙◌}
+use Rattle.std.proofs.Common.{OnOk, ◌≡◌, ◌<◌, ◌≤◌, ℕ, Bool, true, false, List, length, take, get_or, Some, Result, Ok, Err, refl, sym, subst, ◌∙◌}
 use Rattle.std.specs.declared.option.Option.{Option}
 use Rattle.std.proofs.lemmas.Option.{same_Some}
 use Rattle.am_traits.proofs.Crashes.{asked_leaves, leaves_as, leaves_more, nothing_else, still_stands}
 use Rattle.am_traits.specs.Crashes.{LeavesBut, Stands}
 use Rattle.calculus.specs.Database.{Db}
-use Rattle.net_core.specs.Crashes.{MayLeave, QuietWithout, StaysDurable, StepCrash, StepLeaves, TurnsLeave, WorkLeaves}
+use Rattle.net_core.specs.Crashes.{HandsOver, MayLeave, QuietWithout, StaysDurable, StepCrash, StepLeaves, TurnsLeave, WorkLeaves}
 use Rattle.net_core.specs.Told.{KeepsDatabase, Outside, told}
 use Rattle.net_core.specs.Whole.{seen, state_at}
 use Rattle.net_core.proofs.Turning.{TurnsDone}
-use Rattle.network_meaning.specs.Calls.{Moves, Shape, stage_number}
+use Rattle.network_meaning.specs.Calls.{Moves, Shape, Tells, stage_number}
 use Rattle.network_meaning.specs.Language.{Language}
-use Rattle.network_meaning.specs.LocalSteps.{Mode, Want.work, Room as NetworkRoom}
+use Rattle.network_meaning.specs.LocalSteps.{Mode, Want as Wish, Want.work, Room as NetworkRoom}
 use Rattle.network_meaning.specs.Network.{LocalState, want}
 use Rattle.quel_network.specs.Quel.{quel}
 use Rattle.quel_network.specs.Sorts.{User, quel_sorts}
@@ -49,37 +49,47 @@ on_any_ok : {T E : Type 0} (r : Result T E) (P : Type 0) → P → OnOk r P
 on_any_ok (Ok x) P h = h
 on_any_ok (Err e) P h = tt
 
+abbrev pub is_work : Wish → Bool
+is_work work = true
+is_work _ = false
+
+apart : (s : LocalState quel_sorts) (w : Wish) → want s ≡ w → is_work w ≡ false → want s ≡ work → ⊥
+apart s w e never works = let same : w ≡ work = sym e ∙ works in let is : is_work w ≡ true = rw same refl in cc
+
 -- a step that leaves the disk alone
-pub left_alone : {T E : Type 0} (serves : User → Type 0) (s : LocalState quel_sorts) (o : Outside) (left : ℕ → Option Db → Type 0) (result : Result T E) → StepCrash serves s o o left left result
-left_alone serves s o left result = record {
+pub left_alone : {T E : Type 0} (serves : User → Type 0) (s s' : LocalState quel_sorts) (o : Outside) (left : ℕ → Option Db → Type 0) (schema : Option Db) (result : Result T E) (w : Wish) → want s ≡ w → is_work w ≡ false → StepCrash serves s s' o o left left schema result
+left_alone serves s s' o left schema result w e never = record {
   crash = λ user x room t. nothing_else _ o.clock left;
   durable = on_any_ok result _ (durable_same o left);
   quiet = λ k without. (refl, refl);
+  handed = on_any_ok result _ (λ works. absurd (apart s w e never works));
 }
 
 -- a step that worked
-pub left_by_work : {T E : Type 0} (serves : User → Type 0) (s : LocalState quel_sorts) (o o' : Outside) (left left' : ℕ → Option Db → Type 0) (result : Result T E) → want s ≡ work →
-    ((user : User) → serves user → WorkLeaves (quel user) s.mode o o' left left') → OnOk result (StaysDurable o o' left left') → QuietWithout s o o' → StepCrash serves s o o' left left' result
-left_by_work serves s o o' left left' result e crash durable quiet = record {
+pub left_by_work : {T E : Type 0} (serves : User → Type 0) (s s' : LocalState quel_sorts) (o o' : Outside) (left left' : ℕ → Option Db → Type 0) (schema : Option Db) (result : Result T E) → want s ≡ work →
+    ((user : User) → serves user → WorkLeaves (quel user) s.mode o o' left left') → OnOk result (StaysDurable o o' left left') → QuietWithout s o o' → OnOk result (HandsOver s s' schema o'.database) → StepCrash serves s s' o o' left left' schema result
+left_by_work serves s s' o o' left left' schema result e crash durable quiet handed = record {
   crash = λ user x room t. leaves_as _ _ o.clock o'.clock left left' (λ d h. (e, h)) (crash user x room t);
   durable = durable;
   quiet = quiet;
+  handed = handed;
 }
 
 -- the step of one stage, as one of the network
-pub left_by_stage : {T E : Type 0} (serves all : User → Type 0) (s s' : LocalState quel_sorts) (o o' : Outside) (left left' : ℕ → Option Db → Type 0) (result : Result T E) → s' ≡ s → ((user : User) → all user → serves user) →
-    StepCrash serves s o o' left left' result → StepCrash all s' o o' left left' result
-left_by_stage serves all s s' o o' left left' result e part d = record {
+pub left_by_stage : {T E : Type 0} (serves all : User → Type 0) (s s' t : LocalState quel_sorts) (o o' : Outside) (left left' : ℕ → Option Db → Type 0) (schema : Option Db) (result : Result T E) → s' ≡ s → ((user : User) → all user → serves user) →
+    StepCrash serves s t o o' left left' schema result → StepCrash all s' t o o' left left' schema result
+left_by_stage serves all s s' t o o' left left' schema result e part d = record {
   crash = λ user x. subst (λ (a : LocalState quel_sorts). StepLeaves (quel user) a o o' left left') (sym e) (d.crash user (part user x));
   durable = d.durable;
   quiet = subst (λ (a : LocalState quel_sorts). QuietWithout a o o') (sym e) d.quiet;
+  handed = subst (λ (a : LocalState quel_sorts). OnOk result (HandsOver a t schema o'.database)) (sym e) d.handed;
 }
 
 -- ---- a list of turns
 
 -- what the turns so far have done to the disk, of these in all
 pub record TurnsCrash (capacity : ℕ) (turns : List ℕ) (serves : User → Type 0) (old : Shape quel_sorts) (before after : Outside) (left left' : ℕ → Option Db → Type 0) : Type 0 where
-  pub tells : (user : User) → serves user → (r : NetworkRoom quel_sorts) → told before ≡ Some r → (r' : NetworkRoom quel_sorts) × (told after ≡ Some r')
+  pub tells : (user : User) → serves user → (r : NetworkRoom quel_sorts) → Tells (told before) r → (r' : NetworkRoom quel_sorts) × Tells (told after) r'
   pub crash : (user : User) → serves user → TurnsLeave (quel user) capacity turns (seen old before) before.clock after.clock left left'
   pub durable : StaysDurable before after left left'
 
@@ -91,11 +101,11 @@ no_turn capacity turns serves old o left = record {
 }
 
 -- a step behind the turns so far, whether it failed or not
-pub turns_leave : (capacity : ℕ) (turns : List ℕ) (i : ℕ) (a b : Shape quel_sorts) (o o' o'' : Outside) (h h' : ℕ) (serves serves' : User → Type 0) (numbers numbers' : Type 0) (left left' left'' : ℕ → Option Db → Type 0) → i < length turns →
-    TurnsDone capacity (take i turns) a b o o' h h' serves serves' numbers numbers' → TurnsCrash capacity turns serves a o o' left left' →
+pub turns_leave : (capacity : ℕ) (turns : List ℕ) (i : ℕ) (a b : Shape quel_sorts) (o o' o'' : Outside) (h h' one one' : ℕ) (serves serves' : User → Type 0) (numbers numbers' : Type 0) (left left' left'' : ℕ → Option Db → Type 0) → i < length turns →
+    TurnsDone capacity (take i turns) a b o o' h h' one one' serves serves' numbers numbers' → TurnsCrash capacity turns serves a o o' left left' →
     ((user : User) → serves' user → StepLeaves (quel user) (state_at b (stage_number (get_or turns i 0))) o' o'' left' left'') →
     (user : User) → serves user → TurnsLeave (quel user) capacity turns (seen a o) o.clock o''.clock left left''
-turns_leave capacity turns i a b o o' o'' h h' serves serves' numbers numbers' left left' left'' lt d c step user x r t =
+turns_leave capacity turns i a b o o' o'' h h' one one' serves serves' numbers numbers' left left' left'' lt d c step user x r t =
     let mid = c.tells user x r t in
     leaves_more _ _ o.clock o'.clock o''.clock left left' left'' (λ db may. record {
       at = i;
@@ -107,13 +117,13 @@ turns_leave capacity turns i a b o o' o'' h h' serves serves' numbers numbers' l
       leaves = may;
     }) (c.crash user x r t) (step user (d.serve user x) mid.0 mid.1)
 
-pub one_more_turn : (capacity capacity' : ℕ) (turns : List ℕ) (i : ℕ) (blocked : Bool) (a b c : Shape quel_sorts) (o o' o'' : Outside) (h h' : ℕ) (serves serves' : User → Type 0) (numbers numbers' : Type 0) (left left' left'' : ℕ → Option Db → Type 0) → i < length turns →
-    TurnsDone capacity (take i turns) a b o o' h h' serves serves' numbers numbers' → TurnsCrash capacity turns serves a o o' left left' →
+pub one_more_turn : (capacity capacity' : ℕ) (turns : List ℕ) (i : ℕ) (blocked : Bool) (a b c : Shape quel_sorts) (o o' o'' : Outside) (h h' one one' : ℕ) (serves serves' : User → Type 0) (numbers numbers' : Type 0) (left left' left'' : ℕ → Option Db → Type 0) → i < length turns →
+    TurnsDone capacity (take i turns) a b o o' h h' one one' serves serves' numbers numbers' → TurnsCrash capacity turns serves a o o' left left' →
     ((user : User) → serves' user → Moves (quel user) capacity' (stage_number (get_or turns i 0)) blocked (seen b o') (seen c o'')) →
     ((user : User) → serves' user → StepLeaves (quel user) (state_at b (stage_number (get_or turns i 0))) o' o'' left' left'') →
     StaysDurable o' o'' left' left'' → TurnsCrash capacity turns serves a o o'' left left''
-one_more_turn capacity capacity' turns i blocked a b c o o' o'' h h' serves serves' numbers numbers' left left' left'' lt d was moves step durable = record {
+one_more_turn capacity capacity' turns i blocked a b c o o' o'' h h' one one' serves serves' numbers numbers' left left' left'' lt d was moves step durable = record {
   tells = λ user x r t. let mid = was.tells user x r t in let x' = (moves user (d.serve user x)).exact mid.0 mid.1 in (x'.room', x'.told);
-  crash = turns_leave capacity turns i a b o o' o'' h h' serves serves' numbers numbers' left left' left'' lt d was step;
+  crash = turns_leave capacity turns i a b o o' o'' h h' one one' serves serves' numbers numbers' left left' left'' lt d was step;
   durable = durable_more o o' o'' left left' left'' d.database was.durable durable;
 }

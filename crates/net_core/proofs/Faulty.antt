@@ -1,11 +1,14 @@
 -- Faults that come of one part or of one step, as those of the whole.
-use Rattle.std.proofs.Common.{◌≡◌, ◌+◌, ◌≤◌, inl, inr, ℕ, Some, None, Result, Ok, Err, refl, ◌∙◌, arith}
+use Rattle.std.proofs.Common.{IsErrOf, ◌≡◌, ◌==◌, ◌⊎◌, ◌+◌, ◌-◌, ◌^◌, ◌≤◌, ◌++◌, [], inl, inr, ℕ, true, false, List, Some, None, Result, Ok, Err, refl, sym, ap, ◌∙◌, append_assoc, length, length-append, arith}
+use Rattle.std.proofs.lemmas.Grind.{common_steps}
 use Rattle.std.specs.declared.option.Option.{Option}
 use Rattle.calculus.specs.Database.{Db}
 use Rattle.fault_io.specs.Causes.{Rose}
 use Rattle.net_core.specs.Causes.{IsCaused, MayCome}
 use Rattle.net_core.specs.declared.fault.WorkFault.{WorkFault}
 use Rattle.net_core.specs.declared.fault.WorkFault.TheVariants as faults
+use Rattle.net_core.specs.Reads.{CountsHeard, ReadsOn, Within}
+use Rattle.net_core.specs.Spares.{Counts, CountsOnlyBy, IsInside, counts}
 use Rattle.net_core.specs.Told.{KeepsDatabase, KeepsScript, Later, Outside}
 
 -- ---- one part of those that read
@@ -24,8 +27,12 @@ pub caused_more : {T : Type 0} (heard whole rest : ℕ) (before after : Outside)
 caused_more heard whole rest before after (Ok x) e c = tt
 caused_more heard whole rest before after (Err fault) e c = may_come_more heard whole rest before after fault e c
 
-pub keeps_more : (heard heard' whole whole' rest : ℕ) (before after : Outside) → whole ≡ heard + rest → whole' ≡ heard' + rest → KeepsScript heard heard' before after → KeepsScript whole whole' before after
-keeps_more heard heard' whole whole' rest before after e e' k script told = let kept = k script told in (kept.0, kept.1, omega (arith, kept.2))
+pub reads_more : (heard heard' whole whole' rest : ℕ) (before after : Outside) (failed : Type 0) → whole ≡ heard + rest → whole' ≡ heard' + rest → ReadsOn heard heard' before after failed → ReadsOn whole whole' before after failed
+reads_more heard heard' whole whole' rest before after failed e e' k = record {
+  line = λ script told. let (front, last, left, is, all, counted, free, one) = k.line script told in (front, last, left, is, all, omega (arith, counted, e, e'), free, one);
+  broken = k.broken;
+  given = let (n, counted, gave) = k.given in (n, omega (arith, counted, e, e'), gave);
+}
 
 -- ---- one step behind others
 
@@ -42,13 +49,36 @@ later_more a b c f g = record {
 }
 
 pub script_same : (heard heard' : ℕ) (o : Outside) → heard' ≡ heard → KeepsScript heard heard' o o
-script_same heard heard' o e script told = (script, told, rw e refl)
+script_same heard heard' o e script told = ([], script, told, refl, omega (arith, e))
 
 pub script_more : (h h' h'' : ℕ) (a b c : Outside) → KeepsScript h h' a b → KeepsScript h' h'' b c → KeepsScript h h'' a c
 script_more h h' h'' a b c f g script told =
-    let first = f script told in
-    let then = g first.0 first.1 in
-    (then.0, then.1, then.2 ∙ first.2)
+    let (xs, mid, is, all, counted) = f script told in
+    let (ys, rest, is', all', counted') = g mid is in
+    let sum = length-append xs ys in
+    (xs ++ ys, rest, is', all ∙ ap (λ x. xs ++ x) all' ∙ sym (append_assoc xs ys rest), omega (arith, counted, counted', sum))
+
+-- what one step reads
+pub script_of : (h h' : ℕ) (before after : Outside) (failed : Type 0) → ReadsOn h h' before after failed → KeepsScript h h' before after
+script_of h h' before after failed k script told = let (front, last, rest, is, all, counted, free, one) = k.line script told in (front ++ last, rest, is, all, counted)
+
+pub heard_same : (h h' given : ℕ) → h' ≡ h → CountsHeard h h' given given
+heard_same h h' given e = (0, omega (arith, e), inl (omega arith))
+
+pub heard_more : (h h' h'' a b c : ℕ) → CountsHeard h h' a b → CountsHeard h' h'' b c → CountsHeard h h'' a c
+heard_more h h' h'' a b c (n, e, f) (m, e', g) = (n + m, omega (arith, e, e'), gave f g)
+  where
+    gave : (b ≡ a + n) ⊎ (2 ^ 64 - 1 ≤ b) → (c ≡ b + m) ⊎ (2 ^ 64 - 1 ≤ c) → (c ≡ a + (n + m)) ⊎ (2 ^ 64 - 1 ≤ c)
+    gave (inl x) (inl y) = inl (omega (arith, x, y))
+    gave (inr x) (inl y) = inr (omega (arith, x, y))
+    gave x (inr y) = inr y
+
+pub reads_same : (h h' : ℕ) (o : Outside) (failed : Type 0) → h' ≡ h → ReadsOn h h' o o failed
+reads_same h h' o failed e = record {
+  line = λ script told. ([], [], script, told, refl, omega (arith, e), refl, omega arith);
+  broken = λ f script told. ([], script, told, refl, refl);
+  given = heard_same h h' o.given e;
+}
 
 pub database_same : (o : Outside) → KeepsDatabase o o
 database_same o db told = (db, told)
@@ -70,6 +100,56 @@ may_come_from heard heard' old mid after faults.Sink l s d (inr c) = inr (rose_f
 may_come_from heard heard' old mid after faults.Disk l s d c = rose_from _ _ _ l.base c
 may_come_from heard heard' old mid after (faults.Damaged file page) l s d c = none_before old.database mid.database d c
 may_come_from heard heard' old mid after faults.Shelf l s d c = rose_from _ _ _ l.shelf c
-may_come_from heard heard' old mid after faults.TooLong l s d c = λ script told. let kept = s script told in omega (arith, kept.2, c kept.0 kept.1)
+may_come_from heard heard' old mid after faults.TooLong l s d c = λ script told. let (bytes, rest, is, all, counted) = s script told in let sum = ap length all ∙ length-append bytes rest in omega (arith, counted, sum, c rest is)
 may_come_from heard heard' old mid after faults.Unlawful l s d c = tt
 may_come_from heard heard' old mid after faults.OutOfMemory l s d c = tt
+
+-- ---- what faults leave alone
+
+pub counts_from : (old mid after : Outside) (fault : WorkFault) → counts mid ≡ counts old → CountsOnlyBy mid after fault → CountsOnlyBy old after fault
+counts_from old mid after faults.Source e c = c ∙ ap (λ (k : Counts). record { shelf = k.shelf; source = after.source_faults; sink = k.sink; stalls = k.stalls }) e
+counts_from old mid after faults.Sink e c = c ∙ ap (λ (k : Counts). record { shelf = k.shelf; source = k.source; sink = after.sink_faults; stalls = after.sink_stalls }) e
+counts_from old mid after faults.Shelf e c = c ∙ ap (λ (k : Counts). record { shelf = after.shelf_faults; source = k.source; sink = k.sink; stalls = k.stalls }) e
+counts_from old mid after faults.Disk e c = c ∙ e
+counts_from old mid after (faults.Damaged file page) e c = c ∙ e
+counts_from old mid after faults.TooLong e c = c ∙ e
+counts_from old mid after faults.Unlawful e c = c ∙ e
+counts_from old mid after faults.OutOfMemory e c = c ∙ e
+
+-- a stage has one number
+pub apart_numbers : (p n m : ℕ) → p ≡ n → p ≡ m → (n == m) ≡ false → ⊥
+apart_numbers p n m e f never = let same : n ≡ m = sym e ∙ f in let is : (n == m) ≡ true = rw same (grind (arith, common_steps)) in cc
+
+-- where no more is read, a fault that isn't of the script's length
+pub within_apart : {T : Type 0} (one : ℕ) (result : Result T WorkFault) → IsInside result → Within one one result
+within_apart one (Ok x) h le = le
+within_apart one (Err faults.Source) h le = absurd h
+within_apart one (Err faults.Sink) h le = absurd h
+within_apart one (Err faults.TooLong) h le = absurd h
+within_apart one (Err faults.Disk) h le = le
+within_apart one (Err (faults.Damaged file page)) h le = le
+within_apart one (Err faults.Shelf) h le = le
+within_apart one (Err faults.Unlawful) h le = le
+within_apart one (Err faults.OutOfMemory) h le = le
+
+-- ---- what the author of a stage owes that reads nothing
+
+-- the script and the count of the source are as they were
+pub reads_nothing : (h : ℕ) (before after : Outside) (failed : Type 0) → after.script ≡ before.script → after.given ≡ before.given → ReadsOn h h before after failed
+reads_nothing h before after failed same given = record {
+  line = λ script told. ([], [], script, same ∙ told, refl, omega arith, refl, omega arith);
+  broken = λ f script told. ([], script, same ∙ told, refl, refl);
+  given = (0, omega arith, inl (omega (arith, given)));
+}
+
+-- the script isn't too long
+pub within_nothing : {T : Type 0} (one : ℕ) (result : Result T WorkFault) → (IsErrOf result faults.TooLong → ⊥) → Within one one result
+within_nothing one (Ok x) h le = le
+within_nothing one (Err faults.TooLong) h le = absurd (h refl)
+within_nothing one (Err faults.Source) h le = le
+within_nothing one (Err faults.Sink) h le = le
+within_nothing one (Err faults.Disk) h le = le
+within_nothing one (Err (faults.Damaged file page)) h le = le
+within_nothing one (Err faults.Shelf) h le = le
+within_nothing one (Err faults.Unlawful) h le = le
+within_nothing one (Err faults.OutOfMemory) h le = le

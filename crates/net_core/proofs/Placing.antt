@@ -1,13 +1,14 @@
 -- A step of a stage between its pipes, as a step of the network.
-use Rattle.std.proofs.Common.{IfOk, OnErr, ◌≡◌, ◌+◌, ℕ, Bool, true, false, [], Result, refl, sym, ap, subst, arith}
-use Rattle.std.specs.declared.option.Option.{Option}
+use Rattle.std.proofs.Common.{IfOk, OnErr, IsErrOf, ◌≡◌, ◌+◌, ℕ, Bool, true, false, [], Result, refl, sym, ap, subst, arith}
 use Rattle.net_core.specs.declared.fault.WorkFault.{WorkFault}
+use Rattle.net_core.specs.declared.fault.WorkFault.TheVariants as faults
+use Rattle.net_core.specs.Reads.{Within}
 use Rattle.net_core.specs.declared.steps.Moved.{Moved}
 use Rattle.net_core.specs.Steps.{FitUnlessBlocked, Piped, PipedDone, PipedMayNot, PipedMoves, PipedStepsBy, StepDone, in_room}
 use Rattle.net_core.specs.Told.{FailedStep, Outside, told}
 use Rattle.net_core.specs.Wants.{was_blocked}
 use Rattle.net_core.specs.Whole.{MayNotStep, state_at}
-use Rattle.network_meaning.specs.Calls.{FitStep, Moves, Shape, join}
+use Rattle.network_meaning.specs.Calls.{FitStep, Moves, Shape, Told, join}
 use Rattle.network_meaning.specs.Language.{Language}
 use Rattle.network_meaning.specs.LocalSteps.{Act, Mode, Works, Room as NetworkRoom, Want.work}
 use Rattle.network_meaning.specs.MessageNetwork.{StageNumber, StageNumber.first, StageNumber.second, StageNumber.third, StageNumber.fourth}
@@ -16,7 +17,7 @@ use Rattle.network_meaning.specs.WorkShape.{WorksInShape}
 use Rattle.quel_network.specs.Quel.{quel}
 use Rattle.quel_network.specs.Sorts.{User, quel_sorts}
 use Rattle.net_core.proofs.AtPipes.{if_ok}
-use Rattle.net_core.proofs.Faulty.{caused_more, keeps_more}
+use Rattle.net_core.proofs.Faulty.{caused_more, reads_more}
 
 -- stage k between its pipes
 abbrev pub piped_of : Shape quel_sorts → StageNumber → Piped
@@ -59,15 +60,16 @@ step_as W L second false n s r r' st = (in_room s r', st, refl)
 step_as W L third false n s r r' st = (in_room s r', st, refl)
 step_as W L fourth false n s r r' st = (in_room s r', st, refl)
 
-moves_as : (L : Language quel_sorts) (capacity : ℕ) (k : StageNumber) (blocked : Bool) (n : Shape quel_sorts) (s : Piped) (o o' : Option (NetworkRoom quel_sorts)) → PipedMoves L (left_room capacity k) (right_room capacity k) blocked (piped_of n k) s o o' →
+moves_as : (L : Language quel_sorts) (capacity : ℕ) (k : StageNumber) (blocked : Bool) (n : Shape quel_sorts) (s : Piped) (o o' : Told quel_sorts) → PipedMoves L (left_room capacity k) (right_room capacity k) blocked (piped_of n k) s o o' →
     Moves L capacity k blocked (record { shape = n; told = o }) (record { shape = with_piped n k s; told = o' })
 moves_as L capacity k blocked n s o o' m = record {
   is = λ r. subst (λ (b : Between quel_sorts). is_blocked (left_room capacity k) (right_room capacity k) b (want b.stage) ≡ blocked) (between_is k n r) (m.is r);
   shape = λ r. step_as (WorksInShape L) L k blocked n s r r (m.shape r);
+  fit = λ r d s. fit_as L k blocked n r (subst (λ (b : Between quel_sorts). FitUnlessBlocked L b blocked) (between_is k n r) (m.fit r d s));
   exact = λ r t. let x = m.exact r t in record {
     room' = x.room';
     told = x.told;
-    fit = fit_as L k blocked n r (subst (λ (b : Between quel_sorts). FitUnlessBlocked L b blocked) (between_is k n r) x.fit);
+    wrote = x.wrote;
     step = step_as (Works L) L k blocked n s r x.room' x.step;
   };
 }
@@ -79,11 +81,11 @@ may_not_as L third n o h = h
 may_not_as L fourth n o h = h
 
 -- what stage k has done between its pipes, where nothing else of the network has changed, and these parts belong to the stage
-pub step_done : (capacity : ℕ) (k : StageNumber) (n n' : Shape quel_sorts) (s : Piped) (o o' : Outside) (h h' p p' whole whole' rest : ℕ) (serves serves' all all' : User → Type 0) (numbers numbers' : Type 0) (result : Result Moved WorkFault) →
+pub step_done : (capacity : ℕ) (k : StageNumber) (n n' : Shape quel_sorts) (s : Piped) (o o' : Outside) (h h' p p' whole whole' one one' rest : ℕ) (serves serves' all all' : User → Type 0) (numbers numbers' : Type 0) (result : Result Moved WorkFault) →
     PipedDone (left_room capacity k) (right_room capacity k) (piped_of n k) s o o' h h' p p' serves serves' result → n' ≡ with_piped n k s → whole ≡ h + rest → whole' ≡ h' + rest →
     ((user : User) → all user → serves user) → ((user : User) → serves' user → all user → all' user) → (p' ≡ p → numbers → numbers') →
-    StepDone capacity k n n' o o' whole whole' all all' numbers numbers' result
-step_done capacity k n n' s o o' h h' p p' whole whole' rest serves serves' all all' numbers numbers' result d new sum sum' part join number = record {
+    (numbers → (k ≡ first → ⊥) → p ≡ 1 → ⊥) → (numbers → Within one one' result) → StepDone capacity k n n' o o' whole whole' one one' all all' numbers numbers' result
+step_done capacity k n n' s o o' h h' p p' whole whole' one one' rest serves serves' all all' numbers numbers' result d new sum sum' part join number apart within = record {
   blocked = λ r. subst (λ (b : Between quel_sorts). IfOk result (λ moved. is_blocked (left_room capacity k) (right_room capacity k) b (want b.stage) ≡ was_blocked moved)) (between_is k n r) (d.blocked r);
   steps = λ user x. if_ok result _ _ (λ moved m. subst (λ (a : Shape quel_sorts). Moves (quel user) capacity k (was_blocked moved) (record { shape = n; told = told o }) (record { shape = a; told = told o' })) (sym new)
       (moves_as (quel user) capacity k (was_blocked moved) n s (told o) (told o') m)) (d.steps user (part user x));
@@ -92,7 +94,11 @@ step_done capacity k n n' s o o' h h' p p' whole whole' rest serves serves' all 
   untouched = λ no. d.untouched (λ e. no (subst (λ (a : LocalState quel_sorts). want a ≡ work) (state_is k n) e));
   cause = caused_more h whole rest o o' result sum d.cause;
   later = d.later;
-  script = keeps_more h h' whole whole' rest o o' sum sum' d.script;
+  counts = d.counts;
+  spares = d.spares;
+  reads = reads_more h h' whole whole' rest o o' (IsErrOf result faults.Source) sum sum' d.reads;
+  within = within;
+  ends = λ numbered not_first. let e = d.ends (apart numbered not_first) in record { same = e.same; unread = (let same = e.unread in omega (arith, same, sum, sum')); inside = e.inside };
   database = d.database;
   serve = λ user x. join user (d.serve user (part user x)) x;
   numbered = number d.placed;

@@ -1,14 +1,16 @@
 -- When a stage or the network may answer a fault.
 use Rattle.std.specs.Prelude.{◌≡◌, ◌⊎◌, ◌+◌, ◌<◌, ℕ, List, Some, None, Result, Ok, Err, ⊤, length}
+use Rattle.calculus.specs.Database.{Db}
 use Rattle.fault_io.specs.Causes.{Rose}
+use Rattle.fault_io.specs.Files.{Files}
 use Rattle.frame_codec.specs.declared.frame.Frame.{Frame}
 use Rattle.net_core.specs.declared.fault.WorkFault.{WorkFault}
 use Rattle.net_core.specs.declared.fault.WorkFault.TheVariants as faults
-use Rattle.net_core.specs.Told.{Outside, told}
+use Rattle.net_core.specs.Told.{Outside}
 use Rattle.network_meaning.specs.Calls.{Taken}
 use Rattle.network_meaning.specs.Language.{Language}
 use Rattle.network_meaning.specs.Lawful.{FitWork}
-use Rattle.network_meaning.specs.LocalSteps.{Mode, Room as NetworkRoom}
+use Rattle.network_meaning.specs.LocalSteps.{Mode}
 use Rattle.network_meaning.specs.Network.{LocalState}
 use Rattle.quel_network.specs.Sorts.{quel_sorts}
 
@@ -36,6 +38,6 @@ IsCaused heard before after (Err fault) = MayCome heard before after fault
 abbrev pub MayNotTake : Language quel_sorts → LocalState quel_sorts → Frame → Type 0
 MayNotTake L s frame = (after : LocalState quel_sorts) → Taken L s frame after → ⊥
 
--- what is worked on isn't fit, where the room is told
+-- what is worked on isn't fit, where the database and the files are told
 abbrev pub MayNotWork : Language quel_sorts → Mode quel_sorts → Outside → Type 0
-MayNotWork L mode before = (room : NetworkRoom quel_sorts) → told before ≡ Some room → FitWork L mode room.db → ⊥
+MayNotWork L mode before = (db : Db) (files : Files) → before.database ≡ Some db → before.files ≡ Some files → FitWork L mode db → ⊥

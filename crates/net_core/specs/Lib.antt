@@ -4,5 +4,7 @@ pub mod Faults
 pub mod Causes
 pub mod Whole
 pub mod Pipes
+pub mod Reads
+pub mod Spares
 pub mod Steps
 pub mod Crashes

@@ -1,19 +1,20 @@
 -- What a step did, of one stage between its pipes and of the network.
 use Rattle.std.specs.Prelude.{◌≡◌, ◌⊎◌, ℕ, Bool, true, false, List, Some, ⊤, Result, IfOk, OnOk, OnErr, IsErrOf}
-use Rattle.std.specs.declared.option.Option.{Option}
 use Rattle.frame_codec.specs.declared.frame.Frame.{Frame}
 use Rattle.net_core.specs.Causes.{IsCaused, MayNotTake, MayNotWork}
 use Rattle.net_core.specs.declared.fault.WorkFault.{WorkFault}
 use Rattle.net_core.specs.declared.fault.WorkFault.TheVariants as faults
 use Rattle.net_core.specs.declared.steps.Moved.{Moved}
-use Rattle.net_core.specs.Told.{FailedStep, KeepsDatabase, KeepsScript, Later, Outside, told}
+use Rattle.net_core.specs.Reads.{ReadsOn, Within}
+use Rattle.net_core.specs.Spares.{CountsOnly, LeavesEnds, Spares}
+use Rattle.net_core.specs.Told.{FailedStep, KeepsDatabase, Later, Outside, told}
 use Rattle.net_core.specs.Wants.{was_blocked}
 use Rattle.net_core.specs.Whole.{MayNotStep, seen, state_at}
-use Rattle.network_meaning.specs.Calls.{FitWant, Moves, Shape, join}
+use Rattle.network_meaning.specs.Calls.{FitWant, Moves, Shape, Tells, Told, Wrote, join}
 use Rattle.network_meaning.specs.Language.{Language}
 use Rattle.network_meaning.specs.Lawful.{comes}
 use Rattle.network_meaning.specs.LocalSteps.{Act, Mode, Works, Want.work, Room as NetworkRoom}
-use Rattle.network_meaning.specs.MessageNetwork.{StageNumber}
+use Rattle.network_meaning.specs.MessageNetwork.{StageNumber, StageNumber.first}
 use Rattle.network_meaning.specs.Network.{Between, LocalState, StepsBy, is_blocked, is_stuck, want}
 use Rattle.network_meaning.specs.WorkShape.{WorksInShape}
 use Rattle.quel_network.specs.Quel.{quel}
@@ -41,18 +42,19 @@ abbrev pub PipedStepsBy : (Mode quel_sorts → NetworkRoom quel_sorts → Act qu
 PipedStepsBy W L s s' true = s' ≡ s
 PipedStepsBy W L s s' false = StepsBy W L s (want s.stage) s'
 
--- a step was one of the network in this room, on what is fit, and the room is told again, as the step leaves it
-pub record PipedIn (L : Language quel_sorts) (blocked : Bool) (old new : Piped) (room : NetworkRoom quel_sorts) (after : Option (NetworkRoom quel_sorts)) : Type 0 where
+-- a step was one of the network in this room, and the room is told again, as the step leaves it
+pub record PipedIn (L : Language quel_sorts) (blocked : Bool) (old new : Piped) (room : NetworkRoom quel_sorts) (before after : Told quel_sorts) : Type 0 where
   pub room' : NetworkRoom quel_sorts
-  pub told : after ≡ Some room'
-  pub fit : FitUnlessBlocked L (in_room old room) blocked
+  pub told : Tells after room'
+  pub wrote : Wrote before after room room'
   pub step : PipedStepsBy (Works L) L (in_room old room) (in_room new room') blocked
 
--- a stage was blocked or not. Whatever the room is, it took, gave, or did work of its shape; and where the room is told, this was a step of the network there
-pub record PipedMoves (L : Language quel_sorts) (left right : ℕ) (blocked : Bool) (old new : Piped) (before after : Option (NetworkRoom quel_sorts)) : Type 0 where
+-- a stage was blocked or not. Whatever the room is, it took, gave, or did work of its shape; where the database and the files are told, what it worked on is fit; and where the room is told, this was a step of the network there
+pub record PipedMoves (L : Language quel_sorts) (left right : ℕ) (blocked : Bool) (old new : Piped) (before after : Told quel_sorts) : Type 0 where
   pub is : (room : NetworkRoom quel_sorts) → is_blocked left right (in_room old room) (want old.stage) ≡ blocked
   pub shape : (room : NetworkRoom quel_sorts) → PipedStepsBy (WorksInShape L) L (in_room old room) (in_room new room) blocked
-  pub exact : (room : NetworkRoom quel_sorts) → before ≡ Some room → PipedIn L blocked old new room after
+  pub fit : (room : NetworkRoom quel_sorts) → before.db ≡ Some room.db → before.shelf ≡ Some room.shelf → FitUnlessBlocked L (in_room old room) blocked
+  pub exact : (room : NetworkRoom quel_sorts) → Tells before room → PipedIn L blocked old new room before after
 
 -- a frame comes to a stage that it may not take, or it is to work on what isn't fit
 abbrev pub PipedMayNot : Language quel_sorts → Piped → Outside → Type 0
@@ -69,13 +71,17 @@ pub record PipedDone (left right : ℕ) (old new : Piped) (before after : Outsid
   pub untouched : (want old.stage ≡ work → ⊥) → after ≡ before
   pub cause : IsCaused heard before after result
   pub later : Later before after
-  pub script : KeepsScript heard heard' before after
+  pub counts : CountsOnly before after result
+  pub spares : Spares before after result
+  pub reads : ReadsOn heard heard' before after (IsErrOf result faults.Source)
+  pub within : Within heard heard' result
+  pub ends : (place ≡ 1 → ⊥) → LeavesEnds heard heard' before after result
   pub database : OnOk result (KeepsDatabase before after)
   pub serve : (user : User) → serves user → serves' user
   pub placed : place' ≡ place
 
--- what step k of the network has done, or why it failed
-pub record StepDone (capacity : ℕ) (k : StageNumber) (old new : Shape quel_sorts) (before after : Outside) (heard heard' : ℕ) (serves serves' : User → Type 0) (numbers numbers' : Type 0) (result : Result Moved WorkFault) : Type 0 where
+-- what step k of the network has done, or why it failed; of what was read, all stages and the first alone
+pub record StepDone (capacity : ℕ) (k : StageNumber) (old new : Shape quel_sorts) (before after : Outside) (heard heard' one one' : ℕ) (serves serves' : User → Type 0) (numbers numbers' : Type 0) (result : Result Moved WorkFault) : Type 0 where
   pub blocked : (r : NetworkRoom quel_sorts) → IfOk result (λ moved. is_stuck capacity k (join old r) ≡ was_blocked moved)
   pub steps : (user : User) → serves user → IfOk result (λ moved. Moves (quel user) capacity k (was_blocked moved) (seen old before) (seen new after))
   pub failed : (user : User) → serves user → OnErr result (FailedStep (quel user) (state_at old k) before after)
@@ -83,7 +89,11 @@ pub record StepDone (capacity : ℕ) (k : StageNumber) (old new : Shape quel_sor
   pub untouched : (want (state_at old k) ≡ work → ⊥) → after ≡ before
   pub cause : IsCaused heard before after result
   pub later : Later before after
-  pub script : KeepsScript heard heard' before after
+  pub counts : CountsOnly before after result
+  pub spares : Spares before after result
+  pub reads : ReadsOn heard heard' before after (IsErrOf result faults.Source)
+  pub within : numbers → Within one one' result
+  pub ends : numbers → (k ≡ first → ⊥) → LeavesEnds heard heard' before after result
   pub database : OnOk result (KeepsDatabase before after)
   pub serve : (user : User) → serves user → serves' user
   pub numbered : numbers → numbers'

@@ -1,9 +1,11 @@
 -- What a room tells, and what failing work leaves of it.
-use Rattle.std.specs.Prelude.{◌≡◌, ◌⊎◌, ◌++◌, ◌+◌, ◌≤◌, ℕ, List, Some, None, length}
+use Rattle.std.specs.Prelude.{◌≡◌, ◌⊎◌, ◌++◌, ◌+◌, ◌≤◌, ℕ, List, Some, length}
 use Rattle.std.specs.declared.option.Option.{Option}
+use Rattle.std.specs.Io.KnownBytes.{Appends}
 use Rattle.calculus.specs.Database.{Db}
-use Rattle.fault_io.specs.Files.{Files}
-use Rattle.fault_io.specs.Shelves.{KeepsOthers}
+use Rattle.fault_io.specs.Files.{Files, stored}
+use Rattle.fault_io.specs.Shelves.{MayHaveStored}
+use Rattle.network_meaning.specs.Calls.{Tells, Told}
 use Rattle.network_meaning.specs.Failing.{Begins, work_bytes}
 use Rattle.network_meaning.specs.Language.{Language}
 use Rattle.network_meaning.specs.LocalSteps.{Act, Mode, Works, Want.work, Room as NetworkRoom}
@@ -11,7 +13,7 @@ use Rattle.network_meaning.specs.Network.{LocalState, want}
 use Rattle.net_core.specs.declared.room.Room.{Room}
 use Rattle.quel_network.specs.Sorts.{quel_sorts}
 
--- the outside as a room has it: the database, the files, what is left of the script and what was written, where they are told; how often calls of each failed, how often the sink took nothing, and the clock and the count of reads of the disk below the database
+-- the outside as a room has it: the database, the files, what is left of the script and what was written, where they are told; how often calls of each failed, how often the sink took nothing, and how many bytes the source gave; and the clock and the count of reads of the disk below the database
 pub record Outside : Type 0 where
   pub database : Option Db
   pub base_faults : ℕ
@@ -20,14 +22,15 @@ pub record Outside : Type 0 where
   pub files : Option Files
   pub shelf_faults : ℕ
   pub script : Option (List ℕ)
+  pub given : ℕ
   pub source_faults : ℕ
   pub output : Option (List ℕ)
   pub sink_faults : ℕ
   pub sink_stalls : ℕ
 
 -- the outside of a room, by what its parts tell
-abbrev pub outside : {B H S K : Type 0} → (B → Option Db) → (B → ℕ) → (B → ℕ) → (B → ℕ) → (H → Option Files) → (H → ℕ) → (S → Option (List ℕ)) → (S → ℕ) → (K → Option (List ℕ)) → (K → ℕ) → (K → ℕ) → Room B H S K → Outside
-outside database base_faults clock reads files shelf_faults left source_faults written sink_faults stalls room = record {
+abbrev pub outside : {B H S K : Type 0} → (B → Option Db) → (B → ℕ) → (B → ℕ) → (B → ℕ) → (H → Option Files) → (H → ℕ) → (S → Option (List ℕ)) → (S → ℕ) → (S → ℕ) → (K → Option (List ℕ)) → (K → ℕ) → (K → ℕ) → Room B H S K → Outside
+outside database base_faults clock reads files shelf_faults left given source_faults written sink_faults stalls room = record {
   database = database room.base;
   base_faults = base_faults room.base;
   clock = clock room.base;
@@ -35,35 +38,40 @@ outside database base_faults clock reads files shelf_faults left source_faults w
   files = files room.shelf;
   shelf_faults = shelf_faults room.shelf;
   script = left room.source;
+  given = given room.source;
   source_faults = source_faults room.source;
   output = written room.sink;
   sink_faults = sink_faults room.sink;
   sink_stalls = stalls room.sink;
 }
 
--- the room as the network has it, where all four are told
-abbrev pub told_by : Option Db → Option Files → Option (List ℕ) → Option (List ℕ) → Option (NetworkRoom quel_sorts)
-told_by (Some db) (Some shelf) (Some script) (Some out) = Some (record { db = db; shelf = shelf; script = script; out = out })
-told_by _ _ _ _ = None
-
--- the room that the outside tells
-abbrev pub told : Outside → Option (NetworkRoom quel_sorts)
-told o = told_by o.database o.files o.script o.output
+-- what is known of the room, as the network has it
+abbrev pub told : Outside → Told quel_sorts
+told o = record { db = o.database; shelf = o.files; script = o.script; out = o.output }
 
 -- the database is the one before a piece of work, or the one that this work leaves
 abbrev pub IsBeforeOrAfter : Language quel_sorts → Mode quel_sorts → NetworkRoom quel_sorts → Db → Type 0
 IsBeforeOrAfter L mode room db = (db ≡ room.db) ⊎ ((act : Act quel_sorts) × (room' : NetworkRoom quel_sorts) × Works L mode room act room' × (db ≡ room'.db))
 
--- what work leaves of a room that came to no end: a front of what this work writes was written, every file but one is as it was, and a database that is told is the one before or the one that the work leaves
-abbrev pub LeavesPart : Language quel_sorts → Mode quel_sorts → NetworkRoom quel_sorts → Outside → Type 0
-LeavesPart L mode room after =
-    (front : List ℕ) × Begins front (work_bytes L mode room) × (after.output ≡ Some (room.out ++ front))
-    × ((name : List ℕ) × KeepsOthers name room.shelf after.files)
-    × ((db : Db) → after.database ≡ Some db → IsBeforeOrAfter L mode room db)
+-- this work stores these bytes as the file of this name
+abbrev pub StoresFile : Language quel_sorts → Mode quel_sorts → NetworkRoom quel_sorts → List ℕ → List ℕ → Type 0
+StoresFile L mode room name bytes = (act : Act quel_sorts) × (room' : NetworkRoom quel_sorts) × Works L mode room act room' × (room'.shelf ≡ stored room.shelf name bytes)
+
+-- the files are told again: as they were, or the work stores a file, and this one alone may have been stored
+abbrev pub LeavesFiles : Language quel_sorts → Mode quel_sorts → NetworkRoom quel_sorts → Option Files → Type 0
+LeavesFiles L mode room files = (files ≡ Some room.shelf) ⊎ ((name : List ℕ) × (bytes : List ℕ) × StoresFile L mode room name bytes × MayHaveStored name bytes room.shelf files)
+
+-- what work leaves of a room that came to no end, where this was written before: a front of what this work writes was written, no file differs but the one that the work stores, and a database that is told is the one before or the one that the work leaves
+pub record LeavesPart (L : Language quel_sorts) (mode : Mode quel_sorts) (room : NetworkRoom quel_sorts) (written : Option (List ℕ)) (after : Outside) : Type 0 where
+  pub front : List ℕ
+  pub begins : Begins front (work_bytes L mode room)
+  pub wrote : Appends written after.output front
+  pub files : LeavesFiles L mode room after.files
+  pub database : (db : Db) → after.database ≡ Some db → IsBeforeOrAfter L mode room db
 
 -- work that failed in a room that is told has left a part of what it does
 abbrev pub FailedWork : Language quel_sorts → Mode quel_sorts → Outside → Outside → Type 0
-FailedWork L mode before after = (room : NetworkRoom quel_sorts) → told before ≡ Some room → LeavesPart L mode room after
+FailedWork L mode before after = (room : NetworkRoom quel_sorts) → Tells (told before) room → LeavesPart L mode room before.output after
 
 -- a stage that failed has worked and left a part of what it does, or all outside it is as it was
 abbrev pub FailedStep : Language quel_sorts → LocalState quel_sorts → Outside → Outside → Type 0
@@ -73,9 +81,9 @@ FailedStep L s before after = ((want s ≡ work) × FailedWork L s.mode before a
 abbrev pub KeepsDatabase : Outside → Outside → Type 0
 KeepsDatabase before after = (db : Db) → before.database ≡ Some db → (later : Db) × (after.database ≡ Some later)
 
--- a script that is told is told again, and what was read of it is what it has lost
+-- a script that is told is told again, and what was read of it is the bytes that it has lost
 abbrev pub KeepsScript : ℕ → ℕ → Outside → Outside → Type 0
-KeepsScript heard heard' before after = (script : List ℕ) → before.script ≡ Some script → (rest : List ℕ) × (after.script ≡ Some rest) × (heard' + length rest ≡ heard + length script)
+KeepsScript heard heard' before after = (script : List ℕ) → before.script ≡ Some script → (bytes : List ℕ) × (rest : List ℕ) × (after.script ≡ Some rest) × (script ≡ bytes ++ rest) × (heard' ≡ heard + length bytes)
 
 -- no count of faults falls
 pub record Later (before after : Outside) : Type 0 where

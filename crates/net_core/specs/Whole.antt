@@ -1,11 +1,16 @@
 -- The network of the program, as the network of the definitions.
 use Rattle.std.specs.Prelude.{◌≡◌, ◌⊎◌, ◌+◌, ◌++◌, [], ◌∷◌, ℕ, List, Some}
+use Rattle.std.specs.Io.KnownBytes.{Appends}
 use Rattle.frame_codec.specs.declared.frame.Frame.{Frame}
 use Rattle.net_core.specs.Causes.{MayNotTake, MayNotWork}
+use Rattle.net_core.specs.declared.fault.WorkFault.{WorkFault}
+use Rattle.net_core.specs.declared.fault.WorkFault.TheVariants as faults
 use Rattle.net_core.specs.declared.net.Net.{Net}
+use Rattle.net_core.specs.Reads.{ReadsOn}
+use Rattle.net_core.specs.Spares.{CountsOnlyBy, IsNoFaultOfEnds, SparesBy, ends}
 use Rattle.net_core.specs.Told.{FailedStep, Outside, told}
 use Rattle.net_core.specs.Wants.{HasEnded}
-use Rattle.network_meaning.specs.Calls.{join, RunsTurns, Seen, Shape, stage_number}
+use Rattle.network_meaning.specs.Calls.{join, RunsTurns, Seen, Shape, Tells, stage_number}
 use Rattle.network_meaning.specs.Failing.{Begins}
 use Rattle.network_meaning.specs.Language.{Language}
 use Rattle.network_meaning.specs.Lawful.{comes}
@@ -26,7 +31,7 @@ start_shape = record { one = quiet_at (reading first_monitor); two = quiet_at (i
 abbrev pub HaveEnded : Shape quel_sorts → Type 0
 HaveEnded s = HasEnded s.one × HasEnded s.two × HasEnded s.three × HasEnded s.four
 
--- the stages and the pipes, and the room where it is told
+-- the stages and the pipes, and what is known of the room
 abbrev pub seen : Shape quel_sorts → Outside → Seen quel_sorts
 seen s o = record { shape = s; told = told o }
 
@@ -44,6 +49,10 @@ pub record AreNumbered {A1 A2 A3 A4 : Type 0} (one : A1 → ℕ) (two : A2 → �
   pub third : three n.three ≡ 3
   pub fourth : four n.four ≡ 4
 
+-- the numbers of the stages, in their order
+abbrev pub numbers_by : {A1 A2 A3 A4 : Type 0} → (A1 → ℕ) → (A2 → ℕ) → (A3 → ℕ) → (A4 → ℕ) → Net A1 A2 A3 A4 → List ℕ
+numbers_by one two three four n = one n.one ∷ two n.two ∷ three n.three ∷ four n.four ∷ []
+
 -- how many bytes of the script the stages have read
 abbrev pub heard_by : {A1 A2 A3 A4 : Type 0} → (A1 → ℕ) → (A2 → ℕ) → (A3 → ℕ) → (A4 → ℕ) → Net A1 A2 A3 A4 → ℕ
 heard_by one two three four n = one n.one + (two n.two + (three n.three + four n.four))
@@ -55,13 +64,13 @@ state_at s second = s.two
 state_at s third = s.three
 state_at s fourth = s.four
 
--- from each orderly network whose room is told, what is written is a front of the bytes in all
+-- from each orderly network whose room is told, what is written, behind what its room has, is a front of the bytes in all
 abbrev pub WroteFront : Language quel_sorts → Seen quel_sorts → Outside → Type 0
-WroteFront L old after = (r : NetworkRoom quel_sorts) → old.told ≡ Some r → Orderly L (join old.shape r) → (out : List ℕ) × (after.output ≡ Some out) × Begins out (bytes_in_all L (join old.shape r))
+WroteFront L old after = (r : NetworkRoom quel_sorts) → Tells old.told r → Orderly L (join old.shape r) → (bytes : List ℕ) × Appends old.told.out after.output bytes × Begins (r.out ++ bytes) (bytes_in_all L (join old.shape r))
 
--- no network of this shape is orderly in the room that is told
+-- no network of this shape is orderly in a room whose database and files are those that are told
 abbrev pub IsDisorderly : Language quel_sorts → Seen quel_sorts → Type 0
-IsDisorderly L s = (r : NetworkRoom quel_sorts) → s.told ≡ Some r → Orderly L (join s.shape r) → ⊥
+IsDisorderly L s = (r : NetworkRoom quel_sorts) → Tells s.told r → Orderly L (join s.shape r) → ⊥
 
 -- a frame comes to stage k that it may not take, or it is to work on what isn't fit
 abbrev pub MayNotStep : Language quel_sorts → StageNumber → Shape quel_sorts → Outside → Type 0
@@ -69,8 +78,8 @@ MayNotStep L k s o =
     ((frame : Frame) × ((r : NetworkRoom quel_sorts) → comes (between (join s r) k) ≡ Some frame) × MayNotTake L (state_at s k) frame)
     ⊎ ((want (state_at s k) ≡ work) × MayNotWork L (state_at s k).mode o)
 
--- the steps of a list were made up to one that failed, in front of which the network and all outside it were so; it has left a part of what its stage does, or nothing
-pub record StopsAt (L : Language quel_sorts) (capacity : ℕ) (turns : List ℕ) (old : Seen quel_sorts) (after : Outside) : Type 0 where
+-- the steps of a list were made up to one that failed by this fault, in front of which the network and all outside it were so, and so many bytes were read; the stages have these numbers; it has left a part of what its stage does, or nothing
+pub record StopsAt (L : Language quel_sorts) (capacity : ℕ) (turns numbers : List ℕ) (heard : ℕ) (old : Seen quel_sorts) (after : Outside) (fault : WorkFault) : Type 0 where
   pub made : List ℕ
   pub failed : ℕ
   pub later : List ℕ
@@ -81,3 +90,8 @@ pub record StopsAt (L : Language quel_sorts) (capacity : ℕ) (turns : List ℕ)
   pub runs : RunsTurns L capacity made old before
   pub part : FailedStep L (state_at before.shape (stage_number failed)) outside after
   pub wrote : WroteFront L before after
+  pub read : ℕ
+  pub reads : ReadsOn read heard outside after (fault ≡ faults.Source)
+  pub counts : CountsOnlyBy outside after fault
+  pub spares : SparesBy outside after fault
+  pub apart : numbers ≡ 1 ∷ 2 ∷ 3 ∷ 4 ∷ [] → (stage_number failed ≡ first → ⊥) → (ends after ≡ ends outside) × (heard ≡ read) × IsNoFaultOfEnds fault

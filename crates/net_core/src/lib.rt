@@ -14,4 +14,4 @@ pub use net::{Net, net_ended};
 pub use room::Room;
 pub use stage::{Stage, Want};
 pub use steps::{Moved, net_step};
-pub use turns::net_turns;
+pub use turns::{a_run_stops_behind_another, net_turns};

@@ -5,8 +5,10 @@ ghost use Rattle.frame_codec.specs.Frames.{is_lawful};
 ghost use Rattle.network_meaning.specs.Calls.{Given, Taken, WorkDone};
 ghost use Rattle.network_meaning.specs.Network.{LocalState, want};
 ghost use Rattle.net_core.specs.Causes.{IsCaused, MayNotTake, MayNotWork};
-ghost use Rattle.net_core.specs.Crashes.{QuietWithout, StaysDurable, WorkLeaves};
-ghost use Rattle.net_core.specs.Told.{FailedWork, KeepsDatabase, KeepsScript, Later, outside, told};
+ghost use Rattle.net_core.specs.Crashes.{HandsOver, QuietWithout, StaysDurable, WorkLeaves};
+ghost use Rattle.net_core.specs.Reads.{ReadsOn, Within};
+ghost use Rattle.net_core.specs.Spares.{CountsOnly, LeavesEnds, Spares};
+ghost use Rattle.net_core.specs.Told.{FailedWork, KeepsDatabase, Later, outside, told};
 ghost use Rattle.net_core.specs.Wants.{IsToGive, IsToTake, IsToWork, wish};
 ghost use Rattle.quel_network.specs.Quel.{quel};
 ghost use Rattle.quel_network.specs.Sorts.{User, quel_sorts};
@@ -62,7 +64,7 @@ pub trait Stage {
         ensures { wish result ≡ want (state self.now) };
 
     /// Takes a frame from the side from which it wants one. A frame that may not come is refused as
-    /// unlawful. After an error it is as it was.
+    /// unlawful, by its kind, its length or its message. After an error it is as it was.
     fn take(&mut self, alloc: Global, frame: Frame) -> Result<(), TakeFault>
         requires { IsToTake (state self.old) }
         ensures taken { (user : User) → serves self.old user → OnOk result (Taken (quel user) (state self.old) frame (state self.new)) }
@@ -85,8 +87,9 @@ pub trait Stage {
 
     /// Works on the room. Whatever the room tells, what it goes to and what it gives has the shape of such
     /// a piece of work. Where the room is told, this is the network's work, and what it leaves is what that
-    /// leaves; after an error a front of what this work writes was written. A tree or a change that isn't
-    /// fit for the present database is refused as unlawful.
+    /// leaves; after an error a front of what this work writes was written, no file differs but the one
+    /// that it stores, and the database is that of before or of after. What was written needn't be known.
+    /// A tree or a change that isn't fit for the present database is refused as unlawful.
     fn work<B: Base, H: Shelf, S: Source, K: Sink>(
         &mut self,
         alloc: Global,
@@ -94,37 +97,54 @@ pub trait Stage {
     ) -> Result<(), WorkFault>
         requires { IsToWork (state self.old) }
         ensures works { (user : User) → serves self.old user → OnOk result (WorkDone (quel user) (state self.old) (state self.new)
-            (told (outside B.database B.faults B.clock B.reads H.files H.faults S.left S.faults K.written K.faults K.stalls room.old))
-            (told (outside B.database B.faults B.clock B.reads H.files H.faults S.left S.faults K.written K.faults K.stalls room.new))) }
+            (told (outside B.database B.faults B.clock B.reads H.files H.faults S.left S.given S.faults K.written K.faults K.stalls room.old))
+            (told (outside B.database B.faults B.clock B.reads H.files H.faults S.left S.given S.faults K.written K.faults K.stalls room.new))) }
         ensures failed { (user : User) → serves self.old user → OnErr result (FailedWork (quel user) (state self.old).mode
-            (outside B.database B.faults B.clock B.reads H.files H.faults S.left S.faults K.written K.faults K.stalls room.old)
-            (outside B.database B.faults B.clock B.reads H.files H.faults S.left S.faults K.written K.faults K.stalls room.new)) }
+            (outside B.database B.faults B.clock B.reads H.files H.faults S.left S.given S.faults K.written K.faults K.stalls room.old)
+            (outside B.database B.faults B.clock B.reads H.files H.faults S.left S.given S.faults K.written K.faults K.stalls room.new)) }
         ensures unlawful { (user : User) → serves self.old user → IsErrOf result WorkFault.Unlawful → MayNotWork (quel user) (state self.old).mode
-            (outside B.database B.faults B.clock B.reads H.files H.faults S.left S.faults K.written K.faults K.stalls room.old) }
+            (outside B.database B.faults B.clock B.reads H.files H.faults S.left S.given S.faults K.written K.faults K.stalls room.old) }
         ensures database { OnOk result (KeepsDatabase
-            (outside B.database B.faults B.clock B.reads H.files H.faults S.left S.faults K.written K.faults K.stalls room.old)
-            (outside B.database B.faults B.clock B.reads H.files H.faults S.left S.faults K.written K.faults K.stalls room.new)) }
+            (outside B.database B.faults B.clock B.reads H.files H.faults S.left S.given S.faults K.written K.faults K.stalls room.old)
+            (outside B.database B.faults B.clock B.reads H.files H.faults S.left S.given S.faults K.written K.faults K.stalls room.new)) }
         ensures later { Later
-            (outside B.database B.faults B.clock B.reads H.files H.faults S.left S.faults K.written K.faults K.stalls room.old)
-            (outside B.database B.faults B.clock B.reads H.files H.faults S.left S.faults K.written K.faults K.stalls room.new) }
+            (outside B.database B.faults B.clock B.reads H.files H.faults S.left S.given S.faults K.written K.faults K.stalls room.old)
+            (outside B.database B.faults B.clock B.reads H.files H.faults S.left S.given S.faults K.written K.faults K.stalls room.new) }
         ensures cause { IsCaused (heard self.old)
-            (outside B.database B.faults B.clock B.reads H.files H.faults S.left S.faults K.written K.faults K.stalls room.old)
-            (outside B.database B.faults B.clock B.reads H.files H.faults S.left S.faults K.written K.faults K.stalls room.new) result }
-        ensures heard { KeepsScript (heard self.old) (heard self.new)
-            (outside B.database B.faults B.clock B.reads H.files H.faults S.left S.faults K.written K.faults K.stalls room.old)
-            (outside B.database B.faults B.clock B.reads H.files H.faults S.left S.faults K.written K.faults K.stalls room.new) }
+            (outside B.database B.faults B.clock B.reads H.files H.faults S.left S.given S.faults K.written K.faults K.stalls room.old)
+            (outside B.database B.faults B.clock B.reads H.files H.faults S.left S.given S.faults K.written K.faults K.stalls room.new) result }
+        // With an answer no count of the shelf, the source or the sink rose, and with a fault only its own.
+        ensures counts { CountsOnly
+            (outside B.database B.faults B.clock B.reads H.files H.faults S.left S.given S.faults K.written K.faults K.stalls room.old)
+            (outside B.database B.faults B.clock B.reads H.files H.faults S.left S.given S.faults K.written K.faults K.stalls room.new) result }
+        // Where reading failed nothing was written or stored.
+        ensures spares { Spares
+            (outside B.database B.faults B.clock B.reads H.files H.faults S.left S.given S.faults K.written K.faults K.stalls room.old)
+            (outside B.database B.faults B.clock B.reads H.files H.faults S.left S.given S.faults K.written K.faults K.stalls room.new) result }
+        // At most one line of the script was read.
+        ensures reads { ReadsOn (heard self.old) (heard self.new)
+            (outside B.database B.faults B.clock B.reads H.files H.faults S.left S.given S.faults K.written K.faults K.stalls room.old)
+            (outside B.database B.faults B.clock B.reads H.files H.faults S.left S.given S.faults K.written K.faults K.stalls room.new) (IsErrOf result WorkFault.Source) }
+        // The script is too long exactly where more of it was read than a script may have.
+        ensures within { Within (heard self.old) (heard self.new) result }
+        // Only the first stage reads the source and writes to the sink.
+        ensures ends { (place self.old ≡ 1 → ⊥) → LeavesEnds (heard self.old) (heard self.new)
+            (outside B.database B.faults B.clock B.reads H.files H.faults S.left S.given S.faults K.written K.faults K.stalls room.old)
+            (outside B.database B.faults B.clock B.reads H.files H.faults S.left S.given S.faults K.written K.faults K.stalls room.new) result }
+        // Where it gives the turn away it has handed the base over, and asked nothing of it since.
+        ensures handed { OnOk result (HandsOver (state self.old) (state self.new) (B.schema room.new.base) (B.database room.new.base)) }
         // A crash leaves what it might leave before, or the database that this work leaves.
         ensures crash { (user : User) → serves self.old user → WorkLeaves (quel user) (state self.old).mode
-            (outside B.database B.faults B.clock B.reads H.files H.faults S.left S.faults K.written K.faults K.stalls room.old)
-            (outside B.database B.faults B.clock B.reads H.files H.faults S.left S.faults K.written K.faults K.stalls room.new) (B.left_since room.old.base) (B.left_since room.new.base) }
+            (outside B.database B.faults B.clock B.reads H.files H.faults S.left S.given S.faults K.written K.faults K.stalls room.old)
+            (outside B.database B.faults B.clock B.reads H.files H.faults S.left S.given S.faults K.written K.faults K.stalls room.new) (B.left_since room.old.base) (B.left_since room.new.base) }
         // Where each image stood for the database, each one stands for that of after, once this work is done.
         ensures durable { OnOk result (StaysDurable
-            (outside B.database B.faults B.clock B.reads H.files H.faults S.left S.faults K.written K.faults K.stalls room.old)
-            (outside B.database B.faults B.clock B.reads H.files H.faults S.left S.faults K.written K.faults K.stalls room.new) (B.left_since room.old.base) (B.left_since room.new.base)) }
+            (outside B.database B.faults B.clock B.reads H.files H.faults S.left S.given S.faults K.written K.faults K.stalls room.old)
+            (outside B.database B.faults B.clock B.reads H.files H.faults S.left S.given S.faults K.written K.faults K.stalls room.new) (B.left_since room.old.base) (B.left_since room.new.base)) }
         // Without the turn the disk is neither read nor written.
         ensures quiet { QuietWithout (state self.old)
-            (outside B.database B.faults B.clock B.reads H.files H.faults S.left S.faults K.written K.faults K.stalls room.old)
-            (outside B.database B.faults B.clock B.reads H.files H.faults S.left S.faults K.written K.faults K.stalls room.new) }
+            (outside B.database B.faults B.clock B.reads H.files H.faults S.left S.given S.faults K.written K.faults K.stalls room.old)
+            (outside B.database B.faults B.clock B.reads H.files H.faults S.left S.given S.faults K.written K.faults K.stalls room.new) }
         ensures serves { (user : User) → serves self.old user → serves self.new user }
         ensures place { place self.new ≡ place self.old };
 }

@@ -7,9 +7,11 @@ ghost use Rattle.network_meaning.specs.MessageNetwork.{StageNumber.first, StageN
 ghost use Rattle.network_meaning.specs.Network.{is_stuck, want};
 ghost use Rattle.network_meaning.specs.Statements.{FinishesInOrder};
 ghost use Rattle.net_core.specs.Causes.{IsCaused};
-ghost use Rattle.net_core.specs.Crashes.{QuietWithout, StaysDurable, StepCrash, StepLeaves};
+ghost use Rattle.net_core.specs.Crashes.{HandsOver, QuietWithout, StaysDurable, StepCrash, StepLeaves};
+ghost use Rattle.net_core.specs.Reads.{ReadsOn, Within};
+ghost use Rattle.net_core.specs.Spares.{CountsOnly, LeavesEnds, Spares};
 ghost use Rattle.net_core.specs.Steps.{StepDone};
-ghost use Rattle.net_core.specs.Told.{FailedStep, KeepsDatabase, KeepsScript, Later, outside};
+ghost use Rattle.net_core.specs.Told.{FailedStep, KeepsDatabase, Later, outside};
 ghost use Rattle.net_core.specs.Wants.{was_blocked};
 ghost use Rattle.net_core.specs.Whole.{AllServe, AreNumbered, IsDisorderly, MayNotStep, WroteFront, heard_by, seen, shape, state_at};
 ghost use Rattle.quel_network.specs.Quel.{quel};
@@ -52,53 +54,69 @@ pub fn net_step<A1: Stage, A2: Stage, A3: Stage, A4: Stage, B: Base, H: Shelf, S
     requires high { k ≤ 4 }
     ensures blocked { (r : NetworkRoom quel_sorts) → IfOk result (λ moved. is_stuck net.old.capacity (stage_number k) (join (shape A1.state A2.state A3.state A4.state net.old) r) ≡ was_blocked moved) }
     ensures steps { (user : User) → AllServe A1.serves A2.serves A3.serves A4.serves net.old user → IfOk result (λ moved. Moves (quel user) net.old.capacity (stage_number k) (was_blocked moved)
-        (seen (shape A1.state A2.state A3.state A4.state net.old) (outside B.database B.faults B.clock B.reads H.files H.faults S.left S.faults K.written K.faults K.stalls room.old))
-        (seen (shape A1.state A2.state A3.state A4.state net.new) (outside B.database B.faults B.clock B.reads H.files H.faults S.left S.faults K.written K.faults K.stalls room.new))) }
+        (seen (shape A1.state A2.state A3.state A4.state net.old) (outside B.database B.faults B.clock B.reads H.files H.faults S.left S.given S.faults K.written K.faults K.stalls room.old))
+        (seen (shape A1.state A2.state A3.state A4.state net.new) (outside B.database B.faults B.clock B.reads H.files H.faults S.left S.given S.faults K.written K.faults K.stalls room.new))) }
     ensures failed { (user : User) → AllServe A1.serves A2.serves A3.serves A4.serves net.old user → OnErr result (WroteFront (quel user)
-        (seen (shape A1.state A2.state A3.state A4.state net.old) (outside B.database B.faults B.clock B.reads H.files H.faults S.left S.faults K.written K.faults K.stalls room.old))
-        (outside B.database B.faults B.clock B.reads H.files H.faults S.left S.faults K.written K.faults K.stalls room.new)) }
+        (seen (shape A1.state A2.state A3.state A4.state net.old) (outside B.database B.faults B.clock B.reads H.files H.faults S.left S.given S.faults K.written K.faults K.stalls room.old))
+        (outside B.database B.faults B.clock B.reads H.files H.faults S.left S.given S.faults K.written K.faults K.stalls room.new)) }
     ensures part { (user : User) → AllServe A1.serves A2.serves A3.serves A4.serves net.old user → OnErr result (FailedStep (quel user) (state_at (shape A1.state A2.state A3.state A4.state net.old) (stage_number k))
-        (outside B.database B.faults B.clock B.reads H.files H.faults S.left S.faults K.written K.faults K.stalls room.old)
-        (outside B.database B.faults B.clock B.reads H.files H.faults S.left S.faults K.written K.faults K.stalls room.new)) }
+        (outside B.database B.faults B.clock B.reads H.files H.faults S.left S.given S.faults K.written K.faults K.stalls room.old)
+        (outside B.database B.faults B.clock B.reads H.files H.faults S.left S.given S.faults K.written K.faults K.stalls room.new)) }
     ensures unlawful { (user : User) → AllServe A1.serves A2.serves A3.serves A4.serves net.old user → IsErrOf result WorkFault.Unlawful → MayNotStep (quel user) (stage_number k) (shape A1.state A2.state A3.state A4.state net.old)
-        (outside B.database B.faults B.clock B.reads H.files H.faults S.left S.faults K.written K.faults K.stalls room.old) }
+        (outside B.database B.faults B.clock B.reads H.files H.faults S.left S.given S.faults K.written K.faults K.stalls room.old) }
     ensures untouched { (want (state_at (shape A1.state A2.state A3.state A4.state net.old) (stage_number k)) ≡ work → ⊥) →
-        outside B.database B.faults B.clock B.reads H.files H.faults S.left S.faults K.written K.faults K.stalls room.new ≡ outside B.database B.faults B.clock B.reads H.files H.faults S.left S.faults K.written K.faults K.stalls room.old }
+        outside B.database B.faults B.clock B.reads H.files H.faults S.left S.given S.faults K.written K.faults K.stalls room.new ≡ outside B.database B.faults B.clock B.reads H.files H.faults S.left S.given S.faults K.written K.faults K.stalls room.old }
     ensures cause { IsCaused (heard_by A1.heard A2.heard A3.heard A4.heard net.old)
-        (outside B.database B.faults B.clock B.reads H.files H.faults S.left S.faults K.written K.faults K.stalls room.old)
-        (outside B.database B.faults B.clock B.reads H.files H.faults S.left S.faults K.written K.faults K.stalls room.new) result }
+        (outside B.database B.faults B.clock B.reads H.files H.faults S.left S.given S.faults K.written K.faults K.stalls room.old)
+        (outside B.database B.faults B.clock B.reads H.files H.faults S.left S.given S.faults K.written K.faults K.stalls room.new) result }
     ensures database { OnOk result (KeepsDatabase
-        (outside B.database B.faults B.clock B.reads H.files H.faults S.left S.faults K.written K.faults K.stalls room.old)
-        (outside B.database B.faults B.clock B.reads H.files H.faults S.left S.faults K.written K.faults K.stalls room.new)) }
+        (outside B.database B.faults B.clock B.reads H.files H.faults S.left S.given S.faults K.written K.faults K.stalls room.old)
+        (outside B.database B.faults B.clock B.reads H.files H.faults S.left S.given S.faults K.written K.faults K.stalls room.new)) }
     ensures later { Later
-        (outside B.database B.faults B.clock B.reads H.files H.faults S.left S.faults K.written K.faults K.stalls room.old)
-        (outside B.database B.faults B.clock B.reads H.files H.faults S.left S.faults K.written K.faults K.stalls room.new) }
-    ensures heard { KeepsScript (heard_by A1.heard A2.heard A3.heard A4.heard net.old) (heard_by A1.heard A2.heard A3.heard A4.heard net.new)
-        (outside B.database B.faults B.clock B.reads H.files H.faults S.left S.faults K.written K.faults K.stalls room.old)
-        (outside B.database B.faults B.clock B.reads H.files H.faults S.left S.faults K.written K.faults K.stalls room.new) }
+        (outside B.database B.faults B.clock B.reads H.files H.faults S.left S.given S.faults K.written K.faults K.stalls room.old)
+        (outside B.database B.faults B.clock B.reads H.files H.faults S.left S.given S.faults K.written K.faults K.stalls room.new) }
+    ensures counts { CountsOnly
+        (outside B.database B.faults B.clock B.reads H.files H.faults S.left S.given S.faults K.written K.faults K.stalls room.old)
+        (outside B.database B.faults B.clock B.reads H.files H.faults S.left S.given S.faults K.written K.faults K.stalls room.new) result }
+    // Where reading failed nothing was written or stored.
+    ensures spares { Spares
+        (outside B.database B.faults B.clock B.reads H.files H.faults S.left S.given S.faults K.written K.faults K.stalls room.old)
+        (outside B.database B.faults B.clock B.reads H.files H.faults S.left S.given S.faults K.written K.faults K.stalls room.new) result }
+    // At most one line of the script was read.
+    ensures reads { ReadsOn (heard_by A1.heard A2.heard A3.heard A4.heard net.old) (heard_by A1.heard A2.heard A3.heard A4.heard net.new)
+        (outside B.database B.faults B.clock B.reads H.files H.faults S.left S.given S.faults K.written K.faults K.stalls room.old)
+        (outside B.database B.faults B.clock B.reads H.files H.faults S.left S.given S.faults K.written K.faults K.stalls room.new) (IsErrOf result WorkFault.Source) }
+    // The script is too long exactly where the first stage read more of it than a script may have.
+    ensures within { AreNumbered A1.place A2.place A3.place A4.place net.old → Within (A1.heard net.old.one) (A1.heard net.new.one) result }
+    // Only the first stage reads the source and writes to the sink.
+    ensures ends { AreNumbered A1.place A2.place A3.place A4.place net.old → (stage_number k ≡ first → ⊥) → LeavesEnds (heard_by A1.heard A2.heard A3.heard A4.heard net.old) (heard_by A1.heard A2.heard A3.heard A4.heard net.new)
+        (outside B.database B.faults B.clock B.reads H.files H.faults S.left S.given S.faults K.written K.faults K.stalls room.old)
+        (outside B.database B.faults B.clock B.reads H.files H.faults S.left S.given S.faults K.written K.faults K.stalls room.new) result }
     ensures serve { (user : User) → AllServe A1.serves A2.serves A3.serves A4.serves net.old user → AllServe A1.serves A2.serves A3.serves A4.serves net.new user }
     ensures numbers { AreNumbered A1.place A2.place A3.place A4.place net.old → AreNumbered A1.place A2.place A3.place A4.place net.new }
     ensures capacity { net.new.capacity ≡ net.old.capacity }
     ensures equation { (user : User) → AllServe A1.serves A2.serves A3.serves A4.serves net.old user → OnOk result (KeepsAll (quel user)
-        (seen (shape A1.state A2.state A3.state A4.state net.old) (outside B.database B.faults B.clock B.reads H.files H.faults S.left S.faults K.written K.faults K.stalls room.old))
-        (seen (shape A1.state A2.state A3.state A4.state net.new) (outside B.database B.faults B.clock B.reads H.files H.faults S.left S.faults K.written K.faults K.stalls room.new))) }
+        (seen (shape A1.state A2.state A3.state A4.state net.old) (outside B.database B.faults B.clock B.reads H.files H.faults S.left S.given S.faults K.written K.faults K.stalls room.old))
+        (seen (shape A1.state A2.state A3.state A4.state net.new) (outside B.database B.faults B.clock B.reads H.files H.faults S.left S.given S.faults K.written K.faults K.stalls room.new))) }
     ensures finishes { (user : User) → AllServe A1.serves A2.serves A3.serves A4.serves net.old user → OnOk result (FinishesInOrder (quel user)
-        (seen (shape A1.state A2.state A3.state A4.state net.old) (outside B.database B.faults B.clock B.reads H.files H.faults S.left S.faults K.written K.faults K.stalls room.old))
-        (seen (shape A1.state A2.state A3.state A4.state net.new) (outside B.database B.faults B.clock B.reads H.files H.faults S.left S.faults K.written K.faults K.stalls room.new))) }
+        (seen (shape A1.state A2.state A3.state A4.state net.old) (outside B.database B.faults B.clock B.reads H.files H.faults S.left S.given S.faults K.written K.faults K.stalls room.old))
+        (seen (shape A1.state A2.state A3.state A4.state net.new) (outside B.database B.faults B.clock B.reads H.files H.faults S.left S.given S.faults K.written K.faults K.stalls room.new))) }
     ensures lawful { (user : User) → AllServe A1.serves A2.serves A3.serves A4.serves net.old user → IsErrOf result WorkFault.Unlawful → IsDisorderly (quel user)
-        (seen (shape A1.state A2.state A3.state A4.state net.old) (outside B.database B.faults B.clock B.reads H.files H.faults S.left S.faults K.written K.faults K.stalls room.old)) }
+        (seen (shape A1.state A2.state A3.state A4.state net.old) (outside B.database B.faults B.clock B.reads H.files H.faults S.left S.given S.faults K.written K.faults K.stalls room.old)) }
     // Where the room is told, a crash leaves what it might leave before, or the database that this step leaves.
     ensures crash { (user : User) → AllServe A1.serves A2.serves A3.serves A4.serves net.old user → StepLeaves (quel user) (state_at (shape A1.state A2.state A3.state A4.state net.old) (stage_number k))
-        (outside B.database B.faults B.clock B.reads H.files H.faults S.left S.faults K.written K.faults K.stalls room.old)
-        (outside B.database B.faults B.clock B.reads H.files H.faults S.left S.faults K.written K.faults K.stalls room.new) (B.left_since room.old.base) (B.left_since room.new.base) }
+        (outside B.database B.faults B.clock B.reads H.files H.faults S.left S.given S.faults K.written K.faults K.stalls room.old)
+        (outside B.database B.faults B.clock B.reads H.files H.faults S.left S.given S.faults K.written K.faults K.stalls room.new) (B.left_since room.old.base) (B.left_since room.new.base) }
     // Where each image stood for the database, after Ok each one stands for that of after.
     ensures durable { OnOk result (StaysDurable
-        (outside B.database B.faults B.clock B.reads H.files H.faults S.left S.faults K.written K.faults K.stalls room.old)
-        (outside B.database B.faults B.clock B.reads H.files H.faults S.left S.faults K.written K.faults K.stalls room.new) (B.left_since room.old.base) (B.left_since room.new.base)) }
+        (outside B.database B.faults B.clock B.reads H.files H.faults S.left S.given S.faults K.written K.faults K.stalls room.old)
+        (outside B.database B.faults B.clock B.reads H.files H.faults S.left S.given S.faults K.written K.faults K.stalls room.new) (B.left_since room.old.base) (B.left_since room.new.base)) }
     // A stage without the turn neither reads the disk nor writes it.
     ensures quiet { QuietWithout (state_at (shape A1.state A2.state A3.state A4.state net.old) (stage_number k))
-        (outside B.database B.faults B.clock B.reads H.files H.faults S.left S.faults K.written K.faults K.stalls room.old)
-        (outside B.database B.faults B.clock B.reads H.files H.faults S.left S.faults K.written K.faults K.stalls room.new) }
+        (outside B.database B.faults B.clock B.reads H.files H.faults S.left S.given S.faults K.written K.faults K.stalls room.old)
+        (outside B.database B.faults B.clock B.reads H.files H.faults S.left S.given S.faults K.written K.faults K.stalls room.new) }
+    // A stage that worked and gave the turn away has handed the base over, and asked nothing of it since.
+    ensures handed { OnOk result (HandsOver (state_at (shape A1.state A2.state A3.state A4.state net.old) (stage_number k)) (state_at (shape A1.state A2.state A3.state A4.state net.new) (stage_number k)) (B.schema room.new.base) (B.database room.new.base)) }
 {
     step_of(alloc, net, room, k)
 }
@@ -113,14 +131,14 @@ fn step_of<A1: Stage, A2: Stage, A3: Stage, A4: Stage, B: Base, H: Shelf, S: Sou
     requires low { 1 ≤ k }
     requires high { k ≤ 4 }
     ensures done { StepDone net.old.capacity (stage_number k) (shape A1.state A2.state A3.state A4.state net.old) (shape A1.state A2.state A3.state A4.state net.new)
-        (outside B.database B.faults B.clock B.reads H.files H.faults S.left S.faults K.written K.faults K.stalls room.old)
-        (outside B.database B.faults B.clock B.reads H.files H.faults S.left S.faults K.written K.faults K.stalls room.new)
-        (heard_by A1.heard A2.heard A3.heard A4.heard net.old) (heard_by A1.heard A2.heard A3.heard A4.heard net.new)
+        (outside B.database B.faults B.clock B.reads H.files H.faults S.left S.given S.faults K.written K.faults K.stalls room.old)
+        (outside B.database B.faults B.clock B.reads H.files H.faults S.left S.given S.faults K.written K.faults K.stalls room.new)
+        (heard_by A1.heard A2.heard A3.heard A4.heard net.old) (heard_by A1.heard A2.heard A3.heard A4.heard net.new) (A1.heard net.old.one) (A1.heard net.new.one)
         (AllServe A1.serves A2.serves A3.serves A4.serves net.old) (AllServe A1.serves A2.serves A3.serves A4.serves net.new)
         (AreNumbered A1.place A2.place A3.place A4.place net.old) (AreNumbered A1.place A2.place A3.place A4.place net.new) result }
-    ensures crash { StepCrash (AllServe A1.serves A2.serves A3.serves A4.serves net.old) (state_at (shape A1.state A2.state A3.state A4.state net.old) (stage_number k))
-        (outside B.database B.faults B.clock B.reads H.files H.faults S.left S.faults K.written K.faults K.stalls room.old)
-        (outside B.database B.faults B.clock B.reads H.files H.faults S.left S.faults K.written K.faults K.stalls room.new) (B.left_since room.old.base) (B.left_since room.new.base) result }
+    ensures crash { StepCrash (AllServe A1.serves A2.serves A3.serves A4.serves net.old) (state_at (shape A1.state A2.state A3.state A4.state net.old) (stage_number k)) (state_at (shape A1.state A2.state A3.state A4.state net.new) (stage_number k))
+        (outside B.database B.faults B.clock B.reads H.files H.faults S.left S.given S.faults K.written K.faults K.stalls room.old)
+        (outside B.database B.faults B.clock B.reads H.files H.faults S.left S.given S.faults K.written K.faults K.stalls room.new) (B.left_since room.old.base) (B.left_since room.new.base) (B.schema room.new.base) result }
     ensures capacity { net.new.capacity ≡ net.old.capacity }
 {
     match k {
@@ -138,14 +156,14 @@ fn step_first<A1: Stage, A2: Stage, A3: Stage, A4: Stage, B: Base, H: Shelf, S: 
     room: &mut Room<B, H, S, K>,
 ) -> Result<Moved, WorkFault>
     ensures done { StepDone net.old.capacity first (shape A1.state A2.state A3.state A4.state net.old) (shape A1.state A2.state A3.state A4.state net.new)
-        (outside B.database B.faults B.clock B.reads H.files H.faults S.left S.faults K.written K.faults K.stalls room.old)
-        (outside B.database B.faults B.clock B.reads H.files H.faults S.left S.faults K.written K.faults K.stalls room.new)
-        (heard_by A1.heard A2.heard A3.heard A4.heard net.old) (heard_by A1.heard A2.heard A3.heard A4.heard net.new)
+        (outside B.database B.faults B.clock B.reads H.files H.faults S.left S.given S.faults K.written K.faults K.stalls room.old)
+        (outside B.database B.faults B.clock B.reads H.files H.faults S.left S.given S.faults K.written K.faults K.stalls room.new)
+        (heard_by A1.heard A2.heard A3.heard A4.heard net.old) (heard_by A1.heard A2.heard A3.heard A4.heard net.new) (A1.heard net.old.one) (A1.heard net.new.one)
         (AllServe A1.serves A2.serves A3.serves A4.serves net.old) (AllServe A1.serves A2.serves A3.serves A4.serves net.new)
         (AreNumbered A1.place A2.place A3.place A4.place net.old) (AreNumbered A1.place A2.place A3.place A4.place net.new) result }
-    ensures crash { StepCrash (AllServe A1.serves A2.serves A3.serves A4.serves net.old) (state_at (shape A1.state A2.state A3.state A4.state net.old) first)
-        (outside B.database B.faults B.clock B.reads H.files H.faults S.left S.faults K.written K.faults K.stalls room.old)
-        (outside B.database B.faults B.clock B.reads H.files H.faults S.left S.faults K.written K.faults K.stalls room.new) (B.left_since room.old.base) (B.left_since room.new.base) result }
+    ensures crash { StepCrash (AllServe A1.serves A2.serves A3.serves A4.serves net.old) (state_at (shape A1.state A2.state A3.state A4.state net.old) first) (state_at (shape A1.state A2.state A3.state A4.state net.new) first)
+        (outside B.database B.faults B.clock B.reads H.files H.faults S.left S.given S.faults K.written K.faults K.stalls room.old)
+        (outside B.database B.faults B.clock B.reads H.files H.faults S.left S.given S.faults K.written K.faults K.stalls room.new) (B.left_since room.old.base) (B.left_since room.new.base) (B.schema room.new.base) result }
     ensures capacity { net.new.capacity ≡ net.old.capacity }
 {
     let mut left_in = VecDeque::new(alloc);
@@ -170,14 +188,14 @@ fn step_second<A1: Stage, A2: Stage, A3: Stage, A4: Stage, B: Base, H: Shelf, S:
     room: &mut Room<B, H, S, K>,
 ) -> Result<Moved, WorkFault>
     ensures done { StepDone net.old.capacity second (shape A1.state A2.state A3.state A4.state net.old) (shape A1.state A2.state A3.state A4.state net.new)
-        (outside B.database B.faults B.clock B.reads H.files H.faults S.left S.faults K.written K.faults K.stalls room.old)
-        (outside B.database B.faults B.clock B.reads H.files H.faults S.left S.faults K.written K.faults K.stalls room.new)
-        (heard_by A1.heard A2.heard A3.heard A4.heard net.old) (heard_by A1.heard A2.heard A3.heard A4.heard net.new)
+        (outside B.database B.faults B.clock B.reads H.files H.faults S.left S.given S.faults K.written K.faults K.stalls room.old)
+        (outside B.database B.faults B.clock B.reads H.files H.faults S.left S.given S.faults K.written K.faults K.stalls room.new)
+        (heard_by A1.heard A2.heard A3.heard A4.heard net.old) (heard_by A1.heard A2.heard A3.heard A4.heard net.new) (A1.heard net.old.one) (A1.heard net.new.one)
         (AllServe A1.serves A2.serves A3.serves A4.serves net.old) (AllServe A1.serves A2.serves A3.serves A4.serves net.new)
         (AreNumbered A1.place A2.place A3.place A4.place net.old) (AreNumbered A1.place A2.place A3.place A4.place net.new) result }
-    ensures crash { StepCrash (AllServe A1.serves A2.serves A3.serves A4.serves net.old) (state_at (shape A1.state A2.state A3.state A4.state net.old) second)
-        (outside B.database B.faults B.clock B.reads H.files H.faults S.left S.faults K.written K.faults K.stalls room.old)
-        (outside B.database B.faults B.clock B.reads H.files H.faults S.left S.faults K.written K.faults K.stalls room.new) (B.left_since room.old.base) (B.left_since room.new.base) result }
+    ensures crash { StepCrash (AllServe A1.serves A2.serves A3.serves A4.serves net.old) (state_at (shape A1.state A2.state A3.state A4.state net.old) second) (state_at (shape A1.state A2.state A3.state A4.state net.new) second)
+        (outside B.database B.faults B.clock B.reads H.files H.faults S.left S.given S.faults K.written K.faults K.stalls room.old)
+        (outside B.database B.faults B.clock B.reads H.files H.faults S.left S.given S.faults K.written K.faults K.stalls room.new) (B.left_since room.old.base) (B.left_since room.new.base) (B.schema room.new.base) result }
     ensures capacity { net.new.capacity ≡ net.old.capacity }
 {
     step_stage(
@@ -200,14 +218,14 @@ fn step_third<A1: Stage, A2: Stage, A3: Stage, A4: Stage, B: Base, H: Shelf, S: 
     room: &mut Room<B, H, S, K>,
 ) -> Result<Moved, WorkFault>
     ensures done { StepDone net.old.capacity third (shape A1.state A2.state A3.state A4.state net.old) (shape A1.state A2.state A3.state A4.state net.new)
-        (outside B.database B.faults B.clock B.reads H.files H.faults S.left S.faults K.written K.faults K.stalls room.old)
-        (outside B.database B.faults B.clock B.reads H.files H.faults S.left S.faults K.written K.faults K.stalls room.new)
-        (heard_by A1.heard A2.heard A3.heard A4.heard net.old) (heard_by A1.heard A2.heard A3.heard A4.heard net.new)
+        (outside B.database B.faults B.clock B.reads H.files H.faults S.left S.given S.faults K.written K.faults K.stalls room.old)
+        (outside B.database B.faults B.clock B.reads H.files H.faults S.left S.given S.faults K.written K.faults K.stalls room.new)
+        (heard_by A1.heard A2.heard A3.heard A4.heard net.old) (heard_by A1.heard A2.heard A3.heard A4.heard net.new) (A1.heard net.old.one) (A1.heard net.new.one)
         (AllServe A1.serves A2.serves A3.serves A4.serves net.old) (AllServe A1.serves A2.serves A3.serves A4.serves net.new)
         (AreNumbered A1.place A2.place A3.place A4.place net.old) (AreNumbered A1.place A2.place A3.place A4.place net.new) result }
-    ensures crash { StepCrash (AllServe A1.serves A2.serves A3.serves A4.serves net.old) (state_at (shape A1.state A2.state A3.state A4.state net.old) third)
-        (outside B.database B.faults B.clock B.reads H.files H.faults S.left S.faults K.written K.faults K.stalls room.old)
-        (outside B.database B.faults B.clock B.reads H.files H.faults S.left S.faults K.written K.faults K.stalls room.new) (B.left_since room.old.base) (B.left_since room.new.base) result }
+    ensures crash { StepCrash (AllServe A1.serves A2.serves A3.serves A4.serves net.old) (state_at (shape A1.state A2.state A3.state A4.state net.old) third) (state_at (shape A1.state A2.state A3.state A4.state net.new) third)
+        (outside B.database B.faults B.clock B.reads H.files H.faults S.left S.given S.faults K.written K.faults K.stalls room.old)
+        (outside B.database B.faults B.clock B.reads H.files H.faults S.left S.given S.faults K.written K.faults K.stalls room.new) (B.left_since room.old.base) (B.left_since room.new.base) (B.schema room.new.base) result }
     ensures capacity { net.new.capacity ≡ net.old.capacity }
 {
     step_stage(
@@ -230,14 +248,14 @@ fn step_fourth<A1: Stage, A2: Stage, A3: Stage, A4: Stage, B: Base, H: Shelf, S:
     room: &mut Room<B, H, S, K>,
 ) -> Result<Moved, WorkFault>
     ensures done { StepDone net.old.capacity fourth (shape A1.state A2.state A3.state A4.state net.old) (shape A1.state A2.state A3.state A4.state net.new)
-        (outside B.database B.faults B.clock B.reads H.files H.faults S.left S.faults K.written K.faults K.stalls room.old)
-        (outside B.database B.faults B.clock B.reads H.files H.faults S.left S.faults K.written K.faults K.stalls room.new)
-        (heard_by A1.heard A2.heard A3.heard A4.heard net.old) (heard_by A1.heard A2.heard A3.heard A4.heard net.new)
+        (outside B.database B.faults B.clock B.reads H.files H.faults S.left S.given S.faults K.written K.faults K.stalls room.old)
+        (outside B.database B.faults B.clock B.reads H.files H.faults S.left S.given S.faults K.written K.faults K.stalls room.new)
+        (heard_by A1.heard A2.heard A3.heard A4.heard net.old) (heard_by A1.heard A2.heard A3.heard A4.heard net.new) (A1.heard net.old.one) (A1.heard net.new.one)
         (AllServe A1.serves A2.serves A3.serves A4.serves net.old) (AllServe A1.serves A2.serves A3.serves A4.serves net.new)
         (AreNumbered A1.place A2.place A3.place A4.place net.old) (AreNumbered A1.place A2.place A3.place A4.place net.new) result }
-    ensures crash { StepCrash (AllServe A1.serves A2.serves A3.serves A4.serves net.old) (state_at (shape A1.state A2.state A3.state A4.state net.old) fourth)
-        (outside B.database B.faults B.clock B.reads H.files H.faults S.left S.faults K.written K.faults K.stalls room.old)
-        (outside B.database B.faults B.clock B.reads H.files H.faults S.left S.faults K.written K.faults K.stalls room.new) (B.left_since room.old.base) (B.left_since room.new.base) result }
+    ensures crash { StepCrash (AllServe A1.serves A2.serves A3.serves A4.serves net.old) (state_at (shape A1.state A2.state A3.state A4.state net.old) fourth) (state_at (shape A1.state A2.state A3.state A4.state net.new) fourth)
+        (outside B.database B.faults B.clock B.reads H.files H.faults S.left S.given S.faults K.written K.faults K.stalls room.old)
+        (outside B.database B.faults B.clock B.reads H.files H.faults S.left S.given S.faults K.written K.faults K.stalls room.new) (B.left_since room.old.base) (B.left_since room.new.base) (B.schema room.new.base) result }
     ensures capacity { net.new.capacity ≡ net.old.capacity }
 {
     let mut right_out = VecDeque::new(alloc);

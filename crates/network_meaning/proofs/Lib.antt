@@ -7,6 +7,7 @@ pub mod FramesExample
 pub mod Front
 pub mod HasShape
 pub mod Keeps
+pub mod Leading
 pub mod Lowering
 pub mod LoweringFirst
 pub mod NothingUnlawful

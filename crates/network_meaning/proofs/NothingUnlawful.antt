@@ -1,21 +1,26 @@
 -- What comes to a stage of an orderly network is lawful for it, and what a stage works on is fit.
-use Rattle.std.proofs.Common.{◌≡◌, Bool, true, false, List, [], ◌∷◌, ◌++◌, Some, None, refl, ap, subst, ◌∙◌, append_assoc}
+use Rattle.std.proofs.Common.{◌≡◌, ◌&&◌, Bool, true, false, List, [], ◌∷◌, ◌++◌, Some, None, refl, ap, subst, ◌∙◌, append_assoc}
 use Rattle.std.specs.Prelude.{⊤}
+use Rattle.std.specs.List.{list_all}
+use Rattle.std.proofs.lemmas.List.Folds.{list_all-append}
 use Rattle.std.specs.declared.option.Option.{Option}
 use Rattle.frame_codec.specs.declared.frame.Frame.{Frame}
-use Rattle.network_meaning.specs.Sorts.{Sorts, Said, Message, Said.shown, Said.replied, Message.text, Message.cargo, Message.said, Message.end, Message.quit}
+use Rattle.frame_codec.specs.Frames.{is_lawful}
+use Rattle.frame_codec.specs.Messages.{is_message_kind}
+use Rattle.frame_codec.proofs.Spelled.{cut_lawful}
+use Rattle.network_meaning.specs.Sorts.{Sorts, Said, Message, Cargo.tree, Cargo.change, Shown.head, Shown.row, Reply.done, Reply.refused, Said.shown, Said.replied, Message.text, Message.cargo, Message.said, Message.end, Message.quit}
 use Rattle.network_meaning.specs.Language.{Language}
-use Rattle.network_meaning.specs.Frames.{frames, may_be_cut, spell, AllMore, is_more}
+use Rattle.network_meaning.specs.Frames.{frames, kind_of, may_be_cut, spell, AllMore, is_more}
 use Rattle.network_meaning.specs.Laws.{Laws}
 use Rattle.network_meaning.specs.LocalSteps.{Mode, Want, Act, Room, takes, want_of, may_go_on, is_due, if_due, goes_to_four, set_line, turns_to, says, hands}
 use Rattle.network_meaning.specs.LocalSteps.{Mode.reading, Mode.waiting, Mode.printing, Mode.idle2, Mode.parsing, Mode.passing2, Mode.idle3, Mode.working3, Mode.passing3, Mode.idle4, Mode.working4, Mode.ended, Want.take_left, Want.take_right, Want.give_left, Want.give_right, Want.work, Want.none}
-use Rattle.network_meaning.specs.MessageNetwork.{Beside, beside, StageNumber, StageNumber.first, StageNumber.second, StageNumber.third, StageNumber.fourth}
+use Rattle.network_meaning.specs.MessageNetwork.{Beside, beside, MessageNetwork, StageNumber, StageNumber.first, StageNumber.second, StageNumber.third, StageNumber.fourth}
 use Rattle.network_meaning.specs.Held.{kept, begun}
 use Rattle.network_meaning.specs.Due.{Due, IsDue}
 use Rattle.network_meaning.specs.Spelled.{EachSpelled, IsSpelled}
 use Rattle.network_meaning.specs.Orderly.{Phase, Place, Front, Phase.reads, Phase.closes, Phase.sends, Phase.away, Phase.quits_a, Phase.quits_b, Phase.quits_c, Phase.over, spread, front_mode, FitPhase, RoutedPlace, RoutedPhase}
 use Rattle.network_meaning.specs.Orderly.{Place.at_two, Place.in_b, Place.at_three, Place.in_c, Place.at_four, Place.in_d, Place.in_e_tables, Place.in_e_reply, Place.in_f}
-use Rattle.network_meaning.specs.Network.{Network, Between, between, want_with, Shows, Orderly}
+use Rattle.network_meaning.specs.Network.{Network, Between, between, want, want_with, Shows, Orderly}
 use Rattle.network_meaning.specs.Lawful.{front_of, in_front, comes, LawfulBehind, LawfulAs, Lawful, FitWork}
 use Rattle.network_meaning.proofs.Frames.{First, first_whole, IsCut, is_cut, cut_has_more}
 
@@ -154,25 +159,84 @@ by_outs L s t [] [] em h left right f c = by_want L s t (want_of s.stage.mode) e
 no_pipe : {S : Sorts} (L : Language S) (mode : Mode S) (got : List Frame) (ms : List (Message S)) → FirstTaken L mode ms → (f : Frame) → front_of {F = Frame} [] ≡ Some f → LawfulBehind L mode got f (is_more f)
 no_pipe L mode got ms t f c = cc
 
--- a frame that comes to a stage is lawful for it, whether or not what travels is fit
-pub lawful_at : {S : Sorts} (L : Language S) (laws : Laws L) (n : Network S) (p : Phase S) (k : StageNumber) → Shows L n (spread p n.room) → RoutedPhase L p → IsDue L (spread p n.room) → IsSpelled L (spread p n.room) →
-    (f : Frame) → comes (between n k) ≡ Some f → Lawful L (between n k).stage f
-lawful_at L laws n p first h routed d sp =
+-- ---- kinds and lengths
+
+and_parts : (a b : Bool) → (a && b) ≡ true → (a ≡ true) × (b ≡ true)
+and_parts true b e = (refl, e)
+and_parts false b e = cc
+
+message_kind : {S : Sorts} (m : Message S) → is_message_kind (kind_of m) ≡ true
+message_kind (text t) = refl
+message_kind (cargo (tree t)) = refl
+message_kind (cargo (change c)) = refl
+message_kind (said (shown (head h))) = refl
+message_kind (said (shown (row r))) = refl
+message_kind (said (replied done)) = refl
+message_kind (said (replied (refused r))) = refl
+message_kind end = refl
+message_kind quit = refl
+
+-- each frame of messages has a kind and a length that the protocol allows
+spelled_lawful : {S : Sorts} (L : Language S) (ms : List (Message S)) → list_all is_lawful (spell L ms) ≡ true
+spelled_lawful L [] = refl
+spelled_lawful L (m ∷ ms) =
+    list_all-append is_lawful (frames L m) (spell L ms) ∙ (rw (cut_lawful (kind_of m) (L.payload m) (message_kind m), spelled_lawful L ms) refl)
+
+lawful_among : (got behind : List Frame) (f : Frame) → list_all is_lawful (got ++ f ∷ behind) ≡ true → is_lawful f ≡ true
+lawful_among [] behind f e = (and_parts (is_lawful f) (list_all is_lawful behind) e).0
+lawful_among (x ∷ got) behind f e = lawful_among got behind f (and_parts (is_lawful x) (list_all is_lawful (got ++ f ∷ behind)) e).1
+
+formed_pipe : {S : Sorts} (L : Language S) (got pipe out : List Frame) (ms : List (Message S)) → got ++ (pipe ++ out) ≡ spell L ms → (f : Frame) → front_of pipe ≡ Some f → is_lawful f ≡ true
+formed_pipe L got [] out ms e f c = cc
+formed_pipe L got (g ∷ pipe) out ms e f c =
+    let same : g ≡ f = cc in
+    rw (← same) (lawful_among got (pipe ++ out) g (ap (list_all is_lawful) e ∙ spelled_lawful L ms))
+
+no_frame : (f : Frame) → front_of {F = Frame} [] ≡ Some f → is_lawful f ≡ true
+no_frame f c = cc
+
+formed : {S : Sorts} (s : Between S) (w : Want) → ((f : Frame) → front_of s.left_in ≡ Some f → is_lawful f ≡ true) → ((f : Frame) → front_of s.right_in ≡ Some f → is_lawful f ≡ true) →
+    (f : Frame) → in_front s w ≡ Some f → is_lawful f ≡ true
+formed s take_left left right f c = left f c
+formed s take_right left right f c = right f c
+formed s give_left left right f c = cc
+formed s give_right left right f c = cc
+formed s work left right f c = cc
+formed s none left right f c = cc
+
+-- a frame that comes to a stage has a kind and a length that the protocol allows
+formed_at : {S : Sorts} (L : Language S) (n : Network S) (v : MessageNetwork S) (k : StageNumber) → Shows L n v → (f : Frame) → comes (between n k) ≡ Some f → is_lawful f ≡ true
+formed_at L n v first h f c = formed (between n first) (want n.one) no_frame (formed_pipe L n.one.got_right n.f n.two.out_left v.f h.f) f c
+formed_at L n v second h f c = formed (between n second) (want n.two) (formed_pipe L n.two.got_left n.a n.one.out_right v.a h.a) (formed_pipe L n.two.got_right n.e n.three.out_left v.e h.e) f c
+formed_at L n v third h f c = formed (between n third) (want n.three) (formed_pipe L n.three.got_left n.b n.two.out_right v.b h.b) (formed_pipe L n.three.got_right n.d n.four.out_left v.d h.d) f c
+formed_at L n v fourth h f c = formed (between n fourth) (want n.four) (formed_pipe L n.four.got_left n.c n.three.out_right v.c h.c) no_frame f c
+
+-- ---- what comes
+
+-- the message of a frame that comes to a stage is one that it takes
+taken_at : {S : Sorts} (L : Language S) (laws : Laws L) (n : Network S) (p : Phase S) (k : StageNumber) → Shows L n (spread p n.room) → RoutedPhase L p → IsDue L (spread p n.room) → IsSpelled L (spread p n.room) →
+    (f : Frame) → comes (between n k) ≡ Some f → LawfulAs L (between n k).stage f (want (between n k).stage)
+taken_at L laws n p first h routed d sp =
     by_outs L (between n first) (beside (spread p n.room) first) n.one.out_left n.one.out_right h.one (first_taken L p n.room first routed d)
     (no_pipe L (spread p n.room).one n.one.got_left [])
     (from_pipe L laws (spread p n.room).one n.one.got_right n.f n.two.out_left (spread p n.room).f h.more_one h.f sp.f)
-lawful_at L laws n p second h routed d sp =
+taken_at L laws n p second h routed d sp =
     by_outs L (between n second) (beside (spread p n.room) second) n.two.out_left n.two.out_right h.two (first_taken L p n.room second routed d)
     (from_pipe L laws (spread p n.room).two n.two.got_left n.a n.one.out_right (spread p n.room).a h.more_two_left h.a sp.a)
     (from_pipe L laws (spread p n.room).two n.two.got_right n.e n.three.out_left (spread p n.room).e h.more_two_right h.e sp.e)
-lawful_at L laws n p third h routed d sp =
+taken_at L laws n p third h routed d sp =
     by_outs L (between n third) (beside (spread p n.room) third) n.three.out_left n.three.out_right h.three (first_taken L p n.room third routed d)
     (from_pipe L laws (spread p n.room).three n.three.got_left n.b n.two.out_right (spread p n.room).b h.more_three_left h.b sp.b)
     (from_pipe L laws (spread p n.room).three n.three.got_right n.d n.four.out_left (spread p n.room).d h.more_three_right h.d sp.d)
-lawful_at L laws n p fourth h routed d sp =
+taken_at L laws n p fourth h routed d sp =
     by_outs L (between n fourth) (beside (spread p n.room) fourth) n.four.out_left n.four.out_right h.four (first_taken L p n.room fourth routed d)
     (from_pipe L laws (spread p n.room).four n.four.got_left n.c n.three.out_right (spread p n.room).c h.more_four h.c sp.c)
     (no_pipe L (spread p n.room).four n.four.got_right [])
+
+-- a frame that comes to a stage is lawful for it, whether or not what travels is fit
+pub lawful_at : {S : Sorts} (L : Language S) (laws : Laws L) (n : Network S) (p : Phase S) (k : StageNumber) → Shows L n (spread p n.room) → RoutedPhase L p → IsDue L (spread p n.room) → IsSpelled L (spread p n.room) →
+    (f : Frame) → comes (between n k) ≡ Some f → Lawful L (between n k).stage f
+lawful_at L laws n p k h routed d sp f c = (formed_at L n (spread p n.room) k h f c, taken_at L laws n p k h routed d sp f c)
 
 -- what travels and is fit goes to stage 4 only where it may
 pub routed_of : {S : Sorts} (L : Language S) (p : Phase S) (db : S.Db) → FitPhase L p db → RoutedPhase L p

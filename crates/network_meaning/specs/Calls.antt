@@ -1,7 +1,9 @@
 -- The words of the contracts of the stages and the network.
-use Rattle.std.specs.Prelude.{◌≡◌, ◌==◌, if◌then◌else◌, ℕ, Bool, true, false, List, [], ◌∷◌, Some, ⊤}
+use Rattle.std.specs.Prelude.{◌≡◌, ◌==◌, ◌++◌, if◌then◌else◌, ℕ, Bool, true, false, List, [], ◌∷◌, Some, ⊤}
 use Rattle.std.specs.declared.option.Option.{Option}
+use Rattle.std.specs.Io.KnownBytes.{Appends}
 use Rattle.frame_codec.specs.declared.frame.Frame.{Frame}
+use Rattle.frame_codec.specs.Frames.{is_lawful}
 use Rattle.network_meaning.specs.Sorts.{Sorts}
 use Rattle.network_meaning.specs.Language.{Language}
 use Rattle.network_meaning.specs.Frames.{is_more}
@@ -18,9 +20,9 @@ TakenAs L s f take_left s' = HasTakenLeft L s f (is_more f) s'
 TakenAs L s f take_right s' = HasTakenRight L s f (is_more f) s'
 TakenAs L s f _ s' = ⊥
 
--- a stage has taken a frame
+-- a stage has taken a frame, which has a kind and a length that the protocol allows
 abbrev pub Taken : {S : Sorts} → Language S → LocalState S → Frame → LocalState S → Type 0
-Taken L s f s' = TakenAs L s f (want s) s'
+Taken L s f s' = (is_lawful f ≡ true) × TakenAs L s f (want s) s'
 
 -- a stage has given the first of these frames to the left
 abbrev pub GivenLeft : {S : Sorts} → LocalState S → List Frame → Frame → LocalState S → Type 0
@@ -42,19 +44,41 @@ GivenAs s f _ s' = ⊥
 abbrev pub Given : {S : Sorts} → LocalState S → Frame → LocalState S → Type 0
 Given s f s' = GivenAs s f (want s) s'
 
--- the act is the network's in this room: what was worked on is fit, and the room is told again, as the work leaves it
-pub record WorkedIn {S : Sorts} (L : Language S) (mode : Mode S) (act : Act S) (room : Room S) (told' : Option (Room S)) : Type 0 where
+-- what is known of a room, part by part: the database, the shelf, the rest of the script, and the bytes that were written
+pub record Told (S : Sorts) : Type 0 where
+  pub db : Option S.Db
+  pub shelf : Option S.Shelf
+  pub script : Option S.Script
+  pub out : Option (List ℕ)
+
+-- a room is told: the database, the shelf and the script are known, and they are those of this room. What was written needn't be known
+pub record Tells {S : Sorts} (told : Told S) (room : Room S) : Type 0 where
+  pub db : told.db ≡ Some room.db
+  pub shelf : told.shelf ≡ Some room.shelf
+  pub script : told.script ≡ Some room.script
+
+-- from the first room to the second bytes were written, and where it is known what was written, it grew by them
+abbrev pub Wrote : {S : Sorts} → Told S → Told S → Room S → Room S → Type 0
+Wrote told told' room room' = (bytes : List ℕ) × (room'.out ≡ room.out ++ bytes) × Appends told.out told'.out bytes
+
+-- where the database and the shelf are known, what is worked on at this mode is fit
+abbrev pub FitWhereTold : {S : Sorts} → Language S → Mode S → Told S → Type 0
+FitWhereTold {S} L mode told = (db : S.Db) (shelf : S.Shelf) → told.db ≡ Some db → told.shelf ≡ Some shelf → FitWork L mode db
+
+-- the act is the network's in this room: the room is told again, as the work leaves it
+pub record WorkedIn {S : Sorts} (L : Language S) (mode : Mode S) (act : Act S) (room : Room S) (before after : Told S) : Type 0 where
   pub room' : Room S
-  pub told : told' ≡ Some room'
-  pub fit : FitWork L mode room.db
+  pub told : Tells after room'
+  pub wrote : Wrote before after room room'
   pub works : Works L mode room act room'
 
--- a stage has worked: whatever is told, its act has the shape of such a piece of work, and where the room is told, it is the network's act there
-pub record WorkDone {S : Sorts} (L : Language S) (s s' : LocalState S) (told told' : Option (Room S)) : Type 0 where
+-- a stage has worked: whatever is told, its act has the shape of such a piece of work; where the database and the shelf are known, what was worked on is fit; and where the room is told, it is the network's act there
+pub record WorkDone {S : Sorts} (L : Language S) (s s' : LocalState S) (before after : Told S) : Type 0 where
   pub act : Act S
   pub is : s' ≡ done_act L s act s.got_left s.got_right
   pub shape : WorkShape L s.mode act
-  pub exact : (room : Room S) → told ≡ Some room → WorkedIn L s.mode act room told'
+  pub fit : FitWhereTold L s.mode before
+  pub exact : (room : Room S) → Tells before room → WorkedIn L s.mode act room before after
 
 -- the network but for the room
 pub record Shape (S : Sorts) : Type 0 where
@@ -73,10 +97,10 @@ pub record Shape (S : Sorts) : Type 0 where
 abbrev pub join : {S : Sorts} → Shape S → Room S → Network S
 join s room = record { one = s.one; two = s.two; three = s.three; four = s.four; a = s.a; b = s.b; c = s.c; d = s.d; e = s.e; f = s.f; room = room }
 
--- the network but for the room, and the room where it is told
+-- the network but for the room, and what is known of the room
 pub record Seen (S : Sorts) : Type 0 where
   pub shape : Shape S
-  pub told : Option (Room S)
+  pub told : Told S
 
 -- where a stage wants to work, what it is to work on is fit
 abbrev pub FitWant : {S : Sorts} → Language S → Between S → Want → Type 0
@@ -88,18 +112,19 @@ abbrev pub FitStep : {S : Sorts} → Language S → StageNumber → Network S �
 FitStep L k n true = ⊤
 FitStep L k n false = FitWant L (between n k) (want (between n k).stage)
 
--- step k was one of the network in this room, on what is fit, and the room is told again, as the step leaves it
+-- step k was one of the network in this room, and the room is told again, as the step leaves it
 pub record MovesIn {S : Sorts} (L : Language S) (k : StageNumber) (blocked : Bool) (old new : Seen S) (room : Room S) : Type 0 where
   pub room' : Room S
-  pub told : new.told ≡ Some room'
-  pub fit : FitStep L k (join old.shape room) blocked
+  pub told : Tells new.told room'
+  pub wrote : Wrote old.told new.told room room'
   pub step : StepsUnlessBlocked L k (join old.shape room) (join new.shape room') blocked
 
--- step k was blocked or not. Whatever the room is, the stage took, gave, or did work of its shape; and where the room is told, this was a step of the network there
+-- step k was blocked or not. Whatever the room is, the stage took, gave, or did work of its shape; where the database and the shelf are known, what it worked on is fit; and where the room is told, this was a step of the network there
 pub record Moves {S : Sorts} (L : Language S) (capacity : ℕ) (k : StageNumber) (blocked : Bool) (old new : Seen S) : Type 0 where
   pub is : (room : Room S) → is_stuck capacity k (join old.shape room) ≡ blocked
   pub shape : (room : Room S) → StepsUnlessBlockedBy (WorksInShape L) L k (join old.shape room) (join new.shape room) blocked
-  pub exact : (room : Room S) → old.told ≡ Some room → MovesIn L k blocked old new room
+  pub fit : (room : Room S) → old.told.db ≡ Some room.db → old.told.shelf ≡ Some room.shelf → FitStep L k (join old.shape room) blocked
+  pub exact : (room : Room S) → Tells old.told room → MovesIn L k blocked old new room
 
 -- the stage with this number, 1 to 4
 abbrev pub stage_number : ℕ → StageNumber
@@ -110,13 +135,14 @@ abbrev pub RunsTurns : {S : Sorts} → Language S → ℕ → List ℕ → Seen 
 RunsTurns L capacity [] old new = new ≡ old
 RunsTurns {S} L capacity (k ∷ ks) old new = (mid : Seen S) × (blocked : Bool) × Moves L capacity (stage_number k) blocked old mid × RunsTurns L capacity ks mid new
 
--- from an orderly network with a room that is told: it is orderly and told again, and the bytes in all are the same
+-- from an orderly network with a room that is told: it is orderly and told again, the bytes in all are the same, and what was written grew as from that room to this
 pub record KeptNow {S : Sorts} (L : Language S) (r : Room S) (old new : Seen S) : Type 0 where
   pub room : Room S
-  pub told : new.told ≡ Some room
+  pub told : Tells new.told room
+  pub wrote : Wrote old.told new.told r room
   pub orderly : Orderly L (join new.shape room)
   pub same : bytes_in_all L (join new.shape room) ≡ bytes_in_all L (join old.shape r)
 
 -- from each orderly network with a room that is told it is kept so
 abbrev pub KeepsAll : {S : Sorts} → Language S → Seen S → Seen S → Type 0
-KeepsAll {S} L old new = (r : Room S) → old.told ≡ Some r → Orderly L (join old.shape r) → KeptNow L r old new
+KeepsAll {S} L old new = (r : Room S) → Tells old.told r → Orderly L (join old.shape r) → KeptNow L r old new

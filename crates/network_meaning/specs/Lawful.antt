@@ -2,6 +2,7 @@
 use Rattle.std.specs.Prelude.{◌≡◌, Bool, true, false, List, [], ◌∷◌, ◌++◌, Some, None, ⊤}
 use Rattle.std.specs.declared.option.Option.{Option}
 use Rattle.frame_codec.specs.declared.frame.Frame.{Frame}
+use Rattle.frame_codec.specs.Frames.{is_lawful}
 use Rattle.network_meaning.specs.Sorts.{Sorts, Message, Message.said}
 use Rattle.network_meaning.specs.Language.{Language}
 use Rattle.network_meaning.specs.Frames.{frames, whole, is_more}
@@ -44,9 +45,9 @@ LawfulAs L s f take_left = LawfulBehind L s.mode s.got_left f (is_more f)
 LawfulAs L s f take_right = LawfulBehind L s.mode s.got_right f (is_more f)
 LawfulAs L s f _ = ⊥
 
--- a frame is lawful for a stage that is to take it
+-- a frame is lawful for a stage that is to take it: it has a kind and a length that the protocol allows, and its message is one that the stage takes
 abbrev pub Lawful : {S : Sorts} → Language S → LocalState S → Frame → Type 0
-Lawful L s f = LawfulAs L s f (want s)
+Lawful L s f = (is_lawful f ≡ true) × LawfulAs L s f (want s)
 
 -- what is worked on is fit for this database: what is printed is due, a tree or a change is fit, and stage 4 works on a change or a utility
 abbrev pub FitWork : {S : Sorts} → Language S → Mode S → S.Db → Type 0

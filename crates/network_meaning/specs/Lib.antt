@@ -12,6 +12,7 @@ pub mod MessageNetwork
 pub mod Network
 pub mod Orderly
 pub mod OrderlyShape
+pub mod Rounds
 pub mod Sorts
 pub mod Spelled
 pub mod Statements

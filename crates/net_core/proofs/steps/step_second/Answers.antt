@@ -1,14 +1,16 @@
 use Rattle.std.proofs.Common.{refl, ◌∙◌}
 use Rattle.network_meaning.specs.MessageNetwork.{StageNumber.second}
 use Rattle.net_core.proofs.Crashing.{left_by_stage}
+use Rattle.net_core.proofs.Faulty.{apart_numbers, within_apart}
 use Rattle.net_core.proofs.Placing.{step_done, second_part}
 use Rattle.net_core.proofs.steps.step_second.Goals as goal
 
 pub returns-clause-done : goal.returns-clause-done
 returns-clause-done g c =
-    step_done c.args.net.now.capacity second _ _ _ _ _ _ _ _ _ _ _ _ _ _ _ _ _ _ c.step_stage.result c.step_stage.ensures.done refl (second_part _ _ _ _) (second_part _ _ _ _)
+    step_done c.args.net.now.capacity second _ _ _ _ _ _ _ _ _ _ _ _ _ _ _ _ _ _ _ _ c.step_stage.result c.step_stage.ensures.done refl (second_part _ _ _ _) (second_part _ _ _ _)
     (λ user h. h.second) (λ user x h. record { first = h.first; second = x; third = h.third; fourth = h.fourth })
     (λ e h. record { first = h.first; second = e ∙ h.second; third = h.third; fourth = h.fourth })
+    (λ n no e. apart_numbers _ _ _ n.second e refl) (λ n. within_apart _ c.step_stage.result (c.step_stage.ensures.done.ends (λ e. apart_numbers _ _ _ n.second e refl)).inside)
 
 pub returns-clause-crash : goal.returns-clause-crash
-returns-clause-crash g c = left_by_stage _ _ _ _ _ _ _ _ c.step_stage.result refl (λ user h. h.second) c.step_stage.ensures.crash
+returns-clause-crash g c = left_by_stage _ _ _ _ _ _ _ _ _ _ c.step_stage.result refl (λ user h. h.second) c.step_stage.ensures.crash

@@ -1,0 +1,42 @@
+-- What a list of turns leads to.
+use Rattle.std.specs.Prelude.{◌≡◌, ◌⊎◌, ◌<◌, ◌≤◌, ℕ, List, [], ◌∷◌}
+use Rattle.network_meaning.specs.Calls.{Seen, Tells, Wrote, join, stage_number}
+use Rattle.network_meaning.specs.Going.{AllEnded, SomeGoes}
+use Rattle.network_meaning.specs.Language.{Language}
+use Rattle.network_meaning.specs.LocalSteps.{Room}
+use Rattle.network_meaning.specs.MessageNetwork.{StageNumber}
+use Rattle.network_meaning.specs.Network.{Orderly, as_messages, bytes_in_all}
+use Rattle.network_meaning.specs.Sorts.{Sorts}
+use Rattle.network_meaning.specs.Statements.{FinishesFront, statements_left}
+use Rattle.network_meaning.specs.Turn as turn
+use Rattle.network_meaning.specs.WorkLeft.{Work, work_left}
+
+-- the list has a turn of this stage
+abbrev pub Has : StageNumber → List ℕ → Type 0
+Has k [] = ⊥
+Has k (j ∷ js) = (stage_number j ≡ k) ⊎ Has k js
+
+-- the list has a turn of each stage
+abbrev pub HasAll : List ℕ → Type 0
+HasAll turns = (k : StageNumber) → Has k turns
+
+-- from an orderly network whose room is told, turns have led to one that is orderly and told again: the bytes in all are the same, what was written grew, and a front of the statements was finished;
+-- the turn is in one place, and some stage goes on unless all have ended; no more work is left, and less where each stage had a turn and not all had ended before;
+-- where all have ended, all bytes are written and no statement is left
+pub record LeadsTo {S : Sorts} (L : Language S) (W : Work L) (capacity : ℕ) (turns : List ℕ) (r : Room S) (old new : Seen S) : Type 0 where
+  pub room : Room S
+  pub told : Tells new.told room
+  pub wrote : Wrote old.told new.told r room
+  pub orderly : Orderly L (join new.shape room)
+  pub same : bytes_in_all L (join new.shape room) ≡ bytes_in_all L (join old.shape r)
+  pub finished : FinishesFront L (as_messages L (join old.shape r)) (as_messages L (join new.shape room))
+  pub one : turn.turns (as_messages L (join new.shape room)) ≡ 1
+  pub goes : 1 ≤ capacity → SomeGoes capacity (join new.shape room) ⊎ AllEnded (join new.shape room)
+  pub most : work_left L W (join new.shape room) ≤ work_left L W (join old.shape r)
+  pub less : 1 ≤ capacity → HasAll turns → (work_left L W (join new.shape room) < work_left L W (join old.shape r)) ⊎ AllEnded (join old.shape r)
+  pub whole : AllEnded (join new.shape room) → room.out ≡ bytes_in_all L (join old.shape r)
+  pub none_left : AllEnded (join new.shape room) → statements_left L (as_messages L (join new.shape room)) ≡ []
+
+-- from each orderly network whose room is told, turns lead on
+abbrev pub LeadsOn : {S : Sorts} (L : Language S) → Work L → ℕ → List ℕ → Seen S → Seen S → Type 0
+LeadsOn {S} L W capacity turns old new = (r : Room S) → Tells old.told r → Orderly L (join old.shape r) → LeadsTo L W capacity turns r old new
