@@ -39,6 +39,8 @@ done_ok serves place heard s s' old new before after x r = record {
   right_wrote = r.right_wrote;
   left_later = r.left_later;
   right_later = r.right_later;
+  all = r.all;
+  room = r.room;
   ended = r.ended;
 }
 
@@ -136,5 +138,7 @@ done_err serves place heard s s' old new before mid out f r t k = record {
   right_wrote = r.right_wrote;
   left_later = record { faults = r.left_later.faults; out = later_both before.left.out mid.left.out out r.left_later.out k };
   right_later = r.right_later;
+  all = tt;
+  room = r.room;
   ended = how_told serves heard s' old new before mid out (ending r.moves r.end r.left_read r.left_unread mid.left.left r.right_read r.right_unread mid.right.left) f k r.ended;
 }

@@ -6,6 +6,8 @@ use Rattle.frame_codec.specs.declared.frame.Frame.{Frame}
 use Rattle.frame_codec.specs.Frames.{frames_bytes}
 use Rattle.net_core.specs.declared.steps.Moved.{Moved}
 use Rattle.net_core.specs.declared.steps.Moved.TheVariants.{Stepped, Blocked}
+use Rattle.net_core.specs.declared.fault.WorkFault.{WorkFault}
+use Rattle.net_core.specs.Spares.{LeavesEnds}
 use Rattle.net_core.specs.Told.{KeepsDatabase, Outside, told}
 use Rattle.net_core.proofs.Faulty.{database_same, later_same, script_same}
 use Rattle.network_meaning.specs.LocalSteps.{Want.take_right, Want.give_left, Want.give_right, Want.work}
@@ -18,7 +20,7 @@ use Rattle.stage_process.specs.Moves.{Move, Places, first_places, from_left, fro
 use Rattle.stage_process.specs.Sides.{Outlet, Wrote}
 use Rattle.stage_process.specs.Steps.{Goes, Hand, Past, Ran, RoomKept, SideGoes, StepDone, at_hand}
 use Rattle.stage_process.specs.Taking.{Gave, GavePart, Worked}
-use Rattle.stage_process.specs.Whole.{HowEnded}
+use Rattle.stage_process.specs.Whole.{EndsKept, HowEnded, LeavesRoom}
 use Rattle.stage_process.proofs.Going.{faltered_from, flat_one, flat_same, outlet_later, places_more, side_as, side_gave, side_read, stays_later, wrote_all, wrote_part}
 use Rattle.stage_process.proofs.TakingSteps.{ending, still}
 
@@ -41,10 +43,10 @@ same_plain : (past : Past) (p : Hand) (m : Move) → from_right m ≡ [] → Goe
 same_plain past p m e g = subst (λ (fs : List Frame). All IsPlain fs) (sym (flat_same from_right past.moves m e)) g.plain
 
 -- nothing was done at all, by this fault
-pub nothing_more : (serves : User → Type 0) (past : Past) (p : Hand) (s' : LocalState quel_sorts) (o' : Outside) (f : LoopFault) → Goes past p →
+pub nothing_more : (serves : User → Type 0) (past : Past) (p : Hand) (s' : LocalState quel_sorts) (o' : Outside) (f : LoopFault) → Goes past p → LeavesRoom (at_hand p) o' (Err f) →
     HowEnded serves p.heard s' p.outside o' past.before p.sides (ending past.moves (at_hand p) past.left p.talk.left.reader p.sides.left.left past.right p.talk.right.reader p.sides.right.left) (Err f) →
     Ran serves (at_hand p) p.heard s' p.outside o' past.before p.sides past.moves (Err f)
-nothing_more serves past p s' o' f g how =
+nothing_more serves past p s' o' f g kept how =
     still serves past p s' o' p.sides f past.left p.talk.left.reader past.right p.talk.right.reader
     (side_read past.before.left p.sides.left (taken_left past.moves) (given_left past.moves) past.left p.talk.left _ p.sides.left.faults p.sides.left.out g.left (omega arith))
     (side_read past.before.right p.sides.right (taken_right past.moves) (given_right past.moves) past.right p.talk.right _ p.sides.right.faults p.sides.right.out g.right (omega arith))
@@ -53,6 +55,7 @@ nothing_more serves past p s' o' f g how =
     g.right.wrote
     (stays_later past.before.left p.sides.left (taken_left past.moves) (given_left past.moves) past.left p.talk.left g.left)
     (stays_later past.before.right p.sides.right (taken_right past.moves) (given_right past.moves) past.right p.talk.right g.right)
+    kept
     how
 
 -- ---- to give to the left
@@ -69,7 +72,7 @@ gave_at_left p s' out' heard' = record {
 
 left_memory : (serves : User → Type 0) (past : Past) (p : Hand) (s' : LocalState quel_sorts) (out' : Outlet) (heard' : ℕ) (f : LoopFault) → Goes past p → f ≡ fault.OutOfMemory → out' ≡ p.sides.left.out → StepDone serves past p (gave_at_left p s' out' heard') (Err f)
 left_memory serves past p s' out' heard' f g e k =
-    subst (λ (o : Outlet). StepDone serves past p (gave_at_left p s' o heard') (Err f)) (sym k) (subst (λ (x : LoopFault). StepDone serves past p (gave_at_left p s' p.sides.left.out heard') (Err x)) (sym e) (nothing_more serves past p s' p.outside fault.OutOfMemory g tt))
+    subst (λ (o : Outlet). StepDone serves past p (gave_at_left p s' o heard') (Err f)) (sym k) (subst (λ (x : LoopFault). StepDone serves past p (gave_at_left p s' p.sides.left.out heard') (Err x)) (sym e) (nothing_more serves past p s' p.outside fault.OutOfMemory g refl tt))
 
 left_part : (serves : User → Type 0) (past : Past) (p : Hand) (s' : LocalState quel_sorts) (out' : Outlet) (heard' : ℕ) → want p.state ≡ give_left → Goes past p → GavePart p.state s' p.sides.left.out out' → StepDone serves past p (gave_at_left p s' out' heard') (Err fault.LeftWrite)
 left_part serves past p s' out' heard' w g part =
@@ -95,6 +98,8 @@ left_part serves past p s' out' heard' w g part =
       right_wrote = wrote_all past.before.right.out p.sides.right.out (frames_bytes (given_right moves)) right.wrote;
       left_later = record { faults = let e = g.left.faults in omega (arith, e); out = outlet_later past.before.left.out p.sides.left.out out' g.left.counts part.later };
       right_later = stays_later past.before.right p.sides.right (taken_right moves) (given_right moves) past.right p.talk.right right;
+      all = tt;
+      room = refl;
       ended = faltered_from past.before.left.out p.sides.left.out out' g.left.counts part.faltered;
     }
 
@@ -134,7 +139,7 @@ right_memory : (serves : User → Type 0) (past : Past) (p : Hand) (s' : LocalSt
     StepDone serves past p (gave_at_right p s' p.sides.right.left p.sides.right.faults out' heard') (Err f)
 right_memory serves past p s' out' heard' f g e k =
     subst (λ (o : Outlet). StepDone serves past p (gave_at_right p s' p.sides.right.left p.sides.right.faults o heard') (Err f)) (sym k)
-    (subst (λ (x : LoopFault). StepDone serves past p (gave_at_right p s' p.sides.right.left p.sides.right.faults p.sides.right.out heard') (Err x)) (sym e) (nothing_more serves past p s' p.outside fault.OutOfMemory g tt))
+    (subst (λ (x : LoopFault). StepDone serves past p (gave_at_right p s' p.sides.right.left p.sides.right.faults p.sides.right.out heard') (Err x)) (sym e) (nothing_more serves past p s' p.outside fault.OutOfMemory g refl tt))
 
 right_part : (serves : User → Type 0) (past : Past) (p : Hand) (s' : LocalState quel_sorts) (faults' : ℕ) (out' : Outlet) (heard' : ℕ) → want p.state ≡ give_right → Goes past p → GavePart p.state s' p.sides.right.out out' → p.sides.right.faults ≤ faults' →
     StepDone serves past p (gave_at_right p s' p.sides.right.left faults' out' heard') (Err fault.Right)
@@ -161,6 +166,8 @@ right_part serves past p s' faults' out' heard' w g part le =
       right_wrote = subst (λ (fs : List Frame). Wrote past.before.right.out out' (frames_bytes fs)) (sym (flat_one to_right past.moves m)) (wrote_part past.before.right p.sides.right (taken_right past.moves) (given_right past.moves) past.right p.talk.right out' p.state s' g.right part);
       left_later = stays_later past.before.left p.sides.left (taken_left moves) (given_left moves) past.left p.talk.left left;
       right_later = record { faults = let e = g.right.faults in omega (arith, e, le); out = outlet_later past.before.right.out p.sides.right.out out' g.right.counts part.later };
+      all = tt;
+      room = refl;
       ended = faltered_from past.before.right.out p.sides.right.out out' g.right.counts part.faltered;
     }
 
@@ -211,8 +218,8 @@ work_done serves past p s' o' heard' (Ok Stepped) w g done = (
   },
 )
 work_done serves past p s' o' heard' (Ok Blocked) w g x = absurd x
-work_done serves past p s' o' heard' (Err (fault.Work f)) w g (ne, may, front) = nothing_more serves past p s' o' (fault.Work f) g (w, ne, may, front)
-work_done serves past p s' o' heard' (Err (fault.BadFrame at)) w g (e, unfit) = nothing_more serves past p s' o' (fault.BadFrame at) g (inr (w, e ∙ ap (λ (q : Places). q.last) g.places, unfit), λ v. absurd (let h : work ≡ take_right = sym w ∙ v in cc))
+work_done serves past p s' o' heard' (Err (fault.Work f)) w g (ne, may, front) = nothing_more serves past p s' o' (fault.Work f) g tt (w, ne, may, front)
+work_done serves past p s' o' heard' (Err (fault.BadFrame at)) w g (e, unfit) = nothing_more serves past p s' o' (fault.BadFrame at) g (inl w) (inr (w, e ∙ ap (λ (q : Places). q.last) g.places, unfit), λ v. absurd (let h : work ≡ take_right = sym w ∙ v in cc))
 work_done serves past p s' o' heard' (Err fault.LeftRead) w g x = absurd x
 work_done serves past p s' o' heard' (Err fault.LeftWrite) w g x = absurd x
 work_done serves past p s' o' heard' (Err fault.Right) w g x = absurd x
@@ -228,5 +235,9 @@ on_ok P (Ok x) p = p
 on_ok P (Err f) p = tt
 
 -- nothing was done in the room
-pub room_alone : (heard heard' : ℕ) (o : Outside) (result : Result Moved LoopFault) → heard' ≡ heard → RoomKept heard heard' o o result
-room_alone heard heard' o result e = record { later = later_same o; script = script_same heard heard' o e; database = on_ok (KeepsDatabase o o) result (database_same o) }
+pub room_alone : (place heard heard' : ℕ) (o : Outside) (result : Result Moved LoopFault) → heard' ≡ heard → RoomKept place heard heard' o o result
+room_alone place heard heard' o result e = record { later = later_same o; script = script_same heard heard' o e; database = on_ok (KeepsDatabase o o) result (database_same o); ends = λ apart. record { same = refl; unread = e } }
+
+-- what work leaves of the ends of the room, as the process says it
+pub ends_of_work : {T : Type 0} (heard heard' : ℕ) (o o' : Outside) (result : Result T WorkFault) → LeavesEnds heard heard' o o' result → EndsKept heard heard' o o'
+ends_of_work heard heard' o o' result e = record { same = e.same; unread = e.unread }

@@ -16,7 +16,7 @@ use Rattle.stage_process.specs.Incoming.{Holds}
 use Rattle.stage_process.specs.Moves.{At, LocalRun, Move, StepsBy, given_left, given_right, taken_left, taken_right}
 use Rattle.stage_process.specs.Sides.{Side, Sides}
 use Rattle.stage_process.specs.Steps.{Goes, Hand, Past, Ran, RoomKept, SideGoes, StepDone, at_hand}
-use Rattle.stage_process.specs.Whole.{Ending, HowEnded}
+use Rattle.stage_process.specs.Whole.{Ending, EndsKept, HowEnded}
 use Rattle.stage_process.proofs.Going.{side_read, stays_later, wrote_all}
 use Rattle.stage_process.proofs.GivingSteps.{nothing_more}
 use Rattle.stage_process.proofs.TakingSteps.{ending, places_at}
@@ -112,23 +112,25 @@ ran_behind serves serves' start heard s' old new after past p f runs keep l k d 
   right_wrote = r.right_wrote;
   left_later = r.left_later;
   right_later = r.right_later;
+  all = tt;
+  room = r.room;
   ended = how_from serves serves' heard p.heard s' old p.outside new past.before after (ending r.moves r.end r.left_read r.left_unread after.left.left r.right_read r.right_unread after.right.left) f keep l k d r.ended;
 }
 
-pub ran_failed : (serves serves' : User → Type 0) (start : At) (heard : ℕ) (s' : LocalState quel_sorts) (old new : Outside) (before after : Sides) (made : ℕ) (p : Hand) (f : LoopFault) → Running serves start before made p → ((user : User) → serves user → serves' user) →
-    RoomKept heard p.heard old p.outside (Ok Stepped) → ((past : Past) → Goes past p → Ran serves' (at_hand p) p.heard s' p.outside new past.before after past.moves (Err f)) → Ran serves start heard s' old new before after [] (Err f)
-ran_failed serves serves' start heard s' old new before after made p f r keep room step =
+pub ran_failed : (serves serves' : User → Type 0) (start : At) (place heard : ℕ) (s' : LocalState quel_sorts) (old new : Outside) (before after : Sides) (made : ℕ) (p : Hand) (f : LoopFault) → Running serves start before made p → ((user : User) → serves user → serves' user) →
+    RoomKept place heard p.heard old p.outside (Ok Stepped) → ((past : Past) → Goes past p → Ran serves' (at_hand p) p.heard s' p.outside new past.before after past.moves (Err f)) → Ran serves start heard s' old new before after [] (Err f)
+ran_failed serves serves' start place heard s' old new before after made p f r keep room step =
     subst (λ (x : Sides). Ran serves start heard s' old new x after [] (Err f)) r.began
     (ran_behind serves serves' start heard s' old new after r.past p f r.runs keep room.later room.script room.database (step r.past r.goes))
 
 -- no more steps are counted
-pub ran_spent : (serves : User → Type 0) (start : At) (heard : ℕ) (old : Outside) (before : Sides) (made : ℕ) (p : Hand) → Running serves start before made p → 2 ^ 64 - 1 ≤ made → made ≤ 2 ^ 64 - 1 → RoomKept heard p.heard old p.outside (Ok Stepped) →
+pub ran_spent : (serves : User → Type 0) (start : At) (place heard : ℕ) (old : Outside) (before : Sides) (made : ℕ) (p : Hand) → Running serves start before made p → 2 ^ 64 - 1 ≤ made → made ≤ 2 ^ 64 - 1 → RoomKept place heard p.heard old p.outside (Ok Stepped) →
     Ran serves start heard p.state old p.outside before p.sides [] (Err fault.Spent)
-ran_spent serves start heard old before made p r low high room =
+ran_spent serves start place heard old before made p r low high room =
     let was = r.counted in
     subst (λ (x : Sides). Ran serves start heard p.state old p.outside x p.sides [] (Err fault.Spent)) r.began
     (ran_behind serves serves start heard p.state old p.outside p.sides r.past p fault.Spent r.runs (λ user x. x) room.later room.script room.database
-    (nothing_more serves r.past p p.state p.outside fault.Spent r.goes (inl (omega (arith, was, low, high)))))
+    (nothing_more serves r.past p p.state p.outside fault.Spent r.goes refl (inl (omega (arith, was, low, high)))))
 
 -- the stage has ended
 pub ran_ended : (serves serves' : User → Type 0) (start : At) (heard : ℕ) (old : Outside) (before : Sides) (made : ℕ) (p p' : Hand) (x : Unit {0}) (moved : Moved) → moved ≡ Blocked → Running serves start before made p → ((past : Past) → Goes past p → StepDone serves' past p p' (Ok moved)) →
@@ -157,13 +159,24 @@ ran_ended serves serves' start heard old before made p p' x moved e r step =
       right_wrote = wrote_all past.before.right.out p.sides.right.out _ g.right.wrote;
       left_later = stays_later past.before.left p.sides.left (taken_left past.moves) (given_left past.moves) past.left p.talk.left g.left;
       right_later = stays_later past.before.right p.sides.right (taken_right past.moves) (given_right past.moves) past.right p.talk.right g.right;
+      all = record { left = g.left.wrote; right = g.right.wrote; left_counts = g.left.counts; right_counts = g.right.counts };
+      room = refl;
       ended = (done.0, refl, refl);
     }))
 
 -- ---- the room
 
-pub room_begins : (heard : ℕ) (o : Outside) → RoomKept heard heard o o (Ok Stepped)
-room_begins heard o = record { later = later_same o; script = script_same heard heard o refl; database = database_same o }
+pub room_begins : (place heard : ℕ) (o : Outside) → RoomKept place heard heard o o (Ok Stepped)
+room_begins place heard o = record { later = later_same o; script = script_same heard heard o refl; database = database_same o; ends = λ apart. record { same = refl; unread = refl } }
 
-pub room_on : (h h' h'' : ℕ) (a b c : Outside) (moved : Moved) → RoomKept h h' a b (Ok Stepped) → RoomKept h' h'' b c (Ok moved) → RoomKept h h'' a c (Ok Stepped)
-room_on h h' h'' a b c moved f g = record { later = later_more a b c f.later g.later; script = script_more h h' h'' a b c f.script g.script; database = database_more a b c f.database g.database }
+pub room_on : (place place' h h' h'' : ℕ) (a b c : Outside) (moved : Moved) → place' ≡ place → RoomKept place h h' a b (Ok Stepped) → RoomKept place' h' h'' b c (Ok moved) → RoomKept place h h'' a c (Ok Stepped)
+room_on place place' h h' h'' a b c moved e f g = record {
+  later = later_more a b c f.later g.later;
+  script = script_more h h' h'' a b c f.script g.script;
+  database = database_more a b c f.database g.database;
+  ends = λ apart. let x = f.ends apart in let y = g.ends (λ k. apart (sym e ∙ k)) in record { same = y.same ∙ x.same; unread = y.unread ∙ x.unread };
+}
+
+-- where the stage isn't the first, behind a step that failed
+pub ends_failed : (place place' h h' h'' : ℕ) (a b c : Outside) (f : LoopFault) → place' ≡ place → RoomKept place h h' a b (Ok Stepped) → RoomKept place' h' h'' b c (Err f) → (place ≡ 1 → ⊥) → EndsKept h h'' a c
+ends_failed place place' h h' h'' a b c f e r s apart = let x = r.ends apart in let y = s.ends (λ k. apart (sym e ∙ k)) in record { same = y.same ∙ x.same; unread = y.unread ∙ x.unread }

@@ -11,7 +11,7 @@ use Rattle.frame_codec.specs.Frames.{frames_bytes}
 use Rattle.frame_codec.specs.Reading.{Reading, behind_frames, read}
 use Rattle.net_core.specs.declared.steps.Moved.{Moved}
 use Rattle.net_core.specs.declared.steps.Moved.TheVariants.{Stepped, Blocked}
-use Rattle.net_core.specs.Told.{Outside}
+use Rattle.net_core.specs.Told.{Outside, told}
 use Rattle.network_meaning.specs.Calls.{Taken}
 use Rattle.network_meaning.specs.LocalSteps.{Want, Want.take_left, Want.take_right}
 use Rattle.network_meaning.specs.Network.{LocalState, want}
@@ -26,7 +26,7 @@ use Rattle.stage_process.specs.Moves.{At, Move, Places, first_places, from_left,
 use Rattle.stage_process.specs.Sides.{Faltered, HasRead, IsNeeded, Outlet, OutletLater, SameCounts, Side, SideLater, Sides}
 use Rattle.stage_process.specs.Steps.{Goes, Hand, Past, Ran, StepDone, at_hand}
 use Rattle.stage_process.specs.Taking.{TakeDone, TakeFailed}
-use Rattle.stage_process.specs.Whole.{Ending, HowEnded, SideRead, unmet}
+use Rattle.stage_process.specs.Whole.{LeavesRoom, Ending, HowEnded, SideRead, unmet}
 use Rattle.stage_process.proofs.Going.{flat_one, flat_same, place_next, places_more, read_later, rose_from, side_as, side_lacks, side_read, side_took, stays_later, wrote_all, wrote_as}
 
 -- ---- how a step that was to take has ended
@@ -67,6 +67,18 @@ unmet_left w f e = rw e refl
 unmet_right : (w : Want) (f : LoopFault) → w ≡ take_right → unmet take_right w (Err f) ≡ 1
 unmet_right w f e = rw e refl
 
+-- nothing was done in the room
+pub room_still : (end : At) (o : Outside) (f : LoopFault) → told o ≡ end.room → LeavesRoom end o (Err f)
+room_still end o (fault.Work f) e = tt
+room_still end o (fault.BadFrame at) e = inr e
+room_still end o fault.LeftRead e = e
+room_still end o fault.LeftWrite e = e
+room_still end o fault.Right e = e
+room_still end o fault.EndedEarly e = e
+room_still end o fault.Spent e = e
+room_still end o (fault.Told status) e = e
+room_still end o fault.OutOfMemory e = e
+
 -- what was done before is all
 pub still : (serves : User → Type 0) (past : Past) (p : Hand) (s' : LocalState quel_sorts) (o' : Outside) (after : Sides) (f : LoopFault) (lb : List ℕ) (lu : Reading) (rb : List ℕ) (ru : Reading) →
     SideRead past.before.left after.left (taken_left past.moves) (length (taken_left past.moves) + unmet take_left (want p.state) (Err f)) lb lu →
@@ -74,10 +86,10 @@ pub still : (serves : User → Type 0) (past : Past) (p : Hand) (s' : LocalState
     All IsPlain (taken_right past.moves) →
     Appends past.before.left.out.written after.left.out.written (frames_bytes (given_left past.moves)) →
     Appends past.before.right.out.written after.right.out.written (frames_bytes (given_right past.moves)) →
-    SideLater past.before.left after.left → SideLater past.before.right after.right →
+    SideLater past.before.left after.left → SideLater past.before.right after.right → LeavesRoom (at_hand p) o' (Err f) →
     HowEnded serves p.heard s' p.outside o' past.before after (ending past.moves (at_hand p) lb lu after.left.left rb ru after.right.left) (Err f) →
     Ran serves (at_hand p) p.heard s' p.outside o' past.before after past.moves (Err f)
-still serves past p s' o' after f lb lu rb ru left right plain lw rwrote ll rl how = record {
+still serves past p s' o' after f lb lu rb ru left right plain lw rwrote ll rl kept how = record {
   moves = past.moves;
   later = [];
   is = sym (append-nil past.moves);
@@ -95,6 +107,8 @@ still serves past p s' o' after f lb lu rb ru left right plain lw rwrote ll rl h
   right_wrote = wrote_all past.before.right.out after.right.out (frames_bytes (given_right past.moves)) rwrote;
   left_later = ll;
   right_later = rl;
+  all = tt;
+  room = kept;
   ended = how;
 }
 
@@ -158,6 +172,7 @@ left_lacks serves past p s' told' faults' f more w g heard needed le rose (unrea
     g.right.wrote
     (read_later past.before.left p.sides.left (taken_left past.moves) (given_left past.moves) past.left p.talk.left told' faults' p.sides.left.out g.left le (later_counts p.sides.left.out))
     (stays_later past.before.right p.sides.right (taken_right past.moves) (given_right past.moves) past.right p.talk.right g.right)
+    (room_still (at_hand p) p.outside f refl)
     (how_left serves p.heard s' p.outside p.outside past.before (record { left = after; right = p.sides.right }) (ending past.moves (at_hand p) (past.left ++ more) unread told' past.right p.talk.right.reader p.sides.right.left) f w why
     (λ e. rose_from past.before.left.faults p.sides.left.faults faults' g.left.faults (rose e)))
 
@@ -215,6 +230,7 @@ right_lacks serves past p s' right' f more w g heard needed le later written ros
     (wrote_as past.before.right p.sides.right (taken_right past.moves) (given_right past.moves) past.right p.talk.right right'.out g.right written)
     (stays_later past.before.left p.sides.left (taken_left past.moves) (given_left past.moves) past.left p.talk.left g.left)
     (read_later past.before.right p.sides.right (taken_right past.moves) (given_right past.moves) past.right p.talk.right right'.left right'.faults right'.out g.right le later)
+    (room_still (at_hand p) p.outside f refl)
     (how_right serves p.heard s' p.outside p.outside past.before (record { left = p.sides.left; right = right' }) (ending past.moves (at_hand p) past.left p.talk.left.reader p.sides.left.left (past.right ++ more) unread right'.left) f w why
     (λ e. inl (rose_from past.before.right.out.faults p.sides.right.out.faults right'.out.faults g.right.counts.faults (rose e))))
 

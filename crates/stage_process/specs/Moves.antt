@@ -1,12 +1,11 @@
 -- What a stage does, step by step: it takes frames, gives frames, and works.
 use Rattle.std.specs.Prelude.{◌≡◌, ℕ, ◌+◌, List, [], ◌∷◌, length}
-use Rattle.std.specs.declared.option.Option.{Option}
 use Rattle.std.specs.List.{flat_map}
 use Rattle.frame_codec.specs.declared.frame.Frame.{Frame}
 use Rattle.frame_codec.specs.Frames.{frame_bytes}
-use Rattle.network_meaning.specs.Calls.{Given, Taken, WorkDone}
+use Rattle.network_meaning.specs.Calls.{Given, Taken, Told, WorkDone}
 use Rattle.network_meaning.specs.Language.{Language}
-use Rattle.network_meaning.specs.LocalSteps.{Room as NetworkRoom, Want.take_left, Want.take_right, Want.give_left, Want.give_right, Want.work}
+use Rattle.network_meaning.specs.LocalSteps.{Want.take_left, Want.take_right, Want.give_left, Want.give_right, Want.work}
 use Rattle.network_meaning.specs.Network.{LocalState, want}
 use Rattle.quel_network.specs.Sorts.{quel_sorts}
 
@@ -18,10 +17,10 @@ pub data Move : Type 0 where
   gave_right : Frame → Move
   worked : Move
 
--- where a stage is, and the room where it is told
+-- where a stage is, and what is known of the room
 pub record At : Type 0 where
   pub state : LocalState quel_sorts
-  pub room : Option (NetworkRoom quel_sorts)
+  pub room : Told quel_sorts
 
 -- the step leads from here to there, and is the one that the stage wanted
 abbrev pub StepsBy : Language quel_sorts → Move → At → At → Type 0

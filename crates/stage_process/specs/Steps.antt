@@ -21,7 +21,7 @@ use Rattle.stage_process.specs.Faults.{IsPlain}
 use Rattle.stage_process.specs.Incoming.{Holds, inlet}
 use Rattle.stage_process.specs.Moves.{At, LocalRun, Move, StepsBy, first_places, given_left, given_right, places_from, taken_left, taken_right}
 use Rattle.stage_process.specs.Sides.{HasRead, IsNeeded, SameCounts, Side, SideLater, Sides, Wrote}
-use Rattle.stage_process.specs.Whole.{HowEnded, SideRead, unmet}
+use Rattle.stage_process.specs.Whole.{EndsKept, HowEnded, LeavesRoom, SideRead, WroteAll, unmet}
 
 -- what a stage's process has at hand: where the stage is, the room and both sides as they are told, what it has read, and how many bytes of the script the stage has read
 pub record Hand : Type 0 where
@@ -77,6 +77,8 @@ pub record Ran (serves : User → Type 0) (start : At) (heard : ℕ) (s' : Local
   pub right_wrote : Wrote before.right.out after.right.out (frames_bytes (given_right moves))
   pub left_later : SideLater before.left after.left
   pub right_later : SideLater before.right after.right
+  pub all : OnOk result (WroteAll before after moves)
+  pub room : LeavesRoom end new result
   pub ended : HowEnded serves heard s' old new before after (record {
     moves = moves;
     end = end;
@@ -90,8 +92,9 @@ StepDone serves past p p' (Ok Stepped) = (move : Move) × (l : List ℕ) × (r :
 StepDone serves past p p' (Ok Blocked) = HasEnded p.state × (p' ≡ p)
 StepDone serves past p p' (Err f) = Ran serves (at_hand p) p.heard p'.state p.outside p'.outside past.before p'.sides past.moves (Err f)
 
--- the room behind a step: no count fell, what is told of the script is told on, and so is a database unless the step failed
-pub record RoomKept (heard heard' : ℕ) (old new : Outside) (result : Result Moved LoopFault) : Type 0 where
+-- the room behind a step of the stage with this number: no count fell, what is told of the script is told on, and so is a database unless the step failed; and the source and the sink are as they were unless it is the first stage
+pub record RoomKept (place heard heard' : ℕ) (old new : Outside) (result : Result Moved LoopFault) : Type 0 where
   pub later : Later old new
   pub script : KeepsScript heard heard' old new
   pub database : OnOk result (KeepsDatabase old new)
+  pub ends : (place ≡ 1 → ⊥) → EndsKept heard heard' old new

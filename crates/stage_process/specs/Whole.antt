@@ -1,13 +1,18 @@
 -- What the process of a stage has done, and how it ended.
-use Rattle.std.specs.Prelude.{◌≡◌, ◌⊎◌, ℕ, ◌+◌, ◌-◌, ◌^◌, List, ◌++◌, length, All, Some, Result, Ok, Err, ⊤}
+use Rattle.std.specs.Prelude.{◌≡◌, ◌⊎◌, ℕ, ◌+◌, ◌-◌, ◌^◌, List, ◌++◌, length, All, Some, Result, Ok, Err, OnOk, ⊤}
+use Rattle.std.specs.Io.KnownBytes.{Appends}
+use Rattle.calculus.specs.Database.{Db}
 use Rattle.fault_io.specs.Causes.{Rose}
+use Rattle.fault_io.specs.Files.{Files}
 use Rattle.frame_codec.specs.declared.frame.Frame.{Frame}
 use Rattle.frame_codec.specs.Frames.{frames_bytes}
 use Rattle.frame_codec.specs.Reading.{Reading, behind_frames, read}
 use Rattle.net_core.specs.Causes.{MayCome}
 use Rattle.net_core.specs.declared.fault.WorkFault.TheVariants as work_fault
+use Rattle.net_core.specs.Spares.{ends}
 use Rattle.net_core.specs.Told.{LeavesPart, Outside, told}
 use Rattle.net_core.specs.Wants.{HasEnded}
+use Rattle.network_meaning.specs.Calls.{Tells}
 use Rattle.network_meaning.specs.Language.{Language}
 use Rattle.network_meaning.specs.Lawful.{FitWork}
 use Rattle.network_meaning.specs.LocalSteps.{Want, Want.take_left, Want.take_right, Want.work, Room as NetworkRoom}
@@ -19,7 +24,7 @@ use Rattle.stage_process.specs.declared.fault.LoopFault.TheVariants as fault
 use Rattle.stage_process.specs.Faults.{IsPlain, fault_bytes}
 use Rattle.stage_process.specs.Incoming.{Inlet, IsBroken, IsOver, IsRefused, IsTold, IsTooMuch, IsUntold, inlet}
 use Rattle.stage_process.specs.Moves.{At, LocalRun, Move, given_left, given_right, last_place, taken_left, taken_right}
-use Rattle.stage_process.specs.Sides.{Faltered, HasRead, IsNeeded, Side, SideLater, Sides, Wrote}
+use Rattle.stage_process.specs.Sides.{Faltered, HasRead, IsNeeded, SameCounts, Side, SideLater, Sides, Wrote}
 
 -- ---- how it ended
 
@@ -34,13 +39,13 @@ pub record Ending : Type 0 where
 abbrev pub IsWanted : Ending → (Inlet → Type 0) → Type 0
 IsWanted e P = ((want e.end.state ≡ take_left) × P e.left) ⊎ ((want e.end.state ≡ take_right) × P e.right)
 
--- what is to be worked on isn't fit, where the room is told, and the last frame that was taken begins at this byte
+-- what is to be worked on isn't fit, where the database and the files are told, and the last frame that was taken begins at this byte
 abbrev pub IsUnfit : (User → Type 0) → Ending → ℕ → Type 0
-IsUnfit serves e at = (want e.end.state ≡ work) × (at ≡ last_place e.moves) × ((user : User) → serves user → (room : NetworkRoom quel_sorts) → e.end.room ≡ Some room → FitWork (quel user) e.end.state.mode room.db → ⊥)
+IsUnfit serves e at = (want e.end.state ≡ work) × (at ≡ last_place e.moves) × ((user : User) → serves user → (db : Db) (files : Files) → e.end.room.db ≡ Some db → e.end.room.shelf ≡ Some files → FitWork (quel user) e.end.state.mode db → ⊥)
 
 -- the work that was to follow has left a part of what it does, where the room is told
 abbrev pub LeftPart : Language quel_sorts → At → Outside → Type 0
-LeftPart L end after = (room : NetworkRoom quel_sorts) → end.room ≡ Some room → LeavesPart L end.state.mode room after
+LeftPart L end after = (room : NetworkRoom quel_sorts) → Tells end.room room → LeavesPart L end.state.mode room end.room.out after
 
 -- how it ended: the stage has ended; its work failed, by a fault that may come; a count of a side rose; a stream ended where a frame of it was wanted; no more steps or bytes are counted; what is wanted is no frame, or one that may not be taken, or what is to be worked on isn't fit, and no Fault frame that tells a status is wanted; a Fault frame is wanted that tells a status; or no memory was left
 abbrev pub HowEnded : (User → Type 0) → ℕ → LocalState quel_sorts → Outside → Outside → Sides → Sides → Ending → Result (Unit {0}) LoopFault → Type 0
@@ -54,6 +59,25 @@ HowEnded serves heard s' old new before after e (Err fault.Spent) = (length e.mo
 HowEnded serves heard s' old new before after e (Err (fault.BadFrame at)) = (IsWanted e (λ i. IsBroken i at ⊎ IsRefused serves e.end.state i at) ⊎ IsUnfit serves e at) × (want e.end.state ≡ take_right → IsUntold e.right)
 HowEnded serves heard s' old new before after e (Err (fault.Told status)) = (want e.end.state ≡ take_right) × IsTold e.right status
 HowEnded serves heard s' old new before after e (Err fault.OutOfMemory) = ⊤
+
+-- the room is as the last step left it, unless work failed: then what this leaves is said with its fault
+abbrev pub LeavesRoom : At → Outside → Result (Unit {0}) LoopFault → Type 0
+LeavesRoom end new (Ok x) = told new ≡ end.room
+LeavesRoom end new (Err (fault.Work f)) = ⊤
+LeavesRoom end new (Err (fault.BadFrame at)) = (want end.state ≡ work) ⊎ (told new ≡ end.room)
+LeavesRoom end new (Err _) = told new ≡ end.room
+
+-- all that was to be written to both sides was, and no count of an outlet rose
+pub record WroteAll (before after : Sides) (moves : List Move) : Type 0 where
+  pub left : Appends before.left.out.written after.left.out.written (frames_bytes (given_left moves))
+  pub right : Appends before.right.out.written after.right.out.written (frames_bytes (given_right moves))
+  pub left_counts : SameCounts before.left.out after.left.out
+  pub right_counts : SameCounts before.right.out after.right.out
+
+-- the source and the sink of the room are as they were, and nothing of the script was read
+pub record EndsKept (heard heard' : ℕ) (old new : Outside) : Type 0 where
+  pub same : ends new ≡ ends old
+  pub unread : heard' ≡ heard
 
 -- ---- what was read
 
@@ -87,6 +111,8 @@ pub record LoopDone (serves : User → Type 0) (place heard : ℕ) (s s' : Local
   pub right_wrote : Wrote before.right.out after.right.out (frames_bytes (given_right moves))
   pub left_later : SideLater before.left after.left
   pub right_later : SideLater before.right after.right
+  pub all : OnOk result (WroteAll before after moves)
+  pub room : LeavesRoom end new result
   pub ended : HowEnded serves heard s' old new before after (record {
     moves = moves;
     end = end;

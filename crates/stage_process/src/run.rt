@@ -5,7 +5,7 @@ ghost use Rattle.net_core.specs.Told.{KeepsDatabase, KeepsScript, Later, outside
 ghost use Rattle.quel_network.specs.Sorts.{User};
 ghost use Rattle.stage_process.specs.Sides.{sides};
 ghost use Rattle.stage_process.specs.Steps.{Ran};
-ghost use Rattle.stage_process.specs.Whole.{LoopDone};
+ghost use Rattle.stage_process.specs.Whole.{EndsKept, LoopDone};
 
 use crate::fault::LoopFault;
 use crate::incoming::{Incoming, PIECE};
@@ -26,22 +26,26 @@ fn run<T: Stage, I: Source, O: Sink, L: Link, B: Base, H: Shelf, S: Source, K: S
     room: &mut Room<B, H, S, K>,
 ) -> Result<(), LoopFault>
     ensures done { Ran (T.serves stage.old)
-        (record { state = T.state stage.old; room = told (outside B.database B.faults B.clock B.reads H.files H.faults S.left S.faults K.written K.faults K.stalls room.old) })
+        (record { state = T.state stage.old; room = told (outside B.database B.faults B.clock B.reads H.files H.faults S.left S.given S.faults K.written K.faults K.stalls room.old) })
         (T.heard stage.old) (T.state stage.new)
-        (outside B.database B.faults B.clock B.reads H.files H.faults S.left S.faults K.written K.faults K.stalls room.old)
-        (outside B.database B.faults B.clock B.reads H.files H.faults S.left S.faults K.written K.faults K.stalls room.new)
+        (outside B.database B.faults B.clock B.reads H.files H.faults S.left S.given S.faults K.written K.faults K.stalls room.old)
+        (outside B.database B.faults B.clock B.reads H.files H.faults S.left S.given S.faults K.written K.faults K.stalls room.new)
         (sides I.left I.faults O.written O.faults O.stalls L.left L.written L.faults L.stalls left_in.old left_out.old right.old)
         (sides I.left I.faults O.written O.faults O.stalls L.left L.written L.faults L.stalls left_in.new left_out.new right.new)
         [] result }
     ensures database { OnOk result (KeepsDatabase
-        (outside B.database B.faults B.clock B.reads H.files H.faults S.left S.faults K.written K.faults K.stalls room.old)
-        (outside B.database B.faults B.clock B.reads H.files H.faults S.left S.faults K.written K.faults K.stalls room.new)) }
+        (outside B.database B.faults B.clock B.reads H.files H.faults S.left S.given S.faults K.written K.faults K.stalls room.old)
+        (outside B.database B.faults B.clock B.reads H.files H.faults S.left S.given S.faults K.written K.faults K.stalls room.new)) }
     ensures later { Later
-        (outside B.database B.faults B.clock B.reads H.files H.faults S.left S.faults K.written K.faults K.stalls room.old)
-        (outside B.database B.faults B.clock B.reads H.files H.faults S.left S.faults K.written K.faults K.stalls room.new) }
+        (outside B.database B.faults B.clock B.reads H.files H.faults S.left S.given S.faults K.written K.faults K.stalls room.old)
+        (outside B.database B.faults B.clock B.reads H.files H.faults S.left S.given S.faults K.written K.faults K.stalls room.new) }
     ensures heard { KeepsScript (T.heard stage.old) (T.heard stage.new)
-        (outside B.database B.faults B.clock B.reads H.files H.faults S.left S.faults K.written K.faults K.stalls room.old)
-        (outside B.database B.faults B.clock B.reads H.files H.faults S.left S.faults K.written K.faults K.stalls room.new) }
+        (outside B.database B.faults B.clock B.reads H.files H.faults S.left S.given S.faults K.written K.faults K.stalls room.old)
+        (outside B.database B.faults B.clock B.reads H.files H.faults S.left S.given S.faults K.written K.faults K.stalls room.new) }
+    // Only the first stage reads the source and writes to the sink.
+    ensures ends { (T.place stage.old ≡ 1 → ⊥) → EndsKept (T.heard stage.old) (T.heard stage.new)
+        (outside B.database B.faults B.clock B.reads H.files H.faults S.left S.given S.faults K.written K.faults K.stalls room.old)
+        (outside B.database B.faults B.clock B.reads H.files H.faults S.left S.given S.faults K.written K.faults K.stalls room.new) }
     ensures serves { (user : User) → T.serves stage.old user → T.serves stage.new user }
     ensures place { T.place stage.new ≡ T.place stage.old }
 {
@@ -79,20 +83,24 @@ pub fn stage_loop<T: Stage, I: Source, O: Sink, L: Link, B: Base, H: Shelf, S: S
     room: &mut Room<B, H, S, K>,
 ) -> Result<(), LoopFault>
     ensures done { LoopDone (T.serves stage.old) (T.place stage.old) (T.heard stage.old) (T.state stage.old) (T.state stage.new)
-        (outside B.database B.faults B.clock B.reads H.files H.faults S.left S.faults K.written K.faults K.stalls room.old)
-        (outside B.database B.faults B.clock B.reads H.files H.faults S.left S.faults K.written K.faults K.stalls room.new)
+        (outside B.database B.faults B.clock B.reads H.files H.faults S.left S.given S.faults K.written K.faults K.stalls room.old)
+        (outside B.database B.faults B.clock B.reads H.files H.faults S.left S.given S.faults K.written K.faults K.stalls room.new)
         (sides I.left I.faults O.written O.faults O.stalls L.left L.written L.faults L.stalls left_in.old left_out.old right.old)
         (sides I.left I.faults O.written O.faults O.stalls L.left L.written L.faults L.stalls left_in.new left_out.new right.new)
         result }
     ensures database { OnOk result (KeepsDatabase
-        (outside B.database B.faults B.clock B.reads H.files H.faults S.left S.faults K.written K.faults K.stalls room.old)
-        (outside B.database B.faults B.clock B.reads H.files H.faults S.left S.faults K.written K.faults K.stalls room.new)) }
+        (outside B.database B.faults B.clock B.reads H.files H.faults S.left S.given S.faults K.written K.faults K.stalls room.old)
+        (outside B.database B.faults B.clock B.reads H.files H.faults S.left S.given S.faults K.written K.faults K.stalls room.new)) }
     ensures later { Later
-        (outside B.database B.faults B.clock B.reads H.files H.faults S.left S.faults K.written K.faults K.stalls room.old)
-        (outside B.database B.faults B.clock B.reads H.files H.faults S.left S.faults K.written K.faults K.stalls room.new) }
+        (outside B.database B.faults B.clock B.reads H.files H.faults S.left S.given S.faults K.written K.faults K.stalls room.old)
+        (outside B.database B.faults B.clock B.reads H.files H.faults S.left S.given S.faults K.written K.faults K.stalls room.new) }
     ensures heard { KeepsScript (T.heard stage.old) (T.heard stage.new)
-        (outside B.database B.faults B.clock B.reads H.files H.faults S.left S.faults K.written K.faults K.stalls room.old)
-        (outside B.database B.faults B.clock B.reads H.files H.faults S.left S.faults K.written K.faults K.stalls room.new) }
+        (outside B.database B.faults B.clock B.reads H.files H.faults S.left S.given S.faults K.written K.faults K.stalls room.old)
+        (outside B.database B.faults B.clock B.reads H.files H.faults S.left S.given S.faults K.written K.faults K.stalls room.new) }
+    // Only the first stage reads the source and writes to the sink.
+    ensures ends { (T.place stage.old ≡ 1 → ⊥) → EndsKept (T.heard stage.old) (T.heard stage.new)
+        (outside B.database B.faults B.clock B.reads H.files H.faults S.left S.given S.faults K.written K.faults K.stalls room.old)
+        (outside B.database B.faults B.clock B.reads H.files H.faults S.left S.given S.faults K.written K.faults K.stalls room.new) }
     ensures serves { (user : User) → T.serves stage.old user → T.serves stage.new user }
     ensures place { T.place stage.new ≡ T.place stage.old }
 {
