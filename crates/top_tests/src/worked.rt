@@ -13,7 +13,7 @@ const ASKED: [Case; 18] = [
         output: b"",
         left: &[],
     },
-    // A number, and none.
+    // A query that has a row, and one that has none.
     Case {
         files: &[],
         script: br"retrieve (x = 3)
@@ -30,7 +30,7 @@ retrieve (x = 3) where 1 = 2
 ",
         left: &[],
     },
-    // A number that no relation holds, and the least one.
+    // A number that doesn't fit its domain, and the least that does.
     Case {
         files: &[],
         script: br"create q (a = i2)

@@ -4,7 +4,7 @@ use crate::trials::Case;
 
 /// Scripts that define and use files, each with what it prints and leaves.
 pub(crate) const DEFINED: [Case; 7] = [
-    // A command that there isn't, and a file.
+    // An unknown command, and a file that isn't there.
     Case {
         files: &[],
         script: br"retrieve (x = 1)
