@@ -1,18 +1,19 @@
 -- Where a stage stands that plays a written list.
-use Rattle.std.specs.Prelude.{ℕ, List, [], ◌∷◌, map}
+use Rattle.std.specs.Prelude.{ℕ, List, [], ◌∷◌, None, map}
 use Rattle.frame_codec.specs.declared.frame.Frame.{Frame}
 use Rattle.net_tests.specs.declared.players.Act.{Act}
 use Rattle.net_tests.specs.declared.players.Act.TheVariants.{TakeLeft, TakeRight, Print}
 use Rattle.net_tests.specs.declared.players.Move.{Move}
-use Rattle.network_meaning.specs.LocalSteps.{Mode, Mode.reading, Mode.idle3, Mode.passing3, Mode.ended}
+use Rattle.network_meaning.specs.LocalSteps.{Mode, Mode.printing, Mode.idle3, Mode.passing3, Mode.ended}
 use Rattle.network_meaning.specs.Network.{LocalState}
+use Rattle.network_meaning.specs.Sorts.{Message.said, Reply.done, Said.replied}
 use Rattle.quel_network.specs.Sorts.{first_monitor, quel_sorts}
 
 -- a mode in which a stage does this
 abbrev pub mode_for : Act → Mode quel_sorts
 mode_for TakeLeft = idle3
 mode_for TakeRight = passing3
-mode_for Print = reading first_monitor
+mode_for Print = printing first_monitor None (said (replied done))
 
 -- a mode in which a stage does the first of these moves; where none is left it has ended
 abbrev pub mode_of : List Move → Mode quel_sorts

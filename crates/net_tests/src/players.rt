@@ -1,4 +1,4 @@
-// Stages that play a written list: they take frames, give frames, and print what they took.
+// Stages that play a written list: they take frames, give frames, and the first prints what it took.
 ghost use Rattle.std.specs.Prelude.{◌≡◌, IfOk, IsTrue};
 ghost use Rattle.frame_codec.specs.Frames.{is_lawful};
 ghost use Rattle.net_tests.specs.Playing.{frame_of};
@@ -17,7 +17,7 @@ pub(crate) enum Act {
     TakeLeft,
     /// It takes a frame from its right.
     TakeRight,
-    /// It prints what it took.
+    /// It prints what it took, where it is the first stage; any other forgets it.
     Print,
 }
 
@@ -63,6 +63,14 @@ impl Player {
             right: b"",
             got: Vec::new(alloc),
         }
+    }
+
+    /// What was taken is forgotten, and the move is made.
+    fn forget(&mut self)
+        ensures number { self.new.number ≡ self.old.number }
+    {
+        self.got.clear();
+        self.go_on();
     }
 
     /// The move is made, and what it gives is to be given.
@@ -144,15 +152,19 @@ impl Stage for Player {
         Err(OutOfMemory)
     }
 
+    #[tactic(auto, using(net_core::proofs::Faulty::reads_nothing, net_core::proofs::Faulty::within_nothing))]
     fn work<B: Base, H: Shelf, S: Source, K: Sink>(
         &mut self,
         _alloc: Global,
         room: &mut Room<B, H, S, K>,
     ) -> Result<(), WorkFault> {
+        if self.number != 1 {
+            self.forget();
+            return Ok(());
+        }
         match write_all(&mut room.sink, &self.got) {
             Ok(()) => {
-                self.got.clear();
-                self.go_on();
+                self.forget();
                 Ok(())
             }
             Err(_) => Err(WorkFault::Sink),

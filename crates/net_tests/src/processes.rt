@@ -28,7 +28,8 @@ struct Case {
     failing: [&'static [u64]; 4],
 }
 
-/// What comes of it: how it ended, what was written to both sides, and what was printed.
+/// What comes of it: how it ended, what was written to both sides, and what was printed: nothing, since
+/// it isn't the first stage.
 #[derive(Clone, Copy)]
 struct Came {
     ended: Result<(), LoopFault>,
@@ -54,7 +55,7 @@ const FAILING: [([&[u64]; 4], Came); 9] = [
             ended: Ok(()),
             to_left: TO_LEFT,
             to_right: TO_RIGHT,
-            printed: b"de",
+            printed: b"",
         },
     ),
     (
@@ -63,7 +64,7 @@ const FAILING: [([&[u64]; 4], Came); 9] = [
             ended: Err(LoopFault::LeftWrite),
             to_left: b"",
             to_right: TO_RIGHT,
-            printed: b"de",
+            printed: b"",
         },
     ),
     (
@@ -72,7 +73,7 @@ const FAILING: [([&[u64]; 4], Came); 9] = [
             ended: Err(LoopFault::LeftWrite),
             to_left: b"\x01\0\x01o",
             to_right: TO_RIGHT,
-            printed: b"de",
+            printed: b"",
         },
     ),
     (
@@ -81,7 +82,7 @@ const FAILING: [([&[u64]; 4], Came); 9] = [
             ended: Err(LoopFault::Right),
             to_left: b"\x09\0\x01\x09",
             to_right: b"",
-            printed: b"de",
+            printed: b"",
         },
     ),
     (
@@ -90,7 +91,7 @@ const FAILING: [([&[u64]; 4], Came); 9] = [
             ended: Err(LoopFault::Right),
             to_left: b"\x09\0\x01\x09",
             to_right: b"\x01\0\x01f",
-            printed: b"de",
+            printed: b"",
         },
     ),
     (
@@ -99,7 +100,7 @@ const FAILING: [([&[u64]; 4], Came); 9] = [
             ended: Err(LoopFault::Right),
             to_left: b"\x09\0\x01\x09",
             to_right: TO_RIGHT,
-            printed: b"de",
+            printed: b"",
         },
     ),
     (
@@ -108,15 +109,15 @@ const FAILING: [([&[u64]; 4], Came); 9] = [
             ended: Ok(()),
             to_left: TO_LEFT,
             to_right: TO_RIGHT,
-            printed: b"de",
+            printed: b"",
         },
     ),
     (
         [&[], &[], &[], &[0]],
         Came {
-            ended: Err(LoopFault::Work(WorkFault::Sink)),
-            to_left: b"",
-            to_right: b"",
+            ended: Ok(()),
+            to_left: TO_LEFT,
+            to_right: TO_RIGHT,
             printed: b"",
         },
     ),
@@ -151,7 +152,7 @@ const COMING: [(&[u8], &[u8], Came); 7] = [
             ended: Err(LoopFault::EndedEarly),
             to_left: b"\x01\0\x01o\x09\0\x01\x09",
             to_right: TO_RIGHT,
-            printed: b"de",
+            printed: b"",
         },
     ),
     (
@@ -171,7 +172,7 @@ const COMING: [(&[u8], &[u8], Came); 7] = [
             ended: Err(LoopFault::BadFrame { at: 1 }),
             to_left: b"\x09\0\x01\x0a",
             to_right: TO_RIGHT,
-            printed: b"de",
+            printed: b"",
         },
     ),
     (
@@ -181,7 +182,7 @@ const COMING: [(&[u8], &[u8], Came); 7] = [
             ended: Err(LoopFault::Told(5)),
             to_left: b"\x01\0\x01o\x09\0\x01\x05",
             to_right: TO_RIGHT,
-            printed: b"de",
+            printed: b"",
         },
     ),
     (
@@ -191,7 +192,7 @@ const COMING: [(&[u8], &[u8], Came); 7] = [
             ended: Ok(()),
             to_left: TO_LEFT,
             to_right: TO_RIGHT,
-            printed: b"de",
+            printed: b"",
         },
     ),
 ];
@@ -258,33 +259,41 @@ fn what_comes_is_taken_up_to_its_fault(rt: HostRuntime) {
     }
 }
 
-/// The first stage tells nobody of its fault.
-#[test]
-fn the_first_stage_tells_no_fault(rt: HostRuntime) {
-    let mut stage = Player::new(rt.alloc(), 1, &ONE);
-    let mut left_in = MemSource::new(bytes(&rt, rt.alloc(), b""), numbers(&rt, rt.alloc(), &[]));
-    let mut left_out = MemSink::new(rt.alloc(), numbers(&rt, rt.alloc(), &[]));
+/// How the first player ends where this comes from its right and these calls of the sink of the room fail,
+/// and whether it told nothing to its left.
+fn first_ends<R: Abort>(
+    rt: &R,
+    alloc: Global,
+    from_right: &[u8],
+    sink_fails: &[u64],
+) -> (Result<(), LoopFault>, bool) {
+    let mut stage = Player::new(alloc, 1, &ONE);
+    let mut left_in = MemSource::new(bytes(rt, alloc, b""), numbers(rt, alloc, &[]));
+    let mut left_out = MemSink::new(alloc, numbers(rt, alloc, &[]));
     let mut right = MemLink::new(
-        rt.alloc(),
-        bytes(&rt, rt.alloc(), b"\x01\0\x01k"),
+        alloc,
+        bytes(rt, alloc, from_right),
         0,
-        numbers(&rt, rt.alloc(), &[]),
+        numbers(rt, alloc, &[]),
     );
-    let mut room = room(&rt, rt.alloc(), &[]);
+    let mut room = room(rt, alloc, sink_fails);
     let ended = stage_loop(
-        rt.alloc(),
+        alloc,
         &mut stage,
         &mut left_in,
         &mut left_out,
         &mut right,
         &mut room,
     );
-    assert!(rt; ended == Err(LoopFault::EndedEarly));
-    assert!(rt; left_out.bytes() == b"".as_slice());
-    assert!(rt; right.written() == b"\x01\0\x01a\x01\0\x01b\x01\0\x01c".as_slice());
-    drop(stage);
-    drop(left_in);
-    drop(left_out);
-    drop(right);
-    drop(room);
+    (ended, left_out.bytes() == b"".as_slice())
+}
+
+#[test]
+fn the_first_stage_tells_no_fault(rt: HostRuntime) {
+    let four = b"\x01\0\x01k\x01\0\x01l\x01\0\x01m\x01\0\x01n";
+    let early = Err(LoopFault::EndedEarly);
+    let failed = Err(LoopFault::Work(WorkFault::Sink));
+    assert!(rt; first_ends(&rt, rt.alloc(), b"\x01\0\x01k", &[]) == (early, true));
+    assert!(rt; first_ends(&rt, rt.alloc(), four, &[]) == (Ok(()), true));
+    assert!(rt; first_ends(&rt, rt.alloc(), four, &[0]) == (failed, true));
 }
