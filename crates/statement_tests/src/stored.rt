@@ -26,69 +26,66 @@ const TARGET: &[u8] = b"\x00\x01\x01a\x01\x05\x00\x05\x00\x05\x00\x05\x00\x05\x0
     \x00\x00\x00\x00\x00\x00\x00\x00\x01\x00\x00\x00\x00\x00\x00\x00\x00\x01\
     \x00\x00\x00\x00\x00\x00\x00\x00\x01\x00";
 
-/// The bytes of what these are behind each other.
-fn joined(rt: &impl Abort, alloc: Global, pieces: &[&[u8]]) -> Vec<u8> {
-    let mut bytes = Vec::new(alloc);
-    for piece in pieces {
-        put(rt, &mut bytes, *piece);
-    }
-    bytes
-}
-
-/// Gives the base what these pieces spell behind each other.
-fn give(rt: &impl Abort, alloc: Global, base: &mut TestBase, pieces: &[&[u8]]) {
-    let bytes = joined(rt, alloc, pieces);
+/// Gives the base what these bytes spell.
+fn give(rt: &impl Abort, alloc: Global, base: &mut TestBase, bytes: Vec<u8>) {
     let given = base.give(alloc, &bytes);
     drop(bytes);
     assert!(rt; given.is_ok());
 }
 
+/// Puts two attributes `a` and `b` of these kinds behind the bytes, with what stands in front of them.
+fn put_attributes(rt: &impl Abort, bytes: &mut Vec<u8>, (first, second): (&[u8], &[u8])) {
+    put(rt, bytes, b"\x00\x00\x02\x01a");
+    put(rt, bytes, first);
+    put(rt, bytes, b"\x01b");
+    put(rt, bytes, second);
+}
+
 /// Gives the base `p`, `q` and `pp` with attributes of these kinds.
-fn give_relations(
-    rt: &impl Abort,
-    alloc: Global,
-    base: &mut TestBase,
-    (first, second): (&[u8], &[u8]),
-) {
+fn give_relations(rt: &impl Abort, alloc: Global, base: &mut TestBase, kinds: (&[u8], &[u8])) {
     for name in [b"\x01p".as_slice(), b"\x01q", b"\x02pp"] {
-        let pieces = [
-            b"\x01\x03ann".as_slice(),
-            name,
-            b"\x00\x00\x02\x01a",
-            first,
-            b"\x01b",
-            second,
-            b"\x00\x00\x00\x00\x00\x00",
-        ];
-        give(rt, alloc, base, &pieces);
+        let mut bytes = Vec::new(alloc);
+        put(rt, &mut bytes, b"\x01\x03ann");
+        put(rt, &mut bytes, name);
+        put_attributes(rt, &mut bytes, kinds);
+        put(rt, &mut bytes, b"\x00\x00\x00\x00\x00\x00");
+        give(rt, alloc, base, bytes);
     }
 }
 
 /// Gives the base the views `va` to `vp` with attributes of these kinds, the first over `pp`, each other one over
 /// the one before it.
-fn give_views(
-    rt: &impl Abort,
-    alloc: Global,
-    base: &mut TestBase,
-    (first, second): (&[u8], &[u8]),
-) {
+fn give_views(rt: &impl Abort, alloc: Global, base: &mut TestBase, kinds: (&[u8], &[u8])) {
     let mut below = [b'p', b'p'];
     for letter in b'a'..=b'p' {
         let view = [b'v', letter];
-        let pieces = [
-            b"\x05\x03ann\x02".as_slice(),
-            &view,
-            b"\x00\x00\x02\x01a",
-            first,
-            b"\x01b",
-            second,
-            b"\x00\x00\x00\x01\x03ann\x02",
-            &below,
-            TARGET,
-        ];
-        give(rt, alloc, base, &pieces);
+        let mut bytes = Vec::new(alloc);
+        put(rt, &mut bytes, b"\x05\x03ann\x02");
+        put(rt, &mut bytes, &view);
+        put_attributes(rt, &mut bytes, kinds);
+        put(rt, &mut bytes, b"\x00\x00\x00\x01\x03ann\x02");
+        put(rt, &mut bytes, &below);
+        put(rt, &mut bytes, TARGET);
+        give(rt, alloc, base, bytes);
         below = view;
     }
+}
+
+/// Gives the base one rule or permit on the relation of this name.
+fn give_one(
+    rt: &impl Abort,
+    alloc: Global,
+    base: &mut TestBase,
+    number: u32,
+    name: &[u8],
+    (front, behind): (&[u8], &[u8]),
+) {
+    let mut bytes = Vec::new(alloc);
+    put(rt, &mut bytes, front);
+    put(rt, &mut bytes, name);
+    put(rt, &mut bytes, &number.to_be_bytes());
+    put(rt, &mut bytes, behind);
+    give(rt, alloc, base, bytes);
 }
 
 /// Gives the base so many rules or permits on `p` and on `q`: what is spelled in front of the name, and behind the
@@ -98,12 +95,11 @@ fn give_each(
     alloc: Global,
     base: &mut TestBase,
     count: u32,
-    (front, behind): (&[u8], &[u8]),
+    around: (&[u8], &[u8]),
 ) {
     for number in 0..count {
-        let number = number.to_be_bytes();
-        give(rt, alloc, base, &[front, b"\x01p", &number, behind]);
-        give(rt, alloc, base, &[front, b"\x01q", &number, behind]);
+        give_one(rt, alloc, base, number, b"\x01p", around);
+        give_one(rt, alloc, base, number, b"\x01q", around);
     }
 }
 
