@@ -1,0 +1,12 @@
+pub mod Numbers
+pub mod Named
+pub mod LawfulKinds
+pub mod Terms
+pub mod Queries
+pub mod Trees
+pub mod Grammar
+pub mod Resolved
+pub mod PutIn
+pub mod PutSpelled
+pub mod Pigeons
+pub mod Stored
