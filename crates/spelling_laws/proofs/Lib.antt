@@ -10,3 +10,8 @@ pub mod PutIn
 pub mod PutSpelled
 pub mod Pigeons
 pub mod Stored
+pub mod Fields
+pub mod Spelled
+pub mod Requests
+pub mod Bounds
+pub mod Read
