@@ -13,5 +13,6 @@ pub mod Stored
 pub mod Fields
 pub mod Spelled
 pub mod Requests
+pub mod Changes
 pub mod Bounds
 pub mod Read
