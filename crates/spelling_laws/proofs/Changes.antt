@@ -1,27 +1,24 @@
 -- Lawful changes have spellings.
-use Rattle.std.proofs.Common.{◌≡◌, refl, sym, ap, ◌∙◌, true≢false, subst, ℕ, suc, ◌+◌, ◌-◌, ◌≤◌, ℤ, pos, negsuc, w64, IsTrue, Bool, true, false, ◌&&◌, not, cond, List, [], ◌∷◌, map, filter, length, Option, Some, None, option_map, arith}
+use Rattle.std.proofs.Common.{◌≡◌, refl, sym, ap, ◌∙◌, true≢false, subst, ℕ, suc, ◌+◌, ◌-◌, ◌≤◌, ℤ, pos, negsuc, w64, Bool, true, false, ◌&&◌, not, cond, List, [], ◌∷◌, filter, length, Option, Some, None, option_map, arith}
 use Rattle.std.specs.Prelude.{nat_le, nat_lt, nat_eq, is_some, FitsSigned, find, bytes_eq}
 use Rattle.std.specs.List.{list_all, list_any, AllByRecursion}
-use Rattle.std.proofs.lemmas.Bool.{and_parts, leb-true, le-leb}
+use Rattle.std.proofs.lemmas.Bool.{and_parts, leb-true}
 use Rattle.std.proofs.lemmas.List.{length-map}
 use Rattle.calculus.specs.declared.change.DbChange.{DbChange}
 use Rattle.calculus.specs.declared.change.DbChange.TheVariants as changes
 use Rattle.calculus.specs.declared.query.QQual.{QQual}
-use Rattle.calculus.specs.declared.query.Query.{Query}
 use Rattle.calculus.specs.declared.query.RelKey.{RelKey}
 use Rattle.calculus.specs.declared.query.Target.{Target}
 use Rattle.calculus.specs.declared.schema.Attr.{Attr}
 use Rattle.calculus.specs.declared.schema.Permit.{Permit}
 use Rattle.calculus.specs.declared.schema.RelInfo.{RelInfo}
 use Rattle.calculus.specs.declared.schema.Rule.{Rule}
-use Rattle.calculus.specs.declared.schema.Spec.{Spec}
 use Rattle.calculus.specs.declared.value.Domain.{Domain}
 use Rattle.calculus.specs.declared.value.Domain.TheVariants.{I1, I2, I4, C}
 use Rattle.calculus.specs.declared.value.Kind.{Kind}
 use Rattle.calculus.specs.declared.value.Kind.TheVariants.{Of, Wide}
 use Rattle.calculus.specs.declared.value.Value.{Value}
 use Rattle.calculus.specs.declared.value.Value.TheVariants.{Int, Text}
-use Rattle.calculus.specs.Catalogue.{is_catalogue_name}
 use Rattle.calculus.specs.Change.{IsLawful, rows_differ, permit_numbers, rule_numbers}
 use Rattle.calculus.specs.Database.{Db, Relation, relation_at, view_at, is_relation, is_there, permits_on, rules_on}
 use Rattle.calculus.specs.Catalogue.{catalogue_at}
@@ -41,12 +38,10 @@ use Rattle.calculus.specs.Structures.{is_keyed, is_structure, is_view}
 use Rattle.calculus.specs.Text.{is_text}
 use Rattle.calculus.specs.TreeLevels.{qual_levels, query_levels}
 use Rattle.calculus.specs.Value.{fits, number_fits as fits_number}
-use Rattle.calculus.specs.Replacement.{without_rows}
-use Rattle.change_laws.specs.Fit.{key_is_free, number_is_free, numbers_may_go, permits_may_go, rules_may_go, rows_are_fit, relation_is_fit, permit_is_fit, rule_is_fit, structure_is_fit, index_is_fit, is_named_outside, destroying_is_fit, view_is_small, view_is_fit, change_is_fit}
+use Rattle.change_laws.specs.Fit.{key_is_free, number_is_free, numbers_may_go, permits_may_go, rules_may_go, rows_are_fit, relation_is_fit, permit_is_fit, rule_is_fit, structure_is_fit, index_is_fit, destroying_is_fit, view_is_small, view_is_fit, change_is_fit}
 use Rattle.change_laws.proofs.Counted.{length_without}
 use Rattle.change_laws.proofs.Exactly.{fits_exactly}
 use Rattle.quel_meaning.specs.Passing.{is_too_high}
-use Rattle.quel_meaning.specs.SpelledTree.{key_is_spelled, permit_is_spelled}
 use Rattle.quel_meaning.proofs.DatabaseFacts.{found_passes, stood}
 use Rattle.quel_meaning.proofs.Each.{Each, each_to, each_passes, in_map, in_filter, and}
 use Rattle.quel_meaning.proofs.Keys.{find_passes, same_keys}
@@ -55,11 +50,11 @@ use Rattle.quel_tree.specs.Message.{most_tree_levels}
 use Rattle.quel_tree.specs.Names.{text}
 use Rattle.quel_tree.specs.Relations.{attr, rel_info, rel_key}
 use Rattle.quel_tree.specs.Values.{value, row}
-use Rattle.tree_words.specs.Words.{byte, list, number16, number32, number64}
-use Rattle.spelling_laws.specs.Short.{is_place, is_count, is_number, are_short, qual_is_short, query_is_short, permit_is_short, rule_is_short, attr_is_short}
+use Rattle.tree_words.specs.Words.{byte, list, number32, number64}
+use Rattle.spelling_laws.specs.Short.{is_place, is_number, are_short, qual_is_short, attr_is_short}
 use Rattle.spelling_laws.proofs.Fields.{place_fits, number_fits, not_above, not_below, list_fits, rows_fit, short_fits, name_fits, key_fits, attr_fits, specs_fit}
 use Rattle.spelling_laws.proofs.Named.{IsNamed, named_key, there_named, entries_named, few_attrs_at, few_kinds_at}
-use Rattle.spelling_laws.proofs.Numbers.{There, there_is, count_is, short_is, places_are}
+use Rattle.spelling_laws.proofs.Numbers.{there_is, count_is, short_is, places_are}
 use Rattle.spelling_laws.proofs.Queries.{plain_query_short}
 use Rattle.spelling_laws.proofs.Requests.{permit_fits, rule_fits}
 use Rattle.spelling_laws.proofs.Spelled.{query_fits}

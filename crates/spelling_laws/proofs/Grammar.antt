@@ -1,5 +1,5 @@
 -- What is read has no more of anything than tokens: grouping terms of an aggregate, names, numbers and keys to sort by.
-use Rattle.std.proofs.Common.{◌≡◌, refl, sym, ap, ◌∙◌, subst, ℕ, suc, ◌+◌, ◌≤◌, Bool, true, List, [], ◌∷◌, ◌++◌, length, length-append, Option, Some, None, arith}
+use Rattle.std.proofs.Common.{◌≡◌, sym, subst, ℕ, ◌+◌, ◌≤◌, Bool, true, List, [], ◌++◌, length, length-append, arith}
 use Rattle.std.specs.Prelude.{flat_map}
 use Rattle.calculus.specs.declared.operator.ArithOp.{ArithOp}
 use Rattle.calculus.specs.declared.operator.ArithOp.TheVariants as ops
@@ -9,13 +9,11 @@ use Rattle.calculus.specs.declared.statement.Qual.{Qual}
 use Rattle.calculus.specs.declared.statement.Qual.TheVariants as quals
 use Rattle.calculus.specs.declared.statement.Statement.{Statement}
 use Rattle.calculus.specs.declared.statement.Statement.TheVariants as statement
-use Rattle.calculus.specs.declared.statement.Term.{Term, items-the_row-Term}
+use Rattle.calculus.specs.declared.statement.Term.{Term}
 use Rattle.calculus.specs.declared.statement.Term.TheVariants as terms
-use Rattle.calculus.specs.Written.{term_row}
 use Rattle.calculus.proofs.WrittenForms.{neg_is, abs_is, operation_is, concat_is, both_is, either_is, negated_is, agg_is, items_of_terms}
 use Rattle.quel_grammar.specs.declared.token.Fixed.TheVariants as fixed
 use Rattle.quel_grammar.specs.declared.token.Token.{Token}
-use Rattle.quel_grammar.specs.Bounds.{first_past}
 use Rattle.quel_grammar.specs.Grammar.{one, word, ◌⋅◌, IsTerm, IsSums, IsProd, IsProducts, IsPow, IsUnary, IsPrim, IsFunction, IsAggregate, IsBy, IsTerms, IsWhere, IsQual, IsOrs, IsConj, IsAnds, IsNeg, IsList}
 use Rattle.quel_grammar.specs.Grammar.IsTerm.{sum}
 use Rattle.quel_grammar.specs.Grammar.IsSums.{last_sum, next_sum}

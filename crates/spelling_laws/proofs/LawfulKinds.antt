@@ -8,7 +8,7 @@ use Rattle.calculus.specs.declared.value.Kind.{Kind}
 use Rattle.calculus.specs.declared.value.Kind.TheVariants.{Of, Wide}
 use Rattle.calculus.specs.Chars.{is_chars}
 use Rattle.calculus.specs.Constant.{constant_text}
-use Rattle.calculus.specs.IsDatabase.{is_domain, is_kind, same_domain, same_kind, has_kind}
+use Rattle.calculus.specs.IsDatabase.{is_domain, same_domain, same_kind, has_kind}
 use Rattle.calculus.specs.Kinds.{kind_in, attribute_kind, constant_kind, is_number_kind, number_kind, operated_kind, joined_kind}
 use Rattle.quel_meaning.specs.KindsInQueries.{adds_up, picks, folded_kind, fitting_kind}
 use Rattle.quel_meaning.proofs.Each.{Each, and}

@@ -1,16 +1,13 @@
 -- What is there in a database has a key of names, and few attributes, whose kinds are ones.
-use Rattle.std.proofs.Common.{◌≡◌, refl, sym, ap, subst, ◌∙◌, true≢false, ℕ, ◌≤◌, Bool, true, false, ◌&&◌, ◌||◌, not, List, [], ◌∷◌, ◌++◌, map, length, Option, Some, None, option_map, arith}
-use Rattle.std.specs.Prelude.{codes, is_some, nat_le}
-use Rattle.std.specs.List.{list_all, list_any}
+use Rattle.std.proofs.Common.{◌≡◌, refl, subst, ◌≤◌, true, ◌++◌, map, length, Option, Some, None, option_map, arith}
+use Rattle.std.specs.Prelude.{codes, is_some}
 use Rattle.std.proofs.lemmas.Bool.{and_parts, leb-true}
 use Rattle.std.proofs.lemmas.List.{length-map}
 use Rattle.calculus.specs.declared.query.RelKey.{RelKey}
 use Rattle.calculus.specs.declared.schema.Attr.{Attr}
 use Rattle.calculus.specs.declared.schema.RelInfo.{RelInfo}
-use Rattle.calculus.specs.declared.value.Kind.{Kind}
-use Rattle.calculus.specs.Catalogue.{relation_key, attribute_key, relation_info, attribute_info, is_catalogue_name}
 use Rattle.calculus.specs.Database.{Db, Relation, Index, View, entries, entry_at, is_there}
-use Rattle.calculus.specs.IsDatabase.{IsDatabase, attrs_stand, key_is_named}
+use Rattle.calculus.specs.IsDatabase.{IsDatabase, key_is_named}
 use Rattle.calculus.specs.Limits.{most_attributes}
 use Rattle.calculus.specs.Name.{is_name}
 use Rattle.calculus.specs.Stored.{Range, range_at, range_info, info_at, attrs_in, attrs_at, kinds_at}
@@ -20,7 +17,7 @@ use Rattle.calculus.specs.Keys.{same_key}
 use Rattle.quel_meaning.proofs.DatabaseFacts.{AllPass, found_passes, info_passes, info_stands, stood}
 use Rattle.quel_meaning.proofs.Each.{Each, front_of, back_of, of_map, each_to, each_passes, passed, and}
 use Rattle.quel_meaning.proofs.Keys.{find_passes, same_keys, info_key_is}
-use Rattle.spelling_laws.proofs.Numbers.{There, there_is}
+use Rattle.spelling_laws.proofs.Numbers.{there_is}
 
 -- the key has a name of an owner and one of its own
 abbrev pub IsNamed : RelKey → Type 0

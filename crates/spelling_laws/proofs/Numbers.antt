@@ -1,8 +1,8 @@
 -- Numbers and lists: tests from what is known of them.
-use Rattle.std.proofs.Common.{◌≡◌, refl, sym, true≢false, ℕ, ◌≤◌, ◌<◌, IsTrue, Bool, true, false, List, [], ◌∷◌, length, Option, Some, None, arith}
-use Rattle.std.specs.Prelude.{nat_le, nat_lt, is_some, slice_get}
+use Rattle.std.proofs.Common.{◌≡◌, refl, sym, true≢false, ℕ, ◌≤◌, ◌<◌, Bool, true, List, length, Option, Some, None, arith}
+use Rattle.std.specs.Prelude.{nat_lt, is_some, slice_get}
 use Rattle.std.specs.List.{list_all}
-use Rattle.std.proofs.lemmas.Bool.{le-leb, leb-true, ltb-true}
+use Rattle.std.proofs.lemmas.Bool.{le-leb, ltb-true}
 use Rattle.std.proofs.lemmas.Option.{slice_get_within}
 use Rattle.quel_meaning.proofs.Each.{Each, and, passed, each_passes, each_to}
 use Rattle.spelling_laws.specs.Short.{is_place, is_count, are_short}

@@ -1,6 +1,6 @@
 -- Different items that are all among others are no more than these.
-use Rattle.std.proofs.Common.{◌≡◌, refl, sym, ap, ◌∙◌, true≢false, subst, ℕ, suc, ◌+◌, ◌≤◌, Bool, true, false, ◌&&◌, ◌||◌, not, cond, List, [], ◌∷◌, filter, length, arith}
-use Rattle.std.specs.List.{list_all, list_any}
+use Rattle.std.proofs.Common.{◌≡◌, refl, sym, ap, ◌∙◌, true≢false, suc, ◌≤◌, Bool, true, false, ◌||◌, not, cond, List, [], ◌∷◌, filter, length, arith}
+use Rattle.std.specs.List.{list_any}
 use Rattle.std.proofs.lemmas.Bool.{and_parts}
 use Rattle.calculus.specs.Lists.{differ_by}
 use Rattle.quel_meaning.proofs.Each.{Each}

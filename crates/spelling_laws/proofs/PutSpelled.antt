@@ -1,9 +1,8 @@
 -- Trees whose constants are ones keep such constants once views, permits and rules are put in.
-use Rattle.std.proofs.Common.{◌≡◌, refl, sym, ap, ◌∙◌, subst, true≢false, ℕ, zero, suc, ◌+◌, Bool, true, false, ◌&&◌, ◌==◌, cond, List, [], ◌∷◌, ◌++◌, map, filter, length, Option, Some, None}
+use Rattle.std.proofs.Common.{◌≡◌, refl, ℕ, zero, suc, ◌+◌, Bool, true, false, ◌&&◌, ◌==◌, List, [], ◌∷◌, ◌++◌, map, filter, length, Option, Some, None}
 use Rattle.std.specs.Prelude.{nat_le}
 use Rattle.std.specs.List.{list_all, enumerate_from}
 use Rattle.std.proofs.lemmas.Bool.{and_parts}
-use Rattle.calculus.specs.declared.operator.CmpOp.TheVariants.{Eq}
 use Rattle.calculus.specs.declared.query.AggSource.{AggSource, Named}
 use Rattle.calculus.specs.declared.query.QQual.{QQual}
 use Rattle.calculus.specs.declared.query.QQual.TheVariants as quals
@@ -44,11 +43,11 @@ use Rattle.quel_meaning.specs.Meaning.{ruled_tree}
 use Rattle.quel_meaning.specs.SpelledTree.{made_key_is_spelled, update_is_spelled, tree_is_spelled}
 use Rattle.quel_meaning.proofs.Each.{Each, both_of, in_map, in_filter, each_to, each_passes, passed, and}
 use Rattle.view_text.specs.declared.text.Text.{Text}
-use Rattle.view_text.specs.Halves.{Joining, paired, chained, joined_within, joined, all_of, any_of}
-use Rattle.view_text.specs.Replaced.{Putting, replaced, replaced_in_qual, replaced_target, no_aggregate, without_value, further, moved, moved_qual, of_only}
+use Rattle.view_text.specs.Halves.{Joining, paired, chained, joined_within, all_of, any_of}
+use Rattle.view_text.specs.Replaced.{Putting, replaced, replaced_in_qual, replaced_target, no_aggregate, further, moved, moved_qual, of_only}
 use Rattle.view_text.specs.Texts.{TextSource, term_at, attr_term, used_text, query_texts, texts_vars, put_from, conditions_from}
 use Rattle.view_text.specs.TextOf.{permit_condition, covering, cut, kept_text, past_text, has_value, put_terms, rows_conditions, settled, view_text, text_within, text_of}
-use Rattle.view_text.specs.PutIn.{put_query, put_plain, put_range, put_source, range_cut, source_cut, put_aggregate, put_row, put_made, put_over, put_in, read_cut, changed_text, update_text, update_texts, put_cut, put_in_update, put_in_asked, put_in_tree}
+use Rattle.view_text.specs.PutIn.{put_query, put_range, put_source, range_cut, source_cut, put_row, put_made, put_over, put_in, read_cut, changed_text, update_text, update_texts, put_cut, put_in_update, put_in_asked, put_in_tree}
 use Rattle.view_laws.proofs.Told.{texts_told}
 use Rattle.level_laws.proofs.Counted.{all_texts}
 use Rattle.level_laws.proofs.Texts.{view_in}

@@ -1,5 +1,5 @@
 -- Queries that fit are short, where their aggregates are few and have few grouping terms.
-use Rattle.std.proofs.Common.{◌≡◌, refl, sym, ap, subst, true≢false, ℕ, suc, ◌+◌, ◌≤◌, Bool, true, false, ◌&&◌, List, [], ◌∷◌, ◌++◌, map, length, Option, Some, None, option_map, arith}
+use Rattle.std.proofs.Common.{◌≡◌, refl, sym, ap, true≢false, ℕ, ◌+◌, ◌≤◌, true, ◌&&◌, List, [], ◌∷◌, map, length, Option, Some, None, option_map, arith}
 use Rattle.std.specs.Prelude.{is_some, nat_le, nat_eq, flat_map}
 use Rattle.std.specs.List.{list_all}
 use Rattle.std.proofs.lemmas.Bool.{and_parts, leb-true, eqb-true}
@@ -13,7 +13,6 @@ use Rattle.calculus.specs.declared.query.QTerm.{QTerm, Agg', Row_of-QAgg, end_of
 use Rattle.calculus.specs.declared.query.QTerm.TheVariants as terms
 use Rattle.calculus.specs.declared.query.RelKey.{RelKey}
 use Rattle.calculus.specs.declared.query.Target.{Target}
-use Rattle.calculus.specs.declared.value.Kind.{Kind}
 use Rattle.calculus.specs.Aggregate.{source_kinds}
 use Rattle.calculus.specs.Database.{Db}
 use Rattle.calculus.specs.IsDatabase.{IsDatabase, is_kind, has_kind, var_kinds, query_stands}
@@ -22,17 +21,17 @@ use Rattle.calculus.specs.Limits.{most_attributes, most_expanded_variables}
 use Rattle.calculus.specs.Name.{is_name}
 use Rattle.calculus.specs.QueryParts.{vars_of, targets_of, qual_of, aggregates_of, term_aggregates, qual_aggregates, query_aggregates}
 use Rattle.calculus.specs.Spelled.{term_is_spelled, aggregate_is_spelled, source_is_spelled, terms_are_spelled, qual_is_spelled, targets_are_spelled, query_is_spelled}
-use Rattle.calculus.specs.Stored.{range_at, range_info, info_at, Range, Kept, Viewed}
+use Rattle.calculus.specs.Stored.{range_at, range_info, info_at, Range}
 use Rattle.calculus.specs.Tree as tree
 use Rattle.quel_meaning.specs.FitQueries.{Allowed, keeps_rows, is_kept, kept_alone, kept_or_viewed, can_be_ranged_over, lists_few_vars, has_few_targets, source_fits, sources_fit, slots_count_from, slots_count_up, reads_fit}
-use Rattle.quel_meaning.specs.KindsInQueries.{kind_in_query, kinds_fit_in_query, query_fits}
+use Rattle.quel_meaning.specs.KindsInQueries.{kind_in_query, kinds_fit_in_query}
 use Rattle.quel_meaning.specs.SpelledTree.{key_is_spelled}
 use Rattle.quel_meaning.proofs.Each.{Each, front_of, back_of, both_of, of_flat_map, in_flat_map, each_to, each_passes, passed, and}
-use Rattle.quel_meaning.proofs.LawfulKinds.{IsKind, AreKinds, kinds_stored}
+use Rattle.quel_meaning.proofs.LawfulKinds.{IsKind, kinds_stored}
 use Rattle.spelling_laws.specs.Short.{is_count, term_is_short, source_is_short, targets_are_short, qual_is_short, query_is_short}
 use Rattle.spelling_laws.proofs.LawfulKinds.{kind_same, has_this}
 use Rattle.spelling_laws.proofs.Named.{IsNamed, ranged_named, few_kinds_at}
-use Rattle.spelling_laws.proofs.Numbers.{There, there_is, count_is}
+use Rattle.spelling_laws.proofs.Numbers.{There, count_is}
 use Rattle.spelling_laws.proofs.Terms.{AreFew, few_vars, kinds_vars, plain_short, plain_qual_short, GoodAgg, short_in, qual_short_in, kind_lawful, plain_lawful}
 
 -- ---- a query of short parts

@@ -1,5 +1,5 @@
 -- What is read of a text is resolved to a tree that has a spelling, and so it has with views, permits and rules.
-use Rattle.std.proofs.Common.{◌≡◌, refl, subst, ℕ, ◌+◌, ◌≤◌, true, List, length, Ok, arith}
+use Rattle.std.proofs.Common.{◌≡◌, subst, ℕ, ◌≤◌, true, List, Ok, arith}
 use Rattle.calculus.specs.declared.request.Checked.{Checked}
 use Rattle.calculus.specs.declared.statement.Statement.{Statement}
 use Rattle.calculus.specs.Database.{Db}
@@ -8,7 +8,6 @@ use Rattle.calculus.specs.Name.{is_name}
 use Rattle.calculus.specs.Who.{Who}
 use Rattle.quel_grammar.specs.Next.{Reading, IsNext, IsGrammatical}
 use Rattle.quel_grammar.specs.Next.Next.{Read}
-use Rattle.quel_meaning.specs.Fit.{is_fit_with_views}
 use Rattle.quel_meaning.specs.IsWritten.{is_written}
 use Rattle.quel_meaning.specs.Meaning.{ruled_tree}
 use Rattle.quel_meaning.specs.Ranges.{Ranges}
@@ -20,7 +19,6 @@ use Rattle.quel_tree.specs.Message.{most_tree_levels}
 use Rattle.quel_tree.specs.Requests.{checked}
 use Rattle.reading_laws.proofs.Statements.{read_written}
 use Rattle.shallow_laws.specs.Levels.{tree_levels}
-use Rattle.shallow_laws.specs.Shallow.{statement_levels}
 use Rattle.shallow_laws.proofs.Resolved.{resolved_shallow}
 use Rattle.shallow_laws.proofs.Statements.{read_shallow}
 use Rattle.level_laws.proofs.Trees.{ruled_tree_low}

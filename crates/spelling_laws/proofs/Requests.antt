@@ -1,8 +1,8 @@
 -- Short trees of few levels whose constants are ones have spellings.
-use Rattle.std.proofs.Common.{◌≡◌, refl, sym, true≢false, subst, ℕ, ◌+◌, ◌≤◌, max, Bool, true, false, ◌&&◌, ◌||◌, List, [], ◌∷◌, map, length, arith}
-use Rattle.std.specs.Prelude.{nat_le, nat_eq}
-use Rattle.std.specs.List.{list_all, list_any}
-use Rattle.std.proofs.lemmas.Bool.{and_parts, leb-true, lt-ltb, eqb-true}
+use Rattle.std.proofs.Common.{◌≡◌, refl, ℕ, ◌≤◌, max, true, List, [], ◌∷◌, map, length, arith}
+use Rattle.std.specs.Prelude.{nat_le}
+use Rattle.std.specs.List.{list_all}
+use Rattle.std.proofs.lemmas.Bool.{and_parts, leb-true, lt-ltb}
 use Rattle.calculus.specs.declared.query.QQual.{QQual}
 use Rattle.calculus.specs.declared.request.Asked.{Asked}
 use Rattle.calculus.specs.declared.request.Checked.{Checked}
@@ -12,15 +12,11 @@ use Rattle.calculus.specs.declared.request.CopyForm.{CopyForm}
 use Rattle.calculus.specs.declared.request.CopyForm.TheVariants as forms
 use Rattle.calculus.specs.declared.request.SortKey.{SortKey}
 use Rattle.calculus.specs.declared.request.Update.{Update}
-use Rattle.calculus.specs.declared.request.UpdateOp.{UpdateOp}
 use Rattle.calculus.specs.declared.request.Utility.{Utility}
 use Rattle.calculus.specs.declared.request.Utility.TheVariants as utilities
 use Rattle.calculus.specs.declared.schema.Permit.{Permit}
 use Rattle.calculus.specs.declared.schema.Rule.{Rule}
-use Rattle.calculus.specs.Chars.{is_chars}
 use Rattle.calculus.specs.IsDatabase.{user_is_named}
-use Rattle.calculus.specs.Lists.{has_number}
-use Rattle.calculus.specs.Name.{is_name}
 use Rattle.calculus.specs.Rights.{are_rights}
 use Rattle.calculus.specs.Spelled.{qual_is_spelled, query_is_spelled}
 use Rattle.calculus.specs.TreeLevels.{qual_levels, query_levels}
@@ -31,7 +27,7 @@ use Rattle.quel_meaning.proofs.Each.{Each}
 use Rattle.quel_tree.specs.Copies.{copy_form, copy_col}
 use Rattle.quel_tree.specs.Names.{chars}
 use Rattle.quel_tree.specs.Permits.{permit, rule}
-use Rattle.quel_tree.specs.Queries.{qual, query}
+use Rattle.quel_tree.specs.Queries.{qual}
 use Rattle.quel_tree.specs.Relations.{attr, rel_key, sort_key}
 use Rattle.quel_tree.specs.Requests.{asked, update, utility, checked}
 use Rattle.shallow_laws.specs.Levels.{utility_levels, tree_levels}

@@ -1,19 +1,15 @@
 -- The tree that a statement is resolved to which is read is short.
-use Rattle.std.proofs.Common.{◌≡◌, refl, sym, ap, ◌∙◌, subst, ℕ, suc, ◌+◌, ◌≤◌, Bool, true, false, ◌&&◌, ◌||◌, cond, List, [], ◌∷◌, ◌++◌, map, length, Option, Some, None, Result, Ok, arith}
-use Rattle.std.specs.Prelude.{flat_map, filter_map, nat_lt, take, drop}
+use Rattle.std.proofs.Common.{◌≡◌, refl, sym, ap, ◌∙◌, subst, ℕ, suc, ◌+◌, ◌≤◌, true, false, List, [], ◌∷◌, ◌++◌, map, length, Option, Some, None, Ok, arith}
+use Rattle.std.specs.Prelude.{flat_map, filter_map, nat_lt}
 use Rattle.std.specs.List.{cons_option}
 use Rattle.std.proofs.lemmas.Bool.{and_parts, ltb-false}
 use Rattle.std.proofs.lemmas.List.{length-map}
-use Rattle.calculus.specs.declared.operator.CmpOp.{CmpOp}
 use Rattle.calculus.specs.declared.query.QAgg.{QAgg}
 use Rattle.calculus.specs.declared.query.Query.{Query}
 use Rattle.calculus.specs.declared.query.QTerm.{QTerm, items-the_row-QTerm}
 use Rattle.calculus.specs.declared.query.Target.{Target}
-use Rattle.calculus.specs.declared.request.Asked.{Asked}
 use Rattle.calculus.specs.declared.request.Checked.{Checked}
-use Rattle.calculus.specs.declared.schema.Attr.{Attr as Attribute}
 use Rattle.calculus.specs.declared.schema.RelInfo.{RelInfo}
-use Rattle.calculus.specs.declared.statement.AggTerm.{AggTerm}
 use Rattle.calculus.specs.declared.statement.Item.{Item}
 use Rattle.calculus.specs.declared.statement.Item.TheVariants as item
 use Rattle.calculus.specs.declared.statement.Qual.{Qual, True, Cmp}
@@ -24,7 +20,7 @@ use Rattle.calculus.specs.Database.{Db}
 use Rattle.calculus.specs.IsDatabase.{IsDatabase}
 use Rattle.calculus.specs.Limits.{most_variables}
 use Rattle.calculus.specs.Name.{is_name}
-use Rattle.calculus.specs.QueryParts.{vars_of, targets_of, qual_of, term_aggregates, qual_aggregates, query_aggregates}
+use Rattle.calculus.specs.QueryParts.{targets_of, term_aggregates, qual_aggregates, query_aggregates}
 use Rattle.calculus.specs.Replacement.{first_cause}
 use Rattle.calculus.specs.Stored.{attrs_in}
 use Rattle.calculus.specs.Tree as tree
@@ -34,17 +30,17 @@ use Rattle.quel_meaning.specs.Causes.{causes}
 use Rattle.quel_meaning.specs.Fit.{suits, fits}
 use Rattle.quel_meaning.specs.FitQueries.{kept_or_viewed}
 use Rattle.quel_meaning.specs.IsWritten.{is_written}
-use Rattle.quel_meaning.specs.Passing.{has_too_many, is_full, is_too_large, listed_variables}
+use Rattle.quel_meaning.specs.Passing.{has_too_many, is_full, listed_variables}
 use Rattle.quel_meaning.specs.Ranges.{Ranges}
-use Rattle.quel_meaning.specs.Resolved.{whole, unsorted, sort_key, help_on_all, help_on, tree_of, resolved}
-use Rattle.quel_meaning.specs.Scope.{Scope, named, ranged, entry_named, key_found}
+use Rattle.quel_meaning.specs.Resolved.{whole, sort_key, help_on_all, help_on, tree_of, resolved}
+use Rattle.quel_meaning.specs.Scope.{Scope, named, ranged, entry_named}
 use Rattle.quel_meaning.specs.SpelledTree.{tree_is_spelled}
 use Rattle.quel_meaning.specs.StatementUpdate.{append_of, replace_of, delete_of, into_of}
 use Rattle.quel_meaning.specs.WrittenParts.{aggregate_vars, aggregate_of, aggregates_in, aggregates_in_qual, aggregates_in_item, text_aggregates, items_of, where_of, vars_in}
 use Rattle.quel_meaning.specs.WrittenQuery.{attr_targets, item_targets, targets_from, where_tree, query_of}
 use Rattle.quel_meaning.specs.WrittenTree.{Vars, var_place, term_tree, aggregate_tree, row_trees, qual_tree}
 use Rattle.quel_meaning.proofs.Accepted.{scope, accepted}
-use Rattle.quel_meaning.proofs.Each.{Each, front_of, back_of, both_of, in_map, of_flat_map, in_flat_map, not_left}
+use Rattle.quel_meaning.proofs.Each.{Each, front_of, back_of, both_of, of_flat_map, in_flat_map, not_left}
 use Rattle.quel_meaning.proofs.FitResolved.{resolved_fits}
 use Rattle.quel_meaning.proofs.ReadsFit.{none_of}
 use Rattle.quel_meaning.proofs.Slots.{compared_has, in_targets, none_in_attrs}

@@ -1,5 +1,5 @@
 -- Short terms, qualifications, aggregates and queries whose constants are ones have spellings, with as many levels as they have.
-use Rattle.std.proofs.Common.{◌≡◌, refl, ℕ, zero, suc, ◌+◌, ◌≤◌, max, IsTrue, Bool, true, ◌&&◌, List, length, arith}
+use Rattle.std.proofs.Common.{◌≡◌, ℕ, zero, suc, ◌+◌, ◌≤◌, max, IsTrue, Bool, true, ◌&&◌, length, arith}
 use Rattle.std.specs.Prelude.{nat_lt}
 use Rattle.std.specs.List.{list_all}
 use Rattle.std.proofs.lemmas.Bool.{and_parts, lt-ltb}

@@ -1,25 +1,23 @@
 -- What stands in a database: how many rows, keys and numbers there are.
-use Rattle.std.proofs.Common.{◌≡◌, refl, sym, ap, ◌∙◌, true≢false, subst, ℕ, suc, ◌+◌, ◌-◌, ◌≤◌, Bool, true, false, ◌&&◌, ◌||◌, not, IsTrue, List, [], ◌∷◌, map, filter, length, Option, Some, None, arith}
-use Rattle.std.specs.Prelude.{nat_le, nat_eq, find}
+use Rattle.std.proofs.Common.{◌≡◌, refl, sym, ap, ◌∙◌, true≢false, subst, ℕ, ◌≤◌, Bool, true, false, ◌||◌, List, [], ◌∷◌, map, length, arith}
+use Rattle.std.specs.Prelude.{nat_eq, find}
 use Rattle.std.specs.List.{list_all, list_any}
 use Rattle.std.specs.Ordering.{eq_by_cmp}
 use Rattle.std.proofs.lemmas.Bool.{and_parts, leb-true, eqb-true, eq-eqb}
 use Rattle.std.proofs.lemmas.List.{length-map}
 use Rattle.calculus.specs.declared.query.RelKey.{RelKey}
 use Rattle.calculus.specs.declared.schema.RelInfo.{RelInfo}
-use Rattle.calculus.specs.Database.{Db, Relation, relation_at, is_relation, is_there, entry_at, entries}
-use Rattle.calculus.specs.IsDatabase.{IsDatabase, row_fits, relation_rows_fit}
+use Rattle.calculus.specs.Database.{Db, is_there, entries}
+use Rattle.calculus.specs.IsDatabase.{IsDatabase}
 use Rattle.calculus.specs.Keys.{same_key}
-use Rattle.calculus.specs.Limits.{most_rows, most_entries, greatest_number}
+use Rattle.calculus.specs.Limits.{most_entries}
 use Rattle.calculus.specs.Lists.{has_number, differ_by}
-use Rattle.calculus.specs.Rows.{Row, Ascends, has}
-use Rattle.calculus.specs.Stored.{range_at, info_at, rows_at, attrs_at}
+use Rattle.calculus.specs.Rows.{Row, has}
 use Rattle.calculus.specs.Value.{row_cmp}
 use Rattle.calculus.proofs.Sets.{same_exact}
-use Rattle.quel_meaning.proofs.DatabaseFacts.{found_passes}
-use Rattle.quel_meaning.proofs.Each.{Each, each_to, each_passes, passed, in_map}
-use Rattle.quel_meaning.proofs.Keys.{find_passes, same_keys, keys_same}
-use Rattle.spelling_laws.proofs.Numbers.{There, there_is}
+use Rattle.quel_meaning.proofs.Each.{Each, each_to, each_passes}
+use Rattle.quel_meaning.proofs.Keys.{same_keys, keys_same}
+use Rattle.spelling_laws.proofs.Numbers.{There}
 use Rattle.spelling_laws.proofs.Pigeons.{no_more}
 
 or_right : (b : Bool) {c : Bool} → c ≡ true → (b || c) ≡ true

@@ -1,10 +1,9 @@
 -- Terms and qualifications whose kinds fit are short, where their aggregates are good.
-use Rattle.std.proofs.Common.{◌≡◌, refl, sym, ap, ◌∙◌, subst, true≢false, ℕ, zero, suc, ◌≤◌, ◌<◌, Bool, true, false, ◌&&◌, cond, List, [], ◌∷◌, map, length, slice_get, Option, Some, None, arith}
+use Rattle.std.proofs.Common.{◌≡◌, refl, sym, ap, ◌∙◌, subst, true≢false, ℕ, zero, suc, ◌≤◌, Bool, true, false, ◌&&◌, cond, List, [], ◌∷◌, map, length, slice_get, Option, Some, None, arith}
 use Rattle.std.proofs.lemmas.Bool.{and_parts}
 use Rattle.std.proofs.lemmas.List.{length-map}
 use Rattle.std.proofs.lemmas.Option.{slice_get_within}
 use Rattle.calculus.specs.declared.operator.AggOp.{AggOp}
-use Rattle.calculus.specs.declared.query.AggSource.{AggSource}
 use Rattle.calculus.specs.declared.query.QAgg.{QAgg}
 use Rattle.calculus.specs.declared.query.QQual.{QQual}
 use Rattle.calculus.specs.declared.query.QQual.TheVariants as quals
@@ -13,23 +12,21 @@ use Rattle.calculus.specs.declared.query.QTerm.TheVariants as terms
 use Rattle.calculus.specs.declared.query.RelKey.{RelKey}
 use Rattle.calculus.specs.declared.value.Kind.{Kind}
 use Rattle.calculus.specs.Aggregate.{source_kinds}
-use Rattle.calculus.specs.Chars.{is_chars}
 use Rattle.calculus.specs.Database.{Db}
 use Rattle.calculus.specs.IsDatabase.{IsDatabase}
 use Rattle.calculus.specs.Kinds.{kind_in, attribute_kind, constant_kind, is_number_kind, number_kind, operated_kind, joined_kind, kind_of, comparable, is_text_kind, kinds_fit}
-use Rattle.calculus.specs.Number.{has_64_bits}
 use Rattle.calculus.specs.QueryParts.{aggregates_of, term_aggregates, qual_aggregates}
 use Rattle.calculus.specs.Spelled.{term_is_spelled, aggregate_is_spelled, source_is_spelled, terms_are_spelled, qual_is_spelled}
 use Rattle.calculus.specs.Stored.{kinds_at}
 use Rattle.calculus.specs.Tree as tree
-use Rattle.quel_meaning.specs.KindsInQueries.{links_fit, fitting_kind, folded_kind, aggregate_kind, kind_of_row, kind_in_query, kinds_fit_in_query}
+use Rattle.quel_meaning.specs.KindsInQueries.{links_fit, fitting_kind, aggregate_kind, kind_of_row, kind_in_query, kinds_fit_in_query}
 use Rattle.quel_meaning.proofs.Each.{Each, front_of, back_of, in_map, and}
 use Rattle.quel_meaning.proofs.KindFacts.{no_aggregate, kind_too}
 use Rattle.quel_meaning.proofs.LawfulKinds.{IsKind, AreKinds, kinds_stored}
 use Rattle.spelling_laws.specs.Short.{is_place, is_count, term_is_short, aggregate_is_short, source_is_short, terms_are_short, qual_is_short}
 use Rattle.spelling_laws.proofs.LawfulKinds.{attribute_lawful, wide, number_lawful, operated_lawful, joined_lawful, fitting_lawful, constant_lawful}
 use Rattle.spelling_laws.proofs.Named.{few_kinds_at}
-use Rattle.spelling_laws.proofs.Numbers.{There, there_is, place_is, get_there}
+use Rattle.spelling_laws.proofs.Numbers.{There, place_is, get_there}
 
 -- ---- parts that are there
 

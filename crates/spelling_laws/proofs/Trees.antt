@@ -1,10 +1,9 @@
 -- Trees that fit are short, where those of their lists are that nothing else bounds.
-use Rattle.std.proofs.Common.{◌≡◌, refl, sym, ap, ◌∙◌, subst, true≢false, ℕ, suc, ◌+◌, ◌≤◌, ◌<◌, Bool, true, false, ◌&&◌, ◌||◌, not, List, [], ◌∷◌, ◌++◌, map, length, zip, Option, Some, None, arith}
-use Rattle.std.specs.Prelude.{is_some, nat_le, nat_lt, nat_eq, bytes_eq, slice_get}
+use Rattle.std.proofs.Common.{◌≡◌, refl, sym, true≢false, ℕ, ◌≤◌, ◌<◌, Bool, true, false, ◌&&◌, ◌||◌, List, [], ◌∷◌, map, length, Option, Some, None, arith}
+use Rattle.std.specs.Prelude.{is_some, nat_le, nat_lt, nat_eq, slice_get}
 use Rattle.std.specs.List.{list_all}
 use Rattle.std.proofs.lemmas.Bool.{and_parts, leb-true, ltb-true, eqb-true}
 use Rattle.std.proofs.lemmas.List.{length-map}
-use Rattle.calculus.specs.declared.query.QAgg.{QAgg}
 use Rattle.calculus.specs.declared.query.QQual.{QQual}
 use Rattle.calculus.specs.declared.query.Query.{Query}
 use Rattle.calculus.specs.declared.query.RelKey.{RelKey}
@@ -20,21 +19,17 @@ use Rattle.calculus.specs.declared.request.UpdateOp.TheVariants as op
 use Rattle.calculus.specs.declared.request.Utility.{Utility}
 use Rattle.calculus.specs.declared.request.Utility.TheVariants as utility
 use Rattle.calculus.specs.declared.schema.Attr.{Attr as Attribute}
-use Rattle.calculus.specs.declared.schema.Permit.{Permit}
-use Rattle.calculus.specs.declared.schema.Rule.{Rule}
-use Rattle.calculus.specs.declared.schema.RelInfo.{RelInfo}
-use Rattle.calculus.specs.declared.value.Kind.{Kind}
-use Rattle.calculus.specs.Database.{Db, is_relation, is_there, entries}
+use Rattle.calculus.specs.Database.{Db, is_relation, is_there}
 use Rattle.calculus.specs.IsDatabase.{IsDatabase, attrs_stand, are_stored, is_kind, keys_stand, var_kinds, query_stands, vars_are_there, row_qual_stands, permit_attrs_stand}
 use Rattle.calculus.specs.Keys.{same_key}
 use Rattle.calculus.specs.Kinds.{comparable, kinds_fit}
-use Rattle.calculus.specs.Limits.{most_attributes, most_expanded_variables, most_listed_attributes, most_keys, greatest_number}
+use Rattle.calculus.specs.Limits.{most_attributes, most_expanded_variables, most_listed_attributes, most_keys}
 use Rattle.calculus.specs.Lists.{is_any, differ_by}
 use Rattle.calculus.specs.Name.{is_name}
 use Rattle.calculus.specs.QueryParts.{vars_of, targets_of, qual_of}
 use Rattle.calculus.specs.Replacement.{made_attr}
 use Rattle.calculus.specs.Sizes.{update_expanded_variables}
-use Rattle.calculus.specs.Spelled.{qual_is_spelled, query_is_spelled}
+use Rattle.calculus.specs.Spelled.{query_is_spelled}
 use Rattle.calculus.specs.Storable.{row_qual_is_small}
 use Rattle.calculus.specs.Stored.{range_at, attrs_at, kinds_at}
 use Rattle.calculus.specs.Structures.{is_structure}
@@ -45,15 +40,15 @@ use Rattle.quel_meaning.specs.KindsInQueries.{kind_in_query, kinds_fit_in_query,
 use Rattle.quel_meaning.specs.Planned.{target_attr}
 use Rattle.quel_meaning.specs.SpelledTree.{key_is_spelled, made_key_is_spelled, update_is_spelled, utility_is_spelled, tree_is_spelled}
 use Rattle.quel_meaning.proofs.DatabaseFacts.{stood}
-use Rattle.quel_meaning.proofs.Each.{Each, each_to, each_passes, passed, and}
+use Rattle.quel_meaning.proofs.Each.{Each, each_to, each_passes, and}
 use Rattle.quel_meaning.proofs.LawfulKinds.{IsKind}
 use Rattle.quel_meaning.proofs.Pigeons.{at_most}
 use Rattle.tree_laws.proofs.FitUpdated.{relation_kept}
 use Rattle.spelling_laws.specs.Short.{is_place, is_count, is_number, are_short, qual_is_short, query_is_short, asked_is_short, update_is_short, permit_is_short, rule_is_short, attr_is_short, column_is_short, utility_is_short, tree_is_short}
 use Rattle.spelling_laws.proofs.Named.{IsNamed, ranged_named, there_named, entries_named, few_attrs_at, few_kinds_at}
-use Rattle.spelling_laws.proofs.Numbers.{There, there_is, place_is, count_is, short_is, get_there, places_are}
-use Rattle.spelling_laws.proofs.Queries.{FewIn, Ranged, kept_ranged, kept_there, few_vars_in, few_targets_in, plain_query_short, query_short, targets_kinds}
-use Rattle.spelling_laws.proofs.Terms.{AreFew, few_one, comparable_there, plain_qual_short}
+use Rattle.spelling_laws.proofs.Numbers.{There, place_is, count_is, short_is, get_there, places_are}
+use Rattle.spelling_laws.proofs.Queries.{FewIn, Ranged, kept_there, few_vars_in, few_targets_in, plain_query_short, query_short, targets_kinds}
+use Rattle.spelling_laws.proofs.Terms.{few_one, comparable_there, plain_qual_short}
 
 -- ---- what nothing else bounds
 

@@ -1,11 +1,10 @@
 -- Short trees: what stands in a tree fits the fields in which it is spelled, but for constants, levels and the names of what is made.
-use Rattle.std.specs.Prelude.{ℕ, Bool, true, ◌&&◌, nat_le, List, ◌∷◌, length}
+use Rattle.std.specs.Prelude.{ℕ, Bool, true, ◌&&◌, nat_le, List, length}
 use Rattle.std.specs.List.{list_all}
 use Rattle.calculus.specs.declared.query.AggSource.{AggSource, Named}
 use Rattle.calculus.specs.declared.query.QTerm.{QTerm, Int, Chars, Attr, Agg', items-the_row-QTerm, Row_of-QTerm, end_of-QTerm, more_of-QTerm, Row_of-QAgg, end_of-QAgg, more_of-QAgg}
 use Rattle.calculus.specs.declared.query.QQual.{QQual, True, Cmp, Like}
 use Rattle.calculus.specs.declared.query.Query.{Query, Query', items-the_row-Target, Row_of-Target, end_of-Target, more_of-Target}
-use Rattle.calculus.specs.declared.query.RelKey.{RelKey}
 use Rattle.calculus.specs.declared.request.Asked.{Asked}
 use Rattle.calculus.specs.declared.request.Checked.{Checked}
 use Rattle.calculus.specs.declared.request.Checked.TheVariants as checked
