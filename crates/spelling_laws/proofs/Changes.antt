@@ -208,9 +208,10 @@ module _ (db : Db) (d : IsDatabase db) where
   numbers_spelled rel standing numbers few all h =
       let one = and_parts (is_relation db rel) _ h in
       let two = and_parts (list_all (has_number standing) numbers) (differ_by nat_eq numbers) one.1 in
-      let most = few_numbers numbers standing two.0 two.1 in
-      (relation_named db d rel one.0,
-      short_is is_number numbers (omega (arith, few, most)) (each_to (λ n. has_number standing n ≡ true) (λ n. is_number n ≡ true) (among (λ n. is_number n ≡ true) standing all) numbers (each_passes (has_number standing) numbers two.0)))
+      let most = few_numbers numbers standing two.0 two.1 in (
+        relation_named db d rel one.0,
+        short_is is_number numbers (omega (arith, few, most)) (each_to (λ n. has_number standing n ≡ true) (λ n. is_number n ≡ true) (among (λ n. is_number n ≡ true) standing all) numbers (each_passes (has_number standing) numbers two.0)),
+      )
 
   few_permits : (rel : RelKey) (s : Standing rel) → length (permit_numbers db rel) ≤ 100
   few_permits rel s =
@@ -273,8 +274,7 @@ module _ (db : Db) (d : IsDatabase db) where
       let s = standing rel one.0 in
       let few = few_rows rel s in
       let gone = length_without remove (rows_at db rel) (ascend rel s) four.0 two.0 in
-      let left = leb-true (length (rows_at db rel) + length add - length remove) most_rows six.1 in
-      (
+      let left = leb-true (length (rows_at db rel) + length add - length remove) most_rows six.1 in (
         key_fits rel (relation_named db d rel one.0),
         (
           rows_spelled rel remove (omega (arith, few, gone)) (rows_among (row_fits (attrs_at db rel)) (rows_at db rel) (all_fit rel s) remove two.0),
@@ -289,8 +289,7 @@ module _ (db : Db) (d : IsDatabase db) where
       let five = and_parts (rows_differ rows) _ four.1 in
       let six = and_parts (list_all (row_fits info.attrs) rows) (nat_le (length rows) most_rows) five.1 in
       let few = leb-true (length rows) most_rows six.1 in
-      let attrs = few_stand info.attrs three.0 in
-      (
+      let attrs = few_stand info.attrs three.0 in (
         info_spelled info (named_key info.key (free_key db info.key one.0)) (attrs_short db d info.attrs three.0) (structure_short info attrs two.0),
         rows_fit row rows (omega (arith, few)) (each_to (λ vs. row_fits info.attrs vs ≡ true) row.Fits (row_spelled info.attrs attrs) rows (each_passes (row_fits info.attrs) rows six.0)),
       )
@@ -300,8 +299,7 @@ module _ (db : Db) (d : IsDatabase db) where
       let few = few_keys db d rels one.0 two.0 in
       list_fits rel_key rels (count_is (length rels) (omega (arith, few))) (each_to (λ key. is_there db key ≡ true) rel_key.Fits (λ key h. key_fits key (entries_named db d key h)) rels (each_passes (is_there db) rels one.0))
   change_spelled (changes.Modify rel to keys) h =
-      let one = and_parts (is_relation db rel) _ h in
-      (
+      let one = and_parts (is_relation db rel) _ h in (
         key_fits rel (relation_named db d rel one.0),
         (specs_fit to, short_fits byte is_place place_fits keys (structure_short (record { key = rel; spec = to; attrs = attrs_at db rel; keys = keys }) (few_attrs_at db d rel) one.1)),
       )
@@ -309,8 +307,7 @@ module _ (db : Db) (d : IsDatabase db) where
       let one = and_parts (is_relation db base) _ h in
       let two = and_parts (is_any keys) _ one.1 in
       let three = and_parts (keys_stand (attrs_at db base) keys) (key_is_free db (key_of base.owner name)) two.1 in
-      let named = named_key (key_of base.owner name) (free_key db (key_of base.owner name) three.1) in
-      (
+      let named = named_key (key_of base.owner name) (free_key db (key_of base.owner name) three.1) in (
         key_fits base (relation_named db d base one.0),
         (name_fits name (and_parts (is_name base.owner) (is_name name) named).1, short_fits byte is_place place_fits keys (keys_short db d base keys three.0)),
       )
@@ -331,8 +328,7 @@ module _ (db : Db) (d : IsDatabase db) where
       let attrs = few_stand info.attrs three.0 in
       let many = as_many info.attrs (targets_of q) four.0 in
       let named = each_to (λ key. is_some (range_at db key) ≡ true) IsNamed (there_named db d) (vars_of q) (each_passes (λ key. is_some (range_at db key)) (vars_of q) five.0) in
-      let short = plain_query_short db d q (omega (arith, few)) named (omega (arith, attrs, many)) seven.0 tree.1 in
-      (
+      let short = plain_query_short db d q (omega (arith, few)) named (omega (arith, attrs, many)) seven.0 tree.1 in (
         info_spelled info (named_key info.key (free_key db info.key one.0)) (attrs_short db d info.attrs three.0) (none_short info.keys (and_parts (is_view info.spec) (not (is_any info.keys)) two.0).1),
         query_fits most_tree_levels q (leb-true (query_levels q) most_levels tree.0) tree.1 short.0,
       )
@@ -349,8 +345,7 @@ module _ (db : Db) (d : IsDatabase db) where
       let most = leb-true (length permit.attrs) most_listed_attributes lists.0 in
       let attrs = few_attrs_at db d rel in
       let own = storable permit.qual two.0 in
-      let places = short_is is_place permit.attrs (omega (arith, most)) (places_are (length (attrs_at db rel)) permit.attrs (omega (arith, attrs)) e.0) in
-      (
+      let places = short_is is_place permit.attrs (omega (arith, most)) (places_are (length (attrs_at db rel)) permit.attrs (omega (arith, attrs)) e.0) in (
         key_fits rel (relation_named db d rel a.0),
         permit_fits most_tree_levels permit own.levels
             (and (user_is_named permit.user) (are_rights permit.ops && qual_is_spelled permit.qual) c.0 (and (are_rights permit.ops) (qual_is_spelled permit.qual) lists.1 own.spelled))

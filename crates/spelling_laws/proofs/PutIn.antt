@@ -98,8 +98,7 @@ module _ (db : Db) (d : IsDatabase db) (who : Who) where
   unfolding put_in
   few_asked [] few = tt
   few_asked (a ∷ asked) few =
-      let texts = query_texts (text_of db who) a.query in
-      (
+      let texts = query_texts (text_of db who) a.query in (
         record {
           query = few_over a.query texts (each_scoped db d who (text_of db who) (λ key attrs. (all_told db who key attrs).scoped) a.query 0 (vars_of a.query)) few.0.query;
           sort = few.0.sort;

@@ -244,10 +244,11 @@ module _ (db : Db) (d : IsDatabase db) (who : Who) where
       let put = terms_of no_aggregate (put_from 0 (query_texts texts view.query)) none_made puts (targets_of view.query) two.0 in
       record {
         attr = term_there (put_terms (query_texts texts view.query) view.query) put;
-        conditions = settled_each (texts_vars (query_texts texts view.query)) (rows_conditions (query_texts texts view.query) view.query)
-            (qual_replaced no_aggregate (put_from 0 (query_texts texts view.query)) none_made puts (qual_of view.query) two.1,
-            both_of Qual (map has_value (put_terms (query_texts texts view.query) view.query)) (conditions_from 0 (query_texts texts view.query))
-            (values_each (put_terms (query_texts texts view.query) view.query) put) (conditions_each (query_texts texts view.query) all 0));
+        conditions = settled_each (texts_vars (query_texts texts view.query)) (rows_conditions (query_texts texts view.query) view.query) (
+          qual_replaced no_aggregate (put_from 0 (query_texts texts view.query)) none_made puts (qual_of view.query) two.1,
+          both_of Qual (map has_value (put_terms (query_texts texts view.query) view.query)) (conditions_from 0 (query_texts texts view.query))
+              (values_each (put_terms (query_texts texts view.query) view.query) put) (conditions_each (query_texts texts view.query) all 0),
+        );
       }
 
   past_one : IsOne past_text

@@ -91,8 +91,7 @@ module _ (n : ℕ) where
       let c3 = and_parts (are_short is_place u.places) _ c2.1 in
       let c4 = and_parts (query_is_short u.query) _ c3.1 in
       let c5 = and_parts (are_short qual_is_short u.checks) (qual_is_short u.new_cut) c4.1 in
-      let c6 = and_parts (is_count (length u.checks)) (list_all qual_is_short u.checks) c5.0 in
-      (
+      let c6 = and_parts (is_count (length u.checks)) (list_all qual_is_short u.checks) c5.0 in (
         updates_fit u.op,
         (
           key_fits u.rel c1.0,

@@ -173,8 +173,7 @@ module _ (n : ℕ) (at : FitsAt n) where
       let c5 = and_parts (terms_are_short by) _ c4.1 in
       let c6 = and_parts (is_count (length (items-the_row-QTerm _ link))) _ c5.1 in
       let c7 = and_parts (terms_are_short link) (qual_is_short q) c6.1 in
-      let most = below (max (source_levels from) (max (term_levels arg) (max (greatest_term_levels by) (max (greatest_term_levels link) (qual_levels q))))) n h in
-      (
+      let most = below (max (source_levels from) (max (term_levels arg) (max (greatest_term_levels by) (max (greatest_term_levels link) (qual_levels q))))) n h in (
         count_fits slot c1.0,
         (
           aggs_fit op,
@@ -198,8 +197,7 @@ module _ (n : ℕ) (at : FitsAt n) where
       let c1 = and_parts (is_count (length vars)) _ short in
       let c2 = and_parts (list_all key_is_spelled vars) _ c1.1 in
       let c3 = and_parts (is_count (length (items-the_row-Target _ targets))) _ c2.1 in
-      let c4 = and_parts (targets_are_short targets) (qual_is_short q) c3.1 in
-      (
+      let c4 = and_parts (targets_are_short targets) (qual_is_short q) c3.1 in (
         list_fits rel_key vars c1.0 (each_to (λ key. key_is_spelled key ≡ true) rel_key.Fits key_fits vars (each_passes key_is_spelled vars c2.0)),
         (list_fits (target n) (items-the_row-Target _ targets) c3.0 (each_target targets (left_of (greatest_target_levels targets) (qual_levels q) n h) one.0 c4.0), at.of_qual q (right_of (greatest_target_levels targets) (qual_levels q) n h) one.1 c4.1),
       )
