@@ -106,10 +106,11 @@ update_is_short u =
     key_is_spelled u.rel
     && (is_place u.old && (are_short is_place u.places && (query_is_short u.query && (are_short qual_is_short u.checks && qual_is_short u.new_cut))))
 
--- a permit, and a rule
+-- a permit: its number, the places of the attributes that it lists, and its qualification
 abbrev pub permit_is_short : Permit → Bool
 permit_is_short permit = is_number permit.number && (are_short is_place permit.attrs && qual_is_short permit.qual)
 
+-- a rule: its number and its qualification
 abbrev pub rule_is_short : Rule → Bool
 rule_is_short rule = is_number rule.number && qual_is_short rule.qual
 
