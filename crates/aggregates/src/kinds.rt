@@ -61,7 +61,7 @@ fn target_kinds(alloc: Global, targets: &[Target]) -> Result<Vec<Kind>, OutOfMem
 }
 
 /// The kinds of the targets of a query.
-#[tactic(auto, using(plain_product::proofs::Parts::targets_is))]
+#[tactic(auto, using(ovqp::proofs::Parts::targets_is))]
 fn query_kinds(alloc: Global, q: &Query) -> Result<Vec<Kind>, OutOfMemory>
     ensures { IfOk result (λ kinds. kinds.items ≡ map (λ t. t.kind) (targets_of q.now)) }
 {

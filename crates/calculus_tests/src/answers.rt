@@ -3,7 +3,7 @@
 use crate::made::one;
 use crate::spelled::query;
 use calculus::{Row, RowSet, Value};
-use plain_product::{ProductFault, answer_over, is_used, uses};
+use ovqp::{ProductFault, answer_over, is_used, uses};
 use std::alloc::Global;
 use std::process::Abort;
 use std::test::*;

@@ -2,7 +2,7 @@
 
 use crate::made::{row, set};
 use calculus::{Change, Pair, Row, RowSet, Value};
-use change_list::{ChangeFault, set_replace};
+use update_change::{ChangeFault, set_replace};
 use std::alloc::Global;
 use std::process::Abort;
 use std::test::*;

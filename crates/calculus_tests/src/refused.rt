@@ -2,7 +2,7 @@
 
 use crate::changes::{Told, told_of};
 use calculus::{Name, OutOfMemory, Pair, QTerm, Row, RowSet, TryCopy, Value};
-use change_list::set_replace;
+use update_change::set_replace;
 use memory::both;
 use scalar_eval::{Assigned, value_of};
 use std::alloc::Global;

@@ -21,10 +21,10 @@ use Rattle.stored_database.specs.Printed.{Files, is_file}
 use Rattle.stored_database.specs.Spelled.{domain_of}
 use Rattle.stored_database.proofs.Members.{IsIn, in_either, map_in, of_tests}
 use Rattle.stored_database.proofs.Reading.{both}
-use Rattle.catalogue_moves.specs.Bases.{IndexBases}
-use Rattle.catalogue_moves.specs.Files.{files_of}
-use Rattle.catalogue_moves.specs.declared.files.FileTable.{FileTable}
-use Rattle.catalogue_moves.proofs.OnBase.{entry_itself}
+use Rattle.catalog_moves.specs.Bases.{IndexBases}
+use Rattle.catalog_moves.specs.Files.{files_of}
+use Rattle.catalog_moves.specs.declared.files.FileTable.{FileTable}
+use Rattle.catalog_moves.proofs.OnBase.{entry_itself}
 use Rattle.catalog_laws.proofs.From.{found_under}
 use Rattle.catalog.specs.Asked.{HasChain, HasKind, IsFileBy, IsTheFile, has_file}
 use Rattle.catalog.specs.Filling.{IsFileWith}

@@ -35,9 +35,9 @@ use Rattle.catalog_laws.proofs.Part.{part, part_info, relation_part}
 use Rattle.catalog_laws.proofs.PartRows.{rows_known, rows_of_others}
 use Rattle.catalog_laws.proofs.RowsCome.{takes_rows}
 use Rattle.relation_rows.proofs.Holding.{Holds, holds}
-use Rattle.catalogue_moves.specs.Bases.{IndexBases}
-use Rattle.catalogue_moves.specs.Files.{files_of, is_in}
-use Rattle.catalogue_pages.specs.Ends.{AreEnds}
+use Rattle.catalog_moves.specs.Bases.{IndexBases}
+use Rattle.catalog_moves.specs.Files.{files_of, is_in}
+use Rattle.catalog_pages.specs.Ends.{AreEnds}
 use Rattle.catalog.specs.declared.catalog.Catalog.{Catalog}
 use Rattle.catalog.specs.Filling.{IsFileOf, IsSame, IsTaken}
 use Rattle.catalog.specs.Knows.{Knows, KnowsNone}

@@ -4,9 +4,9 @@ use Rattle.calculus.specs.declared.query.RelKey.{RelKey}
 use Rattle.calculus.specs.Keys.{has_key, same_key}
 use Rattle.stored_database.proofs.Members.{IsIn, filter_in}
 use Rattle.stored_database.proofs.Orders.{same_key_is, same_key_itself}
-use Rattle.catalogue_moves.specs.declared.files.FilePlace.{FilePlace}
-use Rattle.catalogue_moves.specs.Files.{place_at, files_at}
-use Rattle.catalogue_moves.proofs.Tables.{file_none, file_some, other_kept, place_is, place_kept}
+use Rattle.catalog_moves.specs.declared.files.FilePlace.{FilePlace}
+use Rattle.catalog_moves.specs.Files.{place_at, files_at}
+use Rattle.catalog_moves.proofs.Tables.{file_none, file_some, other_kept, place_is, place_kept}
 use Rattle.catalog.specs.Places.{left_all, left_base, left_key, left_one}
 
 -- ---- one after the other

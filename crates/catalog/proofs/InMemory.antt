@@ -3,7 +3,7 @@ use Rattle.std.proofs.Common.{◌≡◌, ◌∙◌, refl, sym, ap, ap₂, Bool, 
 use Rattle.calculus.specs.declared.query.RelKey.{RelKey}
 use Rattle.calculus.specs.Database.{is_relation}
 use Rattle.plain_base.specs.Shown.{database_of}
-use Rattle.catalogue_moves.specs.Files.{is_in}
+use Rattle.catalog_moves.specs.Files.{is_in}
 use Rattle.catalog.specs.Reads.{rows_known}
 use Rattle.catalog.specs.declared.catalog.Catalog.{Catalog}
 

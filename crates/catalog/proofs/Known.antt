@@ -17,7 +17,7 @@ use Rattle.page_chain.specs.Lists.{◌>>=◌, each}
 use Rattle.page_chain.specs.Pages.{page_at, pages_of}
 use Rattle.page_chain.specs.Rows.{set_on, reader}
 use Rattle.plain_base.specs.Shown.{database_of}
-use Rattle.schema_build.specs.Parts.{index_owners_agree}
+use Rattle.catalog_read.specs.Parts.{index_owners_agree}
 use Rattle.stored_database.specs.Catalogue.{Catalogue, catalogue_in, listed}
 use Rattle.stored_database.specs.Columns.{column_cmp, column_of}
 use Rattle.stored_database.specs.Entries.{entry_cmp, entry_of}
@@ -29,13 +29,13 @@ use Rattle.stored_database.proofs.CatalogueRead.{catalogues_are_read}
 use Rattle.stored_database.proofs.Members.{IsIn, of_all, all_of, of_tests, tests_of, in_first, in_map, filter_in}
 use Rattle.stored_database.proofs.Reading.{both}
 use Rattle.stored_database.proofs.Sets.{insert_in}
-use Rattle.catalogue_changes.specs.After.{changed}
-use Rattle.catalogue_moves.specs.Files.{files_of, files_after, is_in}
-use Rattle.catalogue_moves.specs.Bases.{IndexBases}
-use Rattle.catalogue_moves.specs.Moves.{HavePlaces}
-use Rattle.catalogue_moves.proofs.KeptBases.{same_bases}
-use Rattle.catalogue_pages.specs.Ends.{AreEnds, EndsAt, SameBesides, Written}
-use Rattle.catalogue_pages.specs.declared.writing.Ends.{Ends}
+use Rattle.stored_database.specs.After.{changed}
+use Rattle.catalog_moves.specs.Files.{files_of, files_after, is_in}
+use Rattle.catalog_moves.specs.Bases.{IndexBases}
+use Rattle.catalog_moves.specs.Moves.{HavePlaces}
+use Rattle.catalog_moves.proofs.KeptBases.{same_bases}
+use Rattle.catalog_pages.specs.Ends.{AreEnds, EndsAt, SameBesides, Written}
+use Rattle.catalog_pages.specs.declared.writing.Ends.{Ends}
 use Rattle.catalog_laws.specs.Followed.{AreKept, SameSchemas, Follows}
 use Rattle.catalog_laws.proofs.Agreeing.{files_agree}
 use Rattle.catalog_laws.proofs.Following.{catalogue_follows}

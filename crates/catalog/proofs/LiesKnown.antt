@@ -17,7 +17,7 @@ use Rattle.page_chain.specs.Pages.{Pages, pages_of}
 use Rattle.page_chain.specs.Rows.{placed_on, reader, set_on}
 use Rattle.page_chain.specs.Chains.{whole_chain, chain}
 use Rattle.plain_base.specs.Shown.{database_of}
-use Rattle.schema_build.specs.Parts.{index_owners_agree, whole}
+use Rattle.catalog_read.specs.Parts.{index_owners_agree, whole}
 use Rattle.stored_database.specs.Catalogue.{Catalogue, catalogue_in}
 use Rattle.stored_database.specs.Entries.{Entry, entry_cmp}
 use Rattle.stored_database.specs.Names.{is_number32}
@@ -31,10 +31,10 @@ use Rattle.stored_database.proofs.PrintedLaw.{what_is_printed_is_read}
 use Rattle.stored_database.proofs.Sets.{in_order_in}
 use Rattle.stored_database.proofs.SpelledParts.{OfRelation, relation_parts, spells}
 use Rattle.stored_database.proofs.WhatStands.{what_stands_is_a_database}
-use Rattle.catalogue_changes.proofs.Staying.{relation_is}
-use Rattle.catalogue_moves.proofs.KeptBases.{same_bases}
-use Rattle.catalogue_moves.specs.Files.{files_of, is_in}
-use Rattle.catalogue_read.proofs.SpellsSchema.{spells_its_schema}
+use Rattle.stored_database.proofs.Staying.{relation_is}
+use Rattle.catalog_moves.proofs.KeptBases.{same_bases}
+use Rattle.catalog_moves.specs.Files.{files_of, is_in}
+use Rattle.catalog_read.proofs.SpellsSchema.{spells_its_schema}
 use Rattle.catalog_laws.proofs.Schemas.{same_entries, same_printed}
 use Rattle.catalog_laws.specs.Loaded.{loaded_part}
 use Rattle.catalog_laws.proofs.Part.{part, part_known, part_unknown}

@@ -25,11 +25,11 @@ use Rattle.stored_database.specs.Printed.{Files, is_file, printed}
 use Rattle.stored_database.proofs.Members.{all_of, of_all, of_tests, in_first, in_map}
 use Rattle.stored_database.proofs.Orders.{same_key_is, same_key_itself}
 use Rattle.stored_database.proofs.Reading.{both, number_itself, same_number}
-use Rattle.catalogue_changes.specs.After.{changed}
-use Rattle.catalogue_changes.proofs.Staying.{relation_is, relation_there}
-use Rattle.catalogue_moves.specs.Files.{files_after, files_of, is_in, placed_key}
-use Rattle.catalogue_moves.specs.Moves.{HavePlaces}
-use Rattle.catalogue_pages.specs.Ends.{AreEnds, SameBesides, Written}
+use Rattle.stored_database.specs.After.{changed}
+use Rattle.stored_database.proofs.Staying.{relation_is, relation_there}
+use Rattle.catalog_moves.specs.Files.{files_after, files_of, is_in, placed_key}
+use Rattle.catalog_moves.specs.Moves.{HavePlaces}
+use Rattle.catalog_pages.specs.Ends.{AreEnds, SameBesides, Written}
 use Rattle.catalog_laws.specs.Followed.{AreKept}
 use Rattle.catalog_laws.specs.Placed.{IsMade, MakesPages, Suits}
 use Rattle.catalog_laws.proofs.Agreeing.{file_same, files_agree}

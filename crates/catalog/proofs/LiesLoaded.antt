@@ -12,16 +12,16 @@ use Rattle.page_chain.specs.Lists.{once}
 use Rattle.page_chain.specs.Pages.{pages_of}
 use Rattle.plain_base.specs.Shown.{database_of}
 use Rattle.plain_base.specs.declared.db_plain.DbPlain.{DbPlain}
-use Rattle.schema_build.specs.declared.parts.SchemaParts.{SchemaParts}
-use Rattle.schema_build.specs.Parts.{Parts, index_owners_agree, parts_in, relation_in, whole}
+use Rattle.catalog_read.specs.declared.parts.SchemaParts.{SchemaParts}
+use Rattle.catalog_read.specs.Parts.{Parts, index_owners_agree, parts_in, relation_in, whole}
 use Rattle.stored_database.specs.Catalogue.{Catalogue, catalogue_in}
 use Rattle.stored_database.specs.Printed.{HasFiles, files_in, printed}
 use Rattle.stored_database.proofs.FilesAgain.{what_is_read_is_printed}
 use Rattle.stored_database.proofs.Reading.{bind_some}
-use Rattle.catalogue_moves.specs.Files.{files_of}
-use Rattle.catalogue_pages.specs.Ends.{AreEnds}
-use Rattle.catalogue_read.proofs.SpellsSchema.{spells_its_schema}
-use Rattle.catalogue_read.specs.Read.{catalogue_of, parts_of}
+use Rattle.catalog_moves.specs.Files.{files_of}
+use Rattle.catalog_pages.specs.Ends.{AreEnds}
+use Rattle.catalog_read.proofs.SpellsSchema.{spells_its_schema}
+use Rattle.catalog_read.specs.Read.{catalogue_of, parts_of}
 use Rattle.catalog_laws.specs.Unread.{SpellsWithout}
 use Rattle.catalog_laws.proofs.Spelling.{parts_are_spelled}
 use Rattle.catalog.specs.Lies.{LiesOn}

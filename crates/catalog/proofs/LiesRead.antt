@@ -22,17 +22,17 @@ use Rattle.plain_base.specs.Shown.{database_of}
 use Rattle.plan_laws.proofs.NewIndexes.{other_way}
 use Rattle.relation_rows.specs.Sets.{IsRead}
 use Rattle.relation_rows.proofs.Once.{once_is}
-use Rattle.schema_build.specs.Parts.{index_owners_agree}
+use Rattle.catalog_read.specs.Parts.{index_owners_agree}
 use Rattle.stored_database.specs.Names.{is_number32}
 use Rattle.stored_database.specs.Printed.{Files, HasFiles, printed}
 use Rattle.stored_database.proofs.Members.{all_of, of_all, of_tests}
 use Rattle.stored_database.proofs.Orders.{same_key_is, same_key_itself}
 use Rattle.stored_database.proofs.Reading.{number_itself, same_number}
-use Rattle.catalogue_changes.proofs.Staying.{relation_is}
-use Rattle.catalogue_moves.specs.Bases.{IndexBases}
-use Rattle.catalogue_moves.specs.Files.{files_after, files_of, is_in, placed_key, with_file}
-use Rattle.catalogue_moves.proofs.KeptBases.{rows_bases}
-use Rattle.catalogue_pages.specs.Ends.{AreEnds}
+use Rattle.stored_database.proofs.Staying.{relation_is}
+use Rattle.catalog_moves.specs.Bases.{IndexBases}
+use Rattle.catalog_moves.specs.Files.{files_after, files_of, is_in, placed_key, with_file}
+use Rattle.catalog_moves.proofs.KeptBases.{rows_bases}
+use Rattle.catalog_pages.specs.Ends.{AreEnds}
 use Rattle.catalog_laws.specs.Placed.{IsMade, MakesPages, Suits}
 use Rattle.catalog_laws.proofs.From.{IsChanged, relation_from}
 use Rattle.catalog_laws.proofs.Schemas.{same_printed}

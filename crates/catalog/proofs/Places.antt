@@ -14,8 +14,8 @@ use Rattle.calculus.specs.Database.{Db, Relation, View, Index, entries, is_there
 use Rattle.calculus.specs.IsDatabase.{IsDatabase}
 use Rattle.calculus.specs.Keys.{has_key, key_cmp, key_of, same_key}
 use Rattle.calculus.specs.Lists.{differ_by}
-use Rattle.catalogue_changes.specs.Laws.{FilesDiffer}
-use Rattle.catalogue_changes.proofs.Staying.{base_is, index_there, relation_is_there, relation_there, view_there}
+use Rattle.stored_database.specs.ChangeLaws.{FilesDiffer}
+use Rattle.stored_database.proofs.Staying.{base_is, index_there, relation_is_there, relation_there, view_there}
 use Rattle.stored_database.specs.Printed.{is_file}
 use Rattle.stored_database.proofs.Members.{IsIn, all_of, filter_in, in_either, apart_same, in_filter, in_map, map_in, of_all, of_tests}
 use Rattle.stored_database.proofs.Orders.{key_total, same_key_is, same_key_itself}
@@ -24,14 +24,14 @@ use Rattle.stored_database.proofs.PrintedEntries.{equal_turned}
 use Rattle.stored_database.proofs.PrintedTrees.{relation_under}
 use Rattle.stored_database.proofs.Reading.{both, same_number, number_itself}
 use Rattle.stored_database.proofs.Sets.{sorted_exact}
-use Rattle.catalogue_moves.specs.declared.files.FilePlace.{FilePlace}
-use Rattle.catalogue_moves.specs.declared.files.FileTable.{FileTable}
-use Rattle.catalogue_moves.specs.Bases.{IndexBases}
-use Rattle.catalogue_moves.specs.Files.{base_at, files_after, files_at, files_of, place_at, placed_key, places_of}
-use Rattle.catalogue_moves.proofs.KeptBases.{permit_bases, permits_dropped_bases, rows_bases, rule_bases, rules_dropped_bases}
-use Rattle.catalogue_moves.proofs.MadeBases.{created_bases, indexed_bases, viewed_bases}
-use Rattle.catalogue_moves.proofs.OnBase.{found_self, of_index, up_by}
-use Rattle.catalogue_moves.proofs.Tables.{file_none, file_same, file_some, files_put, place_is, place_kept, place_put, used_same}
+use Rattle.catalog_moves.specs.declared.files.FilePlace.{FilePlace}
+use Rattle.catalog_moves.specs.declared.files.FileTable.{FileTable}
+use Rattle.catalog_moves.specs.Bases.{IndexBases}
+use Rattle.catalog_moves.specs.Files.{base_at, files_after, files_at, files_of, place_at, placed_key, places_of}
+use Rattle.catalog_moves.proofs.KeptBases.{permit_bases, permits_dropped_bases, rows_bases, rule_bases, rules_dropped_bases}
+use Rattle.catalog_moves.proofs.MadeBases.{created_bases, indexed_bases, viewed_bases}
+use Rattle.catalog_moves.proofs.OnBase.{found_self, of_index, up_by}
+use Rattle.catalog_moves.proofs.Tables.{file_none, file_same, file_some, files_put, place_is, place_kept, place_put, used_same}
 use Rattle.catalog_laws.specs.Followed.{AreKept, SayTheSame}
 use Rattle.catalog_laws.specs.Placed.{Suits}
 use Rattle.catalog_laws.proofs.From.{found_under, new_is_new, new_key}

@@ -26,8 +26,8 @@ use Rattle.page_chain.specs.Pages.{Pages, pages_of}
 use Rattle.plain_base.specs.Shown.{database_of}
 use Rattle.plain_base.specs.declared.db_plain.DbPlain.{DbPlain}
 use Rattle.schema_laws.proofs.SchemaStands.{schema_is_database}
-use Rattle.schema_build.specs.declared.parts.SchemaParts.{SchemaParts}
-use Rattle.schema_build.specs.Parts.{index_owners_agree, parts_in, whole}
+use Rattle.catalog_read.specs.declared.parts.SchemaParts.{SchemaParts}
+use Rattle.catalog_read.specs.Parts.{index_owners_agree, parts_in, whole}
 use Rattle.stored_database.specs.Catalogue.{Catalogue, IsCatalogue, catalogue_in, listed, most_pages}
 use Rattle.stored_database.specs.Columns.{column_of, column_cmp, is_column}
 use Rattle.stored_database.specs.Entries.{Entry, entry_of, entry_cmp, is_entry}
@@ -48,15 +48,15 @@ use Rattle.stored_database.proofs.Reading.{bind_some, together}
 use Rattle.stored_database.proofs.Sets.{IsOnce, in_order_in, is_once, sorted_in_order}
 use Rattle.stored_database.proofs.WhatStands.{what_stands_is_a_database}
 use Rattle.catalog_laws.specs.Loaded.{loaded_part}
-use Rattle.catalogue_moves.specs.Files.{files_of, is_in}
-use Rattle.catalogue_pages.specs.declared.writing.Ends.{Ends}
-use Rattle.catalogue_pages.specs.Ends.{AreEnds, EndsAt}
-use Rattle.catalogue_read.specs.Laws.{SpellsItsSchema}
-use Rattle.catalogue_read.specs.Read.{catalogue_of, catalogue_shown, parts_of}
-use Rattle.catalogue_read.specs.declared.rows.CatalogueRows.{CatalogueRows}
-use Rattle.catalogue_rows.specs.Shown.{entry_in}
-use Rattle.catalogue_moves.specs.Bases.{IndexBases}
-use Rattle.catalogue_rows.specs.declared.entries.EntryRow.{EntryRow}
+use Rattle.catalog_moves.specs.Files.{files_of, is_in}
+use Rattle.catalog_pages.specs.declared.writing.Ends.{Ends}
+use Rattle.catalog_pages.specs.Ends.{AreEnds, EndsAt}
+use Rattle.catalog_read.specs.Laws.{SpellsItsSchema}
+use Rattle.catalog_read.specs.Read.{catalogue_of, catalogue_shown, parts_of}
+use Rattle.catalog_read.specs.declared.rows.CatalogueRows.{CatalogueRows}
+use Rattle.catalog_rows.specs.Shown.{entry_in}
+use Rattle.catalog_moves.specs.Bases.{IndexBases}
+use Rattle.catalog_rows.specs.declared.entries.EntryRow.{EntryRow}
 use Rattle.catalog.specs.declared.catalog.Catalog.{Catalog}
 use Rattle.catalog.specs.declared.loading.Chains.{Chains}
 use Rattle.catalog.specs.Knows.{Knows, NoDatabase}

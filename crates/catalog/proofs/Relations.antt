@@ -30,7 +30,7 @@ use Rattle.calculus.specs.Value.{row_cmp}
 use Rattle.std.specs.Ordering.{eq_by_cmp, is_eq}
 use Rattle.std.specs.declared.cmp.Ordering.{Ordering}
 use Rattle.calculus.specs.Orders.{row_exact}
-use Rattle.catalogue_pages.proofs.Items.{any_of}
+use Rattle.catalog_pages.proofs.Items.{any_of}
 use Rattle.change_laws.specs.Fit.{change_is_fit, rows_are_fit, relation_is_fit, key_is_free}
 use Rattle.change_laws.proofs.Exactly.{fits_exactly}
 use Rattle.disk_model.specs.Disk.{Image}

@@ -29,17 +29,17 @@ use Rattle.stored_database.proofs.Orders.{same_key_is}
 use Rattle.stored_database.proofs.PrintedStands.{is_a_catalogue}
 use Rattle.stored_database.proofs.PrintedTrees.{relation_under}
 use Rattle.stored_database.proofs.Reading.{both}
-use Rattle.catalogue_changes.specs.After.{AreChanges, changed}
-use Rattle.catalogue_changes.specs.Moves.{destroyed, rows_of}
-use Rattle.catalogue_changes.specs.Renumbered.{DifferAt}
-use Rattle.catalogue_changes.proofs.Renumbered.{renumbers_rows, renumbers_the_catalogue}
-use Rattle.catalogue_moves.specs.Bases.{IndexBases}
-use Rattle.catalogue_moves.specs.Files.{files_of, files_after, with_file}
-use Rattle.catalogue_moves.specs.Moves.{HavePlaces}
-use Rattle.catalogue_moves.specs.declared.files.FileTable.{FileTable}
-use Rattle.catalogue_moves.proofs.OnBase.{entry_itself}
-use Rattle.catalogue_moves.proofs.Renumbered.{differ_at, file_here}
-use Rattle.catalogue_pages.specs.Ends.{AreEnds, NoCatalogue, Written}
+use Rattle.stored_database.specs.After.{AreChanges, changed}
+use Rattle.stored_database.specs.Moves.{destroyed, rows_of}
+use Rattle.stored_database.specs.Renumbered.{DifferAt}
+use Rattle.stored_database.proofs.Renumbered.{renumbers_rows, renumbers_the_catalogue}
+use Rattle.catalog_moves.specs.Bases.{IndexBases}
+use Rattle.catalog_moves.specs.Files.{files_of, files_after, with_file}
+use Rattle.catalog_moves.specs.Moves.{HavePlaces}
+use Rattle.catalog_moves.specs.declared.files.FileTable.{FileTable}
+use Rattle.catalog_moves.proofs.OnBase.{entry_itself}
+use Rattle.catalog_moves.proofs.Renumbered.{differ_at, file_here}
+use Rattle.catalog_pages.specs.Ends.{AreEnds, NoCatalogue, Written}
 use Rattle.catalog_laws.specs.Followed.{AreKept, Prints}
 use Rattle.catalog_laws.specs.Placed.{Suits, is_used}
 use Rattle.catalog_laws.proofs.Agreeing.{files_agree}

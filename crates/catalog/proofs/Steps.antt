@@ -19,11 +19,11 @@ use Rattle.plain_base.specs.Shown.{database_of}
 use Rattle.plain_base.specs.declared.db_plain.DbPlain.{DbPlain}
 use Rattle.stored_database.specs.Catalogue.{Catalogue, catalogue_in}
 use Rattle.stored_database.specs.Printed.{printed}
-use Rattle.catalogue_changes.specs.After.{changed}
-use Rattle.catalogue_moves.specs.Bases.{IndexBases}
-use Rattle.catalogue_moves.specs.Files.{files_of, is_in}
-use Rattle.catalogue_moves.specs.Moves.{HavePlaces}
-use Rattle.catalogue_pages.specs.Ends.{AreEnds, NoCatalogue, Written}
+use Rattle.stored_database.specs.After.{changed}
+use Rattle.catalog_moves.specs.Bases.{IndexBases}
+use Rattle.catalog_moves.specs.Files.{files_of, is_in}
+use Rattle.catalog_moves.specs.Moves.{HavePlaces}
+use Rattle.catalog_pages.specs.Ends.{AreEnds, NoCatalogue, Written}
 use Rattle.catalog_laws.specs.Loaded.{known_after, knows_rows}
 use Rattle.catalog_laws.proofs.Changes.{takes_changes}
 use Rattle.catalog_laws.proofs.Part.{has_schema, starts_bare}

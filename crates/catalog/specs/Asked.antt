@@ -10,7 +10,7 @@ use Rattle.access_traits.specs.declared.file.RelFile.{RelFile}
 use Rattle.page_chain.specs.Lists.{each}
 use Rattle.stored_database.specs.Printed.{Files}
 use Rattle.stored_database.specs.Spelled.{domain_of}
-use Rattle.catalogue_moves.specs.Renumbered.{MayTakeFile}
+use Rattle.catalog_moves.specs.Renumbered.{MayTakeFile}
 use Rattle.catalog_laws.specs.Placed.{is_used}
 
 -- the pages of a relation are one chain, whatever its structure; an index has no pages yet, and a view never has

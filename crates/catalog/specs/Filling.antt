@@ -13,7 +13,7 @@ use Rattle.page_chain.specs.Lists.{each}
 use Rattle.plain_base.specs.Shown.{database_of}
 use Rattle.stored_database.specs.Printed.{Files}
 use Rattle.stored_database.specs.Spelled.{domain_of}
-use Rattle.catalogue_moves.specs.Files.{is_in}
+use Rattle.catalog_moves.specs.Files.{is_in}
 use Rattle.catalog.specs.declared.catalog.Catalog.{Catalog}
 
 -- The file with this number and so many pages on one chain, of this structure and these keys, whose domains are those of these attributes.

@@ -11,11 +11,11 @@ use Rattle.plain_base.specs.Shown.{database_of}
 use Rattle.stored_database.specs.Catalogue.{catalogue_in}
 use Rattle.stored_database.specs.Printed.{HasFiles, printed}
 use Rattle.stored_database.specs.Standing.{standing}
-use Rattle.schema_build.specs.Parts.{index_owners_agree}
+use Rattle.catalog_read.specs.Parts.{index_owners_agree}
 use Rattle.catalog_laws.specs.Loaded.{loaded_part}
-use Rattle.catalogue_moves.specs.Bases.{IndexBases}
-use Rattle.catalogue_moves.specs.Files.{files_of, is_in}
-use Rattle.catalogue_pages.specs.Ends.{AreEnds}
+use Rattle.catalog_moves.specs.Bases.{IndexBases}
+use Rattle.catalog_moves.specs.Files.{files_of, is_in}
+use Rattle.catalog_pages.specs.Ends.{AreEnds}
 use Rattle.catalog.specs.declared.catalog.Catalog.{Catalog}
 
 -- The pages hold the catalogue of this database by the files that are known, and the rows of its relations; in memory are its schema and the rows of the relations that were read; each index has the owner of its relation; and the table of files has places for what is there and for nothing else, and says the relation below each index.

@@ -13,10 +13,10 @@ use Rattle.page_chain.specs.Pages.{pages_of}
 use Rattle.plain_base.specs.Shown.{database_of}
 use Rattle.stored_database.specs.Catalogue.{Catalogue, IsCatalogue}
 use Rattle.stored_database.specs.Printed.{Files, HasFiles}
-use Rattle.catalogue_changes.specs.After.{AreChanges, changed}
-use Rattle.catalogue_changes.specs.Moves.{going, coming}
-use Rattle.catalogue_moves.specs.Files.{files_after, is_in, places_of}
-use Rattle.catalogue_moves.specs.Moves.{HavePlaces}
+use Rattle.stored_database.specs.After.{AreChanges, changed}
+use Rattle.stored_database.specs.Moves.{going, coming}
+use Rattle.catalog_moves.specs.Files.{files_after, is_in, places_of}
+use Rattle.catalog_moves.specs.Moves.{HavePlaces}
 use Rattle.catalog_laws.specs.Placed.{IsFree, Suits, MakesPages}
 use Rattle.catalog_laws.specs.Loaded.{known_after}
 use Rattle.catalog.specs.Places.{places_after}

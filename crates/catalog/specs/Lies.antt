@@ -6,9 +6,9 @@ use Rattle.disk_model.specs.Disk.{Image}
 use Rattle.disk_model.specs.declared.disk.Addr.{Addr}
 use Rattle.page_chain.specs.Pages.{pages_of}
 use Rattle.plain_base.specs.Shown.{database_of}
-use Rattle.schema_build.specs.Parts.{index_owners_agree}
+use Rattle.catalog_read.specs.Parts.{index_owners_agree}
 use Rattle.stored_database.specs.Standing.{standing}
-use Rattle.catalogue_moves.specs.Files.{files_of, is_in}
+use Rattle.catalog_moves.specs.Files.{files_of, is_in}
 use Rattle.catalog.specs.Knows.{Knows, SameHead}
 use Rattle.catalog.specs.declared.catalog.Catalog.{Catalog}
 

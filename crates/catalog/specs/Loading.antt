@@ -10,15 +10,15 @@ use Rattle.page_chain.specs.Chains.{chain}
 use Rattle.page_chain.specs.Found.{Found}
 use Rattle.page_chain.specs.Pages.{Pages, pages_of}
 use Rattle.plain_base.specs.Shown.{database_of}
-use Rattle.catalogue_read.specs.Read.{parts_of}
-use Rattle.schema_build.specs.Parts.{Parts, index_owners_agree, whole}
+use Rattle.catalog_read.specs.Read.{parts_of}
+use Rattle.catalog_read.specs.Parts.{Parts, index_owners_agree, whole}
 use Rattle.stored_database.specs.Catalogue.{Catalogue, catalogue_in, most_pages}
 use Rattle.stored_database.specs.Printed.{HasFiles, files_in, printed}
 use Rattle.stored_database.specs.Spelled.{spelled}
 use Rattle.stored_database.specs.Standing.{standing}
-use Rattle.catalogue_moves.specs.Bases.{IndexBases}
-use Rattle.catalogue_moves.specs.Files.{files_of, is_in}
-use Rattle.catalogue_pages.specs.declared.writing.Ends.{Ends}
+use Rattle.catalog_moves.specs.Bases.{IndexBases}
+use Rattle.catalog_moves.specs.Files.{files_of, is_in}
+use Rattle.catalog_pages.specs.declared.writing.Ends.{Ends}
 use Rattle.catalog.specs.declared.catalog.Catalog.{Catalog}
 use Rattle.catalog.specs.declared.loading.Chains.{Chains}
 use Rattle.catalog.specs.Knows.{Knows}

@@ -5,8 +5,8 @@ use Rattle.calculus.specs.declared.change.DbChange.{DbChange}
 use Rattle.calculus.specs.declared.change.DbChange.TheVariants as change
 use Rattle.calculus.specs.Keys.{key_of, same_key}
 use Rattle.calculus.specs.Lists.{insert_by}
-use Rattle.catalogue_moves.specs.declared.files.FilePlace.{FilePlace}
-use Rattle.catalogue_moves.specs.Files.{by_place, files_at}
+use Rattle.catalog_moves.specs.declared.files.FilePlace.{FilePlace}
+use Rattle.catalog_moves.specs.Files.{by_place, files_at}
 
 -- the places but that of what stood under a key
 abbrev pub left_key : RelKey → List FilePlace → List FilePlace

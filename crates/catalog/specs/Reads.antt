@@ -7,7 +7,7 @@ use Rattle.page_chain.specs.Chains.{chain}
 use Rattle.page_chain.specs.Pages.{pages_of}
 use Rattle.plain_base.specs.Shown.{database_of}
 use Rattle.stored_database.specs.Catalogue.{most_pages}
-use Rattle.catalogue_moves.specs.Files.{is_in}
+use Rattle.catalog_moves.specs.Files.{is_in}
 use Rattle.catalog.specs.declared.catalog.Catalog.{Catalog}
 
 -- The chains of the three catalogues are there, with so many pages in all.

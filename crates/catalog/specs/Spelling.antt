@@ -9,9 +9,9 @@ use Rattle.page_chain.specs.Pages.{pages_of}
 use Rattle.plain_base.specs.Shown.{database_of}
 use Rattle.stored_database.specs.Catalogue.{catalogue_in}
 use Rattle.stored_database.specs.Printed.{printed}
-use Rattle.catalogue_moves.specs.Bases.{IndexBases}
-use Rattle.catalogue_moves.specs.Files.{files_of, is_in, places_of, with_file}
-use Rattle.catalogue_pages.specs.Ends.{AreEnds, SameBesides}
+use Rattle.catalog_moves.specs.Bases.{IndexBases}
+use Rattle.catalog_moves.specs.Files.{files_of, is_in, places_of, with_file}
+use Rattle.catalog_pages.specs.Ends.{AreEnds, SameBesides}
 use Rattle.catalog_laws.specs.Loaded.{known_after}
 use Rattle.catalog.specs.Laid.{IsPlaced}
 use Rattle.catalog.specs.Places.{places_after}

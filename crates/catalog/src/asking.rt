@@ -4,8 +4,8 @@ ghost use Rattle.std.specs.Prelude.{◌≡◌, IfOk, filter, is_some, map};
 ghost use Rattle.std.specs.Option.{ForSome};
 ghost use Rattle.calculus.specs.Keys.{same_key};
 ghost use Rattle.plain_base.specs.Shown.{database_of};
-ghost use Rattle.catalogue_moves.specs.Bases.{IndexBases};
-ghost use Rattle.catalogue_moves.specs.Files.{files_of};
+ghost use Rattle.catalog_moves.specs.Bases.{IndexBases};
+ghost use Rattle.catalog_moves.specs.Files.{files_of};
 ghost use Rattle.catalog.specs.Asked.{IsTheFile, has_file};
 
 use crate::catalog::Catalog;

@@ -1,7 +1,7 @@
 //! The catalogue of a database on disk, in memory.
 
-use catalogue_moves::{FileTable, KeySet};
-use catalogue_pages::Ends;
+use catalog_moves::{FileTable, KeySet};
+use catalog_pages::Ends;
 use plain_base::DbPlain;
 
 /// What is known in memory of a database on disk: its schema, the rows of the relations that were read,

@@ -9,14 +9,14 @@ ghost use Rattle.calculus.specs.Structures.{is_view};
 ghost use Rattle.page_chain.specs.Lists.{each};
 ghost use Rattle.plain_base.specs.Shown.{database_of};
 ghost use Rattle.stored_database.specs.Spelled.{domain_of};
-ghost use Rattle.catalogue_moves.specs.Files.{files_of};
+ghost use Rattle.catalog_moves.specs.Files.{files_of};
 ghost use Rattle.catalog.specs.Asked.{HasKind, IsFileBy};
 ghost use Rattle.catalog.specs.Filling.{IsFileOf, IsFileWith};
 
 use access_traits::RelFile;
 use am_traits::Base;
 use calculus::{Attr, Domain, Kind, List, OutOfMemory, RelInfo, RelKey, Spec};
-use catalogue_moves::FileTable;
+use catalog_moves::FileTable;
 use plain_base::DbPlain;
 use std::alloc::Global;
 

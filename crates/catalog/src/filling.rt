@@ -10,7 +10,7 @@ ghost use Rattle.calculus.specs.declared.change.DbChange.TheVariants.{Rows};
 ghost use Rattle.calculus.specs.Stored.{rows_at};
 ghost use Rattle.disk_model.specs.Disk.{Image, RisesUpTo};
 ghost use Rattle.plain_base.specs.Shown.{database_of};
-ghost use Rattle.catalogue_moves.specs.Files.{files_of, is_in};
+ghost use Rattle.catalog_moves.specs.Files.{files_of, is_in};
 ghost use Rattle.catalog.specs.Knows.{Knows, KnowsNone};
 ghost use Rattle.catalog.specs.Lies.{LiesOn};
 ghost use Rattle.catalog.specs.Reads.{rows_known};

@@ -6,7 +6,7 @@ ghost use Rattle.calculus.specs.declared.query.RelKey.{RelKey as Key};
 ghost use Rattle.calculus.specs.Keys.{key_of};
 ghost use Rattle.calculus.specs.Lists.{insert_by};
 ghost use Rattle.plain_base.specs.Shown.{database_of};
-ghost use Rattle.catalogue_moves.specs.Files.{by_place, files_of, is_in, places_of};
+ghost use Rattle.catalog_moves.specs.Files.{by_place, files_of, is_in, places_of};
 ghost use Rattle.catalog_laws.specs.Loaded.{known_after};
 ghost use Rattle.catalog.specs.Laid.{IsKept};
 ghost use Rattle.catalog.specs.Places.{left_all, left_below, left_one, places_after};
@@ -14,7 +14,7 @@ ghost use Rattle.catalog.specs.Places.{left_all, left_below, left_one, places_af
 use crate::catalog::Catalog;
 use crate::placing::{Given, same_place};
 use calculus::{DbChange, Name, OutOfMemory, RelKey, TryCopy};
-use catalogue_moves::{FileTable, KeySet};
+use catalog_moves::{FileTable, KeySet};
 use std::alloc::Global;
 
 /// The relations whose rows are known after a change.

@@ -10,13 +10,13 @@ ghost use Rattle.page_chain.specs.Chains.{chain};
 ghost use Rattle.page_chain.specs.Found.{Found};
 ghost use Rattle.page_chain.specs.Pages.{Pages, pages_of};
 ghost use Rattle.plain_base.specs.Shown.{database_of};
-ghost use Rattle.schema_build.specs.Parts.{index_owners_agree};
+ghost use Rattle.catalog_read.specs.Parts.{index_owners_agree};
 ghost use Rattle.stored_database.specs.Standing.{standing};
 ghost use Rattle.catalog.specs.Knows.{Knows, NoDatabase};
 ghost use Rattle.catalog.specs.Lies.{LiesOn};
 ghost use Rattle.stored_database.specs.Catalogue.{IsCatalogue, most_pages};
 ghost use Rattle.stored_database.specs.Spelled.{spelled};
-ghost use Rattle.catalogue_read.specs.Read.{catalogue_of, catalogue_shown};
+ghost use Rattle.catalog_read.specs.Read.{catalogue_of, catalogue_shown};
 ghost use Rattle.catalog.specs.Reads.{HasChains};
 ghost use Rattle.catalog.specs.Loading.{AreFound, HoldsFor, IfKnown, IsMadeOf, IsOfParts, NoneIn, NoCatalogueIn, SpellsNone};
 
@@ -24,13 +24,12 @@ use crate::catalog::Catalog;
 use access_traits::PageStore;
 use am_traits::BaseFault;
 use calculus::{Name, OutOfMemory};
-use catalogue_moves::{FileTable, KeySet};
-use catalogue_pages::Ends;
-use catalogue_read::{CatalogueRows, read_catalogue, schema_parts};
+use catalog_moves::{FileTable, KeySet};
+use catalog_pages::Ends;
+use catalog_read::{CatalogueRows, read_catalogue, schema_parts, build_schema};
 use memory::both;
 use page_chain::{ChainRows, chain_rows};
 use plain_base::DbPlain;
-use schema_build::build_schema;
 use std::alloc::Global;
 
 /// The page numbers are below this.

@@ -7,7 +7,7 @@ ghost use Rattle.calculus.specs.Database.{Db};
 ghost use Rattle.calculus.specs.declared.change.DbChange.TheVariants.{Rows, Create};
 ghost use Rattle.disk_model.specs.Disk.{Image};
 ghost use Rattle.plain_base.specs.Shown.{database_of};
-ghost use Rattle.catalogue_moves.specs.Files.{files_of};
+ghost use Rattle.catalog_moves.specs.Files.{files_of};
 ghost use Rattle.catalog.specs.Laid.{HasMade, IsPlaced, MayTake, NoneMayTake, PutsNoRows};
 ghost use Rattle.catalog_laws.specs.Placed.{IsFree, Suits};
 
@@ -16,7 +16,7 @@ use crate::spots::SpotTable;
 use access_traits::PageStore;
 use am_traits::BaseFault;
 use calculus::{DbChange, OutOfMemory, RelInfo, RelKey, Row};
-use catalogue_moves::FileTable;
+use catalog_moves::FileTable;
 use plain_base::DbPlain;
 use relation_rows::{build_rows, change_rows};
 use std::alloc::Global;

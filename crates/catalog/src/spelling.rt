@@ -5,8 +5,8 @@ ghost use Rattle.access_traits.specs.Causes.{HasFileCause};
 ghost use Rattle.calculus.specs.Change.{IsLawful};
 ghost use Rattle.disk_model.specs.Disk.{Image};
 ghost use Rattle.plain_base.specs.Shown.{database_of};
-ghost use Rattle.catalogue_moves.specs.Bases.{IndexBases};
-ghost use Rattle.catalogue_moves.specs.Files.{files_of, is_in};
+ghost use Rattle.catalog_moves.specs.Bases.{IndexBases};
+ghost use Rattle.catalog_moves.specs.Files.{files_of, is_in};
 ghost use Rattle.catalog_laws.specs.Loaded.{knows_rows};
 ghost use Rattle.catalog.specs.Asked.{MayBeFile};
 ghost use Rattle.catalog.specs.Spelling.{IsSet, IsWritten, Spells, SpellsAfter, SpellsNone};
@@ -17,8 +17,8 @@ use crate::placing::place_of;
 use access_traits::{PageStore, RelFile};
 use am_traits::BaseFault;
 use calculus::{DbChange, RelKey};
-use catalogue_moves::renumber;
-use catalogue_pages::write_moves;
+use catalog_moves::renumber;
+use catalog_pages::write_moves;
 use std::alloc::Global;
 
 impl Catalog {

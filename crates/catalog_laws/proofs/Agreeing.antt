@@ -11,10 +11,10 @@ use Rattle.calculus.specs.Keys.{same_key, key_of}
 use Rattle.stored_database.specs.Printed.{Files}
 use Rattle.stored_database.proofs.Orders.{same_key_is, same_key_itself}
 use Rattle.stored_database.proofs.PrintedEntries.{equal_turned}
-use Rattle.catalogue_changes.specs.Laws.{Agree, FilesDiffer, NewFilesDiffer, resizes}
-use Rattle.catalogue_changes.proofs.FilesDiffer.{differ_again}
-use Rattle.catalogue_changes.proofs.Staying.{relation_is_there}
-use Rattle.catalogue_moves.specs.Files.{files_after, placed_key, with_file}
+use Rattle.stored_database.specs.ChangeLaws.{Agree, FilesDiffer, NewFilesDiffer, resizes}
+use Rattle.stored_database.proofs.FilesDiffer.{differ_again}
+use Rattle.stored_database.proofs.Staying.{relation_is_there}
+use Rattle.catalog_moves.specs.Files.{files_after, placed_key, with_file}
 use Rattle.catalog_laws.specs.Placed.{Suits, IsFree}
 use Rattle.catalog_laws.proofs.From.{new_key, new_is_new, info_from, found_under}
 

@@ -22,9 +22,9 @@ use Rattle.stored_database.proofs.Orders.{same_key_is, same_key_itself}
 use Rattle.stored_database.proofs.PrintedEntries.{relations_at}
 use Rattle.stored_database.proofs.Reading.{both, together}
 use Rattle.stored_database.proofs.SpelledParts.{entry_found}
-use Rattle.catalogue_changes.specs.Laws.{Agree, FilesDiffer}
-use Rattle.catalogue_changes.proofs.Staying.{info_there, relation_is}
-use Rattle.catalogue_moves.specs.Files.{files_after, placed_key, with_file}
+use Rattle.stored_database.specs.ChangeLaws.{Agree, FilesDiffer}
+use Rattle.stored_database.proofs.Staying.{info_there, relation_is}
+use Rattle.catalog_moves.specs.Files.{files_after, placed_key, with_file}
 use Rattle.catalog_laws.specs.Placed.{Suits, is_used}
 use Rattle.catalog_laws.proofs.Agreeing.{files_agree, files_differ_after, new_file, file_same, used_same}
 use Rattle.catalog_laws.proofs.From.{IsChanged, relation_from, info_from, found_under}

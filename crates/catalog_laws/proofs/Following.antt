@@ -20,13 +20,13 @@ use Rattle.stored_database.proofs.PrintedTrees.{told_trees, trees_for, parts_are
 use Rattle.stored_database.proofs.Groups.{groups_apart}
 use Rattle.stored_database.proofs.Reading.{both}
 use Rattle.stored_database.proofs.Sets.{in_in_order, in_order_in}
-use Rattle.catalogue_changes.specs.After.{AreChanges, changed, stays, after_change}
-use Rattle.catalogue_changes.specs.Laws.{Agree, FilesDiffer}
-use Rattle.catalogue_changes.specs.Moves.{going, coming}
-use Rattle.catalogue_changes.proofs.Every.{every_change, every_row}
-use Rattle.catalogue_changes.proofs.Moved.{IsApart, exact_of}
-use Rattle.catalogue_changes.proofs.Three.{Stands, trees_are_apart}
-use Rattle.catalogue_moves.specs.Moves.{HavePlaces}
+use Rattle.stored_database.specs.After.{AreChanges, changed, stays, after_change}
+use Rattle.stored_database.specs.ChangeLaws.{Agree, FilesDiffer}
+use Rattle.stored_database.specs.Moves.{going, coming}
+use Rattle.stored_database.proofs.Every.{every_change, every_row}
+use Rattle.stored_database.proofs.Moved.{IsApart, exact_of}
+use Rattle.stored_database.proofs.Three.{Stands, trees_are_apart}
+use Rattle.catalog_moves.specs.Moves.{HavePlaces}
 use Rattle.catalog_laws.specs.Followed.{SayTheSame, AreKept, SameSchemas, Prints, CatalogueFollows}
 use Rattle.catalog_laws.proofs.Kept.{kept_say, kept_agree, kept_has, kept_may, kept_going, kept_coming}
 use Rattle.catalog_laws.proofs.Schemas.{same_printed, same_entries}

@@ -14,8 +14,8 @@ use Rattle.calculus.specs.Rows.{set_of}
 use Rattle.stored_database.proofs.Members.{IsIn, map_in, filter_in, in_either, found_in}
 use Rattle.stored_database.proofs.Orders.{same_key_is}
 use Rattle.stored_database.proofs.Sets.{insert_in}
-use Rattle.catalogue_changes.specs.Laws.{resizes}
-use Rattle.catalogue_changes.proofs.Staying.{relation_there, view_there, index_there}
+use Rattle.stored_database.specs.ChangeLaws.{resizes}
+use Rattle.stored_database.proofs.Staying.{relation_there, view_there, index_there}
 
 -- the key of what a change makes
 unfoldable pub new_key : DbChange → Option RelKey

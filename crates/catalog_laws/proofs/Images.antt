@@ -29,8 +29,8 @@ use Rattle.stored_database.proofs.Orders.{entry_total}
 use Rattle.stored_database.proofs.Reading.{both, same_number, number_itself}
 use Rattle.stored_database.proofs.Sets.{sorted_exact}
 use Rattle.stored_database.proofs.SpelledParts.{entry_found}
-use Rattle.schema_build.specs.Parts.{relation_in}
-use Rattle.catalogue_read.specs.Read.{relation_info}
+use Rattle.catalog_read.specs.Parts.{relation_in}
+use Rattle.catalog_read.specs.Read.{relation_info}
 use Rattle.catalog_laws.proofs.EmptyPages.{empty_pages, are_empty}
 
 -- ---- domains

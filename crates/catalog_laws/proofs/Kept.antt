@@ -18,9 +18,9 @@ use Rattle.stored_database.specs.Printed.{Files, HasFiles, MayHave, is_file, rel
 use Rattle.stored_database.specs.Spelled.{domain_of}
 use Rattle.stored_database.proofs.Members.{IsIn, of_all, all_of, of_tests, tests_of, in_map, filter_in}
 use Rattle.stored_database.proofs.PrintedStands.{may_have}
-use Rattle.catalogue_changes.specs.Laws.{Agree}
-use Rattle.catalogue_changes.specs.Moves.{going, coming, only_entries, under}
-use Rattle.catalogue_changes.proofs.Staying.{info_there, relation_there, relation_is_there}
+use Rattle.stored_database.specs.ChangeLaws.{Agree}
+use Rattle.stored_database.specs.Moves.{going, coming, only_entries, under}
+use Rattle.stored_database.proofs.Staying.{info_there, relation_there, relation_is_there}
 use Rattle.catalog_laws.specs.Followed.{SayTheSame, AreKept}
 
 -- what is the same of each item is the same of all

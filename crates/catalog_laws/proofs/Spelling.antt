@@ -24,9 +24,9 @@ use Rattle.stored_database.proofs.Members.{IsIn, of_tests, in_map, filter_in, ea
 use Rattle.stored_database.proofs.Orders.{key_total}
 use Rattle.stored_database.proofs.Reading.{bind_some}
 use Rattle.stored_database.proofs.Sets.{is_once}
-use Rattle.schema_build.specs.Parts.{Parts, relation_in, whole}
-use Rattle.catalogue_read.specs.Read.{relation_info, parts_of}
-use Rattle.catalogue_read.proofs.SpellsSchema.{spells_its_schema}
+use Rattle.catalog_read.specs.Parts.{Parts, relation_in, whole}
+use Rattle.catalog_read.specs.Read.{relation_info, parts_of}
+use Rattle.catalog_read.proofs.SpellsSchema.{spells_its_schema}
 use Rattle.catalog_laws.specs.Unread.{PartsAreSpelled, AreSpelledOnce}
 use Rattle.catalog_laws.proofs.Images.{have_pages, image_without, low_stays, relation_without, relations_have_pages}
 

@@ -26,10 +26,10 @@ use Rattle.stored_database.proofs.Pairs.{pairs_apart}
 use Rattle.stored_database.proofs.PrintedEntries.{equal_turned, infos_differ}
 use Rattle.stored_database.proofs.PrintedStands.{may_have}
 use Rattle.stored_database.proofs.Reading.{number_itself, both}
-use Rattle.catalogue_changes.specs.Laws.{resizes, Agree, FilesDiffer}
-use Rattle.catalogue_changes.proofs.Staying.{relation_is, relation_there, relation_is_there}
+use Rattle.stored_database.specs.ChangeLaws.{resizes, Agree, FilesDiffer}
+use Rattle.stored_database.proofs.Staying.{relation_is, relation_there, relation_is_there}
 use Rattle.stored_database.proofs.PrintedTrees.{relation_under}
-use Rattle.catalogue_moves.specs.Files.{files_after, placed_key, with_file}
+use Rattle.catalog_moves.specs.Files.{files_after, placed_key, with_file}
 use Rattle.catalog_laws.specs.Placed.{Suits, IsMade, MakesPages, FilesStand, FirstFilesStay}
 use Rattle.catalog_laws.proofs.FilesAfter.{may_have_after}
 use Rattle.catalog_laws.proofs.From.{IsChanged, relation_from, found_under}

@@ -10,10 +10,10 @@ use Rattle.calculus.specs.Schema.{schema_of}
 use Rattle.page_chain.specs.Pages.{Pages}
 use Rattle.stored_database.specs.Catalogue.{IsCatalogue}
 use Rattle.stored_database.specs.Printed.{Files, HasFiles, MayHave, printed}
-use Rattle.catalogue_changes.specs.After.{AreChanges, changed}
-use Rattle.catalogue_changes.specs.Laws.{Agree, FilesDiffer}
-use Rattle.catalogue_changes.specs.Moves.{going, coming}
-use Rattle.catalogue_moves.specs.Moves.{HavePlaces}
+use Rattle.stored_database.specs.After.{AreChanges, changed}
+use Rattle.stored_database.specs.ChangeLaws.{Agree, FilesDiffer}
+use Rattle.stored_database.specs.Moves.{going, coming}
+use Rattle.catalog_moves.specs.Moves.{HavePlaces}
 
 -- The second files say of all that is there the same as the first.
 pub record SayTheSame (db : Db) (f g : Files) : Type 0 where

@@ -21,7 +21,7 @@ use Rattle.page_chain.specs.Rows.{set_on, reader}
 use Rattle.stored_database.specs.Names.{is_number32}
 use Rattle.stored_database.specs.Printed.{Files, HasFiles, is_file}
 use Rattle.stored_database.specs.Spelled.{domain_of}
-use Rattle.catalogue_moves.specs.Files.{files_after}
+use Rattle.catalog_moves.specs.Files.{files_after}
 
 -- a number of pages: one at least, in four bytes
 abbrev pub is_used : ℕ → Type 0

@@ -8,8 +8,8 @@ use Rattle.disk_model.specs.declared.disk.Addr.{Addr}
 use Rattle.page_chain.specs.Pages.{Pages, pages_of}
 use Rattle.stored_database.specs.Catalogue.{Catalogue, IsCatalogue}
 use Rattle.stored_database.specs.Spelled.{spelled}
-use Rattle.schema_build.specs.Parts.{Parts, whole}
-use Rattle.catalogue_read.specs.Read.{parts_of}
+use Rattle.catalog_read.specs.Parts.{Parts, whole}
+use Rattle.catalog_read.specs.Read.{parts_of}
 
 -- An image that is the same but for files of relations, and on which the catalogue spells this database.
 pub record SpellsWithout (dba : List ℕ) (cat : Catalogue) (db : Db) (m : Image) : Type 0 where

@@ -7,7 +7,7 @@ use Rattle.calculus.specs.Database.{Db, Relation, entry_at}
 use Rattle.calculus.specs.Catalogue.{is_catalogue_name}
 use Rattle.calculus.specs.IsDatabase.{IsDatabase}
 use Rattle.am_traits.specs.Told.{known_at}
-use Rattle.quel_causes.proofs.Entries.{no_catalogue, named_apart}
+use Rattle.quel_refusals.proofs.Entries.{no_catalogue, named_apart}
 
 -- under a name that is no catalogue's, all that is known is an entry
 pub entry_known : (db : Db) (key : RelKey) → is_catalogue_name key.name ≡ false → known_at db key ≡ entry_at db key

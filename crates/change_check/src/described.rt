@@ -9,7 +9,7 @@ ghost use Rattle.calculus.specs.declared.query.RelKey.{RelKey as Key};
 ghost use Rattle.quel_meaning.specs.Causes.{repeats};
 
 use calculus::{Attr, Domain, Kind, Name, OutOfMemory, RelInfo, Spec, is_name};
-use quel_causes::{kind_bytes, repeats};
+use quel_refusals::{kind_bytes, repeats};
 use std::alloc::Global;
 
 /// The attributes that a relation or a view has at most.

@@ -10,7 +10,7 @@ ghost use Rattle.change_laws.specs.Fit.{key_is_free};
 
 use am_traits::{Base, BaseFault};
 use calculus::{RelInfo, RelKey, Spec};
-use quel_causes::{is_catalogue_name, is_full};
+use quel_refusals::{is_catalogue_name, is_full};
 use std::alloc::Global;
 
 /// What is known of the relation, view or index under a key.

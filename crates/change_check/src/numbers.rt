@@ -10,7 +10,7 @@ ghost use Rattle.change_laws.specs.Fit.{permits_may_go, rules_may_go};
 use crate::keys::is_relation;
 use am_traits::{Base, BaseFault};
 use calculus::RelKey;
-use quel_causes::{standing_permits, standing_rules};
+use quel_refusals::{standing_permits, standing_rules};
 use std::alloc::Global;
 
 /// Whether the number is one of these.

@@ -18,7 +18,7 @@ use crate::keys::is_relation;
 use crate::numbers::has_number;
 use am_traits::{Base, BaseFault};
 use calculus::{Kind, Name, OutOfMemory, Permit, QQual, RelKey, Rule, is_name, kinds_fit};
-use quel_causes::{kinds_at, standing_permits, standing_rules};
+use quel_refusals::{kinds_at, standing_permits, standing_rules};
 use std::alloc::Global;
 use update_laws::qual_is_spelled;
 use view_sizes::{qual_depth, qual_size};

@@ -14,7 +14,7 @@ use crate::described::{attrs_stand, view_info_stands};
 use crate::keys::key_is_free;
 use am_traits::{Base, BaseFault};
 use calculus::{Attr, OutOfMemory, Query, RelInfo, Target, kinds_fit};
-use quel_causes::{same_kind, targets_fit, var_kinds};
+use quel_refusals::{same_kind, targets_fit, var_kinds};
 use std::alloc::Global;
 use update_laws::query_is_spelled;
 use view_sizes::{Measure, are_ranges, has_high_level, measure_of, query_depth, used_count};

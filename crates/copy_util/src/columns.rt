@@ -12,7 +12,7 @@ use crate::numbers::spelled_signed;
 use crate::pieces::between_blanks;
 use byteorder::{ByteOrder, LittleEndian};
 use calculus::{CopyForm, Kind, OutOfMemory, Text, Value};
-use quel_causes::is_text_kind;
+use quel_refusals::is_text_kind;
 use std::alloc::Global;
 
 /// Whether the value is one of the kind.

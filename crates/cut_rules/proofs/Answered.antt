@@ -15,8 +15,8 @@ use Rattle.calculus.specs.Permission.{query_permitted}
 use Rattle.calculus.specs.QueryParts.{vars_of, query_aggregates}
 use Rattle.am_traits.specs.declared.fault.BaseFault.TheVariants as base
 use Rattle.quel_meaning.specs.FitQueries.{kept_or_viewed, has_few_targets, source_fits, reads_fit}
-use Rattle.view_laws.specs.Nesting.{aggregates_nest_none}
-use Rattle.view_laws.proofs.Answering.{answer_put, lacks_put}
+use Rattle.tree_laws.specs.Nesting.{aggregates_nest_none}
+use Rattle.tree_laws.proofs.Answering.{answer_put, lacks_put}
 use Rattle.view_sizes.specs.Listing.{source_lists_few, sources_list_few}
 use Rattle.view_text.specs.PutIn.{put_in}
 use Rattle.cut_rules.specs.declared.fault.CutFault.{CutFault}

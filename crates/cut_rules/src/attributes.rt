@@ -3,7 +3,7 @@
 ghost use Rattle.std.specs.Prelude.{◌≡◌, ◌==◌, if◌then◌else◌, [], ◌∷◌, ◌++◌, IfOk, OnOk};
 ghost use Rattle.std.specs.List.{flat_map};
 ghost use Rattle.calculus.specs.Used.{used_in_aggregate};
-ghost use Rattle.plain_product.specs.Naming.{named, named_in_qual};
+ghost use Rattle.ovqp.specs.Naming.{named, named_in_qual};
 
 use calculus::{OutOfMemory, QAgg, QQual, QTerm};
 use std::alloc::Global;
@@ -20,7 +20,7 @@ fn put_attribute(var: u8, attr: u8, attrs: &mut Vec<u8>) -> Result<(), OutOfMemo
 
 /// Puts the attributes of the first variable that a term names behind the others.
 #[cycle(naming)]
-#[tactic(auto, using(plain_product::proofs::NamedForms::named_int, plain_product::proofs::NamedForms::named_chars, plain_product::proofs::NamedForms::named_attr, plain_product::proofs::NamedForms::named_neg, plain_product::proofs::NamedForms::named_abs, plain_product::proofs::NamedForms::named_arith, plain_product::proofs::NamedForms::named_concat, plain_product::proofs::NamedForms::named_agg))]
+#[tactic(auto, using(ovqp::proofs::NamedForms::named_int, ovqp::proofs::NamedForms::named_chars, ovqp::proofs::NamedForms::named_attr, ovqp::proofs::NamedForms::named_neg, ovqp::proofs::NamedForms::named_abs, ovqp::proofs::NamedForms::named_arith, ovqp::proofs::NamedForms::named_concat, ovqp::proofs::NamedForms::named_agg))]
 fn put_named(t: &QTerm, attrs: &mut Vec<u8>) -> Result<(), OutOfMemory>
     ensures { OnOk result (attrs.new.items ≡ attrs.old.items ++ named 0 t.now) }
 {
@@ -54,7 +54,7 @@ fn put_all_named(terms: &[QTerm], attrs: &mut Vec<u8>) -> Result<(), OutOfMemory
 }
 
 /// Puts those that a qualification names behind the others.
-#[tactic(auto, using(plain_product::proofs::NamedForms::named_true, plain_product::proofs::NamedForms::named_cmp, plain_product::proofs::NamedForms::named_like, plain_product::proofs::NamedForms::named_and, plain_product::proofs::NamedForms::named_or, plain_product::proofs::NamedForms::named_not))]
+#[tactic(auto, using(ovqp::proofs::NamedForms::named_true, ovqp::proofs::NamedForms::named_cmp, ovqp::proofs::NamedForms::named_like, ovqp::proofs::NamedForms::named_and, ovqp::proofs::NamedForms::named_or, ovqp::proofs::NamedForms::named_not))]
 fn put_in_qual(q: &QQual, attrs: &mut Vec<u8>) -> Result<(), OutOfMemory>
     ensures { OnOk result (attrs.new.items ≡ attrs.old.items ++ named_in_qual 0 q.now) }
 {

@@ -8,7 +8,7 @@ ghost use Rattle.calculus.specs.Who.{Free};
 ghost use Rattle.cut_rules.specs.Causes.{HasExpandCause};
 ghost use Rattle.cut_rules.specs.Faults.{unexpanded};
 ghost use Rattle.quel_meaning.specs.FitQueries.{kept_or_viewed, reads_fit};
-ghost use Rattle.view_laws.specs.Nesting.{aggregates_nest_none};
+ghost use Rattle.tree_laws.specs.Nesting.{aggregates_nest_none};
 ghost use Rattle.view_text.specs.PutIn.{put_in};
 
 use crate::put_in::put_in;

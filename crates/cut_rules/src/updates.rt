@@ -27,7 +27,7 @@ use crate::{CutFault, NO_VARIABLE};
 use am_traits::Base;
 use calculus::{Name, QQual, Query, RelKey, TryCopy, Update, UpdateOp};
 use memory::both;
-use plain_product::uses;
+use ovqp::uses;
 use std::alloc::Global;
 use view_expand::{Right, TextsFound};
 use view_text::Text;

@@ -31,10 +31,10 @@ use Rattle.batch_store.specs.Standing.{IsOneOf}
 use Rattle.batch_store.specs.Store.{batch_of, disk_of, pages_of, waiting, CameOf}
 use Rattle.batch_store.specs.declared.store.BatchStore.{BatchStore}
 use Rattle.batch_store.proofs.Stands.{empty_so}
-use Rattle.catalogue_moves.specs.Files.{files_of}
+use Rattle.catalog_moves.specs.Files.{files_of}
 use Rattle.catalog.specs.Knows.{KnowsAfter, SameHead}
 use Rattle.catalog.specs.declared.catalog.Catalog.{Catalog}
-use Rattle.schema_build.specs.Parts.{index_owners_agree}
+use Rattle.catalog_read.specs.Parts.{index_owners_agree}
 use Rattle.page_chain.specs.Lists.{◌>>=◌}
 use Rattle.stored_database.specs.Standing.{header_of, standing}
 use Rattle.stored_database.proofs.Exactly.{pages_stand_exactly}

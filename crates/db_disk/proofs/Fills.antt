@@ -13,7 +13,7 @@ use Rattle.batch_file.specs.Redone.{kept, redone}
 use Rattle.batch_store.specs.Store.{disk_of, pages_of, OnlyReadOf}
 use Rattle.batch_store.specs.declared.store.BatchStore.{BatchStore}
 use Rattle.plain_base.specs.Shown.{database_of}
-use Rattle.schema_build.specs.Parts.{index_owners_agree}
+use Rattle.catalog_read.specs.Parts.{index_owners_agree}
 use Rattle.stored_database.specs.Standing.{standing}
 use Rattle.stored_database.proofs.WhatStands.{what_stands_is_a_database}
 use Rattle.catalog.specs.Knows.{Knows}

@@ -7,7 +7,7 @@ use Rattle.disk_model.proofs.Moments.{weaker}
 use Rattle.batch_file.specs.OnDisk.{SameRedone}
 use Rattle.batch_file.specs.Redone.{redone}
 use Rattle.page_chain.specs.Lists.{◌>>=◌, when}
-use Rattle.schema_build.specs.Parts.{index_owners_agree}
+use Rattle.catalog_read.specs.Parts.{index_owners_agree}
 use Rattle.stored_database.specs.Standing.{standing, stored}
 use Rattle.stored_database.proofs.Reading.{bind_some, when_some}
 use Rattle.db_disk.specs.Held.{held, told_by, SameHeld}

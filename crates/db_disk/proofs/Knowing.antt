@@ -14,17 +14,17 @@ use Rattle.disk_model.specs.Disk.{Image}
 use Rattle.disk_model.specs.declared.disk.Addr.{Addr}
 use Rattle.batch_file.specs.Redone.{kept}
 use Rattle.plain_base.specs.Shown.{database_of}
-use Rattle.schema_build.specs.Parts.{index_owners_agree}
+use Rattle.catalog_read.specs.Parts.{index_owners_agree}
 use Rattle.catalog_laws.specs.Loaded.{loaded_part}
 use Rattle.page_chain.specs.Pages.{pages_of}
 use Rattle.stored_database.specs.Catalogue.{catalogue_in}
 use Rattle.stored_database.specs.Printed.{HasFiles, printed}
-use Rattle.catalogue_moves.specs.Bases.{IndexBases}
-use Rattle.catalogue_moves.specs.Files.{files_of, is_in}
-use Rattle.catalogue_moves.specs.declared.files.FileTable.{FileTable}
-use Rattle.catalogue_moves.specs.declared.key_set.KeySet.{KeySet}
-use Rattle.catalogue_pages.specs.Ends.{AreEnds}
-use Rattle.catalogue_pages.specs.declared.writing.Ends.{Ends}
+use Rattle.catalog_moves.specs.Bases.{IndexBases}
+use Rattle.catalog_moves.specs.Files.{files_of, is_in}
+use Rattle.catalog_moves.specs.declared.files.FileTable.{FileTable}
+use Rattle.catalog_moves.specs.declared.key_set.KeySet.{KeySet}
+use Rattle.catalog_pages.specs.Ends.{AreEnds}
+use Rattle.catalog_pages.specs.declared.writing.Ends.{Ends}
 use Rattle.catalog.specs.Knows.{Knows}
 use Rattle.catalog.proofs.Steps.{schema_again}
 use Rattle.catalog.specs.declared.catalog.Catalog.{Catalog}

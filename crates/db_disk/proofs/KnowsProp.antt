@@ -15,10 +15,10 @@ use Rattle.page_chain.specs.Chains.{chain}
 use Rattle.page_chain.specs.Pages.{Pages, pages_of}
 use Rattle.stored_database.specs.Catalogue.{Catalogue, most_pages}
 use Rattle.stored_database.specs.Printed.{Files, HasFiles, rows_in}
-use Rattle.catalogue_moves.specs.declared.files.FileTable.{FileTable}
-use Rattle.catalogue_moves.specs.Bases.{IndexBases}
-use Rattle.catalogue_moves.specs.Files.{base_at, files_of, places_of}
-use Rattle.catalogue_pages.specs.Ends.{AreEnds, EndsAt}
+use Rattle.catalog_moves.specs.declared.files.FileTable.{FileTable}
+use Rattle.catalog_moves.specs.Bases.{IndexBases}
+use Rattle.catalog_moves.specs.Files.{base_at, files_of, places_of}
+use Rattle.catalog_pages.specs.Ends.{AreEnds, EndsAt}
 use Rattle.catalog.specs.Knows.{Knows}
 use Rattle.catalog.specs.declared.catalog.Catalog.{Catalog}
 

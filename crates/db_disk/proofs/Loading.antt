@@ -8,7 +8,7 @@ use Rattle.am_traits.specs.declared.fault.BaseFault.{BaseFault}
 use Rattle.am_traits.specs.declared.fault.BaseFault.TheVariants as faults
 use Rattle.access_traits.specs.Causes.{HasFileCause}
 use Rattle.page_chain.specs.Lists.{◌>>=◌}
-use Rattle.schema_build.specs.Parts.{index_owners_agree}
+use Rattle.catalog_read.specs.Parts.{index_owners_agree}
 use Rattle.stored_database.specs.Standing.{birth, header_of, standing}
 use Rattle.stored_database.proofs.Exactly.{pages_stand_exactly}
 use Rattle.stored_database.proofs.WhatStands.{what_stands_is_a_database}

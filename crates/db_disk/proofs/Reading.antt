@@ -13,10 +13,10 @@ use Rattle.page_chain.specs.Pages.{pages_of}
 use Rattle.plain_base.specs.Shown.{database_of}
 use Rattle.stored_database.specs.Catalogue.{catalogue_in}
 use Rattle.stored_database.specs.Printed.{printed}
-use Rattle.catalogue_moves.specs.Files.{files_of, is_in}
-use Rattle.catalogue_moves.specs.declared.files.FileTable.{FileTable}
-use Rattle.catalogue_moves.specs.declared.key_set.KeySet.{KeySet}
-use Rattle.catalogue_pages.specs.declared.writing.Ends.{Ends}
+use Rattle.catalog_moves.specs.Files.{files_of, is_in}
+use Rattle.catalog_moves.specs.declared.files.FileTable.{FileTable}
+use Rattle.catalog_moves.specs.declared.key_set.KeySet.{KeySet}
+use Rattle.catalog_pages.specs.declared.writing.Ends.{Ends}
 use Rattle.catalog.specs.Reads.{HasChains}
 use Rattle.catalog.specs.declared.catalog.Catalog.{Catalog}
 use Rattle.catalog.proofs.Rises.{rises_less, then_rises}

@@ -18,7 +18,7 @@ use Rattle.batch_file.proofs.Lays.{redone_shut}
 use Rattle.batch_store.specs.Store.{batch_of, disk_of, is_due, pages_of, waiting, CameOf, OnlyReadOf}
 use Rattle.batch_store.specs.declared.store.BatchStore.{BatchStore}
 use Rattle.batch_store.proofs.Stands.{fresh_pages, staged_none}
-use Rattle.schema_build.specs.Parts.{index_owners_agree}
+use Rattle.catalog_read.specs.Parts.{index_owners_agree}
 use Rattle.stored_database.specs.Standing.{standing}
 use Rattle.stored_database.proofs.WhatStands.{what_stands_is_a_database}
 use Rattle.db_disk.specs.Held.{database_in, held, told_by, IsReady, SameHeld}

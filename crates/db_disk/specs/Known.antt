@@ -5,9 +5,9 @@ use Rattle.calculus.specs.Schema.{schema_of}
 use Rattle.disk_model.specs.Disk.{Image}
 use Rattle.batch_file.specs.Redone.{kept}
 use Rattle.plain_base.specs.Shown.{database_of}
-use Rattle.catalogue_moves.specs.declared.files.FileTable.{FileTable}
-use Rattle.catalogue_moves.specs.declared.key_set.KeySet.{KeySet}
-use Rattle.catalogue_pages.specs.declared.writing.Ends.{Ends}
+use Rattle.catalog_moves.specs.declared.files.FileTable.{FileTable}
+use Rattle.catalog_moves.specs.declared.key_set.KeySet.{KeySet}
+use Rattle.catalog_pages.specs.declared.writing.Ends.{Ends}
 use Rattle.catalog.specs.Knows.{Knows}
 use Rattle.catalog.specs.Lies.{LiesOn}
 use Rattle.catalog.specs.declared.catalog.Catalog.{Catalog}

@@ -16,10 +16,10 @@ use Rattle.batch_file.specs.Redone.{kept, redone}
 use Rattle.page_chain.specs.Lists.{when}
 use Rattle.am_traits.specs.Scans.{IsScan, first_place}
 use Rattle.plain_base.specs.Laws.{of_told, whole_scan}
-use Rattle.schema_build.specs.Parts.{index_owners_agree}
+use Rattle.catalog_read.specs.Parts.{index_owners_agree}
 use Rattle.plain_base.specs.Shown.{database_of}
 use Rattle.catalog_laws.proofs.Part.{has_schema}
-use Rattle.catalogue_moves.specs.Files.{is_in}
+use Rattle.catalog_moves.specs.Files.{is_in}
 use Rattle.catalog.specs.Knows.{Knows}
 use Rattle.catalog.specs.declared.catalog.Catalog.{Catalog}
 use Rattle.catalog.proofs.Steps.{schema_again}

@@ -5,7 +5,7 @@ use Rattle.disk_model.specs.Disk.{Image}
 use Rattle.disk_model.specs.declared.disk.Addr.{Addr}
 use Rattle.am_traits.specs.declared.fault.BaseFault.{BaseFault}
 use Rattle.am_traits.specs.declared.fault.BaseFault.TheVariants as faults
-use Rattle.schema_build.specs.Parts.{index_owners_agree}
+use Rattle.catalog_read.specs.Parts.{index_owners_agree}
 use Rattle.stored_database.specs.Standing.{standing}
 use Rattle.db_disk.specs.declared.load.LoadFault.{LoadFault}
 use Rattle.db_disk.specs.declared.load.LoadFault.TheVariants.{NoHead, Base}

@@ -6,7 +6,7 @@ use Rattle.disk_model.specs.declared.disk.Disk.{Ghosts}
 use Rattle.batch_file.specs.Layout.{gate}
 use Rattle.batch_file.specs.Redone.{kept}
 use Rattle.stored_database.specs.Printed.{Files}
-use Rattle.catalogue_moves.specs.Files.{files_of}
+use Rattle.catalog_moves.specs.Files.{files_of}
 use Rattle.catalog.specs.Reads.{HasChains, rows_known}
 use Rattle.catalog.specs.declared.catalog.Catalog.{Catalog}
 use Rattle.db_disk.specs.declared.base.DbDisk.{DbDisk}

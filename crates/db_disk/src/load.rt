@@ -8,7 +8,7 @@ ghost use Rattle.catalog.specs.Knows.{Knows};
 ghost use Rattle.catalog.specs.Lies.{LiesOn};
 ghost use Rattle.catalog.specs.Reads.{HasChains};
 ghost use Rattle.plain_base.specs.Shown.{database_of};
-ghost use Rattle.schema_build.specs.Parts.{index_owners_agree};
+ghost use Rattle.catalog_read.specs.Parts.{index_owners_agree};
 ghost use Rattle.stored_database.specs.Standing.{standing};
 ghost use Rattle.db_disk.specs.Held.{has_head, headless_page};
 ghost use Rattle.db_disk.specs.Known.{LiesFor};

@@ -6,3 +6,11 @@ pub mod Lawful
 pub mod Outcomes
 pub mod Turning
 pub mod Crashing
+pub mod Readers
+pub mod Pieces
+pub mod Takings
+pub mod Going
+pub mod TakingSteps
+pub mod GivingSteps
+pub mod Running
+pub mod Endings

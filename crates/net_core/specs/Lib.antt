@@ -8,3 +8,10 @@ pub mod Reads
 pub mod Spares
 pub mod Steps
 pub mod Crashes
+pub mod LoopFaults
+pub mod Moves
+pub mod Sides
+pub mod Incoming
+pub mod Taking
+pub mod WholeLoop
+pub mod LoopSteps

@@ -5,3 +5,11 @@ pub mod Plain
 pub mod Failing
 pub mod Assigning
 pub mod BySet
+pub mod Parts
+pub mod Alone
+pub mod Walks
+pub mod Causing
+pub mod NamingForms
+pub mod Choosing
+pub mod NamedForms
+pub mod Gathered

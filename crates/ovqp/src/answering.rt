@@ -11,17 +11,17 @@ ghost use Rattle.calculus.specs.Term.{no_aggs};
 ghost use Rattle.calculus.specs.VariableRows.{rows_of};
 ghost use Rattle.calculus.specs.Who.{Free};
 ghost use Rattle.quel_meaning.specs.FitQueries.{is_kept};
-ghost use Rattle.plain_product.specs.Causes.{IsCause};
+ghost use Rattle.ovqp.specs.ProductCauses.{IsCause};
 ghost use Rattle.ovqp.specs.Causes.{HasCause};
 ghost use Rattle.ovqp.specs.Parts.{IsQueryOf, alone};
 
 use crate::fault::QueryFault;
 use crate::giving::give_of;
 use crate::scanning::given_by_scan;
-use crate::used::is_used;
+use crate::used::is_place_used;
 use am_traits::Base;
 use calculus::{QQual, RelKey, Row, RowSet, Target};
-use plain_product::ProductFault;
+use crate::ProductFault;
 use std::alloc::Global;
 
 /// The set of what is given for one row without values, which stands for a variable that isn't used.
@@ -61,7 +61,7 @@ pub fn one_variable<B: Base>(
     ensures asked { (b : B) → B.asked b base.old → B.asked b base.new }
     ensures cause { (q : Query) → IsQueryOf q rel.now qual.now targets.now → HasCause no_aggs q (B.database base.old) (B.faults base.old) (B.faults base.new) result }
 {
-    if is_used(qual, targets, 0) {
+    if is_place_used(qual, targets, 0) {
         given_by_scan(alloc, base, rel, qual, targets)
     } else {
         Ok(given_once(alloc, qual, targets)?)

@@ -6,7 +6,7 @@ ghost use Rattle.ovqp.specs.Given.{given_fault};
 
 use am_traits::BaseFault;
 use calculus::{List, OutOfMemory, Row};
-use plain_product::ProductFault;
+use crate::ProductFault;
 
 /// Why a query gives no answer.
 #[derive(PartialEq, Eq, Drop)]

@@ -6,7 +6,7 @@ ghost use Rattle.calculus.specs.Database.{Db};
 ghost use Rattle.calculus.specs.Stored.{rows_at};
 ghost use Rattle.calculus.specs.Targets.{rows_given, some_lacks};
 ghost use Rattle.calculus.specs.Term.{no_aggs};
-ghost use Rattle.plain_product.specs.Walk.{Gives};
+ghost use Rattle.ovqp.specs.Walk.{Gives};
 ghost use Rattle.am_traits.specs.Scans.{first_place};
 ghost use Rattle.ovqp.specs.Parts.{IsQueryOf, alone};
 ghost use Rattle.ovqp.specs.ScanCauses.{HasCause};

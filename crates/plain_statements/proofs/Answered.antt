@@ -6,7 +6,7 @@ use Rattle.calculus.specs.Database.{Db}
 use Rattle.calculus.specs.QueryParts.{vars_of}
 use Rattle.quel_meaning.specs.FitQueries.{is_kept, kept_alone, reads_fit, sources_fit}
 use Rattle.quel_meaning.proofs.Each.{left, right}
-use Rattle.query_tables.specs.Causes.{CanBeAnswered}
+use Rattle.stage_proc.specs.TableCauses.{CanBeAnswered}
 
 pub can_be_answered : (db : Db) (q : Query) → reads_fit (kept_alone db) db q ≡ true → CanBeAnswered db q
 unfolding reads_fit

@@ -12,7 +12,7 @@ use Rattle.quel_meaning.specs.FitQueries.{kept_alone, asked_fits}
 use Rattle.quel_meaning.specs.Ranges.{Ranges}
 use Rattle.quel_meaning.specs.SpelledTree.{tree_is_spelled}
 use Rattle.quel_meaning.proofs.Each.{left, right}
-use Rattle.query_tables.specs.Causes.{CanBeAnswered}
+use Rattle.stage_proc.specs.TableCauses.{CanBeAnswered}
 use Rattle.stage_parse.specs.Checks.{IsChecked}
 use Rattle.plain_statements.specs.Doable.{AreDoable, IsDoable}
 use Rattle.plain_statements.proofs.Answered.{can_be_answered}

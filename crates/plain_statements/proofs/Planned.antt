@@ -28,7 +28,7 @@ use Rattle.plain_statements.specs.declared.stopped.Stopped.TheVariants.{No, OutO
 use Rattle.plain_statements.specs.Plans.{Plans}
 use Rattle.plain_statements.specs.Doable.{IsDoableUpdate, IsDoableWork}
 use Rattle.plain_statements.proofs.Answered.{can_be_answered}
-use Rattle.query_tables.specs.Causes.{CanBeAnswered}
+use Rattle.stage_proc.specs.TableCauses.{CanBeAnswered}
 
 -- ---- updates
 

@@ -19,7 +19,7 @@ use Rattle.update_change.specs.declared.fault.UpdateFault.{UpdateFault}
 use Rattle.update_change.specs.declared.fault.UpdateFault.TheVariants as change
 use Rattle.update_change.specs.Causes as changing
 use Rattle.update_change.specs.Changes.{MakesNew}
-use Rattle.query_tables.specs.Causes as asking
+use Rattle.stage_proc.specs.TableCauses as asking
 use Rattle.quel_meaning.specs.Copying.{refusal}
 use Rattle.quel_meaning.specs.Meaning.{answer_reply}
 use Rattle.plain_statements.specs.declared.stopped.Stopped.{Stopped}

@@ -9,7 +9,7 @@ use Rattle.calculus.specs.Database.{Db}
 use Rattle.quel_meaning.specs.FitQueries.{kept_alone}
 use Rattle.quel_meaning.specs.Fit.{is_fit, update_fits}
 use Rattle.quel_meaning.specs.SpelledTree.{update_is_spelled}
-use Rattle.query_tables.specs.Causes.{CanBeAnswered}
+use Rattle.stage_proc.specs.TableCauses.{CanBeAnswered}
 
 -- the queries can be answered
 abbrev pub AreDoable : Db → List Asked → Type 0

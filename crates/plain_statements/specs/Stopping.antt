@@ -16,8 +16,8 @@ use Rattle.update_change.specs.declared.fault.UpdateFault.{UpdateFault}
 use Rattle.update_change.specs.declared.fault.UpdateFault.TheVariants as change
 use Rattle.utilities.specs.declared.fault.UtilFault.{UtilFault}
 use Rattle.utilities.specs.declared.fault.UtilFault.TheVariants as utility
-use Rattle.quel_utilities.specs.declared.fault.CheckFault.{CheckFault}
-use Rattle.quel_utilities.specs.declared.fault.CheckFault.TheVariants as check
+use Rattle.utility_trees.specs.declared.fault.CheckFault.{CheckFault}
+use Rattle.utility_trees.specs.declared.fault.CheckFault.TheVariants as check
 use Rattle.plain_statements.specs.declared.stopped.Stopped.{Stopped}
 use Rattle.plain_statements.specs.declared.stopped.Stopped.TheVariants.{No, OutOfMemory}
 

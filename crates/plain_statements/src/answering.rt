@@ -10,7 +10,7 @@ use crate::Stopped;
 use crate::refusing::answer_to;
 use am_traits::Base;
 use calculus::{Asked, OutOfMemory, Reply};
-use query_tables::tables_of;
+use stage_proc::tables_of;
 use std::alloc::Global;
 
 /// The tables of queries, or the refusal where a target has no value.

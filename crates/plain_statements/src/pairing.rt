@@ -4,7 +4,7 @@ ghost use Rattle.std.specs.Prelude.{◌≡◌, Some, Err};
 ghost use Rattle.calculus.specs.Database.{Db};
 ghost use Rattle.calculus.specs.Replacement.{updated};
 ghost use Rattle.calculus.specs.Who.{Free};
-ghost use Rattle.query_tables.specs.Causes.{CanBeAnswered};
+ghost use Rattle.stage_proc.specs.TableCauses.{CanBeAnswered};
 ghost use Rattle.plain_statements.specs.Plans.{Plans, ArePairs};
 
 use crate::Stopped;

@@ -3,3 +3,4 @@ pub mod Refusals
 pub mod Bounds
 pub mod Places
 pub mod Tokens
+pub mod Computed

@@ -4,3 +4,8 @@ pub mod Refusals
 pub mod Bounds
 pub mod Places
 pub mod Tokens
+pub mod Small
+pub mod Retrieving
+pub mod Updating
+pub mod Viewing
+pub mod Refusing

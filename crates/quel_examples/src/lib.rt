@@ -3,8 +3,16 @@
 #![tactic(auto)]
 
 mod syntax;
+mod refusing;
+mod retrieving;
+mod updating;
+mod viewing;
 
 pub use syntax::{
     bounds_refuse, statements_are_read, tokens_have_bounds, tokens_have_places,
     what_cannot_go_on_is_refused,
 };
+pub use refusing::sessions_refuse;
+pub use retrieving::sessions_print_tables;
+pub use updating::sessions_update;
+pub use viewing::sessions_define;

@@ -17,7 +17,7 @@ use Rattle.calculus.specs.Replacement.{first_cause, made_attr}
 use Rattle.calculus.specs.Finding.{found}
 use Rattle.calculus.specs.Keys.{key_of}
 use Rattle.calculus.specs.Stored.{attrs_in, info_at}
-use Rattle.quel_causes.specs.Judged.{IsOn, is_judged, update_of}
+use Rattle.quel_refusals.specs.Judged.{IsOn, is_judged, update_of}
 use Rattle.quel_meaning.proofs.Each.{Each}
 use Rattle.quel_meaning.proofs.Found.{names_found, named_with, ranged_with, ranged_is}
 use Rattle.quel_meaning.proofs.ReadsFit.{narrow_targets, none_of}
@@ -29,7 +29,7 @@ use Rattle.quel_meaning.specs.Resolved.{tree_by, tree_of}
 use Rattle.quel_meaning.specs.StatementUpdate.{append_of, replace_of, delete_of}
 use Rattle.quel_meaning.specs.Scope.{Scope, named}
 use Rattle.quel_meaning.specs.WrittenQuery.{query_of}
-use Rattle.quel_query.specs.Changed.{changed, is_built as has_tree}
+use Rattle.quel_resolve.specs.Changed.{changed, is_built as has_tree}
 use Rattle.quel_resolve.proofs.Overs.{few_under, few_over}
 use Rattle.quel_resolve.specs.Kinds.{changes_rows, is_range}
 

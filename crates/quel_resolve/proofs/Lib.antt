@@ -4,3 +4,8 @@ pub mod Overs
 pub mod Passing
 pub mod Resolved
 pub mod Saying
+pub mod KindsKnown
+pub mod Putting
+pub mod Restricting
+pub mod Updating
+pub mod Whole

@@ -2,8 +2,8 @@
 use Rattle.std.proofs.Common.{◌≡◌, refl, true, false}
 use Rattle.calculus.specs.declared.statement.Statement.{Statement}
 use Rattle.calculus.specs.declared.statement.Statement.TheVariants as statement
-use Rattle.quel_causes.specs.Judged.{is_judged}
-use Rattle.quel_utilities.specs.Served.{is_served}
+use Rattle.quel_refusals.specs.Judged.{is_judged}
+use Rattle.utility_trees.specs.Served.{is_served}
 
 pub not_served : (stmt : Statement) → is_served stmt ≡ false → is_judged stmt ≡ true
 not_served (statement.Range var rel) h = refl

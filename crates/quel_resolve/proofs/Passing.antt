@@ -9,8 +9,8 @@ use Rattle.calculus.specs.Replacement.{first_cause}
 use Rattle.calculus.specs.Storable.{row_qual_is_small}
 use Rattle.calculus.specs.declared.statement.Statement.{Statement}
 use Rattle.calculus.specs.declared.statement.Statement.TheVariants as statement
-use Rattle.quel_causes.specs.Judged.{is_judged}
-use Rattle.quel_causes.proofs.Standing.{none_in_text}
+use Rattle.quel_refusals.specs.Judged.{is_judged}
+use Rattle.quel_refusals.proofs.Standing.{none_in_text}
 use Rattle.quel_check.proofs.Among.{inner_many}
 use Rattle.quel_check.specs.Known.{inner_vars}
 use Rattle.quel_meaning.proofs.Slots.{as_many}

@@ -1,8 +1,8 @@
 -- What is said of an answer, said in another way.
 use Rattle.std.proofs.Common.{ℕ, Result, Ok, Err}
-use Rattle.quel_utilities.specs.Answers.{Says}
-use Rattle.quel_utilities.specs.declared.fault.CheckFault.{CheckFault}
-use Rattle.quel_utilities.specs.declared.fault.CheckFault.TheVariants as fault
+use Rattle.utility_trees.specs.Answers.{Says}
+use Rattle.utility_trees.specs.declared.fault.CheckFault.{CheckFault}
+use Rattle.utility_trees.specs.declared.fault.CheckFault.TheVariants as fault
 
 -- what follows of each answer
 pub says_further : {T : Type 0} (r : Result T CheckFault) (P Q : T → Type 0) (M N : ℕ → Type 0) → ((x : T) → P x → Q x) → ((n : ℕ) → M n → N n) → Says P M r → Says Q N r

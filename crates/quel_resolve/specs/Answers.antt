@@ -5,8 +5,8 @@ use Rattle.calculus.specs.declared.request.Checked.{Checked}
 use Rattle.calculus.specs.declared.statement.Statement.{Statement}
 use Rattle.quel_meaning.specs.Ranges.{Ranges}
 use Rattle.quel_meaning.specs.Resolved.{resolved}
-use Rattle.quel_utilities.specs.Answers.{Says}
-use Rattle.quel_utilities.specs.declared.fault.CheckFault.{CheckFault}
+use Rattle.utility_trees.specs.Answers.{Says}
+use Rattle.utility_trees.specs.declared.fault.CheckFault.{CheckFault}
 
 -- what comes of a statement: what it is resolved to, which is its tree, or the number that refuses it
 abbrev pub Resolves : Db → List ℕ → Ranges → Statement → Result Checked CheckFault → Type 0

@@ -1,2 +1,4 @@
 pub mod Answers
 pub mod Kinds
+pub mod Changed
+pub mod Targets

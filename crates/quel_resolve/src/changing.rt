@@ -3,16 +3,16 @@
 ghost use Rattle.std.specs.Prelude.{◌≡◌, ◌≤◌, None, Some, IfOk, length};
 ghost use Rattle.am_traits.specs.Causes.{HasCause};
 ghost use Rattle.calculus.specs.Database.{Db};
-ghost use Rattle.quel_causes.specs.Judged.{update_of};
+ghost use Rattle.quel_refusals.specs.Judged.{update_of};
 ghost use Rattle.quel_meaning.specs.Scope.{Scope};
 ghost use Rattle.quel_names.specs.Asking.{scope_of};
-ghost use Rattle.quel_query.specs.Changed.{changed};
+ghost use Rattle.quel_resolve.specs.Changed.{changed};
 
 use am_traits::{Base, BaseFault};
 use calculus::{Name, OutOfMemory, Query, RelInfo, Statement, Update};
 use quel_check::RangeTable;
 use quel_names::{named, ranged};
-use quel_query::{append_of, delete_of, replace_of};
+use crate::{append_of, delete_of, replace_of};
 use std::alloc::Global;
 
 /// The relation that gains rows, or whose permits or rules go, or over which the variable ranges whose

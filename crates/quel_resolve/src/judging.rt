@@ -2,19 +2,19 @@
 
 ghost use Rattle.std.specs.Prelude.{◌≡◌, Option, Some, None, true, option_copied, option_map};
 ghost use Rattle.calculus.specs.Replacement.{first_cause};
-ghost use Rattle.quel_causes.specs.Judged.{IsOn, is_judged, update_of};
+ghost use Rattle.quel_refusals.specs.Judged.{IsOn, is_judged, update_of};
 ghost use Rattle.quel_meaning.specs.Aggregates.{aggregates_stand};
 ghost use Rattle.quel_meaning.specs.Causes.{causes};
 ghost use Rattle.quel_meaning.specs.Resolved.{tree_of};
 ghost use Rattle.quel_meaning.specs.Scope.{Scope};
 ghost use Rattle.quel_meaning.specs.WrittenQuery.{query_of};
-ghost use Rattle.quel_utilities.specs.Answers.{Says};
-ghost use Rattle.quel_utilities.specs.Causes.{HasCheckCause};
+ghost use Rattle.utility_trees.specs.Answers.{Says};
+ghost use Rattle.utility_trees.specs.Causes.{HasCheckCause};
 
 use am_traits::Base;
 use calculus::{Checked, Name, Query, RelInfo, Statement, Update};
-use quel_causes::cause;
-use quel_utilities::CheckFault;
+use quel_refusals::cause;
+use utility_trees::CheckFault;
 use std::alloc::Global;
 
 /// Goes on where no cause refuses a statement with this query, which is this update, or a permit or a rule

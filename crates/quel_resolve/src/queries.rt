@@ -3,7 +3,7 @@
 ghost use Rattle.std.specs.Prelude.{◌≡◌, ◌+◌, ◌≤◌, ℕ, List, Some, None, true, length, map, nat_lt};
 ghost use Rattle.calculus.specs.Database.{Db};
 ghost use Rattle.calculus.specs.Replacement.{first_cause};
-ghost use Rattle.quel_causes.specs.Judged.{is_judged};
+ghost use Rattle.quel_refusals.specs.Judged.{is_judged};
 ghost use Rattle.quel_check.specs.Known.{inner_vars};
 ghost use Rattle.quel_meaning.specs.Aggregates.{aggregates_stand};
 ghost use Rattle.quel_meaning.specs.Causes.{causes};
@@ -12,16 +12,16 @@ ghost use Rattle.quel_meaning.specs.Scope.{ranged};
 ghost use Rattle.quel_meaning.specs.WrittenParts.{vars_in};
 ghost use Rattle.quel_meaning.specs.WrittenQuery.{query_of};
 ghost use Rattle.quel_names.specs.Asking.{scope_of};
-ghost use Rattle.quel_utilities.specs.Answers.{Says};
-ghost use Rattle.quel_utilities.specs.Causes.{HasCheckCause};
+ghost use Rattle.utility_trees.specs.Answers.{Says};
+ghost use Rattle.utility_trees.specs.Causes.{HasCheckCause};
 
 use am_traits::Base;
 use calculus::{Name, Query, RelInfo, Statement};
-use quel_causes::aggregates_stand;
+use quel_refusals::aggregates_stand;
 use quel_check::{Known, RangeTable, inner_vars, vars_in};
 use quel_names::infos_of;
-use quel_query::query_of;
-use quel_utilities::CheckFault;
+use crate::query_of;
+use utility_trees::CheckFault;
 use std::alloc::Global;
 
 /// The greatest number of variables and aggregates of a query together.

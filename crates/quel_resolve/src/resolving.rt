@@ -5,14 +5,14 @@ ghost use Rattle.calculus.specs.Database.{Db};
 ghost use Rattle.quel_meaning.specs.Naming.{name_refusal};
 ghost use Rattle.quel_names.specs.Asking.{scope_of};
 ghost use Rattle.quel_resolve.specs.Answers.{Resolves};
-ghost use Rattle.quel_utilities.specs.Causes.{HasCheckCause};
+ghost use Rattle.utility_trees.specs.Causes.{HasCheckCause};
 
 use crate::trees::tree;
 use am_traits::Base;
 use calculus::{Checked, Name, Statement};
 use quel_check::RangeTable;
 use quel_names::name_refusal;
-use quel_utilities::{CheckFault, is_served, served};
+use utility_trees::{CheckFault, is_served, served};
 use std::alloc::Global;
 
 /// What a statement asks for whose names were found.

@@ -5,7 +5,7 @@ ghost use Rattle.calculus.specs.IsDatabase.{IsDatabase};
 ghost use Rattle.calculus.specs.Database.{Db};
 ghost use Rattle.calculus.specs.Replacement.{first_cause};
 ghost use Rattle.calculus.specs.declared.request.Checked.TheVariants.{Answer};
-ghost use Rattle.quel_causes.specs.Judged.{is_judged, update_of};
+ghost use Rattle.quel_refusals.specs.Judged.{is_judged, update_of};
 ghost use Rattle.quel_meaning.specs.Aggregates.{aggregates_stand};
 ghost use Rattle.quel_meaning.specs.Causes.{causes};
 ghost use Rattle.quel_meaning.specs.Naming.{name_refusal};
@@ -13,10 +13,10 @@ ghost use Rattle.quel_meaning.specs.Resolved.{tree_of};
 ghost use Rattle.quel_meaning.specs.Scope.{Scope};
 ghost use Rattle.quel_meaning.specs.WrittenQuery.{query_of};
 ghost use Rattle.quel_names.specs.Asking.{scope_of};
-ghost use Rattle.quel_query.specs.Changed.{changed, is_built as has_tree};
+ghost use Rattle.quel_resolve.specs.Changed.{changed, is_built as has_tree};
 ghost use Rattle.quel_resolve.specs.Kinds.{changes_rows, is_range};
-ghost use Rattle.quel_utilities.specs.Answers.{Says};
-ghost use Rattle.quel_utilities.specs.Causes.{HasCheckCause, IsCaused};
+ghost use Rattle.utility_trees.specs.Answers.{Says};
+ghost use Rattle.utility_trees.specs.Causes.{HasCheckCause, IsCaused};
 
 use crate::changing::{changed, update_of};
 use crate::judging::{judge, judge_update};
@@ -25,8 +25,8 @@ use crate::queries::query;
 use am_traits::Base;
 use calculus::{Checked, List, Name, Query, RelInfo, Statement};
 use quel_check::RangeTable;
-use quel_query::tree_by;
-use quel_utilities::CheckFault;
+use crate::tree_by;
+use utility_trees::CheckFault;
 use std::alloc::Global;
 
 /// The number of an unknown relation.

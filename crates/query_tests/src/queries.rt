@@ -1,7 +1,7 @@
 use crate::trees::{query, rows, tree};
 use calculus::{Checked, List, RowSet, SortKey, Table};
 use decompose::{QueryFault, answer};
-use query_tables::{sorted, tables_of};
+use stage_proc::{sorted, tables_of};
 use std::alloc::Global;
 use std::process::Abort;
 use test_bases::TestBase;

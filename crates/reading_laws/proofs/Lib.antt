@@ -6,3 +6,11 @@ pub mod Forms
 pub mod Keys
 pub mod Permits
 pub mod Statements
+pub mod Terms
+pub mod ShallowStatements
+pub mod Trees
+pub mod Resolved
+pub mod FieldsRead
+pub mod FilesRead
+pub mod RecordsRead
+pub mod Worked

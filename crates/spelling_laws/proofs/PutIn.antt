@@ -37,10 +37,10 @@ use Rattle.view_text.specs.Scoped.{is_within, is_qual_within}
 use Rattle.view_text.specs.Texts.{texts_vars, query_texts, put_from, conditions_from}
 use Rattle.view_text.specs.TextOf.{text_of}
 use Rattle.view_text.specs.PutIn.{put_aggregate, put_made, put_over, put_in, update_text, update_texts, put_in_update, put_in_asked, put_in_tree}
-use Rattle.view_laws.proofs.Changing.{update_named}
-use Rattle.view_laws.proofs.Queries.{targets_of-put}
-use Rattle.view_laws.proofs.Told.{all_told}
-use Rattle.view_laws.proofs.Within.{all_scoped, put_within, conditions_are_within}
+use Rattle.tree_laws.proofs.Changing.{update_named}
+use Rattle.tree_laws.proofs.Queries.{targets_of-put}
+use Rattle.tree_laws.proofs.Told.{all_told}
+use Rattle.tree_laws.proofs.Within.{all_scoped, put_within, conditions_are_within}
 use Rattle.tree_laws.proofs.FitPut.{targets_made, qual_made, all_of_made, conditions_made}
 use Rattle.tree_laws.proofs.FitAsked.{asked_put}
 use Rattle.tree_laws.proofs.FitRuled.{suits_ruled}

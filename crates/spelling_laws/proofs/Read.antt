@@ -18,10 +18,10 @@ use Rattle.quel_meaning.proofs.FitResolved.{resolved_fits}
 use Rattle.quel_tree.specs.Message.{most_tree_levels}
 use Rattle.quel_tree.specs.Requests.{checked}
 use Rattle.reading_laws.proofs.Statements.{read_written}
-use Rattle.shallow_laws.specs.Levels.{tree_levels}
-use Rattle.shallow_laws.proofs.Resolved.{resolved_shallow}
-use Rattle.shallow_laws.proofs.Statements.{read_shallow}
-use Rattle.level_laws.proofs.Trees.{ruled_tree_low}
+use Rattle.reading_laws.specs.Levels.{tree_levels}
+use Rattle.reading_laws.proofs.Resolved.{resolved_shallow}
+use Rattle.reading_laws.proofs.ShallowStatements.{read_shallow}
+use Rattle.tree_laws.proofs.Trees.{ruled_tree_low}
 use Rattle.view_text.specs.PutIn.{put_in_tree}
 use Rattle.spelling_laws.proofs.Bounds.{few_tokens}
 use Rattle.spelling_laws.proofs.Grammar.{FewBy, FewParts, statement_by, statement_parts}

@@ -30,7 +30,7 @@ use Rattle.quel_tree.specs.Permits.{permit, rule}
 use Rattle.quel_tree.specs.Queries.{qual}
 use Rattle.quel_tree.specs.Relations.{attr, rel_key, sort_key}
 use Rattle.quel_tree.specs.Requests.{asked, update, utility, checked}
-use Rattle.shallow_laws.specs.Levels.{utility_levels, tree_levels}
+use Rattle.reading_laws.specs.Levels.{utility_levels, tree_levels}
 use Rattle.tree_words.specs.Words.{byte, number32}
 use Rattle.spelling_laws.specs.Short.{is_place, is_count, is_number, are_short, qual_is_short, query_is_short, asked_is_short, update_is_short, permit_is_short, rule_is_short, attr_is_short, column_is_short, utility_is_short, tree_is_short}
 use Rattle.spelling_laws.proofs.Fields.{place_fits, count_fits, number_fits, list_fits, short_fits, name_fits, user_fits, key_fits, attr_fits, updates_fit, specs_fit, flags_fit}

@@ -19,7 +19,7 @@ ghost use Rattle.quel_meaning.specs.SpelledTree.{tree_is_spelled};
 ghost use Rattle.quel_tree.specs.Changes.{change};
 ghost use Rattle.quel_tree.specs.Message.{most_tree_levels};
 ghost use Rattle.quel_tree.specs.Requests.{checked};
-ghost use Rattle.shallow_laws.specs.Levels.{tree_levels};
+ghost use Rattle.reading_laws.specs.Levels.{tree_levels};
 ghost use Rattle.spelling_laws.specs.Short.{tree_is_short};
 ghost use Rattle.std.specs.Prelude.{◌≡◌, ◌≤◌, ℕ, true, List, Ok};
 ghost use Rattle.view_text.specs.PutIn.{put_in_tree};

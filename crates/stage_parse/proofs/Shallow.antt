@@ -10,13 +10,13 @@ use Rattle.quel_meaning.specs.IsWritten.{is_written}
 use Rattle.quel_meaning.specs.Meaning.{checked_permitted, ruled_tree}
 use Rattle.quel_meaning.specs.Ranges.{Ranges}
 use Rattle.quel_resolve.specs.Answers.{Resolves}
-use Rattle.quel_utilities.specs.Answers.{Says}
-use Rattle.quel_utilities.specs.declared.fault.CheckFault.{CheckFault}
+use Rattle.utility_trees.specs.Answers.{Says}
+use Rattle.utility_trees.specs.declared.fault.CheckFault.{CheckFault}
 use Rattle.view_text.specs.PutIn.{put_in_tree}
-use Rattle.shallow_laws.specs.Levels.{most_tree_levels, tree_levels}
-use Rattle.shallow_laws.specs.Shallow.{statement_levels}
-use Rattle.shallow_laws.proofs.Resolved.{resolved_shallow}
-use Rattle.level_laws.proofs.Trees.{ruled_tree_low}
+use Rattle.reading_laws.specs.Levels.{most_tree_levels, tree_levels}
+use Rattle.reading_laws.specs.Shallow.{statement_levels}
+use Rattle.reading_laws.proofs.Resolved.{resolved_shallow}
+use Rattle.tree_laws.proofs.Trees.{ruled_tree_low}
 use Rattle.stage_parse.proofs.Trees.{fit_resolved}
 
 -- the levels of a statement, those that its tree has more, and those of what is put in

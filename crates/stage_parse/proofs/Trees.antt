@@ -20,9 +20,9 @@ use Rattle.quel_meaning.specs.SpelledTree.{tree_is_spelled, utility_is_spelled}
 use Rattle.quel_meaning.proofs.Each.{left}
 use Rattle.quel_meaning.proofs.FitResolved.{resolved_fits}
 use Rattle.quel_resolve.specs.Answers.{Resolves}
-use Rattle.quel_utilities.specs.Answers.{Says}
-use Rattle.quel_utilities.specs.declared.fault.CheckFault.{CheckFault}
-use Rattle.quel_utilities.specs.declared.fault.CheckFault.TheVariants as fault
+use Rattle.utility_trees.specs.Answers.{Says}
+use Rattle.utility_trees.specs.declared.fault.CheckFault.{CheckFault}
+use Rattle.utility_trees.specs.declared.fault.CheckFault.TheVariants as fault
 use Rattle.update_laws.specs.Walked.{names_rights}
 use Rattle.view_text.specs.PutIn.{put_in_tree}
 use Rattle.tree_laws.proofs.FitTree.{fit_ruled}

@@ -8,8 +8,8 @@ use Rattle.quel_meaning.specs.Fit.{is_fit}
 use Rattle.quel_meaning.specs.Meaning.{judged, ruled_tree, tree_meaning}
 use Rattle.quel_meaning.specs.Ranges.{Ranges}
 use Rattle.fault_io.specs.Files.{Files}
-use Rattle.quel_utilities.specs.Answers.{Says}
-use Rattle.quel_utilities.specs.declared.fault.CheckFault.{CheckFault}
+use Rattle.utility_trees.specs.Answers.{Says}
+use Rattle.utility_trees.specs.declared.fault.CheckFault.{CheckFault}
 use Rattle.view_text.specs.PutIn.{put_in_tree}
 
 -- the tree is what a statement is judged to ask for, once views and permits are put in and the rules join it: it is fit, and means for nobody in particular what the other means for the user

@@ -3,9 +3,9 @@
 ghost use Rattle.std.specs.Prelude.{◌≡◌, ◌≤◌, true, Some, IfOk};
 ghost use Rattle.calculus.specs.Database.{Db};
 ghost use Rattle.quel_meaning.specs.IsWritten.{is_written};
-ghost use Rattle.quel_utilities.specs.Causes.{HasCheckCause};
-ghost use Rattle.shallow_laws.specs.Levels.{most_tree_levels, tree_levels};
-ghost use Rattle.shallow_laws.specs.Shallow.{statement_levels};
+ghost use Rattle.utility_trees.specs.Causes.{HasCheckCause};
+ghost use Rattle.reading_laws.specs.Levels.{most_tree_levels, tree_levels};
+ghost use Rattle.reading_laws.specs.Shallow.{statement_levels};
 ghost use Rattle.stage_parse.specs.Checks.{Checks};
 
 use crate::cutting::cut_and_ruled;

@@ -6,8 +6,8 @@ ghost use Rattle.calculus.specs.Who.{asks};
 ghost use Rattle.quel_meaning.specs.Fit.{is_fit_with_views};
 ghost use Rattle.quel_meaning.specs.Meaning.{checked_permitted, ruled_tree};
 ghost use Rattle.quel_meaning.specs.SpelledTree.{tree_is_spelled};
-ghost use Rattle.quel_utilities.specs.Answers.{Says};
-ghost use Rattle.quel_utilities.specs.Causes.{HasCheckCause};
+ghost use Rattle.utility_trees.specs.Answers.{Says};
+ghost use Rattle.utility_trees.specs.Causes.{HasCheckCause};
 ghost use Rattle.update_laws.specs.Walked.{names_rights};
 ghost use Rattle.view_text.specs.PutIn.{put_in_tree};
 

@@ -10,3 +10,6 @@ pub mod Failing
 pub mod Changed
 pub mod Mapped
 pub mod Settled
+pub mod Ordered
+pub mod Keys
+pub mod Tabling

@@ -1,3 +1,4 @@
 pub mod Given
 pub mod Walk
 pub mod Causes
+pub mod TableCauses

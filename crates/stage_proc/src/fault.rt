@@ -8,7 +8,7 @@ ghost use Rattle.stage_proc.specs.declared.fault.PairFault.TheVariants.{Query as
 use am_traits::BaseFault;
 use calculus::{OutOfMemory, Row};
 use decompose::QueryFault;
-use plain_product::ProductFault;
+use ovqp::ProductFault;
 
 /// Why an update gives no pairs.
 #[derive(PartialEq, Eq, Drop)]

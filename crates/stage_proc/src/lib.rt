@@ -13,6 +13,10 @@ mod pairs;
 mod sets;
 mod standing;
 mod walk;
+mod columns;
+mod order;
+mod sorting;
+mod tables;
 
 pub use calculus::OutOfMemory;
 pub use decompose::QueryFault;
@@ -20,3 +24,6 @@ pub use fault::PairFault;
 pub use kinds::NewKinds;
 pub use over::pairs_over;
 pub use pairs::pairs_of;
+pub use order::rows_order;
+pub use sorting::sorted;
+pub use tables::{table_of, tables_of};

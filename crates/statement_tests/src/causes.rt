@@ -3,7 +3,7 @@
 use crate::given::name;
 use am_traits::BaseFault;
 use calculus::{Domain, Kind};
-use quel_causes::{is_full, is_taken, is_too_wide, repeats};
+use quel_refusals::{is_full, is_taken, is_too_wide, repeats};
 use std::alloc::Global;
 use std::process::Abort;
 use std::test::*;

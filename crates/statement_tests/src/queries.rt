@@ -4,7 +4,7 @@ use crate::given::{name, relation, statement, two_relations, two_vars};
 use crate::shown::{put, put_digit, put_query};
 use calculus::{Asked, Checked, Query, Statement};
 use quel_check::Known;
-use quel_query::{query_of, tree_by};
+use quel_resolve::{query_of, tree_by};
 use std::alloc::Global;
 use std::process::Abort;
 use std::test::*;

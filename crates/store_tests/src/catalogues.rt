@@ -3,7 +3,7 @@ ghost use Rattle.std.specs.Prelude.{◌≡◌, ◌==◌, ◌⊎◌, false, true}
 ghost use Rattle.std.specs.Option.{ForSome};
 ghost use Rattle.calculus.specs.declared.query.RelKey.{RelKey as Key};
 ghost use Rattle.stored_database.specs.Printed.{is_file};
-ghost use Rattle.catalogue_moves.specs.Files.{files_of};
+ghost use Rattle.catalog_moves.specs.Files.{files_of};
 
 use crate::databases::new_disk;
 use crate::made::{

@@ -15,3 +15,7 @@ pub mod Trees
 pub mod Tried
 pub mod Turned
 pub mod TwoHeaps
+pub mod After
+pub mod ChangeLaws
+pub mod Moves
+pub mod Renumbered

@@ -15,7 +15,7 @@ use Rattle.calculus.specs.Lists.{is_any}
 use Rattle.calculus.specs.Rows.{set_of}
 use Rattle.calculus.specs.Stored.{Range, Kept, Viewed, range_at, info_at, attrs_at, attrs_in}
 use Rattle.calculus.specs.Structures.{is_structure, is_keyed, is_view, is_index}
-use Rattle.quel_causes.proofs.Entries.{no_catalogue, named_apart}
+use Rattle.quel_refusals.proofs.Entries.{no_catalogue, named_apart}
 use Rattle.quel_meaning.proofs.DatabaseFacts.{found_passes}
 use Rattle.quel_meaning.specs.Fit.{is_entry}
 use Rattle.quel_meaning.specs.FitQueries.{can_be_ranged_over, is_kept, keeps_rows}

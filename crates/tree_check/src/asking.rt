@@ -12,7 +12,7 @@ ghost use Rattle.view_sizes.specs.Listing.{sources_list_few};
 use crate::reading::reads_fit;
 use am_traits::{Base, BaseFault};
 use calculus::{Asked, Query, SortKey};
-use quel_causes::query_fits;
+use quel_refusals::query_fits;
 use std::alloc::Global;
 use view_sizes::expanded_variables;
 
@@ -26,7 +26,7 @@ fn are_columns(sort: &[SortKey], most: usize) -> bool
 }
 
 /// Whether the columns to sort by are columns.
-#[tactic(auto, using(plain_product::proofs::Parts::targets_is))]
+#[tactic(auto, using(ovqp::proofs::Parts::targets_is))]
 fn sort_is_in_range(asked: &Asked) -> bool
     ensures { result ≡ sort_is_in_range asked.now }
 {

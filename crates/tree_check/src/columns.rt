@@ -9,7 +9,7 @@ ghost use Rattle.quel_meaning.specs.Columns.{is_copy_form};
 ghost use Rattle.tree_check.specs.Columned.{columns_are_fit};
 
 use calculus::{Attr, CopyCol, CopyForm, Kind};
-use quel_causes::is_text_kind;
+use quel_refusals::is_text_kind;
 
 /// Whether a form of a column is one: 1, 2 or 4 bytes; 1 to 255 bytes; or up to a tab, a newline, a blank,
 /// a comma or a colon.

@@ -8,7 +8,7 @@ ghost use Rattle.quel_meaning.specs.Planned.{target_attr};
 
 use calculus::{Attr, OutOfMemory, Query, Target};
 use change_check::{attrs_stand, relation_attrs_stand};
-use quel_causes::made_kind;
+use quel_refusals::made_kind;
 use std::alloc::Global;
 
 /// The attribute of a view that a target is.
@@ -63,7 +63,7 @@ fn push_made_attrs(
 }
 
 /// Whether the targets of a query would be attributes of a view.
-#[tactic(auto, using(plain_product::proofs::Parts::targets_is))]
+#[tactic(auto, using(ovqp::proofs::Parts::targets_is))]
 pub(crate) fn target_attrs_stand(alloc: Global, q: &Query) -> Result<bool, OutOfMemory>
     ensures { IfOk result (λ stand. stand ≡ attrs_stand (map target_attr (targets_of q.now))) }
 {
@@ -75,7 +75,7 @@ pub(crate) fn target_attrs_stand(alloc: Global, q: &Query) -> Result<bool, OutOf
 }
 
 /// Whether what is made of the targets of a query would be attributes of a relation.
-#[tactic(auto, using(plain_product::proofs::Parts::targets_is))]
+#[tactic(auto, using(ovqp::proofs::Parts::targets_is))]
 pub(crate) fn made_attrs_stand(alloc: Global, q: &Query) -> Result<bool, OutOfMemory>
     ensures { IfOk result (λ stand. stand ≡ (attrs_stand (map made_attr (targets_of q.now)) && are_stored (map made_attr (targets_of q.now)))) }
 {

@@ -12,7 +12,7 @@ ghost use Rattle.quel_meaning.specs.KindsInQueries.{kind_in_query};
 use am_traits::{Base, BaseFault};
 use calculus::{Kind, Query, Target};
 use change_check::is_kind;
-use quel_causes::{comparable, kind_in_query, kinds_fit_in_query, var_kinds};
+use quel_refusals::{comparable, kind_in_query, kinds_fit_in_query, var_kinds};
 use std::alloc::Global;
 
 /// Whether the kinds of targets are ones.

@@ -10,7 +10,7 @@ ghost use Rattle.tree_check.specs.Standing.{is_kept_info};
 
 use am_traits::{Base, BaseFault};
 use calculus::{Name, RelInfo, RelKey, Spec};
-use quel_causes::{is_full, is_taken};
+use quel_refusals::{is_full, is_taken};
 use quel_names::info_at;
 use std::alloc::Global;
 

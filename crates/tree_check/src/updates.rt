@@ -19,7 +19,7 @@ use crate::relations::relation_fits;
 use am_traits::{Base, BaseFault};
 use calculus::{Kind, OutOfMemory, QQual, Update, UpdateOp, kinds_fit};
 use change_check::{are_places, places_differ};
-use quel_causes::{assignments_fit, kinds_at, made_kinds};
+use quel_refusals::{assignments_fit, kinds_at, made_kinds};
 use std::alloc::Global;
 use view_sizes::update_expanded_variables;
 
@@ -27,7 +27,7 @@ use view_sizes::update_expanded_variables;
 const MOST_EXPANDED: u64 = 50;
 
 /// The kinds of the attributes of the relation that an update makes.
-#[tactic(auto, using(plain_product::proofs::Parts::targets_is))]
+#[tactic(auto, using(ovqp::proofs::Parts::targets_is))]
 fn kinds_made(alloc: Global, u: &Update) -> Result<Vec<Kind>, OutOfMemory>
     ensures { IfOk result (λ kinds. kinds.items ≡ map (λ t. (made_attr t).kind) (targets_of u.now.query)) }
 {
@@ -51,7 +51,7 @@ fn new_kinds<B: Base>(alloc: Global, base: &mut B, u: &Update) -> Result<Vec<Kin
 }
 
 /// Whether the targets and the attributes at the places fit, which are of these kinds. Takes no memory.
-#[tactic(auto, using(plain_product::proofs::Parts::targets_is))]
+#[tactic(auto, using(ovqp::proofs::Parts::targets_is))]
 fn places_are_for(u: &Update, kinds: &[Kind]) -> bool
     ensures { result ≡ list_all (λ p. comparable (Some p.0.kind) p.1) (zip (targets_of u.now.query) (map (slice_get kinds.now) u.now.places)) }
 {

@@ -26,12 +26,12 @@ use Rattle.view_text.specs.Replaced.{replaced, replaced_target}
 use Rattle.view_text.specs.Texts.{query_texts, texts_vars, put_from, conditions_from}
 use Rattle.view_text.specs.TextOf.{text_of}
 use Rattle.view_text.specs.PutIn.{put_made, put_over, put_in, put_in_asked}
-use Rattle.view_laws.proofs.Scopes.{both_true}
-use Rattle.view_laws.proofs.Joint.{both_are}
-use Rattle.view_laws.proofs.Queries.{targets_of-put}
-use Rattle.view_laws.proofs.Told.{all_told}
-use Rattle.view_laws.proofs.Values.{within_left, within_right, within_itself}
-use Rattle.view_laws.proofs.Within.{all_scoped}
+use Rattle.tree_laws.proofs.Scopes.{both_true}
+use Rattle.tree_laws.proofs.Joint.{both_are}
+use Rattle.tree_laws.proofs.Queries.{targets_of-put}
+use Rattle.tree_laws.proofs.Told.{all_told}
+use Rattle.tree_laws.proofs.Values.{within_left, within_right, within_itself}
+use Rattle.tree_laws.proofs.Within.{all_scoped}
 use Rattle.tree_laws.proofs.Nests.{kind_there}
 use Rattle.tree_laws.proofs.SameKinds.{HasKinds, Names, in_left, in_right}
 use Rattle.tree_laws.proofs.FitTexts.{kinds_of, all_fit, IsFitText}

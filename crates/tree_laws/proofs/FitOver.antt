@@ -32,13 +32,13 @@ use Rattle.view_text.specs.Scoped.{is_within, is_qual_within}
 use Rattle.view_text.specs.Texts.{query_texts, texts_vars, put_from, conditions_from}
 use Rattle.view_text.specs.TextOf.{text_within, text_of}
 use Rattle.view_text.specs.PutIn.{put_plain, put_range, put_source, put_aggregate, put_made, put_over}
-use Rattle.view_laws.proofs.Halves.{any_append, test_joined, over, and_assoc, and_right}
-use Rattle.view_laws.proofs.Named.{left_true, right_true}
-use Rattle.view_laws.proofs.Scopes.{both_true}
-use Rattle.view_laws.proofs.Joint.{both_are}
-use Rattle.view_laws.proofs.Queries.{targets_of-put}
-use Rattle.view_laws.proofs.Values.{within_right, within_itself}
-use Rattle.view_laws.proofs.Within.{all_scoped, put_within, conditions_are_within}
+use Rattle.tree_laws.proofs.Halves.{any_append, test_joined, over, and_assoc, and_right}
+use Rattle.tree_laws.proofs.Named.{left_true, right_true}
+use Rattle.tree_laws.proofs.Scopes.{both_true}
+use Rattle.tree_laws.proofs.Joint.{both_are}
+use Rattle.tree_laws.proofs.Queries.{targets_of-put}
+use Rattle.tree_laws.proofs.Values.{within_right, within_itself}
+use Rattle.tree_laws.proofs.Within.{all_scoped, put_within, conditions_are_within}
 use Rattle.tree_laws.proofs.SameKinds.{VarKinds, HasKinds, Names}
 use Rattle.tree_laws.proofs.FitTexts.{kinds_of, all_fit}
 use Rattle.tree_laws.proofs.FitWithin.{measure_told, query_counts, within_counts}

@@ -36,17 +36,17 @@ use Rattle.view_text.specs.Scoped.{is_scoped}
 use Rattle.view_text.specs.Texts.{TextSource, used_text, query_texts, texts_vars, put_from, conditions_from}
 use Rattle.view_text.specs.TextOf.{text_within, text_of}
 use Rattle.view_text.specs.PutIn.{put_query, put_plain, put_range, put_source}
-use Rattle.view_laws.proofs.Halves.{test_joined, over, and_assoc, and_right}
-use Rattle.view_laws.proofs.Scopes.{both_true}
-use Rattle.view_laws.proofs.Joint.{both_are}
-use Rattle.view_laws.proofs.Queries.{targets_of-put}
-use Rattle.view_laws.proofs.Sound.{viewed}
-use Rattle.view_laws.proofs.Told.{all_told, within_told}
+use Rattle.tree_laws.proofs.Halves.{test_joined, over, and_assoc, and_right}
+use Rattle.tree_laws.proofs.Scopes.{both_true}
+use Rattle.tree_laws.proofs.Joint.{both_are}
+use Rattle.tree_laws.proofs.Queries.{targets_of-put}
+use Rattle.tree_laws.proofs.Sound.{viewed}
+use Rattle.tree_laws.proofs.Told.{all_told, within_told}
 use Rattle.tree_laws.proofs.SameKinds.{VarKinds, Names, fit_replaced}
 use Rattle.tree_laws.proofs.FitTexts.{kinds_of, all_fit, IsFitText}
 use Rattle.tree_laws.proofs.FitViews.{IsUsed, targets_names, qual_names, target_kind, first_names, later_names, query_has, query_conditions, query_kept}
 use Rattle.tree_laws.proofs.FitWithin.{all_in, fits_within, fits_of, has_level, measure_told, query_counts, within_counts, all_count, used_scoped}
-use Rattle.view_laws.proofs.Aggregated.{kinds_are, kind_is}
+use Rattle.tree_laws.proofs.Aggregated.{kinds_are, kind_is}
 
 -- ---- what is joined
 

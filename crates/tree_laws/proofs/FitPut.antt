@@ -29,12 +29,12 @@ use Rattle.view_text.specs.Replaced.{Putting, replaced, replaced_in_qual, replac
 use Rattle.view_text.specs.Halves.{paired, chained, joined_within, all_of}
 use Rattle.view_text.specs.Scoped.{is_within, is_qual_within}
 use Rattle.view_text.specs.PutIn.{put_source, range_cut, source_cut, put_aggregate, put_made}
-use Rattle.view_laws.specs.Nesting.{source_is_plain}
-use Rattle.view_laws.proofs.Aggregated.{source_folds, row_items}
-use Rattle.view_laws.proofs.Placed.{qual_within_plain, within_plain}
-use Rattle.view_laws.proofs.Scopes.{both_true}
-use Rattle.view_laws.proofs.Joint.{both_are}
-use Rattle.view_laws.proofs.Values.{within_left, within_right}
+use Rattle.tree_laws.specs.Nesting.{source_is_plain}
+use Rattle.tree_laws.proofs.Aggregated.{source_folds, row_items}
+use Rattle.tree_laws.proofs.Placed.{qual_within_plain, within_plain}
+use Rattle.tree_laws.proofs.Scopes.{both_true}
+use Rattle.tree_laws.proofs.Joint.{both_are}
+use Rattle.tree_laws.proofs.Values.{within_left, within_right}
 use Rattle.tree_laws.proofs.Nests.{number_there, operated_there, joined_there, compared_there, text_there, source_plain, fitting}
 use Rattle.tree_laws.proofs.SameKinds.{VarKinds, HasKinds, Names, in_left, in_right, own_name, kind_replaced}
 use Rattle.tree_laws.proofs.FitTexts.{all_fit, cut_fits}

@@ -23,8 +23,8 @@ use Rattle.quel_meaning.specs.KindsInQueries.{assignments_fit}
 use Rattle.quel_meaning.specs.FitQueries.{Allowed, reads_fit}
 use Rattle.quel_meaning.specs.Fit.{places_fit, update_kinds_fit, checks_fit, relation_fits, update_fits, suits}
 use Rattle.quel_meaning.specs.Meaning.{ruled_tree}
-use Rattle.view_laws.proofs.Scopes.{both_true}
-use Rattle.view_laws.proofs.Joint.{both_are, all_append}
+use Rattle.tree_laws.proofs.Scopes.{both_true}
+use Rattle.tree_laws.proofs.Joint.{both_are, all_append}
 use Rattle.tree_laws.proofs.FitTexts.{all_fit}
 
 module _ (db : Db) (d : IsDatabase db) where

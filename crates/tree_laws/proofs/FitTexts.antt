@@ -23,9 +23,9 @@ use Rattle.view_text.specs.Halves.{any_of}
 use Rattle.view_text.specs.Scoped.{is_within, is_qual_within, are_within, is_scoped}
 use Rattle.view_text.specs.Texts.{attr_term, texts_vars, put_from, conditions_from}
 use Rattle.view_text.specs.TextOf.{permit_condition, covering, cut, kept_text}
-use Rattle.view_laws.proofs.Halves.{test_joined, over, and_assoc, and_right}
-use Rattle.view_laws.proofs.Scopes.{both_true}
-use Rattle.view_laws.proofs.Joint.{all_append, both_are, attr_within}
+use Rattle.tree_laws.proofs.Halves.{test_joined, over, and_assoc, and_right}
+use Rattle.tree_laws.proofs.Scopes.{both_true}
+use Rattle.tree_laws.proofs.Joint.{all_append, both_are, attr_within}
 use Rattle.tree_laws.proofs.SameKinds.{VarKinds, HasKinds, kind_moved, all_fit_moved, fit_replaced}
 
 -- the kinds of the attributes of what each key stands for

@@ -38,11 +38,11 @@ use Rattle.view_text.specs.Replaced.{Putting, replaced_target}
 use Rattle.view_text.specs.Texts.{texts_vars, put_from, place_from}
 use Rattle.view_text.specs.TextOf.{cut}
 use Rattle.view_text.specs.PutIn.{put_made, put_over, put_cut, put_place, update_text, update_texts, put_in_update, put_in_asked, put_in_tree}
-use Rattle.view_laws.proofs.Scopes.{both_true}
-use Rattle.view_laws.proofs.Joint.{both_are}
-use Rattle.view_laws.proofs.Queries.{targets_of-put}
-use Rattle.view_laws.proofs.Beside.{own_text}
-use Rattle.view_laws.proofs.Updating.{attrs_put, kinds_put as wanted_put}
+use Rattle.tree_laws.proofs.Scopes.{both_true}
+use Rattle.tree_laws.proofs.Joint.{both_are}
+use Rattle.tree_laws.proofs.Queries.{targets_of-put}
+use Rattle.tree_laws.proofs.Beside.{own_text}
+use Rattle.tree_laws.proofs.Updating.{attrs_put, kinds_put as wanted_put}
 use Rattle.tree_laws.proofs.FitTexts.{all_fit, cut_fits}
 use Rattle.tree_laws.proofs.FitPlain.{all_of_fit, targets_long}
 use Rattle.tree_laws.proofs.FitAsked.{asked_put}

@@ -36,13 +36,13 @@ use Rattle.view_text.specs.Scoped.{is_scoped}
 use Rattle.view_text.specs.Texts.{used_text, texts_vars, put_from, conditions_from}
 use Rattle.view_text.specs.TextOf.{cut, text_of}
 use Rattle.view_text.specs.PutIn.{put_made, put_over, read_cut, changed_text, update_text, update_texts, put_in_update}
-use Rattle.view_laws.proofs.Scopes.{both_true}
-use Rattle.view_laws.proofs.Joint.{both_are, all_append}
-use Rattle.view_laws.proofs.Queries.{targets_of-put}
-use Rattle.view_laws.proofs.Values.{within_left, within_itself}
-use Rattle.view_laws.proofs.Within.{all_scoped}
-use Rattle.view_laws.proofs.Changing.{text_by, text_with, changed_within, update_named}
-use Rattle.view_laws.proofs.Beside.{own_text, plain_text}
+use Rattle.tree_laws.proofs.Scopes.{both_true}
+use Rattle.tree_laws.proofs.Joint.{both_are, all_append}
+use Rattle.tree_laws.proofs.Queries.{targets_of-put}
+use Rattle.tree_laws.proofs.Values.{within_left, within_itself}
+use Rattle.tree_laws.proofs.Within.{all_scoped}
+use Rattle.tree_laws.proofs.Changing.{text_by, text_with, changed_within, update_named}
+use Rattle.tree_laws.proofs.Beside.{own_text, plain_text}
 use Rattle.tree_laws.proofs.Nests.{compared_there}
 use Rattle.tree_laws.proofs.SameKinds.{HasKinds, Names}
 use Rattle.tree_laws.proofs.FitTexts.{kinds_of, all_fit, IsFitText, cut_fits, kept_fits, FitEach, put_kinds, conditions_kinds}

@@ -23,11 +23,11 @@ use Rattle.view_text.specs.Replaced.{Putting, replaced, replaced_in_qual, no_agg
 use Rattle.view_text.specs.Scoped.{is_scoped}
 use Rattle.view_text.specs.Texts.{TextSource, no_text, term_at, used_text, query_texts, texts_vars, put_from, conditions_from}
 use Rattle.view_text.specs.TextOf.{has_value, put_terms, rows_text, rows_conditions, settled}
-use Rattle.view_laws.proofs.Aggregated.{kind_is}
-use Rattle.view_laws.proofs.Halves.{any_append}
-use Rattle.view_laws.proofs.Named.{left_true, right_true}
-use Rattle.view_laws.proofs.Scopes.{both_true}
-use Rattle.view_laws.proofs.Joint.{all_append, both_are}
+use Rattle.tree_laws.proofs.Aggregated.{kind_is}
+use Rattle.tree_laws.proofs.Halves.{any_append}
+use Rattle.tree_laws.proofs.Named.{left_true, right_true}
+use Rattle.tree_laws.proofs.Scopes.{both_true}
+use Rattle.tree_laws.proofs.Joint.{all_append, both_are}
 use Rattle.tree_laws.proofs.Nests.{kind_there}
 use Rattle.tree_laws.proofs.SameKinds.{VarKinds, HasKinds, Names, kind_replaced, fit_replaced, itself_compares}
 use Rattle.tree_laws.proofs.FitTexts.{kinds_of, all_fit, IsFitText, FitEach, put_kinds, conditions_kinds}

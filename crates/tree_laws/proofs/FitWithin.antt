@@ -26,10 +26,10 @@ use Rattle.view_text.specs.declared.text.Text.{Text}
 use Rattle.view_text.specs.Scoped.{is_qual_within, is_scoped}
 use Rattle.view_text.specs.Texts.{TextSource, no_text, used_text, query_texts, texts_vars}
 use Rattle.view_text.specs.TextOf.{cut, view_text, text_within, text_of, kept_text}
-use Rattle.view_laws.proofs.Aggregated.{view_kinds}
-use Rattle.view_laws.proofs.Sound.{viewed}
-use Rattle.view_laws.proofs.Told.{cut_within, texts_told}
-use Rattle.view_laws.proofs.Within.{all_scoped, rows_text_scoped}
+use Rattle.tree_laws.proofs.Aggregated.{view_kinds}
+use Rattle.tree_laws.proofs.Sound.{viewed}
+use Rattle.tree_laws.proofs.Told.{cut_within, texts_told}
+use Rattle.tree_laws.proofs.Within.{all_scoped, rows_text_scoped}
 use Rattle.tree_laws.proofs.FitTexts.{IsFitText, cut_fits, kept_fits}
 use Rattle.tree_laws.proofs.FitViews.{rows_fit}
 

@@ -28,12 +28,12 @@ use Rattle.view_text.specs.Replaced.{Putting, replaced_target}
 use Rattle.view_text.specs.Texts.{put_from, query_texts}
 use Rattle.view_text.specs.TextOf.{text_of}
 use Rattle.view_text.specs.PutIn.{put_made, put_in, put_in_asked, put_in_tree}
-use Rattle.view_laws.specs.Nesting.{aggregates_nest_none}
-use Rattle.view_laws.proofs.Answering.{answer_put, lacks_put}
-use Rattle.view_laws.proofs.Queries.{targets_of-put}
-use Rattle.view_laws.proofs.Ruled.{ruled_put}
-use Rattle.view_laws.proofs.Scopes.{both_true}
-use Rattle.view_laws.proofs.Updating.{updated_put}
+use Rattle.tree_laws.specs.Nesting.{aggregates_nest_none}
+use Rattle.tree_laws.proofs.Answering.{answer_put, lacks_put}
+use Rattle.tree_laws.proofs.Queries.{targets_of-put}
+use Rattle.tree_laws.proofs.Ruled.{ruled_put}
+use Rattle.tree_laws.proofs.Scopes.{both_true}
+use Rattle.tree_laws.proofs.Updating.{updated_put}
 use Rattle.tree_laws.proofs.Nests.{IsSound, query_nests, update_sound}
 
 -- ---- tables

@@ -30,9 +30,9 @@ use Rattle.quel_meaning.specs.Fit.{update_kinds_fit, update_fits, relation_fits,
 use Rattle.calculus_laws.specs.Expansion.{is_no_view}
 use Rattle.calculus_laws.proofs.Enough.{same_key-exact}
 use Rattle.calculus_laws.proofs.ViewAnswer.{stands_plain, term_plain}
-use Rattle.view_laws.specs.Nesting.{source_is_plain, nests_none, aggregates_nest_none, IsOverNoView}
-use Rattle.view_laws.proofs.Scopes.{both_true}
-use Rattle.view_laws.proofs.Joint.{all_append, both_are}
+use Rattle.tree_laws.specs.Nesting.{source_is_plain, nests_none, aggregates_nest_none, IsOverNoView}
+use Rattle.tree_laws.proofs.Scopes.{both_true}
+use Rattle.tree_laws.proofs.Joint.{all_append, both_are}
 
 -- ---- kinds that are there
 

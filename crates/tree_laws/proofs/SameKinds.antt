@@ -12,9 +12,9 @@ use Rattle.calculus.specs.Lists.{is_any}
 use Rattle.calculus.specs.Used.{used, used_in_qual}
 use Rattle.view_text.specs.Replaced.{Putting, moved, moved_qual, replaced, replaced_in_qual, no_aggregate}
 use Rattle.view_text.specs.Scoped.{is_within, is_qual_within}
-use Rattle.view_laws.proofs.Halves.{any_append}
-use Rattle.view_laws.proofs.Named.{left_true, right_true}
-use Rattle.view_laws.proofs.Scopes.{both_true}
+use Rattle.tree_laws.proofs.Halves.{any_append}
+use Rattle.tree_laws.proofs.Named.{left_true, right_true}
+use Rattle.tree_laws.proofs.Scopes.{both_true}
 use Rattle.tree_laws.proofs.Nests.{number_there, operated_there, joined_there, compared_there, text_there}
 
 -- the kinds of each variable's attributes

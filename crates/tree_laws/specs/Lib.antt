@@ -1,1 +1,4 @@
 pub mod FitTexts
+pub mod Nesting
+pub mod Telling
+pub mod Levels

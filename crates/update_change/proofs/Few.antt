@@ -9,8 +9,8 @@ use Rattle.calculus.specs.Rows.{Row, Ascends, has, set_of, put}
 use Rattle.calculus.specs.Replacement.{old_rows, new_rows, with_rows, without_rows, after}
 use Rattle.calculus.proofs.Sets.{Ascends-set_of}
 use Rattle.am_traits.specs.Scans.{IsScan}
-use Rattle.change_list.proofs.Joined.{set_of-kept}
-use Rattle.change_list.proofs.Moved.{go_is, come_is, left_is}
+use Rattle.update_change.proofs.Joined.{set_of-kept}
+use Rattle.update_change.proofs.Moved.{go_is, come_is, left_is}
 
 -- what a scan gives once is a set
 pub ascends_scanned : (set rows : List Row) → IsScan set rows → Ascends set

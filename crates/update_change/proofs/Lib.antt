@@ -2,3 +2,11 @@ mod Failing
 mod Few
 mod TargetsRead
 pub mod Mapped
+pub mod After
+mod Contended
+mod Differing
+mod InOrder
+pub mod Joined
+pub mod Moved
+mod NewRows
+mod Searched

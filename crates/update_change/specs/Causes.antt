@@ -8,7 +8,7 @@ use Rattle.calculus.specs.Replacement.{after, contended}
 use Rattle.calculus.specs.Rows.{Row}
 use Rattle.calculus.specs.Stored.{rows_at}
 use Rattle.am_traits.specs.Causes.{MayCome}
-use Rattle.change_list.specs.Contention.{IsLeastContention}
+use Rattle.update_change.specs.Contention.{IsLeastContention}
 use Rattle.update_change.specs.Changes.{MakesNew}
 use Rattle.update_change.specs.declared.fault.UpdateFault.{UpdateFault}
 use Rattle.update_change.specs.declared.fault.UpdateFault.TheVariants.{Contended, TooMany, Base, OutOfMemory}

@@ -5,9 +5,8 @@ ghost use Rattle.calculus.specs.Replacement.{contended, old_rows, new_rows};
 ghost use Rattle.calculus.specs.Rows.{Row, set_of};
 ghost use Rattle.update_change.specs.Causes.{IsCause};
 
-use crate::UpdateFault;
+use crate::{UpdateFault, ChangeFault, rows_of_pairs};
 use calculus::{Pair, RowSet};
-use change_list::{ChangeFault, rows_of_pairs};
 use std::alloc::Global;
 
 /// The set of the old rows of pairs and that of their new rows, moved out of the pairs.

@@ -18,7 +18,7 @@ use crate::numbers::{ANOTHERS, IN_USE, IS_CATALOGUE};
 use crate::owners::is_anothers;
 use am_traits::{Base, BaseFault};
 use calculus::{DbChange, List, Name, OutOfMemory, RelKey, TryCopy};
-use quel_causes::is_catalogue_name;
+use quel_refusals::is_catalogue_name;
 use std::alloc::Global;
 
 /// Whether the key is that of a catalogue, where this is the administrator.

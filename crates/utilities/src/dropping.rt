@@ -18,7 +18,7 @@ use crate::owners::{owner_cause, permitting_cause};
 use am_traits::{Base, BaseFault};
 use calculus::{DbChange, Name, OutOfMemory, RelKey, TryCopy};
 use memory::both;
-use quel_causes::{standing_permits, standing_rules};
+use quel_refusals::{standing_permits, standing_rules};
 use std::alloc::Global;
 
 /// The change that takes away permits with these numbers, of those that stand.

@@ -10,7 +10,7 @@ ghost use Rattle.quel_meaning.specs.Planned.{has_view, is_anothers, is_none_to_p
 use crate::numbers::ANOTHERS;
 use am_traits::{Base, BaseFault};
 use calculus::{Name, RelKey};
-use quel_causes::relation_cause;
+use quel_refusals::relation_cause;
 use std::alloc::Global;
 
 /// Whether the user is not the owner.

@@ -14,7 +14,7 @@ use crate::owners::permitting_cause;
 use am_traits::Base;
 use calculus::{DbChange, Name, OutOfMemory, Permit, RelKey, TryCopy};
 use memory::both;
-use quel_causes::standing_permits;
+use quel_refusals::standing_permits;
 use std::alloc::Global;
 
 /// The permit with this number.

@@ -17,7 +17,7 @@ use crate::owners::owner_cause;
 use am_traits::{Base, BaseFault};
 use calculus::{DbChange, Name, OutOfMemory, RelKey, Rule, TryCopy};
 use memory::both;
-use quel_causes::standing_rules;
+use quel_refusals::standing_rules;
 use std::alloc::Global;
 
 /// The rule with this number.

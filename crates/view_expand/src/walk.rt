@@ -22,7 +22,7 @@ use crate::plain::{no_text, plain_text, rows_of};
 use crate::{TextFault, TextsFound};
 use am_traits::Base;
 use calculus::{Name, Query, RelKey};
-use plain_product::uses;
+use ovqp::uses;
 use std::alloc::Global;
 use view_text::Text;
 

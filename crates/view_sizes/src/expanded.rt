@@ -19,7 +19,7 @@ use crate::variables::{variables_found, variables_through, variables_under_found
 use am_traits::{Base, BaseFault};
 use calculus::{AggSource, QAgg, Query, RelKey, Update, UpdateOp};
 use indexmap::IndexMap;
-use plain_product::is_used;
+use ovqp::is_used;
 use std::alloc::Global;
 
 /// The levels of views that are looked through at most.

@@ -16,7 +16,7 @@ use crate::sizes::{Measure, qual_size, term_size};
 use am_traits::{Base, BaseFault};
 use calculus::{OutOfMemory, Query, RelKey, Target};
 use indexmap::IndexMap;
-use plain_product::is_used;
+use ovqp::is_used;
 use std::alloc::Global;
 
 /// The levels of views that are looked through at most.

@@ -1,6 +1,6 @@
 use Rattle.std.proofs.Common.{◌<◌, ◌⊎◌, arith, refl}
 use Rattle.plain_base.specs.Shown.{database_of}
-use Rattle.catalogue_moves.specs.Files.{files_of}
+use Rattle.catalog_moves.specs.Files.{files_of}
 use Rattle.catalog.proofs.Attributes.{files_there, known_there, none_found}
 use Rattle.catalog.proofs.files.relation_file.Goals as goal
 

@@ -1,5 +1,5 @@
 use Rattle.std.proofs.Common.{◌∙◌, ap, sym}
-use Rattle.catalogue_moves.specs.Files.{places_of}
+use Rattle.catalog_moves.specs.Files.{places_of}
 use Rattle.catalog.specs.Places.{left_one}
 use Rattle.catalog.proofs.Forgotten.{left_next, left_none}
 use Rattle.catalog.proofs.keeping.forget_all.Goals as goal

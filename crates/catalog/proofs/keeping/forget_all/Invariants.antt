@@ -1,5 +1,5 @@
 use Rattle.std.proofs.Common.{◌≡◌, take}
-use Rattle.catalogue_moves.specs.Files.{places_of}
+use Rattle.catalog_moves.specs.Files.{places_of}
 use Rattle.catalog.specs.Places.{left_all}
 use Rattle.catalog.proofs.keeping.forget_all.Given as goal
 

@@ -1,5 +1,5 @@
 use Rattle.plain_base.specs.Shown.{database_of}
-use Rattle.catalogue_moves.specs.Files.{files_of}
+use Rattle.catalog_moves.specs.Files.{files_of}
 use Rattle.catalog.specs.Laid.{coming_of, going_of}
 use Rattle.catalog.proofs.laying.write_catalogue.Goals as goal
 

@@ -8,13 +8,13 @@ use Rattle.calculus.specs.Lists.{differ_by}
 use Rattle.calculus.specs.Schema.{schema_of}
 use Rattle.page_chain.specs.Pages.{Pages}
 use Rattle.plain_base.specs.Shown.{database_of}
-use Rattle.catalogue_rows.specs.Shown.{entry_in}
-use Rattle.catalogue_rows.specs.declared.entries.EntryRow.{EntryRow}
-use Rattle.catalogue_read.specs.Read.{catalogue_shown}
+use Rattle.catalog_rows.specs.Shown.{entry_in}
+use Rattle.catalog_rows.specs.declared.entries.EntryRow.{EntryRow}
+use Rattle.catalog_read.specs.Read.{catalogue_shown}
 use Rattle.stored_database.specs.Printed.{HasFiles, files_in, printed}
 use Rattle.stored_database.specs.Spelled.{spelled}
-use Rattle.catalogue_moves.specs.Bases.{IndexBases}
-use Rattle.catalogue_moves.specs.Files.{files_of}
+use Rattle.catalog_moves.specs.Bases.{IndexBases}
+use Rattle.catalog_moves.specs.Files.{files_of}
 use Rattle.catalog.specs.Loading.{IsOfParts}
 use Rattle.catalog.proofs.ReadRows.{is_made, no_table}
 use Rattle.catalog.proofs.loading.catalog_of.Goals as goal

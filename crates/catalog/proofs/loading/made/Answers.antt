@@ -1,6 +1,6 @@
 use Rattle.std.proofs.Common.{◌∙◌, sym, ap}
 use Rattle.std.specs.Option.{option_map}
-use Rattle.catalogue_read.specs.Read.{catalogue_of, catalogue_shown}
+use Rattle.catalog_read.specs.Read.{catalogue_of, catalogue_shown}
 use Rattle.catalog.proofs.LiesLoaded.{dba_made, lies_made, none_made_so}
 use Rattle.catalog.proofs.ReadRows.{known_made, none_read, rows_are_a_catalogue}
 use Rattle.catalog.proofs.loading.made.Goals as goal

@@ -1,5 +1,5 @@
-use Rattle.catalogue_read.proofs.SpellsSchema.{spells_its_schema}
-use Rattle.catalogue_read.specs.Read.{catalogue_shown}
+use Rattle.catalog_read.proofs.SpellsSchema.{spells_its_schema}
+use Rattle.catalog_read.specs.Read.{catalogue_shown}
 use Rattle.catalog.proofs.LiesLoaded.{of_parts}
 use Rattle.catalog.proofs.ReadRows.{no_schema, schema_built, schema_refused}
 use Rattle.catalog.proofs.loading.schema_in.Goals as goal

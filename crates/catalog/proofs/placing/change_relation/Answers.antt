@@ -3,7 +3,7 @@ use Rattle.calculus.specs.declared.change.DbChange.TheVariants.{Rows}
 use Rattle.page_chain.proofs.Carried.{cause_carried}
 use Rattle.plain_base.specs.Shown.{database_of}
 use Rattle.relation_rows.specs.Sets.{HasNoneOf}
-use Rattle.catalogue_moves.specs.Files.{files_of}
+use Rattle.catalog_moves.specs.Files.{files_of}
 use Rattle.catalog.specs.Laid.{HasMade, NoneMayTake}
 use Rattle.catalog.proofs.Relations.{named_relation, no_file, none_is, none_there, rows_made, rows_that_go_fit}
 use Rattle.catalog.proofs.placing.change_relation.Goals as goal

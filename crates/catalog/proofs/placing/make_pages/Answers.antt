@@ -3,7 +3,7 @@ use Rattle.calculus.specs.Change.{IsLawful}
 use Rattle.calculus.specs.declared.change.DbChange.{DbChange}
 use Rattle.calculus.specs.declared.change.DbChange.TheVariants.{Create, Rows}
 use Rattle.plain_base.specs.Shown.{database_of}
-use Rattle.catalogue_moves.specs.Files.{files_of}
+use Rattle.catalog_moves.specs.Files.{files_of}
 use Rattle.catalog.specs.Laid.{HasMade, MayTake, NoneMayTake}
 use Rattle.catalog.proofs.Outcomes.{cause_on}
 use Rattle.catalog.proofs.Relations.{nothing_made, puts_none}

@@ -1,7 +1,7 @@
 use Rattle.std.proofs.Common.{sym, subst}
 use Rattle.calculus.specs.declared.change.DbChange.TheVariants.{Create}
 use Rattle.plain_base.specs.Shown.{database_of}
-use Rattle.catalogue_moves.specs.Files.{files_of}
+use Rattle.catalog_moves.specs.Files.{files_of}
 use Rattle.catalog.specs.Laid.{HasMade}
 use Rattle.catalog.proofs.Attributes.{widths_stand}
 use Rattle.catalog.proofs.Relations.{all_rows, few_rows, makeable, relation_made}

@@ -1,6 +1,6 @@
 use Rattle.std.proofs.Common.{◌∙◌, ap}
 use Rattle.calculus.specs.IsDatabase.{attrs_are_targets}
-use Rattle.plain_product.proofs.Parts.{targets_is}
+use Rattle.ovqp.proofs.Parts.{targets_is}
 use Rattle.change_check.proofs.views.has_targets.Goals as goal
 
 pub returns : goal.returns

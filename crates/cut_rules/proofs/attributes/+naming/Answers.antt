@@ -1,7 +1,7 @@
 use Rattle.std.proofs.Common.{sym, ap, ◌∙◌, ◌++◌, flat_map}
 use Rattle.std.proofs.lemmas.List.{append-nil, take_all}
-use Rattle.plain_product.specs.Naming.{named}
-use Rattle.plain_product.proofs.Gathered.{parts_next}
+use Rattle.ovqp.specs.Naming.{named}
+use Rattle.ovqp.proofs.Gathered.{parts_next}
 use Rattle.cut_rules.proofs.attributes.+naming.Goals as goal
 
 pub put_all_named-loop-term-preserved : goal.put_all_named-loop-term-preserved

@@ -1,6 +1,6 @@
 use Rattle.std.proofs.Common.{◌≡◌, ◌++◌, take}
 use Rattle.std.specs.List.{flat_map}
-use Rattle.plain_product.specs.Naming.{named}
+use Rattle.ovqp.specs.Naming.{named}
 use Rattle.cut_rules.proofs.attributes.+naming.Given as goal
 
 abbrev pub invariant-put_all_named-loop-term : goal.invariant-put_all_named-loop-term

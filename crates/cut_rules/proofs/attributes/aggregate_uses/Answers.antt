@@ -1,5 +1,5 @@
 use Rattle.std.proofs.Common.{ap, ◌∙◌, ◌++◌, flat_map}
-use Rattle.plain_product.specs.Naming.{named, named_in_qual}
+use Rattle.ovqp.specs.Naming.{named, named_in_qual}
 use Rattle.cut_rules.proofs.Naming.{named_by_aggregate}
 use Rattle.cut_rules.proofs.attributes.aggregate_uses.Goals as goal
 

@@ -1,5 +1,5 @@
 use Rattle.std.proofs.Common.{ap, ◌∙◌, None}
-use Rattle.quel_causes.specs.Judged.{update_of}
+use Rattle.quel_refusals.specs.Judged.{update_of}
 use Rattle.quel_meaning.specs.Resolved.{tree_of}
 use Rattle.quel_meaning.specs.WrittenQuery.{query_of}
 use Rattle.quel_resolve.proofs.Changes.{update_on, update_tree}

@@ -1,5 +1,5 @@
 use Rattle.std.proofs.Common.{◌≡◌, true, Ok, sym, ap, ◌∙◌}
-use Rattle.quel_causes.specs.Judged.{is_judged}
+use Rattle.quel_refusals.specs.Judged.{is_judged}
 use Rattle.quel_resolve.proofs.NotServed.{not_served}
 use Rattle.quel_resolve.proofs.Resolved.{by_cause, by_nothing}
 use Rattle.quel_resolve.proofs.Saying.{says_further}

@@ -1,6 +1,6 @@
 use Rattle.std.proofs.Common.{◌≡◌, None, refl, sym, ◌∙◌}
 use Rattle.quel_names.specs.Asking.{scope_of}
-use Rattle.quel_query.specs.Changed.{changed}
+use Rattle.quel_resolve.specs.Changed.{changed}
 use Rattle.quel_resolve.proofs.Changes.{has_tree_alone, no_update}
 use Rattle.quel_resolve.proofs.trees.tree_over.Goals as goal
 

@@ -1,5 +1,5 @@
 use Rattle.std.proofs.Common.{◌≡◌, Some, sym, ap, ◌∙◌}
-use Rattle.quel_causes.specs.Judged.{update_of}
+use Rattle.quel_refusals.specs.Judged.{update_of}
 use Rattle.quel_resolve.proofs.Changes.{few_changed, is_update, update_query}
 use Rattle.quel_resolve.proofs.trees.updated.Goals as goal
 

@@ -1,5 +1,5 @@
 use Rattle.plain_base.specs.Shown.{database_of}
-use Rattle.catalogue_moves.specs.Files.{files_of}
+use Rattle.catalog_moves.specs.Files.{files_of}
 use Rattle.store_tests.proofs.Said.{may_be}
 use Rattle.store_tests.proofs.catalogues.set_three.Goals as goal
 

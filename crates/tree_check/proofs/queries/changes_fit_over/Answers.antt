@@ -1,6 +1,6 @@
 use Rattle.std.proofs.Common.{◌≡◌, refl, sym, ◌∙◌, subst, Bool, true, false, map, vec_items}
 use Rattle.std.specs.Prelude.{IfOk}
-use Rattle.plain_product.proofs.Parts.{qual_is, targets_is}
+use Rattle.ovqp.proofs.Parts.{qual_is, targets_is}
 use Rattle.tree_check.proofs.Fitted.{changes_fitted}
 use Rattle.tree_check.proofs.Parts.{stops, goes_on}
 use Rattle.tree_check.proofs.queries.changes_fit_over.Goals as goal

@@ -1,5 +1,5 @@
 use Rattle.std.proofs.Common.{◌∙◌, ap, arith}
-use Rattle.plain_product.proofs.Parts.{qual_is, targets_is}
+use Rattle.ovqp.proofs.Parts.{qual_is, targets_is}
 use Rattle.view_sizes.specs.Sized.{greatest_depth, qual_depth}
 use Rattle.view_sizes.proofs.depths.query_depth.Goals as goal
 

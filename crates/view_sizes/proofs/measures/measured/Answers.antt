@@ -1,5 +1,5 @@
 use Rattle.std.proofs.Common.{◌∙◌}
-use Rattle.plain_product.proofs.Parts.{qual_is, targets_is}
+use Rattle.ovqp.proofs.Parts.{qual_is, targets_is}
 use Rattle.view_sizes.proofs.Measuring.{few_held, measured_so}
 use Rattle.view_sizes.proofs.measures.measured.Goals as goal
 

@@ -1,6 +1,6 @@
 use Rattle.std.proofs.Common.{sym, refl}
 use Rattle.plain_base.specs.Shown.{database_of}
-use Rattle.catalogue_moves.specs.Files.{files_of}
+use Rattle.catalog_moves.specs.Files.{files_of}
 use Rattle.catalog.proofs.FileOf.{has_a_file, is_exact, is_the_file}
 use Rattle.catalog.proofs.catalog.Catalog.file_of.Goals as goal
 

@@ -1,7 +1,7 @@
 use Rattle.std.proofs.Common.{◌∙◌, refl, sym, ap, subst, arith}
 use Rattle.calculus.specs.Database.{is_relation}
 use Rattle.calculus.specs.Stored.{rows_at}
-use Rattle.catalogue_moves.specs.Files.{files_of}
+use Rattle.catalog_moves.specs.Files.{files_of}
 use Rattle.catalog.specs.Filling.{IsFileOf}
 use Rattle.catalog.proofs.LiesRead.{lies_same}
 use Rattle.catalog.proofs.Filled.{knows_same, no_file_none, other_rows_are, rows_are}

@@ -4,9 +4,9 @@ use Rattle.calculus.specs.Database.{is_there}
 use Rattle.page_chain.proofs.Carried.{cause_carried}
 use Rattle.plain_base.specs.Shown.{database_of}
 use Rattle.stored_database.specs.Printed.{printed}
-use Rattle.catalogue_changes.specs.Moves.{destroyed, rows_of}
-use Rattle.catalogue_moves.specs.Files.{files_of}
-use Rattle.catalogue_pages.specs.Ends.{NoCatalogue}
+use Rattle.stored_database.specs.Moves.{destroyed, rows_of}
+use Rattle.catalog_moves.specs.Files.{files_of}
+use Rattle.catalog_pages.specs.Ends.{NoCatalogue}
 use Rattle.catalog.specs.Spelling.{SpellsNone}
 use Rattle.catalog.proofs.Spelled.{none_spelled, set_changes, set_spelled, set_stands}
 use Rattle.catalog.proofs.catalog.Catalog.set_file.Goals as goal

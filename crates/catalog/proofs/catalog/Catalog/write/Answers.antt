@@ -3,8 +3,8 @@ use Rattle.calculus.specs.Change.{IsLawful, laid}
 use Rattle.calculus.specs.Database.{Db}
 use Rattle.page_chain.proofs.Carried.{cause_carried}
 use Rattle.plain_base.specs.Shown.{database_of}
-use Rattle.catalogue_pages.specs.Ends.{NoCatalogue}
-use Rattle.catalogue_moves.specs.Files.{files_of}
+use Rattle.catalog_pages.specs.Ends.{NoCatalogue}
+use Rattle.catalog_moves.specs.Files.{files_of}
 use Rattle.catalog.specs.Knows.{KnowsNoneFor}
 use Rattle.catalog.specs.Laid.{IsKept, NoneMayTake}
 use Rattle.catalog.proofs.Outcomes.{cause_on}

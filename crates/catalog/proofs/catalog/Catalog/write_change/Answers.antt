@@ -1,5 +1,5 @@
 use Rattle.std.proofs.Common.{arith, sym, ◌∙◌}
-use Rattle.catalogue_pages.specs.Ends.{NoCatalogue}
+use Rattle.catalog_pages.specs.Ends.{NoCatalogue}
 use Rattle.catalog.specs.Spelling.{SpellsNone}
 use Rattle.catalog.proofs.Outcomes.{cause_on}
 use Rattle.catalog.proofs.Spelled.{change_spelled, none_spelled, was_written}

@@ -2,7 +2,7 @@ use Rattle.std.proofs.Common.{◌∙◌, ap, arith, subst, sym}
 use Rattle.calculus.specs.Change.{IsLawful, laid}
 use Rattle.calculus.specs.Database.{Db}
 use Rattle.page_chain.proofs.Carried.{cause_carried}
-use Rattle.catalogue_pages.specs.Ends.{NoCatalogue}
+use Rattle.catalog_pages.specs.Ends.{NoCatalogue}
 use Rattle.catalog.proofs.catalog.Catalog.write_given.Goals as goal
 
 pub keep-requires : goal.keep-requires

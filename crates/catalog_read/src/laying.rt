@@ -1,0 +1,110 @@
+//! Changes are laid in rounds, each as soon as it may be.
+
+ghost use Rattle.std.specs.Prelude.{◌≡◌, ◌≤◌, ℕ, true, false, List, [], IfOk, OnOk, IsTrue, length};
+ghost use Rattle.calculus.specs.Change.{laid};
+ghost use Rattle.calculus.specs.Database.{Db};
+ghost use Rattle.calculus.specs.IsDatabase.{IsDatabase};
+ghost use Rattle.change_laws.specs.Fit.{change_is_fit};
+ghost use Rattle.plain_base.specs.Shown.{database_of};
+ghost use Rattle.catalog_read.specs.Parts.{Parts, whole};
+ghost use Rattle.catalog_read.specs.Laying.{IsLeft, round, stepped};
+
+use crate::changes::push_one;
+use calculus::{DbChange, OutOfMemory};
+use change_check::fit_change;
+use plain_base::DbPlain;
+use std::alloc::Global;
+
+/// Whether the change may be laid.
+fn is_fit(alloc: Global, plain: &mut DbPlain, change: &DbChange) -> Result<bool, OutOfMemory>
+    ensures told { IfOk result (λ fit. fit ≡ change_is_fit (database_of plain.old) change.now) }
+    ensures same { database_of plain.new ≡ database_of plain.old }
+{
+    match fit_change(alloc, plain, change) {
+        Ok(fit) => Ok(fit),
+        Err(_) => Err(OutOfMemory),
+    }
+}
+
+/// Lays the change where it may be laid, and says whether it was.
+fn fit_or_lay(alloc: Global, plain: &mut DbPlain, change: &DbChange) -> Result<bool, OutOfMemory>
+    ensures told { IfOk result (λ done. done ≡ change_is_fit (database_of plain.old) change.now) }
+    ensures laid { IfOk result (λ done. done ≡ true → database_of plain.new ≡ laid (database_of plain.old) change.now) }
+    ensures kept { IfOk result (λ done. done ≡ false → database_of plain.new ≡ database_of plain.old) }
+{
+    match is_fit(alloc, plain, change) {
+        Ok(true) => match plain.lay(alloc, change) {
+            Ok(()) => Ok(true),
+            Err(error) => Err(error),
+        },
+        Ok(false) => Ok(false),
+        Err(error) => Err(error),
+    }
+}
+
+/// Lays the change where it may be laid; else it is left.
+fn lay_or_leave(
+    alloc: Global,
+    plain: &mut DbPlain,
+    left: &mut Vec<DbChange>,
+    change: DbChange,
+) -> Result<(), OutOfMemory>
+    ensures { OnOk result ((database_of plain.new, left.new.items) ≡ stepped (database_of plain.old) left.old.items change) }
+{
+    match fit_or_lay(alloc, plain, &change) {
+        Ok(true) => Ok(()),
+        Ok(false) => push_one(left, change),
+        Err(error) => Err(error),
+    }
+}
+
+/// A round: lays each change that may be laid, one by one, and answers those that are left.
+fn lay_some(
+    alloc: Global,
+    plain: &mut DbPlain,
+    changes: Vec<DbChange>,
+) -> Result<Vec<DbChange>, OutOfMemory>
+    ensures { IfOk result (λ left. (database_of plain.new, left.items) ≡ round (database_of plain.old) changes.items) }
+{
+    let mut left = Vec::new(alloc);
+    'round: for change in changes {
+        lay_or_leave(alloc, plain, &mut left, change)?;
+    }
+    Ok(left)
+}
+
+/// A round, and what it says of a database that the changes make.
+fn lay_round(
+    alloc: Global,
+    plain: &mut DbPlain,
+    changes: Vec<DbChange>,
+) -> Result<Vec<DbChange>, OutOfMemory>
+    ensures fewer { IfOk result (λ left. length left.items ≤ length changes.items) }
+    ensures left { IfOk result (λ left. (dba : List ℕ) (parts : Parts) → IsLeft dba changes.items (database_of plain.old) parts → IsLeft dba left.items (database_of plain.new) parts) }
+    ensures stuck { IfOk result (λ left. length left.items ≡ length changes.items → (length changes.items ≡ 0 → ⊥)
+        → (dba : List ℕ) (parts : Parts) (db : Db) → IsLeft dba changes.items (database_of plain.old) parts → whole dba parts ≡ Some db → IsDatabase db → ⊥) }
+{
+    let left = lay_some(alloc, plain, changes)?;
+    Ok(left)
+}
+
+/// Lays all changes, in rounds; false where a round lays none of those that are left.
+pub(crate) fn lay_all(
+    alloc: Global,
+    plain: &mut DbPlain,
+    changes: Vec<DbChange>,
+) -> Result<bool, OutOfMemory>
+    ensures built { IfOk result (λ done. done ≡ true → (dba : List ℕ) (parts : Parts) → IsLeft dba changes.items (database_of plain.old) parts → IsLeft dba [] (database_of plain.new) parts) }
+    ensures stuck { IfOk result (λ done. done ≡ false
+        → (dba : List ℕ) (parts : Parts) (db : Db) → IsLeft dba changes.items (database_of plain.old) parts → whole dba parts ≡ Some db → IsDatabase db → ⊥) }
+{
+    let mut left = changes;
+    'rounds: while !left.is_empty() {
+        let before = left.len();
+        left = lay_round(alloc, plain, left)?;
+        if left.len() == before {
+            return Ok(false);
+        }
+    }
+    Ok(true)
+}

@@ -1,0 +1,6 @@
+use Rattle.std.proofs.Common.{◌∙◌}
+use Rattle.catalog_rows.proofs.Fields.{number_there}
+use Rattle.catalog_rows.proofs.places.number_at.Goals as goal
+
+pub returns : goal.returns
+returns c = c.read_u32.ensures ∙ number_there 4 c.args.at c.args.bytes.now c.requires

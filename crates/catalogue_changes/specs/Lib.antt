@@ -1,4 +1,0 @@
-pub mod After
-pub mod Laws
-pub mod Moves
-pub mod Renumbered

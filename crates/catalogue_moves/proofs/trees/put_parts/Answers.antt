@@ -1,5 +1,0 @@
-use Rattle.std.proofs.Common.{ap, length, arith}
-use Rattle.catalogue_moves.proofs.trees.put_parts.Goals as goal
-
-pub returns-clause-few : goal.returns-clause-few
-returns-clause-few c = omega (arith, ap length c.into_items-parts.ensures, c.if-len-gt65536.false)

@@ -1,5 +1,0 @@
-pub mod Laws
-pub mod PartsMade
-pub mod Read
-pub mod Rows
-pub mod Splitting

@@ -1,6 +1,0 @@
-use Rattle.std.proofs.Common.{◌∙◌}
-use Rattle.catalogue_rows.proofs.Fields.{number_there}
-use Rattle.catalogue_rows.proofs.places.number_at.Goals as goal
-
-pub returns : goal.returns
-returns c = c.read_u32.ensures ∙ number_there 4 c.args.at c.args.bytes.now c.requires

@@ -1,8 +1,0 @@
-pub mod After
-mod Contended
-mod Differing
-mod InOrder
-pub mod Joined
-pub mod Moved
-mod NewRows
-mod Searched

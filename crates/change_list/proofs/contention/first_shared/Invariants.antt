@@ -1,6 +1,0 @@
-use Rattle.std.proofs.Common.{ℕ, ◌+◌, ◌<◌, false}
-use Rattle.change_list.specs.Replacements.{Shares}
-use Rattle.change_list.proofs.contention.first_shared.Given as goal
-
-abbrev pub invariant-loop-next : goal.invariant-loop-next
-invariant-loop-next l = (before : ℕ) → before + 1 < l.next → Shares l.all before false

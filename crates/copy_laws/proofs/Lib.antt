@@ -1,4 +1,0 @@
-pub mod FieldsRead
-pub mod FilesRead
-pub mod RecordsRead
-pub mod Worked

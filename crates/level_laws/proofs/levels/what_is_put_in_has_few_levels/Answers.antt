@@ -1,5 +1,0 @@
-use Rattle.level_laws.proofs.Trees.{put_in_low, ruled_tree_low}
-use Rattle.level_laws.proofs.levels.what_is_put_in_has_few_levels.Goals as goal
-
-pub returns : goal.returns
-returns c = record { plain = put_in_low; ruled = ruled_tree_low }

@@ -1,0 +1,144 @@
+-- A run that has ended, and what is told of it to the left.
+use Rattle.std.proofs.Common.{◌≡◌, ◌⊎◌, refl, sym, ap, subst, ◌∙◌, ℕ, Bool, true, false, List, [], ◌∷◌, ◌++◌, append-nil, arith, inl, inr, Ok, Err, if◌then◌else◌}
+use Rattle.std.specs.Prelude.{◌==◌}
+use Rattle.std.specs.declared.option.Option.{Option}
+use Rattle.std.specs.Io.KnownBytes.{Appends}
+use Rattle.std.proofs.KnownBytes.{Appends-trans}
+use Rattle.fault_io.specs.Told.{GrewBy, IsFront}
+use Rattle.frame_codec.specs.Frames.{frames_bytes}
+use Rattle.net_core.specs.Told.{Outside, told}
+use Rattle.network_meaning.specs.Network.{LocalState}
+use Rattle.quel_network.specs.Quel.{quel}
+use Rattle.quel_network.specs.Sorts.{User, quel_sorts}
+use Rattle.net_core.specs.declared.loop_fault.LoopFault.{LoopFault}
+use Rattle.net_core.specs.declared.loop_fault.LoopFault.TheVariants as fault
+use Rattle.net_core.specs.LoopFaults.{fault_bytes, telling}
+use Rattle.net_core.specs.Moves.{LocalRun, Move, given_left}
+use Rattle.net_core.specs.Sides.{Faltered, Outlet, OutletLater, Sides, Wrote}
+use Rattle.net_core.specs.LoopSteps.{Ran}
+use Rattle.net_core.specs.WholeLoop.{Ending, HowEnded, LoopDone}
+use Rattle.net_core.proofs.Going.{front_behind, rose_earlier}
+use Rattle.net_core.proofs.TakingSteps.{ending}
+
+-- ---- an end without a fault
+
+pub done_ok : (serves : User → Type 0) (place heard : ℕ) (s s' : LocalState quel_sorts) (old new : Outside) (before after : Sides) (x : Unit {0}) → Ran serves (record { state = s; room = told old }) heard s' old new before after [] (Ok x) →
+    LoopDone serves place heard s s' old new before after (Ok x)
+done_ok serves place heard s s' old new before after x r = record {
+  moves = r.moves;
+  end = r.end;
+  left_read = r.left_read;
+  left_unread = r.left_unread;
+  right_read = r.right_read;
+  right_unread = r.right_unread;
+  runs = λ user y. subst (λ (ms : List Move). LocalRun (quel user) ms (record { state = s; room = told old }) r.end) (sym r.is) (r.runs user y);
+  left = r.left;
+  right = r.right;
+  plain = r.plain;
+  left_wrote = subst (Wrote before.left.out after.left.out) (sym (append-nil (frames_bytes (given_left r.moves)))) r.left_wrote;
+  right_wrote = r.right_wrote;
+  left_later = r.left_later;
+  right_later = r.right_later;
+  all = r.all;
+  room = r.room;
+  ended = r.ended;
+}
+
+-- ---- what is told behind all frames
+
+-- counts rise on
+faltered_more : (b m a : Outlet) → OutletLater b m → Faltered m a → Faltered b a
+faltered_more b m a l (inl r) = inl (rose_earlier b.faults m.faults a.faults l.faults r)
+faltered_more b m a l (inr r) = inr (rose_earlier b.stalls m.stalls a.stalls l.stalls r)
+
+faltered_on : (b m a : Outlet) → OutletLater m a → Faltered b m → Faltered b a
+faltered_on b m a l (inl r) = inl (let k = l.faults in omega (arith, r, k))
+faltered_on b m a l (inr r) = inr (let k = l.stalls in omega (arith, r, k))
+
+pub later_both : (b m a : Outlet) → OutletLater b m → OutletLater m a → OutletLater b a
+later_both b m a f g = record { faults = let x = f.faults in let y = g.faults in omega (arith, x, y); stalls = let x = f.stalls in let y = g.stalls in omega (arith, x, y) }
+
+all_behind : (b m a : Outlet) (all tail : List ℕ) → OutletLater b m → Appends b.written m.written all → Appends m.written a.written tail ⊎ Faltered m a → Appends b.written a.written (all ++ tail) ⊎ Faltered b a
+all_behind b m a all tail l w (inl t) = inl (Appends-trans b.written m.written a.written all tail w t)
+all_behind b m a all tail l w (inr f) = inr (faltered_more b m a l f)
+
+-- what is told is written behind all frames
+told_behind : (b m a : Outlet) (all tail : List ℕ) → OutletLater b m → Appends b.written m.written all → Wrote m a tail → Wrote b a (all ++ tail)
+told_behind b m a all tail l w t = record { front = front_behind b.written m.written a.written all tail (all ++ tail) w refl t.front; all = all_behind b m a all tail l w t.all }
+
+no_front : (front rest : List ℕ) → [] ≡ front ++ rest → front ≡ []
+no_front [] rest e = refl
+no_front (x ∷ front) rest e = absurd (cc e)
+
+nothing_written : (m a : Option (List ℕ)) → GrewBy m a (λ more. IsFront more []) → Appends m a []
+nothing_written m a (front, w, (rest, e)) = subst (Appends m a) (no_front front rest e) w
+
+front_on : (b m a : Option (List ℕ)) (bytes : List ℕ) → GrewBy b m (λ more. IsFront more bytes) → Appends m a [] → GrewBy b a (λ more. IsFront more bytes)
+front_on b m a bytes (front, w, rest) t = (front, subst (Appends b a) (append-nil front) (Appends-trans b m a front [] w t), rest)
+
+all_on : (b m a : Outlet) (bytes : List ℕ) → OutletLater b m → OutletLater m a → Appends m.written a.written [] → Appends b.written m.written bytes ⊎ Faltered b m → Appends b.written a.written bytes ⊎ Faltered b a
+all_on b m a bytes l k t (inl w) = inl (subst (Appends b.written a.written) (append-nil bytes) (Appends-trans b.written m.written a.written bytes [] w t))
+all_on b m a bytes l k t (inr f) = inr (faltered_on b m a k f)
+
+-- nothing is told
+none_behind : (b m a : Outlet) (bytes tail : List ℕ) → OutletLater b m → OutletLater m a → Wrote b m bytes → tail ≡ [] → Wrote m a tail → Wrote b a (bytes ++ tail)
+none_behind b m a bytes tail l k w e t =
+    let same : GrewBy m.written a.written (λ more. IsFront more []) = subst (λ (x : List ℕ). GrewBy m.written a.written (λ more. IsFront more x)) e t.front in
+    let still : Appends m.written a.written [] = nothing_written m.written a.written same in
+    subst (Wrote b a) (sym (ap (λ (x : List ℕ). bytes ++ x) e ∙ append-nil bytes)) (record { front = front_on b.written m.written a.written bytes w.front still; all = all_on b m a bytes l k still w.all })
+
+quiet_by : (b : Bool) → (if b then [] else telling 4) ≡ []
+quiet_by true = refl
+quiet_by false = refl
+
+left_told : (n : ℕ) (f : LoopFault) (b m a : Outlet) (bytes : List ℕ) → OutletLater b m → OutletLater m a → Wrote b m bytes → ((f ≡ fault.LeftWrite → ⊥) → Appends b.written m.written bytes) → Wrote m a (fault_bytes n (Err f)) →
+    Wrote b a (bytes ++ fault_bytes n (Err f))
+left_told n fault.LeftWrite b m a bytes l k w all t = none_behind b m a bytes (fault_bytes n (Err fault.LeftWrite)) l k w (quiet_by (n == 1)) t
+left_told n (fault.Work f) b m a bytes l k w all t = told_behind b m a bytes (fault_bytes n (Err (fault.Work f))) l (all (λ e. cc)) t
+left_told n fault.LeftRead b m a bytes l k w all t = told_behind b m a bytes (fault_bytes n (Err fault.LeftRead)) l (all (λ e. cc)) t
+left_told n fault.Right b m a bytes l k w all t = told_behind b m a bytes (fault_bytes n (Err fault.Right)) l (all (λ e. cc)) t
+left_told n fault.EndedEarly b m a bytes l k w all t = told_behind b m a bytes (fault_bytes n (Err fault.EndedEarly)) l (all (λ e. cc)) t
+left_told n fault.Spent b m a bytes l k w all t = told_behind b m a bytes (fault_bytes n (Err fault.Spent)) l (all (λ e. cc)) t
+left_told n (fault.BadFrame at) b m a bytes l k w all t = told_behind b m a bytes (fault_bytes n (Err (fault.BadFrame at))) l (all (λ e. cc)) t
+left_told n (fault.Told status) b m a bytes l k w all t = told_behind b m a bytes (fault_bytes n (Err (fault.Told status))) l (all (λ e. cc)) t
+left_told n fault.OutOfMemory b m a bytes l k w all t = told_behind b m a bytes (fault_bytes n (Err fault.OutOfMemory)) l (all (λ e. cc)) t
+
+-- ---- an end by a fault
+
+-- both sides, where something was told to the left
+abbrev pub told_left : Sides → Outlet → Sides
+told_left mid out = record { left = record { left = mid.left.left; faults = mid.left.faults; out = out }; right = mid.right }
+
+how_told : (serves : User → Type 0) (heard : ℕ) (s' : LocalState quel_sorts) (old new : Outside) (before mid : Sides) (out : Outlet) (e : Ending) (f : LoopFault) → OutletLater mid.left.out out →
+    HowEnded serves heard s' old new before mid e (Err f) → HowEnded serves heard s' old new before (told_left mid out) e (Err f)
+how_told serves heard s' old new before mid out e (fault.Work f) l h = h
+how_told serves heard s' old new before mid out e fault.LeftRead l h = h
+how_told serves heard s' old new before mid out e fault.LeftWrite l h = faltered_on before.left.out mid.left.out out l h
+how_told serves heard s' old new before mid out e fault.Right l h = h
+how_told serves heard s' old new before mid out e fault.EndedEarly l h = h
+how_told serves heard s' old new before mid out e fault.Spent l h = h
+how_told serves heard s' old new before mid out e (fault.BadFrame at) l h = h
+how_told serves heard s' old new before mid out e (fault.Told status) l h = h
+how_told serves heard s' old new before mid out e fault.OutOfMemory l h = tt
+
+pub done_err : (serves : User → Type 0) (place heard : ℕ) (s s' : LocalState quel_sorts) (old new : Outside) (before mid : Sides) (out : Outlet) (f : LoopFault) → Ran serves (record { state = s; room = told old }) heard s' old new before mid [] (Err f) →
+    Wrote mid.left.out out (fault_bytes place (Err f)) → OutletLater mid.left.out out → LoopDone serves place heard s s' old new before (told_left mid out) (Err f)
+done_err serves place heard s s' old new before mid out f r t k = record {
+  moves = r.moves;
+  end = r.end;
+  left_read = r.left_read;
+  left_unread = r.left_unread;
+  right_read = r.right_read;
+  right_unread = r.right_unread;
+  runs = λ user y. subst (λ (ms : List Move). LocalRun (quel user) ms (record { state = s; room = told old }) r.end) (sym r.is) (r.runs user y);
+  left = record { heard = r.left.heard; frames = r.left.frames; needed = r.left.needed };
+  right = r.right;
+  plain = r.plain;
+  left_wrote = left_told place f before.left.out mid.left.out out (frames_bytes (given_left r.moves)) r.left_later.out k r.left_wrote (λ ne. r.left_all (λ e. ne cc)) t;
+  right_wrote = r.right_wrote;
+  left_later = record { faults = r.left_later.faults; out = later_both before.left.out mid.left.out out r.left_later.out k };
+  right_later = r.right_later;
+  all = tt;
+  room = r.room;
+  ended = how_told serves heard s' old new before mid out (ending r.moves r.end r.left_read r.left_unread mid.left.left r.right_read r.right_unread mid.right.left) f k r.ended;
+}

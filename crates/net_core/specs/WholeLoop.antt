@@ -1,0 +1,121 @@
+-- What the process of a stage has done, and how it ended.
+use Rattle.std.specs.Prelude.{◌≡◌, ◌⊎◌, ℕ, ◌+◌, ◌-◌, ◌^◌, List, ◌++◌, length, All, Some, Result, Ok, Err, OnOk, ⊤}
+use Rattle.std.specs.Io.KnownBytes.{Appends}
+use Rattle.calculus.specs.Database.{Db}
+use Rattle.fault_io.specs.Causes.{Rose}
+use Rattle.fault_io.specs.Files.{Files}
+use Rattle.frame_codec.specs.declared.frame.Frame.{Frame}
+use Rattle.frame_codec.specs.Frames.{frames_bytes}
+use Rattle.frame_codec.specs.Reading.{Reading, behind_frames, read}
+use Rattle.net_core.specs.Causes.{MayCome}
+use Rattle.net_core.specs.declared.fault.WorkFault.TheVariants as work_fault
+use Rattle.net_core.specs.Spares.{ends}
+use Rattle.net_core.specs.Told.{LeavesPart, Outside, told}
+use Rattle.net_core.specs.Wants.{HasEnded}
+use Rattle.network_meaning.specs.Calls.{Tells}
+use Rattle.network_meaning.specs.Language.{Language}
+use Rattle.network_meaning.specs.Lawful.{FitWork}
+use Rattle.network_meaning.specs.LocalSteps.{Want, Want.take_left, Want.take_right, Want.work, Room as NetworkRoom}
+use Rattle.network_meaning.specs.Network.{LocalState, want}
+use Rattle.quel_network.specs.Quel.{quel}
+use Rattle.quel_network.specs.Sorts.{User, quel_sorts}
+use Rattle.net_core.specs.declared.loop_fault.LoopFault.{LoopFault}
+use Rattle.net_core.specs.declared.loop_fault.LoopFault.TheVariants as fault
+use Rattle.net_core.specs.LoopFaults.{IsPlain, fault_bytes}
+use Rattle.net_core.specs.Incoming.{Inlet, IsBroken, IsOver, IsRefused, IsTold, IsTooMuch, IsUntold, inlet}
+use Rattle.net_core.specs.Moves.{At, LocalRun, Move, given_left, given_right, last_place, taken_left, taken_right}
+use Rattle.net_core.specs.Sides.{Faltered, HasRead, IsNeeded, SameCounts, Side, SideLater, Sides, Wrote}
+
+-- ---- how it ended
+
+-- where the steps have led, and what came from both sides
+pub record Ending : Type 0 where
+  pub moves : List Move
+  pub end : At
+  pub left : Inlet
+  pub right : Inlet
+
+-- a frame of a side is wanted, of which this holds
+abbrev pub IsWanted : Ending → (Inlet → Type 0) → Type 0
+IsWanted e P = ((want e.end.state ≡ take_left) × P e.left) ⊎ ((want e.end.state ≡ take_right) × P e.right)
+
+-- what is to be worked on isn't fit, where the database and the files are told, and the last frame that was taken begins at this byte
+abbrev pub IsUnfit : (User → Type 0) → Ending → ℕ → Type 0
+IsUnfit serves e at = (want e.end.state ≡ work) × (at ≡ last_place e.moves) × ((user : User) → serves user → (db : Db) (files : Files) → e.end.room.db ≡ Some db → e.end.room.shelf ≡ Some files → FitWork (quel user) e.end.state.mode db → ⊥)
+
+-- the work that was to follow has left a part of what it does, where the room is told
+abbrev pub LeftPart : Language quel_sorts → At → Outside → Type 0
+LeftPart L end after = (room : NetworkRoom quel_sorts) → Tells end.room room → LeavesPart L end.state.mode room end.room.out after
+
+-- how it ended: the stage has ended; its work failed, by a fault that may come; a count of a side rose; a stream ended where a frame of it was wanted; no more steps or bytes are counted; what is wanted is no frame, or one that may not be taken, or what is to be worked on isn't fit, and no Fault frame that tells a status is wanted; a Fault frame is wanted that tells a status; or no memory was left
+abbrev pub HowEnded : (User → Type 0) → ℕ → LocalState quel_sorts → Outside → Outside → Sides → Sides → Ending → Result (Unit {0}) LoopFault → Type 0
+HowEnded serves heard s' old new before after e (Ok x) = HasEnded e.end.state × (s' ≡ e.end.state) × (told new ≡ e.end.room)
+HowEnded serves heard s' old new before after e (Err (fault.Work f)) = (want e.end.state ≡ work) × (f ≡ work_fault.Unlawful → ⊥) × MayCome heard old new f × ((user : User) → serves user → LeftPart (quel user) e.end new)
+HowEnded serves heard s' old new before after e (Err fault.LeftRead) = (want e.end.state ≡ take_left) × Rose before.left.faults after.left.faults
+HowEnded serves heard s' old new before after e (Err fault.LeftWrite) = Faltered before.left.out after.left.out
+HowEnded serves heard s' old new before after e (Err fault.Right) = Faltered before.right.out after.right.out
+HowEnded serves heard s' old new before after e (Err fault.EndedEarly) = IsWanted e IsOver
+HowEnded serves heard s' old new before after e (Err fault.Spent) = (length e.moves ≡ 2 ^ 64 - 1) ⊎ (IsTooMuch e.left ⊎ IsTooMuch e.right)
+HowEnded serves heard s' old new before after e (Err (fault.BadFrame at)) = (IsWanted e (λ i. IsBroken i at ⊎ IsRefused serves e.end.state i at) ⊎ IsUnfit serves e at) × (want e.end.state ≡ take_right → IsUntold e.right)
+HowEnded serves heard s' old new before after e (Err (fault.Told status)) = (want e.end.state ≡ take_right) × IsTold e.right status
+HowEnded serves heard s' old new before after e (Err fault.OutOfMemory) = ⊤
+
+-- the room is as the last step left it, unless work failed: then what this leaves is said with its fault
+abbrev pub LeavesRoom : At → Outside → Result (Unit {0}) LoopFault → Type 0
+LeavesRoom end new (Ok x) = told new ≡ end.room
+LeavesRoom end new (Err (fault.Work f)) = ⊤
+LeavesRoom end new (Err (fault.BadFrame at)) = (want end.state ≡ work) ⊎ (told new ≡ end.room)
+LeavesRoom end new (Err _) = told new ≡ end.room
+
+-- all that was to be written to both sides was, and no count of an outlet rose
+pub record WroteAll (before after : Sides) (moves : List Move) : Type 0 where
+  pub left : Appends before.left.out.written after.left.out.written (frames_bytes (given_left moves))
+  pub right : Appends before.right.out.written after.right.out.written (frames_bytes (given_right moves))
+  pub left_counts : SameCounts before.left.out after.left.out
+  pub right_counts : SameCounts before.right.out after.right.out
+
+-- the source and the sink of the room are as they were, and nothing of the script was read
+pub record EndsKept (heard heard' : ℕ) (old new : Outside) : Type 0 where
+  pub same : ends new ≡ ends old
+  pub unread : heard' ≡ heard
+
+-- ---- what was read
+
+-- one frame more of a side was asked for than was taken, where the step that wanted it came to no end
+abbrev pub unmet : Want → Want → Result (Unit {0}) LoopFault → ℕ
+unmet take_left take_left (Err f) = 1
+unmet take_right take_right (Err f) = 1
+unmet _ _ _ = 0
+
+-- of a side these bytes were read, as the frames that were taken and what is unread; so many frames were asked for
+pub record SideRead (before after : Side) (taken : List Frame) (asked : ℕ) (bytes : List ℕ) (unread : Reading) : Type 0 where
+  pub heard : HasRead before.left bytes after.left
+  pub frames : behind_frames taken unread ≡ read 0 bytes
+  pub needed : IsNeeded asked bytes
+
+-- ---- the whole
+
+-- what a stage with this number has done that began here: steps, the frames of what was read in the order of the stream, from the right none that tells a status, the bytes of what was given and of a Fault frame, and how it ended
+pub record LoopDone (serves : User → Type 0) (place heard : ℕ) (s s' : LocalState quel_sorts) (old new : Outside) (before after : Sides) (result : Result (Unit {0}) LoopFault) : Type 0 where
+  pub moves : List Move
+  pub end : At
+  pub left_read : List ℕ
+  pub left_unread : Reading
+  pub right_read : List ℕ
+  pub right_unread : Reading
+  pub runs : (user : User) → serves user → LocalRun (quel user) moves (record { state = s; room = told old }) end
+  pub left : SideRead before.left after.left (taken_left moves) (length (taken_left moves) + unmet take_left (want end.state) result) left_read left_unread
+  pub right : SideRead before.right after.right (taken_right moves) (length (taken_right moves) + unmet take_right (want end.state) result) right_read right_unread
+  pub plain : All IsPlain (taken_right moves)
+  pub left_wrote : Wrote before.left.out after.left.out (frames_bytes (given_left moves) ++ fault_bytes place result)
+  pub right_wrote : Wrote before.right.out after.right.out (frames_bytes (given_right moves))
+  pub left_later : SideLater before.left after.left
+  pub right_later : SideLater before.right after.right
+  pub all : OnOk result (WroteAll before after moves)
+  pub room : LeavesRoom end new result
+  pub ended : HowEnded serves heard s' old new before after (record {
+    moves = moves;
+    end = end;
+    left = inlet (taken_left moves) left_read after.left.left left_unread;
+    right = inlet (taken_right moves) right_read after.right.left right_unread;
+  }) result

@@ -1,9 +1,0 @@
-use Rattle.std.proofs.Common.{sym, ap, ◌∙◌, map}
-use Rattle.calculus.specs.Aggregate.{source_kinds}
-use Rattle.calculus.specs.QueryParts.{targets_of}
-use Rattle.quel_causes.proofs.Linked.{rows_kinds}
-use Rattle.quel_causes.proofs.aggregates.source_kinds.Goals as goal
-
-pub returns-in_ok-query_kinds-in-Rows-clause-told : goal.returns-in_ok-query_kinds-in-Rows-clause-told
-returns-in_ok-query_kinds-in-Rows-clause-told g c = λ db h.
-    c.in_ok-query_kinds-in-Rows.ensures ∙ ap (λ q. map (λ t. t.kind) (targets_of q)) c.get.ensures ∙ rows_kinds db c.in-Rows.q ∙ sym (ap (source_kinds db) c.in-Rows.is)

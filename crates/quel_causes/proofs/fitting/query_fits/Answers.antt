@@ -1,9 +1,0 @@
-use Rattle.std.proofs.Common.{sym, ap, ◌∙◌, map, vec_items}
-use Rattle.calculus.specs.Stored.{kinds_at}
-use Rattle.view_sizes.proofs.Counting.{vars_is}
-use Rattle.quel_causes.proofs.fitting.query_fits.Goals as goal
-
-pub returns-clause-told : goal.returns-clause-told
-returns-clause-told g c = λ db h.
-    c.fits_over-fit.ensures.told db (c.in_ok-kinds.ensures.kept ∙ h)
-    (sym (ap (map vec_items) c.deref.ensures.value ∙ c.in_ok-kinds.ensures.told db h ∙ ap (map (kinds_at db)) (c.items.ensures ∙ vars_is c.args.q.now)))

@@ -1,5 +1,0 @@
-pub mod KindsKnown
-pub mod Putting
-pub mod Restricting
-pub mod Updating
-pub mod Whole

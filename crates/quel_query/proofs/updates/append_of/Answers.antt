@@ -1,6 +1,0 @@
-use Rattle.std.proofs.lemmas.Result.{IfOk-weaker}
-use Rattle.quel_query.proofs.Updating.{append_is}
-use Rattle.quel_query.proofs.updates.append_of.Goals as goal
-
-pub returns : goal.returns
-returns c = IfOk-weaker c.changing.result _ _ (λ u h scope name e few. append_is scope name _ _ u e (h few)) c.changing.ensures

@@ -1,6 +1,0 @@
-use Rattle.std.proofs.lemmas.Result.{IfOk-weaker}
-use Rattle.quel_query.proofs.Updating.{delete_is}
-use Rattle.quel_query.proofs.updates.delete_of.Goals as goal
-
-pub returns : goal.returns
-returns c = IfOk-weaker c.changing.result _ _ (λ u h scope name e few. delete_is scope name _ _ u e (h few)) c.changing.ensures

@@ -1,0 +1,15 @@
+use Rattle.std.proofs.Common.{◌≡◌, ◌∙◌, sym, ap, subst, option_map, IfOk}
+use Rattle.calculus.specs.Replacement.{first_cause}
+use Rattle.quel_refusals.proofs.Sourced.{few_in_query}
+use Rattle.quel_refusals.proofs.Standing.{causes_are, none_in_text}
+use Rattle.quel_refusals.proofs.judging.cause.Goals as goal
+
+pub returns-in-Some-clause-told : goal.returns-in-Some-clause-told
+returns-in-Some-clause-told g c = λ scope h u e f o a j.
+    subst (λ cs. IfOk c.changed_cause.result (λ n. n ≡ first_cause cs)) (causes_are scope c.args.s.now c.args.q.now e a)
+    (c.changed_cause.ensures.told scope c.args.q.now h (few_in_query scope c.args.s.now c.args.q.now e) (sym (ap (option_map (λ v. v.now)) c.in-Some.is) ∙ f))
+
+pub returns-in-None-clause-told : goal.returns-in-None-clause-told
+returns-in-None-clause-told g c = λ scope h u e f o a j.
+    subst (λ cs. IfOk c.unchanged_cause.result (λ n. n ≡ first_cause cs)) (causes_are scope c.args.s.now c.args.q.now e a)
+    (c.unchanged_cause.ensures.told scope h u (few_in_query scope c.args.s.now c.args.q.now e) (none_in_text scope c.args.s.now c.args.q.now e a) (sym (ap (option_map (λ v. v.now)) c.in-None.is) ∙ f) o j)

@@ -1,0 +1,18 @@
+use Rattle.std.proofs.Common.{sym, ap, ◌∙◌, arith, map, ◌++◌, ◌∷◌, []}
+use Rattle.std.proofs.lemmas.List.{take_all, map_more}
+use Rattle.calculus.specs.Stored.{kinds_at}
+use Rattle.quel_refusals.proofs.kinds.var_kinds.Goals as goal
+
+pub loop-key-preserved : goal.loop-key-preserved
+loop-key-preserved g c = record {
+  told = λ db h.
+      c.in_ok-put_behind.ensures
+      ∙ (λ i. c.loop-key.invariant.told db h i ++ (c.in_ok-more.ensures.told db (c.loop-key.invariant.kept ∙ h) ∙ ap (kinds_at db) c.key-item.is) i ∷ [])
+      ∙ sym (map_more (kinds_at db) c.args.vars.now c.loop-key.key-index c.key-item.result c.loop-key-test.true);
+  kept = c.in_ok-more.ensures.kept ∙ c.loop-key.invariant.kept;
+  same = c.in_ok-more.ensures.same ∙ c.loop-key.invariant.same;
+  later = omega (arith, c.in_ok-more.ensures.cause.later, c.loop-key.invariant.later);
+}
+
+pub returns-clause-told : goal.returns-clause-told
+returns-clause-told g c = λ db h. c.loop-key.invariant.told db h ∙ ap (map (kinds_at db)) (take_all c.loop-key.key-index c.args.vars.now c.loop-key-test.false)

@@ -1,0 +1,32 @@
+use Rattle.std.proofs.Common.{◌≡◌, sym, ap, ◌∙◌, arith, true, false, ◌&&◌}
+use Rattle.std.specs.List.{list_all}
+use Rattle.std.proofs.lemmas.List.{take_all}
+use Rattle.std.proofs.lemmas.List.Folds.{list_all_more, list_all_at}
+use Rattle.quel_check.specs.Known.{front}
+use Rattle.quel_meaning.specs.Aggregates.{aggregate_stands}
+use Rattle.quel_meaning.specs.WrittenParts.{aggregate_vars}
+use Rattle.quel_names.specs.Ranging.{each_ranges}
+use Rattle.quel_refusals.proofs.Aggregated.{one_passes}
+use Rattle.quel_refusals.proofs.standing_aggregates.all_stand.Goals as goal
+
+pub loop-aggregate-preserved : goal.loop-aggregate-preserved
+loop-aggregate-preserved g c = record {
+  told = λ s h r each.
+      let on : c.in_ok-stands.stands ≡ true = cc (c.if-not-stands.false) in
+      let one = one_passes (λ a. each_ranges s (front (aggregate_vars a))) (λ a. a.now) c.args.aggregates.now c.loop-aggregate.aggregate-index c.aggregate-item.result c.loop-aggregate-test.true c.aggregate-item.is each in
+      list_all_more (λ a. aggregate_stands s a.now) c.args.aggregates.now c.loop-aggregate.aggregate-index c.aggregate-item.result c.loop-aggregate-test.true
+      ∙ (λ i. c.loop-aggregate.invariant.told s h r each i && (ap (λ a. aggregate_stands s a.now) (sym c.aggregate-item.is) ∙ sym (c.in_ok-stands.ensures.told s (c.loop-aggregate.invariant.kept ∙ h) r one) ∙ on) i);
+  kept = c.in_ok-stands.ensures.kept ∙ c.loop-aggregate.invariant.kept;
+  same = c.in_ok-stands.ensures.same ∙ c.loop-aggregate.invariant.same;
+  later = omega (arith, c.in_ok-stands.ensures.cause.later, c.loop-aggregate.invariant.later);
+}
+
+pub returns-then-not-stands-clause-told : goal.returns-then-not-stands-clause-told
+returns-then-not-stands-clause-told g c = λ s h r each.
+    let off : c.in_ok-stands.stands ≡ false = cc (c.if-not-stands.true) in
+    let one = one_passes (λ a. each_ranges s (front (aggregate_vars a))) (λ a. a.now) c.args.aggregates.now c.loop-aggregate.aggregate-index c.aggregate-item.result c.loop-aggregate-test.true c.aggregate-item.is each in
+    sym (list_all_at (λ a. aggregate_stands s a.now) c.args.aggregates.now c.loop-aggregate.aggregate-index c.aggregate-item.result c.loop-aggregate-test.true
+    (ap (λ a. aggregate_stands s a.now) (sym c.aggregate-item.is) ∙ sym (c.in_ok-stands.ensures.told s (c.loop-aggregate.invariant.kept ∙ h) r one) ∙ off))
+
+pub returns-clause-told : goal.returns-clause-told
+returns-clause-told g c = λ s h r each. sym (c.loop-aggregate.invariant.told s h r each) ∙ ap (list_all (λ a. aggregate_stands s a.now)) (take_all c.loop-aggregate.aggregate-index c.args.aggregates.now c.loop-aggregate-test.false)

@@ -1,0 +1,16 @@
+use Rattle.std.proofs.Common.{◌≡◌, sym, ap, ◌∙◌, subst, Bool, None, Some, is_some}
+use Rattle.std.specs.Prelude.{IfOk}
+use Rattle.quel_meaning.specs.Scope.{ranged}
+use Rattle.quel_refusals.proofs.Aggregated.{found_is, known_plain}
+use Rattle.quel_refusals.proofs.standing_aggregates.ranges_plainly.Goals as goal
+
+pub returns-in-Some-clause-told : goal.returns-in-Some-clause-told
+returns-in-Some-clause-told g c = λ s h r there.
+    let known : ranged s c.args.var.now ≡ Some c.in-Some.info = found_is s c.args.ranges.now c.args.var.now _ _ r (c.in_ok-info.ensures.told s.db h) c.in-Some.is in
+    subst (λ (b : Bool). IfOk c.is_plain-plain.result (λ plain. plain ≡ b)) (known_plain s c.args.var.now c.in-Some.info known)
+    (c.is_plain-plain.ensures.told s.db (c.in_ok-info.ensures.kept ∙ h))
+
+pub returns-in-None-clause-told : goal.returns-in-None-clause-told
+returns-in-None-clause-told g c = λ s h r there.
+    let known : ranged s c.args.var.now ≡ None = found_is s c.args.ranges.now c.args.var.now _ _ r (c.in_ok-info.ensures.told s.db h) c.in-None.is in
+    absurd (cc (sym (ap is_some known) ∙ there))

@@ -1,0 +1,114 @@
+//! What refuses a statement whose names were found.
+
+ghost use Rattle.std.specs.Prelude.{◌≡◌, List, [], true, option_copied, option_map, IfOk, None, Some};
+ghost use Rattle.am_traits.specs.Causes.{HasCause};
+ghost use Rattle.calculus.specs.declared.query.Query.{Query};
+ghost use Rattle.calculus.specs.declared.statement.Item.{Item};
+ghost use Rattle.calculus.specs.declared.statement.Qual.{Qual};
+ghost use Rattle.calculus.specs.declared.statement.Statement.TheVariants as statement;
+ghost use Rattle.calculus.specs.QueryParts.{query_aggregates};
+ghost use Rattle.calculus.specs.Replacement.{first_cause};
+ghost use Rattle.quel_refusals.specs.Judged.{IsOn, is_judged, update_of};
+ghost use Rattle.quel_meaning.specs.Aggregates.{aggregates_stand, keeps_a_text};
+ghost use Rattle.quel_meaning.specs.Causes.{causes, causes_by};
+ghost use Rattle.quel_meaning.specs.Scope.{Scope};
+ghost use Rattle.quel_meaning.specs.WrittenQuery.{query_of};
+ghost use Rattle.view_sizes.specs.Listing.{sources_list_few};
+
+use crate::changed::{delete_cause, update_cause};
+use crate::created::create_cause;
+use crate::restricted::{permit_cause, rule_cause};
+use crate::retrieved::{into_cause, print_cause};
+use crate::viewed::view_cause;
+use am_traits::{Base, BaseFault};
+use calculus::{Name, Query, RelInfo, Statement, Update};
+use std::alloc::Global;
+
+/// What refuses a `retrieve`, into a relation of this name or printed.
+fn retrieve_cause<B: Base>(
+    alloc: Global,
+    base: &mut B,
+    user: &Name,
+    into: &Option<Name>,
+    sort: &[(Name, bool)],
+    q: &Query,
+) -> Result<Option<u8>, BaseFault>
+    ensures told { (s : Scope) (items : List Item) (qual : Qual) → B.database base.old ≡ Some s.db → s.user ≡ user.now → sources_list_few q.now ≡ true → IfOk result (λ n. n ≡ first_cause (causes_by s true q.now (statement.Retrieve into.now items qual sort.now))) }
+    ensures kept { B.database base.new ≡ B.database base.old }
+    ensures same { B.left base.new ≡ B.left base.old }
+    ensures cause { HasCause (B.database base.old) (B.faults base.old) (B.faults base.new) result }
+{
+    match into {
+        Some(name) => into_cause(alloc, base, user, name, sort, q),
+        None => print_cause(alloc, base, sort, q),
+    }
+}
+
+/// What refuses an append, a replacement or a deletion that is this update.
+fn changed_cause<B: Base>(
+    alloc: Global,
+    base: &mut B,
+    s: &Statement,
+    u: &Update,
+) -> Result<Option<u8>, BaseFault>
+    ensures told { (scope : Scope) (q : Query) → B.database base.old ≡ Some scope.db → sources_list_few q ≡ true → Some u.now ≡ update_of scope s.now q → IfOk result (λ n. n ≡ first_cause (causes_by scope true q s.now)) }
+    ensures kept { B.database base.new ≡ B.database base.old }
+    ensures same { B.left base.new ≡ B.left base.old }
+    ensures cause { HasCause (B.database base.old) (B.faults base.old) (B.faults base.new) result }
+{
+    match s {
+        Statement::Delete { .. } => delete_cause(alloc, base, u),
+        _ => update_cause(alloc, base, u),
+    }
+}
+
+/// What refuses a statement that is no update, whose query is this, and whose aggregates may stand: a
+/// view, a permit and a rule has none.
+fn unchanged_cause<B: Base>(
+    alloc: Global,
+    base: &mut B,
+    user: &Name,
+    s: &Statement,
+    q: &Query,
+    on: Option<&RelInfo>,
+) -> Result<Option<u8>, BaseFault>
+    ensures told { (scope : Scope) → B.database base.old ≡ Some scope.db → scope.user ≡ user.now → sources_list_few q.now ≡ true → (keeps_a_text s.now ≡ true → query_aggregates q.now ≡ []) → None ≡ update_of scope s.now q.now → IsOn scope s.now (option_copied on.entry) → is_judged s.now ≡ true → IfOk result (λ n. n ≡ first_cause (causes_by scope true q.now s.now)) }
+    ensures kept { B.database base.new ≡ B.database base.old }
+    ensures same { B.left base.new ≡ B.left base.old }
+    ensures cause { HasCause (B.database base.old) (B.faults base.old) (B.faults base.new) result }
+{
+    match s {
+        Statement::Retrieve { into, sort, .. } => {
+            retrieve_cause(alloc, base, user, into, sort.items(), q)
+        }
+        Statement::Create { rel, attrs } => create_cause(alloc, base, user, rel, attrs.items()),
+        Statement::View { name, .. } => view_cause(alloc, base, user, name, q),
+        Statement::Permit { attrs, .. } => permit_cause(alloc, base, on, attrs.items(), q),
+        Statement::Rule { .. } => rule_cause(alloc, base, on, q),
+        _ => Ok(None),
+    }
+}
+
+/// The number of the first cause that refuses a statement whose names were found and whose aggregates may
+/// stand, for this user; `None` where there is none. `q` is the statement's query, `update` the update that it is where it
+/// appends, replaces or deletes, and `on` what is known of what the variable of a permit or a rule
+/// ranges over. Nothing is said of `destroy`, `modify`, `index`, `print`, `help` and `copy`.
+pub fn cause<B: Base>(
+    alloc: Global,
+    base: &mut B,
+    user: &Name,
+    s: &Statement,
+    q: &Query,
+    update: Option<&Update>,
+    on: Option<&RelInfo>,
+) -> Result<Option<u8>, BaseFault>
+    ensures told { (scope : Scope) → B.database base.old ≡ Some scope.db → scope.user ≡ user.now → q.now ≡ query_of scope s.now → option_map (λ v. v.now) update.entry ≡ update_of scope s.now q.now → IsOn scope s.now (option_copied on.entry) → aggregates_stand scope s.now ≡ true → is_judged s.now ≡ true → IfOk result (λ n. n ≡ first_cause (causes scope s.now)) }
+    ensures kept { B.database base.new ≡ B.database base.old }
+    ensures same { B.left base.new ≡ B.left base.old }
+    ensures cause { HasCause (B.database base.old) (B.faults base.old) (B.faults base.new) result }
+{
+    match update {
+        Some(u) => changed_cause(alloc, base, s, u),
+        None => unchanged_cause(alloc, base, user, s, q, on),
+    }
+}

@@ -1,0 +1,34 @@
+use Rattle.std.proofs.Common.{sym, subst, ◌∙◌, [], arith}
+use Rattle.std.proofs.lemmas.List.{take_all}
+use Rattle.quel_resolve.specs.Targets.{Puts}
+use Rattle.quel_resolve.proofs.Putting.{counts_one_more, puts_nothing, puts_one_more}
+use Rattle.quel_resolve.proofs.targets.targets_from.Goals as goal
+
+pub loop-item-init : goal.loop-item-init
+loop-item-init g c =
+    let k = c.args.known in
+    record {
+      told = λ db h. subst (λ ts. Puts db k.vars.now k.infos.now k.inner_vars.now k.inner_infos.now 0 [] [] ts) (sym c.new-targets.ensures.items) (puts_nothing db _ _ _ _ 0 []);
+      counted = λ few. omega arith;
+      kept = cc;
+      same = cc;
+      later = omega arith;
+    }
+
+pub loop-item-preserved : goal.loop-item-preserved
+loop-item-preserved g c = record {
+  told = λ db h.
+      puts_one_more db _ _ _ _ c.args.items.now c.loop-item.item-index c.item-item.result c.loop-item.slot _ _ _ c.loop-item-test.true c.item-item.is c.loop-item.invariant.counted
+      (c.loop-item.invariant.told db h) (c.in_ok-push_item.ensures.told db (c.loop-item.invariant.kept ∙ h));
+  counted = counts_one_more c.args.items.now c.loop-item.item-index c.item-item.result c.loop-item.slot c.slot_behind_item-slot.result c.loop-item-test.true c.item-item.is c.loop-item.invariant.counted
+      c.slot_behind_item-slot.ensures;
+  kept = c.in_ok-push_item.ensures.kept ∙ c.loop-item.invariant.kept;
+  same = c.in_ok-push_item.ensures.same ∙ c.loop-item.invariant.same;
+  later = omega (arith, c.in_ok-push_item.ensures.cause.later, c.loop-item.invariant.later);
+}
+
+pub returns-clause-told : goal.returns-clause-told
+returns-clause-told g c = λ db h.
+    let k = c.args.known in
+    subst (λ is. Puts db k.vars.now k.infos.now k.inner_vars.now k.inner_infos.now 0 is [] c.loop-item.targets.items) (take_all c.loop-item.item-index c.args.items.now c.loop-item-test.false)
+    (c.loop-item.invariant.told db h)

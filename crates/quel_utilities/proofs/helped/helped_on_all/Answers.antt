@@ -1,6 +1,0 @@
-use Rattle.std.proofs.Common.{refl, sym}
-use Rattle.quel_names.specs.Asking.{scope_of}
-use Rattle.quel_utilities.proofs.helped.helped_on_all.Goals as goal
-
-pub returns-clause-told : goal.returns-clause-told
-returns-clause-told g c = λ db ranges h. c.in_ok-tree.ensures (scope_of db c.args.user.now ranges) refl (sym (c.in_ok-dba.ensures.told db h))

@@ -1,0 +1,3 @@
+pub mod Shallow
+pub mod Levels
+pub mod Records

@@ -1,4 +1,0 @@
-pub mod Terms
-pub mod Statements
-pub mod Trees
-pub mod Resolved

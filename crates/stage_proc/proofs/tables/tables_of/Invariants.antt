@@ -1,0 +1,15 @@
+use Rattle.std.proofs.Common.{◌≡◌, ◌≤◌, Some, false, map, take}
+use Rattle.calculus.specs.Database.{Db}
+use Rattle.calculus.specs.Who.{Free}
+use Rattle.quel_meaning.specs.Tables.{table_of, some_query_lacks}
+use Rattle.stage_proc.proofs.tables.tables_of.Given as goal
+
+abbrev pub invariant-loop-one : goal.invariant-loop-one
+invariant-loop-one g l = record {
+  kept : g.B.Base.database l.base ≡ g.B.Base.database l.fn.base;
+  same : g.B.Base.left l.base ≡ g.B.Base.left l.fn.base;
+  asked : (b : _) → g.B.Base.asked b l.fn.base → g.B.Base.asked b l.base;
+  later : g.B.Base.faults l.fn.base ≤ g.B.Base.faults l.base;
+  told : (db : Db) → g.B.Base.database l.fn.base ≡ Some db → l.tables.items ≡ map (table_of db Free) (take l.one-index l.asked);
+  none_lacks : (db : Db) → g.B.Base.database l.fn.base ≡ Some db → some_query_lacks db Free (take l.one-index l.asked) ≡ false;
+}

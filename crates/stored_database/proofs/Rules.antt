@@ -1,0 +1,76 @@
+-- A rule is made, or rules are dropped.
+use Rattle.std.proofs.lemmas.Cmp.{tied_itself}
+use Rattle.stored_database.proofs.Orders.{numbered_total}
+use Rattle.std.proofs.Common.{◌≡◌, refl, inr, ℕ, ◌&&◌, List, [], ◌∷◌}
+use Rattle.std.specs.declared.cmp.Ordering.{Ordering}
+use Rattle.std.specs.declared.cmp.Ordering.TheVariants.{Equal}
+use Rattle.calculus.specs.declared.query.RelKey.{RelKey}
+use Rattle.calculus.specs.declared.change.DbChange.TheVariants as change
+use Rattle.calculus.specs.declared.schema.Rule.{Rule}
+use Rattle.calculus.specs.Change.{laid, adds_what_is_new}
+use Rattle.calculus.specs.Keys.{same_key, numbered_cmp}
+use Rattle.calculus.specs.Lists.{has_number, insert_by}
+use Rattle.stored_database.specs.Printed.{entries_for}
+use Rattle.stored_database.proofs.Members.{IsIn}
+use Rattle.stored_database.proofs.PrintedTrees.{parts_are, trees_for, same_tree, told_trees, rule_tree}
+use Rattle.stored_database.proofs.Sets.{in_insert}
+use Rattle.stored_database.specs.ChangeLaws.{resizes}
+use Rattle.stored_database.specs.Moves.{going, coming, nothing, dropped_rules}
+use Rattle.stored_database.proofs.Lists.{among_rest, moved_three, moved_out, moved_in}
+use Rattle.stored_database.proofs.Numbered.{number_is_fresh}
+use Rattle.stored_database.proofs.Three.{entries_are_apart, attributes_are_apart, attributes_for, columns_are, trees_are_apart, rule_trees}
+use Rattle.stored_database.proofs.Staying.{rule_tree_stays}
+use Rattle.stored_database.proofs.Unmoved.{Moves, entries_same, attributes_same, view_trees_same, permit_trees_same}
+
+module _ (rel : RelKey) (made : Rule) where
+  abbrev by_number : RelKey × Rule → RelKey × Rule → Ordering
+  by_number = numbered_cmp (λ (p : Rule). p.number)
+
+  pub rule : Moves (change.Rule rel made)
+  unfolding laid going coming entries_for adds_what_is_new resizes
+  rule db f after stands new_stands lawful agree = record {
+    gone_attributes = [];
+    come_attributes = attributes_for after (record nothing { rules = (rel, made) ∷ [] });
+    gone_trees = [];
+    come_trees = trees_for after (record nothing { rules = (rel, made) ∷ [] });
+    gone_columns_are = refl;
+    come_columns_are = columns_are after (record nothing { rules = (rel, made) ∷ [] });
+    gone_parts_are = refl;
+    come_parts_are = parts_are after (record nothing { rules = (rel, made) ∷ [] });
+    entries = entries_same f after db (change.Rule rel made) stands new_stands agree (λ r at. at) (λ r. refl) (λ v at. at) (λ x at. at) (entries_are_apart after (laid db (change.Rule rel made)) new_stands);
+    columns = attributes_same f after db (change.Rule rel made) stands new_stands agree (λ r at. at) (λ v at. at) (λ x at. at) (attributes_are_apart after (laid db (change.Rule rel made)) new_stands);
+    trees = moved_three same_tree told_trees.itself told_trees.turned
+        (view_trees_same f after db (change.Rule rel made) stands new_stands agree (λ v at. at))
+        (moved_in same_tree told_trees.itself told_trees.turned (rule_tree f) (rule_tree after) db.rules by_number (rel, made) (tied_itself (numbered_total (λ (p : Rule). p.number)) (rel, made)) (rule_trees after (laid db (change.Rule rel made)) new_stands) fresh
+        (λ p at. rule_tree_stays f after db (change.Rule rel made) stands new_stands agree p at (kept p at)))
+        (permit_trees_same f after db (change.Rule rel made) stands new_stands agree (λ p at. at))
+        (trees_are_apart f db stands) (trees_are_apart after (laid db (change.Rule rel made)) new_stands);
+  }
+    where
+      fresh : (p : RelKey × Rule) → IsIn p db.rules → by_number (rel, made) p ≡ Equal → ⊥
+      fresh p at e = number_is_fresh (λ (p : Rule). p.number) db.rules rel made lawful.additions_are_new p at e
+
+      kept : (p : RelKey × Rule) → IsIn p db.rules → IsIn p (insert_by by_number (rel, made) db.rules)
+      kept p at = in_insert by_number (rel, made) db.rules p (λ s k e. absurd (fresh s k e)) (inr at)
+
+module _ (rel : RelKey) (numbers : List ℕ) where
+  pub rules_dropped : Moves (change.DropRules rel numbers)
+  unfolding laid going coming entries_for resizes
+  rules_dropped db f after stands new_stands lawful agree = record {
+    gone_attributes = attributes_for f (dropped_rules rel numbers db);
+    come_attributes = [];
+    gone_trees = trees_for f (dropped_rules rel numbers db);
+    come_trees = [];
+    gone_columns_are = columns_are f (dropped_rules rel numbers db);
+    come_columns_are = refl;
+    gone_parts_are = parts_are f (dropped_rules rel numbers db);
+    come_parts_are = refl;
+    entries = entries_same f after db (change.DropRules rel numbers) stands new_stands agree (λ r at. at) (λ r. refl) (λ v at. at) (λ x at. at) (entries_are_apart after (laid db (change.DropRules rel numbers)) new_stands);
+    columns = attributes_same f after db (change.DropRules rel numbers) stands new_stands agree (λ r at. at) (λ v at. at) (λ x at. at) (attributes_are_apart after (laid db (change.DropRules rel numbers)) new_stands);
+    trees = moved_three same_tree told_trees.itself told_trees.turned
+        (view_trees_same f after db (change.DropRules rel numbers) stands new_stands agree (λ v at. at))
+        (moved_out same_tree told_trees.itself told_trees.turned (rule_tree f) (rule_tree after) db.rules (λ p. same_key p.0 rel && has_number numbers p.1.number) (rule_trees f db stands)
+        (λ p at off. rule_tree_stays f after db (change.DropRules rel numbers) stands new_stands agree p at (among_rest (λ p. same_key p.0 rel && has_number numbers p.1.number) db.rules p at off)))
+        (permit_trees_same f after db (change.DropRules rel numbers) stands new_stands agree (λ p at. at))
+        (trees_are_apart f db stands) (trees_are_apart after (laid db (change.DropRules rel numbers)) new_stands);
+  }

@@ -1,0 +1,138 @@
+-- How many conditions texts have, how deep these and their terms are.
+use Rattle.std.proofs.Common.{◌≡◌, refl, ap, ℕ, zero, suc, ◌+◌, ◌≤◌, Bool, true, false, cond, List, [], ◌∷◌, ◌++◌, map, length, filter, arith}
+use Rattle.std.specs.List.{AllByRecursion, list_all, enumerate_from}
+use Rattle.calculus.specs.declared.query.RelKey.{RelKey}
+use Rattle.calculus.specs.declared.query.QQual.{QQual, True}
+use Rattle.calculus.specs.declared.query.Query.{Query}
+use Rattle.calculus.specs.Tree.{negated}
+use Rattle.calculus.specs.Term.{holds, no_aggs}
+use Rattle.calculus.specs.TreeLevels.{term_levels}
+use Rattle.calculus.specs.Lists.{is_any}
+use Rattle.calculus.specs.Used.{used_in_query}
+use Rattle.view_text.specs.declared.text.Text.{Text}
+use Rattle.view_text.specs.Replaced.{moved_qual}
+use Rattle.view_text.specs.Texts.{TextSource, attr_term, used_text, put_from, conditions_from}
+use Rattle.view_text.specs.TextOf.{settled}
+use Rattle.tree_laws.proofs.Joined.{doubled, Low, low_append}
+use Rattle.tree_laws.proofs.Replaced.{moved_low, all_moved_low}
+
+-- ---- numbers
+
+-- a number added so many times
+unfoldable pub many : ℕ → ℕ → ℕ
+many zero k = 0
+many (suc n) k = k + many n k
+
+pub many_more : (m n k : ℕ) → m ≤ n → many m k ≤ many n k
+unfolding many
+many_more zero n k h = omega arith
+many_more (suc m) zero k h = absurd (omega (arith, h))
+many_more (suc m) (suc n) k h = let less : m ≤ n = omega (arith, h) in let more = many_more m n k less in omega (arith, more)
+
+-- how often one is doubled to have room for the conditions of what stands on so many levels of views
+unfoldable pub exponent : ℕ → ℕ
+exponent zero = 8
+exponent (suc n) = suc (suc (suc (suc (exponent n))))
+
+-- room for so many conditions
+abbrev pub room : ℕ → ℕ
+room n = doubled (exponent n)
+
+pub first_room : room zero ≡ 256
+unfolding exponent doubled
+first_room = refl
+
+sixteen_fold : (n : ℕ) → room (suc n) ≡ many 16 (room n)
+unfolding exponent doubled many
+sixteen_fold n = omega arith
+
+pub room_some : (n : ℕ) → 256 ≤ room n
+unfolding many
+room_some zero = let first = first_room in omega (arith, first)
+room_some (suc n) = let fold = sixteen_fold n in let more = room_some n in omega (arith, fold, more)
+
+-- a qualification, the values of at most so many targets, and the conditions of ten variables
+pub room_more : (n : ℕ) → 1001 + many 10 (room n) ≤ room (suc n)
+unfolding many
+room_more n = let fold = sixteen_fold n in let some = room_some n in omega (arith, fold, some)
+
+-- ---- conditions of texts that stand one behind the other
+
+long_moved : (n : ℕ) (qs ys : List QQual) → length (map (moved_qual n) qs ++ ys) ≡ length qs + length ys
+long_moved n [] ys = omega arith
+long_moved n (q ∷ qs) ys = let more = long_moved n qs ys in omega (arith, more)
+
+pub conditions_few : (k : ℕ) (texts : List Text) → AllByRecursion (λ t. length t.conditions ≤ k) texts → (n : ℕ) → length (conditions_from n texts) ≤ many (length texts) k
+unfolding many
+conditions_few k [] few n = omega arith
+conditions_few k (text ∷ texts) few n =
+    let own = few.0 in
+    let more = conditions_few k texts few.1 (n + length text.vars) in
+    let long = long_moved n text.conditions (conditions_from (n + length text.vars) texts) in
+    omega (arith, own, more, long)
+
+pub conditions_low : (m : ℕ) (texts : List Text) → AllByRecursion (λ t. Low m t.conditions) texts → (n : ℕ) → Low m (conditions_from n texts)
+conditions_low m [] low n = tt
+conditions_low m (text ∷ texts) low n =
+    low_append m (map (moved_qual n) text.conditions) (conditions_from (n + length text.vars) texts) (all_moved_low m n text.conditions low.0) (conditions_low m texts low.1 (n + length text.vars))
+
+-- the terms of texts, wherever they stand
+pub put_low : (m : ℕ) (texts : List Text) → 2 ≤ m → AllByRecursion (λ t. (a : ℕ) → term_levels (attr_term t a) ≤ m) texts → (n v a : ℕ) → term_levels (put_from n texts v a) ≤ m
+put_low m [] two low n v a = omega (arith, two)
+put_low m (text ∷ texts) two low n zero a = let own = low.0 a in let less = moved_low n (attr_term text a) in omega (arith, own, less)
+put_low m (text ∷ texts) two low n (suc v) a = put_low m texts two low.1 (n + length text.vars) v a
+
+-- ---- of used variables alone
+
+-- no more than of each that is used
+pub used_few : (m : ℕ) (texts : TextSource) → ((key : RelKey) (attrs : List ℕ) → length (texts key attrs).conditions ≤ m) → (q : Query) (k n : ℕ) (keys : List RelKey)
+    → length (conditions_from n (map (λ p. used_text texts p.1 (used_in_query p.0 q)) (enumerate_from k keys)))
+    ≤ many (length (filter (λ p. is_any (used_in_query p.0 q)) (enumerate_from k keys))) m
+unfolding many
+used_few m texts few q k n [] = omega arith
+used_few m texts few q k n (key ∷ keys) = by (used_in_query k q) (few key) (λ place. used_few m texts few q (k + 1) place keys)
+  where
+    rest : List Text
+    rest = map (λ p. used_text texts p.1 (used_in_query p.0 q)) (enumerate_from (k + 1) keys)
+
+    more : List (ℕ × RelKey)
+    more = filter (λ p. is_any (used_in_query p.0 q)) (enumerate_from (k + 1) keys)
+
+    by : (attrs : List ℕ) → ((attrs : List ℕ) → length (texts key attrs).conditions ≤ m) → ((place : ℕ) → length (conditions_from place rest) ≤ many (length more) m)
+        → length (conditions_from n (used_text texts key attrs ∷ rest)) ≤ many (length (cond (is_any attrs) ((k, key) ∷ more) more)) m
+    by [] one later = let h = later (n + 0) in h
+    by (a ∷ attrs) one later =
+        let own = one (a ∷ attrs) in
+        let h = later (n + length (texts key (a ∷ attrs)).vars) in
+        let long = long_moved n (texts key (a ∷ attrs)).conditions (conditions_from (n + length (texts key (a ∷ attrs)).vars) rest) in
+        omega (arith, own, h, long)
+
+-- what holds of each text of a source, and of that of a variable that is not used, holds of each of a query's
+pub all_texts : (P : Text → Type 0) (texts : TextSource) → ((key : RelKey) (attrs : List ℕ) → P (used_text texts key attrs)) → (q : Query) (k : ℕ) (keys : List RelKey)
+    → AllByRecursion P (map (λ p. used_text texts p.1 (used_in_query p.0 q)) (enumerate_from k keys))
+all_texts P texts each q k [] = tt
+all_texts P texts each q k (key ∷ keys) = (each key (used_in_query k q), all_texts P texts each q (k + 1) keys)
+
+pub texts_long : (texts : TextSource) (q : Query) (k : ℕ) (keys : List RelKey) → length (map (λ p. used_text texts p.1 (used_in_query p.0 q)) (enumerate_from k keys)) ≡ length keys
+texts_long texts q k [] = refl
+texts_long texts q k (key ∷ keys) = ap suc (texts_long texts q (k + 1) keys)
+
+-- ---- what is settled
+
+pub settled_low : (m : ℕ) (vars : List RelKey) (conditions : List QQual) → 2 ≤ m → Low m conditions → Low m (settled vars conditions)
+unfolding settled
+settled_low m [] conditions two low = by (list_all (λ q. holds no_aggs q []) conditions)
+  where
+    by : (b : Bool) → Low m (elim b [ true ↦ [] | false ↦ negated True ∷ [] ])
+    by true = tt
+    by false = (omega (arith, two), tt)
+settled_low m (key ∷ vars) conditions two low = low
+
+pub settled_few : (k : ℕ) (vars : List RelKey) (conditions : List QQual) → 1 ≤ k → length conditions ≤ k → length (settled vars conditions) ≤ k
+unfolding settled
+settled_few k [] conditions one few = by (list_all (λ q. holds no_aggs q []) conditions)
+  where
+    by : (b : Bool) → length {A = QQual} (elim b [ true ↦ [] | false ↦ negated True ∷ [] ]) ≤ k
+    by true = omega arith
+    by false = omega (arith, one)
+settled_few k (key ∷ vars) conditions one few = few

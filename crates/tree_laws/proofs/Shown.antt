@@ -1,0 +1,51 @@
+-- What texts tell of rows, in the words of members.
+use Rattle.std.proofs.Common.{◌≡◌, ℕ, true, List, Contains}
+use Rattle.calculus.specs.declared.query.RelKey.{RelKey}
+use Rattle.calculus.specs.declared.query.Query.{Query}
+use Rattle.calculus.specs.Database.{Db}
+use Rattle.calculus.specs.IsDatabase.{IsDatabase}
+use Rattle.calculus.specs.Rows.{Row}
+use Rattle.calculus.specs.Term.{Env, no_aggs}
+use Rattle.calculus.specs.Assignments.{choices}
+use Rattle.calculus.specs.QueryParts.{vars_of}
+use Rattle.calculus.specs.Used.{used_in_query}
+use Rattle.calculus.specs.VariableRows.{rows_of}
+use Rattle.calculus.specs.Who.{Who}
+use Rattle.calculus_laws.proofs.Members.{choices-Chosen, Chosen-choices}
+use Rattle.calculus_laws.proofs.Asked.{In-Contains, Contains-In}
+use Rattle.view_text.specs.declared.text.Text.{Text}
+use Rattle.view_text.specs.Texts.{used_text}
+use Rattle.view_text.specs.Scoped.{is_scoped}
+use Rattle.view_text.specs.TextOf.{text_of}
+use Rattle.view_text.specs.PutIn.{put_in}
+use Rattle.tree_laws.specs.Telling.{HasRow, TellsOf}
+use Rattle.tree_laws.proofs.Joint.{kept_lists, all_hold, Tells}
+use Rattle.tree_laws.proofs.Told.{all_told}
+use Rattle.tree_laws.proofs.Sound.{no_views, each_kept_at, used_sound, all_sound}
+
+shown : (db : Db) (rows : List Row) (text : Text) → Tells db rows text → TellsOf db rows text
+shown db rows text tells = record { one_of_them = to; each_of_them = from }
+  where
+    to : (e : Env) → Contains (choices (kept_lists db text.vars)) e → all_hold no_aggs text.conditions e ≡ true → (row : Row) × Contains rows row × HasRow db text row e
+    to e chosen holding =
+        let (row, inside, values) = tells.to e (choices-Chosen (kept_lists db text.vars) e (Contains-In (choices (kept_lists db text.vars)) e chosen)) holding in
+        (row, In-Contains rows row inside, record { chosen = chosen; holding = holding; values = values })
+
+    from : (row : Row) → Contains rows row → (e : Env) × HasRow db text row e
+    from row inside =
+        let (e, chosen, holding, values) = tells.from row (Contains-In rows row inside) in
+        (e, record { chosen = In-Contains (choices (kept_lists db text.vars)) e (Chosen-choices (kept_lists db text.vars) e chosen); holding = holding; values = values })
+
+pub text_tells : (db : Db) (who : Who) (key : RelKey) (attrs : List ℕ) → TellsOf db (rows_of db who key attrs) (text_of db who key attrs)
+text_tells db who key attrs = shown db (rows_of db who key attrs) (text_of db who key attrs) (all_told db who key attrs)
+
+pub text_kept : (db : Db) → IsDatabase db → (who : Who) (key : RelKey) (attrs : List ℕ) → no_views db (text_of db who key attrs).vars ≡ true
+text_kept db d who key attrs = (all_sound db who d key attrs).kept
+
+pub text_scoped : (db : Db) (who : Who) (key : RelKey) (attrs : List ℕ) → is_scoped (text_of db who key attrs) ≡ true
+text_scoped db who key attrs = (all_told db who key attrs).scoped
+
+pub query_kept : (db : Db) → IsDatabase db → (who : Who) (q : Query) → no_views db (vars_of (put_in db who q)) ≡ true
+unfolding put_in
+query_kept db d who q =
+    each_kept_at db (λ v key. used_text (text_of db who) key (used_in_query v q)) (λ v key. used_sound db (text_of db who) (all_sound db who d) key (used_in_query v q)) 0 (vars_of q)

@@ -1,0 +1,186 @@
+-- In a database the text of what stands under a key names only base relations and catalogues, names only its own variables, and each of them.
+use Rattle.std.proofs.Common.{◌≡◌, refl, sym, ap, ◌∙◌, inl, inr, ℕ, suc, ◌+◌, Bool, true, ◌&&◌, List, [], ◌∷◌, map, length, Option, Some, None, arith}
+use Rattle.std.proofs.lemmas.Bool.Decides.{nat_tests}
+use Rattle.std.specs.Prelude.{nat_lt, filter, option_map}
+use Rattle.std.specs.List.{list_all, enumerate_from}
+use Rattle.calculus.specs.declared.query.RelKey.{RelKey}
+use Rattle.calculus.specs.declared.query.QQual.{QQual}
+use Rattle.calculus.specs.Keys.{same_key}
+use Rattle.calculus.specs.Lists.{is_any}
+use Rattle.calculus.specs.Limits.{greatest_level}
+use Rattle.calculus.specs.Who.{Who, Free}
+use Rattle.calculus.specs.Database.{Db, Relation, View, relation_at, view_at}
+use Rattle.calculus.specs.Catalogue.{catalogue_at}
+use Rattle.calculus.specs.IsDatabase.{IsDatabase, query_stands}
+use Rattle.calculus.specs.Stored.{Range, Kept, Viewed, range_at, rows_at, kept_rows}
+use Rattle.calculus.specs.Rights.{Retrieve, may}
+use Rattle.calculus.specs.Rows.{Row}
+use Rattle.calculus.specs.Assignments.{rows_used}
+use Rattle.calculus.specs.VariableRows.{range_rows, rows_within, rows_of}
+use Rattle.calculus.specs.QueryParts.{query_aggregates, vars_of}
+use Rattle.calculus.specs.Used.{used_in_query}
+use Rattle.calculus_laws.specs.Expansion.{is_no_view}
+use Rattle.calculus_laws.proofs.SameRows.{all_at}
+use Rattle.calculus_laws.proofs.Through.{each_told, told_view, told_at, rows_told}
+use Rattle.calculus_laws.proofs.ViewAnswer.{stands_plain, found}
+use Rattle.view_text.specs.declared.text.Text.{Text}
+use Rattle.view_text.specs.Scoped.{is_qual_within, is_scoped}
+use Rattle.view_text.specs.Texts.{TextSource, no_text, used_text, query_texts, texts_vars}
+use Rattle.view_text.specs.TextOf.{cut, kept_text, past_text, view_text, text_within, text_of}
+use Rattle.tree_laws.proofs.Scopes.{both_true}
+use Rattle.tree_laws.proofs.Joint.{both_are, all_append}
+use Rattle.tree_laws.proofs.Told.{cut_within, texts_told}
+use Rattle.tree_laws.proofs.Within.{all_scoped, rows_text_scoped}
+use Rattle.tree_laws.proofs.Placed.{NamesAll, placed_first, kept_names, rows_name}
+
+-- ---- views in a database
+
+-- what stands there, as one looks for it
+abbrev ranged : Option Relation → Option View → Option Relation → Option Range
+ranged r v c = elim r [
+  | Some relation ↦ Some (Kept relation)
+  | None ↦ elim v [ Some view ↦ Some (Viewed view) | None ↦ option_map Kept c ]
+]
+
+viewed_one : (r c : Option Relation) (v : Option View) (view : View) → ranged r v c ≡ Some (Viewed view) → v ≡ Some view
+viewed_one (Some relation) c v view h = cc h
+viewed_one None c (Some other) view h = cc h
+viewed_one None (Some relation) None view h = cc h
+viewed_one None None None view h = cc h
+
+pub viewed : (db : Db) (key : RelKey) (view : View) → range_at db key ≡ Some (Viewed view) → view_at db key ≡ Some view
+unfolding range_at
+viewed db key view h = viewed_one (relation_at db key) (catalogue_at db key) (view_at db key) view h
+
+pub plain_view : (db : Db) → IsDatabase db → (key : RelKey) (view : View) → range_at db key ≡ Some (Viewed view) → query_aggregates view.query ≡ []
+plain_view db d key view h =
+    stands_plain db view.query
+    (all_at (λ v. query_stands db v.query) db.views view (found (λ v. same_key v.info.key key) db.views view (viewed db key view h)).0 d.view_queries_stand)
+
+-- ---- sound texts
+
+-- no view stands under any of these keys
+abbrev pub no_views : Db → List RelKey → Bool
+no_views db keys = list_all (λ key. is_no_view (range_at db key)) keys
+
+pub record IsSound (db : Db) (text : Text) : Type 0 where
+  pub scoped : is_scoped text ≡ true
+  pub names : NamesAll text
+  pub kept : no_views db text.vars ≡ true
+
+-- the texts of all keys are sound
+abbrev pub AreSound : Db → TextSource → Type 0
+AreSound db texts = (key : RelKey) (attrs : List ℕ) → IsSound db (texts key attrs)
+
+pub kept_sound : (db : Db) (conditions : List QQual) (key : RelKey) → list_all (is_qual_within 1) conditions ≡ true → is_no_view (range_at db key) ≡ true → IsSound db (kept_text conditions key)
+kept_sound db conditions key within kept = record { scoped = within; names = kept_names conditions key; kept = both_are (is_no_view (range_at db key)) true kept refl }
+
+pub no_text_sound : (db : Db) → IsSound db no_text
+no_text_sound db = record { scoped = refl; names = λ v h. absurd (grind (arith, nat_tests, h)); kept = refl }
+
+past_sound : (db : Db) → IsSound db past_text
+unfolding is_qual_within
+past_sound db = record { scoped = refl; names = λ v h. absurd (grind (arith, nat_tests, h)); kept = refl }
+
+pub used_sound : (db : Db) (texts : TextSource) → AreSound db texts → (key : RelKey) (attrs : List ℕ) → IsSound db (used_text texts key attrs)
+used_sound db texts sound key [] = no_text_sound db
+used_sound db texts sound key (a ∷ attrs) = sound key (a ∷ attrs)
+
+-- a text with variables is that of a variable that is used
+pub used_meant : (texts : TextSource) (key : RelKey) (attrs : List ℕ) (j : ℕ) → nat_lt j (length (used_text texts key attrs).vars) ≡ true → is_any attrs ≡ true
+used_meant texts key [] j h = absurd (grind (arith, nat_tests, h))
+used_meant texts key (a ∷ attrs) j h = refl
+
+-- ---- texts of variables, each made for a variable by its place and key
+
+module _ (db : Db) (text_at : ℕ → RelKey → Text) (sound : (v : ℕ) (key : RelKey) → IsSound db (text_at v key)) where
+  pub each_scoped_at : (k : ℕ) (keys : List RelKey) → all_scoped (map (λ p. text_at p.0 p.1) (enumerate_from k keys)) ≡ true
+  each_scoped_at k [] = refl
+  each_scoped_at k (key ∷ keys) = λ i. (sound k key).scoped i && each_scoped_at (k + 1) keys i
+
+  pub each_kept_at : (k : ℕ) (keys : List RelKey) → no_views db (texts_vars (map (λ p. text_at p.0 p.1) (enumerate_from k keys))) ≡ true
+  each_kept_at k [] = refl
+  each_kept_at k (key ∷ keys) =
+      all_append (λ key. is_no_view (range_at db key)) (text_at k key).vars (texts_vars (map (λ p. text_at p.0 p.1) (enumerate_from (k + 1) keys)))
+      ∙ (λ i. (sound k key).kept i && each_kept_at (k + 1) keys i)
+
+-- ---- through levels of views
+
+view_sound : (db : Db) → IsDatabase db → (g : TextSource) → AreSound db g → (key : RelKey) (view : View) → range_at db key ≡ Some (Viewed view) → IsSound db (view_text g view)
+view_sound db d g sound key view h = record {
+  scoped = rows_text_scoped (query_texts g view.query) view.query (each_scoped_at db text_at at_sound 0 (vars_of view.query));
+  names = λ v inside. inl (rows_name (query_texts g view.query) view.query (plain_view db d key view h) v inside
+      (elim (placed_first text_at (λ v j. is_any (used_in_query v view.query) ≡ true) (λ v key. (at_sound v key).scoped) (λ v key. (at_sound v key).names)
+      (λ v key. used_meant g key (used_in_query v view.query)) (vars_of view.query) v inside) [
+        | inl condition ↦ inl condition
+        | inr (i, j, at, is_used, names) ↦ inr (i, is_used, names)
+      ]));
+  kept = each_kept_at db text_at at_sound 0 (vars_of view.query);
+}
+  where
+    text_at : ℕ → RelKey → Text
+    text_at v key = used_text g key (used_in_query v view.query)
+
+    at_sound : (v : ℕ) (key : RelKey) → IsSound db (used_text g key (used_in_query v view.query))
+    at_sound v key = used_sound db g sound key (used_in_query v view.query)
+
+pub within_sound : (n : ℕ) (db : Db) (who : Who) → IsDatabase db → AreSound db (text_within n db who)
+within_sound n db who d key attrs =
+    each_told (texts_told db who) db (λ n key texts. (attrs : List ℕ) → IsSound db (texts attrs))
+    (record {
+      nothing = λ n g key h attrs. kept_sound db (cut db who Retrieve attrs key) key (cut_within db who Retrieve attrs key) (ap is_no_view h);
+      kept = λ n g key relation h attrs. kept_sound db (cut db who Retrieve attrs key) key (cut_within db who Retrieve attrs key) (ap is_no_view h);
+      view_past = λ key view h attrs. past_sound db;
+      view_above = λ n g below key view h attrs. view_sound db d g below key view h;
+    })
+    n key attrs
+
+pub all_sound : (db : Db) (who : Who) → IsDatabase db → AreSound db (text_of db who)
+unfolding text_of
+all_sound db who d = within_sound greatest_level db who d
+
+-- ---- what nobody in particular has of these
+
+all_pass : {X : Type 0} (p : X → Bool) (xs : List X) → ((x : X) → p x ≡ true) → filter p xs ≡ xs
+all_pass p [] h = refl
+all_pass p (x ∷ xs) h = rw (h x) (ap (λ ys. x ∷ ys) (all_pass p xs h))
+
+may_free : (db : Db) (attrs : List ℕ) (key : RelKey) (row : Row) → may db Free Retrieve attrs key row ≡ true
+unfolding may
+may_free db attrs key row = refl
+
+free_range : (db : Db) (of_view : View → List Row) (key : RelKey) (attrs : List ℕ) (r : Option Range) → is_no_view r ≡ true → range_rows of_view db Free key attrs r ≡ kept_rows r
+free_range db of_view key attrs None h = refl
+free_range db of_view key attrs (Some (Kept relation)) h = all_pass (may db Free Retrieve attrs key) relation.rows (may_free db attrs key)
+free_range db of_view key attrs (Some (Viewed view)) h = cc h
+
+free_within : (n : ℕ) (db : Db) (key : RelKey) (attrs : List ℕ) → is_no_view (range_at db key) ≡ true → rows_within n db Free key attrs ≡ rows_at db key
+free_within n db key attrs h =
+    ap (λ rows. rows attrs) (told_at (rows_told db Free) n db key (range_at db key) refl)
+    ∙ free_range db (λ view. told_view (rows_told db Free) n db view attrs) key attrs (range_at db key) h
+
+pub free_rows : (db : Db) (key : RelKey) (attrs : List ℕ) → is_no_view (range_at db key) ≡ true → rows_of db Free key attrs ≡ rows_at db key
+unfolding rows_of
+free_rows db key attrs h = free_within greatest_level db key attrs h
+
+pub free_used : (db : Db) (key : RelKey) (attrs : List ℕ) → is_no_view (range_at db key) ≡ true → is_any attrs ≡ true → rows_used (rows_of db Free) key attrs ≡ rows_at db key
+free_used db key [] h any = cc any
+free_used db key (a ∷ attrs) h any = free_rows db key (a ∷ attrs) h
+
+-- variables that have all rows that are kept
+pub all_kept : (db : Db) (rows : ℕ → RelKey → List Row) (k : ℕ) (keys : List RelKey)
+    → ((v : ℕ) (key : RelKey) → nat_lt v (length keys) ≡ true → is_no_view (range_at db key) ≡ true → rows (k + v) key ≡ rows_at db key) → no_views db keys ≡ true
+    → map (λ p. rows p.0 p.1) (enumerate_from k keys) ≡ map (rows_at db) keys
+all_kept db rows k [] each kept = refl
+all_kept db rows k (key ∷ keys) each kept =
+    let parts = both_true (is_no_view (range_at db key)) (no_views db keys) kept in
+    let first : nat_lt 0 (length (key ∷ keys)) ≡ true = grind (arith, nat_tests) in
+    let same : k + 0 ≡ k = omega arith in
+    (λ i. rows (sym same i) key ∷ map (λ p. rows p.0 p.1) (enumerate_from (k + 1) keys))
+    ∙ (λ i. each 0 key first parts.0 i ∷ all_kept db rows (k + 1) keys later parts.1 i)
+  where
+    later : (v : ℕ) (other : RelKey) → nat_lt v (length keys) ≡ true → is_no_view (range_at db other) ≡ true → rows (k + 1 + v) other ≡ rows_at db other
+    later v other inside kept =
+        let less : nat_lt (suc v) (length (key ∷ keys)) ≡ true = grind (arith, nat_tests, inside) in
+        let same : k + 1 + v ≡ k + suc v = omega arith in
+        ap (λ w. rows w other) same ∙ each (suc v) other less kept

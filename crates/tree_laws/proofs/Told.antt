@@ -1,0 +1,189 @@
+-- The text of what stands under a key tells of the rows that one who asks has of it, through any number of levels of views.
+use Rattle.std.proofs.Common.{◌≡◌, refl, sym, ap, ◌∙◌, subst, inl, inr, ℕ, zero, suc, ◌+◌, Bool, true, false, cond, ◌&&◌, ◌||◌, List, [], ◌∷◌, map, None}
+use Rattle.std.specs.Prelude.{filter}
+use Rattle.std.specs.List.{list_all, list_any, enumerate_from}
+use Rattle.calculus.specs.declared.query.RelKey.{RelKey}
+use Rattle.calculus.specs.declared.query.QQual.{QQual}
+use Rattle.calculus.specs.declared.query.Query.{Query}
+use Rattle.calculus.specs.declared.schema.Permit.{Permit}
+use Rattle.calculus.specs.Rows.{Row}
+use Rattle.calculus.specs.Term.{Env, val, holds, no_aggs, attribute_value}
+use Rattle.calculus.specs.Who.{Who, Free, Asks}
+use Rattle.calculus.specs.Database.{Db, View, permits_on}
+use Rattle.calculus.specs.Limits.{greatest_level}
+use Rattle.calculus.specs.Stored.{range_at, rows_at, kept_rows}
+use Rattle.calculus.specs.Rights.{Right, Retrieve, covers, needs_none, may}
+use Rattle.calculus.specs.QueryParts.{vars_of, qual_aggregates}
+use Rattle.calculus.specs.Used.{used_in_query}
+use Rattle.calculus.specs.Assignments.{Source, rows_used, variable_rows, assigned}
+use Rattle.calculus.specs.VariableRows.{view_rows, rows_within, rows_of}
+use Rattle.calculus_laws.proofs.Members.{In, Chosen, In-filter, filter-In}
+use Rattle.calculus_laws.proofs.Through.{Told, rows_told, both_told}
+use Rattle.view_text.specs.declared.text.Text.{Text}
+use Rattle.view_text.specs.Replaced.{of_only, no_aggregate}
+use Rattle.view_text.specs.Halves.{any_of}
+use Rattle.view_text.specs.Scoped.{is_within, is_qual_within}
+use Rattle.view_text.specs.Texts.{TextSource, no_text, used_text, query_texts}
+use Rattle.view_text.specs.TextOf.{permit_condition, covering, cut, kept_text, view_text, past_text, range_text, text_within, text_of}
+use Rattle.tree_laws.proofs.Values.{without_value_has_none, StandsFor, makes_none, holds_replaced, within_itself}
+use Rattle.tree_laws.proofs.Halves.{holds_any_of, any_within}
+use Rattle.tree_laws.proofs.Within.{qual_replaced_within}
+use Rattle.tree_laws.proofs.Joint.{all_hold, IsRow, Tells, TellEach}
+use Rattle.tree_laws.proofs.Rows.{rows_told_by}
+
+-- ---- permits
+
+nowhere : (v a : ℕ) → attribute_value [] v a ≡ None
+unfolding attribute_value
+nowhere zero a = refl
+nowhere (suc v) a = refl
+
+only_stands : (row : Row) → StandsFor of_only (row ∷ []) (row ∷ [])
+unfolding val attribute_value
+only_stands row aggs zero a = refl
+only_stands row aggs (suc v) a = without_value_has_none aggs (row ∷ []) ∙ sym (nowhere v a)
+
+-- the condition of a permit holds of a row where its qualification does
+condition_holds : (permit : Permit) (row : Row) → holds no_aggs (permit_condition permit) (row ∷ []) ≡ holds no_aggs permit.qual (row ∷ [])
+condition_holds permit row =
+    holds_replaced no_aggs no_aggs no_aggregate of_only (row ∷ []) (row ∷ []) (qual_aggregates permit.qual) (only_stands row)
+    (makes_none no_aggs (row ∷ []) (row ∷ []) (qual_aggregates permit.qual)) permit.qual (within_itself (qual_aggregates permit.qual))
+
+any_covering : (test : Permit → Bool) (row : Row) (ps : List Permit)
+    → list_any (λ q. holds no_aggs q (row ∷ [])) (map permit_condition (filter test ps)) ≡ list_any (λ p. test p && holds no_aggs p.qual (row ∷ [])) ps
+any_covering test row [] = refl
+any_covering test row (p ∷ ps) = by (test p) (any_covering test row ps)
+  where
+    by : (b : Bool) → list_any (λ q. holds no_aggs q (row ∷ [])) (map permit_condition (filter test ps)) ≡ list_any (λ p. test p && holds no_aggs p.qual (row ∷ [])) ps
+        → list_any (λ q. holds no_aggs q (row ∷ [])) (map permit_condition (cond b (p ∷ filter test ps) (filter test ps)))
+        ≡ ((b && holds no_aggs p.qual (row ∷ [])) || list_any (λ p. test p && holds no_aggs p.qual (row ∷ [])) ps)
+    by true more = λ i. condition_holds p row i || more i
+    by false more = more
+
+true_right : (b : Bool) → (b && true) ≡ b
+true_right true = refl
+true_right false = refl
+
+-- the conditions of permits hold of the rows with which one may do this
+pub cut_holds : (db : Db) (who : Who) (right : Right) (attrs : List ℕ) (key : RelKey) (row : Row) → all_hold no_aggs (cut db who right attrs key) (row ∷ []) ≡ may db who right attrs key row
+unfolding may
+cut_holds db Free right attrs key row = refl
+cut_holds db (Asks asker) right attrs key row = by (needs_none db asker right key)
+  where
+    by : (b : Bool) → all_hold no_aggs (elim b [ true ↦ [] | false ↦ any_of (map permit_condition (covering db asker right attrs key)) ∷ [] ]) (row ∷ [])
+        ≡ (b || list_any (λ p. covers p asker right attrs && holds no_aggs p.qual (row ∷ [])) (permits_on db key))
+    by true = refl
+    by false =
+        true_right (holds no_aggs (any_of (map permit_condition (covering db asker right attrs key))) (row ∷ []))
+        ∙ holds_any_of no_aggs (row ∷ []) (map permit_condition (covering db asker right attrs key))
+        ∙ any_covering (λ p. covers p asker right attrs) row (permits_on db key)
+
+-- they are about that row alone
+only_within : (v a : ℕ) → is_within 1 (of_only v a) ≡ true
+unfolding is_within
+only_within zero a = refl
+only_within (suc v) a = refl
+
+conditions_within : (ps : List Permit) → list_all (is_qual_within 1) (map permit_condition ps) ≡ true
+conditions_within [] = refl
+conditions_within (p ∷ ps) = λ i. qual_replaced_within 1 of_only only_within p.qual i && conditions_within ps i
+
+pub cut_within : (db : Db) (who : Who) (right : Right) (attrs : List ℕ) (key : RelKey) → list_all (is_qual_within 1) (cut db who right attrs key) ≡ true
+cut_within db Free right attrs key = refl
+cut_within db (Asks asker) right attrs key = by (needs_none db asker right key)
+  where
+    by : (b : Bool) → list_all (is_qual_within 1) (elim b [ true ↦ [] | false ↦ any_of (map permit_condition (covering db asker right attrs key)) ∷ [] ]) ≡ true
+    by true = refl
+    by false = true_right (is_qual_within 1 (any_of (map permit_condition (covering db asker right attrs key))))
+        ∙ any_within 1 (map permit_condition (covering db asker right attrs key)) (conditions_within (covering db asker right attrs key))
+
+-- ---- what is kept
+
+own_row : (conditions : List QQual) (key : RelKey) (row : Row) → IsRow (kept_text conditions key) row (row ∷ [])
+unfolding val attribute_value
+own_row conditions key row a = refl
+
+-- the text of what is kept, where these conditions are those that rows pass
+pub kept_told : (db : Db) (key : RelKey) (conditions : List QQual) (passes : Row → Bool) → list_all (is_qual_within 1) conditions ≡ true
+    → ((row : Row) → all_hold no_aggs conditions (row ∷ []) ≡ passes row) → Tells db (filter passes (rows_at db key)) (kept_text conditions key)
+kept_told db key conditions passes within same = record { scoped = within; to = to; from = from }
+  where
+    to : (seg : Env) → Chosen (rows_at db key ∷ []) seg → all_hold no_aggs conditions seg ≡ true → (row : Row) × In row (filter passes (rows_at db key)) × IsRow (kept_text conditions key) row seg
+    to [] chosen h = absurd chosen
+    to (row ∷ []) chosen h = (row, In-filter passes (rows_at db key) row chosen.0 (sym (same row) ∙ h), own_row conditions key row)
+    to (row ∷ other ∷ more) chosen h = absurd chosen.1
+
+    from : (row : Row) → In row (filter passes (rows_at db key)) → (seg : Env) × Chosen (rows_at db key ∷ []) seg × (all_hold no_aggs conditions seg ≡ true) × IsRow (kept_text conditions key) row seg
+    from row inside = let (there, passing) = filter-In passes (rows_at db key) row inside in (row ∷ [], (there, tt), same row ∙ passing, own_row conditions key row)
+
+-- ---- the variables of a query
+
+pub no_text_told : (db : Db) → Tells db ([] ∷ []) no_text
+no_text_told db = record { scoped = refl; to = to; from = from }
+  where
+    empty : (e : Env) → IsRow no_text [] e
+    empty e zero = without_value_has_none no_aggs e
+    empty e (suc a) = without_value_has_none no_aggs e
+
+    to : (seg : Env) → Chosen [] seg → true ≡ true → (row : Row) × In row ([] ∷ []) × IsRow no_text row seg
+    to [] chosen h = ([], inl refl, empty [])
+    to (row ∷ seg) chosen h = absurd chosen
+
+    from : (row : Row) → In row ([] ∷ []) → (seg : Env) × Chosen [] seg × (true ≡ true) × IsRow no_text row seg
+    from row (inl same) = ([], tt, refl, subst (λ row. IsRow no_text row []) same (empty []))
+    from row (inr h) = absurd h
+
+-- texts that tell of the rows of each key
+abbrev pub TellsAll : Db → Source → TextSource → Type 0
+TellsAll db source texts = (key : RelKey) (attrs : List ℕ) → Tells db (source key attrs) (texts key attrs)
+
+pub used_told : (db : Db) (source : Source) (texts : TextSource) → TellsAll db source texts → (key : RelKey) (attrs : List ℕ) → Tells db (rows_used source key attrs) (used_text texts key attrs)
+used_told db source texts tell key [] = no_text_told db
+used_told db source texts tell key (a ∷ attrs) = tell key (a ∷ attrs)
+
+-- tell of the rows of a query's variables
+pub query_told : (db : Db) (source : Source) (texts : TextSource) → TellsAll db source texts → (q : Query) (n : ℕ) (keys : List RelKey)
+    → TellEach db (map (λ p. variable_rows source q p.0 p.1) (enumerate_from n keys)) (map (λ p. used_text texts p.1 (used_in_query p.0 q)) (enumerate_from n keys))
+query_told db source texts tell q n [] = tt
+query_told db source texts tell q n (key ∷ keys) = (used_told db source texts tell key (used_in_query n q), query_told db source texts tell q (n + 1) keys)
+
+-- ---- through levels of views
+
+abbrev pub texts_told : Db → Who → Told (List ℕ → Text)
+texts_told db who = record {
+  of_range = λ of_view key range attrs. range_text (λ view. of_view view attrs) db who key attrs range;
+  of_view = λ below view attrs. view_text below view;
+  past = λ attrs. past_text;
+}
+
+past_told : (db : Db) → Tells db [] past_text
+unfolding holds is_qual_within
+past_told db = record { scoped = refl; to = λ seg chosen h. cc h; from = λ row inside. absurd inside }
+
+nothing_kept : (db : Db) (key : RelKey) → range_at db key ≡ None → rows_at db key ≡ []
+nothing_kept db key h = ap kept_rows h
+
+view_told : (db : Db) (f : Source) (g : TextSource) → TellsAll db f g → (view : View) → Tells db (view_rows f view) (view_text g view)
+unfolding assigned
+view_told db f g below view =
+    rows_told_by db view.query (map (λ p. variable_rows f view.query p.0 p.1) (enumerate_from 0 (vars_of view.query))) (query_texts g view.query)
+    (query_told db f g below view.query 0 (vars_of view.query))
+
+pub within_told : (n : ℕ) (db : Db) (who : Who) → TellsAll db (rows_within n db who) (text_within n db who)
+within_told n db who key attrs =
+    both_told (rows_told db who) (texts_told db who) db (λ n key rows texts. (attrs : List ℕ) → Tells db (rows attrs) (texts attrs))
+    (record {
+      nothing = λ n f g key h attrs.
+          subst (λ rows. Tells db (filter (may db who Retrieve attrs key) rows) (kept_text (cut db who Retrieve attrs key) key)) (nothing_kept db key h)
+          (kept_told db key (cut db who Retrieve attrs key) (may db who Retrieve attrs key) (cut_within db who Retrieve attrs key) (cut_holds db who Retrieve attrs key));
+      kept = λ n f g key relation h attrs.
+          subst (λ rows. Tells db (filter (may db who Retrieve attrs key) rows) (kept_text (cut db who Retrieve attrs key) key)) (ap kept_rows h)
+          (kept_told db key (cut db who Retrieve attrs key) (may db who Retrieve attrs key) (cut_within db who Retrieve attrs key) (cut_holds db who Retrieve attrs key));
+      view_past = λ key view h attrs. past_told db;
+      view_above = λ n f g below key view h attrs. view_told db f g below view;
+    })
+    n key attrs
+
+pub all_told : (db : Db) (who : Who) → TellsAll db (rows_of db who) (text_of db who)
+unfolding rows_of text_of
+all_told db who = within_told greatest_level db who

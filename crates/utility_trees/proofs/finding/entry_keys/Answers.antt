@@ -1,0 +1,23 @@
+use Rattle.std.proofs.Common.{◌∙◌, ◌++◌, sym, ap, arith, filter_map}
+use Rattle.std.specs.Option.{option_to_list}
+use Rattle.std.proofs.lemmas.List.{take_all}
+use Rattle.quel_meaning.specs.Scope.{entry_named}
+use Rattle.quel_names.specs.Asking.{scope_of}
+use Rattle.utility_trees.proofs.Meant.{filter_more}
+use Rattle.utility_trees.proofs.finding.entry_keys.Goals as goal
+
+pub loop-name-preserved : goal.loop-name-preserved
+loop-name-preserved g c = record {
+  told = λ db ranges h d.
+      c.in_ok-push_if.ensures
+      ∙ (λ i. c.loop-name.invariant.told db ranges h d i ++ option_to_list (c.in_ok-key.ensures.told db ranges (c.loop-name.invariant.kept ∙ h) d i))
+      ∙ sym (filter_more (entry_named (scope_of db c.args.user.now ranges)) c.args.names.now c.loop-name.name-index c.name-item.result c.loop-name-test.true c.name-item.is);
+  kept = c.in_ok-key.ensures.kept ∙ c.loop-name.invariant.kept;
+  same = c.in_ok-key.ensures.same ∙ c.loop-name.invariant.same;
+  later = omega (arith, c.in_ok-key.ensures.cause.later, c.loop-name.invariant.later);
+}
+
+pub returns-clause-told : goal.returns-clause-told
+returns-clause-told g c = λ db ranges h d.
+    c.loop-name.invariant.told db ranges h d
+    ∙ ap (filter_map (entry_named (scope_of db c.args.user.now ranges))) (take_all c.loop-name.name-index c.args.names.now c.loop-name-test.false)

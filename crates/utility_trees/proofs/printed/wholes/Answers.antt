@@ -1,0 +1,20 @@
+use Rattle.std.proofs.Common.{◌∙◌, ◌++◌, ◌∷◌, [], sym, ap, arith, map}
+use Rattle.std.proofs.lemmas.List.{take_all, map_more}
+use Rattle.calculus.specs.Finding.{found}
+use Rattle.quel_meaning.specs.Resolved.{whole}
+use Rattle.utility_trees.proofs.printed.wholes.Goals as goal
+
+pub loop-name-preserved : goal.loop-name-preserved
+loop-name-preserved g c = record {
+  told = λ db h.
+      c.in_ok-push.ensures
+      ∙ (λ i. c.loop-name.invariant.told db h i ++ (c.in_ok-one.ensures.told db (c.loop-name.invariant.kept ∙ h) ∙ ap (λ name. whole (found db c.args.user.now name)) c.name-item.is) i ∷ [])
+      ∙ sym (map_more (λ name. whole (found db c.args.user.now name)) c.args.names.now c.loop-name.name-index c.name-item.result c.loop-name-test.true);
+  kept = c.in_ok-one.ensures.kept ∙ c.loop-name.invariant.kept;
+  same = c.in_ok-one.ensures.same ∙ c.loop-name.invariant.same;
+  later = omega (arith, c.in_ok-one.ensures.cause.later, c.loop-name.invariant.later);
+}
+
+pub returns-clause-told : goal.returns-clause-told
+returns-clause-told g c = λ db h.
+    c.loop-name.invariant.told db h ∙ ap (map (λ name. whole (found db c.args.user.now name))) (take_all c.loop-name.name-index c.args.names.now c.loop-name-test.false)

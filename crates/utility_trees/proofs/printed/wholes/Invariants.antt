@@ -1,0 +1,13 @@
+use Rattle.std.proofs.Common.{◌≡◌, ◌≤◌, Some, map, take}
+use Rattle.calculus.specs.Database.{Db}
+use Rattle.calculus.specs.Finding.{found}
+use Rattle.quel_meaning.specs.Resolved.{whole}
+use Rattle.utility_trees.proofs.printed.wholes.Given as goal
+
+abbrev pub invariant-loop-name : goal.invariant-loop-name
+invariant-loop-name g l = record {
+  told : (db : Db) → g.B.Base.database l.initial.base ≡ Some db → l.asked.items ≡ map (λ name. whole (found db l.user name)) (take l.name-index l.names);
+  kept : g.B.Base.database l.base ≡ g.B.Base.database l.initial.base;
+  same : g.B.Base.left l.base ≡ g.B.Base.left l.initial.base;
+  later : g.B.Base.faults l.initial.base ≤ g.B.Base.faults l.base;
+}
