@@ -2,10 +2,10 @@
 
 use crate::made::{row, set};
 use calculus::{Change, Pair, Row, RowSet, Value};
-use update_change::{ChangeFault, set_replace};
 use std::alloc::Global;
 use std::process::Abort;
 use std::test::*;
+use update_change::{ChangeFault, set_replace};
 
 /// The numbers of an old row and of a new one; none where there is no such row.
 type Numbers<'a> = (&'a [i64], &'a [i64]);

@@ -2,11 +2,11 @@
 
 use crate::changes::{Told, told_of};
 use calculus::{Name, OutOfMemory, Pair, QTerm, Row, RowSet, TryCopy, Value};
-use update_change::set_replace;
 use memory::both;
 use scalar_eval::{Assigned, value_of};
 use std::alloc::Global;
 use std::test::*;
+use update_change::set_replace;
 
 fn row(alloc: Global, number: i64) -> Result<Row, OutOfMemory> {
     let mut values = Vec::new(alloc);

@@ -26,7 +26,7 @@ use am_traits::BaseFault;
 use calculus::{Name, OutOfMemory};
 use catalog_moves::{FileTable, KeySet};
 use catalog_pages::Ends;
-use catalog_read::{CatalogueRows, read_catalogue, schema_parts, build_schema};
+use catalog_read::{CatalogueRows, build_schema, read_catalogue, schema_parts};
 use memory::both;
 use page_chain::{ChainRows, chain_rows};
 use plain_base::DbPlain;

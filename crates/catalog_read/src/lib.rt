@@ -2,11 +2,15 @@
 #![tactic(auto)]
 
 mod attributes;
+mod building;
+mod changes;
 mod finding;
 mod laws;
+mod laying;
 mod made;
 mod numbered;
 mod pairs;
+mod parts;
 mod reading;
 mod relations;
 mod rows;
@@ -15,14 +19,10 @@ mod spelling;
 mod standing;
 mod structures;
 mod trees;
-mod building;
-mod changes;
-mod laying;
-mod parts;
 
+pub use building::build_schema;
 pub use laws::a_catalogue_spells_its_schema;
+pub use parts::{IndexPart, SchemaParts, ViewPart};
 pub use reading::read_catalogue;
 pub use rows::CatalogueRows;
 pub use spelling::schema_parts;
-pub use building::build_schema;
-pub use parts::{IndexPart, SchemaParts, ViewPart};

@@ -18,10 +18,10 @@ use crate::rows::{CatalogueRows, TreeKey};
 use crate::standing::OF_VIEW;
 use crate::structures::{is_index, is_structure, is_view};
 use crate::trees::tree;
+use crate::{IndexPart, ViewPart};
 use calculus::{List, OutOfMemory, Query, RelInfo, RelKey, TryCopy};
 use catalog_rows::EntryRow;
 use quel_tree::QueryTree;
-use crate::{IndexPart, ViewPart};
 use std::alloc::Global;
 
 /// The key of what has this file; `None` exactly where nothing has.

@@ -10,8 +10,8 @@ use crate::made::all_made;
 use crate::pairs::both_found;
 use crate::rows::CatalogueRows;
 use crate::standing::stand;
-use calculus::{List, OutOfMemory, Permit, RelInfo, RelKey, Rule};
 use crate::{IndexPart, SchemaParts, ViewPart};
+use calculus::{List, OutOfMemory, Permit, RelInfo, RelKey, Rule};
 use std::alloc::Global;
 
 /// Rules and permits, each beside the key of its relation.

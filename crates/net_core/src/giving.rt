@@ -11,9 +11,9 @@ ghost use Rattle.net_core.specs.Taking.{Gave};
 ghost use Rattle.net_core.specs.declared.loop_fault.LoopFault.TheVariants.{LeftWrite as left_failed, OutOfMemory as no_memory, Right as right_failed};
 
 use crate::loop_fault::LoopFault;
+use crate::{Moved, Stage};
 use fault_io::{Link, Sink, write_all, write_all_to_link};
 use frame_codec::frame_bytes;
-use crate::{Moved, Stage};
 use std::alloc::Global;
 
 /// The bytes of the frame that the stage gives.

@@ -4,8 +4,8 @@ ghost use Rattle.std.specs.Prelude.{◌≡◌};
 ghost use Rattle.net_core.specs.LoopFaults.{status_of, work_status};
 ghost use Rattle.net_core.specs.declared.loop_fault.LoopFault.TheVariants.{OutOfMemory as no_memory_to_go_on};
 
-use memory::OutOfMemory;
 use crate::WorkFault;
+use memory::OutOfMemory;
 use thiserror::Error;
 
 /// Why a stage's process ended early. Places count from 0, from the first byte of the stream.

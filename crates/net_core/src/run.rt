@@ -7,13 +7,13 @@ ghost use Rattle.net_core.specs.Sides.{sides};
 ghost use Rattle.net_core.specs.LoopSteps.{Ran};
 ghost use Rattle.net_core.specs.WholeLoop.{EndsKept, LoopDone};
 
-use crate::loop_fault::LoopFault;
 use crate::incoming::{Incoming, PIECE};
+use crate::loop_fault::LoopFault;
 use crate::stepping::{Talk, step};
 use crate::telling::tell;
+use crate::{Moved, Room, Stage};
 use am_traits::Base;
 use fault_io::{Link, Shelf, Sink, Source};
-use crate::{Moved, Room, Stage};
 use std::alloc::Global;
 
 /// The steps of a stage until it has ended, or one fails. They are counted, and end where no more can be.

@@ -7,14 +7,14 @@ ghost use Rattle.net_core.specs.Incoming.{IsHeld};
 ghost use Rattle.net_core.specs.Sides.{sides};
 ghost use Rattle.net_core.specs.LoopSteps.{Goes, Past, RoomKept, StepDone};
 
-use crate::loop_fault::LoopFault;
 use crate::giving::{give_left, give_right};
 use crate::incoming::Incoming;
+use crate::loop_fault::LoopFault;
 use crate::taking::{take_left, take_right};
 use crate::working::work_on;
+use crate::{Moved, Room, Stage, Want};
 use am_traits::Base;
 use fault_io::{Link, Shelf, Sink, Source};
-use crate::{Moved, Room, Stage, Want};
 use std::alloc::Global;
 
 /// What comes from both sides, and the place of the frame that was taken last.

@@ -10,11 +10,11 @@ ghost use Rattle.net_core.specs.Incoming.{Holds, IsHeld};
 ghost use Rattle.net_core.specs.Taking.{TakeDone, TookFrame};
 ghost use Rattle.net_core.specs.declared.loop_fault.LoopFault.TheVariants.{LeftRead as left_failed, Right as right_failed};
 
-use crate::loop_fault::LoopFault;
 use crate::incoming::Incoming;
+use crate::loop_fault::LoopFault;
+use crate::{Moved, Stage, TakeFault};
 use fault_io::{Link, Source};
 use frame_codec::Frame;
-use crate::{Moved, Stage, TakeFault};
 use std::alloc::Global;
 
 /// The kind of a Fault frame.

@@ -8,9 +8,9 @@ ghost use Rattle.net_core.specs.Taking.{Worked};
 ghost use Rattle.net_core.specs.WholeLoop.{EndsKept};
 
 use crate::loop_fault::LoopFault;
+use crate::{Moved, Room, Stage, WorkFault};
 use am_traits::Base;
 use fault_io::{Shelf, Sink, Source};
-use crate::{Moved, Room, Stage, WorkFault};
 use std::alloc::Global;
 
 /// The stage works on the room. What isn't fit came with the last frame that was taken, which begins at

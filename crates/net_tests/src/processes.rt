@@ -2,7 +2,7 @@
 use crate::orders::{ONE, THREE, room};
 use crate::players::Player;
 use fault_io::{MemLink, MemSink, MemSource};
-use net_core::{WorkFault, LoopFault, stage_loop};
+use net_core::{LoopFault, WorkFault, stage_loop};
 use std::alloc::Global;
 use std::process::Abort;
 use std::test::*;

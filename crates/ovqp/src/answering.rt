@@ -15,13 +15,13 @@ ghost use Rattle.ovqp.specs.ProductCauses.{IsCause};
 ghost use Rattle.ovqp.specs.Causes.{HasCause};
 ghost use Rattle.ovqp.specs.Parts.{IsQueryOf, alone};
 
+use crate::ProductFault;
 use crate::fault::QueryFault;
 use crate::giving::give_of;
 use crate::scanning::given_by_scan;
 use crate::used::is_place_used;
 use am_traits::Base;
 use calculus::{QQual, RelKey, Row, RowSet, Target};
-use crate::ProductFault;
 use std::alloc::Global;
 
 /// The set of what is given for one row without values, which stands for a variable that isn't used.

@@ -4,9 +4,9 @@ ghost use Rattle.std.specs.Prelude.{◌≡◌};
 ghost use Rattle.ovqp.specs.declared.fault.QueryFault.TheVariants.{Base as OfBase, OutOfMemory as NoMemory};
 ghost use Rattle.ovqp.specs.Given.{given_fault};
 
+use crate::ProductFault;
 use am_traits::BaseFault;
 use calculus::{List, OutOfMemory, Row};
-use crate::ProductFault;
 
 /// Why a query gives no answer.
 #[derive(PartialEq, Eq, Drop)]

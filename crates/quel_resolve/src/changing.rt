@@ -8,11 +8,11 @@ ghost use Rattle.quel_meaning.specs.Scope.{Scope};
 ghost use Rattle.quel_names.specs.Asking.{scope_of};
 ghost use Rattle.quel_resolve.specs.Changed.{changed};
 
+use crate::{append_of, delete_of, replace_of};
 use am_traits::{Base, BaseFault};
 use calculus::{Name, OutOfMemory, Query, RelInfo, Statement, Update};
 use quel_check::RangeTable;
 use quel_names::{named, ranged};
-use crate::{append_of, delete_of, replace_of};
 use std::alloc::Global;
 
 /// The relation that gains rows, or whose permits or rules go, or over which the variable ranges whose

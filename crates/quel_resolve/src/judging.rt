@@ -14,8 +14,8 @@ ghost use Rattle.utility_trees.specs.Causes.{HasCheckCause};
 use am_traits::Base;
 use calculus::{Checked, Name, Query, RelInfo, Statement, Update};
 use quel_refusals::cause;
-use utility_trees::CheckFault;
 use std::alloc::Global;
+use utility_trees::CheckFault;
 
 /// Goes on where no cause refuses a statement with this query, which is this update, or a permit or a rule
 /// on the relation of which this is known.

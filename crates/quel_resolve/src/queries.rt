@@ -15,14 +15,14 @@ ghost use Rattle.quel_names.specs.Asking.{scope_of};
 ghost use Rattle.utility_trees.specs.Answers.{Says};
 ghost use Rattle.utility_trees.specs.Causes.{HasCheckCause};
 
+use crate::query_of;
 use am_traits::Base;
 use calculus::{Name, Query, RelInfo, Statement};
-use quel_refusals::aggregates_stand;
 use quel_check::{Known, RangeTable, inner_vars, vars_in};
 use quel_names::infos_of;
-use crate::query_of;
-use utility_trees::CheckFault;
+use quel_refusals::aggregates_stand;
 use std::alloc::Global;
+use utility_trees::CheckFault;
 
 /// The greatest number of variables and aggregates of a query together.
 const MOST_VARIABLES: usize = 10;

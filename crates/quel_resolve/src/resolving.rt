@@ -12,8 +12,8 @@ use am_traits::Base;
 use calculus::{Checked, Name, Statement};
 use quel_check::RangeTable;
 use quel_names::name_refusal;
-use utility_trees::{CheckFault, is_served, served};
 use std::alloc::Global;
+use utility_trees::{CheckFault, is_served, served};
 
 /// What a statement asks for whose names were found.
 fn resolve_named<B: Base>(

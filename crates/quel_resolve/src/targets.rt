@@ -16,8 +16,8 @@ use crate::pairs::{both, push};
 use crate::places::{byte, var_place};
 use am_traits::{Base, BaseFault};
 use calculus::{Attr, Item, Kind, Name, OutOfMemory, QTerm, RelInfo, Target, Term, TryCopy};
-use quel_refusals::kind_in_query;
 use quel_check::{Known, slot_behind_item, term_tree_from};
+use quel_refusals::kind_in_query;
 use std::alloc::Global;
 
 /// The target of this name for a term, with the term's kind.

@@ -22,12 +22,12 @@ use crate::changing::{changed, update_of};
 use crate::judging::{judge, judge_update};
 use crate::kinds::{changes_rows, is_range};
 use crate::queries::query;
+use crate::tree_by;
 use am_traits::Base;
 use calculus::{Checked, List, Name, Query, RelInfo, Statement};
 use quel_check::RangeTable;
-use crate::tree_by;
-use utility_trees::CheckFault;
 use std::alloc::Global;
+use utility_trees::CheckFault;
 
 /// The number of an unknown relation.
 const NO_RELATION: u8 = 10;

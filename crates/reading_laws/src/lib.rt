@@ -2,10 +2,10 @@
 //! body: its clause speaks of the definitions alone.
 #![tactic(auto)]
 
-mod written;
-mod shallow;
 mod copied;
+mod shallow;
+mod written;
 
-pub use written::what_is_read_is_written;
-pub use shallow::{what_is_asked_for_is_as_shallow, what_is_read_is_shallow};
 pub use copied::a_copied_file_is_read_record_by_record;
+pub use shallow::{what_is_asked_for_is_as_shallow, what_is_read_is_shallow};
+pub use written::what_is_read_is_written;

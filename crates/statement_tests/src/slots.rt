@@ -6,8 +6,8 @@ use crate::stored::{SMALL, base, ranges};
 use calculus::{
     AggOp, AggSource, ArithOp, CmpOp, Name, QAgg, QQual, QTerm, Query, RelInfo, Statement,
 };
-use quel_refusals::aggregates_stand;
 use quel_check::{Known, inner_vars, vars_in};
+use quel_refusals::aggregates_stand;
 use quel_resolve::query_of;
 use std::alloc::Global;
 use std::process::Abort;

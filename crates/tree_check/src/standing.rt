@@ -10,8 +10,8 @@ ghost use Rattle.tree_check.specs.Standing.{is_kept_info};
 
 use am_traits::{Base, BaseFault};
 use calculus::{Name, RelInfo, RelKey, Spec};
-use quel_refusals::{is_full, is_taken};
 use quel_names::info_at;
+use quel_refusals::{is_full, is_taken};
 use std::alloc::Global;
 
 /// Whether this is known of what keeps its rows.

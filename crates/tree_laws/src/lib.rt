@@ -2,18 +2,18 @@
 //! law with no body: its clause speaks of the definitions alone.
 #![tactic(auto)]
 
+mod answers;
 mod fitness;
+mod levels;
 mod meaning;
 mod slots;
-mod answers;
 mod texts;
 mod updates;
-mod levels;
 
+pub use answers::what_is_put_in_answers_the_same;
 pub use fitness::{texts_of_what_is_there_fit, what_is_put_in_is_fit};
+pub use levels::what_is_put_in_has_few_levels;
 pub use meaning::what_is_put_in_means_the_same;
 pub use slots::aggregates_stand_at_their_slots;
-pub use answers::what_is_put_in_answers_the_same;
 pub use texts::{a_text_tells_of_the_rows, texts_name_what_is_kept};
 pub use updates::{rules_join_what_is_put_in, what_is_put_in_changes_the_same};
-pub use levels::what_is_put_in_has_few_levels;

@@ -9,10 +9,10 @@ ghost use Rattle.calculus.specs.Stored.{rows_at};
 ghost use Rattle.am_traits.specs.Causes.{HasCause as HasBaseCause};
 ghost use Rattle.update_change.specs.Causes.{HasCause};
 
-use crate::{UpdateFault, without};
 use crate::limit::is_too_large;
 use crate::pairs_rows::pairs_rows;
 use crate::there::{those_absent, those_there};
+use crate::{UpdateFault, without};
 use am_traits::{Base, BaseFault};
 use calculus::{Change, Pair, RelKey, RowSet, Update};
 use std::alloc::Global;

@@ -5,7 +5,7 @@ ghost use Rattle.calculus.specs.Replacement.{contended, old_rows, new_rows};
 ghost use Rattle.calculus.specs.Rows.{Row, set_of};
 ghost use Rattle.update_change.specs.Causes.{IsCause};
 
-use crate::{UpdateFault, ChangeFault, rows_of_pairs};
+use crate::{ChangeFault, UpdateFault, rows_of_pairs};
 use calculus::{Pair, RowSet};
 use std::alloc::Global;
 
