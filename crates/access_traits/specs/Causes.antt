@@ -18,12 +18,12 @@ abbrev pub StoreMayFail : ℕ → ℕ → StoreFault → Type 0
 StoreMayFail before now store.Disk = Rose before now
 StoreMayFail before now store.OutOfMemory = Unit {0}
 
--- an answer, or a fault that may come
+-- an answer where the count stayed, or a fault that may come
 abbrev pub IsStoreCaused : {T : Type 0} → ℕ → ℕ → Result T StoreFault → Type 0
-IsStoreCaused before now (Ok x) = Unit {0}
+IsStoreCaused before now (Ok x) = now ≡ before
 IsStoreCaused before now (Err fault) = StoreMayFail before now fault
 
--- the count of faults never falls, and a fault comes only where it may
+-- the count of faults never falls, an answer comes only where it stayed, and a fault only where it may
 pub record HasStoreCause {T : Type 0} (before now : ℕ) (result : Result T StoreFault) : Type 0 where
   pub later : before ≤ now
   pub caused : IsStoreCaused before now result
@@ -38,12 +38,12 @@ MayFail told at_fault before now faults.Disk = Rose before now
 MayFail told at_fault before now (faults.Damaged file page) = IsAtFault told at_fault (record { file = file; page = page })
 MayFail told at_fault before now faults.OutOfMemory = Unit {0}
 
--- an answer, or a fault that may come
+-- an answer where the count stayed, or a fault that may come
 abbrev pub IsFileCaused : {T : Type 0} → Option Image → (Image → Addr → Type 0) → ℕ → ℕ → Result T BaseFault → Type 0
-IsFileCaused told at_fault before now (Ok x) = Unit {0}
+IsFileCaused told at_fault before now (Ok x) = now ≡ before
 IsFileCaused told at_fault before now (Err fault) = MayFail told at_fault before now fault
 
--- the count of faults never falls, and a fault comes only where it may
+-- the count of faults never falls, an answer comes only where it stayed, and a fault only where it may
 pub record HasFileCause {T : Type 0} (told : Option Image) (at_fault : Image → Addr → Type 0) (before now : ℕ) (result : Result T BaseFault) : Type 0 where
   pub later : before ≤ now
   pub caused : IsFileCaused told at_fault before now result

@@ -40,6 +40,8 @@ fn kinds_in(alloc: Global, info: &Option<RelInfo>) -> Result<Vec<Kind>, OutOfMem
 fn kinds_at<B: Base>(alloc: Global, base: &mut B, key: &RelKey) -> Result<Vec<Kind>, BaseFault>
     ensures told { (db : Db) → B.database base.old ≡ Some db → IfOk result (λ kinds. kinds.items ≡ kinds_at db key.now) }
     ensures kept { B.database base.new ≡ B.database base.old }
+    ensures stays { (s : Db) → B.schema base.old ≡ Some s → B.schema base.new ≡ Some s }
+    ensures asked { (b : B) → B.asked b base.old → B.asked b base.new }
     ensures same { B.left base.new ≡ B.left base.old }
     ensures asked { (b : B) → B.asked b base.old → B.asked b base.new }
     ensures cause { HasCause (B.database base.old) (B.faults base.old) (B.faults base.new) result }
@@ -77,6 +79,8 @@ fn source_kinds<B: Base>(
 ) -> Result<Vec<Kind>, BaseFault>
     ensures told { (db : Db) → B.database base.old ≡ Some db → IfOk result (λ kinds. kinds.items ≡ source_kinds db source.now) }
     ensures kept { B.database base.new ≡ B.database base.old }
+    ensures stays { (s : Db) → B.schema base.old ≡ Some s → B.schema base.new ≡ Some s }
+    ensures asked { (b : B) → B.asked b base.old → B.asked b base.new }
     ensures same { B.left base.new ≡ B.left base.old }
     ensures asked { (b : B) → B.asked b base.old → B.asked b base.new }
     ensures cause { HasCause (B.database base.old) (B.faults base.old) (B.faults base.new) result }
@@ -138,6 +142,8 @@ pub(crate) fn none_value<B: Base>(
 ) -> Result<Value, BaseFault>
     ensures told { (db : Db) → B.database base.old ≡ Some db → IfOk result (λ v. v ≡ none_value db agg.now) }
     ensures kept { B.database base.new ≡ B.database base.old }
+    ensures stays { (s : Db) → B.schema base.old ≡ Some s → B.schema base.new ≡ Some s }
+    ensures asked { (b : B) → B.asked b base.old → B.asked b base.new }
     ensures same { B.left base.new ≡ B.left base.old }
     ensures asked { (b : B) → B.asked b base.old → B.asked b base.new }
     ensures cause { HasCause (B.database base.old) (B.faults base.old) (B.faults base.new) result }

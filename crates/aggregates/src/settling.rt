@@ -96,6 +96,8 @@ fn table<B: Base>(alloc: Global, base: &mut B, agg: &QAgg) -> Result<AggTable, B
     ensures ascend { IfOk result (λ table. GroupsAscend table.groups) }
     ensures told { (db : Db) → B.database base.old ≡ Some db → IfOk result (λ table. StandsFor table agg.now (aggregates db Free)) }
     ensures kept { B.database base.new ≡ B.database base.old }
+    ensures stays { (s : Db) → B.schema base.old ≡ Some s → B.schema base.new ≡ Some s }
+    ensures asked { (b : B) → B.asked b base.old → B.asked b base.new }
     ensures same { B.left base.new ≡ B.left base.old }
     ensures asked { (b : B) → B.asked b base.old → B.asked b base.new }
     ensures cause { HasCause (B.database base.old) (B.faults base.old) (B.faults base.new) result }
@@ -126,6 +128,8 @@ fn tables_of<B: Base>(
     ensures ascend { IfOk result (λ tables. AllAscend tables.items) }
     ensures told { (db : Db) → B.database base.old ≡ Some db → IfOk result (λ tables. AllStand db tables.items (map (λ g. g.now) aggs.now)) }
     ensures kept { B.database base.new ≡ B.database base.old }
+    ensures stays { (s : Db) → B.schema base.old ≡ Some s → B.schema base.new ≡ Some s }
+    ensures asked { (b : B) → B.asked b base.old → B.asked b base.new }
     ensures same { B.left base.new ≡ B.left base.old }
     ensures asked { (b : B) → B.asked b base.old → B.asked b base.new }
     ensures cause { HasCause (B.database base.old) (B.faults base.old) (B.faults base.new) result }
@@ -158,6 +162,8 @@ pub fn settle<B: Base>(alloc: Global, base: &mut B, q: &Query) -> Result<Vec<Agg
     ensures lacks { (db : Db) → B.database base.old ≡ Some db
         → IfOk result (λ tables. (es : List Env) → some_lacks (tabled tables.items) q.now es ≡ some_lacks (aggregates db Free) q.now es) }
     ensures kept { B.database base.new ≡ B.database base.old }
+    ensures stays { (s : Db) → B.schema base.old ≡ Some s → B.schema base.new ≡ Some s }
+    ensures asked { (b : B) → B.asked b base.old → B.asked b base.new }
     ensures same { B.left base.new ≡ B.left base.old }
     ensures asked { (b : B) → B.asked b base.old → B.asked b base.new }
     ensures cause { HasCause (B.database base.old) (B.faults base.old) (B.faults base.new) result }

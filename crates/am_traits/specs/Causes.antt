@@ -11,12 +11,12 @@ MayCome told before now faults.Disk = Rose before now
 MayCome told before now (faults.Damaged file page) = told ≡ None
 MayCome told before now faults.OutOfMemory = Unit {0}
 
--- an answer, or a fault that may come
+-- an answer where the count stayed, or a fault that may come
 abbrev pub IsCaused : {T : Type 0} → Option Db → ℕ → ℕ → Result T BaseFault → Type 0
-IsCaused told before now (Ok x) = Unit {0}
+IsCaused told before now (Ok x) = now ≡ before
 IsCaused told before now (Err fault) = MayCome told before now fault
 
--- the count of faults never falls, and a fault comes only where it may
+-- the count of faults never falls, an answer comes only where it stayed, and a fault only where it may
 pub record HasCause {T : Type 0} (told : Option Db) (before now : ℕ) (result : Result T BaseFault) : Type 0 where
   pub later : before ≤ now
   pub caused : IsCaused told before now result

@@ -11,7 +11,6 @@ ghost use Rattle.calculus.specs.declared.probe.Place.{Place as At};
 ghost use Rattle.calculus.specs.declared.query.RelKey.{RelKey as Key};
 ghost use Rattle.am_traits.specs.Causes.{HasCause};
 ghost use Rattle.am_traits.specs.Crashes.{LeavesBut, OnlyAsked, Stands};
-ghost use Rattle.am_traits.specs.Schemas.{KeepsSchema};
 ghost use Rattle.am_traits.specs.Scans.{Gives, IsOver, IsScan, first_place};
 ghost use Rattle.am_traits.specs.Told.{known_at, query_at, is_named_by_view};
 
@@ -29,7 +28,8 @@ pub trait Base {
     /// The database, where it is told.
     ghost database: { Self → Option Db };
 
-    /// The schema that is known, where one is, as a database that has it: of its rows nothing is said.
+    /// What is known of the schema, which is all of a database but its rows: the database itself where it
+    /// is known, else one that has the schema that was read; of that one's rows nothing is said.
     ghost schema: { Self → Option Db };
 
     /// Whether the first answer fixes the schema. A base that answers by no schema says no here.
@@ -57,11 +57,11 @@ pub trait Base {
     /// The rows that a scan of what stands under a key still gives from a place on, in its order.
     ghost left: { Self → Key → At → List Values };
 
-    /// What is told is a database.
-    ghost lawful: { (b : Self) (db : Db) → database b ≡ Some db → IsDatabase db };
+    /// What is known is a database.
+    ghost lawful: { (b : Self) (s : Db) → schema b ≡ Some s → IsDatabase s };
 
-    /// Where the database is told, the schema is its own.
-    ghost own: { (b : Self) (db s : Db) → database b ≡ Some db → schema b ≡ Some s → schema_of s ≡ schema_of db };
+    /// Where the database is known, its schema is.
+    ghost own: { (b : Self) (db : Db) → database b ≡ Some db → schema b ≡ Some db };
 
     /// From the first place on a scan gives each row once.
     ghost scanned: { (b : Self) (db : Db) (key : Key) → database b ≡ Some db
@@ -69,9 +69,6 @@ pub trait Base {
 
     /// This moment is one of those since an earlier one.
     ghost counts_now: { (b : Self) (t : ℕ) (o : Option Db) → t ≤ clock b → left_since b (clock b) o → left_since b t o };
-
-    /// Where a schema is known the base is ready.
-    ghost is_ready: { (b : Self) (s : Db) → schema b ≡ Some s → IsTrue (ready b) };
 
     /// Before any question it comes of itself.
     ghost starts: { (b : Self) → asked b b };
@@ -82,20 +79,24 @@ pub trait Base {
 
     /// The name of the administrator.
     fn dba(&mut self, alloc: Global) -> Result<Name, BaseFault>
-        ensures told { (db : Db) → database self.old ≡ Some db → IfOk result (λ name. name ≡ db.dba) }
+        ensures told { (s : Db) → schema self.old ≡ Some s → IfOk result (λ name. name ≡ s.dba) }
         ensures by_schema { (s : Db) → schema self.new ≡ Some s → IfOk result (λ name. name ≡ s.dba) }
         ensures kept { database self.new ≡ database self.old }
-        ensures schema { KeepsSchema fixes (schema self.old) (schema self.new) result }
+        ensures stays { (s : Db) → schema self.old ≡ Some s → schema self.new ≡ Some s }
+        ensures fixed { IsTrue fixes → OnOk result (IsTrue (is_some (schema self.new))) }
+        ensures ready { OnOk result (IsTrue (ready self.new)) }
         ensures same { left self.new ≡ left self.old }
         ensures asked { (b : Self) → asked b self.old → asked b self.new }
         ensures cause { HasCause (database self.old) (faults self.old) (faults self.new) result };
 
     /// The number of relations, views and indexes, without the catalogues.
     fn count(&mut self) -> Result<u32, BaseFault>
-        ensures told { (db : Db) → database self.old ≡ Some db → IfOk result (λ n. n ≡ length (entries db)) }
+        ensures told { (s : Db) → schema self.old ≡ Some s → IfOk result (λ n. n ≡ length (entries s)) }
         ensures by_schema { (s : Db) → schema self.new ≡ Some s → IfOk result (λ n. n ≡ length (entries s)) }
         ensures kept { database self.new ≡ database self.old }
-        ensures schema { KeepsSchema fixes (schema self.old) (schema self.new) result }
+        ensures stays { (s : Db) → schema self.old ≡ Some s → schema self.new ≡ Some s }
+        ensures fixed { IsTrue fixes → OnOk result (IsTrue (is_some (schema self.new))) }
+        ensures ready { OnOk result (IsTrue (ready self.new)) }
         ensures same { left self.new ≡ left self.old }
         ensures asked { (b : Self) → asked b self.old → asked b self.new }
         ensures cause { HasCause (database self.old) (faults self.old) (faults self.new) result };
@@ -108,20 +109,24 @@ pub trait Base {
         name: &Name,
         user: &Name,
     ) -> Result<Option<RelInfo>, BaseFault>
-        ensures told { (db : Db) → database self.old ≡ Some db → IfOk result (λ info. info ≡ found db user.now name.now) }
+        ensures told { (s : Db) → schema self.old ≡ Some s → IfOk result (λ info. info ≡ found s user.now name.now) }
         ensures by_schema { (s : Db) → schema self.new ≡ Some s → IfOk result (λ info. info ≡ found s user.now name.now) }
         ensures kept { database self.new ≡ database self.old }
-        ensures schema { KeepsSchema fixes (schema self.old) (schema self.new) result }
+        ensures stays { (s : Db) → schema self.old ≡ Some s → schema self.new ≡ Some s }
+        ensures fixed { IsTrue fixes → OnOk result (IsTrue (is_some (schema self.new))) }
+        ensures ready { OnOk result (IsTrue (ready self.new)) }
         ensures same { left self.new ≡ left self.old }
         ensures asked { (b : Self) → asked b self.old → asked b self.new }
         ensures cause { HasCause (database self.old) (faults self.old) (faults self.new) result };
 
     /// What stands under a key: a relation, a view, an index or a catalogue.
     fn info(&mut self, alloc: Global, key: &RelKey) -> Result<Option<RelInfo>, BaseFault>
-        ensures told { (db : Db) → database self.old ≡ Some db → IfOk result (λ info. info ≡ known_at db key.now) }
+        ensures told { (s : Db) → schema self.old ≡ Some s → IfOk result (λ info. info ≡ known_at s key.now) }
         ensures by_schema { (s : Db) → schema self.new ≡ Some s → IfOk result (λ info. info ≡ known_at s key.now) }
         ensures kept { database self.new ≡ database self.old }
-        ensures schema { KeepsSchema fixes (schema self.old) (schema self.new) result }
+        ensures stays { (s : Db) → schema self.old ≡ Some s → schema self.new ≡ Some s }
+        ensures fixed { IsTrue fixes → OnOk result (IsTrue (is_some (schema self.new))) }
+        ensures ready { OnOk result (IsTrue (ready self.new)) }
         ensures same { left self.new ≡ left self.old }
         ensures asked { (b : Self) → asked b self.old → asked b self.new }
         ensures cause { HasCause (database self.old) (faults self.old) (faults self.new) result };
@@ -131,7 +136,9 @@ pub trait Base {
     fn size(&mut self, alloc: Global, key: &RelKey) -> Result<u32, BaseFault>
         ensures told { (db : Db) → database self.old ≡ Some db → IfOk result (λ n. n ≡ length (rows_at db key.now)) }
         ensures kept { database self.new ≡ database self.old }
-        ensures schema { KeepsSchema fixes (schema self.old) (schema self.new) result }
+        ensures stays { (s : Db) → schema self.old ≡ Some s → schema self.new ≡ Some s }
+        ensures fixed { IsTrue fixes → OnOk result (IsTrue (is_some (schema self.new))) }
+        ensures ready { OnOk result (IsTrue (ready self.new)) }
         ensures same { left self.new ≡ left self.old }
         ensures asked { (b : Self) → asked b self.old → asked b self.new }
         ensures cause { HasCause (database self.old) (faults self.old) (faults self.new) result };
@@ -140,7 +147,9 @@ pub trait Base {
     fn has_row(&mut self, alloc: Global, key: &RelKey, row: &Row) -> Result<bool, BaseFault>
         ensures told { (db : Db) → database self.old ≡ Some db → IfOk result (λ b. b ≡ has (rows_at db key.now) row.now) }
         ensures kept { database self.new ≡ database self.old }
-        ensures schema { KeepsSchema fixes (schema self.old) (schema self.new) result }
+        ensures stays { (s : Db) → schema self.old ≡ Some s → schema self.new ≡ Some s }
+        ensures fixed { IsTrue fixes → OnOk result (IsTrue (is_some (schema self.new))) }
+        ensures ready { OnOk result (IsTrue (ready self.new)) }
         ensures same { left self.new ≡ left self.old }
         ensures asked { (b : Self) → asked b self.old → asked b self.new }
         ensures cause { HasCause (database self.old) (faults self.old) (faults self.new) result };
@@ -164,36 +173,44 @@ pub trait Base {
             → IfOk result (λ row. ForSome row (λ r. row_fits (attrs_at s key.now) r ≡ true)) }
         ensures same { left self.new ≡ left self.old }
         ensures kept { database self.new ≡ database self.old }
-        ensures schema { KeepsSchema fixes (schema self.old) (schema self.new) result }
+        ensures stays { (s : Db) → schema self.old ≡ Some s → schema self.new ≡ Some s }
+        ensures fixed { IsTrue fixes → OnOk result (IsTrue (is_some (schema self.new))) }
+        ensures ready { OnOk result (IsTrue (ready self.new)) }
         ensures asked { (b : Self) → asked b self.old → asked b self.new }
         ensures cause { HasCause (database self.old) (faults self.old) (faults self.new) result };
 
     /// The query of a view; `None` exactly where no view stands under the key.
     fn view(&mut self, alloc: Global, key: &RelKey) -> Result<Option<Query>, BaseFault>
-        ensures told { (db : Db) → database self.old ≡ Some db → IfOk result (λ q. q ≡ query_at db key.now) }
+        ensures told { (s : Db) → schema self.old ≡ Some s → IfOk result (λ q. q ≡ query_at s key.now) }
         ensures by_schema { (s : Db) → schema self.new ≡ Some s → IfOk result (λ q. q ≡ query_at s key.now) }
         ensures kept { database self.new ≡ database self.old }
-        ensures schema { KeepsSchema fixes (schema self.old) (schema self.new) result }
+        ensures stays { (s : Db) → schema self.old ≡ Some s → schema self.new ≡ Some s }
+        ensures fixed { IsTrue fixes → OnOk result (IsTrue (is_some (schema self.new))) }
+        ensures ready { OnOk result (IsTrue (ready self.new)) }
         ensures same { left self.new ≡ left self.old }
         ensures asked { (b : Self) → asked b self.old → asked b self.new }
         ensures cause { HasCause (database self.old) (faults self.old) (faults self.new) result };
 
     /// The rules of a relation, by number.
     fn rules(&mut self, alloc: Global, key: &RelKey) -> Result<Vec<Rule>, BaseFault>
-        ensures told { (db : Db) → database self.old ≡ Some db → IfOk result (λ rs. rs.items ≡ rules_on db key.now) }
+        ensures told { (s : Db) → schema self.old ≡ Some s → IfOk result (λ rs. rs.items ≡ rules_on s key.now) }
         ensures by_schema { (s : Db) → schema self.new ≡ Some s → IfOk result (λ rs. rs.items ≡ rules_on s key.now) }
         ensures kept { database self.new ≡ database self.old }
-        ensures schema { KeepsSchema fixes (schema self.old) (schema self.new) result }
+        ensures stays { (s : Db) → schema self.old ≡ Some s → schema self.new ≡ Some s }
+        ensures fixed { IsTrue fixes → OnOk result (IsTrue (is_some (schema self.new))) }
+        ensures ready { OnOk result (IsTrue (ready self.new)) }
         ensures same { left self.new ≡ left self.old }
         ensures asked { (b : Self) → asked b self.old → asked b self.new }
         ensures cause { HasCause (database self.old) (faults self.old) (faults self.new) result };
 
     /// The permits of a relation, by number.
     fn permits(&mut self, alloc: Global, key: &RelKey) -> Result<Vec<Permit>, BaseFault>
-        ensures told { (db : Db) → database self.old ≡ Some db → IfOk result (λ ps. ps.items ≡ permits_on db key.now) }
+        ensures told { (s : Db) → schema self.old ≡ Some s → IfOk result (λ ps. ps.items ≡ permits_on s key.now) }
         ensures by_schema { (s : Db) → schema self.new ≡ Some s → IfOk result (λ ps. ps.items ≡ permits_on s key.now) }
         ensures kept { database self.new ≡ database self.old }
-        ensures schema { KeepsSchema fixes (schema self.old) (schema self.new) result }
+        ensures stays { (s : Db) → schema self.old ≡ Some s → schema self.new ≡ Some s }
+        ensures fixed { IsTrue fixes → OnOk result (IsTrue (is_some (schema self.new))) }
+        ensures ready { OnOk result (IsTrue (ready self.new)) }
         ensures same { left self.new ≡ left self.old }
         ensures asked { (b : Self) → asked b self.old → asked b self.new }
         ensures cause { HasCause (database self.old) (faults self.old) (faults self.new) result };
@@ -205,10 +222,12 @@ pub trait Base {
         key: &RelKey,
         but: &[RelKey],
     ) -> Result<bool, BaseFault>
-        ensures told { (db : Db) → database self.old ≡ Some db → IfOk result (λ b. b ≡ is_named_by_view db but.now key.now) }
+        ensures told { (s : Db) → schema self.old ≡ Some s → IfOk result (λ b. b ≡ is_named_by_view s but.now key.now) }
         ensures by_schema { (s : Db) → schema self.new ≡ Some s → IfOk result (λ b. b ≡ is_named_by_view s but.now key.now) }
         ensures kept { database self.new ≡ database self.old }
-        ensures schema { KeepsSchema fixes (schema self.old) (schema self.new) result }
+        ensures stays { (s : Db) → schema self.old ≡ Some s → schema self.new ≡ Some s }
+        ensures fixed { IsTrue fixes → OnOk result (IsTrue (is_some (schema self.new))) }
+        ensures ready { OnOk result (IsTrue (ready self.new)) }
         ensures same { left self.new ≡ left self.old }
         ensures asked { (b : Self) → asked b self.old → asked b self.new }
         ensures cause { HasCause (database self.old) (faults self.old) (faults self.new) result };

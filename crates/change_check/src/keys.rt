@@ -19,8 +19,10 @@ pub(crate) fn entry<B: Base>(
     base: &mut B,
     key: &RelKey,
 ) -> Result<Option<RelInfo>, BaseFault>
-    ensures told { (db : Db) → B.database base.old ≡ Some db → IfOk result (λ info. info ≡ entry_at db key.now) }
+    ensures told { (db : Db) → B.schema base.old ≡ Some db → IfOk result (λ info. info ≡ entry_at db key.now) }
     ensures kept { B.database base.new ≡ B.database base.old }
+    ensures stays { (s : Db) → B.schema base.old ≡ Some s → B.schema base.new ≡ Some s }
+    ensures asked { (b : B) → B.asked b base.old → B.asked b base.new }
     ensures same { B.left base.new ≡ B.left base.old }
     ensures cause { HasCause (B.database base.old) (B.faults base.old) (B.faults base.new) result }
 {
@@ -36,8 +38,10 @@ pub(crate) fn is_there<B: Base>(
     base: &mut B,
     key: &RelKey,
 ) -> Result<bool, BaseFault>
-    ensures told { (db : Db) → B.database base.old ≡ Some db → IfOk result (λ there. there ≡ is_there db key.now) }
+    ensures told { (db : Db) → B.schema base.old ≡ Some db → IfOk result (λ there. there ≡ is_there db key.now) }
     ensures kept { B.database base.new ≡ B.database base.old }
+    ensures stays { (s : Db) → B.schema base.old ≡ Some s → B.schema base.new ≡ Some s }
+    ensures asked { (b : B) → B.asked b base.old → B.asked b base.new }
     ensures same { B.left base.new ≡ B.left base.old }
     ensures cause { HasCause (B.database base.old) (B.faults base.old) (B.faults base.new) result }
 {
@@ -67,8 +71,10 @@ pub(crate) fn relation<B: Base>(
     base: &mut B,
     key: &RelKey,
 ) -> Result<Option<RelInfo>, BaseFault>
-    ensures told { (db : Db) → B.database base.old ≡ Some db → IfOk result (λ info. info ≡ option_map (λ r. r.info) (relation_at db key.now)) }
+    ensures told { (db : Db) → B.schema base.old ≡ Some db → IfOk result (λ info. info ≡ option_map (λ r. r.info) (relation_at db key.now)) }
     ensures kept { B.database base.new ≡ B.database base.old }
+    ensures stays { (s : Db) → B.schema base.old ≡ Some s → B.schema base.new ≡ Some s }
+    ensures asked { (b : B) → B.asked b base.old → B.asked b base.new }
     ensures same { B.left base.new ≡ B.left base.old }
     ensures cause { HasCause (B.database base.old) (B.faults base.old) (B.faults base.new) result }
 {
@@ -78,8 +84,10 @@ pub(crate) fn relation<B: Base>(
 /// Whether a base relation stands under a key.
 #[tactic(auto, using(crate::proofs::Kept::there_where_known))]
 pub fn is_relation<B: Base>(alloc: Global, base: &mut B, key: &RelKey) -> Result<bool, BaseFault>
-    ensures told { (db : Db) → B.database base.old ≡ Some db → IfOk result (λ there. there ≡ is_relation db key.now) }
+    ensures told { (db : Db) → B.schema base.old ≡ Some db → IfOk result (λ there. there ≡ is_relation db key.now) }
     ensures kept { B.database base.new ≡ B.database base.old }
+    ensures stays { (s : Db) → B.schema base.old ≡ Some s → B.schema base.new ≡ Some s }
+    ensures asked { (b : B) → B.asked b base.old → B.asked b base.new }
     ensures same { B.left base.new ≡ B.left base.old }
     ensures cause { HasCause (B.database base.old) (B.faults base.old) (B.faults base.new) result }
 {
@@ -104,8 +112,10 @@ pub(crate) fn key_is_free<B: Base>(
     base: &mut B,
     key: &RelKey,
 ) -> Result<bool, BaseFault>
-    ensures told { (db : Db) → B.database base.old ≡ Some db → IfOk result (λ free. free ≡ key_is_free db key.now) }
+    ensures told { (db : Db) → B.schema base.old ≡ Some db → IfOk result (λ free. free ≡ key_is_free db key.now) }
     ensures kept { B.database base.new ≡ B.database base.old }
+    ensures stays { (s : Db) → B.schema base.old ≡ Some s → B.schema base.new ≡ Some s }
+    ensures asked { (b : B) → B.asked b base.old → B.asked b base.new }
     ensures same { B.left base.new ≡ B.left base.old }
     ensures cause { HasCause (B.database base.old) (B.faults base.old) (B.faults base.new) result }
 {

@@ -37,8 +37,10 @@ fn has_all<B: Base>(
     rel: &RelKey,
     rows: &[Row],
 ) -> Result<bool, BaseFault>
-    ensures told { (db : Db) → B.database base.old ≡ Some db → IfOk result (λ all. all ≡ list_all (has (rows_at db rel.now)) rows.now) }
+    ensures told { (db : Db) → B.schema base.old ≡ Some db → IfOk result (λ all. all ≡ list_all (has (rows_at db rel.now)) rows.now) }
     ensures kept { B.database base.new ≡ B.database base.old }
+    ensures stays { (s : Db) → B.schema base.old ≡ Some s → B.schema base.new ≡ Some s }
+    ensures asked { (b : B) → B.asked b base.old → B.asked b base.new }
     ensures same { B.left base.new ≡ B.left base.old }
     ensures cause { HasCause (B.database base.old) (B.faults base.old) (B.faults base.new) result }
 {
@@ -58,8 +60,10 @@ fn has_any<B: Base>(
     rel: &RelKey,
     rows: &[Row],
 ) -> Result<bool, BaseFault>
-    ensures told { (db : Db) → B.database base.old ≡ Some db → IfOk result (λ any. any ≡ list_any (has (rows_at db rel.now)) rows.now) }
+    ensures told { (db : Db) → B.schema base.old ≡ Some db → IfOk result (λ any. any ≡ list_any (has (rows_at db rel.now)) rows.now) }
     ensures kept { B.database base.new ≡ B.database base.old }
+    ensures stays { (s : Db) → B.schema base.old ≡ Some s → B.schema base.new ≡ Some s }
+    ensures asked { (b : B) → B.asked b base.old → B.asked b base.new }
     ensures same { B.left base.new ≡ B.left base.old }
     ensures cause { HasCause (B.database base.old) (B.faults base.old) (B.faults base.new) result }
 {
@@ -96,9 +100,11 @@ fn rows_move<B: Base>(
     remove: &[Row],
     add: &[Row],
 ) -> Result<bool, BaseFault>
-    ensures told { (db : Db) → B.database base.old ≡ Some db
+    ensures told { (db : Db) → B.schema base.old ≡ Some db
         → IfOk result (λ b. b ≡ (list_all (has (rows_at db rel.now)) remove.now && not (list_any (has (rows_at db rel.now)) add.now))) }
     ensures kept { B.database base.new ≡ B.database base.old }
+    ensures stays { (s : Db) → B.schema base.old ≡ Some s → B.schema base.new ≡ Some s }
+    ensures asked { (b : B) → B.asked b base.old → B.asked b base.new }
     ensures same { B.left base.new ≡ B.left base.old }
     ensures cause { HasCause (B.database base.old) (B.faults base.old) (B.faults base.new) result }
 {
@@ -117,9 +123,11 @@ fn few_stay<B: Base>(
     remove: &[Row],
     add: &[Row],
 ) -> Result<bool, BaseFault>
-    ensures told { (db : Db) → B.database base.old ≡ Some db
+    ensures told { (db : Db) → B.schema base.old ≡ Some db
         → IfOk result (λ b. b ≡ nat_le (length (rows_at db rel.now) + length add.now - length remove.now) most_rows) }
     ensures kept { B.database base.new ≡ B.database base.old }
+    ensures stays { (s : Db) → B.schema base.old ≡ Some s → B.schema base.new ≡ Some s }
+    ensures asked { (b : B) → B.asked b base.old → B.asked b base.new }
     ensures same { B.left base.new ≡ B.left base.old }
     ensures cause { HasCause (B.database base.old) (B.faults base.old) (B.faults base.new) result }
 {
@@ -172,9 +180,11 @@ fn rows_have_parts<B: Base>(
     remove: &[Row],
     add: &[Row],
 ) -> Result<bool, BaseFault>
-    ensures told { (db : Db) → B.database base.old ≡ Some db → is_relation db rel.now ≡ true → attrs_at db rel.now ≡ attrs.now
+    ensures told { (db : Db) → B.schema base.old ≡ Some db → is_relation db rel.now ≡ true → attrs_at db rel.now ≡ attrs.now
         → IfOk result (λ fit. fit ≡ rows_are_fit db rel.now remove.now add.now) }
     ensures kept { B.database base.new ≡ B.database base.old }
+    ensures stays { (s : Db) → B.schema base.old ≡ Some s → B.schema base.new ≡ Some s }
+    ensures asked { (b : B) → B.asked b base.old → B.asked b base.new }
     ensures same { B.left base.new ≡ B.left base.old }
     ensures cause { HasCause (B.database base.old) (B.faults base.old) (B.faults base.new) result }
 {
@@ -197,8 +207,10 @@ pub(crate) fn rows_are_fit<B: Base>(
     remove: &[Row],
     add: &[Row],
 ) -> Result<bool, BaseFault>
-    ensures told { (db : Db) → B.database base.old ≡ Some db → IfOk result (λ fit. fit ≡ rows_are_fit db rel.now remove.now add.now) }
+    ensures told { (db : Db) → B.schema base.old ≡ Some db → IfOk result (λ fit. fit ≡ rows_are_fit db rel.now remove.now add.now) }
     ensures kept { B.database base.new ≡ B.database base.old }
+    ensures stays { (s : Db) → B.schema base.old ≡ Some s → B.schema base.new ≡ Some s }
+    ensures asked { (b : B) → B.asked b base.old → B.asked b base.new }
     ensures same { B.left base.new ≡ B.left base.old }
     ensures cause { HasCause (B.database base.old) (B.faults base.old) (B.faults base.new) result }
 {

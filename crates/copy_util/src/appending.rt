@@ -39,6 +39,8 @@ fn absent_rows<B: Base>(
 ) -> Result<Vec<Row>, BaseFault>
     ensures told { (db : Db) → B.database base.old ≡ Some db → IfOk result (λ absent. absent.items ≡ without_rows (rows_at db rel.now) rows.items) }
     ensures kept { B.database base.new ≡ B.database base.old }
+    ensures stays { (s : Db) → B.schema base.old ≡ Some s → B.schema base.new ≡ Some s }
+    ensures asked { (b : B) → B.asked b base.old → B.asked b base.new }
     ensures same { B.left base.new ≡ B.left base.old }
     ensures cause { HasCause (B.database base.old) (B.faults base.old) (B.faults base.new) result }
 {
@@ -59,6 +61,8 @@ fn lasting_rows<B: Base>(
 ) -> Result<RowSet, BaseFault>
     ensures told { (db : Db) → B.database base.old ≡ Some db → IfOk result (λ set. set ≡ set_of (filter (keeps_rules db rel.now) rows.items)) }
     ensures kept { B.database base.new ≡ B.database base.old }
+    ensures stays { (s : Db) → B.schema base.old ≡ Some s → B.schema base.new ≡ Some s }
+    ensures asked { (b : B) → B.asked b base.old → B.asked b base.new }
     ensures same { B.left base.new ≡ B.left base.old }
     ensures cause { HasCause (B.database base.old) (B.faults base.old) (B.faults base.new) result }
 {
@@ -86,6 +90,8 @@ fn coming_rows<B: Base>(
     ensures told { (db : Db) → B.database base.old ≡ Some db
         → IfOk result (λ coming. coming.items ≡ without_rows (rows_at db rel.now) (set_of (filter (keeps_rules db rel.now) rows.items))) }
     ensures kept { B.database base.new ≡ B.database base.old }
+    ensures stays { (s : Db) → B.schema base.old ≡ Some s → B.schema base.new ≡ Some s }
+    ensures asked { (b : B) → B.asked b base.old → B.asked b base.new }
     ensures same { B.left base.new ≡ B.left base.old }
     ensures cause { HasCause (B.database base.old) (B.faults base.old) (B.faults base.new) result }
 {
@@ -104,6 +110,8 @@ fn has_no_room<B: Base>(
 ) -> Result<bool, BaseFault>
     ensures told { (db : Db) → B.database base.old ≡ Some db → IfOk result (λ b. b ≡ nat_lt most_rows (length (rows_at db rel.now) + more)) }
     ensures kept { B.database base.new ≡ B.database base.old }
+    ensures stays { (s : Db) → B.schema base.old ≡ Some s → B.schema base.new ≡ Some s }
+    ensures asked { (b : B) → B.asked b base.old → B.asked b base.new }
     ensures same { B.left base.new ≡ B.left base.old }
     ensures cause { HasCause (B.database base.old) (B.faults base.old) (B.faults base.new) result }
 {
@@ -139,6 +147,8 @@ fn change_with_room<B: Base>(
         → Copies (λ c. (c ≡ change.Rows rel.now [] coming.items) × IsFalse (nat_lt most_rows (length (rows_at db rel.now) + length coming.items)))
         (λ refusal. (refusal ≡ refusal_of 29) × IsTrue (nat_lt most_rows (length (rows_at db rel.now) + length coming.items))) result }
     ensures kept { B.database base.new ≡ B.database base.old }
+    ensures stays { (s : Db) → B.schema base.old ≡ Some s → B.schema base.new ≡ Some s }
+    ensures asked { (b : B) → B.asked b base.old → B.asked b base.new }
     ensures same { B.left base.new ≡ B.left base.old }
     ensures cause { HasBaseCause (B.database base.old) (B.faults base.old) (B.faults base.new) result }
 {
@@ -166,6 +176,8 @@ pub(crate) fn rows_appended<B: Base>(
     ensures told { (db : Db) → B.database base.old ≡ Some db
         → Copies (λ c. rows_appended db rel.now rows.items ≡ Planned c) (λ refusal. rows_appended db rel.now rows.items ≡ Refused refusal) result }
     ensures kept { B.database base.new ≡ B.database base.old }
+    ensures stays { (s : Db) → B.schema base.old ≡ Some s → B.schema base.new ≡ Some s }
+    ensures asked { (b : B) → B.asked b base.old → B.asked b base.new }
     ensures same { B.left base.new ≡ B.left base.old }
     ensures cause { HasBaseCause (B.database base.old) (B.faults base.old) (B.faults base.new) result }
 {

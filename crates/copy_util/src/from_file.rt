@@ -100,6 +100,8 @@ fn rows_for<B: Base>(
     ensures told { (db : Db) → B.database base.old ≡ Some db
         → Copies (λ rows. or_bad_row (rows_in_file (kinds_at db rel.now) columns.now bytes.now) ≡ Ok rows.items) (λ refusal. or_bad_row (rows_in_file (kinds_at db rel.now) columns.now bytes.now) ≡ Err refusal) result }
     ensures kept { B.database base.new ≡ B.database base.old }
+    ensures stays { (s : Db) → B.schema base.old ≡ Some s → B.schema base.new ≡ Some s }
+    ensures asked { (b : B) → B.asked b base.old → B.asked b base.new }
     ensures same { B.left base.new ≡ B.left base.old }
     ensures cause { HasBaseCause (B.database base.old) (B.faults base.old) (B.faults base.new) result }
 {
@@ -124,6 +126,8 @@ fn file_appended<B: Base>(
     ensures told { (db : Db) → B.database base.old ≡ Some db
         → Copies (λ change. rows_from_bytes db rel.now columns.now bytes.items ≡ Ok change) (λ refusal. rows_from_bytes db rel.now columns.now bytes.items ≡ Err refusal) result }
     ensures kept { B.database base.new ≡ B.database base.old }
+    ensures stays { (s : Db) → B.schema base.old ≡ Some s → B.schema base.new ≡ Some s }
+    ensures asked { (b : B) → B.asked b base.old → B.asked b base.new }
     ensures same { B.left base.new ≡ B.left base.old }
     ensures cause { HasBaseCause (B.database base.old) (B.faults base.old) (B.faults base.new) result }
 {
@@ -151,6 +155,8 @@ fn rows_from<B: Base, H: Shelf>(
         (λ refusal. copied_from db files user.now rel.now columns.now constant.now ≡ Err refusal) result }
     ensures comes { (db : Db) → B.database base.old ≡ Some db → IfOk result (ComesOf db user.now rel.now columns.now constant.now) }
     ensures kept { B.database base.new ≡ B.database base.old }
+    ensures stays { (s : Db) → B.schema base.old ≡ Some s → B.schema base.new ≡ Some s }
+    ensures asked { (b : B) → B.asked b base.old → B.asked b base.new }
     ensures same { B.left base.new ≡ B.left base.old }
     ensures files { H.files shelf.new ≡ H.files shelf.old }
     ensures cause { HasCopyCause (B.database base.old) (B.faults base.old) (B.faults base.new) (H.faults shelf.old) (H.faults shelf.new) result }
@@ -184,6 +190,8 @@ pub fn copy_from<B: Base, H: Shelf>(
         (λ refusal. copied_from db files user.now c.rel c.columns c.constant ≡ Err refusal) result }
     ensures lawful { (db : Db) → B.database base.old ≡ Some db → IfOk result (λ change. IsLawful db change) }
     ensures kept { B.database base.new ≡ B.database base.old }
+    ensures stays { (s : Db) → B.schema base.old ≡ Some s → B.schema base.new ≡ Some s }
+    ensures asked { (b : B) → B.asked b base.old → B.asked b base.new }
     ensures same { B.left base.new ≡ B.left base.old }
     ensures files { H.files shelf.new ≡ H.files shelf.old }
     ensures cause { HasCopyCause (B.database base.old) (B.faults base.old) (B.faults base.new) (H.faults shelf.old) (H.faults shelf.new) result }

@@ -53,6 +53,8 @@ fn put_rows<B: Base>(
     requires empty { out.old.items ≡ [] }
     ensures told { (db : Db) → B.database base.old ≡ Some db → IfOk result (λ bad. file_of_rows columns.now (rows_at db rel.now) ≡ up_to_bad out.new.items bad) }
     ensures kept { B.database base.new ≡ B.database base.old }
+    ensures stays { (s : Db) → B.schema base.old ≡ Some s → B.schema base.new ≡ Some s }
+    ensures asked { (b : B) → B.asked b base.old → B.asked b base.new }
     ensures same { B.left base.new ≡ B.left base.old }
     ensures cause { HasCause (B.database base.old) (B.faults base.old) (B.faults base.new) result }
 {
@@ -80,6 +82,8 @@ fn put_file<B: Base>(
     ensures told { (db : Db) → B.database base.old ≡ Some db
         → Copies (λ done. copied_into db user.now rel.now columns.now ≡ Ok out.new.items) (λ refusal. copied_into db user.now rel.now columns.now ≡ Err refusal) result }
     ensures kept { B.database base.new ≡ B.database base.old }
+    ensures stays { (s : Db) → B.schema base.old ≡ Some s → B.schema base.new ≡ Some s }
+    ensures asked { (b : B) → B.asked b base.old → B.asked b base.new }
     ensures same { B.left base.new ≡ B.left base.old }
     ensures cause { HasBaseCause (B.database base.old) (B.faults base.old) (B.faults base.new) result }
 {
@@ -126,6 +130,8 @@ fn store_rows<B: Base, H: Shelf>(
     ensures told { (db : Db) (files : Files) → B.database base.old ≡ Some db → H.files shelf.old ≡ Some files
         → IsStored (copied_into db user.now rel.now columns.now) (file_of_constant constant.now) files (H.files shelf.new) result }
     ensures kept { B.database base.new ≡ B.database base.old }
+    ensures stays { (s : Db) → B.schema base.old ≡ Some s → B.schema base.new ≡ Some s }
+    ensures asked { (b : B) → B.asked b base.old → B.asked b base.new }
     ensures same { B.left base.new ≡ B.left base.old }
     ensures cause { HasCopyCause (B.database base.old) (B.faults base.old) (B.faults base.new) (H.faults shelf.old) (H.faults shelf.new) result }
 {
@@ -154,6 +160,8 @@ pub fn copy_into<B: Base, H: Shelf>(
     ensures told { (db : Db) (files : Files) → B.database base.old ≡ Some db → H.files shelf.old ≡ Some files → (c : IsCopy u.now false)
         → IsStored (copied_into db user.now c.rel c.columns) (file_of_constant c.constant) files (H.files shelf.new) result }
     ensures kept { B.database base.new ≡ B.database base.old }
+    ensures stays { (s : Db) → B.schema base.old ≡ Some s → B.schema base.new ≡ Some s }
+    ensures asked { (b : B) → B.asked b base.old → B.asked b base.new }
     ensures same { B.left base.new ≡ B.left base.old }
     ensures cause { HasCopyCause (B.database base.old) (B.faults base.old) (B.faults base.new) (H.faults shelf.old) (H.faults shelf.new) result }
 {

@@ -30,6 +30,8 @@ fn put_scanned<B: Base>(
     requires empty { rows.old.items ≡ [] }
     ensures told { (db : Db) → B.database base.old ≡ Some db → OnOk result (set_of rows.new.items ≡ rows_at db key.now) }
     ensures kept { B.database base.new ≡ B.database base.old }
+    ensures stays { (s : Db) → B.schema base.old ≡ Some s → B.schema base.new ≡ Some s }
+    ensures asked { (b : B) → B.asked b base.old → B.asked b base.new }
     ensures same { B.left base.new ≡ B.left base.old }
     ensures asked { (b : B) → B.asked b base.old → B.asked b base.new }
     ensures cause { HasCause (B.database base.old) (B.faults base.old) (B.faults base.new) result }
@@ -49,6 +51,8 @@ fn put_scanned<B: Base>(
 pub fn rows_of<B: Base>(alloc: Global, base: &mut B, key: &RelKey) -> Result<RowSet, BaseFault>
     ensures told { (db : Db) → B.database base.old ≡ Some db → IfOk result (λ set. set ≡ rows_at db key.now) }
     ensures kept { B.database base.new ≡ B.database base.old }
+    ensures stays { (s : Db) → B.schema base.old ≡ Some s → B.schema base.new ≡ Some s }
+    ensures asked { (b : B) → B.asked b base.old → B.asked b base.new }
     ensures same { B.left base.new ≡ B.left base.old }
     ensures asked { (b : B) → B.asked b base.old → B.asked b base.new }
     ensures cause { HasCause (B.database base.old) (B.faults base.old) (B.faults base.new) result }

@@ -32,6 +32,8 @@ fn put_scanned<B: Base>(
     ensures told { (db : Db) → B.database base.old ≡ Some db → (q : Query) → IsQueryOf q rel.now qual.now targets.now
         → OnOk result (Gives no_aggs q (map alone (B.left base.old rel.now first_place)) [] given.new.items) }
     ensures kept { B.database base.new ≡ B.database base.old }
+    ensures stays { (s : Db) → B.schema base.old ≡ Some s → B.schema base.new ≡ Some s }
+    ensures asked { (b : B) → B.asked b base.old → B.asked b base.new }
     ensures same { B.left base.new ≡ B.left base.old }
     ensures asked { (b : B) → B.asked b base.old → B.asked b base.new }
     ensures cause { (q : Query) → IsQueryOf q rel.now qual.now targets.now → HasCause q rel.now (B.database base.old) (B.faults base.old) (B.faults base.new) result }
@@ -59,6 +61,8 @@ pub(crate) fn given_by_scan<B: Base>(
     ensures none_lacks { (db : Db) → B.database base.old ≡ Some db → (q : Query) → IsQueryOf q rel.now qual.now targets.now
         → OnOk result (IsFalse (some_lacks no_aggs q (map alone (rows_at db rel.now)))) }
     ensures kept { B.database base.new ≡ B.database base.old }
+    ensures stays { (s : Db) → B.schema base.old ≡ Some s → B.schema base.new ≡ Some s }
+    ensures asked { (b : B) → B.asked b base.old → B.asked b base.new }
     ensures same { B.left base.new ≡ B.left base.old }
     ensures asked { (b : B) → B.asked b base.old → B.asked b base.new }
     ensures cause { (q : Query) → IsQueryOf q rel.now qual.now targets.now → HasCause q rel.now (B.database base.old) (B.faults base.old) (B.faults base.new) result }

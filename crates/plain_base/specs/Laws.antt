@@ -30,7 +30,3 @@ of_told P a b e h = subst P (same_Some a b e) h
 -- from the first place on all rows are left
 pub whole_scan : (db : Db) (key : RelKey) → IsDatabase db → IsScan (rows_at db key) (rows_from db key first_place)
 whole_scan db key is = record { all = set_of_ascending (rows_at db key) (ascending db key is); once = refl }
-
--- what has the schema of the one database is the schema of the one that is told
-pub own_schema : (a db s : Db) → Some a ≡ Some db → Some a ≡ Some s → schema_of s ≡ schema_of db
-own_schema a db s is known = ap schema_of (sym (same_Some a s known) ∙ same_Some a db is)

@@ -24,8 +24,10 @@ fn key_of(alloc: Global, owner: &Name, name: &Name) -> Result<RelKey, OutOfMemor
 
 /// Whether anything stands under a key.
 fn is_under<B: Base>(alloc: Global, base: &mut B, key: &RelKey) -> Result<bool, BaseFault>
-    ensures told { (db : Db) → B.database base.old ≡ Some db → IfOk result (λ b. b ≡ is_some (known_at db key.now)) }
+    ensures told { (db : Db) → B.schema base.old ≡ Some db → IfOk result (λ b. b ≡ is_some (known_at db key.now)) }
     ensures kept { B.database base.new ≡ B.database base.old }
+    ensures stays { (s : Db) → B.schema base.old ≡ Some s → B.schema base.new ≡ Some s }
+    ensures asked { (b : B) → B.asked b base.old → B.asked b base.new }
     ensures same { B.left base.new ≡ B.left base.old }
     ensures cause { HasCause (B.database base.old) (B.faults base.old) (B.faults base.new) result }
 {
@@ -41,8 +43,10 @@ fn is_known<B: Base>(
     owner: &Name,
     name: &Name,
 ) -> Result<bool, BaseFault>
-    ensures told { (db : Db) → B.database base.old ≡ Some db → IfOk result (λ b. b ≡ is_some (known_at db (key_of owner.now name.now))) }
+    ensures told { (db : Db) → B.schema base.old ≡ Some db → IfOk result (λ b. b ≡ is_some (known_at db (key_of owner.now name.now))) }
     ensures kept { B.database base.new ≡ B.database base.old }
+    ensures stays { (s : Db) → B.schema base.old ≡ Some s → B.schema base.new ≡ Some s }
+    ensures asked { (b : B) → B.asked b base.old → B.asked b base.new }
     ensures same { B.left base.new ≡ B.left base.old }
     ensures cause { HasCause (B.database base.old) (B.faults base.old) (B.faults base.new) result }
 {
@@ -52,8 +56,10 @@ fn is_known<B: Base>(
 
 /// The same of the administrator's key.
 fn is_known_to_all<B: Base>(alloc: Global, base: &mut B, name: &Name) -> Result<bool, BaseFault>
-    ensures told { (db : Db) → B.database base.old ≡ Some db → IfOk result (λ b. b ≡ is_some (known_at db (key_of db.dba name.now))) }
+    ensures told { (db : Db) → B.schema base.old ≡ Some db → IfOk result (λ b. b ≡ is_some (known_at db (key_of db.dba name.now))) }
     ensures kept { B.database base.new ≡ B.database base.old }
+    ensures stays { (s : Db) → B.schema base.old ≡ Some s → B.schema base.new ≡ Some s }
+    ensures asked { (b : B) → B.asked b base.old → B.asked b base.new }
     ensures same { B.left base.new ≡ B.left base.old }
     ensures cause { HasCause (B.database base.old) (B.faults base.old) (B.faults base.new) result }
 {
@@ -68,9 +74,11 @@ fn is_entry<B: Base>(
     user: &Name,
     name: &Name,
 ) -> Result<bool, BaseFault>
-    ensures told { (db : Db) → B.database base.old ≡ Some db
+    ensures told { (db : Db) → B.schema base.old ≡ Some db
         → IfOk result (λ b. b ≡ (is_some (known_at db (key_of user.now name.now)) || is_some (known_at db (key_of db.dba name.now)))) }
     ensures kept { B.database base.new ≡ B.database base.old }
+    ensures stays { (s : Db) → B.schema base.old ≡ Some s → B.schema base.new ≡ Some s }
+    ensures asked { (b : B) → B.asked b base.old → B.asked b base.new }
     ensures same { B.left base.new ≡ B.left base.old }
     ensures cause { HasCause (B.database base.old) (B.faults base.old) (B.faults base.new) result }
 {
@@ -93,9 +101,11 @@ pub(crate) fn entry_refusal<B: Base>(
     user: &Name,
     name: &Name,
 ) -> Result<Option<u8>, BaseFault>
-    ensures told { (db : Db) (ranges : Ranges) → B.database base.old ≡ Some db
+    ensures told { (db : Db) (ranges : Ranges) → B.schema base.old ≡ Some db
         → IfOk result (λ n. n ≡ mention_refusal (scope_of db user.now ranges) (Entry name.now)) }
     ensures kept { B.database base.new ≡ B.database base.old }
+    ensures stays { (s : Db) → B.schema base.old ≡ Some s → B.schema base.new ≡ Some s }
+    ensures asked { (b : B) → B.asked b base.old → B.asked b base.new }
     ensures same { B.left base.new ≡ B.left base.old }
     ensures cause { HasCause (B.database base.old) (B.faults base.old) (B.faults base.new) result }
 {

@@ -31,9 +31,11 @@ pub fn infos_of<B: Base>(
     ranges: &RangeTable,
     vars: &[Name],
 ) -> Result<Option<Vec<RelInfo>>, BaseFault>
-    ensures told { (db : Db) (user : List ℕ) → B.database base.old ≡ Some db
+    ensures told { (db : Db) (user : List ℕ) → B.schema base.old ≡ Some db
         → IfOk result (λ found. AreOver (scope_of db user ranges.now) vars.now (option_map (λ infos. infos.items) found)) }
     ensures kept { B.database base.new ≡ B.database base.old }
+    ensures stays { (s : Db) → B.schema base.old ≡ Some s → B.schema base.new ≡ Some s }
+    ensures asked { (b : B) → B.asked b base.old → B.asked b base.new }
     ensures same { B.left base.new ≡ B.left base.old }
     ensures cause { HasCause (B.database base.old) (B.faults base.old) (B.faults base.new) result }
 {

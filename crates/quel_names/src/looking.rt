@@ -22,8 +22,10 @@ pub fn named<B: Base>(
     user: &Name,
     name: &Name,
 ) -> Result<Option<RelInfo>, BaseFault>
-    ensures told { (db : Db) → B.database base.old ≡ Some db → IfOk result (λ info. info ≡ found db user.now name.now) }
+    ensures told { (db : Db) → B.schema base.old ≡ Some db → IfOk result (λ info. info ≡ found db user.now name.now) }
     ensures kept { B.database base.new ≡ B.database base.old }
+    ensures stays { (s : Db) → B.schema base.old ≡ Some s → B.schema base.new ≡ Some s }
+    ensures asked { (b : B) → B.asked b base.old → B.asked b base.new }
     ensures same { B.left base.new ≡ B.left base.old }
     ensures cause { HasCause (B.database base.old) (B.faults base.old) (B.faults base.new) result }
 {
@@ -64,8 +66,10 @@ pub fn info_at<B: Base>(
     base: &mut B,
     key: &RelKey,
 ) -> Result<Option<RelInfo>, BaseFault>
-    ensures told { (db : Db) → B.database base.old ≡ Some db → IfOk result (λ info. info ≡ info_at db key.now) }
+    ensures told { (db : Db) → B.schema base.old ≡ Some db → IfOk result (λ info. info ≡ info_at db key.now) }
     ensures kept { B.database base.new ≡ B.database base.old }
+    ensures stays { (s : Db) → B.schema base.old ≡ Some s → B.schema base.new ≡ Some s }
+    ensures asked { (b : B) → B.asked b base.old → B.asked b base.new }
     ensures same { B.left base.new ≡ B.left base.old }
     ensures cause { HasCause (B.database base.old) (B.faults base.old) (B.faults base.new) result }
 {
@@ -81,9 +85,11 @@ pub fn ranged<B: Base>(
     ranges: &RangeTable,
     var: &Name,
 ) -> Result<Option<RelInfo>, BaseFault>
-    ensures told { (db : Db) → B.database base.old ≡ Some db
+    ensures told { (db : Db) → B.schema base.old ≡ Some db
         → IfOk result (λ info. info ≡ option_and_then (info_at db) (range_of ranges.now var.now)) }
     ensures kept { B.database base.new ≡ B.database base.old }
+    ensures stays { (s : Db) → B.schema base.old ≡ Some s → B.schema base.new ≡ Some s }
+    ensures asked { (b : B) → B.asked b base.old → B.asked b base.new }
     ensures same { B.left base.new ≡ B.left base.old }
     ensures cause { HasCause (B.database base.old) (B.faults base.old) (B.faults base.new) result }
 {

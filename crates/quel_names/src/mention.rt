@@ -64,8 +64,10 @@ fn refusal_under<B: Base>(
     base: &mut B,
     key: &RelKey,
 ) -> Result<Option<u8>, BaseFault>
-    ensures told { (db : Db) → B.database base.old ≡ Some db → IfOk result (λ n. n ≡ refusal_in no_refusal (info_at db key.now)) }
+    ensures told { (db : Db) → B.schema base.old ≡ Some db → IfOk result (λ n. n ≡ refusal_in no_refusal (info_at db key.now)) }
     ensures kept { B.database base.new ≡ B.database base.old }
+    ensures stays { (s : Db) → B.schema base.old ≡ Some s → B.schema base.new ≡ Some s }
+    ensures asked { (b : B) → B.asked b base.old → B.asked b base.new }
     ensures same { B.left base.new ≡ B.left base.old }
     ensures cause { HasCause (B.database base.old) (B.faults base.old) (B.faults base.new) result }
 {
@@ -79,8 +81,10 @@ fn attr_refusal_under<B: Base>(
     key: &RelKey,
     attr: &Name,
 ) -> Result<Option<u8>, BaseFault>
-    ensures told { (db : Db) → B.database base.old ≡ Some db → IfOk result (λ n. n ≡ refusal_in (attr_refusal attr.now) (info_at db key.now)) }
+    ensures told { (db : Db) → B.schema base.old ≡ Some db → IfOk result (λ n. n ≡ refusal_in (attr_refusal attr.now) (info_at db key.now)) }
     ensures kept { B.database base.new ≡ B.database base.old }
+    ensures stays { (s : Db) → B.schema base.old ≡ Some s → B.schema base.new ≡ Some s }
+    ensures asked { (b : B) → B.asked b base.old → B.asked b base.new }
     ensures same { B.left base.new ≡ B.left base.old }
     ensures cause { HasCause (B.database base.old) (B.faults base.old) (B.faults base.new) result }
 {
@@ -94,9 +98,11 @@ fn variable_refusal<B: Base>(
     ranges: &RangeTable,
     var: &Name,
 ) -> Result<Option<u8>, BaseFault>
-    ensures told { (db : Db) (user : List ℕ) → B.database base.old ≡ Some db
+    ensures told { (db : Db) (user : List ℕ) → B.schema base.old ≡ Some db
         → IfOk result (λ n. n ≡ mention_refusal (scope_of db user ranges.now) (Variable var.now)) }
     ensures kept { B.database base.new ≡ B.database base.old }
+    ensures stays { (s : Db) → B.schema base.old ≡ Some s → B.schema base.new ≡ Some s }
+    ensures asked { (b : B) → B.asked b base.old → B.asked b base.new }
     ensures same { B.left base.new ≡ B.left base.old }
     ensures cause { HasCause (B.database base.old) (B.faults base.old) (B.faults base.new) result }
 {
@@ -113,9 +119,11 @@ fn dotted_refusal<B: Base>(
     var: &Name,
     attr: &Name,
 ) -> Result<Option<u8>, BaseFault>
-    ensures told { (db : Db) (user : List ℕ) → B.database base.old ≡ Some db
+    ensures told { (db : Db) (user : List ℕ) → B.schema base.old ≡ Some db
         → IfOk result (λ n. n ≡ mention_refusal (scope_of db user ranges.now) (AttrOf var.now attr.now)) }
     ensures kept { B.database base.new ≡ B.database base.old }
+    ensures stays { (s : Db) → B.schema base.old ≡ Some s → B.schema base.new ≡ Some s }
+    ensures asked { (b : B) → B.asked b base.old → B.asked b base.new }
     ensures same { B.left base.new ≡ B.left base.old }
     ensures cause { HasCause (B.database base.old) (B.faults base.old) (B.faults base.new) result }
 {
@@ -132,9 +140,11 @@ fn relation_refusal<B: Base>(
     user: &Name,
     name: &Name,
 ) -> Result<Option<u8>, BaseFault>
-    ensures told { (db : Db) (ranges : Ranges) → B.database base.old ≡ Some db
+    ensures told { (db : Db) (ranges : Ranges) → B.schema base.old ≡ Some db
         → IfOk result (λ n. n ≡ mention_refusal (scope_of db user.now ranges) (Relation name.now)) }
     ensures kept { B.database base.new ≡ B.database base.old }
+    ensures stays { (s : Db) → B.schema base.old ≡ Some s → B.schema base.new ≡ Some s }
+    ensures asked { (b : B) → B.asked b base.old → B.asked b base.new }
     ensures same { B.left base.new ≡ B.left base.old }
     ensures cause { HasCause (B.database base.old) (B.faults base.old) (B.faults base.new) result }
 {
@@ -150,9 +160,11 @@ fn attr_in_refusal<B: Base>(
     name: &Name,
     attr: &Name,
 ) -> Result<Option<u8>, BaseFault>
-    ensures told { (db : Db) (ranges : Ranges) → B.database base.old ≡ Some db
+    ensures told { (db : Db) (ranges : Ranges) → B.schema base.old ≡ Some db
         → IfOk result (λ n. n ≡ mention_refusal (scope_of db user.now ranges) (AttrIn name.now attr.now)) }
     ensures kept { B.database base.new ≡ B.database base.old }
+    ensures stays { (s : Db) → B.schema base.old ≡ Some s → B.schema base.new ≡ Some s }
+    ensures asked { (b : B) → B.asked b base.old → B.asked b base.new }
     ensures same { B.left base.new ≡ B.left base.old }
     ensures cause { HasCause (B.database base.old) (B.faults base.old) (B.faults base.new) result }
 {
@@ -169,9 +181,11 @@ pub(crate) fn mention_refusal<B: Base>(
     ranges: &RangeTable,
     mention: &Mention<'_>,
 ) -> Result<Option<u8>, BaseFault>
-    ensures told { (db : Db) → B.database base.old ≡ Some db
+    ensures told { (db : Db) → B.schema base.old ≡ Some db
         → IfOk result (λ n. n ≡ mention_refusal (scope_of db user.now ranges.now) (seen mention.now)) }
     ensures kept { B.database base.new ≡ B.database base.old }
+    ensures stays { (s : Db) → B.schema base.old ≡ Some s → B.schema base.new ≡ Some s }
+    ensures asked { (b : B) → B.asked b base.old → B.asked b base.new }
     ensures same { B.left base.new ≡ B.left base.old }
     ensures cause { HasCause (B.database base.old) (B.faults base.old) (B.faults base.new) result }
 {

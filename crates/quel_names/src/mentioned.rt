@@ -22,9 +22,11 @@ pub(crate) fn first_refusal<B: Base>(
     ranges: &RangeTable,
     mentions: &[Mention<'_>],
 ) -> Result<Option<u8>, BaseFault>
-    ensures told { (db : Db) → B.database base.old ≡ Some db
+    ensures told { (db : Db) → B.schema base.old ≡ Some db
         → IfOk result (λ n. n ≡ first_number (map (mention_refusal (scope_of db user.now ranges.now)) (map seen mentions.now))) }
     ensures kept { B.database base.new ≡ B.database base.old }
+    ensures stays { (s : Db) → B.schema base.old ≡ Some s → B.schema base.new ≡ Some s }
+    ensures asked { (b : B) → B.asked b base.old → B.asked b base.new }
     ensures same { B.left base.new ≡ B.left base.old }
     ensures cause { HasCause (B.database base.old) (B.faults base.old) (B.faults base.new) result }
 {
@@ -45,10 +47,12 @@ pub(crate) fn refusal_of<B: Base>(
     ranges: &RangeTable,
     mentions: Result<Vec<Mention<'_>>, OutOfMemory>,
 ) -> Result<Option<u8>, BaseFault>
-    ensures told { (db : Db) (names : List Named) → B.database base.old ≡ Some db
+    ensures told { (db : Db) (names : List Named) → B.schema base.old ≡ Some db
         → IfOk mentions.entry (λ found. map seen found.items ≡ names)
         → IfOk result (λ n. n ≡ first_number (map (mention_refusal (scope_of db user.now ranges.now)) names)) }
     ensures kept { B.database base.new ≡ B.database base.old }
+    ensures stays { (s : Db) → B.schema base.old ≡ Some s → B.schema base.new ≡ Some s }
+    ensures asked { (b : B) → B.asked b base.old → B.asked b base.new }
     ensures same { B.left base.new ≡ B.left base.old }
     ensures cause { HasCause (B.database base.old) (B.faults base.old) (B.faults base.new) result }
 {

@@ -29,9 +29,11 @@ fn set_refusal<B: Base>(
     name: &Name,
     term: &Term,
 ) -> Result<Option<u8>, BaseFault>
-    ensures told { (db : Db) → B.database base.old ≡ Some db
+    ensures told { (db : Db) → B.schema base.old ≡ Some db
         → IfOk result (λ n. n ≡ first_number (map (mention_refusal (scope_of db user.now ranges.now)) (meant_by role.now name.now ++ dotted (attributes term.now)))) }
     ensures kept { B.database base.new ≡ B.database base.old }
+    ensures stays { (s : Db) → B.schema base.old ≡ Some s → B.schema base.new ≡ Some s }
+    ensures asked { (b : B) → B.asked b base.old → B.asked b base.new }
     ensures same { B.left base.new ≡ B.left base.old }
     ensures cause { HasCause (B.database base.old) (B.faults base.old) (B.faults base.new) result }
 {
@@ -51,9 +53,11 @@ fn titles_refusal<B: Base>(
     role: &Role<'_>,
     attrs: &[Attr],
 ) -> Result<Option<u8>, BaseFault>
-    ensures told { (db : Db) → B.database base.old ≡ Some db
+    ensures told { (db : Db) → B.schema base.old ≡ Some db
         → IfOk result (λ n. n ≡ first_number (map (mention_refusal (scope_of db user.now ranges.now)) (flat_map (λ a. meant_by role.now a.name) attrs.now))) }
     ensures kept { B.database base.new ≡ B.database base.old }
+    ensures stays { (s : Db) → B.schema base.old ≡ Some s → B.schema base.new ≡ Some s }
+    ensures asked { (b : B) → B.asked b base.old → B.asked b base.new }
     ensures same { B.left base.new ≡ B.left base.old }
     ensures cause { HasCause (B.database base.old) (B.faults base.old) (B.faults base.new) result }
 {
@@ -70,9 +74,11 @@ fn all_refusal<B: Base>(
     role: &Role<'_>,
     var: &Name,
 ) -> Result<Option<u8>, BaseFault>
-    ensures told { (db : Db) → B.database base.old ≡ Some db
+    ensures told { (db : Db) → B.schema base.old ≡ Some db
         → IfOk result (λ n. n ≡ first_number (map (mention_refusal (scope_of db user.now ranges.now)) (item_mentions (scope_of db user.now ranges.now) (meant_by role.now) (All var.now)))) }
     ensures kept { B.database base.new ≡ B.database base.old }
+    ensures stays { (s : Db) → B.schema base.old ≡ Some s → B.schema base.new ≡ Some s }
+    ensures asked { (b : B) → B.asked b base.old → B.asked b base.new }
     ensures same { B.left base.new ≡ B.left base.old }
     ensures cause { HasCause (B.database base.old) (B.faults base.old) (B.faults base.new) result }
 {
@@ -95,9 +101,11 @@ pub(crate) fn item_refusal<B: Base>(
     role: &Role<'_>,
     item: &Item,
 ) -> Result<Option<u8>, BaseFault>
-    ensures told { (db : Db) → B.database base.old ≡ Some db
+    ensures told { (db : Db) → B.schema base.old ≡ Some db
         → IfOk result (λ n. n ≡ first_number (map (mention_refusal (scope_of db user.now ranges.now)) (item_mentions (scope_of db user.now ranges.now) (meant_by role.now) item.now))) }
     ensures kept { B.database base.new ≡ B.database base.old }
+    ensures stays { (s : Db) → B.schema base.old ≡ Some s → B.schema base.new ≡ Some s }
+    ensures asked { (b : B) → B.asked b base.old → B.asked b base.new }
     ensures same { B.left base.new ≡ B.left base.old }
     ensures cause { HasCause (B.database base.old) (B.faults base.old) (B.faults base.new) result }
 {

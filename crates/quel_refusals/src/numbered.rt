@@ -37,8 +37,10 @@ pub fn standing_permits<B: Base>(
     base: &mut B,
     rel: &RelKey,
 ) -> Result<Vec<u32>, BaseFault>
-    ensures told { (db : Db) → B.database base.old ≡ Some db → IfOk result (λ numbers. numbers.items ≡ permit_numbers db rel.now) }
+    ensures told { (db : Db) → B.schema base.old ≡ Some db → IfOk result (λ numbers. numbers.items ≡ permit_numbers db rel.now) }
     ensures kept { B.database base.new ≡ B.database base.old }
+    ensures stays { (s : Db) → B.schema base.old ≡ Some s → B.schema base.new ≡ Some s }
+    ensures asked { (b : B) → B.asked b base.old → B.asked b base.new }
     ensures same { B.left base.new ≡ B.left base.old }
     ensures cause { HasCause (B.database base.old) (B.faults base.old) (B.faults base.new) result }
 {
@@ -54,8 +56,10 @@ pub fn standing_rules<B: Base>(
     base: &mut B,
     rel: &RelKey,
 ) -> Result<Vec<u32>, BaseFault>
-    ensures told { (db : Db) → B.database base.old ≡ Some db → IfOk result (λ numbers. numbers.items ≡ rule_numbers db rel.now) }
+    ensures told { (db : Db) → B.schema base.old ≡ Some db → IfOk result (λ numbers. numbers.items ≡ rule_numbers db rel.now) }
     ensures kept { B.database base.new ≡ B.database base.old }
+    ensures stays { (s : Db) → B.schema base.old ≡ Some s → B.schema base.new ≡ Some s }
+    ensures asked { (b : B) → B.asked b base.old → B.asked b base.new }
     ensures same { B.left base.new ≡ B.left base.old }
     ensures cause { HasCause (B.database base.old) (B.faults base.old) (B.faults base.new) result }
 {

@@ -18,8 +18,10 @@ const MOST_ENTRIES: u32 = 10_000;
 /// Whether there is no room for a further relation, view or index.
 #[tactic(auto, unfolding(quel_meaning::specs::Passing::is_full))]
 pub fn is_full<B: Base>(base: &mut B) -> Result<bool, BaseFault>
-    ensures told { (db : Db) → B.database base.old ≡ Some db → IfOk result (λ full. full ≡ is_full db) }
+    ensures told { (db : Db) → B.schema base.old ≡ Some db → IfOk result (λ full. full ≡ is_full db) }
     ensures kept { B.database base.new ≡ B.database base.old }
+    ensures stays { (s : Db) → B.schema base.old ≡ Some s → B.schema base.new ≡ Some s }
+    ensures asked { (b : B) → B.asked b base.old → B.asked b base.new }
     ensures same { B.left base.new ≡ B.left base.old }
     ensures cause { HasCause (B.database base.old) (B.faults base.old) (B.faults base.new) result }
 {
@@ -45,8 +47,10 @@ pub fn is_catalogue_name(name: &Name) -> bool
 
 /// Whether a relation, a view, an index or a catalogue stands under the key.
 fn is_known<B: Base>(alloc: Global, base: &mut B, key: &RelKey) -> Result<bool, BaseFault>
-    ensures told { (db : Db) → B.database base.old ≡ Some db → IfOk result (λ known. known ≡ is_some (known_at db key.now)) }
+    ensures told { (db : Db) → B.schema base.old ≡ Some db → IfOk result (λ known. known ≡ is_some (known_at db key.now)) }
     ensures kept { B.database base.new ≡ B.database base.old }
+    ensures stays { (s : Db) → B.schema base.old ≡ Some s → B.schema base.new ≡ Some s }
+    ensures asked { (b : B) → B.asked b base.old → B.asked b base.new }
     ensures same { B.left base.new ≡ B.left base.old }
     ensures cause { HasCause (B.database base.old) (B.faults base.old) (B.faults base.new) result }
 {
@@ -64,8 +68,10 @@ pub fn is_taken<B: Base>(
     user: &Name,
     name: &Name,
 ) -> Result<bool, BaseFault>
-    ensures told { (db : Db) → B.database base.old ≡ Some db → IfOk result (λ taken. taken ≡ is_taken db user.now name.now) }
+    ensures told { (db : Db) → B.schema base.old ≡ Some db → IfOk result (λ taken. taken ≡ is_taken db user.now name.now) }
     ensures kept { B.database base.new ≡ B.database base.old }
+    ensures stays { (s : Db) → B.schema base.old ≡ Some s → B.schema base.new ≡ Some s }
+    ensures asked { (b : B) → B.asked b base.old → B.asked b base.new }
     ensures same { B.left base.new ≡ B.left base.old }
     ensures cause { HasCause (B.database base.old) (B.faults base.old) (B.faults base.new) result }
 {

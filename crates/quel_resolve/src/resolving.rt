@@ -23,8 +23,10 @@ fn resolve_named<B: Base>(
     ranges: &RangeTable,
     base: &mut B,
 ) -> Result<Checked, CheckFault>
-    ensures told { (db : Db) → B.database base.old ≡ Some db → name_refusal (scope_of db user.now ranges.now) s.now ≡ None → Resolves db user.now ranges.now s.now result }
+    ensures told { (db : Db) → B.schema base.old ≡ Some db → name_refusal (scope_of db user.now ranges.now) s.now ≡ None → Resolves db user.now ranges.now s.now result }
     ensures kept { B.database base.new ≡ B.database base.old }
+    ensures stays { (s : Db) → B.schema base.old ≡ Some s → B.schema base.new ≡ Some s }
+    ensures asked { (b : B) → B.asked b base.old → B.asked b base.new }
     ensures same { B.left base.new ≡ B.left base.old }
     ensures cause { HasCheckCause (B.database base.old) (B.faults base.old) (B.faults base.new) result }
 {
@@ -44,8 +46,10 @@ pub fn resolve<B: Base>(
     ranges: &RangeTable,
     base: &mut B,
 ) -> Result<Checked, CheckFault>
-    ensures told { (db : Db) → B.database base.old ≡ Some db → Resolves db user.now ranges.now s.now result }
+    ensures told { (db : Db) → B.schema base.old ≡ Some db → Resolves db user.now ranges.now s.now result }
     ensures kept { B.database base.new ≡ B.database base.old }
+    ensures stays { (s : Db) → B.schema base.old ≡ Some s → B.schema base.new ≡ Some s }
+    ensures asked { (b : B) → B.asked b base.old → B.asked b base.new }
     ensures same { B.left base.new ≡ B.left base.old }
     ensures cause { HasCheckCause (B.database base.old) (B.faults base.old) (B.faults base.new) result }
 {

@@ -41,9 +41,11 @@ fn updated<B: Base>(
     info: &RelInfo,
     q: Query,
 ) -> Result<Checked, CheckFault>
-    ensures told { (scope : Scope) → B.database base.old ≡ Some scope.db → scope.user ≡ user.now → q ≡ query_of scope s.now → changed scope s.now ≡ Some info.now → changes_rows s.now ≡ true → is_judged s.now ≡ true → aggregates_stand scope s.now ≡ true
+    ensures told { (scope : Scope) → B.schema base.old ≡ Some scope.db → scope.user ≡ user.now → q ≡ query_of scope s.now → changed scope s.now ≡ Some info.now → changes_rows s.now ≡ true → is_judged s.now ≡ true → aggregates_stand scope s.now ≡ true
         → Says (λ tree. (tree ≡ tree_of scope s.now) × (first_cause (causes scope s.now) ≡ None)) (λ number. first_cause (causes scope s.now) ≡ Some number) result }
     ensures kept { B.database base.new ≡ B.database base.old }
+    ensures stays { (s : Db) → B.schema base.old ≡ Some s → B.schema base.new ≡ Some s }
+    ensures asked { (b : B) → B.asked b base.old → B.asked b base.new }
     ensures same { B.left base.new ≡ B.left base.old }
     ensures cause { HasCheckCause (B.database base.old) (B.faults base.old) (B.faults base.new) result }
 {
@@ -82,9 +84,11 @@ fn made<B: Base>(
     on: Option<&RelInfo>,
     q: Query,
 ) -> Result<Checked, CheckFault>
-    ensures told { (scope : Scope) → B.database base.old ≡ Some scope.db → scope.user ≡ user.now → q ≡ query_of scope s.now → None ≡ update_of scope s.now q → changed scope s.now ≡ option_copied on.entry → has_tree s.now (option_copied on.entry) ≡ true → is_judged s.now ≡ true → aggregates_stand scope s.now ≡ true → is_range s.now ≡ false
+    ensures told { (scope : Scope) → B.schema base.old ≡ Some scope.db → scope.user ≡ user.now → q ≡ query_of scope s.now → None ≡ update_of scope s.now q → changed scope s.now ≡ option_copied on.entry → has_tree s.now (option_copied on.entry) ≡ true → is_judged s.now ≡ true → aggregates_stand scope s.now ≡ true → is_range s.now ≡ false
         → Says (λ tree. (tree ≡ tree_of scope s.now) × (first_cause (causes scope s.now) ≡ None)) (λ number. first_cause (causes scope s.now) ≡ Some number) result }
     ensures kept { B.database base.new ≡ B.database base.old }
+    ensures stays { (s : Db) → B.schema base.old ≡ Some s → B.schema base.new ≡ Some s }
+    ensures asked { (b : B) → B.asked b base.old → B.asked b base.new }
     ensures same { B.left base.new ≡ B.left base.old }
     ensures cause { HasCheckCause (B.database base.old) (B.faults base.old) (B.faults base.new) result }
 {
@@ -106,9 +110,11 @@ fn changing<B: Base>(
     info: &RelInfo,
     q: Query,
 ) -> Result<Checked, CheckFault>
-    ensures told { (scope : Scope) → B.database base.old ≡ Some scope.db → scope.user ≡ user.now → q ≡ query_of scope s.now → changed scope s.now ≡ Some info.now → is_judged s.now ≡ true → aggregates_stand scope s.now ≡ true → is_range s.now ≡ false
+    ensures told { (scope : Scope) → B.schema base.old ≡ Some scope.db → scope.user ≡ user.now → q ≡ query_of scope s.now → changed scope s.now ≡ Some info.now → is_judged s.now ≡ true → aggregates_stand scope s.now ≡ true → is_range s.now ≡ false
         → Says (λ tree. (tree ≡ tree_of scope s.now) × (first_cause (causes scope s.now) ≡ None)) (λ number. first_cause (causes scope s.now) ≡ Some number) result }
     ensures kept { B.database base.new ≡ B.database base.old }
+    ensures stays { (s : Db) → B.schema base.old ≡ Some s → B.schema base.new ≡ Some s }
+    ensures asked { (b : B) → B.asked b base.old → B.asked b base.new }
     ensures same { B.left base.new ≡ B.left base.old }
     ensures cause { HasCheckCause (B.database base.old) (B.faults base.old) (B.faults base.new) result }
 {
@@ -129,9 +135,11 @@ fn tree_over<B: Base>(
     changes: Option<RelInfo>,
     q: Query,
 ) -> Result<Checked, CheckFault>
-    ensures told { (db : Db) → B.database base.old ≡ Some db → q ≡ query_of (scope_of db user.now ranges.now) s.now → name_refusal (scope_of db user.now ranges.now) s.now ≡ None → is_judged s.now ≡ true → aggregates_stand (scope_of db user.now ranges.now) s.now ≡ true → is_range s.now ≡ false → changes ≡ changed (scope_of db user.now ranges.now) s.now
+    ensures told { (db : Db) → B.schema base.old ≡ Some db → q ≡ query_of (scope_of db user.now ranges.now) s.now → name_refusal (scope_of db user.now ranges.now) s.now ≡ None → is_judged s.now ≡ true → aggregates_stand (scope_of db user.now ranges.now) s.now ≡ true → is_range s.now ≡ false → changes ≡ changed (scope_of db user.now ranges.now) s.now
         → Says (λ tree. (tree ≡ tree_of (scope_of db user.now ranges.now) s.now) × (first_cause (causes (scope_of db user.now ranges.now) s.now) ≡ None)) (λ number. first_cause (causes (scope_of db user.now ranges.now) s.now) ≡ Some number) result }
     ensures kept { B.database base.new ≡ B.database base.old }
+    ensures stays { (s : Db) → B.schema base.old ≡ Some s → B.schema base.new ≡ Some s }
+    ensures asked { (b : B) → B.asked b base.old → B.asked b base.new }
     ensures same { B.left base.new ≡ B.left base.old }
     ensures cause { HasCheckCause (B.database base.old) (B.faults base.old) (B.faults base.new) result }
 {
@@ -150,9 +158,11 @@ fn tree_with<B: Base>(
     s: &Statement,
     q: Query,
 ) -> Result<Checked, CheckFault>
-    ensures told { (db : Db) → B.database base.old ≡ Some db → q ≡ query_of (scope_of db user.now ranges.now) s.now → name_refusal (scope_of db user.now ranges.now) s.now ≡ None → is_judged s.now ≡ true → aggregates_stand (scope_of db user.now ranges.now) s.now ≡ true → is_range s.now ≡ false
+    ensures told { (db : Db) → B.schema base.old ≡ Some db → q ≡ query_of (scope_of db user.now ranges.now) s.now → name_refusal (scope_of db user.now ranges.now) s.now ≡ None → is_judged s.now ≡ true → aggregates_stand (scope_of db user.now ranges.now) s.now ≡ true → is_range s.now ≡ false
         → Says (λ tree. (tree ≡ tree_of (scope_of db user.now ranges.now) s.now) × (first_cause (causes (scope_of db user.now ranges.now) s.now) ≡ None)) (λ number. first_cause (causes (scope_of db user.now ranges.now) s.now) ≡ Some number) result }
     ensures kept { B.database base.new ≡ B.database base.old }
+    ensures stays { (s : Db) → B.schema base.old ≡ Some s → B.schema base.new ≡ Some s }
+    ensures asked { (b : B) → B.asked b base.old → B.asked b base.new }
     ensures same { B.left base.new ≡ B.left base.old }
     ensures cause { HasCheckCause (B.database base.old) (B.faults base.old) (B.faults base.new) result }
 {
@@ -181,9 +191,11 @@ pub(crate) fn tree<B: Base>(
     ranges: &RangeTable,
     s: &Statement,
 ) -> Result<Checked, CheckFault>
-    ensures told { (db : Db) → B.database base.old ≡ Some db → name_refusal (scope_of db user.now ranges.now) s.now ≡ None → is_judged s.now ≡ true
+    ensures told { (db : Db) → B.schema base.old ≡ Some db → name_refusal (scope_of db user.now ranges.now) s.now ≡ None → is_judged s.now ≡ true
         → Says (λ tree. (tree ≡ tree_of (scope_of db user.now ranges.now) s.now) × (first_cause (causes (scope_of db user.now ranges.now) s.now) ≡ None)) (λ number. first_cause (causes (scope_of db user.now ranges.now) s.now) ≡ Some number) result }
     ensures kept { B.database base.new ≡ B.database base.old }
+    ensures stays { (s : Db) → B.schema base.old ≡ Some s → B.schema base.new ≡ Some s }
+    ensures asked { (b : B) → B.asked b base.old → B.asked b base.new }
     ensures same { B.left base.new ≡ B.left base.old }
     ensures cause { HasCheckCause (B.database base.old) (B.faults base.old) (B.faults base.new) result }
 {

@@ -54,6 +54,8 @@ pub(crate) fn new_kinds<B: Base>(
     ensures attributes { (db : Db) → B.database base.old ≡ Some db → IfOk result (λ kinds. kinds.attributes.items ≡ kinds_at db u.now.rel) }
     ensures wanted { (db : Db) → B.database base.old ≡ Some db → IfOk result (λ kinds. kinds.wanted.items ≡ wanted_kinds db u.now) }
     ensures kept { B.database base.new ≡ B.database base.old }
+    ensures stays { (s : Db) → B.schema base.old ≡ Some s → B.schema base.new ≡ Some s }
+    ensures asked { (b : B) → B.asked b base.old → B.asked b base.new }
     ensures same { B.left base.new ≡ B.left base.old }
     ensures cause { HasCause (B.database base.old) (B.faults base.old) (B.faults base.new) result }
 {

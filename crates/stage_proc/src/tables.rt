@@ -53,6 +53,8 @@ fn answer_by<B: Base>(
     ensures none_lacks { (db : Db) → B.database base.old ≡ Some db
         → OnOk result (IsFalse (some_lacks (tabled tables.items) q.now (assigned (rows_of db Free) q.now))) }
     ensures kept { B.database base.new ≡ B.database base.old }
+    ensures stays { (s : Db) → B.schema base.old ≡ Some s → B.schema base.new ≡ Some s }
+    ensures asked { (b : B) → B.asked b base.old → B.asked b base.new }
     ensures same { B.left base.new ≡ B.left base.old }
     ensures asked { (b : B) → B.asked b base.old → B.asked b base.new }
     ensures cause { HasAnswerCause (tabled tables.items) q.now (B.database base.old) (B.faults base.old) (B.faults base.new) result }
@@ -70,6 +72,8 @@ fn settled_answer<B: Base>(alloc: Global, base: &mut B, q: &Query) -> Result<Row
     ensures told { (db : Db) → B.database base.old ≡ Some db → IfOk result (λ set. set ≡ answer db Free q.now) }
     ensures none_lacks { (db : Db) → B.database base.old ≡ Some db → OnOk result (IsFalse (lacks db Free q.now)) }
     ensures kept { B.database base.new ≡ B.database base.old }
+    ensures stays { (s : Db) → B.schema base.old ≡ Some s → B.schema base.new ≡ Some s }
+    ensures asked { (b : B) → B.asked b base.old → B.asked b base.new }
     ensures same { B.left base.new ≡ B.left base.old }
     ensures asked { (b : B) → B.asked b base.old → B.asked b base.new }
     ensures cause { HasOneCause q.now (B.database base.old) (B.faults base.old) (B.faults base.new) result }
@@ -89,6 +93,8 @@ pub fn table_of<B: Base>(alloc: Global, base: &mut B, asked: &Asked) -> Result<T
     ensures told { (db : Db) → B.database base.old ≡ Some db → IfOk result (λ table. table ≡ table_of db Free asked.now) }
     ensures none_lacks { (db : Db) → B.database base.old ≡ Some db → OnOk result (IsFalse (lacks db Free asked.now.query)) }
     ensures kept { B.database base.new ≡ B.database base.old }
+    ensures stays { (s : Db) → B.schema base.old ≡ Some s → B.schema base.new ≡ Some s }
+    ensures asked { (b : B) → B.asked b base.old → B.asked b base.new }
     ensures same { B.left base.new ≡ B.left base.old }
     ensures asked { (b : B) → B.asked b base.old → B.asked b base.new }
     ensures cause { HasOneCause asked.now.query (B.database base.old) (B.faults base.old) (B.faults base.new) result }
@@ -116,6 +122,8 @@ pub fn tables_of<B: Base>(
     ensures told { (db : Db) → B.database base.old ≡ Some db → IfOk result (λ tables. tables ≡ map (table_of db Free) asked.now) }
     ensures none_lacks { (db : Db) → B.database base.old ≡ Some db → OnOk result (IsFalse (some_query_lacks db Free asked.now)) }
     ensures kept { B.database base.new ≡ B.database base.old }
+    ensures stays { (s : Db) → B.schema base.old ≡ Some s → B.schema base.new ≡ Some s }
+    ensures asked { (b : B) → B.asked b base.old → B.asked b base.new }
     ensures same { B.left base.new ≡ B.left base.old }
     ensures asked { (b : B) → B.asked b base.old → B.asked b base.new }
     ensures cause { HasCause asked.now (B.database base.old) (B.faults base.old) (B.faults base.new) result }

@@ -133,13 +133,11 @@ impl Base for TestBase {
 
     ghost lawful = { λ _ db told. absurd (none-some db told) };
 
-    ghost own = { λ _ db _ told _. absurd (none-some db told) };
+    ghost own = { λ _ db told. absurd (none-some db told) };
 
     ghost scanned = { λ _ db _ told. absurd (none-some db told) };
 
     ghost counts_now = { λ _ _ _ _ left. left };
-
-    ghost is_ready = { λ _ _ _. refl };
 
     ghost starts = { λ _. tt };
 

@@ -37,8 +37,10 @@ fn aggregates_are_fit<B: Base>(
     base: &mut B,
     aggregates: &[&QAgg],
 ) -> Result<bool, BaseFault>
-    ensures told { (db : Db) → B.database base.old ≡ Some db → IfOk result (λ fit. fit ≡ (slots_count_from 0 (map (λ g. g.now) aggregates.now) && list_all (λ g. source_fits (kept_alone db) db g.now.source) aggregates.now)) }
+    ensures told { (db : Db) → B.schema base.old ≡ Some db → IfOk result (λ fit. fit ≡ (slots_count_from 0 (map (λ g. g.now) aggregates.now) && list_all (λ g. source_fits (kept_alone db) db g.now.source) aggregates.now)) }
     ensures kept { B.database base.new ≡ B.database base.old }
+    ensures stays { (s : Db) → B.schema base.old ≡ Some s → B.schema base.new ≡ Some s }
+    ensures asked { (b : B) → B.asked b base.old → B.asked b base.new }
     ensures same { B.left base.new ≡ B.left base.old }
     ensures cause { HasCause (B.database base.old) (B.faults base.old) (B.faults base.new) result }
 {
@@ -50,8 +52,10 @@ fn aggregates_are_fit<B: Base>(
 
 /// Whether a query's aggregates are numbered and may be over their sources.
 fn aggregates_fit<B: Base>(alloc: Global, base: &mut B, q: &Query) -> Result<bool, BaseFault>
-    ensures told { (db : Db) → B.database base.old ≡ Some db → IfOk result (λ fit. fit ≡ (slots_count_up q.now && sources_fit (kept_alone db) db q.now)) }
+    ensures told { (db : Db) → B.schema base.old ≡ Some db → IfOk result (λ fit. fit ≡ (slots_count_up q.now && sources_fit (kept_alone db) db q.now)) }
     ensures kept { B.database base.new ≡ B.database base.old }
+    ensures stays { (s : Db) → B.schema base.old ≡ Some s → B.schema base.new ≡ Some s }
+    ensures asked { (b : B) → B.asked b base.old → B.asked b base.new }
     ensures same { B.left base.new ≡ B.left base.old }
     ensures cause { HasCause (B.database base.old) (B.faults base.old) (B.faults base.new) result }
 {
@@ -62,8 +66,10 @@ fn aggregates_fit<B: Base>(alloc: Global, base: &mut B, q: &Query) -> Result<boo
 /// Whether what a query reads is base relations and catalogues, its aggregates are numbered, and its
 /// variables and targets are not too many.
 pub(crate) fn reads_fit<B: Base>(alloc: Global, base: &mut B, q: &Query) -> Result<bool, BaseFault>
-    ensures told { (db : Db) → B.database base.old ≡ Some db → IfOk result (λ fit. fit ≡ reads_fit (kept_alone db) db q.now) }
+    ensures told { (db : Db) → B.schema base.old ≡ Some db → IfOk result (λ fit. fit ≡ reads_fit (kept_alone db) db q.now) }
     ensures kept { B.database base.new ≡ B.database base.old }
+    ensures stays { (s : Db) → B.schema base.old ≡ Some s → B.schema base.new ≡ Some s }
+    ensures asked { (b : B) → B.asked b base.old → B.asked b base.new }
     ensures same { B.left base.new ≡ B.left base.old }
     ensures cause { HasCause (B.database base.old) (B.faults base.old) (B.faults base.new) result }
 {

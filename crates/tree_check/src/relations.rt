@@ -37,8 +37,10 @@ fn is_over_its_relation(u: &Update) -> bool
 
 /// Whether rows may be put into the relation.
 fn may_be_put<B: Base>(alloc: Global, base: &mut B, u: &Update) -> Result<bool, BaseFault>
-    ensures told { (db : Db) → B.database base.old ≡ Some db → IfOk result (λ fit. fit ≡ (is_relation db u.now.rel && nat_eq u.now.old 255)) }
+    ensures told { (db : Db) → B.schema base.old ≡ Some db → IfOk result (λ fit. fit ≡ (is_relation db u.now.rel && nat_eq u.now.old 255)) }
     ensures kept { B.database base.new ≡ B.database base.old }
+    ensures stays { (s : Db) → B.schema base.old ≡ Some s → B.schema base.new ≡ Some s }
+    ensures asked { (b : B) → B.asked b base.old → B.asked b base.new }
     ensures same { B.left base.new ≡ B.left base.old }
     ensures cause { HasCause (B.database base.old) (B.faults base.old) (B.faults base.new) result }
 {
@@ -50,8 +52,10 @@ fn may_be_put<B: Base>(alloc: Global, base: &mut B, u: &Update) -> Result<bool, 
 
 /// Whether rows of the relation may be replaced or deleted.
 fn may_be_changed<B: Base>(alloc: Global, base: &mut B, u: &Update) -> Result<bool, BaseFault>
-    ensures told { (db : Db) → B.database base.old ≡ Some db → IfOk result (λ fit. fit ≡ (is_relation db u.now.rel && is_this_key (slice_get (vars_of u.now.query) u.now.old) u.now.rel)) }
+    ensures told { (db : Db) → B.schema base.old ≡ Some db → IfOk result (λ fit. fit ≡ (is_relation db u.now.rel && is_this_key (slice_get (vars_of u.now.query) u.now.old) u.now.rel)) }
     ensures kept { B.database base.new ≡ B.database base.old }
+    ensures stays { (s : Db) → B.schema base.old ≡ Some s → B.schema base.new ≡ Some s }
+    ensures asked { (b : B) → B.asked b base.old → B.asked b base.new }
     ensures same { B.left base.new ≡ B.left base.old }
     ensures cause { HasCause (B.database base.old) (B.faults base.old) (B.faults base.new) result }
 {
@@ -63,8 +67,10 @@ fn may_be_changed<B: Base>(alloc: Global, base: &mut B, u: &Update) -> Result<bo
 
 /// Whether the relation may be made.
 fn may_be_made<B: Base>(alloc: Global, base: &mut B, u: &Update) -> Result<bool, BaseFault>
-    ensures told { (db : Db) → B.database base.old ≡ Some db → IfOk result (λ fit. fit ≡ (nat_eq u.now.old 255 && (is_new db u.now.rel.owner u.now.rel.name && (attrs_stand (map made_attr (targets_of u.now.query)) && are_stored (map made_attr (targets_of u.now.query)))))) }
+    ensures told { (db : Db) → B.schema base.old ≡ Some db → IfOk result (λ fit. fit ≡ (nat_eq u.now.old 255 && (is_new db u.now.rel.owner u.now.rel.name && (attrs_stand (map made_attr (targets_of u.now.query)) && are_stored (map made_attr (targets_of u.now.query)))))) }
     ensures kept { B.database base.new ≡ B.database base.old }
+    ensures stays { (s : Db) → B.schema base.old ≡ Some s → B.schema base.new ≡ Some s }
+    ensures asked { (b : B) → B.asked b base.old → B.asked b base.new }
     ensures same { B.left base.new ≡ B.left base.old }
     ensures cause { HasCause (B.database base.old) (B.faults base.old) (B.faults base.new) result }
 {
@@ -85,8 +91,10 @@ pub(crate) fn relation_fits<B: Base>(
     base: &mut B,
     u: &Update,
 ) -> Result<bool, BaseFault>
-    ensures told { (db : Db) → B.database base.old ≡ Some db → IfOk result (λ fit. fit ≡ relation_fits db u.now) }
+    ensures told { (db : Db) → B.schema base.old ≡ Some db → IfOk result (λ fit. fit ≡ relation_fits db u.now) }
     ensures kept { B.database base.new ≡ B.database base.old }
+    ensures stays { (s : Db) → B.schema base.old ≡ Some s → B.schema base.new ≡ Some s }
+    ensures asked { (b : B) → B.asked b base.old → B.asked b base.new }
     ensures same { B.left base.new ≡ B.left base.old }
     ensures cause { HasCause (B.database base.old) (B.faults base.old) (B.faults base.new) result }
 {

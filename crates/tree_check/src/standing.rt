@@ -32,8 +32,10 @@ fn is_kept_info(info: &Option<RelInfo>) -> bool
 
 /// Whether a base relation or a catalogue stands under a key.
 pub(crate) fn is_kept<B: Base>(alloc: Global, base: &mut B, key: &RelKey) -> Result<bool, BaseFault>
-    ensures told { (db : Db) → B.database base.old ≡ Some db → IfOk result (λ kept. kept ≡ is_kept db key.now) }
+    ensures told { (db : Db) → B.schema base.old ≡ Some db → IfOk result (λ kept. kept ≡ is_kept db key.now) }
     ensures kept { B.database base.new ≡ B.database base.old }
+    ensures stays { (s : Db) → B.schema base.old ≡ Some s → B.schema base.new ≡ Some s }
+    ensures asked { (b : B) → B.asked b base.old → B.asked b base.new }
     ensures same { B.left base.new ≡ B.left base.old }
     ensures cause { HasCause (B.database base.old) (B.faults base.old) (B.faults base.new) result }
 {
@@ -47,8 +49,10 @@ pub(crate) fn are_kept<B: Base>(
     base: &mut B,
     keys: &[RelKey],
 ) -> Result<bool, BaseFault>
-    ensures told { (db : Db) → B.database base.old ≡ Some db → IfOk result (λ kept. kept ≡ list_all (is_kept db) keys.now) }
+    ensures told { (db : Db) → B.schema base.old ≡ Some db → IfOk result (λ kept. kept ≡ list_all (is_kept db) keys.now) }
     ensures kept { B.database base.new ≡ B.database base.old }
+    ensures stays { (s : Db) → B.schema base.old ≡ Some s → B.schema base.new ≡ Some s }
+    ensures asked { (b : B) → B.asked b base.old → B.asked b base.new }
     ensures same { B.left base.new ≡ B.left base.old }
     ensures cause { HasCause (B.database base.old) (B.faults base.old) (B.faults base.new) result }
 {
@@ -67,8 +71,10 @@ pub(crate) fn can_be_ranged_over<B: Base>(
     base: &mut B,
     key: &RelKey,
 ) -> Result<bool, BaseFault>
-    ensures told { (db : Db) → B.database base.old ≡ Some db → IfOk result (λ there. there ≡ can_be_ranged_over db key.now) }
+    ensures told { (db : Db) → B.schema base.old ≡ Some db → IfOk result (λ there. there ≡ can_be_ranged_over db key.now) }
     ensures kept { B.database base.new ≡ B.database base.old }
+    ensures stays { (s : Db) → B.schema base.old ≡ Some s → B.schema base.new ≡ Some s }
+    ensures asked { (b : B) → B.asked b base.old → B.asked b base.new }
     ensures same { B.left base.new ≡ B.left base.old }
     ensures cause { HasCause (B.database base.old) (B.faults base.old) (B.faults base.new) result }
 {
@@ -78,8 +84,10 @@ pub(crate) fn can_be_ranged_over<B: Base>(
 
 /// Whether a relation, a view, an index or a catalogue stands under a key.
 fn is_entry<B: Base>(alloc: Global, base: &mut B, key: &RelKey) -> Result<bool, BaseFault>
-    ensures told { (db : Db) → B.database base.old ≡ Some db → IfOk result (λ there. there ≡ is_entry db key.now) }
+    ensures told { (db : Db) → B.schema base.old ≡ Some db → IfOk result (λ there. there ≡ is_entry db key.now) }
     ensures kept { B.database base.new ≡ B.database base.old }
+    ensures stays { (s : Db) → B.schema base.old ≡ Some s → B.schema base.new ≡ Some s }
+    ensures asked { (b : B) → B.asked b base.old → B.asked b base.new }
     ensures same { B.left base.new ≡ B.left base.old }
     ensures cause { HasCause (B.database base.old) (B.faults base.old) (B.faults base.new) result }
 {
@@ -93,8 +101,10 @@ pub(crate) fn are_entries<B: Base>(
     base: &mut B,
     keys: &[RelKey],
 ) -> Result<bool, BaseFault>
-    ensures told { (db : Db) → B.database base.old ≡ Some db → IfOk result (λ there. there ≡ list_all (is_entry db) keys.now) }
+    ensures told { (db : Db) → B.schema base.old ≡ Some db → IfOk result (λ there. there ≡ list_all (is_entry db) keys.now) }
     ensures kept { B.database base.new ≡ B.database base.old }
+    ensures stays { (s : Db) → B.schema base.old ≡ Some s → B.schema base.new ≡ Some s }
+    ensures asked { (b : B) → B.asked b base.old → B.asked b base.new }
     ensures same { B.left base.new ≡ B.left base.old }
     ensures cause { HasCause (B.database base.old) (B.faults base.old) (B.faults base.new) result }
 {
@@ -114,8 +124,10 @@ pub(crate) fn is_new<B: Base>(
     owner: &Name,
     name: &Name,
 ) -> Result<bool, BaseFault>
-    ensures told { (db : Db) → B.database base.old ≡ Some db → IfOk result (λ free. free ≡ is_new db owner.now name.now) }
+    ensures told { (db : Db) → B.schema base.old ≡ Some db → IfOk result (λ free. free ≡ is_new db owner.now name.now) }
     ensures kept { B.database base.new ≡ B.database base.old }
+    ensures stays { (s : Db) → B.schema base.old ≡ Some s → B.schema base.new ≡ Some s }
+    ensures asked { (b : B) → B.asked b base.old → B.asked b base.new }
     ensures same { B.left base.new ≡ B.left base.old }
     ensures cause { HasCause (B.database base.old) (B.faults base.old) (B.faults base.new) result }
 {

@@ -39,6 +39,8 @@ pub(crate) fn is_too_large<B: Base>(
     ensures told { (db : Db) → B.database base.old ≡ Some db
         → IfOk result (λ b. b ≡ nat_lt most_rows (length (rows_at db key.now) + length change.now.add - length change.now.remove)) }
     ensures kept { B.database base.new ≡ B.database base.old }
+    ensures stays { (s : Db) → B.schema base.old ≡ Some s → B.schema base.new ≡ Some s }
+    ensures asked { (b : B) → B.asked b base.old → B.asked b base.new }
     ensures same { B.left base.new ≡ B.left base.old }
     ensures cause { HasCause (B.database base.old) (B.faults base.old) (B.faults base.new) result }
 {

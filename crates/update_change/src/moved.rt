@@ -30,6 +30,8 @@ fn rows_asked<B: Base>(
     ensures added { (db : Db) → B.database base.old ≡ Some db
         → IfOk result (λ change. change.add ≡ set_of (without_rows (rows_at db key.now) new)) }
     ensures kept { B.database base.new ≡ B.database base.old }
+    ensures stays { (s : Db) → B.schema base.old ≡ Some s → B.schema base.new ≡ Some s }
+    ensures asked { (b : B) → B.asked b base.old → B.asked b base.new }
     ensures same { B.left base.new ≡ B.left base.old }
     ensures cause { HasBaseCause (B.database base.old) (B.faults base.old) (B.faults base.new) result }
 {
@@ -62,6 +64,8 @@ fn pairs_asked<B: Base>(
         → IfOk result (λ change. change.add ≡ without_rows (rows_at db u.now.rel) (after (rows_at db u.now.rel) pairs.items)) }
     ensures uncontended { OnOk result (IsFalse (contended pairs.items)) }
     ensures kept { B.database base.new ≡ B.database base.old }
+    ensures stays { (s : Db) → B.schema base.old ≡ Some s → B.schema base.new ≡ Some s }
+    ensures asked { (b : B) → B.asked b base.old → B.asked b base.new }
     ensures same { B.left base.new ≡ B.left base.old }
     ensures cause { HasCause u.now pairs.items (B.database base.old) (B.faults base.old) (B.faults base.new) result }
 {
@@ -85,6 +89,8 @@ pub(crate) fn rows_moved<B: Base>(
     ensures uncontended { OnOk result (IsFalse (contended pairs.items)) }
     ensures few { (db : Db) → B.database base.old ≡ Some db → OnOk result (length (after (rows_at db u.now.rel) pairs.items) ≤ most_rows) }
     ensures kept { B.database base.new ≡ B.database base.old }
+    ensures stays { (s : Db) → B.schema base.old ≡ Some s → B.schema base.new ≡ Some s }
+    ensures asked { (b : B) → B.asked b base.old → B.asked b base.new }
     ensures same { B.left base.new ≡ B.left base.old }
     ensures cause { HasCause u.now pairs.items (B.database base.old) (B.faults base.old) (B.faults base.new) result }
 {

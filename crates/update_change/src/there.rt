@@ -30,6 +30,8 @@ pub(crate) fn those_there<B: Base>(
 ) -> Result<RowSet, BaseFault>
     ensures told { (db : Db) → B.database base.old ≡ Some db → IfOk result (λ set. set ≡ set_of (filter (has (rows_at db key.now)) rows.items)) }
     ensures kept { B.database base.new ≡ B.database base.old }
+    ensures stays { (s : Db) → B.schema base.old ≡ Some s → B.schema base.new ≡ Some s }
+    ensures asked { (b : B) → B.asked b base.old → B.asked b base.new }
     ensures same { B.left base.new ≡ B.left base.old }
     ensures cause { HasCause (B.database base.old) (B.faults base.old) (B.faults base.new) result }
 {
@@ -50,6 +52,8 @@ pub(crate) fn those_absent<B: Base>(
 ) -> Result<RowSet, BaseFault>
     ensures told { (db : Db) → B.database base.old ≡ Some db → IfOk result (λ set. set ≡ set_of (without_rows (rows_at db key.now) rows.items)) }
     ensures kept { B.database base.new ≡ B.database base.old }
+    ensures stays { (s : Db) → B.schema base.old ≡ Some s → B.schema base.new ≡ Some s }
+    ensures asked { (b : B) → B.asked b base.old → B.asked b base.new }
     ensures same { B.left base.new ≡ B.left base.old }
     ensures cause { HasCause (B.database base.old) (B.faults base.old) (B.faults base.new) result }
 {

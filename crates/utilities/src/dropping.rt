@@ -64,6 +64,8 @@ fn permits_cause<B: Base>(
     ensures told { (db : Db) → B.database base.old ≡ Some db
         → IfOk result (λ n. n ≡ first_cause ((28, is_catalogue db rel.now) ∷ (26, has_view db rel.now) ∷ (24, is_none_to_permit db user.now rel.now) ∷ (19, not (list_all (has_number standing.now) numbers.now)) ∷ [])) }
     ensures kept { B.database base.new ≡ B.database base.old }
+    ensures stays { (s : Db) → B.schema base.old ≡ Some s → B.schema base.new ≡ Some s }
+    ensures asked { (b : B) → B.asked b base.old → B.asked b base.new }
     ensures same { B.left base.new ≡ B.left base.old }
     ensures cause { HasBaseCause (B.database base.old) (B.faults base.old) (B.faults base.new) result }
 {
@@ -86,6 +88,8 @@ fn rules_cause<B: Base>(
     ensures told { (db : Db) → B.database base.old ≡ Some db
         → IfOk result (λ n. n ≡ first_cause (owner_causes db user.now rel.now ++ (19, not (list_all (has_number standing.now) numbers.now)) ∷ [])) }
     ensures kept { B.database base.new ≡ B.database base.old }
+    ensures stays { (s : Db) → B.schema base.old ≡ Some s → B.schema base.new ≡ Some s }
+    ensures asked { (b : B) → B.asked b base.old → B.asked b base.new }
     ensures same { B.left base.new ≡ B.left base.old }
     ensures cause { HasBaseCause (B.database base.old) (B.faults base.old) (B.faults base.new) result }
 {
@@ -105,6 +109,8 @@ pub(crate) fn permits_gone<B: Base>(
 ) -> Result<DbChange, UtilFault>
     ensures change { (db : Db) → B.database base.old ≡ Some db → IfOk result (λ c. planned db user.now (utility.DropPermits rel.now numbers.now) ≡ Planned c) }
     ensures kept { B.database base.new ≡ B.database base.old }
+    ensures stays { (s : Db) → B.schema base.old ≡ Some s → B.schema base.new ≡ Some s }
+    ensures asked { (b : B) → B.asked b base.old → B.asked b base.new }
     ensures same { B.left base.new ≡ B.left base.old }
     ensures cause { HasCause user.now (utility.DropPermits rel.now numbers.now) (B.database base.old) (B.faults base.old) (B.faults base.new) result }
 {
@@ -126,6 +132,8 @@ pub(crate) fn rules_gone<B: Base>(
 ) -> Result<DbChange, UtilFault>
     ensures change { (db : Db) → B.database base.old ≡ Some db → IfOk result (λ c. planned db user.now (utility.DropRules rel.now numbers.now) ≡ Planned c) }
     ensures kept { B.database base.new ≡ B.database base.old }
+    ensures stays { (s : Db) → B.schema base.old ≡ Some s → B.schema base.new ≡ Some s }
+    ensures asked { (b : B) → B.asked b base.old → B.asked b base.new }
     ensures same { B.left base.new ≡ B.left base.old }
     ensures cause { HasCause user.now (utility.DropRules rel.now numbers.now) (B.database base.old) (B.faults base.old) (B.faults base.new) result }
 {

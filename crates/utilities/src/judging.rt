@@ -43,6 +43,8 @@ fn some_row_fails<B: Base>(
     requires none { at.old ≡ [] }
     ensures told { (db : Db) → B.database base.old ≡ Some db → IfOk result (λ b. b ≡ list_any (λ row. not (holds no_aggs qual.now (row ∷ []))) (rows_at db key.now)) }
     ensures kept { B.database base.new ≡ B.database base.old }
+    ensures stays { (s : Db) → B.schema base.old ≡ Some s → B.schema base.new ≡ Some s }
+    ensures asked { (b : B) → B.asked b base.old → B.asked b base.new }
     ensures same { B.left base.new ≡ B.left base.old }
     ensures cause { HasCause (B.database base.old) (B.faults base.old) (B.faults base.new) result }
 {
@@ -70,6 +72,8 @@ pub(crate) fn is_broken<B: Base>(
 ) -> Result<bool, BaseFault>
     ensures told { (db : Db) → B.database base.old ≡ Some db → IfOk result (λ b. b ≡ is_broken db rel.now rule.now) }
     ensures kept { B.database base.new ≡ B.database base.old }
+    ensures stays { (s : Db) → B.schema base.old ≡ Some s → B.schema base.new ≡ Some s }
+    ensures asked { (b : B) → B.asked b base.old → B.asked b base.new }
     ensures same { B.left base.new ≡ B.left base.old }
     ensures cause { HasCause (B.database base.old) (B.faults base.old) (B.faults base.new) result }
 {

@@ -29,6 +29,8 @@ fn is_none_to_permit<B: Base>(
 ) -> Result<bool, BaseFault>
     ensures told { (db : Db) → B.database base.old ≡ Some db → IfOk result (λ b. b ≡ is_none_to_permit db user.now key.now) }
     ensures kept { B.database base.new ≡ B.database base.old }
+    ensures stays { (s : Db) → B.schema base.old ≡ Some s → B.schema base.new ≡ Some s }
+    ensures asked { (b : B) → B.asked b base.old → B.asked b base.new }
     ensures same { B.left base.new ≡ B.left base.old }
     ensures cause { HasCause (B.database base.old) (B.faults base.old) (B.faults base.new) result }
 {
@@ -57,6 +59,8 @@ pub fn owner_cause<B: Base>(
 ) -> Result<Option<u8>, BaseFault>
     ensures told { (db : Db) → B.database base.old ≡ Some db → IfOk result (λ n. n ≡ first_cause (owner_causes db user.now rel.now)) }
     ensures kept { B.database base.new ≡ B.database base.old }
+    ensures stays { (s : Db) → B.schema base.old ≡ Some s → B.schema base.new ≡ Some s }
+    ensures asked { (b : B) → B.asked b base.old → B.asked b base.new }
     ensures same { B.left base.new ≡ B.left base.old }
     ensures cause { HasCause (B.database base.old) (B.faults base.old) (B.faults base.new) result }
 {
@@ -77,6 +81,8 @@ pub(crate) fn permitting_cause<B: Base>(
     ensures told { (db : Db) → B.database base.old ≡ Some db
         → IfOk result (λ n. n ≡ first_cause ((28, is_catalogue db rel.now) ∷ (26, has_view db rel.now) ∷ (24, is_none_to_permit db user.now rel.now) ∷ [])) }
     ensures kept { B.database base.new ≡ B.database base.old }
+    ensures stays { (s : Db) → B.schema base.old ≡ Some s → B.schema base.new ≡ Some s }
+    ensures asked { (b : B) → B.asked b base.old → B.asked b base.new }
     ensures same { B.left base.new ≡ B.left base.old }
     ensures cause { HasCause (B.database base.old) (B.faults base.old) (B.faults base.new) result }
 {

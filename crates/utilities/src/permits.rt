@@ -51,6 +51,8 @@ pub(crate) fn permit_planned<B: Base>(
 ) -> Result<DbChange, UtilFault>
     ensures change { (db : Db) → B.database base.old ≡ Some db → IfOk result (λ c. planned db user.now (utility.Permit rel.now permit.now) ≡ Planned c) }
     ensures kept { B.database base.new ≡ B.database base.old }
+    ensures stays { (s : Db) → B.schema base.old ≡ Some s → B.schema base.new ≡ Some s }
+    ensures asked { (b : B) → B.asked b base.old → B.asked b base.new }
     ensures same { B.left base.new ≡ B.left base.old }
     ensures cause { HasCause user.now (utility.Permit rel.now permit.now) (B.database base.old) (B.faults base.old) (B.faults base.new) result }
 {

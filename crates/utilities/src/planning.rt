@@ -46,6 +46,8 @@ pub fn plan<B: Base>(
     requires { is_copy u.now ≡ false }
     ensures change { (db : Db) → B.database base.old ≡ Some db → IfOk result (λ c. planned db user.now u.now ≡ Planned c) }
     ensures kept { B.database base.new ≡ B.database base.old }
+    ensures stays { (s : Db) → B.schema base.old ≡ Some s → B.schema base.new ≡ Some s }
+    ensures asked { (b : B) → B.asked b base.old → B.asked b base.new }
     ensures same { B.left base.new ≡ B.left base.old }
     ensures cause { HasCause user.now u.now (B.database base.old) (B.faults base.old) (B.faults base.new) result }
 {

@@ -57,6 +57,8 @@ fn rule_cause<B: Base>(
 ) -> Result<Option<u8>, BaseFault>
     ensures told { (db : Db) → B.database base.old ≡ Some db → IfOk result (λ n. n ≡ first_cause (owner_causes db user.now rel.now ++ (27, is_broken db rel.now rule.now) ∷ [])) }
     ensures kept { B.database base.new ≡ B.database base.old }
+    ensures stays { (s : Db) → B.schema base.old ≡ Some s → B.schema base.new ≡ Some s }
+    ensures asked { (b : B) → B.asked b base.old → B.asked b base.new }
     ensures same { B.left base.new ≡ B.left base.old }
     ensures cause { HasBaseCause (B.database base.old) (B.faults base.old) (B.faults base.new) result }
 {
@@ -79,6 +81,8 @@ pub(crate) fn rule_planned<B: Base>(
 ) -> Result<DbChange, UtilFault>
     ensures change { (db : Db) → B.database base.old ≡ Some db → IfOk result (λ c. planned db user.now (utility.Rule rel.now rule.now) ≡ Planned c) }
     ensures kept { B.database base.new ≡ B.database base.old }
+    ensures stays { (s : Db) → B.schema base.old ≡ Some s → B.schema base.new ≡ Some s }
+    ensures asked { (b : B) → B.asked b base.old → B.asked b base.new }
     ensures same { B.left base.new ≡ B.left base.old }
     ensures cause { HasCause user.now (utility.Rule rel.now rule.now) (B.database base.old) (B.faults base.old) (B.faults base.new) result }
 {

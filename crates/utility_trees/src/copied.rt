@@ -135,9 +135,11 @@ pub(crate) fn copied<B: Base>(
     from: bool,
     file: &Chars,
 ) -> Result<Checked, CheckFault>
-    ensures told { (db : Db) (ranges : Ranges) → B.database base.old ≡ Some db → name_refusal (scope_of db user.now ranges) (statement.Copy rel.now columns.now from file.now) ≡ None
+    ensures told { (db : Db) (ranges : Ranges) → B.schema base.old ≡ Some db → name_refusal (scope_of db user.now ranges) (statement.Copy rel.now columns.now from file.now) ≡ None
         → Serves (scope_of db user.now ranges) (statement.Copy rel.now columns.now from file.now) result }
     ensures kept { B.database base.new ≡ B.database base.old }
+    ensures stays { (s : Db) → B.schema base.old ≡ Some s → B.schema base.new ≡ Some s }
+    ensures asked { (b : B) → B.asked b base.old → B.asked b base.new }
     ensures same { B.left base.new ≡ B.left base.old }
     ensures cause { HasCheckCause (B.database base.old) (B.faults base.old) (B.faults base.new) result }
 {

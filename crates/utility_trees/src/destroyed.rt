@@ -49,9 +49,11 @@ pub(crate) fn destroyed<B: Base>(
     user: &Name,
     names: &[Name],
 ) -> Result<Checked, CheckFault>
-    ensures told { (db : Db) (ranges : Ranges) → B.database base.old ≡ Some db → name_refusal (scope_of db user.now ranges) (statement.Destroy names.now) ≡ None
+    ensures told { (db : Db) (ranges : Ranges) → B.schema base.old ≡ Some db → name_refusal (scope_of db user.now ranges) (statement.Destroy names.now) ≡ None
         → Serves (scope_of db user.now ranges) (statement.Destroy names.now) result }
     ensures kept { B.database base.new ≡ B.database base.old }
+    ensures stays { (s : Db) → B.schema base.old ≡ Some s → B.schema base.new ≡ Some s }
+    ensures asked { (b : B) → B.asked b base.old → B.asked b base.new }
     ensures same { B.left base.new ≡ B.left base.old }
     ensures cause { HasCheckCause (B.database base.old) (B.faults base.old) (B.faults base.new) result }
 {

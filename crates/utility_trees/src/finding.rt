@@ -29,9 +29,11 @@ pub(crate) fn found<B: Base>(
     user: &Name,
     name: &Name,
 ) -> Result<RelInfo, CheckFault>
-    ensures told { (db : Db) → B.database base.old ≡ Some db
+    ensures told { (db : Db) → B.schema base.old ≡ Some db
         → Says (λ info. (found db user.now name.now ≡ Some info) × (length info.attrs ≤ 256)) (λ number. found db user.now name.now ≡ None) result }
     ensures kept { B.database base.new ≡ B.database base.old }
+    ensures stays { (s : Db) → B.schema base.old ≡ Some s → B.schema base.new ≡ Some s }
+    ensures asked { (b : B) → B.asked b base.old → B.asked b base.new }
     ensures same { B.left base.new ≡ B.left base.old }
     ensures cause { HasCheckCause (B.database base.old) (B.faults base.old) (B.faults base.new) result }
 {
@@ -58,8 +60,10 @@ fn key_under<B: Base>(
     owner: &Name,
     name: &Name,
 ) -> Result<Option<RelKey>, BaseFault>
-    ensures told { (db : Db) → B.database base.old ≡ Some db → IfOk result (λ key. key ≡ option_map (λ info. info.key) (known_at db (key_of owner.now name.now))) }
+    ensures told { (db : Db) → B.schema base.old ≡ Some db → IfOk result (λ key. key ≡ option_map (λ info. info.key) (known_at db (key_of owner.now name.now))) }
     ensures kept { B.database base.new ≡ B.database base.old }
+    ensures stays { (s : Db) → B.schema base.old ≡ Some s → B.schema base.new ≡ Some s }
+    ensures asked { (b : B) → B.asked b base.old → B.asked b base.new }
     ensures same { B.left base.new ≡ B.left base.old }
     ensures cause { HasCause (B.database base.old) (B.faults base.old) (B.faults base.new) result }
 {
@@ -77,9 +81,11 @@ fn entry_key<B: Base>(
     dba: &Name,
     name: &Name,
 ) -> Result<Option<RelKey>, BaseFault>
-    ensures told { (db : Db) (ranges : Ranges) → B.database base.old ≡ Some db → dba.now ≡ db.dba
+    ensures told { (db : Db) (ranges : Ranges) → B.schema base.old ≡ Some db → dba.now ≡ db.dba
         → IfOk result (λ key. key ≡ entry_named (scope_of db user.now ranges) name.now) }
     ensures kept { B.database base.new ≡ B.database base.old }
+    ensures stays { (s : Db) → B.schema base.old ≡ Some s → B.schema base.new ≡ Some s }
+    ensures asked { (b : B) → B.asked b base.old → B.asked b base.new }
     ensures same { B.left base.new ≡ B.left base.old }
     ensures cause { HasCause (B.database base.old) (B.faults base.old) (B.faults base.new) result }
 {
@@ -97,9 +103,11 @@ pub(crate) fn entry_keys<B: Base>(
     dba: &Name,
     names: &[Name],
 ) -> Result<Vec<RelKey>, BaseFault>
-    ensures told { (db : Db) (ranges : Ranges) → B.database base.old ≡ Some db → dba.now ≡ db.dba
+    ensures told { (db : Db) (ranges : Ranges) → B.schema base.old ≡ Some db → dba.now ≡ db.dba
         → IfOk result (λ keys. keys.items ≡ filter_map (entry_named (scope_of db user.now ranges)) names.now) }
     ensures kept { B.database base.new ≡ B.database base.old }
+    ensures stays { (s : Db) → B.schema base.old ≡ Some s → B.schema base.new ≡ Some s }
+    ensures asked { (b : B) → B.asked b base.old → B.asked b base.new }
     ensures same { B.left base.new ≡ B.left base.old }
     ensures cause { HasCause (B.database base.old) (B.faults base.old) (B.faults base.new) result }
 {

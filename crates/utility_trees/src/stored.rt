@@ -85,9 +85,11 @@ pub(crate) fn modified<B: Base>(
     to: Spec,
     keys: &[Name],
 ) -> Result<Checked, CheckFault>
-    ensures told { (db : Db) (ranges : Ranges) → B.database base.old ≡ Some db → name_refusal (scope_of db user.now ranges) (statement.Modify rel.now to keys.now) ≡ None
+    ensures told { (db : Db) (ranges : Ranges) → B.schema base.old ≡ Some db → name_refusal (scope_of db user.now ranges) (statement.Modify rel.now to keys.now) ≡ None
         → Serves (scope_of db user.now ranges) (statement.Modify rel.now to keys.now) result }
     ensures kept { B.database base.new ≡ B.database base.old }
+    ensures stays { (s : Db) → B.schema base.old ≡ Some s → B.schema base.new ≡ Some s }
+    ensures asked { (b : B) → B.asked b base.old → B.asked b base.new }
     ensures same { B.left base.new ≡ B.left base.old }
     ensures cause { HasCheckCause (B.database base.old) (B.faults base.old) (B.faults base.new) result }
 {
@@ -112,9 +114,11 @@ fn index_cause<B: Base>(
     name: &Name,
     keys: &[Name],
 ) -> Result<Option<u8>, BaseFault>
-    ensures told { (db : Db) → B.database base.old ≡ Some db
+    ensures told { (db : Db) → B.schema base.old ≡ Some db
         → IfOk result (λ n. n ≡ first_cause ((17, repeats keys.now) ∷ (14, is_full db) ∷ (15, is_taken db user.now name.now) ∷ [])) }
     ensures kept { B.database base.new ≡ B.database base.old }
+    ensures stays { (s : Db) → B.schema base.old ≡ Some s → B.schema base.new ≡ Some s }
+    ensures asked { (b : B) → B.asked b base.old → B.asked b base.new }
     ensures same { B.left base.new ≡ B.left base.old }
     ensures cause { HasCause (B.database base.old) (B.faults base.old) (B.faults base.new) result }
 {
@@ -154,10 +158,12 @@ fn index_found<B: Base>(
     name: &Name,
     keys: &[Name],
 ) -> Result<Checked, CheckFault>
-    ensures told { (db : Db) (ranges : Ranges) → B.database base.old ≡ Some db → name_refusal (scope_of db user.now ranges) (statement.Index rel.now name.now keys.now) ≡ None
+    ensures told { (db : Db) (ranges : Ranges) → B.schema base.old ≡ Some db → name_refusal (scope_of db user.now ranges) (statement.Index rel.now name.now keys.now) ≡ None
         → first_cause ((17, repeats keys.now) ∷ (14, is_full db) ∷ (15, is_taken db user.now name.now) ∷ []) ≡ None
         → Serves (scope_of db user.now ranges) (statement.Index rel.now name.now keys.now) result }
     ensures kept { B.database base.new ≡ B.database base.old }
+    ensures stays { (s : Db) → B.schema base.old ≡ Some s → B.schema base.new ≡ Some s }
+    ensures asked { (b : B) → B.asked b base.old → B.asked b base.new }
     ensures same { B.left base.new ≡ B.left base.old }
     ensures cause { HasCheckCause (B.database base.old) (B.faults base.old) (B.faults base.new) result }
 {
@@ -180,9 +186,11 @@ pub(crate) fn indexed<B: Base>(
     name: &Name,
     keys: &[Name],
 ) -> Result<Checked, CheckFault>
-    ensures told { (db : Db) (ranges : Ranges) → B.database base.old ≡ Some db → name_refusal (scope_of db user.now ranges) (statement.Index rel.now name.now keys.now) ≡ None
+    ensures told { (db : Db) (ranges : Ranges) → B.schema base.old ≡ Some db → name_refusal (scope_of db user.now ranges) (statement.Index rel.now name.now keys.now) ≡ None
         → Serves (scope_of db user.now ranges) (statement.Index rel.now name.now keys.now) result }
     ensures kept { B.database base.new ≡ B.database base.old }
+    ensures stays { (s : Db) → B.schema base.old ≡ Some s → B.schema base.new ≡ Some s }
+    ensures asked { (b : B) → B.asked b base.old → B.asked b base.new }
     ensures same { B.left base.new ≡ B.left base.old }
     ensures cause { HasCheckCause (B.database base.old) (B.faults base.old) (B.faults base.new) result }
 {

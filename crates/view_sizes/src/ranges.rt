@@ -37,8 +37,10 @@ fn is_ranged(info: &Option<RelInfo>) -> bool
 
 /// Whether a variable may range over what stands under a key.
 pub fn is_range<B: Base>(alloc: Global, base: &mut B, key: &RelKey) -> Result<bool, BaseFault>
-    ensures told { (db : Db) → B.database base.old ≡ Some db → IfOk result (λ there. there ≡ is_some (range_at db key.now)) }
+    ensures told { (db : Db) → B.schema base.old ≡ Some db → IfOk result (λ there. there ≡ is_some (range_at db key.now)) }
     ensures kept { B.database base.new ≡ B.database base.old }
+    ensures stays { (s : Db) → B.schema base.old ≡ Some s → B.schema base.new ≡ Some s }
+    ensures asked { (b : B) → B.asked b base.old → B.asked b base.new }
     ensures same { B.left base.new ≡ B.left base.old }
     ensures cause { HasCause (B.database base.old) (B.faults base.old) (B.faults base.new) result }
 {
@@ -48,8 +50,10 @@ pub fn is_range<B: Base>(alloc: Global, base: &mut B, key: &RelKey) -> Result<bo
 
 /// Whether a variable may range over what stands under each key.
 pub fn are_ranges<B: Base>(alloc: Global, base: &mut B, vars: &[RelKey]) -> Result<bool, BaseFault>
-    ensures told { (db : Db) → B.database base.old ≡ Some db → IfOk result (λ there. there ≡ list_all (λ key. is_some (range_at db key)) vars.now) }
+    ensures told { (db : Db) → B.schema base.old ≡ Some db → IfOk result (λ there. there ≡ list_all (λ key. is_some (range_at db key)) vars.now) }
     ensures kept { B.database base.new ≡ B.database base.old }
+    ensures stays { (s : Db) → B.schema base.old ≡ Some s → B.schema base.new ≡ Some s }
+    ensures asked { (b : B) → B.asked b base.old → B.asked b base.new }
     ensures same { B.left base.new ≡ B.left base.old }
     ensures cause { HasCause (B.database base.old) (B.faults base.old) (B.faults base.new) result }
 {
@@ -72,9 +76,11 @@ fn has_level<B: Base>(
     key: &RelKey,
     levels: u8,
 ) -> Result<bool, BaseFault>
-    ensures told { (db : Db) → B.database base.old ≡ Some db → HaveLevels db found.old.keys → IfOk result (λ has. has ≡ is_some (level_within levels db key.now)) }
-    ensures found { (db : Db) → B.database base.old ≡ Some db → HaveLevels db found.old.keys → OnOk result (HaveLevels db found.new.keys) }
+    ensures told { (db : Db) → B.schema base.old ≡ Some db → HaveLevels db found.old.keys → IfOk result (λ has. has ≡ is_some (level_within levels db key.now)) }
+    ensures found { (db : Db) → B.schema base.old ≡ Some db → HaveLevels db found.old.keys → OnOk result (HaveLevels db found.new.keys) }
     ensures kept { B.database base.new ≡ B.database base.old }
+    ensures stays { (s : Db) → B.schema base.old ≡ Some s → B.schema base.new ≡ Some s }
+    ensures asked { (b : B) → B.asked b base.old → B.asked b base.new }
     ensures same { B.left base.new ≡ B.left base.old }
     ensures cause { HasCause (B.database base.old) (B.faults base.old) (B.faults base.new) result }
 {
@@ -94,9 +100,11 @@ fn has_level_anew<B: Base>(
     key: &RelKey,
     levels: u8,
 ) -> Result<bool, BaseFault>
-    ensures told { (db : Db) → B.database base.old ≡ Some db → HaveLevels db found.old.keys → IfOk result (λ has. has ≡ is_some (level_within levels db key.now)) }
-    ensures found { (db : Db) → B.database base.old ≡ Some db → HaveLevels db found.old.keys → OnOk result (HaveLevels db found.new.keys) }
+    ensures told { (db : Db) → B.schema base.old ≡ Some db → HaveLevels db found.old.keys → IfOk result (λ has. has ≡ is_some (level_within levels db key.now)) }
+    ensures found { (db : Db) → B.schema base.old ≡ Some db → HaveLevels db found.old.keys → OnOk result (HaveLevels db found.new.keys) }
     ensures kept { B.database base.new ≡ B.database base.old }
+    ensures stays { (s : Db) → B.schema base.old ≡ Some s → B.schema base.new ≡ Some s }
+    ensures asked { (b : B) → B.asked b base.old → B.asked b base.new }
     ensures same { B.left base.new ≡ B.left base.old }
     ensures cause { HasCause (B.database base.old) (B.faults base.old) (B.faults base.new) result }
 {
@@ -124,9 +132,11 @@ fn have_levels_found<B: Base>(
     vars: &[RelKey],
     levels: u8,
 ) -> Result<bool, BaseFault>
-    ensures told { (db : Db) → B.database base.old ≡ Some db → HaveLevels db found.old.keys → IfOk result (λ have. have ≡ list_all (λ key. is_some (level_within levels db key)) vars.now) }
-    ensures found { (db : Db) → B.database base.old ≡ Some db → HaveLevels db found.old.keys → OnOk result (HaveLevels db found.new.keys) }
+    ensures told { (db : Db) → B.schema base.old ≡ Some db → HaveLevels db found.old.keys → IfOk result (λ have. have ≡ list_all (λ key. is_some (level_within levels db key)) vars.now) }
+    ensures found { (db : Db) → B.schema base.old ≡ Some db → HaveLevels db found.old.keys → OnOk result (HaveLevels db found.new.keys) }
     ensures kept { B.database base.new ≡ B.database base.old }
+    ensures stays { (s : Db) → B.schema base.old ≡ Some s → B.schema base.new ≡ Some s }
+    ensures asked { (b : B) → B.asked b base.old → B.asked b base.new }
     ensures same { B.left base.new ≡ B.left base.old }
     ensures cause { HasCause (B.database base.old) (B.faults base.old) (B.faults base.new) result }
 {
@@ -147,8 +157,10 @@ pub fn have_levels<B: Base>(
     vars: &[RelKey],
     levels: u8,
 ) -> Result<bool, BaseFault>
-    ensures told { (db : Db) → B.database base.old ≡ Some db → IfOk result (λ have. have ≡ list_all (λ key. is_some (level_within levels db key)) vars.now) }
+    ensures told { (db : Db) → B.schema base.old ≡ Some db → IfOk result (λ have. have ≡ list_all (λ key. is_some (level_within levels db key)) vars.now) }
     ensures kept { B.database base.new ≡ B.database base.old }
+    ensures stays { (s : Db) → B.schema base.old ≡ Some s → B.schema base.new ≡ Some s }
+    ensures asked { (b : B) → B.asked b base.old → B.asked b base.new }
     ensures same { B.left base.new ≡ B.left base.old }
     ensures cause { HasCause (B.database base.old) (B.faults base.old) (B.faults base.new) result }
 {
@@ -162,8 +174,10 @@ pub fn has_high_level<B: Base>(
     base: &mut B,
     query: &Query,
 ) -> Result<bool, BaseFault>
-    ensures told { (db : Db) → B.database base.old ≡ Some db → IfOk result (λ high. high ≡ is_too_high (query_level db query.now)) }
+    ensures told { (db : Db) → B.schema base.old ≡ Some db → IfOk result (λ high. high ≡ is_too_high (query_level db query.now)) }
     ensures kept { B.database base.new ≡ B.database base.old }
+    ensures stays { (s : Db) → B.schema base.old ≡ Some s → B.schema base.new ≡ Some s }
+    ensures asked { (b : B) → B.asked b base.old → B.asked b base.new }
     ensures same { B.left base.new ≡ B.left base.old }
     ensures cause { HasCause (B.database base.old) (B.faults base.old) (B.faults base.new) result }
 {

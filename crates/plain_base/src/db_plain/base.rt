@@ -7,7 +7,7 @@ ghost use Rattle.am_traits.specs.InMemory.{asked_in_memory};
 ghost use Rattle.am_traits.specs.Scans.{IsScan, first_place};
 ghost use Rattle.plain_base.specs.Places.{rows_from};
 ghost use Rattle.plain_base.specs.Shown.{database_of};
-ghost use Rattle.plain_base.specs.Laws.{of_told, own_schema, whole_scan};
+ghost use Rattle.plain_base.specs.Laws.{of_told, whole_scan};
 
 use super::DbPlain;
 use am_traits::{Base, BaseFault};
@@ -37,13 +37,11 @@ impl Base for DbPlain {
 
     ghost lawful = { λ b db e. of_told IsDatabase (database_of b) db e b.is };
 
-    ghost own = { λ b db s is known. own_schema (database_of b) db s is known };
+    ghost own = { λ _ _ is. is };
 
     ghost scanned = { λ b db key e. of_told (λ db. IsScan (rows_at db key) (rows_from (database_of b) key first_place)) (database_of b) db e (whole_scan (database_of b) key b.is) };
 
     ghost counts_now = { λ _ _ _ _ left. left };
-
-    ghost is_ready = { λ _ _ _. refl };
 
     ghost starts = { λ _. tt };
 
