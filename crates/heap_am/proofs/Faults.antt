@@ -144,10 +144,10 @@ pub cause_damaged : {T : Type 0} (told : Option Image) (file : RelFile) (k befor
 cause_damaged told file k before now e is le f = record { later = le; caused = subst (MayFail told (HeapFault file) before now) (sym is) f }
 
 -- the fault of a page that was read
-pub cause_of_page : {T : Type 0} (told : Option Image) (file : RelFile) (k : ℕ) (p : List ℕ) (before now : ℕ) (r : Result T BaseFault) → before ≤ now
+pub cause_of_page : {T : Type 0} (told : Option Image) (file : RelFile) (k : ℕ) (p : List ℕ) (before now : ℕ) (r : Result T BaseFault) → now ≡ before
     → ((m : Image) → told ≡ Some m → m (page_at file.file k) ≡ Some p) → IfErr r (IsOfPage file k p) → HasFileCause told (HeapFault file) before now r
-cause_of_page told file k p before now (Ok x) le there h = record { later = le; caused = tt }
-cause_of_page told file k p before now (Err e) le there h = record { later = le; caused = may_come file k p told before now e there h }
+cause_of_page told file k p before now (Ok x) calm there h = record { later = omega (arith, calm); caused = calm }
+cause_of_page told file k p before now (Err e) calm there h = record { later = omega (arith, calm); caused = may_come file k p told before now e there h }
 
 rose_before : (before later now : ℕ) → before ≤ later → Rose later now → Rose before now
 rose_before before later now le h = omega arith
@@ -222,5 +222,5 @@ no_chain_to file m a some h = record {
 -- the same answer, where what is at fault for one call is at fault for the other
 pub cause_any : {T : Type 0} {told : Option Image} {P : Image → Addr → Type 0} (Q : Image → Addr → Type 0) {before now : ℕ} (r : Result T BaseFault)
     → ((m : Image) (a : Addr) → P m a → Q m a) → HasFileCause told P before now r → HasFileCause told Q before now r
-cause_any Q (Ok x) f h = record { later = h.later; caused = tt }
+cause_any Q (Ok x) f h = record { later = h.later; caused = h.caused }
 cause_any Q (Err e) f h = cause_by Q (Err e) e f h refl

@@ -41,7 +41,7 @@ pub returns-in-Ok-clause-held : goal.returns-in-Ok-clause-held
 returns-in-Ok-clause-held g c = c.in-Ok.ensures.held
 
 pub returns-in-Ok-clause-cause : goal.returns-in-Ok-clause-cause
-returns-in-Ok-clause-cause g c = record { later = c.renew.ensures.cause.later; caused = tt }
+returns-in-Ok-clause-cause g c = record { later = c.renew.ensures.cause.later; caused = c.in-Ok.ensures.cause.answered }
 
 pub returns-in-Err-clause-cause : goal.returns-in-Err-clause-cause
 returns-in-Err-clause-cause g c = record { later = c.renew.ensures.cause.later; caused = c.in-Err.ensures.cause.failed }

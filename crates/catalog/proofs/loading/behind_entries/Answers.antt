@@ -17,6 +17,9 @@ returns-in_err-parts-clause-cause g c =
     (g.S.PageStore.faults c.args.store.now) (g.S.PageStore.faults c.rows_in.new.store) (g.S.PageStore.faults c.rows_in-2.new.store) c.in_err-parts.field-0.0 c.in_ok-columns.ensures.cause.later
     (λ a at m told. no_parts m a (at m (c.in_ok-columns.ensures.same ∙ told))) c.in_err-parts.ensures.cause c.from_residual-in_err-parts.result c.from_residual-in_err-parts.ensures.1
 
+pub returns-clause-cause : goal.returns-clause-cause
+returns-clause-cause g c = let calm = c.in_ok-parts.ensures.cause.caused ∙ c.in_ok-columns.ensures.cause.caused in record { later = omega (arith, calm); caused = calm }
+
 pub returns-in_err-columns-clause-reads : goal.returns-in_err-columns-clause-reads
 returns-in_err-columns-clause-reads g c m columns parts told has_columns has_parts =
     rises_less (length columns) (length columns + length parts) _ _ (omega arith) (c.rows_in.ensures.reads m columns told has_columns)

@@ -1,6 +1,7 @@
 use Rattle.std.proofs.Common.{arith, ◌∙◌, ◌+◌, length}
 use Rattle.page_chain.proofs.Carried.{cause_carried}
 use Rattle.catalog.specs.Loading.{NoCatalogueIn, NoneIn}
+use Rattle.catalog.proofs.Outcomes.{cause_on}
 use Rattle.catalog.proofs.ReadRows.{no_entries}
 use Rattle.catalog.proofs.Rises.{rises_as, rises_less, then_rises}
 use Rattle.catalog.proofs.loading.read_chains.Goals as goal
@@ -10,6 +11,12 @@ returns-in_err-entries-clause-cause g c =
     cause_carried (g.S.PageStore.pages c.args.store.now) (g.S.PageStore.pages c.args.store.now) (NoneIn 5) NoCatalogueIn
     (g.S.PageStore.faults c.args.store.now) (g.S.PageStore.faults c.args.store.now) (g.S.PageStore.faults c.rows_in.new.store) c.in_err-entries.field-0.0 (omega arith)
     (λ a at m told. no_entries m a (at m told)) c.in_err-entries.ensures.cause c.from_residual.result c.from_residual.ensures.1
+
+pub returns-clause-cause : goal.returns-clause-cause
+returns-clause-cause g c =
+    cause_on (g.S.PageStore.pages c.args.store.now) (g.S.PageStore.pages c.rows_in.new.store) NoCatalogueIn NoCatalogueIn
+    (g.S.PageStore.faults c.args.store.now) (g.S.PageStore.faults c.rows_in.new.store) (g.S.PageStore.faults c.behind_entries.new.store) c.behind_entries.result c.in_ok-entries.ensures.cause.caused
+    (λ a at m told. at m (c.in_ok-entries.ensures.same ∙ told)) c.behind_entries.ensures.cause
 
 pub returns-in_err-entries-clause-reads : goal.returns-in_err-entries-clause-reads
 returns-in_err-entries-clause-reads g c m all told has =

@@ -1,4 +1,4 @@
-use Rattle.std.proofs.Common.{◌≡◌, IfOk, arith, subst, sym}
+use Rattle.std.proofs.Common.{◌≡◌, IfOk, subst, sym, refl}
 use Rattle.calculus.specs.Change.{IsLawful}
 use Rattle.calculus.specs.declared.change.DbChange.{DbChange}
 use Rattle.calculus.specs.declared.change.DbChange.TheVariants.{Create, Rows}
@@ -32,7 +32,7 @@ returns-in-Rows-clause-cause g c =
     let told = g.S.PageStore.pages c.args.store.now in
     let start = g.S.PageStore.faults c.args.store.now in
     let none_may = NoneMayTake (database_of c.args.plain.now) (files_of c.args.files.now) in
-    cause_on told told (none_may (Rows c.in-Rows.rel c.items.result.now c.items-in-Rows.result.now)) (none_may c.args.change.now) start start (g.S.PageStore.faults c.change_relation.new.store) c.change_relation.result (omega arith)
+    cause_on told told (none_may (Rows c.in-Rows.rel c.items.result.now c.items-in-Rows.result.now)) (none_may c.args.change.now) start start (g.S.PageStore.faults c.change_relation.new.store) c.change_relation.result refl
     (λ a none m is db may. none m is db (subst (λ (x : DbChange). MayTake (database_of c.args.plain.now) db (files_of c.args.files.now) x m) e may)) c.change_relation.ensures.cause
 
 pub make_relation-requires : goal.make_relation-requires
@@ -52,5 +52,5 @@ returns-in-Create-clause-cause g c =
     let told = g.S.PageStore.pages c.args.store.now in
     let start = g.S.PageStore.faults c.args.store.now in
     let none_may = NoneMayTake (database_of c.args.plain.now) (files_of c.args.files.now) in
-    cause_on told told (none_may (Create c.in-Create.info c.items-in-Create.result.now)) (none_may c.args.change.now) start start (g.S.PageStore.faults c.make_relation.new.store) c.make_relation.result (omega arith)
+    cause_on told told (none_may (Create c.in-Create.info c.items-in-Create.result.now)) (none_may c.args.change.now) start start (g.S.PageStore.faults c.make_relation.new.store) c.make_relation.result refl
     (λ a none m is db may. none m is db (subst (λ (x : DbChange). MayTake (database_of c.args.plain.now) db (files_of c.args.files.now) x m) e may)) c.make_relation.ensures.cause

@@ -38,6 +38,11 @@ returns-in_err-parts-clause-cause g c =
     (b.image, b.told_still, same_pages 6 7 a.image b.image b.elsewhere (λ e. omega (arith, e)) ∙ same_pages 5 7 m a.image a.elsewhere (λ e. omega (arith, e))))))
     c.in_err-parts.ensures.cause c.from_residual-in_err-parts.result c.from_residual-in_err-parts.ensures.1
 
+pub returns-clause-cause : goal.returns-clause-cause
+returns-clause-cause g c =
+    let calm = c.in_ok-parts.ensures.cause.caused ∙ c.in_ok-columns.ensures.cause.caused ∙ c.in_ok-entries.ensures.cause.caused in
+    record { later = omega (arith, calm); caused = calm }
+
 pub returns-clause-written : goal.returns-clause-written
 returns-clause-written g c m cat going coming is ends holds changes stands are =
     let a = c.in_ok-entries.ensures.rewritten m is in

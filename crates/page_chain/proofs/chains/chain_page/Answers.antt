@@ -64,7 +64,7 @@ pub returns-in-Some-clause-last : goal.returns-in-Some-clause-last
 returns-in-Some-clause-last g c = c.in_ok-is_there.ensures.last
 
 pub returns-in-Some-clause-cause : goal.returns-in-Some-clause-cause
-returns-in-Some-clause-cause g c = record { later = c.in_ok-is_there.ensures.cause.later; caused = tt }
+returns-in-Some-clause-cause g c = record { later = c.in_ok-is_there.ensures.cause.later; caused = c.in_ok-is_there.ensures.cause.caused }
 
 pub returns-in_err-is_there-clause-came : goal.returns-in_err-is_there-clause-came
 returns-in_err-is_there-clause-came g c = c.get.ensures.came

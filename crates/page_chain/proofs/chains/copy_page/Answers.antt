@@ -34,7 +34,7 @@ pub returns-in_err-next-clause-reads : goal.returns-in_err-next-clause-reads
 returns-in_err-next-clause-reads g c = c.chain_page.ensures.reads
 
 pub returns-clause-cause : goal.returns-clause-cause
-returns-clause-cause g c = record { later = c.chain_page.ensures.cause.later; caused = tt }
+returns-clause-cause g c = record { later = c.chain_page.ensures.cause.later; caused = c.in_ok-next.ensures.cause.caused }
 
 pub returns-clause-may : goal.returns-clause-may
 returns-clause-may g c = c.in_ok-next.ensures.may

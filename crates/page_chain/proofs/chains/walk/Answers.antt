@@ -18,7 +18,7 @@ pages-init g c = record {
   same = refl;
   came = λ s came. came;
   only_read = λ s only. only;
-  later = omega arith;
+  faults = refl;
 }
 
 pub returns-in-Ok-eq0-clause-found : goal.returns-in-Ok-eq0-clause-found
@@ -47,13 +47,13 @@ pages-preserved g c =
       same = c.in-Ok.ensures.same ∙ c.pages.invariant.same;
       came = λ s came. c.in-Ok.ensures.came s (c.pages.invariant.came s came);
       only_read = λ s only. c.in-Ok.ensures.only_read s (c.pages.invariant.only_read s only);
-      later = omega (arith, c.in-Ok.ensures.cause.later);
+      faults = c.in-Ok.ensures.cause.caused ∙ c.pages.invariant.faults;
     }
 
 pub returns-in-Err-clause-cause : goal.returns-in-Err-clause-cause
 returns-in-Err-clause-cause g c =
     fault_later {T = ℕ} {U = ℕ} (g.S.PageStore.pages c.args.store.now) (OffPage c.args.file c.pages.at c.args.bound) (NoChain c.args.file c.args.bound)
-    (g.S.PageStore.faults c.args.store.now) (g.S.PageStore.faults c.pages.store) (g.S.PageStore.faults c.copy_page.new.store) c.in-Err.fault c.pages.invariant.later
+    (g.S.PageStore.faults c.args.store.now) (g.S.PageStore.faults c.pages.store) (g.S.PageStore.faults c.copy_page.new.store) c.in-Err.fault (omega (arith, c.pages.invariant.faults))
     (λ m a told off. no_chain c.args.bound (pages_of m c.args.file) c.pages.at c.pages.rows.items c.pages.invariant.below c.args.file m a refl (c.pages.invariant.walked m told) off)
     (subst (λ told. HasFileCause {T = ℕ} told (OffPage c.args.file c.pages.at c.args.bound) (g.S.PageStore.faults c.pages.store) (g.S.PageStore.faults c.copy_page.new.store) (Err c.in-Err.fault)) c.pages.invariant.same c.in-Err.ensures.cause)
 

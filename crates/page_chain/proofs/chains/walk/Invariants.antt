@@ -1,4 +1,4 @@
-use Rattle.std.proofs.Common.{◌≡◌, ◌-◌, ◌<◌, ◌≤◌, ℕ, List, Some}
+use Rattle.std.proofs.Common.{◌≡◌, ◌-◌, ◌<◌, ℕ, List, Some}
 use Rattle.disk_model.specs.Disk.{Image}
 use Rattle.page_chain.specs.Chains.{chain}
 use Rattle.page_chain.specs.Pages.{pages_of}
@@ -15,7 +15,7 @@ invariant-pages g l = record {
   same : g.S.PageStore.pages l.store ≡ g.S.PageStore.pages l.initial.store;
   came : (s : g.row.S.Denot) → g.S.PageStore.came s l.initial.store → g.S.PageStore.came s l.store;
   only_read : (s : g.row.S.Denot) → g.S.PageStore.only_read s l.initial.store → g.S.PageStore.only_read s l.store;
-  later : g.S.PageStore.faults l.initial.store ≤ g.S.PageStore.faults l.store;
+  faults : g.S.PageStore.faults l.store ≡ g.S.PageStore.faults l.initial.store;
 }
 
 abbrev pub decreases-pages : goal.decreases-pages

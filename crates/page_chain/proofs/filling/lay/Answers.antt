@@ -30,7 +30,7 @@ returns-clause-behind g c =
     (up.0, omega (arith, up.1, c.split_at.ensures.back_len))
 
 pub returns-clause-cause : goal.returns-clause-cause
-returns-clause-cause g c = record { later = omega (arith, c.lay_pages.ensures.cause.later, c.put.ensures.cause.later); caused = tt }
+returns-clause-cause g c = record { later = omega (arith, c.lay_pages.ensures.cause.later, c.put.ensures.cause.later); caused = c.in_ok-put.ensures.cause.caused ∙ c.in_ok-at.ensures.cause.caused }
 
 pub returns-in_err-put-clause-cause : goal.returns-in_err-put-clause-cause
 returns-in_err-put-clause-cause g c =

@@ -24,7 +24,7 @@ pub returns-clause-page : goal.returns-clause-page
 returns-clause-page g c = c.fill.ensures.page
 
 pub returns-clause-cause : goal.returns-clause-cause
-returns-clause-cause g c = record { later = c.turn_page.ensures.cause.later; caused = tt }
+returns-clause-cause g c = record { later = c.turn_page.ensures.cause.later; caused = c.in_ok-turn_page.ensures.cause.caused }
 
 pub returns-in_err-turn_page-clause-cause : goal.returns-in_err-turn_page-clause-cause
 returns-in_err-turn_page-clause-cause g c =

@@ -1,5 +1,5 @@
 use borrow.Author.Tests.{tests}
-use Rattle.std.proofs.Common.{rules, ◌+◌, ◌<◌, ◌≡◌, ◌==◌, Bool, false, true, List, [], ◌∷◌, length, refl, sym, subst, arith}
+use Rattle.std.proofs.Common.{rules, ◌+◌, ◌<◌, ◌≡◌, ◌==◌, Bool, false, true, List, [], ◌∷◌, length, refl, sym, subst, arith, ◌∙◌}
 use Rattle.std.proofs.lemmas.Bool.Decides.{nat_tests}
 use Rattle.page_chain.specs.Filled.{InHand}
 use Rattle.page_chain.proofs.filling.lay_pages.Goals as goal
@@ -25,5 +25,5 @@ pages-preserved g c = record {
       subst (λ l. InHand c.args.file begin (c.pages.at + 1) c.lay_page.new.page l all m (g.S.PageStore.pages c.lay_page.new.store)) (sym c.split_at.ensures.back)
       (c.in_ok-count.ensures.hand begin all m (c.pages.invariant.hand begin all m first));
   came = λ s came. c.lay_page.ensures.came s (c.pages.invariant.came s came);
-  later = search rules;
+  faults = c.in_ok-count.ensures.cause.caused ∙ c.pages.invariant.faults;
 }

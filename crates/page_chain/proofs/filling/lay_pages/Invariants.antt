@@ -1,4 +1,4 @@
-use Rattle.std.proofs.Common.{◌+◌, ◌≤◌, All, List, ℕ, length}
+use Rattle.std.proofs.Common.{◌+◌, ◌≤◌, All, List, ℕ, length, ◌≡◌}
 use Rattle.disk_model.specs.Disk.{Image}
 use Rattle.page_cells.specs.Page.{IsPage}
 use Rattle.page_chain.specs.Filled.{InHand}
@@ -14,7 +14,7 @@ invariant-pages g l = record {
   hand : (begin : ℕ) (all : List (List ℕ)) (m : Image) → InHand l.file begin l.first l.initial.page l.rows all m (g.S.PageStore.pages l.initial.store)
       → InHand l.file begin l.at l.page l.left all m (g.S.PageStore.pages l.store);
   came : (s : g.row.S.Denot) → g.S.PageStore.came s l.initial.store → g.S.PageStore.came s l.store;
-  later : g.S.PageStore.faults l.initial.store ≤ g.S.PageStore.faults l.store;
+  faults : g.S.PageStore.faults l.store ≡ g.S.PageStore.faults l.initial.store;
 }
 
 abbrev pub decreases-pages : goal.decreases-pages

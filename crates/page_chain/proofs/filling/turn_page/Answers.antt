@@ -27,7 +27,7 @@ pub returns-clause-page : goal.returns-clause-page
 returns-clause-page g c = c.fresh_page.ensures.page
 
 pub returns-clause-cause : goal.returns-clause-cause
-returns-clause-cause g c = record { later = c.put.ensures.cause.later; caused = tt }
+returns-clause-cause g c = record { later = c.put.ensures.cause.later; caused = c.in_ok-put.ensures.cause.caused }
 
 pub returns-in_err-put-clause-cause : goal.returns-in_err-put-clause-cause
 returns-in_err-put-clause-cause g c =

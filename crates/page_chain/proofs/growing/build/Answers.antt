@@ -19,7 +19,7 @@ pub returns-in_err-last-clause-came : goal.returns-in_err-last-clause-came
 returns-in_err-last-clause-came g c = c.lay.ensures.came
 
 pub returns-clause-cause : goal.returns-clause-cause
-returns-clause-cause g c = record { later = c.lay.ensures.cause.later; caused = tt }
+returns-clause-cause g c = record { later = c.lay.ensures.cause.later; caused = c.in_ok-last.ensures.cause.caused }
 
 pub returns-in_err-last-clause-cause : goal.returns-in_err-last-clause-cause
 returns-in_err-last-clause-cause g c =

@@ -33,7 +33,7 @@ pub returns-in_ok-put-in-Some-clause-behind : goal.returns-in_ok-put-in-Some-cla
 returns-in_ok-put-in-Some-clause-behind g c = (omega arith, omega arith)
 
 pub returns-in_ok-put-in-Some-clause-cause : goal.returns-in_ok-put-in-Some-clause-cause
-returns-in_ok-put-in-Some-clause-cause g c = record { later = c.put.ensures.cause.later; caused = tt }
+returns-in_ok-put-in-Some-clause-cause g c = record { later = c.put.ensures.cause.later; caused = c.in_ok-put-in-Some.ensures.cause.caused }
 
 pub returns-in_err-put-in-Some-clause-came : goal.returns-in_err-put-in-Some-clause-came
 returns-in_err-put-in-Some-clause-came g c = c.put.ensures.came

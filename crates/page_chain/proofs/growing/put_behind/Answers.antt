@@ -22,7 +22,7 @@ pub returns-clause-behind : goal.returns-clause-behind
 returns-clause-behind g c = (omega arith, omega arith)
 
 pub returns-clause-cause : goal.returns-clause-cause
-returns-clause-cause g c = record { later = omega (arith, c.turn_page.ensures.cause.later, c.put.ensures.cause.later); caused = tt }
+returns-clause-cause g c = record { later = omega (arith, c.turn_page.ensures.cause.later, c.put.ensures.cause.later); caused = c.in_ok-put.ensures.cause.caused ∙ c.in_ok-turn_page.ensures.cause.caused }
 
 pub returns-in_err-put-clause-cause : goal.returns-in_err-put-clause-cause
 returns-in_err-put-clause-cause g c =

@@ -36,7 +36,7 @@ pub returns-clause-behind : goal.returns-clause-behind
 returns-clause-behind g c = c.in_ok-place.ensures.behind
 
 pub returns-clause-cause : goal.returns-clause-cause
-returns-clause-cause g c = record { later = omega (arith, c.chain_page.ensures.cause.later, c.put_at.ensures.cause.later); caused = tt }
+returns-clause-cause g c = record { later = omega (arith, c.chain_page.ensures.cause.later, c.put_at.ensures.cause.later); caused = c.in_ok-place.ensures.cause.caused ∙ c.in_ok-chain_page.ensures.cause.caused }
 
 pub returns-in_err-place-clause-cause : goal.returns-in_err-place-clause-cause
 returns-in_err-place-clause-cause g c =

@@ -38,4 +38,4 @@ pub returns-clause-next : goal.returns-clause-next
 returns-clause-next g c = c.in_ok-next.ensures.next
 
 pub returns-clause-cause : goal.returns-clause-cause
-returns-clause-cause g c = record { later = c.chain_page.ensures.cause.later; caused = tt }
+returns-clause-cause g c = record { later = c.chain_page.ensures.cause.later; caused = c.in_ok-next.ensures.cause.caused }

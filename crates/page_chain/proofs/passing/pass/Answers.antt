@@ -1,4 +1,4 @@
-use Rattle.std.proofs.Common.{◌+◌, ◌<◌, inl, inr, subst, take, arith}
+use Rattle.std.proofs.Common.{◌+◌, ◌<◌, inl, inr, subst, take, arith, refl, ◌∙◌}
 use Rattle.page_chain.specs.Chains.{NoChainTo}
 use Rattle.page_chain.specs.Passing.{OffChain, Passed}
 use Rattle.page_chain.proofs.Carried.{cause_carried}
@@ -13,14 +13,14 @@ pages-init g c = record {
   put = omega arith;
   reached = λ m is. reached_start c.args.chain.file c.args.chain.bound c.args.going.now m (g.S.PageStore.pages c.args.store.now) is;
   came = λ s h. h;
-  faults = omega arith;
+  faults = refl;
 }
 
 pub returns-in_err-step-clause-cause : goal.returns-in_err-step-clause-cause
 returns-in_err-step-clause-cause g c =
     cause_carried (g.S.PageStore.pages c.args.store.now) (g.S.PageStore.pages c.pages.store)
     (OffChain c.args.chain.file c.pages.number c.args.chain.bound c.args.chain.last) (NoChainTo c.args.chain.file c.args.chain.bound c.args.chain.last)
-    (g.S.PageStore.faults c.args.store.now) (g.S.PageStore.faults c.pages.store) (g.S.PageStore.faults c.renew_at.new.store) c.in_err-step.field-0.0 c.pages.invariant.faults
+    (g.S.PageStore.faults c.args.store.now) (g.S.PageStore.faults c.pages.store) (g.S.PageStore.faults c.renew_at.new.store) c.in_err-step.field-0.0 (omega (arith, c.pages.invariant.faults))
     (λ a fault m is. let so_far = c.pages.invariant.reached m is in
     off_reached c.args.chain.file c.args.chain.bound c.pages.number c.args.chain.last c.args.going.now (take c.pages.put c.args.coming.now) c.pages.gone m (g.S.PageStore.pages c.pages.store) so_far a (fault so_far.image so_far.told_still))
     c.in_err-step.ensures.cause c.from_residual.result c.from_residual.ensures.1
@@ -53,7 +53,7 @@ pages-preserved g c =
           c.pages.gone c.in_ok-step.step.gone c.in_ok-step.step.next m (g.S.PageStore.pages c.pages.store) (g.S.PageStore.pages c.renew_at.new.store) so_far
           (c.in_ok-step.ensures.renewed so_far.image so_far.told_still) some);
       came = λ s h. c.renew_at.ensures.came s (c.pages.invariant.came s h);
-      faults = omega (arith, c.pages.invariant.faults, c.renew_at.ensures.cause.later);
+      faults = c.in_ok-step.ensures.cause.caused ∙ c.pages.invariant.faults;
     }
 
 pub returns-then-step-eq0-clause-put : goal.returns-then-step-eq0-clause-put
@@ -63,7 +63,7 @@ pub returns-then-step-eq0-clause-came : goal.returns-then-step-eq0-clause-came
 returns-then-step-eq0-clause-came g c = λ s h. c.renew_at.ensures.came s (c.pages.invariant.came s h)
 
 pub returns-then-step-eq0-clause-cause : goal.returns-then-step-eq0-clause-cause
-returns-then-step-eq0-clause-cause g c = record { later = omega (arith, c.pages.invariant.faults, c.renew_at.ensures.cause.later); caused = tt }
+returns-then-step-eq0-clause-cause g c = record { later = omega (arith, c.pages.invariant.faults, c.renew_at.ensures.cause.later); caused = c.in_ok-step.ensures.cause.caused ∙ c.pages.invariant.faults }
 
 pub returns-in_err-step-clause-came : goal.returns-in_err-step-clause-came
 returns-in_err-step-clause-came g c = λ s h. c.renew_at.ensures.came s (c.pages.invariant.came s h)

@@ -11,7 +11,7 @@ invariant-pages g l = record {
   reached : (m : Image) → g.S.PageStore.pages l.initial.store ≡ Some m
       → Reached l.chain.file l.chain.bound l.number l.going (take l.put l.coming) l.gone m (g.S.PageStore.pages l.store);
   came : (s : _) → g.S.PageStore.came s l.initial.store → g.S.PageStore.came s l.store;
-  faults : g.S.PageStore.faults l.initial.store ≤ g.S.PageStore.faults l.store;
+  faults : g.S.PageStore.faults l.store ≡ g.S.PageStore.faults l.initial.store;
 }
 
 abbrev pub decreases-pages : goal.decreases-pages

@@ -38,10 +38,10 @@ pub returns-else-done-gt0-clause-came : goal.returns-else-done-gt0-clause-came
 returns-else-done-gt0-clause-came g c = c.page_on.ensures.came
 
 pub returns-else-done-gt0-clause-cause : goal.returns-else-done-gt0-clause-cause
-returns-else-done-gt0-clause-cause g c = record { later = c.page_on.ensures.cause.later; caused = tt }
+returns-else-done-gt0-clause-cause g c = record { later = c.page_on.ensures.cause.later; caused = c.in_ok-next.ensures.cause.caused }
 
 pub returns-in_ok-put-clause-cause : goal.returns-in_ok-put-clause-cause
-returns-in_ok-put-clause-cause g c = record { later = omega (arith, c.page_on.ensures.cause.later, c.put.ensures.cause.later); caused = tt }
+returns-in_ok-put-clause-cause g c = record { later = omega (arith, c.page_on.ensures.cause.later, c.put.ensures.cause.later); caused = c.in_ok-put.ensures.cause.caused ∙ c.in_ok-next.ensures.cause.caused }
 
 pub returns-in_err-put-clause-cause : goal.returns-in_err-put-clause-cause
 returns-in_err-put-clause-cause g c =

@@ -1,4 +1,4 @@
-use Rattle.std.proofs.Common.{length, sym, ◌∙◌, arith, subst, take}
+use Rattle.std.proofs.Common.{length, sym, ◌∙◌, arith, subst, take, refl}
 use Rattle.std.proofs.lemmas.Bool.{eqb-true}
 use Rattle.std.proofs.lemmas.List.{nil_from_length}
 use Rattle.page_chain.proofs.Replaced.{passed_nothing}
@@ -26,7 +26,7 @@ pub returns-then-is_empty-clause-came : goal.returns-then-is_empty-clause-came
 returns-then-is_empty-clause-came g c = λ s came. came
 
 pub returns-then-is_empty-clause-cause : goal.returns-then-is_empty-clause-cause
-returns-then-is_empty-clause-cause g c = record { later = omega arith; caused = tt }
+returns-then-is_empty-clause-cause g c = record { later = omega arith; caused = refl }
 
 pub returns-clause-passed : goal.returns-clause-passed
 returns-clause-passed g c = λ m is.

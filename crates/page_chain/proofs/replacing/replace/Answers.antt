@@ -1,4 +1,4 @@
-use Rattle.std.proofs.Common.{◌+◌, ◌++◌, ◌∷◌, [], subst, take, arith}
+use Rattle.std.proofs.Common.{◌+◌, ◌++◌, ◌∷◌, [], subst, take, arith, ◌∙◌}
 use Rattle.page_chain.specs.Chains.{OffPage, NoChainTo}
 use Rattle.page_chain.specs.Grown.{IsGrown}
 use Rattle.page_chain.proofs.Carried.{cause_carried}
@@ -46,7 +46,7 @@ returns-in-Ok-clause-behind g c =
     (up.0, omega (arith, up.1, c.split_at.ensures.back_len))
 
 pub returns-in-Ok-clause-cause : goal.returns-in-Ok-clause-cause
-returns-in-Ok-clause-cause g c = record { later = omega (arith, c.pass_over.ensures.cause.later, c.put_rest.ensures.cause.later); caused = tt }
+returns-in-Ok-clause-cause g c = record { later = omega (arith, c.pass_over.ensures.cause.later, c.put_rest.ensures.cause.later); caused = c.in_ok-last.ensures.cause.caused ∙ c.in_ok-done.ensures.cause.caused }
 
 pub returns-in-Err-clause-cause : goal.returns-in-Err-clause-cause
 returns-in-Err-clause-cause g c = record { later = omega (arith, c.pass_over.ensures.cause.later, c.put_rest.ensures.cause.later); caused = tt }

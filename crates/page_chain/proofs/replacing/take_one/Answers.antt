@@ -12,14 +12,14 @@ pages-init g c = record {
   same = refl;
   searched = λ m is. searched_start c.args.file c.args.bound c.args.row.now m;
   came = λ s h. h;
-  faults = omega arith;
+  faults = refl;
 }
 
 pub returns-in_err-taken-clause-cause : goal.returns-in_err-taken-clause-cause
 returns-in_err-taken-clause-cause g c =
     cause_carried (g.S.PageStore.pages c.args.store.now) (g.S.PageStore.pages c.pages.store)
     (OffPage c.args.file c.pages.number c.args.bound) (NoChain c.args.file c.args.bound)
-    (g.S.PageStore.faults c.args.store.now) (g.S.PageStore.faults c.pages.store) (g.S.PageStore.faults c.take_at.new.store) c.in_err-taken.field-0.0 c.pages.invariant.faults
+    (g.S.PageStore.faults c.args.store.now) (g.S.PageStore.faults c.pages.store) (g.S.PageStore.faults c.take_at.new.store) c.in_err-taken.field-0.0 (omega (arith, c.pages.invariant.faults))
     (λ a fault. off_searched c.args.file c.args.bound c.pages.number c.args.row.now (g.S.PageStore.pages c.args.store.now) c.pages.invariant.searched a
     (subst (λ told. IsAtFault told (OffPage c.args.file c.pages.number c.args.bound) a) c.pages.invariant.same fault))
     c.in_err-taken.ensures.cause c.from_residual.result c.from_residual.ensures.1
@@ -53,20 +53,20 @@ pages-preserved g c =
           (subst (λ line. PageTook c.args.file c.args.bound c.pages.number c.args.row.now line c.in_ok-taken.taken.next m (g.S.PageStore.pages c.take_at.new.store)) c.in_default.is
           (c.in_ok-taken.ensures.took m (c.pages.invariant.same ∙ is))) some;
       came = λ s h. c.take_at.ensures.came s (c.pages.invariant.came s h);
-      faults = omega (arith, c.pages.invariant.faults, c.take_at.ensures.cause.later);
+      faults = c.in_ok-taken.ensures.cause.caused ∙ c.pages.invariant.faults;
     }
 
 pub returns-in-Some-clause-came : goal.returns-in-Some-clause-came
 returns-in-Some-clause-came g c = λ s h. c.take_at.ensures.came s (c.pages.invariant.came s h)
 
 pub returns-in-Some-clause-cause : goal.returns-in-Some-clause-cause
-returns-in-Some-clause-cause g c = record { later = omega (arith, c.pages.invariant.faults, c.take_at.ensures.cause.later); caused = tt }
+returns-in-Some-clause-cause g c = record { later = omega (arith, c.pages.invariant.faults, c.take_at.ensures.cause.later); caused = c.in_ok-taken.ensures.cause.caused ∙ c.pages.invariant.faults }
 
 pub returns-then-taken-eq0-clause-came : goal.returns-then-taken-eq0-clause-came
 returns-then-taken-eq0-clause-came g c = λ s h. c.take_at.ensures.came s (c.pages.invariant.came s h)
 
 pub returns-then-taken-eq0-clause-cause : goal.returns-then-taken-eq0-clause-cause
-returns-then-taken-eq0-clause-cause g c = record { later = omega (arith, c.pages.invariant.faults, c.take_at.ensures.cause.later); caused = tt }
+returns-then-taken-eq0-clause-cause g c = record { later = omega (arith, c.pages.invariant.faults, c.take_at.ensures.cause.later); caused = c.in_ok-taken.ensures.cause.caused ∙ c.pages.invariant.faults }
 
 pub returns-in_err-taken-clause-came : goal.returns-in_err-taken-clause-came
 returns-in_err-taken-clause-came g c = λ s h. c.take_at.ensures.came s (c.pages.invariant.came s h)

@@ -32,10 +32,10 @@ pub returns-else-is_some-clause-came : goal.returns-else-is_some-clause-came
 returns-else-is_some-clause-came g c = c.chain_page.ensures.came
 
 pub returns-else-is_some-clause-cause : goal.returns-else-is_some-clause-cause
-returns-else-is_some-clause-cause g c = record { later = c.chain_page.ensures.cause.later; caused = tt }
+returns-else-is_some-clause-cause g c = record { later = c.chain_page.ensures.cause.later; caused = c.in_ok-next.ensures.cause.caused }
 
 pub returns-in_ok-put-clause-cause : goal.returns-in_ok-put-clause-cause
-returns-in_ok-put-clause-cause g c = record { later = omega (arith, c.chain_page.ensures.cause.later, c.put.ensures.cause.later); caused = tt }
+returns-in_ok-put-clause-cause g c = record { later = omega (arith, c.chain_page.ensures.cause.later, c.put.ensures.cause.later); caused = c.in_ok-put.ensures.cause.caused ∙ c.in_ok-next.ensures.cause.caused }
 
 pub returns-in_err-put-clause-cause : goal.returns-in_err-put-clause-cause
 returns-in_err-put-clause-cause g c =

@@ -72,7 +72,7 @@ pub returns-clause-some : goal.returns-clause-some
 returns-clause-some g c = subst (λ (file : RelFile). 1 ≤ file.used) (sym c.info.ensures) c.replace_near.new.self.heap.pages
 
 pub returns-clause-cause : goal.returns-clause-cause
-returns-clause-cause g c = record { later = (let a = c.in_ok-near.ensures.cause.later in let b = c.in_ok-replace_near.ensures.cause.later in omega (arith, a, b)); caused = tt }
+returns-clause-cause g c = record { later = (let a = c.in_ok-near.ensures.cause.later in let b = c.in_ok-replace_near.ensures.cause.later in omega (arith, a, b)); caused = c.in_ok-replace_near.ensures.cause.caused ∙ c.in_ok-near.ensures.cause.caused }
 
 pub replace_near-requires-clause-room : goal.replace_near-requires-clause-room
 replace_near-requires-clause-room g c = subst (λ (file : RelFile). file.used + length c.args.add.now < 2 ^ 32) (sym c.open_method-method.ensures) (omega (arith, c.if-used-add.false))

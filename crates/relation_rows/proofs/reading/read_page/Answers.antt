@@ -36,7 +36,7 @@ pub returns-clause-stands : goal.returns-clause-stands
 returns-clause-stands g c m t = c.in_ok-found.ensures.stands m t
 
 pub returns-clause-cause : goal.returns-clause-cause
-returns-clause-cause g c = record { later = c.page_rows.ensures.cause.later; caused = tt }
+returns-clause-cause g c = record { later = c.page_rows.ensures.cause.later; caused = c.in_ok-found.ensures.cause.caused }
 
 pub returns-in_err-found-clause-cause : goal.returns-in_err-found-clause-cause
 returns-in_err-found-clause-cause g c =

@@ -1,4 +1,4 @@
-use Rattle.std.proofs.Common.{rules, ap, sym, subst, arith, ◌∙◌, ◌++◌}
+use Rattle.std.proofs.Common.{rules, ap, sym, subst, arith, ◌∙◌, ◌++◌, refl}
 use Rattle.access_traits.specs.Causes.{HasFileCause}
 use Rattle.access_traits.specs.Placed.{rows_from}
 use Rattle.page_chain.specs.Lying.{place_of}
@@ -12,7 +12,7 @@ pub returns-in_err-read_page-clause-cause : goal.returns-in_err-read_page-clause
 returns-in_err-read_page-clause-cause g c =
     subst (λ file. HasFileCause (g.S.PageStore.pages c.args.store.now) (HeapFault file) (g.S.PageStore.faults c.args.store.now) (g.S.PageStore.faults c.read_page.new.store) c.from_residual.result) c.open_method-method.ensures
     (cause_later (g.S.PageStore.pages c.args.store.now) (g.S.PageStore.pages c.pages.store) (HeapFault c.open_method-method.result.heap.file) (g.S.PageStore.faults c.args.store.now) (g.S.PageStore.faults c.pages.store) (g.S.PageStore.faults c.read_page.new.store) c.from_residual.result c.in_err-read_page.field-0.0
-    c.pages.invariant.same c.pages.invariant.faults c.in_err-read_page.ensures.cause (handed_on c.from_residual.result c.in_err-read_page.field-0.0 c.from_residual.ensures.1))
+    c.pages.invariant.same (omega (arith, c.pages.invariant.faults)) c.in_err-read_page.ensures.cause (handed_on c.from_residual.result c.in_err-read_page.field-0.0 c.from_residual.ensures.1))
 
 pub returns-clause-exact : goal.returns-clause-exact
 returns-clause-exact g c m t =
@@ -29,7 +29,7 @@ pages-preserved g c =
       reads = (let one = c.read_page.ensures.reads in record { later = omega (arith, so_far.reads.later, one.later); at_most = omega (arith, so_far.reads.at_most, one.at_most) });
       came = λ s h. c.read_page.ensures.came s (so_far.came s h);
       only_read = λ s h. c.read_page.ensures.only_read s (so_far.only_read s h);
-      faults = omega (arith, so_far.faults, c.read_page.ensures.cause.later);
+      faults = c.in_ok-read_page.ensures.cause.caused ∙ so_far.faults;
     }
 
 pub pages-init : goal.pages-init
@@ -40,7 +40,7 @@ pages-init g c = record {
   reads = search rules;
   came = λ s h. h;
   only_read = λ s h. h;
-  faults = omega arith;
+  faults = refl;
 }
 
 pub returns-clause-same : goal.returns-clause-same
@@ -53,7 +53,7 @@ pub returns-clause-only_read : goal.returns-clause-only_read
 returns-clause-only_read g c = c.pages.invariant.only_read
 
 pub returns-clause-cause : goal.returns-clause-cause
-returns-clause-cause g c = record { later = c.pages.invariant.faults; caused = tt }
+returns-clause-cause g c = record { later = omega (arith, c.pages.invariant.faults); caused = c.pages.invariant.faults }
 
 pub returns-in_err-read_page-clause-same : goal.returns-in_err-read_page-clause-same
 returns-in_err-read_page-clause-same g c = c.read_page.ensures.same ∙ c.pages.invariant.same

@@ -1,4 +1,4 @@
-use Rattle.std.proofs.Common.{◌≡◌, ◌++◌, ◌≤◌, Some}
+use Rattle.std.proofs.Common.{◌≡◌, ◌++◌, Some}
 use Rattle.disk_model.specs.Disk.{Image, RisesUpTo}
 use Rattle.access_traits.specs.Placed.{Placed, rows_of, rows_from}
 use Rattle.page_chain.specs.Lying.{place_of}
@@ -15,5 +15,5 @@ invariant-pages g l = record {
   reads : RisesUpTo l.number (g.S.PageStore.reads l.fn.store) (g.S.PageStore.reads l.store);
   came : (s : _) → g.S.PageStore.came s l.fn.store → g.S.PageStore.came s l.store;
   only_read : (s : _) → g.S.PageStore.only_read s l.fn.store → g.S.PageStore.only_read s l.store;
-  faults : g.S.PageStore.faults l.fn.store ≤ g.S.PageStore.faults l.store;
+  faults : g.S.PageStore.faults l.store ≡ g.S.PageStore.faults l.fn.store;
 }

@@ -16,7 +16,7 @@ pub returns-in_err-see_all-clause-same : goal.returns-in_err-see_all-clause-same
 returns-in_err-see_all-clause-same g c = c.see_all.ensures.same
 
 pub returns-clause-cause : goal.returns-clause-cause
-returns-clause-cause g c = record { later = c.see_all.ensures.cause.later; caused = tt }
+returns-clause-cause g c = record { later = c.see_all.ensures.cause.later; caused = c.in_ok-see_all.ensures.cause.caused }
 
 pub returns-in_err-see_all-clause-cause : goal.returns-in_err-see_all-clause-cause
 returns-in_err-see_all-clause-cause g c =

@@ -8,16 +8,16 @@ pub returns-in_err-see_range-clause-cause : goal.returns-in_err-see_range-clause
 returns-in_err-see_range-clause-cause g c =
     cause_later (g.S.PageStore.pages c.args.store.now) (g.S.PageStore.pages c.each.store) (HeapFault c.args.method.now.heap.file) (g.S.PageStore.faults c.args.store.now) (g.S.PageStore.faults c.each.store)
     (g.S.PageStore.faults c.see_range.new.store) c.from_residual.result c.in_err-see_range.field-0.0
-    c.each.invariant.same c.each.invariant.faults c.in_err-see_range.ensures.cause (handed_on c.from_residual.result c.in_err-see_range.field-0.0 c.from_residual.ensures.1)
+    c.each.invariant.same (omega (arith, c.each.invariant.faults)) c.in_err-see_range.ensures.cause (handed_on c.from_residual.result c.in_err-see_range.field-0.0 c.from_residual.ensures.1)
 
 pub each-init : goal.each-init
-each-init g c = record { same = refl; came = λ s h. h; faults = omega arith }
+each-init g c = record { same = refl; came = λ s h. h; faults = refl }
 
 pub each-preserved : goal.each-preserved
 each-preserved g c = record {
   same = c.see_range.ensures.same ∙ c.each.invariant.same;
   came = λ s h. c.see_range.ensures.came s (c.each.invariant.came s h);
-  faults = omega (arith, c.each.invariant.faults, c.see_range.ensures.cause.later);
+  faults = c.in_ok-see_range.ensures.cause.caused ∙ c.each.invariant.faults;
 }
 
 pub returns-in_err-see_range-clause-same : goal.returns-in_err-see_range-clause-same
@@ -33,4 +33,4 @@ pub returns-clause-came : goal.returns-clause-came
 returns-clause-came g c = c.each.invariant.came
 
 pub returns-clause-cause : goal.returns-clause-cause
-returns-clause-cause g c = record { later = c.each.invariant.faults; caused = tt }
+returns-clause-cause g c = record { later = omega (arith, c.each.invariant.faults); caused = c.each.invariant.faults }

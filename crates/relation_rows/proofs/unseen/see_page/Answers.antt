@@ -16,7 +16,7 @@ pub returns-in_err-found-clause-same : goal.returns-in_err-found-clause-same
 returns-in_err-found-clause-same g c = c.page_rows.ensures.same
 
 pub returns-clause-cause : goal.returns-clause-cause
-returns-clause-cause g c = record { later = c.page_rows.ensures.cause.later; caused = tt }
+returns-clause-cause g c = record { later = c.page_rows.ensures.cause.later; caused = c.in_ok-found.ensures.cause.caused }
 
 pub returns-in_err-found-clause-cause : goal.returns-in_err-found-clause-cause
 returns-in_err-found-clause-cause g c =

@@ -43,7 +43,7 @@ returns-then-eq-clause-last g c =
     given
 
 pub returns-then-eq-clause-cause : goal.returns-then-eq-clause-cause
-returns-then-eq-clause-cause g c = record { later = omega arith; caused = tt }
+returns-then-eq-clause-cause g c = record { later = omega arith; caused = refl }
 
 pub returns-in-Ok-clause-page : goal.returns-in-Ok-clause-page
 returns-in-Ok-clause-page g c = λ m is.
@@ -60,7 +60,7 @@ pub returns-in-Err-clause-reads : goal.returns-in-Err-clause-reads
 returns-in-Err-clause-reads g c = c.read_page.ensures.reads
 
 pub returns-in-Ok-clause-cause : goal.returns-in-Ok-clause-cause
-returns-in-Ok-clause-cause g c = record { later = c.read_page.ensures.cause.later; caused = tt }
+returns-in-Ok-clause-cause g c = record { later = c.read_page.ensures.cause.later; caused = c.in-Ok.ensures.cause.answered }
 
 pub returns-in-Err-clause-cause : goal.returns-in-Err-clause-cause
 returns-in-Err-clause-cause g c = record { later = c.read_page.ensures.cause.later; caused = c.in-Err.ensures.cause.failed }

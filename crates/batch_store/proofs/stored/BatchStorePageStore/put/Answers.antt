@@ -26,7 +26,7 @@ returns-in-Ok-clause-page g c = λ m is.
     told_is g.D.Disk.tells (g.D.Disk.seen c.stage.new.disk) c.stage.new.batch so.0 ∙ ap Some (c.in-Ok.ensures.page so.0 ∙ ap (with_page c.args.a c.args.page.now) so.1)
 
 pub returns-in-Ok-clause-cause : goal.returns-in-Ok-clause-cause
-returns-in-Ok-clause-cause g c = record { later = c.stage.ensures.cause.later; caused = tt }
+returns-in-Ok-clause-cause g c = record { later = c.stage.ensures.cause.later; caused = c.in-Ok.ensures.cause.caused }
 
 pub returns-in-Err-clause-cause : goal.returns-in-Err-clause-cause
 returns-in-Err-clause-cause g c = c.in-Err.ensures.cause

@@ -111,7 +111,7 @@ pub returns-in-Some-clause-cause : goal.returns-in-Some-clause-cause
 returns-in-Some-clause-cause g c =
     let told = g.S.PageStore.pages c.args.store.now in
     let start = g.S.PageStore.faults c.args.store.now in
-    cause_on told told (KnowsNone (record c.args.self.now { plain = c.relation_file.new.plain })) (KnowsNone c.args.self.now) start start (g.S.PageStore.faults c.read.new.store) c.read.result (omega arith)
+    cause_on told told (KnowsNone (record c.args.self.now { plain = c.relation_file.new.plain })) (KnowsNone c.args.self.now) start start (g.S.PageStore.faults c.read.new.store) c.read.result refl
     (λ a none m is db base k. none m is db base (knows_still c.args.self.now c.relation_file.new.plain m db (c.relation_file.ensures.same ∙ c.is_stored.ensures.same) k)) c.read.ensures.cause
 
 pub returns-in-Some-clause-came : goal.returns-in-Some-clause-came

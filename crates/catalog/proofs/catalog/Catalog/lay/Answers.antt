@@ -46,7 +46,7 @@ returns-clause-came g c = λ s h. c.write.ensures.came s (c.read_for.ensures.cam
 pub returns-clause-cause : goal.returns-clause-cause
 returns-clause-cause g c =
     cause_on (g.S.PageStore.pages c.args.store.now) (g.S.PageStore.pages c.read_for.new.store) (KnowsNoneFor (record c.read_for.new.self { plain = c.is_lawful.new.plain }) c.args.change.now) (KnowsNoneFor c.args.self.now c.args.change.now)
-    (g.S.PageStore.faults c.args.store.now) (g.S.PageStore.faults c.read_for.new.store) (g.S.PageStore.faults c.write.new.store) c.write.result c.read_for.ensures.cause.later
+    (g.S.PageStore.faults c.args.store.now) (g.S.PageStore.faults c.read_for.new.store) (g.S.PageStore.faults c.write.new.store) c.write.result c.in_ok-read_for.ensures.cause.caused
     (λ a none m is db base knows lawful.
     none m (c.read_for.ensures.same ∙ is) db base (knows_same c.read_for.new.self c.is_lawful.new.plain m db c.is_lawful.ensures.same (c.read_for.ensures.knows m db is base knows)) lawful)
     c.write.ensures.cause

@@ -133,4 +133,4 @@ pub returns-else-branch-clause-reads : goal.returns-else-branch-clause-reads
 returns-else-branch-clause-reads g c = c.relation_rows.ensures.reads
 
 pub returns-then-branch-clause-cause : goal.returns-then-branch-clause-cause
-returns-then-branch-clause-cause g c = record { later = c.in_ok-rows.ensures.cause.later; caused = tt }
+returns-then-branch-clause-cause g c = record { later = c.in_ok-rows.ensures.cause.later; caused = c.in_ok-rows.ensures.cause.caused }

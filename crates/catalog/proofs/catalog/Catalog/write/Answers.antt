@@ -29,7 +29,7 @@ returns-clause-cause g c =
     let old = g.S.PageStore.pages c.args.store.now in
     let mid = g.S.PageStore.pages c.make_pages.new.store in
     cause_on old mid (NoCatalogue c.args.self.now.ends) (KnowsNoneFor c.args.self.now c.args.change.now) (g.S.PageStore.faults c.args.store.now) (g.S.PageStore.faults c.make_pages.new.store)
-    (g.S.PageStore.faults c.write_given.new.store) c.write_given.result c.make_pages.ensures.cause.later
+    (g.S.PageStore.faults c.write_given.new.store) c.write_given.result c.in_ok-given.ensures.cause.caused
     (catalogue_fault c.args.self.now c.args.change.now c.in_ok-given.given.file c.in_ok-given.given.used old mid (λ m db. c.in_ok-given.ensures.made m db)) c.write_given.ensures.cause
 
 pub returns-clause-knows : goal.returns-clause-knows

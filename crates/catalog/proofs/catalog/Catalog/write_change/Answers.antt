@@ -1,4 +1,4 @@
-use Rattle.std.proofs.Common.{arith, sym, ◌∙◌}
+use Rattle.std.proofs.Common.{sym, ◌∙◌, refl}
 use Rattle.catalog_pages.specs.Ends.{NoCatalogue}
 use Rattle.catalog.specs.Spelling.{SpellsNone}
 use Rattle.catalog.proofs.Outcomes.{cause_on}
@@ -20,5 +20,5 @@ pub returns-clause-cause : goal.returns-clause-cause
 returns-clause-cause g c =
     let old = g.S.PageStore.pages c.args.store.now in
     let start = g.S.PageStore.faults c.args.store.now in
-    cause_on old old (NoCatalogue c.args.self.now.ends) (SpellsNone c.args.self.now) start start (g.S.PageStore.faults c.write_given.new.store) c.write_given.result (omega arith)
+    cause_on old old (NoCatalogue c.args.self.now.ends) (SpellsNone c.args.self.now) start start (g.S.PageStore.faults c.write_given.new.store) c.write_given.result refl
     (none_spelled c.args.self.now old) c.write_given.ensures.cause

@@ -13,7 +13,7 @@ pub returns-clause-others : goal.returns-clause-others
 returns-clause-others g c = c.in_ok-file.ensures.others
 
 pub returns-clause-cause : goal.returns-clause-cause
-returns-clause-cause g c = record { later = c.pages_built.ensures.cause.later; caused = tt }
+returns-clause-cause g c = record { later = c.pages_built.ensures.cause.later; caused = c.in_ok-file.ensures.cause.caused }
 
 pub returns-in_err-file-clause-came : goal.returns-in_err-file-clause-came
 returns-in_err-file-clause-came g c = c.pages_built.ensures.came

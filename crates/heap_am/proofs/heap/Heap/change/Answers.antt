@@ -60,7 +60,7 @@ pub returns-then-is_empty-clause-came : goal.returns-then-is_empty-clause-came
 returns-then-is_empty-clause-came g c = c.extend.ensures.came
 
 pub returns-then-is_empty-clause-cause : goal.returns-then-is_empty-clause-cause
-returns-then-is_empty-clause-cause g c = record { later = c.extend.ensures.cause.later; caused = tt }
+returns-then-is_empty-clause-cause g c = record { later = c.extend.ensures.cause.later; caused = c.in_ok-extend.ensures.cause.caused }
 
 pub returns-in_err-extend-clause-came : goal.returns-in_err-extend-clause-came
 returns-in_err-extend-clause-came g c = c.extend.ensures.came

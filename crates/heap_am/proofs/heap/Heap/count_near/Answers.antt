@@ -15,7 +15,7 @@ numbers-init g c = record {
   count = λ m is. count_nowhere (pages_of m c.args.self.now.file.file) c.args.going.now;
   same = refl;
   came = λ s h. h;
-  faults = omega arith;
+  faults = refl;
 }
 
 pub count_on-requires : goal.count_on-requires
@@ -24,7 +24,7 @@ count_on-requires g c = record { below = (rising_at 0 c.args.self.now.file.used 
 pub returns-in_err-count-clause-cause : goal.returns-in_err-count-clause-cause
 returns-in_err-count-clause-cause g c =
     cause_later (g.S.PageStore.pages c.args.store.now) (g.S.PageStore.pages c.numbers.store) (HeapFault c.args.self.now.file) (g.S.PageStore.faults c.args.store.now) (g.S.PageStore.faults c.numbers.store) (g.S.PageStore.faults c.count_on.new.store) c.from_residual.result c.in_err-count.field-0.0
-    c.numbers.invariant.same c.numbers.invariant.faults c.in_err-count.ensures.cause (handed_on c.from_residual.result c.in_err-count.field-0.0 c.from_residual.ensures.1)
+    c.numbers.invariant.same (omega (arith, c.numbers.invariant.faults)) c.in_err-count.ensures.cause (handed_on c.from_residual.result c.in_err-count.field-0.0 c.from_residual.ensures.1)
 
 pub overflow_add-count : goal.overflow_add-count
 overflow_add-count g c =
@@ -44,14 +44,14 @@ numbers-preserved g c =
           (c.numbers.invariant.count m is) (c.in_ok-count.ensures.count m (c.numbers.invariant.same ∙ is)));
       same = c.count_on.ensures.same ∙ c.numbers.invariant.same;
       came = λ s h. c.count_on.ensures.came s (c.numbers.invariant.came s h);
-      faults = omega (arith, c.numbers.invariant.faults, c.count_on.ensures.cause.later);
+      faults = c.in_ok-count.ensures.cause.caused ∙ c.numbers.invariant.faults;
     }
 
 pub returns-clause-came : goal.returns-clause-came
 returns-clause-came g c = c.numbers.invariant.came
 
 pub returns-clause-cause : goal.returns-clause-cause
-returns-clause-cause g c = record { later = c.numbers.invariant.faults; caused = tt }
+returns-clause-cause g c = record { later = omega (arith, c.numbers.invariant.faults); caused = c.numbers.invariant.faults }
 
 pub returns-in_err-count-clause-came : goal.returns-in_err-count-clause-came
 returns-in_err-count-clause-came g c = λ s h. c.count_on.ensures.came s (c.numbers.invariant.came s h)

@@ -11,5 +11,5 @@ invariant-numbers g l = record {
       → l.count + length (staying l.going (lying (pages_of m l.self.file.file) (take l.number-index l.numbers))) ≡ length (lying (pages_of m l.self.file.file) (take l.number-index l.numbers));
   same : g.S.PageStore.pages l.store ≡ g.S.PageStore.pages l.initial.store;
   came : (s : _) → g.S.PageStore.came s l.initial.store → g.S.PageStore.came s l.store;
-  faults : g.S.PageStore.faults l.initial.store ≤ g.S.PageStore.faults l.store;
+  faults : g.S.PageStore.faults l.store ≡ g.S.PageStore.faults l.initial.store;
 }

@@ -20,7 +20,7 @@ pub returns-clause-most : goal.returns-clause-most
 returns-clause-most g c = c.renew_page-done.ensures.most
 
 pub returns-clause-cause : goal.returns-clause-cause
-returns-clause-cause g c = record { later = c.page.ensures.cause.later; caused = tt }
+returns-clause-cause g c = record { later = c.page.ensures.cause.later; caused = c.in_ok-page.ensures.cause.caused }
 
 pub returns-clause-count : goal.returns-clause-count
 returns-clause-count g c m is =

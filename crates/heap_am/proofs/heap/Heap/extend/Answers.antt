@@ -28,4 +28,4 @@ pub returns-clause-others : goal.returns-clause-others
 returns-clause-others g c = c.in_ok-last.ensures.others
 
 pub returns-clause-cause : goal.returns-clause-cause
-returns-clause-cause g c = record { later = c.extend.ensures.cause.later; caused = tt }
+returns-clause-cause g c = record { later = c.extend.ensures.cause.later; caused = c.in_ok-last.ensures.cause.caused }

@@ -11,7 +11,7 @@ use Rattle.heap_am.proofs.heap.Heap.next_row.Goals as goal
 pub returns-in_err-row-clause-cause : goal.returns-in_err-row-clause-cause
 returns-in_err-row-clause-cause g c =
     cause_later (g.S.PageStore.pages c.args.store.now) (g.S.PageStore.pages c.pages.store) (HeapFault c.args.self.now.file) (g.S.PageStore.faults c.args.store.now) (g.S.PageStore.faults c.pages.store) (g.S.PageStore.faults c.next_read.new.store) c.from_residual.result c.in_err-row.field-0.0
-    c.pages.invariant.same c.pages.invariant.faults c.in_err-row.ensures.cause (handed_on c.from_residual.result c.in_err-row.field-0.0 c.from_residual.ensures.1)
+    c.pages.invariant.same (omega (arith, c.pages.invariant.faults)) c.in_err-row.ensures.cause (handed_on c.from_residual.result c.in_err-row.field-0.0 c.from_residual.ensures.1)
 
 pub returns-clause-told : goal.returns-clause-told
 returns-clause-told g c m rows t e =
@@ -27,7 +27,7 @@ pages-preserved g c = record {
   came = λ s came. c.next_read.ensures.came s (c.pages.invariant.came s came);
   only_read = λ s read. c.next_read.ensures.only_read s (c.pages.invariant.only_read s read);
   reads = le_trans c.in_ok-row.ensures.reads c.pages.invariant.reads;
-  faults = le_trans c.pages.invariant.faults c.next_read.ensures.cause.later;
+  faults = c.in_ok-row.ensures.cause.caused ∙ c.pages.invariant.faults;
 }
 
 pub pages-init : goal.pages-init
@@ -37,7 +37,7 @@ pages-init g c = record {
   came = λ s came. came;
   only_read = λ s read. read;
   reads = omega arith;
-  faults = omega arith;
+  faults = refl;
 }
 
 pub returns-clause-same : goal.returns-clause-same
@@ -53,7 +53,7 @@ pub returns-clause-reads : goal.returns-clause-reads
 returns-clause-reads g c = c.pages.invariant.reads
 
 pub returns-clause-cause : goal.returns-clause-cause
-returns-clause-cause g c = record { later = c.pages.invariant.faults; caused = tt }
+returns-clause-cause g c = record { later = omega (arith, c.pages.invariant.faults); caused = c.pages.invariant.faults }
 
 pub returns-in_err-row-clause-same : goal.returns-in_err-row-clause-same
 returns-in_err-row-clause-same g c = c.next_read.ensures.same ∙ c.pages.invariant.same
@@ -77,7 +77,7 @@ pub returns-in-Some-clause-reads : goal.returns-in-Some-clause-reads
 returns-in-Some-clause-reads g c = le_trans c.in_ok-row.ensures.reads c.pages.invariant.reads
 
 pub returns-in-Some-clause-cause : goal.returns-in-Some-clause-cause
-returns-in-Some-clause-cause g c = record { later = le_trans c.pages.invariant.faults c.next_read.ensures.cause.later; caused = tt }
+returns-in-Some-clause-cause g c = let calm = c.in_ok-row.ensures.cause.caused ∙ c.pages.invariant.faults in record { later = omega (arith, calm); caused = calm }
 
 pub returns-in-Some-clause-told : goal.returns-in-Some-clause-told
 returns-in-Some-clause-told g c m rows t e =

@@ -13,7 +13,7 @@ invariant-pages g l = record {
   came : (s : _) → g.S.PageStore.came s l.fn.store → g.S.PageStore.came s l.store;
   only_read : (s : _) → g.S.PageStore.only_read s l.fn.store → g.S.PageStore.only_read s l.store;
   reads : g.S.PageStore.reads l.store + pages_ahead l.self.file (g.S.PageStore.last l.store) l.at ≤ g.S.PageStore.reads l.fn.store + pages_ahead l.self.file (g.S.PageStore.last l.fn.store) l.fn.at;
-  faults : g.S.PageStore.faults l.fn.store ≤ g.S.PageStore.faults l.store;
+  faults : g.S.PageStore.faults l.store ≡ g.S.PageStore.faults l.fn.store;
 }
 
 abbrev pub decreases-pages : goal.decreases-pages

@@ -58,7 +58,7 @@ pub returns-clause-last : goal.returns-clause-last
 returns-clause-last g c = c.in_ok-next.ensures.last
 
 pub returns-clause-cause : goal.returns-clause-cause
-returns-clause-cause g c = record { later = c.chain_page.ensures.cause.later; caused = tt }
+returns-clause-cause g c = record { later = c.chain_page.ensures.cause.later; caused = c.in_ok-next.ensures.cause.caused }
 
 pub returns-then-next-behind-clause-same : goal.returns-then-next-behind-clause-same
 returns-then-next-behind-clause-same g c = c.chain_page.ensures.same

@@ -12,7 +12,7 @@ returns-clause-stands g c m t =
 pub returns-clause-cause : goal.returns-clause-cause
 returns-clause-cause g c =
     cause_of_page (g.S.PageStore.pages c.args.store.now) c.args.self.now.file c.args.number c.page.new.out (g.S.PageStore.faults c.args.store.now) (g.S.PageStore.faults c.page.new.store) c.lines.result
-    c.in_ok-page.ensures.cause.later c.in_ok-page.ensures.there c.lines.ensures.fault
+    c.in_ok-page.ensures.cause.caused c.in_ok-page.ensures.there c.lines.ensures.fault
 
 pub returns-clause-came : goal.returns-clause-came
 returns-clause-came g c = c.page.ensures.came

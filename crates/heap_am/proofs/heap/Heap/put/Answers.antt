@@ -41,4 +41,4 @@ pub returns-clause-others : goal.returns-clause-others
 returns-clause-others g c = c.in_ok-place.ensures.others
 
 pub returns-clause-cause : goal.returns-clause-cause
-returns-clause-cause g c = record { later = c.put_one.ensures.cause.later; caused = tt }
+returns-clause-cause g c = record { later = c.put_one.ensures.cause.later; caused = c.in_ok-place.ensures.cause.caused }

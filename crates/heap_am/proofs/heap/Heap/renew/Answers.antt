@@ -34,7 +34,7 @@ pub returns-clause-others : goal.returns-clause-others
 returns-clause-others g c = c.in_ok-done.ensures.others
 
 pub returns-clause-cause : goal.returns-clause-cause
-returns-clause-cause g c = record { later = c.replace.ensures.cause.later; caused = tt }
+returns-clause-cause g c = record { later = c.replace.ensures.cause.later; caused = c.in_ok-done.ensures.cause.caused }
 
 pub returns-clause-only : goal.returns-clause-only
 returns-clause-only g c m rows gone t e go old differ once all =

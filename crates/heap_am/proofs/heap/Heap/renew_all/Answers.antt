@@ -1,4 +1,4 @@
-use Rattle.std.proofs.Common.{◌+◌, ◌<◌, sym, subst, ◌∷◌, [], ◌++◌, get_or, length, take, arith}
+use Rattle.std.proofs.Common.{◌+◌, ◌<◌, sym, subst, ◌∷◌, [], ◌++◌, get_or, length, take, arith, refl, ◌∙◌}
 use Rattle.std.proofs.lemmas.List.{take_more, take_all}
 use Rattle.page_chain.specs.Chains.{OffPage}
 use Rattle.page_chain.proofs.Carried.{cause_carried}
@@ -14,7 +14,7 @@ numbers-init g c = record {
   put = omega arith;
   done = λ m is. done_nowhere c.args.self.now.file.file c.args.self.now.file.used c.args.going.now m (g.S.PageStore.pages c.args.store.now) is;
   came = λ s h. h;
-  faults = omega arith;
+  faults = refl;
 }
 
 pub returns-in_err-put-clause-cause : goal.returns-in_err-put-clause-cause
@@ -22,7 +22,7 @@ returns-in_err-put-clause-cause g c =
     let number = get_or c.args.numbers.now c.numbers.number-index 0 in
     let at = rising_at 0 c.args.self.now.file.used c.numbers.number-index c.args.numbers.now c.requires.rising (omega (arith, c.numbers-test.true)) in
     cause_carried (g.S.PageStore.pages c.args.store.now) (g.S.PageStore.pages c.numbers.store) (OffPage c.args.self.now.file.file number c.args.self.now.file.used) (HeapFault c.args.self.now.file)
-    (g.S.PageStore.faults c.args.store.now) (g.S.PageStore.faults c.numbers.store) (g.S.PageStore.faults c.renew_on.new.store) c.in_err-put.field-0.0 c.numbers.invariant.faults
+    (g.S.PageStore.faults c.args.store.now) (g.S.PageStore.faults c.numbers.store) (g.S.PageStore.faults c.renew_on.new.store) c.in_err-put.field-0.0 (omega (arith, c.numbers.invariant.faults))
     (off_next c.args.self.now.file number (take c.numbers.number-index c.args.numbers.now) c.args.going.now (take c.numbers.put c.args.coming.now) (g.S.PageStore.pages c.args.store.now) (g.S.PageStore.pages c.numbers.store) at.1 c.numbers.invariant.done)
     c.in_err-put.ensures.cause c.from_residual.result c.from_residual.ensures.1
 
@@ -42,7 +42,7 @@ numbers-preserved g c =
           m (g.S.PageStore.pages c.numbers.store) (g.S.PageStore.pages c.renew_on.new.store) so_far (c.in_ok-put.ensures.done so_far.image so_far.told_still)
           (rising_new 0 file.used c.numbers.number-index c.args.numbers.now c.requires.rising lt)));
       came = λ s h. c.renew_on.ensures.came s (c.numbers.invariant.came s h);
-      faults = omega (arith, c.numbers.invariant.faults, c.renew_on.ensures.cause.later);
+      faults = c.in_ok-put.ensures.cause.caused ∙ c.numbers.invariant.faults;
     }
 
 pub returns-clause-done : goal.returns-clause-done
@@ -54,7 +54,7 @@ pub returns-clause-came : goal.returns-clause-came
 returns-clause-came g c = c.numbers.invariant.came
 
 pub returns-clause-cause : goal.returns-clause-cause
-returns-clause-cause g c = record { later = c.numbers.invariant.faults; caused = tt }
+returns-clause-cause g c = record { later = omega (arith, c.numbers.invariant.faults); caused = c.numbers.invariant.faults }
 
 pub returns-in_err-put-clause-came : goal.returns-in_err-put-clause-came
 returns-in_err-put-clause-came g c = λ s h. c.renew_on.ensures.came s (c.numbers.invariant.came s h)

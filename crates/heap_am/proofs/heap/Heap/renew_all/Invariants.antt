@@ -9,5 +9,5 @@ invariant-numbers g l = record {
   done : (m : Image) → g.S.PageStore.pages l.initial.store ≡ Some m
       → IsDoneOn l.self.file.file l.self.file.used (take l.number-index l.numbers) l.going (take l.put l.coming) m (g.S.PageStore.pages l.store);
   came : (s : _) → g.S.PageStore.came s l.initial.store → g.S.PageStore.came s l.store;
-  faults : g.S.PageStore.faults l.initial.store ≤ g.S.PageStore.faults l.store;
+  faults : g.S.PageStore.faults l.store ≡ g.S.PageStore.faults l.initial.store;
 }

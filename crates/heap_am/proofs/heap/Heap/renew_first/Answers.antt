@@ -1,4 +1,4 @@
-use Rattle.std.proofs.Common.{sym, refl, subst, ◌∙◌, ◌+◌, ◌-◌, ◌≡◌, ◌≤◌, ℕ, [], ◌∷◌, ◌++◌, Option, IfSome, Result, Ok, Err, take, arith}
+use Rattle.std.proofs.Common.{sym, refl, subst, ◌∙◌, ◌+◌, ◌-◌, ◌≡◌, ℕ, [], ◌∷◌, ◌++◌, Option, IfSome, Result, Ok, Err, take, arith}
 use Rattle.disk_model.specs.Disk.{Image}
 use Rattle.disk_model.specs.declared.disk.Addr.{Addr}
 use Rattle.am_traits.specs.declared.fault.BaseFault.{BaseFault}
@@ -21,9 +21,9 @@ use Rattle.heap_am.proofs.heap.Heap.renew_first.Goals as goal
 
 -- the answer of a later call
 cause_since : {T : Type 0} (told since : Option Image) (P : Image → Addr → Type 0) (before later now : ℕ) (r : Result T BaseFault)
-    → since ≡ told → before ≤ later → HasFileCause since P later now r → HasFileCause told P before now r
-cause_since told since P before later now (Ok x) same le h = let l = h.later in record { later = omega (arith, le, l); caused = tt }
-cause_since told since P before later now (Err e) same le h = cause_later told since P before later now (Err e) e same le h refl
+    → since ≡ told → later ≡ before → HasFileCause since P later now r → HasFileCause told P before now r
+cause_since told since P before later now (Ok x) same calm h = let c = h.caused in record { later = omega (arith, calm, c); caused = c ∙ calm }
+cause_since told since P before later now (Err e) same calm h = cause_later told since P before later now (Err e) e same (omega (arith, calm)) h refl
 
 pub returns-in_err-put_rest-in-Some-clause-cause : goal.returns-in_err-put_rest-in-Some-clause-cause
 returns-in_err-put_rest-in-Some-clause-cause g c =
@@ -68,7 +68,7 @@ returns-in-None-clause-told g c m rows gone new t e go old co fresh differ once 
 pub returns-in-None-clause-cause : goal.returns-in-None-clause-cause
 returns-in-None-clause-cause g c =
     cause_since (g.S.PageStore.pages c.args.store.now) (g.S.PageStore.pages c.renew_near.new.store) (HeapFault c.args.self.now.file) (g.S.PageStore.faults c.args.store.now) (g.S.PageStore.faults c.renew_near.new.store) (g.S.PageStore.faults c.renew.new.store)
-    c.renew.result (c.in_ok-put.ensures.none c.in-None.is) c.renew_near.ensures.cause.later c.renew.ensures.cause
+    c.renew.result (c.in_ok-put.ensures.none c.in-None.is) c.in_ok-put.ensures.cause.caused c.renew.ensures.cause
 
 pub returns-in_ok-put_rest-in-Some-clause-came : goal.returns-in_ok-put_rest-in-Some-clause-came
 returns-in_ok-put_rest-in-Some-clause-came g c = λ s came. c.put_rest.ensures.came s (c.renew_near.ensures.came s came)
@@ -91,7 +91,7 @@ pub returns-in_ok-put_rest-in-Some-clause-file : goal.returns-in_ok-put_rest-in-
 returns-in_ok-put_rest-in-Some-clause-file g c = c.in_ok-put_rest-in-Some.ensures.file
 
 pub returns-in_ok-put_rest-in-Some-clause-cause : goal.returns-in_ok-put_rest-in-Some-clause-cause
-returns-in_ok-put_rest-in-Some-clause-cause g c = let first = c.renew_near.ensures.cause.later in let second = c.put_rest.ensures.cause.later in record { later = omega (arith, first, second); caused = tt }
+returns-in_ok-put_rest-in-Some-clause-cause g c = let first = c.renew_near.ensures.cause.later in let second = c.put_rest.ensures.cause.later in record { later = omega (arith, first, second); caused = c.in_ok-put_rest-in-Some.ensures.cause.caused ∙ c.in_ok-put.ensures.cause.caused }
 
 pub returns-in-None-clause-file : goal.returns-in-None-clause-file
 returns-in-None-clause-file g c = c.renew.ensures.file

@@ -59,10 +59,10 @@ pub returns-then-count-len-clause-came : goal.returns-then-count-len-clause-came
 returns-then-count-len-clause-came g c = c.count_near.ensures.came
 
 pub returns-then-count-len-clause-cause : goal.returns-then-count-len-clause-cause
-returns-then-count-len-clause-cause g c = record { later = c.count_near.ensures.cause.later; caused = tt }
+returns-then-count-len-clause-cause g c = record { later = c.count_near.ensures.cause.later; caused = c.in_ok-count.ensures.cause.caused }
 
 pub returns-clause-cause : goal.returns-clause-cause
-returns-clause-cause g c = record { later = le_trans c.count_near.ensures.cause.later c.renew_all.ensures.cause.later; caused = tt }
+returns-clause-cause g c = record { later = le_trans c.count_near.ensures.cause.later c.renew_all.ensures.cause.later; caused = c.in_ok-put.ensures.cause.caused ∙ c.in_ok-count.ensures.cause.caused }
 
 pub renew_all-requires-clause-rising : goal.renew_all-requires-clause-rising
 renew_all-requires-clause-rising g c = subst (IsRising 0 c.args.self.now.file.used) (sym c.items-2.ensures) c.in_ok-numbers.ensures

@@ -26,10 +26,10 @@ pub returns-in_err-put-clause-came : goal.returns-in_err-put-clause-came
 returns-in_err-put-clause-came g c = λ s came. c.put.ensures.came s (c.chain_page.ensures.came s came)
 
 pub returns-in_ok-put-clause-cause : goal.returns-in_ok-put-clause-cause
-returns-in_ok-put-clause-cause g c = let first = c.chain_page.ensures.cause.later in let second = c.put.ensures.cause.later in record { later = omega (arith, first, second); caused = tt }
+returns-in_ok-put-clause-cause g c = let first = c.chain_page.ensures.cause.later in let second = c.put.ensures.cause.later in record { later = omega (arith, first, second); caused = c.in_ok-put.ensures.cause.caused ∙ c.in_ok-chain_page.ensures.cause.caused }
 
 pub returns-else-done-gt0-clause-cause : goal.returns-else-done-gt0-clause-cause
-returns-else-done-gt0-clause-cause g c = record { later = c.chain_page.ensures.cause.later; caused = tt }
+returns-else-done-gt0-clause-cause g c = record { later = c.chain_page.ensures.cause.later; caused = c.in_ok-chain_page.ensures.cause.caused }
 
 pub returns-in_err-chain_page-clause-cause : goal.returns-in_err-chain_page-clause-cause
 returns-in_err-chain_page-clause-cause g c =

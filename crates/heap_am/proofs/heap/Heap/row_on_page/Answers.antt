@@ -7,7 +7,7 @@ returns-clause-told g c m rows t e = c.line.ensures.told m rows e (c.in_ok-page.
 pub returns-clause-cause : goal.returns-clause-cause
 returns-clause-cause g c =
     cause_of_page (g.S.PageStore.pages c.args.store.now) c.args.self.now.file c.args.place.now.page c.page.new.out (g.S.PageStore.faults c.args.store.now) (g.S.PageStore.faults c.page.new.store) c.line.result
-    c.in_ok-page.ensures.cause.later c.in_ok-page.ensures.there c.line.ensures.fault
+    c.in_ok-page.ensures.cause.caused c.in_ok-page.ensures.there c.line.ensures.fault
 
 pub returns-clause-came : goal.returns-clause-came
 returns-clause-came g c = c.page.ensures.came
