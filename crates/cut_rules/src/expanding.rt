@@ -50,11 +50,11 @@ fn unexpanded(fault: CutFault) -> ExpandFault
 /// `TooMany` exactly where more than 50 variables result, with their number. Not for the query of an
 /// update, whose changed variable stays what it is.
 pub fn expand<B: Base>(alloc: Global, base: &mut B, query: &Query) -> Result<Query, ExpandFault>
-    requires { (db : Db) → B.schema base.old ≡ Some db → reads_fit (kept_or_viewed db) db query.now ≡ true }
-    ensures told { (db : Db) → B.schema base.old ≡ Some db → IfOk result (λ made. made ≡ put_in db Free query.now) }
-    ensures answer { (db : Db) → B.schema base.old ≡ Some db → aggregates_nest_none query.now ≡ true → IfOk result (λ made. answer db Free made ≡ answer db Free query.now) }
-    ensures lacks { (db : Db) → B.schema base.old ≡ Some db → aggregates_nest_none query.now ≡ true → IfOk result (λ made. lacks db Free made ≡ lacks db Free query.now) }
-    ensures few { (db : Db) → B.schema base.old ≡ Some db → OnOk result (expanded_variables db query.now ≤ 50) }
+    requires { (db : Db) → B.database base.old ≡ Some db → reads_fit (kept_or_viewed db) db query.now ≡ true }
+    ensures told { (db : Db) → B.database base.old ≡ Some db → IfOk result (λ made. made ≡ put_in db Free query.now) }
+    ensures answer { (db : Db) → B.database base.old ≡ Some db → aggregates_nest_none query.now ≡ true → IfOk result (λ made. answer db Free made ≡ answer db Free query.now) }
+    ensures lacks { (db : Db) → B.database base.old ≡ Some db → aggregates_nest_none query.now ≡ true → IfOk result (λ made. lacks db Free made ≡ lacks db Free query.now) }
+    ensures few { (db : Db) → B.database base.old ≡ Some db → OnOk result (expanded_variables db query.now ≤ 50) }
     ensures kept { B.database base.new ≡ B.database base.old }
     ensures stays { (s : Db) → B.schema base.old ≡ Some s → B.schema base.new ≡ Some s }
     ensures asked { (b : B) → B.asked b base.old → B.asked b base.new }

@@ -33,8 +33,8 @@ fn cut<B: Base>(
     user: &Name,
     tree: Checked,
 ) -> Result<Checked, CheckFault>
-    requires { (db : Db) → B.schema base.old ≡ Some db → is_fit_with_views db user.now tree ≡ true }
-    ensures told { (db : Db) → B.schema base.old ≡ Some db
+    requires { (db : Db) → B.database base.old ≡ Some db → is_fit_with_views db user.now tree ≡ true }
+    ensures told { (db : Db) → B.database base.old ≡ Some db
         → Says (λ made. (made ≡ put_in_tree db (asks user.now) tree) × (checked_permitted db (asks user.now) tree ≡ true))
         (λ number. (number ≡ 23) × (checked_permitted db (asks user.now) tree ≡ false)) result }
     ensures kept { B.database base.new ≡ B.database base.old }
@@ -61,8 +61,8 @@ pub(crate) fn cut_and_ruled<B: Base>(
     user: &Name,
     tree: Checked,
 ) -> Result<Checked, CheckFault>
-    requires { (db : Db) → B.schema base.old ≡ Some db → is_fit_with_views db user.now tree ≡ true }
-    ensures told { (db : Db) → B.schema base.old ≡ Some db
+    requires { (db : Db) → B.database base.old ≡ Some db → is_fit_with_views db user.now tree ≡ true }
+    ensures told { (db : Db) → B.database base.old ≡ Some db
         → Says (λ made. (made ≡ ruled_tree db (put_in_tree db (asks user.now) tree)) × (checked_permitted db (asks user.now) tree ≡ true))
         (λ number. (number ≡ 23) × (checked_permitted db (asks user.now) tree ≡ false)) result }
     ensures spelled { IfOk result (λ made. names_rights made ≡ true → IsTrue (tree_is_spelled made)) }
