@@ -42,12 +42,12 @@ text_of_view-rows_through-requires g t c =
 
 pub text_anew-returns-in-None-clause-told : goal.text_anew-returns-in-None-clause-told
 text_anew-returns-in-None-clause-told g t c = λ db h.
-    let e = text_of_kept c.args.levels db (who_of (option_map (λ n. n.now) c.args.who)) c.args.key.now c.args.attrs.now (sym c.in-None.is ∙ c.in_ok-query.ensures.told db h) in
+    let e = text_of_kept c.args.levels db (who_of (option_map (λ n. n.now) c.args.who)) c.args.key.now c.args.attrs.now (sym c.in-None.is ∙ c.in_ok-query.ensures.told db (g.B.Base.own c.args.base.now db h)) in
     subst (λ x. IfOk c.plain_text.result (λ text. text ≡ x)) e (c.plain_text.ensures.told db (c.in_ok-query.ensures.kept ∙ h))
 
 pub text_anew-returns-in-None-clause-permitted : goal.text_anew-returns-in-None-clause-permitted
 text_anew-returns-in-None-clause-permitted g t c = λ db h.
-    let e = permitted_of_kept c.args.levels db (who_of (option_map (λ n. n.now) c.args.who)) c.args.key.now c.args.attrs.now (sym c.in-None.is ∙ c.in_ok-query.ensures.told db h) in
+    let e = permitted_of_kept c.args.levels db (who_of (option_map (λ n. n.now) c.args.who)) c.args.key.now c.args.attrs.now (sym c.in-None.is ∙ c.in_ok-query.ensures.told db (g.B.Base.own c.args.base.now db h)) in
     subst (λ b. OnOk c.plain_text.result (b ≡ true)) e (c.plain_text.ensures.permitted db (c.in_ok-query.ensures.kept ∙ h))
 
 pub text_anew-returns-in-None-clause-cause : goal.text_anew-returns-in-None-clause-cause
@@ -56,7 +56,7 @@ text_anew-returns-in-None-clause-cause g t c =
     (λ db. permitted_within c.args.levels db (who_of (option_map (λ n. n.now) c.args.who)) c.args.key.now c.args.attrs.now ≡ false)
     (g.B.Base.database c.args.base.now) (g.B.Base.database c.view.new.self) (g.B.Base.faults c.args.base.now) (g.B.Base.faults c.view.new.self) (g.B.Base.faults c.plain_text.new.base) c.plain_text.result
     c.in_ok-query.ensures.kept c.in_ok-query.ensures.cause.later
-    (λ db h e. sym (permitted_of_kept c.args.levels db (who_of (option_map (λ n. n.now) c.args.who)) c.args.key.now c.args.attrs.now (sym c.in-None.is ∙ c.in_ok-query.ensures.told db h)) ∙ e)
+    (λ db h e. sym (permitted_of_kept c.args.levels db (who_of (option_map (λ n. n.now) c.args.who)) c.args.key.now c.args.attrs.now (sym c.in-None.is ∙ c.in_ok-query.ensures.told db (g.B.Base.own c.args.base.now db h))) ∙ e)
     c.plain_text.ensures.cause
 
 pub rows_through-returns-in-Ok-clause-cause : goal.rows_through-returns-in-Ok-clause-cause
