@@ -28,16 +28,16 @@ returns-in-Ok-clause-few g c = λ db h.
 
 pub returns-in-Ok-clause-answer : goal.returns-in-Ok-clause-answer
 returns-in-Ok-clause-answer g c = λ db h nests.
-    same_answer db (g.B.Base.lawful c.args.base.now db h) c.args.query.now c.in-Ok.made nests (c.in-Ok.ensures.told db (c.in_ok-vars.ensures.kept ∙ h))
+    same_answer db (g.B.Base.lawful c.args.base.now db (g.B.Base.own c.args.base.now db h)) c.args.query.now c.in-Ok.made nests (c.in-Ok.ensures.told db (c.in_ok-vars.ensures.kept ∙ h))
 
 pub returns-in-Ok-clause-lacks : goal.returns-in-Ok-clause-lacks
 returns-in-Ok-clause-lacks g c = λ db h nests.
-    same_lack db (g.B.Base.lawful c.args.base.now db h) c.args.query.now c.in-Ok.made nests (c.in-Ok.ensures.told db (c.in_ok-vars.ensures.kept ∙ h))
+    same_lack db (g.B.Base.lawful c.args.base.now db (g.B.Base.own c.args.base.now db h)) c.args.query.now c.in-Ok.made nests (c.in-Ok.ensures.told db (c.in_ok-vars.ensures.kept ∙ h))
 
 pub returns-clause-cause : goal.returns-clause-cause
 returns-clause-cause g c =
     expand_failed _ _ _ _ _ _ _ _ c.in-Err.ensures.cause c.unexpanded.ensures c.in_ok-vars.ensures.kept c.in_ok-vars.ensures.cause.later
-    (λ db h. free_query db (g.B.Base.lawful c.args.base.now db h) c.args.query.now (c.requires db h))
+    (λ db h. free_query db (g.B.Base.lawful c.args.base.now db (g.B.Base.own c.args.base.now db h)) c.args.query.now (c.requires db h))
 
 pub returns-then-vars-gt-MOST_VARIABLES-clause-many_by_schema : goal.returns-then-vars-gt-MOST_VARIABLES-clause-many_by_schema
 returns-then-vars-gt-MOST_VARIABLES-clause-many_by_schema g c = λ s h fit.
