@@ -13,17 +13,17 @@ use Rattle.change_check.proofs.RowsFit.{stand}
 
 -- where the schema is known, and stays, what is known later was known before
 pub known_before : (mid new : Option Db) → IsTrue (is_some mid) → ((s : Db) → mid ≡ Some s → new ≡ Some s) → (s : Db) → new ≡ Some s → mid ≡ Some s
-known_before (Some t) new yes stays s h = let same : t ≡ s = cc (sym (stays t refl) ∙ h) in ap (λ s. Some s) same
-known_before None new yes stays s h = absurd (cc yes)
+known_before (Some t) new k stays s h = let same : t ≡ s = cc (sym (stays t refl) ∙ h) in ap (λ s. Some s) same
+known_before None new k stays s h = absurd (cc k)
 
 -- what holds anyhow holds where the answer is true
 pub always : {P : Type 0} (r : Result Bool BaseFault) → P → IfOk r (λ fit. fit ≡ true → P)
-always (Ok fit) p = λ yes. p
-always (Err e) p = ()
+always (Ok fit) p = λ k. p
+always (Err e) p = tt
 
 pub so_on_true : {P Q : Type 0} (r : Result Bool BaseFault) → (P → Q) → IfOk r (λ fit. fit ≡ true → P) → IfOk r (λ fit. fit ≡ true → Q)
-so_on_true (Ok fit) f p = λ yes. f (p yes)
-so_on_true (Err e) f p = ()
+so_on_true (Ok fit) f p = λ k. f (p k)
+so_on_true (Err e) f p = tt
 
 -- lists that stand by themselves do by the schema
 pub stand_by_schema : (s : Db) (rel : RelKey) (attrs : List Attr) (remove add : List Row) → is_relation s rel ≡ true → attrs_at s rel ≡ attrs → stand attrs remove add ≡ true → rows_stand s rel remove add ≡ true

@@ -71,8 +71,8 @@ expand_behind {T} q told mid_told before mid now result c e m = subst (λ d. Has
 
 -- where the schema is known, and stays, what is known later was known before
 pub known_before : (mid new : Option Db) → IsTrue (is_some mid) → ((s : Db) → mid ≡ Some s → new ≡ Some s) → (s : Db) → new ≡ Some s → mid ≡ Some s
-known_before (Some t) new yes stays s h = let same : t ≡ s = cc (sym (stays t refl) ∙ h) in ap (λ s. Some s) same
-known_before None new yes stays s h = absurd (cc yes)
+known_before (Some t) new k stays s h = let same : t ≡ s = cc (sym (stays t refl) ∙ h) in ap (λ s. Some s) same
+known_before None new k stays s h = absurd (cc k)
 
 -- ---- how many variables
 

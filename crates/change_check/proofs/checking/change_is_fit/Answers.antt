@@ -16,7 +16,7 @@ returns-in-Rows-clause-by_schema g c = λ s e no. absurd (cc (sym (ap is_of_rows
 
 pub returns-in-Rows-clause-rows_by_schema : goal.returns-in-Rows-clause-rows_by_schema
 returns-in-Rows-clause-rows_by_schema g c = λ s e rel remove add is.
-    so_on_true c.rows_are_fit.result (same_stand s _ _ _ _ _ _ rel remove add (sym c.in-Rows.is ∙ is) c.items.ensures c.items-in-Rows.ensures) (c.rows_are_fit.ensures.by_schema s e)
+    so_on_true c.rows_are_fit.result (same_stand s _ _ _ _ _ rel remove add (sym c.in-Rows.is ∙ is) c.items.ensures c.items-in-Rows.ensures) (c.rows_are_fit.ensures.by_schema s e)
 
 pub returns-in-Create-clause-told : goal.returns-in-Create-clause-told
 returns-in-Create-clause-told g c = λ db e.
