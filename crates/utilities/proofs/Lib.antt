@@ -1,4 +1,5 @@
 pub mod Causes
+pub mod Deciding
 pub mod Breaking
 pub mod Ascending
 pub mod Plans

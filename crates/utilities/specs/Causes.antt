@@ -7,18 +7,23 @@ use Rattle.quel_meaning.specs.Planned.{planned}
 use Rattle.utilities.specs.declared.fault.UtilFault.{UtilFault}
 use Rattle.utilities.specs.declared.fault.UtilFault.TheVariants.{No, Base, OutOfMemory}
 
--- this fault may come: the cause of this number refuses the utility, where a database is told; a fault of the database where it may come; want of memory
-abbrev pub MayFail : List ℕ → Utility → Option Db → ℕ → ℕ → UtilFault → Type 0
-MayFail user u told before now (No number) = (db : Db) → told ≡ Some db → planned db user u ≡ Err number
-MayFail user u told before now (Base fault) = MayCome told before now fault
-MayFail user u told before now OutOfMemory = ⊤
+-- this fault may come: the cause of this number refuses the utility by what is known of the database; a fault of the database where it may come, which is told or isn't; want of memory
+abbrev pub MayFail : List ℕ → Utility → Option Db → Option Db → ℕ → ℕ → UtilFault → Type 0
+MayFail user u known told before now (No number) = (db : Db) → known ≡ Some db → planned db user u ≡ Err number
+MayFail user u known told before now (Base fault) = MayCome told before now fault
+MayFail user u known told before now OutOfMemory = ⊤
 
 -- a change, or a fault that may come
-abbrev pub IsCaused : {T : Type 0} → List ℕ → Utility → Option Db → ℕ → ℕ → Result T UtilFault → Type 0
-IsCaused user u told before now (Ok x) = ⊤
-IsCaused user u told before now (Err fault) = MayFail user u told before now fault
+abbrev pub IsCaused : {T : Type 0} → List ℕ → Utility → Option Db → Option Db → ℕ → ℕ → Result T UtilFault → Type 0
+IsCaused user u known told before now (Ok x) = ⊤
+IsCaused user u known told before now (Err fault) = MayFail user u known told before now fault
 
--- the count of faults never falls, and a fault comes only where it may
+-- the count of faults never falls, and a fault comes only where it may, where all is known that is told
 pub record HasCause {T : Type 0} (user : List ℕ) (u : Utility) (told : Option Db) (before now : ℕ) (result : Result T UtilFault) : Type 0 where
   pub later : before ≤ now
-  pub caused : IsCaused user u told before now result
+  pub caused : IsCaused user u told told before now result
+
+-- the same where this is known, as the schema is of a database that isn't told. No public clause cites it
+pub record HasCauseBy {T : Type 0} (user : List ℕ) (u : Utility) (known told : Option Db) (before now : ℕ) (result : Result T UtilFault) : Type 0 where
+  pub later : before ≤ now
+  pub caused : IsCaused user u known told before now result

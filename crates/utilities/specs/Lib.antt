@@ -1,2 +1,3 @@
 pub mod Causes
+pub mod Decided
 pub mod Owning

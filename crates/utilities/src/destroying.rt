@@ -10,7 +10,7 @@ ghost use Rattle.calculus.specs.Replacement.{first_cause};
 ghost use Rattle.calculus.specs.declared.change.DbChange.TheVariants as change;
 ghost use Rattle.calculus.specs.declared.request.Utility.TheVariants as utility;
 ghost use Rattle.quel_meaning.specs.Planned.{is_anothers, is_in_use, planned};
-ghost use Rattle.utilities.specs.Causes.{HasCause};
+ghost use Rattle.utilities.specs.Causes.{HasCauseBy};
 ghost use Rattle.utilities.specs.Owning.{is_catalogue_of};
 
 use crate::UtilFault;
@@ -38,7 +38,7 @@ fn has_catalogue(dba: &Name, rels: &[RelKey]) -> bool
 
 /// Whether one of the keys is that of a catalogue.
 fn some_catalogue<B: Base>(alloc: Global, base: &mut B, rels: &[RelKey]) -> Result<bool, BaseFault>
-    ensures told { (db : Db) → B.database base.old ≡ Some db → IfOk result (λ b. b ≡ list_any (is_catalogue db) rels.now) }
+    ensures told { (db : Db) → B.schema base.old ≡ Some db → IfOk result (λ b. b ≡ list_any (is_catalogue db) rels.now) }
     ensures kept { B.database base.new ≡ B.database base.old }
     ensures stays { (s : Db) → B.schema base.old ≡ Some s → B.schema base.new ≡ Some s }
     ensures asked { (b : B) → B.asked b base.old → B.asked b base.new }
@@ -63,7 +63,7 @@ fn some_named<B: Base>(
     all: &[RelKey],
     rels: &[RelKey],
 ) -> Result<bool, BaseFault>
-    ensures told { (db : Db) → B.database base.old ≡ Some db → IfOk result (λ b. b ≡ list_any (is_named_by_view db all.now) rels.now) }
+    ensures told { (db : Db) → B.schema base.old ≡ Some db → IfOk result (λ b. b ≡ list_any (is_named_by_view db all.now) rels.now) }
     ensures kept { B.database base.new ≡ B.database base.old }
     ensures stays { (s : Db) → B.schema base.old ≡ Some s → B.schema base.new ≡ Some s }
     ensures asked { (b : B) → B.asked b base.old → B.asked b base.new }
@@ -81,7 +81,7 @@ fn some_named<B: Base>(
 
 /// Whether a view outside the keys names what has one of them.
 fn is_in_use<B: Base>(alloc: Global, base: &mut B, rels: &[RelKey]) -> Result<bool, BaseFault>
-    ensures told { (db : Db) → B.database base.old ≡ Some db → IfOk result (λ b. b ≡ is_in_use db rels.now) }
+    ensures told { (db : Db) → B.schema base.old ≡ Some db → IfOk result (λ b. b ≡ is_in_use db rels.now) }
     ensures kept { B.database base.new ≡ B.database base.old }
     ensures stays { (s : Db) → B.schema base.old ≡ Some s → B.schema base.new ≡ Some s }
     ensures asked { (b : B) → B.asked b base.old → B.asked b base.new }
@@ -99,7 +99,7 @@ fn destroying_cause<B: Base>(
     user: &Name,
     rels: &[RelKey],
 ) -> Result<Option<u8>, BaseFault>
-    ensures told { (db : Db) → B.database base.old ≡ Some db
+    ensures told { (db : Db) → B.schema base.old ≡ Some db
         → IfOk result (λ n. n ≡ first_cause ((28, list_any (is_catalogue db) rels.now) ∷ (24, list_any (is_anothers user.now) rels.now) ∷ (25, is_in_use db rels.now) ∷ [])) }
     ensures kept { B.database base.new ≡ B.database base.old }
     ensures stays { (s : Db) → B.schema base.old ≡ Some s → B.schema base.new ≡ Some s }
@@ -136,12 +136,12 @@ pub(crate) fn destroyed<B: Base>(
     user: &Name,
     rels: &List<RelKey>,
 ) -> Result<DbChange, UtilFault>
-    ensures change { (db : Db) → B.database base.old ≡ Some db → IfOk result (λ c. planned db user.now (utility.Destroy rels.now) ≡ Planned c) }
+    ensures change { (db : Db) → B.schema base.old ≡ Some db → IfOk result (λ c. planned db user.now (utility.Destroy rels.now) ≡ Planned c) }
     ensures kept { B.database base.new ≡ B.database base.old }
     ensures stays { (s : Db) → B.schema base.old ≡ Some s → B.schema base.new ≡ Some s }
     ensures asked { (b : B) → B.asked b base.old → B.asked b base.new }
     ensures same { B.left base.new ≡ B.left base.old }
-    ensures cause { HasCause user.now (utility.Destroy rels.now) (B.database base.old) (B.faults base.old) (B.faults base.new) result }
+    ensures cause { HasCauseBy user.now (utility.Destroy rels.now) (B.schema base.old) (B.database base.old) (B.faults base.old) (B.faults base.new) result }
 {
     match destroying_cause(alloc, base, user, rels.items()) {
         Ok(None) => Ok(all_gone(alloc, rels)?),

@@ -10,7 +10,7 @@ ghost use Rattle.calculus.specs.Replacement.{first_cause};
 ghost use Rattle.calculus.specs.declared.change.DbChange.TheVariants as change;
 ghost use Rattle.calculus.specs.declared.request.Utility.TheVariants as utility;
 ghost use Rattle.quel_meaning.specs.Planned.{dropped, has_view, is_none_to_permit, owner_causes, planned};
-ghost use Rattle.utilities.specs.Causes.{HasCause};
+ghost use Rattle.utilities.specs.Causes.{HasCauseBy};
 
 use crate::UtilFault;
 use crate::listed::{dropped, listed_cause};
@@ -61,7 +61,7 @@ fn permits_cause<B: Base>(
     standing: &[u32],
     numbers: &[u32],
 ) -> Result<Option<u8>, BaseFault>
-    ensures told { (db : Db) → B.database base.old ≡ Some db
+    ensures told { (db : Db) → B.schema base.old ≡ Some db
         → IfOk result (λ n. n ≡ first_cause ((28, is_catalogue db rel.now) ∷ (26, has_view db rel.now) ∷ (24, is_none_to_permit db user.now rel.now) ∷ (19, not (list_all (has_number standing.now) numbers.now)) ∷ [])) }
     ensures kept { B.database base.new ≡ B.database base.old }
     ensures stays { (s : Db) → B.schema base.old ≡ Some s → B.schema base.new ≡ Some s }
@@ -85,7 +85,7 @@ fn rules_cause<B: Base>(
     standing: &[u32],
     numbers: &[u32],
 ) -> Result<Option<u8>, BaseFault>
-    ensures told { (db : Db) → B.database base.old ≡ Some db
+    ensures told { (db : Db) → B.schema base.old ≡ Some db
         → IfOk result (λ n. n ≡ first_cause (owner_causes db user.now rel.now ++ (19, not (list_all (has_number standing.now) numbers.now)) ∷ [])) }
     ensures kept { B.database base.new ≡ B.database base.old }
     ensures stays { (s : Db) → B.schema base.old ≡ Some s → B.schema base.new ≡ Some s }
@@ -107,12 +107,12 @@ pub(crate) fn permits_gone<B: Base>(
     rel: &RelKey,
     numbers: &[u32],
 ) -> Result<DbChange, UtilFault>
-    ensures change { (db : Db) → B.database base.old ≡ Some db → IfOk result (λ c. planned db user.now (utility.DropPermits rel.now numbers.now) ≡ Planned c) }
+    ensures change { (db : Db) → B.schema base.old ≡ Some db → IfOk result (λ c. planned db user.now (utility.DropPermits rel.now numbers.now) ≡ Planned c) }
     ensures kept { B.database base.new ≡ B.database base.old }
     ensures stays { (s : Db) → B.schema base.old ≡ Some s → B.schema base.new ≡ Some s }
     ensures asked { (b : B) → B.asked b base.old → B.asked b base.new }
     ensures same { B.left base.new ≡ B.left base.old }
-    ensures cause { HasCause user.now (utility.DropPermits rel.now numbers.now) (B.database base.old) (B.faults base.old) (B.faults base.new) result }
+    ensures cause { HasCauseBy user.now (utility.DropPermits rel.now numbers.now) (B.schema base.old) (B.database base.old) (B.faults base.old) (B.faults base.new) result }
 {
     let standing = standing_permits(alloc, base, rel)?;
     match permits_cause(alloc, base, user, rel, &standing, numbers) {
@@ -130,12 +130,12 @@ pub(crate) fn rules_gone<B: Base>(
     rel: &RelKey,
     numbers: &[u32],
 ) -> Result<DbChange, UtilFault>
-    ensures change { (db : Db) → B.database base.old ≡ Some db → IfOk result (λ c. planned db user.now (utility.DropRules rel.now numbers.now) ≡ Planned c) }
+    ensures change { (db : Db) → B.schema base.old ≡ Some db → IfOk result (λ c. planned db user.now (utility.DropRules rel.now numbers.now) ≡ Planned c) }
     ensures kept { B.database base.new ≡ B.database base.old }
     ensures stays { (s : Db) → B.schema base.old ≡ Some s → B.schema base.new ≡ Some s }
     ensures asked { (b : B) → B.asked b base.old → B.asked b base.new }
     ensures same { B.left base.new ≡ B.left base.old }
-    ensures cause { HasCause user.now (utility.DropRules rel.now numbers.now) (B.database base.old) (B.faults base.old) (B.faults base.new) result }
+    ensures cause { HasCauseBy user.now (utility.DropRules rel.now numbers.now) (B.schema base.old) (B.database base.old) (B.faults base.old) (B.faults base.new) result }
 {
     let standing = standing_rules(alloc, base, rel)?;
     match rules_cause(alloc, base, user, rel, &standing, numbers) {

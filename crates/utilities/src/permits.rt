@@ -5,7 +5,7 @@ ghost use Rattle.calculus.specs.Database.{Db};
 ghost use Rattle.calculus.specs.declared.change.DbChange.TheVariants as change;
 ghost use Rattle.calculus.specs.declared.request.Utility.TheVariants as utility;
 ghost use Rattle.quel_meaning.specs.Planned.{planned};
-ghost use Rattle.utilities.specs.Causes.{HasCause};
+ghost use Rattle.utilities.specs.Causes.{HasCauseBy};
 
 use crate::UtilFault;
 use crate::numbering::next_number;
@@ -49,12 +49,12 @@ pub(crate) fn permit_planned<B: Base>(
     rel: &RelKey,
     permit: &Permit,
 ) -> Result<DbChange, UtilFault>
-    ensures change { (db : Db) → B.database base.old ≡ Some db → IfOk result (λ c. planned db user.now (utility.Permit rel.now permit.now) ≡ Planned c) }
+    ensures change { (db : Db) → B.schema base.old ≡ Some db → IfOk result (λ c. planned db user.now (utility.Permit rel.now permit.now) ≡ Planned c) }
     ensures kept { B.database base.new ≡ B.database base.old }
     ensures stays { (s : Db) → B.schema base.old ≡ Some s → B.schema base.new ≡ Some s }
     ensures asked { (b : B) → B.asked b base.old → B.asked b base.new }
     ensures same { B.left base.new ≡ B.left base.old }
-    ensures cause { HasCause user.now (utility.Permit rel.now permit.now) (B.database base.old) (B.faults base.old) (B.faults base.new) result }
+    ensures cause { HasCauseBy user.now (utility.Permit rel.now permit.now) (B.schema base.old) (B.database base.old) (B.faults base.old) (B.faults base.new) result }
 {
     let standing = standing_permits(alloc, base, rel)?;
     let next = next_number(&standing);

@@ -1,11 +1,12 @@
 //! The change that a utility makes of a database.
 
-ghost use Rattle.std.specs.Prelude.{◌≡◌, [], false, Some, Ok as Planned, IfOk};
+ghost use Rattle.std.specs.Prelude.{◌≡◌, [], false, IsTrue, Some, Ok as Planned, IfOk};
 ghost use Rattle.calculus.specs.Database.{Db};
 ghost use Rattle.calculus.specs.declared.change.DbChange.TheVariants.{Create};
 ghost use Rattle.plan_laws.specs.Fitting.{is_copy};
 ghost use Rattle.quel_meaning.specs.Planned.{heap_info, planned};
-ghost use Rattle.utilities.specs.Causes.{HasCause};
+ghost use Rattle.utilities.specs.Causes.{HasCause, HasCauseBy};
+ghost use Rattle.utilities.specs.Decided.{IsDecided, is_rule};
 
 use crate::UtilFault;
 use crate::destroying::destroyed;
@@ -32,24 +33,23 @@ fn relation_made(alloc: Global, rel: &RelKey, attrs: &List<Attr>) -> Result<DbCh
     Ok(DbChange::Create { info, rows })
 }
 
-/// The change that a utility other than a copy makes for the user, or what refuses it. Asks the
-/// database for what the causes of the kind need up to the first that is there: of a new relation,
-/// which has no rows, or view for nothing; of what is to go whether views name it, for each key up to
-/// the first that is named; and of a rule for the rows of its relation up to the first that breaks it.
+/// The change that a utility makes for the user which neither copies nor makes a rule, or what refuses
+/// it: no row counts.
 #[tactic(auto, using(crate::proofs::Plans::create_planned, crate::proofs::Plans::view_planned))]
-pub fn plan<B: Base>(
+fn schema_planned<B: Base>(
     alloc: Global,
     base: &mut B,
     user: &Name,
     u: &Utility,
 ) -> Result<DbChange, UtilFault>
-    requires { is_copy u.now ≡ false }
-    ensures change { (db : Db) → B.database base.old ≡ Some db → IfOk result (λ c. planned db user.now u.now ≡ Planned c) }
+    requires copies { is_copy u.now ≡ false }
+    requires rule { is_rule u.now ≡ false }
+    ensures change { (db : Db) → B.schema base.old ≡ Some db → IfOk result (λ c. planned db user.now u.now ≡ Planned c) }
     ensures kept { B.database base.new ≡ B.database base.old }
     ensures stays { (s : Db) → B.schema base.old ≡ Some s → B.schema base.new ≡ Some s }
     ensures asked { (b : B) → B.asked b base.old → B.asked b base.new }
     ensures same { B.left base.new ≡ B.left base.old }
-    ensures cause { HasCause user.now u.now (B.database base.old) (B.faults base.old) (B.faults base.new) result }
+    ensures cause { HasCauseBy user.now u.now (B.schema base.old) (B.database base.old) (B.faults base.old) (B.faults base.new) result }
 {
     match u {
         Utility::Create { rel, attrs } => Ok(relation_made(alloc, rel, attrs)?),
@@ -69,7 +69,6 @@ pub fn plan<B: Base>(
         } => index_planned(alloc, base, user, rel, name, keys),
         Utility::View { rel, query } => Ok(view_made(alloc, rel, query)?),
         Utility::Permit { rel, permit } => permit_planned(alloc, base, user, rel, permit),
-        Utility::Rule { rel, rule } => rule_planned(alloc, base, user, rel, rule),
         Utility::DropPermits { rel, numbers } => permits_gone(
             alloc,
             base,
@@ -84,5 +83,53 @@ pub fn plan<B: Base>(
             from: _,
             file: _,
         } => unreachable!(),
+        Utility::Rule { rel: _, rule: _ } => unreachable!(),
     }
+}
+
+/// The same of a utility that may make a rule.
+fn known_planned<B: Base>(
+    alloc: Global,
+    base: &mut B,
+    user: &Name,
+    u: &Utility,
+) -> Result<DbChange, UtilFault>
+    requires { is_copy u.now ≡ false }
+    ensures change { (db : Db) → B.database base.old ≡ Some db → IfOk result (λ c. planned db user.now u.now ≡ Planned c) }
+    ensures by_schema { (s : Db) → B.schema base.old ≡ Some s → IsDecided s user.now u.now result }
+    ensures kept { B.database base.new ≡ B.database base.old }
+    ensures stays { (s : Db) → B.schema base.old ≡ Some s → B.schema base.new ≡ Some s }
+    ensures asked { (b : B) → B.asked b base.old → B.asked b base.new }
+    ensures same { B.left base.new ≡ B.left base.old }
+    ensures cause { HasCause user.now u.now (B.database base.old) (B.faults base.old) (B.faults base.new) result }
+{
+    match u {
+        Utility::Rule { rel, rule } => rule_planned(alloc, base, user, rel, rule),
+        _ => schema_planned(alloc, base, user, u),
+    }
+}
+
+/// The change that a utility other than a copy makes for the user, or what refuses it. Asks the
+/// database for the number of its relations, so that its schema is known, and then for what the causes
+/// of the kind need up to the first that is there: of a new relation, which has no rows, or view for
+/// nothing; of what is to go whether views name it, for each key up to the first that is named; and of
+/// a rule for the rows of its relation up to the first that breaks it.
+pub fn plan<B: Base>(
+    alloc: Global,
+    base: &mut B,
+    user: &Name,
+    u: &Utility,
+) -> Result<DbChange, UtilFault>
+    requires { is_copy u.now ≡ false }
+    ensures change { (db : Db) → B.database base.old ≡ Some db → IfOk result (λ c. planned db user.now u.now ≡ Planned c) }
+    // Where no database is known, the schema decides all but whether a row breaks a rule.
+    ensures by_schema { IsTrue B.fixes → (s : Db) → B.schema base.new ≡ Some s → IsDecided s user.now u.now result }
+    ensures kept { B.database base.new ≡ B.database base.old }
+    ensures stays { (s : Db) → B.schema base.old ≡ Some s → B.schema base.new ≡ Some s }
+    ensures asked { (b : B) → B.asked b base.old → B.asked b base.new }
+    ensures same { B.left base.new ≡ B.left base.old }
+    ensures cause { HasCause user.now u.now (B.database base.old) (B.faults base.old) (B.faults base.new) result }
+{
+    let _count = base.count()?;
+    known_planned(alloc, base, user, u)
 }

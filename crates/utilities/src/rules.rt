@@ -8,6 +8,7 @@ ghost use Rattle.calculus.specs.declared.change.DbChange.TheVariants as change;
 ghost use Rattle.calculus.specs.declared.request.Utility.TheVariants as utility;
 ghost use Rattle.quel_meaning.specs.Planned.{is_broken, owner_causes, planned};
 ghost use Rattle.utilities.specs.Causes.{HasCause};
+ghost use Rattle.utilities.specs.Decided.{ButRows, IsDecided};
 
 use crate::UtilFault;
 use crate::judging::is_broken;
@@ -55,6 +56,7 @@ fn rule_cause<B: Base>(
     rel: &RelKey,
     rule: &Rule,
 ) -> Result<Option<u8>, BaseFault>
+    ensures by_schema { (s : Db) → B.schema base.old ≡ Some s → IfOk result (ButRows (first_cause (owner_causes s user.now rel.now))) }
     ensures told { (db : Db) → B.database base.old ≡ Some db → IfOk result (λ n. n ≡ first_cause (owner_causes db user.now rel.now ++ (27, is_broken db rel.now rule.now) ∷ [])) }
     ensures kept { B.database base.new ≡ B.database base.old }
     ensures stays { (s : Db) → B.schema base.old ≡ Some s → B.schema base.new ≡ Some s }
@@ -79,6 +81,7 @@ pub(crate) fn rule_planned<B: Base>(
     rel: &RelKey,
     rule: &Rule,
 ) -> Result<DbChange, UtilFault>
+    ensures by_schema { (s : Db) → B.schema base.old ≡ Some s → IsDecided s user.now (utility.Rule rel.now rule.now) result }
     ensures change { (db : Db) → B.database base.old ≡ Some db → IfOk result (λ c. planned db user.now (utility.Rule rel.now rule.now) ≡ Planned c) }
     ensures kept { B.database base.new ≡ B.database base.old }
     ensures stays { (s : Db) → B.schema base.old ≡ Some s → B.schema base.new ≡ Some s }

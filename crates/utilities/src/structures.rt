@@ -7,7 +7,7 @@ ghost use Rattle.calculus.specs.declared.change.DbChange.TheVariants as change;
 ghost use Rattle.calculus.specs.declared.request.Utility.TheVariants as utility;
 ghost use Rattle.quel_meaning.specs.Planned.{planned};
 ghost use Rattle.quel_meaning.specs.Structures.{first_or_these, structure_keys};
-ghost use Rattle.utilities.specs.Causes.{HasCause};
+ghost use Rattle.utilities.specs.Causes.{HasCauseBy};
 
 use crate::UtilFault;
 use crate::owners::owner_cause;
@@ -88,12 +88,12 @@ pub(crate) fn structure_planned<B: Base>(
     to: Spec,
     keys: &[u8],
 ) -> Result<DbChange, UtilFault>
-    ensures change { (db : Db) → B.database base.old ≡ Some db → IfOk result (λ c. planned db user.now (utility.Modify rel.now to keys.now) ≡ Planned c) }
+    ensures change { (db : Db) → B.schema base.old ≡ Some db → IfOk result (λ c. planned db user.now (utility.Modify rel.now to keys.now) ≡ Planned c) }
     ensures kept { B.database base.new ≡ B.database base.old }
     ensures stays { (s : Db) → B.schema base.old ≡ Some s → B.schema base.new ≡ Some s }
     ensures asked { (b : B) → B.asked b base.old → B.asked b base.new }
     ensures same { B.left base.new ≡ B.left base.old }
-    ensures cause { HasCause user.now (utility.Modify rel.now to keys.now) (B.database base.old) (B.faults base.old) (B.faults base.new) result }
+    ensures cause { HasCauseBy user.now (utility.Modify rel.now to keys.now) (B.schema base.old) (B.database base.old) (B.faults base.old) (B.faults base.new) result }
 {
     match owner_cause(alloc, base, user, rel) {
         Ok(None) => Ok(restructured(alloc, rel, to, keys)?),
@@ -111,12 +111,12 @@ pub(crate) fn index_planned<B: Base>(
     name: &Name,
     keys: &List<u8>,
 ) -> Result<DbChange, UtilFault>
-    ensures change { (db : Db) → B.database base.old ≡ Some db → IfOk result (λ c. planned db user.now (utility.Index rel.now name.now keys.now) ≡ Planned c) }
+    ensures change { (db : Db) → B.schema base.old ≡ Some db → IfOk result (λ c. planned db user.now (utility.Index rel.now name.now keys.now) ≡ Planned c) }
     ensures kept { B.database base.new ≡ B.database base.old }
     ensures stays { (s : Db) → B.schema base.old ≡ Some s → B.schema base.new ≡ Some s }
     ensures asked { (b : B) → B.asked b base.old → B.asked b base.new }
     ensures same { B.left base.new ≡ B.left base.old }
-    ensures cause { HasCause user.now (utility.Index rel.now name.now keys.now) (B.database base.old) (B.faults base.old) (B.faults base.new) result }
+    ensures cause { HasCauseBy user.now (utility.Index rel.now name.now keys.now) (B.schema base.old) (B.database base.old) (B.faults base.old) (B.faults base.new) result }
 {
     match owner_cause(alloc, base, user, rel) {
         Ok(None) => Ok(index_made(alloc, rel, name, keys)?),

@@ -12,7 +12,7 @@ pub returns-in_ok-permit_made-in-Ok-None-clause-change : goal.returns-in_ok-perm
 returns-in_ok-permit_made-in-Ok-None-clause-change g c = λ db e.
     permit_made db c.args.user.now c.args.rel.now c.args.permit.now c.deref.result.now c.in-Some.number c.in_ok-permit_made-in-Ok-None.field-0
     (c.deref.ensures.value ∙ c.in_ok-standing.ensures.told db e) c.in-Some.ensures.0 c.in-Some.ensures.1
-    (cc (c.in-Ok-None.field-0-is, c.in-Ok-None.ensures.told db (c.in_ok-standing.ensures.kept ∙ e))) c.in_ok-permit_made-in-Ok-None.ensures
+    (cc (c.in-Ok-None.field-0-is, c.in-Ok-None.ensures.told db (c.in_ok-standing.ensures.stays db e))) c.in_ok-permit_made-in-Ok-None.ensures
 
 pub returns-in-Ok-Some-clause-cause : goal.returns-in-Ok-Some-clause-cause
 returns-in-Ok-Some-clause-cause g c = record {
@@ -20,5 +20,5 @@ returns-in-Ok-Some-clause-cause g c = record {
   caused = λ db e.
       permit_refused db c.args.user.now c.args.rel.now c.args.permit.now c.deref.result.now c.in-Ok-Some.cause
       (c.deref.ensures.value ∙ c.in_ok-standing.ensures.told db e) c.in-Some.ensures.0
-      (cc (c.in-Ok-Some.field-0-is, c.in-Ok-Some.ensures.told db (c.in_ok-standing.ensures.kept ∙ e)));
+      (cc (c.in-Ok-Some.field-0-is, c.in-Ok-Some.ensures.told db (c.in_ok-standing.ensures.stays db e)));
 }
