@@ -1,37 +1,43 @@
 -- A run that has ended, and what is told of it to the left.
 use Rattle.std.proofs.Common.{◌≡◌, ◌⊎◌, refl, sym, ap, subst, ◌∙◌, ℕ, Bool, true, false, List, [], ◌∷◌, ◌++◌, append-nil, arith, inl, inr, Ok, Err, if◌then◌else◌}
-use Rattle.std.specs.Prelude.{◌==◌}
+use Rattle.std.specs.Prelude.{◌==◌, Contains}
+use Rattle.std.proofs.lemmas.Cmp.{eq_by_cmp_equiv, nat_cmp_total}
+use Rattle.std.proofs.lemmas.Map.Views.{list_any-from_Contains}
+use Rattle.calculus.specs.Database.{Db}
 use Rattle.std.specs.declared.option.Option.{Option}
 use Rattle.std.specs.Io.KnownBytes.{Appends}
 use Rattle.std.proofs.KnownBytes.{Appends-trans}
 use Rattle.fault_io.specs.Told.{GrewBy, IsFront}
 use Rattle.frame_codec.specs.Frames.{frames_bytes}
-use Rattle.net_core.specs.Told.{Outside, told}
+use Rattle.net_core.specs.declared.fault.WorkFault.{WorkFault}
+use Rattle.net_core.specs.declared.fault.WorkFault.TheVariants as faults
+use Rattle.net_core.specs.Spares.{IsNoFaultOfEnds}
+use Rattle.net_core.specs.Told.{Outside}
 use Rattle.network_meaning.specs.Network.{LocalState}
 use Rattle.quel_network.specs.Quel.{quel}
 use Rattle.quel_network.specs.Sorts.{User, quel_sorts}
 use Rattle.net_core.specs.declared.loop_fault.LoopFault.{LoopFault}
 use Rattle.net_core.specs.declared.loop_fault.LoopFault.TheVariants as fault
-use Rattle.net_core.specs.LoopFaults.{fault_bytes, telling}
-use Rattle.net_core.specs.Moves.{LocalRun, Move, given_left}
+use Rattle.net_core.specs.LoopFaults.{fault_bytes, status_of, telling, told_statuses, work_status}
+use Rattle.net_core.specs.Moves.{At, LocalRun, Move, given_left}
 use Rattle.net_core.specs.Sides.{Faltered, Outlet, OutletLater, Sides, Wrote}
-use Rattle.net_core.specs.LoopSteps.{Ran}
-use Rattle.net_core.specs.WholeLoop.{Ending, HowEnded, LoopDone}
+use Rattle.net_core.specs.LoopSteps.{RanWhole}
+use Rattle.net_core.specs.WholeLoop.{Ending, HowEnded, IsLoopInside, LoopDone}
 use Rattle.net_core.proofs.Going.{front_behind, rose_earlier}
 use Rattle.net_core.proofs.TakingSteps.{ending}
 
 -- ---- an end without a fault
 
-pub done_ok : (serves : User → Type 0) (place heard : ℕ) (s s' : LocalState quel_sorts) (old new : Outside) (before after : Sides) (x : Unit {0}) → Ran serves (record { state = s; room = told old }) heard s' old new before after [] (Ok x) →
-    LoopDone serves place heard s s' old new before after (Ok x)
-done_ok serves place heard s s' old new before after x r = record {
+pub done_ok : (serves : User → Type 0) (place heard : ℕ) (s s' : LocalState quel_sorts) (schema schema' : Option Db) (old new : Outside) (before after : Sides) (left left' : ℕ → Option Db → Type 0) (x : Unit {0}) → RanWhole serves (record { state = s; outside = old; schema = schema }) heard s' schema' old new before after left left' (Ok x) →
+    LoopDone serves place heard s s' schema schema' old new before after left left' (Ok x)
+done_ok serves place heard s s' schema schema' old new before after left left' x w = let r = w.ran in record {
   moves = r.moves;
   end = r.end;
   left_read = r.left_read;
   left_unread = r.left_unread;
   right_read = r.right_read;
   right_unread = r.right_unread;
-  runs = λ user y. subst (λ (ms : List Move). LocalRun (quel user) ms (record { state = s; room = told old }) r.end) (sym r.is) (r.runs user y);
+  runs = λ user y. subst (λ (ms : List Move). LocalRun (quel user) ms (record { state = s; outside = old; schema = schema }) r.end) (sym r.is) (r.runs user y);
   left = r.left;
   right = r.right;
   plain = r.plain;
@@ -41,6 +47,8 @@ done_ok serves place heard s s' old new before after x r = record {
   right_later = r.right_later;
   all = r.all;
   room = r.room;
+  known = w.known;
+  crash = w.crash;
   ended = r.ended;
 }
 
@@ -121,16 +129,16 @@ how_told serves heard s' old new before mid out e (fault.BadFrame at) l h = h
 how_told serves heard s' old new before mid out e (fault.Told status) l h = h
 how_told serves heard s' old new before mid out e fault.OutOfMemory l h = tt
 
-pub done_err : (serves : User → Type 0) (place heard : ℕ) (s s' : LocalState quel_sorts) (old new : Outside) (before mid : Sides) (out : Outlet) (f : LoopFault) → Ran serves (record { state = s; room = told old }) heard s' old new before mid [] (Err f) →
-    Wrote mid.left.out out (fault_bytes place (Err f)) → OutletLater mid.left.out out → LoopDone serves place heard s s' old new before (told_left mid out) (Err f)
-done_err serves place heard s s' old new before mid out f r t k = record {
+pub done_err : (serves : User → Type 0) (place heard : ℕ) (s s' : LocalState quel_sorts) (schema schema' : Option Db) (old new : Outside) (before mid : Sides) (left left' : ℕ → Option Db → Type 0) (out : Outlet) (f : LoopFault) → RanWhole serves (record { state = s; outside = old; schema = schema }) heard s' schema' old new before mid left left' (Err f) →
+    Wrote mid.left.out out (fault_bytes place (Err f)) → OutletLater mid.left.out out → LoopDone serves place heard s s' schema schema' old new before (told_left mid out) left left' (Err f)
+done_err serves place heard s s' schema schema' old new before mid left left' out f w t k = let r = w.ran in record {
   moves = r.moves;
   end = r.end;
   left_read = r.left_read;
   left_unread = r.left_unread;
   right_read = r.right_read;
   right_unread = r.right_unread;
-  runs = λ user y. subst (λ (ms : List Move). LocalRun (quel user) ms (record { state = s; room = told old }) r.end) (sym r.is) (r.runs user y);
+  runs = λ user y. subst (λ (ms : List Move). LocalRun (quel user) ms (record { state = s; outside = old; schema = schema }) r.end) (sym r.is) (r.runs user y);
   left = record { heard = r.left.heard; frames = r.left.frames; needed = r.left.needed };
   right = r.right;
   plain = r.plain;
@@ -140,5 +148,40 @@ done_err serves place heard s s' old new before mid out f r t k = record {
   right_later = r.right_later;
   all = tt;
   room = r.room;
+  known = w.known;
+  crash = w.crash;
   ended = how_told serves heard s' old new before mid out (ending r.moves r.end r.left_read r.left_unread mid.left.left r.right_read r.right_unread mid.right.left) f k r.ended;
 }
+
+-- ---- the status
+
+seven : Contains told_statuses 7 → ⊥
+seven c = let found = list_any-from_Contains (eq_by_cmp_equiv nat_cmp_total) 7 told_statuses c in cc found
+
+work_seven : (f : WorkFault) → IsNoFaultOfEnds f → work_status f ≡ 7 → ⊥
+work_seven faults.Source n e = n
+work_seven faults.Sink n e = n
+work_seven faults.TooLong n e = n
+work_seven faults.Disk n e = omega (arith, e)
+work_seven (faults.Damaged file page) n e = omega (arith, e)
+work_seven faults.Shelf n e = omega (arith, e)
+work_seven faults.Unlawful n e = omega (arith, e)
+work_seven faults.OutOfMemory n e = omega (arith, e)
+
+-- where no work failed by the source, the sink or the script's length, no script is too long
+no_seven : (serves : User → Type 0) (heard : ℕ) (s' : LocalState quel_sorts) (old new : Outside) (before after : Sides) (e : Ending) (f : LoopFault) → IsLoopInside {T = Unit {0}} (Err f) → HowEnded serves heard s' old new before after e (Err f) → status_of f ≡ 7 → ⊥
+no_seven serves heard s' old new before after e (fault.Work f) n h is = work_seven f n is
+no_seven serves heard s' old new before after e fault.LeftRead n h is = omega (arith, is)
+no_seven serves heard s' old new before after e fault.LeftWrite n h is = omega (arith, is)
+no_seven serves heard s' old new before after e fault.Right n h is = omega (arith, is)
+no_seven serves heard s' old new before after e fault.EndedEarly n h is = omega (arith, is)
+no_seven serves heard s' old new before after e fault.Spent n h is = omega (arith, is)
+no_seven serves heard s' old new before after e (fault.BadFrame at) n h is = omega (arith, is)
+no_seven serves heard s' old new before after e (fault.Told status) n h is = seven (subst (λ (x : ℕ). Contains told_statuses x) is h.1.2)
+no_seven serves heard s' old new before after e fault.OutOfMemory n h is = omega (arith, is)
+
+pub ran_seven : (serves : User → Type 0) (start : At) (heard : ℕ) (s' : LocalState quel_sorts) (schema' : Option Db) (old new : Outside) (before after : Sides) (left left' : ℕ → Option Db → Type 0) (f : LoopFault) →
+    RanWhole serves start heard s' schema' old new before after left left' (Err f) → IsLoopInside {T = Unit {0}} (Err f) → status_of f ≡ 7 → ⊥
+ran_seven serves start heard s' schema' old new before after left left' f w n is =
+    let r = w.ran in
+    no_seven serves heard s' old new before after (ending r.moves r.end r.left_read r.left_unread after.left.left r.right_read r.right_unread after.right.left) f n r.ended is

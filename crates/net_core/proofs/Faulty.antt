@@ -107,14 +107,14 @@ may_come_from heard heard' old mid after faults.OutOfMemory l s d c = tt
 -- ---- what faults leave alone
 
 pub counts_from : (old mid after : Outside) (fault : WorkFault) → counts mid ≡ counts old → CountsOnlyBy mid after fault → CountsOnlyBy old after fault
-counts_from old mid after faults.Source e c = c ∙ ap (λ (k : Counts). record { shelf = k.shelf; source = after.source_faults; sink = k.sink; stalls = k.stalls }) e
-counts_from old mid after faults.Sink e c = c ∙ ap (λ (k : Counts). record { shelf = k.shelf; source = k.source; sink = after.sink_faults; stalls = after.sink_stalls }) e
-counts_from old mid after faults.Shelf e c = c ∙ ap (λ (k : Counts). record { shelf = after.shelf_faults; source = k.source; sink = k.sink; stalls = k.stalls }) e
-counts_from old mid after faults.Disk e c = c ∙ e
-counts_from old mid after (faults.Damaged file page) e c = c ∙ e
+counts_from old mid after faults.Source e c = c ∙ ap (λ (k : Counts). record { base = k.base; shelf = k.shelf; source = after.source_faults; sink = k.sink; stalls = k.stalls }) e
+counts_from old mid after faults.Sink e c = c ∙ ap (λ (k : Counts). record { base = k.base; shelf = k.shelf; source = k.source; sink = after.sink_faults; stalls = after.sink_stalls }) e
+counts_from old mid after faults.Shelf e c = c ∙ ap (λ (k : Counts). record { base = k.base; shelf = after.shelf_faults; source = k.source; sink = k.sink; stalls = k.stalls }) e
+counts_from old mid after faults.Disk e c = c ∙ ap (λ (k : Counts). record { base = after.base_faults; shelf = k.shelf; source = k.source; sink = k.sink; stalls = k.stalls }) e
+counts_from old mid after (faults.Damaged file page) e c = c ∙ ap (λ (k : Counts). record { base = after.base_faults; shelf = k.shelf; source = k.source; sink = k.sink; stalls = k.stalls }) e
 counts_from old mid after faults.TooLong e c = c ∙ e
 counts_from old mid after faults.Unlawful e c = c ∙ e
-counts_from old mid after faults.OutOfMemory e c = c ∙ e
+counts_from old mid after faults.OutOfMemory e c = c ∙ ap (λ (k : Counts). record { base = after.base_faults; shelf = k.shelf; source = k.source; sink = k.sink; stalls = k.stalls }) e
 
 -- a stage has one number
 pub apart_numbers : (p n m : ℕ) → p ≡ n → p ≡ m → (n == m) ≡ false → ⊥

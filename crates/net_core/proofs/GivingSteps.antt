@@ -1,26 +1,27 @@
 -- One step of a run that gives a frame, or works.
 use Rattle.std.proofs.Common.{◌≡◌, refl, sym, ap, subst, ◌∙◌, ℕ, ◌≤◌, List, [], ◌∷◌, ◌++◌, arith, inl, inr, OnOk, Result, Ok, Err}
 use Rattle.std.specs.declared.option.Option.{Option}
-use Rattle.std.specs.Prelude.{All}
+use Rattle.std.specs.Prelude.{⊤, All}
+use Rattle.calculus.specs.Database.{Db}
 use Rattle.frame_codec.specs.declared.frame.Frame.{Frame}
 use Rattle.frame_codec.specs.Frames.{frames_bytes}
 use Rattle.net_core.specs.declared.steps.Moved.{Moved}
 use Rattle.net_core.specs.declared.steps.Moved.TheVariants.{Stepped, Blocked}
-use Rattle.net_core.specs.declared.fault.WorkFault.{WorkFault}
-use Rattle.net_core.specs.Spares.{LeavesEnds}
-use Rattle.net_core.specs.Told.{KeepsDatabase, Outside, told}
-use Rattle.net_core.proofs.Faulty.{database_same, later_same, script_same}
+use Rattle.net_core.specs.Told.{KeepsDatabase, Outside}
+use Rattle.net_core.proofs.Faulty.{database_same, heard_same, later_same, script_same}
 use Rattle.network_meaning.specs.LocalSteps.{Want.take_right, Want.give_left, Want.give_right, Want.work}
 use Rattle.network_meaning.specs.Network.{LocalState, want}
 use Rattle.quel_network.specs.Sorts.{User, quel_sorts}
+use Rattle.net_core.specs.declared.incoming.Incoming.{Incoming}
 use Rattle.net_core.specs.declared.loop_fault.LoopFault.{LoopFault}
 use Rattle.net_core.specs.declared.loop_fault.LoopFault.TheVariants as fault
+use Rattle.net_core.specs.Incoming.{Holds, IsHeld}
 use Rattle.net_core.specs.LoopFaults.{IsPlain}
 use Rattle.net_core.specs.Moves.{Move, Places, first_places, from_left, from_right, gave_left, gave_right, given_left, given_right, passed, places_from, taken_left, taken_right, to_left, to_right, worked}
 use Rattle.net_core.specs.Sides.{Outlet, Wrote}
 use Rattle.net_core.specs.LoopSteps.{Goes, Hand, Past, Ran, RoomKept, SideGoes, StepDone, at_hand}
-use Rattle.net_core.specs.Taking.{Gave, GavePart, Worked}
-use Rattle.net_core.specs.WholeLoop.{EndsKept, HowEnded, LeavesRoom}
+use Rattle.net_core.specs.Taking.{Gave, GavePart, TakeDone, Worked}
+use Rattle.net_core.specs.WholeLoop.{HowEnded, IsLoopInside, LeavesRoom, LoopCounts, LoopWithin}
 use Rattle.net_core.proofs.Going.{faltered_from, flat_one, flat_same, outlet_later, places_more, side_as, side_gave, side_read, stays_later, wrote_all, wrote_part}
 use Rattle.net_core.proofs.TakingSteps.{ending, still}
 
@@ -65,6 +66,7 @@ abbrev pub gave_at_left : Hand → LocalState quel_sorts → Outlet → ℕ → 
 gave_at_left p s' out' heard' = record {
   state = s';
   outside = p.outside;
+  schema = p.schema;
   sides = record { left = record { left = p.sides.left.left; faults = p.sides.left.faults; out = out' }; right = p.sides.right };
   talk = p.talk;
   heard = heard';
@@ -84,12 +86,12 @@ left_part serves past p s' out' heard' w g part =
       moves = moves;
       later = m ∷ [];
       is = refl;
-      end = record { state = s'; room = told p.outside };
+      end = record { state = s'; outside = p.outside; schema = p.schema };
       left_read = past.left;
       left_unread = p.talk.left.reader;
       right_read = past.right;
       right_unread = p.talk.right.reader;
-      runs = λ user x. (record { state = s'; room = told p.outside }, (w, part.given, refl), refl);
+      runs = λ user x. (record { state = s'; outside = p.outside; schema = p.schema }, (w, part.given, (refl, refl)), refl);
       left = side_read past.before.left p.sides.left (taken_left moves) (given_left past.moves) past.left p.talk.left _ p.sides.left.faults out' taken (omega arith);
       right = side_read past.before.right p.sides.right (taken_right moves) (given_right moves) past.right p.talk.right _ p.sides.right.faults p.sides.right.out right (omega arith);
       plain = same_plain past p m refl g;
@@ -110,7 +112,7 @@ give_left_done serves past p s' out' heard' (Ok Stepped) w g (frame, given, wrot
       m,
       past.left,
       past.right,
-      (λ user x. (w, given, refl)),
+      (λ user x. (w, given, (refl, refl))),
       record {
         left = side_as past.before.left _ (taken_left past.moves) (taken_left (past.moves ++ m ∷ [])) (given_left past.moves ++ frame ∷ []) (given_left (past.moves ++ m ∷ [])) past.left p.talk.left (flat_same from_left past.moves m refl) (flat_one to_left past.moves m)
             (side_gave past.before.left p.sides.left (taken_left past.moves) (given_left past.moves) past.left p.talk.left frame p.sides.left.faults out' g.left wrote same refl);
@@ -130,6 +132,7 @@ abbrev pub gave_at_right : Hand → LocalState quel_sorts → Option (List ℕ) 
 gave_at_right p s' told' faults' out' heard' = record {
   state = s';
   outside = p.outside;
+  schema = p.schema;
   sides = record { left = p.sides.left; right = record { left = told'; faults = faults'; out = out' } };
   talk = p.talk;
   heard = heard';
@@ -152,12 +155,12 @@ right_part serves past p s' faults' out' heard' w g part le =
       moves = moves;
       later = m ∷ [];
       is = refl;
-      end = record { state = s'; room = told p.outside };
+      end = record { state = s'; outside = p.outside; schema = p.schema };
       left_read = past.left;
       left_unread = p.talk.left.reader;
       right_read = past.right;
       right_unread = p.talk.right.reader;
-      runs = λ user x. (record { state = s'; room = told p.outside }, (w, part.given, refl), refl);
+      runs = λ user x. (record { state = s'; outside = p.outside; schema = p.schema }, (w, part.given, (refl, refl)), refl);
       left = side_read past.before.left p.sides.left (taken_left moves) (given_left moves) past.left p.talk.left _ p.sides.left.faults p.sides.left.out left (omega arith);
       right = side_read past.before.right p.sides.right (taken_right moves) (given_right past.moves) past.right p.talk.right _ faults' out' taken (omega arith);
       plain = same_plain past p m refl g;
@@ -178,7 +181,7 @@ right_done serves past p s' out' heard' (Ok Stepped) w g both (frame, given, wro
       m,
       past.left,
       past.right,
-      (λ user x. (w, given, refl)),
+      (λ user x. (w, given, (refl, refl))),
       record {
         left = left_alone past p m refl refl g;
         right = side_as past.before.right _ (taken_right past.moves) (taken_right (past.moves ++ m ∷ [])) (given_right past.moves ++ frame ∷ []) (given_right (past.moves ++ m ∷ [])) past.right p.talk.right (flat_same from_right past.moves m refl) (flat_one to_right past.moves m)
@@ -200,16 +203,16 @@ give_right_done serves past p s' told' out' heard' result w g both e gave = subs
 -- ---- to work
 
 -- the hand behind work
-abbrev pub worked_at : Hand → LocalState quel_sorts → Outside → ℕ → Hand
-worked_at p s' o' heard' = record { state = s'; outside = o'; sides = p.sides; talk = p.talk; heard = heard' }
+abbrev pub worked_at : Hand → LocalState quel_sorts → Outside → Option Db → ℕ → Hand
+worked_at p s' o' schema' heard' = record { state = s'; outside = o'; schema = schema'; sides = p.sides; talk = p.talk; heard = heard' }
 
-pub work_done : (serves : User → Type 0) (past : Past) (p : Hand) (s' : LocalState quel_sorts) (o' : Outside) (heard' : ℕ) (result : Result Moved LoopFault) → want p.state ≡ work → Goes past p →
-    Worked serves p.heard p.state s' p.outside o' p.talk.last result → StepDone serves past p (worked_at p s' o' heard') result
-work_done serves past p s' o' heard' (Ok Stepped) w g done = (
+pub work_done : (serves : User → Type 0) (past : Past) (p : Hand) (s' : LocalState quel_sorts) (o' : Outside) (schema' : Option Db) (heard' : ℕ) (result : Result Moved LoopFault) → want p.state ≡ work → Goes past p →
+    Worked serves p.heard p.state s' p.outside o' schema' p.talk.last result → StepDone serves past p (worked_at p s' o' schema' heard') result
+work_done serves past p s' o' schema' heard' (Ok Stepped) w g done = (
   worked,
   past.left,
   past.right,
-  (λ user x. (w, done user x)),
+  (λ user x. (w, done.0 user x, done.1, done.2)),
   record {
     left = left_alone past p worked refl refl g;
     right = right_alone past p worked refl refl g;
@@ -217,16 +220,16 @@ work_done serves past p s' o' heard' (Ok Stepped) w g done = (
     places = same_places past p worked (λ q. refl) g;
   },
 )
-work_done serves past p s' o' heard' (Ok Blocked) w g x = absurd x
-work_done serves past p s' o' heard' (Err (fault.Work f)) w g (ne, may, front) = nothing_more serves past p s' o' (fault.Work f) g tt (w, ne, may, front)
-work_done serves past p s' o' heard' (Err (fault.BadFrame at)) w g (e, unfit) = nothing_more serves past p s' o' (fault.BadFrame at) g (inl w) (inr (w, e ∙ ap (λ (q : Places). q.last) g.places, unfit), λ v. absurd (let h : work ≡ take_right = sym w ∙ v in cc))
-work_done serves past p s' o' heard' (Err fault.LeftRead) w g x = absurd x
-work_done serves past p s' o' heard' (Err fault.LeftWrite) w g x = absurd x
-work_done serves past p s' o' heard' (Err fault.Right) w g x = absurd x
-work_done serves past p s' o' heard' (Err fault.EndedEarly) w g x = absurd x
-work_done serves past p s' o' heard' (Err fault.Spent) w g x = absurd x
-work_done serves past p s' o' heard' (Err (fault.Told status)) w g x = absurd x
-work_done serves past p s' o' heard' (Err fault.OutOfMemory) w g x = absurd x
+work_done serves past p s' o' schema' heard' (Ok Blocked) w g x = absurd x
+work_done serves past p s' o' schema' heard' (Err (fault.Work f)) w g (ne, may, front, spares) = nothing_more serves past p s' o' (fault.Work f) g spares (w, ne, may, front)
+work_done serves past p s' o' schema' heard' (Err (fault.BadFrame at)) w g (e, unfit, front, same) = nothing_more serves past p s' o' (fault.BadFrame at) g (inl (w, same)) (inr (w, e ∙ ap (λ (q : Places). q.last) g.places, unfit, front), λ v. absurd (let h : work ≡ take_right = sym w ∙ v in cc))
+work_done serves past p s' o' schema' heard' (Err fault.LeftRead) w g x = absurd x
+work_done serves past p s' o' schema' heard' (Err fault.LeftWrite) w g x = absurd x
+work_done serves past p s' o' schema' heard' (Err fault.Right) w g x = absurd x
+work_done serves past p s' o' schema' heard' (Err fault.EndedEarly) w g x = absurd x
+work_done serves past p s' o' schema' heard' (Err fault.Spent) w g x = absurd x
+work_done serves past p s' o' schema' heard' (Err (fault.Told status)) w g x = absurd x
+work_done serves past p s' o' schema' heard' (Err fault.OutOfMemory) w g x = absurd x
 
 -- ---- the room
 
@@ -234,10 +237,80 @@ on_ok : {T E : Type 0} (P : Type 0) (result : Result T E) → P → OnOk result 
 on_ok P (Ok x) p = p
 on_ok P (Err f) p = tt
 
--- nothing was done in the room
-pub room_alone : (place heard heard' : ℕ) (o : Outside) (result : Result Moved LoopFault) → heard' ≡ heard → RoomKept place heard heard' o o result
-room_alone place heard heard' o result e = record { later = later_same o; script = script_same heard heard' o e; database = on_ok (KeepsDatabase o o) result (database_same o); ends = λ apart. record { same = refl; unread = e } }
+-- an answer, or a fault that isn't one of work
+abbrev pub NoWork : Result Moved LoopFault → Type 0
+NoWork (Ok x) = ⊤
+NoWork (Err (fault.Work f)) = ⊥
+NoWork (Err _) = ⊤
 
--- what work leaves of the ends of the room, as the process says it
-pub ends_of_work : {T : Type 0} (heard heard' : ℕ) (o o' : Outside) (result : Result T WorkFault) → LeavesEnds heard heard' o o' result → EndsKept heard heard' o o'
-ends_of_work heard heard' o o' result e = record { same = e.same; unread = e.unread }
+pub take_no_work : (serves : User → Type 0) (s s' : LocalState quel_sorts) (told told' : Option (List ℕ)) (i i' : Incoming) (failed : LoopFault) (result : Result Moved LoopFault) → IsHeld i →
+    ((taken : List Frame) (bytes : List ℕ) → Holds taken bytes i → TakeDone serves s s' taken bytes told told' failed i' result) → NoWork result
+take_no_work serves s s' told told' i i' failed result (taken, bytes, held) done = go result (done taken bytes held)
+  where
+    go : (r : Result Moved LoopFault) → TakeDone serves s s' taken bytes told told' failed i' r → NoWork r
+    go (Ok x) d = tt
+    go (Err (fault.Work f)) d = d.took.2
+    go (Err fault.LeftRead) d = tt
+    go (Err fault.LeftWrite) d = tt
+    go (Err fault.Right) d = tt
+    go (Err fault.EndedEarly) d = tt
+    go (Err fault.Spent) d = tt
+    go (Err (fault.BadFrame at)) d = tt
+    go (Err (fault.Told status)) d = tt
+    go (Err fault.OutOfMemory) d = tt
+
+not_work : (f failed : LoopFault) → f ≡ failed → NoWork (Err failed) → NoWork (Err f)
+not_work f failed e n = rw e n
+
+pub give_no_work : (s s' : LocalState quel_sorts) (o o' : Outlet) (failed : LoopFault) (result : Result Moved LoopFault) → NoWork (Err failed) → Gave s s' o o' failed result → NoWork result
+give_no_work s s' o o' failed (Ok x) n g = tt
+give_no_work s s' o o' failed (Err f) n (inl (e, k)) = not_work f fault.OutOfMemory e tt
+give_no_work s s' o o' failed (Err f) n (inr (e, part)) = not_work f failed e n
+
+inside_alone : (result : Result Moved LoopFault) → NoWork result → IsLoopInside result
+inside_alone (Ok x) n = tt
+inside_alone (Err (fault.Work f)) n = absurd n
+inside_alone (Err fault.LeftRead) n = tt
+inside_alone (Err fault.LeftWrite) n = tt
+inside_alone (Err fault.Right) n = tt
+inside_alone (Err fault.EndedEarly) n = tt
+inside_alone (Err fault.Spent) n = tt
+inside_alone (Err (fault.BadFrame at)) n = tt
+inside_alone (Err (fault.Told status)) n = tt
+inside_alone (Err fault.OutOfMemory) n = tt
+
+within_alone : (heard heard' : ℕ) (result : Result Moved LoopFault) → heard' ≡ heard → NoWork result → LoopWithin heard heard' result
+within_alone heard heard' (Ok x) e n le = omega (arith, e, le)
+within_alone heard heard' (Err (fault.Work f)) e n le = absurd n
+within_alone heard heard' (Err fault.LeftRead) e n le = omega (arith, e, le)
+within_alone heard heard' (Err fault.LeftWrite) e n le = omega (arith, e, le)
+within_alone heard heard' (Err fault.Right) e n le = omega (arith, e, le)
+within_alone heard heard' (Err fault.EndedEarly) e n le = omega (arith, e, le)
+within_alone heard heard' (Err fault.Spent) e n le = omega (arith, e, le)
+within_alone heard heard' (Err (fault.BadFrame at)) e n le = omega (arith, e, le)
+within_alone heard heard' (Err (fault.Told status)) e n le = omega (arith, e, le)
+within_alone heard heard' (Err fault.OutOfMemory) e n le = omega (arith, e, le)
+
+counts_alone : (o : Outside) (result : Result Moved LoopFault) → NoWork result → LoopCounts o o result
+counts_alone o (Ok x) n = refl
+counts_alone o (Err (fault.Work f)) n = absurd n
+counts_alone o (Err fault.LeftRead) n = refl
+counts_alone o (Err fault.LeftWrite) n = refl
+counts_alone o (Err fault.Right) n = refl
+counts_alone o (Err fault.EndedEarly) n = refl
+counts_alone o (Err fault.Spent) n = refl
+counts_alone o (Err (fault.BadFrame at)) n = refl
+counts_alone o (Err (fault.Told status)) n = refl
+counts_alone o (Err fault.OutOfMemory) n = refl
+
+-- nothing was done in the room
+pub room_alone : (place heard heard' : ℕ) (o : Outside) (result : Result Moved LoopFault) → heard' ≡ heard → NoWork result → RoomKept place heard heard' o o result
+room_alone place heard heard' o result e none = record {
+  later = later_same o;
+  script = script_same heard heard' o e;
+  database = on_ok (KeepsDatabase o o) result (database_same o);
+  ends = λ apart. record { same = refl; unread = e; inside = inside_alone result none };
+  given = heard_same heard heard' o.given e;
+  within = within_alone heard heard' result e none;
+  counts = counts_alone o result none;
+}

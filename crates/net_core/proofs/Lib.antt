@@ -12,5 +12,6 @@ pub mod Takings
 pub mod Going
 pub mod TakingSteps
 pub mod GivingSteps
+pub mod LoopCrashing
 pub mod Running
 pub mod Endings

@@ -11,7 +11,10 @@ use Rattle.frame_codec.specs.Frames.{frames_bytes}
 use Rattle.frame_codec.specs.Reading.{Reading, behind_frames, read}
 use Rattle.net_core.specs.declared.steps.Moved.{Moved}
 use Rattle.net_core.specs.declared.steps.Moved.TheVariants.{Stepped, Blocked}
-use Rattle.net_core.specs.Told.{Outside, told}
+use Rattle.net_core.specs.declared.fault.WorkFault.{WorkFault}
+use Rattle.net_core.specs.declared.fault.WorkFault.TheVariants as faults
+use Rattle.net_core.specs.Spares.{SparesBy}
+use Rattle.net_core.specs.Told.{Outside}
 use Rattle.network_meaning.specs.Calls.{Taken}
 use Rattle.network_meaning.specs.LocalSteps.{Want, Want.take_left, Want.take_right}
 use Rattle.network_meaning.specs.Network.{LocalState, want}
@@ -67,9 +70,20 @@ unmet_left w f e = rw e refl
 unmet_right : (w : Want) (f : LoopFault) → w ≡ take_right → unmet take_right w (Err f) ≡ 1
 unmet_right w f e = rw e refl
 
+-- what is as it was is spared
+spares_same : (o : Outside) (f : WorkFault) → SparesBy o o f
+spares_same o faults.Source = record { output = refl; files = refl; database = refl }
+spares_same o faults.TooLong = record { output = refl; files = refl; database = refl }
+spares_same o faults.Disk = tt
+spares_same o (faults.Damaged file page) = tt
+spares_same o faults.Sink = refl
+spares_same o faults.Shelf = refl
+spares_same o faults.Unlawful = refl
+spares_same o faults.OutOfMemory = refl
+
 -- nothing was done in the room
-pub room_still : (end : At) (o : Outside) (f : LoopFault) → told o ≡ end.room → LeavesRoom end o (Err f)
-room_still end o (fault.Work f) e = tt
+pub room_still : (end : At) (o : Outside) (f : LoopFault) → o ≡ end.outside → LeavesRoom end o (Err f)
+room_still end o (fault.Work f) e = subst (λ (x : Outside). SparesBy x o f) e (spares_same o f)
 room_still end o (fault.BadFrame at) e = inr e
 room_still end o fault.LeftRead e = e
 room_still end o fault.LeftWrite e = e
@@ -123,6 +137,7 @@ abbrev pub at_left : Hand → LocalState quel_sorts → Option (List ℕ) → �
 at_left p s' told' faults' i' heard' = record {
   state = s';
   outside = p.outside;
+  schema = p.schema;
   sides = record { left = record { left = told'; faults = faults'; out = p.sides.left.out }; right = p.sides.right };
   talk = record { left = i'; right = p.talk.right; last = p.talk.left.place };
   heard = heard';
@@ -145,7 +160,7 @@ took_from_left serves past p s' told' faults' i' heard' frame more w g heard nee
       m,
       past.left ++ more,
       past.right,
-      (λ user x. (w, taken user x, refl)),
+      (λ user x. (w, taken user x, (refl, refl))),
       record {
         left = side_as past.before.left _ (taken_left past.moves ++ frame ∷ []) (taken_left (past.moves ++ m ∷ [])) (given_left past.moves) (given_left (past.moves ++ m ∷ [])) (past.left ++ more) i' (flat_one from_left past.moves m) (flat_same to_left past.moves m refl)
             (side_took past.before.left p.sides.left (taken_left past.moves) (given_left past.moves) past.left more p.talk.left i' frame told' faults' p.sides.left.out g.left heard needed holds same refl (same_counts p.sides.left.out));
@@ -190,6 +205,7 @@ abbrev pub at_right : Hand → LocalState quel_sorts → Side → Incoming → �
 at_right p s' right' i' heard' = record {
   state = s';
   outside = p.outside;
+  schema = p.schema;
   sides = record { left = p.sides.left; right = right' };
   talk = record { left = p.talk.left; right = i'; last = p.talk.right.place };
   heard = heard';
@@ -204,7 +220,7 @@ took_from_right serves past p s' right' i' heard' frame more w g heard needed ho
       m,
       past.left,
       past.right ++ more,
-      (λ user x. (w, taken user x, refl)),
+      (λ user x. (w, taken user x, (refl, refl))),
       record {
         left = side_as past.before.left p.sides.left (taken_left past.moves) (taken_left (past.moves ++ m ∷ [])) (given_left past.moves) (given_left (past.moves ++ m ∷ [])) past.left p.talk.left (flat_same from_left past.moves m refl) (flat_same to_left past.moves m refl) g.left;
         right = side_as past.before.right right' (taken_right past.moves ++ frame ∷ []) (taken_right (past.moves ++ m ∷ [])) (given_right past.moves) (given_right (past.moves ++ m ∷ [])) (past.right ++ more) i' (flat_one from_right past.moves m) (flat_same to_right past.moves m refl)

@@ -1,13 +1,15 @@
 -- A run step by step: what holds while it goes on, and what one step comes to.
-use Rattle.std.specs.Prelude.{◌≡◌, ℕ, ◌+◌, List, [], ◌∷◌, ◌++◌, length, All, OnOk, Result, Ok, Err}
+use Rattle.std.specs.Prelude.{◌≡◌, ℕ, ◌+◌, List, [], ◌∷◌, ◌++◌, length, All, OnOk, Option, Result, Ok, Err}
 use Rattle.std.specs.Prelude.{IsErrOf}
 use Rattle.std.specs.Io.KnownBytes.{Appends}
+use Rattle.calculus.specs.Database.{Db}
 use Rattle.frame_codec.specs.declared.frame.Frame.{Frame}
 use Rattle.frame_codec.specs.Frames.{frames_bytes}
 use Rattle.frame_codec.specs.Reading.{Reading}
 use Rattle.net_core.specs.declared.steps.Moved.{Moved}
 use Rattle.net_core.specs.declared.steps.Moved.TheVariants.{Stepped, Blocked}
-use Rattle.net_core.specs.Told.{KeepsDatabase, KeepsScript, Later, Outside, told}
+use Rattle.net_core.specs.Reads.{CountsHeard}
+use Rattle.net_core.specs.Told.{KeepsDatabase, KeepsScript, Later, Outside}
 use Rattle.net_core.specs.Wants.{HasEnded}
 use Rattle.network_meaning.specs.LocalSteps.{Want.take_left, Want.take_right}
 use Rattle.network_meaning.specs.Network.{LocalState, want}
@@ -21,19 +23,20 @@ use Rattle.net_core.specs.LoopFaults.{IsPlain}
 use Rattle.net_core.specs.Incoming.{Holds, inlet}
 use Rattle.net_core.specs.Moves.{At, LocalRun, Move, StepsBy, first_places, given_left, given_right, places_from, taken_left, taken_right}
 use Rattle.net_core.specs.Sides.{HasRead, IsNeeded, SameCounts, Side, SideLater, Sides, Wrote}
-use Rattle.net_core.specs.WholeLoop.{EndsKept, HowEnded, LeavesRoom, SideRead, WroteAll, unmet}
+use Rattle.net_core.specs.WholeLoop.{EndsKept, HowEnded, LeavesRoom, LoopCounts, LoopLeaves, LoopWithin, SideRead, WroteAll, unmet}
 
--- what a stage's process has at hand: where the stage is, the room and both sides as they are told, what it has read, and how many bytes of the script the stage has read
+-- what a stage's process has at hand: where the stage is, the room and both sides as they are told, what is known of the schema, what it has read, and how many bytes of the script the stage has read
 pub record Hand : Type 0 where
   pub state : LocalState quel_sorts
   pub outside : Outside
+  pub schema : Option Db
   pub sides : Sides
   pub talk : Talk
   pub heard : ℕ
 
 -- where the stage is, with the room
 abbrev pub at_hand : Hand → At
-at_hand p = record { state = p.state; room = told p.outside }
+at_hand p = record { state = p.state; outside = p.outside; schema = p.schema }
 
 -- what was before: both sides at the start, the steps since, and the bytes that were read
 pub record Past : Type 0 where
@@ -86,15 +89,24 @@ pub record Ran (serves : User → Type 0) (start : At) (heard : ℕ) (s' : Local
     right = inlet (taken_right moves) right_read after.right.left right_unread;
   }) result
 
+-- the whole run, where this is known of the schema at its end: it has ended, and what a crash leaves
+pub record RanWhole (serves : User → Type 0) (start : At) (heard : ℕ) (s' : LocalState quel_sorts) (schema' : Option Db) (old new : Outside) (before after : Sides) (left left' : ℕ → Option Db → Type 0) (result : Result (Unit {0}) LoopFault) : Type 0 where
+  pub ran : Ran serves start heard s' old new before after [] result
+  pub known : OnOk result (schema' ≡ ran.end.schema)
+  pub crash : (user : User) → serves user → LoopLeaves (quel user) ran.moves start new.clock left left'
+
 -- one step more was made, or the stage has ended, or the run has
 abbrev pub StepDone : (User → Type 0) → Past → Hand → Hand → Result Moved LoopFault → Type 0
 StepDone serves past p p' (Ok Stepped) = (move : Move) × (l : List ℕ) × (r : List ℕ) × ((user : User) → serves user → StepsBy (quel user) move (at_hand p) (at_hand p')) × Goes (record { before = past.before; moves = past.moves ++ move ∷ []; left = l; right = r }) p'
 StepDone serves past p p' (Ok Blocked) = HasEnded p.state × (p' ≡ p)
 StepDone serves past p p' (Err f) = Ran serves (at_hand p) p.heard p'.state p.outside p'.outside past.before p'.sides past.moves (Err f)
 
--- the room behind a step of the stage with this number: no count fell, what is told of the script is told on, and so is a database unless the step failed; and the source and the sink are as they were unless it is the first stage
+-- the room behind a step of the stage with this number: no count fell, and none rose but that which a fault names; what is told of the script is told on, the source counts what was read, and no more was than may be; a database is told on unless the step failed; and the source and the sink are as they were unless it is the first stage
 pub record RoomKept (place heard heard' : ℕ) (old new : Outside) (result : Result Moved LoopFault) : Type 0 where
   pub later : Later old new
   pub script : KeepsScript heard heard' old new
   pub database : OnOk result (KeepsDatabase old new)
-  pub ends : (place ≡ 1 → ⊥) → EndsKept heard heard' old new
+  pub ends : (place ≡ 1 → ⊥) → EndsKept heard heard' old new result
+  pub given : CountsHeard heard heard' old.given new.given
+  pub within : LoopWithin heard heard' result
+  pub counts : LoopCounts old new result

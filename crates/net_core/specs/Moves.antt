@@ -1,9 +1,12 @@
 -- What a stage does, step by step: it takes frames, gives frames, and works.
-use Rattle.std.specs.Prelude.{◌≡◌, ℕ, ◌+◌, List, [], ◌∷◌, length}
+use Rattle.std.specs.Prelude.{◌≡◌, ℕ, ◌+◌, List, [], ◌∷◌, length, Option}
 use Rattle.std.specs.List.{flat_map}
+use Rattle.calculus.specs.Database.{Db}
 use Rattle.frame_codec.specs.declared.frame.Frame.{Frame}
 use Rattle.frame_codec.specs.Frames.{frame_bytes}
-use Rattle.network_meaning.specs.Calls.{Given, Taken, Told, WorkDone}
+use Rattle.net_core.specs.Crashes.{HandsOver, QuietWithout}
+use Rattle.net_core.specs.Told.{Outside, told}
+use Rattle.network_meaning.specs.Calls.{Given, Taken, WorkDone}
 use Rattle.network_meaning.specs.Language.{Language}
 use Rattle.network_meaning.specs.LocalSteps.{Want.take_left, Want.take_right, Want.give_left, Want.give_right, Want.work}
 use Rattle.network_meaning.specs.Network.{LocalState, want}
@@ -17,18 +20,24 @@ pub data Move : Type 0 where
   gave_right : Frame → Move
   worked : Move
 
--- where a stage is, and what is known of the room
+-- where a stage is, the outside as its room tells it, and what is known of the schema
 pub record At : Type 0 where
   pub state : LocalState quel_sorts
-  pub room : Told quel_sorts
+  pub outside : Outside
+  pub schema : Option Db
 
--- the step leads from here to there, and is the one that the stage wanted
+-- the room is as it was
+abbrev pub SameRoom : At → At → Type 0
+SameRoom a b = (b.outside ≡ a.outside) × (b.schema ≡ a.schema)
+
+-- the step leads from here to there, and is the one that the stage wanted. Only work changes the room; without the turn it leaves the disk alone, and where it gives the turn away the base was handed over
 abbrev pub StepsBy : Language quel_sorts → Move → At → At → Type 0
-StepsBy L (took_left frame) a b = (want a.state ≡ take_left) × Taken L a.state frame b.state × (b.room ≡ a.room)
-StepsBy L (took_right frame) a b = (want a.state ≡ take_right) × Taken L a.state frame b.state × (b.room ≡ a.room)
-StepsBy L (gave_left frame) a b = (want a.state ≡ give_left) × Given a.state frame b.state × (b.room ≡ a.room)
-StepsBy L (gave_right frame) a b = (want a.state ≡ give_right) × Given a.state frame b.state × (b.room ≡ a.room)
-StepsBy L worked a b = (want a.state ≡ work) × WorkDone L a.state b.state a.room b.room
+StepsBy L (took_left frame) a b = (want a.state ≡ take_left) × Taken L a.state frame b.state × SameRoom a b
+StepsBy L (took_right frame) a b = (want a.state ≡ take_right) × Taken L a.state frame b.state × SameRoom a b
+StepsBy L (gave_left frame) a b = (want a.state ≡ give_left) × Given a.state frame b.state × SameRoom a b
+StepsBy L (gave_right frame) a b = (want a.state ≡ give_right) × Given a.state frame b.state × SameRoom a b
+StepsBy L worked a b =
+    (want a.state ≡ work) × WorkDone L a.state b.state (told a.outside) (told b.outside) × QuietWithout a.state a.outside b.outside × HandsOver a.state b.state b.schema b.outside.database
 
 -- the steps lead from here to there, one after the other
 abbrev pub LocalRun : Language quel_sorts → List Move → At → At → Type 0

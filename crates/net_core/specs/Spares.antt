@@ -4,21 +4,29 @@ use Rattle.net_core.specs.declared.fault.WorkFault.{WorkFault}
 use Rattle.net_core.specs.declared.fault.WorkFault.TheVariants as faults
 use Rattle.net_core.specs.Told.{Outside}
 
--- how often the shelf, the source and the sink have failed, and how often the sink took nothing
+-- how often the base, the shelf, the source and the sink have failed, and how often the sink took nothing
 pub record Counts : Type 0 where
+  pub base : ℕ
   pub shelf : ℕ
   pub source : ℕ
   pub sink : ℕ
   pub stalls : ℕ
 
 abbrev pub counts : Outside → Counts
-counts o = record { shelf = o.shelf_faults; source = o.source_faults; sink = o.sink_faults; stalls = o.sink_stalls }
+counts o = record { base = o.base_faults; shelf = o.shelf_faults; source = o.source_faults; sink = o.sink_faults; stalls = o.sink_stalls }
 
--- no count rose but that which the fault names
+-- no count rose but perhaps that of the base
+abbrev pub CountsOnlyOfBase : Outside → Outside → Type 0
+CountsOnlyOfBase before after = counts after ≡ record { base = after.base_faults; shelf = before.shelf_faults; source = before.source_faults; sink = before.sink_faults; stalls = before.sink_stalls }
+
+-- no count rose but that which the fault names. Where a page is damaged or memory is wanting, the base says no more of its own count than that it doesn't fall
 abbrev pub CountsOnlyBy : Outside → Outside → WorkFault → Type 0
-CountsOnlyBy before after faults.Source = counts after ≡ record { shelf = before.shelf_faults; source = after.source_faults; sink = before.sink_faults; stalls = before.sink_stalls }
-CountsOnlyBy before after faults.Sink = counts after ≡ record { shelf = before.shelf_faults; source = before.source_faults; sink = after.sink_faults; stalls = after.sink_stalls }
-CountsOnlyBy before after faults.Shelf = counts after ≡ record { shelf = after.shelf_faults; source = before.source_faults; sink = before.sink_faults; stalls = before.sink_stalls }
+CountsOnlyBy before after faults.Source = counts after ≡ record { base = before.base_faults; shelf = before.shelf_faults; source = after.source_faults; sink = before.sink_faults; stalls = before.sink_stalls }
+CountsOnlyBy before after faults.Sink = counts after ≡ record { base = before.base_faults; shelf = before.shelf_faults; source = before.source_faults; sink = after.sink_faults; stalls = after.sink_stalls }
+CountsOnlyBy before after faults.Shelf = counts after ≡ record { base = before.base_faults; shelf = after.shelf_faults; source = before.source_faults; sink = before.sink_faults; stalls = before.sink_stalls }
+CountsOnlyBy before after faults.Disk = CountsOnlyOfBase before after
+CountsOnlyBy before after (faults.Damaged file page) = CountsOnlyOfBase before after
+CountsOnlyBy before after faults.OutOfMemory = CountsOnlyOfBase before after
 CountsOnlyBy before after _ = counts after ≡ counts before
 
 -- with an answer no count rose, and with a fault only that which it names

@@ -2,14 +2,17 @@
 use Rattle.std.specs.Prelude.{◌≡◌, ◌⊎◌, ℕ, ◌+◌, List, [], ◌∷◌, ◌++◌, length, Result, Ok, Err, ⊤}
 use Rattle.std.specs.declared.option.Option.{Option}
 use Rattle.std.specs.Io.KnownBytes.{Appends}
+use Rattle.calculus.specs.Database.{Db}
 use Rattle.fault_io.specs.Told.{GrewBy, IsFront}
 use Rattle.frame_codec.specs.declared.frame.Frame.{Frame}
 use Rattle.frame_codec.specs.Frames.{frame_bytes}
 use Rattle.frame_codec.specs.Reading.{Reading, behind_frames, read}
 use Rattle.net_core.specs.Causes.{MayCome, MayNotTake, MayNotWork}
+use Rattle.net_core.specs.Crashes.{HandsOver, QuietWithout}
 use Rattle.net_core.specs.declared.fault.WorkFault.TheVariants as work
 use Rattle.net_core.specs.declared.steps.Moved.{Moved}
 use Rattle.net_core.specs.declared.steps.Moved.TheVariants.{Stepped, Blocked}
+use Rattle.net_core.specs.Spares.{SparesBy}
 use Rattle.net_core.specs.Told.{FailedWork, Outside, told}
 use Rattle.network_meaning.specs.Calls.{Given, Taken, WorkDone}
 use Rattle.network_meaning.specs.Network.{LocalState}
@@ -73,9 +76,9 @@ Gave s s' o o' failed (Err f) = ((f ≡ fault.OutOfMemory) × (o' ≡ o)) ⊎ ((
 
 -- ---- to work
 
--- a stage has worked; or its work came to no end; or what it is to work on isn't fit, and that place is answered
-abbrev pub Worked : (User → Type 0) → ℕ → LocalState quel_sorts → LocalState quel_sorts → Outside → Outside → ℕ → Result Moved LoopFault → Type 0
-Worked serves heard s s' o o' last (Ok Stepped) = (user : User) → serves user → WorkDone (quel user) s s' (told o) (told o')
-Worked serves heard s s' o o' last (Err (fault.Work f)) = (f ≡ work.Unlawful → ⊥) × MayCome heard o o' f × ((user : User) → serves user → FailedWork (quel user) s.mode o o')
-Worked serves heard s s' o o' last (Err (fault.BadFrame at)) = (at ≡ last) × ((user : User) → serves user → MayNotWork (quel user) s.mode o)
-Worked serves heard s s' o o' last _ = ⊥
+-- a stage has worked, and this is known of the schema then; or its work came to no end; or what it is to work on isn't fit, and that place is answered
+abbrev pub Worked : (User → Type 0) → ℕ → LocalState quel_sorts → LocalState quel_sorts → Outside → Outside → Option Db → ℕ → Result Moved LoopFault → Type 0
+Worked serves heard s s' o o' schema last (Ok Stepped) = ((user : User) → serves user → WorkDone (quel user) s s' (told o) (told o')) × QuietWithout s o o' × HandsOver s s' schema o'.database
+Worked serves heard s s' o o' schema last (Err (fault.Work f)) = (f ≡ work.Unlawful → ⊥) × MayCome heard o o' f × ((user : User) → serves user → FailedWork (quel user) s.mode o o') × SparesBy o o' f
+Worked serves heard s s' o o' schema last (Err (fault.BadFrame at)) = (at ≡ last) × ((user : User) → serves user → MayNotWork (quel user) s.mode o) × ((user : User) → serves user → FailedWork (quel user) s.mode o o') × (o'.database ≡ o.database)
+Worked serves heard s s' o o' schema last _ = ⊥

@@ -113,7 +113,7 @@ pub trait Stage {
         ensures cause { IsCaused (heard self.old)
             (outside B.database B.faults B.clock B.reads H.files H.faults S.left S.given S.faults K.written K.faults K.stalls room.old)
             (outside B.database B.faults B.clock B.reads H.files H.faults S.left S.given S.faults K.written K.faults K.stalls room.new) result }
-        // With an answer no count of the shelf, the source or the sink rose, and with a fault only its own.
+        // With an answer no count of the room rose, and with a fault only its own.
         ensures counts { CountsOnly
             (outside B.database B.faults B.clock B.reads H.files H.faults S.left S.given S.faults K.written K.faults K.stalls room.old)
             (outside B.database B.faults B.clock B.reads H.files H.faults S.left S.given S.faults K.written K.faults K.stalls room.new) result }

@@ -1,6 +1,7 @@
 //! One step of a stage between its two sides.
 
 ghost use Rattle.std.specs.Prelude.{◌≡◌, length};
+ghost use Rattle.net_core.specs.Crashes.{StepCrash};
 ghost use Rattle.net_core.specs.Told.{outside};
 ghost use Rattle.quel_network.specs.Sorts.{User};
 ghost use Rattle.net_core.specs.Incoming.{IsHeld};
@@ -43,6 +44,7 @@ pub(crate) fn step<T: Stage, I: Source, O: Sink, L: Link, B: Base, H: Shelf, S: 
         → Goes past (record {
           state = T.state stage.old;
           outside = outside B.database B.faults B.clock B.reads H.files H.faults S.left S.given S.faults K.written K.faults K.stalls room.old;
+          schema = B.schema room.old.base;
           sides = sides I.left I.faults O.written O.faults O.stalls L.left L.written L.faults L.stalls left_in.old left_out.old right.old;
           talk = talk.old;
           heard = T.heard stage.old;
@@ -50,12 +52,14 @@ pub(crate) fn step<T: Stage, I: Source, O: Sink, L: Link, B: Base, H: Shelf, S: 
         → StepDone (T.serves stage.old) past (record {
           state = T.state stage.old;
           outside = outside B.database B.faults B.clock B.reads H.files H.faults S.left S.given S.faults K.written K.faults K.stalls room.old;
+          schema = B.schema room.old.base;
           sides = sides I.left I.faults O.written O.faults O.stalls L.left L.written L.faults L.stalls left_in.old left_out.old right.old;
           talk = talk.old;
           heard = T.heard stage.old;
         }) (record {
           state = T.state stage.new;
           outside = outside B.database B.faults B.clock B.reads H.files H.faults S.left S.given S.faults K.written K.faults K.stalls room.new;
+          schema = B.schema room.new.base;
           sides = sides I.left I.faults O.written O.faults O.stalls L.left L.written L.faults L.stalls left_in.new left_out.new right.new;
           talk = talk.new;
           heard = T.heard stage.new;
@@ -63,6 +67,9 @@ pub(crate) fn step<T: Stage, I: Source, O: Sink, L: Link, B: Base, H: Shelf, S: 
     ensures room { RoomKept (T.place stage.old) (T.heard stage.old) (T.heard stage.new)
         (outside B.database B.faults B.clock B.reads H.files H.faults S.left S.given S.faults K.written K.faults K.stalls room.old)
         (outside B.database B.faults B.clock B.reads H.files H.faults S.left S.given S.faults K.written K.faults K.stalls room.new) result }
+    ensures crash { StepCrash (T.serves stage.old) (T.state stage.old) (T.state stage.new)
+        (outside B.database B.faults B.clock B.reads H.files H.faults S.left S.given S.faults K.written K.faults K.stalls room.old)
+        (outside B.database B.faults B.clock B.reads H.files H.faults S.left S.given S.faults K.written K.faults K.stalls room.new) (B.left_since room.old.base) (B.left_since room.new.base) (B.schema room.new.base) result }
     ensures serves { (user : User) → T.serves stage.old user → T.serves stage.new user }
     ensures place { T.place stage.new ≡ T.place stage.old }
 {

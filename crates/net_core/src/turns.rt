@@ -68,7 +68,7 @@ pub fn net_turns<A1: Stage, A2: Stage, A3: Stage, A4: Stage, B: Base, H: Shelf, 
     ensures given { CountsHeard (heard_by A1.heard A2.heard A3.heard A4.heard net.old) (heard_by A1.heard A2.heard A3.heard A4.heard net.new) (S.given room.old.source) (S.given room.new.source) }
     // The script is too long exactly where the first stage read more of it than a script may have.
     ensures within { AreNumbered A1.place A2.place A3.place A4.place net.old → Within (A1.heard net.old.one) (A1.heard net.new.one) result }
-    // With an answer no count of the shelf, the source or the sink rose, and with a fault only its own.
+    // With an answer no count of the room rose, and with a fault only its own.
     ensures counts { CountsOnly
         (outside B.database B.faults B.clock B.reads H.files H.faults S.left S.given S.faults K.written K.faults K.stalls room.old)
         (outside B.database B.faults B.clock B.reads H.files H.faults S.left S.given S.faults K.written K.faults K.stalls room.new) result }

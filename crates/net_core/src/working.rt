@@ -1,11 +1,14 @@
 //! A stage works.
 
 ghost use Rattle.std.specs.Prelude.{◌≡◌, OnOk};
+ghost use Rattle.net_core.specs.Crashes.{HandsOver, QuietWithout, StaysDurable, WorkLeaves};
+ghost use Rattle.net_core.specs.Reads.{CountsHeard};
 ghost use Rattle.net_core.specs.Told.{KeepsDatabase, KeepsScript, Later, outside};
 ghost use Rattle.net_core.specs.Wants.{IsToWork};
+ghost use Rattle.quel_network.specs.Quel.{quel};
 ghost use Rattle.quel_network.specs.Sorts.{User};
 ghost use Rattle.net_core.specs.Taking.{Worked};
-ghost use Rattle.net_core.specs.WholeLoop.{EndsKept};
+ghost use Rattle.net_core.specs.WholeLoop.{EndsKept, LoopCounts, LoopWithin};
 
 use crate::loop_fault::LoopFault;
 use crate::{Moved, Room, Stage, WorkFault};
@@ -24,7 +27,7 @@ pub(crate) fn work_on<T: Stage, B: Base, H: Shelf, S: Source, K: Sink>(
     requires { IsToWork (T.state stage.old) }
     ensures worked { Worked (T.serves stage.old) (T.heard stage.old) (T.state stage.old) (T.state stage.new)
         (outside B.database B.faults B.clock B.reads H.files H.faults S.left S.given S.faults K.written K.faults K.stalls room.old)
-        (outside B.database B.faults B.clock B.reads H.files H.faults S.left S.given S.faults K.written K.faults K.stalls room.new) last result }
+        (outside B.database B.faults B.clock B.reads H.files H.faults S.left S.given S.faults K.written K.faults K.stalls room.new) (B.schema room.new.base) last result }
     ensures database { OnOk result (KeepsDatabase
         (outside B.database B.faults B.clock B.reads H.files H.faults S.left S.given S.faults K.written K.faults K.stalls room.old)
         (outside B.database B.faults B.clock B.reads H.files H.faults S.left S.given S.faults K.written K.faults K.stalls room.new)) }
@@ -36,6 +39,21 @@ pub(crate) fn work_on<T: Stage, B: Base, H: Shelf, S: Source, K: Sink>(
         (outside B.database B.faults B.clock B.reads H.files H.faults S.left S.given S.faults K.written K.faults K.stalls room.new) }
     // Only the first stage reads the source and writes to the sink.
     ensures ends { (T.place stage.old ≡ 1 → ⊥) → EndsKept (T.heard stage.old) (T.heard stage.new)
+        (outside B.database B.faults B.clock B.reads H.files H.faults S.left S.given S.faults K.written K.faults K.stalls room.old)
+        (outside B.database B.faults B.clock B.reads H.files H.faults S.left S.given S.faults K.written K.faults K.stalls room.new) result }
+    ensures given { CountsHeard (T.heard stage.old) (T.heard stage.new) (S.given room.old.source) (S.given room.new.source) }
+    ensures within { LoopWithin (T.heard stage.old) (T.heard stage.new) result }
+    ensures counts { LoopCounts
+        (outside B.database B.faults B.clock B.reads H.files H.faults S.left S.given S.faults K.written K.faults K.stalls room.old)
+        (outside B.database B.faults B.clock B.reads H.files H.faults S.left S.given S.faults K.written K.faults K.stalls room.new) result }
+    ensures handed { OnOk result (HandsOver (T.state stage.old) (T.state stage.new) (B.schema room.new.base) (B.database room.new.base)) }
+    ensures crash { (user : User) → T.serves stage.old user → WorkLeaves (quel user) (T.state stage.old).mode
+        (outside B.database B.faults B.clock B.reads H.files H.faults S.left S.given S.faults K.written K.faults K.stalls room.old)
+        (outside B.database B.faults B.clock B.reads H.files H.faults S.left S.given S.faults K.written K.faults K.stalls room.new) (B.left_since room.old.base) (B.left_since room.new.base) }
+    ensures durable { OnOk result (StaysDurable
+        (outside B.database B.faults B.clock B.reads H.files H.faults S.left S.given S.faults K.written K.faults K.stalls room.old)
+        (outside B.database B.faults B.clock B.reads H.files H.faults S.left S.given S.faults K.written K.faults K.stalls room.new) (B.left_since room.old.base) (B.left_since room.new.base)) }
+    ensures quiet { QuietWithout (T.state stage.old)
         (outside B.database B.faults B.clock B.reads H.files H.faults S.left S.given S.faults K.written K.faults K.stalls room.old)
         (outside B.database B.faults B.clock B.reads H.files H.faults S.left S.given S.faults K.written K.faults K.stalls room.new) }
     ensures serves { (user : User) → T.serves stage.old user → T.serves stage.new user }

@@ -1,6 +1,7 @@
 -- What the turns of a list lead to.
 use Rattle.std.proofs.Common.{◌≡◌, ◌⊎◌, inl, inr, refl, sym, ap, subst, ◌∙◌, ◌<◌, ◌≤◌, ℕ, Bool, true, false, List, [], ◌∷◌, ◌++◌, arith}
 use Rattle.network_meaning.specs.Calls.{Moves, MovesIn, RunsTurns, Seen, Tells, Wrote, join, stage_number}
+use Rattle.network_meaning.specs.Ending.{KeepsEnd}
 use Rattle.network_meaning.specs.Going.{AllEnded, SomeGoes, SomeGoes.goes}
 use Rattle.network_meaning.specs.Language.{Language}
 use Rattle.network_meaning.specs.Laws.{Laws}
@@ -14,7 +15,7 @@ use Rattle.network_meaning.specs.WorkLeft.{Work, WorkLaws, work_left}
 use Rattle.network_meaning.proofs.Ends.{whole_at_end}
 use Rattle.network_meaning.proofs.Progress.{progress}
 use Rattle.network_meaning.proofs.Runs.{wrote_more, wrote_nothing}
-use Rattle.network_meaning.proofs.StatementsWhole.{finishes, front_of, fronts, none_at_end}
+use Rattle.network_meaning.proofs.StatementsWhole.{finishes, front_of, fronts, keeps_end, none_at_end, stopped_at_end}
 use Rattle.network_meaning.proofs.Turn.{one_turn}
 use Rattle.network_meaning.proofs.Whole.{Kept, equation, lowers}
 
@@ -70,6 +71,15 @@ behind_front {S} L laws capacity (k ∷ ks) old new (mid, blocked, m, rest) r t 
     fronts L _ _ _ (front_of L _ _ (finishes L laws capacity (stage_number k) (join old.shape r) (join mid.shape x.room') o (step_as L capacity (stage_number k) blocked old mid m r t)))
     (behind_front L laws capacity ks mid new rest x.room' x.told now.orderly)
 
+behind_ends : {S : Sorts} (L : Language S) (laws : Laws L) (capacity : ℕ) (ks : List ℕ) (old new : Seen S) (run : RunsTurns L capacity ks old new) (r : Room S) (t : Tells old.told r)
+    → Orderly L (join old.shape r) → KeepsEnd L (as_messages L (join old.shape r)) (as_messages L (join new.shape (behind L capacity ks old new run r t)))
+behind_ends {S} L laws capacity [] old new e r t o = subst (λ (x : Seen S). KeepsEnd L (as_messages L (join old.shape r)) (as_messages L (join x.shape r))) (sym e) (λ x h. h)
+behind_ends {S} L laws capacity (k ∷ ks) old new (mid, blocked, m, rest) r t o =
+    let x : MovesIn L (stage_number k) blocked old mid r = m.exact r t in
+    let now : Kept L (join old.shape r) (join mid.shape x.room') = step_kept L laws capacity (stage_number k) blocked old mid m r t o in
+    let first = keeps_end L laws capacity (stage_number k) (join old.shape r) (join mid.shape x.room') o (step_as L capacity (stage_number k) blocked old mid m r t) in
+    λ e h. behind_ends L laws capacity ks mid new rest x.room' x.told now.orderly e (first e h)
+
 behind_most : {S : Sorts} (L : Language S) (laws : Laws L) (W : Work L) (wl : WorkLaws L W) (capacity : ℕ) (ks : List ℕ) (old new : Seen S) (run : RunsTurns L capacity ks old new) (r : Room S) (t : Tells old.told r)
     → Orderly L (join old.shape r) → work_left L W (join new.shape (behind L capacity ks old new run r t)) ≤ work_left L W (join old.shape r)
 behind_most {S} L laws W wl capacity [] old new e r t o = subst (λ (x : Seen S). work_left L W (join x.shape r) ≤ work_left L W (join old.shape r)) (sym e) (omega arith)
@@ -120,6 +130,8 @@ runs_lead {S} L laws W wl capacity ks old new run r t o =
       less = λ le all. less all (progress L capacity (join old.shape r) o.phase le o.shows);
       whole = λ ended. sym (whole_at_end L _ o' ended) ∙ kept.same;
       none_left = λ ended. none_at_end L _ o' ended;
+      ends = behind_ends L laws capacity ks old new run r t o;
+      stopped = λ ended e h. stopped_at_end L _ o' ended e (behind_ends L laws capacity ks old new run r t o e h);
     }
   where
     less : HasAll ks → SomeGoes capacity (join old.shape r) ⊎ AllEnded (join old.shape r)

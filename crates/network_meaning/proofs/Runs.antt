@@ -7,8 +7,9 @@ use Rattle.network_meaning.specs.Language.{Language}
 use Rattle.network_meaning.specs.Laws.{Laws}
 use Rattle.network_meaning.specs.LocalSteps.{Room}
 use Rattle.network_meaning.specs.MessageNetwork.{StageNumber}
-use Rattle.network_meaning.specs.Network.{StepsUnlessBlocked}
+use Rattle.network_meaning.specs.Network.{NetworkStep, StepsUnlessBlocked}
 use Rattle.network_meaning.specs.Calls.{join, Seen, Told, Wrote, Moves, MovesIn, stage_number, RunsTurns, KeptNow, KeepsAll}
+use Rattle.network_meaning.proofs.StatementsWhole.{keeps_end}
 use Rattle.network_meaning.proofs.Whole.{Kept, equation}
 
 -- ---- what was written
@@ -26,16 +27,16 @@ wrote_more a b c r s t (xs, is, grew) (ys, is', grew') = (xs ++ ys, is' ∙ ap (
 pub moves_keeps : {S : Sorts} (L : Language S) (laws : Laws L) (capacity : ℕ) (k : StageNumber) (blocked : Bool) (old new : Seen S) → Moves L capacity k blocked old new → KeepsAll L old new
 moves_keeps {S} L laws capacity k blocked old new m r e o =
     let x : MovesIn L k blocked old new r = m.exact r e in
-    let kept : Kept L (join old.shape r) (join new.shape x.room') =
-    equation L laws capacity k (join old.shape r) (join new.shape x.room') o (subst (λ b. StepsUnlessBlocked L k (join old.shape r) (join new.shape x.room') b) (sym (m.is r)) x.step) in
-    record { room = x.room'; told = x.told; wrote = x.wrote; orderly = kept.orderly; same = kept.same }
+    let step : NetworkStep L capacity k (join old.shape r) (join new.shape x.room') = subst (λ b. StepsUnlessBlocked L k (join old.shape r) (join new.shape x.room') b) (sym (m.is r)) x.step in
+    let kept : Kept L (join old.shape r) (join new.shape x.room') = equation L laws capacity k (join old.shape r) (join new.shape x.room') o step in
+    record { room = x.room'; told = x.told; wrote = x.wrote; orderly = kept.orderly; same = kept.same; ends = keeps_end L laws capacity k (join old.shape r) (join new.shape x.room') o step }
 
 pub runs_keeps : {S : Sorts} (L : Language S) (laws : Laws L) (capacity : ℕ) (ks : List ℕ) (old new : Seen S) → RunsTurns L capacity ks old new → KeepsAll L old new
-runs_keeps {S} L laws capacity [] old new e r t o = rw e (record { room = r; told = t; wrote = wrote_nothing old.told r; orderly = o; same = refl })
+runs_keeps {S} L laws capacity [] old new e r t o = rw e (record { room = r; told = t; wrote = wrote_nothing old.told r; orderly = o; same = refl; ends = λ e h. h })
 runs_keeps {S} L laws capacity (k ∷ ks) old new (mid, blocked, m, rest) r t o =
     let now : KeptNow L r old mid = moves_keeps L laws capacity (stage_number k) blocked old mid m r t o in
     let later : KeptNow L now.room mid new = runs_keeps L laws capacity ks mid new rest now.room now.told now.orderly in
-    record { room = later.room; told = later.told; wrote = wrote_more old.told mid.told new.told r now.room later.room now.wrote later.wrote; orderly = later.orderly; same = later.same ∙ now.same }
+    record { room = later.room; told = later.told; wrote = wrote_more old.told mid.told new.told r now.room later.room now.wrote later.wrote; orderly = later.orderly; same = later.same ∙ now.same; ends = λ e h. later.ends e (now.ends e h) }
 
 Runs-more : {S : Sorts} (L : Language S) (capacity : ℕ) (ks : List ℕ) (k : ℕ) (blocked : Bool) (a b c : Seen S) → RunsTurns L capacity ks a b → Moves L capacity (stage_number k) blocked b c → RunsTurns L capacity (ks ++ k ∷ []) a c
 Runs-more {S} L capacity [] k blocked a b c e m = (c, blocked, subst (λ (x : Seen S). Moves L capacity (stage_number k) blocked x c) e m, refl)

@@ -10,7 +10,8 @@ use Rattle.network_meaning.specs.Frames.{is_more}
 use Rattle.network_meaning.specs.LocalSteps.{Mode, Want, Act, Works, Room}
 use Rattle.network_meaning.specs.LocalSteps.{Want.take_left, Want.take_right, Want.give_left, Want.give_right, Want.work}
 use Rattle.network_meaning.specs.MessageNetwork.{StageNumber, StageNumber.first, StageNumber.second, StageNumber.third, StageNumber.fourth}
-use Rattle.network_meaning.specs.Network.{LocalState, Between, Network, between, want, done_act, HasTakenLeft, HasTakenRight, is_stuck, StepsUnlessBlocked, StepsUnlessBlockedBy, Orderly, bytes_in_all}
+use Rattle.network_meaning.specs.Ending.{KeepsEnd}
+use Rattle.network_meaning.specs.Network.{LocalState, Between, Network, as_messages, between, want, done_act, HasTakenLeft, HasTakenRight, is_stuck, StepsUnlessBlocked, StepsUnlessBlockedBy, Orderly, bytes_in_all}
 use Rattle.network_meaning.specs.Lawful.{FitWork}
 use Rattle.network_meaning.specs.WorkShape.{WorkShape, WorksInShape}
 
@@ -135,13 +136,14 @@ abbrev pub RunsTurns : {S : Sorts} → Language S → ℕ → List ℕ → Seen 
 RunsTurns L capacity [] old new = new ≡ old
 RunsTurns {S} L capacity (k ∷ ks) old new = (mid : Seen S) × (blocked : Bool) × Moves L capacity (stage_number k) blocked old mid × RunsTurns L capacity ks mid new
 
--- from an orderly network with a room that is told: it is orderly and told again, the bytes in all are the same, and what was written grew as from that room to this
+-- from an orderly network with a room that is told: it is orderly and told again, the bytes in all are the same, what was written grew as from that room to this, and the session ends as it was to end
 pub record KeptNow {S : Sorts} (L : Language S) (r : Room S) (old new : Seen S) : Type 0 where
   pub room : Room S
   pub told : Tells new.told room
   pub wrote : Wrote old.told new.told r room
   pub orderly : Orderly L (join new.shape room)
   pub same : bytes_in_all L (join new.shape room) ≡ bytes_in_all L (join old.shape r)
+  pub ends : KeepsEnd L (as_messages L (join old.shape r)) (as_messages L (join new.shape room))
 
 -- from each orderly network with a room that is told it is kept so
 abbrev pub KeepsAll : {S : Sorts} → Language S → Seen S → Seen S → Type 0

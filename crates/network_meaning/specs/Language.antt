@@ -1,7 +1,7 @@
 -- The functions that the equation is about.
-use Rattle.std.specs.Prelude.{◌≡◌, ℕ, Bool, List, [], ◌∷◌, ◌++◌, ⊤}
+use Rattle.std.specs.Prelude.{◌≡◌, ℕ, Bool, true, false, List, [], ◌∷◌, ◌++◌, ⊤}
 use Rattle.std.specs.declared.option.Option.{Option}
-use Rattle.network_meaning.specs.Sorts.{Sorts, Message, Table, Outcome, Meaning, Next, Event, Read, After, Finished, Kind}
+use Rattle.network_meaning.specs.Sorts.{Sorts, Message, Table, Outcome, Meaning, Next, Event, Read, After, Finished, SessionEnd, Kind}
 use Rattle.network_meaning.specs.Sorts.{Outcome.tables, Outcome.made, Outcome.refuses, Meaning.names, Meaning.objects, Meaning.runs, Next.no_more, Next.bad, Next.found, Event.goes_on, Event.sends, Event.leaves}
 
 -- what a language means and how it is spelled: statements, batches, scripts, trees and the heads of what they ask for, changes, printed bytes, the bytes of a message, and the message that bytes of a kind are read as
@@ -30,6 +30,9 @@ pub record Language (S : Sorts) : Type 1 where
   -- the statements that run, in order: each that `next` finds, also where stage 2 settles or refuses it, and no syntax refusal
   pub batch_statements : S.Db → S.Shelf → S.Ranges → S.Batch → List (Finished S)
   pub script_statements : S.Db → S.Shelf → S.Ranges → S.Monitor → S.Script → List (Finished S)
+  -- where the session ends, and whether nothing is left of a script
+  pub script_end : S.Db → S.Shelf → S.Ranges → S.Monitor → S.Script → SessionEnd S
+  pub is_over : S.Script → Bool
 
 -- the rows of a table, a line for each
 abbrev pub lines_of : {S : Sorts} → Language S → S.Head → List S.Row → List ℕ
@@ -122,3 +125,17 @@ statements_after_event L db ranges got (sends t) =
     let a = L.batch_runs db got.shelf ranges (L.start t) in
     followed_by (L.script_bytes a.db a.shelf a.ranges got.monitor got.script) (L.batch_statements db got.shelf ranges (L.start t)) ++ L.script_statements a.db a.shelf a.ranges got.monitor got.script
 statements_after_event L db ranges got leaves = []
+
+-- the session has come to this end: these are its database and its shelf, and unless a command ended it nothing is left of the script
+pub record HasStopped {S : Sorts} (L : Language S) (db : S.Db) (shelf : S.Shelf) (script : S.Script) (e : SessionEnd S) : Type 0 where
+  pub database : db ≡ e.db
+  pub files : shelf ≡ e.shelf
+  pub read : e.quit ≡ false → L.is_over script ≡ true
+
+-- from where the monitor stands, after an event, the session ends so
+abbrev pub EndsAfter : {S : Sorts} → Language S → S.Db → S.Ranges → Read S → Event S → SessionEnd S → Type 0
+EndsAfter L db ranges got goes_on e = L.script_end db got.shelf ranges got.monitor got.script ≡ e
+EndsAfter L db ranges got (sends t) e =
+    let a = L.batch_runs db got.shelf ranges (L.start t) in
+    L.script_end a.db a.shelf a.ranges got.monitor got.script ≡ e
+EndsAfter L db ranges got leaves e = HasStopped L db got.shelf got.script e

@@ -2,7 +2,7 @@
 use Rattle.std.specs.Prelude.{◌≡◌, ◌<◌, ℕ, true, false, List, [], ◌∷◌, map, length, Some, ⊤}
 use Rattle.network_meaning.specs.Sorts.{Sorts, Message, Table, Outcome.tables, Outcome.refuses, Meaning.objects, Next.bad, Event.sends}
 use Rattle.network_meaning.specs.Sorts.{Cargo.tree, Cargo.change, Reply.done, Reply.refused, Said.shown, Said.replied, Message.text, Message.cargo, Message.said, Message.end, Message.quit}
-use Rattle.network_meaning.specs.Language.{Language, Stand, tops, after_next, after_event, statements_after_next, statements_after_event}
+use Rattle.network_meaning.specs.Language.{Language, Stand, EndsAfter, tops, after_next, after_event, statements_after_next, statements_after_event}
 use Rattle.network_meaning.specs.Frames.{may_be_cut}
 use Rattle.network_meaning.specs.LocalSteps.{all_shown}
 use Rattle.network_meaning.specs.Spelled.{Spelled, EachSpelled, IsLine}
@@ -23,6 +23,7 @@ pub record Laws {S : Sorts} (L : Language S) : Type 0 where
   pub script : (db : S.Db) (shelf : S.Shelf) (ranges : S.Ranges) (m : S.Monitor) (script : S.Script) → L.script_bytes db shelf ranges m script ≡ (let got = L.read m script shelf in after_event L db ranges got got.event)
   pub batch_list : (db : S.Db) (shelf : S.Shelf) (ranges : S.Ranges) (b : S.Batch) → L.batch_statements db shelf ranges b ≡ statements_after_next L db shelf ranges (L.next b)
   pub script_list : (db : S.Db) (shelf : S.Shelf) (ranges : S.Ranges) (m : S.Monitor) (script : S.Script) → L.script_statements db shelf ranges m script ≡ (let got = L.read m script shelf in statements_after_event L db ranges got got.event)
+  pub script_ends : (db : S.Db) (shelf : S.Shelf) (ranges : S.Ranges) (m : S.Monitor) (script : S.Script) → (let got = L.read m script shelf in EndsAfter L db ranges got got.event (L.script_end db shelf ranges m script))
   pub batch_places : (db : S.Db) (shelf : S.Shelf) (ranges : S.Ranges) (b : S.Batch) → Stand (L.batch_runs db shelf ranges b).bytes (L.batch_statements db shelf ranges b)
   pub script_places : (db : S.Db) (shelf : S.Shelf) (ranges : S.Ranges) (m : S.Monitor) (script : S.Script) → Stand (L.script_bytes db shelf ranges m script) (L.script_statements db shelf ranges m script)
   -- the tables of a tree have the heads that it asks for, whatever the database is

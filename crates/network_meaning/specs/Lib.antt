@@ -1,5 +1,6 @@
 pub mod Calls
 pub mod Due
+pub mod Ending
 pub mod Failing
 pub mod Frames
 pub mod Going

@@ -1,5 +1,5 @@
 -- What the four stages speak about, and the messages that they send one another.
-use Rattle.std.specs.Prelude.{ℕ, List}
+use Rattle.std.specs.Prelude.{ℕ, Bool, List}
 
 -- what a language speaks about; a monitor is where stage 1 stands in a script, ranges are what variables range over, a text is a batch as it is sent
 pub record Sorts : Type 1 where
@@ -94,6 +94,12 @@ pub record Finished (S : Sorts) : Type 0 where
   pub reply : List ℕ
   pub db : S.Db
   pub later : List ℕ
+
+-- where a session ends: the database and the shelf then, and whether a command ended it
+pub record SessionEnd (S : Sorts) : Type 0 where
+  pub db : S.Db
+  pub shelf : S.Shelf
+  pub quit : Bool
 
 -- what a tree asks for
 pub data Kind : Type 0 where

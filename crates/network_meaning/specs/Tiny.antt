@@ -1,8 +1,8 @@
 -- A small language: each byte of the script is a batch of one statement.
 -- A byte below 128 is added to the database, any other asks for all of it, and 0 is refused.
-use Rattle.std.specs.Prelude.{◌==◌, ℕ, true, List, [], ◌∷◌, ◌++◌, Some, None, nat_lt, if◌then◌else◌, ⊤}
+use Rattle.std.specs.Prelude.{◌==◌, ℕ, Bool, true, false, List, [], ◌∷◌, ◌++◌, Some, None, nat_lt, if◌then◌else◌, ⊤}
 use Rattle.std.specs.declared.option.Option.{Option}
-use Rattle.network_meaning.specs.Sorts.{Sorts, Message, Table, Outcome, Next, Read, After, Finished, Kind}
+use Rattle.network_meaning.specs.Sorts.{Sorts, Message, Table, Outcome, Next, Read, After, Finished, SessionEnd, Kind}
 use Rattle.network_meaning.specs.Sorts.{Cargo.tree, Cargo.change, Shown.head, Shown.row, Reply.done, Reply.refused, Said.shown, Said.replied, Message.text, Message.cargo, Message.said, Message.end, Message.quit, Outcome.tables, Outcome.made, Outcome.refuses, Meaning.runs, Next.no_more, Next.found, Event.sends, Event.leaves, Kind.answer, Kind.update}
 use Rattle.network_meaning.specs.Language.{Language, db_after, shelf_after, followed_by}
 
@@ -126,6 +126,18 @@ tiny_list db shelf ranges m (x ∷ xs) =
     let a = tiny_batch db shelf ranges (Some x) in
     followed_by {S = tiny_sorts} (tiny_script a.db a.shelf a.ranges m xs) (tiny_statements db shelf ranges (Some x)) ++ tiny_list a.db a.shelf a.ranges m xs
 
+-- the database behind all statements of the script; no command ends a session
+abbrev pub tiny_end : List ℕ → One → One → One → List ℕ → SessionEnd tiny_sorts
+tiny_end db shelf ranges m [] = record { db = db; shelf = shelf; quit = false }
+tiny_end db shelf ranges m (x ∷ xs) =
+    let a = tiny_batch db shelf ranges (Some x) in
+    tiny_end a.db a.shelf a.ranges m xs
+
+-- nothing is left
+abbrev pub tiny_over : List ℕ → Bool
+tiny_over [] = true
+tiny_over (x ∷ xs) = false
+
 -- the small language
 abbrev pub tiny : Language tiny_sorts
 tiny = record {
@@ -152,4 +164,6 @@ tiny = record {
   script_bytes = tiny_script;
   batch_statements = tiny_statements;
   script_statements = tiny_list;
+  script_end = tiny_end;
+  is_over = tiny_over;
 }

@@ -2,11 +2,11 @@
 use Rattle.std.proofs.Common.{◌≡◌, ◌<◌, ◌==◌, if◌then◌else◌, nat_lt, ℕ, Bool, true, false, List, [], ◌∷◌, ◌++◌, Some, None, refl, sym, ap, ◌∙◌, append_assoc, length, arith}
 use Rattle.std.specs.declared.option.Option.{Option}
 use Rattle.network_meaning.specs.Sorts.{Message, Cargo.tree, Cargo.change, Shown.head, Shown.row, Reply.done, Reply.refused, Said.shown, Said.replied, Message.text, Message.cargo, Message.said, Message.end, Message.quit, Table, After, Finished, Outcome, Outcome.tables, Outcome.made, Outcome.refuses}
-use Rattle.network_meaning.specs.Language.{tops, db_after, shelf_after, Stand, after_next, after_event, statements_after_next, statements_after_event, reply_bytes, lines_of, tables_bytes}
+use Rattle.network_meaning.specs.Language.{tops, db_after, shelf_after, EndsAfter, Stand, after_next, after_event, statements_after_next, statements_after_event, reply_bytes, lines_of, tables_bytes}
 use Rattle.network_meaning.specs.Frames.{kind_of, may_be_cut}
 use Rattle.network_meaning.specs.Spelled.{EachSpelled}
 use Rattle.network_meaning.specs.Laws.{Laws, RowsFit, TablesFit}
-use Rattle.network_meaning.specs.Tiny.{tiny, tiny_sorts, tiny_ran, tiny_table, tiny_heads, tiny_batch, tiny_reply, tiny_statements, tiny_list, tiny_tables, tiny_payload, tiny_message, tiny_next, tiny_script, tiny_read, One, One.one}
+use Rattle.network_meaning.specs.Tiny.{tiny, tiny_sorts, tiny_ran, tiny_table, tiny_heads, tiny_batch, tiny_reply, tiny_statements, tiny_list, tiny_end, tiny_tables, tiny_payload, tiny_message, tiny_next, tiny_script, tiny_read, One, One.one}
 
 lines : (rs : List ℕ) (xs : List ℕ) → lines_of tiny one rs ++ xs ≡ rs ++ xs
 lines [] xs = refl
@@ -59,6 +59,10 @@ list_law : (db : List ℕ) (shelf ranges m : One) (script : List ℕ) → tiny_l
 list_law db shelf ranges m [] = refl
 list_law db shelf ranges m (x ∷ xs) = refl
 
+ends_law : (db : List ℕ) (shelf ranges m : One) (script : List ℕ) → (let got = tiny_read m script shelf in EndsAfter tiny db ranges got got.event (tiny_end db shelf ranges m script))
+ends_law db shelf ranges m [] = record { database = refl; files = refl; read = λ e. refl }
+ends_law db shelf ranges m (x ∷ xs) = refl
+
 batch_places : (db : List ℕ) (shelf ranges : One) (b : Option ℕ) → Stand {S = tiny_sorts} (tiny_batch db shelf ranges b).bytes (tiny_statements db shelf ranges b)
 batch_places db shelf ranges None = tt
 batch_places db shelf ranges (Some n) = ([], refl, tt)
@@ -100,6 +104,7 @@ tiny_laws = record {
   script = script_law;
   batch_list = statements_law;
   script_list = list_law;
+  script_ends = ends_law;
   batch_places = batch_places;
   script_places = script_places;
   heads = heads_law;

@@ -3,11 +3,13 @@
 
 ghost use Rattle.std.specs.Prelude.{◌≡◌, ◌<◌, ◌≤◌, ◌⊎◌, ◌++◌, ℕ, true, false, List};
 ghost use Rattle.network_meaning.specs.Calls.{KeepsAll, RunsTurns, Seen};
+ghost use Rattle.network_meaning.specs.Ending.{Ends, KeepsEnd};
 ghost use Rattle.network_meaning.specs.Going.{AllEnded, SomeGoes};
+ghost use Rattle.network_meaning.specs.Language.{HasStopped};
 ghost use Rattle.network_meaning.specs.LocalSteps.{Act, Mode, Room, Works};
 ghost use Rattle.network_meaning.specs.MessageNetwork.{StageNumber};
 ghost use Rattle.network_meaning.specs.Network.{Network, NetworkStep, as_messages, Orderly, StepsUnlessBlocked, bytes_in_all, start};
-ghost use Rattle.network_meaning.specs.Sorts.{Sorts};
+ghost use Rattle.network_meaning.specs.Sorts.{SessionEnd, Sorts};
 ghost use Rattle.network_meaning.specs.Turn.{has_turn, turns};
 ghost use Rattle.network_meaning.specs.WorkLeft.{Work, WorkLaws, work_left};
 
@@ -36,6 +38,19 @@ pub fn bytes_are_whole_at_the_end<T: Spoken>()
     ensures start { (user : T.User) (m : T.sorts.Monitor) (ranges : T.sorts.Ranges) (room : Room T.sorts) → Orderly (T.language user) (start m ranges room)
         × (bytes_in_all (T.language user) (start m ranges room) ≡ room.out ++ (T.language user).script_bytes room.db room.shelf ranges m room.script) }
     ensures end { (user : T.User) (n : Network T.sorts) → Orderly (T.language user) n → AllEnded n → bytes_in_all (T.language user) n ≡ n.room.out }
+{}
+
+/// Where a session ends stays the same over each step of an orderly network: its database, its shelf, and
+/// whether a command ended it. At the start it is the end of the script's session; and where all four
+/// stages have ended, the database and the shelf are those of the end, and nothing is left of the script
+/// unless a command ended the session.
+pub fn each_step_keeps_the_end<T: Spoken>()
+    ensures step { (user : T.User) (capacity : ℕ) (k : StageNumber) (n new : Network T.sorts) → Orderly (T.language user) n → NetworkStep (T.language user) capacity k n new
+        → KeepsEnd (T.language user) (as_messages (T.language user) n) (as_messages (T.language user) new) }
+    ensures start { (user : T.User) (m : T.sorts.Monitor) (ranges : T.sorts.Ranges) (room : Room T.sorts)
+        → Ends (T.language user) (as_messages (T.language user) (start m ranges room)) ((T.language user).script_end room.db room.shelf ranges m room.script) }
+    ensures end { (user : T.User) (n : Network T.sorts) (e : SessionEnd T.sorts) → Orderly (T.language user) n → AllEnded n → Ends (T.language user) (as_messages (T.language user) n) e
+        → HasStopped (T.language user) n.room.db n.room.shelf n.room.script e }
 {}
 
 /// In an orderly network the turn is in one place: at one stage, or in one message on its way. A stage

@@ -1,5 +1,5 @@
 -- A script that no stage has begun.
-use Rattle.std.proofs.Common.{◌≡◌, refl, ap, ◌∙◌, ℕ, List, [], ◌∷◌, map, length}
+use Rattle.std.proofs.Common.{◌≡◌, refl, ap, ◌∙◌, ℕ, true, List, [], ◌∷◌, map, length}
 use Rattle.std.specs.Prelude.{◌+◌}
 use Rattle.calculus.specs.Database.{Db}
 use Rattle.quel_meaning.specs.Happening.{Setting, Event, Wrote, Ran, After, over, start}
@@ -9,7 +9,7 @@ use Rattle.quel_meaning.specs.Session.{databases_after, endings_from, files_of, 
 use Rattle.quel_meaning.specs.State.{State}
 use Rattle.quel_meaning.proofs.LeftOpen.{only_the_script}
 use Rattle.quel_network.specs.Quel.{quel, setting_for}
-use Rattle.quel_network.specs.Session.{finished, after_script_at}
+use Rattle.quel_network.specs.Session.{end_of, finished, is_read, after_script_at}
 use Rattle.quel_network.specs.Sorts.{User, first_monitor}
 
 -- what is left is the script, as a session has it
@@ -49,3 +49,15 @@ pub replies_at_start : (user : User) (state : State) (script : List ℕ)
 unfolding quel session session_of session_of_lines
 replies_at_start user state script =
     replies_of 0 (after_script_at (setting_for user) state.db state.shelf state.ranges first_monitor script).events ∙ ap (λ (a : After). map (λ e. e.reply) (endings_from 0 a.events)) (all_lines (setting_for user) state script)
+
+-- the end of a script
+pub end_at_start : (user : User) (state : State) (script : List ℕ)
+    → (quel user).script_end state.db state.shelf state.ranges first_monitor script ≡ (let s = session user.reading user.asker state script in record { db = s.state.db; shelf = s.state.shelf; quit = s.quit })
+unfolding quel session session_of session_of_lines
+end_at_start user state script = ap end_of (all_lines (setting_for user) state script)
+
+-- a script of which nothing is left
+pub nothing_left : (user : User) (script : List ℕ) → (quel user).is_over script ≡ true → script ≡ []
+unfolding quel
+nothing_left user [] e = refl
+nothing_left user (b ∷ bytes) e = absurd (cc e)

@@ -8,23 +8,25 @@ use Rattle.std.proofs.lemmas.List.FromFn.{length-enumerate_from}
 use Rattle.calculus.specs.declared.query.RelKey.{RelKey}
 use Rattle.calculus.specs.declared.schema.Attr.{Attr}
 use Rattle.calculus.specs.declared.schema.RelInfo.{RelInfo}
+use Rattle.calculus.specs.declared.value.Domain.TheVariants.{C}
 use Rattle.calculus.specs.declared.value.Kind.{Kind}
+use Rattle.calculus.specs.declared.value.Kind.TheVariants.{Of}
+use Rattle.calculus.specs.declared.value.Value.TheVariants.{Text}
 use Rattle.calculus.specs.Catalogue.{is_catalogue_name, relation_key, attribute_key, relation_info, attribute_info, relation_attrs, attribute_attrs, all_entries, column_count, relation_row, format_text, attribute_row, attribute_rows, catalogue_at}
 use Rattle.calculus.specs.Database.{Db, Relation, Index, entries, is_relation}
-use Rattle.calculus.specs.IsDatabase.{IsDatabase, key_is_named, attrs_stand, keys_stand, is_kind, index_stands, structure_stands, view_info_stands}
+use Rattle.calculus.specs.IsDatabase.{IsDatabase, value_fits, key_is_named, attrs_stand, keys_stand, is_kind, index_stands, structure_stands, view_info_stands}
 use Rattle.calculus.specs.Keys.{same_key}
 use Rattle.calculus.specs.Lists.{is_any, differ_by}
 use Rattle.calculus.specs.Name.{is_name}
 use Rattle.calculus.specs.Rows.{Row, set_of}
 use Rattle.calculus.specs.Structures.{is_index, is_keyed, is_view, is_structure}
-use Rattle.calculus.specs.Text.{is_text}
 use Rattle.quel_meaning.proofs.DatabaseFacts.{stood}
 use Rattle.quel_meaning.proofs.Each.{Each, both_of, in_map, in_flat_map, each_to, each_passes}
 use Rattle.quel_meaning.proofs.FitMade.{both_hold}
-use Rattle.quel_network.specs.NumberRange.{small_bits}
+use Rattle.quel_network.specs.NumberRange.{short_number}
 use Rattle.quel_network.specs.Parts.{no_items, flat_map_short, in_set, set_short}
 use Rattle.quel_network.specs.Suiting.{RowSuits}
-use Rattle.quel_network.specs.TextFacts.{name_is_text, spec_is_text, format_is_text}
+use Rattle.quel_network.specs.TextFacts.{name_fits, spec_fits, format_fits}
 
 -- the kinds of attributes
 abbrev pub attr_kinds : List Attr → List Kind
@@ -42,15 +44,15 @@ RelationStands (Some r) = RowsStand r
 
 -- ---- entries
 
--- what is told of an attribute are texts
+-- what is told of an attribute are texts, no longer than they may be
 record AttrTells (a : Attr) : Type 0 where
-  name : IsTrue (is_text a.name)
-  format : IsTrue (is_text (format_text a.kind))
+  name : IsTrue (value_fits (Text a.name) (Of (C 12)))
+  format : IsTrue (value_fits (Text (format_text a.kind)) (Of (C 4)))
 
--- what is told of an entry's key are texts
+-- what is told of an entry's key are texts, no longer than they may be
 record KeyTells (i : RelInfo) : Type 0 where
-  name : IsTrue (is_text i.key.name)
-  owner : IsTrue (is_text i.key.owner)
+  name : IsTrue (value_fits (Text i.key.name) (Of (C 12)))
+  owner : IsTrue (value_fits (Text i.key.owner) (Of (C 12)))
 
 -- what is told of an entry's attributes are texts, and both they and key attributes are few
 record AttrsTell (i : RelInfo) : Type 0 where
@@ -66,12 +68,12 @@ record Tells (i : RelInfo) : Type 0 where
 key_tells : (i : RelInfo) → IsTrue (key_is_named i.key) → KeyTells i
 key_tells i h =
     let parts = and_parts (is_name i.key.owner) (is_name i.key.name && not (is_catalogue_name i.key.name)) h in
-    record { name = name_is_text i.key.name (and_parts (is_name i.key.name) (not (is_catalogue_name i.key.name)) parts.1).0; owner = name_is_text i.key.owner parts.0 }
+    record { name = name_fits i.key.name (and_parts (is_name i.key.name) (not (is_catalogue_name i.key.name)) parts.1).0; owner = name_fits i.key.owner parts.0 }
 
 attrs_tell : (attrs : List Attr) → IsTrue (attrs_stand attrs) → Each AttrTells attrs
 attrs_tell attrs h =
     let facts = stood attrs h in
-    both_hold (λ a. IsTrue (is_name a.name)) (λ a. IsTrue (is_kind a.kind)) AttrTells (λ a n k. record { name = name_is_text a.name n; format = format_is_text a.kind k }) attrs
+    both_hold (λ a. IsTrue (is_name a.name)) (λ a. IsTrue (is_kind a.kind)) AttrTells (λ a n k. record { name = name_fits a.name n; format = format_fits a.kind k }) attrs
     (each_passes (λ a. is_name a.name) attrs facts.named) (each_passes (λ a. is_kind a.kind) attrs facts.kinds)
 
 standing_tell : (i : RelInfo) → IsTrue (attrs_stand i.attrs) → length i.keys ≤ 49 → AttrsTell i
@@ -129,14 +131,14 @@ entries_tell db is =
 relation_tells : (db : Db) → IsTrue (is_name db.dba) → Tells (relation_info db)
 unfolding is_name
 relation_tells db h = record {
-  key = record { name = name_is_text (codes "relation") refl; owner = name_is_text db.dba h };
+  key = record { name = name_fits (codes "relation") refl; owner = name_fits db.dba h };
   attrs = standing_tell (relation_info db) refl (omega arith);
 }
 
 attribute_tells : (db : Db) → IsTrue (is_name db.dba) → Tells (attribute_info db)
 unfolding is_name
 attribute_tells db h = record {
-  key = record { name = name_is_text (codes "attribute") refl; owner = name_is_text db.dba h };
+  key = record { name = name_fits (codes "attribute") refl; owner = name_fits db.dba h };
   attrs = standing_tell (attribute_info db) refl (omega arith);
 }
 
@@ -170,10 +172,10 @@ columns_few i t = go (is_index i.spec)
 relation_row_suits : (i : RelInfo) → Tells i → RowSuits relation_kinds (relation_row i)
 relation_row_suits i t =
     let few = columns_few i t in
-    (t.key.name, (t.key.owner, (spec_is_text i.spec, (small_bits (column_count i) (omega (arith, few)), tt))))
+    (t.key.name, (t.key.owner, (spec_fits i.spec, (short_number (column_count i) (omega (arith, few)), tt))))
 
 attribute_row_suits : (i : RelInfo) (n : ℕ) (a : Attr) → KeyTells i → AttrTells a → n ≤ 1000 → RowSuits attribute_kinds (attribute_row i.key n a)
-attribute_row_suits i n a k t few = (k.name, (k.owner, (small_bits n (omega (arith, few)), (t.name, (t.format, tt)))))
+attribute_row_suits i n a k t few = (k.name, (k.owner, (short_number n (omega (arith, few)), (t.name, (t.format, tt)))))
 
 numbered_suit : (i : RelInfo) (n : ℕ) (attrs : List Attr) → KeyTells i → Each AttrTells attrs → n + length attrs ≤ 1000
     → Each (RowSuits attribute_kinds) (map (λ p. attribute_row i.key p.0 p.1) (enumerate_from n attrs))

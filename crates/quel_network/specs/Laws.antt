@@ -3,6 +3,7 @@ use Rattle.network_meaning.specs.Laws.{Laws}
 use Rattle.quel_network.specs.Quel.{quel}
 use Rattle.quel_network.specs.Sorts.{User}
 use Rattle.quel_network.specs.SessionLaws.{batch_law, batch_list_law, batch_places_law, script_law, script_list_law, script_places_law}
+use Rattle.quel_network.specs.EndLaws.{ends_law}
 use Rattle.quel_network.specs.ShortLaws.{short_law}
 use Rattle.quel_network.specs.SpellingLaws.{text_spelled_law, tree_spelled_law, change_spelled_law, outcome_spelled_law, objection_spelled_law, syntax_spelled_law, line_spelled_law, done_spelled_law, end_spelled_law, quit_spelled_law}
 use Rattle.quel_network.specs.TableLaws.{heads_law, rows_law, tables_spelled_law}
@@ -15,6 +16,7 @@ quel_laws user = record {
   script = script_law user;
   batch_list = batch_list_law user;
   script_list = script_list_law user;
+  script_ends = ends_law user;
   batch_places = batch_places_law user;
   script_places = script_places_law user;
   heads = heads_law user;

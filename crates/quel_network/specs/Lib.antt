@@ -9,6 +9,7 @@ pub mod BatchLaws
 pub mod MeaningLaws
 pub mod PartLaws
 pub mod ScriptLaws
+pub mod EndLaws
 pub mod SessionLaws
 pub mod CodecLaws
 pub mod RefusalLaws

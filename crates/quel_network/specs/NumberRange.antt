@@ -9,14 +9,20 @@ use Rattle.std.proofs.lemmas.Int.{ints}
 use Rattle.std.specs.Int.Signed.{mag}
 use Rattle.calculus.specs.declared.operator.ArithOp.{ArithOp}
 use Rattle.calculus.specs.declared.operator.ArithOp.TheVariants.{Add, Sub, Mul, Div, Pow, Mod}
+use Rattle.calculus.specs.declared.value.Domain.TheVariants.{I1, I2, I4, C}
+use Rattle.calculus.specs.declared.value.Kind.{Kind}
+use Rattle.calculus.specs.declared.value.Kind.TheVariants.{Of, Wide}
 use Rattle.calculus.specs.declared.value.Value.{Value}
 use Rattle.calculus.specs.declared.value.Value.TheVariants.{Int, Text}
 use Rattle.calculus.specs.Aggregate.{total, average}
 use Rattle.calculus.specs.Number.{has_64_bits, number, opposite, without_sign, is_zero, repeated, operated}
 use Rattle.calculus.specs.Term.{number_value, of_number, opposite_value, value_without_sign, operated_values}
-use Rattle.calculus.specs.Value.{is_within}
+use Rattle.calculus.specs.IsDatabase.{value_fits}
+use Rattle.calculus.specs.Kinds.{is_number_kind}
+use Rattle.calculus.specs.Text.{is_text}
+use Rattle.calculus.specs.Value.{fits, is_within, number_fits}
 use Rattle.quel_meaning.proofs.Each.{Each}
-use Rattle.quel_network.specs.Suiting.{Suits, GivesBy}
+use Rattle.quel_network.specs.Suiting.{Suits, SuitsKind, GivesBy}
 
 -- ---- what has 64 bits
 
@@ -65,6 +71,22 @@ fits_bits (negsuc n) f = negative_bits n (omega (arith, f.sfits))
 pub within_bits : (low high : ℕ) → low ≤ 9223372036854775807 → high ≤ 9223372036854775807 → (z : ℤ) → IsTrue (is_within (negsuc low) z (pos high)) → IsTrue (has_64_bits z)
 within_bits low high least most (pos n) h = let few = not_above low high n h in small_bits n (omega (arith, few, most))
 within_bits low high least most (negsuc n) h = let few = not_below low high n h in negative_bits n (omega (arith, few, least))
+
+-- a small number is one of 16 bits
+pub short_number : (n : ℕ) → n ≤ 32767 → IsTrue (number_fits (pos n) I2)
+short_number n h = ordered n 32767 h
+
+-- a value of a kind is a number of 64 bits where the kind is one of numbers, else a text
+pub kind_suits : (k : Kind) (v : Value) → SuitsKind k v → Suits (is_number_kind k) v
+kind_suits Wide v h = h
+kind_suits (Of I1) (Int z) h = within_bits 127 127 (omega arith) (omega arith) z h
+kind_suits (Of I2) (Int z) h = within_bits 32767 32767 (omega arith) (omega arith) z h
+kind_suits (Of I4) (Int z) h = within_bits 2147483647 2147483647 (omega arith) (omega arith) z h
+kind_suits (Of (C width)) (Int z) h = absurd (cc h)
+kind_suits (Of I1) (Text bytes) h = absurd (cc h)
+kind_suits (Of I2) (Text bytes) h = absurd (cc h)
+kind_suits (Of I4) (Text bytes) h = absurd (cc h)
+kind_suits (Of (C width)) (Text bytes) h = (and_parts (fits (Text bytes) (C width)) (is_text bytes) h).1
 
 -- ---- operations
 

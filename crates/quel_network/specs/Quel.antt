@@ -5,7 +5,7 @@ use Rattle.quel_meaning.specs.Printed.{head_bytes, row_line, rule_bytes, done_by
 use Rattle.quel_meaning.specs.Session.{setting_of, printed}
 use Rattle.calculus.specs.Change.{laid}
 use Rattle.quel_network.specs.Reading.{read}
-use Rattle.quel_network.specs.Session.{finished, after_batch_at, after_script_at}
+use Rattle.quel_network.specs.Session.{end_of, finished, is_read, after_batch_at, after_script_at}
 use Rattle.quel_network.specs.Sorts.{User, quel_sorts}
 use Rattle.quel_network.specs.Spelling.{payload_of, message_by, row_suits}
 use Rattle.quel_network.specs.Trees.{meaning_of, next_in, kind_of_tree, heads_of_tree, outcome_of_tree, IsFitTree, IsFitChange}
@@ -42,4 +42,6 @@ quel user = record {
   script_bytes = λ db shelf ranges m script. printed (after_script_at (setting_for user) db shelf ranges m script).events;
   batch_statements = λ db shelf ranges b. finished (after_batch_at (setting_for user) db shelf ranges b).events;
   script_statements = λ db shelf ranges m script. finished (after_script_at (setting_for user) db shelf ranges m script).events;
+  script_end = λ db shelf ranges m script. end_of (after_script_at (setting_for user) db shelf ranges m script);
+  is_over = is_read;
 }

@@ -72,15 +72,15 @@ at_go user db ranges script s parts =
 -- ---- the session ends
 
 -- the same, where the session was ended
-abbrev ended : Kept → Kept
+abbrev pub ended : Kept → Kept
 ended kept = record kept { quit = true }
 
-still_parts : (setting : Setting) (deeper : Deeper) (kept : Kept) (parts : List Part) → over (after_part setting deeper) (ended kept) parts ≡ quiet (ended kept)
+pub still_parts : (setting : Setting) (deeper : Deeper) (kept : Kept) (parts : List Part) → over (after_part setting deeper) (ended kept) parts ≡ quiet (ended kept)
 unfolding over after_part
 still_parts setting deeper kept [] = refl
 still_parts setting deeper kept (part ∷ parts) = still_parts setting deeper kept parts
 
-still_files : (setting : Setting) (kept : Kept) (files : OpenFiles) → after_files setting (ended kept) files ≡ quiet (ended kept)
+pub still_files : (setting : Setting) (kept : Kept) (files : OpenFiles) → after_files setting (ended kept) files ≡ quiet (ended kept)
 unfolding after_files
 still_files setting kept [] = refl
 still_files setting kept (lines ∷ files) =
@@ -121,13 +121,13 @@ where_not : (within : Bool) (kept : Kept) (next : After) → within ≡ false �
 where_not true kept next e = absurd (cc e)
 where_not false kept next e = refl
 
-too_large : (setting : Setting) (depth : ℕ) (kept : Kept) (bytes : List ℕ) → nat_le (kept.included + length bytes) most_included ≡ false
+pub too_large : (setting : Setting) (depth : ℕ) (kept : Kept) (bytes : List ℕ) → nat_le (kept.included + length bytes) most_included ≡ false
     → after_include (files_within depth setting) kept bytes ≡ refused kept 3 0
 unfolding files_within
 too_large setting zero kept bytes e = refl
 too_large setting (suc depth) kept bytes e = where_not (nat_le (kept.included + length bytes) most_included) kept _ e
 
-one_more : (files : OpenFiles) (lines : List (List ℕ)) → length (files ++ lines ∷ []) ≡ suc (length files)
+pub one_more : (files : OpenFiles) (lines : List (List ℕ)) → length (files ++ lines ∷ []) ≡ suc (length files)
 one_more files lines = let sum = length-append files (lines ∷ []) in omega (arith, sum)
 
 comes_included : (user : User) (db : Db) (ranges : Ranges) (script : List ℕ) (s : Standing) (bytes : List ℕ)

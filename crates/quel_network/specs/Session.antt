@@ -1,5 +1,5 @@
--- What is left of a session: what it prints, and the statements that run.
-use Rattle.std.specs.Prelude.{ℕ, false, List, [], ◌∷◌, ◌++◌}
+-- What is left of a session: what it prints, the statements that run, and where it ends.
+use Rattle.std.specs.Prelude.{ℕ, Bool, true, false, List, [], ◌∷◌, ◌++◌}
 use Rattle.calculus.specs.Database.{Db}
 use Rattle.fault_io.specs.Files.{Files}
 use Rattle.quel_meaning.specs.Batch.{batch_from}
@@ -10,7 +10,7 @@ use Rattle.quel_meaning.specs.OpenFiles.{OpenFiles, included_in, after_files}
 use Rattle.quel_meaning.specs.Ranges.{Ranges}
 use Rattle.quel_meaning.specs.Running.{after_part, after_batch}
 use Rattle.quel_meaning.specs.Session.{printed}
-use Rattle.network_meaning.specs.Sorts.{Finished}
+use Rattle.network_meaning.specs.Sorts.{Finished, SessionEnd}
 use Rattle.quel_network.specs.Sorts.{Monitor, Batch, first_monitor, quel_sorts}
 
 -- the statements that ran in these events
@@ -18,6 +18,15 @@ abbrev pub finished : List Event → List (Finished quel_sorts)
 finished [] = []
 finished (Wrote bytes ∷ events) = finished events
 finished (Ran reply db ∷ events) = record { reply = reply; db = db; later = printed events } ∷ finished events
+
+-- where a session ends that leaves this
+abbrev pub end_of : After → SessionEnd quel_sorts
+end_of a = record { db = a.kept.state.db; shelf = a.kept.state.shelf; quit = a.kept.quit }
+
+-- nothing is left of the script
+abbrev pub is_read : List ℕ → Bool
+is_read [] = true
+is_read (b ∷ bytes) = false
 
 -- what is kept while no command is carried out
 abbrev pub kept_at : Monitor → Db → Files → Ranges → Kept

@@ -1,13 +1,14 @@
 -- The messages of the stages as bytes.
-use Rattle.std.specs.Prelude.{ℕ, ◌==◌, ◌&&◌, Bool, true, false, List, [], ◌∷◌, map, Option, Some, None, Ok, Err, option_map, option_and_then, not}
+use Rattle.std.specs.Prelude.{ℕ, ◌==◌, ◌&&◌, Bool, true, false, List, [], ◌∷◌, map, Option, Some, None, Ok, Err, option_map, option_and_then}
 use Rattle.std.specs.List.{list_any}
 use Rattle.calculus.specs.declared.reply.Column.{Column}
 use Rattle.calculus.specs.declared.reply.Refusal.{Refusal}
 use Rattle.calculus.specs.declared.value.Kind.{Kind}
+use Rattle.calculus.specs.declared.value.Kind.TheVariants.{Of, Wide}
 use Rattle.calculus.specs.declared.value.Value.{Value}
 use Rattle.calculus.specs.declared.value.Value.TheVariants.{Int, Text}
-use Rattle.calculus.specs.Kinds.{is_number_kind}
 use Rattle.calculus.specs.Rows.{Row}
+use Rattle.calculus.specs.Value.{fits}
 use Rattle.network_meaning.specs.Sorts.{Message, Cargo.tree, Cargo.change, Shown.head, Shown.row, Reply.done, Reply.refused, Said.shown, Said.replied, Message.text, Message.cargo, Message.said, Message.end, Message.quit}
 use Rattle.quel_meaning.specs.Printed.{refusal_texts}
 use Rattle.quel_tree.specs.Changes.{change as change_codec}
@@ -52,10 +53,11 @@ known_refusal r = elim (is_refusal_number r.code) [ true ↦ Some r | false ↦ 
 
 -- ---- rows behind their head
 
--- the value is a number where the kind is one of numbers, and a text where it is one of texts
+-- the value is one of the kind: of a domain, a number of its bits or a text that is no longer than its width; else any number, each of which has 64 bits
 abbrev pub is_of_kind : Kind → Value → Bool
-is_of_kind kind (Int n) = is_number_kind kind
-is_of_kind kind (Text bytes) = not (is_number_kind kind)
+is_of_kind Wide (Int n) = true
+is_of_kind Wide (Text bytes) = false
+is_of_kind (Of domain) v = fits v domain
 
 -- the row has one value for each column, of its kind
 abbrev pub row_suits : List Column → Row → Bool

@@ -4,44 +4,31 @@ use Rattle.std.proofs.Common.{refl, arith}
 use Rattle.std.proofs.lemmas.Bool.{and_parts, leb-true}
 use Rattle.calculus.specs.declared.query.RelKey.{RelKey}
 use Rattle.calculus.specs.declared.schema.Attr.{Attr}
-use Rattle.calculus.specs.declared.value.Domain.TheVariants.{I1, I2, I4, C}
 use Rattle.calculus.specs.declared.value.Kind.{Kind}
 use Rattle.calculus.specs.declared.value.Kind.TheVariants.{Of, Wide}
 use Rattle.calculus.specs.declared.value.Value.{Value}
-use Rattle.calculus.specs.declared.value.Value.TheVariants.{Int, Text}
 use Rattle.calculus.specs.Catalogue.{catalogue_at}
 use Rattle.calculus.specs.Database.{Db, Relation, View, relation_at, view_at}
 use Rattle.calculus.specs.IsDatabase.{IsDatabase, value_fits, row_fits, relation_rows_fit}
 use Rattle.calculus.specs.Keys.{same_key}
-use Rattle.calculus.specs.Kinds.{is_number_kind}
 use Rattle.calculus.specs.Limits.{greatest_level, most_rows}
 use Rattle.calculus.specs.Rights.{Retrieve, may}
 use Rattle.calculus.specs.Rows.{Row}
 use Rattle.calculus.specs.Stored.{Range, Kept, Viewed, range_at, range_info, info_at, attrs_in, kinds_at}
-use Rattle.calculus.specs.Text.{is_text}
-use Rattle.calculus.specs.Value.{fits}
 use Rattle.calculus.specs.VariableRows.{range_rows, rows_within, rows_of}
 use Rattle.calculus.specs.Who.{Who}
 use Rattle.quel_meaning.specs.FitQueries.{keeps_rows, is_kept}
 use Rattle.quel_meaning.proofs.DatabaseFacts.{found_passes}
 use Rattle.quel_meaning.proofs.Each.{Each, in_filter, each_to, each_passes}
 use Rattle.quel_network.specs.CatalogueRows.{attr_kinds, RowsStand, RelationStands, catalogue_stands}
-use Rattle.quel_network.specs.NumberRange.{within_bits}
 use Rattle.quel_network.specs.Parts.{filter_short}
-use Rattle.quel_network.specs.Suiting.{Suits, RowSuits}
+use Rattle.quel_network.specs.Suiting.{SuitsKind, RowSuits}
 
 -- ---- base relations
 
-value_suits : (v : Value) (k : Kind) → IsTrue (value_fits v k) → Suits (is_number_kind k) v
+value_suits : (v : Value) (k : Kind) → IsTrue (value_fits v k) → SuitsKind k v
 value_suits v Wide h = absurd (cc h)
-value_suits (Int z) (Of I1) h = within_bits 127 127 (omega arith) (omega arith) z h
-value_suits (Int z) (Of I2) h = within_bits 32767 32767 (omega arith) (omega arith) z h
-value_suits (Int z) (Of I4) h = within_bits 2147483647 2147483647 (omega arith) (omega arith) z h
-value_suits (Int z) (Of (C width)) h = absurd (cc h)
-value_suits (Text bytes) (Of I1) h = absurd (cc h)
-value_suits (Text bytes) (Of I2) h = absurd (cc h)
-value_suits (Text bytes) (Of I4) h = absurd (cc h)
-value_suits (Text bytes) (Of (C width)) h = (and_parts (fits (Text bytes) (C width)) (is_text bytes) h).1
+value_suits v (Of domain) h = h
 
 row_suits : (attrs : List Attr) (row : Row) → IsTrue (row_fits attrs row) → RowSuits (attr_kinds attrs) row
 row_suits [] row h = tt

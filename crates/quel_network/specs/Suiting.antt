@@ -1,9 +1,11 @@
--- Values and rows that suit kinds: numbers of 64 bits where a kind is one of numbers, texts in the language's sense where it is one of texts.
+-- Values and rows that suit kinds: values of the domain where a kind is one, else numbers of 64 bits; and texts are such in the language's sense.
 use Rattle.std.specs.Prelude.{ℕ, zero, suc, Bool, true, false, IsTrue, List, [], ◌∷◌, Option, Some, None, IfSome, slice_get}
 use Rattle.calculus.specs.declared.value.Kind.{Kind}
 use Rattle.calculus.specs.declared.value.Value.{Value}
 use Rattle.calculus.specs.declared.value.Value.TheVariants.{Int, Text}
-use Rattle.calculus.specs.Kinds.{is_number_kind, attribute_kind}
+use Rattle.calculus.specs.declared.value.Kind.TheVariants.{Of, Wide}
+use Rattle.calculus.specs.IsDatabase.{value_fits}
+use Rattle.calculus.specs.Kinds.{attribute_kind}
 use Rattle.calculus.specs.Number.{has_64_bits}
 use Rattle.calculus.specs.Rows.{Row}
 use Rattle.calculus.specs.Term.{Env, attribute_value}
@@ -20,23 +22,32 @@ Suits false (Text bytes) = IsTrue (is_text bytes)
 abbrev pub GivesBy : Bool → Option Value → Type 0
 GivesBy number v = IfSome v (Suits number)
 
--- the value, where there is one, suits the kind; nothing is said where there is no kind
+-- a number of 64 bits, or a value of the domain
+abbrev pub SuitsKind : Kind → Value → Type 0
+SuitsKind Wide v = Suits true v
+SuitsKind (Of domain) v = IsTrue (value_fits v (Of domain))
+
+-- the value, where there is one, suits the kind
+abbrev pub GivesKind : Kind → Option Value → Type 0
+GivesKind kind v = IfSome v (SuitsKind kind)
+
+-- the same where there is a kind; nothing is said where there is none
 abbrev pub Gives : Option Kind → Option Value → Type 0
 Gives None v = Unit {0}
-Gives (Some kind) v = GivesBy (is_number_kind kind) v
+Gives (Some kind) v = GivesKind kind v
 
 -- the row has one value for each kind, and it suits
 abbrev pub RowFits : List Kind → Row → Type 0
 RowFits [] [] = Unit {0}
 RowFits [] (v ∷ vs) = ⊥
 RowFits (k ∷ ks) [] = ⊥
-RowFits (k ∷ ks) (v ∷ vs) = Suits (is_number_kind k) v × RowFits ks vs
+RowFits (k ∷ ks) (v ∷ vs) = SuitsKind k v × RowFits ks vs
 
 -- each value of the row suits the kind at its place, as far as both go
 abbrev pub RowSuits : List Kind → Row → Type 0
 RowSuits [] row = Unit {0}
 RowSuits (k ∷ ks) [] = Unit {0}
-RowSuits (k ∷ ks) (v ∷ vs) = Suits (is_number_kind k) v × RowSuits ks vs
+RowSuits (k ∷ ks) (v ∷ vs) = SuitsKind k v × RowSuits ks vs
 
 -- the row of each variable suits the kinds of its attributes, as far as both go
 abbrev pub EnvSuits : List (List Kind) → Env → Type 0

@@ -1,5 +1,5 @@
 -- The tables of a fit tree: their rows suit their heads, and both can be spelled.
-use Rattle.std.specs.Prelude.{◌≡◌, ℕ, zero, suc, Bool, true, false, not, ◌&&◌, IsTrue, List, [], ◌∷◌, length, map, flat_map, nat_le}
+use Rattle.std.specs.Prelude.{◌≡◌, ℕ, zero, suc, Bool, true, false, ◌&&◌, IsTrue, List, [], ◌∷◌, length, map, flat_map, nat_le}
 use Rattle.std.specs.List.{list_all}
 use Rattle.std.proofs.Common.{refl, sym, ap, subst}
 use Rattle.std.proofs.lemmas.Bool.{and_parts, and_from}
@@ -10,6 +10,7 @@ use Rattle.calculus.specs.declared.query.Target.{Target}
 use Rattle.calculus.specs.declared.reply.Column.{Column}
 use Rattle.calculus.specs.declared.request.Asked.{Asked}
 use Rattle.calculus.specs.declared.value.Kind.{Kind}
+use Rattle.calculus.specs.declared.value.Kind.TheVariants.{Of, Wide}
 use Rattle.calculus.specs.declared.value.Value.{Value}
 use Rattle.calculus.specs.declared.value.Value.TheVariants.{Int, Text}
 use Rattle.calculus.specs.Aggregate.{aggregates}
@@ -22,6 +23,8 @@ use Rattle.calculus.specs.QueryParts.{vars_of, targets_of, qual_of, term_aggrega
 use Rattle.calculus.specs.Rows.{Row}
 use Rattle.calculus.specs.Sizes.{expanded_variables}
 use Rattle.calculus.specs.Spelled.{term_is_spelled, query_is_spelled}
+use Rattle.calculus.specs.Text.{is_text}
+use Rattle.calculus.specs.Value.{fits}
 use Rattle.calculus.specs.VariableRows.{rows_of}
 use Rattle.calculus.specs.Who.{Who}
 use Rattle.quel_meaning.specs.FitQueries.{is_kept, kept_alone, lists_few_vars, has_few_targets, source_fits, sources_fit, slots_count_up, reads_fit, sort_is_in_range, asked_fits}
@@ -38,13 +41,13 @@ use Rattle.tree_words.specs.Codec.{Codec}
 use Rattle.tree_words.specs.Words.{ItemsFit, list, number16, number64}
 use Rattle.network_meaning.specs.Sorts.{Table}
 use Rattle.quel_network.specs.AggregateValues.{aggregate_gives}
-use Rattle.quel_network.specs.NumberRange.{bits_fit}
+use Rattle.quel_network.specs.NumberRange.{bits_fit, kind_suits}
 use Rattle.quel_network.specs.Parts.{in_insert}
 use Rattle.quel_network.specs.QueryRows.{SourceSuits, query_rows_fit}
 use Rattle.quel_network.specs.Sorts.{quel_sorts}
 use Rattle.quel_network.specs.Spelling.{is_of_kind, row_suits}
 use Rattle.quel_network.specs.StoredRows.{kept_suit}
-use Rattle.quel_network.specs.Suiting.{Suits, RowFits}
+use Rattle.quel_network.specs.Suiting.{Suits, SuitsKind, RowFits}
 use Rattle.quel_network.specs.TermValues.{AggGives, TargetStands, target_kinds, targets_spelled}
 use Rattle.quel_network.specs.Trees.{sent_table}
 
@@ -80,17 +83,11 @@ query_columns (suc n) q h = (columns_fit (trees n).term (targets_of q) h.1.0, h.
 
 -- ---- rows
 
-of_kind : (k : Kind) (v : Value) → Suits (is_number_kind k) v → is_of_kind k v ≡ true
-of_kind k (Int z) h = go (is_number_kind k) h
-  where
-    go : (b : Bool) → Suits b (Int z) → b ≡ true
-    go true h = refl
-    go false h = absurd h
-of_kind k (Text bytes) h = go (is_number_kind k) h
-  where
-    go : (b : Bool) → Suits b (Text bytes) → not b ≡ true
-    go true h = absurd h
-    go false h = refl
+of_kind : (k : Kind) (v : Value) → SuitsKind k v → is_of_kind k v ≡ true
+of_kind Wide (Int z) h = refl
+of_kind Wide (Text bytes) h = absurd h
+of_kind (Of domain) (Int z) h = h
+of_kind (Of domain) (Text bytes) h = (and_parts (fits (Text bytes) domain) (is_text bytes) h).0
 
 row_of_columns : (ts : List Target) (row : Row) → RowFits (target_kinds ts) row → row_suits (map column_of ts) row ≡ true
 row_of_columns [] [] h = refl
@@ -109,7 +106,7 @@ values_spelled : (ks : List Kind) (row : Row) → RowFits ks row → ItemsFit va
 values_spelled [] [] h = tt
 values_spelled [] (v ∷ row) h = absurd h
 values_spelled (k ∷ ks) [] h = absurd h
-values_spelled (k ∷ ks) (v ∷ row) h = (value_spelled (is_number_kind k) v h.0, values_spelled ks row h.1)
+values_spelled (k ∷ ks) (v ∷ row) h = (value_spelled (is_number_kind k) v (kind_suits k v h.0), values_spelled ks row h.1)
 
 as_many : (ts : List Target) (row : Row) → RowFits (target_kinds ts) row → length ts ≡ length row
 as_many [] [] h = refl

@@ -1,7 +1,7 @@
 -- The values of terms suit their kinds.
-use Rattle.std.specs.Prelude.{◌≡◌, ℕ, Bool, true, false, cond, IsTrue, ◌&&◌, List, [], ◌∷◌, ◌++◌, length, nat_le, map, Option, Some, None, IfSome}
-use Rattle.std.proofs.Common.{refl, ap, subst, ◌∙◌}
-use Rattle.std.proofs.lemmas.Bool.{and_parts}
+use Rattle.std.specs.Prelude.{◌≡◌, ℕ, ◌+◌, min, max, Bool, true, false, cond, IsTrue, ◌&&◌, List, [], ◌∷◌, ◌++◌, length, nat_le, map, Option, Some, None, IfSome}
+use Rattle.std.proofs.Common.{refl, ap, subst, ◌∙◌, arith, length-append}
+use Rattle.std.proofs.lemmas.Bool.{and_parts, eqb-true, leb-true}
 use Rattle.calculus.specs.declared.query.QAgg.{QAgg}
 use Rattle.calculus.specs.declared.query.QTerm.{QTerm, Int, Chars, Attr, Agg', Row_of-QAgg, end_of-QAgg, more_of-QAgg}
 use Rattle.calculus.specs.declared.query.Query.{Query, Query', items-the_row-Target, Row_of-Target, end_of-Target, more_of-Target}
@@ -14,7 +14,7 @@ use Rattle.calculus.specs.declared.value.Value.TheVariants as value
 use Rattle.calculus.specs.Chars.{is_chars}
 use Rattle.calculus.specs.Constant.{constant_text}
 use Rattle.calculus.specs.Database.{Db}
-use Rattle.calculus.specs.IsDatabase.{has_kind, same_kind}
+use Rattle.calculus.specs.IsDatabase.{has_kind, same_kind, value_fits}
 use Rattle.calculus.specs.Kinds.{is_number_kind, constant_kind, number_kind, operated_kind, joined_kind, text_width, joined_widths, kind_of}
 use Rattle.calculus.specs.Name.{is_name}
 use Rattle.calculus.specs.QueryParts.{aggregates_of, term_aggregates, targets_of}
@@ -28,8 +28,8 @@ use Rattle.quel_meaning.specs.KindsInQueries.{aggregate_kind, kind_of_row, kind_
 use Rattle.quel_meaning.proofs.Each.{Each, front_of, back_of}
 use Rattle.quel_meaning.proofs.KindFacts.{kind_too}
 use Rattle.quel_network.specs.NumberRange.{opposite_gives, without_sign_gives, operated_values_give}
-use Rattle.quel_network.specs.Suiting.{GivesBy, Gives, RowFits, EnvSuits, gives_none, attribute_suits}
-use Rattle.quel_network.specs.TextFacts.{constant_is_text, joined_is_text}
+use Rattle.quel_network.specs.Suiting.{GivesBy, Gives, GivesKind, RowFits, EnvSuits, gives_none, attribute_suits}
+use Rattle.quel_network.specs.TextFacts.{constant_is_text, joined_is_text, text_fits}
 
 -- what the aggregate gives in the assignment suits its kind, where the constants of its source and of its term are those of their types
 abbrev pub AggGives : Db → Aggs → List (List Kind) → Env → QAgg → Type 0
@@ -39,7 +39,7 @@ AggGives db aggs vars e g = IsTrue (source_is_spelled g.source) → IsTrue (term
 
 constant_suits : (bytes : List ℕ) → IsTrue (is_chars bytes) → Gives (Some (constant_kind bytes)) (Some (value.Text (constant_text bytes)))
 unfolding constant_kind
-constant_suits bytes h = constant_is_text bytes h
+constant_suits bytes h = text_fits (max 1 (length (constant_text bytes))) (constant_text bytes) (omega arith) (constant_is_text bytes h)
 
 wide_suits : (k : Option Kind) (v : Option Value) → GivesBy true v → Gives (number_kind k) v
 unfolding number_kind
@@ -59,23 +59,35 @@ operated_suits (Some k) l v h = go (is_number_kind k)
     go true = wide_suits l v h
     go false = tt
 
-of_text_gives : (f : List ℕ → Option Value) (v : Option Value) → GivesBy false v → ((bytes : List ℕ) → IsTrue (is_text bytes) → GivesBy false (f bytes)) → GivesBy false (of_text f v)
-of_text_gives f None p h = tt
-of_text_gives f (Some (value.Int n)) p h = tt
-of_text_gives f (Some (value.Text bytes)) p h = h bytes p
+-- the value, where there is one, is a text of at most this width
+abbrev GivesText : ℕ → Option Value → Type 0
+GivesText width v = GivesKind (Of (C width)) v
 
-text_if_short : (s t : List ℕ) → IsTrue (is_text s) → IsTrue (is_text t) → GivesBy false (joined_text s t)
-text_if_short s t h k = go (nat_le (length (s ++ t)) 255) refl
+of_text_gives : (m n : ℕ) (f : List ℕ → Option Value) (v : Option Value) → GivesText m v → ((bytes : List ℕ) → IsTrue (value_fits (value.Text bytes) (Of (C m))) → GivesText n (f bytes)) → GivesText n (of_text f v)
+of_text_gives m n f None p h = tt
+of_text_gives m n f (Some (value.Int z)) p h = tt
+of_text_gives m n f (Some (value.Text bytes)) p h = h bytes p
+
+text_if_short : (m n : ℕ) (s t : List ℕ) → IsTrue (value_fits (value.Text s) (Of (C m))) → IsTrue (value_fits (value.Text t) (Of (C n))) → GivesText (min (m + n) 255) (joined_text s t)
+text_if_short m n s t h k = go (nat_le (length (s ++ t)) 255) refl
   where
-    go : (b : Bool) → nat_le (length (s ++ t)) 255 ≡ b → GivesBy false (cond b (Some (value.Text (s ++ t))) None)
-    go true e = joined_is_text s t h k e
+    go : (b : Bool) → nat_le (length (s ++ t)) 255 ≡ b → GivesText (min (m + n) 255) (cond b (Some (value.Text (s ++ t))) None)
+    go true e =
+        let one = and_parts (nat_le (length s) m) (is_text s) h in
+        let other = and_parts (nat_le (length t) n) (is_text t) k in
+        let first = leb-true (length s) m one.0 in
+        let second = leb-true (length t) n other.0 in
+        let few = leb-true (length (s ++ t)) 255 e in
+        let sum = length-append s t in
+        text_fits (min (m + n) 255) (s ++ t) (omega (arith, first, second, few, sum)) (joined_is_text s t one.1 other.1 e)
     go false e = tt
 
-joined_texts : (v w : Option Value) → GivesBy false v → GivesBy false w → GivesBy false (joined_values v w)
+joined_texts : (m n : ℕ) (v w : Option Value) → GivesText m v → GivesText n w → GivesText (min (m + n) 255) (joined_values v w)
 unfolding joined_values
-joined_texts v w p q = of_text_gives (λ s. of_text (λ t. joined_text s t) w) v p (λ s h. of_text_gives (λ t. joined_text s t) w q (λ t k. text_if_short s t h k))
+joined_texts m n v w p q =
+    of_text_gives m (min (m + n) 255) (λ s. of_text (λ t. joined_text s t) w) v p (λ s h. of_text_gives n (min (m + n) 255) (λ t. joined_text s t) w q (λ t k. text_if_short m n s t h k))
 
-joined_by : (k l : Kind) (v w : Option Value) → GivesBy (is_number_kind k) v → GivesBy (is_number_kind l) w → Gives (joined_widths (text_width k) (text_width l)) (joined_values v w)
+joined_by : (k l : Kind) (v w : Option Value) → GivesKind k v → GivesKind l w → Gives (joined_widths (text_width k) (text_width l)) (joined_values v w)
 joined_by Wide l v w p q = tt
 joined_by (Of I1) l v w p q = tt
 joined_by (Of I2) l v w p q = tt
@@ -84,7 +96,7 @@ joined_by (Of (C m)) Wide v w p q = tt
 joined_by (Of (C m)) (Of I1) v w p q = tt
 joined_by (Of (C m)) (Of I2) v w p q = tt
 joined_by (Of (C m)) (Of I4) v w p q = tt
-joined_by (Of (C m)) (Of (C n)) v w p q = joined_texts v w p q
+joined_by (Of (C m)) (Of (C n)) v w p q = joined_texts m n v w p q
 
 joined_suits : (k l : Option Kind) (v w : Option Value) → Gives k v → Gives l w → Gives (joined_kind k l) (joined_values v w)
 unfolding joined_kind
@@ -126,35 +138,35 @@ none_give db vars e (g ∷ gs) = (λ s a. gives_none (aggregate_kind db g vars),
 
 -- the same of a term that has a kind by itself
 pub alone_suits : (db : Db) (t : QTerm) (vars : List (List Kind)) (e : Env) (k : Kind) → kind_of t vars ≡ Some k → IsTrue (term_is_spelled t) → EnvSuits vars e
-    → GivesBy (is_number_kind k) (val no_aggs t e)
+    → GivesKind k (val no_aggs t e)
 alone_suits db t vars e k h c r = subst (λ o. Gives o (val no_aggs t e)) (kind_too db t vars k h) (term_suits db no_aggs t vars e c r (none_give db vars e (term_aggregates t)))
 
 -- ---- targets
 
-same_numbers : (k l : Kind) → same_kind k l ≡ true → is_number_kind k ≡ is_number_kind l
-same_numbers Wide Wide h = refl
-same_numbers Wide (Of d) h = absurd (cc h)
-same_numbers (Of d) Wide h = absurd (cc h)
-same_numbers (Of I1) (Of I1) h = refl
-same_numbers (Of I1) (Of I2) h = refl
-same_numbers (Of I1) (Of I4) h = refl
-same_numbers (Of I1) (Of (C n)) h = absurd (cc h)
-same_numbers (Of I2) (Of I1) h = refl
-same_numbers (Of I2) (Of I2) h = refl
-same_numbers (Of I2) (Of I4) h = refl
-same_numbers (Of I2) (Of (C n)) h = absurd (cc h)
-same_numbers (Of I4) (Of I1) h = refl
-same_numbers (Of I4) (Of I2) h = refl
-same_numbers (Of I4) (Of I4) h = refl
-same_numbers (Of I4) (Of (C n)) h = absurd (cc h)
-same_numbers (Of (C m)) (Of I1) h = absurd (cc h)
-same_numbers (Of (C m)) (Of I2) h = absurd (cc h)
-same_numbers (Of (C m)) (Of I4) h = absurd (cc h)
-same_numbers (Of (C m)) (Of (C n)) h = refl
+same_is : (k l : Kind) → same_kind k l ≡ true → k ≡ l
+same_is Wide Wide h = refl
+same_is Wide (Of d) h = absurd (cc h)
+same_is (Of d) Wide h = absurd (cc h)
+same_is (Of I1) (Of I1) h = refl
+same_is (Of I1) (Of I2) h = absurd (cc h)
+same_is (Of I1) (Of I4) h = absurd (cc h)
+same_is (Of I1) (Of (C n)) h = absurd (cc h)
+same_is (Of I2) (Of I1) h = absurd (cc h)
+same_is (Of I2) (Of I2) h = refl
+same_is (Of I2) (Of I4) h = absurd (cc h)
+same_is (Of I2) (Of (C n)) h = absurd (cc h)
+same_is (Of I4) (Of I1) h = absurd (cc h)
+same_is (Of I4) (Of I2) h = absurd (cc h)
+same_is (Of I4) (Of I4) h = refl
+same_is (Of I4) (Of (C n)) h = absurd (cc h)
+same_is (Of (C m)) (Of I1) h = absurd (cc h)
+same_is (Of (C m)) (Of I2) h = absurd (cc h)
+same_is (Of (C m)) (Of I4) h = absurd (cc h)
+same_is (Of (C m)) (Of (C n)) h = ap (λ (width : ℕ). Of (C width)) (eqb-true m n h)
 
-has_gives : (o : Option Kind) (k : Kind) (v : Option Value) → has_kind o k ≡ true → Gives o v → GivesBy (is_number_kind k) v
+has_gives : (o : Option Kind) (k : Kind) (v : Option Value) → has_kind o k ≡ true → Gives o v → GivesKind k v
 has_gives None k v h g = absurd (cc h)
-has_gives (Some l) k v h g = subst (λ b. GivesBy b v) (same_numbers l k h) g
+has_gives (Some l) k v h g = subst (λ (kind : Kind). GivesKind kind v) (same_is l k h) g
 
 -- a kind that a term has by itself it has in a query
 pub has_too : (db : Db) (t : QTerm) (vars : List (List Kind)) (k : Kind) → has_kind (kind_of t vars) k ≡ true → has_kind (kind_in_query db t vars) k ≡ true
@@ -173,7 +185,7 @@ pub record TargetStands (db : Db) (vars : List (List Kind)) (t : Target) : Type 
 abbrev pub target_kinds : List Target → List Kind
 target_kinds ts = map (λ t. t.kind) ts
 
-before_fits : (k : Kind) (ks : List Kind) (v : Option Value) (vs : Option Row) → GivesBy (is_number_kind k) v → IfSome vs (RowFits ks) → IfSome (value_before v vs) (RowFits (k ∷ ks))
+before_fits : (k : Kind) (ks : List Kind) (v : Option Value) (vs : Option Row) → GivesKind k v → IfSome vs (RowFits ks) → IfSome (value_before v vs) (RowFits (k ∷ ks))
 before_fits k ks None vs p q = tt
 before_fits k ks (Some v) None p q = tt
 before_fits k ks (Some v) (Some vs) p q = (p, q)

@@ -11,10 +11,11 @@ use Rattle.calculus.specs.declared.schema.Spec.TheVariants.{Heap, Hash, Isam, Vi
 use Rattle.calculus.specs.declared.value.Domain.TheVariants.{I1, I2, I4, C}
 use Rattle.calculus.specs.declared.value.Kind.{Kind}
 use Rattle.calculus.specs.declared.value.Kind.TheVariants.{Of, Wide}
+use Rattle.calculus.specs.declared.value.Value.TheVariants.{Text}
 use Rattle.calculus.specs.Catalogue.{format_text}
 use Rattle.calculus.specs.Chars.{is_printable, is_chars}
 use Rattle.calculus.specs.Constant.{mark, marks_behind, marks, plain_bytes, constant_text}
-use Rattle.calculus.specs.IsDatabase.{is_kind}
+use Rattle.calculus.specs.IsDatabase.{is_kind, value_fits}
 use Rattle.calculus.specs.Name.{is_name, is_name_byte, starts_name}
 use Rattle.calculus.specs.Structures.{spec_text}
 use Rattle.calculus.specs.Text.{is_text, is_blank, ends_without_blank, trimmed}
@@ -115,18 +116,28 @@ name_ends : (bs : List ℕ) → IsTrue (is_name bs) → IsTrue (ends_without_bla
 unfolding is_name
 name_ends bs h = ends_solid bs (name_bytes_solid bs (and_parts (starts_name bs && nat_le (length bs) 12) (list_all is_name_byte bs) h).1)
 
-pub name_is_text : (bs : List ℕ) → IsTrue (is_name bs) → IsTrue (is_text bs)
+name_is_text : (bs : List ℕ) → IsTrue (is_name bs) → IsTrue (is_text bs)
 name_is_text bs h = let chars = name_is_chars bs h in text_from bs (chars_short bs chars) (chars_printable bs chars) (name_ends bs h)
+
+-- a text that is no longer than a width is a value of the texts of this width
+pub text_fits : (width : ℕ) (bs : List ℕ) → length bs ≤ width → IsTrue (is_text bs) → IsTrue (value_fits (Text bs) (Of (C width)))
+text_fits width bs few h = and_from (nat_le (length bs) width) (is_text bs) (le-leb (length bs) width few) h
+
+pub name_fits : (bs : List ℕ) → IsTrue (is_name bs) → IsTrue (value_fits (Text bs) (Of (C 12)))
+unfolding is_name
+name_fits bs h =
+    let short = and_parts (starts_name bs) (nat_le (length bs) 12) (and_parts (starts_name bs && nat_le (length bs) 12) (list_all is_name_byte bs) h).0 in
+    text_fits 12 bs (leb-true (length bs) 12 short.1) (name_is_text bs h)
 
 -- ---- what catalogues say
 
-pub spec_is_text : (s : Spec) → IsTrue (is_text (spec_text s))
+pub spec_fits : (s : Spec) → IsTrue (value_fits (Text (spec_text s)) (Of (C 6)))
 unfolding is_text is_chars
-spec_is_text Heap = refl
-spec_is_text Hash = refl
-spec_is_text Isam = refl
-spec_is_text View = refl
-spec_is_text Index = refl
+spec_fits Heap = refl
+spec_fits Hash = refl
+spec_fits Isam = refl
+spec_fits View = refl
+spec_fits Index = refl
 
 -- a test that each digit passes
 digits_pass : (p : ℕ → Bool) → ((d : ℕ) → d < 10 → IsTrue (p (48 + d))) → (n : ℕ) → n < 2 ^ 64 → IsTrue (list_all p (decimal n))
@@ -141,35 +152,36 @@ digit_printable d h = and_from (nat_le 32 (48 + d)) (nat_le (48 + d) 126) (le-le
 digit_solid : (d : ℕ) → d < 10 → IsTrue (no_blank (48 + d))
 digit_solid d h = rw (ne_eqb (48 + d) 32 (λ e. omega (arith, e))) refl
 
-width_is_text : (n : ℕ) → n < 256 → IsTrue (is_text (codes "c" ++ decimal n))
-width_is_text n h =
+width_fits : (n : ℕ) → n < 256 → IsTrue (value_fits (Text (codes "c" ++ decimal n)) (Of (C 4)))
+width_fits n h =
     let big : n < 18446744073709551616 = omega (arith, h) in
     let small : n < 1000 = omega (arith, h) in
     let few : length (decimal n) ≤ 3 = length-decimal-le 3 n (omega arith) small big in
-    text_from (codes "c" ++ decimal n) (omega (arith, few)) (digits_pass is_printable digit_printable n big) (ends_solid (codes "c" ++ decimal n) (digits_pass no_blank digit_solid n big))
+    text_fits 4 (codes "c" ++ decimal n) (omega (arith, few))
+    (text_from (codes "c" ++ decimal n) (omega (arith, few)) (digits_pass is_printable digit_printable n big) (ends_solid (codes "c" ++ decimal n) (digits_pass no_blank digit_solid n big)))
 
 in_a_byte : (n : ℕ) → IsTrue (nat_le n 255) → n < 256
 in_a_byte n h = let few = leb-true n 255 h in omega (arith, few)
 
-wide_is_text : IsTrue (is_text (format_text Wide))
+wide_fits : IsTrue (value_fits (Text (format_text Wide)) (Of (C 4)))
 unfolding is_text is_chars
-wide_is_text = refl
+wide_fits = refl
 
-byte_is_text : IsTrue (is_text (format_text (Of I1)))
+byte_fits : IsTrue (value_fits (Text (format_text (Of I1))) (Of (C 4)))
 unfolding is_text is_chars
-byte_is_text = refl
+byte_fits = refl
 
-short_is_text : IsTrue (is_text (format_text (Of I2)))
+short_fits : IsTrue (value_fits (Text (format_text (Of I2))) (Of (C 4)))
 unfolding is_text is_chars
-short_is_text = refl
+short_fits = refl
 
-long_is_text : IsTrue (is_text (format_text (Of I4)))
+long_fits : IsTrue (value_fits (Text (format_text (Of I4))) (Of (C 4)))
 unfolding is_text is_chars
-long_is_text = refl
+long_fits = refl
 
-pub format_is_text : (k : Kind) → IsTrue (is_kind k) → IsTrue (is_text (format_text k))
-format_is_text Wide h = wide_is_text
-format_is_text (Of I1) h = byte_is_text
-format_is_text (Of I2) h = short_is_text
-format_is_text (Of I4) h = long_is_text
-format_is_text (Of (C width)) h = width_is_text width (in_a_byte width (and_parts (nat_le 1 width) (nat_le width 255) h).1)
+pub format_fits : (k : Kind) → IsTrue (is_kind k) → IsTrue (value_fits (Text (format_text k)) (Of (C 4)))
+format_fits Wide h = wide_fits
+format_fits (Of I1) h = byte_fits
+format_fits (Of I2) h = short_fits
+format_fits (Of I4) h = long_fits
+format_fits (Of (C width)) h = width_fits width (in_a_byte width (and_parts (nat_le 1 width) (nat_le width 255) h).1)
