@@ -1,3 +1,4 @@
+pub mod BySchema
 pub mod Changes
 pub mod NotServed
 pub mod Overs

@@ -1,6 +1,7 @@
 //! What refuses a statement whose names were found.
 
 ghost use Rattle.std.specs.Prelude.{◌≡◌, Option, Some, None, true, option_copied, option_map};
+ghost use Rattle.calculus.specs.Database.{Db};
 ghost use Rattle.calculus.specs.Replacement.{first_cause};
 ghost use Rattle.quel_refusals.specs.Judged.{IsOn, is_judged, update_of};
 ghost use Rattle.quel_meaning.specs.Aggregates.{aggregates_stand};

@@ -4,8 +4,8 @@ ghost use Rattle.std.specs.Prelude.{◌≡◌, map, vec_items, IfOk};
 ghost use Rattle.calculus.specs.Keys.{key_of};
 ghost use Rattle.quel_resolve.specs.Targets.{kinds_in};
 
-use crate::pairs::both;
 use calculus::{Attr, Kind, Name, OutOfMemory, RelInfo, RelKey, TryCopy};
+use memory::both;
 use std::alloc::Global;
 
 /// The key of this owner and name.

@@ -17,24 +17,14 @@ ghost use Rattle.utility_trees.specs.Causes.{HasCheckCause};
 
 use crate::query_of;
 use am_traits::Base;
+use calculus::limits::MOST_VARIABLES;
+use calculus::refusals::{AGGREGATE, NO_RELATION, PAST_LIMIT};
 use calculus::{Name, Query, RelInfo, Statement};
 use quel_check::{Known, RangeTable, inner_vars, vars_in};
 use quel_names::infos_of;
 use quel_refusals::aggregates_stand;
 use std::alloc::Global;
 use utility_trees::CheckFault;
-
-/// The greatest number of variables and aggregates of a query together.
-const MOST_VARIABLES: usize = 10;
-
-/// The number of an aggregate that may not stand where it does.
-const NO_AGGREGATE: u8 = 18;
-
-/// The number of a statement that passes a limit.
-const TOO_MANY: u8 = 14;
-
-/// The number of an unknown relation.
-const NO_RELATION: u8 = 10;
 
 /// The query of a statement over these variables, which are its own and range over these, where its
 /// aggregates, which stand, are over those.
@@ -129,7 +119,7 @@ fn query_within<B: Base>(
     ensures cause { HasCheckCause (B.database base.old) (B.faults base.old) (B.faults base.new) result }
 {
     if are_too_many(vars, inner) {
-        return Err(CheckFault::No(TOO_MANY));
+        return Err(CheckFault::No(PAST_LIMIT));
     }
     query_over(alloc, base, ranges, s, vars, inner)
 }
@@ -201,6 +191,6 @@ pub(crate) fn query<B: Base>(
     if aggregates_stand(alloc, base, ranges, s)? {
         query_standing(alloc, base, ranges, s)
     } else {
-        Err(CheckFault::No(NO_AGGREGATE))
+        Err(CheckFault::No(AGGREGATE))
     }
 }

@@ -1,6 +1,6 @@
 //! What a statement asks for.
 
-ghost use Rattle.std.specs.Prelude.{◌≡◌, Some, None};
+ghost use Rattle.std.specs.Prelude.{◌≡◌, Some, None, IsTrue};
 ghost use Rattle.calculus.specs.Database.{Db};
 ghost use Rattle.quel_meaning.specs.Naming.{name_refusal};
 ghost use Rattle.quel_names.specs.Asking.{scope_of};
@@ -37,9 +37,8 @@ fn resolve_named<B: Base>(
     }
 }
 
-/// What the user's statement asks for: its tree. `No` has the number of what refuses the statement:
-/// the first name in its text that isn't what it has to be, else the first cause that is there.
-pub fn resolve<B: Base>(
+/// What the user's statement asks for, by the schema that is known before.
+fn resolve_known<B: Base>(
     alloc: Global,
     s: &Statement,
     user: &Name,
@@ -57,4 +56,28 @@ pub fn resolve<B: Base>(
         Some(number) => Err(CheckFault::No(number)),
         None => resolve_named(alloc, s, user, ranges, base),
     }
+}
+
+/// What the user's statement asks for: its tree. `No` has the number of what refuses the statement:
+/// the first name in its text that isn't what it has to be, else the first cause that is there.
+///
+/// The first question fixes the schema. By that alone the answer is determined, whether rows are known
+/// or not.
+pub fn resolve<B: Base>(
+    alloc: Global,
+    s: &Statement,
+    user: &Name,
+    ranges: &RangeTable,
+    base: &mut B,
+) -> Result<Checked, CheckFault>
+    ensures told { (db : Db) → B.schema base.old ≡ Some db → Resolves db user.now ranges.now s.now result }
+    ensures by_schema { IsTrue B.fixes → (db : Db) → B.schema base.new ≡ Some db → Resolves db user.now ranges.now s.now result }
+    ensures kept { B.database base.new ≡ B.database base.old }
+    ensures stays { (s : Db) → B.schema base.old ≡ Some s → B.schema base.new ≡ Some s }
+    ensures asked { (b : B) → B.asked b base.old → B.asked b base.new }
+    ensures same { B.left base.new ≡ B.left base.old }
+    ensures cause { HasCheckCause (B.database base.old) (B.faults base.old) (B.faults base.new) result }
+{
+    let _entries = base.count()?;
+    resolve_known(alloc, s, user, ranges, base)
 }

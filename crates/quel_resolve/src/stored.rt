@@ -13,11 +13,12 @@ ghost use Rattle.quel_meaning.specs.Resolved.{tree_by};
 ghost use Rattle.quel_meaning.specs.Scope.{Scope, named, place_found, ranged};
 
 use crate::known::key_of;
-use crate::pairs::{beside, both};
+use crate::pairs::beside;
 use crate::places::attr_place;
 use calculus::{
     Checked, List, Name, OutOfMemory, Permit, QQual, Query, RelInfo, RelKey, Rule, TryCopy, Utility,
 };
+use memory::both;
 use std::alloc::Global;
 
 /// The tree of a view of the user's with this name.

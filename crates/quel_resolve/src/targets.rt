@@ -12,10 +12,10 @@ ghost use Rattle.quel_meaning.specs.KindsInQueries.{kind_in_query};
 ghost use Rattle.quel_meaning.specs.WrittenQuery.{attr_targets};
 ghost use Rattle.quel_resolve.specs.Targets.{Puts, kinds_in};
 
-use crate::pairs::{both, push};
 use crate::places::{byte, var_place};
 use am_traits::{Base, BaseFault};
 use calculus::{Attr, Item, Kind, Name, OutOfMemory, QTerm, RelInfo, Target, Term, TryCopy};
+use memory::{both, push};
 use quel_check::{Known, slot_behind_item, term_tree_from};
 use quel_refusals::kind_in_query;
 use std::alloc::Global;

@@ -24,13 +24,11 @@ use crate::kinds::{changes_rows, is_range};
 use crate::queries::query;
 use crate::tree_by;
 use am_traits::Base;
+use calculus::refusals::NO_RELATION;
 use calculus::{Checked, List, Name, Query, RelInfo, Statement};
 use quel_check::RangeTable;
 use std::alloc::Global;
 use utility_trees::CheckFault;
-
-/// The number of an unknown relation.
-const NO_RELATION: u8 = 10;
 
 /// The tree of a statement with this query that changes rows of the relation of which this is known.
 fn updated<B: Base>(

@@ -8,11 +8,12 @@ ghost use Rattle.quel_meaning.specs.Scope.{Scope, named, place_found, ranged};
 ghost use Rattle.quel_meaning.specs.StatementUpdate.{append_of, changing, delete_of, into_of, replace_of};
 
 use crate::known::key_of;
-use crate::pairs::{beside, both};
+use crate::pairs::beside;
 use crate::places::{attr_place, byte};
 use calculus::{
     List, Name, OutOfMemory, QQual, Query, RelInfo, RelKey, Target, TryCopy, Update, UpdateOp,
 };
+use memory::both;
 use std::alloc::Global;
 
 /// The places of the attributes that the targets' titles name.

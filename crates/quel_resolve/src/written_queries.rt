@@ -12,11 +12,11 @@ ghost use Rattle.quel_meaning.specs.WrittenQuery.{query_of, where_tree};
 ghost use Rattle.quel_resolve.specs.Targets.{Puts};
 
 use crate::known::{keys_of, kinds_of};
-use crate::pairs::both;
 use crate::parts::items_of;
 use crate::targets::targets_from;
 use am_traits::{Base, BaseFault};
 use calculus::{Item, List, OutOfMemory, Query, Statement, Target};
+use memory::both;
 use quel_check::{Known, where_tree_from};
 use std::alloc::Global;
 

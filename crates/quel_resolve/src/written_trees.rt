@@ -15,13 +15,14 @@ ghost use Rattle.quel_meaning.specs.StatementUpdate.{append_of, delete_of, repla
 ghost use Rattle.quel_resolve.specs.Changed.{Suits, changed, is_built, restricts};
 
 use crate::known::key_of;
-use crate::pairs::{alone, beside, both, push};
+use crate::pairs::beside;
 use crate::sorting::sort_keys;
 use crate::stored::{permits_dropped, permitted, ruled, rules_dropped, viewed};
 use crate::updates::{append_of, delete_of, into_of, replace_of};
 use calculus::{
     Asked, Attr, Checked, Domain, Kind, List, Name, OutOfMemory, Query, RelInfo, Statement, Utility,
 };
+use memory::{alone, both, push};
 use std::alloc::Global;
 
 /// The tree of a `retrieve` that prints, for a query of at most 256 targets.

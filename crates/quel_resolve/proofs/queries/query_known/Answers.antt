@@ -12,7 +12,7 @@ pub returns-in_ok-query-in-Some-clause-told : goal.returns-in_ok-query-in-Some-c
 returns-in_ok-query-in-Some-clause-told g c = λ db user h names a mine inside few over.
     let within : map (ranged (scope_of db user c.args.ranges.now)) c.args.inner.now ≡ map (λ info. Some info) c.in-Some.inner_infos.items =
     subst (λ o. AreOver (scope_of db user c.args.ranges.now) c.args.inner.now (option_map (λ (v : Vec RelInfo Global). v.items) o)) c.in-Some.is (c.in_ok-inner_infos.ensures.told db user h) in
-    c.in_ok-query-in-Some.ensures.told (scope_of db user c.args.ranges.now) (c.in_ok-inner_infos.ensures.kept ∙ h) mine inside
+    c.in_ok-query-in-Some.ensures.told (scope_of db user c.args.ranges.now) (c.in_ok-inner_infos.ensures.stays _ h) mine inside
     (knows (scope_of db user c.args.ranges.now) (g.B.Base.lawful c.args.base.now db h) c.args.vars.now c.args.infos.now over (omega (arith, few)))
     (knows (scope_of db user c.args.ranges.now) (g.B.Base.lawful c.args.base.now db h) c.args.inner.now c.deref.result.now (within ∙ ap (map (λ info. Some info)) (sym c.deref.ensures.value)) (omega (arith, few)))
     a

@@ -11,7 +11,7 @@ pub returns-in-Some-clause-told : goal.returns-in-Some-clause-told
 returns-in-Some-clause-told g c = λ db user h names a mine inside few.
     let over : map (ranged (scope_of db user c.args.ranges.now)) c.args.vars.now ≡ map (λ info. Some info) c.in-Some.infos.items =
     subst (λ o. AreOver (scope_of db user c.args.ranges.now) c.args.vars.now (option_map (λ (v : Vec RelInfo Global). v.items) o)) c.in-Some.is (c.in_ok-infos.ensures.told db user h) in
-    c.query_known-query.ensures.told db user (c.in_ok-infos.ensures.kept ∙ h) names a mine inside few (over ∙ ap (map (λ info. Some info)) (sym c.deref.ensures.value))
+    c.query_known-query.ensures.told db user (c.in_ok-infos.ensures.stays _ h) names a mine inside few (over ∙ ap (map (λ info. Some info)) (sym c.deref.ensures.value))
 
 pub returns-in-None-clause-told : goal.returns-in-None-clause-told
 returns-in-None-clause-told g c = λ db user h names a mine inside few.

@@ -1,7 +1,9 @@
-use Rattle.std.proofs.Common.{sym, ◌∙◌}
-use Rattle.quel_resolve.proofs.Resolved.{by_name}
+use Rattle.quel_resolve.proofs.BySchema.{known_before}
 use Rattle.quel_resolve.proofs.resolving.resolve.Goals as goal
 
-pub returns-in-Some-clause-told : goal.returns-in-Some-clause-told
-returns-in-Some-clause-told g c = λ db h.
-    by_name db c.args.user.now c.args.ranges.now c.args.s.now c.in-Some.number (sym (c.in_ok-number.ensures.told db h) ∙ c.in-Some.is)
+pub returns-clause-told : goal.returns-clause-told
+returns-clause-told g c = λ db h. c.resolve_known.ensures.told db (c.in_ok-_entries.ensures.stays db h)
+
+pub returns-clause-by_schema : goal.returns-clause-by_schema
+returns-clause-by_schema g c = λ fixes db h.
+    c.resolve_known.ensures.told db (known_before _ _ (c.in_ok-_entries.ensures.fixed fixes) c.resolve_known.ensures.stays db h)

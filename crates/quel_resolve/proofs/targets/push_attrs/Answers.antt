@@ -11,7 +11,7 @@ pub loop-place-preserved : goal.loop-place-preserved
 loop-place-preserved c = λ few.
     let front : List Target = attr_targets c.args.var (take c.loop-place.place c.args.attrs.now) in
     let fits : c.loop-place.place ≤ 255 = omega arith in
-    c.in_ok-push.ensures ∙ ap (λ (ts : List Target). ts ++ c.in_ok-target.target ∷ []) (c.loop-place.invariant few)
+    c.in_ok-push.ensures.behind ∙ ap (λ (ts : List Target). ts ++ c.in_ok-target.target ∷ []) (c.loop-place.invariant few)
     ∙ append_assoc c.args.targets.now.items front (c.in_ok-target.target ∷ [])
     ∙ ap (λ (ts : List Target). c.args.targets.now.items ++ ts)
     (ap (λ (t : Target). front ++ t ∷ []) (c.in_ok-target.ensures fits)

@@ -11,20 +11,24 @@ loop-item-init g c =
       told = λ db h. subst (λ ts. Puts db k.vars.now k.infos.now k.inner_vars.now k.inner_infos.now 0 [] [] ts) (sym c.new-targets.ensures.items) (puts_nothing db _ _ _ _ 0 []);
       counted = λ few. omega arith;
       kept = cc;
+      stays = λ s h. h;
+      asked = λ b was. was;
       same = cc;
-      later = omega arith;
+      faults = cc;
     }
 
 pub loop-item-preserved : goal.loop-item-preserved
 loop-item-preserved g c = record {
   told = λ db h.
       puts_one_more db _ _ _ _ c.args.items.now c.loop-item.item-index c.item-item.result c.loop-item.slot _ _ _ c.loop-item-test.true c.item-item.is c.loop-item.invariant.counted
-      (c.loop-item.invariant.told db h) (c.in_ok-push_item.ensures.told db (c.loop-item.invariant.kept ∙ h));
+      (c.loop-item.invariant.told db h) (c.in_ok-push_item.ensures.told db (c.loop-item.invariant.stays _ h));
   counted = counts_one_more c.args.items.now c.loop-item.item-index c.item-item.result c.loop-item.slot c.slot_behind_item-slot.result c.loop-item-test.true c.item-item.is c.loop-item.invariant.counted
       c.slot_behind_item-slot.ensures;
   kept = c.in_ok-push_item.ensures.kept ∙ c.loop-item.invariant.kept;
+  stays = λ s h. c.in_ok-push_item.ensures.stays s (c.loop-item.invariant.stays s h);
+  asked = λ b was. c.in_ok-push_item.ensures.asked b (c.loop-item.invariant.asked b was);
   same = c.in_ok-push_item.ensures.same ∙ c.loop-item.invariant.same;
-  later = omega (arith, c.in_ok-push_item.ensures.cause.later, c.loop-item.invariant.later);
+  faults = c.in_ok-push_item.ensures.cause.caused ∙ c.loop-item.invariant.faults;
 }
 
 pub returns-clause-told : goal.returns-clause-told

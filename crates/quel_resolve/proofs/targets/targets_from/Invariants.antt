@@ -6,9 +6,11 @@ use Rattle.quel_resolve.proofs.targets.targets_from.Given as goal
 
 abbrev pub invariant-loop-item : goal.invariant-loop-item
 invariant-loop-item g l = record {
-  told : (db : Db) → g.B.Base.database l.initial.base ≡ Some db → Puts db l.known.vars.now l.known.infos.now l.known.inner_vars.now l.known.inner_infos.now 0 (take l.item-index l.items) [] l.targets.items;
+  told : (db : Db) → g.B.Base.schema l.initial.base ≡ Some db → Puts db l.known.vars.now l.known.infos.now l.known.inner_vars.now l.known.inner_infos.now 0 (take l.item-index l.items) [] l.targets.items;
   counted : count (take l.item-index l.items) ≤ 65535 → l.slot ≡ count (take l.item-index l.items);
   kept : g.B.Base.database l.base ≡ g.B.Base.database l.initial.base;
+  stays : (s : Db) → g.B.Base.schema l.initial.base ≡ Some s → g.B.Base.schema l.base ≡ Some s;
+  asked : (b : _) → g.B.Base.asked b l.initial.base → g.B.Base.asked b l.base;
   same : g.B.Base.left l.base ≡ g.B.Base.left l.initial.base;
-  later : g.B.Base.faults l.initial.base ≤ g.B.Base.faults l.base;
+  faults : g.B.Base.faults l.base ≡ g.B.Base.faults l.initial.base;
 }

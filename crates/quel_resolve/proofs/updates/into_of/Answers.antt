@@ -12,9 +12,9 @@ use Rattle.quel_resolve.proofs.updates.into_of.Goals as goal
 pub returns : goal.returns
 unfolding into_of
 returns c = λ scope user few.
-    let parts = IfOk-at_ok _ c.in_ok-rel.ensures.0 c.both-parts.ensures in
-    let rel = IfOk-at_ok _ parts.0 c.key_of.ensures ∙ ap (λ owner. key_of owner c.args.name.now) (sym user) in
-    let found = IfOk-at_ok _ parts.1 c.places_in_order-places.ensures in
+    let parts = c.in_ok-rel.ensures.0 in
+    let rel = IfOk-at_ok _ (IfOk-at_ok _ parts c.both-parts.ensures.first) c.key_of.ensures ∙ ap (λ owner. key_of owner c.args.name.now) (sym user) in
+    let found = IfOk-at_ok _ (IfOk-at_ok _ parts c.both-parts.ensures.second) c.places_in_order-places.ensures in
     let are = c.items.ensures ∙ targets_is c.args.q in
     let places =
     found (subst (λ ts. length ts ≤ 256) (sym are) few)

@@ -5,7 +5,7 @@ use Rattle.quel_resolve.proofs.written_trees.stored_attrs.Goals as goal
 
 pub loop-name-preserved : goal.loop-name-preserved
 loop-name-preserved c =
-    c.in_ok-push.ensures ∙ (λ i. c.loop-name.invariant i ++ (c.in_ok-attr.ensures ∙ ap stored_attr c.loop-name-item.is) i ∷ [])
+    c.in_ok-push.ensures.behind ∙ (λ i. c.loop-name.invariant i ++ (c.in_ok-attr.ensures ∙ ap stored_attr c.loop-name-item.is) i ∷ [])
     ∙ sym (map_more (stored_attr) c.args.attrs.now c.loop-name.name-index c.loop-name-item.result c.loop-name-test.true)
 
 pub returns : goal.returns

@@ -1,0 +1,7 @@
+use Rattle.std.proofs.Common.{sym, ◌∙◌}
+use Rattle.quel_resolve.proofs.Resolved.{by_name}
+use Rattle.quel_resolve.proofs.resolving.resolve_known.Goals as goal
+
+pub returns-in-Some-clause-told : goal.returns-in-Some-clause-told
+returns-in-Some-clause-told g c = λ db h.
+    by_name db c.args.user.now c.args.ranges.now c.args.s.now c.in-Some.number (sym (c.in_ok-number.ensures.told db h) ∙ c.in-Some.is)
