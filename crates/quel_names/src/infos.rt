@@ -1,6 +1,6 @@
 //! What variables range over.
 
-ghost use Rattle.std.specs.Prelude.{◌≡◌, ◌++◌, ◌∷◌, [], ℕ, List, None, Some, true, option_map, IfOk, OnOk};
+ghost use Rattle.std.specs.Prelude.{◌≡◌, ℕ, List, None, Some, true, option_map, IfOk};
 ghost use Rattle.am_traits.specs.Causes.{HasCause};
 ghost use Rattle.calculus.specs.Database.{Db};
 ghost use Rattle.calculus.specs.declared.statement.Statement.{Statement};
@@ -13,15 +13,10 @@ ghost use Rattle.quel_names.specs.Ranging.{AreOver, each_ranges};
 
 use crate::looking::ranged;
 use am_traits::{Base, BaseFault};
-use calculus::{Name, OutOfMemory, RelInfo};
+use calculus::{Name, RelInfo};
+use memory::push;
 use quel_check::RangeTable;
 use std::alloc::Global;
-
-fn push(infos: &mut Vec<RelInfo>, info: RelInfo) -> Result<(), OutOfMemory>
-    ensures { OnOk result (infos.new.items ≡ infos.old.items ++ info ∷ []) }
-{
-    Ok(infos.push(info)?)
-}
 
 /// What each of these variables ranges over, one by one; `None` exactly where one of them ranges over
 /// nothing.

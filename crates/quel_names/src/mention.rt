@@ -13,18 +13,10 @@ ghost use Rattle.quel_names.specs.Asking.{scope_of};
 use crate::entry::entry_refusal;
 use crate::looking::{info_at, named};
 use am_traits::{Base, BaseFault};
+use calculus::refusals::{NO_ATTRIBUTE, NO_RELATION, NO_VARIABLE};
 use calculus::{Attr, Name, RelInfo, RelKey};
 use quel_check::{Mention, RangeTable};
 use std::alloc::Global;
-
-/// The number of an unknown relation.
-const NO_RELATION: u8 = 10;
-
-/// The number of an unknown variable.
-const NO_VARIABLE: u8 = 11;
-
-/// The number of an unknown attribute.
-const NO_ATTRIBUTE: u8 = 12;
 
 fn attr_found(attrs: &[Attr], name: &Name) -> Option<usize>
     ensures { result ≡ attr_place attrs.now name.now }

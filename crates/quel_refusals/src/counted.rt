@@ -7,12 +7,10 @@ ghost use Rattle.quel_meaning.specs.Passing.{has_too_many, listed_variables};
 ghost use Rattle.view_sizes.specs.Listing.{sources_list_few};
 
 use am_traits::{Base, BaseFault};
+use calculus::limits::MOST_VARIABLES;
 use calculus::{OutOfMemory, Query};
 use std::alloc::Global;
 use view_sizes::{aggregates_of, listed_expanded_variables};
-
-/// The variables that a query has at most.
-const MOST_VARIABLES: usize = 10;
 
 /// The variables that a query has at most once the views in it are put in.
 const MOST_EXPANDED_VARIABLES: u64 = 50;

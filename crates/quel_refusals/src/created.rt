@@ -9,12 +9,12 @@ ghost use Rattle.quel_meaning.specs.Causes.{repeats};
 ghost use Rattle.quel_meaning.specs.Passing.{is_full, is_taken, is_too_wide};
 ghost use Rattle.quel_meaning.specs.Scope.{Scope};
 
-use crate::numbers::{NAMED_TWICE, PAST_LIMIT, TOO_WIDE};
 use crate::places::is_full;
 use crate::repeated::attrs_repeat;
 use crate::retrieved::name_cause;
 use crate::widths::{domain_kinds, is_too_wide};
 use am_traits::{Base, BaseFault};
+use calculus::refusals::{NAMED_TWICE, PAST_LIMIT, TOO_WIDE};
 use calculus::{Domain, Name, OutOfMemory};
 use std::alloc::Global;
 

@@ -10,7 +10,6 @@ mod judging;
 mod kinds;
 mod making;
 mod numbered;
-mod numbers;
 mod places;
 mod repeated;
 mod restricted;

@@ -9,11 +9,9 @@ ghost use Rattle.calculus.specs.Keys.{key_of};
 ghost use Rattle.quel_meaning.specs.Passing.{is_full, is_taken};
 
 use am_traits::{Base, BaseFault};
+use calculus::limits::MOST_ENTRIES;
 use calculus::{Name, OutOfMemory, RelKey};
 use std::alloc::Global;
-
-/// The relations, views and indexes that a database has at most, without the catalogues.
-const MOST_ENTRIES: u32 = 10_000;
 
 /// Whether there is no room for a further relation, view or index.
 #[tactic(auto, unfolding(quel_meaning::specs::Passing::is_full))]

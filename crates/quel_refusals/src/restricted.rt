@@ -19,23 +19,15 @@ ghost use Rattle.quel_meaning.specs.Planned.{greatest, is_past_limit};
 ghost use Rattle.quel_meaning.specs.Scope.{Scope};
 
 use crate::kinds::kinds_at;
-use crate::numbers::{KINDS_DIFFER, PAST_LIMIT};
 use am_traits::{Base, BaseFault};
+use calculus::limits::{GREATEST_NUMBER, MOST_NUMBERED, MOST_SIZE};
+use calculus::refusals::{KINDS_DIFFER, PAST_LIMIT};
 use calculus::{Kind, Name, OutOfMemory, Permit, QQual, Query, RelInfo, RelKey, Rule, kinds_fit};
 use std::alloc::Global;
 use view_sizes::{qual_depth, qual_size};
 
-/// The permits, and the rules, that a relation has at most.
-const MOST: usize = 100;
-
-/// The greatest number of a permit or a rule.
-const GREATEST_NUMBER: u32 = u32::MAX;
-
 /// The attributes that a permit lists at most.
 const MOST_LISTED: usize = 65_535;
-
-/// The size of a qualification that is stored at most.
-const GREATEST_SIZE: u64 = 1000;
 
 /// The levels of a tree that is stored at most.
 const MOST_LEVELS: u64 = 3000;
@@ -64,14 +56,14 @@ fn greatest_rule(rules: &[Rule]) -> u32
 fn permits_fill(permits: &[Permit]) -> bool
     ensures { result ≡ is_past_limit 100 (map (λ p. p.number) permits.now) }
 {
-    permits.len() >= MOST || greatest_permit(permits) >= GREATEST_NUMBER
+    permits.len() >= MOST_NUMBERED || greatest_permit(permits) >= GREATEST_NUMBER
 }
 
 /// Whether there may be no more rules than these.
 fn rules_fill(rules: &[Rule]) -> bool
     ensures { result ≡ is_past_limit 100 (map (λ r. r.number) rules.now) }
 {
-    rules.len() >= MOST || greatest_rule(rules) >= GREATEST_NUMBER
+    rules.len() >= MOST_NUMBERED || greatest_rule(rules) >= GREATEST_NUMBER
 }
 
 /// Whether a relation may have no more permits.
@@ -106,7 +98,7 @@ fn has_all_rules<B: Base>(alloc: Global, base: &mut B, rel: &RelKey) -> Result<b
 fn is_small(qual: &QQual) -> bool
     ensures { result ≡ (nat_le (qual_size [] qual.now) 1000 && nat_le (qual_depth qual.now) 3000) }
 {
-    qual_size(&[], qual) <= GREATEST_SIZE && qual_depth(qual) <= MOST_LEVELS
+    qual_size(&[], qual) <= MOST_SIZE && qual_depth(qual) <= MOST_LEVELS
 }
 
 /// Whether the kinds in a qualification over a row with attributes of these kinds fit.

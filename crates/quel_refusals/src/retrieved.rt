@@ -12,11 +12,13 @@ ghost use Rattle.view_sizes.specs.Listing.{sources_list_few};
 
 use crate::counted::has_too_many;
 use crate::fitting::query_fits;
-use crate::numbers::{IN_USE, KINDS_DIFFER, NAMED_TWICE, PAST_LIMIT, TOO_WIDE, UNKNOWN};
 use crate::places::{is_full, is_taken};
 use crate::repeated::{sorts_by_titles, titles_repeat};
 use crate::widths::{is_too_wide, made_kinds, target_kinds};
 use am_traits::{Base, BaseFault};
+use calculus::refusals::{
+    KINDS_DIFFER, NAME_IN_USE, NAMED_TWICE, NO_ATTRIBUTE, PAST_LIMIT, TOO_WIDE,
+};
 use calculus::{Name, OutOfMemory, Query, Target};
 use std::alloc::Global;
 
@@ -29,7 +31,7 @@ fn row_cause(
     ensures { IfOk result (λ n. n ≡ first_cause ((12, not (sorts_by_titles targets.now sort.now)) ∷ (16, is_too_wide (map (λ t. t.kind) targets.now)) ∷ [])) }
 {
     if !sorts_by_titles(alloc, targets, sort)? {
-        return Ok(Some(UNKNOWN));
+        return Ok(Some(NO_ATTRIBUTE));
     }
     if is_too_wide(&target_kinds(alloc, targets)?) {
         return Ok(Some(TOO_WIDE));
@@ -90,7 +92,7 @@ fn made_cause(
     ensures { IfOk result (λ n. n ≡ first_cause ((12, not (sorts_by_titles targets.now sort.now)) ∷ (16, is_too_wide (map (λ t. (made_attr t).kind) targets.now)) ∷ [])) }
 {
     if !sorts_by_titles(alloc, targets, sort)? {
-        return Ok(Some(UNKNOWN));
+        return Ok(Some(NO_ATTRIBUTE));
     }
     if is_too_wide(&made_kinds(alloc, targets)?) {
         return Ok(Some(TOO_WIDE));
@@ -113,7 +115,7 @@ pub(crate) fn name_cause<B: Base>(
     ensures cause { HasCause (B.database base.old) (B.faults base.old) (B.faults base.new) result }
 {
     if is_taken(alloc, base, user, name)? {
-        Ok(Some(IN_USE))
+        Ok(Some(NAME_IN_USE))
     } else {
         Ok(None)
     }

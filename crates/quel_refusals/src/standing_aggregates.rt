@@ -14,6 +14,7 @@ ghost use Rattle.quel_meaning.specs.WrittenParts.{aggregate_vars, aggregates_in,
 ghost use Rattle.quel_names.specs.Ranging.{each_ranges};
 
 use am_traits::{Base, BaseFault};
+use calculus::limits::MOST_LEVEL;
 use calculus::{AggTerm, Name, RelKey, Statement, Term};
 use quel_check::{
     RangeTable, aggregate_vars, has_aggregate, qual_has_aggregate, term_has_aggregate,
@@ -22,9 +23,6 @@ use quel_check::{
 use quel_names::ranged;
 use std::alloc::Global;
 use view_sizes::variables_within;
-
-/// The levels of views that are looked through at most.
-const GREATEST_LEVEL: u8 = 16;
 
 fn terms_have_aggregate(terms: &[Term]) -> bool
     ensures { result ≡ list_any (λ t. is_any (aggregates_in t)) terms.now }
@@ -58,7 +56,7 @@ fn is_plain<B: Base>(alloc: Global, base: &mut B, key: &RelKey) -> Result<bool, 
     ensures same { B.left base.new ≡ B.left base.old }
     ensures cause { HasCause (B.database base.old) (B.faults base.old) (B.faults base.new) result }
 {
-    let count = variables_within(alloc, base, key, GREATEST_LEVEL)?;
+    let count = variables_within(alloc, base, key, MOST_LEVEL)?;
     Ok(count <= 1)
 }
 

@@ -11,17 +11,15 @@ ghost use Rattle.quel_meaning.specs.Passing.{has_too_many, is_full, is_taken, is
 ghost use Rattle.quel_meaning.specs.Scope.{Scope};
 
 use crate::fitting::query_fits;
-use crate::numbers::{KINDS_DIFFER, NAMED_TWICE, PAST_LIMIT, TOO_WIDE};
 use crate::repeated::titles_repeat;
 use crate::retrieved::{has_no_room, name_cause};
 use crate::widths::{is_too_wide, target_kinds};
 use am_traits::{Base, BaseFault};
+use calculus::limits::MOST_SIZE;
+use calculus::refusals::{KINDS_DIFFER, NAMED_TWICE, PAST_LIMIT, TOO_WIDE};
 use calculus::{Name, OutOfMemory, Query};
 use std::alloc::Global;
 use view_sizes::{has_high_level, query_depth, query_size};
-
-/// The size of a view at most.
-const GREATEST_SIZE: u64 = 1000;
 
 /// The levels of a tree that is stored at most.
 const MOST_LEVELS: u64 = 3000;
@@ -44,7 +42,7 @@ fn is_too_large<B: Base>(alloc: Global, base: &mut B, q: &Query) -> Result<bool,
     ensures cause { HasCause (B.database base.old) (B.faults base.old) (B.faults base.new) result }
 {
     let size = query_size(alloc, base, q)?;
-    if size > GREATEST_SIZE {
+    if size > MOST_SIZE {
         return Ok(true);
     }
     let high = has_high_level(alloc, base, q)?;

@@ -6,14 +6,9 @@ ghost use Rattle.calculus.specs.IsDatabase.{kind_bytes};
 ghost use Rattle.calculus.specs.Replacement.{made_attr};
 ghost use Rattle.quel_meaning.specs.Passing.{is_too_wide};
 
+use calculus::limits::{MOST_ATTRIBUTES, MOST_ROW_BYTES};
 use calculus::{Domain, Kind, Name, OutOfMemory, Target};
 use std::alloc::Global;
-
-/// The attributes that a relation, a view or a printed row has at most.
-const MOST_ATTRIBUTES: usize = 49;
-
-/// The bytes that a row has at most.
-const MOST_ROW_BYTES: u32 = 1000;
 
 /// The bytes that a value of the kind takes in a row.
 pub fn kind_bytes(kind: Kind) -> u32

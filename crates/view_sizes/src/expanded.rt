@@ -17,13 +17,11 @@ use crate::aggregates::aggregates_of;
 use crate::remembered::Measures;
 use crate::variables::{variables_found, variables_through, variables_under_found};
 use am_traits::{Base, BaseFault};
+use calculus::limits::MOST_LEVEL;
 use calculus::{AggSource, QAgg, Query, RelKey, Update, UpdateOp};
 use indexmap::IndexMap;
 use ovqp::is_used;
 use std::alloc::Global;
-
-/// The levels of views that are looked through at most.
-const GREATEST_LEVEL: u8 = 16;
 
 /// The variables of an aggregate's source.
 fn source_variables<B: Base>(
@@ -41,14 +39,8 @@ fn source_variables<B: Base>(
     ensures cause { HasCause (B.database base.old) (B.faults base.old) (B.faults base.new) result }
 {
     match source {
-        AggSource::Named(key) => variables_found(alloc, base, found, key, GREATEST_LEVEL),
-        AggSource::Rows(query) => variables_through(
-            alloc,
-            base,
-            found,
-            query.get(),
-            GREATEST_LEVEL,
-        ),
+        AggSource::Named(key) => variables_found(alloc, base, found, key, MOST_LEVEL),
+        AggSource::Rows(query) => variables_through(alloc, base, found, query.get(), MOST_LEVEL),
     }
 }
 
@@ -110,7 +102,7 @@ pub fn expanded_variables<B: Base>(
     ensures cause { HasCause (B.database base.old) (B.faults base.old) (B.faults base.new) result }
 {
     let mut found: Measures = IndexMap::new(alloc);
-    let own = variables_through(alloc, base, &mut found, query, GREATEST_LEVEL)?;
+    let own = variables_through(alloc, base, &mut found, query, MOST_LEVEL)?;
     let below = aggregate_variables(alloc, base, &mut found, query)?;
     Ok(own.saturating_add(below))
 }
@@ -172,7 +164,7 @@ fn counted_at<B: Base>(
     ensures cause { HasCause (B.database base.old) (B.faults base.old) (B.faults base.new) result }
 {
     if counts(u, place) {
-        variables_found(alloc, base, found, key, GREATEST_LEVEL)
+        variables_found(alloc, base, found, key, MOST_LEVEL)
     } else {
         Ok(0)
     }

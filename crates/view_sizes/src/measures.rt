@@ -14,13 +14,11 @@ ghost use Rattle.view_sizes.specs.Remembered.{AreMeasured};
 use crate::remembered::{Measures, measure_found, remember_measure};
 use crate::sizes::{Measure, qual_size, term_size};
 use am_traits::{Base, BaseFault};
+use calculus::limits::MOST_LEVEL;
 use calculus::{OutOfMemory, Query, RelKey, Target};
 use indexmap::IndexMap;
 use ovqp::is_used;
 use std::alloc::Global;
-
-/// The levels of views that are looked through at most.
-const GREATEST_LEVEL: u8 = 16;
 
 /// This number where the query uses the variable at this place; else 0.
 fn if_used(query: &Query, place: u8, amount: u64) -> u64
@@ -234,6 +232,6 @@ pub fn query_size<B: Base>(alloc: Global, base: &mut B, query: &Query) -> Result
     ensures same { B.left base.new ≡ B.left base.old }
     ensures cause { HasCause (B.database base.old) (B.faults base.old) (B.faults base.new) result }
 {
-    let measure = measure_of(alloc, base, query, GREATEST_LEVEL)?;
+    let measure = measure_of(alloc, base, query, MOST_LEVEL)?;
     Ok(measure.size())
 }

@@ -10,12 +10,10 @@ ghost use Rattle.view_sizes.specs.Remembered.{AreMeasured};
 use crate::measures::{measure_of, measure_through, measure_within};
 use crate::remembered::Measures;
 use am_traits::{Base, BaseFault};
+use calculus::limits::MOST_LEVEL;
 use calculus::{Query, RelKey};
 use indexmap::IndexMap;
 use std::alloc::Global;
-
-/// The levels of views that are looked through at most.
-const GREATEST_LEVEL: u8 = 16;
 
 /// The variables of what stands under a key, through at most so many levels of views, where some of
 /// it was found before.
@@ -112,7 +110,7 @@ pub(crate) fn variables_under_found<B: Base>(
 {
     let mut count: u64 = 0;
     for key in vars {
-        let more = variables_found(alloc, base, found, key, GREATEST_LEVEL)?;
+        let more = variables_found(alloc, base, found, key, MOST_LEVEL)?;
         count = count.saturating_add(more);
     }
     Ok(count)

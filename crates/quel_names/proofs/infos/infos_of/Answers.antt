@@ -14,7 +14,7 @@ loop-var-preserved g c = record {
   told = λ db user h.
       one_more db user c.args.ranges.now c.args.vars.now c.loop-var.infos.items c.loop-var.var-index c.var-item.result c.in-Some.info (c.loop-var.invariant.told db user h) c.loop-var-test.true c.var-item.is
       (sym c.in-Some.is ∙ c.in_ok-info.ensures.told db (c.loop-var.invariant.stays db h))
-      ∙ ap (map (λ i. Some i)) (sym c.in_ok-push-in-Some.ensures);
+      ∙ ap (map (λ i. Some i)) (sym c.in_ok-push-in-Some.ensures.behind);
   kept = c.in_ok-info.ensures.kept ∙ c.loop-var.invariant.kept;
   stays = λ s h. c.in_ok-info.ensures.stays s (c.loop-var.invariant.stays s h);
   asked = λ b was. c.in_ok-info.ensures.asked b (c.loop-var.invariant.asked b was);

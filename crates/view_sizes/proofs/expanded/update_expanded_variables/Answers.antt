@@ -1,4 +1,4 @@
-use Rattle.std.proofs.Common.{◌≡◌, ◌∙◌}
+use Rattle.std.proofs.Common.{◌≡◌}
 use Rattle.calculus.specs.Sizes.{measure_within}
 use Rattle.view_sizes.specs.Measured.{held, stopped_measure}
 use Rattle.view_sizes.proofs.Enlarged.{update_so}

@@ -1,4 +1,4 @@
-use Rattle.std.proofs.Common.{ap, ◌∙◌, ◌-◌, ◌^◌, min, sum_by, arith}
+use Rattle.std.proofs.Common.{ap, ◌∙◌, ◌-◌, ◌^◌, min, sum_by}
 use Rattle.std.proofs.lemmas.List.{take_all}
 use Rattle.calculus.specs.Sizes.{measure_within, source_variables}
 use Rattle.view_sizes.specs.Listing.{source_lists_few}

@@ -1,4 +1,4 @@
-use Rattle.std.proofs.Common.{ap, ◌∙◌, ◌-◌, ◌^◌, min, sum_by, arith}
+use Rattle.std.proofs.Common.{ap, ◌∙◌, ◌-◌, ◌^◌, min, sum_by}
 use Rattle.std.proofs.lemmas.List.{take_all}
 use Rattle.calculus.specs.Sizes.{measure_within}
 use Rattle.view_sizes.proofs.Counting.{sum_more}
