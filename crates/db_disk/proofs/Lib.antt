@@ -1,3 +1,4 @@
+pub mod AsBase
 pub mod Asking
 pub mod Calls
 pub mod Causes

@@ -1,5 +1,24 @@
+use Rattle.db_disk.specs.Laws.{lawful_told}
+use Rattle.db_disk.specs.Shown.{db_of, disk_in}
+use Rattle.db_disk.proofs.AsBase.{fixed, ready, stays, told_after}
 use Rattle.db_disk.proofs.Leaving.{asked_on}
+use Rattle.db_disk.proofs.Scanned.{told_fits}
 use Rattle.db_disk.proofs.answering.DbDiskBase.scan.Goals as goal
+
+pub returns-clause-fits : goal.returns-clause-fits
+returns-clause-fits g c =
+    let d = c.args.self.now in
+    told_after d c.scan.new.self c.scan.ensures.kept c.scan.ensures.keeps _
+    (λ db is. told_fits (db_of d) db c.args.key.now c.args.probe.now c.args.at.now c.scan.new.at c.scan.result (lawful_told g.D.Disk.tells (g.D.Disk.seen (disk_in d)) db is) is (c.scan.ensures.told db is)) c.scan.ensures.fits
+
+pub returns-clause-stays : goal.returns-clause-stays
+returns-clause-stays g c = stays c.args.self.now c.scan.new.self c.scan.ensures.kept c.scan.ensures.keeps
+
+pub returns-clause-fixed : goal.returns-clause-fixed
+returns-clause-fixed g c = λ fixes. fixed c.scan.new.self c.scan.result c.scan.ensures.fixed
+
+pub returns-clause-ready : goal.returns-clause-ready
+returns-clause-ready g c = ready c.scan.new.self c.scan.result c.scan.ensures.fixed
 
 pub returns-clause-asked : goal.returns-clause-asked
 returns-clause-asked g c = λ b before. asked_on g.met.D.Disk.counts_now g.met.D.Disk.only_now b c.args.self.now c.scan.new.self c.scan.ensures.crash c.scan.ensures.stays before

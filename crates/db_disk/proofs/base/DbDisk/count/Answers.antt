@@ -24,7 +24,7 @@ pub returns-clause-fixed : goal.returns-clause-fixed
 returns-clause-fixed g c = still_there c.open.new.self.catalog c.count.new.catalog c.count.result (same_schema c.open.new.self.catalog c.count.new.catalog c.count.ensures.same) c.in_ok-open.ensures.there
 
 pub returns-clause-cause : goal.returns-clause-cause
-returns-clause-cause g c = want_caused _ _ _ c.count.result c.open.ensures.cause.later c.count.ensures.want
+returns-clause-cause g c = want_caused _ _ _ c.count.result c.in_ok-open.ensures.cause.caused c.count.ensures.want
 
 pub returns-clause-kept : goal.returns-clause-kept
 returns-clause-kept g c = c.open.ensures.kept

@@ -22,7 +22,7 @@ pub returns-clause-fixed : goal.returns-clause-fixed
 returns-clause-fixed g c = still_there c.open.new.self.catalog c.dba.new.catalog c.dba.result (same_schema c.open.new.self.catalog c.dba.new.catalog c.dba.ensures.same) c.in_ok-open.ensures.there
 
 pub returns-clause-cause : goal.returns-clause-cause
-returns-clause-cause g c = want_caused _ _ _ c.dba.result c.open.ensures.cause.later c.dba.ensures.want
+returns-clause-cause g c = want_caused _ _ _ c.dba.result c.in_ok-open.ensures.cause.caused c.dba.ensures.want
 
 pub returns-clause-kept : goal.returns-clause-kept
 returns-clause-kept g c = c.open.ensures.kept

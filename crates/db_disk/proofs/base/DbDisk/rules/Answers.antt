@@ -23,7 +23,7 @@ pub returns-clause-fixed : goal.returns-clause-fixed
 returns-clause-fixed g c = still_there c.open.new.self.catalog c.rules.new.catalog c.rules.result (same_schema c.open.new.self.catalog c.rules.new.catalog c.rules.ensures.same) c.in_ok-open.ensures.there
 
 pub returns-clause-cause : goal.returns-clause-cause
-returns-clause-cause g c = want_caused _ _ _ c.rules.result c.open.ensures.cause.later c.rules.ensures.want
+returns-clause-cause g c = want_caused _ _ _ c.rules.result c.in_ok-open.ensures.cause.caused c.rules.ensures.want
 
 pub returns-clause-kept : goal.returns-clause-kept
 returns-clause-kept g c = c.open.ensures.kept
