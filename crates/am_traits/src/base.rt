@@ -1,4 +1,4 @@
-ghost use Rattle.std.specs.Prelude.{◌≡◌, ◌⊎◌, ◌≤◌, ℕ, Bool, List, Option, Some, IfOk, OnOk, OnErr, IsErrOf, IsTrue, is_some, length, true};
+ghost use Rattle.std.specs.Prelude.{◌≡◌, ◌⊎◌, ◌≤◌, ◌+◌, ℕ, Bool, List, Option, Some, IfOk, OnOk, OnErr, IsErrOf, IsTrue, is_some, length, true};
 ghost use Rattle.std.specs.Option.{ForSome};
 ghost use Rattle.calculus.specs.Change.{IsLawful, laid};
 ghost use Rattle.calculus.specs.Database.{Db, is_relation, rules_on, permits_on, entries};
@@ -44,6 +44,17 @@ pub trait Base {
     /// How often a page was read from the disk below.
     ghost reads: { Self → ℕ };
 
+    /// A call that needs the catalogues reads at most so many pages for them: none once they are known. Of a
+    /// disk that doesn't say what it holds, or on which a batch stands open, nothing is said before that.
+    ghost cat: { Self → ℕ → Type 0 };
+
+    /// How many pages the relation under a key has, where the catalogues are known.
+    ghost pages: { Self → Key → ℕ };
+
+    /// How many pages a scan of what stands under a key still reads from a place on, where nothing else is
+    /// asked between its calls.
+    ghost unread: { Self → Key → At → ℕ };
+
     /// What a crash at some moment from that one on may have left: an image that stands, redone, for
     /// this database, or for none. Without a disk there is no such image.
     ghost left_since: { Self → ℕ → Option Db → Type 0 };
@@ -70,6 +81,9 @@ pub trait Base {
     /// This moment is one of those since an earlier one.
     ghost counts_now: { (b : Self) (t : ℕ) (o : Option Db) → t ≤ clock b → left_since b (clock b) o → left_since b t o };
 
+    /// A whole scan reads each page of the relation once at most.
+    ghost whole: { (b : Self) (key : Key) (at : At) → unread b key at ≤ pages b key };
+
     /// Before any question it comes of itself.
     ghost starts: { (b : Self) → asked b b };
 
@@ -85,6 +99,9 @@ pub trait Base {
         ensures stays { (s : Db) → schema self.old ≡ Some s → schema self.new ≡ Some s }
         ensures fixed { IsTrue fixes → OnOk result (IsTrue (is_some (schema self.new))) }
         ensures ready { OnOk result (IsTrue (ready self.new)) }
+        ensures known { OnOk result (cat self.new 0) }
+        ensures still_known { cat self.old 0 → (cat self.new 0) × (pages self.new ≡ pages self.old) }
+        ensures reads { (n : ℕ) → cat self.old n → reads self.new ≤ reads self.old + n }
         ensures same { left self.new ≡ left self.old }
         ensures asked { (b : Self) → asked b self.old → asked b self.new }
         ensures cause { HasCause (database self.old) (faults self.old) (faults self.new) result };
@@ -97,6 +114,9 @@ pub trait Base {
         ensures stays { (s : Db) → schema self.old ≡ Some s → schema self.new ≡ Some s }
         ensures fixed { IsTrue fixes → OnOk result (IsTrue (is_some (schema self.new))) }
         ensures ready { OnOk result (IsTrue (ready self.new)) }
+        ensures known { OnOk result (cat self.new 0) }
+        ensures still_known { cat self.old 0 → (cat self.new 0) × (pages self.new ≡ pages self.old) }
+        ensures reads { (n : ℕ) → cat self.old n → reads self.new ≤ reads self.old + n }
         ensures same { left self.new ≡ left self.old }
         ensures asked { (b : Self) → asked b self.old → asked b self.new }
         ensures cause { HasCause (database self.old) (faults self.old) (faults self.new) result };
@@ -115,6 +135,9 @@ pub trait Base {
         ensures stays { (s : Db) → schema self.old ≡ Some s → schema self.new ≡ Some s }
         ensures fixed { IsTrue fixes → OnOk result (IsTrue (is_some (schema self.new))) }
         ensures ready { OnOk result (IsTrue (ready self.new)) }
+        ensures known { OnOk result (cat self.new 0) }
+        ensures still_known { cat self.old 0 → (cat self.new 0) × (pages self.new ≡ pages self.old) }
+        ensures reads { (n : ℕ) → cat self.old n → reads self.new ≤ reads self.old + n }
         ensures same { left self.new ≡ left self.old }
         ensures asked { (b : Self) → asked b self.old → asked b self.new }
         ensures cause { HasCause (database self.old) (faults self.old) (faults self.new) result };
@@ -127,6 +150,9 @@ pub trait Base {
         ensures stays { (s : Db) → schema self.old ≡ Some s → schema self.new ≡ Some s }
         ensures fixed { IsTrue fixes → OnOk result (IsTrue (is_some (schema self.new))) }
         ensures ready { OnOk result (IsTrue (ready self.new)) }
+        ensures known { OnOk result (cat self.new 0) }
+        ensures still_known { cat self.old 0 → (cat self.new 0) × (pages self.new ≡ pages self.old) }
+        ensures reads { (n : ℕ) → cat self.old n → reads self.new ≤ reads self.old + n }
         ensures same { left self.new ≡ left self.old }
         ensures asked { (b : Self) → asked b self.old → asked b self.new }
         ensures cause { HasCause (database self.old) (faults self.old) (faults self.new) result };
@@ -139,6 +165,9 @@ pub trait Base {
         ensures stays { (s : Db) → schema self.old ≡ Some s → schema self.new ≡ Some s }
         ensures fixed { IsTrue fixes → OnOk result (IsTrue (is_some (schema self.new))) }
         ensures ready { OnOk result (IsTrue (ready self.new)) }
+        ensures known { OnOk result (cat self.new 0) }
+        ensures still_known { cat self.old 0 → (cat self.new 0) × (pages self.new ≡ pages self.old) }
+        ensures reads { (n : ℕ) → cat self.old n → reads self.new ≤ reads self.old + (n + pages self.new key.now) }
         ensures same { left self.new ≡ left self.old }
         ensures asked { (b : Self) → asked b self.old → asked b self.new }
         ensures cause { HasCause (database self.old) (faults self.old) (faults self.new) result };
@@ -150,6 +179,9 @@ pub trait Base {
         ensures stays { (s : Db) → schema self.old ≡ Some s → schema self.new ≡ Some s }
         ensures fixed { IsTrue fixes → OnOk result (IsTrue (is_some (schema self.new))) }
         ensures ready { OnOk result (IsTrue (ready self.new)) }
+        ensures known { OnOk result (cat self.new 0) }
+        ensures still_known { cat self.old 0 → (cat self.new 0) × (pages self.new ≡ pages self.old) }
+        ensures reads { (n : ℕ) → cat self.old n → reads self.new ≤ reads self.old + (n + pages self.new key.now) }
         ensures same { left self.new ≡ left self.old }
         ensures asked { (b : Self) → asked b self.old → asked b self.new }
         ensures cause { HasCause (database self.old) (faults self.old) (faults self.new) result };
@@ -176,6 +208,12 @@ pub trait Base {
         ensures stays { (s : Db) → schema self.old ≡ Some s → schema self.new ≡ Some s }
         ensures fixed { IsTrue fixes → OnOk result (IsTrue (is_some (schema self.new))) }
         ensures ready { OnOk result (IsTrue (ready self.new)) }
+        ensures known { OnOk result (cat self.new 0) }
+        ensures still_known { cat self.old 0 → (cat self.new 0) × (pages self.new ≡ pages self.old) }
+        ensures reads { (n : ℕ) → cat self.old n → reads self.new ≤ reads self.old + (n + pages self.new key.now) }
+        // The first call, and each one behind it, leaves so much less to read.
+        ensures begins { (n : ℕ) → cat self.old n → OnOk result (reads self.new + unread self.new key.now at.new ≤ reads self.old + (n + pages self.new key.now)) }
+        ensures goes_on { cat self.old 0 → OnOk result (reads self.new + unread self.new key.now at.new ≤ reads self.old + unread self.old key.now at.old) }
         ensures asked { (b : Self) → asked b self.old → asked b self.new }
         ensures cause { HasCause (database self.old) (faults self.old) (faults self.new) result };
 
@@ -187,6 +225,9 @@ pub trait Base {
         ensures stays { (s : Db) → schema self.old ≡ Some s → schema self.new ≡ Some s }
         ensures fixed { IsTrue fixes → OnOk result (IsTrue (is_some (schema self.new))) }
         ensures ready { OnOk result (IsTrue (ready self.new)) }
+        ensures known { OnOk result (cat self.new 0) }
+        ensures still_known { cat self.old 0 → (cat self.new 0) × (pages self.new ≡ pages self.old) }
+        ensures reads { (n : ℕ) → cat self.old n → reads self.new ≤ reads self.old + n }
         ensures same { left self.new ≡ left self.old }
         ensures asked { (b : Self) → asked b self.old → asked b self.new }
         ensures cause { HasCause (database self.old) (faults self.old) (faults self.new) result };
@@ -199,6 +240,9 @@ pub trait Base {
         ensures stays { (s : Db) → schema self.old ≡ Some s → schema self.new ≡ Some s }
         ensures fixed { IsTrue fixes → OnOk result (IsTrue (is_some (schema self.new))) }
         ensures ready { OnOk result (IsTrue (ready self.new)) }
+        ensures known { OnOk result (cat self.new 0) }
+        ensures still_known { cat self.old 0 → (cat self.new 0) × (pages self.new ≡ pages self.old) }
+        ensures reads { (n : ℕ) → cat self.old n → reads self.new ≤ reads self.old + n }
         ensures same { left self.new ≡ left self.old }
         ensures asked { (b : Self) → asked b self.old → asked b self.new }
         ensures cause { HasCause (database self.old) (faults self.old) (faults self.new) result };
@@ -211,6 +255,9 @@ pub trait Base {
         ensures stays { (s : Db) → schema self.old ≡ Some s → schema self.new ≡ Some s }
         ensures fixed { IsTrue fixes → OnOk result (IsTrue (is_some (schema self.new))) }
         ensures ready { OnOk result (IsTrue (ready self.new)) }
+        ensures known { OnOk result (cat self.new 0) }
+        ensures still_known { cat self.old 0 → (cat self.new 0) × (pages self.new ≡ pages self.old) }
+        ensures reads { (n : ℕ) → cat self.old n → reads self.new ≤ reads self.old + n }
         ensures same { left self.new ≡ left self.old }
         ensures asked { (b : Self) → asked b self.old → asked b self.new }
         ensures cause { HasCause (database self.old) (faults self.old) (faults self.new) result };
@@ -228,6 +275,9 @@ pub trait Base {
         ensures stays { (s : Db) → schema self.old ≡ Some s → schema self.new ≡ Some s }
         ensures fixed { IsTrue fixes → OnOk result (IsTrue (is_some (schema self.new))) }
         ensures ready { OnOk result (IsTrue (ready self.new)) }
+        ensures known { OnOk result (cat self.new 0) }
+        ensures still_known { cat self.old 0 → (cat self.new 0) × (pages self.new ≡ pages self.old) }
+        ensures reads { (n : ℕ) → cat self.old n → reads self.new ≤ reads self.old + n }
         ensures same { left self.new ≡ left self.old }
         ensures asked { (b : Self) → asked b self.old → asked b self.new }
         ensures cause { HasCause (database self.old) (faults self.old) (faults self.new) result };

@@ -1,6 +1,7 @@
 //! What refuses a new relation with given attributes.
 
 ghost use Rattle.std.specs.Prelude.{◌≡◌, ◌∷◌, [], map, IfOk, Some};
+ghost use Rattle.calculus.specs.Database.{Db};
 ghost use Rattle.am_traits.specs.Causes.{HasCause};
 ghost use Rattle.calculus.specs.declared.value.Kind.TheVariants.{Of};
 ghost use Rattle.calculus.specs.Replacement.{first_cause};

@@ -1,6 +1,7 @@
 //! What refuses a statement whose names were found.
 
 ghost use Rattle.std.specs.Prelude.{◌≡◌, List, [], true, option_copied, option_map, IfOk, None, Some};
+ghost use Rattle.calculus.specs.Database.{Db};
 ghost use Rattle.am_traits.specs.Causes.{HasCause};
 ghost use Rattle.calculus.specs.declared.query.Query.{Query};
 ghost use Rattle.calculus.specs.declared.statement.Item.{Item};

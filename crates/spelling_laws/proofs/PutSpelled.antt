@@ -50,7 +50,7 @@ use Rattle.view_text.specs.TextOf.{permit_condition, covering, cut, kept_text, p
 use Rattle.view_text.specs.PutIn.{put_query, put_range, put_source, range_cut, source_cut, put_row, put_made, put_over, put_in, read_cut, changed_text, update_text, update_texts, put_cut, put_in_update, put_in_asked, put_in_tree}
 use Rattle.tree_laws.proofs.Told.{texts_told}
 use Rattle.tree_laws.proofs.Counted.{all_texts}
-use Rattle.tree_laws.proofs.Texts.{view_in}
+use Rattle.tree_laws.proofs.TextLaws.{view_in}
 
 -- constants that are ones
 abbrev Term : QTerm → Type 0

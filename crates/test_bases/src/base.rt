@@ -123,6 +123,12 @@ impl Base for TestBase {
 
     ghost reads = { λ _. 0 };
 
+    ghost cat = { λ _ _. Unit {0} };
+
+    ghost pages = { λ _ _. 0 };
+
+    ghost unread = { λ _ _ _. 0 };
+
     ghost left_since = { λ _ _ _. ⊥ };
 
     ghost ready = { λ _. true };
@@ -138,6 +144,8 @@ impl Base for TestBase {
     ghost scanned = { λ _ db _ told. absurd (none-some db told) };
 
     ghost counts_now = { λ _ _ _ _ left. left };
+
+    ghost whole = { λ _ _ _. omega arith };
 
     ghost starts = { λ _. tt };
 

@@ -36,6 +36,6 @@ pub mod Joined
 pub mod Replaced
 pub mod Permits
 pub mod Counted
-pub mod Texts
+pub mod TextLaws
 pub mod QueryLevels
 pub mod Trees

@@ -33,7 +33,7 @@ use Rattle.tree_laws.proofs.Joined.{doubled, Low, low_all, low_more}
 use Rattle.tree_laws.proofs.Replaced.{term_replaced, qual_replaced, none_made, greatest_terms, row_terms, terms_row, greatest_targets, query_is, built_is, some_qual}
 use Rattle.tree_laws.proofs.Permits.{le_is, cut_low}
 use Rattle.tree_laws.proofs.Counted.{many, many_more, exponent, room, room_some, room_more, conditions_few, conditions_low, put_low, all_texts, texts_long}
-use Rattle.tree_laws.proofs.Texts.{all_low, view_in, view_terms_low, view_qual_low, view_conditions_low, view_conditions_few, term_low, text_low, text_few}
+use Rattle.tree_laws.proofs.TextLaws.{all_low, view_in, view_terms_low, view_qual_low, view_conditions_low, view_conditions_few, term_low, text_low, text_few}
 
 -- ---- a query whose parts are low
 

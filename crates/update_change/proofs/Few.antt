@@ -10,7 +10,7 @@ use Rattle.calculus.specs.Replacement.{old_rows, new_rows, with_rows, without_ro
 use Rattle.calculus.proofs.Sets.{Ascends-set_of}
 use Rattle.am_traits.specs.Scans.{IsScan}
 use Rattle.update_change.proofs.Joined.{set_of-kept}
-use Rattle.update_change.proofs.Moved.{go_is, come_is, left_is}
+use Rattle.update_change.proofs.MovedRows.{go_is, come_is, left_is}
 
 -- what a scan gives once is a set
 pub ascends_scanned : (set rows : List Row) → IsScan set rows → Ascends set

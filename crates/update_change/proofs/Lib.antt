@@ -7,6 +7,6 @@ mod Contended
 mod Differing
 mod InOrder
 pub mod Joined
-pub mod Moved
+pub mod MovedRows
 mod NewRows
 mod Searched

@@ -27,6 +27,12 @@ impl Base for DbPlain {
 
     ghost reads = { λ _. 0 };
 
+    ghost cat = { λ _ _. Unit {0} };
+
+    ghost pages = { λ _ _. 0 };
+
+    ghost unread = { λ _ _ _. 0 };
+
     ghost left_since = { λ _ _ _. ⊥ };
 
     ghost ready = { λ _. true };
@@ -42,6 +48,8 @@ impl Base for DbPlain {
     ghost scanned = { λ b db key e. of_told (λ db. IsScan (rows_at db key) (rows_from (database_of b) key first_place)) (database_of b) db e (whole_scan (database_of b) key b.is) };
 
     ghost counts_now = { λ _ _ _ _ left. left };
+
+    ghost whole = { λ _ _ _. omega arith };
 
     ghost starts = { λ _. tt };
 

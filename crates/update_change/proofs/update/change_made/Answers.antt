@@ -1,7 +1,7 @@
 use Rattle.std.proofs.Common.{ap, ◌∙◌}
 use Rattle.calculus.specs.Rows.{set_of}
 use Rattle.calculus.specs.Replacement.{old_rows, new_rows}
-use Rattle.update_change.proofs.Moved.{IsChange-made}
+use Rattle.update_change.proofs.MovedRows.{IsChange-made}
 use Rattle.update_change.proofs.update.change_made.Goals as goal
 
 pub returns-in-Ok-rows_of_pairs-clause-change : goal.returns-in-Ok-rows_of_pairs-clause-change
