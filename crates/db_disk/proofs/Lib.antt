@@ -15,6 +15,7 @@ pub mod Leaving
 pub mod Loading
 pub mod Making
 pub mod Opens
+pub mod ReadBy
 pub mod Reading
 pub mod Ready
 pub mod Scanned

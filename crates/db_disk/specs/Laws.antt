@@ -1,5 +1,6 @@
 -- What a disk holds is a database, and a scan of it is one.
-use Rattle.std.proofs.Common.{◌≡◌, inl, inr, subst, arith, ℕ, Bool, true, false, Option, Some, None}
+use Rattle.std.proofs.Common.{◌≡◌, inl, inr, subst, arith, ℕ, Bool, true, false, Option, Some, None, ◌≤◌}
+use Rattle.std.specs.Prelude.{if◌then◌else◌}
 use Rattle.std.proofs.lemmas.Option.{none-some}
 use Rattle.calculus.specs.declared.query.RelKey.{RelKey}
 use Rattle.calculus.specs.Database.{Db}
@@ -55,6 +56,11 @@ lawful_by None (Some c) s each is = of_told IsDatabase (schema_of (database_of c
 -- what is known is a database: without rows, where it was read
 pub lawful_known : (tells : Bool) (m : Image) (catalog : Option Catalog) (s : Db) → known_by (told_by tells m) (schema_known catalog) ≡ Some s → IsDatabase s
 lawful_known tells m catalog s is = lawful_by (told_by tells m) catalog s (λ db is. lawful_told tells m db is) is
+
+-- a scan reads no more pages than there are
+pub unread_at_most : (read : Bool) (pages : ℕ) → (if read then 0 else pages) ≤ pages
+unread_at_most true pages = omega arith
+unread_at_most false pages = omega arith
 
 still_left : {D : Type 0} (seen : D → Image) (touched : D → Addr → Type 0) (clock : D → ℕ) (left_since : D → ℕ → Image → Type 0) (d : D) (t : ℕ) (m : Image) →
     IsLeft seen touched clock left_since d (clock d) m → IsLeft seen touched clock left_since d t m

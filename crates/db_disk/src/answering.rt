@@ -2,7 +2,8 @@
 
 ghost use Rattle.std.specs.Prelude.{true};
 ghost use Rattle.am_traits.proofs.Crashes.{asked_itself};
-ghost use Rattle.db_disk.specs.Laws.{lawful_known, left_counts, own_known, scanned_told};
+ghost use Rattle.db_disk.specs.Laws.{lawful_known, left_counts, own_known, scanned_told, unread_at_most};
+ghost use Rattle.db_disk.specs.Reads.{pages_known, pages_unread, rows_in_memory, OpensWith};
 ghost use Rattle.db_disk.specs.Shown.{clock_in, db_of, disk_in, is_restored, known_in, left_in, left_of, schema_in, AskedOf};
 
 use crate::DbDisk;
@@ -24,6 +25,12 @@ impl<D: Disk> Base for DbDisk<D> {
 
     ghost reads = { λ d. D.reads (disk_in d) };
 
+    ghost cat = { OpensWith };
+
+    ghost pages = { pages_known };
+
+    ghost unread = { pages_unread };
+
     ghost left_since = { left_in };
 
     ghost ready = { is_restored };
@@ -39,6 +46,8 @@ impl<D: Disk> Base for DbDisk<D> {
     ghost scanned = { λ d db key is. scanned_told D.tells (D.seen (disk_in d)) db key is };
 
     ghost counts_now = { λ d t o le left. left_counts D.tells D.seen D.touched D.clock D.left_since (disk_in d) t o left };
+
+    ghost whole = { λ d key at. unread_at_most (rows_in_memory d key) (pages_known d key) };
 
     ghost starts = { λ d. asked_itself (clock_in d) (is_restored d) (left_in d) };
 

@@ -5,7 +5,7 @@ use Rattle.schema_laws.proofs.Alike.{entries_alike}
 use Rattle.db_disk.proofs.Asking.{schema_answer}
 use Rattle.db_disk.proofs.Causes.{want_caused}
 use Rattle.db_disk.proofs.Knowing.{same_schema, still_known, there_open}
-use Rattle.db_disk.proofs.Reading.{still_there}
+use Rattle.db_disk.proofs.Reading.{same_files, still_there}
 use Rattle.db_disk.proofs.base.DbDisk.count.Goals as goal
 
 pub invariant_of-self : goal.invariant_of-self
@@ -58,3 +58,9 @@ returns-clause-stays g c = c.open.ensures.stays
 
 pub returns-in_err-open-clause-stays : goal.returns-in_err-open-clause-stays
 returns-in_err-open-clause-stays g c = c.open.ensures.stays
+
+pub returns-clause-files_stay : goal.returns-clause-files_stay
+returns-clause-files_stay g c = λ s is. same_files c.open.new.self.catalog c.count.new.catalog c.count.ensures.same ∙ c.open.ensures.files_stay s is
+
+pub returns-in_err-open-clause-files_stay : goal.returns-in_err-open-clause-files_stay
+returns-in_err-open-clause-files_stay g c = c.open.ensures.files_stay

@@ -3,7 +3,7 @@ use Rattle.calculus.specs.Schema.{schema_of}
 use Rattle.db_disk.proofs.Asking.{schema_answer, dba_alike}
 use Rattle.db_disk.proofs.Causes.{want_caused}
 use Rattle.db_disk.proofs.Knowing.{same_schema, still_known, there_open}
-use Rattle.db_disk.proofs.Reading.{still_there}
+use Rattle.db_disk.proofs.Reading.{same_files, still_there}
 use Rattle.db_disk.proofs.base.DbDisk.dba.Goals as goal
 
 pub invariant_of-self : goal.invariant_of-self
@@ -56,3 +56,9 @@ returns-clause-stays g c = c.open.ensures.stays
 
 pub returns-in_err-open-clause-stays : goal.returns-in_err-open-clause-stays
 returns-in_err-open-clause-stays g c = c.open.ensures.stays
+
+pub returns-clause-files_stay : goal.returns-clause-files_stay
+returns-clause-files_stay g c = λ s is. same_files c.open.new.self.catalog c.dba.new.catalog c.dba.ensures.same ∙ c.open.ensures.files_stay s is
+
+pub returns-in_err-open-clause-files_stay : goal.returns-in_err-open-clause-files_stay
+returns-in_err-open-clause-files_stay g c = c.open.ensures.files_stay

@@ -48,3 +48,9 @@ returns-clause-stays g c = λ is. let first = c.open.ensures.stays is in ((λ to
 
 pub returns-in_err-open-clause-stays : goal.returns-in_err-open-clause-stays
 returns-in_err-open-clause-stays g c = c.open.ensures.stays
+
+pub returns-clause-files_stay : goal.returns-clause-files_stay
+returns-clause-files_stay g c = λ s is. c.fill_open.ensures.files ∙ c.open.ensures.files_stay s is
+
+pub returns-in_err-open-clause-files_stay : goal.returns-in_err-open-clause-files_stay
+returns-in_err-open-clause-files_stay g c = c.open.ensures.files_stay

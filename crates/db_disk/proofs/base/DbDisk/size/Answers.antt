@@ -72,3 +72,9 @@ returns-clause-stays g c = c.filled.ensures.stays
 
 pub returns-in_err-filled-clause-stays : goal.returns-in_err-filled-clause-stays
 returns-in_err-filled-clause-stays g c = c.filled.ensures.stays
+
+pub returns-clause-files_stay : goal.returns-clause-files_stay
+returns-clause-files_stay g c = λ s is. same_files c.filled.new.self.catalog c.size.new.catalog c.size.ensures.same ∙ c.filled.ensures.files_stay s is
+
+pub returns-in_err-filled-clause-files_stay : goal.returns-in_err-filled-clause-files_stay
+returns-in_err-filled-clause-files_stay g c = c.filled.ensures.files_stay
