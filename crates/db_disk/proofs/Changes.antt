@@ -125,11 +125,13 @@ finish_caused {T} {U} pages before now fault result of is same by whole =
     subst (λ (f : BaseFault). HasFileCause {T = U} pages (λ m a. ⊥) before now (Err f)) (sym same)
     (finish_one pages before now fault (subst (FailsBy {T = T} before now) is by) (λ m told. (let e : Err fault ≡ Err restore.Disk = sym is ∙ whole m told in cc e)))
 
+-- a call before it, that answered, left the count
 pub later_caused : {T : Type 0} (told : Option Db) (before mid now : ℕ) (result : Result T BaseFault) → mid ≡ before → HasCause told mid now result → HasCause told before now result
-later_caused told before mid now (Ok x) calm has = record { later = omega (arith, calm, has.later); caused = has.caused ∙ calm }
-later_caused told before mid now (Err faults.Disk) calm has = record { later = omega (arith, calm, has.later); caused = omega (arith, calm, has.caused) }
-later_caused told before mid now (Err (faults.Damaged file page)) calm has = record { later = omega (arith, calm, has.later); caused = has.caused }
-later_caused told before mid now (Err faults.OutOfMemory) calm has = record { later = omega (arith, calm, has.later); caused = tt }
+later_caused told before mid now result calm has = subst (λ (n : ℕ). HasCause told n now result) calm has
+
+-- and what is told
+pub cause_after : {T : Type 0} (told mid_told : Option Db) (before mid now : ℕ) (result : Result T BaseFault) → mid_told ≡ told → mid ≡ before → HasCause mid_told mid now result → HasCause told before now result
+cause_after told mid_told before mid now result same calm has = subst (λ (o : Option Db). HasCause o before now result) same (later_caused mid_told before mid now result calm has)
 
 some_or_none : (n : ℕ) → (n ≡ 0) ⊎ (0 < n)
 some_or_none zero = inl refl
