@@ -1,6 +1,7 @@
 //! A base that tells no database, and answers by what it was given.
 
 ghost use Rattle.std.specs.Prelude.{None, [], false, true, refl};
+ghost use Rattle.std.proofs.Common.{arith};
 ghost use Rattle.std.proofs.lemmas.Option.{none-some};
 ghost use Rattle.am_traits.specs.InMemory.{asked_in_memory};
 

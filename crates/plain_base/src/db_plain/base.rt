@@ -1,6 +1,7 @@
 //! A database in memory answers as any base does.
 
 ghost use Rattle.std.specs.Prelude.{Some, true, refl};
+ghost use Rattle.std.proofs.Common.{arith};
 ghost use Rattle.calculus.specs.IsDatabase.{IsDatabase};
 ghost use Rattle.calculus.specs.Stored.{rows_at};
 ghost use Rattle.am_traits.specs.InMemory.{asked_in_memory};
