@@ -59,7 +59,10 @@ module _ {D : Type 0} {g : Ghosts D} (old new : DbDisk D g) where
 
       -- after the first call of a scan so much less is left to read
       pub scan_begins : (n : ℕ) → OpensWith old n → OnOk result (g.reads (disk_in new) + pages_unread new key behind ≤ g.reads (disk_in old) + (n + pages_known new key))
-      scan_begins n opens = on_ok_into result _ _ (λ is. (let most = reads_rows n opens in let none = none_unread is in omega (arith, most, none))) in_memory
+      scan_begins n opens =
+          let most = reads_rows n opens in
+          on_ok_into result (rows_in_memory new key ≡ true) (g.reads (disk_in new) + pages_unread new key behind ≤ g.reads (disk_in old) + (n + pages_known new key))
+          (λ is. (let none = none_unread is in omega (arith, most, none))) in_memory
 
       -- and after each further one
       pub scan_goes_on : ((s : Db) → schema_in old ≡ Some s → files_known new ≡ files_known old) → (rows_in_memory old key ≡ true → g.reads (disk_in new) ≡ g.reads (disk_in old))
@@ -69,4 +72,5 @@ module _ {D : Type 0} {g : Ghosts D} (old new : DbDisk D g) where
           let known = some_of (schema_in old) there in
           let most = (reads known.0 known.1).at_most in
           let same : pages_known new key ≡ pages_known old key = ap (λ (f : Files). f.used key) (files known.0 known.1) in
-          on_ok_into result _ _ (λ is. less_left (rows_in_memory old key) (g.reads (disk_in old)) (g.reads (disk_in new)) (pages_known old key) (pages_unread new key behind) again (omega (arith, most, same)) (none_unread is)) in_memory
+          on_ok_into result (rows_in_memory new key ≡ true) (g.reads (disk_in new) + pages_unread new key behind ≤ g.reads (disk_in old) + pages_unread old key at)
+          (λ is. less_left (rows_in_memory old key) (g.reads (disk_in old)) (g.reads (disk_in new)) (pages_known old key) (pages_unread new key behind) again (omega (arith, most, same)) (none_unread is)) in_memory
