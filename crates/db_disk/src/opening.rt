@@ -26,7 +26,7 @@ impl<D: Disk> DbDisk<D> {
     ghost use Rattle.db_disk.specs.Load.{as_base, IsNoHead};
     ghost use Rattle.db_disk.specs.Reads.{OpensBy, files_known, rows_in_memory};
     ghost use Rattle.db_disk.specs.Shown.{db_of, disk_in, is_restored, schema_in, StaysRestored};
-    ghost use Rattle.db_disk.specs.declared.load.LoadFault.TheVariants.{Base as OfBase, NoHead as WithoutHead};
+    ghost use Rattle.db_disk.specs.declared.load.LoadFault.TheVariants.{NoHead as WithoutHead};
 
     /// Restores the disk, where that wasn't done yet.
     pub(crate) fn restored(&mut self) -> Result<(), BaseFault>
