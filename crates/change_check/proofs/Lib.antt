@@ -1,3 +1,4 @@
+pub mod BySchema
 pub mod ByKind
 pub mod Differing
 pub mod Entries

@@ -1,1 +1,2 @@
+pub mod BySchema
 pub mod Kept

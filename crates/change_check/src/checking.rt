@@ -1,9 +1,13 @@
 //! Whether a database may take a change.
 
-ghost use Rattle.std.specs.Prelude.{◌≡◌, ◌↔◌, true, IfOk, Some};
+ghost use Rattle.std.specs.Prelude.{◌≡◌, ◌↔◌, List, true, false, IfOk, IsTrue, Some};
 ghost use Rattle.am_traits.specs.Causes.{HasCause};
 ghost use Rattle.calculus.specs.Change.{IsLawful};
 ghost use Rattle.calculus.specs.Database.{Db};
+ghost use Rattle.calculus.specs.Rows.{Row as Values};
+ghost use Rattle.calculus.specs.declared.change.DbChange.TheVariants.{Rows as OfRows};
+ghost use Rattle.calculus.specs.declared.query.RelKey.{RelKey as Key};
+ghost use Rattle.change_check.specs.BySchema.{is_of_rows, rows_stand};
 ghost use Rattle.change_laws.specs.Fit.{change_is_fit};
 
 use crate::destroying::destroying_is_fit;
@@ -20,7 +24,10 @@ use std::alloc::Global;
 
 /// Whether the change may be laid, by the test of its kind.
 fn change_is_fit<B: Base>(alloc: Global, base: &mut B, change: &DbChange) -> Result<bool, BaseFault>
-    ensures told { (db : Db) → B.schema base.old ≡ Some db → IfOk result (λ fit. fit ≡ change_is_fit db change.now) }
+    ensures told { (db : Db) → B.database base.old ≡ Some db → IfOk result (λ fit. fit ≡ change_is_fit db change.now) }
+    ensures by_schema { (s : Db) → B.schema base.old ≡ Some s → is_of_rows change.now ≡ false → IfOk result (λ fit. fit ≡ change_is_fit s change.now) }
+    ensures rows_by_schema { (s : Db) → B.schema base.old ≡ Some s → (rel : Key) (remove add : List Values) → change.now ≡ OfRows rel remove add
+        → IfOk result (λ fit. fit ≡ true → rows_stand s rel remove add ≡ true) }
     ensures kept { B.database base.new ≡ B.database base.old }
     ensures stays { (s : Db) → B.schema base.old ≡ Some s → B.schema base.new ≡ Some s }
     ensures asked { (b : B) → B.asked b base.old → B.asked b base.new }
@@ -53,18 +60,26 @@ fn change_is_fit<B: Base>(alloc: Global, base: &mut B, change: &DbChange) -> Res
 
 /// Whether a database may take a change: true exactly where the change is lawful. Asks the database
 /// part by part, up to the first that is false, and doesn't change it.
+///
+/// The first question fixes the schema. By that alone the answer is told of each change but one of rows,
+/// which is refused, too, where its rows don't differ, don't fit, or have no relation.
 pub fn fit_change<B: Base>(
     alloc: Global,
     base: &mut B,
     change: &DbChange,
 ) -> Result<bool, BaseFault>
-    ensures told { (db : Db) → B.schema base.old ≡ Some db → IfOk result (λ fit. (fit ≡ true) ↔ IsLawful db change.now) }
+    ensures told { (db : Db) → B.database base.old ≡ Some db → IfOk result (λ fit. (fit ≡ true) ↔ IsLawful db change.now) }
+    ensures by_schema { IsTrue B.fixes → (s : Db) → B.schema base.new ≡ Some s → is_of_rows change.now ≡ false
+        → IfOk result (λ fit. (fit ≡ true) ↔ IsLawful s change.now) }
+    ensures rows_by_schema { IsTrue B.fixes → (s : Db) → B.schema base.new ≡ Some s → (rel : Key) (remove add : List Values) → change.now ≡ OfRows rel remove add
+        → IfOk result (λ fit. fit ≡ true → rows_stand s rel remove add ≡ true) }
     ensures kept { B.database base.new ≡ B.database base.old }
     ensures stays { (s : Db) → B.schema base.old ≡ Some s → B.schema base.new ≡ Some s }
     ensures asked { (b : B) → B.asked b base.old → B.asked b base.new }
     ensures same { B.left base.new ≡ B.left base.old }
     ensures cause { HasCause (B.database base.old) (B.faults base.old) (B.faults base.new) result }
 {
+    let _entries = base.count()?;
     let fit = change_is_fit(alloc, base, change)?;
     Ok(fit)
 }

@@ -9,6 +9,7 @@ ghost use Rattle.calculus.specs.IsDatabase.{row_fits};
 ghost use Rattle.calculus.specs.Limits.{most_rows};
 ghost use Rattle.calculus.specs.Rows.{has};
 ghost use Rattle.calculus.specs.Stored.{attrs_at, rows_at};
+ghost use Rattle.change_check.specs.BySchema.{rows_stand};
 ghost use Rattle.change_laws.specs.Fit.{rows_are_fit};
 
 use crate::attributes::row_fits;
@@ -37,7 +38,7 @@ fn has_all<B: Base>(
     rel: &RelKey,
     rows: &[Row],
 ) -> Result<bool, BaseFault>
-    ensures told { (db : Db) → B.schema base.old ≡ Some db → IfOk result (λ all. all ≡ list_all (has (rows_at db rel.now)) rows.now) }
+    ensures told { (db : Db) → B.database base.old ≡ Some db → IfOk result (λ all. all ≡ list_all (has (rows_at db rel.now)) rows.now) }
     ensures kept { B.database base.new ≡ B.database base.old }
     ensures stays { (s : Db) → B.schema base.old ≡ Some s → B.schema base.new ≡ Some s }
     ensures asked { (b : B) → B.asked b base.old → B.asked b base.new }
@@ -60,7 +61,7 @@ fn has_any<B: Base>(
     rel: &RelKey,
     rows: &[Row],
 ) -> Result<bool, BaseFault>
-    ensures told { (db : Db) → B.schema base.old ≡ Some db → IfOk result (λ any. any ≡ list_any (has (rows_at db rel.now)) rows.now) }
+    ensures told { (db : Db) → B.database base.old ≡ Some db → IfOk result (λ any. any ≡ list_any (has (rows_at db rel.now)) rows.now) }
     ensures kept { B.database base.new ≡ B.database base.old }
     ensures stays { (s : Db) → B.schema base.old ≡ Some s → B.schema base.new ≡ Some s }
     ensures asked { (b : B) → B.asked b base.old → B.asked b base.new }
@@ -100,7 +101,7 @@ fn rows_move<B: Base>(
     remove: &[Row],
     add: &[Row],
 ) -> Result<bool, BaseFault>
-    ensures told { (db : Db) → B.schema base.old ≡ Some db
+    ensures told { (db : Db) → B.database base.old ≡ Some db
         → IfOk result (λ b. b ≡ (list_all (has (rows_at db rel.now)) remove.now && not (list_any (has (rows_at db rel.now)) add.now))) }
     ensures kept { B.database base.new ≡ B.database base.old }
     ensures stays { (s : Db) → B.schema base.old ≡ Some s → B.schema base.new ≡ Some s }
@@ -123,7 +124,7 @@ fn few_stay<B: Base>(
     remove: &[Row],
     add: &[Row],
 ) -> Result<bool, BaseFault>
-    ensures told { (db : Db) → B.schema base.old ≡ Some db
+    ensures told { (db : Db) → B.database base.old ≡ Some db
         → IfOk result (λ b. b ≡ nat_le (length (rows_at db rel.now) + length add.now - length remove.now) most_rows) }
     ensures kept { B.database base.new ≡ B.database base.old }
     ensures stays { (s : Db) → B.schema base.old ≡ Some s → B.schema base.new ≡ Some s }
@@ -180,8 +181,9 @@ fn rows_have_parts<B: Base>(
     remove: &[Row],
     add: &[Row],
 ) -> Result<bool, BaseFault>
-    ensures told { (db : Db) → B.schema base.old ≡ Some db → is_relation db rel.now ≡ true → attrs_at db rel.now ≡ attrs.now
+    ensures told { (db : Db) → B.database base.old ≡ Some db → is_relation db rel.now ≡ true → attrs_at db rel.now ≡ attrs.now
         → IfOk result (λ fit. fit ≡ rows_are_fit db rel.now remove.now add.now) }
+    ensures stand { IfOk result (λ fit. fit ≡ true → (rows_differ remove.now && (rows_differ add.now && list_all (row_fits attrs.now) add.now)) ≡ true) }
     ensures kept { B.database base.new ≡ B.database base.old }
     ensures stays { (s : Db) → B.schema base.old ≡ Some s → B.schema base.new ≡ Some s }
     ensures asked { (b : B) → B.asked b base.old → B.asked b base.new }
@@ -207,7 +209,8 @@ pub(crate) fn rows_are_fit<B: Base>(
     remove: &[Row],
     add: &[Row],
 ) -> Result<bool, BaseFault>
-    ensures told { (db : Db) → B.schema base.old ≡ Some db → IfOk result (λ fit. fit ≡ rows_are_fit db rel.now remove.now add.now) }
+    ensures told { (db : Db) → B.database base.old ≡ Some db → IfOk result (λ fit. fit ≡ rows_are_fit db rel.now remove.now add.now) }
+    ensures by_schema { (s : Db) → B.schema base.old ≡ Some s → IfOk result (λ fit. fit ≡ true → rows_stand s rel.now remove.now add.now ≡ true) }
     ensures kept { B.database base.new ≡ B.database base.old }
     ensures stays { (s : Db) → B.schema base.old ≡ Some s → B.schema base.new ≡ Some s }
     ensures asked { (b : B) → B.asked b base.old → B.asked b base.new }

@@ -26,6 +26,12 @@ pub record HasCause {T : Type 0} (refused : Db → ℕ → Type 0) (told : Optio
   pub later : before ≤ now
   pub caused : IsCaused refused told before now result
 
+-- where this fault says too many variables, they are more than 50, and it has their number
+abbrev pub HasMany : Db → Query → ExpandFault → Type 0
+HasMany db q (expand.TooMany vars) = (50 < expanded_variables db q) × (vars ≡ min (expanded_variables db q) (2 ^ 32 - 1))
+HasMany db q (expand.Base fault) = ⊤
+HasMany db q expand.OutOfMemory = ⊤
+
 -- this fault may come of expanding a query: too many variables exactly where they are more than 50 in the database that is told, with their number; a fault of the database where it may come; want of memory
 abbrev pub MayNotExpand : Query → Option Db → ℕ → ℕ → ExpandFault → Type 0
 MayNotExpand q told before now (expand.TooMany vars) = (db : Db) → told ≡ Some db → (50 < expanded_variables db q) × (vars ≡ min (expanded_variables db q) (2 ^ 32 - 1))

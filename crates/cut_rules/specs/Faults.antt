@@ -1,5 +1,6 @@
 -- What a fault of a variable's text is for the tree.
-use Rattle.std.specs.Prelude.{ℕ, ◌-◌, ◌^◌}
+use Rattle.std.specs.Prelude.{ℕ}
+use Rattle.am_traits.specs.declared.fault.BaseFault.TheVariants as base
 use Rattle.view_expand.specs.declared.fault.TextFault.{TextFault}
 use Rattle.view_expand.specs.declared.fault.TextFault.TheVariants as text
 use Rattle.cut_rules.specs.declared.fault.CutFault.{CutFault}
@@ -14,9 +15,9 @@ fault_at var text.TooMany = cut.TooMany
 fault_at var (text.Base fault) = cut.Base fault
 fault_at var text.OutOfMemory = cut.OutOfMemory
 
--- why a query isn't expanded, where it isn't put in: where no database is told, more variables than can be numbered stand for what has no other name
+-- why a query isn't expanded, where it isn't put in: nothing is refused to nobody in particular and 50 variables have places, so a base that says else stands for no database
 abbrev pub unexpanded : CutFault → ExpandFault
-unexpanded (cut.NoPermit var) = expand.TooMany (2 ^ 32 - 1)
-unexpanded cut.TooMany = expand.TooMany (2 ^ 32 - 1)
+unexpanded (cut.NoPermit var) = expand.Base (base.Damaged 0 0)
+unexpanded cut.TooMany = expand.Base (base.Damaged 0 0)
 unexpanded (cut.Base fault) = expand.Base fault
 unexpanded cut.OutOfMemory = expand.OutOfMemory

@@ -126,13 +126,13 @@ fn put_aggregate<B: Base>(
     texts: &[Text],
     found: &mut TextsFound,
 ) -> Result<QAgg, TextFault>
-    requires source { (db : Db) → B.schema base.old ≡ Some db → source_fits (kept_or_viewed db) db g.now.source ≡ true }
+    requires source { (db : Db) → B.database base.old ≡ Some db → source_fits (kept_or_viewed db) db g.now.source ≡ true }
     requires scoped { list_all is_scoped texts.now ≡ true }
     requires fits { length (texts_vars texts.now) ≤ 256 }
-    requires found { (db : Db) → B.schema base.old ≡ Some db → IsFound db (who_of (option_map (λ n. n.now) who)) found.old }
-    ensures told { (db : Db) → B.schema base.old ≡ Some db → IfOk result (λ made. made ≡ put_aggregate db (who_of (option_map (λ n. n.now) who.entry)) (put_from 0 texts.now) g.now) }
-    ensures permitted { (db : Db) → B.schema base.old ≡ Some db → OnOk result (source_permitted (readable db (who_of (option_map (λ n. n.now) who.entry))) (used_in_aggregate g.now) g.now.source ≡ true) }
-    ensures found { (db : Db) → B.schema base.old ≡ Some db → IsFound db (who_of (option_map (λ n. n.now) who.entry)) found.new }
+    requires found { (db : Db) → B.database base.old ≡ Some db → IsFound db (who_of (option_map (λ n. n.now) who)) found.old }
+    ensures told { (db : Db) → B.database base.old ≡ Some db → IfOk result (λ made. made ≡ put_aggregate db (who_of (option_map (λ n. n.now) who.entry)) (put_from 0 texts.now) g.now) }
+    ensures permitted { (db : Db) → B.database base.old ≡ Some db → OnOk result (source_permitted (readable db (who_of (option_map (λ n. n.now) who.entry))) (used_in_aggregate g.now) g.now.source ≡ true) }
+    ensures found { (db : Db) → B.database base.old ≡ Some db → IsFound db (who_of (option_map (λ n. n.now) who.entry)) found.new }
     ensures kept { B.database base.new ≡ B.database base.old }
     ensures stays { (s : Db) → B.schema base.old ≡ Some s → B.schema base.new ≡ Some s }
     ensures asked { (b : B) → B.asked b base.old → B.asked b base.new }
@@ -170,13 +170,13 @@ fn put_all<B: Base>(
     made: &mut Vec<QAgg>,
     found: &mut TextsFound,
 ) -> Result<(), TextFault>
-    requires sources { (db : Db) → B.schema base.old ≡ Some db → list_all (λ g. source_fits (kept_or_viewed db) db g.now.source) aggregates.now ≡ true }
+    requires sources { (db : Db) → B.database base.old ≡ Some db → list_all (λ g. source_fits (kept_or_viewed db) db g.now.source) aggregates.now ≡ true }
     requires scoped { list_all is_scoped texts.now ≡ true }
     requires fits { length (texts_vars texts.now) ≤ 256 }
-    requires found { (db : Db) → B.schema base.old ≡ Some db → IsFound db (who_of (option_map (λ n. n.now) who)) found.old }
-    ensures told { (db : Db) → B.schema base.old ≡ Some db → OnOk result (made.new.items ≡ made.old.items ++ map (λ g. put_aggregate db (who_of (option_map (λ n. n.now) who.entry)) (put_from 0 texts.now) g.now) aggregates.now) }
-    ensures permitted { (db : Db) → B.schema base.old ≡ Some db → OnOk result (list_all (λ g. source_permitted (readable db (who_of (option_map (λ n. n.now) who.entry))) (used_in_aggregate g.now) g.now.source) aggregates.now ≡ true) }
-    ensures found { (db : Db) → B.schema base.old ≡ Some db → IsFound db (who_of (option_map (λ n. n.now) who.entry)) found.new }
+    requires found { (db : Db) → B.database base.old ≡ Some db → IsFound db (who_of (option_map (λ n. n.now) who)) found.old }
+    ensures told { (db : Db) → B.database base.old ≡ Some db → OnOk result (made.new.items ≡ made.old.items ++ map (λ g. put_aggregate db (who_of (option_map (λ n. n.now) who.entry)) (put_from 0 texts.now) g.now) aggregates.now) }
+    ensures permitted { (db : Db) → B.database base.old ≡ Some db → OnOk result (list_all (λ g. source_permitted (readable db (who_of (option_map (λ n. n.now) who.entry))) (used_in_aggregate g.now) g.now.source) aggregates.now ≡ true) }
+    ensures found { (db : Db) → B.database base.old ≡ Some db → IsFound db (who_of (option_map (λ n. n.now) who.entry)) found.new }
     ensures kept { B.database base.new ≡ B.database base.old }
     ensures stays { (s : Db) → B.schema base.old ≡ Some s → B.schema base.new ≡ Some s }
     ensures asked { (b : B) → B.asked b base.old → B.asked b base.new }
@@ -203,13 +203,13 @@ pub(crate) fn put_aggregates<B: Base>(
     texts: &[Text],
     found: &mut TextsFound,
 ) -> Result<Vec<QAgg>, TextFault>
-    requires sources { (db : Db) → B.schema base.old ≡ Some db → sources_fit (kept_or_viewed db) db query.now ≡ true }
+    requires sources { (db : Db) → B.database base.old ≡ Some db → sources_fit (kept_or_viewed db) db query.now ≡ true }
     requires scoped { list_all is_scoped texts.now ≡ true }
     requires fits { length (texts_vars texts.now) ≤ 256 }
-    requires found { (db : Db) → B.schema base.old ≡ Some db → IsFound db (who_of (option_map (λ n. n.now) who)) found.old }
-    ensures told { (db : Db) → B.schema base.old ≡ Some db → IfOk result (λ made. made.items ≡ map (put_aggregate db (who_of (option_map (λ n. n.now) who.entry)) (put_from 0 texts.now)) (query_aggregates query.now)) }
-    ensures permitted { (db : Db) → B.schema base.old ≡ Some db → OnOk result (aggregates_permitted (readable db (who_of (option_map (λ n. n.now) who.entry))) query.now ≡ true) }
-    ensures found { (db : Db) → B.schema base.old ≡ Some db → IsFound db (who_of (option_map (λ n. n.now) who.entry)) found.new }
+    requires found { (db : Db) → B.database base.old ≡ Some db → IsFound db (who_of (option_map (λ n. n.now) who)) found.old }
+    ensures told { (db : Db) → B.database base.old ≡ Some db → IfOk result (λ made. made.items ≡ map (put_aggregate db (who_of (option_map (λ n. n.now) who.entry)) (put_from 0 texts.now)) (query_aggregates query.now)) }
+    ensures permitted { (db : Db) → B.database base.old ≡ Some db → OnOk result (aggregates_permitted (readable db (who_of (option_map (λ n. n.now) who.entry))) query.now ≡ true) }
+    ensures found { (db : Db) → B.database base.old ≡ Some db → IsFound db (who_of (option_map (λ n. n.now) who.entry)) found.new }
     ensures kept { B.database base.new ≡ B.database base.old }
     ensures stays { (s : Db) → B.schema base.old ≡ Some s → B.schema base.new ≡ Some s }
     ensures asked { (b : B) → B.asked b base.old → B.asked b base.new }

@@ -34,11 +34,11 @@ fn put_asked<B: Base>(
     made: &mut Vec<Asked>,
     found: &mut TextsFound,
 ) -> Result<(), CutFault>
-    requires fit { (db : Db) → B.schema base.old ≡ Some db → asked_fits (kept_or_viewed db) db asked.now ≡ true }
-    requires found { (db : Db) → B.schema base.old ≡ Some db → IsFound db (who_of (option_map (λ n. n.now) who)) found.old }
-    ensures told { (db : Db) → B.schema base.old ≡ Some db → OnOk result (made.new.items ≡ made.old.items ++ put_in_asked db (who_of (option_map (λ n. n.now) who.entry)) asked.now ∷ []) }
-    ensures permitted { (db : Db) → B.schema base.old ≡ Some db → OnOk result (query_permitted db (who_of (option_map (λ n. n.now) who.entry)) asked.now.query ≡ true) }
-    ensures found { (db : Db) → B.schema base.old ≡ Some db → IsFound db (who_of (option_map (λ n. n.now) who.entry)) found.new }
+    requires fit { (db : Db) → B.database base.old ≡ Some db → asked_fits (kept_or_viewed db) db asked.now ≡ true }
+    requires found { (db : Db) → B.database base.old ≡ Some db → IsFound db (who_of (option_map (λ n. n.now) who)) found.old }
+    ensures told { (db : Db) → B.database base.old ≡ Some db → OnOk result (made.new.items ≡ made.old.items ++ put_in_asked db (who_of (option_map (λ n. n.now) who.entry)) asked.now ∷ []) }
+    ensures permitted { (db : Db) → B.database base.old ≡ Some db → OnOk result (query_permitted db (who_of (option_map (λ n. n.now) who.entry)) asked.now.query ≡ true) }
+    ensures found { (db : Db) → B.database base.old ≡ Some db → IsFound db (who_of (option_map (λ n. n.now) who.entry)) found.new }
     ensures kept { B.database base.new ≡ B.database base.old }
     ensures stays { (s : Db) → B.schema base.old ≡ Some s → B.schema base.new ≡ Some s }
     ensures asked { (b : B) → B.asked b base.old → B.asked b base.new }
@@ -66,11 +66,11 @@ fn put_all_asked<B: Base>(
     made: &mut Vec<Asked>,
     found: &mut TextsFound,
 ) -> Result<(), CutFault>
-    requires fit { (db : Db) → B.schema base.old ≡ Some db → list_all (asked_fits (kept_or_viewed db) db) asked.now ≡ true }
-    requires found { (db : Db) → B.schema base.old ≡ Some db → IsFound db (who_of (option_map (λ n. n.now) who)) found.old }
-    ensures told { (db : Db) → B.schema base.old ≡ Some db → OnOk result (made.new.items ≡ made.old.items ++ map (put_in_asked db (who_of (option_map (λ n. n.now) who.entry))) asked.now) }
-    ensures permitted { (db : Db) → B.schema base.old ≡ Some db → OnOk result (list_all (λ a. query_permitted db (who_of (option_map (λ n. n.now) who.entry)) a.query) asked.now ≡ true) }
-    ensures found { (db : Db) → B.schema base.old ≡ Some db → IsFound db (who_of (option_map (λ n. n.now) who.entry)) found.new }
+    requires fit { (db : Db) → B.database base.old ≡ Some db → list_all (asked_fits (kept_or_viewed db) db) asked.now ≡ true }
+    requires found { (db : Db) → B.database base.old ≡ Some db → IsFound db (who_of (option_map (λ n. n.now) who)) found.old }
+    ensures told { (db : Db) → B.database base.old ≡ Some db → OnOk result (made.new.items ≡ made.old.items ++ map (put_in_asked db (who_of (option_map (λ n. n.now) who.entry))) asked.now) }
+    ensures permitted { (db : Db) → B.database base.old ≡ Some db → OnOk result (list_all (λ a. query_permitted db (who_of (option_map (λ n. n.now) who.entry)) a.query) asked.now ≡ true) }
+    ensures found { (db : Db) → B.database base.old ≡ Some db → IsFound db (who_of (option_map (λ n. n.now) who.entry)) found.new }
     ensures kept { B.database base.new ≡ B.database base.old }
     ensures stays { (s : Db) → B.schema base.old ≡ Some s → B.schema base.new ≡ Some s }
     ensures asked { (b : B) → B.asked b base.old → B.asked b base.new }
@@ -93,11 +93,11 @@ fn asked_tree<B: Base>(
     asked: &[Asked],
     found: &mut TextsFound,
 ) -> Result<Checked, CutFault>
-    requires fit { (db : Db) → B.schema base.old ≡ Some db → list_all (asked_fits (kept_or_viewed db) db) asked.now ≡ true }
-    requires found { (db : Db) → B.schema base.old ≡ Some db → IsFound db (who_of (option_map (λ n. n.now) who)) found.old }
-    ensures told { (db : Db) → B.schema base.old ≡ Some db → IfOk result (λ made. made ≡ Answer (map (put_in_asked db (who_of (option_map (λ n. n.now) who.entry))) asked.now)) }
-    ensures permitted { (db : Db) → B.schema base.old ≡ Some db → OnOk result (list_all (λ a. query_permitted db (who_of (option_map (λ n. n.now) who.entry)) a.query) asked.now ≡ true) }
-    ensures found { (db : Db) → B.schema base.old ≡ Some db → IsFound db (who_of (option_map (λ n. n.now) who.entry)) found.new }
+    requires fit { (db : Db) → B.database base.old ≡ Some db → list_all (asked_fits (kept_or_viewed db) db) asked.now ≡ true }
+    requires found { (db : Db) → B.database base.old ≡ Some db → IsFound db (who_of (option_map (λ n. n.now) who)) found.old }
+    ensures told { (db : Db) → B.database base.old ≡ Some db → IfOk result (λ made. made ≡ Answer (map (put_in_asked db (who_of (option_map (λ n. n.now) who.entry))) asked.now)) }
+    ensures permitted { (db : Db) → B.database base.old ≡ Some db → OnOk result (list_all (λ a. query_permitted db (who_of (option_map (λ n. n.now) who.entry)) a.query) asked.now ≡ true) }
+    ensures found { (db : Db) → B.database base.old ≡ Some db → IsFound db (who_of (option_map (λ n. n.now) who.entry)) found.new }
     ensures kept { B.database base.new ≡ B.database base.old }
     ensures stays { (s : Db) → B.schema base.old ≡ Some s → B.schema base.new ≡ Some s }
     ensures asked { (b : B) → B.asked b base.old → B.asked b base.new }
@@ -119,11 +119,11 @@ fn put_in_tree<B: Base>(
     tree: &Checked,
     found: &mut TextsFound,
 ) -> Result<Checked, CutFault>
-    requires fit { (db : Db) → B.schema base.old ≡ Some db → is_fit_with_views db user.now tree.now ≡ true }
-    requires found { (db : Db) → B.schema base.old ≡ Some db → IsFound db (asks user.now) found.old }
-    ensures told { (db : Db) → B.schema base.old ≡ Some db → IfOk result (λ made. made ≡ put_in_tree db (asks user.now) tree.now) }
-    ensures permitted { (db : Db) → B.schema base.old ≡ Some db → OnOk result (checked_permitted db (asks user.now) tree.now ≡ true) }
-    ensures found { (db : Db) → B.schema base.old ≡ Some db → IsFound db (asks user.now) found.new }
+    requires fit { (db : Db) → B.database base.old ≡ Some db → is_fit_with_views db user.now tree.now ≡ true }
+    requires found { (db : Db) → B.database base.old ≡ Some db → IsFound db (asks user.now) found.old }
+    ensures told { (db : Db) → B.database base.old ≡ Some db → IfOk result (λ made. made ≡ put_in_tree db (asks user.now) tree.now) }
+    ensures permitted { (db : Db) → B.database base.old ≡ Some db → OnOk result (checked_permitted db (asks user.now) tree.now ≡ true) }
+    ensures found { (db : Db) → B.database base.old ≡ Some db → IsFound db (asks user.now) found.new }
     ensures kept { B.database base.new ≡ B.database base.old }
     ensures stays { (s : Db) → B.schema base.old ≡ Some s → B.schema base.new ≡ Some s }
     ensures asked { (b : B) → B.asked b base.old → B.asked b base.new }
@@ -154,10 +154,10 @@ pub fn cut_permits<B: Base>(
     user: &Name,
     tree: &Checked,
 ) -> Result<Checked, CutFault>
-    requires { (db : Db) → B.schema base.old ≡ Some db → is_fit_with_views db user.now tree.now ≡ true }
-    ensures told { (db : Db) → B.schema base.old ≡ Some db → IfOk result (λ made. made ≡ put_in_tree db (asks user.now) tree.now) }
-    ensures means { (db : Db) → B.schema base.old ≡ Some db → (shelf : Files) → IfOk result (λ made. tree_meaning db shelf Free user.now made ≡ tree_meaning db shelf (asks user.now) user.now tree.now) }
-    ensures permitted { (db : Db) → B.schema base.old ≡ Some db → OnOk result (checked_permitted db (asks user.now) tree.now ≡ true) }
+    requires { (db : Db) → B.database base.old ≡ Some db → is_fit_with_views db user.now tree.now ≡ true }
+    ensures told { (db : Db) → B.database base.old ≡ Some db → IfOk result (λ made. made ≡ put_in_tree db (asks user.now) tree.now) }
+    ensures means { (db : Db) → B.database base.old ≡ Some db → (shelf : Files) → IfOk result (λ made. tree_meaning db shelf Free user.now made ≡ tree_meaning db shelf (asks user.now) user.now tree.now) }
+    ensures permitted { (db : Db) → B.database base.old ≡ Some db → OnOk result (checked_permitted db (asks user.now) tree.now ≡ true) }
     ensures kept { B.database base.new ≡ B.database base.old }
     ensures stays { (s : Db) → B.schema base.old ≡ Some s → B.schema base.new ≡ Some s }
     ensures asked { (b : B) → B.asked b base.old → B.asked b base.new }

@@ -1,11 +1,11 @@
 //! Queries with the views in them put in.
 
-ghost use Rattle.std.specs.Prelude.{◌≡◌, ◌≤◌, ◌-◌, ◌^◌, min, true, Some, IfOk, OnOk};
+ghost use Rattle.std.specs.Prelude.{◌≡◌, ◌≤◌, ◌-◌, ◌^◌, min, true, Some, IfErr, IfOk, IsTrue, OnOk};
 ghost use Rattle.calculus.specs.Answer.{answer, lacks};
 ghost use Rattle.calculus.specs.Database.{Db};
 ghost use Rattle.calculus.specs.Sizes.{expanded_variables};
 ghost use Rattle.calculus.specs.Who.{Free};
-ghost use Rattle.cut_rules.specs.Causes.{HasExpandCause};
+ghost use Rattle.cut_rules.specs.Causes.{HasExpandCause, HasMany};
 ghost use Rattle.cut_rules.specs.Faults.{unexpanded};
 ghost use Rattle.quel_meaning.specs.FitQueries.{kept_or_viewed, reads_fit};
 ghost use Rattle.tree_laws.specs.Nesting.{aggregates_nest_none};
@@ -13,7 +13,7 @@ ghost use Rattle.view_text.specs.PutIn.{put_in};
 
 use crate::put_in::put_in;
 use crate::{CutFault, ExpandFault};
-use am_traits::Base;
+use am_traits::{Base, BaseFault};
 use calculus::Query;
 use std::alloc::Global;
 use view_expand::TextsFound;
@@ -33,28 +33,28 @@ fn capped(vars: u64) -> u32
     }
 }
 
-/// Why the query isn't expanded, where its texts aren't put in.
+/// Why the query isn't expanded, where its texts aren't put in. Nothing is refused to nobody in particular,
+/// and 50 variables have places: a base that answers so stands for no database.
 fn unexpanded(fault: CutFault) -> ExpandFault
     ensures { result ≡ unexpanded fault }
 {
     match fault {
-        CutFault::NoPermit { var: _ } => ExpandFault::TooMany { vars: u32::MAX },
-        CutFault::TooMany => ExpandFault::TooMany { vars: u32::MAX },
+        CutFault::NoPermit { var: _ } => ExpandFault::Base(BaseFault::Damaged { file: 0, page: 0 }),
+        CutFault::TooMany => ExpandFault::Base(BaseFault::Damaged { file: 0, page: 0 }),
         CutFault::Base(fault) => ExpandFault::Base(fault),
         CutFault::OutOfMemory => ExpandFault::OutOfMemory,
     }
 }
 
-/// The query over base relations and catalogues alone, its views put in: it has the same answer for nobody
-/// in particular, and a target lacks a value in the same case, where no aggregate stands in another.
-/// `TooMany` exactly where more than 50 variables result, with their number. Not for the query of an
-/// update, whose changed variable stays what it is.
-pub fn expand<B: Base>(alloc: Global, base: &mut B, query: &Query) -> Result<Query, ExpandFault>
-    requires { (db : Db) → B.schema base.old ≡ Some db → reads_fit (kept_or_viewed db) db query.now ≡ true }
-    ensures told { (db : Db) → B.schema base.old ≡ Some db → IfOk result (λ made. made ≡ put_in db Free query.now) }
-    ensures answer { (db : Db) → B.schema base.old ≡ Some db → aggregates_nest_none query.now ≡ true → IfOk result (λ made. answer db Free made ≡ answer db Free query.now) }
-    ensures lacks { (db : Db) → B.schema base.old ≡ Some db → aggregates_nest_none query.now ≡ true → IfOk result (λ made. lacks db Free made ≡ lacks db Free query.now) }
-    ensures few { (db : Db) → B.schema base.old ≡ Some db → OnOk result (expanded_variables db query.now ≤ 50) }
+/// The query with its views put in, as `expand`.
+fn expand_fixed<B: Base>(alloc: Global, base: &mut B, query: &Query) -> Result<Query, ExpandFault>
+    requires { (db : Db) → B.database base.old ≡ Some db → reads_fit (kept_or_viewed db) db query.now ≡ true }
+    ensures told { (db : Db) → B.database base.old ≡ Some db → IfOk result (λ made. made ≡ put_in db Free query.now) }
+    ensures answer { (db : Db) → B.database base.old ≡ Some db → aggregates_nest_none query.now ≡ true → IfOk result (λ made. answer db Free made ≡ answer db Free query.now) }
+    ensures lacks { (db : Db) → B.database base.old ≡ Some db → aggregates_nest_none query.now ≡ true → IfOk result (λ made. lacks db Free made ≡ lacks db Free query.now) }
+    ensures few { (db : Db) → B.database base.old ≡ Some db → OnOk result (expanded_variables db query.now ≤ 50) }
+    ensures few_by_schema { (s : Db) → B.schema base.old ≡ Some s → reads_fit (kept_or_viewed s) s query.now ≡ true → OnOk result (expanded_variables s query.now ≤ 50) }
+    ensures many_by_schema { (s : Db) → B.schema base.old ≡ Some s → reads_fit (kept_or_viewed s) s query.now ≡ true → IfErr result (HasMany s query.now) }
     ensures kept { B.database base.new ≡ B.database base.old }
     ensures stays { (s : Db) → B.schema base.old ≡ Some s → B.schema base.new ≡ Some s }
     ensures asked { (b : B) → B.asked b base.old → B.asked b base.new }
@@ -70,4 +70,29 @@ pub fn expand<B: Base>(alloc: Global, base: &mut B, query: &Query) -> Result<Que
         Ok(made) => Ok(made),
         Err(fault) => Err(unexpanded(fault)),
     }
+}
+
+/// The query over base relations and catalogues alone, its views put in: it has the same answer for nobody
+/// in particular, and a target lacks a value in the same case, where no aggregate stands in another.
+/// `TooMany` exactly where more than 50 variables result, with their number: the schema decides that, which the
+/// first question fixes. Not for the query of an
+/// update, whose changed variable stays what it is.
+pub fn expand<B: Base>(alloc: Global, base: &mut B, query: &Query) -> Result<Query, ExpandFault>
+    requires { (db : Db) → B.database base.old ≡ Some db → reads_fit (kept_or_viewed db) db query.now ≡ true }
+    ensures told { (db : Db) → B.database base.old ≡ Some db → IfOk result (λ made. made ≡ put_in db Free query.now) }
+    ensures answer { (db : Db) → B.database base.old ≡ Some db → aggregates_nest_none query.now ≡ true → IfOk result (λ made. answer db Free made ≡ answer db Free query.now) }
+    ensures lacks { (db : Db) → B.database base.old ≡ Some db → aggregates_nest_none query.now ≡ true → IfOk result (λ made. lacks db Free made ≡ lacks db Free query.now) }
+    ensures few { (db : Db) → B.database base.old ≡ Some db → OnOk result (expanded_variables db query.now ≤ 50) }
+    ensures few_by_schema { IsTrue B.fixes → (s : Db) → B.schema base.new ≡ Some s → reads_fit (kept_or_viewed s) s query.now ≡ true
+        → OnOk result (expanded_variables s query.now ≤ 50) }
+    ensures many_by_schema { IsTrue B.fixes → (s : Db) → B.schema base.new ≡ Some s → reads_fit (kept_or_viewed s) s query.now ≡ true
+        → IfErr result (HasMany s query.now) }
+    ensures kept { B.database base.new ≡ B.database base.old }
+    ensures stays { (s : Db) → B.schema base.old ≡ Some s → B.schema base.new ≡ Some s }
+    ensures asked { (b : B) → B.asked b base.old → B.asked b base.new }
+    ensures same { B.left base.new ≡ B.left base.old }
+    ensures cause { HasExpandCause query.now (B.database base.old) (B.faults base.old) (B.faults base.new) result }
+{
+    let _entries = base.count()?;
+    expand_fixed(alloc, base, query)
 }

@@ -49,6 +49,7 @@ fn with_rules(alloc: Global, rules: &[Rule], mut u: Update) -> Result<Update, Ou
 #[tactic(auto, unfolding(calculus::specs::Pairs::ruled))]
 pub fn add_rules<B: Base>(alloc: Global, base: &mut B, u: Update) -> Result<Update, BaseFault>
     ensures told { (db : Db) → B.schema base.old ≡ Some db → IfOk result (λ made. made ≡ ruled db u) }
+    ensures by_schema { (s : Db) → B.schema base.new ≡ Some s → IfOk result (λ made. made ≡ ruled s u) }
     ensures kept { B.database base.new ≡ B.database base.old }
     ensures stays { (s : Db) → B.schema base.old ≡ Some s → B.schema base.new ≡ Some s }
     ensures asked { (b : B) → B.asked b base.old → B.asked b base.new }

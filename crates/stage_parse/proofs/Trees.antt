@@ -1,14 +1,10 @@
 -- What comes of a statement, by what it is resolved to and what is cut of that.
-use Rattle.std.proofs.Common.{◌≡◌, refl, sym, ap, ◌∙◌, ℕ, Bool, true, false, ◌&&◌, IsTrue, IfOk, List, Result, Ok, Err}
+use Rattle.std.proofs.Common.{◌≡◌, refl, sym, ap, ◌∙◌, ℕ, Bool, true, false, List, Result, Ok, Err}
 use Rattle.calculus.specs.declared.request.Checked.{Checked}
-use Rattle.calculus.specs.declared.request.Checked.TheVariants as checked
-use Rattle.calculus.specs.declared.request.Utility.TheVariants as utility
 use Rattle.calculus.specs.declared.statement.Statement.{Statement}
 use Rattle.calculus.specs.Database.{Db}
-use Rattle.calculus.specs.IsDatabase.{IsDatabase, user_is_named}
+use Rattle.calculus.specs.IsDatabase.{IsDatabase}
 use Rattle.calculus.specs.Name.{is_name}
-use Rattle.calculus.specs.Rights.{are_rights}
-use Rattle.calculus.specs.Spelled.{qual_is_spelled}
 use Rattle.calculus.specs.Who.{Who, Free, asker_of, asks}
 use Rattle.quel_meaning.specs.Fit.{suits, fits, is_fit, is_fit_with_views}
 use Rattle.quel_meaning.specs.FitQueries.{kept_or_viewed}
@@ -16,53 +12,25 @@ use Rattle.quel_meaning.specs.IsWritten.{is_written}
 use Rattle.quel_meaning.specs.Meaning.{checked_permitted, judged, judged_by, judged_tree, permitted_tree, ruled_tree, tree_meaning}
 use Rattle.quel_meaning.specs.Ranges.{Ranges}
 use Rattle.quel_meaning.specs.Resolved.{resolved}
-use Rattle.quel_meaning.specs.SpelledTree.{tree_is_spelled, utility_is_spelled}
+use Rattle.quel_meaning.specs.SpelledTree.{tree_is_spelled}
 use Rattle.quel_meaning.proofs.Each.{left}
 use Rattle.quel_meaning.proofs.FitResolved.{resolved_fits}
 use Rattle.quel_resolve.specs.Answers.{Resolves}
 use Rattle.utility_trees.specs.Answers.{Says}
 use Rattle.utility_trees.specs.declared.fault.CheckFault.{CheckFault}
 use Rattle.utility_trees.specs.declared.fault.CheckFault.TheVariants as fault
-use Rattle.update_laws.specs.Walked.{names_rights}
 use Rattle.view_text.specs.PutIn.{put_in_tree}
 use Rattle.tree_laws.proofs.FitTree.{fit_ruled}
 use Rattle.tree_laws.proofs.Means.{ruled_means_same}
+use Rattle.spelling_laws.proofs.PutSpelled.{all_spelled}
 use Rattle.stage_parse.specs.Checks.{IsChecked, Checks}
 
--- ---- rights
+-- ---- constants
 
--- a permit in a tree that is spelled names rights
-rights_spelled : (tree : Checked) → tree_is_spelled tree ≡ true → names_rights tree ≡ true
-unfolding tree_is_spelled utility_is_spelled
-rights_spelled (checked.Utility (utility.Permit rel permit)) h = go (user_is_named permit.user) (are_rights permit.ops) h
-  where
-    go : (a b : Bool) → (a && (b && qual_is_spelled permit.qual)) ≡ true → b ≡ true
-    go true true h = refl
-    go true false h = h
-    go false true h = refl
-    go false false h = h
-rights_spelled (checked.Utility (utility.Create rel attrs)) h = refl
-rights_spelled (checked.Utility (utility.Destroy rels)) h = refl
-rights_spelled (checked.Utility (utility.Modify rel to keys)) h = refl
-rights_spelled (checked.Utility (utility.Index base name keys)) h = refl
-rights_spelled (checked.Utility (utility.Copy rel columns from file)) h = refl
-rights_spelled (checked.Utility (utility.View rel query)) h = refl
-rights_spelled (checked.Utility (utility.Rule rel rule)) h = refl
-rights_spelled (checked.Utility (utility.DropPermits rel numbers)) h = refl
-rights_spelled (checked.Utility (utility.DropRules rel numbers)) h = refl
-rights_spelled (checked.Answer asked) h = refl
-rights_spelled (checked.Update u) h = refl
-
--- a utility stays as it is
-rights_stay : (db : Db) (who : Who) (tree : Checked) → names_rights (ruled_tree db (put_in_tree db who tree)) ≡ names_rights tree
-unfolding ruled_tree put_in_tree
-rights_stay db who (checked.Answer asked) = refl
-rights_stay db who (checked.Update u) = refl
-rights_stay db who (checked.Utility work) = refl
-
-fit_rights : (db : Db) (user : List ℕ) (who : Who) (tree : Checked) → is_fit_with_views db user tree ≡ true → names_rights (ruled_tree db (put_in_tree db who tree)) ≡ true
+-- what is fit has constants that are ones, and so has what is put in
+put_spelled : (db : Db) → IsDatabase db → (user : List ℕ) (who : Who) (tree : Checked) → is_fit_with_views db user tree ≡ true → tree_is_spelled (ruled_tree db (put_in_tree db who tree)) ≡ true
 unfolding fits
-fit_rights db user who tree h = rights_stay db who tree ∙ rights_spelled tree (left (tree_is_spelled tree) (suits (kept_or_viewed db) db user tree) h)
+put_spelled db d user who tree h = all_spelled db d who tree (left (tree_is_spelled tree) (suits (kept_or_viewed db) db user tree) h)
 
 -- ---- what is judged
 
@@ -86,16 +54,15 @@ fit_resolved db user ranges s tree d named written h = resolved_fits db user ran
 
 -- it is cut, and the rules join it
 comes : (db : Db) (user : List ℕ) (ranges : Ranges) (s : Statement) (tree made : Checked) → IsDatabase db → is_name user ≡ true → is_written s ≡ true
-    → Resolves db user ranges s (Ok tree) → (names_rights made ≡ true → IsTrue (tree_is_spelled made))
+    → Resolves db user ranges s (Ok tree)
     → (made ≡ ruled_tree db (put_in_tree db (asks user) tree)) × (checked_permitted db (asks user) tree ≡ true) → IsChecked db user ranges s made
-comes db user ranges s tree made d named written h spelled k =
+comes db user ranges s tree made d named written h k =
     let fit : is_fit_with_views db user tree ≡ true = fit_resolved db user ranges s tree d named written h in
-    let rights : names_rights made ≡ true = ap names_rights k.0 ∙ fit_rights db user (asks user) tree fit in
     record {
       asked = tree;
       judged = judged_with db user ranges s tree true h k.1;
       put_in = k.0;
-      fit = ap (is_fit db user) k.0 ∙ fit_ruled db d (asks user) user tree fit (ap tree_is_spelled (sym k.0) ∙ spelled rights);
+      fit = ap (is_fit db user) k.0 ∙ fit_ruled db d (asks user) user tree fit (put_spelled db d user (asks user) tree fit);
       means = λ shelf. ap (tree_meaning db shelf Free user) k.0 ∙ sym (ruled_means_same db d (asks user) shelf user tree fit);
     }
 
@@ -106,14 +73,14 @@ refused db user ranges s tree number h k = judged_with db user ranges s tree fal
 
 -- by what is told of what is cut and ruled
 pub tells : (db : Db) (user : List ℕ) (ranges : Ranges) (s : Statement) (tree : Checked) → IsDatabase db → is_name user ≡ true → is_written s ≡ true
-    → Resolves db user ranges s (Ok tree) → (result : Result Checked CheckFault) → IfOk result (λ made. names_rights made ≡ true → IsTrue (tree_is_spelled made))
+    → Resolves db user ranges s (Ok tree) → (result : Result Checked CheckFault)
     → Says (λ made. (made ≡ ruled_tree db (put_in_tree db (asks user) tree)) × (checked_permitted db (asks user) tree ≡ true))
     (λ number. (number ≡ 23) × (checked_permitted db (asks user) tree ≡ false)) result
     → Checks db user ranges s result
-tells db user ranges s tree d named written h (Ok made) spelled k = comes db user ranges s tree made d named written h spelled k
-tells db user ranges s tree d named written h (Err (fault.No number)) spelled k = refused db user ranges s tree number h k
-tells db user ranges s tree d named written h (Err (fault.Base cause)) spelled k = tt
-tells db user ranges s tree d named written h (Err fault.OutOfMemory) spelled k = tt
+tells db user ranges s tree d named written h (Ok made) k = comes db user ranges s tree made d named written h k
+tells db user ranges s tree d named written h (Err (fault.No number)) k = refused db user ranges s tree number h k
+tells db user ranges s tree d named written h (Err (fault.Base cause)) k = tt
+tells db user ranges s tree d named written h (Err fault.OutOfMemory) k = tt
 
 -- it has no tree
 pub passed_on : (db : Db) (user : List ℕ) (ranges : Ranges) (s : Statement) (cause : CheckFault) → Resolves db user ranges s (Err cause) → Checks db user ranges s (Err cause)

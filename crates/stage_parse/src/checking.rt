@@ -30,8 +30,8 @@ pub fn checked<B: Base>(
     base: &mut B,
 ) -> Result<Checked, CheckFault>
     requires { is_written s.now ≡ true }
-    ensures told { (db : Db) → B.schema base.old ≡ Some db → Checks db user.now ranges.now s.now result }
-    ensures shallow { (db : Db) → B.schema base.old ≡ Some db → statement_levels s.now ≤ 500
+    ensures told { (db : Db) → B.database base.old ≡ Some db → Checks db user.now ranges.now s.now result }
+    ensures shallow { (db : Db) → B.database base.old ≡ Some db → statement_levels s.now ≤ 500
         → IfOk result (λ tree. tree_levels tree ≤ most_tree_levels) }
     ensures kept { B.database base.new ≡ B.database base.old }
     ensures stays { (s : Db) → B.schema base.old ≡ Some s → B.schema base.new ≡ Some s }

@@ -1,14 +1,12 @@
 //! Trees cut down to what a user may see and change, and ruled.
 
-ghost use Rattle.std.specs.Prelude.{◌≡◌, true, false, Some, IfOk, IsTrue};
+ghost use Rattle.std.specs.Prelude.{◌≡◌, true, false, Some};
 ghost use Rattle.calculus.specs.Database.{Db};
 ghost use Rattle.calculus.specs.Who.{asks};
 ghost use Rattle.quel_meaning.specs.Fit.{is_fit_with_views};
 ghost use Rattle.quel_meaning.specs.Meaning.{checked_permitted, ruled_tree};
-ghost use Rattle.quel_meaning.specs.SpelledTree.{tree_is_spelled};
 ghost use Rattle.utility_trees.specs.Answers.{Says};
 ghost use Rattle.utility_trees.specs.Causes.{HasCheckCause};
-ghost use Rattle.update_laws.specs.Walked.{names_rights};
 ghost use Rattle.view_text.specs.PutIn.{put_in_tree};
 
 use crate::ruling::ruled;
@@ -17,7 +15,6 @@ use calculus::{Checked, Name};
 use cut_rules::{CutFault, cut_permits};
 use quel_resolve::CheckFault;
 use std::alloc::Global;
-use update_laws::tree_is_spelled;
 
 /// The number of what isn't permitted.
 const NO_PERMIT: u8 = 23;
@@ -33,8 +30,8 @@ fn cut<B: Base>(
     user: &Name,
     tree: Checked,
 ) -> Result<Checked, CheckFault>
-    requires { (db : Db) → B.schema base.old ≡ Some db → is_fit_with_views db user.now tree ≡ true }
-    ensures told { (db : Db) → B.schema base.old ≡ Some db
+    requires { (db : Db) → B.database base.old ≡ Some db → is_fit_with_views db user.now tree ≡ true }
+    ensures told { (db : Db) → B.database base.old ≡ Some db
         → Says (λ made. (made ≡ put_in_tree db (asks user.now) tree) × (checked_permitted db (asks user.now) tree ≡ true))
         (λ number. (number ≡ 23) × (checked_permitted db (asks user.now) tree ≡ false)) result }
     ensures kept { B.database base.new ≡ B.database base.old }
@@ -61,11 +58,10 @@ pub(crate) fn cut_and_ruled<B: Base>(
     user: &Name,
     tree: Checked,
 ) -> Result<Checked, CheckFault>
-    requires { (db : Db) → B.schema base.old ≡ Some db → is_fit_with_views db user.now tree ≡ true }
-    ensures told { (db : Db) → B.schema base.old ≡ Some db
+    requires { (db : Db) → B.database base.old ≡ Some db → is_fit_with_views db user.now tree ≡ true }
+    ensures told { (db : Db) → B.database base.old ≡ Some db
         → Says (λ made. (made ≡ ruled_tree db (put_in_tree db (asks user.now) tree)) × (checked_permitted db (asks user.now) tree ≡ true))
         (λ number. (number ≡ 23) × (checked_permitted db (asks user.now) tree ≡ false)) result }
-    ensures spelled { IfOk result (λ made. names_rights made ≡ true → IsTrue (tree_is_spelled made)) }
     ensures kept { B.database base.new ≡ B.database base.old }
     ensures stays { (s : Db) → B.schema base.old ≡ Some s → B.schema base.new ≡ Some s }
     ensures asked { (b : B) → B.asked b base.old → B.asked b base.new }
@@ -74,10 +70,7 @@ pub(crate) fn cut_and_ruled<B: Base>(
 {
     match cut(alloc, base, user, tree) {
         Ok(made) => match ruled(alloc, base, made) {
-            Ok(made) => {
-                tree_is_spelled(&made);
-                Ok(made)
-            }
+            Ok(made) => Ok(made),
             Err(fault) => Err(CheckFault::Base(fault)),
         },
         Err(fault) => Err(fault),

@@ -46,6 +46,12 @@ pub next_made : {X Y : Type 0} (f : X → Y) (xs : List X) (i : ℕ) (x : X) (ma
 next_made f xs i x made new y h is before one pushed =
     pushed ∙ (λ j. before j ++ one j ∷ []) ∙ sym (map-push f (take i xs) x) ∙ ap (map f) (ap (λ z. take i xs ++ z ∷ []) is ∙ sym (take_more xs i x h))
 
+-- the same of a part of what is made
+pub next_part : {X Y Z : Type 0} (f : X → Z) (part : Y → Z) (xs : List X) (i : ℕ) (x : X) (made new : List Y) (y : Y)
+    → i < length xs → x ≡ get_or xs i x → map part made ≡ map f (take i xs) → part y ≡ f x → new ≡ made ++ y ∷ [] → map part new ≡ map f (take (i + 1) xs)
+next_part f part xs i x made new y h is before one pushed =
+    next_made f xs i x (map part made) (map part new) (part y) h is before one (ap (map part) pushed ∙ map-push part made y)
+
 any-push : {X : Type 0} (p : X → Bool) (xs : List X) (x : X) → list_any p xs ≡ false → p x ≡ false → list_any p (xs ++ x ∷ []) ≡ false
 any-push p [] x none h = ap (λ b. b || false) h
 any-push p (y ∷ ys) x none h = go (p y) none (any-push p ys x)

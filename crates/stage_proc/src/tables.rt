@@ -5,14 +5,14 @@ ghost use Rattle.std.specs.List.{list_all};
 ghost use Rattle.calculus.specs.Answer.{answer, lacks};
 ghost use Rattle.calculus.specs.Assignments.{assigned};
 ghost use Rattle.calculus.specs.Database.{Db};
-ghost use Rattle.calculus.specs.QueryParts.{vars_of};
+ghost use Rattle.calculus.specs.QueryParts.{targets_of, vars_of};
 ghost use Rattle.calculus.specs.Table.{tabled};
 ghost use Rattle.calculus.specs.Targets.{rows_given, some_lacks};
 ghost use Rattle.calculus.specs.VariableRows.{rows_of};
 ghost use Rattle.calculus.specs.Who.{Free};
 ghost use Rattle.ovqp.specs.Causes.{HasCause as HasAnswerCause};
 ghost use Rattle.quel_meaning.specs.FitQueries.{is_kept, kept_alone, slots_count_up, sources_fit};
-ghost use Rattle.quel_meaning.specs.Tables.{table_of, some_query_lacks};
+ghost use Rattle.quel_meaning.specs.Tables.{column_of, table_of, some_query_lacks};
 ghost use Rattle.stage_proc.specs.TableCauses.{CanBeAnswered, HasCause, HasOneCause};
 
 use crate::columns::columns_of;
@@ -26,7 +26,8 @@ use std::alloc::Global;
 /// The table of these rows, which are a query's answer: a column for each target, and the rows in the
 /// order that is asked for.
 fn table_with(alloc: Global, asked: &Asked, set: RowSet) -> Result<Table, OutOfMemory>
-    ensures { IfOk result (λ table. (db : Db) → set ≡ answer db Free asked.now.query → table ≡ table_of db Free asked.now) }
+    ensures columns { IfOk result (λ table. table.columns ≡ map column_of (targets_of asked.now.query)) }
+    ensures told { IfOk result (λ table. (db : Db) → set ≡ answer db Free asked.now.query → table ≡ table_of db Free asked.now) }
 {
     match columns_of(alloc, asked.query.targets.items()) {
         Ok(columns) => Ok(Table {
@@ -56,7 +57,6 @@ fn answer_by<B: Base>(
     ensures stays { (s : Db) → B.schema base.old ≡ Some s → B.schema base.new ≡ Some s }
     ensures asked { (b : B) → B.asked b base.old → B.asked b base.new }
     ensures same { B.left base.new ≡ B.left base.old }
-    ensures asked { (b : B) → B.asked b base.old → B.asked b base.new }
     ensures cause { HasAnswerCause (tabled tables.items) q.now (B.database base.old) (B.faults base.old) (B.faults base.new) result }
 {
     let set = answer(alloc, base, q, &tables);
@@ -75,7 +75,6 @@ fn settled_answer<B: Base>(alloc: Global, base: &mut B, q: &Query) -> Result<Row
     ensures stays { (s : Db) → B.schema base.old ≡ Some s → B.schema base.new ≡ Some s }
     ensures asked { (b : B) → B.asked b base.old → B.asked b base.new }
     ensures same { B.left base.new ≡ B.left base.old }
-    ensures asked { (b : B) → B.asked b base.old → B.asked b base.new }
     ensures cause { HasOneCause q.now (B.database base.old) (B.faults base.old) (B.faults base.new) result }
 {
     let tables = settle(alloc, base, q)?;
@@ -90,13 +89,14 @@ pub fn table_of<B: Base>(alloc: Global, base: &mut B, asked: &Asked) -> Result<T
     requires read { (db : Db) → B.database base.old ≡ Some db → IsTrue (list_all (is_kept db) (vars_of asked.now.query)) }
     requires fit { (db : Db) → B.database base.old ≡ Some db → IsTrue (sources_fit (kept_alone db) db asked.now.query) }
     requires numbered { (db : Db) → B.database base.old ≡ Some db → IsTrue (slots_count_up asked.now.query) }
+    // Whatever is known of the base, the columns are those of the tree.
+    ensures columns { IfOk result (λ table. table.columns ≡ map column_of (targets_of asked.now.query)) }
     ensures told { (db : Db) → B.database base.old ≡ Some db → IfOk result (λ table. table ≡ table_of db Free asked.now) }
     ensures none_lacks { (db : Db) → B.database base.old ≡ Some db → OnOk result (IsFalse (lacks db Free asked.now.query)) }
     ensures kept { B.database base.new ≡ B.database base.old }
     ensures stays { (s : Db) → B.schema base.old ≡ Some s → B.schema base.new ≡ Some s }
     ensures asked { (b : B) → B.asked b base.old → B.asked b base.new }
     ensures same { B.left base.new ≡ B.left base.old }
-    ensures asked { (b : B) → B.asked b base.old → B.asked b base.new }
     ensures cause { HasOneCause asked.now.query (B.database base.old) (B.faults base.old) (B.faults base.new) result }
 {
     let set = settled_answer(alloc, base, &asked.query)?;
@@ -119,13 +119,14 @@ pub fn tables_of<B: Base>(
     asked: &[Asked],
 ) -> Result<List<Table>, QueryFault>
     requires { (db : Db) → B.database base.old ≡ Some db → All (λ a. CanBeAnswered db a.query) asked.now }
+    // Whatever is known of the base, there is a table for each query, with the columns of its tree.
+    ensures columns { IfOk result (λ tables. map (λ t. t.columns) tables ≡ map (λ a. map column_of (targets_of a.query)) asked.now) }
     ensures told { (db : Db) → B.database base.old ≡ Some db → IfOk result (λ tables. tables ≡ map (table_of db Free) asked.now) }
     ensures none_lacks { (db : Db) → B.database base.old ≡ Some db → OnOk result (IsFalse (some_query_lacks db Free asked.now)) }
     ensures kept { B.database base.new ≡ B.database base.old }
     ensures stays { (s : Db) → B.schema base.old ≡ Some s → B.schema base.new ≡ Some s }
     ensures asked { (b : B) → B.asked b base.old → B.asked b base.new }
     ensures same { B.left base.new ≡ B.left base.old }
-    ensures asked { (b : B) → B.asked b base.old → B.asked b base.new }
     ensures cause { HasCause asked.now (B.database base.old) (B.faults base.old) (B.faults base.new) result }
 {
     let mut tables = Vec::new(alloc);

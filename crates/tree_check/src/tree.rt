@@ -1,6 +1,6 @@
 //! Trees.
 
-ghost use Rattle.std.specs.Prelude.{◌≡◌, IfOk, Some};
+ghost use Rattle.std.specs.Prelude.{◌≡◌, IfOk, IsTrue, Some};
 ghost use Rattle.am_traits.specs.Causes.{HasCause};
 ghost use Rattle.calculus.specs.Database.{Db};
 ghost use Rattle.calculus.specs.declared.request.Checked.TheVariants as checked;
@@ -64,7 +64,7 @@ fn suits<B: Base>(
 /// Whether a tree is fit for a user and a database: true exactly where it reads base relations and
 /// catalogues alone, what it names is there and what it makes is new, its places are in range, its kinds
 /// fit, its aggregates are numbered, and it is within the limits. Asks the database part by part, up to
-/// the first that is false, and doesn't change it.
+/// the first that is false, and doesn't change it. The first question fixes the schema, which decides all.
 pub fn fit_tree<B: Base>(
     alloc: Global,
     c: &Checked,
@@ -72,6 +72,7 @@ pub fn fit_tree<B: Base>(
     base: &mut B,
 ) -> Result<bool, BaseFault>
     ensures told { (db : Db) → B.schema base.old ≡ Some db → IfOk result (λ fit. fit ≡ is_fit db user.now c.now) }
+    ensures by_schema { IsTrue B.fixes → (s : Db) → B.schema base.new ≡ Some s → IfOk result (λ fit. fit ≡ is_fit s user.now c.now) }
     ensures kept { B.database base.new ≡ B.database base.old }
     ensures stays { (s : Db) → B.schema base.old ≡ Some s → B.schema base.new ≡ Some s }
     ensures asked { (b : B) → B.asked b base.old → B.asked b base.new }
@@ -82,5 +83,6 @@ pub fn fit_tree<B: Base>(
         return Ok(false);
     }
     tree_is_spelled(c);
+    let _entries = base.count()?;
     suits(alloc, base, user, c)
 }

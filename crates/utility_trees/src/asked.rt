@@ -7,12 +7,11 @@ ghost use Rattle.calculus.specs.Tree.{query};
 ghost use Rattle.quel_meaning.specs.Resolved.{unsorted, whole};
 ghost use Rattle.quel_meaning.specs.WrittenQuery.{attr_targets};
 
-use crate::lists::{alone, push};
 use crate::places::byte;
 use calculus::{
     Asked, Attr, Checked, List, OutOfMemory, QQual, QTerm, Query, RelInfo, RelKey, Target, TryCopy,
 };
-use memory::both;
+use memory::{alone, both, push};
 use std::alloc::Global;
 
 /// The query of these variables, targets and qualification, whose rows ascend.

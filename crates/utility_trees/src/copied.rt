@@ -18,10 +18,10 @@ ghost use Rattle.utility_trees.specs.Serving.{Serves, is_binary_text_of};
 
 use crate::CheckFault;
 use crate::finding::found;
-use crate::numbers::{KINDS_DIFFER, NAMED_TWICE};
 use crate::places::{place_in, place_of};
 use crate::repeated::columns_repeat;
 use am_traits::Base;
+use calculus::refusals::{KINDS_DIFFER, NAMED_TWICE};
 use calculus::{
     Attr, Chars, Checked, CopyCol, CopyForm, Kind, List, Name, OutOfMemory, RelInfo, TryCopy,
     Utility,

@@ -22,12 +22,11 @@ use crate::CheckFault;
 use crate::asked::{answer, unsorted};
 use crate::finding::found;
 use crate::keys::{catalogue_key, name_of};
-use crate::lists::{alone, push};
 use am_traits::{Base, BaseFault};
 use calculus::{
     Boxed, Chars, Checked, Domain, Kind, Name, OutOfMemory, QQual, QTerm, RelInfo, RelKey, Target,
 };
-use memory::both;
+use memory::{alone, both, push};
 use std::alloc::Global;
 
 /// The key of a catalogue, alone.

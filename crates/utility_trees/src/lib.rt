@@ -10,7 +10,6 @@ mod finding;
 mod helped;
 mod keys;
 mod lists;
-mod numbers;
 mod places;
 mod printed;
 mod repeated;

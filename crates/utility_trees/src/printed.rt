@@ -16,9 +16,9 @@ ghost use Rattle.utility_trees.specs.Serving.{Serves};
 use crate::CheckFault;
 use crate::asked::whole;
 use crate::finding::found;
-use crate::lists::push;
 use am_traits::Base;
 use calculus::{Asked, Checked, List, Name};
+use memory::push;
 use std::alloc::Global;
 
 /// All of what the user means by a name.

@@ -20,13 +20,12 @@ ghost use Rattle.utility_trees.specs.Serving.{Serves};
 
 use crate::CheckFault;
 use crate::finding::found;
-use crate::lists::alone;
-use crate::numbers::{IN_USE, NAMED_TWICE, PAST_LIMIT};
 use crate::places::places_of;
 use crate::repeated::names_repeat;
 use am_traits::{Base, BaseFault};
+use calculus::refusals::{NAME_IN_USE, NAMED_TWICE, PAST_LIMIT};
 use calculus::{Checked, List, Name, OutOfMemory, RelInfo, Spec, TryCopy, Utility};
-use memory::both;
+use memory::{alone, both};
 use quel_refusals::{is_full, is_taken};
 use std::alloc::Global;
 
@@ -129,7 +128,7 @@ fn index_cause<B: Base>(
         return Ok(Some(PAST_LIMIT));
     }
     if is_taken(alloc, base, user, name)? {
-        return Ok(Some(IN_USE));
+        return Ok(Some(NAME_IN_USE));
     }
     Ok(None)
 }

@@ -33,10 +33,10 @@ pub fn query_texts<B: Base>(
     levels: u8,
     texts: &mut Vec<Text>,
 ) -> Result<(), TextFault>
-    requires listed { (db : Db) → B.schema base.old ≡ Some db → length (vars_of query.now) ≤ 256 }
-    requires expanded { (db : Db) → B.schema base.old ≡ Some db → (query_measure (measure_within levels db) query.now).variables ≤ 256 }
-    ensures told { (db : Db) → B.schema base.old ≡ Some db → OnOk result (texts.new.items ≡ texts.old.items ++ query_texts (text_within levels db (who_of (option_map (λ n. n.now) who.entry))) query.now) }
-    ensures permitted { (db : Db) → B.schema base.old ≡ Some db → OnOk result (vars_permitted (permitted_within levels db (who_of (option_map (λ n. n.now) who.entry))) query.now (used_vars query.now) ≡ true) }
+    requires listed { (db : Db) → B.database base.old ≡ Some db → length (vars_of query.now) ≤ 256 }
+    requires expanded { (db : Db) → B.database base.old ≡ Some db → (query_measure (measure_within levels db) query.now).variables ≤ 256 }
+    ensures told { (db : Db) → B.database base.old ≡ Some db → OnOk result (texts.new.items ≡ texts.old.items ++ query_texts (text_within levels db (who_of (option_map (λ n. n.now) who.entry))) query.now) }
+    ensures permitted { (db : Db) → B.database base.old ≡ Some db → OnOk result (vars_permitted (permitted_within levels db (who_of (option_map (λ n. n.now) who.entry))) query.now (used_vars query.now) ≡ true) }
     ensures scoped { list_all is_scoped texts.old.items ≡ true → OnOk result (list_all is_scoped texts.new.items ≡ true) }
     ensures kept { B.database base.new ≡ B.database base.old }
     ensures stays { (s : Db) → B.schema base.old ≡ Some s → B.schema base.new ≡ Some s }
@@ -59,13 +59,13 @@ fn texts_through<B: Base>(
     texts: &mut Vec<Text>,
     found: &mut TextsFound,
 ) -> Result<(), TextFault>
-    requires listed { (db : Db) → B.schema base.old ≡ Some db → length (vars_of query.now) ≤ 256 }
-    requires expanded { (db : Db) → B.schema base.old ≡ Some db → (query_measure (measure_within levels db) query.now).variables ≤ 256 }
-    requires found { (db : Db) → B.schema base.old ≡ Some db → IsFound db (who_of (option_map (λ n. n.now) who)) found.old }
-    ensures told { (db : Db) → B.schema base.old ≡ Some db → OnOk result (texts.new.items ≡ texts.old.items ++ query_texts (text_within levels db (who_of (option_map (λ n. n.now) who.entry))) query.now) }
-    ensures permitted { (db : Db) → B.schema base.old ≡ Some db → OnOk result (vars_permitted (permitted_within levels db (who_of (option_map (λ n. n.now) who.entry))) query.now (used_vars query.now) ≡ true) }
+    requires listed { (db : Db) → B.database base.old ≡ Some db → length (vars_of query.now) ≤ 256 }
+    requires expanded { (db : Db) → B.database base.old ≡ Some db → (query_measure (measure_within levels db) query.now).variables ≤ 256 }
+    requires found { (db : Db) → B.database base.old ≡ Some db → IsFound db (who_of (option_map (λ n. n.now) who)) found.old }
+    ensures told { (db : Db) → B.database base.old ≡ Some db → OnOk result (texts.new.items ≡ texts.old.items ++ query_texts (text_within levels db (who_of (option_map (λ n. n.now) who.entry))) query.now) }
+    ensures permitted { (db : Db) → B.database base.old ≡ Some db → OnOk result (vars_permitted (permitted_within levels db (who_of (option_map (λ n. n.now) who.entry))) query.now (used_vars query.now) ≡ true) }
     ensures scoped { list_all is_scoped texts.old.items ≡ true → OnOk result (list_all is_scoped texts.new.items ≡ true) }
-    ensures found { (db : Db) → B.schema base.old ≡ Some db → IsFound db (who_of (option_map (λ n. n.now) who.entry)) found.new }
+    ensures found { (db : Db) → B.database base.old ≡ Some db → IsFound db (who_of (option_map (λ n. n.now) who.entry)) found.new }
     ensures kept { B.database base.new ≡ B.database base.old }
     ensures stays { (s : Db) → B.schema base.old ≡ Some s → B.schema base.new ≡ Some s }
     ensures asked { (b : B) → B.asked b base.old → B.asked b base.new }
@@ -90,10 +90,10 @@ pub fn put_plain<B: Base>(
     query: &Query,
     levels: u8,
 ) -> Result<Query, TextFault>
-    requires listed { (db : Db) → B.schema base.old ≡ Some db → length (vars_of query.now) ≤ 256 }
-    requires expanded { (db : Db) → B.schema base.old ≡ Some db → (query_measure (measure_within levels db) query.now).variables ≤ 256 }
-    ensures told { (db : Db) → B.schema base.old ≡ Some db → IfOk result (λ made. made ≡ put_plain (text_within levels db (who_of (option_map (λ n. n.now) who.entry))) query.now) }
-    ensures permitted { (db : Db) → B.schema base.old ≡ Some db → OnOk result (vars_permitted (permitted_within levels db (who_of (option_map (λ n. n.now) who.entry))) query.now (used_vars query.now) ≡ true) }
+    requires listed { (db : Db) → B.database base.old ≡ Some db → length (vars_of query.now) ≤ 256 }
+    requires expanded { (db : Db) → B.database base.old ≡ Some db → (query_measure (measure_within levels db) query.now).variables ≤ 256 }
+    ensures told { (db : Db) → B.database base.old ≡ Some db → IfOk result (λ made. made ≡ put_plain (text_within levels db (who_of (option_map (λ n. n.now) who.entry))) query.now) }
+    ensures permitted { (db : Db) → B.database base.old ≡ Some db → OnOk result (vars_permitted (permitted_within levels db (who_of (option_map (λ n. n.now) who.entry))) query.now (used_vars query.now) ≡ true) }
     ensures kept { B.database base.new ≡ B.database base.old }
     ensures stays { (s : Db) → B.schema base.old ≡ Some s → B.schema base.new ≡ Some s }
     ensures asked { (b : B) → B.asked b base.old → B.asked b base.new }
@@ -114,12 +114,12 @@ pub fn put_plain_remembering<B: Base>(
     levels: u8,
     found: &mut TextsFound,
 ) -> Result<Query, TextFault>
-    requires listed { (db : Db) → B.schema base.old ≡ Some db → length (vars_of query.now) ≤ 256 }
-    requires expanded { (db : Db) → B.schema base.old ≡ Some db → (query_measure (measure_within levels db) query.now).variables ≤ 256 }
-    requires found { (db : Db) → B.schema base.old ≡ Some db → IsFound db (who_of (option_map (λ n. n.now) who)) found.old }
-    ensures told { (db : Db) → B.schema base.old ≡ Some db → IfOk result (λ made. made ≡ put_plain (text_within levels db (who_of (option_map (λ n. n.now) who.entry))) query.now) }
-    ensures permitted { (db : Db) → B.schema base.old ≡ Some db → OnOk result (vars_permitted (permitted_within levels db (who_of (option_map (λ n. n.now) who.entry))) query.now (used_vars query.now) ≡ true) }
-    ensures found { (db : Db) → B.schema base.old ≡ Some db → IsFound db (who_of (option_map (λ n. n.now) who.entry)) found.new }
+    requires listed { (db : Db) → B.database base.old ≡ Some db → length (vars_of query.now) ≤ 256 }
+    requires expanded { (db : Db) → B.database base.old ≡ Some db → (query_measure (measure_within levels db) query.now).variables ≤ 256 }
+    requires found { (db : Db) → B.database base.old ≡ Some db → IsFound db (who_of (option_map (λ n. n.now) who)) found.old }
+    ensures told { (db : Db) → B.database base.old ≡ Some db → IfOk result (λ made. made ≡ put_plain (text_within levels db (who_of (option_map (λ n. n.now) who.entry))) query.now) }
+    ensures permitted { (db : Db) → B.database base.old ≡ Some db → OnOk result (vars_permitted (permitted_within levels db (who_of (option_map (λ n. n.now) who.entry))) query.now (used_vars query.now) ≡ true) }
+    ensures found { (db : Db) → B.database base.old ≡ Some db → IsFound db (who_of (option_map (λ n. n.now) who.entry)) found.new }
     ensures kept { B.database base.new ≡ B.database base.old }
     ensures stays { (s : Db) → B.schema base.old ≡ Some s → B.schema base.new ≡ Some s }
     ensures asked { (b : B) → B.asked b base.old → B.asked b base.new }

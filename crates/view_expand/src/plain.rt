@@ -89,11 +89,11 @@ pub(crate) fn plain_text<B: Base>(
     attrs: &[u8],
     found: &mut TextsFound,
 ) -> Result<Text, TextFault>
-    requires found { (db : Db) → B.schema base.old ≡ Some db → IsFound db (who_of (option_map (λ n. n.now) who)) found.old }
-    ensures told { (db : Db) → B.schema base.old ≡ Some db → IfOk result (λ text. text ≡ kept_text (cut db (who_of (option_map (λ n. n.now) who.entry)) Retrieve attrs.now key.now) key.now) }
-    ensures permitted { (db : Db) → B.schema base.old ≡ Some db → OnOk result (permitted db (who_of (option_map (λ n. n.now) who.entry)) Retrieve attrs.now key.now ≡ true) }
+    requires found { (db : Db) → B.database base.old ≡ Some db → IsFound db (who_of (option_map (λ n. n.now) who)) found.old }
+    ensures told { (db : Db) → B.database base.old ≡ Some db → IfOk result (λ text. text ≡ kept_text (cut db (who_of (option_map (λ n. n.now) who.entry)) Retrieve attrs.now key.now) key.now) }
+    ensures permitted { (db : Db) → B.database base.old ≡ Some db → OnOk result (permitted db (who_of (option_map (λ n. n.now) who.entry)) Retrieve attrs.now key.now ≡ true) }
     ensures scoped { IfOk result (λ text. is_scoped text ≡ true) }
-    ensures found { (db : Db) → B.schema base.old ≡ Some db → IsFound db (who_of (option_map (λ n. n.now) who.entry)) found.new }
+    ensures found { (db : Db) → B.database base.old ≡ Some db → IsFound db (who_of (option_map (λ n. n.now) who.entry)) found.new }
     ensures kept { B.database base.new ≡ B.database base.old }
     ensures stays { (s : Db) → B.schema base.old ≡ Some s → B.schema base.new ≡ Some s }
     ensures asked { (b : B) → B.asked b base.old → B.asked b base.new }

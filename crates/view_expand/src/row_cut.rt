@@ -66,10 +66,10 @@ fn condition_anew<B: Base>(
     key: &RelKey,
     found: &mut TextsFound,
 ) -> Result<Option<QQual>, BaseFault>
-    requires found { (db : Db) → B.schema base.old ≡ Some db → IsFound db (asks user.now) found.old }
-    ensures told { (db : Db) → B.schema base.old ≡ Some db → IfOk result (λ o. o ≡ one_of (covering_conditions (permits_on db key.now) (asker_of user.now) (right_of right) attrs.now)) }
+    requires found { (db : Db) → B.database base.old ≡ Some db → IsFound db (asks user.now) found.old }
+    ensures told { (db : Db) → B.database base.old ≡ Some db → IfOk result (λ o. o ≡ one_of (covering_conditions (permits_on db key.now) (asker_of user.now) (right_of right) attrs.now)) }
     ensures within { IfOk result (λ o. list_all (is_qual_within 1) (option_to_list o) ≡ true) }
-    ensures found { (db : Db) → B.schema base.old ≡ Some db → IsFound db (asks user.now) found.new }
+    ensures found { (db : Db) → B.database base.old ≡ Some db → IsFound db (asks user.now) found.new }
     ensures kept { B.database base.new ≡ B.database base.old }
     ensures stays { (s : Db) → B.schema base.old ≡ Some s → B.schema base.new ≡ Some s }
     ensures asked { (b : B) → B.asked b base.old → B.asked b base.new }
@@ -96,10 +96,10 @@ fn condition_on<B: Base>(
     key: &RelKey,
     found: &mut TextsFound,
 ) -> Result<Option<QQual>, BaseFault>
-    requires found { (db : Db) → B.schema base.old ≡ Some db → IsFound db (asks user.now) found.old }
-    ensures told { (db : Db) → B.schema base.old ≡ Some db → IfOk result (λ o. o ≡ one_of (covering_conditions (permits_on db key.now) (asker_of user.now) (right_of right) attrs.now)) }
+    requires found { (db : Db) → B.database base.old ≡ Some db → IsFound db (asks user.now) found.old }
+    ensures told { (db : Db) → B.database base.old ≡ Some db → IfOk result (λ o. o ≡ one_of (covering_conditions (permits_on db key.now) (asker_of user.now) (right_of right) attrs.now)) }
     ensures within { IfOk result (λ o. list_all (is_qual_within 1) (option_to_list o) ≡ true) }
-    ensures found { (db : Db) → B.schema base.old ≡ Some db → IsFound db (asks user.now) found.new }
+    ensures found { (db : Db) → B.database base.old ≡ Some db → IsFound db (asks user.now) found.new }
     ensures kept { B.database base.new ≡ B.database base.old }
     ensures stays { (s : Db) → B.schema base.old ≡ Some s → B.schema base.new ≡ Some s }
     ensures asked { (b : B) → B.asked b base.old → B.asked b base.new }
@@ -126,11 +126,11 @@ fn cut_for<B: Base>(
     key: &RelKey,
     found: &mut TextsFound,
 ) -> Result<Option<QQual>, TextFault>
-    requires found { (db : Db) → B.schema base.old ≡ Some db → IsFound db (asks user.now) found.old }
-    ensures told { (db : Db) → B.schema base.old ≡ Some db → IfOk result (λ o. option_to_list o ≡ cut db (asks user.now) (right_of right) attrs.now key.now) }
-    ensures permitted { (db : Db) → B.schema base.old ≡ Some db → OnOk result (permitted db (asks user.now) (right_of right) attrs.now key.now ≡ true) }
+    requires found { (db : Db) → B.database base.old ≡ Some db → IsFound db (asks user.now) found.old }
+    ensures told { (db : Db) → B.database base.old ≡ Some db → IfOk result (λ o. option_to_list o ≡ cut db (asks user.now) (right_of right) attrs.now key.now) }
+    ensures permitted { (db : Db) → B.database base.old ≡ Some db → OnOk result (permitted db (asks user.now) (right_of right) attrs.now key.now ≡ true) }
     ensures within { IfOk result (λ o. list_all (is_qual_within 1) (option_to_list o) ≡ true) }
-    ensures found { (db : Db) → B.schema base.old ≡ Some db → IsFound db (asks user.now) found.new }
+    ensures found { (db : Db) → B.database base.old ≡ Some db → IsFound db (asks user.now) found.new }
     ensures kept { B.database base.new ≡ B.database base.old }
     ensures stays { (s : Db) → B.schema base.old ≡ Some s → B.schema base.new ≡ Some s }
     ensures asked { (b : B) → B.asked b base.old → B.asked b base.new }
@@ -158,8 +158,8 @@ pub fn cut<B: Base>(
     attrs: &[u8],
     key: &RelKey,
 ) -> Result<Option<QQual>, TextFault>
-    ensures told { (db : Db) → B.schema base.old ≡ Some db → IfOk result (λ o. option_to_list o ≡ cut db (who_of (option_map (λ n. n.now) who.entry)) (right_of right) attrs.now key.now) }
-    ensures permitted { (db : Db) → B.schema base.old ≡ Some db → OnOk result (permitted db (who_of (option_map (λ n. n.now) who.entry)) (right_of right) attrs.now key.now ≡ true) }
+    ensures told { (db : Db) → B.database base.old ≡ Some db → IfOk result (λ o. option_to_list o ≡ cut db (who_of (option_map (λ n. n.now) who.entry)) (right_of right) attrs.now key.now) }
+    ensures permitted { (db : Db) → B.database base.old ≡ Some db → OnOk result (permitted db (who_of (option_map (λ n. n.now) who.entry)) (right_of right) attrs.now key.now ≡ true) }
     ensures within { IfOk result (λ o. list_all (is_qual_within 1) (option_to_list o) ≡ true) }
     ensures kept { B.database base.new ≡ B.database base.old }
     ensures stays { (s : Db) → B.schema base.old ≡ Some s → B.schema base.new ≡ Some s }
@@ -183,11 +183,11 @@ pub fn cut_remembering<B: Base>(
     key: &RelKey,
     found: &mut TextsFound,
 ) -> Result<Option<QQual>, TextFault>
-    requires found { (db : Db) → B.schema base.old ≡ Some db → IsFound db (who_of (option_map (λ n. n.now) who)) found.old }
-    ensures told { (db : Db) → B.schema base.old ≡ Some db → IfOk result (λ o. option_to_list o ≡ cut db (who_of (option_map (λ n. n.now) who.entry)) (right_of right) attrs.now key.now) }
-    ensures permitted { (db : Db) → B.schema base.old ≡ Some db → OnOk result (permitted db (who_of (option_map (λ n. n.now) who.entry)) (right_of right) attrs.now key.now ≡ true) }
+    requires found { (db : Db) → B.database base.old ≡ Some db → IsFound db (who_of (option_map (λ n. n.now) who)) found.old }
+    ensures told { (db : Db) → B.database base.old ≡ Some db → IfOk result (λ o. option_to_list o ≡ cut db (who_of (option_map (λ n. n.now) who.entry)) (right_of right) attrs.now key.now) }
+    ensures permitted { (db : Db) → B.database base.old ≡ Some db → OnOk result (permitted db (who_of (option_map (λ n. n.now) who.entry)) (right_of right) attrs.now key.now ≡ true) }
     ensures within { IfOk result (λ o. list_all (is_qual_within 1) (option_to_list o) ≡ true) }
-    ensures found { (db : Db) → B.schema base.old ≡ Some db → IsFound db (who_of (option_map (λ n. n.now) who.entry)) found.new }
+    ensures found { (db : Db) → B.database base.old ≡ Some db → IsFound db (who_of (option_map (λ n. n.now) who.entry)) found.new }
     ensures kept { B.database base.new ≡ B.database base.old }
     ensures stays { (s : Db) → B.schema base.old ≡ Some s → B.schema base.new ≡ Some s }
     ensures asked { (b : B) → B.asked b base.old → B.asked b base.new }

@@ -32,9 +32,9 @@ pub fn text_within<B: Base>(
     attrs: &[u8],
     levels: u8,
 ) -> Result<Text, TextFault>
-    requires { (db : Db) → B.schema base.old ≡ Some db → (measure_within levels db key.now).variables ≤ 256 }
-    ensures told { (db : Db) → B.schema base.old ≡ Some db → IfOk result (λ text. text ≡ text_within levels db (who_of (option_map (λ n. n.now) who.entry)) key.now attrs.now) }
-    ensures permitted { (db : Db) → B.schema base.old ≡ Some db → OnOk result (permitted_within levels db (who_of (option_map (λ n. n.now) who.entry)) key.now attrs.now ≡ true) }
+    requires { (db : Db) → B.database base.old ≡ Some db → (measure_within levels db key.now).variables ≤ 256 }
+    ensures told { (db : Db) → B.database base.old ≡ Some db → IfOk result (λ text. text ≡ text_within levels db (who_of (option_map (λ n. n.now) who.entry)) key.now attrs.now) }
+    ensures permitted { (db : Db) → B.database base.old ≡ Some db → OnOk result (permitted_within levels db (who_of (option_map (λ n. n.now) who.entry)) key.now attrs.now ≡ true) }
     ensures scoped { IfOk result (λ text. is_scoped text ≡ true) }
     ensures kept { B.database base.new ≡ B.database base.old }
     ensures stays { (s : Db) → B.schema base.old ≡ Some s → B.schema base.new ≡ Some s }
@@ -54,10 +54,10 @@ pub fn view_text<B: Base>(
     query: &Query,
     levels: u8,
 ) -> Result<Text, TextFault>
-    requires listed { (db : Db) → B.schema base.old ≡ Some db → length (vars_of query.now) ≤ 256 }
-    requires expanded { (db : Db) → B.schema base.old ≡ Some db → (query_measure (measure_within levels db) query.now).variables ≤ 256 }
-    ensures told { (db : Db) → B.schema base.old ≡ Some db → IfOk result (λ text. text ≡ rows_text (query_texts (text_within levels db (who_of (option_map (λ n. n.now) who.entry))) query.now) query.now) }
-    ensures permitted { (db : Db) → B.schema base.old ≡ Some db → OnOk result (vars_permitted (permitted_within levels db (who_of (option_map (λ n. n.now) who.entry))) query.now (used_vars query.now) ≡ true) }
+    requires listed { (db : Db) → B.database base.old ≡ Some db → length (vars_of query.now) ≤ 256 }
+    requires expanded { (db : Db) → B.database base.old ≡ Some db → (query_measure (measure_within levels db) query.now).variables ≤ 256 }
+    ensures told { (db : Db) → B.database base.old ≡ Some db → IfOk result (λ text. text ≡ rows_text (query_texts (text_within levels db (who_of (option_map (λ n. n.now) who.entry))) query.now) query.now) }
+    ensures permitted { (db : Db) → B.database base.old ≡ Some db → OnOk result (vars_permitted (permitted_within levels db (who_of (option_map (λ n. n.now) who.entry))) query.now (used_vars query.now) ≡ true) }
     ensures scoped { IfOk result (λ text. is_scoped text ≡ true) }
     ensures kept { B.database base.new ≡ B.database base.old }
     ensures stays { (s : Db) → B.schema base.old ≡ Some s → B.schema base.new ≡ Some s }
@@ -80,9 +80,9 @@ pub fn text_at<B: Base>(
     key: &RelKey,
     levels: u8,
 ) -> Result<Text, TextFault>
-    requires { (db : Db) → B.schema base.old ≡ Some db → is_any (used_in_query place query.now) ≡ true → (measure_within levels db key.now).variables ≤ 256 }
-    ensures told { (db : Db) → B.schema base.old ≡ Some db → IfOk result (λ text. text ≡ used_text (text_within levels db (who_of (option_map (λ n. n.now) who.entry))) key.now (used_in_query place query.now)) }
-    ensures permitted { (db : Db) → B.schema base.old ≡ Some db → OnOk result (is_any (used_in_query place query.now) ≡ true → permitted_within levels db (who_of (option_map (λ n. n.now) who.entry)) key.now (used_in_query place query.now) ≡ true) }
+    requires { (db : Db) → B.database base.old ≡ Some db → is_any (used_in_query place query.now) ≡ true → (measure_within levels db key.now).variables ≤ 256 }
+    ensures told { (db : Db) → B.database base.old ≡ Some db → IfOk result (λ text. text ≡ used_text (text_within levels db (who_of (option_map (λ n. n.now) who.entry))) key.now (used_in_query place query.now)) }
+    ensures permitted { (db : Db) → B.database base.old ≡ Some db → OnOk result (is_any (used_in_query place query.now) ≡ true → permitted_within levels db (who_of (option_map (λ n. n.now) who.entry)) key.now (used_in_query place query.now) ≡ true) }
     ensures scoped { IfOk result (λ text. is_scoped text ≡ true) }
     ensures kept { B.database base.new ≡ B.database base.old }
     ensures stays { (s : Db) → B.schema base.old ≡ Some s → B.schema base.new ≡ Some s }

@@ -54,12 +54,12 @@ pub(crate) fn text_through<B: Base>(
     levels: u8,
     found: &mut TextsFound,
 ) -> Result<Text, TextFault>
-    requires few { (db : Db) → B.schema base.old ≡ Some db → (measure_within levels db key.now).variables ≤ 256 }
-    requires found { (db : Db) → B.schema base.old ≡ Some db → IsFound db (who_of (option_map (λ n. n.now) who)) found.old }
-    ensures told { (db : Db) → B.schema base.old ≡ Some db → IfOk result (λ text. text ≡ text_within levels db (who_of (option_map (λ n. n.now) who.entry)) key.now attrs.now) }
-    ensures permitted { (db : Db) → B.schema base.old ≡ Some db → OnOk result (permitted_within levels db (who_of (option_map (λ n. n.now) who.entry)) key.now attrs.now ≡ true) }
+    requires few { (db : Db) → B.database base.old ≡ Some db → (measure_within levels db key.now).variables ≤ 256 }
+    requires found { (db : Db) → B.database base.old ≡ Some db → IsFound db (who_of (option_map (λ n. n.now) who)) found.old }
+    ensures told { (db : Db) → B.database base.old ≡ Some db → IfOk result (λ text. text ≡ text_within levels db (who_of (option_map (λ n. n.now) who.entry)) key.now attrs.now) }
+    ensures permitted { (db : Db) → B.database base.old ≡ Some db → OnOk result (permitted_within levels db (who_of (option_map (λ n. n.now) who.entry)) key.now attrs.now ≡ true) }
     ensures scoped { IfOk result (λ text. is_scoped text ≡ true) }
-    ensures found { (db : Db) → B.schema base.old ≡ Some db → IsFound db (who_of (option_map (λ n. n.now) who.entry)) found.new }
+    ensures found { (db : Db) → B.database base.old ≡ Some db → IsFound db (who_of (option_map (λ n. n.now) who.entry)) found.new }
     ensures kept { B.database base.new ≡ B.database base.old }
     ensures stays { (s : Db) → B.schema base.old ≡ Some s → B.schema base.new ≡ Some s }
     ensures asked { (b : B) → B.asked b base.old → B.asked b base.new }
@@ -84,12 +84,12 @@ fn text_anew<B: Base>(
     levels: u8,
     found: &mut TextsFound,
 ) -> Result<Text, TextFault>
-    requires few { (db : Db) → B.schema base.old ≡ Some db → (measure_within levels db key.now).variables ≤ 256 }
-    requires found { (db : Db) → B.schema base.old ≡ Some db → IsFound db (who_of (option_map (λ n. n.now) who)) found.old }
-    ensures told { (db : Db) → B.schema base.old ≡ Some db → IfOk result (λ text. text ≡ text_within levels db (who_of (option_map (λ n. n.now) who.entry)) key.now attrs.now) }
-    ensures permitted { (db : Db) → B.schema base.old ≡ Some db → OnOk result (permitted_within levels db (who_of (option_map (λ n. n.now) who.entry)) key.now attrs.now ≡ true) }
+    requires few { (db : Db) → B.database base.old ≡ Some db → (measure_within levels db key.now).variables ≤ 256 }
+    requires found { (db : Db) → B.database base.old ≡ Some db → IsFound db (who_of (option_map (λ n. n.now) who)) found.old }
+    ensures told { (db : Db) → B.database base.old ≡ Some db → IfOk result (λ text. text ≡ text_within levels db (who_of (option_map (λ n. n.now) who.entry)) key.now attrs.now) }
+    ensures permitted { (db : Db) → B.database base.old ≡ Some db → OnOk result (permitted_within levels db (who_of (option_map (λ n. n.now) who.entry)) key.now attrs.now ≡ true) }
     ensures scoped { IfOk result (λ text. is_scoped text ≡ true) }
-    ensures found { (db : Db) → B.schema base.old ≡ Some db → IsFound db (who_of (option_map (λ n. n.now) who.entry)) found.new }
+    ensures found { (db : Db) → B.database base.old ≡ Some db → IsFound db (who_of (option_map (λ n. n.now) who.entry)) found.new }
     ensures kept { B.database base.new ≡ B.database base.old }
     ensures stays { (s : Db) → B.schema base.old ≡ Some s → B.schema base.new ≡ Some s }
     ensures asked { (b : B) → B.asked b base.old → B.asked b base.new }
@@ -118,12 +118,12 @@ fn text_of_view<B: Base>(
     levels: u8,
     found: &mut TextsFound,
 ) -> Result<Text, TextFault>
-    requires stands { (db : Db) → B.schema base.old ≡ Some db → Some query.now ≡ query_at db key.now }
-    requires few { (db : Db) → B.schema base.old ≡ Some db → (measure_within levels db key.now).variables ≤ 256 }
-    requires found { (db : Db) → B.schema base.old ≡ Some db → IsFound db (who_of (option_map (λ n. n.now) who)) found.old }
-    ensures told { (db : Db) → B.schema base.old ≡ Some db → IfOk result (IsTextOf db (who_of (option_map (λ n. n.now) who.entry)) key.now levels) }
+    requires stands { (db : Db) → B.database base.old ≡ Some db → Some query.now ≡ query_at db key.now }
+    requires few { (db : Db) → B.database base.old ≡ Some db → (measure_within levels db key.now).variables ≤ 256 }
+    requires found { (db : Db) → B.database base.old ≡ Some db → IsFound db (who_of (option_map (λ n. n.now) who)) found.old }
+    ensures told { (db : Db) → B.database base.old ≡ Some db → IfOk result (IsTextOf db (who_of (option_map (λ n. n.now) who.entry)) key.now levels) }
     ensures scoped { IfOk result (λ text. is_scoped text ≡ true) }
-    ensures found { (db : Db) → B.schema base.old ≡ Some db → IsFound db (who_of (option_map (λ n. n.now) who.entry)) found.new }
+    ensures found { (db : Db) → B.database base.old ≡ Some db → IsFound db (who_of (option_map (λ n. n.now) who.entry)) found.new }
     ensures kept { B.database base.new ≡ B.database base.old }
     ensures stays { (s : Db) → B.schema base.old ≡ Some s → B.schema base.new ≡ Some s }
     ensures asked { (b : B) → B.asked b base.old → B.asked b base.new }
@@ -152,13 +152,13 @@ pub(crate) fn rows_through<B: Base>(
     levels: u8,
     found: &mut TextsFound,
 ) -> Result<Text, TextFault>
-    requires listed { (db : Db) → B.schema base.old ≡ Some db → length (vars_of query.now) ≤ 256 }
-    requires expanded { (db : Db) → B.schema base.old ≡ Some db → (query_measure (measure_within levels db) query.now).variables ≤ 256 }
-    requires found { (db : Db) → B.schema base.old ≡ Some db → IsFound db (who_of (option_map (λ n. n.now) who)) found.old }
-    ensures told { (db : Db) → B.schema base.old ≡ Some db → IfOk result (λ text. text ≡ rows_text (query_texts (text_within levels db (who_of (option_map (λ n. n.now) who.entry))) query.now) query.now) }
-    ensures permitted { (db : Db) → B.schema base.old ≡ Some db → OnOk result (vars_permitted (permitted_within levels db (who_of (option_map (λ n. n.now) who.entry))) query.now (used_vars query.now) ≡ true) }
+    requires listed { (db : Db) → B.database base.old ≡ Some db → length (vars_of query.now) ≤ 256 }
+    requires expanded { (db : Db) → B.database base.old ≡ Some db → (query_measure (measure_within levels db) query.now).variables ≤ 256 }
+    requires found { (db : Db) → B.database base.old ≡ Some db → IsFound db (who_of (option_map (λ n. n.now) who)) found.old }
+    ensures told { (db : Db) → B.database base.old ≡ Some db → IfOk result (λ text. text ≡ rows_text (query_texts (text_within levels db (who_of (option_map (λ n. n.now) who.entry))) query.now) query.now) }
+    ensures permitted { (db : Db) → B.database base.old ≡ Some db → OnOk result (vars_permitted (permitted_within levels db (who_of (option_map (λ n. n.now) who.entry))) query.now (used_vars query.now) ≡ true) }
     ensures scoped { IfOk result (λ text. is_scoped text ≡ true) }
-    ensures found { (db : Db) → B.schema base.old ≡ Some db → IsFound db (who_of (option_map (λ n. n.now) who.entry)) found.new }
+    ensures found { (db : Db) → B.database base.old ≡ Some db → IsFound db (who_of (option_map (λ n. n.now) who.entry)) found.new }
     ensures kept { B.database base.new ≡ B.database base.old }
     ensures stays { (s : Db) → B.schema base.old ≡ Some s → B.schema base.new ≡ Some s }
     ensures asked { (b : B) → B.asked b base.old → B.asked b base.new }
@@ -189,12 +189,12 @@ pub(crate) fn put_texts<B: Base>(
     found: &mut TextsFound,
 ) -> Result<(), TextFault>
     requires listed { length keys.now ≤ 256 }
-    requires expanded { (db : Db) → B.schema base.old ≡ Some db → variables_at (measure_within levels db) query.now 0 keys.now ≤ 256 }
-    requires found { (db : Db) → B.schema base.old ≡ Some db → IsFound db (who_of (option_map (λ n. n.now) who)) found.old }
-    ensures told { (db : Db) → B.schema base.old ≡ Some db → OnOk result (texts.new.items ≡ texts.old.items ++ texts_at (text_within levels db (who_of (option_map (λ n. n.now) who.entry))) query.now 0 keys.now) }
-    ensures permitted { (db : Db) → B.schema base.old ≡ Some db → OnOk result (permitted_at (permitted_within levels db (who_of (option_map (λ n. n.now) who.entry))) query.now 0 keys.now ≡ true) }
+    requires expanded { (db : Db) → B.database base.old ≡ Some db → variables_at (measure_within levels db) query.now 0 keys.now ≤ 256 }
+    requires found { (db : Db) → B.database base.old ≡ Some db → IsFound db (who_of (option_map (λ n. n.now) who)) found.old }
+    ensures told { (db : Db) → B.database base.old ≡ Some db → OnOk result (texts.new.items ≡ texts.old.items ++ texts_at (text_within levels db (who_of (option_map (λ n. n.now) who.entry))) query.now 0 keys.now) }
+    ensures permitted { (db : Db) → B.database base.old ≡ Some db → OnOk result (permitted_at (permitted_within levels db (who_of (option_map (λ n. n.now) who.entry))) query.now 0 keys.now ≡ true) }
     ensures scoped { list_all is_scoped texts.old.items ≡ true → OnOk result (list_all is_scoped texts.new.items ≡ true) }
-    ensures found { (db : Db) → B.schema base.old ≡ Some db → IsFound db (who_of (option_map (λ n. n.now) who.entry)) found.new }
+    ensures found { (db : Db) → B.database base.old ≡ Some db → IsFound db (who_of (option_map (λ n. n.now) who.entry)) found.new }
     ensures kept { B.database base.new ≡ B.database base.old }
     ensures stays { (s : Db) → B.schema base.old ≡ Some s → B.schema base.new ≡ Some s }
     ensures asked { (b : B) → B.asked b base.old → B.asked b base.new }
@@ -225,12 +225,12 @@ pub fn text_at_remembering<B: Base>(
     levels: u8,
     found: &mut TextsFound,
 ) -> Result<Text, TextFault>
-    requires few { (db : Db) → B.schema base.old ≡ Some db → is_any (used_in_query place query.now) ≡ true → (measure_within levels db key.now).variables ≤ 256 }
-    requires found { (db : Db) → B.schema base.old ≡ Some db → IsFound db (who_of (option_map (λ n. n.now) who)) found.old }
-    ensures told { (db : Db) → B.schema base.old ≡ Some db → IfOk result (λ text. text ≡ used_text (text_within levels db (who_of (option_map (λ n. n.now) who.entry))) key.now (used_in_query place query.now)) }
-    ensures permitted { (db : Db) → B.schema base.old ≡ Some db → OnOk result (is_any (used_in_query place query.now) ≡ true → permitted_within levels db (who_of (option_map (λ n. n.now) who.entry)) key.now (used_in_query place query.now) ≡ true) }
+    requires few { (db : Db) → B.database base.old ≡ Some db → is_any (used_in_query place query.now) ≡ true → (measure_within levels db key.now).variables ≤ 256 }
+    requires found { (db : Db) → B.database base.old ≡ Some db → IsFound db (who_of (option_map (λ n. n.now) who)) found.old }
+    ensures told { (db : Db) → B.database base.old ≡ Some db → IfOk result (λ text. text ≡ used_text (text_within levels db (who_of (option_map (λ n. n.now) who.entry))) key.now (used_in_query place query.now)) }
+    ensures permitted { (db : Db) → B.database base.old ≡ Some db → OnOk result (is_any (used_in_query place query.now) ≡ true → permitted_within levels db (who_of (option_map (λ n. n.now) who.entry)) key.now (used_in_query place query.now) ≡ true) }
     ensures scoped { IfOk result (λ text. is_scoped text ≡ true) }
-    ensures found { (db : Db) → B.schema base.old ≡ Some db → IsFound db (who_of (option_map (λ n. n.now) who.entry)) found.new }
+    ensures found { (db : Db) → B.database base.old ≡ Some db → IsFound db (who_of (option_map (λ n. n.now) who.entry)) found.new }
     ensures kept { B.database base.new ≡ B.database base.old }
     ensures stays { (s : Db) → B.schema base.old ≡ Some s → B.schema base.new ≡ Some s }
     ensures asked { (b : B) → B.asked b base.old → B.asked b base.new }

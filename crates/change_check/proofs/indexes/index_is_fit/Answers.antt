@@ -14,4 +14,4 @@ pub returns-in-Some-clause-told : goal.returns-in-Some-clause-told
 returns-in-Some-clause-told g c = λ db e.
     let there = one_there db c.args.rel.now _ _ (c.in_ok-info.ensures.told db e) c.in-Some.is in
     let attrs = attrs_there db c.args.rel.now _ _ (c.in_ok-info.ensures.told db e) c.in-Some.is in
-    c.index_has_parts.ensures.told db (c.relation.ensures.kept ∙ e) there (attrs ∙ sym c.items.ensures)
+    c.index_has_parts.ensures.told db (c.relation.ensures.stays db e) there (attrs ∙ sym c.items.ensures)

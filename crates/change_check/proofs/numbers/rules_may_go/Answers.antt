@@ -14,4 +14,4 @@ returns-clause-told g c = λ db e.
     goes_on (is_relation db c.args.rel.now) _ _ there
     (c.are_listed_once.ensures
     ∙ ap (λ (standing : List ℕ). list_all (has_number standing) c.args.numbers.now && differ_by nat_eq c.args.numbers.now)
-    (c.deref.ensures.value ∙ c.in_ok-standing.ensures.told db (ap (λ f. f) c.is_relation.ensures.kept ∙ e)))
+    (c.deref.ensures.value ∙ c.in_ok-standing.ensures.told db (c.is_relation.ensures.stays db e)))

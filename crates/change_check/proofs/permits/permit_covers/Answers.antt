@@ -25,4 +25,4 @@ returns-clause-told g c = λ db h.
     sym yes ∙ c.in_ok-attrs_are_places.ensures.told db h ∙ ap (listed db c.args.rel.now) c.items.ensures in
     subst (λ (b : Bool). IfOk c.row_qual_is_fit.result (λ fit. fit ≡ b))
     (ap (λ b. b && (row_qual_stands db c.args.rel.now c.args.permit.now.qual && row_qual_is_storable c.args.permit.now.qual)) all)
-    (c.row_qual_is_fit.ensures.told db (c.in_ok-attrs_are_places.ensures.kept ∙ h))
+    (c.row_qual_is_fit.ensures.told db (c.in_ok-attrs_are_places.ensures.stays db h))

@@ -9,4 +9,4 @@ returns-clause-told g c = λ db h.
     let own : c.in_ok-is_administrators_relation.field-0 ≡ true = cc (c.if-not-branch.false) in
     subst (λ (b : Bool). IfOk c.permit_stands.result (λ fit. fit ≡ b))
     (passed _ _ _ (sym c.is_said_well.ensures ∙ said) (sym (c.in_ok-is_administrators_relation.ensures.told db h) ∙ own))
-    (c.permit_stands.ensures.told db (c.in_ok-is_administrators_relation.ensures.kept ∙ h))
+    (c.permit_stands.ensures.told db (c.in_ok-is_administrators_relation.ensures.stays db h))

@@ -1,4 +1,4 @@
-use Rattle.std.proofs.Common.{◌≡◌, ◌≤◌, Some, true, take}
+use Rattle.std.proofs.Common.{◌≡◌, Some, true, take}
 use Rattle.std.specs.List.{list_all}
 use Rattle.calculus.specs.Database.{Db}
 use Rattle.calculus.specs.Rows.{has}
@@ -9,6 +9,8 @@ abbrev pub invariant-loop-row : goal.invariant-loop-row
 invariant-loop-row g l = record {
   kept : g.B.Base.database l.base ≡ g.B.Base.database l.fn.base;
   same : g.B.Base.left l.base ≡ g.B.Base.left l.fn.base;
-  later : g.B.Base.faults l.fn.base ≤ g.B.Base.faults l.base;
+  stays : (s : Db) → g.B.Base.schema l.fn.base ≡ Some s → g.B.Base.schema l.base ≡ Some s;
+  asked : (b : _) → g.B.Base.asked b l.fn.base → g.B.Base.asked b l.base;
+  faults : g.B.Base.faults l.base ≡ g.B.Base.faults l.fn.base;
   so_far : (db : Db) → g.B.Base.database l.fn.base ≡ Some db → list_all (has (rows_at db l.rel)) (take l.row-index l.rows) ≡ true;
 }

@@ -1,4 +1,4 @@
-use Rattle.std.proofs.Common.{◌≡◌, sym, ap, ◌∙◌, arith, true, false, ◌||◌}
+use Rattle.std.proofs.Common.{◌≡◌, sym, ap, ◌∙◌, true, false, ◌||◌}
 use Rattle.std.specs.List.{list_any}
 use Rattle.std.proofs.lemmas.List.{take_all}
 use Rattle.std.proofs.lemmas.List.Folds.{list_any_more, list_any_at}
@@ -14,7 +14,9 @@ loop-row-preserved g c = record {
       ∙ (λ i. c.loop-row.invariant.so_far db h i || (ap (has (rows_at db c.args.rel.now)) (sym c.row-item.is) ∙ sym (c.in_ok-there.ensures.told db (c.loop-row.invariant.kept ∙ h)) ∙ on) i);
   kept = c.in_ok-there.ensures.kept ∙ c.loop-row.invariant.kept;
   same = c.in_ok-there.ensures.same ∙ c.loop-row.invariant.same;
-  later = omega (arith, c.in_ok-there.ensures.cause.later, c.loop-row.invariant.later);
+  stays = λ s h. c.in_ok-there.ensures.stays s (c.loop-row.invariant.stays s h);
+  asked = λ b was. c.in_ok-there.ensures.asked b (c.loop-row.invariant.asked b was);
+  faults = c.in_ok-there.ensures.cause.caused ∙ c.loop-row.invariant.faults;
 }
 
 pub returns-then-there-clause-told : goal.returns-then-there-clause-told

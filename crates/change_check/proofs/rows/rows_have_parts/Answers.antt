@@ -1,4 +1,5 @@
 use Rattle.std.proofs.Common.{◌≡◌, refl, ◌∙◌, subst, Bool, true, false, IfOk}
+use Rattle.change_check.proofs.BySchema.{always}
 use Rattle.change_check.proofs.RowsFit.{moves, stand, not_moved, not_standing, by_number}
 use Rattle.change_check.proofs.rows.rows_have_parts.Goals as goal
 
@@ -19,3 +20,8 @@ returns-clause-told g c = λ db e there attrs.
     let stands : stand c.args.attrs.now c.args.remove.now c.args.add.now ≡ true = cc (c.in_ok-lists_stand.ensures, c.if-not-branch-2.false) in
     subst (λ (b : Bool). IfOk c.few_stay.result (λ fit. fit ≡ b)) (by_number db c.args.rel.now _ c.args.remove.now c.args.add.now _ there moved attrs stands refl)
     (c.few_stay.ensures.told db (c.rows_move.ensures.kept ∙ e))
+
+pub returns-clause-stand : goal.returns-clause-stand
+returns-clause-stand g c =
+    let stands : stand c.args.attrs.now c.args.remove.now c.args.add.now ≡ true = cc (c.in_ok-lists_stand.ensures, c.if-not-branch-2.false) in
+    always c.few_stay.result stands

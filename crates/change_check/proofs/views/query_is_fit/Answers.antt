@@ -9,4 +9,4 @@ pub returns-clause-told : goal.returns-clause-told
 returns-clause-told g c = λ db h.
     let yes : query_stands db c.args.query.now ≡ true = cc (c.in_ok-stands.ensures.told db h, c.if-not-stands.false) in
     subst (λ (b : Bool). IfOk c.view_is_small.result (λ fit. fit ≡ b)) (sym (ap (λ b. b && view_is_small db c.args.query.now) yes))
-    (c.view_is_small.ensures.told db (c.in_ok-stands.ensures.kept ∙ h) (query_plain db c.args.query.now yes))
+    (c.view_is_small.ensures.told db (c.in_ok-stands.ensures.stays db h) (query_plain db c.args.query.now yes))

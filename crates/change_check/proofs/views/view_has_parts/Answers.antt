@@ -15,4 +15,4 @@ returns-clause-told g c = λ db h.
     let stand : (view_info_stands info && (attrs_stand info.attrs && attrs_are_targets info.attrs (targets_of q))) ≡ true = cc (c.in_ok-view_attrs_stand.ensures, c.if-not-branch-2.false) in
     subst (λ (b : Bool). IfOk c.view_query_is_fit.result (λ fit. fit ≡ b))
     (sym (λ i. free i && (stand i && (vars_are_there db q && (not (is_too_high (query_level db q)) && (query_stands db q && view_is_small db q))))))
-    (c.view_query_is_fit.ensures.told db (c.in_ok-key_is_free.ensures.kept ∙ h))
+    (c.view_query_is_fit.ensures.told db (c.in_ok-key_is_free.ensures.stays db h))

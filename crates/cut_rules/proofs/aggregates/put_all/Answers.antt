@@ -41,6 +41,8 @@ loop-aggregate-preserved g c = record {
       ∙ (λ i. c.loop-aggregate.invariant.permitted db h i && (ap (λ a. source_permitted (readable db (who_of (option_map (λ n. n.now) c.args.who))) (used_in_aggregate a.now) a.now.source) (sym c.aggregate-item.is) ∙ c.in-Ok.ensures.permitted db (c.loop-aggregate.invariant.kept ∙ h)) i);
   found = λ db h. c.in-Ok.ensures.found db (c.loop-aggregate.invariant.kept ∙ h);
   kept = c.in-Ok.ensures.kept ∙ c.loop-aggregate.invariant.kept;
+  stays = λ s h. c.in-Ok.ensures.stays s (c.loop-aggregate.invariant.stays s h);
+  asked = λ b was. c.in-Ok.ensures.asked b (c.loop-aggregate.invariant.asked b was);
   same = c.in-Ok.ensures.same ∙ c.loop-aggregate.invariant.same;
   later = omega (arith, c.in-Ok.ensures.cause.later, c.loop-aggregate.invariant.later);
 }

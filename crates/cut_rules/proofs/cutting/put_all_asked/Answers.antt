@@ -37,6 +37,8 @@ asked-preserved g c = record {
   fit = λ db h. others_of (asked_fits (kept_or_viewed db) db) c.in-Some.first.now c.asked.rest.now c.in-Some.others.now c.in-Some.ensures.cases.0 (c.asked.invariant.fit db h);
   found = λ db h. c.in_ok-put_asked.ensures.found db (c.asked.invariant.kept ∙ h);
   kept = c.in_ok-put_asked.ensures.kept ∙ c.asked.invariant.kept;
+  stays = λ s h. c.in_ok-put_asked.ensures.stays s (c.asked.invariant.stays s h);
+  asked = λ b was. c.in_ok-put_asked.ensures.asked b (c.asked.invariant.asked b was);
   same = c.in_ok-put_asked.ensures.same ∙ c.asked.invariant.same;
   later = omega (arith, c.in_ok-put_asked.ensures.cause.later, c.asked.invariant.later);
 }

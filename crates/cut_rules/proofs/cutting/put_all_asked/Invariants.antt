@@ -22,6 +22,8 @@ invariant-asked g l = record {
   fit : (db : Db) → g.B.Base.database l.initial.base ≡ Some db → list_all (asked_fits (kept_or_viewed db) db) l.rest ≡ true;
   found : (db : Db) → g.B.Base.database l.initial.base ≡ Some db → IsFound db (who_of (option_map (λ n. n.now) l.who)) l.found;
   kept : g.B.Base.database l.base ≡ g.B.Base.database l.initial.base;
+  stays : (s : Db) → g.B.Base.schema l.initial.base ≡ Some s → g.B.Base.schema l.base ≡ Some s;
+  asked : (b : _) → g.B.Base.asked b l.initial.base → g.B.Base.asked b l.base;
   same : g.B.Base.left l.base ≡ g.B.Base.left l.initial.base;
   later : g.B.Base.faults l.initial.base ≤ g.B.Base.faults l.base;
 }

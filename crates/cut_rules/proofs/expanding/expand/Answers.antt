@@ -1,40 +1,15 @@
 use Rattle.std.proofs.Common.{sym, ◌∙◌}
-use Rattle.quel_meaning.specs.FitQueries.{kept_or_viewed}
-use Rattle.cut_rules.proofs.Answered.{expand_failed, few_sources, too_many, few_enough, same_answer, same_lack}
-use Rattle.cut_rules.proofs.Fitting.{few_listed}
-use Rattle.cut_rules.proofs.Freely.{free_query}
-use Rattle.calculus.specs.Sizes.{expanded_variables}
+use Rattle.cut_rules.proofs.Answered.{expand_behind, known_before}
 use Rattle.cut_rules.proofs.expanding.expand.Goals as goal
 
-pub returns-then-vars-gt-MOST_VARIABLES-clause-cause : goal.returns-then-vars-gt-MOST_VARIABLES-clause-cause
-returns-then-vars-gt-MOST_VARIABLES-clause-cause g c = record {
-  later = c.in_ok-vars.ensures.cause.later;
-  caused = λ db h.
-      too_many c.in_ok-vars.vars (expanded_variables db c.args.query.now) c.capped.result
-      (c.in_ok-vars.ensures.told db h (few_listed (kept_or_viewed db) db c.args.query.now (c.requires db h)) (few_sources db c.args.query.now (c.requires db h)))
-      c.if-vars-gt-MOST_VARIABLES.true c.capped.ensures;
-}
+pub expand_fixed-requires : goal.expand_fixed-requires
+expand_fixed-requires g c = λ db h. c.requires db (sym c.in_ok-_entries.ensures.kept ∙ h)
 
-pub put_in-requires-clause-few : goal.put_in-requires-clause-few
-put_in-requires-clause-few g c = λ db h.
-    let k = sym c.in_ok-vars.ensures.kept ∙ h in
-    few_enough c.in_ok-vars.vars (expanded_variables db c.args.query.now)
-    (c.in_ok-vars.ensures.told db k (few_listed (kept_or_viewed db) db c.args.query.now (c.requires db k)) (few_sources db c.args.query.now (c.requires db k))) c.if-vars-gt-MOST_VARIABLES.false
+pub returns-clause-few_by_schema : goal.returns-clause-few_by_schema
+returns-clause-few_by_schema g c = λ fixes s h. c.expand_fixed.ensures.few_by_schema s (known_before _ _ (c.in_ok-_entries.ensures.fixed fixes) c.expand_fixed.ensures.stays s h)
 
-pub returns-in-Ok-clause-few : goal.returns-in-Ok-clause-few
-returns-in-Ok-clause-few g c = λ db h.
-    few_enough c.in_ok-vars.vars (expanded_variables db c.args.query.now)
-    (c.in_ok-vars.ensures.told db h (few_listed (kept_or_viewed db) db c.args.query.now (c.requires db h)) (few_sources db c.args.query.now (c.requires db h))) c.if-vars-gt-MOST_VARIABLES.false
-
-pub returns-in-Ok-clause-answer : goal.returns-in-Ok-clause-answer
-returns-in-Ok-clause-answer g c = λ db h nests.
-    same_answer db (g.B.Base.lawful c.args.base.now db h) c.args.query.now c.in-Ok.made nests (c.in-Ok.ensures.told db (c.in_ok-vars.ensures.kept ∙ h))
-
-pub returns-in-Ok-clause-lacks : goal.returns-in-Ok-clause-lacks
-returns-in-Ok-clause-lacks g c = λ db h nests.
-    same_lack db (g.B.Base.lawful c.args.base.now db h) c.args.query.now c.in-Ok.made nests (c.in-Ok.ensures.told db (c.in_ok-vars.ensures.kept ∙ h))
+pub returns-clause-many_by_schema : goal.returns-clause-many_by_schema
+returns-clause-many_by_schema g c = λ fixes s h. c.expand_fixed.ensures.many_by_schema s (known_before _ _ (c.in_ok-_entries.ensures.fixed fixes) c.expand_fixed.ensures.stays s h)
 
 pub returns-clause-cause : goal.returns-clause-cause
-returns-clause-cause g c =
-    expand_failed _ _ _ _ _ _ _ _ c.in-Err.ensures.cause c.unexpanded.ensures c.in_ok-vars.ensures.kept c.in_ok-vars.ensures.cause.later
-    (λ db h. free_query db (g.B.Base.lawful c.args.base.now db h) c.args.query.now (c.requires db h))
+returns-clause-cause g c = expand_behind _ _ _ _ _ _ _ c.expand_fixed.ensures.cause c.in_ok-_entries.ensures.kept c.in_ok-_entries.ensures.cause.caused

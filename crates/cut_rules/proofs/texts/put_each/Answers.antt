@@ -34,6 +34,8 @@ keys-preserved g c = record {
   scoped = λ h. c.in_ok-put_behind.ensures.scoped (c.keys.invariant.scoped h);
   found = λ db h. c.in_ok-more.ensures.found db (c.keys.invariant.kept ∙ h);
   kept = c.in_ok-more.ensures.kept ∙ c.keys.invariant.kept;
+  stays = λ s h. c.in_ok-more.ensures.stays s (c.keys.invariant.stays s h);
+  asked = λ b was. c.in_ok-more.ensures.asked b (c.keys.invariant.asked b was);
   same = c.in_ok-more.ensures.same ∙ c.keys.invariant.same;
   later = omega (arith, c.in_ok-more.ensures.cause.later, c.keys.invariant.later);
 }

@@ -19,9 +19,10 @@ returns-in-None-clause-told g c = λ db e.
 pub loop-call-preserved : goal.loop-call-preserved
 loop-call-preserved g c = record {
   kept = c.in_ok-row.ensures.kept ∙ c.loop-call.invariant.kept;
+  stays = λ s e. c.in_ok-row.ensures.stays s (c.loop-call.invariant.stays s e);
   same = c.in_ok-row.ensures.same ∙ c.loop-call.invariant.same;
   asked = λ b was. c.in_ok-row.ensures.asked b (c.loop-call.invariant.asked b was);
-  later = omega (arith, c.loop-call.invariant.later, c.in_ok-row.ensures.cause.later);
+  later = c.in_ok-row.ensures.cause.caused ∙ c.loop-call.invariant.later;
   counted = omega (arith, ap length c.in_ok-put_behind-in-Some.ensures, length-append c.loop-call.rows.items (c.in-Some.row ∷ []), c.loop-call.invariant.counted);
   so_far = λ db e.
       let probe : Probe = c.args.probe.now in
@@ -35,7 +36,7 @@ loop-call-preserved g c = record {
 
 pub returns-clause-cause : goal.returns-clause-cause
 returns-clause-cause g c = record {
-  later = c.loop-call.invariant.later;
+  later = omega (arith, c.loop-call.invariant.later);
   caused = too_many (g.B.Base.database c.args.base.now) (g.B.Base.left c.args.base.now) c.args.key.now c.loop-call.at c.loop-call.rows.items
-      (g.B.Base.lawful c.args.base.now) (λ db. g.B.Base.scanned c.args.base.now db c.args.key.now) c.loop-call.invariant.so_far (omega arith);
+      (λ db e. g.B.Base.lawful c.args.base.now db (g.B.Base.own c.args.base.now db e)) (λ db. g.B.Base.scanned c.args.base.now db c.args.key.now) c.loop-call.invariant.so_far (omega arith);
 }

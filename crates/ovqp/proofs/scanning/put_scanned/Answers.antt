@@ -8,6 +8,7 @@ use Rattle.ovqp.proofs.scanning.put_scanned.Goals as goal
 pub loop-call-init : goal.loop-call-init
 loop-call-init g c = record {
   kept = refl;
+  stays = λ s e. e;
   same = refl;
   asked = λ b was. was;
   later = omega arith;
@@ -26,6 +27,7 @@ returns-in-None-clause-told g c = λ db e q is.
 pub loop-call-preserved : goal.loop-call-preserved
 loop-call-preserved g c = record {
   kept = c.in_ok-row.ensures.kept ∙ c.loop-call.invariant.kept;
+  stays = λ s e. c.in_ok-row.ensures.stays s (c.loop-call.invariant.stays s e);
   same = c.in_ok-row.ensures.same ∙ c.loop-call.invariant.same;
   asked = λ b was. c.in_ok-row.ensures.asked b (c.loop-call.invariant.asked b was);
   later = omega (arith, c.loop-call.invariant.later, c.in_ok-row.ensures.cause.later);
@@ -58,7 +60,7 @@ returns-in_err-give_of-in-Some-clause-cause g c = λ q is.
 pub returns-clause-cause : goal.returns-clause-cause
 returns-clause-cause g c = λ q is. record {
   later = c.loop-call.invariant.later;
-  caused = too_many (g.B.Base.database c.args.base.now) c.args.rel.now (g.B.Base.lawful c.args.base.now)
+  caused = too_many (g.B.Base.database c.args.base.now) c.args.rel.now (λ db e. g.B.Base.lawful c.args.base.now db (g.B.Base.own c.args.base.now db e))
       (λ db e. (
         g.B.Base.left c.args.base.now c.args.rel.now first_place,
         g.B.Base.left c.args.base.now c.args.rel.now c.loop-call.at,

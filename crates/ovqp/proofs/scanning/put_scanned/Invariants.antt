@@ -8,6 +8,7 @@ use Rattle.ovqp.proofs.scanning.put_scanned.Given as goal
 abbrev pub invariant-loop-call : goal.invariant-loop-call
 invariant-loop-call g l = record {
   kept : g.B.Base.database l.base ≡ g.B.Base.database l.fn.base;
+  stays : (s : Db) → g.B.Base.schema l.fn.base ≡ Some s → g.B.Base.schema l.base ≡ Some s;
   same : g.B.Base.left l.base ≡ g.B.Base.left l.fn.base;
   asked : (b : _) → g.B.Base.asked b l.fn.base → g.B.Base.asked b l.base;
   later : g.B.Base.faults l.fn.base ≤ g.B.Base.faults l.base;

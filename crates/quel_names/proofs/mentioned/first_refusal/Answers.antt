@@ -1,4 +1,4 @@
-use Rattle.std.proofs.Common.{sym, ap, ◌∙◌, is_some, le_trans}
+use Rattle.std.proofs.Common.{sym, ap, ◌∙◌, is_some}
 use Rattle.quel_check.specs.Seen.{seen}
 use Rattle.quel_meaning.specs.Naming.{mention_refusal}
 use Rattle.quel_names.proofs.Numbers.{one_stops, one_passes}
@@ -8,19 +8,21 @@ use Rattle.quel_names.proofs.mentioned.first_refusal.Goals as goal
 
 pub returns-then-is_some-clause-told : goal.returns-then-is_some-clause-told
 returns-then-is_some-clause-told g c = λ db h.
-    let told = c.in_ok-refusal.ensures.told db (c.loop-mention.invariant.0 ∙ h) in
+    let told = c.in_ok-refusal.ensures.told db (c.loop-mention.invariant.stays db h) in
     told
     ∙ one_stops (mention_refusal (scope_of db c.args.user.now c.args.ranges.now)) seen c.args.mentions.now c.loop-mention.mention-index c.mention-item.result c.loop-mention-test.true c.mention-item.is
     (sym (ap is_some told) ∙ sym c.is_some.ensures ∙ c.if-is_some.true)
-    ∙ c.loop-mention.invariant.3 db h
+    ∙ c.loop-mention.invariant.told db h
 
 pub loop-mention-preserved : goal.loop-mention-preserved
-loop-mention-preserved g c = (
-  c.in_ok-refusal.ensures.kept ∙ c.loop-mention.invariant.0,
-  c.in_ok-refusal.ensures.same ∙ c.loop-mention.invariant.1,
-  le_trans c.loop-mention.invariant.2 c.in_ok-refusal.ensures.cause.later,
-  λ db h.
+loop-mention-preserved g c = record {
+  told = λ db h.
       one_passes (mention_refusal (scope_of db c.args.user.now c.args.ranges.now)) seen c.args.mentions.now c.loop-mention.mention-index c.mention-item.result c.loop-mention-test.true c.mention-item.is
-      (sym (c.in_ok-refusal.ensures.told db (c.loop-mention.invariant.0 ∙ h)) ∙ none_if c.in_ok-refusal.refusal (sym c.is_some.ensures ∙ c.if-is_some.false))
-      ∙ c.loop-mention.invariant.3 db h,
-)
+      (sym (c.in_ok-refusal.ensures.told db (c.loop-mention.invariant.stays db h)) ∙ none_if c.in_ok-refusal.refusal (sym c.is_some.ensures ∙ c.if-is_some.false))
+      ∙ c.loop-mention.invariant.told db h;
+  kept = c.in_ok-refusal.ensures.kept ∙ c.loop-mention.invariant.kept;
+  stays = λ s h. c.in_ok-refusal.ensures.stays s (c.loop-mention.invariant.stays s h);
+  asked = λ b was. c.in_ok-refusal.ensures.asked b (c.loop-mention.invariant.asked b was);
+  same = c.in_ok-refusal.ensures.same ∙ c.loop-mention.invariant.same;
+  faults = c.in_ok-refusal.ensures.cause.caused ∙ c.loop-mention.invariant.faults;
+}

@@ -15,4 +15,4 @@ returns-clause-told g c = λ db h.
     told_as c.tail_refusal.result _ _
     (tail_is (scope_of db c.args.user.now c.args.ranges.now) c.args.s.now
     (sym (c.in_ok-refusal.ensures.told db h) ∙ none_if c.in_ok-refusal.refusal (sym c.is_some.ensures ∙ c.if-is_some.false)))
-    (c.tail_refusal.ensures.told db (c.in_ok-refusal.ensures.kept ∙ h))
+    (c.tail_refusal.ensures.told db (c.in_ok-refusal.ensures.stays _ h))

@@ -13,10 +13,10 @@ returns-in-Some-clause-told g c = λ db h.
     told_as c.titles_refusal-refusal.result _ _
     (ap (λ attrs. first_number (map (mention_refusal (scope_of db c.args.user.now c.args.ranges.now)) (flat_map (λ (a : Attr). meant_by c.args.role.now a.name) attrs))) c.items.ensures
     ∙ all_found (scope_of db c.args.user.now c.args.ranges.now) (meant_by c.args.role.now) c.args.var.now c.in-Some.info (sym c.in-Some.is ∙ c.in_ok-info.ensures.told db h))
-    (c.titles_refusal-refusal.ensures.told db (c.in_ok-info.ensures.kept ∙ h))
+    (c.titles_refusal-refusal.ensures.told db (c.in_ok-info.ensures.stays _ h))
 
 pub returns-in-None-clause-told : goal.returns-in-None-clause-told
 returns-in-None-clause-told g c = λ db h.
     told_as c.mention_refusal.result _ _
     (all_lost (scope_of db c.args.user.now c.args.ranges.now) (meant_by c.args.role.now) c.args.var.now (sym c.in-None.is ∙ c.in_ok-info.ensures.told db h))
-    (c.mention_refusal.ensures.told db (c.in_ok-info.ensures.kept ∙ h))
+    (c.mention_refusal.ensures.told db (c.in_ok-info.ensures.stays _ h))

@@ -12,7 +12,7 @@ returns-clause-told g c = λ db h.
     told_as c.refusal_of-2.result _ _
     (after_none (mention_refusal (scope_of db c.args.user.now c.args.ranges.now)) (meant_by c.args.role.now c.args.name.now) (dotted (attributes c.args.term.now))
     (sym (c.in_ok-refusal.ensures.told db _ h c.meant.ensures) ∙ none_if c.in_ok-refusal.refusal (sym c.is_some.ensures ∙ c.if-is_some.false)))
-    (c.refusal_of-2.ensures.told db _ (c.in_ok-refusal.ensures.kept ∙ h) c.mentions_in_term.ensures)
+    (c.refusal_of-2.ensures.told db _ (c.in_ok-refusal.ensures.stays _ h) c.mentions_in_term.ensures)
 
 pub returns-then-is_some-clause-told : goal.returns-then-is_some-clause-told
 returns-then-is_some-clause-told g c = λ db h.

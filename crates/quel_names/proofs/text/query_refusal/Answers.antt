@@ -24,4 +24,4 @@ returns-clause-told g c = λ db h.
     (after_none (mention_refusal (scope_of db c.args.user.now c.args.ranges.now))
     (flat_map (item_mentions (scope_of db c.args.user.now c.args.ranges.now) (meant_by c.args.role.now)) c.args.items.now) (dotted (attributes_in_qual (unwrap_or (option_map (λ (b : Bor Qual). b.now) c.args.qual) True)))
     (sym (c.in_ok-refusal.ensures.told db h) ∙ none_if c.in_ok-refusal.refusal (sym c.is_some.ensures ∙ c.if-is_some.false)))
-    (c.qual_refusal.ensures.told db (c.in_ok-refusal.ensures.kept ∙ h))
+    (c.qual_refusal.ensures.told db (c.in_ok-refusal.ensures.stays _ h))

@@ -1,4 +1,4 @@
-use Rattle.std.proofs.Common.{◌≡◌, sym, ap, ◌∙◌, arith, true, false, ◌&&◌, map, vec_items}
+use Rattle.std.proofs.Common.{◌≡◌, sym, ap, ◌∙◌, true, false, ◌&&◌, map, vec_items}
 use Rattle.std.specs.List.{list_all}
 use Rattle.std.proofs.lemmas.List.{take_all}
 use Rattle.std.proofs.lemmas.List.Folds.{list_all_more, list_all_at}
@@ -10,18 +10,20 @@ pub loop-target-preserved : goal.loop-target-preserved
 loop-target-preserved g c = record {
   told = λ db h.
       let yes : c.has_kind.result ≡ true = cc (c.if-not-has_kind.false) in
-      let is = c.has_kind.ensures ∙ ap (λ o. has_kind o c.target-item.result.kind) (c.in_ok-kind.ensures.told db (c.loop-target.invariant.kept ∙ h)) in
+      let is = c.has_kind.ensures ∙ ap (λ o. has_kind o c.target-item.result.kind) (c.in_ok-kind.ensures.told db (c.loop-target.invariant.stays _ h)) in
       list_all_more (λ t. has_kind (kind_in_query db t.term (map vec_items c.args.vars.now)) t.kind) c.args.targets.now c.loop-target.target-index c.target-item.result c.loop-target-test.true
       ∙ (λ i. c.loop-target.invariant.told db h i && (ap (λ t. has_kind (kind_in_query db t.term (map vec_items c.args.vars.now)) t.kind) (sym c.target-item.is) ∙ sym is ∙ yes) i);
   kept = c.in_ok-kind.ensures.kept ∙ c.loop-target.invariant.kept;
+  stays = λ s h. c.in_ok-kind.ensures.stays s (c.loop-target.invariant.stays s h);
+  asked = λ b was. c.in_ok-kind.ensures.asked b (c.loop-target.invariant.asked b was);
   same = c.in_ok-kind.ensures.same ∙ c.loop-target.invariant.same;
-  later = omega (arith, c.in_ok-kind.ensures.cause.later, c.loop-target.invariant.later);
+  faults = c.in_ok-kind.ensures.cause.caused ∙ c.loop-target.invariant.faults;
 }
 
 pub returns-then-not-has_kind-clause-told : goal.returns-then-not-has_kind-clause-told
 returns-then-not-has_kind-clause-told g c = λ db h.
     let no : c.has_kind.result ≡ false = cc (c.if-not-has_kind.true) in
-    let is = c.has_kind.ensures ∙ ap (λ o. has_kind o c.target-item.result.kind) (c.in_ok-kind.ensures.told db (c.loop-target.invariant.kept ∙ h)) in
+    let is = c.has_kind.ensures ∙ ap (λ o. has_kind o c.target-item.result.kind) (c.in_ok-kind.ensures.told db (c.loop-target.invariant.stays _ h)) in
     sym (list_all_at (λ t. has_kind (kind_in_query db t.term (map vec_items c.args.vars.now)) t.kind) c.args.targets.now c.loop-target.target-index c.target-item.result c.loop-target-test.true
     (ap (λ t. has_kind (kind_in_query db t.term (map vec_items c.args.vars.now)) t.kind) (sym c.target-item.is) ∙ sym is ∙ no))
 

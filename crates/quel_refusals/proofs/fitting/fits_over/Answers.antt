@@ -16,4 +16,4 @@ returns-clause-told g c = λ db h k.
     subst (λ (b : Bool). IfOk c.kinds_fit_in_query.result (λ fit. fit ≡ b))
     (goes_on _ _ _ (sym (c.in_ok-fit.ensures.told db h) ∙ yes) refl
     ∙ fitted db c.args.q.now (map vec_items c.args.vars.now) c.items.result.now _ (c.items.ensures ∙ targets_is c.args.q.now) (qual_is c.args.q.now) k)
-    (c.kinds_fit_in_query.ensures.told db (c.in_ok-fit.ensures.kept ∙ h))
+    (c.kinds_fit_in_query.ensures.told db (c.in_ok-fit.ensures.stays _ h))

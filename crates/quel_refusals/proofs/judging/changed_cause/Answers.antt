@@ -19,6 +19,8 @@ returns-in_default g c = record {
       let is = updated scope c.args.s.now q c.args.u.now c.in_default.not-Delete e in
       subst (λ cs. IfOk c.update_cause.result (λ n. n ≡ first_cause cs)) is.are (c.update_cause.ensures.told scope h (ap sources_list_few is.query ∙ k) is.wants);
   kept = c.update_cause.ensures.kept;
+  stays = c.update_cause.ensures.stays;
+  asked = c.update_cause.ensures.asked;
   same = c.update_cause.ensures.same;
   cause = c.update_cause.ensures.cause;
 }

@@ -1,4 +1,4 @@
-use Rattle.std.proofs.Common.{sym, ap, ◌∙◌, arith, map, ◌++◌, ◌∷◌, []}
+use Rattle.std.proofs.Common.{sym, ap, ◌∙◌, map, ◌++◌, ◌∷◌, []}
 use Rattle.std.proofs.lemmas.List.{take_all, map_more}
 use Rattle.calculus.specs.Stored.{kinds_at}
 use Rattle.quel_refusals.proofs.kinds.var_kinds.Goals as goal
@@ -7,11 +7,13 @@ pub loop-key-preserved : goal.loop-key-preserved
 loop-key-preserved g c = record {
   told = λ db h.
       c.in_ok-put_behind.ensures
-      ∙ (λ i. c.loop-key.invariant.told db h i ++ (c.in_ok-more.ensures.told db (c.loop-key.invariant.kept ∙ h) ∙ ap (kinds_at db) c.key-item.is) i ∷ [])
+      ∙ (λ i. c.loop-key.invariant.told db h i ++ (c.in_ok-more.ensures.told db (c.loop-key.invariant.stays _ h) ∙ ap (kinds_at db) c.key-item.is) i ∷ [])
       ∙ sym (map_more (kinds_at db) c.args.vars.now c.loop-key.key-index c.key-item.result c.loop-key-test.true);
   kept = c.in_ok-more.ensures.kept ∙ c.loop-key.invariant.kept;
+  stays = λ s h. c.in_ok-more.ensures.stays s (c.loop-key.invariant.stays s h);
+  asked = λ b was. c.in_ok-more.ensures.asked b (c.loop-key.invariant.asked b was);
   same = c.in_ok-more.ensures.same ∙ c.loop-key.invariant.same;
-  later = omega (arith, c.in_ok-more.ensures.cause.later, c.loop-key.invariant.later);
+  faults = c.in_ok-more.ensures.cause.caused ∙ c.loop-key.invariant.faults;
 }
 
 pub returns-clause-told : goal.returns-clause-told

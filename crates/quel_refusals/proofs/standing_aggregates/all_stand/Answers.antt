@@ -1,4 +1,4 @@
-use Rattle.std.proofs.Common.{◌≡◌, sym, ap, ◌∙◌, arith, true, false, ◌&&◌}
+use Rattle.std.proofs.Common.{◌≡◌, sym, ap, ◌∙◌, true, false, ◌&&◌}
 use Rattle.std.specs.List.{list_all}
 use Rattle.std.proofs.lemmas.List.{take_all}
 use Rattle.std.proofs.lemmas.List.Folds.{list_all_more, list_all_at}
@@ -15,10 +15,12 @@ loop-aggregate-preserved g c = record {
       let on : c.in_ok-stands.stands ≡ true = cc (c.if-not-stands.false) in
       let one = one_passes (λ a. each_ranges s (front (aggregate_vars a))) (λ a. a.now) c.args.aggregates.now c.loop-aggregate.aggregate-index c.aggregate-item.result c.loop-aggregate-test.true c.aggregate-item.is each in
       list_all_more (λ a. aggregate_stands s a.now) c.args.aggregates.now c.loop-aggregate.aggregate-index c.aggregate-item.result c.loop-aggregate-test.true
-      ∙ (λ i. c.loop-aggregate.invariant.told s h r each i && (ap (λ a. aggregate_stands s a.now) (sym c.aggregate-item.is) ∙ sym (c.in_ok-stands.ensures.told s (c.loop-aggregate.invariant.kept ∙ h) r one) ∙ on) i);
+      ∙ (λ i. c.loop-aggregate.invariant.told s h r each i && (ap (λ a. aggregate_stands s a.now) (sym c.aggregate-item.is) ∙ sym (c.in_ok-stands.ensures.told s (c.loop-aggregate.invariant.stays _ h) r one) ∙ on) i);
   kept = c.in_ok-stands.ensures.kept ∙ c.loop-aggregate.invariant.kept;
+  stays = λ s h. c.in_ok-stands.ensures.stays s (c.loop-aggregate.invariant.stays s h);
+  asked = λ b was. c.in_ok-stands.ensures.asked b (c.loop-aggregate.invariant.asked b was);
   same = c.in_ok-stands.ensures.same ∙ c.loop-aggregate.invariant.same;
-  later = omega (arith, c.in_ok-stands.ensures.cause.later, c.loop-aggregate.invariant.later);
+  faults = c.in_ok-stands.ensures.cause.caused ∙ c.loop-aggregate.invariant.faults;
 }
 
 pub returns-then-not-stands-clause-told : goal.returns-then-not-stands-clause-told
@@ -26,7 +28,7 @@ returns-then-not-stands-clause-told g c = λ s h r each.
     let off : c.in_ok-stands.stands ≡ false = cc (c.if-not-stands.true) in
     let one = one_passes (λ a. each_ranges s (front (aggregate_vars a))) (λ a. a.now) c.args.aggregates.now c.loop-aggregate.aggregate-index c.aggregate-item.result c.loop-aggregate-test.true c.aggregate-item.is each in
     sym (list_all_at (λ a. aggregate_stands s a.now) c.args.aggregates.now c.loop-aggregate.aggregate-index c.aggregate-item.result c.loop-aggregate-test.true
-    (ap (λ a. aggregate_stands s a.now) (sym c.aggregate-item.is) ∙ sym (c.in_ok-stands.ensures.told s (c.loop-aggregate.invariant.kept ∙ h) r one) ∙ off))
+    (ap (λ a. aggregate_stands s a.now) (sym c.aggregate-item.is) ∙ sym (c.in_ok-stands.ensures.told s (c.loop-aggregate.invariant.stays _ h) r one) ∙ off))
 
 pub returns-clause-told : goal.returns-clause-told
 returns-clause-told g c = λ s h r each. sym (c.loop-aggregate.invariant.told s h r each) ∙ ap (list_all (λ a. aggregate_stands s a.now)) (take_all c.loop-aggregate.aggregate-index c.args.aggregates.now c.loop-aggregate-test.false)

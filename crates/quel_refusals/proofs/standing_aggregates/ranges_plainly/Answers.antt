@@ -8,7 +8,7 @@ pub returns-in-Some-clause-told : goal.returns-in-Some-clause-told
 returns-in-Some-clause-told g c = λ s h r there.
     let known : ranged s c.args.var.now ≡ Some c.in-Some.info = found_is s c.args.ranges.now c.args.var.now _ _ r (c.in_ok-info.ensures.told s.db h) c.in-Some.is in
     subst (λ (b : Bool). IfOk c.is_plain-plain.result (λ plain. plain ≡ b)) (known_plain s c.args.var.now c.in-Some.info known)
-    (c.is_plain-plain.ensures.told s.db (c.in_ok-info.ensures.kept ∙ h))
+    (c.is_plain-plain.ensures.told s.db (c.in_ok-info.ensures.stays _ h))
 
 pub returns-in-None-clause-told : goal.returns-in-None-clause-told
 returns-in-None-clause-told g c = λ s h r there.

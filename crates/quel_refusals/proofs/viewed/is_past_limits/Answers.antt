@@ -15,4 +15,4 @@ returns-clause-told g c = λ db h none.
     let told = c.in_ok-full.ensures.told db h (few_of_none c.args.q.now none) in
     subst (λ (b : Bool). IfOk c.is_too_large.result (λ past. past ≡ b))
     (ap (λ d. d || is_too_large db c.args.q.now) (sym c.if-full.false) ∙ three (has_too_many db c.args.q.now) (is_full db) (is_too_large db c.args.q.now) c.in_ok-full.full (sym told))
-    (c.is_too_large.ensures.told db (c.in_ok-full.ensures.kept ∙ h) none (few_listed db c.args.q.now (sym told ∙ c.if-full.false)))
+    (c.is_too_large.ensures.told db (c.in_ok-full.ensures.stays _ h) none (few_listed db c.args.q.now (sym told ∙ c.if-full.false)))

@@ -4,8 +4,11 @@ use Rattle.quel_meaning.specs.Tables.{column_of, sorted}
 use Rattle.stage_proc.proofs.Tabling.{made_table}
 use Rattle.stage_proc.proofs.tables.table_with.Goals as goal
 
-pub returns-in-Ok : goal.returns-in-Ok
-returns-in-Ok c = λ db is.
+pub returns-in-Ok-clause-columns : goal.returns-in-Ok-clause-columns
+returns-in-Ok-clause-columns c = c.of.ensures ∙ c.in-Ok.ensures ∙ ap (map column_of) (c.items.ensures ∙ targets_is c.args.asked.now.query)
+
+pub returns-in-Ok-clause-told : goal.returns-in-Ok-clause-told
+returns-in-Ok-clause-told c = λ db is.
     let asked = c.args.asked.now in
     made_table db asked c.of.result c.of-in-Ok.result
     (c.of.ensures ∙ c.in-Ok.ensures ∙ ap (map column_of) (c.items.ensures ∙ targets_is asked.query))

@@ -1,17 +1,20 @@
 use Rattle.std.proofs.Common.{rules, ◌≡◌, refl, sym, ap, ◌∙◌, map, Err, subst, arith}
 use Rattle.std.proofs.lemmas.List.{take_all}
+use Rattle.calculus.specs.QueryParts.{targets_of}
 use Rattle.calculus.specs.Who.{Free}
-use Rattle.quel_meaning.specs.Tables.{table_of, some_query_lacks}
+use Rattle.quel_meaning.specs.Tables.{column_of, table_of, some_query_lacks}
 use Rattle.stage_proc.specs.TableCauses.{CanBeAnswered, LacksIn, MayFail}
-use Rattle.stage_proc.proofs.Tabling.{next_made, none_yet, next_none, one_of, one_fails}
+use Rattle.stage_proc.proofs.Tabling.{next_made, next_part, none_yet, next_none, one_of, one_fails}
 use Rattle.stage_proc.proofs.tables.tables_of.Goals as goal
 
 pub loop-one-init : goal.loop-one-init
 loop-one-init g c = record {
   kept = refl;
+  stays = λ s e. e;
   same = refl;
   asked = λ b was. was;
   later = omega arith;
+  columns = ap (map (λ t. t.columns)) c.new-tables.ensures.items;
   told = λ db e. c.new-tables.ensures.items;
   none_lacks = λ db e. none_yet db;
 }
@@ -42,9 +45,13 @@ returns-in_err-table-clause-cause g c =
 pub loop-one-preserved : goal.loop-one-preserved
 loop-one-preserved g c = record {
   kept = c.in_ok-table.ensures.kept ∙ c.loop-one.invariant.kept;
+  stays = λ s e. c.in_ok-table.ensures.stays s (c.loop-one.invariant.stays s e);
   same = c.in_ok-table.ensures.same ∙ c.loop-one.invariant.same;
   asked = λ b was. c.in_ok-table.ensures.asked b (c.loop-one.invariant.asked b was);
   later = omega (arith, c.loop-one.invariant.later, c.in_ok-table.ensures.cause.later);
+  columns =
+      next_part (λ a. map column_of (targets_of a.query)) (λ t. t.columns) c.args.asked.now c.loop-one.one-index c.one-item.result c.loop-one.tables.items c.put_behind.new.tables.items c.in_ok-table.table c.loop-one-test.true c.one-item.is
+      c.loop-one.invariant.columns c.in_ok-table.ensures.columns c.in_ok-put_behind.ensures;
   told = λ db e.
       next_made (table_of db Free) c.args.asked.now c.loop-one.one-index c.one-item.result c.loop-one.tables.items c.put_behind.new.tables.items c.in_ok-table.table c.loop-one-test.true c.one-item.is
       (c.loop-one.invariant.told db e)
@@ -54,6 +61,11 @@ loop-one-preserved g c = record {
       next_none db c.args.asked.now c.loop-one.one-index c.one-item.result c.loop-one-test.true c.one-item.is (c.loop-one.invariant.none_lacks db e)
       (c.in_ok-table.ensures.none_lacks db (c.loop-one.invariant.kept ∙ e));
 }
+
+pub returns-clause-columns : goal.returns-clause-columns
+returns-clause-columns g c =
+    ap (map (λ t. t.columns)) c.of-tables.ensures ∙ c.loop-one.invariant.columns
+    ∙ ap (map (λ a. map column_of (targets_of a.query))) (take_all c.loop-one.one-index c.args.asked.now (omega arith))
 
 pub returns-clause-told : goal.returns-clause-told
 returns-clause-told g c = λ db e. c.of-tables.ensures ∙ c.loop-one.invariant.told db e ∙ ap (map (table_of db Free)) (take_all c.loop-one.one-index c.args.asked.now (omega arith))

@@ -1,4 +1,4 @@
-use Rattle.std.proofs.Common.{◌≡◌, sym, ap, ◌∙◌, arith, true, false, ◌&&◌}
+use Rattle.std.proofs.Common.{◌≡◌, sym, ap, ◌∙◌, true, false, ◌&&◌}
 use Rattle.std.specs.List.{list_all}
 use Rattle.std.proofs.lemmas.List.{take_all}
 use Rattle.std.proofs.lemmas.List.Folds.{list_all_more, list_all_at}
@@ -10,17 +10,19 @@ loop-one-preserved g c = record {
   told = λ db h.
       let on : c.in_ok-fit.fit ≡ true = cc (c.if-not-fit.false) in
       list_all_more (asked_fits (kept_alone db) db) c.args.asked.now c.loop-one.one-index c.one-item.result c.loop-one-test.true
-      ∙ (λ i. c.loop-one.invariant.told db h i && (ap (asked_fits (kept_alone db) db) (sym c.one-item.is) ∙ sym (c.in_ok-fit.ensures.told db (c.loop-one.invariant.kept ∙ h)) ∙ on) i);
+      ∙ (λ i. c.loop-one.invariant.told db h i && (ap (asked_fits (kept_alone db) db) (sym c.one-item.is) ∙ sym (c.in_ok-fit.ensures.told db (c.loop-one.invariant.stays db h)) ∙ on) i);
   kept = c.in_ok-fit.ensures.kept ∙ c.loop-one.invariant.kept;
   same = c.in_ok-fit.ensures.same ∙ c.loop-one.invariant.same;
-  later = omega (arith, c.in_ok-fit.ensures.cause.later, c.loop-one.invariant.later);
+  stays = λ s h. c.in_ok-fit.ensures.stays s (c.loop-one.invariant.stays s h);
+  asked = λ b was. c.in_ok-fit.ensures.asked b (c.loop-one.invariant.asked b was);
+  faults = c.in_ok-fit.ensures.cause.caused ∙ c.loop-one.invariant.faults;
 }
 
 pub returns-then-not-fit-clause-told : goal.returns-then-not-fit-clause-told
 returns-then-not-fit-clause-told g c = λ db h.
     let off : c.in_ok-fit.fit ≡ false = cc (c.if-not-fit.true) in
     sym (list_all_at (asked_fits (kept_alone db) db) c.args.asked.now c.loop-one.one-index c.one-item.result c.loop-one-test.true
-    (ap (asked_fits (kept_alone db) db) (sym c.one-item.is) ∙ sym (c.in_ok-fit.ensures.told db (c.loop-one.invariant.kept ∙ h)) ∙ off))
+    (ap (asked_fits (kept_alone db) db) (sym c.one-item.is) ∙ sym (c.in_ok-fit.ensures.told db (c.loop-one.invariant.stays db h)) ∙ off))
 
 pub returns-clause-told : goal.returns-clause-told
 returns-clause-told g c = λ db h. sym (c.loop-one.invariant.told db h) ∙ ap (list_all (asked_fits (kept_alone db) db)) (take_all c.loop-one.one-index c.args.asked.now c.loop-one-test.false)

@@ -14,4 +14,4 @@ returns-clause-told g t c = λ db h.
     (ap (λ b. b && list_all (λ (t : Target). comparable (kind_in_query db t.term (map vec_items c.args.vars.now)) (Some t.kind)) c.in-Some.others.now)
     (sym (sym (c.comparable.ensures ∙ ap (λ o. comparable o (Some c.in-Some.target.now.kind)) (c.in_ok-kind.ensures.told db h)) ∙ yes))
     ∙ sym (ap (list_all (λ (t : Target). comparable (kind_in_query db t.term (map vec_items c.args.vars.now)) (Some t.kind))) is))
-    (c.targets_compare.ensures.told db (c.in_ok-kind.ensures.kept ∙ h))
+    (c.targets_compare.ensures.told db (c.in_ok-kind.ensures.stays db h))

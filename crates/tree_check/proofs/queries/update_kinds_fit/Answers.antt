@@ -5,5 +5,5 @@ use Rattle.tree_check.proofs.queries.update_kinds_fit.Goals as goal
 
 pub returns-clause-told : goal.returns-clause-told
 returns-clause-told g c = λ db h.
-    c.changes_fit_over-fit.ensures.told db (c.in_ok-kinds.ensures.kept ∙ h)
+    c.changes_fit_over-fit.ensures.told db (c.in_ok-kinds.ensures.stays db h)
     (sym (ap (map vec_items) c.deref.ensures.value ∙ c.in_ok-kinds.ensures.told db h ∙ ap (map (kinds_at db)) (c.items.ensures ∙ vars_is c.args.q.now)))

@@ -24,4 +24,4 @@ returns-clause-told g c = λ db h.
     let yes : list_all (is_kept db) (vars_of c.args.q.now) ≡ true = cc (c.in_ok-vars_are_kept.ensures.told db h, c.if-not-branch.false) in
     subst (λ (b : Bool). IfOk c.aggregates_fit.result (λ fit. fit ≡ b))
     (goes_on _ _ _ (sym c.is_short.ensures ∙ short) (goes_on _ _ _ yes refl) ∙ read db c.args.q.now)
-    (c.aggregates_fit.ensures.told db (c.in_ok-vars_are_kept.ensures.kept ∙ h))
+    (c.aggregates_fit.ensures.told db (c.in_ok-vars_are_kept.ensures.stays db h))

@@ -1,4 +1,4 @@
-use Rattle.std.proofs.Common.{◌≡◌, sym, ap, ◌∙◌, arith, true, false, ◌&&◌}
+use Rattle.std.proofs.Common.{◌≡◌, sym, ap, ◌∙◌, true, false, ◌&&◌}
 use Rattle.std.specs.List.{list_all}
 use Rattle.std.proofs.lemmas.List.{take_all}
 use Rattle.std.proofs.lemmas.List.Folds.{list_all_more, list_all_at}
@@ -10,17 +10,19 @@ loop-aggregate-preserved g c = record {
   told = λ db h.
       let on : c.in_ok-fit.fit ≡ true = cc (c.if-not-fit.false) in
       list_all_more (λ g. source_fits (kept_alone db) db g.now.source) c.args.aggregates.now c.loop-aggregate.aggregate-index c.aggregate-item.result c.loop-aggregate-test.true
-      ∙ (λ i. c.loop-aggregate.invariant.told db h i && (ap (λ g. source_fits (kept_alone db) db g.now.source) (sym c.aggregate-item.is) ∙ sym (c.in_ok-fit.ensures.told db (c.loop-aggregate.invariant.kept ∙ h)) ∙ on) i);
+      ∙ (λ i. c.loop-aggregate.invariant.told db h i && (ap (λ g. source_fits (kept_alone db) db g.now.source) (sym c.aggregate-item.is) ∙ sym (c.in_ok-fit.ensures.told db (c.loop-aggregate.invariant.stays db h)) ∙ on) i);
   kept = c.in_ok-fit.ensures.kept ∙ c.loop-aggregate.invariant.kept;
   same = c.in_ok-fit.ensures.same ∙ c.loop-aggregate.invariant.same;
-  later = omega (arith, c.in_ok-fit.ensures.cause.later, c.loop-aggregate.invariant.later);
+  stays = λ s h. c.in_ok-fit.ensures.stays s (c.loop-aggregate.invariant.stays s h);
+  asked = λ b was. c.in_ok-fit.ensures.asked b (c.loop-aggregate.invariant.asked b was);
+  faults = c.in_ok-fit.ensures.cause.caused ∙ c.loop-aggregate.invariant.faults;
 }
 
 pub returns-then-not-fit-clause-told : goal.returns-then-not-fit-clause-told
 returns-then-not-fit-clause-told g c = λ db h.
     let off : c.in_ok-fit.fit ≡ false = cc (c.if-not-fit.true) in
     sym (list_all_at (λ g. source_fits (kept_alone db) db g.now.source) c.args.aggregates.now c.loop-aggregate.aggregate-index c.aggregate-item.result c.loop-aggregate-test.true
-    (ap (λ g. source_fits (kept_alone db) db g.now.source) (sym c.aggregate-item.is) ∙ sym (c.in_ok-fit.ensures.told db (c.loop-aggregate.invariant.kept ∙ h)) ∙ off))
+    (ap (λ g. source_fits (kept_alone db) db g.now.source) (sym c.aggregate-item.is) ∙ sym (c.in_ok-fit.ensures.told db (c.loop-aggregate.invariant.stays db h)) ∙ off))
 
 pub returns-clause-told : goal.returns-clause-told
 returns-clause-told g c = λ db h. sym (c.loop-aggregate.invariant.told db h) ∙ ap (list_all (λ g. source_fits (kept_alone db) db g.now.source)) (take_all c.loop-aggregate.aggregate-index c.args.aggregates.now c.loop-aggregate-test.false)

@@ -11,4 +11,4 @@ pub returns-clause-told : goal.returns-clause-told
 returns-clause-told g c = λ db h.
     let yes : (can_be_ranged_over db c.args.rel.now && (is_any c.args.keys.now && keys_stand (attrs_at db c.args.rel.now) c.args.keys.now)) ≡ true =
     cc (c.in_ok-may_be_indexed.ensures.told db h, c.if-not-branch.false) in
-    subst (λ (b : Bool). IfOk c.is_new.result (λ fit. fit ≡ b)) (between _ _ _ yes) (c.is_new.ensures.told db (c.in_ok-may_be_indexed.ensures.kept ∙ h))
+    subst (λ (b : Bool). IfOk c.is_new.result (λ fit. fit ≡ b)) (between _ _ _ yes) (c.is_new.ensures.told db (c.in_ok-may_be_indexed.ensures.stays db h))

@@ -9,4 +9,4 @@ pub returns-clause-told : goal.returns-clause-told
 returns-clause-told g c = λ db h.
     let yes : can_be_ranged_over db c.args.rel.now ≡ true = cc (c.in_ok-can_be_ranged_over.ensures.told db h, c.if-not-branch.false) in
     subst (λ (b : Bool). IfOk c.row_qual_is_fit.result (λ fit. fit ≡ b)) (goes_on _ _ _ yes refl ∙ stored db c.args.rel.now c.args.qual.now c.qual_is_spelled.ensures)
-    (c.row_qual_is_fit.ensures.told db (c.in_ok-can_be_ranged_over.ensures.kept ∙ h))
+    (c.row_qual_is_fit.ensures.told db (c.in_ok-can_be_ranged_over.ensures.stays db h))

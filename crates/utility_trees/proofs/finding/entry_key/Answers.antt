@@ -14,4 +14,4 @@ pub returns-in-None-clause-told : goal.returns-in-None-clause-told
 returns-in-None-clause-told g c = λ db ranges h d.
     IfOk-weaker c.key_under-in-None.result _ _
     (λ key e. e ∙ ap (λ owner. option_map (λ i. i.key) (known_at db (key_of owner c.args.name.now))) d ∙ other_entry db c.args.user.now ranges c.args.name.now (sym (c.in_ok-key.ensures.told db h) ∙ c.in-None.is))
-    (c.key_under-in-None.ensures.told db (c.in_ok-key.ensures.kept ∙ h))
+    (c.key_under-in-None.ensures.told db (c.in_ok-key.ensures.stays _ h))

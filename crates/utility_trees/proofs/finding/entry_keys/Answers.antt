@@ -1,4 +1,4 @@
-use Rattle.std.proofs.Common.{◌∙◌, ◌++◌, sym, ap, arith, filter_map}
+use Rattle.std.proofs.Common.{◌∙◌, ◌++◌, sym, ap, filter_map}
 use Rattle.std.specs.Option.{option_to_list}
 use Rattle.std.proofs.lemmas.List.{take_all}
 use Rattle.quel_meaning.specs.Scope.{entry_named}
@@ -10,11 +10,13 @@ pub loop-name-preserved : goal.loop-name-preserved
 loop-name-preserved g c = record {
   told = λ db ranges h d.
       c.in_ok-push_if.ensures
-      ∙ (λ i. c.loop-name.invariant.told db ranges h d i ++ option_to_list (c.in_ok-key.ensures.told db ranges (c.loop-name.invariant.kept ∙ h) d i))
+      ∙ (λ i. c.loop-name.invariant.told db ranges h d i ++ option_to_list (c.in_ok-key.ensures.told db ranges (c.loop-name.invariant.stays _ h) d i))
       ∙ sym (filter_more (entry_named (scope_of db c.args.user.now ranges)) c.args.names.now c.loop-name.name-index c.name-item.result c.loop-name-test.true c.name-item.is);
   kept = c.in_ok-key.ensures.kept ∙ c.loop-name.invariant.kept;
+  stays = λ s h. c.in_ok-key.ensures.stays s (c.loop-name.invariant.stays s h);
+  asked = λ b was. c.in_ok-key.ensures.asked b (c.loop-name.invariant.asked b was);
   same = c.in_ok-key.ensures.same ∙ c.loop-name.invariant.same;
-  later = omega (arith, c.in_ok-key.ensures.cause.later, c.loop-name.invariant.later);
+  faults = c.in_ok-key.ensures.cause.caused ∙ c.loop-name.invariant.faults;
 }
 
 pub returns-clause-told : goal.returns-clause-told

@@ -1,4 +1,4 @@
-use Rattle.std.proofs.Common.{◌∙◌, Some}
+use Rattle.std.proofs.Common.{Some}
 use Rattle.calculus.specs.declared.statement.Statement.TheVariants as statement
 use Rattle.quel_names.specs.Asking.{scope_of}
 use Rattle.utility_trees.proofs.Resolving.{help_there, help_tree}
@@ -13,4 +13,4 @@ returns-in-Err-clause-told g c = λ db ranges h names.
 pub returns-in_ok-tree-in-Ok-clause-told : goal.returns-in_ok-tree-in-Ok-clause-told
 returns-in_ok-tree-in-Ok-clause-told g c = λ db ranges h names.
     help_tree db c.args.user.now ranges c.args.name.now c.in-Ok.info c.in_ok-tree-in-Ok.field-0 names (c.in-Ok.ensures.told db h).0
-    (c.in_ok-tree-in-Ok.ensures.told (scope_of db c.args.user.now ranges) (c.in-Ok.ensures.kept ∙ h))
+    (c.in_ok-tree-in-Ok.ensures.told (scope_of db c.args.user.now ranges) (c.in-Ok.ensures.stays _ h))

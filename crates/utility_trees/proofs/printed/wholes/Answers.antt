@@ -7,10 +7,12 @@ use Rattle.utility_trees.proofs.printed.wholes.Goals as goal
 pub loop-name-preserved : goal.loop-name-preserved
 loop-name-preserved g c = record {
   told = λ db h.
-      c.in_ok-push.ensures
-      ∙ (λ i. c.loop-name.invariant.told db h i ++ (c.in_ok-one.ensures.told db (c.loop-name.invariant.kept ∙ h) ∙ ap (λ name. whole (found db c.args.user.now name)) c.name-item.is) i ∷ [])
+      c.in_ok-push.ensures.behind
+      ∙ (λ i. c.loop-name.invariant.told db h i ++ (c.in_ok-one.ensures.told db (c.loop-name.invariant.stays _ h) ∙ ap (λ name. whole (found db c.args.user.now name)) c.name-item.is) i ∷ [])
       ∙ sym (map_more (λ name. whole (found db c.args.user.now name)) c.args.names.now c.loop-name.name-index c.name-item.result c.loop-name-test.true);
   kept = c.in_ok-one.ensures.kept ∙ c.loop-name.invariant.kept;
+  stays = λ s h. c.in_ok-one.ensures.stays s (c.loop-name.invariant.stays s h);
+  asked = λ b was. c.in_ok-one.ensures.asked b (c.loop-name.invariant.asked b was);
   same = c.in_ok-one.ensures.same ∙ c.loop-name.invariant.same;
   later = omega (arith, c.in_ok-one.ensures.cause.later, c.loop-name.invariant.later);
 }

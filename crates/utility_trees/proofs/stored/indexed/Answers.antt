@@ -8,4 +8,4 @@ returns-in-Some-clause-told g c = λ db ranges h names.
 
 pub returns-in-None-clause-told : goal.returns-in-None-clause-told
 returns-in-None-clause-told g c = λ db ranges h names.
-    c.index_found.ensures.told db ranges (c.in_ok-number.ensures.kept ∙ h) names (sym (c.in_ok-number.ensures.told db h) ∙ c.in-None.is)
+    c.index_found.ensures.told db ranges (c.in_ok-number.ensures.stays _ h) names (sym (c.in_ok-number.ensures.told db h) ∙ c.in-None.is)

@@ -28,26 +28,26 @@ text_at_remembering-returns-clause-told g t c = λ db h.
 pub text_of_view-returns-then-levels-eq0-clause-cause : goal.text_of_view-returns-then-levels-eq0-clause-cause
 text_of_view-returns-then-levels-eq0-clause-cause g t c = record {
   later = omega arith;
-  caused = λ db h attrs. permitted_past c.args.levels db (g.B.Base.lawful c.args.base.now db h) (who_of (option_map (λ n. n.now) c.args.who)) c.args.key.now attrs c.args.query.now c.if-levels-eq0.true (c.requires.stands db h);
+  caused = λ db h attrs. permitted_past c.args.levels db (g.B.Base.lawful c.args.base.now db (g.B.Base.own c.args.base.now db h)) (who_of (option_map (λ n. n.now) c.args.who)) c.args.key.now attrs c.args.query.now c.if-levels-eq0.true (c.requires.stands db h);
 }
 
 pub text_of_view-rows_through-requires : goal.text_of_view-rows_through-requires
 text_of_view-rows_through-requires g t c =
     let listed : (db : Db) → g.B.Base.database c.args.base.now ≡ Some db → length (vars_of c.args.query.now) ≤ 256 = λ db h.
-    few_listed db (g.B.Base.lawful c.args.base.now db h) c.args.key.now c.args.query.now (c.requires.stands db h) in
+    few_listed db (g.B.Base.lawful c.args.base.now db (g.B.Base.own c.args.base.now db h)) c.args.key.now c.args.query.now (c.requires.stands db h) in
     let expanded : (db : Db) → g.B.Base.database c.args.base.now ≡ Some db → (query_measure (measure_within (c.args.levels - 1) db) c.args.query.now).variables ≤ 256 = λ db h.
-    let e = measure_of_view c.args.levels db (g.B.Base.lawful c.args.base.now db h) c.args.key.now c.args.query.now (omega arith) (c.requires.stands db h) in
+    let e = measure_of_view c.args.levels db (g.B.Base.lawful c.args.base.now db (g.B.Base.own c.args.base.now db h)) c.args.key.now c.args.query.now (omega arith) (c.requires.stands db h) in
     omega (arith, e, c.requires.few db h) in
     search (rules, listed, expanded)
 
 pub text_anew-returns-in-None-clause-told : goal.text_anew-returns-in-None-clause-told
 text_anew-returns-in-None-clause-told g t c = λ db h.
-    let e = text_of_kept c.args.levels db (who_of (option_map (λ n. n.now) c.args.who)) c.args.key.now c.args.attrs.now (sym c.in-None.is ∙ c.in_ok-query.ensures.told db h) in
+    let e = text_of_kept c.args.levels db (who_of (option_map (λ n. n.now) c.args.who)) c.args.key.now c.args.attrs.now (sym c.in-None.is ∙ c.in_ok-query.ensures.told db (g.B.Base.own c.args.base.now db h)) in
     subst (λ x. IfOk c.plain_text.result (λ text. text ≡ x)) e (c.plain_text.ensures.told db (c.in_ok-query.ensures.kept ∙ h))
 
 pub text_anew-returns-in-None-clause-permitted : goal.text_anew-returns-in-None-clause-permitted
 text_anew-returns-in-None-clause-permitted g t c = λ db h.
-    let e = permitted_of_kept c.args.levels db (who_of (option_map (λ n. n.now) c.args.who)) c.args.key.now c.args.attrs.now (sym c.in-None.is ∙ c.in_ok-query.ensures.told db h) in
+    let e = permitted_of_kept c.args.levels db (who_of (option_map (λ n. n.now) c.args.who)) c.args.key.now c.args.attrs.now (sym c.in-None.is ∙ c.in_ok-query.ensures.told db (g.B.Base.own c.args.base.now db h)) in
     subst (λ b. OnOk c.plain_text.result (b ≡ true)) e (c.plain_text.ensures.permitted db (c.in_ok-query.ensures.kept ∙ h))
 
 pub text_anew-returns-in-None-clause-cause : goal.text_anew-returns-in-None-clause-cause
@@ -56,7 +56,7 @@ text_anew-returns-in-None-clause-cause g t c =
     (λ db. permitted_within c.args.levels db (who_of (option_map (λ n. n.now) c.args.who)) c.args.key.now c.args.attrs.now ≡ false)
     (g.B.Base.database c.args.base.now) (g.B.Base.database c.view.new.self) (g.B.Base.faults c.args.base.now) (g.B.Base.faults c.view.new.self) (g.B.Base.faults c.plain_text.new.base) c.plain_text.result
     c.in_ok-query.ensures.kept c.in_ok-query.ensures.cause.later
-    (λ db h e. sym (permitted_of_kept c.args.levels db (who_of (option_map (λ n. n.now) c.args.who)) c.args.key.now c.args.attrs.now (sym c.in-None.is ∙ c.in_ok-query.ensures.told db h)) ∙ e)
+    (λ db h e. sym (permitted_of_kept c.args.levels db (who_of (option_map (λ n. n.now) c.args.who)) c.args.key.now c.args.attrs.now (sym c.in-None.is ∙ c.in_ok-query.ensures.told db (g.B.Base.own c.args.base.now db h))) ∙ e)
     c.plain_text.ensures.cause
 
 pub rows_through-returns-in-Ok-clause-cause : goal.rows_through-returns-in-Ok-clause-cause
@@ -101,17 +101,17 @@ text_anew-returns-in-Some-clause-cause g t c =
 
 pub text_of_view-returns-in-Ok-kept-clause-told : goal.text_of_view-returns-in-Ok-kept-clause-told
 text_of_view-returns-in-Ok-kept-clause-told g t c = λ db h.
-    let one = is_text_of c.args.levels db (g.B.Base.lawful c.args.base.now db h) (who_of (option_map (λ n. n.now) c.args.who)) c.args.key.now c.args.query.now (omega arith) (c.requires.stands db h) c.in-Ok.text (c.in-Ok.ensures.told db h) (c.in-Ok.ensures.permitted db h) in
+    let one = is_text_of c.args.levels db (g.B.Base.lawful c.args.base.now db (g.B.Base.own c.args.base.now db h)) (who_of (option_map (λ n. n.now) c.args.who)) c.args.key.now c.args.query.now (omega arith) (c.requires.stands db h) c.in-Ok.text (c.in-Ok.ensures.told db h) (c.in-Ok.ensures.permitted db h) in
     subst (IsTextOf db (who_of (option_map (λ n. n.now) c.args.who)) c.args.key.now c.args.levels) (sym c.in-Ok-kept.ensures.text) one
 
 pub text_of_view-returns-in-Ok-kept-clause-found : goal.text_of_view-returns-in-Ok-kept-clause-found
 text_of_view-returns-in-Ok-kept-clause-found g t c = λ db h.
-    let one = is_text_of c.args.levels db (g.B.Base.lawful c.args.base.now db h) (who_of (option_map (λ n. n.now) c.args.who)) c.args.key.now c.args.query.now (omega arith) (c.requires.stands db h) c.in-Ok.text (c.in-Ok.ensures.told db h) (c.in-Ok.ensures.permitted db h) in
+    let one = is_text_of c.args.levels db (g.B.Base.lawful c.args.base.now db (g.B.Base.own c.args.base.now db h)) (who_of (option_map (λ n. n.now) c.args.who)) c.args.key.now c.args.query.now (omega arith) (c.requires.stands db h) c.in-Ok.text (c.in-Ok.ensures.told db h) (c.in-Ok.ensures.permitted db h) in
     c.kept.ensures.found db (who_of (option_map (λ n. n.now) c.args.who)) (c.rows_through.ensures.found db h) one
 
 pub text_of_view-returns-in-Err-kept-clause-found : goal.text_of_view-returns-in-Err-kept-clause-found
 text_of_view-returns-in-Err-kept-clause-found g t c = λ db h.
-    let one = is_text_of c.args.levels db (g.B.Base.lawful c.args.base.now db h) (who_of (option_map (λ n. n.now) c.args.who)) c.args.key.now c.args.query.now (omega arith) (c.requires.stands db h) c.in-Ok.text (c.in-Ok.ensures.told db h) (c.in-Ok.ensures.permitted db h) in
+    let one = is_text_of c.args.levels db (g.B.Base.lawful c.args.base.now db (g.B.Base.own c.args.base.now db h)) (who_of (option_map (λ n. n.now) c.args.who)) c.args.key.now c.args.query.now (omega arith) (c.requires.stands db h) c.in-Ok.text (c.in-Ok.ensures.told db h) (c.in-Ok.ensures.permitted db h) in
     c.kept.ensures.found db (who_of (option_map (λ n. n.now) c.args.who)) (c.rows_through.ensures.found db h) one
 
 pub text_of_view-returns-in-Err-clause-cause : goal.text_of_view-returns-in-Err-clause-cause
@@ -120,5 +120,5 @@ text_of_view-returns-in-Err-clause-cause g t c =
     (λ db. (attrs : List ℕ) → permitted_within c.args.levels db (who_of (option_map (λ n. n.now) c.args.who)) c.args.key.now attrs ≡ false)
     (g.B.Base.database c.args.base.now) (g.B.Base.database c.args.base.now) (g.B.Base.faults c.args.base.now) (g.B.Base.faults c.args.base.now) (g.B.Base.faults c.rows_through.new.base) (Err c.in-Err.error)
     refl (omega arith)
-    (λ db h e attrs. sym (permitted_of_view c.args.levels db (g.B.Base.lawful c.args.base.now db h) (who_of (option_map (λ n. n.now) c.args.who)) c.args.key.now attrs c.args.query.now (omega arith) (c.requires.stands db h)) ∙ e)
+    (λ db h e attrs. sym (permitted_of_view c.args.levels db (g.B.Base.lawful c.args.base.now db (g.B.Base.own c.args.base.now db h)) (who_of (option_map (λ n. n.now) c.args.who)) c.args.key.now attrs c.args.query.now (omega arith) (c.requires.stands db h)) ∙ e)
     c.in-Err.ensures.cause

@@ -44,6 +44,8 @@ invariant-put_texts-keys g l = record {
   found : (db : Db) → g.B.Base.database l.initial.base ≡ Some db → IsFound db (who_of (option_map (λ n. n.now) l.who)) l.found;
   scoped : list_all is_scoped l.fn.texts.items ≡ true → list_all is_scoped l.texts.items ≡ true;
   kept : g.B.Base.database l.base ≡ g.B.Base.database l.initial.base;
+  stays : (s : Db) → g.B.Base.schema l.initial.base ≡ Some s → g.B.Base.schema l.base ≡ Some s;
+  asked : (b : _) → g.B.Base.asked b l.initial.base → g.B.Base.asked b l.base;
   same : g.B.Base.left l.base ≡ g.B.Base.left l.initial.base;
   later : g.B.Base.faults l.initial.base ≤ g.B.Base.faults l.base;
 }

@@ -11,12 +11,14 @@ loop-aggregate-preserved g c = record {
   told = λ db h all few.
       sum_more (λ g. source_variables (measure_within 16 db) g.now.source) c.args.aggregates.now c.loop-aggregate.aggregate-index c.aggregate-item.result c.loop-aggregate.count c.in_ok-more.more
       c.saturating_add-count.result c.loop-aggregate-test.true c.aggregate-item.is (c.loop-aggregate.invariant.told db h all few)
-      (c.in_ok-more.ensures.told db (c.loop-aggregate.invariant.kept ∙ h) (c.loop-aggregate.invariant.found db h all) (each_at (λ g. source_lists_few g.now.source) c.args.aggregates.now c.loop-aggregate.aggregate-index c.aggregate-item.result c.loop-aggregate-test.true c.aggregate-item.is few))
+      (c.in_ok-more.ensures.told db (c.loop-aggregate.invariant.stays _ h) (c.loop-aggregate.invariant.found db h all) (each_at (λ g. source_lists_few g.now.source) c.args.aggregates.now c.loop-aggregate.aggregate-index c.aggregate-item.result c.loop-aggregate-test.true c.aggregate-item.is few))
       c.saturating_add-count.ensures;
-  found = λ db h all. c.in_ok-more.ensures.found db (c.loop-aggregate.invariant.kept ∙ h) (c.loop-aggregate.invariant.found db h all);
+  found = λ db h all. c.in_ok-more.ensures.found db (c.loop-aggregate.invariant.stays _ h) (c.loop-aggregate.invariant.found db h all);
   kept = c.in_ok-more.ensures.kept ∙ c.loop-aggregate.invariant.kept;
+  stays = λ s h. c.in_ok-more.ensures.stays s (c.loop-aggregate.invariant.stays s h);
+  asked = λ b was. c.in_ok-more.ensures.asked b (c.loop-aggregate.invariant.asked b was);
   same = c.in_ok-more.ensures.same ∙ c.loop-aggregate.invariant.same;
-  later = omega (arith, c.in_ok-more.ensures.cause.later, c.loop-aggregate.invariant.later);
+  faults = c.in_ok-more.ensures.cause.caused ∙ c.loop-aggregate.invariant.faults;
 }
 
 pub returns-clause-told : goal.returns-clause-told

@@ -19,7 +19,7 @@ measure_anew-returns-in_ok-remember_measure-in-Some-clause-told g t c = λ db h 
     let is = g.B.Base.lawful c.args.base.now db h in
     let few = lists_few db is c.args.key.now c.in-Some.query (sym there) in
     measured_through c.args.levels db is c.args.key.now c.in-Some.query c.requires there c.in_ok-measure-in-Some.measure
-    (c.in_ok-measure-in-Some.ensures.told db (c.in_ok-query.ensures.kept ∙ h) all (omega arith))
+    (c.in_ok-measure-in-Some.ensures.told db (c.in_ok-query.ensures.stays _ h) all (omega arith))
 
 pub measure_anew-returns-in_ok-remember_measure-in-Some-clause-found :
     goal.measure_anew-returns-in_ok-remember_measure-in-Some-clause-found
@@ -27,7 +27,7 @@ measure_anew-returns-in_ok-remember_measure-in-Some-clause-found g t c = λ db h
     let there = sym c.in-Some.is ∙ c.in_ok-query.ensures.told db h in
     let is = g.B.Base.lawful c.args.base.now db h in
     let few = lists_few db is c.args.key.now c.in-Some.query (sym there) in
-    let same = c.in_ok-query.ensures.kept ∙ h in
+    let same = c.in_ok-query.ensures.stays _ h in
     c.in_ok-remember_measure-in-Some.ensures db (c.in_ok-measure-in-Some.ensures.found db same all)
     (measured_through c.args.levels db is c.args.key.now c.in-Some.query c.requires there c.in_ok-measure-in-Some.measure (c.in_ok-measure-in-Some.ensures.told db same all (omega arith)))
 
@@ -39,12 +39,14 @@ pub measure_through-loop-key-preserved : goal.measure_through-loop-key-preserved
 measure_through-loop-key-preserved g t c = record {
   told = λ db h all.
       c.in_ok-put_behind.ensures
-      ∙ (λ i. c.loop-key.invariant.told db h all i ++ (c.in_ok-more.ensures.told db (c.loop-key.invariant.kept ∙ h) (c.loop-key.invariant.found db h all) ∙ ap (λ key. stopped_measure (measure_within c.args.levels db key)) c.key-item.is) i ∷ [])
+      ∙ (λ i. c.loop-key.invariant.told db h all i ++ (c.in_ok-more.ensures.told db (c.loop-key.invariant.stays _ h) (c.loop-key.invariant.found db h all) ∙ ap (λ key. stopped_measure (measure_within c.args.levels db key)) c.key-item.is) i ∷ [])
       ∙ sym (map_more (λ key. stopped_measure (measure_within c.args.levels db key)) c.items-key-items.result.now c.loop-key.key-index c.key-item.result c.loop-key-test.true);
-  found = λ db h all. c.in_ok-more.ensures.found db (c.loop-key.invariant.kept ∙ h) (c.loop-key.invariant.found db h all);
+  found = λ db h all. c.in_ok-more.ensures.found db (c.loop-key.invariant.stays _ h) (c.loop-key.invariant.found db h all);
   kept = c.in_ok-more.ensures.kept ∙ c.loop-key.invariant.kept;
+  stays = λ s h. c.in_ok-more.ensures.stays s (c.loop-key.invariant.stays s h);
+  asked = λ b was. c.in_ok-more.ensures.asked b (c.loop-key.invariant.asked b was);
   same = c.in_ok-more.ensures.same ∙ c.loop-key.invariant.same;
-  later = omega (arith, c.in_ok-more.ensures.cause.later, c.loop-key.invariant.later);
+  faults = c.in_ok-more.ensures.cause.caused ∙ c.loop-key.invariant.faults;
 }
 
 pub measure_through-returns-clause-told : goal.measure_through-returns-clause-told

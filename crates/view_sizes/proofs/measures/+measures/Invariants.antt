@@ -1,4 +1,4 @@
-use Rattle.std.proofs.Common.{◌≡◌, ◌+◌, ◌*◌, ◌≤◌, map, take, Some}
+use Rattle.std.proofs.Common.{◌≡◌, ◌+◌, ◌*◌, map, take, Some}
 use Rattle.calculus.specs.Database.{Db}
 use Rattle.calculus.specs.Sizes.{measure_within}
 use Rattle.view_sizes.specs.Measured.{held, stopped_measure}
@@ -16,9 +16,11 @@ decreases-measure_through g l = 3 * l.levels + 2
 
 abbrev pub invariant-measure_through-loop-key : goal.invariant-measure_through-loop-key
 invariant-measure_through-loop-key g l = record {
-  told : (db : Db) → g.B.Base.database l.initial.base ≡ Some db → AreMeasured db l.initial.found.entries → map held l.vars.items ≡ map (λ key. stopped_measure (measure_within l.levels db key)) (take l.key-index l.key-items);
-  found : (db : Db) → g.B.Base.database l.initial.base ≡ Some db → AreMeasured db l.initial.found.entries → AreMeasured db l.found.entries;
+  told : (db : Db) → g.B.Base.schema l.initial.base ≡ Some db → AreMeasured db l.initial.found.entries → map held l.vars.items ≡ map (λ key. stopped_measure (measure_within l.levels db key)) (take l.key-index l.key-items);
+  found : (db : Db) → g.B.Base.schema l.initial.base ≡ Some db → AreMeasured db l.initial.found.entries → AreMeasured db l.found.entries;
   kept : g.B.Base.database l.base ≡ g.B.Base.database l.initial.base;
+  stays : (s : Db) → g.B.Base.schema l.initial.base ≡ Some s → g.B.Base.schema l.base ≡ Some s;
+  asked : (b : _) → g.B.Base.asked b l.initial.base → g.B.Base.asked b l.base;
   same : g.B.Base.left l.base ≡ g.B.Base.left l.initial.base;
-  later : g.B.Base.faults l.initial.base ≤ g.B.Base.faults l.base;
+  faults : g.B.Base.faults l.base ≡ g.B.Base.faults l.initial.base;
 }

@@ -25,13 +25,13 @@ has_level_anew-returns-else-levels-eq0-clause-told g t c = λ db h all.
     subst (λ (b : Bool). IfOk c.have_levels_found-all.result (λ has. has ≡ b))
     (ap (list_all (λ k. is_some (level_within (c.args.levels - 1) db k))) (c.items.ensures ∙ vars_is c.in-Some.query)
     ∙ level_through c.args.levels db c.args.key.now c.in-Some.query (omega arith) no viewed)
-    (c.have_levels_found-all.ensures.told db (c.in_ok-query.ensures.kept ∙ h) all)
+    (c.have_levels_found-all.ensures.told db (c.in_ok-query.ensures.stays _ h) all)
 
 pub has_level_anew-returns-in-None-clause-told : goal.has_level_anew-returns-in-None-clause-told
 has_level_anew-returns-in-None-clause-told g t c = λ db h all.
     let plain : query_at db c.args.key.now ≡ None = sym (c.in_ok-query.ensures.told db h) ∙ c.in-None.is in
     subst (λ (b : Bool). IfOk c.is_range.result (λ has. has ≡ b)) (plain_level c.args.levels db c.args.key.now plain)
-    (c.is_range.ensures.told db (c.in_ok-query.ensures.kept ∙ h))
+    (c.is_range.ensures.told db (c.in_ok-query.ensures.stays _ h))
 
 pub have_levels_found-loop-key-preserved : goal.have_levels_found-loop-key-preserved
 have_levels_found-loop-key-preserved g t c = record {
@@ -39,11 +39,13 @@ have_levels_found-loop-key-preserved g t c = record {
       let has : c.in_ok-has.has ≡ true = cc (c.if-not-has.false) in
       list_all_more (λ key. is_some (level_within c.args.levels db key)) c.args.vars.now c.loop-key.key-index c.key-item.result c.loop-key-test.true
       ∙ (λ i. c.loop-key.invariant.told db h all i
-      && (ap (λ key. is_some (level_within c.args.levels db key)) (sym c.key-item.is) ∙ sym (c.in_ok-has.ensures.told db (c.loop-key.invariant.kept ∙ h) (c.loop-key.invariant.found db h all)) ∙ has) i);
-  found = λ db h all. c.in_ok-has.ensures.found db (c.loop-key.invariant.kept ∙ h) (c.loop-key.invariant.found db h all);
+      && (ap (λ key. is_some (level_within c.args.levels db key)) (sym c.key-item.is) ∙ sym (c.in_ok-has.ensures.told db (c.loop-key.invariant.stays _ h) (c.loop-key.invariant.found db h all)) ∙ has) i);
+  found = λ db h all. c.in_ok-has.ensures.found db (c.loop-key.invariant.stays _ h) (c.loop-key.invariant.found db h all);
   kept = c.in_ok-has.ensures.kept ∙ c.loop-key.invariant.kept;
+  stays = λ s h. c.in_ok-has.ensures.stays s (c.loop-key.invariant.stays s h);
+  asked = λ b was. c.in_ok-has.ensures.asked b (c.loop-key.invariant.asked b was);
   same = c.in_ok-has.ensures.same ∙ c.loop-key.invariant.same;
-  later = omega (arith, c.in_ok-has.ensures.cause.later, c.loop-key.invariant.later);
+  faults = c.in_ok-has.ensures.cause.caused ∙ c.loop-key.invariant.faults;
 }
 
 pub have_levels_found-returns-clause-told : goal.have_levels_found-returns-clause-told

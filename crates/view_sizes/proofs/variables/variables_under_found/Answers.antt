@@ -9,11 +9,13 @@ loop-key-preserved g c = record {
   told = λ db h all.
       sum_more (λ key. (measure_within 16 db key).variables) c.args.vars.now c.loop-key.key-index c.key-item.result c.loop-key.count c.in_ok-more.more
       c.saturating_add-count.result c.loop-key-test.true c.key-item.is (c.loop-key.invariant.told db h all)
-      (c.in_ok-more.ensures.told db (c.loop-key.invariant.kept ∙ h) (c.loop-key.invariant.found db h all)) c.saturating_add-count.ensures;
-  found = λ db h all. c.in_ok-more.ensures.found db (c.loop-key.invariant.kept ∙ h) (c.loop-key.invariant.found db h all);
+      (c.in_ok-more.ensures.told db (c.loop-key.invariant.stays _ h) (c.loop-key.invariant.found db h all)) c.saturating_add-count.ensures;
+  found = λ db h all. c.in_ok-more.ensures.found db (c.loop-key.invariant.stays _ h) (c.loop-key.invariant.found db h all);
   kept = c.in_ok-more.ensures.kept ∙ c.loop-key.invariant.kept;
+  stays = λ s h. c.in_ok-more.ensures.stays s (c.loop-key.invariant.stays s h);
+  asked = λ b was. c.in_ok-more.ensures.asked b (c.loop-key.invariant.asked b was);
   same = c.in_ok-more.ensures.same ∙ c.loop-key.invariant.same;
-  later = omega (arith, c.in_ok-more.ensures.cause.later, c.loop-key.invariant.later);
+  faults = c.in_ok-more.ensures.cause.caused ∙ c.loop-key.invariant.faults;
 }
 
 pub returns-clause-told : goal.returns-clause-told
