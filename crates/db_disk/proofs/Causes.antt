@@ -1,5 +1,5 @@
 -- When a call answers a fault.
-use Rattle.std.proofs.Common.{◌≡◌, ◌⊎◌, inl, inr, refl, sym, ap, subst, ◌∙◌, arith, ℕ, ◌≤◌, Option, Some, None, Result, Ok, Err}
+use Rattle.std.proofs.Common.{◌≡◌, ◌⊎◌, inl, inr, refl, sym, ap, subst, ◌∙◌, arith, ℕ, Option, Some, None, Result, Ok, Err}
 use Rattle.calculus.specs.Database.{Db}
 use Rattle.am_traits.specs.Causes.{HasCause}
 use Rattle.am_traits.specs.declared.fault.BaseFault.{BaseFault}
@@ -28,12 +28,12 @@ plain_want db (Err faults.Disk) has = absurd (omega (arith, has.caused))
 plain_want db (Err (faults.Damaged file page)) has = absurd (cc has.caused)
 plain_want db (Err faults.OutOfMemory) has = tt
 
--- which may come at any time
-pub want_caused : {T : Type 0} (told : Option Db) (before now : ℕ) (result : Result T BaseFault) → before ≤ now → IsWant result → HasCause told before now result
-want_caused told before now (Ok x) le want = record { later = le; caused = tt }
-want_caused told before now (Err faults.Disk) le want = absurd want
-want_caused told before now (Err (faults.Damaged file page)) le want = absurd want
-want_caused told before now (Err faults.OutOfMemory) le want = record { later = le; caused = tt }
+-- which may come at any time, where the count stayed
+pub want_caused : {T : Type 0} (told : Option Db) (before now : ℕ) (result : Result T BaseFault) → now ≡ before → IsWant result → HasCause told before now result
+want_caused told before now (Ok x) calm want = record { later = omega (arith, calm); caused = calm }
+want_caused told before now (Err faults.Disk) calm want = absurd want
+want_caused told before now (Err (faults.Damaged file page)) calm want = absurd want
+want_caused told before now (Err faults.OutOfMemory) calm want = record { later = omega (arith, calm); caused = tt }
 
 -- the same cause, of another answer
 pub as_unit : {T U : Type 0} (told : Option Db) (before now : ℕ) (fault : BaseFault) → HasCause {T = T} told before now (Err fault) → HasCause {T = U} told before now (Err fault)

@@ -1,5 +1,5 @@
 -- What a change leaves on a disk.
-use Rattle.std.proofs.Common.{◌≡◌, ◌≢◌, ◌⊎◌, ◌↔◌, inl, inr, ⊎_elim, not, refl, sym, ap, subst, ◌∙◌, arith, ℕ, zero, suc, ◌≤◌, ◌<◌, IsTrue, Bool, true, false, List, [], ◌∷◌, length, ◌==◌, Option, Some, Result, Ok, Err, OnOk}
+use Rattle.std.proofs.Common.{◌≡◌, ◌≢◌, ◌⊎◌, ◌↔◌, inl, inr, ⊎_elim, not, refl, sym, ap, subst, ◌∙◌, arith, ℕ, zero, suc, ◌<◌, IsTrue, Bool, true, false, List, [], ◌∷◌, length, ◌==◌, Option, Some, Result, Ok, Err, OnOk}
 use Rattle.am_traits.specs.Causes.{HasCause}
 use Rattle.am_traits.specs.declared.fault.BaseFault.{BaseFault}
 use Rattle.am_traits.specs.declared.fault.BaseFault.TheVariants as faults
@@ -125,11 +125,13 @@ finish_caused {T} {U} pages before now fault result of is same by whole =
     subst (λ (f : BaseFault). HasFileCause {T = U} pages (λ m a. ⊥) before now (Err f)) (sym same)
     (finish_one pages before now fault (subst (FailsBy {T = T} before now) is by) (λ m told. (let e : Err fault ≡ Err restore.Disk = sym is ∙ whole m told in cc e)))
 
-pub later_caused : {T : Type 0} (told : Option Db) (before mid now : ℕ) (result : Result T BaseFault) → before ≤ mid → HasCause told mid now result → HasCause told before now result
-later_caused told before mid now (Ok x) le has = record { later = omega (arith, le, has.later); caused = tt }
-later_caused told before mid now (Err faults.Disk) le has = record { later = omega (arith, le, has.later); caused = omega (arith, le, has.caused) }
-later_caused told before mid now (Err (faults.Damaged file page)) le has = record { later = omega (arith, le, has.later); caused = has.caused }
-later_caused told before mid now (Err faults.OutOfMemory) le has = record { later = omega (arith, le, has.later); caused = tt }
+-- a call before it, that answered, left the count
+pub later_caused : {T : Type 0} (told : Option Db) (before mid now : ℕ) (result : Result T BaseFault) → mid ≡ before → HasCause told mid now result → HasCause told before now result
+later_caused told before mid now result calm has = subst (λ (n : ℕ). HasCause told n now result) calm has
+
+-- and what is told
+pub cause_after : {T : Type 0} (told mid_told : Option Db) (before mid now : ℕ) (result : Result T BaseFault) → mid_told ≡ told → mid ≡ before → HasCause mid_told mid now result → HasCause told before now result
+cause_after told mid_told before mid now result same calm has = subst (λ (o : Option Db). HasCause o before now result) same (later_caused mid_told before mid now result calm has)
 
 some_or_none : (n : ℕ) → (n ≡ 0) ⊎ (0 < n)
 some_or_none zero = inl refl
@@ -192,9 +194,9 @@ pub held_settled : {D : Type 0} {g : Ghosts D} (s : BatchStore D g) (db : Db) �
 held_settled {D} {g} s db closed holds m image = ap held (image_settled g.seen g.touched g.clock g.left_since (disk_of s) closed.settled m image) ∙ holds
 
 -- a sync that fails behind a finish fails by the disk
-pub synced_caused : {T : Type 0} (pages : Option Image) (told : Option Db) (before mid now : ℕ) (result : Result T BaseFault) → before ≤ mid → HasCause told mid now result
+pub synced_caused : {T : Type 0} (pages : Option Image) (told : Option Db) (before mid now : ℕ) (result : Result T BaseFault) → mid ≡ before → HasCause told mid now result
     → ((m : Image) → pages ≡ Some m → (file page : ℕ) → result ≡ Err (faults.Damaged file page) → ⊥) → HasFileCause pages (λ m a. ⊥) before now result
-synced_caused pages told before mid now (Ok x) le has none = record { later = omega (arith, le, has.later); caused = tt }
-synced_caused pages told before mid now (Err faults.Disk) le has none = record { later = omega (arith, le, has.later); caused = omega (arith, le, has.caused) }
-synced_caused pages told before mid now (Err (faults.Damaged file page)) le has none = record { later = omega (arith, le, has.later); caused = λ m is. none m is file page refl }
-synced_caused pages told before mid now (Err faults.OutOfMemory) le has none = record { later = omega (arith, le, has.later); caused = tt }
+synced_caused pages told before mid now (Ok x) calm has none = record { later = omega (arith, calm, has.later); caused = has.caused ∙ calm }
+synced_caused pages told before mid now (Err faults.Disk) calm has none = record { later = omega (arith, calm, has.later); caused = omega (arith, calm, has.caused) }
+synced_caused pages told before mid now (Err (faults.Damaged file page)) calm has none = record { later = omega (arith, calm, has.later); caused = λ m is. none m is file page refl }
+synced_caused pages told before mid now (Err faults.OutOfMemory) calm has none = record { later = omega (arith, calm, has.later); caused = tt }

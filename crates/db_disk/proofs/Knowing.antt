@@ -2,10 +2,8 @@
 use Rattle.std.proofs.Common.{◌≡◌, refl, sym, ap, subst, ◌∙◌, ◌<◌, Bool, true, false, IsTrue, List, [], ◌∷◌, map, Option, Some, None, Result, Ok, Err, OnOk}
 use Rattle.std.specs.Prelude.{option_map, is_some}
 use Rattle.std.proofs.lemmas.Option.{same_Some}
-use Rattle.calculus.specs.declared.change.DbChange.{DbChange}
 use Rattle.calculus.specs.declared.query.RelKey.{RelKey}
 use mathlib.Core.Logic.{∥∥₁_map}
-use Rattle.calculus.specs.Change.{laid}
 use Rattle.calculus.specs.Database.{Db, Relation, is_relation}
 use Rattle.calculus.specs.Rows.{Row}
 use Rattle.calculus.specs.Schema.{bare, schema_of}
@@ -47,12 +45,6 @@ part_schema has db = λ i. record db { relations = bare_part has db.relations i 
 
 pub knows_schema : (c : Catalog) (m : Image) (db : Db) → Knows c m db → schema_of (database_of c.plain) ≡ schema_of db
 knows_schema c m db knows = ap schema_of knows.plain ∙ part_schema (is_in c.loaded) db
-
--- a change that was laid on the schema that was known is laid on it whatever database has it
-pub schema_laid_on : {T E : Type 0} (made : DbChange) (before now : Option Db) (s n : Db) (result : Result T E) → before ≡ Some s → now ≡ Some n
-    → ((s : Db) → before ≡ Some s → OnOk result (now ≡ Some (schema_of (laid s made)))) → OnOk result (schema_of n ≡ schema_of (laid s made))
-schema_laid_on made before now s n (Ok x) known then laid_on = ap schema_of (same_Some n (schema_of (laid s made)) (sym then ∙ laid_on s known)) ∙ schema_again (laid s made)
-schema_laid_on made before now s n (Err e) known then laid_on = tt
 
 -- the schema that is known is that of the database that is held
 pub schema_held : (m : Image) (catalog : Option Catalog) (db : Db) → IsKnown m catalog → held m ≡ Some db → IsTrue (is_some (schema_known catalog)) → schema_known catalog ≡ Some (schema_of db)

@@ -1,3 +1,4 @@
+pub mod AsBase
 pub mod Asking
 pub mod Calls
 pub mod Causes
@@ -14,6 +15,7 @@ pub mod Leaving
 pub mod Loading
 pub mod Making
 pub mod Opens
+pub mod ReadBy
 pub mod Reading
 pub mod Ready
 pub mod Scanned

@@ -36,7 +36,7 @@ none_of (Some db) none = absurd (none db refl)
 
 pub file_caused : {T : Type 0} (told : Option Db) (pages : Option Image) (at_fault : Image → Addr → Type 0) (before now : ℕ) (result : Result T BaseFault)
     → ((db : Db) → told ≡ Some db → (m : Image) × (pages ≡ Some m) × ((a : Addr) → at_fault m a → ⊥)) → HasFileCause pages at_fault before now result → HasCause told before now result
-file_caused told pages at_fault before now (Ok x) none has = record { later = has.later; caused = tt }
+file_caused told pages at_fault before now (Ok x) none has = record { later = has.later; caused = has.caused }
 file_caused told pages at_fault before now (Err faults.Disk) none has = record { later = has.later; caused = has.caused }
 file_caused told pages at_fault before now (Err (faults.Damaged file page)) none has = record {
   later = has.later;

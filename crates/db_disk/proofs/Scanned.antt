@@ -6,7 +6,7 @@ use Rattle.calculus.specs.declared.probe.Place.{Place}
 use Rattle.calculus.specs.declared.probe.Probe.{Probe}
 use Rattle.calculus.specs.declared.query.RelKey.{RelKey}
 use Rattle.calculus.specs.Database.{Db, is_relation}
-use Rattle.calculus.specs.IsDatabase.{row_fits}
+use Rattle.calculus.specs.IsDatabase.{IsDatabase, row_fits}
 use Rattle.calculus.specs.Rows.{Row}
 use Rattle.calculus.specs.Schema.{schema_of}
 use Rattle.calculus.specs.Stored.{attrs_at}
@@ -18,16 +18,27 @@ use Rattle.plain_base.proofs.Fitting.{scan_fits as given_fits}
 use Rattle.schema_laws.proofs.Alike.{attrs_alike, is_relation_alike}
 use Rattle.catalog.specs.declared.catalog.Catalog.{Catalog}
 use Rattle.db_disk.specs.Known.{schema_known}
+use Rattle.db_disk.specs.Shown.{rows_left}
 
--- a row that is given of a base relation in memory fits its attributes
+-- a row that is given of a base relation fits its attributes
+database_fits : (db : Db) → IsDatabase db → (key : RelKey) (probe : Probe) (before now : Place) (result : Result (Option Row) BaseFault) → is_relation db key ≡ true
+    → Gives probe (rows_from db key) before now result → IfOk result (λ row. ForSome row (λ r. row_fits (attrs_at db key) r ≡ true))
+database_fits db is key probe before now (Err fault) there gives = tt
+database_fits db is key probe before now (Ok answer) there gives = given_fits db db db key probe before now answer refl is gives refl there
+
+-- of a database that is told
+pub told_fits : (told : Option Db) (db : Db) (key : RelKey) (probe : Probe) (before now : Place) (result : Result (Option Row) BaseFault) → IsDatabase db → told ≡ Some db
+    → Gives probe (rows_left told key) before now result → is_relation db key ≡ true → IfOk result (λ row. ForSome row (λ r. row_fits (attrs_at db key) r ≡ true))
+told_fits told db key probe before now result is_one is gives there =
+    database_fits db is_one key probe before now result there (subst (λ (o : Option Db). Gives probe (rows_left o key) before now result) is gives)
+
+-- and of one in memory, by its schema
 row_fits_given : (c : Catalog) (key : RelKey) (probe : Probe) (before now : Place) (result : Result (Option Row) BaseFault) → is_relation (schema_of (database_of c.plain)) key ≡ true
     → Gives probe (rows_from (database_of c.plain) key) before now result → IfOk result (λ row. ForSome row (λ r. row_fits (attrs_at (schema_of (database_of c.plain)) key) r ≡ true))
-row_fits_given c key probe before now (Err fault) there gives = tt
-row_fits_given c key probe before now (Ok None) there gives = λ r is. absurd (none-some r is)
-row_fits_given c key probe before now (Ok (Some row)) there gives =
+row_fits_given c key probe before now result there gives =
     let db = database_of c.plain in
-    λ r is. subst (λ attrs. row_fits attrs r ≡ true) (sym (attrs_alike db key))
-    (given_fits db db db key probe before now (Some row) refl c.plain.is gives refl (sym (is_relation_alike db key) ∙ there) r is)
+    subst (λ attrs. IfOk result (λ row. ForSome row (λ r. row_fits attrs r ≡ true))) (sym (attrs_alike db key))
+    (database_fits db c.plain.is key probe before now result (sym (is_relation_alike db key) ∙ there) gives)
 
 -- a row that a scan gives of a base relation fits its attributes, by the schema that is known
 pub scan_fits : (catalog : Option Catalog) (s : Db) (key : RelKey) (probe : Probe) (before now : Place) (result : Result (Option Row) BaseFault) → schema_known catalog ≡ Some s

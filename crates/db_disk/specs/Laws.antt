@@ -1,10 +1,7 @@
 -- What a disk holds is a database, and a scan of it is one.
-use Rattle.std.proofs.Common.{◌≡◌, inl, inr, refl, sym, ap, subst, ◌∙◌, arith, ℕ, Bool, true, false, IsTrue, Option, Some, None}
-use Rattle.std.specs.Coded.{Coded, Coded-set, codes}
-use Rattle.std.proofs.lemmas.Option.{none-some, same_Some}
-use mathlib.Core.Logic.{∥∥₁_elim}
-use Rattle.calculus.specs.contracts.query.QQual as quals
-use Rattle.calculus.specs.contracts.query.Query as queries
+use Rattle.std.proofs.Common.{◌≡◌, inl, inr, subst, arith, ℕ, Bool, true, false, Option, Some, None, ◌≤◌}
+use Rattle.std.specs.Prelude.{if◌then◌else◌}
+use Rattle.std.proofs.lemmas.Option.{none-some}
 use Rattle.calculus.specs.declared.query.RelKey.{RelKey}
 use Rattle.calculus.specs.Database.{Db}
 use Rattle.calculus.specs.IsDatabase.{IsDatabase}
@@ -12,24 +9,21 @@ use Rattle.calculus.specs.Schema.{schema_of}
 use Rattle.calculus.specs.Stored.{rows_at}
 use Rattle.disk_model.specs.Disk.{Image}
 use Rattle.disk_model.specs.declared.disk.Addr.{Addr}
-use Rattle.batch_file.specs.Redone.{kept, redone}
+use Rattle.batch_file.specs.Redone.{redone}
 use Rattle.page_chain.specs.Lists.{when}
 use Rattle.am_traits.specs.Scans.{IsScan, first_place}
 use Rattle.plain_base.specs.Laws.{of_told, whole_scan}
 use Rattle.catalog_read.specs.Parts.{index_owners_agree}
 use Rattle.plain_base.specs.Shown.{database_of}
-use Rattle.catalog_laws.proofs.Part.{has_schema}
-use Rattle.catalog_moves.specs.Files.{is_in}
-use Rattle.catalog.specs.Knows.{Knows}
 use Rattle.catalog.specs.declared.catalog.Catalog.{Catalog}
-use Rattle.catalog.proofs.Steps.{schema_again}
+use Rattle.schema_laws.proofs.SchemaStands.{schema_is_database}
 use Rattle.stored_database.specs.Standing.{standing, stored}
 use Rattle.stored_database.proofs.Reading.{bind_some, when_some}
 use Rattle.stored_database.proofs.WhatStands.{what_stands_is_a_database}
 use Rattle.db_disk.specs.Held.{held, told_by}
-use Rattle.db_disk.specs.Known.{IsKnown, schema_known}
+use Rattle.db_disk.specs.Known.{schema_known}
 use Rattle.db_disk.specs.Left.{clock_by, left_by, IsLeft}
-use Rattle.db_disk.specs.Shown.{rows_left}
+use Rattle.db_disk.specs.Shown.{known_by, rows_left}
 
 is_held : (m : Image) (db : Db) → held m ≡ Some db → IsDatabase db
 unfolding held stored
@@ -49,23 +43,24 @@ scanned_of (Some a) db key is is_one = of_told (λ x. IsDatabase x → IsScan (r
 pub scanned_told : (tells : Bool) (m : Image) (db : Db) (key : RelKey) → told_by tells m ≡ Some db → IsScan (rows_at db key) (rows_left (told_by tells m) key first_place)
 scanned_told tells m db key is = scanned_of (told_by tells m) db key is (lawful_told tells m db is)
 
--- what a catalogue knows of a database has its schema
-knows_its_schema : (c : Catalog) (m : Image) (db : Db) → ∥ Knows c m db ∥₁ → schema_of (database_of c.plain) ≡ schema_of db
-knows_its_schema c m db known =
-    let coded : Coded Db = hlevel (codes, quals.the_row.coded, queries.the_row.coded) in
-    ∥∥₁_elim known (Coded-set coded (schema_of (database_of c.plain)) (schema_of db)) (λ (knows : Knows c m db). ap schema_of knows.plain ∙ has_schema (is_in c.loaded) db)
+-- the database that is told is known
+pub own_known : (told schema : Option Db) (db : Db) → told ≡ Some db → known_by told schema ≡ Some db
+own_known None schema db is = absurd (none-some db is)
+own_known (Some a) schema db is = is
 
--- the schema that is known is that of the database that is told
-pub own_told : (tells : Bool) (m : Image) (catalog : Option Catalog) → (IsTrue tells → IsKnown m catalog) → (db s : Db) → told_by tells m ≡ Some db → schema_known catalog ≡ Some s → schema_of s ≡ schema_of db
-own_told true m None known db s is schema = absurd (none-some s schema)
-own_told true m (Some c) known db s is schema =
-    ap schema_of (sym (same_Some (schema_of (database_of c.plain)) s schema) ∙ knows_its_schema c (kept m) db ((known refl).each c db refl is)) ∙ schema_again db
-own_told false m catalog known db s is schema = absurd (none-some db is)
+lawful_by : (told : Option Db) (catalog : Option Catalog) (s : Db) → ((db : Db) → told ≡ Some db → IsDatabase db) → known_by told (schema_known catalog) ≡ Some s → IsDatabase s
+lawful_by (Some db) catalog s each is = each s is
+lawful_by None None s each is = absurd (none-some s is)
+lawful_by None (Some c) s each is = of_told IsDatabase (schema_of (database_of c.plain)) s is (schema_is_database (database_of c.plain) c.plain.is)
 
--- where a schema is known the disk was restored
-pub known_is_restored : (catalog : Option Catalog) (restored : Bool) → ((c : Catalog) → catalog ≡ Some c → restored ≡ true) → (s : Db) → schema_known catalog ≡ Some s → IsTrue restored
-known_is_restored None restored opened s is = absurd (none-some s is)
-known_is_restored (Some c) restored opened s is = opened c refl
+-- what is known is a database: without rows, where it was read
+pub lawful_known : (tells : Bool) (m : Image) (catalog : Option Catalog) (s : Db) → known_by (told_by tells m) (schema_known catalog) ≡ Some s → IsDatabase s
+lawful_known tells m catalog s is = lawful_by (told_by tells m) catalog s (λ db is. lawful_told tells m db is) is
+
+-- a scan reads no more pages than there are
+pub unread_at_most : (read : Bool) (pages : ℕ) → (if read then 0 else pages) ≤ pages
+unread_at_most true pages = omega arith
+unread_at_most false pages = omega arith
 
 still_left : {D : Type 0} (seen : D → Image) (touched : D → Addr → Type 0) (clock : D → ℕ) (left_since : D → ℕ → Image → Type 0) (d : D) (t : ℕ) (m : Image) →
     IsLeft seen touched clock left_since d (clock d) m → IsLeft seen touched clock left_since d t m

@@ -35,12 +35,12 @@ module _ {D : Type 0} {g : Ghosts D} where
   disk_after (Ok d) = disk_in d
   disk_after (Err u) = u.disk
 
-  -- a fault that may come
+  -- an answer where the count stayed, or a fault that may come
   abbrev pub IsOpenCaused : Option Db → ℕ → ℕ → Result (DbDisk D g) (Unopened D) → Type 0
-  IsOpenCaused told before now (Ok d) = Unit {0}
+  IsOpenCaused told before now (Ok d) = now ≡ before
   IsOpenCaused told before now (Err u) = MayRefuse told before now u.fault
 
-  -- The count of faults never falls, and a fault comes only where it may.
+  -- The count of faults never falls, an answer comes only where it stayed, and a fault only where it may.
   pub record HasOpenCause (told : Option Db) (before now : ℕ) (result : Result (DbDisk D g) (Unopened D)) : Type 0 where
     pub later : before ≤ now
     pub caused : IsOpenCaused told before now result

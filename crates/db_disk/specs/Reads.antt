@@ -1,5 +1,6 @@
 -- How many pages are read of a disk.
-use Rattle.std.specs.Prelude.{◌≡◌, ◌≢◌, ◌+◌, ℕ, Bool, false, Option, Some, None}
+use Rattle.std.specs.Prelude.{◌≡◌, ◌≢◌, ◌⊎◌, ◌+◌, ℕ, Bool, false, IsTrue, is_some, if◌then◌else◌, Option, Some, None}
+use Rattle.calculus.specs.declared.probe.Place.{Place}
 use Rattle.calculus.specs.declared.query.RelKey.{RelKey}
 use Rattle.disk_model.specs.Disk.{Image}
 use Rattle.disk_model.specs.declared.disk.Disk.{Ghosts}
@@ -9,6 +10,7 @@ use Rattle.stored_database.specs.Printed.{Files}
 use Rattle.catalog_moves.specs.Files.{files_of}
 use Rattle.catalog.specs.Reads.{HasChains, rows_known}
 use Rattle.catalog.specs.declared.catalog.Catalog.{Catalog}
+use Rattle.db_disk.specs.Shown.{disk_in, schema_in}
 use Rattle.db_disk.specs.declared.base.DbDisk.{DbDisk}
 
 -- The gate is shut, and the gate, the header, the birth byte and the catalogues have so many pages in all.
@@ -44,3 +46,11 @@ module _ {D : Type 0} {g : Ghosts D} where
   -- the rows of what stands under a key are in memory, whatever the disk tells
   abbrev pub rows_in_memory : DbDisk D g → RelKey → Bool
   rows_in_memory d key = rows_in d.catalog key
+
+  -- a call that needs the catalogues reads at most so many pages for them: none where they are in memory, else, where the disk tells, those of an opening
+  abbrev pub OpensWith : DbDisk D g → ℕ → Type 0
+  OpensWith d n = IsTrue (is_some (schema_in d)) ⊎ (IsTrue g.tells × OpensBy (g.seen (disk_in d)) n)
+
+  -- how many pages a scan of what stands under a key still reads, from any place on: those of its file, or none where its rows are in memory
+  abbrev pub pages_unread : DbDisk D g → RelKey → Place → ℕ
+  pages_unread d key at = if rows_in_memory d key then 0 else pages_known d key

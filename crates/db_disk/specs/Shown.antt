@@ -19,6 +19,11 @@ abbrev pub rows_left : Option Db → RelKey → Place → List Row
 rows_left (Some db) = rows_from db
 rows_left None = λ key at. []
 
+-- what a base knows of its schema: the database where that is told, else what was read of the schema
+abbrev pub known_by : Option Db → Option Db → Option Db
+known_by (Some db) schema = Some db
+known_by None schema = schema
+
 module _ {D : Type 0} {g : Ghosts D} where
   -- the disk below
   abbrev pub disk_in : DbDisk D g → D
@@ -35,6 +40,10 @@ module _ {D : Type 0} {g : Ghosts D} where
   -- the schema that is known in memory, where one is, whatever the disk tells
   abbrev pub schema_in : DbDisk D g → Option Db
   schema_in d = schema_known d.catalog
+
+  -- the database that the disk holds, where it tells that, else the schema that is known in memory
+  abbrev pub known_in : DbDisk D g → Option Db
+  known_in d = known_by (db_of d) (schema_in d)
 
   -- the disk was restored, and no change has failed since
   abbrev pub is_restored : DbDisk D g → Bool

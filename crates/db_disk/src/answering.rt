@@ -2,8 +2,9 @@
 
 ghost use Rattle.std.specs.Prelude.{true};
 ghost use Rattle.am_traits.proofs.Crashes.{asked_itself};
-ghost use Rattle.db_disk.specs.Laws.{known_is_restored, lawful_told, left_counts, own_told, scanned_told};
-ghost use Rattle.db_disk.specs.Shown.{clock_in, db_of, disk_in, is_restored, left_in, left_of, schema_in, AskedOf};
+ghost use Rattle.db_disk.specs.Laws.{lawful_known, left_counts, own_known, scanned_told, unread_at_most};
+ghost use Rattle.db_disk.specs.Reads.{pages_known, pages_unread, rows_in_memory, OpensWith};
+ghost use Rattle.db_disk.specs.Shown.{clock_in, db_of, disk_in, is_restored, known_in, left_in, left_of, schema_in, AskedOf};
 
 use crate::DbDisk;
 use am_traits::{Base, BaseFault};
@@ -14,7 +15,7 @@ use std::alloc::Global;
 impl<D: Disk> Base for DbDisk<D> {
     ghost database = { db_of };
 
-    ghost schema = { schema_in };
+    ghost schema = { known_in };
 
     ghost fixes = { true };
 
@@ -24,6 +25,12 @@ impl<D: Disk> Base for DbDisk<D> {
 
     ghost reads = { λ d. D.reads (disk_in d) };
 
+    ghost cat = { OpensWith };
+
+    ghost pages = { pages_known };
+
+    ghost unread = { pages_unread };
+
     ghost left_since = { left_in };
 
     ghost ready = { is_restored };
@@ -32,15 +39,15 @@ impl<D: Disk> Base for DbDisk<D> {
 
     ghost left = { left_of };
 
-    ghost lawful = { λ d db is. lawful_told D.tells (D.seen (disk_in d)) db is };
+    ghost lawful = { λ d s is. lawful_known D.tells (D.seen (disk_in d)) d.catalog s is };
 
-    ghost own = { λ d db s is known. own_told D.tells (D.seen (disk_in d)) d.catalog d.known db s is known };
+    ghost own = { λ d db is. own_known (db_of d) (schema_in d) db is };
 
     ghost scanned = { λ d db key is. scanned_told D.tells (D.seen (disk_in d)) db key is };
 
     ghost counts_now = { λ d t o le left. left_counts D.tells D.seen D.touched D.clock D.left_since (disk_in d) t o left };
 
-    ghost is_ready = { λ d s known. known_is_restored d.catalog d.is_open d.opened s known };
+    ghost whole = { λ d key at. unread_at_most (rows_in_memory d key) (pages_known d key) };
 
     ghost starts = { λ d. asked_itself (clock_in d) (is_restored d) (left_in d) };
 

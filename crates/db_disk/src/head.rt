@@ -1,6 +1,6 @@
 //! What says that a disk holds a database, and whose it is.
 
-ghost use Rattle.std.specs.Prelude.{◌≡◌, ◌↔◌, ◌==◌, Some, IfOk, IsTrue, take, true, false, bytes_eq, if◌then◌else◌};
+ghost use Rattle.std.specs.Prelude.{◌≡◌, ◌==◌, Some, IfOk, take, bytes_eq, if◌then◌else◌};
 ghost use Rattle.disk_model.specs.Disk.{Image, RisesUpTo};
 ghost use Rattle.access_traits.specs.Causes.{HasStoreCause};
 ghost use Rattle.batch_file.specs.Layout.{first_byte};

@@ -26,7 +26,7 @@ impl<D: Disk> DbDisk<D> {
     ghost use Rattle.db_disk.specs.Load.{as_base, IsNoHead};
     ghost use Rattle.db_disk.specs.Reads.{OpensBy, files_known, rows_in_memory};
     ghost use Rattle.db_disk.specs.Shown.{db_of, disk_in, is_restored, schema_in, StaysRestored};
-    ghost use Rattle.db_disk.specs.declared.load.LoadFault.TheVariants.{Base as OfBase, NoHead as WithoutHead};
+    ghost use Rattle.db_disk.specs.declared.load.LoadFault.TheVariants.{NoHead as WithoutHead};
 
     /// Restores the disk, where that wasn't done yet.
     pub(crate) fn restored(&mut self) -> Result<(), BaseFault>
@@ -85,6 +85,7 @@ impl<D: Disk> DbDisk<D> {
         ensures there { OnOk result (IsTrue (is_some (schema_in self.new))) }
         ensures kept { db_of self.new ≡ db_of self.old }
         ensures keeps { (s : Db) → schema_in self.old ≡ Some s → schema_in self.new ≡ Some s }
+        ensures files_stay { (s : Db) → schema_in self.old ≡ Some s → files_known self.new ≡ files_known self.old }
         ensures no_head { IsTrue D.tells → (m : Image) (page : ℕ) → redone (D.seen (disk_in self.old)) ≡ Some m → result ≡ Err (WithoutHead page) → has_head m ≡ false }
         // Where no database is there, the page that is named shows it; where the batch isn't of its form, its first page at fault.
         ensures at_head { IsTrue D.tells → (m : Image) (page : ℕ) → redone (D.seen (disk_in self.old)) ≡ Some m → result ≡ Err (WithoutHead page) → page ≡ headless_page m }
@@ -114,6 +115,7 @@ impl<D: Disk> DbDisk<D> {
         ensures there { OnOk result (IsTrue (is_some (schema_in self.new))) }
         ensures kept { db_of self.new ≡ db_of self.old }
         ensures keeps { (s : Db) → schema_in self.old ≡ Some s → schema_in self.new ≡ Some s }
+        ensures files_stay { (s : Db) → schema_in self.old ≡ Some s → files_known self.new ≡ files_known self.old }
         ensures schema { (db : Db) → db_of self.old ≡ Some db → OnOk result (schema_in self.new ≡ Some (schema_of db)) }
         ensures crash { IsTrue D.tells → LeavesOnly D.clock D.left_since (disk_in self.old) (disk_in self.new)
             (SameHeld (D.seen (disk_in self.old)) (D.touched (disk_in self.old))) }

@@ -14,7 +14,7 @@ impl<D: Disk> DbDisk<D> {
     ghost use Rattle.am_traits.specs.Told.{is_named_by_view, known_at, query_at};
     ghost use Rattle.disk_model.specs.Disk.{LeavesOnly, RisesUpTo};
     ghost use Rattle.db_disk.specs.Held.{SameHeld};
-    ghost use Rattle.db_disk.specs.Reads.{OpensBy};
+    ghost use Rattle.db_disk.specs.Reads.{OpensBy, files_known};
     ghost use Rattle.db_disk.specs.Shown.{db_of, disk_in, left_of, schema_in, StaysRestored};
 
     /// The name of the administrator.
@@ -24,6 +24,7 @@ impl<D: Disk> DbDisk<D> {
         ensures kept { db_of self.new ≡ db_of self.old }
         ensures same { left_of self.new ≡ left_of self.old }
         ensures keeps { (s : Db) → schema_in self.old ≡ Some s → schema_in self.new ≡ Some s }
+        ensures files_stay { (s : Db) → schema_in self.old ≡ Some s → files_known self.new ≡ files_known self.old }
         ensures fixed { OnOk result (IsTrue (is_some (schema_in self.new))) }
         ensures still { (s : Db) → schema_in self.old ≡ Some s → disk_in self.new ≡ disk_in self.old }
         ensures stays { StaysRestored self.old self.new }
@@ -43,6 +44,7 @@ impl<D: Disk> DbDisk<D> {
         ensures kept { db_of self.new ≡ db_of self.old }
         ensures same { left_of self.new ≡ left_of self.old }
         ensures keeps { (s : Db) → schema_in self.old ≡ Some s → schema_in self.new ≡ Some s }
+        ensures files_stay { (s : Db) → schema_in self.old ≡ Some s → files_known self.new ≡ files_known self.old }
         ensures fixed { OnOk result (IsTrue (is_some (schema_in self.new))) }
         ensures still { (s : Db) → schema_in self.old ≡ Some s → disk_in self.new ≡ disk_in self.old }
         ensures stays { StaysRestored self.old self.new }
@@ -68,6 +70,7 @@ impl<D: Disk> DbDisk<D> {
         ensures kept { db_of self.new ≡ db_of self.old }
         ensures same { left_of self.new ≡ left_of self.old }
         ensures keeps { (s : Db) → schema_in self.old ≡ Some s → schema_in self.new ≡ Some s }
+        ensures files_stay { (s : Db) → schema_in self.old ≡ Some s → files_known self.new ≡ files_known self.old }
         ensures fixed { OnOk result (IsTrue (is_some (schema_in self.new))) }
         ensures still { (s : Db) → schema_in self.old ≡ Some s → disk_in self.new ≡ disk_in self.old }
         ensures stays { StaysRestored self.old self.new }
@@ -87,6 +90,7 @@ impl<D: Disk> DbDisk<D> {
         ensures kept { db_of self.new ≡ db_of self.old }
         ensures same { left_of self.new ≡ left_of self.old }
         ensures keeps { (s : Db) → schema_in self.old ≡ Some s → schema_in self.new ≡ Some s }
+        ensures files_stay { (s : Db) → schema_in self.old ≡ Some s → files_known self.new ≡ files_known self.old }
         ensures fixed { OnOk result (IsTrue (is_some (schema_in self.new))) }
         ensures still { (s : Db) → schema_in self.old ≡ Some s → disk_in self.new ≡ disk_in self.old }
         ensures stays { StaysRestored self.old self.new }
@@ -106,6 +110,7 @@ impl<D: Disk> DbDisk<D> {
         ensures kept { db_of self.new ≡ db_of self.old }
         ensures same { left_of self.new ≡ left_of self.old }
         ensures keeps { (s : Db) → schema_in self.old ≡ Some s → schema_in self.new ≡ Some s }
+        ensures files_stay { (s : Db) → schema_in self.old ≡ Some s → files_known self.new ≡ files_known self.old }
         ensures fixed { OnOk result (IsTrue (is_some (schema_in self.new))) }
         ensures still { (s : Db) → schema_in self.old ≡ Some s → disk_in self.new ≡ disk_in self.old }
         ensures stays { StaysRestored self.old self.new }
@@ -125,6 +130,7 @@ impl<D: Disk> DbDisk<D> {
         ensures kept { db_of self.new ≡ db_of self.old }
         ensures same { left_of self.new ≡ left_of self.old }
         ensures keeps { (s : Db) → schema_in self.old ≡ Some s → schema_in self.new ≡ Some s }
+        ensures files_stay { (s : Db) → schema_in self.old ≡ Some s → files_known self.new ≡ files_known self.old }
         ensures fixed { OnOk result (IsTrue (is_some (schema_in self.new))) }
         ensures still { (s : Db) → schema_in self.old ≡ Some s → disk_in self.new ≡ disk_in self.old }
         ensures stays { StaysRestored self.old self.new }
@@ -144,6 +150,7 @@ impl<D: Disk> DbDisk<D> {
         ensures kept { db_of self.new ≡ db_of self.old }
         ensures same { left_of self.new ≡ left_of self.old }
         ensures keeps { (s : Db) → schema_in self.old ≡ Some s → schema_in self.new ≡ Some s }
+        ensures files_stay { (s : Db) → schema_in self.old ≡ Some s → files_known self.new ≡ files_known self.old }
         ensures fixed { OnOk result (IsTrue (is_some (schema_in self.new))) }
         ensures still { (s : Db) → schema_in self.old ≡ Some s → disk_in self.new ≡ disk_in self.old }
         ensures stays { StaysRestored self.old self.new }
@@ -168,6 +175,7 @@ impl<D: Disk> DbDisk<D> {
         ensures kept { db_of self.new ≡ db_of self.old }
         ensures same { left_of self.new ≡ left_of self.old }
         ensures keeps { (s : Db) → schema_in self.old ≡ Some s → schema_in self.new ≡ Some s }
+        ensures files_stay { (s : Db) → schema_in self.old ≡ Some s → files_known self.new ≡ files_known self.old }
         ensures fixed { OnOk result (IsTrue (is_some (schema_in self.new))) }
         ensures still { (s : Db) → schema_in self.old ≡ Some s → disk_in self.new ≡ disk_in self.old }
         ensures stays { StaysRestored self.old self.new }

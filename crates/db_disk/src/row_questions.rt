@@ -30,6 +30,7 @@ impl<D: Disk> DbDisk<D> {
             → OnOk result ((c : KnownCatalog) → self.new.catalog ≡ Some c → rows_at (database_of c.plain) key.now ≡ rows_at db key.now) }
         ensures kept { db_of self.new ≡ db_of self.old }
         ensures keeps { (s : Db) → schema_in self.old ≡ Some s → schema_in self.new ≡ Some s }
+        ensures files_stay { (s : Db) → schema_in self.old ≡ Some s → files_known self.new ≡ files_known self.old }
         // Where the rows are in memory no page is read; else at most those of the relation's file, once
         // the catalogue is known, and those of an opening before.
         ensures again { rows_in_memory self.old key.now ≡ true → D.reads (disk_in self.new) ≡ D.reads (disk_in self.old) }
@@ -79,6 +80,7 @@ impl<D: Disk> DbDisk<D> {
         ensures kept { db_of self.new ≡ db_of self.old }
         ensures same { left_of self.new ≡ left_of self.old }
         ensures keeps { (s : Db) → schema_in self.old ≡ Some s → schema_in self.new ≡ Some s }
+        ensures files_stay { (s : Db) → schema_in self.old ≡ Some s → files_known self.new ≡ files_known self.old }
         ensures fixed { OnOk result (IsTrue (is_some (schema_in self.new))) }
         // Where the rows are in memory no page is read; else at most those of the relation's file, once
         // the catalogue is known, and those of an opening before.
@@ -104,6 +106,7 @@ impl<D: Disk> DbDisk<D> {
         ensures kept { db_of self.new ≡ db_of self.old }
         ensures same { left_of self.new ≡ left_of self.old }
         ensures keeps { (s : Db) → schema_in self.old ≡ Some s → schema_in self.new ≡ Some s }
+        ensures files_stay { (s : Db) → schema_in self.old ≡ Some s → files_known self.new ≡ files_known self.old }
         ensures fixed { OnOk result (IsTrue (is_some (schema_in self.new))) }
         // Where the rows are in memory no page is read; else at most those of the relation's file, once
         // the catalogue is known, and those of an opening before.
@@ -140,6 +143,7 @@ impl<D: Disk> DbDisk<D> {
         ensures kept { db_of self.new ≡ db_of self.old }
         ensures same { left_of self.new ≡ left_of self.old }
         ensures keeps { (s : Db) → schema_in self.old ≡ Some s → schema_in self.new ≡ Some s }
+        ensures files_stay { (s : Db) → schema_in self.old ≡ Some s → files_known self.new ≡ files_known self.old }
         ensures fixed { OnOk result (IsTrue (is_some (schema_in self.new))) }
         // Where the rows are in memory no page is read; else at most those of the relation's file, once
         // the catalogue is known, and those of an opening before.

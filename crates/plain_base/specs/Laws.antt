@@ -1,5 +1,5 @@
 -- What a database in memory tells is a database, and a scan of it is one.
-use Rattle.std.proofs.Common.{◌≡◌, refl, sym, ap, subst, ◌∙◌, List, map, Some}
+use Rattle.std.proofs.Common.{◌≡◌, refl, subst, List, map, Some}
 use Rattle.std.proofs.lemmas.Option.{same_Some}
 use Rattle.std.specs.List.{flat_map}
 use Rattle.calculus.specs.declared.query.RelKey.{RelKey}
@@ -7,7 +7,6 @@ use Rattle.calculus.specs.Catalogue.{all_entries, relation_row, attribute_rows}
 use Rattle.calculus.specs.Database.{Db}
 use Rattle.calculus.specs.IsDatabase.{IsDatabase}
 use Rattle.calculus.specs.Rows.{Row, Ascends, set_of}
-use Rattle.calculus.specs.Schema.{schema_of}
 use Rattle.calculus.specs.Stored.{rows_at}
 use Rattle.calculus.proofs.Sets.{same_set, has-set_of, Ascends-nil, Ascends-set_of}
 use Rattle.am_traits.specs.Scans.{IsScan, first_place}

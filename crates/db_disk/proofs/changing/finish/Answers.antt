@@ -1,4 +1,4 @@
-use Rattle.std.proofs.Common.{◌≡◌, ◌∙◌}
+use Rattle.std.proofs.Common.{◌≡◌, ◌∙◌, arith}
 use Rattle.am_traits.specs.declared.fault.BaseFault.TheVariants as faults
 use Rattle.batch_store.specs.Store.{batch_of, disk_of}
 use Rattle.batch_store.proofs.Stands.{told_so}
@@ -25,3 +25,6 @@ returns-in-Err-clause-wanted g c = λ want.
 pub returns-in-Err-clause-cause : goal.returns-in-Err-clause-cause
 returns-in-Err-clause-cause g c = finish_caused _ _ _ c.in-Err.fault c.finish.result c.fault_of.result c.in-Err.is c.fault_of.ensures c.finish.ensures.cause
     (λ m pages. finish_whole c.in-Err.fault c.finish.result c.in-Err.is (c.finish.ensures.whole (told_so g.D.Disk.tells (g.D.Disk.seen (disk_of c.args.store.now)) m (batch_of c.args.store.now) pages).0))
+
+pub returns-in-Ok-clause-cause : goal.returns-in-Ok-clause-cause
+returns-in-Ok-clause-cause g c = let calm = c.in-Ok.ensures.cause.answered (λ never. never) in record { later = omega (arith, calm); caused = calm }

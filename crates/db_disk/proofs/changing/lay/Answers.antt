@@ -42,7 +42,7 @@ returns-in-Ok-clause-no_memory g c = λ want. absurd (c.settle.ensures.wanted wa
 pub returns-in-Ok-clause-cause : goal.returns-in-Ok-clause-cause
 returns-in-Ok-clause-cause g c =
     let s = c.args.store.now in
-    later_caused _ _ _ _ c.settle.result c.lay.ensures.cause.later
+    later_caused _ _ _ _ c.settle.result c.in-Ok.ensures.cause.caused
     (file_caused _ _ _ _ _ c.settle.result (λ db is.
     let h = ready_holds s db c.requires.ready is in
     let k = knows_now s c.requires.ready c.args.catalog.now db (c.requires.known h.told) is in

@@ -28,7 +28,7 @@ returns-clause-laid g c = λ s m came told closed pages.
 pub returns-clause-cause : goal.returns-clause-cause
 returns-clause-cause g c = λ s came closed.
     let d = g.D.Disk in
-    synced_caused (pages_of c.args.store.now) _ _ _ _ c.reopen.result c.finish.ensures.cause.later c.reopen.ensures.cause
+    synced_caused (pages_of c.args.store.now) _ _ _ _ c.reopen.result c.in_ok-finish.ensures.cause.caused c.reopen.ensures.cause
     (λ m pages file page is.
     let told = (told_so d.tells (d.seen (disk_of c.args.store.now)) m (batch_of c.args.store.now) pages).0 in
     let before = c.in_ok-finish.ensures.durable s m came told (closed told) pages (d.seen (disk_of c.finish.new.store)) (λ b calm. refl) in

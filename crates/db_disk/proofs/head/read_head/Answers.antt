@@ -1,4 +1,4 @@
-use Rattle.std.proofs.Common.{◌∙◌}
+use Rattle.std.proofs.Common.{◌∙◌, arith}
 use Rattle.db_disk.proofs.head.read_head.Goals as goal
 
 pub returns-in-Some-clause-came : goal.returns-in-Some-clause-came
@@ -27,3 +27,9 @@ returns-in-None-clause-same g c = c.read_header.ensures.same ∙ c.read_birth.en
 
 pub returns-in_err-read_birth-clause-same : goal.returns-in_err-read_birth-clause-same
 returns-in_err-read_birth-clause-same g c = c.read_birth.ensures.same
+
+pub returns-in-Some-clause-cause : goal.returns-in-Some-clause-cause
+returns-in-Some-clause-cause g c = let calm = c.in_ok-dba.ensures.cause.caused ∙ c.in_ok-read_birth.ensures.cause.caused in record { later = omega (arith, calm); caused = calm }
+
+pub returns-in-None-clause-cause : goal.returns-in-None-clause-cause
+returns-in-None-clause-cause g c = let calm = c.in_ok-dba.ensures.cause.caused ∙ c.in_ok-read_birth.ensures.cause.caused in record { later = omega (arith, calm); caused = calm }

@@ -12,7 +12,7 @@ returns-in-Of-clause-knows g c = λ m db is stands agree.
 
 pub returns-in-Of-clause-cause : goal.returns-in-Of-clause-cause
 returns-in-Of-clause-cause g c =
-    for_whom _ _ c.in-Of.dba _ _ _ _ c.read_head.ensures.cause.later c.read_head.ensures.same
+    for_whom _ _ c.in-Of.dba _ _ _ _ c.in_ok-dba.ensures.cause.caused c.read_head.ensures.same
     (λ m is. (subst (IsHead m) c.in-Of.is (c.in_ok-dba.ensures.head m is)).1) c.load_for.ensures.cause
 
 pub returns-in-NoHeader-clause-cause : goal.returns-in-NoHeader-clause-cause

@@ -1,4 +1,4 @@
-use Rattle.std.proofs.Common.{◌≡◌}
+use Rattle.std.proofs.Common.{◌≡◌, arith}
 use Rattle.am_traits.specs.declared.fault.BaseFault.TheVariants as faults
 use Rattle.db_disk.proofs.Causes.{answered_so, damage_of_batch, restore_caused}
 use Rattle.db_disk.proofs.Changes.{never_wanted}
@@ -36,3 +36,6 @@ pub returns-in-Err-clause-at_batch : goal.returns-in-Err-clause-at_batch
 returns-in-Err-clause-at_batch g c = λ told file page is.
     let e : c.fault_of.result ≡ faults.Damaged file page = cc is in
     answered_so c.reopen.result _ file page (c.reopen.ensures.answer told) (damage_of_batch c.in-Err.fault c.reopen.result c.fault_of.result file page c.in-Err.is c.fault_of.ensures e)
+
+pub returns-in-Ok-clause-cause : goal.returns-in-Ok-clause-cause
+returns-in-Ok-clause-cause g c = let calm = c.in-Ok.ensures.cause.answered (λ never. never) in record { later = omega (arith, calm); caused = calm }

@@ -1,12 +1,18 @@
 use Rattle.calculus.specs.Change.{laid}
-use Rattle.db_disk.specs.Shown.{disk_in, schema_in}
+use Rattle.db_disk.specs.Shown.{db_of, disk_in, schema_in}
+use Rattle.db_disk.proofs.AsBase.{fixed, known_laid, own_schema}
 use Rattle.db_disk.proofs.Changes.{on_ok_into}
-use Rattle.db_disk.proofs.Knowing.{schema_laid_on}
 use Rattle.db_disk.proofs.Leaving.{changed_by, durable_by}
 use Rattle.db_disk.proofs.answering.DbDiskBase.apply.Goals as goal
 
 pub returns-clause-schema : goal.returns-clause-schema
-returns-clause-schema g c = λ s now known then. schema_laid_on c.args.change.now (schema_in c.args.self.now) (schema_in c.apply.new.self) s now c.apply.result known then c.apply.ensures.schema
+returns-clause-schema g c = λ s now known then.
+    let d = c.apply.new.self in
+    known_laid c.args.change.now (db_of c.args.self.now) (schema_in c.args.self.now) (db_of d) (schema_in d) s now c.apply.result c.apply.ensures.told c.apply.ensures.schema
+    (λ db s told is. own_schema g.D.Disk.tells (g.D.Disk.seen (disk_in d)) d.catalog d.known db s told is) known then
+
+pub returns-clause-fixed : goal.returns-clause-fixed
+returns-clause-fixed g c = λ fixes. fixed c.apply.new.self c.apply.result c.apply.ensures.fixed
 
 pub returns-clause-failed : goal.returns-clause-failed
 returns-clause-failed g c = c.apply.ensures.failed

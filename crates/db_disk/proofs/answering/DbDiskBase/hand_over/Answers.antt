@@ -1,6 +1,7 @@
-use Rattle.std.proofs.Common.{ap, sym, ◌∙◌}
-use Rattle.std.proofs.lemmas.Option.{none-some}
+use Rattle.std.proofs.Common.{ap}
 use Rattle.db_disk.specs.Left.{clock_by}
+use Rattle.db_disk.specs.Shown.{db_of, schema_in}
+use Rattle.db_disk.proofs.AsBase.{forgotten}
 use Rattle.db_disk.proofs.Leaving.{asked_as}
 use Rattle.db_disk.proofs.answering.DbDiskBase.hand_over.Goals as goal
 
@@ -8,7 +9,7 @@ pub returns-clause-faults : goal.returns-clause-faults
 returns-clause-faults g c = ap g.D.Disk.faults c.hand_over.ensures.disk
 
 pub returns-clause-forgotten : goal.returns-clause-forgotten
-returns-clause-forgotten g c = λ s is. absurd (none-some s (sym c.hand_over.ensures.schema ∙ is))
+returns-clause-forgotten g c = λ s is. forgotten (db_of c.hand_over.new.self) (schema_in c.hand_over.new.self) s c.hand_over.ensures.schema is
 
 pub returns-clause-still : goal.returns-clause-still
 returns-clause-still g c = (ap (clock_by g.D.Disk.tells g.D.Disk.clock) c.hand_over.ensures.disk, ap g.D.Disk.reads c.hand_over.ensures.disk)

@@ -4,7 +4,7 @@ use Rattle.batch_store.specs.Store.{disk_of}
 use Rattle.calculus.specs.Schema.{schema_of}
 use Rattle.db_disk.proofs.Knowing.{known_is_schema, there_open}
 use Rattle.db_disk.proofs.Ready.{ready_holds}
-use Rattle.db_disk.proofs.Changes.{held_settled, on_ok_into, told_now}
+use Rattle.db_disk.proofs.Changes.{cause_after, held_settled, on_ok_into, told_now}
 use Rattle.db_disk.proofs.Holding.{told_some}
 use Rattle.db_disk.proofs.Leaving.{failed_by, given_err, only_opened, opened_changed}
 use Rattle.db_disk.proofs.base.DbDisk.apply.Goals as goal
@@ -64,3 +64,6 @@ returns-then-names_nothing-clause-durable g c = λ db is m image.
 pub returns-then-names_nothing-clause-schema : goal.returns-then-names_nothing-clause-schema
 returns-then-names_nothing-clause-schema g c = λ s is.
     c.open.ensures.keeps s is ∙ ap Some (sym (known_is_schema c.args.self.now.catalog s is) ∙ ap schema_of (sym (c.names_nothing.ensures c.if-names_nothing.true s)))
+
+pub returns-clause-cause : goal.returns-clause-cause
+returns-clause-cause g c = cause_after _ _ _ _ _ c.lay_open.result c.open.ensures.kept c.in_ok-open.ensures.cause.caused c.lay_open.ensures.cause

@@ -3,7 +3,7 @@ use Rattle.calculus.specs.Schema.{schema_of}
 use Rattle.db_disk.proofs.Asking.{schema_answer, dba_alike}
 use Rattle.db_disk.proofs.Causes.{want_caused}
 use Rattle.db_disk.proofs.Knowing.{same_schema, still_known, there_open}
-use Rattle.db_disk.proofs.Reading.{still_there}
+use Rattle.db_disk.proofs.Reading.{same_files, still_there}
 use Rattle.db_disk.proofs.base.DbDisk.dba.Goals as goal
 
 pub invariant_of-self : goal.invariant_of-self
@@ -22,7 +22,7 @@ pub returns-clause-fixed : goal.returns-clause-fixed
 returns-clause-fixed g c = still_there c.open.new.self.catalog c.dba.new.catalog c.dba.result (same_schema c.open.new.self.catalog c.dba.new.catalog c.dba.ensures.same) c.in_ok-open.ensures.there
 
 pub returns-clause-cause : goal.returns-clause-cause
-returns-clause-cause g c = want_caused _ _ _ c.dba.result c.open.ensures.cause.later c.dba.ensures.want
+returns-clause-cause g c = want_caused _ _ _ c.dba.result c.in_ok-open.ensures.cause.caused c.dba.ensures.want
 
 pub returns-clause-kept : goal.returns-clause-kept
 returns-clause-kept g c = c.open.ensures.kept
@@ -56,3 +56,9 @@ returns-clause-stays g c = c.open.ensures.stays
 
 pub returns-in_err-open-clause-stays : goal.returns-in_err-open-clause-stays
 returns-in_err-open-clause-stays g c = c.open.ensures.stays
+
+pub returns-clause-files_stay : goal.returns-clause-files_stay
+returns-clause-files_stay g c = λ s is. same_files c.open.new.self.catalog c.dba.new.catalog c.dba.ensures.same ∙ c.open.ensures.files_stay s is
+
+pub returns-in_err-open-clause-files_stay : goal.returns-in_err-open-clause-files_stay
+returns-in_err-open-clause-files_stay g c = c.open.ensures.files_stay

@@ -1,4 +1,5 @@
 use Rattle.std.proofs.Common.{◌∙◌, sym, arith, ◌+◌, ap}
+use Rattle.db_disk.proofs.Changes.{cause_after}
 use Rattle.db_disk.proofs.Reading.{rows_of_schema, then_reads}
 use Rattle.catalog.proofs.Rises.{rises_as, rises_less, rises_not, then_rises}
 use Rattle.stored_database.specs.Printed.{Files}
@@ -48,3 +49,12 @@ returns-clause-stays g c = λ is. let first = c.open.ensures.stays is in ((λ to
 
 pub returns-in_err-open-clause-stays : goal.returns-in_err-open-clause-stays
 returns-in_err-open-clause-stays g c = c.open.ensures.stays
+
+pub returns-clause-files_stay : goal.returns-clause-files_stay
+returns-clause-files_stay g c = λ s is. c.fill_open.ensures.files ∙ c.open.ensures.files_stay s is
+
+pub returns-in_err-open-clause-files_stay : goal.returns-in_err-open-clause-files_stay
+returns-in_err-open-clause-files_stay g c = c.open.ensures.files_stay
+
+pub returns-clause-cause : goal.returns-clause-cause
+returns-clause-cause g c = cause_after _ _ _ _ _ c.fill_open.result c.open.ensures.kept c.in_ok-open.ensures.cause.caused c.fill_open.ensures.cause

@@ -33,7 +33,7 @@ returns-clause-opening_reads g c = λ told all by.
     rises_as _ _ _ _ (ap (λ (f : Files). all + f.used c.args.key.now) (sym (same_files c.filled.new.self.catalog c.has_row.new.catalog c.has_row.ensures.same))) (c.filled.ensures.opening_reads told all by)
 
 pub returns-clause-cause : goal.returns-clause-cause
-returns-clause-cause g c = want_caused _ _ _ c.has_row.result c.filled.ensures.cause.later c.has_row.ensures.want
+returns-clause-cause g c = want_caused _ _ _ c.has_row.result c.in_ok-filled.ensures.cause.caused c.has_row.ensures.want
 
 pub returns-clause-kept : goal.returns-clause-kept
 returns-clause-kept g c = c.filled.ensures.kept
@@ -73,3 +73,9 @@ returns-clause-stays g c = c.filled.ensures.stays
 
 pub returns-in_err-filled-clause-stays : goal.returns-in_err-filled-clause-stays
 returns-in_err-filled-clause-stays g c = c.filled.ensures.stays
+
+pub returns-clause-files_stay : goal.returns-clause-files_stay
+returns-clause-files_stay g c = λ s is. same_files c.filled.new.self.catalog c.has_row.new.catalog c.has_row.ensures.same ∙ c.filled.ensures.files_stay s is
+
+pub returns-in_err-filled-clause-files_stay : goal.returns-in_err-filled-clause-files_stay
+returns-in_err-filled-clause-files_stay g c = c.filled.ensures.files_stay

@@ -72,3 +72,9 @@ returns-in-Ok-clause-at_batch g c = λ told none file page e. absurd (cc e)
 
 pub returns-in-Ok-clause-at_head : goal.returns-in-Ok-clause-at_head
 returns-in-Ok-clause-at_head g c = λ told m is none off file page e. absurd (cc e)
+
+pub returns-in-Ok-clause-files_stay : goal.returns-in-Ok-clause-files_stay
+returns-in-Ok-clause-files_stay g c = c.start.ensures.files_stay
+
+pub returns-in-Err-clause-files_stay : goal.returns-in-Err-clause-files_stay
+returns-in-Err-clause-files_stay g c = c.start.ensures.files_stay

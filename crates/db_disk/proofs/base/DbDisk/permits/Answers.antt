@@ -4,7 +4,7 @@ use Rattle.calculus.specs.Schema.{schema_of}
 use Rattle.db_disk.proofs.Asking.{schema_answer, permits_alike}
 use Rattle.db_disk.proofs.Causes.{want_caused}
 use Rattle.db_disk.proofs.Knowing.{same_schema, still_known, there_open}
-use Rattle.db_disk.proofs.Reading.{still_there}
+use Rattle.db_disk.proofs.Reading.{same_files, still_there}
 use Rattle.db_disk.proofs.base.DbDisk.permits.Goals as goal
 
 pub invariant_of-self : goal.invariant_of-self
@@ -23,7 +23,7 @@ pub returns-clause-fixed : goal.returns-clause-fixed
 returns-clause-fixed g c = still_there c.open.new.self.catalog c.permits.new.catalog c.permits.result (same_schema c.open.new.self.catalog c.permits.new.catalog c.permits.ensures.same) c.in_ok-open.ensures.there
 
 pub returns-clause-cause : goal.returns-clause-cause
-returns-clause-cause g c = want_caused _ _ _ c.permits.result c.open.ensures.cause.later c.permits.ensures.want
+returns-clause-cause g c = want_caused _ _ _ c.permits.result c.in_ok-open.ensures.cause.caused c.permits.ensures.want
 
 pub returns-clause-kept : goal.returns-clause-kept
 returns-clause-kept g c = c.open.ensures.kept
@@ -57,3 +57,9 @@ returns-clause-stays g c = c.open.ensures.stays
 
 pub returns-in_err-open-clause-stays : goal.returns-in_err-open-clause-stays
 returns-in_err-open-clause-stays g c = c.open.ensures.stays
+
+pub returns-clause-files_stay : goal.returns-clause-files_stay
+returns-clause-files_stay g c = λ s is. same_files c.open.new.self.catalog c.permits.new.catalog c.permits.ensures.same ∙ c.open.ensures.files_stay s is
+
+pub returns-in_err-open-clause-files_stay : goal.returns-in_err-open-clause-files_stay
+returns-in_err-open-clause-files_stay g c = c.open.ensures.files_stay

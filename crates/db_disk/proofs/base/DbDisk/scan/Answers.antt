@@ -51,7 +51,7 @@ returns-clause-fits g c = λ s known there.
     (sym (same_schema c.filled.new.self.catalog c.scan.new.catalog c.scan.ensures.same) ∙ known) c.scan.ensures.told there
 
 pub returns-clause-cause : goal.returns-clause-cause
-returns-clause-cause g c = want_caused _ _ _ c.scan.result c.filled.ensures.cause.later c.scan.ensures.want
+returns-clause-cause g c = want_caused _ _ _ c.scan.result c.in_ok-filled.ensures.cause.caused c.scan.ensures.want
 
 pub returns-clause-kept : goal.returns-clause-kept
 returns-clause-kept g c = c.filled.ensures.kept
@@ -91,3 +91,9 @@ returns-clause-stays g c = c.filled.ensures.stays
 
 pub returns-in_err-filled-clause-stays : goal.returns-in_err-filled-clause-stays
 returns-in_err-filled-clause-stays g c = c.filled.ensures.stays
+
+pub returns-clause-files_stay : goal.returns-clause-files_stay
+returns-clause-files_stay g c = λ s is. same_files c.filled.new.self.catalog c.scan.new.catalog c.scan.ensures.same ∙ c.filled.ensures.files_stay s is
+
+pub returns-in_err-filled-clause-files_stay : goal.returns-in_err-filled-clause-files_stay
+returns-in_err-filled-clause-files_stay g c = c.filled.ensures.files_stay

@@ -2,6 +2,9 @@ use Rattle.std.proofs.Common.{◌≡◌, ap, subst, sym, ◌∙◌, false}
 use Rattle.std.proofs.lemmas.Option.{none-some, same_Some}
 use Rattle.disk_model.specs.Disk.{Image}
 use Rattle.db_disk.specs.Held.{has_head, headless_page}
+use Rattle.db_disk.specs.Load.{as_base}
+use Rattle.db_disk.specs.Reads.{files_in}
+use Rattle.db_disk.proofs.Changes.{cause_after}
 use Rattle.db_disk.proofs.Opens.{refused_first}
 use Rattle.db_disk.proofs.Reading.{opens_not, opens_then}
 use Rattle.db_disk.proofs.base.DbDisk.start.Goals as goal
@@ -58,3 +61,12 @@ returns-in-Ok-clause-at_batch g c = λ told none file page is. absurd (none-some
 
 pub returns-in-Err-clause-at_batch : goal.returns-in-Err-clause-at_batch
 returns-in-Err-clause-at_batch g c = λ told none file page is. c.restored.ensures.at_batch told file page (c.in-Err.is ∙ is)
+
+pub returns-in-Ok-clause-files_stay : goal.returns-in-Ok-clause-files_stay
+returns-in-Ok-clause-files_stay g c = λ s is. ap files_in (c.loaded.ensures.catalog s (c.restored.ensures.schema ∙ is) ∙ c.restored.ensures.catalog)
+
+pub returns-in-Err-clause-files_stay : goal.returns-in-Err-clause-files_stay
+returns-in-Err-clause-files_stay g c = λ s is. ap files_in c.restored.ensures.catalog
+
+pub returns-in-Ok-clause-cause : goal.returns-in-Ok-clause-cause
+returns-in-Ok-clause-cause g c = cause_after _ _ _ _ _ (as_base c.loaded.result) c.restored.ensures.kept c.in-Ok.ensures.cause.caused c.loaded.ensures.cause
