@@ -203,6 +203,6 @@ pub fn copy_from<B: Base, H: Shelf>(
             from: _,
             file,
         } => rows_from(alloc, base, shelf, user, rel, columns.items(), file.bytes()),
-        _ => Err(CopyFault::OutOfMemory),
+        _ => unreachable!(),
     }
 }

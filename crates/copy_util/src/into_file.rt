@@ -172,6 +172,6 @@ pub fn copy_into<B: Base, H: Shelf>(
             from: _,
             file,
         } => store_rows(alloc, base, shelf, user, rel, columns.items(), file.bytes()),
-        _ => Err(CopyFault::OutOfMemory),
+        _ => unreachable!(),
     }
 }

@@ -7,8 +7,10 @@ use Rattle.copy_util.proofs.appending.absent_rows.Goals as goal
 pub loop-row-preserved : goal.loop-row-preserved
 loop-row-preserved g c = record {
   kept = c.in_ok-is_there.ensures.kept ∙ c.loop-row.invariant.kept;
+  stays = λ s e. c.in_ok-is_there.ensures.stays s (c.loop-row.invariant.stays s e);
+  asked = λ b was. c.in_ok-is_there.ensures.asked b (c.loop-row.invariant.asked b was);
   same = c.in_ok-is_there.ensures.same ∙ c.loop-row.invariant.same;
-  later = omega (arith, c.loop-row.invariant.later, c.in_ok-is_there.ensures.cause.later);
+  later = c.in_ok-is_there.ensures.cause.caused ∙ c.loop-row.invariant.later;
   so_far = λ db e.
       c.in_ok-put_if.ensures
       ∙ (λ j. c.loop-row.invariant.so_far db e j ++ cond (not (c.in_ok-is_there.ensures.told db (c.loop-row.invariant.kept ∙ e) j)) (c.in-Some.row ∷ []) [])
