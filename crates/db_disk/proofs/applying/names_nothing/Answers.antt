@@ -1,4 +1,4 @@
-use Rattle.std.proofs.Common.{◌≡◌, ◌∙◌, sym, ap, ◌==◌, List, [], length, true}
+use Rattle.std.proofs.Common.{◌≡◌, ◌∙◌, sym, ap, ◌==◌, List, [], length}
 use Rattle.calculus.specs.declared.change.DbChange.{DbChange}
 use Rattle.calculus.specs.Change.{laid}
 use Rattle.calculus.specs.Rows.{Row}

@@ -27,4 +27,4 @@ returns-in-Err-clause-cause g c = finish_caused _ _ _ c.in-Err.fault c.finish.re
     (λ m pages. finish_whole c.in-Err.fault c.finish.result c.in-Err.is (c.finish.ensures.whole (told_so g.D.Disk.tells (g.D.Disk.seen (disk_of c.args.store.now)) m (batch_of c.args.store.now) pages).0))
 
 pub returns-in-Ok-clause-cause : goal.returns-in-Ok-clause-cause
-returns-in-Ok-clause-cause g c = let calm = c.in-Ok.ensures.cause.answered (λ never. never) in record { later = omega (arith, calm); caused = calm }
+returns-in-Ok-clause-cause g c = let calm = c.in-Ok.ensures.cause.answered (λ never. cc never) in record { later = omega (arith, calm); caused = calm }

@@ -38,4 +38,4 @@ returns-in-Err-clause-at_batch g c = λ told file page is.
     answered_so c.reopen.result _ file page (c.reopen.ensures.answer told) (damage_of_batch c.in-Err.fault c.reopen.result c.fault_of.result file page c.in-Err.is c.fault_of.ensures e)
 
 pub returns-in-Ok-clause-cause : goal.returns-in-Ok-clause-cause
-returns-in-Ok-clause-cause g c = let calm = c.in-Ok.ensures.cause.answered (λ never. never) in record { later = omega (arith, calm); caused = calm }
+returns-in-Ok-clause-cause g c = let calm = c.in-Ok.ensures.cause.answered (λ never. cc never) in record { later = omega (arith, calm); caused = calm }
