@@ -13,10 +13,10 @@ abbrev pub of_store : StoreFault → BaseFault
 of_store store.Disk = faults.Disk
 of_store store.OutOfMemory = faults.OutOfMemory
 
--- this fault may come: of the disk where its count rose, and want of memory
+-- this fault may come: of the disk where its count rose, and want of memory where that stayed
 abbrev pub StoreMayFail : ℕ → ℕ → StoreFault → Type 0
 StoreMayFail before now store.Disk = Rose before now
-StoreMayFail before now store.OutOfMemory = Unit {0}
+StoreMayFail before now store.OutOfMemory = now ≡ before
 
 -- an answer where the count stayed, or a fault that may come
 abbrev pub IsStoreCaused : {T : Type 0} → ℕ → ℕ → Result T StoreFault → Type 0
@@ -32,11 +32,11 @@ pub record HasStoreCause {T : Type 0} (before now : ℕ) (result : Result T Stor
 abbrev pub IsAtFault : Option Image → (Image → Addr → Type 0) → Addr → Type 0
 IsAtFault told at_fault a = (m : Image) → told ≡ Some m → at_fault m a
 
--- this fault may come: of the disk where its count rose, of damage at a page that is at fault, and want of memory
+-- this fault may come: of the disk where its count rose; else that stayed: of damage at a page that is at fault, and want of memory
 abbrev pub MayFail : Option Image → (Image → Addr → Type 0) → ℕ → ℕ → BaseFault → Type 0
 MayFail told at_fault before now faults.Disk = Rose before now
-MayFail told at_fault before now (faults.Damaged file page) = IsAtFault told at_fault (record { file = file; page = page })
-MayFail told at_fault before now faults.OutOfMemory = Unit {0}
+MayFail told at_fault before now (faults.Damaged file page) = IsAtFault told at_fault (record { file = file; page = page }) × (now ≡ before)
+MayFail told at_fault before now faults.OutOfMemory = now ≡ before
 
 -- an answer where the count stayed, or a fault that may come
 abbrev pub IsFileCaused : {T : Type 0} → Option Image → (Image → Addr → Type 0) → ℕ → ℕ → Result T BaseFault → Type 0

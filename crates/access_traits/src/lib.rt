@@ -2,11 +2,10 @@
 #![tactic(auto)]
 
 mod fault;
-mod file;
 mod method;
 mod store;
 
+pub use calculus::RelFile;
 pub use fault::StoreFault;
-pub use file::RelFile;
 pub use method::AccessMethod;
 pub use store::PageStore;

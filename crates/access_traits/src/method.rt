@@ -10,7 +10,7 @@ ghost use Rattle.page_cells.specs.RowBytes.{is_row};
 ghost use Rattle.access_traits.specs.Causes.{HasFileCause};
 ghost use Rattle.access_traits.specs.Pages.{KeepsOthers};
 ghost use Rattle.access_traits.specs.Placed.{Placed, Added, Removed, Replaced, GivesBefore, NowHolds, SameButUsed, row_with, rows_differ, rows_of, rows_from};
-ghost use Rattle.access_traits.specs.declared.file.RelFile.{RelFile as File};
+ghost use Rattle.calculus.specs.declared.schema.RelFile.{RelFile as File};
 
 use crate::PageStore;
 use am_traits::BaseFault;

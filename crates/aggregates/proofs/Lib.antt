@@ -4,7 +4,6 @@ pub mod Order
 pub mod InRuns
 pub mod Held
 pub mod AggregateForms
-pub mod Known
 pub mod Sourced
 pub mod Standing
 pub mod Placed

@@ -1,6 +1,6 @@
 //! The average of values.
 
-ghost use Rattle.std.specs.Prelude.{◌≡◌, ◌≤◌, ◌<◌, length, int_div, pos};
+ghost use Rattle.std.specs.Prelude.{◌≡◌, ◌<◌, int_div, pos};
 ghost use Rattle.calculus.specs.Aggregate.{average};
 ghost use Rattle.aggregates.specs.Sums.{IsSumOf};
 

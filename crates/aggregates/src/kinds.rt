@@ -1,56 +1,23 @@
 //! The kinds of a source's attributes, and the least and the greatest of no value.
 
-ghost use Rattle.std.specs.Prelude.{◌≡◌, [], ◌∷◌, map, vec_items, Some, IfOk};
+ghost use Rattle.std.specs.Prelude.{◌≡◌, [], map, Some, IfOk};
 ghost use Rattle.am_traits.specs.Causes.{HasCause};
 ghost use Rattle.calculus.specs.declared.value.Value.TheVariants.{Text as Empty};
 ghost use Rattle.calculus.specs.Aggregate.{source_kinds, none_value};
 ghost use Rattle.calculus.specs.Database.{Db};
 ghost use Rattle.calculus.specs.Kinds.{is_text_kind};
 ghost use Rattle.calculus.specs.QueryParts.{targets_of};
-ghost use Rattle.calculus.specs.Stored.{attrs_in, kinds_at};
 ghost use Rattle.aggregates.specs.Settled.{none_over};
 
 use am_traits::{Base, BaseFault};
 use calculus::{
-    AggSource, Attr, Domain, Kind, OutOfMemory, QAgg, QTerm, Query, RelInfo, RelKey, Target, Text,
-    Value, kind_of,
+    AggSource, Domain, Kind, OutOfMemory, QAgg, QTerm, Query, Target, Text, Value, kind_of,
 };
+use memory::alone;
+use ovqp::kinds_at;
 use std::alloc::Global;
 
-fn kinds_of(alloc: Global, attrs: &[Attr]) -> Result<Vec<Kind>, OutOfMemory>
-    ensures { IfOk result (λ kinds. kinds.items ≡ map (λ a. a.kind) attrs.now) }
-{
-    let mut kinds = Vec::new(alloc);
-    for attr in attrs {
-        kinds.push(attr.kind)?;
-    }
-    Ok(kinds)
-}
-
-fn kinds_in(alloc: Global, info: &Option<RelInfo>) -> Result<Vec<Kind>, OutOfMemory>
-    ensures { IfOk result (λ kinds. kinds.items ≡ map (λ a. a.kind) (attrs_in info.now)) }
-{
-    match info {
-        Some(info) => kinds_of(alloc, info.attrs.items()),
-        None => Ok(Vec::new(alloc)),
-    }
-}
-
-/// The kinds of the attributes of the relation, view or catalogue under a key.
-fn kinds_at<B: Base>(alloc: Global, base: &mut B, key: &RelKey) -> Result<Vec<Kind>, BaseFault>
-    ensures told { (db : Db) → B.database base.old ≡ Some db → IfOk result (λ kinds. kinds.items ≡ kinds_at db key.now) }
-    ensures kept { B.database base.new ≡ B.database base.old }
-    ensures stays { (s : Db) → B.schema base.old ≡ Some s → B.schema base.new ≡ Some s }
-    ensures asked { (b : B) → B.asked b base.old → B.asked b base.new }
-    ensures same { B.left base.new ≡ B.left base.old }
-    ensures cause { HasCause (B.database base.old) (B.faults base.old) (B.faults base.new) result }
-{
-    let info = base.info(alloc, key)?;
-    let kinds = kinds_in(alloc, &info);
-    drop(info);
-    Ok(kinds?)
-}
-
+/// The kinds of the targets.
 fn target_kinds(alloc: Global, targets: &[Target]) -> Result<Vec<Kind>, OutOfMemory>
     ensures { IfOk result (λ kinds. kinds.items ≡ map (λ t. t.kind) targets.now) }
 {
@@ -80,7 +47,6 @@ fn source_kinds<B: Base>(
     ensures kept { B.database base.new ≡ B.database base.old }
     ensures stays { (s : Db) → B.schema base.old ≡ Some s → B.schema base.new ≡ Some s }
     ensures asked { (b : B) → B.asked b base.old → B.asked b base.new }
-    ensures same { B.left base.new ≡ B.left base.old }
     ensures cause { HasCause (B.database base.old) (B.faults base.old) (B.faults base.new) result }
 {
     match source {
@@ -89,15 +55,7 @@ fn source_kinds<B: Base>(
     }
 }
 
-/// The kinds of the attributes of one variable, as those of all variables.
-fn alone(alloc: Global, kinds: Vec<Kind>) -> Result<Vec<Vec<Kind>>, OutOfMemory>
-    ensures { IfOk result (λ vars. map vec_items vars.items ≡ kinds.items ∷ []) }
-{
-    let mut vars = Vec::new(alloc);
-    vars.push(kinds)?;
-    Ok(vars)
-}
-
+/// Whether the kind is there and one of texts.
 #[tactic(auto, unfolding(calculus::specs::Kinds::is_text_kind))]
 fn is_text_kind(kind: Option<Kind>) -> bool
     ensures { result ≡ is_text_kind kind }
@@ -142,7 +100,6 @@ pub(crate) fn none_value<B: Base>(
     ensures kept { B.database base.new ≡ B.database base.old }
     ensures stays { (s : Db) → B.schema base.old ≡ Some s → B.schema base.new ≡ Some s }
     ensures asked { (b : B) → B.asked b base.old → B.asked b base.new }
-    ensures same { B.left base.new ≡ B.left base.old }
     ensures cause { HasCause (B.database base.old) (B.faults base.old) (B.faults base.new) result }
 {
     let kinds = source_kinds(alloc, base, &agg.source)?;

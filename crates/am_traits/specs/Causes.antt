@@ -5,11 +5,11 @@ use Rattle.fault_io.specs.Causes.{Rose}
 use Rattle.am_traits.specs.declared.fault.BaseFault.{BaseFault}
 use Rattle.am_traits.specs.declared.fault.BaseFault.TheVariants as faults
 
--- this fault may come of a database that is told, or isn't: of the disk where its count rose, of damage where no database is told, and want of memory
+-- this fault may come of a database that is told, or isn't: of the disk where its count rose; else that stayed: of damage where no database is told, and want of memory
 abbrev pub MayCome : Option Db → ℕ → ℕ → BaseFault → Type 0
 MayCome told before now faults.Disk = Rose before now
-MayCome told before now (faults.Damaged file page) = told ≡ None
-MayCome told before now faults.OutOfMemory = Unit {0}
+MayCome told before now (faults.Damaged file page) = (told ≡ None) × (now ≡ before)
+MayCome told before now faults.OutOfMemory = now ≡ before
 
 -- an answer where the count stayed, or a fault that may come
 abbrev pub IsCaused : {T : Type 0} → Option Db → ℕ → ℕ → Result T BaseFault → Type 0

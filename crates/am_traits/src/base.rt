@@ -87,6 +87,9 @@ pub trait Base {
     /// Before any question it comes of itself.
     ghost starts: { (b : Self) → asked b b };
 
+    /// Questions leave the database as it is, and what scans still give.
+    ghost asks_keep: { (before now : Self) → asked before now → (database now ≡ database before) × (left now ≡ left before) };
+
     /// Questions leave nothing else on the disk, and only an opening raises its clock.
     ghost asks: { (before now : Self) → asked before now
         → OnlyAsked (clock before) (clock now) (ready before) (ready now) (left_since before) (left_since now) };
@@ -102,7 +105,6 @@ pub trait Base {
         ensures known { OnOk result (cat self.new 0) }
         ensures still_known { cat self.old 0 → (cat self.new 0) × (pages self.new ≡ pages self.old) }
         ensures reads { (n : ℕ) → cat self.old n → reads self.new ≤ reads self.old + n }
-        ensures same { left self.new ≡ left self.old }
         ensures asked { (b : Self) → asked b self.old → asked b self.new }
         ensures cause { HasCause (database self.old) (faults self.old) (faults self.new) result };
 
@@ -117,7 +119,6 @@ pub trait Base {
         ensures known { OnOk result (cat self.new 0) }
         ensures still_known { cat self.old 0 → (cat self.new 0) × (pages self.new ≡ pages self.old) }
         ensures reads { (n : ℕ) → cat self.old n → reads self.new ≤ reads self.old + n }
-        ensures same { left self.new ≡ left self.old }
         ensures asked { (b : Self) → asked b self.old → asked b self.new }
         ensures cause { HasCause (database self.old) (faults self.old) (faults self.new) result };
 
@@ -138,7 +139,6 @@ pub trait Base {
         ensures known { OnOk result (cat self.new 0) }
         ensures still_known { cat self.old 0 → (cat self.new 0) × (pages self.new ≡ pages self.old) }
         ensures reads { (n : ℕ) → cat self.old n → reads self.new ≤ reads self.old + n }
-        ensures same { left self.new ≡ left self.old }
         ensures asked { (b : Self) → asked b self.old → asked b self.new }
         ensures cause { HasCause (database self.old) (faults self.old) (faults self.new) result };
 
@@ -153,7 +153,6 @@ pub trait Base {
         ensures known { OnOk result (cat self.new 0) }
         ensures still_known { cat self.old 0 → (cat self.new 0) × (pages self.new ≡ pages self.old) }
         ensures reads { (n : ℕ) → cat self.old n → reads self.new ≤ reads self.old + n }
-        ensures same { left self.new ≡ left self.old }
         ensures asked { (b : Self) → asked b self.old → asked b self.new }
         ensures cause { HasCause (database self.old) (faults self.old) (faults self.new) result };
 
@@ -168,7 +167,6 @@ pub trait Base {
         ensures known { OnOk result (cat self.new 0) }
         ensures still_known { cat self.old 0 → (cat self.new 0) × (pages self.new ≡ pages self.old) }
         ensures reads { (n : ℕ) → cat self.old n → reads self.new ≤ reads self.old + (n + pages self.new key.now) }
-        ensures same { left self.new ≡ left self.old }
         ensures asked { (b : Self) → asked b self.old → asked b self.new }
         ensures cause { HasCause (database self.old) (faults self.old) (faults self.new) result };
 
@@ -182,7 +180,6 @@ pub trait Base {
         ensures known { OnOk result (cat self.new 0) }
         ensures still_known { cat self.old 0 → (cat self.new 0) × (pages self.new ≡ pages self.old) }
         ensures reads { (n : ℕ) → cat self.old n → reads self.new ≤ reads self.old + (n + pages self.new key.now) }
-        ensures same { left self.new ≡ left self.old }
         ensures asked { (b : Self) → asked b self.old → asked b self.new }
         ensures cause { HasCause (database self.old) (faults self.old) (faults self.new) result };
 
@@ -228,7 +225,6 @@ pub trait Base {
         ensures known { OnOk result (cat self.new 0) }
         ensures still_known { cat self.old 0 → (cat self.new 0) × (pages self.new ≡ pages self.old) }
         ensures reads { (n : ℕ) → cat self.old n → reads self.new ≤ reads self.old + n }
-        ensures same { left self.new ≡ left self.old }
         ensures asked { (b : Self) → asked b self.old → asked b self.new }
         ensures cause { HasCause (database self.old) (faults self.old) (faults self.new) result };
 
@@ -243,7 +239,6 @@ pub trait Base {
         ensures known { OnOk result (cat self.new 0) }
         ensures still_known { cat self.old 0 → (cat self.new 0) × (pages self.new ≡ pages self.old) }
         ensures reads { (n : ℕ) → cat self.old n → reads self.new ≤ reads self.old + n }
-        ensures same { left self.new ≡ left self.old }
         ensures asked { (b : Self) → asked b self.old → asked b self.new }
         ensures cause { HasCause (database self.old) (faults self.old) (faults self.new) result };
 
@@ -258,7 +253,6 @@ pub trait Base {
         ensures known { OnOk result (cat self.new 0) }
         ensures still_known { cat self.old 0 → (cat self.new 0) × (pages self.new ≡ pages self.old) }
         ensures reads { (n : ℕ) → cat self.old n → reads self.new ≤ reads self.old + n }
-        ensures same { left self.new ≡ left self.old }
         ensures asked { (b : Self) → asked b self.old → asked b self.new }
         ensures cause { HasCause (database self.old) (faults self.old) (faults self.new) result };
 
@@ -278,7 +272,6 @@ pub trait Base {
         ensures known { OnOk result (cat self.new 0) }
         ensures still_known { cat self.old 0 → (cat self.new 0) × (pages self.new ≡ pages self.old) }
         ensures reads { (n : ℕ) → cat self.old n → reads self.new ≤ reads self.old + n }
-        ensures same { left self.new ≡ left self.old }
         ensures asked { (b : Self) → asked b self.old → asked b self.new }
         ensures cause { HasCause (database self.old) (faults self.old) (faults self.new) result };
 

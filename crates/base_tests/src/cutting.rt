@@ -35,8 +35,7 @@ fn cut<R: Abort>(
 ) -> Result<Checked, CutFault> {
     let tree = tree(rt, alloc, bytes);
     let user = named(rt, alloc, user);
-    let made = cut_permits(alloc, base, &user, &tree);
-    drop(tree);
+    let made = cut_permits(alloc, tree, &user, base);
     drop(user);
     made
 }

@@ -37,8 +37,7 @@ fn expanded<R: Abort>(
     bytes: &[u8],
 ) -> Result<usize, u32> {
     let query = query(rt, alloc, bytes);
-    let made = expand(alloc, base, &query);
-    drop(query);
+    let made = expand(alloc, query, base);
     let told = match &made {
         Ok(query) => Ok(query.vars.items().len()),
         Err(ExpandFault::TooMany { vars }) => Err(*vars),
@@ -59,8 +58,7 @@ fn more_than_fifty_variables_are_too_many(rt: HostRuntime) {
 fn shown<R: Abort>(rt: &R, alloc: Global, bytes: &[u8]) -> Vec<u8> {
     let mut base = untold_sums(rt, alloc);
     let query = query(rt, alloc, bytes);
-    let made = expand(alloc, &mut base, &query);
-    drop(query);
+    let made = expand(alloc, query, &mut base);
     drop(base);
     let mut written = Vec::new(alloc);
     match &made {

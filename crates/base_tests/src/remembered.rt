@@ -25,8 +25,7 @@ fn asked_in_cutting<R: Abort>(rt: &R, alloc: Global, key: &[u8]) -> (u32, u32) {
     let bytes = asked(rt, alloc, key);
     let tree = tree(rt, alloc, &bytes);
     drop(bytes);
-    let is_cut = cut_permits(alloc, &mut tower, &bob, &tree).is_ok();
-    drop(tree);
+    let is_cut = cut_permits(alloc, tree, &bob, &mut tower).is_ok();
     drop(bob);
     assert!(rt; is_cut);
     (tower.views, tower.permits)
@@ -38,8 +37,7 @@ fn asked_in_expanding<R: Abort>(rt: &R, alloc: Global, key: &[u8]) -> u32 {
     let bytes = ten_over(rt, alloc, key);
     let query = query(rt, alloc, &bytes);
     drop(bytes);
-    let is_made = expand(alloc, &mut tower, &query).is_ok();
-    drop(query);
+    let is_made = expand(alloc, query, &mut tower).is_ok();
     assert!(rt; is_made);
     tower.views
 }

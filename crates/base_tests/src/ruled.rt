@@ -61,7 +61,7 @@ fn update<R: Abort>(rt: &R, alloc: Global, bytes: &[u8]) -> Update {
 /// Whether the checks of such an update are these once the rules are among them.
 fn has_checks<R: Abort>(rt: &R, alloc: Global, bytes: &[u8], numbers: &[i64]) -> bool {
     let mut base = laid(rt, alloc, &RULED);
-    let made = add_rules(alloc, &mut base, update(rt, alloc, bytes));
+    let made = add_rules(alloc, update(rt, alloc, bytes), &mut base);
     drop(base);
     let ruled = made.expect(rt, "an answer");
     ask_for(ruled.checks.items(), numbers)

@@ -14,7 +14,7 @@ use Rattle.calculus.specs.Database as database
 use Rattle.calculus.specs.IsDatabase.{IsDatabase, are_stored, index_stands, view_info_stands}
 use Rattle.calculus.specs.Lists.{is_any}
 use Rattle.calculus.specs.Structures.{is_index, is_structure, is_view}
-use Rattle.access_traits.specs.declared.file.RelFile.{RelFile}
+use Rattle.calculus.specs.declared.schema.RelFile.{RelFile}
 use Rattle.memory.specs.declared.out_of_memory.OutOfMemory.{OutOfMemory}
 use Rattle.page_chain.specs.Lists.{each}
 use Rattle.stored_database.specs.Printed.{Files, is_file}

@@ -18,7 +18,7 @@ use Rattle.calculus.specs.Value.{row_cmp}
 use Rattle.disk_model.specs.Disk.{Image}
 use Rattle.disk_model.specs.declared.disk.Addr.{Addr}
 use Rattle.access_traits.specs.Placed.{rows_of}
-use Rattle.access_traits.specs.declared.file.RelFile.{RelFile}
+use Rattle.calculus.specs.declared.schema.RelFile.{RelFile}
 use Rattle.heap_am.specs.Heap.{HeapFault, heap_rows}
 use Rattle.page_chain.specs.Lists.{◌>>=◌, each, once}
 use Rattle.page_chain.specs.Pages.{pages_of}

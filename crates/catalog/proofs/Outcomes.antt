@@ -11,7 +11,7 @@ use Rattle.page_chain.proofs.Carried.{cause_earlier}
 pub cause_on : {T : Type 0} (old mid : Option Image) (P Q : Image → Addr → Type 0) (before between now : ℕ) (result : Result T BaseFault) → between ≡ before
     → ((a : Addr) → IsAtFault mid P a → IsAtFault old Q a) → HasFileCause mid P between now result → HasFileCause old Q before now result
 cause_on old mid P Q before between now (Ok x) calm turn its = record { later = omega (arith, calm, its.later); caused = its.caused ∙ calm }
-cause_on {T} old mid P Q before between now (Err fault) calm turn its = cause_earlier {T = T} {U = T} old mid P Q before between now fault (omega (arith, calm)) turn its
+cause_on {T} old mid P Q before between now (Err fault) calm turn its = cause_earlier {T = T} {U = T} old mid P Q before between now fault calm turn its
 
 -- what holds in any case holds where the answer is an error
 pub on_err : {A E P : Type 0} (r : Result A E) → P → OnErr r P

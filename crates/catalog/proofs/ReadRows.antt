@@ -1,6 +1,6 @@
 -- What is read of the catalogues of a disk.
 use Rattle.std.proofs.Common.{◌≡◌, refl, sym, ap, subst, ◌∙◌, inl, inr, ℕ, not, ◌||◌, Bool, true, false, List, [], ◌∷◌, ◌++◌, map, Option, Some, None, option_map, Result, Ok, Err}
-use Rattle.std.specs.Prelude.{IfOk}
+use Rattle.std.specs.Prelude.{IfOk, IsTrue, is_some}
 use Rattle.std.specs.List.{AllByRecursion, list_any}
 use Rattle.std.specs.Option.{ForSome}
 use Rattle.std.specs.Ordering.{is_eq, nat_cmp}
@@ -18,7 +18,7 @@ use Rattle.calculus.specs.Lists.{differ_by}
 use Rattle.memory.specs.declared.out_of_memory.OutOfMemory.{OutOfMemory}
 use Rattle.disk_model.specs.Disk.{Image}
 use Rattle.disk_model.specs.declared.disk.Addr.{Addr}
-use Rattle.page_chain.specs.Chains.{chain}
+use Rattle.page_chain.specs.Chains.{chain, NoChain}
 use Rattle.page_chain.specs.Found.{Found}
 use Rattle.page_chain.specs.Lists.{◌>>=◌, each, once}
 use Rattle.page_chain.specs.Lying.{lying, bytes_of}
@@ -59,8 +59,9 @@ use Rattle.catalog_moves.specs.Bases.{IndexBases}
 use Rattle.catalog_rows.specs.declared.entries.EntryRow.{EntryRow}
 use Rattle.catalog.specs.declared.catalog.Catalog.{Catalog}
 use Rattle.catalog.specs.declared.loading.Chains.{Chains}
-use Rattle.catalog.specs.Knows.{Knows, NoDatabase}
-use Rattle.catalog.specs.Loading.{AreFound, HoldsFor, IfKnown, IsMadeOf, IsOfParts, NoCatalogueIn, NoneIn, SpellsNone}
+use Rattle.catalog.specs.Damage.{ShowsNone}
+use Rattle.catalog.specs.Knows.{Knows, NoDatabase, NoDatabaseAt}
+use Rattle.catalog.specs.Loading.{AreFound, HoldsFor, IfKnown, IsMadeOf, IsOfParts, NoCatalogueIn, SpellsNone}
 
 -- ---- what the rows of chains list
 
@@ -178,22 +179,31 @@ nothing_behind : {A B : Type 0} (o : Option A) → ◌≡◌ {A = Option B} (o >
 nothing_behind None = refl
 nothing_behind (Some x) = refl
 
-pub no_entries : (m : Image) (a : Addr) → NoneIn 5 m a → NoCatalogueIn m a
+without_entries : (m : Image) → chain most_pages (pages_of m 5) ≡ None → catalogue_in (pages_of m) ≡ None
 unfolding catalogue_in
-no_entries m a e = λ i. no_list entry_of entry_cmp (pages_of m 5) e i >>= (λ entries. listed column_of column_cmp (pages_of m 6) >>= (λ columns. listed part_of part_cmp (pages_of m 7) >>= (λ parts. Some (record { entries = entries; columns = columns; parts = parts }))))
+without_entries m e = λ i. no_list entry_of entry_cmp (pages_of m 5) e i >>= (λ entries. listed column_of column_cmp (pages_of m 6) >>= (λ columns. listed part_of part_cmp (pages_of m 7) >>= (λ parts. Some (record { entries = entries; columns = columns; parts = parts }))))
 
-pub no_columns : (m : Image) (a : Addr) → NoneIn 6 m a → NoCatalogueIn m a
+without_columns : (m : Image) → chain most_pages (pages_of m 6) ≡ None → catalogue_in (pages_of m) ≡ None
 unfolding catalogue_in
-no_columns m a e =
+without_columns m e =
     (λ i. listed entry_of entry_cmp (pages_of m 5) >>= (λ entries. no_list column_of column_cmp (pages_of m 6) e i >>= (λ columns. listed part_of part_cmp (pages_of m 7) >>= (λ parts. Some (record { entries = entries; columns = columns; parts = parts })))))
     ∙ nothing_behind (listed entry_of entry_cmp (pages_of m 5))
 
-pub no_parts : (m : Image) (a : Addr) → NoneIn 7 m a → NoCatalogueIn m a
+without_parts : (m : Image) → chain most_pages (pages_of m 7) ≡ None → catalogue_in (pages_of m) ≡ None
 unfolding catalogue_in
-no_parts m a e =
+without_parts m e =
     (λ i. listed entry_of entry_cmp (pages_of m 5) >>= (λ entries. listed column_of column_cmp (pages_of m 6) >>= (λ columns. no_list part_of part_cmp (pages_of m 7) e i >>= (λ parts. Some (record { entries = entries; columns = columns; parts = parts })))))
     ∙ (λ i. listed entry_of entry_cmp (pages_of m 5) >>= (λ entries. nothing_behind {B = Catalogue} (listed column_of column_cmp (pages_of m 6)) i))
     ∙ nothing_behind (listed entry_of entry_cmp (pages_of m 5))
+
+pub no_entries : (m : Image) (a : Addr) → NoChain 5 most_pages m a → NoCatalogueIn m a
+no_entries m a broken = (without_entries m broken.none, inl broken)
+
+pub no_columns : (m : Image) (a : Addr) → NoChain 6 most_pages m a → NoCatalogueIn m a
+no_columns m a broken = (without_columns m broken.none, inr (inl broken))
+
+pub no_parts : (m : Image) (a : Addr) → NoChain 7 most_pages m a → NoCatalogueIn m a
+no_parts m a broken = (without_parts m broken.none, inr (inr broken))
 
 -- ---- what is built of parts
 
@@ -289,6 +299,22 @@ known_made dba m db chains cat (Ok (Some c)) read found h made none = made_knows
 
 -- ---- pages that hold no catalogue
 
-pub no_catalogue : (dba : List ℕ) (m : Image) (a : Addr) → NoCatalogueIn m a → NoDatabase dba m a
-no_catalogue dba m a none db stands named owners =
+no_database : (dba : List ℕ) (m : Image) (a : Addr) → catalogue_in (pages_of m) ≡ None → NoDatabase dba m a
+no_database dba m a none db stands named owners =
     let s = spelled_on dba m db (record { stands = stands; dba_is = named; owners = owners }) in absurd (cc (sym s.there ∙ none))
+
+pub no_catalogue : (dba : List ℕ) (m : Image) (a : Addr) → NoCatalogueIn m a → NoDatabaseAt dba m a
+no_catalogue dba m a none = (no_database dba m a none.0, inl none.1)
+
+chained : (o : Option (List ℕ)) (numbers : List ℕ) → o ≡ Some numbers → IsTrue (is_some o)
+chained o numbers is = subst (λ o. IsTrue (is_some o)) (sym is) tt
+
+-- where all three chains were found, the first page of the entries shows it
+pub first_page : (m : Image) (chains : Chains) → AreFound m chains → ShowsNone m (record { file = 5; page = 0 })
+first_page m chains found = inr (record {
+  entries = chained _ _ found.entries.chain;
+  columns = chained _ _ found.columns.chain;
+  parts = chained _ _ found.parts.chain;
+  file = refl;
+  page = refl;
+})

@@ -17,7 +17,7 @@ use Rattle.calculus.specs.Structures.{is_keyed, is_structure}
 use Rattle.disk_model.specs.Disk.{Image}
 use Rattle.disk_model.specs.declared.disk.Addr.{Addr}
 use Rattle.access_traits.specs.Causes.{IsAtFault}
-use Rattle.access_traits.specs.declared.file.RelFile.{RelFile}
+use Rattle.calculus.specs.declared.schema.RelFile.{RelFile}
 use Rattle.page_chain.specs.Pages.{pages_of}
 use Rattle.plain_base.specs.Shown.{database_of}
 use Rattle.stored_database.specs.Catalogue.{Catalogue, IsCatalogue, catalogue_in}

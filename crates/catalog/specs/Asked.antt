@@ -6,7 +6,7 @@ use Rattle.calculus.specs.declared.schema.Spec.{Spec}
 use Rattle.calculus.specs.declared.schema.Spec.TheVariants.{Heap, Hash, Isam, View, Index}
 use Rattle.calculus.specs.Database.{Db, entry_at}
 use Rattle.calculus.specs.Structures.{is_structure, is_view}
-use Rattle.access_traits.specs.declared.file.RelFile.{RelFile}
+use Rattle.calculus.specs.declared.schema.RelFile.{RelFile}
 use Rattle.page_chain.specs.Lists.{each}
 use Rattle.stored_database.specs.Printed.{Files}
 use Rattle.stored_database.specs.Spelled.{domain_of}

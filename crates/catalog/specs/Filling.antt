@@ -7,7 +7,7 @@ use Rattle.calculus.specs.Change.{IsLawful, laid}
 use Rattle.calculus.specs.Database.{Db, Relation, relation_at}
 use Rattle.calculus.specs.Keys.{same_key}
 use Rattle.calculus.specs.Rows.{Row}
-use Rattle.access_traits.specs.declared.file.RelFile.{RelFile}
+use Rattle.calculus.specs.declared.schema.RelFile.{RelFile}
 use Rattle.page_cells.specs.RowBytes.{widths}
 use Rattle.page_chain.specs.Lists.{each}
 use Rattle.plain_base.specs.Shown.{database_of}

@@ -16,6 +16,7 @@ use Rattle.catalog_laws.specs.Loaded.{loaded_part}
 use Rattle.catalog_moves.specs.Bases.{IndexBases}
 use Rattle.catalog_moves.specs.Files.{files_of, is_in}
 use Rattle.catalog_pages.specs.Ends.{AreEnds}
+use Rattle.catalog.specs.Damage.{ShowsNone}
 use Rattle.catalog.specs.declared.catalog.Catalog.{Catalog}
 
 -- The pages hold the catalogue of this database by the files that are known, and the rows of its relations; in memory are its schema and the rows of the relations that were read; each index has the owner of its relation; and the table of files has places for what is there and for nothing else, and says the relation below each index.
@@ -30,6 +31,10 @@ pub record Knows (c : Catalog) (m : Image) (db : Db) : Type 0 where
 -- The pages stand for no database of this administrator in which each index has the owner of its relation.
 abbrev pub NoDatabase : List ℕ → Image → Addr → Type 0
 NoDatabase dba m a = (db : Db) → standing m ≡ Some db → db.dba ≡ dba → index_owners_agree db ≡ true → ⊥
+
+-- The same, and this page shows it.
+abbrev pub NoDatabaseAt : List ℕ → Image → Addr → Type 0
+NoDatabaseAt dba m a = NoDatabase dba m a × ShowsNone m a
 
 -- What is known in memory isn't that of a database on these pages.
 abbrev pub KnowsNone : Catalog → Image → Addr → Type 0

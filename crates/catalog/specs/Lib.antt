@@ -1,3 +1,4 @@
+pub mod Damage
 pub mod Knows
 pub mod Lies
 pub mod Filling

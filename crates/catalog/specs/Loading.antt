@@ -6,7 +6,6 @@ use Rattle.calculus.specs.IsDatabase.{IsDatabase}
 use Rattle.calculus.specs.Schema.{schema_of}
 use Rattle.disk_model.specs.Disk.{Image}
 use Rattle.disk_model.specs.declared.disk.Addr.{Addr}
-use Rattle.page_chain.specs.Chains.{chain}
 use Rattle.page_chain.specs.Found.{Found}
 use Rattle.page_chain.specs.Pages.{Pages, pages_of}
 use Rattle.plain_base.specs.Shown.{database_of}
@@ -21,6 +20,7 @@ use Rattle.catalog_moves.specs.Files.{files_of, is_in}
 use Rattle.catalog_pages.specs.declared.writing.Ends.{Ends}
 use Rattle.catalog.specs.declared.catalog.Catalog.{Catalog}
 use Rattle.catalog.specs.declared.loading.Chains.{Chains}
+use Rattle.catalog.specs.Damage.{BreaksOff}
 use Rattle.catalog.specs.Knows.{Knows}
 
 -- The rows of the three chains, and where they end.
@@ -29,13 +29,9 @@ pub record AreFound (m : Image) (c : Chains) : Type 0 where
   pub columns : Found most_pages (pages_of m 6) c.columns.rows c.columns.last
   pub parts : Found most_pages (pages_of m 7) c.parts.rows c.parts.last
 
--- the file has no chain from page 0 on
-abbrev pub NoneIn : ℕ → Image → Addr → Type 0
-NoneIn file m a = chain most_pages (pages_of m file) ≡ None
-
--- the pages hold no catalogue
+-- the pages hold no catalogue, and a chain of one breaks off at this page
 abbrev pub NoCatalogueIn : Image → Addr → Type 0
-NoCatalogueIn m a = catalogue_in (pages_of m) ≡ None
+NoCatalogueIn m a = (catalogue_in (pages_of m) ≡ None) × BreaksOff m a
 
 -- the catalogue spells no database of this administrator in which each index has the owner of its relation
 abbrev pub SpellsNone : List ℕ → Catalogue → Type 0

@@ -6,19 +6,19 @@ ghost use Rattle.access_traits.specs.Causes.{HasFileCause};
 ghost use Rattle.calculus.specs.Database.{Db};
 ghost use Rattle.calculus.specs.Schema.{schema_of};
 ghost use Rattle.disk_model.specs.Disk.{Image, RisesUpTo};
-ghost use Rattle.page_chain.specs.Chains.{chain};
+ghost use Rattle.page_chain.specs.Chains.{chain, NoChain};
 ghost use Rattle.page_chain.specs.Found.{Found};
 ghost use Rattle.page_chain.specs.Pages.{Pages, pages_of};
 ghost use Rattle.plain_base.specs.Shown.{database_of};
 ghost use Rattle.catalog_read.specs.Parts.{index_owners_agree};
 ghost use Rattle.stored_database.specs.Standing.{standing};
-ghost use Rattle.catalog.specs.Knows.{Knows, NoDatabase};
+ghost use Rattle.catalog.specs.Knows.{Knows, NoDatabaseAt};
 ghost use Rattle.catalog.specs.Lies.{LiesOn};
 ghost use Rattle.stored_database.specs.Catalogue.{IsCatalogue, most_pages};
 ghost use Rattle.stored_database.specs.Spelled.{spelled};
 ghost use Rattle.catalog_read.specs.Read.{catalogue_of, catalogue_shown};
 ghost use Rattle.catalog.specs.Reads.{HasChains};
-ghost use Rattle.catalog.specs.Loading.{AreFound, HoldsFor, IfKnown, IsMadeOf, IsOfParts, NoneIn, NoCatalogueIn, SpellsNone};
+ghost use Rattle.catalog.specs.Loading.{AreFound, HoldsFor, IfKnown, IsMadeOf, IsOfParts, NoCatalogueIn, SpellsNone};
 
 use crate::catalog::Catalog;
 use access_traits::PageStore;
@@ -54,7 +54,7 @@ fn rows_in<S: PageStore>(alloc: Global, store: &mut S, file: u32) -> Result<Chai
     ensures same { S.pages store.new ≡ S.pages store.old }
     ensures came { (s : S) → S.came s store.old → S.came s store.new }
     ensures only_read { (s : S) → S.only_read s store.old → S.only_read s store.new }
-    ensures cause { HasFileCause (S.pages store.old) (NoneIn file) (S.faults store.old) (S.faults store.new) result }
+    ensures cause { HasFileCause (S.pages store.old) (NoChain file most_pages) (S.faults store.old) (S.faults store.new) result }
 {
     chain_rows(alloc, store, file, MOST_PAGES)
 }
@@ -177,7 +177,7 @@ impl Catalog {
         ensures same { S.pages store.new ≡ S.pages store.old }
         ensures came { (s : S) → S.came s store.old → S.came s store.new }
         ensures only_read { (s : S) → S.only_read s store.old → S.only_read s store.new }
-        ensures cause { HasFileCause (S.pages store.old) (NoDatabase dba) (S.faults store.old) (S.faults store.new) result }
+        ensures cause { HasFileCause (S.pages store.old) (NoDatabaseAt dba) (S.faults store.old) (S.faults store.new) result }
     {
         let chains = read_chains(alloc, store)?;
         match made(alloc, dba, &chains)? {

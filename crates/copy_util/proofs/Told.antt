@@ -25,15 +25,15 @@ pub not_told : {X : Type 0} (told : Option X) → ((x : X) → told ≡ Some x �
 not_told None no_one = refl
 not_told (Some x) no_one = absurd (no_one x refl)
 
--- what isn't of the database is caused by nothing of it
-pub not_of_base : {T : Type 0} (told : Option Db) (before now : ℕ) (result : Result T CopyFault) → (IsOfBase result → ⊥) → copy.IsCaused told before now result
-not_of_base told before now (Ok x) other = tt
-not_of_base told before now (Err (No number)) other = tt
-not_of_base told before now (Err (BadRow row)) other = tt
-not_of_base told before now (Err NoFile) other = tt
-not_of_base told before now (Err Shelf) other = tt
-not_of_base told before now (Err (Base fault)) other = absurd (other tt)
-not_of_base told before now (Err OutOfMemory) other = tt
+-- what isn't of the database is caused by nothing of it, where the count stayed
+pub not_of_base : {T : Type 0} (told : Option Db) (before now : ℕ) (result : Result T CopyFault) → now ≡ before → (IsOfBase result → ⊥) → copy.IsCaused told before now result
+not_of_base told before now (Ok x) stayed other = stayed
+not_of_base told before now (Err (No number)) stayed other = stayed
+not_of_base told before now (Err (BadRow row)) stayed other = stayed
+not_of_base told before now (Err NoFile) stayed other = stayed
+not_of_base told before now (Err Shelf) stayed other = stayed
+not_of_base told before now (Err (Base fault)) stayed other = absurd (other tt)
+not_of_base told before now (Err OutOfMemory) stayed other = stayed
 
 -- ---- the number of a bad row
 
@@ -71,6 +71,9 @@ pub numbered_cause : (told : Option Db) (rel : RelKey) (columns : List CopyCol) 
 numbered_cause told rel columns out bad before now (Ok answer) stayed lawful is large = stayed
 numbered_cause told rel columns out None before now (Err fault) stayed lawful is large = absurd large.1
 numbered_cause told rel columns out (Some n) before now (Err fault) stayed lawful is large =
-    subst (MayCome told before now) (sym large.0) (not_told told λ db e.
-    let within : n ≤ length (rows_at db rel) = bad_within columns (rows_at db rel) n (is db e) in
-    omega (arith, within, few_rows db rel (lawful db e), large.1))
+    subst (MayCome told before now) (sym large.0) (
+      not_told told (λ db e.
+          let within : n ≤ length (rows_at db rel) = bad_within columns (rows_at db rel) n (is db e) in
+          omega (arith, within, few_rows db rel (lawful db e), large.1)),
+      stayed,
+    )

@@ -1,5 +1,5 @@
 -- Why a query isn't expanded, and what it answers once it is.
-use Rattle.std.proofs.Common.{◌≡◌, refl, sym, ap, ◌∙◌, subst, ℕ, ◌-◌, ◌^◌, ◌<◌, ◌≤◌, true, false, ◌&&◌, nat_le, List, [], ◌∷◌, length, Option, Some, None, Err, Result, Ok, IfErr, IsTrue, is_some, arith}
+use Rattle.std.proofs.Common.{◌≡◌, refl, sym, ap, ◌∙◌, subst, ℕ, ◌-◌, ◌^◌, ◌<◌, ◌≤◌, true, false, ◌&&◌, nat_le, List, [], ◌∷◌, length, Option, Some, None, Err, Result, arith}
 use Rattle.std.specs.Prelude.{min}
 use Rattle.std.proofs.lemmas.Bool.Decides.{nat_tests}
 use Rattle.std.specs.List.{list_all}
@@ -38,17 +38,17 @@ none_told : (told : Option Db) → ((db : Db) → told ≡ Some db → ⊥) → 
 none_told None f = refl
 none_told (Some db) f = absurd (f db refl)
 
-fails : (q : Query) (told mid_told : Option Db) (before mid now : ℕ) → mid_told ≡ told → before ≤ mid → ((db : Db) → told ≡ Some db → query_permitted db Free q ≡ true)
+fails : (q : Query) (told mid_told : Option Db) (before mid now : ℕ) → mid_told ≡ told → mid ≡ before → ((db : Db) → told ≡ Some db → query_permitted db Free q ≡ true)
     → (fault : CutFault) → MayFail (IsRefusedFreely q) mid_told mid now fault → MayNotExpand q told before now (unexpanded fault)
-fails q told mid_told before mid now e l free (cut.NoPermit var) c = none_told told (λ db h. cc (sym (free db h) ∙ (c db (e ∙ h)).0))
-fails q told mid_told before mid now e l free cut.TooMany c = none_told told (λ db h. c db (e ∙ h))
-fails q told mid_told before mid now e l free (cut.Base base.Disk) c = omega arith
-fails q told mid_told before mid now e l free (cut.Base (base.Damaged file page)) c = sym e ∙ c
-fails q told mid_told before mid now e l free (cut.Base base.OutOfMemory) c = tt
-fails q told mid_told before mid now e l free cut.OutOfMemory c = tt
+fails q told mid_told before mid now e l free (cut.NoPermit var) c = (none_told told (λ db h. cc (sym (free db h) ∙ (c.1 db (e ∙ h)).0)), c.0 ∙ l)
+fails q told mid_told before mid now e l free cut.TooMany c = (none_told told (λ db h. c.1 db (e ∙ h)), c.0 ∙ l)
+fails q told mid_told before mid now e l free (cut.Base base.Disk) c = omega (arith, c, l)
+fails q told mid_told before mid now e l free (cut.Base (base.Damaged file page)) c = (sym e ∙ c.0, c.1 ∙ l)
+fails q told mid_told before mid now e l free (cut.Base base.OutOfMemory) c = c ∙ l
+fails q told mid_told before mid now e l free cut.OutOfMemory c = c ∙ l
 
 pub expand_failed : {S T : Type 0} (q : Query) (told mid_told : Option Db) (before mid now : ℕ) (fault : CutFault) (made : ExpandFault)
-    → HasCause {T = S} (IsRefusedFreely q) mid_told mid now (Err fault) → made ≡ unexpanded fault → mid_told ≡ told → before ≤ mid → ((db : Db) → told ≡ Some db → query_permitted db Free q ≡ true)
+    → HasCause {T = S} (IsRefusedFreely q) mid_told mid now (Err fault) → made ≡ unexpanded fault → mid_told ≡ told → mid ≡ before → ((db : Db) → told ≡ Some db → query_permitted db Free q ≡ true)
     → HasExpandCause {T = T} q told before now (Err made)
 expand_failed q told mid_told before mid now fault made c m e l free =
     let k = c.later in record { later = omega (arith, k, l); caused = subst (λ f. MayNotExpand q told before now f) (sym m) (fails q told mid_told before mid now e l free fault c.caused) }
@@ -68,11 +68,6 @@ none_many db q fault made m = subst (HasMany db q) (sym m) (go fault)
 pub expand_behind : {T : Type 0} (q : Query) (told mid_told : Option Db) (before mid now : ℕ) (result : Result T ExpandFault) → HasExpandCause q mid_told mid now result → mid_told ≡ told → mid ≡ before
     → HasExpandCause q told before now result
 expand_behind {T} q told mid_told before mid now result c e m = subst (λ d. HasExpandCause {T = T} q d before now result) e (subst (λ n. HasExpandCause {T = T} q mid_told n now result) m c)
-
--- where the schema is known, and stays, what is known later was known before
-pub known_before : (mid new : Option Db) → IsTrue (is_some mid) → ((s : Db) → mid ≡ Some s → new ≡ Some s) → (s : Db) → new ≡ Some s → mid ≡ Some s
-known_before (Some t) new k stays s h = let same : t ≡ s = cc (sym (stays t refl) ∙ h) in ap (λ s. Some s) same
-known_before None new k stays s h = absurd (cc k)
 
 -- ---- how many variables
 

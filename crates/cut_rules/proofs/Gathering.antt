@@ -1,5 +1,5 @@
 -- What is said of all aggregates of a query, and why one of them may not be read.
-use Rattle.std.proofs.Common.{◌≡◌, refl, sym, ap, ◌∙◌, ℕ, ◌<◌, ◌≤◌, Bool, true, false, List, map, length, get_or, Option, Some, Err}
+use Rattle.std.proofs.Common.{◌≡◌, refl, sym, ap, ◌∙◌, ℕ, ◌<◌, Bool, true, false, List, map, length, get_or, Option, Some, Err}
 use Rattle.std.specs.List.{list_all}
 use Rattle.std.proofs.lemmas.Simd.{map-map}
 use Rattle.std.proofs.lemmas.List.Folds.{list_all-map, list_all_at}
@@ -24,8 +24,8 @@ all_under p f xs ys h = sym (list_all-map p f xs) ∙ ap (list_all p) h
 pub map_under : {X Y Z : Type 0} (k : Y → Z) (f : X → Y) (xs : List X) (ys : List Y) → map f xs ≡ ys → map (λ x. k (f x)) xs ≡ map k ys
 map_under k f xs ys h = sym (map-map k f xs) ∙ ap (map k) h
 
--- an error of another answer, behind what leaves the database as it is
-pub error_behind : {S T : Type 0} (refused other : Db → Type 0) (told mid_told : Option Db) (before mid now : ℕ) (fault : TextFault) → mid_told ≡ told → before ≤ mid
+-- an error of another answer, behind what leaves the database, and the count of faults, as they are
+pub error_behind : {S T : Type 0} (refused other : Db → Type 0) (told mid_told : Option Db) (before mid now : ℕ) (fault : TextFault) → mid_told ≡ told → mid ≡ before
     → ((db : Db) → told ≡ Some db → refused db → other db) → HasCause {T = S} refused mid_told mid now (Err fault) → HasCause {T = T} other told before now (Err fault)
 error_behind {S} {T} refused other told mid_told before mid now fault e l f c =
     caused_behind {T = T} refused other told mid_told before mid now (Err fault) e l f (record { later = c.later; caused = c.caused })

@@ -1,6 +1,6 @@
 //! Aggregates over what their sources stand for, cut down to what may be read.
 
-ghost use Rattle.std.specs.Prelude.{◌≡◌, ◌≤◌, [], ◌∷◌, ◌++◌, true, false, map, length, Some, IfErr, IfOk, OnOk, option_map};
+ghost use Rattle.std.specs.Prelude.{◌≡◌, ◌≤◌, [], ◌∷◌, ◌++◌, true, false, map, length, Some, IfOk, OnOk, option_map};
 ghost use Rattle.std.specs.List.{list_all};
 ghost use Rattle.std.specs.Option.{option_to_list};
 ghost use Rattle.calculus.specs.Database.{Db};
@@ -12,7 +12,6 @@ ghost use Rattle.quel_meaning.specs.FitQueries.{kept_or_viewed, source_fits, sou
 ghost use Rattle.view_expand.specs.Asking.{who_of};
 ghost use Rattle.view_expand.specs.Causes.{HasCause};
 ghost use Rattle.view_expand.specs.Found.{IsFound};
-ghost use Rattle.view_expand.specs.declared.fault.TextFault.TheVariants.{OutOfMemory as NoMemory};
 ghost use Rattle.view_text.specs.Halves.{all_of};
 ghost use Rattle.view_text.specs.PutIn.{put_aggregate};
 ghost use Rattle.view_text.specs.Replaced.{no_aggregate, replaced};
@@ -23,7 +22,7 @@ use crate::attributes::aggregate_uses;
 use crate::sources::put_source;
 use am_traits::Base;
 use calculus::{AggSource, List, Name, OutOfMemory, QAgg, QQual, QTerm, Query, TryCopy};
-use memory::{both, copies};
+use memory::{both, push};
 use std::alloc::Global;
 use view_expand::{TextFault, TextsFound};
 use view_sizes::aggregates_of;
@@ -136,7 +135,6 @@ fn put_aggregate<B: Base>(
     ensures kept { B.database base.new ≡ B.database base.old }
     ensures stays { (s : Db) → B.schema base.old ≡ Some s → B.schema base.new ≡ Some s }
     ensures asked { (b : B) → B.asked b base.old → B.asked b base.new }
-    ensures same { B.left base.new ≡ B.left base.old }
     ensures cause { HasCause (λ db. source_permitted (readable db (who_of (option_map (λ n. n.now) who.entry))) (used_in_aggregate g.now) g.now.source ≡ false) (B.database base.old) (B.faults base.old) (B.faults base.new) result }
 {
     let attrs = aggregate_uses(alloc, g)?;
@@ -146,17 +144,6 @@ fn put_aggregate<B: Base>(
             Err(_) => Err(TextFault::OutOfMemory),
         },
         Err(error) => Err(error),
-    }
-}
-
-/// Puts an aggregate behind those that are there.
-fn put_behind(made: &mut Vec<QAgg>, one: QAgg) -> Result<(), TextFault>
-    ensures items { OnOk result (made.new.items ≡ made.old.items ++ one ∷ []) }
-    ensures cause { IfErr result (λ fault. fault ≡ NoMemory) }
-{
-    match made.push(one) {
-        Ok(()) => Ok(()),
-        Err(_) => Err(TextFault::OutOfMemory),
     }
 }
 
@@ -180,12 +167,11 @@ fn put_all<B: Base>(
     ensures kept { B.database base.new ≡ B.database base.old }
     ensures stays { (s : Db) → B.schema base.old ≡ Some s → B.schema base.new ≡ Some s }
     ensures asked { (b : B) → B.asked b base.old → B.asked b base.new }
-    ensures same { B.left base.new ≡ B.left base.old }
     ensures cause { HasCause (λ db. list_all (λ g. source_permitted (readable db (who_of (option_map (λ n. n.now) who.entry))) (used_in_aggregate g.now) g.now.source) aggregates.now ≡ false) (B.database base.old) (B.faults base.old) (B.faults base.new) result }
 {
     for aggregate in aggregates {
         match put_aggregate(alloc, base, who, *aggregate, texts, found) {
-            Ok(one) => put_behind(made, one)?,
+            Ok(one) => push(made, one)?,
             Err(error) => return Err(error),
         }
     }
@@ -213,7 +199,6 @@ pub(crate) fn put_aggregates<B: Base>(
     ensures kept { B.database base.new ≡ B.database base.old }
     ensures stays { (s : Db) → B.schema base.old ≡ Some s → B.schema base.new ≡ Some s }
     ensures asked { (b : B) → B.asked b base.old → B.asked b base.new }
-    ensures same { B.left base.new ≡ B.left base.old }
     ensures cause { HasCause (λ db. aggregates_permitted (readable db (who_of (option_map (λ n. n.now) who.entry))) query.now ≡ false) (B.database base.old) (B.faults base.old) (B.faults base.new) result }
 {
     let aggregates = aggregates_of(alloc, query)?;

@@ -19,8 +19,9 @@ ghost use Rattle.view_text.specs.TextOf.{cut, kept_text};
 
 use am_traits::Base;
 use calculus::{List, Name, OutOfMemory, QQual, RelKey, TryCopy, Update, UpdateOp};
+use memory::{alone, push};
 use std::alloc::Global;
-use view_expand::{Right, TextFault, TextsFound, cut_remembering};
+use view_expand::{Right, TextFault, TextsFound, cut};
 use view_text::{Text, all_of};
 
 /// The right to change the variable at a place; `None` where its rows stay.
@@ -51,10 +52,7 @@ fn put_condition(condition: Option<QQual>, conditions: &mut Vec<QQual>) -> Resul
     ensures { OnOk result (conditions.new.items ≡ conditions.old.items ++ option_to_list condition) }
 {
     match condition {
-        Some(condition) => match conditions.push(condition) {
-            Ok(()) => Ok(()),
-            Err(_) => Err(OutOfMemory),
-        },
+        Some(condition) => push(conditions, condition),
         None => Ok(()),
     }
 }
@@ -79,10 +77,9 @@ pub(crate) fn put_cut<B: Base>(
     ensures kept { B.database base.new ≡ B.database base.old }
     ensures stays { (s : Db) → B.schema base.old ≡ Some s → B.schema base.new ≡ Some s }
     ensures asked { (b : B) → B.asked b base.old → B.asked b base.new }
-    ensures same { B.left base.new ≡ B.left base.old }
     ensures cause { HasTextCause (λ db. permitted db (who_of (option_map (λ n. n.now) who.entry)) (right_of right) attrs.now key.now ≡ false) (B.database base.old) (B.faults base.old) (B.faults base.new) result }
 {
-    match cut_remembering(alloc, base, who, right, attrs, key, found) {
+    match cut(alloc, base, who, right, attrs, key, found) {
         Ok(condition) => match put_condition(condition, conditions) {
             Ok(()) => Ok(()),
             Err(_) => Err(TextFault::OutOfMemory),
@@ -109,7 +106,6 @@ fn put_read_cut<B: Base>(
     ensures kept { B.database base.new ≡ B.database base.old }
     ensures stays { (s : Db) → B.schema base.old ≡ Some s → B.schema base.new ≡ Some s }
     ensures asked { (b : B) → B.asked b base.old → B.asked b base.new }
-    ensures same { B.left base.new ≡ B.left base.old }
     ensures cause { HasTextCause (λ db. read_permitted db (who_of (option_map (λ n. n.now) who.entry)) read.now key.now ≡ false) (B.database base.old) (B.faults base.old) (B.faults base.new) result }
 {
     match read {
@@ -138,7 +134,6 @@ fn put_cuts<B: Base>(
     ensures kept { B.database base.new ≡ B.database base.old }
     ensures stays { (s : Db) → B.schema base.old ≡ Some s → B.schema base.new ≡ Some s }
     ensures asked { (b : B) → B.asked b base.old → B.asked b base.new }
-    ensures same { B.left base.new ≡ B.left base.old }
     ensures cause { HasTextCause (λ db. change_permitted db (who_of (option_map (λ n. n.now) who.entry)) (right_of right) places.now key.now read.now ≡ false) (B.database base.old) (B.faults base.old) (B.faults base.new) result }
 {
     match put_cut(alloc, base, who, right, places, key, conditions, found) {
@@ -151,12 +146,8 @@ fn put_cuts<B: Base>(
 fn only(alloc: Global, key: &RelKey) -> Result<Vec<RelKey>, OutOfMemory>
     ensures { IfOk result (λ keys. keys.items ≡ key.now ∷ []) }
 {
-    let mut keys = Vec::new(alloc);
     match key.copy(alloc) {
-        Ok(key) => match keys.push(key) {
-            Ok(()) => Ok(keys),
-            Err(_) => Err(OutOfMemory),
-        },
+        Ok(key) => alone(alloc, key),
         Err(error) => Err(error),
     }
 }
@@ -200,7 +191,6 @@ pub(crate) fn changed_text<B: Base>(
     ensures kept { B.database base.new ≡ B.database base.old }
     ensures stays { (s : Db) → B.schema base.old ≡ Some s → B.schema base.new ≡ Some s }
     ensures asked { (b : B) → B.asked b base.old → B.asked b base.new }
-    ensures same { B.left base.new ≡ B.left base.old }
     ensures cause { HasTextCause (λ db. change_permitted db (who_of (option_map (λ n. n.now) who.entry)) (right_of right) places.now key.now read.now ≡ false) (B.database base.old) (B.faults base.old) (B.faults base.new) result }
 {
     let mut conditions = Vec::new(alloc);
@@ -225,10 +215,7 @@ fn put_copy(alloc: Global, qual: &QQual, quals: &mut Vec<QQual>) -> Result<(), O
     ensures { OnOk result (quals.new.items ≡ quals.old.items ++ qual.now ∷ []) }
 {
     match qual.copy(alloc) {
-        Ok(qual) => match quals.push(qual) {
-            Ok(()) => Ok(()),
-            Err(_) => Err(OutOfMemory),
-        },
+        Ok(qual) => push(quals, qual),
         Err(error) => Err(error),
     }
 }
@@ -249,7 +236,6 @@ pub(crate) fn appended_cut<B: Base>(
     ensures kept { B.database base.new ≡ B.database base.old }
     ensures stays { (s : Db) → B.schema base.old ≡ Some s → B.schema base.new ≡ Some s }
     ensures asked { (b : B) → B.asked b base.old → B.asked b base.new }
-    ensures same { B.left base.new ≡ B.left base.old }
     ensures cause { HasTextCause (λ db. permitted db (who_of (option_map (λ n. n.now) who.entry)) Append u.now.places u.now.rel ≡ false) (B.database base.old) (B.faults base.old) (B.faults base.new) result }
 {
     let mut quals = Vec::new(alloc);

@@ -42,7 +42,6 @@ fn put_asked<B: Base>(
     ensures kept { B.database base.new ≡ B.database base.old }
     ensures stays { (s : Db) → B.schema base.old ≡ Some s → B.schema base.new ≡ Some s }
     ensures asked { (b : B) → B.asked b base.old → B.asked b base.new }
-    ensures same { B.left base.new ≡ B.left base.old }
     ensures cause { HasCause (λ db var. (query_permitted db (who_of (option_map (λ n. n.now) who.entry)) asked.now.query ≡ false) × IsRefusedIn db (who_of (option_map (λ n. n.now) who.entry)) asked.now.query var) (B.database base.old) (B.faults base.old) (B.faults base.new) result }
 {
     match put_in(alloc, base, who, &asked.query, found) {
@@ -74,7 +73,6 @@ fn put_all_asked<B: Base>(
     ensures kept { B.database base.new ≡ B.database base.old }
     ensures stays { (s : Db) → B.schema base.old ≡ Some s → B.schema base.new ≡ Some s }
     ensures asked { (b : B) → B.asked b base.old → B.asked b base.new }
-    ensures same { B.left base.new ≡ B.left base.old }
     ensures cause { HasCause (λ db var. (list_all (λ a. query_permitted db (who_of (option_map (λ n. n.now) who.entry)) a.query) asked.now ≡ false) × ((a : AskedFor) × (Contains asked.now a) × IsRefusedIn db (who_of (option_map (λ n. n.now) who.entry)) a.query var)) (B.database base.old) (B.faults base.old) (B.faults base.new) result }
 {
     let mut rest = asked;
@@ -101,7 +99,6 @@ fn asked_tree<B: Base>(
     ensures kept { B.database base.new ≡ B.database base.old }
     ensures stays { (s : Db) → B.schema base.old ≡ Some s → B.schema base.new ≡ Some s }
     ensures asked { (b : B) → B.asked b base.old → B.asked b base.new }
-    ensures same { B.left base.new ≡ B.left base.old }
     ensures cause { HasCause (λ db var. (list_all (λ a. query_permitted db (who_of (option_map (λ n. n.now) who.entry)) a.query) asked.now ≡ false) × ((a : AskedFor) × (Contains asked.now a) × IsRefusedIn db (who_of (option_map (λ n. n.now) who.entry)) a.query var)) (B.database base.old) (B.faults base.old) (B.faults base.new) result }
 {
     let mut made = Vec::new(alloc);
@@ -127,7 +124,6 @@ fn put_in_tree<B: Base>(
     ensures kept { B.database base.new ≡ B.database base.old }
     ensures stays { (s : Db) → B.schema base.old ≡ Some s → B.schema base.new ≡ Some s }
     ensures asked { (b : B) → B.asked b base.old → B.asked b base.new }
-    ensures same { B.left base.new ≡ B.left base.old }
     ensures cause { HasCause (λ db var. (checked_permitted db (asks user.now) tree.now ≡ false) × IsRefusedBy db (asks user.now) tree.now var) (B.database base.old) (B.faults base.old) (B.faults base.new) result }
 {
     match tree {
@@ -150,20 +146,21 @@ fn put_in_tree<B: Base>(
 /// relation of an append.
 pub fn cut_permits<B: Base>(
     alloc: Global,
-    base: &mut B,
+    tree: Checked,
     user: &Name,
-    tree: &Checked,
+    base: &mut B,
 ) -> Result<Checked, CutFault>
-    requires { (db : Db) → B.database base.old ≡ Some db → is_fit_with_views db user.now tree.now ≡ true }
-    ensures told { (db : Db) → B.database base.old ≡ Some db → IfOk result (λ made. made ≡ put_in_tree db (asks user.now) tree.now) }
-    ensures means { (db : Db) → B.database base.old ≡ Some db → (shelf : Files) → IfOk result (λ made. tree_meaning db shelf Free user.now made ≡ tree_meaning db shelf (asks user.now) user.now tree.now) }
-    ensures permitted { (db : Db) → B.database base.old ≡ Some db → OnOk result (checked_permitted db (asks user.now) tree.now ≡ true) }
+    requires { (db : Db) → B.database base.old ≡ Some db → is_fit_with_views db user.now tree ≡ true }
+    ensures told { (db : Db) → B.database base.old ≡ Some db → IfOk result (λ made. made ≡ put_in_tree db (asks user.now) tree) }
+    ensures means { (db : Db) → B.database base.old ≡ Some db → (shelf : Files) → IfOk result (λ made. tree_meaning db shelf Free user.now made ≡ tree_meaning db shelf (asks user.now) user.now tree) }
+    ensures permitted { (db : Db) → B.database base.old ≡ Some db → OnOk result (checked_permitted db (asks user.now) tree ≡ true) }
     ensures kept { B.database base.new ≡ B.database base.old }
     ensures stays { (s : Db) → B.schema base.old ≡ Some s → B.schema base.new ≡ Some s }
     ensures asked { (b : B) → B.asked b base.old → B.asked b base.new }
-    ensures same { B.left base.new ≡ B.left base.old }
-    ensures cause { HasCause (λ db var. (checked_permitted db (asks user.now) tree.now ≡ false) × IsRefusedBy db (asks user.now) tree.now var) (B.database base.old) (B.faults base.old) (B.faults base.new) result }
+    ensures cause { HasCause (λ db var. (checked_permitted db (asks user.now) tree ≡ false) × IsRefusedBy db (asks user.now) tree var) (B.database base.old) (B.faults base.old) (B.faults base.new) result }
 {
     let mut found = TextsFound::new(alloc);
-    put_in_tree(alloc, base, user, tree, &mut found)
+    let made = put_in_tree(alloc, base, user, &tree, &mut found);
+    drop(tree);
+    made
 }

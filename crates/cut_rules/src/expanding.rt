@@ -15,12 +15,13 @@ use crate::put_in::put_in;
 use crate::{CutFault, ExpandFault};
 use am_traits::{Base, BaseFault};
 use calculus::Query;
+use calculus::limits::MOST_EXPANDED_VARIABLES;
 use std::alloc::Global;
 use view_expand::TextsFound;
 use view_sizes::expanded_variables;
 
 /// The variables that may result.
-const MOST_VARIABLES: u64 = 50;
+const MOST_VARIABLES: u64 = MOST_EXPANDED_VARIABLES as u64;
 
 /// The number, or the greatest one of 32 bits.
 fn capped(vars: u64) -> u32
@@ -58,7 +59,6 @@ fn expand_fixed<B: Base>(alloc: Global, base: &mut B, query: &Query) -> Result<Q
     ensures kept { B.database base.new ≡ B.database base.old }
     ensures stays { (s : Db) → B.schema base.old ≡ Some s → B.schema base.new ≡ Some s }
     ensures asked { (b : B) → B.asked b base.old → B.asked b base.new }
-    ensures same { B.left base.new ≡ B.left base.old }
     ensures cause { HasExpandCause query.now (B.database base.old) (B.faults base.old) (B.faults base.new) result }
 {
     let vars = expanded_variables(alloc, base, query)?;
@@ -77,22 +77,23 @@ fn expand_fixed<B: Base>(alloc: Global, base: &mut B, query: &Query) -> Result<Q
 /// `TooMany` exactly where more than 50 variables result, with their number: the schema decides that, which the
 /// first question fixes. Not for the query of an
 /// update, whose changed variable stays what it is.
-pub fn expand<B: Base>(alloc: Global, base: &mut B, query: &Query) -> Result<Query, ExpandFault>
-    requires { (db : Db) → B.database base.old ≡ Some db → reads_fit (kept_or_viewed db) db query.now ≡ true }
-    ensures told { (db : Db) → B.database base.old ≡ Some db → IfOk result (λ made. made ≡ put_in db Free query.now) }
-    ensures answer { (db : Db) → B.database base.old ≡ Some db → aggregates_nest_none query.now ≡ true → IfOk result (λ made. answer db Free made ≡ answer db Free query.now) }
-    ensures lacks { (db : Db) → B.database base.old ≡ Some db → aggregates_nest_none query.now ≡ true → IfOk result (λ made. lacks db Free made ≡ lacks db Free query.now) }
-    ensures few { (db : Db) → B.database base.old ≡ Some db → OnOk result (expanded_variables db query.now ≤ 50) }
-    ensures few_by_schema { IsTrue B.fixes → (s : Db) → B.schema base.new ≡ Some s → reads_fit (kept_or_viewed s) s query.now ≡ true
-        → OnOk result (expanded_variables s query.now ≤ 50) }
-    ensures many_by_schema { IsTrue B.fixes → (s : Db) → B.schema base.new ≡ Some s → reads_fit (kept_or_viewed s) s query.now ≡ true
-        → IfErr result (HasMany s query.now) }
+pub fn expand<B: Base>(alloc: Global, query: Query, base: &mut B) -> Result<Query, ExpandFault>
+    requires { (db : Db) → B.database base.old ≡ Some db → reads_fit (kept_or_viewed db) db query ≡ true }
+    ensures told { (db : Db) → B.database base.old ≡ Some db → IfOk result (λ made. made ≡ put_in db Free query) }
+    ensures answer { (db : Db) → B.database base.old ≡ Some db → aggregates_nest_none query ≡ true → IfOk result (λ made. answer db Free made ≡ answer db Free query) }
+    ensures lacks { (db : Db) → B.database base.old ≡ Some db → aggregates_nest_none query ≡ true → IfOk result (λ made. lacks db Free made ≡ lacks db Free query) }
+    ensures few { (db : Db) → B.database base.old ≡ Some db → OnOk result (expanded_variables db query ≤ 50) }
+    ensures few_by_schema { IsTrue B.fixes → (s : Db) → B.schema base.new ≡ Some s → reads_fit (kept_or_viewed s) s query ≡ true
+        → OnOk result (expanded_variables s query ≤ 50) }
+    ensures many_by_schema { IsTrue B.fixes → (s : Db) → B.schema base.new ≡ Some s → reads_fit (kept_or_viewed s) s query ≡ true
+        → IfErr result (HasMany s query) }
     ensures kept { B.database base.new ≡ B.database base.old }
     ensures stays { (s : Db) → B.schema base.old ≡ Some s → B.schema base.new ≡ Some s }
     ensures asked { (b : B) → B.asked b base.old → B.asked b base.new }
-    ensures same { B.left base.new ≡ B.left base.old }
-    ensures cause { HasExpandCause query.now (B.database base.old) (B.faults base.old) (B.faults base.new) result }
+    ensures cause { HasExpandCause query (B.database base.old) (B.faults base.old) (B.faults base.new) result }
 {
     let _entries = base.count()?;
-    expand_fixed(alloc, base, query)
+    let made = expand_fixed(alloc, base, &query);
+    drop(query);
+    made
 }

@@ -17,16 +17,13 @@ ghost use Rattle.view_text.specs.Scoped.{is_scoped};
 ghost use Rattle.view_text.specs.Texts.{texts_vars};
 
 use crate::aggregates::put_aggregates;
-use crate::texts::{are_few, fault_at, put_texts};
+use crate::texts::{PLACES, are_few, fault_at, put_texts};
 use crate::{CutFault, NO_VARIABLE};
 use am_traits::Base;
 use calculus::{Name, QAgg, Query};
 use std::alloc::Global;
 use view_expand::TextsFound;
 use view_text::{Text, put_whole};
-
-/// The variables that a query may number.
-const PLACES: usize = 256;
 
 /// The query over the variables of these texts, with these aggregates by their slots.
 fn whole(
@@ -66,7 +63,6 @@ pub(crate) fn put_over<B: Base>(
     ensures kept { B.database base.new ≡ B.database base.old }
     ensures stays { (s : Db) → B.schema base.old ≡ Some s → B.schema base.new ≡ Some s }
     ensures asked { (b : B) → B.asked b base.old → B.asked b base.new }
-    ensures same { B.left base.new ≡ B.left base.old }
     ensures cause { HasCause (λ db var. HasRefusedAggregate db (who_of (option_map (λ n. n.now) who.entry)) query.now var) (B.database base.old) (B.faults base.old) (B.faults base.new) result }
 {
     match put_aggregates(alloc, base, who, query, texts, found) {
@@ -94,7 +90,6 @@ fn put_over_few<B: Base>(
     ensures kept { B.database base.new ≡ B.database base.old }
     ensures stays { (s : Db) → B.schema base.old ≡ Some s → B.schema base.new ≡ Some s }
     ensures asked { (b : B) → B.asked b base.old → B.asked b base.new }
-    ensures same { B.left base.new ≡ B.left base.old }
     ensures cause { HasCause (λ db var. HasRefusedAggregate db (who_of (option_map (λ n. n.now) who.entry)) query.now var) (B.database base.old) (B.faults base.old) (B.faults base.new) result }
 {
     if !are_few(texts, PLACES) {
@@ -121,7 +116,6 @@ pub(crate) fn put_in<B: Base>(
     ensures kept { B.database base.new ≡ B.database base.old }
     ensures stays { (s : Db) → B.schema base.old ≡ Some s → B.schema base.new ≡ Some s }
     ensures asked { (b : B) → B.asked b base.old → B.asked b base.new }
-    ensures same { B.left base.new ≡ B.left base.old }
     ensures cause { HasCause (λ db var. (query_permitted db (who_of (option_map (λ n. n.now) who.entry)) query.now ≡ false) × IsRefusedIn db (who_of (option_map (λ n. n.now) who.entry)) query.now var) (B.database base.old) (B.faults base.old) (B.faults base.new) result }
 {
     let mut texts = Vec::new(alloc);

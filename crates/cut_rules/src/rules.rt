@@ -47,13 +47,12 @@ fn with_rules(alloc: Global, rules: &[Rule], mut u: Update) -> Result<Update, Ou
 /// The update with the rules of the relation that it changes among its checks: each new row has to meet
 /// them. What makes a relation stays as it is, as that has no rules yet.
 #[tactic(auto, unfolding(calculus::specs::Pairs::ruled))]
-pub fn add_rules<B: Base>(alloc: Global, base: &mut B, u: Update) -> Result<Update, BaseFault>
+pub fn add_rules<B: Base>(alloc: Global, u: Update, base: &mut B) -> Result<Update, BaseFault>
     ensures told { (db : Db) → B.schema base.old ≡ Some db → IfOk result (λ made. made ≡ ruled db u) }
     ensures by_schema { (s : Db) → B.schema base.new ≡ Some s → IfOk result (λ made. made ≡ ruled s u) }
     ensures kept { B.database base.new ≡ B.database base.old }
     ensures stays { (s : Db) → B.schema base.old ≡ Some s → B.schema base.new ≡ Some s }
     ensures asked { (b : B) → B.asked b base.old → B.asked b base.new }
-    ensures same { B.left base.new ≡ B.left base.old }
     ensures cause { HasCause (B.database base.old) (B.faults base.old) (B.faults base.new) result }
 {
     match u.op {

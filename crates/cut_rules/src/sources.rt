@@ -19,12 +19,10 @@ ghost use Rattle.view_text.specs.PutIn.{put_plain, put_range, put_source, range_
 ghost use Rattle.view_text.specs.TextOf.{cut, text_within};
 
 use am_traits::Base;
+use calculus::limits::MOST_LEVEL;
 use calculus::{AggSource, Boxed, Name, OutOfMemory, QQual, Query, RelKey, TryCopy};
 use std::alloc::Global;
-use view_expand::{Right, TextFault, TextsFound, cut_remembering, put_plain_remembering};
-
-/// The levels of views that are looked through at most.
-const GREATEST_LEVEL: u8 = 16;
+use view_expand::{Right, TextFault, TextsFound, cut, put_plain};
 
 /// The rows of a query.
 #[tactic(auto, using(calculus::proofs::Forms::rows_is))]
@@ -58,10 +56,9 @@ fn rows_source<B: Base>(
     ensures kept { B.database base.new ≡ B.database base.old }
     ensures stays { (s : Db) → B.schema base.old ≡ Some s → B.schema base.new ≡ Some s }
     ensures asked { (b : B) → B.asked b base.old → B.asked b base.new }
-    ensures same { B.left base.new ≡ B.left base.old }
     ensures cause { HasCause (λ db. vars_permitted (permitted_within levels db (who_of (option_map (λ n. n.now) who.entry))) query.now (used_vars query.now) ≡ false) (B.database base.old) (B.faults base.old) (B.faults base.new) result }
 {
-    match put_plain_remembering(alloc, base, who, query, levels, found) {
+    match put_plain(alloc, base, who, query, levels, found) {
         Ok(query) => match rows_of(alloc, query) {
             Ok(source) => Ok((source, None)),
             Err(_) => Err(TextFault::OutOfMemory),
@@ -88,10 +85,9 @@ fn kept_source<B: Base>(
     ensures kept { B.database base.new ≡ B.database base.old }
     ensures stays { (s : Db) → B.schema base.old ≡ Some s → B.schema base.new ≡ Some s }
     ensures asked { (b : B) → B.asked b base.old → B.asked b base.new }
-    ensures same { B.left base.new ≡ B.left base.old }
     ensures cause { HasCause (λ db. permitted db (who_of (option_map (λ n. n.now) who.entry)) Retrieve attrs.now key.now ≡ false) (B.database base.old) (B.faults base.old) (B.faults base.new) result }
 {
-    match cut_remembering(alloc, base, who, Right::Retrieve, attrs, key, found) {
+    match cut(alloc, base, who, Right::Retrieve, attrs, key, found) {
         Ok(condition) => match key.copy(alloc) {
             Ok(key) => Ok((AggSource::Named(key), condition)),
             Err(_) => Err(TextFault::OutOfMemory),
@@ -119,12 +115,11 @@ fn named_source<B: Base>(
     ensures kept { B.database base.new ≡ B.database base.old }
     ensures stays { (s : Db) → B.schema base.old ≡ Some s → B.schema base.new ≡ Some s }
     ensures asked { (b : B) → B.asked b base.old → B.asked b base.new }
-    ensures same { B.left base.new ≡ B.left base.old }
     ensures cause { HasCause (λ db. readable db (who_of (option_map (λ n. n.now) who.entry)) key.now attrs.now ≡ false) (B.database base.old) (B.faults base.old) (B.faults base.new) result }
 {
     match base.view(alloc, key)? {
         Some(query) => {
-            let made = rows_source(alloc, base, who, &query, GREATEST_LEVEL - 1, found);
+            let made = rows_source(alloc, base, who, &query, MOST_LEVEL - 1, found);
             drop(query);
             made
         }
@@ -151,11 +146,10 @@ pub(crate) fn put_source<B: Base>(
     ensures kept { B.database base.new ≡ B.database base.old }
     ensures stays { (s : Db) → B.schema base.old ≡ Some s → B.schema base.new ≡ Some s }
     ensures asked { (b : B) → B.asked b base.old → B.asked b base.new }
-    ensures same { B.left base.new ≡ B.left base.old }
     ensures cause { HasCause (λ db. source_permitted (readable db (who_of (option_map (λ n. n.now) who.entry))) attrs.now source.now ≡ false) (B.database base.old) (B.faults base.old) (B.faults base.new) result }
 {
     match source {
         AggSource::Named(key) => named_source(alloc, base, who, key, attrs, found),
-        AggSource::Rows(query) => rows_source(alloc, base, who, query.get(), GREATEST_LEVEL, found),
+        AggSource::Rows(query) => rows_source(alloc, base, who, query.get(), MOST_LEVEL, found),
     }
 }

@@ -15,16 +15,14 @@ ghost use Rattle.view_text.specs.Texts.{texts_vars};
 
 use crate::CutFault;
 use am_traits::Base;
+use calculus::limits::MOST_LEVEL;
 use calculus::{Name, Query, RelKey};
 use std::alloc::Global;
-use view_expand::{TextFault, TextsFound, text_at_remembering};
+use view_expand::{TextFault, TextsFound, text_at};
 use view_text::Text;
 
-/// The levels of views that there may be.
-const LEVELS: u8 = 16;
-
-/// The variables that a query may list.
-pub(crate) const LISTED: usize = 256;
+/// The variables that a query may list, and number.
+pub(crate) const PLACES: usize = 256;
 
 /// What a fault of the text of the variable at this place is for the tree.
 pub(crate) fn fault_at(fault: TextFault, var: u8) -> CutFault
@@ -87,10 +85,9 @@ pub(crate) fn read_text<B: Base>(
     ensures kept { B.database base.new ≡ B.database base.old }
     ensures stays { (s : Db) → B.schema base.old ≡ Some s → B.schema base.new ≡ Some s }
     ensures asked { (b : B) → B.asked b base.old → B.asked b base.new }
-    ensures same { B.left base.new ≡ B.left base.old }
     ensures cause { HasCause (λ db var. (var ≡ place) × (may_be_read db (who_of (option_map (λ n. n.now) who.entry)) query.now (place, key.now) ≡ false)) (B.database base.old) (B.faults base.old) (B.faults base.new) result }
 {
-    match text_at_remembering(alloc, base, who, query, place, key, LEVELS, found) {
+    match text_at(alloc, base, who, query, place, key, MOST_LEVEL, found) {
         Ok(text) => Ok(text),
         Err(fault) => Err(fault_at(fault, place)),
     }
@@ -116,7 +113,6 @@ fn put_each<B: Base>(
     ensures kept { B.database base.new ≡ B.database base.old }
     ensures stays { (s : Db) → B.schema base.old ≡ Some s → B.schema base.new ≡ Some s }
     ensures asked { (b : B) → B.asked b base.old → B.asked b base.new }
-    ensures same { B.left base.new ≡ B.left base.old }
     ensures cause { HasCause (λ db var. IsRefusedAt (may_be_read db (who_of (option_map (λ n. n.now) who.entry)) query.now) keys.now var) (B.database base.old) (B.faults base.old) (B.faults base.new) result }
 {
     let mut place: usize = 0;
@@ -150,11 +146,10 @@ pub(crate) fn put_texts<B: Base>(
     ensures kept { B.database base.new ≡ B.database base.old }
     ensures stays { (s : Db) → B.schema base.old ≡ Some s → B.schema base.new ≡ Some s }
     ensures asked { (b : B) → B.asked b base.old → B.asked b base.new }
-    ensures same { B.left base.new ≡ B.left base.old }
     ensures cause { HasCause (λ db var. IsRefusedAt (may_be_read db (who_of (option_map (λ n. n.now) who.entry)) query.now) (vars_of query.now) var) (B.database base.old) (B.faults base.old) (B.faults base.new) result }
 {
     let keys = query.vars.items();
-    if keys.len() > LISTED {
+    if keys.len() > PLACES {
         return Err(CutFault::TooMany);
     }
     put_each(alloc, base, who, query, keys, texts, found)

@@ -22,7 +22,7 @@ ghost use Rattle.view_text.specs.Texts.{place_from, texts_vars};
 
 use crate::changing::{appended_cut, changed_by, changed_text};
 use crate::put_in::put_over;
-use crate::texts::{LISTED, are_few, fault_at, put_behind, read_text};
+use crate::texts::{PLACES, are_few, fault_at, put_behind, read_text};
 use crate::{CutFault, NO_VARIABLE};
 use am_traits::Base;
 use calculus::{Name, QQual, Query, RelKey, TryCopy, Update, UpdateOp};
@@ -54,7 +54,6 @@ fn changed_at<B: Base>(
     ensures kept { B.database base.new ≡ B.database base.old }
     ensures stays { (s : Db) → B.schema base.old ≡ Some s → B.schema base.new ≡ Some s }
     ensures asked { (b : B) → B.asked b base.old → B.asked b base.new }
-    ensures same { B.left base.new ≡ B.left base.old }
     ensures cause { HasCause (λ db var. (var ≡ place) × (change_permitted db (who_of (option_map (λ n. n.now) who.entry)) (right_of right) u.now.places key.now (used_in_query place u.now.query) ≡ false)) (B.database base.old) (B.faults base.old) (B.faults base.new) result }
 {
     match uses(alloc, &u.query, place) {
@@ -95,7 +94,6 @@ fn text_in<B: Base>(
     ensures kept { B.database base.new ≡ B.database base.old }
     ensures stays { (s : Db) → B.schema base.old ≡ Some s → B.schema base.new ≡ Some s }
     ensures asked { (b : B) → B.asked b base.old → B.asked b base.new }
-    ensures same { B.left base.new ≡ B.left base.old }
     ensures cause { HasCause (λ db var. (var ≡ place) × (may_be_used db (who_of (option_map (λ n. n.now) who.entry)) u.now (place, key.now) ≡ false)) (B.database base.old) (B.faults base.old) (B.faults base.new) result }
 {
     match changed_by(u, place) {
@@ -124,7 +122,6 @@ fn put_each<B: Base>(
     ensures kept { B.database base.new ≡ B.database base.old }
     ensures stays { (s : Db) → B.schema base.old ≡ Some s → B.schema base.new ≡ Some s }
     ensures asked { (b : B) → B.asked b base.old → B.asked b base.new }
-    ensures same { B.left base.new ≡ B.left base.old }
     ensures cause { HasCause (λ db var. IsRefusedAt (may_be_used db (who_of (option_map (λ n. n.now) who.entry)) u.now) keys.now var) (B.database base.old) (B.faults base.old) (B.faults base.new) result }
 {
     let mut place: usize = 0;
@@ -157,11 +154,10 @@ fn put_texts<B: Base>(
     ensures kept { B.database base.new ≡ B.database base.old }
     ensures stays { (s : Db) → B.schema base.old ≡ Some s → B.schema base.new ≡ Some s }
     ensures asked { (b : B) → B.asked b base.old → B.asked b base.new }
-    ensures same { B.left base.new ≡ B.left base.old }
     ensures cause { HasCause (λ db var. IsRefusedAt (may_be_used db (who_of (option_map (λ n. n.now) who.entry)) u.now) (vars_of u.now.query) var) (B.database base.old) (B.faults base.old) (B.faults base.new) result }
 {
     let keys = u.query.vars.items();
-    if keys.len() > LISTED {
+    if keys.len() > PLACES {
         return Err(CutFault::TooMany);
     }
     put_each(alloc, base, who, u, keys, texts, found)
@@ -212,7 +208,6 @@ fn put_new_cut<B: Base>(
     ensures kept { B.database base.new ≡ B.database base.old }
     ensures stays { (s : Db) → B.schema base.old ≡ Some s → B.schema base.new ≡ Some s }
     ensures asked { (b : B) → B.asked b base.old → B.asked b base.new }
-    ensures same { B.left base.new ≡ B.left base.old }
     ensures cause { HasCause (λ db var. IsRefusedAppend db (who_of (option_map (λ n. n.now) who.entry)) u.now var) (B.database base.old) (B.faults base.old) (B.faults base.new) result }
 {
     match u.op {
@@ -273,7 +268,6 @@ fn put_over_few<B: Base>(
     ensures kept { B.database base.new ≡ B.database base.old }
     ensures stays { (s : Db) → B.schema base.old ≡ Some s → B.schema base.new ≡ Some s }
     ensures asked { (b : B) → B.asked b base.old → B.asked b base.new }
-    ensures same { B.left base.new ≡ B.left base.old }
     ensures cause { HasCause (λ db var. IsRefusedAppend db (who_of (option_map (λ n. n.now) who.entry)) u.now var ⊎ HasRefusedAggregate db (who_of (option_map (λ n. n.now) who.entry)) u.now.query var) (B.database base.old) (B.faults base.old) (B.faults base.new) result }
 {
     if !are_few(texts, LAST_PLACE) {
@@ -307,7 +301,6 @@ pub(crate) fn put_in_update<B: Base>(
     ensures kept { B.database base.new ≡ B.database base.old }
     ensures stays { (s : Db) → B.schema base.old ≡ Some s → B.schema base.new ≡ Some s }
     ensures asked { (b : B) → B.asked b base.old → B.asked b base.new }
-    ensures same { B.left base.new ≡ B.left base.old }
     ensures cause { HasCause (λ db var. (update_permitted db (who_of (option_map (λ n. n.now) who.entry)) u.now ≡ false) × IsRefusedOf db (who_of (option_map (λ n. n.now) who.entry)) u.now var) (B.database base.old) (B.faults base.old) (B.faults base.new) result }
 {
     let mut texts = Vec::new(alloc);

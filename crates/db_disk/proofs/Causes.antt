@@ -12,7 +12,7 @@ use Rattle.db_disk.specs.Answered.{IsWant, of_restore}
 restored : {T U : Type 0} (told : Option Db) (before now : ℕ) (fault : RestoreFault) → FailsBy {T = T} before now (Err fault)
     → ((file page : ℕ) → fault ≡ Damaged file page → told ≡ None) → HasCause {T = U} told before now (Err (of_restore fault))
 restored told before now Disk by none = record { later = by.later; caused = by.failed refl }
-restored told before now (Damaged file page) by none = record { later = by.later; caused = none file page refl }
+restored told before now (Damaged file page) by none = record { later = by.later; caused = (none file page refl, by.answered (λ e. cc e)) }
 
 -- where a batch isn't laid, the fault may come
 pub restore_caused : {T U : Type 0} (told : Option Db) (before now : ℕ) (fault : RestoreFault) (result : Result T RestoreFault) (of : BaseFault) → result ≡ Err fault → of ≡ of_restore fault → FailsBy before now result
@@ -25,7 +25,7 @@ restore_caused {T} {U} told before now fault result of is same by none =
 pub plain_want : {T : Type 0} (db : Db) (result : Result T BaseFault) → HasCause (Some db) 0 0 result → IsWant result
 plain_want db (Ok x) has = tt
 plain_want db (Err faults.Disk) has = absurd (omega (arith, has.caused))
-plain_want db (Err (faults.Damaged file page)) has = absurd (cc has.caused)
+plain_want db (Err (faults.Damaged file page)) has = absurd (cc has.caused.0)
 plain_want db (Err faults.OutOfMemory) has = tt
 
 -- which may come at any time, where the count stayed
@@ -33,7 +33,7 @@ pub want_caused : {T : Type 0} (told : Option Db) (before now : ℕ) (result : R
 want_caused told before now (Ok x) calm want = record { later = omega (arith, calm); caused = calm }
 want_caused told before now (Err faults.Disk) calm want = absurd want
 want_caused told before now (Err (faults.Damaged file page)) calm want = absurd want
-want_caused told before now (Err faults.OutOfMemory) calm want = record { later = omega (arith, calm); caused = tt }
+want_caused told before now (Err faults.OutOfMemory) calm want = record { later = omega (arith, calm); caused = calm }
 
 -- the same cause, of another answer
 pub as_unit : {T U : Type 0} (told : Option Db) (before now : ℕ) (fault : BaseFault) → HasCause {T = T} told before now (Err fault) → HasCause {T = U} told before now (Err fault)

@@ -117,7 +117,7 @@ never_wanted (restore.Damaged file page) of same is = let e : faults.Damaged fil
 finish_one : {T U : Type 0} (pages : Option Image) (before now : ℕ) (fault : RestoreFault) → FailsBy {T = T} before now (Err fault) → ((m : Image) → pages ≡ Some m → (fault ≡ restore.Disk))
     → HasFileCause {T = U} pages (λ m a. ⊥) before now (Err (of_restore fault))
 finish_one pages before now restore.Disk by whole = record { later = by.later; caused = by.failed refl }
-finish_one pages before now (restore.Damaged file page) by whole = record { later = by.later; caused = λ m is. let e : restore.Damaged file page ≡ restore.Disk = whole m is in cc e }
+finish_one pages before now (restore.Damaged file page) by whole = record { later = by.later; caused = (λ m is. (let e : restore.Damaged file page ≡ restore.Disk = whole m is in cc e), by.answered (λ e. cc e)) }
 
 pub finish_caused : {T U : Type 0} (pages : Option Image) (before now : ℕ) (fault : RestoreFault) (result : Result T RestoreFault) (of : BaseFault) → result ≡ Err fault → of ≡ of_restore fault → FailsBy before now result
     → ((m : Image) → pages ≡ Some m → result ≡ Err restore.Disk) → HasFileCause {T = U} pages (λ m a. ⊥) before now (Err of)
@@ -198,5 +198,5 @@ pub synced_caused : {T : Type 0} (pages : Option Image) (told : Option Db) (befo
     → ((m : Image) → pages ≡ Some m → (file page : ℕ) → result ≡ Err (faults.Damaged file page) → ⊥) → HasFileCause pages (λ m a. ⊥) before now result
 synced_caused pages told before mid now (Ok x) calm has none = record { later = omega (arith, calm, has.later); caused = has.caused ∙ calm }
 synced_caused pages told before mid now (Err faults.Disk) calm has none = record { later = omega (arith, calm, has.later); caused = omega (arith, calm, has.caused) }
-synced_caused pages told before mid now (Err (faults.Damaged file page)) calm has none = record { later = omega (arith, calm, has.later); caused = λ m is. none m is file page refl }
-synced_caused pages told before mid now (Err faults.OutOfMemory) calm has none = record { later = omega (arith, calm, has.later); caused = tt }
+synced_caused pages told before mid now (Err (faults.Damaged file page)) calm has none = record { later = omega (arith, calm, has.later); caused = (λ m is. none m is file page refl, has.caused.1 ∙ calm) }
+synced_caused pages told before mid now (Err faults.OutOfMemory) calm has none = record { later = omega (arith, calm, has.later); caused = has.caused ∙ calm }

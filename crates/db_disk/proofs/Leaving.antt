@@ -11,7 +11,7 @@ use Rattle.disk_model.proofs.Moments.{joins, weaker}
 use Rattle.page_chain.proofs.Reaching.{one_or_other}
 use Rattle.db_disk.specs.Held.{held, told_by, HeldOr, IsEither, SameHeld}
 use Rattle.db_disk.specs.Left.{clock_by, left_by, IsLeft}
-use Rattle.db_disk.specs.Shown.{clock_in, disk_in, is_restored, left_in, AskedOf, StaysRestored}
+use Rattle.db_disk.specs.Shown.{clock_in, db_of, disk_in, is_restored, left_in, AskedOf, StaysRestored}
 use Rattle.db_disk.specs.declared.base.DbDisk.{DbDisk}
 
 -- an image of now is one of those since an earlier moment
@@ -116,15 +116,22 @@ were_both false P is off = absurd (cc is)
 
 module _ {D : Type 0} {g : Ghosts D} where
   pub asked_on : Counts D g.tells g.seen g.touched g.clock g.left_since → OnlyNow D g.tells g.seen g.touched g.clock g.left_since → (start old new : DbDisk D g) →
-      (IsTrue g.tells → LeavesOnly g.clock g.left_since (disk_in old) (disk_in new) (SameHeld (g.seen (disk_in old)) (g.touched (disk_in old)))) → StaysRestored old new → AskedOf start old → AskedOf start new
-  asked_on counts only start old new crash stays before =
-      asked_more _ _ _ (is_restored start) (is_restored old) (is_restored new) _ _ _ before record {
-        nothing_else = asked_by g.seen g.touched g.clock g.left_since g.tells counts only (disk_in old) (disk_in new) crash;
-        quiet = λ is. let still = stays is in (same_clock g.seen g.touched g.clock g.left_since g.tells (disk_in old) (disk_in new) still.0, still.1);
-      }
+      db_of new ≡ db_of old → (IsTrue g.tells → LeavesOnly g.clock g.left_since (disk_in old) (disk_in new) (SameHeld (g.seen (disk_in old)) (g.touched (disk_in old)))) → StaysRestored old new
+      → AskedOf start old → AskedOf start new
+  asked_on counts only start old new kept crash stays before = record {
+    kept = kept ∙ before.kept;
+    only =
+        asked_more _ _ _ (is_restored start) (is_restored old) (is_restored new) _ _ _ before.only record {
+          nothing_else = asked_by g.seen g.touched g.clock g.left_since g.tells counts only (disk_in old) (disk_in new) crash;
+          quiet = λ is. let still = stays is in (same_clock g.seen g.touched g.clock g.left_since g.tells (disk_in old) (disk_in new) still.0, still.1);
+        };
+  }
 
   -- where the disk is the same
-  pub asked_as : (start old new : DbDisk D g) → disk_in new ≡ disk_in old → is_restored new ≡ is_restored old → AskedOf start old → AskedOf start new
-  asked_as start old new same stays before =
-      subst (λ (r : Bool). OnlyAsked (clock_in start) (clock_in new) (is_restored start) r (left_in start) (left_in new)) (sym stays)
-      (subst (λ (d : D). OnlyAsked (clock_in start) (clock_by g.tells g.clock d) (is_restored start) (is_restored old) (left_in start) (left_by g.tells g.seen g.touched g.clock g.left_since d)) (sym same) before)
+  pub asked_as : (start old new : DbDisk D g) → db_of new ≡ db_of old → disk_in new ≡ disk_in old → is_restored new ≡ is_restored old → AskedOf start old → AskedOf start new
+  asked_as start old new kept same stays before = record {
+    kept = kept ∙ before.kept;
+    only =
+        subst (λ (r : Bool). OnlyAsked (clock_in start) (clock_in new) (is_restored start) r (left_in start) (left_in new)) (sym stays)
+        (subst (λ (d : D). OnlyAsked (clock_in start) (clock_by g.tells g.clock d) (is_restored start) (is_restored old) (left_in start) (left_by g.tells g.seen g.touched g.clock g.left_since d)) (sym same) before.only);
+  }

@@ -2,6 +2,7 @@ pub mod AsBase
 pub mod Asking
 pub mod Calls
 pub mod Causes
+pub mod Damaged
 pub mod Fills
 pub mod Changes
 pub mod Headed

@@ -43,9 +43,9 @@ for_whom told pages dba before mid now (Ok x) calm same named has = record { lat
 for_whom told pages dba before mid now (Err faults.Disk) calm same named has = record { later = omega (arith, calm, has.later); caused = omega (arith, calm, has.caused) }
 for_whom told pages dba before mid now (Err (faults.Damaged file page)) calm same named has = record {
   later = omega (arith, calm, has.later);
-  caused = λ m is db stands agree. has.caused m (same ∙ is) db stands (own_name m db dba stands (named m is)) agree;
+  caused = (λ m is db stands agree. has.caused.0 m (same ∙ is) db stands (own_name m db dba stands (named m is)) agree, has.caused.1 ∙ calm);
 }
-for_whom told pages dba before mid now (Err faults.OutOfMemory) calm same named has = record { later = omega (arith, calm, has.later); caused = tt }
+for_whom told pages dba before mid now (Err faults.OutOfMemory) calm same named has = record { later = omega (arith, calm, has.later); caused = has.caused ∙ calm }
 
 -- what was read is of the administrator whose header is there
 pub lies_for : {E : Type 0} (result : Result Catalog E) (m : Image) (dba : List ℕ) → administrator m ≡ Some dba → IfOk result (λ c. LiesOn c m) → IfOk result (λ c. (database_of c.plain).dba ≡ dba) → IfOk result (λ c. LiesFor c m)

@@ -40,9 +40,9 @@ file_caused told pages at_fault before now (Ok x) none has = record { later = ha
 file_caused told pages at_fault before now (Err faults.Disk) none has = record { later = has.later; caused = has.caused }
 file_caused told pages at_fault before now (Err (faults.Damaged file page)) none has = record {
   later = has.later;
-  caused = none_of told (λ db is. let m = none db is in m.2 _ (has.caused m.0 m.1));
+  caused = (none_of told (λ db is. let m = none db is in m.2 _ (has.caused.0 m.0 m.1)), has.caused.1);
 }
-file_caused told pages at_fault before now (Err faults.OutOfMemory) none has = record { later = has.later; caused = tt }
+file_caused told pages at_fault before now (Err faults.OutOfMemory) none has = record { later = has.later; caused = has.caused }
 
 -- What a store that is ready says of the database that it holds.
 pub record Holds {D : Type 0} {g : Ghosts D} (s : BatchStore D g) (db : Db) : Type 0 where

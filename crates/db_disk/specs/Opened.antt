@@ -17,9 +17,9 @@ abbrev pub open_fault : LoadFault → OpenFault
 open_fault (load.NoHead page) = NotADatabase
 open_fault (load.Base fault) = Base fault
 
--- this fault of an opening may come: of no database where none is told, and of a base as ever
+-- this fault of an opening may come: of no database where none is told and the count stayed, and of a base as ever
 abbrev pub MayRefuse : Option Db → ℕ → ℕ → OpenFault → Type 0
-MayRefuse told before now NotADatabase = told ≡ None
+MayRefuse told before now NotADatabase = (told ≡ None) × (now ≡ before)
 MayRefuse told before now (Base fault) = MayCome told before now fault
 
 -- no database, or a fault of the disk or want of memory that came first

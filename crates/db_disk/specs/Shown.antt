@@ -61,9 +61,10 @@ module _ {D : Type 0} {g : Ghosts D} where
   abbrev pub left_in : DbDisk D g → ℕ → Option Db → Type 0
   left_in d = left_by g.tells g.seen g.touched g.clock g.left_since (disk_in d)
 
-  -- it came of that one by questions
-  abbrev pub AskedOf : DbDisk D g → DbDisk D g → Type 0
-  AskedOf before now = OnlyAsked (clock_in before) (clock_in now) (is_restored before) (is_restored now) (left_in before) (left_in now)
+  -- It came of that one by questions: the database is as it was, and a crash leaves nothing else.
+  pub record AskedOf (before now : DbDisk D g) : Type 0 where
+    pub kept : db_of now ≡ db_of before
+    pub only : OnlyAsked (clock_in before) (clock_in now) (is_restored before) (is_restored now) (left_in before) (left_in now)
 
   -- where the disk was restored it stays so, and its clock stands
   abbrev pub StaysRestored : DbDisk D g → DbDisk D g → Type 0

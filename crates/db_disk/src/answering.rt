@@ -1,10 +1,11 @@
 //! A database on a disk answers as any base does.
 
-ghost use Rattle.std.specs.Prelude.{true};
+ghost use Rattle.std.specs.Prelude.{refl, true};
+ghost use Rattle.std.proofs.Common.{ap};
 ghost use Rattle.am_traits.proofs.Crashes.{asked_itself};
 ghost use Rattle.db_disk.specs.Laws.{lawful_known, left_counts, own_known, scanned_told, unread_at_most};
 ghost use Rattle.db_disk.specs.Reads.{pages_known, pages_unread, rows_in_memory, OpensWith};
-ghost use Rattle.db_disk.specs.Shown.{clock_in, db_of, disk_in, is_restored, known_in, left_in, left_of, schema_in, AskedOf};
+ghost use Rattle.db_disk.specs.Shown.{clock_in, db_of, disk_in, is_restored, known_in, left_in, left_of, rows_left, schema_in, AskedOf};
 
 use crate::DbDisk;
 use am_traits::{Base, BaseFault};
@@ -49,9 +50,11 @@ impl<D: Disk> Base for DbDisk<D> {
 
     ghost whole = { λ d key at. unread_at_most (rows_in_memory d key) (pages_known d key) };
 
-    ghost starts = { λ d. asked_itself (clock_in d) (is_restored d) (left_in d) };
+    ghost starts = { λ d. record { kept = refl; only = asked_itself (clock_in d) (is_restored d) (left_in d) } };
 
-    ghost asks = { λ _ _ is. is };
+    ghost asks_keep = { λ _ _ is. (is.kept, ap rows_left is.kept) };
+
+    ghost asks = { λ _ _ is. is.only };
 
     fn dba(&mut self, alloc: Global) -> Result<Name, BaseFault> {
         DbDisk::dba(self, alloc)

@@ -46,22 +46,24 @@ fn open_fault(fault: LoadFault) -> OpenFault
     }
 }
 
-/// Opens the database on a disk: it restores the disk, and reads the header, the birth byte and the
-/// catalogues, each page once. `NotADatabase` where the header isn't of its form or no database was born.
-pub fn open_db<D: Disk>(alloc: Global, disk: D) -> Result<DbDisk<D>, Unopened<D>>
-    ensures told { IfOk result (λ d. db_of d ≡ told_by D.tells (D.seen disk)) }
-    ensures kept { told_by D.tells (D.seen (disk_after result)) ≡ told_by D.tells (D.seen disk) }
-    ensures not_one { IsTrue D.tells → (m : Image) → redone (D.seen disk) ≡ Some m → IsNot result → has_head m ≡ false }
-    ensures refused { IsTrue D.tells → (m : Image) → redone (D.seen disk) ≡ Some m → has_head m ≡ false → IsRefused result }
-    ensures crash { IsTrue D.tells → LeavesOnly D.clock D.left_since disk (disk_after result) (SameHeld (D.seen disk) (D.touched disk)) }
-    ensures cause { HasOpenCause (told_by D.tells (D.seen disk)) (D.faults disk) (D.faults (disk_after result)) result }
-{
-    let mut base = DbDisk::later(alloc, disk);
-    match base.start(alloc) {
-        Ok(()) => Ok(base),
-        Err(fault) => Err(Unopened {
-            disk: base.into_disk(),
-            fault: open_fault(fault),
-        }),
+impl<D: Disk> DbDisk<D> {
+    /// Opens the database on a disk: it restores the disk, and reads the header, the birth byte and the
+    /// catalogues, each page once. `NotADatabase` where the header isn't of its form or no database was born.
+    pub fn open_db(alloc: Global, disk: D) -> Result<DbDisk<D>, Unopened<D>>
+        ensures told { IfOk result (λ d. db_of d ≡ told_by D.tells (D.seen disk)) }
+        ensures kept { told_by D.tells (D.seen (disk_after result)) ≡ told_by D.tells (D.seen disk) }
+        ensures not_one { IsTrue D.tells → (m : Image) → redone (D.seen disk) ≡ Some m → IsNot result → has_head m ≡ false }
+        ensures refused { IsTrue D.tells → (m : Image) → redone (D.seen disk) ≡ Some m → has_head m ≡ false → IsRefused result }
+        ensures crash { IsTrue D.tells → LeavesOnly D.clock D.left_since disk (disk_after result) (SameHeld (D.seen disk) (D.touched disk)) }
+        ensures cause { HasOpenCause (told_by D.tells (D.seen disk)) (D.faults disk) (D.faults (disk_after result)) result }
+    {
+        let mut base = DbDisk::later(alloc, disk);
+        match base.start(alloc) {
+            Ok(()) => Ok(base),
+            Err(fault) => Err(Unopened {
+                disk: base.into_disk(),
+                fault: open_fault(fault),
+            }),
+        }
     }
 }

@@ -19,7 +19,7 @@ mod questions;
 mod reopened;
 mod row_questions;
 
-pub use at_once::{OpenFault, Unopened, open_db};
+pub use at_once::{OpenFault, Unopened};
 pub use base::DbDisk;
 pub use create::create_db;
 pub use fault::CreateFault;

@@ -4,6 +4,8 @@ ghost use Rattle.std.specs.Prelude.{◌≡◌, ◌+◌, ℕ, Some, Err, IfOk, tr
 ghost use Rattle.calculus.specs.Database.{Db};
 ghost use Rattle.disk_model.specs.Disk.{Image, RisesUpTo};
 ghost use Rattle.access_traits.specs.Causes.{HasFileCause, of_store};
+ghost use Rattle.am_traits.specs.declared.fault.BaseFault.TheVariants.{Damaged as DamagedBase};
+ghost use Rattle.catalog.specs.Damage.{ShowsNone};
 ghost use Rattle.catalog.specs.Knows.{Knows};
 ghost use Rattle.catalog.specs.Lies.{LiesOn};
 ghost use Rattle.catalog.specs.Reads.{HasChains};
@@ -56,6 +58,7 @@ fn load_for<S: PageStore>(alloc: Global, store: &mut S, dba: Name) -> Result<Cat
     ensures lies { (m : Image) → S.pages store.old ≡ Some m → IfOk result (λ c. LiesOn c m) }
     ensures dba { IfOk result (λ c. (database_of c.plain).dba ≡ dba) }
     ensures headed { (page : ℕ) → result ≡ Err (WithoutHead page) → ⊥ }
+    ensures at_catalog { (m : Image) (file page : ℕ) → S.pages store.old ≡ Some m → as_base result ≡ Err (DamagedBase file page) → ShowsNone m (record { file = file; page = page }) }
     ensures reads { (m : Image) (all : ℕ) → S.pages store.old ≡ Some m → HasChains m all → RisesUpTo all (S.reads store.old) (S.reads store.new) }
     ensures same { S.pages store.new ≡ S.pages store.old }
     ensures came { (s : S) → S.came s store.old → S.came s store.new }
@@ -78,6 +81,8 @@ pub(crate) fn load<S: PageStore>(alloc: Global, store: &mut S) -> Result<Catalog
     // The page that it names is the one that shows it.
     ensures at_head { (m : Image) (page : ℕ) → S.pages store.old ≡ Some m → result ≡ Err (WithoutHead page) → page ≡ headless_page m }
     ensures headless { (m : Image) → S.pages store.old ≡ Some m → has_head m ≡ false → IsNoHead result }
+    ensures at_catalog { (m : Image) (file page : ℕ) → S.pages store.old ≡ Some m → has_head m ≡ true → as_base result ≡ Err (DamagedBase file page)
+        → ShowsNone m (record { file = file; page = page }) }
     ensures reads { (m : Image) (all : ℕ) → S.pages store.old ≡ Some m → HasChains m all → RisesUpTo (all + 2) (S.reads store.old) (S.reads store.new) }
     ensures same { S.pages store.new ≡ S.pages store.old }
     ensures came { (s : S) → S.came s store.old → S.came s store.new }

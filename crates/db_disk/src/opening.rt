@@ -18,6 +18,7 @@ impl<D: Disk> DbDisk<D> {
     ghost use Rattle.batch_file.specs.Redone.{answer, kept, redone};
     ghost use Rattle.batch_file.specs.declared.fault.RestoreFault.TheVariants.{Damaged as DamagedBatch};
     ghost use Rattle.am_traits.specs.declared.fault.BaseFault.TheVariants.{Damaged as DamagedBase};
+    ghost use Rattle.catalog.specs.Damage.{ShowsNone};
     ghost use Rattle.catalog.specs.Reads.{HasChains};
     ghost use Rattle.page_chain.specs.Pages.{pages_of};
     ghost use Rattle.stored_database.specs.Catalogue.{catalogue_in};
@@ -62,6 +63,8 @@ impl<D: Disk> DbDisk<D> {
         ensures only_reads { IsTrue D.tells → OnlyReads D.seen D.touched D.clock D.left_since (disk_in self.old) (disk_in self.new) }
         ensures no_head { IsTrue D.tells → (page : ℕ) → result ≡ Err (WithoutHead page) → has_head (kept (D.seen (disk_in self.old))) ≡ false }
         ensures at_head { IsTrue D.tells → (page : ℕ) → result ≡ Err (WithoutHead page) → page ≡ headless_page (kept (D.seen (disk_in self.old))) }
+        ensures at_catalog { IsTrue D.tells → has_head (kept (D.seen (disk_in self.old))) ≡ true → (file page : ℕ) → as_base result ≡ Err (DamagedBase file page)
+            → ShowsNone (kept (D.seen (disk_in self.old))) (record { file = file; page = page }) }
         ensures headless { IsTrue D.tells → schema_in self.old ≡ None → has_head (kept (D.seen (disk_in self.old))) ≡ false → IsNoHead result }
         ensures catalog { (s : Db) → schema_in self.old ≡ Some s → self.new.catalog ≡ self.old.catalog }
         ensures still { (s : Db) → schema_in self.old ≡ Some s → disk_in self.new ≡ disk_in self.old }
@@ -91,6 +94,8 @@ impl<D: Disk> DbDisk<D> {
         ensures at_head { IsTrue D.tells → (m : Image) (page : ℕ) → redone (D.seen (disk_in self.old)) ≡ Some m → result ≡ Err (WithoutHead page) → page ≡ headless_page m }
         ensures at_batch { IsTrue D.tells → redone (D.seen (disk_in self.old)) ≡ None → (file page : ℕ) → as_base result ≡ Err (DamagedBase file page)
             → answer (D.seen (disk_in self.old)) ≡ Err (DamagedBatch file page) }
+        ensures at_catalog { IsTrue D.tells → (m : Image) → redone (D.seen (disk_in self.old)) ≡ Some m → has_head m ≡ true → (file page : ℕ) → as_base result ≡ Err (DamagedBase file page)
+            → ShowsNone m (record { file = file; page = page }) }
         ensures headless { IsTrue D.tells → (m : Image) → redone (D.seen (disk_in self.old)) ≡ Some m → schema_in self.old ≡ None → has_head m ≡ false → IsNoHead result }
         ensures crash { IsTrue D.tells → LeavesOnly D.clock D.left_since (disk_in self.old) (disk_in self.new)
             (SameHeld (D.seen (disk_in self.old)) (D.touched (disk_in self.old))) }
@@ -134,6 +139,9 @@ impl<D: Disk> DbDisk<D> {
             → answer (D.seen (disk_in self.old)) ≡ Err (DamagedBatch file page) }
         ensures at_head { IsTrue D.tells → (m : Image) → redone (D.seen (disk_in self.old)) ≡ Some m → schema_in self.old ≡ None → has_head m ≡ false
             → (file page : ℕ) → result ≡ Err (BaseFault.Damaged file page) → (file ≡ 0) × (page ≡ headless_page m) }
+        // Where there is one, damage is at the page that shows that the catalogues are none of a database.
+        ensures at_catalog { IsTrue D.tells → (m : Image) → redone (D.seen (disk_in self.old)) ≡ Some m → has_head m ≡ true
+            → (file page : ℕ) → result ≡ Err (BaseFault.Damaged file page) → ShowsNone m (record { file = file; page = page }) }
         ensures cause { HasCause (db_of self.old) (D.faults (disk_in self.old)) (D.faults (disk_in self.new)) result }
     {
         match self.start(alloc) {

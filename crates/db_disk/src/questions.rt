@@ -15,14 +15,13 @@ impl<D: Disk> DbDisk<D> {
     ghost use Rattle.disk_model.specs.Disk.{LeavesOnly, RisesUpTo};
     ghost use Rattle.db_disk.specs.Held.{SameHeld};
     ghost use Rattle.db_disk.specs.Reads.{OpensBy, files_known};
-    ghost use Rattle.db_disk.specs.Shown.{db_of, disk_in, left_of, schema_in, StaysRestored};
+    ghost use Rattle.db_disk.specs.Shown.{db_of, disk_in, schema_in, StaysRestored};
 
     /// The name of the administrator.
     pub fn dba(&mut self, alloc: Global) -> Result<Name, BaseFault>
         ensures told { (db : Db) → db_of self.old ≡ Some db → IfOk result (λ name. name ≡ db.dba) }
         ensures by_schema { (s : Db) → schema_in self.new ≡ Some s → IfOk result (λ name. name ≡ s.dba) }
         ensures kept { db_of self.new ≡ db_of self.old }
-        ensures same { left_of self.new ≡ left_of self.old }
         ensures keeps { (s : Db) → schema_in self.old ≡ Some s → schema_in self.new ≡ Some s }
         ensures files_stay { (s : Db) → schema_in self.old ≡ Some s → files_known self.new ≡ files_known self.old }
         ensures fixed { OnOk result (IsTrue (is_some (schema_in self.new))) }
@@ -42,7 +41,6 @@ impl<D: Disk> DbDisk<D> {
         ensures told { (db : Db) → db_of self.old ≡ Some db → IfOk result (λ n. n ≡ length (entries db)) }
         ensures by_schema { (s : Db) → schema_in self.new ≡ Some s → IfOk result (λ n. n ≡ length (entries s)) }
         ensures kept { db_of self.new ≡ db_of self.old }
-        ensures same { left_of self.new ≡ left_of self.old }
         ensures keeps { (s : Db) → schema_in self.old ≡ Some s → schema_in self.new ≡ Some s }
         ensures files_stay { (s : Db) → schema_in self.old ≡ Some s → files_known self.new ≡ files_known self.old }
         ensures fixed { OnOk result (IsTrue (is_some (schema_in self.new))) }
@@ -68,7 +66,6 @@ impl<D: Disk> DbDisk<D> {
         ensures told { (db : Db) → db_of self.old ≡ Some db → IfOk result (λ info. info ≡ found db user.now name.now) }
         ensures by_schema { (s : Db) → schema_in self.new ≡ Some s → IfOk result (λ info. info ≡ found s user.now name.now) }
         ensures kept { db_of self.new ≡ db_of self.old }
-        ensures same { left_of self.new ≡ left_of self.old }
         ensures keeps { (s : Db) → schema_in self.old ≡ Some s → schema_in self.new ≡ Some s }
         ensures files_stay { (s : Db) → schema_in self.old ≡ Some s → files_known self.new ≡ files_known self.old }
         ensures fixed { OnOk result (IsTrue (is_some (schema_in self.new))) }
@@ -88,7 +85,6 @@ impl<D: Disk> DbDisk<D> {
         ensures told { (db : Db) → db_of self.old ≡ Some db → IfOk result (λ info. info ≡ known_at db key.now) }
         ensures by_schema { (s : Db) → schema_in self.new ≡ Some s → IfOk result (λ info. info ≡ known_at s key.now) }
         ensures kept { db_of self.new ≡ db_of self.old }
-        ensures same { left_of self.new ≡ left_of self.old }
         ensures keeps { (s : Db) → schema_in self.old ≡ Some s → schema_in self.new ≡ Some s }
         ensures files_stay { (s : Db) → schema_in self.old ≡ Some s → files_known self.new ≡ files_known self.old }
         ensures fixed { OnOk result (IsTrue (is_some (schema_in self.new))) }
@@ -108,7 +104,6 @@ impl<D: Disk> DbDisk<D> {
         ensures told { (db : Db) → db_of self.old ≡ Some db → IfOk result (λ q. q ≡ query_at db key.now) }
         ensures by_schema { (s : Db) → schema_in self.new ≡ Some s → IfOk result (λ q. q ≡ query_at s key.now) }
         ensures kept { db_of self.new ≡ db_of self.old }
-        ensures same { left_of self.new ≡ left_of self.old }
         ensures keeps { (s : Db) → schema_in self.old ≡ Some s → schema_in self.new ≡ Some s }
         ensures files_stay { (s : Db) → schema_in self.old ≡ Some s → files_known self.new ≡ files_known self.old }
         ensures fixed { OnOk result (IsTrue (is_some (schema_in self.new))) }
@@ -128,7 +123,6 @@ impl<D: Disk> DbDisk<D> {
         ensures told { (db : Db) → db_of self.old ≡ Some db → IfOk result (λ rs. rs.items ≡ rules_on db key.now) }
         ensures by_schema { (s : Db) → schema_in self.new ≡ Some s → IfOk result (λ rs. rs.items ≡ rules_on s key.now) }
         ensures kept { db_of self.new ≡ db_of self.old }
-        ensures same { left_of self.new ≡ left_of self.old }
         ensures keeps { (s : Db) → schema_in self.old ≡ Some s → schema_in self.new ≡ Some s }
         ensures files_stay { (s : Db) → schema_in self.old ≡ Some s → files_known self.new ≡ files_known self.old }
         ensures fixed { OnOk result (IsTrue (is_some (schema_in self.new))) }
@@ -148,7 +142,6 @@ impl<D: Disk> DbDisk<D> {
         ensures told { (db : Db) → db_of self.old ≡ Some db → IfOk result (λ ps. ps.items ≡ permits_on db key.now) }
         ensures by_schema { (s : Db) → schema_in self.new ≡ Some s → IfOk result (λ ps. ps.items ≡ permits_on s key.now) }
         ensures kept { db_of self.new ≡ db_of self.old }
-        ensures same { left_of self.new ≡ left_of self.old }
         ensures keeps { (s : Db) → schema_in self.old ≡ Some s → schema_in self.new ≡ Some s }
         ensures files_stay { (s : Db) → schema_in self.old ≡ Some s → files_known self.new ≡ files_known self.old }
         ensures fixed { OnOk result (IsTrue (is_some (schema_in self.new))) }
@@ -173,7 +166,6 @@ impl<D: Disk> DbDisk<D> {
         ensures told { (db : Db) → db_of self.old ≡ Some db → IfOk result (λ b. b ≡ is_named_by_view db but.now key.now) }
         ensures by_schema { (s : Db) → schema_in self.new ≡ Some s → IfOk result (λ b. b ≡ is_named_by_view s but.now key.now) }
         ensures kept { db_of self.new ≡ db_of self.old }
-        ensures same { left_of self.new ≡ left_of self.old }
         ensures keeps { (s : Db) → schema_in self.old ≡ Some s → schema_in self.new ≡ Some s }
         ensures files_stay { (s : Db) → schema_in self.old ≡ Some s → files_known self.new ≡ files_known self.old }
         ensures fixed { OnOk result (IsTrue (is_some (schema_in self.new))) }

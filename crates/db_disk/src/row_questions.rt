@@ -78,7 +78,6 @@ impl<D: Disk> DbDisk<D> {
     pub fn size(&mut self, alloc: Global, key: &RelKey) -> Result<u32, BaseFault>
         ensures told { (db : Db) → db_of self.old ≡ Some db → IfOk result (λ n. n ≡ length (rows_at db key.now)) }
         ensures kept { db_of self.new ≡ db_of self.old }
-        ensures same { left_of self.new ≡ left_of self.old }
         ensures keeps { (s : Db) → schema_in self.old ≡ Some s → schema_in self.new ≡ Some s }
         ensures files_stay { (s : Db) → schema_in self.old ≡ Some s → files_known self.new ≡ files_known self.old }
         ensures fixed { OnOk result (IsTrue (is_some (schema_in self.new))) }
@@ -104,7 +103,6 @@ impl<D: Disk> DbDisk<D> {
     pub fn has_row(&mut self, alloc: Global, key: &RelKey, row: &Row) -> Result<bool, BaseFault>
         ensures told { (db : Db) → db_of self.old ≡ Some db → IfOk result (λ b. b ≡ has (rows_at db key.now) row.now) }
         ensures kept { db_of self.new ≡ db_of self.old }
-        ensures same { left_of self.new ≡ left_of self.old }
         ensures keeps { (s : Db) → schema_in self.old ≡ Some s → schema_in self.new ≡ Some s }
         ensures files_stay { (s : Db) → schema_in self.old ≡ Some s → files_known self.new ≡ files_known self.old }
         ensures fixed { OnOk result (IsTrue (is_some (schema_in self.new))) }

@@ -1,4 +1,5 @@
 pub mod Variables
+pub mod OneVariable
 pub mod Failing
 pub mod Agreeing
 pub mod StandIns

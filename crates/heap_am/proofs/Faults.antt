@@ -11,7 +11,7 @@ use Rattle.am_traits.specs.declared.fault.BaseFault.{BaseFault}
 use Rattle.am_traits.specs.declared.fault.BaseFault.TheVariants.{Disk, Damaged, OutOfMemory}
 use Rattle.access_traits.specs.Causes.{MayFail, HasFileCause}
 use Rattle.access_traits.specs.Placed.{Placed, row_with, is_place}
-use Rattle.access_traits.specs.declared.file.RelFile.{RelFile}
+use Rattle.calculus.specs.declared.schema.RelFile.{RelFile}
 use Rattle.page_cells.specs.Page.{Slot, slots}
 use Rattle.page_cells.specs.RowBytes.{is_row, row_bytes}
 use Rattle.page_chain.specs.Chains.{OffPage, NoChain, NoChainTo, is_on, whole_chain, numbers_from}
@@ -121,10 +121,10 @@ of_page file k l p bytes (Damaged f n) lt at h = λ m is. subst (HeapFault file 
 of_page file k l p bytes OutOfMemory lt at h = tt
 
 -- the fault of a page may come
-pub may_come : (file : RelFile) (k : ℕ) (p : List ℕ) (told : Option Image) (before now : ℕ) (fault : BaseFault) → ((m : Image) → told ≡ Some m → m (page_at file.file k) ≡ Some p) → IsOfPage file k p fault → MayFail told (HeapFault file) before now fault
-may_come file k p told before now Disk there h = absurd h
-may_come file k p told before now (Damaged f n) there h = λ m e. h m (there m e)
-may_come file k p told before now OutOfMemory there h = tt
+pub may_come : (file : RelFile) (k : ℕ) (p : List ℕ) (told : Option Image) (before now : ℕ) (fault : BaseFault) → now ≡ before → ((m : Image) → told ≡ Some m → m (page_at file.file k) ≡ Some p) → IsOfPage file k p fault → MayFail told (HeapFault file) before now fault
+may_come file k p told before now Disk calm there h = absurd h
+may_come file k p told before now (Damaged f n) calm there h = (λ m e. h m (there m e), calm)
+may_come file k p told before now OutOfMemory calm there h = calm
 
 -- ---- causes
 
@@ -135,34 +135,33 @@ cause_by {told = told} {P = P} Q {before = before} {now = now} s e f h is = subs
   where
     by_fault : (e : BaseFault) → MayFail told P before now e → MayFail told Q before now e
     by_fault Disk h = h
-    by_fault (Damaged file page) h = λ m e. f m (record { file = file; page = page }) (h m e)
+    by_fault (Damaged file page) h = (λ m e. f m (record { file = file; page = page }) (h.0 m e), h.1)
     by_fault OutOfMemory h = h
 
 -- damage at a page that is at fault
-pub cause_damaged : {T : Type 0} (told : Option Image) (file : RelFile) (k before now : ℕ) (e : BaseFault) → e ≡ Damaged file.file k → before ≤ now
+pub cause_damaged : {T : Type 0} (told : Option Image) (file : RelFile) (k before now : ℕ) (e : BaseFault) → e ≡ Damaged file.file k → now ≡ before
     → ((m : Image) → told ≡ Some m → HeapFault file m (page_at file.file k)) → HasFileCause {T = T} told (HeapFault file) before now (Err e)
-cause_damaged told file k before now e is le f = record { later = le; caused = subst (MayFail told (HeapFault file) before now) (sym is) f }
+cause_damaged told file k before now e is calm f = record { later = omega (arith, calm); caused = subst (MayFail told (HeapFault file) before now) (sym is) (f, calm) }
 
 -- the fault of a page that was read
 pub cause_of_page : {T : Type 0} (told : Option Image) (file : RelFile) (k : ℕ) (p : List ℕ) (before now : ℕ) (r : Result T BaseFault) → now ≡ before
     → ((m : Image) → told ≡ Some m → m (page_at file.file k) ≡ Some p) → IfErr r (IsOfPage file k p) → HasFileCause told (HeapFault file) before now r
 cause_of_page told file k p before now (Ok x) calm there h = record { later = omega (arith, calm); caused = calm }
-cause_of_page told file k p before now (Err e) calm there h = record { later = omega (arith, calm); caused = may_come file k p told before now e there h }
+cause_of_page told file k p before now (Err e) calm there h = record { later = omega (arith, calm); caused = may_come file k p told before now e calm there h }
 
-rose_before : (before later now : ℕ) → before ≤ later → Rose later now → Rose before now
-rose_before before later now le h = omega arith
+rose_before : (before later now : ℕ) → later ≡ before → Rose later now → Rose before now
+rose_before before later now calm = subst (λ n. Rose n now) calm
 
--- the fault of a later call
+-- the fault of a later call, where those before it answered
 pub cause_later : {T U : Type 0} (told since : Option Image) (P : Image → Addr → Type 0) (before later now : ℕ) (s : Result U BaseFault) (e : BaseFault)
-    → since ≡ told → before ≤ later → HasFileCause {T = T} since P later now (Err e) → s ≡ Err e → HasFileCause {T = U} told P before now s
-cause_later told since P before later now s e same le h is =
-    let l = h.later in
-    subst (HasFileCause told P before now) (sym is) (record { later = omega arith; caused = by_fault e h.caused })
+    → since ≡ told → later ≡ before → HasFileCause {T = T} since P later now (Err e) → s ≡ Err e → HasFileCause {T = U} told P before now s
+cause_later told since P before later now s e same calm h is =
+    subst (HasFileCause told P before now) (sym is) (record { later = omega (arith, calm, h.later); caused = by_fault e h.caused })
   where
     by_fault : (e : BaseFault) → MayFail since P later now e → MayFail told P before now e
-    by_fault Disk h = rose_before before later now le h
-    by_fault (Damaged file page) h = λ m e. h m (same ∙ e)
-    by_fault OutOfMemory h = h
+    by_fault Disk h = rose_before before later now calm h
+    by_fault (Damaged file page) h = (λ m e. h.0 m (same ∙ e), h.1 ∙ calm)
+    by_fault OutOfMemory h = h ∙ calm
 
 -- the last page, where no chain ends at it, is at fault
 pub off_last : (file : RelFile) (m : Image) (a : Addr) → 0 < file.used → OffPage file.file (file.used - 1) (file.used - 1 + 1) m a → HeapFault file m a

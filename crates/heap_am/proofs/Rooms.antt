@@ -26,7 +26,7 @@ pub cause_same : {T U : Type 0} (told : Option Image) (P : Image → Addr → Ty
     → HasFileCause {T = T} told P before now (Err e) → IsErrAnd s (λ f. f ≡ e) → HasFileCause {T = U} told P before now s
 cause_same told P before now s e h is = subst (HasFileCause told P before now) (sym (handed_on s e is)) (record { later = h.later; caused = h.caused })
 
--- the fault of a call of the store
+-- the fault of a call of the store, where those before it answered
 pub cause_put : {T U : Type 0} (told : Option Image) (P : Image → Addr → Type 0) (before between now : ℕ) (s : Result U BaseFault) (fault : StoreFault)
-    → before ≤ between → HasStoreCause {T = T} between now (Err fault) → IsErrAnd s (λ e. e ≡ of_store fault) → HasFileCause {T = U} told P before now s
-cause_put {T} {U} told P before between now s fault le its is = subst (HasFileCause told P before now) (sym (handed_on s (of_store fault) is)) (cause_store {T = T} {U = U} told P before between now fault (of_store fault) le refl its)
+    → between ≡ before → HasStoreCause {T = T} between now (Err fault) → IsErrAnd s (λ e. e ≡ of_store fault) → HasFileCause {T = U} told P before now s
+cause_put {T} {U} told P before between now s fault calm its is = subst (HasFileCause told P before now) (sym (handed_on s (of_store fault) is)) (cause_store {T = T} {U = U} told P before between now fault (of_store fault) calm refl its)

@@ -7,7 +7,7 @@ use Rattle.am_traits.specs.declared.fault.BaseFault.TheVariants.{Disk, Damaged, 
 use Rattle.disk_model.specs.Disk.{Image, is_at}
 use Rattle.disk_model.specs.declared.disk.Addr.{Addr}
 use Rattle.access_traits.specs.Placed.{Placed}
-use Rattle.access_traits.specs.declared.file.RelFile.{RelFile}
+use Rattle.calculus.specs.declared.schema.RelFile.{RelFile}
 use Rattle.page_cells.specs.Page.{Slot}
 use Rattle.page_chain.specs.Lists.{each}
 use Rattle.page_chain.specs.Lying.{lying_on}

@@ -7,7 +7,7 @@ use Rattle.disk_model.specs.Disk.{Image}
 use Rattle.disk_model.specs.declared.disk.Addr.{Addr}
 use Rattle.am_traits.specs.Scans.{first_place}
 use Rattle.access_traits.specs.Placed.{Placed}
-use Rattle.access_traits.specs.declared.file.RelFile.{RelFile}
+use Rattle.calculus.specs.declared.schema.RelFile.{RelFile}
 use Rattle.page_chain.specs.Pages.{page_at}
 use Rattle.page_chain.specs.Rows.{placed_on, reader}
 use Rattle.heap_am.specs.Heap.{heap_rows, HeapFault, is_last, pages_ahead}

@@ -1,5 +1,5 @@
 -- Faults that come of one part or of one step, as those of the whole.
-use Rattle.std.proofs.Common.{IsErrOf, ◌≡◌, ◌==◌, ◌⊎◌, ◌+◌, ◌-◌, ◌^◌, ◌≤◌, ◌++◌, [], inl, inr, ℕ, true, false, List, Some, None, Result, Ok, Err, refl, sym, ap, ◌∙◌, append_assoc, length, length-append, arith}
+use Rattle.std.proofs.Common.{IsErrOf, ◌≡◌, ◌==◌, ◌⊎◌, ◌+◌, ◌-◌, ◌^◌, ◌≤◌, ◌++◌, [], inl, inr, ℕ, true, false, Some, None, Result, Ok, Err, refl, sym, ap, ◌∙◌, append_assoc, length, length-append, arith}
 use Rattle.std.proofs.lemmas.Grind.{common_steps}
 use Rattle.std.specs.declared.option.Option.{Option}
 use Rattle.calculus.specs.Database.{Db}
@@ -111,10 +111,10 @@ counts_from old mid after faults.Source e c = c ∙ ap (λ (k : Counts). record 
 counts_from old mid after faults.Sink e c = c ∙ ap (λ (k : Counts). record { base = k.base; shelf = k.shelf; source = k.source; sink = after.sink_faults; stalls = after.sink_stalls }) e
 counts_from old mid after faults.Shelf e c = c ∙ ap (λ (k : Counts). record { base = k.base; shelf = after.shelf_faults; source = k.source; sink = k.sink; stalls = k.stalls }) e
 counts_from old mid after faults.Disk e c = c ∙ ap (λ (k : Counts). record { base = after.base_faults; shelf = k.shelf; source = k.source; sink = k.sink; stalls = k.stalls }) e
-counts_from old mid after (faults.Damaged file page) e c = c ∙ ap (λ (k : Counts). record { base = after.base_faults; shelf = k.shelf; source = k.source; sink = k.sink; stalls = k.stalls }) e
+counts_from old mid after (faults.Damaged file page) e c = c ∙ e
 counts_from old mid after faults.TooLong e c = c ∙ e
 counts_from old mid after faults.Unlawful e c = c ∙ e
-counts_from old mid after faults.OutOfMemory e c = c ∙ ap (λ (k : Counts). record { base = after.base_faults; shelf = k.shelf; source = k.source; sink = k.sink; stalls = k.stalls }) e
+counts_from old mid after faults.OutOfMemory e c = c ∙ e
 
 -- a stage has one number
 pub apart_numbers : (p n m : ℕ) → p ≡ n → p ≡ m → (n == m) ≡ false → ⊥

@@ -2,11 +2,10 @@
 use Rattle.std.proofs.Common.{◌≡◌, Option, refl, sym, ap, subst, ◌∙◌, ℕ, ◌+◌, ◌-◌, ◌^◌, ◌≤◌, List, [], ◌∷◌, ◌++◌, length, length-append, arith, inl, inr, Ok, Err}
 use Rattle.calculus.specs.Database.{Db}
 use Rattle.std.proofs.KnownBytes.{Appends-nil, Consumes-nil}
-use Rattle.net_core.proofs.Faulty.{counts_from, database_more, database_same, heard_more, heard_same, later_more, later_same, may_come_from, script_more, script_same}
+use Rattle.net_core.proofs.Faulty.{database_more, database_same, heard_more, heard_same, later_more, later_same, may_come_from, script_more, script_same}
 use Rattle.net_core.specs.declared.steps.Moved.{Moved}
 use Rattle.net_core.specs.declared.steps.Moved.TheVariants.{Stepped, Blocked}
 use Rattle.net_core.specs.Crashes.{StepLeaves}
-use Rattle.net_core.specs.Spares.{counts}
 use Rattle.net_core.specs.Told.{KeepsDatabase, KeepsScript, Later, Outside}
 use Rattle.network_meaning.specs.Language.{Language}
 use Rattle.network_meaning.specs.Network.{LocalState}
@@ -19,7 +18,7 @@ use Rattle.net_core.specs.Incoming.{Holds}
 use Rattle.net_core.specs.Moves.{At, LocalRun, Move, StepsBy, given_left, given_right, taken_left, taken_right}
 use Rattle.net_core.specs.Sides.{Side, Sides}
 use Rattle.net_core.specs.LoopSteps.{Goes, Hand, Past, Ran, RanWhole, RoomKept, SideGoes, StepDone, at_hand}
-use Rattle.net_core.specs.WholeLoop.{Ending, EndsKept, HowEnded, LoopCounts, LoopLeaves}
+use Rattle.net_core.specs.WholeLoop.{Ending, HowEnded, LoopLeaves}
 use Rattle.net_core.proofs.Going.{side_read, stays_later, wrote_all}
 use Rattle.net_core.proofs.GivingSteps.{nothing_more}
 use Rattle.net_core.proofs.LoopCrashing.{TellsOn, leaves_alone, leaves_at, leaves_behind, leaves_on, nothing_left, step_tells}
@@ -216,33 +215,3 @@ room_on place place' h h' h'' a b c moved e f g = record {
   within = λ le. g.within (f.within le);
   counts = g.counts ∙ f.counts;
 }
-
-loop_counts : (T : Type 0) (a b c : Outside) (f : LoopFault) → counts b ≡ counts a → LoopCounts {T = T} b c (Err f) → LoopCounts {T = T} a c (Err f)
-loop_counts T a b c (fault.Work f) e k = counts_from a b c f e k
-loop_counts T a b c fault.LeftRead e k = k ∙ e
-loop_counts T a b c fault.LeftWrite e k = k ∙ e
-loop_counts T a b c fault.Right e k = k ∙ e
-loop_counts T a b c fault.EndedEarly e k = k ∙ e
-loop_counts T a b c fault.Spent e k = k ∙ e
-loop_counts T a b c (fault.BadFrame at) e k = k ∙ e
-loop_counts T a b c (fault.Told status) e k = k ∙ e
-loop_counts T a b c fault.OutOfMemory e k = k ∙ e
-
--- the room behind a step that failed
-pub room_failed : (place place' h h' h'' : ℕ) (a b c : Outside) (f : LoopFault) → place' ≡ place → RoomKept place h h' a b (Ok Stepped) → RoomKept place' h' h'' b c (Err f) → RoomKept place h h'' a c (Err f)
-room_failed place place' h h' h'' a b c f e r s = record {
-  later = later_more a b c r.later s.later;
-  script = script_more h h' h'' a b c r.script s.script;
-  database = tt;
-  ends = λ apart. let x = r.ends apart in let y = s.ends (λ k. apart (sym e ∙ k)) in record { same = y.same ∙ x.same; unread = y.unread ∙ x.unread; inside = y.inside };
-  given = heard_more h h' h'' a.given b.given c.given r.given s.given;
-  within = λ le. s.within (r.within le);
-  counts = loop_counts Moved a b c f r.counts s.counts;
-}
-
--- the ends of the room, as those of a whole run
-pub ends_as : (h h' : ℕ) (a b : Outside) (f : LoopFault) → EndsKept {T = Moved} h h' a b (Err f) → EndsKept {T = Unit {0}} h h' a b (Err f)
-ends_as h h' a b f e = record { same = e.same; unread = e.unread; inside = e.inside }
-
-pub ends_ok : (h h' : ℕ) (a b : Outside) (moved : Moved) (x : Unit {0}) → EndsKept {T = Moved} h h' a b (Ok moved) → EndsKept {T = Unit {0}} h h' a b (Ok x)
-ends_ok h h' a b moved x e = record { same = e.same; unread = e.unread; inside = tt }

@@ -15,18 +15,12 @@ pub record Counts : Type 0 where
 abbrev pub counts : Outside → Counts
 counts o = record { base = o.base_faults; shelf = o.shelf_faults; source = o.source_faults; sink = o.sink_faults; stalls = o.sink_stalls }
 
--- no count rose but perhaps that of the base
-abbrev pub CountsOnlyOfBase : Outside → Outside → Type 0
-CountsOnlyOfBase before after = counts after ≡ record { base = after.base_faults; shelf = before.shelf_faults; source = before.source_faults; sink = before.sink_faults; stalls = before.sink_stalls }
-
--- no count rose but that which the fault names. Where a page is damaged or memory is wanting, the base says no more of its own count than that it doesn't fall
+-- no count rose but that which the fault names: that of the source, those of the sink, that of the shelf, or that of the base where the disk failed. Any other fault names none
 abbrev pub CountsOnlyBy : Outside → Outside → WorkFault → Type 0
 CountsOnlyBy before after faults.Source = counts after ≡ record { base = before.base_faults; shelf = before.shelf_faults; source = after.source_faults; sink = before.sink_faults; stalls = before.sink_stalls }
 CountsOnlyBy before after faults.Sink = counts after ≡ record { base = before.base_faults; shelf = before.shelf_faults; source = before.source_faults; sink = after.sink_faults; stalls = after.sink_stalls }
 CountsOnlyBy before after faults.Shelf = counts after ≡ record { base = before.base_faults; shelf = after.shelf_faults; source = before.source_faults; sink = before.sink_faults; stalls = before.sink_stalls }
-CountsOnlyBy before after faults.Disk = CountsOnlyOfBase before after
-CountsOnlyBy before after (faults.Damaged file page) = CountsOnlyOfBase before after
-CountsOnlyBy before after faults.OutOfMemory = CountsOnlyOfBase before after
+CountsOnlyBy before after faults.Disk = counts after ≡ record { base = after.base_faults; shelf = before.shelf_faults; source = before.source_faults; sink = before.sink_faults; stalls = before.sink_stalls }
 CountsOnlyBy before after _ = counts after ≡ counts before
 
 -- with an answer no count rose, and with a fault only that which it names

@@ -1,6 +1,8 @@
-//! Tests of the network: links and spawners, rounds of turns, and stages that play a written list, in a line and as processes.
+//! Tests of the network: links and spawners, rounds of turns, stages that play a written list, in a line and as processes, and one that serves everyone.
 #![tactic(auto)]
 
+mod carrier;
+mod fickle;
 #[cfg(test)]
 mod links;
 #[cfg(test)]
@@ -10,3 +12,5 @@ mod players;
 mod processes;
 #[cfg(test)]
 mod rounds;
+#[cfg(test)]
+mod serving;

@@ -1,6 +1,7 @@
 pub mod FewRows
 pub mod ByScan
 pub mod Kept
+pub mod Known
 pub mod Plain
 pub mod Failing
 pub mod Assigning

@@ -59,7 +59,6 @@ pub fn one_variable<B: Base>(
     ensures kept { B.database base.new ≡ B.database base.old }
     ensures stays { (s : Db) → B.schema base.old ≡ Some s → B.schema base.new ≡ Some s }
     ensures asked { (b : B) → B.asked b base.old → B.asked b base.new }
-    ensures same { B.left base.new ≡ B.left base.old }
     ensures cause { (q : Query) → IsQueryOf q rel.now qual.now targets.now → HasCause no_aggs q (B.database base.old) (B.faults base.old) (B.faults base.new) result }
 {
     if is_place_used(qual, targets, 0) {

@@ -1,22 +1,15 @@
 //! The rows that a database keeps under a key.
 
-ghost use Rattle.std.specs.Prelude.{◌≡◌, [], ◌∷◌, ◌++◌, Some, IfOk, OnOk};
+ghost use Rattle.std.specs.Prelude.{◌≡◌, [], Some, IfOk, OnOk};
 ghost use Rattle.calculus.specs.Database.{Db};
 ghost use Rattle.calculus.specs.Rows.{set_of};
 ghost use Rattle.calculus.specs.Stored.{rows_at};
 ghost use Rattle.am_traits.specs.Causes.{HasCause};
 
 use am_traits::{Base, BaseFault};
-use calculus::{List, OutOfMemory, Place, Probe, RelKey, Row, RowSet};
+use calculus::{List, Place, Probe, RelKey, Row, RowSet};
+use memory::push;
 use std::alloc::Global;
-
-/// The row behind the others.
-fn put_behind(rows: &mut Vec<Row>, row: Row) -> Result<(), OutOfMemory>
-    ensures { OnOk result (rows.new.items ≡ rows.old.items ++ row ∷ []) }
-{
-    rows.push(row)?;
-    Ok(())
-}
 
 /// Puts the rows of the relation or catalogue under a key into an empty list, by one scan.
 fn put_scanned<B: Base>(
@@ -32,13 +25,12 @@ fn put_scanned<B: Base>(
     ensures kept { B.database base.new ≡ B.database base.old }
     ensures stays { (s : Db) → B.schema base.old ≡ Some s → B.schema base.new ≡ Some s }
     ensures asked { (b : B) → B.asked b base.old → B.asked b base.new }
-    ensures same { B.left base.new ≡ B.left base.old }
     ensures cause { HasCause (B.database base.old) (B.faults base.old) (B.faults base.new) result }
 {
     let mut at = Place { page: 0, line: 0 };
     for call in 0..1_000_001u32 {
         match base.scan(alloc, key, probe, &mut at)? {
-            Some(row) => put_behind(rows, row)?,
+            Some(row) => push(rows, row)?,
             None => return Ok(()),
         }
     }
@@ -52,7 +44,6 @@ pub fn rows_of<B: Base>(alloc: Global, base: &mut B, key: &RelKey) -> Result<Row
     ensures kept { B.database base.new ≡ B.database base.old }
     ensures stays { (s : Db) → B.schema base.old ≡ Some s → B.schema base.new ≡ Some s }
     ensures asked { (b : B) → B.asked b base.old → B.asked b base.new }
-    ensures same { B.left base.new ≡ B.left base.old }
     ensures cause { HasCause (B.database base.old) (B.faults base.old) (B.faults base.new) result }
 {
     let probe = Probe {

@@ -34,7 +34,6 @@ fn put_scanned<B: Base>(
     ensures kept { B.database base.new ≡ B.database base.old }
     ensures stays { (s : Db) → B.schema base.old ≡ Some s → B.schema base.new ≡ Some s }
     ensures asked { (b : B) → B.asked b base.old → B.asked b base.new }
-    ensures same { B.left base.new ≡ B.left base.old }
     ensures cause { (q : Query) → IsQueryOf q rel.now qual.now targets.now → HasCause q rel.now (B.database base.old) (B.faults base.old) (B.faults base.new) result }
 {
     let mut at = Place { page: 0, line: 0 };
@@ -62,7 +61,6 @@ pub(crate) fn given_by_scan<B: Base>(
     ensures kept { B.database base.new ≡ B.database base.old }
     ensures stays { (s : Db) → B.schema base.old ≡ Some s → B.schema base.new ≡ Some s }
     ensures asked { (b : B) → B.asked b base.old → B.asked b base.new }
-    ensures same { B.left base.new ≡ B.left base.old }
     ensures cause { (q : Query) → IsQueryOf q rel.now qual.now targets.now → HasCause q rel.now (B.database base.old) (B.faults base.old) (B.faults base.new) result }
 {
     let probe = Probe {

@@ -1,5 +1,5 @@
 -- Faults that come of a call below.
-use Rattle.std.proofs.Common.{◌≡◌, ℕ, ◌≤◌, Option, Some, arith}
+use Rattle.std.proofs.Common.{◌≡◌, ◌∙◌, subst, ℕ, Option, Some, arith}
 use Rattle.std.specs.Prelude.{Err}
 use Rattle.fault_io.specs.Causes.{Rose}
 use Rattle.disk_model.specs.Disk.{Image}
@@ -8,17 +8,17 @@ use Rattle.am_traits.specs.declared.fault.BaseFault.{BaseFault}
 use Rattle.am_traits.specs.declared.fault.BaseFault.TheVariants as faults
 use Rattle.access_traits.specs.Causes.{HasFileCause, MayFail}
 
--- what rose later rose
-rose_later : (before mid now : ℕ) → before ≤ mid → Rose mid now → Rose before now
-rose_later before mid now le rose = omega arith
+-- what rose since then rose
+rose_later : (before mid now : ℕ) → mid ≡ before → Rose mid now → Rose before now
+rose_later before mid now calm = subst (λ n. Rose n now) calm
 
--- a fault may come for a weaker cause, after other calls
-pub may_fail_later : (told : Option Image) (P Q : Image → Addr → Type 0) (before mid now : ℕ) (fault : BaseFault) → before ≤ mid → ((m : Image) (a : Addr) → told ≡ Some m → P m a → Q m a)
+-- a fault may come for a weaker cause, after other calls that answered
+pub may_fail_later : (told : Option Image) (P Q : Image → Addr → Type 0) (before mid now : ℕ) (fault : BaseFault) → mid ≡ before → ((m : Image) (a : Addr) → told ≡ Some m → P m a → Q m a)
     → MayFail told P mid now fault → MayFail told Q before now fault
-may_fail_later told P Q before mid now faults.Disk le weaker may = rose_later before mid now le may
-may_fail_later told P Q before mid now (faults.Damaged file page) le weaker may = λ m is. weaker m (record { file = file; page = page }) is (may m is)
-may_fail_later told P Q before mid now faults.OutOfMemory le weaker may = tt
+may_fail_later told P Q before mid now faults.Disk calm weaker may = rose_later before mid now calm may
+may_fail_later told P Q before mid now (faults.Damaged file page) calm weaker may = (λ m is. weaker m (record { file = file; page = page }) is (may.0 m is), may.1 ∙ calm)
+may_fail_later told P Q before mid now faults.OutOfMemory calm weaker may = may ∙ calm
 
-pub fault_later : {T U : Type 0} (told : Option Image) (P Q : Image → Addr → Type 0) (before mid now : ℕ) (fault : BaseFault) → before ≤ mid → ((m : Image) (a : Addr) → told ≡ Some m → P m a → Q m a)
+pub fault_later : {T U : Type 0} (told : Option Image) (P Q : Image → Addr → Type 0) (before mid now : ℕ) (fault : BaseFault) → mid ≡ before → ((m : Image) (a : Addr) → told ≡ Some m → P m a → Q m a)
     → HasFileCause {T = T} told P mid now (Err fault) → HasFileCause {T = U} told Q before now (Err fault)
-fault_later told P Q before mid now fault le weaker cause = record { later = let lt = cause.later in omega arith; caused = may_fail_later told P Q before mid now fault le weaker cause.caused }
+fault_later told P Q before mid now fault calm weaker cause = record { later = omega (arith, calm, cause.later); caused = may_fail_later told P Q before mid now fault calm weaker cause.caused }

@@ -1,5 +1,5 @@
 -- The number of a fault is that of the statement's cause.
-use Rattle.std.proofs.Common.{◌≡◌, ◌∙◌, sym, subst, ℕ, List, Some, Err}
+use Rattle.std.proofs.Common.{◌≡◌, ◌∙◌, sym, subst, ℕ, ◌<◌, List, Some, Err}
 use Rattle.std.specs.Prelude.{Result, Ok, IsErr, IsErrAnd}
 use Rattle.std.specs.declared.option.Option.{Option}
 use Rattle.calculus.specs.declared.change.Pair.{Pair}
@@ -8,6 +8,7 @@ use Rattle.calculus.specs.declared.request.Update.{Update}
 use Rattle.calculus.specs.declared.reply.Reply.{Reply}
 use Rattle.calculus.specs.declared.reply.Reply.TheVariants.{Refused}
 use Rattle.calculus.specs.Database.{Db}
+use Rattle.calculus.specs.Limits.{most_rows}
 use Rattle.calculus.specs.Replacement.{updated}
 use Rattle.calculus.specs.Who.{Free}
 use Rattle.ovqp.specs.declared.fault.QueryFault.{QueryFault}
@@ -43,16 +44,17 @@ refused_by made refused (Err OutOfMemory) h f = tt
 -- what refuses the change of an update
 pub change_stops : (db : Db) (u : Update) (ps : List Pair) (told : Option Db) (before now : ℕ) (fault : UpdateFault)
     → told ≡ Some db → MakesNew db u → ArePairs db u ps → changing.MayFail u ps told before now fault → RefusedBy (λ number. updated db Free u ≡ Err number) (change_stop fault)
-change_stops db u ps told before now (change.Contended old first second) e new are may = contended_refused db u ps are may.0
-change_stops db u ps told before now change.TooMany e new are may = many_refused db u ps are may.0 (may.1 db e new)
+change_stops db u ps told before now (change.Contended old first second) e new are may = contended_refused db u ps are may.1
+change_stops db u ps told before now (change.TooMany count) e new are may =
+    let many = may.2 db e new in many_refused db u ps are may.1 (subst (λ n. most_rows < n) many.0 many.1)
 change_stops db u ps told before now (change.Base fault) e new are may = tt
 change_stops db u ps told before now change.OutOfMemory e new are may = tt
 
 -- what refuses its pairs
 pub pair_stops : (db : Db) (u : Update) (told : Option Db) (before now : ℕ) (fault : PairFault)
     → told ≡ Some db → pairing.MayFailIn u told before now fault → RefusedBy (λ number. updated db Free u ≡ Err number) (pair_stop fault)
-pair_stops db u told before now (pair.NotFit row) e may = let unfit = may db e in unfit_refused db u unfit.none_lacks unfit.unfit
-pair_stops db u told before now (pair.Query (query.NoValue at)) e may = lacking_refused db u (may db e).somewhere
+pair_stops db u told before now (pair.NotFit row) e may = let unfit = may.1 db e in unfit_refused db u unfit.none_lacks unfit.unfit
+pair_stops db u told before now (pair.Query (query.NoValue at)) e may = lacking_refused db u (may.1 db e).somewhere
 pair_stops db u told before now (pair.Query (query.Base fault)) e may = tt
 pair_stops db u told before now (pair.Query query.OutOfMemory) e may = tt
 pair_stops db u told before now pair.OutOfMemory e may = tt
@@ -60,7 +62,7 @@ pair_stops db u told before now pair.OutOfMemory e may = tt
 -- what refuses queries
 query_stops : (db : Db) (asked : List Asked) (told : Option Db) (before now : ℕ) (fault : QueryFault) → told ≡ Some db → asking.MayFail (λ db at. asking.OneLacksIn db asked at) told before now fault
     → RefusedBy (λ number. Refused (refusal number) ≡ answer_reply db Free asked) (query_stop fault)
-query_stops db asked told before now (query.NoValue at) e may = queries_lack db asked (may db e).somewhere
+query_stops db asked told before now (query.NoValue at) e may = queries_lack db asked (may.1 db e).somewhere
 query_stops db asked told before now (query.Base fault) e may = tt
 query_stops db asked told before now query.OutOfMemory e may = tt
 

@@ -36,7 +36,7 @@ pair_stop pair.OutOfMemory = OutOfMemory
 -- of the change that they make: 22 where a row would have different new rows, 29 where a relation would have too many
 abbrev pub change_stop : UpdateFault → Stopped
 change_stop (change.Contended old first second) = No 22
-change_stop change.TooMany = No 29
+change_stop (change.TooMany count) = No 29
 change_stop (change.Base fault) = OutOfMemory
 change_stop change.OutOfMemory = OutOfMemory
 

@@ -64,7 +64,7 @@ impl From<UpdateFault> for Stopped {
                 first: _,
                 second: _,
             } => Stopped::No(CONTENDED),
-            UpdateFault::TooMany => Stopped::No(TOO_MANY),
+            UpdateFault::TooMany { rows: _ } => Stopped::No(TOO_MANY),
             UpdateFault::Base(_) => Stopped::OutOfMemory,
             UpdateFault::OutOfMemory => Stopped::OutOfMemory,
         }

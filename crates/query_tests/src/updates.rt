@@ -126,7 +126,7 @@ fn moved(
     match &change {
         Ok(DbChange::Rows { remove, add, .. }) => Some((remove.items().len(), add.items().len())),
         Ok(DbChange::Create { rows, .. }) => Some((0, rows.items().len())),
-        Err(UpdateFault::TooMany) => None,
+        Err(UpdateFault::TooMany { rows: _ }) => None,
         _ => Some((9, 9)),
     }
 }

@@ -9,7 +9,7 @@ use Rattle.access_traits.specs.Causes.{HasFileCause, MayFail}
 use Rattle.am_traits.specs.declared.fault.BaseFault.{BaseFault}
 use Rattle.am_traits.specs.declared.fault.BaseFault.TheVariants.{Disk, Damaged, OutOfMemory}
 use Rattle.access_traits.specs.Placed.{Placed, NowHolds, Replaced, SameButUsed, rows_differ, rows_of}
-use Rattle.access_traits.specs.declared.file.RelFile.{RelFile}
+use Rattle.calculus.specs.declared.schema.RelFile.{RelFile}
 use Rattle.calculus.specs.Replacement.{with_rows, without_rows}
 use Rattle.calculus.specs.Rows.{Row, has, set_of}
 use Rattle.calculus.specs.Value.{row_cmp}
@@ -121,5 +121,5 @@ fault_told file opened remove told before later s e same h is =
   where
     by_fault : (e : BaseFault) → MayFail told (HeapFault opened) before later e → MayFail told (HasNoneOf file remove) before later e
     by_fault Disk h = h
-    by_fault (Damaged f p) h = λ m t. holds_none file remove m (record { file = f; page = p }) (subst (λ file. HeapFault file m (record { file = f; page = p })) same (h m t))
+    by_fault (Damaged f p) h = (λ m t. holds_none file remove m (record { file = f; page = p }) (subst (λ file. HeapFault file m (record { file = f; page = p })) same (h.0 m t)), h.1)
     by_fault OutOfMemory h = h

@@ -11,16 +11,11 @@ ghost use Rattle.view_text.specs.PutIn.{put_in_tree};
 
 use crate::ruling::ruled;
 use am_traits::Base;
+use calculus::refusals::{NO_PERMIT, PAST_LIMIT};
 use calculus::{Checked, Name};
 use cut_rules::{CutFault, cut_permits};
 use quel_resolve::CheckFault;
 use std::alloc::Global;
-
-/// The number of what isn't permitted.
-const NO_PERMIT: u8 = 23;
-
-/// The number of too many variables.
-const TOO_MANY: u8 = 14;
 
 /// The tree with its views put in, cut down to what the user may see and change; or 23, where something
 /// isn't permitted. 14 can come only where no database is told.
@@ -37,15 +32,12 @@ fn cut<B: Base>(
     ensures kept { B.database base.new ≡ B.database base.old }
     ensures stays { (s : Db) → B.schema base.old ≡ Some s → B.schema base.new ≡ Some s }
     ensures asked { (b : B) → B.asked b base.old → B.asked b base.new }
-    ensures same { B.left base.new ≡ B.left base.old }
     ensures cause { HasCheckCause (B.database base.old) (B.faults base.old) (B.faults base.new) result }
 {
-    let made = cut_permits(alloc, base, user, &tree);
-    drop(tree);
-    match made {
+    match cut_permits(alloc, tree, user, base) {
         Ok(made) => Ok(made),
         Err(CutFault::NoPermit { .. }) => Err(CheckFault::No(NO_PERMIT)),
-        Err(CutFault::TooMany) => Err(CheckFault::No(TOO_MANY)),
+        Err(CutFault::TooMany) => Err(CheckFault::No(PAST_LIMIT)),
         Err(CutFault::Base(fault)) => Err(CheckFault::Base(fault)),
         Err(CutFault::OutOfMemory) => Err(CheckFault::OutOfMemory),
     }
@@ -65,7 +57,6 @@ pub(crate) fn cut_and_ruled<B: Base>(
     ensures kept { B.database base.new ≡ B.database base.old }
     ensures stays { (s : Db) → B.schema base.old ≡ Some s → B.schema base.new ≡ Some s }
     ensures asked { (b : B) → B.asked b base.old → B.asked b base.new }
-    ensures same { B.left base.new ≡ B.left base.old }
     ensures cause { HasCheckCause (B.database base.old) (B.faults base.old) (B.faults base.new) result }
 {
     match cut(alloc, base, user, tree) {

@@ -19,10 +19,9 @@ fn ruled_update<B: Base>(alloc: Global, base: &mut B, u: Update) -> Result<Check
     ensures kept { B.database base.new ≡ B.database base.old }
     ensures stays { (s : Db) → B.schema base.old ≡ Some s → B.schema base.new ≡ Some s }
     ensures asked { (b : B) → B.asked b base.old → B.asked b base.new }
-    ensures same { B.left base.new ≡ B.left base.old }
     ensures cause { HasCause (B.database base.old) (B.faults base.old) (B.faults base.new) result }
 {
-    match add_rules(alloc, base, u) {
+    match add_rules(alloc, u, base) {
         Ok(ruled) => Ok(Checked::Update(ruled)),
         Err(fault) => Err(fault),
     }
@@ -38,7 +37,6 @@ pub(crate) fn ruled<B: Base>(
     ensures kept { B.database base.new ≡ B.database base.old }
     ensures stays { (s : Db) → B.schema base.old ≡ Some s → B.schema base.new ≡ Some s }
     ensures asked { (b : B) → B.asked b base.old → B.asked b base.new }
-    ensures same { B.left base.new ≡ B.left base.old }
     ensures cause { HasCause (B.database base.old) (B.faults base.old) (B.faults base.new) result }
 {
     match update_in(alloc, &mut tree) {

@@ -3,7 +3,6 @@ mod Untested
 pub mod Walks
 pub mod Results
 pub mod Faults
-pub mod Known
 pub mod Meaning
 pub mod Same
 pub mod Failing

@@ -20,8 +20,6 @@ use Rattle.calculus.specs.Term.{Env, holds}
 use Rattle.calculus.specs.VariableRows.{rows_of}
 use Rattle.calculus.specs.Who.{Free}
 use Rattle.am_traits.specs.Causes.{MayCome}
-use Rattle.am_traits.specs.declared.fault.BaseFault.{BaseFault}
-use Rattle.am_traits.specs.declared.fault.BaseFault.TheVariants as faults
 use Rattle.quel_meaning.specs.Tables.{column_of, sorted, table_of, some_query_lacks}
 use Rattle.ovqp.specs.declared.fault.QueryFault.{QueryFault}
 use Rattle.ovqp.specs.declared.fault.QueryFault.TheVariants as query
@@ -126,52 +124,50 @@ lacks_in db q tables at values truth same h = record {
 
 -- ---- a fault
 
-pub comes_later : (told : Option Db) (before mid now : ℕ) (fault : BaseFault) → before ≤ mid → MayCome told mid now fault → MayCome told before now fault
-comes_later told before mid now faults.Disk h may = omega (arith, h, may)
-comes_later told before mid now (faults.Damaged file page) h may = may
-comes_later told before mid now faults.OutOfMemory h may = may
-
 -- a fault of the answer by tables that stand for the aggregates
 may_fail : (q : Query) (tables : List AggTable) (told : Option Db) (before mid now : ℕ) (fault : QueryFault)
     → ((db : Db) → told ≡ Some db → (e : Env) → target_values (tabled tables) (targets_of q) e ≡ target_values (aggregates db Free) (targets_of q) e)
     → ((db : Db) → told ≡ Some db → (e : Env) → holds (tabled tables) (qual_of q) e ≡ holds (aggregates db Free) (qual_of q) e)
     → ((db : Db) → told ≡ Some db → (es : List Env) → some_lacks (tabled tables) q es ≡ some_lacks (aggregates db Free) q es)
-    → before ≤ mid → asking.MayFail (tabled tables) q told mid now fault → MayFail (λ db at. LacksIn db q at) told before now fault
-may_fail q tables told before mid now (query.NoValue at) values truth same le may = λ db e. lacks_in db q tables at (values db e) (truth db e) (same db e) (may db e)
-may_fail q tables told before mid now (query.Base fault) values truth same le may = comes_later told before mid now fault le may
-may_fail q tables told before mid now query.OutOfMemory values truth same le may = tt
+    → mid ≡ before → asking.MayFail (tabled tables) q told mid now fault → MayFail (λ db at. LacksIn db q at) told before now fault
+may_fail q tables told before mid now (query.NoValue at) values truth same stayed may = (may.0 ∙ stayed, λ db e. lacks_in db q tables at (values db e) (truth db e) (same db e) (may.1 db e))
+may_fail q tables told before mid now (query.Base fault) values truth same stayed may = subst (λ n. MayCome told n now fault) stayed may
+may_fail q tables told before mid now query.OutOfMemory values truth same stayed may = may ∙ stayed
 
 is_caused : {T : Type 0} (q : Query) (tables : List AggTable) (told : Option Db) (before mid now : ℕ) (result : Result T QueryFault)
     → ((db : Db) → told ≡ Some db → (e : Env) → target_values (tabled tables) (targets_of q) e ≡ target_values (aggregates db Free) (targets_of q) e)
     → ((db : Db) → told ≡ Some db → (e : Env) → holds (tabled tables) (qual_of q) e ≡ holds (aggregates db Free) (qual_of q) e)
     → ((db : Db) → told ≡ Some db → (es : List Env) → some_lacks (tabled tables) q es ≡ some_lacks (aggregates db Free) q es)
-    → before ≤ mid → asking.IsCaused {T = T} (tabled tables) q told mid now result → IsCaused {T = T} (λ db at. LacksIn db q at) told before now result
-is_caused q tables told before mid now (Ok x) values truth same le may = tt
-is_caused q tables told before mid now (Err fault) values truth same le may = may_fail q tables told before mid now fault values truth same le may
+    → mid ≡ before → asking.IsCaused {T = T} (tabled tables) q told mid now result → IsCaused {T = T} (λ db at. LacksIn db q at) told before now result
+is_caused q tables told before mid now (Ok x) values truth same stayed may = may ∙ stayed
+is_caused q tables told before mid now (Err fault) values truth same stayed may = may_fail q tables told before mid now fault values truth same stayed may
 
 pub settled_cause : {T : Type 0} (q : Query) (tables : List AggTable) (told : Option Db) (before mid now : ℕ) (result : Result T QueryFault)
     → ((db : Db) → told ≡ Some db → (e : Env) → target_values (tabled tables) (targets_of q) e ≡ target_values (aggregates db Free) (targets_of q) e)
     → ((db : Db) → told ≡ Some db → (e : Env) → holds (tabled tables) (qual_of q) e ≡ holds (aggregates db Free) (qual_of q) e)
     → ((db : Db) → told ≡ Some db → (es : List Env) → some_lacks (tabled tables) q es ≡ some_lacks (aggregates db Free) q es)
-    → before ≤ mid → asking.HasCause {T = T} (tabled tables) q told mid now result → HasOneCause {T = T} q told before now result
-settled_cause q tables told before mid now result values truth same le cause = record {
-  later = omega (arith, le, cause.later);
-  caused = is_caused q tables told before mid now result values truth same le cause.caused;
+    → mid ≡ before → asking.HasCause {T = T} (tabled tables) q told mid now result → HasOneCause {T = T} q told before now result
+settled_cause q tables told before mid now result values truth same stayed cause = record {
+  later = omega (arith, stayed, cause.later);
+  caused = is_caused q tables told before mid now result values truth same stayed cause.caused;
 }
 
 -- a fault of one of several
-one_may_fail : (asked : List Asked) (i : ℕ) (one : Asked) (told : Option Db) (before mid now : ℕ) (fault : QueryFault) → i < length asked → one ≡ get_or asked i one → before ≤ mid
+one_may_fail : (asked : List Asked) (i : ℕ) (one : Asked) (told : Option Db) (before mid now : ℕ) (fault : QueryFault) → i < length asked → one ≡ get_or asked i one → mid ≡ before
     → MayFail (λ db at. LacksIn db one.query at) told mid now fault → MayFail (λ db at. OneLacksIn db asked at) told before now fault
-one_may_fail asked i one told before mid now (query.NoValue at) h is le may = λ db e. record {
-  one = one;
-  among = (i, h, sym is);
-  there = may db e;
-  somewhere = one_lacks db asked i one h is (may db e).somewhere;
-}
-one_may_fail asked i one told before mid now (query.Base fault) h is le may = comes_later told before mid now fault le may
-one_may_fail asked i one told before mid now query.OutOfMemory h is le may = tt
+one_may_fail asked i one told before mid now (query.NoValue at) h is stayed may = (
+  may.0 ∙ stayed,
+  λ db e. record {
+    one = one;
+    among = (i, h, sym is);
+    there = may.1 db e;
+    somewhere = one_lacks db asked i one h is (may.1 db e).somewhere;
+  },
+)
+one_may_fail asked i one told before mid now (query.Base fault) h is stayed may = subst (λ n. MayCome told n now fault) stayed may
+one_may_fail asked i one told before mid now query.OutOfMemory h is stayed may = may ∙ stayed
 
 pub one_fails : {T : Type 0} (asked : List Asked) (i : ℕ) (one : Asked) (told : Option Db) (before mid now : ℕ) (fault : QueryFault) (result : Result T QueryFault) → i < length asked → one ≡ get_or asked i one
-    → result ≡ Err fault → before ≤ mid → mid ≤ now → MayFail (λ db at. LacksIn db one.query at) told mid now fault → HasCause {T = T} asked told before now result
-one_fails {T = T} asked i one told before mid now fault result h is made le later may =
-    subst (HasCause {T = T} asked told before now) (sym made) (record { later = omega (arith, le, later); caused = one_may_fail asked i one told before mid now fault h is le may })
+    → result ≡ Err fault → mid ≡ before → mid ≤ now → MayFail (λ db at. LacksIn db one.query at) told mid now fault → HasCause {T = T} asked told before now result
+one_fails {T = T} asked i one told before mid now fault result h is made stayed later may =
+    subst (HasCause {T = T} asked told before now) (sym made) (record { later = omega (arith, stayed, later); caused = one_may_fail asked i one told before mid now fault h is stayed may })

@@ -1,7 +1,7 @@
 //! The pair of one assignment.
 
-ghost use Rattle.std.specs.Prelude.{◌≡◌, map, slice_get, option_map, IfOk};
-ghost use Rattle.calculus.specs.Pairs.{blank, with_values};
+ghost use Rattle.std.specs.Prelude.{◌≡◌, slice_get, option_map, IfOk};
+ghost use Rattle.calculus.specs.Pairs.{with_values};
 ghost use Rattle.stage_proc.specs.Given.{old_in, pair_of};
 
 use crate::new_row::{appended, with_values};

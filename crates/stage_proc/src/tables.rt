@@ -1,6 +1,6 @@
 //! The tables of queries over a database.
 
-ghost use Rattle.std.specs.Prelude.{◌≡◌, [], ◌∷◌, ◌++◌, Some, IsTrue, IsFalse, IfOk, OnOk, All, map};
+ghost use Rattle.std.specs.Prelude.{◌≡◌, Some, IsTrue, IsFalse, IfOk, OnOk, All, map};
 ghost use Rattle.std.specs.List.{list_all};
 ghost use Rattle.calculus.specs.Answer.{answer, lacks};
 ghost use Rattle.calculus.specs.Assignments.{assigned};
@@ -21,6 +21,7 @@ use aggregates::settle;
 use am_traits::Base;
 use calculus::{AggTable, Asked, List, OutOfMemory, Query, RowSet, Table};
 use decompose::{QueryFault, answer};
+use memory::push;
 use std::alloc::Global;
 
 /// The table of these rows, which are a query's answer: a column for each target, and the rows in the
@@ -56,7 +57,6 @@ fn answer_by<B: Base>(
     ensures kept { B.database base.new ≡ B.database base.old }
     ensures stays { (s : Db) → B.schema base.old ≡ Some s → B.schema base.new ≡ Some s }
     ensures asked { (b : B) → B.asked b base.old → B.asked b base.new }
-    ensures same { B.left base.new ≡ B.left base.old }
     ensures cause { HasAnswerCause (tabled tables.items) q.now (B.database base.old) (B.faults base.old) (B.faults base.new) result }
 {
     let set = answer(alloc, base, q, &tables);
@@ -74,7 +74,6 @@ fn settled_answer<B: Base>(alloc: Global, base: &mut B, q: &Query) -> Result<Row
     ensures kept { B.database base.new ≡ B.database base.old }
     ensures stays { (s : Db) → B.schema base.old ≡ Some s → B.schema base.new ≡ Some s }
     ensures asked { (b : B) → B.asked b base.old → B.asked b base.new }
-    ensures same { B.left base.new ≡ B.left base.old }
     ensures cause { HasOneCause q.now (B.database base.old) (B.faults base.old) (B.faults base.new) result }
 {
     let tables = settle(alloc, base, q)?;
@@ -96,19 +95,10 @@ pub fn table_of<B: Base>(alloc: Global, base: &mut B, asked: &Asked) -> Result<T
     ensures kept { B.database base.new ≡ B.database base.old }
     ensures stays { (s : Db) → B.schema base.old ≡ Some s → B.schema base.new ≡ Some s }
     ensures asked { (b : B) → B.asked b base.old → B.asked b base.new }
-    ensures same { B.left base.new ≡ B.left base.old }
     ensures cause { HasOneCause asked.now.query (B.database base.old) (B.faults base.old) (B.faults base.new) result }
 {
     let set = settled_answer(alloc, base, &asked.query)?;
     Ok(table_with(alloc, asked, set)?)
-}
-
-/// The table behind the others.
-fn put_behind(tables: &mut Vec<Table>, table: Table) -> Result<(), OutOfMemory>
-    ensures { OnOk result (tables.new.items ≡ tables.old.items ++ table ∷ []) }
-{
-    tables.push(table)?;
-    Ok(())
 }
 
 /// The tables of queries over a database, in their order, for nobody in particular. It is `NoValue`
@@ -126,13 +116,12 @@ pub fn tables_of<B: Base>(
     ensures kept { B.database base.new ≡ B.database base.old }
     ensures stays { (s : Db) → B.schema base.old ≡ Some s → B.schema base.new ≡ Some s }
     ensures asked { (b : B) → B.asked b base.old → B.asked b base.new }
-    ensures same { B.left base.new ≡ B.left base.old }
     ensures cause { HasCause asked.now (B.database base.old) (B.faults base.old) (B.faults base.new) result }
 {
     let mut tables = Vec::new(alloc);
     for one in asked {
         let table = table_of(alloc, base, one)?;
-        put_behind(&mut tables, table)?;
+        push(&mut tables, table)?;
     }
     let tables = List::of(tables);
     Ok(tables)

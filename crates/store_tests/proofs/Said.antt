@@ -5,7 +5,7 @@ use Rattle.calculus.specs.declared.query.RelKey.{RelKey}
 use Rattle.calculus.specs.declared.schema.Spec.{Spec}
 use Rattle.calculus.specs.declared.schema.Spec.TheVariants.{Heap}
 use Rattle.calculus.specs.Database.{Db}
-use Rattle.access_traits.specs.declared.file.RelFile.{RelFile}
+use Rattle.calculus.specs.declared.schema.RelFile.{RelFile}
 use Rattle.stored_database.specs.Printed.{Files, is_file}
 use Rattle.catalog.specs.Asked.{HasChain, IsTheFile, MayBeFile}
 

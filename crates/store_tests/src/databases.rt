@@ -6,7 +6,7 @@ use crate::made::{
 use am_traits::{Base, BaseFault};
 use batch_file::{Restored, restore};
 use calculus::List;
-use db_disk::{CreateFault, DbDisk, OpenFault, create_db, open_db};
+use db_disk::{CreateFault, DbDisk, OpenFault, create_db};
 use disk_model::{Addr, Disk, Left, MemDisk, Page};
 use std::alloc::Global;
 use std::process::Abort;
@@ -105,7 +105,7 @@ fn says<B: Base>(alloc: Global, rt: &impl Abort, base: &mut B) -> List<i64> {
 
 /// The database on a disk.
 fn opened<D: Disk + Drop>(alloc: Global, rt: &impl Abort, disk: D) -> DbDisk<D> {
-    match open_db(alloc, disk) {
+    match DbDisk::open_db(alloc, disk) {
         Ok(base) => base,
         Err(_) => rt.panic("a database"),
     }
@@ -249,7 +249,7 @@ fn what_is_kept_over_changes_is_what_the_disk_holds(rt: HostRuntime) {
 #[test]
 fn what_is_no_database_is_not_opened(rt: HostRuntime) {
     let empty = MemDisk::new(rt.alloc(), Vec::new(rt.alloc()), None);
-    let fault = match open_db(rt.alloc(), empty) {
+    let fault = match DbDisk::open_db(rt.alloc(), empty) {
         Ok(_) => rt.panic("no database"),
         Err(unopened) => unopened.fault,
     };
@@ -285,7 +285,7 @@ fn forged(
 /// What a forged disk is: 0 the same database, 1 another, 2 refused at a page of these files, 3 no
 /// database.
 fn judged<D: Disk + Drop>(alloc: Global, rt: &impl Abort, disk: D, same: &[i64]) -> usize {
-    let mut base = match open_db(alloc, disk) {
+    let mut base = match DbDisk::open_db(alloc, disk) {
         Ok(base) => base,
         Err(unopened) => return judged_fault(rt, unopened.fault),
     };

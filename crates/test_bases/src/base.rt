@@ -150,6 +150,8 @@ impl Base for TestBase {
 
     ghost starts = { λ _. tt };
 
+    ghost asks_keep = { λ _ _ _. (refl, refl) };
+
     ghost asks = { λ _ _ _. asked_in_memory };
 
     fn dba(&mut self, alloc: Global) -> Result<Name, BaseFault> {

@@ -1,5 +1,5 @@
 -- A fault of pairs is one that may come, whatever database is told.
-use Rattle.std.proofs.Common.{ℕ, List, [], Option}
+use Rattle.std.proofs.Common.{◌≡◌, ℕ, List, [], Option}
 use Rattle.calculus.specs.declared.change.Pair.{Pair}
 use Rattle.calculus.specs.declared.request.Update.{Update}
 use Rattle.calculus.specs.Database.{Db}
@@ -10,8 +10,8 @@ use Rattle.update_change.specs.declared.fault.UpdateFault.TheVariants.{Contended
 use Rattle.update_change.specs.Causes.{IsCause, MayFail}
 
 pub may_fail : (u : Update) (ps : List Pair) (told : Option Db) (before now : ℕ) (fault : UpdateFault)
-    → ((rows : List Row) → IsCause rows ps fault) → MayFail u ps told before now fault
-may_fail u ps told before now (Contended old first second) cause = cause []
-may_fail u ps told before now TooMany cause = ((cause []).0, λ db e new. (cause (rows_at db u.rel)).1)
-may_fail u ps told before now (Base fault) cause = absurd (cause [])
-may_fail u ps told before now OutOfMemory cause = tt
+    → now ≡ before → ((rows : List Row) → IsCause rows ps fault) → MayFail u ps told before now fault
+may_fail u ps told before now (Contended old first second) stayed cause = (stayed, (cause []).0, (cause []).1)
+may_fail u ps told before now (TooMany count) stayed cause = (stayed, (cause []).0, λ db e new. ((cause (rows_at db u.rel)).1, (cause (rows_at db u.rel)).2))
+may_fail u ps told before now (Base fault) stayed cause = absurd (cause [])
+may_fail u ps told before now OutOfMemory stayed cause = stayed

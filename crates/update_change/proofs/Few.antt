@@ -1,5 +1,5 @@
 -- The rows that go and those that come, how many stand then, and the rows that stand where there were none.
-use Rattle.std.proofs.Common.{◌≡◌, ap, ◌∙◌, sym, subst, refl, ◌+◌, ◌-◌, ◌≤◌, ◌<◌, nat_lt, Bool, true, false, not, List, [], ◌∷◌, filter, length, arith}
+use Rattle.std.proofs.Common.{◌≡◌, ap, ◌∙◌, sym, subst, refl, ℕ, ◌+◌, ◌-◌, ◌≤◌, ◌<◌, nat_lt, true, false, not, List, [], ◌∷◌, filter, length, arith}
 use Rattle.std.proofs.lemmas.Bool.{ltb-true, ltb-false}
 use Rattle.std.proofs.lemmas.List.Kept.{IsStrictlySortedBy-filter}
 use Rattle.calculus.specs.declared.change.Pair.{Pair}
@@ -41,20 +41,15 @@ stand_after : (rows remove add : List Row) (ps : List Pair) → Ascends rows →
     → length rows + length add - length remove ≡ length (after rows ps)
 stand_after rows remove add ps h go come = omega (arith, left_is rows ps h, ap length go, ap length come)
 
--- what was counted says whether too many stand after
-counted : (rows remove add : List Row) (ps : List Pair) (answer b : Bool) → Ascends rows → remove ≡ without_rows (after rows ps) rows → add ≡ without_rows rows (after rows ps)
-    → answer ≡ nat_lt most_rows (length rows + length add - length remove) → answer ≡ b → nat_lt most_rows (length (after rows ps)) ≡ b
-counted rows remove add ps answer b h go come counts said = ap (nat_lt most_rows) (sym (stand_after rows remove add ps h go come)) ∙ sym counts ∙ said
+-- more than a relation may have were counted: so many stand after
+pub too_many_after : (rows remove add : List Row) (ps : List Pair) (left : ℕ) → Ascends rows → remove ≡ without_rows (after rows ps) rows → add ≡ without_rows rows (after rows ps)
+    → left ≡ length rows + length add - length remove → nat_lt most_rows left ≡ true → (left ≡ length (after rows ps)) × (most_rows < left)
+too_many_after rows remove add ps left h go come counted many = (counted ∙ stand_after rows remove add ps h go come, ltb-true most_rows left many)
 
-pub too_many_after : (rows remove add : List Row) (ps : List Pair) (answer : Bool) → Ascends rows → remove ≡ without_rows (after rows ps) rows → add ≡ without_rows rows (after rows ps)
-    → answer ≡ nat_lt most_rows (length rows + length add - length remove) → answer ≡ true → most_rows < length (after rows ps)
-too_many_after rows remove add ps answer h go come counts said =
-    ltb-true most_rows (length (after rows ps)) (counted rows remove add ps answer true h go come counts said)
-
-pub few_after : (rows remove add : List Row) (ps : List Pair) (answer : Bool) → Ascends rows → remove ≡ without_rows (after rows ps) rows → add ≡ without_rows rows (after rows ps)
-    → answer ≡ nat_lt most_rows (length rows + length add - length remove) → answer ≡ false → length (after rows ps) ≤ most_rows
-few_after rows remove add ps answer h go come counts said =
-    ltb-false most_rows (length (after rows ps)) (counted rows remove add ps answer false h go come counts said)
+-- no more were counted: no more stand after
+pub few_after : (rows remove add : List Row) (ps : List Pair) (left : ℕ) → Ascends rows → remove ≡ without_rows (after rows ps) rows → add ≡ without_rows rows (after rows ps)
+    → left ≡ length rows + length add - length remove → nat_lt most_rows left ≡ false → length (after rows ps) ≤ most_rows
+few_after rows remove add ps left h go come counted few = subst (λ n. n ≤ most_rows) (counted ∙ stand_after rows remove add ps h go come) (ltb-false most_rows left few)
 
 -- ---- where there were no rows
 

@@ -43,7 +43,6 @@ fn rows_change<B: Base>(
     ensures kept { B.database base.new ≡ B.database base.old }
     ensures stays { (s : Db) → B.schema base.old ≡ Some s → B.schema base.new ≡ Some s }
     ensures asked { (b : B) → B.asked b base.old → B.asked b base.new }
-    ensures same { B.left base.new ≡ B.left base.old }
     ensures cause { HasCause u.now pairs.items (B.database base.old) (B.faults base.old) (B.faults base.new) result }
 {
     let change = rows_moved(alloc, base, u, pairs)?;
@@ -64,8 +63,9 @@ fn rows_change<B: Base>(
 /// rows before. An append, a replace or a delete lets rows of the relation go and come; an update
 /// into a new relation makes it, a heap with the set of the new rows. It is `Contended` exactly where
 /// an old row has different new rows, and carries the least such row and the two least of its new
-/// rows; else `TooMany` exactly where more rows would stand than a relation may have. Doesn't go over
-/// the rows of the relation: it asks for their number, and for each row that the pairs name.
+/// rows; else `TooMany` exactly where more rows would stand than a relation may have, and carries their
+/// number. Doesn't go over the rows of the relation: it asks for their number, and for each row that the
+/// pairs name.
 pub fn change_of<B: Base>(
     alloc: Global,
     base: &mut B,
@@ -81,7 +81,6 @@ pub fn change_of<B: Base>(
     ensures kept { B.database base.new ≡ B.database base.old }
     ensures stays { (s : Db) → B.schema base.old ≡ Some s → B.schema base.new ≡ Some s }
     ensures asked { (b : B) → B.asked b base.old → B.asked b base.new }
-    ensures same { B.left base.new ≡ B.left base.old }
     ensures cause { HasCause u.now pairs.items (B.database base.old) (B.faults base.old) (B.faults base.new) result }
 {
     if is_into(u.op) {

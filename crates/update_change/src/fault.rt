@@ -19,7 +19,10 @@ pub enum UpdateFault {
         second: Row,
     },
     /// More rows would stand than a relation may have.
-    TooMany,
+    TooMany {
+        /// How many would stand.
+        rows: u64,
+    },
     /// A call of the database failed.
     Base(BaseFault),
     /// No memory was left.

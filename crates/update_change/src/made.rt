@@ -66,11 +66,12 @@ fn made_info(alloc: Global, u: &Update) -> Result<RelInfo, OutOfMemory>
 fn few_rows(rows: RowSet) -> Result<RowSet, UpdateFault>
     ensures rows { IfOk result (λ few. few ≡ rows) }
     ensures few { OnOk result (length rows ≤ most_rows) }
-    ensures cause { IfErr result (λ fault. (fault ≡ TooManyRows) × (most_rows < length rows)) }
+    ensures cause { IfErr result (λ fault. (fault ≡ TooManyRows (length rows)) × (most_rows < length rows)) }
 {
-    if are_too_many(rows.len()) {
+    let left = rows.len();
+    if are_too_many(left) {
         drop(rows);
-        return Err(UpdateFault::TooMany);
+        return Err(UpdateFault::TooMany { rows: left as u64 });
     }
     Ok(rows)
 }

@@ -9,7 +9,7 @@ ghost use Rattle.calculus.specs.Stored.{rows_at};
 ghost use Rattle.am_traits.specs.Causes.{HasCause as HasBaseCause};
 ghost use Rattle.update_change.specs.Causes.{HasCause};
 
-use crate::limit::is_too_large;
+use crate::limit::{are_too_many, rows_left};
 use crate::pairs_rows::pairs_rows;
 use crate::there::{those_absent, those_there};
 use crate::{UpdateFault, without};
@@ -32,7 +32,6 @@ fn rows_asked<B: Base>(
     ensures kept { B.database base.new ≡ B.database base.old }
     ensures stays { (s : Db) → B.schema base.old ≡ Some s → B.schema base.new ≡ Some s }
     ensures asked { (b : B) → B.asked b base.old → B.asked b base.new }
-    ensures same { B.left base.new ≡ B.left base.old }
     ensures cause { HasBaseCause (B.database base.old) (B.faults base.old) (B.faults base.new) result }
 {
     let going = without(old, &new);
@@ -66,7 +65,6 @@ fn pairs_asked<B: Base>(
     ensures kept { B.database base.new ≡ B.database base.old }
     ensures stays { (s : Db) → B.schema base.old ≡ Some s → B.schema base.new ≡ Some s }
     ensures asked { (b : B) → B.asked b base.old → B.asked b base.new }
-    ensures same { B.left base.new ≡ B.left base.old }
     ensures cause { HasCause u.now pairs.items (B.database base.old) (B.faults base.old) (B.faults base.new) result }
 {
     match pairs_rows(alloc, pairs) {
@@ -91,13 +89,13 @@ pub(crate) fn rows_moved<B: Base>(
     ensures kept { B.database base.new ≡ B.database base.old }
     ensures stays { (s : Db) → B.schema base.old ≡ Some s → B.schema base.new ≡ Some s }
     ensures asked { (b : B) → B.asked b base.old → B.asked b base.new }
-    ensures same { B.left base.new ≡ B.left base.old }
     ensures cause { HasCause u.now pairs.items (B.database base.old) (B.faults base.old) (B.faults base.new) result }
 {
     let change = pairs_asked(alloc, base, u, pairs)?;
-    if is_too_large(alloc, base, &u.rel, &change)? {
+    let left = rows_left(alloc, base, &u.rel, &change)?;
+    if are_too_many(left) {
         drop(change);
-        return Err(UpdateFault::TooMany);
+        return Err(UpdateFault::TooMany { rows: left as u64 });
     }
     Ok(change)
 }

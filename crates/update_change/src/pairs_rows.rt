@@ -21,7 +21,7 @@ pub(crate) fn pairs_rows(alloc: Global, pairs: Vec<Pair>) -> Result<(RowSet, Row
         Err(ChangeFault::Contended { old, first, second }) => {
             Err(UpdateFault::Contended { old, first, second })
         }
-        Err(ChangeFault::TooMany { rows: _ }) => Err(UpdateFault::TooMany),
+        Err(ChangeFault::TooMany { rows }) => Err(UpdateFault::TooMany { rows }),
         Err(ChangeFault::OutOfMemory) => Err(UpdateFault::OutOfMemory),
     }
 }

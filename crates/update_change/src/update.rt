@@ -9,13 +9,11 @@ ghost use Rattle.update_change.specs.Moves.{IsChange};
 
 use crate::ChangeFault;
 use crate::apart::rows_of_pairs;
+use crate::limit::are_too_many;
 use crate::moves::change_of;
 use calculus::{Change, OutOfMemory, Pair, RowSet};
 use memory::copies;
 use std::alloc::Global;
-
-/// The rows that a relation may have.
-const MOST_ROWS: usize = 100_000;
 
 /// How many rows stand after the change.
 fn rows_left(rows: &RowSet, change: &Change) -> usize
@@ -57,7 +55,7 @@ pub fn set_replace(alloc: Global, rows: &RowSet, pairs: &[Pair]) -> Result<Chang
 {
     let change = change_made(alloc, rows, pairs)?;
     let left = rows_left(rows, &change);
-    if left > MOST_ROWS {
+    if are_too_many(left) {
         drop(change);
         return Err(ChangeFault::TooMany { rows: left as u64 });
     }

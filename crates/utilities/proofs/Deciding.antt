@@ -50,7 +50,7 @@ decided s user u known told before now result plain is made cause = by_result re
   where
     by_result : (result : Result DbChange UtilFault) → IfOk result (λ c. planned s user u ≡ Ok c) → IsCaused user u known told before now result → IsDecided s user u result
     by_result (Ok c) made caused = sym (but_rows s user u plain) ∙ made
-    by_result (Err (No number)) made caused = inl (sym (but_rows s user u plain) ∙ caused s is)
+    by_result (Err (No number)) made caused = inl (sym (but_rows s user u plain) ∙ caused.1 s is)
     by_result (Err (Base fault)) made caused = tt
     by_result (Err OutOfMemory) made caused = tt
 
@@ -60,10 +60,10 @@ pub told_cause : {T : Type 0} (user : List ℕ) (u : Utility) (known told : Opti
 told_cause {T = T} user u known told before now result own cause = record { later = cause.later; caused = by_result result cause.caused }
   where
     by_result : (result : Result T UtilFault) → IsCaused {T = T} user u known told before now result → IsCaused {T = T} user u told told before now result
-    by_result (Ok x) caused = tt
-    by_result (Err (No number)) caused = λ db e. caused db (own db e)
+    by_result (Ok x) caused = caused
+    by_result (Err (No number)) caused = (caused.0, λ db e. caused.1 db (own db e))
     by_result (Err (Base fault)) caused = caused
-    by_result (Err OutOfMemory) caused = tt
+    by_result (Err OutOfMemory) caused = caused
 
 -- ---- a rule
 

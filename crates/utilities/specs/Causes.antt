@@ -1,5 +1,5 @@
 -- Why a utility makes no change.
-use Rattle.std.specs.Prelude.{◌≡◌, ℕ, ◌≤◌, List, Option, Some, Result, Ok, Err, ⊤}
+use Rattle.std.specs.Prelude.{◌≡◌, ℕ, ◌≤◌, List, Option, Some, Result, Ok, Err}
 use Rattle.calculus.specs.declared.request.Utility.{Utility}
 use Rattle.calculus.specs.Database.{Db}
 use Rattle.am_traits.specs.Causes.{MayCome}
@@ -7,18 +7,18 @@ use Rattle.quel_meaning.specs.Planned.{planned}
 use Rattle.utilities.specs.declared.fault.UtilFault.{UtilFault}
 use Rattle.utilities.specs.declared.fault.UtilFault.TheVariants.{No, Base, OutOfMemory}
 
--- this fault may come: the cause of this number refuses the utility by what is known of the database; a fault of the database where it may come, which is told or isn't; want of memory
+-- this fault may come: a fault of the database where it may come, which is told or isn't; where the count of faults stayed, the cause of this number where it refuses the utility by what is known of the database, and want of memory
 abbrev pub MayFail : List ℕ → Utility → Option Db → Option Db → ℕ → ℕ → UtilFault → Type 0
-MayFail user u known told before now (No number) = (db : Db) → known ≡ Some db → planned db user u ≡ Err number
+MayFail user u known told before now (No number) = (now ≡ before) × ((db : Db) → known ≡ Some db → planned db user u ≡ Err number)
 MayFail user u known told before now (Base fault) = MayCome told before now fault
-MayFail user u known told before now OutOfMemory = ⊤
+MayFail user u known told before now OutOfMemory = now ≡ before
 
--- a change, or a fault that may come
+-- a change where the count of faults stayed, or a fault that may come
 abbrev pub IsCaused : {T : Type 0} → List ℕ → Utility → Option Db → Option Db → ℕ → ℕ → Result T UtilFault → Type 0
-IsCaused user u known told before now (Ok x) = ⊤
+IsCaused user u known told before now (Ok x) = now ≡ before
 IsCaused user u known told before now (Err fault) = MayFail user u known told before now fault
 
--- the count of faults never falls, and a fault comes only where it may, where all is known that is told
+-- the count of faults never falls, a change comes only where it stayed, and a fault only where it may, where all is known that is told
 pub record HasCause {T : Type 0} (user : List ℕ) (u : Utility) (told : Option Db) (before now : ℕ) (result : Result T UtilFault) : Type 0 where
   pub later : before ≤ now
   pub caused : IsCaused user u told told before now result

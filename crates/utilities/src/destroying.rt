@@ -42,7 +42,6 @@ fn some_catalogue<B: Base>(alloc: Global, base: &mut B, rels: &[RelKey]) -> Resu
     ensures kept { B.database base.new ≡ B.database base.old }
     ensures stays { (s : Db) → B.schema base.old ≡ Some s → B.schema base.new ≡ Some s }
     ensures asked { (b : B) → B.asked b base.old → B.asked b base.new }
-    ensures same { B.left base.new ≡ B.left base.old }
     ensures cause { HasBaseCause (B.database base.old) (B.faults base.old) (B.faults base.new) result }
 {
     let dba = base.dba(alloc)?;
@@ -67,7 +66,6 @@ fn some_named<B: Base>(
     ensures kept { B.database base.new ≡ B.database base.old }
     ensures stays { (s : Db) → B.schema base.old ≡ Some s → B.schema base.new ≡ Some s }
     ensures asked { (b : B) → B.asked b base.old → B.asked b base.new }
-    ensures same { B.left base.new ≡ B.left base.old }
     ensures cause { HasBaseCause (B.database base.old) (B.faults base.old) (B.faults base.new) result }
 {
     for key in rels {
@@ -85,7 +83,6 @@ fn is_in_use<B: Base>(alloc: Global, base: &mut B, rels: &[RelKey]) -> Result<bo
     ensures kept { B.database base.new ≡ B.database base.old }
     ensures stays { (s : Db) → B.schema base.old ≡ Some s → B.schema base.new ≡ Some s }
     ensures asked { (b : B) → B.asked b base.old → B.asked b base.new }
-    ensures same { B.left base.new ≡ B.left base.old }
     ensures cause { HasBaseCause (B.database base.old) (B.faults base.old) (B.faults base.new) result }
 {
     some_named(alloc, base, rels, rels)
@@ -104,7 +101,6 @@ fn destroying_cause<B: Base>(
     ensures kept { B.database base.new ≡ B.database base.old }
     ensures stays { (s : Db) → B.schema base.old ≡ Some s → B.schema base.new ≡ Some s }
     ensures asked { (b : B) → B.asked b base.old → B.asked b base.new }
-    ensures same { B.left base.new ≡ B.left base.old }
     ensures cause { HasBaseCause (B.database base.old) (B.faults base.old) (B.faults base.new) result }
 {
     if some_catalogue(alloc, base, rels)? {
@@ -140,7 +136,6 @@ pub(crate) fn destroyed<B: Base>(
     ensures kept { B.database base.new ≡ B.database base.old }
     ensures stays { (s : Db) → B.schema base.old ≡ Some s → B.schema base.new ≡ Some s }
     ensures asked { (b : B) → B.asked b base.old → B.asked b base.new }
-    ensures same { B.left base.new ≡ B.left base.old }
     ensures cause { HasCauseBy user.now (utility.Destroy rels.now) (B.schema base.old) (B.database base.old) (B.faults base.old) (B.faults base.new) result }
 {
     match destroying_cause(alloc, base, user, rels.items()) {

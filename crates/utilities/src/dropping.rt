@@ -66,7 +66,6 @@ fn permits_cause<B: Base>(
     ensures kept { B.database base.new ≡ B.database base.old }
     ensures stays { (s : Db) → B.schema base.old ≡ Some s → B.schema base.new ≡ Some s }
     ensures asked { (b : B) → B.asked b base.old → B.asked b base.new }
-    ensures same { B.left base.new ≡ B.left base.old }
     ensures cause { HasBaseCause (B.database base.old) (B.faults base.old) (B.faults base.new) result }
 {
     match permitting_cause(alloc, base, user, rel) {
@@ -90,7 +89,6 @@ fn rules_cause<B: Base>(
     ensures kept { B.database base.new ≡ B.database base.old }
     ensures stays { (s : Db) → B.schema base.old ≡ Some s → B.schema base.new ≡ Some s }
     ensures asked { (b : B) → B.asked b base.old → B.asked b base.new }
-    ensures same { B.left base.new ≡ B.left base.old }
     ensures cause { HasBaseCause (B.database base.old) (B.faults base.old) (B.faults base.new) result }
 {
     match owner_cause(alloc, base, user, rel) {
@@ -111,7 +109,6 @@ pub(crate) fn permits_gone<B: Base>(
     ensures kept { B.database base.new ≡ B.database base.old }
     ensures stays { (s : Db) → B.schema base.old ≡ Some s → B.schema base.new ≡ Some s }
     ensures asked { (b : B) → B.asked b base.old → B.asked b base.new }
-    ensures same { B.left base.new ≡ B.left base.old }
     ensures cause { HasCauseBy user.now (utility.DropPermits rel.now numbers.now) (B.schema base.old) (B.database base.old) (B.faults base.old) (B.faults base.new) result }
 {
     let standing = standing_permits(alloc, base, rel)?;
@@ -134,7 +131,6 @@ pub(crate) fn rules_gone<B: Base>(
     ensures kept { B.database base.new ≡ B.database base.old }
     ensures stays { (s : Db) → B.schema base.old ≡ Some s → B.schema base.new ≡ Some s }
     ensures asked { (b : B) → B.asked b base.old → B.asked b base.new }
-    ensures same { B.left base.new ≡ B.left base.old }
     ensures cause { HasCauseBy user.now (utility.DropRules rel.now numbers.now) (B.schema base.old) (B.database base.old) (B.faults base.old) (B.faults base.new) result }
 {
     let standing = standing_rules(alloc, base, rel)?;

@@ -48,7 +48,6 @@ fn schema_planned<B: Base>(
     ensures kept { B.database base.new ≡ B.database base.old }
     ensures stays { (s : Db) → B.schema base.old ≡ Some s → B.schema base.new ≡ Some s }
     ensures asked { (b : B) → B.asked b base.old → B.asked b base.new }
-    ensures same { B.left base.new ≡ B.left base.old }
     ensures cause { HasCauseBy user.now u.now (B.schema base.old) (B.database base.old) (B.faults base.old) (B.faults base.new) result }
 {
     match u {
@@ -100,7 +99,6 @@ fn known_planned<B: Base>(
     ensures kept { B.database base.new ≡ B.database base.old }
     ensures stays { (s : Db) → B.schema base.old ≡ Some s → B.schema base.new ≡ Some s }
     ensures asked { (b : B) → B.asked b base.old → B.asked b base.new }
-    ensures same { B.left base.new ≡ B.left base.old }
     ensures cause { HasCause user.now u.now (B.database base.old) (B.faults base.old) (B.faults base.new) result }
 {
     match u {
@@ -127,7 +125,6 @@ pub fn plan<B: Base>(
     ensures kept { B.database base.new ≡ B.database base.old }
     ensures stays { (s : Db) → B.schema base.old ≡ Some s → B.schema base.new ≡ Some s }
     ensures asked { (b : B) → B.asked b base.old → B.asked b base.new }
-    ensures same { B.left base.new ≡ B.left base.old }
     ensures cause { HasCause user.now u.now (B.database base.old) (B.faults base.old) (B.faults base.new) result }
 {
     let _count = base.count()?;

@@ -61,7 +61,6 @@ fn rule_cause<B: Base>(
     ensures kept { B.database base.new ≡ B.database base.old }
     ensures stays { (s : Db) → B.schema base.old ≡ Some s → B.schema base.new ≡ Some s }
     ensures asked { (b : B) → B.asked b base.old → B.asked b base.new }
-    ensures same { B.left base.new ≡ B.left base.old }
     ensures cause { HasBaseCause (B.database base.old) (B.faults base.old) (B.faults base.new) result }
 {
     match owner_cause(alloc, base, user, rel) {
@@ -86,7 +85,6 @@ pub(crate) fn rule_planned<B: Base>(
     ensures kept { B.database base.new ≡ B.database base.old }
     ensures stays { (s : Db) → B.schema base.old ≡ Some s → B.schema base.new ≡ Some s }
     ensures asked { (b : B) → B.asked b base.old → B.asked b base.new }
-    ensures same { B.left base.new ≡ B.left base.old }
     ensures cause { HasCause user.now (utility.Rule rel.now rule.now) (B.database base.old) (B.faults base.old) (B.faults base.new) result }
 {
     let standing = standing_rules(alloc, base, rel)?;

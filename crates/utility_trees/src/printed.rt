@@ -33,7 +33,6 @@ fn whole_named<B: Base>(
     ensures kept { B.database base.new ≡ B.database base.old }
     ensures stays { (s : Db) → B.schema base.old ≡ Some s → B.schema base.new ≡ Some s }
     ensures asked { (b : B) → B.asked b base.old → B.asked b base.new }
-    ensures same { B.left base.new ≡ B.left base.old }
     ensures cause { HasCheckCause (B.database base.old) (B.faults base.old) (B.faults base.new) result }
 {
     let info = found(alloc, base, user, name)?;
@@ -54,7 +53,6 @@ fn wholes<B: Base>(
     ensures kept { B.database base.new ≡ B.database base.old }
     ensures stays { (s : Db) → B.schema base.old ≡ Some s → B.schema base.new ≡ Some s }
     ensures asked { (b : B) → B.asked b base.old → B.asked b base.new }
-    ensures same { B.left base.new ≡ B.left base.old }
     ensures cause { HasCheckCause (B.database base.old) (B.faults base.old) (B.faults base.new) result }
 {
     let mut asked = Vec::new(alloc);
@@ -77,7 +75,6 @@ pub(crate) fn printed<B: Base>(
     ensures kept { B.database base.new ≡ B.database base.old }
     ensures stays { (s : Db) → B.schema base.old ≡ Some s → B.schema base.new ≡ Some s }
     ensures asked { (b : B) → B.asked b base.old → B.asked b base.new }
-    ensures same { B.left base.new ≡ B.left base.old }
     ensures cause { HasCheckCause (B.database base.old) (B.faults base.old) (B.faults base.new) result }
 {
     match wholes(alloc, base, user, names) {

@@ -15,8 +15,8 @@ ghost use Rattle.view_text.specs.Scoped.{is_scoped};
 ghost use Rattle.view_text.specs.TextOf.{text_within};
 ghost use Rattle.view_text.specs.Texts.{query_texts};
 
-use crate::plain::query_over;
-use crate::walk::{LISTED, put_texts};
+use crate::plain::{PLACES, query_over};
+use crate::walk::put_texts;
 use crate::{TextFault, TextsFound};
 use am_traits::Base;
 use calculus::{Name, Query};
@@ -24,32 +24,8 @@ use std::alloc::Global;
 use view_text::Text;
 
 /// Puts the texts of a query's variables, which go through at most so many levels of views, behind
-/// those that are there. `NoPermit` exactly where a variable that is used may not be read.
-pub fn query_texts<B: Base>(
-    alloc: Global,
-    base: &mut B,
-    who: Option<&Name>,
-    query: &Query,
-    levels: u8,
-    texts: &mut Vec<Text>,
-) -> Result<(), TextFault>
-    requires listed { (db : Db) → B.database base.old ≡ Some db → length (vars_of query.now) ≤ 256 }
-    requires expanded { (db : Db) → B.database base.old ≡ Some db → (query_measure (measure_within levels db) query.now).variables ≤ 256 }
-    ensures told { (db : Db) → B.database base.old ≡ Some db → OnOk result (texts.new.items ≡ texts.old.items ++ query_texts (text_within levels db (who_of (option_map (λ n. n.now) who.entry))) query.now) }
-    ensures permitted { (db : Db) → B.database base.old ≡ Some db → OnOk result (vars_permitted (permitted_within levels db (who_of (option_map (λ n. n.now) who.entry))) query.now (used_vars query.now) ≡ true) }
-    ensures scoped { list_all is_scoped texts.old.items ≡ true → OnOk result (list_all is_scoped texts.new.items ≡ true) }
-    ensures kept { B.database base.new ≡ B.database base.old }
-    ensures stays { (s : Db) → B.schema base.old ≡ Some s → B.schema base.new ≡ Some s }
-    ensures asked { (b : B) → B.asked b base.old → B.asked b base.new }
-    ensures same { B.left base.new ≡ B.left base.old }
-    ensures cause { HasCause (λ db. vars_permitted (permitted_within levels db (who_of (option_map (λ n. n.now) who.entry))) query.now (used_vars query.now) ≡ false) (B.database base.old) (B.faults base.old) (B.faults base.new) result }
-{
-    let mut found = TextsFound::new(alloc);
-    texts_through(alloc, base, who, query, levels, texts, &mut found)
-}
-
-/// The same, where what was found before, for the same one who asks, is made use of, and what is found is
-/// kept beside it.
+/// those that are there. `NoPermit` exactly where a variable that is used may not be read. What was found
+/// before, for the same one who asks, is made use of, and what is found is kept beside it.
 fn texts_through<B: Base>(
     alloc: Global,
     base: &mut B,
@@ -69,11 +45,10 @@ fn texts_through<B: Base>(
     ensures kept { B.database base.new ≡ B.database base.old }
     ensures stays { (s : Db) → B.schema base.old ≡ Some s → B.schema base.new ≡ Some s }
     ensures asked { (b : B) → B.asked b base.old → B.asked b base.new }
-    ensures same { B.left base.new ≡ B.left base.old }
     ensures cause { HasCause (λ db. vars_permitted (permitted_within levels db (who_of (option_map (λ n. n.now) who.entry))) query.now (used_vars query.now) ≡ false) (B.database base.old) (B.faults base.old) (B.faults base.new) result }
 {
     let keys = query.vars.items();
-    if keys.len() > LISTED {
+    if keys.len() > PLACES {
         return Err(TextFault::TooMany);
     }
     put_texts(alloc, base, who, query, keys, levels, texts, found)
@@ -82,31 +57,9 @@ fn texts_through<B: Base>(
 /// The query with the texts of its variables put in, which go through at most so many levels of views:
 /// it is over base relations and catalogues alone, and the permits of the one who asks are conditions
 /// in its qualification. An aggregate becomes a term without value. `NoPermit` exactly where a variable
-/// that is used may not be read.
+/// that is used may not be read. What was found before, for the same one who asks, is made use of, and
+/// what is found is kept beside it.
 pub fn put_plain<B: Base>(
-    alloc: Global,
-    base: &mut B,
-    who: Option<&Name>,
-    query: &Query,
-    levels: u8,
-) -> Result<Query, TextFault>
-    requires listed { (db : Db) → B.database base.old ≡ Some db → length (vars_of query.now) ≤ 256 }
-    requires expanded { (db : Db) → B.database base.old ≡ Some db → (query_measure (measure_within levels db) query.now).variables ≤ 256 }
-    ensures told { (db : Db) → B.database base.old ≡ Some db → IfOk result (λ made. made ≡ put_plain (text_within levels db (who_of (option_map (λ n. n.now) who.entry))) query.now) }
-    ensures permitted { (db : Db) → B.database base.old ≡ Some db → OnOk result (vars_permitted (permitted_within levels db (who_of (option_map (λ n. n.now) who.entry))) query.now (used_vars query.now) ≡ true) }
-    ensures kept { B.database base.new ≡ B.database base.old }
-    ensures stays { (s : Db) → B.schema base.old ≡ Some s → B.schema base.new ≡ Some s }
-    ensures asked { (b : B) → B.asked b base.old → B.asked b base.new }
-    ensures same { B.left base.new ≡ B.left base.old }
-    ensures cause { HasCause (λ db. vars_permitted (permitted_within levels db (who_of (option_map (λ n. n.now) who.entry))) query.now (used_vars query.now) ≡ false) (B.database base.old) (B.faults base.old) (B.faults base.new) result }
-{
-    let mut found = TextsFound::new(alloc);
-    put_plain_remembering(alloc, base, who, query, levels, &mut found)
-}
-
-/// The query with the texts of its variables put in, as `put_plain`, where what was found before, for the
-/// same one who asks, is made use of, and what is found is kept beside it.
-pub fn put_plain_remembering<B: Base>(
     alloc: Global,
     base: &mut B,
     who: Option<&Name>,
@@ -123,7 +76,6 @@ pub fn put_plain_remembering<B: Base>(
     ensures kept { B.database base.new ≡ B.database base.old }
     ensures stays { (s : Db) → B.schema base.old ≡ Some s → B.schema base.new ≡ Some s }
     ensures asked { (b : B) → B.asked b base.old → B.asked b base.new }
-    ensures same { B.left base.new ≡ B.left base.old }
     ensures cause { HasCause (λ db. vars_permitted (permitted_within levels db (who_of (option_map (λ n. n.now) who.entry))) query.now (used_vars query.now) ≡ false) (B.database base.old) (B.faults base.old) (B.faults base.new) result }
 {
     let mut texts = Vec::new(alloc);

@@ -13,10 +13,10 @@ mod texts;
 mod walk;
 
 pub use calculus::OutOfMemory;
-pub use expanded::{put_plain, put_plain_remembering, query_texts};
+pub use expanded::put_plain;
 pub use fault::TextFault;
 pub use found::TextsFound;
 pub use right::Right;
-pub use row_cut::{cut, cut_remembering};
-pub use texts::{text_at, text_within, view_text};
-pub use walk::text_at_remembering;
+pub use row_cut::cut;
+pub use texts::text_within;
+pub use walk::text_at;

@@ -1,6 +1,6 @@
 //! The texts of what no view is, and of a query whose texts are there.
 
-ghost use Rattle.std.specs.Prelude.{◌≡◌, ◌<◌, ◌≤◌, true, false, [], ◌∷◌, Some, length, IfOk, IfErr, OnOk, option_map};
+ghost use Rattle.std.specs.Prelude.{◌≡◌, ◌<◌, ◌≤◌, true, false, Some, length, IfOk, IfErr, OnOk, option_map};
 ghost use Rattle.std.specs.List.{list_all};
 ghost use Rattle.std.specs.Option.{option_to_list};
 ghost use Rattle.calculus.specs.Database.{Db};
@@ -14,33 +14,23 @@ ghost use Rattle.view_text.specs.Scoped.{is_qual_within, is_scoped};
 ghost use Rattle.view_text.specs.TextOf.{cut, kept_text, rows_text};
 ghost use Rattle.view_text.specs.Texts.{no_text, texts_vars};
 
-use crate::row_cut::cut_remembering;
+use crate::row_cut::cut;
 use crate::{Right, TextFault, TextsFound};
 use am_traits::Base;
 use calculus::{List, Name, OutOfMemory, QQual, Query, RelKey, TryCopy};
+use memory::{alone, both};
 use std::alloc::Global;
 use view_text::{Text, put_rows, rows_text};
 
 /// The variables that a query may number.
-const PLACES: usize = 256;
-
-/// Puts what there is into the list.
-fn listed<T: Drop>(alloc: Global, one: T) -> Result<Vec<T>, OutOfMemory>
-    ensures { IfOk result (λ list. list.items ≡ one ∷ []) }
-{
-    let mut list = Vec::new(alloc);
-    match list.push(one) {
-        Ok(()) => Ok(list),
-        Err(_) => Err(OutOfMemory),
-    }
-}
+pub(crate) const PLACES: usize = 256;
 
 /// The conditions, as a list of one or none.
 fn conditions(alloc: Global, condition: Option<QQual>) -> Result<Vec<QQual>, OutOfMemory>
     ensures { IfOk result (λ list. list.items ≡ option_to_list condition) }
 {
     match condition {
-        Some(condition) => listed(alloc, condition),
+        Some(condition) => alone(alloc, condition),
         None => Ok(Vec::new(alloc)),
     }
 }
@@ -53,10 +43,10 @@ fn kept(alloc: Global, key: &RelKey, condition: Option<QQual>) -> Result<Text, O
 {
     let conditions = conditions(alloc, condition);
     let vars = match key.copy(alloc) {
-        Ok(key) => listed(alloc, key),
+        Ok(key) => alone(alloc, key),
         Err(error) => Err(error),
     };
-    match memory::both(vars, conditions) {
+    match both(vars, conditions) {
         Ok((vars, conditions)) => Ok(Text {
             vars: List::of(vars),
             terms: None,
@@ -97,10 +87,9 @@ pub(crate) fn plain_text<B: Base>(
     ensures kept { B.database base.new ≡ B.database base.old }
     ensures stays { (s : Db) → B.schema base.old ≡ Some s → B.schema base.new ≡ Some s }
     ensures asked { (b : B) → B.asked b base.old → B.asked b base.new }
-    ensures same { B.left base.new ≡ B.left base.old }
     ensures cause { HasCause (λ db. permitted db (who_of (option_map (λ n. n.now) who.entry)) Retrieve attrs.now key.now ≡ false) (B.database base.old) (B.faults base.old) (B.faults base.new) result }
 {
-    match cut_remembering(alloc, base, who, Right::Retrieve, attrs, key, found) {
+    match cut(alloc, base, who, Right::Retrieve, attrs, key, found) {
         Ok(condition) => match kept(alloc, key, condition) {
             Ok(text) => Ok(text),
             Err(_) => Err(TextFault::OutOfMemory),

@@ -73,7 +73,6 @@ fn condition_anew<B: Base>(
     ensures kept { B.database base.new ≡ B.database base.old }
     ensures stays { (s : Db) → B.schema base.old ≡ Some s → B.schema base.new ≡ Some s }
     ensures asked { (b : B) → B.asked b base.old → B.asked b base.new }
-    ensures same { B.left base.new ≡ B.left base.old }
     ensures cause { HasBaseCause (B.database base.old) (B.faults base.old) (B.faults base.new) result }
 {
     let permits = base.permits(alloc, key)?;
@@ -103,7 +102,6 @@ fn condition_on<B: Base>(
     ensures kept { B.database base.new ≡ B.database base.old }
     ensures stays { (s : Db) → B.schema base.old ≡ Some s → B.schema base.new ≡ Some s }
     ensures asked { (b : B) → B.asked b base.old → B.asked b base.new }
-    ensures same { B.left base.new ≡ B.left base.old }
     ensures cause { HasBaseCause (B.database base.old) (B.faults base.old) (B.faults base.new) result }
 {
     match found.permits(key) {
@@ -134,7 +132,6 @@ fn cut_for<B: Base>(
     ensures kept { B.database base.new ≡ B.database base.old }
     ensures stays { (s : Db) → B.schema base.old ≡ Some s → B.schema base.new ≡ Some s }
     ensures asked { (b : B) → B.asked b base.old → B.asked b base.new }
-    ensures same { B.left base.new ≡ B.left base.old }
     ensures cause { HasCause (λ db. permitted db (asks user.now) (right_of right) attrs.now key.now ≡ false) (B.database base.old) (B.faults base.old) (B.faults base.new) result }
 {
     if needs_none(alloc, base, user, right, key)? {
@@ -149,32 +146,10 @@ fn cut_for<B: Base>(
 /// The condition on the rows of what has a key, with which one may do this with these attributes: that
 /// the qualification of a permit that covers it holds. `None` where no permit is needed, as where nobody
 /// in particular asks, the owner asks, or a catalogue is read. `NoPermit` exactly where one is needed and
-/// none covers it.
-pub fn cut<B: Base>(
-    alloc: Global,
-    base: &mut B,
-    who: Option<&Name>,
-    right: Right,
-    attrs: &[u8],
-    key: &RelKey,
-) -> Result<Option<QQual>, TextFault>
-    ensures told { (db : Db) → B.database base.old ≡ Some db → IfOk result (λ o. option_to_list o ≡ cut db (who_of (option_map (λ n. n.now) who.entry)) (right_of right) attrs.now key.now) }
-    ensures permitted { (db : Db) → B.database base.old ≡ Some db → OnOk result (permitted db (who_of (option_map (λ n. n.now) who.entry)) (right_of right) attrs.now key.now ≡ true) }
-    ensures within { IfOk result (λ o. list_all (is_qual_within 1) (option_to_list o) ≡ true) }
-    ensures kept { B.database base.new ≡ B.database base.old }
-    ensures stays { (s : Db) → B.schema base.old ≡ Some s → B.schema base.new ≡ Some s }
-    ensures asked { (b : B) → B.asked b base.old → B.asked b base.new }
-    ensures same { B.left base.new ≡ B.left base.old }
-    ensures cause { HasCause (λ db. permitted db (who_of (option_map (λ n. n.now) who.entry)) (right_of right) attrs.now key.now ≡ false) (B.database base.old) (B.faults base.old) (B.faults base.new) result }
-{
-    let mut found = TextsFound::new(alloc);
-    cut_remembering(alloc, base, who, right, attrs, key, &mut found)
-}
-
-/// The condition on the rows of what has a key, as `cut`, where the permits that were found before, for
-/// the same one who asks, are made use of, and those that are asked for are kept beside them.
+/// none covers it. What was found before, for the same one who asks, is made use of, and what is found is
+/// kept beside it.
 #[tactic(auto, unfolding(calculus::specs::Rights::permitted))]
-pub fn cut_remembering<B: Base>(
+pub fn cut<B: Base>(
     alloc: Global,
     base: &mut B,
     who: Option<&Name>,
@@ -191,7 +166,6 @@ pub fn cut_remembering<B: Base>(
     ensures kept { B.database base.new ≡ B.database base.old }
     ensures stays { (s : Db) → B.schema base.old ≡ Some s → B.schema base.new ≡ Some s }
     ensures asked { (b : B) → B.asked b base.old → B.asked b base.new }
-    ensures same { B.left base.new ≡ B.left base.old }
     ensures cause { HasCause (λ db. permitted db (who_of (option_map (λ n. n.now) who.entry)) (right_of right) attrs.now key.now ≡ false) (B.database base.old) (B.faults base.old) (B.faults base.new) result }
 {
     match who {

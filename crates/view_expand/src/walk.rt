@@ -18,16 +18,13 @@ ghost use Rattle.view_text.specs.Scoped.{is_scoped};
 ghost use Rattle.view_text.specs.TextOf.{rows_text, text_within};
 ghost use Rattle.view_text.specs.Texts.{query_texts, used_text};
 
-use crate::plain::{no_text, plain_text, rows_of};
+use crate::plain::{PLACES, no_text, plain_text, rows_of};
 use crate::{TextFault, TextsFound};
 use am_traits::Base;
 use calculus::{Name, Query, RelKey};
 use ovqp::uses;
 use std::alloc::Global;
 use view_text::Text;
-
-/// The variables that a query may list.
-pub(crate) const LISTED: usize = 256;
 
 /// Puts a text behind those that are there.
 #[tactic(auto, using(crate::proofs::Listing::all_scoped_more))]
@@ -63,7 +60,6 @@ pub(crate) fn text_through<B: Base>(
     ensures kept { B.database base.new ≡ B.database base.old }
     ensures stays { (s : Db) → B.schema base.old ≡ Some s → B.schema base.new ≡ Some s }
     ensures asked { (b : B) → B.asked b base.old → B.asked b base.new }
-    ensures same { B.left base.new ≡ B.left base.old }
     ensures cause { HasCause (λ db. permitted_within levels db (who_of (option_map (λ n. n.now) who.entry)) key.now attrs.now ≡ false) (B.database base.old) (B.faults base.old) (B.faults base.new) result }
 {
     match found.text(alloc, key, levels)? {
@@ -93,7 +89,6 @@ fn text_anew<B: Base>(
     ensures kept { B.database base.new ≡ B.database base.old }
     ensures stays { (s : Db) → B.schema base.old ≡ Some s → B.schema base.new ≡ Some s }
     ensures asked { (b : B) → B.asked b base.old → B.asked b base.new }
-    ensures same { B.left base.new ≡ B.left base.old }
     ensures cause { HasCause (λ db. permitted_within levels db (who_of (option_map (λ n. n.now) who.entry)) key.now attrs.now ≡ false) (B.database base.old) (B.faults base.old) (B.faults base.new) result }
 {
     match base.view(alloc, key)? {
@@ -127,7 +122,6 @@ fn text_of_view<B: Base>(
     ensures kept { B.database base.new ≡ B.database base.old }
     ensures stays { (s : Db) → B.schema base.old ≡ Some s → B.schema base.new ≡ Some s }
     ensures asked { (b : B) → B.asked b base.old → B.asked b base.new }
-    ensures same { B.left base.new ≡ B.left base.old }
     ensures cause { HasCause (λ db. (attrs : List ℕ) → permitted_within levels db (who_of (option_map (λ n. n.now) who.entry)) key.now attrs ≡ false) (B.database base.old) (B.faults base.old) (B.faults base.new) result }
 {
     if levels == 0 {
@@ -142,7 +136,7 @@ fn text_of_view<B: Base>(
     }
 }
 
-/// The text of a query's rows, as `view_text`.
+/// The text of a query's rows, where the texts of its variables go through at most so many levels.
 #[cycle(texts)]
 pub(crate) fn rows_through<B: Base>(
     alloc: Global,
@@ -162,11 +156,10 @@ pub(crate) fn rows_through<B: Base>(
     ensures kept { B.database base.new ≡ B.database base.old }
     ensures stays { (s : Db) → B.schema base.old ≡ Some s → B.schema base.new ≡ Some s }
     ensures asked { (b : B) → B.asked b base.old → B.asked b base.new }
-    ensures same { B.left base.new ≡ B.left base.old }
     ensures cause { HasCause (λ db. vars_permitted (permitted_within levels db (who_of (option_map (λ n. n.now) who.entry))) query.now (used_vars query.now) ≡ false) (B.database base.old) (B.faults base.old) (B.faults base.new) result }
 {
     let keys = query.vars.items();
-    if keys.len() > LISTED {
+    if keys.len() > PLACES {
         return Err(TextFault::TooMany);
     }
     let mut texts = Vec::new(alloc);
@@ -198,13 +191,12 @@ pub(crate) fn put_texts<B: Base>(
     ensures kept { B.database base.new ≡ B.database base.old }
     ensures stays { (s : Db) → B.schema base.old ≡ Some s → B.schema base.new ≡ Some s }
     ensures asked { (b : B) → B.asked b base.old → B.asked b base.new }
-    ensures same { B.left base.new ≡ B.left base.old }
     ensures cause { HasCause (λ db. permitted_at (permitted_within levels db (who_of (option_map (λ n. n.now) who.entry))) query.now 0 keys.now ≡ false) (B.database base.old) (B.faults base.old) (B.faults base.new) result }
 {
     let mut place: usize = 0;
     let mut rest = keys;
     'keys: while let Some((key, others)) = rest.split_first() {
-        let more = text_at_remembering(alloc, base, who, query, place as u8, key, levels, found)?;
+        let more = text_at(alloc, base, who, query, place as u8, key, levels, found)?;
         put_behind(texts, more)?;
         place += 1;
         rest = others;
@@ -212,10 +204,11 @@ pub(crate) fn put_texts<B: Base>(
     Ok(())
 }
 
-/// The text of the query's variable at a place, as `text_at`, where what was found before of views, for
-/// the same one who asks, is made use of, and what is found is kept beside it.
+/// The text of the query's variable at a place, which ranges over this; one that isn't used has none.
+/// `NoPermit` exactly where it is used and may not be read. What was found before of views, for the same
+/// one who asks, is made use of, and what is found is kept beside it.
 #[cycle(texts)]
-pub fn text_at_remembering<B: Base>(
+pub fn text_at<B: Base>(
     alloc: Global,
     base: &mut B,
     who: Option<&Name>,
@@ -234,7 +227,6 @@ pub fn text_at_remembering<B: Base>(
     ensures kept { B.database base.new ≡ B.database base.old }
     ensures stays { (s : Db) → B.schema base.old ≡ Some s → B.schema base.new ≡ Some s }
     ensures asked { (b : B) → B.asked b base.old → B.asked b base.new }
-    ensures same { B.left base.new ≡ B.left base.old }
     ensures cause { HasCause (λ db. (is_any (used_in_query place query.now) ≡ true) × (permitted_within levels db (who_of (option_map (λ n. n.now) who.entry)) key.now (used_in_query place query.now) ≡ false)) (B.database base.old) (B.faults base.old) (B.faults base.new) result }
 {
     let attrs = uses(alloc, query, place)?;

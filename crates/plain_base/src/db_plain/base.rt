@@ -1,7 +1,7 @@
 //! A database in memory answers as any base does.
 
-ghost use Rattle.std.specs.Prelude.{Some, true, refl};
-ghost use Rattle.std.proofs.Common.{arith};
+ghost use Rattle.std.specs.Prelude.{◌≡◌, Some, true, refl};
+ghost use Rattle.std.proofs.Common.{arith, ap};
 ghost use Rattle.calculus.specs.IsDatabase.{IsDatabase};
 ghost use Rattle.calculus.specs.Stored.{rows_at};
 ghost use Rattle.am_traits.specs.InMemory.{asked_in_memory};
@@ -38,7 +38,7 @@ impl Base for DbPlain {
 
     ghost ready = { λ _. true };
 
-    ghost asked = { λ _ _. Unit {0} };
+    ghost asked = { λ b now. database_of now ≡ database_of b };
 
     ghost left = { λ b. rows_from (database_of b) };
 
@@ -52,7 +52,9 @@ impl Base for DbPlain {
 
     ghost whole = { λ _ _ _. omega arith };
 
-    ghost starts = { λ _. tt };
+    ghost starts = { λ _. refl };
+
+    ghost asks_keep = { λ _ _ is. (ap Some is, ap rows_from is) };
 
     ghost asks = { λ _ _ _. asked_in_memory };
 

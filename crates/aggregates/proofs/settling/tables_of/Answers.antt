@@ -22,9 +22,8 @@ loop-agg-preserved g c = record {
       c.loop-agg-test.true c.agg-item.is (c.loop-agg.invariant.told db h) (c.in_ok-table.ensures.told db (c.loop-agg.invariant.kept ∙ h)) c.in_ok-put_behind.ensures;
   kept = c.in_ok-table.ensures.kept ∙ c.loop-agg.invariant.kept;
   stays = λ s e. c.in_ok-table.ensures.stays s (c.loop-agg.invariant.stays s e);
-  same = c.in_ok-table.ensures.same ∙ c.loop-agg.invariant.same;
   asked = λ b was. c.in_ok-table.ensures.asked b (c.loop-agg.invariant.asked b was);
-  later = c.in_ok-table.ensures.cause.caused ∙ c.loop-agg.invariant.later;
+  faults = c.in_ok-table.ensures.cause.caused ∙ c.loop-agg.invariant.faults;
 }
 
 pub returns-clause-told : goal.returns-clause-told

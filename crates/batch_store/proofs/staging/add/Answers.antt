@@ -34,7 +34,7 @@ pub returns-then-k-clause-change : goal.returns-then-k-clause-change
 returns-then-k-clause-change g c = λ told. record { elsewhere = λ b other. refl; touches = λ b touched. inl touched }
 
 pub returns-then-k-clause-cause : goal.returns-then-k-clause-cause
-returns-then-k-clause-cause g c = record { later = omega arith; caused = tt }
+returns-then-k-clause-cause g c = record { later = omega arith; caused = refl }
 
 pub returns-in-Ok-clause-shut : goal.returns-in-Ok-clause-shut
 returns-in-Ok-clause-shut g c = c.add.ensures.shut

@@ -1,20 +1,22 @@
 use Rattle.std.proofs.Common.{arith, ◌∙◌, ◌+◌, length}
 use Rattle.page_chain.proofs.Carried.{cause_carried}
-use Rattle.catalog.specs.Loading.{NoCatalogueIn, NoneIn}
+use Rattle.page_chain.specs.Chains.{NoChain}
+use Rattle.stored_database.specs.Catalogue.{most_pages}
+use Rattle.catalog.specs.Loading.{NoCatalogueIn}
 use Rattle.catalog.proofs.ReadRows.{no_columns, no_parts}
 use Rattle.catalog.proofs.Rises.{rises_less, then_rises}
 use Rattle.catalog.proofs.loading.behind_entries.Goals as goal
 
 pub returns-in_err-columns-clause-cause : goal.returns-in_err-columns-clause-cause
 returns-in_err-columns-clause-cause g c =
-    cause_carried (g.S.PageStore.pages c.args.store.now) (g.S.PageStore.pages c.args.store.now) (NoneIn 6) NoCatalogueIn
+    cause_carried (g.S.PageStore.pages c.args.store.now) (g.S.PageStore.pages c.args.store.now) (NoChain 6 most_pages) NoCatalogueIn
     (g.S.PageStore.faults c.args.store.now) (g.S.PageStore.faults c.args.store.now) (g.S.PageStore.faults c.rows_in.new.store) c.in_err-columns.field-0.0 (omega arith)
     (λ a at m told. no_columns m a (at m told)) c.in_err-columns.ensures.cause c.from_residual.result c.from_residual.ensures.1
 
 pub returns-in_err-parts-clause-cause : goal.returns-in_err-parts-clause-cause
 returns-in_err-parts-clause-cause g c =
-    cause_carried (g.S.PageStore.pages c.args.store.now) (g.S.PageStore.pages c.rows_in.new.store) (NoneIn 7) NoCatalogueIn
-    (g.S.PageStore.faults c.args.store.now) (g.S.PageStore.faults c.rows_in.new.store) (g.S.PageStore.faults c.rows_in-2.new.store) c.in_err-parts.field-0.0 c.in_ok-columns.ensures.cause.later
+    cause_carried (g.S.PageStore.pages c.args.store.now) (g.S.PageStore.pages c.rows_in.new.store) (NoChain 7 most_pages) NoCatalogueIn
+    (g.S.PageStore.faults c.args.store.now) (g.S.PageStore.faults c.rows_in.new.store) (g.S.PageStore.faults c.rows_in-2.new.store) c.in_err-parts.field-0.0 c.in_ok-columns.ensures.cause.caused
     (λ a at m told. no_parts m a (at m (c.in_ok-columns.ensures.same ∙ told))) c.in_err-parts.ensures.cause c.from_residual-in_err-parts.result c.from_residual-in_err-parts.ensures.1
 
 pub returns-clause-cause : goal.returns-clause-cause

@@ -1,6 +1,8 @@
 use Rattle.std.proofs.Common.{arith, ◌∙◌, ◌+◌, length}
 use Rattle.page_chain.proofs.Carried.{cause_carried}
-use Rattle.catalog.specs.Loading.{NoCatalogueIn, NoneIn}
+use Rattle.page_chain.specs.Chains.{NoChain}
+use Rattle.stored_database.specs.Catalogue.{most_pages}
+use Rattle.catalog.specs.Loading.{NoCatalogueIn}
 use Rattle.catalog.proofs.Outcomes.{cause_on}
 use Rattle.catalog.proofs.ReadRows.{no_entries}
 use Rattle.catalog.proofs.Rises.{rises_as, rises_less, then_rises}
@@ -8,7 +10,7 @@ use Rattle.catalog.proofs.loading.read_chains.Goals as goal
 
 pub returns-in_err-entries-clause-cause : goal.returns-in_err-entries-clause-cause
 returns-in_err-entries-clause-cause g c =
-    cause_carried (g.S.PageStore.pages c.args.store.now) (g.S.PageStore.pages c.args.store.now) (NoneIn 5) NoCatalogueIn
+    cause_carried (g.S.PageStore.pages c.args.store.now) (g.S.PageStore.pages c.args.store.now) (NoChain 5 most_pages) NoCatalogueIn
     (g.S.PageStore.faults c.args.store.now) (g.S.PageStore.faults c.args.store.now) (g.S.PageStore.faults c.rows_in.new.store) c.in_err-entries.field-0.0 (omega arith)
     (λ a at m told. no_entries m a (at m told)) c.in_err-entries.ensures.cause c.from_residual.result c.from_residual.ensures.1
 

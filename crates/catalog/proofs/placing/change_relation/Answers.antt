@@ -1,4 +1,4 @@
-use Rattle.std.proofs.Common.{sym, subst, arith}
+use Rattle.std.proofs.Common.{refl, sym, subst, arith}
 use Rattle.calculus.specs.declared.change.DbChange.TheVariants.{Rows}
 use Rattle.page_chain.proofs.Carried.{cause_carried}
 use Rattle.plain_base.specs.Shown.{database_of}
@@ -14,8 +14,11 @@ relation_file-requires g c = named_relation (database_of c.args.plain.now) c.arg
 pub returns-in_default-clause-cause : goal.returns-in_default-clause-cause
 returns-in_default-clause-cause g c = record {
   later = omega arith;
-  caused = λ m is db may.
-      no_file (database_of c.args.plain.now) (files_of c.args.files.now) c.args.rel.now c.args.remove.now c.args.add.now m (c.in_ok-file.ensures.none (none_is c.in_ok-file.field-0 c.in_default.not-Some)) db may;
+  caused = (
+    λ m is db may.
+        no_file (database_of c.args.plain.now) (files_of c.args.files.now) c.args.rel.now c.args.remove.now c.args.add.now m (c.in_ok-file.ensures.none (none_is c.in_ok-file.field-0 c.in_default.not-Some)) db may,
+    refl,
+  );
 }
 
 pub change_rows-requires-clause-number : goal.change_rows-requires-clause-number

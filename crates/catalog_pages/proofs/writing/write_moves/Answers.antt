@@ -20,7 +20,7 @@ returns-in_err-columns-clause-cause g c =
     let old = g.S.PageStore.pages c.args.store.now in
     let mid = g.S.PageStore.pages c.write_file.new.store in
     cause_carried old mid (NoChainTo 6 most_pages c.args.ends.columns) (NoCatalogue c.args.ends) (g.S.PageStore.faults c.args.store.now) (g.S.PageStore.faults c.write_file.new.store)
-    (g.S.PageStore.faults c.write_file-2.new.store) c.in_err-columns.field-0.0 c.write_file.ensures.cause.later
+    (g.S.PageStore.faults c.write_file-2.new.store) c.in_err-columns.field-0.0 c.in_ok-entries.ensures.cause.caused
     (second_fault c.args.ends old mid (λ m is. (let a = c.in_ok-entries.ensures.rewritten m is in (a.image, a.told_still, same_pages 5 6 m a.image a.elsewhere (λ e. omega (arith, e))))))
     c.in_err-columns.ensures.cause c.from_residual-in_err-columns.result c.from_residual-in_err-columns.ensures.1
 
@@ -28,10 +28,8 @@ pub returns-in_err-parts-clause-cause : goal.returns-in_err-parts-clause-cause
 returns-in_err-parts-clause-cause g c =
     let old = g.S.PageStore.pages c.args.store.now in
     let mid = g.S.PageStore.pages c.write_file-2.new.store in
-    let first = c.write_file.ensures.cause.later in
-    let second = c.write_file-2.ensures.cause.later in
     cause_carried old mid (NoChainTo 7 most_pages c.args.ends.parts) (NoCatalogue c.args.ends) (g.S.PageStore.faults c.args.store.now) (g.S.PageStore.faults c.write_file-2.new.store)
-    (g.S.PageStore.faults c.write_file-3.new.store) c.in_err-parts.field-0.0 (omega (arith, first, second))
+    (g.S.PageStore.faults c.write_file-3.new.store) c.in_err-parts.field-0.0 (c.in_ok-columns.ensures.cause.caused ∙ c.in_ok-entries.ensures.cause.caused)
     (third_fault c.args.ends old mid (λ m is. (
     let a = c.in_ok-entries.ensures.rewritten m is in
     let b = c.in_ok-columns.ensures.rewritten a.image a.told_still in

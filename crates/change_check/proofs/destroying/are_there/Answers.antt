@@ -12,7 +12,6 @@ loop-key-preserved g c = record {
       list_all_more (is_there db) c.args.rels.now c.loop-key.key-index c.key-item.result c.loop-key-test.true
       ∙ (λ i. c.loop-key.invariant.told db h i && (ap (is_there db) (sym c.key-item.is) ∙ sym (c.in_ok-there.ensures.told db (c.loop-key.invariant.stays db h)) ∙ on) i);
   kept = c.in_ok-there.ensures.kept ∙ c.loop-key.invariant.kept;
-  same = c.in_ok-there.ensures.same ∙ c.loop-key.invariant.same;
   stays = λ s h. c.in_ok-there.ensures.stays s (c.loop-key.invariant.stays s h);
   asked = λ b was. c.in_ok-there.ensures.asked b (c.loop-key.invariant.asked b was);
   faults = c.in_ok-there.ensures.cause.caused ∙ c.loop-key.invariant.faults;

@@ -12,7 +12,6 @@ loop-key-preserved g c = record {
       list_any_more (is_named_outside db c.args.all.now) c.args.rels.now c.loop-key.key-index c.key-item.result c.loop-key-test.true
       ∙ (λ i. c.loop-key.invariant.told db h i || (ap (is_named_outside db c.args.all.now) (sym c.key-item.is) ∙ sym (c.in_ok-named.ensures.told db (c.loop-key.invariant.stays db h)) ∙ on) i);
   kept = c.in_ok-named.ensures.kept ∙ c.loop-key.invariant.kept;
-  same = c.in_ok-named.ensures.same ∙ c.loop-key.invariant.same;
   stays = λ s h. c.in_ok-named.ensures.stays s (c.loop-key.invariant.stays s h);
   asked = λ b was. c.in_ok-named.ensures.asked b (c.loop-key.invariant.asked b was);
   faults = c.in_ok-named.ensures.cause.caused ∙ c.loop-key.invariant.faults;

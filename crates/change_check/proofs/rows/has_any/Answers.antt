@@ -13,7 +13,6 @@ loop-row-preserved g c = record {
       list_any_more (has (rows_at db c.args.rel.now)) c.args.rows.now c.loop-row.row-index c.row-item.result c.loop-row-test.true
       ∙ (λ i. c.loop-row.invariant.so_far db h i || (ap (has (rows_at db c.args.rel.now)) (sym c.row-item.is) ∙ sym (c.in_ok-there.ensures.told db (c.loop-row.invariant.kept ∙ h)) ∙ on) i);
   kept = c.in_ok-there.ensures.kept ∙ c.loop-row.invariant.kept;
-  same = c.in_ok-there.ensures.same ∙ c.loop-row.invariant.same;
   stays = λ s h. c.in_ok-there.ensures.stays s (c.loop-row.invariant.stays s h);
   asked = λ b was. c.in_ok-there.ensures.asked b (c.loop-row.invariant.asked b was);
   faults = c.in_ok-there.ensures.cause.caused ∙ c.loop-row.invariant.faults;

@@ -9,7 +9,6 @@ loop-row-preserved g c = record {
   kept = c.in_ok-is_there.ensures.kept ∙ c.loop-row.invariant.kept;
   stays = λ s e. c.in_ok-is_there.ensures.stays s (c.loop-row.invariant.stays s e);
   asked = λ b was. c.in_ok-is_there.ensures.asked b (c.loop-row.invariant.asked b was);
-  same = c.in_ok-is_there.ensures.same ∙ c.loop-row.invariant.same;
   later = c.in_ok-is_there.ensures.cause.caused ∙ c.loop-row.invariant.later;
   so_far = λ db e.
       c.in_ok-put_if.ensures

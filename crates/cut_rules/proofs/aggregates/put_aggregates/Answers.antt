@@ -1,4 +1,4 @@
-use Rattle.std.proofs.Common.{◌≡◌, refl, sym, ap, ◌∙◌, false, ◌++◌, map, option_map, arith}
+use Rattle.std.proofs.Common.{◌≡◌, refl, sym, ap, ◌∙◌, false, ◌++◌, map, option_map}
 use Rattle.std.specs.List.{list_all}
 use Rattle.calculus.specs.Permission.{aggregates_permitted, readable, source_permitted}
 use Rattle.calculus.specs.QueryParts.{query_aggregates}
@@ -30,7 +30,7 @@ returns-clause-cause g c =
     error_behind (λ db. list_all (λ a. source_permitted (readable db (who_of (option_map (λ n. n.now) c.args.who))) (used_in_aggregate a.now) a.now.source) c.deref.result.now ≡ false)
     (λ db. aggregates_permitted (readable db (who_of (option_map (λ n. n.now) c.args.who))) c.args.query.now ≡ false)
     (g.B.Base.database c.args.base.now) (g.B.Base.database c.args.base.now) (g.B.Base.faults c.args.base.now) (g.B.Base.faults c.args.base.now) (g.B.Base.faults c.put_all.new.base) c.in-Err.error
-    refl (omega arith)
+    refl refl
     (λ db h e.
     sym (all_under (λ a. source_permitted (readable db (who_of (option_map (λ n. n.now) c.args.who))) (used_in_aggregate a) a.source) (λ a. a.now) c.deref.result.now (query_aggregates c.args.query.now) (ap (map (λ a. a.now)) c.deref.ensures.value ∙ c.in_ok-aggregates.ensures))
     ∙ e)

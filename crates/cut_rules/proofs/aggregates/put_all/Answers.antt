@@ -1,4 +1,4 @@
-use Rattle.std.proofs.Common.{◌≡◌, sym, ap, ◌∙◌, false, ◌&&◌, [], ◌∷◌, ◌++◌, append_assoc, map, take, get_or, option_map, arith}
+use Rattle.std.proofs.Common.{◌≡◌, sym, ap, ◌∙◌, false, ◌&&◌, [], ◌∷◌, ◌++◌, append_assoc, map, take, get_or, option_map}
 use Rattle.std.specs.List.{list_all}
 use Rattle.std.proofs.lemmas.List.{map_more, take_all}
 use Rattle.std.proofs.lemmas.List.Folds.{list_all_more, list_all_at}
@@ -21,7 +21,7 @@ returns-in-Err-clause-cause g c =
     error_behind (λ db. source_permitted (readable db (who_of (option_map (λ n. n.now) c.args.who))) (used_in_aggregate c.aggregate-item.result.now) c.aggregate-item.result.now.source ≡ false)
     (λ db. list_all (λ a. source_permitted (readable db (who_of (option_map (λ n. n.now) c.args.who))) (used_in_aggregate a.now) a.now.source) c.args.aggregates.now ≡ false)
     (g.B.Base.database c.args.base.now) (g.B.Base.database c.loop-aggregate.base) (g.B.Base.faults c.args.base.now) (g.B.Base.faults c.loop-aggregate.base) (g.B.Base.faults c.put_aggregate.new.base) c.in-Err.error
-    c.loop-aggregate.invariant.kept c.loop-aggregate.invariant.later
+    c.loop-aggregate.invariant.kept c.loop-aggregate.invariant.faults
     (λ db h e.
     list_all_at (λ a. source_permitted (readable db (who_of (option_map (λ n. n.now) c.args.who))) (used_in_aggregate a.now) a.now.source) c.args.aggregates.now c.loop-aggregate.aggregate-index c.aggregate-item.result c.loop-aggregate-test.true
     (ap (λ a. source_permitted (readable db (who_of (option_map (λ n. n.now) c.args.who))) (used_in_aggregate a.now) a.now.source) (sym c.aggregate-item.is) ∙ e))
@@ -30,7 +30,7 @@ returns-in-Err-clause-cause g c =
 pub loop-aggregate-preserved : goal.loop-aggregate-preserved
 loop-aggregate-preserved g c = record {
   told = λ db h.
-      c.in_ok-put_behind-in-Ok.ensures.items
+      c.in_ok-push-in-Ok.ensures.behind
       ∙ (λ i. c.loop-aggregate.invariant.told db h i ++ (c.in-Ok.ensures.told db (c.loop-aggregate.invariant.kept ∙ h) ∙ ap (λ a. put_aggregate db (who_of (option_map (λ n. n.now) c.args.who)) (put_from 0 c.args.texts.now) a.now) c.aggregate-item.is) i ∷ [])
       ∙ append_assoc c.args.made.now.items (map (λ a. put_aggregate db (who_of (option_map (λ n. n.now) c.args.who)) (put_from 0 c.args.texts.now) a.now) (take c.loop-aggregate.aggregate-index c.args.aggregates.now))
       (put_aggregate db (who_of (option_map (λ n. n.now) c.args.who)) (put_from 0 c.args.texts.now) (get_or c.args.aggregates.now c.loop-aggregate.aggregate-index c.aggregate-item.result).now ∷ [])
@@ -43,8 +43,7 @@ loop-aggregate-preserved g c = record {
   kept = c.in-Ok.ensures.kept ∙ c.loop-aggregate.invariant.kept;
   stays = λ s h. c.in-Ok.ensures.stays s (c.loop-aggregate.invariant.stays s h);
   asked = λ b was. c.in-Ok.ensures.asked b (c.loop-aggregate.invariant.asked b was);
-  same = c.in-Ok.ensures.same ∙ c.loop-aggregate.invariant.same;
-  later = omega (arith, c.in-Ok.ensures.cause.later, c.loop-aggregate.invariant.later);
+  faults = c.in-Ok.ensures.cause.caused ∙ c.loop-aggregate.invariant.faults;
 }
 
 pub returns-clause-told : goal.returns-clause-told

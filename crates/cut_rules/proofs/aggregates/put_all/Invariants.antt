@@ -1,4 +1,4 @@
-use Rattle.std.proofs.Common.{◌≡◌, ◌≤◌, ◌++◌, true, map, option_map, take, Some}
+use Rattle.std.proofs.Common.{◌≡◌, ◌++◌, true, map, option_map, take, Some}
 use Rattle.std.specs.List.{list_all}
 use Rattle.calculus.specs.Database.{Db}
 use Rattle.calculus.specs.Permission.{readable, source_permitted}
@@ -19,6 +19,5 @@ invariant-loop-aggregate g l = record {
   kept : g.B.Base.database l.base ≡ g.B.Base.database l.initial.base;
   stays : (s : Db) → g.B.Base.schema l.initial.base ≡ Some s → g.B.Base.schema l.base ≡ Some s;
   asked : (b : _) → g.B.Base.asked b l.initial.base → g.B.Base.asked b l.base;
-  same : g.B.Base.left l.base ≡ g.B.Base.left l.initial.base;
-  later : g.B.Base.faults l.initial.base ≤ g.B.Base.faults l.base;
+  faults : g.B.Base.faults l.base ≡ g.B.Base.faults l.initial.base;
 }

@@ -26,5 +26,5 @@ pub returns-in-Ok-clause-cause : goal.returns-in-Ok-clause-cause
 returns-in-Ok-clause-cause g c =
     caused_behind (λ db. read_permitted db (who_of (option_map (λ n. n.now) c.args.who)) c.args.read.now c.args.key.now ≡ false)
     (λ db. change_permitted db (who_of (option_map (λ n. n.now) c.args.who)) (right_of c.args.right) c.args.places.now c.args.key.now c.args.read.now ≡ false)
-    _ _ _ _ _ c.put_read_cut.result c.in-Ok.ensures.kept c.in-Ok.ensures.cause.later
+    _ _ _ _ _ c.put_read_cut.result c.in-Ok.ensures.kept c.in-Ok.ensures.cause.caused
     (λ db h r. change_false db (who_of (option_map (λ n. n.now) c.args.who)) (right_of c.args.right) c.args.places.now c.args.key.now c.args.read.now r) c.put_read_cut.ensures.cause

@@ -1,4 +1,4 @@
-use Rattle.std.proofs.Common.{◌≡◌, sym, ◌∙◌, subst, false, length, Err, option_map, Contains, rules, arith}
+use Rattle.std.proofs.Common.{◌≡◌, sym, ◌∙◌, subst, false, length, Err, option_map, Contains, rules}
 use Rattle.std.specs.List.{list_all}
 use Rattle.calculus.specs.declared.request.Asked.{Asked}
 use Rattle.calculus.specs.Permission.{query_permitted}
@@ -20,7 +20,7 @@ returns-in_err-put_asked-clause-cause g c =
     let is : c.from_residual.result ≡ Err c.in_err-put_asked.field-0.0 = search rules in
     subst (λ r. HasCause (λ db var. (list_all (λ a. query_permitted db (who_of (option_map (λ n. n.now) c.args.who)) a.query) c.args.asked.now ≡ false) × ((a : Asked) × (Contains c.args.asked.now a) × IsRefusedIn db (who_of (option_map (λ n. n.now) c.args.who)) a.query var))
     (g.B.Base.database c.args.base.now) (g.B.Base.faults c.args.base.now) (g.B.Base.faults c.put_asked.new.base) r) (sym is)
-    (failed_behind _ _ _ _ _ _ _ _ c.in_err-put_asked.ensures.cause c.asked.invariant.kept c.asked.invariant.later
+    (failed_behind _ _ _ _ _ _ _ _ c.in_err-put_asked.ensures.cause c.asked.invariant.kept c.asked.invariant.faults
     (λ db h var r. (
       failed_first (λ a. query_permitted db (who_of (option_map (λ n. n.now) c.args.who)) a.query) c.in-Some.first.now c.asked.rest.now c.in-Some.others.now _ c.in-Some.ensures.cases.0 r.0 (c.asked.invariant.permitted db h),
       (c.in-Some.first.now, c.asked.invariant.within c.in-Some.first.now (contains_first c.in-Some.first.now c.asked.rest.now c.in-Some.others.now c.in-Some.ensures.cases.0), r.1),
@@ -39,8 +39,7 @@ asked-preserved g c = record {
   kept = c.in_ok-put_asked.ensures.kept ∙ c.asked.invariant.kept;
   stays = λ s h. c.in_ok-put_asked.ensures.stays s (c.asked.invariant.stays s h);
   asked = λ b was. c.in_ok-put_asked.ensures.asked b (c.asked.invariant.asked b was);
-  same = c.in_ok-put_asked.ensures.same ∙ c.asked.invariant.same;
-  later = omega (arith, c.in_ok-put_asked.ensures.cause.later, c.asked.invariant.later);
+  faults = c.in_ok-put_asked.ensures.cause.caused ∙ c.asked.invariant.faults;
 }
 
 pub returns-clause-permitted : goal.returns-clause-permitted

@@ -9,10 +9,13 @@ use Rattle.cut_rules.proofs.expanding.expand_fixed.Goals as goal
 pub returns-then-vars-gt-MOST_VARIABLES-clause-cause : goal.returns-then-vars-gt-MOST_VARIABLES-clause-cause
 returns-then-vars-gt-MOST_VARIABLES-clause-cause g c = record {
   later = c.in_ok-vars.ensures.cause.later;
-  caused = λ db h.
-      too_many c.in_ok-vars.vars (expanded_variables db c.args.query.now) c.capped.result
-      (c.in_ok-vars.ensures.told db (g.B.Base.own c.args.base.now db h) (few_listed (kept_or_viewed db) db c.args.query.now (c.requires db h)) (few_sources db c.args.query.now (c.requires db h)))
-      c.if-vars-gt-MOST_VARIABLES.true c.capped.ensures;
+  caused = (
+    c.in_ok-vars.ensures.cause.caused,
+    λ db h.
+        too_many c.in_ok-vars.vars (expanded_variables db c.args.query.now) c.capped.result
+        (c.in_ok-vars.ensures.told db (g.B.Base.own c.args.base.now db h) (few_listed (kept_or_viewed db) db c.args.query.now (c.requires db h)) (few_sources db c.args.query.now (c.requires db h)))
+        c.if-vars-gt-MOST_VARIABLES.true c.capped.ensures,
+  );
 }
 
 pub put_in-requires-clause-few : goal.put_in-requires-clause-few
@@ -36,7 +39,7 @@ returns-in-Ok-clause-lacks g c = λ db h nests.
 
 pub returns-clause-cause : goal.returns-clause-cause
 returns-clause-cause g c =
-    expand_failed _ _ _ _ _ _ _ _ c.in-Err.ensures.cause c.unexpanded.ensures c.in_ok-vars.ensures.kept c.in_ok-vars.ensures.cause.later
+    expand_failed _ _ _ _ _ _ _ _ c.in-Err.ensures.cause c.unexpanded.ensures c.in_ok-vars.ensures.kept c.in_ok-vars.ensures.cause.caused
     (λ db h. free_query db (g.B.Base.lawful c.args.base.now db (g.B.Base.own c.args.base.now db h)) c.args.query.now (c.requires db h))
 
 pub returns-then-vars-gt-MOST_VARIABLES-clause-many_by_schema : goal.returns-then-vars-gt-MOST_VARIABLES-clause-many_by_schema

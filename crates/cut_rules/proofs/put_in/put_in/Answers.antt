@@ -42,7 +42,7 @@ returns-in-Ok-clause-permitted g c = λ db h.
 
 pub returns-in-Ok-clause-cause : goal.returns-in-Ok-clause-cause
 returns-in-Ok-clause-cause g c =
-    caused_behind _ _ _ _ _ _ _ _ c.put_over_few.ensures.cause c.in-Ok.ensures.kept c.in-Ok.ensures.cause.later (λ db h var r. aggregate_refused db (who_of (option_map (λ n. n.now) c.args.who)) c.args.query.now var r)
+    caused_behind _ _ _ _ _ _ _ _ c.put_over_few.ensures.cause c.in-Ok.ensures.kept c.in-Ok.ensures.cause.caused (λ db h var r. aggregate_refused db (who_of (option_map (λ n. n.now) c.args.who)) c.args.query.now var r)
 
 pub returns-clause-cause : goal.returns-clause-cause
 returns-clause-cause g c = failed_so _ _ _ _ _ _ c.in-Err.ensures.cause (λ db h var r. read_refused db (who_of (option_map (λ n. n.now) c.args.who)) c.args.query.now var r)

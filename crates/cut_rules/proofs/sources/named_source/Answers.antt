@@ -39,7 +39,7 @@ returns-in-Some-clause-cause g c =
     caused_behind (λ db. vars_permitted (permitted_within 15 db (who_of (option_map (λ n. n.now) c.args.who))) c.in-Some.query (used_vars c.in-Some.query) ≡ false)
     (λ db. readable db (who_of (option_map (λ n. n.now) c.args.who)) c.args.key.now c.args.attrs.now ≡ false)
     (g.B.Base.database c.args.base.now) (g.B.Base.database c.view.new.self) (g.B.Base.faults c.args.base.now) (g.B.Base.faults c.view.new.self) (g.B.Base.faults c.rows_source-made.new.base) c.rows_source-made.result
-    c.in_ok-query.ensures.kept c.in_ok-query.ensures.cause.later
+    c.in_ok-query.ensures.kept c.in_ok-query.ensures.cause.caused
     (λ db h e. sym (readable_of_view db (g.B.Base.lawful c.args.base.now db (g.B.Base.own c.args.base.now db h)) (who_of (option_map (λ n. n.now) c.args.who)) c.args.key.now c.args.attrs.now c.in-Some.query (sym c.in-Some.is ∙ c.in_ok-query.ensures.told db (g.B.Base.own c.args.base.now db h))) ∙ e)
     c.rows_source-made.ensures.cause
 
@@ -63,6 +63,6 @@ returns-in-None-clause-cause g c =
     caused_behind (λ db. permitted db (who_of (option_map (λ n. n.now) c.args.who)) Retrieve c.args.attrs.now c.args.key.now ≡ false)
     (λ db. readable db (who_of (option_map (λ n. n.now) c.args.who)) c.args.key.now c.args.attrs.now ≡ false)
     (g.B.Base.database c.args.base.now) (g.B.Base.database c.view.new.self) (g.B.Base.faults c.args.base.now) (g.B.Base.faults c.view.new.self) (g.B.Base.faults c.kept_source.new.base) c.kept_source.result
-    c.in_ok-query.ensures.kept c.in_ok-query.ensures.cause.later
+    c.in_ok-query.ensures.kept c.in_ok-query.ensures.cause.caused
     (λ db h e. sym (readable_of_kept db (who_of (option_map (λ n. n.now) c.args.who)) c.args.key.now c.args.attrs.now (sym c.in-None.is ∙ c.in_ok-query.ensures.told db (g.B.Base.own c.args.base.now db h))) ∙ e)
     c.kept_source.ensures.cause

@@ -1,4 +1,4 @@
-use Rattle.std.proofs.Common.{◌≡◌, refl, sym, ap, ◌∙◌, subst, ◌≤◌, true, false, length, IfOk, OnOk, option_map, arith}
+use Rattle.std.proofs.Common.{◌≡◌, refl, sym, ap, ◌∙◌, subst, ◌≤◌, true, false, length, IfOk, OnOk, option_map}
 use Rattle.std.specs.Option.{option_to_list}
 use Rattle.calculus.specs.Permission.{permitted_within, readable, source_permitted, vars_permitted}
 use Rattle.calculus.specs.QueryParts.{vars_of}
@@ -52,6 +52,6 @@ returns-in-Rows-clause-cause g c =
     caused_behind (λ db. vars_permitted (permitted_within 16 db (who_of (option_map (λ n. n.now) c.args.who))) c.get.result.now (used_vars c.get.result.now) ≡ false)
     (λ db. source_permitted (readable db (who_of (option_map (λ n. n.now) c.args.who))) c.args.attrs.now c.args.source.now ≡ false)
     (g.B.Base.database c.args.base.now) (g.B.Base.database c.args.base.now) (g.B.Base.faults c.args.base.now) (g.B.Base.faults c.args.base.now) (g.B.Base.faults c.rows_source.new.base) c.rows_source.result
-    refl (omega arith)
+    refl refl
     (λ db h e. sym (rows_readable db (who_of (option_map (λ n. n.now) c.args.who)) c.args.attrs.now c.args.source.now c.in-Rows.query c.get.result.now c.in-Rows.is c.get.ensures) ∙ e)
     c.rows_source.ensures.cause

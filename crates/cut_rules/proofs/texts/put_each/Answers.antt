@@ -1,4 +1,4 @@
-use Rattle.std.proofs.Common.{◌≡◌, sym, ◌∙◌, subst, Err, option_map, rules, arith}
+use Rattle.std.proofs.Common.{◌≡◌, sym, ◌∙◌, subst, Err, option_map, rules}
 use Rattle.view_expand.specs.Asking.{who_of}
 use Rattle.cut_rules.specs.Causes.{HasCause}
 use Rattle.cut_rules.specs.Placed.{IsRefusedAt, is_small, may_be_read, read_text}
@@ -15,7 +15,7 @@ pub returns-in_err-more-clause-cause : goal.returns-in_err-more-clause-cause
 returns-in_err-more-clause-cause g c =
     let is : c.from_residual.result ≡ Err c.in_err-more.field-0.0 = search rules in
     subst (λ r. HasCause (λ db var. IsRefusedAt (may_be_read db (who_of (option_map (λ n. n.now) c.args.who)) c.args.query.now) c.args.keys.now var) (g.B.Base.database c.args.base.now) (g.B.Base.faults c.args.base.now) (g.B.Base.faults c.read_text.new.base) r) (sym is)
-    (failed_behind _ _ _ _ _ _ _ _ c.in_err-more.ensures.cause c.keys.invariant.kept c.keys.invariant.later
+    (failed_behind _ _ _ _ _ _ _ _ c.in_err-more.ensures.cause c.keys.invariant.kept c.keys.invariant.faults
     (λ db h var r. refused_at (may_be_read db (who_of (option_map (λ n. n.now) c.args.who)) c.args.query.now) c.args.keys.now c.keys.place c.in-Some.key.now var
     (here_key c.keys.place c.in-Some.key.now c.keys.rest.now c.in-Some.others.now c.args.keys.now c.in-Some.ensures.cases.0 c.keys.invariant.same_keys) r.0 r.1))
 
@@ -36,6 +36,5 @@ keys-preserved g c = record {
   kept = c.in_ok-more.ensures.kept ∙ c.keys.invariant.kept;
   stays = λ s h. c.in_ok-more.ensures.stays s (c.keys.invariant.stays s h);
   asked = λ b was. c.in_ok-more.ensures.asked b (c.keys.invariant.asked b was);
-  same = c.in_ok-more.ensures.same ∙ c.keys.invariant.same;
-  later = omega (arith, c.in_ok-more.ensures.cause.later, c.keys.invariant.later);
+  faults = c.in_ok-more.ensures.cause.caused ∙ c.keys.invariant.faults;
 }

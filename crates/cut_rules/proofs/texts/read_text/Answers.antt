@@ -9,8 +9,8 @@ use Rattle.cut_rules.proofs.Fitting.{small_there}
 use Rattle.cut_rules.proofs.Refusing.{passed, used_refused}
 use Rattle.cut_rules.proofs.texts.read_text.Goals as goal
 
-pub text_at_remembering-requires-clause-few : goal.text_at_remembering-requires-clause-few
-text_at_remembering-requires-clause-few g c = λ db h used. small_there db c.args.query.now c.args.place c.args.key.now (c.requires.small db h) used
+pub text_at-requires-clause-few : goal.text_at-requires-clause-few
+text_at-requires-clause-few g c = λ db h used. small_there db c.args.query.now c.args.place c.args.key.now (c.requires.small db h) used
 
 pub returns-in-Ok-clause-told : goal.returns-in-Ok-clause-told
 unfolding text_of

@@ -1,8 +1,9 @@
-use Rattle.std.proofs.Common.{subst, arith, ◌∙◌, ◌+◌}
+use Rattle.std.proofs.Common.{subst, sym, true≢false, arith, ◌∙◌, ◌+◌}
 use Rattle.catalog.proofs.Rises.{rises_less, then_rises}
 use Rattle.db_disk.specs.Head.{IsHead}
 use Rattle.db_disk.proofs.Loading.{for_whom, lies_for, no_header_none, own_name, unborn_none}
 use Rattle.db_disk.proofs.Headless.{at_birth, at_header, same_page, without_header}
+use Rattle.db_disk.proofs.Damaged.{without_birth}
 use Rattle.db_disk.proofs.load.load.Goals as goal
 
 pub returns-in-Of-clause-knows : goal.returns-in-Of-clause-knows
@@ -18,13 +19,13 @@ returns-in-Of-clause-cause g c =
 pub returns-in-NoHeader-clause-cause : goal.returns-in-NoHeader-clause-cause
 returns-in-NoHeader-clause-cause g c = record {
   later = c.read_head.ensures.cause.later;
-  caused = λ m is. no_header_none m record { file = 0; page = 0 } (subst (IsHead m) c.in-NoHeader.is (c.in_ok-dba.ensures.head m is)).1;
+  caused = (λ m is. no_header_none m record { file = 0; page = 0 } (subst (IsHead m) c.in-NoHeader.is (c.in_ok-dba.ensures.head m is)).1, c.in_ok-dba.ensures.cause.caused);
 }
 
 pub returns-in-Unborn-clause-cause : goal.returns-in-Unborn-clause-cause
 returns-in-Unborn-clause-cause g c = record {
   later = c.read_head.ensures.cause.later;
-  caused = λ m is. unborn_none m record { file = 0; page = 1 } (subst (IsHead m) c.in-Unborn.is (c.in_ok-dba.ensures.head m is));
+  caused = (λ m is. unborn_none m record { file = 0; page = 1 } (subst (IsHead m) c.in-Unborn.is (c.in_ok-dba.ensures.head m is)), c.in_ok-dba.ensures.cause.caused);
 }
 
 pub returns-in-Of-clause-lies : goal.returns-in-Of-clause-lies
@@ -74,3 +75,14 @@ returns-in-Unborn-clause-at_head g c = λ m page is e. at_birth m page (subst (I
 
 pub returns-in-NoHeader-clause-no_head : goal.returns-in-NoHeader-clause-no_head
 returns-in-NoHeader-clause-no_head g c = λ m page is e. without_header m (subst (IsHead m) c.in-NoHeader.is (c.in_ok-dba.ensures.head m is)).1
+
+pub returns-in-Of-clause-at_catalog : goal.returns-in-Of-clause-at_catalog
+returns-in-Of-clause-at_catalog g c = λ m file page told head e. c.load_for.ensures.at_catalog m file page (c.read_head.ensures.same ∙ told) e
+
+pub returns-in-NoHeader-clause-at_catalog : goal.returns-in-NoHeader-clause-at_catalog
+returns-in-NoHeader-clause-at_catalog g c = λ m file page told head e.
+    absurd (true≢false (sym head ∙ without_header m (subst (IsHead m) c.in-NoHeader.is (c.in_ok-dba.ensures.head m told)).1))
+
+pub returns-in-Unborn-clause-at_catalog : goal.returns-in-Unborn-clause-at_catalog
+returns-in-Unborn-clause-at_catalog g c = λ m file page told head e.
+    absurd (true≢false (sym head ∙ without_birth m (subst (IsHead m) c.in-Unborn.is (c.in_ok-dba.ensures.head m told))))

@@ -1,3 +1,9 @@
+use Rattle.std.proofs.Common.{refl}
+use Rattle.page_chain.proofs.Carried.{cause_earlier}
+use Rattle.catalog.specs.Knows.{NoDatabase, NoDatabaseAt}
+use Rattle.catalog.specs.declared.catalog.Catalog.{Catalog}
+use Rattle.db_disk.proofs.Damaged.{at_fault}
+use Rattle.db_disk.proofs.Headless.{same_err}
 use Rattle.db_disk.proofs.load.load_for.Goals as goal
 
 pub returns-in-Ok-clause-came : goal.returns-in-Ok-clause-came
@@ -23,3 +29,14 @@ returns-in-Ok-clause-reads g c = c.load.ensures.reads
 
 pub returns-in-Err-clause-reads : goal.returns-in-Err-clause-reads
 returns-in-Err-clause-reads g c = c.load.ensures.reads
+
+pub returns-in-Ok-clause-cause : goal.returns-in-Ok-clause-cause
+returns-in-Ok-clause-cause g c = record { later = c.in-Ok.ensures.cause.later; caused = c.in-Ok.ensures.cause.caused }
+
+pub returns-in-Err-clause-cause : goal.returns-in-Err-clause-cause
+returns-in-Err-clause-cause g c =
+    cause_earlier {T = Catalog} {U = Catalog} _ _ (NoDatabaseAt c.args.dba) (NoDatabase c.args.dba) _ _ _ c.in-Err.fault refl (λ a at m told. (at m told).0) c.in-Err.ensures.cause
+
+pub returns-in-Err-clause-at_catalog : goal.returns-in-Err-clause-at_catalog
+returns-in-Err-clause-at_catalog g c = λ m file page told e.
+    (at_fault _ (NoDatabaseAt c.args.dba) _ _ c.in-Err.fault c.in-Err.ensures.cause.caused m file page told (same_err {T = Catalog} _ _ e)).1

@@ -1,4 +1,4 @@
-use Rattle.std.proofs.Common.{◌≡◌, ◌∙◌, sym, ap, subst, rules, Err, arith, true, false}
+use Rattle.std.proofs.Common.{◌≡◌, refl, ◌∙◌, sym, ap, subst, rules, Err, true, false}
 use Rattle.std.specs.Prelude.{IsFalse, OnOk}
 use Rattle.std.proofs.lemmas.Result.{IfOk-weaker}
 use Rattle.calculus.specs.Lists.{is_any}
@@ -18,7 +18,7 @@ returns-in_err-given_once-clause-cause g c = λ q is.
     let fault = c.in_err-given_once.field-0.0 in
     let given : c.from_residual.result ≡ Err (given_fault fault) = search rules in
     let unused : is_any (used_in_query 0 q) ≡ false = sym (c.is_place_used.ensures q is.asks is.gives) ∙ c.if-is_place_used.false in
-    product_fails no_aggs q (g.B.Base.database c.args.base.now) (g.B.Base.faults c.args.base.now) (g.B.Base.faults c.args.base.now) fault c.from_residual.result given (omega arith)
+    product_fails no_aggs q (g.B.Base.database c.args.base.now) (g.B.Base.faults c.args.base.now) (g.B.Base.faults c.args.base.now) fault c.from_residual.result given refl
     (λ db e. subst (λ es. IsCause no_aggs q es fault) (sym (assigned_unused db q c.args.rel.now is.ranges unused)) (c.in_err-given_once.ensures.cause q is.asks is.gives))
 
 pub returns-then-is_place_used-clause-rows : goal.returns-then-is_place_used-clause-rows

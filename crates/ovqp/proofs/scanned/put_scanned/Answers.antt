@@ -22,13 +22,13 @@ loop-call-preserved g c = record {
   stays = λ s e. c.in_ok-row.ensures.stays s (c.loop-call.invariant.stays s e);
   same = c.in_ok-row.ensures.same ∙ c.loop-call.invariant.same;
   asked = λ b was. c.in_ok-row.ensures.asked b (c.loop-call.invariant.asked b was);
-  later = c.in_ok-row.ensures.cause.caused ∙ c.loop-call.invariant.later;
-  counted = omega (arith, ap length c.in_ok-put_behind-in-Some.ensures, length-append c.loop-call.rows.items (c.in-Some.row ∷ []), c.loop-call.invariant.counted);
+  faults = c.in_ok-row.ensures.cause.caused ∙ c.loop-call.invariant.faults;
+  counted = omega (arith, ap length c.in_ok-push-in-Some.ensures.behind, length-append c.loop-call.rows.items (c.in-Some.row ∷ []), c.loop-call.invariant.counted);
   so_far = λ db e.
       let probe : Probe = c.args.probe.now in
       let met = subst (λ o. Gave probe (g.B.Base.left c.loop-call.base c.args.key.now c.loop-call.at) (g.B.Base.left c.loop-call.base c.args.key.now c.scan.new.at) o)
       c.in-Some.is (c.in_ok-row.ensures.told db (c.loop-call.invariant.kept ∙ e)) in
-      (λ i. c.in_ok-put_behind-in-Some.ensures i ++ sym c.loop-call.invariant.same i c.args.key.now c.scan.new.at)
+      (λ i. c.in_ok-push-in-Some.ensures.behind i ++ sym c.loop-call.invariant.same i c.args.key.now c.scan.new.at)
       ∙ one_more probe c.loop-call.rows.items (g.B.Base.left c.loop-call.base c.args.key.now c.loop-call.at) (g.B.Base.left c.loop-call.base c.args.key.now c.scan.new.at)
       (g.B.Base.left c.args.base.now c.args.key.now first_place) c.in-Some.row c.requires.any met
       (ap (λ left. c.loop-call.rows.items ++ left c.args.key.now c.loop-call.at) c.loop-call.invariant.same ∙ c.loop-call.invariant.so_far db e);
@@ -36,7 +36,10 @@ loop-call-preserved g c = record {
 
 pub returns-clause-cause : goal.returns-clause-cause
 returns-clause-cause g c = record {
-  later = omega (arith, c.loop-call.invariant.later);
-  caused = too_many (g.B.Base.database c.args.base.now) (g.B.Base.left c.args.base.now) c.args.key.now c.loop-call.at c.loop-call.rows.items
-      (λ db e. g.B.Base.lawful c.args.base.now db (g.B.Base.own c.args.base.now db e)) (λ db. g.B.Base.scanned c.args.base.now db c.args.key.now) c.loop-call.invariant.so_far (omega arith);
+  later = omega (arith, c.loop-call.invariant.faults);
+  caused = (
+    too_many (g.B.Base.database c.args.base.now) (g.B.Base.left c.args.base.now) c.args.key.now c.loop-call.at c.loop-call.rows.items
+        (λ db e. g.B.Base.lawful c.args.base.now db (g.B.Base.own c.args.base.now db e)) (λ db. g.B.Base.scanned c.args.base.now db c.args.key.now) c.loop-call.invariant.so_far (omega arith),
+    c.loop-call.invariant.faults,
+  );
 }

@@ -11,7 +11,7 @@ loop-call-init g c = record {
   stays = λ s e. e;
   same = refl;
   asked = λ b was. was;
-  later = omega arith;
+  faults = refl;
   so_far = λ db e q is. read_none q (g.B.Base.left c.args.base.now c.args.rel.now first_place) c.args.given.now.items c.requires.empty;
 }
 
@@ -30,7 +30,7 @@ loop-call-preserved g c = record {
   stays = λ s e. c.in_ok-row.ensures.stays s (c.loop-call.invariant.stays s e);
   same = c.in_ok-row.ensures.same ∙ c.loop-call.invariant.same;
   asked = λ b was. c.in_ok-row.ensures.asked b (c.loop-call.invariant.asked b was);
-  later = omega (arith, c.loop-call.invariant.later, c.in_ok-row.ensures.cause.later);
+  faults = c.in_ok-row.ensures.cause.caused ∙ c.loop-call.invariant.faults;
   so_far = λ db e q is.
       let probe : Probe = c.args.probe.now in
       let met = subst (λ o. Gave probe (g.B.Base.left c.loop-call.base c.args.rel.now c.loop-call.at) (g.B.Base.left c.loop-call.base c.args.rel.now c.scan.new.at) o)
@@ -47,7 +47,7 @@ returns-in_err-give_of-in-Some-clause-cause g c = λ q is.
     let fault = c.in_err-give_of-in-Some.field-0.0 in
     let given : c.from_residual-in_err-give_of-in-Some.result ≡ Err (given_fault fault) = search rules in
     scan_fails q c.args.rel.now (g.B.Base.database c.args.base.now) (g.B.Base.faults c.args.base.now) (g.B.Base.faults c.scan.new.self) fault
-    c.from_residual-in_err-give_of-in-Some.result given (omega (arith, c.loop-call.invariant.later, c.in_ok-row.ensures.cause.later))
+    c.from_residual-in_err-give_of-in-Some.result given (c.in_ok-row.ensures.cause.caused ∙ c.loop-call.invariant.faults)
     (λ db e.
     let met = subst (λ o. Gave probe (g.B.Base.left c.loop-call.base c.args.rel.now c.loop-call.at) (g.B.Base.left c.loop-call.base c.args.rel.now c.scan.new.at) o)
     c.in-Some.is (c.in_ok-row.ensures.told db (c.loop-call.invariant.kept ∙ e)) in
@@ -59,16 +59,19 @@ returns-in_err-give_of-in-Some-clause-cause g c = λ q is.
 
 pub returns-clause-cause : goal.returns-clause-cause
 returns-clause-cause g c = λ q is. record {
-  later = c.loop-call.invariant.later;
-  caused = too_many (g.B.Base.database c.args.base.now) c.args.rel.now (λ db e. g.B.Base.lawful c.args.base.now db (g.B.Base.own c.args.base.now db e))
-      (λ db e. (
-        g.B.Base.left c.args.base.now c.args.rel.now first_place,
-        g.B.Base.left c.args.base.now c.args.rel.now c.loop-call.at,
-        c.loop-call.call,
-        c.loop-call.given.items,
-        q,
-        c.loop-call.invariant.so_far db e q is,
-        g.B.Base.scanned c.args.base.now db c.args.rel.now e,
-        omega arith,
-      ));
+  later = omega (arith, c.loop-call.invariant.faults);
+  caused = (
+    too_many (g.B.Base.database c.args.base.now) c.args.rel.now (λ db e. g.B.Base.lawful c.args.base.now db (g.B.Base.own c.args.base.now db e))
+        (λ db e. (
+          g.B.Base.left c.args.base.now c.args.rel.now first_place,
+          g.B.Base.left c.args.base.now c.args.rel.now c.loop-call.at,
+          c.loop-call.call,
+          c.loop-call.given.items,
+          q,
+          c.loop-call.invariant.so_far db e q is,
+          g.B.Base.scanned c.args.base.now db c.args.rel.now e,
+          omega arith,
+        )),
+    c.loop-call.invariant.faults,
+  );
 }

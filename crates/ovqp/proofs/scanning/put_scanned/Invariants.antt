@@ -1,4 +1,4 @@
-use Rattle.std.proofs.Common.{◌≡◌, ◌≤◌, Some}
+use Rattle.std.proofs.Common.{◌≡◌, Some}
 use Rattle.calculus.specs.declared.query.Query.{Query}
 use Rattle.calculus.specs.Database.{Db}
 use Rattle.am_traits.specs.Scans.{first_place}
@@ -11,7 +11,7 @@ invariant-loop-call g l = record {
   stays : (s : Db) → g.B.Base.schema l.fn.base ≡ Some s → g.B.Base.schema l.base ≡ Some s;
   same : g.B.Base.left l.base ≡ g.B.Base.left l.fn.base;
   asked : (b : _) → g.B.Base.asked b l.fn.base → g.B.Base.asked b l.base;
-  later : g.B.Base.faults l.fn.base ≤ g.B.Base.faults l.base;
+  faults : g.B.Base.faults l.base ≡ g.B.Base.faults l.fn.base;
   so_far : (db : Db) → g.B.Base.database l.fn.base ≡ Some db → (q : Query) → IsQueryOf q l.rel l.qual l.targets
       → HasRead q (g.B.Base.left l.fn.base l.rel first_place) (g.B.Base.left l.fn.base l.rel l.at) l.call l.given.items;
 }

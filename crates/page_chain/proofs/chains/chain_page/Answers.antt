@@ -27,7 +27,7 @@ returns-in-Some-clause-may g c = (there_follows c.args.bound c.args.page c.in-So
 pub returns-in-None-clause-cause : goal.returns-in-None-clause-cause
 returns-in-None-clause-cause g c = record {
   later = c.in_ok-is_there.ensures.cause.later;
-  caused = λ m told. record { of_file = refl; of_page = refl; off = ap (next_of c.args.bound c.args.page) (c.in_ok-is_there.ensures.page m told) ∙ sym c.next_there.ensures ∙ c.in-None.is };
+  caused = (λ m told. record { of_file = refl; of_page = refl; off = ap (next_of c.args.bound c.args.page) (c.in_ok-is_there.ensures.page m told) ∙ sym c.next_there.ensures ∙ c.in-None.is }, c.in_ok-is_there.ensures.cause.caused);
 }
 
 pub returns-in-Some-clause-came : goal.returns-in-Some-clause-came

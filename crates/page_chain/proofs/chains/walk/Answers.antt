@@ -53,7 +53,7 @@ pages-preserved g c =
 pub returns-in-Err-clause-cause : goal.returns-in-Err-clause-cause
 returns-in-Err-clause-cause g c =
     fault_later {T = ℕ} {U = ℕ} (g.S.PageStore.pages c.args.store.now) (OffPage c.args.file c.pages.at c.args.bound) (NoChain c.args.file c.args.bound)
-    (g.S.PageStore.faults c.args.store.now) (g.S.PageStore.faults c.pages.store) (g.S.PageStore.faults c.copy_page.new.store) c.in-Err.fault (omega (arith, c.pages.invariant.faults))
+    (g.S.PageStore.faults c.args.store.now) (g.S.PageStore.faults c.pages.store) (g.S.PageStore.faults c.copy_page.new.store) c.in-Err.fault c.pages.invariant.faults
     (λ m a told off. no_chain c.args.bound (pages_of m c.args.file) c.pages.at c.pages.rows.items c.pages.invariant.below c.args.file m a refl (c.pages.invariant.walked m told) off)
     (subst (λ told. HasFileCause {T = ℕ} told (OffPage c.args.file c.pages.at c.args.bound) (g.S.PageStore.faults c.pages.store) (g.S.PageStore.faults c.copy_page.new.store) (Err c.in-Err.fault)) c.pages.invariant.same c.in-Err.ensures.cause)
 

@@ -33,7 +33,7 @@ returns-clause-cause g c = record { later = omega (arith, c.chain_page.ensures.c
 
 pub returns-in_err-now-clause-cause : goal.returns-in_err-now-clause-cause
 returns-in_err-now-clause-cause g c =
-    store_carried (g.S.PageStore.pages c.args.store.now) (OffPage c.args.file c.args.last (c.args.last + 1)) (g.S.PageStore.faults c.args.store.now) (g.S.PageStore.faults c.chain_page.new.store) (g.S.PageStore.faults c.lay.new.store) c.in_err-now.field-0.0 (c.chain_page.ensures.cause.later) c.in_err-now.ensures.cause c.from_residual-in_err-now.result c.from_residual-in_err-now.ensures.1
+    store_carried (g.S.PageStore.pages c.args.store.now) (OffPage c.args.file c.args.last (c.args.last + 1)) (g.S.PageStore.faults c.args.store.now) (g.S.PageStore.faults c.chain_page.new.store) (g.S.PageStore.faults c.lay.new.store) c.in_err-now.field-0.0 c.in_ok-chain_page.ensures.cause.caused c.in_err-now.ensures.cause c.from_residual-in_err-now.result c.from_residual-in_err-now.ensures.1
 
 pub returns-in_err-chain_page-clause-cause : goal.returns-in_err-chain_page-clause-cause
 returns-in_err-chain_page-clause-cause g c =

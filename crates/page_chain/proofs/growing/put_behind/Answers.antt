@@ -26,7 +26,7 @@ returns-clause-cause g c = record { later = omega (arith, c.turn_page.ensures.ca
 
 pub returns-in_err-put-clause-cause : goal.returns-in_err-put-clause-cause
 returns-in_err-put-clause-cause g c =
-    store_on (g.S.PageStore.faults c.args.store.now) (g.S.PageStore.faults c.turn_page.new.store) (g.S.PageStore.faults c.put.new.self) c.in_err-put.field-0.0 (c.turn_page.ensures.cause.later) c.in_err-put.ensures.cause c.from_residual-in_err-put.result c.from_residual-in_err-put.ensures.1
+    store_on (g.S.PageStore.faults c.args.store.now) (g.S.PageStore.faults c.turn_page.new.store) (g.S.PageStore.faults c.put.new.self) c.in_err-put.field-0.0 c.in_ok-turn_page.ensures.cause.caused c.in_err-put.ensures.cause c.from_residual-in_err-put.result c.from_residual-in_err-put.ensures.1
 
 pub returns-in_err-turn_page-clause-cause : goal.returns-in_err-turn_page-clause-cause
 returns-in_err-turn_page-clause-cause g c =

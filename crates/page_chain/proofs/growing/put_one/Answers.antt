@@ -40,7 +40,7 @@ returns-clause-cause g c = record { later = omega (arith, c.chain_page.ensures.c
 
 pub returns-in_err-place-clause-cause : goal.returns-in_err-place-clause-cause
 returns-in_err-place-clause-cause g c =
-    store_carried (g.S.PageStore.pages c.args.store.now) (OffPage c.args.file c.args.last (c.args.last + 1)) (g.S.PageStore.faults c.args.store.now) (g.S.PageStore.faults c.chain_page.new.store) (g.S.PageStore.faults c.put_at.new.store) c.in_err-place.field-0.0 (c.chain_page.ensures.cause.later) c.in_err-place.ensures.cause c.from_residual-in_err-place.result c.from_residual-in_err-place.ensures.1
+    store_carried (g.S.PageStore.pages c.args.store.now) (OffPage c.args.file c.args.last (c.args.last + 1)) (g.S.PageStore.faults c.args.store.now) (g.S.PageStore.faults c.chain_page.new.store) (g.S.PageStore.faults c.put_at.new.store) c.in_err-place.field-0.0 c.in_ok-chain_page.ensures.cause.caused c.in_err-place.ensures.cause c.from_residual-in_err-place.result c.from_residual-in_err-place.ensures.1
 
 pub returns-in_err-chain_page-clause-cause : goal.returns-in_err-chain_page-clause-cause
 returns-in_err-chain_page-clause-cause g c =

@@ -20,7 +20,7 @@ pub returns-in_err-step-clause-cause : goal.returns-in_err-step-clause-cause
 returns-in_err-step-clause-cause g c =
     cause_carried (g.S.PageStore.pages c.args.store.now) (g.S.PageStore.pages c.pages.store)
     (OffChain c.args.chain.file c.pages.number c.args.chain.bound c.args.chain.last) (NoChainTo c.args.chain.file c.args.chain.bound c.args.chain.last)
-    (g.S.PageStore.faults c.args.store.now) (g.S.PageStore.faults c.pages.store) (g.S.PageStore.faults c.renew_at.new.store) c.in_err-step.field-0.0 (omega (arith, c.pages.invariant.faults))
+    (g.S.PageStore.faults c.args.store.now) (g.S.PageStore.faults c.pages.store) (g.S.PageStore.faults c.renew_at.new.store) c.in_err-step.field-0.0 c.pages.invariant.faults
     (λ a fault m is. let so_far = c.pages.invariant.reached m is in
     off_reached c.args.chain.file c.args.chain.bound c.pages.number c.args.chain.last c.args.going.now (take c.pages.put c.args.coming.now) c.pages.gone m (g.S.PageStore.pages c.pages.store) so_far a (fault so_far.image so_far.told_still))
     c.in_err-step.ensures.cause c.from_residual.result c.from_residual.ensures.1

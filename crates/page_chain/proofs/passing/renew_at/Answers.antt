@@ -45,7 +45,7 @@ returns-in_ok-put-clause-cause g c = record { later = omega (arith, c.page_on.en
 
 pub returns-in_err-put-clause-cause : goal.returns-in_err-put-clause-cause
 returns-in_err-put-clause-cause g c =
-    store_carried (g.S.PageStore.pages c.args.store.now) (OffChain c.args.chain.file c.args.number c.args.chain.bound c.args.chain.last) (g.S.PageStore.faults c.args.store.now) (g.S.PageStore.faults c.page_on.new.store) (g.S.PageStore.faults c.put.new.self) c.in_err-put.field-0.0 (c.page_on.ensures.cause.later) c.in_err-put.ensures.cause c.from_residual-in_err-put.result c.from_residual-in_err-put.ensures.1
+    store_carried (g.S.PageStore.pages c.args.store.now) (OffChain c.args.chain.file c.args.number c.args.chain.bound c.args.chain.last) (g.S.PageStore.faults c.args.store.now) (g.S.PageStore.faults c.page_on.new.store) (g.S.PageStore.faults c.put.new.self) c.in_err-put.field-0.0 c.in_ok-next.ensures.cause.caused c.in_err-put.ensures.cause c.from_residual-in_err-put.result c.from_residual-in_err-put.ensures.1
 
 pub returns-in_err-next-clause-cause : goal.returns-in_err-next-clause-cause
 returns-in_err-next-clause-cause g c =

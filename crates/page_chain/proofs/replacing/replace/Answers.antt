@@ -9,7 +9,7 @@ pub returns-in_err-last-clause-cause : goal.returns-in_err-last-clause-cause
 returns-in_err-last-clause-cause g c =
     cause_carried (g.S.PageStore.pages c.args.store.now) (g.S.PageStore.pages c.pass_over.new.store)
     (OffPage c.args.chain.file c.args.chain.last (c.args.chain.last + 1)) (NoChainTo c.args.chain.file c.args.chain.bound c.args.chain.last)
-    (g.S.PageStore.faults c.args.store.now) (g.S.PageStore.faults c.pass_over.new.store) (g.S.PageStore.faults c.put_rest.new.store) c.in_err-last.field-0.0 c.pass_over.ensures.cause.later
+    (g.S.PageStore.faults c.args.store.now) (g.S.PageStore.faults c.pass_over.new.store) (g.S.PageStore.faults c.put_rest.new.store) c.in_err-last.field-0.0 c.in_ok-done.ensures.cause.caused
     (off_behind c.args.chain.file c.args.chain.bound c.args.chain.last (c.args.chain.last + 1) c.args.going.now (take c.in_ok-done.done.put c.args.coming.now) c.in_ok-done.done.gone
     (g.S.PageStore.pages c.args.store.now) (g.S.PageStore.pages c.pass_over.new.store) (λ m is. c.in_ok-done.ensures.passed m is))
     c.in_err-last.ensures.cause c.from_residual-in_err-last.result c.from_residual-in_err-last.ensures.1
@@ -49,7 +49,7 @@ pub returns-in-Ok-clause-cause : goal.returns-in-Ok-clause-cause
 returns-in-Ok-clause-cause g c = record { later = omega (arith, c.pass_over.ensures.cause.later, c.put_rest.ensures.cause.later); caused = c.in_ok-last.ensures.cause.caused ∙ c.in_ok-done.ensures.cause.caused }
 
 pub returns-in-Err-clause-cause : goal.returns-in-Err-clause-cause
-returns-in-Err-clause-cause g c = record { later = omega (arith, c.pass_over.ensures.cause.later, c.put_rest.ensures.cause.later); caused = tt }
+returns-in-Err-clause-cause g c = record { later = omega (arith, c.pass_over.ensures.cause.later, c.put_rest.ensures.cause.later); caused = c.in_ok-last.ensures.cause.caused ∙ c.in_ok-done.ensures.cause.caused }
 
 pub returns-in_err-done-clause-cause : goal.returns-in_err-done-clause-cause
 returns-in_err-done-clause-cause g c =

@@ -19,7 +19,7 @@ pub returns-in_err-taken-clause-cause : goal.returns-in_err-taken-clause-cause
 returns-in_err-taken-clause-cause g c =
     cause_carried (g.S.PageStore.pages c.args.store.now) (g.S.PageStore.pages c.pages.store)
     (OffPage c.args.file c.pages.number c.args.bound) (NoChain c.args.file c.args.bound)
-    (g.S.PageStore.faults c.args.store.now) (g.S.PageStore.faults c.pages.store) (g.S.PageStore.faults c.take_at.new.store) c.in_err-taken.field-0.0 (omega (arith, c.pages.invariant.faults))
+    (g.S.PageStore.faults c.args.store.now) (g.S.PageStore.faults c.pages.store) (g.S.PageStore.faults c.take_at.new.store) c.in_err-taken.field-0.0 c.pages.invariant.faults
     (λ a fault. off_searched c.args.file c.args.bound c.pages.number c.args.row.now (g.S.PageStore.pages c.args.store.now) c.pages.invariant.searched a
     (subst (λ told. IsAtFault told (OffPage c.args.file c.pages.number c.args.bound) a) c.pages.invariant.same fault))
     c.in_err-taken.ensures.cause c.from_residual.result c.from_residual.ensures.1

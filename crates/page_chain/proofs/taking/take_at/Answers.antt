@@ -39,7 +39,7 @@ returns-in_ok-put-clause-cause g c = record { later = omega (arith, c.chain_page
 
 pub returns-in_err-put-clause-cause : goal.returns-in_err-put-clause-cause
 returns-in_err-put-clause-cause g c =
-    store_carried (g.S.PageStore.pages c.args.store.now) (OffPage c.args.file c.args.number c.args.bound) (g.S.PageStore.faults c.args.store.now) (g.S.PageStore.faults c.chain_page.new.store) (g.S.PageStore.faults c.put.new.self) c.in_err-put.field-0.0 (c.chain_page.ensures.cause.later) c.in_err-put.ensures.cause c.from_residual-in_err-put.result c.from_residual-in_err-put.ensures.1
+    store_carried (g.S.PageStore.pages c.args.store.now) (OffPage c.args.file c.args.number c.args.bound) (g.S.PageStore.faults c.args.store.now) (g.S.PageStore.faults c.chain_page.new.store) (g.S.PageStore.faults c.put.new.self) c.in_err-put.field-0.0 c.in_ok-next.ensures.cause.caused c.in_err-put.ensures.cause c.from_residual-in_err-put.result c.from_residual-in_err-put.ensures.1
 
 pub returns-in_err-next-clause-cause : goal.returns-in_err-next-clause-cause
 returns-in_err-next-clause-cause g c =

@@ -18,7 +18,6 @@ loop-var-preserved g c = record {
   kept = c.in_ok-info.ensures.kept ∙ c.loop-var.invariant.kept;
   stays = λ s h. c.in_ok-info.ensures.stays s (c.loop-var.invariant.stays s h);
   asked = λ b was. c.in_ok-info.ensures.asked b (c.loop-var.invariant.asked b was);
-  same = c.in_ok-info.ensures.same ∙ c.loop-var.invariant.same;
   faults = c.in_ok-info.ensures.cause.caused ∙ c.loop-var.invariant.faults;
 }
 

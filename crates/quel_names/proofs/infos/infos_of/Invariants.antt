@@ -10,6 +10,5 @@ invariant-loop-var g l = record {
   kept : g.B.Base.database l.base ≡ g.B.Base.database l.fn.base;
   stays : (s : Db) → g.B.Base.schema l.fn.base ≡ Some s → g.B.Base.schema l.base ≡ Some s;
   asked : (b : _) → g.B.Base.asked b l.fn.base → g.B.Base.asked b l.base;
-  same : g.B.Base.left l.base ≡ g.B.Base.left l.fn.base;
   faults : g.B.Base.faults l.base ≡ g.B.Base.faults l.fn.base;
 }

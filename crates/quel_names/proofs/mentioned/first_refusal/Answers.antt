@@ -23,6 +23,5 @@ loop-mention-preserved g c = record {
   kept = c.in_ok-refusal.ensures.kept ∙ c.loop-mention.invariant.kept;
   stays = λ s h. c.in_ok-refusal.ensures.stays s (c.loop-mention.invariant.stays s h);
   asked = λ b was. c.in_ok-refusal.ensures.asked b (c.loop-mention.invariant.asked b was);
-  same = c.in_ok-refusal.ensures.same ∙ c.loop-mention.invariant.same;
   faults = c.in_ok-refusal.ensures.cause.caused ∙ c.loop-mention.invariant.faults;
 }

@@ -24,6 +24,5 @@ loop-item-preserved g c = record {
   kept = c.in_ok-refusal.ensures.kept ∙ c.loop-item.invariant.kept;
   stays = λ s h. c.in_ok-refusal.ensures.stays s (c.loop-item.invariant.stays s h);
   asked = λ b was. c.in_ok-refusal.ensures.asked b (c.loop-item.invariant.asked b was);
-  same = c.in_ok-refusal.ensures.same ∙ c.loop-item.invariant.same;
   faults = c.in_ok-refusal.ensures.cause.caused ∙ c.loop-item.invariant.faults;
 }

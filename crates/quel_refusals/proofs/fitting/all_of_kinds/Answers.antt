@@ -16,7 +16,6 @@ loop-target-preserved g c = record {
   kept = c.in_ok-kind.ensures.kept ∙ c.loop-target.invariant.kept;
   stays = λ s h. c.in_ok-kind.ensures.stays s (c.loop-target.invariant.stays s h);
   asked = λ b was. c.in_ok-kind.ensures.asked b (c.loop-target.invariant.asked b was);
-  same = c.in_ok-kind.ensures.same ∙ c.loop-target.invariant.same;
   faults = c.in_ok-kind.ensures.cause.caused ∙ c.loop-target.invariant.faults;
 }
 

@@ -21,6 +21,5 @@ returns-in_default g c = record {
   kept = c.update_cause.ensures.kept;
   stays = c.update_cause.ensures.stays;
   asked = c.update_cause.ensures.asked;
-  same = c.update_cause.ensures.same;
   cause = c.update_cause.ensures.cause;
 }

@@ -9,6 +9,5 @@ invariant-loop-key g l = record {
   kept : g.B.Base.database l.base ≡ g.B.Base.database l.initial.base;
   stays : (s : Db) → g.B.Base.schema l.initial.base ≡ Some s → g.B.Base.schema l.base ≡ Some s;
   asked : (b : _) → g.B.Base.asked b l.initial.base → g.B.Base.asked b l.base;
-  same : g.B.Base.left l.base ≡ g.B.Base.left l.initial.base;
   faults : g.B.Base.faults l.base ≡ g.B.Base.faults l.initial.base;
 }

@@ -13,7 +13,6 @@ loop-item-init g c =
       kept = cc;
       stays = λ s h. h;
       asked = λ b was. was;
-      same = cc;
       faults = cc;
     }
 
@@ -27,7 +26,6 @@ loop-item-preserved g c = record {
   kept = c.in_ok-push_item.ensures.kept ∙ c.loop-item.invariant.kept;
   stays = λ s h. c.in_ok-push_item.ensures.stays s (c.loop-item.invariant.stays s h);
   asked = λ b was. c.in_ok-push_item.ensures.asked b (c.loop-item.invariant.asked b was);
-  same = c.in_ok-push_item.ensures.same ∙ c.loop-item.invariant.same;
   faults = c.in_ok-push_item.ensures.cause.caused ∙ c.loop-item.invariant.faults;
 }
 

@@ -1,5 +1,5 @@
 use Rattle.std.proofs.Common.{◌≤◌, sym, subst}
-use Rattle.access_traits.specs.declared.file.RelFile.{RelFile}
+use Rattle.calculus.specs.declared.schema.RelFile.{RelFile}
 use Rattle.calculus.specs.Rows.{set_of}
 use Rattle.relation_rows.specs.Sets.{HasSet}
 use Rattle.relation_rows.proofs.Holding.{set_built}

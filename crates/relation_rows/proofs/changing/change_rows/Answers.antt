@@ -2,7 +2,7 @@ use Rattle.std.proofs.Common.{All, IsTrue, ◌∙◌, sym, ap, subst, true≢fal
 use Rattle.access_traits.specs.Pages.{KeepsOthers}
 use Rattle.access_traits.specs.Placed.{SameButUsed}
 use Rattle.calculus.specs.Replacement.{with_rows, without_rows}
-use Rattle.access_traits.specs.declared.file.RelFile.{RelFile}
+use Rattle.calculus.specs.declared.schema.RelFile.{RelFile}
 use Rattle.page_cells.specs.RowBytes.{is_row}
 use Rattle.heap_am.specs.Heap.{heap_rows, HeapFault}
 use Rattle.page_chain.proofs.Carried.{cause_carried}
@@ -23,16 +23,19 @@ returns-in_err-replace_near-clause-cause g c =
     let old = g.S.PageStore.pages c.args.store.now in
     let mid = g.S.PageStore.pages c.pages_near.new.store in
     cause_carried old mid (HeapFault c.open_method-method.result.heap.file) (HasNoneOf c.args.file c.args.remove.now) (g.S.PageStore.faults c.args.store.now) (g.S.PageStore.faults c.pages_near.new.store)
-    (g.S.PageStore.faults c.replace_near.new.store) c.in_err-replace_near.field-0.0 c.in_ok-near.ensures.cause.later
+    (g.S.PageStore.faults c.replace_near.new.store) c.in_err-replace_near.field-0.0 c.in_ok-near.ensures.cause.caused
     (λ a at m told. holds_none c.args.file c.args.remove.now m a (subst (λ file. HeapFault file m a) c.open_method-method.ensures (at m (c.in_ok-near.ensures.same ∙ told))))
     c.in_err-replace_near.ensures.cause c.from_residual-in_err-replace_near.result c.from_residual-in_err-replace_near.ensures.1
 
 pub returns-then-not-branch-clause-cause : goal.returns-then-not-branch-clause-cause
 returns-then-not-branch-clause-cause g c = record {
   later = (let a = c.in_ok-near.ensures.cause.later in let b = c.in_ok-replace_near.ensures.cause.later in omega (arith, a, b));
-  caused = λ m t rows set differ there.
-      true≢false (sym (all_went c.args.file c.replace_near.new.self.heap.file m rows c.args.remove.now c.args.add.now (g.S.PageStore.pages c.replace_near.new.store) c.in_ok-replace_near.field-0 set differ there
-      (λ placed are. c.in_ok-replace_near.ensures.told m placed (c.in_ok-near.ensures.same ∙ t) (ap (λ file. heap_rows file m) c.open_method-method.ensures ∙ are))) ∙ c.if-not-branch.true);
+  caused = (
+    λ m t rows set differ there.
+        true≢false (sym (all_went c.args.file c.replace_near.new.self.heap.file m rows c.args.remove.now c.args.add.now (g.S.PageStore.pages c.replace_near.new.store) c.in_ok-replace_near.field-0 set differ there
+        (λ placed are. c.in_ok-replace_near.ensures.told m placed (c.in_ok-near.ensures.same ∙ t) (ap (λ file. heap_rows file m) c.open_method-method.ensures ∙ are))) ∙ c.if-not-branch.true),
+    c.in_ok-replace_near.ensures.cause.caused ∙ c.in_ok-near.ensures.cause.caused,
+  );
 }
 
 pub returns-clause-changed : goal.returns-clause-changed

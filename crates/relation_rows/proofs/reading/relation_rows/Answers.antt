@@ -12,7 +12,7 @@ pub returns-in_err-read_page-clause-cause : goal.returns-in_err-read_page-clause
 returns-in_err-read_page-clause-cause g c =
     subst (λ file. HasFileCause (g.S.PageStore.pages c.args.store.now) (HeapFault file) (g.S.PageStore.faults c.args.store.now) (g.S.PageStore.faults c.read_page.new.store) c.from_residual.result) c.open_method-method.ensures
     (cause_later (g.S.PageStore.pages c.args.store.now) (g.S.PageStore.pages c.pages.store) (HeapFault c.open_method-method.result.heap.file) (g.S.PageStore.faults c.args.store.now) (g.S.PageStore.faults c.pages.store) (g.S.PageStore.faults c.read_page.new.store) c.from_residual.result c.in_err-read_page.field-0.0
-    c.pages.invariant.same (omega (arith, c.pages.invariant.faults)) c.in_err-read_page.ensures.cause (handed_on c.from_residual.result c.in_err-read_page.field-0.0 c.from_residual.ensures.1))
+    c.pages.invariant.same c.pages.invariant.faults c.in_err-read_page.ensures.cause (handed_on c.from_residual.result c.in_err-read_page.field-0.0 c.from_residual.ensures.1))
 
 pub returns-clause-exact : goal.returns-clause-exact
 returns-clause-exact g c m t =

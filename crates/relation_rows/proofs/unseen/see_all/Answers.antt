@@ -8,7 +8,7 @@ pub returns-in_err-see_range-clause-cause : goal.returns-in_err-see_range-clause
 returns-in_err-see_range-clause-cause g c =
     cause_later (g.S.PageStore.pages c.args.store.now) (g.S.PageStore.pages c.each.store) (HeapFault c.args.method.now.heap.file) (g.S.PageStore.faults c.args.store.now) (g.S.PageStore.faults c.each.store)
     (g.S.PageStore.faults c.see_range.new.store) c.from_residual.result c.in_err-see_range.field-0.0
-    c.each.invariant.same (omega (arith, c.each.invariant.faults)) c.in_err-see_range.ensures.cause (handed_on c.from_residual.result c.in_err-see_range.field-0.0 c.from_residual.ensures.1)
+    c.each.invariant.same c.each.invariant.faults c.in_err-see_range.ensures.cause (handed_on c.from_residual.result c.in_err-see_range.field-0.0 c.from_residual.ensures.1)
 
 pub each-init : goal.each-init
 each-init g c = record { same = refl; came = λ s h. h; faults = refl }

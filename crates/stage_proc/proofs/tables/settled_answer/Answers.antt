@@ -25,5 +25,5 @@ returns-clause-none_lacks g c = λ db e.
 pub returns-clause-cause : goal.returns-clause-cause
 returns-clause-cause g c =
     settled_cause c.args.q.now c.in_ok-tables.tables.items (g.B.Base.database c.args.base.now) (g.B.Base.faults c.args.base.now) (g.B.Base.faults c.settle.new.base) (g.B.Base.faults c.answer_by.new.base) c.answer_by.result
-    c.in_ok-tables.ensures.values c.in_ok-tables.ensures.truth c.in_ok-tables.ensures.lacks c.settle.ensures.cause.later
+    c.in_ok-tables.ensures.values c.in_ok-tables.ensures.truth c.in_ok-tables.ensures.lacks c.in_ok-tables.ensures.cause.caused
     (subst (λ told. HasAnswerCause (tabled c.in_ok-tables.tables.items) c.args.q.now told (g.B.Base.faults c.settle.new.base) (g.B.Base.faults c.answer_by.new.base) c.answer_by.result) c.settle.ensures.kept c.answer_by.ensures.cause)

@@ -11,9 +11,8 @@ pub loop-one-init : goal.loop-one-init
 loop-one-init g c = record {
   kept = refl;
   stays = λ s e. e;
-  same = refl;
   asked = λ b was. was;
-  later = omega arith;
+  faults = refl;
   columns = ap (map (λ t. t.columns)) c.new-tables.ensures.items;
   told = λ db e. c.new-tables.ensures.items;
   none_lacks = λ db e. none_yet db;
@@ -39,24 +38,23 @@ returns-in_err-table-clause-cause g c =
     let fault = c.in_err-table.field-0.0 in
     let is : c.from_residual.result ≡ Err fault = search rules in
     one_fails c.args.asked.now c.loop-one.one-index c.one-item.result (g.B.Base.database c.args.base.now) (g.B.Base.faults c.args.base.now) (g.B.Base.faults c.loop-one.base) (g.B.Base.faults c.table_of.new.base) fault
-    c.from_residual.result c.loop-one-test.true c.one-item.is is c.loop-one.invariant.later c.in_err-table.ensures.cause.later
+    c.from_residual.result c.loop-one-test.true c.one-item.is is c.loop-one.invariant.faults c.in_err-table.ensures.cause.later
     (subst (λ told. MayFail (λ db at. LacksIn db c.one-item.result.query at) told (g.B.Base.faults c.loop-one.base) (g.B.Base.faults c.table_of.new.base) fault) c.loop-one.invariant.kept c.in_err-table.ensures.cause.caused)
 
 pub loop-one-preserved : goal.loop-one-preserved
 loop-one-preserved g c = record {
   kept = c.in_ok-table.ensures.kept ∙ c.loop-one.invariant.kept;
   stays = λ s e. c.in_ok-table.ensures.stays s (c.loop-one.invariant.stays s e);
-  same = c.in_ok-table.ensures.same ∙ c.loop-one.invariant.same;
   asked = λ b was. c.in_ok-table.ensures.asked b (c.loop-one.invariant.asked b was);
-  later = omega (arith, c.loop-one.invariant.later, c.in_ok-table.ensures.cause.later);
+  faults = c.in_ok-table.ensures.cause.caused ∙ c.loop-one.invariant.faults;
   columns =
-      next_part (λ a. map column_of (targets_of a.query)) (λ t. t.columns) c.args.asked.now c.loop-one.one-index c.one-item.result c.loop-one.tables.items c.put_behind.new.tables.items c.in_ok-table.table c.loop-one-test.true c.one-item.is
-      c.loop-one.invariant.columns c.in_ok-table.ensures.columns c.in_ok-put_behind.ensures;
+      next_part (λ a. map column_of (targets_of a.query)) (λ t. t.columns) c.args.asked.now c.loop-one.one-index c.one-item.result c.loop-one.tables.items c.push.new.items.items c.in_ok-table.table c.loop-one-test.true c.one-item.is
+      c.loop-one.invariant.columns c.in_ok-table.ensures.columns c.in_ok-push.ensures.behind;
   told = λ db e.
-      next_made (table_of db Free) c.args.asked.now c.loop-one.one-index c.one-item.result c.loop-one.tables.items c.put_behind.new.tables.items c.in_ok-table.table c.loop-one-test.true c.one-item.is
+      next_made (table_of db Free) c.args.asked.now c.loop-one.one-index c.one-item.result c.loop-one.tables.items c.push.new.items.items c.in_ok-table.table c.loop-one-test.true c.one-item.is
       (c.loop-one.invariant.told db e)
       (c.in_ok-table.ensures.told db (c.loop-one.invariant.kept ∙ e))
-      c.in_ok-put_behind.ensures;
+      c.in_ok-push.ensures.behind;
   none_lacks = λ db e.
       next_none db c.args.asked.now c.loop-one.one-index c.one-item.result c.loop-one-test.true c.one-item.is (c.loop-one.invariant.none_lacks db e)
       (c.in_ok-table.ensures.none_lacks db (c.loop-one.invariant.kept ∙ e));

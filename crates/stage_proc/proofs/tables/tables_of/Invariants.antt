@@ -1,4 +1,4 @@
-use Rattle.std.proofs.Common.{◌≡◌, ◌≤◌, Some, false, map, take}
+use Rattle.std.proofs.Common.{◌≡◌, Some, false, map, take}
 use Rattle.calculus.specs.Database.{Db}
 use Rattle.calculus.specs.QueryParts.{targets_of}
 use Rattle.calculus.specs.Who.{Free}
@@ -9,9 +9,8 @@ abbrev pub invariant-loop-one : goal.invariant-loop-one
 invariant-loop-one g l = record {
   kept : g.B.Base.database l.base ≡ g.B.Base.database l.fn.base;
   stays : (s : Db) → g.B.Base.schema l.fn.base ≡ Some s → g.B.Base.schema l.base ≡ Some s;
-  same : g.B.Base.left l.base ≡ g.B.Base.left l.fn.base;
   asked : (b : _) → g.B.Base.asked b l.fn.base → g.B.Base.asked b l.base;
-  later : g.B.Base.faults l.fn.base ≤ g.B.Base.faults l.base;
+  faults : g.B.Base.faults l.base ≡ g.B.Base.faults l.fn.base;
   columns : map (λ t. t.columns) l.tables.items ≡ map (λ a. map column_of (targets_of a.query)) (take l.one-index l.asked);
   told : (db : Db) → g.B.Base.database l.fn.base ≡ Some db → l.tables.items ≡ map (table_of db Free) (take l.one-index l.asked);
   none_lacks : (db : Db) → g.B.Base.database l.fn.base ≡ Some db → some_query_lacks db Free (take l.one-index l.asked) ≡ false;

@@ -12,7 +12,6 @@ loop-one-preserved g c = record {
       list_all_more (asked_fits (kept_alone db) db) c.args.asked.now c.loop-one.one-index c.one-item.result c.loop-one-test.true
       ∙ (λ i. c.loop-one.invariant.told db h i && (ap (asked_fits (kept_alone db) db) (sym c.one-item.is) ∙ sym (c.in_ok-fit.ensures.told db (c.loop-one.invariant.stays db h)) ∙ on) i);
   kept = c.in_ok-fit.ensures.kept ∙ c.loop-one.invariant.kept;
-  same = c.in_ok-fit.ensures.same ∙ c.loop-one.invariant.same;
   stays = λ s h. c.in_ok-fit.ensures.stays s (c.loop-one.invariant.stays s h);
   asked = λ b was. c.in_ok-fit.ensures.asked b (c.loop-one.invariant.asked b was);
   faults = c.in_ok-fit.ensures.cause.caused ∙ c.loop-one.invariant.faults;

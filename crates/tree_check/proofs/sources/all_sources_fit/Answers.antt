@@ -12,7 +12,6 @@ loop-aggregate-preserved g c = record {
       list_all_more (λ g. source_fits (kept_alone db) db g.now.source) c.args.aggregates.now c.loop-aggregate.aggregate-index c.aggregate-item.result c.loop-aggregate-test.true
       ∙ (λ i. c.loop-aggregate.invariant.told db h i && (ap (λ g. source_fits (kept_alone db) db g.now.source) (sym c.aggregate-item.is) ∙ sym (c.in_ok-fit.ensures.told db (c.loop-aggregate.invariant.stays db h)) ∙ on) i);
   kept = c.in_ok-fit.ensures.kept ∙ c.loop-aggregate.invariant.kept;
-  same = c.in_ok-fit.ensures.same ∙ c.loop-aggregate.invariant.same;
   stays = λ s h. c.in_ok-fit.ensures.stays s (c.loop-aggregate.invariant.stays s h);
   asked = λ b was. c.in_ok-fit.ensures.asked b (c.loop-aggregate.invariant.asked b was);
   faults = c.in_ok-fit.ensures.cause.caused ∙ c.loop-aggregate.invariant.faults;

@@ -8,7 +8,6 @@ abbrev pub invariant-loop-aggregate : goal.invariant-loop-aggregate
 invariant-loop-aggregate g l = record {
   told : (db : Db) → g.B.Base.schema l.initial.base ≡ Some db → list_all (λ g. source_fits (kept_alone db) db g.now.source) (take l.aggregate-index l.aggregates) ≡ true;
   kept : g.B.Base.database l.base ≡ g.B.Base.database l.initial.base;
-  same : g.B.Base.left l.base ≡ g.B.Base.left l.initial.base;
   stays : (s : Db) → g.B.Base.schema l.initial.base ≡ Some s → g.B.Base.schema l.base ≡ Some s;
   asked : (b : _) → g.B.Base.asked b l.initial.base → g.B.Base.asked b l.base;
   faults : g.B.Base.faults l.base ≡ g.B.Base.faults l.initial.base;

@@ -12,7 +12,6 @@ loop-key-preserved g c = record {
       list_all_more (is_kept db) c.args.keys.now c.loop-key.key-index c.key-item.result c.loop-key-test.true
       ∙ (λ i. c.loop-key.invariant.told db h i && (ap (is_kept db) (sym c.key-item.is) ∙ sym (c.in_ok-kept.ensures.told db (c.loop-key.invariant.stays db h)) ∙ on) i);
   kept = c.in_ok-kept.ensures.kept ∙ c.loop-key.invariant.kept;
-  same = c.in_ok-kept.ensures.same ∙ c.loop-key.invariant.same;
   stays = λ s h. c.in_ok-kept.ensures.stays s (c.loop-key.invariant.stays s h);
   asked = λ b was. c.in_ok-kept.ensures.asked b (c.loop-key.invariant.asked b was);
   faults = c.in_ok-kept.ensures.cause.caused ∙ c.loop-key.invariant.faults;

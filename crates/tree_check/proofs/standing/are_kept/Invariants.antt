@@ -8,7 +8,6 @@ abbrev pub invariant-loop-key : goal.invariant-loop-key
 invariant-loop-key g l = record {
   told : (db : Db) → g.B.Base.schema l.initial.base ≡ Some db → list_all (is_kept db) (take l.key-index l.keys) ≡ true;
   kept : g.B.Base.database l.base ≡ g.B.Base.database l.initial.base;
-  same : g.B.Base.left l.base ≡ g.B.Base.left l.initial.base;
   stays : (s : Db) → g.B.Base.schema l.initial.base ≡ Some s → g.B.Base.schema l.base ≡ Some s;
   asked : (b : _) → g.B.Base.asked b l.initial.base → g.B.Base.asked b l.base;
   faults : g.B.Base.faults l.base ≡ g.B.Base.faults l.initial.base;

@@ -1,4 +1,4 @@
-use Rattle.std.proofs.Common.{arith}
+use Rattle.std.proofs.Common.{refl, arith}
 use Rattle.am_traits.specs.Scans.{first_place}
 use Rattle.calculus.specs.Stored.{rows_at}
 use Rattle.update_change.proofs.Failing.{may_fail}
@@ -20,5 +20,5 @@ returns-in_ok-rows_asked-in-Ok-clause-added g c = λ db e.
 pub returns-in-Err-clause-cause : goal.returns-in-Err-clause-cause
 returns-in-Err-clause-cause g c = record {
   later = omega arith;
-  caused = may_fail c.args.u.now c.args.pairs.items (g.B.Base.database c.args.base.now) (g.B.Base.faults c.args.base.now) (g.B.Base.faults c.args.base.now) c.in-Err.fault c.in-Err.ensures.cause;
+  caused = may_fail c.args.u.now c.args.pairs.items (g.B.Base.database c.args.base.now) (g.B.Base.faults c.args.base.now) (g.B.Base.faults c.args.base.now) c.in-Err.fault refl c.in-Err.ensures.cause;
 }

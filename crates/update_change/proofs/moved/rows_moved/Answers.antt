@@ -1,23 +1,26 @@
-use Rattle.std.proofs.Common.{◌∙◌, arith}
+use Rattle.std.proofs.Common.{◌∙◌, sym, arith}
 use Rattle.am_traits.specs.Scans.{first_place}
 use Rattle.calculus.specs.Stored.{rows_at}
 use Rattle.update_change.proofs.Few.{ascends_scanned, too_many_after, few_after}
 use Rattle.update_change.proofs.moved.rows_moved.Goals as goal
 
-pub returns-then-branch-clause-cause : goal.returns-then-branch-clause-cause
-returns-then-branch-clause-cause g c = record {
-  later = omega (arith, c.in_ok-change.ensures.cause.later, c.in_ok-is_too_large.ensures.cause.later);
+pub returns-then-are_too_many-clause-cause : goal.returns-then-are_too_many-clause-cause
+returns-then-are_too_many-clause-cause g c = record {
+  later = omega (arith, c.in_ok-change.ensures.cause.later, c.in_ok-left.ensures.cause.later);
   caused = (
+    c.in_ok-left.ensures.cause.caused ∙ c.in_ok-change.ensures.cause.caused,
     c.in_ok-change.ensures.uncontended,
     λ db e new.
-        too_many_after (rows_at db c.args.u.now.rel) c.in_ok-change.change.remove c.in_ok-change.change.add c.args.pairs.items c.in_ok-is_too_large.field-0
+        too_many_after (rows_at db c.args.u.now.rel) c.in_ok-change.change.remove c.in_ok-change.change.add c.args.pairs.items c.in_ok-left.left
         (ascends_scanned (rows_at db c.args.u.now.rel) (g.B.Base.left c.args.base.now c.args.u.now.rel first_place) (g.B.Base.scanned c.args.base.now db c.args.u.now.rel e))
-        (c.in_ok-change.ensures.removed db e) (c.in_ok-change.ensures.added db e) (c.in_ok-is_too_large.ensures.told db (c.in_ok-change.ensures.kept ∙ e)) c.if-branch.true,
+        (c.in_ok-change.ensures.removed db e) (c.in_ok-change.ensures.added db e) (c.in_ok-left.ensures.told db (c.in_ok-change.ensures.kept ∙ e))
+        (sym c.are_too_many.ensures ∙ c.if-are_too_many.true),
   );
 }
 
 pub returns-clause-few : goal.returns-clause-few
 returns-clause-few g c = λ db e.
-    few_after (rows_at db c.args.u.now.rel) c.in_ok-change.change.remove c.in_ok-change.change.add c.args.pairs.items c.in_ok-is_too_large.field-0
+    few_after (rows_at db c.args.u.now.rel) c.in_ok-change.change.remove c.in_ok-change.change.add c.args.pairs.items c.in_ok-left.left
     (ascends_scanned (rows_at db c.args.u.now.rel) (g.B.Base.left c.args.base.now c.args.u.now.rel first_place) (g.B.Base.scanned c.args.base.now db c.args.u.now.rel e))
-    (c.in_ok-change.ensures.removed db e) (c.in_ok-change.ensures.added db e) (c.in_ok-is_too_large.ensures.told db (c.in_ok-change.ensures.kept ∙ e)) c.if-branch.false
+    (c.in_ok-change.ensures.removed db e) (c.in_ok-change.ensures.added db e) (c.in_ok-left.ensures.told db (c.in_ok-change.ensures.kept ∙ e))
+    (sym c.are_too_many.ensures ∙ c.if-are_too_many.false)

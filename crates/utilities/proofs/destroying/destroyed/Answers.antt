@@ -9,5 +9,5 @@ returns-in_ok-all_gone-in-Ok-None-clause-change g c = λ db e.
 pub returns-in-Ok-Some-clause-cause : goal.returns-in-Ok-Some-clause-cause
 returns-in-Ok-Some-clause-cause g c = record {
   later = c.in-Ok-Some.ensures.cause.later;
-  caused = λ db e. destroy_refused db c.args.user.now c.args.rels.now c.in-Ok-Some.cause (cc (c.in-Ok-Some.field-0-is, c.items.ensures, c.in-Ok-Some.ensures.told db e));
+  caused = (c.in-Ok-Some.ensures.cause.caused, λ db e. destroy_refused db c.args.user.now c.args.rels.now c.in-Ok-Some.cause (cc (c.in-Ok-Some.field-0-is, c.items.ensures, c.in-Ok-Some.ensures.told db e)));
 }

@@ -14,7 +14,6 @@ loop-key-preserved g c = record {
   kept = c.in_ok-named.ensures.kept ∙ c.loop-key.invariant.kept;
   stays = λ s e. c.in_ok-named.ensures.stays s (c.loop-key.invariant.stays s e);
   asked = λ b was. c.in_ok-named.ensures.asked b (c.loop-key.invariant.asked b was);
-  same = c.in_ok-named.ensures.same ∙ c.loop-key.invariant.same;
   later = c.in_ok-named.ensures.cause.caused ∙ c.loop-key.invariant.later;
 }
 

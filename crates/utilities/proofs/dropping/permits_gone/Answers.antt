@@ -11,8 +11,11 @@ returns-in_ok-permits_dropped-in-Ok-None-clause-change g c = λ db e.
 pub returns-in-Ok-Some-clause-cause : goal.returns-in-Ok-Some-clause-cause
 returns-in-Ok-Some-clause-cause g c = record {
   later = omega (arith, c.in_ok-standing.ensures.cause.later, c.in-Ok-Some.ensures.cause.later);
-  caused = λ db e.
-      permits_refused db c.args.user.now c.args.rel.now c.args.numbers.now c.deref.result.now c.in-Ok-Some.cause
-      (c.deref.ensures.value ∙ c.in_ok-standing.ensures.told db e)
-      (cc (c.in-Ok-Some.field-0-is, c.in-Ok-Some.ensures.told db (c.in_ok-standing.ensures.stays db e)));
+  caused = (
+    c.in-Ok-Some.ensures.cause.caused ∙ c.in_ok-standing.ensures.cause.caused,
+    λ db e.
+        permits_refused db c.args.user.now c.args.rel.now c.args.numbers.now c.deref.result.now c.in-Ok-Some.cause
+        (c.deref.ensures.value ∙ c.in_ok-standing.ensures.told db e)
+        (cc (c.in-Ok-Some.field-0-is, c.in-Ok-Some.ensures.told db (c.in_ok-standing.ensures.stays db e))),
+  );
 }

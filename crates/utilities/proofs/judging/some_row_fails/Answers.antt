@@ -58,6 +58,9 @@ loop-call-preserved g c = record {
 pub returns-clause-cause : goal.returns-clause-cause
 returns-clause-cause g c = record {
   later = omega (arith, c.loop-call.invariant.later);
-  caused = too_many (g.B.Base.database c.args.base.now) (g.B.Base.left c.args.base.now) c.args.key.now c.loop-call.place c.loop-call.call
-      (λ db e. g.B.Base.lawful c.args.base.now db (g.B.Base.own c.args.base.now db e)) (λ db. g.B.Base.scanned c.args.base.now db c.args.key.now) c.loop-call.invariant.counted (omega (arith, c.loop-call-test.false));
+  caused = (
+    too_many (g.B.Base.database c.args.base.now) (g.B.Base.left c.args.base.now) c.args.key.now c.loop-call.place c.loop-call.call
+        (λ db e. g.B.Base.lawful c.args.base.now db (g.B.Base.own c.args.base.now db e)) (λ db. g.B.Base.scanned c.args.base.now db c.args.key.now) c.loop-call.invariant.counted (omega (arith, c.loop-call-test.false)),
+    c.loop-call.invariant.later,
+  );
 }

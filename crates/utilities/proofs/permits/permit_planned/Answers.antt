@@ -5,7 +5,7 @@ use Rattle.utilities.proofs.permits.permit_planned.Goals as goal
 pub returns-in-None-clause-cause : goal.returns-in-None-clause-cause
 returns-in-None-clause-cause g c = record {
   later = c.in_ok-standing.ensures.cause.later;
-  caused = λ db e. permit_past db c.args.user.now c.args.rel.now c.args.permit.now c.deref.result.now (c.deref.ensures.value ∙ c.in_ok-standing.ensures.told db e) c.in-None.ensures;
+  caused = (c.in_ok-standing.ensures.cause.caused, λ db e. permit_past db c.args.user.now c.args.rel.now c.args.permit.now c.deref.result.now (c.deref.ensures.value ∙ c.in_ok-standing.ensures.told db e) c.in-None.ensures);
 }
 
 pub returns-in_ok-permit_made-in-Ok-None-clause-change : goal.returns-in_ok-permit_made-in-Ok-None-clause-change
@@ -17,8 +17,11 @@ returns-in_ok-permit_made-in-Ok-None-clause-change g c = λ db e.
 pub returns-in-Ok-Some-clause-cause : goal.returns-in-Ok-Some-clause-cause
 returns-in-Ok-Some-clause-cause g c = record {
   later = omega (arith, c.in_ok-standing.ensures.cause.later, c.in-Ok-Some.ensures.cause.later);
-  caused = λ db e.
-      permit_refused db c.args.user.now c.args.rel.now c.args.permit.now c.deref.result.now c.in-Ok-Some.cause
-      (c.deref.ensures.value ∙ c.in_ok-standing.ensures.told db e) c.in-Some.ensures.0
-      (cc (c.in-Ok-Some.field-0-is, c.in-Ok-Some.ensures.told db (c.in_ok-standing.ensures.stays db e)));
+  caused = (
+    c.in-Ok-Some.ensures.cause.caused ∙ c.in_ok-standing.ensures.cause.caused,
+    λ db e.
+        permit_refused db c.args.user.now c.args.rel.now c.args.permit.now c.deref.result.now c.in-Ok-Some.cause
+        (c.deref.ensures.value ∙ c.in_ok-standing.ensures.told db e) c.in-Some.ensures.0
+        (cc (c.in-Ok-Some.field-0-is, c.in-Ok-Some.ensures.told db (c.in_ok-standing.ensures.stays db e))),
+  );
 }

@@ -6,9 +6,12 @@ use Rattle.utilities.proofs.rules.rule_planned.Goals as goal
 pub returns-in-None-clause-cause : goal.returns-in-None-clause-cause
 returns-in-None-clause-cause g c = record {
   later = c.in_ok-standing.ensures.cause.later;
-  caused = λ db e.
-      rule_past db c.args.user.now c.args.rel.now c.args.rule.now c.deref.result.now
-      (c.deref.ensures.value ∙ c.in_ok-standing.ensures.told db (g.B.Base.own c.args.base.now db e)) c.in-None.ensures;
+  caused = (
+    c.in_ok-standing.ensures.cause.caused,
+    λ db e.
+        rule_past db c.args.user.now c.args.rel.now c.args.rule.now c.deref.result.now
+        (c.deref.ensures.value ∙ c.in_ok-standing.ensures.told db (g.B.Base.own c.args.base.now db e)) c.in-None.ensures,
+  );
 }
 
 pub returns-in-None-clause-by_schema : goal.returns-in-None-clause-by_schema
@@ -30,10 +33,13 @@ returns-in_ok-rule_made-in-Ok-None-clause-by_schema g c = λ s e.
 pub returns-in-Ok-Some-clause-cause : goal.returns-in-Ok-Some-clause-cause
 returns-in-Ok-Some-clause-cause g c = record {
   later = omega (arith, c.in_ok-standing.ensures.cause.later, c.in-Ok-Some.ensures.cause.later);
-  caused = λ db e.
-      rule_refused db c.args.user.now c.args.rel.now c.args.rule.now c.deref.result.now c.in-Ok-Some.cause
-      (c.deref.ensures.value ∙ c.in_ok-standing.ensures.told db (g.B.Base.own c.args.base.now db e)) c.in-Some.ensures.0
-      (cc (c.in-Ok-Some.field-0-is, c.in-Ok-Some.ensures.told db (c.in_ok-standing.ensures.kept ∙ e)));
+  caused = (
+    c.in-Ok-Some.ensures.cause.caused ∙ c.in_ok-standing.ensures.cause.caused,
+    λ db e.
+        rule_refused db c.args.user.now c.args.rel.now c.args.rule.now c.deref.result.now c.in-Ok-Some.cause
+        (c.deref.ensures.value ∙ c.in_ok-standing.ensures.told db (g.B.Base.own c.args.base.now db e)) c.in-Some.ensures.0
+        (cc (c.in-Ok-Some.field-0-is, c.in-Ok-Some.ensures.told db (c.in_ok-standing.ensures.kept ∙ e))),
+  );
 }
 
 pub returns-in-Ok-Some-clause-by_schema : goal.returns-in-Ok-Some-clause-by_schema

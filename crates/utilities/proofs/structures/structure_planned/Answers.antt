@@ -9,6 +9,9 @@ returns-in_ok-restructured-in-Ok-None-clause-change g c = λ db e.
 pub returns-in-Ok-Some-clause-cause : goal.returns-in-Ok-Some-clause-cause
 returns-in-Ok-Some-clause-cause g c = record {
   later = c.in-Ok-Some.ensures.cause.later;
-  caused = λ db e.
-      modify_refused db c.args.user.now c.args.rel.now c.args.to c.args.keys.now c.in-Ok-Some.cause (cc (c.in-Ok-Some.field-0-is, c.in-Ok-Some.ensures.told db e));
+  caused = (
+    c.in-Ok-Some.ensures.cause.caused,
+    λ db e.
+        modify_refused db c.args.user.now c.args.rel.now c.args.to c.args.keys.now c.in-Ok-Some.cause (cc (c.in-Ok-Some.field-0-is, c.in-Ok-Some.ensures.told db e)),
+  );
 }

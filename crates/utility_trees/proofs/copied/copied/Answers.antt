@@ -24,4 +24,4 @@ returns-in-Ok-clause-told g c = λ db ranges h names.
     (λ n k. copy_binary db c.args.user.now ranges c.args.rel.now c.args.columns.now c.args.from c.args.file.now c.in-Ok.info n names once info.0 k.0 k.1) c.copy_fitting-tree.ensures.said
 
 pub returns-in-Ok-clause-cause : goal.returns-in-Ok-clause-cause
-returns-in-Ok-clause-cause g c = record { later = c.in-Ok.ensures.cause.later; caused = c.copy_fitting-tree.ensures.no_fault _ _ _ }
+returns-in-Ok-clause-cause g c = record { later = c.in-Ok.ensures.cause.later; caused = c.copy_fitting-tree.ensures.no_fault _ _ _ c.in-Ok.ensures.cause.caused }

@@ -18,4 +18,4 @@ returns-clause-told g c = λ db ranges h names.
     (λ n k. destroy_number db c.args.user.now ranges c.args.names.now n names (ap (differ_by same_key) (sym keys) ∙ k.0) k.1) c.destruction.ensures.said
 
 pub returns-clause-cause : goal.returns-clause-cause
-returns-clause-cause g c = record { later = omega (arith, c.in_ok-dba.ensures.cause.later, c.in_ok-keys.ensures.cause.later); caused = c.destruction.ensures.no_fault _ _ _ }
+returns-clause-cause g c = record { later = omega (arith, c.in_ok-dba.ensures.cause.later, c.in_ok-keys.ensures.cause.later); caused = c.destruction.ensures.no_fault _ _ _ (c.in_ok-keys.ensures.cause.caused ∙ c.in_ok-dba.ensures.cause.caused) }

@@ -15,7 +15,6 @@ loop-name-preserved g c = record {
   kept = c.in_ok-key.ensures.kept ∙ c.loop-name.invariant.kept;
   stays = λ s h. c.in_ok-key.ensures.stays s (c.loop-name.invariant.stays s h);
   asked = λ b was. c.in_ok-key.ensures.asked b (c.loop-name.invariant.asked b was);
-  same = c.in_ok-key.ensures.same ∙ c.loop-name.invariant.same;
   faults = c.in_ok-key.ensures.cause.caused ∙ c.loop-name.invariant.faults;
 }
 

@@ -1,4 +1,4 @@
-use Rattle.std.proofs.Common.{◌∙◌, ◌++◌, ◌∷◌, [], sym, ap, arith, map}
+use Rattle.std.proofs.Common.{◌∙◌, ◌++◌, ◌∷◌, [], sym, ap, map}
 use Rattle.std.proofs.lemmas.List.{take_all, map_more}
 use Rattle.calculus.specs.Finding.{found}
 use Rattle.quel_meaning.specs.Resolved.{whole}
@@ -13,8 +13,7 @@ loop-name-preserved g c = record {
   kept = c.in_ok-one.ensures.kept ∙ c.loop-name.invariant.kept;
   stays = λ s h. c.in_ok-one.ensures.stays s (c.loop-name.invariant.stays s h);
   asked = λ b was. c.in_ok-one.ensures.asked b (c.loop-name.invariant.asked b was);
-  same = c.in_ok-one.ensures.same ∙ c.loop-name.invariant.same;
-  later = omega (arith, c.in_ok-one.ensures.cause.later, c.loop-name.invariant.later);
+  faults = c.in_ok-one.ensures.cause.caused ∙ c.loop-name.invariant.faults;
 }
 
 pub returns-clause-told : goal.returns-clause-told

@@ -18,8 +18,8 @@ use Rattle.view_expand.proofs.Listing.{any_where_some, some_used}
 use Rattle.view_expand.proofs.Viewing.{permitted_of_view, permitted_past, measure_of_view, few_listed, text_of_kept, permitted_of_kept, vars_is, is_text_of}
 use Rattle.view_expand.proofs.walk.+texts.Goals as goal
 
-pub text_at_remembering-returns-clause-told : goal.text_at_remembering-returns-clause-told
-text_at_remembering-returns-clause-told g t c = λ db h.
+pub text_at-returns-clause-told : goal.text_at-returns-clause-told
+text_at-returns-clause-told g t c = λ db h.
     let source = text_within c.args.levels db (who_of (option_map (λ n. n.now) c.args.who)) in
     let attrs : c.deref.result.now ≡ used_in_query c.args.place c.args.query.now = c.deref.ensures.value ∙ c.in_ok-attrs.ensures in
     let e = ap (source c.args.key.now) attrs ∙ some_used source c.args.key.now (used_in_query c.args.place c.args.query.now) (ap is_any (sym c.in_ok-attrs.ensures) ∙ any_where_some c.in_ok-attrs.attrs.items (grind arith)) in
@@ -28,7 +28,7 @@ text_at_remembering-returns-clause-told g t c = λ db h.
 pub text_of_view-returns-then-levels-eq0-clause-cause : goal.text_of_view-returns-then-levels-eq0-clause-cause
 text_of_view-returns-then-levels-eq0-clause-cause g t c = record {
   later = omega arith;
-  caused = λ db h attrs. permitted_past c.args.levels db (g.B.Base.lawful c.args.base.now db (g.B.Base.own c.args.base.now db h)) (who_of (option_map (λ n. n.now) c.args.who)) c.args.key.now attrs c.args.query.now c.if-levels-eq0.true (c.requires.stands db h);
+  caused = (refl, λ db h attrs. permitted_past c.args.levels db (g.B.Base.lawful c.args.base.now db (g.B.Base.own c.args.base.now db h)) (who_of (option_map (λ n. n.now) c.args.who)) c.args.key.now attrs c.args.query.now c.if-levels-eq0.true (c.requires.stands db h));
 }
 
 pub text_of_view-rows_through-requires : goal.text_of_view-rows_through-requires
@@ -55,14 +55,14 @@ text_anew-returns-in-None-clause-cause g t c =
     caused_behind (λ db. permitted db (who_of (option_map (λ n. n.now) c.args.who)) Retrieve c.args.attrs.now c.args.key.now ≡ false)
     (λ db. permitted_within c.args.levels db (who_of (option_map (λ n. n.now) c.args.who)) c.args.key.now c.args.attrs.now ≡ false)
     (g.B.Base.database c.args.base.now) (g.B.Base.database c.view.new.self) (g.B.Base.faults c.args.base.now) (g.B.Base.faults c.view.new.self) (g.B.Base.faults c.plain_text.new.base) c.plain_text.result
-    c.in_ok-query.ensures.kept c.in_ok-query.ensures.cause.later
+    c.in_ok-query.ensures.kept c.in_ok-query.ensures.cause.caused
     (λ db h e. sym (permitted_of_kept c.args.levels db (who_of (option_map (λ n. n.now) c.args.who)) c.args.key.now c.args.attrs.now (sym c.in-None.is ∙ c.in_ok-query.ensures.told db (g.B.Base.own c.args.base.now db h))) ∙ e)
     c.plain_text.ensures.cause
 
 pub rows_through-returns-in-Ok-clause-cause : goal.rows_through-returns-in-Ok-clause-cause
 rows_through-returns-in-Ok-clause-cause g t c =
     crowded_caused (λ db. vars_permitted (permitted_within c.args.levels db (who_of (option_map (λ n. n.now) c.args.who))) c.args.query.now (used_vars c.args.query.now) ≡ false)
-    (g.B.Base.database c.args.base.now) (g.B.Base.faults c.args.base.now) (g.B.Base.faults c.put_texts.new.base) (length (texts_vars c.deref.result.now)) c.rows_of.result c.in-Ok.ensures.cause.later
+    (g.B.Base.database c.args.base.now) (g.B.Base.faults c.args.base.now) (g.B.Base.faults c.put_texts.new.base) (length (texts_vars c.deref.result.now)) c.rows_of.result c.in-Ok.ensures.cause.caused
     (λ db h.
     let source = text_within c.args.levels db (who_of (option_map (λ n. n.now) c.args.who)) in
     let made : c.deref.result.now ≡ query_texts source c.args.query.now =
@@ -97,7 +97,7 @@ text_anew-returns-in-Some-clause-cause g t c =
     caused_behind (λ db. (attrs : List ℕ) → permitted_within c.args.levels db (who_of (option_map (λ n. n.now) c.args.who)) c.args.key.now attrs ≡ false)
     (λ db. permitted_within c.args.levels db (who_of (option_map (λ n. n.now) c.args.who)) c.args.key.now c.args.attrs.now ≡ false)
     (g.B.Base.database c.args.base.now) (g.B.Base.database c.view.new.self) (g.B.Base.faults c.args.base.now) (g.B.Base.faults c.view.new.self) (g.B.Base.faults c.text_of_view-text.new.base) c.text_of_view-text.result
-    c.in_ok-query.ensures.kept c.in_ok-query.ensures.cause.later (λ db h e. e c.args.attrs.now) c.text_of_view-text.ensures.cause
+    c.in_ok-query.ensures.kept c.in_ok-query.ensures.cause.caused (λ db h e. e c.args.attrs.now) c.text_of_view-text.ensures.cause
 
 pub text_of_view-returns-in-Ok-kept-clause-told : goal.text_of_view-returns-in-Ok-kept-clause-told
 text_of_view-returns-in-Ok-kept-clause-told g t c = λ db h.
@@ -119,6 +119,6 @@ text_of_view-returns-in-Err-clause-cause g t c =
     caused_behind (λ db. vars_permitted (permitted_within (c.args.levels - 1) db (who_of (option_map (λ n. n.now) c.args.who))) c.args.query.now (used_vars c.args.query.now) ≡ false)
     (λ db. (attrs : List ℕ) → permitted_within c.args.levels db (who_of (option_map (λ n. n.now) c.args.who)) c.args.key.now attrs ≡ false)
     (g.B.Base.database c.args.base.now) (g.B.Base.database c.args.base.now) (g.B.Base.faults c.args.base.now) (g.B.Base.faults c.args.base.now) (g.B.Base.faults c.rows_through.new.base) (Err c.in-Err.error)
-    refl (omega arith)
+    refl refl
     (λ db h e attrs. sym (permitted_of_view c.args.levels db (g.B.Base.lawful c.args.base.now db (g.B.Base.own c.args.base.now db h)) (who_of (option_map (λ n. n.now) c.args.who)) c.args.key.now attrs c.args.query.now (omega arith) (c.requires.stands db h)) ∙ e)
     c.in-Err.ensures.cause

@@ -19,8 +19,8 @@ decreases-text_anew g l = 6 * l.levels + 1
 abbrev pub decreases-text_through : goal.decreases-text_through
 decreases-text_through g l = 6 * l.levels + 2
 
-abbrev pub decreases-text_at_remembering : goal.decreases-text_at_remembering
-decreases-text_at_remembering g l = 6 * l.levels + 3
+abbrev pub decreases-text_at : goal.decreases-text_at
+decreases-text_at g l = 6 * l.levels + 3
 
 abbrev pub decreases-put_texts : goal.decreases-put_texts
 decreases-put_texts g l = 6 * l.levels + 4
@@ -46,6 +46,5 @@ invariant-put_texts-keys g l = record {
   kept : g.B.Base.database l.base ≡ g.B.Base.database l.initial.base;
   stays : (s : Db) → g.B.Base.schema l.initial.base ≡ Some s → g.B.Base.schema l.base ≡ Some s;
   asked : (b : _) → g.B.Base.asked b l.initial.base → g.B.Base.asked b l.base;
-  same : g.B.Base.left l.base ≡ g.B.Base.left l.initial.base;
-  later : g.B.Base.faults l.initial.base ≤ g.B.Base.faults l.base;
+  faults : g.B.Base.faults l.base ≡ g.B.Base.faults l.initial.base;
 }

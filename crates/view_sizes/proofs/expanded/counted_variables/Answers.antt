@@ -17,7 +17,6 @@ loop-key-preserved g c = record {
   kept = c.in_ok-more.ensures.kept ∙ c.loop-key.invariant.kept;
   stays = λ s h. c.in_ok-more.ensures.stays s (c.loop-key.invariant.stays s h);
   asked = λ b was. c.in_ok-more.ensures.asked b (c.loop-key.invariant.asked b was);
-  same = c.in_ok-more.ensures.same ∙ c.loop-key.invariant.same;
   faults = c.in_ok-more.ensures.cause.caused ∙ c.loop-key.invariant.faults;
 }
 

@@ -17,7 +17,6 @@ loop-aggregate-preserved g c = record {
   kept = c.in_ok-more.ensures.kept ∙ c.loop-aggregate.invariant.kept;
   stays = λ s h. c.in_ok-more.ensures.stays s (c.loop-aggregate.invariant.stays s h);
   asked = λ b was. c.in_ok-more.ensures.asked b (c.loop-aggregate.invariant.asked b was);
-  same = c.in_ok-more.ensures.same ∙ c.loop-aggregate.invariant.same;
   faults = c.in_ok-more.ensures.cause.caused ∙ c.loop-aggregate.invariant.faults;
 }
 

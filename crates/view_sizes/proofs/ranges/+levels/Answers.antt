@@ -44,7 +44,6 @@ have_levels_found-loop-key-preserved g t c = record {
   kept = c.in_ok-has.ensures.kept ∙ c.loop-key.invariant.kept;
   stays = λ s h. c.in_ok-has.ensures.stays s (c.loop-key.invariant.stays s h);
   asked = λ b was. c.in_ok-has.ensures.asked b (c.loop-key.invariant.asked b was);
-  same = c.in_ok-has.ensures.same ∙ c.loop-key.invariant.same;
   faults = c.in_ok-has.ensures.cause.caused ∙ c.loop-key.invariant.faults;
 }
 

@@ -1,5 +1,5 @@
 use Rattle.batch_store.proofs.Runs.{ran_stages}
-use Rattle.std.proofs.Common.{arith, ap, sym, ◌∙◌, Some}
+use Rattle.std.proofs.Common.{arith, ap, sym, refl, ◌∙◌, Some}
 use Rattle.access_traits.specs.Pages.{with_page}
 use Rattle.batch_store.specs.Standing.{standing}
 use Rattle.batch_store.proofs.Stands.{told_is, told_so}
@@ -18,7 +18,7 @@ pub returns-then-self-clause-came : goal.returns-then-self-clause-came
 returns-then-self-clause-came g c = λ s came. came
 
 pub returns-then-self-clause-cause : goal.returns-then-self-clause-cause
-returns-then-self-clause-cause g c = record { later = omega arith; caused = tt }
+returns-then-self-clause-cause g c = record { later = omega arith; caused = refl }
 
 pub returns-in-Ok-clause-page : goal.returns-in-Ok-clause-page
 returns-in-Ok-clause-page g c = λ m is.

@@ -33,8 +33,11 @@ returns-in-Some-clause-knows g c m db told is k =
 pub returns-in-None-clause-cause : goal.returns-in-None-clause-cause
 returns-in-None-clause-cause g c = record {
   later = omega arith;
-  caused = λ m told. no_file_none c.args.self.now m c.args.key.now (record { file = 5; page = 0 })
-      (sym c.in_ok-is_stored.ensures.there ∙ c.if-not-branch.false) (c.in_ok-file.ensures.none c.in-None.is);
+  caused = (
+    λ m told. no_file_none c.args.self.now m c.args.key.now (record { file = 5; page = 0 })
+        (sym c.in_ok-is_stored.ensures.there ∙ c.if-not-branch.false) (c.in_ok-file.ensures.none c.in-None.is),
+    refl,
+  );
 }
 
 pub returns-in-Some-clause-lies : goal.returns-in-Some-clause-lies

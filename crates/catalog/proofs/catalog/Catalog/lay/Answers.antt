@@ -12,9 +12,12 @@ use Rattle.catalog.proofs.catalog.Catalog.lay.Goals as goal
 pub returns-then-not-branch-clause-cause : goal.returns-then-not-branch-clause-cause
 returns-then-not-branch-clause-cause g c = record {
   later = c.read_for.ensures.cause.later;
-  caused = λ m is db base knows lawful.
-      unlawful c.read_for.new.self c.args.change.now m db (sym c.rows_are_known.ensures ∙ c.if-not-rows_are_known.false)
-      (λ l. true≢false (sym (c.in_ok-is_lawful.ensures.lawful.1 l) ∙ c.if-not-branch.true)) base (c.read_for.ensures.knows m db is base knows) lawful;
+  caused = (
+    λ m is db base knows lawful.
+        unlawful c.read_for.new.self c.args.change.now m db (sym c.rows_are_known.ensures ∙ c.if-not-rows_are_known.false)
+        (λ l. true≢false (sym (c.in_ok-is_lawful.ensures.lawful.1 l) ∙ c.if-not-branch.true)) base (c.read_for.ensures.knows m db is base knows) lawful,
+    c.in_ok-read_for.ensures.cause.caused,
+  );
 }
 
 pub returns-clause-schema : goal.returns-clause-schema

@@ -1,13 +1,13 @@
 use Rattle.std.proofs.Common.{subst, arith}
 use Rattle.page_chain.proofs.Carried.{cause_carried}
-use Rattle.catalog.specs.Knows.{NoDatabase}
+use Rattle.catalog.specs.Knows.{NoDatabaseAt}
 use Rattle.catalog.specs.Loading.{IfKnown, NoCatalogueIn}
-use Rattle.catalog.proofs.ReadRows.{no_catalogue}
+use Rattle.catalog.proofs.ReadRows.{first_page, no_catalogue}
 use Rattle.catalog.proofs.catalog.Catalog.load.Goals as goal
 
 pub returns-in_err-chains-clause-cause : goal.returns-in_err-chains-clause-cause
 returns-in_err-chains-clause-cause g c =
-    cause_carried (g.S.PageStore.pages c.args.store.now) (g.S.PageStore.pages c.args.store.now) NoCatalogueIn (NoDatabase c.args.dba)
+    cause_carried (g.S.PageStore.pages c.args.store.now) (g.S.PageStore.pages c.args.store.now) NoCatalogueIn (NoDatabaseAt c.args.dba)
     (g.S.PageStore.faults c.args.store.now) (g.S.PageStore.faults c.args.store.now) (g.S.PageStore.faults c.read_chains.new.store) c.in_err-chains.field-0.0 (omega arith)
     (λ a at m told. no_catalogue c.args.dba m a (at m told)) c.in_err-chains.ensures.cause c.from_residual.result c.from_residual.ensures.1
 
@@ -18,8 +18,14 @@ returns-in-Some-clause-knows g c m db told stands named owners =
 pub returns-clause-cause : goal.returns-clause-cause
 returns-clause-cause g c = record {
   later = c.in_ok-chains.ensures.cause.later;
-  caused = λ m told db stands named owners.
-      subst (IfKnown m db) c.in-None.is (c.in_ok-catalog.ensures.known m db (c.in_ok-chains.ensures.found m told) (record { stands = stands; dba_is = named; owners = owners }));
+  caused = (
+    λ m told. (
+      λ db stands named owners.
+          subst (IfKnown m db) c.in-None.is (c.in_ok-catalog.ensures.known m db (c.in_ok-chains.ensures.found m told) (record { stands = stands; dba_is = named; owners = owners })),
+      first_page m _ (c.in_ok-chains.ensures.found m told),
+    ),
+    c.in_ok-chains.ensures.cause.caused,
+  );
 }
 
 pub returns-in-Some-clause-lies : goal.returns-in-Some-clause-lies

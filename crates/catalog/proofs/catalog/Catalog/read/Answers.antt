@@ -32,9 +32,12 @@ returns-then-branch-clause-schema g c =
 pub returns-else-branch-clause-cause : goal.returns-else-branch-clause-cause
 returns-else-branch-clause-cause g c = record {
   later = c.in_ok-rows.ensures.cause.later;
-  caused = λ m told db is k.
-      (c.in_ok-take.ensures.refused c.if-branch.false
-      (may_come c.args.self.now m db c.args.key.now c.args.file c.in_ok-rows.rows is k c.requires.unread c.requires.stored c.requires.file (λ placed are. c.in_ok-rows.ensures.told m placed told are)).lawful);
+  caused = (
+    λ m told db is k.
+        (c.in_ok-take.ensures.refused c.if-branch.false
+        (may_come c.args.self.now m db c.args.key.now c.args.file c.in_ok-rows.rows is k c.requires.unread c.requires.stored c.requires.file (λ placed are. c.in_ok-rows.ensures.told m placed told are)).lawful),
+    c.in_ok-rows.ensures.cause.caused,
+  );
 }
 
 pub returns-then-branch-clause-lies : goal.returns-then-branch-clause-lies

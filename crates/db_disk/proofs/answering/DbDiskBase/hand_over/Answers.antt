@@ -15,4 +15,4 @@ pub returns-clause-still : goal.returns-clause-still
 returns-clause-still g c = (ap (clock_by g.D.Disk.tells g.D.Disk.clock) c.hand_over.ensures.disk, ap g.D.Disk.reads c.hand_over.ensures.disk)
 
 pub returns-clause-asked : goal.returns-clause-asked
-returns-clause-asked g c = λ b before. asked_as b c.args.self.now c.hand_over.new.self c.hand_over.ensures.disk c.hand_over.ensures.stays before
+returns-clause-asked g c = λ b before. asked_as b c.args.self.now c.hand_over.new.self c.hand_over.ensures.kept c.hand_over.ensures.disk c.hand_over.ensures.stays before

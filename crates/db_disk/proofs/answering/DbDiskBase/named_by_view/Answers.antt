@@ -19,7 +19,7 @@ pub returns-clause-ready : goal.returns-clause-ready
 returns-clause-ready g c = ready c.named_by_view.new.self c.named_by_view.result c.named_by_view.ensures.fixed
 
 pub returns-clause-asked : goal.returns-clause-asked
-returns-clause-asked g c = λ b before. asked_on g.met.D.Disk.counts_now g.met.D.Disk.only_now b c.args.self.now c.named_by_view.new.self c.named_by_view.ensures.crash c.named_by_view.ensures.stays before
+returns-clause-asked g c = λ b before. asked_on g.met.D.Disk.counts_now g.met.D.Disk.only_now b c.args.self.now c.named_by_view.new.self c.named_by_view.ensures.kept c.named_by_view.ensures.crash c.named_by_view.ensures.stays before
 
 pub returns-clause-known : goal.returns-clause-known
 returns-clause-known g c = catalogues_known c.named_by_view.new.self c.named_by_view.result c.named_by_view.ensures.fixed

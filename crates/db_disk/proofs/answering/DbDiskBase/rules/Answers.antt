@@ -19,7 +19,7 @@ pub returns-clause-ready : goal.returns-clause-ready
 returns-clause-ready g c = ready c.rules.new.self c.rules.result c.rules.ensures.fixed
 
 pub returns-clause-asked : goal.returns-clause-asked
-returns-clause-asked g c = λ b before. asked_on g.met.D.Disk.counts_now g.met.D.Disk.only_now b c.args.self.now c.rules.new.self c.rules.ensures.crash c.rules.ensures.stays before
+returns-clause-asked g c = λ b before. asked_on g.met.D.Disk.counts_now g.met.D.Disk.only_now b c.args.self.now c.rules.new.self c.rules.ensures.kept c.rules.ensures.crash c.rules.ensures.stays before
 
 pub returns-clause-known : goal.returns-clause-known
 returns-clause-known g c = catalogues_known c.rules.new.self c.rules.result c.rules.ensures.fixed

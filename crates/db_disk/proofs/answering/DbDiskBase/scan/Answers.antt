@@ -22,7 +22,7 @@ pub returns-clause-ready : goal.returns-clause-ready
 returns-clause-ready g c = ready c.scan.new.self c.scan.result c.scan.ensures.fixed
 
 pub returns-clause-asked : goal.returns-clause-asked
-returns-clause-asked g c = λ b before. asked_on g.met.D.Disk.counts_now g.met.D.Disk.only_now b c.args.self.now c.scan.new.self c.scan.ensures.crash c.scan.ensures.stays before
+returns-clause-asked g c = λ b before. asked_on g.met.D.Disk.counts_now g.met.D.Disk.only_now b c.args.self.now c.scan.new.self c.scan.ensures.kept c.scan.ensures.crash c.scan.ensures.stays before
 
 pub returns-clause-known : goal.returns-clause-known
 returns-clause-known g c = catalogues_known c.scan.new.self c.scan.result c.scan.ensures.fixed

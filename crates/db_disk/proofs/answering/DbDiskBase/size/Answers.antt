@@ -13,7 +13,7 @@ pub returns-clause-ready : goal.returns-clause-ready
 returns-clause-ready g c = ready c.size.new.self c.size.result c.size.ensures.fixed
 
 pub returns-clause-asked : goal.returns-clause-asked
-returns-clause-asked g c = λ b before. asked_on g.met.D.Disk.counts_now g.met.D.Disk.only_now b c.args.self.now c.size.new.self c.size.ensures.crash c.size.ensures.stays before
+returns-clause-asked g c = λ b before. asked_on g.met.D.Disk.counts_now g.met.D.Disk.only_now b c.args.self.now c.size.new.self c.size.ensures.kept c.size.ensures.crash c.size.ensures.stays before
 
 pub returns-clause-known : goal.returns-clause-known
 returns-clause-known g c = catalogues_known c.size.new.self c.size.result c.size.ensures.fixed

@@ -9,6 +9,7 @@ use Rattle.db_disk.proofs.Holding.{told_same}
 use Rattle.db_disk.proofs.Ready.{file_caused, ready_holds, ready_pages, still_ready}
 use Rattle.db_disk.proofs.Reading.{none_there}
 use Rattle.catalog.proofs.Rises.{rises_not}
+use Rattle.db_disk.proofs.Headless.{of_base}
 use Rattle.db_disk.proofs.base.DbDisk.loaded.Goals as goal
 
 pub invariant_of-self : goal.invariant_of-self
@@ -74,3 +75,7 @@ returns-in-Err-clause-kept g c = told_same g.D.Disk.tells _ _ (λ told. ap redon
 pub returns-in-Err-clause-at_head : goal.returns-in-Err-clause-at_head
 returns-in-Err-clause-at_head g c = λ told page is.
     c.load.ensures.at_head _ page (ready_pages c.args.self.now.store (c.args.self.now.ready c.requires) told) (c.in-Err.is ∙ same_fault _ _ is)
+
+pub returns-in-Err-clause-at_catalog : goal.returns-in-Err-clause-at_catalog
+returns-in-Err-clause-at_catalog g c = λ told head file page e.
+    c.load.ensures.at_catalog _ file page (ready_pages c.args.self.now.store (c.args.self.now.ready c.requires) told) head (of_base c.in-Err.fault c.load.result _ file page c.in-Err.is refl e)

@@ -78,3 +78,7 @@ returns-in-Ok-clause-files_stay g c = c.start.ensures.files_stay
 
 pub returns-in-Err-clause-files_stay : goal.returns-in-Err-clause-files_stay
 returns-in-Err-clause-files_stay g c = c.start.ensures.files_stay
+
+pub returns-in-Err-clause-at_catalog : goal.returns-in-Err-clause-at_catalog
+returns-in-Err-clause-at_catalog g c = λ told m is head file page e.
+    c.start.ensures.at_catalog told m is head file page (of_base c.in-Err.fault c.start.result c.base_fault.result file page c.in-Err.is c.base_fault.ensures e)

@@ -1,4 +1,4 @@
-use Rattle.std.proofs.Common.{◌≡◌, ap, subst, sym, ◌∙◌, false}
+use Rattle.std.proofs.Common.{◌≡◌, ap, subst, sym, ◌∙◌, true, false}
 use Rattle.std.proofs.lemmas.Option.{none-some, same_Some}
 use Rattle.disk_model.specs.Disk.{Image}
 use Rattle.db_disk.specs.Held.{has_head, headless_page}
@@ -7,6 +7,7 @@ use Rattle.db_disk.specs.Reads.{files_in}
 use Rattle.db_disk.proofs.Changes.{cause_after}
 use Rattle.db_disk.proofs.Opens.{refused_first}
 use Rattle.db_disk.proofs.Reading.{opens_not, opens_then}
+use Rattle.catalog.specs.Damage.{ShowsNone}
 use Rattle.db_disk.proofs.base.DbDisk.start.Goals as goal
 
 pub returns-in-Ok-clause-no_head : goal.returns-in-Ok-clause-no_head
@@ -70,3 +71,11 @@ returns-in-Err-clause-files_stay g c = λ s is. ap files_in c.restored.ensures.c
 
 pub returns-in-Ok-clause-cause : goal.returns-in-Ok-clause-cause
 returns-in-Ok-clause-cause g c = cause_after _ _ _ _ _ (as_base c.loaded.result) c.restored.ensures.kept c.in-Ok.ensures.cause.caused c.loaded.ensures.cause
+
+pub returns-in-Ok-clause-at_catalog : goal.returns-in-Ok-clause-at_catalog
+returns-in-Ok-clause-at_catalog g c = λ told m is head file page e.
+    subst (λ (x : Image). ShowsNone x (record { file = file; page = page })) (same_Some _ m (sym (c.in-Ok.ensures.pages told) ∙ is))
+    (c.loaded.ensures.at_catalog told (subst (λ (x : Image). has_head x ≡ true) (same_Some m _ (sym is ∙ c.in-Ok.ensures.pages told)) head) file page e)
+
+pub returns-in-Err-clause-at_catalog : goal.returns-in-Err-clause-at_catalog
+returns-in-Err-clause-at_catalog g c = λ told m is head file page e. absurd (none-some m (sym (c.restored.ensures.damaged told file page (c.in-Err.is ∙ e)) ∙ is))

@@ -24,7 +24,7 @@ count_on-requires g c = record { below = (rising_at 0 c.args.self.now.file.used 
 pub returns-in_err-count-clause-cause : goal.returns-in_err-count-clause-cause
 returns-in_err-count-clause-cause g c =
     cause_later (g.S.PageStore.pages c.args.store.now) (g.S.PageStore.pages c.numbers.store) (HeapFault c.args.self.now.file) (g.S.PageStore.faults c.args.store.now) (g.S.PageStore.faults c.numbers.store) (g.S.PageStore.faults c.count_on.new.store) c.from_residual.result c.in_err-count.field-0.0
-    c.numbers.invariant.same (omega (arith, c.numbers.invariant.faults)) c.in_err-count.ensures.cause (handed_on c.from_residual.result c.in_err-count.field-0.0 c.from_residual.ensures.1)
+    c.numbers.invariant.same c.numbers.invariant.faults c.in_err-count.ensures.cause (handed_on c.from_residual.result c.in_err-count.field-0.0 c.from_residual.ensures.1)
 
 pub overflow_add-count : goal.overflow_add-count
 overflow_add-count g c =

@@ -11,7 +11,7 @@ use Rattle.heap_am.proofs.heap.Heap.next_row.Goals as goal
 pub returns-in_err-row-clause-cause : goal.returns-in_err-row-clause-cause
 returns-in_err-row-clause-cause g c =
     cause_later (g.S.PageStore.pages c.args.store.now) (g.S.PageStore.pages c.pages.store) (HeapFault c.args.self.now.file) (g.S.PageStore.faults c.args.store.now) (g.S.PageStore.faults c.pages.store) (g.S.PageStore.faults c.next_read.new.store) c.from_residual.result c.in_err-row.field-0.0
-    c.pages.invariant.same (omega (arith, c.pages.invariant.faults)) c.in_err-row.ensures.cause (handed_on c.from_residual.result c.in_err-row.field-0.0 c.from_residual.ensures.1)
+    c.pages.invariant.same c.pages.invariant.faults c.in_err-row.ensures.cause (handed_on c.from_residual.result c.in_err-row.field-0.0 c.from_residual.ensures.1)
 
 pub returns-clause-told : goal.returns-clause-told
 returns-clause-told g c m rows t e =

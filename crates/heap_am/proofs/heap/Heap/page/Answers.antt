@@ -12,7 +12,7 @@ returns-in_err-next-clause-cause g c =
 
 pub returns-then-next-behind-clause-cause : goal.returns-then-next-behind-clause-cause
 returns-then-next-behind-clause-cause g c =
-    cause_damaged (g.S.PageStore.pages c.args.store.now) c.args.self.now.file c.args.number (g.S.PageStore.faults c.args.store.now) (g.S.PageStore.faults c.chain_page.new.store) c.damaged.result c.damaged.ensures c.in_ok-next.ensures.cause.later
+    cause_damaged (g.S.PageStore.pages c.args.store.now) c.args.self.now.file c.args.number (g.S.PageStore.faults c.args.store.now) (g.S.PageStore.faults c.chain_page.new.store) c.damaged.result c.damaged.ensures c.in_ok-next.ensures.cause.caused
     (λ m e. bad_next c.args.self.now.file m c.args.number c.in_ok-next.next c.chain_page.new.out c.requires.below (c.in_ok-next.ensures.there m e) c.in_ok-next.ensures.follows (λ same. c.if-next-behind.true (same ∙ sym c.behind.ensures)))
 
 pub returns-clause-goes : goal.returns-clause-goes

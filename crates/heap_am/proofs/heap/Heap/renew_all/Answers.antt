@@ -22,7 +22,7 @@ returns-in_err-put-clause-cause g c =
     let number = get_or c.args.numbers.now c.numbers.number-index 0 in
     let at = rising_at 0 c.args.self.now.file.used c.numbers.number-index c.args.numbers.now c.requires.rising (omega (arith, c.numbers-test.true)) in
     cause_carried (g.S.PageStore.pages c.args.store.now) (g.S.PageStore.pages c.numbers.store) (OffPage c.args.self.now.file.file number c.args.self.now.file.used) (HeapFault c.args.self.now.file)
-    (g.S.PageStore.faults c.args.store.now) (g.S.PageStore.faults c.numbers.store) (g.S.PageStore.faults c.renew_on.new.store) c.in_err-put.field-0.0 (omega (arith, c.numbers.invariant.faults))
+    (g.S.PageStore.faults c.args.store.now) (g.S.PageStore.faults c.numbers.store) (g.S.PageStore.faults c.renew_on.new.store) c.in_err-put.field-0.0 c.numbers.invariant.faults
     (off_next c.args.self.now.file number (take c.numbers.number-index c.args.numbers.now) c.args.going.now (take c.numbers.put c.args.coming.now) (g.S.PageStore.pages c.args.store.now) (g.S.PageStore.pages c.numbers.store) at.1 c.numbers.invariant.done)
     c.in_err-put.ensures.cause c.from_residual.result c.from_residual.ensures.1
 

@@ -23,13 +23,13 @@ use Rattle.heap_am.proofs.heap.Heap.renew_first.Goals as goal
 cause_since : {T : Type 0} (told since : Option Image) (P : Image → Addr → Type 0) (before later now : ℕ) (r : Result T BaseFault)
     → since ≡ told → later ≡ before → HasFileCause since P later now r → HasFileCause told P before now r
 cause_since told since P before later now (Ok x) same calm h = let c = h.caused in record { later = omega (arith, calm, c); caused = c ∙ calm }
-cause_since told since P before later now (Err e) same calm h = cause_later told since P before later now (Err e) e same (omega (arith, calm)) h refl
+cause_since told since P before later now (Err e) same calm h = cause_later told since P before later now (Err e) e same calm h refl
 
 pub returns-in_err-put_rest-in-Some-clause-cause : goal.returns-in_err-put_rest-in-Some-clause-cause
 returns-in_err-put_rest-in-Some-clause-cause g c =
     let file = c.args.self.now.file in
     cause_carried (g.S.PageStore.pages c.args.store.now) (g.S.PageStore.pages c.renew_near.new.store) (OffPage file.file (file.used - 1) (file.used - 1 + 1)) (HeapFault file)
-    (g.S.PageStore.faults c.args.store.now) (g.S.PageStore.faults c.renew_near.new.store) (g.S.PageStore.faults c.put_rest.new.store) c.in_err-put_rest-in-Some.field-0.0 c.renew_near.ensures.cause.later
+    (g.S.PageStore.faults c.args.store.now) (g.S.PageStore.faults c.renew_near.new.store) (g.S.PageStore.faults c.put_rest.new.store) c.in_err-put_rest-in-Some.field-0.0 c.in_ok-put.ensures.cause.caused
     (off_rest file c.args.going.now (take c.in-Some.put c.args.coming.now) (g.S.PageStore.pages c.args.store.now) (g.S.PageStore.pages c.renew_near.new.store) c.args.self.now.pages
     (λ m is. subst (λ done. IfSome done (λ put. IsDoneNear file.file file.used c.args.going.now (take put c.args.coming.now) m (g.S.PageStore.pages c.renew_near.new.store))) c.in-Some.is (c.in_ok-put.ensures.done m is)))
     c.in_err-put_rest-in-Some.ensures.cause c.from_residual-in_err-put_rest-in-Some.result c.from_residual-in_err-put_rest-in-Some.ensures.1

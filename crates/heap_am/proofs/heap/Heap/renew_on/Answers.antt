@@ -51,4 +51,4 @@ returns-in_err-chain_page-clause-came g c = c.chain_page.ensures.came
 pub returns-in_err-put-clause-cause : goal.returns-in_err-put-clause-cause
 returns-in_err-put-clause-cause g c =
     cause_put (g.S.PageStore.pages c.args.store.now) (OffPage c.args.self.now.file.file c.args.number c.args.self.now.file.used) (g.S.PageStore.faults c.args.store.now) (g.S.PageStore.faults c.chain_page.new.store) (g.S.PageStore.faults c.put.new.self)
-    c.from_residual-in_err-put.result c.in_err-put.field-0.0 c.chain_page.ensures.cause.later c.in_err-put.ensures.cause c.from_residual-in_err-put.ensures.1
+    c.from_residual-in_err-put.result c.in_err-put.field-0.0 c.in_ok-chain_page.ensures.cause.caused c.in_err-put.ensures.cause c.from_residual-in_err-put.ensures.1

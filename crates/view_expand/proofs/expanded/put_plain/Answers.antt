@@ -6,12 +6,12 @@ use Rattle.view_text.specs.Texts.{query_texts, texts_vars}
 use Rattle.view_expand.specs.Asking.{who_of}
 use Rattle.view_expand.proofs.Causing.{crowded_caused}
 use Rattle.view_expand.proofs.Few.{texts_few}
-use Rattle.view_expand.proofs.expanded.put_plain_remembering.Goals as goal
+use Rattle.view_expand.proofs.expanded.put_plain.Goals as goal
 
 pub returns-in-Ok-clause-cause : goal.returns-in-Ok-clause-cause
 returns-in-Ok-clause-cause g c =
     crowded_caused (λ db. vars_permitted (permitted_within c.args.levels db (who_of (option_map (λ n. n.now) c.args.who))) c.args.query.now (used_vars c.args.query.now) ≡ false)
-    (g.B.Base.database c.args.base.now) (g.B.Base.faults c.args.base.now) (g.B.Base.faults c.texts_through.new.base) (length (texts_vars c.deref.result.now)) c.query_over.result c.in-Ok.ensures.cause.later
+    (g.B.Base.database c.args.base.now) (g.B.Base.faults c.args.base.now) (g.B.Base.faults c.texts_through.new.base) (length (texts_vars c.deref.result.now)) c.query_over.result c.in-Ok.ensures.cause.caused
     (λ db h.
     let source = text_within c.args.levels db (who_of (option_map (λ n. n.now) c.args.who)) in
     let made : c.deref.result.now ≡ query_texts source c.args.query.now =

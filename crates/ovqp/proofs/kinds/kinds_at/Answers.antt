@@ -1,7 +1,7 @@
 use Rattle.std.proofs.Common.{ap, ◌∙◌, map}
 use Rattle.calculus.specs.Stored.{attrs_in}
-use Rattle.aggregates.proofs.Known.{known_attrs}
-use Rattle.aggregates.proofs.kinds.kinds_at.Goals as goal
+use Rattle.ovqp.proofs.Known.{known_attrs}
+use Rattle.ovqp.proofs.kinds.kinds_at.Goals as goal
 
 pub returns-clause-told : goal.returns-clause-told
 returns-clause-told g c = λ db h.

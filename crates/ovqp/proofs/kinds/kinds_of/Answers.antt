@@ -1,6 +1,6 @@
 use Rattle.std.proofs.Common.{sym, ap, ◌∙◌, map, ◌++◌, ◌∷◌, []}
 use Rattle.std.proofs.lemmas.List.{take_all, map_more}
-use Rattle.aggregates.proofs.kinds.kinds_of.Goals as goal
+use Rattle.ovqp.proofs.kinds.kinds_of.Goals as goal
 
 pub loop-attr-preserved : goal.loop-attr-preserved
 loop-attr-preserved c =
