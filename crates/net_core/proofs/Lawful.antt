@@ -29,7 +29,7 @@ stage_is fourth n r = refl
 
 pub wrote_front : (L : Language quel_sorts) (laws : Laws L) (k : StageNumber) (n : Shape quel_sorts) (before after : Outside) → FailedStep L (state_at n k) before after → WroteFront L (seen n before) after
 wrote_front L laws k n before after (inl (w, f)) r t o =
-    let part = f r t in
+    let part = f.part r t in
     (part.front, part.wrote, failed_work L laws k (join n r) part.front o (subst (λ (s : LocalState quel_sorts). Begins part.front (work_bytes L s.mode r)) (sym (stage_is k n r)) part.begins))
 wrote_front L laws k n before after (inr e) r t o =
     ([], rw e (Appends-nil before.output), subst (λ (x : List ℕ). Begins x (bytes_in_all L (join n r))) (sym (append-nil r.out)) (_, refl))

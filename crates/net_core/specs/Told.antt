@@ -69,9 +69,18 @@ pub record LeavesPart (L : Language quel_sorts) (mode : Mode quel_sorts) (room :
   pub files : LeavesFiles L mode room after.files
   pub database : (db : Db) → after.database ≡ Some db → IsBeforeOrAfter L mode room db
 
--- work that failed in a room that is told has left a part of what it does
-abbrev pub FailedWork : Language quel_sorts → Mode quel_sorts → Outside → Outside → Type 0
-FailedWork L mode before after = (room : NetworkRoom quel_sorts) → Tells (told before) room → LeavesPart L mode room before.output after
+-- in some room with these files the work stores these bytes as the file of this name
+abbrev pub MayStore : Language quel_sorts → Mode quel_sorts → Files → List ℕ → List ℕ → Type 0
+MayStore L mode files name bytes = (room : NetworkRoom quel_sorts) × (room.shelf ≡ files) × StoresFile L mode room name bytes
+
+-- the files are told again: as they were, or such work on them may store a file, and this one alone may have been stored
+abbrev pub SparesFiles : Language quel_sorts → Mode quel_sorts → Files → Option Files → Type 0
+SparesFiles L mode files after = (after ≡ Some files) ⊎ ((name : List ℕ) × (bytes : List ℕ) × MayStore L mode files name bytes × MayHaveStored name bytes files after)
+
+-- work that failed: in a room that is told it has left a part of what it does; and of files that are told, whatever else is, no file differs but one that such work stores
+pub record FailedWork (L : Language quel_sorts) (mode : Mode quel_sorts) (before after : Outside) : Type 0 where
+  pub part : (room : NetworkRoom quel_sorts) → Tells (told before) room → LeavesPart L mode room before.output after
+  pub files : (files : Files) → before.files ≡ Some files → SparesFiles L mode files after.files
 
 -- a stage that failed has worked and left a part of what it does, or all outside it is as it was
 abbrev pub FailedStep : Language quel_sorts → LocalState quel_sorts → Outside → Outside → Type 0

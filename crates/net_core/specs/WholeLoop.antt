@@ -13,7 +13,7 @@ use Rattle.net_core.specs.Crashes.{StepMayLeave}
 use Rattle.net_core.specs.declared.fault.WorkFault.TheVariants as work_fault
 use Rattle.net_core.specs.Reads.{EndsWithin}
 use Rattle.net_core.specs.Spares.{CountsOnlyBy, IsNoFaultOfEnds, SparesBy, counts, ends}
-use Rattle.net_core.specs.Told.{LeavesPart, Outside, told}
+use Rattle.net_core.specs.Told.{FailedWork, Outside, told}
 use Rattle.net_core.specs.Wants.{HasEnded}
 use Rattle.network_meaning.specs.Calls.{Tells}
 use Rattle.network_meaning.specs.Language.{Language}
@@ -42,9 +42,9 @@ pub record Ending : Type 0 where
 abbrev pub IsWanted : Ending → (Inlet → Type 0) → Type 0
 IsWanted e P = ((want e.end.state ≡ take_left) × P e.left) ⊎ ((want e.end.state ≡ take_right) × P e.right)
 
--- the work that was to follow has left a part of what it does, where the room is told
+-- the work that was to follow has failed, and left a part of what it does
 abbrev pub LeftPart : Language quel_sorts → At → Outside → Type 0
-LeftPart L end after = (room : NetworkRoom quel_sorts) → Tells (told end.outside) room → LeavesPart L end.state.mode room end.outside.output after
+LeftPart L end after = FailedWork L end.state.mode end.outside after
 
 -- what is to be worked on isn't fit, where the database and the files are told, and the last frame that was taken begins at this byte; a part of the work was left, as of any that failed
 abbrev pub IsUnfit : (User → Type 0) → Ending → Outside → ℕ → Type 0

@@ -87,9 +87,10 @@ pub trait Stage {
 
     /// Works on the room. Whatever the room tells, what it goes to and what it gives has the shape of such
     /// a piece of work. Where the room is told, this is the network's work, and what it leaves is what that
-    /// leaves; after an error a front of what this work writes was written, no file differs but the one
-    /// that it stores, and the database is that of before or of after. What was written needn't be known.
-    /// A tree or a change that isn't fit for the present database is refused as unlawful.
+    /// leaves; after an error a front of what this work writes was written, and the database is that of
+    /// before or of after. What was written needn't be known. Of files that are told no one differs after
+    /// an error but that which such work stores, also where the database isn't told. A tree or a change
+    /// that isn't fit for the present database is refused as unlawful.
     fn work<B: Base, H: Shelf, S: Source, K: Sink>(
         &mut self,
         alloc: Global,

@@ -25,12 +25,12 @@ use Rattle.net_tests.specs.Carrying.{CarriedOut, MayComeOf, carrying, done_frame
 use Rattle.net_tests.specs.declared.carrier.Stand.{Stand}
 use Rattle.net_tests.specs.declared.carrier.Stand.TheVariants.{Holds, Answers, Rests}
 use Rattle.network_meaning.specs.Calls.{WorkDone}
-use Rattle.network_meaning.specs.LocalSteps.{Want.work, says, Mode.idle4}
+use Rattle.network_meaning.specs.LocalSteps.{Want.work, says, Mode.idle4, Room as NetworkRoom}
 use Rattle.network_meaning.specs.Network.{want}
 use Rattle.network_meaning.specs.Sorts.{Message.said, Said.replied, Reply.done}
 use Rattle.network_meaning.specs.Frames.{spell}
 use Rattle.quel_network.specs.Quel.{quel}
-use Rattle.quel_network.specs.Sorts.{User}
+use Rattle.quel_network.specs.Sorts.{User, quel_sorts}
 use Rattle.quel_network.specs.Spelling.{payload_of}
 use Rattle.quel_tree.specs.Changes.{change as change_codec}
 use Rattle.quel_tree.specs.Message.{most_tree_levels}
@@ -118,17 +118,20 @@ quiet_any s o o' e = subst (λ (z : Stand). QuietWithout (carrying z) o o') (sym
 failed_by : (user : User) (o : Outside) (db' schema' : Option Db) (count' clock' reads' : ℕ) (left left' : ℕ → Option Db → Type 0) (f : WorkFault) →
     CarriedOut o.database db' schema' o.base_faults count' o.clock clock' left left' (Err f) → FailedWork (quel user) (carrying Holds).mode o (changed o db' count' clock' reads')
 unfolding quel
-failed_by user o db' schema' count' clock' reads' left left' f d room t = record {
-  front = [];
-  begins = (_, refl);
-  wrote = Appends-nil o.output;
-  files = inl t.shelf;
-  database = λ now then. by now (d.failed room.db now t.db then);
+failed_by user o db' schema' count' clock' reads' left left' f d = record {
+  part = λ room t. record {
+    front = [];
+    begins = (_, refl);
+    wrote = Appends-nil o.output;
+    files = inl t.shelf;
+    database = λ now then. by room now (d.failed room.db now t.db then);
+  };
+  files = λ files known. inl known;
 }
   where
-    by : (now : Db) → (now ≡ room.db) ⊎ (now ≡ laid room.db no_change) → IsBeforeOrAfter (quel user) (carrying Holds).mode room now
-    by now (inl before) = inl before
-    by now (inr after) = inr (says idle4 (said (replied done) ∷ []), record { db = laid room.db no_change; shelf = room.shelf; script = room.script; out = room.out }, (refl, refl), after)
+    by : (room : NetworkRoom quel_sorts) (now : Db) → (now ≡ room.db) ⊎ (now ≡ laid room.db no_change) → IsBeforeOrAfter (quel user) (carrying Holds).mode room now
+    by room now (inl before) = inl before
+    by room now (inr after) = inr (says idle4 (said (replied done) ∷ []), record { db = laid room.db no_change; shelf = room.shelf; script = room.script; out = room.out }, (refl, refl), after)
 
 pub failed_err : (user : User) (s : Stand) (o : Outside) (db' schema' : Option Db) (count' clock' reads' : ℕ) (left left' : ℕ → Option Db → Type 0) (f : WorkFault) → s ≡ Holds →
     CarriedOut o.database db' schema' o.base_faults count' o.clock clock' left left' (Err f) → FailedWork (quel user) (carrying s).mode o (changed o db' count' clock' reads')
