@@ -52,10 +52,10 @@ utility_caused user u told before now (utility.No number) may = may.0
 utility_caused user u told before now (utility.Base fault) may = may
 utility_caused user u told before now utility.OutOfMemory may = may
 
-pub check_caused : {T : Type 0} (told : Option Db) (before now : ℕ) (fault : CheckFault) → checking.IsCaused {T = T} told before now (Err fault) → StopsBy told before now (check_stop fault)
-check_caused told before now (check.No number) may = may
-check_caused told before now (check.Base fault) may = may
-check_caused told before now check.OutOfMemory may = may
+pub check_caused : (T : Type 0) (told : Option Db) (before now : ℕ) (fault : CheckFault) → checking.IsCaused {T = T} told before now (Err fault) → StopsBy told before now (check_stop fault)
+check_caused T told before now (check.No number) may = may
+check_caused T told before now (check.Base fault) may = may
+check_caused T told before now check.OutOfMemory may = may
 
 query_caused : (lacking : Db → Env → Type 0) (told : Option Db) (before now : ℕ) (fault : QueryFault) → asking.MayFail lacking told before now fault → StopsBy told before now (query_stop fault)
 query_caused lacking told before now (query.NoValue at) may = may.0
@@ -92,10 +92,10 @@ all_short db (Err s) h = is_short db s h.caused
 pub query_short : (db : Db) (lacking : Db → Env → Type 0) (fault : QueryFault) (stopped : Stopped) → asking.MayFail lacking (Some db) 0 0 fault → stopped ≡ query_stop fault → IsShort stopped
 query_short db lacking fault stopped may is = subst IsShort (sym is) (is_short db (query_stop fault) (query_caused lacking (Some db) 0 0 fault may))
 
-pub short_copy : {T : Type 0} (db : Db) (fault : CopyFault) → copying.IsCaused {T = T} (Some db) 0 0 (Err fault) → IsShortCopy fault
-short_copy db (copy.No number) may = tt
-short_copy db (copy.BadRow row) may = tt
-short_copy db copy.NoFile may = tt
-short_copy db copy.Shelf may = tt
-short_copy db (copy.Base fault) may = no_other db fault may
-short_copy db copy.OutOfMemory may = tt
+pub short_copy : (T : Type 0) (db : Db) (fault : CopyFault) → copying.IsCaused {T = T} (Some db) 0 0 (Err fault) → IsShortCopy fault
+short_copy T db (copy.No number) may = tt
+short_copy T db (copy.BadRow row) may = tt
+short_copy T db copy.NoFile may = tt
+short_copy T db copy.Shelf may = tt
+short_copy T db (copy.Base fault) may = no_other db fault may
+short_copy T db copy.OutOfMemory may = tt

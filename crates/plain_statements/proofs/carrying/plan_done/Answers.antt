@@ -24,4 +24,4 @@ returns-in-Err-No-clause-done c = λ files.
     c.refused.result (c.refused.ensures ∙ ap (λ n. Refused (refusal n)) c.in-Err-No.number-is)
 
 pub short-requires : goal.short-requires
-short-requires c = subst IsShort c.in-Err-Base.field-0-is (is_short (database_of c.args.base.now) c.in-Err-Base.field-0 c.in-Err-Base.ensures.cause.caused)
+short-requires c = c.in-Err-Base.fault-is ∙ subst IsShort c.in-Err-Base.field-0-is (is_short (database_of c.args.base.now) c.in-Err-Base.field-0 c.in-Err-Base.ensures.cause.caused)

@@ -35,4 +35,4 @@ pub returns-clause-cause : goal.returns-clause-cause
 returns-clause-cause g c = copy_caused _ _ _ _ _ c.in-Err.fault c.in-Err.ensures.cause c.copy_answer.result c.copy_answer.ensures
 
 pub copy_answer-requires : goal.copy_answer-requires
-copy_answer-requires g c = short_copy (database_of c.args.base.now) c.in-Err.fault c.in-Err.ensures.cause.caused
+copy_answer-requires g c = short_copy _ (database_of c.args.base.now) c.in-Err.fault c.in-Err.ensures.cause.caused

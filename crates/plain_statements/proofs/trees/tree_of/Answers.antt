@@ -6,10 +6,10 @@ use Rattle.plain_statements.proofs.trees.tree_of.Goals as goal
 
 pub returns-clause-told : goal.returns-clause-told
 returns-clause-told g c = λ db e.
-    let told = c.in_ok-tree.ensures.told db (g.B.Base.own c.args.base.now db e) in
+    let told = c.in_ok-tree.ensures.told db e in
     (told, checked_doable db c.args.user.now c.args.ranges.now c.args.s.now c.in_ok-tree.tree told)
 
 pub returns-in_err-tree-clause-cause : goal.returns-in_err-tree-clause-cause
 returns-in_err-tree-clause-cause g c =
     stopped_by (g.B.Base.database c.args.base.now) _ _ c.from_residual.result c.from_residual.ensures c.in_err-tree.ensures.cause.later
-    (λ stop is. subst (StopsBy (g.B.Base.database c.args.base.now) _ _) (sym is) (check_caused _ _ _ c.in_err-tree.field-0.0 c.in_err-tree.ensures.cause.caused))
+    (λ stop is. subst (StopsBy (g.B.Base.database c.args.base.now) _ _) (sym is) (check_caused _ _ _ _ c.in_err-tree.field-0.0 c.in_err-tree.ensures.cause.caused))
