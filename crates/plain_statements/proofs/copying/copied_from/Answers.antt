@@ -1,6 +1,7 @@
 use Rattle.std.proofs.Common.{refl, sym, subst, ◌∙◌}
 use Rattle.std.proofs.lemmas.Option.{same_Some}
 use Rattle.calculus.specs.Change.{IsLawful}
+use Rattle.calculus.specs.declared.change.DbChange.{DbChange}
 use Rattle.calculus.specs.Database.{Db}
 use Rattle.quel_meaning.specs.Meaning.{utility_effect}
 use Rattle.plain_base.specs.Shown.{database_of}
@@ -35,4 +36,4 @@ pub returns-clause-cause : goal.returns-clause-cause
 returns-clause-cause g c = copy_caused _ _ _ _ _ c.in-Err.fault c.in-Err.ensures.cause c.copy_answer.result c.copy_answer.ensures
 
 pub copy_answer-requires : goal.copy_answer-requires
-copy_answer-requires g c = short_copy _ (database_of c.args.base.now) c.in-Err.fault c.in-Err.ensures.cause.caused
+copy_answer-requires g c = short_copy DbChange (database_of c.args.base.now) c.in-Err.fault c.in-Err.ensures.cause.caused

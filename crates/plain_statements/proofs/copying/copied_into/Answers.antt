@@ -27,4 +27,4 @@ pub returns-in-Err-clause-cause : goal.returns-in-Err-clause-cause
 returns-in-Err-clause-cause g c = copy_caused _ _ _ _ _ c.in-Err.fault c.in-Err.ensures.cause c.copy_answer.result c.copy_answer.ensures
 
 pub copy_answer-requires : goal.copy_answer-requires
-copy_answer-requires g c = short_copy _ (database_of c.args.base.now) c.in-Err.fault c.in-Err.ensures.cause.caused
+copy_answer-requires g c = short_copy (Unit {0}) (database_of c.args.base.now) c.in-Err.fault c.in-Err.ensures.cause.caused

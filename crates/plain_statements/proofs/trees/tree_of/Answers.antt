@@ -1,4 +1,5 @@
 use Rattle.std.proofs.Common.{sym, subst}
+use Rattle.calculus.specs.declared.request.Checked.{Checked}
 use Rattle.plain_statements.specs.Stopping.{StopsBy}
 use Rattle.plain_statements.proofs.Carried.{checked_doable}
 use Rattle.plain_statements.proofs.Short.{stopped_by, check_caused}
@@ -12,4 +13,4 @@ returns-clause-told g c = λ db e.
 pub returns-in_err-tree-clause-cause : goal.returns-in_err-tree-clause-cause
 returns-in_err-tree-clause-cause g c =
     stopped_by (g.B.Base.database c.args.base.now) _ _ c.from_residual.result c.from_residual.ensures c.in_err-tree.ensures.cause.later
-    (λ stop is. subst (StopsBy (g.B.Base.database c.args.base.now) _ _) (sym is) (check_caused _ _ _ _ c.in_err-tree.field-0.0 c.in_err-tree.ensures.cause.caused))
+    (λ stop is. subst (StopsBy (g.B.Base.database c.args.base.now) _ _) (sym is) (check_caused Checked _ _ _ c.in_err-tree.field-0.0 c.in_err-tree.ensures.cause.caused))
