@@ -28,22 +28,22 @@ pub record HasStoreCause {T : Type 0} (before now : ℕ) (result : Result T Stor
   pub later : before ≤ now
   pub caused : IsStoreCaused before now result
 
--- where the pages are told, the one at this address is at fault
+-- where the pages are known, the one at this address is at fault
 abbrev pub IsAtFault : Option Image → (Image → Addr → Type 0) → Addr → Type 0
-IsAtFault told at_fault a = (m : Image) → told ≡ Some m → at_fault m a
+IsAtFault known at_fault a = (m : Image) → known ≡ Some m → at_fault m a
 
 -- this fault may come: of the disk where its count rose; else that stayed: of damage at a page that is at fault, and want of memory
 abbrev pub MayFail : Option Image → (Image → Addr → Type 0) → ℕ → ℕ → BaseFault → Type 0
-MayFail told at_fault before now faults.Disk = Rose before now
-MayFail told at_fault before now (faults.Damaged file page) = IsAtFault told at_fault (record { file = file; page = page }) × (now ≡ before)
-MayFail told at_fault before now faults.OutOfMemory = now ≡ before
+MayFail known at_fault before now faults.Disk = Rose before now
+MayFail known at_fault before now (faults.Damaged file page) = IsAtFault known at_fault (record { file = file; page = page }) × (now ≡ before)
+MayFail known at_fault before now faults.OutOfMemory = now ≡ before
 
 -- an answer where the count stayed, or a fault that may come
 abbrev pub IsFileCaused : {T : Type 0} → Option Image → (Image → Addr → Type 0) → ℕ → ℕ → Result T BaseFault → Type 0
-IsFileCaused told at_fault before now (Ok x) = now ≡ before
-IsFileCaused told at_fault before now (Err fault) = MayFail told at_fault before now fault
+IsFileCaused known at_fault before now (Ok x) = now ≡ before
+IsFileCaused known at_fault before now (Err fault) = MayFail known at_fault before now fault
 
 -- the count of faults never falls, an answer comes only where it stayed, and a fault only where it may
-pub record HasFileCause {T : Type 0} (told : Option Image) (at_fault : Image → Addr → Type 0) (before now : ℕ) (result : Result T BaseFault) : Type 0 where
+pub record HasFileCause {T : Type 0} (known : Option Image) (at_fault : Image → Addr → Type 0) (before now : ℕ) (result : Result T BaseFault) : Type 0 where
   pub later : before ≤ now
-  pub caused : IsFileCaused told at_fault before now result
+  pub caused : IsFileCaused known at_fault before now result

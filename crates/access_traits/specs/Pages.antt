@@ -11,6 +11,6 @@ with_page a page m = λ b. if is_at b a then Some page else m b
 abbrev pub SameElsewhere : ℕ → Image → Image → Type 0
 SameElsewhere file m n = (b : Addr) → (b.file ≡ file → ⊥) → n b ≡ m b
 
--- The pages are told still, and those of all files but this one are as before.
+-- The pages are still known, and those of all files but this one are as before.
 pub record KeepsOthers (file : ℕ) (before now : Option Image) : Type 0 where
   pub each : (m : Image) → before ≡ Some m → (n : Image) × (now ≡ Some n) × SameElsewhere file m n

@@ -57,11 +57,11 @@ pub record SameButUsed (before now : RelFile) : Type 0 where
   pub primary : now.primary ≡ before.primary
   pub directory : now.directory ≡ before.directory
 
--- The pages are told still, and the rows on them are now these.
-pub record NowHolds (placed : Image → Option Placed) (told : Option Image) (P : Placed → Type 0) : Type 0 where
+-- The pages are still known, and the rows on them are now these.
+pub record NowHolds (placed : Image → Option Placed) (known : Option Image) (P : Placed → Type 0) : Type 0 where
   pub image : Image
   pub rows : Placed
-  pub told_still : told ≡ Some image
+  pub still_known : known ≡ Some image
   pub are : placed image ≡ Some rows
   pub so : P rows
 

@@ -19,7 +19,7 @@ use std::alloc::Global;
 
 /// A file of rows on the pages of a store.
 ///
-/// What it holds are rows with their places, where the pages are told and are of their form. No call
+/// What it holds are rows with their places, where the pages are known and are of their form. No call
 /// changes a page of another file. After an error of a call that changes pages nothing is known of
 /// the store's pages, and the change is given up; after an error of a scan nothing is known of its
 /// place.
@@ -54,7 +54,7 @@ pub trait AccessMethod {
         store: &mut S,
         place: &Place,
     ) -> Result<Option<Row>, BaseFault>
-        ensures told { (m : Image) (rows : Placed) → S.pages store.old ≡ Some m → placed self.now m ≡ Some rows
+        ensures known { (m : Image) (rows : Placed) → S.pages store.old ≡ Some m → placed self.now m ≡ Some rows
             → IfOk result (λ row. row ≡ row_with rows place.now) }
         ensures same { S.pages store.new ≡ S.pages store.old }
         ensures came { (s : S) → S.came s store.old → S.came s store.new }
@@ -73,7 +73,7 @@ pub trait AccessMethod {
         probe: &Probe,
         at: &mut Place,
     ) -> Result<Option<Row>, BaseFault>
-        ensures told { (m : Image) (rows : Placed) → S.pages store.old ≡ Some m → placed self.now m ≡ Some rows
+        ensures known { (m : Image) (rows : Placed) → S.pages store.old ≡ Some m → placed self.now m ≡ Some rows
             → Gives probe.now (rows_from rows) at.old at.new result }
         ensures over { (m : Image) (rows : Placed) → S.pages store.old ≡ Some m → placed self.now m ≡ Some rows
             → IsOver probe.now (rows_from rows) at.new result }
@@ -96,7 +96,7 @@ pub trait AccessMethod {
         chains: &mut Option<(u32, u32)>,
         at: &mut Place,
     ) -> Result<Option<Row>, BaseFault>
-        ensures told { (m : Image) (rows : Placed) → S.pages store.old ≡ Some m → placed self.now m ≡ Some rows
+        ensures known { (m : Image) (rows : Placed) → S.pages store.old ≡ Some m → placed self.now m ≡ Some rows
             → Gives probe.now (rows_from rows) at.old at.new result }
         ensures over { (m : Image) (rows : Placed) → S.pages store.old ≡ Some m → placed self.now m ≡ Some rows
             → IsOver probe.now (rows_from rows) at.new result }
@@ -121,7 +121,7 @@ pub trait AccessMethod {
         requires room { (file self.old).used < 2 ^ 32 - 1 }
         requires new { (m : Image) (rows : Placed) → S.pages store.old ≡ Some m → placed self.old m ≡ Some rows
             → has (rows_of rows) row.now ≡ false }
-        ensures told { (m : Image) (rows : Placed) → S.pages store.old ≡ Some m → placed self.old m ≡ Some rows
+        ensures known { (m : Image) (rows : Placed) → S.pages store.old ≡ Some m → placed self.old m ≡ Some rows
             → IfOk result (λ place. NowHolds (placed self.new) (S.pages store.new) (Added rows place row.now)) }
         ensures others { OnOk result (KeepsOthers (file self.old).file (S.pages store.old) (S.pages store.new)) }
         ensures file { OnOk result (SameButUsed (file self.old) (file self.new)) }
@@ -135,7 +135,7 @@ pub trait AccessMethod {
         store: &mut S,
         row: &Row,
     ) -> Result<Option<Place>, BaseFault>
-        ensures told { (m : Image) (rows : Placed) → S.pages store.old ≡ Some m → placed self.old m ≡ Some rows
+        ensures known { (m : Image) (rows : Placed) → S.pages store.old ≡ Some m → placed self.old m ≡ Some rows
             → IfOk result (λ place. NowHolds (placed self.new) (S.pages store.new) (Removed rows place row.now)) }
         ensures others { OnOk result (KeepsOthers (file self.old).file (S.pages store.old) (S.pages store.new)) }
         ensures file { OnOk result (SameButUsed (file self.old) (file self.new)) }
@@ -157,7 +157,7 @@ pub trait AccessMethod {
         requires going { All (λ row. IsTrue (is_row row (file self.old).domains)) going.now }
         requires coming { All (λ row. IsTrue (is_row row (file self.old).domains)) coming.now }
         requires room { (file self.old).used + length coming.now < 2 ^ 32 }
-        ensures told { (m : Image) (rows : Placed) → S.pages store.old ≡ Some m → placed self.old m ≡ Some rows
+        ensures known { (m : Image) (rows : Placed) → S.pages store.old ≡ Some m → placed self.old m ≡ Some rows
             → rows_differ (rows_of rows) ≡ true → rows_differ going.now ≡ true → All (λ row. IsTrue (has (rows_of rows) row)) going.now
             → IfOk result (λ all. IsTrue all × NowHolds (placed self.new) (S.pages store.new) (Replaced rows going.now coming.now)) }
         ensures others { OnOk result (KeepsOthers (file self.old).file (S.pages store.old) (S.pages store.new)) }

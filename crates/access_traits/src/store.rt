@@ -8,13 +8,13 @@ ghost use Rattle.access_traits.specs.Pages.{with_page};
 use crate::StoreFault;
 use disk_model::{Addr, Page};
 
-/// A map of pages. What it holds may be told or not.
+/// A map of pages. What it holds may be known or not.
 ///
 /// It keeps the page that it gave last, so asking for that page again reads nothing.
 pub trait PageStore {
     ghost use Rattle.disk_model.specs.declared.disk.Addr.{Addr as At};
 
-    /// The page at each address, where it is told.
+    /// The page at each address, where it is known.
     ghost pages: { Self → Option Image };
 
     /// How often a call to the disk below has failed. The count stands still at 2^64 - 1.

@@ -94,7 +94,7 @@ fn table_of(alloc: Global, agg: &QAgg, none: Value, rows: RowSet) -> Result<AggT
 fn table<B: Base>(alloc: Global, base: &mut B, agg: &QAgg) -> Result<AggTable, BaseFault>
     requires { (db : Db) → B.database base.old ≡ Some db → IsTrue (source_fits (kept_alone db) db agg.now.source) }
     ensures ascend { IfOk result (λ table. GroupsAscend table.groups) }
-    ensures told { (db : Db) → B.database base.old ≡ Some db → IfOk result (λ table. StandsFor table agg.now (aggregates db Free)) }
+    ensures known { (db : Db) → B.database base.old ≡ Some db → IfOk result (λ table. StandsFor table agg.now (aggregates db Free)) }
     ensures kept { B.database base.new ≡ B.database base.old }
     ensures stays { (s : Db) → B.schema base.old ≡ Some s → B.schema base.new ≡ Some s }
     ensures asked { (b : B) → B.asked b base.old → B.asked b base.new }
@@ -124,7 +124,7 @@ fn tables_of<B: Base>(
     requires { (db : Db) → B.database base.old ≡ Some db → IsTrue (list_all (λ g. source_fits (kept_alone db) db g.now.source) aggs.now) }
     ensures many { IfOk result (λ tables. length tables.items ≡ length aggs.now) }
     ensures ascend { IfOk result (λ tables. AllAscend tables.items) }
-    ensures told { (db : Db) → B.database base.old ≡ Some db → IfOk result (λ tables. AllStand db tables.items (map (λ g. g.now) aggs.now)) }
+    ensures known { (db : Db) → B.database base.old ≡ Some db → IfOk result (λ tables. AllStand db tables.items (map (λ g. g.now) aggs.now)) }
     ensures kept { B.database base.new ≡ B.database base.old }
     ensures stays { (s : Db) → B.schema base.old ≡ Some s → B.schema base.new ≡ Some s }
     ensures asked { (b : B) → B.asked b base.old → B.asked b base.new }

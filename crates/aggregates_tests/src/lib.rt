@@ -1,4 +1,4 @@
-//! Tests of the tables of aggregates and of queries of one variable, over a base that tells no database.
+//! Tests of the tables of aggregates and of queries of one variable, over a base of which no database is known.
 #![tactic(auto)]
 
 #[cfg(test)]

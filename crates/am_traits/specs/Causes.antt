@@ -5,18 +5,18 @@ use Rattle.fault_io.specs.Causes.{Rose}
 use Rattle.am_traits.specs.declared.fault.BaseFault.{BaseFault}
 use Rattle.am_traits.specs.declared.fault.BaseFault.TheVariants as faults
 
--- this fault may come of a database that is told, or isn't: of the disk where its count rose; else that stayed: of damage where no database is told, and want of memory
+-- this fault may come of a database that is known, or isn't: of the disk where its count rose; else that stayed: of damage where no database is known, and want of memory
 abbrev pub MayCome : Option Db → ℕ → ℕ → BaseFault → Type 0
-MayCome told before now faults.Disk = Rose before now
-MayCome told before now (faults.Damaged file page) = (told ≡ None) × (now ≡ before)
-MayCome told before now faults.OutOfMemory = now ≡ before
+MayCome known before now faults.Disk = Rose before now
+MayCome known before now (faults.Damaged file page) = (known ≡ None) × (now ≡ before)
+MayCome known before now faults.OutOfMemory = now ≡ before
 
 -- an answer where the count stayed, or a fault that may come
 abbrev pub IsCaused : {T : Type 0} → Option Db → ℕ → ℕ → Result T BaseFault → Type 0
-IsCaused told before now (Ok x) = now ≡ before
-IsCaused told before now (Err fault) = MayCome told before now fault
+IsCaused known before now (Ok x) = now ≡ before
+IsCaused known before now (Err fault) = MayCome known before now fault
 
 -- the count of faults never falls, an answer comes only where it stayed, and a fault only where it may
-pub record HasCause {T : Type 0} (told : Option Db) (before now : ℕ) (result : Result T BaseFault) : Type 0 where
+pub record HasCause {T : Type 0} (known : Option Db) (before now : ℕ) (result : Result T BaseFault) : Type 0 where
   pub later : before ≤ now
-  pub caused : IsCaused told before now result
+  pub caused : IsCaused known before now result

@@ -2,4 +2,4 @@ pub mod Causes
 pub mod Crashes
 pub mod InMemory
 pub mod Scans
-pub mod Told
+pub mod Known

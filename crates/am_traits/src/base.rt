@@ -12,7 +12,7 @@ ghost use Rattle.calculus.specs.declared.query.RelKey.{RelKey as Key};
 ghost use Rattle.am_traits.specs.Causes.{HasCause};
 ghost use Rattle.am_traits.specs.Crashes.{LeavesBut, OnlyAsked, Stands};
 ghost use Rattle.am_traits.specs.Scans.{Gives, IsOver, IsScan, first_place};
-ghost use Rattle.am_traits.specs.Told.{known_at, query_at, is_named_by_view};
+ghost use Rattle.am_traits.specs.Known.{known_at, query_at, is_named_by_view};
 
 use crate::BaseFault;
 use calculus::{DbChange, Name, Permit, Place, Probe, Query, RelInfo, RelKey, Row, Rule};
@@ -20,12 +20,12 @@ use std::alloc::Global;
 
 /// A database that can be asked and changed.
 ///
-/// What it is may be told or not: one in memory tells it; one over pages of a disk tells it where
-/// its pages stand for a database. Where it isn't told, the clauses on what it is say nothing. Its
+/// What it is may be known or not: one in memory makes it known; one over pages of a disk tells it where
+/// its pages stand for a database. Where it isn't known, the clauses on what it is say nothing. Its
 /// schema, which is all of it but the rows, is known all the same: the first answer fixes it, and
 /// what doesn't ask for rows is answered by it.
 pub trait Base {
-    /// The database, where it is told.
+    /// The database, where it is known.
     ghost database: { Self → Option Db };
 
     /// What is known of the schema, which is all of a database but its rows: the database itself where it
@@ -96,28 +96,28 @@ pub trait Base {
 
     /// The name of the administrator.
     fn dba(&mut self, alloc: Global) -> Result<Name, BaseFault>
-        ensures told { (s : Db) → schema self.old ≡ Some s → IfOk result (λ name. name ≡ s.dba) }
+        ensures known { (s : Db) → schema self.old ≡ Some s → IfOk result (λ name. name ≡ s.dba) }
         ensures by_schema { (s : Db) → schema self.new ≡ Some s → IfOk result (λ name. name ≡ s.dba) }
         ensures kept { database self.new ≡ database self.old }
         ensures stays { (s : Db) → schema self.old ≡ Some s → schema self.new ≡ Some s }
         ensures fixed { IsTrue fixes → OnOk result (IsTrue (is_some (schema self.new))) }
         ensures ready { OnOk result (IsTrue (ready self.new)) }
-        ensures known { OnOk result (cat self.new 0) }
-        ensures still_known { cat self.old 0 → (cat self.new 0) × (pages self.new ≡ pages self.old) }
+        ensures cached { OnOk result (cat self.new 0) }
+        ensures still_cached { cat self.old 0 → (cat self.new 0) × (pages self.new ≡ pages self.old) }
         ensures reads { (n : ℕ) → cat self.old n → reads self.new ≤ reads self.old + n }
         ensures asked { (b : Self) → asked b self.old → asked b self.new }
         ensures cause { HasCause (database self.old) (faults self.old) (faults self.new) result };
 
     /// The number of relations, views and indexes, without the catalogues.
     fn count(&mut self) -> Result<u32, BaseFault>
-        ensures told { (s : Db) → schema self.old ≡ Some s → IfOk result (λ n. n ≡ length (entries s)) }
+        ensures known { (s : Db) → schema self.old ≡ Some s → IfOk result (λ n. n ≡ length (entries s)) }
         ensures by_schema { (s : Db) → schema self.new ≡ Some s → IfOk result (λ n. n ≡ length (entries s)) }
         ensures kept { database self.new ≡ database self.old }
         ensures stays { (s : Db) → schema self.old ≡ Some s → schema self.new ≡ Some s }
         ensures fixed { IsTrue fixes → OnOk result (IsTrue (is_some (schema self.new))) }
         ensures ready { OnOk result (IsTrue (ready self.new)) }
-        ensures known { OnOk result (cat self.new 0) }
-        ensures still_known { cat self.old 0 → (cat self.new 0) × (pages self.new ≡ pages self.old) }
+        ensures cached { OnOk result (cat self.new 0) }
+        ensures still_cached { cat self.old 0 → (cat self.new 0) × (pages self.new ≡ pages self.old) }
         ensures reads { (n : ℕ) → cat self.old n → reads self.new ≤ reads self.old + n }
         ensures asked { (b : Self) → asked b self.old → asked b self.new }
         ensures cause { HasCause (database self.old) (faults self.old) (faults self.new) result };
@@ -130,28 +130,28 @@ pub trait Base {
         name: &Name,
         user: &Name,
     ) -> Result<Option<RelInfo>, BaseFault>
-        ensures told { (s : Db) → schema self.old ≡ Some s → IfOk result (λ info. info ≡ found s user.now name.now) }
+        ensures known { (s : Db) → schema self.old ≡ Some s → IfOk result (λ info. info ≡ found s user.now name.now) }
         ensures by_schema { (s : Db) → schema self.new ≡ Some s → IfOk result (λ info. info ≡ found s user.now name.now) }
         ensures kept { database self.new ≡ database self.old }
         ensures stays { (s : Db) → schema self.old ≡ Some s → schema self.new ≡ Some s }
         ensures fixed { IsTrue fixes → OnOk result (IsTrue (is_some (schema self.new))) }
         ensures ready { OnOk result (IsTrue (ready self.new)) }
-        ensures known { OnOk result (cat self.new 0) }
-        ensures still_known { cat self.old 0 → (cat self.new 0) × (pages self.new ≡ pages self.old) }
+        ensures cached { OnOk result (cat self.new 0) }
+        ensures still_cached { cat self.old 0 → (cat self.new 0) × (pages self.new ≡ pages self.old) }
         ensures reads { (n : ℕ) → cat self.old n → reads self.new ≤ reads self.old + n }
         ensures asked { (b : Self) → asked b self.old → asked b self.new }
         ensures cause { HasCause (database self.old) (faults self.old) (faults self.new) result };
 
     /// What stands under a key: a relation, a view, an index or a catalogue.
     fn info(&mut self, alloc: Global, key: &RelKey) -> Result<Option<RelInfo>, BaseFault>
-        ensures told { (s : Db) → schema self.old ≡ Some s → IfOk result (λ info. info ≡ known_at s key.now) }
+        ensures known { (s : Db) → schema self.old ≡ Some s → IfOk result (λ info. info ≡ known_at s key.now) }
         ensures by_schema { (s : Db) → schema self.new ≡ Some s → IfOk result (λ info. info ≡ known_at s key.now) }
         ensures kept { database self.new ≡ database self.old }
         ensures stays { (s : Db) → schema self.old ≡ Some s → schema self.new ≡ Some s }
         ensures fixed { IsTrue fixes → OnOk result (IsTrue (is_some (schema self.new))) }
         ensures ready { OnOk result (IsTrue (ready self.new)) }
-        ensures known { OnOk result (cat self.new 0) }
-        ensures still_known { cat self.old 0 → (cat self.new 0) × (pages self.new ≡ pages self.old) }
+        ensures cached { OnOk result (cat self.new 0) }
+        ensures still_cached { cat self.old 0 → (cat self.new 0) × (pages self.new ≡ pages self.old) }
         ensures reads { (n : ℕ) → cat self.old n → reads self.new ≤ reads self.old + n }
         ensures asked { (b : Self) → asked b self.old → asked b self.new }
         ensures cause { HasCause (database self.old) (faults self.old) (faults self.new) result };
@@ -159,26 +159,26 @@ pub trait Base {
     /// How many rows the relation or catalogue under a key has. Our own: so a change of one row
     /// needn't go over all.
     fn size(&mut self, alloc: Global, key: &RelKey) -> Result<u32, BaseFault>
-        ensures told { (db : Db) → database self.old ≡ Some db → IfOk result (λ n. n ≡ length (rows_at db key.now)) }
+        ensures known { (db : Db) → database self.old ≡ Some db → IfOk result (λ n. n ≡ length (rows_at db key.now)) }
         ensures kept { database self.new ≡ database self.old }
         ensures stays { (s : Db) → schema self.old ≡ Some s → schema self.new ≡ Some s }
         ensures fixed { IsTrue fixes → OnOk result (IsTrue (is_some (schema self.new))) }
         ensures ready { OnOk result (IsTrue (ready self.new)) }
-        ensures known { OnOk result (cat self.new 0) }
-        ensures still_known { cat self.old 0 → (cat self.new 0) × (pages self.new ≡ pages self.old) }
+        ensures cached { OnOk result (cat self.new 0) }
+        ensures still_cached { cat self.old 0 → (cat self.new 0) × (pages self.new ≡ pages self.old) }
         ensures reads { (n : ℕ) → cat self.old n → reads self.new ≤ reads self.old + (n + pages self.new key.now) }
         ensures asked { (b : Self) → asked b self.old → asked b self.new }
         ensures cause { HasCause (database self.old) (faults self.old) (faults self.new) result };
 
     /// Whether the relation or catalogue under a key has the row. Our own, as `size`.
     fn has_row(&mut self, alloc: Global, key: &RelKey, row: &Row) -> Result<bool, BaseFault>
-        ensures told { (db : Db) → database self.old ≡ Some db → IfOk result (λ b. b ≡ has (rows_at db key.now) row.now) }
+        ensures known { (db : Db) → database self.old ≡ Some db → IfOk result (λ b. b ≡ has (rows_at db key.now) row.now) }
         ensures kept { database self.new ≡ database self.old }
         ensures stays { (s : Db) → schema self.old ≡ Some s → schema self.new ≡ Some s }
         ensures fixed { IsTrue fixes → OnOk result (IsTrue (is_some (schema self.new))) }
         ensures ready { OnOk result (IsTrue (ready self.new)) }
-        ensures known { OnOk result (cat self.new 0) }
-        ensures still_known { cat self.old 0 → (cat self.new 0) × (pages self.new ≡ pages self.old) }
+        ensures cached { OnOk result (cat self.new 0) }
+        ensures still_cached { cat self.old 0 → (cat self.new 0) × (pages self.new ≡ pages self.old) }
         ensures reads { (n : ℕ) → cat self.old n → reads self.new ≤ reads self.old + (n + pages self.new key.now) }
         ensures asked { (b : Self) → asked b self.old → asked b self.new }
         ensures cause { HasCause (database self.old) (faults self.old) (faults self.new) result };
@@ -194,10 +194,10 @@ pub trait Base {
         probe: &Probe,
         at: &mut Place,
     ) -> Result<Option<Row>, BaseFault>
-        ensures told { (db : Db) → database self.old ≡ Some db
+        ensures known { (db : Db) → database self.old ≡ Some db
             → Gives probe.now (left self.old key.now) at.old at.new result }
         ensures over { (db : Db) → database self.old ≡ Some db → IsOver probe.now (left self.old key.now) at.new result }
-        // Whatever is told, a row of a base relation fits the attributes that the schema gives it.
+        // Whatever is known, a row of a base relation fits the attributes that the schema gives it.
         ensures fits { (s : Db) → schema self.new ≡ Some s → is_relation s key.now ≡ true
             → IfOk result (λ row. ForSome row (λ r. row_fits (attrs_at s key.now) r ≡ true)) }
         ensures same { left self.new ≡ left self.old }
@@ -205,8 +205,8 @@ pub trait Base {
         ensures stays { (s : Db) → schema self.old ≡ Some s → schema self.new ≡ Some s }
         ensures fixed { IsTrue fixes → OnOk result (IsTrue (is_some (schema self.new))) }
         ensures ready { OnOk result (IsTrue (ready self.new)) }
-        ensures known { OnOk result (cat self.new 0) }
-        ensures still_known { cat self.old 0 → (cat self.new 0) × (pages self.new ≡ pages self.old) }
+        ensures cached { OnOk result (cat self.new 0) }
+        ensures still_cached { cat self.old 0 → (cat self.new 0) × (pages self.new ≡ pages self.old) }
         ensures reads { (n : ℕ) → cat self.old n → reads self.new ≤ reads self.old + (n + pages self.new key.now) }
         // The first call, and each one behind it, leaves so much less to read.
         ensures begins { (n : ℕ) → cat self.old n → OnOk result (reads self.new + unread self.new key.now at.new ≤ reads self.old + (n + pages self.new key.now)) }
@@ -216,42 +216,42 @@ pub trait Base {
 
     /// The query of a view; `None` exactly where no view stands under the key.
     fn view(&mut self, alloc: Global, key: &RelKey) -> Result<Option<Query>, BaseFault>
-        ensures told { (s : Db) → schema self.old ≡ Some s → IfOk result (λ q. q ≡ query_at s key.now) }
+        ensures known { (s : Db) → schema self.old ≡ Some s → IfOk result (λ q. q ≡ query_at s key.now) }
         ensures by_schema { (s : Db) → schema self.new ≡ Some s → IfOk result (λ q. q ≡ query_at s key.now) }
         ensures kept { database self.new ≡ database self.old }
         ensures stays { (s : Db) → schema self.old ≡ Some s → schema self.new ≡ Some s }
         ensures fixed { IsTrue fixes → OnOk result (IsTrue (is_some (schema self.new))) }
         ensures ready { OnOk result (IsTrue (ready self.new)) }
-        ensures known { OnOk result (cat self.new 0) }
-        ensures still_known { cat self.old 0 → (cat self.new 0) × (pages self.new ≡ pages self.old) }
+        ensures cached { OnOk result (cat self.new 0) }
+        ensures still_cached { cat self.old 0 → (cat self.new 0) × (pages self.new ≡ pages self.old) }
         ensures reads { (n : ℕ) → cat self.old n → reads self.new ≤ reads self.old + n }
         ensures asked { (b : Self) → asked b self.old → asked b self.new }
         ensures cause { HasCause (database self.old) (faults self.old) (faults self.new) result };
 
     /// The rules of a relation, by number.
     fn rules(&mut self, alloc: Global, key: &RelKey) -> Result<Vec<Rule>, BaseFault>
-        ensures told { (s : Db) → schema self.old ≡ Some s → IfOk result (λ rs. rs.items ≡ rules_on s key.now) }
+        ensures known { (s : Db) → schema self.old ≡ Some s → IfOk result (λ rs. rs.items ≡ rules_on s key.now) }
         ensures by_schema { (s : Db) → schema self.new ≡ Some s → IfOk result (λ rs. rs.items ≡ rules_on s key.now) }
         ensures kept { database self.new ≡ database self.old }
         ensures stays { (s : Db) → schema self.old ≡ Some s → schema self.new ≡ Some s }
         ensures fixed { IsTrue fixes → OnOk result (IsTrue (is_some (schema self.new))) }
         ensures ready { OnOk result (IsTrue (ready self.new)) }
-        ensures known { OnOk result (cat self.new 0) }
-        ensures still_known { cat self.old 0 → (cat self.new 0) × (pages self.new ≡ pages self.old) }
+        ensures cached { OnOk result (cat self.new 0) }
+        ensures still_cached { cat self.old 0 → (cat self.new 0) × (pages self.new ≡ pages self.old) }
         ensures reads { (n : ℕ) → cat self.old n → reads self.new ≤ reads self.old + n }
         ensures asked { (b : Self) → asked b self.old → asked b self.new }
         ensures cause { HasCause (database self.old) (faults self.old) (faults self.new) result };
 
     /// The permits of a relation, by number.
     fn permits(&mut self, alloc: Global, key: &RelKey) -> Result<Vec<Permit>, BaseFault>
-        ensures told { (s : Db) → schema self.old ≡ Some s → IfOk result (λ ps. ps.items ≡ permits_on s key.now) }
+        ensures known { (s : Db) → schema self.old ≡ Some s → IfOk result (λ ps. ps.items ≡ permits_on s key.now) }
         ensures by_schema { (s : Db) → schema self.new ≡ Some s → IfOk result (λ ps. ps.items ≡ permits_on s key.now) }
         ensures kept { database self.new ≡ database self.old }
         ensures stays { (s : Db) → schema self.old ≡ Some s → schema self.new ≡ Some s }
         ensures fixed { IsTrue fixes → OnOk result (IsTrue (is_some (schema self.new))) }
         ensures ready { OnOk result (IsTrue (ready self.new)) }
-        ensures known { OnOk result (cat self.new 0) }
-        ensures still_known { cat self.old 0 → (cat self.new 0) × (pages self.new ≡ pages self.old) }
+        ensures cached { OnOk result (cat self.new 0) }
+        ensures still_cached { cat self.old 0 → (cat self.new 0) × (pages self.new ≡ pages self.old) }
         ensures reads { (n : ℕ) → cat self.old n → reads self.new ≤ reads self.old + n }
         ensures asked { (b : Self) → asked b self.old → asked b self.new }
         ensures cause { HasCause (database self.old) (faults self.old) (faults self.new) result };
@@ -263,14 +263,14 @@ pub trait Base {
         key: &RelKey,
         but: &[RelKey],
     ) -> Result<bool, BaseFault>
-        ensures told { (s : Db) → schema self.old ≡ Some s → IfOk result (λ b. b ≡ is_named_by_view s but.now key.now) }
+        ensures known { (s : Db) → schema self.old ≡ Some s → IfOk result (λ b. b ≡ is_named_by_view s but.now key.now) }
         ensures by_schema { (s : Db) → schema self.new ≡ Some s → IfOk result (λ b. b ≡ is_named_by_view s but.now key.now) }
         ensures kept { database self.new ≡ database self.old }
         ensures stays { (s : Db) → schema self.old ≡ Some s → schema self.new ≡ Some s }
         ensures fixed { IsTrue fixes → OnOk result (IsTrue (is_some (schema self.new))) }
         ensures ready { OnOk result (IsTrue (ready self.new)) }
-        ensures known { OnOk result (cat self.new 0) }
-        ensures still_known { cat self.old 0 → (cat self.new 0) × (pages self.new ≡ pages self.old) }
+        ensures cached { OnOk result (cat self.new 0) }
+        ensures still_cached { cat self.old 0 → (cat self.new 0) × (pages self.new ≡ pages self.old) }
         ensures reads { (n : ℕ) → cat self.old n → reads self.new ≤ reads self.old + n }
         ensures asked { (b : Self) → asked b self.old → asked b self.new }
         ensures cause { HasCause (database self.old) (faults self.old) (faults self.new) result };
@@ -279,7 +279,7 @@ pub trait Base {
     /// any other fault it is that of before or of after.
     fn apply(&mut self, alloc: Global, change: &DbChange) -> Result<(), BaseFault>
         requires { (db : Db) → database self.old ≡ Some db → IsLawful db change.now }
-        ensures told { (db : Db) → database self.old ≡ Some db → OnOk result (database self.new ≡ Some (laid db change.now)) }
+        ensures known { (db : Db) → database self.old ≡ Some db → OnOk result (database self.new ≡ Some (laid db change.now)) }
         ensures schema { (s now : Db) → schema self.old ≡ Some s → schema self.new ≡ Some now → OnOk result (schema_of now ≡ schema_of (laid s change.now)) }
         ensures fixed { IsTrue fixes → OnOk result (IsTrue (is_some (schema self.new))) }
         ensures no_memory { IsErrOf result BaseFault.OutOfMemory → database self.new ≡ database self.old }

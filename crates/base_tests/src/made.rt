@@ -72,8 +72,8 @@ pub(crate) fn laid<R: Abort>(rt: &R, alloc: Global, changes: &[&[u8]]) -> DbPlai
     base
 }
 
-/// A base that tells no database, and knows what these changes make.
-pub(crate) fn untold<R: Abort>(rt: &R, alloc: Global, changes: &[&[u8]]) -> TestBase {
+/// A base that has no database that is known, and of its schema what these changes make.
+pub(crate) fn unknown<R: Abort>(rt: &R, alloc: Global, changes: &[&[u8]]) -> TestBase {
     let mut base = TestBase::of_entries(alloc, 0);
     let given = base.give_all(alloc, changes);
     assert!(rt; given.is_ok());

@@ -17,13 +17,13 @@ use disk_model::{Addr, Disk, DiskFailed, Page};
 /// Writes the head of a batch and opens its gate.
 fn open_gate<D: Disk>(disk: &mut D, count: u32) -> Result<(), DiskFailed>
     requires some { 0 < count }
-    requires shut { IsTrue D.tells → IsShut (D.seen disk.old) (D.touched disk.old) }
-    requires whole { IsTrue D.tells → IsWhole (D.seen disk.old) count }
-    ensures crash { IsTrue D.tells → LeavesOnly D.clock D.left_since disk.old disk.new
+    requires shut { IsTrue D.is_known → IsShut (D.seen disk.old) (D.touched disk.old) }
+    requires whole { IsTrue D.is_known → IsWhole (D.seen disk.old) count }
+    ensures crash { IsTrue D.is_known → LeavesOnly D.clock D.left_since disk.old disk.new
         (BeforeOrAfter (D.seen disk.old) (D.touched disk.old) (entries (D.seen disk.old) count)) }
-    ensures opened { IsTrue D.tells →
+    ensures opened { IsTrue D.is_known →
         OnOk result (IsOpen (D.seen disk.new) (D.touched disk.new) count) }
-    ensures same { IsTrue D.tells →
+    ensures same { IsTrue D.is_known →
         OnOk result (redone (D.seen disk.new)
         ≡ redone (laid (entries (D.seen disk.old) count) (D.seen disk.old))) }
     ensures made { OnOk result (CameSo (D.history disk.old) (D.history disk.new) (Opens (Heads count))) }
@@ -39,21 +39,21 @@ fn open_gate<D: Disk>(disk: &mut D, count: u32) -> Result<(), DiskFailed>
     Ok(())
 }
 
-/// Lays a batch whose addresses and images are on the disk. `Damaged` never comes where the disk tells
+/// Lays a batch whose addresses and images are on the disk. `Damaged` never comes where the disk's content is known
 /// what it holds: an image or an address that was written isn't there when it is read, and no call
 /// failed. The gate then stays open, so that the next restore says the same.
 pub fn lay<D: Disk>(disk: &mut D, count: u32) -> Result<(), RestoreFault>
     requires some { 0 < count }
-    requires shut { IsTrue D.tells → IsShut (D.seen disk.old) (D.touched disk.old) }
-    requires whole { IsTrue D.tells → IsWhole (D.seen disk.old) count }
-    ensures crash { IsTrue D.tells → LeavesOnly D.clock D.left_since disk.old disk.new
+    requires shut { IsTrue D.is_known → IsShut (D.seen disk.old) (D.touched disk.old) }
+    requires whole { IsTrue D.is_known → IsWhole (D.seen disk.old) count }
+    ensures crash { IsTrue D.is_known → LeavesOnly D.clock D.left_since disk.old disk.new
         (BeforeOrAfter (D.seen disk.old) (D.touched disk.old) (entries (D.seen disk.old) count)) }
-    ensures laid { IsTrue D.tells →
+    ensures laid { IsTrue D.is_known →
         OnOk result (kept (D.seen disk.new)
         ≡ kept (laid (entries (D.seen disk.old) count) (D.seen disk.old))) }
-    ensures closed { IsTrue D.tells →
+    ensures closed { IsTrue D.is_known →
         OnOk result (IsClosed (D.seen disk.new) (D.touched disk.new)) }
-    ensures whole { IsTrue D.tells → (result ≡ Err RestoreFault.Disk) ⊎ (result ≡ Ok record {}) }
+    ensures whole { IsTrue D.is_known → (result ≡ Err RestoreFault.Disk) ⊎ (result ≡ Ok record {}) }
     ensures made { OnOk result
         (CameSo (D.history disk.old) (D.history disk.new) (Lays (Heads count) count)) }
     ensures cause { FailsBy (D.faults disk.old) (D.faults disk.new) result }

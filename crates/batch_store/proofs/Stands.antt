@@ -17,7 +17,7 @@ use Rattle.batch_file.proofs.Collecting.{all_places}
 use Rattle.batch_file.proofs.Listing.{length-entries}
 use Rattle.access_traits.specs.Pages.{with_page}
 use Rattle.batch_store.specs.Numbers.{number_of, last_for, AreBelow, AreNumbered}
-use Rattle.batch_store.specs.Standing.{standing, told}
+use Rattle.batch_store.specs.Standing.{standing, known}
 use Rattle.batch_store.proofs.Numbering.{latest_none, latest_image, last_for-append, last_for-renewed, latest-renewed}
 
 place_kept : (b : Addr) → is_place b ≡ true → is_kept b.file ≡ true
@@ -38,9 +38,9 @@ laid_kept cs m all = λ i b. at b (is_kept b.file) refl i
     at b true is = refl
     at b false is = sym (latest_off cs b None (λ h. let e = place_kept b (all_places cs all b h) in let t : true ≡ false = sym e ∙ is in cc t))
 
-pub told_is : (tells : Bool) (m : Image) (batch : Batch) → IsTrue tells → told tells m batch ≡ Some (standing m batch)
-told_is true m batch is = refl
-told_is false m batch is = absurd (cc is)
+pub known_is : (is_known : Bool) (m : Image) (batch : Batch) → IsTrue is_known → known is_known m batch ≡ Some (standing m batch)
+known_is true m batch is = refl
+known_is false m batch is = absurd (cc is)
 
 pub staged_length : (m : Image) (batch : Batch) → length (staged m batch) ≡ size_of batch
 staged_length m batch = length-entries (entry (completed m batch)) (size_of batch)
@@ -143,8 +143,8 @@ kept_promise (Ok x) P ok so = so
 kept_promise (Err e) P ok so = absurd (cc ok)
 
 -- the pages while nothing was put
-pub fresh_pages : (tells : Bool) (m : Image) (batch : Batch) → IsTrue tells → staged m batch ≡ [] → told tells m batch ≡ Some (kept m)
-fresh_pages tells m batch is none = told_is tells m batch is ∙ ap Some (standing_fresh m batch none)
+pub fresh_pages : (is_known : Bool) (m : Image) (batch : Batch) → IsTrue is_known → staged m batch ≡ [] → known is_known m batch ≡ Some (kept m)
+fresh_pages is_known m batch is none = known_is is_known m batch is ∙ ap Some (standing_fresh m batch none)
 
 pub staged_none : (m : Image) (batch : Batch) → size_of batch ≡ 0 → staged m batch ≡ []
 staged_none m batch none = ap (entries_of (entry (completed m batch))) none
@@ -152,30 +152,30 @@ staged_none m batch none = ap (entries_of (entry (completed m batch))) none
 pub staged_fresh : (m : Image) (batch fresh : Batch) → batch ≡ fresh → size_of fresh ≡ 0 → staged m batch ≡ []
 staged_fresh m batch fresh same none = staged_none m batch (ap size_of same ∙ none)
 
--- what is told is told by a disk that tells, and is what stands
-pub told_so : (tells : Bool) (m pages : Image) (batch : Batch) → told tells m batch ≡ Some pages → IsTrue tells × (standing m batch ≡ pages)
-told_so true m pages batch is = (refl, cc is)
-told_so false m pages batch is = absurd (cc is)
+-- what is known is told by a disk that tells, and is what stands
+pub known_so : (is_known : Bool) (m pages : Image) (batch : Batch) → known is_known m batch ≡ Some pages → IsTrue is_known × (standing m batch ≡ pages)
+known_so true m pages batch is = (refl, cc is)
+known_so false m pages batch is = absurd (cc is)
 
-pub empty_so : (tells : Bool) (m pages : Image) (batch : Batch) → size_of batch ≡ 0 → told tells m batch ≡ Some pages → kept m ≡ pages
-empty_so tells m pages batch none is =
-    let so = told_so tells m pages batch is in
+pub empty_so : (is_known : Bool) (m pages : Image) (batch : Batch) → size_of batch ≡ 0 → known is_known m batch ≡ Some pages → kept m ≡ pages
+empty_so is_known m pages batch none is =
+    let so = known_so is_known m pages batch is in
     sym (standing_fresh m batch (staged_none m batch none)) ∙ so.1
 
--- a batch that was laid makes the pages that were told
-pub laid_so : {T E : Type 0} (result : Result T E) (tells : Bool) (m next pages : Image) (batch taken : Batch) → taken ≡ batch → told tells m batch ≡ Some pages
-    → (IsTrue tells → OnOk result (kept next ≡ kept (laid (staged m taken) m))) → OnOk result (kept next ≡ pages)
+-- a batch that was laid makes the pages that were known
+pub laid_so : {T E : Type 0} (result : Result T E) (is_known : Bool) (m next pages : Image) (batch taken : Batch) → taken ≡ batch → known is_known m batch ≡ Some pages
+    → (IsTrue is_known → OnOk result (kept next ≡ kept (laid (staged m taken) m))) → OnOk result (kept next ≡ pages)
 unfolding standing
-laid_so (Ok done) tells m next pages batch taken same is laid_ =
-    let so = told_so tells m pages batch is in
+laid_so (Ok done) is_known m next pages batch taken same is laid_ =
+    let so = known_so is_known m pages batch is in
     laid_ so.0 ∙ ap (λ (b : Batch). standing m b) same ∙ so.1
-laid_so (Err e) tells m next pages batch taken same is laid_ = tt
+laid_so (Err e) is_known m next pages batch taken same is laid_ = tt
 
-pub begun_so : {T E : Type 0} (result : Result T E) (tells : Bool) (next pages : Image) (fresh : Batch) → IsTrue tells → staged next fresh ≡ [] → OnOk result (kept next ≡ pages) → OnOk result (told tells next fresh ≡ Some pages)
-begun_so (Ok done) tells next pages fresh is none are = fresh_pages tells next fresh is none ∙ ap Some are
-begun_so (Err e) tells next pages fresh is none are = tt
+pub begun_so : {T E : Type 0} (result : Result T E) (is_known : Bool) (next pages : Image) (fresh : Batch) → IsTrue is_known → staged next fresh ≡ [] → OnOk result (kept next ≡ pages) → OnOk result (known is_known next fresh ≡ Some pages)
+begun_so (Ok done) is_known next pages fresh is none are = fresh_pages is_known next fresh is none ∙ ap Some are
+begun_so (Err e) is_known next pages fresh is none are = tt
 
--- the pages that are told are those of the disk with the changes laid over them
-pub told_laid : (tells : Bool) (m pages : Image) (batch : Batch) → told tells m batch ≡ Some pages → kept (laid (staged m batch) m) ≡ pages
+-- the pages that are known are those of the disk with the changes laid over them
+pub known_laid : (is_known : Bool) (m pages : Image) (batch : Batch) → known is_known m batch ≡ Some pages → kept (laid (staged m batch) m) ≡ pages
 unfolding standing
-told_laid tells m pages batch is = let so = told_so tells m pages batch is in so.1
+known_laid is_known m pages batch is = let so = known_so is_known m pages batch is in so.1

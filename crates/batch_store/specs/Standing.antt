@@ -9,9 +9,9 @@ use Rattle.batch_file.specs.Staged.{staged}
 unfoldable pub standing : Image → Batch → Image
 standing m batch = kept (laid (staged m batch) m)
 
--- these pages, where the disk tells what it holds
-abbrev pub told : Bool → Image → Batch → Option Image
-told tells m batch = if tells then Some (standing m batch) else None
+-- these pages, where the content of the disk is known
+abbrev pub known : Bool → Image → Batch → Option Image
+known is_known m batch = if is_known then Some (standing m batch) else None
 
 -- an image has, redone, these pages or those
 abbrev pub IsOneOf : Image → Image → Image → Type 0

@@ -38,11 +38,11 @@ pub(crate) fn read_page<D: Disk>(
     out: &mut Page,
 ) -> Result<bool, DiskFailed>
     requires below { AreBelow numbers.now batch.now }
-    requires held { IsTrue D.tells → Holds (D.seen disk.old) batch.now }
-    requires numbered { IsTrue D.tells → AreNumbered numbers.now (staged (D.seen disk.old) batch.now) }
-    ensures page { IsTrue D.tells →
+    requires held { IsTrue D.is_known → Holds (D.seen disk.old) batch.now }
+    requires numbered { IsTrue D.is_known → AreNumbered numbers.now (staged (D.seen disk.old) batch.now) }
+    ensures page { IsTrue D.is_known →
         IfOk result (λ found. standing (D.seen disk.old) batch.now a ≡ (if found then Some out.new else None)) }
-    ensures same { IsTrue D.tells → OnlyReads D.seen D.touched D.clock D.left_since disk.old disk.new }
+    ensures same { IsTrue D.is_known → OnlyReads D.seen D.touched D.clock D.left_since disk.old disk.new }
     ensures reads { RisesUpTo 1 (D.reads disk.old) (D.reads disk.new) }
     ensures cause { HasCause (D.faults disk.old) (D.faults disk.new) result }
 {

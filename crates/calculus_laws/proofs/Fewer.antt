@@ -19,7 +19,7 @@ use Rattle.calculus.specs.Answer.{answer}
 use Rattle.calculus_laws.proofs.Members.{Within, Chosen, choices-Chosen, Chosen-choices, has-In, In-has, In-filter, filter-In}
 use Rattle.calculus_laws.proofs.Given.{given-is, is-given}
 use Rattle.calculus_laws.proofs.Plain.{given_plain}
-use Rattle.calculus_laws.proofs.Through.{rows_told, both_told}
+use Rattle.calculus_laws.proofs.Through.{rows_said, both_said}
 
 chosen_fewer : {X : Type 0} (f g : X → List Row) → ((x : X) → Within (f x) (g x)) → (xs : List X) (e : Env) → Chosen (map f xs) e → Chosen (map g xs) e
 chosen_fewer f g fewer [] [] h = tt
@@ -57,7 +57,7 @@ kept_fewer db who key attrs rows row h = In-filter (may db Free Retrieve attrs k
 
 within_fewer : (db : Db) (who : Who) (n : ℕ) (key : RelKey) (attrs : List ℕ) → Within (rows_within n db who key attrs) (rows_within n db Free key attrs)
 within_fewer db who =
-    both_told (rows_told db who) (rows_told db Free) db (λ n key source other. (attrs : List ℕ) → Within (source attrs) (other attrs)) (record {
+    both_said (rows_said db who) (rows_said db Free) db (λ n key source other. (attrs : List ℕ) → Within (source attrs) (other attrs)) (record {
       nothing = λ n f g key e attrs row h. h;
       kept = λ n f g key relation e attrs. kept_fewer db who key attrs relation.rows;
       view_past = λ key view e attrs row h. h;

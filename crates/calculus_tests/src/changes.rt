@@ -12,7 +12,7 @@ type Numbers<'a> = (&'a [i64], &'a [i64]);
 
 /// What came of an update.
 #[derive(Clone, Copy, PartialEq, Eq)]
-pub enum Told {
+pub enum Outcome {
     /// A change by which so many rows come.
     Comes(usize),
     /// Rows are contended.
@@ -24,12 +24,12 @@ pub enum Told {
 }
 
 /// What came of an update.
-pub fn told_of(made: &Result<Change, ChangeFault>) -> Told {
+pub fn outcome_of(made: &Result<Change, ChangeFault>) -> Outcome {
     match made {
-        Ok(change) => Told::Comes(change.add.len()),
-        Err(ChangeFault::Contended { .. }) => Told::Contended,
-        Err(ChangeFault::TooMany { rows }) => Told::TooMany(*rows),
-        Err(ChangeFault::OutOfMemory) => Told::Wanting,
+        Ok(change) => Outcome::Comes(change.add.len()),
+        Err(ChangeFault::Contended { .. }) => Outcome::Contended,
+        Err(ChangeFault::TooMany { rows }) => Outcome::TooMany(*rows),
+        Err(ChangeFault::OutOfMemory) => Outcome::Wanting,
     }
 }
 
@@ -129,7 +129,7 @@ fn is_contended(
 }
 
 /// What comes of it where so many rows are appended to none.
-fn appended(rt: &impl Abort, alloc: Global, count: i64) -> Told {
+fn appended(rt: &impl Abort, alloc: Global, count: i64) -> Outcome {
     let rows = RowSet::new(alloc);
     let mut pairs = Vec::new(alloc);
     for number in 0..count {
@@ -138,9 +138,9 @@ fn appended(rt: &impl Abort, alloc: Global, count: i64) -> Told {
     let made = set_replace(alloc, &rows, &pairs);
     drop(pairs);
     drop(rows);
-    let told = told_of(&made);
+    let outcome = outcome_of(&made);
     drop(made);
-    told
+    outcome
 }
 
 /// Two rows that are swapped.
@@ -181,6 +181,6 @@ fn rows_are_swapped_and_go_and_come(rt: HostRuntime) {
 fn different_new_rows_and_too_many_rows_are_refused(rt: HostRuntime) {
     let rows: [&[i64]; 3] = [&[1], &[5], &[8]];
     assert!(rt; is_contended(&rt, rt.alloc(), &rows, &REPLACED, [5, 3, 7]));
-    assert!(rt; appended(&rt, rt.alloc(), 100_001) == Told::TooMany(100_001));
-    assert!(rt; appended(&rt, rt.alloc(), 100_000) == Told::Comes(100_000));
+    assert!(rt; appended(&rt, rt.alloc(), 100_001) == Outcome::TooMany(100_001));
+    assert!(rt; appended(&rt, rt.alloc(), 100_000) == Outcome::Comes(100_000));
 }

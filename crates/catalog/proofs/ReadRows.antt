@@ -234,9 +234,9 @@ module _ (law : SpellsItsSchema) (dba : List ℕ) (cat : Catalogue) (found : Opt
 -- ---- keys of entries
 
 -- the entries of a database lie by their files, and the file tells the key
-keys_tell : (db : Db) (f : Files) (e : Entry) → IsIn e (printed db f).entries → e.file ≡ f.file e.key
+keys_decide : (db : Db) (f : Files) (e : Entry) → IsIn e (printed db f).entries → e.file ≡ f.file e.key
 unfolding printed entries_for
-keys_tell db f e at =
+keys_decide db f e at =
     elim (in_either (map (relation_entry f) db.relations) (map (view_entry f) db.views ++ map (index_entry f) db.indexes) e (in_order_in entry_cmp _ e at)) [
       | inl r ↦ (let m = map_in (relation_entry f) db.relations e r in ap (λ (e : Entry). e.file) m.2 ∙ ap (λ (e : Entry). f.file e.key) (sym m.2))
       | inr o ↦ elim (in_either (map (view_entry f) db.views) (map (index_entry f) db.indexes) e o) [
@@ -264,8 +264,8 @@ keys_differ (x ∷ xs) h n =
 pub entry_keys_differ : (dba : List ℕ) (files : ℕ → Pages) (cat : Catalogue) (db : Db) → IsCatalogue cat → spelled dba files cat ≡ Some db → IsDatabase db → differ_by same_key (map (λ e. e.key) cat.entries) ≡ true
 entry_keys_differ dba files cat db is_cat spells is =
     let p = what_is_read_is_printed dba files cat db is_cat spells is in
-    let told = λ (e : Entry) (at : IsIn e cat.entries). keys_tell db (files_in cat) e (subst (λ (c : Catalogue). IsIn e c.entries) p.0 at) in
-    keys_differ cat.entries (λ a b at bt h. told a at ∙ ap (files_in cat).file (same_key_is a.key b.key h) ∙ sym (told b bt)) (sorted_apart entry_cmp cat.entries is_cat.entries_ascend)
+    let known = λ (e : Entry) (at : IsIn e cat.entries). keys_decide db (files_in cat) e (subst (λ (c : Catalogue). IsIn e c.entries) p.0 at) in
+    keys_differ cat.entries (λ a b at bt h. known a at ∙ ap (files_in cat).file (same_key_is a.key b.key h) ∙ sym (known b bt)) (sorted_apart entry_cmp cat.entries is_cat.entries_ascend)
 
 keys_shown : (es : List EntryRow) → map (λ e. e.key) (map entry_in es) ≡ map (λ e. e.key) es
 keys_shown [] = refl

@@ -101,17 +101,17 @@ module _ (c : Catalog) (m : Image) (spells : Spells c m) where
         record { changes = λ places. (prints (files_of now.files) are places).changes; stands = λ places. (prints (files_of now.files) are places).stands }
 
     -- and then the pages spell what is known
-    pub change_spelled : {T E : Type 0} (r : Result T E) (now : Catalog) (old told : Option Image) → old ≡ Some m → OnOk r (HavePlaces (coming_of made (files_of c.files) file used (database_of c.plain)))
+    pub change_spelled : {T E : Type 0} (r : Result T E) (now : Catalog) (old known : Option Image) → old ≡ Some m → OnOk r (HavePlaces (coming_of made (files_of c.files) file used (database_of c.plain)))
         → OnOk r ((n : Image) (cat : Catalogue) → old ≡ Some n → AreEnds n c.ends → catalogue_in (pages_of n) ≡ Some cat → IndexBases c.files (database_of c.plain) → IsPrepared made (files_of c.files) file used (database_of c.plain) cat
-        → Written n told now.ends (changed (going_of made (files_of c.files) file used (database_of c.plain)) (coming_of made (files_of c.files) file used (database_of c.plain)) cat))
-        → OnOk r (IsKept c now made file used) → OnOk r (SpellsAfter now m told)
-    change_spelled (Err e) now old told is places writes kept = tt
-    change_spelled (Ok x) now old told is places writes kept =
+        → Written n known now.ends (changed (going_of made (files_of c.files) file used (database_of c.plain)) (coming_of made (files_of c.files) file used (database_of c.plain)) cat))
+        → OnOk r (IsKept c now made file used) → OnOk r (SpellsAfter now m known)
+    change_spelled (Err e) now old known is places writes kept = tt
+    change_spelled (Ok x) now old known is places writes kept =
         let written = writes m (printed (database_of c.plain) (files_of c.files)) is spells.ends spells.catalogue spells.bases (spelled_prepared now kept) in
         let its = prints (files_of now.files) (kept_after (database_of c.plain) c.files now.files file used c.plain.is spells.bases made lawful suits kept.places) places in
         record {
           image = written.image;
-          told_still = written.told_still;
+          still_known = written.still_known;
           spells = record {
             catalogue = written.holds ∙ ap Some (its.is ∙ ap (λ (d : Db). printed d (files_of now.files)) (sym kept.plain));
             ends = written.ends_there;
@@ -201,14 +201,14 @@ module _ (c : Catalog) (m : Image) (spells : Spells c m) (key : RelKey) (its : R
       (is_read c m spells).are_parts places))
 
   -- and then the pages spell what is known
-  pub set_spelled : (after : Catalog) (told : Option Image) → database_of after.plain ≡ database_of c.plain → after.files ≡ now
-      → Written m told after.ends (changed (rows_of (files_of c.files) (destroyed (key ∷ []) (database_of c.plain))) (rows_of (files_of now) (destroyed (key ∷ []) (database_of c.plain)))
+  pub set_spelled : (after : Catalog) (known : Option Image) → database_of after.plain ≡ database_of c.plain → after.files ≡ now
+      → Written m known after.ends (changed (rows_of (files_of c.files) (destroyed (key ∷ []) (database_of c.plain))) (rows_of (files_of now) (destroyed (key ∷ []) (database_of c.plain)))
       (printed (database_of c.plain) (files_of c.files)))
-      → SpellsAfter after m told
+      → SpellsAfter after m known
   unfolding going_now coming_now
-  set_spelled after told same files written = record {
+  set_spelled after known same files written = record {
     image = written.image;
-    told_still = written.told_still;
+    still_known = written.still_known;
     spells = record {
       catalogue = written.holds ∙ ap Some (sym renumbers ∙ (λ i. printed (sym same i) (files_of (sym files i))));
       ends = written.ends_there;

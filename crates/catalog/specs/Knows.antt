@@ -48,9 +48,9 @@ KnowsNoneFor c made m a = (db : Db) → IsDatabase db → Knows c m db → IsLaw
 abbrev pub SameHead : Image → Image → Type 0
 SameHead m n = (b : Addr) → b.file ≡ 0 → n b ≡ m b
 
--- The pages are told still, and the catalogue knows the database after a change on them; those of file 0 are as before.
-pub record KnowsAfter (c : Catalog) (before : Image) (told : Option Image) (db : Db) (made : DbChange) : Type 0 where
+-- The pages are still known, and the catalogue knows the database after a change on them; those of file 0 are as before.
+pub record KnowsAfter (c : Catalog) (before : Image) (known : Option Image) (db : Db) (made : DbChange) : Type 0 where
   pub image : Image
-  pub told_still : told ≡ Some image
+  pub still_known : known ≡ Some image
   pub knows : Knows c image (laid db made)
   pub head : SameHead before image

@@ -48,10 +48,10 @@ pub record MayTake (part db : Db) (f : Files) (made : DbChange) (m : Image) : Ty
 abbrev pub NoneMayTake : Db → Files → DbChange → Image → Addr → Type 0
 NoneMayTake part f made m a = (db : Db) → MayTake part db f made m → ⊥
 
--- The pages are told still, and those of relations are as the change asks of the database.
-pub record HasMade (made : DbChange) (db : Db) (f : Files) (file used : ℕ) (before : Image) (told : Option Image) : Type 0 where
+-- The pages are still known, and those of relations are as the change asks of the database.
+pub record HasMade (made : DbChange) (db : Db) (f : Files) (file used : ℕ) (before : Image) (known : Option Image) : Type 0 where
   pub image : Image
-  pub told_still : told ≡ Some image
+  pub still_known : known ≡ Some image
   pub suits : Suits made f file used
   pub makes : MakesPages made db file used before image
 

@@ -20,10 +20,10 @@ pub record LiesOn (c : Catalog) (m : Image) : Type 0 where
       → pages_of over ((files_of c.files).file key) ≡ pages_of m ((files_of c.files).file key)
   pub knows : Knows c over (database_of c.plain)
 
--- The pages are told still, and what is known in memory lies on them; those of file 0 are as before.
-pub record LiesAfter (c : Catalog) (before : Image) (told : Option Image) : Type 0 where
+-- The pages are still known, and what is known in memory lies on them; those of file 0 are as before.
+pub record LiesAfter (c : Catalog) (before : Image) (known : Option Image) : Type 0 where
   pub image : Image
-  pub told_still : told ≡ Some image
+  pub still_known : known ≡ Some image
   pub lies : LiesOn c image
   pub head : SameHead before image
 

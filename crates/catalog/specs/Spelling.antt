@@ -23,10 +23,10 @@ pub record Spells (c : Catalog) (m : Image) : Type 0 where
   pub ends : AreEnds m c.ends
   pub bases : IndexBases c.files (database_of c.plain)
 
--- The pages are told still, and the catalogues spell what is known; pages of other files are as before.
-pub record SpellsAfter (c : Catalog) (before : Image) (told : Option Image) : Type 0 where
+-- The pages are still known, and the catalogues spell what is known; pages of other files are as before.
+pub record SpellsAfter (c : Catalog) (before : Image) (known : Option Image) : Type 0 where
   pub image : Image
-  pub told_still : told ≡ Some image
+  pub still_known : known ≡ Some image
   pub spells : Spells c image
   pub others : SameBesides before image
 

@@ -2,7 +2,7 @@
 
 ghost use Rattle.std.specs.Prelude.{◌≡◌, ◌<◌, ◌⊎◌, true, None, IfOk};
 ghost use Rattle.std.specs.Option.{ForSome};
-ghost use Rattle.am_traits.specs.Told.{known_at};
+ghost use Rattle.am_traits.specs.Known.{known_at};
 ghost use Rattle.calculus.specs.declared.schema.Spec.TheVariants.{Index};
 ghost use Rattle.calculus.specs.Database.{is_relation};
 ghost use Rattle.calculus.specs.Structures.{is_view};

@@ -17,7 +17,7 @@ use Rattle.calculus.proofs.Sets.{Ascends-nil}
 use Rattle.plan_laws.proofs.Kept.{both, each}
 use Rattle.schema_laws.proofs.Alike.{is_relation_alike, entries_alike, attrs_alike}
 use Rattle.schema_laws.proofs.Through.{level_alike}
-use Rattle.schema_laws.proofs.Told.{size_alike, expanded_alike}
+use Rattle.schema_laws.proofs.Known.{size_alike, expanded_alike}
 use Rattle.schema_laws.proofs.SchemaStands.{query_stands_alike, vars_there_alike, row_qual_alike, permit_alike, schema_is_database}
 use Rattle.catalog_laws.specs.Loaded.{loaded_part}
 use Rattle.catalog_laws.proofs.Part.{part, part_if, has_schema}

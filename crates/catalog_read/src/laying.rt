@@ -17,7 +17,7 @@ use std::alloc::Global;
 
 /// Whether the change may be laid.
 fn is_fit(alloc: Global, plain: &mut DbPlain, change: &DbChange) -> Result<bool, OutOfMemory>
-    ensures told { IfOk result (λ fit. fit ≡ change_is_fit (database_of plain.old) change.now) }
+    ensures known { IfOk result (λ fit. fit ≡ change_is_fit (database_of plain.old) change.now) }
     ensures same { database_of plain.new ≡ database_of plain.old }
 {
     match fit_change(alloc, plain, change) {
@@ -28,7 +28,7 @@ fn is_fit(alloc: Global, plain: &mut DbPlain, change: &DbChange) -> Result<bool,
 
 /// Lays the change where it may be laid, and says whether it was.
 fn fit_or_lay(alloc: Global, plain: &mut DbPlain, change: &DbChange) -> Result<bool, OutOfMemory>
-    ensures told { IfOk result (λ done. done ≡ change_is_fit (database_of plain.old) change.now) }
+    ensures known { IfOk result (λ done. done ≡ change_is_fit (database_of plain.old) change.now) }
     ensures laid { IfOk result (λ done. done ≡ true → database_of plain.new ≡ laid (database_of plain.old) change.now) }
     ensures kept { IfOk result (λ done. done ≡ false → database_of plain.new ≡ database_of plain.old) }
 {

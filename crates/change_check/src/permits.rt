@@ -40,7 +40,7 @@ const ALL_RIGHTS: u8 = 15;
 
 /// Whether the administrator is the owner.
 fn is_administrators<B: Base>(alloc: Global, base: &mut B, rel: &RelKey) -> Result<bool, BaseFault>
-    ensures told { (db : Db) → B.schema base.old ≡ Some db → IfOk result (λ own. own ≡ bytes_eq rel.now.owner db.dba) }
+    ensures known { (db : Db) → B.schema base.old ≡ Some db → IfOk result (λ own. own ≡ bytes_eq rel.now.owner db.dba) }
     ensures kept { B.database base.new ≡ B.database base.old }
     ensures stays { (s : Db) → B.schema base.old ≡ Some s → B.schema base.new ≡ Some s }
     ensures asked { (b : B) → B.asked b base.old → B.asked b base.new }
@@ -102,7 +102,7 @@ pub fn row_qual_is_fit<B: Base>(
     rel: &RelKey,
     qual: &QQual,
 ) -> Result<bool, BaseFault>
-    ensures told { (db : Db) → B.schema base.old ≡ Some db → IfOk result (λ fit. fit ≡ (row_qual_stands db rel.now qual.now && row_qual_is_storable qual.now)) }
+    ensures known { (db : Db) → B.schema base.old ≡ Some db → IfOk result (λ fit. fit ≡ (row_qual_stands db rel.now qual.now && row_qual_is_storable qual.now)) }
     ensures kept { B.database base.new ≡ B.database base.old }
     ensures stays { (s : Db) → B.schema base.old ≡ Some s → B.schema base.new ≡ Some s }
     ensures asked { (b : B) → B.asked b base.old → B.asked b base.new }
@@ -122,7 +122,7 @@ pub fn attrs_are_places<B: Base>(
     rel: &RelKey,
     attrs: &[u8],
 ) -> Result<bool, BaseFault>
-    ensures told { (db : Db) → B.schema base.old ≡ Some db → IfOk result (λ fit. fit ≡ list_all (λ a. nat_lt a (length (kinds_at db rel.now))) attrs.now) }
+    ensures known { (db : Db) → B.schema base.old ≡ Some db → IfOk result (λ fit. fit ≡ list_all (λ a. nat_lt a (length (kinds_at db rel.now))) attrs.now) }
     ensures kept { B.database base.new ≡ B.database base.old }
     ensures stays { (s : Db) → B.schema base.old ≡ Some s → B.schema base.new ≡ Some s }
     ensures asked { (b : B) → B.asked b base.old → B.asked b base.new }
@@ -161,7 +161,7 @@ fn permit_number_is_free<B: Base>(
     rel: &RelKey,
     number: u32,
 ) -> Result<bool, BaseFault>
-    ensures told { (db : Db) → B.schema base.old ≡ Some db → IfOk result (λ free. free ≡ number_is_free 100 (permit_numbers db rel.now) number) }
+    ensures known { (db : Db) → B.schema base.old ≡ Some db → IfOk result (λ free. free ≡ number_is_free 100 (permit_numbers db rel.now) number) }
     ensures kept { B.database base.new ≡ B.database base.old }
     ensures stays { (s : Db) → B.schema base.old ≡ Some s → B.schema base.new ≡ Some s }
     ensures asked { (b : B) → B.asked b base.old → B.asked b base.new }
@@ -178,7 +178,7 @@ fn rule_number_is_free<B: Base>(
     rel: &RelKey,
     number: u32,
 ) -> Result<bool, BaseFault>
-    ensures told { (db : Db) → B.schema base.old ≡ Some db → IfOk result (λ free. free ≡ number_is_free 100 (rule_numbers db rel.now) number) }
+    ensures known { (db : Db) → B.schema base.old ≡ Some db → IfOk result (λ free. free ≡ number_is_free 100 (rule_numbers db rel.now) number) }
     ensures kept { B.database base.new ≡ B.database base.old }
     ensures stays { (s : Db) → B.schema base.old ≡ Some s → B.schema base.new ≡ Some s }
     ensures asked { (b : B) → B.asked b base.old → B.asked b base.new }
@@ -195,7 +195,7 @@ fn rule_has_parts<B: Base>(
     rel: &RelKey,
     rule: &Rule,
 ) -> Result<bool, BaseFault>
-    ensures told { (db : Db) → B.schema base.old ≡ Some db → IfOk result (λ fit. fit ≡ (is_relation db rel.now && ((row_qual_stands db rel.now rule.now.qual && row_qual_is_storable rule.now.qual) && number_is_free 100 (rule_numbers db rel.now) rule.now.number))) }
+    ensures known { (db : Db) → B.schema base.old ≡ Some db → IfOk result (λ fit. fit ≡ (is_relation db rel.now && ((row_qual_stands db rel.now rule.now.qual && row_qual_is_storable rule.now.qual) && number_is_free 100 (rule_numbers db rel.now) rule.now.number))) }
     ensures kept { B.database base.new ≡ B.database base.old }
     ensures stays { (s : Db) → B.schema base.old ≡ Some s → B.schema base.new ≡ Some s }
     ensures asked { (b : B) → B.asked b base.old → B.asked b base.new }
@@ -218,7 +218,7 @@ pub(crate) fn rule_is_fit<B: Base>(
     rel: &RelKey,
     rule: &Rule,
 ) -> Result<bool, BaseFault>
-    ensures told { (db : Db) → B.schema base.old ≡ Some db → IfOk result (λ fit. fit ≡ rule_is_fit db rel.now rule.now) }
+    ensures known { (db : Db) → B.schema base.old ≡ Some db → IfOk result (λ fit. fit ≡ rule_is_fit db rel.now rule.now) }
     ensures kept { B.database base.new ≡ B.database base.old }
     ensures stays { (s : Db) → B.schema base.old ≡ Some s → B.schema base.new ≡ Some s }
     ensures asked { (b : B) → B.asked b base.old → B.asked b base.new }
@@ -234,7 +234,7 @@ fn permit_covers<B: Base>(
     rel: &RelKey,
     permit: &Permit,
 ) -> Result<bool, BaseFault>
-    ensures told { (db : Db) → B.schema base.old ≡ Some db → IfOk result (λ fit. fit ≡ (list_all (λ a. nat_lt a (length (kinds_at db rel.now))) permit.now.attrs && (row_qual_stands db rel.now permit.now.qual && row_qual_is_storable permit.now.qual))) }
+    ensures known { (db : Db) → B.schema base.old ≡ Some db → IfOk result (λ fit. fit ≡ (list_all (λ a. nat_lt a (length (kinds_at db rel.now))) permit.now.attrs && (row_qual_stands db rel.now permit.now.qual && row_qual_is_storable permit.now.qual))) }
     ensures kept { B.database base.new ≡ B.database base.old }
     ensures stays { (s : Db) → B.schema base.old ≡ Some s → B.schema base.new ≡ Some s }
     ensures asked { (b : B) → B.asked b base.old → B.asked b base.new }
@@ -252,7 +252,7 @@ fn is_administrators_relation<B: Base>(
     base: &mut B,
     rel: &RelKey,
 ) -> Result<bool, BaseFault>
-    ensures told { (db : Db) → B.schema base.old ≡ Some db → IfOk result (λ own. own ≡ (is_relation db rel.now && bytes_eq rel.now.owner db.dba)) }
+    ensures known { (db : Db) → B.schema base.old ≡ Some db → IfOk result (λ own. own ≡ (is_relation db rel.now && bytes_eq rel.now.owner db.dba)) }
     ensures kept { B.database base.new ≡ B.database base.old }
     ensures stays { (s : Db) → B.schema base.old ≡ Some s → B.schema base.new ≡ Some s }
     ensures asked { (b : B) → B.asked b base.old → B.asked b base.new }
@@ -271,7 +271,7 @@ fn permit_stands<B: Base>(
     rel: &RelKey,
     permit: &Permit,
 ) -> Result<bool, BaseFault>
-    ensures told { (db : Db) → B.schema base.old ≡ Some db → IfOk result (λ fit. fit ≡ ((list_all (λ a. nat_lt a (length (kinds_at db rel.now))) permit.now.attrs && (row_qual_stands db rel.now permit.now.qual && row_qual_is_storable permit.now.qual)) && number_is_free 100 (permit_numbers db rel.now) permit.now.number)) }
+    ensures known { (db : Db) → B.schema base.old ≡ Some db → IfOk result (λ fit. fit ≡ ((list_all (λ a. nat_lt a (length (kinds_at db rel.now))) permit.now.attrs && (row_qual_stands db rel.now permit.now.qual && row_qual_is_storable permit.now.qual)) && number_is_free 100 (permit_numbers db rel.now) permit.now.number)) }
     ensures kept { B.database base.new ≡ B.database base.old }
     ensures stays { (s : Db) → B.schema base.old ≡ Some s → B.schema base.new ≡ Some s }
     ensures asked { (b : B) → B.asked b base.old → B.asked b base.new }
@@ -290,7 +290,7 @@ fn permit_has_parts<B: Base>(
     rel: &RelKey,
     permit: &Permit,
 ) -> Result<bool, BaseFault>
-    ensures told { (db : Db) → B.schema base.old ≡ Some db → IfOk result (λ fit. fit ≡ ((user_is_named permit.now.user && permit_lists_are_storable permit.now) && ((is_relation db rel.now && bytes_eq rel.now.owner db.dba) && ((list_all (λ a. nat_lt a (length (kinds_at db rel.now))) permit.now.attrs && (row_qual_stands db rel.now permit.now.qual && row_qual_is_storable permit.now.qual)) && number_is_free 100 (permit_numbers db rel.now) permit.now.number)))) }
+    ensures known { (db : Db) → B.schema base.old ≡ Some db → IfOk result (λ fit. fit ≡ ((user_is_named permit.now.user && permit_lists_are_storable permit.now) && ((is_relation db rel.now && bytes_eq rel.now.owner db.dba) && ((list_all (λ a. nat_lt a (length (kinds_at db rel.now))) permit.now.attrs && (row_qual_stands db rel.now permit.now.qual && row_qual_is_storable permit.now.qual)) && number_is_free 100 (permit_numbers db rel.now) permit.now.number)))) }
     ensures kept { B.database base.new ≡ B.database base.old }
     ensures stays { (s : Db) → B.schema base.old ≡ Some s → B.schema base.new ≡ Some s }
     ensures asked { (b : B) → B.asked b base.old → B.asked b base.new }
@@ -313,7 +313,7 @@ pub(crate) fn permit_is_fit<B: Base>(
     rel: &RelKey,
     permit: &Permit,
 ) -> Result<bool, BaseFault>
-    ensures told { (db : Db) → B.schema base.old ≡ Some db → IfOk result (λ fit. fit ≡ permit_is_fit db rel.now permit.now) }
+    ensures known { (db : Db) → B.schema base.old ≡ Some db → IfOk result (λ fit. fit ≡ permit_is_fit db rel.now permit.now) }
     ensures kept { B.database base.new ≡ B.database base.old }
     ensures stays { (s : Db) → B.schema base.old ≡ Some s → B.schema base.new ≡ Some s }
     ensures asked { (b : B) → B.asked b base.old → B.asked b base.new }

@@ -20,7 +20,7 @@ pub(crate) fn structure_is_fit<B: Base>(
     to: Spec,
     keys: &[u8],
 ) -> Result<bool, BaseFault>
-    ensures told { (db : Db) → B.schema base.old ≡ Some db → IfOk result (λ fit. fit ≡ structure_is_fit db rel.now to keys.now) }
+    ensures known { (db : Db) → B.schema base.old ≡ Some db → IfOk result (λ fit. fit ≡ structure_is_fit db rel.now to keys.now) }
     ensures kept { B.database base.new ≡ B.database base.old }
     ensures stays { (s : Db) → B.schema base.old ≡ Some s → B.schema base.new ≡ Some s }
     ensures asked { (b : B) → B.asked b base.old → B.asked b base.new }

@@ -54,7 +54,7 @@ fn attrs_are_targets(attrs: &[Attr], targets: &[Target]) -> bool
 
 /// Whether what the variables of a query range over is there.
 fn vars_are_there<B: Base>(alloc: Global, base: &mut B, query: &Query) -> Result<bool, BaseFault>
-    ensures told { (db : Db) → B.schema base.old ≡ Some db → IfOk result (λ there. there ≡ vars_are_there db query.now) }
+    ensures known { (db : Db) → B.schema base.old ≡ Some db → IfOk result (λ there. there ≡ vars_are_there db query.now) }
     ensures kept { B.database base.new ≡ B.database base.old }
     ensures stays { (s : Db) → B.schema base.old ≡ Some s → B.schema base.new ≡ Some s }
     ensures asked { (b : B) → B.asked b base.old → B.asked b base.new }
@@ -72,7 +72,7 @@ fn has_targets(attrs: &[Attr], query: &Query) -> bool
 
 /// Whether the kinds in a query fit, and each target is of its kind.
 pub fn query_stands<B: Base>(alloc: Global, base: &mut B, query: &Query) -> Result<bool, BaseFault>
-    ensures told { (db : Db) → B.schema base.old ≡ Some db → IfOk result (λ stands. stands ≡ query_stands db query.now) }
+    ensures known { (db : Db) → B.schema base.old ≡ Some db → IfOk result (λ stands. stands ≡ query_stands db query.now) }
     ensures kept { B.database base.new ≡ B.database base.old }
     ensures stays { (s : Db) → B.schema base.old ≡ Some s → B.schema base.new ≡ Some s }
     ensures asked { (b : B) → B.asked b base.old → B.asked b base.new }
@@ -105,7 +105,7 @@ fn is_within(measure: &Measure) -> bool
 
 /// Whether a query without aggregates is within the limits of a view once the views in it are put in.
 fn measure_fits<B: Base>(alloc: Global, base: &mut B, query: &Query) -> Result<bool, BaseFault>
-    ensures told { (db : Db) → B.schema base.old ≡ Some db → length (vars_of query.now) ≤ 256 → query_aggregates query.now ≡ [] → IfOk result (λ fits. fits ≡ (nat_le (expanded_variables db query.now) 50 && nat_le (query_size db query.now) 1000)) }
+    ensures known { (db : Db) → B.schema base.old ≡ Some db → length (vars_of query.now) ≤ 256 → query_aggregates query.now ≡ [] → IfOk result (λ fits. fits ≡ (nat_le (expanded_variables db query.now) 50 && nat_le (query_size db query.now) 1000)) }
     ensures kept { B.database base.new ≡ B.database base.old }
     ensures stays { (s : Db) → B.schema base.old ≡ Some s → B.schema base.new ≡ Some s }
     ensures asked { (b : B) → B.asked b base.old → B.asked b base.new }
@@ -126,7 +126,7 @@ fn can_be_stored(query: &Query) -> bool
 
 /// Whether a view of this query, in which no aggregate stands, is within the limits.
 fn view_is_small<B: Base>(alloc: Global, base: &mut B, query: &Query) -> Result<bool, BaseFault>
-    ensures told { (db : Db) → B.schema base.old ≡ Some db → query_aggregates query.now ≡ [] → IfOk result (λ small. small ≡ view_is_small db query.now) }
+    ensures known { (db : Db) → B.schema base.old ≡ Some db → query_aggregates query.now ≡ [] → IfOk result (λ small. small ≡ view_is_small db query.now) }
     ensures kept { B.database base.new ≡ B.database base.old }
     ensures stays { (s : Db) → B.schema base.old ≡ Some s → B.schema base.new ≡ Some s }
     ensures asked { (b : B) → B.asked b base.old → B.asked b base.new }
@@ -144,7 +144,7 @@ fn view_is_small<B: Base>(alloc: Global, base: &mut B, query: &Query) -> Result<
 
 /// Whether a query stands as that of a view, and is within the limits.
 fn query_is_fit<B: Base>(alloc: Global, base: &mut B, query: &Query) -> Result<bool, BaseFault>
-    ensures told { (db : Db) → B.schema base.old ≡ Some db → IfOk result (λ fit. fit ≡ (query_stands db query.now && view_is_small db query.now)) }
+    ensures known { (db : Db) → B.schema base.old ≡ Some db → IfOk result (λ fit. fit ≡ (query_stands db query.now && view_is_small db query.now)) }
     ensures kept { B.database base.new ≡ B.database base.old }
     ensures stays { (s : Db) → B.schema base.old ≡ Some s → B.schema base.new ≡ Some s }
     ensures asked { (b : B) → B.asked b base.old → B.asked b base.new }
@@ -163,7 +163,7 @@ pub fn view_query_is_fit<B: Base>(
     base: &mut B,
     query: &Query,
 ) -> Result<bool, BaseFault>
-    ensures told { (db : Db) → B.schema base.old ≡ Some db → IfOk result (λ fit. fit ≡ (vars_are_there db query.now && (not (is_too_high (query_level db query.now)) && (query_stands db query.now && view_is_small db query.now)))) }
+    ensures known { (db : Db) → B.schema base.old ≡ Some db → IfOk result (λ fit. fit ≡ (vars_are_there db query.now && (not (is_too_high (query_level db query.now)) && (query_stands db query.now && view_is_small db query.now)))) }
     ensures kept { B.database base.new ≡ B.database base.old }
     ensures stays { (s : Db) → B.schema base.old ≡ Some s → B.schema base.new ≡ Some s }
     ensures asked { (b : B) → B.asked b base.old → B.asked b base.new }
@@ -199,7 +199,7 @@ fn view_has_parts<B: Base>(
     info: &RelInfo,
     query: &Query,
 ) -> Result<bool, BaseFault>
-    ensures told { (db : Db) → B.schema base.old ≡ Some db → IfOk result (λ fit. fit ≡ (key_is_free db info.now.key && ((view_info_stands info.now && (attrs_stand info.now.attrs && attrs_are_targets info.now.attrs (targets_of query.now))) && (vars_are_there db query.now && (not (is_too_high (query_level db query.now)) && (query_stands db query.now && view_is_small db query.now)))))) }
+    ensures known { (db : Db) → B.schema base.old ≡ Some db → IfOk result (λ fit. fit ≡ (key_is_free db info.now.key && ((view_info_stands info.now && (attrs_stand info.now.attrs && attrs_are_targets info.now.attrs (targets_of query.now))) && (vars_are_there db query.now && (not (is_too_high (query_level db query.now)) && (query_stands db query.now && view_is_small db query.now)))))) }
     ensures kept { B.database base.new ≡ B.database base.old }
     ensures stays { (s : Db) → B.schema base.old ≡ Some s → B.schema base.new ≡ Some s }
     ensures asked { (b : B) → B.asked b base.old → B.asked b base.new }
@@ -222,7 +222,7 @@ pub(crate) fn view_is_fit<B: Base>(
     info: &RelInfo,
     query: &Query,
 ) -> Result<bool, BaseFault>
-    ensures told { (db : Db) → B.schema base.old ≡ Some db → IfOk result (λ fit. fit ≡ view_is_fit db info.now query.now) }
+    ensures known { (db : Db) → B.schema base.old ≡ Some db → IfOk result (λ fit. fit ≡ view_is_fit db info.now query.now) }
     ensures kept { B.database base.new ≡ B.database base.old }
     ensures stays { (s : Db) → B.schema base.old ≡ Some s → B.schema base.new ≡ Some s }
     ensures asked { (b : B) → B.asked b base.old → B.asked b base.new }

@@ -82,10 +82,10 @@ short_refused db rel columns (Some file) r e = go (nat_lt most_file_bytes (lengt
     go true e = let same : refusal 14 ≡ r = cc e in ap Err same
     go false e = cc e
 
--- what is told of one result is told of another that is the same
-pub told_by : {T : Type 0} (x y : Result T Refusal) (result : Result T CopyFault) → x ≡ y
+-- what is known of one result is known of another that is the same
+pub known_by : {T : Type 0} (x y : Result T Refusal) (result : Result T CopyFault) → x ≡ y
     → Copies (λ t. y ≡ Ok t) (λ r. y ≡ Err r) result → Copies (λ t. x ≡ Ok t) (λ r. x ≡ Err r) result
-told_by {T} x y result e = subst (λ x. Copies (λ t. x ≡ Ok t) (λ r. x ≡ Err r) result) (sym e)
+known_by {T} x y result e = subst (λ x. Copies (λ t. x ≡ Ok t) (λ r. x ≡ Err r) result) (sym e)
 
 pub refused_by : (P Q : Refusal → Type 0) → ((r : Refusal) → P r → Q r) → (fault : CopyFault) → Refuses P fault → Refuses Q fault
 refused_by P Q so (No number) p = so (refusal number) p
@@ -100,16 +100,16 @@ pub from_bytes : (db : Db) (files : Files) (user : List ℕ) (rel : RelKey) (col
     → None ≡ first_cause (owner_causes db user rel) → short_file (fetched files (file_of_constant constant)) ≡ Ok bytes
     → Copies (λ c. rows_from_bytes db rel columns bytes ≡ Ok c) (λ r. rows_from_bytes db rel columns bytes ≡ Err r) result
     → Copies (λ c. copied_from db files user rel columns constant ≡ Ok c) (λ r. copied_from db files user rel columns constant ≡ Err r) result
-from_bytes db files user rel columns constant bytes result e short told =
-    told_by (copied_from db files user rel columns constant) (rows_from_bytes db rel columns bytes) result
-    (unrefused db files user rel columns constant e ∙ short_read db rel columns (fetched files (file_of_constant constant)) bytes short) told
+from_bytes db files user rel columns constant bytes result e short known =
+    known_by (copied_from db files user rel columns constant) (rows_from_bytes db rel columns bytes) result
+    (unrefused db files user rel columns constant e ∙ short_read db rel columns (fetched files (file_of_constant constant)) bytes short) known
 
 -- none were fetched
 pub from_no_bytes : (db : Db) (files : Files) (user : List ℕ) (rel : RelKey) (columns : List CopyCol) (constant : List ℕ) (fault : CopyFault)
     → None ≡ first_cause (owner_causes db user rel) → Refuses (λ r. short_file (fetched files (file_of_constant constant)) ≡ Err r) fault
     → Refuses (λ r. copied_from db files user rel columns constant ≡ Err r) fault
-from_no_bytes db files user rel columns constant fault e told =
-    refused_by _ _ (λ r short. unrefused db files user rel columns constant e ∙ short_refused db rel columns (fetched files (file_of_constant constant)) r short) fault told
+from_no_bytes db files user rel columns constant fault e known =
+    refused_by _ _ (λ r short. unrefused db files user rel columns constant e ∙ short_refused db rel columns (fetched files (file_of_constant constant)) r short) fault known
 
 -- ---- whatever the shelf tells
 
@@ -124,8 +124,8 @@ pub comes_of : (db : Db) (user : List ℕ) (rel : RelKey) (columns : List CopyCo
     → None ≡ first_cause (owner_causes db user rel) → length bytes ≤ most_file_bytes
     → Copies (λ change. rows_from_bytes db rel columns bytes ≡ Ok change) (λ refusal. rows_from_bytes db rel columns bytes ≡ Err refusal) result
     → IfOk result (ComesOf db user rel columns constant)
-comes_of db user rel columns constant bytes (Ok change) none few told = (
+comes_of db user rel columns constant bytes (Ok change) none few known = (
   stored [] (file_of_constant constant) bytes,
-  from_bytes db (stored [] (file_of_constant constant) bytes) user rel columns constant bytes (Ok change) none (some_file constant bytes few) told,
+  from_bytes db (stored [] (file_of_constant constant) bytes) user rel columns constant bytes (Ok change) none (some_file constant bytes few) known,
 )
-comes_of db user rel columns constant bytes (Err fault) none few told = tt
+comes_of db user rel columns constant bytes (Err fault) none few known = tt

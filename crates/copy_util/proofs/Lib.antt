@@ -8,5 +8,5 @@ pub mod Fitting
 pub mod Held
 pub mod Judged
 pub mod RecordRead
-pub mod Told
+pub mod Known
 pub mod Written

@@ -22,13 +22,13 @@ use Rattle.quel_meaning.specs.Columns.{is_copy_form, column_value}
 -- ---- numbers
 
 -- the greatest size of a number that is told apart from greater ones; no domain has it
-abbrev pub most_told : ℕ
-most_told = 10000000000
+abbrev pub most_apart : ℕ
+most_apart = 10000000000
 
 -- the number, or the one of its sign whose size is the greatest told, where its own size is greater
 abbrev pub held : ℤ → ℤ
-held (pos n) = pos (min most_told n)
-held (negsuc n) = neg_ℤ (pos (min most_told (suc n)))
+held (pos n) = pos (min most_apart n)
+held (negsuc n) = neg_ℤ (pos (min most_apart (suc n)))
 
 -- ---- columns
 

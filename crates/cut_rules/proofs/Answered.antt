@@ -33,25 +33,25 @@ use Rattle.cut_rules.proofs.Fitting.{aggregates_fit}
 abbrev IsRefusedFreely : Query → Db → ℕ → Type 0
 IsRefusedFreely q db var = (query_permitted db Free q ≡ false) × IsRefusedIn db Free q var
 
--- no database is told where none could be
-none_told : (told : Option Db) → ((db : Db) → told ≡ Some db → ⊥) → told ≡ None
-none_told None f = refl
-none_told (Some db) f = absurd (f db refl)
+-- no database is known where none could be
+none_known : (known : Option Db) → ((db : Db) → known ≡ Some db → ⊥) → known ≡ None
+none_known None f = refl
+none_known (Some db) f = absurd (f db refl)
 
-fails : (q : Query) (told mid_told : Option Db) (before mid now : ℕ) → mid_told ≡ told → mid ≡ before → ((db : Db) → told ≡ Some db → query_permitted db Free q ≡ true)
-    → (fault : CutFault) → MayFail (IsRefusedFreely q) mid_told mid now fault → MayNotExpand q told before now (unexpanded fault)
-fails q told mid_told before mid now e l free (cut.NoPermit var) c = (none_told told (λ db h. cc (sym (free db h) ∙ (c.1 db (e ∙ h)).0)), c.0 ∙ l)
-fails q told mid_told before mid now e l free cut.TooMany c = (none_told told (λ db h. c.1 db (e ∙ h)), c.0 ∙ l)
-fails q told mid_told before mid now e l free (cut.Base base.Disk) c = omega (arith, c, l)
-fails q told mid_told before mid now e l free (cut.Base (base.Damaged file page)) c = (sym e ∙ c.0, c.1 ∙ l)
-fails q told mid_told before mid now e l free (cut.Base base.OutOfMemory) c = c ∙ l
-fails q told mid_told before mid now e l free cut.OutOfMemory c = c ∙ l
+fails : (q : Query) (known mid_known : Option Db) (before mid now : ℕ) → mid_known ≡ known → mid ≡ before → ((db : Db) → known ≡ Some db → query_permitted db Free q ≡ true)
+    → (fault : CutFault) → MayFail (IsRefusedFreely q) mid_known mid now fault → MayNotExpand q known before now (unexpanded fault)
+fails q known mid_known before mid now e l free (cut.NoPermit var) c = (none_known known (λ db h. cc (sym (free db h) ∙ (c.1 db (e ∙ h)).0)), c.0 ∙ l)
+fails q known mid_known before mid now e l free cut.TooMany c = (none_known known (λ db h. c.1 db (e ∙ h)), c.0 ∙ l)
+fails q known mid_known before mid now e l free (cut.Base base.Disk) c = omega (arith, c, l)
+fails q known mid_known before mid now e l free (cut.Base (base.Damaged file page)) c = (sym e ∙ c.0, c.1 ∙ l)
+fails q known mid_known before mid now e l free (cut.Base base.OutOfMemory) c = c ∙ l
+fails q known mid_known before mid now e l free cut.OutOfMemory c = c ∙ l
 
-pub expand_failed : {S T : Type 0} (q : Query) (told mid_told : Option Db) (before mid now : ℕ) (fault : CutFault) (made : ExpandFault)
-    → HasCause {T = S} (IsRefusedFreely q) mid_told mid now (Err fault) → made ≡ unexpanded fault → mid_told ≡ told → mid ≡ before → ((db : Db) → told ≡ Some db → query_permitted db Free q ≡ true)
-    → HasExpandCause {T = T} q told before now (Err made)
-expand_failed q told mid_told before mid now fault made c m e l free =
-    let k = c.later in record { later = omega (arith, k, l); caused = subst (λ f. MayNotExpand q told before now f) (sym m) (fails q told mid_told before mid now e l free fault c.caused) }
+pub expand_failed : {S T : Type 0} (q : Query) (known mid_known : Option Db) (before mid now : ℕ) (fault : CutFault) (made : ExpandFault)
+    → HasCause {T = S} (IsRefusedFreely q) mid_known mid now (Err fault) → made ≡ unexpanded fault → mid_known ≡ known → mid ≡ before → ((db : Db) → known ≡ Some db → query_permitted db Free q ≡ true)
+    → HasExpandCause {T = T} q known before now (Err made)
+expand_failed q known mid_known before mid now fault made c m e l free =
+    let k = c.later in record { later = omega (arith, k, l); caused = subst (λ f. MayNotExpand q known before now f) (sym m) (fails q known mid_known before mid now e l free fault c.caused) }
 
 -- what isn't put in says nothing of how many variables there are
 pub none_many : (db : Db) (q : Query) (fault : CutFault) (made : ExpandFault) → made ≡ unexpanded fault → HasMany db q made
@@ -65,9 +65,9 @@ none_many db q fault made m = subst (HasMany db q) (sym m) (go fault)
 
 -- ---- behind a first question
 
-pub expand_behind : {T : Type 0} (q : Query) (told mid_told : Option Db) (before mid now : ℕ) (result : Result T ExpandFault) → HasExpandCause q mid_told mid now result → mid_told ≡ told → mid ≡ before
-    → HasExpandCause q told before now result
-expand_behind {T} q told mid_told before mid now result c e m = subst (λ d. HasExpandCause {T = T} q d before now result) e (subst (λ n. HasExpandCause {T = T} q mid_told n now result) m c)
+pub expand_behind : {T : Type 0} (q : Query) (known mid_known : Option Db) (before mid now : ℕ) (result : Result T ExpandFault) → HasExpandCause q mid_known mid now result → mid_known ≡ known → mid ≡ before
+    → HasExpandCause q known before now result
+expand_behind {T} q known mid_known before mid now result c e m = subst (λ d. HasExpandCause {T = T} q d before now result) e (subst (λ n. HasExpandCause {T = T} q mid_known n now result) m c)
 
 -- ---- how many variables
 

@@ -1,4 +1,4 @@
--- What is told of the variables of a query and of an update that are fit.
+-- What is known of the variables of a query and of an update that are fit.
 use Rattle.std.proofs.Common.{◌≡◌, refl, sym, ap, ◌∙◌, subst, ℕ, ◌≤◌, Bool, true, false, cond, ◌&&◌, ◌||◌, nat_le, List, [], ◌∷◌, map, length, Option, Some, None, is_some, option_map, arith}
 use Rattle.std.proofs.lemmas.Bool.Decides.{nat_tests}
 use Rattle.std.specs.Prelude.{slice_get, sum_by, ◌==◌}
@@ -30,7 +30,7 @@ use Rattle.view_text.specs.declared.text.Text.{Text}
 use Rattle.view_text.specs.Texts.{used_text, texts_vars}
 use Rattle.view_text.specs.TextOf.{text_of}
 use Rattle.view_text.specs.PutIn.{changed_text}
-use Rattle.view_expand.proofs.Few.{few_told}
+use Rattle.view_expand.proofs.Few.{few_known}
 use Rattle.calculus_laws.proofs.Enough.{same_key-exact}
 use Rattle.cut_rules.specs.Placed.{read_text, is_small, changed_by, text_in, is_small_in}
 use Rattle.cut_rules.proofs.Listing.{both_true, stands_at, each_small, texts_small, all_so}
@@ -76,7 +76,7 @@ small_there db q place key h used = by (is_any (used_in_query place q)) used h
 used_small : (db : Db) (who : Who) (key : RelKey) (attrs : List ℕ) → length (used_text (text_of db who) key attrs).vars ≤ cond (is_any attrs) (measure_of db key).variables 0
 unfolding text_of measure_of
 used_small db who key [] = let none : 0 ≤ 0 = omega arith in none
-used_small db who key (a ∷ attrs) = few_told db who greatest_level key (a ∷ attrs)
+used_small db who key (a ∷ attrs) = few_known db who greatest_level key (a ∷ attrs)
 
 pub small_texts : (db : Db) (who : Who) (q : Query) → expanded_variables db q ≤ 50 → length (texts_vars (map (read_text db who q) (enumerate_from 0 (vars_of q)))) ≤ 256
 small_texts db who q h =

@@ -19,7 +19,7 @@ use Rattle.calculus.specs.Used.{used_in_query, used_in_aggregate, used_vars}
 use Rattle.calculus.specs.Sizes.{measure_of, level_within, level_of}
 use Rattle.calculus.specs.Permission.{Reads, vars_permitted, permitted_within, readable, source_permitted, query_permitted}
 use Rattle.calculus_laws.proofs.Members.{In}
-use Rattle.calculus_laws.proofs.Through.{CarriesBoth, permitted_told, level_told, told_at, both_told}
+use Rattle.calculus_laws.proofs.Through.{CarriesBoth, permitted_said, level_said, said_at, both_said}
 use Rattle.calculus_laws.proofs.Enough.{all_there, same_key-exact, viewed}
 use Rattle.calculus_laws.proofs.ViewAnswer.{found}
 use Rattle.quel_meaning.specs.FitQueries.{kept_or_viewed, can_be_ranged_over, source_fits, sources_fit, reads_fit}
@@ -47,7 +47,7 @@ bare : (db : Db) (attrs : List ℕ) (key : RelKey) → permitted db Free Retriev
 unfolding permitted
 bare db attrs key = refl
 
-carried : (db : Db) → CarriesBoth (permitted_told db Free) level_told db (λ n key reads level. is_some level ≡ true → (attrs : List ℕ) → reads attrs ≡ true)
+carried : (db : Db) → CarriesBoth (permitted_said db Free) level_said db (λ n key reads level. is_some level ≡ true → (attrs : List ℕ) → reads attrs ≡ true)
 carried db = record {
   nothing = λ n f g key e h. cc h;
   kept = λ n f g key relation e h attrs. bare db attrs key;
@@ -57,7 +57,7 @@ carried db = record {
 }
 
 through_levels : (db : Db) (n : ℕ) (key : RelKey) → is_some (level_within n db key) ≡ true → (attrs : List ℕ) → permitted_within n db Free key attrs ≡ true
-through_levels db n key = both_told (permitted_told db Free) level_told db (λ n key reads level. is_some level ≡ true → (attrs : List ℕ) → reads attrs ≡ true) (carried db) n key
+through_levels db n key = both_said (permitted_said db Free) level_said db (λ n key reads level. is_some level ≡ true → (attrs : List ℕ) → reads attrs ≡ true) (carried db) n key
 
 -- ---- what is there has a level
 
@@ -70,7 +70,7 @@ has_level db d key h = by (range_at db key) refl h
   where
     by : (r : Option Range) → range_at db key ≡ r → is_some r ≡ true → is_some (level_within greatest_level db key) ≡ true
     by None e h = cc h
-    by (Some (Kept relation)) e h = ap is_some (told_at level_told greatest_level db key (Some (Kept relation)) e)
+    by (Some (Kept relation)) e h = ap is_some (said_at level_said greatest_level db key (Some (Kept relation)) e)
     by (Some (Viewed view)) e h =
         let (inside, same) = found (λ v. same_key v.info.key key) db.views view (viewed db key view e) in
         subst (λ k. is_some (level_within greatest_level db k) ≡ true) (same_key-exact view.info.key key same)

@@ -1,4 +1,4 @@
--- Lists of variables, by their places: what is told of those that pass a test, and of all of them.
+-- Lists of variables, by their places: what is known of those that pass a test, and of all of them.
 use Rattle.std.proofs.Common.{◌≡◌, inl, inr, refl, sym, ap, ◌∙◌, subst, ℕ, zero, suc, ◌+◌, ◌≤◌, Bool, true, false, cond, ◌&&◌, nat_le, List, [], ◌∷◌, ◌++◌, map, filter, length, length-append, append_assoc, Some, Contains, arith}
 use Rattle.std.proofs.lemmas.Bool.Decides.{nat_tests}
 use Rattle.std.proofs.lemmas.List.Sums.{sum_by-cons}
@@ -108,9 +108,9 @@ texts_small test f text (x ∷ xs) h =
 
 -- ---- one more
 
-pub next_told : (text : ℕ × RelKey → Text) (n : ℕ) (key : RelKey) (rest keys : List RelKey) (made all now : List Text) (t : Text) → rest ≡ key ∷ keys → t ≡ text (n, key) → now ≡ made ++ t ∷ []
+pub next_known : (text : ℕ × RelKey → Text) (n : ℕ) (key : RelKey) (rest keys : List RelKey) (made all now : List Text) (t : Text) → rest ≡ key ∷ keys → t ≡ text (n, key) → now ≡ made ++ t ∷ []
     → made ++ map text (enumerate_from n rest) ≡ all → now ++ map text (enumerate_from (n + 1) keys) ≡ all
-next_told text n key rest keys made all now t r e m h =
+next_known text n key rest keys made all now t r e m h =
     ap (λ ts. ts ++ map text (enumerate_from (n + 1) keys)) m ∙ append_assoc made (t ∷ []) (map text (enumerate_from (n + 1) keys))
     ∙ ap (λ t. made ++ t ∷ map text (enumerate_from (n + 1) keys)) e ∙ sym (ap (λ ks. made ++ map text (enumerate_from n ks)) r) ∙ h
 

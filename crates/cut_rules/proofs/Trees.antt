@@ -1,4 +1,4 @@
--- What is told of a tree by what it is.
+-- What is known of a tree by what it is.
 use Rattle.std.proofs.Common.{◌≡◌, sym, ap, ◌∙◌, subst, ℕ, true, false, List, map, Result, Ok, Err, IfOk, Contains}
 use Rattle.std.specs.List.{list_all}
 use Rattle.calculus.specs.declared.request.Asked.{Asked}

@@ -129,7 +129,7 @@ fn put_aggregate<B: Base>(
     requires scoped { list_all is_scoped texts.now ≡ true }
     requires fits { length (texts_vars texts.now) ≤ 256 }
     requires found { (db : Db) → B.database base.old ≡ Some db → IsFound db (who_of (option_map (λ n. n.now) who)) found.old }
-    ensures told { (db : Db) → B.database base.old ≡ Some db → IfOk result (λ made. made ≡ put_aggregate db (who_of (option_map (λ n. n.now) who.entry)) (put_from 0 texts.now) g.now) }
+    ensures known { (db : Db) → B.database base.old ≡ Some db → IfOk result (λ made. made ≡ put_aggregate db (who_of (option_map (λ n. n.now) who.entry)) (put_from 0 texts.now) g.now) }
     ensures permitted { (db : Db) → B.database base.old ≡ Some db → OnOk result (source_permitted (readable db (who_of (option_map (λ n. n.now) who.entry))) (used_in_aggregate g.now) g.now.source ≡ true) }
     ensures found { (db : Db) → B.database base.old ≡ Some db → IsFound db (who_of (option_map (λ n. n.now) who.entry)) found.new }
     ensures kept { B.database base.new ≡ B.database base.old }
@@ -161,7 +161,7 @@ fn put_all<B: Base>(
     requires scoped { list_all is_scoped texts.now ≡ true }
     requires fits { length (texts_vars texts.now) ≤ 256 }
     requires found { (db : Db) → B.database base.old ≡ Some db → IsFound db (who_of (option_map (λ n. n.now) who)) found.old }
-    ensures told { (db : Db) → B.database base.old ≡ Some db → OnOk result (made.new.items ≡ made.old.items ++ map (λ g. put_aggregate db (who_of (option_map (λ n. n.now) who.entry)) (put_from 0 texts.now) g.now) aggregates.now) }
+    ensures known { (db : Db) → B.database base.old ≡ Some db → OnOk result (made.new.items ≡ made.old.items ++ map (λ g. put_aggregate db (who_of (option_map (λ n. n.now) who.entry)) (put_from 0 texts.now) g.now) aggregates.now) }
     ensures permitted { (db : Db) → B.database base.old ≡ Some db → OnOk result (list_all (λ g. source_permitted (readable db (who_of (option_map (λ n. n.now) who.entry))) (used_in_aggregate g.now) g.now.source) aggregates.now ≡ true) }
     ensures found { (db : Db) → B.database base.old ≡ Some db → IsFound db (who_of (option_map (λ n. n.now) who.entry)) found.new }
     ensures kept { B.database base.new ≡ B.database base.old }
@@ -193,7 +193,7 @@ pub(crate) fn put_aggregates<B: Base>(
     requires scoped { list_all is_scoped texts.now ≡ true }
     requires fits { length (texts_vars texts.now) ≤ 256 }
     requires found { (db : Db) → B.database base.old ≡ Some db → IsFound db (who_of (option_map (λ n. n.now) who)) found.old }
-    ensures told { (db : Db) → B.database base.old ≡ Some db → IfOk result (λ made. made.items ≡ map (put_aggregate db (who_of (option_map (λ n. n.now) who.entry)) (put_from 0 texts.now)) (query_aggregates query.now)) }
+    ensures known { (db : Db) → B.database base.old ≡ Some db → IfOk result (λ made. made.items ≡ map (put_aggregate db (who_of (option_map (λ n. n.now) who.entry)) (put_from 0 texts.now)) (query_aggregates query.now)) }
     ensures permitted { (db : Db) → B.database base.old ≡ Some db → OnOk result (aggregates_permitted (readable db (who_of (option_map (λ n. n.now) who.entry))) query.now ≡ true) }
     ensures found { (db : Db) → B.database base.old ≡ Some db → IsFound db (who_of (option_map (λ n. n.now) who.entry)) found.new }
     ensures kept { B.database base.new ≡ B.database base.old }

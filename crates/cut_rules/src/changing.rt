@@ -70,7 +70,7 @@ pub(crate) fn put_cut<B: Base>(
     found: &mut TextsFound,
 ) -> Result<(), TextFault>
     requires found { (db : Db) → B.database base.old ≡ Some db → IsFound db (who_of (option_map (λ n. n.now) who)) found.old }
-    ensures told { (db : Db) → B.database base.old ≡ Some db → OnOk result (conditions.new.items ≡ conditions.old.items ++ cut db (who_of (option_map (λ n. n.now) who.entry)) (right_of right) attrs.now key.now) }
+    ensures known { (db : Db) → B.database base.old ≡ Some db → OnOk result (conditions.new.items ≡ conditions.old.items ++ cut db (who_of (option_map (λ n. n.now) who.entry)) (right_of right) attrs.now key.now) }
     ensures permitted { (db : Db) → B.database base.old ≡ Some db → OnOk result (permitted db (who_of (option_map (λ n. n.now) who.entry)) (right_of right) attrs.now key.now ≡ true) }
     ensures within { list_all (is_qual_within 1) conditions.old.items ≡ true → OnOk result (list_all (is_qual_within 1) conditions.new.items ≡ true) }
     ensures found { (db : Db) → B.database base.old ≡ Some db → IsFound db (who_of (option_map (λ n. n.now) who.entry)) found.new }
@@ -99,7 +99,7 @@ fn put_read_cut<B: Base>(
     found: &mut TextsFound,
 ) -> Result<(), TextFault>
     requires found { (db : Db) → B.database base.old ≡ Some db → IsFound db (who_of (option_map (λ n. n.now) who)) found.old }
-    ensures told { (db : Db) → B.database base.old ≡ Some db → OnOk result (quals.new.items ≡ quals.old.items ++ read_cut db (who_of (option_map (λ n. n.now) who.entry)) read.now key.now) }
+    ensures known { (db : Db) → B.database base.old ≡ Some db → OnOk result (quals.new.items ≡ quals.old.items ++ read_cut db (who_of (option_map (λ n. n.now) who.entry)) read.now key.now) }
     ensures permitted { (db : Db) → B.database base.old ≡ Some db → OnOk result (read_permitted db (who_of (option_map (λ n. n.now) who.entry)) read.now key.now ≡ true) }
     ensures within { list_all (is_qual_within 1) quals.old.items ≡ true → OnOk result (list_all (is_qual_within 1) quals.new.items ≡ true) }
     ensures found { (db : Db) → B.database base.old ≡ Some db → IsFound db (who_of (option_map (λ n. n.now) who.entry)) found.new }
@@ -127,7 +127,7 @@ fn put_cuts<B: Base>(
     found: &mut TextsFound,
 ) -> Result<(), TextFault>
     requires found { (db : Db) → B.database base.old ≡ Some db → IsFound db (who_of (option_map (λ n. n.now) who)) found.old }
-    ensures told { (db : Db) → B.database base.old ≡ Some db → OnOk result (conditions.new.items ≡ conditions.old.items ++ (cut db (who_of (option_map (λ n. n.now) who.entry)) (right_of right) places.now key.now ++ read_cut db (who_of (option_map (λ n. n.now) who.entry)) read.now key.now)) }
+    ensures known { (db : Db) → B.database base.old ≡ Some db → OnOk result (conditions.new.items ≡ conditions.old.items ++ (cut db (who_of (option_map (λ n. n.now) who.entry)) (right_of right) places.now key.now ++ read_cut db (who_of (option_map (λ n. n.now) who.entry)) read.now key.now)) }
     ensures permitted { (db : Db) → B.database base.old ≡ Some db → OnOk result (change_permitted db (who_of (option_map (λ n. n.now) who.entry)) (right_of right) places.now key.now read.now ≡ true) }
     ensures within { list_all (is_qual_within 1) conditions.old.items ≡ true → OnOk result (list_all (is_qual_within 1) conditions.new.items ≡ true) }
     ensures found { (db : Db) → B.database base.old ≡ Some db → IsFound db (who_of (option_map (λ n. n.now) who.entry)) found.new }
@@ -184,7 +184,7 @@ pub(crate) fn changed_text<B: Base>(
     found: &mut TextsFound,
 ) -> Result<Text, TextFault>
     requires found { (db : Db) → B.database base.old ≡ Some db → IsFound db (who_of (option_map (λ n. n.now) who)) found.old }
-    ensures told { (db : Db) → B.database base.old ≡ Some db → IfOk result (λ text. text ≡ changed_text db (who_of (option_map (λ n. n.now) who.entry)) (right_of right) places.now read.now key.now) }
+    ensures known { (db : Db) → B.database base.old ≡ Some db → IfOk result (λ text. text ≡ changed_text db (who_of (option_map (λ n. n.now) who.entry)) (right_of right) places.now read.now key.now) }
     ensures permitted { (db : Db) → B.database base.old ≡ Some db → OnOk result (change_permitted db (who_of (option_map (λ n. n.now) who.entry)) (right_of right) places.now key.now read.now ≡ true) }
     ensures scoped { IfOk result (λ text. is_scoped text ≡ true) }
     ensures found { (db : Db) → B.database base.old ≡ Some db → IsFound db (who_of (option_map (λ n. n.now) who.entry)) found.new }
@@ -230,7 +230,7 @@ pub(crate) fn appended_cut<B: Base>(
     found: &mut TextsFound,
 ) -> Result<QQual, TextFault>
     requires found { (db : Db) → B.database base.old ≡ Some db → IsFound db (who_of (option_map (λ n. n.now) who)) found.old }
-    ensures told { (db : Db) → B.database base.old ≡ Some db → IfOk result (λ q. q ≡ all_of (u.now.new_cut ∷ cut db (who_of (option_map (λ n. n.now) who.entry)) Append u.now.places u.now.rel)) }
+    ensures known { (db : Db) → B.database base.old ≡ Some db → IfOk result (λ q. q ≡ all_of (u.now.new_cut ∷ cut db (who_of (option_map (λ n. n.now) who.entry)) Append u.now.places u.now.rel)) }
     ensures permitted { (db : Db) → B.database base.old ≡ Some db → OnOk result (permitted db (who_of (option_map (λ n. n.now) who.entry)) Append u.now.places u.now.rel ≡ true) }
     ensures found { (db : Db) → B.database base.old ≡ Some db → IsFound db (who_of (option_map (λ n. n.now) who.entry)) found.new }
     ensures kept { B.database base.new ≡ B.database base.old }

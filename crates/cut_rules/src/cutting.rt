@@ -36,7 +36,7 @@ fn put_asked<B: Base>(
 ) -> Result<(), CutFault>
     requires fit { (db : Db) → B.database base.old ≡ Some db → asked_fits (kept_or_viewed db) db asked.now ≡ true }
     requires found { (db : Db) → B.database base.old ≡ Some db → IsFound db (who_of (option_map (λ n. n.now) who)) found.old }
-    ensures told { (db : Db) → B.database base.old ≡ Some db → OnOk result (made.new.items ≡ made.old.items ++ put_in_asked db (who_of (option_map (λ n. n.now) who.entry)) asked.now ∷ []) }
+    ensures known { (db : Db) → B.database base.old ≡ Some db → OnOk result (made.new.items ≡ made.old.items ++ put_in_asked db (who_of (option_map (λ n. n.now) who.entry)) asked.now ∷ []) }
     ensures permitted { (db : Db) → B.database base.old ≡ Some db → OnOk result (query_permitted db (who_of (option_map (λ n. n.now) who.entry)) asked.now.query ≡ true) }
     ensures found { (db : Db) → B.database base.old ≡ Some db → IsFound db (who_of (option_map (λ n. n.now) who.entry)) found.new }
     ensures kept { B.database base.new ≡ B.database base.old }
@@ -67,7 +67,7 @@ fn put_all_asked<B: Base>(
 ) -> Result<(), CutFault>
     requires fit { (db : Db) → B.database base.old ≡ Some db → list_all (asked_fits (kept_or_viewed db) db) asked.now ≡ true }
     requires found { (db : Db) → B.database base.old ≡ Some db → IsFound db (who_of (option_map (λ n. n.now) who)) found.old }
-    ensures told { (db : Db) → B.database base.old ≡ Some db → OnOk result (made.new.items ≡ made.old.items ++ map (put_in_asked db (who_of (option_map (λ n. n.now) who.entry))) asked.now) }
+    ensures known { (db : Db) → B.database base.old ≡ Some db → OnOk result (made.new.items ≡ made.old.items ++ map (put_in_asked db (who_of (option_map (λ n. n.now) who.entry))) asked.now) }
     ensures permitted { (db : Db) → B.database base.old ≡ Some db → OnOk result (list_all (λ a. query_permitted db (who_of (option_map (λ n. n.now) who.entry)) a.query) asked.now ≡ true) }
     ensures found { (db : Db) → B.database base.old ≡ Some db → IsFound db (who_of (option_map (λ n. n.now) who.entry)) found.new }
     ensures kept { B.database base.new ≡ B.database base.old }
@@ -93,7 +93,7 @@ fn asked_tree<B: Base>(
 ) -> Result<Checked, CutFault>
     requires fit { (db : Db) → B.database base.old ≡ Some db → list_all (asked_fits (kept_or_viewed db) db) asked.now ≡ true }
     requires found { (db : Db) → B.database base.old ≡ Some db → IsFound db (who_of (option_map (λ n. n.now) who)) found.old }
-    ensures told { (db : Db) → B.database base.old ≡ Some db → IfOk result (λ made. made ≡ Answer (map (put_in_asked db (who_of (option_map (λ n. n.now) who.entry))) asked.now)) }
+    ensures known { (db : Db) → B.database base.old ≡ Some db → IfOk result (λ made. made ≡ Answer (map (put_in_asked db (who_of (option_map (λ n. n.now) who.entry))) asked.now)) }
     ensures permitted { (db : Db) → B.database base.old ≡ Some db → OnOk result (list_all (λ a. query_permitted db (who_of (option_map (λ n. n.now) who.entry)) a.query) asked.now ≡ true) }
     ensures found { (db : Db) → B.database base.old ≡ Some db → IsFound db (who_of (option_map (λ n. n.now) who.entry)) found.new }
     ensures kept { B.database base.new ≡ B.database base.old }
@@ -118,7 +118,7 @@ fn put_in_tree<B: Base>(
 ) -> Result<Checked, CutFault>
     requires fit { (db : Db) → B.database base.old ≡ Some db → is_fit_with_views db user.now tree.now ≡ true }
     requires found { (db : Db) → B.database base.old ≡ Some db → IsFound db (asks user.now) found.old }
-    ensures told { (db : Db) → B.database base.old ≡ Some db → IfOk result (λ made. made ≡ put_in_tree db (asks user.now) tree.now) }
+    ensures known { (db : Db) → B.database base.old ≡ Some db → IfOk result (λ made. made ≡ put_in_tree db (asks user.now) tree.now) }
     ensures permitted { (db : Db) → B.database base.old ≡ Some db → OnOk result (checked_permitted db (asks user.now) tree.now ≡ true) }
     ensures found { (db : Db) → B.database base.old ≡ Some db → IsFound db (asks user.now) found.new }
     ensures kept { B.database base.new ≡ B.database base.old }
@@ -151,7 +151,7 @@ pub fn cut_permits<B: Base>(
     base: &mut B,
 ) -> Result<Checked, CutFault>
     requires { (db : Db) → B.database base.old ≡ Some db → is_fit_with_views db user.now tree ≡ true }
-    ensures told { (db : Db) → B.database base.old ≡ Some db → IfOk result (λ made. made ≡ put_in_tree db (asks user.now) tree) }
+    ensures known { (db : Db) → B.database base.old ≡ Some db → IfOk result (λ made. made ≡ put_in_tree db (asks user.now) tree) }
     ensures means { (db : Db) → B.database base.old ≡ Some db → (shelf : Files) → IfOk result (λ made. tree_meaning db shelf Free user.now made ≡ tree_meaning db shelf (asks user.now) user.now tree) }
     ensures permitted { (db : Db) → B.database base.old ≡ Some db → OnOk result (checked_permitted db (asks user.now) tree ≡ true) }
     ensures kept { B.database base.new ≡ B.database base.old }

@@ -50,7 +50,7 @@ fn unexpanded(fault: CutFault) -> ExpandFault
 /// The query with its views put in, as `expand`.
 fn expand_fixed<B: Base>(alloc: Global, base: &mut B, query: &Query) -> Result<Query, ExpandFault>
     requires { (db : Db) → B.database base.old ≡ Some db → reads_fit (kept_or_viewed db) db query.now ≡ true }
-    ensures told { (db : Db) → B.database base.old ≡ Some db → IfOk result (λ made. made ≡ put_in db Free query.now) }
+    ensures known { (db : Db) → B.database base.old ≡ Some db → IfOk result (λ made. made ≡ put_in db Free query.now) }
     ensures answer { (db : Db) → B.database base.old ≡ Some db → aggregates_nest_none query.now ≡ true → IfOk result (λ made. answer db Free made ≡ answer db Free query.now) }
     ensures lacks { (db : Db) → B.database base.old ≡ Some db → aggregates_nest_none query.now ≡ true → IfOk result (λ made. lacks db Free made ≡ lacks db Free query.now) }
     ensures few { (db : Db) → B.database base.old ≡ Some db → OnOk result (expanded_variables db query.now ≤ 50) }
@@ -79,7 +79,7 @@ fn expand_fixed<B: Base>(alloc: Global, base: &mut B, query: &Query) -> Result<Q
 /// update, whose changed variable stays what it is.
 pub fn expand<B: Base>(alloc: Global, query: Query, base: &mut B) -> Result<Query, ExpandFault>
     requires { (db : Db) → B.database base.old ≡ Some db → reads_fit (kept_or_viewed db) db query ≡ true }
-    ensures told { (db : Db) → B.database base.old ≡ Some db → IfOk result (λ made. made ≡ put_in db Free query) }
+    ensures known { (db : Db) → B.database base.old ≡ Some db → IfOk result (λ made. made ≡ put_in db Free query) }
     ensures answer { (db : Db) → B.database base.old ≡ Some db → aggregates_nest_none query ≡ true → IfOk result (λ made. answer db Free made ≡ answer db Free query) }
     ensures lacks { (db : Db) → B.database base.old ≡ Some db → aggregates_nest_none query ≡ true → IfOk result (λ made. lacks db Free made ≡ lacks db Free query) }
     ensures few { (db : Db) → B.database base.old ≡ Some db → OnOk result (expanded_variables db query ≤ 50) }

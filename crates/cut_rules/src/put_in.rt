@@ -57,7 +57,7 @@ pub(crate) fn put_over<B: Base>(
     requires scoped { list_all is_scoped texts.now ≡ true }
     requires fits { length (texts_vars texts.now) ≤ 256 }
     requires found { (db : Db) → B.database base.old ≡ Some db → IsFound db (who_of (option_map (λ n. n.now) who)) found.old }
-    ensures told { (db : Db) → B.database base.old ≡ Some db → IfOk result (λ made. made ≡ put_over db (who_of (option_map (λ n. n.now) who.entry)) texts.now query.now) }
+    ensures known { (db : Db) → B.database base.old ≡ Some db → IfOk result (λ made. made ≡ put_over db (who_of (option_map (λ n. n.now) who.entry)) texts.now query.now) }
     ensures permitted { (db : Db) → B.database base.old ≡ Some db → OnOk result (aggregates_permitted (readable db (who_of (option_map (λ n. n.now) who.entry))) query.now ≡ true) }
     ensures found { (db : Db) → B.database base.old ≡ Some db → IsFound db (who_of (option_map (λ n. n.now) who.entry)) found.new }
     ensures kept { B.database base.new ≡ B.database base.old }
@@ -84,7 +84,7 @@ fn put_over_few<B: Base>(
     requires scoped { list_all is_scoped texts.now ≡ true }
     requires few { (db : Db) → B.database base.old ≡ Some db → length (texts_vars texts.now) ≤ 256 }
     requires found { (db : Db) → B.database base.old ≡ Some db → IsFound db (who_of (option_map (λ n. n.now) who)) found.old }
-    ensures told { (db : Db) → B.database base.old ≡ Some db → IfOk result (λ made. made ≡ put_over db (who_of (option_map (λ n. n.now) who.entry)) texts.now query.now) }
+    ensures known { (db : Db) → B.database base.old ≡ Some db → IfOk result (λ made. made ≡ put_over db (who_of (option_map (λ n. n.now) who.entry)) texts.now query.now) }
     ensures permitted { (db : Db) → B.database base.old ≡ Some db → OnOk result (aggregates_permitted (readable db (who_of (option_map (λ n. n.now) who.entry))) query.now ≡ true) }
     ensures found { (db : Db) → B.database base.old ≡ Some db → IsFound db (who_of (option_map (λ n. n.now) who.entry)) found.new }
     ensures kept { B.database base.new ≡ B.database base.old }
@@ -110,7 +110,7 @@ pub(crate) fn put_in<B: Base>(
     requires fit { (db : Db) → B.database base.old ≡ Some db → reads_fit (kept_or_viewed db) db query.now ≡ true }
     requires few { (db : Db) → B.database base.old ≡ Some db → expanded_variables db query.now ≤ 50 }
     requires found { (db : Db) → B.database base.old ≡ Some db → IsFound db (who_of (option_map (λ n. n.now) who)) found.old }
-    ensures told { (db : Db) → B.database base.old ≡ Some db → IfOk result (λ made. made ≡ put_in db (who_of (option_map (λ n. n.now) who.entry)) query.now) }
+    ensures known { (db : Db) → B.database base.old ≡ Some db → IfOk result (λ made. made ≡ put_in db (who_of (option_map (λ n. n.now) who.entry)) query.now) }
     ensures permitted { (db : Db) → B.database base.old ≡ Some db → OnOk result (query_permitted db (who_of (option_map (λ n. n.now) who.entry)) query.now ≡ true) }
     ensures found { (db : Db) → B.database base.old ≡ Some db → IsFound db (who_of (option_map (λ n. n.now) who.entry)) found.new }
     ensures kept { B.database base.new ≡ B.database base.old }

@@ -49,7 +49,7 @@ fn rows_source<B: Base>(
     requires listed { (db : Db) → B.database base.old ≡ Some db → length (vars_of query.now) ≤ 256 }
     requires expanded { (db : Db) → B.database base.old ≡ Some db → (query_measure (measure_within levels db) query.now).variables ≤ 256 }
     requires found { (db : Db) → B.database base.old ≡ Some db → IsFound db (who_of (option_map (λ n. n.now) who)) found.old }
-    ensures told { (db : Db) → B.database base.old ≡ Some db → IfOk result (λ made. made.0 ≡ rows_of_query (put_plain (text_within levels db (who_of (option_map (λ n. n.now) who.entry))) query.now)) }
+    ensures known { (db : Db) → B.database base.old ≡ Some db → IfOk result (λ made. made.0 ≡ rows_of_query (put_plain (text_within levels db (who_of (option_map (λ n. n.now) who.entry))) query.now)) }
     ensures free { IfOk result (λ made. option_to_list made.1 ≡ []) }
     ensures permitted { (db : Db) → B.database base.old ≡ Some db → OnOk result (vars_permitted (permitted_within levels db (who_of (option_map (λ n. n.now) who.entry))) query.now (used_vars query.now) ≡ true) }
     ensures found { (db : Db) → B.database base.old ≡ Some db → IsFound db (who_of (option_map (λ n. n.now) who.entry)) found.new }
@@ -79,7 +79,7 @@ fn kept_source<B: Base>(
 ) -> Result<(AggSource, Option<QQual>), TextFault>
     requires found { (db : Db) → B.database base.old ≡ Some db → IsFound db (who_of (option_map (λ n. n.now) who)) found.old }
     ensures named { IfOk result (λ made. made.0 ≡ Named key.now) }
-    ensures told { (db : Db) → B.database base.old ≡ Some db → IfOk result (λ made. option_to_list made.1 ≡ cut db (who_of (option_map (λ n. n.now) who.entry)) Retrieve attrs.now key.now) }
+    ensures known { (db : Db) → B.database base.old ≡ Some db → IfOk result (λ made. option_to_list made.1 ≡ cut db (who_of (option_map (λ n. n.now) who.entry)) Retrieve attrs.now key.now) }
     ensures permitted { (db : Db) → B.database base.old ≡ Some db → OnOk result (permitted db (who_of (option_map (λ n. n.now) who.entry)) Retrieve attrs.now key.now ≡ true) }
     ensures found { (db : Db) → B.database base.old ≡ Some db → IsFound db (who_of (option_map (λ n. n.now) who.entry)) found.new }
     ensures kept { B.database base.new ≡ B.database base.old }
@@ -108,7 +108,7 @@ fn named_source<B: Base>(
 ) -> Result<(AggSource, Option<QQual>), TextFault>
     requires few { (db : Db) → B.database base.old ≡ Some db → (measure_of db key.now).variables ≤ 256 }
     requires found { (db : Db) → B.database base.old ≡ Some db → IsFound db (who_of (option_map (λ n. n.now) who)) found.old }
-    ensures told { (db : Db) → B.database base.old ≡ Some db → IfOk result (λ made. made.0 ≡ put_range db (who_of (option_map (λ n. n.now) who.entry)) key.now (range_at db key.now)) }
+    ensures known { (db : Db) → B.database base.old ≡ Some db → IfOk result (λ made. made.0 ≡ put_range db (who_of (option_map (λ n. n.now) who.entry)) key.now (range_at db key.now)) }
     ensures cuts { (db : Db) → B.database base.old ≡ Some db → IfOk result (λ made. option_to_list made.1 ≡ range_cut db (who_of (option_map (λ n. n.now) who.entry)) attrs.now key.now (range_at db key.now)) }
     ensures permitted { (db : Db) → B.database base.old ≡ Some db → OnOk result (readable db (who_of (option_map (λ n. n.now) who.entry)) key.now attrs.now ≡ true) }
     ensures found { (db : Db) → B.database base.old ≡ Some db → IsFound db (who_of (option_map (λ n. n.now) who.entry)) found.new }
@@ -139,7 +139,7 @@ pub(crate) fn put_source<B: Base>(
 ) -> Result<(AggSource, Option<QQual>), TextFault>
     requires fits { (db : Db) → B.database base.old ≡ Some db → source_fits (kept_or_viewed db) db source.now ≡ true }
     requires found { (db : Db) → B.database base.old ≡ Some db → IsFound db (who_of (option_map (λ n. n.now) who)) found.old }
-    ensures told { (db : Db) → B.database base.old ≡ Some db → IfOk result (λ made. made.0 ≡ put_source db (who_of (option_map (λ n. n.now) who.entry)) source.now) }
+    ensures known { (db : Db) → B.database base.old ≡ Some db → IfOk result (λ made. made.0 ≡ put_source db (who_of (option_map (λ n. n.now) who.entry)) source.now) }
     ensures cuts { (db : Db) → B.database base.old ≡ Some db → IfOk result (λ made. option_to_list made.1 ≡ source_cut db (who_of (option_map (λ n. n.now) who.entry)) attrs.now source.now) }
     ensures permitted { (db : Db) → B.database base.old ≡ Some db → OnOk result (source_permitted (readable db (who_of (option_map (λ n. n.now) who.entry))) attrs.now source.now ≡ true) }
     ensures found { (db : Db) → B.database base.old ≡ Some db → IsFound db (who_of (option_map (λ n. n.now) who.entry)) found.new }

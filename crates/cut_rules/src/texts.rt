@@ -78,7 +78,7 @@ pub(crate) fn read_text<B: Base>(
 ) -> Result<Text, CutFault>
     requires small { (db : Db) → B.database base.old ≡ Some db → is_small db query.now (place, key.now) ≡ true }
     requires found { (db : Db) → B.database base.old ≡ Some db → IsFound db (who_of (option_map (λ n. n.now) who)) found.old }
-    ensures told { (db : Db) → B.database base.old ≡ Some db → IfOk result (λ text. text ≡ read_text db (who_of (option_map (λ n. n.now) who.entry)) query.now (place, key.now)) }
+    ensures known { (db : Db) → B.database base.old ≡ Some db → IfOk result (λ text. text ≡ read_text db (who_of (option_map (λ n. n.now) who.entry)) query.now (place, key.now)) }
     ensures permitted { (db : Db) → B.database base.old ≡ Some db → OnOk result (may_be_read db (who_of (option_map (λ n. n.now) who.entry)) query.now (place, key.now) ≡ true) }
     ensures scoped { IfOk result (λ text. is_scoped text ≡ true) }
     ensures found { (db : Db) → B.database base.old ≡ Some db → IsFound db (who_of (option_map (λ n. n.now) who.entry)) found.new }
@@ -106,7 +106,7 @@ fn put_each<B: Base>(
     requires listed { length keys.now ≤ 256 }
     requires small { (db : Db) → B.database base.old ≡ Some db → list_all (is_small db query.now) (enumerate_from 0 keys.now) ≡ true }
     requires found { (db : Db) → B.database base.old ≡ Some db → IsFound db (who_of (option_map (λ n. n.now) who)) found.old }
-    ensures told { (db : Db) → B.database base.old ≡ Some db → OnOk result (texts.new.items ≡ texts.old.items ++ map (read_text db (who_of (option_map (λ n. n.now) who.entry)) query.now) (enumerate_from 0 keys.now)) }
+    ensures known { (db : Db) → B.database base.old ≡ Some db → OnOk result (texts.new.items ≡ texts.old.items ++ map (read_text db (who_of (option_map (λ n. n.now) who.entry)) query.now) (enumerate_from 0 keys.now)) }
     ensures permitted { (db : Db) → B.database base.old ≡ Some db → OnOk result (list_all (may_be_read db (who_of (option_map (λ n. n.now) who.entry)) query.now) (enumerate_from 0 keys.now) ≡ true) }
     ensures scoped { list_all is_scoped texts.old.items ≡ true → OnOk result (list_all is_scoped texts.new.items ≡ true) }
     ensures found { (db : Db) → B.database base.old ≡ Some db → IsFound db (who_of (option_map (λ n. n.now) who.entry)) found.new }
@@ -139,7 +139,7 @@ pub(crate) fn put_texts<B: Base>(
     requires listed { (db : Db) → B.database base.old ≡ Some db → length (vars_of query.now) ≤ 256 }
     requires small { (db : Db) → B.database base.old ≡ Some db → list_all (is_small db query.now) (enumerate_from 0 (vars_of query.now)) ≡ true }
     requires found { (db : Db) → B.database base.old ≡ Some db → IsFound db (who_of (option_map (λ n. n.now) who)) found.old }
-    ensures told { (db : Db) → B.database base.old ≡ Some db → OnOk result (texts.new.items ≡ texts.old.items ++ map (read_text db (who_of (option_map (λ n. n.now) who.entry)) query.now) (enumerate_from 0 (vars_of query.now))) }
+    ensures known { (db : Db) → B.database base.old ≡ Some db → OnOk result (texts.new.items ≡ texts.old.items ++ map (read_text db (who_of (option_map (λ n. n.now) who.entry)) query.now) (enumerate_from 0 (vars_of query.now))) }
     ensures permitted { (db : Db) → B.database base.old ≡ Some db → OnOk result (list_all (may_be_read db (who_of (option_map (λ n. n.now) who.entry)) query.now) (enumerate_from 0 (vars_of query.now)) ≡ true) }
     ensures scoped { list_all is_scoped texts.old.items ≡ true → OnOk result (list_all is_scoped texts.new.items ≡ true) }
     ensures found { (db : Db) → B.database base.old ≡ Some db → IsFound db (who_of (option_map (λ n. n.now) who.entry)) found.new }

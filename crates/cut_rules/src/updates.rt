@@ -47,7 +47,7 @@ fn changed_at<B: Base>(
     found: &mut TextsFound,
 ) -> Result<Text, CutFault>
     requires found { (db : Db) → B.database base.old ≡ Some db → IsFound db (who_of (option_map (λ n. n.now) who)) found.old }
-    ensures told { (db : Db) → B.database base.old ≡ Some db → IfOk result (λ text. text ≡ changed_text db (who_of (option_map (λ n. n.now) who.entry)) (right_of right) u.now.places (used_in_query place u.now.query) key.now) }
+    ensures known { (db : Db) → B.database base.old ≡ Some db → IfOk result (λ text. text ≡ changed_text db (who_of (option_map (λ n. n.now) who.entry)) (right_of right) u.now.places (used_in_query place u.now.query) key.now) }
     ensures permitted { (db : Db) → B.database base.old ≡ Some db → OnOk result (change_permitted db (who_of (option_map (λ n. n.now) who.entry)) (right_of right) u.now.places key.now (used_in_query place u.now.query) ≡ true) }
     ensures scoped { IfOk result (λ text. is_scoped text ≡ true) }
     ensures found { (db : Db) → B.database base.old ≡ Some db → IsFound db (who_of (option_map (λ n. n.now) who.entry)) found.new }
@@ -87,7 +87,7 @@ fn text_in<B: Base>(
 ) -> Result<Text, CutFault>
     requires small { (db : Db) → B.database base.old ≡ Some db → is_small_in db u.now (place, key.now) ≡ true }
     requires found { (db : Db) → B.database base.old ≡ Some db → IsFound db (who_of (option_map (λ n. n.now) who)) found.old }
-    ensures told { (db : Db) → B.database base.old ≡ Some db → IfOk result (λ text. text ≡ text_in db (who_of (option_map (λ n. n.now) who.entry)) u.now (place, key.now)) }
+    ensures known { (db : Db) → B.database base.old ≡ Some db → IfOk result (λ text. text ≡ text_in db (who_of (option_map (λ n. n.now) who.entry)) u.now (place, key.now)) }
     ensures permitted { (db : Db) → B.database base.old ≡ Some db → OnOk result (may_be_used db (who_of (option_map (λ n. n.now) who.entry)) u.now (place, key.now) ≡ true) }
     ensures scoped { IfOk result (λ text. is_scoped text ≡ true) }
     ensures found { (db : Db) → B.database base.old ≡ Some db → IsFound db (who_of (option_map (λ n. n.now) who.entry)) found.new }
@@ -115,7 +115,7 @@ fn put_each<B: Base>(
     requires listed { length keys.now ≤ 256 }
     requires small { (db : Db) → B.database base.old ≡ Some db → list_all (is_small_in db u.now) (enumerate_from 0 keys.now) ≡ true }
     requires found { (db : Db) → B.database base.old ≡ Some db → IsFound db (who_of (option_map (λ n. n.now) who)) found.old }
-    ensures told { (db : Db) → B.database base.old ≡ Some db → OnOk result (texts.new.items ≡ texts.old.items ++ map (text_in db (who_of (option_map (λ n. n.now) who.entry)) u.now) (enumerate_from 0 keys.now)) }
+    ensures known { (db : Db) → B.database base.old ≡ Some db → OnOk result (texts.new.items ≡ texts.old.items ++ map (text_in db (who_of (option_map (λ n. n.now) who.entry)) u.now) (enumerate_from 0 keys.now)) }
     ensures permitted { (db : Db) → B.database base.old ≡ Some db → OnOk result (list_all (may_be_used db (who_of (option_map (λ n. n.now) who.entry)) u.now) (enumerate_from 0 keys.now) ≡ true) }
     ensures scoped { list_all is_scoped texts.old.items ≡ true → OnOk result (list_all is_scoped texts.new.items ≡ true) }
     ensures found { (db : Db) → B.database base.old ≡ Some db → IsFound db (who_of (option_map (λ n. n.now) who.entry)) found.new }
@@ -147,7 +147,7 @@ fn put_texts<B: Base>(
     requires listed { (db : Db) → B.database base.old ≡ Some db → length (vars_of u.now.query) ≤ 256 }
     requires small { (db : Db) → B.database base.old ≡ Some db → list_all (is_small_in db u.now) (enumerate_from 0 (vars_of u.now.query)) ≡ true }
     requires found { (db : Db) → B.database base.old ≡ Some db → IsFound db (who_of (option_map (λ n. n.now) who)) found.old }
-    ensures told { (db : Db) → B.database base.old ≡ Some db → OnOk result (texts.new.items ≡ texts.old.items ++ map (text_in db (who_of (option_map (λ n. n.now) who.entry)) u.now) (enumerate_from 0 (vars_of u.now.query))) }
+    ensures known { (db : Db) → B.database base.old ≡ Some db → OnOk result (texts.new.items ≡ texts.old.items ++ map (text_in db (who_of (option_map (λ n. n.now) who.entry)) u.now) (enumerate_from 0 (vars_of u.now.query))) }
     ensures permitted { (db : Db) → B.database base.old ≡ Some db → OnOk result (list_all (may_be_used db (who_of (option_map (λ n. n.now) who.entry)) u.now) (enumerate_from 0 (vars_of u.now.query)) ≡ true) }
     ensures scoped { list_all is_scoped texts.old.items ≡ true → OnOk result (list_all is_scoped texts.new.items ≡ true) }
     ensures found { (db : Db) → B.database base.old ≡ Some db → IsFound db (who_of (option_map (λ n. n.now) who.entry)) found.new }
@@ -202,7 +202,7 @@ fn put_new_cut<B: Base>(
     found: &mut TextsFound,
 ) -> Result<QQual, CutFault>
     requires found { (db : Db) → B.database base.old ≡ Some db → IsFound db (who_of (option_map (λ n. n.now) who)) found.old }
-    ensures told { (db : Db) → B.database base.old ≡ Some db → IfOk result (λ q. q ≡ put_cut db (who_of (option_map (λ n. n.now) who.entry)) u.now u.now.op) }
+    ensures known { (db : Db) → B.database base.old ≡ Some db → IfOk result (λ q. q ≡ put_cut db (who_of (option_map (λ n. n.now) who.entry)) u.now u.now.op) }
     ensures permitted { (db : Db) → B.database base.old ≡ Some db → OnOk result (u.now.op ≡ op.Append → permitted db (who_of (option_map (λ n. n.now) who.entry)) Append u.now.places u.now.rel ≡ true) }
     ensures found { (db : Db) → B.database base.old ≡ Some db → IsFound db (who_of (option_map (λ n. n.now) who.entry)) found.new }
     ensures kept { B.database base.new ≡ B.database base.old }
@@ -261,7 +261,7 @@ fn put_over_few<B: Base>(
     requires scoped { list_all is_scoped texts.now ≡ true }
     requires few { (db : Db) → B.database base.old ≡ Some db → length (texts_vars texts.now) ≤ 255 }
     requires found { (db : Db) → B.database base.old ≡ Some db → IsFound db (who_of (option_map (λ n. n.now) who)) found.old }
-    ensures told { (db : Db) → B.database base.old ≡ Some db → IfOk result (λ made. made ≡ record u.now { old = put_place texts.now u.now; query = put_over db (who_of (option_map (λ n. n.now) who.entry)) texts.now u.now.query; new_cut = put_cut db (who_of (option_map (λ n. n.now) who.entry)) u.now u.now.op }) }
+    ensures known { (db : Db) → B.database base.old ≡ Some db → IfOk result (λ made. made ≡ record u.now { old = put_place texts.now u.now; query = put_over db (who_of (option_map (λ n. n.now) who.entry)) texts.now u.now.query; new_cut = put_cut db (who_of (option_map (λ n. n.now) who.entry)) u.now u.now.op }) }
     ensures permitted { (db : Db) → B.database base.old ≡ Some db → OnOk result (aggregates_permitted (readable db (who_of (option_map (λ n. n.now) who.entry))) u.now.query ≡ true) }
     ensures appended { (db : Db) → B.database base.old ≡ Some db → OnOk result (u.now.op ≡ op.Append → permitted db (who_of (option_map (λ n. n.now) who.entry)) Append u.now.places u.now.rel ≡ true) }
     ensures found { (db : Db) → B.database base.old ≡ Some db → IsFound db (who_of (option_map (λ n. n.now) who.entry)) found.new }
@@ -295,7 +295,7 @@ pub(crate) fn put_in_update<B: Base>(
 ) -> Result<Update, CutFault>
     requires fit { (db : Db) → B.database base.old ≡ Some db → update_fits (kept_or_viewed db) db u.now ≡ true }
     requires found { (db : Db) → B.database base.old ≡ Some db → IsFound db (who_of (option_map (λ n. n.now) who)) found.old }
-    ensures told { (db : Db) → B.database base.old ≡ Some db → IfOk result (λ made. made ≡ put_in_update db (who_of (option_map (λ n. n.now) who.entry)) u.now) }
+    ensures known { (db : Db) → B.database base.old ≡ Some db → IfOk result (λ made. made ≡ put_in_update db (who_of (option_map (λ n. n.now) who.entry)) u.now) }
     ensures permitted { (db : Db) → B.database base.old ≡ Some db → OnOk result (update_permitted db (who_of (option_map (λ n. n.now) who.entry)) u.now ≡ true) }
     ensures found { (db : Db) → B.database base.old ≡ Some db → IsFound db (who_of (option_map (λ n. n.now) who.entry)) found.new }
     ensures kept { B.database base.new ≡ B.database base.old }

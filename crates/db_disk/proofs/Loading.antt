@@ -37,15 +37,15 @@ pub unborn_none : (m : Image) (a : Addr) → (birth m == 1) ≡ false → NoneSt
 unborn_none m a off = λ db stands agree. let e : true ≡ false = sym (stands_headed m db stands).1 ∙ off in absurd (cc e)
 
 -- the same cause, of fewer databases
-pub for_whom : {T : Type 0} (told pages : Option Image) (dba : List ℕ) (before mid now : ℕ) (result : Result T BaseFault) → mid ≡ before → pages ≡ told → ((m : Image) → told ≡ Some m → administrator m ≡ Some dba)
-    → HasFileCause pages (λ m a. (db : Db) → standing m ≡ Some db → db.dba ≡ dba → index_owners_agree db ≡ true → ⊥) mid now result → HasFileCause told NoneStands before now result
-for_whom told pages dba before mid now (Ok x) calm same named has = record { later = omega (arith, calm, has.later); caused = has.caused ∙ calm }
-for_whom told pages dba before mid now (Err faults.Disk) calm same named has = record { later = omega (arith, calm, has.later); caused = omega (arith, calm, has.caused) }
-for_whom told pages dba before mid now (Err (faults.Damaged file page)) calm same named has = record {
+pub for_whom : {T : Type 0} (known pages : Option Image) (dba : List ℕ) (before mid now : ℕ) (result : Result T BaseFault) → mid ≡ before → pages ≡ known → ((m : Image) → known ≡ Some m → administrator m ≡ Some dba)
+    → HasFileCause pages (λ m a. (db : Db) → standing m ≡ Some db → db.dba ≡ dba → index_owners_agree db ≡ true → ⊥) mid now result → HasFileCause known NoneStands before now result
+for_whom known pages dba before mid now (Ok x) calm same named has = record { later = omega (arith, calm, has.later); caused = has.caused ∙ calm }
+for_whom known pages dba before mid now (Err faults.Disk) calm same named has = record { later = omega (arith, calm, has.later); caused = omega (arith, calm, has.caused) }
+for_whom known pages dba before mid now (Err (faults.Damaged file page)) calm same named has = record {
   later = omega (arith, calm, has.later);
   caused = (λ m is db stands agree. has.caused.0 m (same ∙ is) db stands (own_name m db dba stands (named m is)) agree, has.caused.1 ∙ calm);
 }
-for_whom told pages dba before mid now (Err faults.OutOfMemory) calm same named has = record { later = omega (arith, calm, has.later); caused = has.caused ∙ calm }
+for_whom known pages dba before mid now (Err faults.OutOfMemory) calm same named has = record { later = omega (arith, calm, has.later); caused = has.caused ∙ calm }
 
 -- what was read is of the administrator whose header is there
 pub lies_for : {E : Type 0} (result : Result Catalog E) (m : Image) (dba : List ℕ) → administrator m ≡ Some dba → IfOk result (λ c. LiesOn c m) → IfOk result (λ c. (database_of c.plain).dba ≡ dba) → IfOk result (λ c. LiesFor c m)

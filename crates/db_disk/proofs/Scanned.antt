@@ -26,10 +26,10 @@ database_fits : (db : Db) → IsDatabase db → (key : RelKey) (probe : Probe) (
 database_fits db is key probe before now (Err fault) there gives = tt
 database_fits db is key probe before now (Ok answer) there gives = given_fits db db db key probe before now answer refl is gives refl there
 
--- of a database that is told
-pub told_fits : (told : Option Db) (db : Db) (key : RelKey) (probe : Probe) (before now : Place) (result : Result (Option Row) BaseFault) → IsDatabase db → told ≡ Some db
-    → Gives probe (rows_left told key) before now result → is_relation db key ≡ true → IfOk result (λ row. ForSome row (λ r. row_fits (attrs_at db key) r ≡ true))
-told_fits told db key probe before now result is_one is gives there =
+-- of a database that is known
+pub known_fits : (known : Option Db) (db : Db) (key : RelKey) (probe : Probe) (before now : Place) (result : Result (Option Row) BaseFault) → IsDatabase db → known ≡ Some db
+    → Gives probe (rows_left known key) before now result → is_relation db key ≡ true → IfOk result (λ row. ForSome row (λ r. row_fits (attrs_at db key) r ≡ true))
+known_fits known db key probe before now result is_one is gives there =
     database_fits db is_one key probe before now result there (subst (λ (o : Option Db). Gives probe (rows_left o key) before now result) is gives)
 
 -- and of one in memory, by its schema

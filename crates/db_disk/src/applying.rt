@@ -72,7 +72,7 @@ impl<D: Disk> DbDisk<D> {
     /// it is read anew at the next call.
     pub fn apply(&mut self, alloc: Global, change: &DbChange) -> Result<(), BaseFault>
         requires { (db : Db) → db_of self.old ≡ Some db → IsLawful db change.now }
-        ensures told { (db : Db) → db_of self.old ≡ Some db → OnOk result (db_of self.new ≡ Some (laid db change.now)) }
+        ensures known { (db : Db) → db_of self.old ≡ Some db → OnOk result (db_of self.new ≡ Some (laid db change.now)) }
         // A crash at any moment leaves what it might leave at the start, by what the image holds, or the database of after.
         ensures crash { (db : Db) → db_of self.old ≡ Some db
             → LeavesOnly D.clock D.left_since (disk_in self.old) (disk_in self.new)

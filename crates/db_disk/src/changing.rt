@@ -26,10 +26,10 @@ use std::alloc::Global;
 /// Lays all pages that were put. Answers whether there were any: then the store is ready again.
 fn finish<D: Disk>(store: &mut BatchStore<D>) -> Result<bool, BaseFault>
     requires { is_due store.old ≡ false }
-    ensures stands { (s : _) (m : Image) → CameOf s store.old → IsTrue D.tells
+    ensures stands { (s : _) (m : Image) → CameOf s store.old → IsTrue D.is_known
         → IsClosed (D.seen (disk_of s)) (D.touched (disk_of s)) → pages_of store.old ≡ Some m
         → LeavesOnly D.clock D.left_since (disk_of s) (disk_of store.new) (IsOneOf (kept (D.seen (disk_of s))) m) }
-    ensures durable { (s : _) (m : Image) → CameOf s store.old → IsTrue D.tells
+    ensures durable { (s : _) (m : Image) → CameOf s store.old → IsTrue D.is_known
         → IsClosed (D.seen (disk_of s)) (D.touched (disk_of s)) → pages_of store.old ≡ Some m
         → OnOk result ((x : Image) → IsImage (D.seen (disk_of store.new)) (D.touched (disk_of store.new)) x → redone x ≡ Some m) }
     ensures ready { IfOk result (λ laid. laid ≡ true → IsReady store.new) }
@@ -47,18 +47,18 @@ fn finish<D: Disk>(store: &mut BatchStore<D>) -> Result<bool, BaseFault>
 /// Lays all pages that were put; where there were none the disk is synced. Then the store is ready again.
 fn settle<D: Disk>(store: &mut BatchStore<D>) -> Result<(), BaseFault>
     requires { is_due store.old ≡ false }
-    ensures stands { (s : _) (m : Image) → CameOf s store.old → IsTrue D.tells
+    ensures stands { (s : _) (m : Image) → CameOf s store.old → IsTrue D.is_known
         → IsClosed (D.seen (disk_of s)) (D.touched (disk_of s)) → pages_of store.old ≡ Some m
         → LeavesOnly D.clock D.left_since (disk_of s) (disk_of store.new) (IsOneOf (kept (D.seen (disk_of s))) m) }
-    ensures durable { (s : _) (m : Image) → CameOf s store.old → IsTrue D.tells
+    ensures durable { (s : _) (m : Image) → CameOf s store.old → IsTrue D.is_known
         → IsClosed (D.seen (disk_of s)) (D.touched (disk_of s)) → pages_of store.old ≡ Some m
         → OnOk result ((x : Image) → IsImage (D.seen (disk_of store.new)) (D.touched (disk_of store.new)) x → redone x ≡ Some m) }
-    ensures laid { (s : _) (m : Image) → CameOf s store.old → IsTrue D.tells
+    ensures laid { (s : _) (m : Image) → CameOf s store.old → IsTrue D.is_known
         → IsClosed (D.seen (disk_of s)) (D.touched (disk_of s)) → pages_of store.old ≡ Some m
         → OnOk result (kept (D.seen (disk_of store.new)) ≡ m) }
     ensures ready { OnOk result (IsReady store.new) }
     ensures wanted { IsErrOf result BaseFault.OutOfMemory → ⊥ }
-    ensures cause { (s : _) → CameOf s store.old → (IsTrue D.tells → IsClosed (D.seen (disk_of s)) (D.touched (disk_of s)))
+    ensures cause { (s : _) → CameOf s store.old → (IsTrue D.is_known → IsClosed (D.seen (disk_of s)) (D.touched (disk_of s)))
         → HasFileCause (pages_of store.old) (λ m a. ⊥) (D.faults (disk_of store.old)) (D.faults (disk_of store.new)) result }
 {
     if finish(store)? {
@@ -77,14 +77,14 @@ pub(crate) fn lay<D: Disk>(
     change: &DbChange,
 ) -> Result<(), BaseFault>
     requires ready { IsReady store.old }
-    requires known { IsTrue D.tells → IsKnown (D.seen (disk_of store.old)) (Some catalog.old) }
+    requires knows { IsTrue D.is_known → IsKnown (D.seen (disk_of store.old)) (Some catalog.old) }
     requires lawful { (db : Db) → database_in store.old ≡ Some db → IsLawful db change.now }
     ensures crash { (db : Db) → database_in store.old ≡ Some db
         → LeavesOnly D.clock D.left_since (disk_of store.old) (disk_of store.new) (IsEither db (laid db change.now)) }
     ensures durable { (db : Db) → database_in store.old ≡ Some db
         → OnOk result ((m : Image) → IsImage (D.seen (disk_of store.new)) (D.touched (disk_of store.new)) m → held m ≡ Some (laid db change.now)) }
     ensures ready { OnOk result (IsReady store.new) }
-    ensures known { IsTrue D.tells → OnOk result (IsKnown (D.seen (disk_of store.new)) (Some catalog.new)) }
+    ensures knows { IsTrue D.is_known → OnOk result (IsKnown (D.seen (disk_of store.new)) (Some catalog.new)) }
     ensures schema { OnOk result (schema_of (database_of catalog.new.plain) ≡ schema_of (laid (schema_of (database_of catalog.old.plain)) change.now)) }
     ensures no_memory { IsErrOf result BaseFault.OutOfMemory → database_in store.new ≡ database_in store.old }
     ensures cause { HasCause (database_in store.old) (D.faults (disk_of store.old)) (D.faults (disk_of store.new)) result }
@@ -108,7 +108,7 @@ pub(crate) fn lay_known<D: Disk>(
 ) -> Result<(), BaseFault>
     requires ready { IsReady store.old }
     requires there { IsTrue (is_some catalog.old) }
-    requires known { IsTrue D.tells → IsKnown (D.seen (disk_of store.old)) catalog.old }
+    requires knows { IsTrue D.is_known → IsKnown (D.seen (disk_of store.old)) catalog.old }
     requires lawful { (db : Db) → database_in store.old ≡ Some db → IsLawful db change.now }
     ensures crash { (db : Db) → database_in store.old ≡ Some db
         → LeavesOnly D.clock D.left_since (disk_of store.old) (disk_of store.new) (IsEither db (laid db change.now)) }
@@ -116,13 +116,13 @@ pub(crate) fn lay_known<D: Disk>(
         → OnOk result ((m : Image) → IsImage (D.seen (disk_of store.new)) (D.touched (disk_of store.new)) m → held m ≡ Some (laid db change.now)) }
     ensures ready { OnOk result (IsReady store.new) }
     ensures there { IsTrue (is_some catalog.new) }
-    ensures known { IsTrue D.tells → OnOk result (IsKnown (D.seen (disk_of store.new)) catalog.new) }
+    ensures knows { IsTrue D.is_known → OnOk result (IsKnown (D.seen (disk_of store.new)) catalog.new) }
     ensures schema { (s : Db) → schema_known catalog.old ≡ Some s → OnOk result (schema_known catalog.new ≡ Some (schema_of (laid s change.now))) }
     ensures no_memory { IsErrOf result BaseFault.OutOfMemory → database_in store.new ≡ database_in store.old }
     ensures cause { HasCause (database_in store.old) (D.faults (disk_of store.old)) (D.faults (disk_of store.new)) result }
 {
     match catalog {
-        Some(known) => lay(alloc, store, known, spots, change),
+        Some(cached) => lay(alloc, store, cached, spots, change),
         None => unreachable!(),
     }
 }

@@ -30,15 +30,15 @@ pub(crate) fn fault_of(fault: RestoreFault) -> BaseFault
 pub(crate) fn reopen<D: Disk>(store: &mut BatchStore<D>) -> Result<(), BaseFault>
     ensures same { database_in store.new ≡ database_in store.old }
     ensures ready { OnOk result (IsReady store.new) }
-    ensures restored { IsTrue D.tells → OnOk result (redone (D.seen (disk_of store.old)) ≡ Some (kept (D.seen (disk_of store.new)))) }
-    ensures damaged { IsTrue D.tells → (file page : ℕ) → result ≡ Err (BaseFault.Damaged file page) → redone (D.seen (disk_of store.old)) ≡ None }
+    ensures restored { IsTrue D.is_known → OnOk result (redone (D.seen (disk_of store.old)) ≡ Some (kept (D.seen (disk_of store.new)))) }
+    ensures damaged { IsTrue D.is_known → (file page : ℕ) → result ≡ Err (BaseFault.Damaged file page) → redone (D.seen (disk_of store.old)) ≡ None }
     // Damage is the first page of the batch at fault.
-    ensures at_batch { IsTrue D.tells → (file page : ℕ) → result ≡ Err (BaseFault.Damaged file page) → answer (D.seen (disk_of store.old)) ≡ Err (DamagedBatch file page) }
-    ensures run { IsTrue D.tells → LeavesOnly D.clock D.left_since (disk_of store.old) (disk_of store.new)
+    ensures at_batch { IsTrue D.is_known → (file page : ℕ) → result ≡ Err (BaseFault.Damaged file page) → answer (D.seen (disk_of store.old)) ≡ Err (DamagedBatch file page) }
+    ensures run { IsTrue D.is_known → LeavesOnly D.clock D.left_since (disk_of store.old) (disk_of store.new)
         (SameRedone (D.seen (disk_of store.old)) (D.touched (disk_of store.old))) }
-    ensures crash { IsTrue D.tells → LeavesOnly D.clock D.left_since (disk_of store.old) (disk_of store.new)
+    ensures crash { IsTrue D.is_known → LeavesOnly D.clock D.left_since (disk_of store.old) (disk_of store.new)
         (SameHeld (D.seen (disk_of store.old)) (D.touched (disk_of store.old))) }
-    ensures reads { IsTrue D.tells → gate (D.seen (disk_of store.old)) ≢ 1 → RisesUpTo 1 (D.reads (disk_of store.old)) (D.reads (disk_of store.new)) }
+    ensures reads { IsTrue D.is_known → gate (D.seen (disk_of store.old)) ≢ 1 → RisesUpTo 1 (D.reads (disk_of store.old)) (D.reads (disk_of store.new)) }
     ensures wanted { IsErrOf result BaseFault.OutOfMemory → ⊥ }
     ensures cause { HasCause (database_in store.old) (D.faults (disk_of store.old)) (D.faults (disk_of store.new)) result }
 {

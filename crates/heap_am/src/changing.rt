@@ -30,7 +30,7 @@ impl Heap {
     ) -> Result<Place, BaseFault>
         requires fits { IsTrue (is_row row.now self.old.file.domains) }
         requires room { self.old.file.used < 2 ^ 32 - 1 }
-        ensures told { (m : Image) (rows : Placed) → S.pages store.old ≡ Some m → heap_rows self.old.file m ≡ Some rows
+        ensures known { (m : Image) (rows : Placed) → S.pages store.old ≡ Some m → heap_rows self.old.file m ≡ Some rows
             → IfOk result (λ place. NowHolds (heap_rows self.new.file) (S.pages store.new) (Added rows place row.now)) }
         ensures others { OnOk result (KeepsOthers self.old.file.file (S.pages store.old) (S.pages store.new)) }
         ensures file { OnOk result (SameButUsed self.old.file self.new.file) }
@@ -51,7 +51,7 @@ impl Heap {
         row: &Row,
     ) -> Result<Option<Place>, BaseFault>
         requires fits { IsTrue (is_row row.now self.now.file.domains) }
-        ensures told { (m : Image) (rows : Placed) → S.pages store.old ≡ Some m → heap_rows self.now.file m ≡ Some rows
+        ensures known { (m : Image) (rows : Placed) → S.pages store.old ≡ Some m → heap_rows self.now.file m ≡ Some rows
             → IfOk result (λ place. NowHolds (heap_rows self.now.file) (S.pages store.new) (Removed rows place row.now)) }
         ensures others { OnOk result (KeepsOthers self.now.file.file (S.pages store.old) (S.pages store.new)) }
         ensures came { (s : S) → S.came s store.old → S.came s store.new }
@@ -68,7 +68,7 @@ impl Heap {
         store: &mut S,
         row: &Row,
     ) -> Result<Option<Place>, BaseFault>
-        ensures told { (m : Image) (rows : Placed) → S.pages store.old ≡ Some m → heap_rows self.now.file m ≡ Some rows
+        ensures known { (m : Image) (rows : Placed) → S.pages store.old ≡ Some m → heap_rows self.now.file m ≡ Some rows
             → IfOk result (λ place. NowHolds (heap_rows self.now.file) (S.pages store.new) (Removed rows place row.now)) }
         ensures others { OnOk result (KeepsOthers self.now.file.file (S.pages store.old) (S.pages store.new)) }
         ensures came { (s : S) → S.came s store.old → S.came s store.new }
@@ -85,7 +85,7 @@ impl Heap {
     fn extend<S: PageStore>(&mut self, store: &mut S, coming: &[List<u8>]) -> Result<(), BaseFault>
         requires short { All (λ row. IsShort row) coming.now }
         requires room { self.old.file.used + length coming.now < 2 ^ 32 }
-        ensures told { (m : Image) (rows : Placed) (new : List Values) → S.pages store.old ≡ Some m → heap_rows self.old.file m ≡ Some rows
+        ensures known { (m : Image) (rows : Placed) (new : List Values) → S.pages store.old ≡ Some m → heap_rows self.old.file m ≡ Some rows
             → All (λ row. IsTrue (is_row row self.old.file.domains)) new → coming.now ≡ map (λ row. row_bytes row self.old.file.domains) new
             → OnOk result (NowHolds (heap_rows self.new.file) (S.pages store.new) (Replaced rows [] new)) }
         ensures others { OnOk result (KeepsOthers self.old.file.file (S.pages store.old) (S.pages store.new)) }
@@ -108,7 +108,7 @@ impl Heap {
     ) -> Result<bool, BaseFault>
         requires short { All (λ row. IsShort row) coming.now }
         requires room { self.old.file.used + length coming.now < 2 ^ 32 }
-        ensures told { (m : Image) (rows : Placed) (gone new : List Values) → S.pages store.old ≡ Some m → heap_rows self.old.file m ≡ Some rows
+        ensures known { (m : Image) (rows : Placed) (gone new : List Values) → S.pages store.old ≡ Some m → heap_rows self.old.file m ≡ Some rows
             → All (λ row. IsTrue (is_row row self.old.file.domains)) gone → going.now ≡ map (λ row. row_bytes row self.old.file.domains) gone
             → All (λ row. IsTrue (is_row row self.old.file.domains)) new → coming.now ≡ map (λ row. row_bytes row self.old.file.domains) new
             → rows_differ (rows_of rows) ≡ true → rows_differ gone ≡ true → All (λ row. IsTrue (has (rows_of rows) row)) gone
@@ -144,7 +144,7 @@ impl Heap {
         requires going { All (λ row. IsTrue (is_row row self.old.file.domains)) going.now }
         requires coming { All (λ row. IsTrue (is_row row self.old.file.domains)) coming.now }
         requires room { self.old.file.used + length coming.now < 2 ^ 32 }
-        ensures told { (m : Image) (rows : Placed) → S.pages store.old ≡ Some m → heap_rows self.old.file m ≡ Some rows
+        ensures known { (m : Image) (rows : Placed) → S.pages store.old ≡ Some m → heap_rows self.old.file m ≡ Some rows
             → rows_differ (rows_of rows) ≡ true → rows_differ going.now ≡ true → All (λ row. IsTrue (has (rows_of rows) row)) going.now
             → IfOk result (λ all. IsTrue all × NowHolds (heap_rows self.new.file) (S.pages store.new) (Replaced rows going.now coming.now)) }
         // True only where all that were to go were there.

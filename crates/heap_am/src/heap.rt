@@ -59,7 +59,7 @@ impl Heap {
         requires most { widths file.domains ≤ 1012 }
         requires fit { All (λ row. IsTrue (is_row row file.domains)) rows.now }
         requires few { length rows.now < 2 ^ 30 }
-        ensures told { (m : Image) → S.pages store.old ≡ Some m → IfOk result (λ heap. NowHolds (heap_rows heap.file) (S.pages store.new) (λ placed. rows_of placed ≡ rows.now)) }
+        ensures known { (m : Image) → S.pages store.old ≡ Some m → IfOk result (λ heap. NowHolds (heap_rows heap.file) (S.pages store.new) (λ placed. rows_of placed ≡ rows.now)) }
         ensures others { OnOk result (KeepsOthers file.file (S.pages store.old) (S.pages store.new)) }
         ensures file { IfOk result (λ heap. IsMade file heap.file) }
         ensures came { (s : S) → S.came s store.old → S.came s store.new }

@@ -65,7 +65,7 @@ impl Heap {
     ) -> Result<Option<Row>, BaseFault>
         requires page { IsPage page.now }
         requires below { number < self.now.file.used }
-        ensures told { (m : Image) (rows : Placed) → heap_rows self.now.file m ≡ Some rows → m (page_at self.now.file.file number) ≡ Some page.now
+        ensures known { (m : Image) (rows : Placed) → heap_rows self.now.file m ≡ Some rows → m (page_at self.now.file.file number) ≡ Some page.now
             → IfOk result (λ row. row ≡ row_with rows (place_of number line)) }
         ensures read { OnOk result (IsTrue (is_readable (reader self.now.file.domains) (slice_index_or (slots page.now) line None))) }
         ensures fault { IfErr result (IsOfPage self.now.file number page.now) }

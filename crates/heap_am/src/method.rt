@@ -24,7 +24,7 @@ impl Heap {
         place: &Place,
     ) -> Result<Option<Row>, BaseFault>
         requires below { place.now.page < self.now.file.used }
-        ensures told { (m : Image) (rows : Placed) → S.pages store.old ≡ Some m → heap_rows self.now.file m ≡ Some rows
+        ensures known { (m : Image) (rows : Placed) → S.pages store.old ≡ Some m → heap_rows self.now.file m ≡ Some rows
             → IfOk result (λ row. row ≡ row_with rows place.now) }
         ensures same { S.pages store.new ≡ S.pages store.old }
         ensures came { (s : S) → S.came s store.old → S.came s store.new }

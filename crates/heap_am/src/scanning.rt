@@ -52,7 +52,7 @@ impl Heap {
     ) -> Result<Option<Row>, BaseFault>
         requires page { IsPage page.now }
         requires below { number < self.now.file.used }
-        ensures told { (m : Image) (rows : Placed) → heap_rows self.now.file m ≡ Some rows → m (page_at self.now.file.file number) ≡ Some page.now
+        ensures known { (m : Image) (rows : Placed) → heap_rows self.now.file m ≡ Some rows → m (page_at self.now.file.file number) ≡ Some page.now
             → IfOk result (MetBefore rows probe.now (place_of number line) (place_of number (line + 1))) }
         ensures stood { (m : Image) (rows : Placed) → heap_rows self.now.file m ≡ Some rows → m (page_at self.now.file.file number) ≡ Some page.now
             → IfOk result (λ row. IfSome row (λ r. row_with rows (place_of number line) ≡ Some r)) }
@@ -81,7 +81,7 @@ impl Heap {
     ) -> Result<Option<(u16, Row)>, BaseFault>
         requires page { IsPage page.now }
         requires below { number < self.now.file.used }
-        ensures told { (m : Image) (rows : Placed) → heap_rows self.now.file m ≡ Some rows → m (page_at self.now.file.file number) ≡ Some page.now
+        ensures known { (m : Image) (rows : Placed) → heap_rows self.now.file m ≡ Some rows → m (page_at self.now.file.file number) ≡ Some page.now
             → IfOk result (MetOn rows probe.now number from) }
         ensures within { IfOk result (λ found. IfSome found (λ f. f.0 < 256)) }
         ensures fault { IfErr result (IsOfPage self.now.file number page.now) }
@@ -106,7 +106,7 @@ impl Heap {
         requires page { IsPage page.now }
         requires below { at.old.page < self.now.file.used }
         requires small { at.old.page + 1 < 2 ^ 32 }
-        ensures told { (m : Image) (rows : Placed) → heap_rows self.now.file m ≡ Some rows → m (page_at self.now.file.file at.old.page) ≡ Some page.now
+        ensures known { (m : Image) (rows : Placed) → heap_rows self.now.file m ≡ Some rows → m (page_at self.now.file.file at.old.page) ≡ Some page.now
             → IfOk result (MetBefore rows probe.now at.old at.new) }
         ensures place { (m : Image) (rows : Placed) → heap_rows self.now.file m ≡ Some rows → m (page_at self.now.file.file at.old.page) ≡ Some page.now
             → GivesBefore rows at.new result }
@@ -136,7 +136,7 @@ impl Heap {
     ) -> Result<Option<Row>, BaseFault>
         requires below { at.old.page < self.now.file.used }
         requires small { at.old.page + 1 < 2 ^ 32 }
-        ensures told { (m : Image) (rows : Placed) → S.pages store.old ≡ Some m → heap_rows self.now.file m ≡ Some rows
+        ensures known { (m : Image) (rows : Placed) → S.pages store.old ≡ Some m → heap_rows self.now.file m ≡ Some rows
             → IfOk result (MetBefore rows probe.now at.old at.new) }
         ensures place { (m : Image) (rows : Placed) → S.pages store.old ≡ Some m → heap_rows self.now.file m ≡ Some rows
             → GivesBefore rows at.new result }
@@ -161,7 +161,7 @@ impl Heap {
         probe: &Probe,
         at: &mut Place,
     ) -> Result<Option<Row>, BaseFault>
-        ensures told { (m : Image) (rows : Placed) → S.pages store.old ≡ Some m → heap_rows self.now.file m ≡ Some rows
+        ensures known { (m : Image) (rows : Placed) → S.pages store.old ≡ Some m → heap_rows self.now.file m ≡ Some rows
             → Gives probe.now (rows_from rows) at.old at.new result }
         ensures over { (m : Image) (rows : Placed) → S.pages store.old ≡ Some m → heap_rows self.now.file m ≡ Some rows
             → IsOver probe.now (rows_from rows) at.new result }

@@ -33,7 +33,7 @@ impl Heap {
     fn lines(&self, alloc: Global, page: &Page, number: u32) -> Result<List<(u16, Row)>, BaseFault>
         requires page { IsPage page.now }
         requires below { number < self.now.file.used }
-        ensures told { (m : Image) (rows : Placed) → heap_rows self.now.file m ≡ Some rows → m (page_at self.now.file.file number) ≡ Some page.now
+        ensures known { (m : Image) (rows : Placed) → heap_rows self.now.file m ≡ Some rows → m (page_at self.now.file.file number) ≡ Some page.now
             → IfOk result (λ found. placed_from rows (place_of number 0) ≡ on_page number found ++ placed_from rows (place_of (number + 1) 0)) }
         ensures read { OnOk result (IsTrue (has_rows (reader self.now.file.domains) number (Some page.now))) }
         ensures fault { IfErr result (IsOfPage self.now.file number page.now) }
@@ -57,7 +57,7 @@ impl Heap {
         number: u32,
     ) -> Result<List<(u16, Row)>, BaseFault>
         requires below { number < self.now.file.used }
-        ensures told { (m : Image) (rows : Placed) → S.pages store.old ≡ Some m → heap_rows self.now.file m ≡ Some rows
+        ensures known { (m : Image) (rows : Placed) → S.pages store.old ≡ Some m → heap_rows self.now.file m ≡ Some rows
             → IfOk result (λ found. placed_from rows (place_of number 0) ≡ on_page number found ++ placed_from rows (place_of (number + 1) 0)) }
         ensures stands { (m : Image) → S.pages store.old ≡ Some m → OnOk result (IsTrue (stands (reader self.now.file.domains) self.now.file.used number (m (page_at self.now.file.file number)))) }
         ensures same { S.pages store.new ≡ S.pages store.old }

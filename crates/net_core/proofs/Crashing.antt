@@ -6,10 +6,10 @@ use Rattle.am_traits.proofs.Crashes.{asked_leaves, leaves_as, leaves_more, nothi
 use Rattle.am_traits.specs.Crashes.{LeavesBut, Stands}
 use Rattle.calculus.specs.Database.{Db}
 use Rattle.net_core.specs.Crashes.{HandsOver, MayLeave, QuietWithout, StaysDurable, StepCrash, StepLeaves, TurnsLeave, WorkLeaves}
-use Rattle.net_core.specs.Told.{KeepsDatabase, Outside, told}
+use Rattle.net_core.specs.Known.{KeepsDatabase, Outside, known}
 use Rattle.net_core.specs.Whole.{seen, state_at}
 use Rattle.net_core.proofs.Turning.{TurnsDone}
-use Rattle.network_meaning.specs.Calls.{Moves, Shape, Tells, stage_number}
+use Rattle.network_meaning.specs.Calls.{Moves, Shape, Knows, stage_number}
 use Rattle.network_meaning.specs.Language.{Language}
 use Rattle.network_meaning.specs.LocalSteps.{Mode, Want as Wish, Want.work, Room as NetworkRoom}
 use Rattle.network_meaning.specs.Network.{LocalState, want}
@@ -89,13 +89,13 @@ left_by_stage serves all s s' t o o' left left' schema result e part d = record 
 
 -- what the turns so far have done to the disk, of these in all
 pub record TurnsCrash (capacity : ℕ) (turns : List ℕ) (serves : User → Type 0) (old : Shape quel_sorts) (before after : Outside) (left left' : ℕ → Option Db → Type 0) : Type 0 where
-  pub tells : (user : User) → serves user → (r : NetworkRoom quel_sorts) → Tells (told before) r → (r' : NetworkRoom quel_sorts) × Tells (told after) r'
+  pub knows : (user : User) → serves user → (r : NetworkRoom quel_sorts) → Knows (known before) r → (r' : NetworkRoom quel_sorts) × Knows (known after) r'
   pub crash : (user : User) → serves user → TurnsLeave (quel user) capacity turns (seen old before) before.clock after.clock left left'
   pub durable : StaysDurable before after left left'
 
 pub no_turn : (capacity : ℕ) (turns : List ℕ) (serves : User → Type 0) (old : Shape quel_sorts) (o : Outside) (left : ℕ → Option Db → Type 0) → TurnsCrash capacity turns serves old o o left left
 no_turn capacity turns serves old o left = record {
-  tells = λ user x r t. (r, t);
+  knows = λ user x r t. (r, t);
   crash = λ user x r t. nothing_else _ o.clock left;
   durable = durable_same o left;
 }
@@ -106,14 +106,14 @@ pub turns_leave : (capacity : ℕ) (turns : List ℕ) (i : ℕ) (a b : Shape que
     ((user : User) → serves' user → StepLeaves (quel user) (state_at b (stage_number (get_or turns i 0))) o' o'' left' left'') →
     (user : User) → serves user → TurnsLeave (quel user) capacity turns (seen a o) o.clock o''.clock left left''
 turns_leave capacity turns i a b o o' o'' h h' one one' serves serves' numbers numbers' left left' left'' lt d c step user x r t =
-    let mid = c.tells user x r t in
+    let mid = c.knows user x r t in
     leaves_more _ _ o.clock o'.clock o''.clock left left' left'' (λ db may. record {
       at = i;
       there = lt;
       before = seen b o';
       room = mid.0;
       runs = d.runs user x;
-      told = mid.1;
+      known = mid.1;
       leaves = may;
     }) (c.crash user x r t) (step user (d.serve user x) mid.0 mid.1)
 
@@ -123,7 +123,7 @@ pub one_more_turn : (capacity capacity' : ℕ) (turns : List ℕ) (i : ℕ) (blo
     ((user : User) → serves' user → StepLeaves (quel user) (state_at b (stage_number (get_or turns i 0))) o' o'' left' left'') →
     StaysDurable o' o'' left' left'' → TurnsCrash capacity turns serves a o o'' left left''
 one_more_turn capacity capacity' turns i blocked a b c o o' o'' h h' one one' serves serves' numbers numbers' left left' left'' lt d was moves step durable = record {
-  tells = λ user x r t. let mid = was.tells user x r t in let x' = (moves user (d.serve user x)).exact mid.0 mid.1 in (x'.room', x'.told);
+  knows = λ user x r t. let mid = was.knows user x r t in let x' = (moves user (d.serve user x)).exact mid.0 mid.1 in (x'.room', x'.known);
   crash = turns_leave capacity turns i a b o o' o'' h h' one one' serves serves' numbers numbers' left left' left'' lt d was step;
   durable = durable_more o o' o'' left left' left'' d.database was.durable durable;
 }

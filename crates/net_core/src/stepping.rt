@@ -2,7 +2,7 @@
 
 ghost use Rattle.std.specs.Prelude.{◌≡◌, length};
 ghost use Rattle.net_core.specs.Crashes.{StepCrash};
-ghost use Rattle.net_core.specs.Told.{outside};
+ghost use Rattle.net_core.specs.Known.{outside};
 ghost use Rattle.quel_network.specs.Sorts.{User};
 ghost use Rattle.net_core.specs.Incoming.{IsHeld};
 ghost use Rattle.net_core.specs.Sides.{sides};

@@ -3,7 +3,7 @@
 ghost use Rattle.std.specs.Prelude.{◌≡◌, OnOk};
 ghost use Rattle.net_core.specs.Crashes.{HandsOver, QuietWithout, StaysDurable, WorkLeaves};
 ghost use Rattle.net_core.specs.Reads.{CountsHeard};
-ghost use Rattle.net_core.specs.Told.{KeepsDatabase, KeepsScript, Later, outside};
+ghost use Rattle.net_core.specs.Known.{KeepsDatabase, KeepsScript, Later, outside};
 ghost use Rattle.net_core.specs.Wants.{IsToWork};
 ghost use Rattle.quel_network.specs.Quel.{quel};
 ghost use Rattle.quel_network.specs.Sorts.{User};

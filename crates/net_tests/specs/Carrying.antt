@@ -52,10 +52,10 @@ of_base base_faults.OutOfMemory = faults.OutOfMemory
 
 -- this fault comes of a database: of the disk where its count rose; else that stayed: of damage where no database is known, and want of memory
 abbrev pub MayComeOf : Option Db → ℕ → ℕ → WorkFault → Type 0
-MayComeOf told before now faults.Disk = Rose before now
-MayComeOf told before now (faults.Damaged file page) = (told ≡ None) × (now ≡ before)
-MayComeOf told before now faults.OutOfMemory = now ≡ before
-MayComeOf told before now _ = ⊥
+MayComeOf known before now faults.Disk = Rose before now
+MayComeOf known before now (faults.Damaged file page) = (known ≡ None) × (now ≡ before)
+MayComeOf known before now faults.OutOfMemory = now ≡ before
+MayComeOf known before now _ = ⊥
 
 -- the change was carried out, and the database handed over; or it failed, by a fault of the database
 pub record CarriedOut (db db' schema' : Option Db) (count count' clock clock' : ℕ) (left left' : ℕ → Option Db → Type 0) (result : Result (Unit {0}) WorkFault) : Type 0 where

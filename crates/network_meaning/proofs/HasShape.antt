@@ -86,15 +86,15 @@ parsed_turn : {S : Sorts} (L : Language S) (ranges : S.Ranges) (next : Next S) (
 parsed_turn L ranges no_more act e = rw e refl
 parsed_turn L ranges (bad r) act e = rw e refl
 parsed_turn L ranges (found s line b) act (shape_names ranges' e) = rw e refl
-parsed_turn L ranges (found s line b) act (shape_objects r told e) = rw e refl
-parsed_turn L ranges (found s line b) act (shape_runs t told e) = rw e refl
+parsed_turn L ranges (found s line b) act (shape_objects r known e) = rw e refl
+parsed_turn L ranges (found s line b) act (shape_runs t known e) = rw e refl
 
 processed_turn : {S : Sorts} (L : Language S) (t : S.Tree) (kind : Kind) (act : Act S) → ProcessShape L t kind act → turns_behind third act ≡ 1
-processed_turn L t answer act (shape_tables ts tops fit told e) = rw e (shown_left (all_shown ts) (end ∷ []) 0)
+processed_turn L t answer act (shape_tables ts tops fit known e) = rw e (shown_left (all_shown ts) (end ∷ []) 0)
 processed_turn L t answer act (answer_refused h) = rw h.is refl
-processed_turn L t update act (changes c told e) = rw e refl
+processed_turn L t update act (changes c known e) = rw e refl
 processed_turn L t update act (update_refused h) = rw h.is refl
-processed_turn L t utility act (told, e) = rw e refl
+processed_turn L t utility act (known, e) = rw e refl
 
 -- work of its shape leaves the turn where it goes on with it: at the stage, or in one message that it gives
 pub shape_turn : {S : Sorts} (L : Language S) (mode : Mode S) (act : Act S) → WorkShape L mode act → turns_behind (worker mode) act ≡ also (has_turn (worker mode) mode) 0

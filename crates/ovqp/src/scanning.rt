@@ -29,7 +29,7 @@ fn put_scanned<B: Base>(
 ) -> Result<(), QueryFault>
     requires any { probe.now.equal ≡ [] }
     requires empty { given.old.items ≡ [] }
-    ensures told { (db : Db) → B.database base.old ≡ Some db → (q : Query) → IsQueryOf q rel.now qual.now targets.now
+    ensures known { (db : Db) → B.database base.old ≡ Some db → (q : Query) → IsQueryOf q rel.now qual.now targets.now
         → OnOk result (Gives no_aggs q (map alone (B.left base.old rel.now first_place)) [] given.new.items) }
     ensures kept { B.database base.new ≡ B.database base.old }
     ensures stays { (s : Db) → B.schema base.old ≡ Some s → B.schema base.new ≡ Some s }

@@ -5,7 +5,7 @@ ghost use Rattle.disk_model.specs.Disk.{Image};
 ghost use Rattle.access_traits.specs.Causes.{HasStoreCause};
 ghost use Rattle.access_traits.specs.Pages.{with_page};
 ghost use Rattle.page_cells.specs.Page.{IsPage, next_page, slots};
-ghost use Rattle.page_chain.specs.Filled.{InHand, IsFilled, IsLinked, ToldLaid};
+ghost use Rattle.page_chain.specs.Filled.{InHand, IsFilled, IsLinked, KnownLaid};
 ghost use Rattle.page_chain.specs.Lying.{IsShort};
 ghost use Rattle.page_chain.specs.Pages.{page_at};
 
@@ -126,7 +126,7 @@ pub(crate) fn lay<S: PageStore>(
     requires room { first + length rows.now < 2 ^ 32 }
     ensures behind { IfOk result (λ now. (first ≤ now) × (now ≤ first + length rows.now)) }
     ensures laid { (m : Image) → S.pages store.old ≡ Some m → IfOk result (λ now.
-        ToldLaid file first now rows.now (with_page (page_at file first) page.old m) (S.pages store.new)) }
+        KnownLaid file first now rows.now (with_page (page_at file first) page.old m) (S.pages store.new)) }
     ensures came { (s : S) → S.came s store.old → S.came s store.new }
     ensures cause { HasStoreCause (S.faults store.old) (S.faults store.new) result }
 {

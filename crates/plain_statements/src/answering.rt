@@ -20,7 +20,7 @@ pub(crate) fn answered<B: Base>(
     asked: &[Asked],
 ) -> Result<Reply, OutOfMemory>
     requires { (db : Db) → B.database base.old ≡ Some db → AreDoable db asked.now }
-    ensures told { (db : Db) → B.database base.old ≡ Some db → IfOk result (λ reply. reply ≡ answer_reply db Free asked.now) }
+    ensures known { (db : Db) → B.database base.old ≡ Some db → IfOk result (λ reply. reply ≡ answer_reply db Free asked.now) }
     ensures kept { B.database base.new ≡ B.database base.old }
 {
     match tables_of(alloc, base, asked) {

@@ -20,7 +20,7 @@ pub(crate) fn changed_by<B: Base>(
     u: &Update,
     pairs: Vec<Pair>,
 ) -> Result<DbChange, Stopped>
-    ensures told { (db : Db) → B.database base.old ≡ Some db → MakesNew db u.now → ArePairs db u.now pairs.items
+    ensures known { (db : Db) → B.database base.old ≡ Some db → MakesNew db u.now → ArePairs db u.now pairs.items
         → Plans (λ change. updated db Free u.now ≡ Ok change) (λ number. updated db Free u.now ≡ Err number) result }
     ensures kept { B.database base.new ≡ B.database base.old }
 {

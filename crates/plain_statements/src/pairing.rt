@@ -16,7 +16,7 @@ use std::alloc::Global;
 /// The pairs of an update, for nobody in particular.
 pub(crate) fn paired<B: Base>(alloc: Global, base: &mut B, u: &Update) -> Result<Vec<Pair>, Stopped>
     requires { (db : Db) → B.database base.old ≡ Some db → CanBeAnswered db u.now.query }
-    ensures told { (db : Db) → B.database base.old ≡ Some db → Plans (λ ps. ArePairs db u.now ps.items) (λ number. updated db Free u.now ≡ Err number) result }
+    ensures known { (db : Db) → B.database base.old ≡ Some db → Plans (λ ps. ArePairs db u.now ps.items) (λ number. updated db Free u.now ≡ Err number) result }
     ensures kept { B.database base.new ≡ B.database base.old }
 {
     let pairs = pairs_of(alloc, base, u)?;

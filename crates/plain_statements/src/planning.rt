@@ -22,7 +22,7 @@ pub(crate) fn update_planned<B: Base>(
     u: &Update,
 ) -> Result<DbChange, Stopped>
     requires { (db : Db) → B.database base.old ≡ Some db → IsDoableUpdate db u.now }
-    ensures told { (db : Db) → B.database base.old ≡ Some db
+    ensures known { (db : Db) → B.database base.old ≡ Some db
         → Plans (λ change. (updated db Free u.now ≡ Ok change) × IsLawful db change) (λ number. updated db Free u.now ≡ Err number) result }
     ensures kept { B.database base.new ≡ B.database base.old }
 {

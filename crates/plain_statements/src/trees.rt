@@ -23,7 +23,7 @@ pub(crate) fn tree_of<B: Base>(
     s: &Statement,
 ) -> Result<Checked, Stopped>
     requires { is_written s.now ≡ true }
-    ensures told { (db : Db) → B.database base.old ≡ Some db → IsMade db user.now ranges.now s.now result }
+    ensures known { (db : Db) → B.database base.old ≡ Some db → IsMade db user.now ranges.now s.now result }
     ensures kept { B.database base.new ≡ B.database base.old }
 {
     let tree = checked(alloc, s, user, ranges, base)?;

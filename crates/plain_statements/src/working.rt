@@ -23,7 +23,7 @@ pub(crate) fn work_planned<B: Base>(
 ) -> Result<DbChange, Stopped>
     requires doable { (db : Db) → B.database base.old ≡ Some db → IsDoableWork db user.now work.now }
     requires planned { is_copy work.now ≡ false }
-    ensures told { (db : Db) → B.database base.old ≡ Some db
+    ensures known { (db : Db) → B.database base.old ≡ Some db
         → Plans (λ change. (planned db user.now work.now ≡ Ok change) × IsLawful db change) (λ number. planned db user.now work.now ≡ Err number) result }
     ensures kept { B.database base.new ≡ B.database base.old }
 {

@@ -26,7 +26,7 @@ pub fn infos_of<B: Base>(
     ranges: &RangeTable,
     vars: &[Name],
 ) -> Result<Option<Vec<RelInfo>>, BaseFault>
-    ensures told { (db : Db) (user : List ℕ) → B.schema base.old ≡ Some db
+    ensures known { (db : Db) (user : List ℕ) → B.schema base.old ≡ Some db
         → IfOk result (λ found. AreOver (scope_of db user ranges.now) vars.now (option_map (λ infos. infos.items) found)) }
     ensures kept { B.database base.new ≡ B.database base.old }
     ensures stays { (s : Db) → B.schema base.old ≡ Some s → B.schema base.new ≡ Some s }

@@ -22,7 +22,7 @@ pub(crate) fn first_refusal<B: Base>(
     ranges: &RangeTable,
     mentions: &[Mention<'_>],
 ) -> Result<Option<u8>, BaseFault>
-    ensures told { (db : Db) → B.schema base.old ≡ Some db
+    ensures known { (db : Db) → B.schema base.old ≡ Some db
         → IfOk result (λ n. n ≡ first_number (map (mention_refusal (scope_of db user.now ranges.now)) (map seen mentions.now))) }
     ensures kept { B.database base.new ≡ B.database base.old }
     ensures stays { (s : Db) → B.schema base.old ≡ Some s → B.schema base.new ≡ Some s }
@@ -46,7 +46,7 @@ pub(crate) fn refusal_of<B: Base>(
     ranges: &RangeTable,
     mentions: Result<Vec<Mention<'_>>, OutOfMemory>,
 ) -> Result<Option<u8>, BaseFault>
-    ensures told { (db : Db) (names : List Named) → B.schema base.old ≡ Some db
+    ensures known { (db : Db) (names : List Named) → B.schema base.old ≡ Some db
         → IfOk mentions.entry (λ found. map seen found.items ≡ names)
         → IfOk result (λ n. n ≡ first_number (map (mention_refusal (scope_of db user.now ranges.now)) names)) }
     ensures kept { B.database base.new ≡ B.database base.old }

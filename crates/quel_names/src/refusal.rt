@@ -25,7 +25,7 @@ fn head_refusal<B: Base>(
     ranges: &RangeTable,
     s: &Statement,
 ) -> Result<Option<u8>, BaseFault>
-    ensures told { (db : Db) → B.schema base.old ≡ Some db
+    ensures known { (db : Db) → B.schema base.old ≡ Some db
         → IfOk result (λ n. n ≡ first_number (map (mention_refusal (scope_of db user.now ranges.now)) (head s.now))) }
     ensures kept { B.database base.new ≡ B.database base.old }
     ensures stays { (s : Db) → B.schema base.old ≡ Some s → B.schema base.new ≡ Some s }
@@ -43,7 +43,7 @@ fn tail_refusal<B: Base>(
     ranges: &RangeTable,
     s: &Statement,
 ) -> Result<Option<u8>, BaseFault>
-    ensures told { (db : Db) → B.schema base.old ≡ Some db
+    ensures known { (db : Db) → B.schema base.old ≡ Some db
         → IfOk result (λ n. n ≡ first_number (map (mention_refusal (scope_of db user.now ranges.now))
         (query_mentions (scope_of db user.now ranges.now) (title_in s.now) (items_of s.now) (where_of s.now)))) }
     ensures kept { B.database base.new ≡ B.database base.old }
@@ -66,7 +66,7 @@ pub fn name_refusal<B: Base>(
     ranges: &RangeTable,
     base: &mut B,
 ) -> Result<Option<u8>, BaseFault>
-    ensures told { (db : Db) → B.schema base.old ≡ Some db
+    ensures known { (db : Db) → B.schema base.old ≡ Some db
         → IfOk result (λ n. n ≡ name_refusal (scope_of db user.now ranges.now) s.now) }
     ensures kept { B.database base.new ≡ B.database base.old }
     ensures stays { (s : Db) → B.schema base.old ≡ Some s → B.schema base.new ≡ Some s }

@@ -29,7 +29,7 @@ fn set_refusal<B: Base>(
     name: &Name,
     term: &Term,
 ) -> Result<Option<u8>, BaseFault>
-    ensures told { (db : Db) → B.schema base.old ≡ Some db
+    ensures known { (db : Db) → B.schema base.old ≡ Some db
         → IfOk result (λ n. n ≡ first_number (map (mention_refusal (scope_of db user.now ranges.now)) (meant_by role.now name.now ++ dotted (attributes term.now)))) }
     ensures kept { B.database base.new ≡ B.database base.old }
     ensures stays { (s : Db) → B.schema base.old ≡ Some s → B.schema base.new ≡ Some s }
@@ -52,7 +52,7 @@ fn titles_refusal<B: Base>(
     role: &Role<'_>,
     attrs: &[Attr],
 ) -> Result<Option<u8>, BaseFault>
-    ensures told { (db : Db) → B.schema base.old ≡ Some db
+    ensures known { (db : Db) → B.schema base.old ≡ Some db
         → IfOk result (λ n. n ≡ first_number (map (mention_refusal (scope_of db user.now ranges.now)) (flat_map (λ a. meant_by role.now a.name) attrs.now))) }
     ensures kept { B.database base.new ≡ B.database base.old }
     ensures stays { (s : Db) → B.schema base.old ≡ Some s → B.schema base.new ≡ Some s }
@@ -72,7 +72,7 @@ fn all_refusal<B: Base>(
     role: &Role<'_>,
     var: &Name,
 ) -> Result<Option<u8>, BaseFault>
-    ensures told { (db : Db) → B.schema base.old ≡ Some db
+    ensures known { (db : Db) → B.schema base.old ≡ Some db
         → IfOk result (λ n. n ≡ first_number (map (mention_refusal (scope_of db user.now ranges.now)) (item_mentions (scope_of db user.now ranges.now) (meant_by role.now) (All var.now)))) }
     ensures kept { B.database base.new ≡ B.database base.old }
     ensures stays { (s : Db) → B.schema base.old ≡ Some s → B.schema base.new ≡ Some s }
@@ -98,7 +98,7 @@ pub(crate) fn item_refusal<B: Base>(
     role: &Role<'_>,
     item: &Item,
 ) -> Result<Option<u8>, BaseFault>
-    ensures told { (db : Db) → B.schema base.old ≡ Some db
+    ensures known { (db : Db) → B.schema base.old ≡ Some db
         → IfOk result (λ n. n ≡ first_number (map (mention_refusal (scope_of db user.now ranges.now)) (item_mentions (scope_of db user.now ranges.now) (meant_by role.now) item.now))) }
     ensures kept { B.database base.new ≡ B.database base.old }
     ensures stays { (s : Db) → B.schema base.old ≡ Some s → B.schema base.new ≡ Some s }

@@ -26,7 +26,7 @@ fn items_refusal<B: Base>(
     role: &Role<'_>,
     items: &[Item],
 ) -> Result<Option<u8>, BaseFault>
-    ensures told { (db : Db) → B.schema base.old ≡ Some db
+    ensures known { (db : Db) → B.schema base.old ≡ Some db
         → IfOk result (λ n. n ≡ first_number (map (mention_refusal (scope_of db user.now ranges.now)) (flat_map (item_mentions (scope_of db user.now ranges.now) (meant_by role.now)) items.now))) }
     ensures kept { B.database base.new ≡ B.database base.old }
     ensures stays { (s : Db) → B.schema base.old ≡ Some s → B.schema base.new ≡ Some s }
@@ -50,7 +50,7 @@ fn qual_refusal<B: Base>(
     ranges: &RangeTable,
     qual: Option<&Qual>,
 ) -> Result<Option<u8>, BaseFault>
-    ensures told { (db : Db) → B.schema base.old ≡ Some db
+    ensures known { (db : Db) → B.schema base.old ≡ Some db
         → IfOk result (λ n. n ≡ first_number (map (mention_refusal (scope_of db user.now ranges.now)) (dotted (attributes_in_qual (unwrap_or (option_map (λ q. q.now) qual.entry) True))))) }
     ensures kept { B.database base.new ≡ B.database base.old }
     ensures stays { (s : Db) → B.schema base.old ≡ Some s → B.schema base.new ≡ Some s }
@@ -73,7 +73,7 @@ pub(crate) fn query_refusal<B: Base>(
     items: &[Item],
     qual: Option<&Qual>,
 ) -> Result<Option<u8>, BaseFault>
-    ensures told { (db : Db) → B.schema base.old ≡ Some db
+    ensures known { (db : Db) → B.schema base.old ≡ Some db
         → IfOk result (λ n. n ≡ first_number (map (mention_refusal (scope_of db user.now ranges.now))
         (query_mentions (scope_of db user.now ranges.now) (meant_by role.now) items.now (unwrap_or (option_map (λ q. q.now) qual.entry) True)))) }
     ensures kept { B.database base.new ≡ B.database base.old }

@@ -89,7 +89,7 @@ fn source_kinds<B: Base>(
     base: &mut B,
     source: &AggSource,
 ) -> Result<Vec<Kind>, BaseFault>
-    ensures told { (db : Db) → B.schema base.old ≡ Some db → IfOk result (λ kinds. kinds.items ≡ source_kinds db source.now) }
+    ensures known { (db : Db) → B.schema base.old ≡ Some db → IfOk result (λ kinds. kinds.items ≡ source_kinds db source.now) }
     ensures kept { B.database base.new ≡ B.database base.old }
     ensures stays { (s : Db) → B.schema base.old ≡ Some s → B.schema base.new ≡ Some s }
     ensures asked { (b : B) → B.asked b base.old → B.asked b base.new }
@@ -116,7 +116,7 @@ fn inner_kinds<B: Base>(
     base: &mut B,
     source: &AggSource,
 ) -> Result<Vec<Vec<Kind>>, BaseFault>
-    ensures told { (db : Db) → B.schema base.old ≡ Some db → IfOk result (λ vars. map vec_items vars.items ≡ source_kinds db source.now ∷ []) }
+    ensures known { (db : Db) → B.schema base.old ≡ Some db → IfOk result (λ vars. map vec_items vars.items ≡ source_kinds db source.now ∷ []) }
     ensures kept { B.database base.new ≡ B.database base.old }
     ensures stays { (s : Db) → B.schema base.old ≡ Some s → B.schema base.new ≡ Some s }
     ensures asked { (b : B) → B.asked b base.old → B.asked b base.new }
@@ -134,7 +134,7 @@ pub(crate) fn aggregate_kind<B: Base>(
     g: &QAgg,
     vars: &[Vec<Kind>],
 ) -> Result<Option<Kind>, BaseFault>
-    ensures told { (db : Db) → B.schema base.old ≡ Some db → IfOk result (λ kind. kind ≡ aggregate_kind db g.now (map vec_items vars.now)) }
+    ensures known { (db : Db) → B.schema base.old ≡ Some db → IfOk result (λ kind. kind ≡ aggregate_kind db g.now (map vec_items vars.now)) }
     ensures kept { B.database base.new ≡ B.database base.old }
     ensures stays { (s : Db) → B.schema base.old ≡ Some s → B.schema base.new ≡ Some s }
     ensures asked { (b : B) → B.asked b base.old → B.asked b base.new }

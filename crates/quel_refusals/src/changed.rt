@@ -31,7 +31,7 @@ fn has_catalogue_key(key: &RelKey, dba: &Name) -> bool
 
 /// Whether a catalogue stands under the key.
 fn is_catalogue<B: Base>(alloc: Global, base: &mut B, key: &RelKey) -> Result<bool, BaseFault>
-    ensures told { (db : Db) → B.schema base.old ≡ Some db → IfOk result (λ b. b ≡ is_catalogue db key.now) }
+    ensures known { (db : Db) → B.schema base.old ≡ Some db → IfOk result (λ b. b ≡ is_catalogue db key.now) }
     ensures kept { B.database base.new ≡ B.database base.old }
     ensures stays { (s : Db) → B.schema base.old ≡ Some s → B.schema base.new ≡ Some s }
     ensures asked { (b : B) → B.asked b base.old → B.asked b base.new }
@@ -43,7 +43,7 @@ fn is_catalogue<B: Base>(alloc: Global, base: &mut B, key: &RelKey) -> Result<bo
 
 /// Whether a view stands under the key.
 fn is_view<B: Base>(alloc: Global, base: &mut B, key: &RelKey) -> Result<bool, BaseFault>
-    ensures told { (db : Db) → B.schema base.old ≡ Some db → IfOk result (λ b. b ≡ is_some (view_at db key.now)) }
+    ensures known { (db : Db) → B.schema base.old ≡ Some db → IfOk result (λ b. b ≡ is_some (view_at db key.now)) }
     ensures kept { B.database base.new ≡ B.database base.old }
     ensures stays { (s : Db) → B.schema base.old ≡ Some s → B.schema base.new ≡ Some s }
     ensures asked { (b : B) → B.asked b base.old → B.asked b base.new }
@@ -61,7 +61,7 @@ pub fn relation_cause<B: Base>(
     base: &mut B,
     rel: &RelKey,
 ) -> Result<Option<u8>, BaseFault>
-    ensures told { (db : Db) → B.schema base.old ≡ Some db → IfOk result (λ n. n ≡ first_cause ((28, is_catalogue db rel.now) ∷ (26, is_some (view_at db rel.now)) ∷ [])) }
+    ensures known { (db : Db) → B.schema base.old ≡ Some db → IfOk result (λ n. n ≡ first_cause ((28, is_catalogue db rel.now) ∷ (26, is_some (view_at db rel.now)) ∷ [])) }
     ensures kept { B.database base.new ≡ B.database base.old }
     ensures stays { (s : Db) → B.schema base.old ≡ Some s → B.schema base.new ≡ Some s }
     ensures asked { (b : B) → B.asked b base.old → B.asked b base.new }
@@ -79,7 +79,7 @@ pub fn relation_cause<B: Base>(
 /// Whether the kinds in an update's query fit each other, and those of its targets the attributes
 /// that they are for.
 fn update_fits<B: Base>(alloc: Global, base: &mut B, u: &Update) -> Result<bool, BaseFault>
-    ensures told { (db : Db) → B.schema base.old ≡ Some db → wanted_kinds db u.now ≡ map (slice_get (kinds_at db u.now.rel)) u.now.places → IfOk result (λ fit. fit ≡ (query_fits db u.now.query && assignments_fit db u.now)) }
+    ensures known { (db : Db) → B.schema base.old ≡ Some db → wanted_kinds db u.now ≡ map (slice_get (kinds_at db u.now.rel)) u.now.places → IfOk result (λ fit. fit ≡ (query_fits db u.now.query && assignments_fit db u.now)) }
     ensures kept { B.database base.new ≡ B.database base.old }
     ensures stays { (s : Db) → B.schema base.old ≡ Some s → B.schema base.new ≡ Some s }
     ensures asked { (b : B) → B.asked b base.old → B.asked b base.new }
@@ -98,7 +98,7 @@ pub(crate) fn update_cause<B: Base>(
     base: &mut B,
     u: &Update,
 ) -> Result<Option<u8>, BaseFault>
-    ensures told { (s : Scope) → B.schema base.old ≡ Some s.db → sources_list_few u.now.query ≡ true → wanted_kinds s.db u.now ≡ map (slice_get (kinds_at s.db u.now.rel)) u.now.places → IfOk result (λ n. n ≡ first_cause (update_causes s true u.now)) }
+    ensures known { (s : Scope) → B.schema base.old ≡ Some s.db → sources_list_few u.now.query ≡ true → wanted_kinds s.db u.now ≡ map (slice_get (kinds_at s.db u.now.rel)) u.now.places → IfOk result (λ n. n ≡ first_cause (update_causes s true u.now)) }
     ensures kept { B.database base.new ≡ B.database base.old }
     ensures stays { (s : Db) → B.schema base.old ≡ Some s → B.schema base.new ≡ Some s }
     ensures asked { (b : B) → B.asked b base.old → B.asked b base.new }
@@ -122,7 +122,7 @@ pub(crate) fn delete_cause<B: Base>(
     base: &mut B,
     u: &Update,
 ) -> Result<Option<u8>, BaseFault>
-    ensures told { (s : Scope) → B.schema base.old ≡ Some s.db → sources_list_few u.now.query ≡ true → IfOk result (λ n. n ≡ first_cause (delete_causes s true u.now)) }
+    ensures known { (s : Scope) → B.schema base.old ≡ Some s.db → sources_list_few u.now.query ≡ true → IfOk result (λ n. n ≡ first_cause (delete_causes s true u.now)) }
     ensures kept { B.database base.new ≡ B.database base.old }
     ensures stays { (s : Db) → B.schema base.old ≡ Some s → B.schema base.new ≡ Some s }
     ensures asked { (b : B) → B.asked b base.old → B.asked b base.new }

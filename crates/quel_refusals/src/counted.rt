@@ -27,7 +27,7 @@ fn listed_variables(alloc: Global, query: &Query) -> Result<usize, OutOfMemory>
 /// Whether a query lists more variables than it may, as it stands or once the views in it are put in,
 /// those of its aggregates counted too, where no query that is a source lists more than 256.
 pub fn has_too_many<B: Base>(alloc: Global, base: &mut B, query: &Query) -> Result<bool, BaseFault>
-    ensures told { (db : Db) → B.schema base.old ≡ Some db → sources_list_few query.now ≡ true → IfOk result (λ many. many ≡ has_too_many db query.now) }
+    ensures known { (db : Db) → B.schema base.old ≡ Some db → sources_list_few query.now ≡ true → IfOk result (λ many. many ≡ has_too_many db query.now) }
     ensures kept { B.database base.new ≡ B.database base.old }
     ensures stays { (s : Db) → B.schema base.old ≡ Some s → B.schema base.new ≡ Some s }
     ensures asked { (b : B) → B.asked b base.old → B.asked b base.new }

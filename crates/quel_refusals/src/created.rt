@@ -39,7 +39,7 @@ pub(crate) fn create_cause<B: Base>(
     name: &Name,
     attrs: &[(Name, Domain)],
 ) -> Result<Option<u8>, BaseFault>
-    ensures told { (s : Scope) → B.schema base.old ≡ Some s.db → s.user ≡ user.now → IfOk result (λ n. n ≡ first_cause ((14, is_full s.db) ∷ (17, repeats (map (λ a. a.0) attrs.now)) ∷ (16, is_too_wide (map (λ a. Of a.1) attrs.now)) ∷ (15, is_taken s.db s.user name.now) ∷ [])) }
+    ensures known { (s : Scope) → B.schema base.old ≡ Some s.db → s.user ≡ user.now → IfOk result (λ n. n ≡ first_cause ((14, is_full s.db) ∷ (17, repeats (map (λ a. a.0) attrs.now)) ∷ (16, is_too_wide (map (λ a. Of a.1) attrs.now)) ∷ (15, is_taken s.db s.user name.now) ∷ [])) }
     ensures kept { B.database base.new ≡ B.database base.old }
     ensures stays { (s : Db) → B.schema base.old ≡ Some s → B.schema base.new ≡ Some s }
     ensures asked { (b : B) → B.asked b base.old → B.asked b base.new }

@@ -34,7 +34,7 @@ fn retrieve_cause<B: Base>(
     sort: &[(Name, bool)],
     q: &Query,
 ) -> Result<Option<u8>, BaseFault>
-    ensures told { (s : Scope) (items : List Item) (qual : Qual) → B.schema base.old ≡ Some s.db → s.user ≡ user.now → sources_list_few q.now ≡ true → IfOk result (λ n. n ≡ first_cause (causes_by s true q.now (statement.Retrieve into.now items qual sort.now))) }
+    ensures known { (s : Scope) (items : List Item) (qual : Qual) → B.schema base.old ≡ Some s.db → s.user ≡ user.now → sources_list_few q.now ≡ true → IfOk result (λ n. n ≡ first_cause (causes_by s true q.now (statement.Retrieve into.now items qual sort.now))) }
     ensures kept { B.database base.new ≡ B.database base.old }
     ensures stays { (s : Db) → B.schema base.old ≡ Some s → B.schema base.new ≡ Some s }
     ensures asked { (b : B) → B.asked b base.old → B.asked b base.new }
@@ -53,7 +53,7 @@ fn changed_cause<B: Base>(
     s: &Statement,
     u: &Update,
 ) -> Result<Option<u8>, BaseFault>
-    ensures told { (scope : Scope) (q : Query) → B.schema base.old ≡ Some scope.db → sources_list_few q ≡ true → Some u.now ≡ update_of scope s.now q → IfOk result (λ n. n ≡ first_cause (causes_by scope true q s.now)) }
+    ensures known { (scope : Scope) (q : Query) → B.schema base.old ≡ Some scope.db → sources_list_few q ≡ true → Some u.now ≡ update_of scope s.now q → IfOk result (λ n. n ≡ first_cause (causes_by scope true q s.now)) }
     ensures kept { B.database base.new ≡ B.database base.old }
     ensures stays { (s : Db) → B.schema base.old ≡ Some s → B.schema base.new ≡ Some s }
     ensures asked { (b : B) → B.asked b base.old → B.asked b base.new }
@@ -75,7 +75,7 @@ fn unchanged_cause<B: Base>(
     q: &Query,
     on: Option<&RelInfo>,
 ) -> Result<Option<u8>, BaseFault>
-    ensures told { (scope : Scope) → B.schema base.old ≡ Some scope.db → scope.user ≡ user.now → sources_list_few q.now ≡ true → (keeps_a_text s.now ≡ true → query_aggregates q.now ≡ []) → None ≡ update_of scope s.now q.now → IsOn scope s.now (option_copied on.entry) → is_judged s.now ≡ true → IfOk result (λ n. n ≡ first_cause (causes_by scope true q.now s.now)) }
+    ensures known { (scope : Scope) → B.schema base.old ≡ Some scope.db → scope.user ≡ user.now → sources_list_few q.now ≡ true → (keeps_a_text s.now ≡ true → query_aggregates q.now ≡ []) → None ≡ update_of scope s.now q.now → IsOn scope s.now (option_copied on.entry) → is_judged s.now ≡ true → IfOk result (λ n. n ≡ first_cause (causes_by scope true q.now s.now)) }
     ensures kept { B.database base.new ≡ B.database base.old }
     ensures stays { (s : Db) → B.schema base.old ≡ Some s → B.schema base.new ≡ Some s }
     ensures asked { (b : B) → B.asked b base.old → B.asked b base.new }
@@ -106,7 +106,7 @@ pub fn cause<B: Base>(
     update: Option<&Update>,
     on: Option<&RelInfo>,
 ) -> Result<Option<u8>, BaseFault>
-    ensures told { (scope : Scope) → B.schema base.old ≡ Some scope.db → scope.user ≡ user.now → q.now ≡ query_of scope s.now → option_map (λ v. v.now) update.entry ≡ update_of scope s.now q.now → IsOn scope s.now (option_copied on.entry) → aggregates_stand scope s.now ≡ true → is_judged s.now ≡ true → IfOk result (λ n. n ≡ first_cause (causes scope s.now)) }
+    ensures known { (scope : Scope) → B.schema base.old ≡ Some scope.db → scope.user ≡ user.now → q.now ≡ query_of scope s.now → option_map (λ v. v.now) update.entry ≡ update_of scope s.now q.now → IsOn scope s.now (option_copied on.entry) → aggregates_stand scope s.now ≡ true → is_judged s.now ≡ true → IfOk result (λ n. n ≡ first_cause (causes scope s.now)) }
     ensures kept { B.database base.new ≡ B.database base.old }
     ensures stays { (s : Db) → B.schema base.old ≡ Some s → B.schema base.new ≡ Some s }
     ensures asked { (b : B) → B.asked b base.old → B.asked b base.new }

@@ -37,7 +37,7 @@ pub fn standing_permits<B: Base>(
     base: &mut B,
     rel: &RelKey,
 ) -> Result<Vec<u32>, BaseFault>
-    ensures told { (db : Db) → B.schema base.old ≡ Some db → IfOk result (λ numbers. numbers.items ≡ permit_numbers db rel.now) }
+    ensures known { (db : Db) → B.schema base.old ≡ Some db → IfOk result (λ numbers. numbers.items ≡ permit_numbers db rel.now) }
     ensures kept { B.database base.new ≡ B.database base.old }
     ensures stays { (s : Db) → B.schema base.old ≡ Some s → B.schema base.new ≡ Some s }
     ensures asked { (b : B) → B.asked b base.old → B.asked b base.new }
@@ -55,7 +55,7 @@ pub fn standing_rules<B: Base>(
     base: &mut B,
     rel: &RelKey,
 ) -> Result<Vec<u32>, BaseFault>
-    ensures told { (db : Db) → B.schema base.old ≡ Some db → IfOk result (λ numbers. numbers.items ≡ rule_numbers db rel.now) }
+    ensures known { (db : Db) → B.schema base.old ≡ Some db → IfOk result (λ numbers. numbers.items ≡ rule_numbers db rel.now) }
     ensures kept { B.database base.new ≡ B.database base.old }
     ensures stays { (s : Db) → B.schema base.old ≡ Some s → B.schema base.new ≡ Some s }
     ensures asked { (b : B) → B.asked b base.old → B.asked b base.new }

@@ -68,7 +68,7 @@ fn rules_fill(rules: &[Rule]) -> bool
 
 /// Whether a relation may have no more permits.
 fn has_all_permits<B: Base>(alloc: Global, base: &mut B, rel: &RelKey) -> Result<bool, BaseFault>
-    ensures told { (db : Db) → B.schema base.old ≡ Some db → IfOk result (λ full. full ≡ is_past_limit 100 (permit_numbers db rel.now)) }
+    ensures known { (db : Db) → B.schema base.old ≡ Some db → IfOk result (λ full. full ≡ is_past_limit 100 (permit_numbers db rel.now)) }
     ensures kept { B.database base.new ≡ B.database base.old }
     ensures stays { (s : Db) → B.schema base.old ≡ Some s → B.schema base.new ≡ Some s }
     ensures asked { (b : B) → B.asked b base.old → B.asked b base.new }
@@ -80,7 +80,7 @@ fn has_all_permits<B: Base>(alloc: Global, base: &mut B, rel: &RelKey) -> Result
 
 /// Whether a relation may have no more rules.
 fn has_all_rules<B: Base>(alloc: Global, base: &mut B, rel: &RelKey) -> Result<bool, BaseFault>
-    ensures told { (db : Db) → B.schema base.old ≡ Some db → IfOk result (λ full. full ≡ is_past_limit 100 (rule_numbers db rel.now)) }
+    ensures known { (db : Db) → B.schema base.old ≡ Some db → IfOk result (λ full. full ≡ is_past_limit 100 (rule_numbers db rel.now)) }
     ensures kept { B.database base.new ≡ B.database base.old }
     ensures stays { (s : Db) → B.schema base.old ≡ Some s → B.schema base.new ≡ Some s }
     ensures asked { (b : B) → B.asked b base.old → B.asked b base.new }
@@ -115,7 +115,7 @@ fn row_qual_stands<B: Base>(
     rel: &RelKey,
     qual: &QQual,
 ) -> Result<bool, BaseFault>
-    ensures told { (db : Db) → B.schema base.old ≡ Some db → IfOk result (λ stands. stands ≡ row_qual_stands db rel.now qual.now) }
+    ensures known { (db : Db) → B.schema base.old ≡ Some db → IfOk result (λ stands. stands ≡ row_qual_stands db rel.now qual.now) }
     ensures kept { B.database base.new ≡ B.database base.old }
     ensures stays { (s : Db) → B.schema base.old ≡ Some s → B.schema base.new ≡ Some s }
     ensures asked { (b : B) → B.asked b base.old → B.asked b base.new }
@@ -149,7 +149,7 @@ fn row_cause<B: Base>(
     no_room: bool,
     q: &Query,
 ) -> Result<Option<u8>, BaseFault>
-    ensures told { (db : Db) → B.schema base.old ≡ Some db → query_aggregates q.now ≡ [] → IfOk result (λ n. n ≡ first_cause ((14, nat_lt 1 (length (vars_of q.now)) || (no_room || not (row_qual_is_small (qual_of q.now)))) ∷ (13, not (row_qual_stands db rel.now (qual_of q.now))) ∷ [])) }
+    ensures known { (db : Db) → B.schema base.old ≡ Some db → query_aggregates q.now ≡ [] → IfOk result (λ n. n ≡ first_cause ((14, nat_lt 1 (length (vars_of q.now)) || (no_room || not (row_qual_is_small (qual_of q.now)))) ∷ (13, not (row_qual_stands db rel.now (qual_of q.now))) ∷ [])) }
     ensures kept { B.database base.new ≡ B.database base.old }
     ensures stays { (s : Db) → B.schema base.old ≡ Some s → B.schema base.new ≡ Some s }
     ensures asked { (b : B) → B.asked b base.old → B.asked b base.new }
@@ -172,7 +172,7 @@ pub(crate) fn permit_cause<B: Base>(
     attrs: &[Name],
     q: &Query,
 ) -> Result<Option<u8>, BaseFault>
-    ensures told { (s : Scope) (ops : ℕ) (var : List ℕ) (user : Option (List ℕ)) (qual : WrittenQual) → B.schema base.old ≡ Some s.db → IsOver s var (option_copied on.entry) → query_aggregates q.now ≡ [] → IfOk result (λ n. n ≡ first_cause (causes_by s true q.now (statement.Permit ops var attrs.now user qual))) }
+    ensures known { (s : Scope) (ops : ℕ) (var : List ℕ) (user : Option (List ℕ)) (qual : WrittenQual) → B.schema base.old ≡ Some s.db → IsOver s var (option_copied on.entry) → query_aggregates q.now ≡ [] → IfOk result (λ n. n ≡ first_cause (causes_by s true q.now (statement.Permit ops var attrs.now user qual))) }
     ensures kept { B.database base.new ≡ B.database base.old }
     ensures stays { (s : Db) → B.schema base.old ≡ Some s → B.schema base.new ≡ Some s }
     ensures asked { (b : B) → B.asked b base.old → B.asked b base.new }
@@ -192,7 +192,7 @@ pub(crate) fn rule_cause<B: Base>(
     on: Option<&RelInfo>,
     q: &Query,
 ) -> Result<Option<u8>, BaseFault>
-    ensures told { (s : Scope) (var : List ℕ) (qual : WrittenQual) → B.schema base.old ≡ Some s.db → IsOver s var (option_copied on.entry) → query_aggregates q.now ≡ [] → IfOk result (λ n. n ≡ first_cause (causes_by s true q.now (statement.Rule var qual))) }
+    ensures known { (s : Scope) (var : List ℕ) (qual : WrittenQual) → B.schema base.old ≡ Some s.db → IsOver s var (option_copied on.entry) → query_aggregates q.now ≡ [] → IfOk result (λ n. n ≡ first_cause (causes_by s true q.now (statement.Rule var qual))) }
     ensures kept { B.database base.new ≡ B.database base.old }
     ensures stays { (s : Db) → B.schema base.old ≡ Some s → B.schema base.new ≡ Some s }
     ensures asked { (b : B) → B.asked b base.old → B.asked b base.new }

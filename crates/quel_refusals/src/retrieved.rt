@@ -46,7 +46,7 @@ pub(crate) fn print_cause<B: Base>(
     sort: &[(Name, bool)],
     q: &Query,
 ) -> Result<Option<u8>, BaseFault>
-    ensures told { (s : Scope) → B.schema base.old ≡ Some s.db → sources_list_few q.now ≡ true → IfOk result (λ n. n ≡ first_cause (print_causes s true sort.now q.now)) }
+    ensures known { (s : Scope) → B.schema base.old ≡ Some s.db → sources_list_few q.now ≡ true → IfOk result (λ n. n ≡ first_cause (print_causes s true sort.now q.now)) }
     ensures kept { B.database base.new ≡ B.database base.old }
     ensures stays { (s : Db) → B.schema base.old ≡ Some s → B.schema base.new ≡ Some s }
     ensures asked { (b : B) → B.asked b base.old → B.asked b base.new }
@@ -68,7 +68,7 @@ pub(crate) fn has_no_room<B: Base>(
     base: &mut B,
     q: &Query,
 ) -> Result<bool, BaseFault>
-    ensures told { (db : Db) → B.schema base.old ≡ Some db → sources_list_few q.now ≡ true → IfOk result (λ none. none ≡ (has_too_many db q.now || is_full db)) }
+    ensures known { (db : Db) → B.schema base.old ≡ Some db → sources_list_few q.now ≡ true → IfOk result (λ none. none ≡ (has_too_many db q.now || is_full db)) }
     ensures kept { B.database base.new ≡ B.database base.old }
     ensures stays { (s : Db) → B.schema base.old ≡ Some s → B.schema base.new ≡ Some s }
     ensures asked { (b : B) → B.asked b base.old → B.asked b base.new }
@@ -105,7 +105,7 @@ pub(crate) fn name_cause<B: Base>(
     user: &Name,
     name: &Name,
 ) -> Result<Option<u8>, BaseFault>
-    ensures told { (db : Db) → B.schema base.old ≡ Some db → IfOk result (λ n. n ≡ first_cause ((15, is_taken db user.now name.now) ∷ [])) }
+    ensures known { (db : Db) → B.schema base.old ≡ Some db → IfOk result (λ n. n ≡ first_cause ((15, is_taken db user.now name.now) ∷ [])) }
     ensures kept { B.database base.new ≡ B.database base.old }
     ensures stays { (s : Db) → B.schema base.old ≡ Some s → B.schema base.new ≡ Some s }
     ensures asked { (b : B) → B.asked b base.old → B.asked b base.new }
@@ -128,7 +128,7 @@ fn kept_cause<B: Base>(
     sort: &[(Name, bool)],
     q: &Query,
 ) -> Result<Option<u8>, BaseFault>
-    ensures told { (s : Scope) → B.schema base.old ≡ Some s.db → s.user ≡ user.now → IfOk result (λ n. n ≡ first_cause ((12, not (sorts_by_titles (targets_of q.now) sort.now)) ∷ (16, is_too_wide (made_kinds q.now)) ∷ (15, is_taken s.db s.user name.now) ∷ [])) }
+    ensures known { (s : Scope) → B.schema base.old ≡ Some s.db → s.user ≡ user.now → IfOk result (λ n. n ≡ first_cause ((12, not (sorts_by_titles (targets_of q.now) sort.now)) ∷ (16, is_too_wide (made_kinds q.now)) ∷ (15, is_taken s.db s.user name.now) ∷ [])) }
     ensures kept { B.database base.new ≡ B.database base.old }
     ensures stays { (s : Db) → B.schema base.old ≡ Some s → B.schema base.new ≡ Some s }
     ensures asked { (b : B) → B.asked b base.old → B.asked b base.new }
@@ -149,7 +149,7 @@ pub(crate) fn into_cause<B: Base>(
     sort: &[(Name, bool)],
     q: &Query,
 ) -> Result<Option<u8>, BaseFault>
-    ensures told { (s : Scope) → B.schema base.old ≡ Some s.db → s.user ≡ user.now → sources_list_few q.now ≡ true → IfOk result (λ n. n ≡ first_cause (into_causes s true name.now sort.now q.now)) }
+    ensures known { (s : Scope) → B.schema base.old ≡ Some s.db → s.user ≡ user.now → sources_list_few q.now ≡ true → IfOk result (λ n. n ≡ first_cause (into_causes s true name.now sort.now q.now)) }
     ensures kept { B.database base.new ≡ B.database base.old }
     ensures stays { (s : Db) → B.schema base.old ≡ Some s → B.schema base.new ≡ Some s }
     ensures asked { (b : B) → B.asked b base.old → B.asked b base.new }

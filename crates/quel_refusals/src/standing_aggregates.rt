@@ -49,7 +49,7 @@ fn holds_another(g: &AggTerm) -> bool
 /// Whether what stands under a key has at most one variable once the views in it are put in.
 #[tactic(auto, using(view_sizes::proofs::Stopped::stopped_le))]
 fn is_plain<B: Base>(alloc: Global, base: &mut B, key: &RelKey) -> Result<bool, BaseFault>
-    ensures told { (db : Db) → B.schema base.old ≡ Some db → IfOk result (λ plain. plain ≡ nat_le (measure_within 16 db key.now).variables 1) }
+    ensures known { (db : Db) → B.schema base.old ≡ Some db → IfOk result (λ plain. plain ≡ nat_le (measure_within 16 db key.now).variables 1) }
     ensures kept { B.database base.new ≡ B.database base.old }
     ensures stays { (s : Db) → B.schema base.old ≡ Some s → B.schema base.new ≡ Some s }
     ensures asked { (b : B) → B.asked b base.old → B.asked b base.new }
@@ -66,7 +66,7 @@ fn ranges_plainly<B: Base>(
     ranges: &RangeTable,
     var: &Name,
 ) -> Result<bool, BaseFault>
-    ensures told { (s : Scope) → B.schema base.old ≡ Some s.db → s.ranges ≡ ranges.now → is_some (ranged s var.now) ≡ true → IfOk result (λ plain. plain ≡ nat_le (measure_of s.db (key_found (ranged s var.now))).variables 1) }
+    ensures known { (s : Scope) → B.schema base.old ≡ Some s.db → s.ranges ≡ ranges.now → is_some (ranged s var.now) ≡ true → IfOk result (λ plain. plain ≡ nat_le (measure_of s.db (key_found (ranged s var.now))).variables 1) }
     ensures kept { B.database base.new ≡ B.database base.old }
     ensures stays { (s : Db) → B.schema base.old ≡ Some s → B.schema base.new ≡ Some s }
     ensures asked { (b : B) → B.asked b base.old → B.asked b base.new }
@@ -90,7 +90,7 @@ fn is_one_plain<B: Base>(
     ranges: &RangeTable,
     vars: &[Name],
 ) -> Result<bool, BaseFault>
-    ensures told { (s : Scope) → B.schema base.old ≡ Some s.db → s.ranges ≡ ranges.now → each_ranges s (front vars.now) ≡ true → IfOk result (λ plain. plain ≡ is_one_plain s vars.now) }
+    ensures known { (s : Scope) → B.schema base.old ≡ Some s.db → s.ranges ≡ ranges.now → each_ranges s (front vars.now) ≡ true → IfOk result (λ plain. plain ≡ is_one_plain s vars.now) }
     ensures kept { B.database base.new ≡ B.database base.old }
     ensures stays { (s : Db) → B.schema base.old ≡ Some s → B.schema base.new ≡ Some s }
     ensures asked { (b : B) → B.asked b base.old → B.asked b base.new }
@@ -113,7 +113,7 @@ fn is_over_one<B: Base>(
     ranges: &RangeTable,
     g: &AggTerm,
 ) -> Result<bool, BaseFault>
-    ensures told { (s : Scope) → B.schema base.old ≡ Some s.db → s.ranges ≡ ranges.now → each_ranges s (front (aggregate_vars g.now)) ≡ true → IfOk result (λ plain. plain ≡ is_one_plain s (aggregate_vars g.now)) }
+    ensures known { (s : Scope) → B.schema base.old ≡ Some s.db → s.ranges ≡ ranges.now → each_ranges s (front (aggregate_vars g.now)) ≡ true → IfOk result (λ plain. plain ≡ is_one_plain s (aggregate_vars g.now)) }
     ensures kept { B.database base.new ≡ B.database base.old }
     ensures stays { (s : Db) → B.schema base.old ≡ Some s → B.schema base.new ≡ Some s }
     ensures asked { (b : B) → B.asked b base.old → B.asked b base.new }
@@ -132,7 +132,7 @@ fn aggregate_stands<B: Base>(
     ranges: &RangeTable,
     g: &AggTerm,
 ) -> Result<bool, BaseFault>
-    ensures told { (s : Scope) → B.schema base.old ≡ Some s.db → s.ranges ≡ ranges.now → each_ranges s (front (aggregate_vars g.now)) ≡ true → IfOk result (λ stands. stands ≡ aggregate_stands s g.now) }
+    ensures known { (s : Scope) → B.schema base.old ≡ Some s.db → s.ranges ≡ ranges.now → each_ranges s (front (aggregate_vars g.now)) ≡ true → IfOk result (λ stands. stands ≡ aggregate_stands s g.now) }
     ensures kept { B.database base.new ≡ B.database base.old }
     ensures stays { (s : Db) → B.schema base.old ≡ Some s → B.schema base.new ≡ Some s }
     ensures asked { (b : B) → B.asked b base.old → B.asked b base.new }
@@ -151,7 +151,7 @@ fn all_stand<B: Base>(
     ranges: &RangeTable,
     aggregates: &[&AggTerm],
 ) -> Result<bool, BaseFault>
-    ensures told { (s : Scope) → B.schema base.old ≡ Some s.db → s.ranges ≡ ranges.now → list_all (λ g. each_ranges s (front (aggregate_vars g))) (map (λ g. g.now) aggregates.now) ≡ true → IfOk result (λ stand. stand ≡ list_all (λ g. aggregate_stands s g.now) aggregates.now) }
+    ensures known { (s : Scope) → B.schema base.old ≡ Some s.db → s.ranges ≡ ranges.now → list_all (λ g. each_ranges s (front (aggregate_vars g))) (map (λ g. g.now) aggregates.now) ≡ true → IfOk result (λ stand. stand ≡ list_all (λ g. aggregate_stands s g.now) aggregates.now) }
     ensures kept { B.database base.new ≡ B.database base.old }
     ensures stays { (s : Db) → B.schema base.old ≡ Some s → B.schema base.new ≡ Some s }
     ensures asked { (b : B) → B.asked b base.old → B.asked b base.new }
@@ -187,7 +187,7 @@ pub fn aggregates_stand<B: Base>(
     ranges: &RangeTable,
     s: &Statement,
 ) -> Result<bool, BaseFault>
-    ensures told { (scope : Scope) → B.schema base.old ≡ Some scope.db → scope.ranges ≡ ranges.now → name_refusal scope s.now ≡ None → IfOk result (λ stand. stand ≡ aggregates_stand scope s.now) }
+    ensures known { (scope : Scope) → B.schema base.old ≡ Some scope.db → scope.ranges ≡ ranges.now → name_refusal scope s.now ≡ None → IfOk result (λ stand. stand ≡ aggregates_stand scope s.now) }
     ensures kept { B.database base.new ≡ B.database base.old }
     ensures stays { (s : Db) → B.schema base.old ≡ Some s → B.schema base.new ≡ Some s }
     ensures asked { (b : B) → B.asked b base.old → B.asked b base.new }

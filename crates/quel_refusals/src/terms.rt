@@ -21,7 +21,7 @@ pub fn kind_in_query<B: Base>(
     t: &QTerm,
     vars: &[Vec<Kind>],
 ) -> Result<Option<Kind>, BaseFault>
-    ensures told { (db : Db) → B.schema base.old ≡ Some db → IfOk result (λ kind. kind ≡ kind_in_query db t.now (map vec_items vars.now)) }
+    ensures known { (db : Db) → B.schema base.old ≡ Some db → IfOk result (λ kind. kind ≡ kind_in_query db t.now (map vec_items vars.now)) }
     ensures kept { B.database base.new ≡ B.database base.old }
     ensures stays { (s : Db) → B.schema base.old ≡ Some s → B.schema base.new ≡ Some s }
     ensures asked { (b : B) → B.asked b base.old → B.asked b base.new }
@@ -56,7 +56,7 @@ pub fn kinds_fit_in_query<B: Base>(
     q: &QQual,
     vars: &[Vec<Kind>],
 ) -> Result<bool, BaseFault>
-    ensures told { (db : Db) → B.schema base.old ≡ Some db → IfOk result (λ fit. fit ≡ kinds_fit_in_query db q.now (map vec_items vars.now)) }
+    ensures known { (db : Db) → B.schema base.old ≡ Some db → IfOk result (λ fit. fit ≡ kinds_fit_in_query db q.now (map vec_items vars.now)) }
     ensures kept { B.database base.new ≡ B.database base.old }
     ensures stays { (s : Db) → B.schema base.old ≡ Some s → B.schema base.new ≡ Some s }
     ensures asked { (b : B) → B.asked b base.old → B.asked b base.new }

@@ -34,7 +34,7 @@ fn is_too_deep(q: &Query) -> bool
 /// Whether a view of a query without aggregates, which lists at most 256 variables, would be too
 /// large, would stand on too many levels of views, or its tree would be too deep.
 fn is_too_large<B: Base>(alloc: Global, base: &mut B, q: &Query) -> Result<bool, BaseFault>
-    ensures told { (db : Db) → B.schema base.old ≡ Some db → query_aggregates q.now ≡ [] → length (vars_of q.now) ≤ 256 → IfOk result (λ large. large ≡ is_too_large db q.now) }
+    ensures known { (db : Db) → B.schema base.old ≡ Some db → query_aggregates q.now ≡ [] → length (vars_of q.now) ≤ 256 → IfOk result (λ large. large ≡ is_too_large db q.now) }
     ensures kept { B.database base.new ≡ B.database base.old }
     ensures stays { (s : Db) → B.schema base.old ≡ Some s → B.schema base.new ≡ Some s }
     ensures asked { (b : B) → B.asked b base.old → B.asked b base.new }
@@ -54,7 +54,7 @@ fn is_too_large<B: Base>(alloc: Global, base: &mut B, q: &Query) -> Result<bool,
 /// Whether there is no room for a view of a query without aggregates: the query lists too many
 /// variables, there are too many relations, views and indexes, or the view would be too large.
 fn is_past_limits<B: Base>(alloc: Global, base: &mut B, q: &Query) -> Result<bool, BaseFault>
-    ensures told { (db : Db) → B.schema base.old ≡ Some db → query_aggregates q.now ≡ [] → IfOk result (λ past. past ≡ (has_too_many db q.now || (is_full db || is_too_large db q.now))) }
+    ensures known { (db : Db) → B.schema base.old ≡ Some db → query_aggregates q.now ≡ [] → IfOk result (λ past. past ≡ (has_too_many db q.now || (is_full db || is_too_large db q.now))) }
     ensures kept { B.database base.new ≡ B.database base.old }
     ensures stays { (s : Db) → B.schema base.old ≡ Some s → B.schema base.new ≡ Some s }
     ensures asked { (b : B) → B.asked b base.old → B.asked b base.new }
@@ -83,7 +83,7 @@ fn shown_cause<B: Base>(
     name: &Name,
     q: &Query,
 ) -> Result<Option<u8>, BaseFault>
-    ensures told { (s : Scope) → B.schema base.old ≡ Some s.db → s.user ≡ user.now → IfOk result (λ n. n ≡ first_cause ((16, is_too_wide (target_kinds q.now)) ∷ (15, is_taken s.db s.user name.now) ∷ [])) }
+    ensures known { (s : Scope) → B.schema base.old ≡ Some s.db → s.user ≡ user.now → IfOk result (λ n. n ≡ first_cause ((16, is_too_wide (target_kinds q.now)) ∷ (15, is_taken s.db s.user name.now) ∷ [])) }
     ensures kept { B.database base.new ≡ B.database base.old }
     ensures stays { (s : Db) → B.schema base.old ≡ Some s → B.schema base.new ≡ Some s }
     ensures asked { (b : B) → B.asked b base.old → B.asked b base.new }
@@ -103,7 +103,7 @@ pub(crate) fn view_cause<B: Base>(
     name: &Name,
     q: &Query,
 ) -> Result<Option<u8>, BaseFault>
-    ensures told { (s : Scope) → B.schema base.old ≡ Some s.db → s.user ≡ user.now → query_aggregates q.now ≡ [] → IfOk result (λ n. n ≡ first_cause (view_causes s true name.now q.now)) }
+    ensures known { (s : Scope) → B.schema base.old ≡ Some s.db → s.user ≡ user.now → query_aggregates q.now ≡ [] → IfOk result (λ n. n ≡ first_cause (view_causes s true name.now q.now)) }
     ensures kept { B.database base.new ≡ B.database base.old }
     ensures stays { (s : Db) → B.schema base.old ≡ Some s → B.schema base.new ≡ Some s }
     ensures asked { (b : B) → B.asked b base.old → B.asked b base.new }

@@ -25,7 +25,7 @@ pub(crate) fn changed<B: Base>(
     ranges: &RangeTable,
     s: &Statement,
 ) -> Result<Option<RelInfo>, BaseFault>
-    ensures told { (db : Db) → B.schema base.old ≡ Some db → IfOk result (λ info. info ≡ changed (scope_of db user.now ranges.now) s.now) }
+    ensures known { (db : Db) → B.schema base.old ≡ Some db → IfOk result (λ info. info ≡ changed (scope_of db user.now ranges.now) s.now) }
     ensures kept { B.database base.new ≡ B.database base.old }
     ensures stays { (s : Db) → B.schema base.old ≡ Some s → B.schema base.new ≡ Some s }
     ensures asked { (b : B) → B.asked b base.old → B.asked b base.new }

@@ -29,7 +29,7 @@ pub(crate) fn judge<B: Base>(
     update: Option<&Update>,
     on: Option<&RelInfo>,
 ) -> Result<(), CheckFault>
-    ensures told { (scope : Scope) → B.schema base.old ≡ Some scope.db → scope.user ≡ user.now → q.now ≡ query_of scope s.now → option_map (λ v. v.now) update.entry ≡ update_of scope s.now q.now → IsOn scope s.now (option_copied on.entry) → is_judged s.now ≡ true → aggregates_stand scope s.now ≡ true
+    ensures known { (scope : Scope) → B.schema base.old ≡ Some scope.db → scope.user ≡ user.now → q.now ≡ query_of scope s.now → option_map (λ v. v.now) update.entry ≡ update_of scope s.now q.now → IsOn scope s.now (option_copied on.entry) → is_judged s.now ≡ true → aggregates_stand scope s.now ≡ true
         → Says (λ done. first_cause (causes scope s.now) ≡ None) (λ number. first_cause (causes scope s.now) ≡ Some number) result }
     ensures kept { B.database base.new ≡ B.database base.old }
     ensures stays { (s : Db) → B.schema base.old ≡ Some s → B.schema base.new ≡ Some s }
@@ -50,7 +50,7 @@ pub(crate) fn judge_update<B: Base>(
     s: &Statement,
     update: Update,
 ) -> Result<Checked, CheckFault>
-    ensures told { (scope : Scope) → B.schema base.old ≡ Some scope.db → scope.user ≡ user.now → update.query ≡ query_of scope s.now → Some update ≡ update_of scope s.now update.query → is_judged s.now ≡ true → aggregates_stand scope s.now ≡ true
+    ensures known { (scope : Scope) → B.schema base.old ≡ Some scope.db → scope.user ≡ user.now → update.query ≡ query_of scope s.now → Some update ≡ update_of scope s.now update.query → is_judged s.now ≡ true → aggregates_stand scope s.now ≡ true
         → Says (λ tree. (tree ≡ tree_of scope s.now) × (first_cause (causes scope s.now) ≡ None)) (λ number. first_cause (causes scope s.now) ≡ Some number) result }
     ensures kept { B.database base.new ≡ B.database base.old }
     ensures stays { (s : Db) → B.schema base.old ≡ Some s → B.schema base.new ≡ Some s }

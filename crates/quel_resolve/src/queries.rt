@@ -37,7 +37,7 @@ fn query_known<B: Base>(
     infos: &[RelInfo],
     inner: &[Name],
 ) -> Result<Query, CheckFault>
-    ensures told { (db : Db) (user : List ℕ) → B.schema base.old ≡ Some db → name_refusal (scope_of db user ranges.now) s.now ≡ None → aggregates_stand (scope_of db user ranges.now) s.now ≡ true
+    ensures known { (db : Db) (user : List ℕ) → B.schema base.old ≡ Some db → name_refusal (scope_of db user ranges.now) s.now ≡ None → aggregates_stand (scope_of db user ranges.now) s.now ≡ true
         → vars.now ≡ vars_in s.now → inner.now ≡ inner_vars s.now → length vars.now + length inner.now ≤ 10 → map (ranged (scope_of db user ranges.now)) vars.now ≡ map Some infos.now
         → Says (λ q. q ≡ query_of (scope_of db user ranges.now) s.now) (λ number. first_cause (causes (scope_of db user ranges.now) s.now) ≡ Some number) result }
     ensures kept { B.database base.new ≡ B.database base.old }
@@ -71,7 +71,7 @@ fn query_over<B: Base>(
     vars: &[Name],
     inner: &[Name],
 ) -> Result<Query, CheckFault>
-    ensures told { (db : Db) (user : List ℕ) → B.schema base.old ≡ Some db → name_refusal (scope_of db user ranges.now) s.now ≡ None → aggregates_stand (scope_of db user ranges.now) s.now ≡ true
+    ensures known { (db : Db) (user : List ℕ) → B.schema base.old ≡ Some db → name_refusal (scope_of db user ranges.now) s.now ≡ None → aggregates_stand (scope_of db user ranges.now) s.now ≡ true
         → vars.now ≡ vars_in s.now → inner.now ≡ inner_vars s.now → length vars.now + length inner.now ≤ 10
         → Says (λ q. q ≡ query_of (scope_of db user ranges.now) s.now) (λ number. first_cause (causes (scope_of db user ranges.now) s.now) ≡ Some number) result }
     ensures kept { B.database base.new ≡ B.database base.old }
@@ -107,7 +107,7 @@ fn query_within<B: Base>(
     vars: &[Name],
     inner: &[Name],
 ) -> Result<Query, CheckFault>
-    ensures told { (db : Db) (user : List ℕ) → B.schema base.old ≡ Some db → name_refusal (scope_of db user ranges.now) s.now ≡ None → is_judged s.now ≡ true → aggregates_stand (scope_of db user ranges.now) s.now ≡ true
+    ensures known { (db : Db) (user : List ℕ) → B.schema base.old ≡ Some db → name_refusal (scope_of db user ranges.now) s.now ≡ None → is_judged s.now ≡ true → aggregates_stand (scope_of db user ranges.now) s.now ≡ true
         → vars.now ≡ vars_in s.now → inner.now ≡ inner_vars s.now
         → Says (λ q. q ≡ query_of (scope_of db user ranges.now) s.now) (λ number. first_cause (causes (scope_of db user ranges.now) s.now) ≡ Some number) result }
     ensures kept { B.database base.new ≡ B.database base.old }
@@ -130,7 +130,7 @@ fn query_beside<B: Base>(
     s: &Statement,
     vars: &[Name],
 ) -> Result<Query, CheckFault>
-    ensures told { (db : Db) (user : List ℕ) → B.schema base.old ≡ Some db → name_refusal (scope_of db user ranges.now) s.now ≡ None → is_judged s.now ≡ true → aggregates_stand (scope_of db user ranges.now) s.now ≡ true
+    ensures known { (db : Db) (user : List ℕ) → B.schema base.old ≡ Some db → name_refusal (scope_of db user ranges.now) s.now ≡ None → is_judged s.now ≡ true → aggregates_stand (scope_of db user ranges.now) s.now ≡ true
         → vars.now ≡ vars_in s.now
         → Says (λ q. q ≡ query_of (scope_of db user ranges.now) s.now) (λ number. first_cause (causes (scope_of db user ranges.now) s.now) ≡ Some number) result }
     ensures kept { B.database base.new ≡ B.database base.old }
@@ -152,7 +152,7 @@ fn query_standing<B: Base>(
     ranges: &RangeTable,
     s: &Statement,
 ) -> Result<Query, CheckFault>
-    ensures told { (db : Db) (user : List ℕ) → B.schema base.old ≡ Some db → name_refusal (scope_of db user ranges.now) s.now ≡ None → is_judged s.now ≡ true → aggregates_stand (scope_of db user ranges.now) s.now ≡ true
+    ensures known { (db : Db) (user : List ℕ) → B.schema base.old ≡ Some db → name_refusal (scope_of db user ranges.now) s.now ≡ None → is_judged s.now ≡ true → aggregates_stand (scope_of db user ranges.now) s.now ≡ true
         → Says (λ q. q ≡ query_of (scope_of db user ranges.now) s.now) (λ number. first_cause (causes (scope_of db user ranges.now) s.now) ≡ Some number) result }
     ensures kept { B.database base.new ≡ B.database base.old }
     ensures stays { (s : Db) → B.schema base.old ≡ Some s → B.schema base.new ≡ Some s }
@@ -175,7 +175,7 @@ pub(crate) fn query<B: Base>(
     ranges: &RangeTable,
     s: &Statement,
 ) -> Result<Query, CheckFault>
-    ensures told { (db : Db) (user : List ℕ) → B.schema base.old ≡ Some db → name_refusal (scope_of db user ranges.now) s.now ≡ None → is_judged s.now ≡ true
+    ensures known { (db : Db) (user : List ℕ) → B.schema base.old ≡ Some db → name_refusal (scope_of db user ranges.now) s.now ≡ None → is_judged s.now ≡ true
         → Says (λ q. (q ≡ query_of (scope_of db user ranges.now) s.now) × (aggregates_stand (scope_of db user ranges.now) s.now ≡ true)) (λ number. first_cause (causes (scope_of db user ranges.now) s.now) ≡ Some number) result }
     ensures kept { B.database base.new ≡ B.database base.old }
     ensures stays { (s : Db) → B.schema base.old ≡ Some s → B.schema base.new ≡ Some s }

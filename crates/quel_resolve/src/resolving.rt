@@ -23,7 +23,7 @@ fn resolve_named<B: Base>(
     ranges: &RangeTable,
     base: &mut B,
 ) -> Result<Checked, CheckFault>
-    ensures told { (db : Db) → B.schema base.old ≡ Some db → name_refusal (scope_of db user.now ranges.now) s.now ≡ None → Resolves db user.now ranges.now s.now result }
+    ensures known { (db : Db) → B.schema base.old ≡ Some db → name_refusal (scope_of db user.now ranges.now) s.now ≡ None → Resolves db user.now ranges.now s.now result }
     ensures kept { B.database base.new ≡ B.database base.old }
     ensures stays { (s : Db) → B.schema base.old ≡ Some s → B.schema base.new ≡ Some s }
     ensures asked { (b : B) → B.asked b base.old → B.asked b base.new }
@@ -44,7 +44,7 @@ fn resolve_known<B: Base>(
     ranges: &RangeTable,
     base: &mut B,
 ) -> Result<Checked, CheckFault>
-    ensures told { (db : Db) → B.schema base.old ≡ Some db → Resolves db user.now ranges.now s.now result }
+    ensures known { (db : Db) → B.schema base.old ≡ Some db → Resolves db user.now ranges.now s.now result }
     ensures kept { B.database base.new ≡ B.database base.old }
     ensures stays { (s : Db) → B.schema base.old ≡ Some s → B.schema base.new ≡ Some s }
     ensures asked { (b : B) → B.asked b base.old → B.asked b base.new }
@@ -68,7 +68,7 @@ pub fn resolve<B: Base>(
     ranges: &RangeTable,
     base: &mut B,
 ) -> Result<Checked, CheckFault>
-    ensures told { (db : Db) → B.schema base.old ≡ Some db → Resolves db user.now ranges.now s.now result }
+    ensures known { (db : Db) → B.schema base.old ≡ Some db → Resolves db user.now ranges.now s.now result }
     ensures by_schema { IsTrue B.fixes → (db : Db) → B.schema base.new ≡ Some db → Resolves db user.now ranges.now s.now result }
     ensures kept { B.database base.new ≡ B.database base.old }
     ensures stays { (s : Db) → B.schema base.old ≡ Some s → B.schema base.new ≡ Some s }

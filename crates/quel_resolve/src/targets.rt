@@ -28,7 +28,7 @@ fn target<B: Base>(
     term: QTerm,
     kinds: &[Vec<Kind>],
 ) -> Result<Target, BaseFault>
-    ensures told { (db : Db) → B.schema base.old ≡ Some db
+    ensures known { (db : Db) → B.schema base.old ≡ Some db
         → IfOk result (λ made. made ≡ record { name = name; kind = unwrap_or (kind_in_query db term (map vec_items kinds.now)) Wide; term = term }) }
     ensures kept { B.database base.new ≡ B.database base.old }
     ensures stays { (s : Db) → B.schema base.old ≡ Some s → B.schema base.new ≡ Some s }
@@ -62,7 +62,7 @@ fn push_term<B: Base>(
     targets: &mut Vec<Target>,
 ) -> Result<(), BaseFault>
     requires { map vec_items kinds.now ≡ kinds_in known.infos.now }
-    ensures told { (db : Db) → B.schema base.old ≡ Some db
+    ensures known { (db : Db) → B.schema base.old ≡ Some db
         → OnOk result (Puts db known.entry.vars.now known.entry.infos.now known.entry.inner_vars.now known.entry.inner_infos.now slot (item.Set name.now term.now ∷ []) targets.old.items targets.new.items) }
     ensures kept { B.database base.new ≡ B.database base.old }
     ensures stays { (s : Db) → B.schema base.old ≡ Some s → B.schema base.new ≡ Some s }
@@ -151,7 +151,7 @@ fn push_attr<B: Base>(
     targets: &mut Vec<Target>,
 ) -> Result<(), BaseFault>
     requires { map vec_items kinds.now ≡ kinds_in known.infos.now }
-    ensures told { (db : Db) (slot : ℕ) → B.schema base.old ≡ Some db
+    ensures known { (db : Db) (slot : ℕ) → B.schema base.old ≡ Some db
         → OnOk result (Puts db known.entry.vars.now known.entry.infos.now known.entry.inner_vars.now known.entry.inner_infos.now slot (item.Attr var.now attr.now ∷ []) targets.old.items targets.new.items) }
     ensures kept { B.database base.new ≡ B.database base.old }
     ensures stays { (s : Db) → B.schema base.old ≡ Some s → B.schema base.new ≡ Some s }
@@ -175,7 +175,7 @@ fn push_item<B: Base>(
     targets: &mut Vec<Target>,
 ) -> Result<(), BaseFault>
     requires { map vec_items kinds.now ≡ kinds_in known.infos.now }
-    ensures told { (db : Db) → B.schema base.old ≡ Some db
+    ensures known { (db : Db) → B.schema base.old ≡ Some db
         → OnOk result (Puts db known.entry.vars.now known.entry.infos.now known.entry.inner_vars.now known.entry.inner_infos.now slot (item.now ∷ []) targets.old.items targets.new.items) }
     ensures kept { B.database base.new ≡ B.database base.old }
     ensures stays { (s : Db) → B.schema base.old ≡ Some s → B.schema base.new ≡ Some s }
@@ -201,7 +201,7 @@ pub(crate) fn targets_from<B: Base>(
     items: &[Item],
 ) -> Result<Vec<Target>, BaseFault>
     requires { map vec_items kinds.now ≡ kinds_in known.infos.now }
-    ensures told { (db : Db) → B.schema base.old ≡ Some db
+    ensures known { (db : Db) → B.schema base.old ≡ Some db
         → IfOk result (λ targets. Puts db known.entry.vars.now known.entry.infos.now known.entry.inner_vars.now known.entry.inner_infos.now 0 items.now [] targets.items) }
     ensures kept { B.database base.new ≡ B.database base.old }
     ensures stays { (s : Db) → B.schema base.old ≡ Some s → B.schema base.new ≡ Some s }

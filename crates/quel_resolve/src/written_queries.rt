@@ -27,7 +27,7 @@ fn targets_of<B: Base>(
     known: Known<'_>,
     items: &[Item],
 ) -> Result<Vec<Target>, BaseFault>
-    ensures told { (db : Db) → B.schema base.old ≡ Some db
+    ensures known { (db : Db) → B.schema base.old ≡ Some db
         → IfOk result (λ targets. Puts db known.entry.vars.now known.entry.infos.now known.entry.inner_vars.now known.entry.inner_infos.now 0 items.now [] targets.items) }
     ensures kept { B.database base.new ≡ B.database base.old }
     ensures stays { (s : Db) → B.schema base.old ≡ Some s → B.schema base.new ≡ Some s }
@@ -74,7 +74,7 @@ pub fn query_of<B: Base>(
     s: &Statement,
     known: Known<'_>,
 ) -> Result<Query, BaseFault>
-    ensures told { (scope : Scope) → B.schema base.old ≡ Some scope.db → known.entry.vars.now ≡ vars_in s.now → known.entry.inner_vars.now ≡ inner_vars s.now
+    ensures known { (scope : Scope) → B.schema base.old ≡ Some scope.db → known.entry.vars.now ≡ vars_in s.now → known.entry.inner_vars.now ≡ inner_vars s.now
         → Knows scope known.entry.vars.now known.entry.infos.now → Knows scope known.entry.inner_vars.now known.entry.inner_infos.now → aggregates_stand scope s.now ≡ true
         → IfOk result (λ q. q ≡ query_of scope s.now) }
     ensures kept { B.database base.new ≡ B.database base.old }

@@ -1,4 +1,4 @@
-//! Tests of queries and updates over a base that tells no database.
+//! Tests of queries and updates over a base of which no database is known.
 #![tactic(auto)]
 
 #[cfg(test)]

@@ -55,6 +55,6 @@ one_stands file opened m number same before here k lt = by_order (split k number
 -- all pages were read, and each stands
 pub is_read : (file : RelFile) (m : Image) (number : ℕ) (rows found : List Row) → 0 < file.used → file.used ≤ number → found ≡ rows
     → ((placed : Placed) → heap_rows file m ≡ Some placed → rows_of placed ≡ rows ++ rows_from placed (place_of number 0)) → StandTo file m number → IsRead file m found
-is_read file m number rows found some over same told stand =
+is_read file m number rows found some over same known stand =
     let all = all_stand file m some (λ k lt. stand k (omega arith)) in
-    record { placed = all.0; on_pages = all.1; rows = same ∙ all_read file m all.0 number rows some over all.1 (told all.0 all.1) }
+    record { placed = all.0; on_pages = all.1; rows = same ∙ all_read file m all.0 number rows some over all.1 (known all.0 all.1) }

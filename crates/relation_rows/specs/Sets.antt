@@ -10,10 +10,10 @@ use Rattle.page_chain.specs.Pages.{pages_of}
 use Rattle.page_chain.specs.Rows.{reader, set_on}
 use Rattle.heap_am.specs.Heap.{heap_rows}
 
--- The pages are told, and on those of this file, so many, are these rows.
-pub record HasSet (domains : List Domain) (file used : ℕ) (rows : List Row) (told : Option Image) : Type 0 where
+-- The pages are known, and on those of this file, so many, are these rows.
+pub record HasSet (domains : List Domain) (file used : ℕ) (rows : List Row) (known : Option Image) : Type 0 where
   pub image : Image
-  pub told_still : told ≡ Some image
+  pub still_known : known ≡ Some image
   pub are : set_on (reader domains) used (pages_of image file) ≡ Some rows
 
 -- The pages of the file hold no set in which these rows are, each listed once.

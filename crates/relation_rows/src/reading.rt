@@ -39,7 +39,7 @@ fn read_page<S: PageStore>(
     rows: &mut Vec<Row>,
 ) -> Result<(), BaseFault>
     requires below { number < method.now.heap.file.used }
-    ensures told { (m : Image) (placed : Placed) → S.pages store.old ≡ Some m → heap_rows method.now.heap.file m ≡ Some placed
+    ensures known { (m : Image) (placed : Placed) → S.pages store.old ≡ Some m → heap_rows method.now.heap.file m ≡ Some placed
         → OnOk result (rows.old.items ++ rows_from placed (place_of number 0) ≡ rows.new.items ++ rows_from placed (place_of (number + 1) 0)) }
     ensures stands { (m : Image) → S.pages store.old ≡ Some m → OnOk result (IsTrue (stands (reader method.now.heap.file.domains) method.now.heap.file.used number (m (page_at method.now.heap.file.file number)))) }
     ensures same { S.pages store.new ≡ S.pages store.old }
@@ -67,7 +67,7 @@ pub fn relation_rows<S: PageStore>(
     requires some { 0 < widths file.domains }
     requires most { widths file.domains ≤ 1012 }
     requires pages { 0 < file.used }
-    ensures told { (m : Image) (rows : Placed) → S.pages store.old ≡ Some m → heap_rows file m ≡ Some rows
+    ensures known { (m : Image) (rows : Placed) → S.pages store.old ≡ Some m → heap_rows file m ≡ Some rows
         → IfOk result (λ found. found ≡ rows_of rows) }
     ensures exact { (m : Image) → S.pages store.old ≡ Some m → IfOk result (λ found. IsRead file m found) }
     ensures same { S.pages store.new ≡ S.pages store.old }

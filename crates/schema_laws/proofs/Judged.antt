@@ -53,7 +53,7 @@ use Rattle.quel_meaning.specs.Causes.{Causes, causes_by, causes, print_causes, i
 use Rattle.quel_meaning.specs.Resolved.{tree_by, tree_of, resolved, help_on_all, help_on, whole, copy_col}
 use Rattle.quel_meaning.specs.Meaning.{checked_permitted, judged_tree, judged_by, judged, permitted_tree}
 use Rattle.schema_laws.proofs.Alike.{info_alike, kinds_alike, is_there_alike, entries_alike}
-use Rattle.schema_laws.proofs.Told.{known_alike, size_alike, query_level_alike, query_permitted_alike, update_permitted_alike}
+use Rattle.schema_laws.proofs.Known.{known_alike, size_alike, query_level_alike, query_permitted_alike, update_permitted_alike}
 use Rattle.schema_laws.proofs.Scopes.{bare_scope, named_alike, ranged_alike, entry_named_alike, kind_alike, kinds_fit_alike, query_alike}
 
 -- ---- the first name that isn't what it has to be

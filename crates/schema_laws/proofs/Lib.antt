@@ -1,6 +1,6 @@
 pub mod Alike
 pub mod Through
-pub mod Told
+pub mod Known
 pub mod SchemaStands
 pub mod Scopes
 pub mod Judged

@@ -21,7 +21,7 @@ use Rattle.calculus.specs.IsDatabase.{IsDatabase, key_is_named, structure_stands
 use Rattle.calculus.specs.Schema.{bare, schema_of}
 use Rattle.schema_laws.proofs.Alike.{is_relation_alike, entries_alike, range_alike, attrs_alike, kinds_alike}
 use Rattle.schema_laws.proofs.Through.{level_alike}
-use Rattle.schema_laws.proofs.Told.{size_alike, expanded_alike}
+use Rattle.schema_laws.proofs.Known.{size_alike, expanded_alike}
 
 -- what is asked of the information alone holds of the relations without their rows
 all_bare : (test : RelInfo → Bool) (relations : List Relation) → list_all (λ (r : Relation). test r.info) (map bare relations) ≡ list_all (λ r. test r.info) relations

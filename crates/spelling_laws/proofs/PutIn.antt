@@ -39,7 +39,7 @@ use Rattle.view_text.specs.TextOf.{text_of}
 use Rattle.view_text.specs.PutIn.{put_aggregate, put_made, put_over, put_in, update_text, update_texts, put_in_update, put_in_asked, put_in_tree}
 use Rattle.tree_laws.proofs.Changing.{update_named}
 use Rattle.tree_laws.proofs.Queries.{targets_of-put}
-use Rattle.tree_laws.proofs.Told.{all_told}
+use Rattle.tree_laws.proofs.Denoted.{all_denoted}
 use Rattle.tree_laws.proofs.Within.{all_scoped, put_within, conditions_are_within}
 use Rattle.tree_laws.proofs.FitPut.{targets_made, qual_made, all_of_made, conditions_made}
 use Rattle.tree_laws.proofs.FitAsked.{asked_put}
@@ -100,7 +100,7 @@ module _ (db : Db) (d : IsDatabase db) (who : Who) where
   few_asked (a ∷ asked) few =
       let texts = query_texts (text_of db who) a.query in (
         record {
-          query = few_over a.query texts (each_scoped db d who (text_of db who) (λ key attrs. (all_told db who key attrs).scoped) a.query 0 (vars_of a.query)) few.0.query;
+          query = few_over a.query texts (each_scoped db d who (text_of db who) (λ key attrs. (all_denoted db who key attrs).scoped) a.query 0 (vars_of a.query)) few.0.query;
           sort = few.0.sort;
         },
         few_asked asked few.1,

@@ -38,7 +38,7 @@ use Rattle.calculus.specs.TreeLevels.{query_levels}
 use Rattle.calculus.specs.Used.{used_in_query, used_in_aggregate}
 use Rattle.calculus.specs.Who.{Who, Asker, Free, Asks}
 use Rattle.calculus_laws.proofs.SameRows.{all_at}
-use Rattle.calculus_laws.proofs.Through.{each_told}
+use Rattle.calculus_laws.proofs.Through.{each_said}
 use Rattle.quel_meaning.specs.Meaning.{ruled_tree}
 use Rattle.quel_meaning.specs.SpelledTree.{made_key_is_spelled, update_is_spelled, tree_is_spelled}
 use Rattle.quel_meaning.proofs.Each.{Each, both_of, in_map, in_filter, each_to, each_passes, passed, and}
@@ -48,7 +48,7 @@ use Rattle.view_text.specs.Replaced.{Putting, replaced, replaced_in_qual, replac
 use Rattle.view_text.specs.Texts.{TextSource, term_at, attr_term, used_text, query_texts, texts_vars, put_from, conditions_from}
 use Rattle.view_text.specs.TextOf.{permit_condition, covering, cut, kept_text, past_text, has_value, put_terms, rows_conditions, settled, view_text, text_within, text_of}
 use Rattle.view_text.specs.PutIn.{put_query, put_range, put_source, range_cut, source_cut, put_row, put_made, put_over, put_in, read_cut, changed_text, update_text, update_texts, put_cut, put_in_update, put_in_asked, put_in_tree}
-use Rattle.tree_laws.proofs.Told.{texts_told}
+use Rattle.tree_laws.proofs.Denoted.{texts_said}
 use Rattle.tree_laws.proofs.Counted.{all_texts}
 use Rattle.tree_laws.proofs.TextLaws.{view_in}
 
@@ -256,7 +256,7 @@ module _ (db : Db) (d : IsDatabase db) (who : Who) where
 
   within_one : (n : ℕ) (key : RelKey) (attrs : List ℕ) → IsOne (text_within n db who key attrs)
   within_one n key =
-      each_told (texts_told db who) db (λ n key text. (attrs : List ℕ) → IsOne (text attrs))
+      each_said (texts_said db who) db (λ n key text. (attrs : List ℕ) → IsOne (text attrs))
       (record {
         nothing = λ n f key e attrs. kept_one (cut db who Retrieve attrs key) key (cut_each who Retrieve attrs key);
         kept = λ n f key relation e attrs. kept_one (cut db who Retrieve attrs key) key (cut_each who Retrieve attrs key);

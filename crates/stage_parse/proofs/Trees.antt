@@ -72,15 +72,15 @@ refused : (db : Db) (user : List ℕ) (ranges : Ranges) (s : Statement) (tree : 
 refused db user ranges s tree number h k = judged_with db user ranges s tree false h k.1 ∙ ap Err (sym k.0)
 
 -- by what is told of what is cut and ruled
-pub tells : (db : Db) (user : List ℕ) (ranges : Ranges) (s : Statement) (tree : Checked) → IsDatabase db → is_name user ≡ true → is_written s ≡ true
+pub follows : (db : Db) (user : List ℕ) (ranges : Ranges) (s : Statement) (tree : Checked) → IsDatabase db → is_name user ≡ true → is_written s ≡ true
     → Resolves db user ranges s (Ok tree) → (result : Result Checked CheckFault)
     → Says (λ made. (made ≡ ruled_tree db (put_in_tree db (asks user) tree)) × (checked_permitted db (asks user) tree ≡ true))
     (λ number. (number ≡ 23) × (checked_permitted db (asks user) tree ≡ false)) result
     → Checks db user ranges s result
-tells db user ranges s tree d named written h (Ok made) k = comes db user ranges s tree made d named written h k
-tells db user ranges s tree d named written h (Err (fault.No number)) k = refused db user ranges s tree number h k
-tells db user ranges s tree d named written h (Err (fault.Base cause)) k = tt
-tells db user ranges s tree d named written h (Err fault.OutOfMemory) k = tt
+follows db user ranges s tree d named written h (Ok made) k = comes db user ranges s tree made d named written h k
+follows db user ranges s tree d named written h (Err (fault.No number)) k = refused db user ranges s tree number h k
+follows db user ranges s tree d named written h (Err (fault.Base cause)) k = tt
+follows db user ranges s tree d named written h (Err fault.OutOfMemory) k = tt
 
 -- it has no tree
 pub passed_on : (db : Db) (user : List ℕ) (ranges : Ranges) (s : Statement) (cause : CheckFault) → Resolves db user ranges s (Err cause) → Checks db user ranges s (Err cause)

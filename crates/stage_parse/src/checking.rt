@@ -30,7 +30,7 @@ pub fn checked<B: Base>(
     base: &mut B,
 ) -> Result<Checked, CheckFault>
     requires { is_written s.now ≡ true }
-    ensures told { (db : Db) → B.database base.old ≡ Some db → Checks db user.now ranges.now s.now result }
+    ensures known { (db : Db) → B.database base.old ≡ Some db → Checks db user.now ranges.now s.now result }
     ensures shallow { (db : Db) → B.database base.old ≡ Some db → statement_levels s.now ≤ 500
         → IfOk result (λ tree. tree_levels tree ≤ most_tree_levels) }
     ensures kept { B.database base.new ≡ B.database base.old }

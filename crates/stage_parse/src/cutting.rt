@@ -18,7 +18,7 @@ use quel_resolve::CheckFault;
 use std::alloc::Global;
 
 /// The tree with its views put in, cut down to what the user may see and change; or 23, where something
-/// isn't permitted. 14 can come only where no database is told.
+/// isn't permitted. 14 can come only where no database is known.
 fn cut<B: Base>(
     alloc: Global,
     base: &mut B,
@@ -26,7 +26,7 @@ fn cut<B: Base>(
     tree: Checked,
 ) -> Result<Checked, CheckFault>
     requires { (db : Db) → B.database base.old ≡ Some db → is_fit_with_views db user.now tree ≡ true }
-    ensures told { (db : Db) → B.database base.old ≡ Some db
+    ensures known { (db : Db) → B.database base.old ≡ Some db
         → Says (λ made. (made ≡ put_in_tree db (asks user.now) tree) × (checked_permitted db (asks user.now) tree ≡ true))
         (λ number. (number ≡ 23) × (checked_permitted db (asks user.now) tree ≡ false)) result }
     ensures kept { B.database base.new ≡ B.database base.old }
@@ -51,7 +51,7 @@ pub(crate) fn cut_and_ruled<B: Base>(
     tree: Checked,
 ) -> Result<Checked, CheckFault>
     requires { (db : Db) → B.database base.old ≡ Some db → is_fit_with_views db user.now tree ≡ true }
-    ensures told { (db : Db) → B.database base.old ≡ Some db
+    ensures known { (db : Db) → B.database base.old ≡ Some db
         → Says (λ made. (made ≡ ruled_tree db (put_in_tree db (asks user.now) tree)) × (checked_permitted db (asks user.now) tree ≡ true))
         (λ number. (number ≡ 23) × (checked_permitted db (asks user.now) tree ≡ false)) result }
     ensures kept { B.database base.new ≡ B.database base.old }

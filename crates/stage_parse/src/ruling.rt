@@ -15,7 +15,7 @@ use std::alloc::Global;
 /// The tree of an update, with the rules of the relation that it changes.
 #[tactic(auto, unfolding(quel_meaning::specs::Meaning::ruled_tree))]
 fn ruled_update<B: Base>(alloc: Global, base: &mut B, u: Update) -> Result<Checked, BaseFault>
-    ensures told { (db : Db) → B.schema base.old ≡ Some db → IfOk result (λ made. made ≡ ruled_tree db (checked.Update u)) }
+    ensures known { (db : Db) → B.schema base.old ≡ Some db → IfOk result (λ made. made ≡ ruled_tree db (checked.Update u)) }
     ensures kept { B.database base.new ≡ B.database base.old }
     ensures stays { (s : Db) → B.schema base.old ≡ Some s → B.schema base.new ≡ Some s }
     ensures asked { (b : B) → B.asked b base.old → B.asked b base.new }
@@ -33,7 +33,7 @@ pub(crate) fn ruled<B: Base>(
     base: &mut B,
     mut tree: Checked,
 ) -> Result<Checked, BaseFault>
-    ensures told { (db : Db) → B.schema base.old ≡ Some db → IfOk result (λ made. made ≡ ruled_tree db tree) }
+    ensures known { (db : Db) → B.schema base.old ≡ Some db → IfOk result (λ made. made ≡ ruled_tree db tree) }
     ensures kept { B.database base.new ≡ B.database base.old }
     ensures stays { (s : Db) → B.schema base.old ≡ Some s → B.schema base.new ≡ Some s }
     ensures asked { (b : B) → B.asked b base.old → B.asked b base.new }

@@ -125,37 +125,37 @@ lacks_in db q tables at values truth same h = record {
 -- ---- a fault
 
 -- a fault of the answer by tables that stand for the aggregates
-may_fail : (q : Query) (tables : List AggTable) (told : Option Db) (before mid now : ℕ) (fault : QueryFault)
-    → ((db : Db) → told ≡ Some db → (e : Env) → target_values (tabled tables) (targets_of q) e ≡ target_values (aggregates db Free) (targets_of q) e)
-    → ((db : Db) → told ≡ Some db → (e : Env) → holds (tabled tables) (qual_of q) e ≡ holds (aggregates db Free) (qual_of q) e)
-    → ((db : Db) → told ≡ Some db → (es : List Env) → some_lacks (tabled tables) q es ≡ some_lacks (aggregates db Free) q es)
-    → mid ≡ before → asking.MayFail (tabled tables) q told mid now fault → MayFail (λ db at. LacksIn db q at) told before now fault
-may_fail q tables told before mid now (query.NoValue at) values truth same stayed may = (may.0 ∙ stayed, λ db e. lacks_in db q tables at (values db e) (truth db e) (same db e) (may.1 db e))
-may_fail q tables told before mid now (query.Base fault) values truth same stayed may = subst (λ n. MayCome told n now fault) stayed may
-may_fail q tables told before mid now query.OutOfMemory values truth same stayed may = may ∙ stayed
+may_fail : (q : Query) (tables : List AggTable) (known : Option Db) (before mid now : ℕ) (fault : QueryFault)
+    → ((db : Db) → known ≡ Some db → (e : Env) → target_values (tabled tables) (targets_of q) e ≡ target_values (aggregates db Free) (targets_of q) e)
+    → ((db : Db) → known ≡ Some db → (e : Env) → holds (tabled tables) (qual_of q) e ≡ holds (aggregates db Free) (qual_of q) e)
+    → ((db : Db) → known ≡ Some db → (es : List Env) → some_lacks (tabled tables) q es ≡ some_lacks (aggregates db Free) q es)
+    → mid ≡ before → asking.MayFail (tabled tables) q known mid now fault → MayFail (λ db at. LacksIn db q at) known before now fault
+may_fail q tables known before mid now (query.NoValue at) values truth same stayed may = (may.0 ∙ stayed, λ db e. lacks_in db q tables at (values db e) (truth db e) (same db e) (may.1 db e))
+may_fail q tables known before mid now (query.Base fault) values truth same stayed may = subst (λ n. MayCome known n now fault) stayed may
+may_fail q tables known before mid now query.OutOfMemory values truth same stayed may = may ∙ stayed
 
-is_caused : {T : Type 0} (q : Query) (tables : List AggTable) (told : Option Db) (before mid now : ℕ) (result : Result T QueryFault)
-    → ((db : Db) → told ≡ Some db → (e : Env) → target_values (tabled tables) (targets_of q) e ≡ target_values (aggregates db Free) (targets_of q) e)
-    → ((db : Db) → told ≡ Some db → (e : Env) → holds (tabled tables) (qual_of q) e ≡ holds (aggregates db Free) (qual_of q) e)
-    → ((db : Db) → told ≡ Some db → (es : List Env) → some_lacks (tabled tables) q es ≡ some_lacks (aggregates db Free) q es)
-    → mid ≡ before → asking.IsCaused {T = T} (tabled tables) q told mid now result → IsCaused {T = T} (λ db at. LacksIn db q at) told before now result
-is_caused q tables told before mid now (Ok x) values truth same stayed may = may ∙ stayed
-is_caused q tables told before mid now (Err fault) values truth same stayed may = may_fail q tables told before mid now fault values truth same stayed may
+is_caused : {T : Type 0} (q : Query) (tables : List AggTable) (known : Option Db) (before mid now : ℕ) (result : Result T QueryFault)
+    → ((db : Db) → known ≡ Some db → (e : Env) → target_values (tabled tables) (targets_of q) e ≡ target_values (aggregates db Free) (targets_of q) e)
+    → ((db : Db) → known ≡ Some db → (e : Env) → holds (tabled tables) (qual_of q) e ≡ holds (aggregates db Free) (qual_of q) e)
+    → ((db : Db) → known ≡ Some db → (es : List Env) → some_lacks (tabled tables) q es ≡ some_lacks (aggregates db Free) q es)
+    → mid ≡ before → asking.IsCaused {T = T} (tabled tables) q known mid now result → IsCaused {T = T} (λ db at. LacksIn db q at) known before now result
+is_caused q tables known before mid now (Ok x) values truth same stayed may = may ∙ stayed
+is_caused q tables known before mid now (Err fault) values truth same stayed may = may_fail q tables known before mid now fault values truth same stayed may
 
-pub settled_cause : {T : Type 0} (q : Query) (tables : List AggTable) (told : Option Db) (before mid now : ℕ) (result : Result T QueryFault)
-    → ((db : Db) → told ≡ Some db → (e : Env) → target_values (tabled tables) (targets_of q) e ≡ target_values (aggregates db Free) (targets_of q) e)
-    → ((db : Db) → told ≡ Some db → (e : Env) → holds (tabled tables) (qual_of q) e ≡ holds (aggregates db Free) (qual_of q) e)
-    → ((db : Db) → told ≡ Some db → (es : List Env) → some_lacks (tabled tables) q es ≡ some_lacks (aggregates db Free) q es)
-    → mid ≡ before → asking.HasCause {T = T} (tabled tables) q told mid now result → HasOneCause {T = T} q told before now result
-settled_cause q tables told before mid now result values truth same stayed cause = record {
+pub settled_cause : {T : Type 0} (q : Query) (tables : List AggTable) (known : Option Db) (before mid now : ℕ) (result : Result T QueryFault)
+    → ((db : Db) → known ≡ Some db → (e : Env) → target_values (tabled tables) (targets_of q) e ≡ target_values (aggregates db Free) (targets_of q) e)
+    → ((db : Db) → known ≡ Some db → (e : Env) → holds (tabled tables) (qual_of q) e ≡ holds (aggregates db Free) (qual_of q) e)
+    → ((db : Db) → known ≡ Some db → (es : List Env) → some_lacks (tabled tables) q es ≡ some_lacks (aggregates db Free) q es)
+    → mid ≡ before → asking.HasCause {T = T} (tabled tables) q known mid now result → HasOneCause {T = T} q known before now result
+settled_cause q tables known before mid now result values truth same stayed cause = record {
   later = omega (arith, stayed, cause.later);
-  caused = is_caused q tables told before mid now result values truth same stayed cause.caused;
+  caused = is_caused q tables known before mid now result values truth same stayed cause.caused;
 }
 
 -- a fault of one of several
-one_may_fail : (asked : List Asked) (i : ℕ) (one : Asked) (told : Option Db) (before mid now : ℕ) (fault : QueryFault) → i < length asked → one ≡ get_or asked i one → mid ≡ before
-    → MayFail (λ db at. LacksIn db one.query at) told mid now fault → MayFail (λ db at. OneLacksIn db asked at) told before now fault
-one_may_fail asked i one told before mid now (query.NoValue at) h is stayed may = (
+one_may_fail : (asked : List Asked) (i : ℕ) (one : Asked) (known : Option Db) (before mid now : ℕ) (fault : QueryFault) → i < length asked → one ≡ get_or asked i one → mid ≡ before
+    → MayFail (λ db at. LacksIn db one.query at) known mid now fault → MayFail (λ db at. OneLacksIn db asked at) known before now fault
+one_may_fail asked i one known before mid now (query.NoValue at) h is stayed may = (
   may.0 ∙ stayed,
   λ db e. record {
     one = one;
@@ -164,10 +164,10 @@ one_may_fail asked i one told before mid now (query.NoValue at) h is stayed may 
     somewhere = one_lacks db asked i one h is (may.1 db e).somewhere;
   },
 )
-one_may_fail asked i one told before mid now (query.Base fault) h is stayed may = subst (λ n. MayCome told n now fault) stayed may
-one_may_fail asked i one told before mid now query.OutOfMemory h is stayed may = may ∙ stayed
+one_may_fail asked i one known before mid now (query.Base fault) h is stayed may = subst (λ n. MayCome known n now fault) stayed may
+one_may_fail asked i one known before mid now query.OutOfMemory h is stayed may = may ∙ stayed
 
-pub one_fails : {T : Type 0} (asked : List Asked) (i : ℕ) (one : Asked) (told : Option Db) (before mid now : ℕ) (fault : QueryFault) (result : Result T QueryFault) → i < length asked → one ≡ get_or asked i one
-    → result ≡ Err fault → mid ≡ before → mid ≤ now → MayFail (λ db at. LacksIn db one.query at) told mid now fault → HasCause {T = T} asked told before now result
-one_fails {T = T} asked i one told before mid now fault result h is made stayed later may =
-    subst (HasCause {T = T} asked told before now) (sym made) (record { later = omega (arith, stayed, later); caused = one_may_fail asked i one told before mid now fault h is stayed may })
+pub one_fails : {T : Type 0} (asked : List Asked) (i : ℕ) (one : Asked) (known : Option Db) (before mid now : ℕ) (fault : QueryFault) (result : Result T QueryFault) → i < length asked → one ≡ get_or asked i one
+    → result ≡ Err fault → mid ≡ before → mid ≤ now → MayFail (λ db at. LacksIn db one.query at) known mid now fault → HasCause {T = T} asked known before now result
+one_fails {T = T} asked i one known before mid now fault result h is made stayed later may =
+    subst (HasCause {T = T} asked known before now) (sym made) (record { later = omega (arith, stayed, later); caused = one_may_fail asked i one known before mid now fault h is stayed may })

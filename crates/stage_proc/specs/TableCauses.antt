@@ -36,23 +36,23 @@ pub record OneLacksIn (db : Db) (asked : List Asked) (at : Env) : Type 0 where
   pub there : LacksIn db one.query at
   pub somewhere : IsTrue (some_query_lacks db Free asked)
 
--- this fault may come: a target lacks a value, as is said, where a database is told; a fault of the database where it may come; want of memory; where it isn't the database's, its count stayed
+-- this fault may come: a target lacks a value, as is said, where a database is known; a fault of the database where it may come; want of memory; where it isn't the database's, its count stayed
 abbrev pub MayFail : (Db → Env → Type 0) → Option Db → ℕ → ℕ → QueryFault → Type 0
-MayFail lacking told before now (NoValue at) = (now ≡ before) × ((db : Db) → told ≡ Some db → lacking db at)
-MayFail lacking told before now (Base fault) = MayCome told before now fault
-MayFail lacking told before now OutOfMemory = now ≡ before
+MayFail lacking known before now (NoValue at) = (now ≡ before) × ((db : Db) → known ≡ Some db → lacking db at)
+MayFail lacking known before now (Base fault) = MayCome known before now fault
+MayFail lacking known before now OutOfMemory = now ≡ before
 
 -- an answer where the count stayed, or a fault that may come
 abbrev pub IsCaused : {T : Type 0} → (Db → Env → Type 0) → Option Db → ℕ → ℕ → Result T QueryFault → Type 0
-IsCaused lacking told before now (Ok x) = now ≡ before
-IsCaused lacking told before now (Err fault) = MayFail lacking told before now fault
+IsCaused lacking known before now (Ok x) = now ≡ before
+IsCaused lacking known before now (Err fault) = MayFail lacking known before now fault
 
 -- the count of faults never falls, an answer comes only where it stayed, and a fault only where it may: of one query
-pub record HasOneCause {T : Type 0} (q : Query) (told : Option Db) (before now : ℕ) (result : Result T QueryFault) : Type 0 where
+pub record HasOneCause {T : Type 0} (q : Query) (known : Option Db) (before now : ℕ) (result : Result T QueryFault) : Type 0 where
   pub later : before ≤ now
-  pub caused : IsCaused (λ db at. LacksIn db q at) told before now result
+  pub caused : IsCaused (λ db at. LacksIn db q at) known before now result
 
 -- of several
-pub record HasCause {T : Type 0} (asked : List Asked) (told : Option Db) (before now : ℕ) (result : Result T QueryFault) : Type 0 where
+pub record HasCause {T : Type 0} (asked : List Asked) (known : Option Db) (before now : ℕ) (result : Result T QueryFault) : Type 0 where
   pub later : before ≤ now
-  pub caused : IsCaused (λ db at. OneLacksIn db asked at) told before now result
+  pub caused : IsCaused (λ db at. OneLacksIn db asked at) known before now result

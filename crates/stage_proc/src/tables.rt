@@ -28,7 +28,7 @@ use std::alloc::Global;
 /// order that is asked for.
 fn table_with(alloc: Global, asked: &Asked, set: RowSet) -> Result<Table, OutOfMemory>
     ensures columns { IfOk result (λ table. table.columns ≡ map column_of (targets_of asked.now.query)) }
-    ensures told { IfOk result (λ table. (db : Db) → set ≡ answer db Free asked.now.query → table ≡ table_of db Free asked.now) }
+    ensures known { IfOk result (λ table. (db : Db) → set ≡ answer db Free asked.now.query → table ≡ table_of db Free asked.now) }
 {
     match columns_of(alloc, asked.query.targets.items()) {
         Ok(columns) => Ok(Table {
@@ -69,7 +69,7 @@ fn settled_answer<B: Base>(alloc: Global, base: &mut B, q: &Query) -> Result<Row
     requires read { (db : Db) → B.database base.old ≡ Some db → IsTrue (list_all (is_kept db) (vars_of q.now)) }
     requires fit { (db : Db) → B.database base.old ≡ Some db → IsTrue (sources_fit (kept_alone db) db q.now) }
     requires numbered { (db : Db) → B.database base.old ≡ Some db → IsTrue (slots_count_up q.now) }
-    ensures told { (db : Db) → B.database base.old ≡ Some db → IfOk result (λ set. set ≡ answer db Free q.now) }
+    ensures known { (db : Db) → B.database base.old ≡ Some db → IfOk result (λ set. set ≡ answer db Free q.now) }
     ensures none_lacks { (db : Db) → B.database base.old ≡ Some db → OnOk result (IsFalse (lacks db Free q.now)) }
     ensures kept { B.database base.new ≡ B.database base.old }
     ensures stays { (s : Db) → B.schema base.old ≡ Some s → B.schema base.new ≡ Some s }
@@ -90,7 +90,7 @@ pub fn table_of<B: Base>(alloc: Global, base: &mut B, asked: &Asked) -> Result<T
     requires numbered { (db : Db) → B.database base.old ≡ Some db → IsTrue (slots_count_up asked.now.query) }
     // Whatever is known of the base, the columns are those of the tree.
     ensures columns { IfOk result (λ table. table.columns ≡ map column_of (targets_of asked.now.query)) }
-    ensures told { (db : Db) → B.database base.old ≡ Some db → IfOk result (λ table. table ≡ table_of db Free asked.now) }
+    ensures known { (db : Db) → B.database base.old ≡ Some db → IfOk result (λ table. table ≡ table_of db Free asked.now) }
     ensures none_lacks { (db : Db) → B.database base.old ≡ Some db → OnOk result (IsFalse (lacks db Free asked.now.query)) }
     ensures kept { B.database base.new ≡ B.database base.old }
     ensures stays { (s : Db) → B.schema base.old ≡ Some s → B.schema base.new ≡ Some s }
@@ -111,7 +111,7 @@ pub fn tables_of<B: Base>(
     requires { (db : Db) → B.database base.old ≡ Some db → All (λ a. CanBeAnswered db a.query) asked.now }
     // Whatever is known of the base, there is a table for each query, with the columns of its tree.
     ensures columns { IfOk result (λ tables. map (λ t. t.columns) tables ≡ map (λ a. map column_of (targets_of a.query)) asked.now) }
-    ensures told { (db : Db) → B.database base.old ≡ Some db → IfOk result (λ tables. tables ≡ map (table_of db Free) asked.now) }
+    ensures known { (db : Db) → B.database base.old ≡ Some db → IfOk result (λ tables. tables ≡ map (table_of db Free) asked.now) }
     ensures none_lacks { (db : Db) → B.database base.old ≡ Some db → OnOk result (IsFalse (some_query_lacks db Free asked.now)) }
     ensures kept { B.database base.new ≡ B.database base.old }
     ensures stays { (s : Db) → B.schema base.old ≡ Some s → B.schema base.new ≡ Some s }

@@ -16,7 +16,7 @@ impl Drop for Entry {
     }
 }
 
-/// Pages in memory, of which nothing is told, and how often they were asked for and put.
+/// Pages in memory, of which nothing is known, and how often they were asked for and put.
 pub struct Counting {
     entries: Vec<Entry>,
     last: Option<Addr>,

@@ -10,12 +10,12 @@ use Rattle.calculus.specs.Replacement.{with_rows, without_rows}
 use Rattle.calculus.specs.Rows.{Row}
 use Rattle.stored_database.specs.Printed.{Files, relation_entry, entries_for}
 use Rattle.stored_database.proofs.Members.{IsIn, in_map}
-use Rattle.stored_database.proofs.PrintedEntries.{told_entries}
+use Rattle.stored_database.proofs.PrintedEntries.{grouped_entries}
 use Rattle.stored_database.proofs.Reading.{same_number}
 use Rattle.stored_database.specs.ChangeLaws.{Agree, resizes}
 use Rattle.stored_database.specs.Moves.{going, coming}
 use Rattle.stored_database.proofs.Lists.{no_more_go, no_more_come, moved_three, moved_at, moved_still}
-use Rattle.stored_database.proofs.Three.{attributes, same_file, same_owner, told_attributes, Stands, entries_are_apart, attributes_are_apart, trees_are_apart, relation_entries}
+use Rattle.stored_database.proofs.Three.{attributes, same_file, same_owner, grouped_attributes, Stands, entries_are_apart, attributes_are_apart, trees_are_apart, relation_entries}
 use Rattle.stored_database.proofs.Staying.{relation_keeps, relation_stays, relation_attributes_stay}
 use Rattle.stored_database.proofs.Unmoved.{Moves, views_same, indexes_same, view_attributes_same, index_attributes_same, trees_same}
 
@@ -69,13 +69,13 @@ module _ (rel : RelKey) (remove add : List Row) where
     come_columns_are = refl;
     gone_parts_are = refl;
     come_parts_are = refl;
-    entries = no_more_come (no_more_go (moved_three same_file told_entries.itself told_entries.turned
-        (moved_at same_file told_entries.itself told_entries.turned (relation_entry f) (relation_entry after) db.relations its (relation_entry after) (at db f after stands new_stands agree) (relation_entries f db stands) (relation_entries after (laid db (change.Rows rel remove add)) new_stands)
+    entries = no_more_come (no_more_go (moved_three same_file grouped_entries.itself grouped_entries.turned
+        (moved_at same_file grouped_entries.itself grouped_entries.turned (relation_entry f) (relation_entry after) db.relations its (relation_entry after) (at db f after stands new_stands agree) (relation_entries f db stands) (relation_entries after (laid db (change.Rows rel remove add)) new_stands)
         (stays db f after stands new_stands agree) (λ r i is. ap (λ i. relation_entry after (record { info = i; rows = [] })) (same_info r)))
         (views_same f after db (change.Rows rel remove add) stands new_stands agree (λ v at. at))
         (indexes_same f after db (change.Rows rel remove add) stands new_stands agree (λ x at. at)) (entries_are_apart f db stands) (entries_are_apart after (laid db (change.Rows rel remove add)) new_stands)));
-    columns = moved_three same_owner told_attributes.itself told_attributes.turned
-        (moved_still same_owner told_attributes.itself told_attributes.turned (λ (r : Relation). attributes f r.info) (λ (r : Relation). attributes after r.info) db.relations its
+    columns = moved_three same_owner grouped_attributes.itself grouped_attributes.turned
+        (moved_still same_owner grouped_attributes.itself grouped_attributes.turned (λ (r : Relation). attributes f r.info) (λ (r : Relation). attributes after r.info) db.relations its
         (attributes_stay db f after stands new_stands agree))
         (view_attributes_same f after db (change.Rows rel remove add) stands new_stands agree (λ v at. at))
         (index_attributes_same f after db (change.Rows rel remove add) stands new_stands agree (λ x at. at)) (attributes_are_apart f db stands) (attributes_are_apart after (laid db (change.Rows rel remove add)) new_stands);

@@ -21,7 +21,7 @@ use Rattle.stored_database.specs.Standing.{header_bytes, header_of, birth, datab
 use Rattle.stored_database.proofs.CatalogueRead.{catalogues_are_read}
 use Rattle.stored_database.proofs.FilesAgain.{what_is_read_is_printed}
 use Rattle.stored_database.proofs.Fresh.{header_again}
-use Rattle.stored_database.proofs.IsOne.{the_test_tells}
+use Rattle.stored_database.proofs.IsOne.{the_test_decides}
 use Rattle.stored_database.proofs.PrintedLaw.{what_is_printed_is_read}
 use Rattle.stored_database.proofs.Reading.{bind_some, when_some, same_number}
 
@@ -80,7 +80,7 @@ pages_stand m db is_one h =
     (λ i. (h.there i >>= (λ page. header_of page >>= (λ dba. check (birth m == 1) >>= (λ born. catalogue_in (pages_of m) >>= (λ cat. spelled dba (pages_of m) cat))))) >>= (λ db. when (is_database db) db))
     ∙ (λ i. (h.header i >>= (λ dba. check (h.born i == 1) >>= (λ born. h.catalogue i >>= (λ cat. spelled dba (pages_of m) cat)))) >>= (λ db. when (is_database db) db))
     ∙ (λ i. what_is_printed_is_read (pages_of m) h.files db is_one h.has i >>= (λ db. when (is_database db) db))
-    ∙ ap (λ t. when t db) ((the_test_tells db).1 is_one)
+    ∙ ap (λ t. when t db) ((the_test_decides db).1 is_one)
 
 pub pages_stand_exactly : PagesStandExactly
 pages_stand_exactly m db is_one = (pages_had m db is_one, pages_stand m db is_one)

@@ -12,12 +12,12 @@ use Rattle.calculus.specs.Keys.{same_key}
 use Rattle.calculus.specs.Lists.{is_any}
 use Rattle.stored_database.specs.Printed.{Files, relation_entry, index_entry, entries_for, columns_from}
 use Rattle.stored_database.proofs.Members.{IsIn, in_map, filter_in, of_tests}
-use Rattle.stored_database.proofs.PrintedEntries.{told_entries}
+use Rattle.stored_database.proofs.PrintedEntries.{grouped_entries}
 use Rattle.stored_database.proofs.Reading.{both}
 use Rattle.stored_database.specs.ChangeLaws.{Agree, resizes}
 use Rattle.stored_database.specs.Moves.{going, coming}
 use Rattle.stored_database.proofs.Lists.{among_rest, no_more_come, moved_three, moved_at, moved_out, moved_still}
-use Rattle.stored_database.proofs.Three.{attributes, columns_of, same_file, same_owner, told_attributes, Stands, entries_are_apart, attributes_are_apart, trees_are_apart, relation_entries, index_entries, index_attributes}
+use Rattle.stored_database.proofs.Three.{attributes, columns_of, same_file, same_owner, grouped_attributes, Stands, entries_are_apart, attributes_are_apart, trees_are_apart, relation_entries, index_entries, index_attributes}
 use Rattle.stored_database.proofs.Staying.{relation_stays, relation_attributes_stay, index_stays, index_attributes_stay}
 use Rattle.stored_database.proofs.Unmoved.{Moves, views_same, view_attributes_same, trees_same}
 
@@ -99,18 +99,18 @@ module _ (rel : RelKey) (to : Spec) (keys : List ℕ) where
     come_columns_are = refl;
     gone_parts_are = refl;
     come_parts_are = refl;
-    entries = no_more_come (moved_three same_file told_entries.itself told_entries.turned
-        (moved_at same_file told_entries.itself told_entries.turned (relation_entry f) (relation_entry after) db.relations its (λ r. relation_entry after (restructured to keys r)) at (relation_entries f db stands) (relation_entries after (laid db (change.Modify rel to keys)) new_stands)
+    entries = no_more_come (moved_three same_file grouped_entries.itself grouped_entries.turned
+        (moved_at same_file grouped_entries.itself grouped_entries.turned (relation_entry f) (relation_entry after) db.relations its (λ r. relation_entry after (restructured to keys r)) at (relation_entries f db stands) (relation_entries after (laid db (change.Modify rel to keys)) new_stands)
         (stays db f after stands new_stands agree) (λ r i is. ap (relation_entry after) (this r is)))
         (views_same f after db (change.Modify rel to keys) stands new_stands agree (λ v at. at))
-        (moved_out same_file told_entries.itself told_entries.turned (index_entry f) (index_entry after) db.indexes (λ x. same_key x.base rel) (index_entries f db stands)
+        (moved_out same_file grouped_entries.itself grouped_entries.turned (index_entry f) (index_entry after) db.indexes (λ x. same_key x.base rel) (index_entries f db stands)
         (λ x i off. index_stays f after db (change.Modify rel to keys) stands new_stands agree x i (among_rest (λ x. same_key x.base rel) db.indexes x i off)))
         (entries_are_apart f db stands) (entries_are_apart after (laid db (change.Modify rel to keys)) new_stands));
-    columns = moved_three same_owner told_attributes.itself told_attributes.turned
-        (moved_still same_owner told_attributes.itself told_attributes.turned (λ (r : Relation). attributes f r.info) (λ (r : Relation). attributes after r.info) db.relations its
+    columns = moved_three same_owner grouped_attributes.itself grouped_attributes.turned
+        (moved_still same_owner grouped_attributes.itself grouped_attributes.turned (λ (r : Relation). attributes f r.info) (λ (r : Relation). attributes after r.info) db.relations its
         (attributes_stay db f after stands new_stands agree))
         (view_attributes_same f after db (change.Modify rel to keys) stands new_stands agree (λ v at. at))
-        (moved_out same_owner told_attributes.itself told_attributes.turned (λ (x : Index). attributes f x.info) (λ (x : Index). attributes after x.info) db.indexes (λ x. same_key x.base rel) (index_attributes f db stands)
+        (moved_out same_owner grouped_attributes.itself grouped_attributes.turned (λ (x : Index). attributes f x.info) (λ (x : Index). attributes after x.info) db.indexes (λ x. same_key x.base rel) (index_attributes f db stands)
         (λ x i off. index_attributes_stay f after db (change.Modify rel to keys) stands new_stands agree x i (among_rest (λ x. same_key x.base rel) db.indexes x i off)))
         (attributes_are_apart f db stands) (attributes_are_apart after (laid db (change.Modify rel to keys)) new_stands);
     trees = trees_same f after db (change.Modify rel to keys) stands new_stands agree (λ v at. at) (λ p at. at) (λ p at. at) (trees_are_apart after (laid db (change.Modify rel to keys)) new_stands);

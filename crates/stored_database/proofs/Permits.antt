@@ -12,7 +12,7 @@ use Rattle.calculus.specs.Keys.{same_key, numbered_cmp}
 use Rattle.calculus.specs.Lists.{has_number, insert_by}
 use Rattle.stored_database.specs.Printed.{entries_for}
 use Rattle.stored_database.proofs.Members.{IsIn}
-use Rattle.stored_database.proofs.PrintedTrees.{parts_are, trees_for, same_tree, told_trees, permit_tree}
+use Rattle.stored_database.proofs.PrintedTrees.{parts_are, trees_for, same_tree, grouped_trees, permit_tree}
 use Rattle.stored_database.proofs.Sets.{in_insert}
 use Rattle.stored_database.specs.ChangeLaws.{resizes}
 use Rattle.stored_database.specs.Moves.{going, coming, nothing, dropped_permits}
@@ -39,10 +39,10 @@ module _ (rel : RelKey) (made : Permit) where
     come_parts_are = parts_are after (record nothing { permits = (rel, made) ∷ [] });
     entries = entries_same f after db (change.Permit rel made) stands new_stands agree (λ r at. at) (λ r. refl) (λ v at. at) (λ x at. at) (entries_are_apart after (laid db (change.Permit rel made)) new_stands);
     columns = attributes_same f after db (change.Permit rel made) stands new_stands agree (λ r at. at) (λ v at. at) (λ x at. at) (attributes_are_apart after (laid db (change.Permit rel made)) new_stands);
-    trees = moved_three same_tree told_trees.itself told_trees.turned
+    trees = moved_three same_tree grouped_trees.itself grouped_trees.turned
         (view_trees_same f after db (change.Permit rel made) stands new_stands agree (λ v at. at))
         (rule_trees_same f after db (change.Permit rel made) stands new_stands agree (λ p at. at))
-        (moved_in same_tree told_trees.itself told_trees.turned (permit_tree f) (permit_tree after) db.permits by_number (rel, made) (tied_itself (numbered_total (λ (p : Permit). p.number)) (rel, made)) (permit_trees after (laid db (change.Permit rel made)) new_stands) fresh
+        (moved_in same_tree grouped_trees.itself grouped_trees.turned (permit_tree f) (permit_tree after) db.permits by_number (rel, made) (tied_itself (numbered_total (λ (p : Permit). p.number)) (rel, made)) (permit_trees after (laid db (change.Permit rel made)) new_stands) fresh
         (λ p at. permit_tree_stays f after db (change.Permit rel made) stands new_stands agree p at (kept p at)))
         (trees_are_apart f db stands) (trees_are_apart after (laid db (change.Permit rel made)) new_stands);
   }
@@ -67,10 +67,10 @@ module _ (rel : RelKey) (numbers : List ℕ) where
     come_parts_are = refl;
     entries = entries_same f after db (change.DropPermits rel numbers) stands new_stands agree (λ r at. at) (λ r. refl) (λ v at. at) (λ x at. at) (entries_are_apart after (laid db (change.DropPermits rel numbers)) new_stands);
     columns = attributes_same f after db (change.DropPermits rel numbers) stands new_stands agree (λ r at. at) (λ v at. at) (λ x at. at) (attributes_are_apart after (laid db (change.DropPermits rel numbers)) new_stands);
-    trees = moved_three same_tree told_trees.itself told_trees.turned
+    trees = moved_three same_tree grouped_trees.itself grouped_trees.turned
         (view_trees_same f after db (change.DropPermits rel numbers) stands new_stands agree (λ v at. at))
         (rule_trees_same f after db (change.DropPermits rel numbers) stands new_stands agree (λ p at. at))
-        (moved_out same_tree told_trees.itself told_trees.turned (permit_tree f) (permit_tree after) db.permits (λ p. same_key p.0 rel && has_number numbers p.1.number) (permit_trees f db stands)
+        (moved_out same_tree grouped_trees.itself grouped_trees.turned (permit_tree f) (permit_tree after) db.permits (λ p. same_key p.0 rel && has_number numbers p.1.number) (permit_trees f db stands)
         (λ p at off. permit_tree_stays f after db (change.DropPermits rel numbers) stands new_stands agree p at (among_rest (λ p. same_key p.0 rel && has_number numbers p.1.number) db.permits p at off)))
         (trees_are_apart f db stands) (trees_are_apart after (laid db (change.DropPermits rel numbers)) new_stands);
   }

@@ -21,7 +21,7 @@ use Rattle.stored_database.specs.Spelled.{attrs_of, info_of, domain_of, relation
 use Rattle.stored_database.specs.Standing.{header_of, birth, database_of, standing, stored}
 use Rattle.stored_database.proofs.CatalogueRead.{catalogues_are_read}
 use Rattle.stored_database.proofs.EntryBytes.{stands}
-use Rattle.stored_database.proofs.IsOne.{the_test_tells}
+use Rattle.stored_database.proofs.IsOne.{the_test_decides}
 use Rattle.stored_database.proofs.Members.{IsIn, of_all, filter_in}
 use Rattle.stored_database.proofs.Reading.{bind_some, when_some}
 
@@ -30,7 +30,7 @@ unfolding standing
 what_stands_is_a_database pages db h =
     let b = bind_some (database_of pages) (λ db. when (is_database db) db) db h in
     let w = when_some (is_database b.0) b.0 db b.2 in
-    (the_test_tells db).0 (ap is_database (sym w.1) ∙ w.0)
+    (the_test_decides db).0 (ap is_database (sym w.1) ∙ w.0)
 
 pub one_database : OneDatabase
 one_database pages one other first second = same_Some one other (sym first ∙ second)

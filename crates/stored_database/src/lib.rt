@@ -16,7 +16,7 @@ pub use bytes::{
 pub use catalogues::{
     catalogues_are_read, what_is_listed, what_is_printed_is_a_catalogue, what_is_read_is_printed,
 };
-pub use deciding::the_test_tells_a_database;
+pub use deciding::the_test_decides_a_database;
 pub use examples::{
     pages_stand_for_a_long_view, pages_stand_for_permits, pages_stand_for_two_heaps,
 };

@@ -1,4 +1,4 @@
-//! A base that tells no database, and answers by what it was given.
+//! A base of which no database is known, and answers by what it was given.
 
 ghost use Rattle.std.specs.Prelude.{None, [], false, true, refl};
 ghost use Rattle.std.proofs.Common.{arith};
@@ -13,7 +13,7 @@ use calculus::{
 use quel_tree::{DbChangeTree, TreeFault, tree_of};
 use std::alloc::Global;
 
-/// A base that tells no database, of ann as the administrator. What it knows is given by changes that make
+/// A base of which no database is known, of ann as the administrator. What it knows is given by changes that make
 /// relations, views, rules and permits, each spelled as bytes. It answers with the first that has the name or
 /// the key, and looks neither at the user nor at a probe. Nothing changes it.
 pub struct TestBase {
@@ -138,11 +138,11 @@ impl Base for TestBase {
 
     ghost left = { λ _ _ _. [] };
 
-    ghost lawful = { λ _ db told. absurd (none-some db told) };
+    ghost lawful = { λ _ db known. absurd (none-some db known) };
 
-    ghost own = { λ _ db told. absurd (none-some db told) };
+    ghost own = { λ _ db known. absurd (none-some db known) };
 
-    ghost scanned = { λ _ db _ told. absurd (none-some db told) };
+    ghost scanned = { λ _ db _ known. absurd (none-some db known) };
 
     ghost counts_now = { λ _ _ _ _ left. left };
 

@@ -36,7 +36,7 @@ fn sort_is_in_range(asked: &Asked) -> bool
 
 /// Whether a query that lists few variables has few of them once the views in it are put in.
 fn expands_little<B: Base>(alloc: Global, base: &mut B, q: &Query) -> Result<bool, BaseFault>
-    ensures told { (db : Db) → B.schema base.old ≡ Some db → length (vars_of q.now) ≤ 256 → sources_list_few q.now ≡ true → IfOk result (λ few. few ≡ nat_le (expanded_variables db q.now) 50) }
+    ensures known { (db : Db) → B.schema base.old ≡ Some db → length (vars_of q.now) ≤ 256 → sources_list_few q.now ≡ true → IfOk result (λ few. few ≡ nat_le (expanded_variables db q.now) 50) }
     ensures kept { B.database base.new ≡ B.database base.old }
     ensures stays { (s : Db) → B.schema base.old ≡ Some s → B.schema base.new ≡ Some s }
     ensures asked { (b : B) → B.asked b base.old → B.asked b base.new }
@@ -49,7 +49,7 @@ fn expands_little<B: Base>(alloc: Global, base: &mut B, q: &Query) -> Result<boo
 /// Whether a query that is asked is fit: what it reads, its kinds, its variables and its columns to sort
 /// by.
 fn asked_fits<B: Base>(alloc: Global, base: &mut B, asked: &Asked) -> Result<bool, BaseFault>
-    ensures told { (db : Db) → B.schema base.old ≡ Some db → IfOk result (λ fit. fit ≡ asked_fits (kept_alone db) db asked.now) }
+    ensures known { (db : Db) → B.schema base.old ≡ Some db → IfOk result (λ fit. fit ≡ asked_fits (kept_alone db) db asked.now) }
     ensures kept { B.database base.new ≡ B.database base.old }
     ensures stays { (s : Db) → B.schema base.old ≡ Some s → B.schema base.new ≡ Some s }
     ensures asked { (b : B) → B.asked b base.old → B.asked b base.new }
@@ -73,7 +73,7 @@ pub(crate) fn all_asked_fit<B: Base>(
     base: &mut B,
     asked: &[Asked],
 ) -> Result<bool, BaseFault>
-    ensures told { (db : Db) → B.schema base.old ≡ Some db → IfOk result (λ fit. fit ≡ list_all (asked_fits (kept_alone db) db) asked.now) }
+    ensures known { (db : Db) → B.schema base.old ≡ Some db → IfOk result (λ fit. fit ≡ list_all (asked_fits (kept_alone db) db) asked.now) }
     ensures kept { B.database base.new ≡ B.database base.old }
     ensures stays { (s : Db) → B.schema base.old ≡ Some s → B.schema base.new ≡ Some s }
     ensures asked { (b : B) → B.asked b base.old → B.asked b base.new }

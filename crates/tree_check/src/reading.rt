@@ -37,7 +37,7 @@ fn aggregates_are_fit<B: Base>(
     base: &mut B,
     aggregates: &[&QAgg],
 ) -> Result<bool, BaseFault>
-    ensures told { (db : Db) → B.schema base.old ≡ Some db → IfOk result (λ fit. fit ≡ (slots_count_from 0 (map (λ g. g.now) aggregates.now) && list_all (λ g. source_fits (kept_alone db) db g.now.source) aggregates.now)) }
+    ensures known { (db : Db) → B.schema base.old ≡ Some db → IfOk result (λ fit. fit ≡ (slots_count_from 0 (map (λ g. g.now) aggregates.now) && list_all (λ g. source_fits (kept_alone db) db g.now.source) aggregates.now)) }
     ensures kept { B.database base.new ≡ B.database base.old }
     ensures stays { (s : Db) → B.schema base.old ≡ Some s → B.schema base.new ≡ Some s }
     ensures asked { (b : B) → B.asked b base.old → B.asked b base.new }
@@ -51,7 +51,7 @@ fn aggregates_are_fit<B: Base>(
 
 /// Whether a query's aggregates are numbered and may be over their sources.
 fn aggregates_fit<B: Base>(alloc: Global, base: &mut B, q: &Query) -> Result<bool, BaseFault>
-    ensures told { (db : Db) → B.schema base.old ≡ Some db → IfOk result (λ fit. fit ≡ (slots_count_up q.now && sources_fit (kept_alone db) db q.now)) }
+    ensures known { (db : Db) → B.schema base.old ≡ Some db → IfOk result (λ fit. fit ≡ (slots_count_up q.now && sources_fit (kept_alone db) db q.now)) }
     ensures kept { B.database base.new ≡ B.database base.old }
     ensures stays { (s : Db) → B.schema base.old ≡ Some s → B.schema base.new ≡ Some s }
     ensures asked { (b : B) → B.asked b base.old → B.asked b base.new }
@@ -64,7 +64,7 @@ fn aggregates_fit<B: Base>(alloc: Global, base: &mut B, q: &Query) -> Result<boo
 /// Whether what a query reads is base relations and catalogues, its aggregates are numbered, and its
 /// variables and targets are not too many.
 pub(crate) fn reads_fit<B: Base>(alloc: Global, base: &mut B, q: &Query) -> Result<bool, BaseFault>
-    ensures told { (db : Db) → B.schema base.old ≡ Some db → IfOk result (λ fit. fit ≡ reads_fit (kept_alone db) db q.now) }
+    ensures known { (db : Db) → B.schema base.old ≡ Some db → IfOk result (λ fit. fit ≡ reads_fit (kept_alone db) db q.now) }
     ensures kept { B.database base.new ≡ B.database base.old }
     ensures stays { (s : Db) → B.schema base.old ≡ Some s → B.schema base.new ≡ Some s }
     ensures asked { (b : B) → B.asked b base.old → B.asked b base.new }

@@ -37,7 +37,7 @@ pub(crate) fn vars_are_kept<B: Base>(
     base: &mut B,
     q: &Query,
 ) -> Result<bool, BaseFault>
-    ensures told { (db : Db) → B.schema base.old ≡ Some db → IfOk result (λ kept. kept ≡ list_all (is_kept db) (vars_of q.now)) }
+    ensures known { (db : Db) → B.schema base.old ≡ Some db → IfOk result (λ kept. kept ≡ list_all (is_kept db) (vars_of q.now)) }
     ensures kept { B.database base.new ≡ B.database base.old }
     ensures stays { (s : Db) → B.schema base.old ≡ Some s → B.schema base.new ≡ Some s }
     ensures asked { (b : B) → B.asked b base.old → B.asked b base.new }
@@ -48,7 +48,7 @@ pub(crate) fn vars_are_kept<B: Base>(
 
 /// Whether a query may be one whose rows an aggregate is over.
 fn rows_fit<B: Base>(alloc: Global, base: &mut B, q: &Query) -> Result<bool, BaseFault>
-    ensures told { (db : Db) → B.schema base.old ≡ Some db → IfOk result (λ fit. fit ≡ (nat_le (length (vars_of q.now)) 1 && (has_few_targets q.now && (list_all (is_kept db) (vars_of q.now) && query_stands db q.now)))) }
+    ensures known { (db : Db) → B.schema base.old ≡ Some db → IfOk result (λ fit. fit ≡ (nat_le (length (vars_of q.now)) 1 && (has_few_targets q.now && (list_all (is_kept db) (vars_of q.now) && query_stands db q.now)))) }
     ensures kept { B.database base.new ≡ B.database base.old }
     ensures stays { (s : Db) → B.schema base.old ≡ Some s → B.schema base.new ≡ Some s }
     ensures asked { (b : B) → B.asked b base.old → B.asked b base.new }
@@ -69,7 +69,7 @@ fn rows_fit<B: Base>(alloc: Global, base: &mut B, q: &Query) -> Result<bool, Bas
 /// Whether an aggregate may be over a source.
 #[tactic(auto, using(crate::proofs::SourceParts::source_named, crate::proofs::SourceParts::source_rows))]
 fn source_fits<B: Base>(alloc: Global, base: &mut B, source: &AggSource) -> Result<bool, BaseFault>
-    ensures told { (db : Db) → B.schema base.old ≡ Some db → IfOk result (λ fit. fit ≡ source_fits (kept_alone db) db source.now) }
+    ensures known { (db : Db) → B.schema base.old ≡ Some db → IfOk result (λ fit. fit ≡ source_fits (kept_alone db) db source.now) }
     ensures kept { B.database base.new ≡ B.database base.old }
     ensures stays { (s : Db) → B.schema base.old ≡ Some s → B.schema base.new ≡ Some s }
     ensures asked { (b : B) → B.asked b base.old → B.asked b base.new }
@@ -87,7 +87,7 @@ pub(crate) fn all_sources_fit<B: Base>(
     base: &mut B,
     aggregates: &[&QAgg],
 ) -> Result<bool, BaseFault>
-    ensures told { (db : Db) → B.schema base.old ≡ Some db → IfOk result (λ fit. fit ≡ list_all (λ g. source_fits (kept_alone db) db g.now.source) aggregates.now) }
+    ensures known { (db : Db) → B.schema base.old ≡ Some db → IfOk result (λ fit. fit ≡ list_all (λ g. source_fits (kept_alone db) db g.now.source) aggregates.now) }
     ensures kept { B.database base.new ≡ B.database base.old }
     ensures stays { (s : Db) → B.schema base.old ≡ Some s → B.schema base.new ≡ Some s }
     ensures asked { (b : B) → B.asked b base.old → B.asked b base.new }

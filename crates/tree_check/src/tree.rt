@@ -47,7 +47,7 @@ fn suits<B: Base>(
     user: &Name,
     tree: &Checked,
 ) -> Result<bool, BaseFault>
-    ensures told { (db : Db) → B.schema base.old ≡ Some db → IfOk result (λ fit. fit ≡ suits (kept_alone db) db user.now tree.now) }
+    ensures known { (db : Db) → B.schema base.old ≡ Some db → IfOk result (λ fit. fit ≡ suits (kept_alone db) db user.now tree.now) }
     ensures kept { B.database base.new ≡ B.database base.old }
     ensures stays { (s : Db) → B.schema base.old ≡ Some s → B.schema base.new ≡ Some s }
     ensures asked { (b : B) → B.asked b base.old → B.asked b base.new }
@@ -70,7 +70,7 @@ pub fn fit_tree<B: Base>(
     user: &Name,
     base: &mut B,
 ) -> Result<bool, BaseFault>
-    ensures told { (db : Db) → B.schema base.old ≡ Some db → IfOk result (λ fit. fit ≡ is_fit db user.now c.now) }
+    ensures known { (db : Db) → B.schema base.old ≡ Some db → IfOk result (λ fit. fit ≡ is_fit db user.now c.now) }
     ensures by_schema { IsTrue B.fixes → (s : Db) → B.schema base.new ≡ Some s → IfOk result (λ fit. fit ≡ is_fit s user.now c.now) }
     ensures kept { B.database base.new ≡ B.database base.old }
     ensures stays { (s : Db) → B.schema base.old ≡ Some s → B.schema base.new ≡ Some s }

@@ -37,7 +37,7 @@ fn kinds_made(alloc: Global, u: &Update) -> Result<Vec<Kind>, OutOfMemory>
 /// The kinds of the attributes of the new rows of an update.
 #[tactic(auto, using(crate::proofs::RelationForms::made_kinds))]
 fn new_kinds<B: Base>(alloc: Global, base: &mut B, u: &Update) -> Result<Vec<Kind>, BaseFault>
-    ensures told { (db : Db) → B.schema base.old ≡ Some db → IfOk result (λ kinds. kinds.items ≡ map (λ a. a.kind) (new_attrs db u.now)) }
+    ensures known { (db : Db) → B.schema base.old ≡ Some db → IfOk result (λ kinds. kinds.items ≡ map (λ a. a.kind) (new_attrs db u.now)) }
     ensures kept { B.database base.new ≡ B.database base.old }
     ensures stays { (s : Db) → B.schema base.old ≡ Some s → B.schema base.new ≡ Some s }
     ensures asked { (b : B) → B.asked b base.old → B.asked b base.new }
@@ -129,7 +129,7 @@ fn rows_fit(alloc: Global, u: &Update, kinds: Vec<Kind>) -> Result<bool, OutOfMe
 /// Whether the new rows of an update fit: the targets the attributes that they are for, their places, and
 /// what must hold of them.
 fn new_rows_fit<B: Base>(alloc: Global, base: &mut B, u: &Update) -> Result<bool, BaseFault>
-    ensures told { (db : Db) → B.schema base.old ≡ Some db → IfOk result (λ fit. fit ≡ (assignments_fit db u.now && (places_fit db u.now && checks_fit db u.now))) }
+    ensures known { (db : Db) → B.schema base.old ≡ Some db → IfOk result (λ fit. fit ≡ (assignments_fit db u.now && (places_fit db u.now && checks_fit db u.now))) }
     ensures kept { B.database base.new ≡ B.database base.old }
     ensures stays { (s : Db) → B.schema base.old ≡ Some s → B.schema base.new ≡ Some s }
     ensures asked { (b : B) → B.asked b base.old → B.asked b base.new }
@@ -141,7 +141,7 @@ fn new_rows_fit<B: Base>(alloc: Global, base: &mut B, u: &Update) -> Result<bool
 
 /// Whether an update that lists few variables has few of them once the views in it are put in.
 fn expands_little<B: Base>(alloc: Global, base: &mut B, u: &Update) -> Result<bool, BaseFault>
-    ensures told { (db : Db) → B.schema base.old ≡ Some db → length (vars_of u.now.query) ≤ 256 → sources_list_few u.now.query ≡ true → IfOk result (λ few. few ≡ nat_le (update_expanded_variables db u.now) 50) }
+    ensures known { (db : Db) → B.schema base.old ≡ Some db → length (vars_of u.now.query) ≤ 256 → sources_list_few u.now.query ≡ true → IfOk result (λ few. few ≡ nat_le (update_expanded_variables db u.now) 50) }
     ensures kept { B.database base.new ≡ B.database base.old }
     ensures stays { (s : Db) → B.schema base.old ≡ Some s → B.schema base.new ≡ Some s }
     ensures asked { (b : B) → B.asked b base.old → B.asked b base.new }
@@ -153,7 +153,7 @@ fn expands_little<B: Base>(alloc: Global, base: &mut B, u: &Update) -> Result<bo
 
 /// Whether the new rows of an update fit, and what it changes or makes.
 fn change_fits<B: Base>(alloc: Global, base: &mut B, u: &Update) -> Result<bool, BaseFault>
-    ensures told { (db : Db) → B.schema base.old ≡ Some db → IfOk result (λ fit. fit ≡ ((assignments_fit db u.now && (places_fit db u.now && checks_fit db u.now)) && relation_fits db u.now)) }
+    ensures known { (db : Db) → B.schema base.old ≡ Some db → IfOk result (λ fit. fit ≡ ((assignments_fit db u.now && (places_fit db u.now && checks_fit db u.now)) && relation_fits db u.now)) }
     ensures kept { B.database base.new ≡ B.database base.old }
     ensures stays { (s : Db) → B.schema base.old ≡ Some s → B.schema base.new ≡ Some s }
     ensures asked { (b : B) → B.asked b base.old → B.asked b base.new }
@@ -172,7 +172,7 @@ pub(crate) fn update_fits<B: Base>(
     base: &mut B,
     u: &Update,
 ) -> Result<bool, BaseFault>
-    ensures told { (db : Db) → B.schema base.old ≡ Some db → IfOk result (λ fit. fit ≡ update_fits (kept_alone db) db u.now) }
+    ensures known { (db : Db) → B.schema base.old ≡ Some db → IfOk result (λ fit. fit ≡ update_fits (kept_alone db) db u.now) }
     ensures kept { B.database base.new ≡ B.database base.old }
     ensures stays { (s : Db) → B.schema base.old ≡ Some s → B.schema base.new ≡ Some s }
     ensures asked { (b : B) → B.asked b base.old → B.asked b base.new }

@@ -36,7 +36,7 @@ use Rattle.calculus.specs.VariableRows.{range_rows, rows_within, rows_of}
 use Rattle.calculus.specs.Aggregate.{source_rows, agree, folded_rows, arguments, source_kinds, none_value, fold_values, fold_arguments, fold_linked, aggregates}
 use Rattle.calculus_laws.specs.Expansion.{is_no_view}
 use Rattle.calculus_laws.proofs.SameRows.{all_at}
-use Rattle.calculus_laws.proofs.Through.{told_view, told_at, rows_told}
+use Rattle.calculus_laws.proofs.Through.{said_view, said_at, rows_said}
 use Rattle.calculus_laws.proofs.ViewAnswer.{found}
 use Rattle.view_text.specs.Replaced.{Putting, replaced, replaced_target, no_aggregate}
 use Rattle.view_text.specs.Halves.{all_of}
@@ -48,7 +48,7 @@ use Rattle.tree_laws.proofs.Values.{StandsFor, makes_none, val_replaced, within_
 use Rattle.tree_laws.proofs.Halves.{holds_all_of}
 use Rattle.tree_laws.proofs.Scopes.{both_true}
 use Rattle.tree_laws.proofs.Queries.{targets_of-put}
-use Rattle.tree_laws.proofs.Told.{cut_holds}
+use Rattle.tree_laws.proofs.Denoted.{cut_holds}
 use Rattle.tree_laws.proofs.Sound.{viewed, plain_view, free_rows}
 use Rattle.tree_laws.proofs.Freely.{plain_put}
 use Rattle.calculus.specs.declared.value.Value.TheVariants.{Text, Int}
@@ -177,9 +177,9 @@ module _ (db : Db) (d : IsDatabase db) (who : Who) where
       kinds = refl;
     }
 
-    rows_at_range : (key : RelKey) (r : Option Range) → range_at db key ≡ r → rows_of db who key attrs ≡ range_rows (λ view. told_view (rows_told db who) greatest_level db view attrs) db who key attrs r
+    rows_at_range : (key : RelKey) (r : Option Range) → range_at db key ≡ r → rows_of db who key attrs ≡ range_rows (λ view. said_view (rows_said db who) greatest_level db view attrs) db who key attrs r
     unfolding rows_of
-    rows_at_range key r h = ap (λ rows. rows attrs) (told_at (rows_told db who) greatest_level db key r h)
+    rows_at_range key r h = ap (λ rows. rows attrs) (said_at (rows_said db who) greatest_level db key r h)
 
     view_folds : (key : RelKey) (view : View) → range_at db key ≡ Some (Viewed view)
         → FoldsAs (Named key) (rows_of_query (put_plain (text_within (greatest_level - 1) db who) view.query)) []

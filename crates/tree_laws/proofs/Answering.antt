@@ -28,7 +28,7 @@ use Rattle.tree_laws.proofs.Values.{StandsFor, MakesAll}
 use Rattle.tree_laws.proofs.Halves.{any_append}
 use Rattle.tree_laws.proofs.Scopes.{both_true}
 use Rattle.tree_laws.proofs.Queries.{same_given, same_lack}
-use Rattle.tree_laws.proofs.Told.{query_told, all_told}
+use Rattle.tree_laws.proofs.Denoted.{query_denoted, all_denoted}
 use Rattle.tree_laws.proofs.Named.{Names, KeepsNames, term_named, none_keep, either_true, left_true, right_true}
 use Rattle.tree_laws.proofs.Placed.{within_none}
 use Rattle.tree_laws.proofs.Sound.{all_sound}
@@ -95,7 +95,7 @@ module _ (db : Db) (d : IsDatabase db) (who : Who) (q : Query) (nest : aggregate
   answer_put =
       same_given db (aggregates db who) (aggregates db Free) (put_made db who (put_from 0 (query_texts (text_of db who) q))) q
       (map (λ p. variable_rows (rows_of db who) q p.0 p.1) (enumerate_from 0 (vars_of q))) (query_texts (text_of db who) q)
-      (query_told db (rows_of db who) (text_of db who) (all_told db who) q 0 (vars_of q))
+      (query_denoted db (rows_of db who) (text_of db who) (all_denoted db who) q 0 (vars_of q))
       (put_makes db d who (put_from 0 (query_texts (text_of db who) q)) (query_aggregates q) nest)
       ∙ ap (rows_given (aggregates db Free) (put_in db who q)) (sym put_assigned)
 
@@ -104,6 +104,6 @@ module _ (db : Db) (d : IsDatabase db) (who : Who) (q : Query) (nest : aggregate
   lacks_put =
       same_lack db (aggregates db who) (aggregates db Free) (put_made db who (put_from 0 (query_texts (text_of db who) q))) q
       (map (λ p. variable_rows (rows_of db who) q p.0 p.1) (enumerate_from 0 (vars_of q))) (query_texts (text_of db who) q)
-      (query_told db (rows_of db who) (text_of db who) (all_told db who) q 0 (vars_of q))
+      (query_denoted db (rows_of db who) (text_of db who) (all_denoted db who) q 0 (vars_of q))
       (put_makes db d who (put_from 0 (query_texts (text_of db who) q)) (query_aggregates q) nest)
       ∙ ap (some_lacks (aggregates db Free) (put_in db who q)) (sym put_assigned)

@@ -31,13 +31,13 @@ use Rattle.view_text.specs.Texts.{used_text, texts_vars, put_from, conditions_fr
 use Rattle.view_text.specs.PutIn.{put_made, put_over, update_text, update_texts, put_in_update}
 use Rattle.tree_laws.specs.Nesting.{aggregates_nest_none}
 use Rattle.tree_laws.proofs.Values.{StandsFor, without_value_has_none}
-use Rattle.tree_laws.proofs.Joint.{kept_lists, TellEach}
-use Rattle.tree_laws.proofs.Queries.{Beside, is_told, tells}
+use Rattle.tree_laws.proofs.Joint.{kept_lists, DenoteEach}
+use Rattle.tree_laws.proofs.Queries.{Beside, is_denoted, denotes}
 use Rattle.tree_laws.proofs.Named.{Names, KeepsNames}
 use Rattle.tree_laws.proofs.Placed.{placed_first, condition_used, attribute_used}
 use Rattle.tree_laws.proofs.Sound.{free_used, all_kept}
 use Rattle.tree_laws.proofs.Answering.{put_makes, put_keeps}
-use Rattle.tree_laws.proofs.Changing.{text_by, text_with, update_told, update_named, IsSeen, update_seen, update_kept, changed_at, free_changed, same_place, get_past}
+use Rattle.tree_laws.proofs.Changing.{text_by, text_with, update_denoted, update_named, IsSeen, update_seen, update_kept, changed_at, free_changed, same_place, get_past}
 
 -- ---- the changed variable, where it has moved
 
@@ -229,12 +229,12 @@ module _ (db : Db) (d : IsDatabase db) (who : Who) (u : Update) (nest : aggregat
   abbrev pub rowss : List (List Row)
   rowss = map (λ p. seen_rows db who (rows_of db who) u p.0 p.1) (enumerate_from 0 (vars_of u.query))
 
-  pub told : TellEach db rowss texts
-  told = update_told db who u 0 (vars_of u.query)
+  pub denoted : DenoteEach db rowss texts
+  denoted = update_denoted db who u 0 (vars_of u.query)
 
   -- an assignment of the update, and one of what is put in
   pub record IsBeside (f e : Env) : Type 0 where
-    pub beside : Beside db (aggregates db who) (aggregates db Free) (put_made db who (put_from 0 texts)) u.query rowss texts told (put_makes db d who (put_from 0 texts) (query_aggregates u.query) nest) f e
+    pub beside : Beside db (aggregates db who) (aggregates db Free) (put_made db who (put_from 0 texts)) u.query rowss texts denoted (put_makes db d who (put_from 0 texts) (query_aggregates u.query) nest) f e
     pub old : old_in (put_in_update db who u) f ≡ old_in u e
 
   chosen_long : (lists : List (List Row)) (e : Env) → Chosen lists e → length e ≡ length lists
@@ -293,13 +293,13 @@ module _ (db : Db) (d : IsDatabase db) (who : Who) (u : Update) (nest : aggregat
   -- each assignment has one beside it
   pub to_free : (e : Env) → In e (choices rowss) → (f : Env) × In f (choices (kept_lists db (texts_vars texts))) × IsBeside f e
   to_free e inside =
-      let (f, there, by) = tells db (aggregates db who) (aggregates db Free) (put_made db who (put_from 0 texts)) u.query rowss texts told
+      let (f, there, by) = denotes db (aggregates db who) (aggregates db Free) (put_made db who (put_from 0 texts)) u.query rowss texts denoted
       (put_makes db d who (put_from 0 texts) (query_aggregates u.query) nest) e inside in
       (f, there, record { beside = by; old = old_same e f inside there by.stands })
 
   pub from_free : (f : Env) → In f (choices (kept_lists db (texts_vars texts))) → holds (aggregates db Free) (qual_of free_query) f ≡ true
       → (e : Env) × In e (choices rowss) × IsBeside f e
   from_free f inside h =
-      let (e, there, by) = is_told db (aggregates db who) (aggregates db Free) (put_made db who (put_from 0 texts)) u.query rowss texts told
+      let (e, there, by) = is_denoted db (aggregates db who) (aggregates db Free) (put_made db who (put_from 0 texts)) u.query rowss texts denoted
       (put_makes db d who (put_from 0 texts) (query_aggregates u.query) nest) f inside h in
       (e, there, record { beside = by; old = old_same e f there inside by.stands })

@@ -25,8 +25,8 @@ use Rattle.view_text.specs.Scoped.{is_qual_within, is_scoped}
 use Rattle.view_text.specs.Texts.{used_text, texts_vars}
 use Rattle.view_text.specs.TextOf.{cut, text_of}
 use Rattle.view_text.specs.PutIn.{read_cut, changed_text, update_text}
-use Rattle.tree_laws.proofs.Joint.{both_are, all_append, all_hold, Tells, TellEach}
-use Rattle.tree_laws.proofs.Told.{cut_holds, cut_within, kept_told, used_told, all_told}
+use Rattle.tree_laws.proofs.Joint.{both_are, all_append, all_hold, Denotes, DenoteEach}
+use Rattle.tree_laws.proofs.Denoted.{cut_holds, cut_within, kept_denoted, used_denoted, all_denoted}
 use Rattle.tree_laws.proofs.Placed.{NamesAll, kept_names}
 use Rattle.tree_laws.proofs.Sound.{no_views, used_sound, used_meant, all_sound}
 
@@ -45,9 +45,9 @@ changed_within db who right places read key =
     all_append (is_qual_within 1) (cut db who right places key) (read_cut db who read key)
     ∙ (λ i. cut_within db who right places key i && read_within db who read key i)
 
-changed_told : (db : Db) (who : Who) (right : Right) (places read : List ℕ) (key : RelKey) → Tells db (changed_rows db who right places read key) (changed_text db who right places read key)
-changed_told db who right places read key =
-    kept_told db key (cut db who right places key ++ read_cut db who read key) (λ row. may db who right places key row && may_read db who read key row)
+changed_denoted : (db : Db) (who : Who) (right : Right) (places read : List ℕ) (key : RelKey) → Denotes db (changed_rows db who right places read key) (changed_text db who right places read key)
+changed_denoted db who right places read key =
+    kept_denoted db key (cut db who right places key ++ read_cut db who read key) (λ row. may db who right places key row && may_read db who read key row)
     (changed_within db who right places read key)
     (λ row. all_append (λ q. holds no_aggs q (row ∷ [])) (cut db who right places key) (read_cut db who read key)
     ∙ (λ i. cut_holds db who right places key row i && read_holds db who read key row i))
@@ -72,18 +72,18 @@ module _ (db : Db) (who : Who) (u : Update) where
   abbrev pub text_with : ℕ → RelKey → Option (ℕ × Right) → Text
   text_with v key o = elim o [ None ↦ used_text (text_of db who) key (used_in_query v u.query) | Some c ↦ text_by v key c.1 (c.0 == v) ]
 
-  told_by : (v : ℕ) (key : RelKey) (right : Right) (b : Bool) → Tells db (rows_by v key right b) (text_by v key right b)
-  told_by v key right true = changed_told db who right u.places (used_in_query v u.query) key
-  told_by v key right false = used_told db (rows_of db who) (text_of db who) (all_told db who) key (used_in_query v u.query)
+  denoted_by : (v : ℕ) (key : RelKey) (right : Right) (b : Bool) → Denotes db (rows_by v key right b) (text_by v key right b)
+  denoted_by v key right true = changed_denoted db who right u.places (used_in_query v u.query) key
+  denoted_by v key right false = used_denoted db (rows_of db who) (text_of db who) (all_denoted db who) key (used_in_query v u.query)
 
-  told_with : (v : ℕ) (key : RelKey) (o : Option (ℕ × Right)) → Tells db (rows_with v key o) (text_with v key o)
-  told_with v key None = used_told db (rows_of db who) (text_of db who) (all_told db who) key (used_in_query v u.query)
-  told_with v key (Some c) = told_by v key c.1 (c.0 == v)
+  denoted_with : (v : ℕ) (key : RelKey) (o : Option (ℕ × Right)) → Denotes db (rows_with v key o) (text_with v key o)
+  denoted_with v key None = used_denoted db (rows_of db who) (text_of db who) (all_denoted db who) key (used_in_query v u.query)
+  denoted_with v key (Some c) = denoted_by v key c.1 (c.0 == v)
 
-  pub update_told : (k : ℕ) (keys : List RelKey)
-      → TellEach db (map (λ p. seen_rows db who (rows_of db who) u p.0 p.1) (enumerate_from k keys)) (map (λ p. update_text db who u p.0 p.1) (enumerate_from k keys))
-  update_told k [] = tt
-  update_told k (key ∷ keys) = (told_with k key (changed u), update_told (k + 1) keys)
+  pub update_denoted : (k : ℕ) (keys : List RelKey)
+      → DenoteEach db (map (λ p. seen_rows db who (rows_of db who) u p.0 p.1) (enumerate_from k keys)) (map (λ p. update_text db who u p.0 p.1) (enumerate_from k keys))
+  update_denoted k [] = tt
+  update_denoted k (key ∷ keys) = (denoted_with k key (changed u), update_denoted (k + 1) keys)
 
 -- ---- rows by their attributes
 

@@ -29,7 +29,7 @@ use Rattle.view_text.specs.PutIn.{put_made, put_over, put_in, put_in_asked}
 use Rattle.tree_laws.proofs.Scopes.{both_true}
 use Rattle.tree_laws.proofs.Joint.{both_are}
 use Rattle.tree_laws.proofs.Queries.{targets_of-put}
-use Rattle.tree_laws.proofs.Told.{all_told}
+use Rattle.tree_laws.proofs.Denoted.{all_denoted}
 use Rattle.tree_laws.proofs.Values.{within_left, within_right, within_itself}
 use Rattle.tree_laws.proofs.Within.{all_scoped}
 use Rattle.tree_laws.proofs.Nests.{kind_there}
@@ -70,7 +70,7 @@ module _ (db : Db) (d : IsDatabase db) (who : Who) where
     has = query_has db (text_of db who) (of_scoped db d who) q fit
 
     scoped : all_scoped texts ≡ true
-    scoped = each_scoped db d who (text_of db who) (λ key attrs. (all_told db who key attrs).scoped) q 0 (vars_of q)
+    scoped = each_scoped db d who (text_of db who) (λ key attrs. (all_denoted db who key attrs).scoped) q 0 (vars_of q)
 
     kept : list_all (is_kept db) (texts_vars texts) ≡ true
     kept = query_kept db (text_of db who) (of_scoped db d who) q fit

@@ -22,7 +22,7 @@ use Rattle.calculus.specs.QueryParts.{term_aggregates, qual_aggregates, query_ag
 use Rattle.calculus.specs.Used.{used, used_in_qual, used_in_query}
 use Rattle.calculus_laws.proofs.Members.{Within}
 use Rattle.calculus_laws.proofs.Plain.{in_targets}
-use Rattle.calculus_laws.proofs.Through.{told_at}
+use Rattle.calculus_laws.proofs.Through.{said_at}
 use Rattle.quel_meaning.specs.KindsInQueries.{kind_in_query, kinds_fit_in_query}
 use Rattle.quel_meaning.specs.FitQueries.{Allowed, is_kept, keeps_rows, kept_alone, kept_or_viewed, has_few_targets, lists_few_vars, source_fits, sources_fit, slots_count_from, slots_count_up, reads_fit}
 use Rattle.view_text.specs.declared.text.Text.{Text}
@@ -41,7 +41,7 @@ use Rattle.tree_laws.proofs.Values.{within_right, within_itself}
 use Rattle.tree_laws.proofs.Within.{all_scoped, put_within, conditions_are_within}
 use Rattle.tree_laws.proofs.SameKinds.{VarKinds, HasKinds, Names}
 use Rattle.tree_laws.proofs.FitTexts.{kinds_of, all_fit}
-use Rattle.tree_laws.proofs.FitWithin.{measure_told, query_counts, within_counts}
+use Rattle.tree_laws.proofs.FitWithin.{measure_said, query_counts, within_counts}
 use Rattle.tree_laws.proofs.FitPlain.{few_targets, put_source_fits, view_measure}
 use Rattle.tree_laws.proofs.FitPut.{qual_in_query_within, kind_put, fit_put, targets_made, qual_made, all_of_made, conditions_made}
 
@@ -69,7 +69,7 @@ kept_measure db key h = by (range_at db key) refl h
   where
     by : (r : Option Range) → range_at db key ≡ r → keeps_rows r ≡ true → (measure_within greatest_level db key).variables ≡ 1
     by None e h = cc h
-    by (Some (Kept relation)) e h = ap (λ m. m.variables) (told_at measure_told greatest_level db key (Some (Kept relation)) e)
+    by (Some (Kept relation)) e h = ap (λ m. m.variables) (said_at measure_said greatest_level db key (Some (Kept relation)) e)
     by (Some (Viewed view)) e h = cc h
 
 -- of kept variables no more are counted than are listed

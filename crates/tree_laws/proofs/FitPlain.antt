@@ -26,7 +26,7 @@ use Rattle.calculus.specs.Used.{used, used_in_query}
 use Rattle.calculus_laws.proofs.Enough.{all_there}
 use Rattle.calculus_laws.proofs.Members.{In}
 use Rattle.calculus_laws.proofs.SameRows.{all_at}
-use Rattle.calculus_laws.proofs.Through.{told_at, level_told}
+use Rattle.calculus_laws.proofs.Through.{said_at, level_said}
 use Rattle.calculus_laws.proofs.ViewAnswer.{found}
 use Rattle.quel_meaning.specs.FitQueries.{Allowed, is_kept, keeps_rows, kept_alone, kept_or_viewed, can_be_ranged_over, has_few_targets, source_fits}
 use Rattle.view_text.specs.declared.text.Text.{Text}
@@ -41,11 +41,11 @@ use Rattle.tree_laws.proofs.Scopes.{both_true}
 use Rattle.tree_laws.proofs.Joint.{both_are}
 use Rattle.tree_laws.proofs.Queries.{targets_of-put}
 use Rattle.tree_laws.proofs.Sound.{viewed}
-use Rattle.tree_laws.proofs.Told.{all_told, within_told}
+use Rattle.tree_laws.proofs.Denoted.{all_denoted, within_denoted}
 use Rattle.tree_laws.proofs.SameKinds.{VarKinds, Names, fit_replaced}
 use Rattle.tree_laws.proofs.FitTexts.{kinds_of, all_fit, IsFitText}
 use Rattle.tree_laws.proofs.FitViews.{IsUsed, targets_names, qual_names, target_kind, first_names, later_names, query_has, query_conditions, query_kept}
-use Rattle.tree_laws.proofs.FitWithin.{all_in, fits_within, fits_of, has_level, measure_told, query_counts, within_counts, all_count, used_scoped}
+use Rattle.tree_laws.proofs.FitWithin.{all_in, fits_within, fits_of, has_level, measure_said, query_counts, within_counts, all_count, used_scoped}
 use Rattle.tree_laws.proofs.Aggregated.{kinds_are, kind_is}
 
 -- ---- what is joined
@@ -106,14 +106,14 @@ module _ (db : Db) (source : TextSource) (scoped : (key : RelKey) (attrs : List 
 
 module _ (db : Db) (d : IsDatabase db) (who : Who) where
   within_scoped : (n : ℕ) (key : RelKey) (attrs : List ℕ) → is_scoped (used_text (text_within n db who) key attrs) ≡ true
-  within_scoped n = used_scoped db d who (text_within n db who) (λ key attrs. (within_told n db who key attrs).scoped)
+  within_scoped n = used_scoped db d who (text_within n db who) (λ key attrs. (within_denoted n db who key attrs).scoped)
 
   -- the keys that a view names have levels
   below_levels : (n : ℕ) (key : RelKey) (view : View) → range_at db key ≡ Some (Viewed view) → is_some (level_within (suc n) db key) ≡ true
       → (other : RelKey) → In other (vars_of view.query) → is_some (level_within n db other) ≡ true
   below_levels n key view h level other inside =
       all_in (λ k. is_some (level_within n db k) ≡ true) (vars_of view.query)
-      (all_there (level_within n db) (vars_of view.query) (sym (ap is_some (told_at level_told (suc n) db key (Some (Viewed view)) h)) ∙ level)) other inside
+      (all_there (level_within n db) (vars_of view.query) (sym (ap is_some (said_at level_said (suc n) db key (Some (Viewed view)) h)) ∙ level)) other inside
 
   view_few : (key : RelKey) (view : View) → range_at db key ≡ Some (Viewed view) → has_few_targets view.query ≡ true
   view_few key view h =
@@ -130,7 +130,7 @@ module _ (db : Db) (d : IsDatabase db) (who : Who) where
 
   -- what is known of a view's query
   pub view_measure : (n : ℕ) (key : RelKey) (view : View) → range_at db key ≡ Some (Viewed view) → measure_within (suc n) db key ≡ query_measure (measure_within n db) view.query
-  view_measure n key view h = told_at measure_told (suc n) db key (Some (Viewed view)) h
+  view_measure n key view h = said_at measure_said (suc n) db key (Some (Viewed view)) h
 
   view_source : (n : ℕ) (key : RelKey) (view : View) → range_at db key ≡ Some (Viewed view) → is_some (level_within (suc n) db key) ≡ true → (measure_within (suc n) db key).variables ≤ 1
       → source_fits (kept_alone db) db (rows_of_query (put_plain (text_within n db who) view.query)) ≡ true
@@ -164,7 +164,7 @@ module _ (db : Db) (d : IsDatabase db) (who : Who) where
   vars_fit keys h key inside attrs = fits_of db d who key (ranged_there key (all_at (can_be_ranged_over db) keys key inside h)) attrs
 
   pub of_scoped : (key : RelKey) (attrs : List ℕ) → is_scoped (used_text (text_of db who) key attrs) ≡ true
-  of_scoped = used_scoped db d who (text_of db who) (λ key attrs. (all_told db who key attrs).scoped)
+  of_scoped = used_scoped db d who (text_of db who) (λ key attrs. (all_denoted db who key attrs).scoped)
 
   abbrev may : Allowed
   may = kept_or_viewed db

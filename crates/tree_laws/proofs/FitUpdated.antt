@@ -107,7 +107,7 @@ module _ (db : Db) (d : IsDatabase db) (who : Who) where
       (all_append (λ q. kinds_fit q (kinds_at db key ∷ [])) (cut db who right places key) (read_cut db who read key)
       ∙ both_are (all_fit (kinds_at db key ∷ []) (cut db who right places key)) (all_fit (kinds_at db key ∷ []) (read_cut db who read key)) (cut_fits db d who right places key) (read_fits read key))
 
-  -- what is told of a text: it ranges over what is kept, its conditions fit, and where its variable is used it fits
+  -- what is known of a text: it ranges over what is kept, its conditions fit, and where its variable is used it fits
   record IsGood (key : RelKey) (attrs : List ℕ) (text : Text) : Type 0 where
     pub kept : list_all (is_kept db) text.vars ≡ true
     pub conditions : all_fit (kinds_of db text.vars) text.conditions ≡ true

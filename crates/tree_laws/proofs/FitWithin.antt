@@ -19,7 +19,7 @@ use Rattle.calculus.specs.Used.{used_in_query}
 use Rattle.calculus_laws.proofs.Enough.{all_there, same_key-exact}
 use Rattle.calculus_laws.proofs.Members.{In}
 use Rattle.calculus_laws.proofs.SameRows.{all_at}
-use Rattle.calculus_laws.proofs.Through.{Told, told_at, level_told, both_told}
+use Rattle.calculus_laws.proofs.Through.{Said, said_at, level_said, both_said}
 use Rattle.calculus_laws.proofs.ViewAnswer.{found}
 use Rattle.quel_meaning.specs.FitQueries.{keeps_rows}
 use Rattle.view_text.specs.declared.text.Text.{Text}
@@ -28,7 +28,7 @@ use Rattle.view_text.specs.Texts.{TextSource, no_text, used_text, query_texts, t
 use Rattle.view_text.specs.TextOf.{cut, view_text, text_within, text_of, kept_text}
 use Rattle.tree_laws.proofs.Aggregated.{view_kinds}
 use Rattle.tree_laws.proofs.Sound.{viewed}
-use Rattle.tree_laws.proofs.Told.{cut_within, texts_told}
+use Rattle.tree_laws.proofs.Denoted.{cut_within, texts_said}
 use Rattle.tree_laws.proofs.Within.{all_scoped, rows_text_scoped}
 use Rattle.tree_laws.proofs.FitTexts.{IsFitText, cut_fits, kept_fits}
 use Rattle.tree_laws.proofs.FitViews.{rows_fit}
@@ -47,7 +47,7 @@ has_level db d key there = by (range_at db key) refl there
   where
     by : (r : Option Range) → range_at db key ≡ r → is_some r ≡ true → is_some (level_within greatest_level db key) ≡ true
     by None e h = cc h
-    by (Some (Kept relation)) e h = ap is_some (told_at level_told greatest_level db key (Some (Kept relation)) e)
+    by (Some (Kept relation)) e h = ap is_some (said_at level_said greatest_level db key (Some (Kept relation)) e)
     by (Some (Viewed view)) e h =
         let (inside, same) = found (λ v. same_key v.info.key key) db.views view (viewed db key view e) in
         ap (λ k. is_some (level_within greatest_level db k)) (sym (same_key-exact view.info.key key same)) ∙ all_at (λ v. is_some (level_of db v.info.key)) db.views view inside d.views_have_levels
@@ -91,7 +91,7 @@ module _ (db : Db) (d : IsDatabase db) (who : Who) where
   within_where : (n : ℕ) (key : RelKey) → FitsWhere key (level_within n db key) (text_within n db who key)
   unfolding FitsWhere is_qual_within
   within_where n key =
-      both_told level_told (texts_told db who) db (λ n key level text. FitsWhere key level text)
+      both_said level_said (texts_said db who) db (λ n key level text. FitsWhere key level text)
       (record {
         nothing = λ n f g key h. (λ attrs. cut_within db who Retrieve attrs key, λ level attrs. cc level);
         kept = λ n f g key relation h. (λ attrs. cut_within db who Retrieve attrs key, λ level attrs. kept_where key relation h attrs);
@@ -110,8 +110,8 @@ module _ (db : Db) (d : IsDatabase db) (who : Who) where
 
 -- ---- how many variables there are
 
-abbrev pub measure_told : Told Measure
-measure_told = record { of_range = λ of_view key range. range_measure of_view range; of_view = λ below view. query_measure below view.query; past = plain_measure }
+abbrev pub measure_said : Said Measure
+measure_said = record { of_range = λ of_view key range. range_measure of_view range; of_view = λ below view. query_measure below view.query; past = plain_measure }
 
 -- no more variables than are counted
 abbrev pub Counts : (RelKey → Measure) → TextSource → Type 0
@@ -151,7 +151,7 @@ none_is = omega arith
 
 pub within_counts : (n : ℕ) (db : Db) (who : Who) → Counts (measure_within n db) (text_within n db who)
 within_counts n db who key attrs =
-    both_told measure_told (texts_told db who) db (λ n key m text. (attrs : List ℕ) → length (text attrs).vars ≤ m.variables)
+    both_said measure_said (texts_said db who) db (λ n key m text. (attrs : List ℕ) → length (text attrs).vars ≤ m.variables)
     (record {
       nothing = λ n f g key h attrs. one_is;
       kept = λ n f g key relation h attrs. one_is;

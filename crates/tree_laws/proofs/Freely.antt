@@ -25,7 +25,7 @@ use Rattle.view_text.specs.PutIn.{put_query, put_plain}
 use Rattle.tree_laws.proofs.Values.{makes_none}
 use Rattle.tree_laws.proofs.Joint.{kept_lists}
 use Rattle.tree_laws.proofs.Queries.{same_given}
-use Rattle.tree_laws.proofs.Told.{query_told, within_told}
+use Rattle.tree_laws.proofs.Denoted.{query_denoted, within_denoted}
 use Rattle.tree_laws.proofs.Named.{KeepsNames, none_keep}
 use Rattle.tree_laws.proofs.Placed.{placed_first, condition_used, attribute_used}
 use Rattle.tree_laws.proofs.Sound.{IsSound, AreSound, used_sound, used_meant, each_kept_at, within_sound, free_used, all_kept}
@@ -66,7 +66,7 @@ pub plain_put : (n : ℕ) (db : Db) (who : Who) → IsDatabase db → (q : Query
 unfolding assigned
 plain_put n db who d q plain =
     same_given db no_aggs no_aggs no_aggregate q (map (λ p. variable_rows (rows_within n db who) q p.0 p.1) (enumerate_from 0 (vars_of q))) (query_texts (text_within n db who) q)
-    (query_told db (rows_within n db who) (text_within n db who) (within_told n db who) q 0 (vars_of q)) (λ e f stands. makes_none no_aggs f e (query_aggregates q))
+    (query_denoted db (rows_within n db who) (text_within n db who) (within_denoted n db who) q 0 (vars_of q)) (λ e f stands. makes_none no_aggs f e (query_aggregates q))
     ∙ ap (rows_given no_aggs (put_plain (text_within n db who) q))
     (sym (free_assigned db (text_within n db who) (within_sound n db who d) no_aggregate q
     (subst (KeepsNames no_aggregate (put_from 0 (query_texts (text_within n db who) q))) (sym plain) (none_keep (put_from 0 (query_texts (text_within n db who) q))))))

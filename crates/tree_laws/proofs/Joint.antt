@@ -54,17 +54,17 @@ abbrev pub IsRow : Text → Row → Env → Type 0
 IsRow text row seg = (a : ℕ) → val no_aggs (attr_term text a) seg ≡ slice_get row a
 
 -- a text tells of these rows: in each assignment in which its conditions hold it has the values of one of them, and of each there is such an assignment
-pub record Tells (db : Db) (rows : List Row) (text : Text) : Type 0 where
+pub record Denotes (db : Db) (rows : List Row) (text : Text) : Type 0 where
   pub scoped : is_scoped text ≡ true
   pub to : (seg : Env) → Chosen (kept_lists db text.vars) seg → all_hold no_aggs text.conditions seg ≡ true → (row : Row) × In row rows × IsRow text row seg
   pub from : (row : Row) → In row rows → (seg : Env) × Chosen (kept_lists db text.vars) seg × (all_hold no_aggs text.conditions seg ≡ true) × IsRow text row seg
 
 -- each of these texts tells of the rows in its place
-abbrev pub TellEach : Db → List (List Row) → List Text → Type 0
-TellEach db [] [] = Unit {0}
-TellEach db [] (text ∷ texts) = ⊥
-TellEach db (rows ∷ more) [] = ⊥
-TellEach db (rows ∷ more) (text ∷ texts) = Tells db rows text × TellEach db more texts
+abbrev pub DenoteEach : Db → List (List Row) → List Text → Type 0
+DenoteEach db [] [] = Unit {0}
+DenoteEach db [] (text ∷ texts) = ⊥
+DenoteEach db (rows ∷ more) [] = ⊥
+DenoteEach db (rows ∷ more) (text ∷ texts) = Denotes db rows text × DenoteEach db more texts
 
 -- ---- choices for variables one behind the other
 
@@ -166,35 +166,35 @@ module _ (db : Db) (aggs : Aggs) where
             ap (val others (put_from (n + length text.vars) texts v a)) (sym (behind_assoc pre seg rest)) ∙ says.attributes others v a ∙ sym (later_row row e v a)
 
   -- an assignment in which the conditions hold is one of the rows that the texts tell of
-  pub to_rows : (rowss : List (List Row)) (texts : List Text) (n : ℕ) (pre f : Env) → length pre ≡ n → TellEach db rowss texts → Chosen (kept_lists db (texts_vars texts)) f
+  pub to_rows : (rowss : List (List Row)) (texts : List Text) (n : ℕ) (pre f : Env) → length pre ≡ n → DenoteEach db rowss texts → Chosen (kept_lists db (texts_vars texts)) f
       → all_hold aggs (conditions_from n texts) (pre ++ f) ≡ true → (e : Env) × Chosen rowss e × Says n texts pre f e
-  to_rows [] [] n pre f here tell chosen holding = ([], tt, record { conditions = holding; attributes = λ others v a. without_value_has_none others (pre ++ f) ∙ sym (nowhere v a) })
-  to_rows [] (text ∷ texts) n pre f here tell chosen holding = absurd tell
-  to_rows (rows ∷ more) [] n pre f here tell chosen holding = absurd tell
-  to_rows (rows ∷ more) (text ∷ texts) n pre f here tell chosen holding =
+  to_rows [] [] n pre f here denote chosen holding = ([], tt, record { conditions = holding; attributes = λ others v a. without_value_has_none others (pre ++ f) ∙ sym (nowhere v a) })
+  to_rows [] (text ∷ texts) n pre f here denote chosen holding = absurd denote
+  to_rows (rows ∷ more) [] n pre f here denote chosen holding = absurd denote
+  to_rows (rows ∷ more) (text ∷ texts) n pre f here denote chosen holding =
       let (seg, rest, front, behind, same) = chosen_apart db text.vars (texts_vars texts) f chosen in
       let held : all_hold aggs (conditions_from n (text ∷ texts)) (pre ++ (seg ++ rest)) ≡ true = ap (λ f. all_hold aggs (conditions_from n (text ∷ texts)) (pre ++ f)) same ∙ holding in
       let parts = both_true (all_hold no_aggs text.conditions seg) (all_hold aggs (conditions_from (n + length text.vars) texts) ((pre ++ seg) ++ rest))
-      (sym (conditions_apart n text texts pre seg rest [] [] here tell.0.scoped front) ∙ held) in
-      let (row, inside, is) = tell.0.to seg front parts.0 in
-      let (e, others, says) = to_rows more texts (n + length text.vars) (pre ++ seg) rest (further_on n text texts pre seg rest row [] here tell.0.scoped front) tell.1 behind parts.1 in (
+      (sym (conditions_apart n text texts pre seg rest [] [] here denote.0.scoped front) ∙ held) in
+      let (row, inside, is) = denote.0.to seg front parts.0 in
+      let (e, others, says) = to_rows more texts (n + length text.vars) (pre ++ seg) rest (further_on n text texts pre seg rest row [] here denote.0.scoped front) denote.1 behind parts.1 in (
         row ∷ e,
         (inside, others),
-        subst (λ f. Says n (text ∷ texts) pre f (row ∷ e)) same (together n text texts pre seg rest row e here tell.0.scoped front is parts.0 says),
+        subst (λ f. Says n (text ∷ texts) pre f (row ∷ e)) same (together n text texts pre seg rest row e here denote.0.scoped front is parts.0 says),
       )
 
   -- and of rows that they tell of there is such an assignment
-  pub from_rows : (rowss : List (List Row)) (texts : List Text) (n : ℕ) (pre e : Env) → length pre ≡ n → TellEach db rowss texts → Chosen rowss e
+  pub from_rows : (rowss : List (List Row)) (texts : List Text) (n : ℕ) (pre e : Env) → length pre ≡ n → DenoteEach db rowss texts → Chosen rowss e
       → (f : Env) × Chosen (kept_lists db (texts_vars texts)) f × Says n texts pre f e
-  from_rows [] [] n pre [] here tell chosen = ([], tt, record { conditions = refl; attributes = λ others v a. without_value_has_none others (pre ++ []) ∙ sym (nowhere v a) })
-  from_rows [] [] n pre (row ∷ e) here tell chosen = absurd chosen
-  from_rows [] (text ∷ texts) n pre e here tell chosen = absurd tell
-  from_rows (rows ∷ more) [] n pre e here tell chosen = absurd tell
-  from_rows (rows ∷ more) (text ∷ texts) n pre [] here tell chosen = absurd chosen
-  from_rows (rows ∷ more) (text ∷ texts) n pre (row ∷ e) here tell chosen =
-      let (seg, front, holding, is) = tell.0.from row chosen.0 in
-      let (rest, behind, says) = from_rows more texts (n + length text.vars) (pre ++ seg) e (further_on n text texts pre seg [] row e here tell.0.scoped front) tell.1 chosen.1 in (
+  from_rows [] [] n pre [] here denote chosen = ([], tt, record { conditions = refl; attributes = λ others v a. without_value_has_none others (pre ++ []) ∙ sym (nowhere v a) })
+  from_rows [] [] n pre (row ∷ e) here denote chosen = absurd chosen
+  from_rows [] (text ∷ texts) n pre e here denote chosen = absurd denote
+  from_rows (rows ∷ more) [] n pre e here denote chosen = absurd denote
+  from_rows (rows ∷ more) (text ∷ texts) n pre [] here denote chosen = absurd chosen
+  from_rows (rows ∷ more) (text ∷ texts) n pre (row ∷ e) here denote chosen =
+      let (seg, front, holding, is) = denote.0.from row chosen.0 in
+      let (rest, behind, says) = from_rows more texts (n + length text.vars) (pre ++ seg) e (further_on n text texts pre seg [] row e here denote.0.scoped front) denote.1 chosen.1 in (
         seg ++ rest,
         chosen_together db text.vars (texts_vars texts) seg rest front behind,
-        together n text texts pre seg rest row e here tell.0.scoped front is holding says,
+        together n text texts pre seg rest row e here denote.0.scoped front is holding says,
       )

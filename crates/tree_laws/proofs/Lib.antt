@@ -19,7 +19,7 @@ pub mod Joint
 pub mod Within
 pub mod Queries
 pub mod Rows
-pub mod Told
+pub mod Denoted
 pub mod Named
 pub mod Placed
 pub mod Sound

@@ -22,7 +22,7 @@ use Rattle.view_text.specs.PutIn.{put_query}
 use Rattle.tree_laws.proofs.Values.{StandsFor, MakesAll, holds_replaced, targets_replaced, within_left, within_right, within_itself}
 use Rattle.tree_laws.proofs.Halves.{holds_all_of}
 use Rattle.tree_laws.proofs.Scopes.{both_true}
-use Rattle.tree_laws.proofs.Joint.{all_hold, kept_lists, TellEach, Says, to_rows, from_rows}
+use Rattle.tree_laws.proofs.Joint.{all_hold, kept_lists, DenoteEach, Says, to_rows, from_rows}
 
 pub targets_of-put : (made : QTerm → QTerm) (texts : List Text) (q : Query) → targets_of (put_query made texts q) ≡ map (replaced_target made (put_from 0 texts)) (targets_of q)
 targets_of-put made texts q = targets_of-query (texts_vars texts) (map (replaced_target made (put_from 0 texts)) (targets_of q)) (qual_of (put_query made texts q))
@@ -31,7 +31,7 @@ pub Ascends-given : (aggs : Aggs) (q : Query) (es : List Env) → Ascends (rows_
 unfolding rows_given
 Ascends-given aggs q es = Ascends-set_of (filter_map (target_values aggs (targets_of q)) (qualifying aggs q es))
 
-module _ (db : Db) (aggs bggs : Aggs) (made : QTerm → QTerm) (q : Query) (rowss : List (List Row)) (texts : List Text) (tell : TellEach db rowss texts)
+module _ (db : Db) (aggs bggs : Aggs) (made : QTerm → QTerm) (q : Query) (rowss : List (List Row)) (texts : List Text) (denote : DenoteEach db rowss texts)
     (makes : (e f : Env) → StandsFor (put_from 0 texts) f e → MakesAll aggs bggs made f e (query_aggregates q)) where
   -- the assignments of the query, and those of what is put in
   abbrev es : List Env
@@ -74,21 +74,21 @@ module _ (db : Db) (aggs bggs : Aggs) (made : QTerm → QTerm) (q : Query) (rows
       true_right true = refl
       true_right false = refl
 
-  pub is_told : (f : Env) → In f fs → holds bggs (qual_of (put_query made texts q)) f ≡ true → (e : Env) × In e es × Beside f e
-  is_told f inside h =
-      let (e, chosen, says) = to_rows db bggs rowss texts 0 [] f refl tell (choices-Chosen (kept_lists db (texts_vars texts)) f inside) (held f h) in
+  pub is_denoted : (f : Env) → In f fs → holds bggs (qual_of (put_query made texts q)) f ≡ true → (e : Env) × In e es × Beside f e
+  is_denoted f inside h =
+      let (e, chosen, says) = to_rows db bggs rowss texts 0 [] f refl denote (choices-Chosen (kept_lists db (texts_vars texts)) f inside) (held f h) in
       (e, Chosen-choices rowss e chosen, beside f e says)
 
-  pub tells : (e : Env) → In e es → (f : Env) × In f fs × Beside f e
-  tells e inside =
-      let (f, chosen, says) = from_rows db bggs rowss texts 0 [] e refl tell (choices-Chosen rowss e inside) in
+  pub denotes : (e : Env) → In e es → (f : Env) × In f fs × Beside f e
+  denotes e inside =
+      let (f, chosen, says) = from_rows db bggs rowss texts 0 [] e refl denote (choices-Chosen rowss e inside) in
       (f, Chosen-choices (kept_lists db (texts_vars texts)) f chosen, beside f e says)
 
   to_put : (outcome : Option Row) → IsOutcome aggs q es outcome → IsOutcome bggs (put_query made texts q) fs outcome
-  to_put outcome (e, inside, holding, values) = let (f, there, by) = tells e inside in (f, there, by.qual ∙ holding, by.values ∙ values)
+  to_put outcome (e, inside, holding, values) = let (f, there, by) = denotes e inside in (f, there, by.qual ∙ holding, by.values ∙ values)
 
   from_put : (outcome : Option Row) → IsOutcome bggs (put_query made texts q) fs outcome → IsOutcome aggs q es outcome
-  from_put outcome (f, inside, holding, values) = let (e, there, by) = is_told f inside holding in (e, there, sym by.qual ∙ holding, sym by.values ∙ values)
+  from_put outcome (f, inside, holding, values) = let (e, there, by) = is_denoted f inside holding in (e, there, sym by.qual ∙ holding, sym by.values ∙ values)
 
   pub same_given : rows_given aggs q es ≡ rows_given bggs (put_query made texts q) fs
   same_given =

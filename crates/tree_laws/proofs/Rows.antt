@@ -29,13 +29,13 @@ use Rattle.view_text.specs.TextOf.{has_value, put_terms, rows_conditions, settle
 use Rattle.tree_laws.proofs.Values.{without_value_has_none, StandsFor, makes_none, val_replaced, holds_replaced, within_itself}
 use Rattle.tree_laws.proofs.Scopes.{both_true}
 use Rattle.tree_laws.proofs.Within.{all_scoped, rows_text_scoped}
-use Rattle.tree_laws.proofs.Joint.{both_are, all_append, all_hold, kept_lists, IsRow, Tells, TellEach, to_rows, from_rows}
+use Rattle.tree_laws.proofs.Joint.{both_are, all_append, all_hold, kept_lists, IsRow, Denotes, DenoteEach, to_rows, from_rows}
 
-pub each_scoped : (db : Db) (rowss : List (List Row)) (texts : List Text) → TellEach db rowss texts → all_scoped texts ≡ true
-each_scoped db [] [] tell = refl
-each_scoped db [] (text ∷ texts) tell = absurd tell
-each_scoped db (rows ∷ more) [] tell = absurd tell
-each_scoped db (rows ∷ more) (text ∷ texts) tell = λ i. tell.0.scoped i && each_scoped db more texts tell.1 i
+pub each_scoped : (db : Db) (rowss : List (List Row)) (texts : List Text) → DenoteEach db rowss texts → all_scoped texts ≡ true
+each_scoped db [] [] denote = refl
+each_scoped db [] (text ∷ texts) denote = absurd denote
+each_scoped db (rows ∷ more) [] denote = absurd denote
+each_scoped db (rows ∷ more) (text ∷ texts) denote = λ i. denote.0.scoped i && each_scoped db more texts denote.1 i
 
 -- a value equals itself, and no value equals nothing
 equals_itself : (v : Option Value) → compared_values Eq v v ≡ is_some v
@@ -98,7 +98,7 @@ settled_hold db [] conditions [] chosen = by (list_all (λ q. holds no_aggs q []
 settled_hold db [] conditions (row ∷ f) chosen = absurd chosen
 settled_hold db (key ∷ vars) conditions f chosen = refl
 
-module _ (db : Db) (q : Query) (rowss : List (List Row)) (texts : List Text) (tell : TellEach db rowss texts) where
+module _ (db : Db) (q : Query) (rowss : List (List Row)) (texts : List Text) (denote : DenoteEach db rowss texts) where
   -- the qualification, and what is needed beside it
   abbrev qual_put : QQual
   qual_put = replaced_in_qual no_aggregate (put_from 0 texts) (qual_of q)
@@ -115,7 +115,7 @@ module _ (db : Db) (q : Query) (rowss : List (List Row)) (texts : List Text) (te
   to f chosen h =
       let outer = both_true (holds no_aggs qual_put f) (all_hold no_aggs needed f && all_hold no_aggs (conditions_from 0 texts) f) (sym (conditions_are f chosen) ∙ h) in
       let inner = both_true (all_hold no_aggs needed f) (all_hold no_aggs (conditions_from 0 texts) f) outer.1 in
-      let (e, there, says) = to_rows db no_aggs rowss texts 0 [] f refl tell chosen inner.1 in
+      let (e, there, says) = to_rows db no_aggs rowss texts 0 [] f refl denote chosen inner.1 in
       let (row, values) = there_is (target_values no_aggs (targets_of q) e) (sym (values_needed (put_from 0 texts) e f says.attributes (targets_of q)) ∙ inner.0) in (
         row,
         has-In (rows_given no_aggs q (choices rowss)) row
@@ -128,7 +128,7 @@ module _ (db : Db) (q : Query) (rowss : List (List Row)) (texts : List Text) (te
       → (f : Env) × Chosen (kept_lists db (texts_vars texts)) f × (all_hold no_aggs (rows_text texts q).conditions f ≡ true) × IsRow (rows_text texts q) row f
   from row inside =
       let (e, there, holding, values) = given-is no_aggs q (choices rowss) row (In-has (rows_given no_aggs q (choices rowss)) row inside) in
-      let (f, chosen, says) = from_rows db no_aggs rowss texts 0 [] e refl tell (choices-Chosen rowss e there) in (
+      let (f, chosen, says) = from_rows db no_aggs rowss texts 0 [] e refl denote (choices-Chosen rowss e there) in (
         f,
         chosen,
         conditions_are f chosen
@@ -139,5 +139,5 @@ module _ (db : Db) (q : Query) (rowss : List (List Row)) (texts : List Text) (te
         row_at (put_from 0 texts) e f says.attributes (targets_of q) row values,
       )
 
-  pub rows_told_by : Tells db (rows_given no_aggs q (choices rowss)) (rows_text texts q)
-  rows_told_by = record { scoped = rows_text_scoped texts q (each_scoped db rowss texts tell); to = to; from = from }
+  pub rows_denoted_by : Denotes db (rows_given no_aggs q (choices rowss)) (rows_text texts q)
+  rows_denoted_by = record { scoped = rows_text_scoped texts q (each_scoped db rowss texts denote); to = to; from = from }

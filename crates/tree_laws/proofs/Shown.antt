@@ -18,32 +18,32 @@ use Rattle.view_text.specs.Texts.{used_text}
 use Rattle.view_text.specs.Scoped.{is_scoped}
 use Rattle.view_text.specs.TextOf.{text_of}
 use Rattle.view_text.specs.PutIn.{put_in}
-use Rattle.tree_laws.specs.Telling.{HasRow, TellsOf}
-use Rattle.tree_laws.proofs.Joint.{kept_lists, all_hold, Tells}
-use Rattle.tree_laws.proofs.Told.{all_told}
+use Rattle.tree_laws.specs.Denoting.{HasRow, DenotesOf}
+use Rattle.tree_laws.proofs.Joint.{kept_lists, all_hold, Denotes}
+use Rattle.tree_laws.proofs.Denoted.{all_denoted}
 use Rattle.tree_laws.proofs.Sound.{no_views, each_kept_at, used_sound, all_sound}
 
-shown : (db : Db) (rows : List Row) (text : Text) → Tells db rows text → TellsOf db rows text
-shown db rows text tells = record { one_of_them = to; each_of_them = from }
+shown : (db : Db) (rows : List Row) (text : Text) → Denotes db rows text → DenotesOf db rows text
+shown db rows text denotes = record { one_of_them = to; each_of_them = from }
   where
     to : (e : Env) → Contains (choices (kept_lists db text.vars)) e → all_hold no_aggs text.conditions e ≡ true → (row : Row) × Contains rows row × HasRow db text row e
     to e chosen holding =
-        let (row, inside, values) = tells.to e (choices-Chosen (kept_lists db text.vars) e (Contains-In (choices (kept_lists db text.vars)) e chosen)) holding in
+        let (row, inside, values) = denotes.to e (choices-Chosen (kept_lists db text.vars) e (Contains-In (choices (kept_lists db text.vars)) e chosen)) holding in
         (row, In-Contains rows row inside, record { chosen = chosen; holding = holding; values = values })
 
     from : (row : Row) → Contains rows row → (e : Env) × HasRow db text row e
     from row inside =
-        let (e, chosen, holding, values) = tells.from row (Contains-In rows row inside) in
+        let (e, chosen, holding, values) = denotes.from row (Contains-In rows row inside) in
         (e, record { chosen = In-Contains (choices (kept_lists db text.vars)) e (Chosen-choices (kept_lists db text.vars) e chosen); holding = holding; values = values })
 
-pub text_tells : (db : Db) (who : Who) (key : RelKey) (attrs : List ℕ) → TellsOf db (rows_of db who key attrs) (text_of db who key attrs)
-text_tells db who key attrs = shown db (rows_of db who key attrs) (text_of db who key attrs) (all_told db who key attrs)
+pub text_denotes : (db : Db) (who : Who) (key : RelKey) (attrs : List ℕ) → DenotesOf db (rows_of db who key attrs) (text_of db who key attrs)
+text_denotes db who key attrs = shown db (rows_of db who key attrs) (text_of db who key attrs) (all_denoted db who key attrs)
 
 pub text_kept : (db : Db) → IsDatabase db → (who : Who) (key : RelKey) (attrs : List ℕ) → no_views db (text_of db who key attrs).vars ≡ true
 text_kept db d who key attrs = (all_sound db who d key attrs).kept
 
 pub text_scoped : (db : Db) (who : Who) (key : RelKey) (attrs : List ℕ) → is_scoped (text_of db who key attrs) ≡ true
-text_scoped db who key attrs = (all_told db who key attrs).scoped
+text_scoped db who key attrs = (all_denoted db who key attrs).scoped
 
 pub query_kept : (db : Db) → IsDatabase db → (who : Who) (q : Query) → no_views db (vars_of (put_in db who q)) ≡ true
 unfolding put_in

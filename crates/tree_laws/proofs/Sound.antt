@@ -21,7 +21,7 @@ use Rattle.calculus.specs.QueryParts.{query_aggregates, vars_of}
 use Rattle.calculus.specs.Used.{used_in_query}
 use Rattle.calculus_laws.specs.Expansion.{is_no_view}
 use Rattle.calculus_laws.proofs.SameRows.{all_at}
-use Rattle.calculus_laws.proofs.Through.{each_told, told_view, told_at, rows_told}
+use Rattle.calculus_laws.proofs.Through.{each_said, said_view, said_at, rows_said}
 use Rattle.calculus_laws.proofs.ViewAnswer.{stands_plain, found}
 use Rattle.view_text.specs.declared.text.Text.{Text}
 use Rattle.view_text.specs.Scoped.{is_qual_within, is_scoped}
@@ -29,7 +29,7 @@ use Rattle.view_text.specs.Texts.{TextSource, no_text, used_text, query_texts, t
 use Rattle.view_text.specs.TextOf.{cut, kept_text, past_text, view_text, text_within, text_of}
 use Rattle.tree_laws.proofs.Scopes.{both_true}
 use Rattle.tree_laws.proofs.Joint.{both_are, all_append}
-use Rattle.tree_laws.proofs.Told.{cut_within, texts_told}
+use Rattle.tree_laws.proofs.Denoted.{cut_within, texts_said}
 use Rattle.tree_laws.proofs.Within.{all_scoped, rows_text_scoped}
 use Rattle.tree_laws.proofs.Placed.{NamesAll, placed_first, kept_names, rows_name}
 
@@ -126,7 +126,7 @@ view_sound db d g sound key view h = record {
 
 pub within_sound : (n : ℕ) (db : Db) (who : Who) → IsDatabase db → AreSound db (text_within n db who)
 within_sound n db who d key attrs =
-    each_told (texts_told db who) db (λ n key texts. (attrs : List ℕ) → IsSound db (texts attrs))
+    each_said (texts_said db who) db (λ n key texts. (attrs : List ℕ) → IsSound db (texts attrs))
     (record {
       nothing = λ n g key h attrs. kept_sound db (cut db who Retrieve attrs key) key (cut_within db who Retrieve attrs key) (ap is_no_view h);
       kept = λ n g key relation h attrs. kept_sound db (cut db who Retrieve attrs key) key (cut_within db who Retrieve attrs key) (ap is_no_view h);
@@ -156,8 +156,8 @@ free_range db of_view key attrs (Some (Viewed view)) h = cc h
 
 free_within : (n : ℕ) (db : Db) (key : RelKey) (attrs : List ℕ) → is_no_view (range_at db key) ≡ true → rows_within n db Free key attrs ≡ rows_at db key
 free_within n db key attrs h =
-    ap (λ rows. rows attrs) (told_at (rows_told db Free) n db key (range_at db key) refl)
-    ∙ free_range db (λ view. told_view (rows_told db Free) n db view attrs) key attrs (range_at db key) h
+    ap (λ rows. rows attrs) (said_at (rows_said db Free) n db key (range_at db key) refl)
+    ∙ free_range db (λ view. said_view (rows_said db Free) n db view attrs) key attrs (range_at db key) h
 
 pub free_rows : (db : Db) (key : RelKey) (attrs : List ℕ) → is_no_view (range_at db key) ≡ true → rows_of db Free key attrs ≡ rows_at db key
 unfolding rows_of

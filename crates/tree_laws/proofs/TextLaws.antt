@@ -21,15 +21,15 @@ use Rattle.calculus.specs.Sizes.{Measure, Known, attr_size, term_size, qual_size
 use Rattle.calculus.specs.TreeLevels.{term_levels, qual_levels}
 use Rattle.calculus_laws.proofs.Members.{In}
 use Rattle.calculus_laws.proofs.SameRows.{all_at}
-use Rattle.calculus_laws.proofs.Through.{told_at, each_told}
+use Rattle.calculus_laws.proofs.Through.{said_at, each_said}
 use Rattle.calculus_laws.proofs.ViewAnswer.{found}
 use Rattle.view_text.specs.declared.text.Text.{Text}
 use Rattle.view_text.specs.Replaced.{replaced, replaced_in_qual, no_aggregate}
 use Rattle.view_text.specs.Texts.{TextSource, term_at, attr_term, used_text, query_texts, texts_vars, put_from, conditions_from}
 use Rattle.view_text.specs.TextOf.{cut, kept_text, past_text, has_value, put_terms, rows_conditions, view_text, text_within, text_of}
 use Rattle.tree_laws.proofs.Sound.{viewed}
-use Rattle.tree_laws.proofs.Told.{texts_told}
-use Rattle.tree_laws.proofs.FitWithin.{measure_told}
+use Rattle.tree_laws.proofs.Denoted.{texts_said}
+use Rattle.tree_laws.proofs.FitWithin.{measure_said}
 use Rattle.tree_laws.proofs.Joined.{Low, low_append}
 use Rattle.tree_laws.proofs.Replaced.{none_sized, some_size, moved_low, term_sized, qual_sized}
 use Rattle.tree_laws.proofs.Permits.{le_is, cut_low}
@@ -63,7 +63,7 @@ known_some known some (key ∷ keys) (suc v) a = known_some known some keys v a
 
 pub some_own : (n : ℕ) (db : Db) (key : RelKey) (a : ℕ) → 1 ≤ own_size (measure_within n db key) a
 some_own n db key =
-    each_told measure_told db (λ n key m. (a : ℕ) → 1 ≤ own_size m a)
+    each_said measure_said db (λ n key m. (a : ℕ) → 1 ≤ own_size m a)
     (record {
       nothing = λ n f key e a. plain_some a;
       kept = λ n f key relation e a. plain_some a;
@@ -157,11 +157,11 @@ module _ (db : Db) (d : IsDatabase db) where
     where
       by : (r : Option Range) → range_at db key ≡ r → own_size (measure_within 17 db key) a ≤ 1000
       by None e =
-          let own = none_own a in let same = ap (λ m. own_size m a) (told_at measure_told 17 db key None e) in omega (arith, own, same)
+          let own = none_own a in let same = ap (λ m. own_size m a) (said_at measure_said 17 db key None e) in omega (arith, own, same)
       by (Some (Kept relation)) e =
-          let own = none_own a in let same = ap (λ m. own_size m a) (told_at measure_told 17 db key (Some (Kept relation)) e) in omega (arith, own, same)
+          let own = none_own a in let same = ap (λ m. own_size m a) (said_at measure_said 17 db key (Some (Kept relation)) e) in omega (arith, own, same)
       by (Some (Viewed view)) e =
-          let same = ap (λ m. own_size m a) (told_at measure_told 17 db key (Some (Viewed view)) e) in
+          let same = ap (λ m. own_size m a) (said_at measure_said 17 db key (Some (Viewed view)) e) in
           let one : 1 ≤ 1000 = omega arith in
           let few = sizes_few (λ t. term_size (measures (measure_within 16 db) view.query) t.term) 1000 one (targets_of view.query) (view_targets view (view_in key view e)) a in
           subst (λ n. n ≤ 1000) (sym same) few
@@ -265,12 +265,12 @@ module _ (db : Db) (d : IsDatabase db) where
           terms_at zero h a = absurd (omega (arith, h))
           terms_at (suc m) h a =
               let less : n ≤ m = omega (arith, h) in
-              subst (λ s. term_levels (attr_term (view_text texts view) a) ≤ suc (own_size s a)) (sym (told_at measure_told (suc m) db key (Some (Viewed view)) e))
+              subst (λ s. term_levels (attr_term (view_text texts view) a) ≤ suc (own_size s a)) (sym (said_at measure_said (suc m) db key (Some (Viewed view)) e))
               (terms_sized (measure_within m db) texts (sized_at m less) (some_own m db) view.query (targets_of view.query) a)
 
     pub all_low : (n : ℕ) (key : RelKey) (attrs : List ℕ) → IsLow n key (text_within n db who key attrs)
     all_low n key =
-        each_told (texts_told db who) db (λ n key text. (attrs : List ℕ) → IsLow n key (text attrs))
+        each_said (texts_said db who) db (λ n key text. (attrs : List ℕ) → IsLow n key (text attrs))
         (record {
           nothing = λ n f key e attrs. kept_low n key attrs;
           kept = λ n f key relation e attrs. kept_low n key attrs;

@@ -45,9 +45,9 @@ use Rattle.tree_laws.specs.Nesting.{aggregates_nest_none}
 use Rattle.tree_laws.proofs.Halves.{holds_all_of}
 use Rattle.tree_laws.proofs.Joint.{kept_lists}
 use Rattle.tree_laws.proofs.Queries.{targets_of-put, same_lack}
-use Rattle.tree_laws.proofs.Told.{cut_holds}
+use Rattle.tree_laws.proofs.Denoted.{cut_holds}
 use Rattle.tree_laws.proofs.Answering.{put_makes}
-use Rattle.tree_laws.proofs.Beside.{IsBeside, rowss, told, free_seen, to_free, from_free}
+use Rattle.tree_laws.proofs.Beside.{IsBeside, rowss, denoted, free_seen, to_free, from_free}
 use Rattle.tree_laws.proofs.Pairing.{same_contended, same_after}
 use Rattle.calculus.specs.declared.schema.Spec.TheVariants.{Heap}
 
@@ -243,7 +243,7 @@ module _ (db : Db) (d : IsDatabase db) (who : Who) (u : Update) (nest : aggregat
       lacks_with_old db Free put
       ∙ ap (some_lacks (aggregates db Free) put.query) (free_seen db d who u nest over)
       ∙ ap (λ q. some_lacks (aggregates db Free) q (choices (kept_lists db (texts_vars (update_texts db who u))))) query_is
-      ∙ sym (same_lack db (aggregates db who) (aggregates db Free) made u.query (rowss db d who u nest over) (update_texts db who u) (told db d who u nest over)
+      ∙ sym (same_lack db (aggregates db who) (aggregates db Free) made u.query (rowss db d who u nest over) (update_texts db who u) (denoted db d who u nest over)
       (put_makes db d who (put_from 0 (update_texts db who u)) (query_aggregates u.query) nest))
       ∙ sym (lacks_with_old db who u)
 

@@ -13,15 +13,15 @@ ghost use Rattle.calculus.specs.Stored.{range_at};
 ghost use Rattle.calculus.specs.VariableRows.{rows_of};
 ghost use Rattle.calculus.specs.Who.{Who};
 ghost use Rattle.calculus_laws.specs.Expansion.{is_no_view};
-ghost use Rattle.tree_laws.specs.Telling.{TellsOf};
+ghost use Rattle.tree_laws.specs.Denoting.{DenotesOf};
 ghost use Rattle.view_text.specs.PutIn.{put_in};
 ghost use Rattle.view_text.specs.Scoped.{is_scoped};
 ghost use Rattle.view_text.specs.TextOf.{text_of};
 
 /// The text of what stands under a key tells of the rows that the one who asks has of it: of each of
 /// them, and of no other.
-pub fn a_text_tells_of_the_rows()
-    ensures { (db : Db) (who : Who) (key : RelKey) (attrs : List ℕ) → TellsOf db (rows_of db who key attrs) (text_of db who key attrs) }
+pub fn a_text_denotes_of_the_rows()
+    ensures { (db : Db) (who : Who) (key : RelKey) (attrs : List ℕ) → DenotesOf db (rows_of db who key attrs) (text_of db who key attrs) }
 {}
 
 /// In a database the variables of a text range over no views, and its terms and conditions name these

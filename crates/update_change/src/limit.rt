@@ -34,7 +34,7 @@ pub(crate) fn rows_left<B: Base>(
     key: &RelKey,
     change: &Change,
 ) -> Result<usize, BaseFault>
-    ensures told { (db : Db) → B.database base.old ≡ Some db
+    ensures known { (db : Db) → B.database base.old ≡ Some db
         → IfOk result (λ left. left ≡ length (rows_at db key.now) + length change.now.add - length change.now.remove) }
     ensures kept { B.database base.new ≡ B.database base.old }
     ensures stays { (s : Db) → B.schema base.old ≡ Some s → B.schema base.new ≡ Some s }

@@ -28,7 +28,7 @@ pub(crate) fn those_there<B: Base>(
     key: &RelKey,
     rows: Vec<Row>,
 ) -> Result<RowSet, BaseFault>
-    ensures told { (db : Db) → B.database base.old ≡ Some db → IfOk result (λ set. set ≡ set_of (filter (has (rows_at db key.now)) rows.items)) }
+    ensures known { (db : Db) → B.database base.old ≡ Some db → IfOk result (λ set. set ≡ set_of (filter (has (rows_at db key.now)) rows.items)) }
     ensures kept { B.database base.new ≡ B.database base.old }
     ensures stays { (s : Db) → B.schema base.old ≡ Some s → B.schema base.new ≡ Some s }
     ensures asked { (b : B) → B.asked b base.old → B.asked b base.new }
@@ -49,7 +49,7 @@ pub(crate) fn those_absent<B: Base>(
     key: &RelKey,
     rows: Vec<Row>,
 ) -> Result<RowSet, BaseFault>
-    ensures told { (db : Db) → B.database base.old ≡ Some db → IfOk result (λ set. set ≡ set_of (without_rows (rows_at db key.now) rows.items)) }
+    ensures known { (db : Db) → B.database base.old ≡ Some db → IfOk result (λ set. set ≡ set_of (without_rows (rows_at db key.now) rows.items)) }
     ensures kept { B.database base.new ≡ B.database base.old }
     ensures stays { (s : Db) → B.schema base.old ≡ Some s → B.schema base.new ≡ Some s }
     ensures asked { (b : B) → B.asked b base.old → B.asked b base.new }

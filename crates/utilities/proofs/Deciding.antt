@@ -1,4 +1,4 @@
--- What the schema decides of a utility, and what follows of it where the database is told.
+-- What the schema decides of a utility, and what follows of it where the database is known.
 use Rattle.std.proofs.Common.{◌≡◌, ◌⊎◌, inl, inr, refl, sym, ap, ◌∙◌, subst, cond, ℕ, ◌≤◌, Bool, true, false, not, List, [], ◌∷◌, ◌++◌}
 use Rattle.std.specs.Prelude.{Option, Some, None, Result, Ok, Err, IsTrue, IfOk, is_some}
 use Rattle.calculus.specs.declared.change.DbChange.{DbChange}
@@ -44,22 +44,22 @@ no_rule (utility.Rule rel rule) not = absurd (not rel rule refl)
 no_rule (utility.DropPermits rel numbers) not = refl
 no_rule (utility.DropRules rel numbers) not = refl
 
-pub decided : (s : Db) (user : List ℕ) (u : Utility) (known told : Option Db) (before now : ℕ) (result : Result DbChange UtilFault) → is_rule u ≡ false → known ≡ Some s
-    → IfOk result (λ c. planned s user u ≡ Ok c) → HasCauseBy user u known told before now result → IsDecided s user u result
-decided s user u known told before now result plain is made cause = by_result result made cause.caused
+pub decided : (s : Db) (user : List ℕ) (u : Utility) (schema known : Option Db) (before now : ℕ) (result : Result DbChange UtilFault) → is_rule u ≡ false → schema ≡ Some s
+    → IfOk result (λ c. planned s user u ≡ Ok c) → HasCauseBy user u schema known before now result → IsDecided s user u result
+decided s user u schema known before now result plain is made cause = by_result result made cause.caused
   where
-    by_result : (result : Result DbChange UtilFault) → IfOk result (λ c. planned s user u ≡ Ok c) → IsCaused user u known told before now result → IsDecided s user u result
+    by_result : (result : Result DbChange UtilFault) → IfOk result (λ c. planned s user u ≡ Ok c) → IsCaused user u schema known before now result → IsDecided s user u result
     by_result (Ok c) made caused = sym (but_rows s user u plain) ∙ made
     by_result (Err (No number)) made caused = inl (sym (but_rows s user u plain) ∙ caused.1 s is)
     by_result (Err (Base fault)) made caused = tt
     by_result (Err OutOfMemory) made caused = tt
 
 -- what comes of a schema comes of the database whose it is
-pub told_cause : {T : Type 0} (user : List ℕ) (u : Utility) (known told : Option Db) (before now : ℕ) (result : Result T UtilFault) → ((db : Db) → told ≡ Some db → known ≡ Some db)
-    → HasCauseBy {T = T} user u known told before now result → HasCause {T = T} user u told before now result
-told_cause {T = T} user u known told before now result own cause = record { later = cause.later; caused = by_result result cause.caused }
+pub known_cause : {T : Type 0} (user : List ℕ) (u : Utility) (schema known : Option Db) (before now : ℕ) (result : Result T UtilFault) → ((db : Db) → known ≡ Some db → schema ≡ Some db)
+    → HasCauseBy {T = T} user u schema known before now result → HasCause {T = T} user u known before now result
+known_cause {T = T} user u schema known before now result own cause = record { later = cause.later; caused = by_result result cause.caused }
   where
-    by_result : (result : Result T UtilFault) → IsCaused {T = T} user u known told before now result → IsCaused {T = T} user u told told before now result
+    by_result : (result : Result T UtilFault) → IsCaused {T = T} user u schema known before now result → IsCaused {T = T} user u known known before now result
     by_result (Ok x) caused = caused
     by_result (Err (No number)) caused = (caused.0, λ db e. caused.1 db (own db e))
     by_result (Err (Base fault)) caused = caused
@@ -111,5 +111,5 @@ rule_made_decided s user rel rule standing number c cause e h next (inr broken) 
 -- what is known before stays, so it is what is known behind
 pub by_first : (old new : Option Db) (P : Db → Type 0) → IsTrue (is_some old) → ((s : Db) → old ≡ Some s → new ≡ Some s) → ((s : Db) → old ≡ Some s → P s)
     → (s : Db) → new ≡ Some s → P s
-by_first None new P known stays holds s e = absurd (cc known)
-by_first (Some t) new P known stays holds s e = let same : t ≡ s = cc (stays t refl, e) in subst P same (holds t refl)
+by_first None new P schema stays holds s e = absurd (cc schema)
+by_first (Some t) new P schema stays holds s e = let same : t ≡ s = cc (stays t refl, e) in subst P same (holds t refl)

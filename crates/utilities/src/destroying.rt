@@ -3,7 +3,7 @@
 ghost use Rattle.std.specs.Prelude.{◌≡◌, ◌∷◌, [], Some, Ok as Planned, IfOk};
 ghost use Rattle.std.specs.List.{list_any};
 ghost use Rattle.am_traits.specs.Causes.{HasCause as HasBaseCause};
-ghost use Rattle.am_traits.specs.Told.{is_named_by_view};
+ghost use Rattle.am_traits.specs.Known.{is_named_by_view};
 ghost use Rattle.calculus.specs.Catalogue.{is_catalogue};
 ghost use Rattle.calculus.specs.Database.{Db};
 ghost use Rattle.calculus.specs.Replacement.{first_cause};
@@ -38,7 +38,7 @@ fn has_catalogue(dba: &Name, rels: &[RelKey]) -> bool
 
 /// Whether one of the keys is that of a catalogue.
 fn some_catalogue<B: Base>(alloc: Global, base: &mut B, rels: &[RelKey]) -> Result<bool, BaseFault>
-    ensures told { (db : Db) → B.schema base.old ≡ Some db → IfOk result (λ b. b ≡ list_any (is_catalogue db) rels.now) }
+    ensures known { (db : Db) → B.schema base.old ≡ Some db → IfOk result (λ b. b ≡ list_any (is_catalogue db) rels.now) }
     ensures kept { B.database base.new ≡ B.database base.old }
     ensures stays { (s : Db) → B.schema base.old ≡ Some s → B.schema base.new ≡ Some s }
     ensures asked { (b : B) → B.asked b base.old → B.asked b base.new }
@@ -62,7 +62,7 @@ fn some_named<B: Base>(
     all: &[RelKey],
     rels: &[RelKey],
 ) -> Result<bool, BaseFault>
-    ensures told { (db : Db) → B.schema base.old ≡ Some db → IfOk result (λ b. b ≡ list_any (is_named_by_view db all.now) rels.now) }
+    ensures known { (db : Db) → B.schema base.old ≡ Some db → IfOk result (λ b. b ≡ list_any (is_named_by_view db all.now) rels.now) }
     ensures kept { B.database base.new ≡ B.database base.old }
     ensures stays { (s : Db) → B.schema base.old ≡ Some s → B.schema base.new ≡ Some s }
     ensures asked { (b : B) → B.asked b base.old → B.asked b base.new }
@@ -79,7 +79,7 @@ fn some_named<B: Base>(
 
 /// Whether a view outside the keys names what has one of them.
 fn is_in_use<B: Base>(alloc: Global, base: &mut B, rels: &[RelKey]) -> Result<bool, BaseFault>
-    ensures told { (db : Db) → B.schema base.old ≡ Some db → IfOk result (λ b. b ≡ is_in_use db rels.now) }
+    ensures known { (db : Db) → B.schema base.old ≡ Some db → IfOk result (λ b. b ≡ is_in_use db rels.now) }
     ensures kept { B.database base.new ≡ B.database base.old }
     ensures stays { (s : Db) → B.schema base.old ≡ Some s → B.schema base.new ≡ Some s }
     ensures asked { (b : B) → B.asked b base.old → B.asked b base.new }
@@ -96,7 +96,7 @@ fn destroying_cause<B: Base>(
     user: &Name,
     rels: &[RelKey],
 ) -> Result<Option<u8>, BaseFault>
-    ensures told { (db : Db) → B.schema base.old ≡ Some db
+    ensures known { (db : Db) → B.schema base.old ≡ Some db
         → IfOk result (λ n. n ≡ first_cause ((28, list_any (is_catalogue db) rels.now) ∷ (24, list_any (is_anothers user.now) rels.now) ∷ (25, is_in_use db rels.now) ∷ [])) }
     ensures kept { B.database base.new ≡ B.database base.old }
     ensures stays { (s : Db) → B.schema base.old ≡ Some s → B.schema base.new ≡ Some s }

@@ -41,7 +41,7 @@ fn some_row_fails<B: Base>(
 ) -> Result<bool, BaseFault>
     requires any { probe.now.equal ≡ [] }
     requires none { at.old ≡ [] }
-    ensures told { (db : Db) → B.database base.old ≡ Some db → IfOk result (λ b. b ≡ list_any (λ row. not (holds no_aggs qual.now (row ∷ []))) (rows_at db key.now)) }
+    ensures known { (db : Db) → B.database base.old ≡ Some db → IfOk result (λ b. b ≡ list_any (λ row. not (holds no_aggs qual.now (row ∷ []))) (rows_at db key.now)) }
     ensures kept { B.database base.new ≡ B.database base.old }
     ensures stays { (s : Db) → B.schema base.old ≡ Some s → B.schema base.new ≡ Some s }
     ensures asked { (b : B) → B.asked b base.old → B.asked b base.new }
@@ -69,7 +69,7 @@ pub(crate) fn is_broken<B: Base>(
     rel: &RelKey,
     rule: &Rule,
 ) -> Result<bool, BaseFault>
-    ensures told { (db : Db) → B.database base.old ≡ Some db → IfOk result (λ b. b ≡ is_broken db rel.now rule.now) }
+    ensures known { (db : Db) → B.database base.old ≡ Some db → IfOk result (λ b. b ≡ is_broken db rel.now rule.now) }
     ensures kept { B.database base.new ≡ B.database base.old }
     ensures stays { (s : Db) → B.schema base.old ≡ Some s → B.schema base.new ≡ Some s }
     ensures asked { (b : B) → B.asked b base.old → B.asked b base.new }

@@ -57,7 +57,7 @@ fn rule_cause<B: Base>(
     rule: &Rule,
 ) -> Result<Option<u8>, BaseFault>
     ensures by_schema { (s : Db) → B.schema base.old ≡ Some s → IfOk result (ButRows (first_cause (owner_causes s user.now rel.now))) }
-    ensures told { (db : Db) → B.database base.old ≡ Some db → IfOk result (λ n. n ≡ first_cause (owner_causes db user.now rel.now ++ (27, is_broken db rel.now rule.now) ∷ [])) }
+    ensures known { (db : Db) → B.database base.old ≡ Some db → IfOk result (λ n. n ≡ first_cause (owner_causes db user.now rel.now ++ (27, is_broken db rel.now rule.now) ∷ [])) }
     ensures kept { B.database base.new ≡ B.database base.old }
     ensures stays { (s : Db) → B.schema base.old ≡ Some s → B.schema base.new ≡ Some s }
     ensures asked { (b : B) → B.asked b base.old → B.asked b base.new }

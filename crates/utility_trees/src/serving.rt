@@ -46,7 +46,7 @@ pub fn served<B: Base>(
     s: &Statement,
 ) -> Result<Checked, CheckFault>
     requires { is_served s.now ≡ true }
-    ensures told { (db : Db) (ranges : Ranges) → B.schema base.old ≡ Some db → name_refusal (scope_of db user.now ranges) s.now ≡ None
+    ensures known { (db : Db) (ranges : Ranges) → B.schema base.old ≡ Some db → name_refusal (scope_of db user.now ranges) s.now ≡ None
         → Says (λ tree. resolved db user.now ranges s.now ≡ Ok tree) (λ number. resolved db user.now ranges s.now ≡ Err number) result }
     ensures kept { B.database base.new ≡ B.database base.old }
     ensures stays { (s : Db) → B.schema base.old ≡ Some s → B.schema base.new ≡ Some s }

@@ -84,7 +84,7 @@ pub(crate) fn modified<B: Base>(
     to: Spec,
     keys: &[Name],
 ) -> Result<Checked, CheckFault>
-    ensures told { (db : Db) (ranges : Ranges) → B.schema base.old ≡ Some db → name_refusal (scope_of db user.now ranges) (statement.Modify rel.now to keys.now) ≡ None
+    ensures known { (db : Db) (ranges : Ranges) → B.schema base.old ≡ Some db → name_refusal (scope_of db user.now ranges) (statement.Modify rel.now to keys.now) ≡ None
         → Serves (scope_of db user.now ranges) (statement.Modify rel.now to keys.now) result }
     ensures kept { B.database base.new ≡ B.database base.old }
     ensures stays { (s : Db) → B.schema base.old ≡ Some s → B.schema base.new ≡ Some s }
@@ -112,7 +112,7 @@ fn index_cause<B: Base>(
     name: &Name,
     keys: &[Name],
 ) -> Result<Option<u8>, BaseFault>
-    ensures told { (db : Db) → B.schema base.old ≡ Some db
+    ensures known { (db : Db) → B.schema base.old ≡ Some db
         → IfOk result (λ n. n ≡ first_cause ((17, repeats keys.now) ∷ (14, is_full db) ∷ (15, is_taken db user.now name.now) ∷ [])) }
     ensures kept { B.database base.new ≡ B.database base.old }
     ensures stays { (s : Db) → B.schema base.old ≡ Some s → B.schema base.new ≡ Some s }
@@ -155,7 +155,7 @@ fn index_found<B: Base>(
     name: &Name,
     keys: &[Name],
 ) -> Result<Checked, CheckFault>
-    ensures told { (db : Db) (ranges : Ranges) → B.schema base.old ≡ Some db → name_refusal (scope_of db user.now ranges) (statement.Index rel.now name.now keys.now) ≡ None
+    ensures known { (db : Db) (ranges : Ranges) → B.schema base.old ≡ Some db → name_refusal (scope_of db user.now ranges) (statement.Index rel.now name.now keys.now) ≡ None
         → first_cause ((17, repeats keys.now) ∷ (14, is_full db) ∷ (15, is_taken db user.now name.now) ∷ []) ≡ None
         → Serves (scope_of db user.now ranges) (statement.Index rel.now name.now keys.now) result }
     ensures kept { B.database base.new ≡ B.database base.old }
@@ -182,7 +182,7 @@ pub(crate) fn indexed<B: Base>(
     name: &Name,
     keys: &[Name],
 ) -> Result<Checked, CheckFault>
-    ensures told { (db : Db) (ranges : Ranges) → B.schema base.old ≡ Some db → name_refusal (scope_of db user.now ranges) (statement.Index rel.now name.now keys.now) ≡ None
+    ensures known { (db : Db) (ranges : Ranges) → B.schema base.old ≡ Some db → name_refusal (scope_of db user.now ranges) (statement.Index rel.now name.now keys.now) ≡ None
         → Serves (scope_of db user.now ranges) (statement.Index rel.now name.now keys.now) result }
     ensures kept { B.database base.new ≡ B.database base.old }
     ensures stays { (s : Db) → B.schema base.old ≡ Some s → B.schema base.new ≡ Some s }

@@ -10,7 +10,7 @@ use Rattle.calculus.specs.Lists.{is_any}
 use Rattle.calculus.specs.Used.{used_in_query}
 use Rattle.calculus.specs.QueryParts.{vars_of}
 use Rattle.calculus.specs.Sizes.{Known, Measure, plain_measure, range_measure, measure_within, query_measure}
-use Rattle.calculus_laws.proofs.Through.{Told, CarriesBoth, both_told}
+use Rattle.calculus_laws.proofs.Through.{Said, CarriesBoth, both_said}
 use Rattle.view_text.specs.declared.text.Text.{Text}
 use Rattle.view_text.specs.Texts.{TextSource, used_text, query_texts, texts_vars}
 use Rattle.view_text.specs.TextOf.{range_text, view_text, past_text, text_within}
@@ -49,17 +49,17 @@ query_few source known h q = few_at source known h q 0 (vars_of q)
 
 -- ---- through levels of views
 
-abbrev text_told : Db → Who → Told (List ℕ → Text)
-text_told db who = record {
+abbrev text_said : Db → Who → Said (List ℕ → Text)
+text_said db who = record {
   of_range = λ of_view key range attrs. range_text (λ view. of_view view attrs) db who key attrs range;
   of_view = λ below view attrs. view_text below view;
   past = λ attrs. past_text;
 }
 
-abbrev measure_told : Told Measure
-measure_told = record { of_range = λ of_view key range. range_measure of_view range; of_view = λ below view. query_measure below view.query; past = plain_measure }
+abbrev measure_said : Said Measure
+measure_said = record { of_range = λ of_view key range. range_measure of_view range; of_view = λ below view. query_measure below view.query; past = plain_measure }
 
-few_carried : (db : Db) (who : Who) → CarriesBoth (text_told db who) measure_told db (λ n key text measure. (attrs : List ℕ) → length (text attrs).vars ≤ measure.variables)
+few_carried : (db : Db) (who : Who) → CarriesBoth (text_said db who) measure_said db (λ n key text measure. (attrs : List ℕ) → length (text attrs).vars ≤ measure.variables)
 few_carried db who = record {
   nothing = λ n f g key e attrs. omega arith;
   kept = λ n f g key relation e attrs. omega arith;
@@ -68,13 +68,13 @@ few_carried db who = record {
 }
 
 -- the text of what stands under a key has no more variables than are measured there
-pub few_told : (db : Db) (who : Who) (n : ℕ) (key : RelKey) (attrs : List ℕ) → length (text_within n db who key attrs).vars ≤ (measure_within n db key).variables
-few_told db who n key attrs =
-    both_told (text_told db who) measure_told db (λ n key text measure. (attrs : List ℕ) → length (text attrs).vars ≤ measure.variables) (few_carried db who) n key attrs
+pub few_known : (db : Db) (who : Who) (n : ℕ) (key : RelKey) (attrs : List ℕ) → length (text_within n db who key attrs).vars ≤ (measure_within n db key).variables
+few_known db who n key attrs =
+    both_said (text_said db who) measure_said db (λ n key text measure. (attrs : List ℕ) → length (text attrs).vars ≤ measure.variables) (few_carried db who) n key attrs
 
 -- so the texts of a query's variables have no more than the query once expanded
 pub texts_few : (db : Db) (who : Who) (n : ℕ) (q : Query) → length (texts_vars (query_texts (text_within n db who) q)) ≤ (query_measure (measure_within n db) q).variables
-texts_few db who n q = query_few (text_within n db who) (measure_within n db) (few_told db who n) q
+texts_few db who n q = query_few (text_within n db who) (measure_within n db) (few_known db who n) q
 
 pub vars_before : (text : Text) (texts : List Text) → length (texts_vars (text ∷ texts)) ≡ length text.vars + length (texts_vars texts)
 vars_before text texts = length-append text.vars (texts_vars texts)

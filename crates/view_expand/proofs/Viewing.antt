@@ -18,7 +18,7 @@ use Rattle.calculus.specs.Used.{used_vars}
 use Rattle.calculus.specs.Sizes.{range_measure, measure_within, query_measure}
 use Rattle.calculus.specs.Permission.{vars_permitted, range_permitted, permitted_within}
 use Rattle.calculus_laws.proofs.ViewAnswer.{ranged}
-use Rattle.am_traits.specs.Told.{query_at}
+use Rattle.am_traits.specs.Known.{query_at}
 use Rattle.view_text.specs.declared.text.Text.{Text}
 use Rattle.view_text.specs.Texts.{query_texts}
 use Rattle.view_text.specs.TextOf.{cut, kept_text, rows_text, range_text, view_text, past_text, text_within}

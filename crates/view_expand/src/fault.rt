@@ -11,7 +11,7 @@ use calculus::OutOfMemory;
 pub enum TextFault {
     /// The one who asks has no permit for it.
     NoPermit,
-    /// More variables than a query may number; where a database is told, what is asked for beforehand
+    /// More variables than a query may number; where a database is known, what is asked for beforehand
     /// rules it out.
     TooMany,
     /// A call of the database failed.

@@ -80,7 +80,7 @@ pub(crate) fn plain_text<B: Base>(
     found: &mut TextsFound,
 ) -> Result<Text, TextFault>
     requires found { (db : Db) → B.database base.old ≡ Some db → IsFound db (who_of (option_map (λ n. n.now) who)) found.old }
-    ensures told { (db : Db) → B.database base.old ≡ Some db → IfOk result (λ text. text ≡ kept_text (cut db (who_of (option_map (λ n. n.now) who.entry)) Retrieve attrs.now key.now) key.now) }
+    ensures known { (db : Db) → B.database base.old ≡ Some db → IfOk result (λ text. text ≡ kept_text (cut db (who_of (option_map (λ n. n.now) who.entry)) Retrieve attrs.now key.now) key.now) }
     ensures permitted { (db : Db) → B.database base.old ≡ Some db → OnOk result (permitted db (who_of (option_map (λ n. n.now) who.entry)) Retrieve attrs.now key.now ≡ true) }
     ensures scoped { IfOk result (λ text. is_scoped text ≡ true) }
     ensures found { (db : Db) → B.database base.old ≡ Some db → IsFound db (who_of (option_map (λ n. n.now) who.entry)) found.new }

@@ -67,7 +67,7 @@ fn condition_anew<B: Base>(
     found: &mut TextsFound,
 ) -> Result<Option<QQual>, BaseFault>
     requires found { (db : Db) → B.database base.old ≡ Some db → IsFound db (asks user.now) found.old }
-    ensures told { (db : Db) → B.database base.old ≡ Some db → IfOk result (λ o. o ≡ one_of (covering_conditions (permits_on db key.now) (asker_of user.now) (right_of right) attrs.now)) }
+    ensures known { (db : Db) → B.database base.old ≡ Some db → IfOk result (λ o. o ≡ one_of (covering_conditions (permits_on db key.now) (asker_of user.now) (right_of right) attrs.now)) }
     ensures within { IfOk result (λ o. list_all (is_qual_within 1) (option_to_list o) ≡ true) }
     ensures found { (db : Db) → B.database base.old ≡ Some db → IsFound db (asks user.now) found.new }
     ensures kept { B.database base.new ≡ B.database base.old }
@@ -96,7 +96,7 @@ fn condition_on<B: Base>(
     found: &mut TextsFound,
 ) -> Result<Option<QQual>, BaseFault>
     requires found { (db : Db) → B.database base.old ≡ Some db → IsFound db (asks user.now) found.old }
-    ensures told { (db : Db) → B.database base.old ≡ Some db → IfOk result (λ o. o ≡ one_of (covering_conditions (permits_on db key.now) (asker_of user.now) (right_of right) attrs.now)) }
+    ensures known { (db : Db) → B.database base.old ≡ Some db → IfOk result (λ o. o ≡ one_of (covering_conditions (permits_on db key.now) (asker_of user.now) (right_of right) attrs.now)) }
     ensures within { IfOk result (λ o. list_all (is_qual_within 1) (option_to_list o) ≡ true) }
     ensures found { (db : Db) → B.database base.old ≡ Some db → IsFound db (asks user.now) found.new }
     ensures kept { B.database base.new ≡ B.database base.old }
@@ -125,7 +125,7 @@ fn cut_for<B: Base>(
     found: &mut TextsFound,
 ) -> Result<Option<QQual>, TextFault>
     requires found { (db : Db) → B.database base.old ≡ Some db → IsFound db (asks user.now) found.old }
-    ensures told { (db : Db) → B.database base.old ≡ Some db → IfOk result (λ o. option_to_list o ≡ cut db (asks user.now) (right_of right) attrs.now key.now) }
+    ensures known { (db : Db) → B.database base.old ≡ Some db → IfOk result (λ o. option_to_list o ≡ cut db (asks user.now) (right_of right) attrs.now key.now) }
     ensures permitted { (db : Db) → B.database base.old ≡ Some db → OnOk result (permitted db (asks user.now) (right_of right) attrs.now key.now ≡ true) }
     ensures within { IfOk result (λ o. list_all (is_qual_within 1) (option_to_list o) ≡ true) }
     ensures found { (db : Db) → B.database base.old ≡ Some db → IsFound db (asks user.now) found.new }
@@ -159,7 +159,7 @@ pub fn cut<B: Base>(
     found: &mut TextsFound,
 ) -> Result<Option<QQual>, TextFault>
     requires found { (db : Db) → B.database base.old ≡ Some db → IsFound db (who_of (option_map (λ n. n.now) who)) found.old }
-    ensures told { (db : Db) → B.database base.old ≡ Some db → IfOk result (λ o. option_to_list o ≡ cut db (who_of (option_map (λ n. n.now) who.entry)) (right_of right) attrs.now key.now) }
+    ensures known { (db : Db) → B.database base.old ≡ Some db → IfOk result (λ o. option_to_list o ≡ cut db (who_of (option_map (λ n. n.now) who.entry)) (right_of right) attrs.now key.now) }
     ensures permitted { (db : Db) → B.database base.old ≡ Some db → OnOk result (permitted db (who_of (option_map (λ n. n.now) who.entry)) (right_of right) attrs.now key.now ≡ true) }
     ensures within { IfOk result (λ o. list_all (is_qual_within 1) (option_to_list o) ≡ true) }
     ensures found { (db : Db) → B.database base.old ≡ Some db → IsFound db (who_of (option_map (λ n. n.now) who.entry)) found.new }

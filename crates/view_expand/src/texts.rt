@@ -29,7 +29,7 @@ pub fn text_within<B: Base>(
     levels: u8,
 ) -> Result<Text, TextFault>
     requires { (db : Db) → B.database base.old ≡ Some db → (measure_within levels db key.now).variables ≤ 256 }
-    ensures told { (db : Db) → B.database base.old ≡ Some db → IfOk result (λ text. text ≡ text_within levels db (who_of (option_map (λ n. n.now) who.entry)) key.now attrs.now) }
+    ensures known { (db : Db) → B.database base.old ≡ Some db → IfOk result (λ text. text ≡ text_within levels db (who_of (option_map (λ n. n.now) who.entry)) key.now attrs.now) }
     ensures permitted { (db : Db) → B.database base.old ≡ Some db → OnOk result (permitted_within levels db (who_of (option_map (λ n. n.now) who.entry)) key.now attrs.now ≡ true) }
     ensures scoped { IfOk result (λ text. is_scoped text ≡ true) }
     ensures kept { B.database base.new ≡ B.database base.old }

@@ -8,7 +8,7 @@ ghost use Rattle.calculus.specs.Permission.{permitted_within, vars_permitted};
 ghost use Rattle.calculus.specs.QueryParts.{vars_of};
 ghost use Rattle.calculus.specs.Sizes.{measure_within, query_measure};
 ghost use Rattle.calculus.specs.Used.{used_in_query, used_vars};
-ghost use Rattle.am_traits.specs.Told.{query_at};
+ghost use Rattle.am_traits.specs.Known.{query_at};
 ghost use Rattle.view_expand.specs.Asking.{who_of};
 ghost use Rattle.view_expand.specs.Causes.{HasCause};
 ghost use Rattle.view_expand.specs.Found.{IsFound, IsTextOf};
@@ -53,7 +53,7 @@ pub(crate) fn text_through<B: Base>(
 ) -> Result<Text, TextFault>
     requires few { (db : Db) → B.database base.old ≡ Some db → (measure_within levels db key.now).variables ≤ 256 }
     requires found { (db : Db) → B.database base.old ≡ Some db → IsFound db (who_of (option_map (λ n. n.now) who)) found.old }
-    ensures told { (db : Db) → B.database base.old ≡ Some db → IfOk result (λ text. text ≡ text_within levels db (who_of (option_map (λ n. n.now) who.entry)) key.now attrs.now) }
+    ensures known { (db : Db) → B.database base.old ≡ Some db → IfOk result (λ text. text ≡ text_within levels db (who_of (option_map (λ n. n.now) who.entry)) key.now attrs.now) }
     ensures permitted { (db : Db) → B.database base.old ≡ Some db → OnOk result (permitted_within levels db (who_of (option_map (λ n. n.now) who.entry)) key.now attrs.now ≡ true) }
     ensures scoped { IfOk result (λ text. is_scoped text ≡ true) }
     ensures found { (db : Db) → B.database base.old ≡ Some db → IsFound db (who_of (option_map (λ n. n.now) who.entry)) found.new }
@@ -82,7 +82,7 @@ fn text_anew<B: Base>(
 ) -> Result<Text, TextFault>
     requires few { (db : Db) → B.database base.old ≡ Some db → (measure_within levels db key.now).variables ≤ 256 }
     requires found { (db : Db) → B.database base.old ≡ Some db → IsFound db (who_of (option_map (λ n. n.now) who)) found.old }
-    ensures told { (db : Db) → B.database base.old ≡ Some db → IfOk result (λ text. text ≡ text_within levels db (who_of (option_map (λ n. n.now) who.entry)) key.now attrs.now) }
+    ensures known { (db : Db) → B.database base.old ≡ Some db → IfOk result (λ text. text ≡ text_within levels db (who_of (option_map (λ n. n.now) who.entry)) key.now attrs.now) }
     ensures permitted { (db : Db) → B.database base.old ≡ Some db → OnOk result (permitted_within levels db (who_of (option_map (λ n. n.now) who.entry)) key.now attrs.now ≡ true) }
     ensures scoped { IfOk result (λ text. is_scoped text ≡ true) }
     ensures found { (db : Db) → B.database base.old ≡ Some db → IsFound db (who_of (option_map (λ n. n.now) who.entry)) found.new }
@@ -116,7 +116,7 @@ fn text_of_view<B: Base>(
     requires stands { (db : Db) → B.database base.old ≡ Some db → Some query.now ≡ query_at db key.now }
     requires few { (db : Db) → B.database base.old ≡ Some db → (measure_within levels db key.now).variables ≤ 256 }
     requires found { (db : Db) → B.database base.old ≡ Some db → IsFound db (who_of (option_map (λ n. n.now) who)) found.old }
-    ensures told { (db : Db) → B.database base.old ≡ Some db → IfOk result (IsTextOf db (who_of (option_map (λ n. n.now) who.entry)) key.now levels) }
+    ensures known { (db : Db) → B.database base.old ≡ Some db → IfOk result (IsTextOf db (who_of (option_map (λ n. n.now) who.entry)) key.now levels) }
     ensures scoped { IfOk result (λ text. is_scoped text ≡ true) }
     ensures found { (db : Db) → B.database base.old ≡ Some db → IsFound db (who_of (option_map (λ n. n.now) who.entry)) found.new }
     ensures kept { B.database base.new ≡ B.database base.old }
@@ -149,7 +149,7 @@ pub(crate) fn rows_through<B: Base>(
     requires listed { (db : Db) → B.database base.old ≡ Some db → length (vars_of query.now) ≤ 256 }
     requires expanded { (db : Db) → B.database base.old ≡ Some db → (query_measure (measure_within levels db) query.now).variables ≤ 256 }
     requires found { (db : Db) → B.database base.old ≡ Some db → IsFound db (who_of (option_map (λ n. n.now) who)) found.old }
-    ensures told { (db : Db) → B.database base.old ≡ Some db → IfOk result (λ text. text ≡ rows_text (query_texts (text_within levels db (who_of (option_map (λ n. n.now) who.entry))) query.now) query.now) }
+    ensures known { (db : Db) → B.database base.old ≡ Some db → IfOk result (λ text. text ≡ rows_text (query_texts (text_within levels db (who_of (option_map (λ n. n.now) who.entry))) query.now) query.now) }
     ensures permitted { (db : Db) → B.database base.old ≡ Some db → OnOk result (vars_permitted (permitted_within levels db (who_of (option_map (λ n. n.now) who.entry))) query.now (used_vars query.now) ≡ true) }
     ensures scoped { IfOk result (λ text. is_scoped text ≡ true) }
     ensures found { (db : Db) → B.database base.old ≡ Some db → IsFound db (who_of (option_map (λ n. n.now) who.entry)) found.new }
@@ -184,7 +184,7 @@ pub(crate) fn put_texts<B: Base>(
     requires listed { length keys.now ≤ 256 }
     requires expanded { (db : Db) → B.database base.old ≡ Some db → variables_at (measure_within levels db) query.now 0 keys.now ≤ 256 }
     requires found { (db : Db) → B.database base.old ≡ Some db → IsFound db (who_of (option_map (λ n. n.now) who)) found.old }
-    ensures told { (db : Db) → B.database base.old ≡ Some db → OnOk result (texts.new.items ≡ texts.old.items ++ texts_at (text_within levels db (who_of (option_map (λ n. n.now) who.entry))) query.now 0 keys.now) }
+    ensures known { (db : Db) → B.database base.old ≡ Some db → OnOk result (texts.new.items ≡ texts.old.items ++ texts_at (text_within levels db (who_of (option_map (λ n. n.now) who.entry))) query.now 0 keys.now) }
     ensures permitted { (db : Db) → B.database base.old ≡ Some db → OnOk result (permitted_at (permitted_within levels db (who_of (option_map (λ n. n.now) who.entry))) query.now 0 keys.now ≡ true) }
     ensures scoped { list_all is_scoped texts.old.items ≡ true → OnOk result (list_all is_scoped texts.new.items ≡ true) }
     ensures found { (db : Db) → B.database base.old ≡ Some db → IsFound db (who_of (option_map (λ n. n.now) who.entry)) found.new }
@@ -220,7 +220,7 @@ pub fn text_at<B: Base>(
 ) -> Result<Text, TextFault>
     requires few { (db : Db) → B.database base.old ≡ Some db → is_any (used_in_query place query.now) ≡ true → (measure_within levels db key.now).variables ≤ 256 }
     requires found { (db : Db) → B.database base.old ≡ Some db → IsFound db (who_of (option_map (λ n. n.now) who)) found.old }
-    ensures told { (db : Db) → B.database base.old ≡ Some db → IfOk result (λ text. text ≡ used_text (text_within levels db (who_of (option_map (λ n. n.now) who.entry))) key.now (used_in_query place query.now)) }
+    ensures known { (db : Db) → B.database base.old ≡ Some db → IfOk result (λ text. text ≡ used_text (text_within levels db (who_of (option_map (λ n. n.now) who.entry))) key.now (used_in_query place query.now)) }
     ensures permitted { (db : Db) → B.database base.old ≡ Some db → OnOk result (is_any (used_in_query place query.now) ≡ true → permitted_within levels db (who_of (option_map (λ n. n.now) who.entry)) key.now (used_in_query place query.now) ≡ true) }
     ensures scoped { IfOk result (λ text. is_scoped text ≡ true) }
     ensures found { (db : Db) → B.database base.old ≡ Some db → IsFound db (who_of (option_map (λ n. n.now) who.entry)) found.new }

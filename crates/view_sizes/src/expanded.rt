@@ -30,7 +30,7 @@ fn source_variables<B: Base>(
     found: &mut Measures,
     source: &AggSource,
 ) -> Result<u64, BaseFault>
-    ensures told { (db : Db) → B.schema base.old ≡ Some db → AreMeasured db found.old.entries → source_lists_few source.now ≡ true → IfOk result (λ n. n ≡ min (source_variables (measure_within 16 db) source.now) (2 ^ 64 - 1)) }
+    ensures known { (db : Db) → B.schema base.old ≡ Some db → AreMeasured db found.old.entries → source_lists_few source.now ≡ true → IfOk result (λ n. n ≡ min (source_variables (measure_within 16 db) source.now) (2 ^ 64 - 1)) }
     ensures found { (db : Db) → B.schema base.old ≡ Some db → AreMeasured db found.old.entries → OnOk result (AreMeasured db found.new.entries) }
     ensures kept { B.database base.new ≡ B.database base.old }
     ensures stays { (s : Db) → B.schema base.old ≡ Some s → B.schema base.new ≡ Some s }
@@ -50,7 +50,7 @@ fn variables_of_all<B: Base>(
     found: &mut Measures,
     aggregates: &[&QAgg],
 ) -> Result<u64, BaseFault>
-    ensures told { (db : Db) → B.schema base.old ≡ Some db → AreMeasured db found.old.entries → list_all (λ g. source_lists_few g.now.source) aggregates.now ≡ true → IfOk result (λ n. n ≡ min (sum_by (λ g. source_variables (measure_within 16 db) g.now.source) aggregates.now) (2 ^ 64 - 1)) }
+    ensures known { (db : Db) → B.schema base.old ≡ Some db → AreMeasured db found.old.entries → list_all (λ g. source_lists_few g.now.source) aggregates.now ≡ true → IfOk result (λ n. n ≡ min (sum_by (λ g. source_variables (measure_within 16 db) g.now.source) aggregates.now) (2 ^ 64 - 1)) }
     ensures found { (db : Db) → B.schema base.old ≡ Some db → AreMeasured db found.old.entries → OnOk result (AreMeasured db found.new.entries) }
     ensures kept { B.database base.new ≡ B.database base.old }
     ensures stays { (s : Db) → B.schema base.old ≡ Some s → B.schema base.new ≡ Some s }
@@ -72,7 +72,7 @@ fn aggregate_variables<B: Base>(
     found: &mut Measures,
     query: &Query,
 ) -> Result<u64, BaseFault>
-    ensures told { (db : Db) → B.schema base.old ≡ Some db → AreMeasured db found.old.entries → sources_list_few query.now ≡ true → IfOk result (λ n. n ≡ min (sum_by (λ g. source_variables (measure_within 16 db) g.source) (query_aggregates query.now)) (2 ^ 64 - 1)) }
+    ensures known { (db : Db) → B.schema base.old ≡ Some db → AreMeasured db found.old.entries → sources_list_few query.now ≡ true → IfOk result (λ n. n ≡ min (sum_by (λ g. source_variables (measure_within 16 db) g.source) (query_aggregates query.now)) (2 ^ 64 - 1)) }
     ensures found { (db : Db) → B.schema base.old ≡ Some db → AreMeasured db found.old.entries → OnOk result (AreMeasured db found.new.entries) }
     ensures kept { B.database base.new ≡ B.database base.old }
     ensures stays { (s : Db) → B.schema base.old ≡ Some s → B.schema base.new ≡ Some s }
@@ -91,7 +91,7 @@ pub fn expanded_variables<B: Base>(
     base: &mut B,
     query: &Query,
 ) -> Result<u64, BaseFault>
-    ensures told { (db : Db) → B.schema base.old ≡ Some db → length (vars_of query.now) ≤ 256 → sources_list_few query.now ≡ true → IfOk result (λ n. n ≡ min (expanded_variables db query.now) (2 ^ 64 - 1)) }
+    ensures known { (db : Db) → B.schema base.old ≡ Some db → length (vars_of query.now) ≤ 256 → sources_list_few query.now ≡ true → IfOk result (λ n. n ≡ min (expanded_variables db query.now) (2 ^ 64 - 1)) }
     ensures kept { B.database base.new ≡ B.database base.old }
     ensures stays { (s : Db) → B.schema base.old ≡ Some s → B.schema base.new ≡ Some s }
     ensures asked { (b : B) → B.asked b base.old → B.asked b base.new }
@@ -111,7 +111,7 @@ pub fn listed_expanded_variables<B: Base>(
     base: &mut B,
     query: &Query,
 ) -> Result<u64, BaseFault>
-    ensures told { (db : Db) → B.schema base.old ≡ Some db → sources_list_few query.now ≡ true → IfOk result (λ n. n ≡ min (listed_expanded_variables db query.now) (2 ^ 64 - 1)) }
+    ensures known { (db : Db) → B.schema base.old ≡ Some db → sources_list_few query.now ≡ true → IfOk result (λ n. n ≡ min (listed_expanded_variables db query.now) (2 ^ 64 - 1)) }
     ensures kept { B.database base.new ≡ B.database base.old }
     ensures stays { (s : Db) → B.schema base.old ≡ Some s → B.schema base.new ≡ Some s }
     ensures asked { (b : B) → B.asked b base.old → B.asked b base.new }
@@ -150,7 +150,7 @@ fn counted_at<B: Base>(
     place: u8,
     key: &RelKey,
 ) -> Result<u64, BaseFault>
-    ensures told { (db : Db) → B.schema base.old ≡ Some db → AreMeasured db found.old.entries → IfOk result (λ n. n ≡ cond (is_any (used_in_query place u.now.query) || is_changed u.now place) (min (measure_within 16 db key.now).variables (2 ^ 64 - 1)) 0) }
+    ensures known { (db : Db) → B.schema base.old ≡ Some db → AreMeasured db found.old.entries → IfOk result (λ n. n ≡ cond (is_any (used_in_query place u.now.query) || is_changed u.now place) (min (measure_within 16 db key.now).variables (2 ^ 64 - 1)) 0) }
     ensures found { (db : Db) → B.schema base.old ≡ Some db → AreMeasured db found.old.entries → OnOk result (AreMeasured db found.new.entries) }
     ensures kept { B.database base.new ≡ B.database base.old }
     ensures stays { (s : Db) → B.schema base.old ≡ Some s → B.schema base.new ≡ Some s }
@@ -171,7 +171,7 @@ fn counted_variables<B: Base>(
     found: &mut Measures,
     u: &Update,
 ) -> Result<u64, BaseFault>
-    ensures told { (db : Db) → B.schema base.old ≡ Some db → AreMeasured db found.old.entries → length (vars_of u.now.query) ≤ 256 → IfOk result (λ n. n ≡ min (sum_by (λ p. (measure_within 16 db p.1).variables) (update_vars u.now)) (2 ^ 64 - 1)) }
+    ensures known { (db : Db) → B.schema base.old ≡ Some db → AreMeasured db found.old.entries → length (vars_of u.now.query) ≤ 256 → IfOk result (λ n. n ≡ min (sum_by (λ p. (measure_within 16 db p.1).variables) (update_vars u.now)) (2 ^ 64 - 1)) }
     ensures found { (db : Db) → B.schema base.old ≡ Some db → AreMeasured db found.old.entries → OnOk result (AreMeasured db found.new.entries) }
     ensures kept { B.database base.new ≡ B.database base.old }
     ensures stays { (s : Db) → B.schema base.old ≡ Some s → B.schema base.new ≡ Some s }
@@ -196,7 +196,7 @@ pub fn update_expanded_variables<B: Base>(
     base: &mut B,
     u: &Update,
 ) -> Result<u64, BaseFault>
-    ensures told { (db : Db) → B.schema base.old ≡ Some db → length (vars_of u.now.query) ≤ 256 → sources_list_few u.now.query ≡ true → IfOk result (λ n. n ≡ min (update_expanded_variables db u.now) (2 ^ 64 - 1)) }
+    ensures known { (db : Db) → B.schema base.old ≡ Some db → length (vars_of u.now.query) ≤ 256 → sources_list_few u.now.query ≡ true → IfOk result (λ n. n ≡ min (update_expanded_variables db u.now) (2 ^ 64 - 1)) }
     ensures kept { B.database base.new ≡ B.database base.old }
     ensures stays { (s : Db) → B.schema base.old ≡ Some s → B.schema base.new ≡ Some s }
     ensures asked { (b : B) → B.asked b base.old → B.asked b base.new }

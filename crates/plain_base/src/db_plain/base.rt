@@ -8,7 +8,7 @@ ghost use Rattle.am_traits.specs.InMemory.{asked_in_memory};
 ghost use Rattle.am_traits.specs.Scans.{IsScan, first_place};
 ghost use Rattle.plain_base.specs.Places.{rows_from};
 ghost use Rattle.plain_base.specs.Shown.{database_of};
-ghost use Rattle.plain_base.specs.Laws.{of_told, whole_scan};
+ghost use Rattle.plain_base.specs.Laws.{of_known, whole_scan};
 
 use super::DbPlain;
 use am_traits::{Base, BaseFault};
@@ -42,11 +42,11 @@ impl Base for DbPlain {
 
     ghost left = { λ b. rows_from (database_of b) };
 
-    ghost lawful = { λ b db e. of_told IsDatabase (database_of b) db e b.is };
+    ghost lawful = { λ b db e. of_known IsDatabase (database_of b) db e b.is };
 
     ghost own = { λ _ _ is. is };
 
-    ghost scanned = { λ b db key e. of_told (λ db. IsScan (rows_at db key) (rows_from (database_of b) key first_place)) (database_of b) db e (whole_scan (database_of b) key b.is) };
+    ghost scanned = { λ b db key e. of_known (λ db. IsScan (rows_at db key) (rows_from (database_of b) key first_place)) (database_of b) db e (whole_scan (database_of b) key b.is) };
 
     ghost counts_now = { λ _ _ _ _ left. left };
 

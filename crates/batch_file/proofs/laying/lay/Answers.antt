@@ -5,18 +5,18 @@ use Rattle.batch_file.proofs.Finishing.{lay_run, lay_done}
 use Rattle.batch_file.proofs.laying.lay.Goals as goal
 
 pub returns-in_err-redo-clause-crash : goal.returns-in_err-redo-clause-crash
-returns-in_err-redo-clause-crash g c = λ told.
+returns-in_err-redo-clause-crash g c = λ known.
     lay_run g.D.Disk.seen g.D.Disk.touched g.D.Disk.clock g.D.Disk.left_since c.args.disk.now c.open_gate.new.disk c.redo.new.disk (entries (g.D.Disk.seen c.args.disk.now) c.args.count)
-    (c.open_gate.ensures.crash told) (c.in_ok-open_gate.ensures.same told) (c.redo.ensures.crash told)
+    (c.open_gate.ensures.crash known) (c.in_ok-open_gate.ensures.same known) (c.redo.ensures.crash known)
 
 pub returns-clause-crash : goal.returns-clause-crash
-returns-clause-crash g c = λ told.
+returns-clause-crash g c = λ known.
     lay_run g.D.Disk.seen g.D.Disk.touched g.D.Disk.clock g.D.Disk.left_since c.args.disk.now c.open_gate.new.disk c.redo.new.disk (entries (g.D.Disk.seen c.args.disk.now) c.args.count)
-    (c.open_gate.ensures.crash told) (c.in_ok-open_gate.ensures.same told) (c.redo.ensures.crash told)
+    (c.open_gate.ensures.crash known) (c.in_ok-open_gate.ensures.same known) (c.redo.ensures.crash known)
 
 pub returns-clause-laid : goal.returns-clause-laid
-returns-clause-laid g c = λ told.
-    lay_done g.D.Disk.seen g.D.Disk.touched g.D.Disk.clock g.D.Disk.left_since c.args.disk.now c.open_gate.new.disk c.redo.new.disk c.args.count (c.requires.shut told) (c.requires.whole told) (c.in_ok-open_gate.ensures.same told) (c.in_ok-redo.ensures.done told)
+returns-clause-laid g c = λ known.
+    lay_done g.D.Disk.seen g.D.Disk.touched g.D.Disk.clock g.D.Disk.left_since c.args.disk.now c.open_gate.new.disk c.redo.new.disk c.args.count (c.requires.shut known) (c.requires.whole known) (c.in_ok-open_gate.ensures.same known) (c.in_ok-redo.ensures.done known)
 
 pub returns-clause-made : goal.returns-clause-made
 returns-clause-made g c = lays _ _ _ (Heads c.args.count) c.args.count c.in_ok-open_gate.ensures.made c.in_ok-redo.ensures.made

@@ -3,15 +3,15 @@ use Rattle.batch_store.proofs.Stands.{standing_off, standing_image, standing_dis
 use Rattle.batch_store.proofs.reading.read_page.Goals as goal
 
 pub returns-then-not-counts-clause-page : goal.returns-then-not-counts-clause-page
-returns-then-not-counts-clause-page g c = λ told.
+returns-then-not-counts-clause-page g c = λ known.
     standing_off (g.D.Disk.seen c.args.disk.now) c.args.batch.now c.args.a (sym c.counts.ensures ∙ c.if-not-counts.true)
 
 pub returns-in_ok-image-in-Some-clause-page : goal.returns-in_ok-image-in-Some-clause-page
-returns-in_ok-image-in-Some-clause-page g c = λ told.
+returns-in_ok-image-in-Some-clause-page g c = λ known.
     standing_image (g.D.Disk.seen c.args.disk.now) c.args.batch.now c.args.a c.in-Some.i c.image.new.out (sym c.counts.ensures ∙ c.if-not-counts.false)
-    (sym (c.requires.numbered told c.args.a) ∙ sym c.number_for.ensures ∙ c.in-Some.is) (c.in_ok-image-in-Some.ensures.image told)
+    (sym (c.requires.numbered known c.args.a) ∙ sym c.number_for.ensures ∙ c.in-Some.is) (c.in_ok-image-in-Some.ensures.image known)
 
 pub returns-in-None-clause-page : goal.returns-in-None-clause-page
-returns-in-None-clause-page g c = λ told.
+returns-in-None-clause-page g c = λ known.
     read_so c.read.result c.read.new.out (standing_disk (g.D.Disk.seen c.args.disk.now) c.args.batch.now c.args.a (sym c.counts.ensures ∙ c.if-not-counts.false)
-    (sym (c.requires.numbered told c.args.a) ∙ sym c.number_for.ensures ∙ c.in-None.is)) (c.read.ensures.page told)
+    (sym (c.requires.numbered known c.args.a) ∙ sym c.number_for.ensures ∙ c.in-None.is)) (c.read.ensures.page known)

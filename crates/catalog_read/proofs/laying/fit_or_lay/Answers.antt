@@ -8,18 +8,18 @@ use Rattle.catalog_read.proofs.laying.fit_or_lay.Goals as goal
 pub lay-requires : goal.lay-requires
 lay-requires c =
     lawful_where_fit (database_of c.is_fit.new.plain) c.args.change.now c.in-Ok-true.field-0 c.is_fit.new.plain.is
-    (c.in-Ok-true.ensures.told ∙ ap (λ db. change_is_fit db c.args.change.now) (sym c.in-Ok-true.ensures.same)) c.in-Ok-true.field-0-test
+    (c.in-Ok-true.ensures.known ∙ ap (λ db. change_is_fit db c.args.change.now) (sym c.in-Ok-true.ensures.same)) c.in-Ok-true.field-0-test
 
 pub returns-in-Ok : goal.returns-in-Ok
 returns-in-Ok c = record {
-  told = sym c.in-Ok-true.field-0-test ∙ c.in-Ok-true.ensures.told;
+  known = sym c.in-Ok-true.field-0-test ∙ c.in-Ok-true.ensures.known;
   laid = λ e. c.in-Ok.ensures.ok ∙ ap (λ db. laid db c.args.change.now) c.in-Ok-true.ensures.same;
   kept = λ e. absurd (true≢false e);
 }
 
 pub returns-in-Ok-false : goal.returns-in-Ok-false
 returns-in-Ok-false c = record {
-  told = sym c.in-Ok-false.field-0-test ∙ c.in-Ok-false.ensures.told;
+  known = sym c.in-Ok-false.field-0-test ∙ c.in-Ok-false.ensures.known;
   laid = λ e. absurd (true≢false (sym e));
   kept = λ e. c.in-Ok-false.ensures.same;
 }

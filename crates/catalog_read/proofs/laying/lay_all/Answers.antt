@@ -1,6 +1,6 @@
 use Rattle.std.proofs.Common.{rules, ◌≡◌, length}
 use Rattle.plain_base.specs.Shown.{database_of}
-use Rattle.catalog_read.proofs.Told.{all_laid}
+use Rattle.catalog_read.proofs.Known.{all_laid}
 use Rattle.catalog_read.proofs.laying.lay_all.Goals as goal
 
 pub returns-then-len-before-clause-stuck : goal.returns-then-len-before-clause-stuck

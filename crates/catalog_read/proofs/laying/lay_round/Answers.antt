@@ -1,5 +1,5 @@
 use Rattle.plain_base.specs.Shown.{database_of}
-use Rattle.catalog_read.proofs.Told.{left_after, fewer_after, stuck_after}
+use Rattle.catalog_read.proofs.Known.{left_after, fewer_after, stuck_after}
 use Rattle.catalog_read.proofs.laying.lay_round.Goals as goal
 
 pub returns-clause-left : goal.returns-clause-left

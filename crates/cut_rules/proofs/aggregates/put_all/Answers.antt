@@ -29,9 +29,9 @@ returns-in-Err-clause-cause g c =
 
 pub loop-aggregate-preserved : goal.loop-aggregate-preserved
 loop-aggregate-preserved g c = record {
-  told = λ db h.
+  known = λ db h.
       c.in_ok-push-in-Ok.ensures.behind
-      ∙ (λ i. c.loop-aggregate.invariant.told db h i ++ (c.in-Ok.ensures.told db (c.loop-aggregate.invariant.kept ∙ h) ∙ ap (λ a. put_aggregate db (who_of (option_map (λ n. n.now) c.args.who)) (put_from 0 c.args.texts.now) a.now) c.aggregate-item.is) i ∷ [])
+      ∙ (λ i. c.loop-aggregate.invariant.known db h i ++ (c.in-Ok.ensures.known db (c.loop-aggregate.invariant.kept ∙ h) ∙ ap (λ a. put_aggregate db (who_of (option_map (λ n. n.now) c.args.who)) (put_from 0 c.args.texts.now) a.now) c.aggregate-item.is) i ∷ [])
       ∙ append_assoc c.args.made.now.items (map (λ a. put_aggregate db (who_of (option_map (λ n. n.now) c.args.who)) (put_from 0 c.args.texts.now) a.now) (take c.loop-aggregate.aggregate-index c.args.aggregates.now))
       (put_aggregate db (who_of (option_map (λ n. n.now) c.args.who)) (put_from 0 c.args.texts.now) (get_or c.args.aggregates.now c.loop-aggregate.aggregate-index c.aggregate-item.result).now ∷ [])
       ∙ ap (λ made. c.args.made.now.items ++ made)
@@ -46,9 +46,9 @@ loop-aggregate-preserved g c = record {
   faults = c.in-Ok.ensures.cause.caused ∙ c.loop-aggregate.invariant.faults;
 }
 
-pub returns-clause-told : goal.returns-clause-told
-returns-clause-told g c = λ db h.
-    c.loop-aggregate.invariant.told db h
+pub returns-clause-known : goal.returns-clause-known
+returns-clause-known g c = λ db h.
+    c.loop-aggregate.invariant.known db h
     ∙ ap (λ given. c.args.made.now.items ++ map (λ a. put_aggregate db (who_of (option_map (λ n. n.now) c.args.who)) (put_from 0 c.args.texts.now) a.now) given) (take_all c.loop-aggregate.aggregate-index c.args.aggregates.now c.loop-aggregate-test.false)
 
 pub returns-clause-permitted : goal.returns-clause-permitted

@@ -11,7 +11,7 @@ use Rattle.cut_rules.proofs.aggregates.put_all.Given as goal
 
 abbrev pub invariant-loop-aggregate : goal.invariant-loop-aggregate
 invariant-loop-aggregate g l = record {
-  told : (db : Db) → g.B.Base.database l.initial.base ≡ Some db
+  known : (db : Db) → g.B.Base.database l.initial.base ≡ Some db
       → l.made.items ≡ l.fn.made.items ++ map (λ g. put_aggregate db (who_of (option_map (λ n. n.now) l.who)) (put_from 0 l.texts) g.now) (take l.aggregate-index l.aggregates);
   permitted : (db : Db) → g.B.Base.database l.initial.base ≡ Some db
       → list_all (λ g. source_permitted (readable db (who_of (option_map (λ n. n.now) l.who))) (used_in_aggregate g.now) g.now.source) (take l.aggregate-index l.aggregates) ≡ true;

@@ -9,13 +9,13 @@ use Rattle.cut_rules.proofs.Causing.{on_ok}
 use Rattle.cut_rules.proofs.Refusing.{change_true, change_false}
 use Rattle.cut_rules.proofs.changing.put_cuts.Goals as goal
 
-pub returns-in-Ok-clause-told : goal.returns-in-Ok-clause-told
-returns-in-Ok-clause-told g c = λ db h.
+pub returns-in-Ok-clause-known : goal.returns-in-Ok-clause-known
+returns-in-Ok-clause-known g c = λ db h.
     let who = (who_of (option_map (λ n. n.now) c.args.who)) in
     let read = read_cut db who c.args.read.now c.args.key.now in
     on_ok c.put_read_cut.result _ _
-    (λ e. e ∙ ap (λ qs. qs ++ read) (c.in-Ok.ensures.told db h) ∙ append_assoc c.args.conditions.now.items (cut db who (right_of c.args.right) c.args.places.now c.args.key.now) read)
-    (c.put_read_cut.ensures.told db (c.in-Ok.ensures.kept ∙ h))
+    (λ e. e ∙ ap (λ qs. qs ++ read) (c.in-Ok.ensures.known db h) ∙ append_assoc c.args.conditions.now.items (cut db who (right_of c.args.right) c.args.places.now c.args.key.now) read)
+    (c.put_read_cut.ensures.known db (c.in-Ok.ensures.kept ∙ h))
 
 pub returns-in-Ok-clause-permitted : goal.returns-in-Ok-clause-permitted
 returns-in-Ok-clause-permitted g c = λ db h.

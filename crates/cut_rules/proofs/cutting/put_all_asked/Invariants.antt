@@ -15,7 +15,7 @@ decreases-asked g l = length l.rest
 abbrev pub invariant-asked : goal.invariant-asked
 invariant-asked g l = record {
   within : (a : Asked) → Contains l.rest a → Contains l.asked a;
-  told : (db : Db) → g.B.Base.database l.initial.base ≡ Some db
+  known : (db : Db) → g.B.Base.database l.initial.base ≡ Some db
       → l.made.items ++ map (put_in_asked db (who_of (option_map (λ n. n.now) l.who))) l.rest ≡ l.fn.made.items ++ map (put_in_asked db (who_of (option_map (λ n. n.now) l.who))) l.asked;
   permitted : (db : Db) → g.B.Base.database l.initial.base ≡ Some db
       → list_all (λ a. query_permitted db (who_of (option_map (λ n. n.now) l.who)) a.query) l.rest ≡ list_all (λ a. query_permitted db (who_of (option_map (λ n. n.now) l.who)) a.query) l.asked;

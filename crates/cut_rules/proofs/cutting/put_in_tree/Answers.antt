@@ -12,10 +12,10 @@ asked_tree-requires-clause-fit g c = λ db h. answer_fits db c.args.user.now c.a
 pub put_in_update-requires-clause-fit : goal.put_in_update-requires-clause-fit
 put_in_update-requires-clause-fit g c = λ db h. change_fits db c.args.user.now c.args.tree.now c.in-Update.u (c.requires.fit db h) c.in-Update.is
 
-pub returns-in-Answer-clause-told : goal.returns-in-Answer-clause-told
-returns-in-Answer-clause-told g c = λ db h.
+pub returns-in-Answer-clause-known : goal.returns-in-Answer-clause-known
+returns-in-Answer-clause-known g c = λ db h.
     let is = c.in-Answer.is ∙ ap checked.Answer (sym c.items.ensures) in
-    subst (λ x. IfOk c.asked_tree.result (λ made. made ≡ x)) (answer_put db (asks c.args.user.now) c.args.tree.now c.items.result.now is) (c.asked_tree.ensures.told db h)
+    subst (λ x. IfOk c.asked_tree.result (λ made. made ≡ x)) (answer_put db (asks c.args.user.now) c.args.tree.now c.items.result.now is) (c.asked_tree.ensures.known db h)
 
 pub returns-in-Answer-clause-permitted : goal.returns-in-Answer-clause-permitted
 returns-in-Answer-clause-permitted g c = λ db h.
@@ -27,9 +27,9 @@ returns-in-Answer-clause-cause g c =
     caused_so _ _ _ _ _ _ c.asked_tree.ensures.cause
     (λ db h var r. answer_refused db (asks c.args.user.now) c.args.tree.now c.items.result.now var (c.in-Answer.is ∙ ap checked.Answer (sym c.items.ensures)) r)
 
-pub returns-in-Ok-clause-told : goal.returns-in-Ok-clause-told
-returns-in-Ok-clause-told g c = λ db h.
-    update_put db (asks c.args.user.now) c.args.tree.now c.in-Update.u c.in-Ok.u c.in-Update.is (c.in-Ok.ensures.told db h)
+pub returns-in-Ok-clause-known : goal.returns-in-Ok-clause-known
+returns-in-Ok-clause-known g c = λ db h.
+    update_put db (asks c.args.user.now) c.args.tree.now c.in-Update.u c.in-Ok.u c.in-Update.is (c.in-Ok.ensures.known db h)
 
 pub returns-in-Ok-clause-permitted : goal.returns-in-Ok-clause-permitted
 returns-in-Ok-clause-permitted g c = λ db h. sym (change_permitted_is db (asks c.args.user.now) c.args.tree.now c.in-Update.u c.in-Update.is) ∙ c.in-Ok.ensures.permitted db h
@@ -38,8 +38,8 @@ pub returns-in-Err-clause-cause : goal.returns-in-Err-clause-cause
 returns-in-Err-clause-cause g c =
     failed_so _ _ _ _ _ _ c.in-Err.ensures.cause (λ db h var r. update_refused db (asks c.args.user.now) c.args.tree.now c.in-Update.u var c.in-Update.is r)
 
-pub returns-in-Ok-copy-clause-told : goal.returns-in-Ok-copy-clause-told
-returns-in-Ok-copy-clause-told g c = λ db h. utility_put db (asks c.args.user.now) c.args.tree.now c.in-Utility.work c.in-Ok-copy.work c.in-Utility.is c.in-Ok-copy.ensures
+pub returns-in-Ok-copy-clause-known : goal.returns-in-Ok-copy-clause-known
+returns-in-Ok-copy-clause-known g c = λ db h. utility_put db (asks c.args.user.now) c.args.tree.now c.in-Utility.work c.in-Ok-copy.work c.in-Utility.is c.in-Ok-copy.ensures
 
 pub returns-in-Ok-copy-clause-permitted : goal.returns-in-Ok-copy-clause-permitted
 returns-in-Ok-copy-clause-permitted g c = λ db h. utility_permitted db (asks c.args.user.now) c.args.tree.now c.in-Utility.work c.in-Utility.is

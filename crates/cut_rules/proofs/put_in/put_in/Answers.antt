@@ -23,16 +23,16 @@ put_over_few-requires-clause-few g c = λ db h.
     let k = sym c.in-Ok.ensures.kept ∙ h in
     let who = (who_of (option_map (λ n. n.now) c.args.who)) in
     let made : c.deref.result.now ≡ map (read_text db who c.args.query.now) (enumerate_from 0 (vars_of c.args.query.now)) =
-    c.deref.ensures.value ∙ c.in-Ok.ensures.told db k ∙ ap (λ ts. ts ++ map (read_text db who c.args.query.now) (enumerate_from 0 (vars_of c.args.query.now))) c.new-texts.ensures.items in
+    c.deref.ensures.value ∙ c.in-Ok.ensures.known db k ∙ ap (λ ts. ts ++ map (read_text db who c.args.query.now) (enumerate_from 0 (vars_of c.args.query.now))) c.new-texts.ensures.items in
     subst (λ ts. length (texts_vars ts) ≤ 256) (sym made) (small_texts db who c.args.query.now (c.requires.few db k))
 
-pub returns-in-Ok-clause-told : goal.returns-in-Ok-clause-told
+pub returns-in-Ok-clause-known : goal.returns-in-Ok-clause-known
 unfolding put_in
-returns-in-Ok-clause-told g c = λ db h.
+returns-in-Ok-clause-known g c = λ db h.
     let who = (who_of (option_map (λ n. n.now) c.args.who)) in
     let made : c.deref.result.now ≡ map (read_text db who c.args.query.now) (enumerate_from 0 (vars_of c.args.query.now)) =
-    c.deref.ensures.value ∙ c.in-Ok.ensures.told db h ∙ ap (λ ts. ts ++ map (read_text db who c.args.query.now) (enumerate_from 0 (vars_of c.args.query.now))) c.new-texts.ensures.items in
-    subst (λ ts. IfOk c.put_over_few.result (λ made. made ≡ put_over db who ts c.args.query.now)) made (c.put_over_few.ensures.told db (c.in-Ok.ensures.kept ∙ h))
+    c.deref.ensures.value ∙ c.in-Ok.ensures.known db h ∙ ap (λ ts. ts ++ map (read_text db who c.args.query.now) (enumerate_from 0 (vars_of c.args.query.now))) c.new-texts.ensures.items in
+    subst (λ ts. IfOk c.put_over_few.result (λ made. made ≡ put_over db who ts c.args.query.now)) made (c.put_over_few.ensures.known db (c.in-Ok.ensures.kept ∙ h))
 
 pub returns-in-Ok-clause-permitted : goal.returns-in-Ok-clause-permitted
 returns-in-Ok-clause-permitted g c = λ db h.

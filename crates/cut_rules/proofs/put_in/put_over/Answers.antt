@@ -11,10 +11,10 @@ use Rattle.cut_rules.proofs.put_in.put_over.Goals as goal
 pub put_aggregates-requires-clause-sources : goal.put_aggregates-requires-clause-sources
 put_aggregates-requires-clause-sources g c = λ db h. aggregates_fit (kept_or_viewed db) db c.args.query.now (c.requires.fit db h)
 
-pub returns-in-Ok-clause-told : goal.returns-in-Ok-clause-told
-returns-in-Ok-clause-told g c = λ db h.
+pub returns-in-Ok-clause-known : goal.returns-in-Ok-clause-known
+returns-in-Ok-clause-known g c = λ db h.
     let who = (who_of (option_map (λ n. n.now) c.args.who)) in
-    let e = ap (λ gs. put_query (listed gs) c.args.texts.now c.args.query.now) (c.deref.ensures.value ∙ c.in-Ok.ensures.told db h)
+    let e = ap (λ gs. put_query (listed gs) c.args.texts.now c.args.query.now) (c.deref.ensures.value ∙ c.in-Ok.ensures.known db h)
     ∙ slotted db who c.args.texts.now c.args.query.now (slots_fit (kept_or_viewed db) db c.args.query.now (c.requires.fit db h)) in
     subst (λ x. IfOk c.whole.result (λ made. made ≡ x)) e c.whole.ensures.query
 

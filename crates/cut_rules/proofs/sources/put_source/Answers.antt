@@ -32,10 +32,10 @@ returns-in-Named-clause-cause g c =
     (g.B.Base.database c.args.base.now) (g.B.Base.faults c.args.base.now) (g.B.Base.faults c.named_source.new.base) c.named_source.result)
     (sym c.in-Named.is) c.named_source.ensures.cause
 
-pub returns-in-Rows-clause-told : goal.returns-in-Rows-clause-told
-returns-in-Rows-clause-told g c = λ db h.
+pub returns-in-Rows-clause-known : goal.returns-in-Rows-clause-known
+returns-in-Rows-clause-known g c = λ db h.
     subst (λ x. IfOk c.rows_source.result (λ made. made.0 ≡ x))
-    (rows_put db (who_of (option_map (λ n. n.now) c.args.who)) c.args.source.now c.in-Rows.query c.get.result.now c.in-Rows.is c.get.ensures) (c.rows_source.ensures.told db h)
+    (rows_put db (who_of (option_map (λ n. n.now) c.args.who)) c.args.source.now c.in-Rows.query c.get.result.now c.in-Rows.is c.get.ensures) (c.rows_source.ensures.known db h)
 
 pub returns-in-Rows-clause-cuts : goal.returns-in-Rows-clause-cuts
 returns-in-Rows-clause-cuts g c = λ db h.

@@ -12,9 +12,9 @@ use Rattle.cut_rules.proofs.texts.read_text.Goals as goal
 pub text_at-requires-clause-few : goal.text_at-requires-clause-few
 text_at-requires-clause-few g c = λ db h used. small_there db c.args.query.now c.args.place c.args.key.now (c.requires.small db h) used
 
-pub returns-in-Ok-clause-told : goal.returns-in-Ok-clause-told
+pub returns-in-Ok-clause-known : goal.returns-in-Ok-clause-known
 unfolding text_of
-returns-in-Ok-clause-told g c = λ db h. c.in-Ok.ensures.told db h
+returns-in-Ok-clause-known g c = λ db h. c.in-Ok.ensures.known db h
 
 pub returns-in-Ok-clause-permitted : goal.returns-in-Ok-clause-permitted
 unfolding readable

@@ -3,7 +3,7 @@ use Rattle.view_expand.specs.Asking.{who_of}
 use Rattle.cut_rules.specs.Causes.{HasCause}
 use Rattle.cut_rules.specs.Placed.{IsRefusedAt, is_small_in, may_be_used, text_in}
 use Rattle.cut_rules.proofs.Causing.{failed_behind}
-use Rattle.cut_rules.proofs.Listing.{next_told, here_all, later_all, next_all, next_keys, here_key, next_length}
+use Rattle.cut_rules.proofs.Listing.{next_known, here_all, later_all, next_all, next_keys, here_key, next_length}
 use Rattle.cut_rules.proofs.Refusing.{refused_at}
 use Rattle.cut_rules.proofs.updates.put_each.Goals as goal
 
@@ -23,10 +23,10 @@ pub keys-preserved : goal.keys-preserved
 keys-preserved g c = record {
   place = next_length c.keys.place _ c.in-Some.key.now c.keys.rest.now c.in-Some.others.now c.in-Some.ensures.cases.0 c.keys.invariant.place;
   same_keys = next_keys c.keys.place c.in-Some.key.now c.keys.rest.now c.in-Some.others.now c.args.keys.now c.in-Some.ensures.cases.0 c.keys.invariant.same_keys;
-  told = λ db h.
+  known = λ db h.
       let who = (who_of (option_map (λ n. n.now) c.args.who)) in
-      next_told (text_in db who c.args.u.now) c.keys.place c.in-Some.key.now c.keys.rest.now c.in-Some.others.now c.keys.texts.items _ c.put_behind.new.texts.items c.in_ok-more.more c.in-Some.ensures.cases.0
-      (c.in_ok-more.ensures.told db (c.keys.invariant.kept ∙ h)) c.in_ok-put_behind.ensures.texts (c.keys.invariant.told db h);
+      next_known (text_in db who c.args.u.now) c.keys.place c.in-Some.key.now c.keys.rest.now c.in-Some.others.now c.keys.texts.items _ c.put_behind.new.texts.items c.in_ok-more.more c.in-Some.ensures.cases.0
+      (c.in_ok-more.ensures.known db (c.keys.invariant.kept ∙ h)) c.in_ok-put_behind.ensures.texts (c.keys.invariant.known db h);
   permitted = λ db h.
       let who = (who_of (option_map (λ n. n.now) c.args.who)) in
       next_all (may_be_used db who c.args.u.now) c.keys.place c.in-Some.key.now c.keys.rest.now c.in-Some.others.now _ c.in-Some.ensures.cases.0 (c.in_ok-more.ensures.permitted db (c.keys.invariant.kept ∙ h)) (c.keys.invariant.permitted db h);

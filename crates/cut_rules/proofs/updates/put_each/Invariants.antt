@@ -15,7 +15,7 @@ abbrev pub invariant-keys : goal.invariant-keys
 invariant-keys g l = record {
   place : l.place + length l.rest ≡ length l.keys;
   same_keys : (v : ℕ) → slice_get l.rest v ≡ slice_get l.keys (l.place + v);
-  told : (db : Db) → g.B.Base.database l.initial.base ≡ Some db
+  known : (db : Db) → g.B.Base.database l.initial.base ≡ Some db
       → l.texts.items ++ map (text_in db (who_of (option_map (λ n. n.now) l.who)) l.u) (enumerate_from l.place l.rest)
       ≡ l.fn.texts.items ++ map (text_in db (who_of (option_map (λ n. n.now) l.who)) l.u) (enumerate_from 0 l.keys);
   permitted : (db : Db) → g.B.Base.database l.initial.base ≡ Some db

@@ -25,17 +25,17 @@ put_over_few-requires-clause-few g c = λ db h.
     let k = sym c.in-Ok.ensures.kept ∙ h in
     let who = (who_of (option_map (λ n. n.now) c.args.who)) in
     let made : c.deref.result.now ≡ map (text_in db who c.args.u.now) (enumerate_from 0 (vars_of c.args.u.now.query)) =
-    c.deref.ensures.value ∙ c.in-Ok.ensures.told db k ∙ ap (λ ts. ts ++ map (text_in db who c.args.u.now) (enumerate_from 0 (vars_of c.args.u.now.query))) c.new-texts.ensures.items in
+    c.deref.ensures.value ∙ c.in-Ok.ensures.known db k ∙ ap (λ ts. ts ++ map (text_in db who c.args.u.now) (enumerate_from 0 (vars_of c.args.u.now.query))) c.new-texts.ensures.items in
     subst (λ ts. length (texts_vars ts) ≤ 255) (sym made) (small_texts_in (kept_or_viewed db) db who c.args.u.now (c.requires.fit db k))
 
-pub returns-in-Ok-clause-told : goal.returns-in-Ok-clause-told
+pub returns-in-Ok-clause-known : goal.returns-in-Ok-clause-known
 unfolding put_in_update
-returns-in-Ok-clause-told g c = λ db h.
+returns-in-Ok-clause-known g c = λ db h.
     let who = (who_of (option_map (λ n. n.now) c.args.who)) in
     let made : c.deref.result.now ≡ map (text_in db who c.args.u.now) (enumerate_from 0 (vars_of c.args.u.now.query)) =
-    c.deref.ensures.value ∙ c.in-Ok.ensures.told db h ∙ ap (λ ts. ts ++ map (text_in db who c.args.u.now) (enumerate_from 0 (vars_of c.args.u.now.query))) c.new-texts.ensures.items in
+    c.deref.ensures.value ∙ c.in-Ok.ensures.known db h ∙ ap (λ ts. ts ++ map (text_in db who c.args.u.now) (enumerate_from 0 (vars_of c.args.u.now.query))) c.new-texts.ensures.items in
     subst (λ ts. IfOk c.put_over_few.result (λ made. made ≡ record c.args.u.now { old = put_place ts c.args.u.now; query = put_over db who ts c.args.u.now.query; new_cut = put_cut db who c.args.u.now c.args.u.now.op }))
-    made (c.put_over_few.ensures.told db (c.in-Ok.ensures.kept ∙ h))
+    made (c.put_over_few.ensures.known db (c.in-Ok.ensures.kept ∙ h))
 
 pub returns-in-Ok-clause-permitted : goal.returns-in-Ok-clause-permitted
 returns-in-Ok-clause-permitted g c = λ db h.

@@ -6,10 +6,10 @@ use Rattle.cut_rules.proofs.updates.text_in.Goals as goal
 pub read_text-requires-clause-small : goal.read_text-requires-clause-small
 read_text-requires-clause-small g c = λ db h. small_stays db c.args.u.now c.args.place c.args.key.now c.in-None.ensures (c.requires.small db h)
 
-pub returns-in-Some-clause-told : goal.returns-in-Some-clause-told
-returns-in-Some-clause-told g c = λ db h.
-    subst (λ x. IfOk c.changed_at.result (λ text. text ≡ x)) (changed_text_is db (who_of (option_map (λ n. n.now) c.args.who)) c.args.u.now c.args.place c.args.key.now (right_of c.in-Some.right) c.in-Some.ensures) (c.changed_at.ensures.told db h)
+pub returns-in-Some-clause-known : goal.returns-in-Some-clause-known
+returns-in-Some-clause-known g c = λ db h.
+    subst (λ x. IfOk c.changed_at.result (λ text. text ≡ x)) (changed_text_is db (who_of (option_map (λ n. n.now) c.args.who)) c.args.u.now c.args.place c.args.key.now (right_of c.in-Some.right) c.in-Some.ensures) (c.changed_at.ensures.known db h)
 
-pub returns-in-None-clause-told : goal.returns-in-None-clause-told
-returns-in-None-clause-told g c = λ db h.
-    subst (λ x. IfOk c.read_text.result (λ text. text ≡ x)) (read_text_is db (who_of (option_map (λ n. n.now) c.args.who)) c.args.u.now c.args.place c.args.key.now c.in-None.ensures) (c.read_text.ensures.told db h)
+pub returns-in-None-clause-known : goal.returns-in-None-clause-known
+returns-in-None-clause-known g c = λ db h.
+    subst (λ x. IfOk c.read_text.result (λ text. text ≡ x)) (read_text_is db (who_of (option_map (λ n. n.now) c.args.who)) c.args.u.now c.args.place c.args.key.now c.in-None.ensures) (c.read_text.ensures.known db h)

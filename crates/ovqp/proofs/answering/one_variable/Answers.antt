@@ -10,7 +10,7 @@ use Rattle.ovqp.specs.Given.{given_fault}
 use Rattle.ovqp.proofs.Failing.{product_fails}
 use Rattle.ovqp.proofs.Plain.{same_answer, same_query_lacks}
 use Rattle.ovqp.specs.ProductCauses.{IsCause}
-use Rattle.ovqp.proofs.Assigning.{assigned_used, assigned_unused, told_fails}
+use Rattle.ovqp.proofs.Assigning.{assigned_used, assigned_unused, known_fails}
 use Rattle.ovqp.proofs.answering.one_variable.Goals as goal
 
 pub returns-in_err-given_once-clause-cause : goal.returns-in_err-given_once-clause-cause
@@ -48,7 +48,7 @@ returns-then-is_place_used-clause-plain_lacks g c = λ db e q is none.
 pub returns-then-is_place_used-clause-cause : goal.returns-then-is_place_used-clause-cause
 returns-then-is_place_used-clause-cause g c = λ q is.
     let used : is_any (used_in_query 0 q) ≡ true = sym (c.is_place_used.ensures q is.asks is.gives) ∙ c.if-is_place_used.true in
-    told_fails q c.args.rel.now (g.B.Base.database c.args.base.now) (g.B.Base.faults c.args.base.now) (g.B.Base.faults c.given_by_scan.new.base) c.given_by_scan.result
+    known_fails q c.args.rel.now (g.B.Base.database c.args.base.now) (g.B.Base.faults c.args.base.now) (g.B.Base.faults c.given_by_scan.new.base) c.given_by_scan.result
     (λ db e. assigned_used db q c.args.rel.now is.ranges used (c.requires db e)) (c.given_by_scan.ensures.cause q is)
 
 pub returns-in_ok-given_once-clause-rows : goal.returns-in_ok-given_once-clause-rows

@@ -7,12 +7,12 @@ use Rattle.page_chain.proofs.Handed.{store_on}
 use Rattle.page_chain.proofs.filling.lay.Goals as goal
 
 pub returns-clause-laid : goal.returns-clause-laid
-returns-clause-laid g c m told =
+returns-clause-laid g c m known =
     let before = with_page (page_at c.args.file c.args.first) c.args.page.now m in
     hand_put c.args.file c.args.first c.in_ok-at.at c.lay_pages.new.page c.args.rows.now before (g.S.PageStore.pages c.lay_pages.new.store) (g.S.PageStore.pages c.put.new.self)
     (c.in_ok-at.ensures.hand c.args.first c.args.rows.now before
     (subst (λ l. InHand c.args.file c.args.first c.args.first c.fill.new.page l c.args.rows.now before (g.S.PageStore.pages c.args.store.now)) (sym c.split_at.ensures.back)
-    (hand_first c.args.file c.args.first c.args.page.now c.fill.new.page c.fill.result c.args.rows.now m (g.S.PageStore.pages c.args.store.now) told c.fill.ensures.filled c.fill.ensures.page (c.fill.ensures.next ∙ c.requires.ends))))
+    (hand_first c.args.file c.args.first c.args.page.now c.fill.new.page c.fill.result c.args.rows.now m (g.S.PageStore.pages c.args.store.now) known c.fill.ensures.filled c.fill.ensures.page (c.fill.ensures.next ∙ c.requires.ends))))
     c.in_ok-put.ensures.page
 
 pub returns-clause-came : goal.returns-clause-came

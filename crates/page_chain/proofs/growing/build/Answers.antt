@@ -5,8 +5,8 @@ use Rattle.page_chain.proofs.Handed.{store_carried}
 use Rattle.page_chain.proofs.growing.build.Goals as goal
 
 pub returns-clause-built : goal.returns-clause-built
-returns-clause-built g c m told =
-    is_built c.args.file c.in_ok-last.last c.args.rows.now c.fresh_page.new.out m (g.S.PageStore.pages c.lay.new.store) c.fresh_page.ensures.slots (c.in_ok-last.ensures.laid m told)
+returns-clause-built g c m known =
+    is_built c.args.file c.in_ok-last.last c.args.rows.now c.fresh_page.new.out m (g.S.PageStore.pages c.lay.new.store) c.fresh_page.ensures.slots (c.in_ok-last.ensures.laid m known)
 
 pub returns-clause-others : goal.returns-clause-others
 returns-clause-others g c =

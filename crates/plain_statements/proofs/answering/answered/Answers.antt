@@ -8,8 +8,8 @@ use Rattle.plain_statements.proofs.Effects.{ok_to}
 use Rattle.plain_statements.proofs.Stops.{query_answered}
 use Rattle.plain_statements.proofs.answering.answered.Goals as goal
 
-pub returns-in-Err-clause-told : goal.returns-in-Err-clause-told
-returns-in-Err-clause-told g c = λ db e.
+pub returns-in-Err-clause-known : goal.returns-in-Err-clause-known
+returns-in-Err-clause-known g c = λ db e.
     ok_to (λ reply. (number : ℕ) × (c.from.result ≡ No number) × (reply ≡ Refused (refusal number))) (λ reply. reply ≡ answer_reply db Free c.args.asked.now)
     (λ reply w. query_answered db c.args.asked.now _ _ _ c.in-Err.fault c.from.result reply e c.in-Err.ensures.cause.caused c.from.ensures w)
     c.answer_to.result c.answer_to.ensures.only

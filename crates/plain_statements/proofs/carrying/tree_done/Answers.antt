@@ -13,7 +13,7 @@ returns-in-Answer-clause-done g c = λ files e.
     (λ reply. Leaves (tree_meaning (database_of c.args.base.now) files Free c.args.user.now c.args.tree.now) (database_of c.answered.new.base) (g.H.Shelf.files c.args.shelf.now) reply)
     (answer_done (database_of c.args.base.now) (database_of c.answered.new.base) files (g.H.Shelf.files c.args.shelf.now) e c.args.user.now c.args.tree.now
     c.in-Answer.asked c.items.result.now c.in-Answer.is c.items.ensures c.answered.ensures.kept)
-    c.answered.result (c.answered.ensures.told (database_of c.args.base.now) refl) c.without_shelf.result c.without_shelf.ensures
+    c.answered.result (c.answered.ensures.known (database_of c.args.base.now) refl) c.without_shelf.result c.without_shelf.ensures
 
 pub returns-in-Answer-clause-cause : goal.returns-in-Answer-clause-cause
 returns-in-Answer-clause-cause g c = shelf_unasked (g.H.Shelf.faults c.args.shelf.now) c.answered.result c.without_shelf.result c.without_shelf.ensures

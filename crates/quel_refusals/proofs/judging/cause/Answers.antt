@@ -4,12 +4,12 @@ use Rattle.quel_refusals.proofs.Sourced.{few_in_query}
 use Rattle.quel_refusals.proofs.Standing.{causes_are, none_in_text}
 use Rattle.quel_refusals.proofs.judging.cause.Goals as goal
 
-pub returns-in-Some-clause-told : goal.returns-in-Some-clause-told
-returns-in-Some-clause-told g c = λ scope h u e f o a j.
+pub returns-in-Some-clause-known : goal.returns-in-Some-clause-known
+returns-in-Some-clause-known g c = λ scope h u e f o a j.
     subst (λ cs. IfOk c.changed_cause.result (λ n. n ≡ first_cause cs)) (causes_are scope c.args.s.now c.args.q.now e a)
-    (c.changed_cause.ensures.told scope c.args.q.now h (few_in_query scope c.args.s.now c.args.q.now e) (sym (ap (option_map (λ v. v.now)) c.in-Some.is) ∙ f))
+    (c.changed_cause.ensures.known scope c.args.q.now h (few_in_query scope c.args.s.now c.args.q.now e) (sym (ap (option_map (λ v. v.now)) c.in-Some.is) ∙ f))
 
-pub returns-in-None-clause-told : goal.returns-in-None-clause-told
-returns-in-None-clause-told g c = λ scope h u e f o a j.
+pub returns-in-None-clause-known : goal.returns-in-None-clause-known
+returns-in-None-clause-known g c = λ scope h u e f o a j.
     subst (λ cs. IfOk c.unchanged_cause.result (λ n. n ≡ first_cause cs)) (causes_are scope c.args.s.now c.args.q.now e a)
-    (c.unchanged_cause.ensures.told scope h u (few_in_query scope c.args.s.now c.args.q.now e) (none_in_text scope c.args.s.now c.args.q.now e a) (sym (ap (option_map (λ v. v.now)) c.in-None.is) ∙ f) o j)
+    (c.unchanged_cause.ensures.known scope h u (few_in_query scope c.args.s.now c.args.q.now e) (none_in_text scope c.args.s.now c.args.q.now e a) (sym (ap (option_map (λ v. v.now)) c.in-None.is) ∙ f) o j)

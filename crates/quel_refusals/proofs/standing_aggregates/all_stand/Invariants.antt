@@ -10,7 +10,7 @@ use Rattle.quel_refusals.proofs.standing_aggregates.all_stand.Given as goal
 
 abbrev pub invariant-loop-aggregate : goal.invariant-loop-aggregate
 invariant-loop-aggregate g l = record {
-  told : (s : Scope) → g.B.Base.schema l.initial.base ≡ Some s.db → s.ranges ≡ l.ranges → list_all (λ a. each_ranges s (front (aggregate_vars a))) (map (λ a. a.now) l.aggregates) ≡ true → list_all (λ a. aggregate_stands s a.now) (take l.aggregate-index l.aggregates) ≡ true;
+  known : (s : Scope) → g.B.Base.schema l.initial.base ≡ Some s.db → s.ranges ≡ l.ranges → list_all (λ a. each_ranges s (front (aggregate_vars a))) (map (λ a. a.now) l.aggregates) ≡ true → list_all (λ a. aggregate_stands s a.now) (take l.aggregate-index l.aggregates) ≡ true;
   kept : g.B.Base.database l.base ≡ g.B.Base.database l.initial.base;
   stays : (s : Db) → g.B.Base.schema l.initial.base ≡ Some s → g.B.Base.schema l.base ≡ Some s;
   asked : (b : _) → g.B.Base.asked b l.initial.base → g.B.Base.asked b l.base;

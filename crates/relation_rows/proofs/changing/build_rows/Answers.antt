@@ -11,7 +11,7 @@ returns-clause-came g c = c.build.ensures.came
 pub returns-clause-built : goal.returns-clause-built
 returns-clause-built g c m t differ =
     subst (λ (made : RelFile). HasSet c.args.file.domains c.args.file.file made.used (set_of c.args.rows.now) (g.S.PageStore.pages c.build.new.store)) (sym c.info.ensures)
-    (set_built c.args.file c.in_ok-heap.heap.file c.args.rows.now (g.S.PageStore.pages c.build.new.store) c.in_ok-heap.ensures.file differ (c.in_ok-heap.ensures.told m t))
+    (set_built c.args.file c.in_ok-heap.heap.file c.args.rows.now (g.S.PageStore.pages c.build.new.store) c.in_ok-heap.ensures.file differ (c.in_ok-heap.ensures.known m t))
 
 pub returns-clause-some : goal.returns-clause-some
 returns-clause-some g c = subst (λ (made : RelFile). 1 ≤ made.used) (sym c.info.ensures) c.in_ok-heap.heap.pages

@@ -15,7 +15,7 @@ returns-in_err-near-clause-cause g c =
     let old = g.S.PageStore.pages c.args.store.now in
     let start = g.S.PageStore.faults c.args.store.now in
     cause_carried old old (HeapFault c.open_method-method.result.heap.file) (HasNoneOf c.args.file c.args.remove.now) start start (g.S.PageStore.faults c.pages_near.new.store) c.in_err-near.field-0.0 (omega arith)
-    (λ a at m told. holds_none c.args.file c.args.remove.now m a (subst (λ file. HeapFault file m a) c.open_method-method.ensures (at m told)))
+    (λ a at m known. holds_none c.args.file c.args.remove.now m a (subst (λ file. HeapFault file m a) c.open_method-method.ensures (at m known)))
     c.in_err-near.ensures.cause c.from_residual.result c.from_residual.ensures.1
 
 pub returns-in_err-replace_near-clause-cause : goal.returns-in_err-replace_near-clause-cause
@@ -24,7 +24,7 @@ returns-in_err-replace_near-clause-cause g c =
     let mid = g.S.PageStore.pages c.pages_near.new.store in
     cause_carried old mid (HeapFault c.open_method-method.result.heap.file) (HasNoneOf c.args.file c.args.remove.now) (g.S.PageStore.faults c.args.store.now) (g.S.PageStore.faults c.pages_near.new.store)
     (g.S.PageStore.faults c.replace_near.new.store) c.in_err-replace_near.field-0.0 c.in_ok-near.ensures.cause.caused
-    (λ a at m told. holds_none c.args.file c.args.remove.now m a (subst (λ file. HeapFault file m a) c.open_method-method.ensures (at m (c.in_ok-near.ensures.same ∙ told))))
+    (λ a at m known. holds_none c.args.file c.args.remove.now m a (subst (λ file. HeapFault file m a) c.open_method-method.ensures (at m (c.in_ok-near.ensures.same ∙ known))))
     c.in_err-replace_near.ensures.cause c.from_residual-in_err-replace_near.result c.from_residual-in_err-replace_near.ensures.1
 
 pub returns-then-not-branch-clause-cause : goal.returns-then-not-branch-clause-cause
@@ -33,7 +33,7 @@ returns-then-not-branch-clause-cause g c = record {
   caused = (
     λ m t rows set differ there.
         true≢false (sym (all_went c.args.file c.replace_near.new.self.heap.file m rows c.args.remove.now c.args.add.now (g.S.PageStore.pages c.replace_near.new.store) c.in_ok-replace_near.field-0 set differ there
-        (λ placed are. c.in_ok-replace_near.ensures.told m placed (c.in_ok-near.ensures.same ∙ t) (ap (λ file. heap_rows file m) c.open_method-method.ensures ∙ are))) ∙ c.if-not-branch.true),
+        (λ placed are. c.in_ok-replace_near.ensures.known m placed (c.in_ok-near.ensures.same ∙ t) (ap (λ file. heap_rows file m) c.open_method-method.ensures ∙ are))) ∙ c.if-not-branch.true),
     c.in_ok-replace_near.ensures.cause.caused ∙ c.in_ok-near.ensures.cause.caused,
   );
 }
@@ -42,13 +42,13 @@ pub returns-clause-changed : goal.returns-clause-changed
 returns-clause-changed g c m rows t set differ there once new =
     subst (λ used. HasSet c.args.file.domains c.args.file.file used (with_rows c.args.add.now (without_rows c.args.remove.now rows)) (g.S.PageStore.pages c.replace_near.new.store)) (ap (λ file. file.used) (sym c.info.ensures))
     (set_after c.args.file c.replace_near.new.self.heap.file m rows c.args.remove.now c.args.add.now (g.S.PageStore.pages c.replace_near.new.store) c.in_ok-replace_near.field-0 set differ there
-    (λ placed are. c.in_ok-replace_near.ensures.told m placed (c.in_ok-near.ensures.same ∙ t) (ap (λ file. heap_rows file m) c.open_method-method.ensures ∙ are))
+    (λ placed are. c.in_ok-replace_near.ensures.known m placed (c.in_ok-near.ensures.same ∙ t) (ap (λ file. heap_rows file m) c.open_method-method.ensures ∙ are))
     (subst (λ file. SameButUsed file c.replace_near.new.self.heap.file) c.open_method-method.ensures c.in_ok-replace_near.ensures.file) once new)
 
 pub returns-clause-others : goal.returns-clause-others
 returns-clause-others g c =
     subst (λ file. KeepsOthers file (g.S.PageStore.pages c.args.store.now) (g.S.PageStore.pages c.replace_near.new.store)) (ap (λ file. file.file) c.open_method-method.ensures)
-    (subst (λ told. KeepsOthers c.open_method-method.result.heap.file.file told (g.S.PageStore.pages c.replace_near.new.store)) c.in_ok-near.ensures.same c.in_ok-replace_near.ensures.others)
+    (subst (λ known. KeepsOthers c.open_method-method.result.heap.file.file known (g.S.PageStore.pages c.replace_near.new.store)) c.in_ok-near.ensures.same c.in_ok-replace_near.ensures.others)
 
 pub replace_near-requires-clause-going : goal.replace_near-requires-clause-going
 replace_near-requires-clause-going g c = subst (λ (file : RelFile). All (λ row. IsTrue (is_row row file.domains)) c.args.remove.now) (sym c.open_method-method.ensures) c.requires.going

@@ -7,24 +7,24 @@ use Rattle.am_traits.specs.Scans.{Gave, first_place, next_meeting}
 use Rattle.utilities.proofs.Breaking.{found, passed, ended, one_fewer, of_all, too_many}
 use Rattle.utilities.proofs.judging.some_row_fails.Goals as goal
 
-pub returns-then-branch-clause-told : goal.returns-then-branch-clause-told
-returns-then-branch-clause-told g c = λ db e.
+pub returns-then-branch-clause-known : goal.returns-then-branch-clause-known
+returns-then-branch-clause-known g c = λ db e.
     let probe : Probe = c.args.probe.now in
     let left = g.B.Base.left c.args.base.now c.args.key.now in
     let gave = subst (λ o. Gave probe (g.B.Base.left c.loop-call.base c.args.key.now c.loop-call.place) (g.B.Base.left c.loop-call.base c.args.key.now c.scan.new.at) o)
-    c.in-Some.is (c.in_ok-row.ensures.told db (c.loop-call.invariant.kept ∙ e)) in
+    c.in-Some.is (c.in_ok-row.ensures.known db (c.loop-call.invariant.kept ∙ e)) in
     let met = subst (λ given. next_meeting probe (given c.args.key.now c.loop-call.place) ≡ Some (c.in-Some.row, given c.args.key.now c.scan.new.at)) c.loop-call.invariant.same gave in
     of_all (λ (row : Row). not (holds no_aggs c.args.qual.now (row ∷ []))) (rows_at db c.args.key.now) (left first_place) true (g.B.Base.scanned c.args.base.now db c.args.key.now e)
     (c.loop-call.invariant.so_far db e
     ∙ found (λ (row : Row). not (holds no_aggs c.args.qual.now (row ∷ []))) probe (left c.loop-call.place) (left c.scan.new.at) c.in-Some.row c.requires.any met
     (sym c.in_ok-fails-in-Some.ensures.fails ∙ c.if-branch.true))
 
-pub returns-in-None-clause-told : goal.returns-in-None-clause-told
-returns-in-None-clause-told g c = λ db e.
+pub returns-in-None-clause-known : goal.returns-in-None-clause-known
+returns-in-None-clause-known g c = λ db e.
     let probe : Probe = c.args.probe.now in
     let left = g.B.Base.left c.args.base.now c.args.key.now in
     let gave = subst (λ o. Gave probe (g.B.Base.left c.loop-call.base c.args.key.now c.loop-call.place) (g.B.Base.left c.loop-call.base c.args.key.now c.scan.new.at) o)
-    c.in-None.is (c.in_ok-row.ensures.told db (c.loop-call.invariant.kept ∙ e)) in
+    c.in-None.is (c.in_ok-row.ensures.known db (c.loop-call.invariant.kept ∙ e)) in
     let met = subst (λ given. next_meeting probe (given c.args.key.now c.loop-call.place) ≡ None) c.loop-call.invariant.same gave in
     of_all (λ (row : Row). not (holds no_aggs c.args.qual.now (row ∷ []))) (rows_at db c.args.key.now) (left first_place) false (g.B.Base.scanned c.args.base.now db c.args.key.now e)
     (c.loop-call.invariant.so_far db e ∙ ended (λ (row : Row). not (holds no_aggs c.args.qual.now (row ∷ []))) probe (left c.loop-call.place) c.requires.any met)
@@ -41,14 +41,14 @@ loop-call-preserved g c = record {
       let probe : Probe = c.args.probe.now in
       let left = g.B.Base.left c.args.base.now c.args.key.now in
       let gave = subst (λ o. Gave probe (g.B.Base.left c.loop-call.base c.args.key.now c.loop-call.place) (g.B.Base.left c.loop-call.base c.args.key.now c.scan.new.at) o)
-      c.in-Some.is (c.in_ok-row.ensures.told db (c.loop-call.invariant.kept ∙ e)) in
+      c.in-Some.is (c.in_ok-row.ensures.known db (c.loop-call.invariant.kept ∙ e)) in
       let met = subst (λ given. next_meeting probe (given c.args.key.now c.loop-call.place) ≡ Some (c.in-Some.row, given c.args.key.now c.scan.new.at)) c.loop-call.invariant.same gave in
       one_fewer probe (left c.loop-call.place) (left c.scan.new.at) c.in-Some.row c.loop-call.call (length (left first_place)) c.requires.any met (c.loop-call.invariant.counted db e);
   so_far = λ db e.
       let probe : Probe = c.args.probe.now in
       let left = g.B.Base.left c.args.base.now c.args.key.now in
       let gave = subst (λ o. Gave probe (g.B.Base.left c.loop-call.base c.args.key.now c.loop-call.place) (g.B.Base.left c.loop-call.base c.args.key.now c.scan.new.at) o)
-      c.in-Some.is (c.in_ok-row.ensures.told db (c.loop-call.invariant.kept ∙ e)) in
+      c.in-Some.is (c.in_ok-row.ensures.known db (c.loop-call.invariant.kept ∙ e)) in
       let met = subst (λ given. next_meeting probe (given c.args.key.now c.loop-call.place) ≡ Some (c.in-Some.row, given c.args.key.now c.scan.new.at)) c.loop-call.invariant.same gave in
       c.loop-call.invariant.so_far db e
       ∙ passed (λ (row : Row). not (holds no_aggs c.args.qual.now (row ∷ []))) probe (left c.loop-call.place) (left c.scan.new.at) c.in-Some.row c.requires.any met

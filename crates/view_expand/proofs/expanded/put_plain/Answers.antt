@@ -15,7 +15,7 @@ returns-in-Ok-clause-cause g c =
     (λ db h.
     let source = text_within c.args.levels db (who_of (option_map (λ n. n.now) c.args.who)) in
     let made : c.deref.result.now ≡ query_texts source c.args.query.now =
-    c.deref.ensures.value ∙ c.in-Ok.ensures.told db h ∙ ap (λ ts. ts ++ query_texts source c.args.query.now) c.new-texts.ensures.items in
+    c.deref.ensures.value ∙ c.in-Ok.ensures.known db h ∙ ap (λ ts. ts ++ query_texts source c.args.query.now) c.new-texts.ensures.items in
     let same : length (texts_vars c.deref.result.now) ≡ length (texts_vars (query_texts source c.args.query.now)) = ap (λ ts. length (texts_vars ts)) made in
     omega (arith, same, texts_few db (who_of (option_map (λ n. n.now) c.args.who)) c.args.levels c.args.query.now, c.requires.expanded db h))
     c.query_over.ensures.cause

@@ -18,12 +18,12 @@ use Rattle.view_expand.proofs.Listing.{any_where_some, some_used}
 use Rattle.view_expand.proofs.Viewing.{permitted_of_view, permitted_past, measure_of_view, few_listed, text_of_kept, permitted_of_kept, vars_is, is_text_of}
 use Rattle.view_expand.proofs.walk.+texts.Goals as goal
 
-pub text_at-returns-clause-told : goal.text_at-returns-clause-told
-text_at-returns-clause-told g t c = λ db h.
+pub text_at-returns-clause-known : goal.text_at-returns-clause-known
+text_at-returns-clause-known g t c = λ db h.
     let source = text_within c.args.levels db (who_of (option_map (λ n. n.now) c.args.who)) in
     let attrs : c.deref.result.now ≡ used_in_query c.args.place c.args.query.now = c.deref.ensures.value ∙ c.in_ok-attrs.ensures in
     let e = ap (source c.args.key.now) attrs ∙ some_used source c.args.key.now (used_in_query c.args.place c.args.query.now) (ap is_any (sym c.in_ok-attrs.ensures) ∙ any_where_some c.in_ok-attrs.attrs.items (grind arith)) in
-    subst (λ x. IfOk c.text_through.result (λ text. text ≡ x)) e (c.text_through.ensures.told db h)
+    subst (λ x. IfOk c.text_through.result (λ text. text ≡ x)) e (c.text_through.ensures.known db h)
 
 pub text_of_view-returns-then-levels-eq0-clause-cause : goal.text_of_view-returns-then-levels-eq0-clause-cause
 text_of_view-returns-then-levels-eq0-clause-cause g t c = record {
@@ -40,14 +40,14 @@ text_of_view-rows_through-requires g t c =
     omega (arith, e, c.requires.few db h) in
     search (rules, listed, expanded)
 
-pub text_anew-returns-in-None-clause-told : goal.text_anew-returns-in-None-clause-told
-text_anew-returns-in-None-clause-told g t c = λ db h.
-    let e = text_of_kept c.args.levels db (who_of (option_map (λ n. n.now) c.args.who)) c.args.key.now c.args.attrs.now (sym c.in-None.is ∙ c.in_ok-query.ensures.told db (g.B.Base.own c.args.base.now db h)) in
-    subst (λ x. IfOk c.plain_text.result (λ text. text ≡ x)) e (c.plain_text.ensures.told db (c.in_ok-query.ensures.kept ∙ h))
+pub text_anew-returns-in-None-clause-known : goal.text_anew-returns-in-None-clause-known
+text_anew-returns-in-None-clause-known g t c = λ db h.
+    let e = text_of_kept c.args.levels db (who_of (option_map (λ n. n.now) c.args.who)) c.args.key.now c.args.attrs.now (sym c.in-None.is ∙ c.in_ok-query.ensures.known db (g.B.Base.own c.args.base.now db h)) in
+    subst (λ x. IfOk c.plain_text.result (λ text. text ≡ x)) e (c.plain_text.ensures.known db (c.in_ok-query.ensures.kept ∙ h))
 
 pub text_anew-returns-in-None-clause-permitted : goal.text_anew-returns-in-None-clause-permitted
 text_anew-returns-in-None-clause-permitted g t c = λ db h.
-    let e = permitted_of_kept c.args.levels db (who_of (option_map (λ n. n.now) c.args.who)) c.args.key.now c.args.attrs.now (sym c.in-None.is ∙ c.in_ok-query.ensures.told db (g.B.Base.own c.args.base.now db h)) in
+    let e = permitted_of_kept c.args.levels db (who_of (option_map (λ n. n.now) c.args.who)) c.args.key.now c.args.attrs.now (sym c.in-None.is ∙ c.in_ok-query.ensures.known db (g.B.Base.own c.args.base.now db h)) in
     subst (λ b. OnOk c.plain_text.result (b ≡ true)) e (c.plain_text.ensures.permitted db (c.in_ok-query.ensures.kept ∙ h))
 
 pub text_anew-returns-in-None-clause-cause : goal.text_anew-returns-in-None-clause-cause
@@ -56,7 +56,7 @@ text_anew-returns-in-None-clause-cause g t c =
     (λ db. permitted_within c.args.levels db (who_of (option_map (λ n. n.now) c.args.who)) c.args.key.now c.args.attrs.now ≡ false)
     (g.B.Base.database c.args.base.now) (g.B.Base.database c.view.new.self) (g.B.Base.faults c.args.base.now) (g.B.Base.faults c.view.new.self) (g.B.Base.faults c.plain_text.new.base) c.plain_text.result
     c.in_ok-query.ensures.kept c.in_ok-query.ensures.cause.caused
-    (λ db h e. sym (permitted_of_kept c.args.levels db (who_of (option_map (λ n. n.now) c.args.who)) c.args.key.now c.args.attrs.now (sym c.in-None.is ∙ c.in_ok-query.ensures.told db (g.B.Base.own c.args.base.now db h))) ∙ e)
+    (λ db h e. sym (permitted_of_kept c.args.levels db (who_of (option_map (λ n. n.now) c.args.who)) c.args.key.now c.args.attrs.now (sym c.in-None.is ∙ c.in_ok-query.ensures.known db (g.B.Base.own c.args.base.now db h))) ∙ e)
     c.plain_text.ensures.cause
 
 pub rows_through-returns-in-Ok-clause-cause : goal.rows_through-returns-in-Ok-clause-cause
@@ -66,14 +66,14 @@ rows_through-returns-in-Ok-clause-cause g t c =
     (λ db h.
     let source = text_within c.args.levels db (who_of (option_map (λ n. n.now) c.args.who)) in
     let made : c.deref.result.now ≡ query_texts source c.args.query.now =
-    c.deref.ensures.value ∙ c.in-Ok.ensures.told db h ∙ ap (λ ts. ts ++ texts_at source c.args.query.now 0 c.items-keys.result.now) c.new-texts.ensures.items
+    c.deref.ensures.value ∙ c.in-Ok.ensures.known db h ∙ ap (λ ts. ts ++ texts_at source c.args.query.now 0 c.items-keys.result.now) c.new-texts.ensures.items
     ∙ ap (texts_at source c.args.query.now 0) (c.items-keys.ensures ∙ vars_is c.args.query.now) in
     let same : length (texts_vars c.deref.result.now) ≡ length (texts_vars (query_texts source c.args.query.now)) = ap (λ ts. length (texts_vars ts)) made in
     omega (arith, same, texts_few db (who_of (option_map (λ n. n.now) c.args.who)) c.args.levels c.args.query.now, c.requires.expanded db h))
     c.rows_of.ensures.cause
 
-pub text_through-returns-in-Some-clause-told : goal.text_through-returns-in-Some-clause-told
-text_through-returns-in-Some-clause-told g t c = λ db h.
+pub text_through-returns-in-Some-clause-known : goal.text_through-returns-in-Some-clause-known
+text_through-returns-in-Some-clause-known g t c = λ db h.
     let k : IsTextOf db (who_of (option_map (λ n. n.now) c.args.who)) c.args.key.now c.args.levels c.in-Some.text =
     subst (λ o. IfSome o (IsTextOf db (who_of (option_map (λ n. n.now) c.args.who)) c.args.key.now c.args.levels)) c.in-Some.is (c.in_ok-text.ensures.text db (who_of (option_map (λ n. n.now) c.args.who)) (c.requires.found db h)) in
     k.is c.args.attrs.now
@@ -84,13 +84,13 @@ text_through-returns-in-Some-clause-permitted g t c = λ db h.
     subst (λ o. IfSome o (IsTextOf db (who_of (option_map (λ n. n.now) c.args.who)) c.args.key.now c.args.levels)) c.in-Some.is (c.in_ok-text.ensures.text db (who_of (option_map (λ n. n.now) c.args.who)) (c.requires.found db h)) in
     k.permitted c.args.attrs.now
 
-pub text_anew-returns-in-Some-clause-told : goal.text_anew-returns-in-Some-clause-told
-text_anew-returns-in-Some-clause-told g t c = λ db h.
-    answered db (who_of (option_map (λ n. n.now) c.args.who)) c.args.key.now c.args.levels c.args.attrs.now c.text_of_view-text.result (c.text_of_view-text.ensures.told db (c.in_ok-query.ensures.kept ∙ h))
+pub text_anew-returns-in-Some-clause-known : goal.text_anew-returns-in-Some-clause-known
+text_anew-returns-in-Some-clause-known g t c = λ db h.
+    answered db (who_of (option_map (λ n. n.now) c.args.who)) c.args.key.now c.args.levels c.args.attrs.now c.text_of_view-text.result (c.text_of_view-text.ensures.known db (c.in_ok-query.ensures.kept ∙ h))
 
 pub text_anew-returns-in-Some-clause-permitted : goal.text_anew-returns-in-Some-clause-permitted
 text_anew-returns-in-Some-clause-permitted g t c = λ db h.
-    answer_permitted db (who_of (option_map (λ n. n.now) c.args.who)) c.args.key.now c.args.levels c.args.attrs.now c.text_of_view-text.result (c.text_of_view-text.ensures.told db (c.in_ok-query.ensures.kept ∙ h))
+    answer_permitted db (who_of (option_map (λ n. n.now) c.args.who)) c.args.key.now c.args.levels c.args.attrs.now c.text_of_view-text.result (c.text_of_view-text.ensures.known db (c.in_ok-query.ensures.kept ∙ h))
 
 pub text_anew-returns-in-Some-clause-cause : goal.text_anew-returns-in-Some-clause-cause
 text_anew-returns-in-Some-clause-cause g t c =
@@ -99,19 +99,19 @@ text_anew-returns-in-Some-clause-cause g t c =
     (g.B.Base.database c.args.base.now) (g.B.Base.database c.view.new.self) (g.B.Base.faults c.args.base.now) (g.B.Base.faults c.view.new.self) (g.B.Base.faults c.text_of_view-text.new.base) c.text_of_view-text.result
     c.in_ok-query.ensures.kept c.in_ok-query.ensures.cause.caused (λ db h e. e c.args.attrs.now) c.text_of_view-text.ensures.cause
 
-pub text_of_view-returns-in-Ok-kept-clause-told : goal.text_of_view-returns-in-Ok-kept-clause-told
-text_of_view-returns-in-Ok-kept-clause-told g t c = λ db h.
-    let one = is_text_of c.args.levels db (g.B.Base.lawful c.args.base.now db (g.B.Base.own c.args.base.now db h)) (who_of (option_map (λ n. n.now) c.args.who)) c.args.key.now c.args.query.now (omega arith) (c.requires.stands db h) c.in-Ok.text (c.in-Ok.ensures.told db h) (c.in-Ok.ensures.permitted db h) in
+pub text_of_view-returns-in-Ok-kept-clause-known : goal.text_of_view-returns-in-Ok-kept-clause-known
+text_of_view-returns-in-Ok-kept-clause-known g t c = λ db h.
+    let one = is_text_of c.args.levels db (g.B.Base.lawful c.args.base.now db (g.B.Base.own c.args.base.now db h)) (who_of (option_map (λ n. n.now) c.args.who)) c.args.key.now c.args.query.now (omega arith) (c.requires.stands db h) c.in-Ok.text (c.in-Ok.ensures.known db h) (c.in-Ok.ensures.permitted db h) in
     subst (IsTextOf db (who_of (option_map (λ n. n.now) c.args.who)) c.args.key.now c.args.levels) (sym c.in-Ok-kept.ensures.text) one
 
 pub text_of_view-returns-in-Ok-kept-clause-found : goal.text_of_view-returns-in-Ok-kept-clause-found
 text_of_view-returns-in-Ok-kept-clause-found g t c = λ db h.
-    let one = is_text_of c.args.levels db (g.B.Base.lawful c.args.base.now db (g.B.Base.own c.args.base.now db h)) (who_of (option_map (λ n. n.now) c.args.who)) c.args.key.now c.args.query.now (omega arith) (c.requires.stands db h) c.in-Ok.text (c.in-Ok.ensures.told db h) (c.in-Ok.ensures.permitted db h) in
+    let one = is_text_of c.args.levels db (g.B.Base.lawful c.args.base.now db (g.B.Base.own c.args.base.now db h)) (who_of (option_map (λ n. n.now) c.args.who)) c.args.key.now c.args.query.now (omega arith) (c.requires.stands db h) c.in-Ok.text (c.in-Ok.ensures.known db h) (c.in-Ok.ensures.permitted db h) in
     c.kept.ensures.found db (who_of (option_map (λ n. n.now) c.args.who)) (c.rows_through.ensures.found db h) one
 
 pub text_of_view-returns-in-Err-kept-clause-found : goal.text_of_view-returns-in-Err-kept-clause-found
 text_of_view-returns-in-Err-kept-clause-found g t c = λ db h.
-    let one = is_text_of c.args.levels db (g.B.Base.lawful c.args.base.now db (g.B.Base.own c.args.base.now db h)) (who_of (option_map (λ n. n.now) c.args.who)) c.args.key.now c.args.query.now (omega arith) (c.requires.stands db h) c.in-Ok.text (c.in-Ok.ensures.told db h) (c.in-Ok.ensures.permitted db h) in
+    let one = is_text_of c.args.levels db (g.B.Base.lawful c.args.base.now db (g.B.Base.own c.args.base.now db h)) (who_of (option_map (λ n. n.now) c.args.who)) c.args.key.now c.args.query.now (omega arith) (c.requires.stands db h) c.in-Ok.text (c.in-Ok.ensures.known db h) (c.in-Ok.ensures.permitted db h) in
     c.kept.ensures.found db (who_of (option_map (λ n. n.now) c.args.who)) (c.rows_through.ensures.found db h) one
 
 pub text_of_view-returns-in-Err-clause-cause : goal.text_of_view-returns-in-Err-clause-cause

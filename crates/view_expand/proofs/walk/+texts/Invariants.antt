@@ -34,7 +34,7 @@ decreases-put_texts-keys g l = length l.rest
 abbrev pub invariant-put_texts-keys : goal.invariant-put_texts-keys
 invariant-put_texts-keys g l = record {
   place : l.place + length l.rest ≡ length l.keys;
-  told : (db : Db) → g.B.Base.database l.initial.base ≡ Some db
+  known : (db : Db) → g.B.Base.database l.initial.base ≡ Some db
       → l.texts.items ++ texts_at (text_within l.levels db (who_of (option_map (λ n. n.now) l.who))) l.query l.place l.rest
       ≡ l.fn.texts.items ++ texts_at (text_within l.levels db (who_of (option_map (λ n. n.now) l.who))) l.query 0 l.keys;
   permitted : (db : Db) → g.B.Base.database l.initial.base ≡ Some db

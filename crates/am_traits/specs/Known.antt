@@ -1,4 +1,4 @@
--- What a database that is told answers.
+-- What a database that is known answers.
 use Rattle.std.specs.Prelude.{Bool, not, ◌&&◌, List, Option, Some, None, option_map}
 use Rattle.std.specs.List.{list_any}
 use Rattle.calculus.specs.declared.query.RelKey.{RelKey}

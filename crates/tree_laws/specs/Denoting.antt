@@ -16,6 +16,6 @@ pub record HasRow (db : Db) (text : Text) (row : Row) (e : Env) : Type 0 where
   pub values : (a : ℕ) → val no_aggs (attr_term text a) e ≡ slice_get row a
 
 -- a text tells of rows: each assignment of kept rows in which its conditions hold has one of them, and each of them is had in one
-pub record TellsOf (db : Db) (rows : List Row) (text : Text) : Type 0 where
+pub record DenotesOf (db : Db) (rows : List Row) (text : Text) : Type 0 where
   pub one_of_them : (e : Env) → Contains (choices (map (rows_at db) text.vars)) e → list_all (λ q. holds no_aggs q e) text.conditions ≡ true → (row : Row) × Contains rows row × HasRow db text row e
   pub each_of_them : (row : Row) → Contains rows row → (e : Env) × HasRow db text row e

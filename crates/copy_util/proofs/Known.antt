@@ -1,4 +1,4 @@
--- Faults that come only where no database is told.
+-- Faults that come only where no database is known.
 use Rattle.std.proofs.Common.{◌≡◌, refl, sym, ap, ◌∙◌, subst, ℕ, suc, ◌+◌, ◌<◌, ◌≤◌, List, [], ◌∷◌, Option, Some, None, map, length, arith}
 use Rattle.std.specs.Prelude.{Result, Ok, Err, IfErr}
 use Rattle.std.specs.List.{concat}
@@ -20,20 +20,20 @@ use Rattle.copy_util.specs.Writing.{IsLarge}
 use Rattle.copy_util.specs.declared.fault.CopyFault.{CopyFault}
 use Rattle.copy_util.specs.declared.fault.CopyFault.TheVariants.{No, BadRow, NoFile, Shelf, Base, OutOfMemory}
 
--- nothing is told where it can't be
-pub not_told : {X : Type 0} (told : Option X) → ((x : X) → told ≡ Some x → ⊥) → told ≡ None
-not_told None no_one = refl
-not_told (Some x) no_one = absurd (no_one x refl)
+-- nothing is known where it can't be
+pub not_known : {X : Type 0} (known : Option X) → ((x : X) → known ≡ Some x → ⊥) → known ≡ None
+not_known None no_one = refl
+not_known (Some x) no_one = absurd (no_one x refl)
 
 -- what isn't of the database is caused by nothing of it, where the count stayed
-pub not_of_base : {T : Type 0} (told : Option Db) (before now : ℕ) (result : Result T CopyFault) → now ≡ before → (IsOfBase result → ⊥) → copy.IsCaused told before now result
-not_of_base told before now (Ok x) stayed other = stayed
-not_of_base told before now (Err (No number)) stayed other = stayed
-not_of_base told before now (Err (BadRow row)) stayed other = stayed
-not_of_base told before now (Err NoFile) stayed other = stayed
-not_of_base told before now (Err Shelf) stayed other = stayed
-not_of_base told before now (Err (Base fault)) stayed other = absurd (other tt)
-not_of_base told before now (Err OutOfMemory) stayed other = stayed
+pub not_of_base : {T : Type 0} (known : Option Db) (before now : ℕ) (result : Result T CopyFault) → now ≡ before → (IsOfBase result → ⊥) → copy.IsCaused known before now result
+not_of_base known before now (Ok x) stayed other = stayed
+not_of_base known before now (Err (No number)) stayed other = stayed
+not_of_base known before now (Err (BadRow row)) stayed other = stayed
+not_of_base known before now (Err NoFile) stayed other = stayed
+not_of_base known before now (Err Shelf) stayed other = stayed
+not_of_base known before now (Err (Base fault)) stayed other = absurd (other tt)
+not_of_base known before now (Err OutOfMemory) stayed other = stayed
 
 -- ---- the number of a bad row
 
@@ -64,15 +64,15 @@ bad_within columns rows bad e = go (numbered_from 1 (map (record_bytes columns) 
         let less : n < 1 + length (map (record_bytes columns) rows) = numbered_within 1 (map (record_bytes columns) rows) n f in
         omega (arith, same, less, mapped rows)
 
--- a number that doesn't fit comes only where no database is told
-pub numbered_cause : (told : Option Db) (rel : RelKey) (columns : List CopyCol) (out : List ℕ) (bad : Option ℕ) (before now : ℕ) (result : Result (Option ℕ) BaseFault) → now ≡ before
-    → ((db : Db) → told ≡ Some db → IsDatabase db) → ((db : Db) → told ≡ Some db → file_of_rows columns (rows_at db rel) ≡ up_to_bad out bad)
-    → IfErr result (λ fault. (fault ≡ Damaged 0 0) × IsLarge bad) → IsCaused told before now result
-numbered_cause told rel columns out bad before now (Ok answer) stayed lawful is large = stayed
-numbered_cause told rel columns out None before now (Err fault) stayed lawful is large = absurd large.1
-numbered_cause told rel columns out (Some n) before now (Err fault) stayed lawful is large =
-    subst (MayCome told before now) (sym large.0) (
-      not_told told (λ db e.
+-- a number that doesn't fit comes only where no database is known
+pub numbered_cause : (known : Option Db) (rel : RelKey) (columns : List CopyCol) (out : List ℕ) (bad : Option ℕ) (before now : ℕ) (result : Result (Option ℕ) BaseFault) → now ≡ before
+    → ((db : Db) → known ≡ Some db → IsDatabase db) → ((db : Db) → known ≡ Some db → file_of_rows columns (rows_at db rel) ≡ up_to_bad out bad)
+    → IfErr result (λ fault. (fault ≡ Damaged 0 0) × IsLarge bad) → IsCaused known before now result
+numbered_cause known rel columns out bad before now (Ok answer) stayed lawful is large = stayed
+numbered_cause known rel columns out None before now (Err fault) stayed lawful is large = absurd large.1
+numbered_cause known rel columns out (Some n) before now (Err fault) stayed lawful is large =
+    subst (MayCome known before now) (sym large.0) (
+      not_known known (λ db e.
           let within : n ≤ length (rows_at db rel) = bad_within columns (rows_at db rel) n (is db e) in
           omega (arith, within, few_rows db rel (lawful db e), large.1)),
       stayed,

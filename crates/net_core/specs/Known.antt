@@ -5,7 +5,7 @@ use Rattle.std.specs.Io.KnownBytes.{Appends}
 use Rattle.calculus.specs.Database.{Db}
 use Rattle.fault_io.specs.Files.{Files, stored}
 use Rattle.fault_io.specs.Shelves.{MayHaveStored}
-use Rattle.network_meaning.specs.Calls.{Tells, Told}
+use Rattle.network_meaning.specs.Calls.{Knows, Known}
 use Rattle.network_meaning.specs.Failing.{Begins, work_bytes}
 use Rattle.network_meaning.specs.Language.{Language}
 use Rattle.network_meaning.specs.LocalSteps.{Act, Mode, Works, Want.work, Room as NetworkRoom}
@@ -13,7 +13,7 @@ use Rattle.network_meaning.specs.Network.{LocalState, want}
 use Rattle.net_core.specs.declared.room.Room.{Room}
 use Rattle.quel_network.specs.Sorts.{quel_sorts}
 
--- the outside as a room has it: the database, the files, what is left of the script and what was written, where they are told; how often calls of each failed, how often the sink took nothing, and how many bytes the source gave; and the clock and the count of reads of the disk below the database
+-- the outside as a room has it: the database, the files, what is left of the script and what was written, where they are known; how often calls of each failed, how often the sink took nothing, and how many bytes the source gave; and the clock and the count of reads of the disk below the database
 pub record Outside : Type 0 where
   pub database : Option Db
   pub base_faults : ℕ
@@ -46,8 +46,8 @@ outside database base_faults clock reads files shelf_faults left given source_fa
 }
 
 -- what is known of the room, as the network has it
-abbrev pub told : Outside → Told quel_sorts
-told o = record { db = o.database; shelf = o.files; script = o.script; out = o.output }
+abbrev pub known : Outside → Known quel_sorts
+known o = record { db = o.database; shelf = o.files; script = o.script; out = o.output }
 
 -- the database is the one before a piece of work, or the one that this work leaves
 abbrev pub IsBeforeOrAfter : Language quel_sorts → Mode quel_sorts → NetworkRoom quel_sorts → Db → Type 0
@@ -57,11 +57,11 @@ IsBeforeOrAfter L mode room db = (db ≡ room.db) ⊎ ((act : Act quel_sorts) ×
 abbrev pub StoresFile : Language quel_sorts → Mode quel_sorts → NetworkRoom quel_sorts → List ℕ → List ℕ → Type 0
 StoresFile L mode room name bytes = (act : Act quel_sorts) × (room' : NetworkRoom quel_sorts) × Works L mode room act room' × (room'.shelf ≡ stored room.shelf name bytes)
 
--- the files are told again: as they were, or the work stores a file, and this one alone may have been stored
+-- the files are again known: as they were, or the work stores a file, and this one alone may have been stored
 abbrev pub LeavesFiles : Language quel_sorts → Mode quel_sorts → NetworkRoom quel_sorts → Option Files → Type 0
 LeavesFiles L mode room files = (files ≡ Some room.shelf) ⊎ ((name : List ℕ) × (bytes : List ℕ) × StoresFile L mode room name bytes × MayHaveStored name bytes room.shelf files)
 
--- what work leaves of a room that came to no end, where this was written before: a front of what this work writes was written, no file differs but the one that the work stores, and a database that is told is the one before or the one that the work leaves
+-- what work leaves of a room that came to no end, where this was written before: a front of what this work writes was written, no file differs but the one that the work stores, and a database that is known is the one before or the one that the work leaves
 pub record LeavesPart (L : Language quel_sorts) (mode : Mode quel_sorts) (room : NetworkRoom quel_sorts) (written : Option (List ℕ)) (after : Outside) : Type 0 where
   pub front : List ℕ
   pub begins : Begins front (work_bytes L mode room)
@@ -73,24 +73,24 @@ pub record LeavesPart (L : Language quel_sorts) (mode : Mode quel_sorts) (room :
 abbrev pub MayStore : Language quel_sorts → Mode quel_sorts → Files → List ℕ → List ℕ → Type 0
 MayStore L mode files name bytes = (room : NetworkRoom quel_sorts) × (room.shelf ≡ files) × StoresFile L mode room name bytes
 
--- the files are told again: as they were, or such work on them may store a file, and this one alone may have been stored
+-- the files are again known: as they were, or such work on them may store a file, and this one alone may have been stored
 abbrev pub SparesFiles : Language quel_sorts → Mode quel_sorts → Files → Option Files → Type 0
 SparesFiles L mode files after = (after ≡ Some files) ⊎ ((name : List ℕ) × (bytes : List ℕ) × MayStore L mode files name bytes × MayHaveStored name bytes files after)
 
--- work that failed: in a room that is told it has left a part of what it does; and of files that are told, whatever else is, no file differs but one that such work stores
+-- work that failed: in a room that is known it has left a part of what it does; and of files that are known, whatever else is, no file differs but one that such work stores
 pub record FailedWork (L : Language quel_sorts) (mode : Mode quel_sorts) (before after : Outside) : Type 0 where
-  pub part : (room : NetworkRoom quel_sorts) → Tells (told before) room → LeavesPart L mode room before.output after
+  pub part : (room : NetworkRoom quel_sorts) → Knows (known before) room → LeavesPart L mode room before.output after
   pub files : (files : Files) → before.files ≡ Some files → SparesFiles L mode files after.files
 
 -- a stage that failed has worked and left a part of what it does, or all outside it is as it was
 abbrev pub FailedStep : Language quel_sorts → LocalState quel_sorts → Outside → Outside → Type 0
 FailedStep L s before after = ((want s ≡ work) × FailedWork L s.mode before after) ⊎ (after ≡ before)
 
--- a database that is told is told again
+-- a database that is known is again known
 abbrev pub KeepsDatabase : Outside → Outside → Type 0
 KeepsDatabase before after = (db : Db) → before.database ≡ Some db → (later : Db) × (after.database ≡ Some later)
 
--- a script that is told is told again, and what was read of it is the bytes that it has lost
+-- a script that is known is again known, and what was read of it is the bytes that it has lost
 abbrev pub KeepsScript : ℕ → ℕ → Outside → Outside → Type 0
 KeepsScript heard heard' before after = (script : List ℕ) → before.script ≡ Some script → (bytes : List ℕ) × (rest : List ℕ) × (after.script ≡ Some rest) × (script ≡ bytes ++ rest) × (heard' ≡ heard + length bytes)
 

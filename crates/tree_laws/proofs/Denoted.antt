@@ -18,7 +18,7 @@ use Rattle.calculus.specs.Used.{used_in_query}
 use Rattle.calculus.specs.Assignments.{Source, rows_used, variable_rows, assigned}
 use Rattle.calculus.specs.VariableRows.{view_rows, rows_within, rows_of}
 use Rattle.calculus_laws.proofs.Members.{In, Chosen, In-filter, filter-In}
-use Rattle.calculus_laws.proofs.Through.{Told, rows_told, both_told}
+use Rattle.calculus_laws.proofs.Through.{Said, rows_said, both_said}
 use Rattle.view_text.specs.declared.text.Text.{Text}
 use Rattle.view_text.specs.Replaced.{of_only, no_aggregate}
 use Rattle.view_text.specs.Halves.{any_of}
@@ -28,8 +28,8 @@ use Rattle.view_text.specs.TextOf.{permit_condition, covering, cut, kept_text, v
 use Rattle.tree_laws.proofs.Values.{without_value_has_none, StandsFor, makes_none, holds_replaced, within_itself}
 use Rattle.tree_laws.proofs.Halves.{holds_any_of, any_within}
 use Rattle.tree_laws.proofs.Within.{qual_replaced_within}
-use Rattle.tree_laws.proofs.Joint.{all_hold, IsRow, Tells, TellEach}
-use Rattle.tree_laws.proofs.Rows.{rows_told_by}
+use Rattle.tree_laws.proofs.Joint.{all_hold, IsRow, Denotes, DenoteEach}
+use Rattle.tree_laws.proofs.Rows.{rows_denoted_by}
 
 -- ---- permits
 
@@ -104,9 +104,9 @@ unfolding val attribute_value
 own_row conditions key row a = refl
 
 -- the text of what is kept, where these conditions are those that rows pass
-pub kept_told : (db : Db) (key : RelKey) (conditions : List QQual) (passes : Row → Bool) → list_all (is_qual_within 1) conditions ≡ true
-    → ((row : Row) → all_hold no_aggs conditions (row ∷ []) ≡ passes row) → Tells db (filter passes (rows_at db key)) (kept_text conditions key)
-kept_told db key conditions passes within same = record { scoped = within; to = to; from = from }
+pub kept_denoted : (db : Db) (key : RelKey) (conditions : List QQual) (passes : Row → Bool) → list_all (is_qual_within 1) conditions ≡ true
+    → ((row : Row) → all_hold no_aggs conditions (row ∷ []) ≡ passes row) → Denotes db (filter passes (rows_at db key)) (kept_text conditions key)
+kept_denoted db key conditions passes within same = record { scoped = within; to = to; from = from }
   where
     to : (seg : Env) → Chosen (rows_at db key ∷ []) seg → all_hold no_aggs conditions seg ≡ true → (row : Row) × In row (filter passes (rows_at db key)) × IsRow (kept_text conditions key) row seg
     to [] chosen h = absurd chosen
@@ -118,8 +118,8 @@ kept_told db key conditions passes within same = record { scoped = within; to = 
 
 -- ---- the variables of a query
 
-pub no_text_told : (db : Db) → Tells db ([] ∷ []) no_text
-no_text_told db = record { scoped = refl; to = to; from = from }
+pub no_text_denoted : (db : Db) → Denotes db ([] ∷ []) no_text
+no_text_denoted db = record { scoped = refl; to = to; from = from }
   where
     empty : (e : Env) → IsRow no_text [] e
     empty e zero = without_value_has_none no_aggs e
@@ -134,56 +134,56 @@ no_text_told db = record { scoped = refl; to = to; from = from }
     from row (inr h) = absurd h
 
 -- texts that tell of the rows of each key
-abbrev pub TellsAll : Db → Source → TextSource → Type 0
-TellsAll db source texts = (key : RelKey) (attrs : List ℕ) → Tells db (source key attrs) (texts key attrs)
+abbrev pub DenotesAll : Db → Source → TextSource → Type 0
+DenotesAll db source texts = (key : RelKey) (attrs : List ℕ) → Denotes db (source key attrs) (texts key attrs)
 
-pub used_told : (db : Db) (source : Source) (texts : TextSource) → TellsAll db source texts → (key : RelKey) (attrs : List ℕ) → Tells db (rows_used source key attrs) (used_text texts key attrs)
-used_told db source texts tell key [] = no_text_told db
-used_told db source texts tell key (a ∷ attrs) = tell key (a ∷ attrs)
+pub used_denoted : (db : Db) (source : Source) (texts : TextSource) → DenotesAll db source texts → (key : RelKey) (attrs : List ℕ) → Denotes db (rows_used source key attrs) (used_text texts key attrs)
+used_denoted db source texts denote key [] = no_text_denoted db
+used_denoted db source texts denote key (a ∷ attrs) = denote key (a ∷ attrs)
 
 -- tell of the rows of a query's variables
-pub query_told : (db : Db) (source : Source) (texts : TextSource) → TellsAll db source texts → (q : Query) (n : ℕ) (keys : List RelKey)
-    → TellEach db (map (λ p. variable_rows source q p.0 p.1) (enumerate_from n keys)) (map (λ p. used_text texts p.1 (used_in_query p.0 q)) (enumerate_from n keys))
-query_told db source texts tell q n [] = tt
-query_told db source texts tell q n (key ∷ keys) = (used_told db source texts tell key (used_in_query n q), query_told db source texts tell q (n + 1) keys)
+pub query_denoted : (db : Db) (source : Source) (texts : TextSource) → DenotesAll db source texts → (q : Query) (n : ℕ) (keys : List RelKey)
+    → DenoteEach db (map (λ p. variable_rows source q p.0 p.1) (enumerate_from n keys)) (map (λ p. used_text texts p.1 (used_in_query p.0 q)) (enumerate_from n keys))
+query_denoted db source texts denote q n [] = tt
+query_denoted db source texts denote q n (key ∷ keys) = (used_denoted db source texts denote key (used_in_query n q), query_denoted db source texts denote q (n + 1) keys)
 
 -- ---- through levels of views
 
-abbrev pub texts_told : Db → Who → Told (List ℕ → Text)
-texts_told db who = record {
+abbrev pub texts_said : Db → Who → Said (List ℕ → Text)
+texts_said db who = record {
   of_range = λ of_view key range attrs. range_text (λ view. of_view view attrs) db who key attrs range;
   of_view = λ below view attrs. view_text below view;
   past = λ attrs. past_text;
 }
 
-past_told : (db : Db) → Tells db [] past_text
+past_denoted : (db : Db) → Denotes db [] past_text
 unfolding holds is_qual_within
-past_told db = record { scoped = refl; to = λ seg chosen h. cc h; from = λ row inside. absurd inside }
+past_denoted db = record { scoped = refl; to = λ seg chosen h. cc h; from = λ row inside. absurd inside }
 
 nothing_kept : (db : Db) (key : RelKey) → range_at db key ≡ None → rows_at db key ≡ []
 nothing_kept db key h = ap kept_rows h
 
-view_told : (db : Db) (f : Source) (g : TextSource) → TellsAll db f g → (view : View) → Tells db (view_rows f view) (view_text g view)
+view_denoted : (db : Db) (f : Source) (g : TextSource) → DenotesAll db f g → (view : View) → Denotes db (view_rows f view) (view_text g view)
 unfolding assigned
-view_told db f g below view =
-    rows_told_by db view.query (map (λ p. variable_rows f view.query p.0 p.1) (enumerate_from 0 (vars_of view.query))) (query_texts g view.query)
-    (query_told db f g below view.query 0 (vars_of view.query))
+view_denoted db f g below view =
+    rows_denoted_by db view.query (map (λ p. variable_rows f view.query p.0 p.1) (enumerate_from 0 (vars_of view.query))) (query_texts g view.query)
+    (query_denoted db f g below view.query 0 (vars_of view.query))
 
-pub within_told : (n : ℕ) (db : Db) (who : Who) → TellsAll db (rows_within n db who) (text_within n db who)
-within_told n db who key attrs =
-    both_told (rows_told db who) (texts_told db who) db (λ n key rows texts. (attrs : List ℕ) → Tells db (rows attrs) (texts attrs))
+pub within_denoted : (n : ℕ) (db : Db) (who : Who) → DenotesAll db (rows_within n db who) (text_within n db who)
+within_denoted n db who key attrs =
+    both_said (rows_said db who) (texts_said db who) db (λ n key rows texts. (attrs : List ℕ) → Denotes db (rows attrs) (texts attrs))
     (record {
       nothing = λ n f g key h attrs.
-          subst (λ rows. Tells db (filter (may db who Retrieve attrs key) rows) (kept_text (cut db who Retrieve attrs key) key)) (nothing_kept db key h)
-          (kept_told db key (cut db who Retrieve attrs key) (may db who Retrieve attrs key) (cut_within db who Retrieve attrs key) (cut_holds db who Retrieve attrs key));
+          subst (λ rows. Denotes db (filter (may db who Retrieve attrs key) rows) (kept_text (cut db who Retrieve attrs key) key)) (nothing_kept db key h)
+          (kept_denoted db key (cut db who Retrieve attrs key) (may db who Retrieve attrs key) (cut_within db who Retrieve attrs key) (cut_holds db who Retrieve attrs key));
       kept = λ n f g key relation h attrs.
-          subst (λ rows. Tells db (filter (may db who Retrieve attrs key) rows) (kept_text (cut db who Retrieve attrs key) key)) (ap kept_rows h)
-          (kept_told db key (cut db who Retrieve attrs key) (may db who Retrieve attrs key) (cut_within db who Retrieve attrs key) (cut_holds db who Retrieve attrs key));
-      view_past = λ key view h attrs. past_told db;
-      view_above = λ n f g below key view h attrs. view_told db f g below view;
+          subst (λ rows. Denotes db (filter (may db who Retrieve attrs key) rows) (kept_text (cut db who Retrieve attrs key) key)) (ap kept_rows h)
+          (kept_denoted db key (cut db who Retrieve attrs key) (may db who Retrieve attrs key) (cut_within db who Retrieve attrs key) (cut_holds db who Retrieve attrs key));
+      view_past = λ key view h attrs. past_denoted db;
+      view_above = λ n f g below key view h attrs. view_denoted db f g below view;
     })
     n key attrs
 
-pub all_told : (db : Db) (who : Who) → TellsAll db (rows_of db who) (text_of db who)
+pub all_denoted : (db : Db) (who : Who) → DenotesAll db (rows_of db who) (text_of db who)
 unfolding rows_of text_of
-all_told db who = within_told greatest_level db who
+all_denoted db who = within_denoted greatest_level db who

@@ -328,11 +328,11 @@ module _ (all : Pieces) (lexed : Lexed) (cut : IsFront all lexed) where
         past p.0 rest k p.1 (ap first_past (sym (front_taken p.0 rest n number p.1.same)) ∙ o)
 
     -- what is answered is what is read
-    pub told : (front : Front Statement) → IsFrontRead lexed.tokens.items front → (o : Option ℕ) → first_past (take front.taken lexed.tokens.items) ≡ o → is_sure front.taken o lexed ≡ true
+    pub decided : (front : Front Statement) → IsFrontRead lexed.tokens.items front → (o : Option ℕ) → first_past (take front.taken lexed.tokens.items) ≡ o → is_sure front.taken o lexed ≡ true
         → IsNextOf all (seen (answer_in lexed front o))
-    told front read (Some k) e sure =
+    decided front read (Some k) e sure =
         past_some (statement_by (suc (length lexed.tokens.items)) lexed.tokens.items) (is_parse lexed.tokens.items (suc (length lexed.tokens.items)) (omega arith)) front.taken read.number k e
-    told front read None e sure =
+    decided front read None e sure =
         rw read.value (unpast (statement_by (suc (length lexed.tokens.items)) lexed.tokens.items) (is_parse lexed.tokens.items (suc (length lexed.tokens.items)) (omega arith)) front.taken read.number e sure)
 
   -- ---- white space alone
@@ -371,12 +371,12 @@ last_at at zero d (s ∷ t ∷ ss) e = absurd (omega (arith, e))
 last_at at (suc n) d (s ∷ []) e = absurd (omega (arith, e))
 last_at at (suc n) d (s ∷ t ∷ ss) e = last_at s.end n d (t ∷ ss) (omega (arith, e))
 
--- ---- what is told of a text
+-- ---- what is known of a text
 
 module _ (text : List ℕ) (from : ℕ) (lexed : Lexed) (cut : IsFront (pieces_from text from) lexed) where
   -- nothing is there
-  pub told_blank : is_blank lexed ≡ true → Nothing ≡ next_at text from
-  told_blank e = by_stop lexed.stop refl e
+  pub decided_blank : is_blank lexed ≡ true → Nothing ≡ next_at text from
+  decided_blank e = by_stop lexed.stop refl e
     where
       by_stop : (stop : Stop) → lexed.stop ≡ stop → blank_at (length lexed.tokens.items) stop ≡ true → Nothing ≡ next_at text from
       by_stop stops.End f g = let none : length lexed.tokens.items ≡ 0 = grind (arith, nat_tests, g) in one_next (pieces_from text from) Nothing (next_at text from) (blank (pieces_from text from) lexed cut none f) (reads text from)
@@ -400,14 +400,14 @@ module _ (text : List ℕ) (from : ℕ) (lexed : Lexed) (cut : IsFront (pieces_f
       by_test false e None f false g h = absurd cc
 
   -- what is answered is what is read, where it is sure
-  pub told_text : is_blank lexed ≡ false → (front : Front Statement) → IsFrontRead lexed.tokens.items front → (o : Option ℕ) → o ≡ first_past (take front.taken lexed.tokens.items)
+  pub decided_text : is_blank lexed ≡ false → (front : Front Statement) → IsFrontRead lexed.tokens.items front → (o : Option ℕ) → o ≡ first_past (take front.taken lexed.tokens.items)
       → (sure : Bool) → sure ≡ is_sure front.taken o lexed → (a : Next Statement) → a ≡ answer_in lexed front o
       → IfSome (cond sure (Some a) None) (λ next. seen next ≡ next_at text from)
-  told_text unblank front read o past false sure a e = tt
-  told_text unblank front read o past true sure a e =
+  decided_text unblank front read o past false sure a e = tt
+  decided_text unblank front read o past true sure a e =
       let all = pieces_from text from in
       let some = some_piece all lexed cut (some_cut front.taken o past (sym sure)) (never_blank unblank) in
-      one_next all (seen a) (next_at text from) (rw e (told all lexed cut some front read o (sym past) (sym sure))) (reads text from)
+      one_next all (seen a) (next_at text from) (rw e (decided all lexed cut some front read o (sym past) (sym sure))) (reads text from)
 
 -- ---- when it is sure
 
@@ -439,6 +439,6 @@ sure_whole lexed n o le past full = by_test (nat_lt n (length lexed.tokens.items
         let some : is_some o ≡ true = ap is_some past ∙ ap (λ ts. is_some (first_past ts)) whole ∙ first_past_many lexed.tokens.items (omega (arith, many)) in
         rw some refl
 
-pub told_all : {A : Type 0} (lexed : Lexed) (n : ℕ) (o : Option ℕ) (sure : Bool) (a : A) → sure ≡ is_sure n o lexed → is_sure n o lexed ≡ true → is_some (cond sure (Some a) None) ≡ true
-told_all lexed n o true a e f = refl
-told_all lexed n o false a e f = absurd cc
+pub decided_all : {A : Type 0} (lexed : Lexed) (n : ℕ) (o : Option ℕ) (sure : Bool) (a : A) → sure ≡ is_sure n o lexed → is_sure n o lexed ≡ true → is_some (cond sure (Some a) None) ≡ true
+decided_all lexed n o true a e f = refl
+decided_all lexed n o false a e f = absurd cc

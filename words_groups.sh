@@ -1,0 +1,130 @@
+g "1 cached: a base's catalogues need no more reads; knows: a catalogue in memory is the one of these pages"
+t '\bensures known(?= \{ OnOk result \(cat self)' 'ensures cached' 'crates/am_traits/src/*.rt'
+t '\bensures still_known\b' 'ensures still_cached' 'crates/am_traits/src/*.rt'
+t '\b(requires|ensures|ghost) known\b' '\1 knows' 'crates/db_disk/src/*.rt'
+t 'in-Some\.known\b' 'in-Some.cached' 'crates/db_disk/proofs/**/*.antt'
+w known cached 'crates/db_disk/src/*.rt'
+w known cached 'crates/db_disk/proofs/answering/**/*.antt' --but '*/apply/*'
+s still_known still_cached 'crates/db_disk/proofs/answering/**/*.antt' 'crates/db_disk/proofs/ReadBy.antt'
+w catalogues_known catalogues_cached db_disk
+w known found 'crates/db_disk/proofs/ReadBy.antt'
+t '\(λ s known\. (.*?)\(same s known\)' '(λ s schema. \1(same s schema)' 'crates/db_disk/proofs/Reading.antt'
+w known untruncated 'crates/db_disk/proofs/KnowsProp.antt' 'crates/db_disk/proofs/Fills.antt' 'crates/db_disk/proofs/Knowing.antt' 'crates/db_disk/proofs/Reading.antt'
+w known knows db_disk
+
+g "2 known: what contracts know of an object's content (told, tells); said, trace and others where no knowledge is meant"
+f crates/am_traits/specs/Told.antt crates/am_traits/specs/Known.antt
+f crates/fault_io/specs/Told.antt crates/fault_io/specs/Known.antt
+# what the calculus says of a key through levels of views
+for it in told_at told_view rows_told level_told both_told each_told permitted_told reads_told measure_told texts_told text_told; do
+  w "$it" "$(sed 's/told/said/' <<<"$it")" calculus_laws tree_laws view_expand cut_rules spelling_laws
+done
+t '\bTold (?=\(List|Measure)' 'Said ' 'crates/tree_laws/proofs/*.antt' 'crates/view_expand/proofs/*.antt'
+t '(use Rattle\.calculus_laws\.proofs\.Through\.\{[^}]*)\bTold\b' '\1Said' 'crates/tree_laws/proofs/*.antt' 'crates/view_expand/proofs/*.antt'
+w tells sound 'crates/calculus_laws/proofs/Matching.antt' 'crates/scalar_eval/proofs/Relation.antt'
+w told complete 'crates/calculus_laws/proofs/Matching.antt' 'crates/scalar_eval/proofs/Relation.antt'
+w TellAlike SayAlike calculus_laws
+w Told Said calculus_laws
+s told said calculus_laws
+p '\b(is|was|are) told (of|what)\b' '\1 said \2' 'crates/calculus_laws/proofs/*.antt'
+p '\bnothing is told\b' 'nothing is said' 'crates/calculus_laws/proofs/*.antt'
+p '\bWhat is told\b' 'What is said' 'crates/calculus_laws/proofs/*.antt'
+p '\bwhat is told\b' 'what is said' 'crates/calculus_laws/proofs/*.antt'
+# the rows that the text of a variable denotes
+f crates/tree_laws/proofs/Told.antt crates/tree_laws/proofs/Denoted.antt
+f crates/tree_laws/specs/Telling.antt crates/tree_laws/specs/Denoting.antt
+w all_told all_denoted tree_laws spelling_laws
+s Tells Denotes tree_laws
+s Tell Denote tree_laws
+s told denoted tree_laws
+s tells denotes tree_laws
+s tell denote tree_laws
+# what events leave behind them
+s Told Trace 'crates/quel_network/specs/EventLaws.antt' 'crates/quel_network/specs/SessionLaws.antt' 'crates/quel_network/specs/ScriptLaws.antt'
+s told trace 'crates/quel_network/specs/EventLaws.antt' 'crates/quel_network/specs/SessionLaws.antt' 'crates/quel_network/specs/ScriptLaws.antt' 'crates/quel_network/proofs/**/*.antt' 'crates/quel_network/specs/*.antt'
+# names that are texts
+for it in 'Tells AreTexts' 'KeyTells KeyIsText' 'AttrsTell AttrsAreTexts' 'AttrTells AttrIsText' 'attr_tells attr_is_text' 'key_tells key_is_text' 'index_tells index_is_text' 'entries_tell entries_are_texts' 'each_tells each_is_text' 'attrs_tell attrs_are_texts' 'relation_tells relation_is_text' 'attribute_tells attribute_is_text' 'all_tell all_are_texts' 'standing_tell standing_are_texts'; do
+  w $it 'crates/update_laws/proofs/*.antt' 'crates/quel_network/specs/CatalogueRows.antt' 'crates/quel_network/specs/TreeBounds.antt' 'crates/quel_network/**/*.antt'
+done
+# groups of items, each by its test
+w Told Grouped stored_database
+w told grouped stored_database
+w tells same_group stored_database
+w told_entries grouped_entries stored_database
+w told_trees grouped_trees stored_database catalog_laws
+w told_attributes grouped_attributes stored_database
+w told_columns grouped_columns stored_database
+s tells decides stored_database
+s tell decide stored_database
+s tell decide catalog_read catalog
+s tells decides heap_am
+w tells follows stage_parse
+# the greatest number that a copy keeps apart, and rows of values
+w most_told most_apart copy_util
+w MOST_TOLD MOST_APART copy_util
+w told as_rows 'crates/copy_util/proofs/FileRead.antt' 'crates/reading_laws/proofs/FilesRead.antt'
+# what a statement's first tokens decide
+w Told FirstTokens quel_parse
+s told decided quel_parse
+# the file whose rows are replaced
+w Tells IsReplaced relation_rows
+w tells replaced relation_rows
+# tests
+s Told Answered statement_tests
+s told answered statement_tests
+s Told Outcome calculus_tests
+s told outcome calculus_tests
+w told_by answers_of store_tests
+w is_told is_read language_tests
+s untold unknown base_tests
+# what is known
+w Telling KnownAs quel_names
+w telling knowing session_run
+w Told KnownCalls batch_file db_disk --but 'crates/*/specs/*'
+s Told Known network_meaning
+s Tells Knows network_meaning
+s told known network_meaning
+t '\bTold(?= quel_sorts)' 'Known' net_core
+t '(use Rattle\.network_meaning\.specs\.Calls\.\{[^}]*)\bTold\b' '\1Known' net_core net_tests quel_network
+f crates/net_core/specs/Told.antt crates/net_core/specs/Known.antt
+s Tells Knows net_core net_tests
+s tells knows net_core
+w told_by database_by db_disk
+w lawful_told lawful_held db_disk
+w told_still still_known access_traits page_chain heap_am catalog catalog_pages relation_rows db_disk
+s tells is_known disk_model batch_file batch_store db_disk folder_disk disk_tests
+w known is_there 'crates/net_tests/proofs/Carrying.antt'
+s told known net_core net_tests --keep told_statuses told_frame told_left left_told how_told none_told first_told is_told told_behind
+w known schema utilities
+w known named 'crates/quel_refusals/proofs/standing_aggregates/ranges_plainly/*.antt'
+w known fitting 'crates/stage_proc/proofs/Failing.antt'
+ALL="$(ls crates | grep -vxE 'page_cells|net_core|net_tests')"
+s Told Known $ALL
+s told known $ALL
+p '\b[Tt]ells no database, and knows what\b' 'has no database that is known, and of its schema what' 
+p '\b(base|it) that tells no database\b' '\1 of which no database is known'
+p '\btells no database\b' 'makes no database known'
+p '\b(base|bases) that tells? (its|their) database\b' '\1 whose database is known'
+p '\b(disk|disks|one) (that|which) tells? what (it|they) holds?\b' '\1 whose content is known'
+p '\bwhere (the|a) disk tells (what it holds|that)\b' 'where the content of \1 disk is known'
+p '\bwhere it tells (what it holds|that)\b' 'where its content is known'
+p '\bwhere the disk tells\b' "where the disk's content is known"
+p '\b([Ww])hatever the disk tells( of what it holds)?' "\1hatever is known of the disk's content"
+p '\b(disk|one)( in memory)? (that|which) tells nothing( of what it holds)?\b' '\1\2 of whose content nothing is known'
+p '\bdisks of this type tell what they hold\b' 'the content of disks of this type is known'
+p ', which tells what it holds\b' ', whose content is known'
+p '\b(that|the) (files|database|schema) that (the shelf|it) tells\b' '\1 \2 that is known of \3'
+p '\b(files) that the shelf tells\b' '\1 that are known of the shelf'
+p '\b(is|are) told (still|again)\b' '\1 \2 known'
+p "\b(is|isn't|are|aren't|was|were|be|been|always|each) told\b(?! (apart|by|as|from|its|in another|to|one|with))(?! (of )?(a key|views|two|results?|what))" '\1 known'
+p '\btold or not\b' 'known or not'
+p '\ba told (database|shelf|store)\b' 'a known \1'
+p '\btold (files|database|pages)\b' 'known \1'
+p '\b[Ww]hatever is told\b' 'whatever is known'
+p '\bIn memory tells it\b' 'in memory makes it known'
+p '\b(An object in memory|one in memory) tells (it|them)\b' '\1 makes \2 known'
+p '\bmay tell its pages or not\b' 'may make its pages known or not'
+p '\bmay be told or not\b' 'may be known or not'
+p '`known`' '`cached`' 'crates/am_traits/README.md'
+p '`still_known`' '`still_cached`' 'crates/am_traits/README.md'
+python3 words.py quoted --choose told=known tells=is_known Told=Known known=known still_known=still_known
