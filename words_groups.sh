@@ -127,4 +127,29 @@ p '\bmay tell its pages or not\b' 'may make its pages known or not'
 p '\bmay be told or not\b' 'may be known or not'
 p '`known`' '`cached`' 'crates/am_traits/README.md'
 p '`still_known`' '`still_cached`' 'crates/am_traits/README.md'
-python3 words.py quoted --choose told=known tells=is_known Told=Known known=known still_known=still_known
+q --choose told=known tells=is_known Told=Known known=known still_known=still_known
+
+g "3 unrestricted: whom no permit binds (Free, nobody in particular); as_user: with a user's rights (Asks, asks)"
+w Free Unrestricted $(ls crates | grep -vxE 'xx')
+f crates/tree_laws/proofs/Freely.antt crates/tree_laws/proofs/Unrestrictedly.antt
+f crates/cut_rules/proofs/Freely.antt crates/cut_rules/proofs/Unrestrictedly.antt
+w IsRefusedFreely IsRefusedUnrestricted cut_rules
+s free unrestricted tree_laws cut_rules
+w may_free may_unrestricted stage_proc ovqp tree_laws
+w read_free read_unrestricted stage_proc
+w append_free append_unrestricted stage_proc
+w row_free row_unrestricted stage_proc
+w stands_free stands_unrestricted stage_proc
+w Asks AsUser $(ls crates | grep -vxE 'xx')
+w asks as_user calculus calculus_examples stage_parse cut_rules view_expand
+p '\b[Nn]obody in particular \(`Free`\), whom no permit binds' 'an unrestricted user (`Unrestricted`), whom no permit binds' 
+p ', for nobody in particular\b' ', unrestricted'
+p '\bdoes for nobody in particular\b' 'does unrestricted'
+p '\b[Mm]eans for nobody in particular\b' 'means unrestricted'
+p '\bfor nobody in particular it means\b' 'unrestricted it means'
+p '\bfor nobody in particular\b' 'unrestricted'
+p '\bto nobody in particular\b' 'where nobody is restricted'
+p '\bthat nobody in particular hasn.t\b' "that aren't there unrestricted"
+p '^(\W*)Nobody in particular (sees|may)\b' '\1Whoever is unrestricted \2'
+p '\bnobody in particular\b' 'whoever is unrestricted'
+q

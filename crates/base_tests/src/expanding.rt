@@ -1,4 +1,4 @@
-//! Queries with the views in them put in, for nobody in particular.
+//! Queries with the views in them put in, unrestricted.
 
 use crate::made::{query, unknown};
 use crate::shown::{put, put_query};

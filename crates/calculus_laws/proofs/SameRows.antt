@@ -7,7 +7,7 @@ use Rattle.calculus.specs.Rows.{Row}
 use Rattle.calculus.specs.Lists.{has_number}
 use Rattle.calculus.specs.Term.{no_aggs, holds}
 use Rattle.calculus.specs.Limits.{greatest_level}
-use Rattle.calculus.specs.Who.{Who, Free, Asks}
+use Rattle.calculus.specs.Who.{Who, Unrestricted, AsUser}
 use Rattle.calculus.specs.Database.{Db, View, permits_on}
 use Rattle.calculus.specs.Stored.{Range, Kept, Viewed, range_at}
 use Rattle.calculus.specs.Rights.{Right, Retrieve, has_right, is_for, has_attrs, covers, needs_none, may}
@@ -48,8 +48,8 @@ same_attrs (a ∷ more) xs ys to from =
 same_may : (db : Db) (who : Who) (right : Right) (key : RelKey) (xs ys : List ℕ) → Within xs ys → Within ys xs → (row : Row)
     → may db who right xs key row ≡ may db who right ys key row
 unfolding may covers
-same_may db Free right key xs ys to from row = refl
-same_may db (Asks asker) right key xs ys to from row = λ i. needs_none db asker right key
+same_may db Unrestricted right key xs ys to from row = refl
+same_may db (AsUser asker) right key xs ys to from row = λ i. needs_none db asker right key
     || list_any (λ p. (is_for p.user asker.user && (has_right p.ops right && same_attrs p.attrs xs ys to from i)) && holds no_aggs p.qual (row ∷ [])) (permits_on db key)
 
 -- ---- the rows of a variable that ranges over no view

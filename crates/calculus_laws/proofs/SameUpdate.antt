@@ -13,7 +13,7 @@ use Rattle.calculus.specs.declared.request.Update.{Update}
 use Rattle.calculus.specs.declared.request.UpdateOp.TheVariants.{Append, Replace, Delete, Into}
 use Rattle.calculus.specs.Rows.{Row}
 use Rattle.calculus.specs.Limits.{most_rows}
-use Rattle.calculus.specs.Who.{Who, Free, Asks}
+use Rattle.calculus.specs.Who.{Who, Unrestricted, AsUser}
 use Rattle.calculus.specs.Database.{Db}
 use Rattle.calculus.specs.Stored.{rows_at}
 use Rattle.calculus.specs.Rights.{Right, Retrieve, may}
@@ -43,8 +43,8 @@ numbered start (x ∷ xs) p (inr h) = let (v, place, there) = numbered (start + 
 
 stands_bare : (db : Db) (who : Who) (u : Update) → pair_stands (schema_of db) who u ≡ pair_stands db who u
 unfolding schema_of may
-stands_bare db Free u = refl
-stands_bare db (Asks asker) u = refl
+stands_bare db Unrestricted u = refl
+stands_bare db (AsUser asker) u = refl
 
 module _ (db other : Db) (schema : schema_of db ≡ schema_of other) (who : Who) (u : Update) (over : IsOverItsRelation u) (under : HaveSameRows db other (update_reads db u)) where
   target_rows : rows_at db u.rel ≡ rows_at other u.rel

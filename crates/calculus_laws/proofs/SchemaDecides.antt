@@ -7,7 +7,7 @@ use Rattle.calculus.specs.declared.query.Query.{Query}
 use Rattle.calculus.specs.declared.request.Update.{Update}
 use Rattle.calculus.specs.Tree.{rows_of_query}
 use Rattle.calculus.specs.Limits.{greatest_level}
-use Rattle.calculus.specs.Who.{Who, Free, Asks}
+use Rattle.calculus.specs.Who.{Who, Unrestricted, AsUser}
 use Rattle.calculus.specs.Database.{Db, Relation, View}
 use Rattle.calculus.specs.Stored.{Kept, Viewed, range_at}
 use Rattle.calculus.specs.QueryParts.{query_aggregates}
@@ -33,13 +33,13 @@ record SayAlike {X : Type 0} (t u : Said X) : Type 0 where
 
 permitted_bare : (db : Db) (who : Who) (right : Right) (attrs : List ℕ) (key : RelKey) → permitted (schema_of db) who right attrs key ≡ permitted db who right attrs key
 unfolding schema_of permitted
-permitted_bare db Free right attrs key = refl
-permitted_bare db (Asks asker) right attrs key = refl
+permitted_bare db Unrestricted right attrs key = refl
+permitted_bare db (AsUser asker) right attrs key = refl
 
 target_bare : (db : Db) (who : Who) (u : Update) → target_permitted (schema_of db) who u ≡ target_permitted db who u
 unfolding schema_of permitted
-target_bare db Free u = refl
-target_bare db (Asks asker) u = refl
+target_bare db Unrestricted u = refl
+target_bare db (AsUser asker) u = refl
 
 module _ (db other : Db) (same : schema_of db ≡ schema_of other) where
   said_same : {X : Type 0} (t u : Said X) → SayAlike t u → (n : ℕ) (key : RelKey) → said t n db key ≡ said u n other key

@@ -8,7 +8,7 @@ use Rattle.calculus.specs.Rows.{Row}
 use Rattle.calculus.specs.Lists.{is_any}
 use Rattle.calculus.specs.Limits.{greatest_level}
 use Rattle.calculus.specs.Term.{Env, Aggs, no_aggs, holds}
-use Rattle.calculus.specs.Who.{Who, Free, Asks}
+use Rattle.calculus.specs.Who.{Who, Unrestricted, AsUser}
 use Rattle.calculus.specs.Database.{Db, Relation, View, permits_on}
 use Rattle.calculus.specs.Stored.{Kept, range_at, rows_at}
 use Rattle.calculus.specs.Rights.{Right, Retrieve, covers, needs_none, permitted, may}
@@ -38,8 +38,8 @@ either_way false b c f h = f h
 
 pub no_row : (db : Db) (who : Who) (right : Right) (attrs : List ℕ) (key : RelKey) (row : Row) → permitted db who right attrs key ≡ false → may db who right attrs key row ≡ false
 unfolding permitted may
-no_row db Free right attrs key row h = cc h
-no_row db (Asks asker) right attrs key row h =
+no_row db Unrestricted right attrs key row h = cc h
+no_row db (AsUser asker) right attrs key row h =
     either_way (needs_none db asker right key) _ _
     (none_of_both (λ (p : Permit). covers p asker right attrs) (λ p. holds no_aggs p.qual (row ∷ [])) (permits_on db key)) h
 

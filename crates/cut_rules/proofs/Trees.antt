@@ -6,7 +6,7 @@ use Rattle.calculus.specs.declared.request.Checked.{Checked}
 use Rattle.calculus.specs.declared.request.Checked.TheVariants as checked
 use Rattle.calculus.specs.declared.request.Update.{Update}
 use Rattle.calculus.specs.declared.request.Utility.{Utility}
-use Rattle.calculus.specs.Who.{Who, Free, asks}
+use Rattle.calculus.specs.Who.{Who, Unrestricted, as_user}
 use Rattle.calculus.specs.Database.{Db}
 use Rattle.calculus.specs.IsDatabase.{IsDatabase}
 use Rattle.calculus.specs.Permission.{query_permitted, update_permitted}
@@ -50,6 +50,6 @@ pub update_refused : (db : Db) (who : Who) (tree : Checked) (u : Update) (var : 
 update_refused db who tree u var t r = (sym (change_permitted_is db who tree u t) ∙ r.0, subst (λ t. IsRefusedBy db who t var) (sym t) r.1)
 
 pub put_means : (db : Db) → IsDatabase db → (shelf : Files) (user : List ℕ) (tree : Checked) → is_fit_with_views db user tree ≡ true → {E : Type 0} → (result : Result Checked E)
-    → IfOk result (λ made. made ≡ put_in_tree db (asks user) tree) → IfOk result (λ made. tree_meaning db shelf Free user made ≡ tree_meaning db shelf (asks user) user tree)
-put_means db d shelf user tree fit (Ok made) e = ap (tree_meaning db shelf Free user) e ∙ sym (means_same db d (asks user) shelf user tree fit)
+    → IfOk result (λ made. made ≡ put_in_tree db (as_user user) tree) → IfOk result (λ made. tree_meaning db shelf Unrestricted user made ≡ tree_meaning db shelf (as_user user) user tree)
+put_means db d shelf user tree fit (Ok made) e = ap (tree_meaning db shelf Unrestricted user) e ∙ sym (means_same db d (as_user user) shelf user tree fit)
 put_means db d shelf user tree fit (Err error) e = e

@@ -4,7 +4,7 @@ ghost use Rattle.std.specs.Prelude.{◌≡◌, ◌++◌, [], ◌∷◌, map, tru
 ghost use Rattle.std.specs.List.{list_all};
 ghost use Rattle.calculus.specs.Database.{Db};
 ghost use Rattle.calculus.specs.Permission.{query_permitted};
-ghost use Rattle.calculus.specs.Who.{Free, asks};
+ghost use Rattle.calculus.specs.Who.{Unrestricted, as_user};
 ghost use Rattle.calculus.specs.declared.request.Asked.{Asked as AskedFor};
 ghost use Rattle.calculus.specs.declared.request.Checked.TheVariants.{Answer};
 ghost use Rattle.cut_rules.specs.Causes.{HasCause};
@@ -117,14 +117,14 @@ fn put_in_tree<B: Base>(
     found: &mut TextsFound,
 ) -> Result<Checked, CutFault>
     requires fit { (db : Db) → B.database base.old ≡ Some db → is_fit_with_views db user.now tree.now ≡ true }
-    requires found { (db : Db) → B.database base.old ≡ Some db → IsFound db (asks user.now) found.old }
-    ensures known { (db : Db) → B.database base.old ≡ Some db → IfOk result (λ made. made ≡ put_in_tree db (asks user.now) tree.now) }
-    ensures permitted { (db : Db) → B.database base.old ≡ Some db → OnOk result (checked_permitted db (asks user.now) tree.now ≡ true) }
-    ensures found { (db : Db) → B.database base.old ≡ Some db → IsFound db (asks user.now) found.new }
+    requires found { (db : Db) → B.database base.old ≡ Some db → IsFound db (as_user user.now) found.old }
+    ensures known { (db : Db) → B.database base.old ≡ Some db → IfOk result (λ made. made ≡ put_in_tree db (as_user user.now) tree.now) }
+    ensures permitted { (db : Db) → B.database base.old ≡ Some db → OnOk result (checked_permitted db (as_user user.now) tree.now ≡ true) }
+    ensures found { (db : Db) → B.database base.old ≡ Some db → IsFound db (as_user user.now) found.new }
     ensures kept { B.database base.new ≡ B.database base.old }
     ensures stays { (s : Db) → B.schema base.old ≡ Some s → B.schema base.new ≡ Some s }
     ensures asked { (b : B) → B.asked b base.old → B.asked b base.new }
-    ensures cause { HasCause (λ db var. (checked_permitted db (asks user.now) tree.now ≡ false) × IsRefusedBy db (asks user.now) tree.now var) (B.database base.old) (B.faults base.old) (B.faults base.new) result }
+    ensures cause { HasCause (λ db var. (checked_permitted db (as_user user.now) tree.now ≡ false) × IsRefusedBy db (as_user user.now) tree.now var) (B.database base.old) (B.faults base.old) (B.faults base.new) result }
 {
     match tree {
         Checked::Answer(asked) => asked_tree(alloc, base, Some(user), asked.items(), found),
@@ -140,7 +140,7 @@ fn put_in_tree<B: Base>(
 }
 
 /// The tree over base relations and catalogues alone, its views put in and cut down to what the user may
-/// see and change: it means for nobody in particular what the given one means for the user. A utility
+/// see and change: it means unrestricted what the given one means for the user. A utility
 /// stays as it is. `NoPermit` exactly where something that is read or changed isn't permitted, and then a
 /// variable that is refused: by its place in its query; 255 for what an aggregate names, and for the
 /// relation of an append.
@@ -151,13 +151,13 @@ pub fn cut_permits<B: Base>(
     base: &mut B,
 ) -> Result<Checked, CutFault>
     requires { (db : Db) → B.database base.old ≡ Some db → is_fit_with_views db user.now tree ≡ true }
-    ensures known { (db : Db) → B.database base.old ≡ Some db → IfOk result (λ made. made ≡ put_in_tree db (asks user.now) tree) }
-    ensures means { (db : Db) → B.database base.old ≡ Some db → (shelf : Files) → IfOk result (λ made. tree_meaning db shelf Free user.now made ≡ tree_meaning db shelf (asks user.now) user.now tree) }
-    ensures permitted { (db : Db) → B.database base.old ≡ Some db → OnOk result (checked_permitted db (asks user.now) tree ≡ true) }
+    ensures known { (db : Db) → B.database base.old ≡ Some db → IfOk result (λ made. made ≡ put_in_tree db (as_user user.now) tree) }
+    ensures means { (db : Db) → B.database base.old ≡ Some db → (shelf : Files) → IfOk result (λ made. tree_meaning db shelf Unrestricted user.now made ≡ tree_meaning db shelf (as_user user.now) user.now tree) }
+    ensures permitted { (db : Db) → B.database base.old ≡ Some db → OnOk result (checked_permitted db (as_user user.now) tree ≡ true) }
     ensures kept { B.database base.new ≡ B.database base.old }
     ensures stays { (s : Db) → B.schema base.old ≡ Some s → B.schema base.new ≡ Some s }
     ensures asked { (b : B) → B.asked b base.old → B.asked b base.new }
-    ensures cause { HasCause (λ db var. (checked_permitted db (asks user.now) tree ≡ false) × IsRefusedBy db (asks user.now) tree var) (B.database base.old) (B.faults base.old) (B.faults base.new) result }
+    ensures cause { HasCause (λ db var. (checked_permitted db (as_user user.now) tree ≡ false) × IsRefusedBy db (as_user user.now) tree var) (B.database base.old) (B.faults base.old) (B.faults base.new) result }
 {
     let mut found = TextsFound::new(alloc);
     let made = put_in_tree(alloc, base, user, &tree, &mut found);

@@ -4,7 +4,7 @@ ghost use Rattle.std.specs.Prelude.{◌≡◌, ◌≤◌, ◌-◌, ◌^◌, min,
 ghost use Rattle.calculus.specs.Answer.{answer, lacks};
 ghost use Rattle.calculus.specs.Database.{Db};
 ghost use Rattle.calculus.specs.Sizes.{expanded_variables};
-ghost use Rattle.calculus.specs.Who.{Free};
+ghost use Rattle.calculus.specs.Who.{Unrestricted};
 ghost use Rattle.cut_rules.specs.Causes.{HasExpandCause, HasMany};
 ghost use Rattle.cut_rules.specs.Faults.{unexpanded};
 ghost use Rattle.quel_meaning.specs.FitQueries.{kept_or_viewed, reads_fit};
@@ -34,7 +34,7 @@ fn capped(vars: u64) -> u32
     }
 }
 
-/// Why the query isn't expanded, where its texts aren't put in. Nothing is refused to nobody in particular,
+/// Why the query isn't expanded, where its texts aren't put in. Nothing is refused where nobody is restricted,
 /// and 50 variables have places: a base that answers so stands for no database.
 fn unexpanded(fault: CutFault) -> ExpandFault
     ensures { result ≡ unexpanded fault }
@@ -50,9 +50,9 @@ fn unexpanded(fault: CutFault) -> ExpandFault
 /// The query with its views put in, as `expand`.
 fn expand_fixed<B: Base>(alloc: Global, base: &mut B, query: &Query) -> Result<Query, ExpandFault>
     requires { (db : Db) → B.database base.old ≡ Some db → reads_fit (kept_or_viewed db) db query.now ≡ true }
-    ensures known { (db : Db) → B.database base.old ≡ Some db → IfOk result (λ made. made ≡ put_in db Free query.now) }
-    ensures answer { (db : Db) → B.database base.old ≡ Some db → aggregates_nest_none query.now ≡ true → IfOk result (λ made. answer db Free made ≡ answer db Free query.now) }
-    ensures lacks { (db : Db) → B.database base.old ≡ Some db → aggregates_nest_none query.now ≡ true → IfOk result (λ made. lacks db Free made ≡ lacks db Free query.now) }
+    ensures known { (db : Db) → B.database base.old ≡ Some db → IfOk result (λ made. made ≡ put_in db Unrestricted query.now) }
+    ensures answer { (db : Db) → B.database base.old ≡ Some db → aggregates_nest_none query.now ≡ true → IfOk result (λ made. answer db Unrestricted made ≡ answer db Unrestricted query.now) }
+    ensures lacks { (db : Db) → B.database base.old ≡ Some db → aggregates_nest_none query.now ≡ true → IfOk result (λ made. lacks db Unrestricted made ≡ lacks db Unrestricted query.now) }
     ensures few { (db : Db) → B.database base.old ≡ Some db → OnOk result (expanded_variables db query.now ≤ 50) }
     ensures few_by_schema { (s : Db) → B.schema base.old ≡ Some s → reads_fit (kept_or_viewed s) s query.now ≡ true → OnOk result (expanded_variables s query.now ≤ 50) }
     ensures many_by_schema { (s : Db) → B.schema base.old ≡ Some s → reads_fit (kept_or_viewed s) s query.now ≡ true → IfErr result (HasMany s query.now) }
@@ -79,9 +79,9 @@ fn expand_fixed<B: Base>(alloc: Global, base: &mut B, query: &Query) -> Result<Q
 /// update, whose changed variable stays what it is.
 pub fn expand<B: Base>(alloc: Global, query: Query, base: &mut B) -> Result<Query, ExpandFault>
     requires { (db : Db) → B.database base.old ≡ Some db → reads_fit (kept_or_viewed db) db query ≡ true }
-    ensures known { (db : Db) → B.database base.old ≡ Some db → IfOk result (λ made. made ≡ put_in db Free query) }
-    ensures answer { (db : Db) → B.database base.old ≡ Some db → aggregates_nest_none query ≡ true → IfOk result (λ made. answer db Free made ≡ answer db Free query) }
-    ensures lacks { (db : Db) → B.database base.old ≡ Some db → aggregates_nest_none query ≡ true → IfOk result (λ made. lacks db Free made ≡ lacks db Free query) }
+    ensures known { (db : Db) → B.database base.old ≡ Some db → IfOk result (λ made. made ≡ put_in db Unrestricted query) }
+    ensures answer { (db : Db) → B.database base.old ≡ Some db → aggregates_nest_none query ≡ true → IfOk result (λ made. answer db Unrestricted made ≡ answer db Unrestricted query) }
+    ensures lacks { (db : Db) → B.database base.old ≡ Some db → aggregates_nest_none query ≡ true → IfOk result (λ made. lacks db Unrestricted made ≡ lacks db Unrestricted query) }
     ensures few { (db : Db) → B.database base.old ≡ Some db → OnOk result (expanded_variables db query ≤ 50) }
     ensures few_by_schema { IsTrue B.fixes → (s : Db) → B.schema base.new ≡ Some s → reads_fit (kept_or_viewed s) s query ≡ true
         → OnOk result (expanded_variables s query ≤ 50) }

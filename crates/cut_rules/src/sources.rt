@@ -50,7 +50,7 @@ fn rows_source<B: Base>(
     requires expanded { (db : Db) → B.database base.old ≡ Some db → (query_measure (measure_within levels db) query.now).variables ≤ 256 }
     requires found { (db : Db) → B.database base.old ≡ Some db → IsFound db (who_of (option_map (λ n. n.now) who)) found.old }
     ensures known { (db : Db) → B.database base.old ≡ Some db → IfOk result (λ made. made.0 ≡ rows_of_query (put_plain (text_within levels db (who_of (option_map (λ n. n.now) who.entry))) query.now)) }
-    ensures free { IfOk result (λ made. option_to_list made.1 ≡ []) }
+    ensures unrestricted { IfOk result (λ made. option_to_list made.1 ≡ []) }
     ensures permitted { (db : Db) → B.database base.old ≡ Some db → OnOk result (vars_permitted (permitted_within levels db (who_of (option_map (λ n. n.now) who.entry))) query.now (used_vars query.now) ≡ true) }
     ensures found { (db : Db) → B.database base.old ≡ Some db → IsFound db (who_of (option_map (λ n. n.now) who.entry)) found.new }
     ensures kept { B.database base.new ≡ B.database base.old }

@@ -19,7 +19,7 @@ use Rattle.calculus.specs.declared.request.Utility.TheVariants as utility
 use Rattle.calculus.specs.Change.{IsLawful}
 use Rattle.calculus.specs.Database.{Db}
 use Rattle.calculus.specs.Replacement.{updated}
-use Rattle.calculus.specs.Who.{Free}
+use Rattle.calculus.specs.Who.{Unrestricted}
 use Rattle.quel_meaning.specs.Copying.{refusal}
 use Rattle.quel_meaning.specs.Meaning.{answer_reply, change_effect, numbered_effect, tree_meaning, utility_effect}
 use Rattle.quel_meaning.specs.Planned.{planned}
@@ -77,20 +77,20 @@ module _ (old between : Db) (files : Files) (user : List ℕ) (work : Utility) (
 -- ---- trees
 
 module _ (old now : Db) (files : Files) (known : Option Files) (e : known ≡ Some files) (user : List ℕ) (tree : Checked) where
-  pub answer_done : (asked shown : List Asked) → tree ≡ checked.Answer asked → shown ≡ asked → Some now ≡ Some old → (reply : Reply) → reply ≡ answer_reply old Free shown
-      → Leaves (tree_meaning old files Free user tree) now known reply
+  pub answer_done : (asked shown : List Asked) → tree ≡ checked.Answer asked → shown ≡ asked → Some now ≡ Some old → (reply : Reply) → reply ≡ answer_reply old Unrestricted shown
+      → Leaves (tree_meaning old files Unrestricted user tree) now known reply
   unfolding tree_meaning
   answer_done asked shown is same kept reply h = record {
     files = files;
     known_so = e;
-    is = ap (tree_meaning old files Free user) is
-        ∙ (λ i. effect_of (sym (same_Some now old kept) i) files (answer_reply old Free (sym same i))) ∙ ap (effect_of now files) (sym h);
+    is = ap (tree_meaning old files Unrestricted user) is
+        ∙ (λ i. effect_of (sym (same_Some now old kept) i) files (answer_reply old Unrestricted (sym same i))) ∙ ap (effect_of now files) (sym h);
   }
 
-  pub update_done : (u : Update) → tree ≡ checked.Update u → (reply : Reply) → numbered_effect old files (updated old Free u) ≡ effect_of now files reply
-      → Leaves (tree_meaning old files Free user tree) now known reply
+  pub update_done : (u : Update) → tree ≡ checked.Update u → (reply : Reply) → numbered_effect old files (updated old Unrestricted u) ≡ effect_of now files reply
+      → Leaves (tree_meaning old files Unrestricted user tree) now known reply
   unfolding tree_meaning
-  update_done u is reply h = record { files = files; known_so = e; is = ap (tree_meaning old files Free user) is ∙ h }
+  update_done u is reply h = record { files = files; known_so = e; is = ap (tree_meaning old files Unrestricted user) is ∙ h }
 
 -- what a utility that asks no shelf does leaves the files
 pub plan_left : (old now : Db) (files : Files) (known : Option Files) → known ≡ Some files → (user : List ℕ) (work : Utility) (reply : Reply)
@@ -99,7 +99,7 @@ plan_left old now files known e user work reply h = record { files = files; know
 
 -- what the utilities do is what their tree does
 pub utility_done : (old now : Db) (files : Files) (known : Option Files) (user : List ℕ) (tree : Checked) (work : Utility) → tree ≡ checked.Utility work → (reply : Reply)
-    → Leaves (utility_effect old files user work) now known reply → Leaves (tree_meaning old files Free user tree) now known reply
+    → Leaves (utility_effect old files user work) now known reply → Leaves (tree_meaning old files Unrestricted user tree) now known reply
 unfolding tree_meaning
 utility_done old now files known user tree work is reply h =
-    record { files = h.files; known_so = h.known_so; is = ap (tree_meaning old files Free user) is ∙ h.is }
+    record { files = h.files; known_so = h.known_so; is = ap (tree_meaning old files Unrestricted user) is ∙ h.is }

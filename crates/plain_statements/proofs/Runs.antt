@@ -10,7 +10,7 @@ use Rattle.calculus.specs.declared.statement.Statement.{Statement}
 use Rattle.calculus.specs.declared.statement.Statement.TheVariants as statement
 use Rattle.calculus.specs.Database.{Db}
 use Rattle.calculus.specs.Finding.{found}
-use Rattle.calculus.specs.Who.{Free, asker_of}
+use Rattle.calculus.specs.Who.{Unrestricted, asker_of}
 use Rattle.fault_io.specs.Files.{Files}
 use Rattle.fault_io.specs.declared.shelf.ShelfFault.{ShelfFault}
 use Rattle.quel_meaning.specs.Copying.{refusal}
@@ -51,8 +51,8 @@ made_doable db now user ranges s (Ok tree) same h = subst (λ d. IsDoable d user
 made_doable db now user ranges s (Err fault) same h = tt
 
 module _ (db now : Db) (ranges : Ranges) (files : Files) (known : Option Files) (user : List ℕ) (s : Statement) where
-  -- what its checked tree does for nobody in particular, the statement does for the user
-  pub tree_outcome : (tree : Checked) (reply : Reply) → IsChecked db user ranges s tree → Leaves (tree_meaning db files Free user tree) now known reply
+  -- what its checked tree does unrestricted, the statement does for the user
+  pub tree_outcome : (tree : Checked) (reply : Reply) → IsChecked db user ranges s tree → Leaves (tree_meaning db files Unrestricted user tree) now known reply
       → Comes (judged_outcome (state_on db ranges files) (asker_of user) (judged db (asker_of user) ranges s)) now ranges known reply
   tree_outcome tree reply c h = record {
     files = h.files;

@@ -7,7 +7,7 @@ use Rattle.calculus.specs.declared.statement.Statement.{Statement}
 use Rattle.calculus.specs.Database.{Db}
 use Rattle.calculus.specs.Pairs.{pairs}
 use Rattle.calculus.specs.Replacement.{update_lacks, values_fit}
-use Rattle.calculus.specs.Who.{Free, asker_of}
+use Rattle.calculus.specs.Who.{Unrestricted, asker_of}
 use Rattle.quel_meaning.specs.Meaning.{judged}
 use Rattle.quel_meaning.specs.Ranges.{Ranges}
 use Rattle.stage_parse.specs.Checks.{IsChecked}
@@ -25,8 +25,8 @@ Plans made refused (Err OutOfMemory) = Unit {0}
 abbrev pub IsMade : Db → List ℕ → Ranges → Statement → Result Checked Stopped → Type 0
 IsMade db user ranges s made = Plans (λ tree. IsChecked db user ranges s tree × IsDoable db user tree) (λ number. judged db (asker_of user) ranges s ≡ Err number) made
 
--- these are the update's pairs for nobody in particular; no target lacks a value, and all values fit
+-- these are the update's pairs unrestricted; no target lacks a value, and all values fit
 pub record ArePairs (db : Db) (u : Update) (ps : List Pair) : Type 0 where
-  pub are : ps ≡ pairs db Free u
-  pub values : IsFalse (update_lacks db Free u)
-  pub fit : IsTrue (values_fit db Free u)
+  pub are : ps ≡ pairs db Unrestricted u
+  pub values : IsFalse (update_lacks db Unrestricted u)
+  pub fit : IsTrue (values_fit db Unrestricted u)

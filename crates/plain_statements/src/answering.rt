@@ -2,7 +2,7 @@
 
 ghost use Rattle.std.specs.Prelude.{◌≡◌, Some, IfOk};
 ghost use Rattle.calculus.specs.Database.{Db};
-ghost use Rattle.calculus.specs.Who.{Free};
+ghost use Rattle.calculus.specs.Who.{Unrestricted};
 ghost use Rattle.quel_meaning.specs.Meaning.{answer_reply};
 ghost use Rattle.plain_statements.specs.Doable.{AreDoable};
 
@@ -20,7 +20,7 @@ pub(crate) fn answered<B: Base>(
     asked: &[Asked],
 ) -> Result<Reply, OutOfMemory>
     requires { (db : Db) → B.database base.old ≡ Some db → AreDoable db asked.now }
-    ensures known { (db : Db) → B.database base.old ≡ Some db → IfOk result (λ reply. reply ≡ answer_reply db Free asked.now) }
+    ensures known { (db : Db) → B.database base.old ≡ Some db → IfOk result (λ reply. reply ≡ answer_reply db Unrestricted asked.now) }
     ensures kept { B.database base.new ≡ B.database base.old }
 {
     match tables_of(alloc, base, asked) {

@@ -3,7 +3,7 @@
 ghost use Rattle.std.specs.Prelude.{◌≡◌, Some, Ok, Err};
 ghost use Rattle.calculus.specs.Database.{Db};
 ghost use Rattle.calculus.specs.Replacement.{updated};
-ghost use Rattle.calculus.specs.Who.{Free};
+ghost use Rattle.calculus.specs.Who.{Unrestricted};
 ghost use Rattle.update_change.specs.Changes.{MakesNew};
 ghost use Rattle.plain_statements.specs.Plans.{Plans, ArePairs};
 
@@ -21,7 +21,7 @@ pub(crate) fn changed_by<B: Base>(
     pairs: Vec<Pair>,
 ) -> Result<DbChange, Stopped>
     ensures known { (db : Db) → B.database base.old ≡ Some db → MakesNew db u.now → ArePairs db u.now pairs.items
-        → Plans (λ change. updated db Free u.now ≡ Ok change) (λ number. updated db Free u.now ≡ Err number) result }
+        → Plans (λ change. updated db Unrestricted u.now ≡ Ok change) (λ number. updated db Unrestricted u.now ≡ Err number) result }
     ensures kept { B.database base.new ≡ B.database base.old }
 {
     let change = change_of(alloc, base, u, pairs)?;

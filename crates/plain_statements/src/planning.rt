@@ -4,7 +4,7 @@ ghost use Rattle.std.specs.Prelude.{◌≡◌, Some, Ok, Err};
 ghost use Rattle.calculus.specs.Change.{IsLawful};
 ghost use Rattle.calculus.specs.Database.{Db};
 ghost use Rattle.calculus.specs.Replacement.{updated};
-ghost use Rattle.calculus.specs.Who.{Free};
+ghost use Rattle.calculus.specs.Who.{Unrestricted};
 ghost use Rattle.plain_statements.specs.Doable.{IsDoableUpdate};
 ghost use Rattle.plain_statements.specs.Plans.{Plans};
 
@@ -23,7 +23,7 @@ pub(crate) fn update_planned<B: Base>(
 ) -> Result<DbChange, Stopped>
     requires { (db : Db) → B.database base.old ≡ Some db → IsDoableUpdate db u.now }
     ensures known { (db : Db) → B.database base.old ≡ Some db
-        → Plans (λ change. (updated db Free u.now ≡ Ok change) × IsLawful db change) (λ number. updated db Free u.now ≡ Err number) result }
+        → Plans (λ change. (updated db Unrestricted u.now ≡ Ok change) × IsLawful db change) (λ number. updated db Unrestricted u.now ≡ Err number) result }
     ensures kept { B.database base.new ≡ B.database base.old }
 {
     let pairs = paired(alloc, base, u)?;

@@ -13,7 +13,7 @@ use stage_parse::checked;
 use std::alloc::Global;
 
 /// The checked tree of a statement of the user's which has what each one has that is read of a text: it
-/// can be carried out for nobody in particular, and does then what the statement does for
+/// can be carried out unrestricted, and does then what the statement does for
 /// the user. Or the number of what refuses the statement.
 pub(crate) fn tree_of<B: Base>(
     alloc: Global,

@@ -7,7 +7,7 @@ use Rattle.calculus.specs.declared.statement.Statement.{Statement}
 use Rattle.calculus.specs.declared.statement.Statement.TheVariants as statement
 use Rattle.calculus.specs.Database.{Db}
 use Rattle.calculus.specs.Lists.{has_number}
-use Rattle.calculus.specs.Who.{Asker, Asks}
+use Rattle.calculus.specs.Who.{Asker, AsUser}
 use Rattle.quel_meaning.specs.Meaning.{Resolving, checked_permitted, permitted_tree, judged_tree, judged_by, judged, judged_outcome, is_range, meaning_by}
 use Rattle.quel_meaning.specs.Purpose.{cause_numbers}
 use Rattle.quel_meaning.specs.Ranges.{Ranges}
@@ -61,31 +61,31 @@ refused_early db asker ranges s n e = go (resolved db asker.user ranges s) refl 
 
     go : (r : Result Checked ℕ) → resolved db asker.user ranges s ≡ r → judged_tree db asker r ≡ Err n → is_early n ≡ true
     go (Err m) f k = let same : m ≡ n = cc k in subst (λ x. is_early x ≡ true) same (one_of (10 ∷ 11 ∷ 12 ∷ cause_numbers s) m (all_early s) (refused_by db asker.user ranges s m f))
-    go (Ok tree) f k = lacks tree (checked_permitted db (Asks asker) tree) k
+    go (Ok tree) f k = lacks tree (checked_permitted db (AsUser asker) tree) k
 
 -- ---- the trees
 
 -- a tree that a statement is judged to ask for
 pub record IsJudged (resolved : Resolving) (db : Db) (asker : Asker) (ranges : Ranges) (s : Statement) (tree : Checked) : Type 0 where
   pub resolved_so : resolved db asker.user ranges s ≡ Ok tree
-  pub permitted : checked_permitted db (Asks asker) tree ≡ true
+  pub permitted : checked_permitted db (AsUser asker) tree ≡ true
 
 pub judged_so : (resolved : Resolving) (db : Db) (asker : Asker) (ranges : Ranges) (s : Statement) (tree : Checked)
     → judged_by resolved db asker ranges s ≡ Ok tree → IsJudged resolved db asker ranges s tree
 unfolding judged_by
 judged_so resolved db asker ranges s tree e = go (resolved db asker.user ranges s) refl e
   where
-    allowed : (t : Checked) → resolved db asker.user ranges s ≡ Ok t → (permitted : Bool) → checked_permitted db (Asks asker) t ≡ permitted → permitted_tree permitted t ≡ Ok tree
+    allowed : (t : Checked) → resolved db asker.user ranges s ≡ Ok t → (permitted : Bool) → checked_permitted db (AsUser asker) t ≡ permitted → permitted_tree permitted t ≡ Ok tree
         → IsJudged resolved db asker ranges s tree
-    allowed t f true p k = let same : t ≡ tree = cc k in record { resolved_so = f ∙ ap Ok same; permitted = subst (λ x. checked_permitted db (Asks asker) x ≡ true) same p }
+    allowed t f true p k = let same : t ≡ tree = cc k in record { resolved_so = f ∙ ap Ok same; permitted = subst (λ x. checked_permitted db (AsUser asker) x ≡ true) same p }
     allowed t f false p k = absurd (cc k)
 
     go : (r : Result Checked ℕ) → resolved db asker.user ranges s ≡ r → judged_tree db asker r ≡ Ok tree → IsJudged resolved db asker ranges s tree
     go (Err n) f k = absurd (cc k)
-    go (Ok t) f k = allowed t f (checked_permitted db (Asks asker) t) refl k
+    go (Ok t) f k = allowed t f (checked_permitted db (AsUser asker) t) refl k
 
 pub judged_permitted : (resolved : Resolving) (db : Db) (asker : Asker) (ranges : Ranges) (s : Statement) (tree : Checked)
-    → judged_by resolved db asker ranges s ≡ Ok tree → checked_permitted db (Asks asker) tree ≡ true
+    → judged_by resolved db asker ranges s ≡ Ok tree → checked_permitted db (AsUser asker) tree ≡ true
 judged_permitted resolved db asker ranges s tree e = (judged_so resolved db asker ranges s tree e).permitted
 
 pub judged_resolved : (resolved : Resolving) (db : Db) (asker : Asker) (ranges : Ranges) (s : Statement) (tree : Checked)

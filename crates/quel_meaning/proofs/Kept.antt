@@ -14,7 +14,7 @@ use Rattle.calculus.specs.declared.reply.Reply.TheVariants.{Nothing, Refused}
 use Rattle.calculus.specs.declared.schema.RelInfo.{RelInfo}
 use Rattle.calculus.specs.declared.statement.Statement.{Statement}
 use Rattle.calculus.specs.declared.statement.Statement.TheVariants.{Range}
-use Rattle.calculus.specs.Who.{Who, Asker, Asks}
+use Rattle.calculus.specs.Who.{Who, Asker, AsUser}
 use Rattle.calculus.specs.Database.{Db}
 use Rattle.calculus.specs.Replacement.{updated}
 use Rattle.calculus.specs.Finding.{found}
@@ -70,8 +70,8 @@ same_state state e h =
 kept_judged : (state : State) (asker : Asker) (tree : Result Checked ℕ) → StateKeptBy state (judged_outcome state asker tree)
 kept_judged state asker (Err number) = λ r h. refl
 kept_judged state asker (Ok tree) = λ r h.
-    same_state state (tree_meaning state.db state.shelf (Asks asker) asker.user (ruled_tree state.db tree))
-    (kept_tree state.db state.shelf (Asks asker) asker.user (ruled_tree state.db tree) r h)
+    same_state state (tree_meaning state.db state.shelf (AsUser asker) asker.user (ruled_tree state.db tree))
+    (kept_tree state.db state.shelf (AsUser asker) asker.user (ruled_tree state.db tree) r h)
 
 kept_range : (state : State) (var : List ℕ) (info : Option RelInfo) → StateKeptBy state (range_outcome state var info)
 kept_range state var None = λ r h. refl
@@ -130,4 +130,4 @@ pub what_asks_keeps : (resolved : Resolving) (state : State) (asker : Asker) (s 
 unfolding meaning_by judged_by
 what_asks_keeps resolved state asker (Range var rel) asked = λ h e. cc h
 what_asks_keeps resolved state asker s asked = λ h e.
-    ap (λ tree. (judged_outcome state asker (judged_tree state.db asker tree)).state) e ∙ kept_answer state asker asked (checked_permitted state.db (Asks asker) (Answer asked))
+    ap (λ tree. (judged_outcome state asker (judged_tree state.db asker tree)).state) e ∙ kept_answer state asker asked (checked_permitted state.db (AsUser asker) (Answer asked))

@@ -15,7 +15,7 @@ use Rattle.calculus.specs.declared.reply.Reply.TheVariants.{Nothing, Done, Refus
 use Rattle.calculus.specs.declared.schema.RelInfo.{RelInfo}
 use Rattle.calculus.specs.declared.statement.Statement.{Statement}
 use Rattle.calculus.specs.declared.statement.Statement.TheVariants.{Range}
-use Rattle.calculus.specs.Who.{Who, Asker, Asks}
+use Rattle.calculus.specs.Who.{Who, Asker, AsUser}
 use Rattle.calculus.specs.Database.{Db}
 use Rattle.calculus.specs.Finding.{found}
 use Rattle.calculus.specs.Permission.{query_permitted, update_permitted}
@@ -103,7 +103,7 @@ permitted_tree false tree = Err 23
 -- the tree of a statement, where all that it reads and changes is permitted to the one who asks; else 23
 abbrev pub judged_tree : Db → Asker → Result Checked ℕ → Result Checked ℕ
 judged_tree db asker (Err number) = Err number
-judged_tree db asker (Ok tree) = permitted_tree (checked_permitted db (Asks asker) tree) tree
+judged_tree db asker (Ok tree) = permitted_tree (checked_permitted db (AsUser asker) tree) tree
 
 -- what a statement asks for: its tree, or the number of what refuses it before the tree is handed on; what utilities refuse of it is judged later
 unfoldable pub judged_by : Resolving → Db → Asker → Ranges → Statement → Result Checked ℕ
@@ -132,7 +132,7 @@ with_ranges ranges e = record { state = record { db = e.db; shelf = e.shelf; ran
 abbrev pub judged_outcome : State → Asker → Result Checked ℕ → Outcome
 judged_outcome state asker (Err number) = refused_outcome state number
 judged_outcome state asker (Ok tree) =
-    with_ranges state.ranges (tree_meaning state.db state.shelf (Asks asker) asker.user (ruled_tree state.db tree))
+    with_ranges state.ranges (tree_meaning state.db state.shelf (AsUser asker) asker.user (ruled_tree state.db tree))
 
 -- the statement declares a range variable
 abbrev pub is_range : Statement → Bool

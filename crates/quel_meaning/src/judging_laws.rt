@@ -5,7 +5,7 @@ ghost use Rattle.calculus.specs.declared.request.Checked.{Checked};
 ghost use Rattle.calculus.specs.declared.statement.Statement.{Statement};
 ghost use Rattle.calculus.specs.Database.{Db};
 ghost use Rattle.calculus.specs.Lists.{has_number};
-ghost use Rattle.calculus.specs.Who.{Asker, Asks};
+ghost use Rattle.calculus.specs.Who.{Asker, AsUser};
 ghost use Rattle.quel_meaning.specs.Ranges.{Ranges};
 ghost use Rattle.quel_meaning.specs.State.{State};
 ghost use Rattle.quel_meaning.specs.Meaning.{Resolving, checked_permitted, judged_by, judged, judged_outcome, is_range, meaning_by};
@@ -19,7 +19,7 @@ pub fn what_is_judged_is_permitted()
     ensures resolved { (resolved : Resolving) (db : Db) (asker : Asker) (ranges : Ranges) (s : Statement) (tree : Checked)
         → judged_by resolved db asker ranges s ≡ Ok tree → resolved db asker.user ranges s ≡ Ok tree }
     ensures permitted { (resolved : Resolving) (db : Db) (asker : Asker) (ranges : Ranges) (s : Statement) (tree : Checked)
-        → judged_by resolved db asker ranges s ≡ Ok tree → checked_permitted db (Asks asker) tree ≡ true }
+        → judged_by resolved db asker ranges s ≡ Ok tree → checked_permitted db (AsUser asker) tree ≡ true }
 {}
 
 /// What a statement does, but for one that declares a variable, is what it is judged to ask for.

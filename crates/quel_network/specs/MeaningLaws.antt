@@ -18,7 +18,7 @@ use Rattle.calculus.specs.declared.statement.Statement.TheVariants.{Range}
 use Rattle.calculus.specs.Finding.{found}
 use Rattle.calculus.specs.Replacement.{updated}
 use Rattle.calculus.specs.Rows.{Row}
-use Rattle.calculus.specs.Who.{Who, Asks}
+use Rattle.calculus.specs.Who.{Who, AsUser}
 use Rattle.network_meaning.specs.Sorts.{Meaning, Meaning.names, Meaning.objects, Meaning.runs}
 use Rattle.network_meaning.specs.Language.{lines_of as row_lines, tables_bytes, reply_bytes as outcome_bytes, db_after, shelf_after}
 use Rattle.quel_meaning.specs.Copying.{copied_from, copied_into, file_of_constant, refusal}
@@ -127,7 +127,7 @@ matches_judged : (user : User) (line : ℕ) (state : State) (tree : Result Check
     → left_by line (judged_outcome state user.asker tree) ≡ left_of user line state (judged_meaning user.asker state.db state.shelf tree)
 unfolding reply_bytes
 matches_judged user line state (Err number) = refl
-matches_judged user line state (Ok tree) = matches_tree user line state (Asks user.asker) (ruled_tree state.db tree)
+matches_judged user line state (Ok tree) = matches_tree user line state (AsUser user.asker) (ruled_tree state.db tree)
 
 -- a statement leaves and prints what it means for the stages
 pub matches_statement : (user : User) (line : ℕ) (state : State) (s : Statement)

@@ -21,7 +21,7 @@ use Rattle.calculus.specs.Database.{Db}
 use Rattle.calculus.specs.Finding.{found}
 use Rattle.calculus.specs.IsDatabase.{IsDatabase}
 use Rattle.calculus.specs.Replacement.{update_refusals, updated}
-use Rattle.calculus.specs.Who.{Who, Free, Asker, Asks}
+use Rattle.calculus.specs.Who.{Who, Unrestricted, Asker, AsUser}
 use Rattle.fault_io.specs.Files.{Files}
 use Rattle.quel_meaning.specs.Copying.{refusal, copied_from, copied_into, file_of_constant}
 use Rattle.quel_meaning.specs.Meaning.{change_effect, numbered_effect, file_effect, answer_reply, copy_effect, utility_effect, tree_meaning, checked_permitted, permitted_tree, judged_tree, judged_by, judged}
@@ -117,8 +117,8 @@ refused_reply db shelf (reply.Tables ts) r e = absurd (cc e)
 pub outcome_has : (asker : Asker) (tree : Checked) (db : Db) (shelf : Files) (r : Refusal) → IsDatabase db → outcome_of_tree asker tree db shelf ≡ refuses r → HasSpelling r
 unfolding outcome_of_tree
 outcome_has asker tree db shelf r is e =
-    let effect = tree_meaning db shelf Free asker.user tree in
-    tree_has db shelf Free asker.user tree r is (refused_reply effect.db effect.shelf effect.reply r e)
+    let effect = tree_meaning db shelf Unrestricted asker.user tree in
+    tree_has db shelf Unrestricted asker.user tree r is (refused_reply effect.db effect.shelf effect.reply r e)
 
 -- ---- statements
 
@@ -156,7 +156,7 @@ judged_known db asker ranges s n e = go (resolved db asker.user ranges s) refl e
     go (Err m) f k =
         let same : m ≡ n = cc k in
         subst (λ x. is_refusal_number x ≡ true) same (one_passes is_refusal_number (10 ∷ 11 ∷ 12 ∷ cause_numbers s) m (numbers_known s) (refused_by db asker.user ranges s m f))
-    go (Ok tree) f k = lacks tree (checked_permitted db (Asks asker) tree) k
+    go (Ok tree) f k = lacks tree (checked_permitted db (AsUser asker) tree) k
 
 range_has : (ranges : Ranges) (var : List ℕ) (info : Option RelInfo) (r : Refusal) → range_meaning ranges var info ≡ objects r → HasSpelling r
 range_has ranges var None r e = let same : refusal 10 ≡ r = cc e in subst HasSpelling same (numbered_has 10 refl)

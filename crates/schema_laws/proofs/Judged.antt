@@ -27,7 +27,7 @@ use Rattle.calculus.specs.Keys.{key_of, same_key}
 use Rattle.calculus.specs.Kinds.{comparable, is_text_kind, kinds_fit}
 use Rattle.calculus.specs.Limits.{most_permits, most_rules, most_listed_attributes, greatest_size, most_entries, most_expanded_variables, most_levels, most_variables}
 use Rattle.calculus.specs.Lists.{differ_by, is_any}
-use Rattle.calculus.specs.Who.{Who, Asker, Asks}
+use Rattle.calculus.specs.Who.{Who, Asker, AsUser}
 use Rattle.calculus.specs.Database.{Db, entries, is_there}
 use Rattle.calculus.specs.Stored.{kinds_at, attrs_in}
 use Rattle.calculus.specs.QueryParts.{vars_of, targets_of, qual_of, query_aggregates}
@@ -317,7 +317,7 @@ checked_alike db who (checked.Utility work) = refl
 
 judged_tree_alike : (db : Db) (asker : Asker) (r : Result Checked ℕ) → judged_tree (schema_of db) asker r ≡ judged_tree db asker r
 judged_tree_alike db asker (Err number) = refl
-judged_tree_alike db asker (Ok tree) = ap (λ b. permitted_tree b tree) (checked_alike db (Asks asker) tree)
+judged_tree_alike db asker (Ok tree) = ap (λ b. permitted_tree b tree) (checked_alike db (AsUser asker) tree)
 
 pub judged_alike : (db : Db) (asker : Asker) (ranges : Ranges) (stmt : Statement) → judged (schema_of db) asker ranges stmt ≡ judged db asker ranges stmt
 unfolding judged_by

@@ -36,7 +36,7 @@ use Rattle.calculus.specs.Term.{holds, no_aggs}
 use Rattle.calculus.specs.Tree as tree
 use Rattle.calculus.specs.TreeLevels.{query_levels}
 use Rattle.calculus.specs.Used.{used_in_query, used_in_aggregate}
-use Rattle.calculus.specs.Who.{Who, Asker, Free, Asks}
+use Rattle.calculus.specs.Who.{Who, Asker, Unrestricted, AsUser}
 use Rattle.calculus_laws.proofs.SameRows.{all_at}
 use Rattle.calculus_laws.proofs.Through.{each_said}
 use Rattle.quel_meaning.specs.Meaning.{ruled_tree}
@@ -219,8 +219,8 @@ module _ (db : Db) (d : IsDatabase db) (who : Who) where
       (any_one (map permit_condition (covering db asker right attrs key)) (conditions_of (covering db asker right attrs key) (in_filter (λ (p : Permit). Qual p.qual) (λ p. covers p asker right attrs) (permits_on db key) (permits_each key))), tt)
 
   cut_each : (w : Who) (right : Right) (attrs : List ℕ) (key : RelKey) → Each Qual (cut db w right attrs key)
-  cut_each Free right attrs key = tt
-  cut_each (Asks asker) right attrs key = cut_by asker right attrs key (needs_none db asker right key)
+  cut_each Unrestricted right attrs key = tt
+  cut_each (AsUser asker) right attrs key = cut_by asker right attrs key (needs_none db asker right key)
 
   kept_one : (conditions : List QQual) (key : RelKey) → Each Qual conditions → IsOne (kept_text conditions key)
   kept_one conditions key h = record { attr = λ a. refl; conditions = h }

@@ -5,7 +5,7 @@ use Rattle.calculus.specs.declared.statement.Statement.{Statement}
 use Rattle.calculus.specs.Database.{Db}
 use Rattle.calculus.specs.IsDatabase.{IsDatabase}
 use Rattle.calculus.specs.Name.{is_name}
-use Rattle.calculus.specs.Who.{Who, Free, asker_of, asks}
+use Rattle.calculus.specs.Who.{Who, Unrestricted, asker_of, as_user}
 use Rattle.quel_meaning.specs.Fit.{suits, fits, is_fit, is_fit_with_views}
 use Rattle.quel_meaning.specs.FitQueries.{kept_or_viewed}
 use Rattle.quel_meaning.specs.IsWritten.{is_written}
@@ -41,7 +41,7 @@ judged_of db user ranges s = refl
 judged_refused : (db : Db) (user : List ℕ) (ranges : Ranges) (s : Statement) (number : ℕ) → resolved db user ranges s ≡ Err number → judged db (asker_of user) ranges s ≡ Err number
 judged_refused db user ranges s number e = judged_of db user ranges s ∙ ap (judged_tree db (asker_of user)) e
 
-judged_with : (db : Db) (user : List ℕ) (ranges : Ranges) (s : Statement) (tree : Checked) (b : Bool) → resolved db user ranges s ≡ Ok tree → checked_permitted db (asks user) tree ≡ b
+judged_with : (db : Db) (user : List ℕ) (ranges : Ranges) (s : Statement) (tree : Checked) (b : Bool) → resolved db user ranges s ≡ Ok tree → checked_permitted db (as_user user) tree ≡ b
     → judged db (asker_of user) ranges s ≡ permitted_tree b tree
 judged_with db user ranges s tree b e h = judged_of db user ranges s ∙ ap (judged_tree db (asker_of user)) e ∙ ap (λ p. permitted_tree p tree) h
 
@@ -55,27 +55,27 @@ fit_resolved db user ranges s tree d named written h = resolved_fits db user ran
 -- it is cut, and the rules join it
 comes : (db : Db) (user : List ℕ) (ranges : Ranges) (s : Statement) (tree made : Checked) → IsDatabase db → is_name user ≡ true → is_written s ≡ true
     → Resolves db user ranges s (Ok tree)
-    → (made ≡ ruled_tree db (put_in_tree db (asks user) tree)) × (checked_permitted db (asks user) tree ≡ true) → IsChecked db user ranges s made
+    → (made ≡ ruled_tree db (put_in_tree db (as_user user) tree)) × (checked_permitted db (as_user user) tree ≡ true) → IsChecked db user ranges s made
 comes db user ranges s tree made d named written h k =
     let fit : is_fit_with_views db user tree ≡ true = fit_resolved db user ranges s tree d named written h in
     record {
       asked = tree;
       judged = judged_with db user ranges s tree true h k.1;
       put_in = k.0;
-      fit = ap (is_fit db user) k.0 ∙ fit_ruled db d (asks user) user tree fit (put_spelled db d user (asks user) tree fit);
-      means = λ shelf. ap (tree_meaning db shelf Free user) k.0 ∙ sym (ruled_means_same db d (asks user) shelf user tree fit);
+      fit = ap (is_fit db user) k.0 ∙ fit_ruled db d (as_user user) user tree fit (put_spelled db d user (as_user user) tree fit);
+      means = λ shelf. ap (tree_meaning db shelf Unrestricted user) k.0 ∙ sym (ruled_means_same db d (as_user user) shelf user tree fit);
     }
 
 -- it isn't permitted
 refused : (db : Db) (user : List ℕ) (ranges : Ranges) (s : Statement) (tree : Checked) (number : ℕ) → Resolves db user ranges s (Ok tree)
-    → (number ≡ 23) × (checked_permitted db (asks user) tree ≡ false) → Checks db user ranges s (Err (fault.No number))
+    → (number ≡ 23) × (checked_permitted db (as_user user) tree ≡ false) → Checks db user ranges s (Err (fault.No number))
 refused db user ranges s tree number h k = judged_with db user ranges s tree false h k.1 ∙ ap Err (sym k.0)
 
 -- by what is told of what is cut and ruled
 pub follows : (db : Db) (user : List ℕ) (ranges : Ranges) (s : Statement) (tree : Checked) → IsDatabase db → is_name user ≡ true → is_written s ≡ true
     → Resolves db user ranges s (Ok tree) → (result : Result Checked CheckFault)
-    → Says (λ made. (made ≡ ruled_tree db (put_in_tree db (asks user) tree)) × (checked_permitted db (asks user) tree ≡ true))
-    (λ number. (number ≡ 23) × (checked_permitted db (asks user) tree ≡ false)) result
+    → Says (λ made. (made ≡ ruled_tree db (put_in_tree db (as_user user) tree)) × (checked_permitted db (as_user user) tree ≡ true))
+    (λ number. (number ≡ 23) × (checked_permitted db (as_user user) tree ≡ false)) result
     → Checks db user ranges s result
 follows db user ranges s tree d named written h (Ok made) k = comes db user ranges s tree made d named written h k
 follows db user ranges s tree d named written h (Err (fault.No number)) k = refused db user ranges s tree number h k

@@ -2,7 +2,7 @@
 
 ghost use Rattle.std.specs.Prelude.{◌≡◌, true, false, Some};
 ghost use Rattle.calculus.specs.Database.{Db};
-ghost use Rattle.calculus.specs.Who.{asks};
+ghost use Rattle.calculus.specs.Who.{as_user};
 ghost use Rattle.quel_meaning.specs.Fit.{is_fit_with_views};
 ghost use Rattle.quel_meaning.specs.Meaning.{checked_permitted, ruled_tree};
 ghost use Rattle.utility_trees.specs.Answers.{Says};
@@ -27,8 +27,8 @@ fn cut<B: Base>(
 ) -> Result<Checked, CheckFault>
     requires { (db : Db) → B.database base.old ≡ Some db → is_fit_with_views db user.now tree ≡ true }
     ensures known { (db : Db) → B.database base.old ≡ Some db
-        → Says (λ made. (made ≡ put_in_tree db (asks user.now) tree) × (checked_permitted db (asks user.now) tree ≡ true))
-        (λ number. (number ≡ 23) × (checked_permitted db (asks user.now) tree ≡ false)) result }
+        → Says (λ made. (made ≡ put_in_tree db (as_user user.now) tree) × (checked_permitted db (as_user user.now) tree ≡ true))
+        (λ number. (number ≡ 23) × (checked_permitted db (as_user user.now) tree ≡ false)) result }
     ensures kept { B.database base.new ≡ B.database base.old }
     ensures stays { (s : Db) → B.schema base.old ≡ Some s → B.schema base.new ≡ Some s }
     ensures asked { (b : B) → B.asked b base.old → B.asked b base.new }
@@ -52,8 +52,8 @@ pub(crate) fn cut_and_ruled<B: Base>(
 ) -> Result<Checked, CheckFault>
     requires { (db : Db) → B.database base.old ≡ Some db → is_fit_with_views db user.now tree ≡ true }
     ensures known { (db : Db) → B.database base.old ≡ Some db
-        → Says (λ made. (made ≡ ruled_tree db (put_in_tree db (asks user.now) tree)) × (checked_permitted db (asks user.now) tree ≡ true))
-        (λ number. (number ≡ 23) × (checked_permitted db (asks user.now) tree ≡ false)) result }
+        → Says (λ made. (made ≡ ruled_tree db (put_in_tree db (as_user user.now) tree)) × (checked_permitted db (as_user user.now) tree ≡ true))
+        (λ number. (number ≡ 23) × (checked_permitted db (as_user user.now) tree ≡ false)) result }
     ensures kept { B.database base.new ≡ B.database base.old }
     ensures stays { (s : Db) → B.schema base.old ≡ Some s → B.schema base.new ≡ Some s }
     ensures asked { (b : B) → B.asked b base.old → B.asked b base.new }

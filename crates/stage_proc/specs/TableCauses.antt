@@ -10,7 +10,7 @@ use Rattle.calculus.specs.Database.{Db}
 use Rattle.calculus.specs.QueryParts.{vars_of}
 use Rattle.calculus.specs.Term.{Env}
 use Rattle.calculus.specs.VariableRows.{rows_of}
-use Rattle.calculus.specs.Who.{Free}
+use Rattle.calculus.specs.Who.{Unrestricted}
 use Rattle.am_traits.specs.Causes.{MayCome}
 use Rattle.ovqp.specs.ProductCauses.{Lacks}
 use Rattle.quel_meaning.specs.FitQueries.{is_kept, kept_alone, slots_count_up, sources_fit}
@@ -26,15 +26,15 @@ pub record CanBeAnswered (db : Db) (q : Query) : Type 0 where
 
 -- the query lacks a value over this database, and this is one of the assignments in which a target does
 pub record LacksIn (db : Db) (q : Query) (at : Env) : Type 0 where
-  pub somewhere : IsTrue (lacks db Free q)
-  pub there : Lacks (aggregates db Free) q (assigned (rows_of db Free) q) at
+  pub somewhere : IsTrue (lacks db Unrestricted q)
+  pub there : Lacks (aggregates db Unrestricted) q (assigned (rows_of db Unrestricted) q) at
 
 -- the same of one of these queries
 pub record OneLacksIn (db : Db) (asked : List Asked) (at : Env) : Type 0 where
   pub one : Asked
   pub among : Contains asked one
   pub there : LacksIn db one.query at
-  pub somewhere : IsTrue (some_query_lacks db Free asked)
+  pub somewhere : IsTrue (some_query_lacks db Unrestricted asked)
 
 -- this fault may come: a target lacks a value, as is said, where a database is known; a fault of the database where it may come; want of memory; where it isn't the database's, its count stayed
 abbrev pub MayFail : (Db → Env → Type 0) → Option Db → ℕ → ℕ → QueryFault → Type 0

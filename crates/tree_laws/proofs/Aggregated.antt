@@ -1,4 +1,4 @@
--- An aggregate with texts put in gives for nobody in particular what the aggregate gives for the one who asks.
+-- An aggregate with texts put in gives unrestricted what the aggregate gives for the one who asks.
 use Rattle.std.proofs.Common.{◌≡◌, refl, sym, ap, ◌∙◌, ℕ, ◌-◌, Bool, true, false, cond, not, ◌&&◌, List, [], ◌∷◌, map, Option, Some, None, arith}
 use Rattle.std.proofs.lemmas.Bool.Decides.{nat_tests}
 use Rattle.std.specs.Prelude.{filter, nat_eq, bytes_eq, if◌then◌else◌, option_map, pos}
@@ -23,7 +23,7 @@ use Rattle.calculus.specs.Kinds.{kind_of, is_text_kind}
 use Rattle.calculus.specs.Limits.{greatest_level}
 use Rattle.calculus.specs.Rows.{Row}
 use Rattle.calculus.specs.Term.{Env, Aggs, val, holds, no_aggs, values_of, value_before}
-use Rattle.calculus.specs.Who.{Who, Free}
+use Rattle.calculus.specs.Who.{Who, Unrestricted}
 use Rattle.calculus.specs.Database.{Db, View}
 use Rattle.calculus.specs.IsDatabase.{IsDatabase, same_domain, same_kind, attrs_are_targets}
 use Rattle.calculus.specs.Stored.{Range, Kept, Viewed, range_info, range_at, info_at, attrs_in, kinds_at, rows_at, kept_rows}
@@ -49,8 +49,8 @@ use Rattle.tree_laws.proofs.Halves.{holds_all_of}
 use Rattle.tree_laws.proofs.Scopes.{both_true}
 use Rattle.tree_laws.proofs.Queries.{targets_of-put}
 use Rattle.tree_laws.proofs.Denoted.{cut_holds}
-use Rattle.tree_laws.proofs.Sound.{viewed, plain_view, free_rows}
-use Rattle.tree_laws.proofs.Freely.{plain_put}
+use Rattle.tree_laws.proofs.Sound.{viewed, plain_view, unrestricted_rows}
+use Rattle.tree_laws.proofs.Unrestrictedly.{plain_put}
 use Rattle.calculus.specs.declared.value.Value.TheVariants.{Text, Int}
 
 -- ---- links
@@ -149,7 +149,7 @@ module _ (db : Db) (d : IsDatabase db) (who : Who) where
 
     -- another source, with these conditions beside the qualification, has the same rows to fold and the same kinds
     pub record FoldsAs (source other : AggSource) (conditions : List QQual) : Type 0 where
-      pub folded : (used : List ℕ) (link : Row) → filter (is_folded (all_of (qual ∷ conditions)) link) (source_rows (rows_of db Free) used other)
+      pub folded : (used : List ℕ) (link : Row) → filter (is_folded (all_of (qual ∷ conditions)) link) (source_rows (rows_of db Unrestricted) used other)
           ≡ filter (is_folded qual link) (source_rows (rows_of db who) attrs source)
       pub kinds : source_kinds db other ≡ source_kinds db source
 
@@ -171,7 +171,7 @@ module _ (db : Db) (d : IsDatabase db) (who : Who) where
         → FoldsAs (Named key) (Named key) (cut db who Retrieve attrs key)
     kept_folds key kept rows = record {
       folded = λ used link.
-          ap (filter (is_folded (all_of (qual ∷ cut db who Retrieve attrs key)) link)) (free_rows db key used kept)
+          ap (filter (is_folded (all_of (qual ∷ cut db who Retrieve attrs key)) link)) (unrestricted_rows db key used kept)
           ∙ filter_twice (is_folded qual link) (may db who Retrieve attrs key) (is_folded (all_of (qual ∷ cut db who Retrieve attrs key)) link) (rows_at db key) (with_cut key link)
           ∙ ap (filter (is_folded qual link)) (sym rows);
       kinds = refl;
@@ -219,7 +219,7 @@ module _ (db : Db) (d : IsDatabase db) (who : Who) where
   -- ---- the aggregate
 
   -- what is folded, where these are the values of the links
-  fold_put : (put : Putting) (g : QAgg) → source_is_plain g.source ≡ true → (link : Option Row) → fold_linked db (rows_of db Free) (put_aggregate db who put g) link ≡ fold_linked db (rows_of db who) g link
+  fold_put : (put : Putting) (g : QAgg) → source_is_plain g.source ≡ true → (link : Option Row) → fold_linked db (rows_of db Unrestricted) (put_aggregate db who put g) link ≡ fold_linked db (rows_of db who) g link
   fold_put put g plain None = refl
   fold_put put g plain (Some link) =
       let folds = source_folds g.qual g.by (used_in_aggregate g) g.source plain in
@@ -233,10 +233,10 @@ module _ (db : Db) (d : IsDatabase db) (who : Who) where
       none_alike None same = refl
       none_alike (Some values) same = ap (λ none. fold_values g.op none values) same
 
-  pub aggregate_put : (put : Putting) (e f : Env) → StandsFor put f e → (g : QAgg) → source_is_plain g.source ≡ true → aggregates db Free (put_aggregate db who put g) f ≡ aggregates db who g e
+  pub aggregate_put : (put : Putting) (e f : Env) → StandsFor put f e → (g : QAgg) → source_is_plain g.source ≡ true → aggregates db Unrestricted (put_aggregate db who put g) f ≡ aggregates db who g e
   unfolding aggregates
   aggregate_put put e f stands g plain =
-      ap (fold_linked db (rows_of db Free) (put_aggregate db who put g)) (links_put put e f stands g.link) ∙ fold_put put g plain (values_of g.link e)
+      ap (fold_linked db (rows_of db Unrestricted) (put_aggregate db who put g)) (links_put put e f stands g.link) ∙ fold_put put g plain (values_of g.link e)
 
 -- ---- the term that an aggregate is
 

@@ -11,7 +11,7 @@ use Rattle.calculus.specs.declared.request.UpdateOp.TheVariants as op
 use Rattle.calculus.specs.Rows.{Row}
 use Rattle.calculus.specs.Term.{Env, Aggs, val, no_aggs, value_in, attribute_value, holds}
 use Rattle.calculus.specs.Lists.{is_any}
-use Rattle.calculus.specs.Who.{Who, Free}
+use Rattle.calculus.specs.Who.{Who, Unrestricted}
 use Rattle.calculus.specs.Database.{Db}
 use Rattle.calculus.specs.IsDatabase.{IsDatabase}
 use Rattle.calculus.specs.Stored.{range_at, rows_at}
@@ -35,9 +35,9 @@ use Rattle.tree_laws.proofs.Joint.{kept_lists, DenoteEach}
 use Rattle.tree_laws.proofs.Queries.{Beside, is_denoted, denotes}
 use Rattle.tree_laws.proofs.Named.{Names, KeepsNames}
 use Rattle.tree_laws.proofs.Placed.{placed_first, condition_used, attribute_used}
-use Rattle.tree_laws.proofs.Sound.{free_used, all_kept}
+use Rattle.tree_laws.proofs.Sound.{unrestricted_used, all_kept}
 use Rattle.tree_laws.proofs.Answering.{put_makes, put_keeps}
-use Rattle.tree_laws.proofs.Changing.{text_by, text_with, update_denoted, update_named, IsSeen, update_seen, update_kept, changed_at, free_changed, same_place, get_past}
+use Rattle.tree_laws.proofs.Changing.{text_by, text_with, update_denoted, update_named, IsSeen, update_seen, update_kept, changed_at, unrestricted_changed, same_place, get_past}
 
 -- ---- the changed variable, where it has moved
 
@@ -148,35 +148,35 @@ module _ (db : Db) (who : Who) (u : Update) where
       let total : length f ≡ n + length (update_text db who u k key).vars + length (texts_vars (texts_at (k + 1) keys)) = omega (arith, long, more) in
       put_inside keys (k + 1) (n + length (update_text db who u k key).vars) v (ap (is_changed u) (sym same) ∙ h) f total a
 
--- ---- what nobody in particular has
+-- ---- what whoever is unrestricted has
 
 module _ (db : Db) (d : IsDatabase db) (who : Who) (u : Update) (nest : aggregates_nest_none u.query ≡ true)
     (over : (v : ℕ) (key : RelKey) → slice_get (vars_of u.query) v ≡ Some key → is_changed u v ≡ true → is_no_view (range_at db key) ≡ true) where
   abbrev pub texts : List Text
   texts = update_texts db who u
 
-  abbrev free_query : Query
-  free_query = put_over db who texts u.query
+  abbrev unrestricted_query : Query
+  unrestricted_query = put_over db who texts u.query
 
   keeps : KeepsNames (put_made db who (put_from 0 texts)) (put_from 0 texts) (query_aggregates u.query)
   keeps = put_keeps db d who (put_from 0 texts) (query_aggregates u.query) nest
 
   -- the rows of a variable, where this one is changed
-  abbrev free_by : ℕ → RelKey → Right → Bool → List Row
-  free_by w key right b = elim b [
-    | true ↦ changed_rows db Free right u.places (used_in_query w free_query) key
-    | false ↦ variable_rows (rows_of db Free) free_query w key
+  abbrev unrestricted_by : ℕ → RelKey → Right → Bool → List Row
+  unrestricted_by w key right b = elim b [
+    | true ↦ changed_rows db Unrestricted right u.places (used_in_query w unrestricted_query) key
+    | false ↦ variable_rows (rows_of db Unrestricted) unrestricted_query w key
   ]
 
-  abbrev free_with : ℕ → RelKey → Option (ℕ × Right) → List Row
-  free_with w key o = elim o [ None ↦ variable_rows (rows_of db Free) free_query w key | Some c ↦ free_by w key c.1 (c.0 == w) ]
+  abbrev unrestricted_with : ℕ → RelKey → Option (ℕ × Right) → List Row
+  unrestricted_with w key o = elim o [ None ↦ variable_rows (rows_of db Unrestricted) unrestricted_query w key | Some c ↦ unrestricted_by w key c.1 (c.0 == w) ]
 
-  rows_used_all : (w : ℕ) (key : RelKey) → is_no_view (range_at db key) ≡ true → is_any (used_in_query w free_query) ≡ true → variable_rows (rows_of db Free) free_query w key ≡ rows_at db key
-  rows_used_all w key kept h = free_used db key (used_in_query w free_query) kept h
+  rows_used_all : (w : ℕ) (key : RelKey) → is_no_view (range_at db key) ≡ true → is_any (used_in_query w unrestricted_query) ≡ true → variable_rows (rows_of db Unrestricted) unrestricted_query w key ≡ rows_at db key
+  rows_used_all w key kept h = unrestricted_used db key (used_in_query w unrestricted_query) kept h
 
   -- a variable is used, or is the changed one
   abbrev IsUsedOr : Option (ℕ × Right) → ℕ → Type 0
-  IsUsedOr o w = (is_any (used_in_query w free_query) ≡ true) ⊎ ((i : ℕ) × (is_changed_by i o ≡ true) × (w ≡ place_from 0 texts i))
+  IsUsedOr o w = (is_any (used_in_query w unrestricted_query) ≡ true) ⊎ ((i : ℕ) × (is_changed_by i o ≡ true) × (w ≡ place_from 0 texts i))
 
   used_or : (w : ℕ) → nat_lt w (length (texts_vars texts)) ≡ true → IsUsedOr (changed u) w
   used_or w h =
@@ -189,15 +189,15 @@ module _ (db : Db) (d : IsDatabase db) (who : Who) (u : Update) (nest : aggregat
       seen i j at (inl is_used) names = inl (attribute_used (put_made db who (put_from 0 texts)) texts u.query keeps i w names is_used)
       seen i j at (inr (changes, first)) names = let exact : w ≡ place_from 0 texts i = omega (arith, at, first) in inr (i, changes, exact)
 
-  free_one : (w : ℕ) (key : RelKey) → is_no_view (range_at db key) ≡ true → (right : Right) (b : Bool) → (b ≡ false → is_any (used_in_query w free_query) ≡ true) → free_by w key right b ≡ rows_at db key
-  free_one w key kept right true h = free_changed db right u.places (used_in_query w free_query) key
-  free_one w key kept right false h = rows_used_all w key kept (h refl)
+  unrestricted_one : (w : ℕ) (key : RelKey) → is_no_view (range_at db key) ≡ true → (right : Right) (b : Bool) → (b ≡ false → is_any (used_in_query w unrestricted_query) ≡ true) → unrestricted_by w key right b ≡ rows_at db key
+  unrestricted_one w key kept right true h = unrestricted_changed db right u.places (used_in_query w unrestricted_query) key
+  unrestricted_one w key kept right false h = rows_used_all w key kept (h refl)
 
-  free_each : (w : ℕ) (key : RelKey) → is_no_view (range_at db key) ≡ true → (o : Option (ℕ × Right)) → IsUsedOr o w → free_with w key (moved_by texts o) ≡ rows_at db key
-  free_each w key kept None (inl h) = rows_used_all w key kept h
-  free_each w key kept None (inr (i, changes, at)) = cc changes
-  free_each w key kept (Some c) (inl h) = free_one w key kept c.1 (place_from 0 texts c.0 == w) (λ e. h)
-  free_each w key kept (Some c) (inr (i, changes, at)) = free_one w key kept c.1 (place_from 0 texts c.0 == w) (λ e. absurd (differs e))
+  unrestricted_each : (w : ℕ) (key : RelKey) → is_no_view (range_at db key) ≡ true → (o : Option (ℕ × Right)) → IsUsedOr o w → unrestricted_with w key (moved_by texts o) ≡ rows_at db key
+  unrestricted_each w key kept None (inl h) = rows_used_all w key kept h
+  unrestricted_each w key kept None (inr (i, changes, at)) = cc changes
+  unrestricted_each w key kept (Some c) (inl h) = unrestricted_one w key kept c.1 (place_from 0 texts c.0 == w) (λ e. h)
+  unrestricted_each w key kept (Some c) (inr (i, changes, at)) = unrestricted_one w key kept c.1 (place_from 0 texts c.0 == w) (λ e. absurd (differs e))
     where
       same : c.0 ≡ i
       same = grind (arith, nat_tests, changes)
@@ -207,22 +207,22 @@ module _ (db : Db) (d : IsDatabase db) (who : Who) (u : Update) (nest : aggregat
           let there : place_from 0 texts c.0 ≡ w = ap (place_from 0 texts) same ∙ sym at in
           grind (arith, nat_tests, e, there)
 
-  pub free_seen : seen_assigned db Free (rows_of db Free) (put_in_update db who u) ≡ choices (kept_lists db (texts_vars texts))
+  pub unrestricted_seen : seen_assigned db Unrestricted (rows_of db Unrestricted) (put_in_update db who u) ≡ choices (kept_lists db (texts_vars texts))
   unfolding put_in_update
-  free_seen =
+  unrestricted_seen =
       ap choices
-      (all_kept db (seen_rows db Free (rows_of db Free) (put_in_update db who u)) 0 (texts_vars texts) each
+      (all_kept db (seen_rows db Unrestricted (rows_of db Unrestricted) (put_in_update db who u)) 0 (texts_vars texts) each
       (update_kept db d who u 0 (vars_of u.query) (λ v key there e. over v key there (ap (is_changed u) (none_before v) ∙ e))))
     where
       none_before : (v : ℕ) → v ≡ 0 + v
       none_before v = omega arith
 
       each : (v : ℕ) (key : RelKey) → nat_lt v (length (texts_vars texts)) ≡ true → is_no_view (range_at db key) ≡ true
-          → seen_rows db Free (rows_of db Free) (put_in_update db who u) (0 + v) key ≡ rows_at db key
+          → seen_rows db Unrestricted (rows_of db Unrestricted) (put_in_update db who u) (0 + v) key ≡ rows_at db key
       each v key inside kept =
-          ap (λ v. seen_rows db Free (rows_of db Free) (put_in_update db who u) v key) (sym (none_before v))
-          ∙ ap (free_with v key) (changed_moved db who u)
-          ∙ free_each v key kept (changed u) (used_or v inside)
+          ap (λ v. seen_rows db Unrestricted (rows_of db Unrestricted) (put_in_update db who u) v key) (sym (none_before v))
+          ∙ ap (unrestricted_with v key) (changed_moved db who u)
+          ∙ unrestricted_each v key kept (changed u) (used_or v inside)
 
   -- ---- assignments beside each other
 
@@ -234,7 +234,7 @@ module _ (db : Db) (d : IsDatabase db) (who : Who) (u : Update) (nest : aggregat
 
   -- an assignment of the update, and one of what is put in
   pub record IsBeside (f e : Env) : Type 0 where
-    pub beside : Beside db (aggregates db who) (aggregates db Free) (put_made db who (put_from 0 texts)) u.query rowss texts denoted (put_makes db d who (put_from 0 texts) (query_aggregates u.query) nest) f e
+    pub beside : Beside db (aggregates db who) (aggregates db Unrestricted) (put_made db who (put_from 0 texts)) u.query rowss texts denoted (put_makes db d who (put_from 0 texts) (query_aggregates u.query) nest) f e
     pub old : old_in (put_in_update db who u) f ≡ old_in u e
 
   chosen_long : (lists : List (List Row)) (e : Env) → Chosen lists e → length e ≡ length lists
@@ -291,15 +291,15 @@ module _ (db : Db) (d : IsDatabase db) (who : Who) (u : Update) (nest : aggregat
       ∙ old_one e f (e_long e in_e) (f_long f in_f) stands (changed u) (λ v h. h)
 
   -- each assignment has one beside it
-  pub to_free : (e : Env) → In e (choices rowss) → (f : Env) × In f (choices (kept_lists db (texts_vars texts))) × IsBeside f e
-  to_free e inside =
-      let (f, there, by) = denotes db (aggregates db who) (aggregates db Free) (put_made db who (put_from 0 texts)) u.query rowss texts denoted
+  pub to_unrestricted : (e : Env) → In e (choices rowss) → (f : Env) × In f (choices (kept_lists db (texts_vars texts))) × IsBeside f e
+  to_unrestricted e inside =
+      let (f, there, by) = denotes db (aggregates db who) (aggregates db Unrestricted) (put_made db who (put_from 0 texts)) u.query rowss texts denoted
       (put_makes db d who (put_from 0 texts) (query_aggregates u.query) nest) e inside in
       (f, there, record { beside = by; old = old_same e f inside there by.stands })
 
-  pub from_free : (f : Env) → In f (choices (kept_lists db (texts_vars texts))) → holds (aggregates db Free) (qual_of free_query) f ≡ true
+  pub from_unrestricted : (f : Env) → In f (choices (kept_lists db (texts_vars texts))) → holds (aggregates db Unrestricted) (qual_of unrestricted_query) f ≡ true
       → (e : Env) × In e (choices rowss) × IsBeside f e
-  from_free f inside h =
-      let (e, there, by) = is_denoted db (aggregates db who) (aggregates db Free) (put_made db who (put_from 0 texts)) u.query rowss texts denoted
+  from_unrestricted f inside h =
+      let (e, there, by) = is_denoted db (aggregates db who) (aggregates db Unrestricted) (put_made db who (put_from 0 texts)) u.query rowss texts denoted
       (put_makes db d who (put_from 0 texts) (query_aggregates u.query) nest) f inside h in
       (e, there, record { beside = by; old = old_same e f there inside by.stands })

@@ -10,7 +10,7 @@ use Rattle.calculus.specs.declared.request.UpdateOp.TheVariants as op
 use Rattle.calculus.specs.Rows.{Row}
 use Rattle.calculus.specs.Term.{Env, val, no_aggs, value_in, attribute_value, holds}
 use Rattle.calculus.specs.Lists.{is_any}
-use Rattle.calculus.specs.Who.{Who, Free}
+use Rattle.calculus.specs.Who.{Who, Unrestricted}
 use Rattle.calculus.specs.Database.{Db}
 use Rattle.calculus.specs.IsDatabase.{IsDatabase}
 use Rattle.calculus.specs.Stored.{range_at, rows_at}
@@ -179,20 +179,20 @@ module _ (db : Db) (d : IsDatabase db) (who : Who) (u : Update) where
       further : (v : ℕ) → k + suc v ≡ k + 1 + v
       further v = omega arith
 
--- ---- what nobody in particular has of them
+-- ---- what whoever is unrestricted has of them
 
 all_pass : {X : Type 0} (p : X → Bool) (xs : List X) → ((x : X) → p x ≡ true) → filter p xs ≡ xs
 all_pass p [] h = refl
 all_pass p (x ∷ xs) h = rw (h x) (ap (λ ys. x ∷ ys) (all_pass p xs h))
 
-free_read : (db : Db) (read : List ℕ) (key : RelKey) (row : Row) → may_read db Free read key row ≡ true
+unrestricted_read : (db : Db) (read : List ℕ) (key : RelKey) (row : Row) → may_read db Unrestricted read key row ≡ true
 unfolding may
-free_read db [] key row = refl
-free_read db (a ∷ read) key row = refl
+unrestricted_read db [] key row = refl
+unrestricted_read db (a ∷ read) key row = refl
 
-pub free_changed : (db : Db) (right : Right) (places read : List ℕ) (key : RelKey) → changed_rows db Free right places read key ≡ rows_at db key
+pub unrestricted_changed : (db : Db) (right : Right) (places read : List ℕ) (key : RelKey) → changed_rows db Unrestricted right places read key ≡ rows_at db key
 unfolding may
-free_changed db right places read key = all_pass (λ row. may db Free right places key row && may_read db Free read key row) (rows_at db key) (λ row. free_read db read key row)
+unrestricted_changed db right places read key = all_pass (λ row. may db Unrestricted right places key row && may_read db Unrestricted read key row) (rows_at db key) (λ row. unrestricted_read db read key row)
 
 -- the variable that is changed by an operation, which this is the place of
 abbrev pub changed_at : UpdateOp → ℕ → Option (ℕ × Right)

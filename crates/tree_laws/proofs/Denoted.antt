@@ -8,7 +8,7 @@ use Rattle.calculus.specs.declared.query.Query.{Query}
 use Rattle.calculus.specs.declared.schema.Permit.{Permit}
 use Rattle.calculus.specs.Rows.{Row}
 use Rattle.calculus.specs.Term.{Env, val, holds, no_aggs, attribute_value}
-use Rattle.calculus.specs.Who.{Who, Free, Asks}
+use Rattle.calculus.specs.Who.{Who, Unrestricted, AsUser}
 use Rattle.calculus.specs.Database.{Db, View, permits_on}
 use Rattle.calculus.specs.Limits.{greatest_level}
 use Rattle.calculus.specs.Stored.{range_at, rows_at, kept_rows}
@@ -67,8 +67,8 @@ true_right false = refl
 -- the conditions of permits hold of the rows with which one may do this
 pub cut_holds : (db : Db) (who : Who) (right : Right) (attrs : List ℕ) (key : RelKey) (row : Row) → all_hold no_aggs (cut db who right attrs key) (row ∷ []) ≡ may db who right attrs key row
 unfolding may
-cut_holds db Free right attrs key row = refl
-cut_holds db (Asks asker) right attrs key row = by (needs_none db asker right key)
+cut_holds db Unrestricted right attrs key row = refl
+cut_holds db (AsUser asker) right attrs key row = by (needs_none db asker right key)
   where
     by : (b : Bool) → all_hold no_aggs (elim b [ true ↦ [] | false ↦ any_of (map permit_condition (covering db asker right attrs key)) ∷ [] ]) (row ∷ [])
         ≡ (b || list_any (λ p. covers p asker right attrs && holds no_aggs p.qual (row ∷ [])) (permits_on db key))
@@ -89,8 +89,8 @@ conditions_within [] = refl
 conditions_within (p ∷ ps) = λ i. qual_replaced_within 1 of_only only_within p.qual i && conditions_within ps i
 
 pub cut_within : (db : Db) (who : Who) (right : Right) (attrs : List ℕ) (key : RelKey) → list_all (is_qual_within 1) (cut db who right attrs key) ≡ true
-cut_within db Free right attrs key = refl
-cut_within db (Asks asker) right attrs key = by (needs_none db asker right key)
+cut_within db Unrestricted right attrs key = refl
+cut_within db (AsUser asker) right attrs key = by (needs_none db asker right key)
   where
     by : (b : Bool) → list_all (is_qual_within 1) (elim b [ true ↦ [] | false ↦ any_of (map permit_condition (covering db asker right attrs key)) ∷ [] ]) ≡ true
     by true = refl

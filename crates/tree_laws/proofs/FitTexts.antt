@@ -10,7 +10,7 @@ use Rattle.calculus.specs.declared.schema.Permit.{Permit}
 use Rattle.calculus.specs.Tree.{either, negated}
 use Rattle.calculus.specs.Keys.{same_key}
 use Rattle.calculus.specs.Kinds.{attribute_kind, kind_of, kinds_fit}
-use Rattle.calculus.specs.Who.{Who, Free, Asks}
+use Rattle.calculus.specs.Who.{Who, Unrestricted, AsUser}
 use Rattle.calculus.specs.Database.{Db, permits_on, is_relation}
 use Rattle.calculus.specs.IsDatabase.{IsDatabase, user_is_named, permit_attrs_stand, permit_stands, row_qual_stands}
 use Rattle.calculus.specs.Stored.{kinds_at}
@@ -100,8 +100,8 @@ module _ (db : Db) (d : IsDatabase db) where
       by false one more = more
 
   pub cut_fits : (who : Who) (right : Right) (attrs : List ℕ) (key : RelKey) → all_fit (kinds_at db key ∷ []) (cut db who right attrs key) ≡ true
-  cut_fits Free right attrs key = refl
-  cut_fits (Asks asker) right attrs key = by (needs_none db asker right key)
+  cut_fits Unrestricted right attrs key = refl
+  cut_fits (AsUser asker) right attrs key = by (needs_none db asker right key)
     where
       by : (b : Bool) → all_fit (kinds_at db key ∷ []) (elim b [ true ↦ [] | false ↦ any_of (map permit_condition (covering db asker right attrs key)) ∷ [] ]) ≡ true
       by true = refl

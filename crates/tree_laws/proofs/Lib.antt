@@ -23,7 +23,7 @@ pub mod Denoted
 pub mod Named
 pub mod Placed
 pub mod Sound
-pub mod Freely
+pub mod Unrestrictedly
 pub mod Aggregated
 pub mod Answering
 pub mod Changing

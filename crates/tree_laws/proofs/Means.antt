@@ -1,4 +1,4 @@
--- A fit tree means for the one who asks what it means for nobody in particular once texts are put in.
+-- A fit tree means for the one who asks what it means unrestricted once texts are put in.
 use Rattle.std.proofs.Common.{◌≡◌, refl, sym, ap, ◌∙◌, ℕ, Bool, true, false, ◌&&◌, ◌||◌, List, [], ◌∷◌, map}
 use Rattle.std.specs.List.{list_all}
 use Rattle.calculus.specs.declared.query.QTerm.{QTerm}
@@ -15,7 +15,7 @@ use Rattle.calculus.specs.Database.{Db}
 use Rattle.calculus.specs.IsDatabase.{IsDatabase}
 use Rattle.calculus.specs.Pairs.{ruled}
 use Rattle.calculus.specs.QueryParts.{targets_of}
-use Rattle.calculus.specs.Who.{Who, Free}
+use Rattle.calculus.specs.Who.{Who, Unrestricted}
 use Rattle.quel_meaning.specs.Copying.{refusal}
 use Rattle.quel_meaning.specs.Fit.{fits, is_fit_with_views, suits}
 use Rattle.quel_meaning.specs.FitQueries.{kept_or_viewed, reads_fit, asked_fits}
@@ -57,7 +57,7 @@ tree_commutes db who (checked.Update u) = ap checked.Update (ruled_put db who u)
 tree_commutes db who (checked.Utility work) = refl
 
 module _ (db : Db) (d : IsDatabase db) (who : Who) where
-  table_put : (a : Asked) → aggregates_nest_none a.query ≡ true → table_of db who a ≡ table_of db Free (put_in_asked db who a)
+  table_put : (a : Asked) → aggregates_nest_none a.query ≡ true → table_of db who a ≡ table_of db Unrestricted (put_in_asked db who a)
   unfolding table_of
   table_put a nest = λ i. record { columns = sym (columns_same db who a.query) i; rows = sorted a.sort (answer_put db d who a.query nest i) }
 
@@ -65,16 +65,16 @@ module _ (db : Db) (d : IsDatabase db) (who : Who) where
   abbrev all_nest : List Asked → Bool
   all_nest asked = list_all (λ a. aggregates_nest_none a.query) asked
 
-  tables_put : (asked : List Asked) → all_nest asked ≡ true → map (table_of db who) asked ≡ map (table_of db Free) (map (put_in_asked db who) asked)
+  tables_put : (asked : List Asked) → all_nest asked ≡ true → map (table_of db who) asked ≡ map (table_of db Unrestricted) (map (put_in_asked db who) asked)
   tables_put [] h = refl
   tables_put (a ∷ asked) h = let parts = both_true (aggregates_nest_none a.query) (all_nest asked) h in λ i. table_put a parts.0 i ∷ tables_put asked parts.1 i
 
-  some_put : (asked : List Asked) → all_nest asked ≡ true → some_query_lacks db who asked ≡ some_query_lacks db Free (map (put_in_asked db who) asked)
+  some_put : (asked : List Asked) → all_nest asked ≡ true → some_query_lacks db who asked ≡ some_query_lacks db Unrestricted (map (put_in_asked db who) asked)
   unfolding some_query_lacks
   some_put [] h = refl
   some_put (a ∷ asked) h = let parts = both_true (aggregates_nest_none a.query) (all_nest asked) h in λ i. lacks_put db d who a.query parts.0 i || some_put asked parts.1 i
 
-  reply_put : (asked : List Asked) → all_nest asked ≡ true → answer_reply db who asked ≡ answer_reply db Free (map (put_in_asked db who) asked)
+  reply_put : (asked : List Asked) → all_nest asked ≡ true → answer_reply db who asked ≡ answer_reply db Unrestricted (map (put_in_asked db who) asked)
   reply_put asked h = λ i. elim (some_put asked h i) [ true ↦ Refused (refusal 20) | false ↦ Tables (tables_put asked h i) ]
 
   asked_nest : (asked : List Asked) → list_all (asked_fits (kept_or_viewed db) db) asked ≡ true → all_nest asked ≡ true
@@ -92,13 +92,13 @@ module _ (db : Db) (d : IsDatabase db) (who : Who) where
   unfolding fits
   suiting user tree h = (both_true (tree_is_spelled tree) (suits (kept_or_viewed db) db user tree) h).1
 
-  suited : (shelf : Files) (user : List ℕ) (tree : Checked) → suits (kept_or_viewed db) db user tree ≡ true → tree_meaning db shelf who user tree ≡ tree_meaning db shelf Free user (put_in_tree db who tree)
+  suited : (shelf : Files) (user : List ℕ) (tree : Checked) → suits (kept_or_viewed db) db user tree ≡ true → tree_meaning db shelf who user tree ≡ tree_meaning db shelf Unrestricted user (put_in_tree db who tree)
   unfolding suits tree_meaning put_in_tree
   suited shelf user (checked.Answer asked) h = ap (unchanged db shelf) (reply_put asked (asked_nest asked h))
   suited shelf user (checked.Update u) h = let sound = update_sound (kept_or_viewed db) db u h in ap (numbered_effect db shelf) (updated_put db d who u sound.nests sound.over)
   suited shelf user (checked.Utility work) h = refl
 
-  pub means_same : (shelf : Files) (user : List ℕ) (tree : Checked) → is_fit_with_views db user tree ≡ true → tree_meaning db shelf who user tree ≡ tree_meaning db shelf Free user (put_in_tree db who tree)
+  pub means_same : (shelf : Files) (user : List ℕ) (tree : Checked) → is_fit_with_views db user tree ≡ true → tree_meaning db shelf who user tree ≡ tree_meaning db shelf Unrestricted user (put_in_tree db who tree)
   means_same shelf user tree h = suited shelf user tree (suiting user tree h)
 
   -- an update with the rules is over what it was over
@@ -110,7 +110,7 @@ module _ (db : Db) (d : IsDatabase db) (who : Who) where
   ruled_op u op.Into sound = sound
 
   ruled_suited : (shelf : Files) (user : List ℕ) (tree : Checked) → suits (kept_or_viewed db) db user tree ≡ true
-      → tree_meaning db shelf who user (ruled_tree db tree) ≡ tree_meaning db shelf Free user (put_in_tree db who (ruled_tree db tree))
+      → tree_meaning db shelf who user (ruled_tree db tree) ≡ tree_meaning db shelf Unrestricted user (put_in_tree db who (ruled_tree db tree))
   unfolding suits tree_meaning put_in_tree ruled_tree
   ruled_suited shelf user (checked.Answer asked) h = ap (unchanged db shelf) (reply_put asked (asked_nest asked h))
   ruled_suited shelf user (checked.Update u) h =
@@ -119,5 +119,5 @@ module _ (db : Db) (d : IsDatabase db) (who : Who) where
   ruled_suited shelf user (checked.Utility work) h = refl
 
   pub ruled_means_same : (shelf : Files) (user : List ℕ) (tree : Checked) → is_fit_with_views db user tree ≡ true
-      → tree_meaning db shelf who user (ruled_tree db tree) ≡ tree_meaning db shelf Free user (ruled_tree db (put_in_tree db who tree))
-  ruled_means_same shelf user tree h = ruled_suited shelf user tree (suiting user tree h) ∙ ap (tree_meaning db shelf Free user) (tree_commutes db who tree)
+      → tree_meaning db shelf who user (ruled_tree db tree) ≡ tree_meaning db shelf Unrestricted user (ruled_tree db (put_in_tree db who tree))
+  ruled_means_same shelf user tree h = ruled_suited shelf user tree (suiting user tree h) ∙ ap (tree_meaning db shelf Unrestricted user) (tree_commutes db who tree)

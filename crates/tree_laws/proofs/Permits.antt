@@ -9,7 +9,7 @@ use Rattle.calculus.specs.declared.schema.Permit.{Permit}
 use Rattle.calculus.specs.declared.schema.Rule.{Rule}
 use Rattle.calculus.specs.Keys.{same_key}
 use Rattle.calculus.specs.Limits.{most_permits, greatest_qual_size, most_levels}
-use Rattle.calculus.specs.Who.{Who, Free, Asks}
+use Rattle.calculus.specs.Who.{Who, Unrestricted, AsUser}
 use Rattle.calculus.specs.Database.{Db, Relation, relation_at, is_relation, permits_on}
 use Rattle.calculus.specs.IsDatabase.{IsDatabase, permit_stands, row_qual_stands}
 use Rattle.calculus.specs.Rights.{Right, covers, needs_none}
@@ -107,8 +107,8 @@ module _ (db : Db) (d : IsDatabase db) where
   hundred = omega arith
 
   pub cut_low : (who : Who) (right : Right) (attrs : List ℕ) (key : RelKey) → Low 1008 (cut db who right attrs key) × (length (cut db who right attrs key) ≤ 1)
-  cut_low Free right attrs key = (tt, omega arith)
-  cut_low (Asks asker) right attrs key = by (needs_none db asker right key)
+  cut_low Unrestricted right attrs key = (tt, omega arith)
+  cut_low (AsUser asker) right attrs key = by (needs_none db asker right key)
     where
       joined : qual_levels (any_of (map permit_condition (covering db asker right attrs key))) ≤ 1008
       joined =

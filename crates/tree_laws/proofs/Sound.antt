@@ -8,7 +8,7 @@ use Rattle.calculus.specs.declared.query.QQual.{QQual}
 use Rattle.calculus.specs.Keys.{same_key}
 use Rattle.calculus.specs.Lists.{is_any}
 use Rattle.calculus.specs.Limits.{greatest_level}
-use Rattle.calculus.specs.Who.{Who, Free}
+use Rattle.calculus.specs.Who.{Who, Unrestricted}
 use Rattle.calculus.specs.Database.{Db, Relation, View, relation_at, view_at}
 use Rattle.calculus.specs.Catalogue.{catalogue_at}
 use Rattle.calculus.specs.IsDatabase.{IsDatabase, query_stands}
@@ -139,33 +139,33 @@ pub all_sound : (db : Db) (who : Who) → IsDatabase db → AreSound db (text_of
 unfolding text_of
 all_sound db who d = within_sound greatest_level db who d
 
--- ---- what nobody in particular has of these
+-- ---- what whoever is unrestricted has of these
 
 all_pass : {X : Type 0} (p : X → Bool) (xs : List X) → ((x : X) → p x ≡ true) → filter p xs ≡ xs
 all_pass p [] h = refl
 all_pass p (x ∷ xs) h = rw (h x) (ap (λ ys. x ∷ ys) (all_pass p xs h))
 
-may_free : (db : Db) (attrs : List ℕ) (key : RelKey) (row : Row) → may db Free Retrieve attrs key row ≡ true
+may_unrestricted : (db : Db) (attrs : List ℕ) (key : RelKey) (row : Row) → may db Unrestricted Retrieve attrs key row ≡ true
 unfolding may
-may_free db attrs key row = refl
+may_unrestricted db attrs key row = refl
 
-free_range : (db : Db) (of_view : View → List Row) (key : RelKey) (attrs : List ℕ) (r : Option Range) → is_no_view r ≡ true → range_rows of_view db Free key attrs r ≡ kept_rows r
-free_range db of_view key attrs None h = refl
-free_range db of_view key attrs (Some (Kept relation)) h = all_pass (may db Free Retrieve attrs key) relation.rows (may_free db attrs key)
-free_range db of_view key attrs (Some (Viewed view)) h = cc h
+unrestricted_range : (db : Db) (of_view : View → List Row) (key : RelKey) (attrs : List ℕ) (r : Option Range) → is_no_view r ≡ true → range_rows of_view db Unrestricted key attrs r ≡ kept_rows r
+unrestricted_range db of_view key attrs None h = refl
+unrestricted_range db of_view key attrs (Some (Kept relation)) h = all_pass (may db Unrestricted Retrieve attrs key) relation.rows (may_unrestricted db attrs key)
+unrestricted_range db of_view key attrs (Some (Viewed view)) h = cc h
 
-free_within : (n : ℕ) (db : Db) (key : RelKey) (attrs : List ℕ) → is_no_view (range_at db key) ≡ true → rows_within n db Free key attrs ≡ rows_at db key
-free_within n db key attrs h =
-    ap (λ rows. rows attrs) (said_at (rows_said db Free) n db key (range_at db key) refl)
-    ∙ free_range db (λ view. said_view (rows_said db Free) n db view attrs) key attrs (range_at db key) h
+unrestricted_within : (n : ℕ) (db : Db) (key : RelKey) (attrs : List ℕ) → is_no_view (range_at db key) ≡ true → rows_within n db Unrestricted key attrs ≡ rows_at db key
+unrestricted_within n db key attrs h =
+    ap (λ rows. rows attrs) (said_at (rows_said db Unrestricted) n db key (range_at db key) refl)
+    ∙ unrestricted_range db (λ view. said_view (rows_said db Unrestricted) n db view attrs) key attrs (range_at db key) h
 
-pub free_rows : (db : Db) (key : RelKey) (attrs : List ℕ) → is_no_view (range_at db key) ≡ true → rows_of db Free key attrs ≡ rows_at db key
+pub unrestricted_rows : (db : Db) (key : RelKey) (attrs : List ℕ) → is_no_view (range_at db key) ≡ true → rows_of db Unrestricted key attrs ≡ rows_at db key
 unfolding rows_of
-free_rows db key attrs h = free_within greatest_level db key attrs h
+unrestricted_rows db key attrs h = unrestricted_within greatest_level db key attrs h
 
-pub free_used : (db : Db) (key : RelKey) (attrs : List ℕ) → is_no_view (range_at db key) ≡ true → is_any attrs ≡ true → rows_used (rows_of db Free) key attrs ≡ rows_at db key
-free_used db key [] h any = cc any
-free_used db key (a ∷ attrs) h any = free_rows db key (a ∷ attrs) h
+pub unrestricted_used : (db : Db) (key : RelKey) (attrs : List ℕ) → is_no_view (range_at db key) ≡ true → is_any attrs ≡ true → rows_used (rows_of db Unrestricted) key attrs ≡ rows_at db key
+unrestricted_used db key [] h any = cc any
+unrestricted_used db key (a ∷ attrs) h any = unrestricted_rows db key (a ∷ attrs) h
 
 -- variables that have all rows that are kept
 pub all_kept : (db : Db) (rows : ℕ → RelKey → List Row) (k : ℕ) (keys : List RelKey)

@@ -1,4 +1,4 @@
--- An update makes for the one who asks the change that it makes for nobody in particular once its texts are put in, or the same number refuses it.
+-- An update makes for the one who asks the change that it makes unrestricted once its texts are put in, or the same number refuses it.
 use Rattle.std.proofs.Common.{◌≡◌, refl, sym, ap, ◌∙◌, subst, inl, inr, ℕ, Bool, true, false, not, ◌&&◌, List, [], ◌∷◌, map, length, Option, Some, None, Result, Ok, Err}
 use Rattle.std.specs.Prelude.{slice_get, nat_lt, option_map, if◌then◌else◌, flat_map}
 use Rattle.std.specs.List.{list_all, list_any, filter, filter_map, AllByRecursion}
@@ -17,7 +17,7 @@ use Rattle.calculus.specs.Keys.{same_key}
 use Rattle.calculus.specs.Limits.{most_rows}
 use Rattle.calculus.specs.Rows.{Row, Ascends, set_of}
 use Rattle.calculus.specs.Term.{Env, holds, no_aggs}
-use Rattle.calculus.specs.Who.{Who, Free}
+use Rattle.calculus.specs.Who.{Who, Unrestricted}
 use Rattle.calculus.specs.Database.{Db, Relation, View, relation_at, view_at}
 use Rattle.calculus.specs.Catalogue.{relation_key, attribute_key, relation_row, attribute_rows, all_entries, catalogue_at, attribute_info, relation_info}
 use Rattle.calculus.specs.IsDatabase.{IsDatabase}
@@ -47,7 +47,7 @@ use Rattle.tree_laws.proofs.Joint.{kept_lists}
 use Rattle.tree_laws.proofs.Queries.{targets_of-put, same_lack}
 use Rattle.tree_laws.proofs.Denoted.{cut_holds}
 use Rattle.tree_laws.proofs.Answering.{put_makes}
-use Rattle.tree_laws.proofs.Beside.{IsBeside, rowss, denoted, free_seen, to_free, from_free}
+use Rattle.tree_laws.proofs.Beside.{IsBeside, rowss, denoted, unrestricted_seen, to_unrestricted, from_unrestricted}
 use Rattle.tree_laws.proofs.Pairing.{same_contended, same_after}
 use Rattle.calculus.specs.declared.schema.Spec.TheVariants.{Heap}
 
@@ -156,7 +156,7 @@ module _ (db : Db) (d : IsDatabase db) (who : Who) (u : Update) (nest : aggregat
   -- ---- which pairs stand
 
   append_by : (o : UpdateOp) (row : Row)
-      → (if is_append o then (holds no_aggs (put_cut db who u o) (row ∷ []) && may db Free right.Append u.places u.rel row) else true)
+      → (if is_append o then (holds no_aggs (put_cut db who u o) (row ∷ []) && may db Unrestricted right.Append u.places u.rel row) else true)
       ≡ (if is_append o then (holds no_aggs u.new_cut (row ∷ []) && may db who right.Append u.places u.rel row) else true)
   unfolding may
   append_by op.Append row =
@@ -171,7 +171,7 @@ module _ (db : Db) (d : IsDatabase db) (who : Who) (u : Update) (nest : aggregat
   append_by op.Delete row = refl
   append_by op.Into row = refl
 
-  new_same : (row : Row) → new_stands db Free put row ≡ new_stands db who u row
+  new_same : (row : Row) → new_stands db Unrestricted put row ≡ new_stands db who u row
   unfolding put_in_update
   new_same row = ap (λ b. list_all (λ q. holds no_aggs q (row ∷ [])) u.checks && b) (append_by u.op row)
 
@@ -179,10 +179,10 @@ module _ (db : Db) (d : IsDatabase db) (who : Who) (u : Update) (nest : aggregat
   abbrev stands_by : (Row → Bool) → Option Row → Bool
   stands_by test new = elim new [ None ↦ true | Some row ↦ test row ]
 
-  stands_same : (p : Pair) → pair_stands db Free put p ≡ pair_stands db who u p
+  stands_same : (p : Pair) → pair_stands db Unrestricted put p ≡ pair_stands db who u p
   stands_same p = by p.new
     where
-      by : (new : Option Row) → stands_by (new_stands db Free put) new ≡ stands_by (new_stands db who u) new
+      by : (new : Option Row) → stands_by (new_stands db Unrestricted put) new ≡ stands_by (new_stands db who u) new
       by None = refl
       by (Some row) = new_same row
 
@@ -192,45 +192,45 @@ module _ (db : Db) (d : IsDatabase db) (who : Who) (u : Update) (nest : aggregat
   unfolding put_in_update
   pair_put old values = refl
 
-  pair_same : (e f : Env) → IsBeside db d who u nest over f e → pair_in db Free put f ≡ pair_in db who u e
+  pair_same : (e f : Env) → IsBeside db d who u nest over f e → pair_in db Unrestricted put f ≡ pair_in db who u e
   unfolding put_in_update
   pair_same e f by = λ i. option_map (pair_of db u (by.old i)) (by.beside.values i)
 
-  assigned_free : seen_qualifying db Free put ≡ filter (holds (aggregates db Free) (qual_of put.query)) (choices (kept_lists db (texts_vars (update_texts db who u))))
-  assigned_free = ap (filter (holds (aggregates db Free) (qual_of put.query))) (free_seen db d who u nest over)
+  assigned_unrestricted : seen_qualifying db Unrestricted put ≡ filter (holds (aggregates db Unrestricted) (qual_of put.query)) (choices (kept_lists db (texts_vars (update_texts db who u))))
+  assigned_unrestricted = ap (filter (holds (aggregates db Unrestricted) (qual_of put.query))) (unrestricted_seen db d who u nest over)
 
   -- each qualifying assignment has one beside it
-  to_qualifying : (e : Env) → In e (seen_qualifying db who u) → (f : Env) × In f (seen_qualifying db Free put) × IsBeside db d who u nest over f e
+  to_qualifying : (e : Env) → In e (seen_qualifying db who u) → (f : Env) × In f (seen_qualifying db Unrestricted put) × IsBeside db d who u nest over f e
   to_qualifying e h =
       let (inside, holding) = filter-In (holds (aggregates db who) (qual_of u.query)) (choices (rowss db d who u nest over)) e h in
-      let (f, there, by) = to_free db d who u nest over e inside in (
+      let (f, there, by) = to_unrestricted db d who u nest over e inside in (
         f,
-        subst (In f) (sym assigned_free)
-            (In-filter (holds (aggregates db Free) (qual_of put.query)) (choices (kept_lists db (texts_vars (update_texts db who u)))) f there
-            (ap (λ q. holds (aggregates db Free) (qual_of q) f) query_is ∙ by.beside.qual ∙ holding)),
+        subst (In f) (sym assigned_unrestricted)
+            (In-filter (holds (aggregates db Unrestricted) (qual_of put.query)) (choices (kept_lists db (texts_vars (update_texts db who u)))) f there
+            (ap (λ q. holds (aggregates db Unrestricted) (qual_of q) f) query_is ∙ by.beside.qual ∙ holding)),
         by,
       )
 
-  from_qualifying : (f : Env) → In f (seen_qualifying db Free put) → (e : Env) × In e (seen_qualifying db who u) × IsBeside db d who u nest over f e
+  from_qualifying : (f : Env) → In f (seen_qualifying db Unrestricted put) → (e : Env) × In e (seen_qualifying db who u) × IsBeside db d who u nest over f e
   from_qualifying f h =
-      let (inside, holding) = filter-In (holds (aggregates db Free) (qual_of put.query)) (choices (kept_lists db (texts_vars (update_texts db who u)))) f (subst (In f) assigned_free h) in
-      let held = sym (ap (λ q. holds (aggregates db Free) (qual_of q) f) query_is) ∙ holding in
-      let (e, there, by) = from_free db d who u nest over f inside held in
+      let (inside, holding) = filter-In (holds (aggregates db Unrestricted) (qual_of put.query)) (choices (kept_lists db (texts_vars (update_texts db who u)))) f (subst (In f) assigned_unrestricted h) in
+      let held = sym (ap (λ q. holds (aggregates db Unrestricted) (qual_of q) f) query_is) ∙ holding in
+      let (e, there, by) = from_unrestricted db d who u nest over f inside held in
       (e, In-filter (holds (aggregates db who) (qual_of u.query)) (choices (rowss db d who u nest over)) e there (sym by.beside.qual ∙ held), by)
 
-  to_pairs : Within (pairs db who u) (pairs db Free put)
+  to_pairs : Within (pairs db who u) (pairs db Unrestricted put)
   to_pairs p h =
       let (given, stands) = filter-In (pair_stands db who u) (filter_map (pair_in db who u) (seen_qualifying db who u)) p (subst (In p) (pairs_with_old db who u) h) in
       let (e, inside, is) = filter_map-In (pair_in db who u) (seen_qualifying db who u) p given in
       let (f, there, by) = to_qualifying e inside in
-      subst (In p) (sym (pairs_with_old db Free put))
-      (In-filter (pair_stands db Free put) (filter_map (pair_in db Free put) (seen_qualifying db Free put)) p
-      (In-filter_map (pair_in db Free put) (seen_qualifying db Free put) f p there (pair_same e f by ∙ is)) (stands_same p ∙ stands))
+      subst (In p) (sym (pairs_with_old db Unrestricted put))
+      (In-filter (pair_stands db Unrestricted put) (filter_map (pair_in db Unrestricted put) (seen_qualifying db Unrestricted put)) p
+      (In-filter_map (pair_in db Unrestricted put) (seen_qualifying db Unrestricted put) f p there (pair_same e f by ∙ is)) (stands_same p ∙ stands))
 
-  from_pairs : Within (pairs db Free put) (pairs db who u)
+  from_pairs : Within (pairs db Unrestricted put) (pairs db who u)
   from_pairs p h =
-      let (given, stands) = filter-In (pair_stands db Free put) (filter_map (pair_in db Free put) (seen_qualifying db Free put)) p (subst (In p) (pairs_with_old db Free put) h) in
-      let (f, inside, is) = filter_map-In (pair_in db Free put) (seen_qualifying db Free put) p given in
+      let (given, stands) = filter-In (pair_stands db Unrestricted put) (filter_map (pair_in db Unrestricted put) (seen_qualifying db Unrestricted put)) p (subst (In p) (pairs_with_old db Unrestricted put) h) in
+      let (f, inside, is) = filter_map-In (pair_in db Unrestricted put) (seen_qualifying db Unrestricted put) p given in
       let (e, there, by) = from_qualifying f inside in
       subst (In p) (sym (pairs_with_old db who u))
       (In-filter (pair_stands db who u) (filter_map (pair_in db who u) (seen_qualifying db who u)) p
@@ -238,12 +238,12 @@ module _ (db : Db) (d : IsDatabase db) (who : Who) (u : Update) (nest : aggregat
 
   -- ---- what refuses it
 
-  lacks_same : update_lacks db Free put ≡ update_lacks db who u
+  lacks_same : update_lacks db Unrestricted put ≡ update_lacks db who u
   lacks_same =
-      lacks_with_old db Free put
-      ∙ ap (some_lacks (aggregates db Free) put.query) (free_seen db d who u nest over)
-      ∙ ap (λ q. some_lacks (aggregates db Free) q (choices (kept_lists db (texts_vars (update_texts db who u))))) query_is
-      ∙ sym (same_lack db (aggregates db who) (aggregates db Free) made u.query (rowss db d who u nest over) (update_texts db who u) (denoted db d who u nest over)
+      lacks_with_old db Unrestricted put
+      ∙ ap (some_lacks (aggregates db Unrestricted) put.query) (unrestricted_seen db d who u nest over)
+      ∙ ap (λ q. some_lacks (aggregates db Unrestricted) q (choices (kept_lists db (texts_vars (update_texts db who u))))) query_is
+      ∙ sym (same_lack db (aggregates db who) (aggregates db Unrestricted) made u.query (rowss db d who u nest over) (update_texts db who u) (denoted db d who u nest over)
       (put_makes db d who (put_from 0 (update_texts db who u)) (query_aggregates u.query) nest))
       ∙ sym (lacks_with_old db who u)
 
@@ -255,37 +255,37 @@ module _ (db : Db) (d : IsDatabase db) (who : Who) (u : Update) (nest : aggregat
   fits : Env → Bool
   fits e = all_fit (wanted_kinds db u) (target_values (aggregates db who) (targets_of u.query) e)
 
-  fits_free : Env → Bool
-  fits_free f = all_fit (wanted_kinds db put) (target_values (aggregates db Free) (targets_of put.query) f)
+  fits_unrestricted : Env → Bool
+  fits_unrestricted f = all_fit (wanted_kinds db put) (target_values (aggregates db Unrestricted) (targets_of put.query) f)
 
-  fits_beside : (e f : Env) → IsBeside db d who u nest over f e → fits_free f ≡ fits e
-  unfolding fits fits_free
+  fits_beside : (e f : Env) → IsBeside db d who u nest over f e → fits_unrestricted f ≡ fits e
+  unfolding fits fits_unrestricted
   fits_beside e f by =
-      ap (λ kinds. all_fit kinds (target_values (aggregates db Free) (targets_of put.query) f)) wanted_same
-      ∙ ap (all_fit (wanted_kinds db u)) (ap (λ q. target_values (aggregates db Free) (targets_of q) f) query_is ∙ by.beside.values)
+      ap (λ kinds. all_fit kinds (target_values (aggregates db Unrestricted) (targets_of put.query) f)) wanted_same
+      ∙ ap (all_fit (wanted_kinds db u)) (ap (λ q. target_values (aggregates db Unrestricted) (targets_of q) f) query_is ∙ by.beside.values)
 
-  fit_same : values_fit db Free put ≡ values_fit db who u
-  unfolding fits fits_free
+  fit_same : values_fit db Unrestricted put ≡ values_fit db who u
+  unfolding fits fits_unrestricted
   fit_same =
-      fit_with_old db Free put
-      ∙ equal_by (list_all fits_free (seen_qualifying db Free put)) (list_all fits (seen_qualifying db who u))
-      (λ h. all_by fits (seen_qualifying db who u) (λ e inside. let (f, there, by) = to_qualifying e inside in sym (fits_beside e f by) ∙ all_at fits_free (seen_qualifying db Free put) f there h))
-      (λ h. all_by fits_free (seen_qualifying db Free put) (λ f inside. let (e, there, by) = from_qualifying f inside in fits_beside e f by ∙ all_at fits (seen_qualifying db who u) e there h))
+      fit_with_old db Unrestricted put
+      ∙ equal_by (list_all fits_unrestricted (seen_qualifying db Unrestricted put)) (list_all fits (seen_qualifying db who u))
+      (λ h. all_by fits (seen_qualifying db who u) (λ e inside. let (f, there, by) = to_qualifying e inside in sym (fits_beside e f by) ∙ all_at fits_unrestricted (seen_qualifying db Unrestricted put) f there h))
+      (λ h. all_by fits_unrestricted (seen_qualifying db Unrestricted put) (λ f inside. let (e, there, by) = from_qualifying f inside in fits_beside e f by ∙ all_at fits (seen_qualifying db who u) e there h))
       ∙ sym (fit_with_old db who u)
 
-  after_same : rows_after db Free put ≡ rows_after db who u
+  after_same : rows_after db Unrestricted put ≡ rows_after db who u
   unfolding put_in_update
-  after_same = same_after (rows_at db u.rel) (rows_ascend db d u.rel) (pairs db Free put) (pairs db who u) from_pairs to_pairs
+  after_same = same_after (rows_at db u.rel) (rows_ascend db d u.rel) (pairs db Unrestricted put) (pairs db who u) from_pairs to_pairs
 
   -- the operation and the relation stay
-  same_parts : outcome u.op u.rel (made_info put) (rows_at db u.rel) (update_lacks db Free put) (values_fit db Free put) (contended (pairs db Free put)) (rows_after db Free put)
-      ≡ outcome put.op put.rel (made_info put) (rows_at db put.rel) (update_lacks db Free put) (values_fit db Free put) (contended (pairs db Free put)) (rows_after db Free put)
+  same_parts : outcome u.op u.rel (made_info put) (rows_at db u.rel) (update_lacks db Unrestricted put) (values_fit db Unrestricted put) (contended (pairs db Unrestricted put)) (rows_after db Unrestricted put)
+      ≡ outcome put.op put.rel (made_info put) (rows_at db put.rel) (update_lacks db Unrestricted put) (values_fit db Unrestricted put) (contended (pairs db Unrestricted put)) (rows_after db Unrestricted put)
   unfolding put_in_update
   same_parts = refl
 
-  pub updated_put : updated db who u ≡ updated db Free (put_in_update db who u)
+  pub updated_put : updated db who u ≡ updated db Unrestricted (put_in_update db who u)
   updated_put =
       outcome_is db who u
-      ∙ (λ i. outcome u.op u.rel (sym info_same i) (rows_at db u.rel) (sym lacks_same i) (sym fit_same i) (same_contended (pairs db who u) (pairs db Free put) to_pairs from_pairs i) (sym after_same i))
+      ∙ (λ i. outcome u.op u.rel (sym info_same i) (rows_at db u.rel) (sym lacks_same i) (sym fit_same i) (same_contended (pairs db who u) (pairs db Unrestricted put) to_pairs from_pairs i) (sym after_same i))
       ∙ same_parts
-      ∙ sym (outcome_is db Free put)
+      ∙ sym (outcome_is db Unrestricted put)

@@ -6,7 +6,7 @@ ghost use Rattle.std.specs.List.{list_all};
 ghost use Rattle.am_traits.specs.Causes.{HasCause as HasBaseCause};
 ghost use Rattle.calculus.specs.Database.{Db, permits_on};
 ghost use Rattle.calculus.specs.Rights.{permitted};
-ghost use Rattle.calculus.specs.Who.{asker_of, asks};
+ghost use Rattle.calculus.specs.Who.{asker_of, as_user};
 ghost use Rattle.view_expand.specs.Asking.{right_of, who_of};
 ghost use Rattle.view_expand.specs.Causes.{HasCause};
 ghost use Rattle.view_expand.specs.Covering.{covering_conditions, one_of};
@@ -66,10 +66,10 @@ fn condition_anew<B: Base>(
     key: &RelKey,
     found: &mut TextsFound,
 ) -> Result<Option<QQual>, BaseFault>
-    requires found { (db : Db) → B.database base.old ≡ Some db → IsFound db (asks user.now) found.old }
+    requires found { (db : Db) → B.database base.old ≡ Some db → IsFound db (as_user user.now) found.old }
     ensures known { (db : Db) → B.database base.old ≡ Some db → IfOk result (λ o. o ≡ one_of (covering_conditions (permits_on db key.now) (asker_of user.now) (right_of right) attrs.now)) }
     ensures within { IfOk result (λ o. list_all (is_qual_within 1) (option_to_list o) ≡ true) }
-    ensures found { (db : Db) → B.database base.old ≡ Some db → IsFound db (asks user.now) found.new }
+    ensures found { (db : Db) → B.database base.old ≡ Some db → IsFound db (as_user user.now) found.new }
     ensures kept { B.database base.new ≡ B.database base.old }
     ensures stays { (s : Db) → B.schema base.old ≡ Some s → B.schema base.new ≡ Some s }
     ensures asked { (b : B) → B.asked b base.old → B.asked b base.new }
@@ -95,10 +95,10 @@ fn condition_on<B: Base>(
     key: &RelKey,
     found: &mut TextsFound,
 ) -> Result<Option<QQual>, BaseFault>
-    requires found { (db : Db) → B.database base.old ≡ Some db → IsFound db (asks user.now) found.old }
+    requires found { (db : Db) → B.database base.old ≡ Some db → IsFound db (as_user user.now) found.old }
     ensures known { (db : Db) → B.database base.old ≡ Some db → IfOk result (λ o. o ≡ one_of (covering_conditions (permits_on db key.now) (asker_of user.now) (right_of right) attrs.now)) }
     ensures within { IfOk result (λ o. list_all (is_qual_within 1) (option_to_list o) ≡ true) }
-    ensures found { (db : Db) → B.database base.old ≡ Some db → IsFound db (asks user.now) found.new }
+    ensures found { (db : Db) → B.database base.old ≡ Some db → IsFound db (as_user user.now) found.new }
     ensures kept { B.database base.new ≡ B.database base.old }
     ensures stays { (s : Db) → B.schema base.old ≡ Some s → B.schema base.new ≡ Some s }
     ensures asked { (b : B) → B.asked b base.old → B.asked b base.new }
@@ -124,15 +124,15 @@ fn cut_for<B: Base>(
     key: &RelKey,
     found: &mut TextsFound,
 ) -> Result<Option<QQual>, TextFault>
-    requires found { (db : Db) → B.database base.old ≡ Some db → IsFound db (asks user.now) found.old }
-    ensures known { (db : Db) → B.database base.old ≡ Some db → IfOk result (λ o. option_to_list o ≡ cut db (asks user.now) (right_of right) attrs.now key.now) }
-    ensures permitted { (db : Db) → B.database base.old ≡ Some db → OnOk result (permitted db (asks user.now) (right_of right) attrs.now key.now ≡ true) }
+    requires found { (db : Db) → B.database base.old ≡ Some db → IsFound db (as_user user.now) found.old }
+    ensures known { (db : Db) → B.database base.old ≡ Some db → IfOk result (λ o. option_to_list o ≡ cut db (as_user user.now) (right_of right) attrs.now key.now) }
+    ensures permitted { (db : Db) → B.database base.old ≡ Some db → OnOk result (permitted db (as_user user.now) (right_of right) attrs.now key.now ≡ true) }
     ensures within { IfOk result (λ o. list_all (is_qual_within 1) (option_to_list o) ≡ true) }
-    ensures found { (db : Db) → B.database base.old ≡ Some db → IsFound db (asks user.now) found.new }
+    ensures found { (db : Db) → B.database base.old ≡ Some db → IsFound db (as_user user.now) found.new }
     ensures kept { B.database base.new ≡ B.database base.old }
     ensures stays { (s : Db) → B.schema base.old ≡ Some s → B.schema base.new ≡ Some s }
     ensures asked { (b : B) → B.asked b base.old → B.asked b base.new }
-    ensures cause { HasCause (λ db. permitted db (asks user.now) (right_of right) attrs.now key.now ≡ false) (B.database base.old) (B.faults base.old) (B.faults base.new) result }
+    ensures cause { HasCause (λ db. permitted db (as_user user.now) (right_of right) attrs.now key.now ≡ false) (B.database base.old) (B.faults base.old) (B.faults base.new) result }
 {
     if needs_none(alloc, base, user, right, key)? {
         return Ok(None);

@@ -10,7 +10,7 @@ use Rattle.std.specs.List.{list_all}
 use Rattle.calculus.specs.Term.{holds, no_aggs}
 use Rattle.calculus.specs.Tree.{negated}
 use Rattle.calculus.specs.Limits.{greatest_level}
-use Rattle.calculus.specs.Who.{Who, Asker, Free, Asks}
+use Rattle.calculus.specs.Who.{Who, Asker, Unrestricted, AsUser}
 use Rattle.calculus.specs.Database.{Db, View, permits_on}
 use Rattle.calculus.specs.Stored.{Range, Kept, Viewed}
 use Rattle.calculus.specs.Through.{through}
@@ -33,8 +33,8 @@ covering db asker right attrs key = filter (λ p. covers p asker right attrs) (p
 
 -- the conditions on a row with which one may do this with these attributes: none where no permit is needed, else that the qualification of a covering permit holds
 abbrev pub cut : Db → Who → Right → List ℕ → RelKey → List QQual
-cut db Free right attrs key = []
-cut db (Asks asker) right attrs key = cut_by (needs_none db asker right key)
+cut db Unrestricted right attrs key = []
+cut db (AsUser asker) right attrs key = cut_by (needs_none db asker right key)
   where
     cut_by : Bool → List QQual
     cut_by b = elim b [ true ↦ [] | false ↦ any_of (map permit_condition (covering db asker right attrs key)) ∷ [] ]

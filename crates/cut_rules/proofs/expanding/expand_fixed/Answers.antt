@@ -2,7 +2,7 @@ use Rattle.std.proofs.Common.{sym, ◌∙◌}
 use Rattle.quel_meaning.specs.FitQueries.{kept_or_viewed}
 use Rattle.cut_rules.proofs.Answered.{expand_failed, few_sources, too_many, few_enough, none_many, same_answer, same_lack}
 use Rattle.cut_rules.proofs.Fitting.{few_listed}
-use Rattle.cut_rules.proofs.Freely.{free_query}
+use Rattle.cut_rules.proofs.Unrestrictedly.{unrestricted_query}
 use Rattle.calculus.specs.Sizes.{expanded_variables}
 use Rattle.cut_rules.proofs.expanding.expand_fixed.Goals as goal
 
@@ -40,7 +40,7 @@ returns-in-Ok-clause-lacks g c = λ db h nests.
 pub returns-clause-cause : goal.returns-clause-cause
 returns-clause-cause g c =
     expand_failed _ _ _ _ _ _ _ _ c.in-Err.ensures.cause c.unexpanded.ensures c.in_ok-vars.ensures.kept c.in_ok-vars.ensures.cause.caused
-    (λ db h. free_query db (g.B.Base.lawful c.args.base.now db (g.B.Base.own c.args.base.now db h)) c.args.query.now (c.requires db h))
+    (λ db h. unrestricted_query db (g.B.Base.lawful c.args.base.now db (g.B.Base.own c.args.base.now db h)) c.args.query.now (c.requires db h))
 
 pub returns-then-vars-gt-MOST_VARIABLES-clause-many_by_schema : goal.returns-then-vars-gt-MOST_VARIABLES-clause-many_by_schema
 returns-then-vars-gt-MOST_VARIABLES-clause-many_by_schema g c = λ s h fit.

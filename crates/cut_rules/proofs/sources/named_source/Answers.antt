@@ -27,7 +27,7 @@ returns-in-Some-clause-known g c = λ db h.
 pub returns-in-Some-clause-cuts : goal.returns-in-Some-clause-cuts
 returns-in-Some-clause-cuts g c = λ db h.
     let e = cut_of_view db (g.B.Base.lawful c.args.base.now db (g.B.Base.own c.args.base.now db h)) (who_of (option_map (λ n. n.now) c.args.who)) c.args.attrs.now c.args.key.now c.in-Some.query (sym c.in-Some.is ∙ c.in_ok-query.ensures.known db (g.B.Base.own c.args.base.now db h)) in
-    subst (λ x. IfOk c.rows_source-made.result (λ made. option_to_list made.1 ≡ x)) e c.rows_source-made.ensures.free
+    subst (λ x. IfOk c.rows_source-made.result (λ made. option_to_list made.1 ≡ x)) e c.rows_source-made.ensures.unrestricted
 
 pub returns-in-Some-clause-permitted : goal.returns-in-Some-clause-permitted
 returns-in-Some-clause-permitted g c = λ db h.

@@ -40,7 +40,7 @@ returns-in-Rows-clause-known g c = λ db h.
 pub returns-in-Rows-clause-cuts : goal.returns-in-Rows-clause-cuts
 returns-in-Rows-clause-cuts g c = λ db h.
     subst (λ x. IfOk c.rows_source.result (λ made. option_to_list made.1 ≡ x))
-    (rows_cut db (who_of (option_map (λ n. n.now) c.args.who)) c.args.attrs.now c.args.source.now c.in-Rows.query c.in-Rows.is) c.rows_source.ensures.free
+    (rows_cut db (who_of (option_map (λ n. n.now) c.args.who)) c.args.attrs.now c.args.source.now c.in-Rows.query c.in-Rows.is) c.rows_source.ensures.unrestricted
 
 pub returns-in-Rows-clause-permitted : goal.returns-in-Rows-clause-permitted
 returns-in-Rows-clause-permitted g c = λ db h.

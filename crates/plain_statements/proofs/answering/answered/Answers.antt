@@ -1,6 +1,6 @@
 use Rattle.std.proofs.Common.{◌≡◌, ℕ}
 use Rattle.calculus.specs.declared.reply.Reply.TheVariants.{Refused}
-use Rattle.calculus.specs.Who.{Free}
+use Rattle.calculus.specs.Who.{Unrestricted}
 use Rattle.quel_meaning.specs.Copying.{refusal}
 use Rattle.quel_meaning.specs.Meaning.{answer_reply}
 use Rattle.plain_statements.specs.declared.stopped.Stopped.TheVariants.{No}
@@ -10,6 +10,6 @@ use Rattle.plain_statements.proofs.answering.answered.Goals as goal
 
 pub returns-in-Err-clause-known : goal.returns-in-Err-clause-known
 returns-in-Err-clause-known g c = λ db e.
-    ok_to (λ reply. (number : ℕ) × (c.from.result ≡ No number) × (reply ≡ Refused (refusal number))) (λ reply. reply ≡ answer_reply db Free c.args.asked.now)
+    ok_to (λ reply. (number : ℕ) × (c.from.result ≡ No number) × (reply ≡ Refused (refusal number))) (λ reply. reply ≡ answer_reply db Unrestricted c.args.asked.now)
     (λ reply w. query_answered db c.args.asked.now _ _ _ c.in-Err.fault c.from.result reply e c.in-Err.ensures.cause.caused c.from.ensures w)
     c.answer_to.result c.answer_to.ensures.only

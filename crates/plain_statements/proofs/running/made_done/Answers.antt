@@ -1,6 +1,6 @@
 use Rattle.std.proofs.Common.{◌≡◌, ℕ, subst}
 use Rattle.calculus.specs.declared.reply.Reply.TheVariants.{Refused}
-use Rattle.calculus.specs.Who.{Free, asker_of}
+use Rattle.calculus.specs.Who.{Unrestricted, asker_of}
 use Rattle.quel_meaning.specs.Copying.{refusal}
 use Rattle.quel_meaning.specs.Meaning.{judged, judged_outcome, tree_meaning}
 use Rattle.session_run.specs.Standing.{Comes, state_on}
@@ -14,7 +14,7 @@ use Rattle.plain_statements.proofs.running.made_done.Goals as goal
 
 pub returns-in-Ok-clause-done : goal.returns-in-Ok-clause-done
 returns-in-Ok-clause-done g c = λ ranges s files e made.
-    ok_to (λ reply. Leaves (tree_meaning (database_of c.args.base.now) files Free c.args.user.now c.in-Ok.tree) (database_of c.tree_done-done.new.base) (g.H.Shelf.files c.tree_done-done.new.shelf) reply)
+    ok_to (λ reply. Leaves (tree_meaning (database_of c.args.base.now) files Unrestricted c.args.user.now c.in-Ok.tree) (database_of c.tree_done-done.new.base) (g.H.Shelf.files c.tree_done-done.new.shelf) reply)
     (λ reply. Comes (judged_outcome (state_on (database_of c.args.base.now) ranges files) (asker_of c.args.user.now) (judged (database_of c.args.base.now) (asker_of c.args.user.now) ranges s)) (database_of c.tree_done-done.new.base) ranges (g.H.Shelf.files c.tree_done-done.new.shelf) reply)
     (λ reply h. tree_outcome (database_of c.args.base.now) (database_of c.tree_done-done.new.base) ranges files (g.H.Shelf.files c.tree_done-done.new.shelf) c.args.user.now s c.in-Ok.tree reply
     (subst (λ m. IsMade (database_of c.args.base.now) c.args.user.now ranges s m) c.in-Ok.is made).0 h)

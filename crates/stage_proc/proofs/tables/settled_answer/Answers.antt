@@ -4,7 +4,7 @@ use Rattle.calculus.specs.Assignments.{assigned}
 use Rattle.calculus.specs.Table.{tabled}
 use Rattle.calculus.specs.Targets.{rows_given}
 use Rattle.calculus.specs.VariableRows.{rows_of}
-use Rattle.calculus.specs.Who.{Free}
+use Rattle.calculus.specs.Who.{Unrestricted}
 use Rattle.ovqp.specs.Causes.{HasCause as HasAnswerCause}
 use Rattle.stage_proc.proofs.Tabling.{if_ok, on_ok, answer_by_tables, lacks_by_tables, settled_cause}
 use Rattle.stage_proc.proofs.tables.settled_answer.Goals as goal
@@ -12,7 +12,7 @@ use Rattle.stage_proc.proofs.tables.settled_answer.Goals as goal
 pub returns-clause-known : goal.returns-clause-known
 returns-clause-known g c = λ db e.
     let tables = c.in_ok-tables.tables.items in
-    if_ok (λ set. set ≡ rows_given (tabled tables) c.args.q.now (assigned (rows_of db Free) c.args.q.now)) (λ set. set ≡ answer db Free c.args.q.now)
+    if_ok (λ set. set ≡ rows_given (tabled tables) c.args.q.now (assigned (rows_of db Unrestricted) c.args.q.now)) (λ set. set ≡ answer db Unrestricted c.args.q.now)
     (λ set is. answer_by_tables db c.args.q.now tables set (c.in_ok-tables.ensures.rows db e) is)
     c.answer_by.result (c.answer_by.ensures.rows db (c.settle.ensures.kept ∙ e))
 

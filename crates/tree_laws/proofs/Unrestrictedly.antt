@@ -7,7 +7,7 @@ use Rattle.calculus.specs.declared.query.QTerm.{QTerm}
 use Rattle.calculus.specs.declared.query.Query.{Query}
 use Rattle.calculus.specs.Lists.{is_any}
 use Rattle.calculus.specs.Term.{no_aggs}
-use Rattle.calculus.specs.Who.{Who, Free}
+use Rattle.calculus.specs.Who.{Who, Unrestricted}
 use Rattle.calculus.specs.Database.{Db}
 use Rattle.calculus.specs.IsDatabase.{IsDatabase}
 use Rattle.calculus.specs.Stored.{range_at, rows_at}
@@ -28,7 +28,7 @@ use Rattle.tree_laws.proofs.Queries.{same_given}
 use Rattle.tree_laws.proofs.Denoted.{query_denoted, within_denoted}
 use Rattle.tree_laws.proofs.Named.{KeepsNames, none_keep}
 use Rattle.tree_laws.proofs.Placed.{placed_first, condition_used, attribute_used}
-use Rattle.tree_laws.proofs.Sound.{IsSound, AreSound, used_sound, used_meant, each_kept_at, within_sound, free_used, all_kept}
+use Rattle.tree_laws.proofs.Sound.{IsSound, AreSound, used_sound, used_meant, each_kept_at, within_sound, unrestricted_used, all_kept}
 
 module _ (db : Db) (source : TextSource) (sound : AreSound db source) (made : QTerm → QTerm) (q : Query)
     (keeps : KeepsNames made (put_from 0 (query_texts source q)) (query_aggregates q)) where
@@ -47,26 +47,26 @@ module _ (db : Db) (source : TextSource) (sound : AreSound db source) (made : QT
         | inr (v, j, at, is_used, names) ↦ attribute_used made (query_texts source q) q keeps v w names is_used
       ]
 
-  pub free_assigned : assigned (rows_of db Free) (put_query made (query_texts source q) q) ≡ choices (kept_lists db (texts_vars (query_texts source q)))
+  pub unrestricted_assigned : assigned (rows_of db Unrestricted) (put_query made (query_texts source q) q) ≡ choices (kept_lists db (texts_vars (query_texts source q)))
   unfolding assigned
-  free_assigned =
+  unrestricted_assigned =
       ap choices
-      (all_kept db (variable_rows (rows_of db Free) (put_query made (query_texts source q) q)) 0 (texts_vars (query_texts source q)) each (each_kept_at db text_at at_sound 0 (vars_of q)))
+      (all_kept db (variable_rows (rows_of db Unrestricted) (put_query made (query_texts source q) q)) 0 (texts_vars (query_texts source q)) each (each_kept_at db text_at at_sound 0 (vars_of q)))
     where
       each : (v : ℕ) (key : RelKey) → nat_lt v (length (texts_vars (query_texts source q))) ≡ true → is_no_view (range_at db key) ≡ true
-          → variable_rows (rows_of db Free) (put_query made (query_texts source q) q) (0 + v) key ≡ rows_at db key
+          → variable_rows (rows_of db Unrestricted) (put_query made (query_texts source q) q) (0 + v) key ≡ rows_at db key
       each v key inside kept =
           let same : 0 + v ≡ v = omega arith in
-          ap (λ v. variable_rows (rows_of db Free) (put_query made (query_texts source q) q) v key) same
-          ∙ free_used db key (used_in_query v (put_query made (query_texts source q) q)) kept (all_used v inside)
+          ap (λ v. variable_rows (rows_of db Unrestricted) (put_query made (query_texts source q) q) v key) same
+          ∙ unrestricted_used db key (used_in_query v (put_query made (query_texts source q) q)) kept (all_used v inside)
 
 -- a query without aggregates gives the same rows with its texts put in
 pub plain_put : (n : ℕ) (db : Db) (who : Who) → IsDatabase db → (q : Query) → query_aggregates q ≡ []
-    → rows_given no_aggs q (assigned (rows_within n db who) q) ≡ rows_given no_aggs (put_plain (text_within n db who) q) (assigned (rows_of db Free) (put_plain (text_within n db who) q))
+    → rows_given no_aggs q (assigned (rows_within n db who) q) ≡ rows_given no_aggs (put_plain (text_within n db who) q) (assigned (rows_of db Unrestricted) (put_plain (text_within n db who) q))
 unfolding assigned
 plain_put n db who d q plain =
     same_given db no_aggs no_aggs no_aggregate q (map (λ p. variable_rows (rows_within n db who) q p.0 p.1) (enumerate_from 0 (vars_of q))) (query_texts (text_within n db who) q)
     (query_denoted db (rows_within n db who) (text_within n db who) (within_denoted n db who) q 0 (vars_of q)) (λ e f stands. makes_none no_aggs f e (query_aggregates q))
     ∙ ap (rows_given no_aggs (put_plain (text_within n db who) q))
-    (sym (free_assigned db (text_within n db who) (within_sound n db who d) no_aggregate q
+    (sym (unrestricted_assigned db (text_within n db who) (within_sound n db who d) no_aggregate q
     (subst (KeepsNames no_aggregate (put_from 0 (query_texts (text_within n db who) q))) (sym plain) (none_keep (put_from 0 (query_texts (text_within n db who) q))))))
