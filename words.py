@@ -202,7 +202,7 @@ def rename_paths(paths, names):
         if parts[2] not in L.PARTS:
             continue
         stem, end = os.path.splitext(parts[-1])
-        new = parts[:3] + [names.get(one, one) if parts[2] == "proofs" or parts[2] == "src" else one for one in parts[3:-1]]
+        new = parts[:3] + [("+" * one.startswith("+")) + names.get(one.lstrip("+"), one.lstrip("+")) if parts[2] in ("proofs", "src") else one for one in parts[3:-1]]
         fixed = stem in ("lib", "main", "Lib", "Answers", "Invariants", "Proof")
         new.append((stem if fixed else names.get(stem, stem)) + end)
         to = "/".join(new)
@@ -227,6 +227,7 @@ def word(given):
         text = read(path)
         if given.old in text:
             places = [(a, b, given.old, given.new) for a, b, kind in L.words_in(text, path, given.old) if kind != "comment"]
+            places += [(it.start(), it.end(), given.old, given.new) for it in re.finditer(rf"(?<=\.\+){re.escape(given.old)}(?=\.)", text)]
             if places:
                 found[path] = places
     apply(found, paths, given, f"{given.old} -> {given.new}")
@@ -475,6 +476,8 @@ def verify(given):
         for one in re.finditer(r"^use Rattle\.(\w+)\.(specs|proofs)\.([\w.+]+?)\.\{([^}]*)\}", new_text, re.M):
             made = built.get(f"crates/{one[1]}/{one[2]}/{one[3].replace('.', '/')}.antt", set())
             mine |= made & set(re.split(r"[\s,.]+", one[4]))
+        if len(old) != len(new) and globbed(path, given.but):
+            continue
         if len(old) != len(new):
             problems.append(f"{path}: {len(old)} names before, {len(new)} now")
             continue
@@ -496,11 +499,42 @@ def verify(given):
         problems.append(f"{was}: gone")
     problems += [it for it in imports() if it not in state()["known_before"]]
     once = list(dict.fromkeys(problems))
+    alike += ["---- labels whose old name is still declared"] + labels()
     with open("/tmp/words-labels.txt", "w", encoding="utf-8") as out:
         print(*alike, sep="\n", file=out)
     print(*once, sep="\n")
     print(f"verify: {len(once)} to look at; {len(alike)} labels of different things read alike in one declaration (/tmp/words-labels.txt)")
     sys.exit(1 if once else 0)
+
+
+def labels():
+    """Fields and clauses that are renamed where they are used, though a crate below still declares the old name."""
+    it = state()
+    base, paths = it["base"], it["paths"]
+    rows = {row.name: set(row.needs) for row in L.rows_of(read("crates.txt"))[1]}
+    below = {name: L.closure(rows, rows[name]) for name in rows}
+    declared_in, used = {}, {}
+    form = re.compile(r"(?:\b(?:ensures|requires|ghost)\*? (\w+)|^\s*(?:pub(?:\([^)]*\))? )?([\w']+) ?:(?!:))", re.M)
+    for path in tree():
+        crate = path.split("/")[1]
+        plain = masked(read(path), path)
+        if path.endswith(".rt") or "/specs/" in path or path.count("/") == 3:
+            for found in form.finditer(plain):
+                declared_in.setdefault(found[1] or found[2], set()).add(crate)
+        was = base.get(paths.get(path, path))
+        if was is None or was == read(path):
+            continue
+        old, new = list(tokens(was, paths.get(path, path))), list(tokens(read(path), path))
+        if len(old) == len(new):
+            for (_, _, x, kind), (a, _, y, _) in zip(old, new):
+                if x != y and kind == "label" and not re.match(r"\.[A-Z(]", "") :
+                    used.setdefault((crate, x, y), path)
+    found = []
+    for (crate, x, y), path in sorted(used.items()):
+        still = declared_in.get(x, set()) & (below.get(crate, set()) | {crate})
+        if still:
+            found.append(f"{path}: .{x} is .{y}, but declared as {x} in {' '.join(sorted(still)[:6])}" + ("" if declared_in.get(y) else f"; {y} is declared nowhere"))
+    return found
 
 
 def imports():

@@ -153,3 +153,63 @@ p '\bthat nobody in particular hasn.t\b' "that aren't there unrestricted"
 p '^(\W*)Nobody in particular (sees|may)\b' '\1Whoever is unrestricted \2'
 p '\bnobody in particular\b' 'whoever is unrestricted'
 q
+
+g "4 expansion: what stands for a variable (view_text's Text); expanded: with views and permits in it; substituted: terms with others in place of attributes (put in)"
+QM='view_text view_expand cut_rules tree_laws'
+# terms: in the laws of the calculus
+s put_in substituted calculus_laws ovqp
+w put_in_qual substituted_qual cut_rules
+f crates/calculus_laws/proofs/PutIn.antt crates/calculus_laws/proofs/Substituted.antt
+# terms, qualifications, queries: here
+t '\bput_qual as put_in_qual\b' 'substituted_qual' 'crates/view_tests/src/*.rt'
+w put_in_qual substituted_qual view_tests
+w Putting Substitution $QM spelling_laws
+w put_from substituted_from $QM spelling_laws
+w put_terms substituted_terms $QM spelling_laws
+w put_query substituted_query $QM spelling_laws
+w put_qual substituted_qual $QM
+w put_term substituted_term $QM
+w put_term substituted_term 'crates/view_tests/src/texts.rt'
+w put_rows substituted_rows $QM
+w put_rows substituted_rows 'crates/view_tests/src/texts.rt'
+w put_whole substituted_whole $QM view_tests
+for it in put_in put_in_update put_in_tree put_in_asked put_plain put_range put_source put_aggregate put_made put_over put_over_few put_in_low put_in_over; do
+  w $it "$(sed -E 's/^put(_in)?/expanded/' <<<"$it")" $QM spelling_laws stage_parse
+done
+f crates/view_text/specs/PutIn.antt crates/view_text/specs/Expanded.antt
+f crates/spelling_laws/proofs/PutIn.antt crates/spelling_laws/proofs/Expanded.antt
+# what stands for a variable
+t '(?<![.:\w`])Text\b(?!::)' 'Expansion' 'crates/view_text/**/*.rt' 'crates/view_text/**/*.antt' 'crates/view_expand/**/*.rt' 'crates/view_expand/**/*.antt' 'crates/cut_rules/**/*.rt' 'crates/cut_rules/**/*.antt' 'crates/tree_laws/**/*.rt' 'crates/tree_laws/**/*.antt'
+w Text Expansion 'crates/base_tests/src/view_texts.rt' 'crates/spelling_laws/proofs/*.antt' 'crates/view_tests/src/texts.rt' --but 'crates/spelling_laws/proofs/Changes.antt'
+t 'view_text\.specs\.declared\.text\.(Text|Expansion)\.\{(Text|Expansion)' 'view_text.specs.declared.expansion.Expansion.{Expansion' $QM spelling_laws stage_parse
+t '\btext::(Text|Expansion)\b' 'expansion::Expansion' view_text
+f crates/view_text/specs/Texts.antt crates/view_text/specs/Expansions.antt
+f crates/view_text/specs/TextOf.antt crates/view_text/specs/ExpansionOf.antt
+w a_text_denotes_of_the_rows an_expansion_denotes_its_rows tree_laws
+for it in texts_vars query_texts update_text update_texts used_text changed_text texts_said all_texts text_within text_of kept_text rows_text range_text past_text text_low TextSource; do
+  w "$it" "$(sed 's/text/expansion/; s/Text/Expansion/' <<<"$it")" 'crates/spelling_laws/proofs/Expanded.antt' 'crates/spelling_laws/proofs/PutSpelled.antt' 'crates/spelling_laws/proofs/Trees.antt' 'crates/view_tests/src/texts.rt'
+done
+s Texts Expansions $QM --keep Texts
+s Text Expansion $QM base_tests --keep TextLaws Text
+s texts expansions $QM
+s text expansion $QM --keep is_text view_text text_there is_text_kind
+t '\b(crate|view_text)::Text\b' '\1::Expansion' view_text view_expand cut_rules base_tests view_tests
+t '(?<![.:\w`])Text\b(?!::)' 'Expansion' 'crates/view_tests/src/making.rt' 'crates/view_tests/src/written.rt'
+w text_within expansion_within 'crates/base_tests/src/view_texts.rt'
+p '\bput in place of\b' 'substituted for' view_text tree_laws calculus_laws
+p '\b(with|where) the texts of (its|their|the) variables put in\b' '\1 its variables expanded' $QM spelling_laws
+p '\b([Ww])ith (the )?views in (it|them) put in\b' '\1ith \2views in \3 expanded' $QM base_tests view_tests view_sizes
+p '\bviews in (it|them) are put in\b' 'views in \1 are expanded'
+p '\b([Vv])iews (are )?put in\b' '\1iews \2expanded'
+p '\bits views put in\b' 'its views expanded'
+p '\bviews in them put in\b' 'views in them expanded'
+p '\b([Tt])exts put in\b' '\1erms substituted' calculus_laws
+p '\b([Tt])exts put in\b' '\1xpansions substituted' $QM
+p '\b([Tt])exts? of (what|a variable|variables|the variables|its variables|a query|an update|a view|views|the view|a relation)\b' '\1XT of \2' $QM spelling_laws
+p 'tXT of' 'expansion of' $QM spelling_laws
+p 'TXT of' 'Expansion of' $QM spelling_laws
+p '\b(the|a|one|that|this|each|its|these|no|of|by|in) texts?\b(?! (constant|is compared|of a batch|of a script))' '\1 expansion' $QM
+p 'Txpansions' 'Expansions' $QM
+p 'txpansions' 'expansions' $QM
+p '\b(a) expansion' 'an expansion' $QM
+q --choose put_in=expanded Text=Text text=text texts=texts put_term=put_term put_qual=put_qual put_rows=put_rows

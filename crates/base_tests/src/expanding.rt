@@ -1,4 +1,4 @@
-//! Queries with the views in them put in, unrestricted.
+//! Queries with the views in them expanded, unrestricted.
 
 use crate::made::{query, unknown};
 use crate::shown::{put, put_query};
@@ -29,7 +29,7 @@ fn unknown_sums<R: Abort>(rt: &R, alloc: Global) -> TestBase {
     base
 }
 
-/// How many variables a query has once its views are put in, or would have, where they are too many.
+/// How many variables a query has once its views are expanded, or would have, where they are too many.
 fn expanded<R: Abort>(
     rt: &R,
     alloc: Global,
@@ -54,7 +54,7 @@ fn more_than_fifty_variables_are_too_many(rt: HostRuntime) {
     assert!(rt; expanded(&rt, rt.alloc(), &mut base, OF_SIX) == Err(51));
 }
 
-/// A query with its views put in, as bytes.
+/// A query with its views expanded, as bytes.
 fn shown<R: Abort>(rt: &R, alloc: Global, bytes: &[u8]) -> Vec<u8> {
     let mut base = unknown_sums(rt, alloc);
     let query = query(rt, alloc, bytes);

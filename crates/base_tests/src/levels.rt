@@ -63,7 +63,7 @@ struct Tower {
     /// Whether a view over the fifteenth would have a level that is too high, and one over the
     /// sixteenth.
     is_high: (bool, bool),
-    /// The variables that a query over the sixteenth uses once the views are put in, and those that
+    /// The variables that a query over the sixteenth uses once the views are expanded, and those that
     /// it lists.
     variables: (u64, u64),
     /// The size of a query over the sixteenth.

@@ -22,7 +22,7 @@ use view_sizes::{Measure, are_ranges, has_high_level, measure_of, query_depth, u
 /// The variables of a query as it stands at most.
 const MOST_VARIABLES: u64 = 10;
 
-/// The variables of a query once the views in it are put in, at most.
+/// The variables of a query once the views in it are expanded, at most.
 const MOST_EXPANDED_VARIABLES: u64 = 50;
 
 /// The variables that a query lists at most.
@@ -103,7 +103,7 @@ fn is_within(measure: &Measure) -> bool
     measure.variables <= MOST_EXPANDED_VARIABLES && measure.size() <= GREATEST_SIZE
 }
 
-/// Whether a query without aggregates is within the limits of a view once the views in it are put in.
+/// Whether a query without aggregates is within the limits of a view once the views in it are expanded.
 fn measure_fits<B: Base>(alloc: Global, base: &mut B, query: &Query) -> Result<bool, BaseFault>
     ensures known { (db : Db) → B.schema base.old ≡ Some db → length (vars_of query.now) ≤ 256 → query_aggregates query.now ≡ [] → IfOk result (λ fits. fits ≡ (nat_le (expanded_variables db query.now) 50 && nat_le (query_size db query.now) 1000)) }
     ensures kept { B.database base.new ≡ B.database base.old }

@@ -85,7 +85,7 @@ is_named_outside db rels key = list_any (λ v. not (has_key rels v.info.key) && 
 unfoldable pub destroying_is_fit : Db → List RelKey → Bool
 destroying_is_fit db rels = list_all (is_there db) rels && (differ_by same_key rels && not (list_any (is_named_outside db rels) rels))
 
--- the view is within the limits, once the views in it are put in, and can be stored
+-- the view is within the limits, once the views in it are expanded, and can be stored
 unfoldable pub view_is_small : Db → Query → Bool
 view_is_small db q =
     nat_le (length (vars_of q)) most_expanded_variables

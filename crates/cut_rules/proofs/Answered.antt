@@ -18,7 +18,7 @@ use Rattle.quel_meaning.specs.FitQueries.{kept_or_viewed, has_few_targets, sourc
 use Rattle.tree_laws.specs.Nesting.{aggregates_nest_none}
 use Rattle.tree_laws.proofs.Answering.{answer_put, lacks_put}
 use Rattle.view_sizes.specs.Listing.{source_lists_few, sources_list_few}
-use Rattle.view_text.specs.PutIn.{put_in}
+use Rattle.view_text.specs.Expanded.{expanded}
 use Rattle.cut_rules.specs.declared.fault.CutFault.{CutFault}
 use Rattle.cut_rules.specs.declared.fault.CutFault.TheVariants as cut
 use Rattle.cut_rules.specs.declared.fault.ExpandFault.{ExpandFault}
@@ -96,8 +96,8 @@ few_enough vars n e l = omega (arith, e, l)
 
 -- ---- what it answers
 
-pub same_answer : (db : Db) → IsDatabase db → (q made : Query) → aggregates_nest_none q ≡ true → made ≡ put_in db Unrestricted q → answer db Unrestricted made ≡ answer db Unrestricted q
+pub same_answer : (db : Db) → IsDatabase db → (q made : Query) → aggregates_nest_none q ≡ true → made ≡ expanded db Unrestricted q → answer db Unrestricted made ≡ answer db Unrestricted q
 same_answer db d q made nests e = ap (answer db Unrestricted) e ∙ sym (answer_put db d Unrestricted q nests)
 
-pub same_lack : (db : Db) → IsDatabase db → (q made : Query) → aggregates_nest_none q ≡ true → made ≡ put_in db Unrestricted q → lacks db Unrestricted made ≡ lacks db Unrestricted q
+pub same_lack : (db : Db) → IsDatabase db → (q made : Query) → aggregates_nest_none q ≡ true → made ≡ expanded db Unrestricted q → lacks db Unrestricted made ≡ lacks db Unrestricted q
 same_lack db d q made nests e = ap (lacks db Unrestricted) e ∙ sym (lacks_put db d Unrestricted q nests)

@@ -2,25 +2,25 @@
 use Rattle.std.proofs.Common.{◌≡◌, refl, sym, ◌∙◌, subst, ℕ, Option, Some, Result, Ok, Err, OnOk, arith}
 use Rattle.calculus.specs.Database.{Db}
 use Rattle.am_traits.specs.declared.fault.BaseFault.TheVariants as base
-use Rattle.view_expand.specs.declared.fault.TextFault.{TextFault}
-use Rattle.view_expand.specs.declared.fault.TextFault.TheVariants as text
-use Rattle.view_expand.specs.Causes as texts
+use Rattle.view_expand.specs.declared.fault.ExpansionFault.{ExpansionFault}
+use Rattle.view_expand.specs.declared.fault.ExpansionFault.TheVariants as expansion
+use Rattle.view_expand.specs.Causes as expansions
 use Rattle.cut_rules.specs.declared.fault.CutFault.{CutFault}
 use Rattle.cut_rules.specs.declared.fault.CutFault.TheVariants as cut
 use Rattle.cut_rules.specs.Causes.{MayFail, HasCause}
 use Rattle.cut_rules.specs.Faults.{fault_at}
 
--- ---- a text's fault is the tree's, at the variable's place
+-- ---- an expansion's fault is the tree's, at the variable's place
 
 may_fail_as : (refused : Db → Type 0) (other : Db → ℕ → Type 0) (known : Option Db) (before now var : ℕ) → ((db : Db) → known ≡ Some db → refused db → other db var)
-    → (fault : TextFault) → texts.MayFail refused known before now fault → MayFail other known before now (fault_at var fault)
-may_fail_as refused other known before now var f text.NoPermit c = (c.0, λ db h. f db h (c.1 db h))
-may_fail_as refused other known before now var f text.TooMany c = c
-may_fail_as refused other known before now var f (text.Base fault) c = c
-may_fail_as refused other known before now var f text.OutOfMemory c = c
+    → (fault : ExpansionFault) → expansions.MayFail refused known before now fault → MayFail other known before now (fault_at var fault)
+may_fail_as refused other known before now var f expansion.NoPermit c = (c.0, λ db h. f db h (c.1 db h))
+may_fail_as refused other known before now var f expansion.TooMany c = c
+may_fail_as refused other known before now var f (expansion.Base fault) c = c
+may_fail_as refused other known before now var f expansion.OutOfMemory c = c
 
-pub failed_as : {S T : Type 0} (refused : Db → Type 0) (other : Db → ℕ → Type 0) (known : Option Db) (before now var : ℕ) (fault : TextFault) (made : CutFault)
-    → texts.HasCause {T = S} refused known before now (Err fault) → made ≡ fault_at var fault → ((db : Db) → known ≡ Some db → refused db → other db var)
+pub failed_as : {S T : Type 0} (refused : Db → Type 0) (other : Db → ℕ → Type 0) (known : Option Db) (before now var : ℕ) (fault : ExpansionFault) (made : CutFault)
+    → expansions.HasCause {T = S} refused known before now (Err fault) → made ≡ fault_at var fault → ((db : Db) → known ≡ Some db → refused db → other db var)
     → HasCause {T = T} other known before now (Err made)
 failed_as refused other known before now var fault made c e f = record {
   later = c.later;

@@ -9,20 +9,20 @@ ghost use Rattle.calculus.specs.Permission.{change_permitted};
 ghost use Rattle.calculus.specs.Rights.{Append, permitted};
 ghost use Rattle.cut_rules.specs.Placed.{changed_by, read_permitted};
 ghost use Rattle.view_expand.specs.Asking.{right_of, who_of};
-ghost use Rattle.view_expand.specs.Causes.{HasCause as HasTextCause};
+ghost use Rattle.view_expand.specs.Causes.{HasCause as HasExpansionCause};
 ghost use Rattle.view_expand.specs.Found.{IsFound};
-ghost use Rattle.view_expand.specs.declared.fault.TextFault.TheVariants.{OutOfMemory as NoTextMemory};
+ghost use Rattle.view_expand.specs.declared.fault.ExpansionFault.TheVariants.{OutOfMemory as NoExpansionMemory};
 ghost use Rattle.view_text.specs.Halves.{all_of};
-ghost use Rattle.view_text.specs.PutIn.{changed_text, read_cut};
+ghost use Rattle.view_text.specs.Expanded.{changed_expansion, read_cut};
 ghost use Rattle.view_text.specs.Scoped.{is_qual_within, is_scoped};
-ghost use Rattle.view_text.specs.TextOf.{cut, kept_text};
+ghost use Rattle.view_text.specs.ExpansionOf.{cut, kept_expansion};
 
 use am_traits::Base;
 use calculus::{List, Name, OutOfMemory, QQual, RelKey, TryCopy, Update, UpdateOp};
 use memory::{alone, push};
 use std::alloc::Global;
-use view_expand::{Right, TextFault, TextsFound, cut};
-use view_text::{Text, all_of};
+use view_expand::{Right, ExpansionFault, ExpansionsFound, cut};
+use view_text::{Expansion, all_of};
 
 /// The right to change the variable at a place; `None` where its rows stay.
 pub(crate) fn changed_by(u: &Update, place: u8) -> Option<Right>
@@ -67,8 +67,8 @@ pub(crate) fn put_cut<B: Base>(
     attrs: &[u8],
     key: &RelKey,
     conditions: &mut Vec<QQual>,
-    found: &mut TextsFound,
-) -> Result<(), TextFault>
+    found: &mut ExpansionsFound,
+) -> Result<(), ExpansionFault>
     requires found { (db : Db) → B.database base.old ≡ Some db → IsFound db (who_of (option_map (λ n. n.now) who)) found.old }
     ensures known { (db : Db) → B.database base.old ≡ Some db → OnOk result (conditions.new.items ≡ conditions.old.items ++ cut db (who_of (option_map (λ n. n.now) who.entry)) (right_of right) attrs.now key.now) }
     ensures permitted { (db : Db) → B.database base.old ≡ Some db → OnOk result (permitted db (who_of (option_map (λ n. n.now) who.entry)) (right_of right) attrs.now key.now ≡ true) }
@@ -77,12 +77,12 @@ pub(crate) fn put_cut<B: Base>(
     ensures kept { B.database base.new ≡ B.database base.old }
     ensures stays { (s : Db) → B.schema base.old ≡ Some s → B.schema base.new ≡ Some s }
     ensures asked { (b : B) → B.asked b base.old → B.asked b base.new }
-    ensures cause { HasTextCause (λ db. permitted db (who_of (option_map (λ n. n.now) who.entry)) (right_of right) attrs.now key.now ≡ false) (B.database base.old) (B.faults base.old) (B.faults base.new) result }
+    ensures cause { HasExpansionCause (λ db. permitted db (who_of (option_map (λ n. n.now) who.entry)) (right_of right) attrs.now key.now ≡ false) (B.database base.old) (B.faults base.old) (B.faults base.new) result }
 {
     match cut(alloc, base, who, right, attrs, key, found) {
         Ok(condition) => match put_condition(condition, conditions) {
             Ok(()) => Ok(()),
-            Err(_) => Err(TextFault::OutOfMemory),
+            Err(_) => Err(ExpansionFault::OutOfMemory),
         },
         Err(fault) => Err(fault),
     }
@@ -96,8 +96,8 @@ fn put_read_cut<B: Base>(
     read: &[u8],
     key: &RelKey,
     quals: &mut Vec<QQual>,
-    found: &mut TextsFound,
-) -> Result<(), TextFault>
+    found: &mut ExpansionsFound,
+) -> Result<(), ExpansionFault>
     requires found { (db : Db) → B.database base.old ≡ Some db → IsFound db (who_of (option_map (λ n. n.now) who)) found.old }
     ensures known { (db : Db) → B.database base.old ≡ Some db → OnOk result (quals.new.items ≡ quals.old.items ++ read_cut db (who_of (option_map (λ n. n.now) who.entry)) read.now key.now) }
     ensures permitted { (db : Db) → B.database base.old ≡ Some db → OnOk result (read_permitted db (who_of (option_map (λ n. n.now) who.entry)) read.now key.now ≡ true) }
@@ -106,7 +106,7 @@ fn put_read_cut<B: Base>(
     ensures kept { B.database base.new ≡ B.database base.old }
     ensures stays { (s : Db) → B.schema base.old ≡ Some s → B.schema base.new ≡ Some s }
     ensures asked { (b : B) → B.asked b base.old → B.asked b base.new }
-    ensures cause { HasTextCause (λ db. read_permitted db (who_of (option_map (λ n. n.now) who.entry)) read.now key.now ≡ false) (B.database base.old) (B.faults base.old) (B.faults base.new) result }
+    ensures cause { HasExpansionCause (λ db. read_permitted db (who_of (option_map (λ n. n.now) who.entry)) read.now key.now ≡ false) (B.database base.old) (B.faults base.old) (B.faults base.new) result }
 {
     match read {
         [] => Ok(()),
@@ -124,8 +124,8 @@ fn put_cuts<B: Base>(
     read: &[u8],
     key: &RelKey,
     conditions: &mut Vec<QQual>,
-    found: &mut TextsFound,
-) -> Result<(), TextFault>
+    found: &mut ExpansionsFound,
+) -> Result<(), ExpansionFault>
     requires found { (db : Db) → B.database base.old ≡ Some db → IsFound db (who_of (option_map (λ n. n.now) who)) found.old }
     ensures known { (db : Db) → B.database base.old ≡ Some db → OnOk result (conditions.new.items ≡ conditions.old.items ++ (cut db (who_of (option_map (λ n. n.now) who.entry)) (right_of right) places.now key.now ++ read_cut db (who_of (option_map (λ n. n.now) who.entry)) read.now key.now)) }
     ensures permitted { (db : Db) → B.database base.old ≡ Some db → OnOk result (change_permitted db (who_of (option_map (λ n. n.now) who.entry)) (right_of right) places.now key.now read.now ≡ true) }
@@ -134,7 +134,7 @@ fn put_cuts<B: Base>(
     ensures kept { B.database base.new ≡ B.database base.old }
     ensures stays { (s : Db) → B.schema base.old ≡ Some s → B.schema base.new ≡ Some s }
     ensures asked { (b : B) → B.asked b base.old → B.asked b base.new }
-    ensures cause { HasTextCause (λ db. change_permitted db (who_of (option_map (λ n. n.now) who.entry)) (right_of right) places.now key.now read.now ≡ false) (B.database base.old) (B.faults base.old) (B.faults base.new) result }
+    ensures cause { HasExpansionCause (λ db. change_permitted db (who_of (option_map (λ n. n.now) who.entry)) (right_of right) places.now key.now read.now ≡ false) (B.database base.old) (B.faults base.old) (B.faults base.new) result }
 {
     match put_cut(alloc, base, who, right, places, key, conditions, found) {
         Ok(()) => put_read_cut(alloc, base, who, read, key, conditions, found),
@@ -152,28 +152,28 @@ fn only(alloc: Global, key: &RelKey) -> Result<Vec<RelKey>, OutOfMemory>
     }
 }
 
-/// The text of what has a key and is no view, with these conditions on its rows.
+/// The expansion of what has a key and is no view, with these conditions on its rows.
 #[tactic(auto, using(view_text::proofs::Scope::kept_scoped))]
-fn kept(alloc: Global, key: &RelKey, conditions: Vec<QQual>) -> Result<Text, TextFault>
+fn kept(alloc: Global, key: &RelKey, conditions: Vec<QQual>) -> Result<Expansion, ExpansionFault>
     requires { list_all (is_qual_within 1) conditions.items ≡ true }
-    ensures text { IfOk result (λ text. text ≡ kept_text conditions.items key.now) }
-    ensures scoped { IfOk result (λ text. is_scoped text ≡ true) }
-    ensures cause { IfErr result (λ fault. fault ≡ NoTextMemory) }
+    ensures expansion { IfOk result (λ expansion. expansion ≡ kept_expansion conditions.items key.now) }
+    ensures scoped { IfOk result (λ expansion. is_scoped expansion ≡ true) }
+    ensures cause { IfErr result (λ fault. fault ≡ NoExpansionMemory) }
 {
     match only(alloc, key) {
-        Ok(vars) => Ok(Text {
+        Ok(vars) => Ok(Expansion {
             vars: List::of(vars),
             terms: None,
             conditions: List::of(conditions),
         }),
-        Err(_) => Err(TextFault::OutOfMemory),
+        Err(_) => Err(ExpansionFault::OutOfMemory),
     }
 }
 
-/// The text of a variable whose rows are replaced or deleted: its relation, cut down to the rows that may
+/// The expansion of a variable whose rows are replaced or deleted: its relation, cut down to the rows that may
 /// be so changed with the attributes at these places, and be read as far as they are. `NoPermit` exactly
 /// where one of the two isn't permitted at all.
-pub(crate) fn changed_text<B: Base>(
+pub(crate) fn changed_expansion<B: Base>(
     alloc: Global,
     base: &mut B,
     who: Option<&Name>,
@@ -181,17 +181,17 @@ pub(crate) fn changed_text<B: Base>(
     places: &[u8],
     read: &[u8],
     key: &RelKey,
-    found: &mut TextsFound,
-) -> Result<Text, TextFault>
+    found: &mut ExpansionsFound,
+) -> Result<Expansion, ExpansionFault>
     requires found { (db : Db) → B.database base.old ≡ Some db → IsFound db (who_of (option_map (λ n. n.now) who)) found.old }
-    ensures known { (db : Db) → B.database base.old ≡ Some db → IfOk result (λ text. text ≡ changed_text db (who_of (option_map (λ n. n.now) who.entry)) (right_of right) places.now read.now key.now) }
+    ensures known { (db : Db) → B.database base.old ≡ Some db → IfOk result (λ expansion. expansion ≡ changed_expansion db (who_of (option_map (λ n. n.now) who.entry)) (right_of right) places.now read.now key.now) }
     ensures permitted { (db : Db) → B.database base.old ≡ Some db → OnOk result (change_permitted db (who_of (option_map (λ n. n.now) who.entry)) (right_of right) places.now key.now read.now ≡ true) }
-    ensures scoped { IfOk result (λ text. is_scoped text ≡ true) }
+    ensures scoped { IfOk result (λ expansion. is_scoped expansion ≡ true) }
     ensures found { (db : Db) → B.database base.old ≡ Some db → IsFound db (who_of (option_map (λ n. n.now) who.entry)) found.new }
     ensures kept { B.database base.new ≡ B.database base.old }
     ensures stays { (s : Db) → B.schema base.old ≡ Some s → B.schema base.new ≡ Some s }
     ensures asked { (b : B) → B.asked b base.old → B.asked b base.new }
-    ensures cause { HasTextCause (λ db. change_permitted db (who_of (option_map (λ n. n.now) who.entry)) (right_of right) places.now key.now read.now ≡ false) (B.database base.old) (B.faults base.old) (B.faults base.new) result }
+    ensures cause { HasExpansionCause (λ db. change_permitted db (who_of (option_map (λ n. n.now) who.entry)) (right_of right) places.now key.now read.now ≡ false) (B.database base.old) (B.faults base.old) (B.faults base.new) result }
 {
     let mut conditions = Vec::new(alloc);
     match put_cuts(
@@ -227,8 +227,8 @@ pub(crate) fn appended_cut<B: Base>(
     base: &mut B,
     who: Option<&Name>,
     u: &Update,
-    found: &mut TextsFound,
-) -> Result<QQual, TextFault>
+    found: &mut ExpansionsFound,
+) -> Result<QQual, ExpansionFault>
     requires found { (db : Db) → B.database base.old ≡ Some db → IsFound db (who_of (option_map (λ n. n.now) who)) found.old }
     ensures known { (db : Db) → B.database base.old ≡ Some db → IfOk result (λ q. q ≡ all_of (u.now.new_cut ∷ cut db (who_of (option_map (λ n. n.now) who.entry)) Append u.now.places u.now.rel)) }
     ensures permitted { (db : Db) → B.database base.old ≡ Some db → OnOk result (permitted db (who_of (option_map (λ n. n.now) who.entry)) Append u.now.places u.now.rel ≡ true) }
@@ -236,11 +236,11 @@ pub(crate) fn appended_cut<B: Base>(
     ensures kept { B.database base.new ≡ B.database base.old }
     ensures stays { (s : Db) → B.schema base.old ≡ Some s → B.schema base.new ≡ Some s }
     ensures asked { (b : B) → B.asked b base.old → B.asked b base.new }
-    ensures cause { HasTextCause (λ db. permitted db (who_of (option_map (λ n. n.now) who.entry)) Append u.now.places u.now.rel ≡ false) (B.database base.old) (B.faults base.old) (B.faults base.new) result }
+    ensures cause { HasExpansionCause (λ db. permitted db (who_of (option_map (λ n. n.now) who.entry)) Append u.now.places u.now.rel ≡ false) (B.database base.old) (B.faults base.old) (B.faults base.new) result }
 {
     let mut quals = Vec::new(alloc);
     if put_copy(alloc, &u.new_cut, &mut quals).is_err() {
-        return Err(TextFault::OutOfMemory);
+        return Err(ExpansionFault::OutOfMemory);
     }
     match put_cut(
         alloc,
@@ -254,7 +254,7 @@ pub(crate) fn appended_cut<B: Base>(
     ) {
         Ok(()) => match all_of(alloc, quals) {
             Ok(q) => Ok(q),
-            Err(_) => Err(TextFault::OutOfMemory),
+            Err(_) => Err(ExpansionFault::OutOfMemory),
         },
         Err(fault) => Err(fault),
     }

@@ -1,4 +1,4 @@
-//! Cuts a tree down to what a user may see and change, with the views in it put in, and puts the rules of
+//! Cuts a tree down to what a user may see and change, with the views in it expanded, and puts the rules of
 //! the relation that is changed among the checks of an update.
 #![tactic(auto)]
 
@@ -8,10 +8,10 @@ mod changing;
 mod cutting;
 mod expanding;
 mod fault;
-mod put_in;
+mod expanded;
 mod rules;
 mod sources;
-mod texts;
+mod expansions;
 mod updates;
 
 pub use cutting::cut_permits;

@@ -1,4 +1,4 @@
--- What a written statement asks for is fit, once the views in it are put in.
+-- What a written statement asks for is fit, once the views in it are expanded.
 use Rattle.std.proofs.Common.{◌≡◌, refl, subst, ℕ, true, List, Some, None, Ok}
 use Rattle.calculus.specs.declared.request.Checked.{Checked}
 use Rattle.calculus.specs.declared.statement.Statement.{Statement}

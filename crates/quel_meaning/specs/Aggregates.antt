@@ -13,7 +13,7 @@ use Rattle.quel_meaning.specs.WrittenParts.{aggregates_in, aggregates_in_qual, t
 abbrev pub holds_another : AggTerm → Bool
 holds_another g = is_any (aggregates_in g.arg ++ (flat_map aggregates_in g.by ++ aggregates_in_qual g.qual))
 
--- the variable is the only one, and what it ranges over has at most one variable once the views in it are put in
+-- the variable is the only one, and what it ranges over has at most one variable once the views in it are expanded
 abbrev pub is_one_plain : Scope → List (List ℕ) → Bool
 is_one_plain s [] = false
 is_one_plain s (var ∷ []) = nat_le (measure_of s.db (key_found (ranged s var))).variables 1

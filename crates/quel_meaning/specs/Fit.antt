@@ -144,7 +144,7 @@ fits may db user tree = tree_is_spelled tree && suits may db user tree
 abbrev pub is_fit : Db → List ℕ → Checked → Bool
 is_fit db user tree = fits (kept_alone db) db user tree
 
--- a tree is fit once the views in it are put in
+-- a tree is fit once the views in it are expanded
 abbrev pub is_fit_with_views : Db → List ℕ → Checked → Bool
 is_fit_with_views db user tree = fits (kept_or_viewed db) db user tree
 

@@ -38,7 +38,7 @@ kept_alone db = record { variable = is_kept db; source = is_kept db }
 abbrev pub can_be_ranged_over : Db → RelKey → Bool
 can_be_ranged_over db key = is_some (info_at db key)
 
--- views too, those that an aggregate is over having at most one variable once the views in them are put in
+-- views too, those that an aggregate is over having at most one variable once the views in them are expanded
 abbrev pub kept_or_viewed : Db → Allowed
 kept_or_viewed db = record { variable = can_be_ranged_over db; source = λ key. can_be_ranged_over db key && nat_le (measure_of db key).variables 1 }
 

@@ -58,7 +58,7 @@ pub fn what_is_resolved_is_fit()
         → IsDatabase db → is_name user ≡ true → is_written statement ≡ true → resolved db user ranges statement ≡ Ok tree → is_fit_with_views db user tree ≡ true }
 {}
 
-/// A tree that is fit is fit once the views in it are put in. Of the user only the name of an index speaks.
+/// A tree that is fit is fit once the views in it are expanded. Of the user only the name of an index speaks.
 pub fn fit_trees_speak_little_of_views_and_users()
     ensures views { (db : Db) (user : List ℕ) (tree : Checked) → is_fit db user tree ≡ true → is_fit_with_views db user tree ≡ true }
     ensures users { (db : Db) (user other : List ℕ) (tree : Checked) → makes_an_index tree ≡ false → is_fit db user tree ≡ is_fit db other tree }

@@ -46,7 +46,7 @@ fn holds_another(g: &AggTerm) -> bool
     term_has_aggregate(&g.arg) || holds_behind(g)
 }
 
-/// Whether what stands under a key has at most one variable once the views in it are put in.
+/// Whether what stands under a key has at most one variable once the views in it are expanded.
 #[tactic(auto, using(view_sizes::proofs::Stopped::stopped_le))]
 fn is_plain<B: Base>(alloc: Global, base: &mut B, key: &RelKey) -> Result<bool, BaseFault>
     ensures known { (db : Db) → B.schema base.old ≡ Some db → IfOk result (λ plain. plain ≡ nat_le (measure_within 16 db key.now).variables 1) }
@@ -59,7 +59,7 @@ fn is_plain<B: Base>(alloc: Global, base: &mut B, key: &RelKey) -> Result<bool, 
     Ok(count <= 1)
 }
 
-/// Whether what a variable ranges over has at most one variable once the views in it are put in.
+/// Whether what a variable ranges over has at most one variable once the views in it are expanded.
 fn ranges_plainly<B: Base>(
     alloc: Global,
     base: &mut B,

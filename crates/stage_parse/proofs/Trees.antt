@@ -19,7 +19,7 @@ use Rattle.quel_resolve.specs.Answers.{Resolves}
 use Rattle.utility_trees.specs.Answers.{Says}
 use Rattle.utility_trees.specs.declared.fault.CheckFault.{CheckFault}
 use Rattle.utility_trees.specs.declared.fault.CheckFault.TheVariants as fault
-use Rattle.view_text.specs.PutIn.{put_in_tree}
+use Rattle.view_text.specs.Expanded.{expanded_tree}
 use Rattle.tree_laws.proofs.FitTree.{fit_ruled}
 use Rattle.tree_laws.proofs.Means.{ruled_means_same}
 use Rattle.spelling_laws.proofs.PutSpelled.{all_spelled}
@@ -28,7 +28,7 @@ use Rattle.stage_parse.specs.Checks.{IsChecked, Checks}
 -- ---- constants
 
 -- what is fit has constants that are ones, and so has what is put in
-put_spelled : (db : Db) → IsDatabase db → (user : List ℕ) (who : Who) (tree : Checked) → is_fit_with_views db user tree ≡ true → tree_is_spelled (ruled_tree db (put_in_tree db who tree)) ≡ true
+put_spelled : (db : Db) → IsDatabase db → (user : List ℕ) (who : Who) (tree : Checked) → is_fit_with_views db user tree ≡ true → tree_is_spelled (ruled_tree db (expanded_tree db who tree)) ≡ true
 unfolding fits
 put_spelled db d user who tree h = all_spelled db d who tree (left (tree_is_spelled tree) (suits (kept_or_viewed db) db user tree) h)
 
@@ -55,13 +55,13 @@ fit_resolved db user ranges s tree d named written h = resolved_fits db user ran
 -- it is cut, and the rules join it
 comes : (db : Db) (user : List ℕ) (ranges : Ranges) (s : Statement) (tree made : Checked) → IsDatabase db → is_name user ≡ true → is_written s ≡ true
     → Resolves db user ranges s (Ok tree)
-    → (made ≡ ruled_tree db (put_in_tree db (as_user user) tree)) × (checked_permitted db (as_user user) tree ≡ true) → IsChecked db user ranges s made
+    → (made ≡ ruled_tree db (expanded_tree db (as_user user) tree)) × (checked_permitted db (as_user user) tree ≡ true) → IsChecked db user ranges s made
 comes db user ranges s tree made d named written h k =
     let fit : is_fit_with_views db user tree ≡ true = fit_resolved db user ranges s tree d named written h in
     record {
       asked = tree;
       judged = judged_with db user ranges s tree true h k.1;
-      put_in = k.0;
+      expanded = k.0;
       fit = ap (is_fit db user) k.0 ∙ fit_ruled db d (as_user user) user tree fit (put_spelled db d user (as_user user) tree fit);
       means = λ shelf. ap (tree_meaning db shelf Unrestricted user) k.0 ∙ sym (ruled_means_same db d (as_user user) shelf user tree fit);
     }
@@ -74,7 +74,7 @@ refused db user ranges s tree number h k = judged_with db user ranges s tree fal
 -- by what is told of what is cut and ruled
 pub follows : (db : Db) (user : List ℕ) (ranges : Ranges) (s : Statement) (tree : Checked) → IsDatabase db → is_name user ≡ true → is_written s ≡ true
     → Resolves db user ranges s (Ok tree) → (result : Result Checked CheckFault)
-    → Says (λ made. (made ≡ ruled_tree db (put_in_tree db (as_user user) tree)) × (checked_permitted db (as_user user) tree ≡ true))
+    → Says (λ made. (made ≡ ruled_tree db (expanded_tree db (as_user user) tree)) × (checked_permitted db (as_user user) tree ≡ true))
     (λ number. (number ≡ 23) × (checked_permitted db (as_user user) tree ≡ false)) result
     → Checks db user ranges s result
 follows db user ranges s tree d named written h (Ok made) k = comes db user ranges s tree made d named written h k

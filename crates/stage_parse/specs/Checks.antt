@@ -10,13 +10,13 @@ use Rattle.quel_meaning.specs.Ranges.{Ranges}
 use Rattle.fault_io.specs.Files.{Files}
 use Rattle.utility_trees.specs.Answers.{Says}
 use Rattle.utility_trees.specs.declared.fault.CheckFault.{CheckFault}
-use Rattle.view_text.specs.PutIn.{put_in_tree}
+use Rattle.view_text.specs.Expanded.{expanded_tree}
 
 -- the tree is what a statement is judged to ask for, once views and permits are put in and the rules join it: it is fit, and means unrestricted what the other means for the user
 pub record IsChecked (db : Db) (user : List ℕ) (ranges : Ranges) (s : Statement) (tree : Checked) : Type 0 where
   pub asked : Checked
   pub judged : judged db (asker_of user) ranges s ≡ Ok asked
-  pub put_in : tree ≡ ruled_tree db (put_in_tree db (as_user user) asked)
+  pub expanded : tree ≡ ruled_tree db (expanded_tree db (as_user user) asked)
   pub fit : is_fit db user tree ≡ true
   pub means : (shelf : Files) → tree_meaning db shelf Unrestricted user tree ≡ tree_meaning db shelf (as_user user) user (ruled_tree db asked)
 

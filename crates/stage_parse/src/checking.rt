@@ -16,7 +16,7 @@ use quel_resolve::{CheckFault, resolve};
 use std::alloc::Global;
 
 /// What the user's statement asks for, as a tree over base relations and catalogues alone that is fit for
-/// the database: its views are put in, it is cut down to what the user may see and change, and the rules
+/// the database: its views are expanded, it is cut down to what the user may see and change, and the rules
 /// of the relation that it changes are among its checks. For whoever is unrestricted it means what the
 /// statement means for the user. `No` has the number of what refuses the statement: the first name that
 /// isn't what it has to be, else the first cause, else 23 where something isn't permitted. Of a statement

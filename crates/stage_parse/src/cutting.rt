@@ -7,7 +7,7 @@ ghost use Rattle.quel_meaning.specs.Fit.{is_fit_with_views};
 ghost use Rattle.quel_meaning.specs.Meaning.{checked_permitted, ruled_tree};
 ghost use Rattle.utility_trees.specs.Answers.{Says};
 ghost use Rattle.utility_trees.specs.Causes.{HasCheckCause};
-ghost use Rattle.view_text.specs.PutIn.{put_in_tree};
+ghost use Rattle.view_text.specs.Expanded.{expanded_tree};
 
 use crate::ruling::ruled;
 use am_traits::Base;
@@ -17,7 +17,7 @@ use cut_rules::{CutFault, cut_permits};
 use quel_resolve::CheckFault;
 use std::alloc::Global;
 
-/// The tree with its views put in, cut down to what the user may see and change; or 23, where something
+/// The tree with its views expanded, cut down to what the user may see and change; or 23, where something
 /// isn't permitted. 14 can come only where no database is known.
 fn cut<B: Base>(
     alloc: Global,
@@ -27,7 +27,7 @@ fn cut<B: Base>(
 ) -> Result<Checked, CheckFault>
     requires { (db : Db) → B.database base.old ≡ Some db → is_fit_with_views db user.now tree ≡ true }
     ensures known { (db : Db) → B.database base.old ≡ Some db
-        → Says (λ made. (made ≡ put_in_tree db (as_user user.now) tree) × (checked_permitted db (as_user user.now) tree ≡ true))
+        → Says (λ made. (made ≡ expanded_tree db (as_user user.now) tree) × (checked_permitted db (as_user user.now) tree ≡ true))
         (λ number. (number ≡ 23) × (checked_permitted db (as_user user.now) tree ≡ false)) result }
     ensures kept { B.database base.new ≡ B.database base.old }
     ensures stays { (s : Db) → B.schema base.old ≡ Some s → B.schema base.new ≡ Some s }
@@ -52,7 +52,7 @@ pub(crate) fn cut_and_ruled<B: Base>(
 ) -> Result<Checked, CheckFault>
     requires { (db : Db) → B.database base.old ≡ Some db → is_fit_with_views db user.now tree ≡ true }
     ensures known { (db : Db) → B.database base.old ≡ Some db
-        → Says (λ made. (made ≡ ruled_tree db (put_in_tree db (as_user user.now) tree)) × (checked_permitted db (as_user user.now) tree ≡ true))
+        → Says (λ made. (made ≡ ruled_tree db (expanded_tree db (as_user user.now) tree)) × (checked_permitted db (as_user user.now) tree ≡ true))
         (λ number. (number ≡ 23) × (checked_permitted db (as_user user.now) tree ≡ false)) result }
     ensures kept { B.database base.new ≡ B.database base.old }
     ensures stays { (s : Db) → B.schema base.old ≡ Some s → B.schema base.new ≡ Some s }

@@ -16,7 +16,7 @@ use quel_refusals::query_fits;
 use std::alloc::Global;
 use view_sizes::expanded_variables;
 
-/// The variables of a query once the views in it are put in, at most.
+/// The variables of a query once the views in it are expanded, at most.
 const MOST_EXPANDED: u64 = 50;
 
 fn are_columns(sort: &[SortKey], most: usize) -> bool
@@ -34,7 +34,7 @@ fn sort_is_in_range(asked: &Asked) -> bool
     are_columns(asked.sort.items(), most)
 }
 
-/// Whether a query that lists few variables has few of them once the views in it are put in.
+/// Whether a query that lists few variables has few of them once the views in it are expanded.
 fn expands_little<B: Base>(alloc: Global, base: &mut B, q: &Query) -> Result<bool, BaseFault>
     ensures known { (db : Db) → B.schema base.old ≡ Some db → length (vars_of q.now) ≤ 256 → sources_list_few q.now ≡ true → IfOk result (λ few. few ≡ nat_le (expanded_variables db q.now) 50) }
     ensures kept { B.database base.new ≡ B.database base.old }

@@ -23,7 +23,7 @@ use quel_refusals::{assignments_fit, kinds_at, made_kinds};
 use std::alloc::Global;
 use view_sizes::update_expanded_variables;
 
-/// The variables of an update once the views in it are put in, at most.
+/// The variables of an update once the views in it are expanded, at most.
 const MOST_EXPANDED: u64 = 50;
 
 /// The kinds of the attributes of the relation that an update makes.
@@ -139,7 +139,7 @@ fn new_rows_fit<B: Base>(alloc: Global, base: &mut B, u: &Update) -> Result<bool
     Ok(rows_fit(alloc, u, kinds)?)
 }
 
-/// Whether an update that lists few variables has few of them once the views in it are put in.
+/// Whether an update that lists few variables has few of them once the views in it are expanded.
 fn expands_little<B: Base>(alloc: Global, base: &mut B, u: &Update) -> Result<bool, BaseFault>
     ensures known { (db : Db) → B.schema base.old ≡ Some db → length (vars_of u.now.query) ≤ 256 → sources_list_few u.now.query ≡ true → IfOk result (λ few. few ≡ nat_le (update_expanded_variables db u.now) 50) }
     ensures kept { B.database base.new ≡ B.database base.old }

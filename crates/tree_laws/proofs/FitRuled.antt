@@ -25,7 +25,7 @@ use Rattle.quel_meaning.specs.Fit.{places_fit, update_kinds_fit, checks_fit, rel
 use Rattle.quel_meaning.specs.Meaning.{ruled_tree}
 use Rattle.tree_laws.proofs.Scopes.{both_true}
 use Rattle.tree_laws.proofs.Joint.{both_are, all_append}
-use Rattle.tree_laws.proofs.FitTexts.{all_fit}
+use Rattle.tree_laws.proofs.FitExpansions.{all_fit}
 
 module _ (db : Db) (d : IsDatabase db) where
   rules_fit : (key : RelKey) (rules : List (RelKey × Rule)) → list_all (λ p. is_relation db p.0 && row_qual_stands db p.0 p.1.qual) rules ≡ true

@@ -1,7 +1,7 @@
 pub mod Nests
 pub mod Means
 pub mod SameKinds
-pub mod FitTexts
+pub mod FitExpansions
 pub mod FitViews
 pub mod FitWithin
 pub mod FitPlain

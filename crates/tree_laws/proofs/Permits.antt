@@ -23,7 +23,7 @@ use Rattle.calculus_laws.proofs.SameRows.{all_at}
 use Rattle.calculus_laws.proofs.ViewAnswer.{found}
 use Rattle.view_text.specs.Replaced.{of_only}
 use Rattle.view_text.specs.Halves.{any_of}
-use Rattle.view_text.specs.TextOf.{permit_condition, covering, cut}
+use Rattle.view_text.specs.ExpansionOf.{permit_condition, covering, cut}
 use Rattle.tree_laws.proofs.Scopes.{both_true}
 use Rattle.tree_laws.proofs.Joint.{both_are}
 use Rattle.tree_laws.proofs.Joined.{doubled, Low, low_any}

@@ -1,4 +1,4 @@
--- What is put in place of attributes and aggregates adds so many levels at most, and what has a size has few.
+-- What is substituted for attributes and aggregates adds so many levels at most, and what has a size has few.
 use Rattle.std.proofs.Common.{◌≡◌, refl, sym, ap, ℕ, zero, suc, ◌+◌, ◌≤◌, max, true, List, [], ◌∷◌, map, is_some, arith}
 use Rattle.calculus.specs.declared.value.Kind.{Kind}
 use Rattle.calculus.specs.declared.query.RelKey.{RelKey}
@@ -13,7 +13,7 @@ use Rattle.calculus.specs.Kinds.{kind_of, kinds_fit}
 use Rattle.calculus.specs.QueryParts.{targets_of, qual_of, term_aggregates, qual_aggregates}
 use Rattle.calculus.specs.Sizes.{Measures, attr_size, term_size, qual_size}
 use Rattle.calculus_laws.proofs.Members.{Within}
-use Rattle.view_text.specs.Replaced.{Putting, replaced, replaced_in_qual, no_aggregate, further, moved, moved_qual, of_only}
+use Rattle.view_text.specs.Replaced.{Substitution, replaced, replaced_in_qual, no_aggregate, further, moved, moved_qual, of_only}
 use Rattle.tree_laws.proofs.Scopes.{both_true}
 use Rattle.tree_laws.proofs.Values.{within_left, within_right}
 use Rattle.tree_laws.proofs.Nests.{number_there, operated_there, joined_there, compared_there, text_there}
@@ -21,7 +21,7 @@ use Rattle.tree_laws.proofs.Joined.{Low}
 
 -- ---- what is put in
 
-module _ (made : QTerm → QTerm) (put : Putting) (m : ℕ) (gs : List QAgg) (puts : (v a : ℕ) → term_levels (put v a) ≤ suc m)
+module _ (made : QTerm → QTerm) (put : Substitution) (m : ℕ) (gs : List QAgg) (puts : (v a : ℕ) → term_levels (put v a) ≤ suc m)
     (makes : (t : QTerm) → 2 ≤ term_levels t → Within (term_aggregates t) gs → term_levels (made t) ≤ term_levels t + m) where
   pub term_replaced : (t : QTerm) → Within (term_aggregates t) gs → term_levels (replaced made put t) ≤ term_levels t + m
   unfolding replaced term_aggregates
@@ -83,7 +83,7 @@ all_moved_low m n (q ∷ qs) low = let one = moved_qual_low n q in let own = low
 
 -- ---- what has a size
 
-module _ (put : Putting) (vars : Measures) (puts : (v a : ℕ) → term_levels (put v a) ≤ suc (attr_size vars v a)) where
+module _ (put : Substitution) (vars : Measures) (puts : (v a : ℕ) → term_levels (put v a) ≤ suc (attr_size vars v a)) where
   pub term_sized : (t : QTerm) → term_levels (replaced no_aggregate put t) ≤ suc (term_size vars t)
   unfolding replaced term_size
   term_sized (Int n) = omega arith

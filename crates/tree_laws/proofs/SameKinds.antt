@@ -10,7 +10,7 @@ use Rattle.calculus.specs.Tree.{neg, abs, operation, concat, both, either, negat
 use Rattle.calculus.specs.Kinds.{kind_in, attribute_kind, kind_of, number_kind, operated_kind, joined_kind, comparable, is_text_kind, kinds_fit, is_number_kind}
 use Rattle.calculus.specs.Lists.{is_any}
 use Rattle.calculus.specs.Used.{used, used_in_qual}
-use Rattle.view_text.specs.Replaced.{Putting, moved, moved_qual, replaced, replaced_in_qual, no_aggregate}
+use Rattle.view_text.specs.Replaced.{Substitution, moved, moved_qual, replaced, replaced_in_qual, no_aggregate}
 use Rattle.view_text.specs.Scoped.{is_within, is_qual_within}
 use Rattle.tree_laws.proofs.Halves.{any_append}
 use Rattle.tree_laws.proofs.Named.{left_true, right_true}
@@ -69,7 +69,7 @@ module _ (pre seg post : VarKinds) where
 -- ---- what is put in
 
 -- what is put in for an attribute that is there, of a variable of which this is known, has its kind
-abbrev pub HasKinds : (ℕ → Type 0) → Putting → VarKinds → VarKinds → Type 0
+abbrev pub HasKinds : (ℕ → Type 0) → Substitution → VarKinds → VarKinds → Type 0
 HasKinds Known put new vars = (v a : ℕ) → Known v → is_some (attribute_kind vars v a) ≡ true → kind_of (put v a) new ≡ attribute_kind vars v a
 
 -- of each variable that is named this is known
@@ -89,7 +89,7 @@ own_name v a = by (v == v) (grind (arith, nat_tests))
     by true h = refl
     by false h = cc h
 
-module _ (Known : ℕ → Type 0) (put : Putting) (new vars : VarKinds) (has : HasKinds Known put new vars) where
+module _ (Known : ℕ → Type 0) (put : Substitution) (new vars : VarKinds) (has : HasKinds Known put new vars) where
   pub kind_replaced : (t : QTerm) → Names Known (λ v. used v t) → is_some (kind_of t vars) ≡ true → kind_of (replaced no_aggregate put t) new ≡ kind_of t vars
   unfolding kind_of replaced
   kind_replaced (Int n) names h = refl

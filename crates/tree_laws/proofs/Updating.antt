@@ -1,4 +1,4 @@
--- An update makes for the one who asks the change that it makes unrestricted once its texts are put in, or the same number refuses it.
+-- An update makes for the one who asks the change that it makes unrestricted once its expansion are put in, or the same number refuses it.
 use Rattle.std.proofs.Common.{◌≡◌, refl, sym, ap, ◌∙◌, subst, inl, inr, ℕ, Bool, true, false, not, ◌&&◌, List, [], ◌∷◌, map, length, Option, Some, None, Result, Ok, Err}
 use Rattle.std.specs.Prelude.{slice_get, nat_lt, option_map, if◌then◌else◌, flat_map}
 use Rattle.std.specs.List.{list_all, list_any, filter, filter_map, AllByRecursion}
@@ -36,11 +36,11 @@ use Rattle.calculus_laws.specs.Expansion.{is_no_view}
 use Rattle.calculus_laws.proofs.Members.{In, Within, In-filter, filter-In, In-filter_map, filter_map-In}
 use Rattle.calculus_laws.proofs.SameRows.{all_at, equal_by}
 use Rattle.calculus_laws.proofs.ViewAnswer.{found}
-use Rattle.view_text.specs.Replaced.{Putting, replaced_target}
+use Rattle.view_text.specs.Replaced.{Substitution, replaced_target}
 use Rattle.view_text.specs.Halves.{all_of}
-use Rattle.view_text.specs.Texts.{texts_vars, put_from}
-use Rattle.view_text.specs.TextOf.{cut}
-use Rattle.view_text.specs.PutIn.{put_made, put_over, put_cut, update_texts, put_in_update}
+use Rattle.view_text.specs.Expansions.{expansions_vars, substituted_from}
+use Rattle.view_text.specs.ExpansionOf.{cut}
+use Rattle.view_text.specs.Expanded.{expanded_made, expanded_over, put_cut, update_expansions, expanded_update}
 use Rattle.tree_laws.specs.Nesting.{aggregates_nest_none}
 use Rattle.tree_laws.proofs.Halves.{holds_all_of}
 use Rattle.tree_laws.proofs.Joint.{kept_lists}
@@ -113,45 +113,45 @@ outcome_is : (db : Db) (who : Who) (u : Update)
 unfolding updated
 outcome_is db who u = refl
 
--- ---- targets with texts put in make the same attributes
+-- ---- targets with expansions substituted make the same attributes
 
-pub attrs_put : (made : QTerm → QTerm) (put : Putting) (ts : List Target) → map made_attr (map (replaced_target made put) ts) ≡ map made_attr ts
+pub attrs_put : (made : QTerm → QTerm) (put : Substitution) (ts : List Target) → map made_attr (map (replaced_target made put) ts) ≡ map made_attr ts
 attrs_put made put [] = refl
 attrs_put made put (t ∷ ts) = ap (λ attrs. made_attr t ∷ attrs) (attrs_put made put ts)
 
-pub kinds_put : (made : QTerm → QTerm) (put : Putting) (ts : List Target) → map (λ t. Some (made_attr t).kind) (map (replaced_target made put) ts) ≡ map (λ t. Some (made_attr t).kind) ts
+pub kinds_put : (made : QTerm → QTerm) (put : Substitution) (ts : List Target) → map (λ t. Some (made_attr t).kind) (map (replaced_target made put) ts) ≡ map (λ t. Some (made_attr t).kind) ts
 kinds_put made put [] = refl
 kinds_put made put (t ∷ ts) = ap (λ kinds. Some (made_attr t).kind ∷ kinds) (kinds_put made put ts)
 
 module _ (db : Db) (d : IsDatabase db) (who : Who) (u : Update) (nest : aggregates_nest_none u.query ≡ true)
     (over : (v : ℕ) (key : RelKey) → slice_get (vars_of u.query) v ≡ Some key → is_changed u v ≡ true → is_no_view (range_at db key) ≡ true) where
   abbrev pub put : Update
-  put = put_in_update db who u
+  put = expanded_update db who u
 
   abbrev made : QTerm → QTerm
-  made = put_made db who (put_from 0 (update_texts db who u))
+  made = expanded_made db who (substituted_from 0 (update_expansions db who u))
 
-  pub query_is : put.query ≡ put_over db who (update_texts db who u) u.query
-  unfolding put_in_update
+  pub query_is : put.query ≡ expanded_over db who (update_expansions db who u) u.query
+  unfolding expanded_update
   query_is = refl
 
-  targets_are : targets_of put.query ≡ map (replaced_target made (put_from 0 (update_texts db who u))) (targets_of u.query)
-  targets_are = ap targets_of query_is ∙ targets_of-put made (update_texts db who u) u.query
+  targets_are : targets_of put.query ≡ map (replaced_target made (substituted_from 0 (update_expansions db who u))) (targets_of u.query)
+  targets_are = ap targets_of query_is ∙ targets_of-put made (update_expansions db who u) u.query
 
   info_same : made_info put ≡ made_info u
-  unfolding put_in_update
+  unfolding expanded_update
   info_same =
       ap (λ attrs. record { key = u.rel; spec = Heap; attrs = attrs; keys = [] })
-      (ap (map made_attr) targets_are ∙ attrs_put made (put_from 0 (update_texts db who u)) (targets_of u.query))
+      (ap (map made_attr) targets_are ∙ attrs_put made (substituted_from 0 (update_expansions db who u)) (targets_of u.query))
 
   wanted_by : (o : UpdateOp) → List (Option Kind) → List (Option Kind) → List (Option Kind)
   wanted_by o at_places made_kinds = elim o [ op.Append ↦ at_places | op.Replace ↦ at_places | op.Delete ↦ at_places | op.Into ↦ made_kinds ]
 
   wanted_same : wanted_kinds db put ≡ wanted_kinds db u
-  unfolding put_in_update wanted_by
+  unfolding expanded_update wanted_by
   wanted_same =
       ap (wanted_by u.op (map (slice_get (kinds_at db u.rel)) u.places))
-      (ap (map (λ t. Some (made_attr t).kind)) targets_are ∙ kinds_put made (put_from 0 (update_texts db who u)) (targets_of u.query))
+      (ap (map (λ t. Some (made_attr t).kind)) targets_are ∙ kinds_put made (substituted_from 0 (update_expansions db who u)) (targets_of u.query))
 
   -- ---- which pairs stand
 
@@ -172,7 +172,7 @@ module _ (db : Db) (d : IsDatabase db) (who : Who) (u : Update) (nest : aggregat
   append_by op.Into row = refl
 
   new_same : (row : Row) → new_stands db Unrestricted put row ≡ new_stands db who u row
-  unfolding put_in_update
+  unfolding expanded_update
   new_same row = ap (λ b. list_all (λ q. holds no_aggs q (row ∷ [])) u.checks && b) (append_by u.op row)
 
   -- whether a pair with this new row stands
@@ -189,14 +189,14 @@ module _ (db : Db) (d : IsDatabase db) (who : Who) (u : Update) (nest : aggregat
   -- ---- the pairs
 
   pair_put : (old : Option Row) (values : Row) → pair_of db put old values ≡ pair_of db u old values
-  unfolding put_in_update
+  unfolding expanded_update
   pair_put old values = refl
 
   pair_same : (e f : Env) → IsBeside db d who u nest over f e → pair_in db Unrestricted put f ≡ pair_in db who u e
-  unfolding put_in_update
+  unfolding expanded_update
   pair_same e f by = λ i. option_map (pair_of db u (by.old i)) (by.beside.values i)
 
-  assigned_unrestricted : seen_qualifying db Unrestricted put ≡ filter (holds (aggregates db Unrestricted) (qual_of put.query)) (choices (kept_lists db (texts_vars (update_texts db who u))))
+  assigned_unrestricted : seen_qualifying db Unrestricted put ≡ filter (holds (aggregates db Unrestricted) (qual_of put.query)) (choices (kept_lists db (expansions_vars (update_expansions db who u))))
   assigned_unrestricted = ap (filter (holds (aggregates db Unrestricted) (qual_of put.query))) (unrestricted_seen db d who u nest over)
 
   -- each qualifying assignment has one beside it
@@ -206,14 +206,14 @@ module _ (db : Db) (d : IsDatabase db) (who : Who) (u : Update) (nest : aggregat
       let (f, there, by) = to_unrestricted db d who u nest over e inside in (
         f,
         subst (In f) (sym assigned_unrestricted)
-            (In-filter (holds (aggregates db Unrestricted) (qual_of put.query)) (choices (kept_lists db (texts_vars (update_texts db who u)))) f there
+            (In-filter (holds (aggregates db Unrestricted) (qual_of put.query)) (choices (kept_lists db (expansions_vars (update_expansions db who u)))) f there
             (ap (λ q. holds (aggregates db Unrestricted) (qual_of q) f) query_is ∙ by.beside.qual ∙ holding)),
         by,
       )
 
   from_qualifying : (f : Env) → In f (seen_qualifying db Unrestricted put) → (e : Env) × In e (seen_qualifying db who u) × IsBeside db d who u nest over f e
   from_qualifying f h =
-      let (inside, holding) = filter-In (holds (aggregates db Unrestricted) (qual_of put.query)) (choices (kept_lists db (texts_vars (update_texts db who u)))) f (subst (In f) assigned_unrestricted h) in
+      let (inside, holding) = filter-In (holds (aggregates db Unrestricted) (qual_of put.query)) (choices (kept_lists db (expansions_vars (update_expansions db who u)))) f (subst (In f) assigned_unrestricted h) in
       let held = sym (ap (λ q. holds (aggregates db Unrestricted) (qual_of q) f) query_is) ∙ holding in
       let (e, there, by) = from_unrestricted db d who u nest over f inside held in
       (e, In-filter (holds (aggregates db who) (qual_of u.query)) (choices (rowss db d who u nest over)) e there (sym by.beside.qual ∙ held), by)
@@ -242,9 +242,9 @@ module _ (db : Db) (d : IsDatabase db) (who : Who) (u : Update) (nest : aggregat
   lacks_same =
       lacks_with_old db Unrestricted put
       ∙ ap (some_lacks (aggregates db Unrestricted) put.query) (unrestricted_seen db d who u nest over)
-      ∙ ap (λ q. some_lacks (aggregates db Unrestricted) q (choices (kept_lists db (texts_vars (update_texts db who u))))) query_is
-      ∙ sym (same_lack db (aggregates db who) (aggregates db Unrestricted) made u.query (rowss db d who u nest over) (update_texts db who u) (denoted db d who u nest over)
-      (put_makes db d who (put_from 0 (update_texts db who u)) (query_aggregates u.query) nest))
+      ∙ ap (λ q. some_lacks (aggregates db Unrestricted) q (choices (kept_lists db (expansions_vars (update_expansions db who u))))) query_is
+      ∙ sym (same_lack db (aggregates db who) (aggregates db Unrestricted) made u.query (rowss db d who u nest over) (update_expansions db who u) (denoted db d who u nest over)
+      (put_makes db d who (substituted_from 0 (update_expansions db who u)) (query_aggregates u.query) nest))
       ∙ sym (lacks_with_old db who u)
 
   -- a test that all of these pass
@@ -274,16 +274,16 @@ module _ (db : Db) (d : IsDatabase db) (who : Who) (u : Update) (nest : aggregat
       ∙ sym (fit_with_old db who u)
 
   after_same : rows_after db Unrestricted put ≡ rows_after db who u
-  unfolding put_in_update
+  unfolding expanded_update
   after_same = same_after (rows_at db u.rel) (rows_ascend db d u.rel) (pairs db Unrestricted put) (pairs db who u) from_pairs to_pairs
 
   -- the operation and the relation stay
   same_parts : outcome u.op u.rel (made_info put) (rows_at db u.rel) (update_lacks db Unrestricted put) (values_fit db Unrestricted put) (contended (pairs db Unrestricted put)) (rows_after db Unrestricted put)
       ≡ outcome put.op put.rel (made_info put) (rows_at db put.rel) (update_lacks db Unrestricted put) (values_fit db Unrestricted put) (contended (pairs db Unrestricted put)) (rows_after db Unrestricted put)
-  unfolding put_in_update
+  unfolding expanded_update
   same_parts = refl
 
-  pub updated_put : updated db who u ≡ updated db Unrestricted (put_in_update db who u)
+  pub updated_put : updated db who u ≡ updated db Unrestricted (expanded_update db who u)
   updated_put =
       outcome_is db who u
       ∙ (λ i. outcome u.op u.rel (sym info_same i) (rows_at db u.rel) (sym lacks_same i) (sym fit_same i) (same_contended (pairs db who u) (pairs db Unrestricted put) to_pairs from_pairs i) (sym after_same i))

@@ -10,7 +10,7 @@ use Rattle.calculus.specs.Database.{Db, permits_on}
 use Rattle.calculus.specs.Rights.{Right, covers, needs_none, permitted}
 use Rattle.view_text.specs.Halves.{any_of}
 use Rattle.view_text.specs.Scoped.{is_qual_within}
-use Rattle.view_text.specs.TextOf.{permit_condition, cut}
+use Rattle.view_text.specs.ExpansionOf.{permit_condition, cut}
 use Rattle.view_text.proofs.Scope.{condition_within}
 use Rattle.view_text.proofs.Within.{both_true}
 use Rattle.view_text.proofs.JoinedWithin.{any_within}

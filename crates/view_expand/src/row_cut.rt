@@ -12,11 +12,11 @@ ghost use Rattle.view_expand.specs.Causes.{HasCause};
 ghost use Rattle.view_expand.specs.Covering.{covering_conditions, one_of};
 ghost use Rattle.view_expand.specs.Found.{IsFound};
 ghost use Rattle.view_text.specs.Scoped.{is_qual_within};
-ghost use Rattle.view_text.specs.TextOf.{cut};
+ghost use Rattle.view_text.specs.ExpansionOf.{cut};
 
 use crate::covering::put_covering;
 use crate::needs::needs_none;
-use crate::{Right, TextFault, TextsFound};
+use crate::{Right, ExpansionFault, ExpansionsFound};
 use am_traits::{Base, BaseFault};
 use calculus::{Name, OutOfMemory, Permit, QQual, RelKey};
 use memory::both;
@@ -64,7 +64,7 @@ fn condition_anew<B: Base>(
     right: Right,
     attrs: &[u8],
     key: &RelKey,
-    found: &mut TextsFound,
+    found: &mut ExpansionsFound,
 ) -> Result<Option<QQual>, BaseFault>
     requires found { (db : Db) → B.database base.old ≡ Some db → IsFound db (as_user user.now) found.old }
     ensures known { (db : Db) → B.database base.old ≡ Some db → IfOk result (λ o. o ≡ one_of (covering_conditions (permits_on db key.now) (asker_of user.now) (right_of right) attrs.now)) }
@@ -93,7 +93,7 @@ fn condition_on<B: Base>(
     right: Right,
     attrs: &[u8],
     key: &RelKey,
-    found: &mut TextsFound,
+    found: &mut ExpansionsFound,
 ) -> Result<Option<QQual>, BaseFault>
     requires found { (db : Db) → B.database base.old ≡ Some db → IsFound db (as_user user.now) found.old }
     ensures known { (db : Db) → B.database base.old ≡ Some db → IfOk result (λ o. o ≡ one_of (covering_conditions (permits_on db key.now) (asker_of user.now) (right_of right) attrs.now)) }
@@ -122,8 +122,8 @@ fn cut_for<B: Base>(
     right: Right,
     attrs: &[u8],
     key: &RelKey,
-    found: &mut TextsFound,
-) -> Result<Option<QQual>, TextFault>
+    found: &mut ExpansionsFound,
+) -> Result<Option<QQual>, ExpansionFault>
     requires found { (db : Db) → B.database base.old ≡ Some db → IsFound db (as_user user.now) found.old }
     ensures known { (db : Db) → B.database base.old ≡ Some db → IfOk result (λ o. option_to_list o ≡ cut db (as_user user.now) (right_of right) attrs.now key.now) }
     ensures permitted { (db : Db) → B.database base.old ≡ Some db → OnOk result (permitted db (as_user user.now) (right_of right) attrs.now key.now ≡ true) }
@@ -139,7 +139,7 @@ fn cut_for<B: Base>(
     }
     match condition_on(alloc, base, user, right, attrs, key, found)? {
         Some(condition) => Ok(Some(condition)),
-        None => Err(TextFault::NoPermit),
+        None => Err(ExpansionFault::NoPermit),
     }
 }
 
@@ -156,8 +156,8 @@ pub fn cut<B: Base>(
     right: Right,
     attrs: &[u8],
     key: &RelKey,
-    found: &mut TextsFound,
-) -> Result<Option<QQual>, TextFault>
+    found: &mut ExpansionsFound,
+) -> Result<Option<QQual>, ExpansionFault>
     requires found { (db : Db) → B.database base.old ≡ Some db → IsFound db (who_of (option_map (λ n. n.now) who)) found.old }
     ensures known { (db : Db) → B.database base.old ≡ Some db → IfOk result (λ o. option_to_list o ≡ cut db (who_of (option_map (λ n. n.now) who.entry)) (right_of right) attrs.now key.now) }
     ensures permitted { (db : Db) → B.database base.old ≡ Some db → OnOk result (permitted db (who_of (option_map (λ n. n.now) who.entry)) (right_of right) attrs.now key.now ≡ true) }

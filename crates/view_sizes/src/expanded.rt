@@ -1,4 +1,4 @@
-//! How many variables a query has once the views in it are put in, with those of its aggregates.
+//! How many variables a query has once the views in it are expanded, with those of its aggregates.
 
 ghost use Rattle.std.specs.Prelude.{◌≡◌, ◌+◌, ◌-◌, ◌^◌, ◌≤◌, ◌||◌, cond, min, length, map, sum_by, true, IfOk, OnOk, Some};
 ghost use Rattle.std.specs.List.{list_all};
@@ -83,7 +83,7 @@ fn aggregate_variables<B: Base>(
     variables_of_all(alloc, base, found, &aggregates)
 }
 
-/// The variables of a query once the views in it are put in, those of the sources of its aggregates
+/// The variables of a query once the views in it are expanded, those of the sources of its aggregates
 /// counted too, or the greatest number of 64 bits: those that it uses, where neither it nor the query
 /// that is a source lists more than 256.
 pub fn expanded_variables<B: Base>(
@@ -103,7 +103,7 @@ pub fn expanded_variables<B: Base>(
     Ok(own.saturating_add(below))
 }
 
-/// The variables that a query lists once the views in it are put in, those of the sources of its
+/// The variables that a query lists once the views in it are expanded, those of the sources of its
 /// aggregates counted too, or the greatest number of 64 bits, where no query that is a source lists
 /// more than 256.
 pub fn listed_expanded_variables<B: Base>(
@@ -188,7 +188,7 @@ fn counted_variables<B: Base>(
     Ok(count)
 }
 
-/// The variables of an update that count once the views in it are put in, those of the sources of its
+/// The variables of an update that count once the views in it are expanded, those of the sources of its
 /// aggregates counted too, or the greatest number of 64 bits, where neither its query nor one that is
 /// a source lists more than 256.
 pub fn update_expanded_variables<B: Base>(

@@ -1,4 +1,4 @@
-//! What is known of views once the views in them are put in.
+//! What is known of views once the views in them are expanded.
 
 ghost use Rattle.std.specs.Prelude.{◌≡◌, ◌≤◌, ◌<◌, ◌-◌, ◌^◌, ◌∷◌, ◌++◌, [], min, cond, filter, length, map, sum_by, IfOk, OnOk, Some};
 ghost use Rattle.std.specs.List.{enumerate_from};

@@ -1,4 +1,4 @@
-//! How many variables a query has once the views in it are put in.
+//! How many variables a query has once the views in it are expanded.
 
 ghost use Rattle.std.specs.Prelude.{◌≡◌, ◌≤◌, ◌-◌, ◌^◌, [], min, length, sum_by, IfOk, OnOk, Some};
 ghost use Rattle.am_traits.specs.Causes.{HasCause};

@@ -7,7 +7,7 @@ use calculus::{AggOp, AggSource, CmpOp, List, Name, QAgg, QQual, QTerm, Query, R
 use quel_tree::{QueryTree, tree_of};
 use std::alloc::Global;
 use std::process::Abort;
-use view_text::Text;
+use view_text::Expansion;
 
 fn named(rt: &impl Abort, alloc: Global, bytes: &[u8]) -> Name {
     let name = Name::of(alloc, bytes).expect(rt, "memory");
@@ -60,7 +60,7 @@ fn is_one() -> QQual
 
 /// The text of a relation: itself, where its first attribute is 1.
 #[tactic(auto, using(crate::proofs::OfOne::scoped_of_one))]
-pub(crate) fn kept(rt: &impl Abort, alloc: Global, name: &[u8]) -> Text
+pub(crate) fn kept(rt: &impl Abort, alloc: Global, name: &[u8]) -> Expansion
     ensures scoped { is_scoped result ≡ true }
     ensures vars { length result.vars ≡ 1 }
 {
@@ -68,7 +68,7 @@ pub(crate) fn kept(rt: &impl Abort, alloc: Global, name: &[u8]) -> Text
     vars.push(key(rt, alloc, name)).expect(rt, "memory");
     let mut conditions = Vec::new(alloc);
     conditions.push(is_one()).expect(rt, "memory");
-    Text {
+    Expansion {
         vars: List::of(vars),
         terms: None,
         conditions: List::of(conditions),

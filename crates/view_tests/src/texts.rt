@@ -3,7 +3,7 @@
 ghost use Rattle.std.specs.Prelude.{◌≡◌, true, length};
 ghost use Rattle.std.specs.List.{list_all};
 ghost use Rattle.view_text.specs.Scoped.{is_scoped};
-ghost use Rattle.view_text.specs.Texts.{texts_vars};
+ghost use Rattle.view_text.specs.Expansions.{expansions_vars};
 
 use crate::making::{aggregate, kept, query};
 use crate::written::{put_qual, put_query, put_text};
@@ -12,8 +12,8 @@ use std::alloc::Global;
 use std::process::Abort;
 use std::test::*;
 use view_text::{
-    Text, conditions, permit_condition, put_qual as put_in_qual, put_rows, put_term, put_whole,
-    rows_text,
+    Expansion, conditions, permit_condition, substituted_qual, substituted_rows, substituted_term, substituted_whole,
+    rows_expansion,
 };
 
 /// Whether an answer comes.
@@ -30,8 +30,8 @@ fn is_filled(alloc: Global) -> bool {
 #[test]
 fn answers_come_where_there_is_memory(rt: HostRuntime) {
     let alloc = rt.alloc();
-    assert!(rt; comes(put_term(alloc, &[], &QTerm::Attr { var: 1, attr: 2 })));
-    assert!(rt; comes(put_in_qual(alloc, &[], &QQual::True)));
+    assert!(rt; comes(substituted_term(alloc, &[], &QTerm::Attr { var: 1, attr: 2 })));
+    assert!(rt; comes(substituted_qual(alloc, &[], &QQual::True)));
     assert!(rt; is_filled(alloc));
 }
 
@@ -80,7 +80,7 @@ fn permits_are_about_the_only_variable(rt: HostRuntime) {
 /// The text of the rows of a query without variables.
 fn settled(rt: &impl Abort, alloc: Global, bytes: &[u8]) -> Vec<u8> {
     let query = query(rt, alloc, bytes);
-    let text = rows_text(alloc, &[], &query).expect(rt, "memory");
+    let text = rows_expansion(alloc, &[], &query).expect(rt, "memory");
     drop(query);
     let mut written = Vec::new(alloc);
     put_text(rt, &mut written, &text);
@@ -115,9 +115,9 @@ fn conditions_without_variables_are_settled(rt: HostRuntime) {
 }
 
 /// The texts of two relations.
-fn texts(rt: &impl Abort, alloc: Global) -> Vec<Text>
+fn texts(rt: &impl Abort, alloc: Global) -> Vec<Expansion>
     ensures scoped { list_all is_scoped result.items ≡ true }
-    ensures vars { length (texts_vars result.items) ≡ 2 }
+    ensures vars { length (expansions_vars result.items) ≡ 2 }
 {
     let mut texts = Vec::new(alloc);
     texts.push(kept(rt, alloc, b"p")).expect(rt, "memory");
@@ -129,7 +129,7 @@ fn texts(rt: &impl Abort, alloc: Global) -> Vec<Text>
 fn rows(rt: &impl Abort, alloc: Global, bytes: &[u8]) -> Vec<u8> {
     let query = query(rt, alloc, bytes);
     let texts = texts(rt, alloc);
-    let text = rows_text(alloc, &texts, &query).expect(rt, "memory");
+    let text = rows_expansion(alloc, &texts, &query).expect(rt, "memory");
     drop(texts);
     drop(query);
     let mut written = Vec::new(alloc);
@@ -177,9 +177,9 @@ fn aggregates(rt: &impl Abort, alloc: Global) -> Vec<QAgg> {
 }
 
 /// The text of a relation alone.
-fn only(rt: &impl Abort, alloc: Global) -> Vec<Text>
+fn only(rt: &impl Abort, alloc: Global) -> Vec<Expansion>
     ensures scoped { list_all is_scoped result.items ≡ true }
-    ensures vars { length (texts_vars result.items) ≡ 1 }
+    ensures vars { length (expansions_vars result.items) ≡ 1 }
 {
     let mut texts = Vec::new(alloc);
     texts.push(kept(rt, alloc, b"p")).expect(rt, "memory");
@@ -191,7 +191,7 @@ fn whole(rt: &impl Abort, alloc: Global, bytes: &[u8]) -> Vec<u8> {
     let query = query(rt, alloc, bytes);
     let aggregates = aggregates(rt, alloc);
     let texts = only(rt, alloc);
-    let made = put_whole(alloc, &texts, &aggregates, &query).expect(rt, "memory");
+    let made = substituted_whole(alloc, &texts, &aggregates, &query).expect(rt, "memory");
     drop(texts);
     drop(aggregates);
     drop(query);
@@ -205,7 +205,7 @@ fn whole(rt: &impl Abort, alloc: Global, bytes: &[u8]) -> Vec<u8> {
 fn plain(rt: &impl Abort, alloc: Global, bytes: &[u8]) -> Vec<u8> {
     let query = query(rt, alloc, bytes);
     let texts = only(rt, alloc);
-    let made = put_rows(alloc, &texts, &query).expect(rt, "memory");
+    let made = substituted_rows(alloc, &texts, &query).expect(rt, "memory");
     drop(texts);
     drop(query);
     let mut written = Vec::new(alloc);

@@ -3,7 +3,7 @@
 
 use calculus::{ArithOp, CmpOp, QAgg, QQual, QTerm, Query, RelKey};
 use std::process::Abort;
-use view_text::Text;
+use view_text::Expansion;
 
 /// Puts bytes behind the others.
 fn put(rt: &impl Abort, written: &mut Vec<u8>, bytes: &[u8]) {
@@ -120,7 +120,7 @@ fn put_conditions(rt: &impl Abort, written: &mut Vec<u8>, conditions: &[QQual]) 
 }
 
 /// Puts what a text's variables range over, its terms and its conditions behind the others.
-pub(crate) fn put_text(rt: &impl Abort, written: &mut Vec<u8>, text: &Text) {
+pub(crate) fn put_text(rt: &impl Abort, written: &mut Vec<u8>, text: &Expansion) {
     put_keys(rt, written, text.vars.items());
     match &text.terms {
         Some(terms) => put_terms(rt, written, terms.items()),

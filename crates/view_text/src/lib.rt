@@ -1,4 +1,4 @@
-//! The text of what a variable ranges over, and terms and qualifications with other terms put in.
+//! The expansion of what a variable ranges over, and terms and qualifications with other terms put in.
 #![tactic(auto)]
 
 mod halves;
@@ -10,13 +10,13 @@ mod putting;
 mod replaced;
 mod rows;
 mod settled;
-mod text;
-mod text_conditions;
+mod expansion;
+mod expansion_conditions;
 
 pub use halves::{all_of, any_of};
 pub use moved::{moved_qual, moved_term};
 pub use permit::permit_condition;
-pub use put::{put_qual, put_term};
-pub use rows::{put_rows, put_whole, rows_text};
-pub use text::Text;
-pub use text_conditions::conditions;
+pub use put::{substituted_qual, substituted_term};
+pub use rows::{substituted_rows, substituted_whole, rows_expansion};
+pub use expansion::Expansion;
+pub use expansion_conditions::conditions;

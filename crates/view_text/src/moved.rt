@@ -6,7 +6,7 @@ ghost use Rattle.view_text.specs.Further.{further_at_most};
 ghost use Rattle.view_text.specs.Scoped.{is_within, is_qual_within};
 
 use crate::parts::without_value;
-use crate::putting::Putting;
+use crate::putting::Substitution;
 use crate::replaced::{replaced_qual, replaced_term};
 use calculus::{OutOfMemory, QAgg, QQual, QTerm};
 use std::alloc::Global;
@@ -17,7 +17,7 @@ struct Further {
     by: usize,
 }
 
-impl Putting for Further {
+impl Substitution for Further {
     ghost put = { λ further. further_at_most further.by };
 
     ghost made = { λ _. no_aggregate };
@@ -29,7 +29,7 @@ impl Putting for Further {
         Ok(QTerm::Attr { var, attr })
     }
 
-    fn put_aggregate(&self, alloc: Global, _aggregate: &QAgg) -> Result<QTerm, OutOfMemory> {
+    fn expanded_aggregate(&self, alloc: Global, _aggregate: &QAgg) -> Result<QTerm, OutOfMemory> {
         without_value(alloc)
     }
 }

@@ -5,7 +5,7 @@ ghost use Rattle.std.specs.List.{list_all};
 ghost use Rattle.calculus.specs.Term.{holds, no_aggs};
 ghost use Rattle.calculus.specs.Tree.{negated};
 ghost use Rattle.calculus.specs.declared.query.QQual.{True};
-ghost use Rattle.view_text.specs.TextOf.{settled};
+ghost use Rattle.view_text.specs.ExpansionOf.{settled};
 
 use crate::parts::boxed;
 use calculus::{OutOfMemory, QQual, RelKey};
@@ -60,7 +60,7 @@ fn known(alloc: Global, holding: bool) -> Result<Vec<QQual>, OutOfMemory>
 
 /// The conditions about these variables; where there is none, no condition if all hold, else one that
 /// never holds.
-#[tactic(auto, unfolding(crate::specs::TextOf::settled))]
+#[tactic(auto, unfolding(crate::specs::ExpansionOf::settled))]
 pub(crate) fn settled(
     alloc: Global,
     vars: &[RelKey],

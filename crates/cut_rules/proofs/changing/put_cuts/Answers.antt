@@ -2,8 +2,8 @@ use Rattle.std.proofs.Common.{◌≡◌, ap, ◌∙◌, false, ◌++◌, append_
 use Rattle.calculus.specs.Permission.{change_permitted}
 use Rattle.view_expand.specs.Asking.{right_of, who_of}
 use Rattle.view_expand.proofs.Causing.{caused_behind}
-use Rattle.view_text.specs.PutIn.{read_cut}
-use Rattle.view_text.specs.TextOf.{cut}
+use Rattle.view_text.specs.Expanded.{read_cut}
+use Rattle.view_text.specs.ExpansionOf.{cut}
 use Rattle.cut_rules.specs.Placed.{read_permitted}
 use Rattle.cut_rules.proofs.Causing.{on_ok}
 use Rattle.cut_rules.proofs.Refusing.{change_true, change_false}

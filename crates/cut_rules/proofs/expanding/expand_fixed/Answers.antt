@@ -18,8 +18,8 @@ returns-then-vars-gt-MOST_VARIABLES-clause-cause g c = record {
   );
 }
 
-pub put_in-requires-clause-few : goal.put_in-requires-clause-few
-put_in-requires-clause-few g c = λ db h.
+pub expanded-requires-clause-few : goal.expanded-requires-clause-few
+expanded-requires-clause-few g c = λ db h.
     let k = sym c.in_ok-vars.ensures.kept ∙ h in
     few_enough c.in_ok-vars.vars (expanded_variables db c.args.query.now)
     (c.in_ok-vars.ensures.known db (g.B.Base.own c.args.base.now db k) (few_listed (kept_or_viewed db) db c.args.query.now (c.requires db k)) (few_sources db c.args.query.now (c.requires db k))) c.if-vars-gt-MOST_VARIABLES.false

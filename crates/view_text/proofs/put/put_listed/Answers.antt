@@ -1,6 +1,6 @@
 use Rattle.std.proofs.lemmas.Option.{slice_get_past}
 use Rattle.calculus.proofs.Constants.{found_at}
-use Rattle.view_text.proofs.PutText.{term_there, term_missing}
+use Rattle.view_text.proofs.PutExpansion.{term_there, term_missing}
 use Rattle.view_text.proofs.put.put_listed.Goals as goal
 
 pub returns-in-Some : goal.returns-in-Some
