@@ -213,3 +213,22 @@ p 'Txpansions' 'Expansions' $QM
 p 'txpansions' 'expansions' $QM
 p '\b(a) expansion' 'an expansion' $QM
 q --choose put_in=expanded Text=Text text=text texts=texts put_term=put_term put_qual=put_qual put_rows=put_rows
+
+g "5 restriction: the condition that permits put on a row (cut); cut_rules, cut_permits, CutFault and new_cut are public names"
+w put_cut append_restriction $QM spelling_laws
+w permits_cut_rows permits_restrict_rows calculus_examples
+w cut_and_ruled restricted_and_ruled stage_parse
+s cut restriction $QM 'crates/spelling_laws/proofs/PutSpelled.antt' 'crates/spelling_laws/proofs/Expanded.antt' --but 'crates/cut_rules/proofs/Answered.antt' 'crates/cut_rules/proofs/Causing.antt' 'crates/cut_rules/specs/Causes.antt' 'crates/cut_rules/specs/Faults.antt' --keep new_cut new_cut_one new_cut_low put_new_cut cut_rules cut_permits put_cuts cut_without
+p '\bpermits are cut in\b' 'permits restrict their rows'
+p '\bcut (down )?to (what|the rows that|those that|their|its|the) (may|user|permits)' 'restricted to \2 \3'
+p '\bcut down to (what|the rows)\b' 'restricted to \1' $QM calculus
+q --choose cut=cut
+
+g "6 refusal: what refuses a statement, by its number (cause); a clause cause stays where it is about counts of faults"
+RF='quel_meaning quel_resolve quel_refusals quel_network utility_trees plan_laws copy_util update_laws spelling_laws schema_laws quel_examples utilities'
+w first_cause first_refusal $(ls crates)
+for it in owner_cause rule_cause relation_cause name_cause update_cause changed_cause unchanged_cause numbered_cause cause_listed cause_numbers; do
+  w "$it" "$(sed 's/cause/refusal/' <<<"$it")" $RF plain_statements stage_parse language_tests statement_tests
+done
+s causes refusals $RF
+q --choose causes=refusals first_cause=first_refusal

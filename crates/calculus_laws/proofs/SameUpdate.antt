@@ -24,7 +24,7 @@ use Rattle.calculus.specs.Targets.{target_values}
 use Rattle.calculus.specs.VariableRows.{rows_of}
 use Rattle.calculus.specs.Aggregate.{aggregates}
 use Rattle.calculus.specs.Pairs.{blank, with_values, put_pair, pair_of, pair_stands, qualifying_updates, pairs}
-use Rattle.calculus.specs.Replacement.{made_attr, wanted_kinds, all_fit, contended, after, first_cause, made_info, rows_change, updated}
+use Rattle.calculus.specs.Replacement.{made_attr, wanted_kinds, all_fit, contended, after, first_refusal, made_info, rows_change, updated}
 use Rattle.calculus.specs.Reads.{query_reads, update_reads}
 use Rattle.calculus.specs.Schema.{schema_of}
 use Rattle.calculus_laws.specs.Reading.{HaveSameRows, IsOverItsRelation}
@@ -161,7 +161,7 @@ module _ (db other : Db) (schema : schema_of db ≡ schema_of other) (who : Who)
 
   abbrev outcome : (Changing → Option Row) → List (Option Kind) → List Row → List Changing → List Pair → Result DbChange ℕ
   outcome values wanted rows cs ps =
-      elim (first_cause (
+      elim (first_refusal (
       (20, list_any (λ c. is_none (values c)) cs)
       ∷ (21, not (list_all (λ c. all_fit wanted (values c)) cs))
       ∷ (22, contended ps) ∷ (29, nat_lt most_rows (length (after rows ps))) ∷ []

@@ -26,7 +26,7 @@ use Rattle.quel_meaning.specs.Columns.{is_copy_form}
 use Rattle.quel_meaning.specs.Fit.{columns_fit, is_fit, fits, suits, utility_fits}
 use Rattle.quel_meaning.specs.Copying.{copied_from}
 use Rattle.quel_meaning.specs.FitQueries.{can_be_ranged_over, kept_alone}
-use Rattle.quel_meaning.specs.Planned.{owner_causes}
+use Rattle.quel_meaning.specs.Planned.{owner_refusals}
 use Rattle.quel_meaning.specs.SpelledTree.{tree_is_spelled, utility_is_spelled}
 use Rattle.copy_util.specs.Causes.{Copies}
 use Rattle.copy_util.specs.Copies.{IsCopy}
@@ -68,7 +68,7 @@ pub fit_readable : (db : Db) (user : List ℕ) (u : Utility) (rel : RelKey) (col
 fit_readable db user u rel columns from file is same h free =
     let fit = copy_fits db user rel columns from file (ap (λ u. is_fit db user (checked.Utility u)) (sym same) ∙ h) in
     let there = named_is_ranged db rel (both (can_be_ranged_over db rel) (columns_fit db rel columns) fit).0 in
-    let absent = all_absent (owner_causes db user rel) free in
+    let absent = all_absent (owner_refusals db user rel) free in
     there_is (relation_at db rel) (base_relation db rel there absent.0 absent.1.0) λ relation found.
     let stored : IsTrue (are_stored relation.info.attrs) = found_has (λ r. IsTrue (are_stored r.info.attrs)) (λ r. same_key r.info.key rel) db.relations relation
     (each_true (λ r. are_stored r.info.attrs) db.relations is.relations_are_stored) found in

@@ -65,12 +65,12 @@ bad_within columns rows bad e = go (numbered_from 1 (map (record_bytes columns) 
         omega (arith, same, less, mapped rows)
 
 -- a number that doesn't fit comes only where no database is known
-pub numbered_cause : (known : Option Db) (rel : RelKey) (columns : List CopyCol) (out : List ℕ) (bad : Option ℕ) (before now : ℕ) (result : Result (Option ℕ) BaseFault) → now ≡ before
+pub numbered_refusal : (known : Option Db) (rel : RelKey) (columns : List CopyCol) (out : List ℕ) (bad : Option ℕ) (before now : ℕ) (result : Result (Option ℕ) BaseFault) → now ≡ before
     → ((db : Db) → known ≡ Some db → IsDatabase db) → ((db : Db) → known ≡ Some db → file_of_rows columns (rows_at db rel) ≡ up_to_bad out bad)
     → IfErr result (λ fault. (fault ≡ Damaged 0 0) × IsLarge bad) → IsCaused known before now result
-numbered_cause known rel columns out bad before now (Ok answer) stayed lawful is large = stayed
-numbered_cause known rel columns out None before now (Err fault) stayed lawful is large = absurd large.1
-numbered_cause known rel columns out (Some n) before now (Err fault) stayed lawful is large =
+numbered_refusal known rel columns out bad before now (Ok answer) stayed lawful is large = stayed
+numbered_refusal known rel columns out None before now (Err fault) stayed lawful is large = absurd large.1
+numbered_refusal known rel columns out (Some n) before now (Err fault) stayed lawful is large =
     subst (MayCome known before now) (sym large.0) (
       not_known known (λ db e.
           let within : n ≤ length (rows_at db rel) = bad_within columns (rows_at db rel) n (is db e) in

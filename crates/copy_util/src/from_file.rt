@@ -22,7 +22,7 @@ use calculus::{CopyCol, DbChange, Kind, Name, OutOfMemory, RelKey, Row, Utility}
 use fault_io::{Shelf, ShelfFault};
 use quel_refusals::kinds_at;
 use std::alloc::Global;
-use utilities::owner_cause;
+use utilities::owner_refusal;
 
 /// The bytes of a file that is copied from.
 const MOST_FILE_BYTES: usize = 4_294_967_295;
@@ -158,7 +158,7 @@ fn rows_from<B: Base, H: Shelf>(
     ensures files { H.files shelf.new ≡ H.files shelf.old }
     ensures cause { HasCopyCause (B.database base.old) (B.faults base.old) (B.faults base.new) (H.faults shelf.old) (H.faults shelf.new) result }
 {
-    match owner_cause(alloc, base, user, rel) {
+    match owner_refusal(alloc, base, user, rel) {
         Ok(None) => match fetch_file(alloc, shelf, constant) {
             Ok(bytes) => file_appended(alloc, base, rel, columns, bytes),
             Err(fault) => Err(fault),

@@ -24,7 +24,7 @@ use calculus::{CopyCol, Name, RelKey, Utility};
 use fault_io::Shelf;
 use ovqp::rows_of;
 use std::alloc::Global;
-use utilities::owner_cause;
+use utilities::owner_refusal;
 
 /// The number of a row. No database has so many rows that one's number doesn't fit.
 fn row_number(row: Option<usize>) -> Result<Option<u32>, BaseFault>
@@ -85,7 +85,7 @@ fn put_file<B: Base>(
     ensures asked { (b : B) → B.asked b base.old → B.asked b base.new }
     ensures cause { HasBaseCause (B.database base.old) (B.faults base.old) (B.faults base.new) result }
 {
-    match owner_cause(alloc, base, user, rel) {
+    match owner_refusal(alloc, base, user, rel) {
         Ok(None) => match put_rows(alloc, base, rel, columns, out) {
             Ok(None) => Ok(()),
             Ok(Some(row)) => Err(CopyFault::BadRow { row }),

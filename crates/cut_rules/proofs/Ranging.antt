@@ -22,8 +22,8 @@ use Rattle.calculus.proofs.Forms.{rows_is}
 use Rattle.calculus_laws.proofs.ViewAnswer.{ranged}
 use Rattle.am_traits.specs.Known.{query_at}
 use Rattle.quel_meaning.specs.FitQueries.{can_be_ranged_over, has_few_targets, kept_or_viewed, source_fits}
-use Rattle.view_text.specs.Expanded.{expanded_plain, expanded_range, expanded_source, range_cut, source_cut}
-use Rattle.view_text.specs.ExpansionOf.{cut, expansion_of, expansion_within}
+use Rattle.view_text.specs.Expanded.{expanded_plain, expanded_range, expanded_source, range_restriction, source_restriction}
+use Rattle.view_text.specs.ExpansionOf.{restriction, expansion_of, expansion_within}
 use Rattle.view_expand.proofs.Viewing.{measure_of_view, permitted_of_kept, permitted_of_view}
 
 -- ---- what is said of what a variable ranges over
@@ -54,14 +54,14 @@ pub source_of_view : (db : Db) → IsDatabase db → (who : Who) (key : RelKey) 
     → rows_of_query (expanded_plain (expansion_within 15 db who) q) ≡ expanded_range db who key (range_at db key)
 source_of_view db d who key q h = of_view (expanded_range db who key) (λ q. rows_of_query (expanded_plain (expansion_within 15 db who) q)) (λ view. refl) db d key q h
 
-pub cut_of_view : (db : Db) → IsDatabase db → (who : Who) (attrs : List ℕ) (key : RelKey) (q : Query) → Some q ≡ query_at db key → [] ≡ range_cut db who attrs key (range_at db key)
-cut_of_view db d who attrs key q h = of_view (range_cut db who attrs key) (λ q. []) (λ view. refl) db d key q h
+pub restriction_of_view : (db : Db) → IsDatabase db → (who : Who) (attrs : List ℕ) (key : RelKey) (q : Query) → Some q ≡ query_at db key → [] ≡ range_restriction db who attrs key (range_at db key)
+restriction_of_view db d who attrs key q h = of_view (range_restriction db who attrs key) (λ q. []) (λ view. refl) db d key q h
 
 pub source_of_kept : (db : Db) (who : Who) (key : RelKey) → None ≡ query_at db key → Named key ≡ expanded_range db who key (range_at db key)
 source_of_kept db who key h = of_kept (expanded_range db who key) (Named key) refl (λ relation. refl) db key h
 
-pub cut_of_kept : (db : Db) (who : Who) (attrs : List ℕ) (key : RelKey) → None ≡ query_at db key → cut db who Retrieve attrs key ≡ range_cut db who attrs key (range_at db key)
-cut_of_kept db who attrs key h = of_kept (range_cut db who attrs key) (cut db who Retrieve attrs key) refl (λ relation. refl) db key h
+pub restriction_of_kept : (db : Db) (who : Who) (attrs : List ℕ) (key : RelKey) → None ≡ query_at db key → restriction db who Retrieve attrs key ≡ range_restriction db who attrs key (range_at db key)
+restriction_of_kept db who attrs key h = of_kept (range_restriction db who attrs key) (restriction db who Retrieve attrs key) refl (λ relation. refl) db key h
 
 -- ---- what may be read of it
 
@@ -81,8 +81,8 @@ pub rows_put : (db : Db) (who : Who) (source : AggSource) (q given : Query) → 
 unfolding expansion_of
 rows_put db who source q given h e = ap (λ q. rows_of_query (expanded_plain (expansion_within 16 db who) q)) e ∙ sym (ap (expanded_source db who) (h ∙ rows_is q))
 
-pub rows_cut : (db : Db) (who : Who) (attrs : List ℕ) (source : AggSource) (q : Query) → source ≡ Rows q → [] ≡ source_cut db who attrs source
-rows_cut db who attrs source q h = sym (ap (source_cut db who attrs) (h ∙ rows_is q))
+pub rows_restriction : (db : Db) (who : Who) (attrs : List ℕ) (source : AggSource) (q : Query) → source ≡ Rows q → [] ≡ source_restriction db who attrs source
+rows_restriction db who attrs source q h = sym (ap (source_restriction db who attrs) (h ∙ rows_is q))
 
 pub rows_readable : (db : Db) (who : Who) (attrs : List ℕ) (source : AggSource) (q given : Query) → source ≡ Rows q → given ≡ q
     → vars_permitted (permitted_within 16 db who) given (used_vars given) ≡ source_permitted (readable db who) attrs source

@@ -1,4 +1,4 @@
-//! Aggregates over what their sources stand for, cut down to what may be read.
+//! Aggregates over what their sources stand for, restricted to what may be read.
 
 ghost use Rattle.std.specs.Prelude.{◌≡◌, ◌≤◌, [], ◌∷◌, ◌++◌, true, false, map, length, Some, IfOk, OnOk, option_map};
 ghost use Rattle.std.specs.List.{list_all};
@@ -115,7 +115,7 @@ fn aggregate_over(
     }
 }
 
-/// The aggregate over what its source stands for, cut down to what may be read, with the expansion' terms in
+/// The aggregate over what its source stands for, restricted to what may be read, with the expansion' terms in
 /// its links. `NoPermit` exactly where what it names may not be read.
 fn expanded_aggregate<B: Base>(
     alloc: Global,
@@ -179,7 +179,7 @@ fn put_all<B: Base>(
 }
 
 /// The aggregates of a query, by their slots, whose variables have these expansion: each over what its source
-/// stands for, cut down to what may be read, with the expansion' terms in its links. `NoPermit` exactly where
+/// stands for, restricted to what may be read, with the expansion' terms in its links. `NoPermit` exactly where
 /// what one of them names may not be read.
 pub(crate) fn put_aggregates<B: Base>(
     alloc: Global,

@@ -13,15 +13,15 @@ ghost use Rattle.view_expand.specs.Causes.{HasCause as HasExpansionCause};
 ghost use Rattle.view_expand.specs.Found.{IsFound};
 ghost use Rattle.view_expand.specs.declared.fault.ExpansionFault.TheVariants.{OutOfMemory as NoExpansionMemory};
 ghost use Rattle.view_text.specs.Halves.{all_of};
-ghost use Rattle.view_text.specs.Expanded.{changed_expansion, read_cut};
+ghost use Rattle.view_text.specs.Expanded.{changed_expansion, read_restriction};
 ghost use Rattle.view_text.specs.Scoped.{is_qual_within, is_scoped};
-ghost use Rattle.view_text.specs.ExpansionOf.{cut, kept_expansion};
+ghost use Rattle.view_text.specs.ExpansionOf.{restriction, kept_expansion};
 
 use am_traits::Base;
 use calculus::{List, Name, OutOfMemory, QQual, RelKey, TryCopy, Update, UpdateOp};
 use memory::{alone, push};
 use std::alloc::Global;
-use view_expand::{Right, ExpansionFault, ExpansionsFound, cut};
+use view_expand::{Right, ExpansionFault, ExpansionsFound, restriction};
 use view_text::{Expansion, all_of};
 
 /// The right to change the variable at a place; `None` where its rows stay.
@@ -59,7 +59,7 @@ fn put_condition(condition: Option<QQual>, conditions: &mut Vec<QQual>) -> Resul
 
 /// Puts the condition on the rows of what has a key, with which one may do this with these attributes,
 /// behind those that are there. `NoPermit` exactly where a permit is needed and none covers it.
-pub(crate) fn put_cut<B: Base>(
+pub(crate) fn append_restriction<B: Base>(
     alloc: Global,
     base: &mut B,
     who: Option<&Name>,
@@ -70,7 +70,7 @@ pub(crate) fn put_cut<B: Base>(
     found: &mut ExpansionsFound,
 ) -> Result<(), ExpansionFault>
     requires found { (db : Db) → B.database base.old ≡ Some db → IsFound db (who_of (option_map (λ n. n.now) who)) found.old }
-    ensures known { (db : Db) → B.database base.old ≡ Some db → OnOk result (conditions.new.items ≡ conditions.old.items ++ cut db (who_of (option_map (λ n. n.now) who.entry)) (right_of right) attrs.now key.now) }
+    ensures known { (db : Db) → B.database base.old ≡ Some db → OnOk result (conditions.new.items ≡ conditions.old.items ++ restriction db (who_of (option_map (λ n. n.now) who.entry)) (right_of right) attrs.now key.now) }
     ensures permitted { (db : Db) → B.database base.old ≡ Some db → OnOk result (permitted db (who_of (option_map (λ n. n.now) who.entry)) (right_of right) attrs.now key.now ≡ true) }
     ensures within { list_all (is_qual_within 1) conditions.old.items ≡ true → OnOk result (list_all (is_qual_within 1) conditions.new.items ≡ true) }
     ensures found { (db : Db) → B.database base.old ≡ Some db → IsFound db (who_of (option_map (λ n. n.now) who.entry)) found.new }
@@ -79,7 +79,7 @@ pub(crate) fn put_cut<B: Base>(
     ensures asked { (b : B) → B.asked b base.old → B.asked b base.new }
     ensures cause { HasExpansionCause (λ db. permitted db (who_of (option_map (λ n. n.now) who.entry)) (right_of right) attrs.now key.now ≡ false) (B.database base.old) (B.faults base.old) (B.faults base.new) result }
 {
-    match cut(alloc, base, who, right, attrs, key, found) {
+    match restriction(alloc, base, who, right, attrs, key, found) {
         Ok(condition) => match put_condition(condition, conditions) {
             Ok(()) => Ok(()),
             Err(_) => Err(ExpansionFault::OutOfMemory),
@@ -89,7 +89,7 @@ pub(crate) fn put_cut<B: Base>(
 }
 
 /// The same for reading, where any attribute is read.
-fn put_read_cut<B: Base>(
+fn put_read_restriction<B: Base>(
     alloc: Global,
     base: &mut B,
     who: Option<&Name>,
@@ -99,7 +99,7 @@ fn put_read_cut<B: Base>(
     found: &mut ExpansionsFound,
 ) -> Result<(), ExpansionFault>
     requires found { (db : Db) → B.database base.old ≡ Some db → IsFound db (who_of (option_map (λ n. n.now) who)) found.old }
-    ensures known { (db : Db) → B.database base.old ≡ Some db → OnOk result (quals.new.items ≡ quals.old.items ++ read_cut db (who_of (option_map (λ n. n.now) who.entry)) read.now key.now) }
+    ensures known { (db : Db) → B.database base.old ≡ Some db → OnOk result (quals.new.items ≡ quals.old.items ++ read_restriction db (who_of (option_map (λ n. n.now) who.entry)) read.now key.now) }
     ensures permitted { (db : Db) → B.database base.old ≡ Some db → OnOk result (read_permitted db (who_of (option_map (λ n. n.now) who.entry)) read.now key.now ≡ true) }
     ensures within { list_all (is_qual_within 1) quals.old.items ≡ true → OnOk result (list_all (is_qual_within 1) quals.new.items ≡ true) }
     ensures found { (db : Db) → B.database base.old ≡ Some db → IsFound db (who_of (option_map (λ n. n.now) who.entry)) found.new }
@@ -110,7 +110,7 @@ fn put_read_cut<B: Base>(
 {
     match read {
         [] => Ok(()),
-        [_, ..] => put_cut(alloc, base, who, Right::Retrieve, read, key, quals, found),
+        [_, ..] => append_restriction(alloc, base, who, Right::Retrieve, read, key, quals, found),
     }
 }
 
@@ -127,7 +127,7 @@ fn put_cuts<B: Base>(
     found: &mut ExpansionsFound,
 ) -> Result<(), ExpansionFault>
     requires found { (db : Db) → B.database base.old ≡ Some db → IsFound db (who_of (option_map (λ n. n.now) who)) found.old }
-    ensures known { (db : Db) → B.database base.old ≡ Some db → OnOk result (conditions.new.items ≡ conditions.old.items ++ (cut db (who_of (option_map (λ n. n.now) who.entry)) (right_of right) places.now key.now ++ read_cut db (who_of (option_map (λ n. n.now) who.entry)) read.now key.now)) }
+    ensures known { (db : Db) → B.database base.old ≡ Some db → OnOk result (conditions.new.items ≡ conditions.old.items ++ (restriction db (who_of (option_map (λ n. n.now) who.entry)) (right_of right) places.now key.now ++ read_restriction db (who_of (option_map (λ n. n.now) who.entry)) read.now key.now)) }
     ensures permitted { (db : Db) → B.database base.old ≡ Some db → OnOk result (change_permitted db (who_of (option_map (λ n. n.now) who.entry)) (right_of right) places.now key.now read.now ≡ true) }
     ensures within { list_all (is_qual_within 1) conditions.old.items ≡ true → OnOk result (list_all (is_qual_within 1) conditions.new.items ≡ true) }
     ensures found { (db : Db) → B.database base.old ≡ Some db → IsFound db (who_of (option_map (λ n. n.now) who.entry)) found.new }
@@ -136,8 +136,8 @@ fn put_cuts<B: Base>(
     ensures asked { (b : B) → B.asked b base.old → B.asked b base.new }
     ensures cause { HasExpansionCause (λ db. change_permitted db (who_of (option_map (λ n. n.now) who.entry)) (right_of right) places.now key.now read.now ≡ false) (B.database base.old) (B.faults base.old) (B.faults base.new) result }
 {
-    match put_cut(alloc, base, who, right, places, key, conditions, found) {
-        Ok(()) => put_read_cut(alloc, base, who, read, key, conditions, found),
+    match append_restriction(alloc, base, who, right, places, key, conditions, found) {
+        Ok(()) => put_read_restriction(alloc, base, who, read, key, conditions, found),
         Err(fault) => Err(fault),
     }
 }
@@ -170,7 +170,7 @@ fn kept(alloc: Global, key: &RelKey, conditions: Vec<QQual>) -> Result<Expansion
     }
 }
 
-/// The expansion of a variable whose rows are replaced or deleted: its relation, cut down to the rows that may
+/// The expansion of a variable whose rows are replaced or deleted: its relation, restricted to the rows that may
 /// be so changed with the attributes at these places, and be read as far as they are. `NoPermit` exactly
 /// where one of the two isn't permitted at all.
 pub(crate) fn changed_expansion<B: Base>(
@@ -222,7 +222,7 @@ fn put_copy(alloc: Global, qual: &QQual, quals: &mut Vec<QQual>) -> Result<(), O
 
 /// What must hold of a row for the one who asks to append it, behind what must hold of it already.
 /// `NoPermit` exactly where nothing may be appended.
-pub(crate) fn appended_cut<B: Base>(
+pub(crate) fn appended_restriction<B: Base>(
     alloc: Global,
     base: &mut B,
     who: Option<&Name>,
@@ -230,7 +230,7 @@ pub(crate) fn appended_cut<B: Base>(
     found: &mut ExpansionsFound,
 ) -> Result<QQual, ExpansionFault>
     requires found { (db : Db) → B.database base.old ≡ Some db → IsFound db (who_of (option_map (λ n. n.now) who)) found.old }
-    ensures known { (db : Db) → B.database base.old ≡ Some db → IfOk result (λ q. q ≡ all_of (u.now.new_cut ∷ cut db (who_of (option_map (λ n. n.now) who.entry)) Append u.now.places u.now.rel)) }
+    ensures known { (db : Db) → B.database base.old ≡ Some db → IfOk result (λ q. q ≡ all_of (u.now.new_cut ∷ restriction db (who_of (option_map (λ n. n.now) who.entry)) Append u.now.places u.now.rel)) }
     ensures permitted { (db : Db) → B.database base.old ≡ Some db → OnOk result (permitted db (who_of (option_map (λ n. n.now) who.entry)) Append u.now.places u.now.rel ≡ true) }
     ensures found { (db : Db) → B.database base.old ≡ Some db → IsFound db (who_of (option_map (λ n. n.now) who.entry)) found.new }
     ensures kept { B.database base.new ≡ B.database base.old }
@@ -242,7 +242,7 @@ pub(crate) fn appended_cut<B: Base>(
     if put_copy(alloc, &u.new_cut, &mut quals).is_err() {
         return Err(ExpansionFault::OutOfMemory);
     }
-    match put_cut(
+    match append_restriction(
         alloc,
         base,
         who,

@@ -1,4 +1,4 @@
-//! Trees cut down to what a user may see and change.
+//! Trees restricted to what a user may see and change.
 
 ghost use Rattle.std.specs.Prelude.{◌≡◌, ◌++◌, [], ◌∷◌, map, true, false, Some, Contains, IfOk, OnOk, option_map};
 ghost use Rattle.std.specs.List.{list_all};
@@ -139,7 +139,7 @@ fn expanded_tree<B: Base>(
     }
 }
 
-/// The tree over base relations and catalogues alone, its views expanded and cut down to what the user may
+/// The tree over base relations and catalogues alone, its views expanded and restricted to what the user may
 /// see and change: it means unrestricted what the given one means for the user. A utility
 /// stays as it is. `NoPermit` exactly where something that is read or changed isn't permitted, and then a
 /// variable that is refused: by its place in its query; 255 for what an aggregate names, and for the

@@ -11,7 +11,7 @@ use calculus::OutOfMemory;
 /// relation of an append may not be appended to.
 pub const NO_VARIABLE: u8 = 255;
 
-/// Why a tree isn't cut down to what is permitted.
+/// Why a tree isn't restricted to what is permitted.
 #[derive(Clone, Copy, Debug, PartialEq, Eq)]
 pub enum CutFault {
     /// The user has no permit for it.

@@ -15,14 +15,14 @@ ghost use Rattle.quel_meaning.specs.FitQueries.{kept_or_viewed, source_fits};
 ghost use Rattle.view_expand.specs.Asking.{who_of};
 ghost use Rattle.view_expand.specs.Causes.{HasCause};
 ghost use Rattle.view_expand.specs.Found.{IsFound};
-ghost use Rattle.view_text.specs.Expanded.{expanded_plain, expanded_range, expanded_source, range_cut, source_cut};
-ghost use Rattle.view_text.specs.ExpansionOf.{cut, expansion_within};
+ghost use Rattle.view_text.specs.Expanded.{expanded_plain, expanded_range, expanded_source, range_restriction, source_restriction};
+ghost use Rattle.view_text.specs.ExpansionOf.{restriction, expansion_within};
 
 use am_traits::Base;
 use calculus::limits::MOST_LEVEL;
 use calculus::{AggSource, Boxed, Name, OutOfMemory, QQual, Query, RelKey, TryCopy};
 use std::alloc::Global;
-use view_expand::{Right, ExpansionFault, ExpansionsFound, cut, expanded_plain};
+use view_expand::{Right, ExpansionFault, ExpansionsFound, restriction, expanded_plain};
 
 /// The rows of a query.
 #[tactic(auto, using(calculus::proofs::Forms::rows_is))]
@@ -79,7 +79,7 @@ fn kept_source<B: Base>(
 ) -> Result<(AggSource, Option<QQual>), ExpansionFault>
     requires found { (db : Db) → B.database base.old ≡ Some db → IsFound db (who_of (option_map (λ n. n.now) who)) found.old }
     ensures named { IfOk result (λ made. made.0 ≡ Named key.now) }
-    ensures known { (db : Db) → B.database base.old ≡ Some db → IfOk result (λ made. option_to_list made.1 ≡ cut db (who_of (option_map (λ n. n.now) who.entry)) Retrieve attrs.now key.now) }
+    ensures known { (db : Db) → B.database base.old ≡ Some db → IfOk result (λ made. option_to_list made.1 ≡ restriction db (who_of (option_map (λ n. n.now) who.entry)) Retrieve attrs.now key.now) }
     ensures permitted { (db : Db) → B.database base.old ≡ Some db → OnOk result (permitted db (who_of (option_map (λ n. n.now) who.entry)) Retrieve attrs.now key.now ≡ true) }
     ensures found { (db : Db) → B.database base.old ≡ Some db → IsFound db (who_of (option_map (λ n. n.now) who.entry)) found.new }
     ensures kept { B.database base.new ≡ B.database base.old }
@@ -87,7 +87,7 @@ fn kept_source<B: Base>(
     ensures asked { (b : B) → B.asked b base.old → B.asked b base.new }
     ensures cause { HasCause (λ db. permitted db (who_of (option_map (λ n. n.now) who.entry)) Retrieve attrs.now key.now ≡ false) (B.database base.old) (B.faults base.old) (B.faults base.new) result }
 {
-    match cut(alloc, base, who, Right::Retrieve, attrs, key, found) {
+    match restriction(alloc, base, who, Right::Retrieve, attrs, key, found) {
         Ok(condition) => match key.copy(alloc) {
             Ok(key) => Ok((AggSource::Named(key), condition)),
             Err(_) => Err(ExpansionFault::OutOfMemory),
@@ -109,7 +109,7 @@ fn named_source<B: Base>(
     requires few { (db : Db) → B.database base.old ≡ Some db → (measure_of db key.now).variables ≤ 256 }
     requires found { (db : Db) → B.database base.old ≡ Some db → IsFound db (who_of (option_map (λ n. n.now) who)) found.old }
     ensures known { (db : Db) → B.database base.old ≡ Some db → IfOk result (λ made. made.0 ≡ expanded_range db (who_of (option_map (λ n. n.now) who.entry)) key.now (range_at db key.now)) }
-    ensures cuts { (db : Db) → B.database base.old ≡ Some db → IfOk result (λ made. option_to_list made.1 ≡ range_cut db (who_of (option_map (λ n. n.now) who.entry)) attrs.now key.now (range_at db key.now)) }
+    ensures cuts { (db : Db) → B.database base.old ≡ Some db → IfOk result (λ made. option_to_list made.1 ≡ range_restriction db (who_of (option_map (λ n. n.now) who.entry)) attrs.now key.now (range_at db key.now)) }
     ensures permitted { (db : Db) → B.database base.old ≡ Some db → OnOk result (readable db (who_of (option_map (λ n. n.now) who.entry)) key.now attrs.now ≡ true) }
     ensures found { (db : Db) → B.database base.old ≡ Some db → IsFound db (who_of (option_map (λ n. n.now) who.entry)) found.new }
     ensures kept { B.database base.new ≡ B.database base.old }
@@ -140,7 +140,7 @@ pub(crate) fn expanded_source<B: Base>(
     requires fits { (db : Db) → B.database base.old ≡ Some db → source_fits (kept_or_viewed db) db source.now ≡ true }
     requires found { (db : Db) → B.database base.old ≡ Some db → IsFound db (who_of (option_map (λ n. n.now) who)) found.old }
     ensures known { (db : Db) → B.database base.old ≡ Some db → IfOk result (λ made. made.0 ≡ expanded_source db (who_of (option_map (λ n. n.now) who.entry)) source.now) }
-    ensures cuts { (db : Db) → B.database base.old ≡ Some db → IfOk result (λ made. option_to_list made.1 ≡ source_cut db (who_of (option_map (λ n. n.now) who.entry)) attrs.now source.now) }
+    ensures cuts { (db : Db) → B.database base.old ≡ Some db → IfOk result (λ made. option_to_list made.1 ≡ source_restriction db (who_of (option_map (λ n. n.now) who.entry)) attrs.now source.now) }
     ensures permitted { (db : Db) → B.database base.old ≡ Some db → OnOk result (source_permitted (readable db (who_of (option_map (λ n. n.now) who.entry))) attrs.now source.now ≡ true) }
     ensures found { (db : Db) → B.database base.old ≡ Some db → IsFound db (who_of (option_map (λ n. n.now) who.entry)) found.new }
     ensures kept { B.database base.new ≡ B.database base.old }

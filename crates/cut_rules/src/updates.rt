@@ -16,11 +16,11 @@ ghost use Rattle.quel_meaning.specs.Fit.{update_fits};
 ghost use Rattle.quel_meaning.specs.FitQueries.{kept_or_viewed, reads_fit};
 ghost use Rattle.view_expand.specs.Asking.{right_of, who_of};
 ghost use Rattle.view_expand.specs.Found.{IsFound};
-ghost use Rattle.view_text.specs.Expanded.{changed_expansion, put_cut, expanded_update, expanded_over, put_place};
+ghost use Rattle.view_text.specs.Expanded.{changed_expansion, append_restriction, expanded_update, expanded_over, put_place};
 ghost use Rattle.view_text.specs.Scoped.{is_scoped};
 ghost use Rattle.view_text.specs.Expansions.{place_from, expansions_vars};
 
-use crate::changing::{appended_cut, changed_by, changed_expansion};
+use crate::changing::{appended_restriction, changed_by, changed_expansion};
 use crate::expanded::expanded_over;
 use crate::expansions::{PLACES, are_few, fault_at, put_behind, read_expansion};
 use crate::{CutFault, NO_VARIABLE};
@@ -202,7 +202,7 @@ fn put_new_cut<B: Base>(
     found: &mut ExpansionsFound,
 ) -> Result<QQual, CutFault>
     requires found { (db : Db) → B.database base.old ≡ Some db → IsFound db (who_of (option_map (λ n. n.now) who)) found.old }
-    ensures known { (db : Db) → B.database base.old ≡ Some db → IfOk result (λ q. q ≡ put_cut db (who_of (option_map (λ n. n.now) who.entry)) u.now u.now.op) }
+    ensures known { (db : Db) → B.database base.old ≡ Some db → IfOk result (λ q. q ≡ append_restriction db (who_of (option_map (λ n. n.now) who.entry)) u.now u.now.op) }
     ensures permitted { (db : Db) → B.database base.old ≡ Some db → OnOk result (u.now.op ≡ op.Append → permitted db (who_of (option_map (λ n. n.now) who.entry)) Append u.now.places u.now.rel ≡ true) }
     ensures found { (db : Db) → B.database base.old ≡ Some db → IsFound db (who_of (option_map (λ n. n.now) who.entry)) found.new }
     ensures kept { B.database base.new ≡ B.database base.old }
@@ -211,7 +211,7 @@ fn put_new_cut<B: Base>(
     ensures cause { HasCause (λ db var. IsRefusedAppend db (who_of (option_map (λ n. n.now) who.entry)) u.now var) (B.database base.old) (B.faults base.old) (B.faults base.new) result }
 {
     match u.op {
-        UpdateOp::Append => match appended_cut(alloc, base, who, u, found) {
+        UpdateOp::Append => match appended_restriction(alloc, base, who, u, found) {
             Ok(q) => Ok(q),
             Err(fault) => Err(fault_at(fault, NO_VARIABLE)),
         },
@@ -261,7 +261,7 @@ fn expanded_over_few<B: Base>(
     requires scoped { list_all is_scoped expansions.now ≡ true }
     requires few { (db : Db) → B.database base.old ≡ Some db → length (expansions_vars expansions.now) ≤ 255 }
     requires found { (db : Db) → B.database base.old ≡ Some db → IsFound db (who_of (option_map (λ n. n.now) who)) found.old }
-    ensures known { (db : Db) → B.database base.old ≡ Some db → IfOk result (λ made. made ≡ record u.now { old = put_place expansions.now u.now; query = expanded_over db (who_of (option_map (λ n. n.now) who.entry)) expansions.now u.now.query; new_cut = put_cut db (who_of (option_map (λ n. n.now) who.entry)) u.now u.now.op }) }
+    ensures known { (db : Db) → B.database base.old ≡ Some db → IfOk result (λ made. made ≡ record u.now { old = put_place expansions.now u.now; query = expanded_over db (who_of (option_map (λ n. n.now) who.entry)) expansions.now u.now.query; new_cut = append_restriction db (who_of (option_map (λ n. n.now) who.entry)) u.now u.now.op }) }
     ensures permitted { (db : Db) → B.database base.old ≡ Some db → OnOk result (aggregates_permitted (readable db (who_of (option_map (λ n. n.now) who.entry))) u.now.query ≡ true) }
     ensures appended { (db : Db) → B.database base.old ≡ Some db → OnOk result (u.now.op ≡ op.Append → permitted db (who_of (option_map (λ n. n.now) who.entry)) Append u.now.places u.now.rel ≡ true) }
     ensures found { (db : Db) → B.database base.old ≡ Some db → IsFound db (who_of (option_map (λ n. n.now) who.entry)) found.new }

@@ -9,7 +9,7 @@ use Rattle.calculus.specs.declared.reply.Reply.TheVariants.{Refused, Tables}
 use Rattle.calculus.specs.Database.{Db}
 use Rattle.calculus.specs.Limits.{most_rows}
 use Rattle.calculus.specs.Pairs.{pairs}
-use Rattle.calculus.specs.Replacement.{after, contended, change_of, first_cause, update_lacks, values_fit, rows_after, updated}
+use Rattle.calculus.specs.Replacement.{after, contended, change_of, first_refusal, update_lacks, values_fit, rows_after, updated}
 use Rattle.calculus.specs.Stored.{rows_at}
 use Rattle.calculus.specs.Who.{Who, Unrestricted}
 use Rattle.quel_meaning.specs.Copying.{refusal}
@@ -20,7 +20,7 @@ use Rattle.plain_statements.specs.Plans.{ArePairs}
 -- the outcome of an update of which these causes are there
 judged : Bool → Bool → Bool → Bool → DbChange → Result DbChange ℕ
 judged lacks fit contends many change =
-    elim (first_cause ((20, lacks) ∷ (21, not fit) ∷ (22, contends) ∷ (29, many) ∷ [])) [ None ↦ Ok change | Some number ↦ Err number ]
+    elim (first_refusal ((20, lacks) ∷ (21, not fit) ∷ (22, contends) ∷ (29, many) ∷ [])) [ None ↦ Ok change | Some number ↦ Err number ]
 
 judged_is : (db : Db) (who : Who) (u : Update)
     → updated db who u ≡ judged (update_lacks db who u) (values_fit db who u) (contended (pairs db who u)) (nat_lt most_rows (length (rows_after db who u))) (change_of db who u)

@@ -23,7 +23,7 @@ use Rattle.calculus.specs.Name.{is_name}
 use Rattle.calculus.specs.IsDatabase.{IsDatabase, row_fits, key_is_named, structure_stands, attrs_stand, are_stored, relation_rows_fit, vars_are_there, query_stands, index_stands, row_qual_stands, permit_stands}
 use Rattle.calculus.specs.Change.{laid, names_what_is_there, adds_what_is_new, lists_once, IsLawful}
 use Rattle.calculus.proofs.Sets.{Ascends-nil, Ascends-set_of, has-set_of, same_set}
-use Rattle.quel_meaning.specs.Planned.{planned, plan_causes, plan_change, heap_info}
+use Rattle.quel_meaning.specs.Planned.{planned, plan_refusals, plan_change, heap_info}
 use Rattle.quel_meaning.proofs.InOrder.{in_order-insert}
 use Rattle.plan_laws.specs.Fitting.{IsFitRelation}
 use Rattle.plan_laws.proofs.Kept.{both, all_insert}
@@ -277,5 +277,5 @@ made_lawful db rel attrs rows is fit ascend fits few = record {
 
 pub created_planned : (db : Db) (user : List ℕ) (rel : RelKey) (attrs : List Attr) (made : DbChange) → IsDatabase db → IsFitRelation db rel attrs
     → planned db user (utility.Create rel attrs) ≡ Ok made → IsLawful db made
-unfolding plan_causes plan_change
+unfolding plan_refusals plan_change
 created_planned db user rel attrs made is fit e = subst (IsLawful db) (not_refused db user (utility.Create rel attrs) made e).1 (made_lawful db rel attrs [] is fit Ascends-nil refl refl)

@@ -19,7 +19,7 @@ use Rattle.calculus.specs.Stored.{range_at}
 use Rattle.calculus.specs.QueryParts.{vars_of, targets_of}
 use Rattle.calculus.specs.IsDatabase.{IsDatabase, key_is_named, structure_stands, attrs_stand, are_stored, relation_rows_fit, index_stands, view_info_stands, attrs_are_targets, vars_are_there, query_stands}
 use Rattle.calculus.specs.Change.{laid, without_keys, names_what_is_there, adds_what_is_new, lists_once, IsLawful}
-use Rattle.quel_meaning.specs.Planned.{planned, plan_causes, plan_change, is_in_use}
+use Rattle.quel_meaning.specs.Planned.{planned, plan_refusals, plan_change, is_in_use}
 use Rattle.plan_laws.proofs.Kept.{both, each, all_filter, filter_fewer}
 use Rattle.plan_laws.proofs.Orders.{same_key_is}
 use Rattle.plan_laws.proofs.Planned.{neither, all_absent, not_refused}
@@ -256,8 +256,8 @@ each_is_there db (key ∷ rels) t h =
 
 pub destroyed_planned : (db : Db) (user : List ℕ) (rels : List RelKey) (made : DbChange) → IsDatabase db
     → IsTrue (list_all (λ key. is_there db key || is_catalogue db key) rels) → IsTrue (differ_by same_key rels) → planned db user (utility.Destroy rels) ≡ Ok made → IsLawful db made
-unfolding plan_causes plan_change
+unfolding plan_refusals plan_change
 destroyed_planned db user rels made is there differ e =
     let plan = not_refused db user (utility.Destroy rels) made e in
-    let absent = all_absent (plan_causes db user (utility.Destroy rels)) plan.0 in
+    let absent = all_absent (plan_refusals db user (utility.Destroy rels)) plan.0 in
     subst (IsLawful db) plan.1 (destroyed_lawful db rels is (each_is_there db rels there absent.0) differ absent.1.1.0)

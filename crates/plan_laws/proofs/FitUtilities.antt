@@ -35,7 +35,7 @@ use Rattle.quel_meaning.specs.Copying.{copied_from}
 use Rattle.quel_meaning.specs.Fit.{is_new, is_entry, columns_fit, view_fits, row_qual_fits, listed_attrs_fit, utility_fits, suits, fits}
 use Rattle.quel_meaning.specs.FitQueries.{Allowed, can_be_ranged_over, lists_few_vars}
 use Rattle.quel_meaning.specs.Passing.{is_full, is_taken, is_too_high, is_too_large}
-use Rattle.quel_meaning.specs.Planned.{planned, plan_causes, target_attr}
+use Rattle.quel_meaning.specs.Planned.{planned, plan_refusals, target_attr}
 use Rattle.fault_io.specs.Files.{Files}
 use Rattle.quel_meaning.specs.SpelledTree.{key_is_spelled, permit_is_spelled, utility_is_spelled, tree_is_spelled}
 use Rattle.plan_laws.specs.Fitting.{is_ranged, is_copy, IsFitPermit, IsFitRule, IsFitStructure, IsFitIndex, IsFitRelation, IsFitView}
@@ -126,13 +126,13 @@ fit_structure db rel to keys fits =
 -- the name of an index is one of the user's, who owns the relation where nothing refuses it
 pub fit_index : (db : Db) (user : List ℕ) (base : RelKey) (name keys : List ℕ) (made : DbChange) → IsDatabase db → IsTrue (is_name name)
     → IsTrue (can_be_ranged_over db base && (is_new db user name && (is_any keys && keys_stand (attrs_at db base) keys))) → planned db user (utility.Index base name keys) ≡ Ok made → IsFitIndex db base name keys
-unfolding plan_causes
+unfolding plan_refusals
 fit_index db user base name keys made is spelled fits e =
     let named = both (can_be_ranged_over db base) (is_new db user name && (is_any keys && keys_stand (attrs_at db base) keys)) fits in
     let new = both (is_new db user name) (is_any keys && keys_stand (attrs_at db base) keys) named.1 in
     let stands = both (is_any keys) (keys_stand (attrs_at db base) keys) new.1 in
     let there = named_is_ranged db base named.0 in
-    let absent = all_absent (plan_causes db user (utility.Index base name keys)) (not_refused db user (utility.Index base name keys) made e).0 in
+    let absent = all_absent (plan_refusals db user (utility.Index base name keys)) (not_refused db user (utility.Index base name keys) made e).0 in
     let owner = owner_named db base is (base_relation db base there absent.0 absent.1.0) in
     let own : IsTrue (is_new db base.owner name) = subst (λ user. IsTrue (is_new db user name)) (sym (owner_is user base absent.1.1.0)) new.0 in
     let free = new_is_free db (key_of base.owner name) (each _ _ owner spelled) own in

@@ -14,7 +14,7 @@ use Rattle.calculus.specs.Database.{Db, Relation, Index, relation_at, is_relatio
 use Rattle.calculus.specs.IsDatabase.{IsDatabase, attrs_stand, keys_stand, structure_stands}
 use Rattle.calculus.specs.Change.{laid, restructured, names_what_is_there, adds_what_is_new, lists_once, IsLawful}
 use Rattle.quel_meaning.specs.Structures.{structure_keys, first_or_these}
-use Rattle.quel_meaning.specs.Planned.{planned, plan_causes, plan_change}
+use Rattle.quel_meaning.specs.Planned.{planned, plan_refusals, plan_change}
 use Rattle.calculus.specs.Lists.{is_any}
 use Rattle.calculus.specs.Structures.{is_structure, is_keyed}
 use Rattle.plan_laws.specs.Fitting.{IsFitStructure}
@@ -98,8 +98,8 @@ restructured_lawful db rel to keys is fit relation = record {
 
 pub structure_planned : (db : Db) (user : List ℕ) (rel : RelKey) (to : Spec) (keys : List ℕ) (made : DbChange) → IsDatabase db → IsFitStructure db rel to keys
     → planned db user (utility.Modify rel to keys) ≡ Ok made → IsLawful db made
-unfolding plan_causes plan_change
+unfolding plan_refusals plan_change
 structure_planned db user rel to keys made is fit e =
     let plan = not_refused db user (utility.Modify rel to keys) made e in
-    let absent = all_absent (plan_causes db user (utility.Modify rel to keys)) plan.0 in
+    let absent = all_absent (plan_refusals db user (utility.Modify rel to keys)) plan.0 in
     subst (IsLawful db) plan.1 (restructured_lawful db rel to keys is fit (base_relation db rel fit.there absent.0 absent.1.0))

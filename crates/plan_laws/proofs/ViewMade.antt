@@ -29,7 +29,7 @@ use Rattle.calculus.specs.Sizes.{Measure, greater_level, greatest_of, level_abov
 use Rattle.calculus.specs.Storable.{query_is_storable}
 use Rattle.calculus.specs.IsDatabase.{IsDatabase, key_is_named, view_info_stands, attrs_stand, attrs_are_targets, same_domain, same_kind, vars_are_there, query_stands, index_stands, row_qual_stands, permit_stands}
 use Rattle.calculus.specs.Change.{laid, names_what_is_there, adds_what_is_new, lists_once, IsLawful}
-use Rattle.quel_meaning.specs.Planned.{planned, plan_causes, plan_change, view_info, target_attr}
+use Rattle.quel_meaning.specs.Planned.{planned, plan_refusals, plan_change, view_info, target_attr}
 use Rattle.quel_meaning.proofs.InOrder.{in_order-insert}
 use Rattle.plan_laws.specs.Fitting.{IsFitView}
 use Rattle.plan_laws.proofs.Kept.{both, each, all_insert}
@@ -252,5 +252,5 @@ view_lawful db rel q is fit = record {
 
 pub view_planned : (db : Db) (user : List ℕ) (rel : RelKey) (q : Query) (made : DbChange) → IsDatabase db → IsFitView db rel q
     → planned db user (utility.View rel q) ≡ Ok made → IsLawful db made
-unfolding plan_causes plan_change
+unfolding plan_refusals plan_change
 view_planned db user rel q made is fit e = subst (IsLawful db) (not_refused db user (utility.View rel q) made e).1 (view_lawful db rel q is fit)

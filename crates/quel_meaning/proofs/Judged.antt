@@ -9,7 +9,7 @@ use Rattle.calculus.specs.Database.{Db}
 use Rattle.calculus.specs.Lists.{has_number}
 use Rattle.calculus.specs.Who.{Asker, AsUser}
 use Rattle.quel_meaning.specs.Meaning.{Resolving, checked_permitted, permitted_tree, judged_tree, judged_by, judged, judged_outcome, is_range, meaning_by}
-use Rattle.quel_meaning.specs.Purpose.{cause_numbers}
+use Rattle.quel_meaning.specs.Purpose.{refusal_numbers}
 use Rattle.quel_meaning.specs.Ranges.{Ranges}
 use Rattle.quel_meaning.specs.Resolved.{resolved}
 use Rattle.quel_meaning.specs.State.{State}
@@ -30,8 +30,8 @@ one_of (m ∷ ns) n h k = go (one_of ns n (right (is_early m) _ h)) (nat_eq m n)
     go later true e k = subst (λ x. is_early x ≡ true) (eqb-true m n e) (left (is_early m) _ h)
     go later false e k = later k
 
-all_early : (s : Statement) → list_all is_early (10 ∷ 11 ∷ 12 ∷ cause_numbers s) ≡ true
-unfolding cause_numbers
+all_early : (s : Statement) → list_all is_early (10 ∷ 11 ∷ 12 ∷ refusal_numbers s) ≡ true
+unfolding refusal_numbers
 all_early (statement.Range var rel) = refl
 all_early (statement.Retrieve None items qual sort) = refl
 all_early (statement.Retrieve (Some name) items qual sort) = refl
@@ -60,7 +60,7 @@ refused_early db asker ranges s n e = go (resolved db asker.user ranges s) refl 
     lacks tree false k = let same : 23 ≡ n = cc k in subst (λ m. is_early m ≡ true) same refl
 
     go : (r : Result Checked ℕ) → resolved db asker.user ranges s ≡ r → judged_tree db asker r ≡ Err n → is_early n ≡ true
-    go (Err m) f k = let same : m ≡ n = cc k in subst (λ x. is_early x ≡ true) same (one_of (10 ∷ 11 ∷ 12 ∷ cause_numbers s) m (all_early s) (refused_by db asker.user ranges s m f))
+    go (Err m) f k = let same : m ≡ n = cc k in subst (λ x. is_early x ≡ true) same (one_of (10 ∷ 11 ∷ 12 ∷ refusal_numbers s) m (all_early s) (refused_by db asker.user ranges s m f))
     go (Ok tree) f k = lacks tree (checked_permitted db (AsUser asker) tree) k
 
 -- ---- the trees

@@ -13,7 +13,7 @@ use Rattle.calculus.specs.declared.request.SortKey.{SortKey}
 use Rattle.calculus.specs.declared.statement.Statement.{Statement}
 use Rattle.calculus.specs.Limits.{most_attributes}
 use Rattle.calculus.specs.QueryParts.{vars_of, targets_of}
-use Rattle.calculus.specs.Replacement.{first_cause}
+use Rattle.calculus.specs.Replacement.{first_refusal}
 use Rattle.quel_meaning.specs.Scope.{Scope}
 use Rattle.quel_meaning.specs.Naming.{name_refusal}
 use Rattle.quel_meaning.specs.WrittenParts.{text_aggregates, vars_in}
@@ -31,11 +31,11 @@ use Rattle.quel_meaning.proofs.Slots.{slots_are}
 use Rattle.quel_meaning.proofs.Few.{listed_few}
 
 -- none of some causes is there
-pub none_of : (cs : Causes) → first_cause cs ≡ None → Each (λ c. c.1 ≡ false) cs
+pub none_of : (cs : Causes) → first_refusal cs ≡ None → Each (λ c. c.1 ≡ false) cs
 none_of [] h = tt
 none_of (c ∷ cs) h = go (none_of cs) c.1 refl h
   where
-    go : (first_cause cs ≡ None → Each (λ c. c.1 ≡ false) cs) → (b : Bool) → c.1 ≡ b → ◌≡◌ {A = Option ℕ} (elim b [ true ↦ Some c.0 | false ↦ first_cause cs ]) None
+    go : (first_refusal cs ≡ None → Each (λ c. c.1 ≡ false) cs) → (b : Bool) → c.1 ≡ b → ◌≡◌ {A = Option ℕ} (elim b [ true ↦ Some c.0 | false ↦ first_refusal cs ]) None
         → (c.1 ≡ false) × Each (λ c. c.1 ≡ false) cs
     go later true e h = absurd (cc h)
     go later false e h = (e, later h)

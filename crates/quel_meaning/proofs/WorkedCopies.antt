@@ -37,7 +37,7 @@ use Rattle.calculus.specs.VariableRows.{rows_of}
 use Rattle.quel_meaning.proofs.Small.{ann, key, attr, target, column, heap, one_relation, effects}
 use Rattle.quel_meaning.specs.Copying.{rows_in_file, file_of_rows, copied_from, copied_into, refusal, bad_row}
 use Rattle.quel_meaning.specs.Meaning.{tree_meaning, utility_effect}
-use Rattle.quel_meaning.specs.Planned.{planned, plan_causes, plan_change}
+use Rattle.quel_meaning.specs.Planned.{planned, plan_refusals, plan_change}
 use Rattle.fault_io.specs.Files.{fetched, stored}
 use Rattle.quel_meaning.specs.Tables.{table_of, some_query_lacks, sorted, rows_order}
 
@@ -75,7 +75,7 @@ stored_and_refused : effects db ((codes "in", codes "8\nx\n") ∷ []) (lines fal
     }
     ∷ record { db = db; shelf = (codes "in", codes "8\nx\n") ∷ (codes "out", codes "7\n") ∷ []; reply = Refused (bad_row 2) }
     ∷ []
-unfolding tree_meaning utility_effect copied_from copied_into rows_in_file file_of_rows fetched stored planned plan_causes plan_change laid table_of some_query_lacks sorted rows_order answer lacks rows_given some_lacks assigned rows_of aggregates range_at info_at catalogue_at may covers val holds attribute_value compared_values matched_value constant_text marks matches items fits_items text_of is_chars is_text_kind digits
+unfolding tree_meaning utility_effect copied_from copied_into rows_in_file file_of_rows fetched stored planned plan_refusals plan_change laid table_of some_query_lacks sorted rows_order answer lacks rows_given some_lacks assigned rows_of aggregates range_at info_at catalogue_at may covers val holds attribute_value compared_values matched_value constant_text marks matches items fits_items text_of is_chars is_text_kind digits
 stored_and_refused = refl
 
 -- a number and a text

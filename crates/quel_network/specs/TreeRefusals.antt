@@ -25,8 +25,8 @@ use Rattle.calculus.specs.Who.{Who, Unrestricted, Asker, AsUser}
 use Rattle.fault_io.specs.Files.{Files}
 use Rattle.quel_meaning.specs.Copying.{refusal, copied_from, copied_into, file_of_constant}
 use Rattle.quel_meaning.specs.Meaning.{change_effect, numbered_effect, file_effect, answer_reply, copy_effect, utility_effect, tree_meaning, checked_permitted, permitted_tree, judged_tree, judged_by, judged}
-use Rattle.quel_meaning.specs.Planned.{plan_causes, planned}
-use Rattle.quel_meaning.specs.Purpose.{cause_numbers}
+use Rattle.quel_meaning.specs.Planned.{plan_refusals, planned}
+use Rattle.quel_meaning.specs.Purpose.{refusal_numbers}
 use Rattle.quel_meaning.specs.Ranges.{Ranges}
 use Rattle.quel_meaning.specs.Resolved.{resolved}
 use Rattle.quel_meaning.specs.Tables.{table_of, some_query_lacks}
@@ -73,8 +73,8 @@ updated_known : (db : Db) (who : Who) (u : Update) (n : ℕ) → updated db who 
 unfolding updated
 updated_known db who u n e = caused_known (update_refusals db who u) _ n refl e
 
-plan_numbers_known : (db : Db) (user : List ℕ) (u : Utility) → list_all is_refusal_number (map (λ c. c.0) (plan_causes db user u)) ≡ true
-unfolding plan_causes
+plan_numbers_known : (db : Db) (user : List ℕ) (u : Utility) → list_all is_refusal_number (map (λ c. c.0) (plan_refusals db user u)) ≡ true
+unfolding plan_refusals
 plan_numbers_known db user (utility.Create rel attrs) = refl
 plan_numbers_known db user (utility.Destroy rels) = refl
 plan_numbers_known db user (utility.Modify rel to keys) = refl
@@ -89,7 +89,7 @@ plan_numbers_known db user (utility.DropRules rel numbers) = refl
 -- each number that may refuse a utility is one of a refusal
 planned_known : (db : Db) (user : List ℕ) (u : Utility) (n : ℕ) → planned db user u ≡ Err n → is_refusal_number n ≡ true
 unfolding planned
-planned_known db user u n e = caused_known (plan_causes db user u) _ n (plan_numbers_known db user u) e
+planned_known db user u n e = caused_known (plan_refusals db user u) _ n (plan_numbers_known db user u) e
 
 planned_has : (db : Db) (shelf : Files) (user : List ℕ) (u : Utility) (r : Refusal) → (numbered_effect db shelf (planned db user u)).reply ≡ reply.Refused r → HasSpelling r
 planned_has db shelf user u r e = numbered_effect_has db shelf (planned db user u) r (planned_known db user u) e
@@ -122,8 +122,8 @@ outcome_has asker tree db shelf r is e =
 
 -- ---- statements
 
-numbers_known : (s : Statement) → list_all is_refusal_number (10 ∷ 11 ∷ 12 ∷ cause_numbers s) ≡ true
-unfolding cause_numbers
+numbers_known : (s : Statement) → list_all is_refusal_number (10 ∷ 11 ∷ 12 ∷ refusal_numbers s) ≡ true
+unfolding refusal_numbers
 numbers_known (statement.Range var rel) = refl
 numbers_known (statement.Retrieve None items qual sort) = refl
 numbers_known (statement.Retrieve (Some name) items qual sort) = refl
@@ -155,7 +155,7 @@ judged_known db asker ranges s n e = go (resolved db asker.user ranges s) refl e
     go : (r : Result Checked ℕ) → resolved db asker.user ranges s ≡ r → judged_tree db asker r ≡ Err n → is_refusal_number n ≡ true
     go (Err m) f k =
         let same : m ≡ n = cc k in
-        subst (λ x. is_refusal_number x ≡ true) same (one_passes is_refusal_number (10 ∷ 11 ∷ 12 ∷ cause_numbers s) m (numbers_known s) (refused_by db asker.user ranges s m f))
+        subst (λ x. is_refusal_number x ≡ true) same (one_passes is_refusal_number (10 ∷ 11 ∷ 12 ∷ refusal_numbers s) m (numbers_known s) (refused_by db asker.user ranges s m f))
     go (Ok tree) f k = lacks tree (checked_permitted db (AsUser asker) tree) k
 
 range_has : (ranges : Ranges) (var : List ℕ) (info : Option RelInfo) (r : Refusal) → range_meaning ranges var info ≡ objects r → HasSpelling r

@@ -8,17 +8,17 @@ ghost use Rattle.calculus.specs.declared.statement.Item.{Item};
 ghost use Rattle.calculus.specs.declared.statement.Qual.{Qual};
 ghost use Rattle.calculus.specs.declared.statement.Statement.TheVariants as statement;
 ghost use Rattle.calculus.specs.QueryParts.{query_aggregates};
-ghost use Rattle.calculus.specs.Replacement.{first_cause};
+ghost use Rattle.calculus.specs.Replacement.{first_refusal};
 ghost use Rattle.quel_refusals.specs.Judged.{IsOn, is_judged, update_of};
 ghost use Rattle.quel_meaning.specs.Aggregates.{aggregates_stand, keeps_a_text};
-ghost use Rattle.quel_meaning.specs.Causes.{causes, causes_by};
+ghost use Rattle.quel_meaning.specs.Causes.{refusals, refusals_by};
 ghost use Rattle.quel_meaning.specs.Scope.{Scope};
 ghost use Rattle.quel_meaning.specs.WrittenQuery.{query_of};
 ghost use Rattle.view_sizes.specs.Listing.{sources_list_few};
 
-use crate::changed::{delete_cause, update_cause};
+use crate::changed::{delete_cause, update_refusal};
 use crate::created::create_cause;
-use crate::restricted::{permit_cause, rule_cause};
+use crate::restricted::{permit_cause, rule_refusal};
 use crate::retrieved::{into_cause, print_cause};
 use crate::viewed::view_cause;
 use am_traits::{Base, BaseFault};
@@ -34,7 +34,7 @@ fn retrieve_cause<B: Base>(
     sort: &[(Name, bool)],
     q: &Query,
 ) -> Result<Option<u8>, BaseFault>
-    ensures known { (s : Scope) (items : List Item) (qual : Qual) → B.schema base.old ≡ Some s.db → s.user ≡ user.now → sources_list_few q.now ≡ true → IfOk result (λ n. n ≡ first_cause (causes_by s true q.now (statement.Retrieve into.now items qual sort.now))) }
+    ensures known { (s : Scope) (items : List Item) (qual : Qual) → B.schema base.old ≡ Some s.db → s.user ≡ user.now → sources_list_few q.now ≡ true → IfOk result (λ n. n ≡ first_refusal (refusals_by s true q.now (statement.Retrieve into.now items qual sort.now))) }
     ensures kept { B.database base.new ≡ B.database base.old }
     ensures stays { (s : Db) → B.schema base.old ≡ Some s → B.schema base.new ≡ Some s }
     ensures asked { (b : B) → B.asked b base.old → B.asked b base.new }
@@ -47,13 +47,13 @@ fn retrieve_cause<B: Base>(
 }
 
 /// What refuses an append, a replacement or a deletion that is this update.
-fn changed_cause<B: Base>(
+fn changed_refusal<B: Base>(
     alloc: Global,
     base: &mut B,
     s: &Statement,
     u: &Update,
 ) -> Result<Option<u8>, BaseFault>
-    ensures known { (scope : Scope) (q : Query) → B.schema base.old ≡ Some scope.db → sources_list_few q ≡ true → Some u.now ≡ update_of scope s.now q → IfOk result (λ n. n ≡ first_cause (causes_by scope true q s.now)) }
+    ensures known { (scope : Scope) (q : Query) → B.schema base.old ≡ Some scope.db → sources_list_few q ≡ true → Some u.now ≡ update_of scope s.now q → IfOk result (λ n. n ≡ first_refusal (refusals_by scope true q s.now)) }
     ensures kept { B.database base.new ≡ B.database base.old }
     ensures stays { (s : Db) → B.schema base.old ≡ Some s → B.schema base.new ≡ Some s }
     ensures asked { (b : B) → B.asked b base.old → B.asked b base.new }
@@ -61,13 +61,13 @@ fn changed_cause<B: Base>(
 {
     match s {
         Statement::Delete { .. } => delete_cause(alloc, base, u),
-        _ => update_cause(alloc, base, u),
+        _ => update_refusal(alloc, base, u),
     }
 }
 
 /// What refuses a statement that is no update, whose query is this, and whose aggregates may stand: a
 /// view, a permit and a rule has none.
-fn unchanged_cause<B: Base>(
+fn unchanged_refusal<B: Base>(
     alloc: Global,
     base: &mut B,
     user: &Name,
@@ -75,7 +75,7 @@ fn unchanged_cause<B: Base>(
     q: &Query,
     on: Option<&RelInfo>,
 ) -> Result<Option<u8>, BaseFault>
-    ensures known { (scope : Scope) → B.schema base.old ≡ Some scope.db → scope.user ≡ user.now → sources_list_few q.now ≡ true → (keeps_a_text s.now ≡ true → query_aggregates q.now ≡ []) → None ≡ update_of scope s.now q.now → IsOn scope s.now (option_copied on.entry) → is_judged s.now ≡ true → IfOk result (λ n. n ≡ first_cause (causes_by scope true q.now s.now)) }
+    ensures known { (scope : Scope) → B.schema base.old ≡ Some scope.db → scope.user ≡ user.now → sources_list_few q.now ≡ true → (keeps_a_text s.now ≡ true → query_aggregates q.now ≡ []) → None ≡ update_of scope s.now q.now → IsOn scope s.now (option_copied on.entry) → is_judged s.now ≡ true → IfOk result (λ n. n ≡ first_refusal (refusals_by scope true q.now s.now)) }
     ensures kept { B.database base.new ≡ B.database base.old }
     ensures stays { (s : Db) → B.schema base.old ≡ Some s → B.schema base.new ≡ Some s }
     ensures asked { (b : B) → B.asked b base.old → B.asked b base.new }
@@ -88,7 +88,7 @@ fn unchanged_cause<B: Base>(
         Statement::Create { rel, attrs } => create_cause(alloc, base, user, rel, attrs.items()),
         Statement::View { name, .. } => view_cause(alloc, base, user, name, q),
         Statement::Permit { attrs, .. } => permit_cause(alloc, base, on, attrs.items(), q),
-        Statement::Rule { .. } => rule_cause(alloc, base, on, q),
+        Statement::Rule { .. } => rule_refusal(alloc, base, on, q),
         _ => Ok(None),
     }
 }
@@ -106,14 +106,14 @@ pub fn cause<B: Base>(
     update: Option<&Update>,
     on: Option<&RelInfo>,
 ) -> Result<Option<u8>, BaseFault>
-    ensures known { (scope : Scope) → B.schema base.old ≡ Some scope.db → scope.user ≡ user.now → q.now ≡ query_of scope s.now → option_map (λ v. v.now) update.entry ≡ update_of scope s.now q.now → IsOn scope s.now (option_copied on.entry) → aggregates_stand scope s.now ≡ true → is_judged s.now ≡ true → IfOk result (λ n. n ≡ first_cause (causes scope s.now)) }
+    ensures known { (scope : Scope) → B.schema base.old ≡ Some scope.db → scope.user ≡ user.now → q.now ≡ query_of scope s.now → option_map (λ v. v.now) update.entry ≡ update_of scope s.now q.now → IsOn scope s.now (option_copied on.entry) → aggregates_stand scope s.now ≡ true → is_judged s.now ≡ true → IfOk result (λ n. n ≡ first_refusal (refusals scope s.now)) }
     ensures kept { B.database base.new ≡ B.database base.old }
     ensures stays { (s : Db) → B.schema base.old ≡ Some s → B.schema base.new ≡ Some s }
     ensures asked { (b : B) → B.asked b base.old → B.asked b base.new }
     ensures cause { HasCause (B.database base.old) (B.faults base.old) (B.faults base.new) result }
 {
     match update {
-        Some(u) => changed_cause(alloc, base, s, u),
-        None => unchanged_cause(alloc, base, user, s, q, on),
+        Some(u) => changed_refusal(alloc, base, s, u),
+        None => unchanged_refusal(alloc, base, user, s, q, on),
     }
 }

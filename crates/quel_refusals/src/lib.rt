@@ -19,7 +19,7 @@ mod terms;
 mod viewed;
 mod widths;
 
-pub use changed::relation_cause;
+pub use changed::relation_refusal;
 pub use counted::has_too_many;
 pub use fitting::{assignments_fit, has_kind, query_fits, same_kind, targets_fit};
 pub use judging::cause;

@@ -9,12 +9,12 @@ ghost use Rattle.calculus.specs.Kinds.{kinds_fit};
 ghost use Rattle.calculus.specs.QueryParts.{qual_of, query_aggregates, vars_of};
 ghost use Rattle.calculus.specs.Sizes.{qual_size};
 ghost use Rattle.view_sizes.specs.Sized.{qual_depth};
-ghost use Rattle.calculus.specs.Replacement.{first_cause};
+ghost use Rattle.calculus.specs.Replacement.{first_refusal};
 ghost use Rattle.calculus.specs.Storable.{row_qual_is_small};
 ghost use Rattle.calculus.specs.declared.statement.Qual.{Qual as WrittenQual};
 ghost use Rattle.calculus.specs.declared.statement.Statement.TheVariants as statement;
 ghost use Rattle.quel_refusals.specs.Judged.{IsOver};
-ghost use Rattle.quel_meaning.specs.Causes.{causes_by};
+ghost use Rattle.quel_meaning.specs.Causes.{refusals_by};
 ghost use Rattle.quel_meaning.specs.Planned.{greatest, is_past_limit};
 ghost use Rattle.quel_meaning.specs.Scope.{Scope};
 
@@ -149,7 +149,7 @@ fn row_cause<B: Base>(
     no_room: bool,
     q: &Query,
 ) -> Result<Option<u8>, BaseFault>
-    ensures known { (db : Db) → B.schema base.old ≡ Some db → query_aggregates q.now ≡ [] → IfOk result (λ n. n ≡ first_cause ((14, nat_lt 1 (length (vars_of q.now)) || (no_room || not (row_qual_is_small (qual_of q.now)))) ∷ (13, not (row_qual_stands db rel.now (qual_of q.now))) ∷ [])) }
+    ensures known { (db : Db) → B.schema base.old ≡ Some db → query_aggregates q.now ≡ [] → IfOk result (λ n. n ≡ first_refusal ((14, nat_lt 1 (length (vars_of q.now)) || (no_room || not (row_qual_is_small (qual_of q.now)))) ∷ (13, not (row_qual_stands db rel.now (qual_of q.now))) ∷ [])) }
     ensures kept { B.database base.new ≡ B.database base.old }
     ensures stays { (s : Db) → B.schema base.old ≡ Some s → B.schema base.new ≡ Some s }
     ensures asked { (b : B) → B.asked b base.old → B.asked b base.new }
@@ -172,7 +172,7 @@ pub(crate) fn permit_cause<B: Base>(
     attrs: &[Name],
     q: &Query,
 ) -> Result<Option<u8>, BaseFault>
-    ensures known { (s : Scope) (ops : ℕ) (var : List ℕ) (user : Option (List ℕ)) (qual : WrittenQual) → B.schema base.old ≡ Some s.db → IsOver s var (option_copied on.entry) → query_aggregates q.now ≡ [] → IfOk result (λ n. n ≡ first_cause (causes_by s true q.now (statement.Permit ops var attrs.now user qual))) }
+    ensures known { (s : Scope) (ops : ℕ) (var : List ℕ) (user : Option (List ℕ)) (qual : WrittenQual) → B.schema base.old ≡ Some s.db → IsOver s var (option_copied on.entry) → query_aggregates q.now ≡ [] → IfOk result (λ n. n ≡ first_refusal (refusals_by s true q.now (statement.Permit ops var attrs.now user qual))) }
     ensures kept { B.database base.new ≡ B.database base.old }
     ensures stays { (s : Db) → B.schema base.old ≡ Some s → B.schema base.new ≡ Some s }
     ensures asked { (b : B) → B.asked b base.old → B.asked b base.new }
@@ -186,13 +186,13 @@ pub(crate) fn permit_cause<B: Base>(
 }
 
 /// What refuses a rule with this query, where this is known of what its variable ranges over.
-pub(crate) fn rule_cause<B: Base>(
+pub(crate) fn rule_refusal<B: Base>(
     alloc: Global,
     base: &mut B,
     on: Option<&RelInfo>,
     q: &Query,
 ) -> Result<Option<u8>, BaseFault>
-    ensures known { (s : Scope) (var : List ℕ) (qual : WrittenQual) → B.schema base.old ≡ Some s.db → IsOver s var (option_copied on.entry) → query_aggregates q.now ≡ [] → IfOk result (λ n. n ≡ first_cause (causes_by s true q.now (statement.Rule var qual))) }
+    ensures known { (s : Scope) (var : List ℕ) (qual : WrittenQual) → B.schema base.old ≡ Some s.db → IsOver s var (option_copied on.entry) → query_aggregates q.now ≡ [] → IfOk result (λ n. n ≡ first_refusal (refusals_by s true q.now (statement.Rule var qual))) }
     ensures kept { B.database base.new ≡ B.database base.old }
     ensures stays { (s : Db) → B.schema base.old ≡ Some s → B.schema base.new ≡ Some s }
     ensures asked { (b : B) → B.asked b base.old → B.asked b base.new }

@@ -4,8 +4,8 @@ ghost use Rattle.std.specs.Prelude.{◌≡◌, ◌∷◌, ◌||◌, [], not, tru
 ghost use Rattle.am_traits.specs.Causes.{HasCause};
 ghost use Rattle.calculus.specs.Database.{Db};
 ghost use Rattle.calculus.specs.QueryParts.{targets_of};
-ghost use Rattle.calculus.specs.Replacement.{first_cause, made_attr};
-ghost use Rattle.quel_meaning.specs.Causes.{into_causes, made_kinds, print_causes, sorts_by_titles};
+ghost use Rattle.calculus.specs.Replacement.{first_refusal, made_attr};
+ghost use Rattle.quel_meaning.specs.Causes.{into_refusals, made_kinds, print_refusals, sorts_by_titles};
 ghost use Rattle.quel_meaning.specs.Passing.{has_too_many, is_full, is_taken, is_too_wide};
 ghost use Rattle.quel_meaning.specs.Scope.{Scope};
 ghost use Rattle.view_sizes.specs.Listing.{sources_list_few};
@@ -28,7 +28,7 @@ fn row_cause(
     targets: &[Target],
     sort: &[(Name, bool)],
 ) -> Result<Option<u8>, OutOfMemory>
-    ensures { IfOk result (λ n. n ≡ first_cause ((12, not (sorts_by_titles targets.now sort.now)) ∷ (16, is_too_wide (map (λ t. t.kind) targets.now)) ∷ [])) }
+    ensures { IfOk result (λ n. n ≡ first_refusal ((12, not (sorts_by_titles targets.now sort.now)) ∷ (16, is_too_wide (map (λ t. t.kind) targets.now)) ∷ [])) }
 {
     if !sorts_by_titles(alloc, targets, sort)? {
         return Ok(Some(NO_ATTRIBUTE));
@@ -46,7 +46,7 @@ pub(crate) fn print_cause<B: Base>(
     sort: &[(Name, bool)],
     q: &Query,
 ) -> Result<Option<u8>, BaseFault>
-    ensures known { (s : Scope) → B.schema base.old ≡ Some s.db → sources_list_few q.now ≡ true → IfOk result (λ n. n ≡ first_cause (print_causes s true sort.now q.now)) }
+    ensures known { (s : Scope) → B.schema base.old ≡ Some s.db → sources_list_few q.now ≡ true → IfOk result (λ n. n ≡ first_refusal (print_refusals s true sort.now q.now)) }
     ensures kept { B.database base.new ≡ B.database base.old }
     ensures stays { (s : Db) → B.schema base.old ≡ Some s → B.schema base.new ≡ Some s }
     ensures asked { (b : B) → B.asked b base.old → B.asked b base.new }
@@ -87,7 +87,7 @@ fn made_cause(
     targets: &[Target],
     sort: &[(Name, bool)],
 ) -> Result<Option<u8>, OutOfMemory>
-    ensures { IfOk result (λ n. n ≡ first_cause ((12, not (sorts_by_titles targets.now sort.now)) ∷ (16, is_too_wide (map (λ t. (made_attr t).kind) targets.now)) ∷ [])) }
+    ensures { IfOk result (λ n. n ≡ first_refusal ((12, not (sorts_by_titles targets.now sort.now)) ∷ (16, is_too_wide (map (λ t. (made_attr t).kind) targets.now)) ∷ [])) }
 {
     if !sorts_by_titles(alloc, targets, sort)? {
         return Ok(Some(NO_ATTRIBUTE));
@@ -99,13 +99,13 @@ fn made_cause(
 }
 
 /// What refuses a new name of the user's: that it is in use.
-pub(crate) fn name_cause<B: Base>(
+pub(crate) fn name_refusal<B: Base>(
     alloc: Global,
     base: &mut B,
     user: &Name,
     name: &Name,
 ) -> Result<Option<u8>, BaseFault>
-    ensures known { (db : Db) → B.schema base.old ≡ Some db → IfOk result (λ n. n ≡ first_cause ((15, is_taken db user.now name.now) ∷ [])) }
+    ensures known { (db : Db) → B.schema base.old ≡ Some db → IfOk result (λ n. n ≡ first_refusal ((15, is_taken db user.now name.now) ∷ [])) }
     ensures kept { B.database base.new ≡ B.database base.old }
     ensures stays { (s : Db) → B.schema base.old ≡ Some s → B.schema base.new ≡ Some s }
     ensures asked { (b : B) → B.asked b base.old → B.asked b base.new }
@@ -128,7 +128,7 @@ fn kept_cause<B: Base>(
     sort: &[(Name, bool)],
     q: &Query,
 ) -> Result<Option<u8>, BaseFault>
-    ensures known { (s : Scope) → B.schema base.old ≡ Some s.db → s.user ≡ user.now → IfOk result (λ n. n ≡ first_cause ((12, not (sorts_by_titles (targets_of q.now) sort.now)) ∷ (16, is_too_wide (made_kinds q.now)) ∷ (15, is_taken s.db s.user name.now) ∷ [])) }
+    ensures known { (s : Scope) → B.schema base.old ≡ Some s.db → s.user ≡ user.now → IfOk result (λ n. n ≡ first_refusal ((12, not (sorts_by_titles (targets_of q.now) sort.now)) ∷ (16, is_too_wide (made_kinds q.now)) ∷ (15, is_taken s.db s.user name.now) ∷ [])) }
     ensures kept { B.database base.new ≡ B.database base.old }
     ensures stays { (s : Db) → B.schema base.old ≡ Some s → B.schema base.new ≡ Some s }
     ensures asked { (b : B) → B.asked b base.old → B.asked b base.new }
@@ -136,7 +136,7 @@ fn kept_cause<B: Base>(
 {
     match made_cause(alloc, q.targets.items(), sort)? {
         Some(number) => Ok(Some(number)),
-        None => name_cause(alloc, base, user, name),
+        None => name_refusal(alloc, base, user, name),
     }
 }
 
@@ -149,7 +149,7 @@ pub(crate) fn into_cause<B: Base>(
     sort: &[(Name, bool)],
     q: &Query,
 ) -> Result<Option<u8>, BaseFault>
-    ensures known { (s : Scope) → B.schema base.old ≡ Some s.db → s.user ≡ user.now → sources_list_few q.now ≡ true → IfOk result (λ n. n ≡ first_cause (into_causes s true name.now sort.now q.now)) }
+    ensures known { (s : Scope) → B.schema base.old ≡ Some s.db → s.user ≡ user.now → sources_list_few q.now ≡ true → IfOk result (λ n. n ≡ first_refusal (into_refusals s true name.now sort.now q.now)) }
     ensures kept { B.database base.new ≡ B.database base.old }
     ensures stays { (s : Db) → B.schema base.old ≡ Some s → B.schema base.new ≡ Some s }
     ensures asked { (b : B) → B.asked b base.old → B.asked b base.new }

@@ -4,15 +4,15 @@ ghost use Rattle.std.specs.Prelude.{◌≡◌, ◌∷◌, ◌||◌, ◌≤◌, [
 ghost use Rattle.am_traits.specs.Causes.{HasCause};
 ghost use Rattle.calculus.specs.Database.{Db};
 ghost use Rattle.calculus.specs.QueryParts.{query_aggregates, vars_of};
-ghost use Rattle.calculus.specs.Replacement.{first_cause};
+ghost use Rattle.calculus.specs.Replacement.{first_refusal};
 ghost use Rattle.calculus.specs.TreeLevels.{query_levels};
-ghost use Rattle.quel_meaning.specs.Causes.{target_kinds, view_causes};
+ghost use Rattle.quel_meaning.specs.Causes.{target_kinds, view_refusals};
 ghost use Rattle.quel_meaning.specs.Passing.{has_too_many, is_full, is_taken, is_too_large, is_too_wide};
 ghost use Rattle.quel_meaning.specs.Scope.{Scope};
 
 use crate::fitting::query_fits;
 use crate::repeated::titles_repeat;
-use crate::retrieved::{has_no_room, name_cause};
+use crate::retrieved::{has_no_room, name_refusal};
 use crate::widths::{is_too_wide, target_kinds};
 use am_traits::{Base, BaseFault};
 use calculus::limits::MOST_SIZE;
@@ -83,7 +83,7 @@ fn shown_cause<B: Base>(
     name: &Name,
     q: &Query,
 ) -> Result<Option<u8>, BaseFault>
-    ensures known { (s : Scope) → B.schema base.old ≡ Some s.db → s.user ≡ user.now → IfOk result (λ n. n ≡ first_cause ((16, is_too_wide (target_kinds q.now)) ∷ (15, is_taken s.db s.user name.now) ∷ [])) }
+    ensures known { (s : Scope) → B.schema base.old ≡ Some s.db → s.user ≡ user.now → IfOk result (λ n. n ≡ first_refusal ((16, is_too_wide (target_kinds q.now)) ∷ (15, is_taken s.db s.user name.now) ∷ [])) }
     ensures kept { B.database base.new ≡ B.database base.old }
     ensures stays { (s : Db) → B.schema base.old ≡ Some s → B.schema base.new ≡ Some s }
     ensures asked { (b : B) → B.asked b base.old → B.asked b base.new }
@@ -92,7 +92,7 @@ fn shown_cause<B: Base>(
     if is_wide(alloc, q)? {
         return Ok(Some(TOO_WIDE));
     }
-    name_cause(alloc, base, user, name)
+    name_refusal(alloc, base, user, name)
 }
 
 /// What refuses a view of this name with a query without aggregates.
@@ -103,7 +103,7 @@ pub(crate) fn view_cause<B: Base>(
     name: &Name,
     q: &Query,
 ) -> Result<Option<u8>, BaseFault>
-    ensures known { (s : Scope) → B.schema base.old ≡ Some s.db → s.user ≡ user.now → query_aggregates q.now ≡ [] → IfOk result (λ n. n ≡ first_cause (view_causes s true name.now q.now)) }
+    ensures known { (s : Scope) → B.schema base.old ≡ Some s.db → s.user ≡ user.now → query_aggregates q.now ≡ [] → IfOk result (λ n. n ≡ first_refusal (view_refusals s true name.now q.now)) }
     ensures kept { B.database base.new ≡ B.database base.old }
     ensures stays { (s : Db) → B.schema base.old ≡ Some s → B.schema base.new ≡ Some s }
     ensures asked { (b : B) → B.asked b base.old → B.asked b base.new }

@@ -2,11 +2,11 @@
 
 ghost use Rattle.std.specs.Prelude.{◌≡◌, ◌+◌, ◌≤◌, ℕ, List, Some, None, true, length, map, nat_lt};
 ghost use Rattle.calculus.specs.Database.{Db};
-ghost use Rattle.calculus.specs.Replacement.{first_cause};
+ghost use Rattle.calculus.specs.Replacement.{first_refusal};
 ghost use Rattle.quel_refusals.specs.Judged.{is_judged};
 ghost use Rattle.quel_check.specs.Known.{inner_vars};
 ghost use Rattle.quel_meaning.specs.Aggregates.{aggregates_stand};
-ghost use Rattle.quel_meaning.specs.Causes.{causes};
+ghost use Rattle.quel_meaning.specs.Causes.{refusals};
 ghost use Rattle.quel_meaning.specs.Naming.{name_refusal};
 ghost use Rattle.quel_meaning.specs.Scope.{ranged};
 ghost use Rattle.quel_meaning.specs.WrittenParts.{vars_in};
@@ -39,7 +39,7 @@ fn query_known<B: Base>(
 ) -> Result<Query, CheckFault>
     ensures known { (db : Db) (user : List ℕ) → B.schema base.old ≡ Some db → name_refusal (scope_of db user ranges.now) s.now ≡ None → aggregates_stand (scope_of db user ranges.now) s.now ≡ true
         → vars.now ≡ vars_in s.now → inner.now ≡ inner_vars s.now → length vars.now + length inner.now ≤ 10 → map (ranged (scope_of db user ranges.now)) vars.now ≡ map Some infos.now
-        → Says (λ q. q ≡ query_of (scope_of db user ranges.now) s.now) (λ number. first_cause (causes (scope_of db user ranges.now) s.now) ≡ Some number) result }
+        → Says (λ q. q ≡ query_of (scope_of db user ranges.now) s.now) (λ number. first_refusal (refusals (scope_of db user ranges.now) s.now) ≡ Some number) result }
     ensures kept { B.database base.new ≡ B.database base.old }
     ensures stays { (s : Db) → B.schema base.old ≡ Some s → B.schema base.new ≡ Some s }
     ensures asked { (b : B) → B.asked b base.old → B.asked b base.new }
@@ -73,7 +73,7 @@ fn query_over<B: Base>(
 ) -> Result<Query, CheckFault>
     ensures known { (db : Db) (user : List ℕ) → B.schema base.old ≡ Some db → name_refusal (scope_of db user ranges.now) s.now ≡ None → aggregates_stand (scope_of db user ranges.now) s.now ≡ true
         → vars.now ≡ vars_in s.now → inner.now ≡ inner_vars s.now → length vars.now + length inner.now ≤ 10
-        → Says (λ q. q ≡ query_of (scope_of db user ranges.now) s.now) (λ number. first_cause (causes (scope_of db user ranges.now) s.now) ≡ Some number) result }
+        → Says (λ q. q ≡ query_of (scope_of db user ranges.now) s.now) (λ number. first_refusal (refusals (scope_of db user ranges.now) s.now) ≡ Some number) result }
     ensures kept { B.database base.new ≡ B.database base.old }
     ensures stays { (s : Db) → B.schema base.old ≡ Some s → B.schema base.new ≡ Some s }
     ensures asked { (b : B) → B.asked b base.old → B.asked b base.new }
@@ -109,7 +109,7 @@ fn query_within<B: Base>(
 ) -> Result<Query, CheckFault>
     ensures known { (db : Db) (user : List ℕ) → B.schema base.old ≡ Some db → name_refusal (scope_of db user ranges.now) s.now ≡ None → is_judged s.now ≡ true → aggregates_stand (scope_of db user ranges.now) s.now ≡ true
         → vars.now ≡ vars_in s.now → inner.now ≡ inner_vars s.now
-        → Says (λ q. q ≡ query_of (scope_of db user ranges.now) s.now) (λ number. first_cause (causes (scope_of db user ranges.now) s.now) ≡ Some number) result }
+        → Says (λ q. q ≡ query_of (scope_of db user ranges.now) s.now) (λ number. first_refusal (refusals (scope_of db user ranges.now) s.now) ≡ Some number) result }
     ensures kept { B.database base.new ≡ B.database base.old }
     ensures stays { (s : Db) → B.schema base.old ≡ Some s → B.schema base.new ≡ Some s }
     ensures asked { (b : B) → B.asked b base.old → B.asked b base.new }
@@ -132,7 +132,7 @@ fn query_beside<B: Base>(
 ) -> Result<Query, CheckFault>
     ensures known { (db : Db) (user : List ℕ) → B.schema base.old ≡ Some db → name_refusal (scope_of db user ranges.now) s.now ≡ None → is_judged s.now ≡ true → aggregates_stand (scope_of db user ranges.now) s.now ≡ true
         → vars.now ≡ vars_in s.now
-        → Says (λ q. q ≡ query_of (scope_of db user ranges.now) s.now) (λ number. first_cause (causes (scope_of db user ranges.now) s.now) ≡ Some number) result }
+        → Says (λ q. q ≡ query_of (scope_of db user ranges.now) s.now) (λ number. first_refusal (refusals (scope_of db user ranges.now) s.now) ≡ Some number) result }
     ensures kept { B.database base.new ≡ B.database base.old }
     ensures stays { (s : Db) → B.schema base.old ≡ Some s → B.schema base.new ≡ Some s }
     ensures asked { (b : B) → B.asked b base.old → B.asked b base.new }
@@ -153,7 +153,7 @@ fn query_standing<B: Base>(
     s: &Statement,
 ) -> Result<Query, CheckFault>
     ensures known { (db : Db) (user : List ℕ) → B.schema base.old ≡ Some db → name_refusal (scope_of db user ranges.now) s.now ≡ None → is_judged s.now ≡ true → aggregates_stand (scope_of db user ranges.now) s.now ≡ true
-        → Says (λ q. q ≡ query_of (scope_of db user ranges.now) s.now) (λ number. first_cause (causes (scope_of db user ranges.now) s.now) ≡ Some number) result }
+        → Says (λ q. q ≡ query_of (scope_of db user ranges.now) s.now) (λ number. first_refusal (refusals (scope_of db user ranges.now) s.now) ≡ Some number) result }
     ensures kept { B.database base.new ≡ B.database base.old }
     ensures stays { (s : Db) → B.schema base.old ≡ Some s → B.schema base.new ≡ Some s }
     ensures asked { (b : B) → B.asked b base.old → B.asked b base.new }
@@ -176,7 +176,7 @@ pub(crate) fn query<B: Base>(
     s: &Statement,
 ) -> Result<Query, CheckFault>
     ensures known { (db : Db) (user : List ℕ) → B.schema base.old ≡ Some db → name_refusal (scope_of db user ranges.now) s.now ≡ None → is_judged s.now ≡ true
-        → Says (λ q. (q ≡ query_of (scope_of db user ranges.now) s.now) × (aggregates_stand (scope_of db user ranges.now) s.now ≡ true)) (λ number. first_cause (causes (scope_of db user ranges.now) s.now) ≡ Some number) result }
+        → Says (λ q. (q ≡ query_of (scope_of db user ranges.now) s.now) × (aggregates_stand (scope_of db user ranges.now) s.now ≡ true)) (λ number. first_refusal (refusals (scope_of db user ranges.now) s.now) ≡ Some number) result }
     ensures kept { B.database base.new ≡ B.database base.old }
     ensures stays { (s : Db) → B.schema base.old ≡ Some s → B.schema base.new ≡ Some s }
     ensures asked { (b : B) → B.asked b base.old → B.asked b base.new }

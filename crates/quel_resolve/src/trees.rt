@@ -3,11 +3,11 @@
 ghost use Rattle.std.specs.Prelude.{◌≡◌, ℕ, [], Option, Some, None, true, false, option_copied};
 ghost use Rattle.calculus.specs.IsDatabase.{IsDatabase};
 ghost use Rattle.calculus.specs.Database.{Db};
-ghost use Rattle.calculus.specs.Replacement.{first_cause};
+ghost use Rattle.calculus.specs.Replacement.{first_refusal};
 ghost use Rattle.calculus.specs.declared.request.Checked.TheVariants.{Answer};
 ghost use Rattle.quel_refusals.specs.Judged.{is_judged, update_of};
 ghost use Rattle.quel_meaning.specs.Aggregates.{aggregates_stand};
-ghost use Rattle.quel_meaning.specs.Causes.{causes};
+ghost use Rattle.quel_meaning.specs.Causes.{refusals};
 ghost use Rattle.quel_meaning.specs.Naming.{name_refusal};
 ghost use Rattle.quel_meaning.specs.Resolved.{tree_of};
 ghost use Rattle.quel_meaning.specs.Scope.{Scope};
@@ -40,7 +40,7 @@ fn updated<B: Base>(
     q: Query,
 ) -> Result<Checked, CheckFault>
     ensures known { (scope : Scope) → B.schema base.old ≡ Some scope.db → scope.user ≡ user.now → q ≡ query_of scope s.now → changed scope s.now ≡ Some info.now → changes_rows s.now ≡ true → is_judged s.now ≡ true → aggregates_stand scope s.now ≡ true
-        → Says (λ tree. (tree ≡ tree_of scope s.now) × (first_cause (causes scope s.now) ≡ None)) (λ number. first_cause (causes scope s.now) ≡ Some number) result }
+        → Says (λ tree. (tree ≡ tree_of scope s.now) × (first_refusal (refusals scope s.now) ≡ None)) (λ number. first_refusal (refusals scope s.now) ≡ Some number) result }
     ensures kept { B.database base.new ≡ B.database base.old }
     ensures stays { (s : Db) → B.schema base.old ≡ Some s → B.schema base.new ≡ Some s }
     ensures asked { (b : B) → B.asked b base.old → B.asked b base.new }
@@ -60,8 +60,8 @@ fn asked(
     on: Option<&RelInfo>,
     q: Query,
 ) -> Result<Checked, CheckFault>
-    ensures known { (scope : Scope) → IsDatabase scope.db → scope.user ≡ user.now → q ≡ query_of scope s.now → None ≡ update_of scope s.now q → changed scope s.now ≡ option_copied on.entry → has_tree s.now (option_copied on.entry) ≡ true → is_judged s.now ≡ true → is_range s.now ≡ false → first_cause (causes scope s.now) ≡ None
-        → Says (λ tree. (tree ≡ tree_of scope s.now) × (first_cause (causes scope s.now) ≡ None)) (λ number. first_cause (causes scope s.now) ≡ Some number) result }
+    ensures known { (scope : Scope) → IsDatabase scope.db → scope.user ≡ user.now → q ≡ query_of scope s.now → None ≡ update_of scope s.now q → changed scope s.now ≡ option_copied on.entry → has_tree s.now (option_copied on.entry) ≡ true → is_judged s.now ≡ true → is_range s.now ≡ false → first_refusal (refusals scope s.now) ≡ None
+        → Says (λ tree. (tree ≡ tree_of scope s.now) × (first_refusal (refusals scope s.now) ≡ None)) (λ number. first_refusal (refusals scope s.now) ≡ Some number) result }
     ensures no_fault { (known : Option Db) (before now : ℕ) → now ≡ before → IsCaused known before now result }
 {
     match tree_by(alloc, user, s, q, on)? {
@@ -82,7 +82,7 @@ fn made<B: Base>(
     q: Query,
 ) -> Result<Checked, CheckFault>
     ensures known { (scope : Scope) → B.schema base.old ≡ Some scope.db → scope.user ≡ user.now → q ≡ query_of scope s.now → None ≡ update_of scope s.now q → changed scope s.now ≡ option_copied on.entry → has_tree s.now (option_copied on.entry) ≡ true → is_judged s.now ≡ true → aggregates_stand scope s.now ≡ true → is_range s.now ≡ false
-        → Says (λ tree. (tree ≡ tree_of scope s.now) × (first_cause (causes scope s.now) ≡ None)) (λ number. first_cause (causes scope s.now) ≡ Some number) result }
+        → Says (λ tree. (tree ≡ tree_of scope s.now) × (first_refusal (refusals scope s.now) ≡ None)) (λ number. first_refusal (refusals scope s.now) ≡ Some number) result }
     ensures kept { B.database base.new ≡ B.database base.old }
     ensures stays { (s : Db) → B.schema base.old ≡ Some s → B.schema base.new ≡ Some s }
     ensures asked { (b : B) → B.asked b base.old → B.asked b base.new }
@@ -107,7 +107,7 @@ fn changing<B: Base>(
     q: Query,
 ) -> Result<Checked, CheckFault>
     ensures known { (scope : Scope) → B.schema base.old ≡ Some scope.db → scope.user ≡ user.now → q ≡ query_of scope s.now → changed scope s.now ≡ Some info.now → is_judged s.now ≡ true → aggregates_stand scope s.now ≡ true → is_range s.now ≡ false
-        → Says (λ tree. (tree ≡ tree_of scope s.now) × (first_cause (causes scope s.now) ≡ None)) (λ number. first_cause (causes scope s.now) ≡ Some number) result }
+        → Says (λ tree. (tree ≡ tree_of scope s.now) × (first_refusal (refusals scope s.now) ≡ None)) (λ number. first_refusal (refusals scope s.now) ≡ Some number) result }
     ensures kept { B.database base.new ≡ B.database base.old }
     ensures stays { (s : Db) → B.schema base.old ≡ Some s → B.schema base.new ≡ Some s }
     ensures asked { (b : B) → B.asked b base.old → B.asked b base.new }
@@ -131,7 +131,7 @@ fn tree_over<B: Base>(
     q: Query,
 ) -> Result<Checked, CheckFault>
     ensures known { (db : Db) → B.schema base.old ≡ Some db → q ≡ query_of (scope_of db user.now ranges.now) s.now → name_refusal (scope_of db user.now ranges.now) s.now ≡ None → is_judged s.now ≡ true → aggregates_stand (scope_of db user.now ranges.now) s.now ≡ true → is_range s.now ≡ false → changes ≡ changed (scope_of db user.now ranges.now) s.now
-        → Says (λ tree. (tree ≡ tree_of (scope_of db user.now ranges.now) s.now) × (first_cause (causes (scope_of db user.now ranges.now) s.now) ≡ None)) (λ number. first_cause (causes (scope_of db user.now ranges.now) s.now) ≡ Some number) result }
+        → Says (λ tree. (tree ≡ tree_of (scope_of db user.now ranges.now) s.now) × (first_refusal (refusals (scope_of db user.now ranges.now) s.now) ≡ None)) (λ number. first_refusal (refusals (scope_of db user.now ranges.now) s.now) ≡ Some number) result }
     ensures kept { B.database base.new ≡ B.database base.old }
     ensures stays { (s : Db) → B.schema base.old ≡ Some s → B.schema base.new ≡ Some s }
     ensures asked { (b : B) → B.asked b base.old → B.asked b base.new }
@@ -153,7 +153,7 @@ fn tree_with<B: Base>(
     q: Query,
 ) -> Result<Checked, CheckFault>
     ensures known { (db : Db) → B.schema base.old ≡ Some db → q ≡ query_of (scope_of db user.now ranges.now) s.now → name_refusal (scope_of db user.now ranges.now) s.now ≡ None → is_judged s.now ≡ true → aggregates_stand (scope_of db user.now ranges.now) s.now ≡ true → is_range s.now ≡ false
-        → Says (λ tree. (tree ≡ tree_of (scope_of db user.now ranges.now) s.now) × (first_cause (causes (scope_of db user.now ranges.now) s.now) ≡ None)) (λ number. first_cause (causes (scope_of db user.now ranges.now) s.now) ≡ Some number) result }
+        → Says (λ tree. (tree ≡ tree_of (scope_of db user.now ranges.now) s.now) × (first_refusal (refusals (scope_of db user.now ranges.now) s.now) ≡ None)) (λ number. first_refusal (refusals (scope_of db user.now ranges.now) s.now) ≡ Some number) result }
     ensures kept { B.database base.new ≡ B.database base.old }
     ensures stays { (s : Db) → B.schema base.old ≡ Some s → B.schema base.new ≡ Some s }
     ensures asked { (b : B) → B.asked b base.old → B.asked b base.new }
@@ -185,7 +185,7 @@ pub(crate) fn tree<B: Base>(
     s: &Statement,
 ) -> Result<Checked, CheckFault>
     ensures known { (db : Db) → B.schema base.old ≡ Some db → name_refusal (scope_of db user.now ranges.now) s.now ≡ None → is_judged s.now ≡ true
-        → Says (λ tree. (tree ≡ tree_of (scope_of db user.now ranges.now) s.now) × (first_cause (causes (scope_of db user.now ranges.now) s.now) ≡ None)) (λ number. first_cause (causes (scope_of db user.now ranges.now) s.now) ≡ Some number) result }
+        → Says (λ tree. (tree ≡ tree_of (scope_of db user.now ranges.now) s.now) × (first_refusal (refusals (scope_of db user.now ranges.now) s.now) ≡ None)) (λ number. first_refusal (refusals (scope_of db user.now ranges.now) s.now) ≡ Some number) result }
     ensures kept { B.database base.new ≡ B.database base.old }
     ensures stays { (s : Db) → B.schema base.old ≡ Some s → B.schema base.new ≡ Some s }
     ensures asked { (b : B) → B.asked b base.old → B.asked b base.new }

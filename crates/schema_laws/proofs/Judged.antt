@@ -33,7 +33,7 @@ use Rattle.calculus.specs.Stored.{kinds_at, attrs_in}
 use Rattle.calculus.specs.QueryParts.{vars_of, targets_of, qual_of, query_aggregates}
 use Rattle.calculus.specs.Sizes.{Known, measure_of, source_variables}
 use Rattle.calculus.specs.IsDatabase.{has_kind, var_kinds, row_qual_stands}
-use Rattle.calculus.specs.Replacement.{first_cause, wanted_kinds}
+use Rattle.calculus.specs.Replacement.{first_refusal, wanted_kinds}
 use Rattle.calculus.specs.Schema.{schema_of}
 use Rattle.calculus.specs.Tree.{query}
 use Rattle.calculus.specs.Catalogue.{is_catalogue_name}
@@ -49,7 +49,7 @@ use Rattle.quel_meaning.specs.KindsInQueries.{kinds_fit_in_query, query_fits, as
 use Rattle.quel_meaning.specs.WrittenQuery.{query_of}
 use Rattle.quel_meaning.specs.Passing.{has_too_many, is_full, is_too_high, is_too_large, is_taken, listed_variables, is_too_wide}
 use Rattle.quel_meaning.specs.StatementUpdate.{append_of, replace_of, delete_of, into_of, changing, titles_of}
-use Rattle.quel_meaning.specs.Causes.{Causes, causes_by, causes, print_causes, into_causes, changed_causes, update_causes, delete_causes, view_causes, row_causes, sorts_by_titles, target_kinds, made_kinds, repeats, is_binary, is_binary_text}
+use Rattle.quel_meaning.specs.Causes.{Causes, refusals_by, refusals, print_refusals, into_refusals, changed_refusals, update_refusals, delete_refusals, view_refusals, row_refusals, sorts_by_titles, target_kinds, made_kinds, repeats, is_binary, is_binary_text}
 use Rattle.quel_meaning.specs.Resolved.{tree_by, tree_of, resolved, help_on_all, help_on, whole, copy_col}
 use Rattle.quel_meaning.specs.Meaning.{checked_permitted, judged_tree, judged_by, judged, permitted_tree}
 use Rattle.schema_laws.proofs.Alike.{info_alike, kinds_alike, is_there_alike, entries_alike}
@@ -163,46 +163,46 @@ delete_alike : (s : Scope) (var : List ℕ) (q : Query) → delete_of (bare_scop
 unfolding delete_of
 delete_alike s var q = λ i. changing op.Delete 0 (ranged_alike s var i) q
 
-print_causes_alike : (s : Scope) (stand : Bool) (sort : List (List ℕ × Bool)) (q : Query) → print_causes (bare_scope s) stand sort q ≡ print_causes s stand sort q
-print_causes_alike s stand sort q = λ i.
+print_refusals_alike : (s : Scope) (stand : Bool) (sort : List (List ℕ × Bool)) (q : Query) → print_refusals (bare_scope s) stand sort q ≡ print_refusals s stand sort q
+print_refusals_alike s stand sort q = λ i.
     (18, not stand)
     ∷ (14, too_many_alike s.db q i)
     ∷ (13, not (query_fits_alike s.db q i)) ∷ (12, not (sorts_by_titles (targets_of q) sort)) ∷ (16, is_too_wide (target_kinds q)) ∷ []
 
-into_causes_alike : (s : Scope) (stand : Bool) (name : List ℕ) (sort : List (List ℕ × Bool)) (q : Query)
-    → into_causes (bare_scope s) stand name sort q ≡ into_causes s stand name sort q
-into_causes_alike s stand name sort q = λ i.
+into_refusals_alike : (s : Scope) (stand : Bool) (name : List ℕ) (sort : List (List ℕ × Bool)) (q : Query)
+    → into_refusals (bare_scope s) stand name sort q ≡ into_refusals s stand name sort q
+into_refusals_alike s stand name sort q = λ i.
     (18, not stand)
     ∷ (14, too_many_alike s.db q i || full_alike s.db i)
     ∷ (17, repeats (titles_of q))
     ∷ (13, not (query_fits_alike s.db q i))
     ∷ (12, not (sorts_by_titles (targets_of q) sort)) ∷ (16, is_too_wide (made_kinds q)) ∷ (15, taken_alike s.db s.user name i) ∷ []
 
-changed_causes_alike : (s : Scope) (u : Update) → changed_causes (bare_scope s) u ≡ changed_causes s u
+changed_refusals_alike : (s : Scope) (u : Update) → changed_refusals (bare_scope s) u ≡ changed_refusals s u
 unfolding schema_of
-changed_causes_alike s u = refl
+changed_refusals_alike s u = refl
 
-update_causes_alike : (s : Scope) (stand : Bool) (u : Update) → update_causes (bare_scope s) stand u ≡ update_causes s stand u
-update_causes_alike s stand u = λ i.
+update_refusals_alike : (s : Scope) (stand : Bool) (u : Update) → update_refusals (bare_scope s) stand u ≡ update_refusals s stand u
+update_refusals_alike s stand u = λ i.
     (18, not stand)
     ∷ (14, too_many_alike s.db u.query i)
     ∷ (17, repeats (titles_of u.query))
-    ∷ (13, not (query_fits_alike s.db u.query i && assignments_alike s.db u i)) ∷ changed_causes_alike s u i
+    ∷ (13, not (query_fits_alike s.db u.query i && assignments_alike s.db u i)) ∷ changed_refusals_alike s u i
 
-delete_causes_alike : (s : Scope) (stand : Bool) (u : Update) → delete_causes (bare_scope s) stand u ≡ delete_causes s stand u
-delete_causes_alike s stand u = λ i.
-    (18, not stand) ∷ (14, too_many_alike s.db u.query i) ∷ (13, not (query_fits_alike s.db u.query i)) ∷ changed_causes_alike s u i
+delete_refusals_alike : (s : Scope) (stand : Bool) (u : Update) → delete_refusals (bare_scope s) stand u ≡ delete_refusals s stand u
+delete_refusals_alike s stand u = λ i.
+    (18, not stand) ∷ (14, too_many_alike s.db u.query i) ∷ (13, not (query_fits_alike s.db u.query i)) ∷ changed_refusals_alike s u i
 
-view_causes_alike : (s : Scope) (stand : Bool) (name : List ℕ) (q : Query) → view_causes (bare_scope s) stand name q ≡ view_causes s stand name q
-view_causes_alike s stand name q = λ i.
+view_refusals_alike : (s : Scope) (stand : Bool) (name : List ℕ) (q : Query) → view_refusals (bare_scope s) stand name q ≡ view_refusals s stand name q
+view_refusals_alike s stand name q = λ i.
     (18, not stand)
     ∷ (14, too_many_alike s.db q i || (full_alike s.db i || large_alike s.db q i))
     ∷ (17, repeats (titles_of q))
     ∷ (13, not (query_fits_alike s.db q i)) ∷ (16, is_too_wide (target_kinds q)) ∷ (15, taken_alike s.db s.user name i) ∷ []
 
-row_causes_alike : (s : Scope) (stand : Bool) (info : Option RelInfo) (no_room : Bool) (q : Query)
-    → row_causes (bare_scope s) stand info no_room q ≡ row_causes s stand info no_room q
-row_causes_alike s stand info no_room q = λ i.
+row_refusals_alike : (s : Scope) (stand : Bool) (info : Option RelInfo) (no_room : Bool) (q : Query)
+    → row_refusals (bare_scope s) stand info no_room q ≡ row_refusals s stand info no_room q
+row_refusals_alike s stand info no_room q = λ i.
     (18, not stand)
     ∷ (14, nat_lt 1 (length (vars_of q)) || (no_room || not (row_qual_is_small (qual_of q))))
     ∷ (13, not (kinds_fit (qual_of q) (kinds_alike s.db (key_found info) i ∷ []))) ∷ []
@@ -219,35 +219,35 @@ binary_alike : (s : Scope) (rel : List ℕ) (c : List ℕ × CopyForm) → is_bi
 binary_alike s rel c = λ i.
     is_binary c.1 && is_text_kind (slice_get (kinds_alike s.db (key_found (named_alike s rel i)) i) (place_found (named_alike s rel i) c.0))
 
-causes_by_alike : (s : Scope) (stand : Bool) (q : Query) (stmt : Statement) → causes_by (bare_scope s) stand q stmt ≡ causes_by s stand q stmt
-causes_by_alike s stand q (statement.Range var rel) = refl
-causes_by_alike s stand q (statement.Retrieve None items qual sort) = print_causes_alike s stand sort q
-causes_by_alike s stand q (statement.Retrieve (Some name) items qual sort) = into_causes_alike s stand name sort q
-causes_by_alike s stand q (statement.Append rel items qual) = λ i. update_causes_alike s stand (append_alike s rel q i) i
-causes_by_alike s stand q (statement.Replace var items qual) = λ i. update_causes_alike s stand (replace_alike s var q i) i
-causes_by_alike s stand q (statement.Delete var qual) = λ i. delete_causes_alike s stand (delete_alike s var q i) i
-causes_by_alike s stand q (statement.Create rel attrs) = λ i.
+refusals_by_alike : (s : Scope) (stand : Bool) (q : Query) (stmt : Statement) → refusals_by (bare_scope s) stand q stmt ≡ refusals_by s stand q stmt
+refusals_by_alike s stand q (statement.Range var rel) = refl
+refusals_by_alike s stand q (statement.Retrieve None items qual sort) = print_refusals_alike s stand sort q
+refusals_by_alike s stand q (statement.Retrieve (Some name) items qual sort) = into_refusals_alike s stand name sort q
+refusals_by_alike s stand q (statement.Append rel items qual) = λ i. update_refusals_alike s stand (append_alike s rel q i) i
+refusals_by_alike s stand q (statement.Replace var items qual) = λ i. update_refusals_alike s stand (replace_alike s var q i) i
+refusals_by_alike s stand q (statement.Delete var qual) = λ i. delete_refusals_alike s stand (delete_alike s var q i) i
+refusals_by_alike s stand q (statement.Create rel attrs) = λ i.
     (14, full_alike s.db i)
     ∷ (17, repeats (map (λ a. a.0) attrs)) ∷ (16, is_too_wide (map (λ a. Of a.1) attrs)) ∷ (15, taken_alike s.db s.user rel i) ∷ []
-causes_by_alike s stand q (statement.Destroy rels) = λ i. (17, not (differ_by same_key (filter_map (λ name. entry_named_alike s name i) rels))) ∷ []
-causes_by_alike s stand q (statement.DropPermits rel numbers) = refl
-causes_by_alike s stand q (statement.DropRules rel numbers) = refl
-causes_by_alike s stand q (statement.Modify rel to keys) = refl
-causes_by_alike s stand q (statement.Index base name keys) = λ i. (17, repeats keys) ∷ (14, full_alike s.db i) ∷ (15, taken_alike s.db s.user name i) ∷ []
-causes_by_alike s stand q (statement.Print rels) = refl
-causes_by_alike s stand q (statement.Help rel) = refl
-causes_by_alike s stand q (statement.Copy rel columns from file) = λ i.
+refusals_by_alike s stand q (statement.Destroy rels) = λ i. (17, not (differ_by same_key (filter_map (λ name. entry_named_alike s name i) rels))) ∷ []
+refusals_by_alike s stand q (statement.DropPermits rel numbers) = refl
+refusals_by_alike s stand q (statement.DropRules rel numbers) = refl
+refusals_by_alike s stand q (statement.Modify rel to keys) = refl
+refusals_by_alike s stand q (statement.Index base name keys) = λ i. (17, repeats keys) ∷ (14, full_alike s.db i) ∷ (15, taken_alike s.db s.user name i) ∷ []
+refusals_by_alike s stand q (statement.Print rels) = refl
+refusals_by_alike s stand q (statement.Help rel) = refl
+refusals_by_alike s stand q (statement.Copy rel columns from file) = λ i.
     (17, repeats (map (λ c. c.0) columns)) ∷ (13, list_any (λ c. binary_alike s rel c i) columns) ∷ []
-causes_by_alike s stand q (statement.View name items qual) = view_causes_alike s stand name q
-causes_by_alike s stand q (statement.Permit ops var attrs user qual) = λ i.
-    row_causes_alike s stand (ranged_alike s var i)
+refusals_by_alike s stand q (statement.View name items qual) = view_refusals_alike s stand name q
+refusals_by_alike s stand q (statement.Permit ops var attrs user qual) = λ i.
+    row_refusals_alike s stand (ranged_alike s var i)
     (is_past_limit most_permits (permit_numbers_alike s.db (key_found (ranged_alike s var i)) i) || nat_lt most_listed_attributes (length attrs)) q i
-causes_by_alike s stand q (statement.Rule var qual) = λ i.
-    row_causes_alike s stand (ranged_alike s var i) (is_past_limit most_rules (rule_numbers_alike s.db (key_found (ranged_alike s var i)) i)) q i
+refusals_by_alike s stand q (statement.Rule var qual) = λ i.
+    row_refusals_alike s stand (ranged_alike s var i) (is_past_limit most_rules (rule_numbers_alike s.db (key_found (ranged_alike s var i)) i)) q i
 
-causes_alike : (s : Scope) (stmt : Statement) → causes (bare_scope s) stmt ≡ causes s stmt
-unfolding causes
-causes_alike s stmt = λ i. causes_by_alike s (stands_alike s stmt i) (query_alike s stmt i) stmt i
+refusals_alike : (s : Scope) (stmt : Statement) → refusals (bare_scope s) stmt ≡ refusals s stmt
+unfolding refusals
+refusals_alike s stmt = λ i. refusals_by_alike s (stands_alike s stmt i) (query_alike s stmt i) stmt i
 
 -- ---- the tree
 
@@ -304,7 +304,7 @@ resolved_alike db user ranges stmt =
     let s : Scope = record { db = db; user = user; ranges = ranges } in
     λ i. elim (name_alike s stmt i) [
       | Some number ↦ Err number
-      | None ↦ elim (first_cause (causes_alike s stmt i)) [ Some number ↦ Err number | None ↦ Ok (tree_alike s stmt i) ]
+      | None ↦ elim (first_refusal (refusals_alike s stmt i)) [ Some number ↦ Err number | None ↦ Ok (tree_alike s stmt i) ]
     ]
 
 -- ---- what is permitted of it

@@ -46,8 +46,8 @@ use Rattle.view_text.specs.declared.expansion.Expansion.{Expansion}
 use Rattle.view_text.specs.Halves.{Joining, paired, chained, joined_within, all_of, any_of}
 use Rattle.view_text.specs.Replaced.{Substitution, replaced, replaced_in_qual, replaced_target, no_aggregate, further, moved, moved_qual, of_only}
 use Rattle.view_text.specs.Expansions.{ExpansionSource, term_at, attr_term, used_expansion, query_expansions, expansions_vars, substituted_from, conditions_from}
-use Rattle.view_text.specs.ExpansionOf.{permit_condition, covering, cut, kept_expansion, past_expansion, has_value, substituted_terms, rows_conditions, settled, view_text, expansion_within, expansion_of}
-use Rattle.view_text.specs.Expanded.{substituted_query, expanded_range, expanded_source, range_cut, source_cut, put_row, expanded_made, expanded_over, expanded, read_cut, changed_expansion, update_expansion, update_expansions, put_cut, expanded_update, expanded_asked, expanded_tree}
+use Rattle.view_text.specs.ExpansionOf.{permit_condition, covering, restriction, kept_expansion, past_expansion, has_value, substituted_terms, rows_conditions, settled, view_text, expansion_within, expansion_of}
+use Rattle.view_text.specs.Expanded.{substituted_query, expanded_range, expanded_source, range_restriction, source_restriction, put_row, expanded_made, expanded_over, expanded, read_restriction, changed_expansion, update_expansion, update_expansions, append_restriction, expanded_update, expanded_asked, expanded_tree}
 use Rattle.tree_laws.proofs.Denoted.{expansions_said}
 use Rattle.tree_laws.proofs.Counted.{all_expansions}
 use Rattle.tree_laws.proofs.TextLaws.{view_in}
@@ -213,14 +213,14 @@ module _ (db : Db) (d : IsDatabase db) (who : Who) where
   conditions_of [] h = tt
   conditions_of (p ∷ ps) h = (qual_replaced no_aggregate of_only none_made only_put p.qual h.0, conditions_of ps h.1)
 
-  cut_by : (asker : Asker) (right : Right) (attrs : List ℕ) (key : RelKey) (b : Bool) → Each Qual (elim b as (λ b. List QQual) [ true ↦ [] | false ↦ any_of (map permit_condition (covering db asker right attrs key)) ∷ [] ])
-  cut_by asker right attrs key true = tt
-  cut_by asker right attrs key false =
+  restriction_by : (asker : Asker) (right : Right) (attrs : List ℕ) (key : RelKey) (b : Bool) → Each Qual (elim b as (λ b. List QQual) [ true ↦ [] | false ↦ any_of (map permit_condition (covering db asker right attrs key)) ∷ [] ])
+  restriction_by asker right attrs key true = tt
+  restriction_by asker right attrs key false =
       (any_one (map permit_condition (covering db asker right attrs key)) (conditions_of (covering db asker right attrs key) (in_filter (λ (p : Permit). Qual p.qual) (λ p. covers p asker right attrs) (permits_on db key) (permits_each key))), tt)
 
-  cut_each : (w : Who) (right : Right) (attrs : List ℕ) (key : RelKey) → Each Qual (cut db w right attrs key)
-  cut_each Unrestricted right attrs key = tt
-  cut_each (AsUser asker) right attrs key = cut_by asker right attrs key (needs_none db asker right key)
+  restriction_each : (w : Who) (right : Right) (attrs : List ℕ) (key : RelKey) → Each Qual (restriction db w right attrs key)
+  restriction_each Unrestricted right attrs key = tt
+  restriction_each (AsUser asker) right attrs key = restriction_by asker right attrs key (needs_none db asker right key)
 
   kept_one : (conditions : List QQual) (key : RelKey) → Each Qual conditions → IsOne (kept_expansion conditions key)
   kept_one conditions key h = record { attr = λ a. refl; conditions = h }
@@ -258,8 +258,8 @@ module _ (db : Db) (d : IsDatabase db) (who : Who) where
   within_one n key =
       each_said (expansions_said db who) db (λ n key text. (attrs : List ℕ) → IsOne (text attrs))
       (record {
-        nothing = λ n f key e attrs. kept_one (cut db who Retrieve attrs key) key (cut_each who Retrieve attrs key);
-        kept = λ n f key relation e attrs. kept_one (cut db who Retrieve attrs key) key (cut_each who Retrieve attrs key);
+        nothing = λ n f key e attrs. kept_one (restriction db who Retrieve attrs key) key (restriction_each who Retrieve attrs key);
+        kept = λ n f key relation e attrs. kept_one (restriction db who Retrieve attrs key) key (restriction_each who Retrieve attrs key);
         view_past = λ key view e attrs. past_one;
         view_above = λ n f below key view e attrs. view_one f below key view e;
       })
@@ -280,14 +280,14 @@ module _ (db : Db) (d : IsDatabase db) (who : Who) where
       by (Some (Viewed view)) e = query_one no_aggregate (query_expansions (expansion_within 15 db who) view.query) view.query none_made (each_text (expansion_within 15 db who) (within_one 15) view.query) (stored_view key view e)
   source_one (tree.rows_of_query q) h = query_one no_aggregate (query_expansions (expansion_of db who) q) q none_made (each_text (expansion_of db who) text_one q) h
 
-  source_cut_each : (attrs : List ℕ) (s : AggSource) → Each Qual (source_cut db who attrs s)
-  source_cut_each attrs (Named key) = by (range_at db key)
+  source_restriction_each : (attrs : List ℕ) (s : AggSource) → Each Qual (source_restriction db who attrs s)
+  source_restriction_each attrs (Named key) = by (range_at db key)
     where
-      by : (r : Option Range) → Each Qual (range_cut db who attrs key r)
-      by None = cut_each who Retrieve attrs key
-      by (Some (Kept relation)) = cut_each who Retrieve attrs key
+      by : (r : Option Range) → Each Qual (range_restriction db who attrs key r)
+      by None = restriction_each who Retrieve attrs key
+      by (Some (Kept relation)) = restriction_each who Retrieve attrs key
       by (Some (Viewed view)) = tt
-  source_cut_each attrs (tree.rows_of_query q) = tt
+  source_restriction_each attrs (tree.rows_of_query q) = tt
 
   row_again : {n : _} (row : Row_of-QTerm n) → terms_are_spelled row ≡ true → terms_are_spelled (tree.term_row (items-the_row-QTerm _ row)) ≡ true
   row_again end_of-QTerm h = refl
@@ -313,8 +313,8 @@ module _ (db : Db) (d : IsDatabase db) (who : Who) where
         and (source_is_spelled (expanded_source db who source)) _ (source_one source one.0)
         (and (term_is_spelled arg) _ two.0
         (and (terms_are_spelled (tree.term_row (items-the_row-QTerm _ by))) _ (row_again by three.0)
-        (and (terms_are_spelled (tree.term_row (map (replaced no_aggregate put) (items-the_row-QTerm _ link)))) (qual_is_spelled (all_of (q ∷ source_cut db who attrs source))) (links_replaced link four.0)
-        (all_one (q ∷ source_cut db who attrs source) (four.1, source_cut_each attrs source)))))
+        (and (terms_are_spelled (tree.term_row (map (replaced no_aggregate put) (items-the_row-QTerm _ link)))) (qual_is_spelled (all_of (q ∷ source_restriction db who attrs source))) (links_replaced link four.0)
+        (all_one (q ∷ source_restriction db who attrs source) (four.1, source_restriction_each attrs source)))))
 
     made_one : (t : QTerm) → Term t → Term (expanded_made db who put t)
     made_one (terms.Int n) h = refl
@@ -331,13 +331,13 @@ module _ (db : Db) (d : IsDatabase db) (who : Who) where
 
   -- ---- updates
 
-  read_each : (attrs : List ℕ) (key : RelKey) → Each Qual (read_cut db who attrs key)
+  read_each : (attrs : List ℕ) (key : RelKey) → Each Qual (read_restriction db who attrs key)
   read_each [] key = tt
-  read_each (a ∷ attrs) key = cut_each who Retrieve (a ∷ attrs) key
+  read_each (a ∷ attrs) key = restriction_each who Retrieve (a ∷ attrs) key
 
   changed_one : (right : Right) (places read : List ℕ) (key : RelKey) → IsOne (changed_expansion db who right places read key)
   changed_one right places read key =
-      kept_one (cut db who right places key ++ read_cut db who read key) key (both_of Qual (cut db who right places key) (read_cut db who read key) (cut_each who right places key) (read_each read key))
+      kept_one (restriction db who right places key ++ read_restriction db who read key) key (both_of Qual (restriction db who right places key) (read_restriction db who read key) (restriction_each who right places key) (read_each read key))
 
   update_one : (u : Update) (v : ℕ) (key : RelKey) → IsOne (update_expansion db who u v key)
   update_one u v key = by (changed u)
@@ -363,8 +363,8 @@ module _ (db : Db) (d : IsDatabase db) (who : Who) where
   each_update u k [] = tt
   each_update u k (key ∷ keys) = (update_one u k key, each_update u (k + 1) keys)
 
-  new_cut_one : (u : Update) (o : UpdateOp) → Qual u.new_cut → Qual (put_cut db who u o)
-  new_cut_one u op.Append h = all_one (u.new_cut ∷ cut db who Append u.places u.rel) (h, cut_each who Append u.places u.rel)
+  new_cut_one : (u : Update) (o : UpdateOp) → Qual u.new_cut → Qual (append_restriction db who u o)
+  new_cut_one u op.Append h = all_one (u.new_cut ∷ restriction db who Append u.places u.rel) (h, restriction_each who Append u.places u.rel)
   new_cut_one u op.Replace h = h
   new_cut_one u op.Delete h = h
   new_cut_one u op.Into h = h
@@ -377,7 +377,7 @@ module _ (db : Db) (d : IsDatabase db) (who : Who) where
       let three = and_parts (qual_is_spelled u.new_cut) (list_all qual_is_spelled u.checks) two.1 in
       and (made_key_is_spelled u) _ one.0
       (and (query_is_spelled (expanded_over db who (update_expansions db who u) u.query)) _ (over_one (update_expansions db who u) u.query (each_update u 0 (vars_of u.query)) two.0)
-      (and (qual_is_spelled (put_cut db who u u.op)) (list_all qual_is_spelled u.checks) (new_cut_one u u.op three.0) three.1))
+      (and (qual_is_spelled (append_restriction db who u u.op)) (list_all qual_is_spelled u.checks) (new_cut_one u u.op three.0) three.1))
 
   -- ---- trees
 

@@ -8,7 +8,7 @@ ghost use Rattle.reading_laws.specs.Levels.{most_tree_levels, tree_levels};
 ghost use Rattle.reading_laws.specs.Shallow.{statement_levels};
 ghost use Rattle.stage_parse.specs.Checks.{Checks};
 
-use crate::cutting::cut_and_ruled;
+use crate::cutting::restricted_and_ruled;
 use am_traits::Base;
 use calculus::{Checked, Name, Statement};
 use quel_check::RangeTable;
@@ -40,7 +40,7 @@ pub fn checked<B: Base>(
 {
     let _ = user.bytes();
     match resolve(alloc, s, user, ranges, base) {
-        Ok(tree) => cut_and_ruled(alloc, base, user, tree),
+        Ok(tree) => restricted_and_ruled(alloc, base, user, tree),
         Err(fault) => Err(fault),
     }
 }

@@ -44,7 +44,7 @@ fn cut<B: Base>(
 }
 
 /// The same with the rules of the relation that the tree changes.
-pub(crate) fn cut_and_ruled<B: Base>(
+pub(crate) fn restricted_and_ruled<B: Base>(
     alloc: Global,
     base: &mut B,
     user: &Name,

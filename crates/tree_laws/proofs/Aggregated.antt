@@ -41,14 +41,14 @@ use Rattle.calculus_laws.proofs.ViewAnswer.{found}
 use Rattle.view_text.specs.Replaced.{Substitution, replaced, replaced_target, no_aggregate}
 use Rattle.view_text.specs.Halves.{all_of}
 use Rattle.view_text.specs.Expansions.{substituted_from, query_expansions}
-use Rattle.view_text.specs.ExpansionOf.{cut, expansion_within, expansion_of}
-use Rattle.view_text.specs.Expanded.{expanded_plain, expanded_range, expanded_source, range_cut, source_cut, expanded_aggregate}
+use Rattle.view_text.specs.ExpansionOf.{restriction, expansion_within, expansion_of}
+use Rattle.view_text.specs.Expanded.{expanded_plain, expanded_range, expanded_source, range_restriction, source_restriction, expanded_aggregate}
 use Rattle.tree_laws.specs.Nesting.{source_is_plain}
 use Rattle.tree_laws.proofs.Values.{StandsFor, makes_none, val_replaced, within_itself}
 use Rattle.tree_laws.proofs.Halves.{holds_all_of}
 use Rattle.tree_laws.proofs.Scopes.{both_true}
 use Rattle.tree_laws.proofs.Queries.{targets_of-put}
-use Rattle.tree_laws.proofs.Denoted.{cut_holds}
+use Rattle.tree_laws.proofs.Denoted.{restriction_holds}
 use Rattle.tree_laws.proofs.Sound.{viewed, plain_view, unrestricted_rows}
 use Rattle.tree_laws.proofs.Unrestrictedly.{plain_put}
 use Rattle.calculus.specs.declared.value.Value.TheVariants.{Expansion, Int}
@@ -153,10 +153,10 @@ module _ (db : Db) (d : IsDatabase db) (who : Who) where
           ≡ filter (is_folded qual link) (source_rows (rows_of db who) attrs source)
       pub kinds : source_kinds db other ≡ source_kinds db source
 
-    with_cut : (key : RelKey) (link s : Row) → is_folded (all_of (qual ∷ cut db who Retrieve attrs key)) link s ≡ (may db who Retrieve attrs key s && is_folded qual link s)
-    with_cut key link s =
-        ap (λ b. b && agree link (values_of by (s ∷ []))) (holds_all_of no_aggs (s ∷ []) (qual ∷ cut db who Retrieve attrs key))
-        ∙ ap (λ b. (holds no_aggs qual (s ∷ []) && b) && agree link (values_of by (s ∷ []))) (cut_holds db who Retrieve attrs key s)
+    with_restriction : (key : RelKey) (link s : Row) → is_folded (all_of (qual ∷ restriction db who Retrieve attrs key)) link s ≡ (may db who Retrieve attrs key s && is_folded qual link s)
+    with_restriction key link s =
+        ap (λ b. b && agree link (values_of by (s ∷ []))) (holds_all_of no_aggs (s ∷ []) (qual ∷ restriction db who Retrieve attrs key))
+        ∙ ap (λ b. (holds no_aggs qual (s ∷ []) && b) && agree link (values_of by (s ∷ []))) (restriction_holds db who Retrieve attrs key s)
         ∙ swapped (holds no_aggs qual (s ∷ [])) (may db who Retrieve attrs key s) (agree link (values_of by (s ∷ [])))
 
     alone : (link s : Row) → is_folded (all_of (qual ∷ [])) link s ≡ is_folded qual link s
@@ -168,11 +168,11 @@ module _ (db : Db) (d : IsDatabase db) (who : Who) where
         true_right false = refl
 
     kept_folds : (key : RelKey) → is_no_view (range_at db key) ≡ true → rows_of db who key attrs ≡ filter (may db who Retrieve attrs key) (rows_at db key)
-        → FoldsAs (Named key) (Named key) (cut db who Retrieve attrs key)
+        → FoldsAs (Named key) (Named key) (restriction db who Retrieve attrs key)
     kept_folds key kept rows = record {
       folded = λ used link.
-          ap (filter (is_folded (all_of (qual ∷ cut db who Retrieve attrs key)) link)) (unrestricted_rows db key used kept)
-          ∙ filter_twice (is_folded qual link) (may db who Retrieve attrs key) (is_folded (all_of (qual ∷ cut db who Retrieve attrs key)) link) (rows_at db key) (with_cut key link)
+          ap (filter (is_folded (all_of (qual ∷ restriction db who Retrieve attrs key)) link)) (unrestricted_rows db key used kept)
+          ∙ filter_twice (is_folded qual link) (may db who Retrieve attrs key) (is_folded (all_of (qual ∷ restriction db who Retrieve attrs key)) link) (rows_at db key) (with_restriction key link)
           ∙ ap (filter (is_folded qual link)) (sym rows);
       kinds = refl;
     }
@@ -194,7 +194,7 @@ module _ (db : Db) (d : IsDatabase db) (who : Who) where
           ∙ sym (view_kinds key view h);
     }
 
-    range_folds : (key : RelKey) (r : Option Range) → range_at db key ≡ r → FoldsAs (Named key) (expanded_range db who key r) (range_cut db who attrs key r)
+    range_folds : (key : RelKey) (r : Option Range) → range_at db key ≡ r → FoldsAs (Named key) (expanded_range db who key r) (range_restriction db who attrs key r)
     range_folds key None h =
         kept_folds key (ap is_no_view h) (rows_at_range key None h ∙ sym (ap (λ r. filter (may db who Retrieve attrs key) (kept_rows r)) h))
     range_folds key (Some (Kept relation)) h =
@@ -212,7 +212,7 @@ module _ (db : Db) (d : IsDatabase db) (who : Who) where
           ∙ kinds_put no_aggregate (substituted_from 0 (query_expansions (expansion_within greatest_level db who) q)) (targets_of q);
     }
 
-    pub source_folds : (source : AggSource) → source_is_plain source ≡ true → FoldsAs source (expanded_source db who source) (source_cut db who attrs source)
+    pub source_folds : (source : AggSource) → source_is_plain source ≡ true → FoldsAs source (expanded_source db who source) (source_restriction db who attrs source)
     source_folds (Named key) plain = range_folds key (range_at db key) refl
     source_folds (rows_of_query q) plain = query_folds q (none_any (query_aggregates q) plain)
 

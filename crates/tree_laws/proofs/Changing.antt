@@ -23,34 +23,34 @@ use Rattle.calculus_laws.specs.Expansion.{is_no_view}
 use Rattle.view_text.specs.declared.expansion.Expansion.{Expansion}
 use Rattle.view_text.specs.Scoped.{is_qual_within, is_scoped}
 use Rattle.view_text.specs.Expansions.{used_expansion, expansions_vars}
-use Rattle.view_text.specs.ExpansionOf.{cut, expansion_of}
-use Rattle.view_text.specs.Expanded.{read_cut, changed_expansion, update_expansion}
+use Rattle.view_text.specs.ExpansionOf.{restriction, expansion_of}
+use Rattle.view_text.specs.Expanded.{read_restriction, changed_expansion, update_expansion}
 use Rattle.tree_laws.proofs.Joint.{both_are, all_append, all_hold, Denotes, DenoteEach}
-use Rattle.tree_laws.proofs.Denoted.{cut_holds, cut_within, kept_denoted, used_denoted, all_denoted}
+use Rattle.tree_laws.proofs.Denoted.{restriction_holds, restriction_within, kept_denoted, used_denoted, all_denoted}
 use Rattle.tree_laws.proofs.Placed.{NamesAll, kept_names}
 use Rattle.tree_laws.proofs.Sound.{no_views, used_sound, used_meant, all_sound}
 
 -- ---- what the changed variable has
 
-read_holds : (db : Db) (who : Who) (read : List ℕ) (key : RelKey) (row : Row) → all_hold no_aggs (read_cut db who read key) (row ∷ []) ≡ may_read db who read key row
+read_holds : (db : Db) (who : Who) (read : List ℕ) (key : RelKey) (row : Row) → all_hold no_aggs (read_restriction db who read key) (row ∷ []) ≡ may_read db who read key row
 read_holds db who [] key row = refl
-read_holds db who (a ∷ read) key row = cut_holds db who Retrieve (a ∷ read) key row
+read_holds db who (a ∷ read) key row = restriction_holds db who Retrieve (a ∷ read) key row
 
-read_within : (db : Db) (who : Who) (read : List ℕ) (key : RelKey) → list_all (is_qual_within 1) (read_cut db who read key) ≡ true
+read_within : (db : Db) (who : Who) (read : List ℕ) (key : RelKey) → list_all (is_qual_within 1) (read_restriction db who read key) ≡ true
 read_within db who [] key = refl
-read_within db who (a ∷ read) key = cut_within db who Retrieve (a ∷ read) key
+read_within db who (a ∷ read) key = restriction_within db who Retrieve (a ∷ read) key
 
-pub changed_within : (db : Db) (who : Who) (right : Right) (places read : List ℕ) (key : RelKey) → list_all (is_qual_within 1) (cut db who right places key ++ read_cut db who read key) ≡ true
+pub changed_within : (db : Db) (who : Who) (right : Right) (places read : List ℕ) (key : RelKey) → list_all (is_qual_within 1) (restriction db who right places key ++ read_restriction db who read key) ≡ true
 changed_within db who right places read key =
-    all_append (is_qual_within 1) (cut db who right places key) (read_cut db who read key)
-    ∙ (λ i. cut_within db who right places key i && read_within db who read key i)
+    all_append (is_qual_within 1) (restriction db who right places key) (read_restriction db who read key)
+    ∙ (λ i. restriction_within db who right places key i && read_within db who read key i)
 
 changed_denoted : (db : Db) (who : Who) (right : Right) (places read : List ℕ) (key : RelKey) → Denotes db (changed_rows db who right places read key) (changed_expansion db who right places read key)
 changed_denoted db who right places read key =
-    kept_denoted db key (cut db who right places key ++ read_cut db who read key) (λ row. may db who right places key row && may_read db who read key row)
+    kept_denoted db key (restriction db who right places key ++ read_restriction db who read key) (λ row. may db who right places key row && may_read db who read key row)
     (changed_within db who right places read key)
-    (λ row. all_append (λ q. holds no_aggs q (row ∷ [])) (cut db who right places key) (read_cut db who read key)
-    ∙ (λ i. cut_holds db who right places key row i && read_holds db who read key row i))
+    (λ row. all_append (λ q. holds no_aggs q (row ∷ [])) (restriction db who right places key) (read_restriction db who read key)
+    ∙ (λ i. restriction_holds db who right places key row i && read_holds db who read key row i))
 
 module _ (db : Db) (who : Who) (u : Update) where
   -- the rows and the expansion of a variable that is changed by this right, or isn't
@@ -127,7 +127,7 @@ module _ (db : Db) (d : IsDatabase db) (who : Who) (u : Update) where
   named_by v key right true =
       let places = u.places in
       let read = used_in_query v u.query in
-      (changed_within db who right places read key, kept_names (cut db who right places key ++ read_cut db who read key) key)
+      (changed_within db who right places read key, kept_names (restriction db who right places key ++ read_restriction db who read key) key)
   named_by v key right false = let sound = used_sound db (expansion_of db who) (all_sound db who d) key (used_in_query v u.query) in (sound.scoped, sound.names)
 
   named_with : (v : ℕ) (key : RelKey) (o : Option (ℕ × Right)) → IsNamed (expansion_with db who u v key o)

@@ -24,7 +24,7 @@ use Rattle.view_text.specs.Replaced.{of_only, no_aggregate}
 use Rattle.view_text.specs.Halves.{any_of}
 use Rattle.view_text.specs.Scoped.{is_within, is_qual_within}
 use Rattle.view_text.specs.Expansions.{ExpansionSource, no_expansion, used_expansion, query_expansions}
-use Rattle.view_text.specs.ExpansionOf.{permit_condition, covering, cut, kept_expansion, view_text, past_expansion, range_expansion, expansion_within, expansion_of}
+use Rattle.view_text.specs.ExpansionOf.{permit_condition, covering, restriction, kept_expansion, view_text, past_expansion, range_expansion, expansion_within, expansion_of}
 use Rattle.tree_laws.proofs.Values.{without_value_has_none, StandsFor, makes_none, holds_replaced, within_itself}
 use Rattle.tree_laws.proofs.Halves.{holds_any_of, any_within}
 use Rattle.tree_laws.proofs.Within.{qual_replaced_within}
@@ -65,10 +65,10 @@ true_right true = refl
 true_right false = refl
 
 -- the conditions of permits hold of the rows with which one may do this
-pub cut_holds : (db : Db) (who : Who) (right : Right) (attrs : List ℕ) (key : RelKey) (row : Row) → all_hold no_aggs (cut db who right attrs key) (row ∷ []) ≡ may db who right attrs key row
+pub restriction_holds : (db : Db) (who : Who) (right : Right) (attrs : List ℕ) (key : RelKey) (row : Row) → all_hold no_aggs (restriction db who right attrs key) (row ∷ []) ≡ may db who right attrs key row
 unfolding may
-cut_holds db Unrestricted right attrs key row = refl
-cut_holds db (AsUser asker) right attrs key row = by (needs_none db asker right key)
+restriction_holds db Unrestricted right attrs key row = refl
+restriction_holds db (AsUser asker) right attrs key row = by (needs_none db asker right key)
   where
     by : (b : Bool) → all_hold no_aggs (elim b [ true ↦ [] | false ↦ any_of (map permit_condition (covering db asker right attrs key)) ∷ [] ]) (row ∷ [])
         ≡ (b || list_any (λ p. covers p asker right attrs && holds no_aggs p.qual (row ∷ [])) (permits_on db key))
@@ -88,9 +88,9 @@ conditions_within : (ps : List Permit) → list_all (is_qual_within 1) (map perm
 conditions_within [] = refl
 conditions_within (p ∷ ps) = λ i. qual_replaced_within 1 of_only only_within p.qual i && conditions_within ps i
 
-pub cut_within : (db : Db) (who : Who) (right : Right) (attrs : List ℕ) (key : RelKey) → list_all (is_qual_within 1) (cut db who right attrs key) ≡ true
-cut_within db Unrestricted right attrs key = refl
-cut_within db (AsUser asker) right attrs key = by (needs_none db asker right key)
+pub restriction_within : (db : Db) (who : Who) (right : Right) (attrs : List ℕ) (key : RelKey) → list_all (is_qual_within 1) (restriction db who right attrs key) ≡ true
+restriction_within db Unrestricted right attrs key = refl
+restriction_within db (AsUser asker) right attrs key = by (needs_none db asker right key)
   where
     by : (b : Bool) → list_all (is_qual_within 1) (elim b [ true ↦ [] | false ↦ any_of (map permit_condition (covering db asker right attrs key)) ∷ [] ]) ≡ true
     by true = refl
@@ -174,11 +174,11 @@ within_denoted n db who key attrs =
     both_said (rows_said db who) (expansions_said db who) db (λ n key rows expansions. (attrs : List ℕ) → Denotes db (rows attrs) (expansions attrs))
     (record {
       nothing = λ n f g key h attrs.
-          subst (λ rows. Denotes db (filter (may db who Retrieve attrs key) rows) (kept_expansion (cut db who Retrieve attrs key) key)) (nothing_kept db key h)
-          (kept_denoted db key (cut db who Retrieve attrs key) (may db who Retrieve attrs key) (cut_within db who Retrieve attrs key) (cut_holds db who Retrieve attrs key));
+          subst (λ rows. Denotes db (filter (may db who Retrieve attrs key) rows) (kept_expansion (restriction db who Retrieve attrs key) key)) (nothing_kept db key h)
+          (kept_denoted db key (restriction db who Retrieve attrs key) (may db who Retrieve attrs key) (restriction_within db who Retrieve attrs key) (restriction_holds db who Retrieve attrs key));
       kept = λ n f g key relation h attrs.
-          subst (λ rows. Denotes db (filter (may db who Retrieve attrs key) rows) (kept_expansion (cut db who Retrieve attrs key) key)) (ap kept_rows h)
-          (kept_denoted db key (cut db who Retrieve attrs key) (may db who Retrieve attrs key) (cut_within db who Retrieve attrs key) (cut_holds db who Retrieve attrs key));
+          subst (λ rows. Denotes db (filter (may db who Retrieve attrs key) rows) (kept_expansion (restriction db who Retrieve attrs key) key)) (ap kept_rows h)
+          (kept_denoted db key (restriction db who Retrieve attrs key) (may db who Retrieve attrs key) (restriction_within db who Retrieve attrs key) (restriction_holds db who Retrieve attrs key));
       view_past = λ key view h attrs. past_denoted db;
       view_above = λ n f g below key view h attrs. view_denoted db f g below view;
     })

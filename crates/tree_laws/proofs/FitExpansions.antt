@@ -22,7 +22,7 @@ use Rattle.view_text.specs.Replaced.{moved_qual, of_only, moved}
 use Rattle.view_text.specs.Halves.{any_of}
 use Rattle.view_text.specs.Scoped.{is_within, is_qual_within, are_within, is_scoped}
 use Rattle.view_text.specs.Expansions.{attr_term, expansions_vars, substituted_from, conditions_from}
-use Rattle.view_text.specs.ExpansionOf.{permit_condition, covering, cut, kept_expansion}
+use Rattle.view_text.specs.ExpansionOf.{permit_condition, covering, restriction, kept_expansion}
 use Rattle.tree_laws.proofs.Halves.{test_joined, over, and_assoc, and_right}
 use Rattle.tree_laws.proofs.Scopes.{both_true}
 use Rattle.tree_laws.proofs.Joint.{all_append, both_are, attr_within}
@@ -99,9 +99,9 @@ module _ (db : Db) (d : IsDatabase db) where
       by true one more = both_are (kinds_fit (permit_condition p) (kinds_at db key ∷ [])) (all_fit (kinds_at db key ∷ []) (map permit_condition (filter test ps))) one more
       by false one more = more
 
-  pub cut_fits : (who : Who) (right : Right) (attrs : List ℕ) (key : RelKey) → all_fit (kinds_at db key ∷ []) (cut db who right attrs key) ≡ true
-  cut_fits Unrestricted right attrs key = refl
-  cut_fits (AsUser asker) right attrs key = by (needs_none db asker right key)
+  pub restriction_fits : (who : Who) (right : Right) (attrs : List ℕ) (key : RelKey) → all_fit (kinds_at db key ∷ []) (restriction db who right attrs key) ≡ true
+  restriction_fits Unrestricted right attrs key = refl
+  restriction_fits (AsUser asker) right attrs key = by (needs_none db asker right key)
     where
       by : (b : Bool) → all_fit (kinds_at db key ∷ []) (elim b [ true ↦ [] | false ↦ any_of (map permit_condition (covering db asker right attrs key)) ∷ [] ]) ≡ true
       by true = refl

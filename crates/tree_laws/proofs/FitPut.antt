@@ -28,7 +28,7 @@ use Rattle.quel_meaning.specs.FitQueries.{kept_or_viewed, source_fits}
 use Rattle.view_text.specs.Replaced.{Substitution, replaced, replaced_in_qual, replaced_target, no_aggregate}
 use Rattle.view_text.specs.Halves.{paired, chained, joined_within, all_of}
 use Rattle.view_text.specs.Scoped.{is_within, is_qual_within}
-use Rattle.view_text.specs.Expanded.{expanded_source, range_cut, source_cut, expanded_aggregate, expanded_made}
+use Rattle.view_text.specs.Expanded.{expanded_source, range_restriction, source_restriction, expanded_aggregate, expanded_made}
 use Rattle.tree_laws.specs.Nesting.{source_is_plain}
 use Rattle.tree_laws.proofs.Aggregated.{source_folds, row_items}
 use Rattle.tree_laws.proofs.Placed.{qual_within_plain, within_plain}
@@ -37,7 +37,7 @@ use Rattle.tree_laws.proofs.Joint.{both_are}
 use Rattle.tree_laws.proofs.Values.{within_left, within_right}
 use Rattle.tree_laws.proofs.Nests.{number_there, operated_there, joined_there, compared_there, text_there, source_plain, fitting}
 use Rattle.tree_laws.proofs.SameKinds.{VarKinds, HasKinds, Names, in_left, in_right, own_name, kind_replaced}
-use Rattle.tree_laws.proofs.FitExpansions.{all_fit, cut_fits}
+use Rattle.tree_laws.proofs.FitExpansions.{all_fit, restriction_fits}
 use Rattle.tree_laws.proofs.FitPlain.{all_of_fit}
 
 -- ---- terms without aggregates
@@ -82,14 +82,14 @@ module _ (db : Db) (d : IsDatabase db) (who : Who) (Known : ℕ → Type 0) (put
       both_are (comparable (kind_of b inner) (kind_of (replaced no_aggregate put t) new)) (links_fit inner by new (map (replaced no_aggregate put) link))
       (ap (comparable (kind_of b inner)) same ∙ parts.0) (links_same inner by link (λ u inside. names u (inr inside)) parts.1)
 
-  range_cut_fits : (attrs : List ℕ) (key : RelKey) (r : Option Range) → all_fit (kinds_at db key ∷ []) (range_cut db who attrs key r) ≡ true
-  range_cut_fits attrs key None = cut_fits db d who Retrieve attrs key
-  range_cut_fits attrs key (Some (Kept relation)) = cut_fits db d who Retrieve attrs key
-  range_cut_fits attrs key (Some (Viewed view)) = refl
+  range_restriction_fits : (attrs : List ℕ) (key : RelKey) (r : Option Range) → all_fit (kinds_at db key ∷ []) (range_restriction db who attrs key r) ≡ true
+  range_restriction_fits attrs key None = restriction_fits db d who Retrieve attrs key
+  range_restriction_fits attrs key (Some (Kept relation)) = restriction_fits db d who Retrieve attrs key
+  range_restriction_fits attrs key (Some (Viewed view)) = refl
 
-  source_cut_fits : (attrs : List ℕ) (source : AggSource) → all_fit (source_kinds db source ∷ []) (source_cut db who attrs source) ≡ true
-  source_cut_fits attrs (Named key) = range_cut_fits attrs key (range_at db key)
-  source_cut_fits attrs (rows_of_query q) = refl
+  source_restriction_fits : (attrs : List ℕ) (source : AggSource) → all_fit (source_kinds db source ∷ []) (source_restriction db who attrs source) ≡ true
+  source_restriction_fits attrs (Named key) = range_restriction_fits attrs key (range_at db key)
+  source_restriction_fits attrs (rows_of_query q) = refl
 
   fit_kind : (fit : Bool) (o : AggOp) (k : Option Kind) → fit ≡ true → fitting_kind fit o k ≡ fitting_kind true o k
   fit_kind fit o k h = ap (λ b. fitting_kind b o k) h
@@ -98,11 +98,11 @@ module _ (db : Db) (d : IsDatabase db) (who : Who) (Known : ℕ → Type 0) (put
       → aggregate_kind db (expanded_aggregate db who put g) new ≡ aggregate_kind db g vars
   unfolding aggregate_kind
   aggregate_same g names plain h =
-      ap (λ kinds. fitting_kind (links_fit (kinds ∷ []) g.by new (map (replaced no_aggregate put) g.link) && kinds_fit (all_of (g.qual ∷ source_cut db who (used_in_aggregate g) g.source)) (kinds ∷ [])) g.op (kind_of g.arg (kinds ∷ []))) same
-      ∙ fit_kind (links_fit inner g.by new (map (replaced no_aggregate put) g.link) && kinds_fit (all_of (g.qual ∷ source_cut db who (used_in_aggregate g) g.source)) inner) g.op (kind_of g.arg inner)
-      (both_are (links_fit inner g.by new (map (replaced no_aggregate put) g.link)) (kinds_fit (all_of (g.qual ∷ source_cut db who (used_in_aggregate g) g.source)) inner)
+      ap (λ kinds. fitting_kind (links_fit (kinds ∷ []) g.by new (map (replaced no_aggregate put) g.link) && kinds_fit (all_of (g.qual ∷ source_restriction db who (used_in_aggregate g) g.source)) (kinds ∷ [])) g.op (kind_of g.arg (kinds ∷ []))) same
+      ∙ fit_kind (links_fit inner g.by new (map (replaced no_aggregate put) g.link) && kinds_fit (all_of (g.qual ∷ source_restriction db who (used_in_aggregate g) g.source)) inner) g.op (kind_of g.arg inner)
+      (both_are (links_fit inner g.by new (map (replaced no_aggregate put) g.link)) (kinds_fit (all_of (g.qual ∷ source_restriction db who (used_in_aggregate g) g.source)) inner)
       (links_same inner g.by g.link names parts.0)
-      (all_of_fit inner (g.qual ∷ source_cut db who (used_in_aggregate g) g.source) ∙ both_are (kinds_fit g.qual inner) (all_fit inner (source_cut db who (used_in_aggregate g) g.source)) parts.1 (source_cut_fits (used_in_aggregate g) g.source)))
+      (all_of_fit inner (g.qual ∷ source_restriction db who (used_in_aggregate g) g.source) ∙ both_are (kinds_fit g.qual inner) (all_fit inner (source_restriction db who (used_in_aggregate g) g.source)) parts.1 (source_restriction_fits (used_in_aggregate g) g.source)))
       ∙ sym (fit_kind (links_fit inner g.by vars g.link && kinds_fit g.qual inner) g.op (kind_of g.arg inner) fit)
     where
       inner : VarKinds

@@ -44,10 +44,10 @@ module _ (db : Db) (d : IsDatabase db) where
       by false e one more = more
 
   -- the checks with the rules before them
-  checks_ruled : (rel : RelKey) (cut : QQual) (checks : List QQual) → all_fit (kinds_at db rel ∷ []) (cut ∷ checks) ≡ true → all_fit (kinds_at db rel ∷ []) (cut ∷ (map (λ r. r.qual) (rules_on db rel) ++ checks)) ≡ true
-  checks_ruled rel cut checks h =
-      let parts = both_true (kinds_fit cut (kinds_at db rel ∷ [])) (all_fit (kinds_at db rel ∷ []) checks) h in
-      both_are (kinds_fit cut (kinds_at db rel ∷ [])) (all_fit (kinds_at db rel ∷ []) (map (λ r. r.qual) (rules_on db rel) ++ checks)) parts.0
+  checks_ruled : (rel : RelKey) (restriction : QQual) (checks : List QQual) → all_fit (kinds_at db rel ∷ []) (restriction ∷ checks) ≡ true → all_fit (kinds_at db rel ∷ []) (restriction ∷ (map (λ r. r.qual) (rules_on db rel) ++ checks)) ≡ true
+  checks_ruled rel restriction checks h =
+      let parts = both_true (kinds_fit restriction (kinds_at db rel ∷ [])) (all_fit (kinds_at db rel ∷ []) checks) h in
+      both_are (kinds_fit restriction (kinds_at db rel ∷ [])) (all_fit (kinds_at db rel ∷ []) (map (λ r. r.qual) (rules_on db rel) ++ checks)) parts.0
       (all_append (λ q. kinds_fit q (kinds_at db rel ∷ [])) (map (λ r. r.qual) (rules_on db rel)) checks
       ∙ both_are (all_fit (kinds_at db rel ∷ []) (map (λ r. r.qual) (rules_on db rel))) (all_fit (kinds_at db rel ∷ []) checks) (rules_fit rel db.rules d.rules_stand) parts.1)
 

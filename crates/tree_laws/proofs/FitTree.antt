@@ -36,14 +36,14 @@ use Rattle.quel_meaning.specs.SpelledTree.{tree_is_spelled}
 use Rattle.view_text.specs.declared.expansion.Expansion.{Expansion}
 use Rattle.view_text.specs.Replaced.{Substitution, replaced_target}
 use Rattle.view_text.specs.Expansions.{expansions_vars, substituted_from, place_from}
-use Rattle.view_text.specs.ExpansionOf.{cut}
-use Rattle.view_text.specs.Expanded.{expanded_made, expanded_over, put_cut, put_place, update_expansion, update_expansions, expanded_update, expanded_asked, expanded_tree}
+use Rattle.view_text.specs.ExpansionOf.{restriction}
+use Rattle.view_text.specs.Expanded.{expanded_made, expanded_over, append_restriction, put_place, update_expansion, update_expansions, expanded_update, expanded_asked, expanded_tree}
 use Rattle.tree_laws.proofs.Scopes.{both_true}
 use Rattle.tree_laws.proofs.Joint.{both_are}
 use Rattle.tree_laws.proofs.Queries.{targets_of-put}
 use Rattle.tree_laws.proofs.Beside.{own_expansion}
 use Rattle.tree_laws.proofs.Updating.{attrs_put, kinds_put as wanted_put}
-use Rattle.tree_laws.proofs.FitExpansions.{all_fit, cut_fits}
+use Rattle.tree_laws.proofs.FitExpansions.{all_fit, restriction_fits}
 use Rattle.tree_laws.proofs.FitPlain.{all_of_fit, targets_long}
 use Rattle.tree_laws.proofs.FitAsked.{asked_put}
 use Rattle.tree_laws.proofs.FitRuled.{suits_ruled}
@@ -104,24 +104,24 @@ module _ (db : Db) (d : IsDatabase db) (who : Who) where
     abbrev new_kinds : List Attribute → List (List Kind)
     new_kinds attrs = map (λ a. a.kind) attrs ∷ []
 
-    cut_put : (o : UpdateOp) → kinds_fit u.new_cut (new_kinds (attrs_by o (attrs_at db u.rel) (map made_attr (targets_of u.query)))) ≡ true
-        → kinds_fit (put_cut db who u o) (new_kinds (attrs_by o (attrs_at db u.rel) (map made_attr (targets_of u.query)))) ≡ true
-    cut_put op.Append h =
-        all_of_fit (new_kinds (attrs_at db u.rel)) (u.new_cut ∷ cut db who Append u.places u.rel)
-        ∙ both_are (kinds_fit u.new_cut (new_kinds (attrs_at db u.rel))) (all_fit (new_kinds (attrs_at db u.rel)) (cut db who Append u.places u.rel)) h (cut_fits db d who Append u.places u.rel)
-    cut_put op.Replace h = h
-    cut_put op.Delete h = h
-    cut_put op.Into h = h
+    restriction_put : (o : UpdateOp) → kinds_fit u.new_cut (new_kinds (attrs_by o (attrs_at db u.rel) (map made_attr (targets_of u.query)))) ≡ true
+        → kinds_fit (append_restriction db who u o) (new_kinds (attrs_by o (attrs_at db u.rel) (map made_attr (targets_of u.query)))) ≡ true
+    restriction_put op.Append h =
+        all_of_fit (new_kinds (attrs_at db u.rel)) (u.new_cut ∷ restriction db who Append u.places u.rel)
+        ∙ both_are (kinds_fit u.new_cut (new_kinds (attrs_at db u.rel))) (all_fit (new_kinds (attrs_at db u.rel)) (restriction db who Append u.places u.rel)) h (restriction_fits db d who Append u.places u.rel)
+    restriction_put op.Replace h = h
+    restriction_put op.Delete h = h
+    restriction_put op.Into h = h
 
     checks_by : List Attribute → QQual → Bool
-    checks_by attrs cut = kinds_fit cut (new_kinds attrs) && list_all (λ check. kinds_fit check (new_kinds attrs)) u.checks
+    checks_by attrs restriction = kinds_fit restriction (new_kinds attrs) && list_all (λ check. kinds_fit check (new_kinds attrs)) u.checks
 
     checks_put : checks_fit db u ≡ true → checks_fit db (expanded_update db who u) ≡ true
     unfolding expanded_update checks_by
     checks_put h =
         let parts = both_true (kinds_fit u.new_cut (new_kinds (new_attrs db u))) (list_all (λ check. kinds_fit check (new_kinds (new_attrs db u))) u.checks) h in
-        ap (λ attrs. checks_by attrs (put_cut db who u u.op)) attrs_same
-        ∙ both_are (kinds_fit (put_cut db who u u.op) (new_kinds (new_attrs db u))) (list_all (λ check. kinds_fit check (new_kinds (new_attrs db u))) u.checks) (cut_put u.op parts.0) parts.1
+        ap (λ attrs. checks_by attrs (append_restriction db who u u.op)) attrs_same
+        ∙ both_are (kinds_fit (append_restriction db who u u.op) (new_kinds (new_attrs db u))) (list_all (λ check. kinds_fit check (new_kinds (new_attrs db u))) u.checks) (restriction_put u.op parts.0) parts.1
 
     -- ---- the changed variable
 

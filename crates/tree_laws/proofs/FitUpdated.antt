@@ -34,8 +34,8 @@ use Rattle.view_text.specs.declared.expansion.Expansion.{Expansion}
 use Rattle.view_text.specs.Replaced.{Substitution, replaced, replaced_target}
 use Rattle.view_text.specs.Scoped.{is_scoped}
 use Rattle.view_text.specs.Expansions.{used_expansion, expansions_vars, substituted_from, conditions_from}
-use Rattle.view_text.specs.ExpansionOf.{cut, expansion_of}
-use Rattle.view_text.specs.Expanded.{expanded_made, expanded_over, read_cut, changed_expansion, update_expansion, update_expansions, expanded_update}
+use Rattle.view_text.specs.ExpansionOf.{restriction, expansion_of}
+use Rattle.view_text.specs.Expanded.{expanded_made, expanded_over, read_restriction, changed_expansion, update_expansion, update_expansions, expanded_update}
 use Rattle.tree_laws.proofs.Scopes.{both_true}
 use Rattle.tree_laws.proofs.Joint.{both_are, all_append}
 use Rattle.tree_laws.proofs.Queries.{targets_of-put}
@@ -45,7 +45,7 @@ use Rattle.tree_laws.proofs.Changing.{expansion_by, expansion_with, changed_with
 use Rattle.tree_laws.proofs.Beside.{own_expansion, plain_expansion}
 use Rattle.tree_laws.proofs.Nests.{compared_there}
 use Rattle.tree_laws.proofs.SameKinds.{HasKinds, Names}
-use Rattle.tree_laws.proofs.FitExpansions.{kinds_of, all_fit, IsFitExpansion, cut_fits, kept_fits, FitEach, put_kinds, conditions_kinds}
+use Rattle.tree_laws.proofs.FitExpansions.{kinds_of, all_fit, IsFitExpansion, restriction_fits, kept_fits, FitEach, put_kinds, conditions_kinds}
 use Rattle.tree_laws.proofs.FitWithin.{all_count}
 use Rattle.tree_laws.proofs.FitPlain.{vars_fit}
 use Rattle.tree_laws.proofs.FitOver.{kept_measure, target_names, reads_put, kind_over, qual_over, kept_counts, sources_over}
@@ -97,15 +97,15 @@ module _ (db : Db) (d : IsDatabase db) (who : Who) where
   abbrev may : Allowed
   may = kept_or_viewed db
 
-  read_fits : (read : List ℕ) (key : RelKey) → all_fit (kinds_at db key ∷ []) (read_cut db who read key) ≡ true
+  read_fits : (read : List ℕ) (key : RelKey) → all_fit (kinds_at db key ∷ []) (read_restriction db who read key) ≡ true
   read_fits [] key = refl
-  read_fits (a ∷ read) key = cut_fits db d who Retrieve (a ∷ read) key
+  read_fits (a ∷ read) key = restriction_fits db d who Retrieve (a ∷ read) key
 
   changed_fits : (right : Right) (places read : List ℕ) (key : RelKey) → is_kept db key ≡ true → IsFitExpansion db key (changed_expansion db who right places read key)
   changed_fits right places read key kept =
-      kept_fits db key (cut db who right places key ++ read_cut db who read key) kept (changed_within db who right places read key)
-      (all_append (λ q. kinds_fit q (kinds_at db key ∷ [])) (cut db who right places key) (read_cut db who read key)
-      ∙ both_are (all_fit (kinds_at db key ∷ []) (cut db who right places key)) (all_fit (kinds_at db key ∷ []) (read_cut db who read key)) (cut_fits db d who right places key) (read_fits read key))
+      kept_fits db key (restriction db who right places key ++ read_restriction db who read key) kept (changed_within db who right places read key)
+      (all_append (λ q. kinds_fit q (kinds_at db key ∷ [])) (restriction db who right places key) (read_restriction db who read key)
+      ∙ both_are (all_fit (kinds_at db key ∷ []) (restriction db who right places key)) (all_fit (kinds_at db key ∷ []) (read_restriction db who read key)) (restriction_fits db d who right places key) (read_fits read key))
 
   -- what is known of an expansion: it ranges over what is kept, its conditions fit, and where its variable is used it fits
   record IsGood (key : RelKey) (attrs : List ℕ) (expansion : Expansion) : Type 0 where

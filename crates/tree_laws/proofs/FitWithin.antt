@@ -25,12 +25,12 @@ use Rattle.quel_meaning.specs.FitQueries.{keeps_rows}
 use Rattle.view_text.specs.declared.expansion.Expansion.{Expansion}
 use Rattle.view_text.specs.Scoped.{is_qual_within, is_scoped}
 use Rattle.view_text.specs.Expansions.{ExpansionSource, no_expansion, used_expansion, query_expansions, expansions_vars}
-use Rattle.view_text.specs.ExpansionOf.{cut, view_text, expansion_within, expansion_of, kept_expansion}
+use Rattle.view_text.specs.ExpansionOf.{restriction, view_text, expansion_within, expansion_of, kept_expansion}
 use Rattle.tree_laws.proofs.Aggregated.{view_kinds}
 use Rattle.tree_laws.proofs.Sound.{viewed}
-use Rattle.tree_laws.proofs.Denoted.{cut_within, expansions_said}
+use Rattle.tree_laws.proofs.Denoted.{restriction_within, expansions_said}
 use Rattle.tree_laws.proofs.Within.{all_scoped, rows_expansion_scoped}
-use Rattle.tree_laws.proofs.FitExpansions.{IsFitExpansion, cut_fits, kept_fits}
+use Rattle.tree_laws.proofs.FitExpansions.{IsFitExpansion, restriction_fits, kept_fits}
 use Rattle.tree_laws.proofs.FitViews.{rows_fit}
 
 -- ---- levels
@@ -63,8 +63,8 @@ module _ (db : Db) (d : IsDatabase db) (who : Who) where
   FitsWhere key level expansion = ((attrs : List ℕ) → is_scoped (expansion attrs) ≡ true) × (is_some level ≡ true → (attrs : List ℕ) → IsFitExpansion db key (expansion attrs))
 
   kept_where : (key : RelKey) (relation : Relation) → range_at db key ≡ Some (Kept relation) → (attrs : List ℕ)
-      → IsFitExpansion db key (kept_expansion (cut db who Retrieve attrs key) key)
-  kept_where key relation h attrs = kept_fits db key (cut db who Retrieve attrs key) (ap keeps_rows h) (cut_within db who Retrieve attrs key) (cut_fits db d who Retrieve attrs key)
+      → IsFitExpansion db key (kept_expansion (restriction db who Retrieve attrs key) key)
+  kept_where key relation h attrs = kept_fits db key (restriction db who Retrieve attrs key) (ap keeps_rows h) (restriction_within db who Retrieve attrs key) (restriction_fits db d who Retrieve attrs key)
 
   pub used_scoped : (g : ExpansionSource) → ((key : RelKey) (attrs : List ℕ) → is_scoped (g key attrs) ≡ true) → (key : RelKey) (attrs : List ℕ) → is_scoped (used_expansion g key attrs) ≡ true
   used_scoped g scoped key [] = refl
@@ -93,8 +93,8 @@ module _ (db : Db) (d : IsDatabase db) (who : Who) where
   within_where n key =
       both_said level_said (expansions_said db who) db (λ n key level expansion. FitsWhere key level expansion)
       (record {
-        nothing = λ n f g key h. (λ attrs. cut_within db who Retrieve attrs key, λ level attrs. cc level);
-        kept = λ n f g key relation h. (λ attrs. cut_within db who Retrieve attrs key, λ level attrs. kept_where key relation h attrs);
+        nothing = λ n f g key h. (λ attrs. restriction_within db who Retrieve attrs key, λ level attrs. cc level);
+        kept = λ n f g key relation h. (λ attrs. restriction_within db who Retrieve attrs key, λ level attrs. kept_where key relation h attrs);
         view_past = λ key view h. (λ attrs. refl, λ level attrs. cc level);
         view_above = λ n f g below key view h. view_where f g below key view h;
       })

@@ -23,7 +23,7 @@ use Rattle.calculus_laws.proofs.SameRows.{all_at}
 use Rattle.calculus_laws.proofs.ViewAnswer.{found}
 use Rattle.view_text.specs.Replaced.{of_only}
 use Rattle.view_text.specs.Halves.{any_of}
-use Rattle.view_text.specs.ExpansionOf.{permit_condition, covering, cut}
+use Rattle.view_text.specs.ExpansionOf.{permit_condition, covering, restriction}
 use Rattle.tree_laws.proofs.Scopes.{both_true}
 use Rattle.tree_laws.proofs.Joint.{both_are}
 use Rattle.tree_laws.proofs.Joined.{doubled, Low, low_any}
@@ -106,9 +106,9 @@ module _ (db : Db) (d : IsDatabase db) where
   unfolding doubled
   hundred = omega arith
 
-  pub cut_low : (who : Who) (right : Right) (attrs : List ℕ) (key : RelKey) → Low 1008 (cut db who right attrs key) × (length (cut db who right attrs key) ≤ 1)
-  cut_low Unrestricted right attrs key = (tt, omega arith)
-  cut_low (AsUser asker) right attrs key = by (needs_none db asker right key)
+  pub restriction_low : (who : Who) (right : Right) (attrs : List ℕ) (key : RelKey) → Low 1008 (restriction db who right attrs key) × (length (restriction db who right attrs key) ≤ 1)
+  restriction_low Unrestricted right attrs key = (tt, omega arith)
+  restriction_low (AsUser asker) right attrs key = by (needs_none db asker right key)
     where
       joined : qual_levels (any_of (map permit_condition (covering db asker right attrs key))) ≤ 1008
       joined =

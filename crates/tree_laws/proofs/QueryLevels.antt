@@ -26,12 +26,12 @@ use Rattle.view_text.specs.Replaced.{Substitution, replaced, replaced_in_qual, r
 use Rattle.view_text.specs.Halves.{all_of}
 use Rattle.view_text.specs.Expansions.{attr_term, used_expansion, query_expansions, expansions_vars, substituted_from, conditions_from}
 use Rattle.view_text.specs.ExpansionOf.{expansion_within, expansion_of}
-use Rattle.view_text.specs.Expanded.{substituted_query, expanded_plain, expanded_range, expanded_source, range_cut, source_cut, expanded_made}
+use Rattle.view_text.specs.Expanded.{substituted_query, expanded_plain, expanded_range, expanded_source, range_restriction, source_restriction, expanded_made}
 use Rattle.tree_laws.proofs.Scopes.{both_true}
 use Rattle.tree_laws.proofs.Values.{within_left, within_right}
 use Rattle.tree_laws.proofs.Joined.{doubled, Low, low_all, low_more}
 use Rattle.tree_laws.proofs.Replaced.{term_replaced, qual_replaced, none_made, greatest_terms, row_terms, terms_row, greatest_targets, query_is, built_is, some_qual}
-use Rattle.tree_laws.proofs.Permits.{le_is, cut_low}
+use Rattle.tree_laws.proofs.Permits.{le_is, restriction_low}
 use Rattle.tree_laws.proofs.Counted.{many, many_more, exponent, room, room_some, room_more, conditions_few, conditions_low, put_low, all_expansions, expansions_long}
 use Rattle.tree_laws.proofs.TextLaws.{all_low, view_in, view_terms_low, view_qual_low, view_conditions_low, view_conditions_few, term_low, expansion_low, expansion_few}
 
@@ -192,14 +192,14 @@ module _ (db : Db) (d : IsDatabase db) (who : Who) where
 
   -- ---- aggregates
 
-  range_cut_low : (attrs : List ℕ) (key : RelKey) (r : Option Range) → Low 1008 (range_cut db who attrs key r) × (length (range_cut db who attrs key r) ≤ 1)
-  range_cut_low attrs key None = cut_low db d who Retrieve attrs key
-  range_cut_low attrs key (Some (Kept relation)) = cut_low db d who Retrieve attrs key
-  range_cut_low attrs key (Some (Viewed view)) = (tt, omega arith)
+  range_restriction_low : (attrs : List ℕ) (key : RelKey) (r : Option Range) → Low 1008 (range_restriction db who attrs key r) × (length (range_restriction db who attrs key r) ≤ 1)
+  range_restriction_low attrs key None = restriction_low db d who Retrieve attrs key
+  range_restriction_low attrs key (Some (Kept relation)) = restriction_low db d who Retrieve attrs key
+  range_restriction_low attrs key (Some (Viewed view)) = (tt, omega arith)
 
-  source_cut_low : (attrs : List ℕ) (source : AggSource) → Low 1008 (source_cut db who attrs source) × (length (source_cut db who attrs source) ≤ 1)
-  source_cut_low attrs (Named key) = range_cut_low attrs key (range_at db key)
-  source_cut_low attrs (rows_of_query q) = (tt, omega arith)
+  source_restriction_low : (attrs : List ℕ) (source : AggSource) → Low 1008 (source_restriction db who attrs source) × (length (source_restriction db who attrs source) ≤ 1)
+  source_restriction_low attrs (Named key) = range_restriction_low attrs key (range_at db key)
+  source_restriction_low attrs (rows_of_query q) = (tt, omega arith)
 
   -- a qualification joined with one more condition at most
   pub with_one_low : (q : QQual) (conditions : List QQual) → Low 1008 conditions → length conditions ≤ 1 → qual_levels (all_of (q ∷ conditions)) ≤ qual_levels q + 1009
@@ -238,14 +238,14 @@ module _ (db : Db) (d : IsDatabase db) (who : Who) where
         let links_are = terms_row (map (replaced no_aggregate put) (items-the_row-QTerm _ link)) in
         let links_were = row_terms link in
         let linked = links_low (items-the_row-QTerm _ link) in
-        let cut = source_cut_low (used_in_aggregate g) source in
-        let joined = with_one_low qual (source_cut db who (used_in_aggregate g) source) cut.0 cut.1 in
+        let restriction = source_restriction_low (used_in_aggregate g) source in
+        let joined = with_one_low qual (source_restriction db who (used_in_aggregate g) source) restriction.0 restriction.1 in
         let bys_low : greatest_term_levels (term_row (items-the_row-QTerm _ by)) ≤ greatest_term_levels by + 1081 = omega (arith, bys_are) in
         let links_put : greatest_term_levels (term_row (map (replaced no_aggregate put) (items-the_row-QTerm _ link))) ≤ greatest_term_levels link + 1081 = omega (arith, links_are, links_were, linked) in
-        let qual_put : qual_levels (all_of (qual ∷ source_cut db who (used_in_aggregate g) source)) ≤ qual_levels qual + 1081 = omega (arith, joined) in
+        let qual_put : qual_levels (all_of (qual ∷ source_restriction db who (used_in_aggregate g) source)) ≤ qual_levels qual + 1081 = omega (arith, joined) in
         parts_low (source_levels source) (source_levels (expanded_source db who source)) (term_levels arg) (greatest_term_levels by) (greatest_term_levels (term_row (items-the_row-QTerm _ by)))
         (greatest_term_levels link) (greatest_term_levels (term_row (map (replaced no_aggregate put) (items-the_row-QTerm _ link)))) (qual_levels qual)
-        (qual_levels (all_of (qual ∷ source_cut db who (used_in_aggregate g) source))) over bys_low links_put qual_put
+        (qual_levels (all_of (qual ∷ source_restriction db who (used_in_aggregate g) source))) over bys_low links_put qual_put
 
   -- ---- queries
 

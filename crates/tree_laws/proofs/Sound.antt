@@ -26,10 +26,10 @@ use Rattle.calculus_laws.proofs.ViewAnswer.{stands_plain, found}
 use Rattle.view_text.specs.declared.expansion.Expansion.{Expansion}
 use Rattle.view_text.specs.Scoped.{is_qual_within, is_scoped}
 use Rattle.view_text.specs.Expansions.{ExpansionSource, no_expansion, used_expansion, query_expansions, expansions_vars}
-use Rattle.view_text.specs.ExpansionOf.{cut, kept_expansion, past_expansion, view_text, expansion_within, expansion_of}
+use Rattle.view_text.specs.ExpansionOf.{restriction, kept_expansion, past_expansion, view_text, expansion_within, expansion_of}
 use Rattle.tree_laws.proofs.Scopes.{both_true}
 use Rattle.tree_laws.proofs.Joint.{both_are, all_append}
-use Rattle.tree_laws.proofs.Denoted.{cut_within, expansions_said}
+use Rattle.tree_laws.proofs.Denoted.{restriction_within, expansions_said}
 use Rattle.tree_laws.proofs.Within.{all_scoped, rows_expansion_scoped}
 use Rattle.tree_laws.proofs.Placed.{NamesAll, placed_first, kept_names, rows_name}
 
@@ -128,8 +128,8 @@ pub within_sound : (n : ℕ) (db : Db) (who : Who) → IsDatabase db → AreSoun
 within_sound n db who d key attrs =
     each_said (expansions_said db who) db (λ n key expansions. (attrs : List ℕ) → IsSound db (expansions attrs))
     (record {
-      nothing = λ n g key h attrs. kept_sound db (cut db who Retrieve attrs key) key (cut_within db who Retrieve attrs key) (ap is_no_view h);
-      kept = λ n g key relation h attrs. kept_sound db (cut db who Retrieve attrs key) key (cut_within db who Retrieve attrs key) (ap is_no_view h);
+      nothing = λ n g key h attrs. kept_sound db (restriction db who Retrieve attrs key) key (restriction_within db who Retrieve attrs key) (ap is_no_view h);
+      kept = λ n g key relation h attrs. kept_sound db (restriction db who Retrieve attrs key) key (restriction_within db who Retrieve attrs key) (ap is_no_view h);
       view_past = λ key view h attrs. past_sound db;
       view_above = λ n g below key view h attrs. view_sound db d g below key view h;
     })

@@ -26,13 +26,13 @@ use Rattle.calculus_laws.proofs.ViewAnswer.{found}
 use Rattle.view_text.specs.declared.expansion.Expansion.{Expansion}
 use Rattle.view_text.specs.Replaced.{replaced, replaced_in_qual, no_aggregate}
 use Rattle.view_text.specs.Expansions.{ExpansionSource, term_at, attr_term, used_expansion, query_expansions, expansions_vars, substituted_from, conditions_from}
-use Rattle.view_text.specs.ExpansionOf.{cut, kept_expansion, past_expansion, has_value, substituted_terms, rows_conditions, view_text, expansion_within, expansion_of}
+use Rattle.view_text.specs.ExpansionOf.{restriction, kept_expansion, past_expansion, has_value, substituted_terms, rows_conditions, view_text, expansion_within, expansion_of}
 use Rattle.tree_laws.proofs.Sound.{viewed}
 use Rattle.tree_laws.proofs.Denoted.{expansions_said}
 use Rattle.tree_laws.proofs.FitWithin.{measure_said}
 use Rattle.tree_laws.proofs.Joined.{Low, low_append}
 use Rattle.tree_laws.proofs.Replaced.{none_sized, some_size, moved_low, term_sized, qual_sized}
-use Rattle.tree_laws.proofs.Permits.{le_is, cut_low}
+use Rattle.tree_laws.proofs.Permits.{le_is, restriction_low}
 use Rattle.tree_laws.proofs.Counted.{many, many_more, room, room_some, room_more, conditions_low, used_few, all_expansions, settled_low, settled_few}
 
 -- the size of an attribute of what is so measured
@@ -175,9 +175,9 @@ module _ (db : Db) (d : IsDatabase db) where
       pub conditions : n ≤ 17 → Low 1008 expansion.conditions
       pub few : length expansion.conditions ≤ room n
 
-    kept_low : (n : ℕ) (key : RelKey) (attrs : List ℕ) → IsLow n key (kept_expansion (cut db who Retrieve attrs key) key)
+    kept_low : (n : ℕ) (key : RelKey) (attrs : List ℕ) → IsLow n key (kept_expansion (restriction db who Retrieve attrs key) key)
     kept_low n key attrs =
-        let low = cut_low db d who Retrieve attrs key in
+        let low = restriction_low db d who Retrieve attrs key in
         let some = room_some n in let short = low.1 in
         record { terms = λ m h a. omega arith; conditions = λ h. low.0; few = omega (arith, some, short) }
 

@@ -27,12 +27,12 @@ use Rattle.quel_meaning.specs.Planned.{greatest}
 use Rattle.quel_meaning.specs.SpelledTree.{tree_is_spelled}
 use Rattle.view_text.specs.declared.expansion.Expansion.{Expansion}
 use Rattle.view_text.specs.Expansions.{attr_term, used_expansion}
-use Rattle.view_text.specs.ExpansionOf.{cut, expansion_of}
-use Rattle.view_text.specs.Expanded.{expanded_over, expanded, read_cut, changed_expansion, update_expansion, update_expansions, put_cut, expanded_update, expanded_asked, expanded_tree}
+use Rattle.view_text.specs.ExpansionOf.{restriction, expansion_of}
+use Rattle.view_text.specs.Expanded.{expanded_over, expanded, read_restriction, changed_expansion, update_expansion, update_expansions, append_restriction, expanded_update, expanded_asked, expanded_tree}
 use Rattle.tree_laws.proofs.Scopes.{both_true}
 use Rattle.reading_laws.specs.Levels.{tree_levels}
 use Rattle.tree_laws.proofs.Joined.{Low, low_append}
-use Rattle.tree_laws.proofs.Permits.{le_is, cut_low, rules_low}
+use Rattle.tree_laws.proofs.Permits.{le_is, restriction_low, rules_low}
 use Rattle.tree_laws.proofs.Counted.{many_more, room, room_some, conditions_few, conditions_low, put_low}
 use Rattle.tree_laws.proofs.QueryLevels.{used_term_low, used_expansion_low, used_expansion_few, puts_low, query_conditions_low, query_conditions_few, with_one_low, over_low}
 
@@ -79,9 +79,9 @@ module _ (db : Db) (d : IsDatabase db) (who : Who) where
   used_is_low : (key : RelKey) (attrs : List ℕ) → IsLowExpansion (used_expansion (expansion_of db who) key attrs)
   used_is_low key attrs = record { terms = used_term_low db d who key attrs; conditions = used_expansion_low db d who key attrs; few = used_expansion_few db d who key attrs }
 
-  read_low : (attrs : List ℕ) (key : RelKey) → Low 1008 (read_cut db who attrs key) × (length (read_cut db who attrs key) ≤ 1)
+  read_low : (attrs : List ℕ) (key : RelKey) → Low 1008 (read_restriction db who attrs key) × (length (read_restriction db who attrs key) ≤ 1)
   read_low [] key = (tt, omega arith)
-  read_low (a ∷ attrs) key = cut_low db d who Retrieve (a ∷ attrs) key
+  read_low (a ∷ attrs) key = restriction_low db d who Retrieve (a ∷ attrs) key
 
   long_both : (xs ys : List QQual) → length (xs ++ ys) ≡ length xs + length ys
   long_both [] ys = omega arith
@@ -89,14 +89,14 @@ module _ (db : Db) (d : IsDatabase db) (who : Who) where
 
   changed_is_low : (right : Right) (places read : List ℕ) (key : RelKey) → IsLowExpansion (changed_expansion db who right places read key)
   changed_is_low right places read key =
-      let may = cut_low db d who right places key in
+      let may = restriction_low db d who right places key in
       let reads = read_low read key in
       let own = may.1 in let more = reads.1 in
-      let long = long_both (cut db who right places key) (read_cut db who read key) in
+      let long = long_both (restriction db who right places key) (read_restriction db who read key) in
       let some = room_some 16 in
       record {
         terms = λ a. omega arith;
-        conditions = low_append 1008 (cut db who right places key) (read_cut db who read key) may.0 reads.0;
+        conditions = low_append 1008 (restriction db who right places key) (read_restriction db who read key) may.0 reads.0;
         few = omega (arith, own, more, long, some);
       }
 
@@ -142,10 +142,10 @@ module _ (db : Db) (d : IsDatabase db) (who : Who) where
       (conditions_low 1008 (update_expansions db who u) (update_all (λ t. Low 1008 t.conditions) u (λ t low. low.conditions) 0 (vars_of u.query)) 0)
       (omega (arith, counted, more))
 
-  new_cut_low : (u : Update) (o : UpdateOp) → qual_levels (put_cut db who u o) ≤ qual_levels u.new_cut + 1160
+  new_cut_low : (u : Update) (o : UpdateOp) → qual_levels (append_restriction db who u o) ≤ qual_levels u.new_cut + 1160
   new_cut_low u op.Append =
-      let may = cut_low db d who Append u.places u.rel in
-      let low = with_one_low db d who u.new_cut (cut db who Append u.places u.rel) may.0 may.1 in omega (arith, low)
+      let may = restriction_low db d who Append u.places u.rel in
+      let low = with_one_low db d who u.new_cut (restriction db who Append u.places u.rel) may.0 may.1 in omega (arith, low)
   new_cut_low u op.Replace = omega arith
   new_cut_low u op.Delete = omega arith
   new_cut_low u op.Into = omega arith
@@ -154,8 +154,8 @@ module _ (db : Db) (d : IsDatabase db) (who : Who) where
   unfolding update_fits expanded_update tree_levels
   update_low u h =
       let query = update_query_low u (both_true (reads_fit (kept_or_viewed db) db u.query) _ h).0 in
-      let cut = new_cut_low u u.op in
-      omega (arith, query, cut)
+      let restriction = new_cut_low u u.op in
+      omega (arith, query, restriction)
 
   -- ---- rules
 

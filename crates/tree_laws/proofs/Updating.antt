@@ -29,7 +29,7 @@ use Rattle.calculus.specs.Assignments.{choices, is_changed}
 use Rattle.calculus.specs.Targets.{target_values, some_lacks}
 use Rattle.calculus.specs.Aggregate.{aggregates}
 use Rattle.calculus.specs.Pairs.{pair_of, is_append, new_stands, pair_stands, pairs}
-use Rattle.calculus.specs.Replacement.{without_rows, after, contended, made_attr, wanted_kinds, all_fit, update_lacks, values_fit, rows_after, first_cause, made_info, updated}
+use Rattle.calculus.specs.Replacement.{without_rows, after, contended, made_attr, wanted_kinds, all_fit, update_lacks, values_fit, rows_after, first_refusal, made_info, updated}
 use Rattle.calculus.proofs.OldRows.{seen_qualifying, pair_in, pairs_with_old, lacks_with_old, fit_with_old}
 use Rattle.calculus.proofs.Sets.{Ascends-set_of, Ascends-nil}
 use Rattle.calculus_laws.specs.Expansion.{is_no_view}
@@ -39,13 +39,13 @@ use Rattle.calculus_laws.proofs.ViewAnswer.{found}
 use Rattle.view_text.specs.Replaced.{Substitution, replaced_target}
 use Rattle.view_text.specs.Halves.{all_of}
 use Rattle.view_text.specs.Expansions.{expansions_vars, substituted_from}
-use Rattle.view_text.specs.ExpansionOf.{cut}
-use Rattle.view_text.specs.Expanded.{expanded_made, expanded_over, put_cut, update_expansions, expanded_update}
+use Rattle.view_text.specs.ExpansionOf.{restriction}
+use Rattle.view_text.specs.Expanded.{expanded_made, expanded_over, append_restriction, update_expansions, expanded_update}
 use Rattle.tree_laws.specs.Nesting.{aggregates_nest_none}
 use Rattle.tree_laws.proofs.Halves.{holds_all_of}
 use Rattle.tree_laws.proofs.Joint.{kept_lists}
 use Rattle.tree_laws.proofs.Queries.{targets_of-put, same_lack}
-use Rattle.tree_laws.proofs.Denoted.{cut_holds}
+use Rattle.tree_laws.proofs.Denoted.{restriction_holds}
 use Rattle.tree_laws.proofs.Answering.{put_makes}
 use Rattle.tree_laws.proofs.Beside.{IsBeside, rowss, denoted, unrestricted_seen, to_unrestricted, from_unrestricted}
 use Rattle.tree_laws.proofs.Pairing.{same_contended, same_after}
@@ -97,7 +97,7 @@ rows_ascend db d key = by (relation_at db key) refl (view_at db key) (catalogue_
 -- the change, or the number that refuses it, by what is known of the update
 abbrev outcome : UpdateOp → RelKey → RelInfo → List Row → Bool → Bool → Bool → List Row → Result DbChange ℕ
 outcome o rel info rows lacks fit contends after =
-    elim (first_cause ((20, lacks) ∷ (21, not fit) ∷ (22, contends) ∷ (29, nat_lt most_rows (length after)) ∷ [])) [
+    elim (first_refusal ((20, lacks) ∷ (21, not fit) ∷ (22, contends) ∷ (29, nat_lt most_rows (length after)) ∷ [])) [
       | None ↦
           Ok (elim o [
             | op.Append ↦ change.Rows rel (without_rows after rows) (without_rows rows after)
@@ -156,13 +156,13 @@ module _ (db : Db) (d : IsDatabase db) (who : Who) (u : Update) (nest : aggregat
   -- ---- which pairs stand
 
   append_by : (o : UpdateOp) (row : Row)
-      → (if is_append o then (holds no_aggs (put_cut db who u o) (row ∷ []) && may db Unrestricted right.Append u.places u.rel row) else true)
+      → (if is_append o then (holds no_aggs (append_restriction db who u o) (row ∷ []) && may db Unrestricted right.Append u.places u.rel row) else true)
       ≡ (if is_append o then (holds no_aggs u.new_cut (row ∷ []) && may db who right.Append u.places u.rel row) else true)
   unfolding may
   append_by op.Append row =
-      true_right (holds no_aggs (all_of (u.new_cut ∷ cut db who right.Append u.places u.rel)) (row ∷ []))
-      ∙ holds_all_of no_aggs (row ∷ []) (u.new_cut ∷ cut db who right.Append u.places u.rel)
-      ∙ ap (λ b. holds no_aggs u.new_cut (row ∷ []) && b) (cut_holds db who right.Append u.places u.rel row)
+      true_right (holds no_aggs (all_of (u.new_cut ∷ restriction db who right.Append u.places u.rel)) (row ∷ []))
+      ∙ holds_all_of no_aggs (row ∷ []) (u.new_cut ∷ restriction db who right.Append u.places u.rel)
+      ∙ ap (λ b. holds no_aggs u.new_cut (row ∷ []) && b) (restriction_holds db who right.Append u.places u.rel row)
     where
       true_right : (b : Bool) → (b && true) ≡ b
       true_right true = refl

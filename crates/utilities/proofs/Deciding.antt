@@ -9,10 +9,10 @@ use Rattle.calculus.specs.declared.request.Utility.TheVariants as utility
 use Rattle.calculus.specs.declared.schema.Rule.{Rule}
 use Rattle.calculus.specs.Change.{rule_numbers}
 use Rattle.calculus.specs.Database.{Db}
-use Rattle.calculus.specs.Replacement.{first_cause}
-use Rattle.quel_meaning.specs.Planned.{planned, plan_causes, plan_change, is_past_limit, next_number, owner_causes}
+use Rattle.calculus.specs.Replacement.{first_refusal}
+use Rattle.quel_meaning.specs.Planned.{planned, plan_refusals, plan_change, is_past_limit, next_number, owner_refusals}
 use Rattle.utilities.specs.Causes.{IsCaused, HasCause, HasCauseBy}
-use Rattle.utilities.specs.Decided.{ButRows, IsDecided, is_rule, planned_but_rows, schema_causes}
+use Rattle.utilities.specs.Decided.{ButRows, IsDecided, is_rule, planned_but_rows, schema_refusals}
 use Rattle.utilities.specs.declared.fault.UtilFault.{UtilFault}
 use Rattle.utilities.specs.declared.fault.UtilFault.TheVariants.{No, Base, OutOfMemory}
 use Rattle.utilities.proofs.Causes.{first_there, first_past}
@@ -20,7 +20,7 @@ use Rattle.utilities.proofs.Causes.{first_there, first_past}
 -- ---- what is no rule is planned by the schema
 
 but_rows : (s : Db) (user : List ℕ) (u : Utility) → is_rule u ≡ false → planned s user u ≡ planned_but_rows s user u
-unfolding plan_causes planned
+unfolding plan_refusals planned
 but_rows s user (utility.Create rel attrs) h = refl
 but_rows s user (utility.Destroy rels) h = refl
 but_rows s user (utility.Modify rel to keys) h = refl
@@ -68,37 +68,37 @@ known_cause {T = T} user u schema known before now result own cause = record { l
 -- ---- a rule
 
 -- what refuses a rule whatever the rows are
-abbrev rule_causes : Db → List ℕ → RelKey → List (ℕ × Bool)
-rule_causes s user rel = (14, is_past_limit 100 (rule_numbers s rel)) ∷ owner_causes s user rel
+abbrev rule_refusals : Db → List ℕ → RelKey → List (ℕ × Bool)
+rule_refusals s user rel = (14, is_past_limit 100 (rule_numbers s rel)) ∷ owner_refusals s user rel
 
 abbrev planned_by : Db → Utility → Option ℕ → Result DbChange ℕ
 planned_by s u o = elim o [ None ↦ Ok (plan_change s u) | Some number ↦ Err number ]
 
-rule_but_rows : (s : Db) (user : List ℕ) (rel : RelKey) (rule : Rule) → planned_but_rows s user (utility.Rule rel rule) ≡ planned_by s (utility.Rule rel rule) (first_cause (rule_causes s user rel))
-unfolding plan_causes
+rule_but_rows : (s : Db) (user : List ℕ) (rel : RelKey) (rule : Rule) → planned_but_rows s user (utility.Rule rel rule) ≡ planned_by s (utility.Rule rel rule) (first_refusal (rule_refusals s user rel))
+unfolding plan_refusals
 rule_but_rows s user rel rule = refl
 
 pub rule_past_decided : (s : Db) (user : List ℕ) (rel : RelKey) (rule : Rule) (standing : List ℕ) → standing ≡ rule_numbers s rel → is_past_limit 100 standing ≡ true
     → IsDecided s user (utility.Rule rel rule) (Err (No 14))
 rule_past_decided s user rel rule standing e h =
-    inl (rule_but_rows s user rel rule ∙ ap (planned_by s (utility.Rule rel rule)) (sym (first_there 14 (is_past_limit 100 (rule_numbers s rel)) (owner_causes s user rel) (ap (is_past_limit 100) (sym e) ∙ h))))
+    inl (rule_but_rows s user rel rule ∙ ap (planned_by s (utility.Rule rel rule)) (sym (first_there 14 (is_past_limit 100 (rule_numbers s rel)) (owner_refusals s user rel) (ap (is_past_limit 100) (sym e) ∙ h))))
 
 -- nothing refuses it but rows
 unrefused : (s : Db) (user : List ℕ) (rel : RelKey) (rule : Rule) (standing : List ℕ) → standing ≡ rule_numbers s rel → is_past_limit 100 standing ≡ false
-    → None ≡ first_cause (owner_causes s user rel) → planned_but_rows s user (utility.Rule rel rule) ≡ Ok (plan_change s (utility.Rule rel rule))
+    → None ≡ first_refusal (owner_refusals s user rel) → planned_but_rows s user (utility.Rule rel rule) ≡ Ok (plan_change s (utility.Rule rel rule))
 unrefused s user rel rule standing e h none =
-    rule_but_rows s user rel rule ∙ ap (planned_by s (utility.Rule rel rule)) (sym (first_past 14 (is_past_limit 100 (rule_numbers s rel)) (owner_causes s user rel) None (ap (is_past_limit 100) (sym e) ∙ h) none))
+    rule_but_rows s user rel rule ∙ ap (planned_by s (utility.Rule rel rule)) (sym (first_past 14 (is_past_limit 100 (rule_numbers s rel)) (owner_refusals s user rel) None (ap (is_past_limit 100) (sym e) ∙ h) none))
 
 pub rule_refused_decided : (s : Db) (user : List ℕ) (rel : RelKey) (rule : Rule) (standing : List ℕ) (number : ℕ) (cause : Option ℕ) → standing ≡ rule_numbers s rel → is_past_limit 100 standing ≡ false
-    → ButRows (first_cause (owner_causes s user rel)) cause → cause ≡ Some number → IsDecided s user (utility.Rule rel rule) (Err (No number))
+    → ButRows (first_refusal (owner_refusals s user rel)) cause → cause ≡ Some number → IsDecided s user (utility.Rule rel rule) (Err (No number))
 rule_refused_decided s user rel rule standing number cause e h (inl is) some =
     inl (rule_but_rows s user rel rule ∙ ap (planned_by s (utility.Rule rel rule))
-    (sym (first_past 14 (is_past_limit 100 (rule_numbers s rel)) (owner_causes s user rel) (Some number) (ap (is_past_limit 100) (sym e) ∙ h) (sym some ∙ is))))
+    (sym (first_past 14 (is_past_limit 100 (rule_numbers s rel)) (owner_refusals s user rel) (Some number) (ap (is_past_limit 100) (sym e) ∙ h) (sym some ∙ is))))
 rule_refused_decided s user rel rule standing number cause e h (inr broken) some =
     inr (cc (broken.1, some), refl, unrefused s user rel rule standing e h (sym broken.0))
 
 pub rule_made_decided : (s : Db) (user : List ℕ) (rel : RelKey) (rule : Rule) (standing : List ℕ) (number : ℕ) (c : DbChange) (cause : Option ℕ) → standing ≡ rule_numbers s rel
-    → is_past_limit 100 standing ≡ false → number ≡ next_number standing → ButRows (first_cause (owner_causes s user rel)) cause → cause ≡ None
+    → is_past_limit 100 standing ≡ false → number ≡ next_number standing → ButRows (first_refusal (owner_refusals s user rel)) cause → cause ≡ None
     → c ≡ change.Rule rel (record rule { number = number }) → IsDecided s user (utility.Rule rel rule) (Ok c)
 unfolding plan_change
 rule_made_decided s user rel rule standing number c cause e h next (inl is) none made =

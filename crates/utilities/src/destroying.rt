@@ -6,7 +6,7 @@ ghost use Rattle.am_traits.specs.Causes.{HasCause as HasBaseCause};
 ghost use Rattle.am_traits.specs.Known.{is_named_by_view};
 ghost use Rattle.calculus.specs.Catalogue.{is_catalogue};
 ghost use Rattle.calculus.specs.Database.{Db};
-ghost use Rattle.calculus.specs.Replacement.{first_cause};
+ghost use Rattle.calculus.specs.Replacement.{first_refusal};
 ghost use Rattle.calculus.specs.declared.change.DbChange.TheVariants as change;
 ghost use Rattle.calculus.specs.declared.request.Utility.TheVariants as utility;
 ghost use Rattle.quel_meaning.specs.Planned.{is_anothers, is_in_use, planned};
@@ -97,7 +97,7 @@ fn destroying_cause<B: Base>(
     rels: &[RelKey],
 ) -> Result<Option<u8>, BaseFault>
     ensures known { (db : Db) → B.schema base.old ≡ Some db
-        → IfOk result (λ n. n ≡ first_cause ((28, list_any (is_catalogue db) rels.now) ∷ (24, list_any (is_anothers user.now) rels.now) ∷ (25, is_in_use db rels.now) ∷ [])) }
+        → IfOk result (λ n. n ≡ first_refusal ((28, list_any (is_catalogue db) rels.now) ∷ (24, list_any (is_anothers user.now) rels.now) ∷ (25, is_in_use db rels.now) ∷ [])) }
     ensures kept { B.database base.new ≡ B.database base.old }
     ensures stays { (s : Db) → B.schema base.old ≡ Some s → B.schema base.new ≡ Some s }
     ensures asked { (b : B) → B.asked b base.old → B.asked b base.new }

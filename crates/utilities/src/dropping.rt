@@ -6,15 +6,15 @@ ghost use Rattle.am_traits.specs.Causes.{HasCause as HasBaseCause};
 ghost use Rattle.calculus.specs.Catalogue.{is_catalogue};
 ghost use Rattle.calculus.specs.Database.{Db};
 ghost use Rattle.calculus.specs.Lists.{has_number};
-ghost use Rattle.calculus.specs.Replacement.{first_cause};
+ghost use Rattle.calculus.specs.Replacement.{first_refusal};
 ghost use Rattle.calculus.specs.declared.change.DbChange.TheVariants as change;
 ghost use Rattle.calculus.specs.declared.request.Utility.TheVariants as utility;
-ghost use Rattle.quel_meaning.specs.Planned.{dropped, has_view, is_none_to_permit, owner_causes, planned};
+ghost use Rattle.quel_meaning.specs.Planned.{dropped, has_view, is_none_to_permit, owner_refusals, planned};
 ghost use Rattle.utilities.specs.Causes.{HasCauseBy};
 
 use crate::UtilFault;
 use crate::listed::{dropped, listed_cause};
-use crate::owners::{owner_cause, permitting_cause};
+use crate::owners::{owner_refusal, permitting_cause};
 use am_traits::{Base, BaseFault};
 use calculus::{DbChange, Name, OutOfMemory, RelKey, TryCopy};
 use memory::both;
@@ -62,7 +62,7 @@ fn permits_cause<B: Base>(
     numbers: &[u32],
 ) -> Result<Option<u8>, BaseFault>
     ensures known { (db : Db) → B.schema base.old ≡ Some db
-        → IfOk result (λ n. n ≡ first_cause ((28, is_catalogue db rel.now) ∷ (26, has_view db rel.now) ∷ (24, is_none_to_permit db user.now rel.now) ∷ (19, not (list_all (has_number standing.now) numbers.now)) ∷ [])) }
+        → IfOk result (λ n. n ≡ first_refusal ((28, is_catalogue db rel.now) ∷ (26, has_view db rel.now) ∷ (24, is_none_to_permit db user.now rel.now) ∷ (19, not (list_all (has_number standing.now) numbers.now)) ∷ [])) }
     ensures kept { B.database base.new ≡ B.database base.old }
     ensures stays { (s : Db) → B.schema base.old ≡ Some s → B.schema base.new ≡ Some s }
     ensures asked { (b : B) → B.asked b base.old → B.asked b base.new }
@@ -85,13 +85,13 @@ fn rules_cause<B: Base>(
     numbers: &[u32],
 ) -> Result<Option<u8>, BaseFault>
     ensures known { (db : Db) → B.schema base.old ≡ Some db
-        → IfOk result (λ n. n ≡ first_cause (owner_causes db user.now rel.now ++ (19, not (list_all (has_number standing.now) numbers.now)) ∷ [])) }
+        → IfOk result (λ n. n ≡ first_refusal (owner_refusals db user.now rel.now ++ (19, not (list_all (has_number standing.now) numbers.now)) ∷ [])) }
     ensures kept { B.database base.new ≡ B.database base.old }
     ensures stays { (s : Db) → B.schema base.old ≡ Some s → B.schema base.new ≡ Some s }
     ensures asked { (b : B) → B.asked b base.old → B.asked b base.new }
     ensures cause { HasBaseCause (B.database base.old) (B.faults base.old) (B.faults base.new) result }
 {
-    match owner_cause(alloc, base, user, rel) {
+    match owner_refusal(alloc, base, user, rel) {
         Ok(None) => Ok(listed_cause(standing, numbers)),
         other => other,
     }

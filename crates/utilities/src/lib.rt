@@ -16,5 +16,5 @@ mod structures;
 mod views;
 
 pub use fault::UtilFault;
-pub use owners::owner_cause;
+pub use owners::owner_refusal;
 pub use planning::plan;

@@ -4,13 +4,13 @@ ghost use Rattle.std.specs.Prelude.{◌≡◌, ◌∷◌, [], is_some, IfOk, Som
 ghost use Rattle.am_traits.specs.Causes.{HasCause};
 ghost use Rattle.calculus.specs.Catalogue.{is_catalogue};
 ghost use Rattle.calculus.specs.Database.{Db, view_at};
-ghost use Rattle.calculus.specs.Replacement.{first_cause};
-ghost use Rattle.quel_meaning.specs.Planned.{has_view, is_anothers, is_none_to_permit, owner_causes};
+ghost use Rattle.calculus.specs.Replacement.{first_refusal};
+ghost use Rattle.quel_meaning.specs.Planned.{has_view, is_anothers, is_none_to_permit, owner_refusals};
 
 use crate::numbers::ANOTHERS;
 use am_traits::{Base, BaseFault};
 use calculus::{Name, RelKey};
-use quel_refusals::relation_cause;
+use quel_refusals::relation_refusal;
 use std::alloc::Global;
 
 /// Whether the user is not the owner.
@@ -42,7 +42,7 @@ fn is_none_to_permit<B: Base>(
 
 /// The cause that what has the key is another's, where it is.
 fn anothers(there: bool) -> Option<u8>
-    ensures { result ≡ first_cause ((24, there) ∷ []) }
+    ensures { result ≡ first_refusal ((24, there) ∷ []) }
 {
     if there { Some(ANOTHERS) } else { None }
 }
@@ -50,19 +50,19 @@ fn anothers(there: bool) -> Option<u8>
 /// What refuses a change of a relation of the user's, by its number, the first in this order: that
 /// the key is a catalogue's (28), a view's (26), or another's (24). `None` where nothing does. Asks
 /// the database for the administrator's name and for the view under the key, and changes nothing.
-pub fn owner_cause<B: Base>(
+pub fn owner_refusal<B: Base>(
     alloc: Global,
     base: &mut B,
     user: &Name,
     rel: &RelKey,
 ) -> Result<Option<u8>, BaseFault>
-    ensures known { (db : Db) → B.schema base.old ≡ Some db → IfOk result (λ n. n ≡ first_cause (owner_causes db user.now rel.now)) }
+    ensures known { (db : Db) → B.schema base.old ≡ Some db → IfOk result (λ n. n ≡ first_refusal (owner_refusals db user.now rel.now)) }
     ensures kept { B.database base.new ≡ B.database base.old }
     ensures stays { (s : Db) → B.schema base.old ≡ Some s → B.schema base.new ≡ Some s }
     ensures asked { (b : B) → B.asked b base.old → B.asked b base.new }
     ensures cause { HasCause (B.database base.old) (B.faults base.old) (B.faults base.new) result }
 {
-    match relation_cause(alloc, base, rel) {
+    match relation_refusal(alloc, base, rel) {
         Ok(None) => Ok(anothers(is_anothers(user, rel))),
         other => other,
     }
@@ -77,13 +77,13 @@ pub(crate) fn permitting_cause<B: Base>(
     rel: &RelKey,
 ) -> Result<Option<u8>, BaseFault>
     ensures known { (db : Db) → B.schema base.old ≡ Some db
-        → IfOk result (λ n. n ≡ first_cause ((28, is_catalogue db rel.now) ∷ (26, has_view db rel.now) ∷ (24, is_none_to_permit db user.now rel.now) ∷ [])) }
+        → IfOk result (λ n. n ≡ first_refusal ((28, is_catalogue db rel.now) ∷ (26, has_view db rel.now) ∷ (24, is_none_to_permit db user.now rel.now) ∷ [])) }
     ensures kept { B.database base.new ≡ B.database base.old }
     ensures stays { (s : Db) → B.schema base.old ≡ Some s → B.schema base.new ≡ Some s }
     ensures asked { (b : B) → B.asked b base.old → B.asked b base.new }
     ensures cause { HasCause (B.database base.old) (B.faults base.old) (B.faults base.new) result }
 {
-    match relation_cause(alloc, base, rel) {
+    match relation_refusal(alloc, base, rel) {
         Ok(None) => {
             let none = is_none_to_permit(alloc, base, user, rel)?;
             Ok(anothers(none))

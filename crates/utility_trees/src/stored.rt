@@ -6,7 +6,7 @@ ghost use Rattle.calculus.specs.declared.request.Checked.TheVariants.{Utility as
 ghost use Rattle.calculus.specs.declared.request.Utility.TheVariants as utility;
 ghost use Rattle.calculus.specs.declared.statement.Statement.TheVariants as statement;
 ghost use Rattle.calculus.specs.Database.{Db};
-ghost use Rattle.calculus.specs.Replacement.{first_cause};
+ghost use Rattle.calculus.specs.Replacement.{first_refusal};
 ghost use Rattle.calculus.specs.Structures.{is_keyed};
 ghost use Rattle.quel_meaning.specs.Causes.{repeats};
 ghost use Rattle.quel_meaning.specs.Naming.{name_refusal};
@@ -113,7 +113,7 @@ fn index_cause<B: Base>(
     keys: &[Name],
 ) -> Result<Option<u8>, BaseFault>
     ensures known { (db : Db) → B.schema base.old ≡ Some db
-        → IfOk result (λ n. n ≡ first_cause ((17, repeats keys.now) ∷ (14, is_full db) ∷ (15, is_taken db user.now name.now) ∷ [])) }
+        → IfOk result (λ n. n ≡ first_refusal ((17, repeats keys.now) ∷ (14, is_full db) ∷ (15, is_taken db user.now name.now) ∷ [])) }
     ensures kept { B.database base.new ≡ B.database base.old }
     ensures stays { (s : Db) → B.schema base.old ≡ Some s → B.schema base.new ≡ Some s }
     ensures asked { (b : B) → B.asked b base.old → B.asked b base.new }
@@ -156,7 +156,7 @@ fn index_found<B: Base>(
     keys: &[Name],
 ) -> Result<Checked, CheckFault>
     ensures known { (db : Db) (ranges : Ranges) → B.schema base.old ≡ Some db → name_refusal (scope_of db user.now ranges) (statement.Index rel.now name.now keys.now) ≡ None
-        → first_cause ((17, repeats keys.now) ∷ (14, is_full db) ∷ (15, is_taken db user.now name.now) ∷ []) ≡ None
+        → first_refusal ((17, repeats keys.now) ∷ (14, is_full db) ∷ (15, is_taken db user.now name.now) ∷ []) ≡ None
         → Serves (scope_of db user.now ranges) (statement.Index rel.now name.now keys.now) result }
     ensures kept { B.database base.new ≡ B.database base.old }
     ensures stays { (s : Db) → B.schema base.old ≡ Some s → B.schema base.new ≡ Some s }

@@ -10,7 +10,7 @@ use Rattle.calculus.specs.Database.{Db, permits_on}
 use Rattle.calculus.specs.Rights.{Right, covers, needs_none, permitted}
 use Rattle.view_text.specs.Halves.{any_of}
 use Rattle.view_text.specs.Scoped.{is_qual_within}
-use Rattle.view_text.specs.ExpansionOf.{permit_condition, cut}
+use Rattle.view_text.specs.ExpansionOf.{permit_condition, restriction}
 use Rattle.view_text.proofs.Scope.{condition_within}
 use Rattle.view_text.proofs.Within.{both_true}
 use Rattle.view_text.proofs.JoinedWithin.{any_within}
@@ -71,13 +71,13 @@ one_within ps asker right attrs (Some c) h = ap (λ b. b && true) (some_within p
 
 -- ---- the cut
 
-pub cut_without : (db : Db) (user : List ℕ) (right : Right) (attrs : List ℕ) (key : RelKey) → needs_none db (asker_of user) right key ≡ true → [] ≡ cut db (as_user user) right attrs key
+pub cut_without : (db : Db) (user : List ℕ) (right : Right) (attrs : List ℕ) (key : RelKey) → needs_none db (asker_of user) right key ≡ true → [] ≡ restriction db (as_user user) right attrs key
 cut_without db user right attrs key h =
     sym (ap (λ b. elim b as (λ x. List QQual) [ true ↦ [] | false ↦ any_of (covering_conditions (permits_on db key) (asker_of user) right attrs) ∷ [] ]) h)
 
-pub cut_with : (db : Db) (user : List ℕ) (right : Right) (attrs : List ℕ) (key : RelKey) (c : QQual) → needs_none db (asker_of user) right key ≡ false
-    → Some c ≡ one_of (covering_conditions (permits_on db key) (asker_of user) right attrs) → c ∷ [] ≡ cut db (as_user user) right attrs key
-cut_with db user right attrs key c h o =
+pub restriction_with : (db : Db) (user : List ℕ) (right : Right) (attrs : List ℕ) (key : RelKey) (c : QQual) → needs_none db (asker_of user) right key ≡ false
+    → Some c ≡ one_of (covering_conditions (permits_on db key) (asker_of user) right attrs) → c ∷ [] ≡ restriction db (as_user user) right attrs key
+restriction_with db user right attrs key c h o =
     ap (λ q. q ∷ []) (one_is (covering_conditions (permits_on db key) (asker_of user) right attrs) c o)
     ∙ sym (ap (λ b. elim b as (λ x. List QQual) [ true ↦ [] | false ↦ any_of (covering_conditions (permits_on db key) (asker_of user) right attrs) ∷ [] ]) h)
 

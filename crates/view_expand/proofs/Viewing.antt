@@ -21,7 +21,7 @@ use Rattle.calculus_laws.proofs.ViewAnswer.{ranged}
 use Rattle.am_traits.specs.Known.{query_at}
 use Rattle.view_text.specs.declared.expansion.Expansion.{Expansion}
 use Rattle.view_text.specs.Expansions.{query_expansions}
-use Rattle.view_text.specs.ExpansionOf.{cut, kept_expansion, rows_expansion, range_expansion, view_text, past_expansion, expansion_within}
+use Rattle.view_text.specs.ExpansionOf.{restriction, kept_expansion, rows_expansion, range_expansion, view_text, past_expansion, expansion_within}
 use Rattle.view_expand.specs.Found.{IsExpansionOf}
 
 -- ---- a view
@@ -93,19 +93,19 @@ few_listed db d key q e =
 -- ---- no view
 
 pub expansion_of_kept : (levels : ℕ) (db : Db) (who : Who) (key : RelKey) (attrs : List ℕ) → None ≡ query_at db key
-    → kept_expansion (cut db who Retrieve attrs key) key ≡ expansion_within levels db who key attrs
+    → kept_expansion (restriction db who Retrieve attrs key) key ≡ expansion_within levels db who key attrs
 unfolding range_at
 expansion_of_kept levels db who key attrs h = levelled levels
   where
     go : (f : View → Expansion) (r : Option Relation) (v : Option View) (c : Option Relation) → None ≡ option_map (λ v. v.query) v
-        → kept_expansion (cut db who Retrieve attrs key) key
+        → kept_expansion (restriction db who Retrieve attrs key) key
         ≡ range_expansion f db who key attrs (elim r as (λ x. Option Range) [ Some relation ↦ Some (Kept relation) | None ↦ elim v as (λ x. Option Range) [ Some view ↦ Some (Viewed view) | None ↦ option_map Kept c ] ])
     go f (Some r) v c h = refl
     go f None (Some v) c h = absurd (cc h)
     go f None None None h = refl
     go f None None (Some r) h = refl
 
-    levelled : (n : ℕ) → kept_expansion (cut db who Retrieve attrs key) key ≡ expansion_within n db who key attrs
+    levelled : (n : ℕ) → kept_expansion (restriction db who Retrieve attrs key) key ≡ expansion_within n db who key attrs
     levelled zero = go (λ view. past_expansion) (relation_at db key) (view_at db key) (catalogue_at db key) h
     levelled (suc n) = go (view_text (expansion_within n db who)) (relation_at db key) (view_at db key) (catalogue_at db key) h
 

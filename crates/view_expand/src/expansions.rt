@@ -17,7 +17,7 @@ use std::alloc::Global;
 use view_text::Expansion;
 
 /// The expansion of what has a key, for one who uses these attributes of it, through at most so many levels
-/// of views: its permits are cut in, and each view's own text is put in. `NoPermit` exactly where
+/// of views: its permits restrict their rows, and each view's own text is put in. `NoPermit` exactly where
 /// something that it reads may not be read, or where views stand on views through more levels. Each view
 /// is walked once for each number of levels that is left where it is met.
 pub fn expansion_within<B: Base>(

@@ -8,7 +8,7 @@ mod found;
 mod needs;
 mod plain;
 mod right;
-mod row_cut;
+mod row_restriction;
 mod expansions;
 mod walk;
 
@@ -17,6 +17,6 @@ pub use expanded::expanded_plain;
 pub use fault::ExpansionFault;
 pub use found::ExpansionsFound;
 pub use right::Right;
-pub use row_cut::cut;
+pub use row_restriction::restriction;
 pub use expansions::expansion_within;
 pub use walk::expansion_at;

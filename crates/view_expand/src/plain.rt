@@ -11,10 +11,10 @@ ghost use Rattle.view_expand.specs.Found.{IsFound};
 ghost use Rattle.view_text.specs.Expanded.{substituted_query};
 ghost use Rattle.view_text.specs.Replaced.{no_aggregate};
 ghost use Rattle.view_text.specs.Scoped.{is_qual_within, is_scoped};
-ghost use Rattle.view_text.specs.ExpansionOf.{cut, kept_expansion, rows_expansion};
+ghost use Rattle.view_text.specs.ExpansionOf.{restriction, kept_expansion, rows_expansion};
 ghost use Rattle.view_text.specs.Expansions.{no_expansion, expansions_vars};
 
-use crate::row_cut::cut;
+use crate::row_restriction::restriction;
 use crate::{Right, ExpansionFault, ExpansionsFound};
 use am_traits::Base;
 use calculus::{List, Name, OutOfMemory, QQual, Query, RelKey, TryCopy};
@@ -80,7 +80,7 @@ pub(crate) fn plain_expansion<B: Base>(
     found: &mut ExpansionsFound,
 ) -> Result<Expansion, ExpansionFault>
     requires found { (db : Db) → B.database base.old ≡ Some db → IsFound db (who_of (option_map (λ n. n.now) who)) found.old }
-    ensures known { (db : Db) → B.database base.old ≡ Some db → IfOk result (λ expansion. expansion ≡ kept_expansion (cut db (who_of (option_map (λ n. n.now) who.entry)) Retrieve attrs.now key.now) key.now) }
+    ensures known { (db : Db) → B.database base.old ≡ Some db → IfOk result (λ expansion. expansion ≡ kept_expansion (restriction db (who_of (option_map (λ n. n.now) who.entry)) Retrieve attrs.now key.now) key.now) }
     ensures permitted { (db : Db) → B.database base.old ≡ Some db → OnOk result (permitted db (who_of (option_map (λ n. n.now) who.entry)) Retrieve attrs.now key.now ≡ true) }
     ensures scoped { IfOk result (λ expansion. is_scoped expansion ≡ true) }
     ensures found { (db : Db) → B.database base.old ≡ Some db → IsFound db (who_of (option_map (λ n. n.now) who.entry)) found.new }
@@ -89,7 +89,7 @@ pub(crate) fn plain_expansion<B: Base>(
     ensures asked { (b : B) → B.asked b base.old → B.asked b base.new }
     ensures cause { HasCause (λ db. permitted db (who_of (option_map (λ n. n.now) who.entry)) Retrieve attrs.now key.now ≡ false) (B.database base.old) (B.faults base.old) (B.faults base.new) result }
 {
-    match cut(alloc, base, who, Right::Retrieve, attrs, key, found) {
+    match restriction(alloc, base, who, Right::Retrieve, attrs, key, found) {
         Ok(condition) => match kept(alloc, key, condition) {
             Ok(expansion) => Ok(expansion),
             Err(_) => Err(ExpansionFault::OutOfMemory),

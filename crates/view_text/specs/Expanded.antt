@@ -26,7 +26,7 @@ use Rattle.view_text.specs.declared.expansion.Expansion.{Expansion}
 use Rattle.view_text.specs.Replaced.{Substitution, replaced, replaced_in_qual, replaced_target, no_aggregate, without_value}
 use Rattle.view_text.specs.Halves.{all_of}
 use Rattle.view_text.specs.Expansions.{ExpansionSource, used_expansion, query_expansions, expansions_vars, substituted_from, conditions_from, place_from}
-use Rattle.view_text.specs.ExpansionOf.{cut, kept_expansion, expansion_within, expansion_of}
+use Rattle.view_text.specs.ExpansionOf.{restriction, kept_expansion, expansion_within, expansion_of}
 
 -- the query over the variables of these expansion, one for each of its own: their terms stand in place of its attributes, and their conditions hold too
 abbrev pub substituted_query : (QTerm → QTerm) → List Expansion → Query → Query
@@ -52,17 +52,17 @@ expanded_source db who (Named key) = expanded_range db who key (range_at db key)
 expanded_source db who (rows_of_query q) = rows_of_query (expanded_plain (expansion_of db who) q)
 
 -- the conditions on the rows of what has a key, of which these attributes are used; a view has them in the query that stands for it
-abbrev pub range_cut : Db → Who → List ℕ → RelKey → Option Range → List QQual
-range_cut db who attrs key None = cut db who Retrieve attrs key
-range_cut db who attrs key (Some (Kept relation)) = cut db who Retrieve attrs key
-range_cut db who attrs key (Some (Viewed view)) = []
+abbrev pub range_restriction : Db → Who → List ℕ → RelKey → Option Range → List QQual
+range_restriction db who attrs key None = restriction db who Retrieve attrs key
+range_restriction db who attrs key (Some (Kept relation)) = restriction db who Retrieve attrs key
+range_restriction db who attrs key (Some (Viewed view)) = []
 
 -- the conditions on the rows that an aggregate is over
-abbrev pub source_cut : Db → Who → List ℕ → AggSource → List QQual
-source_cut db who attrs (Named key) = range_cut db who attrs key (range_at db key)
-source_cut db who attrs (rows_of_query q) = []
+abbrev pub source_restriction : Db → Who → List ℕ → AggSource → List QQual
+source_restriction db who attrs (Named key) = range_restriction db who attrs key (range_at db key)
+source_restriction db who attrs (rows_of_query q) = []
 
--- the aggregate over what its source stands for, cut down to what may be read, and with these terms in place of the attributes of its links
+-- the aggregate over what its source stands for, restricted to what may be read, and with these terms in place of the attributes of its links
 abbrev pub expanded_aggregate : Db → Who → Substitution → QAgg → QAgg
 expanded_aggregate db who put g = record {
   slot = g.slot;
@@ -71,7 +71,7 @@ expanded_aggregate db who put g = record {
   arg = g.arg;
   by = g.by;
   link = map (replaced no_aggregate put) g.link;
-  qual = all_of (g.qual ∷ source_cut db who (used_in_aggregate g) g.source);
+  qual = all_of (g.qual ∷ source_restriction db who (used_in_aggregate g) g.source);
 }
 
 -- the aggregate that a term is, so
@@ -96,13 +96,13 @@ unfoldable pub expanded : Db → Who → Query → Query
 expanded db who q = expanded_over db who (query_expansions (expansion_of db who) q) q
 
 -- the conditions on a row of which these attributes are read; none where none is
-abbrev pub read_cut : Db → Who → List ℕ → RelKey → List QQual
-read_cut db who [] key = []
-read_cut db who (a ∷ attrs) key = cut db who Retrieve (a ∷ attrs) key
+abbrev pub read_restriction : Db → Who → List ℕ → RelKey → List QQual
+read_restriction db who [] key = []
+read_restriction db who (a ∷ attrs) key = restriction db who Retrieve (a ∷ attrs) key
 
--- the expansion of the variable whose rows are replaced or deleted: its relation, cut down to the rows that may be so changed, and read where they are read
+-- the expansion of the variable whose rows are replaced or deleted: its relation, restricted to the rows that may be so changed, and read where they are read
 abbrev pub changed_expansion : Db → Who → Right → List ℕ → List ℕ → RelKey → Expansion
-changed_expansion db who right places read key = kept_expansion (cut db who right places key ++ read_cut db who read key) key
+changed_expansion db who right places read key = kept_expansion (restriction db who right places key ++ read_restriction db who read key) key
 
 -- the expansion of an update's variable
 abbrev pub update_expansion : Db → Who → Update → ℕ → RelKey → Expansion
@@ -120,11 +120,11 @@ abbrev pub update_expansions : Db → Who → Update → List Expansion
 update_expansions db who u = map (λ p. update_expansion db who u p.0 p.1) (enumerate_from 0 (vars_of u.query))
 
 -- what must hold of the row that an append puts: that it may be appended
-abbrev pub put_cut : Db → Who → Update → UpdateOp → QQual
-put_cut db who u op.Append = all_of (u.new_cut ∷ cut db who Append u.places u.rel)
-put_cut db who u op.Replace = u.new_cut
-put_cut db who u op.Delete = u.new_cut
-put_cut db who u op.Into = u.new_cut
+abbrev pub append_restriction : Db → Who → Update → UpdateOp → QQual
+append_restriction db who u op.Append = all_of (u.new_cut ∷ restriction db who Append u.places u.rel)
+append_restriction db who u op.Replace = u.new_cut
+append_restriction db who u op.Delete = u.new_cut
+append_restriction db who u op.Into = u.new_cut
 
 -- the place of the variable whose rows are replaced or deleted, where it has moved
 abbrev pub put_place : List Expansion → Update → ℕ
@@ -134,7 +134,7 @@ put_place expansions u = elim (changed u) [ None ↦ u.old | Some c ↦ place_fr
 unfoldable pub expanded_update : Db → Who → Update → Update
 expanded_update db who u =
     let expansions = update_expansions db who u in
-    record u { old = put_place expansions u; query = expanded_over db who expansions u.query; new_cut = put_cut db who u u.op }
+    record u { old = put_place expansions u; query = expanded_over db who expansions u.query; new_cut = append_restriction db who u u.op }
 
 -- ---- trees
 

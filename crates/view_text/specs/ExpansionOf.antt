@@ -1,4 +1,4 @@
--- The expansion of what stands under a key, for one who asks: views are expanded, and permits are cut in as conditions on rows.
+-- The expansion of what stands under a key, for one who asks: views are expanded, and permits restrict their rows as conditions on rows.
 use Rattle.std.specs.Prelude.{ℕ, Bool, true, false, List, [], ◌∷◌, ◌++◌, map, filter, Option, Some, None}
 use Rattle.calculus.specs.declared.operator.CmpOp.TheVariants.{Eq}
 use Rattle.calculus.specs.declared.query.RelKey.{RelKey}
@@ -32,12 +32,12 @@ abbrev pub covering : Db → Asker → Right → List ℕ → RelKey → List Pe
 covering db asker right attrs key = filter (λ p. covers p asker right attrs) (permits_on db key)
 
 -- the conditions on a row with which one may do this with these attributes: none where no permit is needed, else that the qualification of a covering permit holds
-abbrev pub cut : Db → Who → Right → List ℕ → RelKey → List QQual
-cut db Unrestricted right attrs key = []
-cut db (AsUser asker) right attrs key = cut_by (needs_none db asker right key)
+abbrev pub restriction : Db → Who → Right → List ℕ → RelKey → List QQual
+restriction db Unrestricted right attrs key = []
+restriction db (AsUser asker) right attrs key = restriction_by (needs_none db asker right key)
   where
-    cut_by : Bool → List QQual
-    cut_by b = elim b [ true ↦ [] | false ↦ any_of (map permit_condition (covering db asker right attrs key)) ∷ [] ]
+    restriction_by : Bool → List QQual
+    restriction_by b = elim b [ true ↦ [] | false ↦ any_of (map permit_condition (covering db asker right attrs key)) ∷ [] ]
 
 -- ---- what stands under a key
 
@@ -80,8 +80,8 @@ past_expansion = record { vars = []; terms = Some []; conditions = negated True 
 
 -- the expansion of what a variable ranges over, where `of_view` is that of a view
 abbrev pub range_expansion : (View → Expansion) → Db → Who → RelKey → List ℕ → Option Range → Expansion
-range_expansion of_view db who key attrs None = kept_expansion (cut db who Retrieve attrs key) key
-range_expansion of_view db who key attrs (Some (Kept relation)) = kept_expansion (cut db who Retrieve attrs key) key
+range_expansion of_view db who key attrs None = kept_expansion (restriction db who Retrieve attrs key) key
+range_expansion of_view db who key attrs (Some (Kept relation)) = kept_expansion (restriction db who Retrieve attrs key) key
 range_expansion of_view db who key attrs (Some (Viewed view)) = of_view view
 
 -- the expansion of what stands under a key, for one who uses these attributes of it, through at most so many levels of views

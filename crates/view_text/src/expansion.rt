@@ -2,7 +2,7 @@
 
 use calculus::{List, QQual, QTerm, RelKey};
 
-/// What stands for a variable once views are expanded and permits are cut in: variables over base
+/// What stands for a variable once views are expanded and permits restrict their rows: variables over base
 /// relations and catalogues, a term for each attribute, and the conditions on their rows.
 pub struct Expansion {
     /// What its variables range over, in their order.

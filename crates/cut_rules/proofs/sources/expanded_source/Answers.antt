@@ -8,7 +8,7 @@ use Rattle.quel_meaning.specs.FitQueries.{kept_or_viewed, source_fits}
 use Rattle.view_expand.specs.Asking.{who_of}
 use Rattle.view_expand.specs.Causes.{HasCause}
 use Rattle.view_expand.proofs.Causing.{caused_behind}
-use Rattle.cut_rules.proofs.Ranging.{named_few, rows_cut, rows_few, rows_listed, rows_put, rows_readable}
+use Rattle.cut_rules.proofs.Ranging.{named_few, rows_restriction, rows_few, rows_listed, rows_put, rows_readable}
 use Rattle.cut_rules.proofs.sources.expanded_source.Goals as goal
 
 pub named_source-requires-clause-few : goal.named_source-requires-clause-few
@@ -40,7 +40,7 @@ returns-in-Rows-clause-known g c = λ db h.
 pub returns-in-Rows-clause-cuts : goal.returns-in-Rows-clause-cuts
 returns-in-Rows-clause-cuts g c = λ db h.
     subst (λ x. IfOk c.rows_source.result (λ made. option_to_list made.1 ≡ x))
-    (rows_cut db (who_of (option_map (λ n. n.now) c.args.who)) c.args.attrs.now c.args.source.now c.in-Rows.query c.in-Rows.is) c.rows_source.ensures.unrestricted
+    (rows_restriction db (who_of (option_map (λ n. n.now) c.args.who)) c.args.attrs.now c.args.source.now c.in-Rows.query c.in-Rows.is) c.rows_source.ensures.unrestricted
 
 pub returns-in-Rows-clause-permitted : goal.returns-in-Rows-clause-permitted
 returns-in-Rows-clause-permitted g c = λ db h.

@@ -6,7 +6,7 @@ use Rattle.calculus.specs.Used.{used_vars}
 use Rattle.view_expand.specs.Asking.{who_of}
 use Rattle.view_expand.proofs.Causing.{caused_behind}
 use Rattle.view_expand.proofs.Viewing.{few_listed}
-use Rattle.cut_rules.proofs.Ranging.{cut_of_kept, cut_of_view, few_of_view, readable_of_kept, readable_of_view, source_of_kept, source_of_view}
+use Rattle.cut_rules.proofs.Ranging.{restriction_of_kept, restriction_of_view, few_of_view, readable_of_kept, readable_of_view, source_of_kept, source_of_view}
 use Rattle.cut_rules.proofs.sources.named_source.Goals as goal
 
 pub rows_source-made-requires-clause-listed : goal.rows_source-made-requires-clause-listed
@@ -26,7 +26,7 @@ returns-in-Some-clause-known g c = λ db h.
 
 pub returns-in-Some-clause-cuts : goal.returns-in-Some-clause-cuts
 returns-in-Some-clause-cuts g c = λ db h.
-    let e = cut_of_view db (g.B.Base.lawful c.args.base.now db (g.B.Base.own c.args.base.now db h)) (who_of (option_map (λ n. n.now) c.args.who)) c.args.attrs.now c.args.key.now c.in-Some.query (sym c.in-Some.is ∙ c.in_ok-query.ensures.known db (g.B.Base.own c.args.base.now db h)) in
+    let e = restriction_of_view db (g.B.Base.lawful c.args.base.now db (g.B.Base.own c.args.base.now db h)) (who_of (option_map (λ n. n.now) c.args.who)) c.args.attrs.now c.args.key.now c.in-Some.query (sym c.in-Some.is ∙ c.in_ok-query.ensures.known db (g.B.Base.own c.args.base.now db h)) in
     subst (λ x. IfOk c.rows_source-made.result (λ made. option_to_list made.1 ≡ x)) e c.rows_source-made.ensures.unrestricted
 
 pub returns-in-Some-clause-permitted : goal.returns-in-Some-clause-permitted
@@ -50,7 +50,7 @@ returns-in-None-clause-known g c = λ db h.
 
 pub returns-in-None-clause-cuts : goal.returns-in-None-clause-cuts
 returns-in-None-clause-cuts g c = λ db h.
-    let e = cut_of_kept db (who_of (option_map (λ n. n.now) c.args.who)) c.args.attrs.now c.args.key.now (sym c.in-None.is ∙ c.in_ok-query.ensures.known db (g.B.Base.own c.args.base.now db h)) in
+    let e = restriction_of_kept db (who_of (option_map (λ n. n.now) c.args.who)) c.args.attrs.now c.args.key.now (sym c.in-None.is ∙ c.in_ok-query.ensures.known db (g.B.Base.own c.args.base.now db h)) in
     subst (λ x. IfOk c.kept_source.result (λ made. option_to_list made.1 ≡ x)) e (c.kept_source.ensures.known db (c.in_ok-query.ensures.kept ∙ h))
 
 pub returns-in-None-clause-permitted : goal.returns-in-None-clause-permitted

@@ -3,7 +3,7 @@ use Rattle.std.specs.List.{enumerate_from}
 use Rattle.calculus.specs.QueryParts.{vars_of}
 use Rattle.quel_meaning.specs.FitQueries.{kept_or_viewed}
 use Rattle.view_expand.specs.Asking.{who_of}
-use Rattle.view_text.specs.Expanded.{put_cut, expanded_update, expanded_over, put_place}
+use Rattle.view_text.specs.Expanded.{append_restriction, expanded_update, expanded_over, put_place}
 use Rattle.view_text.specs.Expansions.{expansions_vars}
 use Rattle.cut_rules.specs.Placed.{expansion_in}
 use Rattle.cut_rules.proofs.Causing.{caused_behind, failed_so, on_both}
@@ -34,7 +34,7 @@ returns-in-Ok-clause-known g c = λ db h.
     let who = (who_of (option_map (λ n. n.now) c.args.who)) in
     let made : c.deref.result.now ≡ map (expansion_in db who c.args.u.now) (enumerate_from 0 (vars_of c.args.u.now.query)) =
     c.deref.ensures.value ∙ c.in-Ok.ensures.known db h ∙ ap (λ ts. ts ++ map (expansion_in db who c.args.u.now) (enumerate_from 0 (vars_of c.args.u.now.query))) c.new-expansions.ensures.items in
-    subst (λ ts. IfOk c.expanded_over_few.result (λ made. made ≡ record c.args.u.now { old = put_place ts c.args.u.now; query = expanded_over db who ts c.args.u.now.query; new_cut = put_cut db who c.args.u.now c.args.u.now.op }))
+    subst (λ ts. IfOk c.expanded_over_few.result (λ made. made ≡ record c.args.u.now { old = put_place ts c.args.u.now; query = expanded_over db who ts c.args.u.now.query; new_cut = append_restriction db who c.args.u.now c.args.u.now.op }))
     made (c.expanded_over_few.ensures.known db (c.in-Ok.ensures.kept ∙ h))
 
 pub returns-in-Ok-clause-permitted : goal.returns-in-Ok-clause-permitted

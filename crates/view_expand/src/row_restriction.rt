@@ -12,7 +12,7 @@ ghost use Rattle.view_expand.specs.Causes.{HasCause};
 ghost use Rattle.view_expand.specs.Covering.{covering_conditions, one_of};
 ghost use Rattle.view_expand.specs.Found.{IsFound};
 ghost use Rattle.view_text.specs.Scoped.{is_qual_within};
-ghost use Rattle.view_text.specs.ExpansionOf.{cut};
+ghost use Rattle.view_text.specs.ExpansionOf.{restriction};
 
 use crate::covering::put_covering;
 use crate::needs::needs_none;
@@ -114,8 +114,8 @@ fn condition_on<B: Base>(
 }
 
 /// The condition on rows for a user who asks; `None` where no permit is needed.
-#[tactic(auto, using(crate::proofs::Cutting::cut_without, crate::proofs::Cutting::cut_with, crate::proofs::Cutting::permitted_without, crate::proofs::Cutting::permitted_with, crate::proofs::Cutting::not_permitted))]
-fn cut_for<B: Base>(
+#[tactic(auto, using(crate::proofs::Cutting::cut_without, crate::proofs::Cutting::restriction_with, crate::proofs::Cutting::permitted_without, crate::proofs::Cutting::permitted_with, crate::proofs::Cutting::not_permitted))]
+fn restriction_for<B: Base>(
     alloc: Global,
     base: &mut B,
     user: &Name,
@@ -125,7 +125,7 @@ fn cut_for<B: Base>(
     found: &mut ExpansionsFound,
 ) -> Result<Option<QQual>, ExpansionFault>
     requires found { (db : Db) → B.database base.old ≡ Some db → IsFound db (as_user user.now) found.old }
-    ensures known { (db : Db) → B.database base.old ≡ Some db → IfOk result (λ o. option_to_list o ≡ cut db (as_user user.now) (right_of right) attrs.now key.now) }
+    ensures known { (db : Db) → B.database base.old ≡ Some db → IfOk result (λ o. option_to_list o ≡ restriction db (as_user user.now) (right_of right) attrs.now key.now) }
     ensures permitted { (db : Db) → B.database base.old ≡ Some db → OnOk result (permitted db (as_user user.now) (right_of right) attrs.now key.now ≡ true) }
     ensures within { IfOk result (λ o. list_all (is_qual_within 1) (option_to_list o) ≡ true) }
     ensures found { (db : Db) → B.database base.old ≡ Some db → IsFound db (as_user user.now) found.new }
@@ -149,7 +149,7 @@ fn cut_for<B: Base>(
 /// none covers it. What was found before, for the same one who asks, is made use of, and what is found is
 /// kept beside it.
 #[tactic(auto, unfolding(calculus::specs::Rights::permitted))]
-pub fn cut<B: Base>(
+pub fn restriction<B: Base>(
     alloc: Global,
     base: &mut B,
     who: Option<&Name>,
@@ -159,7 +159,7 @@ pub fn cut<B: Base>(
     found: &mut ExpansionsFound,
 ) -> Result<Option<QQual>, ExpansionFault>
     requires found { (db : Db) → B.database base.old ≡ Some db → IsFound db (who_of (option_map (λ n. n.now) who)) found.old }
-    ensures known { (db : Db) → B.database base.old ≡ Some db → IfOk result (λ o. option_to_list o ≡ cut db (who_of (option_map (λ n. n.now) who.entry)) (right_of right) attrs.now key.now) }
+    ensures known { (db : Db) → B.database base.old ≡ Some db → IfOk result (λ o. option_to_list o ≡ restriction db (who_of (option_map (λ n. n.now) who.entry)) (right_of right) attrs.now key.now) }
     ensures permitted { (db : Db) → B.database base.old ≡ Some db → OnOk result (permitted db (who_of (option_map (λ n. n.now) who.entry)) (right_of right) attrs.now key.now ≡ true) }
     ensures within { IfOk result (λ o. list_all (is_qual_within 1) (option_to_list o) ≡ true) }
     ensures found { (db : Db) → B.database base.old ≡ Some db → IsFound db (who_of (option_map (λ n. n.now) who.entry)) found.new }
@@ -169,7 +169,7 @@ pub fn cut<B: Base>(
     ensures cause { HasCause (λ db. permitted db (who_of (option_map (λ n. n.now) who.entry)) (right_of right) attrs.now key.now ≡ false) (B.database base.old) (B.faults base.old) (B.faults base.new) result }
 {
     match who {
-        Some(user) => cut_for(alloc, base, user, right, attrs, key, found),
+        Some(user) => restriction_for(alloc, base, user, right, attrs, key, found),
         None => Ok(None),
     }
 }

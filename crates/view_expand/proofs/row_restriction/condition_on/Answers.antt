@@ -3,7 +3,7 @@ use Rattle.calculus.specs.Database.{permits_on}
 use Rattle.calculus.specs.Who.{asker_of, as_user}
 use Rattle.view_expand.specs.Asking.{right_of}
 use Rattle.view_expand.specs.Covering.{covering_conditions, one_of}
-use Rattle.view_expand.proofs.row_cut.condition_on.Goals as goal
+use Rattle.view_expand.proofs.row_restriction.condition_on.Goals as goal
 
 pub returns-in-Ok-clause-known : goal.returns-in-Ok-clause-known
 returns-in-Ok-clause-known g c = λ db h.
