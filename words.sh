@@ -18,3 +18,12 @@ if [ "$FIRST" = 0 ]; then python3 words.py begin; fi
 . ./words_groups.sh
 
 python3 words.py verify --but crates/view_tests/src/texts.rt
+
+# the crates: the one with the traits PageStore and AccessMethod is am_traits, the one with Base is base_trait
+if [ "$LAST" -ge 9 ]; then
+  python3 bench/layout rename am_traits base_trait --no-fmt --no-check > /tmp/words-rename-1.txt
+  python3 bench/layout rename access_traits am_traits --no-fmt --no-check > /tmp/words-rename-2.txt
+  for it in crates/*; do (cd "$it" && rt fmt) || exit 1; done
+  python3 .ci/definitions
+  python3 bench/layout check
+fi

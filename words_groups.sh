@@ -232,3 +232,12 @@ for it in owner_cause rule_cause relation_cause name_cause update_cause changed_
 done
 s causes refusals $RF
 q --choose causes=refusals first_cause=first_refusal
+
+g "8 docs/developing.md: the table of words, and the names of clauses"
+t '^\| `known`, `is_known` \| known \|\n|^\| `told`, `tells` \| known \|\n' '' docs/developing.md
+t '^\| `(Free|Unrestricted)`, [^\n]*\n' '' docs/developing.md
+t '^\| `(Asks|AsUser)`, [^\n]*\n' '' docs/developing.md
+t '^\| `(put_in|expanded)`, [^\n]*\n' '' docs/developing.md
+t '^\| `cut` \| restricted, by permits \|\n' '' docs/developing.md
+t '^\| `cause`, of a statement \| a refusal, by its number \|\n' '' docs/developing.md
+t '^\| `known`, `(still_known|still_cached)`, `begins`, `goes_on` \| of a base: the catalogues need no more reads; they go on so' '| `cached`, `still_cached`, `begins`, `goes_on` | of a base: the catalogues need no more reads; they go on so' docs/developing.md

@@ -3,9 +3,9 @@
 ghost use Rattle.std.specs.Prelude.{◌≡◌, ◌+◌, ◌++◌, ◌^◌, ◌<◌, ◌≤◌, Some, true, All, IsTrue, IfOk, OnOk, length};
 ghost use Rattle.disk_model.specs.Disk.{Image, RisesUpTo};
 ghost use Rattle.calculus.specs.Rows.{has};
-ghost use Rattle.access_traits.specs.Causes.{HasFileCause};
-ghost use Rattle.access_traits.specs.Pages.{KeepsOthers};
-ghost use Rattle.access_traits.specs.Placed.{Placed, Replaced, NowHolds, SameButUsed, rows_differ, rows_of};
+ghost use Rattle.am_traits.specs.Causes.{HasFileCause};
+ghost use Rattle.am_traits.specs.Pages.{KeepsOthers};
+ghost use Rattle.am_traits.specs.Placed.{Placed, Replaced, NowHolds, SameButUsed, rows_differ, rows_of};
 ghost use Rattle.page_cells.specs.RowBytes.{is_row, widths};
 ghost use Rattle.page_chain.specs.Lying.{place_of};
 ghost use Rattle.page_chain.specs.Pages.{page_at};
@@ -14,8 +14,8 @@ ghost use Rattle.heap_am.specs.Heap.{heap_rows, stands, pages_ahead, HeapFault};
 ghost use Rattle.heap_am.specs.Laws.{no_rows_at_fault, own_pages, whole_scan};
 ghost use Rattle.heap_am.specs.Met.{placed_from, on_page};
 
-use access_traits::{AccessMethod, PageStore, RelFile};
-use am_traits::BaseFault;
+use am_traits::{AccessMethod, PageStore, RelFile};
+use base_trait::BaseFault;
 use calculus::{Place, Probe, Row};
 use heap_am::Heap;
 use memory::List;

@@ -1,7 +1,7 @@
 //! The kinds of a source's attributes, and the least and the greatest of no value.
 
 ghost use Rattle.std.specs.Prelude.{◌≡◌, [], map, Some, IfOk};
-ghost use Rattle.am_traits.specs.Causes.{HasCause};
+ghost use Rattle.base_trait.specs.Causes.{HasCause};
 ghost use Rattle.calculus.specs.declared.value.Value.TheVariants.{Text as Empty};
 ghost use Rattle.calculus.specs.Aggregate.{source_kinds, none_value};
 ghost use Rattle.calculus.specs.Database.{Db};
@@ -9,7 +9,7 @@ ghost use Rattle.calculus.specs.Kinds.{is_text_kind};
 ghost use Rattle.calculus.specs.QueryParts.{targets_of};
 ghost use Rattle.aggregates.specs.Settled.{none_over};
 
-use am_traits::{Base, BaseFault};
+use base_trait::{Base, BaseFault};
 use calculus::{
     AggSource, Domain, Kind, OutOfMemory, QAgg, QTerm, Query, Target, Text, Value, kind_of,
 };

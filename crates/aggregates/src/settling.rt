@@ -3,7 +3,7 @@
 ghost use Rattle.std.specs.Prelude.{◌≡◌, [], ◌∷◌, ◌++◌, List, filter, length, map, Some, IsTrue, IfOk, OnOk};
 ghost use Rattle.std.specs.List.{list_all};
 ghost use Rattle.std.specs.Ordering.{is_eq};
-ghost use Rattle.am_traits.specs.Causes.{HasCause};
+ghost use Rattle.base_trait.specs.Causes.{HasCause};
 ghost use Rattle.calculus.specs.declared.value.Value.{Value as Cell};
 ghost use Rattle.calculus.specs.Aggregate.{aggregates, fold_values};
 ghost use Rattle.calculus.specs.Database.{Db};
@@ -25,7 +25,7 @@ use crate::kinds::none_value;
 use crate::listed::aggregates_of;
 use crate::members::members;
 use crate::sources::source_rows;
-use am_traits::{Base, BaseFault};
+use base_trait::{Base, BaseFault};
 use calculus::{AggOp, AggTable, Groups, OutOfMemory, QAgg, Query, Row, RowSet, TryCopy, Value};
 use std::alloc::Global;
 

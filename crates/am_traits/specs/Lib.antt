@@ -1,5 +1,3 @@
 pub mod Causes
-pub mod Crashes
-pub mod InMemory
-pub mod Scans
-pub mod Known
+pub mod Pages
+pub mod Placed

@@ -1,6 +1,6 @@
 //! What the tests share: names, trees that are read of their bytes, and the one way in which a change is laid.
 
-use am_traits::{Base, BaseFault};
+use base_trait::{Base, BaseFault};
 use calculus::{Checked, DbChange, Name, Query, RelKey};
 use change_check::fit_change;
 use plain_base::DbPlain;

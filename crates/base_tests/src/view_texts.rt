@@ -1,7 +1,7 @@
 use crate::made::{key_of, laid, named};
 use crate::shown::{put, put_qual, put_terms, put_vars};
 use crate::tower::tower;
-use am_traits::Base;
+use base_trait::Base;
 use calculus::{Name, QQual, RelKey};
 use plain_base::DbPlain;
 use std::alloc::Global;

@@ -15,7 +15,7 @@ use Rattle.batch_file.specs.Staged.{size_of, staged, completed}
 use Rattle.batch_file.proofs.Lays.{kept_by, kept_not_batch, latest-append, latest_off}
 use Rattle.batch_file.proofs.Collecting.{all_places}
 use Rattle.batch_file.proofs.Listing.{length-entries}
-use Rattle.access_traits.specs.Pages.{with_page}
+use Rattle.am_traits.specs.Pages.{with_page}
 use Rattle.batch_store.specs.Numbers.{number_of, last_for, AreBelow, AreNumbered}
 use Rattle.batch_store.specs.Standing.{standing, known}
 use Rattle.batch_store.proofs.Numbering.{latest_none, latest_image, last_for-append, last_for-renewed, latest-renewed}

@@ -5,13 +5,13 @@ ghost use Rattle.disk_model.specs.Disk.{Image, Changes, LeavesOnly};
 ghost use Rattle.batch_file.specs.OnDisk.{InBatch, SameOutside};
 ghost use Rattle.batch_file.specs.Redone.{IsShut};
 ghost use Rattle.batch_file.specs.Staged.{size_of, staged, Holds};
-ghost use Rattle.access_traits.specs.Causes.{HasStoreCause};
-ghost use Rattle.access_traits.specs.Pages.{with_page};
+ghost use Rattle.am_traits.specs.Causes.{HasStoreCause};
+ghost use Rattle.am_traits.specs.Pages.{with_page};
 ghost use Rattle.batch_store.specs.Numbers.{number_of, AreBelow, AreNumbered};
 ghost use Rattle.batch_store.specs.Standing.{standing};
 
 use crate::reading::{Numbers, number_for};
-use access_traits::StoreFault;
+use am_traits::StoreFault;
 use batch_file::Batch;
 use disk_model::{Addr, Disk, Page};
 

@@ -17,7 +17,7 @@ use Rattle.calculus.specs.Stored.{rows_at}
 use Rattle.calculus.specs.Value.{row_cmp}
 use Rattle.disk_model.specs.Disk.{Image}
 use Rattle.disk_model.specs.declared.disk.Addr.{Addr}
-use Rattle.access_traits.specs.Placed.{rows_of}
+use Rattle.am_traits.specs.Placed.{rows_of}
 use Rattle.calculus.specs.declared.schema.RelFile.{RelFile}
 use Rattle.heap_am.specs.Heap.{HeapFault, heap_rows}
 use Rattle.page_chain.specs.Lists.{◌>>=◌, each, once}

@@ -8,7 +8,7 @@ use Rattle.std.proofs.lemmas.Bool.Decides.{nat_tests}
 use Rattle.std.proofs.lemmas.Cmp.{tied_itself}
 use Rattle.std.proofs.lemmas.List.Elements.{All-from_recursion}
 use Rattle.std.proofs.lemmas.Option.{same_Some, none-some}
-use Rattle.access_traits.specs.Pages.{SameElsewhere, KeepsOthers}
+use Rattle.am_traits.specs.Pages.{SameElsewhere, KeepsOthers}
 use Rattle.calculus.specs.declared.schema.RelFile.{RelFile}
 use Rattle.calculus.specs.declared.query.RelKey.{RelKey}
 use Rattle.calculus.specs.declared.change.DbChange.{DbChange}

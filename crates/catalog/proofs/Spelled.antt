@@ -16,7 +16,7 @@ use Rattle.calculus.specs.Keys.{same_key}
 use Rattle.calculus.specs.Structures.{is_keyed, is_structure}
 use Rattle.disk_model.specs.Disk.{Image}
 use Rattle.disk_model.specs.declared.disk.Addr.{Addr}
-use Rattle.access_traits.specs.Causes.{IsAtFault}
+use Rattle.am_traits.specs.Causes.{IsAtFault}
 use Rattle.calculus.specs.declared.schema.RelFile.{RelFile}
 use Rattle.page_chain.specs.Pages.{pages_of}
 use Rattle.plain_base.specs.Shown.{database_of}

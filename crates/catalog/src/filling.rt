@@ -1,7 +1,7 @@
 //! The rows of a relation are read.
 
 ghost use Rattle.std.specs.Prelude.{◌≡◌, ◌↔◌, [], true, false, Some, IfOk, OnOk, OnErr, if◌then◌else◌};
-ghost use Rattle.access_traits.specs.Causes.{HasFileCause};
+ghost use Rattle.am_traits.specs.Causes.{HasFileCause};
 ghost use Rattle.calculus.specs.Change.{IsLawful, laid};
 ghost use Rattle.calculus.specs.Database.{Db, is_relation};
 ghost use Rattle.calculus.specs.IsDatabase.{IsDatabase};
@@ -19,8 +19,8 @@ ghost use Rattle.catalog.specs.Filling.{IsFileOf, IsSame, IsTaken};
 use crate::catalog::Catalog;
 use crate::files::relation_file;
 use crate::spots::SpotTable;
-use access_traits::{PageStore, RelFile};
-use am_traits::BaseFault;
+use am_traits::{PageStore, RelFile};
+use base_trait::BaseFault;
 use calculus::{DbChange, List, OutOfMemory, RelKey, Row, TryCopy};
 use change_check::{fit_change, is_relation};
 use plain_base::DbPlain;

@@ -1,7 +1,7 @@
 //! A change is laid, in memory and on pages.
 
 ghost use Rattle.std.specs.Prelude.{◌≡◌, true, Some, IfOk, OnOk};
-ghost use Rattle.access_traits.specs.Causes.{HasFileCause};
+ghost use Rattle.am_traits.specs.Causes.{HasFileCause};
 ghost use Rattle.calculus.specs.Change.{IsLawful, laid};
 ghost use Rattle.calculus.specs.Database.{Db};
 ghost use Rattle.calculus.specs.IsDatabase.{IsDatabase};
@@ -24,8 +24,8 @@ use crate::catalog::Catalog;
 use crate::filling::is_lawful;
 use crate::placing::{Given, make_pages};
 use crate::spots::SpotTable;
-use access_traits::PageStore;
-use am_traits::BaseFault;
+use am_traits::PageStore;
+use base_trait::BaseFault;
 use calculus::DbChange;
 use catalog_moves::{FileTable, KeySet, moves};
 use catalog_pages::{Ends, write_moves};

@@ -2,7 +2,7 @@
 
 ghost use Rattle.std.specs.Prelude.{◌≡◌, ◌+◌, ℕ, List as Items, length, true, None, Some, IfOk};
 ghost use Rattle.std.specs.Option.{ForSome};
-ghost use Rattle.access_traits.specs.Causes.{HasFileCause};
+ghost use Rattle.am_traits.specs.Causes.{HasFileCause};
 ghost use Rattle.calculus.specs.Database.{Db};
 ghost use Rattle.calculus.specs.Schema.{schema_of};
 ghost use Rattle.disk_model.specs.Disk.{Image, RisesUpTo};
@@ -21,8 +21,8 @@ ghost use Rattle.catalog.specs.Reads.{HasChains};
 ghost use Rattle.catalog.specs.Loading.{AreFound, HoldsFor, IfKnown, IsMadeOf, IsOfParts, NoCatalogueIn, SpellsNone};
 
 use crate::catalog::Catalog;
-use access_traits::PageStore;
-use am_traits::BaseFault;
+use am_traits::PageStore;
+use base_trait::BaseFault;
 use calculus::{Name, OutOfMemory};
 use catalog_moves::{FileTable, KeySet};
 use catalog_pages::Ends;

@@ -1,7 +1,7 @@
 //! A change is laid in memory and on the pages of the catalogues alone, and another file is said.
 
 ghost use Rattle.std.specs.Prelude.{◌≡◌, Some, OnOk, IsOk, true, false};
-ghost use Rattle.access_traits.specs.Causes.{HasFileCause};
+ghost use Rattle.am_traits.specs.Causes.{HasFileCause};
 ghost use Rattle.calculus.specs.Change.{IsLawful};
 ghost use Rattle.disk_model.specs.Disk.{Image};
 ghost use Rattle.plain_base.specs.Shown.{database_of};
@@ -14,8 +14,8 @@ ghost use Rattle.catalog.specs.Spelling.{IsSet, IsWritten, Spells, SpellsAfter, 
 use crate::catalog::Catalog;
 use crate::laying::rows_are_known;
 use crate::placing::place_of;
-use access_traits::{PageStore, RelFile};
-use am_traits::BaseFault;
+use am_traits::{PageStore, RelFile};
+use base_trait::BaseFault;
 use calculus::{DbChange, RelKey};
 use catalog_moves::renumber;
 use catalog_pages::write_moves;

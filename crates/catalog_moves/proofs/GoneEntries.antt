@@ -17,7 +17,7 @@ use Rattle.calculus.specs.IsDatabase.{IsDatabase, structure_stands, view_info_st
 use Rattle.calculus.specs.Keys.{same_key, key_cmp, has_key}
 use Rattle.calculus.specs.Lists.{is_any}
 use Rattle.calculus.specs.Structures.{is_view, is_index, is_keyed, is_structure}
-use Rattle.am_traits.specs.Known.{known_at}
+use Rattle.base_trait.specs.Known.{known_at}
 use Rattle.stored_database.specs.Moves.{destroyed}
 use Rattle.stored_database.proofs.Staying.{base_is}
 use Rattle.stored_database.specs.Columns.{column_bytes}

@@ -4,7 +4,7 @@ use Rattle.std.proofs.lemmas.List.{take_all}
 use Rattle.calculus.specs.Database.{Db}
 use Rattle.calculus.specs.declared.query.RelKey.{RelKey}
 use Rattle.calculus.specs.declared.schema.RelInfo.{RelInfo}
-use Rattle.am_traits.specs.Known.{known_at}
+use Rattle.base_trait.specs.Known.{known_at}
 use Rattle.stored_database.specs.Printed.{Files}
 use Rattle.catalog_moves.specs.declared.files.FilePlace.{FilePlace}
 use Rattle.catalog_moves.specs.declared.gone.Sort.{Sort}

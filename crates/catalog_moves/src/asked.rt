@@ -2,12 +2,12 @@
 
 ghost use Rattle.std.specs.Prelude.{◌≡◌, Some, IfOk};
 ghost use Rattle.calculus.specs.Database.{Relation, relation_at, rules_on, permits_on};
-ghost use Rattle.am_traits.specs.Known.{known_at, query_at};
+ghost use Rattle.base_trait.specs.Known.{known_at, query_at};
 ghost use Rattle.plain_base.specs.Shown.{database_of};
 ghost use Rattle.catalog_moves.specs.Files.{files_of};
 
 use crate::files::FileTable;
-use am_traits::Base;
+use base_trait::Base;
 use calculus::{OutOfMemory, Permit, Query, RelInfo, RelKey, Rule};
 use plain_base::DbPlain;
 use std::alloc::Global;

@@ -5,7 +5,7 @@ use Rattle.std.specs.Cmp.{IsTotalOrder}
 use Rattle.std.specs.List.{AllByRecursion}
 use Rattle.std.specs.List.Sorted.{IsPermutation}
 use Rattle.std.specs.declared.cmp.Ordering.{Ordering}
-use Rattle.access_traits.specs.Pages.{SameElsewhere, KeepsOthers}
+use Rattle.am_traits.specs.Pages.{SameElsewhere, KeepsOthers}
 use Rattle.disk_model.specs.Disk.{Image}
 use Rattle.page_chain.specs.Chains.{IsChain, chain, starts, numbers_from}
 use Rattle.page_chain.specs.Grown.{numbers_to}

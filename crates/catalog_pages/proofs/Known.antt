@@ -1,6 +1,6 @@
 -- Where writing failed, there was no catalogue.
 use Rattle.std.proofs.Common.{◌≡◌, sym, subst, ℕ, Option, Some}
-use Rattle.access_traits.specs.Causes.{IsAtFault}
+use Rattle.am_traits.specs.Causes.{IsAtFault}
 use Rattle.disk_model.specs.Disk.{Image}
 use Rattle.disk_model.specs.declared.disk.Addr.{Addr}
 use Rattle.page_chain.specs.Chains.{NoChainTo}

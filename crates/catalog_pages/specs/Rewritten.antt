@@ -1,6 +1,6 @@
 -- What stands on the chain of one file when rows of it went and others came.
 use Rattle.std.specs.Prelude.{◌≡◌, ℕ, true, List, [], ◌∷◌, ◌++◌, Option, Some}
-use Rattle.access_traits.specs.Pages.{SameElsewhere}
+use Rattle.am_traits.specs.Pages.{SameElsewhere}
 use Rattle.disk_model.specs.Disk.{Image}
 use Rattle.page_chain.specs.Chains.{IsChain, starts}
 use Rattle.page_chain.specs.Grown.{numbers_to}

@@ -1,7 +1,7 @@
 //! Whether a database may take a change.
 
 ghost use Rattle.std.specs.Prelude.{◌≡◌, ◌↔◌, List, true, false, IfOk, IsTrue, Some};
-ghost use Rattle.am_traits.specs.Causes.{HasCause};
+ghost use Rattle.base_trait.specs.Causes.{HasCause};
 ghost use Rattle.calculus.specs.Change.{IsLawful};
 ghost use Rattle.calculus.specs.Database.{Db};
 ghost use Rattle.calculus.specs.Rows.{Row as Values};
@@ -18,7 +18,7 @@ use crate::relations::relation_is_fit;
 use crate::rows::rows_are_fit;
 use crate::structures::structure_is_fit;
 use crate::views::view_is_fit;
-use am_traits::{Base, BaseFault};
+use base_trait::{Base, BaseFault};
 use calculus::DbChange;
 use std::alloc::Global;
 

@@ -2,14 +2,14 @@
 
 ghost use Rattle.std.specs.Prelude.{◌≡◌, IfOk, Some};
 ghost use Rattle.std.specs.List.{list_all, list_any};
-ghost use Rattle.am_traits.specs.Causes.{HasCause};
+ghost use Rattle.base_trait.specs.Causes.{HasCause};
 ghost use Rattle.calculus.specs.Database.{Db, is_there};
 ghost use Rattle.calculus.specs.Keys.{same_key};
 ghost use Rattle.calculus.specs.Lists.{differ_by};
 ghost use Rattle.change_laws.specs.Fit.{destroying_is_fit, is_named_outside};
 
 use crate::keys::is_there;
-use am_traits::{Base, BaseFault};
+use base_trait::{Base, BaseFault};
 use calculus::RelKey;
 use std::alloc::Global;
 

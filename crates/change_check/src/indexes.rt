@@ -1,7 +1,7 @@
 //! An index that is made.
 
 ghost use Rattle.std.specs.Prelude.{◌≡◌, true, IfOk, Some};
-ghost use Rattle.am_traits.specs.Causes.{HasCause};
+ghost use Rattle.base_trait.specs.Causes.{HasCause};
 ghost use Rattle.calculus.specs.Database.{Db, is_relation};
 ghost use Rattle.calculus.specs.Keys.{key_of};
 ghost use Rattle.calculus.specs.Stored.{attrs_at};
@@ -9,7 +9,7 @@ ghost use Rattle.change_laws.specs.Fit.{index_is_fit};
 
 use crate::described::some_keys_stand;
 use crate::keys::{key_is_free, relation};
-use am_traits::{Base, BaseFault};
+use base_trait::{Base, BaseFault};
 use calculus::{Attr, Name, OutOfMemory, RelKey};
 use memory::both;
 use std::alloc::Global;

@@ -1,14 +1,14 @@
 //! What stands under a key, and whether something new may.
 
 ghost use Rattle.std.specs.Prelude.{◌≡◌, IfOk, Some, option_map};
-ghost use Rattle.am_traits.specs.Causes.{HasCause};
+ghost use Rattle.base_trait.specs.Causes.{HasCause};
 ghost use Rattle.calculus.specs.Catalogue.{is_catalogue_name};
 ghost use Rattle.calculus.specs.Database.{Db, entry_at, is_relation, is_there, relation_at};
 ghost use Rattle.calculus.specs.IsDatabase.{key_is_named};
 ghost use Rattle.change_check.specs.Kept.{kept_info};
 ghost use Rattle.change_laws.specs.Fit.{key_is_free};
 
-use am_traits::{Base, BaseFault};
+use base_trait::{Base, BaseFault};
 use calculus::{RelInfo, RelKey, Spec};
 use quel_refusals::{is_catalogue_name, is_full};
 use std::alloc::Global;

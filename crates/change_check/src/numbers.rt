@@ -2,13 +2,13 @@
 
 ghost use Rattle.std.specs.Prelude.{◌≡◌, ◌&&◌, nat_eq, IfOk, Some};
 ghost use Rattle.std.specs.List.{list_all, list_any};
-ghost use Rattle.am_traits.specs.Causes.{HasCause};
+ghost use Rattle.base_trait.specs.Causes.{HasCause};
 ghost use Rattle.calculus.specs.Database.{Db};
 ghost use Rattle.calculus.specs.Lists.{differ_by, has_number};
 ghost use Rattle.change_laws.specs.Fit.{permits_may_go, rules_may_go};
 
 use crate::keys::is_relation;
-use am_traits::{Base, BaseFault};
+use base_trait::{Base, BaseFault};
 use calculus::RelKey;
 use quel_refusals::{standing_permits, standing_rules};
 use std::alloc::Global;

@@ -2,7 +2,7 @@
 
 ghost use Rattle.std.specs.Prelude.{◌≡◌, ◌∷◌, [], ◌&&◌, length, nat_le, nat_lt, IfOk, Some, bytes_eq};
 ghost use Rattle.std.specs.List.{list_all};
-ghost use Rattle.am_traits.specs.Causes.{HasCause};
+ghost use Rattle.base_trait.specs.Causes.{HasCause};
 ghost use Rattle.calculus.specs.Change.{permit_numbers, rule_numbers};
 ghost use Rattle.calculus.specs.Database.{Db, is_relation};
 ghost use Rattle.calculus.specs.IsDatabase.{row_qual_stands, user_is_named};
@@ -16,7 +16,7 @@ ghost use Rattle.change_laws.specs.Fit.{number_is_free, permit_is_fit, rule_is_f
 
 use crate::keys::is_relation;
 use crate::numbers::has_number;
-use am_traits::{Base, BaseFault};
+use base_trait::{Base, BaseFault};
 use calculus::{Kind, Name, OutOfMemory, Permit, QQual, RelKey, Rule, is_name, kinds_fit};
 use quel_refusals::{kinds_at, standing_permits, standing_rules};
 use std::alloc::Global;

@@ -2,7 +2,7 @@
 
 ghost use Rattle.std.specs.Prelude.{◌≡◌, ◌&&◌, length, nat_le, IfOk, Some};
 ghost use Rattle.std.specs.List.{list_all};
-ghost use Rattle.am_traits.specs.Causes.{HasCause};
+ghost use Rattle.base_trait.specs.Causes.{HasCause};
 ghost use Rattle.calculus.specs.Change.{rows_differ};
 ghost use Rattle.calculus.specs.Database.{Db};
 ghost use Rattle.calculus.specs.IsDatabase.{are_stored, attrs_stand, row_fits, structure_stands};
@@ -12,7 +12,7 @@ ghost use Rattle.change_laws.specs.Fit.{relation_is_fit};
 use crate::described::{are_stored, attrs_stand, structure_stands};
 use crate::keys::key_is_free;
 use crate::rows::{are_few, differ_and_fit};
-use am_traits::{Base, BaseFault};
+use base_trait::{Base, BaseFault};
 use calculus::{Attr, OutOfMemory, RelInfo, Row};
 use std::alloc::Global;
 

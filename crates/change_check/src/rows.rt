@@ -2,7 +2,7 @@
 
 ghost use Rattle.std.specs.Prelude.{◌≡◌, ◌+◌, ◌-◌, ◌&&◌, not, length, nat_le, true, IfOk, Some};
 ghost use Rattle.std.specs.List.{list_all, list_any};
-ghost use Rattle.am_traits.specs.Causes.{HasCause};
+ghost use Rattle.base_trait.specs.Causes.{HasCause};
 ghost use Rattle.calculus.specs.Change.{rows_differ};
 ghost use Rattle.calculus.specs.Database.{Db, is_relation};
 ghost use Rattle.calculus.specs.IsDatabase.{row_fits};
@@ -14,7 +14,7 @@ ghost use Rattle.change_laws.specs.Fit.{rows_are_fit};
 
 use crate::attributes::row_fits;
 use crate::keys::relation;
-use am_traits::{Base, BaseFault};
+use base_trait::{Base, BaseFault};
 use calculus::{Attr, OutOfMemory, RelKey, Row, RowSet};
 use memory::copies;
 use std::alloc::Global;

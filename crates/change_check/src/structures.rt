@@ -1,13 +1,13 @@
 //! A relation that is stored in another structure.
 
 ghost use Rattle.std.specs.Prelude.{◌≡◌, IfOk, Some};
-ghost use Rattle.am_traits.specs.Causes.{HasCause};
+ghost use Rattle.base_trait.specs.Causes.{HasCause};
 ghost use Rattle.calculus.specs.Database.{Db};
 ghost use Rattle.change_laws.specs.Fit.{structure_is_fit};
 
 use crate::described::structure_stands;
 use crate::keys::relation;
-use am_traits::{Base, BaseFault};
+use base_trait::{Base, BaseFault};
 use calculus::{RelKey, Spec};
 use std::alloc::Global;
 

@@ -1,7 +1,7 @@
 //! Views that are made.
 
 ghost use Rattle.std.specs.Prelude.{◌≡◌, ◌&&◌, ◌+◌, ◌-◌, ◌^◌, ◌≤◌, [], length, min, nat_le, not, sum, IfOk, Some};
-ghost use Rattle.am_traits.specs.Causes.{HasCause};
+ghost use Rattle.base_trait.specs.Causes.{HasCause};
 ghost use Rattle.calculus.specs.Database.{Db};
 ghost use Rattle.calculus.specs.IsDatabase.{attrs_are_targets, attrs_stand, query_stands, vars_are_there, view_info_stands};
 ghost use Rattle.calculus.specs.QueryParts.{query_aggregates, targets_of, vars_of};
@@ -12,7 +12,7 @@ ghost use Rattle.quel_meaning.specs.Passing.{is_too_high};
 
 use crate::described::{attrs_stand, view_info_stands};
 use crate::keys::key_is_free;
-use am_traits::{Base, BaseFault};
+use base_trait::{Base, BaseFault};
 use calculus::{Attr, OutOfMemory, Query, RelInfo, Target, kinds_fit};
 use quel_refusals::{same_kind, targets_fit, var_kinds};
 use std::alloc::Global;

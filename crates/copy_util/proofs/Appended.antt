@@ -13,7 +13,7 @@ use Rattle.calculus.specs.Replacement.{after, new_rows, old_rows, with_rows, wit
 use Rattle.calculus.specs.Rows.{Row, Ascends, has, set_of}
 use Rattle.calculus.specs.Stored.{rows_at}
 use Rattle.calculus.proofs.Sets.{Ascends-set_of}
-use Rattle.am_traits.specs.Scans.{IsScan}
+use Rattle.base_trait.specs.Scans.{IsScan}
 use Rattle.update_change.proofs.MovedRows.{come_is, go_is, left_is}
 use Rattle.copy_util.specs.Causes.{Copies}
 use Rattle.copy_util.specs.declared.fault.CopyFault.{CopyFault}

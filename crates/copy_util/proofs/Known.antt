@@ -2,9 +2,9 @@
 use Rattle.std.proofs.Common.{◌≡◌, refl, sym, ap, ◌∙◌, subst, ℕ, suc, ◌+◌, ◌<◌, ◌≤◌, List, [], ◌∷◌, Option, Some, None, map, length, arith}
 use Rattle.std.specs.Prelude.{Result, Ok, Err, IfErr}
 use Rattle.std.specs.List.{concat}
-use Rattle.am_traits.specs.Causes.{IsCaused, MayCome}
-use Rattle.am_traits.specs.declared.fault.BaseFault.{BaseFault}
-use Rattle.am_traits.specs.declared.fault.BaseFault.TheVariants.{Damaged}
+use Rattle.base_trait.specs.Causes.{IsCaused, MayCome}
+use Rattle.base_trait.specs.declared.fault.BaseFault.{BaseFault}
+use Rattle.base_trait.specs.declared.fault.BaseFault.TheVariants.{Damaged}
 use Rattle.calculus.specs.declared.query.RelKey.{RelKey}
 use Rattle.calculus.specs.declared.request.CopyCol.{CopyCol}
 use Rattle.calculus.specs.Database.{Db}

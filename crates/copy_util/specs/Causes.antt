@@ -3,7 +3,7 @@ use Rattle.std.specs.Prelude.{◌≡◌, ℕ, ◌≤◌, Option, Result, Ok, Err
 use Rattle.calculus.specs.declared.reply.Refusal.{Refusal}
 use Rattle.calculus.specs.Database.{Db}
 use Rattle.fault_io.specs.Causes.{Rose}
-use Rattle.am_traits.specs.Causes.{MayCome}
+use Rattle.base_trait.specs.Causes.{MayCome}
 use Rattle.quel_meaning.specs.Copying.{refusal, bad_row}
 use Rattle.copy_util.specs.declared.fault.CopyFault.{CopyFault}
 use Rattle.copy_util.specs.declared.fault.CopyFault.TheVariants.{No, BadRow, NoFile, Shelf, Base, OutOfMemory}

@@ -7,13 +7,13 @@ ghost use Rattle.calculus.specs.Replacement.{without_rows};
 ghost use Rattle.calculus.specs.Rows.{set_of};
 ghost use Rattle.calculus.specs.Stored.{rows_at};
 ghost use Rattle.calculus.specs.declared.change.DbChange.TheVariants as change;
-ghost use Rattle.am_traits.specs.Causes.{HasCause};
+ghost use Rattle.base_trait.specs.Causes.{HasCause};
 ghost use Rattle.quel_meaning.specs.Copying.{keeps_rules, refusal as refusal_of, rows_appended};
 ghost use Rattle.copy_util.specs.Causes.{Copies, HasBaseCause};
 
 use crate::CopyFault;
 use crate::judging::kept_rows;
-use am_traits::{Base, BaseFault};
+use base_trait::{Base, BaseFault};
 use calculus::{DbChange, List, OutOfMemory, RelKey, Row, RowSet, TryCopy};
 use std::alloc::Global;
 

@@ -17,7 +17,7 @@ use crate::appending::rows_appended;
 use crate::file_name::file_of_constant;
 use crate::forms::are_readable;
 use crate::rows_read::read_rows;
-use am_traits::{Base, BaseFault};
+use base_trait::{Base, BaseFault};
 use calculus::{CopyCol, DbChange, Kind, Name, OutOfMemory, RelKey, Row, Utility};
 use fault_io::{Shelf, ShelfFault};
 use quel_refusals::kinds_at;

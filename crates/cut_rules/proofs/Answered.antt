@@ -13,7 +13,7 @@ use Rattle.calculus.specs.Database.{Db}
 use Rattle.calculus.specs.IsDatabase.{IsDatabase, query_stands}
 use Rattle.calculus.specs.Permission.{query_permitted}
 use Rattle.calculus.specs.QueryParts.{vars_of, query_aggregates}
-use Rattle.am_traits.specs.declared.fault.BaseFault.TheVariants as base
+use Rattle.base_trait.specs.declared.fault.BaseFault.TheVariants as base
 use Rattle.quel_meaning.specs.FitQueries.{kept_or_viewed, has_few_targets, source_fits, reads_fit}
 use Rattle.tree_laws.specs.Nesting.{aggregates_nest_none}
 use Rattle.tree_laws.proofs.Answering.{answer_put, lacks_put}

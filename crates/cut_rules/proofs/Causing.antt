@@ -1,7 +1,7 @@
 -- Why a tree isn't cut, where something was asked before.
 use Rattle.std.proofs.Common.{◌≡◌, refl, sym, ◌∙◌, subst, ℕ, Option, Some, Result, Ok, Err, OnOk, arith}
 use Rattle.calculus.specs.Database.{Db}
-use Rattle.am_traits.specs.declared.fault.BaseFault.TheVariants as base
+use Rattle.base_trait.specs.declared.fault.BaseFault.TheVariants as base
 use Rattle.view_expand.specs.declared.fault.ExpansionFault.{ExpansionFault}
 use Rattle.view_expand.specs.declared.fault.ExpansionFault.TheVariants as expansion
 use Rattle.view_expand.specs.Causes as expansions

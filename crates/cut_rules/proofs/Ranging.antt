@@ -20,7 +20,7 @@ use Rattle.calculus.specs.Used.{used_in_query, used_vars}
 use Rattle.calculus.specs.Sizes.{measure_of, measure_within, query_measure}
 use Rattle.calculus.proofs.Forms.{rows_is}
 use Rattle.calculus_laws.proofs.ViewAnswer.{ranged}
-use Rattle.am_traits.specs.Known.{query_at}
+use Rattle.base_trait.specs.Known.{query_at}
 use Rattle.quel_meaning.specs.FitQueries.{can_be_ranged_over, has_few_targets, kept_or_viewed, source_fits}
 use Rattle.view_text.specs.Expanded.{expanded_plain, expanded_range, expanded_source, range_restriction, source_restriction}
 use Rattle.view_text.specs.ExpansionOf.{restriction, expansion_of, expansion_within}

@@ -3,7 +3,7 @@ use Rattle.std.specs.Prelude.{◌≡◌, ℕ, ◌<◌, ◌≤◌, ◌-◌, ◌^�
 use Rattle.calculus.specs.declared.query.Query.{Query}
 use Rattle.calculus.specs.Database.{Db}
 use Rattle.calculus.specs.Sizes.{expanded_variables}
-use Rattle.am_traits.specs.Causes.{MayCome}
+use Rattle.base_trait.specs.Causes.{MayCome}
 use Rattle.cut_rules.specs.declared.fault.CutFault.{CutFault}
 use Rattle.cut_rules.specs.declared.fault.CutFault.TheVariants as cut
 use Rattle.cut_rules.specs.declared.fault.ExpandFault.{ExpandFault}

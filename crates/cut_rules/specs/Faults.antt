@@ -1,6 +1,6 @@
 -- What a fault of a variable's text is for the tree.
 use Rattle.std.specs.Prelude.{ℕ}
-use Rattle.am_traits.specs.declared.fault.BaseFault.TheVariants as base
+use Rattle.base_trait.specs.declared.fault.BaseFault.TheVariants as base
 use Rattle.view_expand.specs.declared.fault.ExpansionFault.{ExpansionFault}
 use Rattle.view_expand.specs.declared.fault.ExpansionFault.TheVariants as expansion
 use Rattle.cut_rules.specs.declared.fault.CutFault.{CutFault}

@@ -20,7 +20,7 @@ ghost use Rattle.view_text.specs.Expansions.{substituted_from, expansions_vars};
 
 use crate::attributes::aggregate_uses;
 use crate::sources::expanded_source;
-use am_traits::Base;
+use base_trait::Base;
 use calculus::{AggSource, List, Name, OutOfMemory, QAgg, QQual, QTerm, Query, TryCopy};
 use memory::{both, push};
 use std::alloc::Global;

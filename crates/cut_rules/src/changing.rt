@@ -17,7 +17,7 @@ ghost use Rattle.view_text.specs.Expanded.{changed_expansion, read_restriction};
 ghost use Rattle.view_text.specs.Scoped.{is_qual_within, is_scoped};
 ghost use Rattle.view_text.specs.ExpansionOf.{restriction, kept_expansion};
 
-use am_traits::Base;
+use base_trait::Base;
 use calculus::{List, Name, OutOfMemory, QQual, RelKey, TryCopy, Update, UpdateOp};
 use memory::{alone, push};
 use std::alloc::Global;

@@ -20,7 +20,7 @@ ghost use Rattle.view_text.specs.Expanded.{expanded_asked, expanded_tree};
 use crate::CutFault;
 use crate::expanded::expanded;
 use crate::updates::expanded_update;
-use am_traits::Base;
+use base_trait::Base;
 use calculus::{Asked, Checked, List, Name, TryCopy};
 use std::alloc::Global;
 use view_expand::ExpansionsFound;

@@ -19,7 +19,7 @@ ghost use Rattle.view_text.specs.Expansions.{expansions_vars};
 use crate::aggregates::put_aggregates;
 use crate::expansions::{PLACES, are_few, fault_at, put_expansions};
 use crate::{CutFault, NO_VARIABLE};
-use am_traits::Base;
+use base_trait::Base;
 use calculus::{Name, QAgg, Query};
 use std::alloc::Global;
 use view_expand::ExpansionsFound;

@@ -13,7 +13,7 @@ ghost use Rattle.view_text.specs.Expanded.{expanded};
 
 use crate::expanded::expanded;
 use crate::{CutFault, ExpandFault};
-use am_traits::{Base, BaseFault};
+use base_trait::{Base, BaseFault};
 use calculus::Query;
 use calculus::limits::MOST_EXPANDED_VARIABLES;
 use std::alloc::Global;

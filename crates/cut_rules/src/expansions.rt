@@ -14,7 +14,7 @@ ghost use Rattle.view_text.specs.Scoped.{is_scoped};
 ghost use Rattle.view_text.specs.Expansions.{expansions_vars};
 
 use crate::CutFault;
-use am_traits::Base;
+use base_trait::Base;
 use calculus::limits::MOST_LEVEL;
 use calculus::{Name, Query, RelKey};
 use std::alloc::Global;

@@ -4,7 +4,7 @@ ghost use Rattle.std.specs.Prelude.{◌≡◌};
 ghost use Rattle.cut_rules.specs.declared.fault.CutFault.TheVariants.{Base as OfBase, OutOfMemory as NoMemory};
 ghost use Rattle.cut_rules.specs.declared.fault.ExpandFault.TheVariants.{Base as ExpandBase, OutOfMemory as ExpandNoMemory};
 
-use am_traits::BaseFault;
+use base_trait::BaseFault;
 use calculus::OutOfMemory;
 
 /// The number in place of a variable's where an aggregate names what isn't permitted, and where the

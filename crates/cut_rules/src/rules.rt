@@ -1,11 +1,11 @@
 //! An update with the rules of the relation that it changes.
 
 ghost use Rattle.std.specs.Prelude.{◌≡◌, ◌++◌, map, Some, IfOk, OnOk};
-ghost use Rattle.am_traits.specs.Causes.{HasCause};
+ghost use Rattle.base_trait.specs.Causes.{HasCause};
 ghost use Rattle.calculus.specs.Database.{Db};
 ghost use Rattle.calculus.specs.Pairs.{ruled};
 
-use am_traits::{Base, BaseFault};
+use base_trait::{Base, BaseFault};
 use calculus::{List, OutOfMemory, QQual, Rule, TryCopy, Update, UpdateOp};
 use std::alloc::Global;
 use std::mem::replace;

@@ -18,7 +18,7 @@ ghost use Rattle.view_expand.specs.Found.{IsFound};
 ghost use Rattle.view_text.specs.Expanded.{expanded_plain, expanded_range, expanded_source, range_restriction, source_restriction};
 ghost use Rattle.view_text.specs.ExpansionOf.{restriction, expansion_within};
 
-use am_traits::Base;
+use base_trait::Base;
 use calculus::limits::MOST_LEVEL;
 use calculus::{AggSource, Boxed, Name, OutOfMemory, QQual, Query, RelKey, TryCopy};
 use std::alloc::Global;

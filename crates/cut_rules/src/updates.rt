@@ -24,7 +24,7 @@ use crate::changing::{appended_restriction, changed_by, changed_expansion};
 use crate::expanded::expanded_over;
 use crate::expansions::{PLACES, are_few, fault_at, put_behind, read_expansion};
 use crate::{CutFault, NO_VARIABLE};
-use am_traits::Base;
+use base_trait::Base;
 use calculus::{Name, QQual, Query, RelKey, TryCopy, Update, UpdateOp};
 use memory::both;
 use ovqp::uses;

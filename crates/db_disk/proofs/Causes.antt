@@ -1,9 +1,9 @@
 -- When a call answers a fault.
 use Rattle.std.proofs.Common.{◌≡◌, ◌⊎◌, inl, inr, refl, sym, ap, subst, ◌∙◌, arith, ℕ, Option, Some, None, Result, Ok, Err}
 use Rattle.calculus.specs.Database.{Db}
-use Rattle.am_traits.specs.Causes.{HasCause}
-use Rattle.am_traits.specs.declared.fault.BaseFault.{BaseFault}
-use Rattle.am_traits.specs.declared.fault.BaseFault.TheVariants as faults
+use Rattle.base_trait.specs.Causes.{HasCause}
+use Rattle.base_trait.specs.declared.fault.BaseFault.{BaseFault}
+use Rattle.base_trait.specs.declared.fault.BaseFault.TheVariants as faults
 use Rattle.batch_file.specs.Faults.{FailsBy}
 use Rattle.batch_file.specs.declared.fault.RestoreFault.{RestoreFault}
 use Rattle.batch_file.specs.declared.fault.RestoreFault.TheVariants.{Disk, Damaged}

@@ -1,9 +1,9 @@
 -- What a change leaves on a disk.
 use Rattle.std.proofs.Common.{◌≡◌, ◌≢◌, ◌⊎◌, ◌↔◌, inl, inr, ⊎_elim, not, refl, sym, ap, subst, ◌∙◌, arith, ℕ, zero, suc, ◌<◌, IsTrue, Bool, true, false, List, [], ◌∷◌, length, ◌==◌, Option, Some, Result, Ok, Err, OnOk}
-use Rattle.am_traits.specs.Causes.{HasCause}
-use Rattle.am_traits.specs.declared.fault.BaseFault.{BaseFault}
-use Rattle.am_traits.specs.declared.fault.BaseFault.TheVariants as faults
-use Rattle.access_traits.specs.Causes.{HasFileCause}
+use Rattle.base_trait.specs.Causes.{HasCause}
+use Rattle.base_trait.specs.declared.fault.BaseFault.{BaseFault}
+use Rattle.base_trait.specs.declared.fault.BaseFault.TheVariants as faults
+use Rattle.am_traits.specs.Causes.{HasFileCause}
 use Rattle.calculus.specs.declared.change.DbChange.{DbChange}
 use Rattle.calculus.specs.declared.change.DbChange.TheVariants as change
 use Rattle.calculus.specs.declared.query.RelKey.{RelKey}

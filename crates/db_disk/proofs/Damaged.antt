@@ -1,11 +1,11 @@
 -- At which page an opening finds damage.
 use Rattle.std.proofs.Common.{◌≡◌, ap, refl, subst, ℕ, Bool, ◌==◌, ◌&&◌, true, false, Option, Some, Result, Err}
 use Rattle.std.specs.Prelude.{is_some}
-use Rattle.am_traits.specs.declared.fault.BaseFault.{BaseFault}
-use Rattle.am_traits.specs.declared.fault.BaseFault.TheVariants as faults
+use Rattle.base_trait.specs.declared.fault.BaseFault.{BaseFault}
+use Rattle.base_trait.specs.declared.fault.BaseFault.TheVariants as faults
 use Rattle.disk_model.specs.Disk.{Image}
 use Rattle.disk_model.specs.declared.disk.Addr.{Addr}
-use Rattle.access_traits.specs.Causes.{MayFail}
+use Rattle.am_traits.specs.Causes.{MayFail}
 use Rattle.stored_database.specs.Standing.{birth}
 use Rattle.db_disk.specs.Held.{administrator, has_head}
 

@@ -1,8 +1,8 @@
 -- What calls leave on a disk, as a base has it: by the databases that its images hold.
 use Rattle.std.proofs.Common.{◌≡◌, ◌⊎◌, ◌≤◌, inl, inr, ℕ, Bool, true, false, IsTrue, Option, Some, Result, Ok, Err, OnErr, refl, sym, subst, ◌∙◌, arith}
 use Rattle.std.proofs.lemmas.Option.{same_Some}
-use Rattle.am_traits.specs.Crashes.{LeavesBut, OnlyAsked, Stands}
-use Rattle.am_traits.proofs.Crashes.{asked_more}
+use Rattle.base_trait.specs.Crashes.{LeavesBut, OnlyAsked, Stands}
+use Rattle.base_trait.proofs.Crashes.{asked_more}
 use Rattle.calculus.specs.Database.{Db}
 use Rattle.disk_model.specs.Disk.{Image, IsImage, LeavesOnly}
 use Rattle.disk_model.specs.declared.disk.Addr.{Addr}

@@ -1,8 +1,8 @@
 -- What an opening answers.
 use Rattle.std.proofs.Common.{◌≡◌, refl, sym, ◌∙◌, ℕ, Option, Some, None, Result, Err}
 use Rattle.disk_model.specs.Disk.{Image}
-use Rattle.am_traits.specs.declared.fault.BaseFault.{BaseFault}
-use Rattle.am_traits.specs.declared.fault.BaseFault.TheVariants as faults
+use Rattle.base_trait.specs.declared.fault.BaseFault.{BaseFault}
+use Rattle.base_trait.specs.declared.fault.BaseFault.TheVariants as faults
 use Rattle.db_disk.specs.Load.{IsNoHead}
 use Rattle.db_disk.specs.declared.load.LoadFault.TheVariants.{Base}
 

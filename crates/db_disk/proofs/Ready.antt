@@ -1,9 +1,9 @@
 -- A store that is ready, and reads of it.
 use Rattle.std.proofs.Common.{◌≡◌, ◌≢◌, refl, sym, ap, subst, ◌∙◌, ℕ, Bool, true, false, IsTrue, Option, Some, None, Result, Ok, Err}
-use Rattle.am_traits.specs.Causes.{HasCause}
-use Rattle.am_traits.specs.declared.fault.BaseFault.{BaseFault}
-use Rattle.am_traits.specs.declared.fault.BaseFault.TheVariants as faults
-use Rattle.access_traits.specs.Causes.{HasFileCause}
+use Rattle.base_trait.specs.Causes.{HasCause}
+use Rattle.base_trait.specs.declared.fault.BaseFault.{BaseFault}
+use Rattle.base_trait.specs.declared.fault.BaseFault.TheVariants as faults
+use Rattle.am_traits.specs.Causes.{HasFileCause}
 use Rattle.calculus.specs.Database.{Db}
 use Rattle.calculus.specs.IsDatabase.{IsDatabase}
 use Rattle.disk_model.specs.Disk.{Image, IsImage, OnlyReads, LeavesOnly}

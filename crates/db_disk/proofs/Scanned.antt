@@ -10,8 +10,8 @@ use Rattle.calculus.specs.IsDatabase.{IsDatabase, row_fits}
 use Rattle.calculus.specs.Rows.{Row}
 use Rattle.calculus.specs.Schema.{schema_of}
 use Rattle.calculus.specs.Stored.{attrs_at}
-use Rattle.am_traits.specs.Scans.{Gives}
-use Rattle.am_traits.specs.declared.fault.BaseFault.{BaseFault}
+use Rattle.base_trait.specs.Scans.{Gives}
+use Rattle.base_trait.specs.declared.fault.BaseFault.{BaseFault}
 use Rattle.plain_base.specs.Places.{rows_from}
 use Rattle.plain_base.specs.Shown.{database_of}
 use Rattle.plain_base.proofs.Fitting.{scan_fits as given_fits}

@@ -1,7 +1,7 @@
 -- When a call that asks memory alone answers a fault.
 use Rattle.std.specs.Prelude.{Result, Ok, Err}
-use Rattle.am_traits.specs.declared.fault.BaseFault.{BaseFault}
-use Rattle.am_traits.specs.declared.fault.BaseFault.TheVariants as faults
+use Rattle.base_trait.specs.declared.fault.BaseFault.{BaseFault}
+use Rattle.base_trait.specs.declared.fault.BaseFault.TheVariants as faults
 use Rattle.batch_file.specs.declared.fault.RestoreFault.{RestoreFault}
 use Rattle.batch_file.specs.declared.fault.RestoreFault.TheVariants as restore
 

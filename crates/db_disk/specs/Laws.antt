@@ -11,7 +11,7 @@ use Rattle.disk_model.specs.Disk.{Image}
 use Rattle.disk_model.specs.declared.disk.Addr.{Addr}
 use Rattle.batch_file.specs.Redone.{redone}
 use Rattle.page_chain.specs.Lists.{when}
-use Rattle.am_traits.specs.Scans.{IsScan, first_place}
+use Rattle.base_trait.specs.Scans.{IsScan, first_place}
 use Rattle.plain_base.specs.Laws.{of_known, whole_scan}
 use Rattle.catalog_read.specs.Parts.{index_owners_agree}
 use Rattle.plain_base.specs.Shown.{database_of}

@@ -3,8 +3,8 @@ use Rattle.std.specs.Prelude.{◌≡◌, true, Some, Result, Ok, Err}
 use Rattle.calculus.specs.Database.{Db}
 use Rattle.disk_model.specs.Disk.{Image}
 use Rattle.disk_model.specs.declared.disk.Addr.{Addr}
-use Rattle.am_traits.specs.declared.fault.BaseFault.{BaseFault}
-use Rattle.am_traits.specs.declared.fault.BaseFault.TheVariants as faults
+use Rattle.base_trait.specs.declared.fault.BaseFault.{BaseFault}
+use Rattle.base_trait.specs.declared.fault.BaseFault.TheVariants as faults
 use Rattle.catalog_read.specs.Parts.{index_owners_agree}
 use Rattle.stored_database.specs.Standing.{standing}
 use Rattle.db_disk.specs.declared.load.LoadFault.{LoadFault}

@@ -1,8 +1,8 @@
 -- When a database isn't opened.
 use Rattle.std.specs.Prelude.{◌≡◌, ℕ, ◌≤◌, Option, None, Result, Ok, Err}
 use Rattle.calculus.specs.Database.{Db}
-use Rattle.am_traits.specs.Causes.{MayCome}
-use Rattle.am_traits.specs.declared.fault.BaseFault.TheVariants as faults
+use Rattle.base_trait.specs.Causes.{MayCome}
+use Rattle.base_trait.specs.declared.fault.BaseFault.TheVariants as faults
 use Rattle.disk_model.specs.declared.disk.Disk.{Ghosts}
 use Rattle.db_disk.specs.Shown.{disk_in}
 use Rattle.db_disk.specs.declared.base.DbDisk.{DbDisk}

@@ -1,6 +1,6 @@
 -- What a database on a disk shows.
 use Rattle.std.specs.Prelude.{◌≡◌, ℕ, Bool, IsTrue, List, [], Option, Some, None}
-use Rattle.am_traits.specs.Crashes.{OnlyAsked}
+use Rattle.base_trait.specs.Crashes.{OnlyAsked}
 use Rattle.calculus.specs.declared.probe.Place.{Place}
 use Rattle.calculus.specs.declared.query.RelKey.{RelKey}
 use Rattle.calculus.specs.Database.{Db}

@@ -2,13 +2,13 @@
 
 ghost use Rattle.std.specs.Prelude.{refl, true};
 ghost use Rattle.std.proofs.Common.{ap};
-ghost use Rattle.am_traits.proofs.Crashes.{asked_itself};
+ghost use Rattle.base_trait.proofs.Crashes.{asked_itself};
 ghost use Rattle.db_disk.specs.Laws.{lawful_known, left_counts, own_known, scanned_known, unread_at_most};
 ghost use Rattle.db_disk.specs.Reads.{pages_known, pages_unread, rows_in_memory, OpensWith};
 ghost use Rattle.db_disk.specs.Shown.{clock_in, db_of, disk_in, is_restored, known_in, left_in, left_of, rows_left, schema_in, AskedOf};
 
 use crate::DbDisk;
-use am_traits::{Base, BaseFault};
+use base_trait::{Base, BaseFault};
 use calculus::{DbChange, Name, Permit, Place, Probe, Query, RelInfo, RelKey, Row, Rule};
 use disk_model::Disk;
 use std::alloc::Global;

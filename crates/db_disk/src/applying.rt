@@ -6,7 +6,7 @@ ghost use Rattle.calculus.specs.Database.{Db};
 
 use crate::DbDisk;
 use crate::changing::lay_known;
-use am_traits::BaseFault;
+use base_trait::BaseFault;
 use calculus::DbChange;
 use catalog::SpotTable;
 use disk_model::Disk;
@@ -30,7 +30,7 @@ impl<D: Disk> DbDisk<D> {
     ghost use Rattle.std.specs.Prelude.{◌⊎◌, IsTrue, Some, None, OnOk, OnErr, IsErrOf, is_some};
     ghost use Rattle.calculus.specs.Change.{IsLawful};
     ghost use Rattle.calculus.specs.Schema.{schema_of};
-    ghost use Rattle.am_traits.specs.Causes.{HasCause};
+    ghost use Rattle.base_trait.specs.Causes.{HasCause};
     ghost use Rattle.disk_model.specs.Disk.{Image, IsImage, LeavesOnly};
     ghost use Rattle.db_disk.specs.Held.{held, HeldOr, IsEither};
     ghost use Rattle.db_disk.specs.Shown.{db_of, disk_in, is_restored, page_kept, schema_in};

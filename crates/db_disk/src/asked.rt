@@ -3,11 +3,11 @@
 ghost use Rattle.std.specs.Prelude.{◌≡◌, Some, IfOk, IsTrue, is_some, length};
 ghost use Rattle.calculus.specs.Database.{Db, entries, permits_on, rules_on};
 ghost use Rattle.calculus.specs.Finding.{found};
-ghost use Rattle.am_traits.specs.Known.{is_named_by_view, known_at, query_at};
+ghost use Rattle.base_trait.specs.Known.{is_named_by_view, known_at, query_at};
 ghost use Rattle.db_disk.specs.Answered.{IsWant};
 ghost use Rattle.db_disk.specs.Known.{SameKnown, schema_known};
 
-use am_traits::{Base, BaseFault};
+use base_trait::{Base, BaseFault};
 use calculus::{Name, Permit, Query, RelInfo, RelKey, Rule};
 use catalog::Catalog;
 use std::alloc::Global;

@@ -3,14 +3,14 @@
 ghost use Rattle.std.specs.Prelude.{◌≡◌, Some, IfOk, IsTrue, is_some, length};
 ghost use Rattle.calculus.specs.Rows.{has};
 ghost use Rattle.calculus.specs.Stored.{rows_at};
-ghost use Rattle.am_traits.specs.Scans.{Gives, IsOver};
+ghost use Rattle.base_trait.specs.Scans.{Gives, IsOver};
 ghost use Rattle.plain_base.specs.Places.{rows_from};
 ghost use Rattle.plain_base.specs.Shown.{database_of};
 ghost use Rattle.catalog.specs.declared.catalog.Catalog.{Catalog as KnownCatalog};
 ghost use Rattle.db_disk.specs.Answered.{IsWant};
 ghost use Rattle.db_disk.specs.Known.{SameKnown};
 
-use am_traits::{Base, BaseFault};
+use base_trait::{Base, BaseFault};
 use calculus::{Place, Probe, RelKey, Row};
 use catalog::Catalog;
 use std::alloc::Global;

@@ -9,7 +9,7 @@ ghost use Rattle.db_disk.specs.Shown.{db_of};
 
 use crate::DbDisk;
 use crate::load::LoadFault;
-use am_traits::BaseFault;
+use base_trait::BaseFault;
 use disk_model::Disk;
 use std::alloc::Global;
 

@@ -3,7 +3,7 @@
 ghost use Rattle.std.specs.Prelude.{◌≡◌, IsTrue, Some, OnOk, is_some, true};
 ghost use Rattle.calculus.specs.Database.{Db};
 ghost use Rattle.calculus.specs.Stored.{rows_at};
-ghost use Rattle.am_traits.specs.Causes.{HasCause};
+ghost use Rattle.base_trait.specs.Causes.{HasCause};
 ghost use Rattle.disk_model.specs.Disk.{OnlyReads, RisesUpTo};
 ghost use Rattle.plain_base.specs.Shown.{database_of};
 ghost use Rattle.catalog.specs.declared.catalog.Catalog.{Catalog as KnownCatalog};
@@ -12,7 +12,7 @@ ghost use Rattle.db_disk.specs.Held.{database_in, IsReady};
 ghost use Rattle.db_disk.specs.Known.{IsKnown, schema_known};
 ghost use Rattle.db_disk.specs.Reads.{files_in, rows_in};
 
-use am_traits::BaseFault;
+use base_trait::BaseFault;
 use batch_store::BatchStore;
 use calculus::RelKey;
 use catalog::{Catalog, SpotTable};

@@ -3,8 +3,8 @@
 ghost use Rattle.std.specs.Prelude.{◌≡◌, ◌+◌, ℕ, Some, Err, IfOk, true, false};
 ghost use Rattle.calculus.specs.Database.{Db};
 ghost use Rattle.disk_model.specs.Disk.{Image, RisesUpTo};
-ghost use Rattle.access_traits.specs.Causes.{HasFileCause, of_store};
-ghost use Rattle.am_traits.specs.declared.fault.BaseFault.TheVariants.{Damaged as DamagedBase};
+ghost use Rattle.am_traits.specs.Causes.{HasFileCause, of_store};
+ghost use Rattle.base_trait.specs.declared.fault.BaseFault.TheVariants.{Damaged as DamagedBase};
 ghost use Rattle.catalog.specs.Damage.{ShowsNone};
 ghost use Rattle.catalog.specs.Knows.{Knows};
 ghost use Rattle.catalog.specs.Lies.{LiesOn};
@@ -18,8 +18,8 @@ ghost use Rattle.db_disk.specs.Load.{as_base, base_fault, IsNoHead, NoneStands};
 ghost use Rattle.db_disk.specs.declared.load.LoadFault.TheVariants.{NoHead as WithoutHead, Base as OfBase};
 
 use crate::head::{Head, read_head};
-use access_traits::{PageStore, StoreFault};
-use am_traits::BaseFault;
+use am_traits::{PageStore, StoreFault};
+use base_trait::BaseFault;
 use calculus::Name;
 use catalog::Catalog;
 use std::alloc::Global;

@@ -3,7 +3,7 @@
 use crate::DbDisk;
 use crate::load::{LoadFault, base_fault, load};
 use crate::reopened::reopen;
-use am_traits::BaseFault;
+use base_trait::BaseFault;
 use disk_model::Disk;
 use std::alloc::Global;
 
@@ -11,13 +11,13 @@ impl<D: Disk> DbDisk<D> {
     ghost use Rattle.std.specs.Prelude.{◌≡◌, ◌≢◌, ◌+◌, ℕ, IsTrue, None, Some, Err, OnOk, is_some, true, false};
     ghost use Rattle.calculus.specs.Database.{Db};
     ghost use Rattle.calculus.specs.Schema.{schema_of};
-    ghost use Rattle.am_traits.specs.Causes.{HasCause};
+    ghost use Rattle.base_trait.specs.Causes.{HasCause};
     ghost use Rattle.disk_model.specs.Disk.{Image, LeavesOnly, OnlyReads, RisesUpTo};
     ghost use Rattle.calculus.specs.declared.query.RelKey.{RelKey as Key};
     ghost use Rattle.batch_file.specs.Layout.{gate};
     ghost use Rattle.batch_file.specs.Redone.{answer, kept, redone};
     ghost use Rattle.batch_file.specs.declared.fault.RestoreFault.TheVariants.{Damaged as DamagedBatch};
-    ghost use Rattle.am_traits.specs.declared.fault.BaseFault.TheVariants.{Damaged as DamagedBase};
+    ghost use Rattle.base_trait.specs.declared.fault.BaseFault.TheVariants.{Damaged as DamagedBase};
     ghost use Rattle.catalog.specs.Damage.{ShowsNone};
     ghost use Rattle.catalog.specs.Reads.{HasChains};
     ghost use Rattle.page_chain.specs.Pages.{pages_of};

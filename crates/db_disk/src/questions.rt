@@ -1,7 +1,7 @@
 //! What is asked of a database on a disk and told by its schema.
 
 use crate::{DbDisk, asked};
-use am_traits::BaseFault;
+use base_trait::BaseFault;
 use calculus::{Name, Permit, Query, RelInfo, RelKey, Rule};
 use disk_model::Disk;
 use std::alloc::Global;
@@ -10,8 +10,8 @@ impl<D: Disk> DbDisk<D> {
     ghost use Rattle.std.specs.Prelude.{◌≡◌, ℕ, IsTrue, Some, IfOk, OnOk, is_some, length};
     ghost use Rattle.calculus.specs.Database.{Db, entries, permits_on, rules_on};
     ghost use Rattle.calculus.specs.Finding.{found};
-    ghost use Rattle.am_traits.specs.Causes.{HasCause};
-    ghost use Rattle.am_traits.specs.Known.{is_named_by_view, known_at, query_at};
+    ghost use Rattle.base_trait.specs.Causes.{HasCause};
+    ghost use Rattle.base_trait.specs.Known.{is_named_by_view, known_at, query_at};
     ghost use Rattle.disk_model.specs.Disk.{LeavesOnly, RisesUpTo};
     ghost use Rattle.db_disk.specs.Held.{SameHeld};
     ghost use Rattle.db_disk.specs.Reads.{OpensBy, files_known};

@@ -1,7 +1,7 @@
 //! A disk is restored before it is read, and a batch is laid.
 
 ghost use Rattle.std.specs.Prelude.{◌≡◌, ◌≢◌, ℕ, IsErrOf, IsTrue, Some, None, Err, OnOk};
-ghost use Rattle.am_traits.specs.Causes.{HasCause};
+ghost use Rattle.base_trait.specs.Causes.{HasCause};
 ghost use Rattle.disk_model.specs.Disk.{LeavesOnly, RisesUpTo};
 ghost use Rattle.batch_file.specs.Layout.{gate};
 ghost use Rattle.batch_file.specs.OnDisk.{SameRedone};
@@ -11,7 +11,7 @@ ghost use Rattle.batch_store.specs.Store.{disk_of};
 ghost use Rattle.db_disk.specs.Answered.{of_restore};
 ghost use Rattle.db_disk.specs.Held.{database_in, IsReady, SameHeld};
 
-use am_traits::BaseFault;
+use base_trait::BaseFault;
 use batch_file::RestoreFault;
 use batch_store::BatchStore;
 use disk_model::Disk;

@@ -2,7 +2,7 @@
 
 use crate::filling::fill;
 use crate::{DbDisk, asked_rows};
-use am_traits::BaseFault;
+use base_trait::BaseFault;
 use calculus::{Place, Probe, RelKey, Row};
 use disk_model::Disk;
 use std::alloc::Global;
@@ -14,8 +14,8 @@ impl<D: Disk> DbDisk<D> {
     ghost use Rattle.calculus.specs.IsDatabase.{row_fits};
     ghost use Rattle.calculus.specs.Rows.{has};
     ghost use Rattle.calculus.specs.Stored.{attrs_at, rows_at};
-    ghost use Rattle.am_traits.specs.Causes.{HasCause};
-    ghost use Rattle.am_traits.specs.Scans.{Gives, IsOver};
+    ghost use Rattle.base_trait.specs.Causes.{HasCause};
+    ghost use Rattle.base_trait.specs.Scans.{Gives, IsOver};
     ghost use Rattle.disk_model.specs.Disk.{LeavesOnly, OnlyReads, RisesUpTo};
     ghost use Rattle.plain_base.specs.Shown.{database_of};
     ghost use Rattle.catalog.specs.declared.catalog.Catalog.{Catalog as KnownCatalog};

@@ -12,7 +12,7 @@ use Rattle.calculus.specs.Rows.{Row, has}
 use Rattle.calculus.specs.Value.{row_cmp}
 use Rattle.calculus.proofs.Sets.{same_exact}
 use Rattle.disk_model.specs.Disk.{Image}
-use Rattle.access_traits.specs.Placed.{Placed, rows_of, rows_differ, NowHolds, Added, Removed, Replaced}
+use Rattle.am_traits.specs.Placed.{Placed, rows_of, rows_differ, NowHolds, Added, Removed, Replaced}
 use Rattle.calculus.specs.declared.schema.RelFile.{RelFile}
 use Rattle.page_cells.specs.RowBytes.{is_row, row_bytes, widths}
 use Rattle.page_chain.specs.Chains.{IsChain, numbers_from, starts}

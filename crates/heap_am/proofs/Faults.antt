@@ -7,10 +7,10 @@ use Rattle.calculus.specs.declared.value.Domain.{Domain}
 use Rattle.calculus.specs.Rows.{Row}
 use Rattle.disk_model.specs.Disk.{Image}
 use Rattle.disk_model.specs.declared.disk.Addr.{Addr}
-use Rattle.am_traits.specs.declared.fault.BaseFault.{BaseFault}
-use Rattle.am_traits.specs.declared.fault.BaseFault.TheVariants.{Disk, Damaged, OutOfMemory}
-use Rattle.access_traits.specs.Causes.{MayFail, HasFileCause}
-use Rattle.access_traits.specs.Placed.{Placed, row_with, is_place}
+use Rattle.base_trait.specs.declared.fault.BaseFault.{BaseFault}
+use Rattle.base_trait.specs.declared.fault.BaseFault.TheVariants.{Disk, Damaged, OutOfMemory}
+use Rattle.am_traits.specs.Causes.{MayFail, HasFileCause}
+use Rattle.am_traits.specs.Placed.{Placed, row_with, is_place}
 use Rattle.calculus.specs.declared.schema.RelFile.{RelFile}
 use Rattle.page_cells.specs.Page.{Slot, slots}
 use Rattle.page_cells.specs.RowBytes.{is_row, row_bytes}

@@ -2,7 +2,7 @@
 use Rattle.std.proofs.Common.{◌≡◌, ◌⊎◌, inl, inr, refl, sym, ap, ap₂, ◌∙◌, ◌+◌, ◌<◌, ◌≤◌, Bool, true, false, List, [], ◌∷◌, ◌++◌, filter, find, Option, Some, None, arith, if◌then◌else◌}
 use Rattle.std.proofs.lemmas.Bool.Decides.{nat_tests}
 use Rattle.calculus.specs.declared.probe.Place.{Place}
-use Rattle.access_traits.specs.Placed.{is_place, is_from}
+use Rattle.am_traits.specs.Placed.{is_place, is_from}
 
 -- the place of the next line
 abbrev pub next_line : Place → Place

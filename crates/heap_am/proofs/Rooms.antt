@@ -6,9 +6,9 @@ use Rattle.calculus.specs.Rows.{Row}
 use Rattle.calculus.specs.declared.value.Domain.{Domain}
 use Rattle.disk_model.specs.Disk.{Image}
 use Rattle.disk_model.specs.declared.disk.Addr.{Addr}
-use Rattle.am_traits.specs.declared.fault.BaseFault.{BaseFault}
-use Rattle.access_traits.specs.Causes.{HasFileCause, HasStoreCause, of_store}
-use Rattle.access_traits.specs.declared.fault.StoreFault.{StoreFault}
+use Rattle.base_trait.specs.declared.fault.BaseFault.{BaseFault}
+use Rattle.am_traits.specs.Causes.{HasFileCause, HasStoreCause, of_store}
+use Rattle.am_traits.specs.declared.fault.StoreFault.{StoreFault}
 use Rattle.page_cells.specs.RowBytes.{row_bytes}
 use Rattle.page_chain.proofs.Carried.{cause_store}
 use Rattle.heap_am.proofs.Outcomes.{handed_on}

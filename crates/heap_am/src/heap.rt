@@ -2,16 +2,16 @@
 
 ghost use Rattle.std.specs.Prelude.{◌≡◌, ◌<◌, ◌≤◌, ◌^◌, Some, IsTrue, IfOk, OnOk, All, length, map};
 ghost use Rattle.disk_model.specs.Disk.{Image};
-ghost use Rattle.access_traits.specs.Causes.{HasFileCause};
-ghost use Rattle.access_traits.specs.Pages.{KeepsOthers};
-ghost use Rattle.access_traits.specs.Placed.{NowHolds, rows_of};
+ghost use Rattle.am_traits.specs.Causes.{HasFileCause};
+ghost use Rattle.am_traits.specs.Pages.{KeepsOthers};
+ghost use Rattle.am_traits.specs.Placed.{NowHolds, rows_of};
 ghost use Rattle.page_cells.specs.RowBytes.{is_row, row_bytes, widths};
 ghost use Rattle.page_chain.specs.Grown.{IsBuilt, IsNever};
 ghost use Rattle.heap_am.specs.Heap.{heap_rows, IsMade};
 
 use crate::encoding::all_encoded;
-use access_traits::{PageStore, RelFile};
-use am_traits::BaseFault;
+use am_traits::{PageStore, RelFile};
+use base_trait::BaseFault;
 use calculus::Row;
 use page_chain::build;
 use std::alloc::Global;

@@ -3,9 +3,9 @@
 ghost use Rattle.std.specs.Prelude.{◌≡◌, ◌+◌, ◌-◌, ◌^◌, ◌<◌, ◌≤◌, ℕ, [], ◌∷◌, ◌++◌, List, Some, None, true, IsTrue, IfOk, IfSome, OnOk, All, length, map, take};
 ghost use Rattle.calculus.specs.Rows.{Row as Values, has};
 ghost use Rattle.disk_model.specs.Disk.{Image};
-ghost use Rattle.access_traits.specs.Causes.{HasFileCause};
-ghost use Rattle.access_traits.specs.Pages.{KeepsOthers};
-ghost use Rattle.access_traits.specs.Placed.{Placed, Replaced, NowHolds, SameButUsed, rows_differ, rows_of};
+ghost use Rattle.am_traits.specs.Causes.{HasFileCause};
+ghost use Rattle.am_traits.specs.Pages.{KeepsOthers};
+ghost use Rattle.am_traits.specs.Placed.{Placed, Replaced, NowHolds, SameButUsed, rows_differ, rows_of};
 ghost use Rattle.page_cells.specs.RowBytes.{is_row, row_bytes};
 ghost use Rattle.page_chain.specs.Chains.{IsChain, OffPage};
 ghost use Rattle.page_chain.specs.Grown.{IsGrown};
@@ -16,8 +16,8 @@ ghost use Rattle.heap_am.specs.Near.{IsRising, IsDoneOn, IsDoneNear};
 
 use crate::Heap;
 use crate::encoding::all_encoded;
-use access_traits::PageStore;
-use am_traits::BaseFault;
+use am_traits::PageStore;
+use base_trait::BaseFault;
 use calculus::{OutOfMemory, Row};
 use disk_model::{Addr, Page};
 use memory::List;

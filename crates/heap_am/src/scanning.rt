@@ -2,9 +2,9 @@
 
 ghost use Rattle.std.specs.Prelude.{◌≡◌, ◌+◌, ◌^◌, ◌<◌, ◌≤◌, Some, None, is_some, IfOk, IfErr, IfSome, OnOk, if◌then◌else◌};
 ghost use Rattle.disk_model.specs.Disk.{Image};
-ghost use Rattle.am_traits.specs.Scans.{Gives, IsOver, has_value, meets};
-ghost use Rattle.access_traits.specs.Causes.{HasFileCause};
-ghost use Rattle.access_traits.specs.Placed.{Placed, GivesBefore, row_with, rows_from};
+ghost use Rattle.base_trait.specs.Scans.{Gives, IsOver, has_value, meets};
+ghost use Rattle.am_traits.specs.Causes.{HasFileCause};
+ghost use Rattle.am_traits.specs.Placed.{Placed, GivesBefore, row_with, rows_from};
 ghost use Rattle.page_cells.specs.Page.{IsPage};
 ghost use Rattle.page_chain.specs.Lying.{place_of};
 ghost use Rattle.page_chain.specs.Pages.{page_at};
@@ -13,8 +13,8 @@ ghost use Rattle.heap_am.specs.Met.{MetBefore, MetOn};
 
 use crate::Heap;
 use crate::lines::line_count;
-use access_traits::PageStore;
-use am_traits::BaseFault;
+use am_traits::PageStore;
+use base_trait::BaseFault;
 use calculus::{Place, Probe, Row, Value};
 use disk_model::Page;
 use std::alloc::Global;

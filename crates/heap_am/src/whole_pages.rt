@@ -2,8 +2,8 @@
 
 ghost use Rattle.std.specs.Prelude.{◌≡◌, ◌+◌, ◌++◌, ◌<◌, [], ◌∷◌, Some, IsTrue, IfOk, IfErr, OnOk};
 ghost use Rattle.disk_model.specs.Disk.{Image, RisesUpTo};
-ghost use Rattle.access_traits.specs.Causes.{HasFileCause};
-ghost use Rattle.access_traits.specs.Placed.{Placed};
+ghost use Rattle.am_traits.specs.Causes.{HasFileCause};
+ghost use Rattle.am_traits.specs.Placed.{Placed};
 ghost use Rattle.page_cells.specs.Page.{IsPage};
 ghost use Rattle.page_chain.specs.Lying.{place_of};
 ghost use Rattle.page_chain.specs.Pages.{page_at};
@@ -13,8 +13,8 @@ ghost use Rattle.heap_am.specs.Met.{placed_from, on_page};
 
 use crate::Heap;
 use crate::lines::line_count;
-use access_traits::PageStore;
-use am_traits::BaseFault;
+use am_traits::PageStore;
+use base_trait::BaseFault;
 use calculus::{OutOfMemory, Row};
 use disk_model::Page;
 use memory::List;

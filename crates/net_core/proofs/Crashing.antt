@@ -2,8 +2,8 @@
 use Rattle.std.proofs.Common.{OnOk, ◌≡◌, ◌<◌, ◌≤◌, ℕ, Bool, true, false, List, length, take, get_or, Some, Result, Ok, Err, refl, sym, subst, ◌∙◌}
 use Rattle.std.specs.declared.option.Option.{Option}
 use Rattle.std.proofs.lemmas.Option.{same_Some}
-use Rattle.am_traits.proofs.Crashes.{asked_leaves, leaves_as, leaves_more, nothing_else, still_stands}
-use Rattle.am_traits.specs.Crashes.{LeavesBut, Stands}
+use Rattle.base_trait.proofs.Crashes.{asked_leaves, leaves_as, leaves_more, nothing_else, still_stands}
+use Rattle.base_trait.specs.Crashes.{LeavesBut, Stands}
 use Rattle.calculus.specs.Database.{Db}
 use Rattle.net_core.specs.Crashes.{HandsOver, MayLeave, QuietWithout, StaysDurable, StepCrash, StepLeaves, TurnsLeave, WorkLeaves}
 use Rattle.net_core.specs.Known.{KeepsDatabase, Outside, known}

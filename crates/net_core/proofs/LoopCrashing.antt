@@ -1,6 +1,6 @@
 -- What a crash leaves while a run goes on, behind one step more.
 use Rattle.std.proofs.Common.{◌≡◌, ℕ, List, [], ◌++◌, Option, refl, sym, ap, subst, ◌∙◌, append_assoc, append-nil}
-use Rattle.am_traits.proofs.Crashes.{leaves_as, leaves_more, nothing_else}
+use Rattle.base_trait.proofs.Crashes.{leaves_as, leaves_more, nothing_else}
 use Rattle.calculus.specs.Database.{Db}
 use Rattle.net_core.specs.Crashes.{StepLeaves, StepMayLeave}
 use Rattle.net_core.specs.Moves.{At, LocalRun, Move, StepsBy, gave_left, gave_right, took_left, took_right, worked}

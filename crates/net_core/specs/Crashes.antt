@@ -1,7 +1,7 @@
 -- What a crash leaves of the database while stages work, and when its disk stands still.
 use Rattle.std.specs.Prelude.{◌≡◌, ◌<◌, ℕ, true, false, List, Some, length, take, get_or, Result, OnOk}
 use Rattle.std.specs.declared.option.Option.{Option}
-use Rattle.am_traits.specs.Crashes.{LeavesBut, Stands}
+use Rattle.base_trait.specs.Crashes.{LeavesBut, Stands}
 use Rattle.calculus.specs.Database.{Db}
 use Rattle.net_core.specs.Known.{Outside, known}
 use Rattle.net_core.specs.Whole.{state_at}

@@ -1,7 +1,7 @@
 -- What the process of a stage has done, and how it ended.
 use Rattle.std.specs.Prelude.{◌≡◌, ◌⊎◌, ℕ, ◌+◌, ◌-◌, ◌^◌, ◌≤◌, List, ◌++◌, length, All, Option, Some, Result, Ok, Err, OnOk, ⊤}
 use Rattle.std.specs.Io.KnownBytes.{Appends}
-use Rattle.am_traits.specs.Crashes.{LeavesBut}
+use Rattle.base_trait.specs.Crashes.{LeavesBut}
 use Rattle.calculus.specs.Database.{Db}
 use Rattle.fault_io.specs.Causes.{Rose}
 use Rattle.fault_io.specs.Files.{Files}

@@ -20,7 +20,7 @@ use crate::fault::WorkFault;
 use crate::room::Room;
 use crate::stage::{Stage, Want};
 use crate::steps::Moved;
-use am_traits::Base;
+use base_trait::Base;
 use fault_io::{Shelf, Sink, Source};
 use frame_codec::Frame;
 use std::alloc::Global;

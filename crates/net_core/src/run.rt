@@ -15,7 +15,7 @@ use crate::loop_fault::LoopFault;
 use crate::stepping::{Talk, step};
 use crate::telling::tell;
 use crate::{Moved, Room, Stage};
-use am_traits::Base;
+use base_trait::Base;
 use fault_io::{Link, Shelf, Sink, Source};
 use std::alloc::Global;
 

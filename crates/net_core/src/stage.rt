@@ -15,7 +15,7 @@ ghost use Rattle.quel_network.specs.Sorts.{User, quel_sorts};
 
 use crate::fault::{TakeFault, WorkFault};
 use crate::room::Room;
-use am_traits::Base;
+use base_trait::Base;
 use fault_io::{Shelf, Sink, Source};
 use frame_codec::Frame;
 use memory::OutOfMemory;

@@ -14,7 +14,7 @@ use crate::loop_fault::LoopFault;
 use crate::taking::{take_left, take_right};
 use crate::working::work_on;
 use crate::{Moved, Room, Stage, Want};
-use am_traits::Base;
+use base_trait::Base;
 use fault_io::{Link, Shelf, Sink, Source};
 use std::alloc::Global;
 

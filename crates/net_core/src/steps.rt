@@ -22,7 +22,7 @@ use crate::moving::step_stage;
 use crate::net::Net;
 use crate::room::Room;
 use crate::stage::Stage;
-use am_traits::Base;
+use base_trait::Base;
 use fault_io::{Shelf, Sink, Source};
 use std::alloc::Global;
 use std::collections::VecDeque;

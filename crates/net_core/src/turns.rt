@@ -20,7 +20,7 @@ use crate::net::Net;
 use crate::room::Room;
 use crate::stage::Stage;
 use crate::steps::net_step;
-use am_traits::Base;
+use base_trait::Base;
 use fault_io::{Shelf, Sink, Source};
 use std::alloc::Global;
 

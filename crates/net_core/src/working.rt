@@ -12,7 +12,7 @@ ghost use Rattle.net_core.specs.WholeLoop.{EndsKept, LoopCounts, LoopWithin};
 
 use crate::loop_fault::LoopFault;
 use crate::{Moved, Room, Stage, WorkFault};
-use am_traits::Base;
+use base_trait::Base;
 use fault_io::{Shelf, Sink, Source};
 use std::alloc::Global;
 

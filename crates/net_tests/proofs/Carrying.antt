@@ -4,13 +4,13 @@ use Rattle.std.proofs.lemmas.List.{append-nil}
 use Rattle.std.proofs.KnownBytes.{Appends-nil}
 use Rattle.std.proofs.lemmas.Option.{same_Some}
 use Rattle.std.specs.declared.option.Option.{Option}
-use Rattle.am_traits.proofs.Crashes.{leaves_as, leaves_more, still_stands}
-use Rattle.am_traits.specs.Causes.{MayCome as BaseMayCome}
-use Rattle.am_traits.specs.declared.fault.BaseFault.{BaseFault}
-use Rattle.am_traits.specs.declared.fault.BaseFault.TheVariants as base_faults
+use Rattle.base_trait.proofs.Crashes.{leaves_as, leaves_more, still_stands}
+use Rattle.base_trait.specs.Causes.{MayCome as BaseMayCome}
+use Rattle.base_trait.specs.declared.fault.BaseFault.{BaseFault}
+use Rattle.base_trait.specs.declared.fault.BaseFault.TheVariants as base_faults
 use Rattle.calculus.specs.declared.change.DbChange.TheVariants.{Destroy}
 use Rattle.calculus.specs.declared.query.RelKey.{RelKey}
-use Rattle.am_traits.specs.Crashes.{LeavesBut, Stands}
+use Rattle.base_trait.specs.Crashes.{LeavesBut, Stands}
 use Rattle.calculus.specs.Change.{IsLawful, laid, names_what_is_there, adds_what_is_new, lists_once}
 use Rattle.calculus.specs.Database.{Db}
 use Rattle.calculus.specs.IsDatabase.{IsDatabase}

@@ -1,9 +1,9 @@
 -- Where a fourth stage stands that carries out one change, and what carrying it out comes to.
 use Rattle.std.specs.Prelude.{◌≡◌, ◌⊎◌, ◌≤◌, ℕ, List, [], ◌∷◌, Some, None, Result, IfErr, IsErrOf, OnErr, OnOk}
 use Rattle.std.specs.declared.option.Option.{Option}
-use Rattle.am_traits.specs.Crashes.{LeavesBut, Stands}
-use Rattle.am_traits.specs.declared.fault.BaseFault.{BaseFault}
-use Rattle.am_traits.specs.declared.fault.BaseFault.TheVariants as base_faults
+use Rattle.base_trait.specs.Crashes.{LeavesBut, Stands}
+use Rattle.base_trait.specs.declared.fault.BaseFault.{BaseFault}
+use Rattle.base_trait.specs.declared.fault.BaseFault.TheVariants as base_faults
 use Rattle.calculus.specs.Change.{laid}
 use Rattle.calculus.specs.Database.{Db}
 use Rattle.calculus.specs.declared.change.DbChange.{DbChange}

@@ -2,9 +2,9 @@
 ghost use Rattle.std.specs.Prelude.{None, [], false, true, refl};
 ghost use Rattle.std.proofs.Common.{arith};
 ghost use Rattle.std.proofs.lemmas.Option.{none-some};
-ghost use Rattle.am_traits.specs.InMemory.{asked_in_memory};
+ghost use Rattle.base_trait.specs.InMemory.{asked_in_memory};
 
-use am_traits::{Base, BaseFault};
+use base_trait::{Base, BaseFault};
 use calculus::{
     DbChange, Name, OutOfMemory, Permit, Place, Probe, Query, RelInfo, RelKey, Row, Rule, Value,
 };

@@ -2,7 +2,7 @@
 use crate::carrier::Carrier;
 use crate::fickle::Fickle;
 use crate::orders::room;
-use am_traits::Base;
+use base_trait::Base;
 use fault_io::{MemShelf, MemSink, MemSource};
 use frame_codec::Frame;
 use net_core::{Room, Stage, Want};

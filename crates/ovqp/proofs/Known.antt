@@ -18,7 +18,7 @@ use Rattle.calculus.specs.IsDatabase.{IsDatabase, key_is_named, index_stands}
 use Rattle.quel_meaning.proofs.DatabaseFacts.{found_passes}
 use Rattle.quel_meaning.proofs.Each.{left, right}
 use Rattle.quel_meaning.proofs.Keys.{find_passes, same_keys}
-use Rattle.am_traits.specs.Known.{known_at}
+use Rattle.base_trait.specs.Known.{known_at}
 
 -- the first of these, or else the second
 abbrev or_else : {X : Type 0} → Option X → Option X → Option X

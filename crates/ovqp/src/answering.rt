@@ -20,7 +20,7 @@ use crate::fault::QueryFault;
 use crate::giving::give_of;
 use crate::scanning::given_by_scan;
 use crate::used::is_place_used;
-use am_traits::Base;
+use base_trait::Base;
 use calculus::{QQual, RelKey, Row, RowSet, Target};
 use std::alloc::Global;
 

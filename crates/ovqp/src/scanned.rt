@@ -4,9 +4,9 @@ ghost use Rattle.std.specs.Prelude.{◌≡◌, [], Some, IfOk, OnOk};
 ghost use Rattle.calculus.specs.Database.{Db};
 ghost use Rattle.calculus.specs.Rows.{set_of};
 ghost use Rattle.calculus.specs.Stored.{rows_at};
-ghost use Rattle.am_traits.specs.Causes.{HasCause};
+ghost use Rattle.base_trait.specs.Causes.{HasCause};
 
-use am_traits::{Base, BaseFault};
+use base_trait::{Base, BaseFault};
 use calculus::{List, Place, Probe, RelKey, Row, RowSet};
 use memory::push;
 use std::alloc::Global;

@@ -7,13 +7,13 @@ ghost use Rattle.calculus.specs.Stored.{rows_at};
 ghost use Rattle.calculus.specs.Targets.{rows_given, some_lacks};
 ghost use Rattle.calculus.specs.Term.{no_aggs};
 ghost use Rattle.ovqp.specs.Walk.{Gives};
-ghost use Rattle.am_traits.specs.Scans.{first_place};
+ghost use Rattle.base_trait.specs.Scans.{first_place};
 ghost use Rattle.ovqp.specs.Parts.{IsQueryOf, alone};
 ghost use Rattle.ovqp.specs.ScanCauses.{HasCause};
 
 use crate::fault::QueryFault;
 use crate::giving::give_of;
-use am_traits::{Base, BaseFault};
+use base_trait::{Base, BaseFault};
 use calculus::{List, Place, Probe, QQual, RelKey, Row, RowSet, Target};
 use std::alloc::Global;
 

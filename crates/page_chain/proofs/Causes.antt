@@ -4,9 +4,9 @@ use Rattle.std.specs.Prelude.{Err}
 use Rattle.fault_io.specs.Causes.{Rose}
 use Rattle.disk_model.specs.Disk.{Image}
 use Rattle.disk_model.specs.declared.disk.Addr.{Addr}
-use Rattle.am_traits.specs.declared.fault.BaseFault.{BaseFault}
-use Rattle.am_traits.specs.declared.fault.BaseFault.TheVariants as faults
-use Rattle.access_traits.specs.Causes.{HasFileCause, MayFail}
+use Rattle.base_trait.specs.declared.fault.BaseFault.{BaseFault}
+use Rattle.base_trait.specs.declared.fault.BaseFault.TheVariants as faults
+use Rattle.am_traits.specs.Causes.{HasFileCause, MayFail}
 
 -- what rose since then rose
 rose_later : (before mid now : ℕ) → mid ≡ before → Rose mid now → Rose before now

@@ -5,7 +5,7 @@ use Rattle.std.specs.List.Sorted.{IsPermutation}
 use Rattle.std.proofs.lemmas.List.Sorted.{IsPermutation-append_right, IsPermutation-trans, IsPermutation-to_front, IsPermutation-sym}
 use Rattle.calculus.specs.declared.probe.Place.{Place}
 use Rattle.disk_model.specs.Disk.{Image}
-use Rattle.access_traits.specs.Pages.{KeepsOthers, with_page}
+use Rattle.am_traits.specs.Pages.{KeepsOthers, with_page}
 use Rattle.page_cells.specs.Page.{Slot, IsPage, next_page, slots, line_for, with_row}
 use Rattle.page_chain.specs.Chains.{IsChain, numbers_from}
 use Rattle.page_chain.specs.Filled.{IsLaid, KnownLaid, OneLaid, IsLinked}

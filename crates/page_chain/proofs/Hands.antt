@@ -2,7 +2,7 @@
 use Rattle.std.proofs.Common.{◌≡◌, sym, ap, subst, ◌∙◌, ℕ, suc, ◌+◌, List, [], ◌++◌, take, drop, Option, Some, arith, append_assoc, append-nil}
 use Rattle.std.proofs.lemmas.List.{take-append-drop}
 use Rattle.disk_model.specs.Disk.{Image}
-use Rattle.access_traits.specs.Pages.{with_page}
+use Rattle.am_traits.specs.Pages.{with_page}
 use Rattle.page_cells.specs.Page.{IsPage, next_page, slots}
 use Rattle.page_chain.specs.Filled.{HasOnly, IsFilled, InHand, KnownLaid, IsLinked}
 use Rattle.page_chain.specs.Lying.{lying_in, bytes_of}

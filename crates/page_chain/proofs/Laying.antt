@@ -9,7 +9,7 @@ use Rattle.std.proofs.lemmas.List.Sorted.{IsPermutation-append_left}
 use Rattle.calculus.specs.declared.probe.Place.{Place}
 use Rattle.disk_model.specs.Disk.{Image, is_at}
 use Rattle.disk_model.specs.declared.disk.Addr.{Addr}
-use Rattle.access_traits.specs.Pages.{SameElsewhere, with_page}
+use Rattle.am_traits.specs.Pages.{SameElsewhere, with_page}
 use Rattle.page_cells.specs.Page.{IsPage, next_page, slots}
 use Rattle.page_chain.specs.Chains.{IsChain}
 use Rattle.page_chain.specs.Filled.{HasOnly, IsLaid}

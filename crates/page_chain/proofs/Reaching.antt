@@ -6,7 +6,7 @@ use Rattle.std.proofs.lemmas.List.Elements.{filter-append}
 use Rattle.std.specs.List.{AllByRecursion, list_all}
 use Rattle.disk_model.specs.Disk.{Image}
 use Rattle.disk_model.specs.declared.disk.Addr.{Addr}
-use Rattle.access_traits.specs.Pages.{SameElsewhere}
+use Rattle.am_traits.specs.Pages.{SameElsewhere}
 use Rattle.page_chain.specs.Chains.{IsChain, starts, is_on, NoChainTo}
 use Rattle.page_chain.specs.Lying.{Lying, Came, all_differ, bytes_of, lying, lying_on, staying, is_among}
 use Rattle.page_chain.specs.Pages.{Pages, page_at, pages_of, next_of}

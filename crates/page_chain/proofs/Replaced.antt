@@ -6,8 +6,8 @@ use Rattle.std.proofs.lemmas.Option.{none-some}
 use Rattle.std.specs.List.{list_all}
 use Rattle.disk_model.specs.Disk.{Image}
 use Rattle.disk_model.specs.declared.disk.Addr.{Addr}
-use Rattle.access_traits.specs.Causes.{IsAtFault}
-use Rattle.access_traits.specs.Pages.{SameElsewhere, KeepsOthers}
+use Rattle.am_traits.specs.Causes.{IsAtFault}
+use Rattle.am_traits.specs.Pages.{SameElsewhere, KeepsOthers}
 use Rattle.page_chain.specs.Chains.{IsChain, starts, is_on, OffPage, NoChainTo}
 use Rattle.page_chain.specs.Grown.{IsGrown, numbers_to}
 use Rattle.page_chain.specs.Lying.{Came, bytes_of, is_among, lying, staying}

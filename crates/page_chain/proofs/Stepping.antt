@@ -3,8 +3,8 @@ use Rattle.std.proofs.Common.{◌≡◌, refl, sym, ap, subst, ◌∙◌, ℕ, �
 use Rattle.std.proofs.lemmas.Bool.{and_from, and_parts, eqb-true, eq-eqb}
 use Rattle.disk_model.specs.Disk.{Image, is_at}
 use Rattle.disk_model.specs.declared.disk.Addr.{Addr}
-use Rattle.access_traits.specs.Causes.{IsAtFault}
-use Rattle.access_traits.specs.Pages.{with_page}
+use Rattle.am_traits.specs.Causes.{IsAtFault}
+use Rattle.am_traits.specs.Pages.{with_page}
 use Rattle.page_cells.specs.Page.{IsPage, next_page}
 use Rattle.page_chain.specs.Chains.{OffPage}
 use Rattle.page_chain.specs.Lying.{Came, lying_on, staying}

@@ -10,8 +10,8 @@ use Rattle.std.specs.List.{AllByRecursion}
 use Rattle.std.specs.List.Sorted.{IsPermutation}
 use Rattle.disk_model.specs.Disk.{Image}
 use Rattle.disk_model.specs.declared.disk.Addr.{Addr}
-use Rattle.access_traits.specs.Causes.{IsAtFault}
-use Rattle.access_traits.specs.Pages.{KeepsOthers, with_page}
+use Rattle.am_traits.specs.Causes.{IsAtFault}
+use Rattle.am_traits.specs.Pages.{KeepsOthers, with_page}
 use Rattle.page_cells.specs.Page.{Slot, IsPage, next_page, slots}
 use Rattle.page_chain.specs.Chains.{IsChain, starts, OffPage, NoChain}
 use Rattle.page_chain.specs.Lying.{Lying, bytes_of, is_among, lying, lying_in, lying_on, place_of}

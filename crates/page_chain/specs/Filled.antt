@@ -3,7 +3,7 @@ use Rattle.std.specs.Prelude.{◌≡◌, ℕ, ◌+◌, ◌<◌, ◌≤◌, List,
 use Rattle.std.specs.List.Sorted.{IsPermutation}
 use Rattle.calculus.specs.declared.probe.Place.{Place}
 use Rattle.disk_model.specs.Disk.{Image}
-use Rattle.access_traits.specs.Pages.{SameElsewhere, with_page}
+use Rattle.am_traits.specs.Pages.{SameElsewhere, with_page}
 use Rattle.page_cells.specs.Page.{IsPage, next_page, slots}
 use Rattle.page_chain.specs.Chains.{IsChain}
 use Rattle.page_chain.specs.Grown.{numbers_to}

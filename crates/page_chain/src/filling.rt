@@ -2,14 +2,14 @@
 
 ghost use Rattle.std.specs.Prelude.{◌≡◌, ◌+◌, ◌^◌, ◌<◌, ◌≤◌, ℕ, List as Rows, [], Some, All, IfOk, OnOk, drop, length, take};
 ghost use Rattle.disk_model.specs.Disk.{Image};
-ghost use Rattle.access_traits.specs.Causes.{HasStoreCause};
-ghost use Rattle.access_traits.specs.Pages.{with_page};
+ghost use Rattle.am_traits.specs.Causes.{HasStoreCause};
+ghost use Rattle.am_traits.specs.Pages.{with_page};
 ghost use Rattle.page_cells.specs.Page.{IsPage, next_page, slots};
 ghost use Rattle.page_chain.specs.Filled.{InHand, IsFilled, IsLinked, KnownLaid};
 ghost use Rattle.page_chain.specs.Lying.{IsShort};
 ghost use Rattle.page_chain.specs.Pages.{page_at};
 
-use access_traits::{PageStore, StoreFault};
+use am_traits::{PageStore, StoreFault};
 use disk_model::{Addr, Page};
 use memory::List;
 use page_cells::{fresh_page, put_row, set_next};

@@ -3,8 +3,8 @@
 ghost use Rattle.std.specs.Prelude.{◌≡◌, ◌+◌, ◌-◌, ◌^◌, ◌<◌, ◌≤◌, ℕ, List, [], ◌∷◌, ◌++◌, Some, All, IfOk, OnOk, length};
 ghost use Rattle.calculus.specs.declared.probe.Place.{Place as At};
 ghost use Rattle.disk_model.specs.Disk.{Image};
-ghost use Rattle.access_traits.specs.Causes.{HasFileCause, HasStoreCause};
-ghost use Rattle.access_traits.specs.Pages.{KeepsOthers, with_page};
+ghost use Rattle.am_traits.specs.Causes.{HasFileCause, HasStoreCause};
+ghost use Rattle.am_traits.specs.Pages.{KeepsOthers, with_page};
 ghost use Rattle.page_cells.specs.Page.{IsPage, next_page};
 ghost use Rattle.page_chain.specs.Chains.{IsChain, OffPage};
 ghost use Rattle.page_chain.specs.Filled.{OneLaid};
@@ -14,8 +14,8 @@ ghost use Rattle.page_chain.specs.Pages.{page_at, pages_of};
 
 use crate::chains::chain_page;
 use crate::filling::{lay, turn_page};
-use access_traits::{PageStore, StoreFault};
-use am_traits::BaseFault;
+use am_traits::{PageStore, StoreFault};
+use base_trait::BaseFault;
 use calculus::Place;
 use disk_model::{Addr, Page};
 use memory::List;

@@ -9,7 +9,7 @@ use Rattle.calculus.specs.IsDatabase.{IsDatabase}
 use Rattle.calculus.specs.Rows.{Row, Ascends, set_of}
 use Rattle.calculus.specs.Stored.{rows_at}
 use Rattle.calculus.proofs.Sets.{same_set, has-set_of, Ascends-nil, Ascends-set_of}
-use Rattle.am_traits.specs.Scans.{IsScan, first_place}
+use Rattle.base_trait.specs.Scans.{IsScan, first_place}
 use Rattle.plain_base.specs.FoundRows.{under_key}
 use Rattle.plain_base.specs.Places.{rows_from}
 

@@ -8,7 +8,7 @@ ghost use Rattle.plain_statements.specs.Doable.{AreDoable};
 
 use crate::Stopped;
 use crate::refusing::answer_to;
-use am_traits::Base;
+use base_trait::Base;
 use calculus::{Asked, OutOfMemory, Reply};
 use stage_proc::tables_of;
 use std::alloc::Global;

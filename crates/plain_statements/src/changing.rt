@@ -8,7 +8,7 @@ ghost use Rattle.update_change.specs.Changes.{MakesNew};
 ghost use Rattle.plain_statements.specs.Plans.{Plans, ArePairs};
 
 use crate::Stopped;
-use am_traits::Base;
+use base_trait::Base;
 use calculus::{DbChange, Pair, Update};
 use std::alloc::Global;
 use update_change::change_of;

@@ -8,7 +8,7 @@ ghost use Rattle.stage_proc.specs.TableCauses.{CanBeAnswered};
 ghost use Rattle.plain_statements.specs.Plans.{Plans, ArePairs};
 
 use crate::Stopped;
-use am_traits::Base;
+use base_trait::Base;
 use calculus::{Pair, Update};
 use stage_proc::pairs_of;
 use std::alloc::Global;

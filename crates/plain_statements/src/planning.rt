@@ -11,7 +11,7 @@ ghost use Rattle.plain_statements.specs.Plans.{Plans};
 use crate::Stopped;
 use crate::changing::changed_by;
 use crate::pairing::paired;
-use am_traits::Base;
+use base_trait::Base;
 use calculus::{DbChange, Update};
 use std::alloc::Global;
 

@@ -20,7 +20,7 @@ use crate::Stopped;
 use crate::carrying::{tree_done, without_shelf};
 use crate::refusing::{answer_to, refused};
 use crate::trees::tree_of;
-use am_traits::Base;
+use base_trait::Base;
 use calculus::{Checked, Name, OutOfMemory, Reply, Statement, TryCopy};
 use fault_io::{Shelf, ShelfFault};
 use plain_base::DbPlain;

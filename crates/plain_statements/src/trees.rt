@@ -6,7 +6,7 @@ ghost use Rattle.quel_meaning.specs.IsWritten.{is_written};
 ghost use Rattle.plain_statements.specs.Plans.{IsMade};
 
 use crate::Stopped;
-use am_traits::Base;
+use base_trait::Base;
 use calculus::{Checked, Name, Statement};
 use quel_check::RangeTable;
 use stage_parse::checked;

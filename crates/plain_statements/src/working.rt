@@ -9,7 +9,7 @@ ghost use Rattle.plain_statements.specs.Doable.{IsDoableWork};
 ghost use Rattle.plain_statements.specs.Plans.{Plans};
 
 use crate::Stopped;
-use am_traits::Base;
+use base_trait::Base;
 use calculus::{DbChange, Name, Utility};
 use std::alloc::Global;
 use utilities::plan;

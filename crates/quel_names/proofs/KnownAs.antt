@@ -1,7 +1,7 @@
 -- An answer that is known, said in another way.
 use Rattle.std.proofs.Common.{◌≡◌, refl, subst, false, Option, Some, None, is_some, Result}
 use Rattle.std.specs.Result.{IfOk}
-use Rattle.am_traits.specs.declared.fault.BaseFault.{BaseFault}
+use Rattle.base_trait.specs.declared.fault.BaseFault.{BaseFault}
 
 -- what is one value is any that is the same
 pub known_as : {T : Type 0} (r : Result T BaseFault) (x y : T) → x ≡ y → IfOk r (λ n. n ≡ x) → IfOk r (λ n. n ≡ y)

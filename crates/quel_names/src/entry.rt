@@ -1,15 +1,15 @@
 //! What refuses a name that `destroy` may name.
 
 ghost use Rattle.std.specs.Prelude.{◌≡◌, ◌||◌, ℕ, List, Some, None, IfOk, is_some, cond};
-ghost use Rattle.am_traits.specs.Causes.{HasCause};
-ghost use Rattle.am_traits.specs.Known.{known_at};
+ghost use Rattle.base_trait.specs.Causes.{HasCause};
+ghost use Rattle.base_trait.specs.Known.{known_at};
 ghost use Rattle.calculus.specs.Database.{Db};
 ghost use Rattle.calculus.specs.Keys.{key_of};
 ghost use Rattle.quel_meaning.specs.Naming.{Entry, mention_refusal};
 ghost use Rattle.quel_meaning.specs.Ranges.{Ranges};
 ghost use Rattle.quel_names.specs.Asking.{scope_of};
 
-use am_traits::{Base, BaseFault};
+use base_trait::{Base, BaseFault};
 use calculus::{Name, OutOfMemory, RelKey};
 use memory::both;
 use std::alloc::Global;

@@ -14,7 +14,7 @@ mod role;
 mod targets;
 mod text;
 
-pub use am_traits::BaseFault;
+pub use base_trait::BaseFault;
 pub use infos::{
     infos_of, inner_variables_range_where_no_name_refuses, variables_range_where_no_name_refuses,
 };

@@ -2,7 +2,7 @@
 
 ghost use Rattle.std.specs.Prelude.{◌≡◌, ℕ, Some, IfOk};
 ghost use Rattle.std.specs.Option.{option_and_then};
-ghost use Rattle.am_traits.specs.Causes.{HasCause};
+ghost use Rattle.base_trait.specs.Causes.{HasCause};
 ghost use Rattle.calculus.specs.Database.{Db};
 ghost use Rattle.calculus.specs.Finding.{found};
 ghost use Rattle.calculus.specs.Stored.{info_at};
@@ -10,7 +10,7 @@ ghost use Rattle.calculus.specs.Structures.{is_index};
 ghost use Rattle.quel_meaning.specs.Ranges.{range_of};
 ghost use Rattle.quel_names.specs.Ranging.{but_index};
 
-use am_traits::{Base, BaseFault};
+use base_trait::{Base, BaseFault};
 use calculus::{Name, RelInfo, RelKey, Spec};
 use quel_check::RangeTable;
 use std::alloc::Global;

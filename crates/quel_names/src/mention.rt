@@ -1,7 +1,7 @@
 //! What refuses one name.
 
 ghost use Rattle.std.specs.Prelude.{◌≡◌, ℕ, List, Some, None, IfOk};
-ghost use Rattle.am_traits.specs.Causes.{HasCause};
+ghost use Rattle.base_trait.specs.Causes.{HasCause};
 ghost use Rattle.calculus.specs.Database.{Db};
 ghost use Rattle.calculus.specs.Stored.{info_at};
 ghost use Rattle.quel_check.specs.Seen.{seen};
@@ -12,7 +12,7 @@ ghost use Rattle.quel_names.specs.Asking.{scope_of};
 
 use crate::entry::entry_refusal;
 use crate::looking::{info_at, named};
-use am_traits::{Base, BaseFault};
+use base_trait::{Base, BaseFault};
 use calculus::refusals::{NO_ATTRIBUTE, NO_RELATION, NO_VARIABLE};
 use calculus::{Attr, Name, RelInfo, RelKey};
 use quel_check::{Mention, RangeTable};

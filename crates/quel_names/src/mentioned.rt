@@ -1,14 +1,14 @@
 //! The first name that refuses, among mentions.
 
 ghost use Rattle.std.specs.Prelude.{◌≡◌, List, Some, IfOk, map};
-ghost use Rattle.am_traits.specs.Causes.{HasCause};
+ghost use Rattle.base_trait.specs.Causes.{HasCause};
 ghost use Rattle.calculus.specs.Database.{Db};
 ghost use Rattle.quel_check.specs.Seen.{seen};
 ghost use Rattle.quel_meaning.specs.Naming.{Mention as Named, first_number, mention_refusal};
 ghost use Rattle.quel_names.specs.Asking.{scope_of};
 
 use crate::mention::mention_refusal;
-use am_traits::{Base, BaseFault};
+use base_trait::{Base, BaseFault};
 use calculus::{Name, OutOfMemory};
 use quel_check::{Mention, RangeTable};
 use std::alloc::Global;

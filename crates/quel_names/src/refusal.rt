@@ -1,7 +1,7 @@
 //! Which name refuses a statement.
 
 ghost use Rattle.std.specs.Prelude.{◌≡◌, Some, IfOk, map};
-ghost use Rattle.am_traits.specs.Causes.{HasCause};
+ghost use Rattle.base_trait.specs.Causes.{HasCause};
 ghost use Rattle.calculus.specs.Database.{Db};
 ghost use Rattle.quel_meaning.specs.Naming.{first_number, mention_refusal, name_refusal, query_mentions};
 ghost use Rattle.quel_meaning.specs.WrittenParts.{items_of, where_of};
@@ -12,7 +12,7 @@ use crate::head::head;
 use crate::mentioned::refusal_of;
 use crate::parts::{items_of, titles_of, where_of};
 use crate::text::query_refusal;
-use am_traits::{Base, BaseFault};
+use base_trait::{Base, BaseFault};
 use calculus::{Name, Statement};
 use quel_check::RangeTable;
 use std::alloc::Global;

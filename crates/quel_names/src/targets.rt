@@ -1,7 +1,7 @@
 //! What refuses a target list.
 
 ghost use Rattle.std.specs.Prelude.{◌≡◌, ◌++◌, Some, IfOk, flat_map, map};
-ghost use Rattle.am_traits.specs.Causes.{HasCause};
+ghost use Rattle.base_trait.specs.Causes.{HasCause};
 ghost use Rattle.calculus.specs.Database.{Db};
 ghost use Rattle.calculus.specs.declared.statement.Item.TheVariants.{All};
 ghost use Rattle.quel_meaning.specs.Naming.{dotted, first_number, item_mentions, mention_refusal};
@@ -14,7 +14,7 @@ use crate::meant::{meant, titled_by_itself, titles};
 use crate::mention::mention_refusal;
 use crate::mentioned::refusal_of;
 use crate::role::Role;
-use am_traits::{Base, BaseFault};
+use base_trait::{Base, BaseFault};
 use calculus::{Attr, Item, Name, Term};
 use quel_check::{Mention, RangeTable, mentions_in_term};
 use std::alloc::Global;

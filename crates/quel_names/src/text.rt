@@ -1,7 +1,7 @@
 //! What refuses a target list with its qualification.
 
 ghost use Rattle.std.specs.Prelude.{◌≡◌, ◌++◌, Some, IfOk, flat_map, map, option_map, unwrap_or};
-ghost use Rattle.am_traits.specs.Causes.{HasCause};
+ghost use Rattle.base_trait.specs.Causes.{HasCause};
 ghost use Rattle.calculus.specs.Database.{Db};
 ghost use Rattle.calculus.specs.declared.statement.Qual.TheVariants.{True};
 ghost use Rattle.quel_meaning.specs.Naming.{dotted, first_number, item_mentions, mention_refusal, query_mentions};
@@ -12,7 +12,7 @@ ghost use Rattle.quel_names.specs.Roles.{meant_by};
 use crate::mentioned::refusal_of;
 use crate::role::Role;
 use crate::targets::item_refusal;
-use am_traits::{Base, BaseFault};
+use base_trait::{Base, BaseFault};
 use calculus::{Item, Name, Qual};
 use quel_check::{RangeTable, mentions_in_qual};
 use std::alloc::Global;

@@ -16,7 +16,7 @@ use Rattle.calculus.specs.Catalogue.{catalogue_at, is_catalogue_name, relation_i
 use Rattle.calculus.specs.IsDatabase.{IsDatabase, key_is_named, index_stands}
 use Rattle.calculus.specs.Stored.{Range, Kept, Viewed, range_at, range_info, info_at, attrs_in, attrs_at, kinds_at}
 use Rattle.calculus.specs.Structures.{is_index}
-use Rattle.am_traits.specs.Known.{known_at}
+use Rattle.base_trait.specs.Known.{known_at}
 use Rattle.quel_meaning.specs.Passing.{is_taken}
 use Rattle.quel_meaning.proofs.Each.{left, right}
 use Rattle.quel_meaning.proofs.Keys.{find_passes, same_keys}

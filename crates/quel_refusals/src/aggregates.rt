@@ -2,7 +2,7 @@
 
 ghost use Rattle.std.specs.Prelude.{◌≡◌, ◌&&◌, ◌∷◌, [], length, map, nat_eq, vec_items, zip, IfOk, Some};
 ghost use Rattle.std.specs.List.{list_all};
-ghost use Rattle.am_traits.specs.Causes.{HasCause};
+ghost use Rattle.base_trait.specs.Causes.{HasCause};
 ghost use Rattle.calculus.specs.Aggregate.{source_kinds};
 ghost use Rattle.calculus.specs.Database.{Db};
 ghost use Rattle.calculus.specs.Kinds.{comparable, kind_of, kinds_fit};
@@ -12,7 +12,7 @@ ghost use Rattle.quel_meaning.specs.KindsInQueries.{aggregate_kind, fitting_kind
 use crate::kinds::kinds_at;
 use crate::making::{comparable, is_number_kind};
 use crate::widths::target_kinds;
-use am_traits::{Base, BaseFault};
+use base_trait::{Base, BaseFault};
 use calculus::{AggOp, AggSource, Kind, OutOfMemory, QAgg, QTerm, Query, kind_of, kinds_fit};
 use std::alloc::Global;
 

@@ -1,7 +1,7 @@
 //! What refuses an update of a relation, and a new relation.
 
 ghost use Rattle.std.specs.Prelude.{◌≡◌, ◌∷◌, ◌&&◌, [], true, map, slice_get, is_some, IfOk, Some};
-ghost use Rattle.am_traits.specs.Causes.{HasCause};
+ghost use Rattle.base_trait.specs.Causes.{HasCause};
 ghost use Rattle.calculus.specs.Catalogue.{is_catalogue};
 ghost use Rattle.calculus.specs.Database.{Db, view_at};
 ghost use Rattle.calculus.specs.Replacement.{first_refusal, wanted_kinds};
@@ -16,7 +16,7 @@ use crate::fitting::{assignments_fit, query_fits};
 use crate::kinds::kinds_at;
 use crate::places::is_catalogue_name;
 use crate::repeated::titles_repeat;
-use am_traits::{Base, BaseFault};
+use base_trait::{Base, BaseFault};
 use calculus::refusals::{IS_CATALOGUE, IS_VIEW, KINDS_DIFFER, NAMED_TWICE, PAST_LIMIT};
 use calculus::{Name, RelKey, Update};
 use std::alloc::Global;

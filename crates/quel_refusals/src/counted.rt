@@ -1,12 +1,12 @@
 //! Whether a query lists too many variables.
 
 ghost use Rattle.std.specs.Prelude.{◌≡◌, ◌-◌, ◌^◌, min, true, IfOk, Some};
-ghost use Rattle.am_traits.specs.Causes.{HasCause};
+ghost use Rattle.base_trait.specs.Causes.{HasCause};
 ghost use Rattle.calculus.specs.Database.{Db};
 ghost use Rattle.quel_meaning.specs.Passing.{has_too_many, listed_variables};
 ghost use Rattle.view_sizes.specs.Listing.{sources_list_few};
 
-use am_traits::{Base, BaseFault};
+use base_trait::{Base, BaseFault};
 use calculus::limits::MOST_VARIABLES;
 use calculus::{OutOfMemory, Query};
 use std::alloc::Global;

@@ -2,7 +2,7 @@
 
 ghost use Rattle.std.specs.Prelude.{◌≡◌, ◌∷◌, [], map, IfOk, Some};
 ghost use Rattle.calculus.specs.Database.{Db};
-ghost use Rattle.am_traits.specs.Causes.{HasCause};
+ghost use Rattle.base_trait.specs.Causes.{HasCause};
 ghost use Rattle.calculus.specs.declared.value.Kind.TheVariants.{Of};
 ghost use Rattle.calculus.specs.Replacement.{first_refusal};
 ghost use Rattle.quel_meaning.specs.Causes.{repeats};
@@ -13,7 +13,7 @@ use crate::places::is_full;
 use crate::repeated::attrs_repeat;
 use crate::retrieved::name_refusal;
 use crate::widths::{domain_kinds, is_too_wide};
-use am_traits::{Base, BaseFault};
+use base_trait::{Base, BaseFault};
 use calculus::refusals::{NAMED_TWICE, PAST_LIMIT, TOO_WIDE};
 use calculus::{Domain, Name, OutOfMemory};
 use std::alloc::Global;

@@ -2,7 +2,7 @@
 
 ghost use Rattle.std.specs.Prelude.{◌≡◌, map, vec_items, zip, slice_get, IfOk, Some};
 ghost use Rattle.std.specs.List.{list_all};
-ghost use Rattle.am_traits.specs.Causes.{HasCause};
+ghost use Rattle.base_trait.specs.Causes.{HasCause};
 ghost use Rattle.calculus.specs.Database.{Db};
 ghost use Rattle.calculus.specs.IsDatabase.{has_kind, same_domain, same_kind, var_kinds};
 ghost use Rattle.calculus.specs.Kinds.{comparable, kind_of};
@@ -11,7 +11,7 @@ ghost use Rattle.quel_meaning.specs.KindsInQueries.{kind_in_query, query_fits};
 use crate::kinds::var_kinds;
 use crate::making::is_number_kind;
 use crate::terms::{kind_in_query, kinds_fit_in_query};
-use am_traits::{Base, BaseFault};
+use base_trait::{Base, BaseFault};
 use calculus::{Domain, Kind, Query, Target, kind_of};
 use std::alloc::Global;
 

@@ -2,7 +2,7 @@
 
 ghost use Rattle.std.specs.Prelude.{◌≡◌, List, [], true, option_copied, option_map, IfOk, None, Some};
 ghost use Rattle.calculus.specs.Database.{Db};
-ghost use Rattle.am_traits.specs.Causes.{HasCause};
+ghost use Rattle.base_trait.specs.Causes.{HasCause};
 ghost use Rattle.calculus.specs.declared.query.Query.{Query};
 ghost use Rattle.calculus.specs.declared.statement.Item.{Item};
 ghost use Rattle.calculus.specs.declared.statement.Qual.{Qual};
@@ -21,7 +21,7 @@ use crate::created::create_cause;
 use crate::restricted::{permit_cause, rule_refusal};
 use crate::retrieved::{into_cause, print_cause};
 use crate::viewed::view_cause;
-use am_traits::{Base, BaseFault};
+use base_trait::{Base, BaseFault};
 use calculus::{Name, Query, RelInfo, Statement, Update};
 use std::alloc::Global;
 

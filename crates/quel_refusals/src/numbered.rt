@@ -1,11 +1,11 @@
 //! The numbers of the permits and rules that stand on a relation.
 
 ghost use Rattle.std.specs.Prelude.{◌≡◌, map, IfOk, Some};
-ghost use Rattle.am_traits.specs.Causes.{HasCause};
+ghost use Rattle.base_trait.specs.Causes.{HasCause};
 ghost use Rattle.calculus.specs.Change.{permit_numbers, rule_numbers};
 ghost use Rattle.calculus.specs.Database.{Db};
 
-use am_traits::{Base, BaseFault};
+use base_trait::{Base, BaseFault};
 use calculus::{OutOfMemory, Permit, RelKey, Rule};
 use std::alloc::Global;
 

@@ -1,14 +1,14 @@
 //! Whether there is room for one more relation, view or index, and whether its name is in use.
 
 ghost use Rattle.std.specs.Prelude.{◌≡◌, is_some, IfOk, Some};
-ghost use Rattle.am_traits.specs.Causes.{HasCause};
-ghost use Rattle.am_traits.specs.Known.{known_at};
+ghost use Rattle.base_trait.specs.Causes.{HasCause};
+ghost use Rattle.base_trait.specs.Known.{known_at};
 ghost use Rattle.calculus.specs.Catalogue.{is_catalogue_name};
 ghost use Rattle.calculus.specs.Database.{Db};
 ghost use Rattle.calculus.specs.Keys.{key_of};
 ghost use Rattle.quel_meaning.specs.Passing.{is_full, is_taken};
 
-use am_traits::{Base, BaseFault};
+use base_trait::{Base, BaseFault};
 use calculus::limits::MOST_ENTRIES;
 use calculus::{Name, OutOfMemory, RelKey};
 use std::alloc::Global;

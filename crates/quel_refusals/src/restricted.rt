@@ -1,7 +1,7 @@
 //! What refuses a permit or a rule.
 
 ghost use Rattle.std.specs.Prelude.{◌≡◌, ◌∷◌, ◌||◌, ◌&&◌, nat_le, ℕ, [], List, Option, length, map, nat_lt, not, true, option_copied, IfOk, Some};
-ghost use Rattle.am_traits.specs.Causes.{HasCause};
+ghost use Rattle.base_trait.specs.Causes.{HasCause};
 ghost use Rattle.calculus.specs.Change.{permit_numbers, rule_numbers};
 ghost use Rattle.calculus.specs.Database.{Db};
 ghost use Rattle.calculus.specs.IsDatabase.{row_qual_stands};
@@ -19,7 +19,7 @@ ghost use Rattle.quel_meaning.specs.Planned.{greatest, is_past_limit};
 ghost use Rattle.quel_meaning.specs.Scope.{Scope};
 
 use crate::kinds::kinds_at;
-use am_traits::{Base, BaseFault};
+use base_trait::{Base, BaseFault};
 use calculus::limits::{GREATEST_NUMBER, MOST_NUMBERED, MOST_SIZE};
 use calculus::refusals::{KINDS_DIFFER, PAST_LIMIT};
 use calculus::{Kind, Name, OutOfMemory, Permit, QQual, Query, RelInfo, RelKey, Rule, kinds_fit};

@@ -1,7 +1,7 @@
 //! What refuses a `retrieve`.
 
 ghost use Rattle.std.specs.Prelude.{◌≡◌, ◌∷◌, ◌||◌, [], not, true, map, IfOk, Some};
-ghost use Rattle.am_traits.specs.Causes.{HasCause};
+ghost use Rattle.base_trait.specs.Causes.{HasCause};
 ghost use Rattle.calculus.specs.Database.{Db};
 ghost use Rattle.calculus.specs.QueryParts.{targets_of};
 ghost use Rattle.calculus.specs.Replacement.{first_refusal, made_attr};
@@ -15,7 +15,7 @@ use crate::fitting::query_fits;
 use crate::places::{is_full, is_taken};
 use crate::repeated::{sorts_by_titles, titles_repeat};
 use crate::widths::{is_too_wide, made_kinds, target_kinds};
-use am_traits::{Base, BaseFault};
+use base_trait::{Base, BaseFault};
 use calculus::refusals::{
     KINDS_DIFFER, NAME_IN_USE, NAMED_TWICE, NO_ATTRIBUTE, PAST_LIMIT, TOO_WIDE,
 };

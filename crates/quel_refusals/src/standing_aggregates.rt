@@ -2,7 +2,7 @@
 
 ghost use Rattle.std.specs.Prelude.{◌≡◌, ◌++◌, flat_map, is_some, map, nat_le, true, IfOk, None, Some};
 ghost use Rattle.std.specs.List.{list_all, list_any};
-ghost use Rattle.am_traits.specs.Causes.{HasCause};
+ghost use Rattle.base_trait.specs.Causes.{HasCause};
 ghost use Rattle.calculus.specs.Database.{Db};
 ghost use Rattle.calculus.specs.Lists.{is_any};
 ghost use Rattle.calculus.specs.Sizes.{measure_of, measure_within};
@@ -13,7 +13,7 @@ ghost use Rattle.quel_meaning.specs.Scope.{Scope, key_found, ranged};
 ghost use Rattle.quel_meaning.specs.WrittenParts.{aggregate_vars, aggregates_in, aggregates_in_qual};
 ghost use Rattle.quel_names.specs.Ranging.{each_ranges};
 
-use am_traits::{Base, BaseFault};
+use base_trait::{Base, BaseFault};
 use calculus::limits::MOST_LEVEL;
 use calculus::{AggTerm, Name, RelKey, Statement, Term};
 use quel_check::{

@@ -2,13 +2,13 @@
 //! for the sources of aggregates alone.
 
 ghost use Rattle.std.specs.Prelude.{◌≡◌, map, vec_items, IfOk, Some};
-ghost use Rattle.am_traits.specs.Causes.{HasCause};
+ghost use Rattle.base_trait.specs.Causes.{HasCause};
 ghost use Rattle.calculus.specs.Database.{Db};
 ghost use Rattle.quel_meaning.specs.KindsInQueries.{kind_in_query, kinds_fit_in_query};
 
 use crate::aggregates::aggregate_kind;
 use crate::making::{comparable, is_text_kind, joined_kind, number_kind, operated_kind};
-use am_traits::{Base, BaseFault};
+use base_trait::{Base, BaseFault};
 use calculus::{Kind, QQual, QTerm, kind_of};
 use std::alloc::Global;
 

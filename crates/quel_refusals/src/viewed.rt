@@ -1,7 +1,7 @@
 //! What refuses a view.
 
 ghost use Rattle.std.specs.Prelude.{◌≡◌, ◌∷◌, ◌||◌, ◌≤◌, [], length, map, nat_lt, true, IfOk, Some};
-ghost use Rattle.am_traits.specs.Causes.{HasCause};
+ghost use Rattle.base_trait.specs.Causes.{HasCause};
 ghost use Rattle.calculus.specs.Database.{Db};
 ghost use Rattle.calculus.specs.QueryParts.{query_aggregates, vars_of};
 ghost use Rattle.calculus.specs.Replacement.{first_refusal};
@@ -14,7 +14,7 @@ use crate::fitting::query_fits;
 use crate::repeated::titles_repeat;
 use crate::retrieved::{has_no_room, name_refusal};
 use crate::widths::{is_too_wide, target_kinds};
-use am_traits::{Base, BaseFault};
+use base_trait::{Base, BaseFault};
 use calculus::limits::MOST_SIZE;
 use calculus::refusals::{KINDS_DIFFER, NAMED_TWICE, PAST_LIMIT, TOO_WIDE};
 use calculus::{Name, OutOfMemory, Query};

@@ -1,7 +1,7 @@
 //! What a statement changes, and the update that it is.
 
 ghost use Rattle.std.specs.Prelude.{◌≡◌, ◌≤◌, None, Some, IfOk, length};
-ghost use Rattle.am_traits.specs.Causes.{HasCause};
+ghost use Rattle.base_trait.specs.Causes.{HasCause};
 ghost use Rattle.calculus.specs.Database.{Db};
 ghost use Rattle.quel_refusals.specs.Judged.{update_of};
 ghost use Rattle.quel_meaning.specs.Scope.{Scope};
@@ -9,7 +9,7 @@ ghost use Rattle.quel_names.specs.Asking.{scope_of};
 ghost use Rattle.quel_resolve.specs.Changed.{changed};
 
 use crate::{append_of, delete_of, replace_of};
-use am_traits::{Base, BaseFault};
+use base_trait::{Base, BaseFault};
 use calculus::{Name, OutOfMemory, Query, RelInfo, Statement, Update};
 use quel_check::RangeTable;
 use quel_names::{named, ranged};

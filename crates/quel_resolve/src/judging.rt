@@ -12,7 +12,7 @@ ghost use Rattle.quel_meaning.specs.WrittenQuery.{query_of};
 ghost use Rattle.utility_trees.specs.Answers.{Says};
 ghost use Rattle.utility_trees.specs.Causes.{HasCheckCause};
 
-use am_traits::Base;
+use base_trait::Base;
 use calculus::{Checked, Name, Query, RelInfo, Statement, Update};
 use quel_refusals::cause;
 use std::alloc::Global;

@@ -16,7 +16,7 @@ ghost use Rattle.utility_trees.specs.Answers.{Says};
 ghost use Rattle.utility_trees.specs.Causes.{HasCheckCause};
 
 use crate::query_of;
-use am_traits::Base;
+use base_trait::Base;
 use calculus::limits::MOST_VARIABLES;
 use calculus::refusals::{AGGREGATE, NO_RELATION, PAST_LIMIT};
 use calculus::{Name, Query, RelInfo, Statement};

@@ -8,7 +8,7 @@ ghost use Rattle.quel_resolve.specs.Answers.{Resolves};
 ghost use Rattle.utility_trees.specs.Causes.{HasCheckCause};
 
 use crate::trees::tree;
-use am_traits::Base;
+use base_trait::Base;
 use calculus::{Checked, Name, Statement};
 use quel_check::RangeTable;
 use quel_names::name_refusal;

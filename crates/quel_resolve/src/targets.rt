@@ -1,7 +1,7 @@
 //! The targets of a target list.
 
 ghost use Rattle.std.specs.Prelude.{◌≡◌, ◌≤◌, ℕ, [], ◌∷◌, ◌++◌, length, map, slice_get, unwrap_or, vec_items, All, IfOk, OnOk, Some};
-ghost use Rattle.am_traits.specs.Causes.{HasCause};
+ghost use Rattle.base_trait.specs.Causes.{HasCause};
 ghost use Rattle.calculus.specs.declared.query.QTerm.TheVariants as qterm;
 ghost use Rattle.calculus.specs.declared.statement.Item.TheVariants as item;
 ghost use Rattle.calculus.specs.declared.statement.Term.TheVariants as written;
@@ -13,7 +13,7 @@ ghost use Rattle.quel_meaning.specs.WrittenQuery.{attr_targets};
 ghost use Rattle.quel_resolve.specs.Targets.{Puts, kinds_in};
 
 use crate::places::{byte, var_place};
-use am_traits::{Base, BaseFault};
+use base_trait::{Base, BaseFault};
 use calculus::{Attr, Item, Kind, Name, OutOfMemory, QTerm, RelInfo, Target, Term, TryCopy};
 use memory::{both, push};
 use quel_check::{Known, slot_behind_item, term_tree_from};

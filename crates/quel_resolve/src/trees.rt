@@ -23,7 +23,7 @@ use crate::judging::{judge, judge_update};
 use crate::kinds::{changes_rows, is_range};
 use crate::queries::query;
 use crate::tree_by;
-use am_traits::Base;
+use base_trait::Base;
 use calculus::refusals::NO_RELATION;
 use calculus::{Checked, List, Name, Query, RelInfo, Statement};
 use quel_check::RangeTable;

@@ -1,7 +1,7 @@
 //! The query of a statement.
 
 ghost use Rattle.std.specs.Prelude.{◌≡◌, [], true, map, IfOk, Some};
-ghost use Rattle.am_traits.specs.Causes.{HasCause};
+ghost use Rattle.base_trait.specs.Causes.{HasCause};
 ghost use Rattle.calculus.specs.declared.query.Query.{roll-Query};
 ghost use Rattle.calculus.specs.Database.{Db};
 ghost use Rattle.quel_check.specs.Known.{Knows, inner_vars};
@@ -14,7 +14,7 @@ ghost use Rattle.quel_resolve.specs.Targets.{Puts};
 use crate::known::{keys_of, kinds_of};
 use crate::parts::items_of;
 use crate::targets::targets_from;
-use am_traits::{Base, BaseFault};
+use base_trait::{Base, BaseFault};
 use calculus::{Item, List, OutOfMemory, Query, Statement, Target};
 use memory::both;
 use quel_check::{Known, where_tree_from};

@@ -5,10 +5,10 @@ use Rattle.std.specs.List.Sorted.{IsPermutation}
 use Rattle.std.proofs.lemmas.List.{map-append}
 use Rattle.std.proofs.lemmas.List.Sorted.{IsPermutation-append_right, IsPermutation-map, IsPermutation-sym, IsPermutation-trans}
 use Rattle.std.proofs.lemmas.Option.{none-some}
-use Rattle.access_traits.specs.Causes.{HasFileCause, MayFail}
-use Rattle.am_traits.specs.declared.fault.BaseFault.{BaseFault}
-use Rattle.am_traits.specs.declared.fault.BaseFault.TheVariants.{Disk, Damaged, OutOfMemory}
-use Rattle.access_traits.specs.Placed.{Placed, NowHolds, Replaced, SameButUsed, rows_differ, rows_of}
+use Rattle.am_traits.specs.Causes.{HasFileCause, MayFail}
+use Rattle.base_trait.specs.declared.fault.BaseFault.{BaseFault}
+use Rattle.base_trait.specs.declared.fault.BaseFault.TheVariants.{Disk, Damaged, OutOfMemory}
+use Rattle.am_traits.specs.Placed.{Placed, NowHolds, Replaced, SameButUsed, rows_differ, rows_of}
 use Rattle.calculus.specs.declared.schema.RelFile.{RelFile}
 use Rattle.calculus.specs.Replacement.{with_rows, without_rows}
 use Rattle.calculus.specs.Rows.{Row, has, set_of}

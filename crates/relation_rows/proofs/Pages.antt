@@ -3,7 +3,7 @@ use Rattle.std.proofs.Common.{◌≡◌, ◌⊎◌, inl, inr, refl, sym, ap, sub
 use Rattle.std.proofs.lemmas.List.{append-nil, map-append}
 use Rattle.calculus.specs.Rows.{Row}
 use Rattle.disk_model.specs.Disk.{Image}
-use Rattle.access_traits.specs.Placed.{Placed, rows_of, rows_from}
+use Rattle.am_traits.specs.Placed.{Placed, rows_of, rows_from}
 use Rattle.calculus.specs.declared.schema.RelFile.{RelFile}
 use Rattle.page_chain.specs.Lying.{place_of}
 use Rattle.page_chain.specs.Pages.{page_at}

@@ -4,7 +4,7 @@ use Rattle.calculus.specs.declared.value.Domain.{Domain}
 use Rattle.calculus.specs.Rows.{Row, has}
 use Rattle.disk_model.specs.Disk.{Image}
 use Rattle.disk_model.specs.declared.disk.Addr.{Addr}
-use Rattle.access_traits.specs.Placed.{Placed, rows_of, rows_differ}
+use Rattle.am_traits.specs.Placed.{Placed, rows_of, rows_differ}
 use Rattle.calculus.specs.declared.schema.RelFile.{RelFile}
 use Rattle.page_chain.specs.Pages.{pages_of}
 use Rattle.page_chain.specs.Rows.{reader, set_on}

@@ -2,8 +2,8 @@
 
 ghost use Rattle.std.specs.Prelude.{◌≡◌, ◌+◌, ◌++◌, ◌<◌, ◌≤◌, ◌∷◌, [], map, Some, IsTrue, IfOk, OnOk};
 ghost use Rattle.disk_model.specs.Disk.{Image, RisesUpTo};
-ghost use Rattle.access_traits.specs.Causes.{HasFileCause};
-ghost use Rattle.access_traits.specs.Placed.{Placed, rows_of, rows_from};
+ghost use Rattle.am_traits.specs.Causes.{HasFileCause};
+ghost use Rattle.am_traits.specs.Placed.{Placed, rows_of, rows_from};
 ghost use Rattle.page_cells.specs.RowBytes.{widths};
 ghost use Rattle.page_chain.specs.Lying.{place_of};
 ghost use Rattle.page_chain.specs.Pages.{page_at};
@@ -13,8 +13,8 @@ ghost use Rattle.relation_rows.specs.Sets.{IsRead};
 
 use crate::spots::RowSpots;
 use access::{Method, open_method};
-use access_traits::{PageStore, RelFile};
-use am_traits::BaseFault;
+use am_traits::{PageStore, RelFile};
+use base_trait::BaseFault;
 use calculus::{List, OutOfMemory, Row};
 use std::alloc::Global;
 

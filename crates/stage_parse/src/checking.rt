@@ -9,7 +9,7 @@ ghost use Rattle.reading_laws.specs.Shallow.{statement_levels};
 ghost use Rattle.stage_parse.specs.Checks.{Checks};
 
 use crate::cutting::restricted_and_ruled;
-use am_traits::Base;
+use base_trait::Base;
 use calculus::{Checked, Name, Statement};
 use quel_check::RangeTable;
 use quel_resolve::{CheckFault, resolve};

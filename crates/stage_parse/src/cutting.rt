@@ -10,7 +10,7 @@ ghost use Rattle.utility_trees.specs.Causes.{HasCheckCause};
 ghost use Rattle.view_text.specs.Expanded.{expanded_tree};
 
 use crate::ruling::ruled;
-use am_traits::Base;
+use base_trait::Base;
 use calculus::refusals::{NO_PERMIT, PAST_LIMIT};
 use calculus::{Checked, Name};
 use cut_rules::{CutFault, cut_permits};

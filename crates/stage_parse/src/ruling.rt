@@ -1,13 +1,13 @@
 //! Trees with the rules of the relations that they change.
 
 ghost use Rattle.std.specs.Prelude.{◌≡◌, Some, IfOk};
-ghost use Rattle.am_traits.specs.Causes.{HasCause};
+ghost use Rattle.base_trait.specs.Causes.{HasCause};
 ghost use Rattle.calculus.specs.Database.{Db};
 ghost use Rattle.calculus.specs.declared.request.Checked.TheVariants as checked;
 ghost use Rattle.quel_meaning.specs.Meaning.{ruled_tree};
 
 use crate::taking::update_in;
-use am_traits::{Base, BaseFault};
+use base_trait::{Base, BaseFault};
 use calculus::{Checked, Update};
 use cut_rules::add_rules;
 use std::alloc::Global;

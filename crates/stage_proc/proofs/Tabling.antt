@@ -19,7 +19,7 @@ use Rattle.calculus.specs.Targets.{rows_given, some_lacks, target_values}
 use Rattle.calculus.specs.Term.{Env, holds}
 use Rattle.calculus.specs.VariableRows.{rows_of}
 use Rattle.calculus.specs.Who.{Unrestricted}
-use Rattle.am_traits.specs.Causes.{MayCome}
+use Rattle.base_trait.specs.Causes.{MayCome}
 use Rattle.quel_meaning.specs.Tables.{column_of, sorted, table_of, some_query_lacks}
 use Rattle.ovqp.specs.declared.fault.QueryFault.{QueryFault}
 use Rattle.ovqp.specs.declared.fault.QueryFault.TheVariants as query

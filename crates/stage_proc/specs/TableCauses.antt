@@ -11,7 +11,7 @@ use Rattle.calculus.specs.QueryParts.{vars_of}
 use Rattle.calculus.specs.Term.{Env}
 use Rattle.calculus.specs.VariableRows.{rows_of}
 use Rattle.calculus.specs.Who.{Unrestricted}
-use Rattle.am_traits.specs.Causes.{MayCome}
+use Rattle.base_trait.specs.Causes.{MayCome}
 use Rattle.ovqp.specs.ProductCauses.{Lacks}
 use Rattle.quel_meaning.specs.FitQueries.{is_kept, kept_alone, slots_count_up, sources_fit}
 use Rattle.quel_meaning.specs.Tables.{some_query_lacks}

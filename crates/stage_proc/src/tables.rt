@@ -18,7 +18,7 @@ ghost use Rattle.stage_proc.specs.TableCauses.{CanBeAnswered, HasCause, HasOneCa
 use crate::columns::columns_of;
 use crate::sorting::sorted;
 use aggregates::settle;
-use am_traits::Base;
+use base_trait::Base;
 use calculus::{AggTable, Asked, List, OutOfMemory, Query, RowSet, Table};
 use decompose::{QueryFault, answer};
 use memory::push;

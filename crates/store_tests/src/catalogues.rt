@@ -9,8 +9,8 @@ use crate::databases::new_disk;
 use crate::made::{
     GONE, INDEXED, MADE_BARE_P, PERMITTED, RULED, STORED, Step, change_of, key, named,
 };
-use access_traits::PageStore;
-use am_traits::{Base, BaseFault};
+use am_traits::PageStore;
+use base_trait::{Base, BaseFault};
 use batch_store::BatchStore;
 use calculus::{DbChange, RelKey, Spec};
 use catalog::Catalog;

@@ -1,6 +1,6 @@
 ghost use Rattle.std.specs.Prelude.{None};
 
-use access_traits::{PageStore, StoreFault};
+use am_traits::{PageStore, StoreFault};
 use disk_model::{Addr, Page};
 use std::alloc::Global;
 

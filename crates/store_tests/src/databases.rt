@@ -3,7 +3,7 @@ use crate::made::{
     COME, GONE_WITH_VIEW, INDEXED, MADE_BARE_Q, MADE_P, MADE_Q, MOVED, PERMITTED, RULED, STORED,
     Step, UNPERMITTED, UNRULED, VIEWED, named, take, take_all, known,
 };
-use am_traits::{Base, BaseFault};
+use base_trait::{Base, BaseFault};
 use batch_file::{Restored, restore};
 use calculus::List;
 use db_disk::{CreateFault, DbDisk, OpenFault, create_db};

@@ -1,6 +1,6 @@
 //! What the tests lay on databases on disks: names, small changes, and what a database answers.
 
-use am_traits::{Base, BaseFault};
+use base_trait::{Base, BaseFault};
 use calculus::{DbChange, List, Name, Place, Probe, RelKey, Row, Spec, Value};
 use change_check::fit_change;
 use quel_tree::{DbChangeTree, tree_of};

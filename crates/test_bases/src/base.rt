@@ -3,10 +3,10 @@
 ghost use Rattle.std.specs.Prelude.{None, [], false, true, refl};
 ghost use Rattle.std.proofs.Common.{arith};
 ghost use Rattle.std.proofs.lemmas.Option.{none-some};
-ghost use Rattle.am_traits.specs.InMemory.{asked_in_memory};
+ghost use Rattle.base_trait.specs.InMemory.{asked_in_memory};
 
 use crate::given::{copied, known, named, put_permits, put_rules, rows, view};
-use am_traits::{Base, BaseFault};
+use base_trait::{Base, BaseFault};
 use calculus::{
     DbChange, Name, OutOfMemory, Permit, Place, Probe, Query, RelInfo, RelKey, Row, Rule, Value,
 };

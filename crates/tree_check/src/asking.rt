@@ -2,7 +2,7 @@
 
 ghost use Rattle.std.specs.Prelude.{◌≡◌, ◌≤◌, length, nat_le, nat_lt, true, IfOk, Some};
 ghost use Rattle.std.specs.List.{list_all};
-ghost use Rattle.am_traits.specs.Causes.{HasCause};
+ghost use Rattle.base_trait.specs.Causes.{HasCause};
 ghost use Rattle.calculus.specs.Database.{Db};
 ghost use Rattle.calculus.specs.QueryParts.{vars_of};
 ghost use Rattle.calculus.specs.Sizes.{expanded_variables};
@@ -10,7 +10,7 @@ ghost use Rattle.quel_meaning.specs.FitQueries.{asked_fits, kept_alone, sort_is_
 ghost use Rattle.view_sizes.specs.Listing.{sources_list_few};
 
 use crate::reading::reads_fit;
-use am_traits::{Base, BaseFault};
+use base_trait::{Base, BaseFault};
 use calculus::{Asked, Query, SortKey};
 use quel_refusals::query_fits;
 use std::alloc::Global;

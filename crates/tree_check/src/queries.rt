@@ -2,14 +2,14 @@
 
 ghost use Rattle.std.specs.Prelude.{◌≡◌, ◌&&◌, map, vec_items, IfOk, Some};
 ghost use Rattle.std.specs.List.{list_all};
-ghost use Rattle.am_traits.specs.Causes.{HasCause};
+ghost use Rattle.base_trait.specs.Causes.{HasCause};
 ghost use Rattle.calculus.specs.Database.{Db};
 ghost use Rattle.calculus.specs.IsDatabase.{is_kind, var_kinds};
 ghost use Rattle.calculus.specs.Kinds.{comparable};
 ghost use Rattle.quel_meaning.specs.Fit.{update_kinds_fit};
 ghost use Rattle.quel_meaning.specs.KindsInQueries.{kind_in_query};
 
-use am_traits::{Base, BaseFault};
+use base_trait::{Base, BaseFault};
 use calculus::{Kind, Query, Target};
 use change_check::is_kind;
 use quel_refusals::{comparable, kind_in_query, kinds_fit_in_query, var_kinds};

@@ -2,14 +2,14 @@
 
 ghost use Rattle.std.specs.Prelude.{◌≡◌, ◌&&◌, map, IfOk, Some};
 ghost use Rattle.std.specs.List.{list_all};
-ghost use Rattle.am_traits.specs.Causes.{HasCause};
+ghost use Rattle.base_trait.specs.Causes.{HasCause};
 ghost use Rattle.calculus.specs.Database.{Db};
 ghost use Rattle.calculus.specs.QueryParts.{vars_of};
 ghost use Rattle.quel_meaning.specs.FitQueries.{has_few_targets, is_kept, kept_alone, lists_few_vars, reads_fit, slots_count_from, slots_count_up, source_fits, sources_fit};
 
 use crate::slots::slots_count_up;
 use crate::sources::{all_sources_fit, has_few_targets, vars_are_kept};
-use am_traits::{Base, BaseFault};
+use base_trait::{Base, BaseFault};
 use calculus::{QAgg, Query};
 use std::alloc::Global;
 use view_sizes::aggregates_of;

@@ -1,7 +1,7 @@
 //! The relation that an update changes or makes.
 
 ghost use Rattle.std.specs.Prelude.{◌≡◌, ◌&&◌, map, nat_eq, slice_get, IfOk, Some};
-ghost use Rattle.am_traits.specs.Causes.{HasCause};
+ghost use Rattle.base_trait.specs.Causes.{HasCause};
 ghost use Rattle.calculus.specs.Database.{Db, is_relation};
 ghost use Rattle.calculus.specs.IsDatabase.{are_stored, attrs_stand};
 ghost use Rattle.calculus.specs.QueryParts.{targets_of, vars_of};
@@ -10,7 +10,7 @@ ghost use Rattle.quel_meaning.specs.Fit.{is_new, is_this_key, relation_fits};
 
 use crate::made::made_attrs_stand;
 use crate::standing::is_new;
-use am_traits::{Base, BaseFault};
+use base_trait::{Base, BaseFault};
 use calculus::{RelKey, Update, UpdateOp};
 use change_check::{is_relation, same_key};
 use std::alloc::Global;

@@ -2,14 +2,14 @@
 
 ghost use Rattle.std.specs.Prelude.{◌≡◌, ◌&&◌, length, nat_le, IfOk, Some};
 ghost use Rattle.std.specs.List.{list_all};
-ghost use Rattle.am_traits.specs.Causes.{HasCause};
+ghost use Rattle.base_trait.specs.Causes.{HasCause};
 ghost use Rattle.calculus.specs.Database.{Db};
 ghost use Rattle.calculus.specs.IsDatabase.{query_stands};
 ghost use Rattle.calculus.specs.QueryParts.{vars_of};
 ghost use Rattle.quel_meaning.specs.FitQueries.{has_few_targets, is_kept, kept_alone, source_fits};
 
 use crate::standing::{are_kept, is_kept};
-use am_traits::{Base, BaseFault};
+use base_trait::{Base, BaseFault};
 use calculus::{AggSource, QAgg, Query};
 use change_check::query_stands;
 use std::alloc::Global;

@@ -2,13 +2,13 @@
 
 ghost use Rattle.std.specs.Prelude.{◌≡◌, IfOk, Some};
 ghost use Rattle.std.specs.List.{list_all};
-ghost use Rattle.am_traits.specs.Causes.{HasCause};
+ghost use Rattle.base_trait.specs.Causes.{HasCause};
 ghost use Rattle.calculus.specs.Database.{Db};
 ghost use Rattle.quel_meaning.specs.Fit.{is_entry, is_new};
 ghost use Rattle.quel_meaning.specs.FitQueries.{can_be_ranged_over, is_kept};
 ghost use Rattle.tree_check.specs.Standing.{is_kept_info};
 
-use am_traits::{Base, BaseFault};
+use base_trait::{Base, BaseFault};
 use calculus::{Name, RelInfo, RelKey, Spec};
 use quel_names::info_at;
 use quel_refusals::{is_full, is_taken};

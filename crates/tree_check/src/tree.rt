@@ -1,7 +1,7 @@
 //! Trees.
 
 ghost use Rattle.std.specs.Prelude.{◌≡◌, IfOk, IsTrue, Some};
-ghost use Rattle.am_traits.specs.Causes.{HasCause};
+ghost use Rattle.base_trait.specs.Causes.{HasCause};
 ghost use Rattle.calculus.specs.Database.{Db};
 ghost use Rattle.calculus.specs.declared.request.Checked.TheVariants as checked;
 ghost use Rattle.quel_meaning.specs.Fit.{is_fit, suits};
@@ -11,7 +11,7 @@ ghost use Rattle.update_laws.specs.Walked.{names_rights};
 use crate::asking::all_asked_fit;
 use crate::updates::update_fits;
 use crate::utilities::utility_fits;
-use am_traits::{Base, BaseFault};
+use base_trait::{Base, BaseFault};
 use calculus::{Checked, Name, Utility};
 use std::alloc::Global;
 use update_laws::tree_is_spelled;

@@ -2,7 +2,7 @@
 
 ghost use Rattle.std.specs.Prelude.{◌≡◌, ◌≤◌, ◌&&◌, map, length, nat_eq, nat_le, slice_get, true, vec_items, zip, IfOk, Some, ◌∷◌, []};
 ghost use Rattle.std.specs.List.{list_all};
-ghost use Rattle.am_traits.specs.Causes.{HasCause};
+ghost use Rattle.base_trait.specs.Causes.{HasCause};
 ghost use Rattle.calculus.specs.Database.{Db};
 ghost use Rattle.calculus.specs.Kinds.{comparable, kinds_fit};
 ghost use Rattle.calculus.specs.QueryParts.{targets_of, vars_of};
@@ -16,7 +16,7 @@ ghost use Rattle.view_sizes.specs.Listing.{sources_list_few};
 use crate::queries::update_kinds_fit;
 use crate::reading::reads_fit;
 use crate::relations::relation_fits;
-use am_traits::{Base, BaseFault};
+use base_trait::{Base, BaseFault};
 use calculus::{Kind, OutOfMemory, QQual, Update, UpdateOp, kinds_fit};
 use change_check::{are_places, places_differ};
 use quel_refusals::{assignments_fit, kinds_at, made_kinds};

@@ -2,7 +2,7 @@
 
 ghost use Rattle.std.specs.Prelude.{◌≡◌, ◌&&◌, IfOk, Some};
 ghost use Rattle.std.specs.List.{list_all};
-ghost use Rattle.am_traits.specs.Causes.{HasCause};
+ghost use Rattle.base_trait.specs.Causes.{HasCause};
 ghost use Rattle.calculus.specs.Database.{Db};
 ghost use Rattle.calculus.specs.IsDatabase.{are_stored, attrs_stand, keys_stand};
 ghost use Rattle.calculus.specs.Keys.{same_key};
@@ -15,7 +15,7 @@ ghost use Rattle.quel_meaning.specs.FitQueries.{can_be_ranged_over};
 use crate::columns::columns_fit;
 use crate::standing::{are_entries, can_be_ranged_over, is_new};
 use crate::views::{new_view_fits, permit_fits, row_qual_fits};
-use am_traits::{Base, BaseFault};
+use base_trait::{Base, BaseFault};
 use calculus::{Attr, CopyCol, Name, RelKey, Spec, Utility};
 use change_check::{keys_differ, keys_stand, relation_attrs_stand, some_keys_stand};
 use quel_names::info_at;

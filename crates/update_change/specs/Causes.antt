@@ -7,7 +7,7 @@ use Rattle.calculus.specs.Limits.{most_rows}
 use Rattle.calculus.specs.Replacement.{after, contended}
 use Rattle.calculus.specs.Rows.{Row}
 use Rattle.calculus.specs.Stored.{rows_at}
-use Rattle.am_traits.specs.Causes.{MayCome}
+use Rattle.base_trait.specs.Causes.{MayCome}
 use Rattle.update_change.specs.Contention.{IsLeastContention}
 use Rattle.update_change.specs.Changes.{MakesNew}
 use Rattle.update_change.specs.declared.fault.UpdateFault.{UpdateFault}

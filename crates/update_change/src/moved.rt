@@ -6,14 +6,14 @@ ghost use Rattle.calculus.specs.Limits.{most_rows};
 ghost use Rattle.calculus.specs.Replacement.{after, contended, without_rows};
 ghost use Rattle.calculus.specs.Rows.{has, set_of};
 ghost use Rattle.calculus.specs.Stored.{rows_at};
-ghost use Rattle.am_traits.specs.Causes.{HasCause as HasBaseCause};
+ghost use Rattle.base_trait.specs.Causes.{HasCause as HasBaseCause};
 ghost use Rattle.update_change.specs.Causes.{HasCause};
 
 use crate::limit::{are_too_many, rows_left};
 use crate::pairs_rows::pairs_rows;
 use crate::there::{those_absent, those_there};
 use crate::{UpdateFault, without};
-use am_traits::{Base, BaseFault};
+use base_trait::{Base, BaseFault};
 use calculus::{Change, Pair, RelKey, RowSet, Update};
 use std::alloc::Global;
 

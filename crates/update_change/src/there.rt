@@ -5,9 +5,9 @@ ghost use Rattle.calculus.specs.Database.{Db};
 ghost use Rattle.calculus.specs.Replacement.{without_rows};
 ghost use Rattle.calculus.specs.Rows.{has, set_of};
 ghost use Rattle.calculus.specs.Stored.{rows_at};
-ghost use Rattle.am_traits.specs.Causes.{HasCause};
+ghost use Rattle.base_trait.specs.Causes.{HasCause};
 
-use am_traits::{Base, BaseFault};
+use base_trait::{Base, BaseFault};
 use calculus::{OutOfMemory, RelKey, Row, RowSet};
 use std::alloc::Global;
 

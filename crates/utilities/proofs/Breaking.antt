@@ -15,7 +15,7 @@ use Rattle.calculus.specs.Stored.{rows_at}
 use Rattle.calculus.specs.Table.{tabled}
 use Rattle.calculus.specs.Term.{Env, holds, no_aggs}
 use Rattle.calculus.specs.Value.{row_cmp}
-use Rattle.am_traits.specs.Scans.{next_meeting, first_place, IsScan}
+use Rattle.base_trait.specs.Scans.{next_meeting, first_place, IsScan}
 use Rattle.ovqp.proofs.FewRows.{few_rows}
 use Rattle.ovqp.proofs.ByScan.{first_left, none_left}
 

@@ -2,8 +2,8 @@
 
 ghost use Rattle.std.specs.Prelude.{◌≡◌, ◌∷◌, [], Some, Ok as Planned, IfOk};
 ghost use Rattle.std.specs.List.{list_any};
-ghost use Rattle.am_traits.specs.Causes.{HasCause as HasBaseCause};
-ghost use Rattle.am_traits.specs.Known.{is_named_by_view};
+ghost use Rattle.base_trait.specs.Causes.{HasCause as HasBaseCause};
+ghost use Rattle.base_trait.specs.Known.{is_named_by_view};
 ghost use Rattle.calculus.specs.Catalogue.{is_catalogue};
 ghost use Rattle.calculus.specs.Database.{Db};
 ghost use Rattle.calculus.specs.Replacement.{first_refusal};
@@ -16,7 +16,7 @@ ghost use Rattle.utilities.specs.Owning.{is_catalogue_of};
 use crate::UtilFault;
 use crate::numbers::{ANOTHERS, IN_USE, IS_CATALOGUE};
 use crate::owners::is_anothers;
-use am_traits::{Base, BaseFault};
+use base_trait::{Base, BaseFault};
 use calculus::{DbChange, List, Name, OutOfMemory, RelKey, TryCopy};
 use quel_refusals::is_catalogue_name;
 use std::alloc::Global;

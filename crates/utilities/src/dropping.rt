@@ -2,7 +2,7 @@
 
 ghost use Rattle.std.specs.Prelude.{◌≡◌, ◌++◌, ◌∷◌, [], not, Some, Ok as Planned, IfOk};
 ghost use Rattle.std.specs.List.{list_all};
-ghost use Rattle.am_traits.specs.Causes.{HasCause as HasBaseCause};
+ghost use Rattle.base_trait.specs.Causes.{HasCause as HasBaseCause};
 ghost use Rattle.calculus.specs.Catalogue.{is_catalogue};
 ghost use Rattle.calculus.specs.Database.{Db};
 ghost use Rattle.calculus.specs.Lists.{has_number};
@@ -15,7 +15,7 @@ ghost use Rattle.utilities.specs.Causes.{HasCauseBy};
 use crate::UtilFault;
 use crate::listed::{dropped, listed_cause};
 use crate::owners::{owner_refusal, permitting_cause};
-use am_traits::{Base, BaseFault};
+use base_trait::{Base, BaseFault};
 use calculus::{DbChange, Name, OutOfMemory, RelKey, TryCopy};
 use memory::both;
 use quel_refusals::{standing_permits, standing_rules};

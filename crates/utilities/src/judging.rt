@@ -2,13 +2,13 @@
 
 ghost use Rattle.std.specs.Prelude.{◌≡◌, ◌∷◌, [], not, IfOk, OnOk, Some};
 ghost use Rattle.std.specs.List.{list_any};
-ghost use Rattle.am_traits.specs.Causes.{HasCause};
+ghost use Rattle.base_trait.specs.Causes.{HasCause};
 ghost use Rattle.calculus.specs.Database.{Db};
 ghost use Rattle.calculus.specs.Stored.{rows_at};
 ghost use Rattle.calculus.specs.Term.{holds, no_aggs};
 ghost use Rattle.quel_meaning.specs.Planned.{is_broken};
 
-use am_traits::{Base, BaseFault};
+use base_trait::{Base, BaseFault};
 use calculus::{List, OutOfMemory, Place, Probe, QQual, RelKey, Row, Rule};
 use scalar_eval::{Assigned, holds};
 use std::alloc::Global;

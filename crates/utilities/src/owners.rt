@@ -1,14 +1,14 @@
 //! What refuses a utility because of the relation that it changes, and of the user.
 
 ghost use Rattle.std.specs.Prelude.{◌≡◌, ◌∷◌, [], is_some, IfOk, Some};
-ghost use Rattle.am_traits.specs.Causes.{HasCause};
+ghost use Rattle.base_trait.specs.Causes.{HasCause};
 ghost use Rattle.calculus.specs.Catalogue.{is_catalogue};
 ghost use Rattle.calculus.specs.Database.{Db, view_at};
 ghost use Rattle.calculus.specs.Replacement.{first_refusal};
 ghost use Rattle.quel_meaning.specs.Planned.{has_view, is_anothers, is_none_to_permit, owner_refusals};
 
 use crate::numbers::ANOTHERS;
-use am_traits::{Base, BaseFault};
+use base_trait::{Base, BaseFault};
 use calculus::{Name, RelKey};
 use quel_refusals::relation_refusal;
 use std::alloc::Global;

@@ -11,7 +11,7 @@ use crate::UtilFault;
 use crate::numbering::next_number;
 use crate::numbers::PAST_LIMIT;
 use crate::owners::permitting_cause;
-use am_traits::Base;
+use base_trait::Base;
 use calculus::{DbChange, Name, OutOfMemory, Permit, RelKey, TryCopy};
 use memory::both;
 use quel_refusals::standing_permits;

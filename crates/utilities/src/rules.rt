@@ -1,7 +1,7 @@
 //! Integrity rules that are made.
 
 ghost use Rattle.std.specs.Prelude.{◌≡◌, ◌++◌, ◌∷◌, [], Some, Ok as Planned, IfOk};
-ghost use Rattle.am_traits.specs.Causes.{HasCause as HasBaseCause};
+ghost use Rattle.base_trait.specs.Causes.{HasCause as HasBaseCause};
 ghost use Rattle.calculus.specs.Database.{Db};
 ghost use Rattle.calculus.specs.Replacement.{first_refusal};
 ghost use Rattle.calculus.specs.declared.change.DbChange.TheVariants as change;
@@ -15,7 +15,7 @@ use crate::judging::is_broken;
 use crate::numbering::next_number;
 use crate::numbers::{BROKEN, PAST_LIMIT};
 use crate::owners::owner_refusal;
-use am_traits::{Base, BaseFault};
+use base_trait::{Base, BaseFault};
 use calculus::{DbChange, Name, OutOfMemory, RelKey, Rule, TryCopy};
 use memory::both;
 use quel_refusals::standing_rules;

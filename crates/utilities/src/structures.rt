@@ -11,7 +11,7 @@ ghost use Rattle.utilities.specs.Causes.{HasCauseBy};
 
 use crate::UtilFault;
 use crate::owners::owner_refusal;
-use am_traits::Base;
+use base_trait::Base;
 use calculus::{DbChange, List, Name, OutOfMemory, RelKey, Spec, TryCopy};
 use memory::both;
 use std::alloc::Global;

@@ -1,6 +1,6 @@
 -- When a check may answer a fault of the database.
 use Rattle.std.specs.Prelude.{◌≡◌, ℕ, ◌≤◌, Option, Result, Ok, Err}
-use Rattle.am_traits.specs.Causes.{MayCome}
+use Rattle.base_trait.specs.Causes.{MayCome}
 use Rattle.calculus.specs.Database.{Db}
 use Rattle.utility_trees.specs.declared.fault.CheckFault.{CheckFault}
 use Rattle.utility_trees.specs.declared.fault.CheckFault.TheVariants as fault

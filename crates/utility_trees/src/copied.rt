@@ -20,7 +20,7 @@ use crate::CheckFault;
 use crate::finding::found;
 use crate::places::{place_in, place_of};
 use crate::repeated::columns_repeat;
-use am_traits::Base;
+use base_trait::Base;
 use calculus::refusals::{KINDS_DIFFER, NAMED_TWICE};
 use calculus::{
     Attr, Chars, Checked, CopyCol, CopyForm, Kind, List, Name, OutOfMemory, RelInfo, TryCopy,

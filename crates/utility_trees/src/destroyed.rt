@@ -17,7 +17,7 @@ ghost use Rattle.utility_trees.specs.Serving.{Serves};
 use crate::CheckFault;
 use crate::finding::entry_keys;
 use crate::repeated::keys_repeat;
-use am_traits::Base;
+use base_trait::Base;
 use calculus::refusals::NAMED_TWICE;
 use calculus::{Checked, List, Name, RelKey, Utility};
 use std::alloc::Global;

@@ -1,8 +1,8 @@
 //! What names mean.
 
 ghost use Rattle.std.specs.Prelude.{◌≡◌, ◌≤◌, None, Some, filter_map, length, option_map, IfOk};
-ghost use Rattle.am_traits.specs.Causes.{HasCause};
-ghost use Rattle.am_traits.specs.Known.{known_at};
+ghost use Rattle.base_trait.specs.Causes.{HasCause};
+ghost use Rattle.base_trait.specs.Known.{known_at};
 ghost use Rattle.calculus.specs.Database.{Db};
 ghost use Rattle.calculus.specs.Finding.{found};
 ghost use Rattle.calculus.specs.Keys.{key_of};
@@ -15,7 +15,7 @@ ghost use Rattle.utility_trees.specs.Causes.{HasCheckCause};
 use crate::CheckFault;
 use crate::keys::key_of;
 use crate::lists::push_if;
-use am_traits::{Base, BaseFault};
+use base_trait::{Base, BaseFault};
 use calculus::refusals::NO_RELATION;
 use calculus::{Name, RelInfo, RelKey};
 use quel_names::named;

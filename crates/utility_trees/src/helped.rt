@@ -1,7 +1,7 @@
 //! What `help` asks for: rows of the catalogues.
 
 ghost use Rattle.std.specs.Prelude.{◌≡◌, ◌++◌, ◌∷◌, [], ℕ, All, Some, None, Ok, Err, take, drop, map, IfOk, IsTrue, OnOk};
-ghost use Rattle.am_traits.specs.Causes.{HasCause};
+ghost use Rattle.base_trait.specs.Causes.{HasCause};
 ghost use Rattle.calculus.specs.declared.request.Checked.TheVariants.{Answer};
 ghost use Rattle.calculus.specs.declared.statement.Statement.TheVariants as statement;
 ghost use Rattle.calculus.specs.Catalogue.{relation_attrs, attribute_attrs};
@@ -22,7 +22,7 @@ use crate::CheckFault;
 use crate::asked::{answer, unsorted};
 use crate::finding::found;
 use crate::keys::{catalogue_key, name_of};
-use am_traits::{Base, BaseFault};
+use base_trait::{Base, BaseFault};
 use calculus::{
     Boxed, Chars, Checked, Domain, Kind, Name, OutOfMemory, QQual, QTerm, RelInfo, RelKey, Target,
 };

@@ -16,7 +16,7 @@ ghost use Rattle.utility_trees.specs.Serving.{Serves};
 use crate::CheckFault;
 use crate::asked::whole;
 use crate::finding::found;
-use am_traits::Base;
+use base_trait::Base;
 use calculus::{Asked, Checked, List, Name};
 use memory::push;
 use std::alloc::Global;

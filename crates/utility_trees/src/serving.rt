@@ -16,7 +16,7 @@ use crate::destroyed::destroyed;
 use crate::helped::helped;
 use crate::printed::printed;
 use crate::stored::{indexed, modified};
-use am_traits::Base;
+use base_trait::Base;
 use calculus::{Checked, Name, Statement};
 use std::alloc::Global;
 

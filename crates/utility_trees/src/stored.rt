@@ -1,7 +1,7 @@
 //! What `modify` and `index` ask for.
 
 ghost use Rattle.std.specs.Prelude.{◌≡◌, ◌≤◌, ◌∷◌, [], Some, None, Ok, Err, length, map, IfOk};
-ghost use Rattle.am_traits.specs.Causes.{HasCause};
+ghost use Rattle.base_trait.specs.Causes.{HasCause};
 ghost use Rattle.calculus.specs.declared.request.Checked.TheVariants.{Utility as ForUtilities};
 ghost use Rattle.calculus.specs.declared.request.Utility.TheVariants as utility;
 ghost use Rattle.calculus.specs.declared.statement.Statement.TheVariants as statement;
@@ -22,7 +22,7 @@ use crate::CheckFault;
 use crate::finding::found;
 use crate::places::places_of;
 use crate::repeated::names_repeat;
-use am_traits::{Base, BaseFault};
+use base_trait::{Base, BaseFault};
 use calculus::refusals::{NAME_IN_USE, NAMED_TWICE, PAST_LIMIT};
 use calculus::{Checked, List, Name, OutOfMemory, RelInfo, Spec, TryCopy, Utility};
 use memory::{alone, both};

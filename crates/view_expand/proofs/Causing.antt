@@ -1,7 +1,7 @@
 -- Why there is no expansion, where something was asked before.
 use Rattle.std.proofs.Common.{◌≡◌, sym, ◌∙◌, ℕ, ◌≤◌, Option, Some, Result, Ok, Err, IfErr, arith}
 use Rattle.calculus.specs.Database.{Db}
-use Rattle.am_traits.specs.declared.fault.BaseFault.TheVariants as base
+use Rattle.base_trait.specs.declared.fault.BaseFault.TheVariants as base
 use Rattle.view_expand.specs.declared.fault.ExpansionFault.{ExpansionFault}
 use Rattle.view_expand.specs.declared.fault.ExpansionFault.TheVariants.{NoPermit, TooMany, Base, OutOfMemory}
 use Rattle.view_expand.specs.Causes.{MayFail, IsCrowded, HasCause}

@@ -18,7 +18,7 @@ use Rattle.calculus.specs.Used.{used_vars}
 use Rattle.calculus.specs.Sizes.{range_measure, measure_within, query_measure}
 use Rattle.calculus.specs.Permission.{vars_permitted, range_permitted, permitted_within}
 use Rattle.calculus_laws.proofs.ViewAnswer.{ranged}
-use Rattle.am_traits.specs.Known.{query_at}
+use Rattle.base_trait.specs.Known.{query_at}
 use Rattle.view_text.specs.declared.expansion.Expansion.{Expansion}
 use Rattle.view_text.specs.Expansions.{query_expansions}
 use Rattle.view_text.specs.ExpansionOf.{restriction, kept_expansion, rows_expansion, range_expansion, view_text, past_expansion, expansion_within}

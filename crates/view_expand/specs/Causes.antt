@@ -1,7 +1,7 @@
 -- Why there is no expansion.
 use Rattle.std.specs.Prelude.{◌≡◌, ℕ, ◌<◌, ◌≤◌, Option, Some, Result, Ok, Err, ⊤}
 use Rattle.calculus.specs.Database.{Db}
-use Rattle.am_traits.specs.Causes.{MayCome}
+use Rattle.base_trait.specs.Causes.{MayCome}
 use Rattle.view_expand.specs.declared.fault.ExpansionFault.{ExpansionFault}
 use Rattle.view_expand.specs.declared.fault.ExpansionFault.TheVariants.{NoPermit, TooMany, Base, OutOfMemory}
 

@@ -18,7 +18,7 @@ ghost use Rattle.view_text.specs.Expansions.{query_expansions};
 use crate::plain::{PLACES, query_over};
 use crate::walk::put_expansions;
 use crate::{ExpansionFault, ExpansionsFound};
-use am_traits::Base;
+use base_trait::Base;
 use calculus::{Name, Query};
 use std::alloc::Global;
 use view_text::Expansion;

@@ -11,7 +11,7 @@ ghost use Rattle.view_text.specs.ExpansionOf.{expansion_within};
 
 use crate::walk::expansion_through;
 use crate::{ExpansionFault, ExpansionsFound};
-use am_traits::Base;
+use base_trait::Base;
 use calculus::{Name, RelKey};
 use std::alloc::Global;
 use view_text::Expansion;

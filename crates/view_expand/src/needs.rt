@@ -1,7 +1,7 @@
 //! Who needs no permit.
 
 ghost use Rattle.std.specs.Prelude.{◌≡◌, Some, IfOk};
-ghost use Rattle.am_traits.specs.Causes.{HasCause};
+ghost use Rattle.base_trait.specs.Causes.{HasCause};
 ghost use Rattle.calculus.specs.Catalogue.{is_catalogue, is_catalogue_name};
 ghost use Rattle.calculus.specs.Database.{Db};
 ghost use Rattle.calculus.specs.Rights.{needs_none};
@@ -9,7 +9,7 @@ ghost use Rattle.calculus.specs.Who.{asker_of};
 ghost use Rattle.view_expand.specs.Asking.{right_of};
 
 use crate::Right;
-use am_traits::{Base, BaseFault};
+use base_trait::{Base, BaseFault};
 use calculus::{Name, RelKey};
 use std::alloc::Global;
 

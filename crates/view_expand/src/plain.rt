@@ -16,7 +16,7 @@ ghost use Rattle.view_text.specs.Expansions.{no_expansion, expansions_vars};
 
 use crate::row_restriction::restriction;
 use crate::{Right, ExpansionFault, ExpansionsFound};
-use am_traits::Base;
+use base_trait::Base;
 use calculus::{List, Name, OutOfMemory, QQual, Query, RelKey, TryCopy};
 use memory::{alone, both};
 use std::alloc::Global;

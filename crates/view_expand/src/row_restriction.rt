@@ -3,7 +3,7 @@
 ghost use Rattle.std.specs.Prelude.{◌≡◌, true, false, Some, IfOk, OnOk, option_map};
 ghost use Rattle.std.specs.Option.{option_to_list};
 ghost use Rattle.std.specs.List.{list_all};
-ghost use Rattle.am_traits.specs.Causes.{HasCause as HasBaseCause};
+ghost use Rattle.base_trait.specs.Causes.{HasCause as HasBaseCause};
 ghost use Rattle.calculus.specs.Database.{Db, permits_on};
 ghost use Rattle.calculus.specs.Rights.{permitted};
 ghost use Rattle.calculus.specs.Who.{asker_of, as_user};
@@ -17,7 +17,7 @@ ghost use Rattle.view_text.specs.ExpansionOf.{restriction};
 use crate::covering::put_covering;
 use crate::needs::needs_none;
 use crate::{Right, ExpansionFault, ExpansionsFound};
-use am_traits::{Base, BaseFault};
+use base_trait::{Base, BaseFault};
 use calculus::{Name, OutOfMemory, Permit, QQual, RelKey};
 use memory::both;
 use std::alloc::Global;

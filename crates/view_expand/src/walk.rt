@@ -8,7 +8,7 @@ ghost use Rattle.calculus.specs.Permission.{permitted_within, vars_permitted};
 ghost use Rattle.calculus.specs.QueryParts.{vars_of};
 ghost use Rattle.calculus.specs.Sizes.{measure_within, query_measure};
 ghost use Rattle.calculus.specs.Used.{used_in_query, used_vars};
-ghost use Rattle.am_traits.specs.Known.{query_at};
+ghost use Rattle.base_trait.specs.Known.{query_at};
 ghost use Rattle.view_expand.specs.Asking.{who_of};
 ghost use Rattle.view_expand.specs.Causes.{HasCause};
 ghost use Rattle.view_expand.specs.Found.{IsFound, IsExpansionOf};
@@ -20,7 +20,7 @@ ghost use Rattle.view_text.specs.Expansions.{query_expansions, used_expansion};
 
 use crate::plain::{PLACES, no_expansion, plain_expansion, rows_of};
 use crate::{ExpansionFault, ExpansionsFound};
-use am_traits::Base;
+use base_trait::Base;
 use calculus::{Name, Query, RelKey};
 use ovqp::uses;
 use std::alloc::Global;

@@ -17,7 +17,7 @@ use Rattle.calculus.specs.IsDatabase.{IsDatabase}
 use Rattle.calculus.specs.QueryParts.{vars_of}
 use Rattle.calculus.specs.Sizes.{query_measure, range_measure, measure_within}
 use Rattle.calculus.specs.Stored.{Range, Kept, Viewed, range_at}
-use Rattle.am_traits.specs.Known.{query_at}
+use Rattle.base_trait.specs.Known.{query_at}
 use Rattle.quel_meaning.proofs.Keys.{same_keys, keys_same}
 use Rattle.quel_meaning.proofs.DatabaseFacts.{found_passes}
 

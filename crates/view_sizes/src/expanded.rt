@@ -2,7 +2,7 @@
 
 ghost use Rattle.std.specs.Prelude.{◌≡◌, ◌+◌, ◌-◌, ◌^◌, ◌≤◌, ◌||◌, cond, min, length, map, sum_by, true, IfOk, OnOk, Some};
 ghost use Rattle.std.specs.List.{list_all};
-ghost use Rattle.am_traits.specs.Causes.{HasCause};
+ghost use Rattle.base_trait.specs.Causes.{HasCause};
 ghost use Rattle.calculus.specs.Assignments.{is_changed};
 ghost use Rattle.calculus.specs.Database.{Db};
 ghost use Rattle.calculus.specs.Lists.{is_any};
@@ -16,7 +16,7 @@ ghost use Rattle.view_sizes.specs.Remembered.{AreMeasured};
 use crate::aggregates::aggregates_of;
 use crate::remembered::Measures;
 use crate::variables::{variables_found, variables_through, variables_under_found};
-use am_traits::{Base, BaseFault};
+use base_trait::{Base, BaseFault};
 use calculus::limits::MOST_LEVEL;
 use calculus::{AggSource, QAgg, Query, RelKey, Update, UpdateOp};
 use indexmap::IndexMap;

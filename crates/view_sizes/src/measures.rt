@@ -2,7 +2,7 @@
 
 ghost use Rattle.std.specs.Prelude.{◌≡◌, ◌≤◌, ◌<◌, ◌-◌, ◌^◌, ◌∷◌, ◌++◌, [], min, cond, filter, length, map, sum_by, IfOk, OnOk, Some};
 ghost use Rattle.std.specs.List.{enumerate_from};
-ghost use Rattle.am_traits.specs.Causes.{HasCause};
+ghost use Rattle.base_trait.specs.Causes.{HasCause};
 ghost use Rattle.calculus.specs.Database.{Db};
 ghost use Rattle.calculus.specs.Lists.{is_any};
 ghost use Rattle.calculus.specs.QueryParts.{vars_of};
@@ -13,7 +13,7 @@ ghost use Rattle.view_sizes.specs.Remembered.{AreMeasured};
 
 use crate::remembered::{Measures, measure_found, remember_measure};
 use crate::sizes::{Measure, qual_size, term_size};
-use am_traits::{Base, BaseFault};
+use base_trait::{Base, BaseFault};
 use calculus::limits::MOST_LEVEL;
 use calculus::{OutOfMemory, Query, RelKey, Target};
 use indexmap::IndexMap;

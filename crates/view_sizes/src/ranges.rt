@@ -2,7 +2,7 @@
 
 ghost use Rattle.std.specs.Prelude.{◌≡◌, is_some, IfOk, OnOk, Some};
 ghost use Rattle.std.specs.List.{list_all};
-ghost use Rattle.am_traits.specs.Causes.{HasCause};
+ghost use Rattle.base_trait.specs.Causes.{HasCause};
 ghost use Rattle.calculus.specs.Database.{Db};
 ghost use Rattle.calculus.specs.Sizes.{level_within, query_level};
 ghost use Rattle.calculus.specs.Stored.{range_at};
@@ -11,7 +11,7 @@ ghost use Rattle.view_sizes.specs.Remembered.{HaveLevels};
 ghost use Rattle.view_sizes.specs.Standing.{is_ranged};
 
 use crate::remembered::{Levels, level_is_found, remember_level};
-use am_traits::{Base, BaseFault};
+use base_trait::{Base, BaseFault};
 use calculus::{Query, RelInfo, RelKey, Spec};
 use indexmap::IndexSet;
 use std::alloc::Global;

@@ -1,7 +1,7 @@
 //! How many variables a query has once the views in it are expanded.
 
 ghost use Rattle.std.specs.Prelude.{◌≡◌, ◌≤◌, ◌-◌, ◌^◌, [], min, length, sum_by, IfOk, OnOk, Some};
-ghost use Rattle.am_traits.specs.Causes.{HasCause};
+ghost use Rattle.base_trait.specs.Causes.{HasCause};
 ghost use Rattle.calculus.specs.Database.{Db};
 ghost use Rattle.calculus.specs.QueryParts.{vars_of};
 ghost use Rattle.calculus.specs.Sizes.{measure_within, query_measure};
@@ -9,7 +9,7 @@ ghost use Rattle.view_sizes.specs.Remembered.{AreMeasured};
 
 use crate::measures::{measure_of, measure_through, measure_within};
 use crate::remembered::Measures;
-use am_traits::{Base, BaseFault};
+use base_trait::{Base, BaseFault};
 use calculus::limits::MOST_LEVEL;
 use calculus::{Query, RelKey};
 use indexmap::IndexMap;

@@ -4,14 +4,14 @@ ghost use Rattle.std.specs.Prelude.{◌≡◌, Some, true, refl};
 ghost use Rattle.std.proofs.Common.{arith, ap};
 ghost use Rattle.calculus.specs.IsDatabase.{IsDatabase};
 ghost use Rattle.calculus.specs.Stored.{rows_at};
-ghost use Rattle.am_traits.specs.InMemory.{asked_in_memory};
-ghost use Rattle.am_traits.specs.Scans.{IsScan, first_place};
+ghost use Rattle.base_trait.specs.InMemory.{asked_in_memory};
+ghost use Rattle.base_trait.specs.Scans.{IsScan, first_place};
 ghost use Rattle.plain_base.specs.Places.{rows_from};
 ghost use Rattle.plain_base.specs.Shown.{database_of};
 ghost use Rattle.plain_base.specs.Laws.{of_known, whole_scan};
 
 use super::DbPlain;
-use am_traits::{Base, BaseFault};
+use base_trait::{Base, BaseFault};
 use calculus::{DbChange, Name, Permit, Place, Probe, Query, RelInfo, RelKey, Row, Rule};
 use std::alloc::Global;
 

@@ -1,5 +1,5 @@
 use Rattle.std.proofs.Common.{◌∙◌}
-use Rattle.am_traits.specs.Scans.{first_place}
+use Rattle.base_trait.specs.Scans.{first_place}
 use Rattle.calculus.specs.Stored.{rows_at}
 use Rattle.copy_util.proofs.Appended.{ascends_scanned, known_appended}
 use Rattle.copy_util.proofs.appending.rows_appended.Goals as goal

@@ -1,5 +1,5 @@
 use Rattle.std.proofs.Common.{refl}
-use Rattle.am_traits.specs.Known.{known_at}
+use Rattle.base_trait.specs.Known.{known_at}
 use Rattle.plain_base.specs.Shown.{database_of}
 use Rattle.db_disk.proofs.Asking.{asked, known_alike}
 use Rattle.db_disk.proofs.asked.info.Goals as goal

@@ -1,5 +1,5 @@
 use Rattle.std.proofs.Common.{refl}
-use Rattle.am_traits.specs.Known.{is_named_by_view}
+use Rattle.base_trait.specs.Known.{is_named_by_view}
 use Rattle.plain_base.specs.Shown.{database_of}
 use Rattle.db_disk.proofs.Asking.{asked, named_alike}
 use Rattle.db_disk.proofs.asked.named_by_view.Goals as goal

@@ -1,5 +1,5 @@
 use Rattle.std.proofs.Common.{refl}
-use Rattle.am_traits.specs.Known.{query_at}
+use Rattle.base_trait.specs.Known.{query_at}
 use Rattle.plain_base.specs.Shown.{database_of}
 use Rattle.db_disk.proofs.Asking.{asked, view_alike}
 use Rattle.db_disk.proofs.asked.view.Goals as goal

@@ -1,5 +1,5 @@
 use Rattle.std.proofs.Common.{◌≡◌, ◌∙◌, arith}
-use Rattle.am_traits.specs.declared.fault.BaseFault.TheVariants as faults
+use Rattle.base_trait.specs.declared.fault.BaseFault.TheVariants as faults
 use Rattle.batch_store.specs.Store.{batch_of, disk_of}
 use Rattle.batch_store.proofs.Stands.{known_so}
 use Rattle.db_disk.proofs.Changes.{finished, finish_caused, finish_whole, never_wanted, were_some}

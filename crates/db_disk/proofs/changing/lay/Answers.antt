@@ -3,7 +3,7 @@ use Rattle.calculus.specs.Change.{laid}
 use Rattle.disk_model.proofs.Moments.{weaker}
 use Rattle.batch_store.specs.Running.{comes_of_itself}
 use Rattle.batch_store.specs.Store.{disk_of, pages_of}
-use Rattle.am_traits.specs.Causes.{HasCause}
+use Rattle.base_trait.specs.Causes.{HasCause}
 use Rattle.db_disk.specs.Held.{database_in}
 use Rattle.db_disk.proofs.Causes.{as_unit}
 use Rattle.db_disk.proofs.Changes.{after_stands, either_of, given_up, later_caused, on_ok_into, same_given_up}

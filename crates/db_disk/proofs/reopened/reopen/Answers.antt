@@ -1,5 +1,5 @@
 use Rattle.std.proofs.Common.{◌≡◌, arith}
-use Rattle.am_traits.specs.declared.fault.BaseFault.TheVariants as faults
+use Rattle.base_trait.specs.declared.fault.BaseFault.TheVariants as faults
 use Rattle.db_disk.proofs.Causes.{answered_so, damage_of_batch, restore_caused}
 use Rattle.db_disk.proofs.Changes.{never_wanted}
 use Rattle.db_disk.proofs.Holding.{holds_run, known_none, known_same}

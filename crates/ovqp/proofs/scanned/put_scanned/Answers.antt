@@ -2,7 +2,7 @@ use Rattle.std.proofs.Common.{sym, ap, ◌∙◌, [], ◌∷◌, ◌++◌, lengt
 use Rattle.std.proofs.lemmas.List.{length-append}
 use Rattle.calculus.specs.declared.probe.Probe.{Probe}
 use Rattle.calculus.specs.Stored.{rows_at}
-use Rattle.am_traits.specs.Scans.{Gave, first_place}
+use Rattle.base_trait.specs.Scans.{Gave, first_place}
 use Rattle.ovqp.proofs.ByScan.{one_more, all_given, too_many}
 use Rattle.ovqp.proofs.scanned.put_scanned.Goals as goal
 

@@ -1,5 +1,5 @@
 use Rattle.std.proofs.Common.{◌∙◌}
-use Rattle.am_traits.specs.Scans.{first_place}
+use Rattle.base_trait.specs.Scans.{first_place}
 use Rattle.ovqp.proofs.Assigning.{all_rows, all_there}
 use Rattle.ovqp.proofs.scanning.given_by_scan.Goals as goal
 

@@ -1,5 +1,5 @@
 use Rattle.std.proofs.Common.{◌≡◌, refl, subst, ◌∙◌, arith, rules, Err, None, Some}
-use Rattle.am_traits.specs.Scans.{Gave, first_place}
+use Rattle.base_trait.specs.Scans.{Gave, first_place}
 use Rattle.calculus.specs.declared.probe.Probe.{Probe}
 use Rattle.ovqp.specs.Given.{given_fault}
 use Rattle.ovqp.proofs.Assigning.{read_none, read_more, read_all, too_many, row_lacks, scan_fails}

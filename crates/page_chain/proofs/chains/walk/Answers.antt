@@ -1,6 +1,6 @@
 use Rattle.std.proofs.Common.{◌≡◌, ◌<◌, ℕ, List, refl, sym, subst, ◌∙◌, Some, arith}
 use Rattle.std.specs.Prelude.{Err}
-use Rattle.access_traits.specs.Causes.{HasFileCause}
+use Rattle.am_traits.specs.Causes.{HasFileCause}
 use Rattle.page_chain.specs.Chains.{NoChain, OffPage}
 use Rattle.page_chain.specs.Found.{Found}
 use Rattle.page_chain.specs.Pages.{pages_of, next_of}

@@ -1,5 +1,5 @@
 use Rattle.std.proofs.Common.{◌∙◌, subst, sym, arith}
-use Rattle.access_traits.specs.Pages.{with_page}
+use Rattle.am_traits.specs.Pages.{with_page}
 use Rattle.page_chain.specs.Filled.{InHand}
 use Rattle.page_chain.specs.Pages.{page_at}
 use Rattle.page_chain.proofs.Hands.{hand_first, hand_put}

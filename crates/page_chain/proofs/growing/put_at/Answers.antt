@@ -1,7 +1,7 @@
 use Rattle.std.proofs.Common.{◌∙◌, sym, length, arith, subst}
 use Rattle.page_chain.proofs.Grown.{one_here}
 use Rattle.std.specs.Prelude.{IfOk}
-use Rattle.access_traits.specs.Pages.{with_page}
+use Rattle.am_traits.specs.Pages.{with_page}
 use Rattle.page_chain.specs.Filled.{OneLaid}
 use Rattle.page_chain.specs.Pages.{page_at}
 use Rattle.page_chain.proofs.Handed.{store_on}

@@ -1,5 +1,5 @@
 use Rattle.std.proofs.Common.{refl, ◌<◌, ◌∙◌, ◌∷◌, subst, arith}
-use Rattle.access_traits.specs.Causes.{IsAtFault}
+use Rattle.am_traits.specs.Causes.{IsAtFault}
 use Rattle.page_chain.specs.Chains.{OffPage, NoChain}
 use Rattle.page_chain.specs.Passing.{PageTook}
 use Rattle.page_chain.proofs.Carried.{cause_carried}

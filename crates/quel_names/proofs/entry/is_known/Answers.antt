@@ -1,7 +1,7 @@
 use Rattle.std.proofs.Common.{◌≡◌, subst, is_some}
 use Rattle.std.specs.Prelude.{IfOk}
 use Rattle.calculus.specs.declared.query.RelKey.{RelKey}
-use Rattle.am_traits.specs.Known.{known_at}
+use Rattle.base_trait.specs.Known.{known_at}
 use Rattle.quel_names.proofs.entry.is_known.Goals as goal
 
 pub returns-clause-known : goal.returns-clause-known

@@ -1,5 +1,5 @@
 use Rattle.std.proofs.Common.{◌≡◌, ◌∙◌, ap, sym, subst, is_some, IfOk}
-use Rattle.am_traits.specs.Known.{known_at}
+use Rattle.base_trait.specs.Known.{known_at}
 use Rattle.quel_refusals.proofs.Entries.{taken_where_known}
 use Rattle.quel_refusals.proofs.places.is_taken.Goals as goal
 

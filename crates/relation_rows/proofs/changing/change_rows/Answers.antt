@@ -1,6 +1,6 @@
 use Rattle.std.proofs.Common.{All, IsTrue, ◌∙◌, sym, ap, subst, true≢false, arith, ◌≤◌, ◌<◌, ◌+◌, ◌^◌, length}
-use Rattle.access_traits.specs.Pages.{KeepsOthers}
-use Rattle.access_traits.specs.Placed.{SameButUsed}
+use Rattle.am_traits.specs.Pages.{KeepsOthers}
+use Rattle.am_traits.specs.Placed.{SameButUsed}
 use Rattle.calculus.specs.Replacement.{with_rows, without_rows}
 use Rattle.calculus.specs.declared.schema.RelFile.{RelFile}
 use Rattle.page_cells.specs.RowBytes.{is_row}

@@ -1,6 +1,6 @@
 use Rattle.std.proofs.Common.{rules, ap, sym, subst, arith, ◌∙◌, ◌++◌, refl}
-use Rattle.access_traits.specs.Causes.{HasFileCause}
-use Rattle.access_traits.specs.Placed.{rows_from}
+use Rattle.am_traits.specs.Causes.{HasFileCause}
+use Rattle.am_traits.specs.Placed.{rows_from}
 use Rattle.page_chain.specs.Lying.{place_of}
 use Rattle.heap_am.specs.Heap.{HeapFault, heap_rows}
 use Rattle.heap_am.proofs.Faults.{cause_later}

@@ -1,6 +1,6 @@
 use Rattle.std.proofs.Common.{◌≡◌, ◌++◌, Some}
 use Rattle.disk_model.specs.Disk.{Image, RisesUpTo}
-use Rattle.access_traits.specs.Placed.{Placed, rows_of, rows_from}
+use Rattle.am_traits.specs.Placed.{Placed, rows_of, rows_from}
 use Rattle.page_chain.specs.Lying.{place_of}
 use Rattle.heap_am.specs.Heap.{heap_rows}
 use Rattle.relation_rows.proofs.Pages.{StandTo}

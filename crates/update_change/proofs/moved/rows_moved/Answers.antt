@@ -1,5 +1,5 @@
 use Rattle.std.proofs.Common.{◌∙◌, sym, arith}
-use Rattle.am_traits.specs.Scans.{first_place}
+use Rattle.base_trait.specs.Scans.{first_place}
 use Rattle.calculus.specs.Stored.{rows_at}
 use Rattle.update_change.proofs.Few.{ascends_scanned, too_many_after, few_after}
 use Rattle.update_change.proofs.moved.rows_moved.Goals as goal

@@ -2,7 +2,7 @@ use Rattle.std.proofs.Common.{◌≡◌, sym, ap, ◌∙◌, arith, true, false,
 use Rattle.std.specs.List.{list_any}
 use Rattle.std.proofs.lemmas.List.{take_all}
 use Rattle.std.proofs.lemmas.List.Folds.{list_any_more, list_any_at}
-use Rattle.am_traits.specs.Known.{is_named_by_view}
+use Rattle.base_trait.specs.Known.{is_named_by_view}
 use Rattle.utilities.proofs.destroying.some_named.Goals as goal
 
 pub loop-key-preserved : goal.loop-key-preserved

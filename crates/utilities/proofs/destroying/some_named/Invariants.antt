@@ -1,7 +1,7 @@
 use Rattle.std.proofs.Common.{◌≡◌, take, false, Some}
 use Rattle.std.specs.List.{list_any}
 use Rattle.calculus.specs.Database.{Db}
-use Rattle.am_traits.specs.Known.{is_named_by_view}
+use Rattle.base_trait.specs.Known.{is_named_by_view}
 use Rattle.utilities.proofs.destroying.some_named.Given as goal
 
 abbrev pub invariant-loop-key : goal.invariant-loop-key

@@ -3,7 +3,7 @@ use Rattle.calculus.specs.declared.probe.Probe.{Probe}
 use Rattle.calculus.specs.Rows.{Row}
 use Rattle.calculus.specs.Stored.{rows_at}
 use Rattle.calculus.specs.Term.{holds, no_aggs}
-use Rattle.am_traits.specs.Scans.{Gave, first_place, next_meeting}
+use Rattle.base_trait.specs.Scans.{Gave, first_place, next_meeting}
 use Rattle.utilities.proofs.Breaking.{found, passed, ended, one_fewer, of_all, too_many}
 use Rattle.utilities.proofs.judging.some_row_fails.Goals as goal
 

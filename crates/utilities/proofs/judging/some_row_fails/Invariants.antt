@@ -2,7 +2,7 @@ use Rattle.std.proofs.Common.{◌≡◌, ◌+◌, ◌∷◌, [], not, Some, leng
 use Rattle.std.specs.List.{list_any}
 use Rattle.calculus.specs.Database.{Db}
 use Rattle.calculus.specs.Term.{holds, no_aggs}
-use Rattle.am_traits.specs.Scans.{first_place}
+use Rattle.base_trait.specs.Scans.{first_place}
 use Rattle.utilities.proofs.judging.some_row_fails.Given as goal
 
 abbrev pub invariant-loop-call : goal.invariant-loop-call

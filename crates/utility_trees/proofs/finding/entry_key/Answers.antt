@@ -1,7 +1,7 @@
 use Rattle.std.proofs.Common.{sym, ap, ◌∙◌}
 use Rattle.std.specs.Option.{option_map}
 use Rattle.std.proofs.lemmas.Result.{IfOk-weaker}
-use Rattle.am_traits.specs.Known.{known_at}
+use Rattle.base_trait.specs.Known.{known_at}
 use Rattle.calculus.specs.Keys.{key_of}
 use Rattle.utility_trees.proofs.Meant.{own_entry, other_entry}
 use Rattle.utility_trees.proofs.finding.entry_key.Goals as goal

@@ -4,7 +4,7 @@ use Rattle.std.specs.List.{list_all}
 use Rattle.std.proofs.lemmas.List.{take_all}
 use Rattle.std.proofs.lemmas.List.Folds.{list_all_more}
 use Rattle.calculus.specs.Sizes.{level_within}
-use Rattle.am_traits.specs.Known.{query_at}
+use Rattle.base_trait.specs.Known.{query_at}
 use Rattle.view_sizes.proofs.Counting.{vars_is}
 use Rattle.view_sizes.proofs.Viewed.{no_base_relation}
 use Rattle.view_sizes.proofs.Ranged.{no_level, plain_level, level_through}

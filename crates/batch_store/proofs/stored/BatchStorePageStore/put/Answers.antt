@@ -1,6 +1,6 @@
 use Rattle.batch_store.proofs.Runs.{ran_stages}
 use Rattle.std.proofs.Common.{arith, ap, sym, refl, ◌∙◌, Some}
-use Rattle.access_traits.specs.Pages.{with_page}
+use Rattle.am_traits.specs.Pages.{with_page}
 use Rattle.batch_store.specs.Standing.{standing}
 use Rattle.batch_store.proofs.Stands.{known_is, known_so}
 use Rattle.batch_store.proofs.Putting.{put_last}

@@ -1,6 +1,6 @@
 use Rattle.std.proofs.Common.{refl, ◌∙◌}
 use Rattle.calculus.specs.Schema.{schema_of}
-use Rattle.am_traits.specs.Known.{is_named_by_view}
+use Rattle.base_trait.specs.Known.{is_named_by_view}
 use Rattle.db_disk.proofs.Asking.{schema_answer, named_alike}
 use Rattle.db_disk.proofs.Causes.{want_caused}
 use Rattle.db_disk.proofs.Knowing.{same_schema, still_known, there_open}

@@ -1,6 +1,6 @@
 use Rattle.std.proofs.Common.{refl, sym, subst, drop, Option, ◌∙◌, ◌+◌, ap}
 use Rattle.calculus.specs.Database.{Db}
-use Rattle.am_traits.specs.Scans.{Gives, IsOver}
+use Rattle.base_trait.specs.Scans.{Gives, IsOver}
 use Rattle.plain_base.specs.Places.{rows_before}
 use Rattle.db_disk.specs.Shown.{rows_left}
 use Rattle.db_disk.proofs.Causes.{want_caused}

@@ -1,6 +1,6 @@
 use Rattle.std.proofs.Common.{refl, ◌∙◌}
 use Rattle.calculus.specs.Schema.{schema_of}
-use Rattle.am_traits.specs.Known.{query_at}
+use Rattle.base_trait.specs.Known.{query_at}
 use Rattle.db_disk.proofs.Asking.{schema_answer, view_alike}
 use Rattle.db_disk.proofs.Causes.{want_caused}
 use Rattle.db_disk.proofs.Knowing.{same_schema, still_known, there_open}

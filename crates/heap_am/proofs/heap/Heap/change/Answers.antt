@@ -1,6 +1,6 @@
 use Rattle.std.proofs.Common.{sym, refl, subst, IsTrue, arith}
 use Rattle.heap_am.specs.Heap.{heap_rows}
-use Rattle.access_traits.specs.Placed.{NowHolds, Replaced, rows_of}
+use Rattle.am_traits.specs.Placed.{NowHolds, Replaced, rows_of}
 use Rattle.heap_am.proofs.Changed.{are_short, bytes_are, none_of_them}
 use Rattle.heap_am.specs.Heap.{HeapFault}
 use Rattle.heap_am.proofs.Rooms.{room_left, cause_same}

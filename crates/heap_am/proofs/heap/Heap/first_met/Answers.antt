@@ -1,5 +1,5 @@
 use Rattle.std.proofs.Common.{◌≡◌, subst, ◌∙◌, ◌+◌, Some, IfSome, arith}
-use Rattle.access_traits.specs.Placed.{row_with}
+use Rattle.am_traits.specs.Placed.{row_with}
 use Rattle.page_chain.specs.Lying.{place_of}
 use Rattle.heap_am.specs.Met.{MetBefore}
 use Rattle.heap_am.proofs.Meeting.{page_over}

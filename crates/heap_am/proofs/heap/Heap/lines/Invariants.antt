@@ -1,6 +1,6 @@
 use Rattle.std.proofs.Common.{◌≡◌, ◌++◌, ◌<◌, true, Some, None, get_or}
 use Rattle.disk_model.specs.Disk.{Image}
-use Rattle.access_traits.specs.Placed.{Placed}
+use Rattle.am_traits.specs.Placed.{Placed}
 use Rattle.page_cells.specs.Page.{slots}
 use Rattle.page_chain.specs.Lying.{place_of}
 use Rattle.page_chain.specs.Pages.{page_at}

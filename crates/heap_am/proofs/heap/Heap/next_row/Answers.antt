@@ -1,6 +1,6 @@
 use Rattle.std.proofs.Common.{◌∙◌, refl, subst, Ok, arith}
 use Rattle.std.proofs.Math.Nat.{le_trans}
-use Rattle.access_traits.specs.Placed.{GivesBefore}
+use Rattle.am_traits.specs.Placed.{GivesBefore}
 use Rattle.heap_am.specs.Heap.{HeapFault}
 use Rattle.heap_am.specs.Met.{MetBefore}
 use Rattle.heap_am.proofs.Faults.{cause_later}

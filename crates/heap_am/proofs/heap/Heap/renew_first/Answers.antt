@@ -1,8 +1,8 @@
 use Rattle.std.proofs.Common.{sym, refl, subst, ◌∙◌, ◌+◌, ◌-◌, ◌≡◌, ℕ, [], ◌∷◌, ◌++◌, Option, IfSome, Result, Ok, Err, take, arith}
 use Rattle.disk_model.specs.Disk.{Image}
 use Rattle.disk_model.specs.declared.disk.Addr.{Addr}
-use Rattle.am_traits.specs.declared.fault.BaseFault.{BaseFault}
-use Rattle.access_traits.specs.Causes.{HasFileCause}
+use Rattle.base_trait.specs.declared.fault.BaseFault.{BaseFault}
+use Rattle.am_traits.specs.Causes.{HasFileCause}
 use Rattle.page_chain.specs.Chains.{OffPage, numbers_from}
 use Rattle.page_chain.specs.Grown.{IsGrown}
 use Rattle.page_chain.specs.Pages.{pages_of}
@@ -15,7 +15,7 @@ use Rattle.heap_am.proofs.Changed.{are_there, rows_renewed, heap_chain_to, all_l
 use Rattle.heap_am.proofs.DoneNear.{near_all, renewed_near, off_rest}
 use Rattle.heap_am.proofs.Faults.{cause_later}
 use Rattle.std.specs.Result.{OnOk}
-use Rattle.access_traits.specs.Pages.{KeepsOthers}
+use Rattle.am_traits.specs.Pages.{KeepsOthers}
 use Rattle.heap_am.proofs.Rooms.{cause_same}
 use Rattle.heap_am.proofs.heap.Heap.renew_first.Goals as goal
 

@@ -9,10 +9,10 @@ ghost use Rattle.calculus.specs.Schema.{schema_of};
 ghost use Rattle.calculus.specs.Stored.{attrs_at, rows_at};
 ghost use Rattle.calculus.specs.declared.probe.Place.{Place as At};
 ghost use Rattle.calculus.specs.declared.query.RelKey.{RelKey as Key};
-ghost use Rattle.am_traits.specs.Causes.{HasCause};
-ghost use Rattle.am_traits.specs.Crashes.{LeavesBut, OnlyAsked, Stands};
-ghost use Rattle.am_traits.specs.Scans.{Gives, IsOver, IsScan, first_place};
-ghost use Rattle.am_traits.specs.Known.{known_at, query_at, is_named_by_view};
+ghost use Rattle.base_trait.specs.Causes.{HasCause};
+ghost use Rattle.base_trait.specs.Crashes.{LeavesBut, OnlyAsked, Stands};
+ghost use Rattle.base_trait.specs.Scans.{Gives, IsOver, IsScan, first_place};
+ghost use Rattle.base_trait.specs.Known.{known_at, query_at, is_named_by_view};
 
 use crate::BaseFault;
 use calculus::{DbChange, Name, Permit, Place, Probe, Query, RelInfo, RelKey, Row, Rule};

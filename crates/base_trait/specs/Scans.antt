@@ -7,7 +7,7 @@ use Rattle.calculus.specs.Value.{value_cmp}
 use Rattle.calculus.specs.declared.value.Value.{Value}
 use Rattle.calculus.specs.declared.probe.Place.{Place}
 use Rattle.calculus.specs.declared.probe.Probe.{Probe}
-use Rattle.am_traits.specs.declared.fault.BaseFault.{BaseFault}
+use Rattle.base_trait.specs.declared.fault.BaseFault.{BaseFault}
 
 -- where a scan begins
 abbrev pub first_place : Place

@@ -1,6 +1,6 @@
 -- A base with no disk below it.
 use Rattle.std.proofs.Common.{inl, true, refl, arith}
-use Rattle.am_traits.specs.Crashes.{OnlyAsked}
+use Rattle.base_trait.specs.Crashes.{OnlyAsked}
 
 -- where there is no disk, nothing is left and all counts are 0
 pub asked_in_memory : OnlyAsked 0 0 true true (λ t o. ⊥) (λ t o. ⊥)

@@ -1,6 +1,6 @@
 -- What crashes leave over several calls.
 use Rattle.std.proofs.Common.{◌≡◌, ◌⊎◌, ◌≤◌, inl, inr, ℕ, Bool, Option, Some, refl, ◌∙◌, arith}
-use Rattle.am_traits.specs.Crashes.{LeavesBut, OnlyAsked, Stands}
+use Rattle.base_trait.specs.Crashes.{LeavesBut, OnlyAsked, Stands}
 use Rattle.calculus.specs.Database.{Db}
 
 pub nothing_else : (P : Option Db → Type 0) (clock : ℕ) (left : ℕ → Option Db → Type 0) → LeavesBut P clock clock left left

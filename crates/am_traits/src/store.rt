@@ -2,8 +2,8 @@
 
 ghost use Rattle.std.specs.Prelude.{◌≡◌, ◌≤◌, ℕ, Some, None, Option, IfOk, OnOk, if◌then◌else◌};
 ghost use Rattle.disk_model.specs.Disk.{Image, RisesUpTo};
-ghost use Rattle.access_traits.specs.Causes.{HasStoreCause};
-ghost use Rattle.access_traits.specs.Pages.{with_page};
+ghost use Rattle.am_traits.specs.Causes.{HasStoreCause};
+ghost use Rattle.am_traits.specs.Pages.{with_page};
 
 use crate::StoreFault;
 use disk_model::{Addr, Page};

@@ -7,7 +7,7 @@ use Rattle.calculus.specs.Rows.{Row, has}
 use Rattle.calculus.specs.Value.{row_cmp}
 use Rattle.calculus.specs.declared.probe.Place.{Place}
 use Rattle.disk_model.specs.Disk.{Image}
-use Rattle.am_traits.specs.declared.fault.BaseFault.{BaseFault}
+use Rattle.base_trait.specs.declared.fault.BaseFault.{BaseFault}
 use Rattle.calculus.specs.declared.schema.RelFile.{RelFile}
 
 -- rows, each with its place

@@ -5,15 +5,15 @@ ghost use Rattle.std.specs.List.{list_any};
 ghost use Rattle.calculus.specs.Rows.{Row as Values, has};
 ghost use Rattle.calculus.specs.declared.probe.Place.{Place as At};
 ghost use Rattle.disk_model.specs.Disk.{Image, RisesUpTo};
-ghost use Rattle.am_traits.specs.Scans.{Gives, IsOver, first_place};
+ghost use Rattle.base_trait.specs.Scans.{Gives, IsOver, first_place};
 ghost use Rattle.page_cells.specs.RowBytes.{is_row};
-ghost use Rattle.access_traits.specs.Causes.{HasFileCause};
-ghost use Rattle.access_traits.specs.Pages.{KeepsOthers};
-ghost use Rattle.access_traits.specs.Placed.{Placed, Added, Removed, Replaced, GivesBefore, NowHolds, SameButUsed, row_with, rows_differ, rows_of, rows_from};
+ghost use Rattle.am_traits.specs.Causes.{HasFileCause};
+ghost use Rattle.am_traits.specs.Pages.{KeepsOthers};
+ghost use Rattle.am_traits.specs.Placed.{Placed, Added, Removed, Replaced, GivesBefore, NowHolds, SameButUsed, row_with, rows_differ, rows_of, rows_from};
 ghost use Rattle.calculus.specs.declared.schema.RelFile.{RelFile as File};
 
 use crate::PageStore;
-use am_traits::BaseFault;
+use base_trait::BaseFault;
 use calculus::{Place, Probe, Row};
 use std::alloc::Global;
 
