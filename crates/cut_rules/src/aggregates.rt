@@ -73,7 +73,11 @@ fn own_qual(alloc: Global, qual: &QQual, condition: Option<QQual>) -> Result<QQu
 }
 
 /// The terms with the expansions substituted.
-fn links(alloc: Global, expansions: &[Expansion], terms: &[QTerm]) -> Result<List<QTerm>, OutOfMemory>
+fn links(
+    alloc: Global,
+    expansions: &[Expansion],
+    terms: &[QTerm],
+) -> Result<List<QTerm>, OutOfMemory>
     requires scoped { list_all is_scoped expansions.now ≡ true }
     requires fits { length (expansions_vars expansions.now) ≤ 256 }
     ensures { IfOk result (λ made. made ≡ map (replaced no_aggregate (substituted_from 0 expansions.now)) terms.now) }

@@ -21,7 +21,7 @@ use base_trait::Base;
 use calculus::{List, Name, OutOfMemory, QQual, RelKey, TryCopy, Update, UpdateOp};
 use memory::{alone, push};
 use std::alloc::Global;
-use view_expand::{Right, ExpansionFault, ExpansionsFound, restriction};
+use view_expand::{ExpansionFault, ExpansionsFound, Right, restriction};
 use view_text::{Expansion, all_of};
 
 /// The right to change the variable at a place; `None` where its rows stay.

@@ -6,12 +6,12 @@ mod aggregates;
 mod attributes;
 mod changing;
 mod cutting;
-mod expanding;
-mod fault;
 mod expanded;
+mod expanding;
+mod expansions;
+mod fault;
 mod rules;
 mod sources;
-mod expansions;
 mod updates;
 
 pub use cutting::cut_permits;

@@ -22,7 +22,7 @@ use base_trait::Base;
 use calculus::limits::MOST_LEVEL;
 use calculus::{AggSource, Boxed, Name, OutOfMemory, QQual, Query, RelKey, TryCopy};
 use std::alloc::Global;
-use view_expand::{Right, ExpansionFault, ExpansionsFound, restriction, expanded_plain};
+use view_expand::{ExpansionFault, ExpansionsFound, Right, expanded_plain, restriction};
 
 /// The rows of a query.
 #[tactic(auto, using(calculus::proofs::Forms::rows_is))]

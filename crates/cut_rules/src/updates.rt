@@ -29,7 +29,7 @@ use calculus::{Name, QQual, Query, RelKey, TryCopy, Update, UpdateOp};
 use memory::both;
 use ovqp::uses;
 use std::alloc::Global;
-use view_expand::{Right, ExpansionsFound};
+use view_expand::{ExpansionsFound, Right};
 use view_text::Expansion;
 
 /// The last place that a variable may have.

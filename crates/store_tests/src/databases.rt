@@ -1,7 +1,7 @@
 // Databases on disks that stop and crash, and that are damaged.
 use crate::made::{
     COME, GONE_WITH_VIEW, INDEXED, MADE_BARE_Q, MADE_P, MADE_Q, MOVED, PERMITTED, RULED, STORED,
-    Step, UNPERMITTED, UNRULED, VIEWED, named, take, take_all, known,
+    Step, UNPERMITTED, UNRULED, VIEWED, known, named, take, take_all,
 };
 use base_trait::{Base, BaseFault};
 use batch_file::{Restored, restore};

@@ -226,7 +226,11 @@ fn put_relation<B: Base>(
 }
 
 /// What a base says of `p`, `q`, `v` and `x`, and how many entries it has.
-pub fn known<B: Base>(alloc: Global, rt: &impl Abort, base: &mut B) -> Result<List<i64>, BaseFault> {
+pub fn known<B: Base>(
+    alloc: Global,
+    rt: &impl Abort,
+    base: &mut B,
+) -> Result<List<i64>, BaseFault> {
     let mut said = Vec::new(alloc);
     say(rt, &mut said, base.count()? as i64);
     for name in [b"p", b"q", b"v", b"x"] {

@@ -15,12 +15,12 @@ ghost use Rattle.view_text.specs.ExpansionOf.{restriction, kept_expansion, rows_
 ghost use Rattle.view_text.specs.Expansions.{no_expansion, expansions_vars};
 
 use crate::row_restriction::restriction;
-use crate::{Right, ExpansionFault, ExpansionsFound};
+use crate::{ExpansionFault, ExpansionsFound, Right};
 use base_trait::Base;
 use calculus::{List, Name, OutOfMemory, QQual, Query, RelKey, TryCopy};
 use memory::{alone, both};
 use std::alloc::Global;
-use view_text::{Expansion, substituted_rows, rows_expansion};
+use view_text::{Expansion, rows_expansion, substituted_rows};
 
 /// The variables that a query may number.
 pub(crate) const PLACES: usize = 256;
@@ -114,7 +114,11 @@ fn are_few(expansions: &[Expansion], most: usize) -> bool
 }
 
 /// The expansion of a query's rows, where these are the expansion of its variables.
-pub(crate) fn rows_of(alloc: Global, expansions: &[Expansion], query: &Query) -> Result<Expansion, ExpansionFault>
+pub(crate) fn rows_of(
+    alloc: Global,
+    expansions: &[Expansion],
+    query: &Query,
+) -> Result<Expansion, ExpansionFault>
     requires { list_all is_scoped expansions.now ≡ true }
     ensures expansion { IfOk result (λ expansion. expansion ≡ rows_expansion expansions.now query.now) }
     ensures scoped { IfOk result (λ expansion. is_scoped expansion ≡ true) }
@@ -130,7 +134,11 @@ pub(crate) fn rows_of(alloc: Global, expansions: &[Expansion], query: &Query) ->
 }
 
 /// The query over the variables of these expansion, which are those of its own.
-pub(crate) fn query_over(alloc: Global, expansions: &[Expansion], query: &Query) -> Result<Query, ExpansionFault>
+pub(crate) fn query_over(
+    alloc: Global,
+    expansions: &[Expansion],
+    query: &Query,
+) -> Result<Query, ExpansionFault>
     requires { list_all is_scoped expansions.now ≡ true }
     ensures query { IfOk result (λ made. made ≡ substituted_query no_aggregate expansions.now query.now) }
     ensures cause { IfErr result (IsCrowded (length (expansions_vars expansions.now))) }

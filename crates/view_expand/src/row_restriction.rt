@@ -16,7 +16,7 @@ ghost use Rattle.view_text.specs.ExpansionOf.{restriction};
 
 use crate::covering::put_covering;
 use crate::needs::needs_none;
-use crate::{Right, ExpansionFault, ExpansionsFound};
+use crate::{ExpansionFault, ExpansionsFound, Right};
 use base_trait::{Base, BaseFault};
 use calculus::{Name, OutOfMemory, Permit, QQual, RelKey};
 use memory::both;

@@ -163,7 +163,16 @@ pub(crate) fn rows_through<B: Base>(
         return Err(ExpansionFault::TooMany);
     }
     let mut expansions = Vec::new(alloc);
-    match put_expansions(alloc, base, who, query, keys, levels, &mut expansions, found) {
+    match put_expansions(
+        alloc,
+        base,
+        who,
+        query,
+        keys,
+        levels,
+        &mut expansions,
+        found,
+    ) {
         Ok(()) => rows_of(alloc, &expansions, query),
         Err(error) => Err(error),
     }

@@ -12,8 +12,8 @@ use std::alloc::Global;
 use std::process::Abort;
 use std::test::*;
 use view_text::{
-    Expansion, conditions, permit_condition, substituted_qual, substituted_rows, substituted_term, substituted_whole,
-    rows_expansion,
+    Expansion, conditions, permit_condition, rows_expansion, substituted_qual, substituted_rows,
+    substituted_term, substituted_whole,
 };
 
 /// Whether an answer comes.

@@ -41,7 +41,12 @@ fn substituted_from(
 {
     match expansions.split_first() {
         None => Ok(()),
-        Some((expansion, others)) => match put_moved(alloc, from, expansion.conditions.items(), made) {
+        Some((expansion, others)) => match put_moved(
+            alloc,
+            from,
+            expansion.conditions.items(),
+            made,
+        ) {
             Ok(()) => substituted_from(alloc, from + expansion.vars.items().len(), others, made),
             Err(error) => Err(error),
         },
@@ -50,7 +55,11 @@ fn substituted_from(
 
 /// Puts the conditions of the expansion behind those that are there, where the expansion' variables stand one
 /// behind the other.
-pub fn conditions(alloc: Global, expansions: &[Expansion], made: &mut Vec<QQual>) -> Result<(), OutOfMemory>
+pub fn conditions(
+    alloc: Global,
+    expansions: &[Expansion],
+    made: &mut Vec<QQual>,
+) -> Result<(), OutOfMemory>
     requires scoped { list_all is_scoped expansions.now ≡ true }
     requires fits { length (expansions_vars expansions.now) ≤ 256 }
     ensures { OnOk result (made.new.items ≡ made.old.items ++ conditions_from 0 expansions.now) }

@@ -1,6 +1,8 @@
 //! The expansion of what a variable ranges over, and terms and qualifications with other terms put in.
 #![tactic(auto)]
 
+mod expansion;
+mod expansion_conditions;
 mod halves;
 mod moved;
 mod parts;
@@ -10,13 +12,11 @@ mod putting;
 mod replaced;
 mod rows;
 mod settled;
-mod expansion;
-mod expansion_conditions;
 
+pub use expansion::Expansion;
+pub use expansion_conditions::conditions;
 pub use halves::{all_of, any_of};
 pub use moved::{moved_qual, moved_term};
 pub use permit::permit_condition;
 pub use put::{substituted_qual, substituted_term};
-pub use rows::{substituted_rows, substituted_whole, rows_expansion};
-pub use expansion::Expansion;
-pub use expansion_conditions::conditions;
+pub use rows::{rows_expansion, substituted_rows, substituted_whole};

@@ -41,7 +41,12 @@ fn put_listed(alloc: Global, by: usize, terms: &[QTerm], place: u8) -> Result<QT
 
 /// The term of an expansion's attribute, where the expansion's variables stand from this place on.
 #[tactic(auto, using(crate::proofs::PutExpansion::own_moved, crate::proofs::PutExpansion::none_has_variable, crate::proofs::PutExpansion::listed_moved, crate::proofs::PutExpansion::listed_fit))]
-fn put_own(alloc: Global, from: usize, expansion: &Expansion, attr: u8) -> Result<QTerm, OutOfMemory>
+fn put_own(
+    alloc: Global,
+    from: usize,
+    expansion: &Expansion,
+    attr: u8,
+) -> Result<QTerm, OutOfMemory>
     requires scoped { is_scoped expansion.now ≡ true }
     requires fits { from + length expansion.now.vars ≤ 256 }
     ensures { IfOk result (λ t. t ≡ moved from (attr_term expansion.now attr)) }
@@ -138,7 +143,11 @@ fn aggregate_at(alloc: Global, aggregates: &[QAgg], slot: u16) -> Result<QTerm, 
 /// The term over the variables of these expansion, which stand one behind the other: the expansion' terms
 /// stand in place of its attributes. An attribute that no expansion has, and an aggregate, become a term
 /// without value.
-pub fn substituted_term(alloc: Global, expansions: &[Expansion], t: &QTerm) -> Result<QTerm, OutOfMemory>
+pub fn substituted_term(
+    alloc: Global,
+    expansions: &[Expansion],
+    t: &QTerm,
+) -> Result<QTerm, OutOfMemory>
     requires scoped { list_all is_scoped expansions.now ≡ true }
     requires fits { length (expansions_vars expansions.now) ≤ 256 }
     ensures { IfOk result (λ made. made ≡ replaced no_aggregate (substituted_from 0 expansions.now) t.now) }
@@ -147,7 +156,11 @@ pub fn substituted_term(alloc: Global, expansions: &[Expansion], t: &QTerm) -> R
 }
 
 /// The qualification so.
-pub fn substituted_qual(alloc: Global, expansions: &[Expansion], q: &QQual) -> Result<QQual, OutOfMemory>
+pub fn substituted_qual(
+    alloc: Global,
+    expansions: &[Expansion],
+    q: &QQual,
+) -> Result<QQual, OutOfMemory>
     requires scoped { list_all is_scoped expansions.now ≡ true }
     requires fits { length (expansions_vars expansions.now) ≤ 256 }
     ensures { IfOk result (λ made. made ≡ replaced_in_qual no_aggregate (substituted_from 0 expansions.now) q.now) }

@@ -31,7 +31,11 @@ fn put_keys(alloc: Global, keys: &[RelKey], made: &mut Vec<RelKey>) -> Result<()
 }
 
 /// Puts what the expansion' variables range over behind those that are there.
-fn put_vars(alloc: Global, expansions: &[Expansion], made: &mut Vec<RelKey>) -> Result<(), OutOfMemory>
+fn put_vars(
+    alloc: Global,
+    expansions: &[Expansion],
+    made: &mut Vec<RelKey>,
+) -> Result<(), OutOfMemory>
     ensures { OnOk result (made.new.items ≡ made.old.items ++ expansions_vars expansions.now) }
 {
     for expansion in expansions {
@@ -141,7 +145,11 @@ fn settled_conditions(
 }
 
 /// The expansion of a query's rows, where these are the expansion of its variables.
-fn expansion_made(alloc: Global, expansions: &[Expansion], query: &Query) -> Result<Expansion, OutOfMemory>
+fn expansion_made(
+    alloc: Global,
+    expansions: &[Expansion],
+    query: &Query,
+) -> Result<Expansion, OutOfMemory>
     requires scoped { list_all is_scoped expansions.now ≡ true }
     requires fits { length (expansions_vars expansions.now) ≤ 256 }
     ensures { IfOk result (λ expansion. expansion ≡ rows_expansion expansions.now query.now) }
@@ -165,7 +173,11 @@ fn expansion_made(alloc: Global, expansions: &[Expansion], query: &Query) -> Res
 /// there is no variable these conditions are evaluated: no condition is left where they hold, else one
 /// that never holds. It names only its own variables.
 #[tactic(auto, using(crate::proofs::Scope::rows_made_scoped))]
-pub fn rows_expansion(alloc: Global, expansions: &[Expansion], query: &Query) -> Result<Expansion, OutOfMemory>
+pub fn rows_expansion(
+    alloc: Global,
+    expansions: &[Expansion],
+    query: &Query,
+) -> Result<Expansion, OutOfMemory>
     requires scoped { list_all is_scoped expansions.now ≡ true }
     requires fits { length (expansions_vars expansions.now) ≤ 256 }
     ensures expansion { IfOk result (λ expansion. expansion ≡ rows_expansion expansions.now query.now) }
@@ -249,7 +261,11 @@ fn put_by<P: Substitution>(
 
 /// The query over the variables of these expansion, one for each of its own: their terms stand in place of
 /// its attributes, and their conditions hold too. An aggregate becomes a term without value.
-pub fn substituted_rows(alloc: Global, expansions: &[Expansion], query: &Query) -> Result<Query, OutOfMemory>
+pub fn substituted_rows(
+    alloc: Global,
+    expansions: &[Expansion],
+    query: &Query,
+) -> Result<Query, OutOfMemory>
     requires scoped { list_all is_scoped expansions.now ≡ true }
     requires fits { length (expansions_vars expansions.now) ≤ 256 }
     ensures { IfOk result (λ made. made ≡ substituted_query no_aggregate expansions.now query.now) }
@@ -269,5 +285,13 @@ pub fn substituted_whole(
     requires fits { length (expansions_vars expansions.now) ≤ 256 }
     ensures { IfOk result (λ made. made ≡ substituted_query (listed aggregates.now) expansions.now query.now) }
 {
-    put_by(alloc, &Whole { expansions, aggregates }, expansions, query)
+    put_by(
+        alloc,
+        &Whole {
+            expansions,
+            aggregates,
+        },
+        expansions,
+        query,
+    )
 }
