@@ -307,7 +307,7 @@ pub no_catalogue : (dba : List ℕ) (m : Image) (a : Addr) → NoCatalogueIn m a
 no_catalogue dba m a none = (no_database dba m a none.0, inl none.1)
 
 chained : (o : Option (List ℕ)) (numbers : List ℕ) → o ≡ Some numbers → IsTrue (is_some o)
-chained o numbers is = subst (λ o. IsTrue (is_some o)) (sym is) tt
+chained o numbers is = subst (λ o. IsTrue (is_some o)) (sym is) refl
 
 -- where all three chains were found, the first page of the entries shows it
 pub first_page : (m : Image) (chains : Chains) → AreFound m chains → ShowsNone m (record { file = 5; page = 0 })

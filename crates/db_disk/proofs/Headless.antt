@@ -34,7 +34,7 @@ at_head_of T m (load.Base faults.Disk) of file page same no_head at e = let bad 
 at_head_of T m (load.Base (faults.Damaged f p)) of file page same no_head at e = absurd no_head
 at_head_of T m (load.Base faults.OutOfMemory) of file page same no_head at e = let bad : faults.OutOfMemory ≡ faults.Damaged file page = sym same ∙ e in absurd (cc bad)
 
-same_err : {T : Type 0} (one other : BaseFault) → ◌≡◌ {A = Result T BaseFault} (Err one) (Err other) → one ≡ other
+pub same_err : {T : Type 0} (one other : BaseFault) → ◌≡◌ {A = Result T BaseFault} (Err one) (Err other) → one ≡ other
 same_err one other is = cc is
 
 -- the fault of a base is that of its opening

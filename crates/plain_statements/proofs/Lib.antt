@@ -5,4 +5,5 @@ pub mod Copied
 pub mod Effects
 pub mod Planned
 pub mod Runs
+pub mod Short
 pub mod Stops

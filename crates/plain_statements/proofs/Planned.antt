@@ -24,7 +24,7 @@ use Rattle.quel_meaning.specs.SpelledTree.{made_key_is_spelled, update_is_spelle
 use Rattle.plan_laws.proofs.FitUtilities.{new_is_free, fitting_plan_lawful}
 use Rattle.update_laws.proofs.Fitted.{fitting_update_lawful}
 use Rattle.plain_statements.specs.declared.stopped.Stopped.{Stopped}
-use Rattle.plain_statements.specs.declared.stopped.Stopped.TheVariants.{No, OutOfMemory}
+use Rattle.plain_statements.specs.declared.stopped.Stopped.TheVariants.{No, Base, OutOfMemory}
 use Rattle.plain_statements.specs.Plans.{Plans}
 use Rattle.plain_statements.specs.Doable.{IsDoableUpdate, IsDoableWork}
 use Rattle.plain_statements.proofs.Answered.{can_be_answered}
@@ -57,6 +57,7 @@ module _ (db : Db) (u : Update) where
       → Plans (λ change. (updated db Unrestricted u ≡ Ok change) × IsLawful db change) (λ number. updated db Unrestricted u ≡ Err number) result
   update_lawful is doable (Ok change) h = (h, fitting_update_lawful (kept_alone db) db Unrestricted u change is doable.spelled doable.fits h)
   update_lawful is doable (Err (No number)) h = h
+  update_lawful is doable (Err (Base fault)) h = tt
   update_lawful is doable (Err OutOfMemory) h = tt
 
 -- ---- utilities

@@ -24,7 +24,7 @@ use Rattle.stage_proc.specs.TableCauses as asking
 use Rattle.quel_meaning.specs.Copying.{refusal}
 use Rattle.quel_meaning.specs.Meaning.{answer_reply}
 use Rattle.plain_statements.specs.declared.stopped.Stopped.{Stopped}
-use Rattle.plain_statements.specs.declared.stopped.Stopped.TheVariants.{No, OutOfMemory}
+use Rattle.plain_statements.specs.declared.stopped.Stopped.TheVariants.{No, Base, OutOfMemory}
 use Rattle.plain_statements.specs.Plans.{Plans, ArePairs}
 use Rattle.plain_statements.specs.Stopping.{query_stop, pair_stop, change_stop}
 use Rattle.plain_statements.proofs.Outcomes.{contended_refused, many_refused, lacking_refused, unfit_refused, queries_lack}
@@ -32,6 +32,7 @@ use Rattle.plain_statements.proofs.Outcomes.{contended_refused, many_refused, la
 -- this of the number that refuses
 abbrev pub RefusedBy : (ℕ → Type 0) → Stopped → Type 0
 RefusedBy refused (No number) = refused number
+RefusedBy refused (Base fault) = Unit {0}
 RefusedBy refused OutOfMemory = Unit {0}
 
 -- where nothing is made, what is said of the number says all
@@ -39,6 +40,7 @@ pub refused_by : {T : Type 0} {Q : Stopped → Type 0} (made : T → Type 0) (re
     → Plans made refused r
 refused_by made refused (Ok x) h f = absurd (cc h.0)
 refused_by made refused (Err (No number)) h f = f (No number) h.1
+refused_by made refused (Err (Base fault)) h f = tt
 refused_by made refused (Err OutOfMemory) h f = tt
 
 -- what refuses the change of an update

@@ -13,12 +13,13 @@ use Rattle.quel_meaning.specs.Ranges.{Ranges}
 use Rattle.stage_parse.specs.Checks.{IsChecked}
 use Rattle.plain_statements.specs.Doable.{IsDoable}
 use Rattle.plain_statements.specs.declared.stopped.Stopped.{Stopped}
-use Rattle.plain_statements.specs.declared.stopped.Stopped.TheVariants.{No, OutOfMemory}
+use Rattle.plain_statements.specs.declared.stopped.Stopped.TheVariants.{No, Base, OutOfMemory}
 
--- this of what is made, this of the number that refuses; nothing of want of memory
+-- this of what is made, this of the number that refuses; nothing of a fault of the database, nor of want of memory
 abbrev pub Plans : {T : Type 0} → (T → Type 0) → (ℕ → Type 0) → Result T Stopped → Type 0
 Plans made refused (Ok x) = made x
 Plans made refused (Err (No number)) = refused number
+Plans made refused (Err (Base fault)) = Unit {0}
 Plans made refused (Err OutOfMemory) = Unit {0}
 
 -- what is made for the user's statement is its checked tree, which can be carried out, or the number that it is judged to be refused by

@@ -18,7 +18,7 @@ use crate::answering::answered;
 use crate::copying::{copied_from, copied_into};
 use crate::laying::laid;
 use crate::planning::update_planned;
-use crate::refusing::refused;
+use crate::refusing::{refused, short};
 use crate::working::work_planned;
 use calculus::{Checked, Name, OutOfMemory, Reply, Update, Utility};
 use fault_io::{Shelf, ShelfFault};
@@ -34,6 +34,7 @@ fn update_done(alloc: Global, base: &mut DbPlain, u: &Update) -> Result<Reply, O
     match update_planned(alloc, base, u) {
         Ok(change) => laid(alloc, base, &change),
         Err(Stopped::No(number)) => Ok(refused(number)),
+        Err(Stopped::Base(fault)) => Err(short(fault)),
         Err(Stopped::OutOfMemory) => Err(OutOfMemory),
     }
 }
@@ -53,6 +54,7 @@ fn plan_done(
     match work_planned(alloc, base, user, work) {
         Ok(change) => laid(alloc, base, &change),
         Err(Stopped::No(number)) => Ok(refused(number)),
+        Err(Stopped::Base(fault)) => Err(short(fault)),
         Err(Stopped::OutOfMemory) => Err(OutOfMemory),
     }
 }

@@ -8,10 +8,11 @@ ghost use Rattle.quel_meaning.specs.Meaning.{utility_effect};
 ghost use Rattle.plain_base.specs.Shown.{database_of};
 ghost use Rattle.plain_statements.specs.Doable.{IsDoableWork};
 ghost use Rattle.plain_statements.specs.Standing.{Leaves};
-ghost use Rattle.plain_statements.specs.Stopping.{copy_answer};
+ghost use Rattle.plain_statements.specs.Stopping.{copy_answer, IsShortCopy};
 
 use crate::laying::laid;
 use crate::refusing::refused;
+use base_trait::BaseFault;
 use calculus::{Name, OutOfMemory, Refusal, Reply, Utility};
 use copy_util::{CopyFault, copy_from, copy_into};
 use fault_io::{Shelf, ShelfFault};
@@ -26,6 +27,7 @@ const NO_FILE: u8 = 32;
 
 /// What comes of a copy that isn't made.
 fn copy_answer(fault: CopyFault) -> Result<Reply, ShelfFault>
+    requires { IsShortCopy fault }
     ensures { result ≡ copy_answer fault }
 {
     match fault {
@@ -37,7 +39,9 @@ fn copy_answer(fault: CopyFault) -> Result<Reply, ShelfFault>
         })),
         CopyFault::NoFile => Ok(refused(NO_FILE)),
         CopyFault::Shelf => Err(ShelfFault::Failed),
-        CopyFault::Base(_) => Err(ShelfFault::OutOfMemory),
+        CopyFault::Base(BaseFault::OutOfMemory) => Err(ShelfFault::OutOfMemory),
+        CopyFault::Base(BaseFault::Disk) => unreachable!(),
+        CopyFault::Base(BaseFault::Damaged { file: _, page: _ }) => unreachable!(),
         CopyFault::OutOfMemory => Err(ShelfFault::OutOfMemory),
     }
 }

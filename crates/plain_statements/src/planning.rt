@@ -7,6 +7,7 @@ ghost use Rattle.calculus.specs.Replacement.{updated};
 ghost use Rattle.calculus.specs.Who.{Unrestricted};
 ghost use Rattle.plain_statements.specs.Doable.{IsDoableUpdate};
 ghost use Rattle.plain_statements.specs.Plans.{Plans};
+ghost use Rattle.plain_statements.specs.Stopping.{HasStopCause};
 
 use crate::Stopped;
 use crate::changing::changed_by;
@@ -25,6 +26,7 @@ pub(crate) fn update_planned<B: Base>(
     ensures known { (db : Db) → B.database base.old ≡ Some db
         → Plans (λ change. (updated db Unrestricted u.now ≡ Ok change) × IsLawful db change) (λ number. updated db Unrestricted u.now ≡ Err number) result }
     ensures kept { B.database base.new ≡ B.database base.old }
+    ensures cause { HasStopCause (B.database base.old) (B.faults base.old) (B.faults base.new) result }
 {
     let pairs = paired(alloc, base, u)?;
     changed_by(alloc, base, u, pairs)

@@ -1,6 +1,6 @@
 //! Runs a statement of a user on a database in memory, the range variables and a shelf.
 
-ghost use Rattle.std.specs.Prelude.{◌≡◌, true, false, None, Some, IfOk, IfSome, OnErr};
+ghost use Rattle.std.specs.Prelude.{◌≡◌, true, false, None, Some, IfErr, IfOk, IfSome, OnErr};
 ghost use Rattle.calculus.specs.Who.{asker_of};
 ghost use Rattle.calculus.specs.declared.statement.Statement.{Statement as Stated};
 ghost use Rattle.calculus.specs.declared.statement.Statement.TheVariants.{Range};
@@ -14,11 +14,11 @@ ghost use Rattle.session_run.specs.Standing.{Comes, state_on};
 ghost use Rattle.plain_base.specs.Shown.{database_of};
 ghost use Rattle.plain_statements.specs.Doable.{IsDoable};
 ghost use Rattle.plain_statements.specs.Plans.{IsMade};
-ghost use Rattle.plain_statements.specs.Stopping.{without_shelf};
+ghost use Rattle.plain_statements.specs.Stopping.{IsShort, without_shelf};
 
 use crate::Stopped;
 use crate::carrying::{tree_done, without_shelf};
-use crate::refusing::{answer_to, refused};
+use crate::refusing::{answer_to, refused, short};
 use crate::trees::tree_of;
 use base_trait::Base;
 use calculus::{Checked, Name, OutOfMemory, Reply, Statement, TryCopy};
@@ -49,7 +49,7 @@ fn declared(
             Ok(Reply::Nothing)
         }
         Ok(None) => Ok(refused(NO_RELATION)),
-        Err(_) => Err(OutOfMemory),
+        Err(fault) => Err(short(fault)),
     }
 }
 
@@ -61,7 +61,8 @@ fn made_done<H: Shelf>(
     user: &Name,
     made: Result<Checked, Stopped>,
 ) -> Result<Reply, ShelfFault>
-    requires { IfOk made (λ tree. IsDoable (database_of base.old) user.now tree) }
+    requires doable { IfOk made (λ tree. IsDoable (database_of base.old) user.now tree) }
+    requires short { IfErr made IsShort }
     ensures done { (ranges : Ranges) (s : Stated) (files : Files) → H.files shelf.old ≡ Some files → IsMade (database_of base.old) user.now ranges s made
         → IfOk result (λ reply. Comes (judged_outcome (state_on (database_of base.old) ranges files) (asker_of user.now) (judged (database_of base.old) (asker_of user.now) ranges s)) (database_of base.new) ranges (H.files shelf.new) reply) }
     ensures same { OnErr result (database_of base.new ≡ database_of base.old) }

@@ -3,6 +3,7 @@
 ghost use Rattle.std.specs.Prelude.{◌≡◌};
 ghost use Rattle.plain_statements.specs.Stopping.{change_stop, check_stop, pair_stop, query_stop, utility_stop};
 
+use base_trait::BaseFault;
 use decompose::QueryFault;
 use quel_resolve::CheckFault;
 use stage_proc::PairFault;
@@ -26,6 +27,8 @@ const TOO_MANY: u8 = 29;
 pub enum Stopped {
     /// The number of what refuses the statement.
     No(u8),
+    /// A call of the database failed.
+    Base(BaseFault),
     /// No memory was left.
     OutOfMemory,
 }
@@ -36,7 +39,7 @@ impl From<QueryFault> for Stopped {
     fn from(fault: QueryFault) -> Stopped {
         match fault {
             QueryFault::NoValue { at: _ } => Stopped::No(NO_VALUE),
-            QueryFault::Base(_) => Stopped::OutOfMemory,
+            QueryFault::Base(fault) => Stopped::Base(fault),
             QueryFault::OutOfMemory => Stopped::OutOfMemory,
         }
     }
@@ -65,7 +68,7 @@ impl From<UpdateFault> for Stopped {
                 second: _,
             } => Stopped::No(CONTENDED),
             UpdateFault::TooMany { rows: _ } => Stopped::No(TOO_MANY),
-            UpdateFault::Base(_) => Stopped::OutOfMemory,
+            UpdateFault::Base(fault) => Stopped::Base(fault),
             UpdateFault::OutOfMemory => Stopped::OutOfMemory,
         }
     }
@@ -77,7 +80,7 @@ impl From<UtilFault> for Stopped {
     fn from(fault: UtilFault) -> Stopped {
         match fault {
             UtilFault::No(number) => Stopped::No(number),
-            UtilFault::Base(_) => Stopped::OutOfMemory,
+            UtilFault::Base(fault) => Stopped::Base(fault),
             UtilFault::OutOfMemory => Stopped::OutOfMemory,
         }
     }
@@ -89,7 +92,7 @@ impl From<CheckFault> for Stopped {
     fn from(fault: CheckFault) -> Stopped {
         match fault {
             CheckFault::No(number) => Stopped::No(number),
-            CheckFault::Base(_) => Stopped::OutOfMemory,
+            CheckFault::Base(fault) => Stopped::Base(fault),
             CheckFault::OutOfMemory => Stopped::OutOfMemory,
         }
     }

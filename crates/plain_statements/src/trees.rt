@@ -4,6 +4,7 @@ ghost use Rattle.std.specs.Prelude.{◌≡◌, true, Some};
 ghost use Rattle.calculus.specs.Database.{Db};
 ghost use Rattle.quel_meaning.specs.IsWritten.{is_written};
 ghost use Rattle.plain_statements.specs.Plans.{IsMade};
+ghost use Rattle.plain_statements.specs.Stopping.{HasStopCause};
 
 use crate::Stopped;
 use base_trait::Base;
@@ -25,6 +26,7 @@ pub(crate) fn tree_of<B: Base>(
     requires { is_written s.now ≡ true }
     ensures known { (db : Db) → B.database base.old ≡ Some db → IsMade db user.now ranges.now s.now result }
     ensures kept { B.database base.new ≡ B.database base.old }
+    ensures cause { HasStopCause (B.database base.old) (B.faults base.old) (B.faults base.new) result }
 {
     let tree = checked(alloc, s, user, ranges, base)?;
     Ok(tree)

@@ -7,6 +7,7 @@ ghost use Rattle.plan_laws.specs.Fitting.{is_copy};
 ghost use Rattle.quel_meaning.specs.Planned.{planned};
 ghost use Rattle.plain_statements.specs.Doable.{IsDoableWork};
 ghost use Rattle.plain_statements.specs.Plans.{Plans};
+ghost use Rattle.plain_statements.specs.Stopping.{HasStopCause};
 
 use crate::Stopped;
 use base_trait::Base;
@@ -26,6 +27,7 @@ pub(crate) fn work_planned<B: Base>(
     ensures known { (db : Db) → B.database base.old ≡ Some db
         → Plans (λ change. (planned db user.now work.now ≡ Ok change) × IsLawful db change) (λ number. planned db user.now work.now ≡ Err number) result }
     ensures kept { B.database base.new ≡ B.database base.old }
+    ensures cause { HasStopCause (B.database base.old) (B.faults base.old) (B.faults base.new) result }
 {
     let change = plan(alloc, base, user, work)?;
     Ok(change)

@@ -1,11 +1,13 @@
 use Rattle.std.proofs.Common.{refl, sym, subst, ◌∙◌}
 use Rattle.std.proofs.lemmas.Option.{same_Some}
 use Rattle.calculus.specs.Change.{IsLawful}
+use Rattle.calculus.specs.declared.change.DbChange.{DbChange}
 use Rattle.calculus.specs.Database.{Db}
 use Rattle.quel_meaning.specs.Meaning.{utility_effect}
 use Rattle.plain_base.specs.Shown.{database_of}
 use Rattle.plain_statements.specs.Standing.{Leaves}
 use Rattle.plain_statements.proofs.Copied.{from_done, from_answered, copy_caused, answer_is, same_left, laid_same}
+use Rattle.plain_statements.proofs.Short.{short_copy}
 use Rattle.plain_statements.proofs.copying.copied_from.Goals as goal
 
 pub laid-requires : goal.laid-requires
@@ -32,3 +34,6 @@ returns-clause-done g c = λ files e.
 
 pub returns-clause-cause : goal.returns-clause-cause
 returns-clause-cause g c = copy_caused _ _ _ _ _ c.in-Err.fault c.in-Err.ensures.cause c.copy_answer.result c.copy_answer.ensures
+
+pub copy_answer-requires : goal.copy_answer-requires
+copy_answer-requires g c = short_copy DbChange (database_of c.args.base.now) c.in-Err.fault c.in-Err.ensures.cause.caused

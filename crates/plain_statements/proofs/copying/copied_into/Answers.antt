@@ -4,6 +4,7 @@ use Rattle.quel_meaning.specs.Meaning.{utility_effect}
 use Rattle.plain_base.specs.Shown.{database_of}
 use Rattle.plain_statements.specs.Standing.{Leaves}
 use Rattle.plain_statements.proofs.Copied.{into_done, into_answered, copy_caused, answer_is, same_left, left_same}
+use Rattle.plain_statements.proofs.Short.{short_copy}
 use Rattle.plain_statements.proofs.copying.copied_into.Goals as goal
 
 pub returns-in-Ok-clause-done : goal.returns-in-Ok-clause-done
@@ -24,3 +25,6 @@ returns-in-Err-clause-done g c = λ files e.
 
 pub returns-in-Err-clause-cause : goal.returns-in-Err-clause-cause
 returns-in-Err-clause-cause g c = copy_caused _ _ _ _ _ c.in-Err.fault c.in-Err.ensures.cause c.copy_answer.result c.copy_answer.ensures
+
+pub copy_answer-requires : goal.copy_answer-requires
+copy_answer-requires g c = short_copy (Unit {0}) (database_of c.args.base.now) c.in-Err.fault c.in-Err.ensures.cause.caused

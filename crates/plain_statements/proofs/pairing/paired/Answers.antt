@@ -1,6 +1,8 @@
 use Rattle.std.proofs.Common.{◌≡◌, ℕ, Err, sym, subst}
 use Rattle.calculus.specs.Replacement.{updated}
 use Rattle.calculus.specs.Who.{Unrestricted}
+use Rattle.plain_statements.specs.Stopping.{StopsBy}
+use Rattle.plain_statements.proofs.Short.{stopped_by, pair_caused}
 use Rattle.plain_statements.proofs.Stops.{RefusedBy, refused_by, pair_stops}
 use Rattle.plain_statements.proofs.pairing.paired.Goals as goal
 
@@ -18,3 +20,8 @@ returns-in_err-pairs-clause-known g c = λ db e.
     let refuses : ℕ → Type 0 = λ number. updated db Unrestricted c.args.u.now ≡ Err number in
     refused_by _ refuses c.from_residual.result c.from_residual.ensures
     (λ stop is. subst (RefusedBy refuses) (sym is) (pair_stops db c.args.u.now _ _ _ c.in_err-pairs.field-0.0 e c.in_err-pairs.ensures.cause.caused))
+
+pub returns-in_err-pairs-clause-cause : goal.returns-in_err-pairs-clause-cause
+returns-in_err-pairs-clause-cause g c =
+    stopped_by (g.B.Base.database c.args.base.now) _ _ c.from_residual.result c.from_residual.ensures c.in_err-pairs.ensures.cause.later
+    (λ stop is. subst (StopsBy (g.B.Base.database c.args.base.now) _ _) (sym is) (pair_caused c.args.u.now _ _ _ c.in_err-pairs.field-0.0 c.in_err-pairs.ensures.cause.caused))

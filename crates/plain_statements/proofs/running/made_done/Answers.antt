@@ -1,4 +1,5 @@
 use Rattle.std.proofs.Common.{◌≡◌, ℕ, subst}
+use Rattle.std.specs.Prelude.{IfErr}
 use Rattle.calculus.specs.declared.reply.Reply.TheVariants.{Refused}
 use Rattle.calculus.specs.Who.{Unrestricted, asker_of}
 use Rattle.quel_meaning.specs.Copying.{refusal}
@@ -8,6 +9,7 @@ use Rattle.plain_base.specs.Shown.{database_of}
 use Rattle.plain_statements.specs.declared.stopped.Stopped.TheVariants.{No}
 use Rattle.plain_statements.specs.Plans.{IsMade}
 use Rattle.plain_statements.specs.Standing.{Leaves}
+use Rattle.plain_statements.specs.Stopping.{IsShort}
 use Rattle.plain_statements.proofs.Effects.{ok_to, shelf_kept, shelf_unasked}
 use Rattle.plain_statements.proofs.Runs.{tree_outcome, refused_outcome}
 use Rattle.plain_statements.proofs.running.made_done.Goals as goal
@@ -30,3 +32,6 @@ returns-in-Err-clause-done g c = λ ranges s files e made.
 
 pub returns-in-Err-clause-cause : goal.returns-in-Err-clause-cause
 returns-in-Err-clause-cause g c = shelf_unasked (g.H.Shelf.faults c.args.shelf.now) c.answer_to.result c.without_shelf.result c.without_shelf.ensures
+
+pub answer_to-requires : goal.answer_to-requires
+answer_to-requires g c = subst (λ m. IfErr m IsShort) c.in-Err.is c.requires.short
