@@ -7,6 +7,7 @@ usage: words.py begin                                   remember the text as it 
        words.py text OLD NEW GLOB ..                    a regular expression, over whole files
        words.py prose OLD NEW GLOB ..                   a regular expression, in comments and .md files alone
        words.py path FILE FILE                          another name for a file of src/, specs/ or proofs/
+       words.py folder FOLDER FOLDER                    another name for the folder of a function's proof
        words.py quoted                                  names in backticks, in comments and .md files, as they were renamed
        words.py group TEXT                              begins a group
        words.py verify                                  compares with what `begin` remembered
@@ -427,6 +428,23 @@ def path(given):
     keep(it)
 
 
+def folder(given):
+    """Another name for the folder of what is written of a function's proof."""
+    if not os.path.isdir(given.old):
+        print(f"NOTHING: there is no {given.old}")
+        return
+    it = state()
+    for at, _, names in list(os.walk(given.old)):
+        for name in names:
+            was = f"{at}/{name}"
+            to = given.new + was[len(given.old) :]
+            it["paths"][to] = it["paths"].pop(was, was)
+    os.rename(given.old, given.new)
+    print(f"{given.old} is {given.new}")
+    log(it, title=f"{given.old} is {given.new}", count=1, pairs=[])
+    keep(it)
+
+
 def begin(given):
     base = {path: read(path) for path in tree()}
     keep({"group": "", "steps": [], "paths": {}, "same_file": [], "base": base, "known_before": imports()})
@@ -633,6 +651,7 @@ def main():
         "text": (text, ("old", "new", "files*")),
         "prose": (prose, ("old", "new", "files*")),
         "path": (path, ("old", "new")),
+        "folder": (folder, ("old", "new")),
         "quoted": (quoted, ()),
         "verify": (verify, ()),
     }

@@ -1,0 +1,96 @@
+# The groups of words_2.sh.
+ALL="$(ls crates)"
+BUT="crates/none"
+
+g "10 judge: what is done; needs_no_query, not_the_owner, may_not_grant, mentions_only; present, absent; shifted; unescaped bytes of a constant"
+# tests and lemmas with a meaning of their own
+w judged kind_of_disk store_tests
+w judged_fault kind_of_fault store_tests
+s judged read_back tree_tests
+w judged update_outcome 'crates/plain_statements/proofs/Outcomes.antt'
+w judged_is updated_is 'crates/plain_statements/proofs/Outcomes.antt'
+# stage 2, at a statement
+w Judges Checks network_meaning
+w JudgeShape CheckShape network_meaning
+s judges checks network_meaning
+s judge check network_meaning
+s judged checked network_meaning
+# the tree that a statement asks for, or the number that refuses it
+w judged_by checked_tree_by $ALL
+w judged_tree tree_if_permitted $ALL
+w judged_tree_alike tree_if_permitted_alike schema_laws
+w judged_outcome checked_outcome $ALL
+w judged checked_tree $(ls crates | grep -vxE 'quel_resolve')
+w judged checked quel_resolve
+w statements_do_what_they_are_judged_to_ask_for statements_do_what_they_ask_for quel_meaning
+w IsJudged IsCheckedTree quel_meaning
+w parts_are_judged_together parts_are_checked_together calculus_examples quel_examples
+f crates/quel_meaning/src/judging_laws.rt crates/quel_meaning/src/checking_laws.rt
+f crates/quel_meaning/proofs/Judged.antt crates/quel_meaning/proofs/CheckedTrees.antt
+f crates/schema_laws/src/judging.rt crates/schema_laws/src/checking.rt
+f crates/schema_laws/proofs/Judged.antt crates/schema_laws/proofs/CheckedTrees.antt
+f crates/copy_util/src/judging.rt crates/copy_util/src/rule_keeping.rt
+f crates/copy_util/proofs/Judged.antt crates/copy_util/proofs/RuleKeeping.antt
+f crates/utilities/src/judging.rt crates/utilities/src/meeting.rt
+# the number that refuses a statement
+w is_judged is_checked quel_refusals quel_resolve
+f crates/quel_refusals/specs/Judged.antt crates/quel_refusals/specs/CheckedStatements.antt
+f crates/quel_refusals/src/judging.rt crates/quel_refusals/src/refusing.rt
+f crates/quel_resolve/src/judging.rt crates/quel_resolve/src/refusing.rt
+w judge unless_refused quel_resolve
+w judge_update update_unless_refused quel_resolve
+t '^(pub fn )cause(?=<)' '\1find_refusal' 'crates/quel_refusals/src/refusing.rt'
+t '\brefusing::cause;' 'refusing::find_refusal;' 'crates/quel_refusals/src/lib.rt'
+t '\bquel_refusals::cause;' 'quel_refusals::find_refusal;' quel_resolve
+t '\bmatch cause\(' 'match find_refusal(' 'crates/quel_resolve/src/refusing.rt'
+d crates/quel_refusals/proofs/refusing/cause crates/quel_refusals/proofs/refusing/find_refusal
+t '(quel_refusals\.proofs\.refusing\.)cause\b' '\1find_refusal' 'crates/quel_refusals/proofs/refusing/find_refusal/*'
+w judged_alike checked_tree_alike schema_laws
+w judged_permitted checked_tree_permitted quel_meaning
+s judged checked $ALL
+for it in into print retrieve create view permit delete attrs row made kept shown; do
+  w ${it}_cause ${it}_refusal quel_refusals
+done
+for it in destroying permits rules permitting listed; do
+  w ${it}_cause ${it}_refusal utilities
+done
+w index_cause index_refusal utility_trees
+# statements that need no query
+w is_served needs_no_query utility_trees quel_resolve
+w served tree_without_query utility_trees
+w served tree_without_query quel_resolve
+w not_served checked_if_query quel_resolve
+f crates/utility_trees/src/serving.rt crates/utility_trees/src/without_query.rt
+f crates/utility_trees/specs/Served.antt crates/utility_trees/specs/WithoutQuery.antt
+f crates/quel_resolve/proofs/NotServed.antt crates/quel_resolve/proofs/WithQuery.antt
+# owners
+w is_none_to_permit may_not_grant $ALL
+w is_anothers is_not_the_owner $ALL
+w some_anothers some_not_the_owners utilities
+w anothers not_the_owner utilities
+w ANOTHERS NOT_THE_OWNER utilities
+# small ones
+w names_only mentions_only decompose
+w those_there rows_present update_change
+w those_absent rows_absent update_change
+f crates/update_change/src/there.rt crates/update_change/src/present.rt
+w is_so condition_holds view_text
+w are_so conditions_hold view_text
+w many times 'crates/tree_laws/proofs/Counted.antt' 'crates/tree_laws/proofs/QueryLevels.antt' 'crates/tree_laws/proofs/TextLaws.antt'
+w many_more times_more tree_laws
+# variables further on
+w shifted next_shifted 'crates/tree_laws/proofs/FitExpansions.antt'
+s moved shifted view_text view_tests spelling_laws tree_laws cut_rules view_expand
+f crates/view_text/src/moved.rt crates/view_text/src/shifted.rt
+# the bytes of a text constant, unescaped
+f crates/calculus/src/mark.rt crates/calculus/src/unescaped.rt
+MARKED="$(grep -rlE "next_mark|specs\.Constant\.\{[^}]*\bmarks?\b|declared\.unescaped\.Mark\b|\bin-Some\.mark\b|then-mark-ne32" crates --include=*.rt --include=*.antt --include=*.edit | grep -v /out/) crates/calculus/src/unescaped.rt crates/calculus/specs/Constant.antt"
+w next_mark next_unescaped $MARKED
+w marks_behind unescaped_behind $MARKED
+w mark unescaped_byte $MARKED
+w marks unescaped $MARKED
+w Mark Unescaped $MARKED
+p '\b([Tt])he marks\b' '\1he unescaped bytes' scalar_eval calculus
+p '\bsome marks\b' 'some unescaped bytes' scalar_eval
+p '\bWhether the mark is\b' 'Whether the unescaped byte is' scalar_eval
+q --keep served judged judge mark marks Mark many many_more moved moved_by one
