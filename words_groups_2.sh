@@ -84,7 +84,7 @@ s moved shifted view_text view_tests spelling_laws tree_laws cut_rules view_expa
 f crates/view_text/src/moved.rt crates/view_text/src/shifted.rt
 # the bytes of a text constant, unescaped
 f crates/calculus/src/mark.rt crates/calculus/src/unescaped.rt
-MARKED="$(grep -rlE "next_mark|specs\.Constant\.\{[^}]*\bmarks?\b|declared\.unescaped\.Mark\b|\bin-Some\.mark\b|then-mark-ne32" crates --include=*.rt --include=*.antt --include=*.edit | grep -v /out/) crates/calculus/src/unescaped.rt crates/calculus/specs/Constant.antt"
+MARKED="$(grep -rlE "next_mark|specs\.Constant\.\{[^}]*\bmarks?\b|declared\.unescaped\.Mark\b|\bin-Some\.mark\b|then-mark-ne32" crates --include=*.rt --include=*.antt --include=*.edit | grep -v /out/) crates/calculus/src/unescaped.rt crates/calculus/specs/Constant.antt" || true
 w next_mark next_unescaped $MARKED
 w marks_behind unescaped_behind $MARKED
 w mark unescaped_byte $MARKED
@@ -93,4 +93,30 @@ w Mark Unescaped $MARKED
 p '\b([Tt])he marks\b' '\1he unescaped bytes' scalar_eval calculus
 p '\bsome marks\b' 'some unescaped bytes' scalar_eval
 p '\bWhether the mark is\b' 'Whether the unescaped byte is' scalar_eval
+w judging_has checking_has quel_network
+f crates/view_text/proofs/Moving.antt crates/view_text/proofs/Shifting.antt
+SAID='crates/**/* docs/guarantees.md docs/language.md docs/DECISIONS.md docs/next.md'
+p '\bTests of checking, naming, asking, judging and\b' 'Tests of checking, naming, asking, refusing and' statement_tests
+p '\bare so judged\b' 'are read back so' tree_tests
+p '\b(what|tree that) (a statement|it) is judged to ask for\b' '\1 \2 asks for' $SAID
+p '\bwhat it is judged to ask for\b' 'what it asks for' $SAID
+p '\bthe number that it is judged to be refused (by|with)\b' 'the number that refuses it' $SAID
+p '\bresolved to and judged to ask for\b' 'resolved to and asks for' $SAID
+p "\b(is|isn't|are|has|trees|a|the|asks for,) judged\b" '\1 checked' $SAID
+p '\bjudges\b' 'checks' $SAID
+p '`judging_laws`' '`checking_laws`' quel_meaning
+for it in 'gives the number' 'says nothing, and answers' 'through `quel_resolve`'; do
+  t "\`cause\`(?= $it)" '`find_refusal`' 'crates/quel_refusals/README.md'
+done
+t '\bhas `cause`, `retrieved' 'has `find_refusal`, `retrieved' 'crates/quel_refusals/README.md'
+t '^Of `cause`, for every base' 'Of `find_refusal`, for every base' 'crates/quel_refusals/README.md'
+t '`specs/Judged`; an arm in `src/judging.rt`' '`specs/CheckedStatements`; an arm in `src/refusing.rt`' docs/developing.md
+t '`rt plant`, of `served`' '`rt plant`, of `tree_without_query`' docs/planted.md
+t '\ba statement that is served asks for nothing' 'a statement that needs no query asks for nothing' docs/planted.md
+t '`src/judging.rt`: at most 14' '`src/refusing.rt`: at most 14' docs/planted.md
+p "\bisn't served without (a query|one)" 'needs a query' quel_resolve
+p '\bhas moved\b' 'is shifted' tree_laws view_text
+p '\bhave moved\b' 'are shifted' tree_laws view_text
+p '\bwhat is moved\b' 'what is shifted' tree_laws view_text
+p '\bmay move as far\b' 'may be shifted as far' view_text
 q --keep served judged judge mark marks Mark many many_more moved moved_by one
