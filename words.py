@@ -47,6 +47,12 @@ def state():
         return json.load(it)
 
 
+def remembered():
+    """The text as `begin` saw it, and what was amiss then. Apart, as it is long."""
+    with open(STATE + ".base", encoding="utf-8") as it:
+        return json.load(it)
+
+
 def keep(it):
     with open(STATE, "w", encoding="utf-8") as out:
         json.dump(it, out)
@@ -447,7 +453,9 @@ def folder(given):
 
 def begin(given):
     base = {path: read(path) for path in tree()}
-    keep({"group": "", "steps": [], "paths": {}, "same_file": [], "base": base, "known_before": imports()})
+    keep({"group": "", "steps": [], "paths": {}, "same_file": []})
+    with open(STATE + ".base", "w", encoding="utf-8") as out:
+        json.dump({"base": base, "known_before": imports()}, out)
 
 
 def group(given):
@@ -470,8 +478,7 @@ def declared(text):
 
 
 def verify(given):
-    it = state()
-    base, paths = it["base"], it["paths"]
+    base, paths = remembered()["base"], state()["paths"]
     problems, alike = [], []
     built = {}
     for path in tree():
@@ -515,7 +522,8 @@ def verify(given):
                     problems.append(f"{path}: {x} is now {y}, a word of the language")
     for was in set(base) - seen:
         problems.append(f"{was}: gone")
-    problems += [it for it in imports() if it not in state()["known_before"]]
+    before = set(remembered()["known_before"])
+    problems += [it for it in imports() if it not in before]
     once = list(dict.fromkeys(problems))
     alike += ["---- labels whose old name is still declared"] + labels()
     with open("/tmp/words-labels.txt", "w", encoding="utf-8") as out:
@@ -527,8 +535,7 @@ def verify(given):
 
 def labels():
     """Fields and clauses that are renamed where they are used, though a crate below still declares the old name."""
-    it = state()
-    base, paths = it["base"], it["paths"]
+    base, paths = remembered()["base"], state()["paths"]
     rows = {row.name: set(row.needs) for row in L.rows_of(read("crates.txt"))[1]}
     below = {name: L.closure(rows, rows[name]) for name in rows}
     declared_in, used = {}, {}

@@ -95,15 +95,15 @@ p '\bsome marks\b' 'some unescaped bytes' scalar_eval
 p '\bWhether the mark is\b' 'Whether the unescaped byte is' scalar_eval
 w judging_has checking_has quel_network
 f crates/view_text/proofs/Moving.antt crates/view_text/proofs/Shifting.antt
-SAID='crates/**/* docs/guarantees.md docs/language.md docs/DECISIONS.md docs/next.md'
+SAID=('crates/**/*' docs/guarantees.md docs/language.md docs/DECISIONS.md docs/next.md)
 p '\bTests of checking, naming, asking, judging and\b' 'Tests of checking, naming, asking, refusing and' statement_tests
 p '\bare so judged\b' 'are read back so' tree_tests
-p '\b(what|tree that) (a statement|it) is judged to ask for\b' '\1 \2 asks for' $SAID
-p '\bwhat it is judged to ask for\b' 'what it asks for' $SAID
-p '\bthe number that it is judged to be refused (by|with)\b' 'the number that refuses it' $SAID
-p '\bresolved to and judged to ask for\b' 'resolved to and asks for' $SAID
-p "\b(is|isn't|are|has|trees|a|the|asks for,) judged\b" '\1 checked' $SAID
-p '\bjudges\b' 'checks' $SAID
+p '\b(what|tree that) (a statement|it) is judged to ask for\b' '\1 \2 asks for' "${SAID[@]}"
+p '\bwhat it is judged to ask for\b' 'what it asks for' "${SAID[@]}"
+p '\bthe number that it is judged to be refused (by|with)\b' 'the number that refuses it' "${SAID[@]}"
+p '\bresolved to and judged to ask for\b' 'resolved to and asks for' "${SAID[@]}"
+p "\b(is|isn't|are|has|trees|a|the|asks for,|titles are) judged\b" '\1 checked' "${SAID[@]}"
+p '\bjudges\b' 'checks' "${SAID[@]}"
 p '`judging_laws`' '`checking_laws`' quel_meaning
 for it in 'gives the number' 'says nothing, and answers' 'through `quel_resolve`'; do
   t "\`cause\`(?= $it)" '`find_refusal`' 'crates/quel_refusals/README.md'

@@ -4,8 +4,8 @@ ghost use Rattle.std.specs.Prelude.{◌≡◌, ◌≤◌, length, map, vec_items
 ghost use Rattle.calculus.specs.Constant.{constant_text};
 ghost use Rattle.calculus.specs.Kinds.{kind_of, kinds_fit, attribute_kind, constant_kind, text_width, is_number_kind, number_kind, operated_kind, joined_kind, comparable, is_text_kind};
 
-use crate::mark::next_mark;
 use crate::query::{QQual, QTerm};
+use crate::unescaped::next_unescaped;
 use crate::value::{Domain, Kind};
 
 /// The number of bytes of a text constant, escapes removed and without the blanks at their end.
@@ -16,9 +16,9 @@ fn constant_length(written: &[u8]) -> usize
     let mut rest = written;
     let mut read = 0;
     let mut kept = 0;
-    'bytes: while let Some((mark, behind)) = next_mark(rest) {
+    'bytes: while let Some((unescaped_byte, behind)) = next_unescaped(rest) {
         read += 1;
-        if mark.byte != b' ' {
+        if unescaped_byte.byte != b' ' {
             kept = read;
         }
         rest = behind;

@@ -6,7 +6,7 @@ pub mod Digits
 pub mod FileRead
 pub mod Fitting
 pub mod Held
-pub mod Judged
+pub mod RuleKeeping
 pub mod RecordRead
 pub mod Known
 pub mod Written

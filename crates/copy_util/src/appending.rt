@@ -12,7 +12,7 @@ ghost use Rattle.quel_meaning.specs.Copying.{keeps_rules, refusal as refusal_of,
 ghost use Rattle.copy_util.specs.Causes.{Copies, HasBaseCause};
 
 use crate::CopyFault;
-use crate::judging::kept_rows;
+use crate::rule_keeping::kept_rows;
 use base_trait::{Base, BaseFault};
 use calculus::{DbChange, List, OutOfMemory, RelKey, Row, RowSet, TryCopy};
 use std::alloc::Global;

@@ -12,7 +12,7 @@ use Rattle.calculus.specs.Database.{Db, Relation, View, relation_at, view_at, is
 use Rattle.calculus.specs.Catalogue.{relation_key, attribute_key, is_catalogue, catalogue_at, relation_info, attribute_info, relation_row, attribute_rows, all_entries}
 use Rattle.calculus.specs.Stored.{Range, Kept, Viewed, range_at}
 use Rattle.calculus.specs.Replacement.{first_refusal}
-use Rattle.quel_meaning.specs.Planned.{plan_refusals, plan_change, planned, has_view, is_anothers, is_none_to_permit}
+use Rattle.quel_meaning.specs.Planned.{plan_refusals, plan_change, planned, has_view, is_not_the_owner, may_not_grant}
 use Rattle.plan_laws.specs.Fitting.{is_ranged}
 
 -- ---- no cause is there
@@ -78,11 +78,11 @@ base_relation db key there catalogue view = go (relation_at db key) (view_at db 
 
 -- ---- the owner
 
-pub owner_is : (user : List ℕ) (key : RelKey) → is_anothers user key ≡ false → key.owner ≡ user
+pub owner_is : (user : List ℕ) (key : RelKey) → is_not_the_owner user key ≡ false → key.owner ≡ user
 owner_is user key h = (bytes_eq-Decides key.owner user).0 (is_not (bytes_eq key.owner user) h)
 
 -- one who may give permits on it is the administrator, and its owner
-pub administrator_owns : (db : Db) (user : List ℕ) (key : RelKey) → is_none_to_permit db user key ≡ false → bytes_eq key.owner db.dba ≡ true
+pub administrator_owns : (db : Db) (user : List ℕ) (key : RelKey) → may_not_grant db user key ≡ false → bytes_eq key.owner db.dba ≡ true
 administrator_owns db user key h =
-    let parts = neither (is_anothers user key) (not (bytes_eq db.dba user)) h in
+    let parts = neither (is_not_the_owner user key) (not (bytes_eq db.dba user)) h in
     (bytes_eq-Decides key.owner db.dba).1 (owner_is user key parts.0 ∙ sym ((bytes_eq-Decides db.dba user).0 (is_not (bytes_eq db.dba user) parts.1)))

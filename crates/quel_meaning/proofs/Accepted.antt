@@ -20,8 +20,8 @@ use Rattle.quel_meaning.specs.Purpose.{Prints, purpose_of, purpose, refusal_numb
 use Rattle.quel_meaning.specs.StatementUpdate.{append_of, replace_of, delete_of, into_of}
 
 -- the tree, or the number of a name, else of a cause
-judged : Option ℕ → Option ℕ → Checked → Result Checked ℕ
-judged names more tree = elim names [ Some n ↦ Err n | None ↦ elim more [ Some n ↦ Err n | None ↦ Ok tree ] ]
+checked_tree : Option ℕ → Option ℕ → Checked → Result Checked ℕ
+checked_tree names more tree = elim names [ Some n ↦ Err n | None ↦ elim more [ Some n ↦ Err n | None ↦ Ok tree ] ]
 
 -- nothing refuses a statement, and this is its tree
 pub record IsAccepted (s : Scope) (stmt : Statement) (tree : Checked) : Type 0 where
@@ -34,11 +34,11 @@ scope db user ranges = record { db = db; user = user; ranges = ranges }
 
 pub accepted : (db : Db) (user : List ℕ) (ranges : Ranges) (stmt : Statement) (tree : Checked) → resolved db user ranges stmt ≡ Ok tree
     → IsAccepted (scope db user ranges) stmt tree
-unfolding resolved judged
+unfolding resolved checked_tree
 accepted db user ranges stmt tree e = go (name_refusal (scope db user ranges) stmt) (first_refusal (refusals (scope db user ranges) stmt)) refl refl e
   where
     go : (names more : Option ℕ) → name_refusal (scope db user ranges) stmt ≡ names → first_refusal (refusals (scope db user ranges) stmt) ≡ more
-        → judged names more (tree_of (scope db user ranges) stmt) ≡ Ok tree → IsAccepted (scope db user ranges) stmt tree
+        → checked_tree names more (tree_of (scope db user ranges) stmt) ≡ Ok tree → IsAccepted (scope db user ranges) stmt tree
     go (Some n) more h k e = absurd (cc e)
     go None (Some n) h k e = absurd (cc e)
     go None None h k e = record { names = h; none = k; is = cc e }
@@ -171,15 +171,15 @@ in_second [] ns n h = h
 in_second (m ∷ ms) ns n h = or_true (nat_eq m n) _ (in_second ms ns n h)
 
 refused : (names more : Option ℕ) (tree : Checked) (numbers : List ℕ) → IsOfNames names → ((n : ℕ) → more ≡ Some n → has_number numbers n ≡ true)
-    → (n : ℕ) → judged names more tree ≡ Err n → has_number (of_names ++ numbers) n ≡ true
-unfolding judged IsOfNames
+    → (n : ℕ) → checked_tree names more tree ≡ Err n → has_number (of_names ++ numbers) n ≡ true
+unfolding checked_tree IsOfNames
 refused (Some k) more tree numbers h g n e = in_both of_names numbers n (h n (cc e))
 refused None (Some k) tree numbers h g n e = in_second of_names numbers n (g n (cc e))
 refused None None tree numbers h g n e = absurd (cc e)
 
 pub refused_by : (db : Db) (user : List ℕ) (ranges : Ranges) (stmt : Statement) (n : ℕ) → resolved db user ranges stmt ≡ Err n
     → has_number (of_names ++ refusal_numbers stmt) n ≡ true
-unfolding resolved judged name_refusal
+unfolding resolved checked_tree name_refusal
 refused_by db user ranges stmt n e =
     refused (name_refusal (scope db user ranges) stmt) (first_refusal (refusals (scope db user ranges) stmt)) (tree_of (scope db user ranges) stmt) (refusal_numbers stmt)
     (of_mentions (scope db user ranges) (mentions (scope db user ranges) stmt))

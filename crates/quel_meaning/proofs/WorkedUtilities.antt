@@ -18,7 +18,7 @@ use Rattle.calculus.specs.Answer.{answer, lacks}
 use Rattle.calculus.specs.Assignments.{assigned}
 use Rattle.calculus.specs.Catalogue.{catalogue_at}
 use Rattle.calculus.specs.Change.{laid}
-use Rattle.calculus.specs.Constant.{constant_text, marks}
+use Rattle.calculus.specs.Constant.{constant_text, unescaped}
 use Rattle.calculus.specs.Pattern.{matches, items, fits_items}
 use Rattle.calculus.specs.Rights.{may, covers}
 use Rattle.calculus.specs.Stored.{range_at, info_at}
@@ -55,5 +55,5 @@ made_and_destroyed : replies (effects nothing []
       rows = (Text (codes "p") ∷ Text (codes "heap") ∷ Int (pos 1) ∷ []) ∷ (Text (codes "pi") ∷ Text (codes "index") ∷ Int (pos 1) ∷ []) ∷ [];
     }) ∷ [])
     ∷ Done ∷ Done ∷ Done ∷ []
-unfolding tree_meaning utility_effect planned plan_refusals plan_change laid table_of some_query_lacks sorted rows_order answer lacks rows_given some_lacks assigned rows_of aggregates range_at info_at catalogue_at may covers val holds attribute_value compared_values matched_value constant_text marks matches items fits_items
+unfolding tree_meaning utility_effect planned plan_refusals plan_change laid table_of some_query_lacks sorted rows_order answer lacks rows_given some_lacks assigned rows_of aggregates range_at info_at catalogue_at may covers val holds attribute_value compared_values matched_value constant_text unescaped matches items fits_items
 made_and_destroyed = refl

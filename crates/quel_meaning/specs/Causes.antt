@@ -151,6 +151,6 @@ refusals_by s stand q (statement.Permit ops var attrs user qual) =
     row_refusals s stand (ranged s var) (is_past_limit most_permits (permit_numbers s.db (key_found (ranged s var))) || nat_lt most_listed_attributes (length attrs)) q
 refusals_by s stand q (statement.Rule var qual) = row_refusals s stand (ranged s var) (is_past_limit most_rules (rule_numbers s.db (key_found (ranged s var)))) q
 
--- what refuses a statement whose names were found, in the order in which it counts; what the user may do and what the rows decide is judged later
+-- what refuses a statement whose names were found, in the order in which it counts; what the user may do and what the rows decide is checked later
 unfoldable pub refusals : Scope → Statement → Causes
 refusals s stmt = refusals_by s (aggregates_stand s stmt) (query_of s stmt) stmt

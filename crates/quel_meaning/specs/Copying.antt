@@ -8,7 +8,7 @@ use Rattle.calculus.specs.declared.request.CopyCol.{CopyCol}
 use Rattle.calculus.specs.declared.change.DbChange.{DbChange}
 use Rattle.calculus.specs.declared.change.DbChange.TheVariants as change
 use Rattle.calculus.specs.declared.reply.Refusal.{Refusal}
-use Rattle.calculus.specs.Constant.{marks, plain_bytes}
+use Rattle.calculus.specs.Constant.{unescaped, plain_bytes}
 use Rattle.calculus.specs.Rows.{Row}
 use Rattle.calculus.specs.Term.{holds, no_aggs}
 use Rattle.calculus.specs.Lists.{is_any}
@@ -27,7 +27,7 @@ most_file_bytes = 4294967295
 
 -- the name of the file that a text constant names: its bytes with escapes removed, and with the blanks at their end
 abbrev pub file_of_constant : List ℕ → List ℕ
-file_of_constant constant = plain_bytes (marks constant)
+file_of_constant constant = plain_bytes (unescaped constant)
 
 -- a refusal with this number, of no line and no row
 abbrev pub refusal : ℕ → Refusal

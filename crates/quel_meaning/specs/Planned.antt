@@ -57,12 +57,12 @@ abbrev pub has_view : Db → RelKey → Bool
 has_view db key = is_some (view_at db key)
 
 -- the user is not the owner
-abbrev pub is_anothers : List ℕ → RelKey → Bool
-is_anothers user key = not (bytes_eq key.owner user)
+abbrev pub is_not_the_owner : List ℕ → RelKey → Bool
+is_not_the_owner user key = not (bytes_eq key.owner user)
 
 -- the user is not the owner, or not the administrator, who alone gives permits
-abbrev pub is_none_to_permit : Db → List ℕ → RelKey → Bool
-is_none_to_permit db user key = is_anothers user key || not (bytes_eq db.dba user)
+abbrev pub may_not_grant : Db → List ℕ → RelKey → Bool
+may_not_grant db user key = is_not_the_owner user key || not (bytes_eq db.dba user)
 
 -- some view outside these keys names what has one of them
 abbrev pub is_in_use : Db → List RelKey → Bool
@@ -74,28 +74,28 @@ is_broken db rel rule = list_any (λ row. not (holds no_aggs rule.qual (row ∷ 
 
 -- what has the key can't be changed as a base relation of the user's: it is a catalogue, a view, or another's
 abbrev pub owner_refusals : Db → List ℕ → RelKey → List (ℕ × Bool)
-owner_refusals db user key = (28, is_catalogue db key) ∷ (26, has_view db key) ∷ (24, is_anothers user key) ∷ []
+owner_refusals db user key = (28, is_catalogue db key) ∷ (26, has_view db key) ∷ (24, is_not_the_owner user key) ∷ []
 
 -- each cause that refuses a utility, by its number, and whether it is there; in the order in which they count. Of a copy, which is no plan, there is none here
 unfoldable pub plan_refusals : Db → List ℕ → Utility → List (ℕ × Bool)
 plan_refusals db user (utility.Create rel attrs) = []
 plan_refusals db user (utility.Destroy rels) =
-    (28, list_any (is_catalogue db) rels) ∷ (24, list_any (is_anothers user) rels) ∷ (25, is_in_use db rels) ∷ []
+    (28, list_any (is_catalogue db) rels) ∷ (24, list_any (is_not_the_owner user) rels) ∷ (25, is_in_use db rels) ∷ []
 plan_refusals db user (utility.Modify rel to keys) = owner_refusals db user rel
 plan_refusals db user (utility.Index base name keys) = owner_refusals db user base
 plan_refusals db user (utility.Copy rel columns from file) = []
 plan_refusals db user (utility.View rel query) = []
 plan_refusals db user (utility.Permit rel permit) =
-    (14, is_past_limit most_permits (permit_numbers db rel)) ∷ (28, is_catalogue db rel) ∷ (26, has_view db rel) ∷ (24, is_none_to_permit db user rel) ∷ []
+    (14, is_past_limit most_permits (permit_numbers db rel)) ∷ (28, is_catalogue db rel) ∷ (26, has_view db rel) ∷ (24, may_not_grant db user rel) ∷ []
 plan_refusals db user (utility.Rule rel rule) =
     (14, is_past_limit most_rules (rule_numbers db rel))
-    ∷ (28, is_catalogue db rel) ∷ (26, has_view db rel) ∷ (24, is_anothers user rel) ∷ (27, is_broken db rel rule) ∷ []
+    ∷ (28, is_catalogue db rel) ∷ (26, has_view db rel) ∷ (24, is_not_the_owner user rel) ∷ (27, is_broken db rel rule) ∷ []
 plan_refusals db user (utility.DropPermits rel numbers) =
     (28, is_catalogue db rel)
-    ∷ (26, has_view db rel) ∷ (24, is_none_to_permit db user rel) ∷ (19, not (list_all (has_number (permit_numbers db rel)) numbers)) ∷ []
+    ∷ (26, has_view db rel) ∷ (24, may_not_grant db user rel) ∷ (19, not (list_all (has_number (permit_numbers db rel)) numbers)) ∷ []
 plan_refusals db user (utility.DropRules rel numbers) =
     (28, is_catalogue db rel)
-    ∷ (26, has_view db rel) ∷ (24, is_anothers user rel) ∷ (19, not (list_all (has_number (rule_numbers db rel)) numbers)) ∷ []
+    ∷ (26, has_view db rel) ∷ (24, is_not_the_owner user rel) ∷ (19, not (list_all (has_number (rule_numbers db rel)) numbers)) ∷ []
 
 -- ---- the change
 

@@ -19,7 +19,7 @@ use Rattle.calculus.specs.Rows.{Row}
 use Rattle.calculus.specs.Stored.{Kept, Viewed, range_at, kept_rows, rows_at, kinds_at}
 use Rattle.fault_io.specs.Files.{Files, fetched}
 use Rattle.quel_meaning.specs.Copying.{refusal, bad_row, most_file_bytes, numbered_from, records, record_values, record_row, record_bytes, rows_in_file, rows_appended, file_appended, copied_from, file_of_rows, copied_into, file_of_constant}
-use Rattle.quel_meaning.specs.Planned.{has_view, is_anothers, owner_refusals}
+use Rattle.quel_meaning.specs.Planned.{has_view, is_not_the_owner, owner_refusals}
 use Rattle.quel_meaning.proofs.DatabaseFacts.{found_passes}
 use Rattle.quel_network.specs.RefusalLaws.{HasSpelling, numbered_has, bad_row_has, cause_known}
 
@@ -107,7 +107,7 @@ owner_refusal db user rel n e = numbered_has n (cause_known (owner_refusals db u
 owner_catalogue : (db : Db) (user : List ℕ) (rel : RelKey) → first_refusal (owner_refusals db user rel) ≡ None → is_catalogue db rel ≡ false
 owner_catalogue db user rel e = go (is_catalogue db rel) e
   where
-    go : (b : Bool) → first_refusal ((28, b) ∷ (26, has_view db rel) ∷ (24, is_anothers user rel) ∷ []) ≡ None → b ≡ false
+    go : (b : Bool) → first_refusal ((28, b) ∷ (26, has_view db rel) ∷ (24, is_not_the_owner user rel) ∷ []) ≡ None → b ≡ false
     go true e = absurd (cc e)
     go false e = refl
 

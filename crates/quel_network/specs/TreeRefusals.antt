@@ -24,7 +24,7 @@ use Rattle.calculus.specs.Replacement.{update_refusals, updated}
 use Rattle.calculus.specs.Who.{Who, Unrestricted, Asker, AsUser}
 use Rattle.fault_io.specs.Files.{Files}
 use Rattle.quel_meaning.specs.Copying.{refusal, copied_from, copied_into, file_of_constant}
-use Rattle.quel_meaning.specs.Meaning.{change_effect, numbered_effect, file_effect, answer_reply, copy_effect, utility_effect, tree_meaning, checked_permitted, permitted_tree, judged_tree, judged_by, judged}
+use Rattle.quel_meaning.specs.Meaning.{change_effect, numbered_effect, file_effect, answer_reply, copy_effect, utility_effect, tree_meaning, checked_permitted, permitted_tree, tree_if_permitted, checked_tree_by, checked_tree}
 use Rattle.quel_meaning.specs.Planned.{plan_refusals, planned}
 use Rattle.quel_meaning.specs.Purpose.{refusal_numbers}
 use Rattle.quel_meaning.specs.Ranges.{Ranges}
@@ -33,7 +33,7 @@ use Rattle.quel_meaning.specs.Tables.{table_of, some_query_lacks}
 use Rattle.quel_meaning.proofs.Accepted.{refused_by}
 use Rattle.network_meaning.specs.Sorts.{Meaning.objects, Outcome.refuses}
 use Rattle.quel_network.specs.Spelling.{is_refusal_number}
-use Rattle.quel_network.specs.Trees.{outcome_by, outcome_of_tree, range_meaning, judged_meaning, meaning_of}
+use Rattle.quel_network.specs.Trees.{outcome_by, outcome_of_tree, range_meaning, checked_meaning, meaning_of}
 use Rattle.quel_network.specs.RefusalLaws.{HasSpelling, one_passes, numbered_has, caused_known}
 use Rattle.quel_network.specs.CopyRefusals.{copied_from_has, copied_into_has}
 
@@ -144,15 +144,15 @@ numbers_known (statement.Permit ops var attrs user qual) = refl
 numbers_known (statement.Rule var qual) = refl
 
 -- each number that may refuse a statement before its tree is handed on is one of a refusal
-judged_known : (db : Db) (asker : Asker) (ranges : Ranges) (s : Statement) (n : ℕ) → judged db asker ranges s ≡ Err n → is_refusal_number n ≡ true
-unfolding judged_by
-judged_known db asker ranges s n e = go (resolved db asker.user ranges s) refl e
+checked_known : (db : Db) (asker : Asker) (ranges : Ranges) (s : Statement) (n : ℕ) → checked_tree db asker ranges s ≡ Err n → is_refusal_number n ≡ true
+unfolding checked_tree_by
+checked_known db asker ranges s n e = go (resolved db asker.user ranges s) refl e
   where
     lacks : (tree : Checked) (permitted : Bool) → permitted_tree permitted tree ≡ Err n → is_refusal_number n ≡ true
     lacks tree true k = absurd (cc k)
     lacks tree false k = let same : 23 ≡ n = cc k in subst (λ m. is_refusal_number m ≡ true) same refl
 
-    go : (r : Result Checked ℕ) → resolved db asker.user ranges s ≡ r → judged_tree db asker r ≡ Err n → is_refusal_number n ≡ true
+    go : (r : Result Checked ℕ) → resolved db asker.user ranges s ≡ r → tree_if_permitted db asker r ≡ Err n → is_refusal_number n ≡ true
     go (Err m) f k =
         let same : m ≡ n = cc k in
         subst (λ x. is_refusal_number x ≡ true) same (one_passes is_refusal_number (10 ∷ 11 ∷ 12 ∷ refusal_numbers s) m (numbers_known s) (refused_by db asker.user ranges s m f))
@@ -162,16 +162,16 @@ range_has : (ranges : Ranges) (var : List ℕ) (info : Option RelInfo) (r : Refu
 range_has ranges var None r e = let same : refusal 10 ≡ r = cc e in subst HasSpelling same (numbered_has 10 refl)
 range_has ranges var (Some info) r e = absurd (cc e)
 
-judged_has : (asker : Asker) (db : Db) (shelf : Files) (tree : Result Checked ℕ) (r : Refusal) → ((n : ℕ) → tree ≡ Err n → is_refusal_number n ≡ true)
-    → judged_meaning asker db shelf tree ≡ objects r → HasSpelling r
-judged_has asker db shelf (Err n) r known e = let same : refusal n ≡ r = cc e in subst HasSpelling same (numbered_has n (known n refl))
-judged_has asker db shelf (Ok tree) r known e = absurd (cc e)
+checked_has : (asker : Asker) (db : Db) (shelf : Files) (tree : Result Checked ℕ) (r : Refusal) → ((n : ℕ) → tree ≡ Err n → is_refusal_number n ≡ true)
+    → checked_meaning asker db shelf tree ≡ objects r → HasSpelling r
+checked_has asker db shelf (Err n) r known e = let same : refusal n ≡ r = cc e in subst HasSpelling same (numbered_has n (known n refl))
+checked_has asker db shelf (Ok tree) r known e = absurd (cc e)
 
-judging_has : (asker : Asker) (db : Db) (shelf : Files) (ranges : Ranges) (s : Statement) (r : Refusal) → judged_meaning asker db shelf (judged db asker ranges s) ≡ objects r → HasSpelling r
-judging_has asker db shelf ranges s r e = judged_has asker db shelf (judged db asker ranges s) r (judged_known db asker ranges s) e
+checking_has : (asker : Asker) (db : Db) (shelf : Files) (ranges : Ranges) (s : Statement) (r : Refusal) → checked_meaning asker db shelf (checked_tree db asker ranges s) ≡ objects r → HasSpelling r
+checking_has asker db shelf ranges s r e = checked_has asker db shelf (checked_tree db asker ranges s) r (checked_known db asker ranges s) e
 
 -- what stage 2 refuses a statement by has a spelling
 pub objection_has : (asker : Asker) (db : Db) (shelf : Files) (ranges : Ranges) (s : Statement) (r : Refusal) → meaning_of asker db shelf ranges s ≡ objects r → HasSpelling r
 unfolding meaning_of
 objection_has asker db shelf ranges (statement.Range var rel) r e = range_has ranges var (found db asker.user rel) r e
-objection_has asker db shelf ranges s r e = judging_has asker db shelf ranges s r e
+objection_has asker db shelf ranges s r e = checking_has asker db shelf ranges s r e

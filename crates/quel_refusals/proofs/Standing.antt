@@ -18,7 +18,7 @@ use Rattle.quel_meaning.specs.StatementUpdate.{append_of, replace_of, delete_of}
 use Rattle.quel_meaning.specs.WrittenParts.{text_aggregates}
 use Rattle.quel_meaning.specs.WrittenQuery.{query_of}
 use Rattle.quel_meaning.proofs.Slots.{as_many}
-use Rattle.quel_refusals.specs.Judged.{update_of}
+use Rattle.quel_refusals.specs.CheckedStatements.{update_of}
 
 none : {X : Type 0} (xs : List X) → is_any xs ≡ false → xs ≡ []
 none [] h = refl

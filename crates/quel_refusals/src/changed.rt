@@ -117,7 +117,7 @@ pub(crate) fn update_refusal<B: Base>(
 }
 
 /// What refuses a deletion.
-pub(crate) fn delete_cause<B: Base>(
+pub(crate) fn delete_refusal<B: Base>(
     alloc: Global,
     base: &mut B,
     u: &Update,

@@ -19,7 +19,7 @@ use calculus::{Domain, Name, OutOfMemory};
 use std::alloc::Global;
 
 /// What refuses the attributes of a new relation: a name that stands twice, their width.
-fn attrs_cause(alloc: Global, attrs: &[(Name, Domain)]) -> Result<Option<u8>, OutOfMemory>
+fn attrs_refusal(alloc: Global, attrs: &[(Name, Domain)]) -> Result<Option<u8>, OutOfMemory>
     ensures { IfOk result (λ n. n ≡ first_refusal ((17, repeats (map (λ a. a.0) attrs.now)) ∷ (16, is_too_wide (map (λ a. Of a.1) attrs.now)) ∷ [])) }
 {
     if attrs_repeat(alloc, attrs)? {
@@ -32,7 +32,7 @@ fn attrs_cause(alloc: Global, attrs: &[(Name, Domain)]) -> Result<Option<u8>, Ou
 }
 
 /// What refuses a `create`.
-pub(crate) fn create_cause<B: Base>(
+pub(crate) fn create_refusal<B: Base>(
     alloc: Global,
     base: &mut B,
     user: &Name,
@@ -48,7 +48,7 @@ pub(crate) fn create_cause<B: Base>(
     if is_full(base)? {
         return Ok(Some(PAST_LIMIT));
     }
-    match attrs_cause(alloc, attrs)? {
+    match attrs_refusal(alloc, attrs)? {
         Some(number) => Ok(Some(number)),
         None => name_refusal(alloc, base, user, name),
     }

@@ -13,7 +13,7 @@ ghost use Rattle.calculus.specs.Replacement.{first_refusal};
 ghost use Rattle.calculus.specs.Storable.{row_qual_is_small};
 ghost use Rattle.calculus.specs.declared.statement.Qual.{Qual as WrittenQual};
 ghost use Rattle.calculus.specs.declared.statement.Statement.TheVariants as statement;
-ghost use Rattle.quel_refusals.specs.Judged.{IsOver};
+ghost use Rattle.quel_refusals.specs.CheckedStatements.{IsOver};
 ghost use Rattle.quel_meaning.specs.Causes.{refusals_by};
 ghost use Rattle.quel_meaning.specs.Planned.{greatest, is_past_limit};
 ghost use Rattle.quel_meaning.specs.Scope.{Scope};
@@ -142,7 +142,7 @@ fn lists_too_many(full: bool, attrs: &[Name]) -> bool
 
 /// What refuses a permit or a rule with this query on a relation, where it is known whether there is
 /// room among those that stand there.
-fn row_cause<B: Base>(
+fn row_refusal<B: Base>(
     alloc: Global,
     base: &mut B,
     rel: &RelKey,
@@ -165,7 +165,7 @@ fn row_cause<B: Base>(
 }
 
 /// What refuses a permit with this query, where this is known of what its variable ranges over.
-pub(crate) fn permit_cause<B: Base>(
+pub(crate) fn permit_refusal<B: Base>(
     alloc: Global,
     base: &mut B,
     on: Option<&RelInfo>,
@@ -182,7 +182,7 @@ pub(crate) fn permit_cause<B: Base>(
         return Ok(None);
     };
     let full = has_all_permits(alloc, base, &info.key)?;
-    row_cause(alloc, base, &info.key, lists_too_many(full, attrs), q)
+    row_refusal(alloc, base, &info.key, lists_too_many(full, attrs), q)
 }
 
 /// What refuses a rule with this query, where this is known of what its variable ranges over.
@@ -202,5 +202,5 @@ pub(crate) fn rule_refusal<B: Base>(
         return Ok(None);
     };
     let no_room = has_all_rules(alloc, base, &info.key)?;
-    row_cause(alloc, base, &info.key, no_room, q)
+    row_refusal(alloc, base, &info.key, no_room, q)
 }

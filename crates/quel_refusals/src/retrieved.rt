@@ -23,7 +23,7 @@ use calculus::{Name, OutOfMemory, Query, Target};
 use std::alloc::Global;
 
 /// What refuses rows of these targets that are printed in this order: a name to sort by, their width.
-fn row_cause(
+fn row_refusal(
     alloc: Global,
     targets: &[Target],
     sort: &[(Name, bool)],
@@ -40,7 +40,7 @@ fn row_cause(
 }
 
 /// What refuses a `retrieve` that prints.
-pub(crate) fn print_cause<B: Base>(
+pub(crate) fn print_refusal<B: Base>(
     alloc: Global,
     base: &mut B,
     sort: &[(Name, bool)],
@@ -58,7 +58,7 @@ pub(crate) fn print_cause<B: Base>(
     if !query_fits(alloc, base, q)? {
         return Ok(Some(KINDS_DIFFER));
     }
-    Ok(row_cause(alloc, q.targets.items(), sort)?)
+    Ok(row_refusal(alloc, q.targets.items(), sort)?)
 }
 
 /// Whether there is no room for a new relation with the rows of a query, or the query lists too many
@@ -82,7 +82,7 @@ pub(crate) fn has_no_room<B: Base>(
 
 /// What refuses a new relation with attributes for these targets, its rows in this order: a name to
 /// sort by, its width.
-fn made_cause(
+fn made_refusal(
     alloc: Global,
     targets: &[Target],
     sort: &[(Name, bool)],
@@ -120,7 +120,7 @@ pub(crate) fn name_refusal<B: Base>(
 
 /// What refuses a new relation with the rows of a query whose kinds fit: a name to sort by, its
 /// width, that its name is in use.
-fn kept_cause<B: Base>(
+fn kept_refusal<B: Base>(
     alloc: Global,
     base: &mut B,
     user: &Name,
@@ -134,14 +134,14 @@ fn kept_cause<B: Base>(
     ensures asked { (b : B) → B.asked b base.old → B.asked b base.new }
     ensures cause { HasCause (B.database base.old) (B.faults base.old) (B.faults base.new) result }
 {
-    match made_cause(alloc, q.targets.items(), sort)? {
+    match made_refusal(alloc, q.targets.items(), sort)? {
         Some(number) => Ok(Some(number)),
         None => name_refusal(alloc, base, user, name),
     }
 }
 
 /// What refuses a `retrieve` that makes a relation of this name.
-pub(crate) fn into_cause<B: Base>(
+pub(crate) fn into_refusal<B: Base>(
     alloc: Global,
     base: &mut B,
     user: &Name,
@@ -164,5 +164,5 @@ pub(crate) fn into_cause<B: Base>(
     if !query_fits(alloc, base, q)? {
         return Ok(Some(KINDS_DIFFER));
     }
-    kept_cause(alloc, base, user, name, sort, q)
+    kept_refusal(alloc, base, user, name, sort, q)
 }

@@ -76,7 +76,7 @@ fn is_wide(alloc: Global, q: &Query) -> Result<bool, OutOfMemory>
 }
 
 /// What refuses a view whose kinds fit: the width of its rows, that its name is in use.
-fn shown_cause<B: Base>(
+fn shown_refusal<B: Base>(
     alloc: Global,
     base: &mut B,
     user: &Name,
@@ -96,7 +96,7 @@ fn shown_cause<B: Base>(
 }
 
 /// What refuses a view of this name with a query without aggregates.
-pub(crate) fn view_cause<B: Base>(
+pub(crate) fn view_refusal<B: Base>(
     alloc: Global,
     base: &mut B,
     user: &Name,
@@ -118,5 +118,5 @@ pub(crate) fn view_cause<B: Base>(
     if !query_fits(alloc, base, q)? {
         return Ok(Some(KINDS_DIFFER));
     }
-    shown_cause(alloc, base, user, name, q)
+    shown_refusal(alloc, base, user, name, q)
 }

@@ -17,7 +17,7 @@ use Rattle.calculus.specs.Replacement.{first_refusal, made_attr}
 use Rattle.calculus.specs.Finding.{found}
 use Rattle.calculus.specs.Keys.{key_of}
 use Rattle.calculus.specs.Stored.{attrs_in, info_at}
-use Rattle.quel_refusals.specs.Judged.{IsOn, is_judged, update_of}
+use Rattle.quel_refusals.specs.CheckedStatements.{IsOn, is_checked, update_of}
 use Rattle.quel_meaning.proofs.Each.{Each}
 use Rattle.quel_meaning.proofs.Found.{names_found, named_with, ranged_with, ranged_is}
 use Rattle.quel_meaning.proofs.ReadsFit.{narrow_targets, none_of}
@@ -195,8 +195,8 @@ on_changed s (statement.Permit ops var attrs user qual) (Some info) h k = h
 on_changed s (statement.Rule var qual) None h k = absurd (cc k)
 on_changed s (statement.Rule var qual) (Some info) h k = h
 
--- a statement that isn't served without a query, declares nothing and changes no rows has a tree where what it changes is there
-pub has_tree_on : (stmt : Statement) (info : RelInfo) → is_judged stmt ≡ true → is_range stmt ≡ false → changes_rows stmt ≡ false → has_tree stmt (Some info) ≡ true
+-- a statement that needs a query, declares nothing and changes no rows has a tree where what it changes is there
+pub has_tree_on : (stmt : Statement) (info : RelInfo) → is_checked stmt ≡ true → is_range stmt ≡ false → changes_rows stmt ≡ false → has_tree stmt (Some info) ≡ true
 has_tree_on (statement.Range var rel) info w h k = absurd (cc h)
 has_tree_on (statement.Retrieve into items qual sort) info w h k = refl
 has_tree_on (statement.Append rel items qual) info w h k = absurd (cc k)
@@ -216,7 +216,7 @@ has_tree_on (statement.Permit ops var attrs user qual) info w h k = refl
 has_tree_on (statement.Rule var qual) info w h k = refl
 
 -- one whose names were found and that changes nothing has a tree
-pub has_tree_alone : (s : Scope) (stmt : Statement) → name_refusal s stmt ≡ None → changed s stmt ≡ None → is_judged stmt ≡ true → is_range stmt ≡ false → has_tree stmt None ≡ true
+pub has_tree_alone : (s : Scope) (stmt : Statement) → name_refusal s stmt ≡ None → changed s stmt ≡ None → is_checked stmt ≡ true → is_range stmt ≡ false → has_tree stmt None ≡ true
 unfolding mentions
 has_tree_alone s (statement.Range var rel) n c w h = absurd (cc h)
 has_tree_alone s (statement.Retrieve into items qual sort) n c w h = refl
@@ -316,7 +316,7 @@ few_viewed s name items qual n = few_if q (narrow_targets q (λ (t : Target). t.
     none = none_of (view_refusals s (aggregates_stand s stmt) name q) n
 
 -- such a statement has few targets, where no cause refuses it
-pub few_targets : (s : Scope) (stmt : Statement) → is_judged stmt ≡ true → is_range stmt ≡ false → None ≡ update_of s stmt (query_of s stmt) → first_refusal (refusals s stmt) ≡ None
+pub few_targets : (s : Scope) (stmt : Statement) → is_checked stmt ≡ true → is_range stmt ≡ false → None ≡ update_of s stmt (query_of s stmt) → first_refusal (refusals s stmt) ≡ None
     → length (targets_of (query_of s stmt)) ≤ 256
 unfolding refusals
 few_targets s (statement.Append rel items qual) w h k n = absurd (cc k)

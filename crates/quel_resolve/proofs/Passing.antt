@@ -9,7 +9,7 @@ use Rattle.calculus.specs.Replacement.{first_refusal}
 use Rattle.calculus.specs.Storable.{row_qual_is_small}
 use Rattle.calculus.specs.declared.statement.Statement.{Statement}
 use Rattle.calculus.specs.declared.statement.Statement.TheVariants as statement
-use Rattle.quel_refusals.specs.Judged.{is_judged}
+use Rattle.quel_refusals.specs.CheckedStatements.{is_checked}
 use Rattle.quel_refusals.proofs.Standing.{none_in_text}
 use Rattle.quel_check.proofs.Among.{inner_many}
 use Rattle.quel_check.specs.Known.{inner_vars}
@@ -53,7 +53,7 @@ second (c ∷ d ∷ cs) h k =
     ap (λ b. elim b as (λ x. Option ℕ) [ true ↦ Some c.0 | false ↦ first_refusal (d ∷ cs) ]) out
     ∙ ap (λ b. elim b as (λ x. Option ℕ) [ true ↦ Some d.0 | false ↦ first_refusal cs ]) there
 
-refused : (s : Scope) (stmt : Statement) → is_judged stmt ≡ true → 10 < length (vars_in stmt) + length (text_aggregates stmt) → aggregates_stand s stmt ≡ true → has_too_many s.db (query_of s stmt) ≡ true
+refused : (s : Scope) (stmt : Statement) → is_checked stmt ≡ true → 10 < length (vars_in stmt) + length (text_aggregates stmt) → aggregates_stand s stmt ≡ true → has_too_many s.db (query_of s stmt) ≡ true
     → first_refusal (refusals s stmt) ≡ Some 14
 unfolding refusals vars_in aggregates_in_qual append_of replace_of delete_of
 refused s (statement.Range var rel) w h a m = absurd (omega (arith, h))
@@ -97,7 +97,7 @@ refused s (statement.Rule var qual) w h a m =
     (ap (λ b. Some b) (or_more (nat_lt 1 (length (vars_of (query_of s stmt)))) (full || not (row_qual_is_small (qual_of (query_of s stmt)))) (second_variable s stmt refl a h)))
 
 -- 14 refuses a statement whose aggregates stand
-pub too_many : (s : Scope) (stmt : Statement) → is_judged stmt ≡ true → aggregates_stand s stmt ≡ true → 10 < length (vars_in stmt) + length (inner_vars stmt)
+pub too_many : (s : Scope) (stmt : Statement) → is_checked stmt ≡ true → aggregates_stand s stmt ≡ true → 10 < length (vars_in stmt) + length (inner_vars stmt)
     → first_refusal (refusals s stmt) ≡ Some 14
 too_many s stmt w a h =
     let more : 10 < length (vars_in stmt) + length (text_aggregates stmt) = omega (arith, h, inner_many s stmt a) in
@@ -122,7 +122,7 @@ first (c ∷ cs) h =
     ap (λ b. elim b as (λ x. Option ℕ) [ true ↦ Some c.0 | false ↦ first_refusal cs ]) there
 
 -- 18 refuses a statement whose aggregates don't stand
-pub stands_not : (s : Scope) (stmt : Statement) → is_judged stmt ≡ true → aggregates_stand s stmt ≡ false → first_refusal (refusals s stmt) ≡ Some 18
+pub stands_not : (s : Scope) (stmt : Statement) → is_checked stmt ≡ true → aggregates_stand s stmt ≡ false → first_refusal (refusals s stmt) ≡ Some 18
 unfolding refusals aggregates_stand aggregates_in_qual
 stands_not s (statement.Range var rel) w h = absurd (cc h)
 stands_not s (statement.Retrieve None items qual sort) w h =

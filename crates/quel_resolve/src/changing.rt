@@ -3,7 +3,7 @@
 ghost use Rattle.std.specs.Prelude.{◌≡◌, ◌≤◌, None, Some, IfOk, length};
 ghost use Rattle.base_trait.specs.Causes.{HasCause};
 ghost use Rattle.calculus.specs.Database.{Db};
-ghost use Rattle.quel_refusals.specs.Judged.{update_of};
+ghost use Rattle.quel_refusals.specs.CheckedStatements.{update_of};
 ghost use Rattle.quel_meaning.specs.Scope.{Scope};
 ghost use Rattle.quel_names.specs.Asking.{scope_of};
 ghost use Rattle.quel_resolve.specs.Changed.{changed};

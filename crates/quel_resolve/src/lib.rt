@@ -2,13 +2,13 @@
 #![tactic(auto)]
 
 mod changing;
-mod judging;
 mod kinds;
 mod known;
 mod pairs;
 mod parts;
 mod places;
 mod queries;
+mod refusing;
 mod resolving;
 mod sorting;
 mod stored;

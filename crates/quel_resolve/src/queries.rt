@@ -3,7 +3,7 @@
 ghost use Rattle.std.specs.Prelude.{◌≡◌, ◌+◌, ◌≤◌, ℕ, List, Some, None, true, length, map, nat_lt};
 ghost use Rattle.calculus.specs.Database.{Db};
 ghost use Rattle.calculus.specs.Replacement.{first_refusal};
-ghost use Rattle.quel_refusals.specs.Judged.{is_judged};
+ghost use Rattle.quel_refusals.specs.CheckedStatements.{is_checked};
 ghost use Rattle.quel_check.specs.Known.{inner_vars};
 ghost use Rattle.quel_meaning.specs.Aggregates.{aggregates_stand};
 ghost use Rattle.quel_meaning.specs.Causes.{refusals};
@@ -107,7 +107,7 @@ fn query_within<B: Base>(
     vars: &[Name],
     inner: &[Name],
 ) -> Result<Query, CheckFault>
-    ensures known { (db : Db) (user : List ℕ) → B.schema base.old ≡ Some db → name_refusal (scope_of db user ranges.now) s.now ≡ None → is_judged s.now ≡ true → aggregates_stand (scope_of db user ranges.now) s.now ≡ true
+    ensures known { (db : Db) (user : List ℕ) → B.schema base.old ≡ Some db → name_refusal (scope_of db user ranges.now) s.now ≡ None → is_checked s.now ≡ true → aggregates_stand (scope_of db user ranges.now) s.now ≡ true
         → vars.now ≡ vars_in s.now → inner.now ≡ inner_vars s.now
         → Says (λ q. q ≡ query_of (scope_of db user ranges.now) s.now) (λ number. first_refusal (refusals (scope_of db user ranges.now) s.now) ≡ Some number) result }
     ensures kept { B.database base.new ≡ B.database base.old }
@@ -130,7 +130,7 @@ fn query_beside<B: Base>(
     s: &Statement,
     vars: &[Name],
 ) -> Result<Query, CheckFault>
-    ensures known { (db : Db) (user : List ℕ) → B.schema base.old ≡ Some db → name_refusal (scope_of db user ranges.now) s.now ≡ None → is_judged s.now ≡ true → aggregates_stand (scope_of db user ranges.now) s.now ≡ true
+    ensures known { (db : Db) (user : List ℕ) → B.schema base.old ≡ Some db → name_refusal (scope_of db user ranges.now) s.now ≡ None → is_checked s.now ≡ true → aggregates_stand (scope_of db user ranges.now) s.now ≡ true
         → vars.now ≡ vars_in s.now
         → Says (λ q. q ≡ query_of (scope_of db user ranges.now) s.now) (λ number. first_refusal (refusals (scope_of db user ranges.now) s.now) ≡ Some number) result }
     ensures kept { B.database base.new ≡ B.database base.old }
@@ -152,7 +152,7 @@ fn query_standing<B: Base>(
     ranges: &RangeTable,
     s: &Statement,
 ) -> Result<Query, CheckFault>
-    ensures known { (db : Db) (user : List ℕ) → B.schema base.old ≡ Some db → name_refusal (scope_of db user ranges.now) s.now ≡ None → is_judged s.now ≡ true → aggregates_stand (scope_of db user ranges.now) s.now ≡ true
+    ensures known { (db : Db) (user : List ℕ) → B.schema base.old ≡ Some db → name_refusal (scope_of db user ranges.now) s.now ≡ None → is_checked s.now ≡ true → aggregates_stand (scope_of db user ranges.now) s.now ≡ true
         → Says (λ q. q ≡ query_of (scope_of db user ranges.now) s.now) (λ number. first_refusal (refusals (scope_of db user ranges.now) s.now) ≡ Some number) result }
     ensures kept { B.database base.new ≡ B.database base.old }
     ensures stays { (s : Db) → B.schema base.old ≡ Some s → B.schema base.new ≡ Some s }
@@ -165,7 +165,7 @@ fn query_standing<B: Base>(
     query
 }
 
-/// The query of a statement that isn't served without one and whose names were found; where an aggregate
+/// The query of a statement that needs a query and whose names were found; where an aggregate
 /// may not stand, or there are more variables and aggregates than a query may have, the number that
 /// refuses it.
 #[tactic(auto, using(crate::proofs::Passing::stands_not))]
@@ -175,7 +175,7 @@ pub(crate) fn query<B: Base>(
     ranges: &RangeTable,
     s: &Statement,
 ) -> Result<Query, CheckFault>
-    ensures known { (db : Db) (user : List ℕ) → B.schema base.old ≡ Some db → name_refusal (scope_of db user ranges.now) s.now ≡ None → is_judged s.now ≡ true
+    ensures known { (db : Db) (user : List ℕ) → B.schema base.old ≡ Some db → name_refusal (scope_of db user ranges.now) s.now ≡ None → is_checked s.now ≡ true
         → Says (λ q. (q ≡ query_of (scope_of db user ranges.now) s.now) × (aggregates_stand (scope_of db user ranges.now) s.now ≡ true)) (λ number. first_refusal (refusals (scope_of db user ranges.now) s.now) ≡ Some number) result }
     ensures kept { B.database base.new ≡ B.database base.old }
     ensures stays { (s : Db) → B.schema base.old ≡ Some s → B.schema base.new ≡ Some s }

@@ -13,7 +13,7 @@ use calculus::{Checked, Name, Statement};
 use quel_check::RangeTable;
 use quel_names::name_refusal;
 use std::alloc::Global;
-use utility_trees::{CheckFault, is_served, served};
+use utility_trees::{CheckFault, needs_no_query, tree_without_query};
 
 /// What a statement asks for whose names were found.
 fn resolve_named<B: Base>(
@@ -29,8 +29,8 @@ fn resolve_named<B: Base>(
     ensures asked { (b : B) → B.asked b base.old → B.asked b base.new }
     ensures cause { HasCheckCause (B.database base.old) (B.faults base.old) (B.faults base.new) result }
 {
-    if is_served(s) {
-        served(alloc, base, user, s)
+    if needs_no_query(s) {
+        tree_without_query(alloc, base, user, s)
     } else {
         tree(alloc, base, user, ranges, s)
     }

@@ -5,7 +5,7 @@ ghost use Rattle.calculus.specs.IsDatabase.{IsDatabase};
 ghost use Rattle.calculus.specs.Database.{Db};
 ghost use Rattle.calculus.specs.Replacement.{first_refusal};
 ghost use Rattle.calculus.specs.declared.request.Checked.TheVariants.{Answer};
-ghost use Rattle.quel_refusals.specs.Judged.{is_judged, update_of};
+ghost use Rattle.quel_refusals.specs.CheckedStatements.{is_checked, update_of};
 ghost use Rattle.quel_meaning.specs.Aggregates.{aggregates_stand};
 ghost use Rattle.quel_meaning.specs.Causes.{refusals};
 ghost use Rattle.quel_meaning.specs.Naming.{name_refusal};
@@ -19,9 +19,9 @@ ghost use Rattle.utility_trees.specs.Answers.{Says};
 ghost use Rattle.utility_trees.specs.Causes.{HasCheckCause, IsCaused};
 
 use crate::changing::{changed, update_of};
-use crate::judging::{judge, judge_update};
 use crate::kinds::{changes_rows, is_range};
 use crate::queries::query;
+use crate::refusing::{unless_refused, update_unless_refused};
 use crate::tree_by;
 use base_trait::Base;
 use calculus::refusals::NO_RELATION;
@@ -39,7 +39,7 @@ fn updated<B: Base>(
     info: &RelInfo,
     q: Query,
 ) -> Result<Checked, CheckFault>
-    ensures known { (scope : Scope) → B.schema base.old ≡ Some scope.db → scope.user ≡ user.now → q ≡ query_of scope s.now → changed scope s.now ≡ Some info.now → changes_rows s.now ≡ true → is_judged s.now ≡ true → aggregates_stand scope s.now ≡ true
+    ensures known { (scope : Scope) → B.schema base.old ≡ Some scope.db → scope.user ≡ user.now → q ≡ query_of scope s.now → changed scope s.now ≡ Some info.now → changes_rows s.now ≡ true → is_checked s.now ≡ true → aggregates_stand scope s.now ≡ true
         → Says (λ tree. (tree ≡ tree_of scope s.now) × (first_refusal (refusals scope s.now) ≡ None)) (λ number. first_refusal (refusals scope s.now) ≡ Some number) result }
     ensures kept { B.database base.new ≡ B.database base.old }
     ensures stays { (s : Db) → B.schema base.old ≡ Some s → B.schema base.new ≡ Some s }
@@ -47,7 +47,7 @@ fn updated<B: Base>(
     ensures cause { HasCheckCause (B.database base.old) (B.faults base.old) (B.faults base.new) result }
 {
     match update_of(alloc, s, info, q)? {
-        Some(update) => judge_update(alloc, base, user, s, update),
+        Some(update) => update_unless_refused(alloc, base, user, s, update),
         None => Err(CheckFault::No(NO_RELATION)),
     }
 }
@@ -60,7 +60,7 @@ fn asked(
     on: Option<&RelInfo>,
     q: Query,
 ) -> Result<Checked, CheckFault>
-    ensures known { (scope : Scope) → IsDatabase scope.db → scope.user ≡ user.now → q ≡ query_of scope s.now → None ≡ update_of scope s.now q → changed scope s.now ≡ option_copied on.entry → has_tree s.now (option_copied on.entry) ≡ true → is_judged s.now ≡ true → is_range s.now ≡ false → first_refusal (refusals scope s.now) ≡ None
+    ensures known { (scope : Scope) → IsDatabase scope.db → scope.user ≡ user.now → q ≡ query_of scope s.now → None ≡ update_of scope s.now q → changed scope s.now ≡ option_copied on.entry → has_tree s.now (option_copied on.entry) ≡ true → is_checked s.now ≡ true → is_range s.now ≡ false → first_refusal (refusals scope s.now) ≡ None
         → Says (λ tree. (tree ≡ tree_of scope s.now) × (first_refusal (refusals scope s.now) ≡ None)) (λ number. first_refusal (refusals scope s.now) ≡ Some number) result }
     ensures no_fault { (known : Option Db) (before now : ℕ) → now ≡ before → IsCaused known before now result }
 {
@@ -81,14 +81,14 @@ fn made<B: Base>(
     on: Option<&RelInfo>,
     q: Query,
 ) -> Result<Checked, CheckFault>
-    ensures known { (scope : Scope) → B.schema base.old ≡ Some scope.db → scope.user ≡ user.now → q ≡ query_of scope s.now → None ≡ update_of scope s.now q → changed scope s.now ≡ option_copied on.entry → has_tree s.now (option_copied on.entry) ≡ true → is_judged s.now ≡ true → aggregates_stand scope s.now ≡ true → is_range s.now ≡ false
+    ensures known { (scope : Scope) → B.schema base.old ≡ Some scope.db → scope.user ≡ user.now → q ≡ query_of scope s.now → None ≡ update_of scope s.now q → changed scope s.now ≡ option_copied on.entry → has_tree s.now (option_copied on.entry) ≡ true → is_checked s.now ≡ true → aggregates_stand scope s.now ≡ true → is_range s.now ≡ false
         → Says (λ tree. (tree ≡ tree_of scope s.now) × (first_refusal (refusals scope s.now) ≡ None)) (λ number. first_refusal (refusals scope s.now) ≡ Some number) result }
     ensures kept { B.database base.new ≡ B.database base.old }
     ensures stays { (s : Db) → B.schema base.old ≡ Some s → B.schema base.new ≡ Some s }
     ensures asked { (b : B) → B.asked b base.old → B.asked b base.new }
     ensures cause { HasCheckCause (B.database base.old) (B.faults base.old) (B.faults base.new) result }
 {
-    match judge(alloc, base, user, s, &q, None, on) {
+    match unless_refused(alloc, base, user, s, &q, None, on) {
         Ok(()) => asked(alloc, user, s, on, q),
         Err(fault) => {
             drop(q);
@@ -106,7 +106,7 @@ fn changing<B: Base>(
     info: &RelInfo,
     q: Query,
 ) -> Result<Checked, CheckFault>
-    ensures known { (scope : Scope) → B.schema base.old ≡ Some scope.db → scope.user ≡ user.now → q ≡ query_of scope s.now → changed scope s.now ≡ Some info.now → is_judged s.now ≡ true → aggregates_stand scope s.now ≡ true → is_range s.now ≡ false
+    ensures known { (scope : Scope) → B.schema base.old ≡ Some scope.db → scope.user ≡ user.now → q ≡ query_of scope s.now → changed scope s.now ≡ Some info.now → is_checked s.now ≡ true → aggregates_stand scope s.now ≡ true → is_range s.now ≡ false
         → Says (λ tree. (tree ≡ tree_of scope s.now) × (first_refusal (refusals scope s.now) ≡ None)) (λ number. first_refusal (refusals scope s.now) ≡ Some number) result }
     ensures kept { B.database base.new ≡ B.database base.old }
     ensures stays { (s : Db) → B.schema base.old ≡ Some s → B.schema base.new ≡ Some s }
@@ -130,7 +130,7 @@ fn tree_over<B: Base>(
     changes: Option<RelInfo>,
     q: Query,
 ) -> Result<Checked, CheckFault>
-    ensures known { (db : Db) → B.schema base.old ≡ Some db → q ≡ query_of (scope_of db user.now ranges.now) s.now → name_refusal (scope_of db user.now ranges.now) s.now ≡ None → is_judged s.now ≡ true → aggregates_stand (scope_of db user.now ranges.now) s.now ≡ true → is_range s.now ≡ false → changes ≡ changed (scope_of db user.now ranges.now) s.now
+    ensures known { (db : Db) → B.schema base.old ≡ Some db → q ≡ query_of (scope_of db user.now ranges.now) s.now → name_refusal (scope_of db user.now ranges.now) s.now ≡ None → is_checked s.now ≡ true → aggregates_stand (scope_of db user.now ranges.now) s.now ≡ true → is_range s.now ≡ false → changes ≡ changed (scope_of db user.now ranges.now) s.now
         → Says (λ tree. (tree ≡ tree_of (scope_of db user.now ranges.now) s.now) × (first_refusal (refusals (scope_of db user.now ranges.now) s.now) ≡ None)) (λ number. first_refusal (refusals (scope_of db user.now ranges.now) s.now) ≡ Some number) result }
     ensures kept { B.database base.new ≡ B.database base.old }
     ensures stays { (s : Db) → B.schema base.old ≡ Some s → B.schema base.new ≡ Some s }
@@ -152,7 +152,7 @@ fn tree_with<B: Base>(
     s: &Statement,
     q: Query,
 ) -> Result<Checked, CheckFault>
-    ensures known { (db : Db) → B.schema base.old ≡ Some db → q ≡ query_of (scope_of db user.now ranges.now) s.now → name_refusal (scope_of db user.now ranges.now) s.now ≡ None → is_judged s.now ≡ true → aggregates_stand (scope_of db user.now ranges.now) s.now ≡ true → is_range s.now ≡ false
+    ensures known { (db : Db) → B.schema base.old ≡ Some db → q ≡ query_of (scope_of db user.now ranges.now) s.now → name_refusal (scope_of db user.now ranges.now) s.now ≡ None → is_checked s.now ≡ true → aggregates_stand (scope_of db user.now ranges.now) s.now ≡ true → is_range s.now ≡ false
         → Says (λ tree. (tree ≡ tree_of (scope_of db user.now ranges.now) s.now) × (first_refusal (refusals (scope_of db user.now ranges.now) s.now) ≡ None)) (λ number. first_refusal (refusals (scope_of db user.now ranges.now) s.now) ≡ Some number) result }
     ensures kept { B.database base.new ≡ B.database base.old }
     ensures stays { (s : Db) → B.schema base.old ≡ Some s → B.schema base.new ≡ Some s }
@@ -184,7 +184,7 @@ pub(crate) fn tree<B: Base>(
     ranges: &RangeTable,
     s: &Statement,
 ) -> Result<Checked, CheckFault>
-    ensures known { (db : Db) → B.schema base.old ≡ Some db → name_refusal (scope_of db user.now ranges.now) s.now ≡ None → is_judged s.now ≡ true
+    ensures known { (db : Db) → B.schema base.old ≡ Some db → name_refusal (scope_of db user.now ranges.now) s.now ≡ None → is_checked s.now ≡ true
         → Says (λ tree. (tree ≡ tree_of (scope_of db user.now ranges.now) s.now) × (first_refusal (refusals (scope_of db user.now ranges.now) s.now) ≡ None)) (λ number. first_refusal (refusals (scope_of db user.now ranges.now) s.now) ≡ Some number) result }
     ensures kept { B.database base.new ≡ B.database base.old }
     ensures stays { (s : Db) → B.schema base.old ≡ Some s → B.schema base.new ≡ Some s }

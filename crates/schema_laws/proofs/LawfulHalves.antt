@@ -35,7 +35,7 @@ use Rattle.change_laws.proofs.Exactly.{fits_exactly}
 use Rattle.schema_laws.proofs.Alike.{relation_bare, is_relation_alike, is_there_alike, attrs_alike}
 use Rattle.schema_laws.proofs.Known.{size_alike, expanded_alike, query_level_alike}
 use Rattle.schema_laws.proofs.SchemaStands.{query_stands_alike, vars_there_alike, row_qual_alike, permit_alike, schema_is_database}
-use Rattle.schema_laws.proofs.Judged.{full_alike, permit_numbers_alike, rule_numbers_alike}
+use Rattle.schema_laws.proofs.CheckedTrees.{full_alike, permit_numbers_alike, rule_numbers_alike}
 
 -- ---- the tests of changes that move no rows
 

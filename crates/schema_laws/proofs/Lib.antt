@@ -3,5 +3,5 @@ pub mod Through
 pub mod Known
 pub mod SchemaStands
 pub mod Scopes
-pub mod Judged
+pub mod CheckedTrees
 pub mod LawfulHalves

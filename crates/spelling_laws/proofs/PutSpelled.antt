@@ -44,7 +44,7 @@ use Rattle.quel_meaning.specs.SpelledTree.{made_key_is_spelled, update_is_spelle
 use Rattle.quel_meaning.proofs.Each.{Each, both_of, in_map, in_filter, each_to, each_passes, passed, and}
 use Rattle.view_text.specs.declared.expansion.Expansion.{Expansion}
 use Rattle.view_text.specs.Halves.{Joining, paired, chained, joined_within, all_of, any_of}
-use Rattle.view_text.specs.Replaced.{Substitution, replaced, replaced_in_qual, replaced_target, no_aggregate, further, moved, moved_qual, of_only}
+use Rattle.view_text.specs.Replaced.{Substitution, replaced, replaced_in_qual, replaced_target, no_aggregate, further, shifted, shifted_qual, of_only}
 use Rattle.view_text.specs.Expansions.{ExpansionSource, term_at, attr_term, used_expansion, query_expansions, expansions_vars, substituted_from, conditions_from}
 use Rattle.view_text.specs.ExpansionOf.{permit_condition, covering, restriction, kept_expansion, past_expansion, has_value, substituted_terms, rows_conditions, settled, view_text, expansion_within, expansion_of}
 use Rattle.view_text.specs.Expanded.{substituted_query, expanded_range, expanded_source, range_restriction, source_restriction, put_row, expanded_made, expanded_over, expanded, read_restriction, changed_expansion, update_expansion, update_expansions, append_restriction, expanded_update, expanded_asked, expanded_tree}
@@ -91,12 +91,12 @@ module _ (made : QTerm → QTerm) (put : Substitution) (makes : (t : QTerm) → 
 none_made : (t : QTerm) → Term t → Term (no_aggregate t)
 none_made t h = refl
 
-moved_term : (n : ℕ) (t : QTerm) → Term t → Term (moved n t)
-moved_term n t h = term_replaced no_aggregate (further n) none_made (λ v a. refl) t h
+shifted_term : (n : ℕ) (t : QTerm) → Term t → Term (shifted n t)
+shifted_term n t h = term_replaced no_aggregate (further n) none_made (λ v a. refl) t h
 
-moved_each : (n : ℕ) (qs : List QQual) → Each Qual qs → Each Qual (map (moved_qual n) qs)
-moved_each n [] h = tt
-moved_each n (q ∷ qs) h = (qual_replaced no_aggregate (further n) none_made (λ v a. refl) q h.0, moved_each n qs h.1)
+shifted_each : (n : ℕ) (qs : List QQual) → Each Qual qs → Each Qual (map (shifted_qual n) qs)
+shifted_each n [] h = tt
+shifted_each n (q ∷ qs) h = (qual_replaced no_aggregate (further n) none_made (λ v a. refl) q h.0, shifted_each n qs h.1)
 
 -- ---- what is joined
 
@@ -133,13 +133,13 @@ record IsOne (text : Expansion) : Type 0 where
 
 put_term : (texts : List Expansion) → Each IsOne texts → (n v a : ℕ) → Term (substituted_from n texts v a)
 put_term [] h n v a = refl
-put_term (text ∷ texts) h n zero a = moved_term n (attr_term text a) (h.0.attr a)
+put_term (text ∷ texts) h n zero a = shifted_term n (attr_term text a) (h.0.attr a)
 put_term (text ∷ texts) h n (suc v) a = put_term texts h.1 (n + length text.vars) v a
 
 conditions_each : (texts : List Expansion) → Each IsOne texts → (n : ℕ) → Each Qual (conditions_from n texts)
 conditions_each [] h n = tt
 conditions_each (text ∷ texts) h n =
-    both_of Qual (map (moved_qual n) text.conditions) (conditions_from (n + length text.vars) texts) (moved_each n text.conditions h.0.conditions) (conditions_each texts h.1 (n + length text.vars))
+    both_of Qual (map (shifted_qual n) text.conditions) (conditions_from (n + length text.vars) texts) (shifted_each n text.conditions h.0.conditions) (conditions_each texts h.1 (n + length text.vars))
 
 settled_each : (vars : List RelKey) (conditions : List QQual) → Each Qual conditions → Each Qual (settled vars conditions)
 unfolding settled

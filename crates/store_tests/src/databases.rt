@@ -284,18 +284,18 @@ fn forged(
 
 /// What a forged disk is: 0 the same database, 1 another, 2 refused at a page of these files, 3 no
 /// database.
-fn judged<D: Disk + Drop>(alloc: Global, rt: &impl Abort, disk: D, same: &[i64]) -> usize {
+fn kind_of_disk<D: Disk + Drop>(alloc: Global, rt: &impl Abort, disk: D, same: &[i64]) -> usize {
     let mut base = match DbDisk::open_db(alloc, disk) {
         Ok(base) => base,
-        Err(unopened) => return judged_fault(rt, unopened.fault),
+        Err(unopened) => return kind_of_fault(rt, unopened.fault),
     };
     match known(alloc, rt, &mut base) {
         Ok(said) => usize::from(said.items() != same),
-        Err(fault) => judged_fault(rt, OpenFault::Base(fault)),
+        Err(fault) => kind_of_fault(rt, OpenFault::Base(fault)),
     }
 }
 
-fn judged_fault(rt: &impl Abort, fault: OpenFault) -> usize {
+fn kind_of_fault(rt: &impl Abort, fault: OpenFault) -> usize {
     match fault {
         OpenFault::NotADatabase => 3,
         OpenFault::Base(BaseFault::Damaged { file, page: _ }) => {
@@ -318,7 +318,7 @@ fn turned(
 ) -> [u32; 4] {
     let mut counts = [0u32; 4];
     for byte in 0..1024usize {
-        let kind = judged(alloc, rt, forged(alloc, rt, pages, at, byte, by), same);
+        let kind = kind_of_disk(alloc, rt, forged(alloc, rt, pages, at, byte, by), same);
         match counts.get_mut(kind) {
             Some(count) => *count = count.saturating_add(1),
             None => rt.panic("a kind"),

@@ -25,7 +25,7 @@ use Rattle.calculus.proofs.OldRows.{seen_rows, seen_assigned, old_in}
 use Rattle.calculus_laws.specs.Expansion.{is_no_view}
 use Rattle.calculus_laws.proofs.Members.{In, Chosen, choices-Chosen}
 use Rattle.view_text.specs.declared.expansion.Expansion.{Expansion}
-use Rattle.view_text.specs.Replaced.{without_value, replaced, moved}
+use Rattle.view_text.specs.Replaced.{without_value, replaced, shifted}
 use Rattle.view_text.specs.ExpansionOf.{expansion_of}
 use Rattle.view_text.specs.Expansions.{used_expansion, expansions_vars, substituted_from, conditions_from, place_from, own_or}
 use Rattle.view_text.specs.Expanded.{expanded_made, expanded_over, update_expansion, update_expansions, expanded_update}
@@ -39,21 +39,21 @@ use Rattle.tree_laws.proofs.Sound.{unrestricted_used, all_kept}
 use Rattle.tree_laws.proofs.Answering.{put_makes, put_keeps}
 use Rattle.tree_laws.proofs.Changing.{expansion_by, expansion_with, update_denoted, update_named, IsSeen, update_seen, update_kept, changed_at, unrestricted_changed, same_place, get_past}
 
--- ---- the changed variable, where it has moved
+-- ---- the changed variable, where it is shifted
 
 -- the changed variable at the place where its expansion begins
-abbrev pub moved_by : List Expansion → Option (ℕ × Right) → Option (ℕ × Right)
-moved_by expansions o = option_map (λ c. (place_from 0 expansions c.0, c.1)) o
+abbrev pub shifted_by : List Expansion → Option (ℕ × Right) → Option (ℕ × Right)
+shifted_by expansions o = option_map (λ c. (place_from 0 expansions c.0, c.1)) o
 
-changed_once : (expansions : List Expansion) (o : UpdateOp) (old : ℕ) → changed_at o (elim (changed_at o old) [ None ↦ old | Some c ↦ place_from 0 expansions c.0 ]) ≡ moved_by expansions (changed_at o old)
+changed_once : (expansions : List Expansion) (o : UpdateOp) (old : ℕ) → changed_at o (elim (changed_at o old) [ None ↦ old | Some c ↦ place_from 0 expansions c.0 ]) ≡ shifted_by expansions (changed_at o old)
 changed_once expansions op.Append old = refl
 changed_once expansions op.Replace old = refl
 changed_once expansions op.Delete old = refl
 changed_once expansions op.Into old = refl
 
-pub changed_moved : (db : Db) (who : Who) (u : Update) → changed (expanded_update db who u) ≡ moved_by (update_expansions db who u) (changed u)
+pub changed_shifted : (db : Db) (who : Who) (u : Update) → changed (expanded_update db who u) ≡ shifted_by (update_expansions db who u) (changed u)
 unfolding expanded_update
-changed_moved db who u = changed_once (update_expansions db who u) u.op u.old
+changed_shifted db who u = changed_once (update_expansions db who u) u.op u.old
 
 -- ---- the expansion of the changed variable
 
@@ -135,7 +135,7 @@ module _ (db : Db) (who : Who) (u : Update) where
   put_inside (key ∷ keys) k n zero h f long a =
       let same : k + 0 ≡ k = omega arith in
       let own = own_expansion k key (ap (is_changed u) (sym same) ∙ h) in
-      ap (λ terms. val no_aggs (moved n (own_or terms a)) f) own.1 ∙ here
+      ap (λ terms. val no_aggs (shifted n (own_or terms a)) f) own.1 ∙ here
     where
       none_more : n + 0 ≡ n
       none_more = omega arith
@@ -193,7 +193,7 @@ module _ (db : Db) (d : IsDatabase db) (who : Who) (u : Update) (nest : aggregat
   unrestricted_one w key kept right true h = unrestricted_changed db right u.places (used_in_query w unrestricted_query) key
   unrestricted_one w key kept right false h = rows_used_all w key kept (h refl)
 
-  unrestricted_each : (w : ℕ) (key : RelKey) → is_no_view (range_at db key) ≡ true → (o : Option (ℕ × Right)) → IsUsedOr o w → unrestricted_with w key (moved_by expansions o) ≡ rows_at db key
+  unrestricted_each : (w : ℕ) (key : RelKey) → is_no_view (range_at db key) ≡ true → (o : Option (ℕ × Right)) → IsUsedOr o w → unrestricted_with w key (shifted_by expansions o) ≡ rows_at db key
   unrestricted_each w key kept None (inl h) = rows_used_all w key kept h
   unrestricted_each w key kept None (inr (i, changes, at)) = cc changes
   unrestricted_each w key kept (Some c) (inl h) = unrestricted_one w key kept c.1 (place_from 0 expansions c.0 == w) (λ e. h)
@@ -221,7 +221,7 @@ module _ (db : Db) (d : IsDatabase db) (who : Who) (u : Update) (nest : aggregat
           → seen_rows db Unrestricted (rows_of db Unrestricted) (expanded_update db who u) (0 + v) key ≡ rows_at db key
       each v key inside kept =
           ap (λ v. seen_rows db Unrestricted (rows_of db Unrestricted) (expanded_update db who u) v key) (sym (none_before v))
-          ∙ ap (unrestricted_with v key) (changed_moved db who u)
+          ∙ ap (unrestricted_with v key) (changed_shifted db who u)
           ∙ unrestricted_each v key kept (changed u) (used_or v inside)
 
   -- ---- assignments beside each other
@@ -265,7 +265,7 @@ module _ (db : Db) (d : IsDatabase db) (who : Who) (u : Update) (nest : aggregat
 
   old_one : (e f : Env) → length e ≡ length (vars_of u.query) → length f ≡ length (expansions_vars expansions) → StandsFor (substituted_from 0 expansions) f e → (o : Option (ℕ × Right))
       → ((v : ℕ) → is_changed_by v o ≡ true → is_changed u v ≡ true)
-      → old_by (moved_by expansions o) f ≡ old_by o e
+      → old_by (shifted_by expansions o) f ≡ old_by o e
   old_one e f long_e long_f stands None is = refl
   old_one e f long_e long_f stands (Some c) is =
       sym (same_place e f c.0 (place_from 0 expansions c.0) inside (λ a. sym (stands no_aggs c.0 a) ∙ put_inside db who u (vars_of u.query) 0 0 c.0 changes f total a))
@@ -287,7 +287,7 @@ module _ (db : Db) (d : IsDatabase db) (who : Who) (u : Update) (nest : aggregat
 
   old_same : (e f : Env) → In e (choices rowss) → In f (choices (kept_lists db (expansions_vars expansions))) → StandsFor (substituted_from 0 expansions) f e → old_in (expanded_update db who u) f ≡ old_in u e
   old_same e f in_e in_f stands =
-      ap (λ o. old_by o f) (changed_moved db who u)
+      ap (λ o. old_by o f) (changed_shifted db who u)
       ∙ old_one e f (e_long e in_e) (f_long f in_f) stands (changed u) (λ v h. h)
 
   -- each assignment has one beside it

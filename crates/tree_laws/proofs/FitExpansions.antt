@@ -18,7 +18,7 @@ use Rattle.calculus.specs.Rights.{Right, covers, needs_none}
 use Rattle.calculus_laws.proofs.Enough.{same_key-exact}
 use Rattle.quel_meaning.specs.FitQueries.{is_kept}
 use Rattle.view_text.specs.declared.expansion.Expansion.{Expansion}
-use Rattle.view_text.specs.Replaced.{moved_qual, of_only, moved}
+use Rattle.view_text.specs.Replaced.{shifted_qual, of_only, shifted}
 use Rattle.view_text.specs.Halves.{any_of}
 use Rattle.view_text.specs.Scoped.{is_within, is_qual_within, are_within, is_scoped}
 use Rattle.view_text.specs.Expansions.{attr_term, expansions_vars, substituted_from, conditions_from}
@@ -26,7 +26,7 @@ use Rattle.view_text.specs.ExpansionOf.{permit_condition, covering, restriction,
 use Rattle.tree_laws.proofs.Halves.{test_joined, over, and_assoc, and_right}
 use Rattle.tree_laws.proofs.Scopes.{both_true}
 use Rattle.tree_laws.proofs.Joint.{all_append, both_are, attr_within}
-use Rattle.tree_laws.proofs.SameKinds.{VarKinds, HasKinds, kind_moved, all_fit_moved, fit_replaced}
+use Rattle.tree_laws.proofs.SameKinds.{VarKinds, HasKinds, kind_shifted, all_fit_shifted, fit_replaced}
 
 -- the kinds of the attributes of what each key stands for
 abbrev pub kinds_of : Db → List RelKey → VarKinds
@@ -150,13 +150,13 @@ module _ (db : Db) (expansion_at : ℕ → RelKey → Expansion) (scoped : (v : 
   abbrev pub FitEach : ℕ → List RelKey → Type 0
   FitEach k keys = (v : ℕ) (key : RelKey) → slice_get keys v ≡ Some key → Known (k + v) → IsFitExpansion db key (expansion_at (k + v) key)
 
-  moved_kind : (pre seg post : VarKinds) (n k : ℕ) (t : QTerm) → length pre ≡ n → length seg ≡ k → is_within k t ≡ true
-      → kind_of (moved n t) (pre ++ (seg ++ post)) ≡ kind_of t seg
-  moved_kind pre seg post n k t e f h =
-      subst (λ m. kind_of (moved m t) (pre ++ (seg ++ post)) ≡ kind_of t seg) e (kind_moved pre seg post t (subst (λ k. is_within k t ≡ true) (sym f) h))
+  shifted_kind : (pre seg post : VarKinds) (n k : ℕ) (t : QTerm) → length pre ≡ n → length seg ≡ k → is_within k t ≡ true
+      → kind_of (shifted n t) (pre ++ (seg ++ post)) ≡ kind_of t seg
+  shifted_kind pre seg post n k t e f h =
+      subst (λ m. kind_of (shifted m t) (pre ++ (seg ++ post)) ≡ kind_of t seg) e (kind_shifted pre seg post t (subst (λ k. is_within k t ≡ true) (sym f) h))
 
-  shifted : (k v : ℕ) → k + 1 + v ≡ k + suc v
-  shifted k v = omega arith
+  next_shifted : (k v : ℕ) → k + 1 + v ≡ k + suc v
+  next_shifted k v = omega arith
 
   pub put_kinds : (keys : List RelKey) (k n : ℕ) (pre : VarKinds) → length pre ≡ n → FitEach k keys
       → HasKinds (λ v. Known (k + v)) (substituted_from n (expansions_at k keys)) (pre ++ kinds_of db (expansions_vars (expansions_at k keys))) (kinds_of db keys)
@@ -169,7 +169,7 @@ module _ (db : Db) (expansion_at : ℕ → RelKey → Expansion) (scoped : (v : 
       let own = kinds_of db (expansion_at k key).vars in
       let rest = kinds_of db (expansions_vars (expansions_at (k + 1) keys)) in
       ap (λ vars. kind_of (substituted_from n (expansions_at k (key ∷ keys)) 0 a) (pre ++ vars)) (kinds_behind db (expansion_at k key).vars (expansions_vars (expansions_at (k + 1) keys)))
-      ∙ moved_kind pre own rest n (length (expansion_at k key).vars) (attr_term (expansion_at k key) a) long (kinds_long db (expansion_at k key).vars) (attr_within (expansion_at k key) a (scoped k key))
+      ∙ shifted_kind pre own rest n (length (expansion_at k key).vars) (attr_term (expansion_at k key) a) long (kinds_long db (expansion_at k key).vars) (attr_within (expansion_at k key) a (scoped k key))
       ∙ fits.kinds a h
   put_kinds (key ∷ keys) k n pre long fit (suc v) a known h =
       let own = kinds_of db (expansion_at k key).vars in
@@ -177,8 +177,8 @@ module _ (db : Db) (expansion_at : ℕ → RelKey → Expansion) (scoped : (v : 
       let both : length (pre ++ own) ≡ n + length (expansion_at k key).vars = length_behind pre own ∙ (λ i. long i + kinds_long db (expansion_at k key).vars i) in
       ap (λ vars. kind_of (substituted_from (n + length (expansion_at k key).vars) (expansions_at (k + 1) keys) v a) (pre ++ vars)) (kinds_behind db (expansion_at k key).vars (expansions_vars (expansions_at (k + 1) keys)))
       ∙ ap (kind_of (substituted_from (n + length (expansion_at k key).vars) (expansions_at (k + 1) keys) v a)) (sym (behind_assoc pre own rest))
-      ∙ put_kinds keys (k + 1) (n + length (expansion_at k key).vars) (pre ++ own) both (λ w other there known. subst (λ i. IsFitExpansion db other (expansion_at i other)) (sym (shifted k w)) (fit (suc w) other there (subst Known (shifted k w) known)))
-      v a (subst Known (sym (shifted k v)) known) h
+      ∙ put_kinds keys (k + 1) (n + length (expansion_at k key).vars) (pre ++ own) both (λ w other there known. subst (λ i. IsFitExpansion db other (expansion_at i other)) (sym (next_shifted k w)) (fit (suc w) other there (subst Known (next_shifted k w) known)))
+      v a (subst Known (sym (next_shifted k v)) known) h
 
   -- an expansion without variables has no conditions that need any
   pub conditions_kinds : (keys : List RelKey) (k n : ℕ) (pre : VarKinds) → length pre ≡ n
@@ -193,10 +193,10 @@ module _ (db : Db) (expansion_at : ℕ → RelKey → Expansion) (scoped : (v : 
       let both : length (pre ++ own) ≡ n + length (expansion_at k key).vars = length_behind pre own ∙ (λ i. long i + kinds_long db (expansion_at k key).vars i) in
       let within = (both_true (are_within (length (expansion_at k key).vars) (expansion_at k key).terms) (list_all (is_qual_within (length (expansion_at k key).vars)) (expansion_at k key).conditions) (scoped k key)).1 in
       ap (λ vars. all_fit (pre ++ vars) (conditions_from n (expansions_at k (key ∷ keys)))) (kinds_behind db (expansion_at k key).vars (expansions_vars (expansions_at (k + 1) keys)))
-      ∙ all_append (λ q. kinds_fit q (pre ++ (own ++ rest))) (map (moved_qual n) (expansion_at k key).conditions) (conditions_from (n + length (expansion_at k key).vars) (expansions_at (k + 1) keys))
-      ∙ both_are (all_fit (pre ++ (own ++ rest)) (map (moved_qual n) (expansion_at k key).conditions)) (all_fit (pre ++ (own ++ rest)) (conditions_from (n + length (expansion_at k key).vars) (expansions_at (k + 1) keys)))
-      (subst (λ m. all_fit (pre ++ (own ++ rest)) (map (moved_qual m) (expansion_at k key).conditions) ≡ true) long
-      (all_fit_moved pre own rest (expansion_at k key).conditions (subst (λ j. list_all (is_qual_within j) (expansion_at k key).conditions ≡ true) (sym (kinds_long db (expansion_at k key).vars)) within) ∙ fits))
+      ∙ all_append (λ q. kinds_fit q (pre ++ (own ++ rest))) (map (shifted_qual n) (expansion_at k key).conditions) (conditions_from (n + length (expansion_at k key).vars) (expansions_at (k + 1) keys))
+      ∙ both_are (all_fit (pre ++ (own ++ rest)) (map (shifted_qual n) (expansion_at k key).conditions)) (all_fit (pre ++ (own ++ rest)) (conditions_from (n + length (expansion_at k key).vars) (expansions_at (k + 1) keys)))
+      (subst (λ m. all_fit (pre ++ (own ++ rest)) (map (shifted_qual m) (expansion_at k key).conditions) ≡ true) long
+      (all_fit_shifted pre own rest (expansion_at k key).conditions (subst (λ j. list_all (is_qual_within j) (expansion_at k key).conditions ≡ true) (sym (kinds_long db (expansion_at k key).vars)) within) ∙ fits))
       (ap (λ vars. all_fit vars (conditions_from (n + length (expansion_at k key).vars) (expansions_at (k + 1) keys))) (sym (behind_assoc pre own rest))
       ∙ conditions_kinds keys (k + 1) (n + length (expansion_at k key).vars) (pre ++ own) both
-      (λ w other there. subst (λ i. all_fit (kinds_of db (expansion_at i other).vars) (expansion_at i other).conditions ≡ true) (sym (shifted k w)) (fit (suc w) other there)))
+      (λ w other there. subst (λ i. all_fit (kinds_of db (expansion_at i other).vars) (expansion_at i other).conditions ≡ true) (sym (next_shifted k w)) (fit (suc w) other there)))

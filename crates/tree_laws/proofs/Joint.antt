@@ -11,11 +11,11 @@ use Rattle.calculus.specs.Database.{Db}
 use Rattle.calculus.specs.Stored.{rows_at}
 use Rattle.calculus_laws.proofs.Members.{In, Chosen}
 use Rattle.view_text.specs.declared.expansion.Expansion.{Expansion}
-use Rattle.view_text.specs.Replaced.{moved_qual}
+use Rattle.view_text.specs.Replaced.{shifted_qual}
 use Rattle.view_text.specs.Scoped.{is_within, is_qual_within, are_within, is_scoped}
 use Rattle.view_text.specs.Expansions.{attr_term, own_or, term_at, expansions_vars, substituted_from, conditions_from}
 use Rattle.tree_laws.proofs.Values.{without_value_has_none, StandsFor}
-use Rattle.tree_laws.proofs.Scopes.{both_true, val_moved, all_moved}
+use Rattle.tree_laws.proofs.Scopes.{both_true, val_shifted, all_shifted}
 
 -- ---- lists
 
@@ -137,21 +137,21 @@ module _ (db : Db) (aggs : Aggs) where
     further_on : length (pre ++ seg) ≡ n + length expansion.vars
     further_on = length_behind pre seg ∙ (λ i. here i + long i)
 
-    conditions_moved : all_hold aggs (map (moved_qual n) expansion.conditions) (pre ++ (seg ++ rest)) ≡ all_hold no_aggs expansion.conditions seg
-    conditions_moved =
-        subst (λ m. all_hold aggs (map (moved_qual m) expansion.conditions) (pre ++ (seg ++ rest)) ≡ all_hold no_aggs expansion.conditions seg) here
-        (all_moved aggs no_aggs pre seg rest expansion.conditions (subst (λ k. list_all (is_qual_within k) expansion.conditions ≡ true) (sym long) (conditions_within expansion scoped)))
+    conditions_shifted : all_hold aggs (map (shifted_qual n) expansion.conditions) (pre ++ (seg ++ rest)) ≡ all_hold no_aggs expansion.conditions seg
+    conditions_shifted =
+        subst (λ m. all_hold aggs (map (shifted_qual m) expansion.conditions) (pre ++ (seg ++ rest)) ≡ all_hold no_aggs expansion.conditions seg) here
+        (all_shifted aggs no_aggs pre seg rest expansion.conditions (subst (λ k. list_all (is_qual_within k) expansion.conditions ≡ true) (sym long) (conditions_within expansion scoped)))
 
     conditions_apart : all_hold aggs (conditions_from n (expansion ∷ expansions)) (pre ++ (seg ++ rest))
         ≡ (all_hold no_aggs expansion.conditions seg && all_hold aggs (conditions_from (n + length expansion.vars) expansions) ((pre ++ seg) ++ rest))
     conditions_apart =
-        all_append (λ q. holds aggs q (pre ++ (seg ++ rest))) (map (moved_qual n) expansion.conditions) (conditions_from (n + length expansion.vars) expansions)
-        ∙ (λ i. conditions_moved i && all_hold aggs (conditions_from (n + length expansion.vars) expansions) (sym (behind_assoc pre seg rest) i))
+        all_append (λ q. holds aggs q (pre ++ (seg ++ rest))) (map (shifted_qual n) expansion.conditions) (conditions_from (n + length expansion.vars) expansions)
+        ∙ (λ i. conditions_shifted i && all_hold aggs (conditions_from (n + length expansion.vars) expansions) (sym (behind_assoc pre seg rest) i))
 
     first_attribute : IsRow expansion row seg → (others : Aggs) (a : ℕ) → val others (substituted_from n (expansion ∷ expansions) 0 a) (pre ++ (seg ++ rest)) ≡ attribute_value (row ∷ e) 0 a
     first_attribute is others a =
         subst (λ m. val others (substituted_from m (expansion ∷ expansions) 0 a) (pre ++ (seg ++ rest)) ≡ val no_aggs (attr_term expansion a) seg) here
-        (val_moved others no_aggs pre seg rest (attr_term expansion a) (subst (λ k. is_within k (attr_term expansion a) ≡ true) (sym long) (attr_within expansion a scoped)))
+        (val_shifted others no_aggs pre seg rest (attr_term expansion a) (subst (λ k. is_within k (attr_term expansion a) ≡ true) (sym long) (attr_within expansion a scoped)))
         ∙ is a ∙ sym (first_row row e a)
 
     together : IsRow expansion row seg → all_hold no_aggs expansion.conditions seg ≡ true → Says (n + length expansion.vars) expansions (pre ++ seg) rest e → Says n (expansion ∷ expansions) pre (seg ++ rest) (row ∷ e)

@@ -15,7 +15,7 @@ use Rattle.calculus.specs.Used.{used, used_in_qual, used_in_query}
 use Rattle.calculus_laws.proofs.Members.{In, Within}
 use Rattle.calculus_laws.proofs.Plain.{none_left, none_right, in_targets}
 use Rattle.view_text.specs.declared.expansion.Expansion.{Expansion}
-use Rattle.view_text.specs.Replaced.{further, moved, moved_qual, replaced, replaced_in_qual, no_aggregate}
+use Rattle.view_text.specs.Replaced.{further, shifted, shifted_qual, replaced, replaced_in_qual, no_aggregate}
 use Rattle.view_text.specs.Scoped.{is_within, is_qual_within, are_within, is_scoped}
 use Rattle.view_text.specs.Expansions.{attr_term, expansions_vars, substituted_from, conditions_from, place_from}
 use Rattle.view_text.specs.ExpansionOf.{has_value, kept_expansion, substituted_terms, rows_conditions, settled, rows_expansion}
@@ -27,7 +27,7 @@ use Rattle.tree_laws.proofs.Joint.{attr_within}
 use Rattle.tree_laws.proofs.Queries.{targets_of-put}
 use Rattle.tree_laws.proofs.Named.{Names, KeepsNames, term_named, qual_named, targets_named, none_keep, either_true, left_true, right_true}
 
--- ---- terms that have moved
+-- ---- terms that are shifted
 
 pub within_plain : (k : ℕ) (t : QTerm) → is_within k t ≡ true → term_aggregates t ≡ []
 unfolding is_within term_aggregates
@@ -59,11 +59,11 @@ further_names n v w e a = by (n + v == w) (grind (arith, nat_tests, e))
     by true h = refl
     by false h = cc h
 
-moved_named : (n v w k : ℕ) (t : QTerm) → w ≡ n + v → is_within k t ≡ true → is_any (used v t) ≡ true → is_any (used w (moved n t)) ≡ true
-moved_named n v w k t e within h = term_named no_aggregate (further n) [] (none_keep (further n)) v w (further_names n v w e) t (within_none (term_aggregates t) (within_plain k t within)) h
+shifted_named : (n v w k : ℕ) (t : QTerm) → w ≡ n + v → is_within k t ≡ true → is_any (used v t) ≡ true → is_any (used w (shifted n t)) ≡ true
+shifted_named n v w k t e within h = term_named no_aggregate (further n) [] (none_keep (further n)) v w (further_names n v w e) t (within_none (term_aggregates t) (within_plain k t within)) h
 
-qual_moved_named : (n v w k : ℕ) (q : QQual) → w ≡ n + v → is_qual_within k q ≡ true → is_any (used_in_qual v q) ≡ true → is_any (used_in_qual w (moved_qual n q)) ≡ true
-qual_moved_named n v w k q e within h =
+qual_shifted_named : (n v w k : ℕ) (q : QQual) → w ≡ n + v → is_qual_within k q ≡ true → is_any (used_in_qual v q) ≡ true → is_any (used_in_qual w (shifted_qual n q)) ≡ true
+qual_shifted_named n v w k q e within h =
     qual_named no_aggregate (further n) [] (none_keep (further n)) v w (further_names n v w e) q (within_none (qual_aggregates q) (qual_within_plain k q within)) h
 
 -- ---- texts that name each of their variables
@@ -80,13 +80,13 @@ StandsIn expansion v = (some_name v expansion.conditions ≡ true) ⊎ ((a : ℕ
 abbrev pub NamesAll : Expansion → Type 0
 NamesAll expansion = (v : ℕ) → nat_lt v (length expansion.vars) ≡ true → StandsIn expansion v
 
-conditions_moved : (n v w k : ℕ) (qs : List QQual) → w ≡ n + v → list_all (is_qual_within k) qs ≡ true → some_name v qs ≡ true → some_name w (map (moved_qual n) qs) ≡ true
-conditions_moved n v w k [] e within h = cc h
-conditions_moved n v w k (q ∷ qs) e within h =
+conditions_shifted : (n v w k : ℕ) (qs : List QQual) → w ≡ n + v → list_all (is_qual_within k) qs ≡ true → some_name v qs ≡ true → some_name w (map (shifted_qual n) qs) ≡ true
+conditions_shifted n v w k [] e within h = cc h
+conditions_shifted n v w k (q ∷ qs) e within h =
     let parts = both_true (is_qual_within k q) (list_all (is_qual_within k) qs) within in
     elim (either_true (is_any (used_in_qual v q)) (some_name v qs) h) [
-      | inl here ↦ left_true (is_any (used_in_qual w (moved_qual n q))) (some_name w (map (moved_qual n) qs)) (qual_moved_named n v w k q e parts.0 here)
-      | inr later ↦ right_true (is_any (used_in_qual w (moved_qual n q))) (some_name w (map (moved_qual n) qs)) (conditions_moved n v w k qs e parts.1 later)
+      | inl here ↦ left_true (is_any (used_in_qual w (shifted_qual n q))) (some_name w (map (shifted_qual n) qs)) (qual_shifted_named n v w k q e parts.0 here)
+      | inr later ↦ right_true (is_any (used_in_qual w (shifted_qual n q))) (some_name w (map (shifted_qual n) qs)) (conditions_shifted n v w k qs e parts.1 later)
     ]
 
 any_behind : {X : Type 0} (p : X → Bool) (xs ys : List X) → list_any p (xs ++ ys) ≡ (list_any p xs || list_any p ys)
@@ -114,9 +114,9 @@ module _ (expansion_at : ℕ → RelKey → Expansion) (IsMeant : ℕ → ℕ �
 
   here : (n k : ℕ) (key : RelKey) (keys : List RelKey) (v w : ℕ) → w ≡ n + v → nat_lt v (length (expansion_at k key).vars) ≡ true → StandsIn (expansion_at k key) v → IsPlaced n k (key ∷ keys) w
   here n k key keys v w e inside (inl condition) =
-      inl (any_behind (λ q. is_any (used_in_qual w q)) (map (moved_qual n) (expansion_at k key).conditions) (conditions_from (n + length (expansion_at k key).vars) (expansions_at (k + 1) keys))
-      ∙ left_true (some_name w (map (moved_qual n) (expansion_at k key).conditions)) (some_name w (conditions_from (n + length (expansion_at k key).vars) (expansions_at (k + 1) keys)))
-      (conditions_moved n v w (length (expansion_at k key).vars) (expansion_at k key).conditions e
+      inl (any_behind (λ q. is_any (used_in_qual w q)) (map (shifted_qual n) (expansion_at k key).conditions) (conditions_from (n + length (expansion_at k key).vars) (expansions_at (k + 1) keys))
+      ∙ left_true (some_name w (map (shifted_qual n) (expansion_at k key).conditions)) (some_name w (conditions_from (n + length (expansion_at k key).vars) (expansions_at (k + 1) keys)))
+      (conditions_shifted n v w (length (expansion_at k key).vars) (expansion_at k key).conditions e
       (both_true (are_within (length (expansion_at k key).vars) (expansion_at k key).terms) (list_all (is_qual_within (length (expansion_at k key).vars)) (expansion_at k key).conditions) (scoped k key)).1 condition))
   here n k key keys v w e inside (inr attribute) =
       let same : k ≡ k + 0 = omega arith in
@@ -125,13 +125,13 @@ module _ (expansion_at : ℕ → RelKey → Expansion) (IsMeant : ℕ → ℕ �
         v,
         e,
         subst (λ i. IsMeant i v) same (meant k key v inside),
-        λ a. moved_named n v w (length (expansion_at k key).vars) (attr_term (expansion_at k key) a) e (attr_within (expansion_at k key) a (scoped k key)) (attribute a),
+        λ a. shifted_named n v w (length (expansion_at k key).vars) (attr_term (expansion_at k key) a) e (attr_within (expansion_at k key) a (scoped k key)) (attribute a),
       )
 
   later : (n k : ℕ) (key : RelKey) (keys : List RelKey) (w : ℕ) → IsPlaced (n + length (expansion_at k key).vars) (k + 1) keys w → IsPlaced n k (key ∷ keys) w
   later n k key keys w (inl condition) =
-      inl (any_behind (λ q. is_any (used_in_qual w q)) (map (moved_qual n) (expansion_at k key).conditions) (conditions_from (n + length (expansion_at k key).vars) (expansions_at (k + 1) keys))
-      ∙ right_true (some_name w (map (moved_qual n) (expansion_at k key).conditions)) (some_name w (conditions_from (n + length (expansion_at k key).vars) (expansions_at (k + 1) keys))) condition)
+      inl (any_behind (λ q. is_any (used_in_qual w q)) (map (shifted_qual n) (expansion_at k key).conditions) (conditions_from (n + length (expansion_at k key).vars) (expansions_at (k + 1) keys))
+      ∙ right_true (some_name w (map (shifted_qual n) (expansion_at k key).conditions)) (some_name w (conditions_from (n + length (expansion_at k key).vars) (expansions_at (k + 1) keys))) condition)
   later n k key keys w (inr (i, j, at, is_meant, names)) = let same : k + 1 + i ≡ k + suc i = omega arith in inr (suc i, j, at, subst (λ i. IsMeant i j) same is_meant, names)
 
   pub placed : (keys : List RelKey) (n k w v : ℕ) → w ≡ n + v → nat_lt v (length (expansions_vars (expansions_at k keys))) ≡ true → IsPlaced n k keys w

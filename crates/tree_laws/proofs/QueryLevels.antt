@@ -32,7 +32,7 @@ use Rattle.tree_laws.proofs.Values.{within_left, within_right}
 use Rattle.tree_laws.proofs.Joined.{doubled, Low, low_all, low_more}
 use Rattle.tree_laws.proofs.Replaced.{term_replaced, qual_replaced, none_made, greatest_terms, row_terms, terms_row, greatest_targets, query_is, built_is, some_qual}
 use Rattle.tree_laws.proofs.Permits.{le_is, restriction_low}
-use Rattle.tree_laws.proofs.Counted.{many, many_more, exponent, room, room_some, room_more, conditions_few, conditions_low, put_low, all_expansions, expansions_long}
+use Rattle.tree_laws.proofs.Counted.{times, times_more, exponent, room, room_some, room_more, conditions_few, conditions_low, put_low, all_expansions, expansions_long}
 use Rattle.tree_laws.proofs.TextLaws.{all_low, view_in, view_terms_low, view_qual_low, view_conditions_low, view_conditions_few, term_low, expansion_low, expansion_few}
 
 -- ---- a query whose parts are low
@@ -85,13 +85,13 @@ unfolding exponent
 exponent_is = refl
 
 -- one expansion of a base relation or a view
-one_few : (k : ℕ) → 256 ≤ doubled k → suc (many 1 (doubled k)) ≤ doubled (suc k)
-unfolding many doubled
+one_few : (k : ℕ) → 256 ≤ doubled k → suc (times 1 (doubled k)) ≤ doubled (suc k)
+unfolding times doubled
 one_few k some = omega (arith, some)
 
 -- fifty texts
-pub fifty_few : (k : ℕ) → 256 ≤ doubled k → suc (many 50 (doubled k)) ≤ doubled (suc (suc (suc (suc (suc (suc k))))))
-unfolding many doubled
+pub fifty_few : (k : ℕ) → 256 ≤ doubled k → suc (times 50 (doubled k)) ≤ doubled (suc (suc (suc (suc (suc (suc k))))))
+unfolding times doubled
 fifty_few k some = omega (arith, some)
 
 two_doubled : doubled 1 ≡ 2
@@ -140,10 +140,10 @@ module _ (db : Db) (d : IsDatabase db) (who : Who) where
   pub query_conditions_low : (q : Query) → Low 1008 (conditions_from 0 (query_expansions (expansion_of db who) q))
   query_conditions_low q = conditions_low 1008 (query_expansions (expansion_of db who) q) (all_expansions (λ t. Low 1008 t.conditions) (expansion_of db who) used_expansion_low q 0 (vars_of q)) 0
 
-  pub query_conditions_few : (q : Query) → length (conditions_from 0 (query_expansions (expansion_of db who) q)) ≤ many (length (vars_of q)) (room 16)
+  pub query_conditions_few : (q : Query) → length (conditions_from 0 (query_expansions (expansion_of db who) q)) ≤ times (length (vars_of q)) (room 16)
   query_conditions_few q =
       let few = conditions_few (room 16) (query_expansions (expansion_of db who) q) (all_expansions (λ t. length t.conditions ≤ room 16) (expansion_of db who) used_expansion_few q 0 (vars_of q)) 0 in
-      subst (λ n. length (conditions_from 0 (query_expansions (expansion_of db who) q)) ≤ many n (room 16)) (expansions_long (expansion_of db who) q 0 (vars_of q)) few
+      subst (λ n. length (conditions_from 0 (query_expansions (expansion_of db who) q)) ≤ times n (room 16)) (expansions_long (expansion_of db who) q 0 (vars_of q)) few
 
   -- a view through one level less
   range_low : (key : RelKey) (r : Option Range) → range_at db key ≡ r → source_levels (expanded_range db who key r) ≤ 1081
@@ -174,7 +174,7 @@ module _ (db : Db) (d : IsDatabase db) (who : Who) where
   plain_low q short =
       let expansions = query_expansions (expansion_of db who) q in
       let counted = query_conditions_few q in
-      let one = many_more (length (vars_of q)) 1 (room 16) short in
+      let one = times_more (length (vars_of q)) 1 (room 16) short in
       let some = room_some 16 in
       let double = one_few (exponent 16) some in
       let few : suc (length (conditions_from 0 expansions)) ≤ doubled (suc (exponent 16)) = omega (arith, counted, one, double) in
@@ -251,7 +251,7 @@ module _ (db : Db) (d : IsDatabase db) (who : Who) where
 
   -- a query over these expansion, of which the terms have at most 1,001 levels and the conditions at most 1,008
   pub over_low : (expansions : List Expansion) (q : Query) → list_all (λ g. source_fits (kept_or_viewed db) db g.source) (query_aggregates q) ≡ true
-      → ((v a : ℕ) → term_levels (substituted_from 0 expansions v a) ≤ 1001) → Low 1008 (conditions_from 0 expansions) → length (conditions_from 0 expansions) ≤ many 50 (room 16)
+      → ((v a : ℕ) → term_levels (substituted_from 0 expansions v a) ≤ 1001) → Low 1008 (conditions_from 0 expansions) → length (conditions_from 0 expansions) ≤ times 50 (room 16)
       → query_levels (substituted_query (expanded_made db who (substituted_from 0 expansions)) expansions q) ≤ query_levels q + 1160
   over_low expansions q fit puts conditions counted =
       let some = room_some 16 in

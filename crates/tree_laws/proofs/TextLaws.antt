@@ -31,9 +31,9 @@ use Rattle.tree_laws.proofs.Sound.{viewed}
 use Rattle.tree_laws.proofs.Denoted.{expansions_said}
 use Rattle.tree_laws.proofs.FitWithin.{measure_said}
 use Rattle.tree_laws.proofs.Joined.{Low, low_append}
-use Rattle.tree_laws.proofs.Replaced.{none_sized, some_size, moved_low, term_sized, qual_sized}
+use Rattle.tree_laws.proofs.Replaced.{none_sized, some_size, shifted_low, term_sized, qual_sized}
 use Rattle.tree_laws.proofs.Permits.{le_is, restriction_low}
-use Rattle.tree_laws.proofs.Counted.{many, many_more, room, room_some, room_more, conditions_low, used_few, all_expansions, settled_low, settled_few}
+use Rattle.tree_laws.proofs.Counted.{times, times_more, room, room_some, room_more, conditions_low, used_few, all_expansions, settled_low, settled_few}
 
 -- the size of an attribute of what is so measured
 abbrev pub own_size : Measure → ℕ → ℕ
@@ -102,7 +102,7 @@ module _ (known : Known) (expansions : ExpansionSource) (sized : (key : RelKey) 
   put_sized k n [] v a = let size = none_sized v a in omega (arith, size)
   put_sized k n (key ∷ keys) zero a =
       let own = used_sized key (used_in_query k q) a in
-      let less = moved_low n (attr_term (used_expansion expansions key (used_in_query k q)) a) in
+      let less = shifted_low n (attr_term (used_expansion expansions key (used_in_query k q)) a) in
       omega (arith, own, less)
   put_sized k n (key ∷ keys) (suc v) a = put_sized (k + 1) (n + length (used_expansion expansions key (used_in_query k q)).vars) keys v a
 
@@ -226,10 +226,10 @@ module _ (db : Db) (d : IsDatabase db) where
       view_conditions_low h =
           conditions_low 1008 (query_expansions expansions view.query) (all_expansions (λ t. Low 1008 t.conditions) expansions (used_low h) view.query 0 (vars_of view.query)) 0
 
-      pub view_conditions_few : length (conditions_from 0 (query_expansions expansions view.query)) ≤ many 10 (room n)
+      pub view_conditions_few : length (conditions_from 0 (query_expansions expansions view.query)) ≤ times 10 (room n)
       view_conditions_few =
           let used = used_few (room n) expansions (λ key attrs. (below key attrs).few) view.query 0 0 (vars_of view.query) in
-          let ten = many_more (length (used_vars view.query)) 10 (room n) (view_uses view inside) in
+          let ten = times_more (length (used_vars view.query)) 10 (room n) (view_uses view inside) in
           omega (arith, used, ten)
 
       rows_low : suc n ≤ 17 → Low 1008 (rows_conditions (query_expansions expansions view.query) view.query)

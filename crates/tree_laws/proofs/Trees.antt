@@ -33,7 +33,7 @@ use Rattle.tree_laws.proofs.Scopes.{both_true}
 use Rattle.reading_laws.specs.Levels.{tree_levels}
 use Rattle.tree_laws.proofs.Joined.{Low, low_append}
 use Rattle.tree_laws.proofs.Permits.{le_is, restriction_low, rules_low}
-use Rattle.tree_laws.proofs.Counted.{many_more, room, room_some, conditions_few, conditions_low, put_low}
+use Rattle.tree_laws.proofs.Counted.{times_more, room, room_some, conditions_few, conditions_low, put_low}
 use Rattle.tree_laws.proofs.QueryLevels.{used_term_low, used_expansion_low, used_expansion_few, puts_low, query_conditions_low, query_conditions_few, with_one_low, over_low}
 
 module _ (db : Db) (d : IsDatabase db) (who : Who) where
@@ -54,7 +54,7 @@ module _ (db : Db) (d : IsDatabase db) (who : Who) where
   query_low q h =
       let parts = reads_parts q h in
       let counted = query_conditions_few db d who q in
-      let more = many_more (length (vars_of q)) 50 (room 16) parts.1 in
+      let more = times_more (length (vars_of q)) 50 (room 16) parts.1 in
       over_low db d who (map (λ p. used_expansion (expansion_of db who) p.1 (used_in_query p.0 q)) (enumerate_from 0 (vars_of q))) q parts.0
       (puts_low db d who q) (query_conditions_low db d who q) (omega (arith, counted, more))
 
@@ -136,7 +136,7 @@ module _ (db : Db) (d : IsDatabase db) (who : Who) where
       let counted = conditions_few (room 16) (update_expansions db who u) (update_all (λ t. length t.conditions ≤ room 16) u (λ t low. low.few) 0 (vars_of u.query)) 0 in
       let long = update_long u 0 (vars_of u.query) in
       let short : length (update_expansions db who u) ≤ 50 = omega (arith, long, parts.1) in
-      let more = many_more (length (update_expansions db who u)) 50 (room 16) short in
+      let more = times_more (length (update_expansions db who u)) 50 (room 16) short in
       over_low db d who (update_expansions db who u) u.query parts.0
       (put_low 1001 (update_expansions db who u) two (update_all (λ t. (a : ℕ) → term_levels (attr_term t a) ≤ 1001) u (λ t low. low.terms) 0 (vars_of u.query)) 0)
       (conditions_low 1008 (update_expansions db who u) (update_all (λ t. Low 1008 t.conditions) u (λ t low. low.conditions) 0 (vars_of u.query)) 0)

@@ -12,7 +12,7 @@ use Rattle.calculus.specs.declared.query.Query.{Query}
 use Rattle.calculus.specs.Tree.{neg, abs, operation, concat, both, either, negated}
 use Rattle.calculus.specs.QueryParts.{targets_of, qual_of}
 use Rattle.view_text.specs.declared.expansion.Expansion.{Expansion}
-use Rattle.view_text.specs.Replaced.{Substitution, without_value, moved, moved_qual, replaced, replaced_in_qual, no_aggregate}
+use Rattle.view_text.specs.Replaced.{Substitution, without_value, shifted, shifted_qual, replaced, replaced_in_qual, no_aggregate}
 use Rattle.view_text.specs.Scoped.{is_within, is_qual_within, are_within, is_scoped}
 use Rattle.view_text.specs.Expansions.{attr_term, expansions_vars, substituted_from, conditions_from}
 use Rattle.view_text.specs.ExpansionOf.{has_value, substituted_terms, rows_conditions, settled, rows_expansion}
@@ -46,35 +46,35 @@ module _ (n : ℕ) (put : Substitution) (within : (v a : ℕ) → is_within n (p
   qual_replaced_within (either p q) = λ i. qual_replaced_within p i && qual_replaced_within q i
   qual_replaced_within (negated p) = qual_replaced_within p
 
--- ---- what has moved
+-- ---- what is shifted
 
 module _ (n k total : ℕ) (room : n + k ≤ total) where
   lies : (v : ℕ) → nat_lt v k ≡ true → nat_lt (n + v) total ≡ true
   lies v h = grind (arith, nat_tests, h, room)
 
-  moved_within : (t : QTerm) → is_within k t ≡ true → is_within total (moved n t) ≡ true
+  shifted_within : (t : QTerm) → is_within k t ≡ true → is_within total (shifted n t) ≡ true
   unfolding replaced is_within
-  moved_within (Int z) h = refl
-  moved_within (Chars bytes) h = refl
-  moved_within (Attr var attr) h = lies var h
-  moved_within (neg t) h = moved_within t h
-  moved_within (abs t) h = moved_within t h
-  moved_within (operation op t u) h = let parts = both_true (is_within k t) (is_within k u) h in λ i. moved_within t parts.0 i && moved_within u parts.1 i
-  moved_within (concat t u) h = let parts = both_true (is_within k t) (is_within k u) h in λ i. moved_within t parts.0 i && moved_within u parts.1 i
-  moved_within (Agg' mark row) h = cc h
+  shifted_within (Int z) h = refl
+  shifted_within (Chars bytes) h = refl
+  shifted_within (Attr var attr) h = lies var h
+  shifted_within (neg t) h = shifted_within t h
+  shifted_within (abs t) h = shifted_within t h
+  shifted_within (operation op t u) h = let parts = both_true (is_within k t) (is_within k u) h in λ i. shifted_within t parts.0 i && shifted_within u parts.1 i
+  shifted_within (concat t u) h = let parts = both_true (is_within k t) (is_within k u) h in λ i. shifted_within t parts.0 i && shifted_within u parts.1 i
+  shifted_within (Agg' mark row) h = cc h
 
-  qual_moved_within : (q : QQual) → is_qual_within k q ≡ true → is_qual_within total (moved_qual n q) ≡ true
+  qual_shifted_within : (q : QQual) → is_qual_within k q ≡ true → is_qual_within total (shifted_qual n q) ≡ true
   unfolding replaced_in_qual is_qual_within
-  qual_moved_within True h = refl
-  qual_moved_within (Cmp op t u) h = let parts = both_true (is_within k t) (is_within k u) h in λ i. moved_within t parts.0 i && moved_within u parts.1 i
-  qual_moved_within (Like t pattern same) h = moved_within t h
-  qual_moved_within (both p q) h = let parts = both_true (is_qual_within k p) (is_qual_within k q) h in λ i. qual_moved_within p parts.0 i && qual_moved_within q parts.1 i
-  qual_moved_within (either p q) h = let parts = both_true (is_qual_within k p) (is_qual_within k q) h in λ i. qual_moved_within p parts.0 i && qual_moved_within q parts.1 i
-  qual_moved_within (negated p) h = qual_moved_within p h
+  qual_shifted_within True h = refl
+  qual_shifted_within (Cmp op t u) h = let parts = both_true (is_within k t) (is_within k u) h in λ i. shifted_within t parts.0 i && shifted_within u parts.1 i
+  qual_shifted_within (Like t pattern same) h = shifted_within t h
+  qual_shifted_within (both p q) h = let parts = both_true (is_qual_within k p) (is_qual_within k q) h in λ i. qual_shifted_within p parts.0 i && qual_shifted_within q parts.1 i
+  qual_shifted_within (either p q) h = let parts = both_true (is_qual_within k p) (is_qual_within k q) h in λ i. qual_shifted_within p parts.0 i && qual_shifted_within q parts.1 i
+  qual_shifted_within (negated p) h = qual_shifted_within p h
 
-  quals_moved_within : (qs : List QQual) → list_all (is_qual_within k) qs ≡ true → list_all (is_qual_within total) (map (moved_qual n) qs) ≡ true
-  quals_moved_within [] h = refl
-  quals_moved_within (q ∷ qs) h = let parts = both_true (is_qual_within k q) (list_all (is_qual_within k) qs) h in λ i. qual_moved_within q parts.0 i && quals_moved_within qs parts.1 i
+  quals_shifted_within : (qs : List QQual) → list_all (is_qual_within k) qs ≡ true → list_all (is_qual_within total) (map (shifted_qual n) qs) ≡ true
+  quals_shifted_within [] h = refl
+  quals_shifted_within (q ∷ qs) h = let parts = both_true (is_qual_within k q) (list_all (is_qual_within k) qs) h in λ i. qual_shifted_within q parts.0 i && quals_shifted_within qs parts.1 i
 
 -- ---- texts one behind the other
 
@@ -95,7 +95,7 @@ put_within (expansion ∷ expansions) n total room scoped zero a =
     let parts = both_true (is_scoped expansion) (all_scoped expansions) scoped in
     let long = vars_length expansion expansions in
     let fits : n + length expansion.vars ≤ total = omega (arith, room, long) in
-    moved_within n (length expansion.vars) total fits (attr_term expansion a) (attr_within expansion a parts.0)
+    shifted_within n (length expansion.vars) total fits (attr_term expansion a) (attr_within expansion a parts.0)
 put_within (expansion ∷ expansions) n total room scoped (suc v) a =
     let parts = both_true (is_scoped expansion) (all_scoped expansions) scoped in
     let long = vars_length expansion expansions in
@@ -110,9 +110,9 @@ conditions_are_within (expansion ∷ expansions) n total room scoped =
     let fits : n + length expansion.vars ≤ total = omega (arith, room, long) in
     let more : n + length expansion.vars + length (expansions_vars expansions) ≤ total = omega (arith, room, long) in
     let own = (both_true (are_within (length expansion.vars) expansion.terms) (list_all (is_qual_within (length expansion.vars)) expansion.conditions) parts.0).1 in
-    all_append (is_qual_within total) (map (moved_qual n) expansion.conditions) (conditions_from (n + length expansion.vars) expansions)
-    ∙ both_are (list_all (is_qual_within total) (map (moved_qual n) expansion.conditions)) (list_all (is_qual_within total) (conditions_from (n + length expansion.vars) expansions))
-    (quals_moved_within n (length expansion.vars) total fits expansion.conditions own) (conditions_are_within expansions (n + length expansion.vars) total more parts.1)
+    all_append (is_qual_within total) (map (shifted_qual n) expansion.conditions) (conditions_from (n + length expansion.vars) expansions)
+    ∙ both_are (list_all (is_qual_within total) (map (shifted_qual n) expansion.conditions)) (list_all (is_qual_within total) (conditions_from (n + length expansion.vars) expansions))
+    (quals_shifted_within n (length expansion.vars) total fits expansion.conditions own) (conditions_are_within expansions (n + length expansion.vars) total more parts.1)
 
 -- ---- the expansion of a query's rows
 

@@ -1,7 +1,7 @@
 // Counts of items that aren't there, at the end of the bytes.
 ghost use Rattle.std.specs.Prelude.{◌≡◌};
 
-use crate::trees::judged;
+use crate::trees::read_back;
 use quel_tree::*;
 use std::alloc::Global;
 use std::process::Abort;
@@ -9,7 +9,7 @@ use std::test::*;
 
 /// Whether the bytes are refused at their end.
 fn ends_early<T: Tree>(alloc: Global, rt: &impl Abort, bytes: &[u8]) -> bool {
-    judged::<T>(alloc, rt, bytes) == Err(bytes.len() as u64)
+    read_back::<T>(alloc, rt, bytes) == Err(bytes.len() as u64)
 }
 
 const REQUESTS: [&[u8]; 13] = [

@@ -1,7 +1,7 @@
 // Bytes that are made of pieces, and what they are taken for.
 ghost use Rattle.std.specs.Prelude.{◌≡◌};
 
-use crate::trees::judged;
+use crate::trees::read_back;
 use memory::TryCopy;
 use quel_tree::{Tree, TreeFault, tree_bytes, tree_of};
 use std::alloc::Global;
@@ -69,13 +69,13 @@ where
     }
 }
 
-/// Whether the bytes are so judged, and a copy of the tree that they are is written as them, too.
+/// Whether the bytes are read back so, and a copy of the tree that they are is written as them, too.
 pub fn is_answered<T: Tree>(alloc: Global, rt: &impl Abort, pieces: Pieces, answer: Answer) -> bool
 where
     T::Value: TryCopy,
 {
     let bytes = joined(alloc, rt, pieces);
-    let holds = judged::<T>(alloc, rt, &bytes) == answer && is_copied::<T>(alloc, rt, &bytes);
+    let holds = read_back::<T>(alloc, rt, &bytes) == answer && is_copied::<T>(alloc, rt, &bytes);
     drop(bytes);
     holds
 }

@@ -8,7 +8,7 @@ use std::test::*;
 
 /// Whether the tree that the bytes are is written as them again; where they are none, the place at
 /// which they are refused.
-pub fn judged<T: Tree>(alloc: Global, rt: &impl Abort, bytes: &[u8]) -> Result<bool, u64> {
+pub fn read_back<T: Tree>(alloc: Global, rt: &impl Abort, bytes: &[u8]) -> Result<bool, u64> {
     match tree_of::<T>(alloc, bytes) {
         Ok(tree) => {
             let written = tree_bytes::<T>(alloc, &tree).expect(rt, "memory");
@@ -33,7 +33,7 @@ fn joined(alloc: Global, rt: &impl Abort, front: &[u8], byte: u8, behind: &[u8])
 /// Whether each front of the bytes is refused at its end.
 fn fronts_end_early<T: Tree>(alloc: Global, rt: &impl Abort, bytes: &[u8]) -> bool {
     for cut in 0..bytes.len() {
-        if judged::<T>(alloc, rt, bytes.split_at(cut).0) != Err(cut as u64) {
+        if read_back::<T>(alloc, rt, bytes.split_at(cut).0) != Err(cut as u64) {
             return false;
         }
     }
@@ -43,14 +43,14 @@ fn fronts_end_early<T: Tree>(alloc: Global, rt: &impl Abort, bytes: &[u8]) -> bo
 /// Whether a byte that follows the bytes is refused.
 fn is_ended<T: Tree>(alloc: Global, rt: &impl Abort, bytes: &[u8]) -> bool {
     let longer = joined(alloc, rt, bytes, 0, b"");
-    let answer = judged::<T>(alloc, rt, &longer);
+    let answer = read_back::<T>(alloc, rt, &longer);
     drop(longer);
     answer == Err(bytes.len() as u64)
 }
 
 /// Whether the bytes with this one between are a tree that is written as them again, or are refused
 /// there or behind.
-fn is_judged_from_there<T: Tree>(
+fn is_read_back_from_there<T: Tree>(
     alloc: Global,
     rt: &impl Abort,
     front: &[u8],
@@ -59,7 +59,7 @@ fn is_judged_from_there<T: Tree>(
 ) -> bool {
     let bytes = joined(alloc, rt, front, byte, behind);
     let length = bytes.len() as u64;
-    let answer = judged::<T>(alloc, rt, &bytes);
+    let answer = read_back::<T>(alloc, rt, &bytes);
     drop(bytes);
     match answer {
         Ok(same) => same,
@@ -68,7 +68,7 @@ fn is_judged_from_there<T: Tree>(
 }
 
 /// Whether that is so of several other bytes in this place.
-fn others_are_judged<T: Tree>(alloc: Global, rt: &impl Abort, bytes: &[u8], place: usize) -> bool
+fn others_are_read_back<T: Tree>(alloc: Global, rt: &impl Abort, bytes: &[u8], place: usize) -> bool
     requires { place ≤ length bytes.now }
 {
     let (front, rest) = bytes.split_at(place);
@@ -83,7 +83,7 @@ fn others_are_judged<T: Tree>(alloc: Global, rt: &impl Abort, bytes: &[u8], plac
         0,
         255,
     ] {
-        if other != byte && !is_judged_from_there::<T>(alloc, rt, front, other, behind) {
+        if other != byte && !is_read_back_from_there::<T>(alloc, rt, front, other, behind) {
             return false;
         }
     }
@@ -91,9 +91,9 @@ fn others_are_judged<T: Tree>(alloc: Global, rt: &impl Abort, bytes: &[u8], plac
 }
 
 /// Whether that is so in each place.
-fn changes_are_judged<T: Tree>(alloc: Global, rt: &impl Abort, bytes: &[u8]) -> bool {
+fn changes_are_read_back<T: Tree>(alloc: Global, rt: &impl Abort, bytes: &[u8]) -> bool {
     for place in 0..bytes.len() {
-        if !others_are_judged::<T>(alloc, rt, bytes, place) {
+        if !others_are_read_back::<T>(alloc, rt, bytes, place) {
             return false;
         }
     }
@@ -103,10 +103,10 @@ fn changes_are_judged<T: Tree>(alloc: Global, rt: &impl Abort, bytes: &[u8]) -> 
 /// Whether the bytes are a tree that is written as them again, no front of them is one, nothing may
 /// follow, and with a byte changed they are another tree or refused from there on.
 pub fn is_tree<T: Tree>(alloc: Global, rt: &impl Abort, bytes: &[u8]) -> bool {
-    judged::<T>(alloc, rt, bytes) == Ok(true)
+    read_back::<T>(alloc, rt, bytes) == Ok(true)
         && fronts_end_early::<T>(alloc, rt, bytes)
         && is_ended::<T>(alloc, rt, bytes)
-        && changes_are_judged::<T>(alloc, rt, bytes)
+        && changes_are_read_back::<T>(alloc, rt, bytes)
 }
 
 /// Whether all these bytes are such trees.
@@ -122,7 +122,7 @@ pub fn are_trees<T: Tree>(alloc: Global, rt: &impl Abort, all: &[&[u8]]) -> bool
 /// Whether each of these bytes is refused at the place beside it.
 pub fn are_refused<T: Tree>(alloc: Global, rt: &impl Abort, all: &[(&[u8], u64)]) -> bool {
     for (bytes, place) in all {
-        if judged::<T>(alloc, rt, *bytes) != Err(*place) {
+        if read_back::<T>(alloc, rt, *bytes) != Err(*place) {
             return false;
         }
     }

@@ -12,8 +12,8 @@ mod moves;
 mod pairs_fault;
 mod pairs_rows;
 mod parts;
+mod present;
 mod replacements;
-mod there;
 mod update;
 
 pub use apart::rows_of_pairs;

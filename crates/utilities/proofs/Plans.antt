@@ -16,7 +16,7 @@ use Rattle.calculus.specs.Change.{permit_numbers, rule_numbers}
 use Rattle.calculus.specs.Database.{Db}
 use Rattle.calculus.specs.Lists.{has_number}
 use Rattle.calculus.specs.Replacement.{first_refusal}
-use Rattle.quel_meaning.specs.Planned.{planned, plan_refusals, plan_change, heap_info, view_info, is_past_limit, next_number, has_view, is_anothers, is_none_to_permit, is_in_use, is_broken, owner_refusals, dropped}
+use Rattle.quel_meaning.specs.Planned.{planned, plan_refusals, plan_change, heap_info, view_info, is_past_limit, next_number, has_view, is_not_the_owner, may_not_grant, is_in_use, is_broken, owner_refusals, dropped}
 use Rattle.quel_meaning.specs.Structures.{structure_keys}
 use Rattle.utilities.proofs.Causes.{first_there, first_past, refused, accepted}
 
@@ -34,7 +34,7 @@ view_planned db user rel q = accepted db user (utility.View rel q) refl
 
 -- what refuses that what has these keys goes
 abbrev pub destroying_refusals : Db → List ℕ → List RelKey → List (ℕ × Bool)
-destroying_refusals db user rels = (28, list_any (is_catalogue db) rels) ∷ (24, list_any (is_anothers user) rels) ∷ (25, is_in_use db rels) ∷ []
+destroying_refusals db user rels = (28, list_any (is_catalogue db) rels) ∷ (24, list_any (is_not_the_owner user) rels) ∷ (25, is_in_use db rels) ∷ []
 
 pub destroy_refused : (db : Db) (user : List ℕ) (rels : List RelKey) (n : ℕ) → Some n ≡ first_refusal (destroying_refusals db user rels) → planned db user (utility.Destroy rels) ≡ Err n
 unfolding plan_refusals
@@ -71,7 +71,7 @@ index_planned db user rel name keys c cause made = accepted db user (utility.Ind
 
 -- what refuses a change of permits because of the relation and the user
 abbrev pub permitting_refusals : Db → List ℕ → RelKey → List (ℕ × Bool)
-permitting_refusals db user rel = (28, is_catalogue db rel) ∷ (26, has_view db rel) ∷ (24, is_none_to_permit db user rel) ∷ []
+permitting_refusals db user rel = (28, is_catalogue db rel) ∷ (26, has_view db rel) ∷ (24, may_not_grant db user rel) ∷ []
 
 pub permit_past : (db : Db) (user : List ℕ) (rel : RelKey) (permit : Permit) (standing : List ℕ) → standing ≡ permit_numbers db rel → is_past_limit 100 standing ≡ true
     → planned db user (utility.Permit rel permit) ≡ Err 14

@@ -4,8 +4,8 @@
 mod destroying;
 mod dropping;
 mod fault;
-mod judging;
 mod listed;
+mod meeting;
 mod numbering;
 mod numbers;
 mod owners;

@@ -25,7 +25,7 @@ fn all_stand(standing: &[u32], numbers: &[u32]) -> bool
 }
 
 /// The cause that a listed number isn't one of those that stand, where one isn't.
-pub(crate) fn listed_cause(standing: &[u32], numbers: &[u32]) -> Option<u8>
+pub(crate) fn listed_refusal(standing: &[u32], numbers: &[u32]) -> Option<u8>
     ensures { result ≡ first_refusal ((19, not (list_all (has_number standing.now) numbers.now)) ∷ []) }
 {
     if all_stand(standing, numbers) {

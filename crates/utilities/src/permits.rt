@@ -10,7 +10,7 @@ ghost use Rattle.utilities.specs.Causes.{HasCauseBy};
 use crate::UtilFault;
 use crate::numbering::next_number;
 use crate::numbers::PAST_LIMIT;
-use crate::owners::permitting_cause;
+use crate::owners::permitting_refusal;
 use base_trait::Base;
 use calculus::{DbChange, Name, OutOfMemory, Permit, RelKey, TryCopy};
 use memory::both;
@@ -60,7 +60,7 @@ pub(crate) fn permit_planned<B: Base>(
     drop(standing);
     match next {
         None => Err(UtilFault::No(PAST_LIMIT)),
-        Some(number) => match permitting_cause(alloc, base, user, rel) {
+        Some(number) => match permitting_refusal(alloc, base, user, rel) {
             Ok(None) => Ok(permit_made(alloc, rel, permit, number)?),
             Ok(Some(cause)) => Err(UtilFault::No(cause)),
             Err(fault) => Err(UtilFault::Base(fault)),

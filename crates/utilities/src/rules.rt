@@ -11,7 +11,7 @@ ghost use Rattle.utilities.specs.Causes.{HasCause};
 ghost use Rattle.utilities.specs.Decided.{ButRows, IsDecided};
 
 use crate::UtilFault;
-use crate::judging::is_broken;
+use crate::meeting::is_broken;
 use crate::numbering::next_number;
 use crate::numbers::{BROKEN, PAST_LIMIT};
 use crate::owners::owner_refusal;

@@ -105,7 +105,7 @@ pub(crate) fn modified<B: Base>(
 }
 
 /// What refuses an index of the user's with this name on these keys.
-fn index_cause<B: Base>(
+fn index_refusal<B: Base>(
     alloc: Global,
     base: &mut B,
     user: &Name,
@@ -189,7 +189,7 @@ pub(crate) fn indexed<B: Base>(
     ensures asked { (b : B) → B.asked b base.old → B.asked b base.new }
     ensures cause { HasCheckCause (B.database base.old) (B.faults base.old) (B.faults base.new) result }
 {
-    match index_cause(alloc, base, user, name, keys)? {
+    match index_refusal(alloc, base, user, name, keys)? {
         Some(number) => Err(CheckFault::No(number)),
         None => index_found(alloc, base, user, rel, name, keys),
     }

@@ -1,6 +1,6 @@
 pub mod ReplacedForms
 pub mod Within
-pub mod Moving
+pub mod Shifting
 pub mod PutExpansion
 pub mod HalvesForms
 pub mod Scope

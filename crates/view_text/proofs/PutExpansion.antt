@@ -5,12 +5,12 @@ use Rattle.std.proofs.lemmas.Bool.{ltb-true}
 use Rattle.calculus.specs.declared.query.QTerm.{QTerm, Attr}
 use Rattle.calculus.specs.declared.query.QQual.{QQual}
 use Rattle.view_text.specs.declared.expansion.Expansion.{Expansion}
-use Rattle.view_text.specs.Replaced.{replaced, without_value, moved}
+use Rattle.view_text.specs.Replaced.{replaced, without_value, shifted}
 use Rattle.view_text.specs.Scoped.{is_within, is_qual_within, are_within, is_scoped}
 use Rattle.view_text.specs.Expansions.{term_at, own_or, attr_term, expansions_vars, substituted_from}
 use Rattle.view_text.specs.Fit.{AreFit}
 use Rattle.view_text.proofs.Within.{left_true, right_true}
-use Rattle.view_text.proofs.Moving.{term_fits, qual_fits}
+use Rattle.view_text.proofs.Shifting.{term_fits, qual_fits}
 
 -- ---- the term of an attribute
 
@@ -24,15 +24,15 @@ term_at_none [] place h = refl
 term_at_none (u ∷ terms) zero h = cc h
 term_at_none (u ∷ terms) (suc place) h = term_at_none terms place h
 
-moved_without : (n : ℕ) → moved n without_value ≡ without_value
+shifted_without : (n : ℕ) → shifted n without_value ≡ without_value
 unfolding replaced
-moved_without n = refl
+shifted_without n = refl
 
-pub term_there : (n : ℕ) (terms : List QTerm) (place : ℕ) (t : QTerm) → slice_get terms place ≡ Some t → moved n (term_at terms place) ≡ moved n t
-term_there n terms place t e = ap (moved n) (term_at_some terms place t e)
+pub term_there : (n : ℕ) (terms : List QTerm) (place : ℕ) (t : QTerm) → slice_get terms place ≡ Some t → shifted n (term_at terms place) ≡ shifted n t
+term_there n terms place t e = ap (shifted n) (term_at_some terms place t e)
 
-pub term_missing : (n : ℕ) (terms : List QTerm) (place : ℕ) → slice_get terms place ≡ None → moved n (term_at terms place) ≡ without_value
-term_missing n terms place e = ap (moved n) (term_at_none terms place e) ∙ moved_without n
+pub term_missing : (n : ℕ) (terms : List QTerm) (place : ℕ) → slice_get terms place ≡ None → shifted n (term_at terms place) ≡ without_value
+term_missing n terms place e = ap (shifted n) (term_at_none terms place e) ∙ shifted_without n
 
 pub one_within : (k : ℕ) (terms : List QTerm) (place : ℕ) (t : QTerm) → list_all (is_within k) terms ≡ true → slice_get terms place ≡ Some t → is_within k t ≡ true
 one_within k [] place t h e = cc e
@@ -41,15 +41,15 @@ one_within k (u ∷ terms) (suc place) t h e = one_within k terms place t (right
 
 -- ---- an expansion's own
 
-moved_attribute : (n attr : ℕ) → moved n (Attr 0 attr) ≡ Attr n attr
+shifted_attribute : (n attr : ℕ) → shifted n (Attr 0 attr) ≡ Attr n attr
 unfolding replaced
-moved_attribute n attr = let e : n + 0 ≡ n = omega arith in ap (λ v. Attr v attr) e
+shifted_attribute n attr = let e : n + 0 ≡ n = omega arith in ap (λ v. Attr v attr) e
 
-pub own_moved : (n : ℕ) (expansion : Expansion) (attr : ℕ) → expansion.terms ≡ None → moved n (attr_term expansion attr) ≡ Attr n attr
-own_moved n expansion attr h = ap (λ o. moved n (own_or o attr)) h ∙ moved_attribute n attr
+pub own_shifted : (n : ℕ) (expansion : Expansion) (attr : ℕ) → expansion.terms ≡ None → shifted n (attr_term expansion attr) ≡ Attr n attr
+own_shifted n expansion attr h = ap (λ o. shifted n (own_or o attr)) h ∙ shifted_attribute n attr
 
-pub listed_moved : (n : ℕ) (expansion : Expansion) (terms : List QTerm) (attr : ℕ) → expansion.terms ≡ Some terms → moved n (attr_term expansion attr) ≡ moved n (term_at terms attr)
-listed_moved n expansion terms attr h = ap (λ o. moved n (own_or o attr)) h
+pub listed_shifted : (n : ℕ) (expansion : Expansion) (terms : List QTerm) (attr : ℕ) → expansion.terms ≡ Some terms → shifted n (attr_term expansion attr) ≡ shifted n (term_at terms attr)
+listed_shifted n expansion terms attr h = ap (λ o. shifted n (own_or o attr)) h
 
 terms_within : (expansion : Expansion) (o : Option (List QTerm)) → expansion.terms ≡ o → is_scoped expansion ≡ true → are_within (length expansion.vars) o ≡ true
 terms_within expansion o h s = ap (are_within (length expansion.vars)) (sym h) ∙ left_true (are_within (length expansion.vars) expansion.terms) (list_all (is_qual_within (length expansion.vars)) expansion.conditions) s
@@ -67,7 +67,7 @@ listed_fit n expansion terms fits s h = all_within n (length expansion.vars) fit
 
 -- ---- text by expansion
 
-pub put_first : (n : ℕ) (expansion : Expansion) (expansions : List Expansion) (var attr : ℕ) → var ≡ 0 → substituted_from n (expansion ∷ expansions) var attr ≡ moved n (attr_term expansion attr)
+pub put_first : (n : ℕ) (expansion : Expansion) (expansions : List Expansion) (var attr : ℕ) → var ≡ 0 → substituted_from n (expansion ∷ expansions) var attr ≡ shifted n (attr_term expansion attr)
 put_first n expansion expansions var attr h = ap (λ v. substituted_from n (expansion ∷ expansions) v attr) h
 
 pub put_next : (n : ℕ) (expansion : Expansion) (expansions : List Expansion) (var attr : ℕ) → ¬ (var ≡ 0) → substituted_from n (expansion ∷ expansions) var attr ≡ substituted_from (n + length expansion.vars) expansions (var - 1) attr

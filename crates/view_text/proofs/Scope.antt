@@ -11,7 +11,7 @@ use Rattle.calculus.specs.declared.query.Query.{Query}
 use Rattle.calculus.specs.declared.query.Target.{Target}
 use Rattle.calculus.specs.QueryParts.{targets_of, qual_of}
 use Rattle.view_text.specs.declared.expansion.Expansion.{Expansion}
-use Rattle.view_text.specs.Replaced.{Substitution, replaced, replaced_in_qual, no_aggregate, further, without_value, moved, moved_qual, of_only}
+use Rattle.view_text.specs.Replaced.{Substitution, replaced, replaced_in_qual, no_aggregate, further, without_value, shifted, shifted_qual, of_only}
 use Rattle.view_text.specs.Scoped.{is_within, is_qual_within, are_within, is_scoped}
 use Rattle.view_text.specs.Expansions.{term_at, own_or, attr_term, expansions_vars, substituted_from, conditions_from}
 use Rattle.view_text.specs.ExpansionOf.{kept_expansion, has_value, substituted_terms, rows_conditions, settled, rows_expansion}
@@ -31,15 +31,15 @@ moves_within : (n k m : ℕ) → n + k ≤ m → FirstWithin k m (further n)
 unfolding is_within
 moves_within n k m h var attr l = lt-ltb (n + var) m (omega arith)
 
-pub moved_within : (n k m : ℕ) → n + k ≤ m → (t : QTerm) → is_within k t ≡ true → is_within m (moved n t) ≡ true
-moved_within n k m h t w = first_within k m (further n) (moves_within n k m h) t w
+pub shifted_within : (n k m : ℕ) → n + k ≤ m → (t : QTerm) → is_within k t ≡ true → is_within m (shifted n t) ≡ true
+shifted_within n k m h t w = first_within k m (further n) (moves_within n k m h) t w
 
-all_moved : (n k m : ℕ) → n + k ≤ m → (qs : List QQual) → list_all (is_qual_within k) qs ≡ true → list_all (is_qual_within m) (map (moved_qual n) qs) ≡ true
-all_moved n k m h [] w = refl
-all_moved n k m h (q ∷ qs) w =
-    both_true (is_qual_within m (moved_qual n q)) (list_all (is_qual_within m) (map (moved_qual n) qs))
+all_shifted : (n k m : ℕ) → n + k ≤ m → (qs : List QQual) → list_all (is_qual_within k) qs ≡ true → list_all (is_qual_within m) (map (shifted_qual n) qs) ≡ true
+all_shifted n k m h [] w = refl
+all_shifted n k m h (q ∷ qs) w =
+    both_true (is_qual_within m (shifted_qual n q)) (list_all (is_qual_within m) (map (shifted_qual n) qs))
     (first_qual_within k m (further n) (moves_within n k m h) q (left_true (is_qual_within k q) (list_all (is_qual_within k) qs) w))
-    (all_moved n k m h qs (right_true (is_qual_within k q) (list_all (is_qual_within k) qs) w))
+    (all_shifted n k m h qs (right_true (is_qual_within k q) (list_all (is_qual_within k) qs) w))
 
 -- ---- the terms of expansion
 
@@ -68,7 +68,7 @@ pub put_within : (n m : ℕ) (expansions : List Expansion) → list_all is_scope
 put_within n m [] s h var attr = without_within m
 put_within n m (expansion ∷ expansions) s h zero attr =
     let e = vars_before expansion expansions in
-    moved_within n (length expansion.vars) m (omega arith) (attr_term expansion attr) (attr_within expansion attr (left_true (is_scoped expansion) (list_all is_scoped expansions) s))
+    shifted_within n (length expansion.vars) m (omega arith) (attr_term expansion attr) (attr_within expansion attr (left_true (is_scoped expansion) (list_all is_scoped expansions) s))
 put_within n m (expansion ∷ expansions) s h (suc var) attr =
     let e = vars_before expansion expansions in
     put_within (n + length expansion.vars) m expansions (right_true (is_scoped expansion) (list_all is_scoped expansions) s) (omega arith) var attr
@@ -77,8 +77,8 @@ pub conditions_within : (n m : ℕ) (expansions : List Expansion) → list_all i
 conditions_within n m [] s h = refl
 conditions_within n m (expansion ∷ expansions) s h =
     let e = vars_before expansion expansions in
-    all_append m (map (moved_qual n) expansion.conditions) (conditions_from (n + length expansion.vars) expansions)
-    (all_moved n (length expansion.vars) m (omega arith) expansion.conditions
+    all_append m (map (shifted_qual n) expansion.conditions) (conditions_from (n + length expansion.vars) expansions)
+    (all_shifted n (length expansion.vars) m (omega arith) expansion.conditions
     (right_true (are_within (length expansion.vars) expansion.terms) (list_all (is_qual_within (length expansion.vars)) expansion.conditions) (left_true (is_scoped expansion) (list_all is_scoped expansions) s)))
     (conditions_within (n + length expansion.vars) m expansions (right_true (is_scoped expansion) (list_all is_scoped expansions) s) (omega arith))
 

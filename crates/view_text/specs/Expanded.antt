@@ -126,7 +126,7 @@ append_restriction db who u op.Replace = u.new_cut
 append_restriction db who u op.Delete = u.new_cut
 append_restriction db who u op.Into = u.new_cut
 
--- the place of the variable whose rows are replaced or deleted, where it has moved
+-- the place of the variable whose rows are replaced or deleted, where it is shifted
 abbrev pub put_place : List Expansion → Update → ℕ
 put_place expansions u = elim (changed u) [ None ↦ u.old | Some c ↦ place_from 0 expansions c.0 ]
 

@@ -8,7 +8,7 @@ use Rattle.calculus.specs.declared.query.Query.{Query}
 use Rattle.calculus.specs.QueryParts.{vars_of}
 use Rattle.calculus.specs.Used.{used_in_query}
 use Rattle.view_text.specs.declared.expansion.Expansion.{Expansion}
-use Rattle.view_text.specs.Replaced.{Substitution, without_value, moved, moved_qual}
+use Rattle.view_text.specs.Replaced.{Substitution, without_value, shifted, shifted_qual}
 
 -- the term at a place; where there is none, one without value
 abbrev pub term_at : List QTerm → ℕ → QTerm
@@ -49,13 +49,13 @@ expansions_vars expansions = flat_map (λ expansion. expansion.vars) expansions
 -- the term of a variable's attribute, where the expansion' variables stand from this place on
 abbrev pub substituted_from : ℕ → List Expansion → Substitution
 substituted_from n [] var attr = without_value
-substituted_from n (expansion ∷ expansions) zero attr = moved n (attr_term expansion attr)
+substituted_from n (expansion ∷ expansions) zero attr = shifted n (attr_term expansion attr)
 substituted_from n (expansion ∷ expansions) (suc var) attr = substituted_from (n + length expansion.vars) expansions var attr
 
 -- the conditions of the expansion, where their variables stand from this place on
 abbrev pub conditions_from : ℕ → List Expansion → List QQual
 conditions_from n [] = []
-conditions_from n (expansion ∷ expansions) = map (moved_qual n) expansion.conditions ++ conditions_from (n + length expansion.vars) expansions
+conditions_from n (expansion ∷ expansions) = map (shifted_qual n) expansion.conditions ++ conditions_from (n + length expansion.vars) expansions
 
 -- the place at which a variable's text begins, where the expansion' variables stand from this place on
 abbrev pub place_from : ℕ → List Expansion → ℕ → ℕ

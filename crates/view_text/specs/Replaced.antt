@@ -48,12 +48,12 @@ abbrev pub further : ℕ → Substitution
 further n var attr = Attr (n + var) attr
 
 -- the term, its variables so many places further on
-abbrev pub moved : ℕ → QTerm → QTerm
-moved n t = replaced no_aggregate (further n) t
+abbrev pub shifted : ℕ → QTerm → QTerm
+shifted n t = replaced no_aggregate (further n) t
 
 -- the qualification, its variables so many places further on
-abbrev pub moved_qual : ℕ → QQual → QQual
-moved_qual n q = replaced_in_qual no_aggregate (further n) q
+abbrev pub shifted_qual : ℕ → QQual → QQual
+shifted_qual n q = replaced_in_qual no_aggregate (further n) q
 
 -- the attributes of the only variable; no other is there
 abbrev pub of_only : Substitution

@@ -3,27 +3,27 @@
 ghost use Rattle.std.specs.Prelude.{◌≡◌, ◌+◌, ◌-◌, ◌≤◌, ◌++◌, true, map, length, OnOk};
 ghost use Rattle.std.specs.List.{list_all};
 ghost use Rattle.view_text.specs.Fit.{AreFit};
-ghost use Rattle.view_text.specs.Replaced.{moved_qual};
+ghost use Rattle.view_text.specs.Replaced.{shifted_qual};
 ghost use Rattle.view_text.specs.Scoped.{is_qual_within, is_scoped};
 ghost use Rattle.view_text.specs.Expansions.{conditions_from, expansions_vars};
 
 use crate::Expansion;
-use crate::moved::moved_qual;
+use crate::shifted::shifted_qual;
 use calculus::{OutOfMemory, QQual};
 use std::alloc::Global;
 
 /// Puts the qualifications, their variables so many places further on, behind those that are there.
-fn put_moved(
+fn put_shifted(
     alloc: Global,
     by: usize,
     quals: &[QQual],
     made: &mut Vec<QQual>,
 ) -> Result<(), OutOfMemory>
     requires { list_all (is_qual_within (256 - by)) quals.now ≡ true }
-    ensures { OnOk result (made.new.items ≡ made.old.items ++ map (moved_qual by) quals.now) }
+    ensures { OnOk result (made.new.items ≡ made.old.items ++ map (shifted_qual by) quals.now) }
 {
     for qual in quals {
-        made.push(moved_qual(alloc, by, qual)?)?;
+        made.push(shifted_qual(alloc, by, qual)?)?;
     }
     Ok(())
 }
@@ -41,7 +41,7 @@ fn substituted_from(
 {
     match expansions.split_first() {
         None => Ok(()),
-        Some((expansion, others)) => match put_moved(
+        Some((expansion, others)) => match put_shifted(
             alloc,
             from,
             expansion.conditions.items(),

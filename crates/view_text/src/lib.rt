@@ -4,7 +4,6 @@
 mod expansion;
 mod expansion_conditions;
 mod halves;
-mod moved;
 mod parts;
 mod permit;
 mod put;
@@ -12,11 +11,12 @@ mod putting;
 mod replaced;
 mod rows;
 mod settled;
+mod shifted;
 
 pub use expansion::Expansion;
 pub use expansion_conditions::conditions;
 pub use halves::{all_of, any_of};
-pub use moved::{moved_qual, moved_term};
 pub use permit::permit_condition;
 pub use put::{substituted_qual, substituted_term};
 pub use rows::{rows_expansion, substituted_rows, substituted_whole};
+pub use shifted::{shifted_qual, shifted_term};

@@ -3,15 +3,15 @@
 ghost use Rattle.std.specs.Prelude.{◌≡◌, ◌+◌, ◌-◌, ◌≤◌, ◌++◌, true, map, length, IfOk, OnOk};
 ghost use Rattle.std.specs.List.{list_all};
 ghost use Rattle.view_text.specs.Fit.{AreFit};
-ghost use Rattle.view_text.specs.Replaced.{aggregate_at, listed, moved, no_aggregate, replaced, replaced_in_qual, replaced_target};
+ghost use Rattle.view_text.specs.Replaced.{aggregate_at, listed, shifted, no_aggregate, replaced, replaced_in_qual, replaced_target};
 ghost use Rattle.view_text.specs.Scoped.{is_scoped, is_within};
 ghost use Rattle.view_text.specs.Expansions.{attr_term, substituted_from, term_at, expansions_vars};
 
 use crate::Expansion;
-use crate::moved::moved_term;
 use crate::parts::{boxed, without_value};
 use crate::putting::Substitution;
 use crate::replaced::{replaced_qual, replaced_term};
+use crate::shifted::shifted_term;
 use calculus::{OutOfMemory, QAgg, QQual, QTerm, Target, TryCopy};
 use memory::both;
 use std::alloc::Global;
@@ -31,16 +31,16 @@ fn attribute(var: usize, attr: u8) -> QTerm
 #[tactic(auto, using(crate::proofs::PutExpansion::term_there, crate::proofs::PutExpansion::term_missing, crate::proofs::PutExpansion::one_within))]
 fn put_listed(alloc: Global, by: usize, terms: &[QTerm], place: u8) -> Result<QTerm, OutOfMemory>
     requires { list_all (is_within (256 - by)) terms.now ≡ true }
-    ensures { IfOk result (λ t. t ≡ moved by (term_at terms.now place)) }
+    ensures { IfOk result (λ t. t ≡ shifted by (term_at terms.now place)) }
 {
     match terms.get(place as usize) {
-        Some(term) => moved_term(alloc, by, term),
+        Some(term) => shifted_term(alloc, by, term),
         None => without_value(alloc),
     }
 }
 
 /// The term of an expansion's attribute, where the expansion's variables stand from this place on.
-#[tactic(auto, using(crate::proofs::PutExpansion::own_moved, crate::proofs::PutExpansion::none_has_variable, crate::proofs::PutExpansion::listed_moved, crate::proofs::PutExpansion::listed_fit))]
+#[tactic(auto, using(crate::proofs::PutExpansion::own_shifted, crate::proofs::PutExpansion::none_has_variable, crate::proofs::PutExpansion::listed_shifted, crate::proofs::PutExpansion::listed_fit))]
 fn put_own(
     alloc: Global,
     from: usize,
@@ -49,7 +49,7 @@ fn put_own(
 ) -> Result<QTerm, OutOfMemory>
     requires scoped { is_scoped expansion.now ≡ true }
     requires fits { from + length expansion.now.vars ≤ 256 }
-    ensures { IfOk result (λ t. t ≡ moved from (attr_term expansion.now attr)) }
+    ensures { IfOk result (λ t. t ≡ shifted from (attr_term expansion.now attr)) }
 {
     match &expansion.terms {
         None => Ok(attribute(from, attr)),

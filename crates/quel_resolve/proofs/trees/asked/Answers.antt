@@ -3,7 +3,7 @@ use Rattle.std.specs.Prelude.{option_copied}
 use Rattle.std.specs.Option.{IfSome}
 use Rattle.calculus.specs.declared.request.Checked.{Checked}
 use Rattle.calculus.specs.QueryParts.{targets_of}
-use Rattle.quel_refusals.specs.Judged.{update_of}
+use Rattle.quel_refusals.specs.CheckedStatements.{update_of}
 use Rattle.quel_meaning.specs.Resolved.{tree_by, tree_of}
 use Rattle.quel_resolve.specs.Changed.{Suits}
 use Rattle.quel_resolve.proofs.Changes.{few_known, few_targets}
