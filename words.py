@@ -10,6 +10,7 @@ usage: words.py begin                                   remember the text as it 
        words.py folder FOLDER FOLDER                    another name for the folder of a function's proof
        words.py quoted                                  names in backticks, in comments and .md files, as they were renamed
        words.py group TEXT                              begins a group
+       words.py steps FILE                              all steps of a file, in one process: words with a NUL behind each, a 1 behind each step
        words.py verify                                  compares with what `begin` remembered
 
 word    an identifier, as `bench/layout word` finds it (also in names of goals), in files, their names, and folders of proofs.
@@ -58,12 +59,18 @@ def keep(it):
         json.dump(it, out)
 
 
+TEXTS = {}
+
+
 def read(path):
-    with open(path, encoding="utf-8") as it:
-        return it.read()
+    if path not in TEXTS or not os.path.exists(path):
+        with open(path, encoding="utf-8") as it:
+            TEXTS[path] = it.read()
+    return TEXTS[path]
 
 
 def write(path, text):
+    TEXTS[path] = text
     with open(path, "w", encoding="utf-8") as it:
         it.write(text)
 
@@ -404,6 +411,8 @@ def path(given):
     count = 0
     for one in tree():
         was = read(one)
+        if old not in was:
+            continue
         if part == "src":
             said = re.sub(rf"(\bRattle\.{crate}\.(?:specs\.(?:declared|contracts|formers)|proofs)\.){old}\b", rf"\g<1>{new}", was)
             if one.startswith(f"crates/{crate}/src/"):
@@ -422,6 +431,8 @@ def path(given):
     for one in prose_files(EVERYWHERE):
         if one.endswith(".md") or one.startswith(f"crates/{crate}/"):
             was = read(one)
+            if old not in was:
+                continue
             end = ".rt" if part == "src" else "(?:.antt)?"
             inside = rf"`{part}/{old}(?={end}`|`|/)" if one.startswith(f"crates/{crate}/") else rf"`{crate}/{part}/{old}(?={end}`|`|/)"
             said = re.sub(inside, lambda it: it[0][: -len(old)] + new, was)
@@ -674,6 +685,14 @@ def main():
         kind.add_argument("--keep", nargs="+", default=[], action="extend")
         kind.add_argument("--choose", nargs="+", default=[], action="extend")
         kind.add_argument("--even-so", nargs="+", default=[], action="extend")
+    if sys.argv[1:2] == ["steps"]:
+        with open(sys.argv[2], encoding="utf-8") as it:
+            steps = [one.split("\0")[:-1] for one in it.read().split("\1\0")[:-1]]
+        for one in steps:
+            given = words.parse_args(one)
+            given.call(given)
+            sys.stdout.flush()
+        return
     given = words.parse_args()
     given.call(given)
 

@@ -84,6 +84,7 @@ s moved shifted view_text view_tests spelling_laws tree_laws cut_rules view_expa
 f crates/view_text/src/moved.rt crates/view_text/src/shifted.rt
 # the bytes of a text constant, unescaped
 f crates/calculus/src/mark.rt crates/calculus/src/unescaped.rt
+flush
 MARKED="$(grep -rlE "next_mark|specs\.Constant\.\{[^}]*\bmarks?\b|declared\.unescaped\.Mark\b|\bin-Some\.mark\b|then-mark-ne32" crates --include=*.rt --include=*.antt --include=*.edit | grep -v /out/) crates/calculus/src/unescaped.rt crates/calculus/specs/Constant.antt" || true
 w next_mark next_unescaped $MARKED
 w marks_behind unescaped_behind $MARKED
@@ -120,3 +121,54 @@ p '\bhave moved\b' 'are shifted' tree_laws view_text
 p '\bwhat is moved\b' 'what is shifted' tree_laws view_text
 p '\bmay move as far\b' 'may be shifted as far' view_text
 q --keep served judged judge mark marks Mark many many_more moved moved_by one
+
+g "11 files named by what is in them"
+for it in catalog_laws:changing:part_changes catalog_moves:changing:changed_relation cut_rules:changing:changed_variable db_disk:changing:page_changes heap_am:changing:row_changes \
+  plain_statements:changing:change_of_pairs quel_resolve:changing:statement_updates relation_rows:changing:file_rows calculus_tests:changes:pair_changes catalog_read:changes:parts_as_changes \
+  quel_parse:changes:target_statements catalog_moves:making:made_rows quel_refusals:making:result_kinds view_tests:making:shared base_tests:made:shared calculus_tests:made:shared store_tests:made:shared \
+  catalog_read:made:items_of_rows tree_check:made:target_attributes update_change:made:new_relation plain_base:kept:under_keys catalog_laws:parts:database_parts catalog_read:parts:schema_parts \
+  catalog_rows:parts:tree_parts quel_check:parts:statement_parts quel_names:parts:statement_parts quel_resolve:parts:target_list update_change:parts:pair_rows view_text:parts:tree_parts; do
+  IFS=: read -r crate old new <<<"$it"
+  f "crates/$crate/src/$old.rt" "crates/$crate/src/$new.rt"
+done
+t 'what it changes: `src/changing.rt`' 'what it changes: `src/statement_updates.rt`' docs/developing.md
+t '`store_tests` \(`made.rt`\)' '`store_tests` (`shared.rt`)' docs/developing.md
+t 'a rule is forgotten \(`src/changes.rt`' 'a rule is forgotten (`src/parts_as_changes.rt`' docs/planted.md
+t "the used pages aren't written \(.src/changing.rt." "the used pages aren't written (\`src/changed_relation.rt\`" docs/planted.md
+t 'rules that go are on nothing \(`src/changing.rt`' 'rules that go are on nothing (`src/statement_updates.rt`' docs/planted.md
+
+g "12 apply: what changes and batches are (lay); laid stays, as a public name"
+w lay apply_batch batch_file
+s Lays Applies batch_file batch_store
+s lays applies batch_file batch_store
+w lay write_rows page_chain
+s lay write page_chain
+w lay apply_change catalog catalog_read db_disk plain_base plain_statements
+s lay apply catalog catalog_read db_disk base_tests store_tests batch_file
+f crates/batch_file/src/laying.rt crates/batch_file/src/applying.rt
+f crates/batch_file/proofs/Lays.antt crates/batch_file/proofs/Applies.antt
+f crates/catalog/src/laying.rt crates/catalog/src/applying.rt
+f crates/catalog_laws/src/laying.rt crates/catalog_laws/src/applying.rt
+f crates/catalog_read/src/laying.rt crates/catalog_read/src/applying.rt
+f crates/catalog_read/specs/Laying.antt crates/catalog_read/specs/Applying.antt
+f crates/page_chain/proofs/Laying.antt crates/page_chain/proofs/Writing.antt
+f crates/plain_statements/src/laying.rt crates/plain_statements/src/applying.rt
+f crates/plain_base/src/db_lists/lays.rt crates/plain_base/src/db_lists/applies.rt
+t '^mod lays;' 'mod applies;' crates/plain_base/src/db_lists.rt
+NOT_PAGES=("crates/[!hp]*/**/*" "crates/plain*/**/*" docs/guarantees.md docs/DECISIONS.md docs/next.md docs/architecture.md docs/planted.md README.md)
+p '\b([Ll])ays (a change|changes|the change|it|all|one) on\b' '\1AYS \2 to' "${NOT_PAGES[@]}"
+p '\blAYS\b' 'applies' "${NOT_PAGES[@]}"
+p '\bLAYS\b' 'Applies' "${NOT_PAGES[@]}"
+p '\b(is|are|was|were) laid on\b' '\1 applied to' "${NOT_PAGES[@]}"
+p "\b(is|isn't|are|aren't|was|were|be|half|not|kind|views|t|then) laid\b(?! (out|over))" '\1 applied' "${NOT_PAGES[@]}"
+p '\blays\b' 'applies' "${NOT_PAGES[@]}"
+p '\bLays\b(?! Own)' 'Applies' "${NOT_PAGES[@]}"
+p '(?<!rows )(?<!`)\blay\b(?! (out|as))(?!`)' 'apply' "${NOT_PAGES[@]}"
+p '(?<!by )\blaying\b(?!`)' 'applying' "${NOT_PAGES[@]}"
+p '\bby laying\b' 'by applying' "${NOT_PAGES[@]}"
+t '`src/laying.rt`: it is let go of' '`src/applying.rt`: it is let go of' docs/planted.md
+t '`src/db_lists/changes.rt`, `lays.rt`' '`src/db_lists/changes.rt`, `applies.rt`' docs/developing.md
+t '\| `laid`, `lay` \|' '| `laid` |' docs/developing.md
+t '`DbPlain::lay`' '`DbPlain::apply_change`' docs/next.md
+t '`lay` of `catalog`' '`apply_change` of `catalog`' docs/next.md
+q --keep lay laid lays

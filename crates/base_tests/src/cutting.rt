@@ -1,6 +1,6 @@
 //! Trees cut down to what a user may see and change.
 
-use crate::made::{named, tree, unknown};
+use crate::shared::{named, tree, unknown};
 use crate::shown::{digit, put, put_qual, put_query};
 use crate::view_texts::LAID;
 use calculus::{Checked, Update};

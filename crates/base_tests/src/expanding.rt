@@ -1,6 +1,6 @@
 //! Queries with the views in them expanded, unrestricted.
 
-use crate::made::{query, unknown};
+use crate::shared::{query, unknown};
 use crate::shown::{put, put_query};
 use crate::view_texts::LAID;
 use cut_rules::{ExpandFault, expand};

@@ -1,6 +1,6 @@
 //! Views that stand on views, each of which names the one below ten times.
 
-use crate::made::{is_laid, laid, query};
+use crate::shared::{is_laid, laid, query};
 use crate::shown::put;
 use plain_base::DbPlain;
 use std::alloc::Global;

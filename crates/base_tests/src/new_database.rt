@@ -1,4 +1,4 @@
-use crate::made::{empty, key_of};
+use crate::shared::{empty, key_of};
 use base_trait::{Base, BaseFault};
 use calculus::{List, Name, OutOfMemory, Place, Probe, RelKey};
 use plain_base::DbPlain;

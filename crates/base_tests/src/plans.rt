@@ -3,7 +3,7 @@
 ghost use Rattle.std.specs.Prelude.{◌≡◌, false};
 ghost use Rattle.plan_laws.specs.Fitting.{is_copy};
 
-use crate::made::{laid, named, tree, try_lay};
+use crate::shared::{laid, named, tree, try_lay};
 use crate::shown::put;
 use calculus::{Checked, DbChange, Utility};
 use plain_base::DbPlain;

@@ -1,6 +1,6 @@
 //! Views, each over the one below it ten times.
 
-use crate::made::unknown;
+use crate::shared::unknown;
 use crate::shown::put;
 use std::alloc::Global;
 use std::process::Abort;

@@ -1,4 +1,4 @@
-use crate::made::{key_of, laid, named};
+use crate::shared::{key_of, laid, named};
 use crate::shown::{put, put_qual, put_terms, put_vars};
 use crate::tower::tower;
 use base_trait::Base;

@@ -4,13 +4,11 @@
 #[cfg(test)]
 mod answers;
 #[cfg(test)]
-mod changes;
-#[cfg(test)]
 mod copies;
 #[cfg(test)]
 mod leaves;
 #[cfg(test)]
-mod made;
+mod pair_changes;
 #[cfg(test)]
 mod patterns;
 #[cfg(test)]
@@ -19,6 +17,8 @@ mod refused;
 mod requests;
 #[cfg(test)]
 mod rows;
+#[cfg(test)]
+mod shared;
 #[cfg(test)]
 mod spelled;
 #[cfg(test)]

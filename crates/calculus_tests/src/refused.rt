@@ -1,6 +1,6 @@
 //! Calls to which memory is refused.
 
-use crate::changes::{Outcome, outcome_of};
+use crate::pair_changes::{Outcome, outcome_of};
 use calculus::{Name, OutOfMemory, Pair, QTerm, Row, RowSet, TryCopy, Value};
 use memory::both;
 use scalar_eval::{Assigned, value_of};

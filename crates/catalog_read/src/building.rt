@@ -9,9 +9,9 @@ ghost use Rattle.plain_base.specs.Shown.{database_of};
 ghost use Rattle.catalog_read.specs.Parts.{Parts, parts_in, whole, index_in, index_owners_agree};
 ghost use Rattle.catalog_read.specs.Laying.{IsLeft, nothing_in, is_of_its_base};
 
-use crate::changes::changes_of;
 use crate::laying::lay_all;
-use crate::parts::{IndexPart, SchemaParts};
+use crate::parts_as_changes::changes_of;
+use crate::schema_parts::{IndexPart, SchemaParts};
 use calculus::{DbChange, Name, OutOfMemory, Spec};
 use plain_base::DbPlain;
 use std::alloc::Global;

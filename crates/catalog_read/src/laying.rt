@@ -9,7 +9,7 @@ ghost use Rattle.plain_base.specs.Shown.{database_of};
 ghost use Rattle.catalog_read.specs.Parts.{Parts, whole};
 ghost use Rattle.catalog_read.specs.Laying.{IsLeft, round, stepped};
 
-use crate::changes::push_one;
+use crate::parts_as_changes::push_one;
 use calculus::{DbChange, OutOfMemory};
 use change_check::fit_change;
 use plain_base::DbPlain;

@@ -4,7 +4,7 @@
 
 mod aggregates;
 mod attributes;
-mod changing;
+mod changed_variable;
 mod cutting;
 mod expanded;
 mod expanding;

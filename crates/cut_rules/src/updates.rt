@@ -20,7 +20,7 @@ ghost use Rattle.view_text.specs.Expanded.{changed_expansion, append_restriction
 ghost use Rattle.view_text.specs.Scoped.{is_scoped};
 ghost use Rattle.view_text.specs.Expansions.{place_from, expansions_vars};
 
-use crate::changing::{appended_restriction, changed_by, changed_expansion};
+use crate::changed_variable::{appended_restriction, changed_by, changed_expansion};
 use crate::expanded::expanded_over;
 use crate::expansions::{PLACES, are_few, fault_at, put_behind, read_expansion};
 use crate::{CutFault, NO_VARIABLE};

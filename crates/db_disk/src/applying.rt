@@ -5,7 +5,7 @@ ghost use Rattle.calculus.specs.Change.{laid};
 ghost use Rattle.calculus.specs.Database.{Db};
 
 use crate::DbDisk;
-use crate::changing::lay_known;
+use crate::page_changes::lay_known;
 use base_trait::BaseFault;
 use calculus::DbChange;
 use catalog::SpotTable;

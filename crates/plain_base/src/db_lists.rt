@@ -8,7 +8,7 @@ mod known;
 mod lays;
 mod rows_asked;
 
-use crate::kept::{Indexed, Stored, Viewed};
+use crate::under_keys::{Indexed, Stored, Viewed};
 use calculus::{Name, Permit, RelKey, Rule};
 use std::alloc::Global;
 use std::marker::Model;

@@ -3,7 +3,7 @@
 
 mod answering;
 mod carrying;
-mod changing;
+mod change_of_pairs;
 mod copying;
 mod laying;
 mod pairing;

@@ -10,7 +10,7 @@ ghost use Rattle.plain_statements.specs.Plans.{Plans};
 ghost use Rattle.plain_statements.specs.Stopping.{HasStopCause};
 
 use crate::Stopped;
-use crate::changing::changed_by;
+use crate::change_of_pairs::changed_by;
 use crate::pairing::paired;
 use base_trait::Base;
 use calculus::{DbChange, Update};

@@ -11,9 +11,9 @@ ghost use Rattle.quel_meaning.specs.WrittenParts.{aggregates_in_item, items_of};
 
 use crate::inner_trees::aggregate_tree;
 use crate::known::Known;
-use crate::parts::{items_of, where_of};
 use crate::places::compared;
 use crate::slots::{slot_behind, slot_behind_items, slot_behind_qual};
+use crate::statement_parts::{items_of, where_of};
 use crate::trees::term_tree;
 use calculus::{Boxed, OutOfMemory, QQual, QTerm, Qual, Statement, Term};
 use memory::both;

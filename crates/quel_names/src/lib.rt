@@ -8,9 +8,9 @@ mod looking;
 mod meant;
 mod mention;
 mod mentioned;
-mod parts;
 mod refusal;
 mod role;
+mod statement_parts;
 mod targets;
 mod text;
 

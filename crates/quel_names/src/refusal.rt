@@ -10,7 +10,7 @@ ghost use Rattle.quel_names.specs.Parts.{head, title_in};
 
 use crate::head::head;
 use crate::mentioned::refusal_of;
-use crate::parts::{items_of, titles_of, where_of};
+use crate::statement_parts::{items_of, titles_of, where_of};
 use crate::text::query_refusal;
 use base_trait::{Base, BaseFault};
 use calculus::{Name, Statement};

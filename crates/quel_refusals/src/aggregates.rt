@@ -10,7 +10,7 @@ ghost use Rattle.calculus.specs.QueryParts.{targets_of};
 ghost use Rattle.quel_meaning.specs.KindsInQueries.{aggregate_kind, fitting_kind, folded_kind, links_fit};
 
 use crate::kinds::kinds_at;
-use crate::making::{comparable, is_number_kind};
+use crate::result_kinds::{comparable, is_number_kind};
 use crate::widths::target_kinds;
 use base_trait::{Base, BaseFault};
 use calculus::{AggOp, AggSource, Kind, OutOfMemory, QAgg, QTerm, Query, kind_of, kinds_fit};

@@ -7,7 +7,7 @@ ghost use Rattle.calculus.specs.Database.{Db};
 ghost use Rattle.quel_meaning.specs.KindsInQueries.{kind_in_query, kinds_fit_in_query};
 
 use crate::aggregates::aggregate_kind;
-use crate::making::{comparable, is_text_kind, joined_kind, number_kind, operated_kind};
+use crate::result_kinds::{comparable, is_text_kind, joined_kind, number_kind, operated_kind};
 use base_trait::{Base, BaseFault};
 use calculus::{Kind, QQual, QTerm, kind_of};
 use std::alloc::Global;

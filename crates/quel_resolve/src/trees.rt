@@ -18,10 +18,10 @@ ghost use Rattle.quel_resolve.specs.Kinds.{changes_rows, is_range};
 ghost use Rattle.utility_trees.specs.Answers.{Says};
 ghost use Rattle.utility_trees.specs.Causes.{HasCheckCause, IsCaused};
 
-use crate::changing::{changed, update_of};
 use crate::kinds::{changes_rows, is_range};
 use crate::queries::query;
 use crate::refusing::{unless_refused, update_unless_refused};
+use crate::statement_updates::{changed, update_of};
 use crate::tree_by;
 use base_trait::Base;
 use calculus::refusals::NO_RELATION;

@@ -12,7 +12,7 @@ ghost use Rattle.quel_meaning.specs.WrittenQuery.{query_of, where_tree};
 ghost use Rattle.quel_resolve.specs.Targets.{Puts};
 
 use crate::known::{keys_of, kinds_of};
-use crate::parts::items_of;
+use crate::target_list::items_of;
 use crate::targets::targets_from;
 use base_trait::{Base, BaseFault};
 use calculus::{Item, List, OutOfMemory, Query, Statement, Target};

@@ -6,7 +6,7 @@ ghost use Rattle.stored_database.specs.Printed.{is_file};
 ghost use Rattle.catalog_moves.specs.Files.{files_of};
 
 use crate::databases::new_disk;
-use crate::made::{
+use crate::shared::{
     GONE, INDEXED, MADE_BARE_P, PERMITTED, RULED, STORED, Step, change_of, key, named,
 };
 use am_traits::PageStore;

@@ -1,5 +1,5 @@
 // Databases on disks that stop and crash, and that are damaged.
-use crate::made::{
+use crate::shared::{
     COME, GONE_WITH_VIEW, INDEXED, MADE_BARE_Q, MADE_P, MADE_Q, MOVED, PERMITTED, RULED, STORED,
     Step, UNPERMITTED, UNRULED, VIEWED, known, named, take, take_all,
 };

@@ -8,8 +8,8 @@ ghost use Rattle.calculus.specs.QueryParts.{targets_of, vars_of};
 ghost use Rattle.calculus.specs.Replacement.{made_attr};
 ghost use Rattle.quel_meaning.specs.Fit.{is_new, is_this_key, relation_fits};
 
-use crate::made::made_attrs_stand;
 use crate::standing::is_new;
+use crate::target_attributes::made_attrs_stand;
 use base_trait::{Base, BaseFault};
 use calculus::{RelKey, Update, UpdateOp};
 use change_check::{is_relation, same_key};

@@ -5,8 +5,8 @@ ghost use Rattle.base_trait.specs.Causes.{HasCause};
 ghost use Rattle.calculus.specs.Database.{Db};
 ghost use Rattle.quel_meaning.specs.Fit.{is_new, listed_attrs_fit, row_qual_fits, view_fits};
 
-use crate::made::target_attrs_stand;
 use crate::standing::{can_be_ranged_over, is_new};
+use crate::target_attributes::target_attrs_stand;
 use base_trait::{Base, BaseFault};
 use calculus::{Permit, QQual, Query, RelKey};
 use change_check::{attrs_are_places, row_qual_is_fit, view_query_is_fit};

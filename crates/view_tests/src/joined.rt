@@ -1,6 +1,6 @@
 //! Qualifications that are joined.
 
-use crate::making::equal;
+use crate::shared::equal;
 use crate::written::put_qual;
 use calculus::{QQual, QTerm};
 use std::alloc::Global;

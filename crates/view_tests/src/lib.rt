@@ -4,7 +4,7 @@
 #[cfg(test)]
 mod joined;
 #[cfg(test)]
-mod making;
+mod shared;
 #[cfg(test)]
 mod texts;
 #[cfg(test)]

@@ -4,7 +4,6 @@
 mod expansion;
 mod expansion_conditions;
 mod halves;
-mod parts;
 mod permit;
 mod put;
 mod putting;
@@ -12,6 +11,7 @@ mod replaced;
 mod rows;
 mod settled;
 mod shifted;
+mod tree_parts;
 
 pub use expansion::Expansion;
 pub use expansion_conditions::conditions;

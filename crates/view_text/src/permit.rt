@@ -3,9 +3,9 @@
 ghost use Rattle.std.specs.Prelude.{◌≡◌, IfOk};
 ghost use Rattle.view_text.specs.Replaced.{no_aggregate, of_only, replaced_in_qual};
 
-use crate::parts::without_value;
 use crate::putting::Substitution;
 use crate::replaced::replaced_qual;
+use crate::tree_parts::without_value;
 use calculus::{OutOfMemory, QAgg, QQual, QTerm};
 use std::alloc::Global;
 

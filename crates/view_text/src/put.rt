@@ -8,10 +8,10 @@ ghost use Rattle.view_text.specs.Scoped.{is_scoped, is_within};
 ghost use Rattle.view_text.specs.Expansions.{attr_term, substituted_from, term_at, expansions_vars};
 
 use crate::Expansion;
-use crate::parts::{boxed, without_value};
 use crate::putting::Substitution;
 use crate::replaced::{replaced_qual, replaced_term};
 use crate::shifted::shifted_term;
+use crate::tree_parts::{boxed, without_value};
 use calculus::{OutOfMemory, QAgg, QQual, QTerm, Target, TryCopy};
 use memory::both;
 use std::alloc::Global;

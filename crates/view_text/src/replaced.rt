@@ -3,8 +3,8 @@
 ghost use Rattle.std.specs.Prelude.{◌≡◌, IfOk};
 ghost use Rattle.view_text.specs.Replaced.{replaced, replaced_in_qual};
 
-use crate::parts::{boxed, boxed_both};
 use crate::putting::Substitution;
+use crate::tree_parts::{boxed, boxed_both};
 use calculus::{Chars, OutOfMemory, QQual, QTerm};
 use memory::both;
 use std::alloc::Global;

@@ -7,7 +7,7 @@ ghost use Rattle.calculus.specs.Tree.{negated};
 ghost use Rattle.calculus.specs.declared.query.QQual.{True};
 ghost use Rattle.view_text.specs.ExpansionOf.{settled};
 
-use crate::parts::boxed;
+use crate::tree_parts::boxed;
 use calculus::{OutOfMemory, QQual, RelKey};
 use scalar_eval::{Assigned, holds};
 use std::alloc::Global;

@@ -5,9 +5,9 @@ ghost use Rattle.view_text.specs.Replaced.{shifted, shifted_qual, no_aggregate};
 ghost use Rattle.view_text.specs.Further.{further_at_most};
 ghost use Rattle.view_text.specs.Scoped.{is_within, is_qual_within};
 
-use crate::parts::without_value;
 use crate::putting::Substitution;
 use crate::replaced::{replaced_qual, replaced_term};
+use crate::tree_parts::without_value;
 use calculus::{OutOfMemory, QAgg, QQual, QTerm};
 use std::alloc::Global;
 

@@ -10,8 +10,8 @@ ghost use Rattle.base_trait.specs.Known.{known_at};
 
 use super::DbLists;
 use crate::catalogue::{attribute_attrs, is_named, key_of, relation_attrs};
-use crate::kept::{Stored, Viewed};
 use crate::look_up::under;
+use crate::under_keys::{Stored, Viewed};
 use calculus::{Attr, List, Name, OutOfMemory, RelInfo, RelKey, Spec, TryCopy};
 use memory::both;
 use std::alloc::Global;
