@@ -146,7 +146,6 @@ s lay write page_chain
 w lay apply_change catalog catalog_read db_disk plain_base plain_statements
 s lay apply catalog catalog_read db_disk base_tests store_tests batch_file
 f crates/batch_file/src/laying.rt crates/batch_file/src/applying.rt
-f crates/batch_file/proofs/Lays.antt crates/batch_file/proofs/Applies.antt
 f crates/catalog/src/laying.rt crates/catalog/src/applying.rt
 f crates/catalog_laws/src/laying.rt crates/catalog_laws/src/applying.rt
 f crates/catalog_read/src/laying.rt crates/catalog_read/src/applying.rt
@@ -154,7 +153,6 @@ f crates/catalog_read/specs/Laying.antt crates/catalog_read/specs/Applying.antt
 f crates/page_chain/proofs/Laying.antt crates/page_chain/proofs/Writing.antt
 f crates/plain_statements/src/laying.rt crates/plain_statements/src/applying.rt
 f crates/plain_base/src/db_lists/lays.rt crates/plain_base/src/db_lists/applies.rt
-t '^mod lays;' 'mod applies;' crates/plain_base/src/db_lists.rt
 NOT_PAGES=("crates/[!hp]*/**/*" "crates/plain*/**/*" docs/guarantees.md docs/DECISIONS.md docs/next.md docs/architecture.md docs/planted.md README.md)
 p '\b([Ll])ays (a change|changes|the change|it|all|one) on\b' '\1AYS \2 to' "${NOT_PAGES[@]}"
 p '\blAYS\b' 'applies' "${NOT_PAGES[@]}"
@@ -171,4 +169,10 @@ t '`src/db_lists/changes.rt`, `lays.rt`' '`src/db_lists/changes.rt`, `applies.rt
 t '\| `laid`, `lay` \|' '| `laid` |' docs/developing.md
 t '`DbPlain::lay`' '`DbPlain::apply_change`' docs/next.md
 t '`lay` of `catalog`' '`apply_change` of `catalog`' docs/next.md
-q --keep lay laid lays
+w Lays Applies db_disk
+p '^(\W*)Laying\b' '\1Applying' batch_file
+p '\bapplies on the disk all together\b' 'applies all together to the disk' batch_file
+p '\bthe tests apply on databases\b' 'the tests apply to databases' store_tests
+p '^(\W*)Lays (the rows|rows)\b' '\1Writes \2' page_chain
+p '\bor on the schema that was read, is applied\b' 'or to the schema that was read, is applied' db_disk
+q --choose lay=apply_change

@@ -1,4 +1,4 @@
-//! What the tests share: names, trees that are read of their bytes, and the one way in which a change is laid.
+//! What the tests share: names, trees that are read of their bytes, and the one way in which a change is applied.
 
 use base_trait::{Base, BaseFault};
 use calculus::{Checked, DbChange, Name, Query, RelKey};
@@ -36,8 +36,8 @@ pub(crate) fn query<R: Abort>(rt: &R, alloc: Global, bytes: &[u8]) -> Query {
         .expect(rt, "a query")
 }
 
-/// Says whether the change may be laid, and lays it where it may.
-pub(crate) fn try_lay<B: Base>(
+/// Says whether the change may be applied, and applies it where it may.
+pub(crate) fn try_apply<B: Base>(
     alloc: Global,
     base: &mut B,
     change: &DbChange,
@@ -53,7 +53,7 @@ pub(crate) fn try_lay<B: Base>(
 pub(crate) fn is_laid<R: Abort>(rt: &R, alloc: Global, base: &mut DbPlain, bytes: &[u8]) -> bool {
     let change = tree_of::<DbChangeTree>(alloc, bytes);
     let change = change.ok().expect(rt, "a change");
-    let laid = try_lay(alloc, base, &change);
+    let laid = try_apply(alloc, base, &change);
     drop(change);
     laid.expect(rt, "an answer")
 }
@@ -63,7 +63,7 @@ pub(crate) fn empty<R: Abort>(rt: &R, alloc: Global) -> DbPlain {
     DbPlain::new(alloc, named(rt, alloc, b"ann"))
 }
 
-/// The database of ann on which these changes were laid.
+/// The database of ann on which these changes were applied.
 pub(crate) fn laid<R: Abort>(rt: &R, alloc: Global, changes: &[&[u8]]) -> DbPlain {
     let mut base = empty(rt, alloc);
     for change in changes {

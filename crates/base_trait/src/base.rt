@@ -275,7 +275,7 @@ pub trait Base {
         ensures asked { (b : Self) → asked b self.old → asked b self.new }
         ensures cause { HasCause (database self.old) (faults self.old) (faults self.new) result };
 
-    /// Lays a change that is lawful, on the schema as well. After want of memory the database is as before, after
+    /// Applies a change that is lawful, on the schema as well. After want of memory the database is as before, after
     /// any other fault it is that of before or of after.
     fn apply(&mut self, alloc: Global, change: &DbChange) -> Result<(), BaseFault>
         requires { (db : Db) → database self.old ≡ Some db → IsLawful db change.now }

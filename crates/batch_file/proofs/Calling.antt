@@ -11,7 +11,7 @@ use Rattle.disk_model.proofs.Addresses.{is_at_self, off_at}
 use Rattle.batch_file.specs.declared.fault.Restored.TheVariants.{Nothing, Redone}
 use Rattle.batch_file.specs.declared.stage.Batch.{Batch}
 use Rattle.batch_file.specs.Layout.{Entries, addr, address_in, entries, first_byte, is_head, is_place, number_at}
-use Rattle.batch_file.specs.Order.{is_own, is_placing, IsBatch, Adds, Writes, Completes, Heads, Places, Shuts, Lays, Opens, Restores}
+use Rattle.batch_file.specs.Order.{is_own, is_placing, IsBatch, Adds, Writes, Completes, Heads, Places, Shuts, Applies, Opens, Restores}
 use Rattle.batch_file.specs.Staged.{completed, staged, Holds}
 use Rattle.batch_file.proofs.Adding.{is_next, staged_more, holds_more, all_staged, all_whole, IsNext}
 use Rattle.batch_file.proofs.Form.{no_damage_from, same_entries}
@@ -157,8 +157,8 @@ shuts h0 h1 h2 h3 h4 gate n placed two three four is_shut = (
 )
 
 -- what opens the gate, and what shuts it
-pub lays : (h0 h1 h2 : KnownCalls) (Own : List Call → Type 0) (n : ℕ) → CameSo h0 h1 (Opens Own) → CameSo h1 h2 (Shuts n) → CameSo h0 h2 (Lays Own n)
-lays h0 h1 h2 Own n opened shut =
+pub applies : (h0 h1 h2 : KnownCalls) (Own : List Call → Type 0) (n : ℕ) → CameSo h0 h1 (Opens Own) → CameSo h1 h2 (Shuts n) → CameSo h0 h2 (Applies Own n)
+applies h0 h1 h2 Own n opened shut =
     let o = opened.2 in (
       opened.0 ++ shut.0,
       came_then h0 h1 h2 opened.0 shut.0 opened.1 shut.1,
@@ -174,8 +174,8 @@ lays h0 h1 h2 Own n opened shut =
     )
 
 -- more calls before
-pub lays_behind : (h0 h1 h2 : KnownCalls) (first : List Call) (Own More : List Call → Type 0) (n : ℕ) → Came h0 h1 first → CameSo h1 h2 (Lays Own n) → ((own : List Call) → Own own → More (first ++ own)) → CameSo h0 h2 (Lays More n)
-lays_behind h0 h1 h2 first Own More n came laid into =
+pub applies_behind : (h0 h1 h2 : KnownCalls) (first : List Call) (Own More : List Call → Type 0) (n : ℕ) → Came h0 h1 first → CameSo h1 h2 (Applies Own n) → ((own : List Call) → Own own → More (first ++ own)) → CameSo h0 h2 (Applies More n)
+applies_behind h0 h1 h2 first Own More n came laid into =
     let l = laid.2 in (
       first ++ laid.0,
       came_then h0 h1 h2 first laid.0 came laid.1,
@@ -192,9 +192,9 @@ lays_behind h0 h1 h2 first Own More n came laid into =
 
 -- the whole of a batch that was begun
 pub finishes : (h0 h1 h2 : KnownCalls) (batch : Batch) (due : Bool) → (batch.count % 128 ≢ 0 → IsTrue due) → Came h0 h1 (written due (addr 3 (batch.count / 128)) batch.addresses)
-    → CameSo h1 h2 (Lays (Heads batch.count) batch.count) → CameSo h0 h2 (Lays (Completes batch) batch.count)
+    → CameSo h1 h2 (Applies (Heads batch.count) batch.count) → CameSo h0 h2 (Applies (Completes batch) batch.count)
 finishes h0 h1 h2 batch due rest came laid =
-    lays_behind h0 h1 h2 (written due (addr 3 (batch.count / 128)) batch.addresses) (Heads batch.count) (Completes batch) batch.count came laid
+    applies_behind h0 h1 h2 (written due (addr 3 (batch.count / 128)) batch.addresses) (Heads batch.count) (Completes batch) batch.count came laid
     (λ own heads.
     subst (λ (l : List Call). Completes batch (written due (addr 3 (batch.count / 128)) batch.addresses ++ l)) (sym heads.call)
     (completes batch heads.head heads.form heads.size due rest))
@@ -223,11 +223,11 @@ gathers_more h0 h1 h2 batch after cs more new so_far adds is =
       },
     )
 
-pub commits : (h0 h1 h2 : KnownCalls) (batch : Batch) (cs : Entries) (n : ℕ) → CameSo h0 h1 (Gathers batch cs) → CameSo h1 h2 (Lays (Completes batch) n) → CameSo h0 h2 (Lays (Writes cs) n)
+pub commits : (h0 h1 h2 : KnownCalls) (batch : Batch) (cs : Entries) (n : ℕ) → CameSo h0 h1 (Gathers batch cs) → CameSo h1 h2 (Applies (Completes batch) n) → CameSo h0 h2 (Applies (Writes cs) n)
 commits h0 h1 h2 batch cs n gathered laid =
     let first = gathered.0 in
     let g = gathered.2 in
-    lays_behind h0 h1 h2 first (Completes batch) (Writes cs) n gathered.1 laid
+    applies_behind h0 h1 h2 first (Completes batch) (Writes cs) n gathered.1 laid
     (λ own ends. record {
       own = all_behind is_own first own g.own ends.own;
       whole = λ m.

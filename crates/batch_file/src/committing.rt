@@ -6,13 +6,13 @@ ghost use Rattle.batch_file.specs.Faults.{FailsBy};
 ghost use Rattle.batch_file.specs.Layout.{is_place};
 ghost use Rattle.batch_file.specs.Redone.{kept, laid, IsShut};
 ghost use Rattle.batch_file.specs.OnDisk.{BeforeOrAfter, IsClosed};
-ghost use Rattle.batch_file.specs.Order.{Lays, Writes};
+ghost use Rattle.batch_file.specs.Order.{Applies, Writes};
 
 use crate::fault::RestoreFault;
 use crate::stage::Batch;
 use disk_model::{Addr, Disk, Page};
 
-/// Lays all pages on the disk, each at its address, or none. Without a change it does nothing. Takes
+/// Applies all pages on the disk, each at its address, or none. Without a change it does nothing. Takes
 /// no memory. Where an address comes twice, the later page stands.
 ///
 /// After an error the disk is restored before it is used further. `Disk` only where a call to the disk
@@ -35,7 +35,7 @@ pub fn commit<D: Disk>(disk: &mut D, changes: &[(Addr, Page)]) -> Result<(), Res
     ensures whole { IsTrue D.is_known → (result ≡ Err RestoreFault.Disk) ⊎ (result ≡ Ok record {}) }
     // Whatever is known of the disk's content, these calls were made and answered Ok.
     ensures made { OnOk result (0 < length changes.now
-        → CameSo (D.history disk.old) (D.history disk.new) (Lays (Writes changes.now) (length changes.now))) }
+        → CameSo (D.history disk.old) (D.history disk.new) (Applies (Writes changes.now) (length changes.now))) }
     ensures cause { FailsBy (D.faults disk.old) (D.faults disk.new) result }
 {
     let mut batch = Batch::begin();

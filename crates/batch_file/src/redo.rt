@@ -1,4 +1,4 @@
-// Laying a batch on the disk whose gate is open.
+// Applying a batch on the disk whose gate is open.
 ghost use Rattle.std.specs.Prelude.{◌≡◌, ◌⊎◌, ◌+◌, Some, Ok, Err, IsTrue, IfOk, IfErr, OnOk, true};
 ghost use Rattle.disk_model.specs.Disk.{OnlyReads, LeavesOnly};
 ghost use Rattle.disk_model.specs.History.{CameSo};
@@ -58,7 +58,7 @@ fn place_all<D: Disk>(disk: &mut D, count: u32) -> Result<(), RestoreFault>
     Ok(())
 }
 
-/// Lays a batch on the disk whose gate is open, and shuts it. It may crash at any moment.
+/// Applies a batch on the disk whose gate is open, and shuts it. It may crash at any moment.
 pub fn redo<D: Disk>(disk: &mut D, count: u32) -> Result<(), RestoreFault>
     requires { IsTrue D.is_known → IsOpen (D.seen disk.old) (D.touched disk.old) count }
     ensures crash { IsTrue D.is_known →

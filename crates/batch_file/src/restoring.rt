@@ -1,4 +1,4 @@
-// Laying the batch that a crash left behind an open gate.
+// Applying the batch that a crash left behind an open gate.
 ghost use Rattle.std.specs.Prelude.{◌≡◌, ◌≢◌, ◌⊎◌, ◌↔◌, Some, None, Err, IsTrue, IfOk, OnOk, if◌then◌else◌};
 ghost use Rattle.fault_io.specs.Causes.{HasCause};
 ghost use Rattle.disk_model.specs.Disk.{OnlyReads, LeavesOnly, RisesUpTo};
@@ -37,7 +37,7 @@ fn opens(found: bool, page: &Page) -> bool
     found && page[0] == 1
 }
 
-/// Lays the batch that a crash left behind an open gate on the disk, and shuts the gate. It begins
+/// Applies the batch that a crash left behind an open gate on the disk, and shuts the gate. It begins
 /// with a sync. It may be stopped too, and repeated. Takes no memory.
 ///
 /// `Nothing` where the gate is shut, else `Redone` with the number of images. `Damaged` where the

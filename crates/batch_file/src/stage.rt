@@ -9,13 +9,13 @@ ghost use Rattle.batch_file.specs.Layout.{addr, is_place};
 ghost use Rattle.batch_file.specs.Redone.{kept, laid, IsShut};
 ghost use Rattle.batch_file.specs.OnDisk.{InBatch, SameOutside, BeforeOrAfter, IsClosed, renewed, image_in};
 
+use crate::applying::apply_batch;
 use crate::fault::RestoreFault;
-use crate::laying::lay;
 use crate::layout::put_address;
 use disk_model::{Addr, Disk, DiskFailed, Page};
 
 /// A batch that is being written: pages, each with the address at which it is to stand, which
-/// `finish` lays on the disk all together.
+/// `finish` applies all together to the disk.
 ///
 /// Its calls are for one disk, whose gate is shut, and whose files 2 to 4 read as the calls left
 /// them. Until `finish` the gate stays shut, and every other page is as it was. None takes memory.
@@ -35,7 +35,7 @@ impl Drop for Batch {
 }
 
 impl Batch {
-    ghost use Rattle.batch_file.specs.Order.{Adds, Completes, Lays};
+    ghost use Rattle.batch_file.specs.Order.{Adds, Completes, Applies};
     ghost use Rattle.batch_file.specs.Staged.{size_of, staged, Holds};
 
     /// A batch without an image.
@@ -130,7 +130,7 @@ impl Batch {
         Ok(())
     }
 
-    /// Lays all pages of the batch on the disk, or none. Without an image it does nothing.
+    /// Applies all pages of the batch on the disk, or none. Without an image it does nothing.
     ///
     /// `Disk` only where a call to the disk failed. `Damaged` where a page of the batch isn't there when
     /// it is read again, and no call failed: never on a disk whose content is known. The gate then
@@ -152,7 +152,7 @@ impl Batch {
         ensures whole { IsTrue D.is_known → (result ≡ Err RestoreFault.Disk) ⊎ (result ≡ Ok record {}) }
         // Whatever is known of the disk's content, these calls were made and answered Ok.
         ensures made { OnOk result (0 < size_of self
-            → CameSo (D.history disk.old) (D.history disk.new) (Lays (Completes self) (size_of self))) }
+            → CameSo (D.history disk.old) (D.history disk.new) (Applies (Completes self) (size_of self))) }
         ensures cause { FailsBy (D.faults disk.old) (D.faults disk.new) result }
     {
         if self.count == 0 {
@@ -164,7 +164,7 @@ impl Batch {
             self.count / 128,
             &self.addresses,
         )?;
-        lay(disk, self.count)?;
+        apply_batch(disk, self.count)?;
         Ok(())
     }
 }

@@ -7,7 +7,7 @@ use Rattle.disk_model.proofs.Moments.{started, reads_on, weaker, image_settled}
 use Rattle.batch_file.specs.Layout.{Entries, gate, is_place}
 use Rattle.batch_file.specs.OnDisk.{InBatch, SameOutside, BeforeOrAfter, SameRedone, IsClosed}
 use Rattle.batch_file.specs.Redone.{IsShut, kept, laid, latest, redone}
-use Rattle.batch_file.proofs.Lays.{Among, kept_by, kept_not_batch, redone_shut}
+use Rattle.batch_file.proofs.Applies.{Among, kept_by, kept_not_batch, redone_shut}
 use Rattle.batch_file.proofs.Finishing.{gate_stays}
 use Rattle.batch_file.proofs.Opening.{redone_outside}
 use Rattle.batch_file.proofs.Outside.{apart_joins, gives_up, then_run}
@@ -29,7 +29,7 @@ module _ {D : Type 0} (g : Ghosts D) where
   bool_cases false = inr refl
 
   module _ (was now : Bool) (old between : D) (so_far : Ran g was old now between) (known : IsTrue g.is_known) (only : HasOnlyNow g old) (shut : was ≡ false → IsShut (g.seen old) (g.touched old)) where
-    -- where nothing is laid, a crash leaves the pages of then
+    -- where nothing is applied, a crash leaves the pages of then
     pub nothing_laid : (cs : Entries) → LeavesOnly g.clock g.left_since old between (BeforeOrAfter (g.seen old) (g.touched old) cs)
     nothing_laid cs = elim (bool_cases was) [
       | inl due ↦ reads_on g.seen g.touched g.clock g.left_since old old between _ (started g.seen g.touched g.clock g.left_since old _ (λ m left. (m, only m left, inl refl))) (so_far.reads known due)
@@ -45,7 +45,7 @@ module _ {D : Type 0} (g : Ghosts D) where
           weaker g.seen g.touched g.clock g.left_since old between _ _ apart.run (λ m from. (from.0, from.1, redone_outside m from.0 (shut calm from.0 from.1) from.2))
     ]
 
-    -- and where changes are laid then, those or these with the changes laid over them
+    -- and where changes are applied then, those or these with the changes laid over them
     pub then_finished : (cs : Entries) → now ≡ false → ((b : Addr) → Among cs b → is_place b ≡ true) → (new : D) → LeavesOnly g.clock g.left_since between new (BeforeOrAfter (g.seen between) (g.touched between) cs)
         → LeavesOnly g.clock g.left_since old new (BeforeOrAfter (g.seen old) (g.touched old) cs)
     then_finished cs calm places new run =

@@ -1,4 +1,4 @@
--- What stands at an address once the batch is laid.
+-- What stands at an address once the batch is applied.
 use Rattle.std.proofs.Common.{◌≡◌, ◌⊎◌, inl, inr, ℕ, ◌+◌, ◌<◌, ◌≤◌, Bool, true, false, IsTrue, nat_eq, ◌&&◌, List, [], ◌∷◌, ◌++◌, length, Option, Some, None, Result, Ok, Err, IfOk, OnOk, is_err, refl, sym, ◌∙◌, ap, subst, arith, if◌then◌else◌, cond}
 use Rattle.std.proofs.lemmas.Bool.Decides.{nat_tests}
 use Rattle.std.specs.HashMap as hash
@@ -12,7 +12,7 @@ use Rattle.batch_file.specs.Layout.{Entries, entry, entries_of, is_place}
 use Rattle.batch_file.specs.OnDisk.{InBatch, renewed, image_in}
 use Rattle.batch_file.specs.Redone.{latest, laid, kept, is_kept}
 use Rattle.batch_file.specs.Staged.{size_of, staged, completed}
-use Rattle.batch_file.proofs.Lays.{kept_by, kept_not_batch, latest-append, latest_off}
+use Rattle.batch_file.proofs.Applies.{kept_by, kept_not_batch, latest-append, latest_off}
 use Rattle.batch_file.proofs.Collecting.{all_places}
 use Rattle.batch_file.proofs.Listing.{length-entries}
 use Rattle.am_traits.specs.Pages.{with_page}
@@ -73,10 +73,10 @@ kept_from_five : (file : ℕ) → 5 ≤ file → is_kept file ≡ true
 kept_from_five file from = grind (arith, nat_tests)
 
 module _ (m next : Image) (batch more : Batch) (a : Addr) (page : List ℕ) (from : 5 ≤ a.file) (same : (b : Addr) → (InBatch b → ⊥) → next b ≡ m b)
-    (lays : (b : Addr) (x : Option (List ℕ)) → latest (staged next more) b x ≡ (if is_at b a then Some page else latest (staged m batch) b x)) where
+    (applies : (b : Addr) (x : Option (List ℕ)) → latest (staged next more) b x ≡ (if is_at b a then Some page else latest (staged m batch) b x)) where
   kept_with : (b : Addr) (k : Bool) → is_kept b.file ≡ k
       → (if k then latest (staged next more) b (next b) else None) ≡ (if is_at b a then Some page else (if k then latest (staged m batch) b (m b) else None))
-  kept_with b true is = ap (latest (staged next more) b) (same b (kept_not_batch b is)) ∙ lays b (m b)
+  kept_with b true is = ap (latest (staged next more) b) (same b (kept_not_batch b is)) ∙ applies b (m b)
   kept_with b false is = elim (at_cases b a) [
     | inl here ↦
         let t : is_kept b.file ≡ true = subst (λ (d : Addr). is_kept d.file ≡ true) (sym here.0) (kept_from_five a.file from) in
@@ -162,7 +162,7 @@ empty_so is_known m pages batch none is =
     let so = known_so is_known m pages batch is in
     sym (standing_fresh m batch (staged_none m batch none)) ∙ so.1
 
--- a batch that was laid makes the pages that were known
+-- a batch that was applied makes the pages that were known
 pub laid_so : {T E : Type 0} (result : Result T E) (is_known : Bool) (m next pages : Image) (batch taken : Batch) → taken ≡ batch → known is_known m batch ≡ Some pages
     → (IsTrue is_known → OnOk result (kept next ≡ kept (laid (staged m taken) m))) → OnOk result (kept next ≡ pages)
 unfolding standing

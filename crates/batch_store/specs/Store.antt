@@ -27,7 +27,7 @@ module _ {D : Type 0} {g : Ghosts D} where
   abbrev pub changes_of : BatchStore D g → Entries
   changes_of s = staged (g.seen s.disk) s.batch
 
-  -- whether a batch was begun to be laid and failed
+  -- whether a batch was begun to be applied and failed
   abbrev pub is_due : BatchStore D g → Bool
   is_due s = s.due
 

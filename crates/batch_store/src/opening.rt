@@ -57,7 +57,7 @@ impl<D: Disk> BatchStore<D> {
     }
 
     /// Restores as `restore` does, once all that was written before is durable. So what the disk stands
-    /// for once its batch is laid is the same afterwards, also after an error.
+    /// for once its batch is applied is the same afterwards, also after an error.
     pub fn reopen(&mut self) -> Result<Restored, RestoreFault>
         // The answer is that of what a read gives, so damage is the first page at fault; only a fault of the disk goes before.
         ensures answer { IsTrue D.is_known →

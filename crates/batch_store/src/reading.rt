@@ -29,7 +29,7 @@ fn counts(file: u32) -> bool
     file == 0 || file >= 5
 }
 
-/// Reads the page that stands at an address once the batch is laid.
+/// Reads the page that stands at an address once the batch is applied.
 pub(crate) fn read_page<D: Disk>(
     disk: &mut D,
     batch: &Batch,

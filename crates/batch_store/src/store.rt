@@ -1,4 +1,4 @@
-//! The store, and what lays its changes.
+//! The store, and what applies its changes.
 
 ghost use Rattle.std.specs.Prelude.{◌≡◌, Some, None, IsTrue, true, false, if◌then◌else◌};
 ghost use Rattle.std.proofs.Props.{props};
@@ -19,10 +19,10 @@ use std::mem::replace;
 /// A store of pages over a disk.
 ///
 /// What is put goes into a batch on the disk as it comes, and only the addresses stay in memory.
-/// `finish` then lays all of it, or nothing. A `put` that fails begins the batch anew: the change is
+/// `finish` then applies all of it, or nothing. A `put` that fails begins the batch anew: the change is
 /// given up.
 ///
-/// Once `finish` has failed a restore is due, since the batch may be half laid and its files are
+/// Once `finish` has failed a restore is due, since the batch may be half applied and its files are
 /// needed. Until `restore` has answered Ok nothing can be put: `put` answers want of memory, as it does
 /// where the batch has 2^32 - 1 images, the most that its numbers tell apart.
 pub struct BatchStore<D: Disk> {
@@ -63,7 +63,7 @@ impl<D: Disk> BatchStore<D> {
     ghost use Rattle.batch_file.specs.Faults.{FailsBy};
     ghost use Rattle.batch_file.specs.Layout.{gate};
     ghost use Rattle.batch_file.specs.OnDisk.{BeforeOrAfter, SameRedone, IsClosed};
-    ghost use Rattle.batch_file.specs.Order.{Completes, Lays, Restores};
+    ghost use Rattle.batch_file.specs.Order.{Completes, Applies, Restores};
     ghost use Rattle.batch_file.specs.Redone.{answer, kept, redone};
     ghost use Rattle.batch_store.specs.Standing.{IsOneOf};
     ghost use Rattle.batch_store.specs.Store.{disk_of, batch_of, waiting, changes_of, is_due, last_of, pages_of, CameOf};
@@ -96,7 +96,7 @@ impl<D: Disk> BatchStore<D> {
         &self.disk
     }
 
-    /// Gives the disk back. What wasn't laid is forgotten.
+    /// Gives the disk back. What wasn't applied is forgotten.
     pub fn into_disk(self) -> D
         ensures disk { result ≡ disk_of self }
         ensures shut { IsTrue D.is_known → is_due self ≡ false → IsShut (D.seen result) (D.touched result) }
@@ -127,7 +127,7 @@ impl<D: Disk> BatchStore<D> {
         self.due
     }
 
-    /// Forgets the pages that were put and not laid, and the page that is kept: a change is given up.
+    /// Forgets the pages that were put and not applied, and the page that is kept: a change is given up.
     pub fn begin(&mut self)
         // A crash at any moment since a store of which it came leaves the pages of then.
         ensures crash { (s : _) → CameOf s self.old → IsTrue D.is_known
@@ -144,7 +144,7 @@ impl<D: Disk> BatchStore<D> {
         self.given = None;
     }
 
-    /// Lays all pages that were put, or none, and begins anew. Where none was put it does nothing.
+    /// Applies all pages that were put, or none, and begins anew. Where none was put it does nothing.
     ///
     /// `Disk` only where a call to the disk failed. `Damaged` where a page that was put isn't there when
     /// it is read again, and no call failed: never on a disk whose content is known. After an error a
@@ -175,7 +175,7 @@ impl<D: Disk> BatchStore<D> {
         // Whatever is known of the disk's content, these calls were made and answered Ok.
         ensures made { OnOk result (0 < waiting self.old
             → CameSo (D.history (disk_of self.old)) (D.history (disk_of self.new))
-            (Lays (Completes (batch_of self.old)) (waiting self.old))) }
+            (Applies (Completes (batch_of self.old)) (waiting self.old))) }
         ensures cause { FailsBy (D.faults (disk_of self.old)) (D.faults (disk_of self.new)) result }
     {
         if self.batch.count() == 0 {
@@ -189,8 +189,8 @@ impl<D: Disk> BatchStore<D> {
         laid
     }
 
-    /// Lays the batch that a `finish` which failed left half laid, or finds that nothing is to be laid.
-    /// What was put and not laid is forgotten.
+    /// Applies the batch that a `finish` which failed left half applied, or finds that nothing is to be applied.
+    /// What was put and not applied is forgotten.
     pub fn restore(&mut self) -> Result<Restored, RestoreFault>
         ensures answer { IsTrue D.is_known →
             (result ≡ Err RestoreFault.Disk) ⊎ (result ≡ answer (D.seen (disk_of self.old))) }

@@ -1,4 +1,4 @@
--- What is known when a change was laid.
+-- What is known when a change was applied.
 use Rattle.std.proofs.Common.{◌≡◌, refl, sym, ap, subst, ◌∙◌, inl, inr, ℕ, ◌<◌, ◌≤◌, nat_le, bytes_eq, not, ◌||◌, Bool, true, List, [], ◌∷◌, map, Option, Some, arith}
 use Rattle.std.proofs.lemmas.Bool.Decides.{nat_tests}
 use Rattle.std.proofs.lemmas.Slice.Eq.{bytes_eq-Decides}

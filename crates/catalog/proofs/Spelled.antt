@@ -1,4 +1,4 @@
--- What the pages of the catalogues spell when a change was laid, or another file was said.
+-- What the pages of the catalogues spell when a change was applied, or another file was said.
 use Rattle.std.proofs.Common.{◌≡◌, refl, sym, ap, subst, ◌∙◌, ℕ, ◌&&◌, nat_le, Bool, true, false, [], ◌∷◌, map, not, Option, Some, Result, Ok, Err, OnOk}
 use Rattle.std.specs.Prelude.{is_some}
 use Rattle.std.proofs.lemmas.Option.{same_Some}

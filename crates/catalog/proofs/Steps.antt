@@ -1,4 +1,4 @@
--- The steps by which a change is laid.
+-- The steps by which a change is applied.
 use Rattle.std.proofs.Common.{◌≡◌, refl, sym, ap, subst, ◌∙◌, ℕ, Bool, true, false, List, [], ◌∷◌, map, Option, Some}
 use Rattle.std.specs.Prelude.{OnOk, Result, Ok, Err}
 use Rattle.am_traits.specs.Causes.{IsAtFault}

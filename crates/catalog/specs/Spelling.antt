@@ -34,7 +34,7 @@ pub record SpellsAfter (c : Catalog) (before : Image) (known : Option Image) : T
 abbrev pub SpellsNone : Catalog → Image → Addr → Type 0
 SpellsNone c m a = Spells c m → ⊥
 
--- A change was laid in memory: what it leaves keeps its file and its pages, and what it makes lies in a file that nothing had.
+-- A change was applied in memory: what it leaves keeps its file and its pages, and what it makes lies in a file that nothing had.
 pub record IsWritten (before now : Catalog) (made : DbChange) : Type 0 where
   pub file : ℕ
   pub used : ℕ

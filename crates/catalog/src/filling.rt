@@ -54,8 +54,8 @@ pub(crate) fn is_lawful(
     }
 }
 
-/// Lays a change in memory where it is lawful, and answers whether it is.
-pub(crate) fn lay_lawful(
+/// Applies a change in memory where it is lawful, and answers whether it is.
+pub(crate) fn apply_lawful(
     alloc: Global,
     plain: &mut DbPlain,
     change: &DbChange,
@@ -67,11 +67,11 @@ pub(crate) fn lay_lawful(
     if !is_lawful(alloc, plain, change)? {
         return Ok(false);
     }
-    plain.lay(alloc, change)?;
+    plain.apply_change(alloc, change)?;
     Ok(true)
 }
 
-/// Lays in memory that rows come to a relation, where that is lawful, and answers whether it is.
+/// Applies in memory that rows come to a relation, where that is lawful, and answers whether it is.
 fn put_rows(
     alloc: Global,
     plain: &mut DbPlain,
@@ -83,7 +83,7 @@ fn put_rows(
     ensures err { OnErr result (database_of plain.new ≡ database_of plain.old) }
 {
     let change = coming(alloc, key, rows)?;
-    lay_lawful(alloc, plain, &change)
+    apply_lawful(alloc, plain, &change)
 }
 
 /// Whether a base relation stands under a key.

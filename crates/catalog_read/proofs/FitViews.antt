@@ -1,4 +1,4 @@
--- Of views that wait to be laid some may be laid: one of the least level.
+-- Of views that wait to be applied some may be applied: one of the least level.
 use Rattle.std.proofs.Common.{◌≡◌, refl, sym, ap, ◌∙◌, subst, inl, inr, ◌⊎◌, ℕ, zero, suc, ◌+◌, nat_le, Bool, true, false, IsTrue, List, [], ◌∷◌, ◌++◌, Option, Some, None, map, length}
 use Rattle.std.specs.Prelude.{is_some, flat_map, sum, sum_by}
 use Rattle.std.specs.List.{list_all, AllByRecursion}
@@ -26,7 +26,7 @@ use Rattle.plan_laws.proofs.PlainQueries.{query_plain}
 use Rattle.plan_laws.proofs.Ranging.{ranged}
 use Rattle.plan_laws.proofs.Staying.{Staying, map_same, all_same, level_stays, query_stays, kinds_stay}
 use Rattle.plan_laws.proofs.StayingFacts.{stands_with}
-use Rattle.catalog_read.specs.Laying.{view_of}
+use Rattle.catalog_read.specs.Applying.{view_of}
 use Rattle.catalog_read.proofs.Shuffles.{back, Pairwise}
 use Rattle.catalog_read.proofs.Members.{IsIn, of_all, in_shuffled, in_front, in_either, in_test, all_front, all_rest, all_unmapped, as_test, within_both, within_pairs, waits_within, stands_within}
 use Rattle.catalog_read.proofs.Steps.{infos_of}
@@ -101,7 +101,7 @@ module _ (left : List DbChange) (part whole : Db) (w : Waits left part whole) (i
   stay : Staying (IsThere part) part whole
   stay = part_stays part whole w.database is (has_views whole w.all)
 
-  -- a view may be laid where all that it names is there
+  -- a view may be applied where all that it names is there
   pub view_fits : (view : View) → IsIn view (flat_map view_of left) → IsTrue (vars_are_there part view.query) → view_is_fit part view.info view.query ≡ true
   unfolding view_is_fit view_is_small query_size expanded_variables
   view_fits view at there =
@@ -151,7 +151,7 @@ module _ (left : List DbChange) (part whole : Db) (w : Waits left part whole) (i
       small : IsTrue (nat_le (query_size part q) greatest_size)
       small = ap (λ (m : Measure). nat_le (sum m.attrs + m.qual) greatest_size) (query_stays (IsThere part) part whole stay q own_vars) ∙ its (λ v. nat_le (query_size whole v.query) greatest_size) w.all.small_views
 
-  -- no view that waits may be laid
+  -- no view that waits may be applied
   abbrev pub NoneFits : Type 0
   NoneFits = AllByRecursion (λ v. view_is_fit part v.info v.query ≡ false) (flat_map view_of left)
 

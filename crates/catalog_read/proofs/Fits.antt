@@ -1,4 +1,4 @@
--- Of what waits to be laid, relations may be laid, and where all relations stand, indexes, rules and permits may.
+-- Of what waits to be applied, relations may be applied, and where all relations stand, indexes, rules and permits may.
 use Rattle.std.proofs.Common.{◌≡◌, refl, sym, ap, ◌∙◌, subst, ℕ, nat_le, nat_lt, ◌≤◌, Bool, true, ◌&&◌, not, IsTrue, List, [], ◌∷◌, ◌++◌, map, filter, length, arith}
 use Rattle.std.specs.Prelude.{find, flat_map, bytes_eq}
 use Rattle.std.specs.List.{list_all}
@@ -27,7 +27,7 @@ use Rattle.plan_laws.proofs.Kept.{both, each, count}
 use Rattle.plan_laws.proofs.NewIndexes.{is_yes}
 use Rattle.plan_laws.proofs.NewNumbers.{of_key}
 use Rattle.plan_laws.proofs.Tests.{there_is, found_has, key_found, lt_true}
-use Rattle.catalog_read.specs.Laying.{Shuffled, relation_of, index_of, view_of, rule_of, permit_of}
+use Rattle.catalog_read.specs.Applying.{Shuffled, relation_of, index_of, view_of, rule_of, permit_of}
 use Rattle.catalog_read.proofs.Members.{IsIn, in_shuffled, in_front, in_test, Within, within_both, waits_within, stands_within}
 use Rattle.catalog_read.proofs.Steps.{infos_of, IsBare}
 use Rattle.catalog_read.proofs.Waiting.{views_of, indexes_of, within_mapped, third_first, key_free, number_free}

@@ -7,7 +7,7 @@ use Rattle.calculus.specs.Database.{Db}
 use Rattle.calculus.specs.IsDatabase.{IsDatabase}
 use Rattle.catalog_read.specs.declared.schema_parts.SchemaParts.{SchemaParts}
 use Rattle.catalog_read.specs.Parts.{Parts, parts_in, index_in, whole, index_owners_agree}
-use Rattle.catalog_read.specs.Laying.{IsLeft, nothing_in, round, changes_of, is_of_its_base}
+use Rattle.catalog_read.specs.Applying.{IsLeft, nothing_in, round, changes_of, is_of_its_base}
 use Rattle.catalog_read.proofs.Rounds.{round_left, round_length, none_fits}
 use Rattle.catalog_read.proofs.Starts.{all_is_left, of_their_bases}
 use Rattle.catalog_read.proofs.Stuck.{stuck}
@@ -21,7 +21,7 @@ left_after db later changes left is e dba parts l = subst (λ (s : Db × List Db
 pub fewer_after : (db later : Db) (changes left : List DbChange) → (later, left) ≡ round db changes → length left ≤ length changes
 fewer_after db later changes left e = subst (λ (s : Db × List DbChange). length s.1 ≤ length changes) (sym e) (round_length changes db)
 
--- where a round lays nothing of some changes, there is no such database
+-- where a round applies nothing of some changes, there is no such database
 pub stuck_after : (db later : Db) (changes left : List DbChange) → IsDatabase db → (later, left) ≡ round db changes → length left ≡ length changes → (length changes ≡ 0 → ⊥)
     → (dba : List ℕ) (parts : Parts) (whole_db : Db) → IsLeft dba changes db parts → whole dba parts ≡ Some whole_db → IsDatabase whole_db → ⊥
 stuck_after db later changes left is e same some = stuck changes db is (none_fits changes db (ap (λ (s : Db × List DbChange). length s.1) (sym e) ∙ same)) some

@@ -1,12 +1,12 @@
 //! The rows of the three catalogues are read, and the parts of the database that they spell are made.
 #![tactic(auto)]
 
+mod applying;
 mod attributes;
 mod building;
 mod finding;
 mod items_of_rows;
 mod laws;
-mod laying;
 mod numbered;
 mod pairs;
 mod parts_as_changes;

@@ -22,7 +22,7 @@ use base_trait::{Base, BaseFault};
 use calculus::DbChange;
 use std::alloc::Global;
 
-/// Whether the change may be laid, by the test of its kind.
+/// Whether the change may be applied, by the test of its kind.
 fn change_is_fit<B: Base>(alloc: Global, base: &mut B, change: &DbChange) -> Result<bool, BaseFault>
     ensures known { (db : Db) → B.database base.old ≡ Some db → IfOk result (λ fit. fit ≡ change_is_fit db change.now) }
     ensures by_schema { (s : Db) → B.schema base.old ≡ Some s → is_of_rows change.now ≡ false → IfOk result (λ fit. fit ≡ change_is_fit s change.now) }

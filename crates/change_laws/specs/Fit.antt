@@ -99,7 +99,7 @@ view_is_fit db info q =
     && (view_info_stands info
     && (attrs_stand info.attrs && (attrs_are_targets info.attrs (targets_of q) && (vars_are_there db q && (not (is_too_high (query_level db q)) && (query_stands db q && view_is_small db q))))))
 
--- the change may be laid
+-- the change may be applied
 unfoldable pub change_is_fit : Db → DbChange → Bool
 change_is_fit db (change.Rows rel remove add) = rows_are_fit db rel remove add
 change_is_fit db (change.Create info rows) = relation_is_fit db info rows

@@ -73,7 +73,7 @@ laid_read : (made : DbChange) (after later : Option Db) (s now : Db) → later �
 laid_read made None later s now is own then = ap schema_of (same_Some now (schema_of (laid s made)) (sym then ∙ is)) ∙ schema_again (laid s made)
 laid_read made (Some a) later s now is own then = ap schema_of (sym (same_Some a now then)) ∙ sym (own a (schema_of (laid s made)) refl is)
 
--- a change that was laid on the database that was known, or on the schema that was read, is laid on what was known
+-- a change that was applied to the database that was known, or to the schema that was read, is applied to what was known
 pub known_laid : {T E : Type 0} (made : DbChange) (before schema after later : Option Db) (s now : Db) (result : Result T E)
     → ((db : Db) → before ≡ Some db → OnOk result (after ≡ Some (laid db made))) → ((s : Db) → schema ≡ Some s → OnOk result (later ≡ Some (schema_of (laid s made))))
     → ((db s : Db) → after ≡ Some db → later ≡ Some s → s ≡ schema_of db) → known_by before schema ≡ Some s → known_by after later ≡ Some now

@@ -14,7 +14,7 @@ restored : {T U : Type 0} (known : Option Db) (before now : ℕ) (fault : Restor
 restored known before now Disk by none = record { later = by.later; caused = by.failed refl }
 restored known before now (Damaged file page) by none = record { later = by.later; caused = (none file page refl, by.answered (λ e. cc e)) }
 
--- where a batch isn't laid, the fault may come
+-- where a batch isn't applied, the fault may come
 pub restore_caused : {T U : Type 0} (known : Option Db) (before now : ℕ) (fault : RestoreFault) (result : Result T RestoreFault) (of : BaseFault) → result ≡ Err fault → of ≡ of_restore fault → FailsBy before now result
     → ((file page : ℕ) → result ≡ Err (Damaged file page) → known ≡ None) → HasCause {T = U} known before now (Err of)
 restore_caused {T} {U} known before now fault result of is same by none =

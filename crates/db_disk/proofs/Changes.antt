@@ -23,7 +23,7 @@ use Rattle.batch_file.specs.Faults.{FailsBy}
 use Rattle.batch_file.specs.Layout.{addr, first_byte, gate}
 use Rattle.batch_file.specs.OnDisk.{IsClosed, SameRedone}
 use Rattle.batch_file.specs.Redone.{kept, redone}
-use Rattle.batch_file.proofs.Lays.{kept_by, kept_not_batch, redone_shut}
+use Rattle.batch_file.proofs.Applies.{kept_by, kept_not_batch, redone_shut}
 use Rattle.batch_file.proofs.Opening.{redone_outside}
 use Rattle.batch_file.proofs.Outside.{outside_back}
 use Rattle.batch_store.specs.Run.{HasOnlyNow}

@@ -66,7 +66,7 @@ module _ {D : Type 0} {g : Ghosts D} (s : BatchStore D g) (ready : IsReady s) wh
   pub knows_now : (a : Catalog) (db : Db) → IsKnown (g.seen (disk_of s)) (Some a) → database_in s ≡ Some db → Knows a (kept (g.seen (disk_of s))) db
   knows_now a db is holds = untruncated (is.each a db refl (ready_holds s db ready holds).holds)
 
-  -- what is known when a change was laid
+  -- what is known when a change was applied
   module _ (new : BatchStore D g) (later : IsReady new) (before now : Catalog) (made : DbChange) (known : IsTrue g.is_known) (is : IsKnown (g.seen (disk_of s)) (Some before))
       (schema : schema_of (database_of now.plain) ≡ schema_of (laid (schema_of (database_of before.plain)) made)) (mid : Option Image)
       (after : (m : Image) → pages_of s ≡ Some m → LiesOn before m → LiesAfter now m mid) (holds : (m : Image) → mid ≡ Some m → kept (g.seen (disk_of new)) ≡ m) where

@@ -12,7 +12,7 @@ use Rattle.stored_database.specs.Standing.{standing, stored}
 use Rattle.stored_database.proofs.Reading.{bind_some, when_some}
 use Rattle.db_disk.specs.Held.{held, database_by, SameHeld}
 
--- what is held is held by the pages once a batch is laid
+-- what is held is held by the pages once a batch is applied
 pub same_held : (m n : Image) → redone m ≡ redone n → held m ≡ held n
 unfolding held stored
 same_held m n same = ap (λ o. (o >>= standing) >>= (λ db. when (index_owners_agree db) db)) same

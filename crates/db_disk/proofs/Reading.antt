@@ -8,7 +8,7 @@ use Rattle.calculus.specs.Schema.{schema_of}
 use Rattle.disk_model.specs.Disk.{Image, RisesUpTo}
 use Rattle.batch_file.specs.Layout.{gate}
 use Rattle.batch_file.specs.Redone.{kept, redone}
-use Rattle.batch_file.proofs.Lays.{redone_shut}
+use Rattle.batch_file.proofs.Applies.{redone_shut}
 use Rattle.page_chain.specs.Pages.{pages_of}
 use Rattle.plain_base.specs.Shown.{database_of}
 use Rattle.stored_database.specs.Catalogue.{catalogue_in}

@@ -14,7 +14,7 @@ use Rattle.batch_file.specs.Layout.{gate}
 use Rattle.batch_file.specs.OnDisk.{IsClosed}
 use Rattle.batch_file.specs.Redone.{kept, redone}
 use Rattle.batch_file.specs.Staged.{size_of}
-use Rattle.batch_file.proofs.Lays.{redone_shut}
+use Rattle.batch_file.proofs.Applies.{redone_shut}
 use Rattle.batch_store.specs.Store.{batch_of, disk_of, is_due, pages_of, waiting, CameOf, OnlyReadOf}
 use Rattle.batch_store.specs.declared.store.BatchStore.{BatchStore}
 use Rattle.batch_store.proofs.Stands.{fresh_pages, staged_none}

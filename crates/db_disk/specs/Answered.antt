@@ -12,7 +12,7 @@ IsWant (Err faults.Disk) = ⊥
 IsWant (Err (faults.Damaged file page)) = ⊥
 IsWant (Err faults.OutOfMemory) = Unit {0}
 
--- the fault of a base where a batch isn't laid
+-- the fault of a base where a batch isn't applied
 abbrev pub of_restore : RestoreFault → BaseFault
 of_restore restore.Disk = faults.Disk
 of_restore (restore.Damaged file page) = faults.Damaged file page

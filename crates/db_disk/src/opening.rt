@@ -115,7 +115,7 @@ impl<D: Disk> DbDisk<D> {
     }
 
     /// Opens the database, where that wasn't done yet: restores the disk, which begins with a sync and
-    /// lays a batch that was begun, and reads the catalogues, each page once.
+    /// applies a batch that was begun, and reads the catalogues, each page once.
     pub fn open(&mut self, alloc: Global) -> Result<(), BaseFault>
         ensures there { OnOk result (IsTrue (is_some (schema_in self.new))) }
         ensures kept { db_of self.new ≡ db_of self.old }

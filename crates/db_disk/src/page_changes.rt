@@ -1,4 +1,4 @@
-//! A change is laid on the pages of a database on a disk.
+//! A change is applied to the pages of a database on a disk.
 
 ghost use Rattle.std.specs.Prelude.{◌≡◌, IsTrue, Some, Err, OnOk, IfOk, IsErrOf, is_some, true, false};
 ghost use Rattle.calculus.specs.Change.{IsLawful, laid};
@@ -23,7 +23,7 @@ use catalog::{Catalog, SpotTable};
 use disk_model::Disk;
 use std::alloc::Global;
 
-/// Lays all pages that were put. Answers whether there were any: then the store is ready again.
+/// Applies all pages that were put. Answers whether there were any: then the store is ready again.
 fn finish<D: Disk>(store: &mut BatchStore<D>) -> Result<bool, BaseFault>
     requires { is_due store.old ≡ false }
     ensures stands { (s : _) (m : Image) → CameOf s store.old → IsTrue D.is_known
@@ -44,7 +44,7 @@ fn finish<D: Disk>(store: &mut BatchStore<D>) -> Result<bool, BaseFault>
     }
 }
 
-/// Lays all pages that were put; where there were none the disk is synced. Then the store is ready again.
+/// Applies all pages that were put; where there were none the disk is synced. Then the store is ready again.
 fn settle<D: Disk>(store: &mut BatchStore<D>) -> Result<(), BaseFault>
     requires { is_due store.old ≡ false }
     ensures stands { (s : _) (m : Image) → CameOf s store.old → IsTrue D.is_known
@@ -67,9 +67,9 @@ fn settle<D: Disk>(store: &mut BatchStore<D>) -> Result<(), BaseFault>
     reopen(store)
 }
 
-/// Lays a change on pages that are ready, or gives it up. After Ok the store is ready again, and the
+/// Applies a change to pages that are ready, or gives it up. After Ok the store is ready again, and the
 /// catalogue knows what lies there then.
-pub(crate) fn lay<D: Disk>(
+pub(crate) fn apply_change<D: Disk>(
     alloc: Global,
     store: &mut BatchStore<D>,
     catalog: &mut Catalog,
@@ -89,7 +89,7 @@ pub(crate) fn lay<D: Disk>(
     ensures no_memory { IsErrOf result BaseFault.OutOfMemory → database_in store.new ≡ database_in store.old }
     ensures cause { HasCause (database_in store.old) (D.faults (disk_of store.old)) (D.faults (disk_of store.new)) result }
 {
-    match catalog.lay(alloc, store, spots, change) {
+    match catalog.apply_change(alloc, store, spots, change) {
         Ok(()) => settle(store),
         Err(fault) => {
             store.begin();
@@ -98,8 +98,8 @@ pub(crate) fn lay<D: Disk>(
     }
 }
 
-/// Lays a change where the catalogue is there.
-pub(crate) fn lay_known<D: Disk>(
+/// Applies a change where the catalogue is there.
+pub(crate) fn apply_known<D: Disk>(
     alloc: Global,
     store: &mut BatchStore<D>,
     catalog: &mut Option<Catalog>,
@@ -122,7 +122,7 @@ pub(crate) fn lay_known<D: Disk>(
     ensures cause { HasCause (database_in store.old) (D.faults (disk_of store.old)) (D.faults (disk_of store.new)) result }
 {
     match catalog {
-        Some(cached) => lay(alloc, store, cached, spots, change),
+        Some(cached) => apply_change(alloc, store, cached, spots, change),
         None => unreachable!(),
     }
 }

@@ -1,4 +1,4 @@
-//! A disk is restored before it is read, and a batch is laid.
+//! A disk is restored before it is read, and a batch is applied.
 
 ghost use Rattle.std.specs.Prelude.{◌≡◌, ◌≢◌, ℕ, IsErrOf, IsTrue, Some, None, Err, OnOk};
 ghost use Rattle.base_trait.specs.Causes.{HasCause};
@@ -16,7 +16,7 @@ use batch_file::RestoreFault;
 use batch_store::BatchStore;
 use disk_model::Disk;
 
-/// The fault of a base where a batch isn't laid.
+/// The fault of a base where a batch isn't applied.
 pub(crate) fn fault_of(fault: RestoreFault) -> BaseFault
     ensures { result ≡ of_restore fault }
 {
@@ -26,7 +26,7 @@ pub(crate) fn fault_of(fault: RestoreFault) -> BaseFault
     }
 }
 
-/// Lays a batch that was begun, once all that was written is durable. What the disk holds stays.
+/// Applies a batch that was begun, once all that was written is durable. What the disk holds stays.
 pub(crate) fn reopen<D: Disk>(store: &mut BatchStore<D>) -> Result<(), BaseFault>
     ensures same { database_in store.new ≡ database_in store.old }
     ensures ready { OnOk result (IsReady store.new) }

@@ -15,7 +15,7 @@ use Rattle.page_chain.specs.Pages.{page_at, pages_of}
 use Rattle.page_chain.proofs.Slots.{lying_join, lying_same, row_is_placed}
 use Rattle.page_chain.proofs.Coming.{none_new, filled_none, filled_more, fresh_has_room}
 use Rattle.page_chain.proofs.Linking.{chain_glued, chain_below, all_of_below, to_from, to_from_zero}
-use Rattle.page_chain.proofs.Laying.{put_there, put_same, other_file, laid_first, laid_more}
+use Rattle.page_chain.proofs.Writing.{put_there, put_same, other_file, laid_first, laid_more}
 
 -- ---- behind a chain
 

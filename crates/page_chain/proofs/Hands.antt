@@ -7,7 +7,7 @@ use Rattle.page_cells.specs.Page.{IsPage, next_page, slots}
 use Rattle.page_chain.specs.Filled.{HasOnly, IsFilled, InHand, KnownLaid, IsLinked}
 use Rattle.page_chain.specs.Lying.{lying_in, bytes_of}
 use Rattle.page_chain.specs.Pages.{page_at}
-use Rattle.page_chain.proofs.Laying.{laid_first, laid_more, bytes_of_only, bytes_join}
+use Rattle.page_chain.proofs.Writing.{laid_first, laid_more, bytes_of_only, bytes_join}
 
 -- the first page is filled
 pub hand_first : (file first : ℕ) (p q : List ℕ) (n : ℕ) (rows : List (List ℕ)) (m : Image) (known : Option Image) → known ≡ Some m

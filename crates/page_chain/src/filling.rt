@@ -57,7 +57,7 @@ pub(crate) fn turn_page<S: PageStore>(
 
 /// Puts the page in hand, which is full, in its place, and as many of the rows that are left as there is
 /// room for on a fresh one behind it. Answers how many.
-fn lay_page<S: PageStore>(
+fn write_page<S: PageStore>(
     store: &mut S,
     file: u32,
     at: u32,
@@ -80,9 +80,9 @@ fn lay_page<S: PageStore>(
     Ok(fill(page, left))
 }
 
-/// Lays the rows that are left on pages behind the one in hand, which is full. The last of them is in
+/// Writes the rows that are left on pages behind the one in hand, which is full. The last of them is in
 /// hand then; answers its number.
-fn lay_pages<S: PageStore>(
+fn write_pages<S: PageStore>(
     store: &mut S,
     file: u32,
     first: u32,
@@ -102,17 +102,17 @@ fn lay_pages<S: PageStore>(
     let mut at = first;
     let mut left = rows;
     'pages: while !left.is_empty() {
-        let count = lay_page(store, file, at, page, left)?;
+        let count = write_page(store, file, at, page, left)?;
         left = left.split_at(count).1;
         at += 1;
     }
     Ok(at)
 }
 
-/// Lays rows on the pages of a file from this one on, which is in hand and has none behind it: into its
+/// Writes rows on the pages of a file from this one on, which is in hand and has none behind it: into its
 /// room, then on fresh pages, which have the numbers behind it. Each page is put once. Answers the
 /// number of the last.
-pub(crate) fn lay<S: PageStore>(
+pub(crate) fn write_rows<S: PageStore>(
     store: &mut S,
     file: u32,
     first: u32,
@@ -131,7 +131,7 @@ pub(crate) fn lay<S: PageStore>(
     ensures cause { HasStoreCause (S.faults store.old) (S.faults store.new) result }
 {
     let left = rows.split_at(fill(page, rows)).1;
-    let at = lay_pages(store, file, first, page, left)?;
+    let at = write_pages(store, file, first, page, left)?;
     store.put(Addr { file, page: at }, page)?;
     Ok(at)
 }

@@ -2,10 +2,10 @@
 
 ghost use Rattle.std.specs.Prelude.{◌≡◌, []};
 
+mod applies;
 mod asks;
 mod changes;
 mod known;
-mod lays;
 mod rows_asked;
 
 use crate::under_keys::{Indexed, Stored, Viewed};

@@ -34,7 +34,7 @@ module _ (db : Db) (files : Files) (user : List ℕ) (work : Utility) where
   into_effect c = ap (utility_effect db files user) c.is
 
   module _ (now : Db) (known : Option Files) (e : known ≡ Some files) (reply : Reply) where
-    -- the change is laid
+    -- the change is applied
     pub from_done : (c : IsCopy work true) (change : DbChange) → copied_from db files user c.rel c.columns c.constant ≡ Ok change
         → change_effect db files (Ok change) ≡ effect_of now files reply → Leaves (utility_effect db files user work) now known reply
     from_done c change is h = record { files = files; known_so = e; is = from_effect c ∙ ap (change_effect db files) is ∙ h }
@@ -107,7 +107,7 @@ pub left_same : (old between : Db) → Some between ≡ Some old → (files : Fi
     → Leaves (utility_effect old files user work) old known reply → Leaves (utility_effect old files user work) between known reply
 left_same old between same files user work known reply h = subst (λ db. Leaves (utility_effect old files user work) db known reply) (sym (same_Some between old same)) h
 
--- a change that is laid where the database is the same is laid here
+-- a change that is applied where the database is the same is applied here
 pub laid_same : (old between now : Db) → Some between ≡ Some old → (files : Files) (change : DbChange) (reply : Reply)
     → change_effect between files (Ok change) ≡ effect_of now files reply → change_effect old files (Ok change) ≡ effect_of now files reply
 laid_same old between now same files change reply h = ap (λ db. change_effect db files (Ok change)) (sym (same_Some between old same)) ∙ h

@@ -58,7 +58,7 @@ work_effect db files user (utility.Copy rel columns from file) h = absurd (cc h)
 work_effect db files user work h = refl
 
 module _ (old between : Db) (files : Files) (user : List ℕ) (work : Utility) (none : is_copy work ≡ false) (kept : Some between ≡ Some old) where
-  -- the change is planned, and then laid
+  -- the change is planned, and then applied
   pub work_laid : (now : Db) (change : DbChange) → planned old user work ≡ Ok change → (reply : Reply) → change_effect between files (Ok change) ≡ effect_of now files reply
       → utility_effect old files user work ≡ effect_of now files reply
   work_laid now change e reply h =

@@ -15,8 +15,8 @@ ghost use Rattle.plain_statements.specs.Stopping.{without_shelf};
 
 use crate::Stopped;
 use crate::answering::answered;
+use crate::applying::laid;
 use crate::copying::{copied_from, copied_into};
-use crate::laying::laid;
 use crate::planning::update_planned;
 use crate::refusing::{refused, short};
 use crate::working::work_planned;

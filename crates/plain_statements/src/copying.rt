@@ -10,7 +10,7 @@ ghost use Rattle.plain_statements.specs.Doable.{IsDoableWork};
 ghost use Rattle.plain_statements.specs.Standing.{Leaves};
 ghost use Rattle.plain_statements.specs.Stopping.{copy_answer, IsShortCopy};
 
-use crate::laying::laid;
+use crate::applying::laid;
 use crate::refusing::refused;
 use base_trait::BaseFault;
 use calculus::{Name, OutOfMemory, Refusal, Reply, Utility};

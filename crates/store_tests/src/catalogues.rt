@@ -25,7 +25,7 @@ fn loaded<S: PageStore>(alloc: Global, rt: &impl Abort, store: &mut S) -> Catalo
     Catalog::load(alloc, store, dba).expect(rt, "a catalogue")
 }
 
-/// Lays a change on the catalogues where it is lawful; whether it is.
+/// Applies a change to the catalogues where it is lawful; whether it is.
 fn write_fit<S: PageStore>(
     alloc: Global,
     catalog: &mut Catalog,

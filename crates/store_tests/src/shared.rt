@@ -1,4 +1,4 @@
-//! What the tests lay on databases on disks: names, small changes, and what a database answers.
+//! What the tests apply to databases on disks: names, small changes, and what a database answers.
 
 use base_trait::{Base, BaseFault};
 use calculus::{DbChange, List, Name, Place, Probe, RelKey, Row, Spec, Value};
@@ -89,8 +89,8 @@ pub fn change_of(alloc: Global, rt: &impl Abort, step: Step) -> DbChange {
         .expect(rt, "a change")
 }
 
-/// Lays a change where it is lawful; whether it is.
-fn lay_fit<B: Base>(alloc: Global, base: &mut B, change: &DbChange) -> Result<bool, BaseFault> {
+/// Applies a change where it is lawful; whether it is.
+fn apply_fit<B: Base>(alloc: Global, base: &mut B, change: &DbChange) -> Result<bool, BaseFault> {
     let fit = fit_change(alloc, base, change)?;
     if fit {
         base.apply(alloc, change)?;
@@ -106,7 +106,7 @@ pub fn take<B: Base>(
     step: Step,
 ) -> Result<bool, BaseFault> {
     let change = change_of(alloc, rt, step);
-    let laid = lay_fit(alloc, base, &change);
+    let laid = apply_fit(alloc, base, &change);
     drop(change);
     laid
 }

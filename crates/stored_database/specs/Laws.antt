@@ -78,7 +78,7 @@ WhatStandsIsADatabase = (pages : Image) (db : Db) → StandsFor pages db → IsD
 abbrev pub OneDatabase : Type 0
 OneDatabase = (pages : Image) (one other : Db) → StandsFor pages one → StandsFor pages other → one ≡ other
 
--- disks whose pages are the same once their batches are laid hold the same database
+-- disks whose pages are the same once their batches are applied hold the same database
 abbrev pub SameRedone : Type 0
 SameRedone = (m n : Image) → redone m ≡ redone n → stored m ≡ stored n
 

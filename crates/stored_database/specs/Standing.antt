@@ -47,7 +47,7 @@ standing m = do
 abbrev pub StandsFor : Image → Db → Type 0
 StandsFor pages db = standing pages ≡ Some db
 
--- the database that a disk holds: its pages stand for it once a batch that was begun is laid on them
+-- the database that a disk holds: its pages stand for it once a batch that was begun is applied to them
 unfoldable pub stored : Image → Option Db
 stored m = do
   pages ← redone m

@@ -14,7 +14,7 @@ pub fn one_database()
     ensures { OneDatabase }
 {}
 
-/// Disks with the same pages once their batches are laid hold the same database.
+/// Disks with the same pages once their batches are applied hold the same database.
 #[tactic(auto, using(crate::proofs::WhatStands::same_redone))]
 pub fn same_redone()
     ensures { SameRedone }

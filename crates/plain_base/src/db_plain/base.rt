@@ -119,7 +119,7 @@ impl Base for DbPlain {
     }
 
     fn apply(&mut self, alloc: Global, change: &DbChange) -> Result<(), BaseFault> {
-        self.lay(alloc, change)?;
+        self.apply_change(alloc, change)?;
         Ok(())
     }
 

@@ -2,7 +2,7 @@ use Rattle.std.proofs.Common.{◌≡◌, ◌+◌, ℕ, length, take, refl, ◌�
 use Rattle.std.proofs.lemmas.List.{take_more, take_all}
 use Rattle.disk_model.specs.Disk.{LeavesOnly}
 use Rattle.disk_model.specs.History.{CameSo}
-use Rattle.batch_file.specs.Order.{Completes, Lays}
+use Rattle.batch_file.specs.Order.{Completes, Applies}
 use Rattle.batch_file.specs.Layout.{Entries}
 use Rattle.batch_file.specs.Redone.{kept, laid}
 use Rattle.batch_file.specs.OnDisk.{BeforeOrAfter}
@@ -70,4 +70,4 @@ returns-clause-made g c = λ some.
     let whole : take c.loop-a.a-index c.args.changes.now ≡ c.args.changes.now = take_all c.loop-a.a-index c.args.changes.now (omega arith) in
     commits _ _ _ c.loop-a.batch c.args.changes.now (length c.args.changes.now)
     (subst (λ (l : Entries). CameSo (g.D.Disk.history c.args.disk.now) (g.D.Disk.history c.loop-a.disk) (Gathers c.loop-a.batch l)) whole c.loop-a.invariant.made)
-    (subst (λ (n : ℕ). CameSo (g.D.Disk.history c.loop-a.disk) (g.D.Disk.history c.finish.new.disk) (Lays (Completes c.loop-a.batch) n)) size (c.in_ok-finish.ensures.made (omega (arith, size, some))))
+    (subst (λ (n : ℕ). CameSo (g.D.Disk.history c.loop-a.disk) (g.D.Disk.history c.finish.new.disk) (Applies (Completes c.loop-a.batch) n)) size (c.in_ok-finish.ensures.made (omega (arith, size, some))))

@@ -4,7 +4,7 @@ use Rattle.calculus.specs.Database.{Db}
 use Rattle.calculus.specs.IsDatabase.{IsDatabase}
 use Rattle.plain_base.specs.Shown.{database_of}
 use Rattle.catalog_read.specs.Parts.{Parts, index_in, whole}
-use Rattle.catalog_read.specs.Laying.{IsLeft, nothing_in, is_of_its_base}
+use Rattle.catalog_read.specs.Applying.{IsLeft, nothing_in, is_of_its_base}
 use Rattle.catalog_read.proofs.Starts.{owners_of_bases}
 use Rattle.catalog_read.proofs.Known.{built, refused, not_agreed, if_answered}
 use Rattle.catalog_read.proofs.building.build_schema.Goals as goal

@@ -9,7 +9,7 @@ use Rattle.batch_store.proofs.Stands.{staged_fresh, known_laid, known_so, empty_
 use Rattle.std.specs.Prelude.{OnOk, ◌<◌}
 use Rattle.batch_store.proofs.Putting.{calm_so, due_so}
 use Rattle.disk_model.specs.History.{CameSo}
-use Rattle.batch_file.specs.Order.{Completes, Lays}
+use Rattle.batch_file.specs.Order.{Completes, Applies}
 use Rattle.batch_store.proofs.store.BatchStore.finish.Goals as goal
 
 pub returns-then-count-eq0-clause-crash : goal.returns-then-count-eq0-clause-crash
@@ -94,5 +94,5 @@ returns-clause-closed g c = λ known.
 
 pub returns-clause-made : goal.returns-clause-made
 returns-clause-made g c =
-    subst (λ (b : Batch). OnOk c.finish-laid.result (0 < size_of b → CameSo (g.D.Disk.history c.args.self.now.disk) (g.D.Disk.history c.finish-laid.new.disk) (Lays (Completes b) (size_of b))))
+    subst (λ (b : Batch). OnOk c.finish-laid.result (0 < size_of b → CameSo (g.D.Disk.history c.args.self.now.disk) (g.D.Disk.history c.finish-laid.new.disk) (Applies (Completes b) (size_of b))))
     c.replace-batch.ensures.value c.finish-laid.ensures.made
