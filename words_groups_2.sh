@@ -176,3 +176,35 @@ p '\bthe tests apply on databases\b' 'the tests apply to databases' store_tests
 p '^(\W*)Lays (the rows|rows)\b' '\1Writes \2' page_chain
 p '\bor on the schema that was read, is applied\b' 'or to the schema that was read, is applied' db_disk
 q --choose lay=apply_change
+
+g "13 stands: valid (in a database), denotes (pages), recovered (pages with a begun batch applied), allowed (rows of an update, aggregates), existing (permits, rules)"
+for it in row_qual:valid_row_qual query:valid_query index:valid_index structure:valid_structure permit:valid_permit view_info:valid_view_info aggregate:aggregate_allowed pair:pair_allowed new:new_allowed new_row:new_row_allowed; do
+  s "${it%%:*}_stands" "${it##*:}" $ALL
+done
+s aggregates_stand aggregates_allowed $ALL --keep aggregates_stand_at_their_slots aggregates_stand_where_they_are_of_one_variable_and_nothing_is_kept
+s standing_permits existing_permits $ALL
+s standing_rules existing_rules $ALL
+f crates/quel_refusals/src/standing_aggregates.rt crates/quel_refusals/src/allowed_aggregates.rt
+DENOTED="$(grep -rlE 'stored_database\.specs\.(Standing|Denoting)\.\{[^}]*\bstanding\b' crates --include=*.rt --include=*.antt | grep -v /out/) crates/stored_database/specs/*ing.antt" || true
+RECOVERED="$(grep -rlE 'batch_store\.specs\.(Standing|Recovered)\.\{[^}]*\bstanding\b' crates --include=*.rt --include=*.antt | grep -v /out/) crates/batch_store/specs/Standing.antt" || true
+w standing denoted $DENOTED
+w StandsFor Denotes stored_database
+w what_stands_is_a_database what_is_denoted_is_a_database $ALL
+w WhatStandsIsADatabase WhatIsDenotedIsADatabase $ALL
+w standing recovered $RECOVERED
+s standing recovered batch_store
+f crates/stored_database/specs/Standing.antt crates/stored_database/specs/Denoting.antt
+f crates/stored_database/src/standing.rt crates/stored_database/src/denoting.rt
+f crates/batch_store/specs/Standing.antt crates/batch_store/specs/Recovered.antt
+t '\bstanding(?=\.header_bytes|$)' 'denoting' crates/db_disk/proofs/Held.antt
+p '\ba new row stands\b' 'a new row is allowed' calculus stage_proc calculus_laws
+p '\bA new row stands\b' 'A new row is allowed' calculus stage_proc calculus_laws
+p '\b([Aa]) pair stands where its new row does\b' '\1 pair is allowed where its new row is' calculus stage_proc
+p '\b([Aa]n|the|The) aggregate may stand\b' '\1 aggregate is allowed' quel_meaning quel_refusals quel_resolve
+p '\bstands for (this|the|a|no|one|another|that) database\b' 'denotes \1 database'
+p '\bstand for (this|the|a|no|one|another|that) database\b' 'denote \1 database'
+p '\bdatabase that the pages of an image stand for\b' 'database that the pages of an image denote'
+p '\b(what|database that) (the pages|pages|they|these pages|its pages) stand for\b' '\1 \2 denote' stored_database catalog catalog_laws catalog_read catalog_moves db_disk base_trait batch_store
+t '\| `standing`, `stands` \| exists, or denotes \(pages denote a database\) \|' '| `stands` | exists, or holds |' docs/developing.md
+q --keep standing stands StandsFor
+t 'src/standing_aggregates.rt`: the argument' 'src/allowed_aggregates.rt`: the argument' docs/planted.md

@@ -33,7 +33,7 @@ no_other : {A : Type 0} (h : A ⊎ ⊥) → A
 no_other (inl a) = a
 no_other (inr never) = absurd never
 
--- where each image stands for a database, each one does behind calls that only asked
+-- where each image denotes a database, each one does behind calls that only asked
 pub still_stands : (before now : ℕ) (left left' : ℕ → Option Db → Type 0) (db : Db) → ((t : ℕ) (o : Option Db) → t ≤ now → left' now o → left' t o) → LeavesBut (λ o. ⊥) before now left left' → Stands before left db → Stands now left' db
 still_stands before now left left' db counts asked s o l = s o (no_other (asked.each before o (omega arith) (counts before o asked.later l)))
 

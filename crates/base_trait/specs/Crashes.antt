@@ -2,7 +2,7 @@
 use Rattle.std.specs.Prelude.{◌≡◌, ◌⊎◌, ◌≤◌, ℕ, Bool, IsTrue, Option, Some}
 use Rattle.calculus.specs.Database.{Db}
 
--- every image that a crash leaves now stands for this database
+-- every image that a crash leaves now denotes this database
 abbrev pub Stands : ℕ → (ℕ → Option Db → Type 0) → Db → Type 0
 Stands clock left_since db = (o : Option Db) → left_since clock o → o ≡ Some db
 

@@ -10,7 +10,7 @@ use calculus::OutOfMemory;
 pub enum BaseFault {
     /// A call of the disk failed; its count rose.
     Disk,
-    /// The pages stand for no database.
+    /// The pages denote no database.
     Damaged {
         /// The file of the page that shows it.
         file: u32,

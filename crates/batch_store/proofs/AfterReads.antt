@@ -5,7 +5,7 @@ use Rattle.disk_model.specs.declared.disk.Disk.{Ghosts}
 use Rattle.batch_file.specs.declared.stage.Batch.{Batch}
 use Rattle.batch_file.proofs.Outside.{apart_reads}
 use Rattle.batch_store.specs.Run.{Ran}
-use Rattle.batch_store.specs.Standing.{known}
+use Rattle.batch_store.specs.Recovered.{known}
 
 module _ {D : Type 0} (g : Ghosts D) where
   abbrev Read : D → D → Type 0

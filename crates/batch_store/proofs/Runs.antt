@@ -11,7 +11,7 @@ use Rattle.batch_file.proofs.Applies.{Among, kept_by, kept_not_batch, redone_shu
 use Rattle.batch_file.proofs.Finishing.{gate_stays}
 use Rattle.batch_file.proofs.Opening.{redone_outside}
 use Rattle.batch_file.proofs.Outside.{apart_joins, gives_up, then_run}
-use Rattle.batch_store.specs.Standing.{IsOneOf}
+use Rattle.batch_store.specs.Recovered.{IsOneOf}
 use Rattle.batch_store.specs.Run.{Ran, HasOnlyNow}
 
 module _ {D : Type 0} (g : Ghosts D) where

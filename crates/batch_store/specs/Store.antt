@@ -7,7 +7,7 @@ use Rattle.batch_file.specs.declared.stage.Batch.{Batch}
 use Rattle.batch_file.specs.Layout.{Entries}
 use Rattle.batch_file.specs.Staged.{size_of, staged}
 use Rattle.batch_store.specs.Run.{Ran}
-use Rattle.batch_store.specs.Standing.{known}
+use Rattle.batch_store.specs.Recovered.{known}
 use Rattle.batch_store.specs.declared.store.BatchStore.{BatchStore}
 
 module _ {D : Type 0} {g : Ghosts D} where

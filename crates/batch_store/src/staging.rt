@@ -8,7 +8,7 @@ ghost use Rattle.batch_file.specs.Staged.{size_of, staged, Holds};
 ghost use Rattle.am_traits.specs.Causes.{HasStoreCause};
 ghost use Rattle.am_traits.specs.Pages.{with_page};
 ghost use Rattle.batch_store.specs.Numbers.{number_of, AreBelow, AreNumbered};
-ghost use Rattle.batch_store.specs.Standing.{standing};
+ghost use Rattle.batch_store.specs.Recovered.{recovered};
 
 use crate::reading::{Numbers, number_for};
 use am_traits::StoreFault;
@@ -41,8 +41,8 @@ pub(crate) fn stage<D: Disk>(
     requires shut { IsTrue D.is_known → IsShut (D.seen disk.old) (D.touched disk.old) }
     requires held { IsTrue D.is_known → Holds (D.seen disk.old) batch.old }
     requires numbered { IsTrue D.is_known → AreNumbered numbers.old (staged (D.seen disk.old) batch.old) }
-    ensures page { IsTrue D.is_known → OnOk result (standing (D.seen disk.new) batch.new
-        ≡ with_page a page.now (standing (D.seen disk.old) batch.old)) }
+    ensures page { IsTrue D.is_known → OnOk result (recovered (D.seen disk.new) batch.new
+        ≡ with_page a page.now (recovered (D.seen disk.old) batch.old)) }
     ensures below { OnOk result (AreBelow numbers.new batch.new) }
     ensures held { IsTrue D.is_known → OnOk result (Holds (D.seen disk.new) batch.new) }
     ensures numbered { IsTrue D.is_known →
@@ -74,8 +74,8 @@ fn renew<D: Disk>(
     requires shut { IsTrue D.is_known → IsShut (D.seen disk.old) (D.touched disk.old) }
     requires held { IsTrue D.is_known → Holds (D.seen disk.old) batch.old }
     requires numbered { IsTrue D.is_known → AreNumbered numbers.now (staged (D.seen disk.old) batch.old) }
-    ensures page { IsTrue D.is_known → OnOk result (standing (D.seen disk.new) batch.new
-        ≡ with_page a page.now (standing (D.seen disk.old) batch.old)) }
+    ensures page { IsTrue D.is_known → OnOk result (recovered (D.seen disk.new) batch.new
+        ≡ with_page a page.now (recovered (D.seen disk.old) batch.old)) }
     ensures below { AreBelow numbers.now batch.new }
     ensures held { IsTrue D.is_known → OnOk result (Holds (D.seen disk.new) batch.new) }
     ensures numbered { IsTrue D.is_known →
@@ -105,8 +105,8 @@ fn add<D: Disk>(
     requires shut { IsTrue D.is_known → IsShut (D.seen disk.old) (D.touched disk.old) }
     requires held { IsTrue D.is_known → Holds (D.seen disk.old) batch.old }
     requires numbered { IsTrue D.is_known → AreNumbered numbers.old (staged (D.seen disk.old) batch.old) }
-    ensures page { IsTrue D.is_known → OnOk result (standing (D.seen disk.new) batch.new
-        ≡ with_page a page.now (standing (D.seen disk.old) batch.old)) }
+    ensures page { IsTrue D.is_known → OnOk result (recovered (D.seen disk.new) batch.new
+        ≡ with_page a page.now (recovered (D.seen disk.old) batch.old)) }
     ensures below { OnOk result (AreBelow numbers.new batch.new) }
     ensures held { IsTrue D.is_known → OnOk result (Holds (D.seen disk.new) batch.new) }
     ensures numbered { IsTrue D.is_known →

@@ -6,7 +6,7 @@ ghost use Rattle.disk_model.specs.declared.disk.Addr.{Addr as At};
 ghost use Rattle.batch_file.specs.Redone.{IsShut};
 ghost use Rattle.batch_file.specs.Staged.{size_of, staged, Holds};
 ghost use Rattle.batch_store.specs.Numbers.{AreBelow, AreNumbered};
-ghost use Rattle.batch_store.specs.Standing.{standing};
+ghost use Rattle.batch_store.specs.Recovered.{recovered};
 
 use crate::reading::Numbers;
 use crate::staging::forget;
@@ -39,7 +39,7 @@ pub struct BatchStore<D: Disk> {
     ghost held: { IsTrue D.is_known → Holds (D.seen disk) batch } by { Prim.hlevel props },
     ghost numbered: { IsTrue D.is_known → AreNumbered numbers (staged (D.seen disk) batch) } by { Prim.hlevel props },
     ghost last: { IsTrue D.is_known → (a : At) → given ≡ Some a
-        → standing (D.seen disk) batch a ≡ (if there then Some page else None) } by { Prim.hlevel props },
+        → recovered (D.seen disk) batch a ≡ (if there then Some page else None) } by { Prim.hlevel props },
 }
 
 impl<D: Disk + Drop> Drop for BatchStore<D> {
@@ -65,7 +65,7 @@ impl<D: Disk> BatchStore<D> {
     ghost use Rattle.batch_file.specs.OnDisk.{BeforeOrAfter, SameRedone, IsClosed};
     ghost use Rattle.batch_file.specs.Order.{Completes, Applies, Restores};
     ghost use Rattle.batch_file.specs.Redone.{answer, kept, redone};
-    ghost use Rattle.batch_store.specs.Standing.{IsOneOf};
+    ghost use Rattle.batch_store.specs.Recovered.{IsOneOf};
     ghost use Rattle.batch_store.specs.Store.{disk_of, batch_of, waiting, changes_of, is_due, last_of, pages_of, CameOf};
 
     /// A store over a disk whose gate is shut: its pages are those that the disk has.

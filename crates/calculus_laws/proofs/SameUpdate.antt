@@ -23,7 +23,7 @@ use Rattle.calculus.specs.Assignments.{choices, variable_rows, changed, changed_
 use Rattle.calculus.specs.Targets.{target_values}
 use Rattle.calculus.specs.VariableRows.{rows_of}
 use Rattle.calculus.specs.Aggregate.{aggregates}
-use Rattle.calculus.specs.Pairs.{blank, with_values, put_pair, pair_of, pair_stands, qualifying_updates, pairs}
+use Rattle.calculus.specs.Pairs.{blank, with_values, put_pair, pair_of, pair_allowed, qualifying_updates, pairs}
 use Rattle.calculus.specs.Replacement.{made_attr, wanted_kinds, all_fit, contended, after, first_refusal, made_info, rows_change, updated}
 use Rattle.calculus.specs.Reads.{query_reads, update_reads}
 use Rattle.calculus.specs.Schema.{schema_of}
@@ -41,7 +41,7 @@ numbered start [] p h = absurd h
 numbered {X} start (x ∷ xs) p (inl same) = (0, ap (λ (p : ℕ × X). p.0) (sym same) ∙ omega arith, ap (λ p. Some p.1) same)
 numbered start (x ∷ xs) p (inr h) = let (v, place, there) = numbered (start + 1) xs p h in (suc v, omega (arith, place), there)
 
-stands_bare : (db : Db) (who : Who) (u : Update) → pair_stands (schema_of db) who u ≡ pair_stands db who u
+stands_bare : (db : Db) (who : Who) (u : Update) → pair_allowed (schema_of db) who u ≡ pair_allowed db who u
 unfolding schema_of may
 stands_bare db Unrestricted u = refl
 stands_bare db (AsUser asker) u = refl
@@ -138,8 +138,8 @@ module _ (db other : Db) (schema : schema_of db ≡ schema_of other) (who : Who)
   pair_same : pair_of db u ≡ pair_of other u
   pair_same = ap pair_for (kinds_same db other schema u.rel)
 
-  stands_same : pair_stands db who u ≡ pair_stands other who u
-  stands_same = sym (stands_bare db who u) ∙ ap (λ d. pair_stands d who u) schema ∙ stands_bare other who u
+  stands_same : pair_allowed db who u ≡ pair_allowed other who u
+  stands_same = sym (stands_bare db who u) ∙ ap (λ d. pair_allowed d who u) schema ∙ stands_bare other who u
 
   pairs_same : pairs db who u ≡ pairs other who u
   unfolding pairs

@@ -46,7 +46,7 @@ use Rattle.stored_database.proofs.PartBytes.{parts_are_their_bytes}
 use Rattle.stored_database.proofs.PrintedLaw.{what_is_printed_is_read}
 use Rattle.stored_database.proofs.Reading.{bind_some, together}
 use Rattle.stored_database.proofs.Sets.{IsOnce, in_order_in, is_once, sorted_in_order}
-use Rattle.stored_database.proofs.WhatStands.{what_stands_is_a_database}
+use Rattle.stored_database.proofs.WhatStands.{what_is_denoted_is_a_database}
 use Rattle.catalog_laws.specs.Loaded.{loaded_part}
 use Rattle.catalog_moves.specs.Files.{files_of, is_in}
 use Rattle.catalog_pages.specs.declared.writing.Ends.{Ends}
@@ -101,7 +101,7 @@ rows_are_a_catalogue es cs ps cat h =
     let p = set_read part_of part_total (λ p. is_part p ≡ true) (λ bytes p h. ((parts_are_their_bytes bytes p).0 h).0) ps c.0 c.1 in
     subst IsCatalogue (same_Some _ cat c.2) (record { entries_ascend = e.0; columns_ascend = l.0; parts_ascend = p.0; are_entries = e.1; are_columns = l.1; are_parts = p.1 })
 
--- ---- the database that pages stand for
+-- ---- the database that pages denote
 
 -- The catalogue on the pages, which spells the database.
 pub record SpelledOn (dba : List ℕ) (m : Image) (db : Db) : Type 0 where
@@ -112,7 +112,7 @@ pub record SpelledOn (dba : List ℕ) (m : Image) (db : Db) : Type 0 where
 
 pub spelled_on : (dba : List ℕ) (m : Image) (db : Db) → HoldsFor dba m db → SpelledOn dba m db
 spelled_on dba m db h =
-    let is_one = what_stands_is_a_database m db h.stands in
+    let is_one = what_is_denoted_is_a_database m db h.stands in
     let p = (pages_stand_exactly m db is_one).0 h.stands in
     record {
       cat = printed db p.files;
@@ -140,7 +140,7 @@ chains_end m chains found = record {
   parts = ends_of (pages_of m 7) chains.parts.rows chains.parts.last found.parts;
 }
 
--- what was made of the rows knows the database that the pages stand for
+-- what was made of the rows knows the database that the pages denote
 pub made_knows : (dba : List ℕ) (m : Image) (db : Db) (chains : Chains) (cat : Catalogue) (c : Catalog)
     → AreFound m chains → HoldsFor dba m db → catalogue_of chains.entries.rows chains.columns.rows chains.parts.rows ≡ Some cat → IsMadeOf dba cat (ends_in chains) c → Knows c m db
 made_knows dba m db chains cat c found h read made =

@@ -10,7 +10,7 @@ use Rattle.calculus.specs.declared.schema.RelInfo.{RelInfo}
 use Rattle.calculus.specs.Database.{Db, Relation, entry_at, is_relation, is_there}
 use Rattle.calculus.specs.declared.schema.Spec.{Spec}
 use Rattle.calculus.specs.declared.schema.Spec.TheVariants.{Heap, Hash, Isam, View, Index}
-use Rattle.calculus.specs.IsDatabase.{IsDatabase, keys_stand, structure_stands}
+use Rattle.calculus.specs.IsDatabase.{IsDatabase, keys_stand, valid_structure}
 use Rattle.calculus.specs.Lists.{is_any}
 use Rattle.calculus.specs.Keys.{same_key}
 use Rattle.calculus.specs.Structures.{is_keyed, is_structure}
@@ -136,7 +136,7 @@ relation_info db r key info is at same there =
     ∙ ap (entry_at db) (same_key_is r.info.key key same) ∙ there)
 
 -- what stands as a base relation has its structure
-relation_structure : (info : RelInfo) → structure_stands info ≡ true → is_structure info.spec ≡ true
+relation_structure : (info : RelInfo) → valid_structure info ≡ true → is_structure info.spec ≡ true
 relation_structure info h = go info.spec h
   where
     go : (s : Spec) → (elim (is_keyed s) as (λ (b : Bool). Bool) [ true ↦ is_any info.keys && keys_stand info.attrs info.keys | false ↦ is_structure s && not (is_any info.keys) ]) ≡ true → is_structure s ≡ true
@@ -161,7 +161,7 @@ module _ (c : Catalog) (m : Image) (spells : Spells c m) (key : RelKey) (its : R
       go : (b : Bool) → same_key r.info.key key ≡ b → is_used ((files_of now).used r.info.key)
       go true same =
           let info : r.info ≡ may.info = relation_info (database_of c.plain) r key may.info c.plain.is at same may.there in
-          let structure : is_structure may.info.spec ≡ true = ap (λ (i : RelInfo). is_structure i.spec) (sym info) ∙ relation_structure r.info (of_tests (λ (r : Relation). structure_stands r.info) (database_of c.plain).relations r c.plain.is.structures_stand at) in
+          let structure : is_structure may.info.spec ≡ true = ap (λ (i : RelInfo). is_structure i.spec) (sym info) ∙ relation_structure r.info (of_tests (λ (r : Relation). valid_structure r.info) (database_of c.plain).relations r c.plain.is.structures_stand at) in
           ap (λ (f : Files). nat_le 1 (f.used r.info.key) && is_number32 (f.used r.info.key)) said
           ∙ ap (λ (n : ℕ). nat_le 1 n && is_number32 n) (file_here key its.file its.used (files_of c.files) r.info.key same).1
           ∙ may.some structure

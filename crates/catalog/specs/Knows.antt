@@ -10,7 +10,7 @@ use Rattle.page_chain.specs.Pages.{pages_of}
 use Rattle.plain_base.specs.Shown.{database_of}
 use Rattle.stored_database.specs.Catalogue.{catalogue_in}
 use Rattle.stored_database.specs.Printed.{HasFiles, printed}
-use Rattle.stored_database.specs.Standing.{standing}
+use Rattle.stored_database.specs.Denoting.{denoted}
 use Rattle.catalog_read.specs.Parts.{index_owners_agree}
 use Rattle.catalog_laws.specs.Loaded.{loaded_part}
 use Rattle.catalog_moves.specs.Bases.{IndexBases}
@@ -28,9 +28,9 @@ pub record Knows (c : Catalog) (m : Image) (db : Db) : Type 0 where
   pub owners : index_owners_agree db ≡ true
   pub bases : IndexBases c.files db
 
--- The pages stand for no database of this administrator in which each index has the owner of its relation.
+-- The pages denote no database of this administrator in which each index has the owner of its relation.
 abbrev pub NoDatabase : List ℕ → Image → Addr → Type 0
-NoDatabase dba m a = (db : Db) → standing m ≡ Some db → db.dba ≡ dba → index_owners_agree db ≡ true → ⊥
+NoDatabase dba m a = (db : Db) → denoted m ≡ Some db → db.dba ≡ dba → index_owners_agree db ≡ true → ⊥
 
 -- The same, and this page shows it.
 abbrev pub NoDatabaseAt : List ℕ → Image → Addr → Type 0

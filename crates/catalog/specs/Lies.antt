@@ -1,4 +1,4 @@
--- What is known in memory lies on pages, whether these stand for a database or not.
+-- What is known in memory lies on pages, whether these denote a database or not.
 use Rattle.std.specs.Prelude.{◌≡◌, true, ◌<◌, Option, Some}
 use Rattle.calculus.specs.declared.query.RelKey.{RelKey}
 use Rattle.calculus.specs.Database.{Db, is_relation}
@@ -7,7 +7,7 @@ use Rattle.disk_model.specs.declared.disk.Addr.{Addr}
 use Rattle.page_chain.specs.Pages.{pages_of}
 use Rattle.plain_base.specs.Shown.{database_of}
 use Rattle.catalog_read.specs.Parts.{index_owners_agree}
-use Rattle.stored_database.specs.Standing.{standing}
+use Rattle.stored_database.specs.Denoting.{denoted}
 use Rattle.catalog_moves.specs.Files.{files_of, is_in}
 use Rattle.catalog.specs.Knows.{Knows, SameHead}
 use Rattle.catalog.specs.declared.catalog.Catalog.{Catalog}
@@ -29,4 +29,4 @@ pub record LiesAfter (c : Catalog) (before : Image) (known : Option Image) : Typ
 
 -- Where that database is told by the pages, and is of the same administrator, it is known.
 abbrev pub LyingIsKnowing : Type 0
-LyingIsKnowing = (c : Catalog) (m : Image) (db : Db) → LiesOn c m → standing m ≡ Some db → index_owners_agree db ≡ true → (database_of c.plain).dba ≡ db.dba → Knows c m db
+LyingIsKnowing = (c : Catalog) (m : Image) (db : Db) → LiesOn c m → denoted m ≡ Some db → index_owners_agree db ≡ true → (database_of c.plain).dba ≡ db.dba → Knows c m db

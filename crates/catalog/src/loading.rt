@@ -11,7 +11,7 @@ ghost use Rattle.page_chain.specs.Found.{Found};
 ghost use Rattle.page_chain.specs.Pages.{Pages, pages_of};
 ghost use Rattle.plain_base.specs.Shown.{database_of};
 ghost use Rattle.catalog_read.specs.Parts.{index_owners_agree};
-ghost use Rattle.stored_database.specs.Standing.{standing};
+ghost use Rattle.stored_database.specs.Denoting.{denoted};
 ghost use Rattle.catalog.specs.Knows.{Knows, NoDatabaseAt};
 ghost use Rattle.catalog.specs.Lies.{LiesOn};
 ghost use Rattle.stored_database.specs.Catalogue.{IsCatalogue, most_pages};
@@ -169,7 +169,7 @@ pub(crate) fn made(
 impl Catalog {
     /// Reads the catalogues, each page once.
     pub fn load<S: PageStore>(alloc: Global, store: &mut S, dba: Name) -> Result<Catalog, BaseFault>
-        ensures knows { (m : Image) (db : Db) → S.pages store.old ≡ Some m → standing m ≡ Some db → db.dba ≡ dba
+        ensures knows { (m : Image) (db : Db) → S.pages store.old ≡ Some m → denoted m ≡ Some db → db.dba ≡ dba
             → index_owners_agree db ≡ true → IfOk result (λ c. Knows c m db) }
         ensures lies { (m : Image) → S.pages store.old ≡ Some m → IfOk result (λ c. LiesOn c m) }
         ensures dba { IfOk result (λ c. (database_of c.plain).dba ≡ dba) }

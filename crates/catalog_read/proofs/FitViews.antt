@@ -8,7 +8,7 @@ use Rattle.calculus.specs.declared.query.RelKey.{RelKey}
 use Rattle.calculus.specs.declared.schema.RelInfo.{RelInfo}
 use Rattle.calculus.specs.declared.change.DbChange.{DbChange}
 use Rattle.calculus.specs.Database.{Db, Relation, View, entries, relation_at, view_at}
-use Rattle.calculus.specs.IsDatabase.{IsDatabase, key_is_named, view_info_stands, attrs_stand, attrs_are_targets, vars_are_there, query_stands}
+use Rattle.calculus.specs.IsDatabase.{IsDatabase, key_is_named, valid_view_info, attrs_stand, attrs_are_targets, vars_are_there, valid_query}
 use Rattle.calculus.specs.Keys.{same_key}
 use Rattle.calculus.specs.Limits.{most_expanded_variables, most_variables, greatest_size}
 use Rattle.calculus.specs.QueryParts.{vars_of, targets_of, query_aggregates}
@@ -105,7 +105,7 @@ module _ (left : List DbChange) (part whole : Db) (w : Waits left part whole) (i
   pub view_fits : (view : View) → IsIn view (flat_map view_of left) → IsTrue (vars_are_there part view.query) → view_is_fit part view.info view.query ≡ true
   unfolding view_is_fit view_is_small query_size expanded_variables
   view_fits view at there =
-      each _ _ free (each _ _ (its (λ v. view_info_stands v.info) w.all.view_infos_stand) (each _ _ (its (λ v. attrs_stand v.info.attrs) w.all.view_attrs_stand)
+      each _ _ free (each _ _ (its (λ v. valid_view_info v.info) w.all.view_infos_stand) (each _ _ (its (λ v. attrs_stand v.info.attrs) w.all.view_attrs_stand)
       (each _ _ (its (λ v. attrs_are_targets v.info.attrs (targets_of v.query)) w.all.view_attrs_are_targets) (each _ _ there (each _ _ (not_too_high part q levels) (each _ _ stands
       (each _ _ (its (λ v. nat_le (length_of v.query) most_expanded_variables) w.all.few_listed_variables) (each _ _ (its (λ v. nat_le (variables v.query) most_variables) w.all.few_variables)
       (each _ _ expanded (each _ _ small (its (λ v. query_is_storable v.query) w.all.storable_views)))))))))))
@@ -132,9 +132,9 @@ module _ (left : List DbChange) (part whole : Db) (w : Waits left part whole) (i
       levels = all_same (IsThere part) (λ key. is_some (level_within 15 part key)) (λ key. is_some (level_within 15 whole key)) (vars_of q) own_vars (λ key p. ap is_some (level_stays (IsThere part) part whole stay 15 key p))
           ∙ levels_below whole view (view_ranged whole view w.all (among view at)) (its (λ v. is_some (level_of whole v.info.key)) w.all.views_have_levels)
 
-      stands : IsTrue (query_stands part q)
+      stands : IsTrue (valid_query part q)
       stands = ap (λ kinds. stands_with kinds q) (map_same (IsThere part) (kinds_at part) (kinds_at whole) (vars_of q) own_vars (λ key p. kinds_stay (IsThere part) part whole stay key p))
-          ∙ its (λ v. query_stands whole v.query) w.all.view_queries_stand
+          ∙ its (λ v. valid_query whole v.query) w.all.view_queries_stand
 
       with : Db → Measure → List QAgg → ℕ
       with d m gs = m.variables + sum_by (λ g. source_variables (measure_of d) g.source) gs

@@ -13,7 +13,7 @@ use Rattle.calculus.specs.declared.schema.Spec.{Spec}
 use Rattle.calculus.specs.declared.schema.Spec.TheVariants as spec
 use Rattle.calculus.specs.Change.{laid, IsLawful}
 use Rattle.calculus.specs.Database.{Db, Index, View}
-use Rattle.calculus.specs.IsDatabase.{IsDatabase, index_stands}
+use Rattle.calculus.specs.IsDatabase.{IsDatabase, valid_index}
 use Rattle.calculus.specs.Lists.{is_any}
 use Rattle.calculus.specs.Structures.{is_index}
 use Rattle.change_laws.specs.Fit.{change_is_fit}
@@ -97,7 +97,7 @@ of_their_bases dba p db e is agree =
     as_test (λ x. is_of_its_base (index_in x)) p.indexes (all_unmapped (λ x. IsTrue (is_of_its_base x)) index_in p.indexes
     (all_shuffled (λ x. IsTrue (is_of_its_base x)) db.indexes (map index_in p.indexes) (back (map index_in p.indexes) db.indexes (whole_is dba (parts_in p) db e).indexes)
     (all_of (λ x. IsTrue (is_of_its_base x)) db.indexes (λ x at. (
-    let stands = in_test (index_stands db) db.indexes x is.indexes_stand at in
+    let stands = in_test (valid_index db) db.indexes x is.indexes_stand at in
     let kind = both (is_index x.info.spec) _ stands in
     let base = both _ _ kind.1 in
     let attrs = both (not (is_any x.info.attrs)) _ base.1 in

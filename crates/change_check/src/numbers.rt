@@ -10,7 +10,7 @@ ghost use Rattle.change_laws.specs.Fit.{permits_may_go, rules_may_go};
 use crate::keys::is_relation;
 use base_trait::{Base, BaseFault};
 use calculus::RelKey;
-use quel_refusals::{standing_permits, standing_rules};
+use quel_refusals::{existing_permits, existing_rules};
 use std::alloc::Global;
 
 /// Whether the number is one of these.
@@ -73,7 +73,7 @@ pub(crate) fn permits_may_go<B: Base>(
     if !is_relation(alloc, base, rel)? {
         return Ok(false);
     }
-    let standing = standing_permits(alloc, base, rel)?;
+    let standing = existing_permits(alloc, base, rel)?;
     Ok(are_listed_once(&standing, numbers))
 }
 
@@ -95,6 +95,6 @@ pub(crate) fn rules_may_go<B: Base>(
     if !is_relation(alloc, base, rel)? {
         return Ok(false);
     }
-    let standing = standing_rules(alloc, base, rel)?;
+    let standing = existing_rules(alloc, base, rel)?;
     Ok(are_listed_once(&standing, numbers))
 }

@@ -5,11 +5,11 @@ ghost use Rattle.std.specs.List.{list_all};
 ghost use Rattle.base_trait.specs.Causes.{HasCause};
 ghost use Rattle.calculus.specs.Change.{rows_differ};
 ghost use Rattle.calculus.specs.Database.{Db};
-ghost use Rattle.calculus.specs.IsDatabase.{are_stored, attrs_stand, row_fits, structure_stands};
+ghost use Rattle.calculus.specs.IsDatabase.{are_stored, attrs_stand, row_fits, valid_structure};
 ghost use Rattle.calculus.specs.Limits.{most_rows};
 ghost use Rattle.change_laws.specs.Fit.{relation_is_fit};
 
-use crate::described::{are_stored, attrs_stand, structure_stands};
+use crate::described::{are_stored, attrs_stand, valid_structure};
 use crate::keys::key_is_free;
 use crate::rows::{are_few, differ_and_fit};
 use base_trait::{Base, BaseFault};
@@ -18,9 +18,9 @@ use std::alloc::Global;
 
 /// Whether the structure is one for the attributes.
 fn has_structure(info: &RelInfo) -> bool
-    ensures { result ≡ structure_stands info.now }
+    ensures { result ≡ valid_structure info.now }
 {
-    structure_stands(info.spec, info.attrs.items(), info.keys.items())
+    valid_structure(info.spec, info.attrs.items(), info.keys.items())
 }
 
 /// Whether the attributes stand and have domains.
@@ -45,7 +45,7 @@ fn has_rows(alloc: Global, attrs: &[Attr], rows: &[Row]) -> Result<bool, OutOfMe
 
 /// Whether what is said of the relation stands by itself.
 fn stands(alloc: Global, info: &RelInfo, rows: &[Row]) -> Result<bool, OutOfMemory>
-    ensures { IfOk result (λ b. b ≡ (structure_stands info.now && ((attrs_stand info.now.attrs && are_stored info.now.attrs)
+    ensures { IfOk result (λ b. b ≡ (valid_structure info.now && ((attrs_stand info.now.attrs && are_stored info.now.attrs)
         && (rows_differ rows.now && (list_all (row_fits info.now.attrs) rows.now && nat_le (length rows.now) most_rows))))) }
 {
     if !has_structure(info) {

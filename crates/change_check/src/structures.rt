@@ -5,7 +5,7 @@ ghost use Rattle.base_trait.specs.Causes.{HasCause};
 ghost use Rattle.calculus.specs.Database.{Db};
 ghost use Rattle.change_laws.specs.Fit.{structure_is_fit};
 
-use crate::described::structure_stands;
+use crate::described::valid_structure;
 use crate::keys::relation;
 use base_trait::{Base, BaseFault};
 use calculus::{RelKey, Spec};
@@ -27,7 +27,7 @@ pub(crate) fn structure_is_fit<B: Base>(
     ensures cause { HasCause (B.database base.old) (B.faults base.old) (B.faults base.new) result }
 {
     match relation(alloc, base, rel)? {
-        Some(info) => Ok(structure_stands(to, info.attrs.items(), keys)),
+        Some(info) => Ok(valid_structure(to, info.attrs.items(), keys)),
         None => Ok(false),
     }
 }

@@ -10,7 +10,7 @@ use Rattle.calculus.specs.Tree.{rows_of_query}
 use Rattle.calculus.specs.Answer.{answer, lacks}
 use Rattle.calculus.specs.Who.{Unrestricted}
 use Rattle.calculus.specs.Database.{Db}
-use Rattle.calculus.specs.IsDatabase.{IsDatabase, query_stands}
+use Rattle.calculus.specs.IsDatabase.{IsDatabase, valid_query}
 use Rattle.calculus.specs.Permission.{query_permitted}
 use Rattle.calculus.specs.QueryParts.{vars_of, query_aggregates}
 use Rattle.base_trait.specs.declared.fault.BaseFault.TheVariants as base
@@ -76,7 +76,7 @@ unfolding source_fits
 few_source db (Named key) h = refl
 few_source db (rows_of_query q) h =
     let one : nat_le (length (vars_of q)) 1 ≡ true =
-    (both_true (nat_le (length (vars_of q)) 1) (has_few_targets q && query_stands db q) (both_true (list_all (kept_or_viewed db).source (vars_of q)) _ h).1).0 in
+    (both_true (nat_le (length (vars_of q)) 1) (has_few_targets q && valid_query db q) (both_true (list_all (kept_or_viewed db).source (vars_of q)) _ h).1).0 in
     grind (arith, nat_tests, one)
 
 few_in : (db : Db) (gs : List QAgg) → list_all (λ (g : QAgg). source_fits (kept_or_viewed db) db g.source) gs ≡ true → list_all (λ (g : QAgg). source_lists_few g.source) gs ≡ true

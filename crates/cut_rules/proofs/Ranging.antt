@@ -10,7 +10,7 @@ use Rattle.calculus.specs.Tree.{rows_of_query}
 use Rattle.calculus.specs.Who.{Who}
 use Rattle.calculus.specs.Database.{Db, Relation, View, relation_at, view_at}
 use Rattle.calculus.specs.Catalogue.{catalogue_at}
-use Rattle.calculus.specs.IsDatabase.{IsDatabase, query_stands}
+use Rattle.calculus.specs.IsDatabase.{IsDatabase, valid_query}
 use Rattle.calculus.specs.Stored.{Range, Kept, Viewed, range_at}
 use Rattle.calculus.specs.Lists.{is_any}
 use Rattle.calculus.specs.Rights.{Retrieve, permitted}
@@ -126,12 +126,12 @@ lists_one : (db : Db) (q : Query) → source_fits (kept_or_viewed db) db (rows_o
 unfolding source_fits
 lists_one db q h =
     leb-true (length (vars_of q)) 1
-    (left_true (nat_le (length (vars_of q)) 1) (has_few_targets q && query_stands db q)
-    (right_true (list_all (kept_or_viewed db).source (vars_of q)) (nat_le (length (vars_of q)) 1 && (has_few_targets q && query_stands db q)) h))
+    (left_true (nat_le (length (vars_of q)) 1) (has_few_targets q && valid_query db q)
+    (right_true (list_all (kept_or_viewed db).source (vars_of q)) (nat_le (length (vars_of q)) 1 && (has_few_targets q && valid_query db q)) h))
 
 all_may : (db : Db) (q : Query) → source_fits (kept_or_viewed db) db (rows_of_query q) ≡ true → list_all (kept_or_viewed db).source (vars_of q) ≡ true
 unfolding source_fits
-all_may db q h = left_true (list_all (kept_or_viewed db).source (vars_of q)) (nat_le (length (vars_of q)) 1 && (has_few_targets q && query_stands db q)) h
+all_may db q h = left_true (list_all (kept_or_viewed db).source (vars_of q)) (nat_le (length (vars_of q)) 1 && (has_few_targets q && valid_query db q)) h
 
 fits_so : (db : Db) (q : Query) → source_fits (kept_or_viewed db) db (Rows q) ≡ true → source_fits (kept_or_viewed db) db (rows_of_query q) ≡ true
 fits_so db q h = sym (ap (source_fits (kept_or_viewed db) db) (rows_is q)) ∙ h

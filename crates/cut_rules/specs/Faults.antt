@@ -15,7 +15,7 @@ fault_at var expansion.TooMany = cut.TooMany
 fault_at var (expansion.Base fault) = cut.Base fault
 fault_at var expansion.OutOfMemory = cut.OutOfMemory
 
--- why a query isn't expanded, where it isn't put in: nothing is refused where nobody is restricted and 50 variables have places, so a base that says else stands for no database
+-- why a query isn't expanded, where it isn't put in: nothing is refused where nobody is restricted and 50 variables have places, so a base that says else denotes no database
 abbrev pub unexpanded : CutFault → ExpandFault
 unexpanded (cut.NoPermit var) = expand.Base (base.Damaged 0 0)
 unexpanded cut.TooMany = expand.Base (base.Damaged 0 0)

@@ -35,7 +35,7 @@ fn capped(vars: u64) -> u32
 }
 
 /// Why the query isn't expanded, where its expansion aren't put in. Nothing is refused where nobody is restricted,
-/// and 50 variables have places: a base that answers so stands for no database.
+/// and 50 variables have places: a base that answers so denotes no database.
 fn unexpanded(fault: CutFault) -> ExpandFault
     ensures { result ≡ unexpanded fault }
 {

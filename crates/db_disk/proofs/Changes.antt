@@ -27,7 +27,7 @@ use Rattle.batch_file.proofs.Applies.{kept_by, kept_not_batch, redone_shut}
 use Rattle.batch_file.proofs.Opening.{redone_outside}
 use Rattle.batch_file.proofs.Outside.{outside_back}
 use Rattle.batch_store.specs.Run.{HasOnlyNow}
-use Rattle.batch_store.specs.Standing.{IsOneOf}
+use Rattle.batch_store.specs.Recovered.{IsOneOf}
 use Rattle.batch_store.specs.Store.{batch_of, disk_of, pages_of, waiting, CameOf}
 use Rattle.batch_store.specs.declared.store.BatchStore.{BatchStore}
 use Rattle.batch_store.proofs.Stands.{empty_so}
@@ -36,7 +36,7 @@ use Rattle.catalog.specs.Knows.{KnowsAfter, SameHead}
 use Rattle.catalog.specs.declared.catalog.Catalog.{Catalog}
 use Rattle.catalog_read.specs.Parts.{index_owners_agree}
 use Rattle.page_chain.specs.Lists.{◌>>=◌}
-use Rattle.stored_database.specs.Standing.{header_of, standing}
+use Rattle.stored_database.specs.Denoting.{header_of, denoted}
 use Rattle.stored_database.proofs.Exactly.{pages_stand_exactly}
 use Rattle.stored_database.proofs.Reading.{same_number}
 use Rattle.db_disk.specs.Answered.{of_restore}
@@ -86,9 +86,9 @@ pub same_administrator : (m n : Image) → SameHead m n → administrator n ≡ 
 unfolding administrator
 same_administrator m n same = ap (λ (o : Option (List ℕ)). o >>= header_of) (same (addr 0 0) refl)
 
--- the pages stand for the database after the change
-pub after_stands : (c : Catalog) (m : Image) (known : Option Image) (db : Db) (made : DbChange) → standing m ≡ Some db → IsDatabase db → IsDatabase (laid db made) → (after : KnowsAfter c m known db made)
-    → standing after.image ≡ Some (laid db made)
+-- the pages denote the database after the change
+pub after_stands : (c : Catalog) (m : Image) (known : Option Image) (db : Db) (made : DbChange) → denoted m ≡ Some db → IsDatabase db → IsDatabase (laid db made) → (after : KnowsAfter c m known db made)
+    → denoted after.image ≡ Some (laid db made)
 after_stands c m known db made stands is_one is_later after =
     let h = (pages_stand_exactly m db is_one).0 stands in
     (pages_stand_exactly after.image (laid db made) is_later).1 record {
@@ -102,7 +102,7 @@ after_stands c m known db made stands is_one is_later after =
     }
 
 -- each image has one of the two
-pub either_of : (before after m : Image) (db later : Db) → standing before ≡ Some db → standing after ≡ Some later → index_owners_agree db ≡ true → index_owners_agree later ≡ true → IsOneOf before after m → IsEither db later m
+pub either_of : (before after m : Image) (db later : Db) → denoted before ≡ Some db → denoted after ≡ Some later → index_owners_agree db ≡ true → index_owners_agree later ≡ true → IsOneOf before after m → IsEither db later m
 either_of before after m db later stands then_ owned owned_later (inl is) = inl (held_as m before db is stands owned)
 either_of before after m db later stands then_ owned owned_later (inr is) = inr (held_as m after later is then_ owned_later)
 

@@ -6,7 +6,7 @@ use Rattle.base_trait.specs.declared.fault.BaseFault.TheVariants as faults
 use Rattle.disk_model.specs.Disk.{Image}
 use Rattle.disk_model.specs.declared.disk.Addr.{Addr}
 use Rattle.am_traits.specs.Causes.{MayFail}
-use Rattle.stored_database.specs.Standing.{birth}
+use Rattle.stored_database.specs.Denoting.{birth}
 use Rattle.db_disk.specs.Held.{administrator, has_head}
 
 -- damage that may come is at a page that is at fault

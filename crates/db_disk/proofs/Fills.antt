@@ -14,8 +14,8 @@ use Rattle.batch_store.specs.Store.{disk_of, pages_of, OnlyReadOf}
 use Rattle.batch_store.specs.declared.store.BatchStore.{BatchStore}
 use Rattle.plain_base.specs.Shown.{database_of}
 use Rattle.catalog_read.specs.Parts.{index_owners_agree}
-use Rattle.stored_database.specs.Standing.{standing}
-use Rattle.stored_database.proofs.WhatStands.{what_stands_is_a_database}
+use Rattle.stored_database.specs.Denoting.{denoted}
+use Rattle.stored_database.proofs.WhatStands.{what_is_denoted_is_a_database}
 use Rattle.catalog.specs.Knows.{Knows}
 use Rattle.catalog.specs.Lies.{LiesAfter, LiesOn}
 use Rattle.catalog.proofs.LiesKnown.{known_of}
@@ -48,12 +48,12 @@ module _ {D : Type 0} {g : Ghosts D} (s t : BatchStore D g) (ready : IsReady s) 
       let then_ : held (g.seen (disk_of s)) ≡ Some db = ap held (sym same) ∙ holds in
       let so = held_so (g.seen (disk_of s)) (kept (g.seen (disk_of s))) db (ready_redone s ready known) then_ in
       subst (λ (m : Image). Knows b (kept m) db) (sym same)
-      (knows (kept (g.seen (disk_of s))) db (ready_pages s ready known) (what_stands_is_a_database _ db so.0) (untruncated (is.each a db refl then_))))
+      (knows (kept (g.seen (disk_of s))) db (ready_pages s ready known) (what_is_denoted_is_a_database _ db so.0) (untruncated (is.each a db refl then_))))
       (subst (λ (m : Image). ∥ LiesFor b (kept m) ∥₁) (sym same)
       (∥∥₁_map (is.lies a refl) (λ l. record { lies = lies (kept (g.seen (disk_of s))) (ready_pages s ready known) l.lies; named = l.named ∙ ap Some (sym (same_dba (database_of b.plain) (database_of a.plain) schema)) })))
 
   pub loaded_known : (c : Catalog) → IsTrue g.is_known
-      → ((m : Image) (db : Db) → pages_of s ≡ Some m → standing m ≡ Some db → index_owners_agree db ≡ true → Knows c m db) → ((m : Image) → pages_of s ≡ Some m → LiesFor c m) → IsKnown (g.seen (disk_of t)) (Some c)
+      → ((m : Image) (db : Db) → pages_of s ≡ Some m → denoted m ≡ Some db → index_owners_agree db ≡ true → Knows c m db) → ((m : Image) → pages_of s ≡ Some m → LiesFor c m) → IsKnown (g.seen (disk_of t)) (Some c)
   loaded_known c known knows lies =
       let same = (only.reads known).seen_same in
       one_known (g.seen (disk_of t)) c (λ db holds.

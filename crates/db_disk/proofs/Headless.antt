@@ -4,7 +4,7 @@ use Rattle.std.specs.Prelude.{is_some}
 use Rattle.base_trait.specs.declared.fault.BaseFault.{BaseFault}
 use Rattle.base_trait.specs.declared.fault.BaseFault.TheVariants as faults
 use Rattle.disk_model.specs.Disk.{Image}
-use Rattle.stored_database.specs.Standing.{birth}
+use Rattle.stored_database.specs.Denoting.{birth}
 use Rattle.db_disk.specs.Held.{administrator, has_head, headless_page}
 use Rattle.db_disk.specs.Load.{as_base, base_fault, IsNoHead}
 use Rattle.db_disk.specs.declared.load.LoadFault.{LoadFault}

@@ -9,9 +9,9 @@ use Rattle.base_trait.specs.declared.fault.BaseFault.TheVariants as faults
 use Rattle.am_traits.specs.Causes.{HasFileCause}
 use Rattle.page_chain.specs.Lists.{◌>>=◌}
 use Rattle.catalog_read.specs.Parts.{index_owners_agree}
-use Rattle.stored_database.specs.Standing.{birth, header_of, standing}
+use Rattle.stored_database.specs.Denoting.{birth, header_of, denoted}
 use Rattle.stored_database.proofs.Exactly.{pages_stand_exactly}
-use Rattle.stored_database.proofs.WhatStands.{what_stands_is_a_database}
+use Rattle.stored_database.proofs.WhatStands.{what_is_denoted_is_a_database}
 use Rattle.plain_base.specs.Shown.{database_of}
 use Rattle.catalog.specs.Lies.{LiesOn}
 use Rattle.catalog.specs.declared.catalog.Catalog.{Catalog}
@@ -20,14 +20,14 @@ use Rattle.db_disk.specs.Held.{administrator}
 use Rattle.db_disk.specs.Known.{LiesFor}
 use Rattle.db_disk.specs.Load.{NoneStands}
 
--- what pages that stand for a database begin with
-pub stands_headed : (m : Image) (db : Db) → standing m ≡ Some db → (administrator m ≡ Some db.dba) × ((birth m == 1) ≡ true)
+-- what pages that denote a database begin with
+pub stands_headed : (m : Image) (db : Db) → denoted m ≡ Some db → (administrator m ≡ Some db.dba) × ((birth m == 1) ≡ true)
 unfolding administrator
 stands_headed m db stands =
-    let h = (pages_stand_exactly m db (what_stands_is_a_database m db stands)).0 stands in
+    let h = (pages_stand_exactly m db (what_is_denoted_is_a_database m db stands)).0 stands in
     (ap (λ o. o >>= header_of) h.there ∙ h.header, ap (λ n. n == 1) h.born)
 
-pub own_name : (m : Image) (db : Db) (dba : List ℕ) → standing m ≡ Some db → administrator m ≡ Some dba → db.dba ≡ dba
+pub own_name : (m : Image) (db : Db) (dba : List ℕ) → denoted m ≡ Some db → administrator m ≡ Some dba → db.dba ≡ dba
 own_name m db dba stands named = same_Some db.dba dba (sym (stands_headed m db stands).0 ∙ named)
 
 pub no_header_none : (m : Image) (a : Addr) → administrator m ≡ None → NoneStands m a
@@ -38,7 +38,7 @@ unborn_none m a off = λ db stands agree. let e : true ≡ false = sym (stands_h
 
 -- the same cause, of fewer databases
 pub for_whom : {T : Type 0} (known pages : Option Image) (dba : List ℕ) (before mid now : ℕ) (result : Result T BaseFault) → mid ≡ before → pages ≡ known → ((m : Image) → known ≡ Some m → administrator m ≡ Some dba)
-    → HasFileCause pages (λ m a. (db : Db) → standing m ≡ Some db → db.dba ≡ dba → index_owners_agree db ≡ true → ⊥) mid now result → HasFileCause known NoneStands before now result
+    → HasFileCause pages (λ m a. (db : Db) → denoted m ≡ Some db → db.dba ≡ dba → index_owners_agree db ≡ true → ⊥) mid now result → HasFileCause known NoneStands before now result
 for_whom known pages dba before mid now (Ok x) calm same named has = record { later = omega (arith, calm, has.later); caused = has.caused ∙ calm }
 for_whom known pages dba before mid now (Err faults.Disk) calm same named has = record { later = omega (arith, calm, has.later); caused = omega (arith, calm, has.caused) }
 for_whom known pages dba before mid now (Err (faults.Damaged file page)) calm same named has = record {

@@ -19,8 +19,8 @@ use Rattle.batch_store.specs.Store.{batch_of, disk_of, is_due, pages_of, waiting
 use Rattle.batch_store.specs.declared.store.BatchStore.{BatchStore}
 use Rattle.batch_store.proofs.Stands.{fresh_pages, staged_none}
 use Rattle.catalog_read.specs.Parts.{index_owners_agree}
-use Rattle.stored_database.specs.Standing.{standing}
-use Rattle.stored_database.proofs.WhatStands.{what_stands_is_a_database}
+use Rattle.stored_database.specs.Denoting.{denoted}
+use Rattle.stored_database.proofs.WhatStands.{what_is_denoted_is_a_database}
 use Rattle.db_disk.specs.Held.{database_in, held, database_by, IsReady, SameHeld}
 use Rattle.db_disk.proofs.Holding.{held_so, known_some}
 
@@ -49,7 +49,7 @@ pub record Holds {D : Type 0} {g : Ghosts D} (s : BatchStore D g) (db : Db) : Ty
   pub known : IsTrue g.is_known
   pub pages : pages_of s ≡ Some (kept (g.seen (disk_of s)))
   pub holds : held (g.seen (disk_of s)) ≡ Some db
-  pub stands : standing (kept (g.seen (disk_of s))) ≡ Some db
+  pub stands : denoted (kept (g.seen (disk_of s))) ≡ Some db
   pub agree : index_owners_agree db ≡ true
   pub is_one : IsDatabase db
 
@@ -70,7 +70,7 @@ module _ {D : Type 0} {g : Ghosts D} where
         holds = known.1;
         stands = so.0;
         agree = so.1;
-        is_one = what_stands_is_a_database (kept (g.seen (disk_of s))) db so.0;
+        is_one = what_is_denoted_is_a_database (kept (g.seen (disk_of s))) db so.0;
       }
 
   pub same_read : (s t : BatchStore D g) → OnlyReadOf s t → database_in t ≡ database_in s

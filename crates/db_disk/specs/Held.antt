@@ -10,7 +10,7 @@ use Rattle.batch_store.specs.Store.{disk_of, is_due, waiting}
 use Rattle.batch_store.specs.declared.store.BatchStore.{BatchStore}
 use Rattle.page_chain.specs.Lists.{◌>>=◌, when}
 use Rattle.catalog_read.specs.Parts.{index_owners_agree}
-use Rattle.stored_database.specs.Standing.{birth, header_of, stored}
+use Rattle.stored_database.specs.Denoting.{birth, header_of, stored}
 
 -- the database that a disk holds, where each of its indexes has the owner of its relation
 unfoldable pub held : Image → Option Db

@@ -17,9 +17,9 @@ use Rattle.catalog_read.specs.Parts.{index_owners_agree}
 use Rattle.plain_base.specs.Shown.{database_of}
 use Rattle.catalog.specs.declared.catalog.Catalog.{Catalog}
 use Rattle.schema_laws.proofs.SchemaStands.{schema_is_database}
-use Rattle.stored_database.specs.Standing.{standing, stored}
+use Rattle.stored_database.specs.Denoting.{denoted, stored}
 use Rattle.stored_database.proofs.Reading.{bind_some, when_some}
-use Rattle.stored_database.proofs.WhatStands.{what_stands_is_a_database}
+use Rattle.stored_database.proofs.WhatStands.{what_is_denoted_is_a_database}
 use Rattle.db_disk.specs.Held.{held, database_by}
 use Rattle.db_disk.specs.Known.{schema_known}
 use Rattle.db_disk.specs.Left.{clock_by, left_by, IsLeft}
@@ -29,8 +29,8 @@ is_held : (m : Image) (db : Db) → held m ≡ Some db → IsDatabase db
 unfolding held stored
 is_held m db is =
     let s = bind_some (stored m) (λ db. when (index_owners_agree db) db) db is in
-    let p = bind_some (redone m) standing s.0 s.1 in
-    subst IsDatabase (when_some (index_owners_agree s.0) s.0 db s.2).1 (what_stands_is_a_database p.0 s.0 p.2)
+    let p = bind_some (redone m) denoted s.0 s.1 in
+    subst IsDatabase (when_some (index_owners_agree s.0) s.0 db s.2).1 (what_is_denoted_is_a_database p.0 s.0 p.2)
 
 pub lawful_held : (is_known : Bool) (m : Image) (db : Db) → database_by is_known m ≡ Some db → IsDatabase db
 lawful_held true m db is = is_held m db is

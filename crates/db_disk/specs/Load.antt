@@ -6,13 +6,13 @@ use Rattle.disk_model.specs.declared.disk.Addr.{Addr}
 use Rattle.base_trait.specs.declared.fault.BaseFault.{BaseFault}
 use Rattle.base_trait.specs.declared.fault.BaseFault.TheVariants as faults
 use Rattle.catalog_read.specs.Parts.{index_owners_agree}
-use Rattle.stored_database.specs.Standing.{standing}
+use Rattle.stored_database.specs.Denoting.{denoted}
 use Rattle.db_disk.specs.declared.load.LoadFault.{LoadFault}
 use Rattle.db_disk.specs.declared.load.LoadFault.TheVariants.{NoHead, Base}
 
--- the pages stand for no database in which each index has the owner of its relation
+-- the pages denote no database in which each index has the owner of its relation
 abbrev pub NoneStands : Image → Addr → Type 0
-NoneStands m a = (db : Db) → standing m ≡ Some db → index_owners_agree db ≡ true → ⊥
+NoneStands m a = (db : Db) → denoted m ≡ Some db → index_owners_agree db ≡ true → ⊥
 
 -- the fault of a base
 abbrev pub base_fault : LoadFault → BaseFault

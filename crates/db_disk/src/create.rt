@@ -7,7 +7,7 @@ ghost use Rattle.disk_model.specs.declared.disk.Addr.{Addr as At};
 ghost use Rattle.disk_model.specs.History.{Came, CameSo};
 ghost use Rattle.disk_model.specs.declared.calls.Call.TheVariants.{Write as AWrite, Sync as ASync};
 ghost use Rattle.batch_file.specs.Layout.{addr, first_byte, gate};
-ghost use Rattle.stored_database.specs.Standing.{stored, empty_database};
+ghost use Rattle.stored_database.specs.Denoting.{stored, empty_database};
 ghost use Rattle.db_disk.specs.Created.{IsFresh, IsHeader, IsMaking, IsReady, IsNewDatabase, IsUnborn, UnbornOrHolds, birth, birth_page};
 ghost use Rattle.db_disk.specs.Making.{Bears, BothCame, Clears, Creates, Heads, Prepares};
 ghost use Rattle.db_disk.specs.Faults.{FailsBy};

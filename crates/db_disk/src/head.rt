@@ -5,7 +5,7 @@ ghost use Rattle.disk_model.specs.Disk.{Image, RisesUpTo};
 ghost use Rattle.am_traits.specs.Causes.{HasStoreCause};
 ghost use Rattle.batch_file.specs.Layout.{first_byte};
 ghost use Rattle.calculus.specs.Text.{trimmed};
-ghost use Rattle.stored_database.specs.Standing.{birth, header_bytes, header_of};
+ghost use Rattle.stored_database.specs.Denoting.{birth, header_bytes, header_of};
 ghost use Rattle.db_disk.specs.Head.{IsHead};
 ghost use Rattle.db_disk.specs.Held.{administrator};
 

@@ -10,7 +10,7 @@ ghost use Rattle.am_traits.specs.Causes.{HasFileCause};
 ghost use Rattle.disk_model.specs.Disk.{Image, IsImage, LeavesOnly};
 ghost use Rattle.batch_file.specs.OnDisk.{IsClosed};
 ghost use Rattle.batch_file.specs.Redone.{kept, redone};
-ghost use Rattle.batch_store.specs.Standing.{IsOneOf};
+ghost use Rattle.batch_store.specs.Recovered.{IsOneOf};
 ghost use Rattle.batch_store.specs.Store.{disk_of, is_due, pages_of, CameOf};
 ghost use Rattle.db_disk.specs.Held.{database_in, held, IsEither, IsReady};
 ghost use Rattle.db_disk.specs.Known.{IsKnown, schema_known};

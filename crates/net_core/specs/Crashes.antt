@@ -30,7 +30,7 @@ StepMayLeave L s room o = (want s ≡ work) × MayLeave L s.mode room o
 abbrev pub StepLeaves : Language quel_sorts → LocalState quel_sorts → Outside → Outside → (ℕ → Option Db → Type 0) → (ℕ → Option Db → Type 0) → Type 0
 StepLeaves L s before after left left' = (room : NetworkRoom quel_sorts) → Knows (known before) room → LeavesBut (StepMayLeave L s room) before.clock after.clock left left'
 
--- where each image of before stands for the database of before, each of after stands for that of after
+-- where each image of before denotes the database of before, each of after stands for that of after
 abbrev pub StaysDurable : Outside → Outside → (ℕ → Option Db → Type 0) → (ℕ → Option Db → Type 0) → Type 0
 StaysDurable before after left left' = (db db' : Db) → before.database ≡ Some db → after.database ≡ Some db' → Stands before.clock left db → Stands after.clock left' db'
 

@@ -27,7 +27,7 @@ use Rattle.quel_meaning.specs.Columns.{is_copy_form}
 use Rattle.quel_meaning.specs.Planned.{is_past_limit}
 use Rattle.quel_meaning.specs.Scope.{Scope, named, ranged, key_found, place_found}
 use Rattle.quel_meaning.specs.Naming.{AttrIn, AttrOf, mentions, no_refusal, name_refusal}
-use Rattle.quel_meaning.specs.Aggregates.{aggregates_stand}
+use Rattle.quel_meaning.specs.Aggregates.{aggregates_allowed}
 use Rattle.quel_meaning.specs.WrittenQuery.{query_of}
 use Rattle.quel_meaning.specs.Passing.{is_full, is_too_wide, is_taken}
 use Rattle.quel_meaning.specs.Causes.{repeats, is_binary, is_binary_text, row_refusals, refusals}
@@ -95,13 +95,13 @@ copy_fits s rel columns from file w h k =
 pub permit_fits : (s : Scope) (ops : ℕ) (var : List ℕ) (attrs : List (List ℕ)) (user : Option (List ℕ)) (qual : Qual)
     → name_refusal s (statement.Permit ops var attrs user qual) ≡ None → first_refusal (refusals s (statement.Permit ops var attrs user qual)) ≡ None
     → suits (kept_or_viewed s.db) s.db s.user (tree_of s (statement.Permit ops var attrs user qual)) ≡ true
-unfolding refusals tree_of suits utility_fits mentions aggregates_stand
+unfolding refusals tree_of suits utility_fits mentions aggregates_allowed
 permit_fits s ops var attrs user qual h k =
     let stmt : Statement = statement.Permit ops var attrs user qual in
     let found = names_found s stmt h in
     let r = (ranged_with s no_refusal var found.0).is in
     let full = is_past_limit most_permits (permit_numbers s.db (key_found (ranged s var))) in
-    let none = none_of (row_refusals s (aggregates_stand s stmt) (ranged s var) (full || nat_lt most_listed_attributes (length attrs)) (query_of s stmt)) k in
+    let none = none_of (row_refusals s (aggregates_allowed s stmt) (ranged s var) (full || nat_lt most_listed_attributes (length attrs)) (query_of s stmt)) k in
     let there : Each (HasAttr r.info) attrs = each_to _ _ (λ a e. titled_of s var r a (e, tt)) attrs (of_map _ (AttrOf var) attrs (front_of _ (map (AttrOf var) attrs) _ found.1)) in
     let room = not_right (nat_lt 1 (length (vars_of (query_of s stmt)))) _ none.1.0 in
     let short = not_right full (nat_lt most_listed_attributes (length attrs)) (not_left _ _ room) in
@@ -114,12 +114,12 @@ permit_fits s ops var attrs user qual h k =
 
 pub rule_fits : (s : Scope) (var : List ℕ) (qual : Qual) → name_refusal s (statement.Rule var qual) ≡ None → first_refusal (refusals s (statement.Rule var qual)) ≡ None
     → suits (kept_or_viewed s.db) s.db s.user (tree_of s (statement.Rule var qual)) ≡ true
-unfolding refusals tree_of suits utility_fits mentions aggregates_stand
+unfolding refusals tree_of suits utility_fits mentions aggregates_allowed
 rule_fits s var qual h k =
     let stmt : Statement = statement.Rule var qual in
     let r = (ranged_with s no_refusal var (names_found s stmt h).0).is in
     let full = is_past_limit most_rules (rule_numbers s.db (key_found (ranged s var))) in
-    let none = none_of (row_refusals s (aggregates_stand s stmt) (ranged s var) full (query_of s stmt)) k in
+    let none = none_of (row_refusals s (aggregates_allowed s stmt) (ranged s var) full (query_of s stmt)) k in
     let room = not_right (nat_lt 1 (length (vars_of (query_of s stmt)))) _ none.1.0 in
     and _ _ (ranged_named s var r) (and _ _ (not_not _ none.1.1.0) (not_not _ (not_right full _ room)))
 

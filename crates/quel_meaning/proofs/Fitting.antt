@@ -29,7 +29,7 @@ use Rattle.quel_meaning.specs.Ranges.{range_of}
 use Rattle.quel_meaning.specs.Scope.{named, ranged, entry_named}
 use Rattle.quel_meaning.specs.WrittenParts.{aggregate_vars, aggregates_in, aggregates_in_qual, vars_in}
 use Rattle.quel_meaning.specs.Naming.{mentions, name_refusal}
-use Rattle.quel_meaning.specs.Aggregates.{aggregate_stands, aggregates_stand}
+use Rattle.quel_meaning.specs.Aggregates.{aggregate_allowed, aggregates_allowed}
 use Rattle.quel_meaning.specs.KindsInQueries.{aggregate_kind, kind_in_query, kinds_fit_in_query, query_fits, assignments_fit}
 use Rattle.quel_meaning.specs.WrittenQuery.{where_tree, query_of}
 use Rattle.quel_meaning.specs.Passing.{has_too_many, is_full, is_too_large, is_too_wide, is_taken}
@@ -115,5 +115,5 @@ record Facts : Type 0 where
   no_aggregate_in_a_view : checked_tree (checked.Utility (utility.View (key (codes "w")) (tree.query [] (one_count 0 ∷ []) qual.True))) ≡ false
 
 facts : Facts
-unfolding resolved tree_of name_refusal mentions range_of ranged named found entry_named info_at range_at catalogue_at refusals aggregates_stand aggregate_stands aggregate_vars aggregates_in aggregates_in_qual vars_in query_of where_tree append_of replace_of delete_of into_of kind_in_query kinds_fit_in_query aggregate_kind query_fits assignments_fit kind_of attribute_kind constant_kind number_kind operated_kind joined_kind is_text_kind kinds_fit comparable constant_text unescaped has_too_many is_full is_too_large is_too_wide is_taken variables expanded_variables update_variables update_expanded_variables term_aggregates qual_aggregates measure_of term_size qual_size query_size query_level level_of source_fits reads_fit asked_fits update_fits view_fits utility_fits suits fits update_is_spelled utility_is_spelled tree_is_spelled is_name is_chars
+unfolding resolved tree_of name_refusal mentions range_of ranged named found entry_named info_at range_at catalogue_at refusals aggregates_allowed aggregate_allowed aggregate_vars aggregates_in aggregates_in_qual vars_in query_of where_tree append_of replace_of delete_of into_of kind_in_query kinds_fit_in_query aggregate_kind query_fits assignments_fit kind_of attribute_kind constant_kind number_kind operated_kind joined_kind is_text_kind kinds_fit comparable constant_text unescaped has_too_many is_full is_too_large is_too_wide is_taken variables expanded_variables update_variables update_expanded_variables term_aggregates qual_aggregates measure_of term_size qual_size query_size query_level level_of source_fits reads_fit asked_fits update_fits view_fits utility_fits suits fits update_is_spelled utility_is_spelled tree_is_spelled is_name is_chars
 facts = record { a_query = refl; kinds_of_targets = refl; nothing_there = refl; over_a_view = refl; over_a_catalogue = refl; past_the_attributes = refl; past_the_variables = refl; slots_count = refl; slots_begin_at_0 = refl; slots_differ = refl; text_with_number = refl; a_replacement = refl; a_number_for_a_text = refl; no_old_variable = refl; two_places = refl; a_new_relation = refl; a_name_in_use = refl; a_catalogue_name = refl; a_structure = refl; no_structure = refl; keys_differ = refl; a_destroyed_catalogue = refl; destroyed_twice = refl; no_columns = refl; a_column = refl; a_binary_text = refl; a_view_over_a_view = refl; greatest_number = refl; no_greater_number = refl; no_name = refl; no_pattern = refl; no_file_name = refl; all_rights = refl; no_right = refl; no_aggregate_in_a_view = refl }

@@ -21,10 +21,10 @@ use Rattle.calculus.specs.Stored.{kinds_at}
 use Rattle.calculus.specs.QueryParts.{vars_of, targets_of, qual_of}
 use Rattle.calculus.specs.Replacement.{made_attr}
 use Rattle.calculus.specs.Change.{permit_numbers, rule_numbers}
-use Rattle.calculus.specs.IsDatabase.{row_qual_stands}
+use Rattle.calculus.specs.IsDatabase.{valid_row_qual}
 use Rattle.calculus.specs.Storable.{row_qual_is_small}
 use Rattle.quel_meaning.specs.Scope.{Scope, named, ranged, entry_named, key_found, place_found}
-use Rattle.quel_meaning.specs.Aggregates.{aggregates_stand}
+use Rattle.quel_meaning.specs.Aggregates.{aggregates_allowed}
 use Rattle.quel_meaning.specs.KindsInQueries.{query_fits, assignments_fit}
 use Rattle.quel_meaning.specs.WrittenQuery.{query_of}
 use Rattle.quel_meaning.specs.StatementUpdate.{titles_of, append_of, replace_of, delete_of}
@@ -110,7 +110,7 @@ abbrev pub row_refusals : Scope → Bool → Option RelInfo → Bool → Query �
 row_refusals s stand info no_room q =
     (18, not stand)
     ∷ (14, nat_lt 1 (length (vars_of q)) || (no_room || not (row_qual_is_small (qual_of q))))
-    ∷ (13, not (row_qual_stands s.db (key_found info) (qual_of q)))
+    ∷ (13, not (valid_row_qual s.db (key_found info) (qual_of q)))
     ∷ []
 
 -- a column of a file has a number's bytes
@@ -153,4 +153,4 @@ refusals_by s stand q (statement.Rule var qual) = row_refusals s stand (ranged s
 
 -- what refuses a statement whose names were found, in the order in which it counts; what the user may do and what the rows decide is checked later
 unfoldable pub refusals : Scope → Statement → Causes
-refusals s stmt = refusals_by s (aggregates_stand s stmt) (query_of s stmt) stmt
+refusals s stmt = refusals_by s (aggregates_allowed s stmt) (query_of s stmt) stmt

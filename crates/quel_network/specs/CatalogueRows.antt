@@ -14,7 +14,7 @@ use Rattle.calculus.specs.declared.value.Kind.TheVariants.{Of}
 use Rattle.calculus.specs.declared.value.Value.TheVariants.{Text}
 use Rattle.calculus.specs.Catalogue.{is_catalogue_name, relation_key, attribute_key, relation_info, attribute_info, relation_attrs, attribute_attrs, all_entries, column_count, relation_row, format_text, attribute_row, attribute_rows, catalogue_at}
 use Rattle.calculus.specs.Database.{Db, Relation, Index, entries, is_relation}
-use Rattle.calculus.specs.IsDatabase.{IsDatabase, value_fits, key_is_named, attrs_stand, keys_stand, is_kind, index_stands, structure_stands, view_info_stands}
+use Rattle.calculus.specs.IsDatabase.{IsDatabase, value_fits, key_is_named, attrs_stand, keys_stand, is_kind, valid_index, valid_structure, valid_view_info}
 use Rattle.calculus.specs.Keys.{same_key}
 use Rattle.calculus.specs.Lists.{is_any, differ_by}
 use Rattle.calculus.specs.Name.{is_name}
@@ -88,14 +88,14 @@ few_keys attrs keys h =
 no_keys : (keys : List ℕ) → IsTrue (not (is_any keys)) → length keys ≤ 49
 no_keys keys h = let none = no_items keys h in omega (arith, none)
 
-structure_keys : (i : RelInfo) → IsTrue (structure_stands i) → length i.keys ≤ 49
+structure_keys : (i : RelInfo) → IsTrue (valid_structure i) → length i.keys ≤ 49
 structure_keys i h = go (is_keyed i.spec) h
   where
     go : (b : Bool) → IsTrue (elim b as (λ b. Bool) [ true ↦ is_any i.keys && keys_stand i.attrs i.keys | false ↦ is_structure i.spec && not (is_any i.keys) ]) → length i.keys ≤ 49
     go true h = few_keys i.attrs i.keys (and_parts (is_any i.keys) (keys_stand i.attrs i.keys) h).1
     go false h = no_keys i.keys (and_parts (is_structure i.spec) (not (is_any i.keys)) h).1
 
-index_is_text : (db : Db) (x : Index) → IsTrue (index_stands db x) → AttrsAreTexts x.info
+index_is_text : (db : Db) (x : Index) → IsTrue (valid_index db x) → AttrsAreTexts x.info
 index_is_text db x h =
     let w = and_parts (is_index x.info.spec) _ h in
     let v = and_parts (is_relation db x.base) _ w.1 in
@@ -113,18 +113,18 @@ entries_are_texts db is =
   where
     of_relations : Each AttrsAreTexts (map (λ r. r.info) db.relations)
     of_relations = in_map AttrsAreTexts (λ r. r.info) db.relations
-        (both_hold (λ r. IsTrue (attrs_stand r.info.attrs)) (λ r. IsTrue (structure_stands r.info)) (λ r. AttrsAreTexts r.info) (λ r h k. standing_are_texts r.info h (structure_keys r.info k)) db.relations
-        (each_passes (λ r. attrs_stand r.info.attrs) db.relations is.relation_attrs_stand) (each_passes (λ r. structure_stands r.info) db.relations is.structures_stand))
+        (both_hold (λ r. IsTrue (attrs_stand r.info.attrs)) (λ r. IsTrue (valid_structure r.info)) (λ r. AttrsAreTexts r.info) (λ r h k. standing_are_texts r.info h (structure_keys r.info k)) db.relations
+        (each_passes (λ r. attrs_stand r.info.attrs) db.relations is.relation_attrs_stand) (each_passes (λ r. valid_structure r.info) db.relations is.structures_stand))
 
     of_views : Each AttrsAreTexts (map (λ v. v.info) db.views)
     of_views = in_map AttrsAreTexts (λ v. v.info) db.views
-        (both_hold (λ v. IsTrue (attrs_stand v.info.attrs)) (λ v. IsTrue (view_info_stands v.info)) (λ v. AttrsAreTexts v.info)
+        (both_hold (λ v. IsTrue (attrs_stand v.info.attrs)) (λ v. IsTrue (valid_view_info v.info)) (λ v. AttrsAreTexts v.info)
         (λ v h k. standing_are_texts v.info h (no_keys v.info.keys (and_parts (is_view v.info.spec) (not (is_any v.info.keys)) k).1)) db.views
-        (each_passes (λ v. attrs_stand v.info.attrs) db.views is.view_attrs_stand) (each_passes (λ v. view_info_stands v.info) db.views is.view_infos_stand))
+        (each_passes (λ v. attrs_stand v.info.attrs) db.views is.view_attrs_stand) (each_passes (λ v. valid_view_info v.info) db.views is.view_infos_stand))
 
     of_indexes : Each AttrsAreTexts (map (λ x. x.info) db.indexes)
     of_indexes = in_map AttrsAreTexts (λ x. x.info) db.indexes
-        (each_to (λ x. IsTrue (index_stands db x)) (λ x. AttrsAreTexts x.info) (index_is_text db) db.indexes (each_passes (index_stands db) db.indexes is.indexes_stand))
+        (each_to (λ x. IsTrue (valid_index db x)) (λ x. AttrsAreTexts x.info) (index_is_text db) db.indexes (each_passes (valid_index db) db.indexes is.indexes_stand))
 
 -- ---- the catalogues themselves
 

@@ -11,7 +11,7 @@ use Rattle.calculus.specs.Lists.{is_any}
 use Rattle.calculus.specs.QueryParts.{query_aggregates}
 use Rattle.calculus.specs.Replacement.{wanted_kinds}
 use Rattle.calculus.specs.Stored.{kinds_at}
-use Rattle.quel_meaning.specs.Aggregates.{aggregates_stand, aggregate_stands, keeps_a_text}
+use Rattle.quel_meaning.specs.Aggregates.{aggregates_allowed, aggregate_allowed, keeps_a_text}
 use Rattle.quel_meaning.specs.Causes.{refusals, refusals_by, update_refusals}
 use Rattle.quel_meaning.specs.Scope.{Scope}
 use Rattle.quel_meaning.specs.StatementUpdate.{append_of, replace_of, delete_of}
@@ -25,9 +25,9 @@ none [] h = refl
 none (x ∷ xs) h = absurd (cc h)
 
 -- where there is no aggregate, the aggregates stand
-pub stands : (s : Scope) (stmt : Statement) → is_any (text_aggregates stmt) ≡ false → aggregates_stand s stmt ≡ true
-unfolding aggregates_stand
-stands s stmt h = ap (λ gs. elim (keeps_a_text stmt) as (λ b. Bool) [ true ↦ not (is_any gs) | false ↦ list_all (aggregate_stands s) gs ]) (none (text_aggregates stmt) h) ∙ go (keeps_a_text stmt)
+pub stands : (s : Scope) (stmt : Statement) → is_any (text_aggregates stmt) ≡ false → aggregates_allowed s stmt ≡ true
+unfolding aggregates_allowed
+stands s stmt h = ap (λ gs. elim (keeps_a_text stmt) as (λ b. Bool) [ true ↦ not (is_any gs) | false ↦ list_all (aggregate_allowed s) gs ]) (none (text_aggregates stmt) h) ∙ go (keeps_a_text stmt)
   where
     go : (b : Bool) → elim b as (λ c. Bool) [ true ↦ not false | false ↦ true ] ≡ true
     go true = refl
@@ -42,16 +42,16 @@ none_in_query s stmt q e h = empty (query_aggregates q) (ap (λ p. length (query
     empty (g ∷ gs) h = absurd (cc h)
 
 -- what refuses a statement whose aggregates stand
-pub refusals_are : (s : Scope) (stmt : Statement) (q : Query) → q ≡ query_of s stmt → aggregates_stand s stmt ≡ true → refusals_by s true q stmt ≡ refusals s stmt
+pub refusals_are : (s : Scope) (stmt : Statement) (q : Query) → q ≡ query_of s stmt → aggregates_allowed s stmt ≡ true → refusals_by s true q stmt ≡ refusals s stmt
 unfolding refusals
 refusals_are s stmt q e h = λ i. refusals_by s (sym h i) (e i) stmt
 
 -- where they stand in a text that is kept, there is none
-pub none_in_text : (s : Scope) (stmt : Statement) (q : Query) → q ≡ query_of s stmt → aggregates_stand s stmt ≡ true → keeps_a_text stmt ≡ true → query_aggregates q ≡ []
-unfolding aggregates_stand
+pub none_in_text : (s : Scope) (stmt : Statement) (q : Query) → q ≡ query_of s stmt → aggregates_allowed s stmt ≡ true → keeps_a_text stmt ≡ true → query_aggregates q ≡ []
+unfolding aggregates_allowed
 none_in_text s stmt q e h t = none_in_query s stmt q e (not_so (is_any (text_aggregates stmt)) (go (keeps_a_text stmt) t h))
   where
-    go : (b : Bool) → b ≡ true → elim b as (λ c. Bool) [ true ↦ not (is_any (text_aggregates stmt)) | false ↦ list_all (aggregate_stands s) (text_aggregates stmt) ] ≡ true
+    go : (b : Bool) → b ≡ true → elim b as (λ c. Bool) [ true ↦ not (is_any (text_aggregates stmt)) | false ↦ list_all (aggregate_allowed s) (text_aggregates stmt) ] ≡ true
         → not (is_any (text_aggregates stmt)) ≡ true
     go true u k = k
     go false u k = absurd (cc u)

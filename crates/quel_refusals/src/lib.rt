@@ -2,6 +2,7 @@
 #![tactic(auto)]
 
 mod aggregates;
+mod allowed_aggregates;
 mod changed;
 mod counted;
 mod created;
@@ -14,20 +15,19 @@ mod repeated;
 mod restricted;
 mod result_kinds;
 mod retrieved;
-mod standing_aggregates;
 mod terms;
 mod viewed;
 mod widths;
 
+pub use allowed_aggregates::aggregates_allowed;
 pub use changed::relation_refusal;
 pub use counted::has_too_many;
 pub use fitting::{assignments_fit, has_kind, query_fits, same_kind, targets_fit};
 pub use kinds::{kinds_at, var_kinds};
-pub use numbered::{standing_permits, standing_rules};
+pub use numbered::{existing_permits, existing_rules};
 pub use places::{is_catalogue_name, is_full, is_taken};
 pub use refusing::find_refusal;
 pub use repeated::{repeats, sorts_by_titles};
 pub use result_kinds::{comparable, is_text_kind};
-pub use standing_aggregates::aggregates_stand;
 pub use terms::{kind_in_query, kinds_fit_in_query};
 pub use widths::{is_too_wide, kind_bytes, made_kind, made_kinds, target_kinds};

@@ -32,7 +32,7 @@ fn rule_numbers(alloc: Global, rules: &[Rule]) -> Result<Vec<u32>, OutOfMemory>
 }
 
 /// The numbers of the permits that stand on a relation.
-pub fn standing_permits<B: Base>(
+pub fn existing_permits<B: Base>(
     alloc: Global,
     base: &mut B,
     rel: &RelKey,
@@ -50,7 +50,7 @@ pub fn standing_permits<B: Base>(
 }
 
 /// The numbers of the rules that stand on a relation.
-pub fn standing_rules<B: Base>(
+pub fn existing_rules<B: Base>(
     alloc: Global,
     base: &mut B,
     rel: &RelKey,

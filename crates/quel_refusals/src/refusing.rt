@@ -10,7 +10,7 @@ ghost use Rattle.calculus.specs.declared.statement.Statement.TheVariants as stat
 ghost use Rattle.calculus.specs.QueryParts.{query_aggregates};
 ghost use Rattle.calculus.specs.Replacement.{first_refusal};
 ghost use Rattle.quel_refusals.specs.CheckedStatements.{IsOn, is_checked, update_of};
-ghost use Rattle.quel_meaning.specs.Aggregates.{aggregates_stand, keeps_a_text};
+ghost use Rattle.quel_meaning.specs.Aggregates.{aggregates_allowed, keeps_a_text};
 ghost use Rattle.quel_meaning.specs.Causes.{refusals, refusals_by};
 ghost use Rattle.quel_meaning.specs.Scope.{Scope};
 ghost use Rattle.quel_meaning.specs.WrittenQuery.{query_of};
@@ -106,7 +106,7 @@ pub fn find_refusal<B: Base>(
     update: Option<&Update>,
     on: Option<&RelInfo>,
 ) -> Result<Option<u8>, BaseFault>
-    ensures known { (scope : Scope) → B.schema base.old ≡ Some scope.db → scope.user ≡ user.now → q.now ≡ query_of scope s.now → option_map (λ v. v.now) update.entry ≡ update_of scope s.now q.now → IsOn scope s.now (option_copied on.entry) → aggregates_stand scope s.now ≡ true → is_checked s.now ≡ true → IfOk result (λ n. n ≡ first_refusal (refusals scope s.now)) }
+    ensures known { (scope : Scope) → B.schema base.old ≡ Some scope.db → scope.user ≡ user.now → q.now ≡ query_of scope s.now → option_map (λ v. v.now) update.entry ≡ update_of scope s.now q.now → IsOn scope s.now (option_copied on.entry) → aggregates_allowed scope s.now ≡ true → is_checked s.now ≡ true → IfOk result (λ n. n ≡ first_refusal (refusals scope s.now)) }
     ensures kept { B.database base.new ≡ B.database base.old }
     ensures stays { (s : Db) → B.schema base.old ≡ Some s → B.schema base.new ≡ Some s }
     ensures asked { (b : B) → B.asked b base.old → B.asked b base.new }

@@ -4,7 +4,7 @@ ghost use Rattle.std.specs.Prelude.{◌≡◌, ◌∷◌, ◌||◌, ◌&&◌, na
 ghost use Rattle.base_trait.specs.Causes.{HasCause};
 ghost use Rattle.calculus.specs.Change.{permit_numbers, rule_numbers};
 ghost use Rattle.calculus.specs.Database.{Db};
-ghost use Rattle.calculus.specs.IsDatabase.{row_qual_stands};
+ghost use Rattle.calculus.specs.IsDatabase.{valid_row_qual};
 ghost use Rattle.calculus.specs.Kinds.{kinds_fit};
 ghost use Rattle.calculus.specs.QueryParts.{qual_of, query_aggregates, vars_of};
 ghost use Rattle.calculus.specs.Sizes.{qual_size};
@@ -109,13 +109,13 @@ fn fits_row(alloc: Global, kinds: Vec<Kind>, qual: &QQual) -> Result<bool, OutOf
 }
 
 /// Whether the kinds in a qualification over a row of the relation fit.
-fn row_qual_stands<B: Base>(
+fn valid_row_qual<B: Base>(
     alloc: Global,
     base: &mut B,
     rel: &RelKey,
     qual: &QQual,
 ) -> Result<bool, BaseFault>
-    ensures known { (db : Db) → B.schema base.old ≡ Some db → IfOk result (λ stands. stands ≡ row_qual_stands db rel.now qual.now) }
+    ensures known { (db : Db) → B.schema base.old ≡ Some db → IfOk result (λ stands. stands ≡ valid_row_qual db rel.now qual.now) }
     ensures kept { B.database base.new ≡ B.database base.old }
     ensures stays { (s : Db) → B.schema base.old ≡ Some s → B.schema base.new ≡ Some s }
     ensures asked { (b : B) → B.asked b base.old → B.asked b base.new }
@@ -149,7 +149,7 @@ fn row_refusal<B: Base>(
     no_room: bool,
     q: &Query,
 ) -> Result<Option<u8>, BaseFault>
-    ensures known { (db : Db) → B.schema base.old ≡ Some db → query_aggregates q.now ≡ [] → IfOk result (λ n. n ≡ first_refusal ((14, nat_lt 1 (length (vars_of q.now)) || (no_room || not (row_qual_is_small (qual_of q.now)))) ∷ (13, not (row_qual_stands db rel.now (qual_of q.now))) ∷ [])) }
+    ensures known { (db : Db) → B.schema base.old ≡ Some db → query_aggregates q.now ≡ [] → IfOk result (λ n. n ≡ first_refusal ((14, nat_lt 1 (length (vars_of q.now)) || (no_room || not (row_qual_is_small (qual_of q.now)))) ∷ (13, not (valid_row_qual db rel.now (qual_of q.now))) ∷ [])) }
     ensures kept { B.database base.new ≡ B.database base.old }
     ensures stays { (s : Db) → B.schema base.old ≡ Some s → B.schema base.new ≡ Some s }
     ensures asked { (b : B) → B.asked b base.old → B.asked b base.new }
@@ -158,7 +158,7 @@ fn row_refusal<B: Base>(
     if no_room || is_past_row(q) {
         return Ok(Some(PAST_LIMIT));
     }
-    if !row_qual_stands(alloc, base, rel, &q.qual)? {
+    if !valid_row_qual(alloc, base, rel, &q.qual)? {
         return Ok(Some(KINDS_DIFFER));
     }
     Ok(None)

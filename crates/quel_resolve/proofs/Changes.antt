@@ -22,7 +22,7 @@ use Rattle.quel_meaning.proofs.Each.{Each}
 use Rattle.quel_meaning.proofs.Found.{names_found, named_with, ranged_with, ranged_is}
 use Rattle.quel_meaning.proofs.ReadsFit.{narrow_targets, none_of}
 use Rattle.quel_meaning.specs.Causes.{refusals, print_refusals, into_refusals, view_refusals}
-use Rattle.quel_meaning.specs.Aggregates.{aggregates_stand}
+use Rattle.quel_meaning.specs.Aggregates.{aggregates_allowed}
 use Rattle.quel_meaning.specs.FitQueries.{has_few_targets}
 use Rattle.quel_meaning.specs.Naming.{mentions, name_refusal, no_refusal}
 use Rattle.quel_meaning.specs.Resolved.{tree_by, tree_of}
@@ -264,8 +264,8 @@ few_printed s items qual sort n = few_if q (narrow_targets q (λ (t : Target). t
     q : Query
     q = query_of s stmt
 
-    none : Each (λ c. c.1 ≡ false) (print_refusals s (aggregates_stand s stmt) sort q)
-    none = none_of (print_refusals s (aggregates_stand s stmt) sort q) n
+    none : Each (λ c. c.1 ≡ false) (print_refusals s (aggregates_allowed s stmt) sort q)
+    none = none_of (print_refusals s (aggregates_allowed s stmt) sort q) n
 
 few_kept : (s : Scope) (name : List ℕ) (items : List Item) (qual : Qual) (sort : List (List ℕ × Bool)) → first_refusal (refusals s (statement.Retrieve (Some name) items qual sort)) ≡ None
     → length (targets_of (query_of s (statement.Retrieve (Some name) items qual sort))) ≤ 256
@@ -278,8 +278,8 @@ few_kept s name items qual sort n = few_if q (narrow_targets q (λ (t : Target).
     q : Query
     q = query_of s stmt
 
-    none : Each (λ c. c.1 ≡ false) (into_refusals s (aggregates_stand s stmt) name sort q)
-    none = none_of (into_refusals s (aggregates_stand s stmt) name sort q) n
+    none : Each (λ c. c.1 ≡ false) (into_refusals s (aggregates_allowed s stmt) name sort q)
+    none = none_of (into_refusals s (aggregates_allowed s stmt) name sort q) n
 
 no_target : (s : Scope) (rel : List ℕ) (attrs : List (List ℕ × Domain)) → length (targets_of (query_of s (statement.Create rel attrs))) ≤ 256
 unfolding query_of
@@ -312,8 +312,8 @@ few_viewed s name items qual n = few_if q (narrow_targets q (λ (t : Target). t.
     q : Query
     q = query_of s stmt
 
-    none : Each (λ c. c.1 ≡ false) (view_refusals s (aggregates_stand s stmt) name q)
-    none = none_of (view_refusals s (aggregates_stand s stmt) name q) n
+    none : Each (λ c. c.1 ≡ false) (view_refusals s (aggregates_allowed s stmt) name q)
+    none = none_of (view_refusals s (aggregates_allowed s stmt) name q) n
 
 -- such a statement has few targets, where no cause refuses it
 pub few_targets : (s : Scope) (stmt : Statement) → is_checked stmt ≡ true → is_range stmt ≡ false → None ≡ update_of s stmt (query_of s stmt) → first_refusal (refusals s stmt) ≡ None

@@ -5,7 +5,7 @@ ghost use Rattle.calculus.specs.Database.{Db};
 ghost use Rattle.calculus.specs.Replacement.{first_refusal};
 ghost use Rattle.quel_refusals.specs.CheckedStatements.{is_checked};
 ghost use Rattle.quel_check.specs.Known.{inner_vars};
-ghost use Rattle.quel_meaning.specs.Aggregates.{aggregates_stand};
+ghost use Rattle.quel_meaning.specs.Aggregates.{aggregates_allowed};
 ghost use Rattle.quel_meaning.specs.Causes.{refusals};
 ghost use Rattle.quel_meaning.specs.Naming.{name_refusal};
 ghost use Rattle.quel_meaning.specs.Scope.{ranged};
@@ -22,7 +22,7 @@ use calculus::refusals::{AGGREGATE, NO_RELATION, PAST_LIMIT};
 use calculus::{Name, Query, RelInfo, Statement};
 use quel_check::{Known, RangeTable, inner_vars, vars_in};
 use quel_names::infos_of;
-use quel_refusals::aggregates_stand;
+use quel_refusals::aggregates_allowed;
 use std::alloc::Global;
 use utility_trees::CheckFault;
 
@@ -37,7 +37,7 @@ fn query_known<B: Base>(
     infos: &[RelInfo],
     inner: &[Name],
 ) -> Result<Query, CheckFault>
-    ensures known { (db : Db) (user : List ℕ) → B.schema base.old ≡ Some db → name_refusal (scope_of db user ranges.now) s.now ≡ None → aggregates_stand (scope_of db user ranges.now) s.now ≡ true
+    ensures known { (db : Db) (user : List ℕ) → B.schema base.old ≡ Some db → name_refusal (scope_of db user ranges.now) s.now ≡ None → aggregates_allowed (scope_of db user ranges.now) s.now ≡ true
         → vars.now ≡ vars_in s.now → inner.now ≡ inner_vars s.now → length vars.now + length inner.now ≤ 10 → map (ranged (scope_of db user ranges.now)) vars.now ≡ map Some infos.now
         → Says (λ q. q ≡ query_of (scope_of db user ranges.now) s.now) (λ number. first_refusal (refusals (scope_of db user ranges.now) s.now) ≡ Some number) result }
     ensures kept { B.database base.new ≡ B.database base.old }
@@ -71,7 +71,7 @@ fn query_over<B: Base>(
     vars: &[Name],
     inner: &[Name],
 ) -> Result<Query, CheckFault>
-    ensures known { (db : Db) (user : List ℕ) → B.schema base.old ≡ Some db → name_refusal (scope_of db user ranges.now) s.now ≡ None → aggregates_stand (scope_of db user ranges.now) s.now ≡ true
+    ensures known { (db : Db) (user : List ℕ) → B.schema base.old ≡ Some db → name_refusal (scope_of db user ranges.now) s.now ≡ None → aggregates_allowed (scope_of db user ranges.now) s.now ≡ true
         → vars.now ≡ vars_in s.now → inner.now ≡ inner_vars s.now → length vars.now + length inner.now ≤ 10
         → Says (λ q. q ≡ query_of (scope_of db user ranges.now) s.now) (λ number. first_refusal (refusals (scope_of db user ranges.now) s.now) ≡ Some number) result }
     ensures kept { B.database base.new ≡ B.database base.old }
@@ -107,7 +107,7 @@ fn query_within<B: Base>(
     vars: &[Name],
     inner: &[Name],
 ) -> Result<Query, CheckFault>
-    ensures known { (db : Db) (user : List ℕ) → B.schema base.old ≡ Some db → name_refusal (scope_of db user ranges.now) s.now ≡ None → is_checked s.now ≡ true → aggregates_stand (scope_of db user ranges.now) s.now ≡ true
+    ensures known { (db : Db) (user : List ℕ) → B.schema base.old ≡ Some db → name_refusal (scope_of db user ranges.now) s.now ≡ None → is_checked s.now ≡ true → aggregates_allowed (scope_of db user ranges.now) s.now ≡ true
         → vars.now ≡ vars_in s.now → inner.now ≡ inner_vars s.now
         → Says (λ q. q ≡ query_of (scope_of db user ranges.now) s.now) (λ number. first_refusal (refusals (scope_of db user ranges.now) s.now) ≡ Some number) result }
     ensures kept { B.database base.new ≡ B.database base.old }
@@ -130,7 +130,7 @@ fn query_beside<B: Base>(
     s: &Statement,
     vars: &[Name],
 ) -> Result<Query, CheckFault>
-    ensures known { (db : Db) (user : List ℕ) → B.schema base.old ≡ Some db → name_refusal (scope_of db user ranges.now) s.now ≡ None → is_checked s.now ≡ true → aggregates_stand (scope_of db user ranges.now) s.now ≡ true
+    ensures known { (db : Db) (user : List ℕ) → B.schema base.old ≡ Some db → name_refusal (scope_of db user ranges.now) s.now ≡ None → is_checked s.now ≡ true → aggregates_allowed (scope_of db user ranges.now) s.now ≡ true
         → vars.now ≡ vars_in s.now
         → Says (λ q. q ≡ query_of (scope_of db user ranges.now) s.now) (λ number. first_refusal (refusals (scope_of db user ranges.now) s.now) ≡ Some number) result }
     ensures kept { B.database base.new ≡ B.database base.old }
@@ -152,7 +152,7 @@ fn query_standing<B: Base>(
     ranges: &RangeTable,
     s: &Statement,
 ) -> Result<Query, CheckFault>
-    ensures known { (db : Db) (user : List ℕ) → B.schema base.old ≡ Some db → name_refusal (scope_of db user ranges.now) s.now ≡ None → is_checked s.now ≡ true → aggregates_stand (scope_of db user ranges.now) s.now ≡ true
+    ensures known { (db : Db) (user : List ℕ) → B.schema base.old ≡ Some db → name_refusal (scope_of db user ranges.now) s.now ≡ None → is_checked s.now ≡ true → aggregates_allowed (scope_of db user ranges.now) s.now ≡ true
         → Says (λ q. q ≡ query_of (scope_of db user ranges.now) s.now) (λ number. first_refusal (refusals (scope_of db user ranges.now) s.now) ≡ Some number) result }
     ensures kept { B.database base.new ≡ B.database base.old }
     ensures stays { (s : Db) → B.schema base.old ≡ Some s → B.schema base.new ≡ Some s }
@@ -176,13 +176,13 @@ pub(crate) fn query<B: Base>(
     s: &Statement,
 ) -> Result<Query, CheckFault>
     ensures known { (db : Db) (user : List ℕ) → B.schema base.old ≡ Some db → name_refusal (scope_of db user ranges.now) s.now ≡ None → is_checked s.now ≡ true
-        → Says (λ q. (q ≡ query_of (scope_of db user ranges.now) s.now) × (aggregates_stand (scope_of db user ranges.now) s.now ≡ true)) (λ number. first_refusal (refusals (scope_of db user ranges.now) s.now) ≡ Some number) result }
+        → Says (λ q. (q ≡ query_of (scope_of db user ranges.now) s.now) × (aggregates_allowed (scope_of db user ranges.now) s.now ≡ true)) (λ number. first_refusal (refusals (scope_of db user ranges.now) s.now) ≡ Some number) result }
     ensures kept { B.database base.new ≡ B.database base.old }
     ensures stays { (s : Db) → B.schema base.old ≡ Some s → B.schema base.new ≡ Some s }
     ensures asked { (b : B) → B.asked b base.old → B.asked b base.new }
     ensures cause { HasCheckCause (B.database base.old) (B.faults base.old) (B.faults base.new) result }
 {
-    if aggregates_stand(alloc, base, ranges, s)? {
+    if aggregates_allowed(alloc, base, ranges, s)? {
         query_standing(alloc, base, ranges, s)
     } else {
         Err(CheckFault::No(AGGREGATE))

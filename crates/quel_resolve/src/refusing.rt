@@ -4,7 +4,7 @@ ghost use Rattle.std.specs.Prelude.{◌≡◌, Option, Some, None, true, option_
 ghost use Rattle.calculus.specs.Database.{Db};
 ghost use Rattle.calculus.specs.Replacement.{first_refusal};
 ghost use Rattle.quel_refusals.specs.CheckedStatements.{IsOn, is_checked, update_of};
-ghost use Rattle.quel_meaning.specs.Aggregates.{aggregates_stand};
+ghost use Rattle.quel_meaning.specs.Aggregates.{aggregates_allowed};
 ghost use Rattle.quel_meaning.specs.Causes.{refusals};
 ghost use Rattle.quel_meaning.specs.Resolved.{tree_of};
 ghost use Rattle.quel_meaning.specs.Scope.{Scope};
@@ -29,7 +29,7 @@ pub(crate) fn unless_refused<B: Base>(
     update: Option<&Update>,
     on: Option<&RelInfo>,
 ) -> Result<(), CheckFault>
-    ensures known { (scope : Scope) → B.schema base.old ≡ Some scope.db → scope.user ≡ user.now → q.now ≡ query_of scope s.now → option_map (λ v. v.now) update.entry ≡ update_of scope s.now q.now → IsOn scope s.now (option_copied on.entry) → is_checked s.now ≡ true → aggregates_stand scope s.now ≡ true
+    ensures known { (scope : Scope) → B.schema base.old ≡ Some scope.db → scope.user ≡ user.now → q.now ≡ query_of scope s.now → option_map (λ v. v.now) update.entry ≡ update_of scope s.now q.now → IsOn scope s.now (option_copied on.entry) → is_checked s.now ≡ true → aggregates_allowed scope s.now ≡ true
         → Says (λ done. first_refusal (refusals scope s.now) ≡ None) (λ number. first_refusal (refusals scope s.now) ≡ Some number) result }
     ensures kept { B.database base.new ≡ B.database base.old }
     ensures stays { (s : Db) → B.schema base.old ≡ Some s → B.schema base.new ≡ Some s }
@@ -50,7 +50,7 @@ pub(crate) fn update_unless_refused<B: Base>(
     s: &Statement,
     update: Update,
 ) -> Result<Checked, CheckFault>
-    ensures known { (scope : Scope) → B.schema base.old ≡ Some scope.db → scope.user ≡ user.now → update.query ≡ query_of scope s.now → Some update ≡ update_of scope s.now update.query → is_checked s.now ≡ true → aggregates_stand scope s.now ≡ true
+    ensures known { (scope : Scope) → B.schema base.old ≡ Some scope.db → scope.user ≡ user.now → update.query ≡ query_of scope s.now → Some update ≡ update_of scope s.now update.query → is_checked s.now ≡ true → aggregates_allowed scope s.now ≡ true
         → Says (λ tree. (tree ≡ tree_of scope s.now) × (first_refusal (refusals scope s.now) ≡ None)) (λ number. first_refusal (refusals scope s.now) ≡ Some number) result }
     ensures kept { B.database base.new ≡ B.database base.old }
     ensures stays { (s : Db) → B.schema base.old ≡ Some s → B.schema base.new ≡ Some s }

@@ -5,7 +5,7 @@ ghost use Rattle.base_trait.specs.Causes.{HasCause};
 ghost use Rattle.calculus.specs.declared.query.Query.{roll-Query};
 ghost use Rattle.calculus.specs.Database.{Db};
 ghost use Rattle.quel_check.specs.Known.{Knows, inner_vars};
-ghost use Rattle.quel_meaning.specs.Aggregates.{aggregates_stand};
+ghost use Rattle.quel_meaning.specs.Aggregates.{aggregates_allowed};
 ghost use Rattle.quel_meaning.specs.Scope.{Scope};
 ghost use Rattle.quel_meaning.specs.WrittenParts.{vars_in};
 ghost use Rattle.quel_meaning.specs.WrittenQuery.{query_of, where_tree};
@@ -48,7 +48,7 @@ fn query_with(
     targets: Vec<Target>,
 ) -> Result<Query, OutOfMemory>
     ensures { IfOk result (λ q. (scope : Scope) → known.entry.vars.now ≡ vars_in s.now → known.entry.inner_vars.now ≡ inner_vars s.now
-        → Knows scope known.entry.vars.now known.entry.infos.now → Knows scope known.entry.inner_vars.now known.entry.inner_infos.now → aggregates_stand scope s.now ≡ true
+        → Knows scope known.entry.vars.now known.entry.infos.now → Knows scope known.entry.inner_vars.now known.entry.inner_infos.now → aggregates_allowed scope s.now ≡ true
         → q ≡ roll-Query (record { vars = map (λ info. info.key) known.entry.infos.now; targets = targets.items; qual = where_tree scope s.now })) }
 {
     let rest = where_tree_from(alloc, known, s);
@@ -75,7 +75,7 @@ pub fn query_of<B: Base>(
     known: Known<'_>,
 ) -> Result<Query, BaseFault>
     ensures known { (scope : Scope) → B.schema base.old ≡ Some scope.db → known.entry.vars.now ≡ vars_in s.now → known.entry.inner_vars.now ≡ inner_vars s.now
-        → Knows scope known.entry.vars.now known.entry.infos.now → Knows scope known.entry.inner_vars.now known.entry.inner_infos.now → aggregates_stand scope s.now ≡ true
+        → Knows scope known.entry.vars.now known.entry.infos.now → Knows scope known.entry.inner_vars.now known.entry.inner_infos.now → aggregates_allowed scope s.now ≡ true
         → IfOk result (λ q. q ≡ query_of scope s.now) }
     ensures kept { B.database base.new ≡ B.database base.old }
     ensures stays { (s : Db) → B.schema base.old ≡ Some s → B.schema base.new ≡ Some s }

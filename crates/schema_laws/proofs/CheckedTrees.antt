@@ -32,7 +32,7 @@ use Rattle.calculus.specs.Database.{Db, entries, is_there}
 use Rattle.calculus.specs.Stored.{kinds_at, attrs_in}
 use Rattle.calculus.specs.QueryParts.{vars_of, targets_of, qual_of, query_aggregates}
 use Rattle.calculus.specs.Sizes.{Known, measure_of, source_variables}
-use Rattle.calculus.specs.IsDatabase.{has_kind, var_kinds, row_qual_stands}
+use Rattle.calculus.specs.IsDatabase.{has_kind, var_kinds, valid_row_qual}
 use Rattle.calculus.specs.Replacement.{first_refusal, wanted_kinds}
 use Rattle.calculus.specs.Schema.{schema_of}
 use Rattle.calculus.specs.Tree.{query}
@@ -44,7 +44,7 @@ use Rattle.quel_meaning.specs.Ranges.{Ranges, range_of}
 use Rattle.quel_meaning.specs.Scope.{Scope, named, ranged, entry_named, key_found, place_found}
 use Rattle.quel_meaning.specs.WrittenParts.{text_aggregates, aggregate_vars, attributes_in_qual}
 use Rattle.quel_meaning.specs.Naming.{Mention, Variable, AttrOf, Relation, AttrIn, Entry, refusal_in, no_refusal, attr_refusal, variable_refusal, mention_refusal, dotted, attr_names, item_mentions, query_mentions, mentions, first_number, name_refusal, new_title}
-use Rattle.quel_meaning.specs.Aggregates.{holds_another, is_one_plain, aggregate_stands, keeps_a_text, aggregates_stand}
+use Rattle.quel_meaning.specs.Aggregates.{holds_another, is_one_plain, aggregate_allowed, keeps_a_text, aggregates_allowed}
 use Rattle.quel_meaning.specs.KindsInQueries.{kinds_fit_in_query, query_fits, assignments_fit}
 use Rattle.quel_meaning.specs.WrittenQuery.{query_of}
 use Rattle.quel_meaning.specs.Passing.{has_too_many, is_full, is_too_high, is_too_large, is_taken, listed_variables, is_too_wide}
@@ -105,8 +105,8 @@ one_plain_alike s [] = refl
 one_plain_alike s (var ∷ []) = λ i. nat_le (known_alike s.db i (key_found (ranged_alike s var i))).variables 1
 one_plain_alike s (var ∷ other ∷ more) = refl
 
-stands_alike : (s : Scope) (stmt : Statement) → aggregates_stand (bare_scope s) stmt ≡ aggregates_stand s stmt
-unfolding aggregates_stand aggregate_stands
+stands_alike : (s : Scope) (stmt : Statement) → aggregates_allowed (bare_scope s) stmt ≡ aggregates_allowed s stmt
+unfolding aggregates_allowed aggregate_allowed
 stands_alike s stmt = λ i. elim (keeps_a_text stmt) [
   | true ↦ not (is_any (text_aggregates stmt))
   | false ↦ list_all (λ g. not (holds_another g) && one_plain_alike s (aggregate_vars g) i) (text_aggregates stmt)

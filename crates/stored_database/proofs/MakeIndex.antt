@@ -30,7 +30,7 @@ module _ (base : RelKey) (name keys : List ℕ) where
 
   pub index : Moves (change.Index base name keys)
   unfolding made laid going coming entries_for columns_from adds_what_is_new resizes
-  index db f after stands new_stands lawful agree = record {
+  index db f after stands new_allowed lawful agree = record {
     gone_attributes = [];
     come_attributes = attributes after made.info ∷ [];
     gone_trees = [];
@@ -40,18 +40,18 @@ module _ (base : RelKey) (name keys : List ℕ) where
     gone_parts_are = refl;
     come_parts_are = refl;
     entries = moved_three same_file grouped_entries.itself grouped_entries.turned
-        (relations_same f after db (change.Index base name keys) stands new_stands agree (λ r at. at) (λ r. refl))
-        (views_same f after db (change.Index base name keys) stands new_stands agree (λ v at. at))
-        (moved_in same_file grouped_entries.itself grouped_entries.turned (index_entry f) (index_entry after) db.indexes by_key made (tied_itself key_total made.info.key) (index_entries after (laid db (change.Index base name keys)) new_stands) fresh
-        (λ x at. index_stays f after db (change.Index base name keys) stands new_stands agree x at (kept x at)))
-        (entries_are_apart f db stands) (entries_are_apart after (laid db (change.Index base name keys)) new_stands);
+        (relations_same f after db (change.Index base name keys) stands new_allowed agree (λ r at. at) (λ r. refl))
+        (views_same f after db (change.Index base name keys) stands new_allowed agree (λ v at. at))
+        (moved_in same_file grouped_entries.itself grouped_entries.turned (index_entry f) (index_entry after) db.indexes by_key made (tied_itself key_total made.info.key) (index_entries after (laid db (change.Index base name keys)) new_allowed) fresh
+        (λ x at. index_stays f after db (change.Index base name keys) stands new_allowed agree x at (kept x at)))
+        (entries_are_apart f db stands) (entries_are_apart after (laid db (change.Index base name keys)) new_allowed);
     columns = moved_three same_owner grouped_attributes.itself grouped_attributes.turned
-        (relation_attributes_same f after db (change.Index base name keys) stands new_stands agree (λ r at. at))
-        (view_attributes_same f after db (change.Index base name keys) stands new_stands agree (λ v at. at))
-        (moved_in same_owner grouped_attributes.itself grouped_attributes.turned (λ (x : Index). attributes f x.info) (λ (x : Index). attributes after x.info) db.indexes by_key made (tied_itself key_total made.info.key) (index_attributes after (laid db (change.Index base name keys)) new_stands) fresh
-        (λ x at. index_attributes_stay f after db (change.Index base name keys) stands new_stands agree x at (kept x at)))
-        (attributes_are_apart f db stands) (attributes_are_apart after (laid db (change.Index base name keys)) new_stands);
-    trees = trees_same f after db (change.Index base name keys) stands new_stands agree (λ v at. at) (λ p at. at) (λ p at. at) (trees_are_apart after (laid db (change.Index base name keys)) new_stands);
+        (relation_attributes_same f after db (change.Index base name keys) stands new_allowed agree (λ r at. at))
+        (view_attributes_same f after db (change.Index base name keys) stands new_allowed agree (λ v at. at))
+        (moved_in same_owner grouped_attributes.itself grouped_attributes.turned (λ (x : Index). attributes f x.info) (λ (x : Index). attributes after x.info) db.indexes by_key made (tied_itself key_total made.info.key) (index_attributes after (laid db (change.Index base name keys)) new_allowed) fresh
+        (λ x at. index_attributes_stay f after db (change.Index base name keys) stands new_allowed agree x at (kept x at)))
+        (attributes_are_apart f db stands) (attributes_are_apart after (laid db (change.Index base name keys)) new_allowed);
+    trees = trees_same f after db (change.Index base name keys) stands new_allowed agree (λ v at. at) (λ p at. at) (λ p at. at) (trees_are_apart after (laid db (change.Index base name keys)) new_allowed);
   }
     where
       fresh : (x : Index) → IsIn x db.indexes → by_key made x ≡ Equal → ⊥

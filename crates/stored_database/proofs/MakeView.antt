@@ -32,7 +32,7 @@ module _ (info : RelInfo) (query : Query) where
 
   pub view : Moves (change.View info query)
   unfolding made laid going coming entries_for adds_what_is_new resizes
-  view db f after stands new_stands lawful agree = record {
+  view db f after stands new_allowed lawful agree = record {
     gone_attributes = [];
     come_attributes = attributes_for after (record nothing { views = made ∷ [] });
     gone_trees = [];
@@ -42,20 +42,20 @@ module _ (info : RelInfo) (query : Query) where
     gone_parts_are = refl;
     come_parts_are = parts_are after (record nothing { views = made ∷ [] });
     entries = moved_three same_file grouped_entries.itself grouped_entries.turned
-        (relations_same f after db (change.View info query) stands new_stands agree (λ r at. at) (λ r. refl))
-        (moved_in same_file grouped_entries.itself grouped_entries.turned (view_entry f) (view_entry after) db.views by_key made (tied_itself key_total made.info.key) (view_entries after (laid db (change.View info query)) new_stands) fresh
-        (λ v at. view_stays f after db (change.View info query) stands new_stands agree v at (kept v at)))
-        (indexes_same f after db (change.View info query) stands new_stands agree (λ x at. at)) (entries_are_apart f db stands) (entries_are_apart after (laid db (change.View info query)) new_stands);
+        (relations_same f after db (change.View info query) stands new_allowed agree (λ r at. at) (λ r. refl))
+        (moved_in same_file grouped_entries.itself grouped_entries.turned (view_entry f) (view_entry after) db.views by_key made (tied_itself key_total made.info.key) (view_entries after (laid db (change.View info query)) new_allowed) fresh
+        (λ v at. view_stays f after db (change.View info query) stands new_allowed agree v at (kept v at)))
+        (indexes_same f after db (change.View info query) stands new_allowed agree (λ x at. at)) (entries_are_apart f db stands) (entries_are_apart after (laid db (change.View info query)) new_allowed);
     columns = moved_three same_owner grouped_attributes.itself grouped_attributes.turned
-        (relation_attributes_same f after db (change.View info query) stands new_stands agree (λ r at. at))
-        (moved_in same_owner grouped_attributes.itself grouped_attributes.turned (λ (v : View). attributes f v.info) (λ (v : View). attributes after v.info) db.views by_key made (tied_itself key_total made.info.key) (view_attributes after (laid db (change.View info query)) new_stands) fresh
-        (λ v at. view_attributes_stay f after db (change.View info query) stands new_stands agree v at (kept v at)))
-        (index_attributes_same f after db (change.View info query) stands new_stands agree (λ x at. at)) (attributes_are_apart f db stands) (attributes_are_apart after (laid db (change.View info query)) new_stands);
+        (relation_attributes_same f after db (change.View info query) stands new_allowed agree (λ r at. at))
+        (moved_in same_owner grouped_attributes.itself grouped_attributes.turned (λ (v : View). attributes f v.info) (λ (v : View). attributes after v.info) db.views by_key made (tied_itself key_total made.info.key) (view_attributes after (laid db (change.View info query)) new_allowed) fresh
+        (λ v at. view_attributes_stay f after db (change.View info query) stands new_allowed agree v at (kept v at)))
+        (index_attributes_same f after db (change.View info query) stands new_allowed agree (λ x at. at)) (attributes_are_apart f db stands) (attributes_are_apart after (laid db (change.View info query)) new_allowed);
     trees = moved_three same_tree grouped_trees.itself grouped_trees.turned
-        (moved_in same_tree grouped_trees.itself grouped_trees.turned (view_tree f) (view_tree after) db.views by_key made (tied_itself key_total made.info.key) (view_trees after (laid db (change.View info query)) new_stands) fresh
-        (λ v at. view_tree_stays f after db (change.View info query) stands new_stands agree v at (kept v at)))
-        (rule_trees_same f after db (change.View info query) stands new_stands agree (λ p at. at))
-        (permit_trees_same f after db (change.View info query) stands new_stands agree (λ p at. at)) (trees_are_apart f db stands) (trees_are_apart after (laid db (change.View info query)) new_stands);
+        (moved_in same_tree grouped_trees.itself grouped_trees.turned (view_tree f) (view_tree after) db.views by_key made (tied_itself key_total made.info.key) (view_trees after (laid db (change.View info query)) new_allowed) fresh
+        (λ v at. view_tree_stays f after db (change.View info query) stands new_allowed agree v at (kept v at)))
+        (rule_trees_same f after db (change.View info query) stands new_allowed agree (λ p at. at))
+        (permit_trees_same f after db (change.View info query) stands new_allowed agree (λ p at. at)) (trees_are_apart f db stands) (trees_are_apart after (laid db (change.View info query)) new_allowed);
   }
     where
       fresh : (v : View) → IsIn v db.views → by_key made v ≡ Equal → ⊥

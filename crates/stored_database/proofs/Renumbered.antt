@@ -40,7 +40,7 @@ neither : (a b : Bool) → (a || b) ≡ false → (a ≡ false) × (b ≡ false)
 neither true b e = absurd (true≢false e)
 neither false b e = (refl, e)
 
-module _ (key : RelKey) (db : Db) (f g : Files) (stands : Stands f db) (new_stands : Stands g db) (differ : DifferAt key f g) where
+module _ (key : RelKey) (db : Db) (f g : Files) (stands : Stands f db) (new_allowed : Stands g db) (differ : DifferAt key f g) where
   -- ---- what stays
 
   relation_stays : (r : Relation) → has_key (key ∷ []) r.info.key ≡ false → relation_entry g r ≡ relation_entry f r
@@ -95,23 +95,23 @@ module _ (key : RelKey) (db : Db) (f g : Files) (stands : Stands f db) (new_stan
     gone_parts_are = parts_are f (destroyed (key ∷ []) db);
     come_parts_are = parts_are g (destroyed (key ∷ []) db);
     entries = moved_three same_file grouped_entries.itself grouped_entries.turned
-        (moved_again same_file grouped_entries.itself grouped_entries.turned (relation_entry f) (relation_entry g) db.relations (λ r. has_key (key ∷ []) r.info.key) (relation_entries f db stands) (relation_entries g db new_stands) (λ r at off. relation_stays r off))
-        (moved_again same_file grouped_entries.itself grouped_entries.turned (view_entry f) (view_entry g) db.views (λ v. has_key (key ∷ []) v.info.key) (view_entries f db stands) (view_entries g db new_stands) (λ v at off. view_stays v off))
-        (moved_again same_file grouped_entries.itself grouped_entries.turned (index_entry f) (index_entry g) db.indexes (λ x. has_key (key ∷ []) x.info.key || has_key (key ∷ []) x.base) (index_entries f db stands) (index_entries g db new_stands) (λ x at off. index_stays x off))
-        (entries_are_apart f db stands) (entries_are_apart g db new_stands);
+        (moved_again same_file grouped_entries.itself grouped_entries.turned (relation_entry f) (relation_entry g) db.relations (λ r. has_key (key ∷ []) r.info.key) (relation_entries f db stands) (relation_entries g db new_allowed) (λ r at off. relation_stays r off))
+        (moved_again same_file grouped_entries.itself grouped_entries.turned (view_entry f) (view_entry g) db.views (λ v. has_key (key ∷ []) v.info.key) (view_entries f db stands) (view_entries g db new_allowed) (λ v at off. view_stays v off))
+        (moved_again same_file grouped_entries.itself grouped_entries.turned (index_entry f) (index_entry g) db.indexes (λ x. has_key (key ∷ []) x.info.key || has_key (key ∷ []) x.base) (index_entries f db stands) (index_entries g db new_allowed) (λ x at off. index_stays x off))
+        (entries_are_apart f db stands) (entries_are_apart g db new_allowed);
     columns = moved_three same_owner grouped_attributes.itself grouped_attributes.turned
-        (moved_again same_owner grouped_attributes.itself grouped_attributes.turned (λ (r : Relation). attributes f r.info) (λ (r : Relation). attributes g r.info) db.relations (λ r. has_key (key ∷ []) r.info.key) (relation_attributes f db stands) (relation_attributes g db new_stands)
+        (moved_again same_owner grouped_attributes.itself grouped_attributes.turned (λ (r : Relation). attributes f r.info) (λ (r : Relation). attributes g r.info) db.relations (λ r. has_key (key ∷ []) r.info.key) (relation_attributes f db stands) (relation_attributes g db new_allowed)
         (λ r at off. attributes_stay r.info off))
-        (moved_again same_owner grouped_attributes.itself grouped_attributes.turned (λ (v : View). attributes f v.info) (λ (v : View). attributes g v.info) db.views (λ v. has_key (key ∷ []) v.info.key) (view_attributes f db stands) (view_attributes g db new_stands)
+        (moved_again same_owner grouped_attributes.itself grouped_attributes.turned (λ (v : View). attributes f v.info) (λ (v : View). attributes g v.info) db.views (λ v. has_key (key ∷ []) v.info.key) (view_attributes f db stands) (view_attributes g db new_allowed)
         (λ v at off. attributes_stay v.info off))
-        (moved_again same_owner grouped_attributes.itself grouped_attributes.turned (λ (x : Index). attributes f x.info) (λ (x : Index). attributes g x.info) db.indexes (λ x. has_key (key ∷ []) x.info.key || has_key (key ∷ []) x.base) (index_attributes f db stands) (index_attributes g db new_stands)
+        (moved_again same_owner grouped_attributes.itself grouped_attributes.turned (λ (x : Index). attributes f x.info) (λ (x : Index). attributes g x.info) db.indexes (λ x. has_key (key ∷ []) x.info.key || has_key (key ∷ []) x.base) (index_attributes f db stands) (index_attributes g db new_allowed)
         (λ x at off. index_attributes_stay x off))
-        (attributes_are_apart f db stands) (attributes_are_apart g db new_stands);
+        (attributes_are_apart f db stands) (attributes_are_apart g db new_allowed);
     trees = moved_three same_tree grouped_trees.itself grouped_trees.turned
-        (moved_again same_tree grouped_trees.itself grouped_trees.turned (view_tree f) (view_tree g) db.views (λ v. has_key (key ∷ []) v.info.key) (view_trees f db stands) (view_trees g db new_stands) (λ v at off. view_tree_stays v off))
-        (moved_again same_tree grouped_trees.itself grouped_trees.turned (rule_tree f) (rule_tree g) db.rules (λ p. has_key (key ∷ []) p.0) (rule_trees f db stands) (rule_trees g db new_stands) (λ p at off. rule_tree_stays p off))
-        (moved_again same_tree grouped_trees.itself grouped_trees.turned (permit_tree f) (permit_tree g) db.permits (λ p. has_key (key ∷ []) p.0) (permit_trees f db stands) (permit_trees g db new_stands) (λ p at off. permit_tree_stays p off))
-        (trees_are_apart f db stands) (trees_are_apart g db new_stands);
+        (moved_again same_tree grouped_trees.itself grouped_trees.turned (view_tree f) (view_tree g) db.views (λ v. has_key (key ∷ []) v.info.key) (view_trees f db stands) (view_trees g db new_allowed) (λ v at off. view_tree_stays v off))
+        (moved_again same_tree grouped_trees.itself grouped_trees.turned (rule_tree f) (rule_tree g) db.rules (λ p. has_key (key ∷ []) p.0) (rule_trees f db stands) (rule_trees g db new_allowed) (λ p at off. rule_tree_stays p off))
+        (moved_again same_tree grouped_trees.itself grouped_trees.turned (permit_tree f) (permit_tree g) db.permits (λ p. has_key (key ∷ []) p.0) (permit_trees f db stands) (permit_trees g db new_allowed) (λ p at off. permit_tree_stays p off))
+        (trees_are_apart f db stands) (trees_are_apart g db new_allowed);
   }
 
 -- ---- the laws

@@ -9,7 +9,7 @@ use Rattle.std.specs.declared.cmp.Ordering.{Ordering}
 use Rattle.calculus.specs.declared.schema.Attr.{Attr}
 use Rattle.calculus.specs.declared.schema.RelInfo.{RelInfo}
 use Rattle.calculus.specs.Database.{Db, Relation, Index, View, entries, is_relation}
-use Rattle.calculus.specs.IsDatabase.{IsDatabase, row_qual_stands, permit_stands}
+use Rattle.calculus.specs.IsDatabase.{IsDatabase, valid_row_qual, valid_permit}
 use Rattle.calculus.specs.Lists.{differ_by}
 use Rattle.page_chain.specs.Lists.{in_order}
 use Rattle.stored_database.specs.Catalogue.{Catalogue}
@@ -108,13 +108,13 @@ module _ (f : Files) (db : Db) (s : Stands f db) where
 
   pub rules_there : AllByRecursion (λ p. is_relation db p.0 ≡ true) db.rules
   rules_there =
-      all_then (λ p. (is_relation db p.0 && row_qual_stands db p.0 p.1.qual) ≡ true) (λ p. is_relation db p.0 ≡ true) db.rules
-      (λ p e. (both (is_relation db p.0) (row_qual_stands db p.0 p.1.qual) e).0) (pass_all (λ p. is_relation db p.0 && row_qual_stands db p.0 p.1.qual) db.rules s.is.rules_stand)
+      all_then (λ p. (is_relation db p.0 && valid_row_qual db p.0 p.1.qual) ≡ true) (λ p. is_relation db p.0 ≡ true) db.rules
+      (λ p e. (both (is_relation db p.0) (valid_row_qual db p.0 p.1.qual) e).0) (pass_all (λ p. is_relation db p.0 && valid_row_qual db p.0 p.1.qual) db.rules s.is.rules_stand)
 
   pub permits_there : AllByRecursion (λ p. is_relation db p.0 ≡ true) db.permits
   permits_there =
-      all_then (λ p. permit_stands db p.0 p.1 ≡ true) (λ p. is_relation db p.0 ≡ true) db.permits
-      (λ p e. (both (is_relation db p.0) _ e).0) (pass_all (λ p. permit_stands db p.0 p.1) db.permits s.is.permits_stand)
+      all_then (λ p. valid_permit db p.0 p.1 ≡ true) (λ p. is_relation db p.0 ≡ true) db.permits
+      (λ p e. (both (is_relation db p.0) _ e).0) (pass_all (λ p. valid_permit db p.0 p.1) db.permits s.is.permits_stand)
 
   pub trees_are_apart : Pairs (λ t u. same_tree t u ≡ false) (trees_for f db)
   trees_are_apart = trees_differ f db s.files_differ s.is.rules_ascend s.is.permits_ascend rules_there permits_there
@@ -177,23 +177,23 @@ pub record MovedAll (f : Files) (db : Db) (after : Files) (new : Db) (going comi
   pub columns : Moved same_owner (attributes_for f db) gone_attributes come_attributes (attributes_for after new)
   pub trees : Moved same_tree (trees_for f db) gone_trees come_trees (trees_for after new)
 
-module _ (f : Files) (db : Db) (after : Files) (new : Db) (going coming : Catalogue) (stands : Stands f db) (new_stands : Stands after new) (all : MovedAll f db after new going coming) where
+module _ (f : Files) (db : Db) (after : Files) (new : Db) (going coming : Catalogue) (stands : Stands f db) (new_allowed : Stands after new) (all : MovedAll f db after new going coming) where
   entries_after : in_order entry_cmp (entries_for after new) ≡ after_change entry_cmp going.entries coming.entries (in_order entry_cmp (entries_for f db))
   entries_after =
       ap (in_order entry_cmp) (sym (singles (entries_for after new)))
-      ∙ set_after grouped_entries (entries_for f db) going.entries coming.entries (entries_for after new) all.entries (entries_are_apart f db stands) (entries_are_apart after new new_stands)
+      ∙ set_after grouped_entries (entries_for f db) going.entries coming.entries (entries_for after new) all.entries (entries_are_apart f db stands) (entries_are_apart after new new_allowed)
       ∙ (λ i. after_change entry_cmp (singles going.entries i) (singles coming.entries i) (in_order entry_cmp (singles (entries_for f db) i)))
 
   columns_after : in_order column_cmp (columns_for after new) ≡ after_change column_cmp going.columns coming.columns (in_order column_cmp (columns_for f db))
   columns_after =
       ap (in_order column_cmp) (columns_are after new)
-      ∙ set_after grouped_attributes (attributes_for f db) all.gone_attributes all.come_attributes (attributes_for after new) all.columns (attributes_are_apart f db stands) (attributes_are_apart after new new_stands)
+      ∙ set_after grouped_attributes (attributes_for f db) all.gone_attributes all.come_attributes (attributes_for after new) all.columns (attributes_are_apart f db stands) (attributes_are_apart after new new_allowed)
       ∙ (λ i. after_change column_cmp (sym all.gone_columns_are i) (sym all.come_columns_are i) (in_order column_cmp (sym (columns_are f db) i)))
 
   parts_after : in_order part_cmp (parts_for after new) ≡ after_change part_cmp going.parts coming.parts (in_order part_cmp (parts_for f db))
   parts_after =
       ap (in_order part_cmp) (parts_are after new)
-      ∙ set_after grouped_trees (trees_for f db) all.gone_trees all.come_trees (trees_for after new) all.trees (trees_are_apart f db stands) (trees_are_apart after new new_stands)
+      ∙ set_after grouped_trees (trees_for f db) all.gone_trees all.come_trees (trees_for after new) all.trees (trees_are_apart f db stands) (trees_are_apart after new new_allowed)
       ∙ (λ i. after_change part_cmp (sym all.gone_parts_are i) (sym all.come_parts_are i) (in_order part_cmp (sym (parts_are f db) i)))
 
   pub catalogue_after : printed new after ≡ changed going coming (printed db f)
@@ -203,17 +203,17 @@ module _ (f : Files) (db : Db) (after : Files) (new : Db) (going coming : Catalo
   entries_change : IsChange entry_cmp going.entries coming.entries (in_order entry_cmp (entries_for f db))
   entries_change =
       carried (singles going.entries) (singles coming.entries) (ap (in_order entry_cmp) (singles (entries_for f db)))
-      (set_changes grouped_entries (entries_for f db) going.entries coming.entries (entries_for after new) all.entries (entries_are_apart f db stands) (entries_are_apart after new new_stands))
+      (set_changes grouped_entries (entries_for f db) going.entries coming.entries (entries_for after new) all.entries (entries_are_apart f db stands) (entries_are_apart after new new_allowed))
 
   columns_change : IsChange column_cmp going.columns coming.columns (in_order column_cmp (columns_for f db))
   columns_change =
       carried (sym all.gone_columns_are) (sym all.come_columns_are) (ap (in_order column_cmp) (sym (columns_are f db)))
-      (set_changes grouped_attributes (attributes_for f db) all.gone_attributes all.come_attributes (attributes_for after new) all.columns (attributes_are_apart f db stands) (attributes_are_apart after new new_stands))
+      (set_changes grouped_attributes (attributes_for f db) all.gone_attributes all.come_attributes (attributes_for after new) all.columns (attributes_are_apart f db stands) (attributes_are_apart after new new_allowed))
 
   parts_change : IsChange part_cmp going.parts coming.parts (in_order part_cmp (parts_for f db))
   parts_change =
       carried (sym all.gone_parts_are) (sym all.come_parts_are) (ap (in_order part_cmp) (sym (parts_are f db)))
-      (set_changes grouped_trees (trees_for f db) all.gone_trees all.come_trees (trees_for after new) all.trees (trees_are_apart f db stands) (trees_are_apart after new new_stands))
+      (set_changes grouped_trees (trees_for f db) all.gone_trees all.come_trees (trees_for after new) all.trees (trees_are_apart f db stands) (trees_are_apart after new new_allowed))
 
   pub rows_change : AreChanges going coming (printed db f)
   unfolding printed

@@ -20,24 +20,24 @@ use Rattle.stored_database.proofs.Moved.{Moved}
 use Rattle.stored_database.proofs.Three.{attributes, attributes_for, same_file, same_owner, grouped_attributes, Stands, entries_are_apart, attributes_are_apart, trees_are_apart, MovedAll, catalogue_after, rows_change}
 use Rattle.stored_database.proofs.Staying.{relation_stays, view_stays, index_stays, relation_attributes_stay, view_attributes_stay, index_attributes_stay, view_tree_stays, rule_tree_stays, permit_tree_stays}
 
-module _ (f after : Files) (db : Db) (made : DbChange) (stands : Stands f db) (new_stands : Stands after (laid db made)) (agree : Agree db made f after) where
+module _ (f after : Files) (db : Db) (made : DbChange) (stands : Stands f db) (new_allowed : Stands after (laid db made)) (agree : Agree db made f after) where
   -- ---- entries
 
   pub relations_same : ((r : Relation) → IsIn r db.relations → IsIn r (laid db made).relations) → ((r : Relation) → resizes made r.info.key ≡ false)
       → Moved same_file (map (relation_entry f) db.relations) [] [] (map (relation_entry after) db.relations)
   relations_same kept sized =
       moved_none same_file grouped_entries.itself grouped_entries.turned (relation_entry f) (relation_entry after) db.relations
-      (λ r at. relation_stays f after db made stands new_stands agree r r at (kept r at) refl (sized r))
+      (λ r at. relation_stays f after db made stands new_allowed agree r r at (kept r at) refl (sized r))
 
   pub views_same : ((v : View) → IsIn v db.views → IsIn v (laid db made).views) → Moved same_file (map (view_entry f) db.views) [] [] (map (view_entry after) db.views)
   views_same kept =
       moved_none same_file grouped_entries.itself grouped_entries.turned (view_entry f) (view_entry after) db.views
-      (λ v at. view_stays f after db made stands new_stands agree v at (kept v at))
+      (λ v at. view_stays f after db made stands new_allowed agree v at (kept v at))
 
   pub indexes_same : ((x : Index) → IsIn x db.indexes → IsIn x (laid db made).indexes) → Moved same_file (map (index_entry f) db.indexes) [] [] (map (index_entry after) db.indexes)
   indexes_same kept =
       moved_none same_file grouped_entries.itself grouped_entries.turned (index_entry f) (index_entry after) db.indexes
-      (λ x at. index_stays f after db made stands new_stands agree x at (kept x at))
+      (λ x at. index_stays f after db made stands new_allowed agree x at (kept x at))
 
   -- ---- attributes
 
@@ -45,36 +45,36 @@ module _ (f after : Files) (db : Db) (made : DbChange) (stands : Stands f db) (n
       → Moved same_owner (map (λ (r : Relation). attributes f r.info) db.relations) [] [] (map (λ (r : Relation). attributes after r.info) db.relations)
   relation_attributes_same kept =
       moved_none same_owner grouped_attributes.itself grouped_attributes.turned (λ (r : Relation). attributes f r.info) (λ (r : Relation). attributes after r.info) db.relations
-      (λ r at. relation_attributes_stay f after db made stands new_stands agree r r at (kept r at) refl)
+      (λ r at. relation_attributes_stay f after db made stands new_allowed agree r r at (kept r at) refl)
 
   pub view_attributes_same : ((v : View) → IsIn v db.views → IsIn v (laid db made).views)
       → Moved same_owner (map (λ (v : View). attributes f v.info) db.views) [] [] (map (λ (v : View). attributes after v.info) db.views)
   view_attributes_same kept =
       moved_none same_owner grouped_attributes.itself grouped_attributes.turned (λ (v : View). attributes f v.info) (λ (v : View). attributes after v.info) db.views
-      (λ v at. view_attributes_stay f after db made stands new_stands agree v at (kept v at))
+      (λ v at. view_attributes_stay f after db made stands new_allowed agree v at (kept v at))
 
   pub index_attributes_same : ((x : Index) → IsIn x db.indexes → IsIn x (laid db made).indexes)
       → Moved same_owner (map (λ (x : Index). attributes f x.info) db.indexes) [] [] (map (λ (x : Index). attributes after x.info) db.indexes)
   index_attributes_same kept =
       moved_none same_owner grouped_attributes.itself grouped_attributes.turned (λ (x : Index). attributes f x.info) (λ (x : Index). attributes after x.info) db.indexes
-      (λ x at. index_attributes_stay f after db made stands new_stands agree x at (kept x at))
+      (λ x at. index_attributes_stay f after db made stands new_allowed agree x at (kept x at))
 
   -- ---- trees
 
   pub view_trees_same : ((v : View) → IsIn v db.views → IsIn v (laid db made).views) → Moved same_tree (map (view_tree f) db.views) [] [] (map (view_tree after) db.views)
   view_trees_same kept =
       moved_none same_tree grouped_trees.itself grouped_trees.turned (view_tree f) (view_tree after) db.views
-      (λ v at. view_tree_stays f after db made stands new_stands agree v at (kept v at))
+      (λ v at. view_tree_stays f after db made stands new_allowed agree v at (kept v at))
 
   pub rule_trees_same : ((p : RelKey × Rule) → IsIn p db.rules → IsIn p (laid db made).rules) → Moved same_tree (map (rule_tree f) db.rules) [] [] (map (rule_tree after) db.rules)
   rule_trees_same kept =
       moved_none same_tree grouped_trees.itself grouped_trees.turned (rule_tree f) (rule_tree after) db.rules
-      (λ p at. rule_tree_stays f after db made stands new_stands agree p at (kept p at))
+      (λ p at. rule_tree_stays f after db made stands new_allowed agree p at (kept p at))
 
   pub permit_trees_same : ((p : RelKey × Permit) → IsIn p db.permits → IsIn p (laid db made).permits) → Moved same_tree (map (permit_tree f) db.permits) [] [] (map (permit_tree after) db.permits)
   permit_trees_same kept =
       moved_none same_tree grouped_trees.itself grouped_trees.turned (permit_tree f) (permit_tree after) db.permits
-      (λ p at. permit_tree_stays f after db made stands new_stands agree p at (kept p at))
+      (λ p at. permit_tree_stays f after db made stands new_allowed agree p at (kept p at))
 
   -- ---- all of them
 

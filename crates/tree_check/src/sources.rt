@@ -4,14 +4,14 @@ ghost use Rattle.std.specs.Prelude.{◌≡◌, ◌&&◌, length, nat_le, IfOk, S
 ghost use Rattle.std.specs.List.{list_all};
 ghost use Rattle.base_trait.specs.Causes.{HasCause};
 ghost use Rattle.calculus.specs.Database.{Db};
-ghost use Rattle.calculus.specs.IsDatabase.{query_stands};
+ghost use Rattle.calculus.specs.IsDatabase.{valid_query};
 ghost use Rattle.calculus.specs.QueryParts.{vars_of};
 ghost use Rattle.quel_meaning.specs.FitQueries.{has_few_targets, is_kept, kept_alone, source_fits};
 
 use crate::standing::{are_kept, is_kept};
 use base_trait::{Base, BaseFault};
 use calculus::{AggSource, QAgg, Query};
-use change_check::query_stands;
+use change_check::valid_query;
 use std::alloc::Global;
 
 /// The targets that a query has at most.
@@ -48,7 +48,7 @@ pub(crate) fn vars_are_kept<B: Base>(
 
 /// Whether a query may be one whose rows an aggregate is over.
 fn rows_fit<B: Base>(alloc: Global, base: &mut B, q: &Query) -> Result<bool, BaseFault>
-    ensures known { (db : Db) → B.schema base.old ≡ Some db → IfOk result (λ fit. fit ≡ (nat_le (length (vars_of q.now)) 1 && (has_few_targets q.now && (list_all (is_kept db) (vars_of q.now) && query_stands db q.now)))) }
+    ensures known { (db : Db) → B.schema base.old ≡ Some db → IfOk result (λ fit. fit ≡ (nat_le (length (vars_of q.now)) 1 && (has_few_targets q.now && (list_all (is_kept db) (vars_of q.now) && valid_query db q.now)))) }
     ensures kept { B.database base.new ≡ B.database base.old }
     ensures stays { (s : Db) → B.schema base.old ≡ Some s → B.schema base.new ≡ Some s }
     ensures asked { (b : B) → B.asked b base.old → B.asked b base.new }
@@ -63,7 +63,7 @@ fn rows_fit<B: Base>(alloc: Global, base: &mut B, q: &Query) -> Result<bool, Bas
     if !vars_are_kept(alloc, base, q)? {
         return Ok(false);
     }
-    query_stands(alloc, base, q)
+    valid_query(alloc, base, q)
 }
 
 /// Whether an aggregate may be over a source.

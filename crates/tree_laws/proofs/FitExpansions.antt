@@ -12,7 +12,7 @@ use Rattle.calculus.specs.Keys.{same_key}
 use Rattle.calculus.specs.Kinds.{attribute_kind, kind_of, kinds_fit}
 use Rattle.calculus.specs.Who.{Who, Unrestricted, AsUser}
 use Rattle.calculus.specs.Database.{Db, permits_on, is_relation}
-use Rattle.calculus.specs.IsDatabase.{IsDatabase, user_is_named, permit_attrs_stand, permit_stands, row_qual_stands}
+use Rattle.calculus.specs.IsDatabase.{IsDatabase, user_is_named, permit_attrs_stand, valid_permit, valid_row_qual}
 use Rattle.calculus.specs.Stored.{kinds_at}
 use Rattle.calculus.specs.Rights.{Right, covers, needs_none}
 use Rattle.calculus_laws.proofs.Enough.{same_key-exact}
@@ -66,21 +66,21 @@ only_kinds kinds (suc (suc v)) a known h = cc h
 
 module _ (db : Db) (d : IsDatabase db) where
   -- the permits on a key are about its rows
-  permit_fits : (rel : RelKey) (permit : Permit) → permit_stands db rel permit ≡ true → kinds_fit permit.qual (kinds_at db rel ∷ []) ≡ true
+  permit_fits : (rel : RelKey) (permit : Permit) → valid_permit db rel permit ≡ true → kinds_fit permit.qual (kinds_at db rel ∷ []) ≡ true
   permit_fits rel permit h =
       let one = both_true (is_relation db rel) _ h in
       let two = both_true (bytes_eq rel.owner db.dba) _ one.1 in
       let three = both_true (user_is_named permit.user) _ two.1 in
-      (both_true (permit_attrs_stand db rel permit.attrs) (row_qual_stands db rel permit.qual) three.1).1
+      (both_true (permit_attrs_stand db rel permit.attrs) (valid_row_qual db rel permit.qual) three.1).1
 
-  all_about : (key : RelKey) (ps : List (RelKey × Permit)) → list_all (λ p. permit_stands db p.0 p.1) ps ≡ true
+  all_about : (key : RelKey) (ps : List (RelKey × Permit)) → list_all (λ p. valid_permit db p.0 p.1) ps ≡ true
       → list_all (λ p. kinds_fit p.qual (kinds_at db key ∷ [])) (map (λ p. p.1) (filter (λ p. same_key p.0 key) ps)) ≡ true
   all_about key [] h = refl
   all_about key (p ∷ ps) h =
-      let parts = both_true (permit_stands db p.0 p.1) (list_all (λ p. permit_stands db p.0 p.1) ps) h in
+      let parts = both_true (valid_permit db p.0 p.1) (list_all (λ p. valid_permit db p.0 p.1) ps) h in
       by (same_key p.0 key) refl parts.0 (all_about key ps parts.1)
     where
-      by : (b : Bool) → same_key p.0 key ≡ b → permit_stands db p.0 p.1 ≡ true → list_all (λ p. kinds_fit p.qual (kinds_at db key ∷ [])) (map (λ p. p.1) (filter (λ p. same_key p.0 key) ps)) ≡ true
+      by : (b : Bool) → same_key p.0 key ≡ b → valid_permit db p.0 p.1 ≡ true → list_all (λ p. kinds_fit p.qual (kinds_at db key ∷ [])) (map (λ p. p.1) (filter (λ p. same_key p.0 key) ps)) ≡ true
           → list_all (λ p. kinds_fit p.qual (kinds_at db key ∷ [])) (map (λ p. p.1) (cond b (p ∷ filter (λ p. same_key p.0 key) ps) (filter (λ p. same_key p.0 key) ps))) ≡ true
       by true e stands more =
           both_are (kinds_fit p.1.qual (kinds_at db key ∷ [])) (list_all (λ p. kinds_fit p.qual (kinds_at db key ∷ [])) (map (λ p. p.1) (filter (λ p. same_key p.0 key) ps)))

@@ -19,7 +19,7 @@ use Rattle.calculus.specs.Kinds.{kind_of, kinds_fit}
 use Rattle.calculus.specs.Sizes.{query_measure, measure_within, measure_of, level_within, level_of}
 use Rattle.calculus.specs.Who.{Who}
 use Rattle.calculus.specs.Database.{Db, View}
-use Rattle.calculus.specs.IsDatabase.{IsDatabase, has_kind, same_kind, attrs_stand, attrs_are_targets, var_kinds, query_stands}
+use Rattle.calculus.specs.IsDatabase.{IsDatabase, has_kind, same_kind, attrs_stand, attrs_are_targets, var_kinds, valid_query}
 use Rattle.calculus.specs.Stored.{Range, Kept, Viewed, range_info, range_at, info_at}
 use Rattle.calculus.specs.QueryParts.{vars_of, targets_of, qual_of}
 use Rattle.calculus.specs.Used.{used, used_in_query}
@@ -73,7 +73,7 @@ kind_itself kind o e other h same = ap (λ o. has_kind o kind) (sym same) ∙ h
 -- ---- a query over texts that fit
 
 module _ (db : Db) (source : ExpansionSource) (scoped : (key : RelKey) (attrs : List ℕ) → is_scoped (used_expansion source key attrs) ≡ true) (q : Query)
-    (fit : (key : RelKey) → In key (vars_of q) → (attrs : List ℕ) → IsFitExpansion db key (source key attrs)) (stands : query_stands db q ≡ true) where
+    (fit : (key : RelKey) → In key (vars_of q) → (attrs : List ℕ) → IsFitExpansion db key (source key attrs)) (stands : valid_query db q ≡ true) where
   abbrev new : VarKinds
   new = kinds_of db (expansions_vars (query_expansions source q))
 
@@ -92,7 +92,7 @@ module _ (db : Db) (source : ExpansionSource) (scoped : (key : RelKey) (attrs : 
       same_itself None kind h = cc h
       same_itself (Some k) kind h = let same = kind_is k kind h in ap (λ j. same_kind j kind) (sym same) ∙ h
 
-  pub plain_stands : query_stands db (expanded_plain source q) ≡ true
+  pub plain_stands : valid_query db (expanded_plain source q) ≡ true
   plain_stands =
       let put = substituted_from 0 (query_expansions source q) in
       let parts = both_true (list_all (λ t. has_kind (kind_of t.term (var_kinds db q)) t.kind) (targets_of q)) (kinds_fit (qual_of q) (var_kinds db q)) stands in
@@ -139,13 +139,13 @@ module _ (db : Db) (d : IsDatabase db) (who : Who) where
       let expansions = query_expansions (expansion_within n db who) view.query in
       let fit : (other : RelKey) → In other (vars_of view.query) → (attrs : List ℕ) → IsFitExpansion db other (expansion_within n db who other attrs) =
       λ other inside attrs. fits_within db d who n other (below_levels n key view h level other inside) attrs in
-      let stands = all_at (λ v. query_stands db v.query) db.views view (found (λ v. same_key v.info.key key) db.views view (viewed db key view h)).0 d.view_queries_stand in
+      let stands = all_at (λ v. valid_query db v.query) db.views view (found (λ v. same_key v.info.key key) db.views view (viewed db key view h)).0 d.view_queries_stand in
       let counts = query_counts (measure_within n db) (expansion_within n db who) (within_counts n db who) view.query 0 (vars_of view.query) in
       let few : (query_measure (measure_within n db) view.query).variables ≤ 1 = subst (λ m. m.variables ≤ 1) (view_measure n key view h) one in
       let short : nat_le (length (expansions_vars expansions)) 1 ≡ true = grind (arith, nat_tests, counts, few) in
       both_are (list_all (is_kept db) (expansions_vars expansions)) _ (query_kept db (expansion_within n db who) (within_scoped n) view.query fit)
       (both_are (nat_le (length (expansions_vars expansions)) 1) _ short
-      (both_are (has_few_targets (expanded_plain (expansion_within n db who) view.query)) (query_stands db (expanded_plain (expansion_within n db who) view.query))
+      (both_are (has_few_targets (expanded_plain (expansion_within n db who) view.query)) (valid_query db (expanded_plain (expansion_within n db who) view.query))
       (few_targets no_aggregate expansions view.query (view_few key view h)) (plain_stands db (expansion_within n db who) (within_scoped n) view.query fit stands)))
 
   -- what may be ranged over is there
@@ -199,8 +199,8 @@ module _ (db : Db) (d : IsDatabase db) (who : Who) where
   unfolding source_fits
   query_source q h =
       let one = both_true (list_all may.source (vars_of q)) _ h in
-      let two = both_true (nat_le (length (vars_of q)) 1) (has_few_targets q && query_stands db q) one.1 in
-      let three = both_true (has_few_targets q) (query_stands db q) two.1 in
+      let two = both_true (nat_le (length (vars_of q)) 1) (has_few_targets q && valid_query db q) one.1 in
+      let three = both_true (has_few_targets q) (valid_query db q) two.1 in
       let fit = vars_fit (vars_of q) (allowed_there (vars_of q) one.0) in
       let expansions = query_expansions (expansion_of db who) q in
       let counts = query_counts (measure_of db) (expansion_of db who) (all_count db who) q 0 (vars_of q) in
@@ -210,7 +210,7 @@ module _ (db : Db) (d : IsDatabase db) (who : Who) where
       let short : nat_le (length (expansions_vars expansions)) 1 ≡ true = grind (arith, nat_tests, counts, few) in
       both_are (list_all (is_kept db) (expansions_vars expansions)) _ (query_kept db (expansion_of db who) of_scoped q fit)
       (both_are (nat_le (length (expansions_vars expansions)) 1) _ short
-      (both_are (has_few_targets (expanded_plain (expansion_of db who) q)) (query_stands db (expanded_plain (expansion_of db who) q))
+      (both_are (has_few_targets (expanded_plain (expansion_of db who) q)) (valid_query db (expanded_plain (expansion_of db who) q))
       (few_targets no_aggregate expansions q three.0) (plain_stands db (expansion_of db who) of_scoped q fit three.1)))
 
   range_source : (key : RelKey) (r : Option Range) → range_at db key ≡ r → may.source key ≡ true → source_fits (kept_alone db) db (expanded_range db who key r) ≡ true

@@ -12,7 +12,7 @@ use Rattle.calculus.specs.declared.query.Query.{Query}
 use Rattle.calculus.specs.Lists.{is_any}
 use Rattle.calculus.specs.Kinds.{kind_of, comparable, kinds_fit}
 use Rattle.calculus.specs.Database.{Db}
-use Rattle.calculus.specs.IsDatabase.{has_kind, var_kinds, query_stands}
+use Rattle.calculus.specs.IsDatabase.{has_kind, var_kinds, valid_query}
 use Rattle.calculus.specs.Stored.{kinds_at}
 use Rattle.calculus.specs.QueryParts.{vars_of, targets_of, qual_of}
 use Rattle.calculus.specs.Used.{used, used_in_qual, used_in_query}
@@ -150,7 +150,7 @@ module _ (db : Db) (source : ExpansionSource) (scoped : (key : RelKey) (attrs : 
   query_kept = each_kept 0 (vars_of q) fit
 
   -- the expansion of its rows
-  pub rows_fit : (key : RelKey) → kinds_at db key ≡ map (λ t. t.kind) (targets_of q) → query_stands db q ≡ true → is_scoped (rows_expansion (query_expansions source q) q) ≡ true
+  pub rows_fit : (key : RelKey) → kinds_at db key ≡ map (λ t. t.kind) (targets_of q) → valid_query db q ≡ true → is_scoped (rows_expansion (query_expansions source q) q) ≡ true
       → IsFitExpansion db key (rows_expansion (query_expansions source q) q)
   rows_fit key kinds stands is_within = record {
     scoped = is_within;

@@ -11,7 +11,7 @@ use Rattle.calculus.specs.Limits.{greatest_level}
 use Rattle.calculus.specs.Sizes.{Measure, Known, plain_measure, query_measure, range_measure, measure_within, measure_of, level_above, level_within, level_of}
 use Rattle.calculus.specs.Who.{Who}
 use Rattle.calculus.specs.Database.{Db, View, Relation}
-use Rattle.calculus.specs.IsDatabase.{IsDatabase, query_stands}
+use Rattle.calculus.specs.IsDatabase.{IsDatabase, valid_query}
 use Rattle.calculus.specs.Stored.{Range, Kept, Viewed, range_at}
 use Rattle.calculus.specs.Rights.{Retrieve}
 use Rattle.calculus.specs.QueryParts.{vars_of}
@@ -85,7 +85,7 @@ module _ (db : Db) (d : IsDatabase db) (who : Who) where
         λ level attrs.
             rows_fit db g (used_scoped g scoped) view.query
             (λ other inside attrs. (below other).1 (all_in (λ k. is_some (f k) ≡ true) (vars_of view.query) (all_there f (vars_of view.query) level) other inside) attrs)
-            key (view_kinds db d who key view h) (all_at (λ v. query_stands db v.query) db.views view (found (λ v. same_key v.info.key key) db.views view (viewed db key view h)).0 d.view_queries_stand) is_within,
+            key (view_kinds db d who key view h) (all_at (λ v. valid_query db v.query) db.views view (found (λ v. same_key v.info.key key) db.views view (viewed db key view h)).0 d.view_queries_stand) is_within,
       )
 
   within_where : (n : ℕ) (key : RelKey) → FitsWhere key (level_within n db key) (expansion_within n db who key)

@@ -13,7 +13,7 @@ use Rattle.calculus.specs.Tree.{neg, abs, operation, concat, rows_of_query, term
 use Rattle.calculus.specs.TreeLevels.{term_levels, source_levels, greatest_term_levels, qual_levels, query_levels}
 use Rattle.calculus.specs.Who.{Who}
 use Rattle.calculus.specs.Database.{Db}
-use Rattle.calculus.specs.IsDatabase.{IsDatabase, query_stands}
+use Rattle.calculus.specs.IsDatabase.{IsDatabase, valid_query}
 use Rattle.calculus.specs.Stored.{Range, Kept, Viewed, range_at}
 use Rattle.calculus.specs.Rights.{Retrieve}
 use Rattle.calculus.specs.QueryParts.{vars_of, targets_of, qual_of, query_aggregates, term_aggregates, qual_aggregates}
@@ -186,8 +186,8 @@ module _ (db : Db) (d : IsDatabase db) (who : Who) where
   unfolding source_fits
   source_low (Named key) h = let low = named_low key in omega (arith, low)
   source_low (rows_of_query q) h =
-      let parts = both_true (list_all (kept_or_viewed db).source (vars_of q)) (nat_le (length (vars_of q)) 1 && (has_few_targets q && query_stands db q)) h in
-      let short = le_is (length (vars_of q)) 1 (both_true (nat_le (length (vars_of q)) 1) (has_few_targets q && query_stands db q) parts.1).0 in
+      let parts = both_true (list_all (kept_or_viewed db).source (vars_of q)) (nat_le (length (vars_of q)) 1 && (has_few_targets q && valid_query db q)) h in
+      let short = le_is (length (vars_of q)) 1 (both_true (nat_le (length (vars_of q)) 1) (has_few_targets q && valid_query db q) parts.1).0 in
       plain_low q short
 
   -- ---- aggregates

@@ -11,7 +11,7 @@ use Rattle.calculus.specs.Limits.{greatest_level}
 use Rattle.calculus.specs.Who.{Who, Unrestricted}
 use Rattle.calculus.specs.Database.{Db, Relation, View, relation_at, view_at}
 use Rattle.calculus.specs.Catalogue.{catalogue_at}
-use Rattle.calculus.specs.IsDatabase.{IsDatabase, query_stands}
+use Rattle.calculus.specs.IsDatabase.{IsDatabase, valid_query}
 use Rattle.calculus.specs.Stored.{Range, Kept, Viewed, range_at, rows_at, kept_rows}
 use Rattle.calculus.specs.Rights.{Retrieve, may}
 use Rattle.calculus.specs.Rows.{Row}
@@ -55,7 +55,7 @@ viewed db key view h = viewed_one (relation_at db key) (catalogue_at db key) (vi
 pub plain_view : (db : Db) → IsDatabase db → (key : RelKey) (view : View) → range_at db key ≡ Some (Viewed view) → query_aggregates view.query ≡ []
 plain_view db d key view h =
     stands_plain db view.query
-    (all_at (λ v. query_stands db v.query) db.views view (found (λ v. same_key v.info.key key) db.views view (viewed db key view h)).0 d.view_queries_stand)
+    (all_at (λ v. valid_query db v.query) db.views view (found (λ v. same_key v.info.key key) db.views view (viewed db key view h)).0 d.view_queries_stand)
 
 -- ---- sound texts
 

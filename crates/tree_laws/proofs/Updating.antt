@@ -28,7 +28,7 @@ use Rattle.calculus.specs.QueryParts.{vars_of, targets_of, qual_of, query_aggreg
 use Rattle.calculus.specs.Assignments.{choices, is_changed}
 use Rattle.calculus.specs.Targets.{target_values, some_lacks}
 use Rattle.calculus.specs.Aggregate.{aggregates}
-use Rattle.calculus.specs.Pairs.{pair_of, is_append, new_stands, pair_stands, pairs}
+use Rattle.calculus.specs.Pairs.{pair_of, is_append, new_allowed, pair_allowed, pairs}
 use Rattle.calculus.specs.Replacement.{without_rows, after, contended, made_attr, wanted_kinds, all_fit, update_lacks, values_fit, rows_after, first_refusal, made_info, updated}
 use Rattle.calculus.proofs.OldRows.{seen_qualifying, pair_in, pairs_with_old, lacks_with_old, fit_with_old}
 use Rattle.calculus.proofs.Sets.{Ascends-set_of, Ascends-nil}
@@ -171,7 +171,7 @@ module _ (db : Db) (d : IsDatabase db) (who : Who) (u : Update) (nest : aggregat
   append_by op.Delete row = refl
   append_by op.Into row = refl
 
-  new_same : (row : Row) → new_stands db Unrestricted put row ≡ new_stands db who u row
+  new_same : (row : Row) → new_allowed db Unrestricted put row ≡ new_allowed db who u row
   unfolding expanded_update
   new_same row = ap (λ b. list_all (λ q. holds no_aggs q (row ∷ [])) u.checks && b) (append_by u.op row)
 
@@ -179,10 +179,10 @@ module _ (db : Db) (d : IsDatabase db) (who : Who) (u : Update) (nest : aggregat
   abbrev stands_by : (Row → Bool) → Option Row → Bool
   stands_by test new = elim new [ None ↦ true | Some row ↦ test row ]
 
-  stands_same : (p : Pair) → pair_stands db Unrestricted put p ≡ pair_stands db who u p
+  stands_same : (p : Pair) → pair_allowed db Unrestricted put p ≡ pair_allowed db who u p
   stands_same p = by p.new
     where
-      by : (new : Option Row) → stands_by (new_stands db Unrestricted put) new ≡ stands_by (new_stands db who u) new
+      by : (new : Option Row) → stands_by (new_allowed db Unrestricted put) new ≡ stands_by (new_allowed db who u) new
       by None = refl
       by (Some row) = new_same row
 
@@ -220,20 +220,20 @@ module _ (db : Db) (d : IsDatabase db) (who : Who) (u : Update) (nest : aggregat
 
   to_pairs : Within (pairs db who u) (pairs db Unrestricted put)
   to_pairs p h =
-      let (given, stands) = filter-In (pair_stands db who u) (filter_map (pair_in db who u) (seen_qualifying db who u)) p (subst (In p) (pairs_with_old db who u) h) in
+      let (given, stands) = filter-In (pair_allowed db who u) (filter_map (pair_in db who u) (seen_qualifying db who u)) p (subst (In p) (pairs_with_old db who u) h) in
       let (e, inside, is) = filter_map-In (pair_in db who u) (seen_qualifying db who u) p given in
       let (f, there, by) = to_qualifying e inside in
       subst (In p) (sym (pairs_with_old db Unrestricted put))
-      (In-filter (pair_stands db Unrestricted put) (filter_map (pair_in db Unrestricted put) (seen_qualifying db Unrestricted put)) p
+      (In-filter (pair_allowed db Unrestricted put) (filter_map (pair_in db Unrestricted put) (seen_qualifying db Unrestricted put)) p
       (In-filter_map (pair_in db Unrestricted put) (seen_qualifying db Unrestricted put) f p there (pair_same e f by ∙ is)) (stands_same p ∙ stands))
 
   from_pairs : Within (pairs db Unrestricted put) (pairs db who u)
   from_pairs p h =
-      let (given, stands) = filter-In (pair_stands db Unrestricted put) (filter_map (pair_in db Unrestricted put) (seen_qualifying db Unrestricted put)) p (subst (In p) (pairs_with_old db Unrestricted put) h) in
+      let (given, stands) = filter-In (pair_allowed db Unrestricted put) (filter_map (pair_in db Unrestricted put) (seen_qualifying db Unrestricted put)) p (subst (In p) (pairs_with_old db Unrestricted put) h) in
       let (f, inside, is) = filter_map-In (pair_in db Unrestricted put) (seen_qualifying db Unrestricted put) p given in
       let (e, there, by) = from_qualifying f inside in
       subst (In p) (sym (pairs_with_old db who u))
-      (In-filter (pair_stands db who u) (filter_map (pair_in db who u) (seen_qualifying db who u)) p
+      (In-filter (pair_allowed db who u) (filter_map (pair_in db who u) (seen_qualifying db who u)) p
       (In-filter_map (pair_in db who u) (seen_qualifying db who u) e p there (sym (pair_same e f by) ∙ is)) (sym (stands_same p) ∙ stands))
 
   -- ---- what refuses it

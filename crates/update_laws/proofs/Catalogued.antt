@@ -16,7 +16,7 @@ use Rattle.calculus.specs.Value.{row_cmp}
 use Rattle.calculus.specs.Database.{Db, Relation, Index, entries, is_relation}
 use Rattle.calculus.specs.Catalogue.{is_catalogue_name, relation_key, attribute_key, relation_info, attribute_info, relation_attrs, attribute_attrs, all_entries, relation_row, format_text, attribute_row, attribute_rows, catalogue_at}
 use Rattle.calculus.specs.Structures.{is_index, spec_text}
-use Rattle.calculus.specs.IsDatabase.{IsDatabase, key_is_named, attrs_stand, is_kind, index_stands}
+use Rattle.calculus.specs.IsDatabase.{IsDatabase, key_is_named, attrs_stand, is_kind, valid_index}
 use Rattle.quel_meaning.proofs.DatabaseFacts.{stood}
 use Rattle.quel_meaning.proofs.Each.{Each, both_of, in_map, in_flat_map, each_to, each_passes}
 use Rattle.update_laws.specs.Proper.{row_is_proper}
@@ -81,7 +81,7 @@ standing_are_texts attrs h =
     let facts = stood attrs h in
     each_is_text attrs (each_passes (λ a. is_name a.name) attrs facts.named) (each_passes (λ a. is_kind a.kind) attrs facts.kinds)
 
-index_is_text : (db : Db) (x : Index) → IsTrue (index_stands db x) → AttrsAreTexts x.info
+index_is_text : (db : Db) (x : Index) → IsTrue (valid_index db x) → AttrsAreTexts x.info
 index_is_text db x h = none x.info.attrs (both (not (is_any x.info.attrs)) _ (both (is_relation db x.base) _ (both (is_index x.info.spec) _ h).1).1).0
   where
     none : (attrs : List Attr) → IsTrue (not (is_any attrs)) → Each (λ a. IsTrue (attr_is_text a)) attrs
@@ -114,7 +114,7 @@ entries_are_texts db is =
 
     of_indexes : Each AttrsAreTexts (map (λ x. x.info) db.indexes)
     of_indexes = in_map AttrsAreTexts (λ x. x.info) db.indexes
-        (each_to (λ x. IsTrue (index_stands db x)) (λ x. AttrsAreTexts x.info) (index_is_text db) db.indexes (each_passes (index_stands db) db.indexes is.indexes_stand))
+        (each_to (λ x. IsTrue (valid_index db x)) (λ x. AttrsAreTexts x.info) (index_is_text db) db.indexes (each_passes (valid_index db) db.indexes is.indexes_stand))
 
     attributed : Each AttrsAreTexts (entries db)
     attributed = both_of AttrsAreTexts (map (λ r. r.info) db.relations) (map (λ v. v.info) db.views ++ map (λ x. x.info) db.indexes) of_relations

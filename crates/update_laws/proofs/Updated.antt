@@ -25,7 +25,7 @@ use Rattle.calculus.specs.Targets.{target_values}
 use Rattle.calculus.specs.VariableRows.{rows_of}
 use Rattle.calculus.specs.Aggregate.{aggregates}
 use Rattle.calculus.specs.IsDatabase.{IsDatabase, are_stored, row_fits}
-use Rattle.calculus.specs.Pairs.{pair_of, pair_stands, pairs}
+use Rattle.calculus.specs.Pairs.{pair_of, pair_allowed, pairs}
 use Rattle.calculus.specs.Replacement.{old_rows, new_rows, with_rows, without_rows, after, made_attr, wanted_kinds, all_fit, values_fit, rows_after, rows_change, update_refusals, first_refusal, change_of, updated}
 use Rattle.calculus.specs.Change.{IsLawful}
 use Rattle.calculus.proofs.Sets.{Ascends-nil, Ascends-put}
@@ -95,8 +95,8 @@ new_rows_fit : (db : Db) (who : Who) (u : Update) → Given db who u → IsTrue 
     → Each (λ row. IsTrue (row_fits (new_attrs db u) row)) (new_rows (pairs db who u))
 new_rows_fit db who u g fit = subst (λ ps. Each (λ row. IsTrue (row_fits (new_attrs db u) row)) (new_rows ps)) (sym (pairs_with_old db who u))
     (in_filter_map (λ p. Fits (new_attrs db u) p.new) (λ row. IsTrue (row_fits (new_attrs db u) row)) (λ p. p.new) (λ p h row e. subst (Fits (new_attrs db u)) e h)
-    (filter (pair_stands db who u) (filter_map (pair_in db who u) (seen_qualifying db who u)))
-    (in_filter (λ p. Fits (new_attrs db u) p.new) (pair_stands db who u) (filter_map (pair_in db who u) (seen_qualifying db who u))
+    (filter (pair_allowed db who u) (filter_map (pair_in db who u) (seen_qualifying db who u)))
+    (in_filter (λ p. Fits (new_attrs db u) p.new) (pair_allowed db who u) (filter_map (pair_in db who u) (seen_qualifying db who u))
     (in_filter_map (λ e. IsAssigned db u e × IsTrue (all_fit (wanted_kinds db u) (target_values (aggregates db who) (targets_of u.query) e))) (λ p. Fits (new_attrs db u) p.new) (pair_in db who u)
     (new_fits db who u g) (seen_qualifying db who u)
     (two_each (IsAssigned db u) (λ e. IsTrue (all_fit (wanted_kinds db u) (target_values (aggregates db who) (targets_of u.query) e))) (seen_qualifying db who u)

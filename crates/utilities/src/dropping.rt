@@ -18,7 +18,7 @@ use crate::owners::{owner_refusal, permitting_refusal};
 use base_trait::{Base, BaseFault};
 use calculus::{DbChange, Name, OutOfMemory, RelKey, TryCopy};
 use memory::both;
-use quel_refusals::{standing_permits, standing_rules};
+use quel_refusals::{existing_permits, existing_rules};
 use std::alloc::Global;
 
 /// The change that takes away permits with these numbers, of those that stand.
@@ -111,7 +111,7 @@ pub(crate) fn permits_gone<B: Base>(
     ensures asked { (b : B) → B.asked b base.old → B.asked b base.new }
     ensures cause { HasCauseBy user.now (utility.DropPermits rel.now numbers.now) (B.schema base.old) (B.database base.old) (B.faults base.old) (B.faults base.new) result }
 {
-    let standing = standing_permits(alloc, base, rel)?;
+    let standing = existing_permits(alloc, base, rel)?;
     match permits_refusal(alloc, base, user, rel, &standing, numbers) {
         Ok(None) => Ok(permits_dropped(alloc, rel, standing, numbers)?),
         Ok(Some(cause)) => Err(UtilFault::No(cause)),
@@ -133,7 +133,7 @@ pub(crate) fn rules_gone<B: Base>(
     ensures asked { (b : B) → B.asked b base.old → B.asked b base.new }
     ensures cause { HasCauseBy user.now (utility.DropRules rel.now numbers.now) (B.schema base.old) (B.database base.old) (B.faults base.old) (B.faults base.new) result }
 {
-    let standing = standing_rules(alloc, base, rel)?;
+    let standing = existing_rules(alloc, base, rel)?;
     match rules_refusal(alloc, base, user, rel, &standing, numbers) {
         Ok(None) => Ok(rules_dropped(alloc, rel, standing, numbers)?),
         Ok(Some(cause)) => Err(UtilFault::No(cause)),

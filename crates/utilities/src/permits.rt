@@ -14,7 +14,7 @@ use crate::owners::permitting_refusal;
 use base_trait::Base;
 use calculus::{DbChange, Name, OutOfMemory, Permit, RelKey, TryCopy};
 use memory::both;
-use quel_refusals::standing_permits;
+use quel_refusals::existing_permits;
 use std::alloc::Global;
 
 /// The permit with this number.
@@ -55,7 +55,7 @@ pub(crate) fn permit_planned<B: Base>(
     ensures asked { (b : B) → B.asked b base.old → B.asked b base.new }
     ensures cause { HasCauseBy user.now (utility.Permit rel.now permit.now) (B.schema base.old) (B.database base.old) (B.faults base.old) (B.faults base.new) result }
 {
-    let standing = standing_permits(alloc, base, rel)?;
+    let standing = existing_permits(alloc, base, rel)?;
     let next = next_number(&standing);
     drop(standing);
     match next {

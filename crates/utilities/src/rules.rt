@@ -18,7 +18,7 @@ use crate::owners::owner_refusal;
 use base_trait::{Base, BaseFault};
 use calculus::{DbChange, Name, OutOfMemory, RelKey, Rule, TryCopy};
 use memory::both;
-use quel_refusals::standing_rules;
+use quel_refusals::existing_rules;
 use std::alloc::Global;
 
 /// The rule with this number.
@@ -87,7 +87,7 @@ pub(crate) fn rule_planned<B: Base>(
     ensures asked { (b : B) → B.asked b base.old → B.asked b base.new }
     ensures cause { HasCause user.now (utility.Rule rel.now rule.now) (B.database base.old) (B.faults base.old) (B.faults base.new) result }
 {
-    let standing = standing_rules(alloc, base, rel)?;
+    let standing = existing_rules(alloc, base, rel)?;
     let next = next_number(&standing);
     drop(standing);
     match next {

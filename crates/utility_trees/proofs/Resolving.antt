@@ -20,7 +20,7 @@ use Rattle.calculus.specs.Replacement.{first_refusal}
 use Rattle.calculus.specs.Stored.{attrs_in, kinds_at}
 use Rattle.quel_meaning.proofs.Each.{Each, of_map}
 use Rattle.quel_meaning.proofs.Found.{IsFound, names_found, named_there, named_again}
-use Rattle.quel_meaning.specs.Aggregates.{aggregates_stand}
+use Rattle.quel_meaning.specs.Aggregates.{aggregates_allowed}
 use Rattle.quel_meaning.specs.Causes.{Causes, refusals, refusals_by, is_binary, is_binary_text, repeats}
 use Rattle.quel_meaning.specs.Naming.{Relation, mentions, name_refusal, no_refusal, refusal_in}
 use Rattle.quel_meaning.specs.Passing.{is_full, is_taken}
@@ -52,7 +52,7 @@ by_cause : (db : Db) (user : List ℕ) (ranges : Ranges) (stmt : Statement) (n :
 unfolding refusals
 by_cause db user ranges stmt n h k =
     let s = scope_of db user ranges in
-    by_both db user ranges stmt ∙ (λ i. resolved_by db user ranges stmt (h i) (k (aggregates_stand s stmt) (query_of s stmt) i))
+    by_both db user ranges stmt ∙ (λ i. resolved_by db user ranges stmt (h i) (k (aggregates_allowed s stmt) (query_of s stmt) i))
 
 -- the tree, where there is no cause whatever the query is
 by_nothing : (db : Db) (user : List ℕ) (ranges : Ranges) (stmt : Statement) (tree : Checked) → name_refusal (scope_of db user ranges) stmt ≡ None
@@ -61,7 +61,7 @@ by_nothing : (db : Db) (user : List ℕ) (ranges : Ranges) (stmt : Statement) (t
 unfolding refusals tree_of
 by_nothing db user ranges stmt tree h k t =
     let s = scope_of db user ranges in
-    by_both db user ranges stmt ∙ (λ i. resolved_by db user ranges stmt (h i) (k (aggregates_stand s stmt) (query_of s stmt) i)) ∙ ap Ok (sym (t (query_of s stmt)))
+    by_both db user ranges stmt ∙ (λ i. resolved_by db user ranges stmt (h i) (k (aggregates_allowed s stmt) (query_of s stmt) i)) ∙ ap Ok (sym (t (query_of s stmt)))
 
 -- a first cause that isn't there is passed over
 passed_over : (n : ℕ) (b : Bool) (cs : Causes) → b ≡ false → first_refusal ((n, b) ∷ cs) ≡ first_refusal cs

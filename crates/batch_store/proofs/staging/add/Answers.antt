@@ -1,7 +1,7 @@
 use Rattle.std.proofs.Common.{sym, ◌∙◌, refl, inl, arith}
 use Rattle.batch_file.specs.Staged.{size_of, staged}
 use Rattle.batch_file.proofs.Outside.{apart_starts}
-use Rattle.batch_store.proofs.Stands.{standing_added, numbered_added, below_added, noted_so, staged_length, kept_promise}
+use Rattle.batch_store.proofs.Stands.{recovered_added, numbered_added, below_added, noted_so, staged_length, kept_promise}
 use Rattle.batch_store.proofs.staging.add.Goals as goal
 
 pub returns-then-k-clause-crash : goal.returns-then-k-clause-crash
@@ -11,7 +11,7 @@ returns-then-k-clause-crash g c = λ known.
 
 pub returns-in-Ok-clause-page : goal.returns-in-Ok-clause-page
 returns-in-Ok-clause-page g c = λ known.
-    standing_added (g.D.Disk.seen c.args.disk.now) (g.D.Disk.seen c.add.new.disk) c.args.batch.now c.add.new.self c.args.a c.args.page.now c.requires.place (c.add.ensures.change known).elsewhere (c.in-Ok.ensures.added known)
+    recovered_added (g.D.Disk.seen c.args.disk.now) (g.D.Disk.seen c.add.new.disk) c.args.batch.now c.add.new.self c.args.a c.args.page.now c.requires.place (c.add.ensures.change known).elsewhere (c.in-Ok.ensures.added known)
 
 pub returns-in-Ok-clause-below : goal.returns-in-Ok-clause-below
 returns-in-Ok-clause-below g c =

@@ -1,5 +1,5 @@
 use Rattle.std.proofs.Common.{◌≡◌, refl, ◌∙◌, true, false}
-use Rattle.calculus.specs.IsDatabase.{structure_stands, attrs_stand, are_stored}
+use Rattle.calculus.specs.IsDatabase.{valid_structure, attrs_stand, are_stored}
 use Rattle.change_laws.specs.Fit.{relation_is_fit, key_is_free}
 use Rattle.change_check.proofs.Parts.{stops, goes_on, regrouped}
 use Rattle.change_check.proofs.relations.relation_is_fit.Goals as goal
@@ -15,4 +15,4 @@ unfolding relation_is_fit
 returns-clause-known g c = λ db e.
     let info = c.args.info.now in
     let free : key_is_free db info.key ≡ true = cc (c.in_ok-key_is_free.ensures.known db e, c.if-not-branch.false) in
-    goes_on (key_is_free db info.key) _ _ free (c.in_ok-stands.ensures ∙ regrouped (structure_stands info) (attrs_stand info.attrs) (are_stored info.attrs) _)
+    goes_on (key_is_free db info.key) _ _ free (c.in_ok-stands.ensures ∙ regrouped (valid_structure info) (attrs_stand info.attrs) (are_stored info.attrs) _)

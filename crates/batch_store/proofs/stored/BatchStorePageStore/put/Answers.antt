@@ -1,7 +1,7 @@
 use Rattle.batch_store.proofs.Runs.{ran_stages}
 use Rattle.std.proofs.Common.{arith, ap, sym, refl, ◌∙◌, Some}
 use Rattle.am_traits.specs.Pages.{with_page}
-use Rattle.batch_store.specs.Standing.{standing}
+use Rattle.batch_store.specs.Recovered.{recovered}
 use Rattle.batch_store.proofs.Stands.{known_is, known_so}
 use Rattle.batch_store.proofs.Putting.{put_last}
 use Rattle.batch_store.proofs.stored.BatchStorePageStore.put.Goals as goal
@@ -48,5 +48,5 @@ invariant_of-self g c = record {
   shut = λ known calm. c.stage.ensures.shut known;
   held = c.in-Ok.ensures.held;
   numbered = c.in-Ok.ensures.numbered;
-  last = λ known a is. put_last (standing (g.D.Disk.seen c.stage.new.disk) c.stage.new.batch) (standing (g.D.Disk.seen c.args.self.now.disk) c.args.self.now.batch) c.args.a a c.args.page.now (c.in-Ok.ensures.page known) is;
+  last = λ known a is. put_last (recovered (g.D.Disk.seen c.stage.new.disk) c.stage.new.batch) (recovered (g.D.Disk.seen c.args.self.now.disk) c.args.self.now.batch) c.args.a a c.args.page.now (c.in-Ok.ensures.page known) is;
 }
