@@ -30,7 +30,7 @@ pub(crate) const WIDE_TEXTS: &[u8] = b"\x01\x00\x01\x03ann\x01p\x00\x01\x01t\x01
 const ROWS: &[u8] =
     b"\x00\x03ann\x01p\x00\x00\x00\x00\x00\x00\x00\x03\x00\x02\x00\x00\x00\x00\x00\x00\x00\x00\x01\x01\x01b\x00\x02\x00\x00\x00\x00\x00\x00\x00\x00\x01\x01\x01a\x00\x02\x00\x00\x00\x00\x00\x00\x00\x00\x02\x01\x01c";
 
-/// The base of these rows, which makes no database known.
+/// The base of these rows, of which no database is known.
 pub(crate) fn shelf(rt: &impl Abort, alloc: Global) -> TestBase {
     let mut base = TestBase::of_entries(alloc, 1);
     assert!(rt; base.give(alloc, ROWS).is_ok());

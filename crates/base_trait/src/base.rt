@@ -20,7 +20,7 @@ use std::alloc::Global;
 
 /// A database that can be asked and changed.
 ///
-/// What it is may be known or not: one in memory makes it known; one over pages of a disk tells it where
+/// What it is may be known or not: of one in memory it is known; of one over pages of a disk where
 /// its pages denote a database. Where it isn't known, the clauses on what it is say nothing. Its
 /// schema, which is all of it but the rows, is known all the same: the first answer fixes it, and
 /// what doesn't ask for rows is answered by it.

@@ -172,7 +172,7 @@ target_there may db u h v right c = by u.op (counts may db u h).relation c
     by op.Replace r c = let same : u.old ≡ v = ap place_of c in replaced same r
     by op.Delete r c = let same : u.old ≡ v = ap place_of c in replaced same r
 
--- ---- the expansion of an update's variables
+-- ---- the expansions of an update's variables
 
 abbrev ranged_by : Option Relation → Option View → Option Relation → Option Range
 ranged_by r v c = elim r [

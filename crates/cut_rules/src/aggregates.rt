@@ -89,7 +89,7 @@ fn links(
     }
 }
 
-/// The aggregate over this source, whose rows meet the condition where there is one, with the expansion'
+/// The aggregate over this source, whose rows meet the condition where there is one, with the expansions'
 /// terms in its links.
 fn aggregate_over(
     alloc: Global,
@@ -119,7 +119,7 @@ fn aggregate_over(
     }
 }
 
-/// The aggregate over what its source stands for, restricted to what may be read, with the expansion' terms in
+/// The aggregate over what its source stands for, restricted to what may be read, with the expansions' terms in
 /// its links. `NoPermit` exactly where what it names may not be read.
 fn expanded_aggregate<B: Base>(
     alloc: Global,
@@ -182,8 +182,8 @@ fn put_all<B: Base>(
     Ok(())
 }
 
-/// The aggregates of a query, by their slots, whose variables have these expansion: each over what its source
-/// stands for, restricted to what may be read, with the expansion' terms in its links. `NoPermit` exactly where
+/// The aggregates of a query, by their slots, whose variables have these expansions: each over what its source
+/// stands for, restricted to what may be read, with the expansions' terms in its links. `NoPermit` exactly where
 /// what one of them names may not be read.
 pub(crate) fn put_aggregates<B: Base>(
     alloc: Global,

@@ -1,4 +1,4 @@
-//! Queries with its variables expanded, aggregates and all.
+//! Queries with their variables expanded, aggregates and all.
 
 ghost use Rattle.std.specs.Prelude.{◌≡◌, ◌≤◌, true, false, Some, length, IfOk, IfErr, OnOk, option_map};
 ghost use Rattle.std.specs.List.{list_all};
@@ -25,7 +25,7 @@ use std::alloc::Global;
 use view_expand::ExpansionsFound;
 use view_text::{Expansion, substituted_whole};
 
-/// The query over the variables of these expansion, with these aggregates by their slots.
+/// The query over the variables of these expansions, with these aggregates by their slots.
 fn whole(
     alloc: Global,
     expansions: &[Expansion],
@@ -43,7 +43,7 @@ fn whole(
     }
 }
 
-/// The query over the variables of these expansion, its aggregates over what their sources stand for.
+/// The query over the variables of these expansions, its aggregates over what their sources stand for.
 /// `NoPermit` exactly where what an aggregate names may not be read.
 pub(crate) fn expanded_over<B: Base>(
     alloc: Global,
@@ -71,7 +71,7 @@ pub(crate) fn expanded_over<B: Base>(
     }
 }
 
-/// The query over these expansion, where they are few.
+/// The query over these expansions, where they are few.
 fn expanded_over_few<B: Base>(
     alloc: Global,
     base: &mut B,

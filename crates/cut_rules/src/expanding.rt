@@ -34,7 +34,7 @@ fn capped(vars: u64) -> u32
     }
 }
 
-/// Why the query isn't expanded, where its expansion aren't put in. Nothing is refused where nobody is restricted,
+/// Why the query isn't expanded, where its expansions aren't put in. Nothing is refused where nobody is restricted,
 /// and 50 variables have places: a base that answers so denotes no database.
 fn unexpanded(fault: CutFault) -> ExpandFault
     ensures { result ≡ unexpanded fault }
@@ -72,8 +72,8 @@ fn expand_fixed<B: Base>(alloc: Global, base: &mut B, query: &Query) -> Result<Q
     }
 }
 
-/// The query over base relations and catalogues alone, its views expanded: it has the same answer for nobody
-/// in particular, and a target lacks a value in the same case, where no aggregate stands in another.
+/// The query over base relations and catalogues alone, its views expanded: it has the same answer
+/// unrestricted, and a target lacks a value in the same case, where no aggregate stands in another.
 /// `TooMany` exactly where more than 50 variables result, with their number: the schema decides that, which the
 /// first question fixes. Not for the query of an
 /// update, whose changed variable stays what it is.

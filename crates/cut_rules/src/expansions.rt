@@ -1,4 +1,4 @@
-//! The expansion of a query's variables, and the place of one that is refused.
+//! The expansions of a query's variables, and the place of one that is refused.
 
 ghost use Rattle.std.specs.Prelude.{◌≡◌, ◌≤◌, ◌<◌, ◌++◌, [], ◌∷◌, map, true, false, Some, length, IfOk, IfErr, OnOk, option_map};
 ghost use Rattle.std.specs.List.{enumerate_from, list_all};
@@ -50,7 +50,7 @@ pub(crate) fn put_behind(expansions: &mut Vec<Expansion>, more: Expansion) -> Re
     }
 }
 
-/// Whether the expansion have at most so many variables together.
+/// Whether the expansions have at most so many variables together.
 #[tactic(auto, using(view_expand::proofs::Few::vars_before))]
 pub(crate) fn are_few(expansions: &[Expansion], most: usize) -> bool
     ensures few { result ≡ true → length (expansions_vars expansions.now) ≤ most }
@@ -93,7 +93,7 @@ pub(crate) fn read_expansion<B: Base>(
     }
 }
 
-/// Puts the expansion of a query's variables, which range over these, behind those that are there.
+/// Puts the expansions of a query's variables, which range over these, behind those that are there.
 fn put_each<B: Base>(
     alloc: Global,
     base: &mut B,
@@ -126,7 +126,7 @@ fn put_each<B: Base>(
     Ok(())
 }
 
-/// Puts the expansion of a query's variables behind those that are there. `NoPermit` exactly where one that is
+/// Puts the expansions of a query's variables behind those that are there. `NoPermit` exactly where one that is
 /// used may not be read, and then its place.
 pub(crate) fn put_expansions<B: Base>(
     alloc: Global,

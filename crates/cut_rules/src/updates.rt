@@ -1,4 +1,4 @@
-//! Updates with its variables expanded.
+//! Updates with their variables expanded.
 
 ghost use Rattle.std.specs.Prelude.{◌≡◌, ◌⊎◌, ◌+◌, ◌≤◌, ◌++◌, [], ◌∷◌, map, true, false, Some, length, IfOk, IfErr, OnOk, option_map};
 ghost use Rattle.std.specs.List.{enumerate_from, list_all};
@@ -102,7 +102,7 @@ fn expansion_in<B: Base>(
     }
 }
 
-/// Puts the expansion of an update's variables, which range over these, behind those that are there.
+/// Puts the expansions of an update's variables, which range over these, behind those that are there.
 fn put_each<B: Base>(
     alloc: Global,
     base: &mut B,
@@ -135,7 +135,7 @@ fn put_each<B: Base>(
     Ok(())
 }
 
-/// Puts the expansion of an update's variables behind those that are there.
+/// Puts the expansions of an update's variables behind those that are there.
 fn put_expansions<B: Base>(
     alloc: Global,
     base: &mut B,
@@ -163,7 +163,7 @@ fn put_expansions<B: Base>(
     put_each(alloc, base, who, u, keys, expansions, found)
 }
 
-/// The place at which the variable's text begins, where the variables of the expansion stand from this one on.
+/// The place at which the variable's text begins, where the variables of the expansions stand from this one on.
 #[tactic(auto, using(view_expand::proofs::Few::vars_before, crate::proofs::Places::place_next, crate::proofs::Places::place_first))]
 fn place_from(start: u8, expansions: &[Expansion], var: u8) -> u8
     requires { start + length (expansions_vars expansions.now) ≤ 255 }
@@ -181,7 +181,7 @@ fn place_from(start: u8, expansions: &[Expansion], var: u8) -> u8
     }
 }
 
-/// The place of the variable whose rows are replaced or deleted, once these expansion are put in.
+/// The place of the variable whose rows are replaced or deleted, once these expansions are put in.
 fn put_place(expansions: &[Expansion], u: &Update) -> u8
     requires { length (expansions_vars expansions.now) ≤ 255 }
     ensures { result ≡ put_place expansions.now u.now }
@@ -248,7 +248,7 @@ fn update_of(
     }
 }
 
-/// The update with these expansion of its variables put in, where they have few variables.
+/// The update with these expansions of its variables put in, where they have few variables.
 fn expanded_over_few<B: Base>(
     alloc: Global,
     base: &mut B,

@@ -25,7 +25,7 @@ pub struct DiskFailed;
 /// touches every page of its file. A crash leaves, at each touched address, any bytes or no page,
 /// and at each other address what a read gave. After a sync that succeeds nothing is touched.
 ///
-/// What a disk holds may be known or not, by its type: one in memory makes it known, a real one does not.
+/// What a disk holds may be known or not, by its type: of one in memory it is, of a real one not.
 /// The counts of faults and of reads are always known. The writes, cuts and syncs that it had may be
 /// known or not, also where what it holds isn't: so whoever answers by what was written has to have
 /// made the calls, on whatever disk.

@@ -101,7 +101,7 @@ StepDone serves past p p' (Ok Stepped) = (move : Move) × (l : List ℕ) × (r :
 StepDone serves past p p' (Ok Blocked) = HasEnded p.state × (p' ≡ p)
 StepDone serves past p p' (Err f) = Ran serves (at_hand p) p.heard p'.state p.outside p'.outside past.before p'.sides past.moves (Err f)
 
--- the room behind a step of the stage with this number: no count fell, and none rose but that which a fault names; what is known of the script is known on, the source counts what was read, and no more was than may be; a database is known on unless the step failed; and the source and the sink are as they were unless it is the first stage
+-- the room behind a step of the stage with this number: no count fell, and none rose but that which a fault names; what is known of the script stays known, the source counts what was read, and no more was than may be; a database stays known unless the step failed; and the source and the sink are as they were unless it is the first stage
 pub record RoomKept (place heard heard' : ℕ) (old new : Outside) (result : Result Moved LoopFault) : Type 0 where
   pub later : Later old new
   pub script : KeepsScript heard heard' old new

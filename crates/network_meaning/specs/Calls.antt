@@ -136,7 +136,7 @@ abbrev pub RunsTurns : {S : Sorts} → Language S → ℕ → List ℕ → Seen 
 RunsTurns L capacity [] old new = new ≡ old
 RunsTurns {S} L capacity (k ∷ ks) old new = (mid : Seen S) × (blocked : Bool) × Moves L capacity (stage_number k) blocked old mid × RunsTurns L capacity ks mid new
 
--- from an orderly network with a room that is known: it is orderly and told again, the bytes in all are the same, what was written grew as from that room to this, and the session ends as it was to end
+-- from an orderly network with a room that is known: it is orderly and known again, the bytes in all are the same, what was written grew as from that room to this, and the session ends as it was to end
 pub record KeptNow {S : Sorts} (L : Language S) (r : Room S) (old new : Seen S) : Type 0 where
   pub room : Room S
   pub known : Knows new.known room

@@ -13,7 +13,7 @@ empty_db dba = record { dba = dba; relations = []; indexes = []; views = []; rul
 abbrev pub effect_of : Db → Files → Reply → Effect
 effect_of db files reply = record { db = db; shelf = files; reply = reply }
 
--- the effect is this database, the files that is known of the shelf, and this reply
+-- the effect is this database, the files that are known of the shelf, and this reply
 pub record Leaves (effect : Effect) (db : Db) (known : Option Files) (reply : Reply) : Type 0 where
   pub files : Files
   pub known_so : known ≡ Some files

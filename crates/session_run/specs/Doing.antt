@@ -40,12 +40,12 @@ pub record Running : Type 0 where
   pub quit : Bool
   pub files : OpenFiles
 
--- the next statement works on this database, these range variables, and the files that is known of the shelf
+-- the next statement works on this database, these range variables, and the files that are known of the shelf
 pub record Stands (db : Db) (ranges : Ranges) (known : Option Files) (state : State) : Type 0 where
   pub known_so : known ≡ Some state.shelf
   pub is : state ≡ state_on db ranges state.shelf
 
--- this is what the session keeps, with the files that is known of the shelf
+-- this is what the session keeps, with the files that are known of the shelf
 pub record IsKept (running : Running) (known : Option Files) (kept : Kept) : Type 0 where
   pub stands : Stands running.db running.ranges known kept.state
   pub buffer : kept.buffer ≡ running.buffer

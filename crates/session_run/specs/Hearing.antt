@@ -22,7 +22,7 @@ pub record Heard : Type 0 where
   pub kept : Kept
   pub partial : List ℕ
 
--- this was heard, with the files that is known of the shelf, and no included file is open
+-- this was heard, with the files that are known of the shelf, and no included file is open
 pub record IsHeard (listening : Listening) (known : Option Files) (heard : Heard) : Type 0 where
   pub kept : IsKept listening.running known heard.kept
   pub partial : heard.partial ≡ listening.partial

@@ -47,7 +47,7 @@ find_one {A} test x (y ∷ ys) e = go (test y) e (find_one test x ys)
 
 -- ---- groups
 
--- How groups are known: a test of each group says of all items of one whether the two are the same, and of equal items the same; each group ascends.
+-- How groups are told apart: a test of each group says of all items of one whether the two are the same, and of equal items the same; each group ascends.
 pub record Grouped {X A : Type 0} (cmp : A → A → Ordering) (g : X → List A) (p : X → A → Bool) (same : X → X → Bool) : Type 0 where
   pub order : IsTotalOrder cmp
   pub tests : (x y : X) → AllByRecursion (λ a. p x a ≡ same x y) (g y)

@@ -1,4 +1,4 @@
-//! A base for tests that answers by what it was given, and makes no database known.
+//! A base for tests that answers by what it was given, of which no database is known.
 #![tactic(auto)]
 
 mod base;

@@ -1,4 +1,4 @@
--- A query answers for the one who asks what it answers unrestricted once its expansion are put in.
+-- A query answers for the one who asks what it answers unrestricted once its expansions are put in.
 use Rattle.std.proofs.Common.{◌≡◌, refl, sym, ap, ◌∙◌, inl, inr, ℕ, true, not, List, [], map}
 use Rattle.std.specs.List.{list_all, enumerate_from}
 use Rattle.calculus.specs.declared.query.QAgg.{QAgg}

@@ -88,7 +88,7 @@ module _ (db : Db) (who : Who) (u : Update) where
   pub plain_expansion : (v : ℕ) (key : RelKey) → is_changed u v ≡ false → update_expansion db who u v key ≡ used_expansion (expansion_of db who) key (used_in_query v u.query)
   plain_expansion v key h = plain_with v key (changed u) h
 
-  -- the expansion from this variable on
+  -- the expansions from this variable on
   abbrev expansions_at : ℕ → List RelKey → List Expansion
   expansions_at k keys = map (λ p. update_expansion db who u p.0 p.1) (enumerate_from k keys)
 

@@ -116,7 +116,7 @@ same_place e f v w both h = by (nat_lt v (length e)) refl
         let (ys, at_w) = get_there f w (sym both ∙ there) in
         at_v ∙ ap Some (same_rows xs ys (λ a. ap (λ r. value_in r a) (sym at_v) ∙ h a ∙ ap (λ r. value_in r a) at_w)) ∙ sym at_w
 
--- ---- the expansion of an update's variables
+-- ---- the expansions of an update's variables
 
 module _ (db : Db) (d : IsDatabase db) (who : Who) (u : Update) where
   -- an expansion that names only its own variables, and each of them
@@ -157,7 +157,7 @@ module _ (db : Db) (d : IsDatabase db) (who : Who) (u : Update) where
   pub update_seen : (v : ℕ) (key : RelKey) (j : ℕ) → nat_lt j (length (update_expansion db who u v key).vars) ≡ true → IsSeen v j
   update_seen v key j h = seen_with v key j (changed u) h
 
-  -- no view stands under what the variables of the expansion range over, where none stands under what the changed variable ranges over
+  -- no view stands under what the variables of the expansions range over, where none stands under what the changed variable ranges over
   kept_by : (v : ℕ) (key : RelKey) (right : Right) (b : Bool) → (b ≡ true → is_no_view (range_at db key) ≡ true) → no_views db (expansion_by db who u v key right b).vars ≡ true
   kept_by v key right true h = both_are (is_no_view (range_at db key)) true (h refl) refl
   kept_by v key right false h = (used_sound db (expansion_of db who) (all_sound db who d) key (used_in_query v u.query)).kept

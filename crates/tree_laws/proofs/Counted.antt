@@ -56,7 +56,7 @@ pub room_more : (n : ℕ) → 1001 + times 10 (room n) ≤ room (suc n)
 unfolding times
 room_more n = let fold = sixteen_fold n in let some = room_some n in omega (arith, fold, some)
 
--- ---- conditions of expansion that stand one behind the other
+-- ---- conditions of expansions that stand one behind the other
 
 long_shifted : (n : ℕ) (qs ys : List QQual) → length (map (shifted_qual n) qs ++ ys) ≡ length qs + length ys
 long_shifted n [] ys = omega arith
@@ -76,7 +76,7 @@ conditions_low m [] low n = tt
 conditions_low m (expansion ∷ expansions) low n =
     low_append m (map (shifted_qual n) expansion.conditions) (conditions_from (n + length expansion.vars) expansions) (all_shifted_low m n expansion.conditions low.0) (conditions_low m expansions low.1 (n + length expansion.vars))
 
--- the terms of expansion, wherever they stand
+-- the terms of expansions, wherever they stand
 pub put_low : (m : ℕ) (expansions : List Expansion) → 2 ≤ m → AllByRecursion (λ t. (a : ℕ) → term_levels (attr_term t a) ≤ m) expansions → (n v a : ℕ) → term_levels (substituted_from n expansions v a) ≤ m
 put_low m [] two low n v a = omega (arith, two)
 put_low m (expansion ∷ expansions) two low n zero a = let own = low.0 a in let less = shifted_low n (attr_term expansion a) in omega (arith, own, less)

@@ -1,4 +1,4 @@
--- A query that is asked is fit once its expansion are put in, where it was fit but for views.
+-- A query that is asked is fit once its expansions are put in, where it was fit but for views.
 use Rattle.std.proofs.Common.{◌≡◌, refl, ap, ◌∙◌, ℕ, ◌≤◌, Bool, true, ◌&&◌, List, [], ◌∷◌, map, length, arith}
 use Rattle.std.proofs.lemmas.Bool.Decides.{nat_tests}
 use Rattle.std.specs.Prelude.{flat_map, nat_le, nat_lt}

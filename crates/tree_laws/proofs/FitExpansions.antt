@@ -1,4 +1,4 @@
--- In a database the expansion of what is there range over what is kept, their terms have the kinds of the attributes, and the kinds in their conditions fit.
+-- In a database the expansions of what is there range over what is kept, their terms have the kinds of the attributes, and the kinds in their conditions fit.
 use Rattle.std.proofs.Common.{◌≡◌, refl, sym, ap, ◌∙◌, subst, ℕ, zero, suc, ◌+◌, Bool, true, false, cond, ◌&&◌, List, [], ◌∷◌, ◌++◌, map, length, filter, Some, is_some, arith}
 use Rattle.std.specs.Prelude.{slice_get, bytes_eq}
 use Rattle.std.specs.List.{list_all, enumerate_from}
@@ -142,11 +142,11 @@ kinds_long db [] = refl
 kinds_long db (key ∷ keys) = ap suc (kinds_long db keys)
 
 module _ (db : Db) (expansion_at : ℕ → RelKey → Expansion) (scoped : (v : ℕ) (key : RelKey) → is_scoped (expansion_at v key) ≡ true) (Known : ℕ → Type 0) where
-  -- the expansion from this variable on
+  -- the expansions from this variable on
   abbrev pub expansions_at : ℕ → List RelKey → List Expansion
   expansions_at k keys = map (λ p. expansion_at p.0 p.1) (enumerate_from k keys)
 
-  -- of the variables of which this is known the expansion fit
+  -- of the variables of which this is known the expansions fit
   abbrev pub FitEach : ℕ → List RelKey → Type 0
   FitEach k keys = (v : ℕ) (key : RelKey) → slice_get keys v ≡ Some key → Known (k + v) → IsFitExpansion db key (expansion_at (k + v) key)
 

@@ -1,4 +1,4 @@
--- An update is fit once its expansion are put in, where it was fit but for views.
+-- An update is fit once its expansions are put in, where it was fit but for views.
 use Rattle.std.proofs.Common.{◌≡◌, refl, sym, ap, ◌∙◌, subst, inl, inr, ℕ, zero, suc, ◌+◌, ◌≤◌, Bool, true, false, cond, ◌&&◌, ◌||◌, List, [], ◌∷◌, ◌++◌, map, length, filter, Option, Some, None, is_some, arith}
 use Rattle.std.proofs.lemmas.Bool.Decides.{nat_tests}
 use Rattle.std.proofs.lemmas.List.Sums.{sum_by-cons}
@@ -91,7 +91,7 @@ over_op db u op.Delete h v key there c =
     let parts = both_true (is_relation db u.rel) (is_this_key (slice_get (vars_of u.query) u.old) u.rel) h in
     ap (is_kept db) (key_is (slice_get (vars_of u.query) u.old) u.rel key parts.1 (ap (slice_get (vars_of u.query)) same ∙ there)) ∙ relation_kept db u.rel parts.0
 
--- ---- the expansion of an update's variables
+-- ---- the expansions of an update's variables
 
 module _ (db : Db) (d : IsDatabase db) (who : Who) where
   abbrev may : Allowed

@@ -59,7 +59,7 @@ pub record Denotes (db : Db) (rows : List Row) (expansion : Expansion) : Type 0 
   pub to : (seg : Env) → Chosen (kept_lists db expansion.vars) seg → all_hold no_aggs expansion.conditions seg ≡ true → (row : Row) × In row rows × IsRow expansion row seg
   pub from : (row : Row) → In row rows → (seg : Env) × Chosen (kept_lists db expansion.vars) seg × (all_hold no_aggs expansion.conditions seg ≡ true) × IsRow expansion row seg
 
--- each of these expansion tells of the rows in its place
+-- each of these expansions tells of the rows in its place
 abbrev pub DenoteEach : Db → List (List Row) → List Expansion → Type 0
 DenoteEach db [] [] = Unit {0}
 DenoteEach db [] (expansion ∷ expansions) = ⊥
@@ -123,7 +123,7 @@ unfolding attribute_value
 later_row row e v a = refl
 
 module _ (db : Db) (aggs : Aggs) where
-  -- what the expansion say of an assignment that stands behind these rows: their conditions hold, and their attributes have the values of those rows
+  -- what the expansions say of an assignment that stands behind these rows: their conditions hold, and their attributes have the values of those rows
   pub record Says (n : ℕ) (expansions : List Expansion) (pre f e : Env) : Type 0 where
     pub conditions : all_hold aggs (conditions_from n expansions) (pre ++ f) ≡ true
     pub attributes : StandsFor (substituted_from n expansions) (pre ++ f) e
@@ -165,7 +165,7 @@ module _ (db : Db) (aggs : Aggs) where
         each others (suc v) a =
             ap (val others (substituted_from (n + length expansion.vars) expansions v a)) (sym (behind_assoc pre seg rest)) ∙ says.attributes others v a ∙ sym (later_row row e v a)
 
-  -- an assignment in which the conditions hold is one of the rows that the expansion tell of
+  -- an assignment in which the conditions hold is one of the rows that the expansions tell of
   pub to_rows : (rowss : List (List Row)) (expansions : List Expansion) (n : ℕ) (pre f : Env) → length pre ≡ n → DenoteEach db rowss expansions → Chosen (kept_lists db (expansions_vars expansions)) f
       → all_hold aggs (conditions_from n expansions) (pre ++ f) ≡ true → (e : Env) × Chosen rowss e × Says n expansions pre f e
   to_rows [] [] n pre f here denote chosen holding = ([], tt, record { conditions = holding; attributes = λ others v a. without_value_has_none others (pre ++ f) ∙ sym (nowhere v a) })

@@ -104,7 +104,7 @@ length_behind (x ∷ xs) ys = let more = length_behind xs ys in omega (arith, mo
 -- texts, each made for a variable by its place and key, and what is known of a variable whose text has a variable at a place
 module _ (expansion_at : ℕ → RelKey → Expansion) (IsMeant : ℕ → ℕ → Type 0) (scoped : (v : ℕ) (key : RelKey) → is_scoped (expansion_at v key) ≡ true)
     (named : (v : ℕ) (key : RelKey) → NamesAll (expansion_at v key)) (meant : (v : ℕ) (key : RelKey) (j : ℕ) → nat_lt j (length (expansion_at v key).vars) ≡ true → IsMeant v j) where
-  -- the expansion from this variable on
+  -- the expansions from this variable on
   abbrev pub expansions_at : ℕ → List RelKey → List Expansion
   expansions_at k keys = map (λ p. expansion_at p.0 p.1) (enumerate_from k keys)
 
@@ -191,7 +191,7 @@ module _ (made : QTerm → QTerm) (expansions : List Expansion) (q : Query) (kee
             (within_right (in_targets (targets_of q)) (qual_aggregates (qual_of q)) (query_aggregates q) (within_itself (query_aggregates q))) k))
       ]
 
--- ---- the expansion of keys
+-- ---- the expansions of keys
 
 pub kept_names : (conditions : List QQual) (key : RelKey) → NamesAll (kept_expansion conditions key)
 kept_names conditions key zero h = inr (λ a. refl)

@@ -1,4 +1,4 @@
--- A query with expansions substituted is answered as the query is over the rows that the expansion tell of.
+-- A query with expansions substituted is answered as the query is over the rows that the expansions tell of.
 use Rattle.std.proofs.Common.{◌≡◌, refl, sym, ap, ◌∙◌, Bool, true, false, ◌&&◌, List, [], ◌∷◌, map, Option, Some, None}
 use Rattle.std.specs.List.{filter_map}
 use Rattle.calculus.specs.declared.query.QTerm.{QTerm}

@@ -131,7 +131,7 @@ module _ (db : Db) (d : IsDatabase db) (who : Who) where
   used_expansion_few key [] = omega arith
   used_expansion_few key (b ∷ attrs) = expansion_few db d who key (b ∷ attrs)
 
-  -- the expansion of a query's variables
+  -- the expansions of a query's variables
   pub puts_low : (q : Query) (v a : ℕ) → term_levels (substituted_from 0 (query_expansions (expansion_of db who) q) v a) ≤ 1001
   puts_low q v a =
       let two : 2 ≤ 1001 = omega arith in
@@ -249,7 +249,7 @@ module _ (db : Db) (d : IsDatabase db) (who : Who) where
 
   -- ---- queries
 
-  -- a query over these expansion, of which the terms have at most 1,001 levels and the conditions at most 1,008
+  -- a query over these expansions, of which the terms have at most 1,001 levels and the conditions at most 1,008
   pub over_low : (expansions : List Expansion) (q : Query) → list_all (λ g. source_fits (kept_or_viewed db) db g.source) (query_aggregates q) ≡ true
       → ((v a : ℕ) → term_levels (substituted_from 0 expansions v a) ≤ 1001) → Low 1008 (conditions_from 0 expansions) → length (conditions_from 0 expansions) ≤ times 50 (room 16)
       → query_levels (substituted_query (expanded_made db who (substituted_from 0 expansions)) expansions q) ≤ query_levels q + 1160

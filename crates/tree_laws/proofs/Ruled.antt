@@ -1,4 +1,4 @@
--- The rules of a relation join the checks of an update before its expansion are put in or after it.
+-- The rules of a relation join the checks of an update before its expansions are put in or after it.
 use Rattle.std.proofs.Common.{◌≡◌, refl}
 use Rattle.calculus.specs.declared.request.Update.{Update}
 use Rattle.calculus.specs.declared.request.UpdateOp.{UpdateOp}

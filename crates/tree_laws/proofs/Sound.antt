@@ -68,7 +68,7 @@ pub record IsSound (db : Db) (expansion : Expansion) : Type 0 where
   pub names : NamesAll expansion
   pub kept : no_views db expansion.vars ≡ true
 
--- the expansion of all keys are sound
+-- the expansions of all keys are sound
 abbrev pub AreSound : Db → ExpansionSource → Type 0
 AreSound db expansions = (key : RelKey) (attrs : List ℕ) → IsSound db (expansions key attrs)
 
@@ -91,7 +91,7 @@ pub used_meant : (expansions : ExpansionSource) (key : RelKey) (attrs : List ℕ
 used_meant expansions key [] j h = absurd (grind (arith, nat_tests, h))
 used_meant expansions key (a ∷ attrs) j h = refl
 
--- ---- expansion of variables, each made for a variable by its place and key
+-- ---- expansions of variables, each made for a variable by its place and key
 
 module _ (db : Db) (expansion_at : ℕ → RelKey → Expansion) (sound : (v : ℕ) (key : RelKey) → IsSound db (expansion_at v key)) where
   pub each_scoped_at : (k : ℕ) (keys : List RelKey) → all_scoped (map (λ p. expansion_at p.0 p.1) (enumerate_from k keys)) ≡ true

@@ -90,7 +90,7 @@ long_sum g some (t ∷ ts) =
     let sums = sum_by-cons (λ (x : ℕ). x) (g t) (map g ts) in
     let one = some t in let more = long_sum g some ts in omega (arith, sums, one, more)
 
--- ---- what is put in of expansion whose terms are sized
+-- ---- what is put in of expansions whose terms are sized
 
 module _ (known : Known) (expansions : ExpansionSource) (sized : (key : RelKey) (attrs : List ℕ) (a : ℕ) → term_levels (attr_term (expansions key attrs) a) ≤ suc (own_size (known key) a))
     (some : (key : RelKey) (a : ℕ) → 1 ≤ own_size (known key) a) (q : Query) where

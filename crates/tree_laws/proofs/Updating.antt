@@ -1,4 +1,4 @@
--- An update makes for the one who asks the change that it makes unrestricted once its expansion are put in, or the same number refuses it.
+-- An update makes for the one who asks the change that it makes unrestricted once its expansions are put in, or the same number refuses it.
 use Rattle.std.proofs.Common.{◌≡◌, refl, sym, ap, ◌∙◌, subst, inl, inr, ℕ, Bool, true, false, not, ◌&&◌, List, [], ◌∷◌, map, length, Option, Some, None, Result, Ok, Err}
 use Rattle.std.specs.Prelude.{slice_get, nat_lt, option_map, if◌then◌else◌, flat_map}
 use Rattle.std.specs.List.{list_all, list_any, filter, filter_map, AllByRecursion}

@@ -10,7 +10,7 @@ ghost use Rattle.tree_laws.specs.Nesting.{aggregates_nest_none};
 ghost use Rattle.view_text.specs.Expanded.{expanded};
 
 /// In a database a query answers for the one who asks what it answers unrestricted once the
-/// expansion of its variables and of its aggregates' sources are put in, views and permits and all; and it
+/// expansions of its variables and of its aggregates' sources are put in, views and permits and all; and it
 /// lacks the value of a target in the same cases. So it is of every query in whose aggregates no other
 /// stands.
 pub fn what_is_put_in_answers_the_same()

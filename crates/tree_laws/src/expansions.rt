@@ -1,4 +1,4 @@
-//! What the expansion of keys are.
+//! What the expansions of keys are.
 
 ghost use Rattle.std.specs.Prelude.{◌≡◌, true, ℕ, List, length};
 ghost use Rattle.std.specs.List.{list_all};

@@ -1,4 +1,4 @@
--- The expansion of a query's variables have no more variables than the query has once the views in it are expanded.
+-- The expansions of a query's variables have no more variables than the query has once the views in it are expanded.
 use Rattle.std.proofs.Common.{◌≡◌, ℕ, ◌+◌, ◌≤◌, Bool, true, false, cond, List, [], ◌∷◌, filter, length, length-append, arith}
 use Rattle.std.specs.List.{enumerate_from, sum_by}
 use Rattle.std.proofs.lemmas.List.Sums.{sum_by-cons}
@@ -72,7 +72,7 @@ pub few_known : (db : Db) (who : Who) (n : ℕ) (key : RelKey) (attrs : List ℕ
 few_known db who n key attrs =
     both_said (expansion_said db who) measure_said db (λ n key expansion measure. (attrs : List ℕ) → length (expansion attrs).vars ≤ measure.variables) (few_carried db who) n key attrs
 
--- so the expansion of a query's variables have no more than the query once expanded
+-- so the expansions of a query's variables have no more than the query once expanded
 pub expansions_few : (db : Db) (who : Who) (n : ℕ) (q : Query) → length (expansions_vars (query_expansions (expansion_within n db who) q)) ≤ (query_measure (measure_within n db) q).variables
 expansions_few db who n q = query_few (expansion_within n db who) (measure_within n db) (few_known db who n) q
 

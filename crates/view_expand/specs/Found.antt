@@ -1,4 +1,4 @@
--- What was found in a database: expansion of views, and permits.
+-- What was found in a database: expansions of views, and permits.
 use Rattle.std.specs.Prelude.{◌≡◌, ℕ, true, List, [], ◌∷◌, ⊤}
 use Rattle.calculus.specs.declared.query.RelKey.{RelKey}
 use Rattle.calculus.specs.declared.schema.Permit.{Permit}

@@ -23,7 +23,7 @@ use calculus::{Name, Query};
 use std::alloc::Global;
 use view_text::Expansion;
 
-/// Puts the expansion of a query's variables, which go through at most so many levels of views, behind
+/// Puts the expansions of a query's variables, which go through at most so many levels of views, behind
 /// those that are there. `NoPermit` exactly where a variable that is used may not be read. What was found
 /// before, for the same one who asks, is made use of, and what is found is kept beside it.
 fn expansions_through<B: Base>(

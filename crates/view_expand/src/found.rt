@@ -1,4 +1,4 @@
-//! What was found in a database: expansion of views, and permits.
+//! What was found in a database: expansions of views, and permits.
 
 ghost use Rattle.std.specs.Prelude.{◌≡◌, true, IfOk, IfSome, OnOk};
 ghost use Rattle.std.specs.List.{list_all};
@@ -14,7 +14,7 @@ use std::alloc::Global;
 use std::marker::Model;
 use view_text::Expansion;
 
-/// The expansion of views that were found in a database for one who asks, each by the view's key and by the
+/// The expansions of views that were found in a database for one who asks, each by the view's key and by the
 /// levels that it goes through, so that each is made once; and permits, by the key that they stand on, so
 /// that they are asked for once.
 pub struct ExpansionsFound {

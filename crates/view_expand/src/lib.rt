@@ -1,4 +1,4 @@
-//! The expansion of what variables range over, found in a database.
+//! The expansions of what variables range over, found in a database.
 #![tactic(auto)]
 
 mod covering;

@@ -1,4 +1,4 @@
-//! The expansion of what no view is, and of a query whose texts are there.
+//! The expansions of what no view is, and of a query whose texts are there.
 
 ghost use Rattle.std.specs.Prelude.{◌≡◌, ◌<◌, ◌≤◌, true, false, Some, length, IfOk, IfErr, OnOk, option_map};
 ghost use Rattle.std.specs.List.{list_all};
@@ -98,7 +98,7 @@ pub(crate) fn plain_expansion<B: Base>(
     }
 }
 
-/// Whether the expansion have at most so many variables together.
+/// Whether the expansions have at most so many variables together.
 #[tactic(auto, using(crate::proofs::Few::vars_before))]
 fn are_few(expansions: &[Expansion], most: usize) -> bool
     ensures few { result ≡ true → length (expansions_vars expansions.now) ≤ most }
@@ -113,7 +113,7 @@ fn are_few(expansions: &[Expansion], most: usize) -> bool
     }
 }
 
-/// The expansion of a query's rows, where these are the expansion of its variables.
+/// The expansion of a query's rows, where these are the expansions of its variables.
 pub(crate) fn rows_of(
     alloc: Global,
     expansions: &[Expansion],
@@ -133,7 +133,7 @@ pub(crate) fn rows_of(
     }
 }
 
-/// The query over the variables of these expansion, which are those of its own.
+/// The query over the variables of these expansions, which are those of its own.
 pub(crate) fn query_over(
     alloc: Global,
     expansions: &[Expansion],

@@ -144,8 +144,8 @@ fn restriction_for<B: Base>(
 }
 
 /// The condition on the rows of what has a key, with which one may do this with these attributes: that
-/// the qualification of a permit that covers it holds. `None` where no permit is needed, as where nobody
-/// in particular asks, the owner asks, or a catalogue is read. `NoPermit` exactly where one is needed and
+/// the qualification of a permit that covers it holds. `None` where no permit is needed, as where whoever
+/// is unrestricted asks, the owner asks, or a catalogue is read. `NoPermit` exactly where one is needed and
 /// none covers it. What was found before, for the same one who asks, is made use of, and what is found is
 /// kept beside it.
 #[tactic(auto, unfolding(calculus::specs::Rights::permitted))]

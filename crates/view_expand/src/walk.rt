@@ -136,7 +136,7 @@ fn expansion_of_view<B: Base>(
     }
 }
 
-/// The expansion of a query's rows, where the expansion of its variables go through at most so many levels.
+/// The expansion of a query's rows, where the expansions of its variables go through at most so many levels.
 #[cycle(expansions)]
 pub(crate) fn rows_through<B: Base>(
     alloc: Global,
@@ -178,7 +178,7 @@ pub(crate) fn rows_through<B: Base>(
     }
 }
 
-/// Puts the expansion of a query's variables, which range over these, behind those that are there.
+/// Puts the expansions of a query's variables, which range over these, behind those that are there.
 #[cycle(expansions)]
 pub(crate) fn put_expansions<B: Base>(
     alloc: Global,

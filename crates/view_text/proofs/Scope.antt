@@ -41,7 +41,7 @@ all_shifted n k m h (q ∷ qs) w =
     (first_qual_within k m (further n) (moves_within n k m h) q (left_true (is_qual_within k q) (list_all (is_qual_within k) qs) w))
     (all_shifted n k m h qs (right_true (is_qual_within k q) (list_all (is_qual_within k) qs) w))
 
--- ---- the terms of expansion
+-- ---- the terms of expansions
 
 without_within : (n : ℕ) → is_within n without_value ≡ true
 unfolding is_within
@@ -82,7 +82,7 @@ conditions_within n m (expansion ∷ expansions) s h =
     (right_true (are_within (length expansion.vars) expansion.terms) (list_all (is_qual_within (length expansion.vars)) expansion.conditions) (left_true (is_scoped expansion) (list_all is_scoped expansions) s)))
     (conditions_within (n + length expansion.vars) m expansions (right_true (is_scoped expansion) (list_all is_scoped expansions) s) (omega arith))
 
--- ---- the expansion of queries and of what is kept
+-- ---- the expansions of queries and of what is kept
 
 terms_put_within : (m : ℕ) (put : Substitution) → PutsWithin m put → (ts : List Target) → list_all (is_within m) (map (λ t. replaced no_aggregate put t.term) ts) ≡ true
 terms_put_within m put h [] = refl
@@ -110,7 +110,7 @@ settled_within m [] conditions h = by (list_all (λ q. holds no_aggs q []) condi
     by false = refl
 settled_within m (key ∷ vars) conditions h = h
 
--- what is put in for a query's rows names only the expansion' variables
+-- what is put in for a query's rows names only the expansions' variables
 pub rows_scoped : (expansions : List Expansion) (q : Query) → list_all is_scoped expansions ≡ true → is_scoped (rows_expansion expansions q) ≡ true
 rows_scoped expansions q s =
     let m : ℕ = length (expansions_vars expansions) in

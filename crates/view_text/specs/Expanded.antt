@@ -28,7 +28,7 @@ use Rattle.view_text.specs.Halves.{all_of}
 use Rattle.view_text.specs.Expansions.{ExpansionSource, used_expansion, query_expansions, expansions_vars, substituted_from, conditions_from, place_from}
 use Rattle.view_text.specs.ExpansionOf.{restriction, kept_expansion, expansion_within, expansion_of}
 
--- the query over the variables of these expansion, one for each of its own: their terms stand in place of its attributes, and their conditions hold too
+-- the query over the variables of these expansions, one for each of its own: their terms stand in place of its attributes, and their conditions hold too
 abbrev pub substituted_query : (QTerm → QTerm) → List Expansion → Query → Query
 substituted_query made expansions q =
     query (expansions_vars expansions) (map (replaced_target made (substituted_from 0 expansions)) (targets_of q))
@@ -87,7 +87,7 @@ expanded_made db who put t = without_value
 
 -- ---- queries and updates
 
--- the query over these expansion, aggregates and all
+-- the query over these expansions, aggregates and all
 abbrev pub expanded_over : Db → Who → List Expansion → Query → Query
 expanded_over db who expansions q = substituted_query (expanded_made db who (substituted_from 0 expansions)) expansions q
 

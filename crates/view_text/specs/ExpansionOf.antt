@@ -70,7 +70,7 @@ rows_expansion expansions q = record {
   conditions = settled (expansions_vars expansions) (rows_conditions expansions q);
 }
 
--- the expansion of a view, where these are the expansion of what it names
+-- the expansion of a view, where these are the expansions of what it names
 abbrev pub view_text : ExpansionSource → View → Expansion
 view_text below view = rows_expansion (query_expansions below view.query) view.query
 

@@ -1,4 +1,4 @@
--- Expansion of variables that stand one behind the other.
+-- Expansions of variables that stand one behind the other.
 use Rattle.std.specs.Prelude.{ℕ, zero, suc, ◌+◌, List, [], ◌∷◌, ◌++◌, map, flat_map, length, Option, Some, None}
 use Rattle.std.specs.List.{enumerate_from}
 use Rattle.calculus.specs.declared.query.RelKey.{RelKey}
@@ -46,7 +46,7 @@ query_expansions source q = map (λ p. used_expansion source p.1 (used_in_query 
 abbrev pub expansions_vars : List Expansion → List RelKey
 expansions_vars expansions = flat_map (λ expansion. expansion.vars) expansions
 
--- the term of a variable's attribute, where the expansion' variables stand from this place on
+-- the term of a variable's attribute, where the expansions' variables stand from this place on
 abbrev pub substituted_from : ℕ → List Expansion → Substitution
 substituted_from n [] var attr = without_value
 substituted_from n (expansion ∷ expansions) zero attr = shifted n (attr_term expansion attr)
@@ -57,7 +57,7 @@ abbrev pub conditions_from : ℕ → List Expansion → List QQual
 conditions_from n [] = []
 conditions_from n (expansion ∷ expansions) = map (shifted_qual n) expansion.conditions ++ conditions_from (n + length expansion.vars) expansions
 
--- the place at which a variable's text begins, where the expansion' variables stand from this place on
+-- the place at which a variable's text begins, where the expansions' variables stand from this place on
 abbrev pub place_from : ℕ → List Expansion → ℕ → ℕ
 place_from n [] var = n
 place_from n (expansion ∷ expansions) zero = n

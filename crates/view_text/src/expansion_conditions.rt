@@ -1,4 +1,4 @@
-//! The conditions of expansion whose variables stand one behind the other.
+//! The conditions of expansions whose variables stand one behind the other.
 
 ghost use Rattle.std.specs.Prelude.{◌≡◌, ◌+◌, ◌-◌, ◌≤◌, ◌++◌, true, map, length, OnOk};
 ghost use Rattle.std.specs.List.{list_all};
@@ -28,7 +28,7 @@ fn put_shifted(
     Ok(())
 }
 
-/// Puts the conditions of the expansion, whose variables stand from this place on, behind those that are there.
+/// Puts the conditions of the expansions, whose variables stand from this place on, behind those that are there.
 #[tactic(auto, using(crate::proofs::PutExpansion::conditions_fit, crate::proofs::PutExpansion::fit_next))]
 fn substituted_from(
     alloc: Global,
@@ -53,7 +53,7 @@ fn substituted_from(
     }
 }
 
-/// Puts the conditions of the expansion behind those that are there, where the expansion' variables stand one
+/// Puts the conditions of the expansions behind those that are there, where the expansions' variables stand one
 /// behind the other.
 pub fn conditions(
     alloc: Global,

@@ -1,4 +1,4 @@
-//! Terms, qualifications and targets with its variables expanded.
+//! Terms, qualifications and targets with their variables expanded.
 
 ghost use Rattle.std.specs.Prelude.{◌≡◌, ◌+◌, ◌-◌, ◌≤◌, ◌++◌, true, map, length, IfOk, OnOk};
 ghost use Rattle.std.specs.List.{list_all};
@@ -57,7 +57,7 @@ fn put_own(
     }
 }
 
-/// The term of a variable's attribute, where the expansion' variables stand from this place on.
+/// The term of a variable's attribute, where the expansions' variables stand from this place on.
 #[tactic(auto, using(crate::proofs::PutExpansion::put_first, crate::proofs::PutExpansion::put_next, crate::proofs::PutExpansion::fit_first, crate::proofs::PutExpansion::fit_next))]
 fn put_at(
     alloc: Global,
@@ -82,7 +82,7 @@ fn put_at(
     }
 }
 
-/// The expansion of variables, by their places; no aggregate may stand in what they are put in.
+/// The expansions of variables, by their places; no aggregate may stand in what they are put in.
 #[derive(Drop)]
 pub(crate) struct Texts<'a> {
     pub(crate) expansions: &'a [Expansion],
@@ -104,7 +104,7 @@ impl Substitution for Texts<'_> {
     }
 }
 
-/// The expansion of variables, by their places, and aggregates, by their slots.
+/// The expansions of variables, by their places, and aggregates, by their slots.
 #[derive(Drop)]
 pub(crate) struct Whole<'a> {
     pub(crate) expansions: &'a [Expansion],
@@ -140,7 +140,7 @@ fn aggregate_at(alloc: Global, aggregates: &[QAgg], slot: u16) -> Result<QTerm, 
     }
 }
 
-/// The term over the variables of these expansion, which stand one behind the other: the expansion' terms
+/// The term over the variables of these expansions, which stand one behind the other: the expansions' terms
 /// stand in place of its attributes. An attribute that no expansion has, and an aggregate, become a term
 /// without value.
 pub fn substituted_term(

@@ -1,4 +1,4 @@
-//! The expansion of a query's rows, and a query over the variables of expansion.
+//! The expansion of a query's rows, and a query over the variables of expansions.
 
 ghost use Rattle.std.specs.Prelude.{◌≡◌, ◌≤◌, [], ◌∷◌, ◌++◌, true, map, length, IfOk, OnOk};
 ghost use Rattle.std.specs.List.{list_all};
@@ -30,7 +30,7 @@ fn put_keys(alloc: Global, keys: &[RelKey], made: &mut Vec<RelKey>) -> Result<()
     Ok(())
 }
 
-/// Puts what the expansion' variables range over behind those that are there.
+/// Puts what the expansions' variables range over behind those that are there.
 fn put_vars(
     alloc: Global,
     expansions: &[Expansion],
@@ -144,7 +144,7 @@ fn settled_conditions(
     }
 }
 
-/// The expansion of a query's rows, where these are the expansion of its variables.
+/// The expansion of a query's rows, where these are the expansions of its variables.
 fn expansion_made(
     alloc: Global,
     expansions: &[Expansion],
@@ -168,8 +168,8 @@ fn expansion_made(
     }
 }
 
-/// The expansion of a query's rows, where these are the expansion of its variables, which stand one behind the
-/// other: its qualification holds, each target has a value, and the conditions of the expansion hold. Where
+/// The expansion of a query's rows, where these are the expansions of its variables, which stand one behind the
+/// other: its qualification holds, each target has a value, and the conditions of the expansions hold. Where
 /// there is no variable these conditions are evaluated: no condition is left where they hold, else one
 /// that never holds. It names only its own variables.
 #[tactic(auto, using(crate::proofs::Scope::rows_made_scoped))]
@@ -189,7 +189,7 @@ pub fn rows_expansion(
     }
 }
 
-/// The qualification of a query and the conditions of the expansion, all of which hold.
+/// The qualification of a query and the conditions of the expansions, all of which hold.
 fn whole_qual<P: Substitution>(
     alloc: Global,
     putting: &P,
@@ -208,7 +208,7 @@ fn whole_qual<P: Substitution>(
     }
 }
 
-/// Puts what the expansion' variables range over, and the targets, behind those that are there.
+/// Puts what the expansions' variables range over, and the targets, behind those that are there.
 fn put_targeted<P: Substitution>(
     alloc: Global,
     putting: &P,
@@ -237,7 +237,7 @@ fn query_of(vars: Vec<RelKey>, targets: Vec<Target>, qual: QQual) -> Query
     }
 }
 
-/// The query over the variables of these expansion, with what is substituted for its attributes and its
+/// The query over the variables of these expansions, with what is substituted for its attributes and its
 /// aggregates.
 fn put_by<P: Substitution>(
     alloc: Global,
@@ -259,7 +259,7 @@ fn put_by<P: Substitution>(
     }
 }
 
-/// The query over the variables of these expansion, one for each of its own: their terms stand in place of
+/// The query over the variables of these expansions, one for each of its own: their terms stand in place of
 /// its attributes, and their conditions hold too. An aggregate becomes a term without value.
 pub fn substituted_rows(
     alloc: Global,
@@ -273,7 +273,7 @@ pub fn substituted_rows(
     put_by(alloc, &Texts { expansions }, expansions, query)
 }
 
-/// The query over the variables of these expansion so, with these aggregates, by their slots, in place of
+/// The query over the variables of these expansions so, with these aggregates, by their slots, in place of
 /// its own; one at whose slot there is none becomes a term without value.
 pub fn substituted_whole(
     alloc: Global,
