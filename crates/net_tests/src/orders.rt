@@ -1,7 +1,9 @@
-// Four players print the same, whatever the order of their turns and the room in the pipes.
+// Four players print the same, whatever the order of their turns, the room in the pipes, and the base.
 ghost use Rattle.std.specs.Prelude.{◌≤◌, All, IsTrue};
 
+use crate::fickle::Fickle;
 use crate::players::{Act, Move, Player};
+use base_trait::Base;
 use calculus::Name;
 use fault_io::{MemShelf, MemSink, MemSource};
 use net_core::{Moved, Net, Room, WorkFault, net_ended, net_step, net_turns};
@@ -13,7 +15,10 @@ use std::test::*;
 
 type Four = Net<Player, Player, Player, Player>;
 
-pub(crate) type Memory = Room<DbPlain, MemShelf, MemSource, MemSink>;
+/// A room in memory over this base.
+pub(crate) type Over<B> = Room<B, MemShelf, MemSource, MemSink>;
+
+pub(crate) type Memory = Over<DbPlain>;
 
 pub(crate) const ONE: [Move; 6] = [
     Move {
@@ -165,6 +170,16 @@ pub(crate) fn room<R: Abort>(rt: &R, alloc: Global, failing: &[u64]) -> Memory {
     }
 }
 
+/// The room, with a base of which nothing is known in place of its database.
+pub(crate) fn unknown(room: Memory) -> Over<Fickle> {
+    Room {
+        base: Fickle::new(),
+        shelf: room.shelf,
+        source: room.source,
+        sink: room.sink,
+    }
+}
+
 /// A round in which each stage of the order takes so many steps.
 fn round<R: Abort>(rt: &R, alloc: Global, order: [u8; 4], times: usize) -> Vec<u8> {
     let mut turns = Vec::new(alloc);
@@ -191,10 +206,10 @@ fn are_stages(turns: &[u8]) -> bool
 }
 
 /// What the turns of a list come to; none where a number of the list is no stage's.
-fn turned(
+fn turned<B: Base>(
     alloc: Global,
     net: &mut Four,
-    room: &mut Memory,
+    room: &mut Over<B>,
     turns: &[u8],
 ) -> Option<Result<(), WorkFault>> {
     if are_stages(turns) {
@@ -220,21 +235,21 @@ fn stepped(
 
 /// Steps the players round by round until they have ended, at most a hundred times; whether they have,
 /// and printed what they are to.
-fn plays_right<R: Abort>(
+fn plays_right<R: Abort, B: Base>(
     rt: &R,
     alloc: Global,
     order: [u8; 4],
     times: usize,
     capacity: usize,
+    room: &mut Over<B>,
 ) -> bool {
     let mut net = players(rt, alloc, capacity);
-    let mut room = room(rt, alloc, &[]);
     let turns = round(rt, alloc, order, times);
     for _ in 0..100 {
         if net_ended(&net) {
             break;
         }
-        if turned(alloc, &mut net, &mut room, &turns) != Some(Ok(())) {
+        if turned(alloc, &mut net, room, &turns) != Some(Ok(())) {
             return false;
         }
     }
@@ -270,9 +285,22 @@ fn all_orders_print_the_same(rt: HostRuntime) {
     for order in &orders {
         for times in 1..5 {
             for capacity in [1, 2, 8] {
-                assert!(rt; plays_right(&rt, rt.alloc(), *order, times, capacity));
+                let mut room = room(&rt, rt.alloc(), &[]);
+                assert!(rt; plays_right(&rt, rt.alloc(), *order, times, capacity, &mut room));
+                drop(room);
             }
         }
+    }
+    drop(orders);
+}
+
+#[test]
+fn all_orders_print_the_same_over_a_base_of_which_nothing_is_known(rt: HostRuntime) {
+    let orders = orders(&rt, rt.alloc());
+    for order in &orders {
+        let mut room = unknown(room(&rt, rt.alloc(), &[]));
+        assert!(rt; plays_right(&rt, rt.alloc(), *order, 2, 1, &mut room));
+        drop(room);
     }
     drop(orders);
 }

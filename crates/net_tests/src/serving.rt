@@ -1,7 +1,6 @@
 // A stage that serves everyone, over a database in memory and over one of which nothing is known.
 use crate::carrier::Carrier;
-use crate::fickle::Fickle;
-use crate::orders::room;
+use crate::orders::{room, unknown};
 use base_trait::Base;
 use fault_io::{MemShelf, MemSink, MemSource};
 use frame_codec::Frame;
@@ -42,12 +41,7 @@ fn a_change_is_carried_out_and_answered(rt: HostRuntime) {
     let mut known = room(&rt, rt.alloc(), &[]);
     assert!(rt; given(rt.alloc(), &mut known) == Some(8));
     assert!(rt; known.sink.bytes().is_empty());
-    let mut unknown = Room {
-        base: Fickle::new(),
-        shelf: known.shelf,
-        source: known.source,
-        sink: known.sink,
-    };
+    let mut unknown = unknown(known);
     assert!(rt; given(rt.alloc(), &mut unknown) == Some(8));
     drop(unknown);
 }
