@@ -8,6 +8,14 @@ mod conditions;
 #[cfg(test)]
 mod folded;
 #[cfg(test)]
+mod folds;
+#[cfg(test)]
+mod groups;
+#[cfg(test)]
+mod looked_up;
+#[cfg(test)]
+mod one_variable;
+#[cfg(test)]
 mod queries;
 #[cfg(test)]
 mod trees;

@@ -1,6 +1,6 @@
 //! Qualifications that are joined.
 
-use crate::shared::equal;
+use crate::view_queries::equal;
 use crate::written::put_qual;
 use calculus::{QQual, QTerm};
 use std::alloc::Global;

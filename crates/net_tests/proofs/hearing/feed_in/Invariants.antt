@@ -1,5 +1,5 @@
 use Rattle.std.proofs.Common.{◌+◌, ◌≤◌, length}
-use Rattle.frame_tests.proofs.hearing.feed_in.Given as goal
+use Rattle.net_tests.proofs.hearing.feed_in.Given as goal
 
 abbrev pub invariant-pieces : goal.invariant-pieces
 invariant-pieces l = l.reader.place + length l.reader.left + length l.rest ≤ length l.stream

@@ -5,7 +5,7 @@ ghost use Rattle.std.specs.List.{list_all};
 ghost use Rattle.view_text.specs.Scoped.{is_scoped};
 ghost use Rattle.view_text.specs.Expansions.{expansions_vars};
 
-use crate::shared::{aggregate, kept, query};
+use crate::view_queries::{aggregate, kept, query};
 use crate::written::{put_qual, put_query, put_text};
 use calculus::{OutOfMemory, QAgg, QQual, QTerm};
 use std::alloc::Global;
