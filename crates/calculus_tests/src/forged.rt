@@ -44,10 +44,10 @@ const CHANGES: [&[u8]; 5] = [
 
 #[test]
 fn lists_of_items_that_are_missing_are_refused(rt: HostRuntime) {
-    for bytes in REQUESTS {
+    for bytes in &REQUESTS {
         assert!(rt; ends_early::<CheckedTree>(rt.alloc(), &rt, bytes));
     }
-    for bytes in CHANGES {
+    for bytes in &CHANGES {
         assert!(rt; ends_early::<DbChangeTree>(rt.alloc(), &rt, bytes));
     }
     assert!(rt; ends_early::<RowTree>(rt.alloc(), &rt, b"\xff\xff"));

@@ -8,8 +8,11 @@ use std::alloc::Global;
 use std::process::Abort;
 use std::test::*;
 
-/// Pieces of bytes that stand one behind the other, and how often each.
-pub type Pieces = &'static [(&'static [u8], usize)];
+/// Names of pieces of bytes that stand one behind the other; a number says how often the next one stands.
+pub type Pieces = &'static [u8];
+
+/// The name of a piece, and its bytes.
+pub type Named = (&'static [u8], &'static [u8]);
 
 /// Whether the tree that the pieces are is written as them again; where they are none, the place at
 /// which they are refused.
@@ -17,21 +20,50 @@ pub type Answer = Result<bool, u64>;
 
 pub const TREE: Answer = Ok(true);
 
-/// A whole number, and a text constant without bytes.
-pub const INT: &[u8] = b"\x00\x00\x00\x00\x00\x00\x00\x00\x07";
+/// The pieces that several tables have.
+const COMMON: [Named; 7] = [
+    // A whole number, and a text constant without bytes.
+    (b"int", b"\x00\x00\x00\x00\x00\x00\x00\x00\x07"),
+    (b"chars", b"\x01\x00"),
+    (b"neg", b"\x03"),
+    (b"true", b"\x00"),
+    (b"not", b"\x05"),
+    // A query without variables, up to the term of its only target.
+    (b"target", b"\x00\x00\x00\x01\x01x\x01"),
+    // A query without variables and targets, up to its qualification.
+    (b"query", b"\x00\x00\x00\x00"),
+];
 
-pub const CHARS: &[u8] = b"\x01\x00";
+/// The bytes of the piece of this name, where it is among these.
+fn found(named: &[Named], name: &[u8]) -> Option<&'static [u8]> {
+    for (known, bytes) in named {
+        if *known == name {
+            return Some(*bytes);
+        }
+    }
+    None
+}
 
-pub const NEG: &[u8] = b"\x03";
+/// The bytes of the piece of this name, which is among these or those that several tables have.
+fn piece_of(rt: &impl Abort, named: &[Named], name: &[u8]) -> &'static [u8] {
+    match found(named, name).or(found(&COMMON, name)) {
+        Some(bytes) => bytes,
+        None => panic!(*rt; "no such piece"),
+    }
+}
 
-pub const TRUE: &[u8] = b"\x00";
-
-pub const NOT: &[u8] = b"\x05";
-
-/// A query without variables, up to the term of its only target.
-pub const TARGET: &[u8] = b"\x00\x00\x00\x01\x01x\x01";
-/// A query without variables and targets, up to its qualification.
-pub const QUERY: &[u8] = b"\x00\x00\x00\x00";
+/// The number that a word is, where it has digits alone.
+fn number_in(word: &[u8]) -> Option<usize> {
+    let mut number = 0usize;
+    for byte in word {
+        if !byte.is_ascii_digit() {
+            return None;
+        }
+        let digit = usize::from(byte.saturating_sub(b'0'));
+        number = number.saturating_mul(10).saturating_add(digit);
+    }
+    Some(number)
+}
 
 /// Appends the piece so many times.
 fn append(rt: &impl Abort, bytes: &mut Vec<u8>, piece: &[u8], times: usize) {
@@ -40,11 +72,18 @@ fn append(rt: &impl Abort, bytes: &mut Vec<u8>, piece: &[u8], times: usize) {
     }
 }
 
-/// The bytes of pieces.
-fn joined(alloc: Global, rt: &impl Abort, pieces: Pieces) -> Vec<u8> {
+/// The bytes of pieces, of which these have names of their own.
+fn joined(alloc: Global, rt: &impl Abort, named: &[Named], pieces: Pieces) -> Vec<u8> {
     let mut bytes = Vec::new(alloc);
-    for (piece, times) in pieces {
-        append(rt, &mut bytes, piece, *times);
+    let mut times = 1usize;
+    for word in pieces.split(|byte| *byte == b' ') {
+        match number_in(word) {
+            Some(number) => times = number,
+            None => {
+                append(rt, &mut bytes, piece_of(rt, named, word), times);
+                times = 1;
+            }
+        }
     }
     bytes
 }
@@ -70,23 +109,34 @@ where
 }
 
 /// Whether the bytes are read back so, and a copy of the tree that they are is written as them, too.
-pub fn is_answered<T: Tree>(alloc: Global, rt: &impl Abort, pieces: Pieces, answer: Answer) -> bool
+fn is_answered<T: Tree>(
+    alloc: Global,
+    rt: &impl Abort,
+    named: &[Named],
+    pieces: Pieces,
+    answer: Answer,
+) -> bool
 where
     T::Value: TryCopy,
 {
-    let bytes = joined(alloc, rt, pieces);
+    let bytes = joined(alloc, rt, named, pieces);
     let holds = read_back::<T>(alloc, rt, &bytes) == answer && is_copied::<T>(alloc, rt, &bytes);
     drop(bytes);
     holds
 }
 
 /// Whether all these pieces are answered as is said beside each.
-pub fn are_answered<T: Tree>(alloc: Global, rt: &impl Abort, all: &[(Pieces, Answer)]) -> bool
+pub fn are_answered<T: Tree>(
+    alloc: Global,
+    rt: &impl Abort,
+    named: &[Named],
+    all: &[(Pieces, Answer)],
+) -> bool
 where
     T::Value: TryCopy,
 {
     for (pieces, answer) in all {
-        if !is_answered::<T>(alloc, rt, *pieces, *answer) {
+        if !is_answered::<T>(alloc, rt, named, *pieces, *answer) {
             return false;
         }
     }

@@ -1,7 +1,7 @@
 // The tree of `retrieve (x = 3)`: built and written, and what is wrong near it.
 ghost use Rattle.std.specs.Prelude.{◌≡◌};
 
-use crate::pieces::{Answer, NEG, Pieces, TREE, are_answered};
+use crate::pieces::{Answer, Named, Pieces, TREE, are_answered};
 use calculus::{Asked, Checked, Kind, Name, QQual, QTerm, Query, Target};
 use memory::List;
 use quel_tree::{CheckedTree, tree_bytes};
@@ -9,14 +9,27 @@ use std::alloc::Global;
 use std::process::Abort;
 use std::test::*;
 
-/// All its bytes, the last of them missing, and those up to the kind of the target.
+/// All its bytes.
 const WHOLE: &[u8] =
     b"\x00\x00\x01\x00\x00\x00\x01\x01x\x01\x00\x00\x00\x00\x00\x00\x00\x00\x03\x00\x00\x00";
 
-const CUT: &[u8] =
-    b"\x00\x00\x01\x00\x00\x00\x01\x01x\x01\x00\x00\x00\x00\x00\x00\x00\x00\x03\x00\x00";
-
-const FRONT: &[u8] = b"\x00\x00\x01\x00\x00\x00\x01\x01x\x01";
+/// The pieces of what is near the tree, by their names.
+const PIECES: [Named; 8] = [
+    // All its bytes, the last of them missing, and those up to the kind of the target.
+    (b"whole", WHOLE),
+    (
+        b"cut",
+        b"\x00\x00\x01\x00\x00\x00\x01\x01x\x01\x00\x00\x00\x00\x00\x00\x00\x00\x03\x00\x00",
+    ),
+    (b"front", b"\x00\x00\x01\x00\x00\x00\x01\x01x\x01"),
+    // A name of a blank, and a text of no bytes.
+    (b"blank", b"\x00\x00\x01\x00\x00\x00\x01\x01\x20"),
+    (b"narrow", b"\x00\x00\x01\x00\x00\x00\x01\x01x\x00\x03\x00"),
+    // The number 3, the true qualification, and no keys of an order.
+    (b"end", b"\x00\x00\x00\x00\x00\x00\x00\x00\x03\x00\x00\x00"),
+    (b"zero", b"\x00"),
+    (b"ten", b"\x0a"),
+];
 
 /// The list of this one item.
 fn one<T: Drop>(alloc: Global, rt: &impl Abort, item: T) -> List<T> {
@@ -54,26 +67,19 @@ fn a_tree_that_is_built_is_written(rt: HostRuntime) {
     drop(written);
 }
 
-/// A name of a blank, and a text of no bytes.
-const BLANK: &[u8] = b"\x00\x00\x01\x00\x00\x00\x01\x01\x20";
-
-const NARROW: &[u8] = b"\x00\x00\x01\x00\x00\x00\x01\x01x\x00\x03\x00";
-/// The number 3, the true qualification, and no keys of an order.
-const END: &[u8] = b"\x00\x00\x00\x00\x00\x00\x00\x00\x03\x00\x00\x00";
-
 const NEAR: [(Pieces, Answer); 9] = [
-    (&[(WHOLE, 1)], TREE),
-    (&[(WHOLE, 1), (b"\x00", 1)], Err(22)),
-    (&[(CUT, 1)], Err(21)),
-    (&[(b"\x0a", 1)], Err(0)),
-    (&[], Err(0)),
-    (&[(BLANK, 1)], Err(8)),
-    (&[(NARROW, 1)], Err(11)),
-    (&[(FRONT, 1), (NEG, 10_000)], Err(3_008)),
-    (&[(FRONT, 1), (NEG, 2_998), (END, 1)], TREE),
+    (b"whole", TREE),
+    (b"whole zero", Err(22)),
+    (b"cut", Err(21)),
+    (b"ten", Err(0)),
+    (b"", Err(0)),
+    (b"blank", Err(8)),
+    (b"narrow", Err(11)),
+    (b"front 10000 neg", Err(3_008)),
+    (b"front 2998 neg end", TREE),
 ];
 
 #[test]
 fn what_is_near_a_tree_is_refused(rt: HostRuntime) {
-    assert!(rt; are_answered::<CheckedTree>(rt.alloc(), &rt, &NEAR));
+    assert!(rt; are_answered::<CheckedTree>(rt.alloc(), &rt, &PIECES, &NEAR));
 }

@@ -1,11 +1,19 @@
 // What a reader hears of a stream.
-ghost use Rattle.std.specs.Prelude.{◌≡◌, ◌+◌, ◌<◌, ◌≤◌, [], length};
+ghost use Rattle.std.specs.Prelude.{◌≡◌, ◌+◌, ◌<◌, ◌≤◌, ◌^◌, [], length};
 ghost use Rattle.frame_codec.specs.Reading.{left_at};
 
 use frame_codec::{FrameFault, FrameReader};
 use std::alloc::Global;
 use std::process::Abort;
 use std::test::*;
+
+/// Whether a reader that is fed this piece gives that answer.
+pub fn is_fed(reader: &mut FrameReader, piece: &[u8], answer: Result<(), FrameFault>) -> bool
+    requires { reader.old.place + length reader.old.left + length piece.now < 2 ^ 64 }
+    ensures { reader.new.place + length reader.new.left ≤ reader.old.place + length reader.old.left + length piece.now }
+{
+    reader.feed(piece) == answer
+}
 
 /// Feeds a stream in pieces of so many bytes, up to the first fault.
 pub fn feed_in(reader: &mut FrameReader, stream: &[u8], size: usize) -> Result<(), FrameFault>

@@ -42,7 +42,7 @@ fn is_cut(alloc: Global, rt: &impl Abort, size: usize, frames: &[(u8, usize)]) -
     same
 }
 
-const CUT: [(usize, &[(u8, usize)]); 8] = [
+static CUT: [(usize, &[(u8, usize)]); 8] = [
     (0, &[(2, 0)]),
     (1, &[(2, 1)]),
     (4_095, &[(2, 4_095)]),
@@ -55,8 +55,27 @@ const CUT: [(usize, &[(u8, usize)]); 8] = [
 
 #[test]
 fn a_message_is_cut_into_full_frames_and_one_of_its_kind(rt: HostRuntime) {
-    for (size, frames) in CUT {
-        assert!(rt; is_cut(rt.alloc(), &rt, size, frames));
+    for (size, frames) in &CUT {
+        assert!(rt; is_cut(rt.alloc(), &rt, *size, frames));
+    }
+}
+
+/// Whether this is a message of this kind and of so many bytes.
+fn is_message(
+    alloc: Global,
+    rt: &impl Abort,
+    whole: &Option<Message>,
+    kind: u8,
+    size: usize,
+) -> bool {
+    match whole {
+        Some(message) => {
+            let bytes = bytes_of(alloc, rt, size);
+            let same = message.kind == kind && message.bytes.items() == bytes.as_slice();
+            drop(bytes);
+            same
+        }
+        None => false,
     }
 }
 
@@ -71,25 +90,22 @@ fn is_joined(
 ) -> bool {
     let mut frames = MessageFrames::of(alloc, message(alloc, rt, kind, size));
     let mut whole = None;
+    let mut early = false;
     'frames: while let Some(frame) = frames.next().expect(rt, "memory") {
-        if whole.is_some() {
-            return false;
-        }
+        early = early || whole.is_some();
         whole = joiner.take(frame).expect(rt, "memory");
     }
-    match whole {
-        Some(message) => {
-            message.kind == kind && message.bytes.items() == bytes_of(alloc, rt, size).as_slice()
-        }
-        None => false,
-    }
+    drop(frames);
+    let same = is_message(alloc, rt, &whole, kind, size);
+    drop(whole);
+    same && !early
 }
 
 #[test]
 fn what_is_cut_is_joined(rt: HostRuntime) {
     let mut joiner = MessageJoiner::new(rt.alloc());
-    for (size, _) in CUT {
-        assert!(rt; is_joined(rt.alloc(), &rt, &mut joiner, 5, size));
+    for (size, _) in &CUT {
+        assert!(rt; is_joined(rt.alloc(), &rt, &mut joiner, 5, *size));
     }
     drop(joiner);
 }

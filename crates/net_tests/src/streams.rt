@@ -1,7 +1,7 @@
 // Streams of lawful frames.
 ghost use Rattle.std.specs.Prelude.{◌≡◌, ◌<◌, ◌≤◌, length};
 
-use crate::hearing::{given, hears};
+use crate::hearing::{given, hears, is_fed};
 use frame_codec::{Frame, FrameReader, frame_bytes};
 use memory::List;
 use std::alloc::Global;
@@ -42,19 +42,40 @@ fn more(alloc: Global, rt: &impl Abort) -> Vec<u8> {
     bytes
 }
 
+/// Whether the reader has no frame to give.
+fn gives_nothing(reader: &mut FrameReader) -> bool
+    ensures left { reader.new.left ≡ reader.old.left }
+    ensures place { reader.new.place ≡ reader.old.place }
+{
+    reader.next().is_none()
+}
+
+/// Whether the reader gives these frames.
+fn is_given(alloc: Global, rt: &impl Abort, reader: &mut FrameReader, frames: &[u8]) -> bool {
+    let bytes = given(alloc, rt, reader);
+    let same = bytes.as_slice() == frames;
+    drop(bytes);
+    same
+}
+
 #[test]
 fn a_frame_comes_in_three_pieces(rt: HostRuntime) {
     let mut reader = FrameReader::new(rt.alloc());
-    assert!(rt; reader.feed(b"\x0a") == Ok(()));
-    assert!(rt; reader.next().is_none());
-    assert!(rt; reader.feed(b"\x00") == Ok(()));
-    assert!(rt; reader.next().is_none());
-    assert!(rt; reader.feed(b"\x00") == Ok(()));
-    let bytes = given(rt.alloc(), &rt, &mut reader);
-    assert!(rt; bytes.as_slice() == b"\x0a;".as_slice());
-    assert!(rt; reader.next().is_none());
-    drop(bytes);
+    assert!(rt; is_fed(&mut reader, b"\x0a", Ok(())));
+    assert!(rt; gives_nothing(&mut reader));
+    assert!(rt; is_fed(&mut reader, b"\x00", Ok(())));
+    assert!(rt; gives_nothing(&mut reader));
+    assert!(rt; is_fed(&mut reader, b"\x00", Ok(())));
+    assert!(rt; is_given(rt.alloc(), &rt, &mut reader, b"\x0a;"));
+    assert!(rt; gives_nothing(&mut reader));
     drop(reader);
+}
+
+/// Whether there are so many bytes, and they begin with these.
+fn begins(bytes: Vec<u8>, length: usize, front: &[u8]) -> bool {
+    let begins = bytes.len() == length && bytes.starts_with(front);
+    drop(bytes);
+    begins
 }
 
 const SPELLED: [(u8, &[u8], &[u8]); 11] = [
@@ -73,15 +94,12 @@ const SPELLED: [(u8, &[u8], &[u8]); 11] = [
 
 #[test]
 fn each_kind_is_spelled(rt: HostRuntime) {
-    for (kind, payload, expected) in SPELLED {
-        assert!(rt; is_spelled(rt.alloc(), &rt, kind, payload, expected));
+    for (kind, payload, expected) in &SPELLED {
+        assert!(rt; is_spelled(rt.alloc(), &rt, *kind, payload, expected));
     }
-    let long = spelled(rt.alloc(), &rt, 9, &[b'l'; 4095]);
-    assert!(rt; long.len() == 4098 && long.starts_with(b"\x09\x0f\xffl"));
-    drop(long);
-    let full = more(rt.alloc(), &rt);
-    assert!(rt; full.len() == 4099 && full.starts_with(b"\x0b\x10\x00x"));
-    drop(full);
+    let long = [b'l'; 4095];
+    assert!(rt; begins(spelled(rt.alloc(), &rt, 9, &long), 4098, b"\x09\x0f\xffl"));
+    assert!(rt; begins(more(rt.alloc(), &rt), 4099, b"\x0b\x10\x00x"));
 }
 
 /// A stream, and the frames that it has.
