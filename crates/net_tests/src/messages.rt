@@ -42,7 +42,7 @@ fn is_cut(alloc: Global, rt: &impl Abort, size: usize, frames: &[(u8, usize)]) -
     same
 }
 
-static CUT: [(usize, &[(u8, usize)]); 8] = [
+const CUT: [(usize, &[(u8, usize)]); 8] = [
     (0, &[(2, 0)]),
     (1, &[(2, 1)]),
     (4_095, &[(2, 4_095)]),
