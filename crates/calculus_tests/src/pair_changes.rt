@@ -148,7 +148,7 @@ const SWAPPED: [Numbers<'static>; 2] = [(&[1, 2], &[2, 1]), (&[2, 1], &[1, 2])];
 
 /// Row 1 becomes 2, twice; row 2 goes, but comes back from row 1; row 3 goes and becomes 7; row 4 is put
 /// again, and row 6 is put.
-const MOVES: [Numbers<'static>; 7] = [
+static MOVES: [Numbers<'static>; 7] = [
     (&[1], &[2]),
     (&[2], &[]),
     (&[3], &[7]),
@@ -159,7 +159,7 @@ const MOVES: [Numbers<'static>; 7] = [
 ];
 
 /// Rows that are replaced, by different ones.
-const REPLACED: [Numbers<'static>; 6] = [
+static REPLACED: [Numbers<'static>; 6] = [
     (&[8], &[2]),
     (&[5], &[9]),
     (&[1], &[2]),

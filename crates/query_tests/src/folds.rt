@@ -69,7 +69,7 @@ type Case = (AggOp, &'static [i64], Option<i64>);
 const HALF: i64 = 4_611_686_018_427_387_904;
 
 /// Of no values.
-const OF_NONE: [Case; 9] = [
+static OF_NONE: [Case; 9] = [
     (AggOp::Count, &[], Some(0)),
     (AggOp::Countu, &[], Some(0)),
     (AggOp::Sum, &[], Some(0)),
@@ -82,7 +82,7 @@ const OF_NONE: [Case; 9] = [
 ];
 
 /// Of values that are all equal.
-const OF_EQUAL: [Case; 9] = [
+static OF_EQUAL: [Case; 9] = [
     (AggOp::Count, &[5, 5, 5], Some(3)),
     (AggOp::Countu, &[5, 5, 5], Some(1)),
     (AggOp::Sum, &[5, 5, 5], Some(15)),
@@ -95,7 +95,7 @@ const OF_EQUAL: [Case; 9] = [
 ];
 
 /// Of values of which two are equal.
-const OF_SOME: [Case; 9] = [
+static OF_SOME: [Case; 9] = [
     (AggOp::Count, &[7, 5, 5], Some(3)),
     (AggOp::Countu, &[7, 5, 5], Some(2)),
     (AggOp::Sum, &[7, 5, 5], Some(17)),
@@ -108,7 +108,7 @@ const OF_SOME: [Case; 9] = [
 ];
 
 /// Sums at and past the ends of 64 bits.
-const SUMS: [Case; 12] = [
+static SUMS: [Case; 12] = [
     (AggOp::Sum, &[i64::MAX - 1, 1], Some(i64::MAX)),
     (AggOp::Sum, &[i64::MAX, 1], None),
     (AggOp::Sum, &[i64::MAX, 1, -1], Some(i64::MAX)),
@@ -128,7 +128,7 @@ const SUMS: [Case; 12] = [
 ];
 
 /// Averages, which are cut toward zero and exact where a sum has no value; the least and the greatest.
-const AVERAGES: [Case; 15] = [
+static AVERAGES: [Case; 15] = [
     (AggOp::Avg, &[-5, -6], Some(-5)),
     (AggOp::Avg, &[-1, -1, -2], Some(-1)),
     (AggOp::Avg, &[-1, 0], Some(0)),
@@ -167,7 +167,7 @@ fn folds_of_numbers_are_those_of_the_tables(rt: HostRuntime) {
 }
 
 /// Texts, an operation, and the text that it makes of them.
-const TEXTS: [(AggOp, &[&[u8]], &[u8]); 7] = [
+static TEXTS: [(AggOp, &[&[u8]], &[u8]); 7] = [
     (AggOp::Min, &[b"bolt", b"b", b"cog"], b"b"),
     (AggOp::Max, &[b"bolt", b"b", b"cog"], b"cog"),
     (AggOp::Min, &[b"b", b"b"], b"b"),
@@ -178,7 +178,7 @@ const TEXTS: [(AggOp, &[&[u8]], &[u8]); 7] = [
 ];
 
 /// Texts, an operation, and the number that it makes of them.
-const COUNTS: [(AggOp, &[&[u8]], i64); 6] = [
+static COUNTS: [(AggOp, &[&[u8]], i64); 6] = [
     (AggOp::Count, &[b"cog", b"b", b"cog", b""], 4),
     (AggOp::Countu, &[b"cog", b"b", b"cog", b""], 3),
     (AggOp::Any, &[b"cog", b"b", b"cog", b""], 1),

@@ -175,7 +175,7 @@ fn gives(
 type Case = (AggOp, (&'static [u8], &'static [u8]), u8, &'static [i64]);
 
 /// Groups of the rows whose number is at most 9, or 1.
-const GROUPS: [Case; 5] = [
+static GROUPS: [Case; 5] = [
     (AggOp::Count, (NUMBER, NUMBER), 9, &[1, 2, 2, 1]),
     (AggOp::Countu, (NUMBER, NUMBER), 9, &[1, 1, 2, 1]),
     (AggOp::Sum, (NUMBER, NUMBER), 9, &[1, 2, 2, 2]),
@@ -185,7 +185,7 @@ const GROUPS: [Case; 5] = [
 ];
 
 /// An argument without value leaves its whole group without one.
-const NO_ARGUMENT: [Case; 10] = [
+static NO_ARGUMENT: [Case; 10] = [
     (AggOp::Count, (SHARE, NUMBER), 9, &[1, 99, 2, 1]),
     (AggOp::Countu, (SHARE, NUMBER), 9, &[1, 99, 2, 1]),
     (AggOp::Sum, (SHARE, NUMBER), 9, &[1, 99, 2, 2]),
@@ -199,7 +199,7 @@ const NO_ARGUMENT: [Case; 10] = [
 ];
 
 /// A row with a by-value without value is in no group.
-const NO_BY_VALUE: [Case; 10] = [
+static NO_BY_VALUE: [Case; 10] = [
     (AggOp::Count, (NUMBER, SHARE), 9, &[2, 1]),
     (AggOp::Countu, (NUMBER, SHARE), 9, &[2, 1]),
     (AggOp::Sum, (NUMBER, SHARE), 9, &[2, 2]),

@@ -71,7 +71,7 @@ fn answers(rt: &impl Abort, alloc: Global, term: &[u8], least: u8, wanted: &[i64
 }
 
 /// A term, a number, and what the query answers.
-const CASES: [(&[u8], u8, &[i64]); 6] = [
+static CASES: [(&[u8], u8, &[i64]); 6] = [
     // Two rows have the number 1, which is one row of the answer.
     (NUMBER, 0, &[1, 2]),
     (NUMBER, 1, &[2]),
