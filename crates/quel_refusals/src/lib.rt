@@ -23,7 +23,7 @@ pub use allowed_aggregates::aggregates_allowed;
 pub use changed::relation_refusal;
 pub use counted::has_too_many;
 pub use fitting::{assignments_fit, has_kind, query_fits, same_kind, targets_fit};
-pub use kinds::{kinds_at, var_kinds};
+pub use kinds::var_kinds;
 pub use numbered::{existing_permits, existing_rules};
 pub use places::{is_catalogue_name, is_full, is_taken};
 pub use refusing::find_refusal;
