@@ -10,9 +10,9 @@ ghost use Rattle.quel_meaning.specs.Fit.{update_kinds_fit};
 ghost use Rattle.quel_meaning.specs.KindsInQueries.{kind_in_query};
 
 use base_trait::{Base, BaseFault};
-use calculus::{Kind, Query, Target};
+use calculus::{Kind, Query, Target, comparable};
 use change_check::is_kind;
-use quel_refusals::{comparable, kind_in_query, kinds_fit_in_query, var_kinds};
+use quel_refusals::{kind_in_query, kinds_fit_in_query, var_kinds};
 use std::alloc::Global;
 
 /// Whether the kinds of targets are ones.
