@@ -3,7 +3,7 @@
 ghost use Rattle.std.specs.Prelude.{◌≡◌, ◌++◌, ◌<◌, ℕ, length, option_map, Some, true, IfOk, OnOk, IfSome};
 ghost use Rattle.calculus.specs.declared.reply.Reply.TheVariants.{Refused};
 ghost use Rattle.fault_io.specs.Shelves.{HasShelfCause};
-ghost use Rattle.quel_grammar.specs.Next.{first_place};
+ghost use Rattle.quel_grammar.specs.Next.{first_offset};
 ghost use Rattle.quel_grammar.specs.NextReader.{next_at};
 ghost use Rattle.quel_meaning.specs.Batch.{batch_of};
 ghost use Rattle.quel_meaning.specs.Happening.{Kept};
@@ -19,7 +19,7 @@ use crate::counted::Counted;
 use calculus::{OutOfMemory, Refusal, Reply, Statement};
 use fault_io::{Shelf, ShelfFault};
 use monitor::push_reply;
-use quel_lexer::first_place;
+use quel_lexer::first_offset;
 use quel_parse::{ParseFault, next_statement};
 use std::alloc::Global;
 
@@ -93,10 +93,10 @@ fn run_placed<S: Statements, H: Shelf>(
 fn next_place(alloc: Global, text: &[u8], walk: Walk) -> Result<Counted, ShelfFault>
     requires { IsCounted text.now walk.counted }
     ensures counted { IfOk result (λ c. IsCounted text.now c) }
-    ensures place { IfOk result (λ c. c.place ≡ first_place text.now walk.at) }
+    ensures place { IfOk result (λ c. c.place ≡ first_offset text.now walk.at) }
     ensures memory { (n : ℕ) → HasShelfCause n n result }
 {
-    match first_place(alloc, text, walk.at) {
+    match first_offset(alloc, text, walk.at) {
         Ok(first) => Ok(walk.counted.at(text, first)),
         Err(OutOfMemory) => Err(ShelfFault::OutOfMemory),
     }
