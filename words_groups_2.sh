@@ -216,3 +216,11 @@ w first_place first_offset $OFFSETS
 s place offset quel_lexer
 t '\bGNext\.first_place\b' 'GNext.first_offset' quel_examples
 q --keep first_place place places
+
+g "15 stands, in capitals: AllDenote (every image that a crash leaves), WorksOn (a statement), NoneDenoted (pages)"
+ALL_DENOTE="$(grep -rlE 'base_trait\.specs\.Crashes\.\{[^}]*\bStands\b' crates --include=*.rt --include=*.antt | grep -v /out/) crates/base_trait/specs/Crashes.antt" || true
+WORKS_ON="$(grep -rlE 'session_run\.specs\.Doing\.\{[^}]*\bStands\b' crates --include=*.rt --include=*.antt | grep -v /out/) crates/session_run/specs/Doing.antt" || true
+w Stands AllDenote $ALL_DENOTE
+w Stands WorksOn $WORKS_ON
+w NoneStands NoneDenoted $ALL
+q --keep Stands
