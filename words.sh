@@ -27,3 +27,4 @@ if [ "$LAST" -ge 9 ]; then
   python3 .ci/definitions
   python3 bench/layout check
 fi
+if [ "$LAST" -ge 10 ]; then ./words_2.sh "$LAST"; fi

@@ -90,6 +90,7 @@ w next_mark next_unescaped $MARKED
 w marks_behind unescaped_behind $MARKED
 w mark unescaped_byte $MARKED
 w marks unescaped $MARKED
+t '\bCConstant\.marks\b' 'CConstant.unescaped' quel_examples
 w Mark Unescaped $MARKED
 p '\b([Tt])he marks\b' '\1he unescaped bytes' scalar_eval calculus
 p '\bsome marks\b' 'some unescaped bytes' scalar_eval
@@ -208,3 +209,18 @@ p '\b(what|database that) (the pages|pages|they|these pages|its pages) stand for
 t '\| `standing`, `stands` \| exists, or denotes \(pages denote a database\) \|' '| `stands` | exists, or holds |' docs/developing.md
 q --keep standing stands StandsFor
 t 'src/standing_aggregates.rt`: the argument' 'src/allowed_aggregates.rt`: the argument' docs/planted.md
+
+g "14 offset: where in a text (place); elsewhere a place is a column, a row id, a variable's number or a stage's, in one file often two of them"
+OFFSETS="$(grep -rlE 'quel_grammar\.specs\.Next\.\{[^}]*\bfirst_place\b|quel_lexer::(\{[^}]*)?\bfirst_place\b' crates --include=*.rt --include=*.antt | grep -v /out/) crates/quel_grammar/specs/Next.antt" || true
+w first_place first_offset $OFFSETS
+s place offset quel_lexer
+t '\bGNext\.first_place\b' 'GNext.first_offset' quel_examples
+q --keep first_place place places
+
+g "15 stands, in capitals: AllDenote (every image that a crash leaves), WorksOn (a statement), NoneDenoted (pages)"
+ALL_DENOTE="$(grep -rlE 'base_trait\.specs\.Crashes\.\{[^}]*\bStands\b' crates --include=*.rt --include=*.antt | grep -v /out/) crates/base_trait/specs/Crashes.antt" || true
+WORKS_ON="$(grep -rlE 'session_run\.specs\.Doing\.\{[^}]*\bStands\b' crates --include=*.rt --include=*.antt | grep -v /out/) crates/session_run/specs/Doing.antt" || true
+w Stands AllDenote $ALL_DENOTE
+w Stands WorksOn $WORKS_ON
+w NoneStands NoneDenoted $ALL
+q --keep Stands

@@ -1,6 +1,6 @@
 -- What crashes leave over several calls.
 use Rattle.std.proofs.Common.{◌≡◌, ◌⊎◌, ◌≤◌, inl, inr, ℕ, Bool, Option, Some, refl, ◌∙◌, arith}
-use Rattle.base_trait.specs.Crashes.{LeavesBut, OnlyAsked, Stands}
+use Rattle.base_trait.specs.Crashes.{LeavesBut, OnlyAsked, AllDenote}
 use Rattle.calculus.specs.Database.{Db}
 
 pub nothing_else : (P : Option Db → Type 0) (clock : ℕ) (left : ℕ → Option Db → Type 0) → LeavesBut P clock clock left left
@@ -34,11 +34,11 @@ no_other (inl a) = a
 no_other (inr never) = absurd never
 
 -- where each image denotes a database, each one does behind calls that only asked
-pub still_stands : (before now : ℕ) (left left' : ℕ → Option Db → Type 0) (db : Db) → ((t : ℕ) (o : Option Db) → t ≤ now → left' now o → left' t o) → LeavesBut (λ o. ⊥) before now left left' → Stands before left db → Stands now left' db
+pub still_stands : (before now : ℕ) (left left' : ℕ → Option Db → Type 0) (db : Db) → ((t : ℕ) (o : Option Db) → t ≤ now → left' now o → left' t o) → LeavesBut (λ o. ⊥) before now left left' → AllDenote before left db → AllDenote now left' db
 still_stands before now left left' db counts asked s o l = s o (no_other (asked.each before o (omega arith) (counts before o asked.later l)))
 
 -- where each image stood for a database, each one since then stands for it or has P
-pub each_stands : (P : Option Db → Type 0) (before now : ℕ) (left left' : ℕ → Option Db → Type 0) (db : Db) → LeavesBut P before now left left' → Stands before left db → (o : Option Db) → left' before o → (o ≡ Some db) ⊎ P o
+pub each_stands : (P : Option Db → Type 0) (before now : ℕ) (left left' : ℕ → Option Db → Type 0) (db : Db) → LeavesBut P before now left left' → AllDenote before left db → (o : Option Db) → left' before o → (o ≡ Some db) ⊎ P o
 each_stands P before now left left' db b s o l = behind (b.each before o (omega arith) l) (λ old. inl (s o old)) (λ p. p)
 
 -- questions behind questions

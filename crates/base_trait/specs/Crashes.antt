@@ -3,8 +3,8 @@ use Rattle.std.specs.Prelude.{◌≡◌, ◌⊎◌, ◌≤◌, ℕ, Bool, IsTrue
 use Rattle.calculus.specs.Database.{Db}
 
 -- every image that a crash leaves now denotes this database
-abbrev pub Stands : ℕ → (ℕ → Option Db → Type 0) → Db → Type 0
-Stands clock left_since db = (o : Option Db) → left_since clock o → o ≡ Some db
+abbrev pub AllDenote : ℕ → (ℕ → Option Db → Type 0) → Db → Type 0
+AllDenote clock left_since db = (o : Option Db) → left_since clock o → o ≡ Some db
 
 -- The clock doesn't fall, and a crash since a moment of before leaves what it might leave then, or what has P.
 pub record LeavesBut (P : Option Db → Type 0) (before now : ℕ) (left_before left_now : ℕ → Option Db → Type 0) : Type 0 where

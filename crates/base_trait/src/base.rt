@@ -10,7 +10,7 @@ ghost use Rattle.calculus.specs.Stored.{attrs_at, rows_at};
 ghost use Rattle.calculus.specs.declared.probe.Place.{Place as At};
 ghost use Rattle.calculus.specs.declared.query.RelKey.{RelKey as Key};
 ghost use Rattle.base_trait.specs.Causes.{HasCause};
-ghost use Rattle.base_trait.specs.Crashes.{LeavesBut, OnlyAsked, Stands};
+ghost use Rattle.base_trait.specs.Crashes.{LeavesBut, OnlyAsked, AllDenote};
 ghost use Rattle.base_trait.specs.Scans.{Gives, IsOver, IsScan, first_place};
 ghost use Rattle.base_trait.specs.Known.{known_at, query_at, is_named_by_view};
 
@@ -289,7 +289,7 @@ pub trait Base {
         ensures crash { (db : Db) → database self.old ≡ Some db
             → LeavesBut (λ o. o ≡ Some (laid db change.now)) (clock self.old) (clock self.new) (left_since self.old) (left_since self.new) }
         // And after Ok it leaves nothing but the latter.
-        ensures durable { (db : Db) → database self.old ≡ Some db → OnOk result (Stands (clock self.new) (left_since self.new) (laid db change.now)) }
+        ensures durable { (db : Db) → database self.old ≡ Some db → OnOk result (AllDenote (clock self.new) (left_since self.new) (laid db change.now)) }
         ensures cause { HasCause (database self.old) (faults self.old) (faults self.new) result };
 
     /// Forgets all that was kept of the disk. Takes no memory.

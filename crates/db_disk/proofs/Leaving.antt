@@ -1,7 +1,7 @@
 -- What calls leave on a disk, as a base has it: by the databases that its images hold.
 use Rattle.std.proofs.Common.{◌≡◌, ◌⊎◌, ◌≤◌, inl, inr, ℕ, Bool, true, false, IsTrue, Option, Some, Result, Ok, Err, OnErr, refl, sym, subst, ◌∙◌, arith}
 use Rattle.std.proofs.lemmas.Option.{same_Some}
-use Rattle.base_trait.specs.Crashes.{LeavesBut, OnlyAsked, Stands}
+use Rattle.base_trait.specs.Crashes.{LeavesBut, OnlyAsked, AllDenote}
 use Rattle.base_trait.proofs.Crashes.{asked_more}
 use Rattle.calculus.specs.Database.{Db}
 use Rattle.disk_model.specs.Disk.{Image, IsImage, LeavesOnly}
@@ -73,7 +73,7 @@ module _ {S : Type 0} (seen : S → Image) (touched : S → Addr → Type 0) (cl
 
   -- where each image holds a database, each stands for it
   pub durable_by : (is_known : Bool) (new : S) (after : Db) → ((m : Image) → IsImage (seen new) (touched new) m → held m ≡ Some after) →
-      Stands (clock_by is_known clock new) (left_by is_known seen touched clock left_since new) after
+      AllDenote (clock_by is_known clock new) (left_by is_known seen touched clock left_since new) after
   durable_by true new after durable o (m, is, left, h) = sym h ∙ durable m (now_left new m left)
   durable_by false new after durable o (m, is, left, h) = cc
 

@@ -18,7 +18,7 @@ use Rattle.catalog.specs.declared.catalog.Catalog.{Catalog}
 use Rattle.std.specs.Prelude.{IfOk}
 use Rattle.db_disk.specs.Held.{administrator}
 use Rattle.db_disk.specs.Known.{LiesFor}
-use Rattle.db_disk.specs.Load.{NoneStands}
+use Rattle.db_disk.specs.Load.{NoneDenoted}
 
 -- what pages that denote a database begin with
 pub stands_headed : (m : Image) (db : Db) → denoted m ≡ Some db → (administrator m ≡ Some db.dba) × ((birth m == 1) ≡ true)
@@ -30,15 +30,15 @@ stands_headed m db stands =
 pub own_name : (m : Image) (db : Db) (dba : List ℕ) → denoted m ≡ Some db → administrator m ≡ Some dba → db.dba ≡ dba
 own_name m db dba stands named = same_Some db.dba dba (sym (stands_headed m db stands).0 ∙ named)
 
-pub no_header_none : (m : Image) (a : Addr) → administrator m ≡ None → NoneStands m a
+pub no_header_none : (m : Image) (a : Addr) → administrator m ≡ None → NoneDenoted m a
 no_header_none m a none = λ db stands agree. let e : Some db.dba ≡ None = sym (stands_headed m db stands).0 ∙ none in absurd (cc e)
 
-pub unborn_none : (m : Image) (a : Addr) → (birth m == 1) ≡ false → NoneStands m a
+pub unborn_none : (m : Image) (a : Addr) → (birth m == 1) ≡ false → NoneDenoted m a
 unborn_none m a off = λ db stands agree. let e : true ≡ false = sym (stands_headed m db stands).1 ∙ off in absurd (cc e)
 
 -- the same cause, of fewer databases
 pub for_whom : {T : Type 0} (known pages : Option Image) (dba : List ℕ) (before mid now : ℕ) (result : Result T BaseFault) → mid ≡ before → pages ≡ known → ((m : Image) → known ≡ Some m → administrator m ≡ Some dba)
-    → HasFileCause pages (λ m a. (db : Db) → denoted m ≡ Some db → db.dba ≡ dba → index_owners_agree db ≡ true → ⊥) mid now result → HasFileCause known NoneStands before now result
+    → HasFileCause pages (λ m a. (db : Db) → denoted m ≡ Some db → db.dba ≡ dba → index_owners_agree db ≡ true → ⊥) mid now result → HasFileCause known NoneDenoted before now result
 for_whom known pages dba before mid now (Ok x) calm same named has = record { later = omega (arith, calm, has.later); caused = has.caused ∙ calm }
 for_whom known pages dba before mid now (Err faults.Disk) calm same named has = record { later = omega (arith, calm, has.later); caused = omega (arith, calm, has.caused) }
 for_whom known pages dba before mid now (Err (faults.Damaged file page)) calm same named has = record {

@@ -11,8 +11,8 @@ use Rattle.db_disk.specs.declared.load.LoadFault.{LoadFault}
 use Rattle.db_disk.specs.declared.load.LoadFault.TheVariants.{NoHead, Base}
 
 -- the pages denote no database in which each index has the owner of its relation
-abbrev pub NoneStands : Image → Addr → Type 0
-NoneStands m a = (db : Db) → denoted m ≡ Some db → index_owners_agree db ≡ true → ⊥
+abbrev pub NoneDenoted : Image → Addr → Type 0
+NoneDenoted m a = (db : Db) → denoted m ≡ Some db → index_owners_agree db ≡ true → ⊥
 
 -- the fault of a base
 abbrev pub base_fault : LoadFault → BaseFault

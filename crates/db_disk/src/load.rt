@@ -14,7 +14,7 @@ ghost use Rattle.catalog_read.specs.Parts.{index_owners_agree};
 ghost use Rattle.stored_database.specs.Denoting.{denoted};
 ghost use Rattle.db_disk.specs.Held.{has_head, headless_page};
 ghost use Rattle.db_disk.specs.Known.{LiesFor};
-ghost use Rattle.db_disk.specs.Load.{as_base, base_fault, IsNoHead, NoneStands};
+ghost use Rattle.db_disk.specs.Load.{as_base, base_fault, IsNoHead, NoneDenoted};
 ghost use Rattle.db_disk.specs.declared.load.LoadFault.TheVariants.{NoHead as WithoutHead, Base as OfBase};
 
 use crate::head::{Head, read_head};
@@ -87,7 +87,7 @@ pub(crate) fn load<S: PageStore>(alloc: Global, store: &mut S) -> Result<Catalog
     ensures same { S.pages store.new ≡ S.pages store.old }
     ensures came { (s : S) → S.came s store.old → S.came s store.new }
     ensures only_read { (s : S) → S.only_read s store.old → S.only_read s store.new }
-    ensures cause { HasFileCause (S.pages store.old) NoneStands (S.faults store.old) (S.faults store.new) (as_base result) }
+    ensures cause { HasFileCause (S.pages store.old) NoneDenoted (S.faults store.old) (S.faults store.new) (as_base result) }
 {
     match read_head(alloc, store)? {
         Head::Of(dba) => load_for(alloc, store, dba),

@@ -3,7 +3,7 @@ use Rattle.std.proofs.Common.{OnOk, ◌≡◌, ◌<◌, ◌≤◌, ℕ, Bool, tr
 use Rattle.std.specs.declared.option.Option.{Option}
 use Rattle.std.proofs.lemmas.Option.{same_Some}
 use Rattle.base_trait.proofs.Crashes.{asked_leaves, leaves_as, leaves_more, nothing_else, still_stands}
-use Rattle.base_trait.specs.Crashes.{LeavesBut, Stands}
+use Rattle.base_trait.specs.Crashes.{LeavesBut, AllDenote}
 use Rattle.calculus.specs.Database.{Db}
 use Rattle.net_core.specs.Crashes.{HandsOver, MayLeave, QuietWithout, StaysDurable, StepCrash, StepLeaves, TurnsLeave, WorkLeaves}
 use Rattle.net_core.specs.Known.{KeepsDatabase, Outside, known}
@@ -18,8 +18,8 @@ use Rattle.quel_network.specs.Sorts.{User, quel_sorts}
 
 -- ---- what is left by one behind another
 
-stands_same : (clock : ℕ) (left : ℕ → Option Db → Type 0) (d : Option Db) (db db' : Db) → d ≡ Some db → d ≡ Some db' → Stands clock left db → Stands clock left db'
-stands_same clock left d db db' e e' = subst (λ x. Stands clock left x) (same_Some db db' (sym e ∙ e'))
+stands_same : (clock : ℕ) (left : ℕ → Option Db → Type 0) (d : Option Db) (db db' : Db) → d ≡ Some db → d ≡ Some db' → AllDenote clock left db → AllDenote clock left db'
+stands_same clock left d db db' e e' = subst (λ x. AllDenote clock left x) (same_Some db db' (sym e ∙ e'))
 
 pub durable_same : (o : Outside) (left : ℕ → Option Db → Type 0) → StaysDurable o o left left
 durable_same o left db db' e e' = stands_same o.clock left o.database db db' e e'
@@ -41,7 +41,7 @@ work_asked L mode o o' left left' asked room t = asked_leaves _ o.clock o'.clock
 
 pub durable_asked : (o o' : Outside) (left left' : ℕ → Option Db → Type 0) → o'.database ≡ o.database → ((t : ℕ) (d : Option Db) → t ≤ o'.clock → left' o'.clock d → left' t d) → LeavesBut (λ d. ⊥) o.clock o'.clock left left' → StaysDurable o o' left left'
 durable_asked o o' left left' same counts asked db db' e e' s =
-    subst (λ x. Stands o'.clock left' x) (same_Some db db' (sym e ∙ sym same ∙ e')) (still_stands o.clock o'.clock left left' db counts asked s)
+    subst (λ x. AllDenote o'.clock left' x) (same_Some db db' (sym e ∙ sym same ∙ e')) (still_stands o.clock o'.clock left left' db counts asked s)
 
 -- ---- one stage
 

@@ -1,7 +1,7 @@
 -- What a crash leaves of the database while stages work, and when its disk stands still.
 use Rattle.std.specs.Prelude.{◌≡◌, ◌<◌, ℕ, true, false, List, Some, length, take, get_or, Result, OnOk}
 use Rattle.std.specs.declared.option.Option.{Option}
-use Rattle.base_trait.specs.Crashes.{LeavesBut, Stands}
+use Rattle.base_trait.specs.Crashes.{LeavesBut, AllDenote}
 use Rattle.calculus.specs.Database.{Db}
 use Rattle.net_core.specs.Known.{Outside, known}
 use Rattle.net_core.specs.Whole.{state_at}
@@ -32,7 +32,7 @@ StepLeaves L s before after left left' = (room : NetworkRoom quel_sorts) → Kno
 
 -- where each image of before denotes the database of before, each of after stands for that of after
 abbrev pub StaysDurable : Outside → Outside → (ℕ → Option Db → Type 0) → (ℕ → Option Db → Type 0) → Type 0
-StaysDurable before after left left' = (db db' : Db) → before.database ≡ Some db → after.database ≡ Some db' → Stands before.clock left db → Stands after.clock left' db'
+StaysDurable before after left left' = (db db' : Db) → before.database ≡ Some db → after.database ≡ Some db' → AllDenote before.clock left db → AllDenote after.clock left' db'
 
 -- the disk was neither read nor written
 abbrev pub IsQuiet : Outside → Outside → Type 0

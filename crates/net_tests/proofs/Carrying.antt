@@ -10,7 +10,7 @@ use Rattle.base_trait.specs.declared.fault.BaseFault.{BaseFault}
 use Rattle.base_trait.specs.declared.fault.BaseFault.TheVariants as base_faults
 use Rattle.calculus.specs.declared.change.DbChange.TheVariants.{Destroy}
 use Rattle.calculus.specs.declared.query.RelKey.{RelKey}
-use Rattle.base_trait.specs.Crashes.{LeavesBut, Stands}
+use Rattle.base_trait.specs.Crashes.{LeavesBut, AllDenote}
 use Rattle.calculus.specs.Change.{IsLawful, laid, names_what_is_there, adds_what_is_new, lists_once}
 use Rattle.calculus.specs.Database.{Db}
 use Rattle.calculus.specs.IsDatabase.{IsDatabase}
@@ -102,7 +102,7 @@ works_ok user s o db' schema' count' clock' reads' left left' x e is d =
 
 pub durable_ok : (o : Outside) (db' schema' : Option Db) (count' clock' reads' : ℕ) (left left' : ℕ → Option Db → Type 0) (x : Unit {0}) →
     CarriedOut o.database db' schema' o.base_faults count' o.clock clock' left left' (Ok x) → StaysDurable o (changed o db' count' clock' reads') left left'
-durable_ok o db' schema' count' clock' reads' left left' x d db now is_there then stands = subst (λ (z : Db). Stands clock' left' z) (same_Some (laid db no_change) now (sym (d.done db is_there) ∙ then)) (d.durable db is_there)
+durable_ok o db' schema' count' clock' reads' left left' x d db now is_there then stands = subst (λ (z : Db). AllDenote clock' left' z) (same_Some (laid db no_change) now (sym (d.done db is_there) ∙ then)) (d.durable db is_there)
 
 pub crash_any : (user : User) (s : Stand) (o : Outside) (db' schema' : Option Db) (count' clock' reads' : ℕ) (left left' : ℕ → Option Db → Type 0) (result : Result (Unit {0}) WorkFault) → s ≡ Holds →
     CarriedOut o.database db' schema' o.base_faults count' o.clock clock' left left' result → WorkLeaves (quel user) (carrying s).mode o (changed o db' count' clock' reads') left left'
@@ -206,7 +206,7 @@ pub takes : (rels : List RelKey) (db : Db) → rels ≡ [] → IsDatabase db →
 takes rels db e is = subst (λ change. IsLawful db change) (sym (destroys rels e)) (any_takes db is)
 
 pub carried_ok : (rels : List RelKey) (db mid now schema : Option Db) (n n' n'' k k' k'' : ℕ) (l l' l'' : ℕ → Option Db → Type 0) (x : Unit {0}) → rels ≡ [] →
-    ((d : Db) → db ≡ Some d → mid ≡ Some (laid d (Destroy rels))) → ((d : Db) → db ≡ Some d → LeavesBut (λ o. o ≡ Some (laid d (Destroy rels))) k k' l l') → ((d : Db) → db ≡ Some d → Stands k' l' (laid d (Destroy rels))) →
+    ((d : Db) → db ≡ Some d → mid ≡ Some (laid d (Destroy rels))) → ((d : Db) → db ≡ Some d → LeavesBut (λ o. o ≡ Some (laid d (Destroy rels))) k k' l l') → ((d : Db) → db ≡ Some d → AllDenote k' l' (laid d (Destroy rels))) →
     n' ≡ n → now ≡ mid → n'' ≡ n' → IsForgotten schema now → LeavesBut (λ o. ⊥) k' k'' l' l'' → ((t : ℕ) (o : Option Db) → t ≤ k'' → l'' k'' o → l'' t o) →
     CarriedOut db now schema n n'' k k'' l l'' (Ok x)
 carried_ok rels db mid now schema n n' n'' k k' k'' l l' l'' x e known crash durable same kept faults forgotten asked counts = record {
@@ -218,7 +218,7 @@ carried_ok rels db mid now schema n n' n'' k k' k'' l l' l'' x e known crash dur
   cause = tt;
   crash = λ d is_there. subst (λ change. LeavesBut (λ o. o ≡ Some (laid d change)) k k'' l l'') (destroys rels e)
       (leaves_more (λ o. o ≡ Some (laid d (Destroy rels))) (λ o. ⊥) k k' k'' l l' l'' (λ o never. absurd never) (crash d is_there) asked);
-  durable = λ d is_there. subst (λ change. Stands k'' l'' (laid d change)) (destroys rels e) (still_stands k' k'' l' l'' (laid d (Destroy rels)) counts asked (durable d is_there));
+  durable = λ d is_there. subst (λ change. AllDenote k'' l'' (laid d change)) (destroys rels e) (still_stands k' k'' l' l'' (laid d (Destroy rels)) counts asked (durable d is_there));
   handed = forgotten;
 }
 

@@ -1,7 +1,7 @@
 -- Where a fourth stage stands that carries out one change, and what carrying it out comes to.
 use Rattle.std.specs.Prelude.{◌≡◌, ◌⊎◌, ◌≤◌, ℕ, List, [], ◌∷◌, Some, None, Result, IfErr, IsErrOf, OnErr, OnOk}
 use Rattle.std.specs.declared.option.Option.{Option}
-use Rattle.base_trait.specs.Crashes.{LeavesBut, Stands}
+use Rattle.base_trait.specs.Crashes.{LeavesBut, AllDenote}
 use Rattle.base_trait.specs.declared.fault.BaseFault.{BaseFault}
 use Rattle.base_trait.specs.declared.fault.BaseFault.TheVariants as base_faults
 use Rattle.calculus.specs.Change.{laid}
@@ -66,5 +66,5 @@ pub record CarriedOut (db db' schema' : Option Db) (count count' clock clock' : 
   pub counted : OnOk result (count' ≡ count)
   pub cause : IfErr result (λ fault. MayComeOf db count count' fault)
   pub crash : (d : Db) → db ≡ Some d → LeavesBut (λ o. o ≡ Some (laid d no_change)) clock clock' left left'
-  pub durable : (d : Db) → db ≡ Some d → OnOk result (Stands clock' left' (laid d no_change))
+  pub durable : (d : Db) → db ≡ Some d → OnOk result (AllDenote clock' left' (laid d no_change))
   pub handed : OnOk result (IsForgotten schema' db')

@@ -1,4 +1,4 @@
--- What a statement is checked to ask for.
+-- What a statement asks for.
 use Rattle.std.proofs.Common.{◌≡◌, refl, ap, ◌∙◌, subst, ℕ, nat_eq, nat_lt, Bool, true, false, ◌||◌, List, [], ◌∷◌, Some, None, Result, Ok, Err}
 use Rattle.std.specs.List.{list_all}
 use Rattle.std.proofs.lemmas.Bool.{eqb-true}
@@ -92,7 +92,7 @@ pub checked_resolved : (resolved : Resolving) (db : Db) (asker : Asker) (ranges 
     → checked_tree_by resolved db asker ranges s ≡ Ok tree → resolved db asker.user ranges s ≡ Ok tree
 checked_resolved resolved db asker ranges s tree e = (checked_so resolved db asker ranges s tree e).resolved_so
 
--- ---- what statements mean by what they are checked to ask for
+-- ---- what statements mean by what they ask for
 
 pub meaning_checked : (resolved : Resolving) (state : State) (asker : Asker) (s : Statement) → is_range s ≡ false
     → meaning_by resolved state asker s ≡ checked_outcome state asker (checked_tree_by resolved state.db asker state.ranges s)

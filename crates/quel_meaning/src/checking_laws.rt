@@ -1,4 +1,4 @@
-//! What statements are checked to ask for, before their trees are handed on.
+//! What statements ask for, before their trees are handed on.
 
 ghost use Rattle.std.specs.Prelude.{◌≡◌, ◌||◌, ℕ, nat_lt, true, false, List, [], ◌∷◌, Ok, Err};
 ghost use Rattle.calculus.specs.declared.request.Checked.{Checked};
