@@ -20,7 +20,7 @@ use crate::rows_read::read_rows;
 use am_traits::{Base, BaseFault};
 use calculus::{CopyCol, DbChange, Kind, Name, OutOfMemory, RelKey, Row, Utility};
 use fault_io::{Shelf, ShelfFault};
-use quel_refusals::kinds_at;
+use ovqp::kinds_at;
 use std::alloc::Global;
 use utilities::owner_cause;
 

@@ -13,13 +13,13 @@ ghost use Rattle.view_sizes.specs.Listing.{sources_list_few};
 
 use crate::counted::has_too_many;
 use crate::fitting::{assignments_fit, query_fits};
-use crate::kinds::kinds_at;
 use crate::places::is_catalogue_name;
 use crate::repeated::titles_repeat;
 use am_traits::{Base, BaseFault};
 use calculus::refusals::{IS_CATALOGUE, IS_VIEW, KINDS_DIFFER, NAMED_TWICE, PAST_LIMIT};
 use calculus::{Name, RelKey, Update};
 use std::alloc::Global;
+use ovqp::kinds_at;
 
 /// Whether the administrator's catalogue of a name has this key.
 fn has_catalogue_key(key: &RelKey, dba: &Name) -> bool

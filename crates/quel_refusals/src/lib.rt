@@ -23,7 +23,7 @@ pub use changed::relation_cause;
 pub use counted::has_too_many;
 pub use fitting::{assignments_fit, has_kind, query_fits, same_kind, targets_fit};
 pub use judging::cause;
-pub use kinds::{kinds_at, var_kinds};
+pub use kinds::var_kinds;
 pub use making::{comparable, is_text_kind};
 pub use numbered::{standing_permits, standing_rules};
 pub use places::{is_catalogue_name, is_full, is_taken};
